@@ -1,0 +1,26 @@
+# make          proves and builds the program; leaves it as ./sgb
+# make demo     that, and the names of a small board
+# make check    the gate: all proofs from nothing, the must-fail edits, the tests, the program
+# make install  puts the program into $(PREFIX)/bin
+
+PREFIX ?= /usr/local
+
+all: sgb
+
+# `rt run` proves what the program stands on, builds it and runs it once
+sgb: FORCE
+	cd crates/sgb && rt run -- names "board(1,0,0,0,1,0,0)" > /dev/null
+	ln -sf crates/sgb/out/sgb sgb
+
+demo: sgb
+	./sgb names "board(2,3,0,0,1,0,0)"
+
+check:
+	bash .ci/run
+
+install: sgb
+	install -D crates/sgb/out/sgb $(DESTDIR)$(PREFIX)/bin/sgb
+
+FORCE:
+
+.PHONY: all demo check install FORCE

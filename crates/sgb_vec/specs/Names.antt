@@ -1,0 +1,21 @@
+-- The texts of a graph's vertices.
+use Rattle.std.specs.Prelude.{ℕ, ◌≢◌, ◌≤◌, List, map, length, All, decimal}
+use Rattle.std.specs.List.{join_with_byte}
+use Rattle.sgb_vec.specs.Limits.{most_bytes}
+
+-- the name of a vector [GB_BASIC, board]: its entries in decimal with no leading zeros, joined by
+-- dots (46 is the dot); of the empty vector, the empty text
+unfoldable pub name_of_vector : List ℕ → List ℕ
+name_of_vector entries = join_with_byte 46 (map decimal entries)
+
+-- a byte that may stand in a string: printable ASCII but for `"` (34) and `\` (92)
+pub record IsTextByte (byte : ℕ) : Type 0 where
+  pub from_space : 32 ≤ byte
+  pub to_tilde : byte ≤ 126
+  pub no_quote : byte ≢ 34
+  pub no_backslash : byte ≢ 92
+
+-- a string that a `.gb` file can hold [GB_SAVE]
+pub record IsText (bytes : List ℕ) : Type 0 where
+  pub short : length bytes ≤ most_bytes
+  pub printable : All IsTextByte bytes

@@ -1,0 +1,162 @@
+ghost use Rattle.std.specs.Prelude.{◌≡◌, ◌+◌, ◌<◌, ◌≤◌, ◌↔◌, ℕ, length, replicate, Contains, IsTrue, IfSome, IfNone, slice_index, nat_lt, if◌then◌else◌};
+ghost use Rattle.std.specs.Bool.{OnTrue, OnFalse};
+ghost use Rattle.std.specs.List.{AllZip, list_all, zip};
+ghost use Rattle.sgb_vec.specs.Limits.{most_vertices};
+ghost use Rattle.sgb_vec.specs.Boxes.{box, product_of};
+ghost use Rattle.sgb_vec.specs.Order.{IsNext, IsLast};
+
+use crate::families::{Family, Vector};
+use crate::panics::Panic;
+use arrayvec::ArrayVec;
+use std::marker::Model;
+
+// A graph has at most this many vertices.
+const MOST_VERTICES: u64 = 1_000_000_000;
+
+/// The vectors of a box: all `(x1, .., xd)` with `xk` below the k-th size, in lexicographic order
+/// (GB_BASIC, board). At most 91 sizes and 1,000,000,000 vectors. Contracts see it as its sizes.
+#[derive(Drop)]
+pub struct BoxFamily {
+    sizes: ArrayVec<u32, 91>,
+    count: u32,
+}
+
+impl Model for BoxFamily {
+    ghost use Rattle.std.specs.Prelude.{List, ℕ, ◌≡◌, ◌≤◌, length};
+    ghost use Rattle.sgb_vec.specs.Limits.{most_vertices};
+    ghost use Rattle.sgb_vec.specs.Boxes.{product_of};
+
+    ghost Value = { List ℕ };
+
+    ghost view = { λ b. b.sizes.items };
+
+    ghost invariant = { λ b. (b.count ≡ product_of b.sizes.items) × (b.count ≤ most_vertices) };
+}
+
+impl BoxFamily {
+    ghost use Rattle.sgb_vec.specs.Boxes.{box_of};
+
+    /// The box of these sizes; a size of 0 makes it empty.
+    ///
+    /// `Bad` above 91 sizes; else `VeryBad` where the exact product of the sizes is above 1,000,000,000.
+    pub fn new(sizes: &[u32]) -> Result<BoxFamily, Panic>
+        ensures { result ≡ box_of sizes.now }
+    {
+        let Ok(kept) = ArrayVec::try_from(sizes) else {
+            return Err(Panic::Bad);
+        };
+        let count = vector_count(sizes).ok_or(Panic::VeryBad)?;
+        Ok(BoxFamily { sizes: kept, count })
+    }
+}
+
+impl Family for BoxFamily {
+    ghost members = { box };
+
+    ghost width = { length };
+
+    fn dims(&self) -> usize {
+        self.sizes.len()
+    }
+
+    fn size(&self) -> u32 {
+        self.count
+    }
+
+    fn holds(&self, vector: &[u32]) -> bool {
+        each_below(vector, self.sizes.as_slice())
+    }
+
+    fn first(&self, vector: &mut Vector) -> bool {
+        if self.size() == 0 {
+            return false;
+        }
+        put_zeros(vector, self.sizes.len());
+        true
+    }
+
+    fn next(&self, vector: &mut Vector) -> bool {
+        advance(self.sizes.as_slice(), vector.as_mut_slice())
+    }
+
+    ghost use Rattle.sgb_vec.specs.BoxWidth.{length-box_member};
+
+    ghost each_width = { length-box_member };
+}
+
+// The product of the sizes, where it is at most the number of vertices that a graph may have. A size of
+// 0 is looked for first: the product is then 0, however great the other sizes are.
+fn vector_count(sizes: &[u32]) -> Option<u32>
+    ensures { result ≡ (if nat_lt most_vertices (product_of sizes.now) then None else Some (product_of sizes.now)) }
+{
+    if sizes.contains(&0) {
+        return Some(0);
+    }
+    let mut product: u64 = 1;
+    for size in sizes {
+        product *= u64::from(*size);
+        if product > MOST_VERTICES {
+            return None;
+        }
+    }
+    Some(product as u32)
+}
+
+// Whether there are as many entries as sizes, each below its size.
+fn each_below(entries: &[u32], sizes: &[u32]) -> bool
+    ensures { IsTrue result ↔ AllZip (λ x s. x < s) entries.now sizes.now }
+{
+    entries.len() == sizes.len() && pairs_below(entries, sizes)
+}
+
+// Whether each entry is below the size beside it.
+fn pairs_below(entries: &[u32], sizes: &[u32]) -> bool
+    ensures { result ≡ list_all (λ p. nat_lt p.0 p.1) (zip entries.now sizes.now) }
+{
+    entries.iter().zip(sizes).all(|(x, s)| *x < *s)
+}
+
+// Makes `vector` one of `count` zeros.
+fn put_zeros(vector: &mut Vector, count: usize)
+    requires { count ≤ 92 }
+    ensures { vector.new.items ≡ replicate count 0 }
+{
+    vector.clear();
+    for _i in 0..count {
+        vector.push(0);
+    }
+}
+
+// The last place whose entry can grow by 1.
+fn last_below_top(sizes: &[u32], entries: &[u32]) -> Option<usize>
+    requires { AllZip (λ x s. x < s) entries.now sizes.now }
+    ensures below { IfSome result (λ p. (p < length entries.now) × (slice_index entries.now p + 1 < slice_index sizes.now p)) }
+    ensures top_behind { IfSome result (λ p. (k : ℕ) → p < k → k < length entries.now → slice_index entries.now k + 1 ≡ slice_index sizes.now k) }
+    ensures all_top { IfNone result ((k : ℕ) → k < length entries.now → slice_index entries.now k + 1 ≡ slice_index sizes.now k) }
+{
+    for place in (0..sizes.len()).rev() {
+        if entries[place] + 1 < sizes[place] {
+            return Some(place);
+        }
+    }
+    None
+}
+
+// Puts the member after `entries` into it: the last entry that can grow grows, and 0 stands behind it.
+// `false` where none can, and `entries` is then as before.
+fn advance(sizes: &[u32], entries: &mut [u32]) -> bool
+    requires { Contains (box sizes.now) entries.old }
+    ensures found { OnTrue result (IsNext (box sizes.now) entries.old entries.new) }
+    ensures last { OnFalse result (IsLast (box sizes.now) entries.old) }
+    ensures unchanged { OnFalse result (entries.new ≡ entries.old) }
+{
+    let Some(place) = last_below_top(sizes, entries) else {
+        return false;
+    };
+    entries[place] += 1;
+    entries[place + 1..].fill(0);
+    true
+}
+
+#[cfg(test)]
+mod tests;

@@ -1,0 +1,81 @@
+use super::*;
+use std::process::Abort;
+use std::test::Fail;
+
+// Walks the family from its first vector, and compares each vector with the list's.
+fn walk<A: Abort>(rt: &A, family: &BoxFamily, expected: &[[u32; 2]]) {
+    let mut vector = Vector::new();
+    let mut more = family.first(&mut vector);
+    for entries in expected {
+        assert!(rt; more);
+        assert_eq!(rt; vector.as_slice(), entries.as_slice());
+        assert!(rt; family.holds(vector.as_slice()));
+        more = family.next(&mut vector);
+    }
+    assert!(rt; !more);
+}
+
+#[test]
+fn two_by_three(rt: HostRuntime) -> Result<(), Fail> {
+    let family = BoxFamily::new(&[2, 3])?;
+    assert_eq!(rt; family.dims(), 2);
+    assert_eq!(rt; family.size(), 6);
+    walk(
+        &rt,
+        &family,
+        &[[0, 0], [0, 1], [0, 2], [1, 0], [1, 1], [1, 2]],
+    );
+    for stranger in [[2, 0], [0, 3]] {
+        assert!(rt; !family.holds(&stranger));
+    }
+    assert!(rt; !family.holds(&[1]));
+    assert!(rt; !family.holds(&[0, 0, 0]));
+    Ok(())
+}
+
+#[test]
+fn empty_boxes(rt: HostRuntime) -> Result<(), Fail> {
+    let tables: [&[u32]; 3] = [&[2, 0], &[0], &[4_294_967_295, 4_294_967_295, 0]];
+    for sizes in tables {
+        let family = BoxFamily::new(sizes)?;
+        assert_eq!(rt; family.dims(), sizes.len());
+        assert_eq!(rt; family.size(), 0);
+        let mut vector = Vector::new();
+        vector.push(7);
+        assert!(rt; !family.first(&mut vector));
+        assert_eq!(rt; vector.as_slice(), [7].as_slice());
+    }
+    Ok(())
+}
+
+#[test]
+fn no_sizes(rt: HostRuntime) -> Result<(), Fail> {
+    let family = BoxFamily::new(&[])?;
+    assert_eq!(rt; family.dims(), 0);
+    assert_eq!(rt; family.size(), 1);
+    let mut vector = Vector::new();
+    vector.push(7);
+    assert!(rt; family.first(&mut vector));
+    assert!(rt; vector.is_empty());
+    assert!(rt; family.holds(vector.as_slice()));
+    assert!(rt; !family.next(&mut vector));
+    Ok(())
+}
+
+#[test]
+fn limits(rt: HostRuntime) -> Result<(), Fail> {
+    assert_eq!(rt; BoxFamily::new(&[1; 91])?.size(), 1);
+    assert_eq!(rt; BoxFamily::new(&[1_000_000_000])?.size(), 1_000_000_000);
+    assert_eq!(rt; BoxFamily::new(&[1_000, 1_000, 1_000])?.dims(), 3);
+    let refused: [(&[u32], Panic); 5] = [
+        (&[1; 92], Panic::Bad),
+        (&[65_536; 92], Panic::Bad),
+        (&[1_000_000_001], Panic::VeryBad),
+        (&[65_536, 65_536], Panic::VeryBad),
+        (&[4_294_967_295; 91], Panic::VeryBad),
+    ];
+    for (sizes, panic) in refused {
+        assert_eq!(rt; BoxFamily::new(sizes).err(), Some(panic));
+    }
+    Ok(())
+}

@@ -1,0 +1,14 @@
+//! Vectors, the families of vectors that GraphBase's generators have as vertices, and their names.
+#![tactic(auto)]
+
+mod boxes;
+mod families;
+mod panics;
+mod shapes;
+mod texts;
+
+pub use boxes::BoxFamily;
+pub use families::{Family, Vector};
+pub use panics::Panic;
+pub use shapes::{Shape, board_sizes};
+pub use texts::{Text, name_of};

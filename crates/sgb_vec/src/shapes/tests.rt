@@ -1,0 +1,62 @@
+use super::board_sizes;
+use crate::panics::Panic;
+
+// The parameters and the sizes of a board that is accepted.
+fn is_board(entries: [i64; 4], params: &[i64], sizes: &[u32]) -> bool {
+    let [n1, n2, n3, n4] = entries;
+    match board_sizes(n1, n2, n3, n4) {
+        Ok(shape) => shape.params() == params && shape.sizes() == sizes,
+        Err(_) => false,
+    }
+}
+
+// Why a board is refused.
+fn refusal(entries: [i64; 4]) -> Option<Panic> {
+    let [n1, n2, n3, n4] = entries;
+    board_sizes(n1, n2, n3, n4).err()
+}
+
+#[test]
+fn a_board_has_the_sizes_before_its_stop(rt: HostRuntime) {
+    assert!(rt; is_board([2, 3, 0, 0], &[2, 3, 0, 0], &[2, 3]));
+    assert!(rt; is_board([1, 2, 3, 4], &[1, 2, 3, 4], &[1, 2, 3, 4]));
+    assert!(rt; is_board([3, 4, 0, 7], &[3, 4, 0, 0], &[3, 4]));
+}
+
+#[test]
+fn a_board_with_no_size_is_a_chessboard(rt: HostRuntime) {
+    assert!(rt; is_board([0, 5, 5, 5], &[8, 8, 0, 0], &[8, 8]));
+    assert!(rt; is_board([-3, 5, 5, 5], &[8, 8, 0, 0], &[8, 8]));
+}
+
+#[test]
+fn a_negative_stop_repeats_the_sizes(rt: HostRuntime) {
+    assert!(rt; is_board([2, 3, 5, -7], &[2, 3, 5, -7], &[2, 3, 5, 2, 3, 5, 2]));
+    assert!(rt; is_board([2, 3, -1, 7], &[2, 3, -1, 0], &[2]));
+    assert!(rt; is_board([2, -91, 0, 0], &[2, -91, 0, 0], &[2; 91]));
+}
+
+#[test]
+fn above_91_dimensions_a_board_is_bad(rt: HostRuntime) {
+    assert!(rt; refusal([2, -92, 0, 0]) == Some(Panic::Bad));
+    assert!(rt; refusal([2, i64::MIN, 0, 0]) == Some(Panic::Bad));
+    assert!(rt; refusal([4_294_967_296, -92, 0, 0]) == Some(Panic::Bad));
+}
+
+#[test]
+fn a_size_that_no_entry_reaches_is_very_bad(rt: HostRuntime) {
+    assert!(rt; refusal([4_294_967_296, 0, 0, 0]) == Some(Panic::VeryBad));
+    assert!(rt; refusal([2, i64::MAX, 0, 0]) == Some(Panic::VeryBad));
+    assert!(rt;
+        is_board(
+            [4_294_967_295, 0, 0, 0],
+            &[4_294_967_295, 0, 0, 0],
+            &[4_294_967_295]
+        )
+    );
+}
+
+#[test]
+fn an_entry_that_the_repetition_does_not_reach_is_no_size(rt: HostRuntime) {
+    assert!(rt; is_board([2, 4_294_967_296, -1, 0], &[2, 4_294_967_296, -1, 0], &[2]));
+}

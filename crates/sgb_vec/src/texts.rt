@@ -1,0 +1,110 @@
+ghost use Rattle.std.specs.Prelude.{◌≡◌, ◌+◌, ◌≤◌, ◌++◌, ◌↔◌, length, decimal, IsTrue, IfOk, OnOk, OnErr, IsErrOf, IsOkUnless};
+ghost use Rattle.sgb_vec.specs.Limits.{most_dimensions};
+ghost use Rattle.sgb_vec.specs.Names.{name_of_vector, IsTextByte, IsText};
+
+use crate::panics::Panic;
+use itoa::Buffer;
+use std::alloc::{AllocError, Global};
+use std::marker::Model;
+
+/// A string of at most 4,095 bytes of printable ASCII (32 to 126) without `"` and `\`, as a `.gb` file
+/// can hold it. Contracts see it as the list of its bytes.
+#[derive(Drop)]
+pub struct Text {
+    bytes: Vec<u8>,
+}
+
+impl Model for Text {
+    ghost use Rattle.std.specs.Prelude.{List, ℕ};
+    ghost use Rattle.sgb_vec.specs.Names.{IsText};
+
+    ghost Value = { List ℕ };
+
+    ghost view = { λ t. t.bytes.items };
+
+    ghost invariant = { λ t. IsText t.bytes.items };
+}
+
+// A string has at most this many bytes.
+const MOST_BYTES: usize = 4_095;
+
+impl Text {
+    /// The string of these bytes.
+    ///
+    /// `Syntax` where they are no string: above 4,095 bytes, or one that is not printable ASCII (32 to 126)
+    /// or is `"` or `\`. `NoRoom` where memory is refused.
+    pub fn new(alloc: Global, bytes: &[u8]) -> Result<Text, Panic>
+        ensures ok { IfOk result (λ text. (text ≡ bytes.now) × IsText bytes.now) }
+        ensures refused { IsErrOf result Panic.Syntax ↔ ¬ IsText bytes.now }
+        ensures err { IsText bytes.now → IsOkUnless result Panic.NoRoom }
+    {
+        if !is_text(bytes) {
+            return Err(Panic::Syntax);
+        }
+        let bytes = Vec::from_slice(alloc, bytes)?;
+        Ok(Text { bytes })
+    }
+
+    /// The bytes of the string.
+    pub fn bytes(&self) -> &[u8]
+        ensures value { result.now ≡ self.now }
+        ensures text { IsText self.now }
+    {
+        self.bytes.as_slice()
+    }
+
+    /// The same string once more. `NoRoom` where memory is refused, and nothing else.
+    pub fn copy(&self, alloc: Global) -> Result<Text, Panic>
+        ensures ok { IfOk result (λ text. text ≡ self.now) }
+        ensures err { OnErr result (IsErrOf result Panic.NoRoom) }
+    {
+        let bytes = Vec::from_slice(alloc, self.bytes())?;
+        Ok(Text { bytes })
+    }
+}
+
+// Whether the bytes are a string that a `.gb` file can hold.
+fn is_text(bytes: &[u8]) -> bool
+    ensures { IsTrue result ↔ IsText bytes.now }
+{
+    bytes.len() <= MOST_BYTES && bytes.iter().all(|byte| is_text_byte(*byte))
+}
+
+// Whether the byte may stand in a string.
+fn is_text_byte(byte: u8) -> bool
+    ensures { IsTrue result ↔ IsTextByte byte }
+{
+    b' ' <= byte && byte <= b'~' && byte != b'"' && byte != b'\\'
+}
+
+/// The name of a vector of at most 92 entries (GB_BASIC, board): its entries in decimal, joined by dots.
+///
+/// `NoRoom` where memory is refused, and nothing else.
+pub fn name_of(alloc: Global, vector: &[u32]) -> Result<Text, Panic>
+    requires { length vector.now ≤ most_dimensions + 1 }
+    ensures ok { IfOk result (λ name. name ≡ name_of_vector vector.now) }
+    ensures err { OnErr result (IsErrOf result Panic.NoRoom) }
+{
+    let mut bytes = Vec::with_capacity(alloc, vector.len() * MOST_ENTRY_BYTES)?;
+    for (place, entry) in vector.iter().enumerate() {
+        if place > 0 {
+            bytes.push(b'.')?;
+        }
+        push_decimal(&mut bytes, *entry)?;
+    }
+    Ok(Text { bytes })
+}
+
+// An entry has at most ten digits, and a dot before it.
+const MOST_ENTRY_BYTES: usize = 11;
+
+// Appends the number in decimal.
+fn push_decimal(bytes: &mut Vec<u8>, number: u32) -> Result<(), AllocError>
+    ensures { OnOk result (bytes.new.items ≡ bytes.old.items ++ decimal number) }
+{
+    let mut buffer = Buffer::new();
+    bytes.extend_from_slice(buffer.format(number).as_bytes())
+}
+
+#[cfg(test)]
+mod tests;

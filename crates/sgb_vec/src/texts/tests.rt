@@ -1,0 +1,59 @@
+ghost use Rattle.std.specs.Prelude.{◌≤◌, length};
+
+use super::{Text, name_of};
+use crate::panics::Panic;
+use std::alloc::Global;
+
+// Whether the vector's name is this text.
+fn is_named(alloc: Global, vector: &[u32], name: &[u8]) -> bool
+    requires { length vector.now ≤ 92 }
+{
+    name_of(alloc, vector).is_ok_and(|text| text.bytes() == name)
+}
+
+// Whether the bytes are accepted, and the text and its copy have them.
+fn is_accepted(alloc: Global, bytes: &[u8]) -> bool {
+    let Ok(text) = Text::new(alloc, bytes) else {
+        return false;
+    };
+    let Ok(copy) = text.copy(alloc) else {
+        return false;
+    };
+    text.bytes() == bytes && copy.bytes() == bytes
+}
+
+fn is_refused(alloc: Global, bytes: &[u8]) -> bool {
+    matches!(Text::new(alloc, bytes), Err(Panic::Syntax))
+}
+
+#[test]
+fn a_name_has_the_entries_joined_by_dots(rt: HostRuntime) {
+    assert!(rt; is_named(rt.alloc(), &[1, 0], b"1.0"));
+    assert!(rt; is_named(rt.alloc(), &[], b""));
+    assert!(rt; is_named(rt.alloc(), &[4_294_967_295], b"4294967295"));
+    assert!(rt; is_named(rt.alloc(), &[0, 10, 907], b"0.10.907"));
+}
+
+#[test]
+fn a_vector_of_92_entries_has_a_name(rt: HostRuntime) {
+    let mut name = [b'.'; 183];
+    for place in 0..92 {
+        name[2 * place] = b'7';
+    }
+    assert!(rt; is_named(rt.alloc(), &[7; 92], &name));
+}
+
+#[test]
+fn a_text_has_printable_bytes_but_two(rt: HostRuntime) {
+    assert!(rt; is_accepted(rt.alloc(), b""));
+    assert!(rt; is_accepted(rt.alloc(), b" board(8,8,0,0,1,0,0)~"));
+    for bytes in [b"\\", b"\"", b"\x1f", b"\x7f", b"\n", b"\xe9"] {
+        assert!(rt; is_refused(rt.alloc(), bytes));
+    }
+}
+
+#[test]
+fn a_text_has_at_most_4095_bytes(rt: HostRuntime) {
+    assert!(rt; is_accepted(rt.alloc(), &[b'a'; 4_095]));
+    assert!(rt; is_refused(rt.alloc(), &[b'a'; 4_096]));
+}
