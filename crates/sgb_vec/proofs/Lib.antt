@@ -1,7 +1,10 @@
--- The lemmas of sgb_vec, by subject.
+-- The lemmas and examples of sgb_vec, by subject.
 pub mod BoardSizes
 pub mod BoxOrder
 pub mod BoxPlaces
 pub mod BoxSuccessors
+pub mod Examples
+pub mod NameReading
 pub mod Products
+pub mod SumMembers
 pub mod VectorNames

@@ -1,7 +1,7 @@
 -- The limits of vectors, names and vertex sets, each stated in this one place.
 use Rattle.std.specs.Prelude.{ℕ}
 
--- a board has at most this many dimensions
+-- a board, and each other family, has at most this many dimensions
 abbrev pub most_dimensions : ℕ
 most_dimensions = 91
 

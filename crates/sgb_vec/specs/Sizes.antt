@@ -50,7 +50,7 @@ pub record Normalized : Type 0 where
 abbrev pub chessboard : Normalized
 chessboard = record { params = pos 8 ∷ pos 8 ∷ pos 0 ∷ pos 0 ∷ []; sizes = 8 ∷ 8 ∷ [] }
 
--- a size that no entry of a vector can reach the end of
+-- some size is above 4,294,967,295
 abbrev pub has_great_size : List ℕ → Bool
 has_great_size sizes = list_any (λ n. nat_lt most_entry n) sizes
 

@@ -1,0 +1,86 @@
+-- The command line by clap's meaning of it, and what its words ask for.
+use Rattle.std.specs.Prelude.{◌≡◌, ◌≢◌, ◌⊎◌, true, List, [], ◌∷◌, Option, Some, None, codes, option_map}
+use Rattle.clap.specs.Simple.{new_shape}
+use Rattle.clap.specs.Words.{App, Row, Rule, Shape, Text, fault_of, first_of, new_app, new_rule, subcommand_of, subcommand_rows_of, with_subcommand}
+use Rattle.clap.specs.declared.builder.action.ArgAction.TheVariants.{Set}
+use Rattle.clap.specs.declared.error.kind.ErrorKind.{ErrorKind}
+use Rattle.clap.specs.declared.error.kind.ErrorKind.TheVariants.{OutOfMemory}
+use Rattle.clap.specs.declared.parser.matches.ArgMatches.{ArgMatches}
+use Rattle.sgb_vec.specs.declared.panics.Panic.TheVariants.{NoRoom}
+use Rattle.sgb.specs.declared.calls.Call.{Call}
+use Rattle.sgb.specs.declared.calls.Call.TheVariants as call
+use Rattle.sgb.specs.declared.faults.Fault.{Fault}
+use Rattle.sgb.specs.declared.faults.Fault.TheVariants as fault
+
+-- `EXPR`, which has to be there
+abbrev pub expression_rule : Rule
+expression_rule = record (new_rule (codes "EXPR")) { action = Some Set; required = true }
+
+-- `--skip K`
+abbrev pub skip_rule : Rule
+skip_rule = record (new_rule (codes "skip")) { long = Some (codes "skip"); action = Some Set }
+
+-- `names EXPR [--skip K]`
+abbrev pub names_shape : Shape
+names_shape = record (new_shape (codes "names")) { rules = expression_rule ∷ skip_rule ∷ [] }
+
+-- `sgb` and its commands
+abbrev pub command_line : App
+command_line = with_subcommand (new_app (codes "sgb")) names_shape
+
+-- a command with the values of its argument and its option, as the words give them
+pub record Asked : Type 0 where
+  pub command : Text
+  pub expression : Option Text
+  pub skip : Option Text
+
+-- what is asked of a command, by its name and its matches
+abbrev pub asked_by : Text × List Row → Asked
+asked_by entered = record {
+  command = entered.0;
+  expression = first_of (codes "EXPR") entered.1;
+  skip = first_of (codes "skip") entered.1;
+}
+
+-- what the words ask for, where clap takes them
+abbrev pub asked_of : List Text → Option Asked
+asked_of words = option_map asked_by (subcommand_of command_line words)
+
+-- the words are those of a command `names` with this expression and this value of `--skip`
+pub record AsksNames (words : List Text) (expression : Text) (skip : Option Text) : Type 0 where
+  pub taken : fault_of command_line words ≡ []
+  pub asked : asked_of words ≡ Some (record { command = codes "names"; expression = Some expression; skip = skip })
+
+-- clap refuses the words, or answers them with a text of its own
+abbrev pub IsRefusedByClap : List Text → Type 0
+IsRefusedByClap words = fault_of command_line words ≢ []
+
+-- clap refuses the words, or there is no command
+abbrev pub IsNoCall : List Text → Type 0
+IsNoCall words = IsRefusedByClap words ⊎ (asked_of words ≡ None)
+
+-- what an error of this kind is answered with
+abbrev pub fault_of_kind : ErrorKind → Fault
+fault_of_kind OutOfMemory = fault.Panic NoRoom
+fault_of_kind _ = fault.Usage
+
+-- clap takes the words, and these are its matches
+pub record IsTaken (words : List Text) (matches : ArgMatches) : Type 0 where
+  pub taken : fault_of command_line words ≡ []
+  pub entered : subcommand_rows_of matches ≡ subcommand_of command_line words
+
+-- the matches of `names` give this call
+abbrev pub IsNamesCall : List Row → Call → Type 0
+IsNamesCall rows (call.Names expression skip) =
+    (first_of (codes "EXPR") rows ≡ Some expression.now)
+    × (first_of (codes "skip") rows ≡ option_map (λ text. text.now) skip)
+
+-- the words call for this
+abbrev pub IsCall : List Text → Call → Type 0
+IsCall words (call.Names expression skip) = AsksNames words expression.now (option_map (λ text. text.now) skip)
+
+-- the words are refused with this fault before their values are looked at
+abbrev pub IsRefusedUse : List Text → Fault → Type 0
+IsRefusedUse words fault.Usage = IsNoCall words
+IsRefusedUse words (fault.Panic p) = p ≡ NoRoom
+IsRefusedUse words _ = ⊥

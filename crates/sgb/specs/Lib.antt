@@ -1,0 +1,12 @@
+-- What the contracts of sgb speak of.
+pub mod Answers
+pub mod CommandLine
+pub mod Devices
+pub mod Expressions
+pub mod Faults
+pub mod Fronts
+pub mod Grammar
+pub mod Reading
+pub mod Requests
+pub mod Runs
+pub mod Writing

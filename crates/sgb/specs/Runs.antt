@@ -1,0 +1,35 @@
+-- What a run leaves in its sinks.
+use Rattle.std.specs.Prelude.{◌≡◌, ◌⊎◌, ℕ, Bool, List, Option}
+use Rattle.std.specs.Bool.{MatchBool}
+use Rattle.std.specs.Io.KnownBytes.{Appends}
+use Rattle.sgb_vec.specs.declared.panics.Panic.TheVariants.{NoRoom}
+use Rattle.sgb.specs.Answers.{Outcome}
+use Rattle.sgb.specs.Devices.{AppendsFront, AppendsUnlessFailed}
+use Rattle.sgb.specs.Faults.{status_of, line_of}
+use Rattle.sgb.specs.declared.faults.Fault.{Fault}
+use Rattle.sgb.specs.declared.faults.Fault.TheVariants as fault
+
+-- the bytes that a sink tells, before and after, and whether it has failed afterwards
+pub record Change : Type 0 where
+  pub before : Option (List ℕ)
+  pub after : Option (List ℕ)
+  pub failed : Bool
+
+-- the answer was given in full: all of its output, its line unless standard error failed, its status
+pub record IsGiven (answer : Outcome) (out err : Change) (status : ℕ) : Type 0 where
+  pub output : Appends out.before out.after answer.output
+  pub line : AppendsUnlessFailed err.failed err.before err.after answer.line
+  pub exit : status ≡ answer.status
+
+-- the run was stopped by this fault: a front of the answer's output, the fault's line and status
+pub record IsStopped (by : Fault) (answer : Outcome) (out err : Change) (status : ℕ) : Type 0 where
+  pub output : AppendsFront out.before out.after answer.output
+  pub line : AppendsUnlessFailed err.failed err.before err.after (line_of by)
+  pub exit : status ≡ status_of by
+
+-- Where the output sink has failed, that stopped the run. Where it is sound, the answer was given, or want
+-- of memory stopped the run.
+abbrev pub Answers : Outcome → Change → Change → ℕ → Type 0
+Answers answer out err status = MatchBool out.failed
+    (IsStopped fault.Write answer out err status)
+    (IsGiven answer out err status ⊎ IsStopped (fault.Panic NoRoom) answer out err status)

@@ -1,0 +1,33 @@
+-- What writing a text leaves in a sink.
+use Rattle.std.specs.Prelude.{◌≡◌, ◌⊎◌, ℕ, true, false, List, [], Result, Ok, Err}
+use Rattle.std.specs.Io.KnownBytes.{Appends}
+use Rattle.sgb_vec.specs.declared.panics.Panic.TheVariants.{NoRoom}
+use Rattle.sgb.specs.Devices.{AppendsFront}
+use Rattle.sgb.specs.Runs.{Change}
+use Rattle.sgb.specs.declared.faults.Fault.{Fault}
+use Rattle.sgb.specs.declared.faults.Fault.TheVariants as fault
+
+-- the text was written whole
+pub record IsWhole (text : List ℕ) (out : Change) : Type 0 where
+  pub output : Appends out.before out.after text
+  pub sound : out.failed ≡ false
+
+-- writing was cut off by the sink's failure, or by want of memory while the sink is sound
+abbrev pub IsCause : Change → Fault → Type 0
+IsCause out f = ((out.failed ≡ true) × (f ≡ fault.Write)) ⊎ ((out.failed ≡ false) × (f ≡ fault.Panic NoRoom))
+
+-- a front of the text was written, until this fault
+pub record IsCutOff (text : List ℕ) (out : Change) (f : Fault) : Type 0 where
+  pub output : AppendsFront out.before out.after text
+  pub cause : IsCause out f
+
+-- the text was written, or a front of it until a fault
+abbrev pub IsWritten : {T : Type 0} → List ℕ → Change → Result T Fault → Type 0
+IsWritten text out (Ok x) = IsWhole text out
+IsWritten text out (Err f) = IsCutOff text out f
+
+-- the request was answered, or refused with nothing written, or cut off
+abbrev pub IsEnded : {T : Type 0} → Result (List ℕ) Fault → Change → Result T Fault → Type 0
+IsEnded (Ok text) out r = IsWritten text out r
+IsEnded (Err g) out (Ok x) = ⊥
+IsEnded (Err g) out (Err f) = (f ≡ g) × IsWhole [] out

@@ -1,0 +1,114 @@
+ghost use Rattle.std.specs.Prelude.{◌≡◌, ◌++◌, decimal};
+ghost use Rattle.sgb.specs.Devices.{AppendsUnlessFailed, IsPut};
+ghost use Rattle.sgb.specs.Faults.{line_of, status_of};
+
+use crate::devices::{Failed, Sink, put_all};
+use itoa::Buffer;
+use sgb_vec::Panic;
+use thiserror::Error;
+
+/// Why a request ends without its whole answer.
+#[derive(Clone, Copy, Debug, PartialEq, Eq, Error)]
+pub enum Fault {
+    /// The words are no call of the program.
+    #[error("usage")]
+    Usage,
+    /// The expression is too large to be read.
+    #[error("expression too large")]
+    TooLarge,
+    /// The text is no expression; its longest front that begins one has this many bytes.
+    #[error("bad expression at byte {0}")]
+    Expr(u32),
+    /// The graph is refused, or memory is.
+    #[error("panic code {}", .0.code())]
+    Panic(Panic),
+    /// No vertex has the name.
+    #[error("no such vertex")]
+    NoVertex,
+    /// Standard input failed.
+    #[error("read fault")]
+    Read,
+    /// The output failed.
+    #[error("write fault")]
+    Write,
+}
+
+impl From<Panic> for Fault {
+    ghost use Rattle.std.specs.Prelude.{◌≡◌};
+    ghost use Rattle.sgb.specs.declared.faults.Fault.TheVariants as fault;
+
+    ghost from_gives = { λ p f. f ≡ fault.Panic p };
+
+    fn from(panic: Panic) -> Fault {
+        Fault::Panic(panic)
+    }
+}
+
+impl From<Failed> for Fault {
+    ghost use Rattle.std.specs.Prelude.{◌≡◌};
+    ghost use Rattle.sgb.specs.declared.faults.Fault.TheVariants as fault;
+
+    ghost from_gives = { λ _ f. f ≡ fault.Write };
+
+    fn from(_failed: Failed) -> Fault {
+        Fault::Write
+    }
+}
+
+/// The exit status of a fault: 1, 2 or 3.
+pub fn status(fault: &Fault) -> u8
+    ensures { result ≡ status_of fault.now }
+{
+    match fault {
+        Fault::Panic(_) | Fault::NoVertex => 1,
+        Fault::Usage | Fault::TooLarge | Fault::Expr(_) => 2,
+        Fault::Read | Fault::Write => 3,
+    }
+}
+
+/// Writes the fault's line, and answers its exit status. A sink that fails has a front of the line, and the
+/// status is the same.
+pub fn report<E: Sink>(fault: &Fault, errors: &mut E) -> u8
+    ensures line { AppendsUnlessFailed (E.has_failed errors.new) (E.written errors.old) (E.written errors.new) (line_of fault.now) }
+    ensures status { result ≡ status_of fault.now }
+{
+    let _written = put_line(fault, errors);
+    status(fault)
+}
+
+// Puts the line of a fault.
+#[tactic(auto, unfolding(crate::specs::Faults::line_of, crate::specs::Faults::usage_line))]
+fn put_line<E: Sink>(fault: &Fault, errors: &mut E) -> Result<(), Failed>
+    ensures { IsPut (line_of fault.now) (E.written errors.old) (E.written errors.new) (E.has_failed errors.new) result }
+{
+    match fault {
+        Fault::Usage => put_all(
+            errors,
+            b"usage: sgb (names|list) EXPR [--after NAME|--skip K], sgb save EXPR, sgb queen, sgb flip EXPR\n",
+        ),
+        Fault::TooLarge => put_all(errors, b"sgb: expression too large\n"),
+        Fault::Expr(k) => put_number(b"sgb: bad expression at byte ", *k, b"\n", errors),
+        Fault::Panic(panic) => {
+            let code = u32::from(panic.code());
+            put_number(b"Something went wrong (panic code ", code, b")!\n", errors)
+        }
+        Fault::NoVertex => put_all(errors, b"sgb: no such vertex\n"),
+        Fault::Read => put_all(errors, b"sgb: read fault\n"),
+        Fault::Write => put_all(errors, b"sgb: write fault\n"),
+    }
+}
+
+// Puts a number in decimal between two texts.
+fn put_number<E: Sink>(
+    before: &[u8],
+    number: u32,
+    after: &[u8],
+    errors: &mut E,
+) -> Result<(), Failed>
+    ensures { IsPut (before.now ++ decimal number ++ after.now) (E.written errors.old) (E.written errors.new) (E.has_failed errors.new) result }
+{
+    let mut digits = Buffer::new();
+    put_all(errors, before)?;
+    put_all(errors, digits.format(number).as_bytes())?;
+    put_all(errors, after)
+}

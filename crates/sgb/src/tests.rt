@@ -1,0 +1,263 @@
+//! Whole calls, from the words to the bytes, with values from the published programs' rules.
+
+use crate::command_line::request;
+use crate::devices::{CutSink, CutSource, MemSink, MemSource, Sink};
+use crate::faults::report;
+use crate::runs::run;
+use std::alloc::Global;
+use std::test::Fail;
+
+// What a call does: its words, what comes out, the line on standard error, the exit status.
+#[derive(Clone, Copy)]
+struct Case<'a> {
+    words: &'a [&'a str],
+    output: &'a str,
+    line: &'a str,
+    status: u8,
+}
+
+// The words of a call behind the program's name.
+fn words_of(alloc: Global, words: &[&str]) -> Result<Vec<String>, Fail> {
+    let mut all = Vec::new(alloc);
+    all.push(String::from_str(alloc, "sgb")?)?;
+    for word in words {
+        all.push(String::from_str(alloc, word)?)?;
+    }
+    Ok(all)
+}
+
+// Makes a call, and answers its exit status.
+fn call<W: Sink, E: Sink>(
+    alloc: Global,
+    words: &[&str],
+    out: &mut W,
+    errors: &mut E,
+) -> Result<u8, Fail>
+    requires { W.has_failed out.old ≡ false }
+{
+    let mut source = MemSource::new(b"");
+    let words = words_of(alloc, words)?;
+    Ok(match request(alloc, &words) {
+        Ok(request) => run(alloc, &request, &mut source, out, errors),
+        Err(fault) => report(&fault, errors),
+    })
+}
+
+#[test]
+fn calls_over_memory(rt: HostRuntime) -> Result<(), Fail> {
+    let usage =
+        "usage: sgb (names|list) EXPR [--after NAME|--skip K], sgb save EXPR, sgb queen, sgb flip EXPR\n";
+    let cases = [
+        Case {
+            words: &["names", "board(2,3,0,0,1,0,0)"],
+            output: "0.0\n0.1\n0.2\n1.0\n1.1\n1.2\n",
+            line: "",
+            status: 0,
+        },
+        Case {
+            words: &["names", "board(2,3,5,-7,1,0,0)", "--skip", "1799"],
+            output: "1.2.4.1.2.4.1\n",
+            line: "",
+            status: 0,
+        },
+        Case {
+            words: &["names", "--skip=5", "board(2,3,0,0,1,0,0)"],
+            output: "1.2\n",
+            line: "",
+            status: 0,
+        },
+        Case {
+            words: &["names", "board(2,3,0,0,1,0,0)", "--skip", "6"],
+            output: "",
+            line: "",
+            status: 0,
+        },
+        Case {
+            words: &[
+                "names",
+                "board(2,3,0,0,1,0,0)",
+                "--skip",
+                "999999999999999999",
+            ],
+            output: "",
+            line: "",
+            status: 0,
+        },
+        Case {
+            words: &["names", "board(2,-92,0,0,1,0,0)"],
+            output: "",
+            line: "Something went wrong (panic code 30)!\n",
+            status: 1,
+        },
+        Case {
+            words: &["names", "board(2,-30,0,0,1,0,0)"],
+            output: "",
+            line: "Something went wrong (panic code 40)!\n",
+            status: 1,
+        },
+        Case {
+            words: &["names", "board(2,0,0,0,2147483648,0,0)"],
+            output: "",
+            line: "Something went wrong (panic code 40)!\n",
+            status: 1,
+        },
+        Case {
+            words: &["names", "board(65536,65536,0,0,1,0,0)"],
+            output: "",
+            line: "Something went wrong (panic code 40)!\n",
+            status: 1,
+        },
+        Case {
+            words: &["names", "board(2,0,0,0,-1,0,0)"],
+            output: "",
+            line: "Something went wrong (panic code 30)!\n",
+            status: 1,
+        },
+        Case {
+            words: &["names", "board(2,0,0,0,1,1,0)"],
+            output: "",
+            line: "Something went wrong (panic code 30)!\n",
+            status: 1,
+        },
+        Case {
+            words: &["names", "board(3,"],
+            output: "",
+            line: "sgb: bad expression at byte 8\n",
+            status: 2,
+        },
+        Case {
+            words: &["names", "boards(1)"],
+            output: "",
+            line: "sgb: bad expression at byte 5\n",
+            status: 2,
+        },
+        Case {
+            words: &["names", ""],
+            output: "",
+            line: "sgb: bad expression at byte 0\n",
+            status: 2,
+        },
+        Case {
+            words: &[
+                "names",
+                "(((((((((((((((((((((((((((((((((((((((((((((((((((((((((((((((((",
+            ],
+            output: "",
+            line: "sgb: expression too large\n",
+            status: 2,
+        },
+        Case {
+            words: &["names", "x", "--skip", "x"],
+            output: "",
+            line: usage,
+            status: 2,
+        },
+        Case {
+            words: &[],
+            output: "",
+            line: usage,
+            status: 2,
+        },
+    ];
+    for case in &cases {
+        let mut out = MemSink::new(rt.alloc());
+        let mut errors = MemSink::new(rt.alloc());
+        let status = call(rt.alloc(), case.words, &mut out, &mut errors)?;
+        assert_eq!(rt; status, case.status);
+        assert_eq!(rt; out.bytes(), case.output.as_bytes());
+        assert_eq!(rt; errors.bytes(), case.line.as_bytes());
+    }
+    Ok(())
+}
+
+#[test]
+fn eighteen_hundred_names(rt: HostRuntime) -> Result<(), Fail> {
+    let mut out = MemSink::new(rt.alloc());
+    let mut errors = MemSink::new(rt.alloc());
+    let words = ["names", "board(2,3,5,-7,1,0,0)"];
+    assert_eq!(rt; call(rt.alloc(), &words, &mut out, &mut errors)?, 0);
+    assert_eq!(rt;
+        out.bytes().iter().filter(|byte| **byte == b'\n').count(),
+        1800
+    );
+    assert!(rt;
+        out.bytes()
+            .starts_with(b"0.0.0.0.0.0.0\n0.0.0.0.0.0.1\n0.0.0.0.0.1.0\n")
+    );
+    Ok(())
+}
+
+#[test]
+fn a_sink_of_ten_bytes(rt: HostRuntime) -> Result<(), Fail> {
+    for each in [1usize, 3, 100] {
+        let mut out: CutSink<64> = CutSink::new(each, 10, false);
+        let mut errors: CutSink<128> = CutSink::new(each, 128, false);
+        let words = ["names", "board(2,3,0,0,1,0,0)"];
+        assert_eq!(rt; call(rt.alloc(), &words, &mut out, &mut errors)?, 3);
+        assert_eq!(rt; out.bytes(), b"0.0\n0.1\n0.".as_slice());
+        assert_eq!(rt; errors.bytes(), b"sgb: write fault\n".as_slice());
+    }
+    Ok(())
+}
+
+#[test]
+fn a_byte_for_each_put(rt: HostRuntime) -> Result<(), Fail> {
+    let mut out: CutSink<64> = CutSink::new(1, 64, false);
+    let mut errors: CutSink<128> = CutSink::new(1, 128, false);
+    let words = ["names", "board(2,3,0,0,1,0,0)"];
+    assert_eq!(rt; call(rt.alloc(), &words, &mut out, &mut errors)?, 0);
+    assert_eq!(rt; out.bytes(), b"0.0\n0.1\n0.2\n1.0\n1.1\n1.2\n".as_slice());
+    assert_eq!(rt; errors.bytes(), b"".as_slice());
+    Ok(())
+}
+
+#[test]
+fn a_flush_that_fails(rt: HostRuntime) -> Result<(), Fail> {
+    let mut out: CutSink<64> = CutSink::new(64, 64, true);
+    let mut errors: CutSink<128> = CutSink::new(128, 128, false);
+    let words = ["names", "board(2,0,0,0,1,0,0)"];
+    assert_eq!(rt; call(rt.alloc(), &words, &mut out, &mut errors)?, 3);
+    assert_eq!(rt; out.bytes(), b"0\n1\n".as_slice());
+    assert_eq!(rt; errors.bytes(), b"sgb: write fault\n".as_slice());
+    // a refused request flushes nothing, and keeps its own line
+    let mut out: CutSink<64> = CutSink::new(64, 64, true);
+    let mut errors: CutSink<128> = CutSink::new(128, 128, false);
+    let words = ["names", "board(2,-92,0,0,1,0,0)"];
+    assert_eq!(rt; call(rt.alloc(), &words, &mut out, &mut errors)?, 1);
+    assert_eq!(rt;
+        errors.bytes(),
+        b"Something went wrong (panic code 30)!\n".as_slice()
+    );
+    Ok(())
+}
+
+#[test]
+fn a_standard_error_that_fails(rt: HostRuntime) -> Result<(), Fail> {
+    for (words, status) in [
+        (["names", "board(3,"], 2),
+        (["names", "board(2,-92,0,0,1,0,0)"], 1),
+    ] {
+        let mut out = MemSink::new(rt.alloc());
+        let mut errors: CutSink<128> = CutSink::new(128, 0, false);
+        assert_eq!(rt; call(rt.alloc(), &words, &mut out, &mut errors)?, status);
+        assert_eq!(rt; errors.bytes(), b"".as_slice());
+    }
+    Ok(())
+}
+
+#[test]
+fn a_source_that_fails_is_not_read(rt: HostRuntime) -> Result<(), Fail> {
+    let mut source = CutSource::new(b"", 1, 0);
+    let mut out = MemSink::new(rt.alloc());
+    let mut errors = MemSink::new(rt.alloc());
+    let words = words_of(rt.alloc(), &["names", "board(2,0,0,0,1,0,0)"])?;
+    match request(rt.alloc(), &words) {
+        Ok(request) => {
+            let status = run(rt.alloc(), &request, &mut source, &mut out, &mut errors);
+            assert_eq!(rt; status, 0);
+            assert_eq!(rt; out.bytes(), b"0\n1\n".as_slice());
+        }
+        Err(_) => assert!(rt; false),
+    }
+    Ok(())
+}

@@ -1,0 +1,83 @@
+-- Lemmas on the order of bytes in the checksum, and on the sum made byte by byte.
+use Rattle.std.specs.Prelude.{◌≡◌, ℕ, suc, ◌+◌, ◌*◌, ◌/◌, ◌%◌, ◌^◌, ◌<◌, Bool, true, not, ◌&&◌, ◌||◌, List, [], ◌∷◌, length, fold, refl, nat_lt, ◌==◌, slice_index}
+use Rattle.std.specs.List.{list_all, range_with_len}
+use Rattle.std.proofs.Common.{arith, ap, sym, ◌∙◌}
+use Rattle.std.proofs.Math.Nat.{mul_assoc, mul_comm, add-mul, pow-suc, add-mul-mod_self_right, mod-add-div', mod-eq_of_lt}
+use Rattle.std.proofs.lemmas.Nat.{mod_below}
+use Rattle.std.proofs.lemmas.Bool.Decides.{Decides-eqb, Decides-ltb, nat_tests}
+use Rattle.sgb_graph.proofs.TestLemmas.{at_each_below, both_first, both_second, where_passes}
+use Rattle.sgb_file.specs.Checksum.{characters, value_of_byte, is_character, weighted_sum}
+
+-- the byte has a place below 96, where it stands
+abbrev pub has_place : ℕ → Bool
+has_place byte = nat_lt (value_of_byte byte) 96 && slice_index characters (value_of_byte byte) == byte
+
+-- at the place stands a character that has this place
+abbrev pub has_character : ℕ → Bool
+has_character k = is_character (slice_index characters k) && value_of_byte (slice_index characters k) == k
+
+each_has_place : list_all (λ byte. not (is_character byte) || has_place byte) (range_with_len 0 127) ≡ true
+each_has_place = refl
+
+each_has_character : list_all has_character (range_with_len 0 96) ≡ true
+each_has_character = refl
+
+-- a character is below 127
+character_below : (byte : ℕ) → is_character byte ≡ true → byte < 127
+character_below byte h = grind (arith, nat_tests)
+
+-- each character has a place
+pub character_has_place : (byte : ℕ) → is_character byte ≡ true → has_place byte ≡ true
+character_has_place byte h =
+    where_passes (is_character byte) (has_place byte)
+    (at_each_below (λ b. not (is_character b) || has_place b) 127 each_has_place byte (character_below byte h)) h
+
+pub place_below : (byte : ℕ) → is_character byte ≡ true → value_of_byte byte < 96
+place_below byte h = (Decides-ltb (value_of_byte byte) 96).0 (both_first _ _ (character_has_place byte h))
+
+pub character_at_place : (byte : ℕ) → is_character byte ≡ true → slice_index characters (value_of_byte byte) ≡ byte
+character_at_place byte h = (Decides-eqb _ byte).0 (both_second _ _ (character_has_place byte h))
+
+-- each place has a character
+pub place_allowed : (k : ℕ) → k < 96 → is_character (slice_index characters k) ≡ true
+place_allowed k h = both_first _ _ (at_each_below has_character 96 each_has_character k h)
+
+pub place_back : (k : ℕ) → k < 96 → value_of_byte (slice_index characters k) ≡ k
+place_back k h = (Decides-eqb _ k).0 (both_second _ _ (at_each_below has_character 96 each_has_character k h))
+
+-- a remainder may stand for its number in a sum modulo p
+pub remainder_in_sum : (n k w p : ℕ) → (n % p * k + w) % p ≡ (n * k + w) % p
+remainder_in_sum n k w p =
+    let taken : n % p + n / p * p ≡ n = mod-add-div' n p in
+    let times : (n % p + n / p * p) * k ≡ n * k = ap (λ (x : ℕ). x * k) taken in
+    let split : (n % p + n / p * p) * k ≡ n % p * k + n / p * p * k = add-mul (n % p) (n / p * p) k in
+    let inner : p * k ≡ k * p = mul_comm p k in
+    let moved : n / p * p * k ≡ n / p * k * p =
+    mul_assoc (n / p) p k ∙ (ap (λ (x : ℕ). n / p * x) inner ∙ sym (mul_assoc (n / p) k p)) in
+    let whole : n * k + w ≡ n % p * k + w + n / p * k * p = omega arith in
+    sym (ap (λ (x : ℕ). x % p) whole ∙ add-mul-mod_self_right (n % p * k + w) (n / p * k) p)
+
+-- doubling, adding a value, and then weighing by k
+pub weighed : (a v k : ℕ) → (2 * a + v) * k ≡ a * (k * 2) + v * k
+weighed a v k =
+    let split : (2 * a + v) * k ≡ 2 * a * k + v * k = add-mul (2 * a) v k in
+    let twice : 2 * a * k ≡ 2 * (a * k) = mul_assoc 2 a k in
+    let back : a * k * 2 ≡ a * (k * 2) = mul_assoc a k 2 in
+    omega arith
+
+-- the sum made byte by byte from a is the sum of the weighted values, with a in front
+pub running_from : (p : ℕ) → 0 < p → (bytes : List ℕ) (a : ℕ) → a < p
+    → fold (λ x byte. (2 * x + value_of_byte byte) % p) a bytes ≡ (a * 2 ^ length bytes + weighted_sum bytes) % p
+unfolding weighted_sum
+running_from p positive [] a h =
+    let same : a * 1 + 0 ≡ a = omega arith in
+    sym (ap (λ (x : ℕ). x % p) same ∙ mod-eq_of_lt h)
+running_from p positive (byte ∷ bytes) a h =
+    let v : ℕ = value_of_byte byte in
+    let k : ℕ = 2 ^ length bytes in
+    let rest = running_from p positive bytes ((2 * a + v) % p) (mod_below (2 * a + v) p positive) in
+    let open_up = remainder_in_sum (2 * a + v) k (weighted_sum bytes) p in
+    let power : 2 ^ suc (length bytes) ≡ k * 2 = pow-suc 2 (length bytes) in
+    let all : (2 * a + v) * k + weighted_sum bytes ≡ a * 2 ^ suc (length bytes) + (v * k + weighted_sum bytes) =
+    rw power (ap (λ (x : ℕ). x + weighted_sum bytes) (weighed a v k) ∙ omega arith) in
+    rest ∙ (open_up ∙ ap (λ (x : ℕ). x % p) all)

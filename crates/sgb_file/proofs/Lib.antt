@@ -1,0 +1,5 @@
+-- The lemmas and examples of sgb_file.
+pub mod ChecksumLemmas
+pub mod ReadingLemmas
+pub mod LayoutLemmas
+pub mod Examples

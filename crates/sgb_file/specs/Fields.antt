@@ -1,0 +1,122 @@
+-- The fields of a record: how far each one's text goes, and what it says [GB_SAVE, fill_field].
+use Rattle.std.specs.Prelude.{ℕ, ◌^◌, ℤ, pos, neg_ℤ, Bool, not, ◌&&◌, ◌||◌, List, [], ◌∷◌, length, drop, codes, Option, Some, None, option_map, ◌==◌, nat_lt, nat_le, if◌then◌else◌}
+use Rattle.std.specs.List.{list_any, list_all, before_first, after_first, starts_with}
+use Rattle.std.specs.Str.{bytes_eq}
+use Rattle.std.specs.Str.Parse.{digits_value}
+use Rattle.sgb_vec.specs.Limits.{most_bytes}
+use Rattle.sgb_graph.specs.declared.fields.Kind.{Kind}
+use Rattle.sgb_graph.specs.declared.fields.Kind.TheVariants.{Z, I, V, S, A}
+use Rattle.sgb_graph.specs.declared.fields.Ref.{Ref}
+use Rattle.sgb_graph.specs.declared.fields.Ref.TheVariants.{Null, One, At}
+use Rattle.sgb_graph.specs.declared.fields.Util.{Util}
+use Rattle.sgb_graph.specs.declared.fields.Util.TheVariants.{Nothing, Int, Vertex as VertexField, Str, Chain}
+
+-- a number of the file's own (a vertex, an arc record, a count, a checksum) has at most this many digits
+abbrev pub most_digits : ℕ
+most_digits = 18
+
+-- an integer field has at most this many digits
+abbrev pub most_integer_digits : ℕ
+most_integer_digits = 20
+
+-- how many vertices and arc records a file has
+pub record Counts : Type 0 where
+  pub vertices : ℕ
+  pub arcs : ℕ
+
+-- a value that a text begins with, and the text behind it
+pub record Found (X : Type 0) : Type 0 where
+  pub value : X
+  pub rest : List ℕ
+
+-- what is found by `next`, given what was found first
+abbrev pub given : {X Y : Type 0} → Option X → (X → Option Y) → Option Y
+given None next = None
+given (Some x) next = next x
+
+-- what was found, as another value
+abbrev pub found_as : {X Y : Type 0} → (X → Y) → Option (Found X) → Option (Found Y)
+found_as f found = option_map (λ x. record { value = f x.value; rest = x.rest }) found
+
+-- a decimal digit
+abbrev pub is_digit : ℕ → Bool
+is_digit b = nat_le 48 b && nat_le b 57
+
+-- the number that a text of 1 to `most` decimal digits writes; leading zeros are allowed
+abbrev pub number_of : ℕ → List ℕ → Option ℕ
+number_of most text =
+    if nat_lt 0 (length text) && nat_le (length text) most && list_all is_digit text
+    then Some (digits_value 10 text) else None
+
+-- the same, where the number is below a limit
+abbrev pub number_below : ℕ → List ℕ → Option ℕ
+number_below limit text = given (number_of most_digits text) (λ k. if nat_lt k limit then Some k else None)
+
+-- the integer of 64 bits that a text writes: an optional `-` (45), and digits
+abbrev pub integer_of : List ℕ → Option ℤ
+integer_of [] = None
+integer_of (b ∷ text) =
+    if b == 45
+    then given (number_of most_integer_digits text) (λ n. if nat_le n (2 ^ 63) then Some (neg_ℤ (pos n)) else None)
+    else given (number_of most_integer_digits (b ∷ text)) (λ n. if nat_lt n (2 ^ 63) then Some (pos n) else None)
+
+-- one of n vertices: `V` (86) and its number; or `0`, or `1`
+abbrev pub ref_of : ℕ → List ℕ → Option Ref
+ref_of n [] = None
+ref_of n (b ∷ text) =
+    if b == 86 then option_map At (number_below n text)
+    else (if bytes_eq (b ∷ text) (codes "0") then Some Null
+    else (if bytes_eq (b ∷ text) (codes "1") then Some One else None))
+
+-- one of m arc records: `A` (65) and its number; or `0`
+abbrev pub record_number_of : ℕ → List ℕ → Option (Option ℕ)
+record_number_of m [] = None
+record_number_of m (b ∷ text) =
+    if b == 65 then option_map Some (number_below m text)
+    else (if bytes_eq (b ∷ text) (codes "0") then Some None else None)
+
+-- a byte that may stand in a string: printable ASCII but for `"` (34) and `\` (92)
+abbrev pub is_string_byte : ℕ → Bool
+is_string_byte b = nat_le 32 b && nat_le b 126 && not (b == 34) && not (b == 92)
+
+-- bytes between quotes, where a `\` (92) and a newline (10) behind it count as nothing
+unfoldable pub unbroken : List ℕ → List ℕ
+unbroken [] = []
+unbroken (b ∷ []) = b ∷ []
+unbroken (b ∷ c ∷ bytes) = if b == 92 && c == 10 then unbroken bytes else b ∷ unbroken (c ∷ bytes)
+
+-- the string of at most so many bytes that the bytes between quotes say
+abbrev pub string_of : ℕ → List ℕ → Option (List ℕ)
+string_of most bytes =
+    if nat_le (length (unbroken bytes)) most && list_all is_string_byte (unbroken bytes)
+    then Some (unbroken bytes) else None
+
+-- the string that a text begins with: from a `"` (34) to the next one
+abbrev pub string_at : ℕ → List ℕ → Option (Found (List ℕ))
+string_at most [] = None
+string_at most (b ∷ text) =
+    if b == 34 && list_any (λ c. c == 34) text
+    then option_map (λ s. record { value = s; rest = after_first (λ c. c == 34) text })
+    (string_of most (before_first (λ c. c == 34) text))
+    else None
+
+-- the bytes up to the next comma (44) or the end of the line (10)
+abbrev pub plain_text : List ℕ → List ℕ
+plain_text text = before_first (λ b. b == 44 || b == 10) text
+
+-- the value that a text begins with, said by the bytes up to the next comma or the end of the line
+abbrev pub plain_at : {X : Type 0} → (List ℕ → Option X) → List ℕ → Option (Found X)
+plain_at says text =
+    option_map (λ x. record { value = x; rest = drop (length (plain_text text)) text }) (says (plain_text text))
+
+-- the value of a field of this kind that a text begins with; a field that is not used has no text
+abbrev pub field_at : Counts → Kind → List ℕ → Option (Found Util)
+field_at counts Z text = Some (record { value = Nothing; rest = text })
+field_at counts I text = found_as Int (plain_at integer_of text)
+field_at counts V text = found_as VertexField (plain_at (ref_of counts.vertices) text)
+field_at counts S text = found_as Str (string_at most_bytes text)
+field_at counts A text = found_as Chain (plain_at (record_number_of counts.arcs) text)
+
+-- what follows these bytes at the front of a text
+abbrev pub after_front : List ℕ → List ℕ → Option (List ℕ)
+after_front front text = if starts_with (λ b c. b == c) text front then Some (drop (length front) text) else None

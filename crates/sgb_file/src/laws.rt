@@ -1,0 +1,29 @@
+ghost use Rattle.std.specs.Prelude.{ℕ, List, ◌↔◌, ◌≡◌, ◌<◌, ◌≤◌, All, Ok, length};
+ghost use Rattle.sgb_graph.specs.Graphs.{GraphData};
+ghost use Rattle.sgb_file.specs.Checksum.{IsOrder, checksum, running_checksum};
+ghost use Rattle.sgb_file.specs.Reading.{IsFileOf, graph_of_text};
+ghost use Rattle.sgb_file.specs.Writing.{breaks_of, most_line_bytes, part_from_break, record_lines};
+
+/// The order of bytes in the checksum is a bijection on the 96 characters of a file (GB_IO, imap_chr):
+/// each has a place below 96, and each place has one character.
+pub fn checksum_order_law()
+    ensures { IsOrder }
+{}
+
+/// The checksum can be made byte by byte: doubled, the next byte's place added, modulo 1,073,741,741
+/// (GB_IO, new_checksum).
+pub fn running_checksum_law()
+    ensures { (bytes : List ℕ) → running_checksum bytes ≡ checksum bytes }
+{}
+
+/// A text is read as a graph exactly where it is a file of that graph (GB_SAVE, restore_graph).
+pub fn read_text_law()
+    ensures { (g : GraphData) (text : List ℕ) → (graph_of_text text ≡ Ok g) ↔ IsFileOf g text }
+{}
+
+/// The lines of a record have at most 79 bytes each, and a piece is broken where more than that are left of
+/// it, and not further (GB_SAVE, save_graph).
+pub fn line_bytes_law()
+    ensures lines { (texts : List (List ℕ)) → All (λ line. length line ≤ most_line_bytes) (record_lines texts) }
+    ensures broken { (piece : List ℕ) (k : ℕ) → (k < breaks_of piece) ↔ (most_line_bytes < length (part_from_break piece k)) }
+{}

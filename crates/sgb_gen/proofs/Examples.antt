@@ -1,0 +1,6 @@
+-- Worked examples of the generators, evaluated.
+pub mod Listings
+pub mod Boards
+pub mod Simplexes
+pub mod Subsets
+pub mod Graphs

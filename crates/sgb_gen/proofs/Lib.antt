@@ -1,0 +1,6 @@
+-- Lemmas that the proofs of sgb_gen share, and worked examples.
+pub mod Norms
+pub mod Riders
+pub mod Destinations
+pub mod Shifts
+pub mod Examples

@@ -1,0 +1,170 @@
+-- A rider stops: as many steps as the board has places lead out of it or back to the start.
+use lib.IntN.{ -ℤ-+ℤ_cancel as sub-add_cancel}
+use Rattle.std.proofs.Common.{◌≡◌, ℕ, zero, suc, ◌+◌, ◌-◌, ◌*◌, ◌%◌, ◌<◌, ◌≤◌, ◌↔◌, ◌⊎◌, ℤ, pos, negsuc, ◌+ℤ◌, ◌*ℤ◌, neg_ℤ, nat_abs, Bool, true, false, not, cond, ltb, List, [], ◌∷◌, map, length, get_or, take, Option, Some, None, refl, sym, ap, ap₂, subst, ◌∙◌, inl, inr, arith, true≢false}
+use Rattle.std.proofs.Math.Nat.{add-mul-mod_self_left, mod-eq_of_lt}
+use Rattle.std.specs.Cmp.Lexicographic.{bytes_decides}
+use Rattle.std.specs.Int.{int_rem_euclid}
+use Rattle.std.specs.List.{Contains, range_with_len, take_while, prefix_len}
+use Rattle.std.proofs.lemmas.Bool.{cond-true, cond-false, lt-ltb, le-ltb, cases_lt}
+use Rattle.std.proofs.lemmas.Int.{int_rem_euclid_is}
+use Rattle.std.proofs.lemmas.List.{get_or-take, length-take-le}
+use Rattle.std.proofs.lemmas.List.FromFn.{length-range_with_len, get_or-range_with_len}
+use Rattle.std.proofs.lemmas.List.Sums.{prefix_len-le-length, prefix_len_passes, prefix_len_stops}
+use Rattle.std.proofs.lemmas.Nat.{mul-le}
+use Rattle.sgb_vec.specs.Lexicographic.{IsBelow}
+use Rattle.sgb_gen.specs.Moves.{Side, within_size, coordinate_on, in_front, place, is_elsewhere, places_count, rider_reach}
+
+-- nothing, or the value itself
+abbrev OutOrHome : {X : Type 0} → Option X → X → Type 0
+OutOrHome r x = (r ≡ None) ⊎ (r ≡ Some x)
+
+-- whole turns around a side lead back
+turns : (n q x : ℕ) (t : ℤ) → x < n → nat_abs (int_rem_euclid (pos x +ℤ pos (q * n) *ℤ t) (pos n)) ≡ x
+turns n q x (pos a) h =
+    let whole : x + q * n * a ≡ x + n * (q * a) = omega arith in
+    ap (λ m. m % n) whole ∙ add-mul-mod_self_left x n (q * a) ∙ mod-eq_of_lt h
+turns n q x (negsuc a) h =
+    let back : q * (a + 1) * n ≡ q * n * suc a = omega arith in
+    let home : (pos x +ℤ pos (q * n) *ℤ negsuc a) +ℤ pos (q * (a + 1) * n) ≡ pos x =
+    ap (λ m. (pos x +ℤ pos (q * n) *ℤ negsuc a) +ℤ pos m) back ∙ sub-add_cancel (pos x) (pos (q * n * suc a)) in
+    ap nat_abs (int_rem_euclid_is (pos x +ℤ pos (q * n) *ℤ negsuc a) (pos n) n (q * (a + 1)) x (omega arith) refl home) ∙ mod-eq_of_lt h
+
+-- below 0 nothing is within a side
+below_zero : (n x y : ℕ) → x < y → within_size n (pos x +ℤ neg_ℤ (pos y)) ≡ None
+below_zero n x zero h = absurd (omega arith)
+below_zero n x (suc y) h = ap (within_size n) (cond-true (ltb x (suc y)) (negsuc (suc y - suc x)) (pos (x - suc y)) (lt-ltb x (suc y) h))
+
+-- a step of a side's size or more leads out of it, or is none
+strides : (n x l : ℕ) (t : ℤ) → x < n → n ≤ l → OutOrHome (within_size n (pos x +ℤ pos l *ℤ t)) x
+strides n x l (pos zero) h far =
+    let still : x + l * 0 ≡ x = omega arith in
+    inr (ap (λ m. within_size n (pos m)) still ∙ cond-true (ltb x n) (Some x) None (lt-ltb x n h))
+strides n x l (pos (suc a)) h far =
+    let out : n ≤ x + l * suc a = omega arith in
+    inl (cond-false (ltb (x + l * suc a) n) (Some (x + l * suc a)) None (le-ltb (x + l * suc a) n out))
+strides n x l (negsuc a) h far =
+    let out : x < l * suc a = omega arith in
+    inl (below_zero n x (l * suc a) out)
+
+-- the same of one coordinate, at a length that the side's size divides
+coordinates : (s : Side) (q x : ℕ) (t : ℤ) → x < s.size → 0 < q → OutOrHome (coordinate_on s (pos x +ℤ pos (q * s.size) *ℤ t)) x
+coordinates s q x t h p =
+    let far : s.size ≤ q * s.size = omega (arith, mul-le 1 s.size q s.size (omega arith) (omega arith)) in
+    let y = pos x +ℤ pos (q * s.size) *ℤ t in
+    elim s.wraps as (λ b. OutOrHome (cond b (Some (nat_abs (int_rem_euclid y (pos s.size)))) (within_size s.size y)) x) [
+      | true ↦ inr (ap Some (turns s.size q x t h))
+      | false ↦ strides s.size x (q * s.size) t h far
+    ]
+
+-- a coordinate in front
+fronts : (o : Option ℕ) (p : Option (List ℕ)) (x : ℕ) (v : List ℕ) → OutOrHome o x → OutOrHome p v → OutOrHome (in_front o p) (x ∷ v)
+fronts o p x v (inl e) r = inl (ap (λ c. in_front c p) e)
+fronts o p x v (inr e) (inl f) = inl (ap₂ in_front e f)
+fronts o p x v (inr e) (inr f) = inr (ap₂ in_front e f)
+
+-- the first factor of a product above 0 is above 0
+first_factor : (m n : ℕ) → 0 < m * n → 0 < m
+first_factor zero n h = absurd (omega arith)
+first_factor (suc m) n h = omega arith
+
+-- at a length that the number of places divides the place does not exist or is the start
+places : (sides : List Side) (x : List ℕ) (t : List ℤ) (m l : ℕ) → l ≡ m * places_count sides → 0 < l → IsBelow x (map (λ s. s.size) sides) → OutOrHome (place sides x t l) x
+places [] [] t m l e p b = inr refl
+places [] (y ∷ x) t m l e p b = absurd b
+places (s ∷ sides) [] t m l e p b = absurd b
+places (s ∷ sides) (y ∷ x) [] m l e p b = inl refl
+places (s ∷ sides) (y ∷ x) (u ∷ t) m l e p b =
+    let q = m * places_count sides in
+    let whole : q * s.size ≡ l = omega arith in
+    let some : 0 < q * s.size = omega arith in
+    let here = subst (λ k. OutOrHome (coordinate_on s (pos y +ℤ pos k *ℤ u)) y) whole (coordinates s q y u b.0 (first_factor q s.size some)) in
+    let rest = places sides x t (m * s.size) l (omega arith) p b.1 in
+    fronts (coordinate_on s (pos y +ℤ pos l *ℤ u)) (place sides x t l) y x here rest
+
+-- a board that has a place has more than none
+places_count-pos : (sides : List Side) (x : List ℕ) → IsBelow x (map (λ s. s.size) sides) → 0 < places_count sides
+places_count-pos [] [] b = omega arith
+places_count-pos [] (y ∷ x) b = absurd b
+places_count-pos (s ∷ sides) [] b = absurd b
+places_count-pos (s ∷ sides) (y ∷ x) b =
+    let rest = places_count-pos sides x b.1 in
+    omega (arith, b.0, mul-le 1 1 s.size (places_count sides) (omega (arith, b.0)) (omega arith))
+
+-- out or home is not elsewhere
+not_elsewhere : (x : List ℕ) (p : Option (List ℕ)) → OutOrHome p x → is_elsewhere x p ≡ false
+not_elsewhere x p (inl e) = ap (is_elsewhere x) e
+not_elsewhere x p (inr e) = ap (is_elsewhere x) e ∙ ap not ((bytes_decides x x).1 refl)
+
+-- a rider stops after as many steps as there are places
+pub rider-stops : (sides : List Side) (x : List ℕ) (t : List ℤ) → IsBelow x (map (λ s. s.size) sides) → is_elsewhere x (place sides x t (places_count sides)) ≡ false
+rider-stops sides x t b =
+    let n = places_count sides in
+    not_elsewhere x (place sides x t n) (places sides x t 1 n (omega arith) (places_count-pos sides x b) b)
+
+-- the numbers from 1 to n, and how many of them pass before the first that does not
+abbrev numbers_to : ℕ → List ℕ
+numbers_to n = range_with_len 1 n
+
+abbrev passing : (ℕ → Bool) → ℕ → ℕ
+passing p n = prefix_len p (numbers_to n)
+
+-- the i-th of them is i + 1
+number_at : (n i d : ℕ) → i < n → get_or (numbers_to n) i d ≡ i + 1
+number_at n i d h = get_or-range_with_len 1 n i d h ∙ omega arith
+
+passing-le : (p : ℕ → Bool) (n : ℕ) → passing p n ≤ n
+passing-le p n = omega (arith, prefix_len-le-length p (numbers_to n), length-range_with_len 1 n)
+
+-- each of them passes
+passing_passes : (p : ℕ → Bool) (n k : ℕ) → 1 ≤ k → k ≤ passing p n → p k ≡ true
+passing_passes p n zero h g = absurd (omega arith)
+passing_passes p n (suc k) h g =
+    let at : get_or (numbers_to n) k 0 ≡ suc k = number_at n k 0 (omega (arith, passing-le p n)) ∙ omega arith in
+    ap p (sym at) ∙ prefix_len_passes p (numbers_to n) k 0 (omega arith)
+
+-- the next one, if there is one, does not
+next_fails : (p : ℕ → Bool) (n : ℕ) → passing p n < n → p (passing p n + 1) ≡ false
+next_fails p n h =
+    let within : passing p n < length (numbers_to n) = omega (arith, length-range_with_len 1 n) in
+    ap p (sym (number_at n (passing p n) 0 h)) ∙ prefix_len_stops p (numbers_to n) 0 within
+
+-- the number kept at place i is i + 1
+kept_at : (p : ℕ → Bool) (n i d : ℕ) → i < passing p n → get_or (take (passing p n) (numbers_to n)) i d ≡ i + 1
+kept_at p n i d h = get_or-take (passing p n) (numbers_to n) i d h ∙ number_at n i d (omega (arith, passing-le p n))
+
+length-kept : (p : ℕ → Bool) (n : ℕ) → length (take (passing p n) (numbers_to n)) ≡ passing p n
+length-kept p n = length-take-le (passing p n) (numbers_to n) (omega (arith, passing-le p n, length-range_with_len 1 n))
+
+-- where the test fails at n, all numbers up to l pass only where l is among those kept
+passing-from_all : (p : ℕ → Bool) (n l : ℕ) → 0 < n → p n ≡ false → ((k : ℕ) → 1 ≤ k → k ≤ l → p k ≡ true) → l ≤ passing p n
+passing-from_all p n l some stop all =
+    elim (cases_lt (passing p n) l) [
+      | inr le ↦ le
+      | inl lt ↦ elim (cases_lt (passing p n) n) [
+        | inl inside ↦ absurd (true≢false (sym (all (passing p n + 1) (omega arith) (omega arith)) ∙ next_fails p n inside))
+        | inr whole ↦ absurd (true≢false (sym (all n (omega arith) (omega arith)) ∙ stop))
+      ]
+    ]
+
+-- where the test fails at n, the numbers kept are those up to which all pass
+Contains-kept : (p : ℕ → Bool) (n l : ℕ) → 0 < n → p n ≡ false → Contains (take_while p (numbers_to n)) l ↔ (1 ≤ l) × ((k : ℕ) → 1 ≤ k → k ≤ l → p k ≡ true)
+Contains-kept p n l some stop = (to, from)
+  where
+    to : Contains (take_while p (numbers_to n)) l → (1 ≤ l) × ((k : ℕ) → 1 ≤ k → k ≤ l → p k ≡ true)
+    to (i, within, at) =
+        let inside : i < passing p n = omega (arith, length-kept p n) in
+        let is : l ≡ i + 1 = sym at ∙ kept_at p n i l inside in
+        (omega arith, λ k h g. passing_passes p n k h (omega arith))
+
+    from : (1 ≤ l) × ((k : ℕ) → 1 ≤ k → k ≤ l → p k ≡ true) → Contains (take_while p (numbers_to n)) l
+    from h =
+        let low = h.0 in
+        let up = passing-from_all p n l some stop h.1 in
+        let inside : l - 1 < passing p n = omega arith in
+        (l - 1, omega (arith, length-kept p n), kept_at p n (l - 1) l inside ∙ omega arith)
+
+-- the lengths of a rider's moves are those up to which each place exists and is not the start
+pub Contains-rider_reach : (sides : List Side) (x : List ℕ) (t : List ℤ) (l : ℕ) → IsBelow x (map (λ s. s.size) sides)
+    → Contains (rider_reach sides x t) l ↔ (1 ≤ l) × ((k : ℕ) → 1 ≤ k → k ≤ l → is_elsewhere x (place sides x t k) ≡ true)
+Contains-rider_reach sides x t l b =
+    Contains-kept (λ k. is_elsewhere x (place sides x t k)) (places_count sides) l (places_count-pos sides x b) (rider-stops sides x t b)

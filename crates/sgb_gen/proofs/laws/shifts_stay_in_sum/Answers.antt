@@ -1,0 +1,5 @@
+use Rattle.sgb_gen.proofs.Shifts.{shifted-in_sum}
+use Rattle.sgb_gen.proofs.laws.shifts_stay_in_sum.Goals as goal
+
+pub returns : goal.returns
+returns c = shifted-in_sum

@@ -1,0 +1,70 @@
+-- The graphs of boards [GB_BASIC, board].
+use Rattle.std.specs.Prelude.{ℕ, zero, suc, ℤ, pos, negsuc, nat_abs, nat_lt, Bool, List, [], ◌∷◌, ◌++◌, length, Result, Ok, Err, codes, if◌then◌else◌}
+use Rattle.sgb_vec.specs.Boxes.{box, box_of}
+use Rattle.sgb_vec.specs.Results.{and_then}
+use Rattle.sgb_vec.specs.Sizes.{board_of}
+use Rattle.sgb_vec.specs.declared.panics.Panic.{Panic}
+use Rattle.sgb_vec.specs.declared.panics.Panic.TheVariants.{VeryBad}
+use Rattle.sgb_graph.specs.Descriptions.{Description}
+use Rattle.sgb_gen.specs.Limits.{most_piece}
+use Rattle.sgb_gen.specs.Families.{Move, call_text, integer_texts, flag_text, family_graph}
+use Rattle.sgb_gen.specs.Moves.{sides_of, board_moves}
+
+-- the parameters of board(n1,n2,n3,n4,piece,wrap,directed)
+pub record BoardParams : Type 0 where
+  pub n1 : ℤ
+  pub n2 : ℤ
+  pub n3 : ℤ
+  pub n4 : ℤ
+  pub piece : ℤ
+  pub wrap : ℤ
+  pub directed : Bool
+
+-- an accepted board: n1 to n4 as its official name has them, the sizes that they stand for, the piece, which is
+-- not 0, wrap and the flag
+pub record BoardData : Type 0 where
+  pub params : List ℤ
+  pub sizes : List ℕ
+  pub piece : ℤ
+  pub wrap : ℤ
+  pub directed : Bool
+
+-- the piece that a parameter stands for: 1 in the place of 0
+abbrev pub piece_for : ℤ → ℤ
+piece_for (pos zero) = pos 1
+piece_for (pos (suc p)) = pos (suc p)
+piece_for (negsuc p) = negsuc p
+
+-- the piece, or why it is refused
+abbrev pub piece_of : ℤ → Result ℤ Panic
+piece_of piece = if nat_lt most_piece (nat_abs piece) then Err VeryBad else Ok (piece_for piece)
+
+-- the board of these parameters, or why they are refused: too many dimensions first, then too many vertices,
+-- then a piece too great
+abbrev pub accepted_board : BoardParams → Result BoardData Panic
+accepted_board p =
+    and_then (board_of p.n1 p.n2 p.n3 p.n4) (λ shape.
+    and_then (box_of shape.sizes) (λ sizes.
+    and_then (piece_of p.piece) (λ piece.
+    Ok (record { params = shape.params; sizes = sizes; piece = piece; wrap = p.wrap; directed = p.directed }))))
+
+-- its id: board(n1,n2,n3,n4,piece,wrap,directed)
+unfoldable pub board_id : BoardData → List ℕ
+board_id b =
+    call_text (codes "board") (integer_texts (b.params ++ (b.piece ∷ b.wrap ∷ [])) ++ flag_text b.directed ∷ [])
+
+-- its vertices: the vectors of the box of its sizes
+abbrev pub board_vectors : BoardData → List (List ℕ)
+board_vectors b = box b.sizes
+
+-- its moves, from one vertex to another
+abbrev pub moves_of_board : BoardData → List Move
+moves_of_board b = board_moves (sides_of b.sizes b.wrap) b.piece (board_vectors b) (length b.sizes)
+
+-- its graph
+abbrev pub board_graph : BoardData → Description
+board_graph b = family_graph (board_id b) b.directed (board_vectors b) (moves_of_board b)
+
+-- the graph of board(n1,n2,n3,n4,piece,wrap,directed), or why it is refused
+abbrev pub board : BoardParams → Result Description Panic
+board p = and_then (accepted_board p) (λ b. Ok (board_graph b))

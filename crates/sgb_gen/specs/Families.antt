@@ -1,0 +1,68 @@
+-- The graph of a family of vectors: what the graphs of board, simplex and subsets have in common [GB_BASIC].
+use Rattle.std.specs.Prelude.{ℕ, ℤ, pos, Bool, true, false, List, [], ◌∷◌, ◌++◌, map, replicate, slice_index, codes, nat_eq}
+use Rattle.std.specs.List.{position_or_len, join_with_byte}
+use Rattle.std.specs.Cmp.Lexicographic.{pointwise}
+use Rattle.std.specs.Fmt.{signed_decimal}
+use Rattle.sgb_vec.specs.Names.{name_of_vector}
+use Rattle.sgb_graph.specs.Events.{Event}
+use Rattle.sgb_graph.specs.Descriptions.{Description}
+use Rattle.sgb_graph.specs.declared.fields.Kind.{Kind}
+use Rattle.sgb_graph.specs.declared.fields.Kind.TheVariants.{Z, I}
+use Rattle.sgb_graph.specs.declared.fields.Util.{Util}
+use Rattle.sgb_graph.specs.declared.fields.Util.TheVariants.{Nothing, Int}
+
+-- an event between two vectors
+pub record Move : Type 0 where
+  pub from : List ℕ
+  pub to : List ℕ
+  pub len : ℕ
+
+-- v and w have the same entries
+abbrev pub same_vector : List ℕ → List ℕ → Bool
+same_vector v w = pointwise nat_eq v w
+
+-- where v stands among the vectors, counted from 0
+abbrev pub vertex_among : List (List ℕ) → List ℕ → ℕ
+vertex_among vectors v = position_or_len (λ w. same_vector w v) vectors
+
+-- the event of a move, where the vectors are the vertices
+abbrev pub event_among : List (List ℕ) → Move → Event
+event_among vectors m =
+    record { from = vertex_among vectors m.from; to = vertex_among vectors m.to; len = pos m.len }
+
+-- the utility fields u, v, w, x, y, z of a vector's vertex: x, y and z hold its first three entries, and 0 for
+-- those that it does not have
+abbrev pub fields_of_vector : List ℕ → List Util
+fields_of_vector v =
+    Nothing ∷ Nothing ∷ Nothing ∷ Int (pos (slice_index v 0)) ∷ Int (pos (slice_index v 1)) ∷ Int (pos (slice_index v 2)) ∷ []
+
+-- util_types: ZZZIIIZZZZZZZZ, or fourteen Z where there is no vertex
+abbrev pub kinds_of_family : List (List ℕ) → List Kind
+kinds_of_family [] = replicate 14 Z
+kinds_of_family (v ∷ vectors) = Z ∷ Z ∷ Z ∷ I ∷ I ∷ I ∷ replicate 8 Z
+
+-- a flag in an id
+abbrev pub flag_text : Bool → List ℕ
+flag_text true = codes "1"
+flag_text false = codes "0"
+
+-- the id of a generated graph: the generator's name, and in parentheses the texts of its parameters, with
+-- commas (44) between them
+abbrev pub call_text : List ℕ → List (List ℕ) → List ℕ
+call_text name words = name ++ codes "(" ++ join_with_byte 44 words ++ codes ")"
+
+-- integers as texts
+abbrev pub integer_texts : List ℤ → List (List ℕ)
+integer_texts params = map signed_decimal params
+
+-- the graph whose vertices are the vectors and whose events are the moves
+unfoldable pub family_graph : List ℕ → Bool → List (List ℕ) → List Move → Description
+family_graph id directed vectors moves = record {
+  id = id;
+  directed = directed;
+  events = map (event_among vectors) moves;
+  kinds = kinds_of_family vectors;
+  util = replicate 6 Nothing;
+  names = map name_of_vector vectors;
+  fields = map fields_of_vector vectors;
+}

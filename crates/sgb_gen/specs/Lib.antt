@@ -1,0 +1,9 @@
+-- What the contracts of sgb_gen speak of.
+pub mod Limits
+pub mod Families
+pub mod Displacements
+pub mod Moves
+pub mod Boards
+pub mod Simplexes
+pub mod Subsets
+pub mod Shorthands

@@ -1,0 +1,85 @@
+-- The graphs of simplexes [GB_BASIC, simplex].
+use Rattle.std.specs.Prelude.{◌≡◌, ◌<◌, ℕ, ◌+◌, ◌-◌, nat_lt, ℤ, Bool, true, ◌&&◌, List, [], ◌∷◌, ◌++◌, length, map, filter, slice_index, slice_set, sum, Result, Ok, codes}
+use Rattle.std.specs.List.{flat_map, range_with_len}
+use Rattle.sgb_vec.specs.Results.{and_then}
+use Rattle.sgb_vec.specs.Bounds.{simplex_of}
+use Rattle.sgb_vec.specs.Lexicographic.{IsWithin}
+use Rattle.sgb_vec.specs.Sums.{BoundedSum, bounded_sums, sum_of}
+use Rattle.sgb_vec.specs.declared.panics.Panic.{Panic}
+use Rattle.sgb_graph.specs.Descriptions.{Description}
+use Rattle.sgb_gen.specs.Families.{Move, call_text, integer_texts, flag_text, family_graph}
+
+-- the parameters of simplex(n,n0,n1,n2,n3,n4,directed)
+pub record SimplexParams : Type 0 where
+  pub n : ℤ
+  pub n0 : ℤ
+  pub n1 : ℤ
+  pub n2 : ℤ
+  pub n3 : ℤ
+  pub n4 : ℤ
+  pub directed : Bool
+
+-- an accepted simplex: n and n0 to n4 as its official name has them, the sum and the bounds that they stand
+-- for, and the flag
+pub record SimplexData : Type 0 where
+  pub params : List ℤ
+  pub sum : BoundedSum
+  pub directed : Bool
+
+-- the simplex of these parameters, or why they are refused: a negative n first, then too many dimensions, then
+-- n above 1,000,000,000, then too many vectors
+abbrev pub accepted_simplex : SimplexParams → Result SimplexData Panic
+accepted_simplex p =
+    and_then (simplex_of p.n p.n0 p.n1 p.n2 p.n3 p.n4) (λ shape.
+    and_then (sum_of p.n shape.sizes) (λ s.
+    Ok (record { params = shape.params; sum = s; directed = p.directed })))
+
+-- two places in a vector
+pub record Places : Type 0 where
+  pub lower : ℕ
+  pub higher : ℕ
+
+-- the pairs of places j < k of a vector of n entries, in lexicographic order
+abbrev pub pairs_of_places : ℕ → List Places
+pairs_of_places n =
+    flat_map (λ j. map (λ k. record { lower = j; higher = k }) (range_with_len (j + 1) (n - (j + 1)))) (range_with_len 0 n)
+
+-- a unit of v can go from the lower place to the higher one: there is one, and room for it below the bound
+abbrev pub can_shift : List ℕ → List ℕ → Places → Bool
+can_shift bounds v at =
+    nat_lt 0 (slice_index v at.lower) && nat_lt (slice_index v at.higher) (slice_index bounds at.higher)
+
+-- v with a unit gone from the lower place to the higher one
+abbrev pub shifted : List ℕ → Places → List ℕ
+shifted v at =
+    slice_set (slice_set v at.lower (slice_index v at.lower - 1)) at.higher (slice_index v at.higher + 1)
+
+-- the moves to v: from each vector that v becomes when a unit goes to a higher place
+abbrev pub moves_to : List ℕ → List ℕ → List Move
+moves_to bounds v =
+    map (λ at. record { from = shifted v at; to = v; len = 1 }) (filter (can_shift bounds v) (pairs_of_places (length v)))
+
+-- its id: simplex(n,n0,n1,n2,n3,n4,directed)
+unfoldable pub simplex_id : SimplexData → List ℕ
+simplex_id s = call_text (codes "simplex") (integer_texts s.params ++ flag_text s.directed ∷ [])
+
+-- its vertices: the vectors of the bounded sum
+abbrev pub simplex_vectors : SimplexData → List (List ℕ)
+simplex_vectors s = bounded_sums s.sum.total s.sum.bounds
+
+-- its moves, for each vertex in order those to it
+unfoldable pub moves_of_simplex : SimplexData → List Move
+moves_of_simplex s = flat_map (moves_to s.sum.bounds) (simplex_vectors s)
+
+-- its graph
+abbrev pub simplex_graph : SimplexData → Description
+simplex_graph s = family_graph (simplex_id s) s.directed (simplex_vectors s) (moves_of_simplex s)
+
+-- the graph of simplex(n,n0,n1,n2,n3,n4,directed), or why it is refused
+abbrev pub simplex : SimplexParams → Result Description Panic
+simplex p = and_then (accepted_simplex p) (λ s. Ok (simplex_graph s))
+
+-- a unit that goes to a higher place leaves the vector within its bounds, and its sum as it is
+abbrev pub ShiftsStayInSum : Type 0
+ShiftsStayInSum = (bounds v : List ℕ) (at : Places) → at.lower < at.higher → at.higher < length v
+    → can_shift bounds v at ≡ true → IsWithin v bounds → IsWithin (shifted v at) bounds × (sum (shifted v at) ≡ sum v)

@@ -1,0 +1,81 @@
+-- The graphs of subsets [GB_BASIC, subsets].
+use Rattle.std.specs.Prelude.{ℕ, ◌+◌, ◌/◌, ◌%◌, ◌^◌, ◌==◌, min, nat_lt, ℤ, Bool, false, ◌&&◌, List, [], ◌∷◌, ◌++◌, length, map, filter, take, slice_index_or, Result, Ok, codes}
+use Rattle.std.specs.Fmt.{digits}
+use Rattle.std.specs.List.{flat_map, range_with_len}
+use Rattle.sgb_vec.specs.Results.{and_then}
+use Rattle.sgb_vec.specs.Bounds.{simplex_of}
+use Rattle.sgb_vec.specs.Sums.{BoundedSum, bounded_sums, sum_of}
+use Rattle.sgb_vec.specs.declared.panics.Panic.{Panic}
+use Rattle.sgb_graph.specs.Descriptions.{Description}
+use Rattle.sgb_gen.specs.Limits.{size_bits_width}
+use Rattle.sgb_gen.specs.Families.{Move, call_text, integer_texts, flag_text, family_graph}
+
+-- the parameters of subsets(n,n0,n1,n2,n3,n4,size_bits,directed)
+pub record SubsetsParams : Type 0 where
+  pub n : ℤ
+  pub n0 : ℤ
+  pub n1 : ℤ
+  pub n2 : ℤ
+  pub n3 : ℤ
+  pub n4 : ℤ
+  pub size_bits : ℕ
+  pub directed : Bool
+
+-- accepted subsets: n and n0 to n4 as the official name has them, the sum and the bounds that they stand for,
+-- size_bits and the flag
+pub record SubsetsData : Type 0 where
+  pub params : List ℤ
+  pub sum : BoundedSum
+  pub size_bits : ℕ
+  pub directed : Bool
+
+-- the subsets of these parameters, or why they are refused: as a simplex is
+abbrev pub accepted_subsets : SubsetsParams → Result SubsetsData Panic
+accepted_subsets p =
+    and_then (simplex_of p.n p.n0 p.n1 p.n2 p.n3 p.n4) (λ shape.
+    and_then (sum_of p.n shape.sizes) (λ s.
+    Ok (record { params = shape.params; sum = s; size_bits = p.size_bits; directed = p.directed })))
+
+-- how many elements two multisets have in common: the sum of the lesser entries
+abbrev pub common_size : List ℕ → List ℕ → ℕ
+common_size [] v = 0
+common_size (x ∷ u) [] = 0
+common_size (x ∷ u) (y ∷ v) = min x y + common_size u v
+
+-- bit c of size_bits is 1
+abbrev pub is_wanted_size : ℕ → ℕ → Bool
+is_wanted_size size_bits c = nat_lt c size_bits_width && (size_bits / 2 ^ c % 2 == 1)
+
+-- the moves to the i-th vector: from each vector up to it, itself too, with which it has a wanted size in common
+abbrev pub moves_to_place : ℕ → List (List ℕ) → ℕ → List Move
+moves_to_place size_bits vectors i =
+    let v = slice_index_or vectors i [] in
+    map (λ u. record { from = u; to = v; len = 1 })
+    (filter (λ u. is_wanted_size size_bits (common_size u v)) (take (i + 1) vectors))
+
+-- a number as size_bits is written: 0x and its hexadecimal digits, in lower case
+abbrev pub hexadecimal_text : ℕ → List ℕ
+hexadecimal_text bits = codes "0x" ++ digits 16 false bits
+
+-- their id: subsets(n,n0,n1,n2,n3,n4,0xH,directed)
+unfoldable pub subsets_id : SubsetsData → List ℕ
+subsets_id s =
+    call_text (codes "subsets") (integer_texts s.params ++ (hexadecimal_text s.size_bits ∷ flag_text s.directed ∷ []))
+
+-- their vertices: the vectors of the bounded sum
+abbrev pub subsets_vectors : SubsetsData → List (List ℕ)
+subsets_vectors s = bounded_sums s.sum.total s.sum.bounds
+
+-- their moves, for each vertex in order those to it
+unfoldable pub moves_of_subsets : SubsetsData → List Move
+moves_of_subsets s =
+    let vectors = subsets_vectors s in
+    flat_map (moves_to_place s.size_bits vectors) (range_with_len 0 (length vectors))
+
+-- their graph
+abbrev pub subsets_graph : SubsetsData → Description
+subsets_graph s = family_graph (subsets_id s) s.directed (subsets_vectors s) (moves_of_subsets s)
+
+-- the graph of subsets(n,n0,n1,n2,n3,n4,size_bits,directed), or why it is refused
+abbrev pub subsets : SubsetsParams → Result Description Panic
+subsets p = and_then (accepted_subsets p) (λ s. Ok (subsets_graph s))

@@ -1,0 +1,8 @@
+//! The generators of GB_BASIC whose vertices are vectors: board, simplex and subsets.
+#![tactic(auto)]
+
+mod laws;
+
+pub use laws::{
+    displacements_have_their_norm, moves_stay_on_board, riders_stop, shifts_stay_in_sum,
+};

@@ -1,0 +1,3 @@
+-- Worked examples of the definitions, each with the value that the published programs give.
+pub mod Draws
+pub mod Made

@@ -1,0 +1,37 @@
+-- Draws of GB_FLIP.
+use Rattle.std.specs.Prelude.{◌≡◌, ◌*◌, ◌%◌, pos, negsuc, refl, true, Some, ◌==◌}
+use Rattle.std.specs.List.{list_all, range_with_len}
+use Rattle.sgb_graph.specs.Draws.{y_number, x_number, back_to_first, seed_of, draw, first_taken, uniform_within}
+
+-- the first draw from -314159, as GB_FLIP's own test has it
+pub first_draw : draw (seed_of (negsuc 314158)) 0 ≡ 119318998
+unfolding y_number back_to_first
+first_draw = refl
+
+-- and the uniform draw below 1431655765 that comes after 133 further draws
+pub uniform_draw : uniform_within (seed_of (negsuc 314158)) 1431655765 134 4 ≡ Some 748103812
+unfolding y_number back_to_first
+uniform_draw = refl
+
+-- the first two uniform draws below 1 from 7: each is the next draw, and 0
+pub first_below_one : uniform_within (seed_of (pos 7)) 1 0 1 ≡ Some 0
+unfolding y_number back_to_first
+first_below_one = refl
+
+pub second_below_one : uniform_within (seed_of (pos 7)) 1 1 1 ≡ Some 0
+unfolding y_number back_to_first
+second_below_one = refl
+
+-- a draw is below 2^31, so that a uniform draw below 2^31 throws none away
+pub none_thrown_away : first_taken (seed_of (negsuc 314158)) 2147483648 0 1 ≡ Some 0
+unfolding y_number back_to_first
+none_thrown_away = refl
+
+-- X(55) is Y(0), and X(21 k mod 55) is Y(k) for k from 1 to 54
+pub first_numbers : list_all (λ k. x_number 119 (21 * k % 55) == y_number 119 k) (range_with_len 1 54) ≡ true
+unfolding y_number back_to_first
+first_numbers = refl
+
+pub number_55 : x_number 119 55 ≡ y_number 119 0
+unfolding y_number back_to_first
+number_55 = refl

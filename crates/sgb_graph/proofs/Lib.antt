@@ -1,0 +1,4 @@
+-- The lemmas and examples of sgb_graph.
+pub mod TestLemmas
+pub mod DrawLemmas
+pub mod Examples

@@ -1,0 +1,75 @@
+-- The random numbers of GB_FLIP, by one formula [GB_FLIP, gb_flip_cycle, gb_init_rand and gb_unif_rand].
+use Rattle.std.specs.Prelude.{◌≡◌, ℕ, zero, suc, ◌+◌, ◌-◌, ◌*◌, ◌/◌, ◌%◌, ◌^◌, ◌<◌, ◌≤◌, ℤ, pos, negsuc, Option, List, ◌∷◌, map, reverse, find, nat_lt, option_map, slice_index}
+use Rattle.std.specs.List.{range_with_len}
+
+-- the numbers are from 0 to 2^31 - 1, and their differences are taken modulo 2^31
+abbrev pub modulus : ℕ
+modulus = 2 ^ 31
+
+-- a - b modulo 2^31
+abbrev pub difference : ℕ → ℕ → ℕ
+difference a b = (a + modulus - b) % modulus
+
+-- a start value modulo 2^31
+abbrev pub seed_of : ℤ → ℕ
+seed_of (pos n) = n % modulus
+seed_of (negsuc n) = modulus - 1 - n % modulus
+
+-- the seed rotated right by k places within 31 bits
+abbrev pub rotated : ℕ → ℕ → ℕ
+rotated seed k = seed / 2 ^ (k % 31) + seed % 2 ^ (k % 31) * 2 ^ (31 - k % 31)
+
+-- Y: the seed, 1, and then each is the last but one less the last, less the seed rotated as often as the
+-- last one's number says
+unfoldable pub y_number : ℕ → ℕ → ℕ
+y_number seed zero = seed
+y_number seed (suc zero) = 1
+y_number seed (suc (suc k)) = difference (difference (y_number seed k) (y_number seed (suc k))) (rotated seed (k + 1))
+
+-- X(i) for i from 1 to 55: X(55) is Y(0), and X(21 k mod 55) is Y(k) for k from 1 to 54. As 21 * 21 is 1
+-- modulo 55, X(i) is Y(21 i mod 55)
+abbrev pub first_x : ℕ → ℕ → ℕ
+first_x seed i = y_number seed (21 * i % 55)
+
+-- one more in front of the numbers, newest first: the 55th before it less the 24th before it
+abbrev pub with_next : List ℕ → List ℕ
+with_next xs = difference (slice_index xs 54) (slice_index xs 23) ∷ xs
+
+-- X(55 + k), X(54 + k), .., X(1)
+unfoldable pub back_to_first : ℕ → ℕ → List ℕ
+back_to_first seed zero = map (λ i. first_x seed i) (reverse (range_with_len 1 55))
+back_to_first seed (suc k) = with_next (back_to_first seed k)
+
+-- X(n) for n from 1 on
+abbrev pub x_number : ℕ → ℕ → ℕ
+x_number seed n = slice_index (back_to_first seed (n - 55)) (55 - n)
+
+-- draw number t, from 0
+abbrev pub draw : ℕ → ℕ → ℕ
+draw seed t = x_number seed (55 * (5 + (t + 1) / 55) + 55 - (t + 1) % 55)
+
+-- a uniform draw below m throws away the draws from this bound on
+abbrev pub bound_below : ℕ → ℕ
+bound_below m = modulus - modulus % m
+
+-- the uniform draw below m from draw k on is this answer, and `last` is the number of the draw that it is
+-- made of: the first one from k on that is not thrown away
+pub record IsUniformDraw (seed m k answer last : ℕ) : Type 0 where
+  pub from_place : k ≤ last
+  pub taken : draw seed last < bound_below m
+  pub thrown_away : (t : ℕ) → k ≤ t → t < last → bound_below m ≤ draw seed t
+  pub value : answer ≡ draw seed last % m
+
+-- the number of the first of so many draws from k on that a uniform draw below m does not throw away
+abbrev pub first_taken : ℕ → ℕ → ℕ → ℕ → Option ℕ
+first_taken seed m k many = find (λ t. nat_lt (draw seed t) (bound_below m)) (range_with_len k many)
+
+-- the uniform draw below m from draw k on, where it comes within so many draws
+abbrev pub uniform_within : ℕ → ℕ → ℕ → ℕ → Option ℕ
+uniform_within seed m k many = option_map (λ t. draw seed t % m) (first_taken seed m k many)
+
+-- a generator that was started from this value stands at draw k: it holds a whole cycle of numbers,
+-- X(55 c + 1) to X(55 c + 55) where c is 5 + k / 55, and so many of them are still to come
+pub record StandsAt (start : ℤ) (k : ℕ) (numbers : List ℕ) (left : ℕ) : Type 0 where
+  pub cycle : numbers ≡ map (λ i. x_number (seed_of start) (55 * (5 + k / 55) + i)) (range_with_len 1 55)
+  pub still : left ≡ 54 - k % 55

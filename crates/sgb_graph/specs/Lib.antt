@@ -1,0 +1,8 @@
+-- What the contracts of sgb_graph speak of.
+pub mod Descriptions
+pub mod Draws
+pub mod Events
+pub mod Graphs
+pub mod Ids
+pub mod Made
+pub mod Sound

@@ -1,0 +1,69 @@
+use sgb_vec::Text;
+
+/// What a utility field holds: nothing, an integer, a vertex, a string or an arc (GB_GRAPH, util_types).
+#[derive(Clone, Copy, Debug, PartialEq, Eq)]
+pub enum Kind {
+    /// Not used.
+    Z,
+    /// An integer.
+    I,
+    /// A vertex.
+    V,
+    /// A string.
+    S,
+    /// An arc.
+    A,
+}
+
+/// A vertex, or one of the two values that stand for none.
+#[derive(Clone, Copy, Debug, PartialEq, Eq)]
+pub enum Ref {
+    /// The null pointer.
+    Null,
+    /// The pointer value 1.
+    One,
+    /// The vertex of this number.
+    At(u32),
+}
+
+/// The value of a utility field.
+#[derive(Drop)]
+pub enum Util {
+    /// The field is not used.
+    Nothing,
+    /// An integer.
+    Int(i64),
+    /// A vertex, or none.
+    Vertex(Ref),
+    /// A string.
+    Str(Text),
+    /// An arc record by its number, or none.
+    Chain(Option<usize>),
+}
+
+/// A vertex: its name, the first record of its list of arcs, and its utility fields u, v, w, x, y, z.
+#[derive(Drop)]
+pub struct Vertex {
+    pub name: Text,
+    pub arcs: Option<usize>,
+    pub util: [Util; 6],
+}
+
+/// An arc record: where it leads, the next record of the list that it is on, its length, and its utility
+/// fields a and b.
+#[derive(Drop)]
+pub struct ArcRec {
+    pub tip: Ref,
+    pub next: Option<usize>,
+    pub len: i64,
+    pub a: Util,
+    pub b: Util,
+}
+
+/// An arc of a vertex's list: the number of its record, the vertex where it leads, and its length.
+#[derive(Clone, Copy, Debug, PartialEq, Eq)]
+pub struct Link {
+    pub number: usize,
+    pub tip: u32,
+    pub len: i64,
+}

@@ -1,0 +1,10 @@
+-- Worked examples of the definitions, evaluated by the check.
+pub mod Operands
+pub mod Pieces
+pub mod Titles
+pub mod Pairs
+pub mod Lines
+pub mod Product
+pub mod Induced
+pub mod Queen
+pub mod Petersen

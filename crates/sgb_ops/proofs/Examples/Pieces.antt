@@ -1,0 +1,69 @@
+-- The arcs taken of a list, events merged, arcs in common.
+use Rattle.std.specs.Prelude.{◌≡◌, true, false, List, [], ◌∷◌, map, refl}
+use Rattle.sgb_graph.specs.Graphs.{numbers_from}
+use Rattle.sgb_graph.specs.Events.{Event, list_from}
+use Rattle.sgb_graph.specs.declared.fields.Link.{Link}
+use Rattle.sgb_ops.specs.Taken.{each_edge_once, taken}
+use Rattle.sgb_ops.specs.Merged.{merged}
+use Rattle.sgb_ops.specs.Intersection.{common_events}
+use Rattle.sgb_ops.proofs.Examples.Operands.{event, link, complete_3, loop_1}
+
+-- tips below the vertex are passed over, later ones are taken
+pub taken_of_edges : map (taken false complete_3) (0 ∷ 1 ∷ 2 ∷ 3 ∷ [])
+    ≡ (link 2 2 2 ∷ link 0 1 1 ∷ []) ∷ (link 4 2 1 ∷ []) ∷ [] ∷ [] ∷ []
+unfolding numbers_from list_from each_edge_once
+taken_of_edges = refl
+
+-- of the two records of a loop the first alone
+pub taken_of_loop : taken false loop_1 0 ≡ link 0 0 1 ∷ []
+unfolding numbers_from list_from each_edge_once
+taken_of_loop = refl
+
+-- for a directed result both
+pub taken_of_loop_as_arcs : taken true loop_1 0 ≡ link 0 0 1 ∷ link 1 0 1 ∷ []
+unfolding numbers_from list_from
+taken_of_loop_as_arcs = refl
+
+-- of loops with numbers 0, 1, 2 in a row the first and the third
+pub three_loops : each_edge_once 0 (link 0 0 1 ∷ link 1 0 1 ∷ link 2 0 1 ∷ []) ≡ link 0 0 1 ∷ link 2 0 1 ∷ []
+unfolding each_edge_once
+three_loops = refl
+
+-- the record behind a loop is left out whatever its tip, but only with the next number
+pub behind_loop : each_edge_once 1 (link 4 1 1 ∷ link 5 2 1 ∷ link 7 1 1 ∷ link 9 2 1 ∷ link 3 0 1 ∷ [])
+    ≡ link 4 1 1 ∷ link 7 1 1 ∷ link 9 2 1 ∷ []
+unfolding each_edge_once
+behind_loop = refl
+
+-- a record that is passed over leaves out no other
+pub behind_lower : each_edge_once 1 (link 4 0 1 ∷ link 5 1 1 ∷ []) ≡ link 5 1 1 ∷ []
+unfolding each_edge_once
+behind_lower = refl
+
+-- parallel edges, and the least length of three
+abbrev parallel : List Event
+parallel = event 0 1 5 ∷ event 2 2 8 ∷ event 1 0 3 ∷ event 0 1 4 ∷ event 2 2 9 ∷ []
+
+pub merged_edges : merged false parallel ≡ event 0 1 3 ∷ event 2 2 8 ∷ []
+unfolding merged
+merged_edges = refl
+
+-- arcs to and fro are not parallel
+pub merged_arcs : merged true parallel ≡ event 0 1 4 ∷ event 2 2 8 ∷ event 1 0 3 ∷ []
+unfolding merged
+merged_arcs = refl
+
+-- two arcs to 1, three arcs to 1 among others
+abbrev two : List Link
+two = link 0 1 5 ∷ link 1 1 2 ∷ link 2 4 1 ∷ []
+
+abbrev three : List Link
+three = link 3 1 1 ∷ link 4 3 1 ∷ link 5 1 9 ∷ link 6 1 3 ∷ []
+
+-- the first two of the three are kept, neither shorter than the least of the two
+pub common_arcs : common_events true 0 two three ≡ event 0 1 2 ∷ event 0 1 9 ∷ []
+common_arcs = refl
+
+-- merged: the greater of the least lengths
+pub common_arc : common_events false 0 two three ≡ event 0 1 2 ∷ []
+common_arc = refl

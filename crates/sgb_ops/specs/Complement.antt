@@ -1,0 +1,37 @@
+-- The complement of a graph, or a copy of it without parallel arcs [GB_BASIC, complement].
+use Rattle.std.specs.Prelude.{ℕ, pos, ◌==◌, Bool, not, ◌&&◌, ◌||◌, List, [], ◌∷◌, map, filter, flat_map, codes, nat_le, Result, Ok}
+use Rattle.std.specs.Bool.{beq}
+use Rattle.std.specs.List.{list_any}
+use Rattle.sgb_vec.specs.declared.panics.Panic.{Panic}
+use Rattle.sgb_graph.specs.Graphs.{GraphData, chain_of}
+use Rattle.sgb_graph.specs.Events.{Event}
+use Rattle.sgb_graph.specs.Ids.{compound_id}
+use Rattle.sgb_graph.specs.Descriptions.{Description}
+use Rattle.sgb_graph.specs.Made.{plain}
+use Rattle.sgb_ops.specs.Operands.{places_of, names_of}
+use Rattle.sgb_ops.specs.Titles.{flag, closing}
+
+-- u's list has an arc to w
+abbrev pub has_arc : GraphData → ℕ → ℕ → Bool
+has_arc g u w = list_any (λ l. l.tip == w) (chain_of g u)
+
+-- the result has an arc from u to w: where u has one in g, if a copy is wanted, and else where it has none;
+-- a loop only where loops are wanted; an edge only from its smaller end
+abbrev pub is_wanted : GraphData → Bool → Bool → Bool → ℕ → ℕ → Bool
+is_wanted g copy self directed u w =
+    beq (has_arc g u w) copy && (self || not (w == u)) && (directed || nat_le u w)
+
+-- the wanted pairs in lexicographic order, each with length 1
+abbrev pub complement_events : GraphData → Bool → Bool → Bool → List Event
+complement_events g copy self directed =
+    flat_map (λ u. map (λ w. record { from = u; to = w; len = pos 1 }) (filter (is_wanted g copy self directed u) (places_of g))) (places_of g)
+
+-- the id of a complement
+abbrev pub complement_id : List ℕ → Bool → Bool → Bool → List ℕ
+complement_id id copy self directed =
+    compound_id (codes "complement(") id (closing (flag copy ∷ flag self ∷ flag directed ∷ []))
+
+-- complement(g, copy, self, directed): it is never refused
+abbrev pub complement_of : GraphData → Bool → Bool → Bool → Result Description Panic
+complement_of g copy self directed =
+    Ok (plain directed (complement_events g copy self directed) (names_of g) (complement_id g.id copy self directed))

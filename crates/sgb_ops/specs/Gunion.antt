@@ -1,0 +1,33 @@
+-- The union of two graphs on the vertices of the first; vertices correspond by their places [GB_BASIC, gunion].
+use Rattle.std.specs.Prelude.{ℕ, Bool, List, [], ◌∷◌, ◌++◌, map, filter, flat_map, codes, nat_lt, if◌then◌else◌, Result, Ok}
+use Rattle.sgb_vec.specs.declared.panics.Panic.{Panic}
+use Rattle.sgb_graph.specs.Graphs.{GraphData}
+use Rattle.sgb_graph.specs.Events.{Event}
+use Rattle.sgb_graph.specs.Ids.{double_compound_id}
+use Rattle.sgb_graph.specs.declared.fields.Link.{Link}
+use Rattle.sgb_graph.specs.Descriptions.{Description}
+use Rattle.sgb_graph.specs.Made.{plain}
+use Rattle.sgb_ops.specs.Operands.{order_of, places_of, names_of}
+use Rattle.sgb_ops.specs.Taken.{taken}
+use Rattle.sgb_ops.specs.Merged.{merged_unless}
+use Rattle.sgb_ops.specs.Titles.{flag, closing}
+
+-- the arcs taken of v in g, then those taken of v in h, if it has that vertex, whose tip is a vertex of g
+abbrev pub union_arcs : GraphData → GraphData → Bool → ℕ → List Link
+union_arcs g h directed v =
+    taken directed g v ++ (if nat_lt v (order_of h) then filter (λ l. nat_lt l.tip (order_of g)) (taken directed h v) else [])
+
+-- the events of all vertices, with parallel ones
+abbrev pub union_events : GraphData → GraphData → Bool → List Event
+union_events g h directed =
+    flat_map (λ v. map (λ l. record { from = v; to = l.tip; len = l.len }) (union_arcs g h directed v)) (places_of g)
+
+-- the id of a union
+abbrev pub gunion_id : List ℕ → List ℕ → Bool → Bool → List ℕ
+gunion_id id1 id2 multi directed =
+    double_compound_id (codes "gunion(") id1 (codes ",") id2 (closing (flag multi ∷ flag directed ∷ []))
+
+-- gunion(g, h, multi, directed): it is never refused
+abbrev pub gunion_of : GraphData → GraphData → Bool → Bool → Result Description Panic
+gunion_of g h multi directed =
+    Ok (plain directed (merged_unless multi directed (union_events g h directed)) (names_of g) (gunion_id g.id h.id multi directed))

@@ -1,0 +1,46 @@
+-- Induced graphs: vertices dropped, kept, repeated, or with a graph put in their place [GB_BASIC, induced].
+use Rattle.std.specs.Prelude.{ℕ, ◌==◌, Bool, not, ◌||◌, List, [], ◌∷◌, ◌++◌, map, filter, flat_map, codes, nat_le, Result, Ok}
+use Rattle.sgb_vec.specs.Results.{and_then}
+use Rattle.sgb_vec.specs.declared.panics.Panic.{Panic}
+use Rattle.sgb_graph.specs.Graphs.{GraphData}
+use Rattle.sgb_graph.specs.Events.{Event}
+use Rattle.sgb_graph.specs.Ids.{compound_id}
+use Rattle.sgb_graph.specs.Descriptions.{Description}
+use Rattle.sgb_graph.specs.Made.{plain}
+use Rattle.sgb_ops.specs.Operands.{order_of, places_of, names_of}
+use Rattle.sgb_ops.specs.Taken.{taken}
+use Rattle.sgb_ops.specs.Merged.{merged_unless}
+use Rattle.sgb_ops.specs.Titles.{flag, closing}
+use Rattle.sgb_ops.specs.Entries.{Entry, accepted_entries, copies_of, names_by_entries, events_within}
+
+-- the copies of the tip that copy u of v is joined to for an arc from v: all of them; but of a loop of an
+-- undirected graph those from u on
+abbrev pub copies_met : List Entry → Bool → ℕ → ℕ → ℕ → List ℕ
+copies_met entries directed v u tip =
+    filter (λ t. directed || not (tip == v) || nat_le u t) (copies_of entries tip)
+
+-- the events between copies: for each v, each copy u of v, each arc taken of v, each copy of its tip
+abbrev pub events_between : GraphData → List Entry → Bool → List Event
+events_between g entries directed =
+    flat_map (λ v. flat_map (λ u. flat_map (λ a. map (λ t. record { from = u; to = t; len = a.len }) (copies_met entries directed v u a.tip)) (taken directed g v)) (copies_of entries v)) (places_of g)
+
+-- the events inside the entries and then those between copies; loops only where they are wanted, parallel
+-- ones merged where they are not
+abbrev pub induced_events : GraphData → List Entry → Bool → Bool → Bool → List Event
+induced_events g entries self multi directed =
+    merged_unless multi directed (filter (λ e. self || not (e.from == e.to)) (events_within entries directed ++ events_between g entries directed))
+
+-- the id of an induced graph; the description in it is empty
+abbrev pub induced_id : List ℕ → Bool → Bool → Bool → List ℕ
+induced_id id self multi directed =
+    compound_id (codes "induced(") id (closing ([] ∷ flag self ∷ flag multi ∷ flag directed ∷ []))
+
+-- the graph of entries that are not refused
+abbrev pub induced_graph : GraphData → List Entry → Bool → Bool → Bool → Description
+induced_graph g entries self multi directed =
+    plain directed (induced_events g entries self multi directed) (names_by_entries (names_of g) entries) (induced_id g.id self multi directed)
+
+-- induced(g, entries, self, multi, directed)
+abbrev pub induced_of : GraphData → List Entry → Bool → Bool → Bool → Result Description Panic
+induced_of g entries self multi directed =
+    and_then (accepted_entries (order_of g) entries) (λ list. Ok (induced_graph g list self multi directed))

@@ -1,0 +1,21 @@
+-- What the operations read of a graph beside its lists of arcs [GB_GRAPH].
+use Rattle.std.specs.Prelude.{ℕ, List, [], length, map, slice_get}
+use Rattle.std.specs.List.{range_with_len}
+use Rattle.std.specs.Option.{option_map_or}
+use Rattle.sgb_graph.specs.Graphs.{GraphData}
+
+-- how many vertices the graph has
+abbrev pub order_of : GraphData → ℕ
+order_of g = length g.vertices
+
+-- the vertices, 0 to n - 1
+abbrev pub places_of : GraphData → List ℕ
+places_of g = range_with_len 0 (order_of g)
+
+-- the names of the vertices
+abbrev pub names_of : GraphData → List (List ℕ)
+names_of g = map (λ x. x.name) g.vertices
+
+-- the name of vertex v
+abbrev pub name_at : GraphData → ℕ → List ℕ
+name_at g v = option_map_or (λ x. x.name) (slice_get g.vertices v) []

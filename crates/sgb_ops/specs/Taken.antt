@@ -1,0 +1,27 @@
+-- The arcs that are taken of a vertex's list, so that each edge of an undirected graph is met once
+-- [GB_BASIC, gunion, intersection, lines, product, induced].
+use Rattle.std.specs.Prelude.{ℕ, ◌+◌, ◌≤◌, ◌==◌, All, Bool, true, false, ◌&&◌, List, [], ◌∷◌, nat_lt, if◌then◌else◌}
+use Rattle.sgb_graph.specs.Graphs.{GraphData, chain_of}
+use Rattle.sgb_graph.specs.declared.fields.Link.{Link}
+
+-- for arcs on the list of v: l is a loop, and k, which follows it, has the next number and so is its other record
+abbrev pub is_loop_with : ℕ → Link → Link → Bool
+is_loop_with v l k = (l.tip == v) && (k.number == l.number + 1)
+
+-- of the list of v, the arcs whose tip is at least v; the record that follows a loop is left out where it
+-- has the next number, whatever its tip, and then leaves out no other
+unfoldable pub each_edge_once : ℕ → List Link → List Link
+each_edge_once v [] = []
+each_edge_once v (l ∷ []) = if nat_lt l.tip v then [] else l ∷ []
+each_edge_once v (l ∷ k ∷ links) =
+    if nat_lt l.tip v then each_edge_once v (k ∷ links)
+    else l ∷ (if is_loop_with v l k then each_edge_once v links else each_edge_once v (k ∷ links))
+
+-- the arcs taken of vertex v: the whole list for a directed result
+abbrev pub taken : Bool → GraphData → ℕ → List Link
+taken true g v = chain_of g v
+taken false g v = each_edge_once v (chain_of g v)
+
+-- an arc that is taken of v for an undirected result leads to no vertex before v
+abbrev pub TakenLeadUp : Type 0
+TakenLeadUp = (g : GraphData) (v : ℕ) → All (λ l. v ≤ l.tip) (taken false g v)

@@ -1,0 +1,103 @@
+-- The name of a vector read back: cut at its dots, each part is the decimal of an entry.
+use Rattle.std.proofs.Common.{◌≡◌, ℕ, ◌<◌, ◌≤◌, Bool, true, false, cond, eqb, leb, ◌&&◌, List, [], ◌∷◌, length, get_or, map, refl, ap, ap₂, subst, ◌∙◌, arith, decimal, Some, None, nat_eq, length-append}
+use Rattle.std.specs.List.{All, join_with_byte, slice_split}
+use Rattle.std.specs.Cmp.Lexicographic.{pointwise, bytes_decides}
+use Rattle.std.specs.Str.Parse.{digits_value}
+use Rattle.std.proofs.lemmas.Bool.{leb-true, le-leb, ne_eqb, and_parts, and_from, cond-true}
+use Rattle.std.proofs.lemmas.Fmt.{decimal_is_IsNumeral}
+use Rattle.std.proofs.lemmas.List.Elements.{All-from_get_or, All-head, All-tail, All-weaker}
+use Rattle.std.proofs.lemmas.List.Splits.{slice_split_none, slice_split_at}
+use Rattle.std.proofs.lemmas.List.Sums.{AllPass-from_list_all, list_all-from_AllPass}
+use Rattle.std.proofs.lemmas.Str.Parse.{digit_at}
+use Rattle.sgb_vec.specs.Limits.{most_entry}
+use Rattle.sgb_vec.specs.Names.{name_of_vector}
+use Rattle.sgb_vec.specs.NamedVectors.{IsVector, is_vector, numbers_between_dots, if_named, vector_of}
+
+-- a byte that is a dot
+abbrev is_dot : ℕ → Bool
+is_dot c = eqb c 46
+
+-- the entries of a vector that a name may stand for
+abbrev AllSmall : List ℕ → Type 0
+AllSmall x = All (λ entry. entry ≤ most_entry) x
+
+-- the test of a vector tells what it is to tell
+IsVector-from_test : (x : List ℕ) → is_vector x ≡ true → IsVector x
+IsVector-from_test x h =
+    let parts = and_parts _ _ h in
+    record {
+      short = leb-true _ _ parts.0;
+      small = All-weaker (λ entry. leb entry most_entry ≡ true) (λ entry. entry ≤ most_entry) (λ entry e. leb-true entry most_entry e) x
+          (AllPass-from_list_all (λ entry. leb entry most_entry) x parts.1);
+    }
+
+test-from_IsVector : (x : List ℕ) → IsVector x → is_vector x ≡ true
+test-from_IsVector x h =
+    and_from _ _ (le-leb _ _ h.short)
+    (list_all-from_AllPass (λ entry. leb entry most_entry) x
+    (All-weaker (λ entry. entry ≤ most_entry) (λ entry. leb entry most_entry ≡ true) (λ entry e. le-leb entry most_entry e) x h.small))
+
+-- a decimal has no dot in it
+no_dot-decimal : (n : ℕ) → n ≤ most_entry → All (λ c. is_dot c ≡ false) (decimal n)
+no_dot-decimal n h =
+    let numeral = decimal_is_IsNumeral n (omega arith) in
+    All-from_get_or (λ c. is_dot c ≡ false) (decimal n) 0
+    (λ i within. let digit = digit_at (decimal n) i numeral.0.1 within in
+    ne_eqb (get_or (decimal n) i 0) 46 (λ e. absurd (omega (arith, digit.0))))
+
+-- the name cut at its dots
+slice_split-name : (entry : ℕ) (x : List ℕ) → AllSmall (entry ∷ x) → slice_split is_dot (join_with_byte 46 (map decimal (entry ∷ x))) ≡ map decimal (entry ∷ x)
+slice_split-name entry [] h = slice_split_none is_dot (decimal entry) (no_dot-decimal entry (All-head (λ e. e ≤ most_entry) entry [] h))
+slice_split-name entry (next ∷ x) h =
+    slice_split_at is_dot (decimal entry) 46 (join_with_byte 46 (map decimal (next ∷ x))) (no_dot-decimal entry (All-head (λ e. e ≤ most_entry) entry (next ∷ x) h)) refl
+    ∙ ap (λ parts. decimal entry ∷ parts) (slice_split-name next x (All-tail (λ e. e ≤ most_entry) entry (next ∷ x) h))
+
+-- the parts read as numbers
+values-decimals : (x : List ℕ) → AllSmall x → map (λ part. digits_value 10 part) (map decimal x) ≡ x
+values-decimals [] h = refl
+values-decimals (entry ∷ x) h =
+    let small : entry ≤ most_entry = All-head (λ e. e ≤ most_entry) entry x h in
+    ap₂ (λ e es. e ∷ es) (decimal_is_IsNumeral entry (omega arith)).1 (values-decimals x (All-tail (λ e. e ≤ most_entry) entry x h))
+
+-- a text that is not empty has parts
+numbers-nonempty : (text : List ℕ) → 0 < length text → numbers_between_dots text ≡ map (λ part. digits_value 10 part) (slice_split is_dot text)
+numbers-nonempty [] h = absurd (omega arith)
+numbers-nonempty (b ∷ text) h = refl
+
+-- the name of a vector that is not empty is not empty
+nonempty-name : (entry : ℕ) (x : List ℕ) → entry ≤ most_entry → 0 < length (join_with_byte 46 (map decimal (entry ∷ x)))
+nonempty-name entry [] h = (decimal_is_IsNumeral entry (omega arith)).0.0
+nonempty-name entry (next ∷ x) h =
+    let some : 0 < length (decimal entry) = (decimal_is_IsNumeral entry (omega arith)).0.0 in
+    omega (arith, length-append (decimal entry) (46 ∷ join_with_byte 46 (map decimal (next ∷ x))))
+
+-- the numbers between the dots of a name are the entries
+numbers-name : (x : List ℕ) → AllSmall x → numbers_between_dots (name_of_vector x) ≡ x
+unfolding name_of_vector
+numbers-name [] h = refl
+numbers-name (entry ∷ x) h =
+    numbers-nonempty (join_with_byte 46 (map decimal (entry ∷ x))) (nonempty-name entry x (All-head (λ e. e ≤ most_entry) entry x h))
+    ∙ ap (λ parts. map (λ part. digits_value 10 part) parts) (slice_split-name entry x h)
+    ∙ values-decimals (entry ∷ x) h
+
+-- a choice that gave something
+chosen : (t : Bool) (x y : List ℕ) → cond t (Some x) None ≡ Some y → (t ≡ true) × (x ≡ y)
+chosen true x y e = (refl, cc)
+chosen false x y e = absurd (cc)
+
+-- what a text stands for is a vector whose name it is
+pub named-vector_of : (text x : List ℕ) → vector_of text ≡ Some x → IsVector x × (name_of_vector x ≡ text)
+unfolding vector_of
+named-vector_of text x e =
+    let y = numbers_between_dots text in
+    let taken = chosen (is_vector y && pointwise nat_eq (name_of_vector y) text) y x e in
+    let parts = and_parts _ _ taken.0 in
+    subst (λ z. IsVector z × (name_of_vector z ≡ text)) taken.1 (IsVector-from_test y parts.0, (bytes_decides (name_of_vector y) text).0 parts.1)
+
+-- the name of a vector stands for it
+pub vector_of-name : (x : List ℕ) → IsVector x → vector_of (name_of_vector x) ≡ Some x
+unfolding vector_of
+vector_of-name x h =
+    let named = (bytes_decides (name_of_vector x) (name_of_vector x)).1 refl in
+    ap (λ y. if_named (name_of_vector x) y) (numbers-name x h.small)
+    ∙ cond-true _ (Some x) None (and_from _ _ (test-from_IsVector x h) named)

@@ -1,0 +1,60 @@
+-- Which vectors a bounded sum has, and that they rise lexicographically.
+use Rattle.std.proofs.Common.{◌≡◌, ℕ, suc, zero, ◌+◌, ◌↔◌, Bool, true, false, cond, eqb, List, [], ◌∷◌, map, filter, ap, ◌∙◌, sum, arith}
+use Rattle.std.specs.List.{Contains}
+use Rattle.std.proofs.lemmas.Bool.{eqb-true, eq-eqb}
+use Rattle.std.proofs.lemmas.List.Elements.{All-contains, All-contains_itself, All-filter, filter_passes}
+use Rattle.std.proofs.lemmas.List.Kept.{AllPairs-filter}
+use Rattle.sgb_vec.specs.Boxes.{box}
+use Rattle.sgb_vec.specs.Sums.{bounded_sums}
+use Rattle.sgb_vec.specs.Lexicographic.{IsBefore, IsRising, IsBelow, IsWithin}
+use Rattle.sgb_vec.proofs.BoxPlaces.{EachBelow-from_Contains, Contains-from_EachBelow}
+use Rattle.sgb_vec.proofs.BoxOrder.{box-rises}
+
+-- what a filter keeps is an element that passes
+Contains-from_filter : {X : Type 0} (p : X → Bool) (xs : List X) (x : X) → Contains (filter p xs) x → Contains xs x × (p x ≡ true)
+Contains-from_filter p xs x h = (
+  All-contains (Contains xs) (filter p xs) x (All-filter p (Contains xs) xs (All-contains_itself xs)) h,
+  All-contains (λ y. p y ≡ true) (filter p xs) x (filter_passes p xs) h,
+)
+
+-- a filter keeps an element that passes
+Contains-filter : {X : Type 0} (p : X → Bool) (xs : List X) (x : X) → p x ≡ true → Contains xs x → Contains (filter p xs) x
+Contains-filter p [] x e (k, within, at) = absurd (omega arith)
+Contains-filter p (y ∷ ys) x e (zero, within, at) =
+    let passes : p y ≡ true = ap p at ∙ e in
+    rw passes (0, omega arith, at)
+Contains-filter p (y ∷ ys) x e (suc k, within, at) =
+    let rest = Contains-filter p ys x e (k, omega arith, at) in
+    elim (p y) as (λ b. Contains (cond b (y ∷ filter p ys) (filter p ys)) x) [
+      | true ↦ (suc rest.0, omega (arith, rest.1), rest.2)
+      | false ↦ rest
+    ]
+
+-- below the bounds + 1 is within the bounds, and the other way round
+within-from_below : (v bounds : List ℕ) → IsBelow v (map (λ b. b + 1) bounds) → IsWithin v bounds
+within-from_below [] [] h = tt
+within-from_below [] (b ∷ bounds) h = absurd h
+within-from_below (x ∷ v) [] h = absurd h
+within-from_below (x ∷ v) (b ∷ bounds) h = (omega (arith, h.0), within-from_below v bounds h.1)
+
+below-from_within : (v bounds : List ℕ) → IsWithin v bounds → IsBelow v (map (λ b. b + 1) bounds)
+below-from_within [] [] h = tt
+below-from_within [] (b ∷ bounds) h = absurd h
+below-from_within (x ∷ v) [] h = absurd h
+below-from_within (x ∷ v) (b ∷ bounds) h = (omega (arith, h.0), below-from_within v bounds h.1)
+
+-- a bounded sum has the vectors within its bounds that add to n
+pub Contains-bounded_sums : (n : ℕ) (bounds v : List ℕ) → Contains (bounded_sums n bounds) v ↔ IsWithin v bounds × (sum v ≡ n)
+unfolding bounded_sums
+Contains-bounded_sums n bounds v =
+    let sizes = map (λ b. b + 1) bounds in
+    let adds : List ℕ → Bool = λ w. eqb (sum w) n in (
+      λ h. let kept = Contains-from_filter adds (box sizes) v h in
+          (within-from_below v bounds (EachBelow-from_Contains sizes v kept.0), eqb-true (sum v) n kept.1),
+      λ h. Contains-filter adds (box sizes) v (eq-eqb (sum v) n h.1) (Contains-from_EachBelow sizes v (below-from_within v bounds h.0)),
+    )
+
+-- they rise lexicographically
+pub bounded_sums-rise : (n : ℕ) (bounds : List ℕ) → IsRising (bounded_sums n bounds)
+unfolding bounded_sums
+bounded_sums-rise n bounds = AllPairs-filter IsBefore (λ v. eqb (sum v) n) (box (map (λ b. b + 1) bounds)) (box-rises (map (λ b. b + 1) bounds))
