@@ -23,6 +23,7 @@ number_count [] = 0
 number_count (Fixed bytes ∷ pieces) = number_count pieces
 number_count (Integer ∷ pieces) = suc (number_count pieces)
 
+-- a text of a form writes so many
 length-numbers : (pieces : List Piece) (text : List ℕ) (numbers : List ℤ) → IsForm pieces text numbers → length numbers ≡ number_count pieces
 unfolding IsForm
 length-numbers [] text numbers f = ap length f.1
@@ -37,6 +38,7 @@ number_at numbers i = get_or numbers i (pos 0)
 abbrev first_seven : List ℤ → List ℤ
 first_seven numbers = number_at numbers 0 ∷ number_at numbers 1 ∷ number_at numbers 2 ∷ number_at numbers 3 ∷ number_at numbers 4 ∷ number_at numbers 5 ∷ number_at numbers 6 ∷ []
 
+-- a list of seven is its first seven
 seven : (numbers : List ℤ) → length numbers ≡ 7 → numbers ≡ first_seven numbers
 seven (a ∷ b ∷ c ∷ d ∷ e ∷ f ∷ g ∷ []) h = refl
 seven _ h = absurd (omega (arith, h))
@@ -50,6 +52,7 @@ board_numbers text numbers f =
 abbrev board_of : List ℤ → Expr
 board_of numbers = Board (number_at numbers 0) (number_at numbers 1) (number_at numbers 2) (number_at numbers 3) (number_at numbers 4) (number_at numbers 5) (flag_of (number_at numbers 6))
 
+-- a text of a board's form is that board
 expression_of : (text : List ℕ) (numbers : List ℤ) → IsForm board_form text numbers → IsExpression text (board_of numbers)
 expression_of text numbers f = (number_at numbers 6, refl, board_numbers text numbers f)
 
@@ -88,9 +91,11 @@ expression_kept text numbers fit f =
 front_of_form : (text : List ℕ) → IsFrontOfForm board_form text → IsFrontOfExpression text
 front_of_form text f = (f.0, board_of f.1, expression_of (text ++ f.0) f.1 f.2)
 
+-- an expression is a text of a board's form
 form_of_expression : (text : List ℕ) (e : Expr) → IsExpression text e → (numbers : List ℤ) × IsForm board_form text numbers
 form_of_expression text (Board n1 n2 n3 n4 piece wrap directed) x = (_, x.2)
 
+-- and a front of an expression begins one
 form_of_front : (text : List ℕ) → IsFrontOfExpression text → IsFrontOfForm board_form text
 form_of_front text f = let form = form_of_expression (text ++ f.0) f.1 f.2 in (f.0, form.0, form.1)
 

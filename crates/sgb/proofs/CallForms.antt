@@ -44,10 +44,12 @@ abbrev pub items : ℕ → ℕ → List Piece
 items place zero = close
 items place (suc m) = Fixed (separator_before place) ∷ Integer ∷ items (suc place) m
 
+-- integers behind a first one, as they are read
 integers_are : (place m : ℕ) → integers (suc m) ++ close ≡ Integer ∷ items (suc place) m
 integers_are place zero = refl
 integers_are place (suc m) = ap (λ ps. Integer ∷ Fixed (codes ",") ∷ ps) (integers_are (suc place) m)
 
+-- the integers of a call and its end, as they are read
 items_same : (n : ℕ) → SameForms (integers n ++ close) (items 0 n)
 unfolding IsForm
 items_same zero = record { to = λ text numbers f. f; from = λ text numbers f. f }
@@ -62,6 +64,7 @@ items_same (suc m) = record {
 abbrev pub call_pieces : List ℕ → ℕ → List Piece
 call_pieces name n = Fixed name ∷ Fixed (codes "(") ∷ items 0 n
 
+-- both are the same texts
 call_same : (name : List ℕ) (n : ℕ) → SameForms (call name n) (call_pieces name n)
 call_same name n = fixed_parts name (codes "(") (integers n ++ close) (items 0 n) (items_same n)
 
@@ -114,6 +117,7 @@ items_behind : (place m : ℕ) → StandsBehindNumbers (items (suc place) m)
 items_behind place zero = fixed_behind 41 [] [] (lit≤ tt)
 items_behind place (suc m) = fixed_behind 44 [] (Integer ∷ items (suc (suc place)) m) (lit≤ tt)
 
+-- the same at the place after a place
 pub next_items_behind : (place m : ℕ) → StandsBehindNumbers (items (place + 1) m)
 next_items_behind place m =
     let next : suc place ≡ place + 1 = omega arith in
@@ -125,6 +129,7 @@ AreClear [] = Unit {0}
 AreClear (Fixed bytes ∷ pieces) = AreClear pieces
 AreClear (Integer ∷ pieces) = StandsBehindNumbers pieces × AreClear pieces
 
+-- behind each integer of a call stands no digit
 items_clear : (place m : ℕ) → AreClear (items place m)
 items_clear place zero = tt
 items_clear place (suc m) = (items_behind place m, items_clear (suc place) m)

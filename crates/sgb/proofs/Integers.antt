@@ -29,6 +29,7 @@ pub record NextDigit (digits : List ℕ) (i : ℕ) : Type 0 where
   pub more : digits_value 10 (take (i + 1) digits) ≡ 10 * digits_value 10 (take i digits) + (get_or digits i 0 - 48)
   pub small : digits_value 10 (take (i + 1) digits) < 10 ^ 18
 
+-- the digit at a place is one, and goes on the number before it
 pub next_digit : (digits : List ℕ) (i : ℕ) → IsDigits digits → i < length digits → NextDigit digits i
 next_digit digits i d h =
     let r = digit_at digits i d.numeral.1 h in
@@ -235,6 +236,7 @@ record DigitsTaken (m : ℕ) (text digits : List ℕ) : Type 0 where
   whole : text ≡ digits ++ drop (length digits) text
   no_more : length digits < m → BeginsWithNoDigit (drop (length digits) text)
 
+-- leading digits are taken so
 digits_taken : (m : ℕ) (text : List ℕ) → DigitsTaken m text (take_while is_ascii_digit (take m text))
 digits_taken zero text = record { all = tt; short = omega arith; whole = refl; no_more = λ h. absurd (omega (arith, h)) }
 digits_taken (suc m) [] = record { all = tt; short = omega arith; whole = refl; no_more = λ h byte e digit. cc }
@@ -315,18 +317,21 @@ integer_found (c ∷ text) digits e some =
 abbrev IsOne : ℕ → Type 0
 IsOne n = n ≡ 1
 
+-- where the number is 1
 chosen_first : (v : Bool) (x y : ℤ) → IsOne (cond v 1 0) → cond v x y ≡ x
 chosen_first true x y h = refl
 chosen_first false x y h = absurd (omega (arith, h))
 
+-- where it is not
 chosen_second : (v : Bool) (x y : ℤ) → (IsOne (cond v 1 0) → ⊥) → cond v x y ≡ y
 chosen_second true x y h = absurd (h refl)
 chosen_second false x y h = refl
 
--- the number with a minus and without
+-- the number with a minus
 pub signed_value_minus : (text digits : List ℕ) → sign_len text ≡ 1 → signed_value text digits ≡ neg_ℤ (pos (digits_value 10 digits))
 signed_value_minus text digits one = chosen_first (get_or text 0 0 == 45) _ _ one
 
+-- and without one
 pub signed_value_plain : (text digits : List ℕ) → (sign_len text ≡ 1 → ⊥) → signed_value text digits ≡ pos (digits_value 10 digits)
 signed_value_plain text digits none = chosen_second (get_or text 0 0 == 45) _ _ none
 
@@ -336,6 +341,7 @@ pub record DigitsCut (text : List ℕ) (sign : ℕ) (digits : List ℕ) : Type 0
   pub digits_are : digits ≡ leading_digits (take (length text - sign) (drop sign text))
   pub some : 0 < length digits
 
+-- they are the leading digits behind the sign
 leading_cut : (text digits : List ℕ) (sign : ℕ) → DigitsCut text sign digits → digits ≡ leading_digits (unsigned_part text)
 leading_cut text digits sign d = d.digits_are ∙ ap leading_digits (take_rest text sign ∙ ap (λ s. drop s text) d.sign_is)
 
