@@ -1,11 +1,12 @@
 -- The commands that the words enter.
-use Rattle.std.proofs.Common.{◌≡◌, ◌∙◌, ◌||◌, Bool, cond, true, false, subst, List, [], Option, Some, None, IsSome, Box, Global, ap, ap₂, sym, refl, inr, codes, option_map}
+use Rattle.std.proofs.Common.{◌≡◌, ◌∙◌, ◌||◌, Bool, cond, true, false, subst, List, [], Option, Some, None, IsSome, Result, Ok, Err, IfOk, MatchResult, Box, Global, ap, ap₂, sym, refl, inr, codes, option_map}
 use Rattle.std.specs.Option.{option_map_or}
 use Rattle.std.proofs.lemmas.Slice.Eq.{bytes_eq-Decides}
 use Rattle.clap.specs.Faults.{entered_fault, level_fault}
 use Rattle.clap.specs.Simple.{argument_words, built_leaf, entered, help_shape, inherited, label_of, marked_built, names_of, rows_at, with_leaf_noted}
 use Rattle.clap.specs.Walk.{answers_to, nothing_held, stop_after, walk_from}
-use Rattle.clap.specs.Words.{App, Row, Shape, Text, built, fault_of, first_of, found_of, rows_of, subcommand_name_of, subcommand_of, subcommand_rows_of}
+use Rattle.clap.specs.Words.{App, FailsBy, HasKind, HasMatchesOf, Row, Shape, Text, built, fault_of, first_of, found_of, is_simple_and_free, rows_of, subcommand_name_of, subcommand_of, subcommand_rows_of}
+use Rattle.clap.specs.declared.error.Error.{Error}
 use Rattle.clap.specs.declared.parser.matches.ArgMatches.{ArgMatches}
 use Rattle.clap.specs.declared.parser.matches.ArgMatches.TheViews.{out-ArgMatches, out-SubCommand}
 use Rattle.clap.specs.declared.parser.matches.SubCommand.{SubCommand}
@@ -16,16 +17,36 @@ use Rattle.sgb.proofs.RequiredValues.{each_valued, none_first, none_second, requ
 use Rattle.sgb.specs.declared.calls.Call.{Call}
 use Rattle.sgb.specs.declared.calls.Call.TheVariants as call
 
--- the command line and its commands, as clap builds them
+-- ---- what clap makes of the words
+
+-- the clauses of a parse, at the command line
+answered : (words : List Text) (r : Result ArgMatches Error) → IfOk r (HasMatchesOf command_line words)
+    → (is_simple_and_free command_line ≡ true → FailsBy (fault_of command_line words) r) → MatchResult r (IsTaken words) (HasKind (fault_of command_line words))
+answered words (Ok m) matches kinds = record { taken = kinds refl; entered = (matches refl).1 }
+answered words (Err e) matches kinds = kinds refl
+
+-- a parse of what is the command line takes the words or fails by them
+pub parsed : (a : App) (words : List Text) (r : Result ArgMatches Error) → a ≡ command_line → IfOk r (HasMatchesOf a words)
+    → (is_simple_and_free a ≡ true → FailsBy (fault_of a words) r) → MatchResult r (IsTaken words) (HasKind (fault_of command_line words))
+parsed a words r is =
+    subst (λ (a : App). IfOk r (HasMatchesOf a words) → (is_simple_and_free a ≡ true → FailsBy (fault_of a words) r)
+    → MatchResult r (IsTaken words) (HasKind (fault_of command_line words))) (sym is) (answered words r)
+
+-- ---- the command that is entered
+
+-- the command line, as clap builds it
 abbrev built_line : App
 built_line = built command_line
 
+-- its command `names`
 abbrev names_leaf : Shape
 names_leaf = built_leaf (inherited (with_leaf_noted (marked_built command_line.top)) names_shape)
 
+-- its command `help`, which clap adds
 abbrev help_leaf : Shape
 help_leaf = built_leaf help_shape
 
+-- a test or false
 or_false : (b : Bool) → (b || false) ≡ true → b ≡ true
 or_false true e = e
 or_false false e = e
@@ -34,7 +55,8 @@ or_false false e = e
 entered_names : (stop : Option (Text × List Text)) (e : Text × List Row) → IsNotHelp stop → entered_fault built_line stop ≡ [] → entered built_line stop ≡ Some e
     → (e.0 ≡ codes "names") × IsSome (first_of (codes "EXPR") e.1)
 entered_names None e no_help no_fault is = cc
-entered_names (Some p) e no_help no_fault is = go (answers_to p.0 (label_of names_leaf)) (answers_to p.0 (label_of help_leaf)) (λ hit. no_help (sym ((bytes_eq-Decides (codes "help") p.0).0 (or_false _ hit)))) no_fault is
+entered_names (Some p) e no_help no_fault is =
+    go (answers_to p.0 (label_of names_leaf)) (answers_to p.0 (label_of help_leaf)) (λ hit. no_help (sym ((bytes_eq-Decides (codes "help") p.0).0 (or_false _ hit)))) no_fault is
   where
     go : (a b : Bool) → (b ≡ true → ⊥)
         → option_map_or (λ s. level_fault s [] nothing_held p.1 false []) (cond a (Some names_leaf) (cond b (Some help_leaf) None)) [] ≡ []
@@ -84,6 +106,7 @@ pub has_expression : (words : List Text) (m : ArgMatches) (rows : List Row) → 
     → option_map (λ p. p.1) (subcommand_rows_of m) ≡ Some rows → IsSome (first_of (codes "EXPR") rows)
 has_expression words m rows is named has = (names_entered words _ is.taken (entered_is words m _ rows is named has)).1
 
+-- what is asked of `names`
 abbrev as_asked : Option Text → Option Text → Option Asked
 as_asked expression skip = Some (record { command = codes "names"; expression = expression; skip = skip })
 

@@ -19,18 +19,23 @@ abbrev EntersNoHelp : Step → Type 0
 EntersNoHelp (subcommand name) = name ≢ codes "help"
 EntersNoHelp _ = Unit {0}
 
+-- ---- a word that names no command
+
 module _ (c : List Rule) where
+  -- a word that is no flag
   plain_enters : (waiting : Waiting) (word : Text) (h : Held) → EntersNoHelp (plain_word c waiting word h).1
   plain_enters idle word h = tt
   plain_enters positional word h = tt
   plain_enters (option id) word h = tt
 
+  -- what a word that begins as a flag does came to
   flag_enters : (waiting : Waiting) (word : Text) (h : Held) (o : Outcome) → EntersNoHelp (after_flag c waiting word h o).1
   flag_enters waiting word h done = tt
   flag_enters waiting word h (waits id) = tt
   flag_enters waiting word h plain = plain_enters waiting word h
   flag_enters waiting word h refused = plain_enters waiting word h
 
+  -- a word that may be a flag
   flag_word_enters : (waiting : Waiting) (word : Text) (long : Option (Text × Option Text)) (h : Held) → EntersNoHelp (long_or_other c waiting word long h).1
   flag_word_enters waiting word (Some q) h = flag_enters waiting word _ (long_met c (arg_by_long c q.0) q.1 h).1
   flag_word_enters waiting word None h = go (short_of word)
@@ -39,7 +44,10 @@ module _ (c : List Rule) where
       go None = plain_enters waiting word h
       go (Some flags) = flag_enters waiting word _ (bundle c flags h).1
 
+-- ---- any word, where `help` is a command
+
 module _ (s : Shape) (names : Names) (enabled : s.disable_help_subcommand ≡ false) where
+  -- a word that may name a command
   other_enters : (met : Option Text) (waiting : Waiting) (position : ℕ) (word : Text) (h : Held) → other_fault s met word h ≡ []
       → EntersNoHelp (subcommand_or_other s.rules met waiting position word h).1
   other_enters (Some name) waiting position word h e =
@@ -53,11 +61,13 @@ module _ (s : Shape) (names : Names) (enabled : s.disable_help_subcommand ≡ fa
       go true = tt
       go false = flag_word_enters s.rules waiting word (long_of word) h
 
+  -- any word, after `--` too
   word_enters : (is_trailing : Bool) (waiting : Waiting) (position : ℕ) (word : Text) (h : Held) → word_fault s names is_trailing waiting word h ≡ []
       → EntersNoHelp (word_met s.rules names is_trailing waiting position word h).1
   word_enters true waiting position word h e = tt
   word_enters false waiting position word h e = other_enters (subcommand_met names waiting word) waiting position word h e
 
+  -- where the walk stands after a step
   step_stops : (step : Step) (word : Text) (w : Walk) (h : Held) → w.stopped ≡ None → EntersNoHelp step → IsNotHelp (after_step s.rules word w h step).stopped
   step_stops (next waiting) word w h none enters = rw none tt
   step_stops (trailing position) word w h none enters = rw none tt
@@ -68,6 +78,7 @@ module _ (s : Shape) (names : Names) (enabled : s.disable_help_subcommand ≡ fa
       go None = rw none tt
       go (Some a) = tt
 
+  -- where it stands after a word
   turn_stops : (w : Walk) (word : Text) → turn_fault s names w word ≡ [] → IsNotHelp w.stopped → IsNotHelp (walked s.rules names w word).stopped
   unfolding walked
   turn_stops w word e no_help = go w.stopped refl no_help e

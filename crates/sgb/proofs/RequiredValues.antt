@@ -38,6 +38,7 @@ abbrev pub IsFilled : List Row → Type 0
 IsFilled [] = Unit {0}
 IsFilled (r ∷ rs) = (0 < length r.values) × IsFilled rs
 
+-- rows joined
 filled_append : (xs ys : List Row) → IsFilled xs → IsFilled ys → IsFilled (xs ++ ys)
 filled_append [] ys p q = q
 filled_append (x ∷ xs) ys p q = (p.0, filled_append xs ys p.1 q)
@@ -52,9 +53,11 @@ filled_at id change missing (r ∷ rs) changes miss p = go (bytes_eq r.id id) (f
     go true after = filled_append (change r) rs (changes r p.0) p.1
     go false after = (p.0, after)
 
+-- the row of an id goes
 filled_without : (id : Text) (rows : List Row) → IsFilled rows → IsFilled (without id rows)
 filled_without id rows p = filled_at id (λ _. []) [] rows (λ r h. tt) tt p
 
+-- the row of an id gets a value or more
 filled_with : (id : Text) (how : Reading) (s : ValueSource) (v : Text) (vs : List Text) (rows : List Row) → IsFilled rows → IsFilled (with_values id how s (v ∷ vs) rows)
 filled_with id how s v vs rows p =
     filled_at id (more_values s (v ∷ vs)) (record { id = id; values = v ∷ vs; count = None; source = Some s; reading = how } ∷ []) rows
@@ -66,14 +69,17 @@ filled_with id how s v vs rows p =
 abbrev pub Fills : Rule → Type 0
 Fills a = (again : Bool) (values : List Text) (rows : List Row) → use_fault again a values rows ≡ [] → IsFilled rows → IsFilled (used a values rows)
 
+-- each of the arguments does
 abbrev pub EachFills : List Rule → Type 0
 EachFills [] = Unit {0}
 EachFills (a ∷ rest) = Fills a × EachFills rest
 
+-- the argument does, if there is one
 abbrev FillsIfSome : Option Rule → Type 0
 FillsIfSome None = Unit {0}
 FillsIfSome (Some a) = Fills a
 
+-- an argument that is looked up
 found_fills : (p : Rule → Bool) (c : List Rule) → EachFills c → FillsIfSome (find p c)
 found_fills p [] each = tt
 found_fills p (a ∷ rest) each = go (p a) (found_fills p rest each.1)
@@ -85,6 +91,7 @@ found_fills p (a ∷ rest) each = go (p a) (found_fills p rest each.1)
 -- ---- the walk, of rules that each fill
 
 module _ (c : List Rule) (again : Bool) (each : EachFills c) where
+  -- the pending argument is used
   settled_filled : (h : Held) → settle_fault c again h ≡ [] → IsFilled h.rows → IsFilled (settled c h).rows
   settled_filled h e p = go h.pending e
     where
@@ -98,14 +105,17 @@ module _ (c : List Rule) (again : Bool) (each : EachFills c) where
       go None e = p
       go (Some q) e = of q (arg_by_id c q.0) (found_fills _ c each) e
 
+  -- another argument is used after it
   reacted_filled : (a : Rule) (values : List Text) (h : Held) → Fills a → react_fault c again a values h ≡ [] → IsFilled h.rows → IsFilled (reacted c a values h).rows
   reacted_filled a values h fills e p =
       fills again values (settled c h).rows (none_second _ _ e) (settled_filled h (none_first _ _ e) p)
 
+  -- an option, with a value attached or not
   option_filled : (a : Rule) (v : Option Text) (h : Held) → Fills a → option_fault c again a v h ≡ [] → IsFilled h.rows → IsFilled (option_met c a v h).0.rows
   option_filled a (Some v) h fills e p = reacted_filled a (v ∷ []) h fills e p
   option_filled a None h fills e p = settled_filled h e p
 
+  -- `--name` or `--name=value`
   long_filled : (found : Option Rule) (v : Option Text) (h : Held) → FillsIfSome found → long_fault c again found v h ≡ [] → IsFilled h.rows
       → IsFilled (long_met c found v h).0.rows
   long_filled None v h fills e p = p
@@ -117,6 +127,7 @@ module _ (c : List Rule) (again : Bool) (each : EachFills c) where
       go false (Some v) e = p
       go false None e = reacted_filled a [] h fills e p
 
+  -- one letter of a bundle, and then those after it
   short_filled : (found : Option Rule) (rest : Text) (h : Held) (fault : Held → Kinds) (then : Held → Held × Outcome) → FillsIfSome found
       → ((h : Held) → fault h ≡ [] → IsFilled h.rows → IsFilled (then h).0.rows) → short_fault c again found rest h fault ≡ [] → IsFilled h.rows
       → IsFilled (short_met c found rest h then).0.rows
@@ -128,6 +139,7 @@ module _ (c : List Rule) (again : Bool) (each : EachFills c) where
       go true e = option_filled a (attached_value rest) h fills e p
       go false e = keeps (reacted c a [] h) (none_second _ _ e) (reacted_filled a [] h fills (none_first _ _ e) p)
 
+  -- a bundle `-abc`
   bundle_filled : (k : ℕ) (flags : Text) (skip : ℕ) (so_far : Outcome) (h : Held) → flags_fault c again k flags skip h ≡ [] → IsFilled h.rows
       → IsFilled (bundle_met c k flags skip so_far h).0.rows
   unfolding flags_fault bundle_met
@@ -144,6 +156,7 @@ module _ (c : List Rule) (again : Bool) (each : EachFills c) where
           short_filled (arg_by_short c x) rest h (flags_fault c again k rest 0) (bundle_met c k rest 0 done) (found_fills _ c each) (keeps rest 0 done) e p
       go (Some x) (suc skip) keeps e = keeps (drop (length (encode_utf8 x)) flags) skip so_far h e p
 
+  -- a word that is no flag
   plain_filled : (waiting : Waiting) (word : Text) (h : Held) → IsFilled h.rows → IsFilled (plain_word c waiting word h).0.rows
   plain_filled idle word h p = p
   plain_filled positional word h p = p
@@ -153,12 +166,14 @@ module _ (c : List Rule) (again : Bool) (each : EachFills c) where
       go None = p
       go (Some a) = p
 
+  -- what a word that begins as a flag does came to
   flag_filled : (waiting : Waiting) (word : Text) (h : Held) (o : Outcome) → IsFilled h.rows → IsFilled (after_flag c waiting word h o).0.rows
   flag_filled waiting word h done p = p
   flag_filled waiting word h (waits id) p = p
   flag_filled waiting word h plain p = plain_filled waiting word h p
   flag_filled waiting word h refused p = plain_filled waiting word h p
 
+  -- a word that may be a flag
   flag_word_filled : (waiting : Waiting) (word : Text) (long : Option (Text × Option Text)) (h : Held) → flag_word_fault c again long word h ≡ [] → IsFilled h.rows
       → IsFilled (long_or_other c waiting word long h).0.rows
   flag_word_filled waiting word (Some q) h e p =
@@ -172,6 +187,7 @@ module _ (c : List Rule) (again : Bool) (each : EachFills c) where
 -- ---- a turn of the walk
 
 module _ (s : Shape) (names : Names) (each : EachFills s.rules) where
+  -- a word that may name a command
   other_filled : (met : Option Text) (waiting : Waiting) (position : ℕ) (word : Text) (h : Held) → other_fault s met word h ≡ [] → IsFilled h.rows
       → IsFilled (subcommand_or_other s.rules met waiting position word h).0.rows
   other_filled (Some name) waiting position word h e p = p
@@ -182,11 +198,13 @@ module _ (s : Shape) (names : Names) (each : EachFills s.rules) where
       go true e = p
       go false e = flag_word_filled s.rules s.args_override_self each waiting word (long_of word) h e p
 
+  -- any word, before it goes to a positional
   word_filled : (is_trailing : Bool) (waiting : Waiting) (position : ℕ) (word : Text) (h : Held) → word_fault s names is_trailing waiting word h ≡ [] → IsFilled h.rows
       → IsFilled (word_met s.rules names is_trailing waiting position word h).0.rows
   word_filled true waiting position word h e p = p
   word_filled false waiting position word h e p = other_filled (subcommand_met names waiting word) waiting position word h e p
 
+  -- the word goes to a positional, or has been read
   step_filled : (step : Step) (word : Text) (w : Walk) (h : Held) → step_fault s w.position h step ≡ [] → IsFilled h.rows → IsFilled (after_step s.rules word w h step).held.rows
   step_filled (next waiting) word w h e p = p
   step_filled (trailing position) word w h e p = p
@@ -202,6 +220,7 @@ module _ (s : Shape) (names : Names) (each : EachFills s.rules) where
       go None e = p
       go (Some a) e = at (is_pending a h.pending && takes_several a) a e
 
+  -- a word's turn
   turn_filled : (w : Walk) (word : Text) → turn_fault s names w word ≡ [] → IsFilled w.held.rows → IsFilled (walked s.rules names w word).held.rows
   unfolding walked
   turn_filled w word e p = go w.stopped e
@@ -215,6 +234,7 @@ module _ (s : Shape) (names : Names) (each : EachFills s.rules) where
           let m = word_met s.rules names w.is_trailing w.waiting w.position word w.held in
           step_filled m.1 word w m.0 (none_second _ _ e) (word_filled w.is_trailing w.waiting w.position word w.held (none_first _ _ e) p)
 
+  -- the whole walk
   walk_filled : (w : Walk) (words : List Text) → walk_fault s names w words ≡ [] → IsFilled w.held.rows → IsFilled (fold (walked s.rules names) w words).held.rows
   unfolding walk_fault
   walk_filled w [] e p = p
@@ -223,6 +243,7 @@ module _ (s : Shape) (names : Names) (each : EachFills s.rules) where
 
 -- ---- defaults
 
+-- the default of one argument
 default_filled : (rows : List Row) (a : Rule) → IsFilled rows → IsFilled (with_default rows a)
 default_filled rows a p = go (has_row a.id rows)
   where
@@ -234,16 +255,19 @@ default_filled rows a p = go (has_row a.id rows)
     go true = p
     go false = of a.defaults
 
+-- the defaults of all
 defaults_filled : (rules : List Rule) (rows : List Row) → IsFilled rows → IsFilled (fold with_default rows rules)
 defaults_filled [] rows p = p
 defaults_filled (a ∷ rest) rows p = defaults_filled rest (with_default rows a) (default_filled rows a p)
 
 -- ---- what is required is there
 
+-- the row has a value, if there is one
 abbrev FilledIfSome : Option Row → Type 0
 FilledIfSome None = Unit {0}
 FilledIfSome (Some r) = 0 < length r.values
 
+-- a row that is looked up
 found_filled : (p : Row → Bool) (rows : List Row) → IsFilled rows → FilledIfSome (find p rows)
 found_filled p [] each = tt
 found_filled p (r ∷ rest) each = go (p r) (found_filled p rest each.1)
@@ -252,6 +276,7 @@ found_filled p (r ∷ rest) each = go (p r) (found_filled p rest each.1)
     go true after = each.0
     go false after = after
 
+-- a list that is not empty has a first
 first_there : (values : List Text) → 0 < length values → IsSome (slice_get values 0)
 first_there [] h = absurd (omega arith)
 first_there (v ∷ vs) h = refl
@@ -271,14 +296,17 @@ last_check false true z e = cc
 last_check false false true e = cc
 last_check false false false e = refl
 
+-- the check of what is missing, at a command with no subcommand
 nothing_missing : (n z : Bool) → (not (n && false) && z) ≡ false → z ≡ false
 nothing_missing true z e = e
 nothing_missing false z e = e
 
+-- what is required and not missing is given
 given_if_required : (x y : Bool) → ((true && not x) || y) ≡ false → x ≡ true
 given_if_required true y e = refl
 given_if_required false y e = absurd (true≢false e)
 
+-- the first rule, where nothing that is required is missing
 first_given : (rules rest : List Rule) (a : Rule) (given : Text → Bool) → rules ≡ a ∷ rest → a.required ≡ true
     → list_any (λ a. a.required && not (given a.id)) rules ≡ false → given a.id ≡ true
 first_given rules rest a given first required e =
@@ -291,12 +319,12 @@ pub required_first : (s : Shape) (a : Rule) (rest : List Rule) (words : List Tex
 required_first s a rest words each first required e =
     let end = (walk s.rules [] nothing_held words).held in
     let filled_end : IsFilled end.rows = walk_filled s [] each (walk_from nothing_held) words (none_first _ _ e) tt in
-    let e1 = none_second [] _ (none_second (walk_fault s [] (walk_from nothing_held) words) _ e) in
+    let ended = none_second [] _ (none_second (walk_fault s [] (walk_from nothing_held) words) _ e) in
     let filled : IsFilled (rows_after s.rules [] words) =
-    defaults_filled s.rules (settled s.rules end).rows (settled_filled s.rules s.args_override_self each end (none_first _ _ e1) filled_end) in
+    defaults_filled s.rules (settled s.rules end).rows (settled_filled s.rules s.args_override_self each end (none_first _ _ ended) filled_end) in
     let rows = rows_after s.rules [] words in
     let checked : check_fault s rows false ≡ [] =
-    none_second (defaults_fault (settled s.rules end).rows s.rules) _ (none_second (settle_fault s.rules s.args_override_self end) _ e1) in
+    none_second (defaults_fault (settled s.rules end).rows s.rules) _ (none_second (settle_fault s.rules s.args_override_self end) _ ended) in
     let given = first_given s.rules rest a (λ id. is_given id rows) first required (nothing_missing s.subcommand_negates_reqs _ (last_check _ _ _ checked)) in
     given_first a.id rows filled given
 
@@ -318,21 +346,23 @@ help_fills a is again values rows e p =
     let bad : kind.DisplayHelp ∷ [] ≡ [] = subst (λ x. action_fault x again a (values_or_missing a values) rows ≡ []) is none in
     cc
 
--- a rule of one of the two kinds
+-- the same, by its action
 abbrev is_valued_at : ArgAction → Rule → Bool
 is_valued_at Set a = nat_lt 0 (unwrap_or_range a.range).start_inclusive
 is_valued_at Help a = true
 is_valued_at _ a = false
 
+-- the rule is an option or a positional of a value or more, or asks for help
 abbrev pub is_valued : Rule → Bool
 is_valued a = is_valued_at (action_of a) a
 
+-- a rule of these two kinds
 valued_fills : (a : Rule) (x : ArgAction) → action_of a ≡ x → is_valued_at x a ≡ true → Fills a
 valued_fills a Set is e = set_fills a is e
 valued_fills a Help is e = help_fills a is
 valued_fills a _ is e = absurd (true≢false (sym e))
 
--- rules that are all of the two kinds
+-- rules that are all of these two kinds
 pub each_valued : (rules : List Rule) → list_all is_valued rules ≡ true → EachFills rules
 each_valued [] e = tt
 each_valued (a ∷ rest) e = let parts = both _ _ e in (valued_fills a (action_of a) refl parts.0, each_valued rest parts.1)

@@ -1,5 +1,7 @@
 //! Whole calls, from the words to the bytes, with values from the published programs' rules.
 
+ghost use Rattle.std.specs.Prelude.{◌≡◌, false};
+
 use crate::command_line::request;
 use crate::devices::{CutSink, CutSource, MemSink, MemSource, Sink};
 use crate::faults::report;
