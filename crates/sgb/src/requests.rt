@@ -1,7 +1,5 @@
 //! What the program is asked to do.
 
-ghost use Rattle.std.specs.Prelude.{◌≡◌};
-
 use crate::expressions::Expr;
 
 /// Where an answer begins.
