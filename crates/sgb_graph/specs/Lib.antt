@@ -3,6 +3,8 @@ pub mod Descriptions
 pub mod Draws
 pub mod Events
 pub mod Graphs
+pub mod Growth
+pub mod IdTexts
 pub mod Ids
 pub mod Made
 pub mod Sound

@@ -2,7 +2,13 @@
 #![tactic(auto)]
 
 mod fields;
+mod graphs;
+mod ids;
 mod laws;
+mod names;
 
 pub use fields::{ArcRec, Kind, Link, Ref, Util, Vertex};
-pub use laws::{numbers_law, uniform_draw_law};
+pub use graphs::{Arcs, Graph};
+pub use ids::{Id, IdWriter};
+pub use laws::{arcs_law, edges_law, lists_law, numbers_law, uniform_draw_law};
+pub use names::Names;

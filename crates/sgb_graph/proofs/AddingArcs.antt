@@ -1,0 +1,184 @@
+-- A graph with one arc more.
+use Rattle.std.proofs.Common.{◌≡◌, ◌+◌, ◌≤◌, ◌<◌, ℕ, zero, suc, ℤ, true, ◌&&◌, List, [], ◌∷◌, ◌++◌, length, get_or, Option, Some, refl, ap, sym, ◌∙◌, arith}
+use Rattle.std.specs.Prelude.{slice_get, nat_lt}
+use Rattle.std.specs.List.{list_all}
+use Rattle.std.specs.Option.{option_and_then}
+use Rattle.std.proofs.lemmas.Bool.{and_parts, and_from, lt-ltb}
+use Rattle.std.proofs.lemmas.List.{length-append}
+use Rattle.std.proofs.lemmas.Option.{slice_get_read}
+use Rattle.sgb_graph.specs.Graphs.{GraphData, chain_of, ends_of, ends_from, links_of}
+use Rattle.sgb_graph.specs.Sound.{arc_kinds, chain_fits, utils_fit, vertex_kinds}
+use Rattle.sgb_graph.specs.Growth.{IsKept, graph_data, HasPlainArcs, AddsArc, KeepsAllButArcs, arc_record, at_place, first_arc, link, with_arcs}
+use Rattle.sgb_graph.specs.declared.fields.Kind.{Kind}
+use Rattle.sgb_graph.specs.declared.fields.Kind.TheVariants.{Z}
+use Rattle.sgb_graph.specs.declared.fields.Util.TheVariants.{Nothing}
+use Rattle.sgb_graph.specs.declared.fields.Vertex.{Vertex}
+use Rattle.sgb_graph.specs.declared.fields.ArcRec.{ArcRec}
+use Rattle.sgb_graph.proofs.Lists.{slice_get-at_place_same, slice_get-at_place_other, slice_get-behind, length-at_place, map-at_place, list_all-get, list_all-at_place}
+use Rattle.sgb_graph.proofs.Fitting.{vertex_fits_in, record_fits_in, chain_fits_more}
+use Rattle.sgb_graph.proofs.Chains.{ends_step, ends_kept, links_step, links_kept, leads_step, leads_kept, links_within, lead_within}
+use Rattle.sgb_graph.proofs.Growing.{HasParts, NewFit, parts_of, graph_from_parts, first_ends, is_good, all_good_more, grown, grown_is_graph, chain_kept, chain_at}
+
+-- a place of a list has an element
+pub record HasElement {X : Type 0} (xs : List X) (k : ℕ) : Type 0 where
+  pub element : X
+  pub is : slice_get xs k ≡ Some element
+
+pub element_at : {X : Type 0} (xs : List X) (k : ℕ) → k < length xs → HasElement xs k
+element_at [] k below = absurd (omega arith)
+element_at (x ∷ xs) zero below = record { element = x; is = refl }
+element_at (x ∷ xs) (suc k) below = let rest = element_at xs k (omega arith) in record { element = rest.element; is = rest.is }
+
+-- what a vertex of a graph has: its first record, from which the way ends and leads to vertices
+pub record HasChain (g : GraphData) (u : ℕ) (first : Option ℕ) : Type 0 where
+  pub fits : chain_fits (length g.records) first ≡ true
+  pub ends : ends_of g.records first ≡ true
+  pub leads : lead_within (length g.records) g.records first ≡ true
+  pub chain : chain_of g u ≡ links_of g.records first
+
+pub chain_of_vertex : (g : GraphData) (u : ℕ) → HasParts g → u < length g.vertices → HasChain g u (first_arc g.vertices u)
+chain_of_vertex g u has below =
+    let x = element_at g.vertices u below in
+    let same : first_arc g.vertices u ≡ x.element.arcs = ap (λ o. option_and_then (λ (v : Vertex). v.arcs) o) x.is in
+    let fits = list_all-get (vertex_fits_in (length g.vertices) (length g.records) g.kinds) g.vertices u x.element has.vertices x.is in
+    let start = (and_parts (chain_fits (length g.records) x.element.arcs) (utils_fit (length g.vertices) (length g.records) (vertex_kinds g.kinds) x.element.util) fits).0 in
+    rw same record {
+      fits = start;
+      ends = first_ends g.records x.element.arcs has.ends start;
+      leads = list_all-get (λ (v : Vertex). lead_within (length g.records) g.records v.arcs) g.vertices u x.element has.leads x.is;
+      chain = chain_at g u x.element x.is;
+    }
+
+-- the same of the first record as it is read
+pub chain_of_read : (g : GraphData) (u : ℕ) (x : Vertex) → HasParts g → u < length g.vertices → x ≡ get_or g.vertices u x → HasChain g u x.arcs
+chain_of_read g u x has below here =
+    let is = slice_get_read g.vertices (length g.vertices) u x refl below here in
+    let same : first_arc g.vertices u ≡ x.arcs = ap (λ o. option_and_then (λ (v : Vertex). v.arcs) o) is in
+    rw same at (chain_of_vertex g u has below)
+
+-- the fields of a new record
+pub plain_record_fits : (n m : ℕ) (kinds : List Kind) (v : ℕ) (after : Option ℕ) (far : ℤ) → v < n → chain_fits m after ≡ true → arc_kinds kinds ≡ Z ∷ Z ∷ [] → record_fits_in n m kinds (arc_record v after far) ≡ true
+plain_record_fits n m kinds v after far below fits plain =
+    and_from (nat_lt v n && chain_fits m after) (utils_fit n m (arc_kinds kinds) (Nothing ∷ Nothing ∷ []))
+    (and_from (nat_lt v n) (chain_fits m after) (lt-ltb v n below) fits) (rw plain refl)
+
+-- a vertex stays good with another first record, from which the way leads to vertices
+pub good_with_arcs : (n : ℕ) (kinds : List Kind) (records : List ArcRec) (first : Option ℕ) (x : Vertex) → chain_fits (length records) first ≡ true → lead_within (length records) records first ≡ true → is_good n kinds records x ≡ true → is_good n kinds records (with_arcs first x) ≡ true
+good_with_arcs n kinds records first x fits leads good =
+    let parts = and_parts (vertex_fits_in n (length records) kinds x) (lead_within (length records) records x.arcs) good in
+    let own = and_parts (chain_fits (length records) x.arcs) (utils_fit n (length records) (vertex_kinds kinds) x.util) parts.0 in
+    and_from (vertex_fits_in n (length records) kinds (with_arcs first x)) (lead_within (length records) records first)
+    (and_from (chain_fits (length records) first) (utils_fit n (length records) (vertex_kinds kinds) x.util) fits own.1) leads
+
+-- a record in front of a chain
+pub record IsFront (steps : ℕ) (g : GraphData) (u : ℕ) (records : List ArcRec) (k v : ℕ) (far : ℤ) : Type 0 where
+  pub ends : ends_from (suc steps) records (Some k) ≡ true
+  pub leads : lead_within (suc steps) records (Some k) ≡ true
+  pub links : links_within (suc steps) records (Some k) ≡ link k v far ∷ chain_of g u
+
+pub front_of : (steps : ℕ) (g : GraphData) (more : List ArcRec) (u k v : ℕ) (far : ℤ) → HasParts g → u < length g.vertices → length g.records ≤ steps → slice_get (g.records ++ more) k ≡ Some (arc_record v (first_arc g.vertices u) far) → IsFront steps g u (g.records ++ more) k v far
+front_of steps g more u k v far has below le is =
+    let old = chain_of_vertex g u has below in
+    let first = first_arc g.vertices u in
+    let new = arc_record v first far in
+    let all = g.records ++ more in
+    record {
+      ends = ends_step steps all k new is ∙ ends_kept steps g.records more first le old.ends;
+      leads = leads_step steps all k new is refl (leads_kept steps g.records more first le old.ends old.leads);
+      links = links_step steps all k new is ∙ ap (λ ls. link k v far ∷ ls) (links_kept steps g.records more first le old.ends ∙ sym old.chain);
+    }
+
+-- the graph with an arc from u to v
+abbrev pub with_arc : GraphData → ℕ → ℕ → ℤ → GraphData
+with_arc g u v far =
+    grown g (g.m + 1) (at_place (with_arcs (Some (length g.records))) u g.vertices) (arc_record v (first_arc g.vertices u) far ∷ [])
+
+-- all but the arcs stays where the first record of a vertex changes
+pub keeps_all : (g : GraphData) (count : ℕ) (first : Option ℕ) (u : ℕ) (more : List ArcRec) → KeepsAllButArcs g (grown g count (at_place (with_arcs first) u g.vertices) more)
+keeps_all g count first u more = record {
+  id = refl;
+  kinds = refl;
+  util = refl;
+  size = length-at_place (with_arcs first) u g.vertices;
+  names = map-at_place (λ x. x.name) (with_arcs first) u g.vertices (λ x. refl);
+  fields = map-at_place (λ x. x.util) (with_arcs first) u g.vertices (λ x. refl);
+}
+
+-- the number of records with one more
+one_more : (records : List ArcRec) (r : ArcRec) → length (records ++ r ∷ []) ≡ suc (length records)
+one_more records r = omega (arith, length-append records (r ∷ []))
+
+-- the new record is the last one
+last_is : (records : List ArcRec) (r : ArcRec) → slice_get (records ++ r ∷ []) (length records) ≡ Some r
+last_is records r =
+    let place : length records ≡ length records + 0 = omega arith in
+    ap (slice_get (records ++ r ∷ [])) place ∙ slice_get-behind records (r ∷ []) 0
+
+-- it is a graph with one arc more
+pub arc_added : (g : GraphData) (u v : ℕ) (far : ℤ) → IsKept g → HasPlainArcs g → u < length g.vertices → v < length g.vertices → AddsArc g (with_arc g u v far) u v far × IsKept (with_arc g u v far)
+arc_added g u v far kept plain u_in v_in = (adds, still)
+  where
+    has : HasParts g
+    has = parts_of g kept.graph
+
+    m : ℕ
+    m = length g.records
+
+    first : Option ℕ
+    first = first_arc g.vertices u
+
+    new : ArcRec
+    new = arc_record v first far
+
+    all : List ArcRec
+    all = g.records ++ new ∷ []
+
+    longer : length all ≡ suc m
+    longer = one_more g.records new
+
+    front : IsFront m g u all m v far
+    front = front_of m g (new ∷ []) u m v far has u_in (omega arith) (last_is g.records new)
+
+    new_fits : chain_fits (length all) (Some m) ≡ true
+    new_fits = lt-ltb m (length all) (omega (arith, longer))
+
+    leads : lead_within (length all) all (Some m) ≡ true
+    leads = ap (λ steps. lead_within steps all (Some m)) longer ∙ front.leads
+
+    good : list_all (is_good (length g.vertices) g.kinds all) (at_place (with_arcs (Some m)) u g.vertices) ≡ true
+    good = list_all-at_place (is_good (length g.vertices) g.kinds all) (with_arcs (Some m)) u g.vertices
+        (λ x h. good_with_arcs (length g.vertices) g.kinds all (Some m) x new_fits leads h) (all_good_more g (new ∷ []) has)
+
+    after_fits : chain_fits (length all) first ≡ true
+    after_fits = chain_fits_more m (length all) first (omega (arith, longer)) (chain_of_vertex g u has u_in).fits
+
+    fit : NewFit (length g.vertices) g.kinds g.records (new ∷ [])
+    fit = record {
+      fit = and_from (record_fits_in (length g.vertices) (length all) g.kinds new) true (plain_record_fits (length g.vertices) (length all) g.kinds v first far v_in after_fits plain) refl;
+      ends = λ k low high. let at : k ≡ m = omega (arith, longer) in rw (at, longer) front.ends;
+    }
+
+    still : IsKept (with_arc g u v far)
+    still = record {
+      graph = graph_from_parts (with_arc g u v far) (grown_is_graph g (g.m + 1) (at_place (with_arcs (Some m)) u g.vertices) (new ∷ []) has (length-at_place (with_arcs (Some m)) u g.vertices) good fit);
+      count = omega (arith, kept.count, longer);
+    }
+
+    x : HasElement g.vertices u
+    x = element_at g.vertices u u_in
+
+    adds : AddsArc g (with_arc g u v far) u v far
+    adds = record {
+      count = refl;
+      records = refl;
+      chain = chain_at (with_arc g u v far) u (with_arcs (Some m) x.element) (slice_get-at_place_same (with_arcs (Some m)) u g.vertices x.element x.is)
+          ∙ (ap (λ steps. links_within steps all (Some m)) longer ∙ front.links);
+      others = λ w other. chain_kept g (g.m + 1) (at_place (with_arcs (Some m)) u g.vertices) (new ∷ []) w has (slice_get-at_place_other (with_arcs (Some m)) u w g.vertices other);
+      rest = keeps_all g (g.m + 1) (Some m) u (new ∷ []);
+    }
+
+-- the same, where the parts are known to be those
+pub arc_put : (g : GraphData) (u v : ℕ) (far : ℤ) (vertices : List Vertex) (records : List ArcRec) → IsKept g → HasPlainArcs g → u < length g.vertices → v < length g.vertices
+    → vertices ≡ at_place (with_arcs (Some (length g.records))) u g.vertices → records ≡ g.records ++ arc_record v (first_arc g.vertices u) far ∷ []
+    → AddsArc g (graph_data g.id (g.m + 1) g.kinds g.util vertices records) u v far × IsKept (graph_data g.id (g.m + 1) g.kinds g.util vertices records)
+arc_put g u v far vertices records kept plain u_in v_in nodes arcs = rw (nodes, arcs) (arc_added g u v far kept plain u_in v_in)

@@ -1,0 +1,188 @@
+-- Chains of records: what more records at the end leave as it was.
+use Rattle.std.proofs.Common.{◌≡◌, ◌≤◌, ℕ, zero, suc, Bool, true, false, List, [], ◌∷◌, ◌++◌, length, Option, Some, None, refl, ap, sym, ◌∙◌, arith}
+use Rattle.std.specs.Prelude.{slice_get, is_some}
+use Rattle.std.specs.List.{list_all, flat_map}
+use Rattle.std.specs.Option.{option_map_or}
+use Rattle.std.proofs.lemmas.List.{append-nil}
+use Rattle.std.proofs.lemmas.Bool.{and_parts, and_from}
+use Rattle.sgb_graph.specs.Graphs.{numbers_from, ends_from, numbers_of, ends_of, vertex_of, link_of, links_of}
+use Rattle.sgb_graph.specs.Sound.{is_vertex, leads_to_vertex}
+use Rattle.sgb_graph.specs.Growth.{link}
+use Rattle.sgb_graph.specs.declared.fields.ArcRec.{ArcRec}
+use Rattle.sgb_graph.specs.declared.fields.Link.{Link}
+use Rattle.sgb_graph.proofs.Lists.{slice_get-more, list_all-weaker, list_all-both, flat_map-agree}
+
+-- the way from no record ends at once
+pub ends_none : (fuel : ℕ) (records : List ArcRec) → ends_from fuel records None ≡ true
+unfolding ends_from
+ends_none zero records = refl
+ends_none (suc fuel) records = refl
+
+-- and meets no record
+numbers_none : (fuel : ℕ) (records : List ArcRec) → numbers_from fuel records None ≡ []
+unfolding numbers_from
+numbers_none zero records = refl
+numbers_none (suc fuel) records = refl
+
+-- the way from a record goes on from the next
+pub ends_step : (fuel : ℕ) (records : List ArcRec) (k : ℕ) (r : ArcRec) → slice_get records k ≡ Some r → ends_from (suc fuel) records (Some k) ≡ ends_from fuel records r.next
+unfolding ends_from
+ends_step fuel records k r is = ap (λ o. option_map_or (λ (x : ArcRec). ends_from fuel records x.next) o false) is
+
+numbers_step : (fuel : ℕ) (records : List ArcRec) (k : ℕ) (r : ArcRec) → slice_get records k ≡ Some r → numbers_from (suc fuel) records (Some k) ≡ k ∷ numbers_from fuel records r.next
+unfolding numbers_from
+numbers_step fuel records k r is = ap (λ o. option_map_or (λ (x : ArcRec). k ∷ numbers_from fuel records x.next) o []) is
+
+-- a way that ends, ends behind each record that it meets
+record EndsBehind (fuel : ℕ) (records : List ArcRec) (k : ℕ) : Type 0 where
+  here : ArcRec
+  is : slice_get records k ≡ Some here
+  ends : ends_from fuel records here.next ≡ true
+
+ends_behind : (fuel : ℕ) (records : List ArcRec) (k : ℕ) → ends_from (suc fuel) records (Some k) ≡ true → EndsBehind fuel records k
+unfolding ends_from
+ends_behind fuel records k e = by_record (slice_get records k) refl e
+  where
+    by_record : (o : Option ArcRec) → slice_get records k ≡ o → option_map_or (λ (x : ArcRec). ends_from fuel records x.next) o false ≡ true → EndsBehind fuel records k
+    by_record None is h = absurd cc
+    by_record (Some r) is h = record { here = r; is = is; ends = h }
+
+-- a way that ends without a step starts from no record
+no_start : (records : List ArcRec) (k : ℕ) → ends_from zero records (Some k) ≡ true → ⊥
+unfolding ends_from
+no_start records k e = cc
+
+-- a way that ends, ends with more records and more steps
+ends_more : (fuel steps : ℕ) (records more : List ArcRec) (first : Option ℕ) → fuel ≤ steps → ends_from fuel records first ≡ true → ends_from steps (records ++ more) first ≡ true
+ends_more fuel steps records more None le e = ends_none steps (records ++ more)
+ends_more zero steps records more (Some k) le e = absurd (no_start records k e)
+ends_more (suc fuel) zero records more (Some k) le e = absurd (omega arith)
+ends_more (suc fuel) (suc steps) records more (Some k) le e =
+    let b = ends_behind fuel records k e in
+    ends_step steps (records ++ more) k b.here (slice_get-more records more k b.here b.is) ∙ ends_more fuel steps records more b.here.next (omega arith) b.ends
+
+-- and meets the same records
+numbers_more : (fuel steps : ℕ) (records more : List ArcRec) (first : Option ℕ) → fuel ≤ steps → ends_from fuel records first ≡ true → numbers_from steps (records ++ more) first ≡ numbers_from fuel records first
+numbers_more fuel steps records more None le e = numbers_none steps (records ++ more) ∙ sym (numbers_none fuel records)
+numbers_more zero steps records more (Some k) le e = absurd (no_start records k e)
+numbers_more (suc fuel) zero records more (Some k) le e = absurd (omega arith)
+numbers_more (suc fuel) (suc steps) records more (Some k) le e =
+    let b = ends_behind fuel records k e in
+    numbers_step steps (records ++ more) k b.here (slice_get-more records more k b.here b.is)
+    ∙ (ap (λ ks. k ∷ ks) (numbers_more fuel steps records more b.here.next (omega arith) b.ends) ∙ sym (numbers_step fuel records k b.here b.is))
+
+-- each record on a way is one
+is_record : List ArcRec → ℕ → Bool
+is_record records k = is_some (slice_get records k)
+
+numbers_are_records : (fuel : ℕ) (records : List ArcRec) (first : Option ℕ) → list_all (is_record records) (numbers_from fuel records first) ≡ true
+unfolding numbers_from is_record
+numbers_are_records zero records first = refl
+numbers_are_records (suc fuel) records None = refl
+numbers_are_records (suc fuel) records (Some k) = by_record (numbers_are_records fuel records) (slice_get records k) refl
+  where
+    by_record : ((first : Option ℕ) → list_all (is_record records) (numbers_from fuel records first) ≡ true)
+        → (o : Option ArcRec) → slice_get records k ≡ o → list_all (is_record records) (option_map_or (λ (r : ArcRec). k ∷ numbers_from fuel records r.next) o []) ≡ true
+    by_record later None is = refl
+    by_record later (Some r) is = rw is (later r.next)
+
+-- the arc of a record, and whether it leads to a vertex, with more records
+link_more : (records more : List ArcRec) (k : ℕ) → is_record records k ≡ true → link_of (records ++ more) k ≡ link_of records k
+unfolding is_record
+link_more records more k e = by_record (slice_get records k) refl e
+  where
+    by_record : (o : Option ArcRec) → slice_get records k ≡ o → is_some o ≡ true → link_of (records ++ more) k ≡ link_of records k
+    by_record None is h = absurd cc
+    by_record (Some r) is h = rw (slice_get-more records more k r is, is) refl
+
+leads_more : (records more : List ArcRec) (k : ℕ) → is_record records k ≡ true → leads_to_vertex (records ++ more) k ≡ leads_to_vertex records k
+unfolding is_record
+leads_more records more k e = by_record (slice_get records k) refl e
+  where
+    by_record : (o : Option ArcRec) → slice_get records k ≡ o → is_some o ≡ true → leads_to_vertex (records ++ more) k ≡ leads_to_vertex records k
+    by_record None is h = absurd cc
+    by_record (Some r) is h = rw (slice_get-more records more k r is, is) refl
+
+-- the arcs on a way of so many steps at most
+abbrev pub links_within : ℕ → List ArcRec → Option ℕ → List Link
+links_within fuel records first = flat_map (link_of records) (numbers_from fuel records first)
+
+-- each of them leads to a vertex
+abbrev pub lead_within : ℕ → List ArcRec → Option ℕ → Bool
+lead_within fuel records first = list_all (leads_to_vertex records) (numbers_from fuel records first)
+
+-- a chain that ends in the records ends in more records
+pub ends_kept : (steps : ℕ) (records more : List ArcRec) (first : Option ℕ) → length records ≤ steps → ends_of records first ≡ true → ends_from steps (records ++ more) first ≡ true
+ends_kept steps records more first le e = ends_more (length records) steps records more first le e
+
+-- and has the same arcs
+pub links_kept : (steps : ℕ) (records more : List ArcRec) (first : Option ℕ) → length records ≤ steps → ends_of records first ≡ true → links_within steps (records ++ more) first ≡ links_of records first
+links_kept steps records more first le e =
+    ap (flat_map (link_of (records ++ more))) (numbers_more (length records) steps records more first le e)
+    ∙ flat_map-agree (is_record records) (link_of (records ++ more)) (link_of records) (numbers_of records first) (link_more records more) (numbers_are_records (length records) records first)
+
+-- which lead to vertices as before
+pub leads_kept : (steps : ℕ) (records more : List ArcRec) (first : Option ℕ) → length records ≤ steps → ends_of records first ≡ true → lead_within (length records) records first ≡ true → lead_within steps (records ++ more) first ≡ true
+leads_kept steps records more first le e leads =
+    let met = numbers_of records first in
+    let both = list_all-both (is_record records) (leads_to_vertex records) met (numbers_are_records (length records) records first) leads in
+    rw (numbers_more (length records) steps records more first le e)
+    (list_all-weaker _ (leads_to_vertex (records ++ more)) met (λ k h. still k (and_parts (is_record records k) (leads_to_vertex records k) h)) both)
+  where
+    still : (k : ℕ) → (is_record records k ≡ true) × (leads_to_vertex records k ≡ true) → leads_to_vertex (records ++ more) k ≡ true
+    still k (is, leads) = leads_more records more k is ∙ leads
+
+-- the arcs from a record on: its own, and those from the next one on
+pub links_step : (steps : ℕ) (records : List ArcRec) (k : ℕ) (r : ArcRec) → slice_get records k ≡ Some r → links_within (suc steps) records (Some k) ≡ link k (vertex_of r.tip) r.len ∷ links_within steps records r.next
+links_step steps records k r is =
+    ap (flat_map (link_of records)) (numbers_step steps records k r is)
+    ∙ ap (λ ls. ls ++ links_within steps records r.next) (ap (λ o. option_map_or (λ (x : ArcRec). link k (vertex_of x.tip) x.len ∷ []) o []) is)
+
+-- they lead to vertices where these do
+pub leads_step : (steps : ℕ) (records : List ArcRec) (k : ℕ) (r : ArcRec) → slice_get records k ≡ Some r → is_vertex r.tip ≡ true → lead_within steps records r.next ≡ true → lead_within (suc steps) records (Some k) ≡ true
+leads_step steps records k r is tip rest =
+    ap (list_all (leads_to_vertex records)) (numbers_step steps records k r is)
+    ∙ and_from (leads_to_vertex records k) (lead_within steps records r.next) (ap (λ o. option_map_or (λ (x : ArcRec). is_vertex x.tip) o false) is ∙ tip) rest
+
+-- no more arcs are on a way than it has steps
+pub length-links : (fuel : ℕ) (records : List ArcRec) (first : Option ℕ) → length (links_within fuel records first) ≤ fuel
+unfolding numbers_from
+length-links zero records first = omega arith
+length-links (suc fuel) records None = omega arith
+length-links (suc fuel) records (Some k) = by_record (length-links fuel records) (slice_get records k) refl
+  where
+    by_record : ((first : Option ℕ) → length (links_within fuel records first) ≤ fuel) → (o : Option ArcRec) → slice_get records k ≡ o
+        → length (flat_map (link_of records) (option_map_or (λ (r : ArcRec). k ∷ numbers_from fuel records r.next) o [])) ≤ suc fuel
+    by_record later None is = omega arith
+    by_record later (Some r) is =
+        let rest = later r.next in
+        rw is (omega arith)
+
+-- a chain that ends: from none there is no arc, from a record its own and then a chain that ends
+pub links_of_none : (records : List ArcRec) → links_of records None ≡ []
+links_of_none records = ap (flat_map (link_of records)) (numbers_none (length records) records)
+
+pub record IsStep (records : List ArcRec) (k : ℕ) : Type 0 where
+  pub here : ArcRec
+  pub is : slice_get records k ≡ Some here
+  pub links : links_of records (Some k) ≡ link k (vertex_of here.tip) here.len ∷ links_of records here.next
+  pub ends : ends_of records here.next ≡ true
+
+pub step_of : (records : List ArcRec) (k : ℕ) → ends_of records (Some k) ≡ true → IsStep records k
+step_of records k ends = by_length (length records) refl
+  where
+    by_length : (n : ℕ) → length records ≡ n → IsStep records k
+    by_length zero is = absurd (no_start records k (rw is at ends))
+    by_length (suc n) is =
+        let b = ends_behind n records k (rw is at ends) in
+        let none_more : records ++ [] ≡ records = append-nil records in
+        let on = ends_more n (length records) records [] b.here.next (omega arith) b.ends in
+        let same = numbers_more n (length records) records [] b.here.next (omega arith) b.ends in
+        record {
+          here = b.here;
+          is = b.is;
+          links = ap (λ steps. links_within steps records (Some k)) is
+              ∙ (links_step n records k b.here b.is
+              ∙ ap (λ ks. link k (vertex_of b.here.tip) b.here.len ∷ flat_map (link_of records) ks) (sym (rw none_more at same)));
+          ends = rw none_more at on;
+        }

@@ -1,0 +1,209 @@
+-- The lists of events, as events come one by one.
+use Rattle.std.proofs.Common.{◌≡◌, ◌≢◌, ◌+◌, ◌⊎◌, ℕ, ℤ, min, max, Bool, true, false, List, [], ◌∷◌, ◌++◌, length, map, Option, Some, None, refl, ap, sym, ◌∙◌, inl, inr, arith}
+use Rattle.std.specs.Prelude.{slice_get}
+use Rattle.std.specs.Option.{option_map, option_map_or}
+use Rattle.std.proofs.lemmas.Bool.{eq-eqb, ne_eqb, cases_eq}
+use Rattle.std.proofs.lemmas.List.{append-nil, append_assoc, map-append, length-append, length-map}
+use Rattle.std.proofs.lemmas.List.Concat.{flat_map-append}
+use Rattle.std.proofs.lemmas.Option.{slice_get-map}
+use Rattle.sgb_graph.specs.Graphs.{GraphData, chain_of, links_of}
+use Rattle.sgb_graph.specs.Events.{Event, Row, HasArcsOf, all_rows, links_at, list_from, list_of, rows_of}
+use Rattle.sgb_graph.specs.Growth.{AddsArc, AddsEdge, ArcsLead, EdgesLead, link, new_graph, new_vertex, row}
+use Rattle.sgb_graph.specs.declared.fields.Ref.TheVariants.{At}
+use Rattle.sgb_graph.specs.declared.fields.Vertex.{Vertex}
+use Rattle.sgb_graph.proofs.Chains.{links_of_none}
+
+-- the list of no event, and of one more in front
+pub list_none : (directed : Bool) (k v : ℕ) → list_from directed k [] v ≡ []
+unfolding list_from
+list_none directed k v = refl
+
+pub list_first : (directed : Bool) (k : ℕ) (e : Event) (events : List Event) (v : ℕ) → list_from directed k (e ∷ events) v ≡ list_from directed (k + length (rows_of directed e)) events v ++ links_at v k (rows_of directed e)
+unfolding list_from
+list_first directed k e events v = refl
+
+-- the records of one more event
+rows_push : (directed : Bool) (events : List Event) (e : Event) → all_rows directed (events ++ e ∷ []) ≡ all_rows directed events ++ rows_of directed e
+rows_push directed events e =
+    flat_map-append (rows_of directed) events (e ∷ []) ∙ ap (λ rows. all_rows directed events ++ rows) (append-nil (rows_of directed e))
+
+-- the list of one more event behind: its records come first
+list_push : (directed : Bool) (k : ℕ) (events : List Event) (e : Event) (v : ℕ) → list_from directed k (events ++ e ∷ []) v ≡ links_at v (k + length (all_rows directed events)) (rows_of directed e) ++ list_from directed k events v
+list_push directed k [] e v =
+    let new = links_at v k (rows_of directed e) in
+    let none : k + 0 ≡ k = omega arith in
+    list_first directed k e [] v
+    ∙ (ap (λ ls. ls ++ new) (list_none directed (k + length (rows_of directed e)) v)
+    ∙ sym (ap (λ ls. links_at v (k + 0) (rows_of directed e) ++ ls) (list_none directed k v) ∙ (append-nil (links_at v (k + 0) (rows_of directed e)) ∙ ap (λ j. links_at v j (rows_of directed e)) none)))
+list_push directed k (x ∷ events) e v =
+    let own = rows_of directed x in
+    let from = k + length own in
+    let place : from + length (all_rows directed events) ≡ k + length (own ++ all_rows directed events) = omega (arith, length-append own (all_rows directed events)) in
+    list_first directed k x (events ++ e ∷ []) v
+    ∙ (ap (λ ls. ls ++ links_at v k own) (list_push directed from events e v ∙ ap (λ j. links_at v j (rows_of directed e) ++ list_from directed from events v) place)
+    ∙ (append_assoc (links_at v (k + length (own ++ all_rows directed events)) (rows_of directed e)) (list_from directed from events v) (links_at v k own)
+    ∙ ap (λ ls. links_at v (k + length (own ++ all_rows directed events)) (rows_of directed e) ++ ls) (sym (list_first directed k x events v))))
+
+-- the records of an event come behind those of the graph, and in front of the lists
+record AddsRows (directed : Bool) (old new : GraphData) (e : Event) : Type 0 where
+  count : new.m ≡ old.m + length (rows_of directed e)
+  tips : map (λ r. r.tip) new.records ≡ map (λ r. r.tip) old.records ++ map (λ r. At r.tip) (rows_of directed e)
+  lengths : map (λ r. r.len) new.records ≡ map (λ r. r.len) old.records ++ map (λ r. r.len) (rows_of directed e)
+  lists : (w : ℕ) → chain_of new w ≡ links_at w (length old.records) (rows_of directed e) ++ chain_of old w
+  size : length new.vertices ≡ length old.vertices
+
+-- then the graph has the arcs of that event too
+rows_added : (directed : Bool) (events : List Event) (e : Event) (old new : GraphData) → HasArcsOf directed events old → AddsRows directed old new e → HasArcsOf directed (events ++ e ∷ []) new
+rows_added directed events e old new has adds = record {
+  count = adds.count ∙ sym (ap length more ∙ (length-append rows own ∙ ap (λ j. j + length own) (sym has.count)));
+  tips = adds.tips ∙ (ap (λ ts. ts ++ map (λ (r : Row). At r.tip) own) has.tips ∙ sym (ap (map (λ (r : Row). At r.tip)) more ∙ map-append (λ (r : Row). At r.tip) rows own));
+  lengths = adds.lengths ∙ (ap (λ ls. ls ++ map (λ (r : Row). r.len) own) has.lengths ∙ sym (ap (map (λ (r : Row). r.len)) more ∙ map-append (λ (r : Row). r.len) rows own));
+  lists = λ v below. adds.lists v
+      ∙ (ap (λ ls. links_at v (length old.records) own ++ ls) (has.lists v (omega (arith, adds.size)))
+      ∙ (ap (λ j. links_at v j own ++ list_of directed events v) place ∙ sym (list_push directed 0 events e v)));
+}
+  where
+    rows : List Row
+    rows = all_rows directed events
+
+    own : List Row
+    own = rows_of directed e
+
+    more : all_rows directed (events ++ e ∷ []) ≡ rows ++ own
+    more = rows_push directed events e
+
+    place : length old.records ≡ 0 + length rows
+    place = omega (arith, ap length has.tips, length-map old.records (λ r. r.tip), length-map rows (λ r. At r.tip))
+
+-- a new graph has no arcs
+pub new_has_none : (directed : Bool) (names : List (List ℕ)) → HasArcsOf directed [] (new_graph names)
+unfolding list_from
+new_has_none directed names = record {
+  count = refl;
+  tips = refl;
+  lengths = refl;
+  lists = λ v below. none_at v;
+}
+  where
+    by_name : (o : Option (List ℕ)) → option_map_or (λ (x : Vertex). links_of [] x.arcs) (option_map new_vertex o) [] ≡ []
+    by_name None = refl
+    by_name (Some text) = links_of_none []
+
+    none_at : (v : ℕ) → chain_of (new_graph names) v ≡ []
+    none_at v = ap (λ o. option_map_or (λ (x : Vertex). links_of [] x.arcs) o []) (slice_get-map new_vertex names v) ∙ by_name (slice_get names v)
+
+-- the link of a row where it starts at this vertex, and none where it does not
+pub link_here : (w k : ℕ) (r : Row) (rows : List Row) → w ≡ r.start → links_at w k (r ∷ rows) ≡ link k r.tip r.len ∷ links_at w (k + 1) rows
+link_here w k r rows same = rw (eq-eqb r.start w (sym same)) refl
+
+pub no_link_here : (w k : ℕ) (r : Row) (rows : List Row) → w ≢ r.start → links_at w k (r ∷ rows) ≡ links_at w (k + 1) rows
+no_link_here w k r rows other = rw (ne_eqb r.start w (λ e. other (sym e))) refl
+
+-- the lists of vertices u and v, and of others, with two rows in front
+two_here : (k u : ℕ) (far : ℤ) → links_at u k (row u u far ∷ row u u far ∷ []) ≡ link k u far ∷ link (k + 1) u far ∷ []
+two_here k u far = link_here u k (row u u far) (row u u far ∷ []) refl ∙ ap (λ ls. link k u far ∷ ls) (link_here u (k + 1) (row u u far) [] refl)
+
+first_here : (k u v : ℕ) (far : ℤ) → u ≢ v → links_at u k (row u v far ∷ row v u far ∷ []) ≡ link k v far ∷ []
+first_here k u v far other = link_here u k (row u v far) (row v u far ∷ []) refl ∙ ap (λ ls. link k v far ∷ ls) (no_link_here u (k + 1) (row v u far) [] other)
+
+second_here : (k u v : ℕ) (far : ℤ) → v ≢ u → links_at v k (row u v far ∷ row v u far ∷ []) ≡ link (k + 1) u far ∷ []
+second_here k u v far other = no_link_here v k (row u v far) (row v u far ∷ []) other ∙ link_here v (k + 1) (row v u far) [] refl
+
+neither_here : (k u v w : ℕ) (far : ℤ) → w ≢ u → w ≢ v → links_at w k (row u v far ∷ row v u far ∷ []) ≡ []
+neither_here k u v w far not_u not_v = no_link_here w k (row u v far) (row v u far ∷ []) not_u ∙ no_link_here w (k + 1) (row v u far) [] not_v
+
+-- a new arc adds the record of its event
+arc_adds : (old new : GraphData) (e : Event) → AddsArc old new e.from e.to e.len → AddsRows true old new e
+arc_adds old new e adds = record {
+  count = adds.count;
+  tips = ap (map (λ r. r.tip)) adds.records ∙ map-append (λ r. r.tip) old.records _;
+  lengths = ap (map (λ r. r.len)) adds.records ∙ map-append (λ r. r.len) old.records _;
+  lists = λ w. at_vertex w (cases_eq w e.from);
+  size = adds.rest.size;
+}
+  where
+    at_vertex : (w : ℕ) → (w ≡ e.from) ⊎ (w ≡ e.from → ⊥) → chain_of new w ≡ links_at w (length old.records) (rows_of true e) ++ chain_of old w
+    at_vertex w (inl here) = rw here (adds.chain ∙ sym (ap (λ ls. ls ++ chain_of old e.from) (link_here e.from (length old.records) (row e.from e.to e.len) [] refl)))
+    at_vertex w (inr other) = adds.others w other ∙ sym (ap (λ ls. ls ++ chain_of old w) (no_link_here w (length old.records) (row e.from e.to e.len) [] other))
+
+-- a new edge adds the two records of its event
+edge_adds : (old new : GraphData) (e : Event) → AddsEdge old new e.from e.to e.len → AddsRows false old new e
+edge_adds old new e adds = record {
+  count = adds.count;
+  tips = ap (map (λ r. r.tip)) adds.records ∙ map-append (λ r. r.tip) old.records _;
+  lengths = ap (map (λ r. r.len)) adds.records ∙ map-append (λ r. r.len) old.records _;
+  lists = λ w. at_vertex w (cases_eq w low) (cases_eq w high);
+  size = adds.rest.size;
+}
+  where
+    u : ℕ
+    u = e.from
+
+    v : ℕ
+    v = e.to
+
+    low : ℕ
+    low = min u v
+
+    high : ℕ
+    high = max u v
+
+    k : ℕ
+    k = length old.records
+
+    rows : List Row
+    rows = rows_of false e
+
+    first_end : (a b : ℕ) → (a ≡ min a b) ⊎ (a ≡ max a b)
+    first_end a b = grind arith
+
+    second_end : (a b : ℕ) → (b ≡ min a b) ⊎ (b ≡ max a b)
+    second_end a b = grind arith
+
+    no_end : (w at : ℕ) → w ≢ low → w ≢ high → (at ≡ low) ⊎ (at ≡ high) → w ≡ at → ⊥
+    no_end w at not_low not_high (inl is) same = not_low (same ∙ is)
+    no_end w at not_low not_high (inr is) same = not_high (same ∙ is)
+
+    at_vertex : (w : ℕ) → (w ≡ low) ⊎ (w ≡ low → ⊥) → (w ≡ high) ⊎ (w ≡ high → ⊥) → chain_of new w ≡ links_at w k rows ++ chain_of old w
+    at_vertex w (inl is_low) (inl is_high) =
+        let same : e.from ≡ e.to = omega arith in
+        let here : w ≡ e.from = omega arith in
+        let least : min e.from e.to ≡ e.from = omega arith in
+        let most : max e.from e.to ≡ e.from = omega arith in
+        rw (here, least, most) (adds.loop same ∙ sym (ap (λ ls. ls ++ chain_of old e.from) (two_here k e.from e.len)))
+    at_vertex w (inl is_low) (inr not_high) =
+        let apart : u ≢ v = λ same. not_high (omega arith) in
+        let distinct : low ≢ high = λ same. not_high (is_low ∙ same) in
+        rw is_low (adds.smaller apart ∙ sym (ap (λ ls. ls ++ chain_of old low) (first_here k low high e.len distinct)))
+    at_vertex w (inr not_low) (inl is_high) =
+        let apart : u ≢ v = λ same. not_low (omega arith) in
+        let distinct : high ≢ low = λ same. not_low (is_high ∙ same) in
+        rw is_high (adds.greater apart ∙ sym (ap (λ ls. ls ++ chain_of old high) (second_here k low high e.len distinct)))
+    at_vertex w (inr not_low) (inr not_high) =
+        adds.others w (λ same. no_end w u not_low not_high (first_end u v) same) (λ same. no_end w v not_low not_high (second_end u v) same) ∙ sym (ap (λ ls. ls ++ chain_of old w) (neither_here k low high w e.len not_low not_high))
+
+-- one event more: the arc that was added last
+pub arc_more : (events : List Event) (e : Event) (old new : GraphData) → HasArcsOf true events old → AddsArc old new e.from e.to e.len → HasArcsOf true (events ++ e ∷ []) new
+arc_more events e old new has adds = rows_added true events e old new has (arc_adds old new e adds)
+
+-- or the edge
+pub edge_more : (events : List Event) (e : Event) (old new : GraphData) → HasArcsOf false events old → AddsEdge old new e.from e.to e.len → HasArcsOf false (events ++ e ∷ []) new
+edge_more events e old new has adds = rows_added false events e old new has (edge_adds old new e adds)
+
+-- all events, one by one
+arcs_lead : (done events : List Event) (old new : GraphData) → HasArcsOf true done old → ArcsLead old events new → HasArcsOf true (done ++ events) new
+arcs_lead done [] old new has same = rw (append-nil done, same) has
+arcs_lead done (e ∷ events) old new has run =
+    rw (← append_assoc done (e ∷ []) events) (arcs_lead (done ++ e ∷ []) events run.0 new (arc_more done e old run.0 has run.1) run.2)
+
+edges_lead : (done events : List Event) (old new : GraphData) → HasArcsOf false done old → EdgesLead old events new → HasArcsOf false (done ++ events) new
+edges_lead done [] old new has same = rw (append-nil done, same) has
+edges_lead done (e ∷ events) old new has run =
+    rw (← append_assoc done (e ∷ []) events) (edges_lead (done ++ e ∷ []) events run.0 new (edge_more done e old run.0 has run.1) run.2)
+
+-- from a new graph on
+pub arcs_made : (names : List (List ℕ)) (events : List Event) (g : GraphData) → ArcsLead (new_graph names) events g → HasArcsOf true events g
+arcs_made names events g run = arcs_lead [] events (new_graph names) g (new_has_none true names) run
+
+pub edges_made : (names : List (List ℕ)) (events : List Event) (g : GraphData) → EdgesLead (new_graph names) events g → HasArcsOf false events g
+edges_made names events g run = edges_lead [] events (new_graph names) g (new_has_none false names) run

@@ -1,0 +1,133 @@
+-- A graph with more records at the end is one, and keeps the chains that stay.
+use Rattle.std.proofs.Common.{◌≡◌, ◌≤◌, ◌<◌, ◌⊎◌, ℕ, Bool, true, ◌&&◌, List, [], ◌++◌, length, Option, Some, None, refl, ap, ◌∙◌, inl, inr, arith}
+use Rattle.std.specs.Prelude.{slice_get, nat_le}
+use Rattle.std.specs.Option.{option_map_or}
+use Rattle.std.specs.List.{list_all}
+use Rattle.std.proofs.lemmas.Bool.{and_parts, and_from, ltb-true, cases_lt}
+use Rattle.std.proofs.lemmas.List.{length-append}
+use Rattle.std.proofs.lemmas.List.Folds.{list_all-append}
+use Rattle.sgb_vec.specs.Limits.{most_vertices}
+use Rattle.sgb_graph.specs.Graphs.{GraphData, ends_of, links_of, chain_of}
+use Rattle.sgb_graph.specs.Sound.{IsGraph, chains_end, vertex_kinds, graph_kinds, chain_fits, utils_fit, lists_lead_to_vertices, vertex_fits, record_fits}
+use Rattle.sgb_graph.specs.Growth.{graph_data}
+use Rattle.sgb_graph.specs.declared.fields.Kind.{Kind}
+use Rattle.sgb_graph.specs.declared.fields.Vertex.{Vertex}
+use Rattle.sgb_graph.specs.declared.fields.ArcRec.{ArcRec}
+use Rattle.sgb_graph.proofs.TestLemmas.{at_each_below}
+use Rattle.sgb_graph.proofs.Lists.{list_all-get, list_all-weaker, list_all-both, list_all-range}
+use Rattle.sgb_graph.proofs.Fitting.{vertex_fits_in, record_fits_in, utils_fit_more, vertex_fits_more, record_fits_more}
+use Rattle.sgb_graph.proofs.Chains.{ends_none, ends_kept, links_kept, leads_kept, lead_within}
+
+-- what a graph has, part by part
+pub record HasParts (g : GraphData) : Type 0 where
+  pub few : nat_le (length g.vertices) most_vertices ≡ true
+  pub util : utils_fit (length g.vertices) (length g.records) (graph_kinds g.kinds) g.util ≡ true
+  pub vertices : list_all (vertex_fits_in (length g.vertices) (length g.records) g.kinds) g.vertices ≡ true
+  pub records : list_all (record_fits_in (length g.vertices) (length g.records) g.kinds) g.records ≡ true
+  pub ends : chains_end g.records ≡ true
+  pub leads : lists_lead_to_vertices g.vertices g.records ≡ true
+
+pub parts_of : (g : GraphData) → IsGraph g → HasParts g
+parts_of g is =
+    let fit = and_parts (utils_fit (length g.vertices) (length g.records) (graph_kinds g.kinds) g.util && list_all (vertex_fits g) g.vertices) (list_all (record_fits g) g.records) is.fields in
+    let own = and_parts (utils_fit (length g.vertices) (length g.records) (graph_kinds g.kinds) g.util) (list_all (vertex_fits g) g.vertices) fit.0 in
+    let sound = and_parts (chains_end g.records) (lists_lead_to_vertices g.vertices g.records) is.lists in
+    record { few = is.vertices_fit; util = own.0; vertices = own.1; records = fit.1; ends = sound.0; leads = sound.1 }
+
+pub graph_from_parts : (g : GraphData) → HasParts g → IsGraph g
+graph_from_parts g has = record {
+  vertices_fit = has.few;
+  fields = and_from (utils_fit (length g.vertices) (length g.records) (graph_kinds g.kinds) g.util && list_all (vertex_fits g) g.vertices) (list_all (record_fits g) g.records)
+      (and_from (utils_fit (length g.vertices) (length g.records) (graph_kinds g.kinds) g.util) (list_all (vertex_fits g) g.vertices) has.util has.vertices) has.records;
+  lists = and_from (chains_end g.records) (lists_lead_to_vertices g.vertices g.records) has.ends has.leads;
+}
+
+-- the way from a record, or from none, ends
+pub first_ends : (records : List ArcRec) (first : Option ℕ) → chains_end records ≡ true → chain_fits (length records) first ≡ true → ends_of records first ≡ true
+first_ends records None ends fits = ends_none (length records) records
+first_ends records (Some k) ends fits =
+    at_each_below (λ k. ends_of records (Some k)) (length records) ends k (ltb-true k (length records) fits)
+
+-- a vertex fits the graph, and its list leads to vertices
+abbrev pub is_good : ℕ → List Kind → List ArcRec → Vertex → Bool
+is_good n kinds records x = vertex_fits_in n (length records) kinds x && lead_within (length records) records x.arcs
+
+-- as the vertices of a graph do
+pub all_good : (g : GraphData) → HasParts g → list_all (is_good (length g.vertices) g.kinds g.records) g.vertices ≡ true
+all_good g has = list_all-both (vertex_fits_in (length g.vertices) (length g.records) g.kinds) (λ (x : Vertex). lead_within (length g.records) g.records x.arcs) g.vertices has.vertices has.leads
+
+-- more records leave a vertex good
+pub good_more : (n : ℕ) (kinds : List Kind) (records more : List ArcRec) (x : Vertex) → chains_end records ≡ true → is_good n kinds records x ≡ true → is_good n kinds (records ++ more) x ≡ true
+good_more n kinds records more x ends good =
+    let longer : length records ≤ length (records ++ more) = omega (arith, length-append records more) in
+    let parts = and_parts (vertex_fits_in n (length records) kinds x) (lead_within (length records) records x.arcs) good in
+    let start = and_parts (chain_fits (length records) x.arcs) (utils_fit n (length records) (vertex_kinds kinds) x.util) parts.0 in
+    let way = first_ends records x.arcs ends start.0 in
+    and_from (vertex_fits_in n (length (records ++ more)) kinds x) (lead_within (length (records ++ more)) (records ++ more) x.arcs)
+    (vertex_fits_more n (length records) (length (records ++ more)) kinds x longer parts.0)
+    (leads_kept (length (records ++ more)) records more x.arcs longer way parts.1)
+
+-- so all stay good
+pub all_good_more : (g : GraphData) (more : List ArcRec) → HasParts g → list_all (is_good (length g.vertices) g.kinds (g.records ++ more)) g.vertices ≡ true
+all_good_more g more has =
+    list_all-weaker (is_good (length g.vertices) g.kinds g.records) (is_good (length g.vertices) g.kinds (g.records ++ more)) g.vertices
+    (λ x good. good_more (length g.vertices) g.kinds g.records more x has.ends good) (all_good g has)
+
+-- the graph with other vertices, more records and another count
+abbrev pub grown : GraphData → ℕ → List Vertex → List ArcRec → GraphData
+grown g count vertices more = graph_data g.id count g.kinds g.util vertices (g.records ++ more)
+
+-- new records fit, and the ways from them end
+pub record NewFit (n : ℕ) (kinds : List Kind) (records more : List ArcRec) : Type 0 where
+  pub fit : list_all (record_fits_in n (length (records ++ more)) kinds) more ≡ true
+  pub ends : (k : ℕ) → length records ≤ k → k < length (records ++ more) → ends_of (records ++ more) (Some k) ≡ true
+
+-- it is a graph
+pub grown_is_graph : (g : GraphData) (count : ℕ) (vertices : List Vertex) (more : List ArcRec) → HasParts g → length vertices ≡ length g.vertices → list_all (is_good (length g.vertices) g.kinds (g.records ++ more)) vertices ≡ true → NewFit (length g.vertices) g.kinds g.records more → HasParts (grown g count vertices more)
+grown_is_graph g count vertices more has same good new = record {
+  few = rw same has.few;
+  util = rw same (utils_fit_more n m longer_m (graph_kinds g.kinds) g.util longer has.util);
+  vertices = rw same (list_all-weaker (is_good n g.kinds all) (vertex_fits_in n longer_m g.kinds) vertices (λ x h. (and_parts (vertex_fits_in n longer_m g.kinds x) (lead_within longer_m all x.arcs) h).0) good);
+  records = rw same (list_all-append (record_fits_in n longer_m g.kinds) g.records more
+      ∙ and_from (list_all (record_fits_in n longer_m g.kinds) g.records) (list_all (record_fits_in n longer_m g.kinds) more)
+      (list_all-weaker (record_fits_in n m g.kinds) (record_fits_in n longer_m g.kinds) g.records (λ r h. record_fits_more n m longer_m g.kinds r longer h) has.records) new.fit);
+  ends = list_all-range (λ k. ends_of all (Some k)) 0 longer_m (λ k below. end_at k (omega arith) (cases_lt k m));
+  leads = list_all-weaker (is_good n g.kinds all) (λ (x : Vertex). lead_within longer_m all x.arcs) vertices (λ x h. (and_parts (vertex_fits_in n longer_m g.kinds x) (lead_within longer_m all x.arcs) h).1) good;
+}
+  where
+    n : ℕ
+    n = length g.vertices
+
+    m : ℕ
+    m = length g.records
+
+    all : List ArcRec
+    all = g.records ++ more
+
+    longer_m : ℕ
+    longer_m = length all
+
+    longer : m ≤ longer_m
+    longer = omega (arith, length-append g.records more)
+
+    end_at : (k : ℕ) → k < longer_m → (k < m) ⊎ (m ≤ k) → ends_of all (Some k) ≡ true
+    end_at k below (inl old) = ends_kept longer_m g.records more (Some k) longer (at_each_below (λ k. ends_of g.records (Some k)) m has.ends k old)
+    end_at k below (inr late) = new.ends k late below
+
+-- the chain of a vertex that stays
+pub chain_kept : (g : GraphData) (count : ℕ) (vertices : List Vertex) (more : List ArcRec) (w : ℕ) → HasParts g → slice_get vertices w ≡ slice_get g.vertices w → chain_of (grown g count vertices more) w ≡ chain_of g w
+chain_kept g count vertices more w has same = by_vertex (slice_get g.vertices w) refl
+  where
+    longer : length g.records ≤ length (g.records ++ more)
+    longer = omega (arith, length-append g.records more)
+
+    by_vertex : (o : Option Vertex) → slice_get g.vertices w ≡ o → chain_of (grown g count vertices more) w ≡ chain_of g w
+    by_vertex None is = rw (same, is) refl
+    by_vertex (Some x) is =
+        let fits = list_all-get (vertex_fits_in (length g.vertices) (length g.records) g.kinds) g.vertices w x has.vertices is in
+        let start = (and_parts (chain_fits (length g.records) x.arcs) (utils_fit (length g.vertices) (length g.records) (vertex_kinds g.kinds) x.util) fits).0 in
+        rw (same, is) (links_kept (length (g.records ++ more)) g.records more x.arcs longer (first_ends g.records x.arcs has.ends start))
+
+-- the chain of a vertex by its first record
+pub chain_at : (g : GraphData) (w : ℕ) (x : Vertex) → slice_get g.vertices w ≡ Some x → chain_of g w ≡ links_of g.records x.arcs
+chain_at g w x is = ap (λ o. option_map_or (λ (v : Vertex). links_of g.records v.arcs) o []) is

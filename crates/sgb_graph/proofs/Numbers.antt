@@ -1,0 +1,234 @@
+-- Integers in the utility fields x, y, z of vertices.
+use Rattle.std.proofs.Common.{◌≡◌, ◌<◌, ◌+◌, ℕ, Option, Some, None, slice_get, option_map, zero, suc, ℤ, pos, true, false, List, [], ◌∷◌, ◌++◌, length, get_or, set, take, drop, map, refl, ap, sym, ◌∙◌, arith}
+use Rattle.std.specs.Option.{option_map_or}
+use Rattle.std.proofs.lemmas.Bool.{and_parts, and_from}
+use Rattle.std.proofs.lemmas.List.{set-get_or, length-map}
+use Rattle.std.proofs.lemmas.Option.{slice_get-map}
+use Rattle.sgb_graph.specs.Graphs.{GraphData, chain_of, links_of}
+use Rattle.sgb_graph.specs.Sound.{arc_kinds, graph_kinds, vertex_kinds, chain_fits, util_fits, utils_fit}
+use Rattle.sgb_graph.specs.Growth.{HoldNumbers, IsKept, at_place, is_number, number_or_zero, put_numbers, some_numbers, with_ints, with_number_kinds, with_numbers, with_some_numbers}
+use Rattle.sgb_graph.specs.declared.fields.Kind.{Kind}
+use Rattle.sgb_graph.specs.declared.fields.Kind.TheVariants.{I}
+use Rattle.sgb_graph.specs.declared.fields.Util.{Util}
+use Rattle.sgb_graph.specs.declared.fields.Util.TheVariants.{Nothing, Int, Vertex as VertexField, Str, Chain}
+use Rattle.sgb_graph.specs.declared.fields.Vertex.{Vertex}
+use Rattle.sgb_graph.proofs.Lists.{at_place-is_set, length-at_place, list_all-at_place, list_all-mapped, list_all-weaker, map-at_place, map-at_place_made, map-map, map-stays}
+use Rattle.sgb_graph.proofs.Fitting.{vertex_fits_in, record_fits_in}
+use Rattle.sgb_graph.proofs.Chains.{lead_within}
+use Rattle.sgb_graph.proofs.Growing.{HasParts, parts_of, graph_from_parts}
+
+-- 0 is put where there was no number
+pub zero_put : (fields : List Util) (k : ℕ) (u : Util) → k < length fields → u ≡ get_or fields k u → is_number u ≡ false → set fields k (Int (pos 0)) ≡ at_place number_or_zero k fields
+zero_put fields k u below here none = rw none at (at_place-is_set number_or_zero k fields u below here)
+
+-- a number stays
+pub number_kept : (fields : List Util) (k : ℕ) (u : Util) → k < length fields → u ≡ get_or fields k u → is_number u ≡ true → fields ≡ at_place number_or_zero k fields
+number_kept fields k u below here some =
+    sym (set-get_or fields k u) ∙ (ap (set fields k) (sym here) ∙ rw some at (at_place-is_set number_or_zero k fields u below here))
+
+-- the first i elements mapped, the others as they were
+abbrev pub mapped_front : {X : Type 0} → (X → X) → ℕ → List X → List X
+mapped_front f i xs = map f (take i xs) ++ drop i xs
+
+-- one more is mapped
+pub mapped_front-more : {X : Type 0} (f : X → X) (i : ℕ) (xs : List X) (d : X) → i < length xs → set (mapped_front f i xs) i (f (get_or (mapped_front f i xs) i d)) ≡ mapped_front f (i + 1) xs
+mapped_front-more f i [] d below = absurd (omega arith)
+mapped_front-more f zero (a ∷ xs) d below = refl
+mapped_front-more f (suc i) (a ∷ xs) d below =
+    let next : suc i + 1 ≡ suc (i + 1) = omega arith in
+    rw next (ap (λ ys. f a ∷ ys) (mapped_front-more f i xs d (omega arith)))
+
+-- a field of kind I is a number
+number_of_kind : (n m : ℕ) (u : Util) → util_fits n m I u ≡ true → is_number u ≡ true
+number_of_kind n m (Int i) e = refl
+number_of_kind n m Nothing e = e
+number_of_kind n m (VertexField r) e = e
+number_of_kind n m (Str s) e = e
+number_of_kind n m (Chain first) e = e
+
+-- what is put is one
+zero_fits : (n m : ℕ) (u : Util) → util_fits n m I (number_or_zero u) ≡ true
+zero_fits n m (Int i) = refl
+zero_fits n m Nothing = refl
+zero_fits n m (VertexField r) = refl
+zero_fits n m (Str s) = refl
+zero_fits n m (Chain first) = refl
+
+-- fields of which one becomes a number
+number_fits : (n m k : ℕ) (kinds : List Kind) (utils : List Util) → utils_fit n m kinds utils ≡ true → utils_fit n m (set kinds k I) (at_place number_or_zero k utils) ≡ true
+number_fits n m k [] [] e = e
+number_fits n m k [] (u ∷ utils) e = absurd cc
+number_fits n m k (a ∷ kinds) [] e = absurd cc
+number_fits n m zero (a ∷ kinds) (u ∷ utils) e =
+    and_from (util_fits n m I (number_or_zero u)) (utils_fit n m kinds utils) (zero_fits n m u) (and_parts (util_fits n m a u) (utils_fit n m kinds utils) e).1
+number_fits n m (suc k) (a ∷ kinds) (u ∷ utils) e =
+    let parts = and_parts (util_fits n m a u) (utils_fit n m kinds utils) e in
+    and_from (util_fits n m a u) (utils_fit n m (set kinds k I) (at_place number_or_zero k utils)) parts.0 (number_fits n m k kinds utils parts.1)
+
+-- fields of which one gets another number
+put_fits : (n m k : ℕ) (i : ℤ) (kinds : List Kind) (utils : List Util) → utils_fit n m kinds utils ≡ true → set kinds k I ≡ kinds → utils_fit n m kinds (set utils k (Int i)) ≡ true
+put_fits n m k i [] [] e is = e
+put_fits n m k i [] (u ∷ utils) e is = absurd cc
+put_fits n m k i (a ∷ kinds) [] e is = absurd cc
+put_fits n m zero i (a ∷ kinds) (u ∷ utils) e is =
+    let kind : I ≡ a = cc in
+    and_from (util_fits n m a (Int i)) (utils_fit n m kinds utils) (rw (← kind) refl) (and_parts (util_fits n m a u) (utils_fit n m kinds utils) e).1
+put_fits n m (suc k) i (a ∷ kinds) (u ∷ utils) e is =
+    let rest : set kinds k I ≡ kinds = cc in
+    let parts = and_parts (util_fits n m a u) (utils_fit n m kinds utils) e in
+    and_from (util_fits n m a u) (utils_fit n m kinds (set utils k (Int i))) parts.0 (put_fits n m k i kinds utils parts.1 rest)
+
+-- a field of kind I stays
+number_stays : (n m k : ℕ) (kinds : List Kind) (utils : List Util) → utils_fit n m kinds utils ≡ true → set kinds k I ≡ kinds → at_place number_or_zero k utils ≡ utils
+number_stays n m k [] [] e is = refl
+number_stays n m k [] (u ∷ utils) e is = absurd cc
+number_stays n m k (a ∷ kinds) [] e is = refl
+number_stays n m zero (a ∷ kinds) (u ∷ utils) e is =
+    let kind : a ≡ I = cc in
+    let fits = rw kind at (and_parts (util_fits n m a u) (utils_fit n m kinds utils) e).0 in
+    rw (number_of_kind n m u fits) refl
+number_stays n m (suc k) (a ∷ kinds) (u ∷ utils) e is =
+    let rest : set kinds k I ≡ kinds = cc in
+    ap (λ us. u ∷ us) (number_stays n m k kinds utils (and_parts (util_fits n m a u) (utils_fit n m kinds utils) e).1 rest)
+
+-- the kinds of vertices, and the others, where the fields x, y, z hold integers
+record SplitKinds (kinds : List Kind) : Type 0 where
+  vertices : vertex_kinds (with_number_kinds kinds) ≡ with_number_kinds (vertex_kinds kinds)
+  arcs : arc_kinds (with_number_kinds kinds) ≡ arc_kinds kinds
+  own : graph_kinds (with_number_kinds kinds) ≡ graph_kinds kinds
+
+split_kinds : (kinds : List Kind) → SplitKinds kinds
+split_kinds [] = record { vertices = refl; arcs = refl; own = refl }
+split_kinds (a ∷ []) = record { vertices = refl; arcs = refl; own = refl }
+split_kinds (a ∷ b ∷ []) = record { vertices = refl; arcs = refl; own = refl }
+split_kinds (a ∷ b ∷ c ∷ []) = record { vertices = refl; arcs = refl; own = refl }
+split_kinds (a ∷ b ∷ c ∷ d ∷ []) = record { vertices = refl; arcs = refl; own = refl }
+split_kinds (a ∷ b ∷ c ∷ d ∷ e ∷ []) = record { vertices = refl; arcs = refl; own = refl }
+split_kinds (a ∷ b ∷ c ∷ d ∷ e ∷ f ∷ kinds) = record { vertices = refl; arcs = refl; own = refl }
+
+-- they hold integers then
+hold_then : (kinds : List Kind) → HoldNumbers (with_number_kinds kinds)
+hold_then [] = record { x = refl; y = refl; z = refl }
+hold_then (a ∷ []) = record { x = refl; y = refl; z = refl }
+hold_then (a ∷ b ∷ []) = record { x = refl; y = refl; z = refl }
+hold_then (a ∷ b ∷ c ∷ []) = record { x = refl; y = refl; z = refl }
+hold_then (a ∷ b ∷ c ∷ d ∷ []) = record { x = refl; y = refl; z = refl }
+hold_then (a ∷ b ∷ c ∷ d ∷ e ∷ []) = record { x = refl; y = refl; z = refl }
+hold_then (a ∷ b ∷ c ∷ d ∷ e ∷ f ∷ kinds) = record { x = refl; y = refl; z = refl }
+
+-- so do the kinds of vertices
+hold_in_front : (kinds : List Kind) → HoldNumbers kinds → HoldNumbers (vertex_kinds kinds)
+hold_in_front [] h = record { x = refl; y = refl; z = refl }
+hold_in_front (a ∷ []) h = record { x = refl; y = refl; z = refl }
+hold_in_front (a ∷ b ∷ []) h = record { x = refl; y = refl; z = refl }
+hold_in_front (a ∷ b ∷ c ∷ []) h = record { x = refl; y = refl; z = refl }
+hold_in_front (a ∷ b ∷ c ∷ d ∷ []) h = record { x = h.x; y = refl; z = refl }
+hold_in_front (a ∷ b ∷ c ∷ d ∷ e ∷ []) h = record { x = h.x; y = h.y; z = refl }
+hold_in_front (a ∷ b ∷ c ∷ d ∷ e ∷ f ∷ kinds) h = record { x = ap (take 6) h.x; y = ap (take 6) h.y; z = ap (take 6) h.z }
+
+-- where the fields hold integers, every vertex has its numbers
+pub numbers_stay : (g : GraphData) → IsKept g → HoldNumbers g.kinds → map with_some_numbers g.vertices ≡ g.vertices
+numbers_stay g kept hold =
+    map-stays (vertex_fits_in n m g.kinds) with_some_numbers g.vertices (λ x fits. stays x (and_parts (chain_fits m x.arcs) (utils_fit n m front x.util) fits).1) (parts_of g kept.graph).vertices
+  where
+    n : ℕ
+    n = length g.vertices
+
+    m : ℕ
+    m = length g.records
+
+    front : List Kind
+    front = vertex_kinds g.kinds
+
+    at : HoldNumbers front
+    at = hold_in_front g.kinds hold
+
+    stays : (x : Vertex) → utils_fit n m front x.util ≡ true → with_some_numbers x ≡ x
+    stays x fits =
+        let third = number_stays n m 3 front x.util fits at.x in
+        let fourth = number_stays n m 4 front x.util fits at.y in
+        let fifth = number_stays n m 5 front x.util fits at.z in
+        ap (λ us. record x { util = us })
+        (ap (λ us. at_place number_or_zero 5 (at_place number_or_zero 4 us)) third ∙ (ap (at_place number_or_zero 5) fourth ∙ fifth))
+
+-- a vertex with numbers in its fields fits
+some_fit : (n m : ℕ) (kinds : List Kind) (x : Vertex) → vertex_fits_in n m kinds x ≡ true → vertex_fits_in n m (with_number_kinds kinds) (with_some_numbers x) ≡ true
+some_fit n m kinds x fits =
+    let front = vertex_kinds kinds in
+    let parts = and_parts (chain_fits m x.arcs) (utils_fit n m front x.util) fits in
+    let third = number_fits n m 3 front x.util parts.1 in
+    let fourth = number_fits n m 4 (set front 3 I) (at_place number_or_zero 3 x.util) third in
+    let fifth = number_fits n m 5 (set (set front 3 I) 4 I) (at_place number_or_zero 4 (at_place number_or_zero 3 x.util)) fourth in
+    and_from (chain_fits m x.arcs) (utils_fit n m (vertex_kinds (with_number_kinds kinds)) (with_some_numbers x).util) parts.0 (rw (split_kinds kinds).vertices fifth)
+
+-- and with other numbers too
+numbers_fit : (n m : ℕ) (kinds : List Kind) (x y z : ℤ) (v : Vertex) → HoldNumbers kinds → vertex_fits_in n m kinds v ≡ true → vertex_fits_in n m kinds (with_numbers x y z v) ≡ true
+numbers_fit n m kinds x y z v hold fits =
+    let front = vertex_kinds kinds in
+    let at = hold_in_front kinds hold in
+    let parts = and_parts (chain_fits m v.arcs) (utils_fit n m front v.util) fits in
+    let third = put_fits n m 3 x front v.util parts.1 at.x in
+    let fourth = put_fits n m 4 y front (set v.util 3 (Int x)) third at.y in
+    and_from (chain_fits m v.arcs) (utils_fit n m front (with_numbers x y z v).util) parts.0 (put_fits n m 5 z front (set (set v.util 3 (Int x)) 4 (Int y)) fourth at.z)
+
+-- the graph with these numbers is one
+pub ints_kept : (g : GraphData) (v : ℕ) (x y z : ℤ) → IsKept g → IsKept (with_ints g v x y z)
+ints_kept g v x y z kept = record { graph = graph_from_parts (with_ints g v x y z) parts; count = kept.count }
+  where
+    has : HasParts g
+    has = parts_of g kept.graph
+
+    n : ℕ
+    n = length g.vertices
+
+    m : ℕ
+    m = length g.records
+
+    kinds : List Kind
+    kinds = with_number_kinds g.kinds
+
+    some : List Vertex
+    some = map with_some_numbers g.vertices
+
+    all : List Vertex
+    all = at_place (with_numbers x y z) v some
+
+    same : length all ≡ n
+    same = length-at_place (with_numbers x y z) v some ∙ length-map g.vertices with_some_numbers
+
+    parts : HasParts (with_ints g v x y z)
+    parts = record {
+      few = rw same has.few;
+      util = rw (same, (split_kinds g.kinds).own) has.util;
+      vertices = rw same (list_all-at_place (vertex_fits_in n m kinds) (with_numbers x y z) v some (λ w fits. numbers_fit n m kinds x y z w (hold_then g.kinds) fits)
+          (list_all-mapped (vertex_fits_in n m g.kinds) (vertex_fits_in n m kinds) with_some_numbers g.vertices (λ w fits. some_fit n m g.kinds w fits) has.vertices));
+      records = rw same (list_all-weaker (record_fits_in n m g.kinds) (record_fits_in n m kinds) g.records (λ r h. rw (split_kinds g.kinds).arcs h) has.records);
+      ends = has.ends;
+      leads = list_all-at_place (λ (w : Vertex). lead_within m g.records w.arcs) (with_numbers x y z) v some (λ w h. h)
+          (list_all-mapped (λ (w : Vertex). lead_within m g.records w.arcs) (λ (w : Vertex). lead_within m g.records w.arcs) with_some_numbers g.vertices (λ w h. h) has.leads);
+    }
+
+-- its names and fields
+pub ints_names : (g : GraphData) (v : ℕ) (x y z : ℤ) → map (λ w. w.name) (with_ints g v x y z).vertices ≡ map (λ w. w.name) g.vertices
+ints_names g v x y z =
+    map-at_place (λ w. w.name) (with_numbers x y z) v (map with_some_numbers g.vertices) (λ w. refl) ∙ map-map (λ w. w.name) with_some_numbers g.vertices
+
+pub ints_fields : (g : GraphData) (v : ℕ) (x y z : ℤ) → map (λ w. w.util) (with_ints g v x y z).vertices ≡ at_place (put_numbers x y z) v (map (λ w. some_numbers w.util) g.vertices)
+ints_fields g v x y z =
+    map-at_place_made (λ w. w.util) (with_numbers x y z) (put_numbers x y z) v (map with_some_numbers g.vertices) (λ w. refl)
+    ∙ ap (at_place (put_numbers x y z) v) (map-map (λ w. w.util) with_some_numbers g.vertices)
+
+-- its chains, which depend on the first records alone
+chain_by_first : (g : GraphData) (w : ℕ) → chain_of g w ≡ option_map_or (links_of g.records) (slice_get (map (λ x. x.arcs) g.vertices) w) []
+chain_by_first g w =
+    by_vertex (slice_get g.vertices w) ∙ ap (λ o. option_map_or (links_of g.records) o []) (sym (slice_get-map (λ x. x.arcs) g.vertices w))
+  where
+    by_vertex : (o : Option Vertex) → option_map_or (λ (x : Vertex). links_of g.records x.arcs) o [] ≡ option_map_or (links_of g.records) (option_map (λ (x : Vertex). x.arcs) o) []
+    by_vertex None = refl
+    by_vertex (Some x) = refl
+
+pub ints_chains : (g : GraphData) (v : ℕ) (x y z : ℤ) (w : ℕ) → chain_of (with_ints g v x y z) w ≡ chain_of g w
+ints_chains g v x y z w =
+    let firsts = map-at_place (λ (u : Vertex). u.arcs) (with_numbers x y z) v (map with_some_numbers g.vertices) (λ u. refl) ∙ map-map (λ (u : Vertex). u.arcs) with_some_numbers g.vertices in
+    chain_by_first (with_ints g v x y z) w
+    ∙ (ap (λ fs. option_map_or (links_of g.records) (slice_get fs w) []) firsts ∙ sym (chain_by_first g w))

@@ -1,0 +1,9 @@
+use Rattle.std.proofs.Common.{Some, ◌+◌, length, ap, arith}
+use Rattle.sgb_graph.specs.Growth.{with_arcs}
+use Rattle.sgb_graph.proofs.Lists.{length-at_place}
+use Rattle.sgb_graph.proofs.graphs.adding.put_edge.Goals as goal
+
+pub set_first-requires-2 : goal.set_first-requires-2
+set_first-requires-2 c =
+    let kept = length-at_place (with_arcs (Some (c.len-number.result + 1))) c.max-high.result c.args.vertices.now.items in
+    omega (arith, kept, ap length c.set_first.ensures)

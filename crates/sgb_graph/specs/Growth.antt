@@ -1,0 +1,163 @@
+-- How a graph is made and grows, step by step [GB_GRAPH, gb_new_graph, gb_new_arc and gb_new_edge].
+use Rattle.std.specs.Prelude.{◌≡◌, ◌≢◌, ◌≤◌, ◌+◌, ◌++◌, ◌^◌, ◌==◌, ℕ, zero, suc, ℤ, pos, min, max, List, [], ◌∷◌, length, map, codes, decimal, Option, Some, None, slice_get, slice_set, Bool, true, false, if◌then◌else◌}
+use Rattle.std.specs.Option.{option_and_then}
+use Rattle.sgb_graph.specs.Graphs.{GraphData, chain_of}
+use Rattle.sgb_graph.specs.Events.{Event, Row}
+use Rattle.sgb_graph.specs.Made.{no_kinds, no_fields}
+use Rattle.sgb_graph.specs.Sound.{IsGraph, arc_kinds}
+use Rattle.sgb_graph.specs.declared.fields.Kind.{Kind}
+use Rattle.sgb_graph.specs.declared.fields.Kind.TheVariants.{Z, I}
+use Rattle.sgb_graph.specs.declared.fields.Ref.TheVariants.{At}
+use Rattle.sgb_graph.specs.declared.fields.Util.{Util}
+use Rattle.sgb_graph.specs.declared.fields.Util.TheVariants.{Nothing, Int, Vertex as VertexField, Str, Chain}
+use Rattle.sgb_graph.specs.declared.fields.Vertex.{Vertex}
+use Rattle.sgb_graph.specs.declared.fields.ArcRec.{ArcRec}
+use Rattle.sgb_graph.specs.declared.fields.Link.{Link}
+
+-- the graph of these parts
+abbrev pub graph_data : List ℕ → ℕ → List Kind → List Util → List Vertex → List ArcRec → GraphData
+graph_data text count fields own nodes arcs =
+    record { id = text; m = count; kinds = fields; util = own; vertices = nodes; records = arcs }
+
+-- parts that a graph keeps: they make up a graph, whose number of arcs leaves room for more
+pub record IsKept (g : GraphData) : Type 0 where
+  pub graph : IsGraph g
+  pub count : g.m ≤ 10 ^ 18 + length g.records
+
+-- the id of a new graph of n vertices
+abbrev pub new_id : ℕ → List ℕ
+new_id n = codes "gb_new_graph(" ++ decimal n ++ codes ")"
+
+-- a vertex with this name, no arcs and no utility field
+abbrev pub new_vertex : List ℕ → Vertex
+new_vertex text = record { name = text; arcs = None; util = no_fields }
+
+-- the graph of these names, with no arcs and no utility fields
+abbrev pub new_graph : List (List ℕ) → GraphData
+new_graph names = graph_data (new_id (length names)) 0 no_kinds no_fields (map new_vertex names) []
+
+-- the list with the element at this place changed
+abbrev pub at_place : {X : Type 0} → (X → X) → ℕ → List X → List X
+at_place f k [] = []
+at_place f zero (x ∷ xs) = f x ∷ xs
+at_place f (suc k) (x ∷ xs) = x ∷ at_place f k xs
+
+-- the vertex with this first record of its list
+abbrev pub with_arcs : Option ℕ → Vertex → Vertex
+with_arcs first x = record x { arcs = first }
+
+-- the first record of the list of vertex v
+abbrev pub first_arc : List Vertex → ℕ → Option ℕ
+first_arc vertices v = option_and_then (λ x. x.arcs) (slice_get vertices v)
+
+-- a record that leads to v, before the one given, with no utility fields
+abbrev pub arc_record : ℕ → Option ℕ → ℤ → ArcRec
+arc_record v after far = record { tip = At v; next = after; len = far; a = Nothing; b = Nothing }
+
+-- the arc of record number k to v
+abbrev pub link : ℕ → ℕ → ℤ → Link
+link k v far = record { number = k; tip = v; len = far }
+
+-- what the record of an arc from u to v says
+abbrev pub row : ℕ → ℕ → ℤ → Row
+row u v far = record { start = u; tip = v; len = far }
+
+-- the utility fields of arcs hold nothing
+abbrev pub HasPlainArcs : GraphData → Type 0
+HasPlainArcs g = arc_kinds g.kinds ≡ Z ∷ Z ∷ []
+
+-- the new graph is the old one but for its arcs
+pub record KeepsAllButArcs (old new : GraphData) : Type 0 where
+  pub id : new.id ≡ old.id
+  pub kinds : new.kinds ≡ old.kinds
+  pub util : new.util ≡ old.util
+  pub size : length new.vertices ≡ length old.vertices
+  pub names : map (λ x. x.name) new.vertices ≡ map (λ x. x.name) old.vertices
+  pub fields : map (λ x. x.util) new.vertices ≡ map (λ x. x.util) old.vertices
+
+-- the new graph has one arc more, from u to v: it is the last record and the first on the list of u
+pub record AddsArc (old new : GraphData) (u v : ℕ) (len : ℤ) : Type 0 where
+  pub count : new.m ≡ old.m + 1
+  pub records : new.records ≡ old.records ++ arc_record v (first_arc old.vertices u) len ∷ []
+  pub chain : chain_of new u ≡ link (length old.records) v len ∷ chain_of old u
+  pub others : (w : ℕ) → w ≢ u → chain_of new w ≡ chain_of old w
+  pub rest : KeepsAllButArcs old new
+
+-- what follows the lower record, number k, of a new edge: where it is a loop, the higher one
+abbrev pub after_lower : ℕ → List Vertex → ℕ → ℕ → Option ℕ
+after_lower k vertices u v = if u == v then Some (k + 1) else first_arc vertices (min u v)
+
+-- the vertices, with the records k and k + 1 as the first ones of the two ends of an edge
+abbrev pub with_ends : ℕ → ℕ → ℕ → List Vertex → List Vertex
+with_ends k low high vertices = at_place (with_arcs (Some k)) low (at_place (with_arcs (Some (k + 1))) high vertices)
+
+-- the new graph has one edge more, between u and v: it is the last two records. The lower one is the first on
+-- the list of the smaller end, the higher one on that of the other; on the list of a loop it follows the lower
+pub record AddsEdge (old new : GraphData) (u v : ℕ) (len : ℤ) : Type 0 where
+  pub count : new.m ≡ old.m + 2
+  pub records : new.records ≡ old.records
+      ++ arc_record (max u v) (after_lower (length old.records) old.vertices u v) len ∷ arc_record (min u v) (first_arc old.vertices (max u v)) len ∷ []
+  pub loop : u ≡ v → chain_of new u ≡ link (length old.records) u len ∷ link (length old.records + 1) u len ∷ chain_of old u
+  pub smaller : u ≢ v → chain_of new (min u v) ≡ link (length old.records) (max u v) len ∷ chain_of old (min u v)
+  pub greater : u ≢ v → chain_of new (max u v) ≡ link (length old.records + 1) (min u v) len ∷ chain_of old (max u v)
+  pub others : (w : ℕ) → w ≢ u → w ≢ v → chain_of new w ≡ chain_of old w
+  pub rest : KeepsAllButArcs old new
+
+-- the value is an integer
+abbrev pub is_number : Util → Bool
+is_number (Int i) = true
+is_number Nothing = false
+is_number (VertexField r) = false
+is_number (Str s) = false
+is_number (Chain first) = false
+
+-- an integer stays, anything else becomes 0
+abbrev pub number_or_zero : Util → Util
+number_or_zero util = if is_number util then util else Int (pos 0)
+
+-- the utility fields of a vertex with a number in each of x, y, z (places 3, 4, 5): 0 where there was none
+abbrev pub some_numbers : List Util → List Util
+some_numbers fields = at_place number_or_zero 5 (at_place number_or_zero 4 (at_place number_or_zero 3 fields))
+
+-- the utility fields of a vertex with these numbers in x, y, z
+abbrev pub put_numbers : ℤ → ℤ → ℤ → List Util → List Util
+put_numbers x y z fields = slice_set (slice_set (slice_set fields 3 (Int x)) 4 (Int y)) 5 (Int z)
+
+-- the vertex with such fields
+abbrev pub with_some_numbers : Vertex → Vertex
+with_some_numbers v = record v { util = some_numbers v.util }
+
+abbrev pub with_numbers : ℤ → ℤ → ℤ → Vertex → Vertex
+with_numbers x y z v = record v { util = put_numbers x y z v.util }
+
+-- the kinds with the fields x, y, z of vertices holding integers
+abbrev pub with_number_kinds : List Kind → List Kind
+with_number_kinds kinds = slice_set (slice_set (slice_set kinds 3 I) 4 I) 5 I
+
+-- they hold integers already
+pub record HoldNumbers (kinds : List Kind) : Type 0 where
+  pub x : slice_set kinds 3 I ≡ kinds
+  pub y : slice_set kinds 4 I ≡ kinds
+  pub z : slice_set kinds 5 I ≡ kinds
+
+-- the graph with these numbers in the fields x, y, z of vertex v, and 0 in those of other vertices that have no
+-- number there
+abbrev pub with_ints : GraphData → ℕ → ℤ → ℤ → ℤ → GraphData
+with_ints g v x y z = record g {
+  kinds = with_number_kinds g.kinds;
+  vertices = at_place (with_numbers x y z) v (map with_some_numbers g.vertices);
+}
+
+-- the graph with another id
+abbrev pub with_id : List ℕ → GraphData → GraphData
+with_id text g = record g { id = text }
+
+-- new arcs, one for each event in order, lead from the old graph to the new one
+abbrev pub ArcsLead : GraphData → List Event → GraphData → Type 0
+ArcsLead old [] new = new ≡ old
+ArcsLead old (e ∷ events) new = (next : GraphData) × AddsArc old next e.from e.to e.len × ArcsLead next events new
+
+-- the same with new edges
+abbrev pub EdgesLead : GraphData → List Event → GraphData → Type 0
+EdgesLead old [] new = new ≡ old
+EdgesLead old (e ∷ events) new = (next : GraphData) × AddsEdge old next e.from e.to e.len × EdgesLead next events new

@@ -1,0 +1,128 @@
+ghost use Rattle.std.specs.Prelude.{◌≡◌, ◌≤◌, ◌+◌, [], ◌++◌, ◌↔◌, length, IsTrue, IfOk, IsErrOf, IsOkUnless};
+ghost use Rattle.std.specs.Fmt.{signed_decimal};
+ghost use Rattle.sgb_vec.specs.Names.{IsTextByte};
+ghost use Rattle.sgb_graph.specs.IdTexts.{is_id_text};
+ghost use Rattle.sgb_graph.specs.Ids.{most_id_bytes, IsId};
+
+use arrayvec::ArrayVec;
+use itoa::Buffer;
+use sgb_vec::Panic;
+use std::marker::Model;
+
+// An id has at most this many bytes.
+const MOST_BYTES: usize = 160;
+
+/// The id of a graph: at most 160 bytes of printable ASCII (32 to 126) without `"` and `\` (GB_GRAPH,
+/// id field). A value of fixed size, which contracts see as the list of its bytes.
+#[derive(Drop)]
+pub struct Id {
+    bytes: ArrayVec<u8, MOST_BYTES>,
+}
+
+impl Model for Id {
+    ghost use Rattle.std.specs.Prelude.{List, ℕ};
+    ghost use Rattle.sgb_graph.specs.Ids.{IsId};
+
+    ghost Value = { List ℕ };
+
+    ghost view = { λ id. id.bytes.items };
+
+    ghost invariant = { λ id. IsId id.bytes.items };
+}
+
+impl Id {
+    /// The id of these bytes.
+    ///
+    /// `Syntax` where they are no id: above 160 bytes, or one that is not printable ASCII (32 to 126) or is
+    /// `"` or `\`.
+    pub fn new(bytes: &[u8]) -> Result<Id, Panic>
+        ensures ok { IfOk result (λ id. (id ≡ bytes.now) × IsId bytes.now) }
+        ensures refused { IsErrOf result Panic.Syntax ↔ ¬ IsId bytes.now }
+        ensures err { IsOkUnless result Panic.Syntax }
+    {
+        if !bytes.iter().all(|byte| is_id_byte(*byte)) {
+            return Err(Panic::Syntax);
+        }
+        let mut id = ArrayVec::new();
+        match id.try_extend_from_slice(bytes) {
+            Ok(()) => Ok(Id { bytes: id }),
+            Err(_) => Err(Panic::Syntax),
+        }
+    }
+
+    /// The bytes of the id.
+    pub fn bytes(&self) -> &[u8]
+        ensures value { result.now ≡ self.now }
+        ensures id { IsId self.now }
+    {
+        self.bytes.as_slice()
+    }
+}
+
+/// Builds the id of a generated graph from texts and numbers (GB_GRAPH, id field), in a value of fixed size.
+/// Contracts see it as the list of the bytes so far.
+#[derive(Drop)]
+pub struct IdWriter {
+    bytes: ArrayVec<u8, MOST_BYTES>,
+}
+
+impl Model for IdWriter {
+    ghost use Rattle.std.specs.Prelude.{List, ℕ};
+    ghost use Rattle.sgb_graph.specs.Ids.{IsId};
+
+    ghost Value = { List ℕ };
+
+    ghost view = { λ writer. writer.bytes.items };
+
+    ghost invariant = { λ writer. IsId writer.bytes.items };
+}
+
+impl IdWriter {
+    /// No bytes yet.
+    pub fn new() -> IdWriter
+        ensures { result ≡ [] }
+    {
+        IdWriter {
+            bytes: ArrayVec::new(),
+        }
+    }
+
+    /// Puts a text behind the bytes so far; it has to have room, and bytes that an id may have.
+    pub fn push_text(&mut self, text: &[u8])
+        requires room { length self.old + length text.now ≤ most_id_bytes }
+        requires text { IsTrue (is_id_text text.now) }
+        ensures { self.new ≡ self.old ++ text.now }
+    {
+        let _written = self.bytes.try_extend_from_slice(text);
+    }
+
+    /// Puts a number in decimal behind the bytes so far; it takes at most 20 of them.
+    pub fn push_number(&mut self, number: i64)
+        requires { length self.old + 20 ≤ most_id_bytes }
+        ensures bytes { self.new ≡ self.old ++ signed_decimal number }
+        ensures short { length self.new ≤ length self.old + 20 }
+    {
+        let mut digits = Buffer::new();
+        let _written = self
+            .bytes
+            .try_extend_from_slice(digits.format(number).as_bytes());
+    }
+
+    /// The id of these bytes.
+    pub fn id(self) -> Id
+        ensures { result ≡ self }
+    {
+        let IdWriter { bytes } = self;
+        Id { bytes }
+    }
+}
+
+// Whether the byte may stand in an id.
+fn is_id_byte(byte: u8) -> bool
+    ensures { IsTrue result ↔ IsTextByte byte }
+{
+    b' ' <= byte && byte <= b'~' && byte != b'"' && byte != b'\\'
+}
+
+#[cfg(test)]
+mod tests;

@@ -1,0 +1,62 @@
+ghost use Rattle.std.specs.Prelude.{◌≡◌, [], ◌∷◌, ◌++◌, length, OnOk, OnErr, IfErr};
+
+use sgb_vec::Text;
+use std::alloc::Global;
+use std::marker::Model;
+
+/// The names of a graph's vertices, in their order. Contracts see them as a list of texts.
+#[derive(Drop)]
+pub struct Names {
+    texts: Vec<Text>,
+}
+
+impl Model for Names {
+    ghost use Rattle.std.specs.Prelude.{List, ℕ};
+
+    ghost Value = { List (List ℕ) };
+
+    ghost view = { λ names. names.texts.items };
+}
+
+impl Names {
+    /// No names. They keep the allocator, and take no memory yet.
+    pub fn new(alloc: Global) -> Names
+        ensures { result ≡ [] }
+    {
+        Names {
+            texts: Vec::new(alloc),
+        }
+    }
+
+    /// Puts one more name behind the others.
+    ///
+    /// An error is want of memory: it hands the name back, and the names stay as they were.
+    pub fn push(&mut self, name: Text) -> Result<(), Text>
+        ensures ok { OnOk result (self.new ≡ self.old ++ name ∷ []) }
+        ensures err { OnErr result (self.new ≡ self.old) }
+        ensures returned { IfErr result (λ text. text ≡ name) }
+    {
+        match self.texts.push(name) {
+            Ok(()) => Ok(()),
+            Err(refused) => Err(refused.value),
+        }
+    }
+
+    /// The number of names.
+    pub fn len(&self) -> usize
+        ensures { result ≡ length self.now }
+    {
+        self.texts.len()
+    }
+
+    // The names one by one.
+    pub(crate) fn into_texts(self) -> Vec<Text>
+        ensures { result.items ≡ self }
+    {
+        let Names { texts } = self;
+        texts
+    }
+}
+
+#[cfg(test)]
+mod tests;
