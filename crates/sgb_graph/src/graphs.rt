@@ -102,7 +102,7 @@ impl Graph {
         requires { v < length self.now.vertices }
         ensures { slice_get (map (λ x. x.name) self.now.vertices) v ≡ Some result.now }
     {
-        &self.vertices[v as usize].name
+        &self.vertex(v).name
     }
 
     /// What the utility fields hold: those of vertices u v w x y z, of arcs a b, of the graph uu vv ww xx yy zz.

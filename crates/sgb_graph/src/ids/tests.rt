@@ -1,4 +1,4 @@
-use super::Id;
+use super::{Id, IdWriter};
 use sgb_vec::Panic;
 
 fn is_id(bytes: &[u8]) -> bool {
@@ -22,4 +22,21 @@ fn an_id_has_printable_bytes_but_two(rt: HostRuntime) {
 fn an_id_has_at_most_160_bytes(rt: HostRuntime) {
     assert!(rt; is_id(&[b'a'; 160]));
     assert!(rt; is_refused(&[b'a'; 161]));
+}
+
+// The id of two numbers between texts.
+fn written(first: i64, second: i64) -> Id {
+    let mut writer = IdWriter::new();
+    writer.push_text(b"pair(");
+    writer.push_number(first);
+    writer.push_text(b",");
+    writer.push_number(second);
+    writer.push_text(b")");
+    writer.id()
+}
+
+#[test]
+fn numbers_are_written_in_decimal(rt: HostRuntime) {
+    let id = written(-9_223_372_036_854_775_808, 70);
+    assert!(rt; id.bytes() == b"pair(-9223372036854775808,70)".as_slice());
 }
