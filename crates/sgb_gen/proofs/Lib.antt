@@ -1,6 +1,22 @@
 -- Lemmas that the proofs of sgb_gen share, and worked examples.
 pub mod Norms
+pub mod AllVectors
+pub mod Completions
+pub mod DisplacementWalk
+pub mod FirstEntries
+pub mod NextSignings
+pub mod NextVectors
+pub mod Parts
 pub mod Riders
 pub mod Destinations
 pub mod Shifts
+pub mod AddedEvents
+pub mod AcceptedBoards
+pub mod Reaches
+pub mod BoardEvents
+pub mod FamilyWalks
+pub mod DisplacementLengths
 pub mod Examples
+pub mod Vertices
+pub mod Places
+pub mod WrapBits

@@ -2,7 +2,9 @@
 pub mod Limits
 pub mod Families
 pub mod Displacements
+pub mod LaterDisplacements
 pub mod Moves
+pub mod Additions
 pub mod Boards
 pub mod Simplexes
 pub mod Subsets

@@ -1,8 +1,13 @@
 //! The generators of GB_BASIC whose vertices are vectors: board, simplex and subsets.
 #![tactic(auto)]
 
+mod boards;
+mod displacements;
+mod families;
 mod laws;
+mod moves;
 
+pub use boards::Board;
 pub use laws::{
     displacements_have_their_norm, moves_stay_on_board, riders_stop, shifts_stay_in_sum,
 };

@@ -2,6 +2,7 @@
 pub mod BoardSizes
 pub mod BoxOrder
 pub mod BoxPlaces
+pub mod BoxRanks
 pub mod BoxSuccessors
 pub mod Examples
 pub mod NameReading

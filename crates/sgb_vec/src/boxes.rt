@@ -1,8 +1,9 @@
-ghost use Rattle.std.specs.Prelude.{◌≡◌, ◌+◌, ◌<◌, ◌≤◌, ◌↔◌, ℕ, length, replicate, Contains, IsTrue, IfSome, IfNone, slice_index, nat_lt, if◌then◌else◌};
+ghost use Rattle.std.specs.Prelude.{◌≡◌, ◌+◌, ◌<◌, ◌≤◌, ◌↔◌, ℕ, length, replicate, Contains, IsTrue, IfSome, IfNone, Some, slice_index, slice_get, nat_lt, if◌then◌else◌};
 ghost use Rattle.std.specs.Bool.{OnTrue, OnFalse};
 ghost use Rattle.std.specs.List.{AllZip, list_all, zip};
 ghost use Rattle.sgb_vec.specs.Limits.{most_vertices};
 ghost use Rattle.sgb_vec.specs.Boxes.{box, product_of};
+ghost use Rattle.sgb_vec.specs.Lexicographic.{IsBelow};
 ghost use Rattle.sgb_vec.specs.Order.{IsNext, IsLast};
 
 use crate::families::{Family, Vector};
@@ -47,6 +48,14 @@ impl BoxFamily {
         };
         let count = vector_count(sizes).ok_or(Panic::VeryBad)?;
         Ok(BoxFamily { sizes: kept, count })
+    }
+
+    /// The place of a member among the vectors, counted from 0. It is computed, with no search.
+    pub fn place_of(&self, vector: &[u32]) -> u32
+        requires { IsBelow vector.now self.now }
+        ensures { slice_get (box self.now) result ≡ Some vector.now }
+    {
+        place_among(self.sizes.as_slice(), vector)
     }
 }
 
@@ -114,6 +123,19 @@ fn pairs_below(entries: &[u32], sizes: &[u32]) -> bool
     ensures { result ≡ list_all (λ p. nat_lt p.0 p.1) (zip entries.now sizes.now) }
 {
     entries.iter().zip(sizes).all(|(x, s)| *x < *s)
+}
+
+// The place of a vector among those of the box of these sizes.
+fn place_among(sizes: &[u32], vector: &[u32]) -> u32
+    requires few { product_of sizes.now ≤ most_vertices }
+    requires below { IsBelow vector.now sizes.now }
+    ensures { slice_get (box sizes.now) result ≡ Some vector.now }
+{
+    let mut place = 0;
+    for (k, entry) in vector.iter().enumerate() {
+        place = place * sizes[k] + entry;
+    }
+    place
 }
 
 // Makes `vector` one of `count` zeros.

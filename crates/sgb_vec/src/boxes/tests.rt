@@ -79,3 +79,15 @@ fn limits(rt: HostRuntime) -> Result<(), Fail> {
     }
     Ok(())
 }
+
+#[test]
+fn places_of_members(rt: HostRuntime) {
+    match BoxFamily::new(&[2, 3]) {
+        Ok(family) => {
+            assert_eq!(rt; family.place_of(&[0, 0]), 0);
+            assert_eq!(rt; family.place_of(&[1, 1]), 4);
+            assert_eq!(rt; family.place_of(&[1, 2]), 5);
+        }
+        Err(_) => assert!(rt; false),
+    }
+}

@@ -1,0 +1,43 @@
+-- The vertices of a family by their vectors.
+use Rattle.std.proofs.Common.{◌≡◌, ◌≢◌, ℕ, zero, suc, ◌+◌, true, false, not, cond, List, [], ◌∷◌, Some, refl, sym, ap, ◌∙◌, inl, inr, arith}
+use Rattle.std.specs.Cmp.Lexicographic.{bytes_decides}
+use Rattle.std.specs.List.{slice_get, position_or_len}
+use Rattle.std.proofs.lemmas.Bool.{cases_Bool}
+use Rattle.std.proofs.lemmas.Option.{slice_get_within}
+use Rattle.sgb_vec.specs.Boxes.{box}
+use Rattle.sgb_vec.specs.Lexicographic.{IsBelow}
+use Rattle.sgb_vec.proofs.BoxPlaces.{StandsAt-from_slice_get}
+use Rattle.sgb_gen.specs.Families.{same_vector, vertex_among}
+
+-- a vector that is there
+pub same_is : (v : List ℕ) → same_vector v v ≡ true
+same_is v = (bytes_decides v v).1 refl
+
+-- or not
+other_is : (v w : List ℕ) → v ≢ w → same_vector v w ≡ false
+other_is v w other =
+    elim (cases_Bool (same_vector v w)) [
+      | inl same ↦ absurd (other ((bytes_decides v w).0 same))
+      | inr apart ↦ apart
+    ]
+
+-- the vertex of a vector that stands at one place alone
+pub vertex_at : (vectors : List (List ℕ)) (i : ℕ) (v : List ℕ) → slice_get vectors i ≡ Some v → ((j : ℕ) → slice_get vectors j ≡ Some v → j ≡ i) → vertex_among vectors v ≡ i
+vertex_at [] i v at only = absurd (omega (arith, slice_get_within [] i v at))
+vertex_at (w ∷ ws) zero v at only =
+    let here : w ≡ v = cc at in
+    ap (λ b. cond (not b) (1 + position_or_len (λ u. same_vector u v) ws) 0) (ap (λ u. same_vector u v) here ∙ same_is v)
+vertex_at (w ∷ ws) (suc i) v at only =
+    let other : w ≢ v = λ e. absurd (omega (arith, only 0 (ap Some e))) in
+    let rest : vertex_among ws v ≡ i = vertex_at ws i v at (λ j there. omega (arith, only (suc j) there)) in
+    ap (λ b. cond (not b) (1 + vertex_among ws v) 0) (other_is w v other) ∙ omega arith
+
+-- of a box, the vertex of a vector is its place
+pub vertex_in_box : (sizes v : List ℕ) (i : ℕ) → slice_get (box sizes) i ≡ Some v → vertex_among (box sizes) v ≡ i
+vertex_in_box sizes v i at =
+    vertex_at (box sizes) i v at
+    (λ j there. sym (StandsAt-from_slice_get sizes v j there).place ∙ (StandsAt-from_slice_get sizes v i at).place)
+
+-- a vector that stands in a box is below its sizes
+pub below_in_box : (sizes v : List ℕ) (i : ℕ) → slice_get (box sizes) i ≡ Some v → IsBelow v sizes
+below_in_box sizes v i at = (StandsAt-from_slice_get sizes v i at).each_below

@@ -1,0 +1,73 @@
+ghost use Rattle.std.specs.Prelude.{◌≡◌, pos, ◌+ℤ◌, ◌*ℤ◌, ◌<◌, ◌≤◌, length, option_map};
+ghost use Rattle.sgb_vec.specs.Limits.{most_dimensions};
+ghost use Rattle.sgb_vec.specs.Lexicographic.{IsBelow};
+ghost use Rattle.sgb_gen.specs.Additions.{destination};
+ghost use Rattle.sgb_gen.specs.Moves.{is_bit_set, coordinate_on, sides_of, place};
+
+use sgb_vec::Vector;
+
+// Whether coordinate k, counted from 0, wraps around: its bit of `wrap`, with the sign carried on.
+fn wraps(wrap: i64, k: usize) -> bool
+    ensures { result ≡ is_bit_set wrap k }
+{
+    (wrap >> k.min(63)) & 1 == 1
+}
+
+// The coordinate at `y` on a side: modulo its size where the side wraps around, else only where it is within it.
+fn coordinate_on(size: u32, wraps: bool, y: i64) -> Option<u32>
+    requires { 0 < size }
+    ensures { result ≡ coordinate_on (record { size = size; wraps = wraps }) y }
+{
+    if wraps {
+        return Some(y.rem_euclid(i64::from(size)) as u32);
+    }
+    u32::try_from(y).ok().filter(|c| *c < size)
+}
+
+// The coordinate at length `l` from `x` by `t` for each unit of length, which may lie outside of a board.
+fn moved(x: u32, t: i32, l: u32) -> i64
+    ensures { result ≡ pos x +ℤ pos l *ℤ t }
+{
+    i64::from(x) + i64::from(l) * i64::from(t)
+}
+
+/// The place at length `l` from `x` by the displacement `t`, where it exists (GB_BASIC, board): each coordinate
+/// is modulo its size where it wraps around, and has to be within it elsewhere.
+pub fn place(sizes: &[u32], wrap: i64, x: &[u32], t: &[i32], l: u32) -> Option<Vector>
+    requires few { length sizes.now ≤ most_dimensions }
+    requires below { IsBelow x.now sizes.now }
+    requires dimensions { length t.now ≡ length sizes.now }
+    ensures { option_map (λ y. y.items) result ≡ place (sides_of sizes.now wrap) x.now t.now l }
+{
+    let mut there = Vector::new();
+    for (k, size) in sizes.iter().enumerate() {
+        let y = moved(x[k], t[k], l);
+        there.push(coordinate_on(*size, wraps(wrap, k), y)?);
+    }
+    Some(there)
+}
+
+/// Where a piece moves from `x` by the displacement `t` at length `l`, if it does (GB_BASIC, board): a leaper to
+/// the place there, where it exists; a rider, which is a negative piece, only where that is not `x` again.
+pub fn destination(
+    sizes: &[u32],
+    wrap: i64,
+    piece: i64,
+    x: &[u32],
+    t: &[i32],
+    l: u32,
+) -> Option<Vector>
+    requires few { length sizes.now ≤ most_dimensions }
+    requires below { IsBelow x.now sizes.now }
+    requires dimensions { length t.now ≡ length sizes.now }
+    ensures { option_map (λ y. y.items) result ≡ destination (sides_of sizes.now wrap) piece x.now t.now l }
+{
+    let there = place(sizes, wrap, x, t, l)?;
+    if piece < 0 && there.as_slice() == x {
+        return None;
+    }
+    Some(there)
+}
+
+#[cfg(test)]
+mod tests;
