@@ -24,6 +24,7 @@ pub record HasElement {X : Type 0} (xs : List X) (k : ℕ) : Type 0 where
   pub element : X
   pub is : slice_get xs k ≡ Some element
 
+-- a place below the length has one
 pub element_at : {X : Type 0} (xs : List X) (k : ℕ) → k < length xs → HasElement xs k
 element_at [] k below = absurd (omega arith)
 element_at (x ∷ xs) zero below = record { element = x; is = refl }
@@ -36,6 +37,7 @@ pub record HasChain (g : GraphData) (u : ℕ) (first : Option ℕ) : Type 0 wher
   pub leads : lead_within (length g.records) g.records first ≡ true
   pub chain : chain_of g u ≡ links_of g.records first
 
+-- each vertex has its chain
 pub chain_of_vertex : (g : GraphData) (u : ℕ) → HasParts g → u < length g.vertices → HasChain g u (first_arc g.vertices u)
 chain_of_vertex g u has below =
     let x = element_at g.vertices u below in
@@ -76,6 +78,7 @@ pub record IsFront (steps : ℕ) (g : GraphData) (u : ℕ) (records : List ArcRe
   pub leads : lead_within (suc steps) records (Some k) ≡ true
   pub links : links_within (suc steps) records (Some k) ≡ link k v far ∷ chain_of g u
 
+-- a record that goes on with the old chain is in front of it
 pub front_of : (steps : ℕ) (g : GraphData) (more : List ArcRec) (u k v : ℕ) (far : ℤ) → HasParts g → u < length g.vertices → length g.records ≤ steps → slice_get (g.records ++ more) k ≡ Some (arc_record v (first_arc g.vertices u) far) → IsFront steps g u (g.records ++ more) k v far
 front_of steps g more u k v far has below le is =
     let old = chain_of_vertex g u has below in

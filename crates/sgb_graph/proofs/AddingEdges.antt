@@ -32,11 +32,13 @@ record IsLower (g : GraphData) (records : List ArcRec) (high : ℕ) (far : ℤ) 
 two_more : (records : List ArcRec) (r s : ArcRec) → length (records ++ r ∷ s ∷ []) ≡ suc (suc (length records))
 two_more records r s = omega (arith, length-append records (r ∷ s ∷ []))
 
+-- the lower one first
 lower_is : (records : List ArcRec) (r s : ArcRec) → slice_get (records ++ r ∷ s ∷ []) (length records) ≡ Some r
 lower_is records r s =
     let place : length records ≡ length records + 0 = omega arith in
     ap (slice_get (records ++ r ∷ s ∷ [])) place ∙ slice_get-behind records (r ∷ s ∷ []) 0
 
+-- then the higher one
 higher_is : (records : List ArcRec) (r s : ArcRec) → slice_get (records ++ r ∷ s ∷ []) (length records + 1) ≡ Some s
 higher_is records r s = slice_get-behind records (r ∷ s ∷ []) 1
 
@@ -215,6 +217,7 @@ loop_is_pair g u far kept plain below =
       pair_is_kept g u u after far (link (m + 1) u far ∷ chain_of g u) kept plain below below (lt-ltb (m + 1) (m + 2) (omega arith)) down,
     )
 
+-- so a new edge from a vertex to itself is a loop
 loop_added : (g : GraphData) (u : ℕ) (far : ℤ) → IsKept g → HasPlainArcs g → u < length g.vertices → AddsEdge g (with_edge g u u far) u u far × IsKept (with_edge g u u far)
 loop_added g u far kept plain below =
     let least : min u u ≡ u = omega arith in
@@ -257,6 +260,7 @@ pair_joins g u v far kept plain u_in v_in other =
     neither w not_u not_v (inl e) at = not_u (at ∙ e)
     neither w not_u not_v (inr e) at = not_v (at ∙ e)
 
+-- so a new edge between two vertices joins them
 two_joined : (g : GraphData) (u v : ℕ) (far : ℤ) → IsKept g → HasPlainArcs g → u < length g.vertices → v < length g.vertices → u ≢ v → AddsEdge g (with_edge g u v far) u v far × IsKept (with_edge g u v far)
 two_joined g u v far kept plain u_in v_in other = rw (ne_eqb u v other) (pair_joins g u v far kept plain u_in v_in other)
 

@@ -29,6 +29,7 @@ pub ends_step : (fuel : ℕ) (records : List ArcRec) (k : ℕ) (r : ArcRec) → 
 unfolding ends_from
 ends_step fuel records k r is = ap (λ o. option_map_or (λ (x : ArcRec). ends_from fuel records x.next) o false) is
 
+-- and meets that record first
 numbers_step : (fuel : ℕ) (records : List ArcRec) (k : ℕ) (r : ArcRec) → slice_get records k ≡ Some r → numbers_from (suc fuel) records (Some k) ≡ k ∷ numbers_from fuel records r.next
 unfolding numbers_from
 numbers_step fuel records k r is = ap (λ o. option_map_or (λ (x : ArcRec). k ∷ numbers_from fuel records x.next) o []) is
@@ -39,6 +40,7 @@ record EndsBehind (fuel : ℕ) (records : List ArcRec) (k : ℕ) : Type 0 where
   is : slice_get records k ≡ Some here
   ends : ends_from fuel records here.next ≡ true
 
+-- so it goes from there
 ends_behind : (fuel : ℕ) (records : List ArcRec) (k : ℕ) → ends_from (suc fuel) records (Some k) ≡ true → EndsBehind fuel records k
 unfolding ends_from
 ends_behind fuel records k e = by_record (slice_get records k) refl e
@@ -75,6 +77,7 @@ numbers_more (suc fuel) (suc steps) records more (Some k) le e =
 is_record : List ArcRec → ℕ → Bool
 is_record records k = is_some (slice_get records k)
 
+-- so it is all records
 numbers_are_records : (fuel : ℕ) (records : List ArcRec) (first : Option ℕ) → list_all (is_record records) (numbers_from fuel records first) ≡ true
 unfolding numbers_from is_record
 numbers_are_records zero records first = refl
@@ -86,7 +89,7 @@ numbers_are_records (suc fuel) records (Some k) = by_record (numbers_are_records
     by_record later None is = refl
     by_record later (Some r) is = rw is (later r.next)
 
--- the arc of a record, and whether it leads to a vertex, with more records
+-- the arc of a record with more records
 link_more : (records more : List ArcRec) (k : ℕ) → is_record records k ≡ true → link_of (records ++ more) k ≡ link_of records k
 unfolding is_record
 link_more records more k e = by_record (slice_get records k) refl e
@@ -95,6 +98,7 @@ link_more records more k e = by_record (slice_get records k) refl e
     by_record None is h = absurd cc
     by_record (Some r) is h = rw (slice_get-more records more k r is, is) refl
 
+-- the tip of a record with more records
 leads_more : (records more : List ArcRec) (k : ℕ) → is_record records k ≡ true → leads_to_vertex (records ++ more) k ≡ leads_to_vertex records k
 unfolding is_record
 leads_more records more k e = by_record (slice_get records k) refl e
@@ -168,6 +172,7 @@ pub record IsStep (records : List ArcRec) (k : ℕ) : Type 0 where
   pub links : links_of records (Some k) ≡ link k (vertex_of here.tip) here.len ∷ links_of records here.next
   pub ends : ends_of records here.next ≡ true
 
+-- so it goes from a record on
 pub step_of : (records : List ArcRec) (k : ℕ) → ends_of records (Some k) ≡ true → IsStep records k
 step_of records k ends = by_length (length records) refl
   where

@@ -18,6 +18,7 @@ pub list_none : (directed : Bool) (k v : ℕ) → list_from directed k [] v ≡ 
 unfolding list_from
 list_none directed k v = refl
 
+-- the list with an event in front
 pub list_first : (directed : Bool) (k : ℕ) (e : Event) (events : List Event) (v : ℕ) → list_from directed k (e ∷ events) v ≡ list_from directed (k + length (rows_of directed e)) events v ++ links_at v k (rows_of directed e)
 unfolding list_from
 list_first directed k e events v = refl
@@ -96,6 +97,7 @@ new_has_none directed names = record {
 pub link_here : (w k : ℕ) (r : Row) (rows : List Row) → w ≡ r.start → links_at w k (r ∷ rows) ≡ link k r.tip r.len ∷ links_at w (k + 1) rows
 link_here w k r rows same = rw (eq-eqb r.start w (sym same)) refl
 
+-- none where it starts elsewhere
 pub no_link_here : (w k : ℕ) (r : Row) (rows : List Row) → w ≢ r.start → links_at w k (r ∷ rows) ≡ links_at w (k + 1) rows
 no_link_here w k r rows other = rw (ne_eqb r.start w (λ e. other (sym e))) refl
 
@@ -103,12 +105,15 @@ no_link_here w k r rows other = rw (ne_eqb r.start w (λ e. other (sym e))) refl
 two_here : (k u : ℕ) (far : ℤ) → links_at u k (row u u far ∷ row u u far ∷ []) ≡ link k u far ∷ link (k + 1) u far ∷ []
 two_here k u far = link_here u k (row u u far) (row u u far ∷ []) refl ∙ ap (λ ls. link k u far ∷ ls) (link_here u (k + 1) (row u u far) [] refl)
 
+-- at the first of two ends
 first_here : (k u v : ℕ) (far : ℤ) → u ≢ v → links_at u k (row u v far ∷ row v u far ∷ []) ≡ link k v far ∷ []
 first_here k u v far other = link_here u k (row u v far) (row v u far ∷ []) refl ∙ ap (λ ls. link k v far ∷ ls) (no_link_here u (k + 1) (row v u far) [] other)
 
+-- at the second
 second_here : (k u v : ℕ) (far : ℤ) → v ≢ u → links_at v k (row u v far ∷ row v u far ∷ []) ≡ link (k + 1) u far ∷ []
 second_here k u v far other = no_link_here v k (row u v far) (row v u far ∷ []) other ∙ link_here v (k + 1) (row v u far) [] refl
 
+-- at neither
 neither_here : (k u v w : ℕ) (far : ℤ) → w ≢ u → w ≢ v → links_at w k (row u v far ∷ row v u far ∷ []) ≡ []
 neither_here k u v w far not_u not_v = no_link_here w k (row u v far) (row v u far ∷ []) not_u ∙ no_link_here w (k + 1) (row v u far) [] not_v
 
@@ -196,6 +201,7 @@ arcs_lead done [] old new has same = rw (append-nil done, same) has
 arcs_lead done (e ∷ events) old new has run =
     rw (← append_assoc done (e ∷ []) events) (arcs_lead (done ++ e ∷ []) events run.0 new (arc_more done e old run.0 has run.1) run.2)
 
+-- the same with edges
 edges_lead : (done events : List Event) (old new : GraphData) → HasArcsOf false done old → EdgesLead old events new → HasArcsOf false (done ++ events) new
 edges_lead done [] old new has same = rw (append-nil done, same) has
 edges_lead done (e ∷ events) old new has run =
@@ -205,5 +211,6 @@ edges_lead done (e ∷ events) old new has run =
 pub arcs_made : (names : List (List ℕ)) (events : List Event) (g : GraphData) → ArcsLead (new_graph names) events g → HasArcsOf true events g
 arcs_made names events g run = arcs_lead [] events (new_graph names) g (new_has_none true names) run
 
+-- the same with edges
 pub edges_made : (names : List (List ℕ)) (events : List Event) (g : GraphData) → EdgesLead (new_graph names) events g → HasArcsOf false events g
 edges_made names events g run = edges_lead [] events (new_graph names) g (new_has_none false names) run

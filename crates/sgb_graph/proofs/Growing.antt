@@ -27,6 +27,7 @@ pub record HasParts (g : GraphData) : Type 0 where
   pub ends : chains_end g.records ≡ true
   pub leads : lists_lead_to_vertices g.vertices g.records ≡ true
 
+-- the parts of a graph
 pub parts_of : (g : GraphData) → IsGraph g → HasParts g
 parts_of g is =
     let fit = and_parts (utils_fit (length g.vertices) (length g.records) (graph_kinds g.kinds) g.util && list_all (vertex_fits g) g.vertices) (list_all (record_fits g) g.records) is.fields in
@@ -34,6 +35,7 @@ parts_of g is =
     let sound = and_parts (chains_end g.records) (lists_lead_to_vertices g.vertices g.records) is.lists in
     record { few = is.vertices_fit; util = own.0; vertices = own.1; records = fit.1; ends = sound.0; leads = sound.1 }
 
+-- what has the parts is a graph
 pub graph_from_parts : (g : GraphData) → HasParts g → IsGraph g
 graph_from_parts g has = record {
   vertices_fit = has.few;

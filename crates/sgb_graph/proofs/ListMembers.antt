@@ -16,6 +16,7 @@ use Rattle.sgb_graph.proofs.EventLemmas.{list_none, list_first, link_here, no_li
 contains_first : {X : Type 0} (x : X) (xs : List X) → Contains (x ∷ xs) x
 contains_first x xs = (0, omega arith, refl)
 
+-- one behind the first
 contains_behind : {X : Type 0} (x y : X) (xs : List X) → Contains xs y → Contains (x ∷ xs) y
 contains_behind x y xs (k, below, here) = (suc k, omega arith, here)
 
@@ -58,6 +59,7 @@ record IsRowAt (k v : ℕ) (rows : List Row) (l : Link) : Type 0 where
 row_behind : (k v : ℕ) (a : Row) (rows : List Row) (l : Link) → IsRowAt (k + 1) v rows l → IsRowAt k v (a ∷ rows) l
 row_behind k v a rows l at = record { place = suc at.place; number = omega (arith, at.number); is = at.is }
 
+-- so each link is
 only_link : (k v : ℕ) (rows : List Row) (l : Link) → Contains (links_at v k rows) l → IsRowAt k v rows l
 only_link k v [] l has = absurd (contains_none l has)
 only_link k v (a ∷ rows) l has = by_start (cases_eq v a.start) (only_link (k + 1) v rows l)
@@ -148,11 +150,13 @@ each_on_list directed events k r is =
     let place : 0 + k ≡ k = omega arith in
     rw place at (each_from directed 0 events k r is)
 
+-- nothing else is there
 pub only_on_list : (directed : Bool) (events : List Event) (v : ℕ) (l : Link) → Contains (list_of directed events v) l → slice_get (all_rows directed events) l.number ≡ Some (row v l.tip l.len)
 only_on_list directed events v l has =
     let at = only_from directed 0 events v l has in
     let place : l.number ≡ at.place = omega (arith, at.number) in
     rw place at.is
 
+-- and each is there once
 pub once_on_list : (directed : Bool) (events : List Event) (v : ℕ) → length (list_of directed events v) ≡ count_by (λ r. r.start == v) (all_rows directed events)
 once_on_list directed events v = once_from directed 0 events v ∙ length-filter (λ (r : Row). r.start == v) (all_rows directed events)

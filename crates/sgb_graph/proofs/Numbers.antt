@@ -97,6 +97,7 @@ record SplitKinds (kinds : List Kind) : Type 0 where
   arcs : arc_kinds (with_number_kinds kinds) ≡ arc_kinds kinds
   own : graph_kinds (with_number_kinds kinds) ≡ graph_kinds kinds
 
+-- as they are where these are put
 split_kinds : (kinds : List Kind) → SplitKinds kinds
 split_kinds [] = record { vertices = refl; arcs = refl; own = refl }
 split_kinds (a ∷ []) = record { vertices = refl; arcs = refl; own = refl }
@@ -208,11 +209,12 @@ ints_kept g v x y z kept = record { graph = graph_from_parts (with_ints g v x y 
           (list_all-mapped (λ (w : Vertex). lead_within m g.records w.arcs) (λ (w : Vertex). lead_within m g.records w.arcs) with_some_numbers g.vertices (λ w h. h) has.leads);
     }
 
--- its names and fields
+-- its names
 pub ints_names : (g : GraphData) (v : ℕ) (x y z : ℤ) → map (λ w. w.name) (with_ints g v x y z).vertices ≡ map (λ w. w.name) g.vertices
 ints_names g v x y z =
     map-at_place (λ w. w.name) (with_numbers x y z) v (map with_some_numbers g.vertices) (λ w. refl) ∙ map-map (λ w. w.name) with_some_numbers g.vertices
 
+-- its fields
 pub ints_fields : (g : GraphData) (v : ℕ) (x y z : ℤ) → map (λ w. w.util) (with_ints g v x y z).vertices ≡ at_place (put_numbers x y z) v (map (λ w. some_numbers w.util) g.vertices)
 ints_fields g v x y z =
     map-at_place_made (λ w. w.util) (with_numbers x y z) (put_numbers x y z) v (map with_some_numbers g.vertices) (λ w. refl)
@@ -227,6 +229,7 @@ chain_by_first g w =
     by_vertex None = refl
     by_vertex (Some x) = refl
 
+-- so they stay
 pub ints_chains : (g : GraphData) (v : ℕ) (x y z : ℤ) (w : ℕ) → chain_of (with_ints g v x y z) w ≡ chain_of g w
 ints_chains g v x y z w =
     let firsts = map-at_place (λ (u : Vertex). u.arcs) (with_numbers x y z) v (map with_some_numbers g.vertices) (λ u. refl) ∙ map-map (λ (u : Vertex). u.arcs) with_some_numbers g.vertices in

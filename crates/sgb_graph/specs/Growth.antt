@@ -123,10 +123,11 @@ some_numbers fields = at_place number_or_zero 5 (at_place number_or_zero 4 (at_p
 abbrev pub put_numbers : ℤ → ℤ → ℤ → List Util → List Util
 put_numbers x y z fields = slice_set (slice_set (slice_set fields 3 (Int x)) 4 (Int y)) 5 (Int z)
 
--- the vertex with such fields
+-- the vertex with a number in each of its fields x, y, z
 abbrev pub with_some_numbers : Vertex → Vertex
 with_some_numbers v = record v { util = some_numbers v.util }
 
+-- the vertex with these numbers in its fields x, y, z
 abbrev pub with_numbers : ℤ → ℤ → ℤ → Vertex → Vertex
 with_numbers x y z v = record v { util = put_numbers x y z v.util }
 

@@ -21,20 +21,31 @@ pub fn uniform_draw_law()
 /// New arcs, one for each event in order, leave the graph of the events (GB_GRAPH, gb_new_arc).
 pub fn arcs_law()
     ensures none { (names : List (List ℕ)) → HasArcsOf true [] (new_graph names) }
-    ensures more { (events : List Event) (e : Event) (old new : GraphData) → HasArcsOf true events old → AddsArc old new e.from e.to e.len → HasArcsOf true (events ++ e ∷ []) new }
-    ensures all { (names : List (List ℕ)) (events : List Event) (g : GraphData) → ArcsLead (new_graph names) events g → HasArcsOf true events g }
+    ensures more { (events : List Event) (e : Event) (old new : GraphData)
+        → HasArcsOf true events old → AddsArc old new e.from e.to e.len
+        → HasArcsOf true (events ++ e ∷ []) new }
+    ensures all { (names : List (List ℕ)) (events : List Event) (g : GraphData)
+        → ArcsLead (new_graph names) events g → HasArcsOf true events g }
 {}
 
 /// New edges, one for each event in order, leave the graph of the events (GB_GRAPH, gb_new_edge).
 pub fn edges_law()
     ensures none { (names : List (List ℕ)) → HasArcsOf false [] (new_graph names) }
-    ensures more { (events : List Event) (e : Event) (old new : GraphData) → HasArcsOf false events old → AddsEdge old new e.from e.to e.len → HasArcsOf false (events ++ e ∷ []) new }
-    ensures all { (names : List (List ℕ)) (events : List Event) (g : GraphData) → EdgesLead (new_graph names) events g → HasArcsOf false events g }
+    ensures more { (events : List Event) (e : Event) (old new : GraphData)
+        → HasArcsOf false events old → AddsEdge old new e.from e.to e.len
+        → HasArcsOf false (events ++ e ∷ []) new }
+    ensures all { (names : List (List ℕ)) (events : List Event) (g : GraphData)
+        → EdgesLead (new_graph names) events g → HasArcsOf false events g }
 {}
 
 /// The list of a vertex has each record of the events that starts there, once, and nothing else.
 pub fn lists_law()
-    ensures each { (directed : Bool) (events : List Event) (k : ℕ) (r : Row) → slice_get (all_rows directed events) k ≡ Some r → Contains (list_of directed events r.start) (link k r.tip r.len) }
-    ensures only { (directed : Bool) (events : List Event) (v : ℕ) (l : Link) → Contains (list_of directed events v) l → slice_get (all_rows directed events) l.number ≡ Some (row v l.tip l.len) }
-    ensures once { (directed : Bool) (events : List Event) (v : ℕ) → length (list_of directed events v) ≡ count_by (λ r. r.start == v) (all_rows directed events) }
+    ensures each { (directed : Bool) (events : List Event) (k : ℕ) (r : Row)
+        → slice_get (all_rows directed events) k ≡ Some r
+        → Contains (list_of directed events r.start) (link k r.tip r.len) }
+    ensures only { (directed : Bool) (events : List Event) (v : ℕ) (l : Link)
+        → Contains (list_of directed events v) l
+        → slice_get (all_rows directed events) l.number ≡ Some (row v l.tip l.len) }
+    ensures once { (directed : Bool) (events : List Event) (v : ℕ)
+        → length (list_of directed events v) ≡ count_by (λ r. r.start == v) (all_rows directed events) }
 {}

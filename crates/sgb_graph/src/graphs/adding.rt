@@ -54,8 +54,10 @@ fn put_arc(
     len: i64,
 ) -> Result<(), AllocError>
     requires { u < length vertices.old.items }
-    ensures nodes { OnOk result (vertices.new.items ≡ at_place (with_arcs (Some (length records.old.items))) u vertices.old.items) }
-    ensures arcs { OnOk result (records.new.items ≡ records.old.items ++ arc_record v (first_arc vertices.old.items u) len ∷ []) }
+    ensures nodes { OnOk result
+        (vertices.new.items ≡ at_place (with_arcs (Some (length records.old.items))) u vertices.old.items) }
+    ensures arcs { OnOk result
+        (records.new.items ≡ records.old.items ++ arc_record v (first_arc vertices.old.items u) len ∷ []) }
     ensures nodes_stay { OnErr result (vertices.new.items ≡ vertices.old.items) }
     ensures arcs_stay { OnErr result (records.new.items ≡ records.old.items) }
 {
@@ -76,8 +78,14 @@ fn put_edge(
 ) -> Result<(), AllocError>
     requires from { u < length vertices.old.items }
     requires to { v < length vertices.old.items }
-    ensures nodes { OnOk result (vertices.new.items ≡ with_ends (length records.old.items) (min u v) (max u v) vertices.old.items) }
-    ensures arcs { OnOk result (records.new.items ≡ records.old.items ++ arc_record (max u v) (after_lower (length records.old.items) vertices.old.items u v) len ∷ arc_record (min u v) (first_arc vertices.old.items (max u v)) len ∷ []) }
+    ensures nodes { OnOk result
+        (vertices.new.items
+        ≡ with_ends (length records.old.items) (min u v) (max u v) vertices.old.items) }
+    ensures arcs { OnOk result
+        (records.new.items
+        ≡ records.old.items
+        ++ arc_record (max u v) (after_lower (length records.old.items) vertices.old.items u v) len
+        ∷ arc_record (min u v) (first_arc vertices.old.items (max u v)) len ∷ []) }
     ensures nodes_stay { OnErr result (vertices.new.items ≡ vertices.old.items) }
     ensures arcs_stay { OnErr result (records.new.items ≡ records.old.items) }
 {

@@ -15,7 +15,8 @@ impl Graph {
         ensures data { self.new ≡ with_ints self.old v x y z }
         ensures chains { (w : ℕ) → chain_of self.new w ≡ chain_of self.old w }
         ensures names { map (λ w. w.name) self.new.vertices ≡ map (λ w. w.name) self.old.vertices }
-        ensures fields { map (λ w. w.util) self.new.vertices ≡ at_place (put_numbers x y z) v (map (λ w. some_numbers w.util) self.old.vertices) }
+        ensures fields { map (λ w. w.util) self.new.vertices
+            ≡ at_place (put_numbers x y z) v (map (λ w. some_numbers w.util) self.old.vertices) }
     {
         use_numbers(&mut self.kinds, &mut self.vertices);
         put_numbers(&mut self.vertices, v, x, y, z);
