@@ -16,6 +16,9 @@ pub mod Reaches
 pub mod BoardEvents
 pub mod FamilyWalks
 pub mod DisplacementLengths
+pub mod Coordinates
+pub mod IdTexts
+pub mod FamilyGraphs
 pub mod Examples
 pub mod Vertices
 pub mod Places

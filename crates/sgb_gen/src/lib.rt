@@ -4,10 +4,12 @@
 mod boards;
 mod displacements;
 mod families;
+mod generators;
 mod laws;
 mod moves;
 
 pub use boards::Board;
+pub use generators::board;
 pub use laws::{
     displacements_have_their_norm, moves_stay_on_board, riders_stop, shifts_stay_in_sum,
 };

@@ -31,9 +31,9 @@ fn moved(x: u32, t: i32, l: u32) -> i64
     i64::from(x) + i64::from(l) * i64::from(t)
 }
 
-/// The place at length `l` from `x` by the displacement `t`, where it exists (GB_BASIC, board): each coordinate
-/// is modulo its size where it wraps around, and has to be within it elsewhere.
-pub fn place(sizes: &[u32], wrap: i64, x: &[u32], t: &[i32], l: u32) -> Option<Vector>
+// The place at length `l` from `x` by the displacement `t`, where it exists (GB_BASIC, board): each coordinate
+// is modulo its size where it wraps around, and has to be within it elsewhere.
+fn place(sizes: &[u32], wrap: i64, x: &[u32], t: &[i32], l: u32) -> Option<Vector>
     requires few { length sizes.now ≤ most_dimensions }
     requires below { IsBelow x.now sizes.now }
     requires dimensions { length t.now ≡ length sizes.now }
@@ -49,7 +49,7 @@ pub fn place(sizes: &[u32], wrap: i64, x: &[u32], t: &[i32], l: u32) -> Option<V
 
 /// Where a piece moves from `x` by the displacement `t` at length `l`, if it does (GB_BASIC, board): a leaper to
 /// the place there, where it exists; a rider, which is a negative piece, only where that is not `x` again.
-pub fn destination(
+pub(crate) fn destination(
     sizes: &[u32],
     wrap: i64,
     piece: i64,
@@ -68,6 +68,3 @@ pub fn destination(
     }
     Some(there)
 }
-
-#[cfg(test)]
-mod tests;
