@@ -1,21 +1,21 @@
 -- The commands that the words enter.
-use Rattle.std.proofs.Common.{◌≡◌, ◌∙◌, ◌||◌, Bool, cond, true, false, subst, List, [], Option, Some, None, IsSome, Result, Ok, Err, IfOk, MatchResult, Box, Global, ap, ap₂, sym, refl, inr, codes, option_map}
+use Rattle.std.proofs.Common.{◌≡◌, ◌≢◌, ◌∙◌, ◌||◌, ◌⊎◌, Bool, cond, true, false, subst, List, [], ◌∷◌, ◌++◌, Option, Some, None, IsSome, Result, Ok, Err, IfOk, MatchResult, Box, Global, ap, ap₂, sym, refl, inl, inr, codes, find, option_map}
+use Rattle.std.specs.List.{list_all}
 use Rattle.std.specs.Option.{option_map_or}
 use Rattle.std.proofs.lemmas.Slice.Eq.{bytes_eq-Decides}
 use Rattle.clap.specs.Faults.{entered_fault, level_fault}
+use Rattle.clap.specs.Kinds.{Kinds}
 use Rattle.clap.specs.Simple.{argument_words, built_leaf, entered, help_shape, inherited, label_of, marked_built, names_of, rows_at, with_leaf_noted}
 use Rattle.clap.specs.Walk.{answers_to, nothing_held, stop_after, walk_from}
-use Rattle.clap.specs.Words.{App, FailsBy, HasKind, HasMatchesOf, Row, Shape, Text, built, fault_of, first_of, found_of, is_simple_and_free, rows_of, subcommand_name_of, subcommand_of, subcommand_rows_of}
+use Rattle.clap.specs.Words.{App, FailsBy, HasKind, HasMatchesOf, Row, Rule, Shape, Text, built, fault_of, first_of, found_of, is_simple_and_free, rows_of, subcommand_name_of, subcommand_of, subcommand_rows_of}
 use Rattle.clap.specs.declared.error.Error.{Error}
 use Rattle.clap.specs.declared.parser.matches.ArgMatches.{ArgMatches}
 use Rattle.clap.specs.declared.parser.matches.ArgMatches.TheViews.{out-ArgMatches, out-SubCommand}
 use Rattle.clap.specs.declared.parser.matches.SubCommand.{SubCommand}
 use Rattle.std.specs.Box.{box_value}
-use Rattle.sgb.specs.CommandLine.{Asked, IsCall, IsNamesCall, IsNoCall, IsTaken, asked_by, command_line, names_shape}
+use Rattle.sgb.specs.CommandLine.{IsNoCall, IsTaken, asked_by, command_line, output_shape}
 use Rattle.sgb.proofs.HelpRefused.{IsNotHelp, walk_stops}
-use Rattle.sgb.proofs.RequiredValues.{each_valued, none_first, none_second, required_first}
-use Rattle.sgb.specs.declared.calls.Call.{Call}
-use Rattle.sgb.specs.declared.calls.Call.TheVariants as call
+use Rattle.sgb.proofs.RequiredValues.{each_valued, is_valued, none_first, none_second, required_first}
 
 -- ---- what clap makes of the words
 
@@ -38,9 +38,13 @@ parsed a words r is =
 abbrev built_line : App
 built_line = built command_line
 
--- its command `names`
-abbrev names_leaf : Shape
-names_leaf = built_leaf (inherited (with_leaf_noted (marked_built command_line.top)) names_shape)
+-- its command of this name that has `EXPR`, `--after` and `--skip`
+abbrev output_leaf : Text → Shape
+output_leaf name = built_leaf (inherited (with_leaf_noted (marked_built command_line.top)) (output_shape name))
+
+-- its commands, as the program knows them
+abbrev commands : List Shape
+commands = output_leaf (codes "names") ∷ output_leaf (codes "list") ∷ []
 
 -- its command `help`, which clap adds
 abbrev help_leaf : Shape
@@ -51,32 +55,91 @@ or_false : (b : Bool) → (b || false) ≡ true → b ≡ true
 or_false true e = e
 or_false false e = e
 
--- a command that is entered without a fault is `names`, and has its expression
-entered_names : (stop : Option (Text × List Text)) (e : Text × List Row) → IsNotHelp stop → entered_fault built_line stop ≡ [] → entered built_line stop ≡ Some e
-    → (e.0 ≡ codes "names") × IsSome (first_of (codes "EXPR") e.1)
-entered_names None e no_help no_fault is = cc
-entered_names (Some p) e no_help no_fault is =
-    go (answers_to p.0 (label_of names_leaf)) (answers_to p.0 (label_of help_leaf)) (λ hit. no_help (sym ((bytes_eq-Decides (codes "help") p.0).0 (or_false _ hit)))) no_fault is
-  where
-    go : (a b : Bool) → (b ≡ true → ⊥)
-        → option_map_or (λ s. level_fault s [] nothing_held p.1 false []) (cond a (Some names_leaf) (cond b (Some help_leaf) None)) [] ≡ []
-        → option_map (λ s. rows_at s p.1) (cond a (Some names_leaf) (cond b (Some help_leaf) None)) ≡ Some e
-        → (e.0 ≡ codes "names") × IsSome (first_of (codes "EXPR") e.1)
-    go true b other no_fault is =
-        let same : rows_at names_leaf p.1 ≡ e = cc in
-        subst (λ (e : Text × List Row). (e.0 ≡ codes "names") × IsSome (first_of (codes "EXPR") e.1)) same
-        (refl, required_first names_leaf _ _ p.1 (each_valued names_leaf.rules refl) refl refl no_fault)
-    go false true other no_fault is = absurd (other refl)
-    go false false other no_fault is = cc
+-- the command of this shape is entered, with words that have no fault at it
+record IsEntered (s : Shape) (e : Text × List Row) : Type 0 where
+  words : List Text
+  rows : rows_at s words ≡ e
+  taken : level_fault s [] nothing_held words false [] ≡ []
 
--- words that clap takes enter no command but `names`, and give it its expression
-pub names_entered : (words : List Text) (e : Text × List Row) → fault_of command_line words ≡ [] → subcommand_of command_line words ≡ Some e
-    → (e.0 ≡ codes "names") × IsSome (first_of (codes "EXPR") e.1)
-names_entered words e taken is =
+-- the command of one of these shapes is
+abbrev IsOneEntered : List Shape → Text × List Row → Type 0
+IsOneEntered [] e = ⊥
+IsOneEntered (s ∷ rest) e = IsEntered s e ⊎ IsOneEntered rest e
+
+-- the faults of a command that is found
+abbrev fault_at : List Text → Option Shape → Kinds
+fault_at words found = option_map_or (λ s. level_fault s [] nothing_held words false []) found []
+
+-- its name and its matches
+abbrev entered_at : List Text → Option Shape → Option (Text × List Row)
+entered_at words found = option_map (λ s. rows_at s words) found
+
+-- of these commands and `help`, the one of this name
+abbrev found_of_name : Text → List Shape → Option Shape
+found_of_name name shapes = find (λ s. answers_to name (label_of s)) (shapes ++ help_leaf ∷ [])
+
+-- a command that is found without a fault by another name than `help` is one of these
+one_entered : (p : Text × List Text) (e : Text × List Row) (shapes : List Shape) → p.0 ≢ codes "help"
+    → fault_at p.1 (found_of_name p.0 shapes) ≡ [] → entered_at p.1 (found_of_name p.0 shapes) ≡ Some e → IsOneEntered shapes e
+one_entered p e [] no_help no_fault is =
+    go (answers_to p.0 (label_of help_leaf)) (λ hit. no_help (sym ((bytes_eq-Decides (codes "help") p.0).0 (or_false _ hit)))) is
+  where
+    go : (b : Bool) → (b ≡ true → ⊥) → entered_at p.1 (cond b (Some help_leaf) None) ≡ Some e → ⊥
+    go true other is = other refl
+    go false other is = cc
+one_entered p e (s ∷ rest) no_help no_fault is = go (answers_to p.0 (label_of s)) (one_entered p e rest no_help) no_fault is
+  where
+    go : (b : Bool)
+        → (fault_at p.1 (found_of_name p.0 rest) ≡ [] → entered_at p.1 (found_of_name p.0 rest) ≡ Some e → IsOneEntered rest e)
+        → fault_at p.1 (cond b (Some s) (found_of_name p.0 rest)) ≡ [] → entered_at p.1 (cond b (Some s) (found_of_name p.0 rest)) ≡ Some e
+        → IsEntered s e ⊎ IsOneEntered rest e
+    go true others no_fault is = inl (record { words = p.1; rows = cc; taken = no_fault })
+    go false others no_fault is = inr (others no_fault is)
+
+-- a command that is entered without a fault is one of the program's
+entered_commands : (stop : Option (Text × List Text)) (e : Text × List Row) → IsNotHelp stop → entered_fault built_line stop ≡ []
+    → entered built_line stop ≡ Some e → IsOneEntered commands e
+entered_commands None e no_help no_fault is = cc
+entered_commands (Some p) e no_help no_fault is = one_entered p e commands no_help no_fault is
+
+-- words that clap takes enter none but these
+commands_entered : (words : List Text) (e : Text × List Row) → fault_of command_line words ≡ [] → subcommand_of command_line words ≡ Some e
+    → IsOneEntered commands e
+commands_entered words e taken is =
     let given = argument_words command_line words in
     let names = names_of built_line in
     let no_help = walk_stops built_line.top names refl (walk_from nothing_held) given (none_first _ _ taken) tt in
-    entered_names (stop_after built_line.top.rules names given) e no_help (none_first _ _ (none_second _ _ taken)) is
+    entered_commands (stop_after built_line.top.rules names given) e no_help (none_first _ _ (none_second _ _ taken)) is
+
+-- a command whose first argument is required, once it is entered, has its name and that argument
+first_entered : (s : Shape) (a : Rule) (rest : List Rule) (e : Text × List Row) → list_all is_valued s.rules ≡ true → s.rules ≡ a ∷ rest
+    → a.required ≡ true → IsEntered s e → (e.0 ≡ s.name) × IsSome (first_of a.id e.1)
+first_entered s a rest e valued first required is =
+    subst (λ (e : Text × List Row). (e.0 ≡ s.name) × IsSome (first_of a.id e.1)) is.rows
+    (refl, required_first s a rest is.words (each_valued s.rules valued) first required is.taken)
+
+-- the command entered has this name and its expression
+abbrev HasExpression : Text → Text × List Row → Type 0
+HasExpression name e = (e.0 ≡ name) × IsSome (first_of (codes "EXPR") e.1)
+
+-- a command that writes a graph, once it is entered
+output_entered : (name : Text) (e : Text × List Row) → IsEntered (output_leaf name) e → HasExpression name e
+output_entered name e is = first_entered (output_leaf name) _ _ e refl refl refl is
+
+-- `names` or `list` is entered, with its expression
+abbrev IsOutputEntered : Text × List Row → Type 0
+IsOutputEntered e = HasExpression (codes "names") e ⊎ HasExpression (codes "list") e
+
+-- which of the commands it is
+which_entered : (e : Text × List Row) → IsOneEntered commands e → IsOutputEntered e
+which_entered e (inl names) = inl (output_entered _ e names)
+which_entered e (inr (inl list)) = inr (output_entered _ e list)
+which_entered e (inr (inr none)) = absurd none
+
+-- its expression is there
+expression_there : (e : Text × List Row) → IsOutputEntered e → IsSome (first_of (codes "EXPR") e.1)
+expression_there e (inl names) = names.1
+expression_there e (inr list) = list.1
 
 -- a pair from its parts
 pair_is : (o : Option (Text × List Row)) (name : Text) (rows : List Row) → option_map (λ p. p.0) o ≡ Some name → option_map (λ p. p.1) o ≡ Some rows → o ≡ Some (name, rows)
@@ -101,25 +164,24 @@ pub entered_is : (words : List Text) (m : ArgMatches) (name : Text) (rows : List
     → option_map (λ p. p.1) (subcommand_rows_of m) ≡ Some rows → subcommand_of command_line words ≡ Some (name, rows)
 entered_is words m name rows is named has = sym is.entered ∙ pair_is _ name rows (sym (name_by_rows m) ∙ named) has
 
--- the matches of `names` have an expression
-pub has_expression : (words : List Text) (m : ArgMatches) (rows : List Row) → IsTaken words m → subcommand_name_of m ≡ Some (codes "names")
+-- the matches of a command have an expression
+pub has_expression : (words : List Text) (m : ArgMatches) (name : Text) (rows : List Row) → IsTaken words m → subcommand_name_of m ≡ Some name
     → option_map (λ p. p.1) (subcommand_rows_of m) ≡ Some rows → IsSome (first_of (codes "EXPR") rows)
-has_expression words m rows is named has = (names_entered words _ is.taken (entered_is words m _ rows is named has)).1
+has_expression words m name rows is named has =
+    expression_there (name, rows) (which_entered _ (commands_entered words _ is.taken (entered_is words m _ rows is named has)))
 
--- what is asked of `names`
-abbrev as_asked : Option Text → Option Text → Option Asked
-as_asked expression skip = Some (record { command = codes "names"; expression = expression; skip = skip })
-
--- the call that the matches of `names` give is the words'
-pub called : (words : List Text) (m : ArgMatches) (rows : List Row) (c : Call) → IsTaken words m → subcommand_name_of m ≡ Some (codes "names")
-    → option_map (λ p. p.1) (subcommand_rows_of m) ≡ Some rows → IsNamesCall rows c → IsCall words c
-called words m rows (call.Names expression skip) is named has gives =
-    record { taken = is.taken; asked = ap (option_map asked_by) (entered_is words m _ rows is named has) ∙ ap₂ as_asked gives.0 gives.1 }
-
--- where `names` is not entered, no command is
-pub not_called : (words : List Text) (m : ArgMatches) → IsTaken words m → (subcommand_name_of m ≡ Some (codes "names") → ⊥) → IsNoCall words
-not_called words m is other = go (subcommand_of command_line words) refl
+-- where neither `names` nor `list` is entered, no command is
+pub not_called : (words : List Text) (m : ArgMatches) → IsTaken words m → (subcommand_name_of m ≡ Some (codes "names") → ⊥)
+    → (subcommand_name_of m ≡ Some (codes "list") → ⊥) → IsNoCall words
+not_called words m is no_names no_list = go (subcommand_of command_line words) refl
   where
     go : (o : Option (Text × List Row)) → subcommand_of command_line words ≡ o → IsNoCall words
     go None e = inr (ap (option_map asked_by) e)
-    go (Some p) e = absurd (other (name_by_rows m ∙ ap (option_map (λ (p : Text × List Row). p.0)) (is.entered ∙ e) ∙ ap Some (names_entered words p is.taken e).0))
+    go (Some p) e = absurd (which (which_entered p (commands_entered words p is.taken e)))
+      where
+        named : subcommand_name_of m ≡ Some p.0
+        named = name_by_rows m ∙ ap (option_map (λ (p : Text × List Row). p.0)) (is.entered ∙ e)
+
+        which : IsOutputEntered p → ⊥
+        which (inl names) = no_names (named ∙ ap Some names.0)
+        which (inr list) = no_list (named ∙ ap Some list.0)

@@ -1,13 +1,21 @@
 -- What a run leaves, from what answering the request left.
-use Rattle.std.proofs.Common.{◌≡◌, ℕ, Bool, true, false, List, [], Option, Result, Ok, Err, refl, inl, inr, ap, sym, subst}
+use Rattle.std.proofs.Common.{◌≡◌, ◌⊎◌, ℕ, Bool, true, false, List, [], Option, Result, Ok, Err, refl, inl, inr, ap, sym, subst, ◌∙◌}
 use Rattle.std.specs.Io.KnownBytes.{Appends, Keeps}
 use Rattle.std.proofs.KnownBytes.{Appends-nil, Appends-kept}
 use Rattle.std.proofs.lemmas.Bool.{both_ways}
-use Rattle.sgb.specs.Answers.{outcome_of}
+use Rattle.sgb_vec.specs.declared.panics.Panic.TheVariants.{NoRoom}
+use Rattle.sgb_vec.specs.declared.panics.Panic.{Panic}
+use Rattle.sgb_graph.specs.Descriptions.{Description, IsAnswerOf}
+use Rattle.sgb_graph.specs.Graphs.{GraphData}
+use Rattle.sgb.specs.Answers.{answer_behind, answer_from, list_answer, names_answer, outcome_of}
+use Rattle.sgb.specs.Texts.{shown, shown_graph}
+use Rattle.sgb.specs.Values.{IsLocalOf}
+use Rattle.sgb.specs.declared.requests.Resume.{Resume}
+use Rattle.sgb.proofs.Shown.{list_answer-is}
 use Rattle.sgb.specs.Devices.{AppendsUnlessFailed}
 use Rattle.sgb.specs.Faults.{line_of, status_of}
 use Rattle.sgb.specs.Runs.{Change, Answers}
-use Rattle.sgb.specs.Writing.{IsEnded, IsWhole, IsCutOff}
+use Rattle.sgb.specs.Writing.{IsEnded, IsWhole, IsWritten, IsCutOff}
 use Rattle.sgb.specs.declared.faults.Fault.{Fault}
 use Rattle.sgb.specs.declared.faults.Fault.TheVariants as fault
 use Rattle.sgb.proofs.Fronts.{front_all, front_none}
@@ -48,29 +56,102 @@ cut_answers text f w v e d false ef p line = elim p.cause [
   })
 ]
 
--- the request was refused, with nothing written
-refused_answers : (g : Fault) (w v e d : Option (List ℕ)) (wf ef : Bool) → IsWhole [] (change w v wf)
-    → AppendsUnlessFailed ef e d (line_of g) → Answers (outcome_of (Err g)) (change w v wf) (change e d ef) (status_of g)
-refused_answers g w v e d true ef p line = absurd (both_ways true p.sound refl)
-refused_answers g w v e d false ef p line = inl (record { output = p.output; line = line; exit = refl })
+-- the request was refused, or memory was, with nothing written
+refused_answers : (g f : Fault) (w v e d : Option (List ℕ)) (wf ef : Bool) → (f ≡ g) ⊎ (f ≡ fault.Panic NoRoom) → IsWhole [] (change w v wf)
+    → AppendsUnlessFailed ef e d (line_of f) → Answers (outcome_of (Err g)) (change w v wf) (change e d ef) (status_of f)
+refused_answers g f w v e d true ef by p line = absurd (both_ways true p.sound refl)
+refused_answers g f w v e d false ef (inl same) p line = inl (record {
+  output = p.output;
+  line = subst (λ (h : Fault). AppendsUnlessFailed ef e d (line_of h)) same line;
+  exit = ap status_of same;
+})
+refused_answers g f w v e d false ef (inr memory) p line = inr (record {
+  output = front_all w v [] p.output;
+  line = subst (λ (h : Fault). AppendsUnlessFailed ef e d (line_of h)) memory line;
+  exit = ap status_of memory;
+})
 
 -- the request ended with a fault, and its line was written
 pub answers_err : (T : Type 0) (a : Result (List ℕ) Fault) (f : Fault) (w v e d : Option (List ℕ)) (wf ef : Bool)
     → IsEnded {T = T} a (change w v wf) (Err f) → AppendsUnlessFailed ef e d (line_of f)
     → Answers (outcome_of a) (change w v wf) (change e d ef) (status_of f)
 answers_err T (Ok text) f w v e d wf ef p line = cut_answers text f w v e d wf ef p line
-answers_err T (Err g) f w v e d wf ef p line =
-    let P : Fault → Type 0 = λ h. Answers (outcome_of (Err g)) (change w v wf) (change e d ef) (status_of h) in
-    subst P (sym p.0) (refused_answers g w v e d wf ef p.1 (subst (λ (h : Fault). AppendsUnlessFailed ef e d (line_of h)) p.0 line))
+answers_err T (Err g) f w v e d wf ef p line = refused_answers g f w v e d wf ef p.0 p.1 line
 
 -- the flush behind a text failed
-pub flush_cut : (text : List ℕ) (a b c : Option (List ℕ)) (failed : Bool) (f : Fault) → Appends a b text → Keeps b c → failed ≡ true → f ≡ fault.Write
+flush_cut : (text : List ℕ) (a b c : Option (List ℕ)) (failed : Bool) (f : Fault) → Appends a b text → Keeps b c → failed ≡ true → f ≡ fault.Write
     → IsCutOff text (change a c failed) f
 flush_cut text a b c failed f p q h e = record { output = front_all a c text (Appends-kept a b c text p q); cause = inl (h, e) }
+
+-- the flush behind an answer that was written failed
+pub flush_failed : {T : Type 0} (S : Type 0) (a : Result (List ℕ) Fault) (x : T) (w v u : Option (List ℕ)) (before after : Bool) (f : Fault)
+    → IsEnded a (change w v before) (Ok x) → Keeps v u → after ≡ true → f ≡ fault.Write → IsEnded {T = S} a (change w u after) (Err f)
+flush_failed S (Ok text) x w v u before after f p kept failed e = flush_cut text w v u after f p.output kept failed e
+flush_failed S (Err g) x w v u before after f p kept failed e = absurd p
+
+-- the flush behind an answer that was written went well
+pub flush_sound : {T S : Type 0} (a : Result (List ℕ) Fault) (x : T) (y : S) (w v u : Option (List ℕ)) (before after : Bool)
+    → IsEnded a (change w v before) (Ok x) → Keeps v u → after ≡ false → IsEnded a (change w u after) (Ok y)
+flush_sound (Ok text) x y w v u before after p kept sound = record { output = Appends-kept w v u text p.output kept; sound = sound }
+flush_sound (Err g) x y w v u before after p kept sound = absurd p
 
 -- a refusal before anything was written
 pub refused_at_once : (T : Type 0) (a : Result (List ℕ) Fault) (f : Fault) (w : Option (List ℕ)) (failed : Bool) → a ≡ Err f → failed ≡ false
     → IsEnded {T = T} a (change w w failed) (Err f)
 refused_at_once T a f w failed e h =
     let P : Result (List ℕ) Fault → Type 0 = λ r. IsEnded {T = T} r (change w w failed) (Err f) in
-    subst P (sym e) (refl, record { output = Appends-nil w; sound = h })
+    subst P (sym e) (inl refl, record { output = Appends-nil w; sound = h })
+
+-- want of memory before anything was written
+pub memory_at_once : (T : Type 0) (a : Result (List ℕ) Fault) (w : Option (List ℕ)) (failed : Bool) → failed ≡ false
+    → IsEnded {T = T} a (change w w failed) (Err (fault.Panic NoRoom))
+memory_at_once T (Ok text) w failed h = record { output = front_none w text; cause = inr (h, refl) }
+memory_at_once T (Err g) w failed h = (inr refl, record { output = Appends-nil w; sound = h })
+
+-- an answer that was written or cut off, once it is known where it begins
+pub ended_behind : {T : Type 0} (from : Result ℕ Fault) (k : ℕ) (text : ℕ → List ℕ) (out : Change) (r : Result T Fault)
+    → Ok k ≡ from → IsWritten (text k) out r → IsEnded (answer_behind from text) out r
+ended_behind {T = T} from k text out (Ok x) e p = subst (λ (a : Result ℕ Fault). IsEnded {T = T} (answer_behind a text) out (Ok x)) e p
+ended_behind {T = T} from k text out (Err f) e p = subst (λ (a : Result ℕ Fault). IsEnded {T = T} (answer_behind a text) out (Err f)) e p
+
+-- an answer refused because it is not known where it begins
+pub refused_behind : (T : Type 0) (from : Result ℕ Fault) (text : ℕ → List ℕ) (f : Fault) (w : Option (List ℕ)) (failed : Bool)
+    → (Err f ≡ from) ⊎ ◌≡◌ {A = Result ℕ Fault} (Err f) (Err (fault.Panic NoRoom)) → failed ≡ false → IsEnded {T = T} (answer_behind from text) (change w w failed) (Err f)
+refused_behind T from text f w failed (inl e) h = refused_at_once T (answer_behind from text) f w failed (ap (λ (a : Result ℕ Fault). answer_behind a text) (sym e)) h
+refused_behind T from text f w failed (inr e) h =
+    let memory : f ≡ fault.Panic NoRoom = cc in
+    subst (λ g. IsEnded {T = T} (answer_behind from text) (change w w failed) (Err g)) (sym memory) (memory_at_once T (answer_behind from text) w failed h)
+
+-- an answer refused because its graph is
+pub refused_value : (T : Type 0) (v : Result Description Panic) (answer : Description → Result (List ℕ) Fault) (p : Panic) (f : Fault) (w : Option (List ℕ)) (failed : Bool)
+    → IsAnswerOf v (Err p) → f ≡ fault.Panic p → failed ≡ false → IsEnded {T = T} (answer_from v answer) (change w w failed) (Err f)
+refused_value T (Ok d) answer p f w failed e is h =
+    let memory : f ≡ fault.Panic NoRoom = is ∙ ap fault.Panic e in
+    subst (λ g. IsEnded {T = T} (answer d) (change w w failed) (Err g)) (sym memory) (memory_at_once T (answer d) w failed h)
+refused_value T (Err q) answer p f w failed (inl e) is h =
+    refused_at_once T (Err (fault.Panic q)) f w failed (ap Err (ap fault.Panic (sym e) ∙ sym is)) h
+refused_value T (Err q) answer p f w failed (inr e) is h =
+    let memory : f ≡ fault.Panic NoRoom = is ∙ ap fault.Panic e in
+    subst (λ g. IsEnded {T = T} (Err (fault.Panic q)) (change w w failed) (Err g)) (sym memory) (memory_at_once T (Err (fault.Panic q)) w failed h)
+
+-- a listing of the graph of an expression
+pub listed_value : {T : Type 0} (v : Result Description Panic) (g : GraphData) (resume : Resume) (out : Change) (r : Result T Fault)
+    → IsAnswerOf v (Ok g) → IsEnded (list_answer (shown_graph g) resume) out r → IsEnded (answer_from v (λ d. list_answer (shown d) resume)) out r
+listed_value {T = T} (Ok d) g resume out r is p = subst (λ (a : Result (List ℕ) Fault). IsEnded {T = T} a out r) (list_answer-is d g resume is) p
+listed_value (Err q) g resume out r is p = absurd is
+
+-- names of the graph of an expression
+pub named_value : {T : Type 0} (v : Result Description Panic) (d : Description) (names : List (List ℕ)) (resume : Resume) (out : Change) (r : Result T Fault)
+    → v ≡ Ok d → d.names ≡ names → IsEnded (names_answer names resume) out r → IsEnded (answer_from v (λ x. names_answer x.names resume)) out r
+named_value {T = T} v d names resume out r e same p =
+    subst (λ (u : Result Description Panic). IsEnded {T = T} (answer_from u (λ x. names_answer x.names resume)) out r) (sym e)
+    (subst (λ (ns : List (List ℕ)). IsEnded {T = T} (names_answer ns resume) out r) (sym same) p)
+
+-- names of no graph: the generator refuses its parameters
+pub refused_local : (T : Type 0) (v : Result Description Panic) (answer : Description → Result (List ℕ) Fault) (p : Panic) (f : Fault) (w : Option (List ℕ)) (failed : Bool)
+    → IsLocalOf v (Err p) → f ≡ fault.Panic p → failed ≡ false → IsEnded {T = T} (answer_from v answer) (change w w failed) (Err f)
+refused_local T v answer p f w failed (inl e) is h =
+    refused_at_once T (answer_from v answer) f w failed (ap (λ (u : Result Description Panic). answer_from u answer) e ∙ ap Err (sym is)) h
+refused_local T v answer p f w failed (inr e) is h =
+    let memory : f ≡ fault.Panic NoRoom = is ∙ ap fault.Panic e in
+    subst (λ g. IsEnded {T = T} (answer_from v answer) (change w w failed) (Err g)) (sym memory) (memory_at_once T (answer_from v answer) w failed h)

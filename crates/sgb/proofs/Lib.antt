@@ -9,6 +9,10 @@ pub mod Fronts
 pub mod HelpRefused
 pub mod Integers
 pub mod Lines
+pub mod Listings
+pub mod Named
 pub mod PartialWrites
 pub mod RequiredValues
+pub mod Shown
+pub mod SoFar
 pub mod Steps

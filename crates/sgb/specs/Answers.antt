@@ -1,73 +1,62 @@
 -- What a request is answered with: the output, the line on standard error, and the exit status.
-use Rattle.std.specs.Prelude.{ℕ, ℤ, pos, negsuc, zero, Bool, true, false, List, [], ◌∷◌, ◌++◌, Result, Ok, Err, drop, nat_lt, nat_abs, if◌then◌else◌}
-use Rattle.std.specs.List.{flat_map}
-use Rattle.sgb_vec.specs.Sizes.{board_of}
-use Rattle.sgb_vec.specs.Boxes.{box, box_of}
-use Rattle.sgb_vec.specs.Names.{name_of_vector}
+use Rattle.std.specs.Prelude.{ℕ, suc, List, [], ◌++◌, Option, Some, None, Result, Ok, Err, nat_eq}
+use Rattle.std.specs.List.{position}
+use Rattle.std.specs.Cmp.Lexicographic.{pointwise}
 use Rattle.sgb_vec.specs.declared.panics.Panic.{Panic}
-use Rattle.sgb_vec.specs.declared.panics.Panic.TheVariants.{Bad, VeryBad}
+use Rattle.sgb_graph.specs.Descriptions.{Description}
 use Rattle.sgb.specs.Faults.{status_of, line_of}
-use Rattle.sgb.specs.declared.expressions.Expr.{Expr}
-use Rattle.sgb.specs.declared.expressions.Expr.TheVariants.{Board}
+use Rattle.sgb.specs.Texts.{Shown, shown, name_lines, head, blocks}
+use Rattle.sgb.specs.Values.{value_of}
 use Rattle.sgb.specs.declared.faults.Fault.{Fault}
 use Rattle.sgb.specs.declared.faults.Fault.TheVariants as fault
 use Rattle.sgb.specs.declared.requests.Request.{Request}
-use Rattle.sgb.specs.declared.requests.Request.TheVariants.{Names}
+use Rattle.sgb.specs.declared.requests.Request.TheVariants as request
 use Rattle.sgb.specs.declared.requests.Resume.{Resume}
-use Rattle.sgb.specs.declared.requests.Resume.TheVariants.{Whole, Skip}
+use Rattle.sgb.specs.declared.requests.Resume.TheVariants as resume
 
--- the greatest size of a piece
-abbrev pub most_piece : ℕ
-most_piece = 2_147_483_647
+-- the first vertex of this name
+abbrev pub vertex_named : List ℕ → List (List ℕ) → Option ℕ
+vertex_named name names = position (λ other. pointwise nat_eq other name) names
 
--- a board whose moves are not built yet: a piece that rides, or a side that wraps
-abbrev pub is_left_out : ℤ → ℤ → Bool
-is_left_out (negsuc n) wrap = true
-is_left_out (pos n) (pos zero) = false
-is_left_out (pos n) _ = true
+-- how many vertices at the front are left out: those up to a vertex that is there
+abbrev pub left_out_by : Option ℕ → Result ℕ Fault
+left_out_by (Some v) = Ok (suc v)
+left_out_by None = Err fault.NoVertex
 
--- the sizes of a board's box once its piece and wrap are looked at
-abbrev pub with_piece : ℤ → ℤ → List ℕ → Result (List ℕ) Panic
-with_piece piece wrap sizes =
-    if nat_lt most_piece (nat_abs piece) then Err VeryBad
-    else (if is_left_out piece wrap then Err Bad else Ok sizes)
+-- how many vertices at the front of these names are left out
+abbrev pub left_out : List (List ℕ) → Resume → Result ℕ Fault
+left_out names resume.Whole = Ok 0
+left_out names (resume.Skip k) = Ok k
+left_out names (resume.After name) = left_out_by (vertex_named name names)
 
--- the first refusal, or what the next step makes of the value
-infixl 10 ◌>>=◌
-abbrev pub ◌>>=◌ : {A B : Type 0} → Result A Panic → (A → Result B Panic) → Result B Panic
-(Ok x) >>= f = f x
-(Err p) >>= f = Err p
+-- what is written once it is known how many vertices are left out
+abbrev pub answer_behind : Result ℕ Fault → (ℕ → List ℕ) → Result (List ℕ) Fault
+answer_behind (Ok k) text = Ok (text k)
+answer_behind (Err f) text = Err f
 
--- the sizes of the box whose vectors are the vertices, or the first refusal
-abbrev pub board_sizes_of : ℤ → ℤ → ℤ → ℤ → ℤ → ℤ → Result (List ℕ) Panic
-board_sizes_of n1 n2 n3 n4 piece wrap =
-    board_of n1 n2 n3 n4 >>= λ shape. box_of shape.sizes >>= λ sizes. with_piece piece wrap sizes
+-- the answer of a command `names`, of names
+abbrev pub names_answer : List (List ℕ) → Resume → Result (List ℕ) Fault
+names_answer names resume = answer_behind (left_out names resume) (name_lines names)
 
--- the sizes of the box of an expression's vertices
-abbrev pub vertices_of : Expr → Result (List ℕ) Panic
-vertices_of (Board n1 n2 n3 n4 piece wrap directed) = board_sizes_of n1 n2 n3 n4 piece wrap
+-- what stands before the blocks: nothing where the listing is resumed
+abbrev pub head_for : Resume → List ℕ → List ℕ
+head_for resume.Whole text = text
+head_for (resume.Skip k) text = []
+head_for (resume.After name) text = []
 
--- the line of a vertex: its name and a newline (10)
-abbrev pub name_line : List ℕ → List ℕ
-name_line v = name_of_vector v ++ 10 ∷ []
+-- the answer of a command `list`, of what is shown of a graph
+abbrev pub list_answer : Shown → Resume → Result (List ℕ) Fault
+list_answer g resume = answer_behind (left_out g.names resume) (λ k. head_for resume (head g) ++ blocks g k)
 
--- how many vertices at the front are left out
-abbrev pub skipped : Resume → ℕ
-skipped Whole = 0
-skipped (Skip k) = k
-
--- the name lines of the vertices of a box from vertex k on
-unfoldable pub name_lines : List ℕ → ℕ → List ℕ
-name_lines sizes k = flat_map name_line (drop k (box sizes))
-
--- the output of a command `names`, of an evaluated expression
-abbrev pub names_output : Result (List ℕ) Panic → Resume → Result (List ℕ) Fault
-names_output (Ok sizes) resume = Ok (name_lines sizes (skipped resume))
-names_output (Err p) resume = Err (fault.Panic p)
+-- the answer that is made of an accepted graph; a refusal stays as it is
+abbrev pub answer_from : Result Description Panic → (Description → Result (List ℕ) Fault) → Result (List ℕ) Fault
+answer_from (Ok d) answer = answer d
+answer_from (Err p) answer = Err (fault.Panic p)
 
 -- the output of a request, or the fault that refuses it
 abbrev pub answer_of : Request → Result (List ℕ) Fault
-answer_of (Names e resume) = names_output (vertices_of e) resume
+answer_of (request.Names e resume) = answer_from (value_of e) (λ d. names_answer d.names resume)
+answer_of (request.List e resume) = answer_from (value_of e) (λ d. list_answer (shown d) resume)
 
 -- output, line on standard error, and exit status
 pub record Outcome : Type 0 where

@@ -1,5 +1,6 @@
 -- The command line by clap's meaning of it, and what its words ask for.
 use Rattle.std.specs.Prelude.{◌≡◌, ◌≢◌, ◌⊎◌, true, List, [], ◌∷◌, Option, Some, None, codes, option_map}
+use Rattle.std.specs.Borrow.{Bor}
 use Rattle.clap.specs.Simple.{new_shape}
 use Rattle.clap.specs.Words.{App, Row, Rule, Shape, Text, fault_of, first_of, new_app, new_rule, subcommand_of, subcommand_rows_of, with_subcommand}
 use Rattle.clap.specs.declared.builder.action.ArgAction.TheVariants.{Set}
@@ -9,6 +10,7 @@ use Rattle.clap.specs.declared.parser.matches.ArgMatches.{ArgMatches}
 use Rattle.sgb_vec.specs.declared.panics.Panic.TheVariants.{NoRoom}
 use Rattle.sgb.specs.declared.calls.Call.{Call}
 use Rattle.sgb.specs.declared.calls.Call.TheVariants as call
+use Rattle.sgb.specs.declared.calls.Values.{Values}
 use Rattle.sgb.specs.declared.faults.Fault.{Fault}
 use Rattle.sgb.specs.declared.faults.Fault.TheVariants as fault
 
@@ -16,22 +18,26 @@ use Rattle.sgb.specs.declared.faults.Fault.TheVariants as fault
 abbrev pub expression_rule : Rule
 expression_rule = record (new_rule (codes "EXPR")) { action = Some Set; required = true }
 
--- `--skip K`
-abbrev pub skip_rule : Rule
-skip_rule = record (new_rule (codes "skip")) { long = Some (codes "skip"); action = Some Set }
+-- an option `--NAME` that takes a value
+abbrev pub option_rule : Text → Rule
+option_rule name = record (new_rule name) { long = Some name; action = Some Set }
 
--- `names EXPR [--skip K]`
-abbrev pub names_shape : Shape
-names_shape = record (new_shape (codes "names")) { rules = expression_rule ∷ skip_rule ∷ [] }
+-- the command of this name, with `EXPR [--after NAME|--skip K]`: that not both options stand is no rule of clap's here
+abbrev pub output_shape : Text → Shape
+output_shape name = record (new_shape name) {
+  rules = expression_rule ∷ option_rule (codes "after") ∷ option_rule (codes "skip") ∷ [];
+}
 
 -- `sgb` and its commands
 abbrev pub command_line : App
-command_line = with_subcommand (new_app (codes "sgb")) names_shape
+command_line =
+    with_subcommand (with_subcommand (new_app (codes "sgb")) (output_shape (codes "names"))) (output_shape (codes "list"))
 
--- a command with the values of its argument and its option, as the words give them
+-- a command with the values of its argument and its options, as the words give them
 pub record Asked : Type 0 where
   pub command : Text
   pub expression : Option Text
+  pub after : Option Text
   pub skip : Option Text
 
 -- what is asked of a command, by its name and its matches
@@ -39,6 +45,7 @@ abbrev pub asked_by : Text × List Row → Asked
 asked_by entered = record {
   command = entered.0;
   expression = first_of (codes "EXPR") entered.1;
+  after = first_of (codes "after") entered.1;
   skip = first_of (codes "skip") entered.1;
 }
 
@@ -46,10 +53,11 @@ asked_by entered = record {
 abbrev pub asked_of : List Text → Option Asked
 asked_of words = option_map asked_by (subcommand_of command_line words)
 
--- the words are those of a command `names` with this expression and this value of `--skip`
-pub record AsksNames (words : List Text) (expression : Text) (skip : Option Text) : Type 0 where
+-- the words are those of this command with this expression and these values of `--after` and `--skip`
+pub record Asks (words : List Text) (command expression : Text) (after skip : Option Text) : Type 0 where
   pub taken : fault_of command_line words ≡ []
-  pub asked : asked_of words ≡ Some (record { command = codes "names"; expression = Some expression; skip = skip })
+  pub asked :
+      asked_of words ≡ Some (record { command = command; expression = Some expression; after = after; skip = skip })
 
 -- clap refuses the words, or answers them with a text of its own
 abbrev pub IsRefusedByClap : List Text → Type 0
@@ -69,15 +77,26 @@ pub record IsTaken (words : List Text) (matches : ArgMatches) : Type 0 where
   pub taken : fault_of command_line words ≡ []
   pub entered : subcommand_rows_of matches ≡ subcommand_of command_line words
 
--- the matches of `names` give this call
-abbrev pub IsNamesCall : List Row → Call → Type 0
-IsNamesCall rows (call.Names expression skip) =
-    (first_of (codes "EXPR") rows ≡ Some expression.now)
-    × (first_of (codes "skip") rows ≡ option_map (λ text. text.now) skip)
+-- the bytes of a value, if there is one
+abbrev pub bytes_of : Option (Bor Text) → Option Text
+bytes_of = option_map (λ text. text.now)
+
+-- a command's matches give these values
+abbrev pub Gives : List Row → Values → Type 0
+Gives rows values =
+    (first_of (codes "EXPR") rows ≡ Some values.expression.now)
+    × (first_of (codes "after") rows ≡ bytes_of values.after)
+    × (first_of (codes "skip") rows ≡ bytes_of values.skip)
+
+-- the words are those of this command with these values
+abbrev pub AsksBy : List Text → Text → Values → Type 0
+AsksBy words command values =
+    Asks words command values.expression.now (bytes_of values.after) (bytes_of values.skip)
 
 -- the words call for this
 abbrev pub IsCall : List Text → Call → Type 0
-IsCall words (call.Names expression skip) = AsksNames words expression.now (option_map (λ text. text.now) skip)
+IsCall words (call.Names values) = AsksBy words (codes "names") values
+IsCall words (call.List values) = AsksBy words (codes "list") values
 
 -- the words are refused with this fault before their values are looked at
 abbrev pub IsRefusedUse : List Text → Fault → Type 0

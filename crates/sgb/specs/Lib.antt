@@ -9,4 +9,6 @@ pub mod Grammar
 pub mod Reading
 pub mod Requests
 pub mod Runs
+pub mod Texts
+pub mod Values
 pub mod Writing

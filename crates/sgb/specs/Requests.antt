@@ -1,53 +1,78 @@
 -- The requests that the words of a command line make.
-use Rattle.std.specs.Prelude.{◌≡◌, ◌⊎◌, List, Option, Some, None, Result, Ok, Err}
+use Rattle.std.specs.Prelude.{◌≡◌, ◌⊎◌, List, Option, Some, None, Result, Ok, Err, codes}
 use Rattle.std.specs.Str.Parse.{digits_value}
 use Rattle.clap.specs.Words.{Text}
-use Rattle.sgb.specs.CommandLine.{AsksNames, IsNoCall}
+use Rattle.sgb.specs.CommandLine.{Asks, IsNoCall}
 use Rattle.sgb.specs.Grammar.{IsDigits}
 use Rattle.sgb.specs.Reading.{IsReadAs}
 use Rattle.sgb_vec.specs.declared.panics.Panic.TheVariants.{NoRoom}
+use Rattle.sgb.specs.declared.expressions.Expr.{Expr}
 use Rattle.sgb.specs.declared.faults.Fault.{Fault}
 use Rattle.sgb.specs.declared.faults.Fault.TheVariants as fault
 use Rattle.sgb.specs.declared.requests.Request.{Request}
-use Rattle.sgb.specs.declared.requests.Request.TheVariants.{Names}
+use Rattle.sgb.specs.declared.requests.Request.TheVariants as request
 use Rattle.sgb.specs.declared.requests.Resume.{Resume}
-use Rattle.sgb.specs.declared.requests.Resume.TheVariants.{Whole, Skip}
+use Rattle.sgb.specs.declared.requests.Resume.TheVariants.{Whole, Skip, After}
 
--- the value of `--skip` is a number of 1 to 18 digits
-abbrev pub IsCount : Option Text → Type 0
-IsCount None = Unit {0}
-IsCount (Some text) = IsDigits text
+-- the values of `--after` and `--skip` go together: not both stand, and K is a number of 1 to 18 digits
+abbrev pub GoTogether : Option Text → Option Text → Type 0
+GoTogether None None = Unit {0}
+GoTogether None (Some count) = IsDigits count
+GoTogether (Some name) None = Unit {0}
+GoTogether (Some name) (Some count) = ⊥
 
--- what the value of `--skip` says of where the answer begins
-abbrev pub resume_of : Option Text → Resume
-resume_of None = Whole
-resume_of (Some text) = Skip (digits_value 10 text)
+-- where the answer begins by the values of `--after` and `--skip`, which go together
+abbrev pub resume_of : Option Text → Option Text → Resume
+resume_of None None = Whole
+resume_of None (Some count) = Skip (digits_value 10 count)
+resume_of (Some name) _ = After name
 
--- the answer begins here by the value of `--skip`, which is a number of 1 to 18 digits
-abbrev pub IsResumeOf : Option Text → Resume → Type 0
-IsResumeOf skip resume = IsCount skip × (resume ≡ resume_of skip)
+-- the answer begins here by the values of `--after` and `--skip`
+abbrev pub IsResumeOf : Option Text → Option Text → Resume → Type 0
+IsResumeOf after skip resume = GoTogether after skip × (resume ≡ resume_of after skip)
 
--- the fault of a value of `--skip` that is no number of 1 to 18 digits
-abbrev pub IsNoCountOf : Option Text → Fault → Type 0
-IsNoCountOf skip f = (f ≡ fault.Usage) × (text : Text) × (skip ≡ Some text) × (IsDigits text → ⊥)
+-- the fault of values of `--after` and `--skip`: `Usage` where they do not go together, or want of memory
+abbrev pub IsResumeFault : Option Text → Option Text → Fault → Type 0
+IsResumeFault after skip fault.Usage = GoTogether after skip → ⊥
+IsResumeFault after skip (fault.Panic p) = p ≡ NoRoom
+IsResumeFault after skip _ = ⊥
 
--- a wrong call: clap refuses the words, or there is no command, or K is no number of 1 to 18 digits
+-- these values of `EXPR`, `--after` and `--skip` are read as this expression and this place to begin
+abbrev pub AreReadAs : Text → Option Text → Option Text → Expr → Resume → Type 0
+AreReadAs text after skip e resume = IsResumeOf after skip resume × IsReadAs text (Ok e)
+
+-- the fault of these values: `Usage` by the options before the expression is read, or want of memory
+abbrev pub AreRefused : Text → Option Text → Option Text → Fault → Type 0
+AreRefused text after skip fault.Usage = GoTogether after skip → ⊥
+AreRefused text after skip (fault.Panic p) = p ≡ NoRoom
+AreRefused text after skip f = GoTogether after skip × IsReadAs text (Err f)
+
+-- a wrong call: clap refuses the words, or there is no command, or both options stand, or K is no number of 1 to
+-- 18 digits
 abbrev pub IsWrongCall : List Text → Type 0
 IsWrongCall words =
-    IsNoCall words ⊎ ((expression skip : Text) × AsksNames words expression (Some skip) × (IsDigits skip → ⊥))
+    IsNoCall words
+    ⊎ ((command expression : Text) × (after skip : Option Text)
+    × Asks words command expression after skip × (GoTogether after skip → ⊥))
+
+-- the words ask this command for the answer to this expression, from here on
+abbrev pub IsAskedOf : List Text → Text → Expr → Resume → Type 0
+IsAskedOf words command e resume =
+    (text : Text) × (after skip : Option Text) × Asks words command text after skip
+    × AreReadAs text after skip e resume
 
 -- the words make this request
 abbrev pub IsRequest : List Text → Request → Type 0
-IsRequest words (Names e resume) =
-    (text : Text) × (skip : Option Text) × AsksNames words text skip
-    × IsCount skip × (resume ≡ resume_of skip) × IsReadAs text (Ok e)
+IsRequest words (request.Names e resume) = IsAskedOf words (codes "names") e resume
+IsRequest words (request.List e resume) = IsAskedOf words (codes "list") e resume
 
 -- the words are refused with this fault, want of memory aside
 abbrev pub IsRefusedCall : List Text → Fault → Type 0
 IsRefusedCall words fault.Usage = IsWrongCall words
 IsRefusedCall words (fault.Panic p) = p ≡ NoRoom
 IsRefusedCall words f =
-    (text : Text) × (skip : Option Text) × AsksNames words text skip × IsCount skip × IsReadAs text (Err f)
+    (command text : Text) × (after skip : Option Text)
+    × Asks words command text after skip × GoTogether after skip × IsReadAs text (Err f)
 
 -- what the words are answered with
 abbrev pub IsCallAnsweredBy : List Text → Result Request Fault → Type 0

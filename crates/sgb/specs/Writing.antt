@@ -26,8 +26,8 @@ abbrev pub IsWritten : {T : Type 0} → List ℕ → Change → Result T Fault �
 IsWritten text out (Ok x) = IsWhole text out
 IsWritten text out (Err f) = IsCutOff text out f
 
--- the request was answered, or refused with nothing written, or cut off
+-- the request was answered, or cut off, or refused with nothing written, by its own fault or want of memory
 abbrev pub IsEnded : {T : Type 0} → Result (List ℕ) Fault → Change → Result T Fault → Type 0
 IsEnded (Ok text) out r = IsWritten text out r
 IsEnded (Err g) out (Ok x) = ⊥
-IsEnded (Err g) out (Err f) = (f ≡ g) × IsWhole [] out
+IsEnded (Err g) out (Err f) = ((f ≡ g) ⊎ (f ≡ fault.Panic NoRoom)) × IsWhole [] out

@@ -4,8 +4,8 @@ ghost use Rattle.std.specs.Prelude.{◌≡◌, IfOk, IsSome, MatchResult, codes,
 ghost use Rattle.std.specs.String.{string_bytes};
 ghost use Rattle.clap.specs.Words.{HasKind, app_of, fault_of, first_of, found_of, rows_of, rule_of, shape_of};
 ghost use Rattle.clap.specs.declared.builder.command.Command.TheViews.{out-Command};
-ghost use Rattle.sgb.specs.CommandLine.{IsCall, IsNamesCall, IsRefusedUse, IsTaken, command_line};
-ghost use Rattle.sgb.specs.CommandLine.{expression_rule, names_shape, skip_rule};
+ghost use Rattle.sgb.specs.CommandLine.{Gives, IsCall, IsRefusedUse, IsTaken, command_line};
+ghost use Rattle.sgb.specs.CommandLine.{expression_rule, option_rule, output_shape};
 
 use crate::faults::Fault;
 use clap::error::ErrorKind;
@@ -13,14 +13,21 @@ use clap::{Arg, ArgAction, ArgMatches, Command, Error};
 use sgb_vec::Panic;
 use std::alloc::{AllocError, Global};
 
+/// The values that the words give to a command that writes a graph.
+#[derive(Clone, Copy)]
+pub(crate) struct Values<'a> {
+    pub expression: &'a str,
+    pub after: Option<&'a str>,
+    pub skip: Option<&'a str>,
+}
+
 /// A call of the program, with the values that the words give.
 #[derive(Clone, Copy)]
 pub(crate) enum Call<'a> {
-    /// `names EXPR [--skip K]`.
-    Names {
-        expression: &'a str,
-        skip: Option<&'a str>,
-    },
+    /// `names EXPR [--after NAME|--skip K]`.
+    Names(Values<'a>),
+    /// `list EXPR [--after NAME|--skip K]`.
+    List(Values<'a>),
 }
 
 impl From<Error> for Fault {
@@ -47,7 +54,10 @@ pub(crate) fn call_of<'a>(alloc: Global, words: &'a [String]) -> Result<Call<'a>
 {
     let matches = matches_of(alloc, words)?;
     if let Some(entered) = matches.subcommand_matches("names") {
-        return Ok(names_call(entered));
+        return Ok(Call::Names(values_of(entered)));
+    }
+    if let Some(entered) = matches.subcommand_matches("list") {
+        return Ok(Call::List(values_of(entered)));
     }
     Err(Fault::Usage)
 }
@@ -64,17 +74,21 @@ fn matches_of<'a>(alloc: Global, words: &'a [String]) -> Result<ArgMatches<'a>, 
 fn command_line<'a>(alloc: Global) -> Result<Command<'a>, AllocError>
     ensures { IfOk result (λ c. app_of c ≡ command_line) }
 {
-    Command::new(alloc, "sgb").subcommand(names_command(alloc)?)
+    Command::new(alloc, "sgb")
+        .subcommand(output_command(alloc, "names")?)?
+        .subcommand(output_command(alloc, "list")?)
 }
 
-// `names EXPR [--skip K]`.
-fn names_command<'a>(alloc: Global) -> Result<Command<'a>, AllocError>
-    ensures shape { IfOk result (λ c. shape_of c ≡ names_shape) }
+// The command of this name, with `EXPR [--after NAME|--skip K]`. That not both options stand is not left to
+// clap: it comes before the expression is read, with the digits of K.
+fn output_command<'a>(alloc: Global, name: &'a str) -> Result<Command<'a>, AllocError>
+    ensures shape { IfOk result (λ c. shape_of c ≡ output_shape name.entry.now) }
     ensures local { IfOk result (λ c. (out-Command c).has_globals ≡ false) }
 {
-    Command::new(alloc, "names")
+    Command::new(alloc, name)
         .arg(expression_argument(alloc))?
-        .arg(skip_option(alloc))
+        .arg(value_option(alloc, "after"))?
+        .arg(value_option(alloc, "skip"))
 }
 
 // `EXPR`, which has to be there.
@@ -87,21 +101,22 @@ fn expression_argument<'a>(alloc: Global) -> Arg<'a>
         .required(true)
 }
 
-// `--skip K`.
-fn skip_option<'a>(alloc: Global) -> Arg<'a>
-    ensures rule { rule_of result ≡ skip_rule }
+// The option of this name, which takes a value.
+fn value_option<'a>(alloc: Global, name: &'a str) -> Arg<'a>
+    ensures rule { rule_of result ≡ option_rule name.entry.now }
     ensures local { result.global ≡ false }
 {
-    Arg::new(alloc, "skip").long("skip").action(ArgAction::Set)
+    Arg::new(alloc, name).long(name).action(ArgAction::Set)
 }
 
-// The call that the matches of `names` give.
-fn names_call<'a>(entered: &ArgMatches<'a>) -> Call<'a>
+// The values that the matches of a command give.
+fn values_of<'a>(entered: &ArgMatches<'a>) -> Values<'a>
     requires { IsSome (first_of (codes "EXPR") (rows_of (found_of entered.now))) }
-    ensures { IsNamesCall (rows_of (found_of entered.now)) result }
+    ensures { Gives (rows_of (found_of entered.now)) result }
 {
-    Call::Names {
+    Values {
         expression: entered.get_str("EXPR").unwrap(),
+        after: entered.get_str("after"),
         skip: entered.get_str("skip"),
     }
 }

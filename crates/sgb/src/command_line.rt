@@ -1,50 +1,71 @@
 //! The request that a command line makes.
 
-ghost use Rattle.std.specs.Prelude.{◌≡◌, MatchResult, map, option_map};
+ghost use Rattle.std.specs.Prelude.{◌≡◌, MatchResult, map};
 ghost use Rattle.std.specs.Option.{SomeIff};
 ghost use Rattle.std.specs.Str.Parse.{digits_value};
 ghost use Rattle.std.specs.String.{string_bytes};
+ghost use Rattle.sgb.specs.CommandLine.{bytes_of};
 ghost use Rattle.sgb.specs.Grammar.{IsDigits};
-ghost use Rattle.sgb.specs.Requests.{IsCallAnsweredBy, IsNoCountOf, IsResumeOf};
+ghost use Rattle.sgb.specs.Requests.{AreReadAs, AreRefused, IsCallAnsweredBy, IsResumeFault, IsResumeOf};
 
-use crate::calls::{Call, call_of};
-use crate::expressions::parse_expr;
+use crate::calls::{Call, Values, call_of};
+use crate::expressions::{Expr, parse_expr};
 use crate::faults::Fault;
-use crate::requests::{Request, Resume};
+use crate::requests::{Name, Request, Resume};
 use std::alloc::Global;
 
 // A number has at most this many digits.
 const MOST_DIGITS: usize = 18;
 
-/// The request that the words make, of which the first is the program's name: `names EXPR`, with or
-/// without `--skip K`, as clap reads them.
+/// The request that the words make, of which the first is the program's name: `names EXPR` or `list EXPR`,
+/// each with `--after NAME`, with `--skip K` or with neither, as clap reads them.
 ///
 /// `Usage` where clap refuses the words or answers them with a text of its own, where no command
-/// stands, and where K is not 1 to 18 decimal digits. After that `TooLarge` and `Expr(k)` as
-/// `parse_expr` answers them. `Panic(NoRoom)` where memory ran out.
+/// stands, where both options stand, and where K is not 1 to 18 decimal digits. After that `TooLarge` and
+/// `Expr(k)` as `parse_expr` answers them. `Panic(NoRoom)` where memory ran out.
 pub fn request(alloc: Global, words: &[String]) -> Result<Request, Fault>
     ensures { IsCallAnsweredBy (map string_bytes words.now) result }
 {
     match call_of(alloc, words)? {
-        Call::Names { expression, skip } => {
-            let resume = resume_of(skip)?;
-            let graph = parse_expr(alloc, expression.as_bytes())?;
+        Call::Names(values) => {
+            let (graph, resume) = read(alloc, values)?;
             Ok(Request::Names(graph, resume))
+        }
+        Call::List(values) => {
+            let (graph, resume) = read(alloc, values)?;
+            Ok(Request::List(graph, resume))
         }
     }
 }
 
-// Where the answer begins by the value of `--skip`. `Usage` where that is not 1 to 18 digits.
-fn resume_of(skip: Option<&str>) -> Result<Resume, Fault>
-    ensures { MatchResult result (IsResumeOf (option_map (λ text. text.now) skip.entry))
-        (IsNoCountOf (option_map (λ text. text.now) skip.entry)) }
+// The expression that a command's values name, and where its answer begins. The options come first.
+fn read(alloc: Global, values: Values) -> Result<(Expr, Resume), Fault>
+    ensures { MatchResult result
+        (λ read. AreReadAs values.entry.expression.now (bytes_of values.entry.after) (bytes_of values.entry.skip) read.0 read.1)
+        (AreRefused values.entry.expression.now (bytes_of values.entry.after) (bytes_of values.entry.skip)) }
 {
-    match skip {
-        None => Ok(Resume::Whole),
-        Some(text) => {
+    let resume = resume_of(alloc, values.after, values.skip)?;
+    let graph = parse_expr(alloc, values.expression.as_bytes())?;
+    Ok((graph, resume))
+}
+
+// Where the answer begins by the values of `--after` and `--skip`. `Usage` where both stand, or where that of
+// `--skip` is not 1 to 18 digits. `Panic(NoRoom)` where memory is refused.
+fn resume_of(alloc: Global, after: Option<&str>, skip: Option<&str>) -> Result<Resume, Fault>
+    ensures { MatchResult result (IsResumeOf (bytes_of after.entry) (bytes_of skip.entry))
+        (IsResumeFault (bytes_of after.entry) (bytes_of skip.entry)) }
+{
+    match (after, skip) {
+        (None, None) => Ok(Resume::Whole),
+        (None, Some(text)) => {
             let count = count_of(text).ok_or(Fault::Usage)?;
             Ok(Resume::Skip(count))
         }
+        (Some(text), None) => {
+            let name = Name::new(alloc, text.as_bytes())?;
+            Ok(Resume::After(name))
+        }
+        (Some(_), Some(_)) => Err(Fault::Usage),
     }
 }
 

@@ -4,6 +4,7 @@
 pub(crate) mod calls;
 pub mod command_line;
 pub mod devices;
+mod evaluation;
 pub mod expressions;
 pub mod faults;
 mod parsing;

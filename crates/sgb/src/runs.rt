@@ -1,16 +1,19 @@
 //! Requests answered: evaluation, output, the line of a fault and the exit status.
 
-ghost use Rattle.std.specs.Prelude.{◌≡◌, false, List, ℕ, Ok, Err, MatchResult};
-ghost use Rattle.sgb.specs.Answers.{answer_of, outcome_of, names_output, vertices_of, skipped as skipped_of, with_piece};
+ghost use Rattle.std.specs.Prelude.{◌≡◌, false};
+ghost use Rattle.sgb.specs.Answers.{answer_from, answer_of, list_answer, names_answer, outcome_of};
 ghost use Rattle.sgb.specs.Runs.{Answers};
-ghost use Rattle.sgb.specs.Writing.{IsEnded, IsWritten};
+ghost use Rattle.sgb.specs.Texts.{shown};
+ghost use Rattle.sgb.specs.Values.{value_of};
+ghost use Rattle.sgb.specs.Writing.{IsEnded};
 
 use crate::devices::{Sink, Source};
+use crate::evaluation::{board_of, graph_of};
 use crate::expressions::Expr;
 use crate::faults::{Fault, report};
 use crate::requests::{Request, Resume};
-use crate::writing::write_names;
-use sgb_vec::{BoxFamily, Panic, board_sizes};
+use crate::writing::listing::write_listing;
+use crate::writing::names::write_names;
 use std::alloc::Global;
 
 /// Answers a request: writes its output to `out`, or the line of a fault to `errors`, and answers the exit
@@ -39,74 +42,51 @@ pub fn run<R: Source, W: Sink, E: Sink>(
     }
 }
 
-// Writes the output of a request.
+// Answers a request, and passes the output on.
 fn answer<W: Sink>(alloc: Global, request: &Request, out: &mut W) -> Result<(), Fault>
     requires { W.has_failed out.old ≡ false }
     ensures { IsEnded (answer_of request.now) (record { before = W.written out.old; after = W.written out.new; failed = W.has_failed out.new }) result }
 {
+    write_answer(alloc, request, out)?;
+    out.flush()?;
+    Ok(())
+}
+
+// Writes the output of a request.
+fn write_answer<W: Sink>(alloc: Global, request: &Request, out: &mut W) -> Result<(), Fault>
+    requires { W.has_failed out.old ≡ false }
+    ensures { IsEnded (answer_of request.now) (record { before = W.written out.old; after = W.written out.new; failed = W.has_failed out.new }) result }
+{
     match request {
-        Request::Names(expression, resume) => names(alloc, expression, resume, out),
+        Request::Names(expression, resume) => answer_names(alloc, expression, resume, out),
+        Request::List(expression, resume) => answer_list(alloc, expression, resume, out),
     }
 }
 
-// Writes the names of an expression's vertices.
-fn names<W: Sink>(
+// Writes the names of an expression's vertices. The vectors of a generator are walked: no graph is built.
+fn answer_names<W: Sink>(
     alloc: Global,
     expression: &Expr,
     resume: &Resume,
     out: &mut W,
 ) -> Result<(), Fault>
     requires { W.has_failed out.old ≡ false }
-    ensures { IsEnded (names_output (vertices_of expression.now) resume.now) (record { before = W.written out.old; after = W.written out.new; failed = W.has_failed out.new }) result }
+    ensures { IsEnded (answer_from (value_of expression.now) (λ d. names_answer d.names resume.now)) (record { before = W.written out.old; after = W.written out.new; failed = W.has_failed out.new }) result }
 {
-    let vertices = vertices(expression)?;
-    write_names(alloc, &vertices, skipped_count(resume), out)?;
-    out.flush()?;
-    Ok(())
+    let board = board_of(expression)?;
+    write_names(alloc, board.family(), resume, out)
 }
 
-// How many vertices an answer leaves out.
-fn skipped_count(resume: &Resume) -> u64
-    ensures { result ≡ skipped_of resume.now }
+// Writes the listing of an expression's graph.
+fn answer_list<W: Sink>(
+    alloc: Global,
+    expression: &Expr,
+    resume: &Resume,
+    out: &mut W,
+) -> Result<(), Fault>
+    requires { W.has_failed out.old ≡ false }
+    ensures { IsEnded (answer_from (value_of expression.now) (λ d. list_answer (shown d) resume.now)) (record { before = W.written out.old; after = W.written out.new; failed = W.has_failed out.new }) result }
 {
-    match resume {
-        Resume::Whole => 0,
-        Resume::Skip(count) => *count,
-    }
-}
-
-// The vertices of an expression's graph.
-fn vertices(expression: &Expr) -> Result<BoxFamily, Panic>
-    ensures { result ≡ vertices_of expression.now }
-{
-    match expression {
-        Expr::Board {
-            n1,
-            n2,
-            n3,
-            n4,
-            piece,
-            wrap,
-            directed: _,
-        } => {
-            let shape = board_sizes(*n1, *n2, *n3, *n4)?;
-            let vertices = BoxFamily::new(shape.sizes())?;
-            check_piece(*piece, *wrap)?;
-            Ok(vertices)
-        }
-    }
-}
-
-// Refuses a piece or a wrap that no board can have, or none yet.
-fn check_piece(piece: i64, wrap: i64) -> Result<(), Panic>
-    ensures { MatchResult result (λ _. (sizes : List ℕ) → with_piece piece wrap sizes ≡ Ok sizes)
-        (λ panic. (sizes : List ℕ) → with_piece piece wrap sizes ≡ Err panic) }
-{
-    if piece.unsigned_abs() > 2_147_483_647 {
-        return Err(Panic::VeryBad);
-    }
-    if piece < 0 || wrap != 0 {
-        return Err(Panic::Bad);
-    }
-    Ok(())
+    let graph = graph_of(alloc, expression)?;
+    write_listing(&graph, resume, out)
 }

@@ -111,15 +111,45 @@ fn calls_over_memory(rt: HostRuntime) -> Result<(), Fail> {
         },
         Case {
             words: &["names", "board(2,0,0,0,-1,0,0)"],
+            output: "0\n1\n",
+            line: "",
+            status: 0,
+        },
+        Case {
+            words: &["names", "board(2,0,0,0,1,1,0)", "--after", "0"],
+            output: "1\n",
+            line: "",
+            status: 0,
+        },
+        Case {
+            words: &["names", "board(2,3,0,0,1,0,0)", "--after", "1.1"],
+            output: "1.2\n",
+            line: "",
+            status: 0,
+        },
+        Case {
+            words: &["names", "board(2,3,0,0,1,0,0)", "--after", "1.2"],
             output: "",
-            line: "Something went wrong (panic code 30)!\n",
+            line: "",
+            status: 0,
+        },
+        Case {
+            words: &["names", "board(2,3,0,0,1,0,0)", "--after", "01.1"],
+            output: "",
+            line: "sgb: no such vertex\n",
             status: 1,
         },
         Case {
-            words: &["names", "board(2,0,0,0,1,1,0)"],
+            words: &["names", "board(2,3,0,0,1,0,0)", "--after", ""],
             output: "",
-            line: "Something went wrong (panic code 30)!\n",
+            line: "sgb: no such vertex\n",
             status: 1,
+        },
+        Case {
+            words: &["names", "board(3,", "--after", "1", "--skip", "1"],
+            output: "",
+            line: usage,
+            status: 2,
         },
         Case {
             words: &["names", "board(3,"],
@@ -168,6 +198,179 @@ fn calls_over_memory(rt: HostRuntime) -> Result<(), Fail> {
         assert_eq!(rt; status, case.status);
         assert_eq!(rt; out.bytes(), case.output.as_bytes());
         assert_eq!(rt; errors.bytes(), case.line.as_bytes());
+    }
+    Ok(())
+}
+
+#[test]
+fn listings_over_memory(rt: HostRuntime) -> Result<(), Fail> {
+    let cases = [
+        Case {
+            words: &["list", "board(2,2,0,0,1,0,0)"],
+            output: "  The graph whose official name is\nboard(2,2,0,0,1,0,0)\n  has 4 vertices and 8 arcs:\n\n\
+                0.0\n  -> 1.0, length 1\n  -> 0.1, length 1\n0.1\n  -> 1.1, length 1\n  -> 0.0, length 1\n\
+                1.0\n  -> 0.0, length 1\n  -> 1.1, length 1\n1.1\n  -> 0.1, length 1\n  -> 1.0, length 1\n",
+            line: "",
+            status: 0,
+        },
+        // a rider on a circle
+        Case {
+            words: &["list", "board(3,0,0,0,-1,1,0)"],
+            output: "  The graph whose official name is\nboard(3,0,0,0,-1,1,0)\n  has 3 vertices and 12 arcs:\n\n\
+                0\n  -> 2, length 1\n  -> 1, length 2\n  -> 2, length 2\n  -> 1, length 1\n\
+                1\n  -> 2, length 2\n  -> 0, length 2\n  -> 2, length 1\n  -> 0, length 1\n\
+                2\n  -> 1, length 2\n  -> 0, length 1\n  -> 1, length 1\n  -> 0, length 2\n",
+            line: "",
+            status: 0,
+        },
+        // a rider on a line
+        Case {
+            words: &["list", "board(3,0,0,0,-1,0,0)"],
+            output: "  The graph whose official name is\nboard(3,0,0,0,-1,0,0)\n  has 3 vertices and 6 arcs:\n\n\
+                0\n  -> 2, length 2\n  -> 1, length 1\n1\n  -> 2, length 1\n  -> 0, length 1\n\
+                2\n  -> 1, length 1\n  -> 0, length 2\n",
+            line: "",
+            status: 0,
+        },
+        // a loop: both records of an edge, one arc, none for a rider
+        Case {
+            words: &["list", "board(1,0,0,0,1,1,0)"],
+            output: "  The graph whose official name is\nboard(1,0,0,0,1,1,0)\n  has 1 vertices and 2 arcs:\n\n\
+                0\n  -> 0, length 1\n  -> 0, length 1\n",
+            line: "",
+            status: 0,
+        },
+        Case {
+            words: &["list", "board(1,0,0,0,1,1,1)"],
+            output: "  The graph whose official name is\nboard(1,0,0,0,1,1,1)\n  has 1 vertices and 1 arcs:\n\n\
+                0\n  -> 0, length 1\n",
+            line: "",
+            status: 0,
+        },
+        Case {
+            words: &["list", "board(1,0,0,0,-1,1,0)"],
+            output: "  The graph whose official name is\nboard(1,0,0,0,-1,1,0)\n  has 1 vertices and 0 arcs:\n\n0\n",
+            line: "",
+            status: 0,
+        },
+        // resumed listings have no head
+        Case {
+            words: &["list", "board(3,0,0,0,-1,0,0)", "--after", "1"],
+            output: "2\n  -> 1, length 1\n  -> 0, length 2\n",
+            line: "",
+            status: 0,
+        },
+        Case {
+            words: &["list", "board(3,0,0,0,-1,0,0)", "--skip", "2"],
+            output: "2\n  -> 1, length 1\n  -> 0, length 2\n",
+            line: "",
+            status: 0,
+        },
+        Case {
+            words: &["list", "board(1,0,0,0,-1,1,0)", "--skip", "0"],
+            output: "0\n",
+            line: "",
+            status: 0,
+        },
+        Case {
+            words: &["list", "board(3,0,0,0,-1,0,0)", "--after", "2"],
+            output: "",
+            line: "",
+            status: 0,
+        },
+        Case {
+            words: &[
+                "list",
+                "board(3,0,0,0,-1,0,0)",
+                "--skip",
+                "999999999999999999",
+            ],
+            output: "",
+            line: "",
+            status: 0,
+        },
+        Case {
+            words: &["list", "board(3,0,0,0,-1,0,0)", "--after", "3"],
+            output: "",
+            line: "sgb: no such vertex\n",
+            status: 1,
+        },
+        Case {
+            words: &["list", "board(2,-92,0,0,1,0,0)"],
+            output: "",
+            line: "Something went wrong (panic code 30)!\n",
+            status: 1,
+        },
+        Case {
+            words: &["list", "board(2,-30,0,0,1,0,0)"],
+            output: "",
+            line: "Something went wrong (panic code 40)!\n",
+            status: 1,
+        },
+        Case {
+            words: &[
+                "list",
+                "board(2,0,0,0,2147483648,0,0)",
+                "--after",
+                "no vertex",
+            ],
+            output: "",
+            line: "Something went wrong (panic code 40)!\n",
+            status: 1,
+        },
+    ];
+    for case in &cases {
+        let mut out = MemSink::new(rt.alloc());
+        let mut errors = MemSink::new(rt.alloc());
+        let status = call(rt.alloc(), case.words, &mut out, &mut errors)?;
+        assert_eq!(rt; status, case.status);
+        assert_eq!(rt; out.bytes(), case.output.as_bytes());
+        assert_eq!(rt; errors.bytes(), case.line.as_bytes());
+    }
+    Ok(())
+}
+
+// The graph of the default board: 64 vertices, 224 arcs.
+#[test]
+fn a_listing_of_the_chessboard(rt: HostRuntime) -> Result<(), Fail> {
+    let mut out = MemSink::new(rt.alloc());
+    let mut errors = MemSink::new(rt.alloc());
+    let words = ["list", "board(0,5,5,5,0,0,0)"];
+    assert_eq!(rt; call(rt.alloc(), &words, &mut out, &mut errors)?, 0);
+    assert!(rt;
+        out.bytes().starts_with(
+            b"  The graph whose official name is\nboard(8,8,0,0,1,0,0)\n  has 64 vertices and 224 arcs:\n\n0.0\n",
+        )
+    );
+    // four lines of the head, one for each vertex and each arc
+    assert_eq!(rt;
+        out.bytes().iter().filter(|byte| **byte == b'\n').count(),
+        4 + 64 + 224
+    );
+    Ok(())
+}
+
+// A sink that takes a few bytes and then fails has exactly the first bytes of the listing, however many it takes at
+// once; one that takes a byte for each put has all of it.
+#[test]
+fn a_listing_into_a_short_sink(rt: HostRuntime) -> Result<(), Fail> {
+    let words = ["list", "board(2,0,0,0,1,0,0)"];
+    let whole =
+        b"  The graph whose official name is\nboard(2,0,0,0,1,0,0)\n  has 2 vertices and 2 arcs:\n\n\
+        0\n  -> 1, length 1\n1\n  -> 0, length 1\n";
+    for each in [1usize, 7, 1000] {
+        for limit in 0..whole.len() {
+            let mut out: CutSink<160> = CutSink::new(each, limit, false);
+            let mut errors: CutSink<128> = CutSink::new(each, 128, false);
+            assert_eq!(rt; call(rt.alloc(), &words, &mut out, &mut errors)?, 3);
+            assert_eq!(rt; out.bytes(), &whole[..limit]);
+            assert_eq!(rt; errors.bytes(), b"sgb: write fault\n".as_slice());
+        }
+        let mut out: CutSink<160> = CutSink::new(each, whole.len(), false);
+        let mut errors: CutSink<128> = CutSink::new(each, 128, false);
+        assert_eq!(rt; call(rt.alloc(), &words, &mut out, &mut errors)?, 0);
+        assert_eq!(rt; out.bytes(), whole.as_slice());
+        assert_eq!(rt; errors.bytes(), b"".as_slice());
     }
     Ok(())
 }

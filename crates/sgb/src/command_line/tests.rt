@@ -1,7 +1,7 @@
 use super::request;
 use crate::expressions::Expr;
 use crate::faults::Fault;
-use crate::requests::{Request, Resume};
+use crate::requests::{Name, Request, Resume};
 use std::test::Fail;
 
 // What the program's words are answered with.
@@ -12,6 +12,40 @@ fn answer(rt: &HostRuntime, texts: &[&str]) -> Result<Result<Request, Fault>, Fa
         words.push(String::from_str(alloc, text)?)?;
     }
     Ok(request(alloc, words.as_slice()))
+}
+
+// Where an answer begins.
+#[derive(Clone, Copy, Debug, PartialEq, Eq)]
+enum Start<'a> {
+    Whole,
+    Skip(u64),
+    After(&'a str),
+}
+
+// Whether the answer begins there.
+fn begins(resume: &Resume, start: Start) -> bool {
+    match (resume, start) {
+        (Resume::Whole, Start::Whole) => true,
+        (Resume::Skip(count), Start::Skip(wanted)) => *count == wanted,
+        (Resume::After(name), Start::After(wanted)) => name.bytes() == wanted.as_bytes(),
+        _ => false,
+    }
+}
+
+// The command of a request.
+#[derive(Clone, Copy, Debug, PartialEq, Eq)]
+enum Command {
+    Names,
+    List,
+}
+
+// Whether the words ask this command for the board and for an answer that begins there.
+fn asks(request: &Request, command: Command, start: Start) -> bool {
+    let (asked, graph, resume) = match request {
+        Request::Names(graph, resume) => (Command::Names, graph, resume),
+        Request::List(graph, resume) => (Command::List, graph, resume),
+    };
+    asked == command && *graph == small_board() && begins(resume, start)
 }
 
 // `board(2,3,0,0,1,0,0)`.
@@ -29,49 +63,63 @@ fn small_board() -> Expr {
 
 const BOARD: &str = "board(2,3,0,0,1,0,0)";
 
+// Words behind a command's name, and where the answer begins by them.
+static RIGHT_CALLS: [(&[&str], Start); 14] = [
+    (&[BOARD], Start::Whole),
+    (&["--", BOARD], Start::Whole),
+    (&[BOARD, "--skip", "1799"], Start::Skip(1799)),
+    (&["--skip", "007", BOARD], Start::Skip(7)),
+    (&[BOARD, "--skip=5"], Start::Skip(5)),
+    (&["--skip", "3", BOARD], Start::Skip(3)),
+    (&[BOARD, "--skip", "0"], Start::Skip(0)),
+    (
+        &[BOARD, "--skip", "999999999999999999"],
+        Start::Skip(999_999_999_999_999_999),
+    ),
+    (&[BOARD, "--after", "1"], Start::After("1")),
+    (&["--after", "0.2", BOARD], Start::After("0.2")),
+    (&[BOARD, "--after=-x"], Start::After("-x")),
+    (&["--after=--skip", BOARD], Start::After("--skip")),
+    (&[BOARD, "--after", ""], Start::After("")),
+    (&[BOARD, "--after="], Start::After("")),
+];
+
 #[test]
-fn names_of_a_board(rt: HostRuntime) -> Result<(), Fail> {
-    let cases = [
-        (["sgb", "names", BOARD].as_slice(), Resume::Whole),
-        (["sgb", "names", "--", BOARD].as_slice(), Resume::Whole),
-        (
-            ["sgb", "names", BOARD, "--skip", "1799"].as_slice(),
-            Resume::Skip(1799),
-        ),
-        (
-            ["sgb", "names", "--skip", "007", BOARD].as_slice(),
-            Resume::Skip(7),
-        ),
-        (
-            ["sgb", "names", BOARD, "--skip=5"].as_slice(),
-            Resume::Skip(5),
-        ),
-        (
-            ["sgb", "names", BOARD, "--skip", "0"].as_slice(),
-            Resume::Skip(0),
-        ),
-        (
-            ["sgb", "names", BOARD, "--skip", "999999999999999999"].as_slice(),
-            Resume::Skip(999_999_999_999_999_999),
-        ),
-    ];
-    for (words, resume) in cases {
-        assert_eq!(rt;
-            answer(&rt, words)?,
-            Ok(Request::Names(small_board(), resume)),
-            "{words:?}"
-        );
+fn right_calls(rt: HostRuntime) -> Result<(), Fail> {
+    let commands = [("names", Command::Names), ("list", Command::List)];
+    for (name, command) in commands {
+        for (behind, start) in RIGHT_CALLS {
+            let mut words = vec![in rt.alloc(); "sgb", name]?;
+            words.extend_from_slice(behind)?;
+            let request = answer(&rt, &words)?;
+            assert!(rt;
+                request.is_ok_and(|request| asks(&request, command, start)),
+                "{words:?}"
+            );
+        }
     }
     Ok(())
 }
 
+#[test]
+fn a_name_is_its_bytes(rt: HostRuntime) -> Result<(), Fail> {
+    let name = Name::new(rt.alloc(), &[0, 255, b'.', 10])?;
+    assert_eq!(rt; name.bytes(), [0, 255, b'.', 10].as_slice());
+    Ok(())
+}
+
 // Words that are no call of the program.
-static WRONG_CALLS: [&[&str]; 20] = [
+static WRONG_CALLS: [&[&str]; 39] = [
     &[],
     &["sgb"],
     &["sgb", "name", BOARD],
+    &["sgb", "lists", BOARD],
+    &["sgb", "lists", "x"],
     &["sgb", "names"],
+    &["sgb", "list"],
+    &["sgb", "list", "--after", "1"],
     &["sgb", "names", BOARD, BOARD],
+    &["sgb", "names", "list", BOARD],
     &["sgb", "names", BOARD, "--skip"],
     &["sgb", "names", BOARD, "--skip", ""],
     &["sgb", "names", BOARD, "--skip="],
@@ -79,20 +127,34 @@ static WRONG_CALLS: [&[&str]; 20] = [
     &["sgb", "names", BOARD, "--skip", "-1"],
     &["sgb", "names", BOARD, "--skip=+1"],
     &["sgb", "names", BOARD, "--skip", "1234567890123456789"],
+    &["sgb", "list", BOARD, "--skip", "1234567890123456789"],
     &["sgb", "names", BOARD, "--skip", "1", "--skip", "1"],
     &["sgb", "names", "board(", "--skip", "x"],
+    &["sgb", "list", "board(", "--skip", "x"],
+    &["sgb", "names", BOARD, "--after"],
+    &["sgb", "list", BOARD, "--after"],
+    &["sgb", "names", BOARD, "--after", "-x"],
+    &["sgb", "names", BOARD, "--after", "1", "--after", "1"],
+    &["sgb", "list", BOARD, "--after=1", "--after="],
+    &["sgb", "names", BOARD, "--after", "1", "--skip", "1"],
+    &["sgb", "list", "board(", "--after", "1", "--skip", "1"],
+    &["sgb", "names", "--skip", "1", "board(", "--after", "1"],
+    &["sgb", "list", "--skip", "x", "--after", "", BOARD],
+    &["sgb", "names", BOARD, "-a", "1"],
+    &["sgb", "names", BOARD, "--from", "1"],
     &["sgb", "names", "--all", BOARD],
     &["sgb", "names", "--help"],
+    &["sgb", "list", "--help"],
     &["sgb", "--help"],
     &["sgb", "help"],
-    &["sgb", "help", "names"],
+    &["sgb", "help", "list"],
     &["sgb", "--version"],
 ];
 
 #[test]
 fn wrong_calls(rt: HostRuntime) -> Result<(), Fail> {
     for words in WRONG_CALLS {
-        assert_eq!(rt; answer(&rt, words)?, Err(Fault::Usage), "{words:?}");
+        assert_eq!(rt; answer(&rt, words)?.err(), Some(Fault::Usage), "{words:?}");
     }
     Ok(())
 }
@@ -104,9 +166,14 @@ fn bad_expressions(rt: HostRuntime) -> Result<(), Fail> {
         (["sgb", "names", ""].as_slice(), 0),
         (["sgb", "names", "board(3,"].as_slice(), 8),
         (["sgb", "names", "board(3,", "--skip", "1"].as_slice(), 8),
+        (["sgb", "list", "board(3,", "--after", "1"].as_slice(), 8),
     ];
     for (words, length) in cases {
-        assert_eq!(rt; answer(&rt, words)?, Err(Fault::Expr(length)), "{words:?}");
+        assert_eq!(rt;
+            answer(&rt, words)?.err(),
+            Some(Fault::Expr(length)),
+            "{words:?}"
+        );
     }
     Ok(())
 }

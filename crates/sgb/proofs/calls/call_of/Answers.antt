@@ -1,12 +1,18 @@
 use Rattle.std.proofs.Common.{refl, true≢false, sym}
-use Rattle.sgb.proofs.CallLemmas.{called, has_expression, not_called}
+use Rattle.sgb.proofs.CallLemmas.{has_expression, not_called}
 use Rattle.sgb.proofs.calls.call_of.Goals as goal
 
-pub names_call-requires : goal.names_call-requires
-names_call-requires c = has_expression _ _ _ c.in_ok-matches.ensures (c.in-Some.ensures.found.0 refl) c.in-Some.ensures.rows
+pub values_of-requires : goal.values_of-requires
+values_of-requires c =
+    has_expression _ _ _ _ c.in_ok-matches.ensures (c.in-Some.ensures.found.0 refl) c.in-Some.ensures.rows
 
-pub returns-in-Some : goal.returns-in-Some
-returns-in-Some c = called _ _ _ _ c.in_ok-matches.ensures (c.in-Some.ensures.found.0 refl) c.in-Some.ensures.rows c.names_call.ensures
+pub values_of-requires-in-Some-subcommand_matches : goal.values_of-requires-in-Some-subcommand_matches
+values_of-requires-in-Some-subcommand_matches c =
+    let list = c.in-Some-subcommand_matches.ensures in
+    has_expression _ _ _ _ c.in_ok-matches.ensures (list.found.0 refl) list.rows
 
 pub returns : goal.returns
-returns c = not_called _ _ c.in_ok-matches.ensures (λ e. true≢false (sym (c.in_default.ensures.found.1 e)))
+returns c =
+    let no_names = c.in_default.ensures.found.1 in
+    let no_list = c.in_default-subcommand_matches.ensures.found.1 in
+    not_called _ _ c.in_ok-matches.ensures (λ e. true≢false (sym (no_names e))) (λ e. true≢false (sym (no_list e)))

@@ -1,0 +1,45 @@
+-- The first vertex of a name.
+use Rattle.std.proofs.Common.{◌≡◌, ◌∙◌, ◌+◌, ◌<◌, ℕ, Bool, true, false, nat_lt, nat_eq, List, [], length, Some, None, refl, ap, inl, inr, arith}
+use Rattle.std.specs.List.{position_or_len, slice_get, slice_index_or}
+use Rattle.std.specs.Cmp.Lexicographic.{pointwise}
+use Rattle.std.proofs.lemmas.Bool.Decides.{nat_tests}
+use Rattle.std.proofs.lemmas.List.Sums.{position_or_len_is}
+use Rattle.std.proofs.lemmas.Option.{slice_get_within, get_or_from_slice_get}
+use Rattle.std.proofs.lemmas.Bool.{cases_lt}
+use Rattle.sgb.specs.Answers.{vertex_named}
+
+-- this vertex has the name
+abbrev pub has_name : List ℕ → List ℕ → Bool
+has_name name other = pointwise nat_eq other name
+
+-- none of the first so many has the name
+abbrev pub NoneBefore : List (List ℕ) → List ℕ → ℕ → Type 0
+NoneBefore names name i = (k : ℕ) → k < i → has_name name (slice_index_or names k []) ≡ false
+
+-- nor has one more
+pub none_before-more : (names : List (List ℕ)) (name other : List ℕ) (i : ℕ) → slice_get names i ≡ Some other → has_name name other ≡ false
+    → NoneBefore names name i → NoneBefore names name (i + 1)
+none_before-more names name other i at differs none = λ k h. elim (cases_lt k i) [
+  | inl before ↦ none k before
+  | inr behind ↦
+      let same : k ≡ i = omega arith in
+      ap (λ j. has_name name (slice_index_or names j [])) same ∙ ap (has_name name) (get_or_from_slice_get names i other [] at) ∙ differs
+]
+
+-- the first vertex of a name that the vertex has
+pub named_here : (names : List (List ℕ)) (name other : List ℕ) (i : ℕ) → slice_get names i ≡ Some other → has_name name other ≡ true
+    → NoneBefore names name i → vertex_named name names ≡ Some i
+named_here names name other i at same none =
+    let within : i < length names = slice_get_within names i other at in
+    let first : position_or_len (has_name name) names ≡ i =
+    position_or_len_is (has_name name) names i [] (omega (arith, within)) none (λ h. ap (has_name name) (get_or_from_slice_get names i other [] at) ∙ same) in
+    let inside : nat_lt i (length names) ≡ true = grind (arith, nat_tests) in
+    rw (first, inside) refl
+
+-- a name that no vertex has
+pub named_nowhere : (names : List (List ℕ)) (name : List ℕ) (n : ℕ) → n ≡ length names → NoneBefore names name n → vertex_named name names ≡ None
+named_nowhere names name n size none =
+    let first : position_or_len (has_name name) names ≡ n =
+    position_or_len_is (has_name name) names n [] (omega (arith, size)) none (λ h. absurd (omega (arith, size, h))) in
+    let outside : nat_lt n (length names) ≡ false = grind (arith, nat_tests) in
+    rw (first, outside) refl

@@ -1,0 +1,56 @@
+use Rattle.std.proofs.Common.{◌≡◌, ◌<◌, ◌∙◌, List, [], ◌∷◌, Option, Some, None, refl, sym, ap, subst, map, length}
+use Rattle.std.specs.Iterator.{YieldsFirst}
+use Rattle.std.specs.List.{All, flat_map}
+use Rattle.std.proofs.lemmas.List.Elements.{All-tail}
+use Rattle.std.proofs.lemmas.Result.{err_from_is_err_and}
+use Rattle.sgb_graph.specs.declared.fields.Link.{Link}
+use Rattle.sgb.specs.Texts.{arc_line, shown_graph}
+use Rattle.sgb.proofs.Listings.{block-parts}
+use Rattle.sgb.proofs.SoFar.{cut_more, so_far-all, so_far-cut, so_far-more, so_far-none}
+use Rattle.sgb.proofs.writing.listing.write_block.Goals as goal
+
+-- what the walk over arcs gives
+step_some : (s u : List Link) (r : Option Link) (link : Link) → r ≡ Some link → YieldsFirst (λ x. x) s r u → s ≡ link ∷ u
+step_some s u r link e h = subst (λ o. YieldsFirst (λ x. x) s o u) e h
+
+step_none : (s u : List Link) (r : Option Link) → r ≡ None → YieldsFirst (λ x. x) s r u → s ≡ []
+step_none s u r e h = (subst (λ o. YieldsFirst (λ x. x) s o u) e h).0
+
+pub returns-in_err-write_texts : goal.returns-in_err-write_texts
+returns-in_err-write_texts g c =
+    let p = err_from_is_err_and c.from_residual.result c.from_residual.ensures.1 in
+    let parts = block-parts (shown_graph c.args.graph.now) c.args.v _ _ (c.name.ensures ∙ ap Some (sym c.bytes.ensures.value)) refl in
+    rw (p.1, p.2, parts) (cut_more _ _ _ _ c.in_err-write_texts.ensures)
+
+pub loop-link-init : goal.loop-link-init
+loop-link-init g c =
+    let links = c.into_iter-link-iterator.ensures.into_iter_gives in
+    let parts = block-parts (shown_graph c.args.graph.now) c.args.v _ _ (c.name.ensures ∙ ap Some (sym c.bytes.ensures.value)) (sym (links ∙ c.arcs-link-items.ensures.chain)) in (
+      so_far-more _ _ _ _ _ _ _ parts (so_far-none _ _) c.in_ok-write_texts.ensures.output,
+      subst (All (λ link. link.tip < length c.args.graph.now.vertices)) (sym links) c.arcs-link-items.ensures.tips,
+      c.in_ok-write_texts.ensures.sound,
+    )
+
+pub returns-in_err-write_arc : goal.returns-in_err-write_arc
+returns-in_err-write_arc g c =
+    let p = err_from_is_err_and c.from_residual-in_err-write_arc.result c.from_residual-in_err-write_arc.ensures.1 in
+    let names = map (λ v. v.name) c.args.graph.now.vertices in
+    let step = step_some c.loop-link.link-iterator c.next.new.self c.next.result c.in-Some.link c.in-Some.is c.next.ensures.steps in
+    rw (p.1, p.2) (so_far-cut _ _ _ _ _ _ _ _ _ (ap (flat_map (arc_line names)) step) c.loop-link.invariant.0 c.in_err-write_arc.ensures)
+
+pub loop-link-preserved : goal.loop-link-preserved
+loop-link-preserved g c =
+    let names = map (λ v. v.name) c.args.graph.now.vertices in
+    let left = c.next.new.self in
+    let step = step_some c.loop-link.link-iterator left c.next.result c.in-Some.link c.in-Some.is c.next.ensures.steps in
+    let Within = λ (link : Link). link.tip < length c.args.graph.now.vertices in (
+      so_far-more _ _ _ _ _ _ _ (ap (flat_map (arc_line names)) step) c.loop-link.invariant.0 c.in_ok-write_arc.ensures.output,
+      All-tail Within c.in-Some.link left (subst (All Within) step c.loop-link.invariant.1),
+      c.in_ok-write_arc.ensures.sound,
+    )
+
+pub returns : goal.returns
+returns g c =
+    let names = map (λ v. v.name) c.args.graph.now.vertices in
+    let none = step_none c.loop-link.link-iterator c.next.new.self c.next.result c.in-None.is c.next.ensures.steps in
+    record { output = so_far-all _ _ _ _ (ap (flat_map (arc_line names)) none) c.loop-link.invariant.0; sound = c.loop-link.invariant.2 }

@@ -1,0 +1,22 @@
+use Rattle.std.proofs.Common.{ℕ, List, Bor, ap, arith}
+use Rattle.std.proofs.lemmas.List.{at_drop_more, drop_all}
+use Rattle.std.proofs.lemmas.Result.{err_from_is_err_and}
+use Rattle.std.specs.List.{flat_map}
+use Rattle.sgb.proofs.SoFar.{so_far-all, so_far-cut, so_far-more}
+use Rattle.sgb.proofs.writing.write_texts.Goals as goal
+
+pub returns-in_err-write_bytes : goal.returns-in_err-write_bytes
+returns-in_err-write_bytes g c =
+    let p = err_from_is_err_and c.from_residual.result c.from_residual.ensures.1 in
+    let first = at_drop_more (flat_map (λ (text : Bor (List ℕ)). text.now)) c.args.texts.now c.loop-text.text-index _ c.loop-text-test.true in
+    rw (p.1, p.2) (so_far-cut _ _ _ _ _ _ _ _ _ first c.loop-text.invariant.0 c.in_err-write_bytes.ensures)
+
+pub loop-text-preserved : goal.loop-text-preserved
+loop-text-preserved g c =
+    let first = at_drop_more (flat_map (λ (text : Bor (List ℕ)). text.now)) c.args.texts.now c.loop-text.text-index _ c.loop-text-test.true in
+    (so_far-more _ _ _ _ _ _ _ first c.loop-text.invariant.0 c.in_ok-write_bytes.ensures.output, c.in_ok-write_bytes.ensures.sound)
+
+pub returns : goal.returns
+returns g c =
+    let none = ap (flat_map (λ (text : Bor (List ℕ)). text.now)) (drop_all c.loop-text.text-index c.args.texts.now (omega (arith, c.loop-text-test.false))) in
+    record { output = so_far-all _ _ _ _ none c.loop-text.invariant.0; sound = c.loop-text.invariant.1 }
