@@ -5,7 +5,16 @@ pub mod BoxPlaces
 pub mod BoxRanks
 pub mod BoxSuccessors
 pub mod Examples
+pub mod GreatCounts
 pub mod NameReading
 pub mod Products
+pub mod RisingLists
+pub mod SimplexBounds
+pub mod SumCounts
 pub mod SumMembers
+pub mod SumRowLemmas
+pub mod SumSuccessors
+pub mod SumTails
+pub mod SumWalks
 pub mod VectorNames
+pub mod Windows

@@ -1,8 +1,9 @@
 -- Which vectors a bounded sum has, and that they rise lexicographically.
-use Rattle.std.proofs.Common.{◌≡◌, ℕ, suc, zero, ◌+◌, ◌↔◌, Bool, true, false, cond, eqb, List, [], ◌∷◌, map, filter, ap, ◌∙◌, sum, arith}
-use Rattle.std.specs.List.{Contains}
-use Rattle.std.proofs.lemmas.Bool.{eqb-true, eq-eqb}
-use Rattle.std.proofs.lemmas.List.Elements.{All-contains, All-contains_itself, All-filter, filter_passes}
+use Rattle.std.proofs.Common.{◌≡◌, ℕ, suc, zero, ◌+◌, ◌≤◌, ◌↔◌, Bool, true, false, cond, eqb, List, [], ◌∷◌, length, map, filter, refl, ap, ◌∙◌, sum, arith}
+use Rattle.std.specs.List.{Contains, list_all, zip}
+use Rattle.std.specs.Prelude.{nat_le}
+use Rattle.std.proofs.lemmas.Bool.{and_parts, and_from, eqb-true, eq-eqb, leb-true, le-leb}
+use Rattle.std.proofs.lemmas.List.Elements.{All-contains, All-contains_itself, All-filter, filter_passes, length_all_zip}
 use Rattle.std.proofs.lemmas.List.Kept.{AllPairs-filter}
 use Rattle.sgb_vec.specs.Boxes.{box}
 use Rattle.sgb_vec.specs.Sums.{bounded_sums}
@@ -58,3 +59,18 @@ Contains-bounded_sums n bounds v =
 pub bounded_sums-rise : (n : ℕ) (bounds : List ℕ) → IsRising (bounded_sums n bounds)
 unfolding bounded_sums
 bounded_sums-rise n bounds = AllPairs-filter IsBefore (λ v. eqb (sum v) n) (box (map (λ b. b + 1) bounds)) (box-rises (map (λ b. b + 1) bounds))
+
+-- as many entries as bounds
+pub IsWithin-length : (bounds v : List ℕ) → IsWithin v bounds → length v ≡ length bounds
+IsWithin-length bounds v h = length_all_zip (λ x b. x ≤ b) v bounds h
+
+-- the test of each pair, where there are as many entries as bounds
+pub IsWithin-test : (bounds v : List ℕ) → length v ≡ length bounds → (list_all (λ p. nat_le p.0 p.1) (zip v bounds) ≡ true) ↔ IsWithin v bounds
+IsWithin-test [] [] e = (λ _. tt, λ _. refl)
+IsWithin-test [] (x ∷ v) e = absurd (omega arith)
+IsWithin-test (b ∷ bounds) [] e = absurd (omega arith)
+IsWithin-test (b ∷ bounds) (x ∷ v) e =
+    let rest = IsWithin-test bounds v (omega arith) in (
+      λ h. let parts = and_parts (nat_le x b) (list_all (λ p. nat_le p.0 p.1) (zip v bounds)) h in (leb-true x b parts.0, rest.0 parts.1),
+      λ w. and_from (nat_le x b) (list_all (λ p. nat_le p.0 p.1) (zip v bounds)) (le-leb x b w.0) (rest.1 w.1),
+    )

@@ -10,4 +10,6 @@ pub mod Names
 pub mod Order
 pub mod Results
 pub mod Sizes
+pub mod SumRows
+pub mod SumWidth
 pub mod Sums

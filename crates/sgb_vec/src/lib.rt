@@ -6,11 +6,13 @@ mod families;
 mod laws;
 mod panics;
 mod shapes;
+mod sums;
 mod texts;
 
 pub use boxes::BoxFamily;
 pub use families::{Family, Vector};
 pub use laws::{boxes_are_families, names_read_back, sums_are_families};
 pub use panics::Panic;
-pub use shapes::{Shape, board_sizes};
+pub use shapes::{Shape, board_sizes, simplex_bounds};
+pub use sums::SumFamily;
 pub use texts::{Text, name_of};

@@ -1,13 +1,16 @@
-ghost use Rattle.std.specs.Prelude.{◌≡◌, ◌<◌, ◌≤◌, length, true, false, MatchResult};
-ghost use Rattle.sgb_vec.specs.Limits.{most_dimensions};
-ghost use Rattle.sgb_vec.specs.Sizes.{before_stop, stop_of, repeated, count_by_stop, zero_after_stop, has_great_size, board_by_stop, board_of};
+ghost use Rattle.std.specs.Prelude.{◌≡◌};
 
-use crate::panics::Panic;
+mod boards;
+mod entries;
+mod simplexes;
+
 use arrayvec::ArrayVec;
+pub use boards::board_sizes;
+pub use simplexes::simplex_bounds;
 use std::marker::Model;
 
 /// A generator's size parameters as its official name has them, and the numbers that they stand for:
-/// the sizes of a board. Contracts see it as these two lists.
+/// the sizes of a board, or the bounds of a simplex. Contracts see it as these two lists.
 #[derive(Drop)]
 pub struct Shape {
     params: ArrayVec<i64, 6>,
@@ -23,14 +26,14 @@ impl Model for Shape {
 }
 
 impl Shape {
-    /// The parameters as the official name has them: n1 to n4 of a board.
+    /// The parameters as the official name has them: n1 to n4 of a board, or n, n0 to n4 of a simplex.
     pub fn params(&self) -> &[i64]
         ensures { result.now ≡ self.now.params }
     {
         self.params.as_slice()
     }
 
-    /// The sizes of a board, one for each dimension.
+    /// The sizes of a board, one for each dimension, or the bounds of a simplex, one more than dimensions.
     pub fn sizes(&self) -> &[u32]
         ensures { result.now ≡ self.now.sizes }
     {
@@ -38,108 +41,8 @@ impl Shape {
     }
 }
 
-// A board has at most this many dimensions.
+// A board or a simplex has at most this many dimensions.
 const MOST_DIMENSIONS: u64 = 91;
-
-/// The parameters n1 to n4 of a board normalised, and its sizes (GB_BASIC, board): the entries before
-/// the first that is not positive, repeated to d sizes where that one is -d; 8 by 8 where there are none.
-///
-/// `Bad` above 91 dimensions; else `VeryBad` where a size is above 4,294,967,295. That there are at most
-/// 1,000,000,000 vertices is left to `BoxFamily::new`.
-pub fn board_sizes(n1: i64, n2: i64, n3: i64, n4: i64) -> Result<Shape, Panic>
-    ensures { result ≡ board_of n1 n2 n3 n4 }
-{
-    if n1 <= 0 {
-        return board_of(&[8, 8, 0, 0]);
-    }
-    board_of(&[n1, n2, n3, n4])
-}
-
-// The board of four entries, of which the first is positive.
-fn board_of(entries: &[i64; 4]) -> Result<Shape, Panic>
-    requires { 0 < length (before_stop entries.now) }
-    ensures { result ≡ board_by_stop entries.now (before_stop entries.now) (stop_of entries.now) }
-{
-    let before = before_stop(entries);
-    let count = dimension_count(before.as_slice(), stop_of(entries));
-    if count > MOST_DIMENSIONS {
-        return Err(Panic::Bad);
-    }
-    let sizes = repeated(before.as_slice(), count as usize)?;
-    let params = zero_after_stop(entries);
-    Ok(Shape { params, sizes })
-}
-
-// The entries before the stop.
-fn before_stop(entries: &[i64; 4]) -> ArrayVec<u64, 4>
-    ensures { result.items ≡ before_stop entries.now }
-{
-    let mut before = ArrayVec::new();
-    for entry in entries {
-        if *entry <= 0 {
-            return before;
-        }
-        before.push(entry.unsigned_abs());
-    }
-    before
-}
-
-// The first entry that is not positive; 0 where each is.
-fn stop_of(entries: &[i64; 4]) -> i64
-    ensures { result ≡ stop_of entries.now }
-{
-    for entry in entries {
-        if *entry <= 0 {
-            return *entry;
-        }
-    }
-    0
-}
-
-// How many sizes the board has; -stop may be as great as 2^63.
-fn dimension_count(before: &[u64], stop: i64) -> u64
-    ensures { result ≡ count_by_stop before.now stop }
-{
-    if stop < 0 {
-        return stop.unsigned_abs();
-    }
-    before.len() as u64
-}
-
-// The first `count` sizes of `before` repeated in turn; `VeryBad` where one is above 4,294,967,295.
-fn repeated(before: &[u64], count: usize) -> Result<ArrayVec<u32, 92>, Panic>
-    requires some { 0 < length before.now }
-    requires few { count ≤ most_dimensions }
-    ensures { MatchResult result
-        (λ s. (s.items ≡ repeated before.now count) × (has_great_size s.items ≡ false))
-        (λ e. (e ≡ Panic.VeryBad) × (has_great_size (repeated before.now count) ≡ true)) }
-{
-    let mut sizes = ArrayVec::new();
-    for place in 0..count {
-        match u32::try_from(before[place % before.len()]) {
-            Ok(size) => sizes.push(size),
-            Err(_) => return Err(Panic::VeryBad),
-        }
-    }
-    Ok(sizes)
-}
-
-// The parameters as the official name has them: those up to the stop, and 0 after it.
-fn zero_after_stop(entries: &[i64; 4]) -> ArrayVec<i64, 6>
-    ensures { result.items ≡ zero_after_stop entries.now }
-{
-    let mut params = ArrayVec::new();
-    let mut stopped = false;
-    for entry in entries {
-        if stopped {
-            params.push(0);
-            continue;
-        }
-        params.push(*entry);
-        stopped = *entry <= 0;
-    }
-    params
-}
 
 #[cfg(test)]
 mod tests;

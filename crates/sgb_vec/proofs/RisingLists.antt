@@ -1,0 +1,72 @@
+-- Neighbours in a list that rises strictly: the least element is the first, the least above one comes right after it,
+-- and one that nothing is above is the last.
+use Rattle.std.proofs.Common.{◌≡◌, ℕ, zero, suc, ◌+◌, ◌<◌, List, length, get_or, refl, sym, subst, inl, inr, arith}
+use Rattle.std.specs.List.{AllPairs, Contains, slice_get}
+use Rattle.std.specs.Prelude.{Some}
+use Rattle.std.proofs.lemmas.Bool.{cases_order}
+use Rattle.std.proofs.lemmas.List.Elements.{Contains-get_or}
+use Rattle.std.proofs.lemmas.Option.{slice_get_within, slice_get_read, get_or_from_slice_get}
+
+-- no two elements are each before the other
+abbrev pub IsAsymmetric : {X : Type 0} → (X → X → Type 0) → Type 0
+IsAsymmetric {X} R = (x y : X) → R x y → R y x → ⊥
+
+-- of two elements of a rising list, the one that is before the other stands at a smaller place
+pub place-rises : {X : Type 0} (R : X → X → Type 0) (xs : List X) (i j : ℕ) (d : X) → IsAsymmetric R → AllPairs R xs → i < length xs → R (get_or xs i d) (get_or xs j d) → i < j
+place-rises R xs i j d asym rises within before =
+    elim (cases_order i j) [
+      | inl same ↦ absurd (asym (get_or xs j d) (get_or xs j d) (rw same at before) (rw same at before))
+      | inr (inl less) ↦ less
+      | inr (inr more) ↦ absurd (asym (get_or xs i d) (get_or xs j d) before (rises j i d more within))
+    ]
+
+-- an element that no other is before stands first
+pub slice_get-least : {X : Type 0} (R : X → X → Type 0) (xs : List X) (w : X) → AllPairs R xs → Contains xs w → ((u : X) → Contains xs u → R u w → ⊥) → slice_get xs 0 ≡ Some w
+slice_get-least R xs w rises (zero, within, at) none = slice_get_read xs (length xs) 0 w refl within (sym at)
+slice_get-least R xs w rises (suc j, within, at) none =
+    let first_within : 0 < length xs = omega arith in
+    absurd (none (get_or xs 0 w) (Contains-get_or xs 0 w first_within) (subst (λ y. R (get_or xs 0 w) y) at (rises 0 (suc j) w (omega arith) within)))
+
+-- no element is before the first
+pub none_before_first : {X : Type 0} (R : X → X → Type 0) (xs : List X) (w u : X) → IsAsymmetric R → AllPairs R xs → slice_get xs 0 ≡ Some w → Contains xs u → R u w → ⊥
+none_before_first R xs w u asym rises first (j, within, at) before =
+    let here : get_or xs 0 u ≡ w = get_or_from_slice_get xs 0 w u first in
+    let less : j < 0 = place-rises R xs j 0 u asym rises within (rw (at, here) before) in
+    omega arith
+
+-- the least element above one comes right after it
+pub slice_get-nearest : {X : Type 0} (R : X → X → Type 0) (xs : List X) (v w : X) (i : ℕ) → IsAsymmetric R → AllPairs R xs → slice_get xs i ≡ Some v → Contains xs w → R v w → ((u : X) → Contains xs u → R v u → R u w → ⊥) → slice_get xs (i + 1) ≡ Some w
+slice_get-nearest R xs v w i asym rises here (j, within, at) before nearest =
+    let at_i : get_or xs i w ≡ v = get_or_from_slice_get xs i v w here in
+    let less : i < j = place-rises R xs i j w asym rises (slice_get_within xs i v here) (rw (at_i, at) before) in
+    elim (cases_order j (i + 1)) [
+      | inl same ↦ slice_get_read xs (length xs) (i + 1) w refl (omega arith) (rw same at (sym at))
+      | inr (inl low) ↦ absurd (omega arith)
+      | inr (inr more) ↦
+          let u = get_or xs (i + 1) w in
+          let member : Contains xs u = Contains-get_or xs (i + 1) w (omega arith) in
+          let above : R v u = subst (λ y. R y u) at_i (rises i (i + 1) w (omega arith) (omega arith)) in
+          let below : R u w = subst (λ y. R u y) at (rises (i + 1) j w more within) in
+          absurd (nearest u member above below)
+    ]
+
+-- an element that none is above stands last
+pub length-greatest : {X : Type 0} (R : X → X → Type 0) (xs : List X) (v : X) (i : ℕ) → AllPairs R xs → slice_get xs i ≡ Some v → ((u : X) → Contains xs u → R v u → ⊥) → length xs ≡ i + 1
+length-greatest R xs v i rises here none =
+    let within = slice_get_within xs i v here in
+    elim (cases_order (length xs) (i + 1)) [
+      | inl same ↦ same
+      | inr (inl low) ↦ absurd (omega arith)
+      | inr (inr more) ↦
+          let at_i : get_or xs i v ≡ v = get_or_from_slice_get xs i v v here in
+          let u = get_or xs (i + 1) v in
+          absurd (none u (Contains-get_or xs (i + 1) v more) (subst (λ y. R y u) at_i (rises i (i + 1) v (omega arith) more)))
+    ]
+
+-- no element is above the last
+pub none_above_last : {X : Type 0} (R : X → X → Type 0) (xs : List X) (v u : X) → IsAsymmetric R → AllPairs R xs → Contains xs v → ((i : ℕ) → slice_get xs i ≡ Some v → length xs ≡ i + 1) → Contains xs u → R v u → ⊥
+none_above_last R xs v u asym rises (i, i_within, at_i) last (j, j_within, at_j) before =
+    let here : get_or xs i u ≡ v = get_or_from_slice_get xs i v u (slice_get_read xs (length xs) i v refl i_within (sym at_i)) in
+    let less : i < j = place-rises R xs i j u asym rises i_within (rw (here, at_j) before) in
+    let top = last i (slice_get_read xs (length xs) i v refl i_within (sym at_i)) in
+    omega arith

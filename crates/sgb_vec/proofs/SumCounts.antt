@@ -1,0 +1,138 @@
+-- How many vectors within bounds add to a number: one more bound sums the counts over a window.
+use Rattle.std.proofs.Common.{◌≡◌, ℕ, suc, zero, ◌+◌, ◌<◌, ◌≤◌, Bool, true, false, cond, eqb, List, [], ◌∷◌, ◌++◌, length, map, filter, sum, refl, sym, ap, ◌∙◌, add-one, arith, length-append}
+use Rattle.std.specs.List.{flat_map, range_with_len}
+use Rattle.std.proofs.lemmas.Bool.{ne_eqb}
+use Rattle.std.proofs.lemmas.Bool.Decides.{same_from_decides, Decides-like, Decides-eqb}
+use Rattle.std.proofs.lemmas.List.Elements.{filter-append}
+use Rattle.std.proofs.lemmas.List.Sums.{sum_by-cons}
+use Rattle.sgb_vec.specs.Boxes.{box}
+use Rattle.sgb_vec.specs.Sums.{bounded_sums, count_of_sum}
+use Rattle.sgb_vec.proofs.Windows.{shifted, window, window_same, window_comm, window_far, one_at_zero, window-one_at_zero, window-one_at_zero_front}
+
+-- the sequence x places later, with 0 in front
+abbrev later : ℕ → (ℕ → ℕ) → ℕ → ℕ
+later zero f k = f k
+later (suc x) f k = shifted (later x f) k
+
+-- the sum of the sequences a places later, a + 1 places later, and so on, n of them
+abbrev laters : ℕ → ℕ → (ℕ → ℕ) → ℕ → ℕ
+laters a zero f k = 0
+laters a (suc n) f k = later a f k + laters (a + 1) n f k
+
+-- sequences one place later have the sum one place later
+laters-shifted : (n a : ℕ) (f : ℕ → ℕ) (k : ℕ) → laters (a + 1) n f k ≡ shifted (laters a n f) k
+laters-shifted zero a f zero = refl
+laters-shifted zero a f (suc k) = refl
+laters-shifted (suc n) a f zero =
+    let first : later (a + 1) f 0 ≡ 0 = ap (λ m. later m f 0) (add-one a) in
+    omega (arith, laters-shifted n (a + 1) f 0)
+laters-shifted (suc n) a f (suc k) =
+    let first : later (a + 1) f (suc k) ≡ later a f k = ap (λ m. later m f (suc k)) (add-one a) in
+    omega (arith, laters-shifted n (a + 1) f (suc k))
+
+-- all from 0 to b places later are a window
+laters-window : (b : ℕ) (f : ℕ → ℕ) (k : ℕ) → laters 0 (suc b) f k ≡ window b f k
+laters-window zero f k = omega arith
+laters-window (suc b) f zero = omega (arith, laters-shifted (suc b) 0 f 0)
+laters-window (suc b) f (suc k) = omega (arith, laters-shifted (suc b) 0 f (suc k), laters-window b f k)
+
+-- how many of the vectors add to k
+abbrev tally : List (List ℕ) → ℕ → ℕ
+tally vectors k = length (filter (λ v. eqb (sum v) k) vectors)
+
+-- a filter of mapped elements
+length-filter-map : (p q : List ℕ → Bool) (h : List ℕ → List ℕ) → ((v : List ℕ) → p (h v) ≡ q v) → (vectors : List (List ℕ)) → length (filter p (map h vectors)) ≡ length (filter q vectors)
+length-filter-map p q h e [] = refl
+length-filter-map p q h e (v ∷ vectors) =
+    let rest = length-filter-map p q h e vectors in
+    rw (e v) (elim (q v) as (λ b. length (cond b (h v ∷ filter p (map h vectors)) (filter p (map h vectors))) ≡ length (cond b (v ∷ filter q vectors) (filter q vectors))) [
+      | true ↦ omega arith
+      | false ↦ rest
+    ])
+
+-- a filter that nothing passes
+length-filter-none : (vectors : List (List ℕ)) → length (filter (λ v. false) vectors) ≡ 0
+length-filter-none [] = refl
+length-filter-none (v ∷ vectors) = length-filter-none vectors
+
+-- a sum with a greater first entry
+sum-suc : (x : ℕ) (v : List ℕ) → sum (suc x ∷ v) ≡ suc (sum (x ∷ v))
+sum-suc x v = omega (arith, sum_by-cons (λ y. y) (suc x) v, sum_by-cons (λ y. y) x v)
+
+-- tests of equations that say the same
+eqb_like : (a b c d : ℕ) → (a ≡ b → c ≡ d) → (c ≡ d → a ≡ b) → eqb a b ≡ eqb c d
+eqb_like a b c d there back =
+    same_from_decides {P = c ≡ d} (eqb a b) (eqb c d) (Decides-like (eqb a b) there back (Decides-eqb a b)) (Decides-eqb c d)
+
+-- x in front of each vector puts the counts x places later
+tally-front : (vectors : List (List ℕ)) (x k : ℕ) → tally (map (λ v. x ∷ v) vectors) k ≡ later x (tally vectors) k
+tally-front vectors zero k = length-filter-map (λ v. eqb (sum v) k) (λ v. eqb (sum v) k) (λ v. zero ∷ v) (λ v. refl) vectors
+tally-front vectors (suc x) zero =
+    let above : (v : List ℕ) → eqb (sum (suc x ∷ v)) 0 ≡ false = λ v. ne_eqb (sum (suc x ∷ v)) 0 (λ e. absurd (omega (arith, sum-suc x v))) in
+    length-filter-map (λ v. eqb (sum v) 0) (λ v. false) (λ v. suc x ∷ v) above vectors ∙ length-filter-none vectors
+tally-front vectors (suc x) (suc k) =
+    let same : (v : List ℕ) → eqb (sum (suc x ∷ v)) (suc k) ≡ eqb (sum (x ∷ v)) k =
+    λ v. eqb_like (sum (suc x ∷ v)) (suc k) (sum (x ∷ v)) k (λ e. omega (arith, sum-suc x v)) (λ e. omega (arith, sum-suc x v)) in
+    let adds : List ℕ → Bool = λ v. eqb (sum (x ∷ v)) k in
+    length-filter-map (λ v. eqb (sum v) (suc k)) adds (λ v. suc x ∷ v) same vectors
+    ∙ sym (length-filter-map (λ v. eqb (sum v) k) adds (λ v. x ∷ v) (λ v. refl) vectors)
+    ∙ tally-front vectors x k
+
+-- of each x from a on, n of them
+tally-rows : (vectors : List (List ℕ)) (n a k : ℕ) → tally (flat_map (λ x. map (λ v. x ∷ v) vectors) (range_with_len a n)) k ≡ laters a n (tally vectors) k
+tally-rows vectors zero a k = refl
+tally-rows vectors (suc n) a k =
+    let adds : List ℕ → Bool = λ v. eqb (sum v) k in
+    let row = map (λ v. a ∷ v) vectors in
+    let rest = flat_map (λ x. map (λ v. x ∷ v) vectors) (range_with_len (a + 1) n) in
+    let joined : tally (row ++ rest) k ≡ length (filter adds row ++ filter adds rest) = ap length (filter-append adds row rest) in
+    omega (arith, joined, length-append (filter adds row) (filter adds rest), tally-front vectors a k, tally-rows vectors n (a + 1) k)
+
+-- a bound in front sums the counts over a window
+pub count_of_sum-cons : (b : ℕ) (bounds : List ℕ) (k : ℕ) → count_of_sum k (b ∷ bounds) ≡ window b (λ i. count_of_sum i bounds) k
+unfolding bounded_sums box
+count_of_sum-cons b bounds k =
+    let vectors = box (map (λ c. c + 1) bounds) in
+    let all_rows : count_of_sum k (b ∷ bounds) ≡ laters 0 (b + 1) (tally vectors) k = tally-rows vectors (b + 1) 0 k in
+    all_rows ∙ ap (λ n. laters 0 n (tally vectors) k) (add-one b) ∙ laters-window b (tally vectors) k
+
+-- so does a bound behind
+pub count_of_sum-snoc : (bounds : List ℕ) (b k : ℕ) → count_of_sum k (bounds ++ b ∷ []) ≡ window b (λ i. count_of_sum i bounds) k
+count_of_sum-snoc [] b k = count_of_sum-cons b [] k
+count_of_sum-snoc (a ∷ bounds) b k =
+    count_of_sum-cons a (bounds ++ b ∷ []) k
+    ∙ window_same a (λ i. count_of_sum i (bounds ++ b ∷ [])) (window b (λ i. count_of_sum i bounds)) k (λ i _. count_of_sum-snoc bounds b i)
+    ∙ window_comm a b (λ i. count_of_sum i bounds) k
+    ∙ window_same b (window a (λ i. count_of_sum i bounds)) (λ i. count_of_sum i (a ∷ bounds)) k (λ i _. sym (count_of_sum-cons a bounds i))
+
+-- no bound: one vector adds to 0, and none to another sum
+pub count_of_sum-nil : (k : ℕ) → count_of_sum k [] ≡ one_at_zero k
+unfolding bounded_sums box
+count_of_sum-nil zero = refl
+count_of_sum-nil (suc k) =
+    let other : eqb 0 (suc k) ≡ false = ne_eqb 0 (suc k) (λ e. absurd (omega arith)) in
+    rw other refl
+
+-- at most one vector of one bound
+pub count_of_sum-one : (b k : ℕ) → count_of_sum k (b ∷ []) ≤ 1
+count_of_sum-one b k =
+    omega (arith, count_of_sum-cons b [] k, window_same b (λ i. count_of_sum i []) one_at_zero k (λ i _. count_of_sum-nil i), window-one_at_zero b k)
+
+-- as far as it goes there is one; of no bound there is one that adds to 0
+pub count_of_sum-few : (bounds : List ℕ) (k : ℕ) → length bounds < 2 → k ≤ sum bounds → count_of_sum k bounds ≡ 1
+count_of_sum-few [] zero short h = count_of_sum-nil 0
+count_of_sum-few [] (suc k) short h = absurd (omega arith)
+count_of_sum-few (b ∷ []) k short h =
+    let within : k ≤ b = omega (arith, sum_by-cons (λ y. y) b []) in
+    count_of_sum-cons b [] k
+    ∙ window_same b (λ i. count_of_sum i []) one_at_zero k (λ i _. count_of_sum-nil i)
+    ∙ window-one_at_zero_front b k within
+count_of_sum-few (b ∷ c ∷ bounds) k short h = absurd (omega arith)
+
+-- no vector above the sum of the bounds
+pub count_of_sum-far : (bounds : List ℕ) (k : ℕ) → sum bounds < k → count_of_sum k bounds ≡ 0
+count_of_sum-far [] zero h = absurd (omega arith)
+count_of_sum-far [] (suc k) h = count_of_sum-nil (suc k)
+count_of_sum-far (b ∷ bounds) k h =
+    let far : b + sum bounds < k = omega (arith, sum_by-cons (λ y. y) b bounds) in
+    count_of_sum-cons b bounds k ∙ window_far b (sum bounds) (λ i. count_of_sum i bounds) (λ i l. count_of_sum-far bounds i l) k far

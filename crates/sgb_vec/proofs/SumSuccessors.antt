@@ -1,0 +1,158 @@
+-- The vectors within bounds that add to the same: the least, the greatest, and the step from one to the next.
+use Rattle.std.proofs.Common.{◌≡◌, ℕ, zero, suc, ◌+◌, ◌<◌, ◌≤◌, ◌⊎◌, List, [], ◌∷◌, ◌++◌, length, get_or, drop, take, refl, ap, inl, inr, arith, sum}
+use Rattle.std.specs.Ordering.{ordering_reverse}
+use Rattle.std.specs.Cmp.{nat_cmp_is}
+use Rattle.std.specs.declared.cmp.Ordering.TheVariants.{Less, Equal, Greater}
+use Rattle.std.proofs.lemmas.Bool.{cases_order}
+use Rattle.std.proofs.lemmas.Cmp.{nat_list_cmp_total}
+use Rattle.std.proofs.lemmas.List.Sums.{sum_by-cons}
+use Rattle.sgb_vec.specs.Lexicographic.{IsBefore, IsWithin}
+use Rattle.sgb_vec.proofs.RisingLists.{IsAsymmetric}
+
+-- the entries of a vector add to the first and what the others add to
+pub sum-cons : (x : ℕ) (v : List ℕ) → sum (x ∷ v) ≡ x + sum v
+sum-cons x v = sum_by-cons (λ y. y) x v
+
+-- no two vectors are each before the other
+pub IsBefore-asymmetric : IsAsymmetric IsBefore
+IsBefore-asymmetric v w h k =
+    let flipped = nat_list_cmp_total.antisymm v w in
+    cc (ap ordering_reverse k)
+
+-- a vector with a smaller first entry is before
+pub IsBefore-less : (x y : ℕ) (v w : List ℕ) → x < y → IsBefore (x ∷ v) (y ∷ w)
+IsBefore-less x y v w less = rw (← nat_cmp_is x y Less less)
+
+-- behind the same first entry the others decide
+pub IsBefore-same : (x y : ℕ) (v w : List ℕ) → x ≡ y → IsBefore v w → IsBefore (x ∷ v) (y ∷ w)
+IsBefore-same x y v w same behind = rw (← nat_cmp_is x y Equal same) behind
+
+-- and there is no other way
+pub IsBefore-cases : (x y : ℕ) (v w : List ℕ) → IsBefore (x ∷ v) (y ∷ w) → (x < y) ⊎ ((x ≡ y) × IsBefore v w)
+IsBefore-cases x y v w h =
+    elim (cases_order x y) [
+      | inl same ↦ inr (same, rw (← nat_cmp_is x y Equal same) at h)
+      | inr (inl less) ↦ inl less
+      | inr (inr more) ↦
+          let reversed : Greater ≡ Less = rw (← nat_cmp_is x y Greater more) at h in
+          absurd (cc reversed)
+    ]
+
+-- a vector within bounds adds to at most what these add to
+pub sum-within : (bounds v : List ℕ) → IsWithin v bounds → sum v ≤ sum bounds
+sum-within [] [] h = omega arith
+sum-within [] (x ∷ v) h = absurd h
+sum-within (b ∷ bounds) [] h = absurd h
+sum-within (b ∷ bounds) (x ∷ v) h = omega (arith, h.0, sum-within bounds v h.1, sum-cons x v, sum-cons b bounds)
+
+-- no vector within the bounds that adds to the same is before w
+pub record IsLeast (bounds w : List ℕ) : Type 0 where
+  pub within : IsWithin w bounds
+  pub none_below : (u : List ℕ) → IsWithin u bounds → sum u ≡ sum w → IsBefore u w → ⊥
+
+-- none that v is before
+pub record IsGreatest (bounds v : List ℕ) : Type 0 where
+  pub within : IsWithin v bounds
+  pub none_above : (u : List ℕ) → IsWithin u bounds → sum u ≡ sum v → IsBefore v u → ⊥
+
+-- of those that v is before, w is the least
+pub record IsNearest (bounds v w : List ℕ) : Type 0 where
+  pub within : IsWithin w bounds
+  pub same_sum : sum w ≡ sum v
+  pub above : IsBefore v w
+  pub none_between : (u : List ℕ) → IsWithin u bounds → sum u ≡ sum v → IsBefore v u → IsBefore u w → ⊥
+
+-- the vector of no entries is the least, and the greatest
+pub IsLeast-nil : IsLeast [] []
+IsLeast-nil = record {
+  within = tt;
+  none_below = λ u h e before. elim u as (λ u. IsWithin u [] → IsBefore u [] → ⊥) [ [] ↦ λ _ b. cc b | x ∷ u ↦ λ k _. absurd k ] h before;
+}
+
+pub IsGreatest-nil : IsGreatest [] []
+IsGreatest-nil = record {
+  within = tt;
+  none_above = λ u h e before. elim u as (λ u. IsWithin u [] → IsBefore [] u → ⊥) [ [] ↦ λ _ b. cc b | x ∷ u ↦ λ k _. absurd k ] h before;
+}
+
+-- an entry in front of the least vector is 0, or those behind it have no room for more
+none_below-cons : (b x : ℕ) (bounds w u : List ℕ) → IsLeast bounds w → (0 < x → sum w ≡ sum bounds) → IsWithin u (b ∷ bounds) → sum u ≡ sum (x ∷ w) → IsBefore u (x ∷ w) → ⊥
+none_below-cons b x bounds w [] least full h e before = absurd h
+none_below-cons b x bounds w (y ∷ u) least full h e before =
+    let room = sum-within bounds u h.1 in
+    elim (IsBefore-cases y x u w before) [
+      | inl less ↦ omega (arith, full (omega arith), sum-cons y u, sum-cons x w)
+      | inr same ↦ least.none_below u h.1 (omega (arith, same.0, sum-cons y u, sum-cons x w)) same.1
+    ]
+
+pub IsLeast-cons : (b x : ℕ) (bounds w : List ℕ) → IsLeast bounds w → x ≤ b → (0 < x → sum w ≡ sum bounds) → IsLeast (b ∷ bounds) (x ∷ w)
+IsLeast-cons b x bounds w least low full = record {
+  within = (low, least.within);
+  none_below = λ u. none_below-cons b x bounds w u least full;
+}
+
+-- an entry in front of the greatest vector is as great as its bound, or the others are zeros
+none_above-cons : (b x : ℕ) (bounds v u : List ℕ) → IsGreatest bounds v → (0 < sum v → b ≤ x) → IsWithin u (b ∷ bounds) → sum u ≡ sum (x ∷ v) → IsBefore (x ∷ v) u → ⊥
+none_above-cons b x bounds v [] greatest top h e before = absurd h
+none_above-cons b x bounds v (y ∷ u) greatest top h e before =
+    elim (IsBefore-cases x y v u before) [
+      | inl less ↦ omega (arith, h.0, top (omega (arith, sum-cons y u, sum-cons x v)))
+      | inr same ↦ greatest.none_above u h.1 (omega (arith, same.0, sum-cons y u, sum-cons x v)) same.1
+    ]
+
+pub IsGreatest-cons : (b x : ℕ) (bounds v : List ℕ) → IsGreatest bounds v → x ≤ b → (0 < sum v → b ≤ x) → IsGreatest (b ∷ bounds) (x ∷ v)
+IsGreatest-cons b x bounds v greatest low top = record {
+  within = (low, greatest.within);
+  none_above = λ u. none_above-cons b x bounds v u greatest top;
+}
+
+-- where the others are the greatest, an entry grows and the others become the least
+between-grown : (b x : ℕ) (bounds v w u : List ℕ) → IsGreatest bounds v → IsLeast bounds w → sum v ≡ sum w + 1 → IsWithin u (b ∷ bounds) → sum u ≡ sum (x ∷ v) → IsBefore (x ∷ v) u → IsBefore u ((x + 1) ∷ w) → ⊥
+between-grown b x bounds v w [] greatest least one h e above below = absurd h
+between-grown b x bounds v w (y ∷ u) greatest least one h e above below =
+    elim (IsBefore-cases x y v u above) [
+      | inr same ↦ greatest.none_above u h.1 (omega (arith, same.0, sum-cons y u, sum-cons x v)) same.1
+      | inl less ↦
+          elim (IsBefore-cases y (x + 1) u w below) [
+            | inl small ↦ omega arith
+            | inr same ↦ least.none_below u h.1 (omega (arith, same.0, sum-cons y u, sum-cons x v)) same.1
+          ]
+    ]
+
+IsNearest-grown : (b x : ℕ) (bounds v w : List ℕ) → x < b → IsGreatest bounds v → IsLeast bounds w → sum v ≡ sum w + 1 → IsNearest (b ∷ bounds) (x ∷ v) ((x + 1) ∷ w)
+IsNearest-grown b x bounds v w low greatest least one = record {
+  within = (omega arith, least.within);
+  same_sum = omega (arith, sum-cons x v, sum-cons (x + 1) w);
+  above = IsBefore-less x (x + 1) v w (omega arith);
+  none_between = λ u. between-grown b x bounds v w u greatest least one;
+}
+
+-- an entry in front of both stays as it is
+between-cons : (b x : ℕ) (bounds v w u : List ℕ) → IsNearest bounds v w → IsWithin u (b ∷ bounds) → sum u ≡ sum (x ∷ v) → IsBefore (x ∷ v) u → IsBefore u (x ∷ w) → ⊥
+between-cons b x bounds v w [] near h e above below = absurd h
+between-cons b x bounds v w (y ∷ u) near h e above below =
+    elim (IsBefore-cases x y v u above) [
+      | inl less ↦ elim (IsBefore-cases y x u w below) [ inl small ↦ omega arith | inr same ↦ omega (arith, same.0) ]
+      | inr same ↦
+          elim (IsBefore-cases y x u w below) [
+            | inl small ↦ omega (arith, same.0)
+            | inr both ↦ near.none_between u h.1 (omega (arith, same.0, sum-cons y u, sum-cons x v)) same.1 both.1
+          ]
+    ]
+
+IsNearest-cons : (b x : ℕ) (bounds v w : List ℕ) → x ≤ b → IsNearest bounds v w → IsNearest (b ∷ bounds) (x ∷ v) (x ∷ w)
+IsNearest-cons b x bounds v w low near = record {
+  within = (low, near.within);
+  same_sum = omega (arith, near.same_sum, sum-cons x v, sum-cons x w);
+  above = IsBefore-same x x v w refl near.above;
+  none_between = λ u. between-cons b x bounds v w u near;
+}
+
+-- the entry at p grows, where those behind it are the greatest, and they become the least
+pub IsNearest-at : (bounds v w : List ℕ) (p : ℕ) → IsWithin v bounds → p < length v → get_or v p 0 < get_or bounds p 0 → IsGreatest (drop (suc p) bounds) (drop (suc p) v) → IsLeast (drop (suc p) bounds) w → sum (drop (suc p) v) ≡ sum w + 1 → IsNearest bounds v (take p v ++ (get_or v p 0 + 1) ∷ w)
+IsNearest-at [] [] w p h within low greatest least one = absurd (omega arith)
+IsNearest-at [] (x ∷ v) w p h within low greatest least one = absurd h
+IsNearest-at (b ∷ bounds) [] w p h within low greatest least one = absurd h
+IsNearest-at (b ∷ bounds) (x ∷ v) w zero h within low greatest least one = IsNearest-grown b x bounds v w low greatest least one
+IsNearest-at (b ∷ bounds) (x ∷ v) w (suc p) h within low greatest least one =
+    IsNearest-cons b x bounds v _ h.0 (IsNearest-at bounds v w p h.1 (omega arith) low greatest least one)

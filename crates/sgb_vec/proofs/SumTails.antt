@@ -1,0 +1,113 @@
+-- The vectors of a bounded sum built, and looked through, from the right: what holds of the entries from a place on.
+use borrow.Rule.Slice.PartMut.{put_mid}
+use Rattle.std.proofs.Common.{◌≡◌, ℕ, zero, suc, ◌+◌, ◌-◌, ◌<◌, ◌≤◌, min, List, [], ◌∷◌, ◌++◌, length, get_or, set, drop, take, refl, sym, inl, inr, arith, sum, add-one}
+use Rattle.std.proofs.lemmas.Bool.{cases_lt}
+use Rattle.std.proofs.lemmas.List.{append-nil, append_assoc, drop_more, drop_all, drop-set, take_more_set, length-drop}
+use Rattle.std.proofs.lemmas.List.Elements.{AllZip-get_or}
+use Rattle.std.proofs.lemmas.List.Sums.{sum_by-take-drop, sum_by-drop_more}
+use Rattle.sgb_vec.specs.Sums.{bounded_sums}
+use Rattle.sgb_vec.specs.Lexicographic.{IsWithin}
+use Rattle.sgb_vec.specs.Order.{IsFirst, IsNext, IsLast}
+use Rattle.sgb_vec.proofs.SumMembers.{IsWithin-length}
+use Rattle.sgb_vec.proofs.SumSuccessors.{sum-cons, IsLeast, IsGreatest, IsLeast-nil, IsGreatest-nil, IsLeast-cons, IsGreatest-cons, IsNearest-at}
+use Rattle.sgb_vec.proofs.SumWalks.{IsFirst-least, IsLeast-first, first-within, IsLast-greatest, IsGreatest-last, IsNext-nearest}
+
+-- the entries from a place on are the least of their sum, and `rest` of the total has found no room there
+pub record IsFilledFrom (bounds entries : List ℕ) (place rest total : ℕ) : Type 0 where
+  pub least : IsLeast (drop place bounds) (drop place entries)
+  pub adds : rest + sum (drop place entries) ≡ total
+  pub full : 0 < rest → sum (drop place entries) ≡ sum (drop place bounds)
+
+-- no entry yet
+pub filled-none : (bounds entries : List ℕ) (total : ℕ) → length entries ≡ length bounds → IsFilledFrom bounds entries (length bounds) total total
+filled-none bounds entries total same =
+    let no_bounds : drop (length bounds) bounds ≡ [] = drop_all (length bounds) bounds (omega arith) in
+    let no_entries : drop (length bounds) entries ≡ [] = drop_all (length bounds) entries (omega arith) in
+    record {
+      least = rw (no_bounds, no_entries) IsLeast-nil;
+      adds = rw no_entries (omega arith);
+      full = λ _. rw (no_bounds, no_entries) refl;
+    }
+
+-- one entry more
+pub filled-more : (bounds entries : List ℕ) (p q rest total : ℕ) → q ≡ p + 1 → p < length bounds → p < length entries → IsFilledFrom bounds entries q rest total → IsFilledFrom bounds (set entries p (min rest (get_or bounds p 0))) p (rest - min rest (get_or bounds p 0)) total
+filled-more bounds entries p q rest total next h k so =
+    let b = get_or bounds p 0 in
+    let x = min rest b in
+    let bounds_from : drop p bounds ≡ b ∷ drop q bounds = rw next (drop_more bounds p 0 h) in
+    let entries_from : drop p (set entries p x) ≡ x ∷ drop q entries = rw next (drop-set entries p x k) in
+    record {
+      least = rw (bounds_from, entries_from) (IsLeast-cons b x (drop q bounds) (drop q entries) so.least (omega arith) (λ some. so.full (omega arith)));
+      adds = rw entries_from (omega (arith, so.adds, sum-cons x (drop q entries)));
+      full = λ some. rw (bounds_from, entries_from) (omega (arith, so.full (omega arith), sum-cons x (drop q entries), sum-cons b (drop q bounds)));
+    }
+
+-- all entries are the first vector, where there is room for the total
+pub filled-all : (bounds entries : List ℕ) (rest total : ℕ) → total ≤ sum bounds → IsFilledFrom bounds entries 0 rest total → IsFirst (bounded_sums total bounds) entries
+filled-all bounds entries rest total room so =
+    let no_rest : rest ≡ 0 = elim (cases_lt 0 rest) [ inl some ↦ absurd (omega (arith, so.adds, so.full some)) | inr none ↦ omega arith ] in
+    IsFirst-least total bounds entries so.least (omega (arith, so.adds))
+
+-- the entries from a place on are the greatest of their sum, which is `behind`
+pub record IsGreatestFrom (bounds entries : List ℕ) (place behind : ℕ) : Type 0 where
+  pub greatest : IsGreatest (drop place bounds) (drop place entries)
+  pub adds : behind ≡ sum (drop place entries)
+
+-- no entry yet
+pub greatest-none : (bounds entries : List ℕ) → IsWithin entries bounds → IsGreatestFrom bounds entries (length entries) 0
+greatest-none bounds entries within =
+    let no_bounds : drop (length entries) bounds ≡ [] = drop_all (length entries) bounds (omega (arith, IsWithin-length bounds entries within)) in
+    let no_entries : drop (length entries) entries ≡ [] = drop_all (length entries) entries (omega arith) in
+    record { greatest = rw (no_bounds, no_entries) IsGreatest-nil; adds = rw no_entries refl }
+
+-- one entry more, which cannot grow at the cost of those behind it
+pub greatest-more : (bounds entries : List ℕ) (p q behind : ℕ) → q ≡ p + 1 → IsWithin entries bounds → p < length entries → (0 < behind → get_or bounds p 0 ≤ get_or entries p 0) → IsGreatestFrom bounds entries q behind → IsGreatestFrom bounds entries p (behind + get_or entries p 0)
+greatest-more bounds entries p q behind next within k top so =
+    let b = get_or bounds p 0 in
+    let x = get_or entries p 0 in
+    let h : p < length bounds = omega (arith, IsWithin-length bounds entries within) in
+    let bounds_from : drop p bounds ≡ b ∷ drop q bounds = rw next (drop_more bounds p 0 h) in
+    let entries_from : drop p entries ≡ x ∷ drop q entries = rw next (drop_more entries p 0 k) in
+    record {
+      greatest = rw (bounds_from, entries_from) (IsGreatest-cons b x (drop q bounds) (drop q entries) so.greatest (AllZip-get_or (λ x b. x ≤ b) entries bounds p 0 0 within k) (λ some. top (omega (arith, so.adds))));
+      adds = rw entries_from (omega (arith, so.adds, sum-cons x (drop q entries)));
+    }
+
+-- what one entry more makes of it is at most what all entries add to
+pub behind-more_le : (bounds entries : List ℕ) (p q behind : ℕ) → q ≡ p + 1 → p < length entries → IsGreatestFrom bounds entries q behind → behind + get_or entries p 0 ≤ sum entries
+behind-more_le bounds entries p q behind next k so =
+    let entries_from : sum (drop p entries) ≡ get_or entries p 0 + sum (drop q entries) = rw next (sum_by-drop_more (λ x. x) entries p 0 k) in
+    omega (arith, so.adds, sum_by-take-drop (λ x. x) entries p)
+
+-- all entries are the last vector
+pub greatest-all : (bounds entries : List ℕ) (behind : ℕ) → IsGreatestFrom bounds entries 0 behind → IsLast (bounded_sums (sum entries) bounds) entries
+greatest-all bounds entries behind so = IsLast-greatest (sum entries) bounds entries so.greatest refl
+
+-- the entries from a place on are within the bounds from there on
+pub IsWithin-drop : (bounds v : List ℕ) (p : ℕ) → IsWithin v bounds → IsWithin (drop p v) (drop p bounds)
+IsWithin-drop bounds v zero h = h
+IsWithin-drop [] [] (suc p) h = tt
+IsWithin-drop [] (x ∷ v) (suc p) h = absurd h
+IsWithin-drop (b ∷ bounds) [] (suc p) h = absurd h
+IsWithin-drop (b ∷ bounds) (x ∷ v) (suc p) h = IsWithin-drop bounds v p h.1
+
+-- what a write at p and then of all that is behind it leaves
+pub put_mid-tail : (v w : List ℕ) (p x : ℕ) → p < length v → put_mid (p + 1) (length (set v p x) - (p + 1)) (set v p x) w ≡ take p v ++ (x ∷ w)
+put_mid-tail v w p x h =
+    let s = set v p x in
+    let front : take (p + 1) s ≡ take p v ++ (x ∷ []) = take_more_set v p x h in
+    let back : drop (length s - (p + 1)) (drop (p + 1) s) ≡ [] = drop_all (length s - (p + 1)) (drop (p + 1) s) (omega (arith, length-drop (p + 1) s)) in
+    rw (front, back, append-nil) (simp append_assoc)
+
+-- the step to the next vector: the entry at p grows, and the others behind it become the first of their sum
+pub IsNext-step : (bounds v w : List ℕ) (p behind less : ℕ) → IsWithin v bounds → p < length v → get_or v p 0 < get_or bounds p 0 → behind ≡ sum (drop (p + 1) v) → less + 1 ≡ behind → IsLast (bounded_sums behind (drop (p + 1) bounds)) (drop (p + 1) v) → IsFirst (bounded_sums less (drop (p + 1) bounds)) w → IsNext (bounded_sums (sum v) bounds) v (take p v ++ ((get_or v p 0 + 1) ∷ w))
+IsNext-step bounds v w p behind less within h low adds one last first =
+    let tail = IsWithin-drop bounds v (suc p) within in
+    let q : p + 1 ≡ suc p = add-one p in
+    let last_behind : IsLast (bounded_sums behind (drop (suc p) bounds)) (drop (suc p) v) = rw q at last in
+    let first_behind : IsFirst (bounded_sums less (drop (suc p) bounds)) w = rw q at first in
+    let adds_behind : behind ≡ sum (drop (suc p) v) = rw q at adds in
+    let greatest = IsGreatest-last behind (drop (suc p) bounds) (drop (suc p) v) tail (sym adds_behind) last_behind in
+    let parts = first-within less (drop (suc p) bounds) w first_behind in
+    let least = IsLeast-first less (drop (suc p) bounds) w first_behind in
+    IsNext-nearest (sum v) bounds v _ (IsNearest-at bounds v w p within h low greatest least (omega (arith, parts.1))) refl

@@ -1,0 +1,126 @@
+ghost use Rattle.std.specs.Prelude.{◌≤◌, ◌+◌, length};
+ghost use Rattle.sgb_vec.specs.Limits.{most_dimensions};
+
+use super::SumFamily;
+use crate::families::{Family, Vector};
+use crate::panics::Panic;
+use std::alloc::Global;
+use std::process::Abort;
+use std::test::Fail;
+
+// The bounded sum.
+fn family_of(alloc: Global, total: i64, bounds: &[u32]) -> Result<SumFamily, Fail>
+    requires { length bounds.now ≤ most_dimensions + 1 }
+{
+    Ok(SumFamily::new(alloc, total, bounds)?)
+}
+
+// Walks the family from its first vector, and compares each vector with the list's. A step from the last vector
+// leaves it as it is.
+fn walk<A: Abort>(rt: &A, family: &SumFamily, expected: &[&[u32]]) {
+    let mut vector = Vector::new();
+    let mut more = family.first(&mut vector);
+    for entries in expected {
+        assert!(rt; more);
+        assert_eq!(rt; vector.as_slice(), *entries);
+        assert!(rt; family.holds(vector.as_slice()));
+        more = family.next(&mut vector);
+    }
+    assert!(rt; !more);
+    assert_eq!(rt; Some(vector.as_slice()), expected.last().copied());
+}
+
+#[test]
+fn two_within_2_2_2(rt: HostRuntime) -> Result<(), Fail> {
+    let family = family_of(rt.alloc(), 2, &[2, 2, 2])?;
+    assert_eq!(rt; family.dims(), 3);
+    assert_eq!(rt; family.size(), 6);
+    walk(
+        &rt,
+        &family,
+        &[
+            &[0, 0, 2],
+            &[0, 1, 1],
+            &[0, 2, 0],
+            &[1, 0, 1],
+            &[1, 1, 0],
+            &[2, 0, 0],
+        ],
+    );
+    let strangers: [&[u32]; 5] = [&[], &[0, 2], &[0, 0, 2, 0], &[0, 0, 1], &[1, 1, 1]];
+    for stranger in strangers {
+        assert!(rt; !family.holds(stranger));
+    }
+    Ok(())
+}
+
+#[test]
+fn three_within_1_2_1(rt: HostRuntime) -> Result<(), Fail> {
+    let family = family_of(rt.alloc(), 3, &[1, 2, 1])?;
+    walk(&rt, &family, &[&[0, 2, 1], &[1, 1, 1], &[1, 2, 0]]);
+    for stranger in [[3, 0, 0], [0, 3, 0], [0, 0, 3], [0, 1, 2]] {
+        assert!(rt; !family.holds(&stranger));
+    }
+    Ok(())
+}
+
+#[test]
+fn one_vector(rt: HostRuntime) -> Result<(), Fail> {
+    walk(&rt, &family_of(rt.alloc(), 3, &[3])?, &[&[3]]);
+    walk(&rt, &family_of(rt.alloc(), 0, &[0, 0])?, &[&[0, 0]]);
+    walk(&rt, &family_of(rt.alloc(), 0, &[])?, &[&[]]);
+    walk(&rt, &family_of(rt.alloc(), 5, &[2, 3])?, &[&[2, 3]]);
+    Ok(())
+}
+
+#[test]
+fn no_vector(rt: HostRuntime) -> Result<(), Fail> {
+    let family = family_of(rt.alloc(), 4, &[1, 1])?;
+    assert_eq!(rt; family.dims(), 2);
+    assert_eq!(rt; family.size(), 0);
+    let mut vector = Vector::new();
+    vector.push(7);
+    assert!(rt; !family.first(&mut vector));
+    assert_eq!(rt; vector.as_slice(), [7].as_slice());
+    Ok(())
+}
+
+// How many vectors the sum has, or why it is refused.
+fn count_of(alloc: Global, n: i64, bounds: &[u32]) -> Result<u32, Panic>
+    requires { length bounds.now ≤ most_dimensions + 1 }
+{
+    Ok(SumFamily::new(alloc, n, bounds)?.count)
+}
+
+#[test]
+fn vectors_of_a_sum_are_counted(rt: HostRuntime) {
+    let table: [(i64, &[u32], u32); 9] = [
+        (2, &[2, 2, 2], 6),
+        (2, &[1, 1, 1, 1, 1], 10),
+        (4, &[1, 1], 0),
+        (5, &[2, 2], 0),
+        (0, &[0, 0], 1),
+        (0, &[], 1),
+        (3, &[], 0),
+        (3, &[3], 1),
+        (1_000_000_000, &[1], 0),
+    ];
+    for (n, bounds, count) in table {
+        assert_eq!(rt; count_of(rt.alloc(), n, bounds), Ok(count));
+    }
+}
+
+#[test]
+fn sums_are_refused(rt: HostRuntime) {
+    let table: [(i64, &[u32], Panic); 6] = [
+        (-1, &[3], Panic::Bad),
+        (i64::MIN, &[30; 31], Panic::Bad),
+        (1_000_000_001, &[1], Panic::VeryBad),
+        (i64::MAX, &[], Panic::VeryBad),
+        (30, &[30; 31], Panic::VeryBad),
+        (92, &[1; 92], Panic::VeryBad),
+    ];
+    for (n, bounds, panic) in table {
+        assert_eq!(rt; count_of(rt.alloc(), n, bounds), Err(panic));
+    }
+}
