@@ -1,12 +1,15 @@
 -- The graph of a family, made step by step, is the one that is described.
-use Rattle.std.proofs.Common.{◌≡◌, ℕ, Bool, List, [], ◌∷◌, length, map, refl, sym, ap, subst, ◌∙◌, arith}
+use Rattle.std.proofs.Common.{◌≡◌, ℕ, Bool, List, [], ◌∷◌, length, map, Result, Ok, Err, refl, sym, ap, subst, ◌∙◌, arith}
 use Rattle.std.specs.List.{All}
+use Rattle.std.specs.Result.{IsErr, IsErrAnd}
 use Rattle.std.proofs.lemmas.List.{length-map}
 use Rattle.std.proofs.lemmas.List.Elements.{All-nil}
 use Rattle.sgb_vec.specs.Names.{name_of_vector}
+use Rattle.sgb_vec.specs.declared.panics.Panic.{Panic}
+use Rattle.sgb_vec.specs.declared.panics.Panic.TheVariants.{NoRoom}
 use Rattle.sgb_graph.specs.Graphs.{GraphData}
 use Rattle.sgb_graph.specs.Events.{Event, HasArcsOf}
-use Rattle.sgb_graph.specs.Descriptions.{IsGraphOf}
+use Rattle.sgb_graph.specs.Descriptions.{Description, IsAnswerOf, IsGraphOf}
 use Rattle.sgb_graph.specs.Growth.{new_graph, new_vertex, with_id}
 use Rattle.sgb_graph.specs.Made.{no_fields}
 use Rattle.sgb_graph.proofs.EventLemmas.{new_has_none}
@@ -54,3 +57,8 @@ family_made id directed vectors moves fresh grown placed e h k =
       arcs = arcs_stay directed events vectors grown placed id (h.arcs [] none) k;
       arc_fields = subst (All HasNoFields) (sym k.records) (h.arc_fields plain);
     }
+
+-- want of memory answers for any graph
+pub no_room : (d : Description) (r : Result GraphData Panic) (P : Panic → Type 0) → IsErr r × IsErrAnd r P → ((e : Panic) → P e → e ≡ NoRoom) → IsAnswerOf (Ok d) r
+no_room d (Ok g) P h n = absurd h.1
+no_room d (Err e) P h n = n e h.1

@@ -6,15 +6,21 @@ use Rattle.std.proofs.lemmas.List.Concat.{flat_map-append}
 use Rattle.sgb_gen.specs.Additions.{numbers_text}
 use Rattle.sgb_gen.specs.Boards.{BoardData, board_id}
 use Rattle.sgb_gen.specs.Families.{integer_texts, flag_text}
+use Rattle.sgb_gen.specs.Simplexes.{SimplexData, simplex_id}
+use Rattle.sgb_gen.specs.Subsets.{SubsetsData, hexadecimal_text, subsets_id}
 
--- numbers and a last text, with commas between them
+-- numbers and other texts behind them, with commas between them
+join_numbers_before : (numbers : List ℤ) (t : List ℕ) (ts : List (List ℕ)) → join_with_byte 44 (integer_texts numbers ++ t ∷ ts) ≡ numbers_text numbers ++ join_with_byte 44 (t ∷ ts)
+join_numbers_before [] t ts = refl
+join_numbers_before (n ∷ []) t ts =
+    sym (ap (λ u. u ++ join_with_byte 44 (t ∷ ts)) (append-nil (signed_decimal n ++ 44 ∷ [])) ∙ append_assoc (signed_decimal n) (44 ∷ []) (join_with_byte 44 (t ∷ ts)))
+join_numbers_before (n ∷ m ∷ numbers) t ts =
+    ap (λ u. signed_decimal n ++ 44 ∷ u) (join_numbers_before (m ∷ numbers) t ts)
+    ∙ sym (append_assoc (signed_decimal n ++ 44 ∷ []) (numbers_text (m ∷ numbers)) (join_with_byte 44 (t ∷ ts)) ∙ append_assoc (signed_decimal n) (44 ∷ []) (numbers_text (m ∷ numbers) ++ join_with_byte 44 (t ∷ ts)))
+
+-- numbers and a last text
 pub join_numbers : (numbers : List ℤ) (last : List ℕ) → join_with_byte 44 (integer_texts numbers ++ last ∷ []) ≡ numbers_text numbers ++ last
-join_numbers [] last = refl
-join_numbers (n ∷ []) last =
-    sym (ap (λ t. t ++ last) (append-nil (signed_decimal n ++ 44 ∷ [])) ∙ append_assoc (signed_decimal n) (44 ∷ []) last)
-join_numbers (n ∷ m ∷ numbers) last =
-    ap (λ t. signed_decimal n ++ 44 ∷ t) (join_numbers (m ∷ numbers) last)
-    ∙ sym (append_assoc (signed_decimal n ++ 44 ∷ []) (numbers_text (m ∷ numbers)) last ∙ append_assoc (signed_decimal n) (44 ∷ []) (numbers_text (m ∷ numbers) ++ last))
+join_numbers numbers last = join_numbers_before numbers last []
 
 -- four texts, one after another
 four_texts : (a n m f : List ℕ) → ((a ++ n) ++ m) ++ f ≡ a ++ ((n ++ m) ++ f)
@@ -31,3 +37,25 @@ board_id-written b =
     ap (λ t. t ++ codes ")")
     (four_texts (codes "board(") ns ms flag
     ∙ ap (λ t. codes "board(" ++ t) (ap (λ t. t ++ flag) (sym all) ∙ sym (join_numbers (b.params ++ (b.piece ∷ b.wrap ∷ [])) flag)))
+
+-- the id of subsets as it is written
+pub subsets_id-written : (s : SubsetsData) → ((((codes "subsets(" ++ numbers_text s.params) ++ hexadecimal_text s.size_bits) ++ codes ",") ++ flag_text s.directed) ++ codes ")" ≡ subsets_id s
+unfolding subsets_id
+subsets_id-written s =
+    let ns = numbers_text s.params in
+    let bits = hexadecimal_text s.size_bits in
+    let flag = flag_text s.directed in
+    let joined : join_with_byte 44 (integer_texts s.params ++ bits ∷ flag ∷ []) ≡ ns ++ (bits ++ (codes "," ++ flag)) = join_numbers_before s.params bits (flag ∷ []) in
+    ap (λ t. t ++ codes ")")
+    (append_assoc ((codes "subsets(" ++ ns) ++ bits) (codes ",") flag
+    ∙ append_assoc (codes "subsets(" ++ ns) bits (codes "," ++ flag)
+    ∙ append_assoc (codes "subsets(") ns (bits ++ (codes "," ++ flag))
+    ∙ ap (λ t. codes "subsets(" ++ t) (sym joined))
+
+-- the id of a simplex as it is written
+pub simplex_id-written : (s : SimplexData) → ((codes "simplex(" ++ numbers_text s.params) ++ flag_text s.directed) ++ codes ")" ≡ simplex_id s
+unfolding simplex_id
+simplex_id-written s =
+    let flag = flag_text s.directed in
+    ap (λ t. t ++ codes ")")
+    (append_assoc (codes "simplex(") (numbers_text s.params) flag ∙ ap (λ t. codes "simplex(" ++ t) (sym (join_numbers s.params flag)))

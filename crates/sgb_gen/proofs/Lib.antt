@@ -23,3 +23,9 @@ pub mod Examples
 pub mod Vertices
 pub mod Places
 pub mod WrapBits
+pub mod CommonSizes
+pub mod HexadecimalDigits
+pub mod RisingVectors
+pub mod SubsetsEvents
+pub mod TableRows
+pub mod SimplexEvents

@@ -8,4 +8,5 @@ pub mod Additions
 pub mod Boards
 pub mod Simplexes
 pub mod Subsets
+pub mod Tables
 pub mod Shorthands

@@ -6,7 +6,7 @@ use Rattle.sgb_gen.specs.Boards.{BoardParams}
 use Rattle.sgb_gen.specs.Subsets.{SubsetsParams}
 
 -- a board of one dimension
-abbrev line : ℤ → ℤ → ℤ → Bool → BoardParams
+abbrev pub line : ℤ → ℤ → ℤ → Bool → BoardParams
 line n piece wrap directed = record {
   n1 = n;
   n2 = pos 0;

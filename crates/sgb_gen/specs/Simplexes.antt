@@ -1,9 +1,10 @@
 -- The graphs of simplexes [GB_BASIC, simplex].
-use Rattle.std.specs.Prelude.{◌≡◌, ◌<◌, ℕ, ◌+◌, ◌-◌, nat_lt, ℤ, Bool, true, ◌&&◌, List, [], ◌∷◌, ◌++◌, length, map, filter, slice_index, slice_set, sum, Result, Ok, codes}
+use Rattle.std.specs.Prelude.{◌≡◌, ◌<◌, ◌≤◌, ℕ, ◌+◌, ◌-◌, nat_lt, ℤ, Bool, true, ◌&&◌, List, [], ◌∷◌, ◌++◌, length, map, filter, slice_index, slice_set, sum, Result, Ok, codes}
 use Rattle.std.specs.List.{flat_map, range_with_len}
 use Rattle.sgb_vec.specs.Results.{and_then}
 use Rattle.sgb_vec.specs.Bounds.{simplex_of}
 use Rattle.sgb_vec.specs.Lexicographic.{IsWithin}
+use Rattle.sgb_vec.specs.Limits.{most_dimensions, most_vertices}
 use Rattle.sgb_vec.specs.Sums.{BoundedSum, bounded_sums, sum_of}
 use Rattle.sgb_vec.specs.declared.panics.Panic.{Panic}
 use Rattle.sgb_graph.specs.Descriptions.{Description}
@@ -34,15 +35,24 @@ accepted_simplex p =
     and_then (sum_of p.n shape.sizes) (λ s.
     Ok (record { params = shape.params; sum = s; directed = p.directed })))
 
+-- six parameters and the sum of an accepted simplex, or of accepted subsets: not too many bounds or vectors
+pub record IsAcceptedSum (params : List ℤ) (s : BoundedSum) : Type 0 where
+  pub parameters : length params ≡ 6
+  pub dimensions : length s.bounds ≤ most_dimensions + 1
+  pub vertices : length (bounded_sums s.total s.bounds) ≤ most_vertices
+
 -- two places in a vector
 pub record Places : Type 0 where
   pub lower : ℕ
   pub higher : ℕ
 
+-- the pairs of place j and a higher one of a vector of n entries, in order
+abbrev pub pairs_from : ℕ → ℕ → List Places
+pairs_from n j = map (λ k. record { lower = j; higher = k }) (range_with_len (j + 1) (n - (j + 1)))
+
 -- the pairs of places j < k of a vector of n entries, in lexicographic order
 abbrev pub pairs_of_places : ℕ → List Places
-pairs_of_places n =
-    flat_map (λ j. map (λ k. record { lower = j; higher = k }) (range_with_len (j + 1) (n - (j + 1)))) (range_with_len 0 n)
+pairs_of_places n = flat_map (pairs_from n) (range_with_len 0 n)
 
 -- a unit of v can go from the lower place to the higher one: there is one, and room for it below the bound
 abbrev pub can_shift : List ℕ → List ℕ → Places → Bool
@@ -54,10 +64,14 @@ abbrev pub shifted : List ℕ → Places → List ℕ
 shifted v at =
     slice_set (slice_set v at.lower (slice_index v at.lower - 1)) at.higher (slice_index v at.higher + 1)
 
--- the moves to v: from each vector that v becomes when a unit goes to a higher place
+-- the moves to v by these pairs of places: from each vector that v becomes when a unit goes to the higher place
+abbrev pub moves_by : List ℕ → List ℕ → List Places → List Move
+moves_by bounds v pairs =
+    map (λ at. record { from = shifted v at; to = v; len = 1 }) (filter (can_shift bounds v) pairs)
+
+-- the moves to v, by all pairs of places
 abbrev pub moves_to : List ℕ → List ℕ → List Move
-moves_to bounds v =
-    map (λ at. record { from = shifted v at; to = v; len = 1 }) (filter (can_shift bounds v) (pairs_of_places (length v)))
+moves_to bounds v = moves_by bounds v (pairs_of_places (length v))
 
 -- its id: simplex(n,n0,n1,n2,n3,n4,directed)
 unfoldable pub simplex_id : SimplexData → List ℕ

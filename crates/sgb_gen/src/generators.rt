@@ -1,8 +1,12 @@
 //! The generators (GB_BASIC).
 ghost use Rattle.sgb_graph.specs.Descriptions.{IsAnswerOf};
 ghost use Rattle.sgb_gen.specs.Boards.{BoardParams, board};
+ghost use Rattle.sgb_gen.specs.Simplexes.{SimplexParams, simplex};
+ghost use Rattle.sgb_gen.specs.Subsets.{SubsetsParams, subsets};
 
 use crate::boards::Board;
+use crate::multisets::Subsets;
+use crate::simplexes::Simplex;
 use sgb_graph::Graph;
 use sgb_vec::Panic;
 use std::alloc::Global;
@@ -26,6 +30,52 @@ pub fn board(
     ensures { IsAnswerOf (board (record { n1 = n1; n2 = n2; n3 = n3; n4 = n4; piece = piece; wrap = wrap; directed = directed })) result }
 {
     Board::new(n1, n2, n3, n4, piece, wrap, directed)?.graph(alloc)
+}
+
+/// The graph of a simplex (GB_BASIC, simplex): its vertices are the vectors of the sum `n` within its bounds, with
+/// their coordinates as names and in the utility fields x, y, z; an arc, or an edge, of length 1 to each vertex
+/// from each one that it becomes when a unit of a coordinate goes to a later one.
+///
+/// `Bad` where `n` is negative, else above 91 dimensions; else `VeryBad` where `n` is above 1,000,000,000, or where
+/// for some j from 1 to the last dimension and some k up to `n` more than 1,000,000,000 vectors within the first
+/// j+1 bounds add to k. `NoRoom` where memory is refused.
+pub fn simplex(
+    alloc: Global,
+    n: i64,
+    n0: i64,
+    n1: i64,
+    n2: i64,
+    n3: i64,
+    n4: i64,
+    directed: bool,
+) -> Result<Graph, Panic>
+    ensures { IsAnswerOf (simplex (record { n = n; n0 = n0; n1 = n1; n2 = n2; n3 = n3; n4 = n4; directed = directed })) result }
+{
+    Simplex::new(alloc, n, n0, n1, n2, n3, n4, directed)?.graph(alloc)
+}
+
+/// The graph of subsets (GB_BASIC, subsets): its vertices are the vectors of the sum `n` within the bounds that `n0` to
+/// `n4` tell, as multisets of `n` elements, with their entries as names and in the utility fields x, y, z; an arc of
+/// length 1, or an edge, from each vertex to each that is not before it, itself too, where bit c of `size_bits` is 1
+/// and c is how many elements the two have in common.
+///
+/// `Bad` where `n` is negative, else above 91 dimensions; else `VeryBad` where `n` is above 1,000,000,000, or where
+/// for some j from 1 to the last dimension and some k up to `n` more than 1,000,000,000 vectors within the first
+/// j+1 bounds add to k. `NoRoom` where memory is refused.
+pub fn subsets(
+    alloc: Global,
+    n: i64,
+    n0: i64,
+    n1: i64,
+    n2: i64,
+    n3: i64,
+    n4: i64,
+    size_bits: u64,
+    directed: bool,
+) -> Result<Graph, Panic>
+    ensures { IsAnswerOf (subsets (record { n = n; n0 = n0; n1 = n1; n2 = n2; n3 = n3; n4 = n4; size_bits = size_bits; directed = directed })) result }
+{
+    Subsets::new(alloc, n, n0, n1, n2, n3, n4, size_bits, directed)?.graph(alloc)
 }
 
 #[cfg(test)]

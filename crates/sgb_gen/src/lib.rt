@@ -5,11 +5,18 @@ mod boards;
 mod displacements;
 mod families;
 mod generators;
+mod intersections;
 mod laws;
 mod moves;
+mod multisets;
+mod simplexes;
+mod tables;
 
 pub use boards::Board;
-pub use generators::board;
+pub use generators::{board, simplex, subsets};
+pub use intersections::common;
 pub use laws::{
     displacements_have_their_norm, moves_stay_on_board, riders_stop, shifts_stay_in_sum,
 };
+pub use multisets::Subsets;
+pub use simplexes::Simplex;

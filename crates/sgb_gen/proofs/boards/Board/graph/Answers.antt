@@ -1,24 +1,15 @@
-use Rattle.std.proofs.Common.{◌≡◌, ◌≤◌, Result, Ok, Err, length, map, sym, ap, subst, ◌∙◌, arith}
-use Rattle.std.specs.Result.{IsErr, IsErrAnd}
+use Rattle.std.proofs.Common.{◌≡◌, ◌≤◌, length, map, sym, ap, subst, ◌∙◌, arith}
 use Rattle.std.proofs.lemmas.List.{length-map}
 use Rattle.sgb_vec.specs.Boxes.{box}
 use Rattle.sgb_vec.specs.Limits.{most_vertices}
 use Rattle.sgb_vec.specs.Names.{name_of_vector}
-use Rattle.sgb_vec.specs.declared.panics.Panic.{Panic}
-use Rattle.sgb_vec.specs.declared.panics.Panic.TheVariants.{NoRoom}
 use Rattle.sgb_vec.proofs.BoxPlaces.{length-box}
-use Rattle.sgb_graph.specs.Descriptions.{Description, IsAnswerOf, IsGraphOf}
-use Rattle.sgb_graph.specs.Graphs.{GraphData}
+use Rattle.sgb_graph.specs.Descriptions.{IsGraphOf}
 use Rattle.sgb_graph.specs.Growth.{new_graph, with_id}
 use Rattle.sgb_gen.specs.Additions.{HasCoordinates}
 use Rattle.sgb_gen.specs.Boards.{board_graph, board_id, moves_of_board}
-use Rattle.sgb_gen.proofs.FamilyGraphs.{fields_unused, family_made}
+use Rattle.sgb_gen.proofs.FamilyGraphs.{fields_unused, family_made, no_room}
 use Rattle.sgb_gen.proofs.boards.Board.graph.Goals as goal
-
--- want of memory answers for any graph
-no_room : (d : Description) (r : Result GraphData Panic) (P : Panic → Type 0) → IsErr r × IsErrAnd r P → ((e : Panic) → P e → e ≡ NoRoom) → IsAnswerOf (Ok d) r
-no_room d (Ok g) P h n = absurd h.1
-no_room d (Err e) P h n = n e h.1
 
 pub returns-in_err-graph : goal.returns-in_err-graph
 returns-in_err-graph c =

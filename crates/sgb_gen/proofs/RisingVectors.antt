@@ -1,0 +1,81 @@
+-- Vectors in strictly rising lexicographic order: where one stands, and how a search in halves comes to its place.
+use Rattle.std.proofs.Common.{◌≡◌, ℕ, ◌+◌, ◌<◌, ◌≤◌, true, false, List, length, refl, sym, ap, ◌∙◌, inl, inr, arith}
+use Rattle.std.specs.Prelude.{Some}
+use Rattle.std.specs.Ordering.{nat_cmp, is_gt, ordering_reverse}
+use Rattle.std.specs.Cmp.Lexicographic.{slice_cmp, nat_list_cmp_total}
+use Rattle.std.specs.declared.cmp.Ordering.TheVariants.{Less, Greater}
+use Rattle.std.specs.List.{Contains, slice_get}
+use Rattle.std.proofs.lemmas.Bool.{cases_order, cases_lt, true≢false}
+use Rattle.std.proofs.lemmas.Cmp.{tied_itself}
+use Rattle.std.proofs.lemmas.Option.{slice_get_within, slice_get_read, get_or_from_slice_get}
+use Rattle.sgb_vec.specs.Lexicographic.{IsBefore, IsRising}
+use Rattle.sgb_gen.specs.Families.{vertex_among}
+use Rattle.sgb_gen.proofs.Vertices.{vertex_at}
+
+-- no vector is before itself
+before_itself : (v : List ℕ) → IsBefore v v → ⊥
+before_itself v h = let same = tied_itself nat_list_cmp_total v in cc
+
+-- a vector at an earlier place is before one at a later place
+pub before_later : (vectors : List (List ℕ)) (i j : ℕ) (v w : List ℕ) → IsRising vectors → i < j → slice_get vectors i ≡ Some v → slice_get vectors j ≡ Some w → IsBefore v w
+before_later vectors i j v w rises less here there =
+    let at_i = get_or_from_slice_get vectors i v v here in
+    let at_j = get_or_from_slice_get vectors j w v there in
+    rw (at_i, at_j) at (rises i j v less (slice_get_within vectors j w there))
+
+-- a vector stands at one place alone
+pub place_once : (vectors : List (List ℕ)) (i j : ℕ) (v : List ℕ) → IsRising vectors → slice_get vectors i ≡ Some v → slice_get vectors j ≡ Some v → j ≡ i
+place_once vectors i j v rises here there =
+    elim (cases_order j i) [
+      | inl same ↦ same
+      | inr (inl less) ↦ absurd (before_itself v (before_later vectors j i v v rises less there here))
+      | inr (inr more) ↦ absurd (before_itself v (before_later vectors i j v v rises more here there))
+    ]
+
+-- which is that of its vertex
+pub vertex_in_rising : (vectors : List (List ℕ)) (i : ℕ) (v : List ℕ) → IsRising vectors → slice_get vectors i ≡ Some v → vertex_among vectors v ≡ i
+vertex_in_rising vectors i v rises at = vertex_at vectors i v at (λ j there. place_once vectors i j v rises at there)
+
+-- v stands at a place from low on and below high
+pub record IsBetween (vectors : List (List ℕ)) (v : List ℕ) (low high : ℕ) : Type 0 where
+  pub place : ℕ
+  pub from : low ≤ place
+  pub below : place < high
+  pub at : slice_get vectors place ≡ Some v
+
+-- at first that is any place
+pub between-all : (vectors : List (List ℕ)) (v : List ℕ) (n : ℕ) → Contains vectors v → n ≡ length vectors → IsBetween vectors v 0 n
+between-all vectors v n (k, within, at) e =
+    record { place = k; from = omega arith; below = omega arith; at = slice_get_read vectors (length vectors) k v refl within (sym at) }
+
+-- a vector that is after v stands behind it
+pub between-lower : (vectors : List (List ℕ)) (v w : List ℕ) (low high middle : ℕ) → IsRising vectors → slice_get vectors middle ≡ Some w → is_gt (slice_cmp nat_cmp w v) ≡ true → IsBetween vectors v low high → IsBetween vectors v low middle
+between-lower vectors v w low high middle rises there after b =
+    let less : b.place < middle = elim (cases_order b.place middle) [
+      | inl same ↦
+          let one : Some v ≡ Some w = sym b.at ∙ ap (slice_get vectors) same ∙ there in
+          let equal : w ≡ v = cc in
+          let tied = tied_itself nat_list_cmp_total v in
+          absurd (true≢false (sym after ∙ ap is_gt (ap (λ u. slice_cmp nat_cmp u v) equal ∙ tied)))
+      | inr (inl less) ↦ less
+      | inr (inr more) ↦ absurd (true≢false (sym after ∙ ap is_gt (before_later vectors middle b.place w v rises more there b.at)))
+    ] in
+    record { place = b.place; from = b.from; below = less; at = b.at }
+
+-- and one that is not after v stands in front of it, or is v
+pub between-upper : (vectors : List (List ℕ)) (v w : List ℕ) (low high middle : ℕ) → IsRising vectors → slice_get vectors middle ≡ Some w → is_gt (slice_cmp nat_cmp w v) ≡ false → IsBetween vectors v low high → IsBetween vectors v middle high
+between-upper vectors v w low high middle rises there not_after b =
+    let from : middle ≤ b.place = elim (cases_lt b.place middle) [
+      | inl less ↦
+          let before : slice_cmp nat_cmp v w ≡ Less = before_later vectors b.place middle v w rises less b.at there in
+          let after : slice_cmp nat_cmp w v ≡ Greater = nat_list_cmp_total.antisymm w v ∙ ap ordering_reverse before in
+          absurd (true≢false (sym (ap is_gt after) ∙ not_after))
+      | inr more ↦ more
+    ] in
+    record { place = b.place; from = from; below = b.below; at = b.at }
+
+-- where one place is left, that is it
+pub between-one : (vectors : List (List ℕ)) (v : List ℕ) (low high : ℕ) → high ≤ low + 1 → IsBetween vectors v low high → slice_get vectors low ≡ Some v
+between-one vectors v low high h b =
+    let same : b.place ≡ low = omega (arith, b.from, b.below) in
+    sym (ap (slice_get vectors) same) ∙ b.at

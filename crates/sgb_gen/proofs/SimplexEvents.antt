@@ -1,0 +1,112 @@
+-- The events of a simplex, as its moves are made one after another.
+use Rattle.std.proofs.Common.{◌≡◌, ℕ, suc, ◌+◌, ◌-◌, ◌<◌, ◌≤◌, pos, Bool, true, false, cond, List, [], ◌∷◌, ◌++◌, length, map, Option, Some, None, refl, sym, ap, ◌∙◌, arith}
+use Rattle.std.specs.List.{Contains, filter, flat_map, range_with_len, slice_get}
+use Rattle.std.proofs.lemmas.List.{map-append}
+use Rattle.std.proofs.lemmas.List.Elements.{filter-append, length_all_zip}
+use Rattle.sgb_vec.proofs.SumMembers.{Contains-bounded_sums, bounded_sums-rise}
+use Rattle.sgb_graph.specs.Events.{Event}
+use Rattle.sgb_gen.specs.Families.{Move, event_among, vertex_among}
+use Rattle.sgb_gen.specs.Simplexes.{SimplexData, Places, can_shift, shifted, pairs_from, pairs_of_places, moves_by, moves_to, moves_of_simplex, simplex_vectors}
+use Rattle.sgb_gen.proofs.FamilyWalks.{map-flat_map}
+use Rattle.sgb_gen.proofs.RisingVectors.{vertex_in_rising}
+use Rattle.sgb_gen.proofs.Shifts.{shifted-in_sum}
+
+-- a vertex has one entry for each bound
+pub length_in_sum : (s : SimplexData) (x : List ℕ) → Contains (simplex_vectors s) x → length x ≡ length s.sum.bounds
+length_in_sum s x h = length_all_zip (λ a b. a ≤ b) x s.sum.bounds ((Contains-bounded_sums s.sum.total s.sum.bounds x).0 h).0
+
+-- a unit that goes to a higher place leads to a vertex
+pub shifted_in_simplex : (s : SimplexData) (x : List ℕ) (at : Places) → Contains (simplex_vectors s) x → at.lower < at.higher → at.higher < length x → can_shift s.sum.bounds x at ≡ true → Contains (simplex_vectors s) (shifted x at)
+shifted_in_simplex s x at h order within can =
+    let here = (Contains-bounded_sums s.sum.total s.sum.bounds x).0 h in
+    let there = shifted-in_sum s.sum.bounds x at order within can here.0 in
+    (Contains-bounded_sums s.sum.total s.sum.bounds (shifted x at)).1 (there.0, there.1 ∙ here.1)
+
+-- the vertex of a vector is its place
+pub vertex_in_simplex : (s : SimplexData) (v : ℕ) (x : List ℕ) → slice_get (simplex_vectors s) v ≡ Some x → vertex_among (simplex_vectors s) x ≡ v
+vertex_in_simplex s v x at = vertex_in_rising (simplex_vectors s) v x (bounded_sums-rise s.sum.total s.sum.bounds) at
+
+-- the events of the moves to x by these pairs of places
+abbrev pub events_by : SimplexData → List ℕ → List Places → List Event
+events_by s x pairs = map (event_among (simplex_vectors s)) (moves_by s.sum.bounds x pairs)
+
+-- by some pairs and then by others
+pub events_by-append : (s : SimplexData) (x : List ℕ) (ps qs : List Places) → events_by s x (ps ++ qs) ≡ events_by s x ps ++ events_by s x qs
+events_by-append s x ps qs =
+    let can : Places → Bool = can_shift s.sum.bounds x in
+    let move : Places → Move = λ at. record { from = shifted x at; to = x; len = 1 } in
+    let event : Move → Event = event_among (simplex_vectors s) in
+    ap (λ ats. map event (map move ats)) (filter-append can ps qs)
+    ∙ ap (map event) (map-append move (filter can ps) (filter can qs))
+    ∙ map-append event (map move (filter can ps)) (map move (filter can qs))
+
+-- where the vertex x becomes leads, as the code answers it
+abbrev pub vertex_by : SimplexData → List ℕ → Places → Option ℕ
+vertex_by s x at =
+    cond (can_shift s.sum.bounds x at) (Some (vertex_among (simplex_vectors s) (shifted x at))) None
+
+-- a pair by which no unit can go adds no event
+no_vertex : (b : Bool) (u : ℕ) → cond b (Some u) None ≡ None → b ≡ false
+no_vertex true u e = absurd (cc)
+no_vertex false u e = refl
+
+pub events_by-out : (s : SimplexData) (x : List ℕ) (at : Places) (ps : List Places) → vertex_by s x at ≡ None → events_by s x (at ∷ ps) ≡ events_by s x ps
+events_by-out s x at ps e =
+    let cannot = no_vertex (can_shift s.sum.bounds x at) (vertex_among (simplex_vectors s) (shifted x at)) e in
+    rw cannot refl
+
+-- one by which it can adds the event from the vertex there
+some_vertex : (b : Bool) (u w : ℕ) → cond b (Some u) None ≡ Some w → (b ≡ true) × (u ≡ w)
+some_vertex true u w e = (refl, cc)
+some_vertex false u w e = absurd (cc)
+
+pub events_by-next : (s : SimplexData) (x : List ℕ) (at : Places) (ps : List Places) (u v : ℕ) → vertex_by s x at ≡ Some u → slice_get (simplex_vectors s) v ≡ Some x → events_by s x (at ∷ ps) ≡ (record { from = u; to = v; len = pos 1 } ∷ []) ++ events_by s x ps
+events_by-next s x at ps u v e here =
+    let can = some_vertex (can_shift s.sum.bounds x at) (vertex_among (simplex_vectors s) (shifted x at)) u e in
+    let to = vertex_in_simplex s v x here in
+    rw (can.0, can.1, to) refl
+
+-- the pairs of the lower place and the higher ones from k on
+abbrev pub pairs_left : ℕ → ℕ → ℕ → List Places
+pairs_left n j k = map (λ i. record { lower = j; higher = i }) (range_with_len k (n - k))
+
+pub pairs_left-next : (n j k : ℕ) → k < n → pairs_left n j k ≡ record { lower = j; higher = k } ∷ pairs_left n j (k + 1)
+pairs_left-next n j k h =
+    let count : n - k ≡ suc (n - (k + 1)) = omega arith in
+    ap (λ m. map (λ i. record { lower = j; higher = i }) (range_with_len k m)) count
+
+pub pairs_left-none : (n j k : ℕ) → n ≤ k → pairs_left n j k ≡ []
+pairs_left-none n j k h =
+    let count : n - k ≡ 0 = omega arith in
+    ap (λ m. map (λ i. record { lower = j; higher = i }) (range_with_len k m)) count
+
+-- the pairs whose lower place is j or a later one
+abbrev pub pairs_behind : ℕ → ℕ → List Places
+pairs_behind n j = flat_map (pairs_from n) (range_with_len j (n - j))
+
+pub pairs_behind-all : (n : ℕ) → pairs_behind n 0 ≡ pairs_of_places n
+pairs_behind-all n =
+    let count : n - 0 ≡ n = omega arith in
+    ap (λ m. flat_map (pairs_from n) (range_with_len 0 m)) count
+
+pub pairs_behind-next : (n j : ℕ) → j < n → pairs_behind n j ≡ pairs_from n j ++ pairs_behind n (j + 1)
+pairs_behind-next n j h =
+    let count : n - j ≡ suc (n - (j + 1)) = omega arith in
+    ap (λ m. flat_map (pairs_from n) (range_with_len j m)) count
+
+pub pairs_behind-none : (n j : ℕ) → n ≤ j → pairs_behind n j ≡ []
+pairs_behind-none n j h =
+    let count : n - j ≡ 0 = omega arith in
+    ap (λ m. flat_map (pairs_from n) (range_with_len j m)) count
+
+-- the events of the moves to x, and those of all moves
+abbrev pub events_to : SimplexData → List ℕ → List Event
+events_to s x = events_by s x (pairs_of_places (length x))
+
+abbrev pub events_of : SimplexData → List Event
+events_of s = flat_map (events_to s) (simplex_vectors s)
+
+-- they are the definition's
+pub events_of-moves : (s : SimplexData) → events_of s ≡ map (event_among (simplex_vectors s)) (moves_of_simplex s)
+unfolding moves_of_simplex
+events_of-moves s = sym (map-flat_map (event_among (simplex_vectors s)) (moves_to s.sum.bounds) (simplex_vectors s))

@@ -1,0 +1,63 @@
+-- The vectors of a table, which stand one after another.
+use Rattle.std.proofs.Common.{◌≡◌, ℕ, zero, suc, ◌+◌, ◌*◌, ◌<◌, ◌≤◌, List, [], ◌∷◌, ◌++◌, length, take, drop, Some, refl, ap, ◌∙◌, arith, append-nil, length-append}
+use Rattle.std.specs.List.{All, Contains, flat_map, slice_get}
+use Rattle.std.proofs.lemmas.List.{take_at, drop_at, drop-drop}
+use Rattle.std.proofs.lemmas.List.Concat.{flat_map-append}
+use Rattle.std.proofs.lemmas.List.Elements.{All-head, All-tail, All-contains_itself, All-weaker}
+use Rattle.std.proofs.lemmas.Nat.{mul-le}
+use Rattle.sgb_gen.specs.Tables.{rows}
+use Rattle.sgb_gen.proofs.FamilyWalks.{take_at_vector}
+
+-- the vectors one after another
+abbrev pub joined : List (List ℕ) → List ℕ
+joined vectors = flat_map (λ v. v) vectors
+
+-- each vector has this many entries
+abbrev pub HasWidth : ℕ → List (List ℕ) → Type 0
+HasWidth width vectors = All (λ v. length v ≡ width) vectors
+
+-- the vectors that a law gives one width
+pub HasWidth-from_members : (vectors : List (List ℕ)) (width : ℕ) → ((v : List ℕ) → Contains vectors v → length v ≡ width) → HasWidth width vectors
+HasWidth-from_members vectors width h = All-weaker (Contains vectors) (λ v. length v ≡ width) h vectors (All-contains_itself vectors)
+
+-- as many rows as are wanted
+pub length-rows : (width count : ℕ) (entries : List ℕ) → length (rows width count entries) ≡ count
+length-rows width zero entries = refl
+length-rows width (suc count) entries = ap suc (length-rows width count (drop width entries))
+
+-- a row is a part of the entries
+pub slice_get-rows : (width count place : ℕ) (entries : List ℕ) → place < count → slice_get (rows width count entries) place ≡ Some (take width (drop (place * width) entries))
+slice_get-rows width zero place entries h = absurd (omega arith)
+slice_get-rows width (suc count) zero entries h =
+    let start : 0 ≡ 0 * width = omega arith in
+    ap (λ n. Some (take width (drop n entries))) start
+slice_get-rows width (suc count) (suc place) entries h =
+    let start : width + place * width ≡ suc place * width = omega arith in
+    slice_get-rows width count place (drop width entries) (omega arith)
+    ∙ ap (λ row. Some (take width row)) (drop-drop (place * width) width entries ∙ ap (λ n. drop n entries) start)
+
+-- and stands within them
+pub row_within : (width count place : ℕ) → place < count → place * width + width ≤ count * width
+row_within width count place h = omega (arith, mul-le (place + 1) width count width (omega arith) (omega arith))
+
+-- the entries of vectors of one width
+pub length-joined : (width : ℕ) (vectors : List (List ℕ)) → HasWidth width vectors → length (joined vectors) ≡ length vectors * width
+length-joined width [] h = omega arith
+length-joined width (v ∷ vectors) h =
+    omega (arith, length-append v (joined vectors), All-head (λ w. length w ≡ width) v vectors h, length-joined width vectors (All-tail (λ w. length w ≡ width) v vectors h))
+
+-- and the rows of these entries are the vectors
+pub rows-joined : (width : ℕ) (vectors : List (List ℕ)) → HasWidth width vectors → rows width (length vectors) (joined vectors) ≡ vectors
+rows-joined width [] h = refl
+rows-joined width (v ∷ vectors) h =
+    let wide : length v ≡ width = All-head (λ w. length w ≡ width) v vectors h in
+    let first : take width (v ++ joined vectors) ≡ v = take_at v (joined vectors) width wide in
+    let others : rows width (length vectors) (drop width (v ++ joined vectors)) ≡ vectors =
+    ap (rows width (length vectors)) (drop_at v (joined vectors) width wide) ∙ rows-joined width vectors (All-tail (λ w. length w ≡ width) v vectors h) in
+    rw (first, others) refl
+
+-- one more vector behind those before it
+pub joined_at_vector : (vectors : List (List ℕ)) (u : ℕ) (v : List ℕ) → slice_get vectors u ≡ Some v → joined (take (u + 1) vectors) ≡ joined (take u vectors) ++ v
+joined_at_vector vectors u v at =
+    ap joined (take_at_vector vectors u v at) ∙ flat_map-append (λ w. w) (take u vectors) (v ∷ [])
+    ∙ ap (λ es. joined (take u vectors) ++ es) (append-nil v)

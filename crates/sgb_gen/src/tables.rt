@@ -1,0 +1,92 @@
+ghost use Rattle.std.specs.Prelude.{◌≡◌, ◌<◌, length, slice_get, Some, Contains, IfOk, IsOkUnless};
+ghost use Rattle.sgb_vec.specs.Lexicographic.{IsRising};
+
+use sgb_vec::{Family, Panic, Vector};
+use std::alloc::Global;
+use std::marker::Model;
+
+/// The vectors of a family, kept one after another, so that each is found by search. Contracts see them as a
+/// list.
+#[derive(Drop)]
+pub(crate) struct VectorTable {
+    // The entries of all vectors, how many each has, and how many vectors there are.
+    entries: Vec<u32>,
+    width: usize,
+    count: u32,
+}
+
+impl Model for VectorTable {
+    ghost use Rattle.std.specs.Prelude.{◌≡◌, ◌*◌, List, ℕ, length};
+    ghost use Rattle.sgb_gen.specs.Tables.{rows};
+
+    ghost Value = { List (List ℕ) };
+
+    ghost view = { λ t. rows t.width t.count t.entries.items };
+
+    ghost invariant = { λ t. length t.entries.items ≡ t.count * t.width };
+}
+
+impl VectorTable {
+    /// The vectors of this family.
+    ///
+    /// `NoRoom` where memory is refused, and nothing else.
+    pub fn new<F: Family>(alloc: Global, family: &F) -> Result<VectorTable, Panic>
+        ensures ok { IfOk result (λ t. t ≡ F.members family.now) }
+        ensures memory { IsOkUnless result Panic.NoRoom }
+    {
+        let mut entries = Vec::new(alloc);
+        let mut vector = Vector::new();
+        let _some = family.first(&mut vector);
+        for _u in 0..family.size() {
+            let Ok(()) = entries.extend_from_slice(vector.as_slice()) else {
+                return Err(Panic::NoRoom);
+            };
+            let _more = family.next(&mut vector);
+        }
+        Ok(VectorTable {
+            entries,
+            width: family.dims(),
+            count: family.size(),
+        })
+    }
+
+    /// How many vectors there are.
+    pub fn len(&self) -> u32
+        ensures { result ≡ length self.now }
+    {
+        self.count
+    }
+
+    /// The vector at this place, counted from 0.
+    pub fn vector(&self, place: u32) -> &[u32]
+        requires { place < length self.now }
+        ensures { slice_get self.now place ≡ Some result.now }
+    {
+        let entries = self.entries.as_slice();
+        let start = place as usize * self.width;
+        &entries[start..start + self.width]
+    }
+
+    /// The place of a vector among those of a table in lexicographic order, by binary search.
+    pub fn place_of(&self, vector: &[u32]) -> u32
+        requires rising { IsRising self.now }
+        requires member { Contains self.now vector.now }
+        ensures { slice_get self.now result ≡ Some vector.now }
+    {
+        // the place is from `low` on and below `high`
+        let mut low = 0;
+        let mut high = self.count;
+        while high - low > 1 {
+            let middle = low + (high - low) / 2;
+            if self.vector(middle).cmp(&vector).is_gt() {
+                high = middle;
+            } else {
+                low = middle;
+            }
+        }
+        low
+    }
+}
+
+#[cfg(test)]
+mod tests;
