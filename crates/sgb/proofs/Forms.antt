@@ -4,27 +4,20 @@ use Rattle.std.proofs.Common.{◌≡◌, ◌≢◌, ℕ, ℤ, pos, zero, suc, �
 use Rattle.std.specs.List.{common_prefix_len}
 use Rattle.std.proofs.lemmas.List.{append_cancel_left, take_at, take_rest}
 use Rattle.std.proofs.lemmas.Bool.Decides.{nat_tests}
-use Rattle.sgb.specs.Grammar.{Piece, Fixed, Integer, IsForm, IsInteger}
-use Rattle.sgb.specs.Fronts.{IsFrontOfForm, GoesWrongAt}
+use Rattle.sgb.specs.Grammar.{Piece, Fixed, Integer, Bits, IsForm, IsBits, IsDigits, IsInteger}
+use Rattle.sgb.specs.Fronts.{IsFrontOfForm, GoesWrongAt, Leads, Stops}
 
--- the text goes wrong behind its first k bytes: they begin a text of the form, and no text of the form goes on
--- behind them with what comes next
-pub record Stops (pieces : List Piece) (text : List ℕ) (k : ℕ) : Type 0 where
-  pub good : List ℕ
-  pub bad : List ℕ
-  pub whole : text ≡ good ++ bad
-  pub count : k ≡ length good
-  pub front : IsFrontOfForm pieces good
-  pub refused : (other : List ℕ) (numbers : List ℤ) → slice_get other 0 ≡ slice_get bad 0 → IsForm pieces (good ++ other) numbers → ⊥
-
--- once the first pieces are read, of so many bytes and with these numbers, the text is read by what is left of both
-pub record Leads (pieces : List Piece) (text : List ℕ) (left : List Piece) (rest : List ℕ) (at : ℕ) (numbers : List ℤ) : Type 0 where
-  pub reads : (others : List ℤ) → IsForm left rest others → IsForm pieces text (numbers ++ others)
-  pub stops : (k : ℕ) → Stops left rest k → Stops pieces text (at + k)
+-- the digit 0 as digits
+pub zero_digits : IsDigits (48 ∷ [])
+zero_digits = record { numeral = (lit< tt, (lit< tt, tt)); short = omega arith }
 
 -- the digit 0 writes the number 0
 zero_digit : IsInteger (48 ∷ []) (pos 0)
-zero_digit = inl (record { numeral = (lit< tt, (lit< tt, tt)); short = omega arith }, refl)
+zero_digit = inl (zero_digits, refl)
+
+-- the same in bits
+zero_bits : IsBits (48 ∷ []) 0
+zero_bits = inl (zero_digits, refl)
 
 -- each form has a text
 pub possible : (pieces : List Piece) → (text : List ℕ) × (numbers : List ℤ) × IsForm pieces text numbers
@@ -34,6 +27,8 @@ possible (Fixed bytes ∷ pieces) =
     let p = possible pieces in (bytes ++ p.0, p.1, (p.0, refl, p.2))
 possible (Integer ∷ pieces) =
     let p = possible pieces in (48 ∷ p.0, pos 0 ∷ p.1, (48 ∷ [], p.0, pos 0, p.1, refl, zero_digit, refl, p.2))
+possible (Bits ∷ pieces) =
+    let p = possible pieces in (48 ∷ p.0, pos 0 ∷ p.1, (48 ∷ [], p.0, 0, p.1, refl, zero_bits, refl, p.2))
 
 -- the next byte or the end, behind a front
 pub next_behind : (front a b : List ℕ) → slice_get a 0 ≡ slice_get b 0 → slice_get (front ++ a) 0 ≡ slice_get (front ++ b) 0

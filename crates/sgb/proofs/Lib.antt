@@ -1,13 +1,17 @@
 -- The lemmas of sgb, by subject.
-pub mod Boards
-pub mod CallLemmas
+pub mod Among
+pub mod Bits
 pub mod CallForms
+pub mod CallLemmas
 pub mod Counts
+pub mod Digits
 pub mod Endings
+pub mod ExpressionForms
 pub mod Forms
 pub mod Fronts
 pub mod HelpRefused
 pub mod Integers
+pub mod Kept
 pub mod Lines
 pub mod Listings
 pub mod Named

@@ -5,10 +5,12 @@ ghost use Rattle.sgb.specs.Expressions.{IsExpression, board_form};
 ghost use Rattle.sgb.specs.Grammar.{IsForm};
 ghost use Rattle.sgb.specs.Reading.{IsReadAs};
 
+mod forms;
 mod measure;
+mod shorthands;
 
 use crate::faults::Fault;
-use crate::parsing::read_call;
+use forms::read_any;
 use measure::is_too_large;
 use std::alloc::Global;
 
@@ -25,10 +27,49 @@ pub enum Expr {
         wrap: i64,
         directed: bool,
     },
+    /// `simplex(n,n0,n1,n2,n3,n4,directed)`; directed where its number is not zero.
+    Simplex {
+        n: i64,
+        n0: i64,
+        n1: i64,
+        n2: i64,
+        n3: i64,
+        n4: i64,
+        directed: bool,
+    },
+    /// `subsets(n,n0,n1,n2,n3,n4,size_bits,directed)`; directed where its number is not zero.
+    Subsets {
+        n: i64,
+        n0: i64,
+        n1: i64,
+        n2: i64,
+        n3: i64,
+        n4: i64,
+        size_bits: u64,
+        directed: bool,
+    },
+    /// `complete(n)`.
+    Complete(i64),
+    /// `transitive(n)`.
+    Transitive(i64),
+    /// `empty(n)`.
+    Empty(i64),
+    /// `circuit(n)`.
+    Circuit(i64),
+    /// `cycle(n)`.
+    Cycle(i64),
+    /// `disjoint_subsets(n,k)`.
+    DisjointSubsets {
+        n: i64,
+        k: i64,
+    },
+    /// `petersen()`.
+    Petersen,
 }
 
-/// The expression that the text is: `board(n1,n2,n3,n4,piece,wrap,directed)` (GB_BASIC, board), with no spaces, each
-/// number an optional `-` and 1 to 18 digits.
+/// The expression that the text is: one of GraphBase's official names and, in parentheses, its arguments with commas
+/// between them (GB_BASIC, board, simplex, subsets and their special cases), with no spaces. `size_bits` is 1 to 18
+/// digits, or `0x` and 1 to 16 hexadecimal ones; each other argument is an optional `-` and 1 to 18 digits.
 ///
 /// `TooLarge` before all else where the text has more than 65,536 bytes, or some front of it has over 64 more `(`
 /// than `)`. `Expr(k)` where it is no expression; its first k bytes are its longest front that begins one.
@@ -39,8 +80,8 @@ pub fn parse_expr(alloc: Global, text: &[u8]) -> Result<Expr, Fault>
     if is_too_large(text) {
         return Err(Fault::TooLarge);
     }
-    match read_call(b"board", text) {
-        Ok(numbers) => Ok(board_with(numbers)),
+    match read_any(text) {
+        Ok(expression) => Ok(expression),
         Err(at) => Err(Fault::Expr(at as u32)),
     }
 }

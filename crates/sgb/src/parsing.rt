@@ -1,13 +1,19 @@
-//! Reading a text from its front: fixed bytes, integers, and calls of a name with integers in parentheses.
+//! Reading a text from its front: fixed bytes, integers, bits, and calls of a name with these in parentheses.
 
-ghost use Rattle.std.specs.Prelude.{◌≡◌, ◌+◌, ◌^◌, ◌<◌, ◌≤◌, ◌++◌, pos, [], nat_eq, length, IfOk, OnOk, IfErr};
+ghost use Rattle.std.specs.Prelude.{◌≡◌, ◌+◌, ◌^◌, ◌<◌, ◌≤◌, ◌++◌, ◌∷◌, List, ℤ, pos, [], nat_eq, length, codes, IfOk, OnOk, IfErr};
 ghost use Rattle.std.specs.List.{common_prefix_len};
-ghost use Rattle.std.specs.Str.Parse.{digits_value};
-ghost use Rattle.sgb.specs.Fronts.{BeginsWithInteger, GoesWrongAt, sign_len, unsigned_part, leading_digits, separator_before};
-ghost use Rattle.sgb.specs.Grammar.{IsDigits, IsForm, call};
+ghost use Rattle.sgb.specs.Fronts.{BeginsWithDigits, BeginsWithInteger, GoesWrongAt, ReadsEnd, ReadsOn, StandsBehindNumbers, sign_len, unsigned_part, leading_digits, separator_before};
+ghost use Rattle.sgb.specs.Grammar.{Piece, Fixed, Bits, IsForm, call, call_with_bits, integers, most_digits};
+
+mod digits;
+
+use digits::{leading_digits, value_of};
 
 /// A number has at most this many digits.
 const MOST_DIGITS: usize = 18;
+
+/// A number has at most this many hexadecimal digits.
+const MOST_HEX_DIGITS: usize = 16;
 
 /// What is left of a text that is read from its front, and how many bytes have been read.
 #[derive(Drop)]
@@ -50,12 +56,12 @@ impl<'a> Reader<'a> {
     fn integer(&mut self) -> Result<i64, usize>
         ensures number { IfOk result (λ n. BeginsWithInteger self.old.rest.now n self.new.rest.now) }
         ensures at { OnOk result (self.new.at + length self.new.rest.now ≡ self.old.at + length self.old.rest.now) }
-        ensures none { IfErr result (λ k. (leading_digits (unsigned_part self.old.rest.now) ≡ [])
+        ensures none { IfErr result (λ k. (leading_digits 10 most_digits (unsigned_part self.old.rest.now) ≡ [])
             × (k ≡ self.old.at + sign_len self.old.rest.now)) }
     {
         let rest = self.rest;
         let sign = sign_len(rest);
-        let digits = leading_digits(&rest[sign..]);
+        let digits = leading_digits(&rest[sign..], 10, MOST_DIGITS);
         let at = self.at + sign;
         if digits.is_empty() {
             return Err(at);
@@ -64,8 +70,68 @@ impl<'a> Reader<'a> {
             rest: &rest[sign + digits.len()..],
             at: at + digits.len(),
         };
-        let value = value_of(digits);
+        let value = value_of(digits, 10) as i64;
         Ok(if sign == 1 { -value } else { value })
+    }
+
+    /// Reads as many digits in the radix as can be taken up to so many, or answers at what byte there is none.
+    fn digits(&mut self, radix: u32, most: usize) -> Result<u64, usize>
+        requires low { 2 ≤ radix }
+        requires high { radix ≤ 16 }
+        requires most { radix ^ most ≤ 2 ^ 64 }
+        ensures number { IfOk result (λ n. BeginsWithDigits radix most self.old.rest.now n self.new.rest.now) }
+        ensures at { OnOk result (self.new.at + length self.new.rest.now ≡ self.old.at + length self.old.rest.now) }
+        ensures none { IfErr result (λ k. (leading_digits radix most self.old.rest.now ≡ []) × (k ≡ self.old.at)) }
+    {
+        let rest = self.rest;
+        let digits = leading_digits(rest, radix, most);
+        let count = digits.len();
+        if count == 0 {
+            return Err(self.at);
+        }
+        *self = Reader {
+            rest: &rest[count..],
+            at: self.at + count,
+        };
+        Ok(value_of(digits, radix))
+    }
+
+    /// Reads bits, decimal or behind `0x` hexadecimal, with as many digits as can be taken, or answers at what byte
+    /// the text begins none.
+    fn bits(&mut self) -> Result<u64, usize>
+        ensures { (left : List Piece) → StandsBehindNumbers left
+            → ReadsOn (Bits ∷ []) left (λ n. pos n ∷ []) self.old.rest.now self.old.at result self.new.rest.now self.new.at }
+    {
+        let Some(digits) = self.rest.strip_prefix(b"0x") else {
+            return self.digits(10, MOST_DIGITS);
+        };
+        *self = Reader {
+            rest: digits,
+            at: self.at + 2,
+        };
+        self.digits(16, MOST_HEX_DIGITS)
+    }
+
+    /// Reads N integers with commas between them, or answers at what byte the text goes wrong.
+    fn integers<const N: usize>(&mut self) -> Result<[i64; N], usize>
+        ensures { (left : List Piece) → StandsBehindNumbers left
+            → ReadsOn (integers N) left (λ numbers. numbers) self.old.rest.now self.old.at result self.new.rest.now self.new.at }
+    {
+        let mut numbers = [0; N];
+        for place in 0..N {
+            self.fixed(separator_before(place))?;
+            numbers[place] = self.integer()?;
+        }
+        Ok(numbers)
+    }
+
+    /// Reads the name of a call and the parenthesis behind it, or answers at what byte the text goes wrong.
+    fn open(&mut self, name: &[u8]) -> Result<(), usize>
+        ensures { (left : List Piece)
+            → ReadsOn (Fixed (name.now ++ codes "(") ∷ []) left (λ _. []) self.old.rest.now self.old.at result self.new.rest.now self.new.at }
+    {
+        self.fixed(name)?;
+        self.fixed(b"(")
     }
 
     /// Whether nothing is left, or at what byte something is.
@@ -107,36 +173,19 @@ fn sign_len(text: &[u8]) -> usize
     }
 }
 
-/// The digits that the text begins with, as many as a number may have.
-fn leading_digits(text: &[u8]) -> &[u8]
-    ensures { result.now ≡ leading_digits text.now }
-{
-    let longest = &text[..MOST_DIGITS.min(text.len())];
-    for (count, byte) in longest.iter().enumerate() {
-        if !byte.is_ascii_digit() {
-            return &longest[..count];
-        }
-    }
-    longest
-}
-
-/// The number that the digits write.
-fn value_of(digits: &[u8]) -> i64
-    requires { IsDigits digits.now }
-    ensures { result ≡ pos (digits_value 10 digits.now) }
-{
-    let mut value: u64 = 0;
-    for byte in digits {
-        value = 10 * value + u64::from(*byte - b'0');
-    }
-    value as i64
-}
-
 /// What stands before the integer with this place in a call.
 fn separator_before(place: usize) -> &'static [u8]
     ensures { result.now ≡ separator_before place }
 {
     if place == 0 { b"" } else { b"," }
+}
+
+/// Reads the parenthesis that ends a call and the text, or answers at what byte the text goes wrong.
+fn read_end(reader: &mut Reader<'_>) -> Result<(), usize>
+    ensures { ReadsEnd reader.old.rest.now reader.old.at result }
+{
+    reader.fixed(b")")?;
+    reader.end()
 }
 
 /// The numbers of the call `name(I,..,I)` with N integers that the text is, or the length of the longest front of
@@ -146,14 +195,28 @@ pub fn read_call<const N: usize>(name: &[u8], text: &[u8]) -> Result<[i64; N], u
     ensures wrong { IfErr result (λ k. GoesWrongAt (call name.now N) text.now k) }
 {
     let mut reader = Reader::new(text);
-    reader.fixed(name)?;
-    reader.fixed(b"(")?;
-    let mut numbers = [0; N];
-    for place in 0..N {
-        reader.fixed(separator_before(place))?;
-        numbers[place] = reader.integer()?;
-    }
-    reader.fixed(b")")?;
-    reader.end()?;
+    reader.open(name)?;
+    let numbers = reader.integers()?;
+    read_end(&mut reader)?;
     Ok(numbers)
+}
+
+/// The numbers of the call `name(I,..,I,B,I)` with N integers, bits and an integer that the text is, or the length of
+/// the longest front of the text that begins such a call.
+pub fn read_call_with_bits<const N: usize>(
+    name: &[u8],
+    text: &[u8],
+) -> Result<([i64; N], u64, i64), usize>
+    ensures numbers { IfOk result (λ read. IsForm (call_with_bits name.now N) text.now (read.0 ++ pos read.1 ∷ read.2 ∷ [])) }
+    ensures wrong { IfErr result (λ k. GoesWrongAt (call_with_bits name.now N) text.now k) }
+{
+    let mut reader = Reader::new(text);
+    reader.open(name)?;
+    let numbers = reader.integers()?;
+    reader.fixed(b",")?;
+    let bits = reader.bits()?;
+    reader.fixed(b",")?;
+    let last = reader.integer()?;
+    read_end(&mut reader)?;
+    Ok((numbers, bits, last))
 }

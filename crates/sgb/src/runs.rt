@@ -8,7 +8,7 @@ ghost use Rattle.sgb.specs.Values.{value_of};
 ghost use Rattle.sgb.specs.Writing.{IsEnded};
 
 use crate::devices::{Sink, Source};
-use crate::evaluation::{board_of, graph_of};
+use crate::evaluation::{Local, graph_of, local_of};
 use crate::expressions::Expr;
 use crate::faults::{Fault, report};
 use crate::requests::{Request, Resume};
@@ -73,8 +73,11 @@ fn answer_names<W: Sink>(
     requires { W.has_failed out.old ≡ false }
     ensures { IsEnded (answer_from (value_of expression.now) (λ d. names_answer d.names resume.now)) (record { before = W.written out.old; after = W.written out.new; failed = W.has_failed out.new }) result }
 {
-    let board = board_of(expression)?;
-    write_names(alloc, board.family(), resume, out)
+    match local_of(alloc, expression)? {
+        Local::Board(board) => write_names(alloc, board.family(), resume, out),
+        Local::Simplex(simplex) => write_names(alloc, simplex.family(), resume, out),
+        Local::Subsets(subsets) => write_names(alloc, subsets.family(), resume, out),
+    }
 }
 
 // Writes the listing of an expression's graph.

@@ -330,6 +330,203 @@ fn listings_over_memory(rt: HostRuntime) -> Result<(), Fail> {
     Ok(())
 }
 
+#[test]
+fn sums_over_memory(rt: HostRuntime) -> Result<(), Fail> {
+    let cases = [
+        Case {
+            words: &["list", "simplex(2,0,0,0,0,0,0)"],
+            output: "  The graph whose official name is\nsimplex(2,-2,0,0,0,0,0)\n  has 6 vertices and 18 arcs:\n\n\
+                0.0.2\n  -> 1.0.1, length 1\n  -> 0.1.1, length 1\n\
+                0.1.1\n  -> 1.1.0, length 1\n  -> 1.0.1, length 1\n  -> 0.2.0, length 1\n  -> 0.0.2, length 1\n\
+                0.2.0\n  -> 1.1.0, length 1\n  -> 0.1.1, length 1\n\
+                1.0.1\n  -> 2.0.0, length 1\n  -> 1.1.0, length 1\n  -> 0.0.2, length 1\n  -> 0.1.1, length 1\n\
+                1.1.0\n  -> 2.0.0, length 1\n  -> 1.0.1, length 1\n  -> 0.1.1, length 1\n  -> 0.2.0, length 1\n\
+                2.0.0\n  -> 1.0.1, length 1\n  -> 1.1.0, length 1\n",
+            line: "",
+            status: 0,
+        },
+        Case {
+            words: &["names", "simplex(2,0,0,0,0,0,0)", "--after", "1.0.1"],
+            output: "1.1.0\n2.0.0\n",
+            line: "",
+            status: 0,
+        },
+        Case {
+            words: &["list", "simplex(2,0,0,0,0,0,0)", "--after", "1.0.1"],
+            output: "1.1.0\n  -> 2.0.0, length 1\n  -> 1.0.1, length 1\n  -> 0.1.1, length 1\n  -> 0.2.0, length 1\n\
+                2.0.0\n  -> 1.0.1, length 1\n  -> 1.1.0, length 1\n",
+            line: "",
+            status: 0,
+        },
+        Case {
+            words: &["names", "simplex(2,0,0,0,0,0,0)", "--after", "01.0.1"],
+            output: "",
+            line: "sgb: no such vertex\n",
+            status: 1,
+        },
+        Case {
+            words: &["names", "simplex(2,0,0,0,0,0,0)", "--after", "2.0.0"],
+            output: "",
+            line: "",
+            status: 0,
+        },
+        Case {
+            words: &["names", "simplex(2,0,0,0,0,0,0)", "--skip", "9"],
+            output: "",
+            line: "",
+            status: 0,
+        },
+        // no vertex at all, one, and a bound cut to the sum
+        Case {
+            words: &["names", "simplex(5,2,2,0,0,0,0)"],
+            output: "",
+            line: "",
+            status: 0,
+        },
+        Case {
+            words: &["list", "simplex(5,2,2,0,0,0,0)"],
+            output: "  The graph whose official name is\nsimplex(5,2,2,0,0,0,0)\n  has 0 vertices and 0 arcs:\n\n",
+            line: "",
+            status: 0,
+        },
+        Case {
+            words: &["names", "simplex(3,3,0,0,0,0,0)"],
+            output: "3\n",
+            line: "",
+            status: 0,
+        },
+        Case {
+            words: &["list", "simplex(0,3,0,0,0,0,0)"],
+            output: "  The graph whose official name is\nsimplex(0,0,0,0,0,0,0)\n  has 1 vertices and 0 arcs:\n\n0\n",
+            line: "",
+            status: 0,
+        },
+        Case {
+            words: &["names", "simplex(0,0,0,0,0,0,0)"],
+            output: "0.0.0\n",
+            line: "",
+            status: 0,
+        },
+        Case {
+            words: &["list", "subsets(3,2,2,2,0,0,3,0)", "--skip", "3"],
+            output: "1.1.1\n1.2.0\n  -> 2.0.1, length 1\n  -> 1.0.2, length 1\n  -> 0.1.2, length 1\n\
+                2.0.1\n  -> 1.2.0, length 1\n  -> 0.2.1, length 1\n  -> 0.1.2, length 1\n\
+                2.1.0\n  -> 1.0.2, length 1\n  -> 0.2.1, length 1\n  -> 0.1.2, length 1\n",
+            line: "",
+            status: 0,
+        },
+        Case {
+            words: &["names", "subsets(3,2,2,2,0,0,0x3,1)"],
+            output: "0.1.2\n0.2.1\n1.0.2\n1.1.1\n1.2.0\n2.0.1\n2.1.0\n",
+            line: "",
+            status: 0,
+        },
+        // refusals
+        Case {
+            words: &["list", "simplex(-1,0,0,0,0,0,0)"],
+            output: "",
+            line: "Something went wrong (panic code 30)!\n",
+            status: 1,
+        },
+        Case {
+            words: &["list", "simplex(1000000001,1,0,0,0,0,0)"],
+            output: "",
+            line: "Something went wrong (panic code 40)!\n",
+            status: 1,
+        },
+        Case {
+            words: &["names", "simplex(30,-30,0,0,0,0,0)"],
+            output: "",
+            line: "Something went wrong (panic code 40)!\n",
+            status: 1,
+        },
+        Case {
+            words: &["names", "subsets(30,-92,0,0,0,0,1,0)"],
+            output: "",
+            line: "Something went wrong (panic code 30)!\n",
+            status: 1,
+        },
+        Case {
+            words: &["list", "subsets(64,64,64,0,0,0,0x10000000000000000,0)"],
+            output: "",
+            line: "sgb: bad expression at byte 41\n",
+            status: 2,
+        },
+    ];
+    for case in &cases {
+        let mut out = MemSink::new(rt.alloc());
+        let mut errors = MemSink::new(rt.alloc());
+        let status = call(rt.alloc(), case.words, &mut out, &mut errors)?;
+        assert_eq!(rt; status, case.status);
+        assert_eq!(rt; out.bytes(), case.output.as_bytes());
+        assert_eq!(rt; errors.bytes(), case.line.as_bytes());
+    }
+    Ok(())
+}
+
+// The head, and so the official name and the numbers of vertices and arcs, of each short name; and a last block.
+#[test]
+fn short_names(rt: HostRuntime) -> Result<(), Fail> {
+    let cases = [
+        (
+            "complete(4)",
+            "board(4,0,0,0,-1,0,0)\n  has 4 vertices and 12 arcs:\n\n",
+            "\n3\n  -> 2, length 1\n  -> 1, length 2\n  -> 0, length 3\n",
+        ),
+        (
+            "transitive(3)",
+            "board(3,0,0,0,-1,0,1)\n  has 3 vertices and 3 arcs:\n\n",
+            "\n1\n  -> 2, length 1\n2\n",
+        ),
+        (
+            "empty(2)",
+            "board(2,0,0,0,2,0,0)\n  has 2 vertices and 0 arcs:\n\n",
+            "\n0\n1\n",
+        ),
+        (
+            "circuit(4)",
+            "board(4,0,0,0,1,1,0)\n  has 4 vertices and 8 arcs:\n\n",
+            "\n3\n  -> 0, length 1\n  -> 2, length 1\n",
+        ),
+        (
+            "cycle(3)",
+            "board(3,0,0,0,1,1,1)\n  has 3 vertices and 3 arcs:\n\n",
+            "\n2\n  -> 0, length 1\n",
+        ),
+        (
+            "disjoint_subsets(4,1)",
+            "subsets(1,1,-3,0,0,0,0x1,0)\n  has 4 vertices and 12 arcs:\n\n",
+            "\n1.0.0.0\n  -> 0.1.0.0, length 1\n  -> 0.0.1.0, length 1\n  -> 0.0.0.1, length 1\n",
+        ),
+        (
+            "petersen()",
+            "subsets(2,1,-4,0,0,0,0x1,0)\n  has 10 vertices and 30 arcs:\n\n\
+                0.0.0.1.1\n  -> 1.1.0.0.0, length 1\n  -> 1.0.1.0.0, length 1\n  -> 0.1.1.0.0, length 1\n",
+            "\n1.1.0.0.0\n  -> 0.0.1.1.0, length 1\n  -> 0.0.1.0.1, length 1\n  -> 0.0.0.1.1, length 1\n",
+        ),
+        // a single vector, and the names of vertices where the numbers of elements are not those of subsets
+        (
+            "disjoint_subsets(-999999999999999999,2)",
+            "subsets(2,1,2,0,0,0,0x1,0)\n  has 2 vertices and 0 arcs:\n\n",
+            "\n0.2\n1.1\n",
+        ),
+    ];
+    for (expression, head, end) in cases {
+        let mut out = MemSink::new(rt.alloc());
+        let mut errors = MemSink::new(rt.alloc());
+        let status = call(rt.alloc(), &["list", expression], &mut out, &mut errors)?;
+        assert_eq!(rt; status, 0, "at {expression}");
+        let title = b"  The graph whose official name is\n";
+        assert!(rt; out.bytes().starts_with(title), "at {expression}");
+        assert!(rt;
+            out.bytes()[title.len()..].starts_with(head.as_bytes()),
+            "at {expression}"
+        );
+        assert!(rt; out.bytes().ends_with(end.as_bytes()), "at {expression}");
+    }
+    Ok(())
+}
+
 // The graph of the default board: 64 vertices, 224 arcs.
 #[test]
 fn a_listing_of_the_chessboard(rt: HostRuntime) -> Result<(), Fail> {

@@ -74,6 +74,165 @@ fn other_texts_go_wrong_somewhere(rt: HostRuntime) {
     }
 }
 
+/// The subsets with these numbers and bits.
+fn subsets(numbers: [i64; 6], size_bits: u64, directed: bool) -> Result<Expr, Fault> {
+    let [n, n0, n1, n2, n3, n4] = numbers;
+    Ok(Expr::Subsets {
+        n,
+        n0,
+        n1,
+        n2,
+        n3,
+        n4,
+        size_bits,
+        directed,
+    })
+}
+
+#[test]
+fn each_form_is_read(rt: HostRuntime) {
+    for (text, want) in [
+        (
+            "simplex(2,0,0,0,0,0,1)",
+            Expr::Simplex {
+                n: 2,
+                n0: 0,
+                n1: 0,
+                n2: 0,
+                n3: 0,
+                n4: 0,
+                directed: true,
+            },
+        ),
+        (
+            "simplex(10,-3,4,5,6,7,0)",
+            Expr::Simplex {
+                n: 10,
+                n0: -3,
+                n1: 4,
+                n2: 5,
+                n3: 6,
+                n4: 7,
+                directed: false,
+            },
+        ),
+        ("complete(3)", Expr::Complete(3)),
+        ("transitive(-4)", Expr::Transitive(-4)),
+        ("empty(0)", Expr::Empty(0)),
+        ("circuit(007)", Expr::Circuit(7)),
+        ("cycle(12)", Expr::Cycle(12)),
+        (
+            "disjoint_subsets(5,2)",
+            Expr::DisjointSubsets { n: 5, k: 2 },
+        ),
+        ("petersen()", Expr::Petersen),
+    ] {
+        assert_eq!(rt;
+            parse_expr(rt.alloc(), text.as_bytes()),
+            Ok(want),
+            "at {text}"
+        );
+    }
+}
+
+#[test]
+fn bits_are_decimal_or_hexadecimal(rt: HostRuntime) {
+    let small = [3, 2, 2, 2, 0, 0];
+    for (text, want) in [
+        ("subsets(3,2,2,2,0,0,3,0)", subsets(small, 3, false)),
+        ("subsets(3,2,2,2,0,0,0x3,0)", subsets(small, 3, false)),
+        ("subsets(3,2,2,2,0,0,0,1)", subsets(small, 0, true)),
+        ("subsets(3,2,2,2,0,0,010,-1)", subsets(small, 10, true)),
+        (
+            "subsets(3,2,2,2,0,0,0xABcdef,0)",
+            subsets(small, 11_259_375, false),
+        ),
+        (
+            "subsets(3,2,2,2,0,0,0x000000000000000a,0)",
+            subsets(small, 10, false),
+        ),
+        (
+            "subsets(3,2,2,2,0,0,999999999999999999,0)",
+            subsets(small, 999_999_999_999_999_999, false),
+        ),
+        (
+            "subsets(3,2,2,2,0,0,0xffffffffffffffff,0)",
+            subsets(small, 18_446_744_073_709_551_615, false),
+        ),
+        (
+            "subsets(-3,2,-2,2,0,9,0xFFFFFFFF,0)",
+            subsets([-3, 2, -2, 2, 0, 9], 4_294_967_295, false),
+        ),
+    ] {
+        assert_eq!(rt; parse_expr(rt.alloc(), text.as_bytes()), want, "at {text}");
+    }
+}
+
+#[test]
+fn bad_bits_go_wrong_somewhere(rt: HostRuntime) {
+    for (text, want) in [
+        ("subsets(3,2,2,2,0,0,18446744073709551615,0)", 38),
+        ("subsets(3,2,2,2,0,0,0x", 22),
+        ("subsets(3,2,2,2,0,0,0x,", 22),
+        ("subsets(3,2,2,2,0,0,0x-1", 22),
+        ("subsets(3,2,2,2,0,0,0xg", 22),
+        ("subsets(3,2,2,2,0,0,0", 21),
+        ("subsets(3,2,2,2,0,0,00x1,0)", 22),
+        ("subsets(3,2,2,2,0,0,0X1,0)", 21),
+        ("subsets(3,2,2,2,0,0,x1,0)", 20),
+        ("subsets(3,2,2,2,0,0,ff,0)", 20),
+        ("subsets(3,2,2,2,0,0,1f,0)", 21),
+        ("subsets(3,2,2,2,0,0,-1,0)", 20),
+        ("subsets(3,2,2,2,0,0,,0)", 20),
+        ("subsets(3,2,2,2,0,0x3,3,0)", 19),
+        ("subsets(3,2,2,2,0,0,3,0x1)", 23),
+        ("subsets(3,2,2,2,0,0,3)", 21),
+        ("subsets(3,2,2,2,0,0,3,1,", 23),
+        ("subsets(64,64,64,0,0,0,0x10000000000000000,0)", 41),
+        ("subsets(64,64,64,0,0,0,0x00000000000000001,0)", 41),
+    ] {
+        assert_eq!(rt;
+            parse_expr(rt.alloc(), text.as_bytes()),
+            bad(want),
+            "at {text}"
+        );
+    }
+}
+
+#[test]
+fn the_longest_front_is_that_of_some_form(rt: HostRuntime) {
+    for (text, want) in [
+        ("c", 1),
+        ("circle(3)", 4),
+        ("cyclo", 4),
+        ("cycles", 5),
+        ("com", 3),
+        ("compete(3)", 4),
+        ("complete(3", 10),
+        ("complete()", 9),
+        ("complete(3,4)", 10),
+        ("s", 1),
+        ("simple(3)", 6),
+        ("sumsets(3)", 2),
+        ("subset(3)", 6),
+        ("emptyx", 5),
+        ("empty", 5),
+        ("transitive(0x1)", 12),
+        ("disjoint_subsets(5)", 18),
+        ("disjoint-subsets(5,2)", 8),
+        ("petersen(1)", 9),
+        ("petersen", 8),
+        ("Petersen()", 0),
+        ("petersen() ", 10),
+    ] {
+        assert_eq!(rt;
+            parse_expr(rt.alloc(), text.as_bytes()),
+            bad(want),
+            "at {text}"
+        );
+    }
+}
+
 #[test]
 fn large_texts_are_not_read(rt: HostRuntime) -> Result<(), Fail> {
     let deep = [b'('; 65];

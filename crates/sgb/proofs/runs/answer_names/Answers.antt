@@ -1,18 +1,29 @@
-use Rattle.std.proofs.Common.{List, ℕ, map, ap, sym}
-use Rattle.std.proofs.lemmas.Result.{err_from_is_err_and}
+use Rattle.std.proofs.Common.{List, ℕ, map, ap, sym, ◌∙◌}
 use Rattle.sgb_vec.specs.Boxes.{box}
 use Rattle.sgb_vec.specs.Names.{name_of_vector}
-use Rattle.sgb_gen.specs.Boards.{board_graph}
+use Rattle.sgb_vec.specs.Sums.{BoundedSum, bounded_sums}
 use Rattle.sgb_gen.specs.Families.{family_graph}
-use Rattle.sgb.proofs.Endings.{named_value, refused_local}
+use Rattle.sgb.specs.Values.{described}
+use Rattle.sgb.proofs.Endings.{named_value}
 use Rattle.sgb.proofs.runs.answer_names.Goals as goal
 
-pub returns-in_err-board : goal.returns-in_err-board
-returns-in_err-board g c =
-    let p = err_from_is_err_and c.from_residual.result c.from_residual.ensures.1 in
-    rw p.1 (refused_local _ _ _ _ _ _ _ c.in_err-board.ensures p.2 c.requires)
-
-pub returns : goal.returns
+pub returns-in-Board : goal.returns-in-Board
 unfolding family_graph
-returns g c =
-    named_value _ (board_graph c.in_ok-board.board) _ _ _ _ c.in_ok-board.ensures (ap (λ (sizes : List ℕ). map name_of_vector (box sizes)) (sym c.family.ensures)) c.write_names.ensures
+returns-in-Board g c =
+    let names = λ (sizes : List ℕ). map name_of_vector (box sizes) in
+    named_value _ (described c.in_ok-board.field-0) _ _ _ _ c.in_ok-board.ensures
+    (ap (λ l. (described l).names) c.in-Board.is ∙ ap names (sym c.family.ensures)) c.write_names.ensures
+
+pub returns-in-Simplex : goal.returns-in-Simplex
+unfolding family_graph
+returns-in-Simplex g c =
+    let names = λ (s : BoundedSum). map name_of_vector (bounded_sums s.total s.bounds) in
+    named_value _ (described c.in_ok-board.field-0) _ _ _ _ c.in_ok-board.ensures
+    (ap (λ l. (described l).names) c.in-Simplex.is ∙ ap names (sym c.family-in-Simplex.ensures)) c.write_names-in-Simplex.ensures
+
+pub returns-in-Subsets : goal.returns-in-Subsets
+unfolding family_graph
+returns-in-Subsets g c =
+    let names = λ (s : BoundedSum). map name_of_vector (bounded_sums s.total s.bounds) in
+    named_value _ (described c.in_ok-board.field-0) _ _ _ _ c.in_ok-board.ensures
+    (ap (λ l. (described l).names) c.in-Subsets.is ∙ ap names (sym c.family-in-Subsets.ensures)) c.write_names-in-Subsets.ensures

@@ -16,6 +16,6 @@ pub returns : goal.returns
 returns g c =
     let names = map name_of_vector (g.F.Family.members c.args.family.now) in
     elim c.in_ok-skip.ensures [
-      | inl known ↦ ended_behind (left_out names c.args.resume.now) _ (name_lines names) _ _ known c.write_names_behind.ensures
+      | inl known ↦ ended_behind (left_out names c.args.resume.now) c.in_ok-skip.skip (name_lines names) _ _ known c.write_names_behind.ensures
       | inr memory ↦ cc
     ]

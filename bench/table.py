@@ -1,0 +1,67 @@
+#!/usr/bin/env python3
+"""What requests cost: a table of processor seconds, peak memory and bytes of output.
+
+    make && bench/table.py [WORD ..]
+
+Each request is a run of ./sgb with its output read and counted; with words, only the requests that hold one of
+them are made. It is no part of the gate.
+"""
+
+import os
+import subprocess
+import sys
+
+PROGRAM = os.path.join(os.path.dirname(os.path.abspath(__file__)), "..", "sgb")
+
+REQUESTS = [
+    # names: no graph is built
+    ["names", "board(1000,1000,0,0,1,0,0)"],
+    ["names", "board(100,-3,0,0,1,0,0)"],
+    ["names", "board(10000,1000,0,0,1,0,0)"],
+    ["names", "board(1000,1000,0,0,1,0,0)", "--skip", "999990"],
+    ["names", "board(1000,1000,0,0,1,0,0)", "--after", "999.989"],
+    ["names", "simplex(25,-5,0,0,0,0,0)"],
+    # boards of moves by one step, of knights, of rooks and queens' diagonals, around a torus, a hypercube
+    ["list", "board(600,600,0,0,1,0,0)"],
+    ["list", "board(1000,1000,0,0,1,0,0)"],
+    ["list", "board(1000,1000,0,0,5,0,0)"],
+    ["list", "board(1000,1000,0,0,1,3,0)"],
+    ["list", "board(1000,1000,0,0,1,3,1)"],
+    ["list", "board(200,200,0,0,-1,0,0)"],
+    ["list", "board(200,200,0,0,-2,3,0)"],
+    ["list", "board(2,-18,0,0,1,0,0)"],
+    ["list", "board(1000,1000,0,0,1,0,0)", "--skip", "999990"],
+    ["list", "complete(2000)"],
+    # bounded sums
+    ["list", "simplex(25,-5,0,0,0,0,0)"],
+    ["list", "simplex(1000,-2,0,0,0,0,0)"],
+    ["list", "disjoint_subsets(15,6)"],
+    ["list", "subsets(20,5,-5,0,0,0,0xff,0)"],
+]
+
+
+def cost(words):
+    """Runs the program; its exit status, processor seconds, peak memory in kilobytes, bytes of output."""
+    run = subprocess.Popen([PROGRAM, *words], stdout=subprocess.PIPE)
+    count = 0
+    while chunk := run.stdout.read(1 << 20):
+        count += len(chunk)
+    _, status, usage = os.wait4(run.pid, 0)
+    run.returncode = os.waitstatus_to_exitcode(status)
+    return run.returncode, usage.ru_utime + usage.ru_stime, usage.ru_maxrss, count
+
+
+def main():
+    wanted = sys.argv[1:]
+    print(f"{'request':<56} {'seconds':>8} {'peak MB':>8} {'bytes out':>12}")
+    for words in REQUESTS:
+        text = " ".join(words)
+        if wanted and not any(word in text for word in wanted):
+            continue
+        status, seconds, peak, count = cost(words)
+        note = "" if status == 0 else f"  status {status}"
+        print(f"{text:<56} {seconds:>8.2f} {peak / 1024:>8.0f} {count:>12}{note}", flush=True)
+
+
+if __name__ == "__main__":
+    main()
