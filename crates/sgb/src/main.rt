@@ -1,4 +1,4 @@
-//! sgb: the names of the graphs of Stanford GraphBase's generators.
+//! sgb: the names and listings of the graphs of Stanford GraphBase's generators.
 #![tactic(auto)]
 
 pub(crate) mod calls;
