@@ -2,6 +2,7 @@
 pub mod AddingArcs
 pub mod AddingEdges
 pub mod Chains
+pub mod CompoundIds
 pub mod DrawLemmas
 pub mod EventLemmas
 pub mod Examples
@@ -12,5 +13,10 @@ pub mod ListMembers
 pub mod Lists
 pub mod NewGraphs
 pub mod Numbers
+pub mod OwnNumbers
 pub mod TestLemmas
 pub mod Tips
+pub mod Cycles
+pub mod FirstCycle
+pub mod Standing
+pub mod Waiting

@@ -149,6 +149,10 @@ with_ints g v x y z = record g {
   vertices = at_place (with_numbers x y z) v (map with_some_numbers g.vertices);
 }
 
+-- the graph with this number in its own field uu (of its kinds the one at place 8)
+abbrev pub with_uu : ℤ → GraphData → GraphData
+with_uu value g = record g { kinds = slice_set g.kinds 8 I; util = slice_set g.util 0 (Int value) }
+
 -- the graph with another id
 abbrev pub with_id : List ℕ → GraphData → GraphData
 with_id text g = record g { id = text }

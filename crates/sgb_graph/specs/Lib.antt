@@ -8,3 +8,4 @@ pub mod IdTexts
 pub mod Ids
 pub mod Made
 pub mod Sound
+pub mod Flips

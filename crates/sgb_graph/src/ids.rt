@@ -4,7 +4,10 @@ ghost use Rattle.sgb_vec.specs.Names.{IsTextByte};
 ghost use Rattle.sgb_graph.specs.IdTexts.{is_id_text};
 ghost use Rattle.sgb_graph.specs.Ids.{most_id_bytes, IsId};
 
+mod compounds;
+
 use arrayvec::ArrayVec;
+pub use compounds::{compound_id, double_compound_id};
 use itoa::Buffer;
 use sgb_vec::Panic;
 use std::marker::Model;

@@ -1,8 +1,8 @@
-//! Integers in the utility fields x, y, z of vertices.
+//! Integers in the utility fields x, y, z of vertices, and in the graph's own field uu.
 ghost use Rattle.std.specs.Prelude.{◌≡◌, ◌<◌, ℕ, length, map};
 ghost use Rattle.std.specs.Bool.{OnTrue};
 ghost use Rattle.sgb_graph.specs.Graphs.{chain_of};
-ghost use Rattle.sgb_graph.specs.Growth.{HoldNumbers, at_place, is_number, number_or_zero, put_numbers, some_numbers, with_ints, with_number_kinds, with_numbers, with_some_numbers};
+ghost use Rattle.sgb_graph.specs.Growth.{HoldNumbers, at_place, is_number, number_or_zero, put_numbers, some_numbers, with_ints, with_number_kinds, with_numbers, with_some_numbers, with_uu};
 
 use super::Graph;
 use crate::fields::{Kind, Util, Vertex};
@@ -20,6 +20,15 @@ impl Graph {
     {
         use_numbers(&mut self.kinds, &mut self.vertices);
         put_numbers(&mut self.vertices, v, x, y, z);
+    }
+
+    /// Puts an integer into the graph's own utility field uu, which then holds integers (GB_GRAPH, util_types).
+    pub fn set_uu(&mut self, value: i64)
+        ensures data { self.new ≡ with_uu value self.old }
+        ensures chains { (w : ℕ) → chain_of self.new w ≡ chain_of self.old w }
+    {
+        self.kinds[8] = Kind::I;
+        self.util[0] = Util::Int(value);
     }
 }
 

@@ -183,6 +183,27 @@ fn the_other_vertices_get_zeros(rt: HostRuntime) {
     );
 }
 
+// A number for the field uu of a graph of two vertices.
+fn with_own_number(alloc: Global) -> Result<Graph, Panic> {
+    let mut graph = graph_of(alloc, b"ab")?;
+    graph.set_uu(-5);
+    Ok(graph)
+}
+
+#[test]
+fn the_graph_has_a_number_of_its_own(rt: HostRuntime) {
+    assert!(rt;
+        with_own_number(rt.alloc()).is_ok_and(|graph| {
+            graph.n() == 2
+                && graph.kinds()[..8].iter().all(|kind| *kind == Kind::Z)
+                && graph.kinds()[8] == Kind::I
+                && graph.kinds()[9..].iter().all(|kind| *kind == Kind::Z)
+                && holds(graph.graph_util(0), -5)
+                && matches!(graph.graph_util(1), Util::Nothing)
+        })
+    );
+}
+
 #[test]
 fn a_record_leads_to_a_vertex(rt: HostRuntime) {
     assert!(rt;

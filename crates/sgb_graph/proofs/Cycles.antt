@@ -1,0 +1,166 @@
+-- A cycle of random numbers, the next one, and the numbers of the sequence that they are.
+use Rattle.std.proofs.Common.{◌≡◌, ℕ, ◌+◌, ◌-◌, ◌%◌, ◌<◌, ◌≤◌, ◌≢◌, ◌⊎◌, List, length, get_or, set, refl, ap, sym, ◌∙◌, subst, inl, inr, arith, length-set, get_or-set_same, get_or-set_other}
+use Rattle.std.proofs.lemmas.Bool.{cases_lt}
+use Rattle.sgb_graph.specs.Draws.{modulus, difference, x_number}
+use Rattle.sgb_graph.specs.Flips.{HandsOut, IsCycle, IsNextCycle}
+use Rattle.sgb_graph.proofs.DrawLemmas.{later_number}
+
+-- a difference is below 2^31
+pub difference_below : (a b : ℕ) → difference a b < modulus
+difference_below a b = omega arith
+
+-- a cycle with one number changed
+pub cycle_with : (numbers : List ℕ) (i x : ℕ) → IsCycle numbers → x < modulus → IsCycle (set numbers i x)
+cycle_with numbers i x is small = record {
+  many = length-set numbers i x ∙ is.many;
+  below = λ j inside. here_or_not j inside (cases_lt j i) (cases_lt i j);
+}
+  where
+    elsewhere : (j : ℕ) → j < 55 → j ≢ i → get_or (set numbers i x) j 0 < modulus
+    elsewhere j inside other = rw (get_or-set_other numbers i j x 0 other) (is.below j inside)
+
+    here_or_not : (j : ℕ) → j < 55 → (j < i) ⊎ (i ≤ j) → (i < j) ⊎ (j ≤ i) → get_or (set numbers i x) j 0 < modulus
+    here_or_not j inside (inl before) other = elsewhere j inside (omega arith)
+    here_or_not j inside (inr _) (inl behind) = elsewhere j inside (omega arith)
+    here_or_not j inside (inr low) (inr high) =
+        let same : i ≡ j = omega arith in
+        let within : i < length numbers = omega (arith, is.many) in
+        let Below : ℕ → Type 0 = λ p. get_or (set numbers i x) p 0 < modulus in
+        let at_i : get_or (set numbers i x) i 0 < modulus = rw (get_or-set_same numbers i x 0 within) small in
+        subst Below same at_i
+
+-- the first n numbers are those of the next cycle, the others those of the old one
+pub record IsCycling (old now : List ℕ) (n : ℕ) : Type 0 where
+  pub cycle : IsCycle now
+  pub early : (i : ℕ) → i < n → i < 24 → get_or now i 0 ≡ difference (get_or old i 0) (get_or old (i + 31) 0)
+  pub late : (i : ℕ) → i < n → 24 ≤ i → get_or now i 0 ≡ difference (get_or old i 0) (get_or now (i - 24) 0)
+  pub rest : (i : ℕ) → n ≤ i → get_or now i 0 ≡ get_or old i 0
+
+-- at the start
+pub cycling_none : (numbers : List ℕ) → IsCycle numbers → IsCycling numbers numbers 0
+cycling_none numbers is = record {
+  cycle = is;
+  early = λ i low small. absurd (omega arith);
+  late = λ i low great. absurd (omega arith);
+  rest = λ i high. refl;
+}
+
+-- one number more
+pub cycling_more : (old now : List ℕ) (n : ℕ) → n < 55 → IsCycling old now n → IsCycling old (set now n (difference (get_or now n 0) (get_or now ((n + 31) % 55) 0))) (n + 1)
+cycling_more old now n inside is = record {
+  cycle = cycle_with now n x is.cycle (difference_below (get_or now n 0) (get_or now ((n + 31) % 55) 0));
+  early = λ i low small. early_at i low small (cases_lt i n);
+  late = λ i low great. late_at i low great (cases_lt i n);
+  rest = λ i high. elsewhere i (omega arith) ∙ is.rest i (omega arith);
+}
+  where
+    x : ℕ
+    x = difference (get_or now n 0) (get_or now ((n + 31) % 55) 0)
+
+    after : List ℕ
+    after = set now n x
+
+    within : n < length now
+    within = omega (arith, is.cycle.many)
+
+    here : get_or after n 0 ≡ x
+    here = get_or-set_same now n x 0 within
+
+    elsewhere : (i : ℕ) → i ≢ n → get_or after i 0 ≡ get_or now i 0
+    elsewhere i other = get_or-set_other now n i x 0 other
+
+    own : get_or now n 0 ≡ get_or old n 0
+    own = is.rest n (omega arith)
+
+    early_here : n < 24 → x ≡ difference (get_or old n 0) (get_or old (n + 31) 0)
+    early_here small =
+        let place : (n + 31) % 55 ≡ n + 31 = omega arith in
+        let other : get_or now ((n + 31) % 55) 0 ≡ get_or old (n + 31) 0 = ap (λ p. get_or now p 0) place ∙ is.rest (n + 31) (omega arith) in
+        cc (own, other)
+
+    early_at : (i : ℕ) → i < n + 1 → i < 24 → (i < n) ⊎ (n ≤ i) → get_or after i 0 ≡ difference (get_or old i 0) (get_or old (i + 31) 0)
+    early_at i low small (inl before) = elsewhere i (omega arith) ∙ is.early i before small
+    early_at i low small (inr at) =
+        let same : n ≡ i = omega arith in
+        let Early : ℕ → Type 0 = λ p. get_or after p 0 ≡ difference (get_or old p 0) (get_or old (p + 31) 0) in
+        subst Early same (here ∙ early_here (omega arith))
+
+    late_here : 24 ≤ n → x ≡ difference (get_or old n 0) (get_or after (n - 24) 0)
+    late_here great =
+        let place : (n + 31) % 55 ≡ n - 24 = omega arith in
+        let other : get_or now ((n + 31) % 55) 0 ≡ get_or after (n - 24) 0 = ap (λ p. get_or now p 0) place ∙ sym (elsewhere (n - 24) (omega arith)) in
+        cc (own, other)
+
+    late_at : (i : ℕ) → i < n + 1 → 24 ≤ i → (i < n) ⊎ (n ≤ i) → get_or after i 0 ≡ difference (get_or old i 0) (get_or after (i - 24) 0)
+    late_at i low great (inl before) =
+        elsewhere i (omega arith) ∙ (is.late i before great ∙ ap (λ b. difference (get_or old i 0) b) (sym (elsewhere (i - 24) (omega arith))))
+    late_at i low great (inr at) =
+        let same : n ≡ i = omega arith in
+        let Late : ℕ → Type 0 = λ p. get_or after p 0 ≡ difference (get_or old p 0) (get_or after (p - 24) 0) in
+        subst Late same (here ∙ late_here (omega arith))
+
+-- in the end the next cycle
+pub cycling_all : (old now : List ℕ) → IsCycling old now 55 → IsNextCycle old now
+cycling_all old now is = record {
+  cycle = is.cycle;
+  early = λ i small. is.early i (omega arith) small;
+  late = λ i great inside. is.late i inside great;
+}
+
+-- the numbers are X(n + 1) to X(n + 55)
+pub record IsWindow (seed n : ℕ) (numbers : List ℕ) : Type 0 where
+  pub at : (i : ℕ) → i < 55 → get_or numbers i 0 ≡ x_number seed (n + (i + 1))
+
+-- those of the next cycle come after them
+pub next_window : (seed n : ℕ) (old new : List ℕ) → IsWindow seed n old → IsNextCycle old new → IsWindow seed (n + 55) new
+next_window seed n old new is next = record { at = λ i inside. anywhere i inside (cases_lt i 24) (cases_lt i 48) }
+  where
+    After : ℕ → Type 0
+    After i = get_or new i 0 ≡ x_number seed (n + 55 + (i + 1))
+
+    rule : (i : ℕ) → x_number seed (n + 55 + (i + 1)) ≡ difference (x_number seed (n + (i + 1))) (x_number seed (n + (i + 32)))
+    rule i =
+        let one : n + 55 + (i + 1) - 55 ≡ n + (i + 1) = omega arith in
+        let other : n + 55 + (i + 1) - 24 ≡ n + (i + 32) = omega arith in
+        rw (← one, ← other) (later_number seed (n + 55 + (i + 1)) (omega arith))
+
+    first_24 : (i : ℕ) → i < 24 → After i
+    first_24 i small =
+        let other = is.at (i + 31) (omega arith) in
+        let place : i + 31 + 1 ≡ i + 32 = omega arith in
+        next.early i small
+        ∙ (ap (λ a. difference a (get_or old (i + 31) 0)) (is.at i (omega arith))
+        ∙ (ap (λ b. difference (x_number seed (n + (i + 1))) b) (other ∙ ap (λ p. x_number seed (n + p)) place) ∙ sym (rule i)))
+
+    later : (i : ℕ) → 24 ≤ i → i < 55 → After (i - 24) → After i
+    later i great inside before =
+        let place : n + 55 + (i - 24 + 1) ≡ n + (i + 32) = omega arith in
+        next.late i great inside
+        ∙ (ap (λ a. difference a (get_or new (i - 24) 0)) (is.at i inside)
+        ∙ (ap (λ b. difference (x_number seed (n + (i + 1))) b) (before ∙ ap (λ p. x_number seed p) place) ∙ sym (rule i)))
+
+    next_24 : (i : ℕ) → 24 ≤ i → i < 48 → After i
+    next_24 i great small = later i great (omega arith) (first_24 (i - 24) (omega arith))
+
+    anywhere : (i : ℕ) → i < 55 → (i < 24) ⊎ (24 ≤ i) → (i < 48) ⊎ (48 ≤ i) → After i
+    anywhere i inside (inl small) _ = first_24 i small
+    anywhere i inside (inr great) (inl small) = next_24 i great small
+    anywhere i inside (inr _) (inr great) = later i (omega arith) inside (next_24 (i - 24) (omega arith) (omega arith))
+
+-- where numbers of the cycle are still to come, the last of them is handed out
+pub hands_on : (numbers : List ℕ) (left : ℕ) → IsCycle numbers → 0 < left → left ≤ 54 → HandsOut numbers left (get_or numbers (left - 1) 0) numbers (left - 1)
+hands_on numbers left is some few = record {
+  flip = record { cycle = is; few = omega arith };
+  value = refl;
+  inside = λ _. (refl, omega arith);
+  at_end = λ none. absurd (omega arith);
+}
+
+-- and else the last one of the next cycle
+pub hands_next : (old new : List ℕ) → IsNextCycle old new → HandsOut old 0 (get_or new 54 0) new 54
+hands_next old new next = record {
+  flip = record { cycle = next.cycle; few = omega arith };
+  value = refl;
+  inside = λ some. absurd (omega arith);
+  at_end = λ _. (next, refl);
+}

@@ -1,0 +1,152 @@
+-- A generator that stands at a draw, and the draw that it hands out.
+use Rattle.std.proofs.Common.{◌≡◌, ℕ, ℤ, ◌+◌, ◌-◌, ◌*◌, ◌/◌, ◌%◌, ◌<◌, ◌≤◌, ◌⊎◌, List, length, map, get_or, refl, ap, sym, ◌∙◌, subst, inl, inr, arith}
+use Rattle.std.specs.Prelude.{pos, negsuc}
+use Rattle.std.specs.Int.{int_rem_euclid}
+use Rattle.std.specs.List.{range_with_len}
+use lib.IntN.{nat_abs}
+use Rattle.std.proofs.lemmas.Bool.{cases_lt}
+use Rattle.std.proofs.lemmas.List.{ext_get_or}
+use Rattle.std.proofs.lemmas.List.FromFn.{get_or-map-range_with_len, length-map-range_with_len}
+use Rattle.sgb_graph.specs.Draws.{IsUniformDraw, StandsAt, bound_below, draw, modulus, seed_of, x_number}
+use Rattle.sgb_graph.specs.Flips.{HandsOut, IsCycle, IsFirstCycle, IsNextCycle}
+use Rattle.sgb_graph.proofs.DrawLemmas.{first_number}
+use Rattle.sgb_graph.proofs.Cycles.{IsWindow, next_window}
+
+-- what stands at a place of the values from 1 on
+value_at : (f : ℕ → ℕ) (many : ℕ) (xs : List ℕ) (i : ℕ) → xs ≡ map f (range_with_len 1 many) → i < many → get_or xs i 0 ≡ f (i + 1)
+value_at f many xs i e inside = rw e (get_or-map-range_with_len f 1 many i (i + 1) 0 inside (omega arith))
+
+-- a list with these values at its places
+from_values : (f : ℕ → ℕ) (many : ℕ) (xs : List ℕ) → length xs ≡ many → ((i : ℕ) → i < many → get_or xs i 0 ≡ f (i + 1)) → xs ≡ map f (range_with_len 1 many)
+from_values f many xs long at =
+    ext_get_or 0 xs (map f (range_with_len 1 many)) (long ∙ sym (length-map-range_with_len f 1 many))
+    (λ i inside. let below : i < many = omega arith in at i below ∙ sym (get_or-map-range_with_len f 1 many i (i + 1) 0 below (omega arith)))
+
+-- a generator that stands at draw k holds the numbers of a cycle
+pub stands_window : (start : ℤ) (k : ℕ) (numbers : List ℕ) (left : ℕ) → StandsAt start k numbers left → IsWindow (seed_of start) (55 * (5 + k / 55)) numbers
+stands_window start k numbers left stands = record {
+  at = λ i inside. value_at (λ j. x_number (seed_of start) (55 * (5 + k / 55) + j)) 55 numbers i stands.cycle inside;
+}
+
+-- and one that holds them stands there
+pub window_stands : (start : ℤ) (k n : ℕ) (numbers : List ℕ) (left : ℕ) → IsCycle numbers → IsWindow (seed_of start) n numbers → n ≡ 55 * (5 + k / 55) → left ≡ 54 - k % 55 → StandsAt start k numbers left
+window_stands start k n numbers left is window place still = record {
+  cycle = from_values (λ j. x_number (seed_of start) (55 * (5 + k / 55) + j)) 55 numbers is.many
+      (λ i inside. window.at i inside ∙ ap (λ p. x_number (seed_of start) (p + (i + 1))) place);
+  still = still;
+}
+
+-- the first cycle has X(1) to X(55)
+pub first_window : (seed : ℕ) (numbers : List ℕ) → IsFirstCycle seed numbers → IsWindow seed 0 numbers
+first_window seed numbers is = record {
+  at = λ i inside. let place : 0 + (i + 1) ≡ i + 1 = omega arith in is.value i inside ∙ (sym (first_number seed i inside) ∙ ap (λ p. x_number seed p) (sym place));
+}
+
+-- what was handed out is draw k, and the generator stands at the next one then
+pub record HandsOutDraw (start : ℤ) (k result : ℕ) (new : List ℕ) (left : ℕ) : Type 0 where
+  pub value : result ≡ draw (seed_of start) k
+  pub stands : StandsAt start (k + 1) new left
+
+-- a number of the sequence by its place in the cycle
+placed : (seed n m p : ℕ) (numbers : List ℕ) (result : ℕ) → IsWindow seed n numbers → p < 55 → result ≡ get_or numbers p 0 → n + (p + 1) ≡ m → result ≡ x_number seed m
+placed seed n m p numbers result window inside is place = is ∙ (window.at p inside ∙ ap (λ q. x_number seed q) place)
+
+-- a generator that stands at a draw hands it out
+pub hands_out_draw : (start : ℤ) (k : ℕ) (old : List ℕ) (left result : ℕ) (new : List ℕ) (left_after : ℕ) → StandsAt start k old left → HandsOut old left result new left_after → HandsOutDraw start k result new left_after
+hands_out_draw start k old left result new left_after stands out = by_cases (cases_lt 0 left)
+  where
+    window : IsWindow (seed_of start) (55 * (5 + k / 55)) old
+    window = stands_window start k old left stands
+
+    by_cases : (0 < left) ⊎ (left ≤ 0) → HandsOutDraw start k result new left_after
+    by_cases (inl some) =
+        let still = stands.still in
+        let step = out.inside (omega arith) in
+        let same : old ≡ new = sym step.0 in
+        let window_now : IsWindow (seed_of start) (55 * (5 + k / 55)) new = subst (IsWindow (seed_of start) (55 * (5 + k / 55))) same window in
+        let lower : left_after + 1 ≡ left = step.1 in
+        record {
+          value = placed (seed_of start) (55 * (5 + k / 55)) (55 * (5 + (k + 1) / 55) + 55 - (k + 1) % 55) left_after new result window_now (omega arith) out.value (omega arith);
+          stands = window_stands start (k + 1) (55 * (5 + k / 55)) new left_after out.flip.cycle window_now (omega arith) (omega arith);
+        }
+    by_cases (inr none) =
+        let still = stands.still in
+        let step = out.at_end (omega arith) in
+        let last : left_after ≡ 54 = step.1 in
+        let window_now = next_window (seed_of start) (55 * (5 + k / 55)) old new window step.0 in
+        record {
+          value = placed (seed_of start) (55 * (5 + k / 55) + 55) (55 * (5 + (k + 1) / 55) + 55 - (k + 1) % 55) left_after new result window_now (omega arith) out.value (omega arith);
+          stands = window_stands start (k + 1) (55 * (5 + k / 55) + 55) new left_after out.flip.cycle window_now (omega arith) (omega arith);
+        }
+
+-- what is handed out is below 2^31
+pub result_below : (old : List ℕ) (left result : ℕ) (new : List ℕ) (left_after : ℕ) → HandsOut old left result new left_after → result < modulus
+result_below old left result new left_after out =
+    let inside : left_after < 55 = omega (arith, out.flip.few) in
+    rw out.value (out.flip.cycle.below left_after inside)
+
+-- a start value modulo 2^31 is its remainder that is not negative
+pub remainder_is_seed : (z : ℤ) → nat_abs (int_rem_euclid z (pos modulus)) ≡ seed_of z
+remainder_is_seed (pos n) = refl
+remainder_is_seed (negsuc n) = refl
+
+-- and below 2^31
+pub seed_below : (z : ℤ) → seed_of z < modulus
+seed_below (pos n) = omega arith
+seed_below (negsuc n) = omega arith
+
+-- a cycle that has the numbers X(n + 1) to X(n + 55)
+pub record IsCycleFrom (seed n : ℕ) (numbers : List ℕ) : Type 0 where
+  pub cycle : IsCycle numbers
+  pub window : IsWindow seed n numbers
+
+-- the first one
+pub cycle_from_first : (seed : ℕ) (numbers : List ℕ) → IsFirstCycle seed numbers → IsCycleFrom seed 0 numbers
+cycle_from_first seed numbers is = record { cycle = is.cycle; window = first_window seed numbers is }
+
+-- the next one
+pub cycle_from_next : (seed j : ℕ) (old new : List ℕ) → IsCycleFrom seed (55 * j) old → IsNextCycle old new → IsCycleFrom seed (55 * (j + 1)) new
+cycle_from_next seed j old new is next =
+    let place : 55 * j + 55 ≡ 55 * (j + 1) = omega arith in
+    record { cycle = next.cycle; window = subst (λ n. IsWindow seed n new) place (next_window seed (55 * j) old new is.window next) }
+
+-- after five of them a generator stands at draw 0
+pub starts : (start : ℤ) (numbers : List ℕ) → IsCycleFrom (seed_of start) (55 * 5) numbers → StandsAt start 0 numbers 54
+starts start numbers is = window_stands start 0 (55 * 5) numbers 54 is.cycle is.window (omega arith) (omega arith)
+
+-- the draws from k on were thrown away, and the generator stands at the next one
+pub record HasThrownAway (start : ℤ) (m k : ℕ) (numbers : List ℕ) (left : ℕ) : Type 0 where
+  pub next : ℕ
+  pub from_place : k ≤ next
+  pub thrown_away : (t : ℕ) → k ≤ t → t < next → bound_below m ≤ draw (seed_of start) t
+  pub stands : StandsAt start next numbers left
+
+-- none yet
+pub thrown_none : (start : ℤ) (m k : ℕ) (numbers : List ℕ) (left : ℕ) → StandsAt start k numbers left → HasThrownAway start m k numbers left
+thrown_none start m k numbers left stands = record { next = k; from_place = omega arith; thrown_away = λ t low high. absurd (omega arith); stands = stands }
+
+-- one more
+pub thrown_more : (start : ℤ) (m k : ℕ) (old : List ℕ) (left result : ℕ) (new : List ℕ) (left_after : ℕ) → HasThrownAway start m k old left → HandsOut old left result new left_after → bound_below m ≤ result → HasThrownAway start m k new left_after
+thrown_more start m k old left result new left_after has out above =
+    let drawn = hands_out_draw start has.next old left result new left_after has.stands out in
+    let here : bound_below m ≤ draw (seed_of start) has.next = subst (λ x. bound_below m ≤ x) drawn.value above in
+    record {
+      next = has.next + 1;
+      from_place = omega (arith, has.from_place);
+      thrown_away = λ t low high. at_or_before t low high here (cases_lt t has.next);
+      stands = drawn.stands;
+    }
+  where
+    at_or_before : (t : ℕ) → k ≤ t → t < has.next + 1 → bound_below m ≤ draw (seed_of start) has.next → (t < has.next) ⊎ (has.next ≤ t) → bound_below m ≤ draw (seed_of start) t
+    at_or_before t low high here (inl before) = has.thrown_away t low before
+    at_or_before t low high here (inr at) =
+        let same : has.next ≡ t = omega arith in
+        subst (λ i. bound_below m ≤ draw (seed_of start) i) same here
+
+-- the uniform draw, and that the generator stands behind the draw that it is made of
+pub uniform_taken : (start : ℤ) (m k : ℕ) (old : List ℕ) (left result : ℕ) (new : List ℕ) (left_after : ℕ) → HasThrownAway start m k old left → HandsOut old left result new left_after → result < bound_below m
+    → (last : ℕ) × IsUniformDraw (seed_of start) m k (result % m) last × StandsAt start (last + 1) new left_after
+uniform_taken start m k old left result new left_after has out below =
+    let drawn = hands_out_draw start has.next old left result new left_after has.stands out in
+    let here : draw (seed_of start) has.next < bound_below m = subst (λ x. x < bound_below m) drawn.value below in
+    (has.next, record { from_place = has.from_place; taken = here; thrown_away = has.thrown_away; value = ap (λ x. x % m) drawn.value }, drawn.stands)

@@ -1,0 +1,151 @@
+-- How long a generator may hand out numbers from a bound on, where that bound is above 2^30.
+use Rattle.std.proofs.Common.{◌≡◌, ℕ, ◌+◌, ◌-◌, ◌*◌, ◌/◌, ◌^◌, ◌<◌, ◌≤◌, ◌≢◌, ◌⊎◌, Bool, true, false, ◌&&◌, ◌||◌, cond, List, get_or, ap, sym, ◌∙◌, subst, inl, inr, arith, ltb, leb}
+use Rattle.std.proofs.lemmas.Bool.{cases_lt, cases_Bool, cond-true, cond-false, cond_both, or_cases, or_parts, or_left, or_right, and_parts, and_from, ltb-true, ltb-false, leb-true, lt-ltb, le-leb}
+use Rattle.std.proofs.lemmas.Nat.{le-div, mod_below}
+use Rattle.std.proofs.Math.Nat.{div-add-mod, mul-le-mul_left}
+use Rattle.sgb_graph.specs.Draws.{modulus, difference, bound_below}
+use Rattle.sgb_graph.specs.Flips.{HandsOut, IsNextCycle}
+
+-- the bound of a uniform draw is above 2^30
+pub bound_above : (m : ℕ) → 1 ≤ m → m ≤ modulus → 2 ^ 30 < bound_below m
+bound_above m some small =
+    let positive : 0 < m = omega arith in
+    let once : 1 ≤ modulus / m = le-div 1 modulus m positive (omega arith) in
+    omega (arith, mod_below modulus m positive, div-add-mod modulus m, mul-le-mul_left m once)
+
+-- numbers 1 and 32 of a cycle make number 1 of the next one: where none of the three is below such a bound, it
+-- is greater than the number in its place
+first_rises : (bound first other : ℕ) → 2 ^ 30 < bound → first < modulus → other < modulus → bound ≤ first → bound ≤ other → bound ≤ difference first other → first < difference first other
+first_rises bound first other high first_small other_small one two three = omega arith
+
+-- so at most so many cycles are thrown away whole from one with these numbers 1 and 32 on
+abbrev pub cycles_left : (bound first other : ℕ) → ℕ
+cycles_left bound first other = cond (leb bound first && leb bound other) (modulus + 1 - first) 0
+
+-- where neither of them is below the bound
+cycles_if_good : (bound first other : ℕ) → bound ≤ first → bound ≤ other → cycles_left bound first other ≡ modulus + 1 - first
+cycles_if_good bound first other one two =
+    cond-true (leb bound first && leb bound other) (modulus + 1 - first) 0 (and_from (leb bound first) (leb bound other) (le-leb bound first one) (le-leb bound other two))
+
+-- there are fewer after the next cycle
+fewer_cycles : (bound first other next_other : ℕ) → 2 ^ 30 < bound → first < modulus → other < modulus → bound ≤ first → bound ≤ other
+    → cycles_left bound (difference first other) next_other < cycles_left bound first other
+fewer_cycles bound first other next_other high first_small other_small one two =
+    rw (cycles_if_good bound first other one two)
+    (cond_both (leb bound (difference first other) && leb bound next_other) (modulus + 1 - difference first other) 0 (λ n. n < modulus + 1 - first)
+    (λ good.
+    let there = leb-true bound (difference first other) (and_parts (leb bound (difference first other)) (leb bound next_other) good).0 in
+    let rises = first_rises bound first other high first_small other_small one two there in
+    let small : difference first other < modulus = omega arith in
+    let fewer : (n : ℕ) → first < n → n < modulus → modulus + 1 - n < modulus + 1 - first = λ n up low. omega arith in
+    fewer (difference first other) rises small)
+    (λ _. omega arith))
+
+-- number 1 or 32, where it is below the bound, is still to come in this cycle
+abbrev pub stops_within : (bound first other left : ℕ) → Bool
+stops_within bound first other left = (ltb 0 left && ltb first bound) || (ltb 31 left && ltb other bound)
+
+-- a bound of how many numbers come before one below the bound: in this cycle, in the next one and in those after it
+abbrev pub waiting_of : (bound first other next_first next_other left : ℕ) → ℕ
+waiting_of bound first other next_first next_other left =
+    cond (stops_within bound first other left) left (left + 55 + 55 * cycles_left bound next_first next_other)
+
+-- one number less, which was not below the bound
+waiting_on : (bound first other next_first next_other left : ℕ) → 0 < left → (left ≡ 1 → bound ≤ first) → (left ≡ 32 → bound ≤ other)
+    → waiting_of bound first other next_first next_other (left - 1) < waiting_of bound first other next_first next_other left
+waiting_on bound first other next_first next_other left some not_first not_other = by_cases (cases_Bool (stops_within bound first other left))
+  where
+    less : ℕ
+    less = waiting_of bound first other next_first next_other (left - 1)
+
+    not_one : first < bound → left ≢ 1
+    not_one low one = let high = not_first one in omega arith
+
+    not_32 : other < bound → left ≢ 32
+    not_32 low last = let high = not_other last in omega arith
+
+    still_stops : stops_within bound first other left ≡ true → stops_within bound first other (left - 1) ≡ true
+    still_stops stops = either (or_cases (ltb 0 left && ltb first bound) (ltb 31 left && ltb other bound) stops)
+      where
+        either : ((ltb 0 left && ltb first bound) ≡ true) ⊎ ((ltb 31 left && ltb other bound) ≡ true) → stops_within bound first other (left - 1) ≡ true
+        either (inl one) =
+            let parts = and_parts (ltb 0 left) (ltb first bound) one in
+            let apart = not_one (ltb-true first bound parts.1) in
+            let more : 0 < left - 1 = omega arith in
+            or_left (ltb 0 (left - 1) && ltb first bound) (ltb 31 (left - 1) && ltb other bound) (and_from (ltb 0 (left - 1)) (ltb first bound) (lt-ltb 0 (left - 1) more) parts.1)
+        either (inr two) =
+            let parts = and_parts (ltb 31 left) (ltb other bound) two in
+            let apart = not_32 (ltb-true other bound parts.1) in
+            let high = ltb-true 31 left parts.0 in
+            let more : 31 < left - 1 = omega arith in
+            or_right (ltb 0 (left - 1) && ltb first bound) (ltb 31 (left - 1) && ltb other bound) (and_from (ltb 31 (left - 1)) (ltb other bound) (lt-ltb 31 (left - 1) more) parts.1)
+
+    by_cases : (stops_within bound first other left ≡ true) ⊎ (stops_within bound first other left ≡ false) → less < waiting_of bound first other next_first next_other left
+    by_cases (inl stops) =
+        let now = cond-true (stops_within bound first other left) left (left + 55 + 55 * cycles_left bound next_first next_other) stops in
+        let then = cond-true (stops_within bound first other (left - 1)) (left - 1) (left - 1 + 55 + 55 * cycles_left bound next_first next_other) (still_stops stops) in
+        rw (now, then) (omega arith)
+    by_cases (inr goes_on) =
+        let now = cond-false (stops_within bound first other left) left (left + 55 + 55 * cycles_left bound next_first next_other) goes_on in
+        rw now
+        (cond_both (stops_within bound first other (left - 1)) (left - 1) (left - 1 + 55 + 55 * cycles_left bound next_first next_other) (λ n. n < left + 55 + 55 * cycles_left bound next_first next_other)
+        (λ _. omega arith) (λ _. omega arith))
+
+-- a cycle more
+waiting_next : (bound old_first old_other first other next_other : ℕ) → 2 ^ 30 < bound → first < modulus → other < modulus
+    → waiting_of bound first other (difference first other) next_other 54 < waiting_of bound old_first old_other first other 0
+waiting_next bound old_first old_other first other next_other high first_small other_small =
+    cond_both (stops_within bound first other 54) 54 (54 + 55 + 55 * cycles_left bound (difference first other) next_other) (λ n. n < 0 + 55 + 55 * cycles_left bound first other)
+    (λ _. omega arith)
+    (λ goes_on.
+    let parts = or_parts (ltb first bound) (ltb other bound) goes_on in
+    let fewer = fewer_cycles bound first other next_other high first_small other_small (ltb-false first bound parts.0) (ltb-false other bound parts.1) in
+    let by_cycles : (a b : ℕ) → a < b → 54 + 55 + 55 * a < 0 + 55 + 55 * b = λ a b h. omega arith in
+    by_cycles (cycles_left bound (difference first other) next_other) (cycles_left bound first other) fewer)
+
+-- by the numbers of the cycle
+abbrev pub waiting : (bound : ℕ) (numbers : List ℕ) (left : ℕ) → ℕ
+waiting bound numbers left =
+    waiting_of bound (get_or numbers 0 0) (get_or numbers 31 0) (difference (get_or numbers 0 0) (get_or numbers 31 0))
+    (difference (get_or numbers 31 0) (difference (get_or numbers 7 0) (get_or numbers 38 0))) left
+
+-- each number that is handed out and not below the bound brings the end nearer
+pub waiting_falls : (bound : ℕ) (old : List ℕ) (left result : ℕ) (new : List ℕ) (left_after : ℕ) → 2 ^ 30 < bound → HandsOut old left result new left_after → bound ≤ result
+    → waiting bound new left_after < waiting bound old left
+waiting_falls bound old left result new left_after high out above = by_cases (cases_lt 0 left)
+  where
+    first_after : ℕ
+    first_after = difference (get_or old 0 0) (get_or old 31 0)
+
+    other_after : ℕ
+    other_after = difference (get_or old 31 0) (difference (get_or old 7 0) (get_or old 38 0))
+
+    at_place : (p : ℕ) → new ≡ old → left_after ≡ p → bound ≤ get_or old p 0
+    at_place p same place =
+        let value : result ≡ get_or old p 0 = out.value ∙ (ap (λ xs. get_or xs left_after 0) same ∙ ap (λ q. get_or old q 0) place) in
+        subst (λ x. bound ≤ x) value above
+
+    by_cases : (0 < left) ⊎ (left ≤ 0) → waiting bound new left_after < waiting bound old left
+    by_cases (inl some) =
+        let step = out.inside (omega arith) in
+        let same : old ≡ new = sym step.0 in
+        let lower : left_after + 1 ≡ left = step.1 in
+        let place : left - 1 ≡ left_after = omega arith in
+        let nearer = waiting_on bound (get_or old 0 0) (get_or old 31 0) first_after other_after left some
+        (λ one. at_place 0 step.0 (omega arith)) (λ last. at_place 31 step.0 (omega arith)) in
+        subst (λ (xs : List ℕ). waiting bound xs left_after < waiting bound old left) same
+        (subst (λ p. waiting bound old p < waiting bound old left) place nearer)
+    by_cases (inr none) =
+        let step = out.at_end (omega arith) in
+        let next : IsNextCycle old new = step.0 in
+        let zero : 0 ≡ left = omega arith in
+        let first_is : get_or new 0 0 ≡ first_after = next.early 0 (omega arith) in
+        let other_is : get_or new 31 0 ≡ other_after =
+        next.late 31 (omega arith) (omega arith) ∙ ap (λ b. difference (get_or old 31 0) b) (next.early 7 (omega arith)) in
+        let nearer = waiting_next bound (get_or old 0 0) (get_or old 31 0) (get_or new 0 0) (get_or new 31 0)
+        (difference (get_or new 31 0) (difference (get_or new 7 0) (get_or new 38 0))) high (next.cycle.below 0 (omega arith)) (next.cycle.below 31 (omega arith)) in
+        let same : waiting_of bound (get_or old 0 0) (get_or old 31 0) (get_or new 0 0) (get_or new 31 0) 0 ≡ waiting bound old left =
+        ap (λ a. waiting_of bound (get_or old 0 0) (get_or old 31 0) a (get_or new 31 0) 0) first_is
+        ∙ (ap (λ b. waiting_of bound (get_or old 0 0) (get_or old 31 0) first_after b 0) other_is ∙ ap (λ p. waiting bound old p) zero) in
+        subst (λ n. waiting bound new left_after < n) same
+        (subst (λ p. waiting bound new p < waiting_of bound (get_or old 0 0) (get_or old 31 0) (get_or new 0 0) (get_or new 31 0) 0) (sym step.1) nearer)
