@@ -1,0 +1,157 @@
+-- A reader of numbers in a radix.
+use Rattle.std.proofs.Common.{◌≡◌, ◌≢◌, ℕ, zero, suc, ◌+◌, ◌-◌, ◌<◌, ◌≤◌, ◌⊎◌, Bool, true, false, cond, List, [], ◌∷◌, ◌++◌, length, take, drop, Option, Some, None, Result, Ok, Err, refl, sym, ◌∙◌, ap, subst, inl, inr, append_assoc, append-nil, arith, length-append}
+use Rattle.std.specs.Char.{digit_value, is_digit}
+use Rattle.std.specs.Str.Parse.{AllDigits, IsNumeral, digits_value}
+use Rattle.std.proofs.lemmas.Bool.Decides.{nat_tests}
+use Rattle.std.proofs.Math.Seq.{drop-append_seam}
+use Rattle.std.proofs.lemmas.Bool.{cases_lt, lt-ltb, le-ltb}
+use Rattle.std.proofs.lemmas.List.Sums.{take_while-cons}
+use Rattle.sgb_expr.specs.Numbers.{IsNumber}
+use Rattle.sgb_expr.specs.Readings.{leading_digits, number_of, number_at}
+use Rattle.sgb_expr.proofs.Readers.{next, Found, Wrong, Reads, ok_same}
+use Rattle.sgb_expr.proofs.Words.{no_ok, err_same}
+
+-- the text does not begin with a digit in the radix
+abbrev pub NoDigit : ℕ → List ℕ → Type 0
+NoDigit radix text = (byte : ℕ) → next text ≡ Some byte → digit_value byte < radix → ⊥
+
+-- one digit more, or none
+leading_more : (radix most byte : ℕ) (text : List ℕ) → leading_digits radix (suc most) (byte ∷ text) ≡ cond (is_digit byte radix) (byte ∷ leading_digits radix most text) []
+leading_more radix most byte text = take_while-cons (λ b. is_digit b radix) byte (take most text)
+
+-- a byte is a digit or none
+digit_cases : (radix byte : ℕ) → ((is_digit byte radix ≡ true) × (digit_value byte < radix)) ⊎ ((is_digit byte radix ≡ false) × (radix ≤ digit_value byte))
+digit_cases radix byte = elim (cases_lt (digit_value byte) radix) [
+  | inl h ↦ inl (lt-ltb (digit_value byte) radix h, h)
+  | inr h ↦ inr (le-ltb (digit_value byte) radix h, h)
+]
+
+-- digits that end there, or of which there may be no more
+pub leading_again : (radix most : ℕ) (digits rest : List ℕ) → AllDigits radix digits → length digits ≤ most → (length digits < most → NoDigit radix rest) → leading_digits radix most (digits ++ rest) ≡ digits
+leading_again radix zero [] rest all short none = refl
+leading_again radix (suc most) [] [] all short none = refl
+leading_again radix (suc most) [] (byte ∷ rest) all short none = elim (digit_cases radix byte) [
+  | inl h ↦ absurd (none (omega arith) byte refl h.1)
+  | inr h ↦ leading_more radix most byte rest ∙ rw h.0 refl
+]
+leading_again radix zero (byte ∷ digits) rest all short none = absurd (omega (arith, short))
+leading_again radix (suc most) (byte ∷ digits) rest all short none = elim (digit_cases radix byte) [
+  | inl h ↦ leading_more radix most byte (digits ++ rest) ∙ rw h.0 (ap (λ u. byte ∷ u) (leading_again radix most digits rest all.1 (omega (arith, short)) (λ lt. none (omega (arith, lt)))))
+  | inr h ↦ absurd (omega (arith, h.1, all.0))
+]
+
+-- a byte that is no digit is another than one that is
+other_digit : (radix byte other : ℕ) → radix ≤ digit_value byte → ◌≡◌ {A = Option ℕ} (Some byte) (Some other) → digit_value other < radix → ⊥
+other_digit radix byte other h e digit =
+    let same : other ≡ byte = cc in
+    let below : digit_value byte < radix = subst (λ (b : ℕ). digit_value b < radix) same digit in
+    omega (arith, h, below)
+
+-- a text in its first digits and the rest
+pub record Leading (radix most : ℕ) (text : List ℕ) : Type 0 where
+  pub digits : List ℕ
+  pub rest : List ℕ
+  pub whole : text ≡ digits ++ rest
+  pub are : leading_digits radix most text ≡ digits
+  pub all : AllDigits radix digits
+  pub short : length digits ≤ most
+  pub none : length digits < most → NoDigit radix rest
+
+pub leading : (radix most : ℕ) (text : List ℕ) → Leading radix most text
+leading radix zero text = record { digits = []; rest = text; whole = refl; are = refl; all = tt; short = omega arith; none = λ lt. absurd (omega (arith, lt)) }
+leading radix (suc most) [] = record { digits = []; rest = []; whole = refl; are = refl; all = tt; short = omega arith; none = λ lt byte e. absurd (cc) }
+leading radix (suc most) (byte ∷ text) = elim (digit_cases radix byte) [
+  | inl h ↦ let t = leading radix most text in record {
+    digits = byte ∷ t.digits;
+    rest = t.rest;
+    whole = ap (λ u. byte ∷ u) t.whole;
+    are = leading_more radix most byte text ∙ rw h.0 (ap (λ u. byte ∷ u) t.are);
+    all = (h.1, t.all);
+    short = omega (arith, t.short);
+    none = λ lt. t.none (omega (arith, lt));
+  }
+  | inr h ↦ record {
+    digits = [];
+    rest = byte ∷ text;
+    whole = refl;
+    are = leading_more radix most byte text ∙ rw h.0 refl;
+    all = tt;
+    short = omega arith;
+    none = λ lt other e digit. absurd (other_digit radix byte other h.1 e digit);
+  }
+]
+
+-- a number is read of its digits
+pub number_found : (radix most : ℕ) (text digits rest : List ℕ) → leading_digits radix most text ≡ digits → text ≡ digits ++ rest → 0 < length digits → number_at radix most text ≡ Ok (digits_value radix digits, rest)
+number_found radix most text [] rest e whole some = absurd (omega (arith, some))
+number_found radix most text (digit ∷ digits) rest e whole some =
+    ap (λ (ds : List ℕ). number_of radix ds text) e ∙ ap (λ (u : List ℕ). Ok (digits_value radix (digit ∷ digits), drop (length (digit ∷ digits)) u)) whole
+    ∙ ap (λ (u : List ℕ). Ok (digits_value radix (digit ∷ digits), u)) (drop-append_seam (digit ∷ digits) rest)
+
+-- a number is not read where there are no digits
+pub number_stops : (radix most : ℕ) (text : List ℕ) → leading_digits radix most text ≡ [] → number_at radix most text ≡ Err (length text)
+number_stops radix most text e = ap (λ (ds : List ℕ). number_of radix ds text) e
+
+-- a text that begins as another with no digit
+pub no_digit_same : (radix : ℕ) (text other : List ℕ) → next other ≡ next text → NoDigit radix text → NoDigit radix other
+no_digit_same radix text other e none byte h = none byte (sym e ∙ h)
+
+-- the number 0
+pub zero_is_number : (radix most : ℕ) → 0 < radix → 0 < most → IsNumber radix most (48 ∷ []) 0
+zero_is_number radix most some room = record { numeral = (omega arith, (some, tt)); short = omega (arith, room); writes = omega arith }
+
+-- a list of no items
+pub no_items : {A : Type 0} (xs : List A) → length xs ≤ 0 → xs ≡ []
+no_items [] h = refl
+no_items (x ∷ xs) h = absurd (omega (arith, h))
+
+-- a number that was read
+number_found_at : (radix most : ℕ) (text : List ℕ) (value : ℕ) (rest : List ℕ) → number_at radix most text ≡ Ok (value, rest) → Leading radix most text → Found (IsNumber radix most) (number_at radix most) text value rest
+number_found_at radix most text value rest e l = elim (cases_lt 0 (length l.digits)) [
+  | inl some ↦
+      let read = number_found radix most text l.digits l.rest l.are l.whole some in
+      let both : (digits_value radix l.digits, l.rest) ≡ (value, rest) = ok_same (digits_value radix l.digits, l.rest) (value, rest) (sym read ∙ e) in
+      let is : value ≡ digits_value radix l.digits = sym (ap (λ (p : ℕ × List ℕ). p.0) both) in
+      let after : l.rest ≡ rest = ap (λ (p : ℕ × List ℕ). p.1) both in record {
+        word = l.digits;
+        whole = l.whole ∙ ap (λ u. l.digits ++ u) after;
+        is = record { numeral = (some, l.all); short = l.short; writes = is };
+        same = λ other e2.
+            number_found radix most (l.digits ++ other) l.digits other
+              (leading_again radix most l.digits other l.all l.short (λ lt. no_digit_same radix l.rest other (e2 ∙ sym (ap next after)) (l.none lt))) refl some
+            ∙ ap (λ (n : ℕ). Ok (n, other)) (sym is);
+      }
+  | inr none ↦ absurd (no_ok (sym (number_stops radix most text (l.are ∙ no_items l.digits none)) ∙ e))
+]
+
+-- where there is no number
+number_wrong_at : (radix most : ℕ) → 0 < radix → 0 < most → (text : List ℕ) (left : ℕ) → number_at radix most text ≡ Err left → Leading radix most text → Wrong (IsNumber radix most) (number_at radix most) text left
+number_wrong_at radix most some room text left e l = elim (cases_lt 0 (length l.digits)) [
+  | inl h ↦ absurd (no_ok (sym e ∙ number_found radix most text l.digits l.rest l.are l.whole h))
+  | inr h ↦
+      let empty : l.digits ≡ [] = no_items l.digits h in
+      let stops = number_stops radix most text (l.are ∙ empty) in
+      let here : text ≡ l.rest = l.whole ∙ ap (λ u. u ++ l.rest) empty in record {
+        good = [];
+        bad = text;
+        whole = refl;
+        count = sym (err_same (length text) left (sym stops ∙ e));
+        more = 48 ∷ [];
+        value = 0;
+        begins = zero_is_number radix most some room;
+        same = λ other e2.
+            number_stops radix most other
+              (leading_again radix most [] other tt (omega arith) (λ lt. no_digit_same radix l.rest other (e2 ∙ ap next here) (l.none (omega (arith, lt, h)))));
+      }
+]
+
+-- a reader of numbers in a radix, of so many digits at most
+pub reads_number : (radix most : ℕ) → 0 < radix → 0 < most → Reads (IsNumber radix most) (NoDigit radix) (number_at radix most)
+reads_number radix most some room = record {
+  found = λ text value rest e. number_found_at radix most text value rest e (leading radix most text);
+  wrong = λ text left e. number_wrong_at radix most some room text left e (leading radix most text);
+  again = λ word tail value is none.
+      number_found radix most (word ++ tail) word tail (leading_again radix most word tail is.numeral.1 is.short (λ lt. none)) refl is.numeral.0
+      ∙ ap (λ (n : ℕ). Ok (n, tail)) (sym is.writes);
+  some = (48 ∷ [], 0, zero_is_number radix most some room);
+}

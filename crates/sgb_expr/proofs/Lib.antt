@@ -1,0 +1,4 @@
+pub mod Readers
+pub mod Words
+pub mod Digits
+pub mod NumberReaders

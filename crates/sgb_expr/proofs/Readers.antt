@@ -1,0 +1,332 @@
+-- Readers of languages: what they find, where they stop, and that they find each word again; readers one after
+-- another, and one or the other.
+use Rattle.std.proofs.Common.{◌≡◌, ℕ, zero, suc, ◌+◌, ◌-◌, ◌<◌, ◌≤◌, ◌⊎◌, Bool, true, false, nat_eq, List, [], ◌∷◌, ◌++◌, length, drop, min, Option, Some, None, Result, Ok, Err, refl, sym, ◌∙◌, ap, subst, inl, inr, append_assoc, append-nil, arith, length-append}
+use Rattle.std.proofs.lemmas.Bool.{cases_lt}
+use Rattle.sgb_expr.specs.Readings.{◌>>=◌, either}
+
+-- the first byte of a text
+abbrev pub next : List ℕ → Option ℕ
+next [] = None
+next (byte ∷ text) = Some byte
+
+-- a value was found: the text begins with a word of it, and what comes after the word counts by its first byte alone
+pub record Found {V : Type 0} (Word : List ℕ → V → Type 0) (read : List ℕ → Result (V × List ℕ) ℕ) (text : List ℕ) (value : V) (rest : List ℕ) : Type 0 where
+  pub word : List ℕ
+  pub whole : text ≡ word ++ rest
+  pub is : Word word value
+  pub same : (other : List ℕ) → next other ≡ next rest → read (word ++ other) ≡ Ok (value, other)
+
+-- the text goes wrong where so many bytes are left: what stands before begins a word, and what comes next counts by
+-- its first byte alone
+pub record Wrong {V : Type 0} (Word : List ℕ → V → Type 0) (read : List ℕ → Result (V × List ℕ) ℕ) (text : List ℕ) (left : ℕ) : Type 0 where
+  pub good : List ℕ
+  pub bad : List ℕ
+  pub whole : text ≡ good ++ bad
+  pub count : left ≡ length bad
+  pub more : List ℕ
+  pub value : V
+  pub begins : Word (good ++ more) value
+  pub same : (other : List ℕ) → next other ≡ next bad → read (good ++ other) ≡ Err (length other)
+
+-- a reader of the words, which finds each again before what may follow
+pub record Reads {V : Type 0} (Word : List ℕ → V → Type 0) (Tail : List ℕ → Type 0) (read : List ℕ → Result (V × List ℕ) ℕ) : Type 0 where
+  pub found : (text : List ℕ) (value : V) (rest : List ℕ) → read text ≡ Ok (value, rest) → Found Word read text value rest
+  pub wrong : (text : List ℕ) (left : ℕ) → read text ≡ Err left → Wrong Word read text left
+  pub again : (word tail : List ℕ) (value : V) → Word word value → Tail tail → read (word ++ tail) ≡ Ok (value, tail)
+  pub some : (word : List ℕ) × (value : V) × Word word value
+
+-- a reading that goes on to a value
+pub bind_ok : {A B : Type 0} (r : Result A ℕ) (f : A → Result B ℕ) (y : B) → (r >>= f) ≡ Ok y → (x : A) × (r ≡ Ok x) × (f x ≡ Ok y)
+bind_ok (Ok x) f y e = (x, refl, e)
+bind_ok (Err left) f y e = absurd (cc)
+
+-- a reading that stops, at once or further on
+pub bind_err : {A B : Type 0} (r : Result A ℕ) (f : A → Result B ℕ) (left : ℕ) → (r >>= f) ≡ Err left → (r ≡ Err left) ⊎ ((x : A) × (r ≡ Ok x) × (f x ≡ Err left))
+bind_err (Ok x) f left e = inr (x, refl, e)
+bind_err (Err other) f left e = inl (cc)
+
+-- what a reading goes on to
+pub bind_of : {A B : Type 0} (r : Result A ℕ) (f : A → Result B ℕ) (x : A) → r ≡ Ok x → (r >>= f) ≡ f x
+bind_of {A} {B} r f x e = ap (λ (s : Result A ℕ). s >>= f) e
+
+-- where a reading stops
+pub bind_stops : {A B : Type 0} (r : Result A ℕ) (f : A → Result B ℕ) (left : ℕ) → r ≡ Err left → (r >>= f) ≡ Err left
+bind_stops {A} {B} r f left e = ap (λ (s : Result A ℕ). s >>= f) e
+
+-- two readings of one value
+pub ok_same : {A : Type 0} (x y : A) → ◌≡◌ {A = Result A ℕ} (Ok x) (Ok y) → x ≡ y
+ok_same x y e = cc
+
+-- the same byte comes next after the same text
+pub next_after : (text a b : List ℕ) → next a ≡ next b → next (text ++ a) ≡ next (text ++ b)
+next_after [] a b e = e
+next_after (byte ∷ text) a b e = refl
+
+-- nothing comes next
+pub none_next : (text : List ℕ) → next text ≡ None → text ≡ []
+none_next [] e = refl
+none_next (byte ∷ text) e = absurd (cc)
+
+-- a word of the first language and then one of the second, which may depend on the first's value
+abbrev pub Then : {V W : Type 0} → (List ℕ → V → Type 0) → (V → List ℕ → W → Type 0) → List ℕ → W → Type 0
+Then {V} First Second word value = (a b : List ℕ) × (v : V) × (word ≡ a ++ b) × First a v × Second v b value
+
+-- one reader and then another
+abbrev pub then_read : {V W : Type 0} → (List ℕ → Result (V × List ℕ) ℕ) → (V → List ℕ → Result (W × List ℕ) ℕ) → List ℕ → Result (W × List ℕ) ℕ
+then_read first second text = first text >>= λ x. second x.0 x.1
+
+-- what the second finds after the first
+then_found : {V W : Type 0} (First : List ℕ → V → Type 0) (Second : V → List ℕ → W → Type 0) (first : List ℕ → Result (V × List ℕ) ℕ) (second : V → List ℕ → Result (W × List ℕ) ℕ)
+    (text rest behind : List ℕ) (v : V) (w : W) → Found First first text v rest → Found (Second v) (second v) rest w behind
+    → Found (Then First Second) (then_read first second) text w behind
+then_found First Second first second text rest behind v w f g = record {
+  word = f.word ++ g.word;
+  whole = f.whole ∙ ap (λ u. f.word ++ u) g.whole ∙ sym (append_assoc f.word g.word behind);
+  is = (f.word, g.word, v, refl, f.is, g.is);
+  same = λ other e.
+      let comes : next (g.word ++ other) ≡ next rest = next_after g.word other behind e ∙ sym (ap next g.whole) in
+      ap (then_read first second) (append_assoc f.word g.word other)
+      ∙ bind_of (first (f.word ++ (g.word ++ other))) (λ x. second x.0 x.1) (v, g.word ++ other) (f.same (g.word ++ other) comes)
+      ∙ g.same other e;
+}
+
+-- where the second stops after the first
+then_wrong : {V W : Type 0} (First : List ℕ → V → Type 0) (Second : V → List ℕ → W → Type 0) (first : List ℕ → Result (V × List ℕ) ℕ) (second : V → List ℕ → Result (W × List ℕ) ℕ)
+    (text rest : List ℕ) (left : ℕ) (v : V) → Found First first text v rest → Wrong (Second v) (second v) rest left
+    → Wrong (Then First Second) (then_read first second) text left
+then_wrong First Second first second text rest left v f g = record {
+  good = f.word ++ g.good;
+  bad = g.bad;
+  whole = f.whole ∙ ap (λ u. f.word ++ u) g.whole ∙ sym (append_assoc f.word g.good g.bad);
+  count = g.count;
+  more = g.more;
+  value = g.value;
+  begins = (f.word, g.good ++ g.more, v, append_assoc f.word g.good g.more, f.is, g.begins);
+  same = λ other e.
+      let comes : next (g.good ++ other) ≡ next rest = next_after g.good other g.bad e ∙ sym (ap next g.whole) in
+      ap (then_read first second) (append_assoc f.word g.good other)
+      ∙ bind_of (first (f.word ++ (g.good ++ other))) (λ x. second x.0 x.1) (v, g.good ++ other) (f.same (g.good ++ other) comes)
+      ∙ g.same other e;
+}
+
+-- where the first stops
+first_wrong : {V W : Type 0} (First : List ℕ → V → Type 0) (Second : V → List ℕ → W → Type 0) (first : List ℕ → Result (V × List ℕ) ℕ) (second : V → List ℕ → Result (W × List ℕ) ℕ)
+    (text : List ℕ) (left : ℕ) → ((v : V) → (word : List ℕ) × (value : W) × Second v word value) → Wrong First first text left
+    → Wrong (Then First Second) (then_read first second) text left
+first_wrong First Second first second text left some f =
+    let end = some f.value in record {
+      good = f.good;
+      bad = f.bad;
+      whole = f.whole;
+      count = f.count;
+      more = f.more ++ end.0;
+      value = end.1;
+      begins = (f.good ++ f.more, end.0, f.value, sym (append_assoc f.good f.more end.0), f.begins, end.2);
+      same = λ other e. bind_stops (first (f.good ++ other)) (λ x. second x.0 x.1) (length other) (f.same other e);
+    }
+
+-- one reader and then another, where each word of the second, and what may follow it, may follow the first
+pub reads_then : {V W : Type 0} {First : List ℕ → V → Type 0} {Second : V → List ℕ → W → Type 0} {Tail Behind : List ℕ → Type 0} {first : List ℕ → Result (V × List ℕ) ℕ} {second : V → List ℕ → Result (W × List ℕ) ℕ}
+    → Reads First Tail first → ((v : V) → Reads (Second v) Behind (second v))
+    → ((v : V) (word tail : List ℕ) (value : W) → Second v word value → Behind tail → Tail (word ++ tail))
+    → Reads (Then First Second) Behind (then_read first second)
+reads_then {V} {W} {First} {Second} {Tail} {Behind} {first} {second} f g follows = record {
+  found = λ text w behind e.
+      let x = bind_ok (first text) (λ x. second x.0 x.1) (w, behind) e in
+      then_found First Second first second text x.0.1 behind x.0.0 w (f.found text x.0.0 x.0.1 x.1) ((g x.0.0).found x.0.1 w behind x.2);
+  wrong = λ text left e. elim (bind_err (first text) (λ x. second x.0 x.1) left e) [
+    | inl h ↦ first_wrong First Second first second text left (λ v. (g v).some) (f.wrong text left h)
+    | inr x ↦ then_wrong First Second first second text x.0.1 left x.0.0 (f.found text x.0.0 x.0.1 x.1) ((g x.0.0).wrong x.0.1 left x.2)
+  ];
+  again = λ word tail w is t.
+      let here : first (is.0 ++ (is.1 ++ tail)) ≡ Ok (is.2, is.1 ++ tail) = f.again is.0 (is.1 ++ tail) is.2 is.4 (follows is.2 is.1 tail w is.5 t) in
+      ap (λ (u : List ℕ). then_read first second (u ++ tail)) is.3 ∙ ap (then_read first second) (append_assoc is.0 is.1 tail)
+      ∙ bind_of (first (is.0 ++ (is.1 ++ tail))) (λ x. second x.0 x.1) (is.2, is.1 ++ tail) here
+      ∙ (g is.2).again is.1 tail w is.5 t;
+  some = let a = f.some in let b = (g a.1).some in (a.0 ++ b.0, b.1, (a.0, b.0, a.1, refl, a.2, b.2));
+}
+
+-- a reader's value under a function
+abbrev pub read_as : {V W : Type 0} → (V → W) → (List ℕ → Result (V × List ℕ) ℕ) → List ℕ → Result (W × List ℕ) ℕ
+read_as f read text = read text >>= λ x. Ok (f x.0, x.1)
+
+-- words of the function's values
+abbrev pub As : {V W : Type 0} → (V → W) → (List ℕ → V → Type 0) → List ℕ → W → Type 0
+As {V} f Word word value = (v : V) × Word word v × (value ≡ f v)
+
+-- a reader of the function's values
+pub reads_as : {V W : Type 0} (f : V → W) {Word : List ℕ → V → Type 0} {Tail : List ℕ → Type 0} {read : List ℕ → Result (V × List ℕ) ℕ} → Reads Word Tail read → Reads (As f Word) Tail (read_as f read)
+reads_as {V} {W} f {Word} {Tail} {read} r = record {
+  found = λ text w rest e.
+      let x = bind_ok (read text) (λ x. Ok (f x.0, x.1)) (w, rest) e in
+      let h = r.found text x.0.0 x.0.1 x.1 in
+      let both : (f x.0.0, x.0.1) ≡ (w, rest) = ok_same (f x.0.0, x.0.1) (w, rest) x.2 in
+      let value : f x.0.0 ≡ w = ap (λ (p : W × List ℕ). p.0) both in
+      let after : x.0.1 ≡ rest = ap (λ (p : W × List ℕ). p.1) both in record {
+        word = h.word;
+        whole = h.whole ∙ ap (λ u. h.word ++ u) after;
+        is = (x.0.0, h.is, sym value);
+        same = λ other e2.
+            bind_of (read (h.word ++ other)) (λ x. Ok (f x.0, x.1)) (x.0.0, other) (h.same other (e2 ∙ sym (ap next after)))
+            ∙ ap (λ (u : W). Ok (u, other)) value;
+      };
+  wrong = λ text left e. elim (bind_err (read text) (λ x. Ok (f x.0, x.1)) left e) [
+    | inl h ↦ let b = r.wrong text left h in record {
+      good = b.good;
+      bad = b.bad;
+      whole = b.whole;
+      count = b.count;
+      more = b.more;
+      value = f b.value;
+      begins = (b.value, b.begins, refl);
+      same = λ other e2. bind_stops (read (b.good ++ other)) (λ x. Ok (f x.0, x.1)) (length other) (b.same other e2);
+    }
+    | inr x ↦ absurd (cc (x.2))
+  ];
+  again = λ word tail w is t.
+      bind_of (read (word ++ tail)) (λ x. Ok (f x.0, x.1)) (is.0, tail) (r.again word tail is.0 is.1 t)
+      ∙ ap (λ (u : W). Ok (u, tail)) (sym is.2);
+  some = let a = r.some in (a.0, f a.1, (a.1, a.2, refl));
+}
+
+-- two cuts of one text, the first no longer than the second
+pub cut_in : (a u b v : List ℕ) → a ++ u ≡ b ++ v → length v ≤ length u → (x : List ℕ) × (b ≡ a ++ x) × (u ≡ x ++ v)
+cut_in [] u b v e h = (b, refl, e)
+cut_in (c ∷ a) u [] v e h = absurd (omega (arith, h, ap length e, length-append (c ∷ a) u))
+cut_in (c ∷ a) u (d ∷ b) v e h =
+    let same : c ≡ d = cc in
+    let t = cut_in a u b v (cc) h in
+    (t.0, (cc (t.1, same)), t.2)
+
+-- either of two languages
+abbrev pub Or : {V : Type 0} → (List ℕ → V → Type 0) → (List ℕ → V → Type 0) → List ℕ → V → Type 0
+Or First Second word value = First word value ⊎ Second word value
+
+-- one reader, and where it stops the other
+abbrev pub or_read : {V : Type 0} → (List ℕ → Result (V × List ℕ) ℕ) → (List ℕ → Result (V × List ℕ) ℕ) → List ℕ → Result (V × List ℕ) ℕ
+or_read first second text = either (first text) (second text)
+
+-- the first reads
+either_first : {A : Type 0} (r s : Result A ℕ) (x : A) → r ≡ Ok x → either r s ≡ Ok x
+either_first {A} r s x e = ap (λ (t : Result A ℕ). either t s) e
+
+-- the first stops, and the second reads
+either_second : {A : Type 0} (r s : Result A ℕ) (left : ℕ) (x : A) → r ≡ Err left → s ≡ Ok x → either r s ≡ Ok x
+either_second {A} r s left x e f = ap (λ (t : Result A ℕ). either t s) e ∙ ap (λ (t : Result A ℕ). either (Err left) t) f
+
+-- both stop
+either_stops : {A : Type 0} (r s : Result A ℕ) (left other : ℕ) → r ≡ Err left → s ≡ Err other → either r s ≡ Err (min left other)
+either_stops {A} r s left other e f = ap (λ (t : Result A ℕ). either t s) e ∙ ap (λ (t : Result A ℕ). either (Err left) t) f
+
+-- what one of two readers found
+pub data EitherFound {A : Type 0} (r s : Result A ℕ) (x : A) : Type 0 where
+  by_first : r ≡ Ok x → EitherFound r s x
+  by_second : (left : ℕ) → r ≡ Err left → s ≡ Ok x → EitherFound r s x
+
+either_found : {A : Type 0} (r s : Result A ℕ) (x : A) → either r s ≡ Ok x → EitherFound r s x
+either_found (Ok y) s x e = by_first e
+either_found (Err left) (Ok y) x e = by_second left refl e
+either_found (Err left) (Err other) x e = absurd (cc)
+
+-- where both readers stopped
+either_wrong : {A : Type 0} (r s : Result A ℕ) (left : ℕ) → either r s ≡ Err left → (a b : ℕ) × (r ≡ Err a) × (s ≡ Err b) × (left ≡ min a b)
+either_wrong (Ok y) s left e = absurd (cc)
+either_wrong (Err a) (Ok y) left e = absurd (cc)
+either_wrong (Err a) (Err b) left e = (a, b, refl, refl, (cc))
+
+-- both stop, the first no further from the end
+wrong_by : {V : Type 0} (Word First Second : List ℕ → V → Type 0) (first second : List ℕ → Result (V × List ℕ) ℕ) (read : List ℕ → Result (V × List ℕ) ℕ) (text : List ℕ) (a b : ℕ)
+    → Wrong First first text a → Wrong Second second text b → a ≤ b
+    → ((word : List ℕ) (value : V) → First word value → Word word value)
+    → ((u : List ℕ) (i j : ℕ) → i ≤ j → first u ≡ Err i → second u ≡ Err j → read u ≡ Err i)
+    → Wrong Word read text a
+wrong_by {V} Word First Second first second read text a b f g le into both =
+    let cut = cut_in g.good g.bad f.good f.bad (sym g.whole ∙ f.whole) (omega (arith, le, f.count, g.count)) in record {
+      good = f.good;
+      bad = f.bad;
+      whole = f.whole;
+      count = f.count;
+      more = f.more;
+      value = f.value;
+      begins = into (f.good ++ f.more) f.value f.begins;
+      same = λ other e.
+          let comes : next (cut.0 ++ other) ≡ next g.bad = next_after cut.0 other f.bad e ∙ sym (ap next cut.2) in
+          let apart : f.good ++ other ≡ g.good ++ (cut.0 ++ other) = ap (λ u. u ++ other) cut.1 ∙ append_assoc g.good cut.0 other in
+          both (f.good ++ other) (length other) (length (cut.0 ++ other)) (omega (arith, length-append cut.0 other))
+            (f.same other e) (ap second apart ∙ g.same (cut.0 ++ other) comes);
+    }
+
+-- one reader or the other, where the first stops at each word of the second
+pub reads_or : {V : Type 0} {First Second : List ℕ → V → Type 0} {Tail Behind : List ℕ → Type 0} {first second : List ℕ → Result (V × List ℕ) ℕ}
+    → Reads First Tail first → Reads Second Behind second
+    → ((word tail : List ℕ) (value : V) → Second word value → (left : ℕ) × (first (word ++ tail) ≡ Err left))
+    → ((tail : List ℕ) → Behind tail → Tail tail)
+    → Reads (Or First Second) Behind (or_read first second)
+reads_or {V} {First} {Second} {Tail} {Behind} {first} {second} f g apart follows = record {
+  found = λ text value rest e. elim (either_found (first text) (second text) (value, rest) e) [
+    | by_first h ↦ let x = f.found text value rest h in record {
+      word = x.word;
+      whole = x.whole;
+      is = inl x.is;
+      same = λ other e2. either_first (first (x.word ++ other)) (second (x.word ++ other)) (value, other) (x.same other e2);
+    }
+    | by_second left h k ↦ let x = g.found text value rest k in record {
+      word = x.word;
+      whole = x.whole;
+      is = inr x.is;
+      same = λ other e2.
+          let stops = apart x.word other value x.is in
+          either_second (first (x.word ++ other)) (second (x.word ++ other)) stops.0 (value, other) stops.1 (x.same other e2);
+    }
+  ];
+  wrong = λ text left e.
+      let h = either_wrong (first text) (second text) left e in
+      let a = f.wrong text h.0 h.2 in
+      let b = g.wrong text h.1 h.3 in
+      elim (cases_lt h.0 h.1) [
+        | inl lt ↦
+            let same : h.0 ≡ left = omega (arith, h.4, lt) in
+            subst (λ (n : ℕ). Wrong (Or First Second) (or_read first second) text n) same
+            (wrong_by (Or First Second) First Second first second (or_read first second) text h.0 h.1 a b (omega (arith, lt))
+              (λ word value w. inl w)
+              (λ u i j le p q. either_stops (first u) (second u) i j p q ∙ ap Err (omega (arith, le))))
+        | inr ge ↦
+            let same : h.1 ≡ left = omega (arith, h.4, ge) in
+            subst (λ (n : ℕ). Wrong (Or First Second) (or_read first second) text n) same
+            (wrong_by (Or First Second) Second First second first (or_read first second) text h.1 h.0 b a ge
+              (λ word value w. inr w)
+              (λ u i j le p q. either_stops (first u) (second u) j i q p ∙ ap Err (omega (arith, le))))
+      ];
+  again = λ word tail value is t. elim is [
+    | inl w ↦ either_first (first (word ++ tail)) (second (word ++ tail)) (value, tail) (f.again word tail value w (follows tail t))
+    | inr w ↦
+        let stops = apart word tail value w in
+        either_second (first (word ++ tail)) (second (word ++ tail)) stops.0 (value, tail) stops.1 (g.again word tail value w t)
+  ];
+  some = let a = f.some in (a.0, a.1, inl a.2);
+}
+
+-- a reader of the same language, in other words
+pub reads_is : {V : Type 0} {First Second : List ℕ → V → Type 0} {Tail : List ℕ → Type 0} {read : List ℕ → Result (V × List ℕ) ℕ}
+    → ((word : List ℕ) (value : V) → First word value → Second word value) → ((word : List ℕ) (value : V) → Second word value → First word value)
+    → Reads First Tail read → Reads Second Tail read
+reads_is to from r = record {
+  found = λ text value rest e. let f = r.found text value rest e in record { word = f.word; whole = f.whole; is = to f.word value f.is; same = f.same };
+  wrong = λ text left e. let f = r.wrong text left e in record {
+    good = f.good;
+    bad = f.bad;
+    whole = f.whole;
+    count = f.count;
+    more = f.more;
+    value = f.value;
+    begins = to (f.good ++ f.more) f.value f.begins;
+    same = f.same;
+  };
+  again = λ word tail value is t. r.again word tail value (from word value is) t;
+  some = let a = r.some in (a.0, a.1, to a.0 a.1 a.2);
+}
+
+-- a reader, where less may follow
+pub reads_before : {V : Type 0} {Word : List ℕ → V → Type 0} {Tail Less : List ℕ → Type 0} {read : List ℕ → Result (V × List ℕ) ℕ}
+    → ((tail : List ℕ) → Less tail → Tail tail) → Reads Word Tail read → Reads Word Less read
+reads_before less r = record { found = r.found; wrong = r.wrong; again = λ word tail value is t. r.again word tail value is (less tail t); some = r.some }

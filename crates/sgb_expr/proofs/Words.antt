@@ -1,0 +1,203 @@
+-- Readers of fixed words, and of one among several.
+use Rattle.std.proofs.Common.{◌≡◌, ◌≢◌, ℕ, zero, suc, ◌+◌, ◌-◌, ◌<◌, ◌≤◌, ◌⊎◌, ◌==◌, ◌&&◌, Bool, true, false, if◌then◌else◌,  List, [], ◌∷◌, ◌++◌, length, Option, Some, None, Result, Ok, Err, refl, sym, ◌∙◌, ap, subst, inl, inr, append_assoc, append-nil, arith, length-append, min}
+use Rattle.std.proofs.Math.Path.{fun_ext}
+use Rattle.std.proofs.lemmas.Bool.Decides.{eqb_tells}
+use Rattle.std.proofs.lemmas.Bool.{eq-eqb}
+use Rattle.sgb_expr.specs.Readings.{◌>>=◌, either, fixed_at, fixed_as, word_at}
+use Rattle.sgb_expr.proofs.Readers.{next, Found, Wrong, Reads, Or, bind_ok, bind_err, bind_of, bind_stops, ok_same, reads_or}
+
+-- a byte read again
+fixed_step : (byte : ℕ) (bytes text : List ℕ) → fixed_at (byte ∷ bytes) (byte ∷ text) ≡ fixed_at bytes text
+fixed_step byte bytes text = rw (eq-eqb byte byte refl) refl
+
+-- another byte
+fixed_other : (byte other : ℕ) (bytes text : List ℕ) → (byte == other) ≡ false → fixed_at (byte ∷ bytes) (other ∷ text) ≡ Err (length (other ∷ text))
+fixed_other byte other bytes text e = rw e refl
+
+-- a text that begins with the bytes
+pub fixed_again : (bytes tail : List ℕ) → fixed_at bytes (bytes ++ tail) ≡ Ok tail
+fixed_again [] tail = refl
+fixed_again (byte ∷ bytes) tail = fixed_step byte bytes (bytes ++ tail) ∙ fixed_again bytes tail
+
+-- two texts part after the same bytes
+pub record Parts (bytes text : List ℕ) (left : ℕ) : Type 0 where
+  pub good : List ℕ
+  pub byte : ℕ
+  pub more : List ℕ
+  pub bad : List ℕ
+  pub bytes_are : bytes ≡ good ++ byte ∷ more
+  pub whole : text ≡ good ++ bad
+  pub count : left ≡ length bad
+  pub other : next bad ≢ Some byte
+
+-- one byte more before they part
+parts_later : (byte : ℕ) (bytes text : List ℕ) (left : ℕ) → Parts bytes text left → Parts (byte ∷ bytes) (byte ∷ text) left
+parts_later byte bytes text left p = record {
+  good = byte ∷ p.good;
+  byte = p.byte;
+  more = p.more;
+  bad = p.bad;
+  bytes_are = ap (λ u. byte ∷ u) p.bytes_are;
+  whole = ap (λ u. byte ∷ u) p.whole;
+  count = p.count;
+  other = p.other;
+}
+
+-- what was read, or where the texts part
+pub fixed_cases : (bytes text : List ℕ) → ((rest : List ℕ) × (fixed_at bytes text ≡ Ok rest) × (text ≡ bytes ++ rest)) ⊎ ((left : ℕ) × (fixed_at bytes text ≡ Err left) × Parts bytes text left)
+fixed_cases [] text = inl (text, refl, refl)
+fixed_cases (byte ∷ bytes) [] = inr (0, refl, record { good = []; byte = byte; more = bytes; bad = []; bytes_are = refl; whole = refl; count = refl; other = λ e. cc })
+fixed_cases (byte ∷ bytes) (other ∷ text) = elim (eqb_tells byte other) [
+  | inl h ↦ elim (fixed_cases bytes text) [
+    | inl r ↦ inl (r.0, subst (λ (c : ℕ). fixed_at (byte ∷ bytes) (c ∷ text) ≡ Ok r.0) h.1 (fixed_step byte bytes text ∙ r.1), (cc (h.1, r.2)))
+    | inr p ↦ inr (p.0, subst (λ (c : ℕ). fixed_at (byte ∷ bytes) (c ∷ text) ≡ Err p.0) h.1 (fixed_step byte bytes text ∙ p.1),
+        subst (λ (c : ℕ). Parts (byte ∷ bytes) (c ∷ text) p.0) h.1 (parts_later byte bytes text p.0 p.2))
+  ]
+  | inr h ↦ inr (length (other ∷ text), fixed_other byte other bytes text h.0, record {
+    good = [];
+    byte = byte;
+    more = bytes;
+    bad = other ∷ text;
+    bytes_are = refl;
+    whole = refl;
+    count = refl;
+    other = λ e. h.1 (cc (e));
+  })
+]
+
+-- what parts from the bytes after the same beginning is not read
+pub fixed_stops : (good more bad : List ℕ) (byte : ℕ) → next bad ≢ Some byte → fixed_at (good ++ byte ∷ more) (good ++ bad) ≡ Err (length bad)
+fixed_stops [] more [] byte h = refl
+fixed_stops [] more (other ∷ bad) byte h = elim (eqb_tells byte other) [
+  | inl e ↦ absurd (h (ap Some (sym e.1)))
+  | inr e ↦ fixed_other byte other more bad e.0
+]
+fixed_stops (c ∷ good) more bad byte h = fixed_step c (good ++ byte ∷ more) (good ++ bad) ∙ fixed_stops good more bad byte h
+
+-- the text of this value
+abbrev pub Fixed : {V : Type 0} → V → List ℕ → List ℕ → V → Type 0
+Fixed value bytes word v = (word ≡ bytes) × (v ≡ value)
+
+-- anything
+abbrev pub Anything : List ℕ → Type 0
+Anything text = Unit {0}
+
+-- a reading does not both stop and succeed
+pub no_ok : {A : Type 0} {x : A} {n : ℕ} → ◌≡◌ {A = Result A ℕ} (Err n) (Ok x) → ⊥
+no_ok e = cc
+
+-- two places of one reading
+pub err_same : {A : Type 0} (m n : ℕ) → ◌≡◌ {A = Result A ℕ} (Err m) (Err n) → m ≡ n
+err_same m n e = cc
+
+-- a reader of one fixed text
+pub reads_fixed : {V : Type 0} (value : V) (bytes : List ℕ) → Reads (Fixed value bytes) Anything (fixed_as value bytes)
+reads_fixed {V} value bytes = record {
+  found = λ text v rest e. elim (fixed_cases bytes text) [
+    | inl r ↦
+        let both : (value, r.0) ≡ (v, rest) = ok_same (value, r.0) (v, rest) (sym (bind_of (fixed_at bytes text) (λ u. Ok (value, u)) r.0 r.1) ∙ e) in
+        let is : v ≡ value = sym (ap (λ (p : V × List ℕ). p.0) both) in
+        let after : r.0 ≡ rest = ap (λ (p : V × List ℕ). p.1) both in record {
+          word = bytes;
+          whole = r.2 ∙ ap (λ u. bytes ++ u) after;
+          is = (refl, is);
+          same = λ other e2. bind_of (fixed_at bytes (bytes ++ other)) (λ u. Ok (value, u)) other (fixed_again bytes other) ∙ ap (λ (w : V). Ok (w, other)) (sym is);
+        }
+    | inr p ↦ absurd (no_ok (sym (bind_stops (fixed_at bytes text) (λ u. Ok (value, u)) p.0 p.1) ∙ e))
+  ];
+  wrong = λ text left e. elim (fixed_cases bytes text) [
+    | inl r ↦ absurd (no_ok (sym e ∙ bind_of (fixed_at bytes text) (λ u. Ok (value, u)) r.0 r.1))
+    | inr p ↦
+        let same_left : p.0 ≡ left = err_same p.0 left (sym (bind_stops (fixed_at bytes text) (λ u. Ok (value, u)) p.0 p.1) ∙ e) in record {
+          good = p.2.good;
+          bad = p.2.bad;
+          whole = p.2.whole;
+          count = sym same_left ∙ p.2.count;
+          more = p.2.byte ∷ p.2.more;
+          value = value;
+          begins = (sym p.2.bytes_are, refl);
+          same = λ other e2.
+              let stops : fixed_at bytes (p.2.good ++ other) ≡ Err (length other) =
+                  ap (λ (b : List ℕ). fixed_at b (p.2.good ++ other)) p.2.bytes_are ∙ fixed_stops p.2.good p.2.more other p.2.byte (λ h. p.2.other (sym e2 ∙ h)) in
+              bind_stops (fixed_at bytes (p.2.good ++ other)) (λ u. Ok (value, u)) (length other) stops;
+        }
+  ];
+  again = λ word tail v is t.
+      ap (λ (w : List ℕ). fixed_as value bytes (w ++ tail)) is.0 ∙ bind_of (fixed_at bytes (bytes ++ tail)) (λ u. Ok (value, u)) tail (fixed_again bytes tail)
+      ∙ ap (λ (w : V). Ok (w, tail)) (sym is.1);
+  some = (bytes, value, (refl, refl));
+}
+
+-- the text is the word of this value, among these
+abbrev pub IsWord : {V : Type 0} → List (List ℕ × V) → List ℕ → V → Type 0
+IsWord [] text v = ⊥
+IsWord (word ∷ []) text v = Fixed word.1 word.0 text v
+IsWord (word ∷ other ∷ words) text v = Fixed word.1 word.0 text v ⊎ IsWord (other ∷ words) text v
+
+-- two words part before either ends
+abbrev pub do_part : List ℕ → List ℕ → Bool
+do_part [] b = false
+do_part (x ∷ a) [] = false
+do_part (x ∷ a) (y ∷ b) = if x == y then do_part a b else true
+
+-- a word parts from each of these
+abbrev pub parts_from : {V : Type 0} → List ℕ → List (List ℕ × V) → Bool
+parts_from a [] = true
+parts_from a (word ∷ words) = do_part a word.0 && parts_from a words
+
+-- any two of the words part
+abbrev pub are_apart : {V : Type 0} → List (List ℕ × V) → Bool
+are_apart [] = true
+are_apart (word ∷ words) = parts_from word.0 words && are_apart words
+
+-- the same reader, text by text
+pub reads_same : {V : Type 0} {Word : List ℕ → V → Type 0} {Tail : List ℕ → Type 0} {first second : List ℕ → Result (V × List ℕ) ℕ}
+    → ((text : List ℕ) → second text ≡ first text) → Reads Word Tail second → Reads Word Tail first
+reads_same {V} {Word} {Tail} {first} {second} e r = subst (λ (f : List ℕ → Result (V × List ℕ) ℕ). Reads Word Tail f) (fun_ext e) r
+
+-- the last of some words
+last_word : {V : Type 0} (word : List ℕ × V) (text : List ℕ) → fixed_as word.1 word.0 text ≡ word_at (word ∷ []) text
+last_word {V} word text = elim (fixed_cases word.0 text) [
+  | inl r ↦
+      let e = bind_of (fixed_at word.0 text) (λ u. Ok (word.1, u)) r.0 r.1 in
+      e ∙ sym (ap (λ (t : Result (V × List ℕ) ℕ). either t (Err (length text))) e)
+  | inr p ↦
+      let e = bind_stops (fixed_at word.0 text) (λ u. Ok (word.1, u)) p.0 p.1 in
+      let least : p.0 ≡ min p.0 (length text) = omega (arith, p.2.count, ap length p.2.whole, length-append p.2.good p.2.bad) in
+      e ∙ ap Err least ∙ sym (ap (λ (t : Result (V × List ℕ) ℕ). either t (Err (length text))) e)
+]
+
+-- both tests hold
+both_true : (a b : Bool) → (a && b) ≡ true → (a ≡ true) × (b ≡ true)
+both_true true b e = (refl, e)
+both_true false b e = absurd (cc)
+
+-- a word that parts from another is not read where that stands
+parts_stops : {V : Type 0} (value : V) (a b tail : List ℕ) → do_part a b ≡ true → (left : ℕ) × (fixed_as value a (b ++ tail) ≡ Err left)
+parts_stops value [] b tail e = absurd (cc)
+parts_stops value (x ∷ a) [] tail e = absurd (cc)
+parts_stops {V} value (x ∷ a) (y ∷ b) tail e = elim (eqb_tells x y) [
+  | inl h ↦
+      let t = parts_stops value a b tail (sym (rw h.0 refl) ∙ e) in
+      (t.0, ap (λ (r : Result (List ℕ) ℕ). r >>= λ rest. Ok (value, rest)) (rw h.0 refl) ∙ t.1)
+  | inr h ↦ (length (y ∷ b ++ tail), ap (λ (r : Result (List ℕ) ℕ). r >>= λ rest. Ok (value, rest)) (fixed_other x y a (b ++ tail) h.0))
+]
+
+-- a word that parts from each of some words is not read where one of them stands
+parts_stops_all : {V : Type 0} (value v : V) (a word tail : List ℕ) (words : List (List ℕ × V)) → parts_from a words ≡ true → IsWord words word v → (left : ℕ) × (fixed_as value a (word ++ tail) ≡ Err left)
+parts_stops_all value v a word tail [] e w = absurd w
+parts_stops_all {V} value v a word tail (first ∷ []) e w =
+    let t = parts_stops value a first.0 tail (both_true (do_part a first.0) true e).0 in
+    (t.0, ap (λ u. fixed_as value a (u ++ tail)) w.0 ∙ t.1)
+parts_stops_all {V} value v a word tail (first ∷ other ∷ words) e (inl w) =
+    let t = parts_stops value a first.0 tail (both_true (do_part a first.0) (parts_from a (other ∷ words)) e).0 in
+    (t.0, ap (λ u. fixed_as value a (u ++ tail)) w.0 ∙ t.1)
+parts_stops_all {V} value v a word tail (first ∷ other ∷ words) e (inr w) =
+    parts_stops_all value v a word tail (other ∷ words) (both_true (do_part a first.0) (parts_from a (other ∷ words)) e).1 w
+
+-- a reader of one of some words, any two of which part
+pub reads_words : {V : Type 0} (word : List ℕ × V) (words : List (List ℕ × V)) → are_apart (word ∷ words) ≡ true → Reads (IsWord (word ∷ words)) Anything (word_at (word ∷ words))
+reads_words word [] e = reads_same (last_word word) (reads_fixed word.1 word.0)
+reads_words word (other ∷ words) e =
+    let t = both_true (parts_from word.0 (other ∷ words)) (are_apart (other ∷ words)) e in
+    reads_or (reads_fixed word.1 word.0) (reads_words other words t.1) (λ u tail v w. parts_stops_all word.1 v word.0 u tail (other ∷ words) t.0 w) (λ tail h. h)

@@ -1,0 +1,3 @@
+-- What the contracts of sgb_expr speak of.
+pub mod Numbers
+pub mod Readings

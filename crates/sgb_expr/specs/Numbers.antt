@@ -1,0 +1,29 @@
+-- The texts of numbers in expressions.
+use Rattle.std.specs.Prelude.{◌≡◌, ◌≤◌, ◌⊎◌, ℕ, ℤ, pos, neg_ℤ, List, ◌++◌, length, codes}
+use Rattle.std.specs.Str.Parse.{IsNumeral, digits_value}
+
+-- a number has at most this many decimal digits
+abbrev pub most_digits : ℕ
+most_digits = 18
+
+-- and at most this many hexadecimal digits
+abbrev pub most_hex_digits : ℕ
+most_hex_digits = 16
+
+-- digits in the radix, one or more and at most so many, leading zeros allowed, that write the number
+pub record IsNumber (radix most : ℕ) (text : List ℕ) (number : ℕ) : Type 0 where
+  pub numeral : IsNumeral radix text
+  pub short : length text ≤ most
+  pub writes : number ≡ digits_value radix text
+
+-- an integer: an optional `-`, and 1 to 18 decimal digits
+abbrev pub IsInteger : List ℕ → ℤ → Type 0
+IsInteger text number =
+    ((digits : List ℕ) × (n : ℕ) × (text ≡ codes "-" ++ digits) × IsNumber 10 most_digits digits n × (number ≡ neg_ℤ (pos n)))
+    ⊎ ((n : ℕ) × IsNumber 10 most_digits text n × (number ≡ pos n))
+
+-- bits: 1 to 18 decimal digits, or `0x` and 1 to 16 hexadecimal digits of either case
+abbrev pub IsBits : List ℕ → ℕ → Type 0
+IsBits text number =
+    ((digits : List ℕ) × (text ≡ codes "0x" ++ digits) × IsNumber 16 most_hex_digits digits number)
+    ⊎ IsNumber 10 most_digits text number

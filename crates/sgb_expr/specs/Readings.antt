@@ -1,0 +1,64 @@
+-- What reading from the beginning of a text returns: a value and the text after it, or how many bytes are left where
+-- the text goes wrong.
+use Rattle.std.specs.Prelude.{ℕ, ℤ, pos, neg_ℤ, codes, ◌==◌, List, [], ◌∷◌, length, min, Result, Ok, Err, if◌then◌else◌, take, drop}
+use Rattle.std.specs.Char.{is_digit}
+use Rattle.std.specs.List.{take_while}
+use Rattle.std.specs.Str.Parse.{digits_value}
+use Rattle.sgb_expr.specs.Numbers.{most_digits, most_hex_digits}
+
+-- reading goes on with what was read
+infixl 10 ◌>>=◌
+abbrev pub ◌>>=◌ : {A B : Type 0} → Result A ℕ → (A → Result B ℕ) → Result B ℕ
+(Ok x) >>= f = f x
+(Err left) >>= f = Err left
+
+-- the first of two readings that succeeds, else the place that is further on
+abbrev pub either : {A : Type 0} → Result A ℕ → Result A ℕ → Result A ℕ
+either (Ok x) r = Ok x
+either (Err left) (Ok x) = Ok x
+either (Err left) (Err other) = Err (min left other)
+
+-- the text after these bytes, with which the text begins
+abbrev pub fixed_at : List ℕ → List ℕ → Result (List ℕ) ℕ
+fixed_at [] text = Ok text
+fixed_at (byte ∷ bytes) [] = Err 0
+fixed_at (byte ∷ bytes) (other ∷ text) = if byte == other then fixed_at bytes text else Err (length (other ∷ text))
+
+-- the same, as the text of a value
+abbrev pub fixed_as : {V : Type 0} → V → List ℕ → List ℕ → Result (V × List ℕ) ℕ
+fixed_as value bytes text = fixed_at bytes text >>= λ rest. Ok (value, rest)
+
+-- the value of the word, among these, with which the text begins
+abbrev pub word_at : {V : Type 0} → List (List ℕ × V) → List ℕ → Result (V × List ℕ) ℕ
+word_at [] text = Err (length text)
+word_at (word ∷ words) text = either (fixed_as word.1 word.0 text) (word_at words text)
+
+-- the digits in the radix with which the text begins, so many at most
+abbrev pub leading_digits : ℕ → ℕ → List ℕ → List ℕ
+leading_digits radix most text = take_while (λ byte. is_digit byte radix) (take most text)
+
+-- the number that these digits write, with which the text begins
+abbrev pub number_of : ℕ → List ℕ → List ℕ → Result (ℕ × List ℕ) ℕ
+number_of radix [] text = Err (length text)
+number_of radix (digit ∷ digits) text = Ok (digits_value radix (digit ∷ digits), drop (length (digit ∷ digits)) text)
+
+-- the number with which the text begins, of as many digits as can be taken
+abbrev pub number_at : ℕ → ℕ → List ℕ → Result (ℕ × List ℕ) ℕ
+number_at radix most text = number_of radix (leading_digits radix most text) text
+
+-- the number after a sign
+abbrev pub signed_at : List ℕ → Result (ℤ × List ℕ) ℕ
+signed_at text = fixed_at (codes "-") text >>= λ rest. number_at 10 most_digits rest >>= λ x. Ok (neg_ℤ (pos x.0), x.1)
+
+-- the integer with which the text begins
+abbrev pub integer_at : List ℕ → Result (ℤ × List ℕ) ℕ
+integer_at text = either (signed_at text) (number_at 10 most_digits text >>= λ x. Ok (pos x.0, x.1))
+
+-- bits in hexadecimal where `0x` was read, else in decimal
+abbrev pub bits_after : Result (List ℕ) ℕ → List ℕ → Result (ℕ × List ℕ) ℕ
+bits_after (Ok rest) text = number_at 16 most_hex_digits rest
+bits_after (Err left) text = number_at 10 most_digits text
+
+-- the bits with which the text begins
+abbrev pub bits_at : List ℕ → Result (ℕ × List ℕ) ℕ
+bits_at text = bits_after (fixed_at (codes "0x") text) text

@@ -1,0 +1,3 @@
+//! The expressions that name graphs, and reading them from their texts.
+#![tactic(auto)]
+
