@@ -7,19 +7,10 @@ use Rattle.sgb_vec.specs.Sizes.{board_of}
 use Rattle.sgb_vec.specs.declared.panics.Panic.{Panic}
 use Rattle.sgb_vec.specs.declared.panics.Panic.TheVariants.{VeryBad}
 use Rattle.sgb_graph.specs.Descriptions.{Description}
+use Rattle.sgb_gen.specs.declared.params.BoardParams.{BoardParams}
 use Rattle.sgb_gen.specs.Limits.{most_piece}
 use Rattle.sgb_gen.specs.Families.{Move, call_text, integer_texts, flag_text, family_graph}
 use Rattle.sgb_gen.specs.Moves.{sides_of, board_moves}
-
--- the parameters of board(n1,n2,n3,n4,piece,wrap,directed)
-pub record BoardParams : Type 0 where
-  pub n1 : ℤ
-  pub n2 : ℤ
-  pub n3 : ℤ
-  pub n4 : ℤ
-  pub piece : ℤ
-  pub wrap : ℤ
-  pub directed : Bool
 
 -- an accepted board: n1 to n4 as its official name has them, the sizes that they stand for, the piece, which is
 -- not 0, wrap and the flag

@@ -2,8 +2,8 @@
 -- [GB_BASIC]. What is said of each holds for n of 1 and more; for others the name is that of whatever graph its
 -- parameters make, as the board of 8 by 8.
 use Rattle.std.specs.Prelude.{ℤ, pos, negsuc, ◌-ℤ◌, Bool, true, false}
-use Rattle.sgb_gen.specs.Boards.{BoardParams}
-use Rattle.sgb_gen.specs.Subsets.{SubsetsParams}
+use Rattle.sgb_gen.specs.declared.params.BoardParams.{BoardParams}
+use Rattle.sgb_gen.specs.declared.params.SubsetsParams.{SubsetsParams}
 
 -- a board of one dimension
 abbrev pub line : ℤ → ℤ → ℤ → Bool → BoardParams

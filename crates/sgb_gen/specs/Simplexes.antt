@@ -8,17 +8,8 @@ use Rattle.sgb_vec.specs.Limits.{most_dimensions, most_vertices}
 use Rattle.sgb_vec.specs.Sums.{BoundedSum, bounded_sums, sum_of}
 use Rattle.sgb_vec.specs.declared.panics.Panic.{Panic}
 use Rattle.sgb_graph.specs.Descriptions.{Description}
+use Rattle.sgb_gen.specs.declared.params.SimplexParams.{SimplexParams}
 use Rattle.sgb_gen.specs.Families.{Move, call_text, integer_texts, flag_text, family_graph}
-
--- the parameters of simplex(n,n0,n1,n2,n3,n4,directed)
-pub record SimplexParams : Type 0 where
-  pub n : ℤ
-  pub n0 : ℤ
-  pub n1 : ℤ
-  pub n2 : ℤ
-  pub n3 : ℤ
-  pub n4 : ℤ
-  pub directed : Bool
 
 -- an accepted simplex: n and n0 to n4 as its official name has them, the sum and the bounds that they stand
 -- for, and the flag

@@ -7,19 +7,9 @@ use Rattle.sgb_vec.specs.Bounds.{simplex_of}
 use Rattle.sgb_vec.specs.Sums.{BoundedSum, bounded_sums, sum_of}
 use Rattle.sgb_vec.specs.declared.panics.Panic.{Panic}
 use Rattle.sgb_graph.specs.Descriptions.{Description}
+use Rattle.sgb_gen.specs.declared.params.SubsetsParams.{SubsetsParams}
 use Rattle.sgb_gen.specs.Limits.{size_bits_width}
 use Rattle.sgb_gen.specs.Families.{Move, call_text, integer_texts, flag_text, family_graph}
-
--- the parameters of subsets(n,n0,n1,n2,n3,n4,size_bits,directed)
-pub record SubsetsParams : Type 0 where
-  pub n : ℤ
-  pub n0 : ℤ
-  pub n1 : ℤ
-  pub n2 : ℤ
-  pub n3 : ℤ
-  pub n4 : ℤ
-  pub size_bits : ℕ
-  pub directed : Bool
 
 -- accepted subsets: n and n0 to n4 as the official name has them, the sum and the bounds that they stand for,
 -- size_bits and the flag

@@ -1,9 +1,11 @@
-ghost use Rattle.std.specs.Prelude.{◌≡◌};
-ghost use Rattle.sgb_gen.specs.Boards.{BoardParams, accepted_board, board_id};
+ghost use Rattle.std.specs.Prelude.{◌≡◌, ◌<◌, ◌≤◌, nat_abs, IfOk};
+ghost use Rattle.sgb_gen.specs.Boards.{accepted_board, board_id, piece_of};
+ghost use Rattle.sgb_gen.specs.Limits.{most_piece};
 
 mod graphs;
 
 use crate::families::{push_flag, push_numbers};
+use crate::params::BoardParams;
 use sgb_graph::{Id, IdWriter};
 use sgb_vec::{BoxFamily, Panic, Shape, board_sizes};
 use std::marker::Model;
@@ -39,6 +41,22 @@ impl Model for Board {
     ghost invariant = { λ b. (b.shape.sizes ≡ b.family) × IsAccepted b.shape.params b.family b.piece };
 }
 
+// The piece that the parameter stands for: 1 in the place of 0. `VeryBad` where it is above 2,147,483,647 or below
+// its negative.
+fn piece_of(piece: i64) -> Result<i64, Panic>
+    ensures value { result ≡ piece_of piece }
+    ensures some { IfOk result (λ p. 0 < nat_abs p) }
+    ensures small { IfOk result (λ p. nat_abs p ≤ most_piece) }
+{
+    if piece.unsigned_abs() > MOST_PIECE {
+        return Err(Panic::VeryBad);
+    }
+    if piece == 0 {
+        return Ok(1);
+    }
+    Ok(piece)
+}
+
 impl Board {
     /// The board of these parameters (GB_BASIC, board). `n1` to `n4` tell the sizes, `piece` the moves, where 0
     /// stands for 1 and a negative piece rides, and bit k-1 of `wrap` whether coordinate k wraps around.
@@ -56,18 +74,33 @@ impl Board {
     ) -> Result<Board, Panic>
         ensures { result ≡ accepted_board (record { n1 = n1; n2 = n2; n3 = n3; n4 = n4; piece = piece; wrap = wrap; directed = directed }) }
     {
-        let shape = board_sizes(n1, n2, n3, n4)?;
+        Board::from_params(&BoardParams {
+            n1,
+            n2,
+            n3,
+            n4,
+            piece,
+            wrap,
+            directed,
+        })
+    }
+
+    /// The board of these parameters (GB_BASIC, board).
+    ///
+    /// `Bad` above 91 dimensions; else `VeryBad` above 1,000,000,000 vertices, or where `piece` is above
+    /// 2,147,483,647 or below its negative.
+    pub fn from_params(params: &BoardParams) -> Result<Board, Panic>
+        ensures { result ≡ accepted_board params.now }
+    {
+        let shape = board_sizes(params.n1, params.n2, params.n3, params.n4)?;
         let family = BoxFamily::new(shape.sizes())?;
-        if piece.unsigned_abs() > MOST_PIECE {
-            return Err(Panic::VeryBad);
-        }
-        let piece = if piece == 0 { 1 } else { piece };
+        let piece = piece_of(params.piece)?;
         Ok(Board {
             shape,
             family,
             piece,
-            wrap,
-            directed,
+            wrap: params.wrap,
+            directed: params.directed,
         })
     }
 

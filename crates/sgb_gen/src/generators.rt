@@ -1,11 +1,12 @@
 //! The generators (GB_BASIC).
 ghost use Rattle.sgb_graph.specs.Descriptions.{IsAnswerOf};
-ghost use Rattle.sgb_gen.specs.Boards.{BoardParams, board};
-ghost use Rattle.sgb_gen.specs.Simplexes.{SimplexParams, simplex};
-ghost use Rattle.sgb_gen.specs.Subsets.{SubsetsParams, subsets};
+ghost use Rattle.sgb_gen.specs.Boards.{board};
+ghost use Rattle.sgb_gen.specs.Simplexes.{simplex};
+ghost use Rattle.sgb_gen.specs.Subsets.{subsets};
 
 use crate::boards::Board;
 use crate::multisets::Subsets;
+use crate::params::{BoardParams, SimplexParams, SubsetsParams};
 use crate::simplexes::Simplex;
 use sgb_graph::Graph;
 use sgb_vec::Panic;
@@ -29,7 +30,16 @@ pub fn board(
 ) -> Result<Graph, Panic>
     ensures { IsAnswerOf (board (record { n1 = n1; n2 = n2; n3 = n3; n4 = n4; piece = piece; wrap = wrap; directed = directed })) result }
 {
-    Board::new(n1, n2, n3, n4, piece, wrap, directed)?.graph(alloc)
+    BoardParams {
+        n1,
+        n2,
+        n3,
+        n4,
+        piece,
+        wrap,
+        directed,
+    }
+    .graph(alloc)
 }
 
 /// The graph of a simplex (GB_BASIC, simplex): its vertices are the vectors of the sum `n` within its bounds, with
@@ -51,7 +61,16 @@ pub fn simplex(
 ) -> Result<Graph, Panic>
     ensures { IsAnswerOf (simplex (record { n = n; n0 = n0; n1 = n1; n2 = n2; n3 = n3; n4 = n4; directed = directed })) result }
 {
-    Simplex::new(alloc, n, n0, n1, n2, n3, n4, directed)?.graph(alloc)
+    SimplexParams {
+        n,
+        n0,
+        n1,
+        n2,
+        n3,
+        n4,
+        directed,
+    }
+    .graph(alloc)
 }
 
 /// The graph of subsets (GB_BASIC, subsets): its vertices are the vectors of the sum `n` within the bounds that `n0` to
@@ -75,7 +94,55 @@ pub fn subsets(
 ) -> Result<Graph, Panic>
     ensures { IsAnswerOf (subsets (record { n = n; n0 = n0; n1 = n1; n2 = n2; n3 = n3; n4 = n4; size_bits = size_bits; directed = directed })) result }
 {
-    Subsets::new(alloc, n, n0, n1, n2, n3, n4, size_bits, directed)?.graph(alloc)
+    SubsetsParams {
+        n,
+        n0,
+        n1,
+        n2,
+        n3,
+        n4,
+        size_bits,
+        directed,
+    }
+    .graph(alloc)
+}
+
+impl BoardParams {
+    /// The graph of the board of these parameters, as `board` returns it (GB_BASIC, board).
+    ///
+    /// `Bad` above 91 dimensions; else `VeryBad` above 1,000,000,000 vertices, or where `piece` is above
+    /// 2,147,483,647 or below its negative. `NoRoom` when out of memory.
+    pub fn graph(&self, alloc: Global) -> Result<Graph, Panic>
+        ensures { IsAnswerOf (board self.now) result }
+    {
+        Board::from_params(self)?.graph(alloc)
+    }
+}
+
+impl SimplexParams {
+    /// The graph of the simplex of these parameters, as `simplex` returns it (GB_BASIC, simplex).
+    ///
+    /// `Bad` where `n` is negative, else above 91 dimensions; else `VeryBad` where `n` is above 1,000,000,000, or
+    /// where for some j from 1 to the last dimension and some k up to `n` more than 1,000,000,000 vectors within the
+    /// first j+1 bounds add to k. `NoRoom` when out of memory.
+    pub fn graph(&self, alloc: Global) -> Result<Graph, Panic>
+        ensures { IsAnswerOf (simplex self.now) result }
+    {
+        Simplex::from_params(alloc, self)?.graph(alloc)
+    }
+}
+
+impl SubsetsParams {
+    /// The graph of the subsets of these parameters, as `subsets` returns it (GB_BASIC, subsets).
+    ///
+    /// `Bad` where `n` is negative, else above 91 dimensions; else `VeryBad` where `n` is above 1,000,000,000, or
+    /// where for some j from 1 to the last dimension and some k up to `n` more than 1,000,000,000 vectors within the
+    /// first j+1 bounds add to k. `NoRoom` when out of memory.
+    pub fn graph(&self, alloc: Global) -> Result<Graph, Panic>
+        ensures { IsAnswerOf (subsets self.now) result }
+    {
+        Subsets::from_params(alloc, self)?.graph(alloc)
+    }
 }
 
 #[cfg(test)]

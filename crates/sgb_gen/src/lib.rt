@@ -9,6 +9,8 @@ mod intersections;
 mod laws;
 mod moves;
 mod multisets;
+mod params;
+mod shorthands;
 mod simplexes;
 mod tables;
 
@@ -19,4 +21,6 @@ pub use laws::{
     displacements_have_their_norm, moves_stay_on_board, riders_stop, shifts_stay_in_sum,
 };
 pub use multisets::Subsets;
+pub use params::{BoardParams, SimplexParams, SubsetsParams};
+pub use shorthands::{circuit, complete, cycle, disjoint_subsets, empty, petersen, transitive};
 pub use simplexes::Simplex;

@@ -1,10 +1,11 @@
 ghost use Rattle.std.specs.Prelude.{◌≡◌, ◌⊎◌, Err};
-ghost use Rattle.sgb_gen.specs.Subsets.{SubsetsParams, accepted_subsets, subsets_id};
+ghost use Rattle.sgb_gen.specs.Subsets.{accepted_subsets, subsets_id};
 
 mod graphs;
 mod hexadecimals;
 
 use crate::families::{push_flag, push_numbers};
+use crate::params::SubsetsParams;
 use hexadecimals::push_hexadecimal;
 use sgb_graph::{Id, IdWriter};
 use sgb_vec::{Panic, Shape, SumFamily, simplex_bounds};
@@ -59,13 +60,36 @@ impl Subsets {
     ) -> Result<Subsets, Panic>
         ensures { (result ≡ accepted_subsets (record { n = n; n0 = n0; n1 = n1; n2 = n2; n3 = n3; n4 = n4; size_bits = size_bits; directed = directed })) ⊎ (result ≡ Err Panic.NoRoom) }
     {
-        let shape = simplex_bounds(n, n0, n1, n2, n3, n4)?;
-        let family = SumFamily::new(alloc, n, shape.sizes())?;
+        let params = SubsetsParams {
+            n,
+            n0,
+            n1,
+            n2,
+            n3,
+            n4,
+            size_bits,
+            directed,
+        };
+        Subsets::from_params(alloc, &params)
+    }
+
+    /// The subsets of these parameters (GB_BASIC, subsets).
+    ///
+    /// `Bad` where `n` is negative, else above 91 dimensions; else `VeryBad` where `n` is above 1,000,000,000, or
+    /// where for some j from 1 to the last dimension and some k up to `n` more than 1,000,000,000 vectors within the
+    /// first j+1 bounds add to k. `NoRoom` when out of memory.
+    pub fn from_params(alloc: Global, params: &SubsetsParams) -> Result<Subsets, Panic>
+        ensures { (result ≡ accepted_subsets params.now) ⊎ (result ≡ Err Panic.NoRoom) }
+    {
+        let shape = simplex_bounds(
+            params.n, params.n0, params.n1, params.n2, params.n3, params.n4,
+        )?;
+        let family = SumFamily::new(alloc, params.n, shape.sizes())?;
         Ok(Subsets {
             shape,
             family,
-            size_bits,
-            directed,
+            size_bits: params.size_bits,
+            directed: params.directed,
         })
     }
 

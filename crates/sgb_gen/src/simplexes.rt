@@ -5,6 +5,7 @@ mod graphs;
 mod shifts;
 
 use crate::families::{push_flag, push_numbers};
+use crate::params::SimplexParams;
 use sgb_graph::{Id, IdWriter};
 use sgb_vec::{Panic, Shape, SumFamily, simplex_bounds};
 use std::alloc::Global;
@@ -53,12 +54,34 @@ impl Simplex {
     ) -> Result<Simplex, Panic>
         ensures { (result ≡ accepted_simplex (record { n = n; n0 = n0; n1 = n1; n2 = n2; n3 = n3; n4 = n4; directed = directed })) ⊎ (result ≡ Err Panic.NoRoom) }
     {
-        let shape = simplex_bounds(n, n0, n1, n2, n3, n4)?;
-        let family = SumFamily::new(alloc, n, shape.sizes())?;
+        let params = SimplexParams {
+            n,
+            n0,
+            n1,
+            n2,
+            n3,
+            n4,
+            directed,
+        };
+        Simplex::from_params(alloc, &params)
+    }
+
+    /// The simplex of these parameters (GB_BASIC, simplex).
+    ///
+    /// `Bad` where `n` is negative, else above 91 dimensions; else `VeryBad` where `n` is above 1,000,000,000,
+    /// or where for some j from 1 to the last dimension and some k up to `n` more than 1,000,000,000 vectors
+    /// within the first j+1 bounds add to k. `NoRoom` when out of memory.
+    pub fn from_params(alloc: Global, params: &SimplexParams) -> Result<Simplex, Panic>
+        ensures { (result ≡ accepted_simplex params.now) ⊎ (result ≡ Err Panic.NoRoom) }
+    {
+        let shape = simplex_bounds(
+            params.n, params.n0, params.n1, params.n2, params.n3, params.n4,
+        )?;
+        let family = SumFamily::new(alloc, params.n, shape.sizes())?;
         Ok(Simplex {
             shape,
             family,
-            directed,
+            directed: params.directed,
         })
     }
 

@@ -1,6 +1,6 @@
 -- The two boards that bi_complete and wheel stand on [GB_BASIC, bi_complete and wheel].
 use Rattle.std.specs.Prelude.{ℤ, pos, Bool}
-use Rattle.sgb_gen.specs.Boards.{BoardParams}
+use Rattle.sgb_gen.specs.declared.params.BoardParams.{BoardParams}
 
 -- a board of one dimension with piece 1
 abbrev row_of : ℤ → ℤ → Bool → BoardParams

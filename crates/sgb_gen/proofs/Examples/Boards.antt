@@ -13,7 +13,8 @@ use Rattle.sgb_graph.specs.declared.fields.Util.TheVariants.{Nothing, Int}
 use Rattle.sgb_gen.specs.Families.{family_graph}
 use Rattle.sgb_gen.specs.Displacements.{displacements, vectors_of_norm, signings}
 use Rattle.sgb_gen.specs.Moves.{is_bit_set, sides_of, place, reach, board_moves}
-use Rattle.sgb_gen.specs.Boards.{BoardParams, BoardData, accepted_board, board, board_id}
+use Rattle.sgb_gen.specs.declared.params.BoardParams.{BoardParams}
+use Rattle.sgb_gen.specs.Boards.{BoardData, accepted_board, board, board_id}
 use Rattle.sgb_gen.specs.Shorthands.{complete, transitive, circuit, cycle, empty}
 use Rattle.sgb_gen.proofs.Examples.Listings.{Shown, arc, block, arcs_of, listing, part, listing_of, part_of, shown_by}
 

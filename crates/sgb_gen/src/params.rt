@@ -1,0 +1,43 @@
+/// The parameters of a board, with their official names (GB_BASIC, board): `n1` to `n4` tell the sizes, `piece` the
+/// moves, where 0 stands for 1 and a negative piece rides, bit k-1 of `wrap` whether coordinate k wraps around, and
+/// `directed` whether a move is an arc or an edge. Any values are parameters; `Board::from_params` refuses some.
+#[derive(Clone, Copy, Debug, PartialEq, Eq)]
+pub struct BoardParams {
+    pub n1: i64,
+    pub n2: i64,
+    pub n3: i64,
+    pub n4: i64,
+    pub piece: i64,
+    pub wrap: i64,
+    pub directed: bool,
+}
+
+/// The parameters of a simplex, with their official names (GB_BASIC, simplex): the sum `n` of its vectors, `n0` to
+/// `n4`, which tell the bounds, and `directed`, whether a move is an arc or an edge. Any values are parameters;
+/// `Simplex::from_params` refuses some.
+#[derive(Clone, Copy, Debug, PartialEq, Eq)]
+pub struct SimplexParams {
+    pub n: i64,
+    pub n0: i64,
+    pub n1: i64,
+    pub n2: i64,
+    pub n3: i64,
+    pub n4: i64,
+    pub directed: bool,
+}
+
+/// The parameters of subsets, with their official names (GB_BASIC, subsets): the sum `n` of their vectors, `n0` to
+/// `n4`, which tell the bounds, `size_bits`, whose bit c is 1 where two subsets with c elements in common are joined,
+/// and `directed`, whether they are joined by an arc or an edge. Any values are parameters; `Subsets::from_params`
+/// refuses some.
+#[derive(Clone, Copy, Debug, PartialEq, Eq)]
+pub struct SubsetsParams {
+    pub n: i64,
+    pub n0: i64,
+    pub n1: i64,
+    pub n2: i64,
+    pub n3: i64,
+    pub n4: i64,
+    pub size_bits: u64,
+    pub directed: bool,
+}
