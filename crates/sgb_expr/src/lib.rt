@@ -1,3 +1,11 @@
-//! The expressions that name graphs, and reading them from their texts.
+//! The expressions that name graphs, in GraphBase's official names, and reading them from their texts.
 #![tactic(auto)]
 
+pub mod expressions;
+mod arguments;
+mod measure;
+mod names;
+mod numbers;
+mod wrong;
+
+pub use expressions::{Expr, Family, Unread, read_expr};
