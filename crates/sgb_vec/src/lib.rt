@@ -4,6 +4,7 @@
 mod boxes;
 mod families;
 mod laws;
+mod limits;
 mod panics;
 mod shapes;
 mod sums;
@@ -12,6 +13,7 @@ mod texts;
 pub use boxes::BoxFamily;
 pub use families::{Family, Vector};
 pub use laws::{boxes_are_families, names_read_back, sums_are_families};
+pub use limits::MOST_VERTICES;
 pub use panics::Panic;
 pub use shapes::{Shape, board_sizes, simplex_bounds};
 pub use sums::SumFamily;
