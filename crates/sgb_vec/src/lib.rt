@@ -2,6 +2,7 @@
 #![tactic(auto)]
 
 mod boxes;
+mod digits;
 mod families;
 mod laws;
 mod limits;
@@ -11,6 +12,7 @@ mod sums;
 mod texts;
 
 pub use boxes::BoxFamily;
+pub use digits::{digits_value, leading_digits};
 pub use families::{Family, Vector};
 pub use laws::{boxes_are_families, names_read_back, sums_are_families};
 pub use limits::MOST_VERTICES;
