@@ -1,13 +1,15 @@
 -- A reader of numbers in a radix.
-use Rattle.std.proofs.Common.{◌≡◌, ◌≢◌, ℕ, zero, suc, ◌+◌, ◌-◌, ◌<◌, ◌≤◌, ◌⊎◌, Bool, true, false, cond, List, [], ◌∷◌, ◌++◌, length, take, drop, Option, Some, None, Result, Ok, Err, refl, sym, ◌∙◌, ap, subst, inl, inr, append_assoc, append-nil, arith, length-append}
+use Rattle.std.proofs.lemmas.Int.Digits.{digits_value-lt}
+use native.Mathlib.Nat.{pow-le-pow_right}
+use Rattle.std.proofs.Common.{◌^◌, lt_of_lt_of_le, ◌≡◌, ℕ, zero, suc, ◌<◌, ◌≤◌, ◌⊎◌, true, false, cond, List, [], ◌∷◌, ◌++◌, length, take, drop, Option, Some, Ok, Err, refl, sym, ◌∙◌, ap, subst, inl, inr, arith}
 use Rattle.std.specs.Char.{digit_value, is_digit}
-use Rattle.std.specs.Str.Parse.{AllDigits, IsNumeral, digits_value}
-use Rattle.std.proofs.lemmas.Bool.Decides.{nat_tests}
+use Rattle.std.specs.Str.Parse.{AllDigits, digits_value}
 use Rattle.std.proofs.Math.Seq.{drop-append_seam}
 use Rattle.std.proofs.lemmas.Bool.{cases_lt, lt-ltb, le-ltb}
 use Rattle.std.proofs.lemmas.List.Sums.{take_while-cons}
 use Rattle.sgb_expr.specs.Numbers.{IsNumber}
-use Rattle.sgb_expr.specs.Readings.{leading_digits, number_of, number_at}
+use Rattle.sgb_vec.specs.Digits.{leading_digits}
+use Rattle.sgb_expr.specs.Readings.{number_of, number_at}
 use Rattle.sgb_expr.proofs.Readers.{next, Found, Wrong, Reads, ok_same}
 use Rattle.sgb_expr.proofs.Words.{no_ok, err_same}
 
@@ -118,7 +120,7 @@ number_found_at radix most text value rest e l = elim (cases_lt 0 (length l.digi
         is = record { numeral = (some, l.all); short = l.short; writes = is };
         same = λ other e2.
             number_found radix most (l.digits ++ other) l.digits other
-              (leading_again radix most l.digits other l.all l.short (λ lt. no_digit_same radix l.rest other (e2 ∙ sym (ap next after)) (l.none lt))) refl some
+            (leading_again radix most l.digits other l.all l.short (λ lt. no_digit_same radix l.rest other (e2 ∙ sym (ap next after)) (l.none lt))) refl some
             ∙ ap (λ (n : ℕ). Ok (n, other)) (sym is);
       }
   | inr none ↦ absurd (no_ok (sym (number_stops radix most text (l.are ∙ no_items l.digits none)) ∙ e))
@@ -141,7 +143,7 @@ number_wrong_at radix most some room text left e l = elim (cases_lt 0 (length l.
         begins = zero_is_number radix most some room;
         same = λ other e2.
             number_stops radix most other
-              (leading_again radix most [] other tt (omega arith) (λ lt. no_digit_same radix l.rest other (e2 ∙ ap next here) (l.none (omega (arith, lt, h)))));
+            (leading_again radix most [] other tt (omega arith) (λ lt. no_digit_same radix l.rest other (e2 ∙ ap next here) (l.none (omega (arith, lt, h)))));
       }
 ]
 
@@ -155,3 +157,14 @@ reads_number radix most some room = record {
       ∙ ap (λ (n : ℕ). Ok (n, tail)) (sym is.writes);
   some = (48 ∷ [], 0, zero_is_number radix most some room);
 }
+
+-- the digits with which a text begins write a number below a power of the radix
+pub record Written (radix most : ℕ) (digits : List ℕ) : Type 0 where
+  pub all : AllDigits radix digits
+  pub small : digits_value radix digits < radix ^ most
+
+pub leading_written : (radix most : ℕ) (text digits : List ℕ) → 0 < radix → digits ≡ leading_digits radix most text → Written radix most digits
+leading_written radix most text digits some e =
+    let l = leading radix most text in
+    subst (λ (ds : List ℕ). Written radix most ds) (sym (e ∙ l.are))
+    (record { all = l.all; small = lt_of_lt_of_le (digits_value-lt radix l.digits l.all) (pow-le-pow_right some l.short) })

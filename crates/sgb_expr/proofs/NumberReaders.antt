@@ -1,12 +1,12 @@
 -- Readers of integers and bits.
-use Rattle.std.proofs.Common.{◌≡◌, ◌≢◌, ℕ, ℤ, pos, neg_ℤ, zero, suc, ◌+◌, ◌-◌, ◌<◌, ◌≤◌, ◌⊎◌, Bool, true, false, List, [], ◌∷◌, ◌++◌, length, Option, Some, None, Result, Ok, Err, codes, refl, sym, ◌∙◌, ap, subst, inl, inr, append_assoc, arith, length-append, lit<, lit≤, drop}
+use Rattle.std.proofs.Common.{◌≡◌, ℕ, ℤ, pos, neg_ℤ, ◌<◌, ◌≤◌, List, [], ◌∷◌, ◌++◌, length, Option, Some, Result, Ok, Err, codes, refl, sym, ◌∙◌, ap, subst, inl, inr, append_assoc, arith, length-append, lit<, lit≤, drop}
 use Rattle.std.specs.Char.{digit_value}
-use Rattle.std.specs.Str.Parse.{AllDigits, IsNumeral}
+use Rattle.std.specs.Str.Parse.{IsNumeral}
 use Rattle.std.proofs.lemmas.Bool.{cases_lt}
 use Rattle.sgb_expr.specs.Numbers.{IsNumber, IsInteger, IsBits, most_digits, most_hex_digits}
 use Rattle.sgb_expr.specs.Readings.{◌>>=◌, fixed_at, fixed_as, number_at, signed_at, integer_at, bits_after, bits_at}
-use Rattle.sgb_expr.proofs.Readers.{next, next_after, Found, Wrong, Reads, Then, As, Or, then_read, read_as, bind_ok, bind_of, bind_stops, ok_same, cut_in, reads_then, reads_as, reads_or, reads_is, reads_before}
-use Rattle.sgb_expr.proofs.Words.{Anything, Fixed, Parts, fixed_again, fixed_cases, fixed_stops, reads_fixed, reads_same, no_ok, err_same}
+use Rattle.sgb_expr.proofs.Readers.{next, next_after, Found, Wrong, Reads, Then, As, Or, then_read, read_as, bind_of, bind_stops, cut_in, reads_then, reads_as, reads_or, reads_is, reads_before}
+use Rattle.sgb_expr.proofs.Words.{Fixed, Parts, fixed_again, fixed_cases, fixed_stops, reads_fixed, reads_same, no_ok, err_same}
 use Rattle.sgb_expr.proofs.Digits.{NoDigit, leading, reads_number, number_found, number_stops, leading_again, no_digit_same, no_items, zero_is_number}
 
 -- the text begins with no digit or letter, so that a number before it ends there
@@ -86,7 +86,7 @@ integer_from word value (inr h) = inr h
 pub reads_integer : Reads IsInteger Clear integer_at
 reads_integer =
     reads_is integer_is integer_from
-      (reads_or (reads_same (λ text. signed_is text) reads_signed) (reads_as pos reads_decimal) no_sign (λ tail h. h))
+    (reads_or (reads_same (λ text. signed_is text) reads_signed) (reads_as pos reads_decimal) no_sign (λ tail h. h))
 
 -- the same byte
 some_same : (a b : ℕ) → ◌≡◌ {A = Option ℕ} (Some a) (Some b) → a ≡ b
@@ -112,9 +112,10 @@ none_there text left e =
       | inl h ↦ absurd (no_ok (sym e ∙ number_found 10 most_digits text l.digits l.rest l.are l.whole h))
       | inr h ↦
           let empty : l.digits ≡ [] = no_items l.digits h in
-          let here : text ≡ l.rest = l.whole ∙ ap (λ u. u ++ l.rest) empty in
-          (err_same left (length text) (sym e ∙ number_stops 10 most_digits text (l.are ∙ empty)),
-          no_digit_same 10 l.rest text (ap next here) (l.none (omega (arith, h, at_most_18))))
+          let here : text ≡ l.rest = l.whole ∙ ap (λ u. u ++ l.rest) empty in (
+            err_same left (length text) (sym e ∙ number_stops 10 most_digits text (l.are ∙ empty)),
+            no_digit_same 10 l.rest text (ap next here) (l.none (omega (arith, h, at_most_18))),
+          )
     ]
 
 -- where no digit stands, there is no number
@@ -127,9 +128,11 @@ prefix_same word rest other left some p e =
     let short : length p.good ≤ 1 = omega (arith, ap length p.bytes_are, length-append p.good (p.byte ∷ p.more)) in
     let cut = cut_in p.good p.bad word rest (sym p.whole) (omega (arith, short, some, ap length p.whole, length-append p.good p.bad, length-append word rest)) in
     let comes : next (cut.0 ++ other) ≡ next p.bad = next_after cut.0 other rest e ∙ sym (ap next cut.2) in
-    let here : word ++ other ≡ p.good ++ (cut.0 ++ other) = ap (λ u. u ++ other) cut.1 ∙ append_assoc p.good cut.0 other in
-    (length (cut.0 ++ other), ap (fixed_at (codes "0x")) here ∙ ap (λ b. fixed_at b (p.good ++ (cut.0 ++ other))) p.bytes_are
-      ∙ fixed_stops p.good p.more (cut.0 ++ other) p.byte (λ h. p.other (sym comes ∙ h)))
+    let here : word ++ other ≡ p.good ++ (cut.0 ++ other) = ap (λ u. u ++ other) cut.1 ∙ append_assoc p.good cut.0 other in (
+      length (cut.0 ++ other),
+      ap (fixed_at (codes "0x")) here ∙ ap (λ b. fixed_at b (p.good ++ (cut.0 ++ other))) p.bytes_are
+          ∙ fixed_stops p.good p.more (cut.0 ++ other) p.byte (λ h. p.other (sym comes ∙ h)),
+    )
 
 -- bits after what was read of `0x`
 bits_here : (text : List ℕ) (r : Result (List ℕ) ℕ) → fixed_at (codes "0x") text ≡ r → bits_at text ≡ bits_after r text

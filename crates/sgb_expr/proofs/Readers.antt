@@ -1,6 +1,6 @@
 -- Readers of languages: what they find, where they stop, and that they find each word again; readers one after
 -- another, and one or the other.
-use Rattle.std.proofs.Common.{◌≡◌, ℕ, zero, suc, ◌+◌, ◌-◌, ◌<◌, ◌≤◌, ◌⊎◌, Bool, true, false, nat_eq, List, [], ◌∷◌, ◌++◌, length, drop, min, Option, Some, None, Result, Ok, Err, refl, sym, ◌∙◌, ap, subst, inl, inr, append_assoc, append-nil, arith, length-append}
+use Rattle.std.proofs.Common.{◌≡◌, ℕ, ◌≤◌, ◌⊎◌, List, [], ◌∷◌, ◌++◌, length, min, Option, Some, None, Result, Ok, Err, refl, sym, ◌∙◌, ap, subst, inl, inr, append_assoc, append-nil, arith, length-append}
 use Rattle.std.proofs.lemmas.Bool.{cases_lt}
 use Rattle.sgb_expr.specs.Readings.{◌>>=◌, either}
 
@@ -223,13 +223,13 @@ pub data EitherFound {A : Type 0} (r s : Result A ℕ) (x : A) : Type 0 where
   by_first : r ≡ Ok x → EitherFound r s x
   by_second : (left : ℕ) → r ≡ Err left → s ≡ Ok x → EitherFound r s x
 
-either_found : {A : Type 0} (r s : Result A ℕ) (x : A) → either r s ≡ Ok x → EitherFound r s x
+pub either_found : {A : Type 0} (r s : Result A ℕ) (x : A) → either r s ≡ Ok x → EitherFound r s x
 either_found (Ok y) s x e = by_first e
 either_found (Err left) (Ok y) x e = by_second left refl e
 either_found (Err left) (Err other) x e = absurd (cc)
 
 -- where both readers stopped
-either_wrong : {A : Type 0} (r s : Result A ℕ) (left : ℕ) → either r s ≡ Err left → (a b : ℕ) × (r ≡ Err a) × (s ≡ Err b) × (left ≡ min a b)
+pub either_wrong : {A : Type 0} (r s : Result A ℕ) (left : ℕ) → either r s ≡ Err left → (a b : ℕ) × (r ≡ Err a) × (s ≡ Err b) × (left ≡ min a b)
 either_wrong (Ok y) s left e = absurd (cc)
 either_wrong (Err a) (Ok y) left e = absurd (cc)
 either_wrong (Err a) (Err b) left e = (a, b, refl, refl, (cc))
@@ -253,7 +253,7 @@ wrong_by {V} Word First Second first second read text a b f g le into both =
           let comes : next (cut.0 ++ other) ≡ next g.bad = next_after cut.0 other f.bad e ∙ sym (ap next cut.2) in
           let apart : f.good ++ other ≡ g.good ++ (cut.0 ++ other) = ap (λ u. u ++ other) cut.1 ∙ append_assoc g.good cut.0 other in
           both (f.good ++ other) (length other) (length (cut.0 ++ other)) (omega (arith, length-append cut.0 other))
-            (f.same other e) (ap second apart ∙ g.same (cut.0 ++ other) comes);
+          (f.same other e) (ap second apart ∙ g.same (cut.0 ++ other) comes);
     }
 
 -- one reader or the other, where the first stops at each word of the second
@@ -288,14 +288,14 @@ reads_or {V} {First} {Second} {Tail} {Behind} {first} {second} f g apart follows
             let same : h.0 ≡ left = omega (arith, h.4, lt) in
             subst (λ (n : ℕ). Wrong (Or First Second) (or_read first second) text n) same
             (wrong_by (Or First Second) First Second first second (or_read first second) text h.0 h.1 a b (omega (arith, lt))
-              (λ word value w. inl w)
-              (λ u i j le p q. either_stops (first u) (second u) i j p q ∙ ap Err (omega (arith, le))))
+            (λ word value w. inl w)
+            (λ u i j le p q. either_stops (first u) (second u) i j p q ∙ ap Err (omega (arith, le))))
         | inr ge ↦
             let same : h.1 ≡ left = omega (arith, h.4, ge) in
             subst (λ (n : ℕ). Wrong (Or First Second) (or_read first second) text n) same
             (wrong_by (Or First Second) Second First second first (or_read first second) text h.1 h.0 b a ge
-              (λ word value w. inr w)
-              (λ u i j le p q. either_stops (first u) (second u) j i q p ∙ ap Err (omega (arith, le))))
+            (λ word value w. inr w)
+            (λ u i j le p q. either_stops (first u) (second u) j i q p ∙ ap Err (omega (arith, le))))
       ];
   again = λ word tail value is t. elim is [
     | inl w ↦ either_first (first (word ++ tail)) (second (word ++ tail)) (value, tail) (f.again word tail value w (follows tail t))
@@ -330,3 +330,59 @@ reads_is to from r = record {
 pub reads_before : {V : Type 0} {Word : List ℕ → V → Type 0} {Tail Less : List ℕ → Type 0} {read : List ℕ → Result (V × List ℕ) ℕ}
     → ((tail : List ℕ) → Less tail → Tail tail) → Reads Word Tail read → Reads Word Less read
 reads_before less r = record { found = r.found; wrong = r.wrong; again = λ word tail value is t. r.again word tail value is (less tail t); some = r.some }
+
+-- where a text goes wrong for whole words: what stands before begins a word, and no word goes on there as the text does
+pub record Stops {V : Type 0} (Word : List ℕ → V → Type 0) (text : List ℕ) (left : ℕ) : Type 0 where
+  pub good : List ℕ
+  pub bad : List ℕ
+  pub whole : text ≡ good ++ bad
+  pub count : left ≡ length bad
+  pub more : List ℕ
+  pub value : V
+  pub begins : Word (good ++ more) value
+  pub refused : (other : List ℕ) (v : V) → next other ≡ next bad → Word (good ++ other) v → ⊥
+
+-- a reading does not both stop and succeed
+stops_or_reads : {A : Type 0} (r : Result A ℕ) (left : ℕ) (x : A) → r ≡ Err left → r ≡ Ok x → ⊥
+stops_or_reads r left x e f = cc
+
+-- two rests of one reading
+one_rest : {V : Type 0} (r : Result (V × List ℕ) ℕ) (v w : V) (a b : List ℕ) → r ≡ Ok (v, a) → r ≡ Ok (w, b) → a ≡ b
+one_rest {V} r v w a b e f = ap (λ (p : V × List ℕ). p.1) (ok_same (v, a) (w, b) (sym e ∙ f))
+
+-- a word is read again as a whole
+pub word_again : {V : Type 0} {Word : List ℕ → V → Type 0} {Tail : List ℕ → Type 0} {read : List ℕ → Result (V × List ℕ) ℕ} → Reads Word Tail read → Tail [] → (word : List ℕ) (value : V) → Word word value → read word ≡ Ok (value, [])
+word_again {V} {Word} {Tail} {read} r end word value is = ap read (sym (append-nil word)) ∙ r.again word [] value is end
+
+-- a reader that stops
+pub stops_within : {V : Type 0} {Word : List ℕ → V → Type 0} {Tail : List ℕ → Type 0} {read : List ℕ → Result (V × List ℕ) ℕ} → Reads Word Tail read → Tail [] → (text : List ℕ) (left : ℕ) → read text ≡ Err left → Stops Word text left
+stops_within {V} {Word} {Tail} {read} r end text left e =
+    let w = r.wrong text left e in record {
+      good = w.good;
+      bad = w.bad;
+      whole = w.whole;
+      count = w.count;
+      more = w.more;
+      value = w.value;
+      begins = w.begins;
+      refused = λ other v e2 is. stops_or_reads (read (w.good ++ other)) (length other) (v, []) (w.same other e2) (word_again r end (w.good ++ other) v is);
+    }
+
+-- a reader that leaves something
+pub stops_after : {V : Type 0} {Word : List ℕ → V → Type 0} {Tail : List ℕ → Type 0} {read : List ℕ → Result (V × List ℕ) ℕ} → Reads Word Tail read → Tail [] → (text : List ℕ) (value : V) (byte : ℕ) (rest : List ℕ) → read text ≡ Ok (value, byte ∷ rest) → Stops Word text (length (byte ∷ rest))
+stops_after {V} {Word} {Tail} {read} r end text value byte rest e =
+    let f = r.found text value (byte ∷ rest) e in record {
+      good = f.word;
+      bad = byte ∷ rest;
+      whole = f.whole;
+      count = refl;
+      more = [];
+      value = value;
+      begins = subst (λ (u : List ℕ). Word u value) (sym (append-nil f.word)) f.is;
+      refused = λ other v e2 is.
+          let none = one_rest (read (f.word ++ other)) value v other [] (f.same other e2) (word_again r end (f.word ++ other) v is) in
+          nothing_is_next byte (sym (ap next none) ∙ e2);
+    }
+  where
+    nothing_is_next : (byte : ℕ) → ◌≡◌ {A = Option ℕ} None (Some byte) → ⊥
+    nothing_is_next byte e = cc

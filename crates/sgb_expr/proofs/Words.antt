@@ -1,10 +1,11 @@
 -- Readers of fixed words, and of one among several.
-use Rattle.std.proofs.Common.{◌≡◌, ◌≢◌, ℕ, zero, suc, ◌+◌, ◌-◌, ◌<◌, ◌≤◌, ◌⊎◌, ◌==◌, ◌&&◌, Bool, true, false, if◌then◌else◌,  List, [], ◌∷◌, ◌++◌, length, Option, Some, None, Result, Ok, Err, refl, sym, ◌∙◌, ap, subst, inl, inr, append_assoc, append-nil, arith, length-append, min}
+use Rattle.std.proofs.Common.{◌≡◌, ◌≢◌, ℕ, ◌+◌, ◌-◌, ◌<◌, ◌≤◌, ◌⊎◌, ◌==◌, ◌&&◌, Bool, true, false, if◌then◌else◌, List, [], ◌∷◌, ◌++◌, length, Some, Result, Ok, Err, refl, sym, ◌∙◌, ap, subst, inl, inr, arith, length-append, min, nat_eq, drop}
 use Rattle.std.proofs.Math.Path.{fun_ext}
+use Rattle.std.specs.List.{common_prefix_len}
 use Rattle.std.proofs.lemmas.Bool.Decides.{eqb_tells}
 use Rattle.std.proofs.lemmas.Bool.{eq-eqb}
 use Rattle.sgb_expr.specs.Readings.{◌>>=◌, either, fixed_at, fixed_as, word_at}
-use Rattle.sgb_expr.proofs.Readers.{next, Found, Wrong, Reads, Or, bind_ok, bind_err, bind_of, bind_stops, ok_same, reads_or}
+use Rattle.sgb_expr.proofs.Readers.{next, Reads, bind_of, bind_stops, ok_same, either_wrong, reads_or}
 
 -- a byte read again
 fixed_step : (byte : ℕ) (bytes text : List ℕ) → fixed_at (byte ∷ bytes) (byte ∷ text) ≡ fixed_at bytes text
@@ -50,19 +51,26 @@ fixed_cases (byte ∷ bytes) [] = inr (0, refl, record { good = []; byte = byte;
 fixed_cases (byte ∷ bytes) (other ∷ text) = elim (eqb_tells byte other) [
   | inl h ↦ elim (fixed_cases bytes text) [
     | inl r ↦ inl (r.0, subst (λ (c : ℕ). fixed_at (byte ∷ bytes) (c ∷ text) ≡ Ok r.0) h.1 (fixed_step byte bytes text ∙ r.1), (cc (h.1, r.2)))
-    | inr p ↦ inr (p.0, subst (λ (c : ℕ). fixed_at (byte ∷ bytes) (c ∷ text) ≡ Err p.0) h.1 (fixed_step byte bytes text ∙ p.1),
-        subst (λ (c : ℕ). Parts (byte ∷ bytes) (c ∷ text) p.0) h.1 (parts_later byte bytes text p.0 p.2))
+    | inr p ↦ inr (
+      p.0,
+      subst (λ (c : ℕ). fixed_at (byte ∷ bytes) (c ∷ text) ≡ Err p.0) h.1 (fixed_step byte bytes text ∙ p.1),
+      subst (λ (c : ℕ). Parts (byte ∷ bytes) (c ∷ text) p.0) h.1 (parts_later byte bytes text p.0 p.2),
+    )
   ]
-  | inr h ↦ inr (length (other ∷ text), fixed_other byte other bytes text h.0, record {
-    good = [];
-    byte = byte;
-    more = bytes;
-    bad = other ∷ text;
-    bytes_are = refl;
-    whole = refl;
-    count = refl;
-    other = λ e. h.1 (cc (e));
-  })
+  | inr h ↦ inr (
+    length (other ∷ text),
+    fixed_other byte other bytes text h.0,
+    record {
+      good = [];
+      byte = byte;
+      more = bytes;
+      bad = other ∷ text;
+      bytes_are = refl;
+      whole = refl;
+      count = refl;
+      other = λ e. h.1 (cc (e));
+    },
+  )
 ]
 
 -- what parts from the bytes after the same beginning is not read
@@ -118,7 +126,7 @@ reads_fixed {V} value bytes = record {
           begins = (sym p.2.bytes_are, refl);
           same = λ other e2.
               let stops : fixed_at bytes (p.2.good ++ other) ≡ Err (length other) =
-                  ap (λ (b : List ℕ). fixed_at b (p.2.good ++ other)) p.2.bytes_are ∙ fixed_stops p.2.good p.2.more other p.2.byte (λ h. p.2.other (sym e2 ∙ h)) in
+              ap (λ (b : List ℕ). fixed_at b (p.2.good ++ other)) p.2.bytes_are ∙ fixed_stops p.2.good p.2.more other p.2.byte (λ h. p.2.other (sym e2 ∙ h)) in
               bind_stops (fixed_at bytes (p.2.good ++ other)) (λ u. Ok (value, u)) (length other) stops;
         }
   ];
@@ -201,3 +209,75 @@ reads_words word [] e = reads_same (last_word word) (reads_fixed word.1 word.0)
 reads_words word (other ∷ words) e =
     let t = both_true (parts_from word.0 (other ∷ words)) (are_apart (other ∷ words)) e in
     reads_or (reads_fixed word.1 word.0) (reads_words other words t.1) (λ u tail v w. parts_stops_all word.1 v word.0 u tail (other ∷ words) t.0 w) (λ tail h. h)
+
+-- where the bytes and the text part, as a length
+pub fixed_parts : (bytes text : List ℕ) → common_prefix_len nat_eq bytes text < length bytes → fixed_at bytes text ≡ Err (length text - common_prefix_len nat_eq bytes text)
+fixed_parts [] text h = absurd (omega (arith, h))
+fixed_parts (byte ∷ bytes) [] h = refl
+fixed_parts (byte ∷ bytes) (other ∷ text) h = elim (eqb_tells byte other) [
+  | inl e ↦
+      let one : common_prefix_len nat_eq (byte ∷ bytes) (other ∷ text) ≡ 1 + common_prefix_len nat_eq bytes text = rw e.0 refl in
+      let below : common_prefix_len nat_eq bytes text < length bytes = omega (arith, h, one) in
+      subst (λ (c : ℕ). fixed_at (byte ∷ bytes) (c ∷ text) ≡ Err (length (c ∷ text) - common_prefix_len nat_eq (byte ∷ bytes) (other ∷ text))) e.1
+      (fixed_step byte bytes text ∙ fixed_parts bytes text below ∙ ap Err (omega (arith, one)))
+  | inr e ↦
+      let none : common_prefix_len nat_eq (byte ∷ bytes) (other ∷ text) ≡ 0 = rw e.0 refl in
+      fixed_other byte other bytes text e.0 ∙ ap Err (omega (arith, none))
+]
+
+-- where the text begins with the bytes
+pub fixed_reads : (bytes text : List ℕ) → length bytes ≤ common_prefix_len nat_eq bytes text → fixed_at bytes text ≡ Ok (drop (length bytes) text)
+fixed_reads [] text h = refl
+fixed_reads (byte ∷ bytes) [] h = absurd (omega (arith, h))
+fixed_reads (byte ∷ bytes) (other ∷ text) h = elim (eqb_tells byte other) [
+  | inl e ↦
+      let one : common_prefix_len nat_eq (byte ∷ bytes) (other ∷ text) ≡ 1 + common_prefix_len nat_eq bytes text = rw e.0 refl in
+      let above : length bytes ≤ common_prefix_len nat_eq bytes text = omega (arith, h, one) in
+      subst (λ (c : ℕ). fixed_at (byte ∷ bytes) (c ∷ text) ≡ Ok (drop (length bytes) text)) e.1 (fixed_step byte bytes text ∙ fixed_reads bytes text above)
+  | inr e ↦
+      let none : common_prefix_len nat_eq (byte ∷ bytes) (other ∷ text) ≡ 0 = rw e.0 refl in
+      absurd (omega (arith, h, none))
+]
+
+-- a fixed text stops within the text
+fixed_within : {V : Type 0} (value : V) (bytes text : List ℕ) (left : ℕ) → fixed_as value bytes text ≡ Err left → left ≤ length text
+fixed_within {V} value bytes text left e = elim (fixed_cases bytes text) [
+  | inl r ↦ absurd (no_ok (sym e ∙ bind_of (fixed_at bytes text) (λ u. Ok (value, u)) r.0 r.1))
+  | inr p ↦
+      let same : p.0 ≡ left = err_same p.0 left (sym (bind_stops (fixed_at bytes text) (λ u. Ok (value, u)) p.0 p.1) ∙ e) in
+      omega (arith, same, p.2.count, ap length p.2.whole, length-append p.2.good p.2.bad)
+]
+
+-- words stop within the text
+word_within : {V : Type 0} (words : List (List ℕ × V)) (text : List ℕ) (left : ℕ) → word_at words text ≡ Err left → left ≤ length text
+word_within [] text left e = let same = err_same (length text) left e in omega (arith, same)
+word_within (word ∷ words) text left e =
+    let h = either_wrong (fixed_as word.1 word.0 text) (word_at words text) left e in
+    let first = fixed_within word.1 word.0 text h.0 h.2 in
+    omega (arith, first, h.4)
+
+-- a text may go wrong no earlier than at its beginning
+from_beginning : {V : Type 0} (text : List ℕ) (r : Result V ℕ) → ((left : ℕ) → r ≡ Err left → left ≤ length text) → either (Err (length text)) r ≡ r
+from_beginning text (Ok x) h = refl
+from_beginning text (Err left) h = ap Err (let within = h left refl in omega (arith, within))
+
+pub word_begins : {V : Type 0} (words : List (List ℕ × V)) (text : List ℕ) → either (Err (length text)) (word_at words text) ≡ word_at words text
+word_begins words text = from_beginning text (word_at words text) (λ left e. word_within words text left e)
+
+-- two places and what else is read
+either_twice : {A : Type 0} (a b : ℕ) (r : Result A ℕ) → either (Err a) (either (Err b) r) ≡ either (Err (min a b)) r
+either_twice a b (Ok x) = refl
+either_twice a b (Err c) = ap Err (omega arith)
+
+-- one word was not read
+pub word_passed : {V : Type 0} (value : V) (bytes text : List ℕ) (words : List (List ℕ × V)) (left other : ℕ) (all : Result (V × List ℕ) ℕ) → fixed_at bytes text ≡ Err other
+    → either (Err left) (word_at ((bytes, value) ∷ words) text) ≡ all → either (Err (min left other)) (word_at words text) ≡ all
+word_passed {V} value bytes text words left other all e h =
+    sym (either_twice left other (word_at words text))
+    ∙ ap (λ (r : Result (V × List ℕ) ℕ). either (Err left) (either r (word_at words text))) (sym (bind_stops (fixed_at bytes text) (λ u. Ok (value, u)) other e)) ∙ h
+
+-- one word was read
+pub word_found : {V : Type 0} (value : V) (bytes text rest : List ℕ) (words : List (List ℕ × V)) (left : ℕ) (all : Result (V × List ℕ) ℕ) → fixed_at bytes text ≡ Ok rest
+    → either (Err left) (word_at ((bytes, value) ∷ words) text) ≡ all → all ≡ Ok (value, rest)
+word_found {V} value bytes text rest words left all e h =
+    sym h ∙ ap (λ (r : Result (V × List ℕ) ℕ). either (Err left) (either r (word_at words text))) (bind_of (fixed_at bytes text) (λ u. Ok (value, u)) rest e)

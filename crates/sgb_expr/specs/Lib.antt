@@ -1,3 +1,8 @@
 -- What the contracts of sgb_expr speak of.
 pub mod Numbers
+pub mod Names
+pub mod Forms
+pub mod Expressions
 pub mod Readings
+pub mod Reading
+pub mod Gives

@@ -1,9 +1,8 @@
 -- What reading from the beginning of a text returns: a value and the text after it, or how many bytes are left where
 -- the text goes wrong.
-use Rattle.std.specs.Prelude.{ℕ, ℤ, pos, neg_ℤ, codes, ◌==◌, List, [], ◌∷◌, length, min, Result, Ok, Err, if◌then◌else◌, take, drop}
-use Rattle.std.specs.Char.{is_digit}
-use Rattle.std.specs.List.{take_while}
+use Rattle.std.specs.Prelude.{ℕ, zero, suc, ℤ, pos, neg_ℤ, codes, ◌==◌, List, [], ◌∷◌, length, min, Result, Ok, Err, if◌then◌else◌, drop}
 use Rattle.std.specs.Str.Parse.{digits_value}
+use Rattle.sgb_vec.specs.Digits.{leading_digits}
 use Rattle.sgb_expr.specs.Numbers.{most_digits, most_hex_digits}
 
 -- reading goes on with what was read
@@ -33,10 +32,6 @@ abbrev pub word_at : {V : Type 0} → List (List ℕ × V) → List ℕ → Resu
 word_at [] text = Err (length text)
 word_at (word ∷ words) text = either (fixed_as word.1 word.0 text) (word_at words text)
 
--- the digits in the radix with which the text begins, so many at most
-abbrev pub leading_digits : ℕ → ℕ → List ℕ → List ℕ
-leading_digits radix most text = take_while (λ byte. is_digit byte radix) (take most text)
-
 -- the number that these digits write, with which the text begins
 abbrev pub number_of : ℕ → List ℕ → List ℕ → Result (ℕ × List ℕ) ℕ
 number_of radix [] text = Err (length text)
@@ -62,3 +57,17 @@ bits_after (Err left) text = number_at 10 most_digits text
 -- the bits with which the text begins
 abbrev pub bits_at : List ℕ → Result (ℕ × List ℕ) ℕ
 bits_at text = bits_after (fixed_at (codes "0x") text) text
+
+-- what stands before the integer with this place
+abbrev pub separator_before : ℕ → List ℕ → List ℕ
+separator_before zero first = first
+separator_before (suc place) first = codes ","
+
+-- n integers, each after a separator, which is `,` from the second on, and then this end
+abbrev pub integers_at : List ℕ → ℕ → List ℕ → List ℕ → Result (List ℤ × List ℕ) ℕ
+integers_at separator zero end text = fixed_at end text >>= λ rest. Ok ([], rest)
+integers_at separator (suc n) end text =
+    fixed_at separator text >>= λ begun.
+    integer_at begun >>= λ first.
+    integers_at (codes ",") n end first.1 >>= λ others.
+    Ok (first.0 ∷ others.0, others.1)

@@ -1,8 +1,8 @@
 //! The expressions that name graphs, in GraphBase's official names, and reading them from their texts.
 #![tactic(auto)]
 
-pub mod expressions;
 mod arguments;
+pub mod expressions;
 mod measure;
 mod names;
 mod numbers;

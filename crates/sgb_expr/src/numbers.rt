@@ -1,8 +1,8 @@
 //! Fixed texts, integers and bits at the beginning of a text.
-ghost use Rattle.std.specs.Prelude.{◌≡◌, ◌≤◌, ◌<◌, ◌^◌, IfOk, length, nat_abs, nat_eq};
+ghost use Rattle.std.specs.Prelude.{◌≡◌, ◌≤◌, ◌<◌, ◌^◌, EachIndex, IfOk, length, nat_abs, nat_eq, pos, slice_index_or};
 ghost use Rattle.std.specs.List.{common_prefix_len};
 ghost use Rattle.sgb_expr.specs.Gives.{Gives};
-ghost use Rattle.sgb_expr.specs.Readings.{bits_at, fixed_at, integer_at, number_at, numbers_at};
+ghost use Rattle.sgb_expr.specs.Readings.{bits_at, fixed_at, integer_at, number_at, integers_at, separator_before};
 
 use crate::wrong::Wrong;
 use sgb_vec::{digits_value, leading_digits};
@@ -83,18 +83,30 @@ pub(crate) fn bits(text: &[u8]) -> Result<(u64, &[u8]), Wrong>
     }
 }
 
-/// N integers, each after a separator, which is `,` from the second on, and `)` after the last; or where the text
-/// goes wrong.
-pub(crate) fn numbers<'a, const N: usize>(separator: &[u8], text: &'a [u8]) -> Result<([i64; N], &'a [u8]), Wrong>
-    ensures read { Gives (λ x. (x.0, x.1.now)) result (numbers_at separator.now N text.entry.now) }
+/// N integers, each after a separator, which is `,` from the second on, and then this end; or where the text goes
+/// wrong.
+pub(crate) fn integers<'a, const N: usize>(
+    separator: &[u8],
+    text: &'a [u8],
+    end: &[u8],
+) -> Result<([i64; N], &'a [u8]), Wrong>
+    ensures read { Gives (λ x. (x.0, x.1.now)) result (integers_at separator.now N end.now text.entry.now) }
+    ensures bound { IfOk result (λ x. EachIndex x.0 (λ k. nat_abs (slice_index_or x.0 k (pos 0)) < 10 ^ 18)) }
 {
     let mut numbers = [0; N];
     let mut rest = text;
     for place in 0..N {
-        let begin = if place == 0 { separator } else { b"," };
-        let (value, after) = integer(fixed(begin, rest)?)?;
+        let begun = fixed(separator_before(place, separator), rest)?;
+        let (value, after) = integer(begun)?;
         numbers[place] = value;
         rest = after;
     }
-    Ok((numbers, fixed(b")", rest)?))
+    Ok((numbers, fixed(end, rest)?))
+}
+
+// What stands before the integer with this place: the separator before the first, else `,`.
+fn separator_before<'a>(place: usize, first: &'a [u8]) -> &'a [u8]
+    ensures { result.now ≡ separator_before place first.entry.now }
+{
+    if place == 0 { first } else { b"," }
 }

@@ -1,0 +1,9 @@
+use Rattle.std.proofs.Common.{◌≡◌, ◌≤◌, length, drop, map, Err}
+use Rattle.sgb_expr.specs.Names.{all_names, opening_of, openings}
+use Rattle.sgb_expr.specs.Readings.{either, word_at}
+use Rattle.sgb_expr.proofs.names.opening.Given as goal
+
+abbrev pub invariant-loop-name : goal.invariant-loop-name
+invariant-loop-name l =
+    (l.left ≤ length l.text)
+    × (either (Err l.left) (word_at (map (λ name. (opening_of name, name)) (drop l.name-index all_names)) l.text) ≡ word_at openings l.text)

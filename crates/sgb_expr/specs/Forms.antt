@@ -1,0 +1,100 @@
+-- What the forms of expressions mean: the arguments of each, and the graph that they name.
+use Rattle.std.specs.Prelude.{◌≡◌, ℕ, ℤ, pos, negsuc, zero, suc, Bool, true, false, List, [], ◌∷◌, ◌++◌, codes}
+use Rattle.std.specs.List.{slice_index_or}
+use Rattle.sgb_gen.specs.Shorthands.{complete, transitive, empty, circuit, cycle, disjoint_subsets, petersen}
+use Rattle.sgb_gen.specs.declared.params.BoardParams.{BoardParams}
+use Rattle.sgb_gen.specs.declared.params.SimplexParams.{SimplexParams}
+use Rattle.sgb_gen.specs.declared.params.SubsetsParams.{SubsetsParams}
+use Rattle.sgb_expr.specs.Numbers.{IsInteger, IsBits}
+use Rattle.sgb_expr.specs.declared.expressions.Expr.{Expr}
+use Rattle.sgb_expr.specs.declared.expressions.Expr.TheVariants as expr
+use Rattle.sgb_expr.specs.declared.expressions.Family.TheVariants as family
+use Rattle.sgb_expr.specs.declared.names.Name.{Name}
+use Rattle.sgb_expr.specs.declared.names.Name.TheVariants.{Board, Simplex, Subsets, Complete, Transitive, Empty, Circuit, Cycle, DisjointSubsets, Petersen}
+
+-- an integer taken as a flag: true where it is not zero
+abbrev pub flag_of : ℤ → Bool
+flag_of (pos zero) = false
+flag_of (pos (suc n)) = true
+flag_of (negsuc n) = true
+
+-- integer number k of some, counted from 0
+abbrev pub number_of : List ℤ → ℕ → ℤ
+number_of numbers k = slice_index_or numbers k (pos 0)
+
+-- board(n1,n2,n3,n4,piece,wrap,directed)
+abbrev pub board_of : List ℤ → BoardParams
+board_of numbers = record {
+  n1 = number_of numbers 0;
+  n2 = number_of numbers 1;
+  n3 = number_of numbers 2;
+  n4 = number_of numbers 3;
+  piece = number_of numbers 4;
+  wrap = number_of numbers 5;
+  directed = flag_of (number_of numbers 6);
+}
+
+-- simplex(n,n0,n1,n2,n3,n4,directed)
+abbrev pub simplex_of : List ℤ → SimplexParams
+simplex_of numbers = record {
+  n = number_of numbers 0;
+  n0 = number_of numbers 1;
+  n1 = number_of numbers 2;
+  n2 = number_of numbers 3;
+  n3 = number_of numbers 4;
+  n4 = number_of numbers 5;
+  directed = flag_of (number_of numbers 6);
+}
+
+-- subsets(n,n0,n1,n2,n3,n4,size_bits,directed)
+abbrev pub subsets_of : List ℤ → ℕ → ℤ → SubsetsParams
+subsets_of numbers size_bits directed = record {
+  n = number_of numbers 0;
+  n0 = number_of numbers 1;
+  n1 = number_of numbers 2;
+  n2 = number_of numbers 3;
+  n3 = number_of numbers 4;
+  n4 = number_of numbers 5;
+  size_bits = size_bits;
+  directed = flag_of directed;
+}
+
+-- n integers, each after a separator, which is `,` from the second on, and then this end
+abbrev pub AreNumbers : List ℕ → ℕ → List ℕ → List ℕ → List ℤ → Type 0
+AreNumbers separator zero end text numbers = (text ≡ end) × (numbers ≡ [])
+AreNumbers separator (suc n) end text numbers =
+    (integer rest : List ℕ) × (first : ℤ) × (others : List ℤ)
+    × (text ≡ separator ++ integer ++ rest) × IsInteger integer first
+    × AreNumbers (codes ",") n end rest others × (numbers ≡ first ∷ others)
+
+-- n integers in an argument list, to its `)`
+abbrev pub AreArguments : ℕ → List ℕ → List ℤ → Type 0
+AreArguments n = AreNumbers [] n (codes ")")
+
+-- a board, a simplex, subsets as an expression
+abbrev pub a_board : BoardParams → Expr
+a_board p = expr.Family (family.Board p)
+
+abbrev pub a_simplex : SimplexParams → Expr
+a_simplex p = expr.Family (family.Simplex p)
+
+abbrev pub a_subsets : SubsetsParams → Expr
+a_subsets p = expr.Family (family.Subsets p)
+
+-- the text is the arguments of the form of this name, to its `)`, and with them it names this graph
+abbrev pub Names : Name → List ℕ → Expr → Type 0
+Names Board text e = (numbers : List ℤ) × AreArguments 7 text numbers × (e ≡ a_board (board_of numbers))
+Names Simplex text e = (numbers : List ℤ) × AreArguments 7 text numbers × (e ≡ a_simplex (simplex_of numbers))
+Names Subsets text e =
+    (numbers : List ℤ) × (size_bits : ℕ) × (directed : List ℤ) × (first bits last : List ℕ)
+    × (text ≡ first ++ bits ++ last) × AreNumbers [] 6 (codes ",") first numbers × IsBits bits size_bits
+    × AreNumbers (codes ",") 1 (codes ")") last directed × (e ≡ a_subsets (subsets_of numbers size_bits (number_of directed 0)))
+Names Complete text e = (numbers : List ℤ) × AreArguments 1 text numbers × (e ≡ a_board (complete (number_of numbers 0)))
+Names Transitive text e = (numbers : List ℤ) × AreArguments 1 text numbers × (e ≡ a_board (transitive (number_of numbers 0)))
+Names Empty text e = (numbers : List ℤ) × AreArguments 1 text numbers × (e ≡ a_board (empty (number_of numbers 0)))
+Names Circuit text e = (numbers : List ℤ) × AreArguments 1 text numbers × (e ≡ a_board (circuit (number_of numbers 0)))
+Names Cycle text e = (numbers : List ℤ) × AreArguments 1 text numbers × (e ≡ a_board (cycle (number_of numbers 0)))
+Names DisjointSubsets text e =
+    (numbers : List ℤ) × AreArguments 2 text numbers
+    × (e ≡ a_subsets (disjoint_subsets (number_of numbers 0) (number_of numbers 1)))
+Names Petersen text e = (numbers : List ℤ) × AreArguments 0 text numbers × (e ≡ a_subsets petersen)

@@ -1,0 +1,84 @@
+//! The expressions that name a graph, and reading them.
+ghost use Rattle.std.specs.Prelude.{◌≡◌, IfOk, List, ℕ};
+ghost use Rattle.sgb_expr.specs.Expressions.{IsExpression, IsReadAs};
+ghost use Rattle.sgb_expr.specs.Gives.{Gives};
+ghost use Rattle.sgb_expr.specs.Reading.{expression_at, whole_at};
+
+use crate::arguments::arguments;
+use crate::measure::is_too_large;
+use crate::names::opening;
+use crate::wrong::Wrong;
+use sgb_gen::{BoardParams, SimplexParams, SubsetsParams};
+use std::alloc::Global;
+
+/// A graph of one of the three generators, by its parameters.
+#[derive(Clone, Copy, Debug, PartialEq, Eq)]
+pub enum Family {
+    Board(BoardParams),
+    Simplex(SimplexParams),
+    Subsets(SubsetsParams),
+}
+
+/// An expression that names a graph.
+#[derive(Clone, Copy, Debug, PartialEq, Eq)]
+pub enum Expr {
+    /// A graph of a generator.
+    Family(Family),
+}
+
+/// Why a text is not read as an expression.
+#[derive(Clone, Copy, Debug, PartialEq, Eq)]
+pub enum Unread {
+    /// It has more than 65,536 bytes, or some prefix of it has over 64 more `(` than `)`.
+    TooLarge,
+    /// It is no expression; its longest prefix that begins one has this many bytes.
+    At(u32),
+    /// Out of memory.
+    NoRoom,
+}
+
+/// The expression that the text is: one of GraphBase's official names and, in parentheses, its arguments with commas
+/// between them (GB_BASIC, board, simplex, subsets and their special cases), with no spaces. `size_bits` is 1 to 18
+/// digits, or `0x` and 1 to 16 hexadecimal ones; each other argument is an optional `-` and 1 to 18 digits. A short
+/// name is read as the parameters that it stands for.
+///
+/// `TooLarge` before all else where the text has more than 65,536 bytes, or some prefix of it has over 64 more `(`
+/// than `)`. `At(k)` where it is no expression; its first k bytes are its longest prefix that begins one. `NoRoom`
+/// when out of memory.
+pub fn read_expr(alloc: Global, text: &[u8]) -> Result<Expr, Unread>
+    ensures read { IsReadAs text.now result }
+    ensures only { (e : Expr) → IsExpression text.now e → IfOk result (λ read. read ≡ e) }
+{
+    let _ = alloc;
+    if is_too_large(text) {
+        return Err(Unread::TooLarge);
+    }
+    match whole(text) {
+        Ok(expression) => Ok(expression),
+        Err(Wrong::Left(left)) => Err(Unread::At((text.len() - left) as u32)),
+        Err(Wrong::NoRoom) => Err(Unread::NoRoom),
+    }
+}
+
+// The expression that the whole text is, or where it goes wrong.
+fn whole(text: &[u8]) -> Result<Expr, Wrong>
+    ensures { Gives (λ e. e) result (whole_at text.now) }
+{
+    let (expression, rest) = expression(text)?;
+    if rest.is_empty() {
+        Ok(expression)
+    } else {
+        Err(Wrong::Left(rest.len()))
+    }
+}
+
+// The expression with which the text begins, or where the text goes wrong.
+fn expression(text: &[u8]) -> Result<(Expr, &[u8]), Wrong>
+    ensures { Gives (λ x. (x.0, x.1.now)) result (expression_at text.now) }
+{
+    let (name, rest) = opening(text)?;
+    arguments(name, rest)
+}
+
+#[cfg(test)]
+mod tests;

@@ -1,0 +1,267 @@
+use super::*;
+use std::test::Fail;
+
+/// The board with these numbers.
+fn board(numbers: [i64; 6], directed: bool) -> Result<Expr, Unread> {
+    let [n1, n2, n3, n4, piece, wrap] = numbers;
+    Ok(Expr::Family(Family::Board(BoardParams {
+        n1,
+        n2,
+        n3,
+        n4,
+        piece,
+        wrap,
+        directed,
+    })))
+}
+
+/// The fault of a text with a longest prefix of so many bytes.
+fn bad(at: u32) -> Result<Expr, Unread> {
+    Err(Unread::At(at))
+}
+
+#[test]
+fn boards_are_read(rt: HostRuntime) {
+    let longest = 999_999_999_999_999_999;
+    for (text, want) in [
+        ("board(2,3,0,0,1,0,0)", board([2, 3, 0, 0, 1, 0], false)),
+        ("board(2,3,5,-7,1,0,0)", board([2, 3, 5, -7, 1, 0], false)),
+        (
+            "board(007,-0,-00,0,1,0,-000)",
+            board([7, 0, 0, 0, 1, 0], false),
+        ),
+        ("board(1,2,3,4,5,6,1)", board([1, 2, 3, 4, 5, 6], true)),
+        ("board(1,2,3,4,5,6,2)", board([1, 2, 3, 4, 5, 6], true)),
+        ("board(1,2,3,4,5,6,-5)", board([1, 2, 3, 4, 5, 6], true)),
+        (
+            "board(999999999999999999,-999999999999999999,0,0,0,0,0)",
+            board([longest, -longest, 0, 0, 0, 0], false),
+        ),
+    ] {
+        assert_eq!(rt; read_expr(rt.alloc(), text.as_bytes()), want, "at {text}");
+    }
+}
+
+#[test]
+fn other_texts_go_wrong_somewhere(rt: HostRuntime) {
+    for (text, want) in [
+        ("", 0),
+        ("x", 0),
+        ("boar", 4),
+        ("boards(1)", 5),
+        (" board(1,2,3,4,5,6,7)", 0),
+        ("board()", 6),
+        ("board(,", 6),
+        ("board(-", 7),
+        ("board(-,", 7),
+        ("board(--1,", 7),
+        ("board(+1,", 6),
+        ("board(3,", 8),
+        ("board(3 ,", 7),
+        ("board(3,4)", 9),
+        ("board(1234567890123456789,0,0,0,0,0,0)", 24),
+        ("board(-1234567890123456789,0,0,0,0,0,0)", 25),
+        ("board(1,2,3,4,5,6,7", 19),
+        ("board(1,2,3,4,5,6,7,", 19),
+        ("board(1,2,3,4,5,6,7)x", 20),
+        ("board(1,2,3,4,5,6,7))", 20),
+    ] {
+        assert_eq!(rt;
+            read_expr(rt.alloc(), text.as_bytes()),
+            bad(want),
+            "at {text}"
+        );
+    }
+}
+
+/// The subsets with these numbers and bits.
+fn subsets(numbers: [i64; 6], size_bits: u64, directed: bool) -> Result<Expr, Unread> {
+    let [n, n0, n1, n2, n3, n4] = numbers;
+    Ok(Expr::Family(Family::Subsets(SubsetsParams {
+        n,
+        n0,
+        n1,
+        n2,
+        n3,
+        n4,
+        size_bits,
+        directed,
+    })))
+}
+
+#[test]
+fn each_form_is_read(rt: HostRuntime) {
+    for (text, want) in [
+        (
+            "simplex(2,0,0,0,0,0,1)",
+            Expr::Family(Family::Simplex(SimplexParams {
+                n: 2,
+                n0: 0,
+                n1: 0,
+                n2: 0,
+                n3: 0,
+                n4: 0,
+                directed: true,
+            })),
+        ),
+        (
+            "simplex(10,-3,4,5,6,7,0)",
+            Expr::Family(Family::Simplex(SimplexParams {
+                n: 10,
+                n0: -3,
+                n1: 4,
+                n2: 5,
+                n3: 6,
+                n4: 7,
+                directed: false,
+            })),
+        ),
+    ] {
+        assert_eq!(rt;
+            read_expr(rt.alloc(), text.as_bytes()),
+            Ok(want),
+            "at {text}"
+        );
+    }
+}
+
+#[test]
+fn a_short_name_is_read_as_what_it_stands_for(rt: HostRuntime) {
+    let pairs = [
+        ("complete(3)", "board(3,0,0,0,-1,0,0)"),
+        ("transitive(-4)", "board(-4,0,0,0,-1,0,1)"),
+        ("empty(0)", "board(0,0,0,0,2,0,0)"),
+        ("circuit(007)", "board(7,0,0,0,1,1,0)"),
+        ("cycle(12)", "board(12,0,0,0,1,1,1)"),
+        ("disjoint_subsets(5,2)", "subsets(2,1,-4,0,0,0,1,0)"),
+        (
+            "disjoint_subsets(-999999999999999998,3)",
+            "subsets(3,1,999999999999999999,0,0,0,1,0)",
+        ),
+        ("petersen()", "subsets(2,1,-4,0,0,0,1,0)"),
+    ];
+    for (short, long) in pairs {
+        let read = read_expr(rt.alloc(), short.as_bytes());
+        assert!(rt; read.is_ok(), "at {short}");
+        assert_eq!(rt; read, read_expr(rt.alloc(), long.as_bytes()), "at {short}");
+    }
+}
+
+#[test]
+fn bits_are_decimal_or_hexadecimal(rt: HostRuntime) {
+    let small = [3, 2, 2, 2, 0, 0];
+    for (text, want) in [
+        ("subsets(3,2,2,2,0,0,3,0)", subsets(small, 3, false)),
+        ("subsets(3,2,2,2,0,0,0x3,0)", subsets(small, 3, false)),
+        ("subsets(3,2,2,2,0,0,0,1)", subsets(small, 0, true)),
+        ("subsets(3,2,2,2,0,0,010,-1)", subsets(small, 10, true)),
+        (
+            "subsets(3,2,2,2,0,0,0xABcdef,0)",
+            subsets(small, 11_259_375, false),
+        ),
+        (
+            "subsets(3,2,2,2,0,0,0x000000000000000a,0)",
+            subsets(small, 10, false),
+        ),
+        (
+            "subsets(3,2,2,2,0,0,999999999999999999,0)",
+            subsets(small, 999_999_999_999_999_999, false),
+        ),
+        (
+            "subsets(3,2,2,2,0,0,0xffffffffffffffff,0)",
+            subsets(small, 18_446_744_073_709_551_615, false),
+        ),
+        (
+            "subsets(-3,2,-2,2,0,9,0xFFFFFFFF,0)",
+            subsets([-3, 2, -2, 2, 0, 9], 4_294_967_295, false),
+        ),
+    ] {
+        assert_eq!(rt; read_expr(rt.alloc(), text.as_bytes()), want, "at {text}");
+    }
+}
+
+#[test]
+fn bad_bits_go_wrong_somewhere(rt: HostRuntime) {
+    for (text, want) in [
+        ("subsets(3,2,2,2,0,0,18446744073709551615,0)", 38),
+        ("subsets(3,2,2,2,0,0,0x", 22),
+        ("subsets(3,2,2,2,0,0,0x,", 22),
+        ("subsets(3,2,2,2,0,0,0x-1", 22),
+        ("subsets(3,2,2,2,0,0,0xg", 22),
+        ("subsets(3,2,2,2,0,0,0", 21),
+        ("subsets(3,2,2,2,0,0,00x1,0)", 22),
+        ("subsets(3,2,2,2,0,0,0X1,0)", 21),
+        ("subsets(3,2,2,2,0,0,x1,0)", 20),
+        ("subsets(3,2,2,2,0,0,ff,0)", 20),
+        ("subsets(3,2,2,2,0,0,1f,0)", 21),
+        ("subsets(3,2,2,2,0,0,-1,0)", 20),
+        ("subsets(3,2,2,2,0,0,,0)", 20),
+        ("subsets(3,2,2,2,0,0x3,3,0)", 19),
+        ("subsets(3,2,2,2,0,0,3,0x1)", 23),
+        ("subsets(3,2,2,2,0,0,3)", 21),
+        ("subsets(3,2,2,2,0,0,3,1,", 23),
+        ("subsets(64,64,64,0,0,0,0x10000000000000000,0)", 41),
+        ("subsets(64,64,64,0,0,0,0x00000000000000001,0)", 41),
+    ] {
+        assert_eq!(rt;
+            read_expr(rt.alloc(), text.as_bytes()),
+            bad(want),
+            "at {text}"
+        );
+    }
+}
+
+#[test]
+fn the_longest_prefix_is_that_of_some_form(rt: HostRuntime) {
+    for (text, want) in [
+        ("c", 1),
+        ("circle(3)", 4),
+        ("cyclo", 4),
+        ("cycles", 5),
+        ("com", 3),
+        ("compete(3)", 4),
+        ("complete(3", 10),
+        ("complete()", 9),
+        ("complete(3,4)", 10),
+        ("s", 1),
+        ("simple(3)", 6),
+        ("sumsets(3)", 2),
+        ("subset(3)", 6),
+        ("emptyx", 5),
+        ("empty", 5),
+        ("transitive(0x1)", 12),
+        ("disjoint_subsets(5)", 18),
+        ("disjoint-subsets(5,2)", 8),
+        ("petersen(1)", 9),
+        ("petersen", 8),
+        ("Petersen()", 0),
+        ("petersen() ", 10),
+    ] {
+        assert_eq!(rt;
+            read_expr(rt.alloc(), text.as_bytes()),
+            bad(want),
+            "at {text}"
+        );
+    }
+}
+
+#[test]
+fn large_texts_are_not_read(rt: HostRuntime) -> Result<(), Fail> {
+    let deep = [b'('; 65];
+    assert_eq!(rt; read_expr(rt.alloc(), &deep[..64]), bad(0));
+    assert_eq!(rt; read_expr(rt.alloc(), &deep), Err(Unread::TooLarge));
+
+    let mut closed_first = vec![in rt.alloc(); b')'; 70]?;
+    for _ in 0..134 {
+        closed_first.push(b'(')?;
+    }
+    assert_eq!(rt; read_expr(rt.alloc(), &closed_first), bad(0));
+    closed_first.push(b'(')?;
+    assert_eq!(rt; read_expr(rt.alloc(), &closed_first), Err(Unread::TooLarge));
+
+    let mut long = vec![in rt.alloc(); b'x'; 65_536]?;
+    assert_eq!(rt; read_expr(rt.alloc(), &long), bad(0));
+    long.push(b'x')?;
+    assert_eq!(rt; read_expr(rt.alloc(), &long), Err(Unread::TooLarge));
+    Ok(())
+}
