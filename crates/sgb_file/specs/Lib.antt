@@ -1,4 +1,5 @@
 -- What the contracts of sgb_file speak of.
+pub mod Devices
 pub mod Lines
 pub mod Checksum
 pub mod Fields

@@ -4,21 +4,21 @@ use Rattle.std.specs.Bool.{MatchBool}
 use Rattle.std.specs.Coded.{Coded, code_by, coded×, coded_bool}
 use Rattle.std.specs.Io.KnownBytes.{Appends}
 
--- known bytes grew by a front of bs, of whatever length
-abbrev pub AppendsFront : Option (List ℕ) → Option (List ℕ) → List ℕ → Type 0
-AppendsFront old new bs = (done rest : List ℕ) × (bs ≡ done ++ rest) × Appends old new done
+-- known bytes grew by a prefix of bs, of whatever length
+abbrev pub AppendsPrefix : Option (List ℕ) → Option (List ℕ) → List ℕ → Type 0
+AppendsPrefix old new bs = (done rest : List ℕ) × (bs ≡ done ++ rest) × Appends old new done
 
--- known bytes grew by bs, or by a front of bs where the sink has failed
+-- known bytes grew by bs, or by a prefix of bs where the sink has failed
 abbrev pub AppendsUnlessFailed : Bool → Option (List ℕ) → Option (List ℕ) → List ℕ → Type 0
-AppendsUnlessFailed failed old new bs = MatchBool failed (AppendsFront old new bs) (Appends old new bs)
+AppendsUnlessFailed failed old new bs = MatchBool failed (AppendsPrefix old new bs) (Appends old new bs)
 
--- all of bs was taken, or a front of it and the sink has failed
+-- all of bs was taken, or a prefix of it and the sink has failed
 abbrev pub IsPut : {T E : Type 0} → List ℕ → Option (List ℕ) → Option (List ℕ) → Bool → Result T E → Type 0
 IsPut bs old new failed (Ok x) = Appends old new bs
-IsPut bs old new failed (Err e) = AppendsFront old new bs × (failed ≡ true)
+IsPut bs old new failed (Err e) = AppendsPrefix old new bs × (failed ≡ true)
 
 -- a sink in memory: the bytes that it took, how many it has memory for, and whether it has failed
-pub record Kept : Type 0 where
+pub record MemSinkState : Type 0 where
   pub bytes : List ℕ
   pub room : ℕ
   pub failed : Bool
@@ -38,7 +38,7 @@ take_fails source = source.failed || source.left == 0
 abbrev pub take_count : CutSourceState → ℕ → ℕ
 take_count source room = min (min (min source.each source.left) (length source.bytes)) room
 
--- the source behind its next count bytes
+-- the source after its next count bytes
 abbrev pub after_take : CutSourceState → ℕ → CutSourceState
 after_take source count = record source { bytes = drop count source.bytes; left = source.left - count }
 
@@ -59,7 +59,7 @@ put_fails capacity sink = sink.failed || (sink.left == 0 || length sink.taken ==
 abbrev pub put_count : ℕ → CutSinkState → ℕ → ℕ
 put_count capacity sink offered = min (min (min sink.each sink.left) (capacity - length sink.taken)) offered
 
--- the sink with a front of these bytes
+-- the sink after it took a prefix of these bytes
 abbrev pub after_put : CutSinkState → List ℕ → ℕ → CutSinkState
 after_put sink bs count = record sink { taken = sink.taken ++ take count bs; left = sink.left - count }
 

@@ -34,7 +34,7 @@ pub trait Source {
     // Whether the source has failed.
     ghost has_failed: { Self → Bool };
 
-    /// Puts the next bytes at the front of `buffer` and answers how many: 0 in a buffer that is not empty
+    /// Puts the next bytes at the start of `buffer` and returns how many: 0 in a buffer that is not empty
     /// is the end. `Failed` exactly where `failed()` is true afterwards; nothing was then given.
     fn take(&mut self, buffer: &mut [u8]) -> Result<usize, Failed>
         ensures bound { ReadsAtMost result buffer.new }
@@ -55,7 +55,7 @@ pub trait Sink {
     // Whether the sink has failed.
     ghost has_failed: { Self → Bool };
 
-    /// Takes bytes from the front of `bytes` and answers how many: at least one of bytes that are not empty.
+    /// Takes a prefix of `bytes` and returns its length: at least one of bytes that are not empty.
     /// `Failed` exactly where `failed()` is true afterwards; nothing was then taken.
     fn put(&mut self, bytes: &[u8]) -> Result<usize, Failed>
         ensures bound { WritesAtMost result bytes.now }

@@ -17,7 +17,7 @@ pub struct ToWrite<W> {
 }
 
 impl<W> Model for ToWrite<W> {
-    ghost use Rattle.sgb.specs.Devices.{Adapted, adapted_code};
+    ghost use Rattle.sgb_file.specs.Devices.{Adapted, adapted_code};
 
     ghost Value = { Adapted W };
 

@@ -6,8 +6,8 @@ ghost use Rattle.std.specs.Result.{result_ok};
 use super::Failed;
 use std::io;
 
-/// Copies as many bytes as both have to the front of `to`, and answers how many.
-pub(super) fn copy_front(from: &[u8], to: &mut [u8]) -> usize
+/// Copies as many bytes as both have to the start of `to`, and returns how many.
+pub(super) fn copy_prefix(from: &[u8], to: &mut [u8]) -> usize
     ensures count { result ≡ min (length from.now) (length to.old) }
     ensures copied { to.new ≡ take result from.now ++ drop result to.old }
 {
@@ -25,7 +25,7 @@ pub(super) fn give_up<T>(failed: &mut bool) -> Result<T, Failed>
     Err(Failed)
 }
 
-/// The answer of a reader or writer; an error of any kind sets the flag.
+/// What a reader or writer returned; an error of any kind sets the flag.
 pub(super) fn keep_fault<T>(failed: &mut bool, answer: io::Result<T>) -> Result<T, Failed>
     ensures ok { result_ok result ≡ result_ok answer }
     ensures failed { failed.new ≡ (if is_ok answer then failed.old else true) }

@@ -17,7 +17,7 @@ pub struct FromRead<R> {
 }
 
 impl<R> Model for FromRead<R> {
-    ghost use Rattle.sgb.specs.Devices.{Adapted, adapted_code};
+    ghost use Rattle.sgb_file.specs.Devices.{Adapted, adapted_code};
 
     ghost Value = { Adapted R };
 

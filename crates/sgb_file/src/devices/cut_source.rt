@@ -3,9 +3,9 @@
 ghost use Rattle.std.specs.Prelude.{◌≡◌, ◌<◌, ◌++◌, true, false, Some, IfOk, OnErr, length, take, drop, is_err};
 ghost use Rattle.std.specs.Io.{ReadsAtMost};
 ghost use Rattle.std.specs.Io.KnownBytes.{ReadConsumes};
-ghost use Rattle.sgb.specs.Devices.{take_fails, take_count, after_take};
+ghost use Rattle.sgb_file.specs.Devices.{take_fails, take_count, after_take};
 
-use super::parts::{copy_front, give_up};
+use super::parts::{copy_prefix, give_up};
 use super::{Failed, Source};
 use std::marker::Model;
 
@@ -20,7 +20,7 @@ pub struct CutSource<'a> {
 
 impl<'a> Model for CutSource<'a> {
     ghost use Rattle.std.specs.Prelude.{◌<◌};
-    ghost use Rattle.sgb.specs.Devices.{CutSourceState};
+    ghost use Rattle.sgb_file.specs.Devices.{CutSourceState};
 
     ghost Value = { CutSourceState };
 
@@ -76,7 +76,7 @@ impl<'a> Source for CutSource<'a> {
         }
         let bytes = self.bytes;
         let most = self.each.min(self.left).min(bytes.len());
-        let count = copy_front(&bytes[..most], buffer);
+        let count = copy_prefix(&bytes[..most], buffer);
         self.bytes = &bytes[count..];
         self.left -= count;
         Ok(count)

@@ -4,7 +4,7 @@ ghost use Rattle.std.specs.Prelude.{◌≡◌, ◌+◌, ◌<◌, ◌++◌, [], t
 ghost use Rattle.std.specs.Io.{ReadsAtMost, WritesAtMost};
 ghost use Rattle.std.specs.Io.KnownBytes.{ReadConsumes, WriteAppends, Keeps};
 
-use super::parts::{copy_front, give_up};
+use super::parts::{copy_prefix, give_up};
 use super::{Failed, Sink, Source};
 use std::alloc::Global;
 use std::marker::Model;
@@ -48,7 +48,7 @@ impl<'a> Source for MemSource<'a> {
         ensures rest { IfOk result (λ count. self.new ≡ drop count self.old) }
     {
         let bytes = self.bytes;
-        let count = copy_front(bytes, buffer);
+        let count = copy_prefix(bytes, buffer);
         self.bytes = &bytes[count..];
         Ok(count)
     }
@@ -61,7 +61,7 @@ impl<'a> Source for MemSource<'a> {
     }
 }
 
-/// A sink that keeps all that it is given, and fails where memory for it is refused.
+/// A sink that keeps all that it is given, and fails when out of memory.
 #[derive(Drop)]
 pub struct MemSink {
     bytes: Vec<u8>,
@@ -70,9 +70,9 @@ pub struct MemSink {
 
 impl Model for MemSink {
     ghost use Rattle.std.specs.Vec.{vec_capacity};
-    ghost use Rattle.sgb.specs.Devices.{Kept};
+    ghost use Rattle.sgb_file.specs.Devices.{MemSinkState};
 
-    ghost Value = { Kept };
+    ghost Value = { MemSinkState };
 
     ghost view = { λ sink. record {
       bytes = sink.bytes.items;
@@ -106,7 +106,7 @@ impl Sink for MemSink {
 
     ghost has_failed = { λ sink. sink.failed };
 
-    /// Takes all of the bytes. `Failed` where the sink had failed, or memory was refused: nothing was taken then.
+    /// Takes all of the bytes. `Failed` where the sink had failed or when out of memory: nothing was taken then.
     fn put(&mut self, bytes: &[u8]) -> Result<usize, Failed>
         ensures bound { WritesAtMost result bytes.now }
         ensures progress { IfOk result (λ count. 0 < length bytes.now → 0 < count) }
@@ -138,7 +138,7 @@ impl Sink for MemSink {
         if self.failed { Err(Failed) } else { Ok(()) }
     }
 
-    /// Whether memory for a `put` was refused.
+    /// Whether a `put` was out of memory.
     fn failed(&self) -> bool
         ensures { result ≡ self.now.failed }
     {

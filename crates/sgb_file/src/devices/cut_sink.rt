@@ -3,7 +3,7 @@
 ghost use Rattle.std.specs.Prelude.{◌≡◌, ◌<◌, [], true, false, ◌||◌, Some, IfOk, OnErr, length, is_err};
 ghost use Rattle.std.specs.Io.{WritesAtMost};
 ghost use Rattle.std.specs.Io.KnownBytes.{WriteAppends, Keeps};
-ghost use Rattle.sgb.specs.Devices.{put_fails, put_count, after_put};
+ghost use Rattle.sgb_file.specs.Devices.{put_fails, put_count, after_put};
 
 use super::parts::give_up;
 use super::{Failed, Sink};
@@ -23,7 +23,7 @@ pub struct CutSink<const N: usize> {
 
 impl<const N: usize> Model for CutSink<N> {
     ghost use Rattle.std.specs.Prelude.{◌<◌};
-    ghost use Rattle.sgb.specs.Devices.{CutSinkState};
+    ghost use Rattle.sgb_file.specs.Devices.{CutSinkState};
 
     ghost Value = { CutSinkState };
 
@@ -71,7 +71,7 @@ impl<const N: usize> Sink for CutSink<N> {
 
     ghost has_failed = { λ sink. sink.failed };
 
-    /// Takes bytes from the front. `Failed` where the sink had failed, has taken its limit or is full.
+    /// Takes a prefix of `bytes`. `Failed` where the sink had failed, has taken its limit or is full.
     fn put(&mut self, bytes: &[u8]) -> Result<usize, Failed>
         ensures bound { WritesAtMost result bytes.now }
         ensures progress { IfOk result (λ count. 0 < length bytes.now → 0 < count) }

@@ -2,12 +2,12 @@
 use Rattle.std.proofs.Common.{◌≡◌, ◌≢◌, ℕ, ◌-◌, ◌≤◌, ◌<◌, Bool, true, false, List, ◌++◌, length, take, drop, refl, sym, ap, ◌∙◌, arith, append_assoc, take-append-drop, length-append, length-take-le}
 use Rattle.std.proofs.lemmas.List.{take_rest}
 
--- a front of what is left moves behind what is done
-pub moves_front : (all done rest : List ℕ) (n : ℕ) → all ≡ done ++ rest → all ≡ (done ++ take n rest) ++ take (length rest - n) (drop n rest)
-moves_front all done rest n e =
+-- a prefix of what is left moves after what is done
+pub moves_prefix : (all done rest : List ℕ) (n : ℕ) → all ≡ done ++ rest → all ≡ (done ++ take n rest) ++ take (length rest - n) (drop n rest)
+moves_prefix all done rest n e =
     e ∙ ap (λ l. done ++ l) (sym (take-append-drop n rest)) ∙ sym (append_assoc done (take n rest) (drop n rest)) ∙ ap (λ l. (done ++ take n rest) ++ l) (sym (take_rest rest n))
 
--- something is done where a front that is not empty was taken
+-- something is done where a prefix that is not empty was taken
 pub some_done : (done rest : List ℕ) (n : ℕ) → 0 < n → n ≤ length rest → length (done ++ take n rest) ≢ 0
 some_done done rest n some fits none =
     omega (arith, length-append done (take n rest), length-take-le n rest fits)
