@@ -1,6 +1,6 @@
 -- The lemmas and examples of sgb_file.
 pub mod ChecksumLemmas
-pub mod ReadingLemmas
+pub mod RestoringLemmas
 pub mod LayoutLemmas
 pub mod Examples
 pub mod PartialWrites

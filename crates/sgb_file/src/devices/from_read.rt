@@ -57,8 +57,8 @@ impl<R: Read> Source for FromRead<R> {
         if self.failed {
             return Err(Failed);
         }
-        let answer = self.reader.read(buffer);
-        keep_fault(&mut self.failed, answer)
+        let returned = self.reader.read(buffer);
+        keep_fault(&mut self.failed, returned)
     }
 
     /// Whether a read failed.

@@ -26,11 +26,11 @@ pub(super) fn give_up<T>(failed: &mut bool) -> Result<T, Failed>
 }
 
 /// What a reader or writer returned; an error of any kind sets the flag.
-pub(super) fn keep_fault<T>(failed: &mut bool, answer: io::Result<T>) -> Result<T, Failed>
-    ensures ok { result_ok result ≡ result_ok answer }
-    ensures failed { failed.new ≡ (if is_ok answer then failed.old else true) }
+pub(super) fn keep_fault<T>(failed: &mut bool, returned: io::Result<T>) -> Result<T, Failed>
+    ensures ok { result_ok result ≡ result_ok returned }
+    ensures failed { failed.new ≡ (if is_ok returned then failed.old else true) }
 {
-    match answer {
+    match returned {
         Ok(value) => Ok(value),
         Err(_) => give_up(failed),
     }

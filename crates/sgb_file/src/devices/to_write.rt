@@ -57,8 +57,8 @@ impl<W: Write> Sink for ToWrite<W> {
         if self.failed {
             return Err(Failed);
         }
-        let answer = self.writer.write(bytes);
-        let count = keep_fault(&mut self.failed, answer)?;
+        let returned = self.writer.write(bytes);
+        let count = keep_fault(&mut self.failed, returned)?;
         if count == 0 && !bytes.is_empty() {
             return give_up(&mut self.failed);
         }
@@ -76,8 +76,8 @@ impl<W: Write> Sink for ToWrite<W> {
         if self.failed {
             return Err(Failed);
         }
-        let answer = self.writer.flush();
-        keep_fault(&mut self.failed, answer)
+        let returned = self.writer.flush();
+        keep_fault(&mut self.failed, returned)
     }
 
     /// Whether a write or a flush failed.

@@ -2,10 +2,10 @@
 use Rattle.std.specs.Prelude.{◌≡◌, List, ℕ, [], ◌∷◌, ◌++◌, codes, length, replicate, refl}
 use Rattle.std.specs.List.{repeat}
 use Rattle.std.specs.Fmt.{digits}
-use Rattle.sgb_file.specs.Lines.{text_of_lines}
+use Rattle.sgb_file.specs.FileLines.{text_of_lines}
 use Rattle.sgb_file.specs.Checksum.{weighted_sum}
-use Rattle.sgb_file.specs.Writing.{quoted, pieces_of, laid_out, record_lines, text_of_graph}
-use Rattle.sgb_file.proofs.Examples.Graphs.{one_cell, one_cell_lines, two_joined, two_joined_lines, nothing, nothing_lines}
+use Rattle.sgb_file.specs.Saving.{quoted, pieces_of, laid_out, record_lines, text_of_graph}
+use Rattle.sgb_file.proofs.Examples.GraphFiles.{one_cell, one_cell_lines, two_joined, two_joined_lines, nothing, nothing_lines}
 
 -- the file of board(1,0,0,0,1,0,0)
 pub of_one_cell : text_of_graph one_cell ≡ text_of_lines one_cell_lines
@@ -63,10 +63,10 @@ unfolding laid_out
 broken_piece = refl
 
 -- a piece that is broken ends the line before it, and is broken until at most 79 bytes are left
-pub broken_behind : laid_out (codes "x,") (replicate 157 48 ∷ []) ≡
+pub broken_after_a_line : laid_out (codes "x,") (replicate 157 48 ∷ []) ≡
     codes "x," ∷ (replicate 78 48 ++ codes "\\") ∷ replicate 79 48 ∷ []
 unfolding laid_out
-broken_behind = refl
+broken_after_a_line = refl
 
 pub broken_twice : laid_out (codes "x,") (replicate 158 48 ∷ []) ≡
     codes "x," ∷ (replicate 78 48 ++ codes "\\") ∷ (replicate 78 48 ++ codes "\\") ∷ replicate 2 48 ∷ []

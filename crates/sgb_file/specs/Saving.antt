@@ -11,7 +11,7 @@ use Rattle.sgb_graph.specs.declared.fields.Util.{Util}
 use Rattle.sgb_graph.specs.declared.fields.Util.TheVariants.{Nothing, Int, Vertex as VertexField, Str, Chain}
 use Rattle.sgb_graph.specs.declared.fields.Vertex.{Vertex}
 use Rattle.sgb_graph.specs.declared.fields.ArcRec.{ArcRec}
-use Rattle.sgb_file.specs.Lines.{text_of_lines}
+use Rattle.sgb_file.specs.FileLines.{text_of_lines}
 use Rattle.sgb_file.specs.Checksum.{checksum_of_lines}
 
 -- a line has at most this many bytes
@@ -83,7 +83,7 @@ abbrev pub broken_lines : List ℕ → List (List ℕ)
 broken_lines piece =
     map (λ k. take broken_line_bytes (part_from_break piece k) ++ 92 ∷ []) (range_with_len 0 (breaks_of piece))
 
--- what is left of a piece behind its broken lines
+-- what is left of a piece after its broken lines
 abbrev pub last_part : List ℕ → List ℕ
 last_part piece = part_from_break piece (breaks_of piece)
 
@@ -91,7 +91,7 @@ last_part piece = part_from_break piece (breaks_of piece)
 abbrev pub fits_on : List ℕ → List ℕ → Bool
 fits_on line piece = nat_le (length line + length piece) most_line_bytes
 
--- the lines that end before a piece is laid out behind a line's beginning, or within the piece
+-- the lines that end where a piece is laid out after a line's beginning, before the piece or within it
 abbrev pub lines_ended : List ℕ → List ℕ → List (List ℕ)
 lines_ended line piece =
     if fits_on line piece then []
@@ -101,7 +101,7 @@ lines_ended line piece =
 abbrev pub line_begun : List ℕ → List ℕ → List ℕ
 line_begun line piece = if fits_on line piece then line ++ piece else last_part piece
 
--- the lines of pieces that are laid out behind a line's beginning
+-- the lines of pieces that are laid out after a line's beginning
 unfoldable pub laid_out : List ℕ → List (List ℕ) → List (List ℕ)
 laid_out line [] = line ∷ []
 laid_out line (piece ∷ pieces) = lines_ended line piece ++ laid_out (line_begun line piece) pieces

@@ -1,21 +1,14 @@
 -- Graphs written out by hand, and their files.
 use Rattle.std.specs.Prelude.{ℕ, pos, List, [], ◌∷◌, codes, replicate, Option, Some, None}
 use Rattle.sgb_graph.specs.Graphs.{GraphData}
+use Rattle.sgb_graph.specs.Made.{no_fields, no_kinds}
 use Rattle.sgb_graph.specs.declared.fields.Kind.{Kind}
 use Rattle.sgb_graph.specs.declared.fields.Kind.TheVariants.{Z, I}
 use Rattle.sgb_graph.specs.declared.fields.Ref.TheVariants.{At}
-use Rattle.sgb_graph.specs.declared.fields.Util.{Util}
 use Rattle.sgb_graph.specs.declared.fields.Util.TheVariants.{Nothing, Int}
 use Rattle.sgb_graph.specs.declared.fields.Vertex.{Vertex}
 use Rattle.sgb_graph.specs.declared.fields.ArcRec.{ArcRec}
-use Rattle.sgb_file.specs.Lines.{text_of_lines}
-
--- no utility field is used
-abbrev pub no_kinds : List Kind
-no_kinds = replicate 14 Z
-
-abbrev pub no_util : List Util
-no_util = replicate 6 Nothing
+use Rattle.sgb_file.specs.FileLines.{text_of_lines}
 
 -- the fields x, y, z of vertices are integers, as in boards
 abbrev pub board_kinds : List Kind
@@ -28,7 +21,7 @@ board_vertex name arcs x =
 
 -- a vertex without utility fields
 abbrev pub plain_vertex : List ℕ → Option ℕ → Vertex
-plain_vertex name arcs = record { name = name; arcs = arcs; util = no_util }
+plain_vertex name arcs = record { name = name; arcs = arcs; util = no_fields }
 
 -- an arc record of length 1 without utility fields
 abbrev pub plain_arc : ℕ → Option ℕ → ArcRec
@@ -40,7 +33,7 @@ one_cell = record {
   id = codes "board(1,0,0,0,1,0,0)";
   m = 0;
   kinds = board_kinds;
-  util = no_util;
+  util = no_fields;
   vertices = board_vertex (codes "0") None 0 ∷ [];
   records = [];
 }
@@ -60,7 +53,7 @@ two_joined = record {
   id = codes "board(2,0,0,0,-1,0,0)";
   m = 2;
   kinds = board_kinds;
-  util = no_util;
+  util = no_fields;
   vertices = board_vertex (codes "0") (Some 0) 0 ∷ board_vertex (codes "1") (Some 1) 1 ∷ [];
   records = plain_arc 1 None ∷ plain_arc 0 None ∷ [];
 }
@@ -79,7 +72,7 @@ two_joined_lines =
 
 -- the graph of no vertices whose id is a
 abbrev pub nothing : GraphData
-nothing = record { id = codes "a"; m = 0; kinds = no_kinds; util = no_util; vertices = []; records = [] }
+nothing = record { id = codes "a"; m = 0; kinds = no_kinds; util = no_fields; vertices = []; records = [] }
 
 abbrev pub nothing_lines : List (List ℕ)
 nothing_lines =
@@ -105,7 +98,7 @@ ring arc = record {
   id = codes "ring";
   m = 1;
   kinds = no_kinds;
-  util = no_util;
+  util = no_fields;
   vertices = plain_vertex (codes "x") (Some 0) ∷ [];
   records = arc ∷ [];
 }

@@ -1,4 +1,4 @@
--- The lines of a text [GB_IO, gb_newline].
+-- The lines of a file [GB_IO, gb_newline].
 use Rattle.std.specs.Prelude.{ℕ, ◌&&◌, List, [], ◌∷◌, ◌++◌, map, length, ◌==◌, if◌then◌else◌}
 use Rattle.std.specs.List.{flat_map, slice_split}
 
@@ -9,8 +9,8 @@ lines_among (last ∷ []) = if length last == 0 then [] else last ∷ []
 lines_among (part ∷ next ∷ parts) = part ∷ lines_among (next ∷ parts)
 
 -- the lines of a text, without their newlines (10)
-abbrev pub lines_of : List ℕ → List (List ℕ)
-lines_of text = lines_among (slice_split (λ b. b == 10) text)
+abbrev pub lines_of_text : List ℕ → List (List ℕ)
+lines_of_text text = lines_among (slice_split (λ b. b == 10) text)
 
 -- a line without the spaces (32) at its end
 unfoldable pub without_end_spaces : List ℕ → List ℕ
@@ -20,7 +20,7 @@ without_end_spaces (b ∷ line) =
 
 -- the lines of a text, without the spaces at their ends
 abbrev pub clean_lines : List ℕ → List (List ℕ)
-clean_lines text = map without_end_spaces (lines_of text)
+clean_lines text = map without_end_spaces (lines_of_text text)
 
 -- the text of lines, each with its newline
 abbrev pub text_of_lines : List (List ℕ) → List ℕ

@@ -8,9 +8,9 @@ use Rattle.sgb_graph.specs.Graphs.{GraphData}
 use Rattle.sgb_graph.specs.Sound.{is_sound}
 use Rattle.sgb_graph.specs.declared.fields.Kind.{Kind}
 use Rattle.sgb_graph.specs.declared.fields.Kind.TheVariants.{Z, I, V, S, A}
-use Rattle.sgb_file.specs.Lines.{lines_of, clean_lines, text_of_lines}
+use Rattle.sgb_file.specs.FileLines.{lines_of_text, clean_lines, text_of_lines}
 use Rattle.sgb_file.specs.Checksum.{has_star, checksum_of_lines}
-use Rattle.sgb_file.specs.Fields.{Found, given, is_digit, number_of, most_digits, after_front}
+use Rattle.sgb_file.specs.Fields.{Found, given, is_decimal_digit, number_of, most_number_digits, after_prefix}
 use Rattle.sgb_file.specs.Records.{Head, records_at}
 
 -- the kind of a letter
@@ -26,26 +26,26 @@ kinds_at text =
     if length kinds == 14 then Some (record { value = kinds; rest = drop 14 text }) else None
 
 -- the number that all the digits write which a text begins with
-abbrev pub number_at : List ℕ → Option (Found ℕ)
-number_at text =
-    let digits = take_while is_digit text in
-    option_map (λ k. record { value = k; rest = drop (length digits) text }) (number_of most_digits digits)
+abbrev pub leading_number : List ℕ → Option (Found ℕ)
+leading_number text =
+    let digits = take_while is_decimal_digit text in
+    option_map (λ k. record { value = k; rest = drop (length digits) text }) (number_of most_number_digits digits)
 
 -- what a line says that has the form of a first line: `* GraphBase graph (util_types T,NV,MA)`, then anything
 abbrev pub head_of_line : List ℕ → Option Head
 head_of_line line =
-    given (after_front (codes "* GraphBase graph (util_types ") line) (λ letters.
+    given (after_prefix (codes "* GraphBase graph (util_types ") line) (λ letters.
     given (kinds_at letters) (λ kinds.
-    given (after_front (codes ",") kinds.rest) (λ second.
-    given (number_at second) (λ n.
-    given (after_front (codes "V,") n.rest) (λ third.
-    given (number_at third) (λ m.
-    given (after_front (codes "A)") m.rest) (λ anything.
+    given (after_prefix (codes ",") kinds.rest) (λ second.
+    given (leading_number second) (λ n.
+    given (after_prefix (codes "V,") n.rest) (λ third.
+    given (leading_number third) (λ m.
+    given (after_prefix (codes "A)") m.rest) (λ anything.
     if nat_le n.value most_vertices
     then Some (record { kinds = kinds.value; counts = record { vertices = n.value; arcs = m.value } })
     else None)))))))
 
--- a file's first line, and the lines behind it
+-- a file's first line, and the lines after it
 pub record Opening : Type 0 where
   pub head : Head
   pub lines : List (List ℕ)
@@ -58,17 +58,17 @@ opening_of (line ∷ lines) =
     option_map_or (λ head. Some (record { head = head; lines = lines })) (head_of_line line)
     (if has_star line then opening_of lines else None)
 
--- what the records behind the first line say
-abbrev pub records_of : Opening → Option (Found GraphData)
-records_of opening = records_at opening.head (text_of_lines opening.lines)
+-- what the records after the first line say
+abbrev pub graph_of_records : Opening → Option (Found GraphData)
+graph_of_records opening = records_at opening.head (text_of_lines opening.lines)
 
 -- the number c of a line `* Checksum c`, followed by anything
 abbrev pub checksum_in_line : List ℕ → Option ℤ
 checksum_in_line line =
-    given (after_front (codes "* Checksum ") line) (λ text.
+    given (after_prefix (codes "* Checksum ") line) (λ text.
     if slice_index text 0 == 45
-    then option_map (λ c. neg_ℤ (pos c.value)) (number_at (drop 1 text))
-    else option_map (λ c. pos c.value) (number_at text))
+    then option_map (λ c. neg_ℤ (pos c.value)) (leading_number (drop 1 text))
+    else option_map (λ c. pos c.value) (leading_number text))
 
 -- the lines of a file's records: those between the first line and the lines that follow the records
 abbrev pub lines_before : Opening → List (List ℕ) → List (List ℕ)
@@ -79,21 +79,21 @@ abbrev pub checksum_agrees : ℤ → List (List ℕ) → Bool
 checksum_agrees (pos c) lines = c == checksum_of_lines lines
 checksum_agrees (negsuc c) lines = true
 
--- the first of the lines behind the records is a checksum line that agrees; any lines may follow it
+-- the first of the lines after the records is a checksum line that agrees; any lines may follow it
 abbrev pub line_closes : List (List ℕ) → List (List ℕ) → Bool
 line_closes before [] = false
 line_closes before (line ∷ anything) = option_map_or (λ c. checksum_agrees c before) (checksum_in_line line) false
 
--- the text behind the records closes the file
+-- the text after the records closes the file
 abbrev pub closes : Opening → List ℕ → Bool
-closes opening rest = line_closes (lines_before opening (lines_of rest)) (lines_of rest)
+closes opening rest = line_closes (lines_before opening (lines_of_text rest)) (lines_of_text rest)
 
 -- the text is a file of the graph
 pub record IsFileOf (g : GraphData) (text : List ℕ) : Type 0 where
   pub opening : Opening
   pub rest : List ℕ
   pub opens : opening_of (clean_lines text) ≡ Some opening
-  pub says : records_of opening ≡ Some (record { value = g; rest = rest })
+  pub says : graph_of_records opening ≡ Some (record { value = g; rest = rest })
   pub ends : IsTrue (closes opening rest)
   pub sound : IsTrue (is_sound g)
 
@@ -103,15 +103,15 @@ graph_at_end false sound g = Err Late
 graph_at_end true false g = Err Syntax
 graph_at_end true true g = Ok g
 
--- the graph behind an opening
-abbrev pub graph_behind : Opening → Option (Found GraphData) → Result GraphData Panic
-graph_behind opening None = Err Syntax
-graph_behind opening (Some found) = graph_at_end (closes opening found.rest) (is_sound found.value) found.value
+-- the graph of what follows an opening
+abbrev pub graph_after : Opening → Option (Found GraphData) → Result GraphData Panic
+graph_after opening None = Err Syntax
+graph_after opening (Some found) = graph_at_end (closes opening found.rest) (is_sound found.value) found.value
 
 -- the graph of lines with this opening
 abbrev pub graph_of_opening : Option Opening → Result GraphData Panic
 graph_of_opening None = Err Early
-graph_of_opening (Some opening) = graph_behind opening (records_of opening)
+graph_of_opening (Some opening) = graph_after opening (graph_of_records opening)
 
 -- the graph that a text is a file of; of a text that is a file of none, 10 where it has no opening, else 20
 -- where no records follow, else 11 where no closing line follows, else 20

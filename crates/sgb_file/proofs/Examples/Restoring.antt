@@ -1,26 +1,27 @@
 -- Texts that are files of a graph.
 use Rattle.std.specs.Prelude.{◌≡◌, ◌-◌, ◌^◌, pos, neg_ℤ, [], ◌∷◌, ◌++◌, codes, replicate, take, Some, None, Ok, refl}
 use Rattle.sgb_graph.specs.Graphs.{ends_from, numbers_from}
+use Rattle.sgb_graph.specs.Made.{no_fields, no_kinds}
 use Rattle.sgb_graph.specs.declared.fields.Ref.TheVariants.{Null, One, At}
 use Rattle.sgb_graph.specs.declared.fields.Util.TheVariants.{Nothing, Vertex as VertexField, Str, Chain}
 use Rattle.sgb_graph.specs.declared.fields.Kind.TheVariants.{Z, V, S, A}
-use Rattle.sgb_file.specs.Lines.{lines_among, lines_of, without_end_spaces, clean_lines, text_of_lines}
+use Rattle.sgb_file.specs.FileLines.{lines_among, lines_of_text, without_end_spaces, clean_lines, text_of_lines}
 use Rattle.sgb_file.specs.Checksum.{weighted_sum}
 use Rattle.sgb_file.specs.Fields.{unbroken, integer_of, ref_of, record_number_of, string_at}
 use Rattle.sgb_file.specs.Records.{more_fields_at, all_at}
-use Rattle.sgb_file.specs.Reading.{opening_of, graph_of_text}
-use Rattle.sgb_file.proofs.Examples.Graphs.{no_kinds, no_util, plain_vertex, plain_arc, one_cell, one_cell_lines, two_joined, two_joined_lines, nothing, nothing_lines, ring, ring_text}
+use Rattle.sgb_file.specs.Restoring.{opening_of, graph_of_text}
+use Rattle.sgb_file.proofs.Examples.GraphFiles.{plain_vertex, plain_arc, one_cell, one_cell_lines, two_joined, two_joined_lines, nothing, nothing_lines, ring, ring_text}
 
--- lines end at newlines; what is behind the last one is a line where it is not empty
-pub some_lines : lines_of (codes "a\n\nb") ≡ codes "a" ∷ [] ∷ codes "b" ∷ []
+-- lines end at newlines; what is after the last one is a line where it is not empty
+pub some_lines : lines_of_text (codes "a\n\nb") ≡ codes "a" ∷ [] ∷ codes "b" ∷ []
 unfolding lines_among
 some_lines = refl
 
-pub no_line : lines_of [] ≡ []
+pub empty_text_has_no_line : lines_of_text [] ≡ []
 unfolding lines_among
-no_line = refl
+empty_text_has_no_line = refl
 
-pub one_empty_line : lines_of (codes "\n") ≡ [] ∷ []
+pub one_empty_line : lines_of_text (codes "\n") ≡ [] ∷ []
 unfolding lines_among
 one_empty_line = refl
 
@@ -48,7 +49,7 @@ pub of_nothing : graph_of_text (text_of_lines (nothing_lines ++ codes "* Checksu
 unfolding lines_among without_end_spaces weighted_sum unbroken more_fields_at all_at opening_of ends_from numbers_from
 of_nothing = refl
 
--- with a line in front that begins with `*`, and without the last newline
+-- with a first line that begins with `*`, and without the last newline
 pub with_comment : graph_of_text (text_of_lines (codes "* made by hand" ∷ nothing_lines) ++ codes "* Checksum 18619") ≡ Ok nothing
 unfolding lines_among without_end_spaces weighted_sum unbroken more_fields_at all_at opening_of ends_from numbers_from
 with_comment = refl
@@ -83,14 +84,14 @@ pub of_shared : graph_of_text (text_of_lines (
       id = codes "s";
       m = 2;
       kinds = no_kinds;
-      util = no_util;
+      util = no_fields;
       vertices = plain_vertex (codes "x") (Some 0) ∷ plain_vertex (codes "y") (Some 0) ∷ [];
       records = plain_arc 0 None ∷ [];
     })
 unfolding lines_among without_end_spaces weighted_sum unbroken more_fields_at all_at opening_of ends_from numbers_from
 of_shared = refl
 
--- a record on no list, with a tip that is no vertex; leading zeros; a record that goes on behind a comma;
+-- a record on no list, with a tip that is no vertex; leading zeros; a record that goes on after a comma at a line's end;
 -- spaces at a line's end; a broken string, whose second line begins with `*`; an empty name
 pub of_other_forms : graph_of_text (text_of_lines (
     codes "* GraphBase graph (util_types VZZZZZZSZZZZZA,01V,1A), by hand"
@@ -127,8 +128,8 @@ no_integer_above = refl
 pub too_many_digits : integer_of (replicate 21 48) ≡ None
 too_many_digits = refl
 
-pub no_digits : integer_of (codes "-") ≡ None
-no_digits = refl
+pub minus_without_digits : integer_of (codes "-") ≡ None
+minus_without_digits = refl
 
 -- vertices: `0` and `1` are texts and not numbers
 pub ref_forms : ref_of 4 (codes "V003") ≡ Some (At 3)

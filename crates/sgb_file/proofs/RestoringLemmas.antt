@@ -3,9 +3,9 @@ use Rattle.std.specs.Prelude.{◌≡◌, ℕ, Bool, true, false, List, Option, S
 use Rattle.std.proofs.Common.{ap}
 use Rattle.sgb_graph.specs.Graphs.{GraphData}
 use Rattle.sgb_graph.specs.Sound.{is_sound}
-use Rattle.sgb_file.specs.Lines.{clean_lines}
+use Rattle.sgb_file.specs.FileLines.{clean_lines}
 use Rattle.sgb_file.specs.Fields.{Found}
-use Rattle.sgb_file.specs.Reading.{Opening, IsFileOf, opening_of, records_of, closes, graph_at_end, graph_behind, graph_of_opening, graph_of_text}
+use Rattle.sgb_file.specs.Restoring.{Opening, IsFileOf, opening_of, graph_of_records, closes, graph_at_end, graph_after, graph_of_opening, graph_of_text}
 
 -- the graph of an end is the graph itself, where both tests pass
 pub record PassesBoth (ending lists : Bool) (found g : GraphData) : Type 0 where
@@ -18,16 +18,16 @@ passed_both false lists found g e = absurd cc
 passed_both true false found g e = absurd cc
 passed_both true true found g e = record { ends = refl; sound = refl; same = cc }
 
--- the parts of a file behind its opening
-pub record IsBehind (opening : Opening) (records : Option (Found GraphData)) (g : GraphData) : Type 0 where
+-- the parts of a file after its opening
+pub record IsAfterOpening (opening : Opening) (records : Option (Found GraphData)) (g : GraphData) : Type 0 where
   pub rest : List ℕ
   pub says : records ≡ Some (record { value = g; rest = rest })
   pub ends : IsTrue (closes opening rest)
   pub sound : IsTrue (is_sound g)
 
-pub parts_behind : (opening : Opening) (records : Option (Found GraphData)) (g : GraphData) → graph_behind opening records ≡ Ok g → IsBehind opening records g
-parts_behind opening None g e = absurd cc
-parts_behind opening (Some found) g e =
+pub parts_after : (opening : Opening) (records : Option (Found GraphData)) (g : GraphData) → graph_after opening records ≡ Ok g → IsAfterOpening opening records g
+parts_after opening None g e = absurd cc
+parts_after opening (Some found) g e =
     let passed = passed_both (closes opening found.rest) (is_sound found.value) found.value g e in
     record {
       rest = found.rest;
@@ -40,12 +40,12 @@ parts_behind opening (Some found) g e =
 pub record IsFileBy (opens : Option Opening) (g : GraphData) : Type 0 where
   pub opening : Opening
   pub here : opens ≡ Some opening
-  pub behind : IsBehind opening (records_of opening) g
+  pub after : IsAfterOpening opening (graph_of_records opening) g
 
 pub parts_of_opening : (opens : Option Opening) (g : GraphData) → graph_of_opening opens ≡ Ok g → IsFileBy opens g
 parts_of_opening None g e = absurd cc
 parts_of_opening (Some opening) g e =
-    record { opening = opening; here = refl; behind = parts_behind opening (records_of opening) g e }
+    record { opening = opening; here = refl; after = parts_after opening (graph_of_records opening) g e }
 
 -- a text that is read as a graph is a file of it
 pub file_from_read : (g : GraphData) (text : List ℕ) → graph_of_text text ≡ Ok g → IsFileOf g text
@@ -53,15 +53,15 @@ file_from_read g text e =
     let parts = parts_of_opening (opening_of (clean_lines text)) g e in
     record {
       opening = parts.opening;
-      rest = parts.behind.rest;
+      rest = parts.after.rest;
       opens = parts.here;
-      says = parts.behind.says;
-      ends = parts.behind.ends;
-      sound = parts.behind.sound;
+      says = parts.after.says;
+      ends = parts.after.ends;
+      sound = parts.after.sound;
     }
 
 -- the graph of an opening whose parts are those of a file
-pub read_by_parts : (opens : Option Opening) (opening : Opening) (g : GraphData) (rest : List ℕ) → opens ≡ Some opening → records_of opening ≡ Some (record { value = g; rest = rest }) → IsTrue (closes opening rest) → IsTrue (is_sound g) → graph_of_opening opens ≡ Ok g
+pub read_by_parts : (opens : Option Opening) (opening : Opening) (g : GraphData) (rest : List ℕ) → opens ≡ Some opening → graph_of_records opening ≡ Some (record { value = g; rest = rest }) → IsTrue (closes opening rest) → IsTrue (is_sound g) → graph_of_opening opens ≡ Ok g
 read_by_parts opens opening g rest here says ends sound = rw here (rw says (rw (ends, sound)))
 
 -- a file of a graph is read as it
