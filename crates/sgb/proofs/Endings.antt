@@ -12,13 +12,13 @@ use Rattle.sgb.specs.Texts.{shown, shown_graph}
 use Rattle.sgb.specs.Values.{IsLocalOf}
 use Rattle.sgb.specs.declared.requests.Resume.{Resume}
 use Rattle.sgb.proofs.Shown.{list_answer-is}
-use Rattle.sgb.specs.Devices.{AppendsUnlessFailed}
+use Rattle.sgb_file.specs.Devices.{AppendsUnlessFailed}
 use Rattle.sgb.specs.Faults.{line_of, status_of}
 use Rattle.sgb.specs.Runs.{Change, Answers}
 use Rattle.sgb.specs.Writing.{IsEnded, IsWhole, IsWritten, IsCutOff}
 use Rattle.sgb.specs.declared.faults.Fault.{Fault}
 use Rattle.sgb.specs.declared.faults.Fault.TheVariants as fault
-use Rattle.sgb.proofs.Fronts.{front_all, front_none}
+use Rattle.sgb_file.proofs.WrittenPrefixes.{prefix_all, prefix_none}
 
 -- the bytes that a sink tells, before and after, and whether it has failed
 abbrev pub change : Option (List ℕ) → Option (List ℕ) → Bool → Change
@@ -26,7 +26,7 @@ change before after failed = record { before = before; after = after; failed = f
 
 -- an empty line is nothing
 pub no_line : (failed : Bool) (a : Option (List ℕ)) → AppendsUnlessFailed failed a a []
-no_line true a = front_none a []
+no_line true a = prefix_none a []
 no_line false a = Appends-nil a
 
 -- the request was answered in full
@@ -66,7 +66,7 @@ refused_answers g f w v e d false ef (inl same) p line = inl (record {
   exit = ap status_of same;
 })
 refused_answers g f w v e d false ef (inr memory) p line = inr (record {
-  output = front_all w v [] p.output;
+  output = prefix_all w v [] p.output;
   line = subst (λ (h : Fault). AppendsUnlessFailed ef e d (line_of h)) memory line;
   exit = ap status_of memory;
 })
@@ -81,7 +81,7 @@ answers_err T (Err g) f w v e d wf ef p line = refused_answers g f w v e d wf ef
 -- the flush behind a text failed
 flush_cut : (text : List ℕ) (a b c : Option (List ℕ)) (failed : Bool) (f : Fault) → Appends a b text → Keeps b c → failed ≡ true → f ≡ fault.Write
     → IsCutOff text (change a c failed) f
-flush_cut text a b c failed f p q h e = record { output = front_all a c text (Appends-kept a b c text p q); cause = inl (h, e) }
+flush_cut text a b c failed f p q h e = record { output = prefix_all a c text (Appends-kept a b c text p q); cause = inl (h, e) }
 
 -- the flush behind an answer that was written failed
 pub flush_failed : {T : Type 0} (S : Type 0) (a : Result (List ℕ) Fault) (x : T) (w v u : Option (List ℕ)) (before after : Bool) (f : Fault)
@@ -105,7 +105,7 @@ refused_at_once T a f w failed e h =
 -- want of memory before anything was written
 pub memory_at_once : (T : Type 0) (a : Result (List ℕ) Fault) (w : Option (List ℕ)) (failed : Bool) → failed ≡ false
     → IsEnded {T = T} a (change w w failed) (Err (fault.Panic NoRoom))
-memory_at_once T (Ok text) w failed h = record { output = front_none w text; cause = inr (h, refl) }
+memory_at_once T (Ok text) w failed h = record { output = prefix_none w text; cause = inr (h, refl) }
 memory_at_once T (Err g) w failed h = (inr refl, record { output = Appends-nil w; sound = h })
 
 -- an answer that was written or cut off, once it is known where it begins

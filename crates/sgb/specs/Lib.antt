@@ -1,7 +1,6 @@
 -- What the contracts of sgb speak of.
 pub mod Answers
 pub mod CommandLine
-pub mod Devices
 pub mod Expressions
 pub mod Faults
 pub mod Fronts

@@ -4,7 +4,7 @@ use Rattle.std.specs.Bool.{MatchBool}
 use Rattle.std.specs.Io.KnownBytes.{Appends}
 use Rattle.sgb_vec.specs.declared.panics.Panic.TheVariants.{NoRoom}
 use Rattle.sgb.specs.Answers.{Outcome}
-use Rattle.sgb.specs.Devices.{AppendsFront, AppendsUnlessFailed}
+use Rattle.sgb_file.specs.Devices.{AppendsPrefix, AppendsUnlessFailed}
 use Rattle.sgb.specs.Faults.{status_of, line_of}
 use Rattle.sgb.specs.declared.faults.Fault.{Fault}
 use Rattle.sgb.specs.declared.faults.Fault.TheVariants as fault
@@ -23,7 +23,7 @@ pub record IsGiven (answer : Outcome) (out err : Change) (status : ℕ) : Type 0
 
 -- the run was stopped by this fault: a front of the answer's output, the fault's line and status
 pub record IsStopped (by : Fault) (answer : Outcome) (out err : Change) (status : ℕ) : Type 0 where
-  pub output : AppendsFront out.before out.after answer.output
+  pub output : AppendsPrefix out.before out.after answer.output
   pub line : AppendsUnlessFailed err.failed err.before err.after (line_of by)
   pub exit : status ≡ status_of by
 

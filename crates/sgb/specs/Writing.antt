@@ -2,7 +2,7 @@
 use Rattle.std.specs.Prelude.{◌≡◌, ◌⊎◌, ℕ, true, false, List, [], Result, Ok, Err}
 use Rattle.std.specs.Io.KnownBytes.{Appends}
 use Rattle.sgb_vec.specs.declared.panics.Panic.TheVariants.{NoRoom}
-use Rattle.sgb.specs.Devices.{AppendsFront}
+use Rattle.sgb_file.specs.Devices.{AppendsPrefix}
 use Rattle.sgb.specs.Runs.{Change}
 use Rattle.sgb.specs.declared.faults.Fault.{Fault}
 use Rattle.sgb.specs.declared.faults.Fault.TheVariants as fault
@@ -18,7 +18,7 @@ IsCause out f = ((out.failed ≡ true) × (f ≡ fault.Write)) ⊎ ((out.failed 
 
 -- a front of the text was written, until this fault
 pub record IsCutOff (text : List ℕ) (out : Change) (f : Fault) : Type 0 where
-  pub output : AppendsFront out.before out.after text
+  pub output : AppendsPrefix out.before out.after text
   pub cause : IsCause out f
 
 -- the text was written, or a front of it until a fault

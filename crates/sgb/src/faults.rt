@@ -1,9 +1,9 @@
 ghost use Rattle.std.specs.Prelude.{◌≡◌, ◌++◌, decimal};
-ghost use Rattle.sgb.specs.Devices.{AppendsUnlessFailed, IsPut};
+ghost use Rattle.sgb_file.specs.Devices.{AppendsUnlessFailed, IsPut};
 ghost use Rattle.sgb.specs.Faults.{line_of, status_of};
 
-use crate::devices::{Failed, Sink, put_all};
 use itoa::Buffer;
+use sgb_file::{Failed, Sink, put_all};
 use sgb_vec::Panic;
 use thiserror::Error;
 

@@ -3,7 +3,6 @@
 
 pub(crate) mod calls;
 pub mod command_line;
-pub mod devices;
 mod evaluation;
 pub mod expressions;
 pub mod faults;
@@ -15,10 +14,10 @@ mod tests;
 mod writing;
 
 use command_line::request;
-use devices::{FromRead, ToWrite};
 use faults::{Fault, report};
 use requests::Request;
 use runs::run;
+use sgb_file::{FromRead, ToWrite};
 use sgb_vec::Panic;
 use std::env;
 use std::io::{self, BufWriter, ErrorKind};

@@ -7,13 +7,13 @@ ghost use Rattle.sgb.specs.Texts.{shown};
 ghost use Rattle.sgb.specs.Values.{value_of};
 ghost use Rattle.sgb.specs.Writing.{IsEnded};
 
-use crate::devices::{Sink, Source};
 use crate::evaluation::{Local, graph_of, local_of};
 use crate::expressions::Expr;
 use crate::faults::{Fault, report};
 use crate::requests::{Request, Resume};
 use crate::writing::listing::write_listing;
 use crate::writing::names::write_names;
+use sgb_file::{Sink, Source};
 use std::alloc::Global;
 
 /// Answers a request: writes its output to `out`, or the line of a fault to `errors`, and answers the exit

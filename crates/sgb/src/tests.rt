@@ -3,9 +3,9 @@
 ghost use Rattle.std.specs.Prelude.{◌≡◌, false};
 
 use crate::command_line::request;
-use crate::devices::{CutSink, CutSource, MemSink, MemSource, Sink};
 use crate::faults::report;
 use crate::runs::run;
+use sgb_file::{CutSink, CutSource, MemSink, MemSource, Sink};
 use std::alloc::Global;
 use std::test::Fail;
 

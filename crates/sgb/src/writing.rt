@@ -6,8 +6,8 @@ ghost use Rattle.sgb.specs.Writing.{IsWritten};
 pub(crate) mod listing;
 pub(crate) mod names;
 
-use crate::devices::{Sink, put_all};
 use crate::faults::Fault;
+use sgb_file::{Sink, put_all};
 
 // Writes bytes.
 fn write_bytes<W: Sink>(out: &mut W, bytes: &[u8]) -> Result<(), Fault>

@@ -65,7 +65,7 @@ weighed a v k =
     let back : a * k * 2 ≡ a * (k * 2) = mul_assoc a k 2 in
     omega arith
 
--- the sum made byte by byte from a is the sum of the weighted values, with a in front
+-- the sum made byte by byte from a is the sum of the weighted values, with a before them
 pub running_from : (p : ℕ) → 0 < p → (bytes : List ℕ) (a : ℕ) → a < p
     → fold (λ x byte. (2 * x + value_of_byte byte) % p) a bytes ≡ (a * 2 ^ length bytes + weighted_sum bytes) % p
 unfolding weighted_sum

@@ -7,7 +7,7 @@ use Rattle.std.proofs.Math.ListN.{length-drop}
 use Rattle.std.proofs.lemmas.List.Sums.{AllPass-from_list_all}
 use Rattle.std.proofs.lemmas.List.Folds.{list_all-append, list_all-map}
 use Rattle.std.proofs.lemmas.Bool.Decides.{nat_tests}
-use Rattle.sgb_file.specs.Writing.{most_line_bytes, breaks_of, broken_lines, last_part, fits_on, part_from_break, lines_ended, line_begun, laid_out}
+use Rattle.sgb_file.specs.Saving.{most_line_bytes, breaks_of, broken_lines, last_part, fits_on, part_from_break, lines_ended, line_begun, laid_out}
 
 -- the line has at most 79 bytes
 abbrev pub is_short : List ℕ → Bool
@@ -34,7 +34,7 @@ broken_are_short : (piece : List ℕ) → list_all is_short (broken_lines piece)
 broken_are_short piece =
     rw list_all-map (passes_all _ (broken_is_short piece) (range_with_len 0 (breaks_of piece)))
 
--- what is left behind the broken lines is short
+-- what is left after the broken lines is short
 last_is_short : (piece : List ℕ) → is_short (last_part piece) ≡ true
 last_is_short piece =
     short_by_length (last_part piece) (rw length-drop (omega arith))
@@ -51,7 +51,7 @@ ended_are_short true empty line piece h = refl
 ended_are_short false true line piece h = broken_are_short piece
 ended_are_short false false line piece h = rw h (broken_are_short piece)
 
--- the lines of pieces that are laid out behind a short beginning are short
+-- the lines of pieces that are laid out after a short beginning are short
 pub laid_out_are_short : (line : List ℕ) (pieces : List (List ℕ)) → is_short line ≡ true → list_all is_short (laid_out line pieces) ≡ true
 unfolding laid_out
 laid_out_are_short line [] h = rw h refl

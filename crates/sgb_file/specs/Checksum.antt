@@ -1,7 +1,7 @@
 -- The checksum of a file [GB_IO, imap_chr and new_checksum; GB_SAVE].
 use Rattle.std.specs.Prelude.{ℕ, ◌≡◌, ◌+◌, ◌-◌, ◌*◌, ◌%◌, ◌^◌, ◌<◌, Bool, not, List, [], ◌∷◌, length, filter, fold, codes, ◌==◌, ◌||◌, nat_le, ◌&&◌, IsTrue, slice_index}
 use Rattle.std.specs.List.{position_or_len}
-use Rattle.sgb_file.specs.Lines.{text_of_lines}
+use Rattle.sgb_file.specs.FileLines.{text_of_lines}
 
 -- the 96 characters of a file, in the order of their values
 abbrev pub characters : List ℕ

@@ -12,8 +12,8 @@ use Rattle.sgb_graph.specs.declared.fields.Util.{Util}
 use Rattle.sgb_graph.specs.declared.fields.Util.TheVariants.{Nothing, Int, Vertex as VertexField, Str, Chain}
 
 -- a number of the file's own (a vertex, an arc record, a count, a checksum) has at most this many digits
-abbrev pub most_digits : ℕ
-most_digits = 18
+abbrev pub most_number_digits : ℕ
+most_number_digits = 18
 
 -- an integer field has at most this many digits
 abbrev pub most_integer_digits : ℕ
@@ -24,7 +24,7 @@ pub record Counts : Type 0 where
   pub vertices : ℕ
   pub arcs : ℕ
 
--- a value that a text begins with, and the text behind it
+-- a value that a text begins with, and the text after it
 pub record Found (X : Type 0) : Type 0 where
   pub value : X
   pub rest : List ℕ
@@ -39,18 +39,18 @@ abbrev pub found_as : {X Y : Type 0} → (X → Y) → Option (Found X) → Opti
 found_as f found = option_map (λ x. record { value = f x.value; rest = x.rest }) found
 
 -- a decimal digit
-abbrev pub is_digit : ℕ → Bool
-is_digit b = nat_le 48 b && nat_le b 57
+abbrev pub is_decimal_digit : ℕ → Bool
+is_decimal_digit b = nat_le 48 b && nat_le b 57
 
 -- the number that a text of 1 to `most` decimal digits writes; leading zeros are allowed
 abbrev pub number_of : ℕ → List ℕ → Option ℕ
 number_of most text =
-    if nat_lt 0 (length text) && nat_le (length text) most && list_all is_digit text
+    if nat_lt 0 (length text) && nat_le (length text) most && list_all is_decimal_digit text
     then Some (digits_value 10 text) else None
 
 -- the same, where the number is below a limit
 abbrev pub number_below : ℕ → List ℕ → Option ℕ
-number_below limit text = given (number_of most_digits text) (λ k. if nat_lt k limit then Some k else None)
+number_below limit text = given (number_of most_number_digits text) (λ k. if nat_lt k limit then Some k else None)
 
 -- the integer of 64 bits that a text writes: an optional `-` (45), and digits
 abbrev pub integer_of : List ℕ → Option ℤ
@@ -79,7 +79,7 @@ record_number_of m (b ∷ text) =
 abbrev pub is_string_byte : ℕ → Bool
 is_string_byte b = nat_le 32 b && nat_le b 126 && not (b == 34) && not (b == 92)
 
--- bytes between quotes, where a `\` (92) and a newline (10) behind it count as nothing
+-- bytes between quotes, where a `\` (92) and a newline (10) after it count as nothing
 unfoldable pub unbroken : List ℕ → List ℕ
 unbroken [] = []
 unbroken (b ∷ []) = b ∷ []
@@ -117,6 +117,6 @@ field_at counts V text = found_as VertexField (plain_at (ref_of counts.vertices)
 field_at counts S text = found_as Str (string_at most_bytes text)
 field_at counts A text = found_as Chain (plain_at (record_number_of counts.arcs) text)
 
--- what follows these bytes at the front of a text
-abbrev pub after_front : List ℕ → List ℕ → Option (List ℕ)
-after_front front text = if starts_with (λ b c. b == c) text front then Some (drop (length front) text) else None
+-- what follows this prefix of a text
+abbrev pub after_prefix : List ℕ → List ℕ → Option (List ℕ)
+after_prefix prefix text = if starts_with (λ b c. b == c) text prefix then Some (drop (length prefix) text) else None

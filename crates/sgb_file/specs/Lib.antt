@@ -1,7 +1,8 @@
 -- What the contracts of sgb_file speak of.
-pub mod Lines
+pub mod Devices
+pub mod FileLines
 pub mod Checksum
 pub mod Fields
 pub mod Records
-pub mod Reading
-pub mod Writing
+pub mod Restoring
+pub mod Saving

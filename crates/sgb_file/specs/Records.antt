@@ -9,20 +9,20 @@ use Rattle.sgb_graph.specs.declared.fields.Util.{Util}
 use Rattle.sgb_graph.specs.declared.fields.Util.TheVariants.{Nothing, Int, Vertex as VertexField, Str, Chain}
 use Rattle.sgb_graph.specs.declared.fields.Vertex.{Vertex}
 use Rattle.sgb_graph.specs.declared.fields.ArcRec.{ArcRec}
-use Rattle.sgb_file.specs.Fields.{Counts, Found, given, found_as, number_of, most_digits, string_at, plain_at, field_at, after_front}
+use Rattle.sgb_file.specs.Fields.{Counts, Found, given, found_as, number_of, most_number_digits, string_at, plain_at, field_at, after_prefix}
 
 -- what a file's first line says: the kinds of the utility fields, the vertices and the arc records
 pub record Head : Type 0 where
   pub kinds : List Kind
   pub counts : Counts
 
--- what follows a comma; the line may end behind it, and the record then goes on with the next line
+-- what follows a comma; the line may end after it, and the record then goes on with the next line
 abbrev pub after_comma : List ℕ → Option (List ℕ)
-after_comma text = option_map (λ rest. unwrap_or (after_front (codes "\n") rest) rest) (after_front (codes ",") text)
+after_comma text = option_map (λ rest. unwrap_or (after_prefix (codes "\n") rest) rest) (after_prefix (codes ",") text)
 
--- the fields of these kinds to the end of the record, each behind a comma; the record ends with its line
+-- the fields of these kinds to the end of the record, each after a comma; the record ends with its line
 unfoldable pub more_fields_at : Counts → List Kind → List ℕ → Option (Found (List Util))
-more_fields_at counts [] text = option_map (λ rest. record { value = []; rest = rest }) (after_front (codes "\n") text)
+more_fields_at counts [] text = option_map (λ rest. record { value = []; rest = rest }) (after_prefix (codes "\n") text)
 more_fields_at counts (Z ∷ kinds) text = found_as (λ fields. Nothing ∷ fields) (more_fields_at counts kinds text)
 more_fields_at counts (kind ∷ kinds) text =
     given (after_comma text) (λ start.
@@ -41,9 +41,9 @@ abbrev pub graph_record_at : Head → List ℕ → Option (Found GraphData)
 graph_record_at head text =
     given (string_at most_id_bytes text) (λ id.
     given (after_comma id.rest) (λ second.
-    given (plain_at (number_of most_digits) second) (λ n.
+    given (plain_at (number_of most_number_digits) second) (λ n.
     given (after_comma n.rest) (λ third.
-    given (plain_at (number_of most_digits) third) (λ m.
+    given (plain_at (number_of most_number_digits) third) (λ m.
     given (more_fields_at head.counts (graph_kinds head.kinds) m.rest) (λ util.
     if n.value == head.counts.vertices
     then Some (record {
@@ -58,8 +58,8 @@ vertex_of_fields (Str name ∷ Chain arcs ∷ util) = Some (record { name = name
 vertex_of_fields _ = None
 
 -- a vertex's record
-abbrev pub vertex_at : Head → List ℕ → Option (Found Vertex)
-vertex_at head text =
+abbrev pub vertex_record_at : Head → List ℕ → Option (Found Vertex)
+vertex_record_at head text =
     given (record_at head.counts S (A ∷ vertex_kinds head.kinds) text) (λ fields.
     option_map (λ v. record { value = v; rest = fields.rest }) (vertex_of_fields fields.value))
 
@@ -70,8 +70,8 @@ arc_of_fields (VertexField tip ∷ Chain next ∷ Int len ∷ a ∷ b ∷ []) =
 arc_of_fields _ = None
 
 -- an arc's record
-abbrev pub arc_at : Head → List ℕ → Option (Found ArcRec)
-arc_at head text =
+abbrev pub arc_record_at : Head → List ℕ → Option (Found ArcRec)
+arc_record_at head text =
     given (record_at head.counts V (A ∷ I ∷ arc_kinds head.kinds) text) (λ fields.
     option_map (λ r. record { value = r; rest = fields.rest }) (arc_of_fields fields.value))
 
@@ -86,8 +86,8 @@ all_at one_at (suc n) text =
 abbrev pub records_at : Head → List ℕ → Option (Found GraphData)
 records_at head text =
     given (graph_record_at head text) (λ graph.
-    given (after_front (codes "* Vertices\n") graph.rest) (λ second.
-    given (all_at (vertex_at head) head.counts.vertices second) (λ vertices.
-    given (after_front (codes "* Arcs\n") vertices.rest) (λ third.
+    given (after_prefix (codes "* Vertices\n") graph.rest) (λ second.
+    given (all_at (vertex_record_at head) head.counts.vertices second) (λ vertices.
+    given (after_prefix (codes "* Arcs\n") vertices.rest) (λ third.
     found_as (λ records. record graph.value { vertices = vertices.value; records = records })
-    (all_at (arc_at head) head.counts.arcs third)))))
+    (all_at (arc_record_at head) head.counts.arcs third)))))

@@ -1,8 +1,8 @@
 ghost use Rattle.std.specs.Prelude.{ℕ, List, ◌↔◌, ◌≡◌, ◌<◌, ◌≤◌, All, Ok, length};
 ghost use Rattle.sgb_graph.specs.Graphs.{GraphData};
 ghost use Rattle.sgb_file.specs.Checksum.{IsOrder, checksum, running_checksum};
-ghost use Rattle.sgb_file.specs.Reading.{IsFileOf, graph_of_text};
-ghost use Rattle.sgb_file.specs.Writing.{breaks_of, most_line_bytes, part_from_break, record_lines};
+ghost use Rattle.sgb_file.specs.Restoring.{IsFileOf, graph_of_text};
+ghost use Rattle.sgb_file.specs.Saving.{breaks_of, most_line_bytes, part_from_break, record_lines};
 
 /// The order of bytes in the checksum is a bijection on the 96 characters of a file (GB_IO, imap_chr):
 /// each has a place below 96, and each place has one character.

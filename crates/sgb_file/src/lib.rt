@@ -1,6 +1,11 @@
-//! The `.gb` files of GB_SAVE: their texts, what graph a text stands for, and the text of a graph.
+//! Devices, where bytes come from and go to, and the `.gb` files of GB_SAVE: their texts, what graph a text
+//! stands for, and the text of a graph.
 #![tactic(auto)]
 
+mod devices;
 mod laws;
 
+pub use devices::{
+    CutSink, CutSource, Failed, FromRead, MemSink, MemSource, Sink, Source, ToWrite, put_all,
+};
 pub use laws::{checksum_order_law, line_bytes_law, read_text_law, running_checksum_law};

@@ -6,10 +6,10 @@ ghost use Rattle.sgb.specs.Texts.{arc_line, block, blocks, head, shown_graph};
 ghost use Rattle.sgb.specs.Writing.{IsEnded, IsWritten};
 
 use super::write_texts;
-use crate::devices::Sink;
 use crate::faults::Fault;
 use crate::requests::Resume;
 use itoa::Buffer;
+use sgb_file::Sink;
 use sgb_graph::{Graph, Link};
 
 /// Writes the listing of a graph: the head, and a block for each vertex; or, where the answer begins further on,

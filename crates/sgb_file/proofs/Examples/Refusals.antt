@@ -2,12 +2,12 @@
 use Rattle.std.specs.Prelude.{◌≡◌, [], ◌∷◌, ◌++◌, codes, take, Err, refl}
 use Rattle.sgb_vec.specs.declared.panics.Panic.TheVariants.{Early, Late, Syntax}
 use Rattle.sgb_graph.specs.Graphs.{ends_from, numbers_from}
-use Rattle.sgb_file.specs.Lines.{lines_among, without_end_spaces, text_of_lines}
+use Rattle.sgb_file.specs.FileLines.{lines_among, without_end_spaces, text_of_lines}
 use Rattle.sgb_file.specs.Checksum.{weighted_sum}
 use Rattle.sgb_file.specs.Fields.{unbroken}
 use Rattle.sgb_file.specs.Records.{more_fields_at, all_at}
-use Rattle.sgb_file.specs.Reading.{opening_of, graph_of_text}
-use Rattle.sgb_file.proofs.Examples.Graphs.{two_joined_lines, nothing_lines, ring_text}
+use Rattle.sgb_file.specs.Restoring.{opening_of, graph_of_text}
+use Rattle.sgb_file.proofs.Examples.GraphFiles.{two_joined_lines, nothing_lines, ring_text}
 
 -- nothing at all has no first line
 pub empty_text : graph_of_text [] ≡ Err Early
@@ -86,10 +86,10 @@ pub letter_of_no_kind : graph_of_text (codes "* GraphBase graph (util_types ZZZZ
 unfolding lines_among without_end_spaces opening_of
 letter_of_no_kind = refl
 
--- a line in front that does not begin with `*`
-pub other_line_in_front : graph_of_text (text_of_lines (codes "made by hand" ∷ nothing_lines)) ≡ Err Early
+-- a first line that does not begin with `*`
+pub other_line_first : graph_of_text (text_of_lines (codes "made by hand" ∷ nothing_lines)) ≡ Err Early
 unfolding lines_among without_end_spaces opening_of
-other_line_in_front = refl
+other_line_first = refl
 
 -- the file of complete(2) cut short: 50 bytes have no first line; from 51 on no records follow; from 137 on
 -- no checksum follows; with 158 it is another one

@@ -1,4 +1,4 @@
-use Rattle.sgb.proofs.Fronts.{unless_failed}
+use Rattle.sgb_file.proofs.WrittenPrefixes.{unless_failed}
 use Rattle.sgb.proofs.faults.report.Goals as goal
 
 pub returns-clause-line : goal.returns-clause-line

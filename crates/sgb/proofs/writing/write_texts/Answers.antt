@@ -2,7 +2,8 @@ use Rattle.std.proofs.Common.{ℕ, List, Bor, ap, arith}
 use Rattle.std.proofs.lemmas.List.{at_drop_more, drop_all}
 use Rattle.std.proofs.lemmas.Result.{err_from_is_err_and}
 use Rattle.std.specs.List.{flat_map}
-use Rattle.sgb.proofs.SoFar.{so_far-all, so_far-cut, so_far-more}
+use Rattle.sgb_file.proofs.SoFar.{so_far-all, so_far-more}
+use Rattle.sgb.proofs.CutOff.{so_far-cut}
 use Rattle.sgb.proofs.writing.write_texts.Goals as goal
 
 pub returns-in_err-write_bytes : goal.returns-in_err-write_bytes

@@ -1,6 +1,6 @@
 use Rattle.std.proofs.Common.{◌≡◌, false, drop}
 use Rattle.std.specs.List.{flat_map}
-use Rattle.sgb.proofs.SoFar.{SoFar}
+use Rattle.sgb_file.proofs.SoFar.{SoFar}
 use Rattle.sgb.proofs.writing.write_texts.Given as goal
 
 -- the texts from here on are left

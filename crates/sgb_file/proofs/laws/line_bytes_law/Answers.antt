@@ -1,5 +1,5 @@
 use Rattle.std.specs.Prelude.{[], refl}
-use Rattle.sgb_file.specs.Writing.{pieces_of, record_lines}
+use Rattle.sgb_file.specs.Saving.{pieces_of, record_lines}
 use Rattle.sgb_file.proofs.LayoutLemmas.{laid_out_are_short, short_lines, broken_further}
 use Rattle.sgb_file.proofs.laws.line_bytes_law.Goals as goal
 

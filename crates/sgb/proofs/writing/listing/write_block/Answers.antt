@@ -6,7 +6,8 @@ use Rattle.std.proofs.lemmas.Result.{err_from_is_err_and}
 use Rattle.sgb_graph.specs.declared.fields.Link.{Link}
 use Rattle.sgb.specs.Texts.{arc_line, shown_graph}
 use Rattle.sgb.proofs.Listings.{block-parts}
-use Rattle.sgb.proofs.SoFar.{cut_more, so_far-all, so_far-cut, so_far-more, so_far-none}
+use Rattle.sgb_file.proofs.SoFar.{so_far-all, so_far-more, so_far-none}
+use Rattle.sgb.proofs.CutOff.{cut_more, so_far-cut}
 use Rattle.sgb.proofs.writing.listing.write_block.Goals as goal
 
 -- what the walk over arcs gives

@@ -1,7 +1,7 @@
 use Rattle.std.proofs.Common.{◌≡◌, ◌<◌, false, map, length}
 use Rattle.std.specs.List.{All, flat_map}
 use Rattle.sgb.specs.Texts.{arc_line, block, shown_graph}
-use Rattle.sgb.proofs.SoFar.{SoFar}
+use Rattle.sgb_file.proofs.SoFar.{SoFar}
 use Rattle.sgb.proofs.writing.listing.write_block.Given as goal
 
 -- the lines of the arcs that are to come are left

@@ -3,7 +3,8 @@ use Rattle.std.proofs.lemmas.List.{length-map}
 use Rattle.std.proofs.lemmas.Result.{err_from_is_err_and}
 use Rattle.sgb.specs.Texts.{blocks, shown_graph}
 use Rattle.sgb.proofs.Listings.{blocks-first, blocks-min, blocks-none}
-use Rattle.sgb.proofs.SoFar.{so_far-all, so_far-cut, so_far-more, so_far-none, so_far-same}
+use Rattle.sgb_file.proofs.SoFar.{so_far-all, so_far-more, so_far-none, so_far-same}
+use Rattle.sgb.proofs.CutOff.{so_far-cut}
 use Rattle.sgb.proofs.writing.listing.write_blocks.Goals as goal
 
 pub loop-v-init : goal.loop-v-init

@@ -1,6 +1,6 @@
 use Rattle.std.proofs.Common.{◌≡◌, false}
 use Rattle.sgb.specs.Texts.{blocks, shown_graph}
-use Rattle.sgb.proofs.SoFar.{SoFar}
+use Rattle.sgb_file.proofs.SoFar.{SoFar}
 use Rattle.sgb.proofs.writing.listing.write_blocks.Given as goal
 
 -- the blocks from this vertex on are left

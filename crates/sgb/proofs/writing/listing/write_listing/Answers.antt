@@ -3,7 +3,7 @@ use Rattle.std.proofs.lemmas.Result.{err_from_is_err_and}
 use Rattle.sgb.specs.Answers.{head_for, left_out}
 use Rattle.sgb.specs.Texts.{blocks, head, shown_graph}
 use Rattle.sgb.proofs.Endings.{ended_behind, refused_behind}
-use Rattle.sgb.proofs.SoFar.{cut_more, written_after}
+use Rattle.sgb.proofs.CutOff.{cut_more, written_after}
 use Rattle.sgb.proofs.writing.listing.write_listing.Goals as goal
 
 pub returns-in_err-from : goal.returns-in_err-from

@@ -5,7 +5,8 @@ use Rattle.std.proofs.lemmas.Result.{err_from_is_err_and}
 use Rattle.sgb_vec.specs.Names.{name_of_vector}
 use Rattle.sgb.specs.Texts.{name_line, name_lines}
 use Rattle.sgb.proofs.Lines.{Contains-at, at_first, next_at, texts_left, texts_left-at, texts_left-none, texts_left-skipped, texts_left-whole}
-use Rattle.sgb.proofs.SoFar.{SoFar, so_far-all, so_far-cut, so_far-more, so_far-none, so_far-same}
+use Rattle.sgb_file.proofs.SoFar.{SoFar, so_far-all, so_far-more, so_far-none, so_far-same}
+use Rattle.sgb.proofs.CutOff.{so_far-cut}
 use Rattle.sgb.proofs.writing.names.write_names_behind.Goals as goal
 use Rattle.sgb.proofs.writing.names.write_names_behind.Goals.{then-from-skip+in_ok-write_name, else-from-skip}
 

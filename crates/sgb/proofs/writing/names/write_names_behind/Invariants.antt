@@ -2,7 +2,7 @@ use Rattle.std.proofs.Common.{◌≡◌, ◌<◌, Some, false, length, map, slic
 use Rattle.sgb_vec.specs.Names.{name_of_vector}
 use Rattle.sgb.specs.Texts.{name_line, name_lines}
 use Rattle.sgb.proofs.Lines.{texts_left}
-use Rattle.sgb.proofs.SoFar.{SoFar}
+use Rattle.sgb_file.proofs.SoFar.{SoFar}
 use Rattle.sgb.proofs.writing.names.write_names_behind.Given as goal
 
 abbrev pub invariant-loop-place : goal.invariant-loop-place

@@ -1,0 +1,30 @@
+-- Texts written part by part, until a part is cut off.
+use Rattle.std.proofs.Common.{◌≡◌, ◌++◌, Bool, ℕ, List, Option, Result, Ok, Err}
+use Rattle.std.specs.Io.KnownBytes.{Appends}
+use Rattle.std.proofs.KnownBytes.{Appends-trans}
+use Rattle.sgb_file.proofs.SoFar.{SoFar, so_far-prefix}
+use Rattle.sgb_file.proofs.WrittenPrefixes.{prefix_more, prefix_after}
+use Rattle.sgb.specs.Runs.{Change}
+use Rattle.sgb.specs.Writing.{IsWritten, IsCutOff}
+use Rattle.sgb.specs.declared.faults.Fault.{Fault}
+
+-- a text cut off is one with more after it cut off
+pub cut_more : (xs ys : List ℕ) (out : Change) (f : Fault) → IsCutOff xs out f → IsCutOff (xs ++ ys) out f
+cut_more xs ys out f p = record { output = prefix_more out.before out.after xs ys p.output; cause = p.cause }
+
+-- after a whole text, the next is cut off
+pub cut_after : (a b c : Option (List ℕ)) (failed : Bool) (xs ys : List ℕ) (f : Fault) → Appends a b xs
+    → IsCutOff ys (record { before = b; after = c; failed = failed }) f → IsCutOff (xs ++ ys) (record { before = a; after = c; failed = failed }) f
+cut_after a b c failed xs ys f p q = record { output = prefix_after a b c xs ys p q.output; cause = q.cause }
+
+-- after a whole text, what becomes of the next is what becomes of both
+pub written_after : {T : Type 0} (a b c : Option (List ℕ)) (failed : Bool) (xs ys : List ℕ) (r : Result T Fault) → Appends a b xs
+    → IsWritten ys (record { before = b; after = c; failed = failed }) r → IsWritten (xs ++ ys) (record { before = a; after = c; failed = failed }) r
+written_after a b c failed xs ys (Ok x) p q = record { output = Appends-trans a b c xs ys p q.output; sound = q.sound }
+written_after a b c failed xs ys (Err f) p q = cut_after a b c failed xs ys f p q
+
+-- the next part was cut off
+pub so_far-cut : (all part left rest : List ℕ) (a b c : Option (List ℕ)) (failed : Bool) (f : Fault) → left ≡ part ++ rest → SoFar all left a b
+    → IsCutOff part (record { before = b; after = c; failed = failed }) f → IsCutOff all (record { before = a; after = c; failed = failed }) f
+so_far-cut all part left rest a b c failed f e p q =
+    record { output = so_far-prefix all part left rest a b c e p q.output; cause = q.cause }

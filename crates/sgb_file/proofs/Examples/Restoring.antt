@@ -1,0 +1,176 @@
+-- Texts that are files of a graph.
+use Rattle.std.specs.Prelude.{◌≡◌, ◌-◌, ◌^◌, pos, neg_ℤ, [], ◌∷◌, ◌++◌, codes, replicate, take, Some, None, Ok, refl}
+use Rattle.sgb_graph.specs.Graphs.{ends_from, numbers_from}
+use Rattle.sgb_graph.specs.Made.{no_fields, no_kinds}
+use Rattle.sgb_graph.specs.declared.fields.Ref.TheVariants.{Null, One, At}
+use Rattle.sgb_graph.specs.declared.fields.Util.TheVariants.{Nothing, Vertex as VertexField, Str, Chain}
+use Rattle.sgb_graph.specs.declared.fields.Kind.TheVariants.{Z, V, S, A}
+use Rattle.sgb_file.specs.FileLines.{lines_among, lines_of_text, without_end_spaces, clean_lines, text_of_lines}
+use Rattle.sgb_file.specs.Checksum.{weighted_sum}
+use Rattle.sgb_file.specs.Fields.{unbroken, integer_of, ref_of, record_number_of, string_at}
+use Rattle.sgb_file.specs.Records.{more_fields_at, all_at}
+use Rattle.sgb_file.specs.Restoring.{opening_of, graph_of_text}
+use Rattle.sgb_file.proofs.Examples.GraphFiles.{plain_vertex, plain_arc, one_cell, one_cell_lines, two_joined, two_joined_lines, nothing, nothing_lines, ring, ring_text}
+
+-- lines end at newlines; what is after the last one is a line where it is not empty
+pub some_lines : lines_of_text (codes "a\n\nb") ≡ codes "a" ∷ [] ∷ codes "b" ∷ []
+unfolding lines_among
+some_lines = refl
+
+pub empty_text_has_no_line : lines_of_text [] ≡ []
+unfolding lines_among
+empty_text_has_no_line = refl
+
+pub one_empty_line : lines_of_text (codes "\n") ≡ [] ∷ []
+unfolding lines_among
+one_empty_line = refl
+
+-- spaces at the ends of lines are taken off, and no others
+pub some_clean_lines : clean_lines (codes " a b  \n  \nc ") ≡ codes " a b" ∷ [] ∷ codes "c" ∷ []
+unfolding lines_among without_end_spaces
+some_clean_lines = refl
+
+-- the two written files are read as their graphs
+pub of_one_cell : graph_of_text (text_of_lines one_cell_lines) ≡ Ok one_cell
+unfolding lines_among without_end_spaces weighted_sum unbroken more_fields_at all_at opening_of ends_from numbers_from
+of_one_cell = refl
+
+pub of_two_joined : graph_of_text (text_of_lines two_joined_lines) ≡ Ok two_joined
+unfolding lines_among without_end_spaces weighted_sum unbroken more_fields_at all_at opening_of ends_from numbers_from
+of_two_joined = refl
+
+-- the last newline may be left out
+pub without_newline : graph_of_text (take 159 (text_of_lines two_joined_lines)) ≡ Ok two_joined
+unfolding lines_among without_end_spaces weighted_sum unbroken more_fields_at all_at opening_of ends_from numbers_from
+without_newline = refl
+
+-- the graph of no vertices
+pub of_nothing : graph_of_text (text_of_lines (nothing_lines ++ codes "* Checksum 18619" ∷ [])) ≡ Ok nothing
+unfolding lines_among without_end_spaces weighted_sum unbroken more_fields_at all_at opening_of ends_from numbers_from
+of_nothing = refl
+
+-- with a first line that begins with `*`, and without the last newline
+pub with_comment : graph_of_text (text_of_lines (codes "* made by hand" ∷ nothing_lines) ++ codes "* Checksum 18619") ≡ Ok nothing
+unfolding lines_among without_end_spaces weighted_sum unbroken more_fields_at all_at opening_of ends_from numbers_from
+with_comment = refl
+
+-- anything may follow the number, and other lines the last one
+pub with_more : graph_of_text (text_of_lines (nothing_lines ++ codes "* Checksum 18619x" ∷ codes "\"" ∷ [])) ≡ Ok nothing
+unfolding lines_among without_end_spaces weighted_sum unbroken more_fields_at all_at opening_of ends_from numbers_from
+with_more = refl
+
+-- a graph whose one arc is a loop
+pub of_loop : graph_of_text (ring_text (codes "V0,0,1")) ≡ Ok (ring (plain_arc 0 None))
+unfolding lines_among without_end_spaces weighted_sum unbroken more_fields_at all_at opening_of ends_from numbers_from
+of_loop = refl
+
+-- the least length
+pub of_least_length : graph_of_text (ring_text (codes "V0,0,-9223372036854775808")) ≡
+    Ok (ring (record { tip = At 0; next = None; len = neg_ℤ (pos (2 ^ 63)); a = Nothing; b = Nothing }))
+unfolding lines_among without_end_spaces weighted_sum unbroken more_fields_at all_at opening_of ends_from numbers_from
+of_least_length = refl
+
+-- two vertices that share a record, and a number of arcs that is not that of the records
+pub of_shared : graph_of_text (text_of_lines (
+    codes "* GraphBase graph (util_types ZZZZZZZZZZZZZZ,2V,1A)"
+    ∷ codes "\"s\",2,2"
+    ∷ codes "* Vertices"
+    ∷ codes "\"x\",A0"
+    ∷ codes "\"y\",A0"
+    ∷ codes "* Arcs"
+    ∷ codes "V0,0,1"
+    ∷ codes "* Checksum -1" ∷ [])) ≡
+    Ok (record {
+      id = codes "s";
+      m = 2;
+      kinds = no_kinds;
+      util = no_fields;
+      vertices = plain_vertex (codes "x") (Some 0) ∷ plain_vertex (codes "y") (Some 0) ∷ [];
+      records = plain_arc 0 None ∷ [];
+    })
+unfolding lines_among without_end_spaces weighted_sum unbroken more_fields_at all_at opening_of ends_from numbers_from
+of_shared = refl
+
+-- a record on no list, with a tip that is no vertex; leading zeros; a record that goes on after a comma at a line's end;
+-- spaces at a line's end; a broken string, whose second line begins with `*`; an empty name
+pub of_other_forms : graph_of_text (text_of_lines (
+    codes "* GraphBase graph (util_types VZZZZZZSZZZZZA,01V,1A), by hand"
+    ∷ codes "\"an \\  "
+    ∷ codes "*id\",  "
+    ∷ codes "001,7,"
+    ∷ codes "A00"
+    ∷ codes "* Vertices"
+    ∷ codes "\"\",0,1"
+    ∷ codes "* Arcs  "
+    ∷ codes "0,0,-0,\",\""
+    ∷ codes "* Checksum -5" ∷ [])) ≡
+    Ok (record {
+      id = codes "an *id";
+      m = 7;
+      kinds = V ∷ Z ∷ Z ∷ Z ∷ Z ∷ Z ∷ Z ∷ S ∷ Z ∷ Z ∷ Z ∷ Z ∷ Z ∷ A ∷ [];
+      util = Nothing ∷ Nothing ∷ Nothing ∷ Nothing ∷ Nothing ∷ Chain (Some 0) ∷ [];
+      vertices = record { name = []; arcs = None; util = VertexField One ∷ Nothing ∷ Nothing ∷ Nothing ∷ Nothing ∷ Nothing ∷ [] } ∷ [];
+      records = record { tip = Null; next = None; len = pos 0; a = Nothing; b = Str (codes ",") } ∷ [];
+    })
+unfolding lines_among without_end_spaces weighted_sum unbroken more_fields_at all_at opening_of ends_from numbers_from
+of_other_forms = refl
+
+-- integers: leading zeros and a minus before 0, at most 20 digits, 64 bits
+pub integer_forms : integer_of (codes "-00000000000000000012") ≡ Some (neg_ℤ (pos 12))
+integer_forms = refl
+
+pub greatest_integer : integer_of (codes "09223372036854775807") ≡ Some (pos (2 ^ 63 - 1))
+greatest_integer = refl
+
+pub no_integer_above : integer_of (codes "9223372036854775808") ≡ None
+no_integer_above = refl
+
+pub too_many_digits : integer_of (replicate 21 48) ≡ None
+too_many_digits = refl
+
+pub minus_without_digits : integer_of (codes "-") ≡ None
+minus_without_digits = refl
+
+-- vertices: `0` and `1` are texts and not numbers
+pub ref_forms : ref_of 4 (codes "V003") ≡ Some (At 3)
+ref_forms = refl
+
+pub ref_past_the_last : ref_of 4 (codes "V4") ≡ None
+ref_past_the_last = refl
+
+pub ref_null : ref_of 0 (codes "0") ≡ Some Null
+ref_null = refl
+
+pub ref_no_null : ref_of 4 (codes "00") ≡ None
+ref_no_null = refl
+
+-- arc records
+pub record_number_forms : record_number_of 2 (codes "A01") ≡ Some (Some 1)
+record_number_forms = refl
+
+pub no_record_one : record_number_of 2 (codes "1") ≡ None
+no_record_one = refl
+
+pub too_long_number : record_number_of 2 (codes "A" ++ replicate 19 48) ≡ None
+too_long_number = refl
+
+-- strings
+pub string_form : string_at 3 (codes "\"a\\\nbc\",x") ≡ Some (record { value = codes "abc"; rest = codes ",x" })
+unfolding unbroken
+string_form = refl
+
+pub string_too_long : string_at 3 (codes "\"abcd\"") ≡ None
+unfolding unbroken
+string_too_long = refl
+
+pub string_over_lines : string_at 3 (codes "\"a\nb\"") ≡ None
+unfolding unbroken
+string_over_lines = refl
+
+pub string_unfinished : string_at 3 (codes "\"ab\n") ≡ None
+unfolding unbroken
+string_unfinished = refl
+
+pub string_with_backslash : string_at 3 (codes "\"a\\b\"") ≡ None
+unfolding unbroken
+string_with_backslash = refl

@@ -1,0 +1,74 @@
+-- Texts that are written.
+use Rattle.std.specs.Prelude.{◌≡◌, List, ℕ, [], ◌∷◌, ◌++◌, codes, length, replicate, refl}
+use Rattle.std.specs.List.{repeat}
+use Rattle.std.specs.Fmt.{digits}
+use Rattle.sgb_file.specs.FileLines.{text_of_lines}
+use Rattle.sgb_file.specs.Checksum.{weighted_sum}
+use Rattle.sgb_file.specs.Saving.{quoted, pieces_of, laid_out, record_lines, text_of_graph}
+use Rattle.sgb_file.proofs.Examples.GraphFiles.{one_cell, one_cell_lines, two_joined, two_joined_lines, nothing, nothing_lines}
+
+-- the file of board(1,0,0,0,1,0,0)
+pub of_one_cell : text_of_graph one_cell ≡ text_of_lines one_cell_lines
+unfolding digits weighted_sum pieces_of laid_out
+of_one_cell = refl
+
+-- the file of complete(2)
+pub of_two_joined : text_of_graph two_joined ≡ text_of_lines two_joined_lines
+unfolding digits weighted_sum pieces_of laid_out
+of_two_joined = refl
+
+-- it has 160 bytes
+pub length_of_two_joined : length (text_of_graph two_joined) ≡ 160
+unfolding digits weighted_sum pieces_of laid_out
+length_of_two_joined = refl
+
+-- the file of no vertices and the id a
+pub of_nothing : text_of_graph nothing ≡ text_of_lines (nothing_lines ++ codes "* Checksum 18619" ∷ [])
+unfolding digits weighted_sum pieces_of laid_out
+of_nothing = refl
+
+-- the id of the eighth complement of petersen(), of 160 bytes
+abbrev pub eighth_complement : List ℕ
+eighth_complement =
+    repeat 8 (codes "complement(") ++ codes "subsets(2,1,-4,0,0,0,0x1,0)" ++ repeat 4 (codes ",0,0,0)")
+    ++ codes ",0,0,0" ++ codes "...)" ++ codes ",0,0,0)"
+
+pub length_of_eighth : length eighth_complement ≡ 160
+length_of_eighth = refl
+
+-- the record of that graph: two broken lines, and the last seven bytes of the id's piece with the numbers
+pub of_eighth : record_lines (quoted eighth_complement ∷ codes "10" ∷ codes "30" ∷ []) ≡
+    (codes "\"" ++ repeat 7 (codes "complement(") ++ codes "\\")
+    ∷ (codes "complement(subsets(2,1,-4,0,0,0,0x1,0)" ++ repeat 4 (codes ",0,0,0)") ++ codes ",0,0,0...),0\\")
+    ∷ codes ",0,0)\",10,30" ∷ []
+unfolding pieces_of laid_out
+of_eighth = refl
+
+-- a piece that fills the line to 79 bytes stays on it; one byte more begins a line
+pub fills_line : laid_out (replicate 70 48) (replicate 9 49 ∷ []) ≡ (replicate 70 48 ++ replicate 9 49) ∷ []
+unfolding laid_out
+fills_line = refl
+
+pub passes_line : laid_out (replicate 70 48) (replicate 10 49 ∷ []) ≡ replicate 70 48 ∷ replicate 10 49 ∷ []
+unfolding laid_out
+passes_line = refl
+
+-- a piece of 79 bytes is not broken; of one of 80, two bytes are left
+pub whole_piece : laid_out [] (replicate 79 48 ∷ []) ≡ replicate 79 48 ∷ []
+unfolding laid_out
+whole_piece = refl
+
+pub broken_piece : laid_out [] (replicate 80 48 ∷ []) ≡ (replicate 78 48 ++ codes "\\") ∷ replicate 2 48 ∷ []
+unfolding laid_out
+broken_piece = refl
+
+-- a piece that is broken ends the line before it, and is broken until at most 79 bytes are left
+pub broken_after_a_line : laid_out (codes "x,") (replicate 157 48 ∷ []) ≡
+    codes "x," ∷ (replicate 78 48 ++ codes "\\") ∷ replicate 79 48 ∷ []
+unfolding laid_out
+broken_after_a_line = refl
+
+pub broken_twice : laid_out (codes "x,") (replicate 158 48 ∷ []) ≡
+    codes "x," ∷ (replicate 78 48 ++ codes "\\") ∷ (replicate 78 48 ++ codes "\\") ∷ replicate 2 48 ∷ []
+unfolding laid_out
+broken_twice = refl

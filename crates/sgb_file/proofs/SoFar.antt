@@ -1,0 +1,36 @@
+-- A text written part by part: what was written so far, and what is left.
+use Rattle.std.proofs.Common.{◌≡◌, ◌++◌, ◌∙◌, ℕ, List, [], Option, refl, sym, ap, subst, append_assoc, append-nil}
+use Rattle.std.specs.Io.KnownBytes.{Appends}
+use Rattle.std.proofs.KnownBytes.{Appends-trans, Appends-nil}
+use Rattle.sgb_file.specs.Devices.{AppendsPrefix}
+use Rattle.sgb_file.proofs.WrittenPrefixes.{prefix_more, prefix_after}
+
+-- of all of a text, this is left, and what stands before it was written
+abbrev pub SoFar : List ℕ → List ℕ → Option (List ℕ) → Option (List ℕ) → Type 0
+SoFar all left before after = (done : List ℕ) × (done ++ left ≡ all) × Appends before after done
+
+-- nothing was written
+pub so_far-none : (all : List ℕ) (a : Option (List ℕ)) → SoFar all all a a
+so_far-none all a = ([], refl, Appends-nil a)
+
+-- the same is left
+pub so_far-same : (all left rest : List ℕ) (a b : Option (List ℕ)) → left ≡ rest → SoFar all left a b → SoFar all rest a b
+so_far-same all left rest a b e p = subst (λ text. SoFar all text a b) e p
+
+-- the next part was written
+pub so_far-more : (all part left rest : List ℕ) (a b c : Option (List ℕ)) → left ≡ part ++ rest → SoFar all left a b → Appends b c part → SoFar all rest a c
+so_far-more all part left rest a b c e p q =
+    (p.0 ++ part, append_assoc p.0 part rest ∙ ap (λ text. p.0 ++ text) (sym e) ∙ p.1, Appends-trans a b c p.0 part p.2 q)
+
+-- all was written
+pub so_far-all : (all left : List ℕ) (a b : Option (List ℕ)) → left ≡ [] → SoFar all left a b → Appends a b all
+so_far-all all left a b e p =
+    let whole : p.0 ≡ all = sym (append-nil p.0) ∙ ap (λ text. p.0 ++ text) (sym e) ∙ p.1 in
+    subst (λ (text : List ℕ). Appends a b text) whole p.2
+
+-- a prefix of the next part was written
+pub so_far-prefix : (all part left rest : List ℕ) (a b c : Option (List ℕ)) → left ≡ part ++ rest → SoFar all left a b → AppendsPrefix b c part → AppendsPrefix a c all
+so_far-prefix all part left rest a b c e p q =
+    let whole : p.0 ++ (part ++ rest) ≡ all = ap (λ text. p.0 ++ text) (sym e) ∙ p.1 in
+    let P : List ℕ → Type 0 = λ text. AppendsPrefix a c text in
+    subst P whole (prefix_after a b c p.0 (part ++ rest) p.2 (prefix_more b c part rest q))

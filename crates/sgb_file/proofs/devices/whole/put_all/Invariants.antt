@@ -1,0 +1,16 @@
+-- What is gone from `rest` was taken, by a sink that has not failed; where nothing is gone, the sink is as it was.
+use Rattle.std.proofs.Common.{◌≡◌, ℕ, ◌<◌, List, ◌++◌, length, false}
+use Rattle.std.specs.Io.KnownBytes.{Appends}
+use Rattle.sgb_file.proofs.devices.whole.put_all.Given as goal
+
+abbrev pub invariant-loop-rest : goal.invariant-loop-rest
+invariant-loop-rest g l =
+    ((done : List ℕ)
+    × (l.initial.rest ≡ done ++ l.rest)
+    × Appends (g.S.Sink.written l.initial.sink) (g.S.Sink.written l.sink) done
+    × (0 < length done → g.S.Sink.has_failed l.sink ≡ false)
+    × (length done ≡ 0 → l.sink ≡ l.initial.sink))
+    × (g.S.Sink.has_failed l.sink ≡ g.S.Sink.has_failed l.initial.sink)
+
+abbrev pub decreases-loop-rest : goal.decreases-loop-rest
+decreases-loop-rest g l = length l.rest

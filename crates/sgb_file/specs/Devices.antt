@@ -1,0 +1,74 @@
+-- What sources give and sinks take, where they tell their bytes, and when a device has failed.
+use Rattle.std.specs.Prelude.{◌≡◌, ℕ, ◌++◌, ◌-◌, ◌||◌, ◌==◌, min, take, drop, length, Bool, true, List, Option, Result, Ok, Err, refl}
+use Rattle.std.specs.Bool.{MatchBool}
+use Rattle.std.specs.Coded.{Coded, code_by, coded×, coded_bool}
+use Rattle.std.specs.Io.KnownBytes.{Appends}
+
+-- known bytes grew by a prefix of bs, of whatever length
+abbrev pub AppendsPrefix : Option (List ℕ) → Option (List ℕ) → List ℕ → Type 0
+AppendsPrefix old new bs = (done rest : List ℕ) × (bs ≡ done ++ rest) × Appends old new done
+
+-- known bytes grew by bs, or by a prefix of bs where the sink has failed
+abbrev pub AppendsUnlessFailed : Bool → Option (List ℕ) → Option (List ℕ) → List ℕ → Type 0
+AppendsUnlessFailed failed old new bs = MatchBool failed (AppendsPrefix old new bs) (Appends old new bs)
+
+-- all of bs was taken, or a prefix of it and the sink has failed
+abbrev pub IsPut : {T E : Type 0} → List ℕ → Option (List ℕ) → Option (List ℕ) → Bool → Result T E → Type 0
+IsPut bs old new failed (Ok x) = Appends old new bs
+IsPut bs old new failed (Err e) = AppendsPrefix old new bs × (failed ≡ true)
+
+-- a sink in memory: the bytes that it took, how many it has memory for, and whether it has failed
+pub record MemSinkState : Type 0 where
+  pub bytes : List ℕ
+  pub room : ℕ
+  pub failed : Bool
+
+-- a source that is cut short: the bytes to come, how many it gives at once and in all from here on, and whether it has failed
+pub record CutSourceState : Type 0 where
+  pub bytes : List ℕ
+  pub each : ℕ
+  pub left : ℕ
+  pub failed : Bool
+
+-- whether the next take of a source that is cut short fails
+abbrev pub take_fails : CutSourceState → Bool
+take_fails source = source.failed || source.left == 0
+
+-- how many bytes a source that is cut short puts into a buffer of this length
+abbrev pub take_count : CutSourceState → ℕ → ℕ
+take_count source room = min (min (min source.each source.left) (length source.bytes)) room
+
+-- the source after its next count bytes
+abbrev pub after_take : CutSourceState → ℕ → CutSourceState
+after_take source count = record source { bytes = drop count source.bytes; left = source.left - count }
+
+-- a sink that is cut short: the bytes taken, how many it takes at once and in all from here on, whether a flush
+-- fails, and whether it has failed
+pub record CutSinkState : Type 0 where
+  pub taken : List ℕ
+  pub each : ℕ
+  pub left : ℕ
+  pub flush_fails : Bool
+  pub failed : Bool
+
+-- whether the next put of a sink with room for this many bytes fails
+abbrev pub put_fails : ℕ → CutSinkState → Bool
+put_fails capacity sink = sink.failed || (sink.left == 0 || length sink.taken == capacity)
+
+-- how many bytes a sink with room for this many bytes takes of so many
+abbrev pub put_count : ℕ → CutSinkState → ℕ → ℕ
+put_count capacity sink offered = min (min (min sink.each sink.left) (capacity - length sink.taken)) offered
+
+-- the sink after it took a prefix of these bytes
+abbrev pub after_put : CutSinkState → List ℕ → ℕ → CutSinkState
+after_put sink bs count = record sink { taken = sink.taken ++ take count bs; left = sink.left - count }
+
+-- a reader or writer of std's, and whether it has failed
+pub record Adapted (Inner : Type 0) : Type 0 where
+  pub inner : Inner
+  pub failed : Bool
+
+-- an adapted value is stored as the pair of its fields
+abbrev pub adapted_code : {Inner : Type 0} → Coded Inner → Coded (Adapted Inner)
+adapted_code {Inner = Inner} code =
+    code_by (Inner × Bool) (coded× code coded_bool) (λ a. (a.inner, a.failed)) (λ p. record { inner = p.0; failed = p.1 }) (λ _. refl)
