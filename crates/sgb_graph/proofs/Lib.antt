@@ -1,4 +1,5 @@
 -- The lemmas and examples of sgb_graph.
+pub mod AddedEvents
 pub mod AddingArcs
 pub mod AddingEdges
 pub mod Chains

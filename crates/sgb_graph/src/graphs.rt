@@ -5,6 +5,7 @@ ghost use Rattle.sgb_graph.specs.Growth.{IsKept, new_id, new_graph, new_vertex, 
 
 mod adding;
 mod arcs;
+mod events;
 mod numbers;
 
 use crate::fields::{ArcRec, Kind, Util, Vertex};
