@@ -9,6 +9,7 @@ pub mod EventLemmas
 pub mod Examples
 pub mod Fitting
 pub mod Growing
+pub mod HexadecimalDigits
 pub mod IdLemmas
 pub mod ListMembers
 pub mod Lists
