@@ -33,7 +33,7 @@ name_of_more : (x y : ℕ) (rest : List ℕ) → name_of_vector (x ∷ y ∷ res
 unfolding name_of_vector
 name_of_more x y rest = refl
 
--- one more entry behind others
+-- one more entry after others
 name_of_vector-push : (xs : List ℕ) (y : ℕ) → 0 < length xs → name_of_vector (xs ++ y ∷ []) ≡ (name_of_vector xs ++ 46 ∷ []) ++ decimal y
 name_of_vector-push [] y some = absurd (omega arith)
 name_of_vector-push (x ∷ []) y some = rw (name_of_more x y [], name_of_one x, name_of_one y) (simp append_assoc)

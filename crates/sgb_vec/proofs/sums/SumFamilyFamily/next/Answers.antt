@@ -3,7 +3,7 @@ use Rattle.std.specs.List.{refill}
 use Rattle.std.proofs.lemmas.List.{take_at}
 use Rattle.sgb_vec.specs.Sums.{BoundedSum}
 use Rattle.sgb_vec.proofs.SumMembers.{Contains-bounded_sums}
-use Rattle.sgb_vec.proofs.sums.members.SumFamilyFamily.next.Goals as goal
+use Rattle.sgb_vec.proofs.sums.SumFamilyFamily.next.Goals as goal
 
 pub advance-requires-clause-within : goal.advance-requires-clause-within
 advance-requires-clause-within c =

@@ -2,7 +2,7 @@ use Rattle.std.proofs.Common.{◌≡◌, ◌∙◌, ap, arith, eqb-true}
 use Rattle.std.proofs.lemmas.Bool.{eq-eqb}
 use Rattle.sgb_vec.specs.Sums.{BoundedSum}
 use Rattle.sgb_vec.proofs.SumMembers.{Contains-bounded_sums}
-use Rattle.sgb_vec.proofs.sums.members.SumFamilyFamily.holds.Goals as goal
+use Rattle.sgb_vec.proofs.sums.SumFamilyFamily.holds.Goals as goal
 
 pub returns-then-each_within : goal.returns-then-each_within
 returns-then-each_within c =

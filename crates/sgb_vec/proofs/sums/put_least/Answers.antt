@@ -1,6 +1,6 @@
 use Rattle.std.proofs.Common.{◌≡◌, ◌-◌, arith}
 use Rattle.sgb_vec.proofs.SumTails.{filled-none, filled-more, filled-all}
-use Rattle.sgb_vec.proofs.sums.members.put_least.Goals as goal
+use Rattle.sgb_vec.proofs.sums.put_least.Goals as goal
 
 pub loop-place-init : goal.loop-place-init
 loop-place-init c = filled-none c.args.bounds.now c.args.entries.now c.args.total c.requires.same_length

@@ -1,7 +1,7 @@
 use Rattle.std.proofs.Common.{◌≡◌, ◌<◌, ◌∙◌, ap, length, sum, arith}
 use Rattle.sgb_vec.specs.Sums.{BoundedSum, bounded_sums}
 use Rattle.sgb_vec.proofs.SumWalks.{room_from_member}
-use Rattle.sgb_vec.proofs.sums.members.SumFamilyFamily.first.Goals as goal
+use Rattle.sgb_vec.proofs.sums.SumFamilyFamily.first.Goals as goal
 
 pub put_first-requires-clause-room : goal.put_first-requires-clause-room
 put_first-requires-clause-room c =

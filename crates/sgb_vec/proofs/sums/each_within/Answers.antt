@@ -1,6 +1,6 @@
 use Rattle.std.proofs.Common.{◌∙◌, sym, eqb-true}
 use Rattle.sgb_vec.proofs.SumMembers.{IsWithin-test, IsWithin-length}
-use Rattle.sgb_vec.proofs.sums.members.each_within.Goals as goal
+use Rattle.sgb_vec.proofs.sums.each_within.Goals as goal
 
 pub returns-then-entries-bounds : goal.returns-then-entries-bounds
 returns-then-entries-bounds c =
