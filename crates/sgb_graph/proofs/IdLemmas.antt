@@ -51,14 +51,14 @@ number_passes (negsuc n) h =
 pub length-number : (z : ℤ) → mag z < 2 ^ 63 → length (signed_decimal z) ≤ 20
 length-number z h = length_signed_le 19 z (omega arith) h
 
--- an id with such a text behind it
+-- an id with such a text after it
 pub IsId-push_text : (bytes text : List ℕ) → IsId bytes → is_id_text text ≡ true → length bytes + length text ≤ 160 → IsId (bytes ++ text)
 IsId-push_text bytes text id passes room = record {
   short = omega (arith, length-append bytes text);
   printable = All-append IsTextByte bytes text id.printable (text_passes text passes);
 }
 
--- an id with a number behind it
+-- an id with a number after it
 pub IsId-push_number : (bytes : List ℕ) (z : ℤ) → IsId bytes → mag z < 2 ^ 63 → length bytes + 20 ≤ 160 → IsId (bytes ++ signed_decimal z)
 IsId-push_number bytes z id small room = record {
   short = omega (arith, length-append bytes (signed_decimal z), length-number z small);

@@ -83,7 +83,7 @@ impl Family for SumFamily {
 
     fn holds(&self, vector: &[u32]) -> bool {
         each_within(vector, self.bounds.as_slice())
-            && sum_of_entries(vector) == u64::from(self.total)
+            && total_of(vector) == u64::from(self.total)
     }
 
     fn first(&self, vector: &mut Vector) -> bool {
@@ -117,8 +117,8 @@ fn pairs_within(entries: &[u32], bounds: &[u32]) -> bool
     entries.iter().zip(bounds).all(|(x, b)| *x <= *b)
 }
 
-// What the entries add to.
-fn sum_of_entries(entries: &[u32]) -> u64
+// What the entries, or the bounds, add to; that may be above 32 bits.
+fn total_of(entries: &[u32]) -> u64
     requires { length entries.now ≤ most_dimensions + 1 }
     ensures { result ≡ sum entries.now }
 {

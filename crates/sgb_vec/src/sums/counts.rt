@@ -4,6 +4,7 @@ ghost use Rattle.sgb_vec.specs.Limits.{most_dimensions, most_vertices};
 ghost use Rattle.sgb_vec.specs.Sums.{count_of_sum, has_great_count};
 ghost use Rattle.sgb_vec.specs.SumRows.{CountsSums};
 
+use super::total_of;
 use crate::limits::MOST_VERTICES;
 use crate::panics::Panic;
 use std::alloc::Global;
@@ -36,7 +37,7 @@ fn count_of_one(total: u32, bounds: &[u32]) -> u32
     ensures count { result ≡ count_of_sum total bounds.now }
     ensures small { result ≤ 1 }
 {
-    if u64::from(total) <= sum_of(bounds) {
+    if u64::from(total) <= total_of(bounds) {
         1
     } else {
         0
@@ -49,15 +50,7 @@ fn row_length(total: u32, bounds: &[u32]) -> usize
     requires { length bounds.now ≤ most_dimensions + 1 }
     ensures { result ≡ min total (sum bounds.now) + 1 }
 {
-    u64::from(total).min(sum_of(bounds)) as usize + 1
-}
-
-// The sum of the bounds, which may be above 32 bits.
-fn sum_of(bounds: &[u32]) -> u64
-    requires { length bounds.now ≤ most_dimensions + 1 }
-    ensures { result ≡ sum bounds.now }
-{
-    bounds.iter().map(|bound| u64::from(*bound)).sum()
+    u64::from(total).min(total_of(bounds)) as usize + 1
 }
 
 // The row of no bounds: one vector adds to 0, and none to another sum. `NoRoom` when out of memory.

@@ -10,8 +10,8 @@ returns-then-each_within c =
     let total : c.self.inside.total ≡ c.args.self.now.total = ap (λ (s : BoundedSum). s.total) c.self.view_is in
     let within = rw bounds at c.each_within.ensures in
     let means = Contains-bounded_sums c.args.self.now.total c.args.self.now.bounds c.args.vector.now in (
-      λ yes. means.1 (within.0 c.if-each_within.true, omega (arith, eqb-true _ _ yes, c.sum_of_entries.ensures, c.from.ensures)),
-      λ member. eq-eqb _ _ (omega (arith, (means.0 member).1, c.sum_of_entries.ensures, c.from.ensures)),
+      λ yes. means.1 (within.0 c.if-each_within.true, omega (arith, eqb-true _ _ yes, c.total_of.ensures, c.from.ensures)),
+      λ member. eq-eqb _ _ (omega (arith, (means.0 member).1, c.total_of.ensures, c.from.ensures)),
     )
 
 pub returns-else-each_within : goal.returns-else-each_within

@@ -1,6 +1,6 @@
 use Rattle.std.proofs.Common.{◌-◌, ◌/◌, drop, slice_set, sym, subst, ap, ◌∙◌, arith}
 use Rattle.sgb_graph.proofs.HexadecimalDigits.{HasDigitsFrom, digits-none, digits-more, digits-first}
-use Rattle.sgb_graph.proofs.ids.hexadecimals.put_digits.Goals as goal
+use Rattle.sgb_graph.proofs.ids.hexadecimals.put_hexadecimal_digits.Goals as goal
 
 pub loop-start-init : goal.loop-start-init
 loop-start-init c = digits-none c.args.number c.args.text.now (omega arith) c.told-text
