@@ -1,6 +1,5 @@
 ghost use Rattle.std.specs.Prelude.{◌≡◌, ◌≤◌, ◌+◌, ◌*◌, [], ◌++◌, ◌↔◌, length, IsTrue, IfOk, IsErrOf, IsOkUnless};
 ghost use Rattle.std.specs.Fmt.{signed_decimal};
-ghost use Rattle.sgb_vec.specs.Names.{IsTextByte};
 ghost use Rattle.sgb_graph.specs.IdTexts.{flag_text, hexadecimal_text, is_id_text, numbers_text};
 ghost use Rattle.sgb_graph.specs.Ids.{most_id_bytes, IsId};
 
@@ -11,7 +10,7 @@ use arrayvec::ArrayVec;
 pub use compounds::{compound_id, double_compound_id};
 use hexadecimals::{MOST_HEXADECIMAL_DIGITS, put_hexadecimal_digits};
 use itoa::Buffer;
-use sgb_vec::Panic;
+use sgb_vec::{Panic, is_text_byte};
 use std::marker::Model;
 
 // An id has at most this many bytes.
@@ -45,7 +44,7 @@ impl Id {
         ensures refused { IsErrOf result Panic.Syntax ↔ ¬ IsId bytes.now }
         ensures err { IsOkUnless result Panic.Syntax }
     {
-        if !bytes.iter().all(|byte| is_id_byte(*byte)) {
+        if !bytes.iter().all(|byte| is_text_byte(*byte)) {
             return Err(Panic::Syntax);
         }
         let mut id = ArrayVec::new();
@@ -156,13 +155,6 @@ impl IdWriter {
         let IdWriter { bytes } = self;
         Id { bytes }
     }
-}
-
-// Whether the byte may stand in an id.
-fn is_id_byte(byte: u8) -> bool
-    ensures { IsTrue result ↔ IsTextByte byte }
-{
-    b' ' <= byte && byte <= b'~' && byte != b'"' && byte != b'\\'
 }
 
 #[cfg(test)]

@@ -70,8 +70,9 @@ fn is_text(bytes: &[u8]) -> bool
     bytes.len() <= MOST_BYTES && bytes.iter().all(|byte| is_text_byte(*byte))
 }
 
-// Whether the byte may stand in a string.
-fn is_text_byte(byte: u8) -> bool
+/// Whether the byte may stand in a string, and so in a name or an id: printable ASCII (32 to 126), and neither `"` nor
+/// `\` (GB_SAVE).
+pub fn is_text_byte(byte: u8) -> bool
     ensures { IsTrue result ↔ IsTextByte byte }
 {
     b' ' <= byte && byte <= b'~' && byte != b'"' && byte != b'\\'
