@@ -60,8 +60,8 @@ ComesBefore-from_places (s ∷ sizes) (x ∷ v) (y ∷ w) b c h =
     let n = product_of sizes in
     elim (cases_order x y) [
       | inl same ↦
-          let behind : place_of sizes v < place_of sizes w = omega (arith, ap (λ m. m * n) same) in
-          rw (← nat_cmp_is x y Equal same) (ComesBefore-from_places sizes v w b.1 c.1 behind)
+          let after : place_of sizes v < place_of sizes w = omega (arith, ap (λ m. m * n) same) in
+          rw (← nat_cmp_is x y Equal same) (ComesBefore-from_places sizes v w b.1 c.1 after)
       | inr (inl less) ↦ rw (← nat_cmp_is x y Less less)
       | inr (inr more) ↦ absurd (omega (arith, mul-le (y + 1) n x n (omega arith) (omega arith), place_of-below sizes w c.1))
     ]

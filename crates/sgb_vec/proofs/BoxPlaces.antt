@@ -108,9 +108,9 @@ StandsAt-box (s ∷ sizes) i d h =
     let n_pos : 0 < n = (factors-pos s n (omega arith)).1 in
     let x_below : i / n < s = div_below i n s n_pos h in
     let j_below : i % n < n = mod_below i n n_pos in
-    let behind = StandsAt-cons s sizes _ (i / n) (i % n) _ x_below (StandsAt-box sizes (i % n) d j_below) refl in
+    let after = StandsAt-cons s sizes _ (i / n) (i % n) _ x_below (StandsAt-box sizes (i % n) d j_below) refl in
     let row : StandsAt (s ∷ sizes) (get_or (box (s ∷ sizes)) (i / n * n + i % n) d) (i / n * n + i % n) =
-    rw (get_or-box s sizes (i / n) (i % n) d x_below j_below) behind in
+    rw (get_or-box s sizes (i / n) (i % n) d x_below j_below) after in
     subst (λ m. StandsAt (s ∷ sizes) (get_or (box (s ∷ sizes)) m d) m) (div-add-mod' i n) row
 
 -- the vectors of a box are those with as many entries as there are sizes, each below its size

@@ -16,4 +16,4 @@ returns-clause-found c =
     let below = EachBelow-from_Contains c.args.sizes.now c.args.entries.now c.requires in
     let here = c.in-Some.ensures.below in
     let grown = GrownAt-put_mid c.args.entries.now c.fill.new.self c.in-Some.place here.0 (search rules) in
-    IsNext-grown c.args.sizes.now c.args.entries.now _ c.in-Some.place below here.0 here.1 (λ k low high. c.in-Some.ensures.top_behind k (omega arith) high) grown
+    IsNext-grown c.args.sizes.now c.args.entries.now _ c.in-Some.place below here.0 here.1 (λ k low high. c.in-Some.ensures.top_after k (omega arith) high) grown
