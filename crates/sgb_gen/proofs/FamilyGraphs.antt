@@ -14,7 +14,7 @@ use Rattle.sgb_graph.specs.Growth.{new_graph, new_vertex, with_id}
 use Rattle.sgb_graph.specs.Made.{no_fields}
 use Rattle.sgb_graph.proofs.EventLemmas.{new_has_none}
 use Rattle.sgb_gen.specs.Additions.{AddsEvents, HasCoordinates, HasNoFields}
-use Rattle.sgb_gen.specs.Families.{Move, event_among, family_graph}
+use Rattle.sgb_gen.specs.VectorGraphs.{Move, event_among, family_graph}
 
 -- the names and fields of new vertices
 new_names : (texts : List (List ℕ)) → map (λ v. v.name) (map new_vertex texts) ≡ texts

@@ -5,7 +5,7 @@ use Rattle.std.specs.List.{join_with_byte}
 use Rattle.std.proofs.lemmas.List.Concat.{flat_map-append}
 use Rattle.sgb_gen.specs.Additions.{numbers_text}
 use Rattle.sgb_gen.specs.Boards.{BoardData, board_id}
-use Rattle.sgb_gen.specs.Families.{integer_texts, flag_text}
+use Rattle.sgb_gen.specs.VectorGraphs.{integer_texts, flag_text}
 use Rattle.sgb_gen.specs.Simplexes.{SimplexData, simplex_id}
 use Rattle.sgb_gen.specs.Subsets.{SubsetsData, hexadecimal_text, subsets_id}
 

@@ -9,7 +9,7 @@ pub mod NextVectors
 pub mod Parts
 pub mod Riders
 pub mod Destinations
-pub mod Shifts
+pub mod ShiftLemmas
 pub mod AddedEvents
 pub mod AcceptedBoards
 pub mod Reaches

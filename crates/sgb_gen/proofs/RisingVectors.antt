@@ -9,7 +9,7 @@ use Rattle.std.proofs.lemmas.Bool.{cases_order, cases_lt, true≢false}
 use Rattle.std.proofs.lemmas.Cmp.{tied_itself}
 use Rattle.std.proofs.lemmas.Option.{slice_get_within, slice_get_read, get_or_from_slice_get}
 use Rattle.sgb_vec.specs.Lexicographic.{IsBefore, IsRising}
-use Rattle.sgb_gen.specs.Families.{vertex_among}
+use Rattle.sgb_gen.specs.VectorGraphs.{vertex_among}
 use Rattle.sgb_gen.proofs.Vertices.{vertex_at}
 
 -- no vector is before itself

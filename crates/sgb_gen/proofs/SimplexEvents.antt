@@ -5,11 +5,11 @@ use Rattle.std.proofs.lemmas.List.{map-append}
 use Rattle.std.proofs.lemmas.List.Elements.{filter-append, length_all_zip}
 use Rattle.sgb_vec.proofs.SumMembers.{Contains-bounded_sums, bounded_sums-rise}
 use Rattle.sgb_graph.specs.Events.{Event}
-use Rattle.sgb_gen.specs.Families.{Move, event_among, vertex_among}
+use Rattle.sgb_gen.specs.VectorGraphs.{Move, event_among, vertex_among}
 use Rattle.sgb_gen.specs.Simplexes.{SimplexData, Places, can_shift, shifted, pairs_from, pairs_of_places, moves_by, moves_to, moves_of_simplex, simplex_vectors}
 use Rattle.sgb_gen.proofs.FamilyWalks.{map-flat_map}
 use Rattle.sgb_gen.proofs.RisingVectors.{vertex_in_rising}
-use Rattle.sgb_gen.proofs.Shifts.{shifted-in_sum}
+use Rattle.sgb_gen.proofs.ShiftLemmas.{shifted-in_sum}
 
 -- a vertex has one entry for each bound
 pub length_in_sum : (s : SimplexData) (x : List ℕ) → Contains (simplex_vectors s) x → length x ≡ length s.sum.bounds

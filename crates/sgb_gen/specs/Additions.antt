@@ -7,7 +7,7 @@ use Rattle.sgb_graph.specs.Events.{Event, HasArcsOf}
 use Rattle.sgb_graph.specs.Growth.{KeepsAllButArcs}
 use Rattle.sgb_graph.specs.declared.fields.ArcRec.{ArcRec}
 use Rattle.sgb_graph.specs.declared.fields.Util.TheVariants.{Nothing}
-use Rattle.sgb_gen.specs.Families.{fields_of_vector, kinds_of_family}
+use Rattle.sgb_gen.specs.VectorGraphs.{fields_of_vector, kinds_of_family}
 use Rattle.sgb_gen.specs.Moves.{Side, place, is_elsewhere, places_count}
 
 -- the fields of an arc record hold nothing

@@ -1,6 +1,6 @@
 -- What the contracts of sgb_gen speak of.
 pub mod Limits
-pub mod Families
+pub mod VectorGraphs
 pub mod Displacements
 pub mod LaterDisplacements
 pub mod Moves

@@ -5,7 +5,7 @@ use Rattle.std.specs.List.{flat_map, range_with_len}
 use Rattle.sgb_vec.specs.Boxes.{product_of}
 use Rattle.sgb_vec.specs.Lexicographic.{IsBelow}
 use Rattle.sgb_gen.specs.Displacements.{displacements}
-use Rattle.sgb_gen.specs.Families.{Move, same_vector}
+use Rattle.sgb_gen.specs.VectorGraphs.{Move, same_vector}
 
 -- a side of a board: how many places it has, and whether it wraps around
 pub record Side : Type 0 where

@@ -4,10 +4,8 @@ ghost use Rattle.sgb_gen.specs.Boards.{board};
 ghost use Rattle.sgb_gen.specs.Simplexes.{simplex};
 ghost use Rattle.sgb_gen.specs.Subsets.{subsets};
 
-use crate::boards::Board;
-use crate::multisets::Subsets;
+use crate::accepted::{Board, Simplex, Subsets};
 use crate::params::{BoardParams, SimplexParams, SubsetsParams};
-use crate::simplexes::Simplex;
 use sgb_graph::Graph;
 use sgb_vec::Panic;
 use std::alloc::Global;

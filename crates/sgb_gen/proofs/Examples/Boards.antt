@@ -10,7 +10,7 @@ use Rattle.sgb_graph.specs.Events.{list_from}
 use Rattle.sgb_graph.specs.Descriptions.{Description}
 use Rattle.sgb_graph.specs.declared.fields.Kind.TheVariants.{Z, I}
 use Rattle.sgb_graph.specs.declared.fields.Util.TheVariants.{Nothing, Int}
-use Rattle.sgb_gen.specs.Families.{family_graph}
+use Rattle.sgb_gen.specs.VectorGraphs.{family_graph}
 use Rattle.sgb_gen.specs.Displacements.{displacements, vectors_of_norm, signings}
 use Rattle.sgb_gen.specs.Moves.{is_bit_set, sides_of, place, reach, board_moves}
 use Rattle.sgb_gen.specs.declared.params.BoardParams.{BoardParams}

@@ -8,7 +8,7 @@ use Rattle.sgb_vec.specs.Sums.{bounded_sums, has_great_count}
 use Rattle.sgb_vec.specs.declared.panics.Panic.TheVariants.{Bad, VeryBad}
 use Rattle.sgb_graph.specs.Events.{list_from}
 use Rattle.sgb_graph.specs.declared.fields.Kind.TheVariants.{Z}
-use Rattle.sgb_gen.specs.Families.{family_graph}
+use Rattle.sgb_gen.specs.VectorGraphs.{family_graph}
 use Rattle.sgb_gen.specs.declared.params.SimplexParams.{SimplexParams}
 use Rattle.sgb_gen.specs.Simplexes.{accepted_simplex, simplex_id, moves_of_simplex, simplex}
 use Rattle.sgb_gen.proofs.Examples.Listings.{arc, block, listing, listing_of, shown_by}
