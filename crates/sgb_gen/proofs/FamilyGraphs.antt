@@ -58,7 +58,7 @@ family_made id directed vectors moves fresh grown placed e h k =
       arc_fields = subst (All HasNoFields) (sym k.records) (h.arc_fields plain);
     }
 
--- want of memory answers for any graph
+-- out of memory is an answer for any graph
 pub no_room : (d : Description) (r : Result GraphData Panic) (P : Panic → Type 0) → IsErr r × IsErrAnd r P → ((e : Panic) → P e → e ≡ NoRoom) → IsAnswerOf (Ok d) r
 no_room d (Ok g) P h n = absurd h.1
 no_room d (Err e) P h n = n e h.1

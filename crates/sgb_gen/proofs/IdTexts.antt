@@ -9,7 +9,7 @@ use Rattle.sgb_gen.specs.VectorGraphs.{integer_texts, flag_text}
 use Rattle.sgb_gen.specs.Simplexes.{SimplexData, simplex_id}
 use Rattle.sgb_gen.specs.Subsets.{SubsetsData, hexadecimal_text, subsets_id}
 
--- numbers and other texts behind them, with commas between them
+-- numbers and other texts after them, with commas between them
 join_numbers_before : (numbers : List ℤ) (t : List ℕ) (ts : List (List ℕ)) → join_with_byte 44 (integer_texts numbers ++ t ∷ ts) ≡ numbers_text numbers ++ join_with_byte 44 (t ∷ ts)
 join_numbers_before [] t ts = refl
 join_numbers_before (n ∷ []) t ts =

@@ -14,7 +14,7 @@ use Rattle.sgb_gen.specs.Moves.{Side, place, is_elsewhere, places_count}
 abbrev pub HasNoFields : ArcRec → Type 0
 HasNoFields r = (r.a ≡ Nothing) × (r.b ≡ Nothing)
 
--- the new graph is the old one with the arcs of these events behind those that it had
+-- the new graph is the old one with the arcs of these events after those that it had
 pub record AddsEvents (directed : Bool) (old new : GraphData) (events : List Event) : Type 0 where
   pub arcs : (before : List Event) → HasArcsOf directed before old → HasArcsOf directed (before ++ events) new
   pub arc_fields : All HasNoFields old.records → All HasNoFields new.records
@@ -41,6 +41,6 @@ abbrev pub longest_move : List Side → ℤ → ℕ
 longest_move sides (pos p) = 1
 longest_move sides (negsuc p) = places_count sides
 
--- numbers in an id, each with a comma behind it
+-- numbers in an id, each with a comma after it
 abbrev pub numbers_text : List ℤ → List ℕ
 numbers_text numbers = flat_map (λ n. signed_decimal n ++ codes ",") numbers

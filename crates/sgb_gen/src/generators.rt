@@ -15,7 +15,7 @@ use std::alloc::Global;
 /// number of steps.
 ///
 /// `Bad` above 91 dimensions; else `VeryBad` above 1,000,000,000 vertices, or where `piece` is above
-/// 2,147,483,647 or below its negative. `NoRoom` where memory is refused.
+/// 2,147,483,647 or below its negative. `NoRoom` when out of memory.
 pub fn board(
     alloc: Global,
     n1: i64,
@@ -46,7 +46,7 @@ pub fn board(
 ///
 /// `Bad` where `n` is negative, else above 91 dimensions; else `VeryBad` where `n` is above 1,000,000,000, or where
 /// for some j from 1 to the last dimension and some k up to `n` more than 1,000,000,000 vectors within the first
-/// j+1 bounds add to k. `NoRoom` where memory is refused.
+/// j+1 bounds add to k. `NoRoom` when out of memory.
 pub fn simplex(
     alloc: Global,
     n: i64,
@@ -78,7 +78,7 @@ pub fn simplex(
 ///
 /// `Bad` where `n` is negative, else above 91 dimensions; else `VeryBad` where `n` is above 1,000,000,000, or where
 /// for some j from 1 to the last dimension and some k up to `n` more than 1,000,000,000 vectors within the first
-/// j+1 bounds add to k. `NoRoom` where memory is refused.
+/// j+1 bounds add to k. `NoRoom` when out of memory.
 pub fn subsets(
     alloc: Global,
     n: i64,

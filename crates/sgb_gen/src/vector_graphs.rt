@@ -13,7 +13,7 @@ use std::alloc::Global;
 
 /// Adds the arc of an event, or its edge.
 ///
-/// `NoRoom` where memory is refused, and nothing else.
+/// `NoRoom` when out of memory, and nothing else.
 pub(crate) fn add_event(
     graph: &mut Graph,
     directed: bool,
@@ -36,7 +36,7 @@ pub(crate) fn add_event(
 
 /// The names of the vectors of a family, in order (GB_BASIC, board).
 ///
-/// `NoRoom` where memory is refused, and nothing else.
+/// `NoRoom` when out of memory, and nothing else.
 pub(crate) fn vector_names<F: Family>(alloc: Global, family: &F) -> Result<Names, Panic>
     ensures ok { IfOk result (λ names. names ≡ map name_of_vector (F.members family.now)) }
     ensures memory { IsOkUnless result Panic.NoRoom }
@@ -80,7 +80,7 @@ fn entry(vector: &[u32], k: usize) -> i64
     vector.get(k).copied().map_or(0, i64::from)
 }
 
-/// Puts the numbers into the id of a graph, each with a comma behind it.
+/// Puts the numbers into the id of a graph, each with a comma after it.
 pub(crate) fn push_numbers(id: &mut IdWriter, numbers: &[i64])
     requires { length id.old + 21 * length numbers.now ≤ most_id_bytes }
     ensures bytes { id.new ≡ id.old ++ numbers_text numbers.now }

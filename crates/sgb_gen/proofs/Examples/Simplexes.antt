@@ -41,7 +41,7 @@ pub directed_bounded : shown_by listing_of (simplex (record (params (pos 3) (pos
 unfolding box repeated digits name_of_vector bounded_sums has_great_count list_from simplex_id moves_of_simplex family_graph
 directed_bounded = refl
 
--- simplex(0,3,0,0,0,0,0): no dimensions, and the bound cut to 0 in the name too
+-- simplex(0,3,0,0,0,0,0): no dimensions, and the bound clamped to 0 in the name too
 pub point : shown_by listing_of (simplex (params (pos 0) (pos 3) (pos 0)))
     ≡ Ok (listing "simplex(0,0,0,0,0,0,0)" 0 (block "0" [] ∷ []))
 unfolding box repeated digits name_of_vector bounded_sums has_great_count list_from simplex_id moves_of_simplex family_graph

@@ -104,7 +104,7 @@ impl Board {
         &self.family
     }
 
-    /// The id of the board's graph: `board(n1,n2,n3,n4,piece,wrap,directed)`, with 0 for what stands behind the
+    /// The id of the board's graph: `board(n1,n2,n3,n4,piece,wrap,directed)`, with 0 for what stands after the
     /// parameter that ends the sizes, and 1 for a piece of 0 (GB_BASIC, board).
     pub fn id(&self) -> Id
         ensures { result ≡ board_id self.now }
@@ -117,7 +117,7 @@ impl Board {
         id.id()
     }
 
-    // The graph of the board. `NoRoom` where memory is refused, and nothing else.
+    // The graph of the board. `NoRoom` when out of memory, and nothing else.
     pub(crate) fn graph(&self, alloc: Global) -> Result<Graph, Panic>
         ensures { IsAnswerOf (Ok (board_graph self.now)) result }
     {

@@ -44,7 +44,7 @@ impl Simplex {
     ///
     /// `Bad` where `n` is negative, else above 91 dimensions; else `VeryBad` where `n` is above 1,000,000,000,
     /// or where for some j from 1 to the last dimension and some k up to `n` more than 1,000,000,000 vectors
-    /// within the first j+1 bounds add to k. `NoRoom` where memory is refused.
+    /// within the first j+1 bounds add to k. `NoRoom` when out of memory.
     pub fn new(
         alloc: Global,
         n: i64,
@@ -96,7 +96,7 @@ impl Simplex {
     }
 
     /// The id of the simplex's graph: `simplex(n,n0,n1,n2,n3,n4,directed)`, with -2 for an `n0` of 0, with `n`
-    /// for a bound above it, and with 0 for what stands behind the parameter that ends the bounds (GB_BASIC,
+    /// for a bound above it, and with 0 for what stands after the parameter that ends the bounds (GB_BASIC,
     /// simplex).
     pub fn id(&self) -> Id
         ensures { result ≡ simplex_id self.now }
@@ -108,7 +108,7 @@ impl Simplex {
         id.id()
     }
 
-    // The graph of the simplex. `NoRoom` where memory is refused, and nothing else.
+    // The graph of the simplex. `NoRoom` when out of memory, and nothing else.
     pub(crate) fn graph(&self, alloc: Global) -> Result<Graph, Panic>
         ensures { IsAnswerOf (Ok (simplex_graph self.now)) result }
     {

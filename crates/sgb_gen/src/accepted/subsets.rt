@@ -49,7 +49,7 @@ impl Subsets {
     ///
     /// `Bad` where `n` is negative, else above 91 dimensions; else `VeryBad` where `n` is above 1,000,000,000, or
     /// where for some j from 1 to the last dimension and some k up to `n` more than 1,000,000,000 vectors within the
-    /// first j+1 bounds add to k. `NoRoom` where memory is refused.
+    /// first j+1 bounds add to k. `NoRoom` when out of memory.
     pub fn new(
         alloc: Global,
         n: i64,
@@ -104,7 +104,7 @@ impl Subsets {
     }
 
     /// The id of the graph of subsets: `subsets(n,n0,n1,n2,n3,n4,0xH,directed)`, with no bound above `n`, -2 for an
-    /// `n0` of 0 and 0 for what stands behind the parameter that ends the bounds; H is `size_bits` in hexadecimal
+    /// `n0` of 0 and 0 for what stands after the parameter that ends the bounds; H is `size_bits` in hexadecimal
     /// (GB_BASIC, subsets).
     pub fn id(&self) -> Id
         ensures { result ≡ subsets_id self.now }
@@ -118,7 +118,7 @@ impl Subsets {
         id.id()
     }
 
-    // The graph of the subsets. `NoRoom` where memory is refused, and nothing else.
+    // The graph of the subsets. `NoRoom` when out of memory, and nothing else.
     pub(crate) fn graph(&self, alloc: Global) -> Result<Graph, Panic>
         ensures { IsAnswerOf (Ok (subsets_graph self.now)) result }
     {

@@ -4,7 +4,7 @@ use Rattle.sgb_gen.proofs.FamilyWalks.{IsAt}
 use Rattle.sgb_gen.proofs.SubsetsEvents.{events_from_place}
 use Rattle.sgb_gen.proofs.accepted.subsets.Subsets.add_arcs.Given as goal
 
--- the vector is number v, and the moves to it and to those behind it are still to come
+-- the vector is number v, and the moves to it and to those after it are still to come
 abbrev pub invariant-loop-v : goal.invariant-loop-v
 invariant-loop-v l =
     IsAt (subsets_vectors l.self) l.v l.vector.items
