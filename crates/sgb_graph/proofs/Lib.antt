@@ -1,4 +1,5 @@
 -- The lemmas and examples of sgb_graph.
+pub mod AddedEvents
 pub mod AddingArcs
 pub mod AddingEdges
 pub mod Chains
@@ -8,6 +9,7 @@ pub mod EventLemmas
 pub mod Examples
 pub mod Fitting
 pub mod Growing
+pub mod HexadecimalDigits
 pub mod IdLemmas
 pub mod ListMembers
 pub mod Lists

@@ -2,11 +2,10 @@
 use Rattle.std.specs.Prelude.{◌≡◌, ◌⊎◌, ℕ, Bool, List, map, All, Result, Ok, Err}
 use Rattle.sgb_vec.specs.declared.panics.Panic.{Panic}
 use Rattle.sgb_vec.specs.declared.panics.Panic.TheVariants.{NoRoom}
-use Rattle.sgb_graph.specs.Graphs.{GraphData}
+use Rattle.sgb_graph.specs.Graphs.{GraphData, HasNoFields}
 use Rattle.sgb_graph.specs.Events.{Event, HasArcsOf}
 use Rattle.sgb_graph.specs.declared.fields.Kind.{Kind}
 use Rattle.sgb_graph.specs.declared.fields.Util.{Util}
-use Rattle.sgb_graph.specs.declared.fields.Util.TheVariants.{Nothing}
 
 -- a graph as its construction tells it: its id, whether its events are arcs or edges, the events in order, the
 -- kinds of its utility fields, the graph's own six fields, and each vertex's name and six fields. The fields of
@@ -28,7 +27,7 @@ pub record IsGraphOf (d : Description) (g : GraphData) : Type 0 where
   pub names : map (λ v. v.name) g.vertices ≡ d.names
   pub fields : map (λ v. v.util) g.vertices ≡ d.fields
   pub arcs : HasArcsOf d.directed d.events g
-  pub arc_fields : All (λ r. (r.a ≡ Nothing) × (r.b ≡ Nothing)) g.records
+  pub arc_fields : All HasNoFields g.records
 
 -- the answer is the graph that is described, or the stated refusal; or want of memory
 abbrev pub IsAnswerOf : Result Description Panic → Result GraphData Panic → Type 0

@@ -1,11 +1,12 @@
 -- Graphs as data, and the lists of arcs that hang from their vertices [GB_GRAPH].
-use Rattle.std.specs.Prelude.{ℕ, zero, suc, Bool, true, false, List, [], ◌∷◌, length, Option, slice_get}
+use Rattle.std.specs.Prelude.{◌≡◌, ℕ, zero, suc, Bool, true, false, List, [], ◌∷◌, length, Option, slice_get}
 use Rattle.std.specs.List.{flat_map}
 use Rattle.std.specs.Option.{option_map_or}
 use Rattle.sgb_graph.specs.declared.fields.Kind.{Kind}
 use Rattle.sgb_graph.specs.declared.fields.Ref.{Ref}
 use Rattle.sgb_graph.specs.declared.fields.Ref.TheVariants.{Null, One, At}
 use Rattle.sgb_graph.specs.declared.fields.Util.{Util}
+use Rattle.sgb_graph.specs.declared.fields.Util.TheVariants.{Nothing}
 use Rattle.sgb_graph.specs.declared.fields.Vertex.{Vertex}
 use Rattle.sgb_graph.specs.declared.fields.ArcRec.{ArcRec}
 use Rattle.sgb_graph.specs.declared.fields.Link.{Link}
@@ -19,6 +20,10 @@ pub record GraphData : Type 0 where
   pub util : List Util
   pub vertices : List Vertex
   pub records : List ArcRec
+
+-- the fields of an arc record hold nothing
+abbrev pub HasNoFields : ArcRec → Type 0
+HasNoFields r = (r.a ≡ Nothing) × (r.b ≡ Nothing)
 
 -- the numbers of the records from the first one on by next; at most as many as the fuel says
 unfoldable pub numbers_from : ℕ → List ArcRec → Option ℕ → List ℕ

@@ -1,8 +1,8 @@
 -- How a graph is made and grows, step by step [GB_GRAPH, gb_new_graph, gb_new_arc and gb_new_edge].
-use Rattle.std.specs.Prelude.{◌≡◌, ◌≢◌, ◌≤◌, ◌+◌, ◌++◌, ◌^◌, ◌==◌, ℕ, zero, suc, ℤ, pos, min, max, List, [], ◌∷◌, length, map, codes, decimal, Option, Some, None, slice_get, slice_set, Bool, true, false, if◌then◌else◌}
+use Rattle.std.specs.Prelude.{◌≡◌, ◌≢◌, ◌≤◌, ◌+◌, ◌++◌, ◌^◌, ◌==◌, ℕ, zero, suc, ℤ, pos, min, max, List, [], ◌∷◌, length, map, All, codes, decimal, Option, Some, None, slice_get, slice_set, Bool, true, false, if◌then◌else◌}
 use Rattle.std.specs.Option.{option_and_then}
-use Rattle.sgb_graph.specs.Graphs.{GraphData, chain_of}
-use Rattle.sgb_graph.specs.Events.{Event, Row}
+use Rattle.sgb_graph.specs.Graphs.{GraphData, HasNoFields, chain_of}
+use Rattle.sgb_graph.specs.Events.{Event, HasArcsOf, Row}
 use Rattle.sgb_graph.specs.Made.{no_kinds, no_fields}
 use Rattle.sgb_graph.specs.Sound.{IsGraph, arc_kinds}
 use Rattle.sgb_graph.specs.declared.fields.Kind.{Kind}
@@ -101,6 +101,12 @@ pub record AddsEdge (old new : GraphData) (u v : ℕ) (len : ℤ) : Type 0 where
   pub smaller : u ≢ v → chain_of new (min u v) ≡ link (length old.records) (max u v) len ∷ chain_of old (min u v)
   pub greater : u ≢ v → chain_of new (max u v) ≡ link (length old.records + 1) (min u v) len ∷ chain_of old (max u v)
   pub others : (w : ℕ) → w ≢ u → w ≢ v → chain_of new w ≡ chain_of old w
+  pub rest : KeepsAllButArcs old new
+
+-- the new graph is the old one with the arcs of these events after those that it had
+pub record AddsEvents (directed : Bool) (old new : GraphData) (events : List Event) : Type 0 where
+  pub arcs : (before : List Event) → HasArcsOf directed before old → HasArcsOf directed (before ++ events) new
+  pub arc_fields : All HasNoFields old.records → All HasNoFields new.records
   pub rest : KeepsAllButArcs old new
 
 -- the value is an integer

@@ -1,6 +1,7 @@
--- Texts that may stand in an id, by tests.
-use Rattle.std.specs.Prelude.{ℕ, Bool, ◌==◌, ◌&&◌, not, List, nat_le}
-use Rattle.std.specs.List.{list_all}
+-- The texts that the ids of graphs are made of [GB_GRAPH, id field], and the test for texts that may stand in an id.
+use Rattle.std.specs.Prelude.{ℕ, ℤ, Bool, true, false, ◌==◌, ◌&&◌, not, List, ◌++◌, codes, nat_le}
+use Rattle.std.specs.Fmt.{digits, signed_decimal}
+use Rattle.std.specs.List.{flat_map, list_all}
 
 -- this byte may stand in an id: printable ASCII but for `"` (34) and `\` (92)
 abbrev pub is_id_byte : ℕ → Bool
@@ -9,3 +10,16 @@ is_id_byte byte = (nat_le 32 byte && nat_le byte 126) && (not (byte == 34) && no
 -- each byte of the text may
 abbrev pub is_id_text : List ℕ → Bool
 is_id_text text = list_all is_id_byte text
+
+-- a flag: 1 or 0
+abbrev pub flag_text : Bool → List ℕ
+flag_text true = codes "1"
+flag_text false = codes "0"
+
+-- numbers in decimal, each with a comma after it
+abbrev pub numbers_text : List ℤ → List ℕ
+numbers_text numbers = flat_map (λ n. signed_decimal n ++ codes ",") numbers
+
+-- a number in hexadecimal: 0x and its digits, in lower case and with no leading zeros
+abbrev pub hexadecimal_text : ℕ → List ℕ
+hexadecimal_text number = codes "0x" ++ digits 16 false number

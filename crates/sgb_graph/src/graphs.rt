@@ -5,18 +5,16 @@ ghost use Rattle.sgb_graph.specs.Growth.{IsKept, new_id, new_graph, new_vertex, 
 
 mod adding;
 mod arcs;
+mod events;
 mod numbers;
 
 use crate::fields::{ArcRec, Kind, Util, Vertex};
 use crate::ids::{Id, IdWriter};
 use crate::names::Names;
 pub use arcs::Arcs;
-use sgb_vec::{Panic, Text};
+use sgb_vec::{MOST_VERTICES, Panic, Text};
 use std::alloc::{AllocError, Global};
 use std::marker::Model;
-
-// A graph has at most this many vertices.
-const MOST_VERTICES: usize = 1_000_000_000;
 
 /// A graph (GB_GRAPH): vertices 0 to n-1, each with a list of arc records, which are numbered and all stand in
 /// one place. Contracts see it as the data of its definition.
@@ -53,7 +51,7 @@ impl Graph {
         ensures refused { IsErrOf result Panic.VeryBad ↔ (most_vertices < length names) }
         ensures err { length names ≤ most_vertices → IsOkUnless result Panic.NoRoom }
     {
-        if names.len() > MOST_VERTICES {
+        if names.len() > MOST_VERTICES as usize {
             return Err(Panic::VeryBad);
         }
         let id = new_id(names.len());

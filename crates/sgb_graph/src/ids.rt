@@ -1,10 +1,11 @@
-ghost use Rattle.std.specs.Prelude.{◌≡◌, ◌≤◌, ◌+◌, [], ◌++◌, ◌↔◌, length, IsTrue, IfOk, IsErrOf, IsOkUnless};
+ghost use Rattle.std.specs.Prelude.{◌≡◌, ◌≤◌, ◌+◌, ◌*◌, [], ◌++◌, ◌↔◌, length, IsTrue, IfOk, IsErrOf, IsOkUnless};
 ghost use Rattle.std.specs.Fmt.{signed_decimal};
 ghost use Rattle.sgb_vec.specs.Names.{IsTextByte};
-ghost use Rattle.sgb_graph.specs.IdTexts.{is_id_text};
+ghost use Rattle.sgb_graph.specs.IdTexts.{flag_text, is_id_text, numbers_text};
 ghost use Rattle.sgb_graph.specs.Ids.{most_id_bytes, IsId};
 
 mod compounds;
+mod hexadecimals;
 
 use arrayvec::ArrayVec;
 pub use compounds::{compound_id, double_compound_id};
@@ -109,6 +110,30 @@ impl IdWriter {
         let _written = self
             .bytes
             .try_extend_from_slice(digits.format(number).as_bytes());
+    }
+
+    /// Puts numbers in decimal after the bytes so far, each with a comma after it; they take at most 21 of them each.
+    pub fn push_numbers(&mut self, numbers: &[i64])
+        requires { length self.old + 21 * length numbers.now ≤ most_id_bytes }
+        ensures bytes { self.new ≡ self.old ++ numbers_text numbers.now }
+        ensures short { length self.new ≤ length self.old + 21 * length numbers.now }
+    {
+        for number in numbers {
+            self.push_number(*number);
+            self.push_text(b",");
+        }
+    }
+
+    /// Puts a flag after the bytes so far: 1 or 0.
+    pub fn push_flag(&mut self, flag: bool)
+        requires { length self.old + 1 ≤ most_id_bytes }
+        ensures { self.new ≡ self.old ++ flag_text flag }
+    {
+        if flag {
+            self.push_text(b"1");
+        } else {
+            self.push_text(b"0");
+        }
     }
 
     /// The id of these bytes.

@@ -1,7 +1,9 @@
 ghost use Rattle.std.specs.Prelude.{◌≡◌, ℕ, ◌-◌, ◌*◌, ◌%◌, ◌<◌, ◌≤◌, ◌==◌, ◌++◌, [], ◌∷◌, Bool, true, false, List, length, Some, slice_get, Contains, count_by};
 ghost use Rattle.sgb_graph.specs.Graphs.{GraphData};
+ghost use Rattle.sgb_graph.specs.Descriptions.{IsGraphOf};
+ghost use Rattle.sgb_graph.specs.Made.{plain};
 ghost use Rattle.sgb_graph.specs.Events.{Event, HasArcsOf, Row, all_rows, list_of};
-ghost use Rattle.sgb_graph.specs.Growth.{AddsArc, AddsEdge, ArcsLead, EdgesLead, link, new_graph, row};
+ghost use Rattle.sgb_graph.specs.Growth.{AddsArc, AddsEdge, AddsEvents, ArcsLead, EdgesLead, link, new_graph, row, with_id};
 ghost use Rattle.sgb_graph.specs.declared.fields.Link.{Link};
 ghost use Rattle.sgb_graph.specs.Draws.{IsUniformDraw, difference, draw, first_taken, x_number, y_number};
 
@@ -36,6 +38,19 @@ pub fn edges_law()
         → HasArcsOf false (events ++ e ∷ []) new }
     ensures all { (names : List (List ℕ)) (events : List Event) (g : GraphData)
         → EdgesLead (new_graph names) events g → HasArcsOf false events g }
+{}
+
+/// Events that are added one after another add all of them, in order; added to a new graph they make the graph of
+/// the events (GB_GRAPH, gb_new_arc and gb_new_edge).
+pub fn events_law()
+    ensures none { (directed : Bool) (g : GraphData) → AddsEvents directed g g [] }
+    ensures more { (directed : Bool) (first second third : GraphData) (events others : List Event)
+        → AddsEvents directed first second events → AddsEvents directed second third others
+        → AddsEvents directed first third (events ++ others) }
+    ensures arcs { (directed : Bool) (names : List (List ℕ)) (events : List Event) (g : GraphData)
+        → AddsEvents directed (new_graph names) g events → HasArcsOf directed events g }
+    ensures graph { (directed : Bool) (names : List (List ℕ)) (events : List Event) (g : GraphData) (id : List ℕ)
+        → AddsEvents directed (new_graph names) g events → IsGraphOf (plain directed events names id) (with_id id g) }
 {}
 
 /// The list of a vertex has each record of the events that starts there, once, and nothing else.

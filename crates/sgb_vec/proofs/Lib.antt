@@ -7,6 +7,7 @@ pub mod BoxSuccessors
 pub mod Examples
 pub mod GreatCounts
 pub mod NameReading
+pub mod Numerals
 pub mod Products
 pub mod RisingLists
 pub mod SimplexBounds

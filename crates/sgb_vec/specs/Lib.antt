@@ -3,6 +3,7 @@ pub mod Bounds
 pub mod BoxWidth
 pub mod Boxes
 pub mod Codes
+pub mod Digits
 pub mod Lexicographic
 pub mod Limits
 pub mod NamedVectors

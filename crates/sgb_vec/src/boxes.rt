@@ -7,12 +7,10 @@ ghost use Rattle.sgb_vec.specs.Lexicographic.{IsBelow};
 ghost use Rattle.sgb_vec.specs.Order.{IsNext, IsLast};
 
 use crate::families::{Family, Vector};
+use crate::limits::MOST_VERTICES;
 use crate::panics::Panic;
 use arrayvec::ArrayVec;
 use std::marker::Model;
-
-// A graph has at most this many vertices.
-const MOST_VERTICES: u64 = 1_000_000_000;
 
 /// The vectors of a box: all `(x1, .., xd)` with `xk` below the k-th size, in lexicographic order
 /// (GB_BASIC, board). At most 91 sizes and 1,000,000,000 vectors. Contracts see it as its sizes.
@@ -104,7 +102,7 @@ fn vector_count(sizes: &[u32]) -> Option<u32>
     let mut product: u64 = 1;
     for size in sizes {
         product *= u64::from(*size);
-        if product > MOST_VERTICES {
+        if product > u64::from(MOST_VERTICES) {
             return None;
         }
     }

@@ -2,16 +2,20 @@
 #![tactic(auto)]
 
 mod boxes;
+mod digits;
 mod families;
 mod laws;
+mod limits;
 mod panics;
 mod shapes;
 mod sums;
 mod texts;
 
 pub use boxes::BoxFamily;
+pub use digits::{digits_value, leading_digits};
 pub use families::{Family, Vector};
 pub use laws::{boxes_are_families, names_read_back, sums_are_families};
+pub use limits::MOST_VERTICES;
 pub use panics::Panic;
 pub use shapes::{Shape, board_sizes, simplex_bounds};
 pub use sums::SumFamily;

@@ -1,6 +1,7 @@
 ghost use Rattle.std.specs.Prelude.{◌≡◌, ◌≤◌, ◌+◌, ◌⊎◌, length};
 ghost use Rattle.sgb_vec.specs.Limits.{most_dimensions};
 
+use crate::limits::MOST_VERTICES;
 use crate::panics::Panic;
 use arrayvec::ArrayVec;
 use counts::count_vectors;
@@ -9,9 +10,6 @@ use std::marker::Model;
 
 mod counts;
 mod members;
-
-// A sum, as a graph's number of vertices, is at most this.
-const MOST_TOTAL: i64 = 1_000_000_000;
 
 /// The vectors of a bounded sum: all `(x0, .., xd)` with `xk` at most the k-th bound that add to `n`, in
 /// lexicographic order (GB_BASIC, simplex). At most 92 bounds and 1,000,000,000 vectors. Contracts see it
@@ -51,7 +49,7 @@ impl SumFamily {
         if n < 0 {
             return Err(Panic::Bad);
         }
-        if n > MOST_TOTAL {
+        if n > i64::from(MOST_VERTICES) {
             return Err(Panic::VeryBad);
         }
         let total = n as u32;

@@ -92,6 +92,39 @@ fn an_edge_has_a_record_at_each_end(rt: HostRuntime) {
     );
 }
 
+// The events 0 to 1, 2 to 0, 1 to 1 and 1 to 0 on four vertices.
+fn with_events(alloc: Global, directed: bool) -> Result<Graph, Panic> {
+    let mut graph = graph_of(alloc, b"abcd")?;
+    if graph.n() != 4 {
+        return Err(Panic::Bad);
+    }
+    graph.add_event(directed, 0, 1, 4)?;
+    graph.add_event(directed, 2, 0, 5)?;
+    graph.add_event(directed, 1, 1, 6)?;
+    graph.add_event(directed, 1, 0, 7)?;
+    Ok(graph)
+}
+
+#[test]
+fn an_event_is_an_arc_or_an_edge(rt: HostRuntime) {
+    assert!(rt;
+        with_events(rt.alloc(), true).is_ok_and(|graph| {
+            graph.m() == 4
+                && has_list(&graph, 0, &[(0, 1, 4)])
+                && has_list(&graph, 1, &[(3, 0, 7), (2, 1, 6)])
+                && has_list(&graph, 2, &[(1, 0, 5)])
+        })
+    );
+    assert!(rt;
+        with_events(rt.alloc(), false).is_ok_and(|graph| {
+            graph.m() == 8
+                && has_list(&graph, 0, &[(6, 1, 7), (2, 2, 5), (0, 1, 4)])
+                && has_list(&graph, 1, &[(7, 0, 7), (4, 1, 6), (5, 1, 6), (1, 0, 4)])
+                && has_list(&graph, 2, &[(3, 0, 5)])
+        })
+    );
+}
+
 // A graph of one name with a loop, as an arc or as an edge.
 fn looped(alloc: Global, directed: bool) -> Result<Graph, Panic> {
     let mut graph = graph_of(alloc, b"x")?;

@@ -40,3 +40,35 @@ fn numbers_are_written_in_decimal(rt: HostRuntime) {
     let id = written(-9_223_372_036_854_775_808, 70);
     assert!(rt; id.bytes() == b"pair(-9223372036854775808,70)".as_slice());
 }
+
+#[test]
+fn numbers_stand_with_a_comma_after_each(rt: HostRuntime) {
+    let mut writer = IdWriter::new();
+    writer.push_numbers(&[]);
+    writer.push_numbers(&[8, -1, 0]);
+    assert!(rt; writer.id().bytes() == b"8,-1,0,".as_slice());
+}
+
+#[test]
+fn a_flag_is_1_or_0(rt: HostRuntime) {
+    let mut writer = IdWriter::new();
+    writer.push_flag(true);
+    writer.push_flag(false);
+    assert!(rt; writer.id().bytes() == b"10".as_slice());
+}
+
+#[test]
+fn a_number_is_written_in_hexadecimal(rt: HostRuntime) {
+    let table: [(u64, &[u8]); 5] = [
+        (0, b"0x0"),
+        (9, b"0x9"),
+        (0xabc, b"0xabc"),
+        (0x1_0000_0000, b"0x100000000"),
+        (u64::MAX, b"0xffffffffffffffff"),
+    ];
+    for (number, text) in table {
+        let mut writer = IdWriter::new();
+        writer.push_hexadecimal(number);
+        assert!(rt; writer.id().bytes() == text);
+    }
+}

@@ -5,11 +5,9 @@ ghost use Rattle.sgb_vec.specs.Bounds.{first_parameter, bounds_to_repeat, bounds
 
 use super::entries::{before_stop, stop_of, zero_after_stop};
 use super::{MOST_DIMENSIONS, Shape};
+use crate::limits::MOST_VERTICES;
 use crate::panics::Panic;
 use arrayvec::ArrayVec;
-
-// The entries of a vertex add to at most this number, the most vertices that a graph may have.
-const MOST_TOTAL: u64 = 1_000_000_000;
 
 /// The parameters n, n0 to n4 of a simplex normalised, and its bounds (GB_BASIC, simplex): the entries of
 /// n0 to n4 before the first that is not positive, repeated to d + 1 bounds where that one is -d; d + 1
@@ -43,7 +41,7 @@ fn simplex_of(n: u64, entries: &[i64; 5]) -> Result<Shape, Panic>
     if count > MOST_DIMENSIONS + 1 {
         return Err(Panic::Bad);
     }
-    if n > MOST_TOTAL {
+    if n > u64::from(MOST_VERTICES) {
         return Err(Panic::VeryBad);
     }
     let sizes = cut_bounds(n as u32, to_repeat.as_slice(), count as usize);

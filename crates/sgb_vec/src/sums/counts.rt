@@ -4,11 +4,9 @@ ghost use Rattle.sgb_vec.specs.Limits.{most_dimensions, most_vertices};
 ghost use Rattle.sgb_vec.specs.Sums.{count_of_sum, has_great_count};
 ghost use Rattle.sgb_vec.specs.SumRows.{CountsSums};
 
+use crate::limits::MOST_VERTICES;
 use crate::panics::Panic;
 use std::alloc::Global;
-
-// A graph has at most this many vertices.
-const MOST_VERTICES: u64 = 1_000_000_000;
 
 // How many vectors within the bounds add to `total`: the counts of the sums from 0 up stand in a row, which
 // takes one bound after another. `VeryBad` where for some of the first bounds, two or more, and some sum up to
@@ -115,7 +113,7 @@ fn take_off(row: &mut [u64], width: usize)
 fn has_great(row: &[u64]) -> bool
     ensures { result ≡ list_any (λ count. nat_lt most_vertices count) row.now }
 {
-    row.iter().any(|count| *count > MOST_VERTICES)
+    row.iter().any(|count| *count > u64::from(MOST_VERTICES))
 }
 
 // The count at the place `total`; 0 behind the row.

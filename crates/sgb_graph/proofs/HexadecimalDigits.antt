@@ -1,0 +1,75 @@
+-- The hexadecimal digits of a number, put one after another from the last on.
+use Rattle.std.proofs.Common.{◌≡◌, ℕ, zero, suc, ◌+◌, ◌*◌, ◌/◌, ◌%◌, ◌^◌, ◌<◌, Bool, true, false, cond, eqb, List, [], ◌∷◌, length, set, drop, refl, sym, ap, ◌∙◌, arith}
+use Rattle.std.specs.Fmt.{digit_glyph, digits_onto, digits}
+use Rattle.std.proofs.Math.Nat.{pow-suc}
+use Rattle.std.proofs.lemmas.Bool.{eq-eqb, ne_eqb}
+use Rattle.std.proofs.lemmas.List.{drop_all, drop-set, length-set}
+use Rattle.sgb_graph.specs.IdTexts.{is_id_byte, is_id_text}
+use Rattle.sgb_graph.proofs.TestLemmas.{at_each_below}
+
+-- the digits of a number in front of others: the last one alone, or the others before it
+onto-either : (k n : ℕ) (acc : List ℕ) (t : Bool) → eqb (n / 16) 0 ≡ t → digits_onto (suc k) 16 false n acc ≡ cond t (digit_glyph false (n % 16) ∷ acc) (digits_onto k 16 false (n / 16) (digit_glyph false (n % 16) ∷ acc))
+onto-either k n acc t e = ap (λ (b : Bool). cond b (digit_glyph false (n % 16) ∷ acc) (digits_onto k 16 false (n / 16) (digit_glyph false (n % 16) ∷ acc))) e
+
+onto-last : (k n : ℕ) (acc : List ℕ) → 0 < k → n / 16 ≡ 0 → digits_onto k 16 false n acc ≡ digit_glyph false (n % 16) ∷ acc
+onto-last zero n acc h e = absurd (omega arith)
+onto-last (suc k) n acc h e = onto-either k n acc true (eq-eqb (n / 16) 0 e)
+
+onto-more : (k j n : ℕ) (acc : List ℕ) → k ≡ suc j → 0 < n / 16 → digits_onto k 16 false n acc ≡ digits_onto j 16 false (n / 16) (digit_glyph false (n % 16) ∷ acc)
+onto-more k j n acc e h = ap (λ m. digits_onto m 16 false n acc) e ∙ onto-either j n acc false (ne_eqb (n / 16) 0 (λ none. omega arith))
+
+-- the digits of the number stand in the text from this place on, but for those of the rest of it
+pub record HasDigitsFrom (number rest start : ℕ) (text : List ℕ) : Type 0 where
+  pub size : length text ≡ 16
+  pub some : start < 16 → 0 < rest
+  pub small : rest < 16 ^ start
+  pub whole : digits_onto (48 + start) 16 false rest (drop start text) ≡ digits 16 false number
+
+-- at first those of the whole number are left
+pub digits-none : (number : ℕ) (text : List ℕ) → number < 2 ^ 64 → length text ≡ 16 → HasDigitsFrom number number 16 text
+unfolding digits
+digits-none number text h e = record {
+  size = e;
+  some = λ l. absurd (omega arith);
+  small = h;
+  whole = ap (λ acc. digits_onto 64 16 false number acc) (drop_all 16 text (omega arith));
+}
+
+-- one digit more is put
+pub digits-more : (number rest start place : ℕ) (text : List ℕ) → HasDigitsFrom number rest start text → start ≡ place + 1 → place < 16 → 0 < rest / 16 → HasDigitsFrom number (rest / 16) place (set text place (digit_glyph false (rest % 16)))
+digits-more number rest start place text h e l some =
+    let power : 16 ^ start ≡ 16 ^ place * 16 = ap (λ n. 16 ^ n) (omega arith) ∙ pow-suc 16 place in
+    record {
+      size = length-set text place (digit_glyph false (rest % 16)) ∙ h.size;
+      some = λ below. some;
+      small = omega (arith, h.small);
+      whole = ap (digits_onto (48 + place) 16 false (rest / 16)) (drop-set text place (digit_glyph false (rest % 16)) (omega (arith, h.size)) ∙ ap (λ n. digit_glyph false (rest % 16) ∷ drop n text) (sym e))
+          ∙ sym (onto-more (48 + start) (48 + place) rest (drop start text) (omega arith) some)
+          ∙ h.whole;
+    }
+
+-- the first digit is put
+pub digits-first : (number rest start place : ℕ) (text : List ℕ) → HasDigitsFrom number rest start text → start ≡ place + 1 → place < 16 → rest / 16 ≡ 0 → drop place (set text place (digit_glyph false (rest % 16))) ≡ digits 16 false number
+digits-first number rest start place text h e l none =
+    drop-set text place (digit_glyph false (rest % 16)) (omega (arith, h.size))
+    ∙ ap (λ n. digit_glyph false (rest % 16) ∷ drop n text) (sym e)
+    ∙ sym (onto-last (48 + start) rest (drop start text) (omega arith) none)
+    ∙ h.whole
+
+-- a digit may stand in an id
+id_byte-glyph : (d : ℕ) → d < 16 → is_id_byte (digit_glyph false d) ≡ true
+id_byte-glyph d h = at_each_below (λ k. is_id_byte (digit_glyph false k)) 16 refl d h
+
+id_text-onto : (k n : ℕ) (acc : List ℕ) → is_id_text acc ≡ true → is_id_text (digits_onto k 16 false n acc) ≡ true
+id_text-onto zero n acc h = h
+id_text-onto (suc k) n acc h =
+    let more : is_id_text (digit_glyph false (n % 16) ∷ acc) ≡ true = rw (id_byte-glyph (n % 16) (omega arith)) h in
+    elim (eqb (n / 16) 0) as (λ b. is_id_text (cond b (digit_glyph false (n % 16) ∷ acc) (digits_onto k 16 false (n / 16) (digit_glyph false (n % 16) ∷ acc))) ≡ true) [
+      | true ↦ more
+      | false ↦ id_text-onto k (n / 16) (digit_glyph false (n % 16) ∷ acc) more
+    ]
+
+-- so may all digits of a number
+pub id_text-digits : (n : ℕ) → is_id_text (digits 16 false n) ≡ true
+unfolding digits
+id_text-digits n = id_text-onto 64 n [] refl

@@ -1,0 +1,39 @@
+//! Digits in a radix, and the number that they write.
+ghost use Rattle.std.specs.Prelude.{◌≡◌, ◌+◌, ◌^◌, ◌<◌, ◌≤◌, length};
+ghost use Rattle.std.specs.Str.Parse.{IsNumeral, digits_value};
+ghost use Rattle.sgb_vec.specs.Digits.{leading_digits};
+
+/// The digits in the radix, 2 to 36, that the text begins with, `most` of them at the most. Letters of either case
+/// are the digits from 10 on.
+pub fn leading_digits(text: &[u8], radix: u32, most: usize) -> &[u8]
+    requires low { 2 ≤ radix }
+    requires high { radix ≤ 36 }
+    ensures { result.now ≡ leading_digits radix most text.now }
+{
+    let longest = &text[..most.min(text.len())];
+    for (count, byte) in longest.iter().enumerate() {
+        if !char::from(*byte).is_digit(radix) {
+            return &longest[..count];
+        }
+    }
+    longest
+}
+
+/// The number that these digits in the radix, 2 to 36, write. It has to be below 2^64; leading zeros are allowed.
+pub fn digits_value(digits: &[u8], radix: u32) -> u64
+    requires low { 2 ≤ radix }
+    requires high { radix ≤ 36 }
+    requires numeral { IsNumeral radix digits.now }
+    requires fits { digits_value radix digits.now < 2 ^ 64 }
+    ensures { result ≡ digits_value radix digits.now }
+{
+    let mut value: u64 = 0;
+    for byte in digits {
+        let digit = char::from(*byte).to_digit(radix).unwrap();
+        value = u64::from(radix) * value + u64::from(digit);
+    }
+    value
+}
+
+#[cfg(test)]
+mod tests;

@@ -1,0 +1,29 @@
+use super::{digits_value, leading_digits};
+
+#[test]
+fn digits_are_taken_up_to_a_byte_that_is_none(rt: HostRuntime) {
+    let table: [(&[u8], u32, usize, &[u8]); 9] = [
+        (b"12,3", 10, 18, b"12"),
+        (b"0012", 10, 18, b"0012"),
+        (b"-12", 10, 18, b""),
+        (b"", 10, 18, b""),
+        (b"12345", 10, 3, b"123"),
+        (b"12345", 10, 0, b""),
+        (b"1aFg", 16, 16, b"1aF"),
+        (b"1aFg", 10, 16, b"1"),
+        (b"0102", 2, 16, b"010"),
+    ];
+    for (text, radix, most, digits) in table {
+        assert_eq!(rt; leading_digits(text, radix, most), digits);
+    }
+}
+
+#[test]
+fn digits_write_a_number(rt: HostRuntime) {
+    assert_eq!(rt; digits_value(b"0", 10), 0);
+    assert_eq!(rt; digits_value(b"007", 10), 7);
+    assert_eq!(rt; digits_value(b"18446744073709551615", 10), u64::MAX);
+    assert_eq!(rt; digits_value(b"fFfFfFfFfFfFfFfF", 16), u64::MAX);
+    assert_eq!(rt; digits_value(b"1010", 2), 10);
+    assert_eq!(rt; digits_value(b"Zz", 36), 1295);
+}
