@@ -4,7 +4,7 @@ use Rattle.std.specs.List.{flat_map, range_with_len, slice_get}
 use Rattle.std.specs.Option.{option_map}
 use Rattle.sgb_vec.specs.Boxes.{box}
 use Rattle.sgb_graph.specs.Events.{Event}
-use Rattle.sgb_gen.specs.Additions.{destination, longest_move}
+use Rattle.sgb_gen.specs.Moves.{destination, longest_move}
 use Rattle.sgb_gen.specs.Boards.{BoardData, moves_of_board}
 use Rattle.sgb_gen.specs.Displacements.{displacements}
 use Rattle.sgb_gen.specs.VectorGraphs.{event_among, vertex_among}

@@ -9,7 +9,7 @@ use Rattle.sgb_graph.specs.Made.{no_kinds, no_fields}
 use Rattle.sgb_graph.specs.declared.fields.Kind.{Kind}
 use Rattle.sgb_graph.specs.declared.fields.Util.{Util}
 use Rattle.sgb_graph.specs.declared.fields.Vertex.{Vertex}
-use Rattle.sgb_gen.specs.Additions.{HasCoordinates}
+use Rattle.sgb_gen.specs.VectorGraphs.{HasCoordinates}
 use Rattle.sgb_gen.specs.VectorGraphs.{fields_of_vector, kinds_of_family}
 use Rattle.sgb_gen.proofs.FamilyWalks.{drop_at_vector, take_at_vector}
 

@@ -13,7 +13,9 @@ use Rattle.sgb_graph.specs.Descriptions.{Description, IsAnswerOf, IsGraphOf}
 use Rattle.sgb_graph.specs.Growth.{new_graph, new_vertex, with_id}
 use Rattle.sgb_graph.specs.Made.{no_fields}
 use Rattle.sgb_graph.proofs.EventLemmas.{new_has_none}
-use Rattle.sgb_gen.specs.Additions.{AddsEvents, HasCoordinates, HasNoFields}
+use Rattle.sgb_graph.specs.Growth.{AddsEvents}
+use Rattle.sgb_gen.specs.VectorGraphs.{HasCoordinates}
+use Rattle.sgb_graph.specs.Graphs.{HasNoFields}
 use Rattle.sgb_gen.specs.VectorGraphs.{Move, event_among, family_graph}
 
 -- the names and fields of new vertices

@@ -10,7 +10,6 @@ pub mod Parts
 pub mod Riders
 pub mod Destinations
 pub mod ShiftLemmas
-pub mod AddedEvents
 pub mod AcceptedBoards
 pub mod Reaches
 pub mod BoardEvents
@@ -24,7 +23,6 @@ pub mod Vertices
 pub mod Places
 pub mod WrapBits
 pub mod CommonSizes
-pub mod HexadecimalDigits
 pub mod RisingVectors
 pub mod SubsetsEvents
 pub mod TableRows

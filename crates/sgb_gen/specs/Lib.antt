@@ -4,7 +4,6 @@ pub mod VectorGraphs
 pub mod Displacements
 pub mod LaterDisplacements
 pub mod Moves
-pub mod Additions
 pub mod Boards
 pub mod Simplexes
 pub mod Subsets

@@ -1,38 +1,12 @@
-//! What the graphs of board, simplex and subsets have in common (GB_BASIC).
-ghost use Rattle.std.specs.Prelude.{◌≡◌, ◌<◌, ◌≤◌, ◌+◌, ◌*◌, ◌++◌, codes, ◌∷◌, [], pos, length, map, slice_index, OnOk, IfOk, IsOkUnless};
+//! Graphs whose vertices are the vectors of a family, with their names and their coordinates (GB_BASIC).
+ghost use Rattle.std.specs.Prelude.{◌≡◌, pos, length, map, slice_index, IfOk, IsOkUnless};
 ghost use Rattle.sgb_vec.specs.Names.{name_of_vector};
 ghost use Rattle.sgb_graph.specs.Made.{no_kinds, no_fields};
-ghost use Rattle.sgb_graph.specs.Growth.{HasPlainArcs};
-ghost use Rattle.sgb_graph.specs.Ids.{most_id_bytes};
-ghost use Rattle.sgb_gen.specs.Additions.{AddsEvents, HasCoordinates, numbers_text};
-ghost use Rattle.sgb_gen.specs.VectorGraphs.{flag_text};
+ghost use Rattle.sgb_gen.specs.VectorGraphs.{HasCoordinates};
 
-use sgb_graph::{Graph, IdWriter, Names};
+use sgb_graph::{Graph, Names};
 use sgb_vec::{Family, Panic, Vector, name_of};
 use std::alloc::Global;
-
-/// Adds the arc of an event, or its edge.
-///
-/// `NoRoom` when out of memory, and nothing else.
-pub(crate) fn add_event(
-    graph: &mut Graph,
-    directed: bool,
-    u: u32,
-    v: u32,
-    len: u32,
-) -> Result<(), Panic>
-    requires from { u < length graph.old.vertices }
-    requires to { v < length graph.old.vertices }
-    requires plain { HasPlainArcs graph.old }
-    ensures ok { OnOk result (AddsEvents directed graph.old graph.new (record { from = u; to = v; len = pos len } ∷ [])) }
-    ensures memory { IsOkUnless result Panic.NoRoom }
-{
-    if directed {
-        graph.new_arc(u, v, i64::from(len))
-    } else {
-        graph.new_edge(u, v, i64::from(len))
-    }
-}
 
 /// The names of the vectors of a family, in order (GB_BASIC, board).
 ///
@@ -78,28 +52,4 @@ fn entry(vector: &[u32], k: usize) -> i64
     ensures { result ≡ pos (slice_index vector.now k) }
 {
     vector.get(k).copied().map_or(0, i64::from)
-}
-
-/// Puts the numbers into the id of a graph, each with a comma after it.
-pub(crate) fn push_numbers(id: &mut IdWriter, numbers: &[i64])
-    requires { length id.old + 21 * length numbers.now ≤ most_id_bytes }
-    ensures bytes { id.new ≡ id.old ++ numbers_text numbers.now }
-    ensures short { length id.new ≤ length id.old + 21 * length numbers.now }
-{
-    for number in numbers {
-        id.push_number(*number);
-        id.push_text(b",");
-    }
-}
-
-/// Puts the last parameter of an id, a flag, and closes it.
-pub(crate) fn push_flag(id: &mut IdWriter, flag: bool)
-    requires { length id.old + 2 ≤ most_id_bytes }
-    ensures { id.new ≡ id.old ++ flag_text flag ++ codes ")" }
-{
-    if flag {
-        id.push_text(b"1)");
-    } else {
-        id.push_text(b"0)");
-    }
 }

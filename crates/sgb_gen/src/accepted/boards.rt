@@ -5,15 +5,14 @@ ghost use Rattle.std.specs.List.{flat_map};
 ghost use Rattle.sgb_vec.specs.Boxes.{box};
 ghost use Rattle.sgb_vec.specs.Lexicographic.{IsBelow};
 ghost use Rattle.sgb_graph.specs.Descriptions.{IsAnswerOf};
-ghost use Rattle.sgb_graph.specs.Growth.{HasPlainArcs};
-ghost use Rattle.sgb_gen.specs.Additions.{AddsEvents, destination, longest_move};
+ghost use Rattle.sgb_graph.specs.Growth.{AddsEvents, HasPlainArcs};
 ghost use Rattle.sgb_gen.specs.VectorGraphs.{event_among, vertex_among};
-ghost use Rattle.sgb_gen.specs.Moves.{sides_of, moves_from};
+ghost use Rattle.sgb_gen.specs.Moves.{destination, longest_move, sides_of, moves_from};
 
 use crate::displacements::Displacements;
 use crate::moves::destination;
 use crate::params::BoardParams;
-use crate::vector_graphs::{add_event, push_flag, push_numbers, put_coordinates, vector_names};
+use crate::vector_graphs::{put_coordinates, vector_names};
 use sgb_graph::{Graph, Id, IdWriter};
 use sgb_vec::{BoxFamily, Family, Panic, Shape, Vector, board_sizes};
 use std::alloc::Global;
@@ -111,9 +110,10 @@ impl Board {
     {
         let mut id = IdWriter::new();
         id.push_text(b"board(");
-        push_numbers(&mut id, self.shape.params());
-        push_numbers(&mut id, &[self.piece, self.wrap]);
-        push_flag(&mut id, self.directed);
+        id.push_numbers(self.shape.params());
+        id.push_numbers(&[self.piece, self.wrap]);
+        id.push_flag(self.directed);
+        id.push_text(b")");
         id.id()
     }
 
@@ -166,7 +166,7 @@ impl Board {
             let Some(v) = self.vertex_at(x, t, l) else {
                 return Ok(());
             };
-            add_event(graph, self.directed, u, v, l)?;
+            graph.add_event(self.directed, u, v, i64::from(l))?;
         }
         Ok(())
     }

@@ -1,14 +1,13 @@
 ghost use Rattle.std.specs.Prelude.{◌≡◌, ◌⊎◌, Err, ◌<◌, length, map, slice_get, Contains, Some, None, Ok, IfSome, OnOk, IsOkUnless, if◌then◌else◌};
 ghost use Rattle.sgb_gen.specs.Simplexes.{accepted_simplex, simplex_id, can_shift, shifted, pairs_from, moves_by, moves_to, moves_of_simplex, simplex_vectors, simplex_graph};
 ghost use Rattle.sgb_graph.specs.Descriptions.{IsAnswerOf};
-ghost use Rattle.sgb_graph.specs.Growth.{HasPlainArcs};
-ghost use Rattle.sgb_gen.specs.Additions.{AddsEvents};
+ghost use Rattle.sgb_graph.specs.Growth.{AddsEvents, HasPlainArcs};
 ghost use Rattle.sgb_gen.specs.VectorGraphs.{event_among, vertex_among};
 
 use crate::params::SimplexParams;
 use crate::shifts::{can_shift, shifted};
 use crate::tables::VectorTable;
-use crate::vector_graphs::{add_event, push_flag, push_numbers, put_coordinates, vector_names};
+use crate::vector_graphs::{put_coordinates, vector_names};
 use sgb_graph::{Graph, Id, IdWriter};
 use sgb_vec::{Panic, Shape, SumFamily, simplex_bounds};
 use std::alloc::Global;
@@ -103,8 +102,9 @@ impl Simplex {
     {
         let mut id = IdWriter::new();
         id.push_text(b"simplex(");
-        push_numbers(&mut id, self.shape.params());
-        push_flag(&mut id, self.directed);
+        id.push_numbers(self.shape.params());
+        id.push_flag(self.directed);
+        id.push_text(b")");
         id.id()
     }
 
@@ -167,7 +167,7 @@ impl Simplex {
             let Some(u) = self.vertex_at(vertices, x, lower, higher) else {
                 continue;
             };
-            add_event(graph, self.directed, u, v, 1)?;
+            graph.add_event(self.directed, u, v, 1)?;
         }
         Ok(())
     }

@@ -1,15 +1,11 @@
 ghost use Rattle.std.specs.Prelude.{◌≡◌, ◌⊎◌, Err, ◌<◌, [], ◌∷◌, pos, length, map, slice_get, Some, Ok, OnOk, IsOkUnless, if◌then◌else◌, ◌≤◌, ◌^◌};
 ghost use Rattle.sgb_gen.specs.Subsets.{accepted_subsets, subsets_id, is_wanted_size, moves_to_place, subsets_vectors, moves_of_subsets, subsets_graph, common_size};
 ghost use Rattle.sgb_graph.specs.Descriptions.{IsAnswerOf};
-ghost use Rattle.sgb_graph.specs.Growth.{HasPlainArcs};
-ghost use Rattle.sgb_gen.specs.Additions.{AddsEvents};
+ghost use Rattle.sgb_graph.specs.Growth.{AddsEvents, HasPlainArcs};
 ghost use Rattle.sgb_gen.specs.VectorGraphs.{event_among};
 
-mod hexadecimals;
-
 use crate::params::SubsetsParams;
-use crate::vector_graphs::{add_event, push_flag, push_numbers, put_coordinates, vector_names};
-use hexadecimals::push_hexadecimal;
+use crate::vector_graphs::{put_coordinates, vector_names};
 use sgb_graph::{Graph, Id, IdWriter};
 use sgb_vec::{Family, Panic, Shape, SumFamily, Vector, simplex_bounds};
 use std::alloc::Global;
@@ -111,10 +107,11 @@ impl Subsets {
     {
         let mut id = IdWriter::new();
         id.push_text(b"subsets(");
-        push_numbers(&mut id, self.shape.params());
-        push_hexadecimal(&mut id, self.size_bits);
+        id.push_numbers(self.shape.params());
+        id.push_hexadecimal(self.size_bits);
         id.push_text(b",");
-        push_flag(&mut id, self.directed);
+        id.push_flag(self.directed);
+        id.push_text(b")");
         id.id()
     }
 
@@ -174,7 +171,7 @@ impl Subsets {
         ensures memory { IsOkUnless result Panic.NoRoom }
     {
         if is_wanted(self.size_bits, c) {
-            return add_event(graph, self.directed, u, v, 1);
+            return graph.add_event(self.directed, u, v, 1);
         }
         Ok(())
     }

@@ -4,9 +4,9 @@ use Rattle.std.specs.List.{All, flat_map}
 use Rattle.std.proofs.lemmas.Int.{to_z-of_z}
 use Rattle.std.proofs.lemmas.List.Elements.{All-tail}
 use Rattle.arrayvec.specs.ArrayVec.{ArrayVec}
-use Rattle.sgb_gen.specs.Additions.{AddsEvents}
+use Rattle.sgb_graph.specs.Growth.{AddsEvents}
 use Rattle.sgb_gen.specs.Displacements.{displacements}
-use Rattle.sgb_gen.proofs.AddedEvents.{AddsUpTo, up_to-none, up_to-more, up_to-all}
+use Rattle.sgb_graph.proofs.AddedEvents.{AddsUpTo, up_to-none, up_to-more, up_to-all}
 use Rattle.sgb_gen.proofs.BoardEvents.{events_by, events_of, events_by-moves, events_of-moves}
 use Rattle.sgb_gen.proofs.DisplacementLengths.{displacement_lengths}
 use Rattle.sgb_gen.proofs.accepted.boards.Board.add_arcs.Goals as goal

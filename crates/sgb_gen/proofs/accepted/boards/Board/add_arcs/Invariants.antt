@@ -1,6 +1,6 @@
 use Rattle.std.proofs.Common.{◌≡◌, length}
 use Rattle.std.specs.List.{All, flat_map}
-use Rattle.sgb_gen.proofs.AddedEvents.{AddsUpTo}
+use Rattle.sgb_graph.proofs.AddedEvents.{AddsUpTo}
 use Rattle.sgb_gen.proofs.BoardEvents.{events_by, events_of}
 use Rattle.sgb_gen.proofs.accepted.boards.Board.add_arcs.Given as goal
 

@@ -1,4 +1,4 @@
-use Rattle.sgb_gen.proofs.AddedEvents.{AddsUpTo}
+use Rattle.sgb_graph.proofs.AddedEvents.{AddsUpTo}
 use Rattle.sgb_gen.proofs.BoardEvents.{events_from, events_left}
 use Rattle.sgb_gen.proofs.accepted.boards.Board.add_moves.Given as goal
 

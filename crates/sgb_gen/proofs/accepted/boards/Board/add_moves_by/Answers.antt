@@ -4,8 +4,8 @@ use Rattle.std.specs.List.{flat_map, slice_get}
 use Rattle.std.proofs.lemmas.List.{drop_all}
 use Rattle.sgb_vec.specs.Boxes.{box}
 use Rattle.sgb_vec.specs.Order.{IsNext, IsLast}
-use Rattle.sgb_gen.specs.Additions.{AddsEvents}
-use Rattle.sgb_gen.proofs.AddedEvents.{up_to-more, up_to-all}
+use Rattle.sgb_graph.specs.Growth.{AddsEvents}
+use Rattle.sgb_graph.proofs.AddedEvents.{up_to-more, up_to-all}
 use Rattle.sgb_gen.proofs.BoardEvents.{events_from, events_by, events_by-moves}
 use Rattle.sgb_gen.proofs.FamilyWalks.{at_next, flat_map_at}
 use Rattle.sgb_gen.proofs.accepted.boards.Board.add_moves_by.Goals as goal

@@ -1,7 +1,7 @@
 use Rattle.std.proofs.Common.{drop}
 use Rattle.std.specs.List.{flat_map}
 use Rattle.sgb_vec.specs.Boxes.{box}
-use Rattle.sgb_gen.proofs.AddedEvents.{AddsUpTo}
+use Rattle.sgb_graph.proofs.AddedEvents.{AddsUpTo}
 use Rattle.sgb_gen.proofs.BoardEvents.{events_from}
 use Rattle.sgb_gen.proofs.FamilyWalks.{IsAt}
 use Rattle.sgb_gen.proofs.accepted.boards.Board.add_moves_by.Given as goal

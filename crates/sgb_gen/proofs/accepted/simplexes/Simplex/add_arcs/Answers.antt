@@ -1,9 +1,9 @@
 use Rattle.std.proofs.Common.{◌≡◌, ◌+◌, ◌≤◌, drop, length, Some, ap, subst, arith}
 use Rattle.std.specs.List.{flat_map, slice_get}
 use Rattle.std.proofs.lemmas.List.{drop_all}
-use Rattle.sgb_gen.specs.Additions.{AddsEvents}
+use Rattle.sgb_graph.specs.Growth.{AddsEvents}
 use Rattle.sgb_gen.specs.Simplexes.{simplex_vectors}
-use Rattle.sgb_gen.proofs.AddedEvents.{up_to-none, up_to-more, up_to-all}
+use Rattle.sgb_graph.proofs.AddedEvents.{up_to-none, up_to-more, up_to-all}
 use Rattle.sgb_gen.proofs.FamilyWalks.{flat_map_at}
 use Rattle.sgb_gen.proofs.SimplexEvents.{events_to, events_of, events_of-moves}
 use Rattle.sgb_gen.proofs.accepted.simplexes.Simplex.add_arcs.Goals as goal

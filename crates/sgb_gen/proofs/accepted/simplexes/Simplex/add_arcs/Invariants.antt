@@ -1,7 +1,7 @@
 use Rattle.std.proofs.Common.{drop}
 use Rattle.std.specs.List.{flat_map}
 use Rattle.sgb_gen.specs.Simplexes.{simplex_vectors}
-use Rattle.sgb_gen.proofs.AddedEvents.{AddsUpTo}
+use Rattle.sgb_graph.proofs.AddedEvents.{AddsUpTo}
 use Rattle.sgb_gen.proofs.SimplexEvents.{events_to, events_of}
 use Rattle.sgb_gen.proofs.accepted.simplexes.Simplex.add_arcs.Given as goal
 

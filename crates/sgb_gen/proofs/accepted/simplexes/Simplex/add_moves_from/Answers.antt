@@ -1,8 +1,8 @@
 use Rattle.std.proofs.Common.{◌+◌, [], ◌∷◌, pos, length, sym, ap, subst, ◌∙◌, arith}
 use Rattle.std.proofs.lemmas.Option.{slice_get_within, get_or_from_slice_get}
-use Rattle.sgb_gen.specs.Additions.{AddsEvents}
+use Rattle.sgb_graph.specs.Growth.{AddsEvents}
 use Rattle.sgb_gen.specs.Simplexes.{Places, pairs_from, simplex_vectors}
-use Rattle.sgb_gen.proofs.AddedEvents.{AddsUpTo, up_to-none, up_to-more, up_to-all}
+use Rattle.sgb_graph.proofs.AddedEvents.{AddsUpTo, up_to-none, up_to-more, up_to-all}
 use Rattle.sgb_gen.proofs.SimplexEvents.{events_by, events_by-out, events_by-next, pairs_left, pairs_left-next, pairs_left-none}
 use Rattle.sgb_gen.proofs.accepted.simplexes.Simplex.add_moves_from.Goals as goal
 
@@ -39,8 +39,8 @@ loop-higher-preserved c =
     let at : Places = record { lower = c.args.lower; higher = k } in
     let next = ap (events_by s x) (pairs_left-next (length x) c.args.lower k c.loop-higher-test.true)
     ∙ events_by-next s x at (pairs_left (length x) c.args.lower (k + 1)) c.in-Some.u c.args.v (sym c.vertex_at.ensures.vertex ∙ c.in-Some.is) c.requires.vertex in
-    let added = subst (λ d. AddsEvents d c.loop-higher.graph c.add_event.new.graph (record { from = c.in-Some.u; to = c.args.v; len = pos 1 } ∷ [])) (ap (λ d. d.directed) c.self.view_is) c.in_ok-add_event.ensures.ok in
-    up_to-more s.directed c.args.graph.now c.loop-higher.graph c.add_event.new.graph _ (events_by s x (pairs_left (length x) c.args.lower (k + 1))) (events_by s x (pairs_from (length x) c.args.lower)) _ c.loop-higher.invariant next added
+    let added = subst (λ d. AddsEvents d c.loop-higher.graph c.add_event.new.self (record { from = c.in-Some.u; to = c.args.v; len = pos 1 } ∷ [])) (ap (λ d. d.directed) c.self.view_is) c.in_ok-add_event.ensures.ok in
+    up_to-more s.directed c.args.graph.now c.loop-higher.graph c.add_event.new.self _ (events_by s x (pairs_left (length x) c.args.lower (k + 1))) (events_by s x (pairs_from (length x) c.args.lower)) _ c.loop-higher.invariant next added
 
 pub returns-clause-ok : goal.returns-clause-ok
 returns-clause-ok c =

@@ -1,6 +1,6 @@
 use Rattle.std.proofs.Common.{◌+◌, length, sym, ap, subst, ◌∙◌, arith}
 use Rattle.sgb_gen.specs.Simplexes.{pairs_from}
-use Rattle.sgb_gen.proofs.AddedEvents.{AddsUpTo, up_to-none, up_to-more, up_to-all}
+use Rattle.sgb_graph.proofs.AddedEvents.{AddsUpTo, up_to-none, up_to-more, up_to-all}
 use Rattle.sgb_gen.proofs.SimplexEvents.{events_by, events_by-append, events_to, pairs_after, pairs_after-all, pairs_after-next, pairs_after-none}
 use Rattle.sgb_gen.proofs.accepted.simplexes.Simplex.add_moves_to.Goals as goal
 

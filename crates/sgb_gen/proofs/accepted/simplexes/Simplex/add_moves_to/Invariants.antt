@@ -1,5 +1,5 @@
 use Rattle.std.proofs.Common.{length}
-use Rattle.sgb_gen.proofs.AddedEvents.{AddsUpTo}
+use Rattle.sgb_graph.proofs.AddedEvents.{AddsUpTo}
 use Rattle.sgb_gen.proofs.SimplexEvents.{events_by, events_to, pairs_after}
 use Rattle.sgb_gen.proofs.accepted.simplexes.Simplex.add_moves_to.Given as goal
 

@@ -3,9 +3,9 @@ use Rattle.std.specs.Bool.{OnTrue, OnFalse}
 use Rattle.std.specs.List.{slice_get}
 use Rattle.sgb_vec.specs.Order.{IsNext, IsLast}
 use Rattle.sgb_vec.specs.Sums.{bounded_sums}
-use Rattle.sgb_gen.specs.Additions.{AddsEvents}
+use Rattle.sgb_graph.specs.Growth.{AddsEvents}
 use Rattle.sgb_gen.specs.Subsets.{subsets_vectors}
-use Rattle.sgb_gen.proofs.AddedEvents.{up_to-more, up_to-all}
+use Rattle.sgb_graph.proofs.AddedEvents.{up_to-more, up_to-all}
 use Rattle.sgb_gen.proofs.FamilyWalks.{at_next}
 use Rattle.sgb_gen.proofs.SubsetsEvents.{events_at, events_from_place, events_from_place-next, events_from_place-none, events_of-subsets}
 use Rattle.sgb_gen.proofs.accepted.subsets.Subsets.add_arcs.Goals as goal

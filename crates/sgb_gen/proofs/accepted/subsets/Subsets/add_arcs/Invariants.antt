@@ -1,5 +1,5 @@
 use Rattle.sgb_gen.specs.Subsets.{subsets_vectors}
-use Rattle.sgb_gen.proofs.AddedEvents.{AddsUpTo}
+use Rattle.sgb_graph.proofs.AddedEvents.{AddsUpTo}
 use Rattle.sgb_gen.proofs.FamilyWalks.{IsAt}
 use Rattle.sgb_gen.proofs.SubsetsEvents.{events_from_place}
 use Rattle.sgb_gen.proofs.accepted.subsets.Subsets.add_arcs.Given as goal

@@ -4,9 +4,9 @@ use Rattle.std.specs.List.{Contains, slice_get}
 use Rattle.std.proofs.lemmas.Option.{slice_get_within}
 use Rattle.sgb_vec.specs.Order.{IsFirst, IsNext, IsLast}
 use Rattle.sgb_vec.specs.Sums.{bounded_sums}
-use Rattle.sgb_gen.specs.Additions.{AddsEvents}
+use Rattle.sgb_graph.specs.Growth.{AddsEvents}
 use Rattle.sgb_gen.specs.Subsets.{common_size, subsets_vectors}
-use Rattle.sgb_gen.proofs.AddedEvents.{AddsUpTo, up_to-none, up_to-more, up_to-all}
+use Rattle.sgb_graph.proofs.AddedEvents.{AddsUpTo, up_to-none, up_to-more, up_to-all}
 use Rattle.sgb_gen.proofs.FamilyWalks.{at_first, at_next}
 use Rattle.sgb_gen.proofs.SubsetsEvents.{vectors_between, events_to, event_of_size, events_to-next, events_to-none, events_at, events_at-vector, is_among, same_width}
 use Rattle.sgb_gen.proofs.accepted.subsets.Subsets.add_moves_to.Goals as goal

@@ -1,5 +1,5 @@
 use Rattle.sgb_gen.specs.Subsets.{subsets_vectors}
-use Rattle.sgb_gen.proofs.AddedEvents.{AddsUpTo}
+use Rattle.sgb_graph.proofs.AddedEvents.{AddsUpTo}
 use Rattle.sgb_gen.proofs.FamilyWalks.{IsAt}
 use Rattle.sgb_gen.proofs.SubsetsEvents.{events_to, events_at, vectors_between}
 use Rattle.sgb_gen.proofs.accepted.subsets.Subsets.add_moves_to.Given as goal
