@@ -4,10 +4,10 @@ use Rattle.std.specs.List.{flat_map, range_with_len, slice_get}
 use Rattle.std.specs.Option.{option_map}
 use Rattle.sgb_vec.specs.Boxes.{box}
 use Rattle.sgb_graph.specs.Events.{Event}
-use Rattle.sgb_gen.specs.Additions.{destination, longest_move}
+use Rattle.sgb_gen.specs.Moves.{destination, longest_move}
 use Rattle.sgb_gen.specs.Boards.{BoardData, moves_of_board}
 use Rattle.sgb_gen.specs.Displacements.{displacements}
-use Rattle.sgb_gen.specs.Families.{event_among, vertex_among}
+use Rattle.sgb_gen.specs.VectorGraphs.{event_among, vertex_among}
 use Rattle.sgb_gen.specs.Moves.{sides_of, moves_from, board_moves}
 use Rattle.sgb_gen.proofs.AllVectors.{flat_map-same}
 use Rattle.sgb_gen.proofs.FamilyWalks.{map-flat_map}

@@ -9,15 +9,15 @@ use Rattle.sgb_graph.specs.Made.{no_kinds, no_fields}
 use Rattle.sgb_graph.specs.declared.fields.Kind.{Kind}
 use Rattle.sgb_graph.specs.declared.fields.Util.{Util}
 use Rattle.sgb_graph.specs.declared.fields.Vertex.{Vertex}
-use Rattle.sgb_gen.specs.Additions.{HasCoordinates}
-use Rattle.sgb_gen.specs.Families.{fields_of_vector, kinds_of_family}
+use Rattle.sgb_gen.specs.VectorGraphs.{HasCoordinates}
+use Rattle.sgb_gen.specs.VectorGraphs.{fields_of_vector, kinds_of_family}
 use Rattle.sgb_gen.proofs.FamilyWalks.{drop_at_vector, take_at_vector}
 
--- an element behind others changed
-at_place-behind : {X : Type 0} (f : X → X) (xs : List X) (y : X) (ys : List X) (k : ℕ) → k ≡ length xs → at_place f k (xs ++ y ∷ ys) ≡ xs ++ f y ∷ ys
-at_place-behind f [] y ys k e = ap (λ n. at_place f n (y ∷ ys)) e
-at_place-behind f (x ∷ xs) y ys zero e = absurd (omega arith)
-at_place-behind f (x ∷ xs) y ys (suc k) e = ap (λ zs. x ∷ zs) (at_place-behind f xs y ys k (omega arith))
+-- an element after others changed
+at_place-append : {X : Type 0} (f : X → X) (xs : List X) (y : X) (ys : List X) (k : ℕ) → k ≡ length xs → at_place f k (xs ++ y ∷ ys) ≡ xs ++ f y ∷ ys
+at_place-append f [] y ys k e = ap (λ n. at_place f n (y ∷ ys)) e
+at_place-append f (x ∷ xs) y ys zero e = absurd (omega arith)
+at_place-append f (x ∷ xs) y ys (suc k) e = ap (λ zs. x ∷ zs) (at_place-append f xs y ys k (omega arith))
 
 -- the fields of a vertex with 0 for each coordinate
 abbrev zero_fields : List Util
@@ -65,15 +65,15 @@ some_so_far (suc u) vectors =
 fields-more : (vectors : List (List ℕ)) (u : ℕ) (v : List ℕ) (vs : List Vertex) → slice_get vectors u ≡ Some v → map (λ w. w.util) vs ≡ fields_so_far u vectors → at_place (put_numbers (pos (slice_index v 0)) (pos (slice_index v 1)) (pos (slice_index v 2))) u (map (λ w. some_numbers w.util) vs) ≡ fields_so_far (suc u) vectors
 fields-more vectors u v vs at e =
     let put : List Util → List Util = put_numbers (pos (slice_index v 0)) (pos (slice_index v 1)) (pos (slice_index v 2)) in
-    let front = map fields_of_vector (take u vectors) in
+    let prefix = map fields_of_vector (take u vectors) in
     let back = map (λ w. zero_fields) (drop (suc u) vectors) in
     let within : u < length vectors = slice_get_within vectors u v at in
     let next : drop u vectors ≡ v ∷ drop (suc u) vectors = drop_at_vector vectors u v at ∙ ap (λ n. v ∷ drop n vectors) (add-one u) in
-    let size : u ≡ length front = sym (length-map (take u vectors) fields_of_vector ∙ length-take-le u vectors (omega arith)) in
+    let size : u ≡ length prefix = sym (length-map (take u vectors) fields_of_vector ∙ length-take-le u vectors (omega arith)) in
     let more : take (suc u) vectors ≡ take u vectors ++ v ∷ [] = ap (λ n. take n vectors) (sym (add-one u)) ∙ take_at_vector vectors u v at in
-    ap (at_place put u) (sym (map-each some_numbers (λ w. w.util) (λ w. some_numbers w.util) (λ w. refl) vs) ∙ ap (map some_numbers) e ∙ some_so_far u vectors ∙ ap (λ ws. front ++ map (λ w. zero_fields) ws) next)
-    ∙ at_place-behind put front zero_fields back u size
-    ∙ sym (ap (λ ws. map fields_of_vector ws ++ back) more ∙ ap (λ fs. fs ++ back) (map-append fields_of_vector (take u vectors) (v ∷ [])) ∙ append_assoc front (fields_of_vector v ∷ []) back)
+    ap (at_place put u) (sym (map-each some_numbers (λ w. w.util) (λ w. some_numbers w.util) (λ w. refl) vs) ∙ ap (map some_numbers) e ∙ some_so_far u vectors ∙ ap (λ ws. prefix ++ map (λ w. zero_fields) ws) next)
+    ∙ at_place-append put prefix zero_fields back u size
+    ∙ sym (ap (λ ws. map fields_of_vector ws ++ back) more ∙ ap (λ fs. fs ++ back) (map-append fields_of_vector (take u vectors) (v ∷ [])) ∙ append_assoc prefix (fields_of_vector v ∷ []) back)
 
 -- the kinds with the coordinates of one vertex more
 kinds-more : (u : ℕ) → with_number_kinds (kinds_so_far u) ≡ kinds_so_far (suc u)

@@ -30,12 +30,12 @@ chosen_below true n y c h e =
 chosen_below false n y c h e = within_below n y c e
 
 -- a vector in whose front a coordinate stands
-front_below : (o : Option ℕ) (p : Option (List ℕ)) (n : ℕ) (sizes y : List ℕ) → in_front o p ≡ Some y → ((c : ℕ) → o ≡ Some c → c < n) → ((v : List ℕ) → p ≡ Some v → IsBelow v sizes) → IsBelow y (n ∷ sizes)
-front_below (Some c) (Some v) n sizes y e first rest =
+in_front-below : (o : Option ℕ) (p : Option (List ℕ)) (n : ℕ) (sizes y : List ℕ) → in_front o p ≡ Some y → ((c : ℕ) → o ≡ Some c → c < n) → ((v : List ℕ) → p ≡ Some v → IsBelow v sizes) → IsBelow y (n ∷ sizes)
+in_front-below (Some c) (Some v) n sizes y e first rest =
     let same : c ∷ v ≡ y = cc in
     subst (λ w. IsBelow w (n ∷ sizes)) same (first c refl, rest v refl)
-front_below (Some c) None n sizes y e first rest = absurd (cc)
-front_below None p n sizes y e first rest = absurd (cc)
+in_front-below (Some c) None n sizes y e first rest = absurd (cc)
+in_front-below None p n sizes y e first rest = absurd (cc)
 
 -- from a place of the board a move leads to a place of the board
 pub place-below : (sides : List Side) (x : List ℕ) (t : List ℤ) (l : ℕ) (y : List ℕ) → IsBelow x (map (λ s. s.size) sides) → place sides x t l ≡ Some y → IsBelow y (map (λ s. s.size) sides)
@@ -46,6 +46,6 @@ place-below (s ∷ sides) [] t l y b e = absurd b
 place-below (s ∷ sides) (z ∷ x) [] l y b e = absurd (cc)
 place-below (s ∷ sides) (z ∷ x) (u ∷ t) l y b e =
     let some : 0 < s.size = omega (arith, b.0) in
-    front_below (coordinate_on s (pos z +ℤ pos l *ℤ u)) (place sides x t l) s.size (map (λ r. r.size) sides) y e
+    in_front-below (coordinate_on s (pos z +ℤ pos l *ℤ u)) (place sides x t l) s.size (map (λ r. r.size) sides) y e
     (λ c f. chosen_below s.wraps s.size (pos z +ℤ pos l *ℤ u) c some f)
     (λ v f. place-below sides x t l v b.1 f)

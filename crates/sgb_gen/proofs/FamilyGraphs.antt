@@ -13,8 +13,10 @@ use Rattle.sgb_graph.specs.Descriptions.{Description, IsAnswerOf, IsGraphOf}
 use Rattle.sgb_graph.specs.Growth.{new_graph, new_vertex, with_id}
 use Rattle.sgb_graph.specs.Made.{no_fields}
 use Rattle.sgb_graph.proofs.EventLemmas.{new_has_none}
-use Rattle.sgb_gen.specs.Additions.{AddsEvents, HasCoordinates, HasNoFields}
-use Rattle.sgb_gen.specs.Families.{Move, event_among, family_graph}
+use Rattle.sgb_graph.specs.Growth.{AddsEvents}
+use Rattle.sgb_gen.specs.VectorGraphs.{HasCoordinates}
+use Rattle.sgb_graph.specs.Graphs.{HasNoFields}
+use Rattle.sgb_gen.specs.VectorGraphs.{Move, event_among, family_graph}
 
 -- the names and fields of new vertices
 new_names : (texts : List (List ℕ)) → map (λ v. v.name) (map new_vertex texts) ≡ texts
@@ -58,7 +60,7 @@ family_made id directed vectors moves fresh grown placed e h k =
       arc_fields = subst (All HasNoFields) (sym k.records) (h.arc_fields plain);
     }
 
--- want of memory answers for any graph
+-- out of memory is an answer for any graph
 pub no_room : (d : Description) (r : Result GraphData Panic) (P : Panic → Type 0) → IsErr r × IsErrAnd r P → ((e : Panic) → P e → e ≡ NoRoom) → IsAnswerOf (Ok d) r
 no_room d (Ok g) P h n = absurd h.1
 no_room d (Err e) P h n = n e h.1

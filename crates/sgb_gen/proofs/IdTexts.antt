@@ -3,13 +3,15 @@ use Rattle.std.proofs.Common.{◌≡◌, ℕ, ℤ, List, [], ◌∷◌, ◌++◌
 use Rattle.std.specs.Fmt.{signed_decimal}
 use Rattle.std.specs.List.{join_with_byte}
 use Rattle.std.proofs.lemmas.List.Concat.{flat_map-append}
-use Rattle.sgb_gen.specs.Additions.{numbers_text}
+use Rattle.sgb_graph.specs.IdTexts.{numbers_text}
 use Rattle.sgb_gen.specs.Boards.{BoardData, board_id}
-use Rattle.sgb_gen.specs.Families.{integer_texts, flag_text}
+use Rattle.sgb_gen.specs.VectorGraphs.{integer_texts}
+use Rattle.sgb_graph.specs.IdTexts.{flag_text}
 use Rattle.sgb_gen.specs.Simplexes.{SimplexData, simplex_id}
-use Rattle.sgb_gen.specs.Subsets.{SubsetsData, hexadecimal_text, subsets_id}
+use Rattle.sgb_gen.specs.Subsets.{SubsetsData, subsets_id}
+use Rattle.sgb_graph.specs.IdTexts.{hexadecimal_text}
 
--- numbers and other texts behind them, with commas between them
+-- numbers and other texts after them, with commas between them
 join_numbers_before : (numbers : List ℤ) (t : List ℕ) (ts : List (List ℕ)) → join_with_byte 44 (integer_texts numbers ++ t ∷ ts) ≡ numbers_text numbers ++ join_with_byte 44 (t ∷ ts)
 join_numbers_before [] t ts = refl
 join_numbers_before (n ∷ []) t ts =

@@ -9,8 +9,7 @@ pub mod NextVectors
 pub mod Parts
 pub mod Riders
 pub mod Destinations
-pub mod Shifts
-pub mod AddedEvents
+pub mod ShiftLemmas
 pub mod AcceptedBoards
 pub mod Reaches
 pub mod BoardEvents
@@ -24,7 +23,6 @@ pub mod Vertices
 pub mod Places
 pub mod WrapBits
 pub mod CommonSizes
-pub mod HexadecimalDigits
 pub mod RisingVectors
 pub mod SubsetsEvents
 pub mod TableRows

@@ -57,10 +57,10 @@ coordinates s q x t h p =
     ]
 
 -- a coordinate in front
-fronts : (o : Option ℕ) (p : Option (List ℕ)) (x : ℕ) (v : List ℕ) → OutOrHome o x → OutOrHome p v → OutOrHome (in_front o p) (x ∷ v)
-fronts o p x v (inl e) r = inl (ap (λ c. in_front c p) e)
-fronts o p x v (inr e) (inl f) = inl (ap₂ in_front e f)
-fronts o p x v (inr e) (inr f) = inr (ap₂ in_front e f)
+home_in_front : (o : Option ℕ) (p : Option (List ℕ)) (x : ℕ) (v : List ℕ) → OutOrHome o x → OutOrHome p v → OutOrHome (in_front o p) (x ∷ v)
+home_in_front o p x v (inl e) r = inl (ap (λ c. in_front c p) e)
+home_in_front o p x v (inr e) (inl f) = inl (ap₂ in_front e f)
+home_in_front o p x v (inr e) (inr f) = inr (ap₂ in_front e f)
 
 -- the first factor of a product above 0 is above 0
 first_factor : (m n : ℕ) → 0 < m * n → 0 < m
@@ -79,7 +79,7 @@ places (s ∷ sides) (y ∷ x) (u ∷ t) m l e p b =
     let some : 0 < q * s.size = omega arith in
     let here = subst (λ k. OutOrHome (coordinate_on s (pos y +ℤ pos k *ℤ u)) y) whole (coordinates s q y u b.0 (first_factor q s.size some)) in
     let rest = places sides x t (m * s.size) l (omega arith) p b.1 in
-    fronts (coordinate_on s (pos y +ℤ pos l *ℤ u)) (place sides x t l) y x here rest
+    home_in_front (coordinate_on s (pos y +ℤ pos l *ℤ u)) (place sides x t l) y x here rest
 
 -- a board that has a place has more than none
 places_count-pos : (sides : List Side) (x : List ℕ) → IsBelow x (map (λ s. s.size) sides) → 0 < places_count sides

@@ -9,7 +9,7 @@ use Rattle.std.proofs.lemmas.Bool.{cases_order, cases_lt, true≢false}
 use Rattle.std.proofs.lemmas.Cmp.{tied_itself}
 use Rattle.std.proofs.lemmas.Option.{slice_get_within, slice_get_read, get_or_from_slice_get}
 use Rattle.sgb_vec.specs.Lexicographic.{IsBefore, IsRising}
-use Rattle.sgb_gen.specs.Families.{vertex_among}
+use Rattle.sgb_gen.specs.VectorGraphs.{vertex_among}
 use Rattle.sgb_gen.proofs.Vertices.{vertex_at}
 
 -- no vector is before itself
@@ -48,7 +48,7 @@ pub between-all : (vectors : List (List ℕ)) (v : List ℕ) (n : ℕ) → Conta
 between-all vectors v n (k, within, at) e =
     record { place = k; from = omega arith; below = omega arith; at = slice_get_read vectors (length vectors) k v refl within (sym at) }
 
--- a vector that is after v stands behind it
+-- a vector that is greater than v stands after it
 pub between-lower : (vectors : List (List ℕ)) (v w : List ℕ) (low high middle : ℕ) → IsRising vectors → slice_get vectors middle ≡ Some w → is_gt (slice_cmp nat_cmp w v) ≡ true → IsBetween vectors v low high → IsBetween vectors v low middle
 between-lower vectors v w low high middle rises there after b =
     let less : b.place < middle = elim (cases_order b.place middle) [
@@ -62,7 +62,7 @@ between-lower vectors v w low high middle rises there after b =
     ] in
     record { place = b.place; from = b.from; below = less; at = b.at }
 
--- and one that is not after v stands in front of it, or is v
+-- and one that is not greater stands before it, or is v
 pub between-upper : (vectors : List (List ℕ)) (v w : List ℕ) (low high middle : ℕ) → IsRising vectors → slice_get vectors middle ≡ Some w → is_gt (slice_cmp nat_cmp w v) ≡ false → IsBetween vectors v low high → IsBetween vectors v middle high
 between-upper vectors v w low high middle rises there not_after b =
     let from : middle ≤ b.place = elim (cases_lt b.place middle) [

@@ -5,11 +5,11 @@ use Rattle.std.proofs.lemmas.List.{map-append}
 use Rattle.std.proofs.lemmas.List.Elements.{filter-append, length_all_zip}
 use Rattle.sgb_vec.proofs.SumMembers.{Contains-bounded_sums, bounded_sums-rise}
 use Rattle.sgb_graph.specs.Events.{Event}
-use Rattle.sgb_gen.specs.Families.{Move, event_among, vertex_among}
+use Rattle.sgb_gen.specs.VectorGraphs.{Move, event_among, vertex_among}
 use Rattle.sgb_gen.specs.Simplexes.{SimplexData, Places, can_shift, shifted, pairs_from, pairs_of_places, moves_by, moves_to, moves_of_simplex, simplex_vectors}
 use Rattle.sgb_gen.proofs.FamilyWalks.{map-flat_map}
 use Rattle.sgb_gen.proofs.RisingVectors.{vertex_in_rising}
-use Rattle.sgb_gen.proofs.Shifts.{shifted-in_sum}
+use Rattle.sgb_gen.proofs.ShiftLemmas.{shifted-in_sum}
 
 -- a vertex has one entry for each bound
 pub length_in_sum : (s : SimplexData) (x : List ℕ) → Contains (simplex_vectors s) x → length x ≡ length s.sum.bounds
@@ -40,7 +40,7 @@ events_by-append s x ps qs =
     ∙ ap (map event) (map-append move (filter can ps) (filter can qs))
     ∙ map-append event (map move (filter can ps)) (map move (filter can qs))
 
--- where the vertex x becomes leads, as the code answers it
+-- where the vertex x becomes leads, as the code returns it
 abbrev pub vertex_by : SimplexData → List ℕ → Places → Option ℕ
 vertex_by s x at =
     cond (can_shift s.sum.bounds x at) (Some (vertex_among (simplex_vectors s) (shifted x at))) None
@@ -81,21 +81,21 @@ pairs_left-none n j k h =
     ap (λ m. map (λ i. record { lower = j; higher = i }) (range_with_len k m)) count
 
 -- the pairs whose lower place is j or a later one
-abbrev pub pairs_behind : ℕ → ℕ → List Places
-pairs_behind n j = flat_map (pairs_from n) (range_with_len j (n - j))
+abbrev pub pairs_after : ℕ → ℕ → List Places
+pairs_after n j = flat_map (pairs_from n) (range_with_len j (n - j))
 
-pub pairs_behind-all : (n : ℕ) → pairs_behind n 0 ≡ pairs_of_places n
-pairs_behind-all n =
+pub pairs_after-all : (n : ℕ) → pairs_after n 0 ≡ pairs_of_places n
+pairs_after-all n =
     let count : n - 0 ≡ n = omega arith in
     ap (λ m. flat_map (pairs_from n) (range_with_len 0 m)) count
 
-pub pairs_behind-next : (n j : ℕ) → j < n → pairs_behind n j ≡ pairs_from n j ++ pairs_behind n (j + 1)
-pairs_behind-next n j h =
+pub pairs_after-next : (n j : ℕ) → j < n → pairs_after n j ≡ pairs_from n j ++ pairs_after n (j + 1)
+pairs_after-next n j h =
     let count : n - j ≡ suc (n - (j + 1)) = omega arith in
     ap (λ m. flat_map (pairs_from n) (range_with_len j m)) count
 
-pub pairs_behind-none : (n j : ℕ) → n ≤ j → pairs_behind n j ≡ []
-pairs_behind-none n j h =
+pub pairs_after-none : (n j : ℕ) → n ≤ j → pairs_after n j ≡ []
+pairs_after-none n j h =
     let count : n - j ≡ 0 = omega arith in
     ap (λ m. flat_map (pairs_from n) (range_with_len j m)) count
 

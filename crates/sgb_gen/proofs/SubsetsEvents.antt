@@ -6,7 +6,7 @@ use Rattle.std.proofs.lemmas.Option.{slice_get_within, slice_get_read, get_or_fr
 use Rattle.sgb_vec.specs.SumWidth.{length-sum_member}
 use Rattle.sgb_vec.proofs.SumMembers.{bounded_sums-rise}
 use Rattle.sgb_graph.specs.Events.{Event}
-use Rattle.sgb_gen.specs.Families.{event_among, vertex_among}
+use Rattle.sgb_gen.specs.VectorGraphs.{event_among, vertex_among}
 use Rattle.sgb_gen.specs.Subsets.{SubsetsData, common_size, is_wanted_size, moves_to_place, subsets_vectors, moves_of_subsets}
 use Rattle.sgb_gen.proofs.FamilyWalks.{drop_at_vector, map-flat_map}
 use Rattle.sgb_gen.proofs.RisingVectors.{vertex_in_rising}

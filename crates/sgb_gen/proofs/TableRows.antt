@@ -56,7 +56,7 @@ rows-joined width (v ∷ vectors) h =
     ap (rows width (length vectors)) (drop_at v (joined vectors) width wide) ∙ rows-joined width vectors (All-tail (λ w. length w ≡ width) v vectors h) in
     rw (first, others) refl
 
--- one more vector behind those before it
+-- one more vector after those before it
 pub joined_at_vector : (vectors : List (List ℕ)) (u : ℕ) (v : List ℕ) → slice_get vectors u ≡ Some v → joined (take (u + 1) vectors) ≡ joined (take u vectors) ++ v
 joined_at_vector vectors u v at =
     ap joined (take_at_vector vectors u v at) ∙ flat_map-append (λ w. w) (take u vectors) (v ∷ [])

@@ -9,7 +9,7 @@ use Rattle.std.proofs.lemmas.Int.{to_z-of_z}
 use Rattle.std.proofs.lemmas.Nat.{and_mask, shr_le}
 use Rattle.sgb_gen.specs.Moves.{is_bit_set}
 
--- the bits behind the 63rd are those of the sign
+-- the bits after the 63rd are those of the sign
 shr-min : (n k : ℕ) → n < 2 ^ 63 → n / 2 ^ (min k 63) ≡ n / 2 ^ k
 shr-min n k h =
     elim (cases_lt k 63) [

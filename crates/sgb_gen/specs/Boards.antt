@@ -7,9 +7,10 @@ use Rattle.sgb_vec.specs.Sizes.{board_of}
 use Rattle.sgb_vec.specs.declared.panics.Panic.{Panic}
 use Rattle.sgb_vec.specs.declared.panics.Panic.TheVariants.{VeryBad}
 use Rattle.sgb_graph.specs.Descriptions.{Description}
+use Rattle.sgb_graph.specs.IdTexts.{flag_text}
 use Rattle.sgb_gen.specs.declared.params.BoardParams.{BoardParams}
 use Rattle.sgb_gen.specs.Limits.{most_piece}
-use Rattle.sgb_gen.specs.Families.{Move, call_text, integer_texts, flag_text, family_graph}
+use Rattle.sgb_gen.specs.VectorGraphs.{Move, call_text, integer_texts, family_graph}
 use Rattle.sgb_gen.specs.Moves.{sides_of, board_moves}
 
 -- an accepted board: n1 to n4 as its official name has them, the sizes that they stand for, the piece, which is

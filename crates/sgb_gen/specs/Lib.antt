@@ -1,10 +1,9 @@
 -- What the contracts of sgb_gen speak of.
 pub mod Limits
-pub mod Families
+pub mod VectorGraphs
 pub mod Displacements
 pub mod LaterDisplacements
 pub mod Moves
-pub mod Additions
 pub mod Boards
 pub mod Simplexes
 pub mod Subsets

@@ -8,8 +8,9 @@ use Rattle.sgb_vec.specs.Limits.{most_dimensions, most_vertices}
 use Rattle.sgb_vec.specs.Sums.{BoundedSum, bounded_sums, sum_of}
 use Rattle.sgb_vec.specs.declared.panics.Panic.{Panic}
 use Rattle.sgb_graph.specs.Descriptions.{Description}
+use Rattle.sgb_graph.specs.IdTexts.{flag_text}
 use Rattle.sgb_gen.specs.declared.params.SimplexParams.{SimplexParams}
-use Rattle.sgb_gen.specs.Families.{Move, call_text, integer_texts, flag_text, family_graph}
+use Rattle.sgb_gen.specs.VectorGraphs.{Move, call_text, integer_texts, family_graph}
 
 -- an accepted simplex: n and n0 to n4 as its official name has them, the sum and the bounds that they stand
 -- for, and the flag

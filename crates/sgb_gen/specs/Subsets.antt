@@ -1,15 +1,15 @@
 -- The graphs of subsets [GB_BASIC, subsets].
-use Rattle.std.specs.Prelude.{ℕ, ◌+◌, ◌/◌, ◌%◌, ◌^◌, ◌==◌, min, nat_lt, ℤ, Bool, false, ◌&&◌, List, [], ◌∷◌, ◌++◌, length, map, filter, take, slice_index_or, Result, Ok, codes}
-use Rattle.std.specs.Fmt.{digits}
+use Rattle.std.specs.Prelude.{ℕ, ◌+◌, ◌/◌, ◌%◌, ◌^◌, ◌==◌, min, nat_lt, ℤ, Bool, ◌&&◌, List, [], ◌∷◌, ◌++◌, length, map, filter, take, slice_index_or, Result, Ok, codes}
 use Rattle.std.specs.List.{flat_map, range_with_len}
 use Rattle.sgb_vec.specs.Results.{and_then}
 use Rattle.sgb_vec.specs.Bounds.{simplex_of}
 use Rattle.sgb_vec.specs.Sums.{BoundedSum, bounded_sums, sum_of}
 use Rattle.sgb_vec.specs.declared.panics.Panic.{Panic}
 use Rattle.sgb_graph.specs.Descriptions.{Description}
+use Rattle.sgb_graph.specs.IdTexts.{flag_text, hexadecimal_text}
 use Rattle.sgb_gen.specs.declared.params.SubsetsParams.{SubsetsParams}
 use Rattle.sgb_gen.specs.Limits.{size_bits_width}
-use Rattle.sgb_gen.specs.Families.{Move, call_text, integer_texts, flag_text, family_graph}
+use Rattle.sgb_gen.specs.VectorGraphs.{Move, call_text, integer_texts, family_graph}
 
 -- accepted subsets: n and n0 to n4 as the official name has them, the sum and the bounds that they stand for,
 -- size_bits and the flag
@@ -42,10 +42,6 @@ moves_to_place size_bits vectors i =
     let v = slice_index_or vectors i [] in
     map (λ u. record { from = u; to = v; len = 1 })
     (filter (λ u. is_wanted_size size_bits (common_size u v)) (take (i + 1) vectors))
-
--- a number as size_bits is written: 0x and its hexadecimal digits, in lower case
-abbrev pub hexadecimal_text : ℕ → List ℕ
-hexadecimal_text bits = codes "0x" ++ digits 16 false bits
 
 -- their id: subsets(n,n0,n1,n2,n3,n4,0xH,directed)
 unfoldable pub subsets_id : SubsetsData → List ℕ

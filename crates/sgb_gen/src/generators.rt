@@ -4,10 +4,8 @@ ghost use Rattle.sgb_gen.specs.Boards.{board};
 ghost use Rattle.sgb_gen.specs.Simplexes.{simplex};
 ghost use Rattle.sgb_gen.specs.Subsets.{subsets};
 
-use crate::boards::Board;
-use crate::multisets::Subsets;
+use crate::accepted::{Board, Simplex, Subsets};
 use crate::params::{BoardParams, SimplexParams, SubsetsParams};
-use crate::simplexes::Simplex;
 use sgb_graph::Graph;
 use sgb_vec::Panic;
 use std::alloc::Global;
@@ -17,7 +15,7 @@ use std::alloc::Global;
 /// number of steps.
 ///
 /// `Bad` above 91 dimensions; else `VeryBad` above 1,000,000,000 vertices, or where `piece` is above
-/// 2,147,483,647 or below its negative. `NoRoom` where memory is refused.
+/// 2,147,483,647 or below its negative. `NoRoom` when out of memory.
 pub fn board(
     alloc: Global,
     n1: i64,
@@ -48,7 +46,7 @@ pub fn board(
 ///
 /// `Bad` where `n` is negative, else above 91 dimensions; else `VeryBad` where `n` is above 1,000,000,000, or where
 /// for some j from 1 to the last dimension and some k up to `n` more than 1,000,000,000 vectors within the first
-/// j+1 bounds add to k. `NoRoom` where memory is refused.
+/// j+1 bounds add to k. `NoRoom` when out of memory.
 pub fn simplex(
     alloc: Global,
     n: i64,
@@ -80,7 +78,7 @@ pub fn simplex(
 ///
 /// `Bad` where `n` is negative, else above 91 dimensions; else `VeryBad` where `n` is above 1,000,000,000, or where
 /// for some j from 1 to the last dimension and some k up to `n` more than 1,000,000,000 vectors within the first
-/// j+1 bounds add to k. `NoRoom` where memory is refused.
+/// j+1 bounds add to k. `NoRoom` when out of memory.
 pub fn subsets(
     alloc: Global,
     n: i64,

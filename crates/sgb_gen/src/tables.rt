@@ -29,7 +29,7 @@ impl Model for VectorTable {
 impl VectorTable {
     /// The vectors of this family.
     ///
-    /// `NoRoom` where memory is refused, and nothing else.
+    /// `NoRoom` when out of memory, and nothing else.
     pub fn new<F: Family>(alloc: Global, family: &F) -> Result<VectorTable, Panic>
         ensures ok { IfOk result (λ t. t ≡ F.members family.now) }
         ensures memory { IsOkUnless result Panic.NoRoom }

@@ -10,7 +10,7 @@ use Rattle.sgb_graph.specs.Events.{list_from}
 use Rattle.sgb_graph.specs.Descriptions.{Description}
 use Rattle.sgb_graph.specs.declared.fields.Kind.TheVariants.{Z, I}
 use Rattle.sgb_graph.specs.declared.fields.Util.TheVariants.{Nothing, Int}
-use Rattle.sgb_gen.specs.Families.{family_graph}
+use Rattle.sgb_gen.specs.VectorGraphs.{family_graph}
 use Rattle.sgb_gen.specs.Displacements.{displacements, vectors_of_norm, signings}
 use Rattle.sgb_gen.specs.Moves.{is_bit_set, sides_of, place, reach, board_moves}
 use Rattle.sgb_gen.specs.declared.params.BoardParams.{BoardParams}
@@ -35,7 +35,7 @@ pub displacements_of_5 : displacements 5 2
 unfolding displacements vectors_of_norm box
 displacements_of_5 = refl
 
--- a 0 stays and the first other entry stays positive; of the signs behind it the rightmost changes fastest
+-- a 0 stays and the first other entry stays positive; of the signs after it the rightmost changes fastest
 pub signings_of_0102 : signings (0 ∷ 1 ∷ 0 ∷ 2 ∷ 3 ∷ [])
     ≡ (pos 0 ∷ pos 1 ∷ pos 0 ∷ pos 2 ∷ pos 3 ∷ []) ∷ (pos 0 ∷ pos 1 ∷ pos 0 ∷ pos 2 ∷ negsuc 2 ∷ [])
     ∷ (pos 0 ∷ pos 1 ∷ pos 0 ∷ negsuc 1 ∷ pos 3 ∷ []) ∷ (pos 0 ∷ pos 1 ∷ pos 0 ∷ negsuc 1 ∷ negsuc 2 ∷ []) ∷ []
@@ -46,7 +46,7 @@ pub displacements_of_3 : displacements 3 2 ≡ []
 unfolding displacements vectors_of_norm box
 displacements_of_3 = refl
 
--- bits of wrap: of 2 the second is set alone; of -1 all are, also behind the 64th; of -2 all but the first
+-- bits of wrap: of 2 the second is set alone; of -1 all are, also after the 64th; of -2 all but the first
 pub bits_of_wrap :
     is_bit_set (pos 2) 0 ∷ is_bit_set (pos 2) 1 ∷ is_bit_set (pos 2) 70 ∷ is_bit_set (negsuc 0) 0 ∷ is_bit_set (negsuc 0) 90 ∷ is_bit_set (negsuc 1) 0 ∷ is_bit_set (negsuc 1) 64 ∷ []
     ≡ false ∷ true ∷ false ∷ true ∷ true ∷ false ∷ true ∷ []

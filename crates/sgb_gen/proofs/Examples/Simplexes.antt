@@ -8,7 +8,7 @@ use Rattle.sgb_vec.specs.Sums.{bounded_sums, has_great_count}
 use Rattle.sgb_vec.specs.declared.panics.Panic.TheVariants.{Bad, VeryBad}
 use Rattle.sgb_graph.specs.Events.{list_from}
 use Rattle.sgb_graph.specs.declared.fields.Kind.TheVariants.{Z}
-use Rattle.sgb_gen.specs.Families.{family_graph}
+use Rattle.sgb_gen.specs.VectorGraphs.{family_graph}
 use Rattle.sgb_gen.specs.declared.params.SimplexParams.{SimplexParams}
 use Rattle.sgb_gen.specs.Simplexes.{accepted_simplex, simplex_id, moves_of_simplex, simplex}
 use Rattle.sgb_gen.proofs.Examples.Listings.{arc, block, listing, listing_of, shown_by}
@@ -41,7 +41,7 @@ pub directed_bounded : shown_by listing_of (simplex (record (params (pos 3) (pos
 unfolding box repeated digits name_of_vector bounded_sums has_great_count list_from simplex_id moves_of_simplex family_graph
 directed_bounded = refl
 
--- simplex(0,3,0,0,0,0,0): no dimensions, and the bound cut to 0 in the name too
+-- simplex(0,3,0,0,0,0,0): no dimensions, and the bound clamped to 0 in the name too
 pub point : shown_by listing_of (simplex (params (pos 0) (pos 3) (pos 0)))
     ≡ Ok (listing "simplex(0,0,0,0,0,0,0)" 0 (block "0" [] ∷ []))
 unfolding box repeated digits name_of_vector bounded_sums has_great_count list_from simplex_id moves_of_simplex family_graph

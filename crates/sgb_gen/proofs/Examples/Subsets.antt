@@ -6,8 +6,9 @@ use Rattle.sgb_vec.specs.Names.{name_of_vector}
 use Rattle.sgb_vec.specs.Sizes.{repeated}
 use Rattle.sgb_vec.specs.Sums.{bounded_sums, has_great_count}
 use Rattle.sgb_graph.specs.Events.{list_from}
-use Rattle.sgb_gen.specs.Families.{family_graph}
-use Rattle.sgb_gen.specs.Subsets.{common_size, is_wanted_size, hexadecimal_text, subsets_id, moves_of_subsets, subsets}
+use Rattle.sgb_gen.specs.VectorGraphs.{family_graph}
+use Rattle.sgb_gen.specs.Subsets.{common_size, is_wanted_size, subsets_id, moves_of_subsets, subsets}
+use Rattle.sgb_graph.specs.IdTexts.{hexadecimal_text}
 use Rattle.sgb_gen.specs.Shorthands.{petersen}
 use Rattle.sgb_gen.proofs.Examples.Listings.{arc, block, listing, part, listing_of, part_of, shown_by}
 

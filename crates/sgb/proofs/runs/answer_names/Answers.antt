@@ -2,7 +2,7 @@ use Rattle.std.proofs.Common.{List, ℕ, map, ap, sym, ◌∙◌}
 use Rattle.sgb_vec.specs.Boxes.{box}
 use Rattle.sgb_vec.specs.Names.{name_of_vector}
 use Rattle.sgb_vec.specs.Sums.{BoundedSum, bounded_sums}
-use Rattle.sgb_gen.specs.Families.{family_graph}
+use Rattle.sgb_gen.specs.VectorGraphs.{family_graph}
 use Rattle.sgb.specs.Values.{described}
 use Rattle.sgb.proofs.Endings.{named_value}
 use Rattle.sgb.proofs.runs.answer_names.Goals as goal

@@ -1,4 +1,4 @@
-use Rattle.sgb_gen.proofs.Shifts.{shifted-in_sum}
+use Rattle.sgb_gen.proofs.ShiftLemmas.{shifted-in_sum}
 use Rattle.sgb_gen.proofs.laws.shifts_stay_in_sum.Goals as goal
 
 pub returns : goal.returns

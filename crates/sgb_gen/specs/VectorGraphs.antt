@@ -1,0 +1,75 @@
+-- The graph of a family of vectors: what the graphs of board, simplex and subsets have in common [GB_BASIC].
+use Rattle.std.specs.Prelude.{◌≡◌, ℕ, ℤ, pos, Bool, List, [], ◌∷◌, ◌++◌, map, replicate, slice_index, codes, nat_eq}
+use Rattle.std.specs.List.{position_or_len, join_with_byte}
+use Rattle.std.specs.Cmp.Lexicographic.{pointwise}
+use Rattle.std.specs.Fmt.{signed_decimal}
+use Rattle.sgb_vec.specs.Names.{name_of_vector}
+use Rattle.sgb_graph.specs.Events.{Event}
+use Rattle.sgb_graph.specs.Descriptions.{Description}
+use Rattle.sgb_graph.specs.Graphs.{GraphData, chain_of}
+use Rattle.sgb_graph.specs.declared.fields.Kind.{Kind}
+use Rattle.sgb_graph.specs.declared.fields.Kind.TheVariants.{Z, I}
+use Rattle.sgb_graph.specs.declared.fields.Util.{Util}
+use Rattle.sgb_graph.specs.declared.fields.Util.TheVariants.{Nothing, Int}
+
+-- an event between two vectors
+pub record Move : Type 0 where
+  pub from : List ℕ
+  pub to : List ℕ
+  pub len : ℕ
+
+-- v and w have the same entries
+abbrev pub same_vector : List ℕ → List ℕ → Bool
+same_vector v w = pointwise nat_eq v w
+
+-- where v stands among the vectors, counted from 0
+abbrev pub vertex_among : List (List ℕ) → List ℕ → ℕ
+vertex_among vectors v = position_or_len (λ w. same_vector w v) vectors
+
+-- the event of a move, where the vectors are the vertices
+abbrev pub event_among : List (List ℕ) → Move → Event
+event_among vectors m =
+    record { from = vertex_among vectors m.from; to = vertex_among vectors m.to; len = pos m.len }
+
+-- the utility fields u, v, w, x, y, z of a vector's vertex: x, y and z hold its first three entries, and 0 for
+-- those that it does not have
+abbrev pub fields_of_vector : List ℕ → List Util
+fields_of_vector v =
+    Nothing ∷ Nothing ∷ Nothing ∷ Int (pos (slice_index v 0)) ∷ Int (pos (slice_index v 1)) ∷ Int (pos (slice_index v 2)) ∷ []
+
+-- util_types: ZZZIIIZZZZZZZZ, or fourteen Z where there is no vertex
+abbrev pub kinds_of_family : List (List ℕ) → List Kind
+kinds_of_family [] = replicate 14 Z
+kinds_of_family (v ∷ vectors) = Z ∷ Z ∷ Z ∷ I ∷ I ∷ I ∷ replicate 8 Z
+
+-- the id of a generated graph: the generator's name, and in parentheses the texts of its parameters, with
+-- commas (44) between them
+abbrev pub call_text : List ℕ → List (List ℕ) → List ℕ
+call_text name words = name ++ codes "(" ++ join_with_byte 44 words ++ codes ")"
+
+-- integers as texts
+abbrev pub integer_texts : List ℤ → List (List ℕ)
+integer_texts params = map signed_decimal params
+
+-- the graph whose vertices are the vectors and whose events are the moves
+unfoldable pub family_graph : List ℕ → Bool → List (List ℕ) → List Move → Description
+family_graph id directed vectors moves = record {
+  id = id;
+  directed = directed;
+  events = map (event_among vectors) moves;
+  kinds = kinds_of_family vectors;
+  util = replicate 6 Nothing;
+  names = map name_of_vector vectors;
+  fields = map fields_of_vector vectors;
+}
+
+-- the new graph is the old one with the coordinates of the vectors in the fields of its vertices
+pub record HasCoordinates (vectors : List (List ℕ)) (old new : GraphData) : Type 0 where
+  pub id : new.id ≡ old.id
+  pub count : new.m ≡ old.m
+  pub kinds : new.kinds ≡ kinds_of_family vectors
+  pub util : new.util ≡ old.util
+  pub records : new.records ≡ old.records
+  pub names : map (λ v. v.name) new.vertices ≡ map (λ v. v.name) old.vertices
+  pub fields : map (λ v. v.util) new.vertices ≡ map fields_of_vector vectors
+  pub chains : (v : ℕ) → chain_of new v ≡ chain_of old v

@@ -1,0 +1,9 @@
+//! The parameters that the generators accept, each with the vertices, the id and the graph that they stand for.
+
+mod boards;
+mod simplexes;
+mod subsets;
+
+pub use boards::Board;
+pub use simplexes::Simplex;
+pub use subsets::{Subsets, common};

@@ -1,0 +1,221 @@
+ghost use Rattle.std.specs.Prelude.{◌≡◌, ◌<◌, ◌≤◌, nat_abs, IfOk, length, map, option_map, slice_get, Some, Ok, IfSome, OnOk, IsOkUnless};
+ghost use Rattle.sgb_gen.specs.Boards.{accepted_board, board_id, piece_of, board_graph, moves_of_board};
+ghost use Rattle.sgb_gen.specs.Limits.{most_piece};
+ghost use Rattle.std.specs.List.{flat_map};
+ghost use Rattle.sgb_vec.specs.Boxes.{box};
+ghost use Rattle.sgb_vec.specs.Lexicographic.{IsBelow};
+ghost use Rattle.sgb_graph.specs.Descriptions.{IsAnswerOf};
+ghost use Rattle.sgb_graph.specs.Growth.{AddsEvents, HasPlainArcs};
+ghost use Rattle.sgb_gen.specs.VectorGraphs.{event_among, vertex_among};
+ghost use Rattle.sgb_gen.specs.Moves.{destination, longest_move, sides_of, moves_from};
+
+use crate::displacements::Displacements;
+use crate::moves::destination;
+use crate::params::BoardParams;
+use crate::vector_graphs::{put_coordinates, vector_names};
+use sgb_graph::{Graph, Id, IdWriter};
+use sgb_vec::{BoxFamily, Family, Panic, Shape, Vector, board_sizes};
+use std::alloc::Global;
+use std::marker::Model;
+
+// The piece of a board is at most this number, and at least its negative.
+const MOST_PIECE: u64 = 2_147_483_647;
+
+/// The parameters of a board that is accepted (GB_BASIC, board): its sizes, its piece, which is not 0, which of
+/// its sides wrap around, and whether its graph is directed.
+#[derive(Drop)]
+pub struct Board {
+    shape: Shape,
+    family: BoxFamily,
+    piece: i64,
+    wrap: i64,
+    directed: bool,
+}
+
+impl Model for Board {
+    ghost use Rattle.std.specs.Prelude.{◌≡◌};
+    ghost use Rattle.sgb_gen.specs.Boards.{BoardData, IsAccepted};
+
+    ghost Value = { BoardData };
+
+    ghost view = { λ b. record {
+      params = b.shape.params;
+      sizes = b.family;
+      piece = b.piece;
+      wrap = b.wrap;
+      directed = b.directed;
+    } };
+
+    ghost invariant = { λ b. (b.shape.sizes ≡ b.family) × IsAccepted b.shape.params b.family b.piece };
+}
+
+impl Board {
+    /// The board of these parameters (GB_BASIC, board). `n1` to `n4` tell the sizes, `piece` the moves, where 0
+    /// stands for 1 and a negative piece rides, and bit k-1 of `wrap` whether coordinate k wraps around.
+    ///
+    /// `Bad` above 91 dimensions; else `VeryBad` above 1,000,000,000 vertices, or where `piece` is above
+    /// 2,147,483,647 or below its negative.
+    pub fn new(
+        n1: i64,
+        n2: i64,
+        n3: i64,
+        n4: i64,
+        piece: i64,
+        wrap: i64,
+        directed: bool,
+    ) -> Result<Board, Panic>
+        ensures { result ≡ accepted_board (record { n1 = n1; n2 = n2; n3 = n3; n4 = n4; piece = piece; wrap = wrap; directed = directed }) }
+    {
+        Board::from_params(&BoardParams {
+            n1,
+            n2,
+            n3,
+            n4,
+            piece,
+            wrap,
+            directed,
+        })
+    }
+
+    /// The board of these parameters (GB_BASIC, board).
+    ///
+    /// `Bad` above 91 dimensions; else `VeryBad` above 1,000,000,000 vertices, or where `piece` is above
+    /// 2,147,483,647 or below its negative.
+    pub fn from_params(params: &BoardParams) -> Result<Board, Panic>
+        ensures { result ≡ accepted_board params.now }
+    {
+        let shape = board_sizes(params.n1, params.n2, params.n3, params.n4)?;
+        let family = BoxFamily::new(shape.sizes())?;
+        let piece = piece_of(params.piece)?;
+        Ok(Board {
+            shape,
+            family,
+            piece,
+            wrap: params.wrap,
+            directed: params.directed,
+        })
+    }
+
+    /// The vectors that are the vertices of the board's graph.
+    pub fn family(&self) -> &BoxFamily
+        ensures { result.now ≡ self.now.sizes }
+    {
+        &self.family
+    }
+
+    /// The id of the board's graph: `board(n1,n2,n3,n4,piece,wrap,directed)`, with 0 for what stands after the
+    /// parameter that ends the sizes, and 1 for a piece of 0 (GB_BASIC, board).
+    pub fn id(&self) -> Id
+        ensures { result ≡ board_id self.now }
+    {
+        let mut id = IdWriter::new();
+        id.push_text(b"board(");
+        id.push_numbers(self.shape.params());
+        id.push_numbers(&[self.piece, self.wrap]);
+        id.push_flag(self.directed);
+        id.push_text(b")");
+        id.id()
+    }
+
+    // The graph of the board. `NoRoom` when out of memory, and nothing else.
+    pub(crate) fn graph(&self, alloc: Global) -> Result<Graph, Panic>
+        ensures { IsAnswerOf (Ok (board_graph self.now)) result }
+    {
+        let names = vector_names(alloc, &self.family)?;
+        let mut graph = Graph::new(alloc, names)?;
+        self.add_arcs(&mut graph)?;
+        put_coordinates(&mut graph, &self.family);
+        graph.set_id(self.id());
+        Ok(graph)
+    }
+
+    // The greatest length that a move may have.
+    fn longest_move(&self) -> u32
+        ensures { result ≡ longest_move (sides_of self.now.sizes self.now.wrap) self.now.piece }
+    {
+        if self.piece < 0 {
+            self.family.size()
+        } else {
+            1
+        }
+    }
+
+    // The vertex where the piece moves from `x` by the displacement `t` at length `l`, if it does.
+    fn vertex_at(&self, x: &[u32], t: &[i32], l: u32) -> Option<u32>
+        requires below { IsBelow x.now self.now.sizes }
+        requires dimensions { length t.now ≡ length self.now.sizes }
+        ensures vertex { result ≡ option_map (vertex_among (box self.now.sizes))
+            (destination (sides_of self.now.sizes self.now.wrap) self.now.piece x.now t.now l) }
+        ensures within { IfSome result (λ v. v < length (box self.now.sizes)) }
+    {
+        let y = destination(self.shape.sizes(), self.wrap, self.piece, x, t, l)?;
+        Some(self.family.place_of(y.as_slice()))
+    }
+
+    // Adds the moves from vertex `u`, which is the vector `x`, by the displacement `t`.
+    fn add_moves(&self, graph: &mut Graph, u: u32, x: &[u32], t: &[i32]) -> Result<(), Panic>
+        requires vertex { slice_get (box self.now.sizes) u ≡ Some x.now }
+        requires dimensions { length t.now ≡ length self.now.sizes }
+        requires vertices { length graph.old.vertices ≡ length (box self.now.sizes) }
+        requires plain { HasPlainArcs graph.old }
+        ensures ok { OnOk result (AddsEvents self.now.directed graph.old graph.new
+            (map (event_among (box self.now.sizes)) (moves_from (sides_of self.now.sizes self.now.wrap) self.now.piece x.now t.now))) }
+        ensures memory { IsOkUnless result Panic.NoRoom }
+    {
+        for l in 1..=self.longest_move() {
+            let Some(v) = self.vertex_at(x, t, l) else {
+                return Ok(());
+            };
+            graph.add_event(self.directed, u, v, i64::from(l))?;
+        }
+        Ok(())
+    }
+
+    // Adds the moves by the displacement `t`, from each vertex in order.
+    fn add_moves_by(&self, graph: &mut Graph, t: &[i32]) -> Result<(), Panic>
+        requires dimensions { length t.now ≡ length self.now.sizes }
+        requires vertices { length graph.old.vertices ≡ length (box self.now.sizes) }
+        requires plain { HasPlainArcs graph.old }
+        ensures ok { OnOk result (AddsEvents self.now.directed graph.old graph.new
+            (map (event_among (box self.now.sizes)) (flat_map (λ x. moves_from (sides_of self.now.sizes self.now.wrap) self.now.piece x t.now) (box self.now.sizes)))) }
+        ensures memory { IsOkUnless result Panic.NoRoom }
+    {
+        let mut x = Vector::new();
+        let _some = self.family.first(&mut x);
+        for u in 0..self.family.size() {
+            self.add_moves(graph, u, x.as_slice(), t)?;
+            let _more = self.family.next(&mut x);
+        }
+        Ok(())
+    }
+
+    // Adds the arcs of the board, or its edges: for each displacement, for each vertex in order.
+    fn add_arcs(&self, graph: &mut Graph) -> Result<(), Panic>
+        requires vertices { length graph.old.vertices ≡ length (box self.now.sizes) }
+        requires plain { HasPlainArcs graph.old }
+        ensures ok { OnOk result (AddsEvents self.now.directed graph.old graph.new (map (event_among (box self.now.sizes)) (moves_of_board self.now))) }
+        ensures memory { IsOkUnless result Panic.NoRoom }
+    {
+        let piece = self.piece.unsigned_abs() as u32;
+        for t in Displacements::new(piece, self.family.dims()) {
+            self.add_moves_by(graph, t.as_slice())?;
+        }
+        Ok(())
+    }
+}
+
+// The piece that the parameter stands for: 1 in the place of 0. `VeryBad` where it is above 2,147,483,647 or below
+// its negative.
+fn piece_of(piece: i64) -> Result<i64, Panic>
+    ensures value { result ≡ piece_of piece }
+    ensures some { IfOk result (λ p. 0 < nat_abs p) }
+    ensures small { IfOk result (λ p. nat_abs p ≤ most_piece) }
+{
+    if piece.unsigned_abs() > MOST_PIECE {
+        return Err(Panic::VeryBad);
+    }
+    if piece == 0 {
+        return Ok(1);
+    }
+    Ok(piece)
+}

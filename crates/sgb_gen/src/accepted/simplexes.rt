@@ -1,0 +1,214 @@
+ghost use Rattle.std.specs.Prelude.{◌≡◌, ◌⊎◌, Err, ◌<◌, length, map, slice_get, Contains, Some, None, Ok, IfSome, OnOk, IsOkUnless, if◌then◌else◌};
+ghost use Rattle.sgb_gen.specs.Simplexes.{accepted_simplex, simplex_id, can_shift, shifted, pairs_from, moves_by, moves_to, moves_of_simplex, simplex_vectors, simplex_graph};
+ghost use Rattle.sgb_graph.specs.Descriptions.{IsAnswerOf};
+ghost use Rattle.sgb_graph.specs.Growth.{AddsEvents, HasPlainArcs};
+ghost use Rattle.sgb_gen.specs.VectorGraphs.{event_among, vertex_among};
+
+use crate::params::SimplexParams;
+use crate::shifts::{can_shift, shifted};
+use crate::tables::VectorTable;
+use crate::vector_graphs::{put_coordinates, vector_names};
+use sgb_graph::{Graph, Id, IdWriter};
+use sgb_vec::{Panic, Shape, SumFamily, simplex_bounds};
+use std::alloc::Global;
+use std::marker::Model;
+
+/// The parameters of a simplex that is accepted (GB_BASIC, simplex): its sum, its bounds, and whether its graph
+/// is directed.
+#[derive(Drop)]
+pub struct Simplex {
+    shape: Shape,
+    family: SumFamily,
+    directed: bool,
+}
+
+impl Model for Simplex {
+    ghost use Rattle.std.specs.Prelude.{◌≡◌};
+    ghost use Rattle.sgb_gen.specs.Simplexes.{SimplexData, IsAcceptedSum};
+
+    ghost Value = { SimplexData };
+
+    ghost view = { λ s. record {
+      params = s.shape.params;
+      sum = s.family;
+      directed = s.directed;
+    } };
+
+    ghost invariant = { λ s. (s.shape.sizes ≡ s.family.bounds) × IsAcceptedSum s.shape.params s.family };
+}
+
+impl Simplex {
+    /// The simplex of these parameters (GB_BASIC, simplex): the vectors of the sum `n`, whose bounds `n0` to
+    /// `n4` tell.
+    ///
+    /// `Bad` where `n` is negative, else above 91 dimensions; else `VeryBad` where `n` is above 1,000,000,000,
+    /// or where for some j from 1 to the last dimension and some k up to `n` more than 1,000,000,000 vectors
+    /// within the first j+1 bounds add to k. `NoRoom` when out of memory.
+    pub fn new(
+        alloc: Global,
+        n: i64,
+        n0: i64,
+        n1: i64,
+        n2: i64,
+        n3: i64,
+        n4: i64,
+        directed: bool,
+    ) -> Result<Simplex, Panic>
+        ensures { (result ≡ accepted_simplex (record { n = n; n0 = n0; n1 = n1; n2 = n2; n3 = n3; n4 = n4; directed = directed })) ⊎ (result ≡ Err Panic.NoRoom) }
+    {
+        let params = SimplexParams {
+            n,
+            n0,
+            n1,
+            n2,
+            n3,
+            n4,
+            directed,
+        };
+        Simplex::from_params(alloc, &params)
+    }
+
+    /// The simplex of these parameters (GB_BASIC, simplex).
+    ///
+    /// `Bad` where `n` is negative, else above 91 dimensions; else `VeryBad` where `n` is above 1,000,000,000,
+    /// or where for some j from 1 to the last dimension and some k up to `n` more than 1,000,000,000 vectors
+    /// within the first j+1 bounds add to k. `NoRoom` when out of memory.
+    pub fn from_params(alloc: Global, params: &SimplexParams) -> Result<Simplex, Panic>
+        ensures { (result ≡ accepted_simplex params.now) ⊎ (result ≡ Err Panic.NoRoom) }
+    {
+        let shape = simplex_bounds(
+            params.n, params.n0, params.n1, params.n2, params.n3, params.n4,
+        )?;
+        let family = SumFamily::new(alloc, params.n, shape.sizes())?;
+        Ok(Simplex {
+            shape,
+            family,
+            directed: params.directed,
+        })
+    }
+
+    /// The vectors that are the vertices of the simplex's graph.
+    pub fn family(&self) -> &SumFamily
+        ensures { result.now ≡ self.now.sum }
+    {
+        &self.family
+    }
+
+    /// The id of the simplex's graph: `simplex(n,n0,n1,n2,n3,n4,directed)`, with -2 for an `n0` of 0, with `n`
+    /// for a bound above it, and with 0 for what stands after the parameter that ends the bounds (GB_BASIC,
+    /// simplex).
+    pub fn id(&self) -> Id
+        ensures { result ≡ simplex_id self.now }
+    {
+        let mut id = IdWriter::new();
+        id.push_text(b"simplex(");
+        id.push_numbers(self.shape.params());
+        id.push_flag(self.directed);
+        id.push_text(b")");
+        id.id()
+    }
+
+    // The graph of the simplex. `NoRoom` when out of memory, and nothing else.
+    pub(crate) fn graph(&self, alloc: Global) -> Result<Graph, Panic>
+        ensures { IsAnswerOf (Ok (simplex_graph self.now)) result }
+    {
+        let names = vector_names(alloc, &self.family)?;
+        let mut graph = Graph::new(alloc, names)?;
+        let vertices = VectorTable::new(alloc, &self.family)?;
+        self.add_arcs(&mut graph, &vertices)?;
+        put_coordinates(&mut graph, &self.family);
+        graph.set_id(self.id());
+        Ok(graph)
+    }
+
+    // The vertex that `x` becomes when a unit goes from the lower place to the higher one, if it can.
+    fn vertex_at(
+        &self,
+        vertices: &VectorTable,
+        x: &[u32],
+        lower: usize,
+        higher: usize,
+    ) -> Option<u32>
+        requires vertices { vertices.now ≡ simplex_vectors self.now }
+        requires member { Contains (simplex_vectors self.now) x.now }
+        requires order { lower < higher }
+        requires entry { higher < length x.now }
+        ensures vertex { result ≡ (if can_shift self.now.sum.bounds x.now (record { lower = lower; higher = higher })
+            then Some (vertex_among (simplex_vectors self.now) (shifted x.now (record { lower = lower; higher = higher }))) else None) }
+        ensures within { IfSome result (λ u. u < length (simplex_vectors self.now)) }
+    {
+        let bounds = self.shape.sizes();
+        if !can_shift(bounds, x, lower, higher) {
+            return None;
+        }
+        let there = shifted(bounds, x, lower, higher);
+        Some(vertices.place_of(there.as_slice()))
+    }
+
+    // Adds the moves to vertex `v`, which is the vector `x`, by a unit from the lower place to each higher one.
+    fn add_moves_from(
+        &self,
+        graph: &mut Graph,
+        vertices: &VectorTable,
+        v: u32,
+        x: &[u32],
+        lower: usize,
+    ) -> Result<(), Panic>
+        requires vertices { vertices.now ≡ simplex_vectors self.now }
+        requires vertex { slice_get (simplex_vectors self.now) v ≡ Some x.now }
+        requires entry { lower < length x.now }
+        requires nodes { length graph.old.vertices ≡ length (simplex_vectors self.now) }
+        requires plain { HasPlainArcs graph.old }
+        ensures ok { OnOk result (AddsEvents self.now.directed graph.old graph.new
+            (map (event_among (simplex_vectors self.now)) (moves_by self.now.sum.bounds x.now (pairs_from (length x.now) lower)))) }
+        ensures memory { IsOkUnless result Panic.NoRoom }
+    {
+        for higher in lower + 1..x.len() {
+            let Some(u) = self.vertex_at(vertices, x, lower, higher) else {
+                continue;
+            };
+            graph.add_event(self.directed, u, v, 1)?;
+        }
+        Ok(())
+    }
+
+    // Adds the moves to vertex `v`, which is the vector `x`.
+    fn add_moves_to(
+        &self,
+        graph: &mut Graph,
+        vertices: &VectorTable,
+        v: u32,
+        x: &[u32],
+    ) -> Result<(), Panic>
+        requires vertices { vertices.now ≡ simplex_vectors self.now }
+        requires vertex { slice_get (simplex_vectors self.now) v ≡ Some x.now }
+        requires nodes { length graph.old.vertices ≡ length (simplex_vectors self.now) }
+        requires plain { HasPlainArcs graph.old }
+        ensures ok { OnOk result (AddsEvents self.now.directed graph.old graph.new
+            (map (event_among (simplex_vectors self.now)) (moves_to self.now.sum.bounds x.now))) }
+        ensures memory { IsOkUnless result Panic.NoRoom }
+    {
+        for lower in 0..x.len() {
+            self.add_moves_from(graph, vertices, v, x, lower)?;
+        }
+        Ok(())
+    }
+
+    // Adds the arcs of the simplex, or its edges: to each vertex in order.
+    fn add_arcs(&self, graph: &mut Graph, vertices: &VectorTable) -> Result<(), Panic>
+        requires vertices { vertices.now ≡ simplex_vectors self.now }
+        requires nodes { length graph.old.vertices ≡ length (simplex_vectors self.now) }
+        requires plain { HasPlainArcs graph.old }
+        ensures ok { OnOk result (AddsEvents self.now.directed graph.old graph.new
+            (map (event_among (simplex_vectors self.now)) (moves_of_simplex self.now))) }
+        ensures memory { IsOkUnless result Panic.NoRoom }
+    {
+        for v in 0..vertices.len() {
+            self.add_moves_to(graph, vertices, v, vertices.vector(v))?;
+        }
+        Ok(())
+    }
+}
+
+#[cfg(test)]
+mod tests;

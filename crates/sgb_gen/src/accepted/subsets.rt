@@ -1,0 +1,202 @@
+ghost use Rattle.std.specs.Prelude.{◌≡◌, ◌⊎◌, Err, ◌<◌, [], ◌∷◌, pos, length, map, slice_get, Some, Ok, OnOk, IsOkUnless, if◌then◌else◌, ◌≤◌, ◌^◌};
+ghost use Rattle.sgb_gen.specs.Subsets.{accepted_subsets, subsets_id, is_wanted_size, moves_to_place, subsets_vectors, moves_of_subsets, subsets_graph, common_size};
+ghost use Rattle.sgb_graph.specs.Descriptions.{IsAnswerOf};
+ghost use Rattle.sgb_graph.specs.Growth.{AddsEvents, HasPlainArcs};
+ghost use Rattle.sgb_gen.specs.VectorGraphs.{event_among};
+
+use crate::params::SubsetsParams;
+use crate::vector_graphs::{put_coordinates, vector_names};
+use sgb_graph::{Graph, Id, IdWriter};
+use sgb_vec::{Family, Panic, Shape, SumFamily, Vector, simplex_bounds};
+use std::alloc::Global;
+use std::marker::Model;
+
+/// The parameters of subsets that are accepted (GB_BASIC, subsets): their sum and its bounds, how many elements
+/// two of them may have in common where they are joined, and whether their graph is directed.
+#[derive(Drop)]
+pub struct Subsets {
+    shape: Shape,
+    family: SumFamily,
+    size_bits: u64,
+    directed: bool,
+}
+
+impl Model for Subsets {
+    ghost use Rattle.std.specs.Prelude.{◌≡◌};
+    ghost use Rattle.sgb_gen.specs.Simplexes.{IsAcceptedSum};
+    ghost use Rattle.sgb_gen.specs.Subsets.{SubsetsData};
+
+    ghost Value = { SubsetsData };
+
+    ghost view = { λ s. record {
+      params = s.shape.params;
+      sum = s.family;
+      size_bits = s.size_bits;
+      directed = s.directed;
+    } };
+
+    ghost invariant = { λ s. (s.shape.sizes ≡ s.family.bounds) × IsAcceptedSum s.shape.params s.family };
+}
+
+impl Subsets {
+    /// The subsets of these parameters (GB_BASIC, subsets): the vectors of the sum `n` within the bounds that `n0` to
+    /// `n4` tell, as multisets of `n` elements. Two of them are joined where bit c of `size_bits` is 1, c being how many
+    /// elements they have in common.
+    ///
+    /// `Bad` where `n` is negative, else above 91 dimensions; else `VeryBad` where `n` is above 1,000,000,000, or
+    /// where for some j from 1 to the last dimension and some k up to `n` more than 1,000,000,000 vectors within the
+    /// first j+1 bounds add to k. `NoRoom` when out of memory.
+    pub fn new(
+        alloc: Global,
+        n: i64,
+        n0: i64,
+        n1: i64,
+        n2: i64,
+        n3: i64,
+        n4: i64,
+        size_bits: u64,
+        directed: bool,
+    ) -> Result<Subsets, Panic>
+        ensures { (result ≡ accepted_subsets (record { n = n; n0 = n0; n1 = n1; n2 = n2; n3 = n3; n4 = n4; size_bits = size_bits; directed = directed })) ⊎ (result ≡ Err Panic.NoRoom) }
+    {
+        let params = SubsetsParams {
+            n,
+            n0,
+            n1,
+            n2,
+            n3,
+            n4,
+            size_bits,
+            directed,
+        };
+        Subsets::from_params(alloc, &params)
+    }
+
+    /// The subsets of these parameters (GB_BASIC, subsets).
+    ///
+    /// `Bad` where `n` is negative, else above 91 dimensions; else `VeryBad` where `n` is above 1,000,000,000, or
+    /// where for some j from 1 to the last dimension and some k up to `n` more than 1,000,000,000 vectors within the
+    /// first j+1 bounds add to k. `NoRoom` when out of memory.
+    pub fn from_params(alloc: Global, params: &SubsetsParams) -> Result<Subsets, Panic>
+        ensures { (result ≡ accepted_subsets params.now) ⊎ (result ≡ Err Panic.NoRoom) }
+    {
+        let shape = simplex_bounds(
+            params.n, params.n0, params.n1, params.n2, params.n3, params.n4,
+        )?;
+        let family = SumFamily::new(alloc, params.n, shape.sizes())?;
+        Ok(Subsets {
+            shape,
+            family,
+            size_bits: params.size_bits,
+            directed: params.directed,
+        })
+    }
+
+    /// The vectors that are the vertices of the graph of subsets.
+    pub fn family(&self) -> &SumFamily
+        ensures { result.now ≡ self.now.sum }
+    {
+        &self.family
+    }
+
+    /// The id of the graph of subsets: `subsets(n,n0,n1,n2,n3,n4,0xH,directed)`, with no bound above `n`, -2 for an
+    /// `n0` of 0 and 0 for what stands after the parameter that ends the bounds; H is `size_bits` in hexadecimal
+    /// (GB_BASIC, subsets).
+    pub fn id(&self) -> Id
+        ensures { result ≡ subsets_id self.now }
+    {
+        let mut id = IdWriter::new();
+        id.push_text(b"subsets(");
+        id.push_numbers(self.shape.params());
+        id.push_hexadecimal(self.size_bits);
+        id.push_text(b",");
+        id.push_flag(self.directed);
+        id.push_text(b")");
+        id.id()
+    }
+
+    // The graph of the subsets. `NoRoom` when out of memory, and nothing else.
+    pub(crate) fn graph(&self, alloc: Global) -> Result<Graph, Panic>
+        ensures { IsAnswerOf (Ok (subsets_graph self.now)) result }
+    {
+        let names = vector_names(alloc, &self.family)?;
+        let mut graph = Graph::new(alloc, names)?;
+        self.add_arcs(&mut graph)?;
+        put_coordinates(&mut graph, &self.family);
+        graph.set_id(self.id());
+        Ok(graph)
+    }
+
+    // Adds the arcs of the subsets, or their edges: for each vertex in order those to it.
+    fn add_arcs(&self, graph: &mut Graph) -> Result<(), Panic>
+        requires vertices { length graph.old.vertices ≡ length (subsets_vectors self.now) }
+        requires plain { HasPlainArcs graph.old }
+        ensures ok { OnOk result (AddsEvents self.now.directed graph.old graph.new (map (event_among (subsets_vectors self.now)) (moves_of_subsets self.now))) }
+        ensures memory { IsOkUnless result Panic.NoRoom }
+    {
+        let mut vector = Vector::new();
+        let _some = self.family.first(&mut vector);
+        for v in 0..self.family.size() {
+            self.add_moves_to(graph, v, vector.as_slice())?;
+            let _more = self.family.next(&mut vector);
+        }
+        Ok(())
+    }
+
+    // Adds the moves to vertex `v`, which is the vector `to`: from each vertex up to it, in order.
+    fn add_moves_to(&self, graph: &mut Graph, v: u32, to: &[u32]) -> Result<(), Panic>
+        requires vertex { slice_get (subsets_vectors self.now) v ≡ Some to.now }
+        requires vertices { length graph.old.vertices ≡ length (subsets_vectors self.now) }
+        requires plain { HasPlainArcs graph.old }
+        ensures ok { OnOk result (AddsEvents self.now.directed graph.old graph.new
+            (map (event_among (subsets_vectors self.now)) (moves_to_place self.now.size_bits (subsets_vectors self.now) v))) }
+        ensures memory { IsOkUnless result Panic.NoRoom }
+    {
+        let mut from = Vector::new();
+        let _some = self.family.first(&mut from);
+        for u in 0..=v {
+            self.add_move(graph, u, v, common(from.as_slice(), to))?;
+            let _more = self.family.next(&mut from);
+        }
+        Ok(())
+    }
+
+    // Adds the move from vertex `u` to vertex `v` where they may have `c` elements in common.
+    fn add_move(&self, graph: &mut Graph, u: u32, v: u32, c: u64) -> Result<(), Panic>
+        requires from { u < length graph.old.vertices }
+        requires to { v < length graph.old.vertices }
+        requires plain { HasPlainArcs graph.old }
+        ensures ok { OnOk result (AddsEvents self.now.directed graph.old graph.new
+            (if is_wanted_size self.now.size_bits c then record { from = u; to = v; len = pos 1 } ∷ [] else [])) }
+        ensures memory { IsOkUnless result Panic.NoRoom }
+    {
+        if is_wanted(self.size_bits, c) {
+            return graph.add_event(self.directed, u, v, 1);
+        }
+        Ok(())
+    }
+}
+
+// Whether `size_bits` has a bit of 1 for `c` elements in common; it has none for 64 and more.
+fn is_wanted(size_bits: u64, c: u64) -> bool
+    ensures { result ≡ is_wanted_size size_bits c }
+{
+    c < 64 && (size_bits >> c) & 1 == 1
+}
+
+/// How many elements two multisets have in common: the sum of the lesser entries (GB_BASIC, subsets). `u` and `v`
+/// tell how often each has each element.
+pub fn common(u: &[u32], v: &[u32]) -> u64
+    requires widths { length u.now ≡ length v.now }
+    requires fits { length u.now ≤ 2 ^ 31 }
+    ensures { result ≡ common_size u.now v.now }
+{
+    let mut total = 0;
+    for (x, y) in u.iter().zip(v) {
+        total += u64::from((*x).min(*y));
+    }
+    total
+}
+
+#[cfg(test)]
+mod tests;

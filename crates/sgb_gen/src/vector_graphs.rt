@@ -1,0 +1,55 @@
+//! Graphs whose vertices are the vectors of a family, with their names and their coordinates (GB_BASIC).
+ghost use Rattle.std.specs.Prelude.{◌≡◌, pos, length, map, slice_index, IfOk, IsOkUnless};
+ghost use Rattle.sgb_vec.specs.Names.{name_of_vector};
+ghost use Rattle.sgb_graph.specs.Made.{no_kinds, no_fields};
+ghost use Rattle.sgb_gen.specs.VectorGraphs.{HasCoordinates};
+
+use sgb_graph::{Graph, Names};
+use sgb_vec::{Family, Panic, Vector, name_of};
+use std::alloc::Global;
+
+/// The names of the vectors of a family, in order (GB_BASIC, board).
+///
+/// `NoRoom` when out of memory, and nothing else.
+pub(crate) fn vector_names<F: Family>(alloc: Global, family: &F) -> Result<Names, Panic>
+    ensures ok { IfOk result (λ names. names ≡ map name_of_vector (F.members family.now)) }
+    ensures memory { IsOkUnless result Panic.NoRoom }
+{
+    let mut names = Names::new(alloc);
+    let mut vector = Vector::new();
+    let _some = family.first(&mut vector);
+    for _u in 0..family.size() {
+        let name = name_of(alloc, vector.as_slice())?;
+        let Ok(()) = names.push(name) else {
+            return Err(Panic::NoRoom);
+        };
+        let _more = family.next(&mut vector);
+    }
+    Ok(names)
+}
+
+/// Puts the first three entries of each vector into the utility fields x, y, z of its vertex, and 0 for those
+/// that it does not have (GB_BASIC, board).
+pub(crate) fn put_coordinates<F: Family>(graph: &mut Graph, family: &F)
+    requires vertices { length graph.old.vertices ≡ length (F.members family.now) }
+    requires kinds { graph.old.kinds ≡ no_kinds }
+    requires fields { map (λ v. v.util) graph.old.vertices ≡ map (λ v. no_fields) (F.members family.now) }
+    ensures { HasCoordinates (F.members family.now) graph.old graph.new }
+{
+    let mut vector = Vector::new();
+    let _some = family.first(&mut vector);
+    for u in 0..family.size() {
+        let x = entry(vector.as_slice(), 0);
+        let y = entry(vector.as_slice(), 1);
+        let z = entry(vector.as_slice(), 2);
+        graph.set_vertex_ints(u, x, y, z);
+        let _more = family.next(&mut vector);
+    }
+}
+
+// Entry number k of a vector, or 0.
+fn entry(vector: &[u32], k: usize) -> i64
+    ensures { result ≡ pos (slice_index vector.now k) }
+{
+    vector.get(k).copied().map_or(0, i64::from)
+}
