@@ -5,6 +5,7 @@ pub mod Expressions
 pub mod Faults
 pub mod Fronts
 pub mod Grammar
+pub mod Program
 pub mod Reading
 pub mod Requests
 pub mod Runs

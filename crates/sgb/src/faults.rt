@@ -1,11 +1,15 @@
-ghost use Rattle.std.specs.Prelude.{◌≡◌, ◌++◌, decimal};
+ghost use Rattle.std.specs.Prelude.{◌≡◌, ◌≤◌, ◌+◌, ◌++◌, decimal, length};
 ghost use Rattle.sgb_file.specs.Devices.{AppendsUnlessFailed, IsPut};
 ghost use Rattle.sgb.specs.Faults.{line_of, status_of};
 
+use arrayvec::ArrayVec;
 use itoa::Buffer;
 use sgb_file::{Failed, Sink, put_all};
 use sgb_vec::Panic;
 use thiserror::Error;
+
+// A line with a number in it has at most this many bytes.
+const MOST_BYTES: usize = 64;
 
 /// Why a request ends without its whole answer.
 #[derive(Clone, Copy, Debug, PartialEq, Eq, Error)]
@@ -44,17 +48,6 @@ impl From<Panic> for Fault {
     }
 }
 
-impl From<Failed> for Fault {
-    ghost use Rattle.std.specs.Prelude.{◌≡◌};
-    ghost use Rattle.sgb.specs.declared.faults.Fault.TheVariants as fault;
-
-    ghost from_gives = { λ _ f. f ≡ fault.Write };
-
-    fn from(_failed: Failed) -> Fault {
-        Fault::Write
-    }
-}
-
 /// The exit status of a fault: 1, 2 or 3.
 pub fn status(fault: &Fault) -> u8
     ensures { result ≡ status_of fault.now }
@@ -66,8 +59,8 @@ pub fn status(fault: &Fault) -> u8
     }
 }
 
-/// Writes the fault's line, and answers its exit status. A sink that fails has a front of the line, and the
-/// status is the same.
+/// Writes the fault's line, all of it at once, and returns its exit status. A sink that fails has a prefix of the line,
+/// and the status is the same.
 pub fn report<E: Sink>(fault: &Fault, errors: &mut E) -> u8
     ensures line { AppendsUnlessFailed (E.has_failed errors.new) (E.written errors.old) (E.written errors.new) (line_of fault.now) }
     ensures status { result ≡ status_of fault.now }
@@ -98,17 +91,29 @@ fn put_line<E: Sink>(fault: &Fault, errors: &mut E) -> Result<(), Failed>
     }
 }
 
-// Puts a number in decimal between two texts.
+// Puts a number in decimal between two texts, all of it at once.
 fn put_number<E: Sink>(
     before: &[u8],
     number: u32,
     after: &[u8],
     errors: &mut E,
 ) -> Result<(), Failed>
+    requires { length before.now + length after.now ≤ 54 }
     ensures { IsPut (before.now ++ decimal number ++ after.now) (E.written errors.old) (E.written errors.new) (E.has_failed errors.new) result }
 {
+    let line = number_line(before, number, after);
+    put_all(errors, line.as_slice())
+}
+
+// The line of a number in decimal between two texts. The number has at most 10 digits.
+fn number_line(before: &[u8], number: u32, after: &[u8]) -> ArrayVec<u8, MOST_BYTES>
+    requires { length before.now + length after.now ≤ 54 }
+    ensures { result.items ≡ before.now ++ decimal number ++ after.now }
+{
     let mut digits = Buffer::new();
-    put_all(errors, before)?;
-    put_all(errors, digits.format(number).as_bytes())?;
-    put_all(errors, after)
+    let mut line = ArrayVec::new();
+    let _before = line.try_extend_from_slice(before);
+    let _digits = line.try_extend_from_slice(digits.format(number).as_bytes());
+    let _after = line.try_extend_from_slice(after);
+    line
 }

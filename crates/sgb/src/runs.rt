@@ -48,8 +48,10 @@ fn answer<W: Sink>(alloc: Global, request: &Request, out: &mut W) -> Result<(), 
     ensures { IsEnded (answer_of request.now) (record { before = W.written out.old; after = W.written out.new; failed = W.has_failed out.new }) result }
 {
     write_answer(alloc, request, out)?;
-    out.flush()?;
-    Ok(())
+    match out.flush() {
+        Ok(()) => Ok(()),
+        Err(_) => Err(Fault::Write),
+    }
 }
 
 // Writes the output of a request.

@@ -2,12 +2,14 @@
 
 ghost use Rattle.std.specs.Prelude.{◌≡◌, false};
 
-use crate::command_line::request;
-use crate::faults::report;
-use crate::runs::run;
+use crate::program::run_program;
 use sgb_file::{CutSink, CutSource, MemSink, MemSource, Sink};
 use std::alloc::Global;
+use std::io::{Error, ErrorKind};
 use std::test::Fail;
+
+const USAGE: &str =
+    "usage: sgb (names|list) EXPR [--after NAME|--skip K], sgb save EXPR, sgb queen, sgb flip EXPR\n";
 
 // What a call does: its words, what comes out, the line on standard error, the exit status.
 #[derive(Clone, Copy)]
@@ -39,16 +41,11 @@ fn call<W: Sink, E: Sink>(
 {
     let mut source = MemSource::new(b"");
     let words = words_of(alloc, words)?;
-    Ok(match request(alloc, &words) {
-        Ok(request) => run(alloc, &request, &mut source, out, errors),
-        Err(fault) => report(&fault, errors),
-    })
+    Ok(run_program(alloc, Ok(words), &mut source, out, errors))
 }
 
 #[test]
 fn calls_over_memory(rt: HostRuntime) -> Result<(), Fail> {
-    let usage =
-        "usage: sgb (names|list) EXPR [--after NAME|--skip K], sgb save EXPR, sgb queen, sgb flip EXPR\n";
     let cases = [
         Case {
             words: &["names", "board(2,3,0,0,1,0,0)"],
@@ -148,7 +145,7 @@ fn calls_over_memory(rt: HostRuntime) -> Result<(), Fail> {
         Case {
             words: &["names", "board(3,", "--after", "1", "--skip", "1"],
             output: "",
-            line: usage,
+            line: USAGE,
             status: 2,
         },
         Case {
@@ -181,13 +178,13 @@ fn calls_over_memory(rt: HostRuntime) -> Result<(), Fail> {
         Case {
             words: &["names", "x", "--skip", "x"],
             output: "",
-            line: usage,
+            line: USAGE,
             status: 2,
         },
         Case {
             words: &[],
             output: "",
-            line: usage,
+            line: USAGE,
             status: 2,
         },
     ];
@@ -653,13 +650,33 @@ fn a_source_that_fails_is_not_read(rt: HostRuntime) -> Result<(), Fail> {
     let mut out = MemSink::new(rt.alloc());
     let mut errors = MemSink::new(rt.alloc());
     let words = words_of(rt.alloc(), &["names", "board(2,0,0,0,1,0,0)"])?;
-    match request(rt.alloc(), &words) {
-        Ok(request) => {
-            let status = run(rt.alloc(), &request, &mut source, &mut out, &mut errors);
-            assert_eq!(rt; status, 0);
-            assert_eq!(rt; out.bytes(), b"0\n1\n".as_slice());
-        }
-        Err(_) => assert!(rt; false),
+    let status = run_program(rt.alloc(), Ok(words), &mut source, &mut out, &mut errors);
+    assert_eq!(rt; status, 0);
+    assert_eq!(rt; out.bytes(), b"0\n1\n".as_slice());
+    Ok(())
+}
+
+// Words that could not be read are an invalid command line, unless memory ran out.
+#[test]
+fn words_that_could_not_be_read(rt: HostRuntime) -> Result<(), Fail> {
+    let cases = [
+        (ErrorKind::InvalidData, USAGE, 2),
+        (ErrorKind::Other, USAGE, 2),
+        (
+            ErrorKind::OutOfMemory,
+            "Something went wrong (panic code 1)!\n",
+            1,
+        ),
+    ];
+    for (kind, line, status) in cases {
+        let mut source = MemSource::new(b"");
+        let mut out: CutSink<64> = CutSink::new(64, 64, true);
+        let mut errors = MemSink::new(rt.alloc());
+        let words = Err(Error::from(kind));
+        let answered = run_program(rt.alloc(), words, &mut source, &mut out, &mut errors);
+        assert_eq!(rt; answered, status);
+        assert_eq!(rt; errors.bytes(), line.as_bytes());
+        assert!(rt; !out.failed());
     }
     Ok(())
 }

@@ -14,8 +14,7 @@ fn write_bytes<W: Sink>(out: &mut W, bytes: &[u8]) -> Result<(), Fault>
     requires { W.has_failed out.old ≡ false }
     ensures { IsWritten bytes.now (record { before = W.written out.old; after = W.written out.new; failed = W.has_failed out.new }) result }
 {
-    put_all(out, bytes)?;
-    Ok(())
+    put_all(out, bytes).map_err(|_| Fault::Write)
 }
 
 // Writes texts, one after the other.

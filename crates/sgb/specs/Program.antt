@@ -1,0 +1,39 @@
+-- What a call of the program does: the request that its words make is answered, or they are refused with a fault.
+use Rattle.std.specs.Prelude.{◌≡◌, ◌⊎◌, ℕ, false, List}
+use Rattle.clap.specs.Words.{Text}
+use Rattle.std.specs.declared.io.ErrorKind.{ErrorKind}
+use Rattle.std.specs.declared.io.ErrorKind.TheVariants.{OutOfMemory}
+use Rattle.sgb_vec.specs.declared.panics.Panic.TheVariants.{NoRoom}
+use Rattle.sgb_file.specs.Devices.{AppendsUnlessFailed}
+use Rattle.sgb.specs.Answers.{answer_of, outcome_of}
+use Rattle.sgb.specs.Faults.{line_of, status_of}
+use Rattle.sgb.specs.Requests.{IsRefusedCall, IsRequest}
+use Rattle.sgb.specs.Runs.{Answers, Change}
+use Rattle.sgb.specs.declared.faults.Fault.{Fault}
+use Rattle.sgb.specs.declared.faults.Fault.TheVariants as fault
+use Rattle.sgb.specs.declared.requests.Request.{Request}
+
+-- the fault of words that could not be read: out of memory, else an invalid command line
+abbrev pub unread_fault : ErrorKind → Fault
+unread_fault OutOfMemory = fault.Panic NoRoom
+unread_fault _ = fault.Usage
+
+-- only this fault was reported: nothing was written to the output, its line to standard error unless that failed,
+-- and its status was returned
+pub record IsReported (f : Fault) (out err : Change) (status : ℕ) : Type 0 where
+  pub untouched : out.after ≡ out.before
+  pub sound : out.failed ≡ false
+  pub line : AppendsUnlessFailed err.failed err.before err.after (line_of f)
+  pub exit : status ≡ status_of f
+
+-- the words make a request, and a run answered it
+abbrev pub IsRequestRun : List Text → Change → Change → ℕ → Type 0
+IsRequestRun words out err status = (r : Request) × IsRequest words r × Answers (outcome_of (answer_of r)) out err status
+
+-- the words are refused with a fault, and it was reported
+abbrev pub IsRefusalReported : List Text → Change → Change → ℕ → Type 0
+IsRefusalReported words out err status = (f : Fault) × IsRefusedCall words f × IsReported f out err status
+
+-- what the words ask for was answered, or their refusal was reported
+abbrev pub AnswersWords : List Text → Change → Change → ℕ → Type 0
+AnswersWords words out err status = IsRequestRun words out err status ⊎ IsRefusalReported words out err status

@@ -1,0 +1,69 @@
+//! A call of the program, from its words to its bytes and its exit status.
+
+ghost use Rattle.std.specs.Prelude.{◌≡◌, Ok, Err, MatchResult, false, map};
+ghost use Rattle.std.specs.IoError.{error_kind};
+ghost use Rattle.std.specs.String.{string_bytes};
+ghost use Rattle.sgb.specs.Program.{AnswersWords, IsReported, unread_fault};
+ghost use Rattle.sgb.specs.Requests.{IsCallAnsweredBy};
+
+use crate::command_line::request;
+use crate::faults::{Fault, report};
+use crate::requests::Request;
+use crate::runs::run;
+use sgb_file::{Sink, Source};
+use sgb_vec::Panic;
+use std::alloc::Global;
+use std::io::{self, ErrorKind};
+
+/// Does what the words of a command line ask for, of which the first is the program's name, and returns the exit
+/// status: runs the request that they make, or writes the line of the fault that they are refused with to `errors`.
+///
+/// Words that could not be read are an invalid command line (2), or out of memory (1). `source` is standard input.
+/// Where no request is run, `out` is left as it was, with no flush.
+pub fn run_program<R: Source, W: Sink, E: Sink>(
+    alloc: Global,
+    words: io::Result<Vec<String>>,
+    source: &mut R,
+    out: &mut W,
+    errors: &mut E,
+) -> u8
+    requires { W.has_failed out.old ≡ false }
+    ensures read { MatchResult words
+        (λ words. AnswersWords (map string_bytes words.items)
+            (record { before = W.written out.old; after = W.written out.new; failed = W.has_failed out.new })
+            (record { before = E.written errors.old; after = E.written errors.new; failed = E.has_failed errors.new })
+            result)
+        (λ error. IsReported (unread_fault (error_kind error))
+            (record { before = W.written out.old; after = W.written out.new; failed = W.has_failed out.new })
+            (record { before = E.written errors.old; after = E.written errors.new; failed = E.has_failed errors.new })
+            result) }
+    ensures unread { source.new ≡ source.old }
+{
+    match request_of(alloc, words) {
+        Ok(request) => run(alloc, &request, source, out, errors),
+        Err(fault) => report(&fault, errors),
+    }
+}
+
+// The request that the words make, if they could be read.
+fn request_of(alloc: Global, words: io::Result<Vec<String>>) -> Result<Request, Fault>
+    ensures { MatchResult words
+        (λ words. IsCallAnsweredBy (map string_bytes words.items) result)
+        (λ error. result ≡ Err (unread_fault (error_kind error))) }
+{
+    match words {
+        Ok(words) => request(alloc, &words),
+        Err(error) => Err(unread_fault(&error)),
+    }
+}
+
+// The fault of words that could not be read.
+fn unread_fault(error: &io::Error) -> Fault
+    ensures { result ≡ unread_fault (error_kind error.now) }
+{
+    if error.kind() == ErrorKind::OutOfMemory {
+        Fault::Panic(Panic::NoRoom)
+    } else {
+        Fault::Usage
+    }
+}
