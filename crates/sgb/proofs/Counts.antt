@@ -4,7 +4,7 @@ use Rattle.std.proofs.lemmas.Str.Parse.{IsNumeralModel, digits_value_short, nume
 use Rattle.std.specs.Option.{SomeIff}
 use Rattle.std.specs.Result.{OkIff, result_ok}
 use Rattle.std.specs.Str.Parse.{AllDigits, ParsesUnsigned, digits_value}
-use Rattle.sgb.specs.Grammar.{IsDigits}
+use Rattle.sgb.specs.Counts.{IsDigits}
 
 -- std's words for digits and their value
 own : IsNumeralModel (AllDigits 10) (digits_value 10)

@@ -1,20 +1,10 @@
 -- The lemmas of sgb, by subject.
-pub mod Among
-pub mod Bits
-pub mod CallForms
-pub mod CallLemmas
 pub mod Counts
 pub mod CutOff
-pub mod Digits
 pub mod Endings
-pub mod ExpressionForms
-pub mod Forms
 pub mod HelpRefused
-pub mod Integers
-pub mod Kept
 pub mod Lines
 pub mod Listings
 pub mod Named
 pub mod RequiredValues
 pub mod Shown
-pub mod Steps

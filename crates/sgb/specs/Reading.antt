@@ -1,43 +1,25 @@
--- What reading an expression answers, among some forms and among all.
-use Rattle.std.specs.Prelude.{◌≤◌, ◌<◌, ◌⊎◌, List, [], ◌∷◌, ◌++◌, ℕ, ℤ, length, take, Result, Ok, Err}
-use Rattle.sgb.specs.Grammar.{Piece, IsForm}
-use Rattle.sgb.specs.Expressions.{board_form, simplex_form, subsets_form, complete_form, transitive_form, empty_form, circuit_form, cycle_form, disjoint_subsets_form, petersen_form, IsExpression, IsNoExpression, IsLongestFront, IsTooLarge}
-use Rattle.sgb.specs.declared.expressions.Expr.{Expr}
+-- What reading an expression returns to a request.
+use Rattle.std.specs.Prelude.{◌≡◌, ℕ, List, Result, Ok, Err}
+use Rattle.sgb_vec.specs.declared.panics.Panic.TheVariants.{NoRoom}
+use Rattle.sgb_expr.specs.Expressions.{IsExpression, IsNoExpression, IsLongestPrefix, IsTooLarge}
+use Rattle.sgb_expr.specs.declared.expressions.Expr.{Expr}
+use Rattle.sgb_expr.specs.declared.expressions.Unread.{Unread}
+use Rattle.sgb_expr.specs.declared.expressions.Unread.TheVariants as unread
 use Rattle.sgb.specs.declared.faults.Fault.{Fault}
 use Rattle.sgb.specs.declared.faults.Fault.TheVariants as fault
 
--- the forms of expressions
-abbrev pub all_forms : List (List Piece)
-all_forms =
-    board_form ∷ simplex_form ∷ subsets_form ∷ complete_form ∷ transitive_form ∷ empty_form ∷ circuit_form ∷ cycle_form
-    ∷ disjoint_subsets_form ∷ petersen_form ∷ []
+-- the fault of a text that is not read
+abbrev pub fault_of_unread : Unread → Fault
+fault_of_unread unread.TooLarge = fault.TooLarge
+fault_of_unread (unread.At k) = fault.Expr k
+fault_of_unread unread.NoRoom = fault.Panic NoRoom
 
--- the text is of one of the forms, with these numbers
-abbrev pub IsAmong : List (List Piece) → List ℕ → List ℤ → Type 0
-IsAmong [] text numbers = ⊥
-IsAmong (form ∷ forms) text numbers = IsForm form text numbers ⊎ IsAmong forms text numbers
-
--- the text can be made one of some form by adding to its end
-abbrev pub IsFrontAmong : List (List Piece) → List ℕ → Type 0
-IsFrontAmong forms text = (more : List ℕ) × (numbers : List ℤ) × IsAmong forms (text ++ more) numbers
-
--- the text is of none of the forms, and its first k bytes are its longest front that begins one of some form
-pub record GoesWrongAmong (forms : List (List Piece)) (text : List ℕ) (k : ℕ) : Type 0 where
-  pub refused : (numbers : List ℤ) → IsAmong forms text numbers → ⊥
-  pub within : k ≤ length text
-  pub front : IsFrontAmong forms (take k text)
-  pub longest : (j : ℕ) → k < j → j ≤ length text → IsFrontAmong forms (take j text) → ⊥
-
--- read among these forms: the expression that the text is, or where it goes wrong
-abbrev pub IsReadAmong : List (List Piece) → List ℕ → Result Expr ℕ → Type 0
-IsReadAmong forms text (Ok e) = IsExpression text e
-IsReadAmong forms text (Err k) = GoesWrongAmong forms text k
-
--- the text is refused with this fault: too large before all else, then no expression, with the length of
--- the longest front that begins one
+-- the text is refused with this fault: too large before all else, then no expression, with the length of the longest
+-- prefix that begins one; or out of memory
 abbrev pub IsRefusedText : List ℕ → Fault → Type 0
 IsRefusedText text fault.TooLarge = IsTooLarge text
-IsRefusedText text (fault.Expr k) = (IsTooLarge text → ⊥) × IsNoExpression text × IsLongestFront text k
+IsRefusedText text (fault.Expr k) = (IsTooLarge text → ⊥) × IsNoExpression text × IsLongestPrefix text k
+IsRefusedText text (fault.Panic p) = p ≡ NoRoom
 IsRefusedText text _ = ⊥
 
 -- the text is read as this expression, or refused so

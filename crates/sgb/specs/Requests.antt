@@ -3,10 +3,10 @@ use Rattle.std.specs.Prelude.{◌≡◌, ◌⊎◌, List, Option, Some, None, Re
 use Rattle.std.specs.Str.Parse.{digits_value}
 use Rattle.clap.specs.Words.{Text}
 use Rattle.sgb.specs.CommandLine.{Asks, IsNoCall}
-use Rattle.sgb.specs.Grammar.{IsDigits}
+use Rattle.sgb.specs.Counts.{IsDigits}
 use Rattle.sgb.specs.Reading.{IsReadAs}
 use Rattle.sgb_vec.specs.declared.panics.Panic.TheVariants.{NoRoom}
-use Rattle.sgb.specs.declared.expressions.Expr.{Expr}
+use Rattle.sgb_expr.specs.declared.expressions.Expr.{Expr}
 use Rattle.sgb.specs.declared.faults.Fault.{Fault}
 use Rattle.sgb.specs.declared.faults.Fault.TheVariants as fault
 use Rattle.sgb.specs.declared.requests.Request.{Request}

@@ -5,11 +5,12 @@ ghost use Rattle.std.specs.Option.{SomeIff};
 ghost use Rattle.std.specs.Str.Parse.{digits_value};
 ghost use Rattle.std.specs.String.{string_bytes};
 ghost use Rattle.sgb.specs.CommandLine.{bytes_of};
-ghost use Rattle.sgb.specs.Grammar.{IsDigits};
+ghost use Rattle.sgb.specs.Counts.{IsDigits};
 ghost use Rattle.sgb.specs.Requests.{AreReadAs, AreRefused, IsCallAnsweredBy, IsResumeFault, IsResumeOf};
 
 use crate::calls::{Call, Values, call_of};
-use crate::expressions::{Expr, parse_expr};
+use crate::expressions::parse_expr;
+use sgb_expr::Expr;
 use crate::faults::Fault;
 use crate::requests::{Name, Request, Resume};
 use std::alloc::Global;

@@ -6,7 +6,6 @@ pub mod command_line;
 mod evaluation;
 pub mod expressions;
 pub mod faults;
-mod parsing;
 pub mod program;
 pub mod requests;
 pub mod runs;

@@ -2,7 +2,7 @@
 
 ghost use Rattle.std.specs.Prelude.{◌≡◌, IfOk, IsOkUnless};
 
-use crate::expressions::Expr;
+use sgb_expr::Expr;
 use sgb_vec::Panic;
 use std::alloc::Global;
 use std::marker::Model;

@@ -8,7 +8,7 @@ ghost use Rattle.sgb.specs.Values.{value_of};
 ghost use Rattle.sgb.specs.Writing.{IsEnded};
 
 use crate::evaluation::{Local, graph_of, local_of};
-use crate::expressions::Expr;
+use sgb_expr::Expr;
 use crate::faults::{Fault, report};
 use crate::requests::{Request, Resume};
 use crate::writing::listing::write_listing;

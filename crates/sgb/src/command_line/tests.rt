@@ -1,5 +1,6 @@
 use super::request;
-use crate::expressions::Expr;
+use sgb_expr::{Expr, Family};
+use sgb_gen::BoardParams;
 use crate::faults::Fault;
 use crate::requests::{Name, Request, Resume};
 use std::test::Fail;
@@ -50,7 +51,7 @@ fn asks(request: &Request, command: Command, start: Start) -> bool {
 
 // `board(2,3,0,0,1,0,0)`.
 fn small_board() -> Expr {
-    Expr::Board {
+    Expr::Family(Family::Board(BoardParams {
         n1: 2,
         n2: 3,
         n3: 0,
@@ -58,7 +59,7 @@ fn small_board() -> Expr {
         piece: 1,
         wrap: 0,
         directed: false,
-    }
+    }))
 }
 
 const BOARD: &str = "board(2,3,0,0,1,0,0)";

@@ -1,7 +1,7 @@
 use Rattle.std.proofs.Common.{◌≢◌, ◌≤◌, length, get_or, subst, sym, rules, arith, Option, ℕ}
 use Rattle.std.specs.Option.{SomeIff}
 use Rattle.std.specs.Str.Parse.{digits_value}
-use Rattle.sgb.specs.Grammar.{IsDigits}
+use Rattle.sgb.specs.Counts.{IsDigits}
 use Rattle.sgb.proofs.Counts.{count_read}
 use Rattle.sgb.proofs.command_line.count_of.Goals as goal
 

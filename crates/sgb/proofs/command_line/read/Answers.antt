@@ -1,0 +1,25 @@
+use Rattle.std.specs.Prelude.{Option, Err}
+use Rattle.std.proofs.Common.{subst}
+use Rattle.std.proofs.lemmas.Result.{err_from_is_err_and}
+use Rattle.clap.specs.Words.{Text}
+use Rattle.sgb.specs.Reading.{IsRefusedText}
+use Rattle.sgb.specs.Requests.{AreRefused, GoTogether}
+use Rattle.sgb.specs.declared.faults.Fault.{Fault}
+use Rattle.sgb.specs.declared.faults.Fault.TheVariants as fault
+use Rattle.sgb.proofs.command_line.read.Goals as goal
+
+-- a text that is refused, after options that go together
+refused : (text : Text) (after skip : Option Text) (f : Fault) → GoTogether after skip → IsRefusedText text f → AreRefused text after skip f
+refused text after skip fault.Usage t h = absurd h
+refused text after skip fault.TooLarge t h = (t, h)
+refused text after skip (fault.Expr k) t h = (t, h)
+refused text after skip (fault.Panic p) t h = h
+refused text after skip fault.NoVertex t h = absurd h
+refused text after skip fault.Read t h = absurd h
+refused text after skip fault.Write t h = absurd h
+
+pub returns-in_err-graph : goal.returns-in_err-graph
+returns-in_err-graph c =
+    let p = err_from_is_err_and c.from_residual-in_err-graph.result c.from_residual-in_err-graph.ensures.1 in
+    rw (p.1, p.2) (refused c.args.values.expression.now _ _ _ c.in_ok-resume.ensures.0
+      (subst (λ (u : Text). IsRefusedText u c.in_err-graph.field-0.0) c.as_bytes.ensures.value c.in_err-graph.ensures.read))

@@ -1,8 +1,0 @@
-use Rattle.std.proofs.Common.{◌≡◌, ◌+◌, drop}
-use Rattle.std.specs.Char.{is_digit}
-use Rattle.std.specs.List.{prefix_len}
-use Rattle.sgb.proofs.parsing.digits.leading_digits.Given as goal
-
-abbrev pub invariant-loop-count : goal.invariant-loop-count
-invariant-loop-count l =
-    l.count + prefix_len (λ byte. is_digit byte l.radix) (drop l.count l.longest) ≡ prefix_len (λ byte. is_digit byte l.radix) l.longest
