@@ -4,7 +4,8 @@ use Rattle.std.proofs.Common.{◌≡◌, ℕ, suc, zero, ◌+◌, ◌-◌, ◌<�
 use Rattle.std.proofs.lemmas.List.{places}
 use Rattle.sgb_vec.specs.Boxes.{box, product_of}
 use Rattle.sgb_vec.specs.Order.{IsNext, IsLast}
-use Rattle.sgb_vec.proofs.BoxPlaces.{EachBelow, StandsAt, place_of}
+use Rattle.sgb_vec.specs.Lexicographic.{IsBelow}
+use Rattle.sgb_vec.proofs.BoxPlaces.{StandsAt, place_of}
 use Rattle.sgb_vec.proofs.BoxOrder.{IsNext-from_places, IsLast-from_place}
 
 -- the entries after place p are as great as the sizes let them be
@@ -19,7 +20,7 @@ pub record GrownAt (v w : List ℕ) (p : ℕ) : Type 0 where
   pub after : (k : ℕ) → p < k → k < length v → get_or w k 0 ≡ 0
 
 -- a vector whose entries are all at their top is at the last place
-pub place_of-top : (sizes v : List ℕ) → EachBelow v sizes → TopAfter sizes v 0 → place_of sizes v + 1 ≡ product_of sizes
+pub place_of-top : (sizes v : List ℕ) → IsBelow v sizes → TopAfter sizes v 0 → place_of sizes v + 1 ≡ product_of sizes
 place_of-top [] [] b t = refl
 place_of-top [] (x ∷ v) b t = absurd b
 place_of-top (s ∷ sizes) [] b t = absurd b
@@ -29,7 +30,7 @@ place_of-top (s ∷ sizes) (x ∷ v) b t =
     rw (← here) (omega arith)
 
 -- zeros stand at place 0, where some vector is below the sizes
-StandsAt-zero : (sizes v w : List ℕ) → EachBelow v sizes → length w ≡ length v → ((k : ℕ) → k < length v → get_or w k 0 ≡ 0) → StandsAt sizes w 0
+StandsAt-zero : (sizes v w : List ℕ) → IsBelow v sizes → length w ≡ length v → ((k : ℕ) → k < length v → get_or w k 0 ≡ 0) → StandsAt sizes w 0
 StandsAt-zero [] [] [] b e z = record { each_below = tt; place = refl }
 StandsAt-zero [] [] (y ∷ w) b e z = absurd (omega arith)
 StandsAt-zero [] (x ∷ v) w b e z = absurd b
@@ -41,7 +42,7 @@ StandsAt-zero (s ∷ sizes) (x ∷ v) (y ∷ w) b e z =
     rw here (record { each_below = (omega (arith, b.0), rest.each_below); place = omega arith })
 
 -- with the entries after p at their top, the vector grown at p stands at the next place
-pub StandsAt-grown : (sizes v w : List ℕ) (p : ℕ) → EachBelow v sizes → p < length v → get_or v p 0 + 1 < get_or sizes p 0 → TopAfter sizes v (p + 1) → GrownAt v w p → StandsAt sizes w (place_of sizes v + 1)
+pub StandsAt-grown : (sizes v w : List ℕ) (p : ℕ) → IsBelow v sizes → p < length v → get_or v p 0 + 1 < get_or sizes p 0 → TopAfter sizes v (p + 1) → GrownAt v w p → StandsAt sizes w (place_of sizes v + 1)
 StandsAt-grown [] v w p b h l t g = absurd (omega arith)
 StandsAt-grown (s ∷ sizes) [] w p b h l t g = absurd (omega arith)
 StandsAt-grown (s ∷ sizes) (x ∷ v) [] p b h l t g = absurd (omega (arith, g.same_length))
@@ -71,11 +72,11 @@ GrownAt-put_mid v zs p h e = record {
 }
 
 -- the vector grown at the last place where it can is the next of the box
-pub IsNext-grown : (sizes v w : List ℕ) (p : ℕ) → EachBelow v sizes → p < length v → get_or v p 0 + 1 < get_or sizes p 0 → TopAfter sizes v (p + 1) → GrownAt v w p → IsNext (box sizes) v w
+pub IsNext-grown : (sizes v w : List ℕ) (p : ℕ) → IsBelow v sizes → p < length v → get_or v p 0 + 1 < get_or sizes p 0 → TopAfter sizes v (p + 1) → GrownAt v w p → IsNext (box sizes) v w
 IsNext-grown sizes v w p b h l t g =
     let there = StandsAt-grown sizes v w p b h l t g in
     IsNext-from_places sizes v w there.each_below there.place
 
 -- a vector that can grow nowhere is the last of the box
-pub IsLast-top : (sizes v : List ℕ) → EachBelow v sizes → TopAfter sizes v 0 → IsLast (box sizes) v
+pub IsLast-top : (sizes v : List ℕ) → IsBelow v sizes → TopAfter sizes v 0 → IsLast (box sizes) v
 IsLast-top sizes v b t = IsLast-from_place sizes v (place_of-top sizes v b t)
