@@ -1,36 +1,27 @@
 -- The graph of a family, made step by step, is the one that is described.
-use Rattle.std.proofs.Common.{◌≡◌, ℕ, Bool, List, [], ◌∷◌, length, map, Result, Ok, Err, refl, sym, ap, subst, ◌∙◌, arith}
+use Rattle.std.proofs.Common.{◌≡◌, ℕ, Bool, List, length, map, Result, Ok, Err, refl, sym, ap, subst, ◌∙◌, arith}
 use Rattle.std.specs.List.{All}
 use Rattle.std.specs.Result.{IsErr, IsErrAnd}
 use Rattle.std.proofs.lemmas.List.{length-map}
-use Rattle.std.proofs.lemmas.List.Elements.{All-nil}
 use Rattle.sgb_vec.specs.Names.{name_of_vector}
 use Rattle.sgb_vec.specs.declared.panics.Panic.{Panic}
 use Rattle.sgb_vec.specs.declared.panics.Panic.TheVariants.{NoRoom}
 use Rattle.sgb_graph.specs.Graphs.{GraphData}
 use Rattle.sgb_graph.specs.Events.{Event, HasArcsOf}
 use Rattle.sgb_graph.specs.Descriptions.{Description, IsAnswerOf, IsGraphOf}
-use Rattle.sgb_graph.specs.Growth.{new_graph, new_vertex, with_id}
+use Rattle.sgb_graph.specs.Growth.{new_graph, with_id}
 use Rattle.sgb_graph.specs.Made.{no_fields}
-use Rattle.sgb_graph.proofs.EventLemmas.{new_has_none}
+use Rattle.sgb_graph.proofs.AddedEvents.{adds-new, adds-new_fields, new_names, new_fields}
+use Rattle.sgb_graph.proofs.Lists.{map-map}
 use Rattle.sgb_graph.specs.Growth.{AddsEvents}
 use Rattle.sgb_gen.specs.VectorGraphs.{HasCoordinates}
 use Rattle.sgb_graph.specs.Graphs.{HasNoFields}
 use Rattle.sgb_gen.specs.VectorGraphs.{Move, event_among, family_graph}
 
--- the names and fields of new vertices
-new_names : (texts : List (List ℕ)) → map (λ v. v.name) (map new_vertex texts) ≡ texts
-new_names [] = refl
-new_names (t ∷ texts) = ap (λ ts. t ∷ ts) (new_names texts)
-
-new_fields : (vectors : List (List ℕ)) → map (λ v. v.util) (map new_vertex (map name_of_vector vectors)) ≡ map (λ v. no_fields) vectors
-new_fields [] = refl
-new_fields (v ∷ vectors) = ap (λ fs. no_fields ∷ fs) (new_fields vectors)
-
 -- no fields are used where only arcs were added
 pub fields_unused : (vectors : List (List ℕ)) (directed : Bool) (old new : GraphData) (events : List Event) → old ≡ new_graph (map name_of_vector vectors) → AddsEvents directed old new events → map (λ v. v.util) new.vertices ≡ map (λ v. no_fields) vectors
 fields_unused vectors directed old new events e h =
-    h.rest.fields ∙ ap (λ g. map (λ v. v.util) g.vertices) e ∙ new_fields vectors
+    h.rest.fields ∙ ap (λ g. map (λ v. v.util) g.vertices) e ∙ new_fields (map name_of_vector vectors) ∙ map-map (λ t. no_fields) name_of_vector vectors
 
 -- arcs stay where the coordinates are put and the id is changed
 arcs_stay : (directed : Bool) (events : List Event) (vectors : List (List ℕ)) (old new : GraphData) (id : List ℕ) → HasArcsOf directed events old → HasCoordinates vectors old new → HasArcsOf directed events (with_id id new)
@@ -48,16 +39,16 @@ pub family_made : (id : List ℕ) (directed : Bool) (vectors : List (List ℕ)) 
 unfolding family_graph
 family_made id directed vectors moves fresh grown placed e h k =
     let events = map (event_among vectors) moves in
-    let none : HasArcsOf directed [] fresh = subst (HasArcsOf directed []) (sym e) (new_has_none directed (map name_of_vector vectors)) in
-    let plain : All HasNoFields fresh.records = subst (λ g. All HasNoFields g.records) (sym e) (All-nil HasNoFields) in
+    let texts = map name_of_vector vectors in
+    let added : AddsEvents directed (new_graph texts) grown events = subst (λ g. AddsEvents directed g grown events) e h in
     record {
       id = refl;
       kinds = k.kinds;
-      util = k.util ∙ h.rest.util ∙ ap (λ g. g.util) e;
-      names = k.names ∙ h.rest.names ∙ ap (λ g. map (λ v. v.name) g.vertices) e ∙ new_names (map name_of_vector vectors);
+      util = k.util ∙ added.rest.util;
+      names = k.names ∙ added.rest.names ∙ new_names texts;
       fields = k.fields;
-      arcs = arcs_stay directed events vectors grown placed id (h.arcs [] none) k;
-      arc_fields = subst (All HasNoFields) (sym k.records) (h.arc_fields plain);
+      arcs = arcs_stay directed events vectors grown placed id (adds-new directed texts events grown added) k;
+      arc_fields = subst (All HasNoFields) (sym k.records) (adds-new_fields directed texts events grown added);
     }
 
 -- out of memory is an answer for any graph

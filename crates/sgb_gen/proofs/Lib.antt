@@ -16,7 +16,7 @@ pub mod BoardEvents
 pub mod FamilyWalks
 pub mod DisplacementLengths
 pub mod Coordinates
-pub mod IdTexts
+pub mod WrittenIds
 pub mod FamilyGraphs
 pub mod Examples
 pub mod Vertices

@@ -3,7 +3,7 @@ use Rattle.std.proofs.lemmas.Int.{to_z-of_z}
 use Rattle.sgb_graph.specs.IdTexts.{numbers_text}
 use Rattle.sgb_gen.specs.Boards.{board_id}
 use Rattle.sgb_graph.specs.IdTexts.{flag_text}
-use Rattle.sgb_gen.proofs.IdTexts.{board_id-written}
+use Rattle.sgb_gen.proofs.WrittenIds.{board_id-written}
 use Rattle.sgb_gen.proofs.accepted.boards.Board.id.Goals as goal
 
 pub returns : goal.returns

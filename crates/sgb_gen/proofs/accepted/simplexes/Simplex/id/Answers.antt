@@ -2,7 +2,7 @@ use Rattle.std.proofs.Common.{◌≡◌, ◌++◌, codes, ap, ◌∙◌}
 use Rattle.sgb_graph.specs.IdTexts.{numbers_text}
 use Rattle.sgb_gen.specs.Simplexes.{simplex_id}
 use Rattle.sgb_graph.specs.IdTexts.{flag_text}
-use Rattle.sgb_gen.proofs.IdTexts.{simplex_id-written}
+use Rattle.sgb_gen.proofs.WrittenIds.{simplex_id-written}
 use Rattle.sgb_gen.proofs.accepted.simplexes.Simplex.id.Goals as goal
 
 pub returns : goal.returns

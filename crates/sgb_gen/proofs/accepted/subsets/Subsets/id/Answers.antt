@@ -3,7 +3,7 @@ use Rattle.sgb_graph.specs.IdTexts.{numbers_text}
 use Rattle.sgb_graph.specs.IdTexts.{flag_text}
 use Rattle.sgb_graph.specs.IdTexts.{hexadecimal_text}
 use Rattle.sgb_gen.specs.Subsets.{subsets_id}
-use Rattle.sgb_gen.proofs.IdTexts.{subsets_id-written}
+use Rattle.sgb_gen.proofs.WrittenIds.{subsets_id-written}
 use Rattle.sgb_gen.proofs.accepted.subsets.Subsets.id.Goals as goal
 
 pub returns : goal.returns
