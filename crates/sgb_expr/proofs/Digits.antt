@@ -9,7 +9,7 @@ use Rattle.std.proofs.lemmas.Bool.{cases_lt, lt-ltb, le-ltb}
 use Rattle.std.proofs.lemmas.List.Sums.{take_while-cons}
 use Rattle.sgb_expr.specs.Numbers.{IsNumber}
 use Rattle.sgb_vec.specs.Digits.{leading_digits}
-use Rattle.sgb_expr.specs.Readings.{number_of, number_at}
+use Rattle.sgb_expr.specs.Readings.{number_of_digits, number_at}
 use Rattle.sgb_expr.proofs.Readers.{next, Found, Wrong, Reads, ok_same}
 use Rattle.sgb_expr.proofs.Words.{no_ok, err_same}
 
@@ -87,12 +87,12 @@ leading radix (suc most) (byte ∷ text) = elim (digit_cases radix byte) [
 pub number_found : (radix most : ℕ) (text digits rest : List ℕ) → leading_digits radix most text ≡ digits → text ≡ digits ++ rest → 0 < length digits → number_at radix most text ≡ Ok (digits_value radix digits, rest)
 number_found radix most text [] rest e whole some = absurd (omega (arith, some))
 number_found radix most text (digit ∷ digits) rest e whole some =
-    ap (λ (ds : List ℕ). number_of radix ds text) e ∙ ap (λ (u : List ℕ). Ok (digits_value radix (digit ∷ digits), drop (length (digit ∷ digits)) u)) whole
+    ap (λ (ds : List ℕ). number_of_digits radix ds text) e ∙ ap (λ (u : List ℕ). Ok (digits_value radix (digit ∷ digits), drop (length (digit ∷ digits)) u)) whole
     ∙ ap (λ (u : List ℕ). Ok (digits_value radix (digit ∷ digits), u)) (drop-append_seam (digit ∷ digits) rest)
 
 -- a number is not read where there are no digits
 pub number_stops : (radix most : ℕ) (text : List ℕ) → leading_digits radix most text ≡ [] → number_at radix most text ≡ Err (length text)
-number_stops radix most text e = ap (λ (ds : List ℕ). number_of radix ds text) e
+number_stops radix most text e = ap (λ (ds : List ℕ). number_of_digits radix ds text) e
 
 -- a text that begins as another with no digit
 pub no_digit_same : (radix : ℕ) (text other : List ℕ) → next other ≡ next text → NoDigit radix text → NoDigit radix other

@@ -77,14 +77,14 @@ then_read first second text = first text >>= λ x. second x.0 x.1
 
 -- what the second finds after the first
 then_found : {V W : Type 0} (First : List ℕ → V → Type 0) (Second : V → List ℕ → W → Type 0) (first : List ℕ → Result (V × List ℕ) ℕ) (second : V → List ℕ → Result (W × List ℕ) ℕ)
-    (text rest behind : List ℕ) (v : V) (w : W) → Found First first text v rest → Found (Second v) (second v) rest w behind
-    → Found (Then First Second) (then_read first second) text w behind
-then_found First Second first second text rest behind v w f g = record {
+    (text rest remaining : List ℕ) (v : V) (w : W) → Found First first text v rest → Found (Second v) (second v) rest w remaining
+    → Found (Then First Second) (then_read first second) text w remaining
+then_found First Second first second text rest remaining v w f g = record {
   word = f.word ++ g.word;
-  whole = f.whole ∙ ap (λ u. f.word ++ u) g.whole ∙ sym (append_assoc f.word g.word behind);
+  whole = f.whole ∙ ap (λ u. f.word ++ u) g.whole ∙ sym (append_assoc f.word g.word remaining);
   is = (f.word, g.word, v, refl, f.is, g.is);
   same = λ other e.
-      let comes : next (g.word ++ other) ≡ next rest = next_after g.word other behind e ∙ sym (ap next g.whole) in
+      let comes : next (g.word ++ other) ≡ next rest = next_after g.word other remaining e ∙ sym (ap next g.whole) in
       ap (then_read first second) (append_assoc f.word g.word other)
       ∙ bind_of (first (f.word ++ (g.word ++ other))) (λ x. second x.0 x.1) (v, g.word ++ other) (f.same (g.word ++ other) comes)
       ∙ g.same other e;
@@ -126,14 +126,14 @@ first_wrong First Second first second text left some f =
     }
 
 -- one reader and then another, where each word of the second, and what may follow it, may follow the first
-pub reads_then : {V W : Type 0} {First : List ℕ → V → Type 0} {Second : V → List ℕ → W → Type 0} {Tail Behind : List ℕ → Type 0} {first : List ℕ → Result (V × List ℕ) ℕ} {second : V → List ℕ → Result (W × List ℕ) ℕ}
-    → Reads First Tail first → ((v : V) → Reads (Second v) Behind (second v))
-    → ((v : V) (word tail : List ℕ) (value : W) → Second v word value → Behind tail → Tail (word ++ tail))
-    → Reads (Then First Second) Behind (then_read first second)
-reads_then {V} {W} {First} {Second} {Tail} {Behind} {first} {second} f g follows = record {
-  found = λ text w behind e.
-      let x = bind_ok (first text) (λ x. second x.0 x.1) (w, behind) e in
-      then_found First Second first second text x.0.1 behind x.0.0 w (f.found text x.0.0 x.0.1 x.1) ((g x.0.0).found x.0.1 w behind x.2);
+pub reads_then : {V W : Type 0} {First : List ℕ → V → Type 0} {Second : V → List ℕ → W → Type 0} {Tail After : List ℕ → Type 0} {first : List ℕ → Result (V × List ℕ) ℕ} {second : V → List ℕ → Result (W × List ℕ) ℕ}
+    → Reads First Tail first → ((v : V) → Reads (Second v) After (second v))
+    → ((v : V) (word tail : List ℕ) (value : W) → Second v word value → After tail → Tail (word ++ tail))
+    → Reads (Then First Second) After (then_read first second)
+reads_then {V} {W} {First} {Second} {Tail} {After} {first} {second} f g follows = record {
+  found = λ text w remaining e.
+      let x = bind_ok (first text) (λ x. second x.0 x.1) (w, remaining) e in
+      then_found First Second first second text x.0.1 remaining x.0.0 w (f.found text x.0.0 x.0.1 x.1) ((g x.0.0).found x.0.1 w remaining x.2);
   wrong = λ text left e. elim (bind_err (first text) (λ x. second x.0 x.1) left e) [
     | inl h ↦ first_wrong First Second first second text left (λ v. (g v).some) (f.wrong text left h)
     | inr x ↦ then_wrong First Second first second text x.0.1 left x.0.0 (f.found text x.0.0 x.0.1 x.1) ((g x.0.0).wrong x.0.1 left x.2)
@@ -257,12 +257,12 @@ wrong_by {V} Word First Second first second read text a b f g le into both =
     }
 
 -- one reader or the other, where the first stops at each word of the second
-pub reads_or : {V : Type 0} {First Second : List ℕ → V → Type 0} {Tail Behind : List ℕ → Type 0} {first second : List ℕ → Result (V × List ℕ) ℕ}
-    → Reads First Tail first → Reads Second Behind second
+pub reads_or : {V : Type 0} {First Second : List ℕ → V → Type 0} {Tail After : List ℕ → Type 0} {first second : List ℕ → Result (V × List ℕ) ℕ}
+    → Reads First Tail first → Reads Second After second
     → ((word tail : List ℕ) (value : V) → Second word value → (left : ℕ) × (first (word ++ tail) ≡ Err left))
-    → ((tail : List ℕ) → Behind tail → Tail tail)
-    → Reads (Or First Second) Behind (or_read first second)
-reads_or {V} {First} {Second} {Tail} {Behind} {first} {second} f g apart follows = record {
+    → ((tail : List ℕ) → After tail → Tail tail)
+    → Reads (Or First Second) After (or_read first second)
+reads_or {V} {First} {Second} {Tail} {After} {first} {second} f g apart follows = record {
   found = λ text value rest e. elim (either_found (first text) (second text) (value, rest) e) [
     | by_first h ↦ let x = f.found text value rest h in record {
       word = x.word;

@@ -33,13 +33,13 @@ word_at [] text = Err (length text)
 word_at (word ∷ words) text = either (fixed_as word.1 word.0 text) (word_at words text)
 
 -- the number that these digits write, with which the text begins
-abbrev pub number_of : ℕ → List ℕ → List ℕ → Result (ℕ × List ℕ) ℕ
-number_of radix [] text = Err (length text)
-number_of radix (digit ∷ digits) text = Ok (digits_value radix (digit ∷ digits), drop (length (digit ∷ digits)) text)
+abbrev pub number_of_digits : ℕ → List ℕ → List ℕ → Result (ℕ × List ℕ) ℕ
+number_of_digits radix [] text = Err (length text)
+number_of_digits radix (digit ∷ digits) text = Ok (digits_value radix (digit ∷ digits), drop (length (digit ∷ digits)) text)
 
 -- the number with which the text begins, of as many digits as can be taken
 abbrev pub number_at : ℕ → ℕ → List ℕ → Result (ℕ × List ℕ) ℕ
-number_at radix most text = number_of radix (leading_digits radix most text) text
+number_at radix most text = number_of_digits radix (leading_digits radix most text) text
 
 -- the number after a sign
 abbrev pub signed_at : List ℕ → Result (ℤ × List ℕ) ℕ
