@@ -15,6 +15,7 @@ pub mod Kept
 pub mod Lines
 pub mod Listings
 pub mod Named
+pub mod Refusals
 pub mod RequiredValues
 pub mod Shown
 pub mod Steps
