@@ -6,5 +6,6 @@ pub mod HelpRefused
 pub mod Lines
 pub mod Listings
 pub mod Named
+pub mod Refusals
 pub mod RequiredValues
 pub mod Shown

@@ -1,6 +1,7 @@
 //! Requests answered: evaluation, output, the line of a fault and the exit status.
 
-ghost use Rattle.std.specs.Prelude.{◌≡◌, false};
+ghost use Rattle.std.specs.Prelude.{◌≡◌, ◌≢◌, Err, false};
+ghost use Rattle.sgb_vec.specs.declared.panics.Panic.TheVariants.{NoRoom};
 ghost use Rattle.sgb.specs.Answers.{answer_from, answer_of, list_answer, names_answer, outcome_of};
 ghost use Rattle.sgb.specs.Runs.{Answers};
 ghost use Rattle.sgb.specs.Texts.{shown};
@@ -32,6 +33,8 @@ pub fn run<R: Source, W: Sink, E: Sink>(
         (record { before = W.written out.old; after = W.written out.new; failed = W.has_failed out.new })
         (record { before = E.written errors.old; after = E.written errors.new; failed = E.has_failed errors.new })
         result }
+    // What the request asks for is never that memory runs out: code 1 is the machine's alone.
+    ensures apart { answer_of request.now ≢ Err (Fault.Panic NoRoom) }
     // No form of expression reads standard input yet.
     ensures unread { source.new ≡ source.old }
 {

@@ -5,6 +5,7 @@ ghost use Rattle.std.specs.Prelude.{◌≡◌, ℕ, ◌<◌, ◌≤◌, Bool, tr
 ghost use Rattle.std.specs.Io.{ReadsAtMost, WritesAtMost};
 ghost use Rattle.std.specs.Io.KnownBytes.{ReadConsumes, WriteAppends, Keeps};
 
+mod buffered;
 mod cut_sink;
 mod cut_source;
 mod from_read;
@@ -15,6 +16,7 @@ mod tests;
 mod to_write;
 mod whole;
 
+pub use buffered::Buffered;
 pub use cut_sink::CutSink;
 pub use cut_source::CutSource;
 pub use from_read::FromRead;

@@ -6,6 +6,7 @@ mod devices;
 mod laws;
 
 pub use devices::{
-    CutSink, CutSource, Failed, FromRead, MemSink, MemSource, Sink, Source, ToWrite, put_all,
+    Buffered, CutSink, CutSource, Failed, FromRead, MemSink, MemSource, Sink, Source, ToWrite,
+    put_all,
 };
 pub use laws::{checksum_order_law, line_bytes_law, read_text_law, running_checksum_law};

@@ -37,6 +37,15 @@ impl<W> ToWrite<W> {
             failed: false,
         }
     }
+
+    /// The writer, and whether the sink has failed.
+    pub(super) fn into_parts(self) -> (W, bool)
+        ensures writer { result.0 ≡ self.inner }
+        ensures failed { result.1 ≡ self.failed }
+    {
+        let ToWrite { writer, failed } = self;
+        (writer, failed)
+    }
 }
 
 impl<W: Write> Sink for ToWrite<W> {

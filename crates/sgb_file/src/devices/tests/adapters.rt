@@ -248,3 +248,59 @@ fn the_first_failed_flush_is_final(rt: HostRuntime) {
         assert_eq!(rt; writer.flushes, 1);
     }
 }
+
+// With a buffer before it a writer is called where the buffer is full and at a flush; after its first fault, of any
+// kind and at any call, it is called no more, also not when the sink is dropped.
+#[test]
+fn a_buffer_is_given_up_with_the_first_fault(rt: HostRuntime) -> Result<(), Fail> {
+    for kind in KINDS {
+        for failing in 1..4 {
+            let mut writer = Counts::new(3_000);
+            writer.kind = kind;
+            writer.failing_write = failing;
+            let mut sink = Buffered::new(rt.alloc(), &mut writer)?;
+            let mut fault = put_all(&mut sink, &[b'x'; 5_000]);
+            for _ in 0..3 {
+                if fault.is_ok() {
+                    fault = put_all(&mut sink, &[b'x'; 5_000]);
+                }
+            }
+            if kind == ErrorKind::Interrupted {
+                // std's buffer writes again after an interrupt
+                assert_eq!(rt; fault, Ok(()));
+                continue;
+            }
+            assert_eq!(rt; fault, Err(Failed), "{failing}");
+            assert!(rt; sink.failed());
+            assert_eq!(rt; sink.put(b"x"), Err(Failed));
+            assert_eq!(rt; sink.flush(), Err(Failed));
+            drop(sink);
+            assert_eq!(rt; writer.writes, failing);
+            assert_eq!(rt; writer.flushes, 0);
+        }
+    }
+    Ok(())
+}
+
+#[test]
+fn a_buffer_is_written_at_a_flush(rt: HostRuntime) -> Result<(), Fail> {
+    for failing_flush in [0, 1] {
+        let mut writer = Counts::new(100);
+        writer.failing_flush = failing_flush;
+        let mut sink = Buffered::new(rt.alloc(), &mut writer)?;
+        assert_eq!(rt; put_all(&mut sink, b"abc"), Ok(()));
+        assert_eq!(rt; sink.flush().is_err(), failing_flush == 1);
+        assert_eq!(rt; sink.failed(), failing_flush == 1);
+        drop(sink);
+        assert_eq!(rt; writer.writes, 1);
+        assert_eq!(rt; writer.taken, 3);
+        assert_eq!(rt; writer.flushes, 1);
+    }
+    // what is held back is written when a sound sink is dropped
+    let mut written = Vec::new(rt.alloc());
+    let mut sink = Buffered::new(rt.alloc(), &mut written)?;
+    assert_eq!(rt; put_all(&mut sink, b"abc"), Ok(()));
+    drop(sink);
+    assert_eq!(rt; written.as_slice(), b"abc".as_slice());
+    Ok(())
+}

@@ -1,0 +1,154 @@
+-- Parameters are refused for what they are: never out of memory.
+use Rattle.std.proofs.Common.{◌≡◌, ◌≢◌, ℕ, ℤ, pos, negsuc, Bool, true, false, cond, List, [], ◌∷◌, Option, Some, None, Result, Ok, Err, length, ap, nat_lt}
+use Rattle.sgb_vec.specs.Bounds.{bounds_count, bounds_to_repeat, first_parameter, simplex_by_stop, simplex_of}
+use Rattle.sgb_vec.specs.Boxes.{box_of, product_of}
+use Rattle.sgb_vec.specs.Limits.{most_dimensions, most_vertices}
+use Rattle.sgb_vec.specs.Results.{and_then}
+use Rattle.sgb_vec.specs.Sizes.{before_stop, board_by_stop, board_of, count_by_stop, has_great_size, sizes_by_stop, stop_of}
+use Rattle.sgb_vec.specs.Sums.{has_great_count, sum_of}
+use Rattle.sgb_vec.specs.declared.panics.Panic.{Panic}
+use Rattle.sgb_vec.specs.declared.panics.Panic.TheVariants.{Bad, NoRoom, VeryBad}
+use Rattle.sgb_graph.specs.Descriptions.{Description}
+use Rattle.sgb_gen.specs.Boards.{BoardParams, accepted_board, board, piece_of}
+use Rattle.sgb_gen.specs.Limits.{most_piece}
+use Rattle.sgb_gen.specs.Shorthands.{circuit, complete, cycle, disjoint_subsets, empty, petersen, transitive}
+use Rattle.sgb_gen.specs.Simplexes.{SimplexParams, accepted_simplex, simplex}
+use Rattle.sgb_gen.specs.Subsets.{SubsetsParams, accepted_subsets, subsets}
+use Rattle.sgb.specs.Answers.{answer_behind, answer_from, answer_of, left_out, left_out_by, list_answer, names_answer, vertex_named}
+use Rattle.sgb.specs.Values.{value_of}
+use Rattle.sgb.specs.declared.expressions.Expr.{Expr}
+use Rattle.sgb.specs.declared.expressions.Expr.TheVariants as expr
+use Rattle.sgb.specs.declared.faults.Fault.{Fault}
+use Rattle.sgb.specs.declared.faults.Fault.TheVariants as fault
+use Rattle.sgb.specs.declared.requests.Request.{Request}
+use Rattle.sgb.specs.declared.requests.Request.TheVariants as request
+use Rattle.sgb.specs.declared.requests.Resume.{Resume}
+use Rattle.sgb.specs.declared.requests.Resume.TheVariants as resume
+
+-- ---- parameters
+
+-- accepted, or refused for what it is
+abbrev IsJudged : {T : Type 0} → Result T Panic → Type 0
+IsJudged r = r ≢ Err NoRoom
+
+-- an accepted value
+accepted : {T : Type 0} (x : T) → IsJudged (Ok x)
+accepted x e = cc
+
+-- refused with code 30
+refused_bad : {T : Type 0} → IsJudged {T = T} (Err Bad)
+refused_bad e = cc
+
+-- refused with code 40
+refused_very_bad : {T : Type 0} → IsJudged {T = T} (Err VeryBad)
+refused_very_bad e = cc
+
+-- one or the other
+either : {T : Type 0} (b : Bool) (r s : Result T Panic) → IsJudged r → IsJudged s → IsJudged (cond b r s)
+either true r s p q = p
+either false r s p q = q
+
+-- one after the other
+after : {T U : Type 0} (r : Result T Panic) (f : T → Result U Panic) → IsJudged r → ((x : T) → IsJudged (f x)) → IsJudged (and_then r f)
+after (Ok x) f p q = q x
+after (Err e) f p q = λ is.
+    let same : e ≡ NoRoom = cc in
+    p (ap Err same)
+
+-- the sizes of a board
+board_of_judged : (n1 n2 n3 n4 : ℤ) → IsJudged (board_of n1 n2 n3 n4)
+board_of_judged n1 n2 n3 n4 =
+    let entries = n1 ∷ n2 ∷ n3 ∷ n4 ∷ [] in
+    by_stop entries (before_stop entries) (stop_of entries)
+  where
+    by_stop : (entries : List ℤ) (s : List ℕ) (e : ℤ) → IsJudged (board_by_stop entries s e)
+    by_stop entries [] e = accepted _
+    by_stop entries (n ∷ s) e = either _ _ _ refused_bad (either _ _ _ refused_very_bad (accepted _))
+
+-- their box
+box_of_judged : (sizes : List ℕ) → IsJudged (box_of sizes)
+box_of_judged sizes = either _ _ _ refused_bad (either _ _ _ refused_very_bad (accepted _))
+
+-- the bounds of a simplex
+simplex_of_judged : (n n0 n1 n2 n3 n4 : ℤ) → IsJudged (simplex_of n n0 n1 n2 n3 n4)
+simplex_of_judged (negsuc n) n0 n1 n2 n3 n4 = refused_bad
+simplex_of_judged (pos n) n0 n1 n2 n3 n4 = either _ _ _ refused_bad (either _ _ _ refused_very_bad (accepted _))
+
+-- their sum
+sum_of_judged : (n : ℤ) (bounds : List ℕ) → IsJudged (sum_of n bounds)
+sum_of_judged (negsuc n) bounds = refused_bad
+sum_of_judged (pos n) bounds = either _ _ _ refused_very_bad (either _ _ _ refused_very_bad (accepted _))
+
+-- a board
+board_judged : (p : BoardParams) → IsJudged (board p)
+board_judged p =
+    let accepted_judged : IsJudged (accepted_board p) =
+    after _ _ (board_of_judged p.n1 p.n2 p.n3 p.n4) (λ shape.
+    after _ _ (box_of_judged shape.sizes) (λ sizes.
+    after _ _ (either _ _ _ refused_very_bad (accepted _)) (λ piece. accepted _))) in
+    after _ _ accepted_judged (λ b. accepted _)
+
+-- a simplex
+simplex_judged : (p : SimplexParams) → IsJudged (simplex p)
+simplex_judged p =
+    let accepted_judged : IsJudged (accepted_simplex p) =
+    after _ _ (simplex_of_judged p.n p.n0 p.n1 p.n2 p.n3 p.n4) (λ shape. after _ _ (sum_of_judged p.n shape.sizes) (λ s. accepted _)) in
+    after _ _ accepted_judged (λ s. accepted _)
+
+-- subsets
+subsets_judged : (p : SubsetsParams) → IsJudged (subsets p)
+subsets_judged p =
+    let accepted_judged : IsJudged (accepted_subsets p) =
+    after _ _ (simplex_of_judged p.n p.n0 p.n1 p.n2 p.n3 p.n4) (λ shape. after _ _ (sum_of_judged p.n shape.sizes) (λ s. accepted _)) in
+    after _ _ accepted_judged (λ s. accepted _)
+
+-- an expression
+value_judged : (e : Expr) → IsJudged (value_of e)
+value_judged (expr.Board n1 n2 n3 n4 piece wrap directed) =
+    board_judged (record { n1 = n1; n2 = n2; n3 = n3; n4 = n4; piece = piece; wrap = wrap; directed = directed })
+value_judged (expr.Simplex n n0 n1 n2 n3 n4 directed) =
+    simplex_judged (record { n = n; n0 = n0; n1 = n1; n2 = n2; n3 = n3; n4 = n4; directed = directed })
+value_judged (expr.Subsets n n0 n1 n2 n3 n4 size_bits directed) =
+    subsets_judged (record { n = n; n0 = n0; n1 = n1; n2 = n2; n3 = n3; n4 = n4; size_bits = size_bits; directed = directed })
+value_judged (expr.Complete n) = board_judged (complete n)
+value_judged (expr.Transitive n) = board_judged (transitive n)
+value_judged (expr.Empty n) = board_judged (empty n)
+value_judged (expr.Circuit n) = board_judged (circuit n)
+value_judged (expr.Cycle n) = board_judged (cycle n)
+value_judged (expr.DisjointSubsets n k) = subsets_judged (disjoint_subsets n k)
+value_judged expr.Petersen = subsets_judged petersen
+
+-- ---- answers
+
+-- an answer, or a refusal for what the request is
+abbrev IsOwn : {T : Type 0} → Result T Fault → Type 0
+IsOwn r = r ≢ Err (fault.Panic NoRoom)
+
+-- how many vertices at the front are left out
+left_out_own : (names : List (List ℕ)) (resume : Resume) → IsOwn (left_out names resume)
+left_out_own names resume.Whole = λ e. cc
+left_out_own names (resume.Skip k) = λ e. cc
+left_out_own names (resume.After name) = at_vertex (vertex_named name names)
+  where
+    at_vertex : (v : Option ℕ) → IsOwn (left_out_by v)
+    at_vertex (Some v) e = cc
+    at_vertex None e = cc
+
+-- what is written once that is known
+behind_own : (from : Result ℕ Fault) (text : ℕ → List ℕ) → IsOwn from → IsOwn (answer_behind from text)
+behind_own (Ok k) text p e = cc
+behind_own (Err f) text p e =
+    let same : f ≡ fault.Panic NoRoom = cc in
+    p (ap Err same)
+
+-- an answer that is made of a graph
+from_own : (v : Result Description Panic) (answer : Description → Result (List ℕ) Fault) → IsJudged v → ((d : Description) → IsOwn (answer d)) → IsOwn (answer_from v answer)
+from_own (Ok d) answer p q = q d
+from_own (Err r) answer p q = λ e.
+    let same : r ≡ NoRoom = cc in
+    p (ap Err same)
+
+-- the answer of a request is its output or its own refusal, never want of memory
+pub answer_own : (r : Request) → answer_of r ≢ Err (fault.Panic NoRoom)
+answer_own (request.Names e resume) = from_own (value_of e) _ (value_judged e) (λ d. behind_own _ _ (left_out_own _ resume))
+answer_own (request.List e resume) = from_own (value_of e) _ (value_judged e) (λ d. behind_own _ _ (left_out_own _ resume))
