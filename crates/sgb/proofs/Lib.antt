@@ -1,4 +1,5 @@
 -- The lemmas of sgb, by subject.
+pub mod CallLemmas
 pub mod Counts
 pub mod CutOff
 pub mod Endings

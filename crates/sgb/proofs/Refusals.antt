@@ -9,15 +9,19 @@ use Rattle.sgb_vec.specs.Sums.{has_great_count, sum_of}
 use Rattle.sgb_vec.specs.declared.panics.Panic.{Panic}
 use Rattle.sgb_vec.specs.declared.panics.Panic.TheVariants.{Bad, NoRoom, VeryBad}
 use Rattle.sgb_graph.specs.Descriptions.{Description}
-use Rattle.sgb_gen.specs.Boards.{BoardParams, accepted_board, board, piece_of}
+use Rattle.sgb_gen.specs.Boards.{accepted_board, board, piece_of}
 use Rattle.sgb_gen.specs.Limits.{most_piece}
-use Rattle.sgb_gen.specs.Shorthands.{circuit, complete, cycle, disjoint_subsets, empty, petersen, transitive}
-use Rattle.sgb_gen.specs.Simplexes.{SimplexParams, accepted_simplex, simplex}
-use Rattle.sgb_gen.specs.Subsets.{SubsetsParams, accepted_subsets, subsets}
+use Rattle.sgb_gen.specs.Simplexes.{accepted_simplex, simplex}
+use Rattle.sgb_gen.specs.Subsets.{accepted_subsets, subsets}
+use Rattle.sgb_gen.specs.declared.params.BoardParams.{BoardParams}
+use Rattle.sgb_gen.specs.declared.params.SimplexParams.{SimplexParams}
+use Rattle.sgb_gen.specs.declared.params.SubsetsParams.{SubsetsParams}
+use Rattle.sgb_expr.specs.declared.expressions.Expr.{Expr}
+use Rattle.sgb_expr.specs.declared.expressions.Expr.TheVariants as expr
+use Rattle.sgb_expr.specs.declared.expressions.Family.{Family}
+use Rattle.sgb_expr.specs.declared.expressions.Family.TheVariants as family
 use Rattle.sgb.specs.Answers.{answer_behind, answer_from, answer_of, left_out, left_out_by, list_answer, names_answer, vertex_named}
-use Rattle.sgb.specs.Values.{value_of}
-use Rattle.sgb.specs.declared.expressions.Expr.{Expr}
-use Rattle.sgb.specs.declared.expressions.Expr.TheVariants as expr
+use Rattle.sgb.specs.Values.{family_value, value_of}
 use Rattle.sgb.specs.declared.faults.Fault.{Fault}
 use Rattle.sgb.specs.declared.faults.Fault.TheVariants as fault
 use Rattle.sgb.specs.declared.requests.Request.{Request}
@@ -102,21 +106,15 @@ subsets_judged p =
     after _ _ (simplex_of_judged p.n p.n0 p.n1 p.n2 p.n3 p.n4) (λ shape. after _ _ (sum_of_judged p.n shape.sizes) (λ s. accepted _)) in
     after _ _ accepted_judged (λ s. accepted _)
 
+-- a graph of a generator
+family_judged : (f : Family) → IsJudged (family_value f)
+family_judged (family.Board p) = board_judged p
+family_judged (family.Simplex p) = simplex_judged p
+family_judged (family.Subsets p) = subsets_judged p
+
 -- an expression
 value_judged : (e : Expr) → IsJudged (value_of e)
-value_judged (expr.Board n1 n2 n3 n4 piece wrap directed) =
-    board_judged (record { n1 = n1; n2 = n2; n3 = n3; n4 = n4; piece = piece; wrap = wrap; directed = directed })
-value_judged (expr.Simplex n n0 n1 n2 n3 n4 directed) =
-    simplex_judged (record { n = n; n0 = n0; n1 = n1; n2 = n2; n3 = n3; n4 = n4; directed = directed })
-value_judged (expr.Subsets n n0 n1 n2 n3 n4 size_bits directed) =
-    subsets_judged (record { n = n; n0 = n0; n1 = n1; n2 = n2; n3 = n3; n4 = n4; size_bits = size_bits; directed = directed })
-value_judged (expr.Complete n) = board_judged (complete n)
-value_judged (expr.Transitive n) = board_judged (transitive n)
-value_judged (expr.Empty n) = board_judged (empty n)
-value_judged (expr.Circuit n) = board_judged (circuit n)
-value_judged (expr.Cycle n) = board_judged (cycle n)
-value_judged (expr.DisjointSubsets n k) = subsets_judged (disjoint_subsets n k)
-value_judged expr.Petersen = subsets_judged petersen
+value_judged (expr.Family f) = family_judged f
 
 -- ---- answers
 
@@ -148,7 +146,7 @@ from_own (Err r) answer p q = λ e.
     let same : r ≡ NoRoom = cc in
     p (ap Err same)
 
--- the answer of a request is its output or its own refusal, never want of memory
+-- the answer of a request is its output or its own refusal, never out of memory
 pub answer_own : (r : Request) → answer_of r ≢ Err (fault.Panic NoRoom)
 answer_own (request.Names e resume) = from_own (value_of e) _ (value_judged e) (λ d. behind_own _ _ (left_out_own _ resume))
 answer_own (request.List e resume) = from_own (value_of e) _ (value_judged e) (λ d. behind_own _ _ (left_out_own _ resume))

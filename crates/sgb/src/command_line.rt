@@ -10,9 +10,9 @@ ghost use Rattle.sgb.specs.Requests.{AreReadAs, AreRefused, IsCallAnsweredBy, Is
 
 use crate::calls::{Call, Values, call_of};
 use crate::expressions::parse_expr;
-use sgb_expr::Expr;
 use crate::faults::Fault;
 use crate::requests::{Name, Request, Resume};
+use sgb_expr::Expr;
 use std::alloc::Global;
 
 // A number has at most this many digits.

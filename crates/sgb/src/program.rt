@@ -30,13 +30,13 @@ pub fn run_program<R: Source, W: Sink, E: Sink>(
     requires { W.has_failed out.old ≡ false }
     ensures read { MatchResult words
         (λ words. AnswersWords (map string_bytes words.items)
-            (record { before = W.written out.old; after = W.written out.new; failed = W.has_failed out.new })
-            (record { before = E.written errors.old; after = E.written errors.new; failed = E.has_failed errors.new })
-            result)
+        (record { before = W.written out.old; after = W.written out.new; failed = W.has_failed out.new })
+        (record { before = E.written errors.old; after = E.written errors.new; failed = E.has_failed errors.new })
+        result)
         (λ error. IsReported (unread_fault (error_kind error))
-            (record { before = W.written out.old; after = W.written out.new; failed = W.has_failed out.new })
-            (record { before = E.written errors.old; after = E.written errors.new; failed = E.has_failed errors.new })
-            result) }
+        (record { before = W.written out.old; after = W.written out.new; failed = W.has_failed out.new })
+        (record { before = E.written errors.old; after = E.written errors.new; failed = E.has_failed errors.new })
+        result) }
     ensures unread { source.new ≡ source.old }
 {
     match request_of(alloc, words) {

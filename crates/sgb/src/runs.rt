@@ -9,11 +9,11 @@ ghost use Rattle.sgb.specs.Values.{value_of};
 ghost use Rattle.sgb.specs.Writing.{IsEnded};
 
 use crate::evaluation::{Local, graph_of, local_of};
-use sgb_expr::Expr;
 use crate::faults::{Fault, report};
 use crate::requests::{Request, Resume};
 use crate::writing::listing::write_listing;
 use crate::writing::names::write_names;
+use sgb_expr::Expr;
 use sgb_file::{Sink, Source};
 use std::alloc::Global;
 

@@ -1,8 +1,8 @@
 use super::request;
-use sgb_expr::{Expr, Family};
-use sgb_gen::BoardParams;
 use crate::faults::Fault;
 use crate::requests::{Name, Request, Resume};
+use sgb_expr::{Expr, Family};
+use sgb_gen::BoardParams;
 use std::test::Fail;
 
 // What the program's words are answered with.

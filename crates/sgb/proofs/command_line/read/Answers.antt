@@ -22,4 +22,4 @@ pub returns-in_err-graph : goal.returns-in_err-graph
 returns-in_err-graph c =
     let p = err_from_is_err_and c.from_residual-in_err-graph.result c.from_residual-in_err-graph.ensures.1 in
     rw (p.1, p.2) (refused c.args.values.expression.now _ _ _ c.in_ok-resume.ensures.0
-      (subst (λ (u : Text). IsRefusedText u c.in_err-graph.field-0.0) c.as_bytes.ensures.value c.in_err-graph.ensures.read))
+    (subst (λ (u : Text). IsRefusedText u c.in_err-graph.field-0.0) c.as_bytes.ensures.value c.in_err-graph.ensures.read))
