@@ -14,7 +14,7 @@ use Rattle.sgb_graph.specs.declared.fields.Kind.TheVariants.{Z}
 use Rattle.sgb_graph.specs.declared.fields.Util.TheVariants.{Nothing}
 use Rattle.sgb_graph.specs.declared.fields.Vertex.{Vertex}
 use Rattle.sgb_graph.specs.declared.fields.ArcRec.{ArcRec}
-use Rattle.sgb_graph.proofs.Lists.{slice_get-at_place_same, slice_get-at_place_other, slice_get-behind, length-at_place, map-at_place, list_all-get, list_all-at_place}
+use Rattle.sgb_graph.proofs.Lists.{slice_get-at_place_same, slice_get-at_place_other, slice_get-after, length-at_place, map-at_place, list_all-get, list_all-at_place}
 use Rattle.sgb_graph.proofs.Fitting.{vertex_fits_in, record_fits_in, chain_fits_more}
 use Rattle.sgb_graph.proofs.Chains.{ends_step, ends_kept, links_step, links_kept, leads_step, leads_kept, links_within, lead_within}
 use Rattle.sgb_graph.proofs.Growing.{HasParts, NewFit, parts_of, graph_from_parts, first_ends, is_good, all_good_more, grown, grown_is_graph, chain_kept, chain_at}
@@ -73,14 +73,14 @@ good_with_arcs n kinds records first x fits leads good =
     (and_from (chain_fits (length records) first) (utils_fit n (length records) (vertex_kinds kinds) x.util) fits own.1) leads
 
 -- a record in front of a chain
-pub record IsFront (steps : ℕ) (g : GraphData) (u : ℕ) (records : List ArcRec) (k v : ℕ) (far : ℤ) : Type 0 where
+pub record IsLead (steps : ℕ) (g : GraphData) (u : ℕ) (records : List ArcRec) (k v : ℕ) (far : ℤ) : Type 0 where
   pub ends : ends_from (suc steps) records (Some k) ≡ true
   pub leads : lead_within (suc steps) records (Some k) ≡ true
   pub links : links_within (suc steps) records (Some k) ≡ link k v far ∷ chain_of g u
 
 -- a record that goes on with the old chain is in front of it
-pub front_of : (steps : ℕ) (g : GraphData) (more : List ArcRec) (u k v : ℕ) (far : ℤ) → HasParts g → u < length g.vertices → length g.records ≤ steps → slice_get (g.records ++ more) k ≡ Some (arc_record v (first_arc g.vertices u) far) → IsFront steps g u (g.records ++ more) k v far
-front_of steps g more u k v far has below le is =
+pub lead_of : (steps : ℕ) (g : GraphData) (more : List ArcRec) (u k v : ℕ) (far : ℤ) → HasParts g → u < length g.vertices → length g.records ≤ steps → slice_get (g.records ++ more) k ≡ Some (arc_record v (first_arc g.vertices u) far) → IsLead steps g u (g.records ++ more) k v far
+lead_of steps g more u k v far has below le is =
     let old = chain_of_vertex g u has below in
     let first = first_arc g.vertices u in
     let new = arc_record v first far in
@@ -115,7 +115,7 @@ one_more records r = omega (arith, length-append records (r ∷ []))
 last_is : (records : List ArcRec) (r : ArcRec) → slice_get (records ++ r ∷ []) (length records) ≡ Some r
 last_is records r =
     let place : length records ≡ length records + 0 = omega arith in
-    ap (slice_get (records ++ r ∷ [])) place ∙ slice_get-behind records (r ∷ []) 0
+    ap (slice_get (records ++ r ∷ [])) place ∙ slice_get-after records (r ∷ []) 0
 
 -- it is a graph with one arc more
 pub arc_added : (g : GraphData) (u v : ℕ) (far : ℤ) → IsKept g → HasPlainArcs g → u < length g.vertices → v < length g.vertices → AddsArc g (with_arc g u v far) u v far × IsKept (with_arc g u v far)
@@ -139,14 +139,14 @@ arc_added g u v far kept plain u_in v_in = (adds, still)
     longer : length all ≡ suc m
     longer = one_more g.records new
 
-    front : IsFront m g u all m v far
-    front = front_of m g (new ∷ []) u m v far has u_in (omega arith) (last_is g.records new)
+    lead : IsLead m g u all m v far
+    lead = lead_of m g (new ∷ []) u m v far has u_in (omega arith) (last_is g.records new)
 
     new_fits : chain_fits (length all) (Some m) ≡ true
     new_fits = lt-ltb m (length all) (omega (arith, longer))
 
     leads : lead_within (length all) all (Some m) ≡ true
-    leads = ap (λ steps. lead_within steps all (Some m)) longer ∙ front.leads
+    leads = ap (λ steps. lead_within steps all (Some m)) longer ∙ lead.leads
 
     good : list_all (is_good (length g.vertices) g.kinds all) (at_place (with_arcs (Some m)) u g.vertices) ≡ true
     good = list_all-at_place (is_good (length g.vertices) g.kinds all) (with_arcs (Some m)) u g.vertices
@@ -158,7 +158,7 @@ arc_added g u v far kept plain u_in v_in = (adds, still)
     fit : NewFit (length g.vertices) g.kinds g.records (new ∷ [])
     fit = record {
       fit = and_from (record_fits_in (length g.vertices) (length all) g.kinds new) true (plain_record_fits (length g.vertices) (length all) g.kinds v first far v_in after_fits plain) refl;
-      ends = λ k low high. let at : k ≡ m = omega (arith, longer) in rw (at, longer) front.ends;
+      ends = λ k low high. let at : k ≡ m = omega (arith, longer) in rw (at, longer) lead.ends;
     }
 
     still : IsKept (with_arc g u v far)
@@ -175,7 +175,7 @@ arc_added g u v far kept plain u_in v_in = (adds, still)
       count = refl;
       records = refl;
       chain = chain_at (with_arc g u v far) u (with_arcs (Some m) x.element) (slice_get-at_place_same (with_arcs (Some m)) u g.vertices x.element x.is)
-          ∙ (ap (λ steps. links_within steps all (Some m)) longer ∙ front.links);
+          ∙ (ap (λ steps. links_within steps all (Some m)) longer ∙ lead.links);
       others = λ w other. chain_kept g (g.m + 1) (at_place (with_arcs (Some m)) u g.vertices) (new ∷ []) w has (slice_get-at_place_other (with_arcs (Some m)) u w g.vertices other);
       rest = keeps_all g (g.m + 1) (Some m) u (new ∷ []);
     }

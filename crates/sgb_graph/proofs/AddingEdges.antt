@@ -10,11 +10,11 @@ use Rattle.sgb_graph.specs.Growth.{IsKept, graph_data, HasPlainArcs, AddsEdge, K
 use Rattle.sgb_graph.specs.declared.fields.Vertex.{Vertex}
 use Rattle.sgb_graph.specs.declared.fields.ArcRec.{ArcRec}
 use Rattle.sgb_graph.specs.declared.fields.Link.{Link}
-use Rattle.sgb_graph.proofs.Lists.{slice_get-at_place_same, slice_get-at_place_other, slice_get-behind, length-at_place, map-at_place, list_all-at_place}
+use Rattle.sgb_graph.proofs.Lists.{slice_get-at_place_same, slice_get-at_place_other, slice_get-after, length-at_place, map-at_place, list_all-at_place}
 use Rattle.sgb_graph.proofs.Fitting.{record_fits_in, chain_fits_more}
 use Rattle.sgb_graph.proofs.Chains.{ends_step, links_step, leads_step, links_within, lead_within}
 use Rattle.sgb_graph.proofs.Growing.{HasParts, NewFit, parts_of, graph_from_parts, is_good, all_good_more, grown, grown_is_graph, chain_kept, chain_at}
-use Rattle.sgb_graph.proofs.AddingArcs.{element_at, chain_of_vertex, plain_record_fits, good_with_arcs, IsFront, front_of}
+use Rattle.sgb_graph.proofs.AddingArcs.{element_at, chain_of_vertex, plain_record_fits, good_with_arcs, IsLead, lead_of}
 
 -- the graph with two records between low and high, the lower of them before the one given
 abbrev pub with_pair : GraphData → ℕ → ℕ → Option ℕ → ℤ → GraphData
@@ -22,7 +22,7 @@ with_pair g low high after far =
     grown g (g.m + 2) (with_ends (length g.records) low high g.vertices)
     (arc_record high after far ∷ arc_record low (first_arc g.vertices high) far ∷ [])
 
--- the way from the lower record of a pair, and what comes behind it
+-- the way from the lower record of a pair, and what comes after it
 record IsLower (g : GraphData) (records : List ArcRec) (high : ℕ) (far : ℤ) (tail : List Link) : Type 0 where
   ends : ends_from (suc (suc (length g.records))) records (Some (length g.records)) ≡ true
   leads : lead_within (suc (suc (length g.records))) records (Some (length g.records)) ≡ true
@@ -36,26 +36,26 @@ two_more records r s = omega (arith, length-append records (r ∷ s ∷ []))
 lower_is : (records : List ArcRec) (r s : ArcRec) → slice_get (records ++ r ∷ s ∷ []) (length records) ≡ Some r
 lower_is records r s =
     let place : length records ≡ length records + 0 = omega arith in
-    ap (slice_get (records ++ r ∷ s ∷ [])) place ∙ slice_get-behind records (r ∷ s ∷ []) 0
+    ap (slice_get (records ++ r ∷ s ∷ [])) place ∙ slice_get-after records (r ∷ s ∷ []) 0
 
 -- then the higher one
 higher_is : (records : List ArcRec) (r s : ArcRec) → slice_get (records ++ r ∷ s ∷ []) (length records + 1) ≡ Some s
-higher_is records r s = slice_get-behind records (r ∷ s ∷ []) 1
+higher_is records r s = slice_get-after records (r ∷ s ∷ []) 1
 
 -- the higher record, in so many steps, is in front of the chain of high
-higher_front : (steps : ℕ) (g : GraphData) (low high : ℕ) (after : Option ℕ) (far : ℤ) → HasParts g → high < length g.vertices → length g.records ≤ steps → IsFront steps g high (g.records ++ arc_record high after far ∷ arc_record low (first_arc g.vertices high) far ∷ []) (length g.records + 1) low far
-higher_front steps g low high after far has below le =
+higher_lead : (steps : ℕ) (g : GraphData) (low high : ℕ) (after : Option ℕ) (far : ℤ) → HasParts g → high < length g.vertices → length g.records ≤ steps → IsLead steps g high (g.records ++ arc_record high after far ∷ arc_record low (first_arc g.vertices high) far ∷ []) (length g.records + 1) low far
+higher_lead steps g low high after far has below le =
     let lower = arc_record high after far in
     let higher = arc_record low (first_arc g.vertices high) far in
-    front_of steps g (lower ∷ higher ∷ []) high (length g.records + 1) low far has below le (higher_is g.records lower higher)
+    lead_of steps g (lower ∷ higher ∷ []) high (length g.records + 1) low far has below le (higher_is g.records lower higher)
 
 -- the lower record is in front of the chain of low
 lower_of_two : (g : GraphData) (low high : ℕ) (far : ℤ) → HasParts g → low < length g.vertices → IsLower g (g.records ++ arc_record high (first_arc g.vertices low) far ∷ arc_record low (first_arc g.vertices high) far ∷ []) high far (chain_of g low)
 lower_of_two g low high far has below =
     let lower = arc_record high (first_arc g.vertices low) far in
     let higher = arc_record low (first_arc g.vertices high) far in
-    let front = front_of (suc (length g.records)) g (lower ∷ higher ∷ []) low (length g.records) high far has below (omega arith) (lower_is g.records lower higher) in
-    record { ends = front.ends; leads = front.leads; links = front.links }
+    let lead = lead_of (suc (length g.records)) g (lower ∷ higher ∷ []) low (length g.records) high far has below (omega arith) (lower_is g.records lower higher) in
+    record { ends = lead.ends; leads = lead.leads; links = lead.links }
 
 -- the lower record of a loop is in front of the higher one
 lower_of_loop : (g : GraphData) (u : ℕ) (far : ℤ) → HasParts g → u < length g.vertices → IsLower g (g.records ++ arc_record u (Some (length g.records + 1)) far ∷ arc_record u (first_arc g.vertices u) far ∷ []) u far (link (length g.records + 1) u far ∷ chain_of g u)
@@ -64,12 +64,12 @@ lower_of_loop g u far has below =
     let lower = arc_record u (Some (m + 1)) far in
     let higher = arc_record u (first_arc g.vertices u) far in
     let all = g.records ++ lower ∷ higher ∷ [] in
-    let front = higher_front m g u u (Some (m + 1)) far has below (omega arith) in
+    let lead = higher_lead m g u u (Some (m + 1)) far has below (omega arith) in
     let is = lower_is g.records lower higher in
     record {
-      ends = ends_step (suc m) all m lower is ∙ front.ends;
-      leads = leads_step (suc m) all m lower is refl front.leads;
-      links = links_step (suc m) all m lower is ∙ ap (λ ls. link m u far ∷ ls) front.links;
+      ends = ends_step (suc m) all m lower is ∙ lead.ends;
+      leads = leads_step (suc m) all m lower is refl lead.leads;
+      links = links_step (suc m) all m lower is ∙ ap (λ ls. link m u far ∷ ls) lead.links;
     }
 
 -- the pair makes up a graph
@@ -101,8 +101,8 @@ pair_is_kept g low high after far tail kept plain low_in high_in after_fits down
     longer : length all ≡ suc (suc m)
     longer = two_more g.records lower higher
 
-    up : IsFront (suc m) g high all (m + 1) low far
-    up = higher_front (suc m) g low high after far has high_in (omega arith)
+    up : IsLead (suc m) g high all (m + 1) low far
+    up = higher_lead (suc m) g low high after far has high_in (omega arith)
 
     same : length (with_ends m low high g.vertices) ≡ n
     same = length-at_place (with_arcs (Some m)) low (at_place (with_arcs (Some (m + 1))) high g.vertices) ∙ length-at_place (with_arcs (Some (m + 1))) high g.vertices
@@ -125,11 +125,11 @@ pair_is_kept g low high after far tail kept plain low_in high_in after_fits down
         (list_all-at_place (is_good n g.kinds all) (with_arcs (Some (m + 1))) high g.vertices
         (λ x h. good_with_arcs n g.kinds all (Some (m + 1)) x higher_fits higher_leads h) (all_good_more g (lower ∷ higher ∷ []) has))
 
-    behind_lower : chain_fits (length all) after ≡ true
-    behind_lower = chain_fits_more (m + 2) (length all) after (omega (arith, longer)) after_fits
+    after_lower_fits : chain_fits (length all) after ≡ true
+    after_lower_fits = chain_fits_more (m + 2) (length all) after (omega (arith, longer)) after_fits
 
-    behind_higher : chain_fits (length all) (first_arc g.vertices high) ≡ true
-    behind_higher = chain_fits_more m (length all) (first_arc g.vertices high) (omega (arith, longer)) (chain_of_vertex g high has high_in).fits
+    after_higher_fits : chain_fits (length all) (first_arc g.vertices high) ≡ true
+    after_higher_fits = chain_fits_more m (length all) (first_arc g.vertices high) (omega (arith, longer)) (chain_of_vertex g high has high_in).fits
 
     end_at : (k : ℕ) → m ≤ k → k < length all → (k ≡ m) ⊎ (k ≡ m → ⊥) → ends_of all (Some k) ≡ true
     end_at k low_k below (inl at) = rw (at, longer) down.ends
@@ -138,8 +138,8 @@ pair_is_kept g low high after far tail kept plain low_in high_in after_fits down
     fit : NewFit n g.kinds g.records (lower ∷ higher ∷ [])
     fit = record {
       fit = and_from (record_fits_in n (length all) g.kinds lower) (list_all (record_fits_in n (length all) g.kinds) (higher ∷ []))
-          (plain_record_fits n (length all) g.kinds high after far high_in behind_lower plain)
-          (and_from (record_fits_in n (length all) g.kinds higher) true (plain_record_fits n (length all) g.kinds low (first_arc g.vertices high) far low_in behind_higher plain) refl);
+          (plain_record_fits n (length all) g.kinds high after far high_in after_lower_fits plain)
+          (and_from (record_fits_in n (length all) g.kinds higher) true (plain_record_fits n (length all) g.kinds low (first_arc g.vertices high) far low_in after_higher_fits plain) refl);
       ends = λ k low_k below. end_at k low_k below (cases_eq k m);
     }
 
@@ -164,7 +164,7 @@ higher_chain g low high after far has below other =
     let x = element_at g.vertices high below in
     let new = with_pair g low high after far in
     let longer = two_more g.records (arc_record high after far) (arc_record low (first_arc g.vertices high) far) in
-    let up = higher_front (suc m) g low high after far has below (omega arith) in
+    let up = higher_lead (suc m) g low high after far has below (omega arith) in
     let place = slice_get-at_place_other (with_arcs (Some m)) low high others other ∙ slice_get-at_place_same (with_arcs (Some (m + 1))) high g.vertices x.element x.is in
     chain_at new high (with_arcs (Some (m + 1)) x.element) place
     ∙ (ap (λ steps. links_within steps new.records (Some (m + 1))) longer ∙ up.links)

@@ -34,18 +34,18 @@ numbers_step : (fuel : ℕ) (records : List ArcRec) (k : ℕ) (r : ArcRec) → s
 unfolding numbers_from
 numbers_step fuel records k r is = ap (λ o. option_map_or (λ (x : ArcRec). k ∷ numbers_from fuel records x.next) o []) is
 
--- a way that ends, ends behind each record that it meets
-record EndsBehind (fuel : ℕ) (records : List ArcRec) (k : ℕ) : Type 0 where
+-- a way that ends, ends after each record that it meets
+record EndsAfter (fuel : ℕ) (records : List ArcRec) (k : ℕ) : Type 0 where
   here : ArcRec
   is : slice_get records k ≡ Some here
   ends : ends_from fuel records here.next ≡ true
 
 -- so it goes from there
-ends_behind : (fuel : ℕ) (records : List ArcRec) (k : ℕ) → ends_from (suc fuel) records (Some k) ≡ true → EndsBehind fuel records k
+ends_after : (fuel : ℕ) (records : List ArcRec) (k : ℕ) → ends_from (suc fuel) records (Some k) ≡ true → EndsAfter fuel records k
 unfolding ends_from
-ends_behind fuel records k e = by_record (slice_get records k) refl e
+ends_after fuel records k e = by_record (slice_get records k) refl e
   where
-    by_record : (o : Option ArcRec) → slice_get records k ≡ o → option_map_or (λ (x : ArcRec). ends_from fuel records x.next) o false ≡ true → EndsBehind fuel records k
+    by_record : (o : Option ArcRec) → slice_get records k ≡ o → option_map_or (λ (x : ArcRec). ends_from fuel records x.next) o false ≡ true → EndsAfter fuel records k
     by_record None is h = absurd cc
     by_record (Some r) is h = record { here = r; is = is; ends = h }
 
@@ -60,7 +60,7 @@ ends_more fuel steps records more None le e = ends_none steps (records ++ more)
 ends_more zero steps records more (Some k) le e = absurd (no_start records k e)
 ends_more (suc fuel) zero records more (Some k) le e = absurd (omega arith)
 ends_more (suc fuel) (suc steps) records more (Some k) le e =
-    let b = ends_behind fuel records k e in
+    let b = ends_after fuel records k e in
     ends_step steps (records ++ more) k b.here (slice_get-more records more k b.here b.is) ∙ ends_more fuel steps records more b.here.next (omega arith) b.ends
 
 -- and meets the same records
@@ -69,7 +69,7 @@ numbers_more fuel steps records more None le e = numbers_none steps (records ++ 
 numbers_more zero steps records more (Some k) le e = absurd (no_start records k e)
 numbers_more (suc fuel) zero records more (Some k) le e = absurd (omega arith)
 numbers_more (suc fuel) (suc steps) records more (Some k) le e =
-    let b = ends_behind fuel records k e in
+    let b = ends_after fuel records k e in
     numbers_step steps (records ++ more) k b.here (slice_get-more records more k b.here b.is)
     ∙ (ap (λ ks. k ∷ ks) (numbers_more fuel steps records more b.here.next (omega arith) b.ends) ∙ sym (numbers_step fuel records k b.here b.is))
 
@@ -179,7 +179,7 @@ step_of records k ends = by_length (length records) refl
     by_length : (n : ℕ) → length records ≡ n → IsStep records k
     by_length zero is = absurd (no_start records k (rw is at ends))
     by_length (suc n) is =
-        let b = ends_behind n records k (rw is at ends) in
+        let b = ends_after n records k (rw is at ends) in
         let none_more : records ++ [] ≡ records = append-nil records in
         let on = ends_more n (length records) records [] b.here.next (omega arith) b.ends in
         let same = numbers_more n (length records) records [] b.here.next (omega arith) b.ends in

@@ -1,4 +1,4 @@
--- An operand's id, or a front of it, may stand in the id of a result.
+-- An operand's id, or a prefix of it, may stand in the id of a result.
 use Rattle.std.proofs.Common.{◌≡◌, ℕ, true, List, take, arith}
 use Rattle.std.specs.List.{All}
 use Rattle.std.proofs.lemmas.Bool.Decides.{nat_tests}
@@ -20,6 +20,6 @@ printable_passes text printable = list_all-from_AllPass is_id_byte text (λ k d 
 pub id_passes : (id : List ℕ) → IsId id → is_id_text id ≡ true
 id_passes id is = printable_passes id is.printable
 
--- so does a front of it
-pub front_passes : (k : ℕ) (id : List ℕ) → IsId id → is_id_text (take k id) ≡ true
-front_passes k id is = printable_passes (take k id) (All-take IsTextByte k id is.printable)
+-- so does a prefix of it
+pub prefix_passes : (k : ℕ) (id : List ℕ) → IsId id → is_id_text (take k id) ≡ true
+prefix_passes k id is = printable_passes (take k id) (All-take IsTextByte k id is.printable)

@@ -21,7 +21,7 @@ cycle_with numbers i x is small = record {
 
     here_or_not : (j : ℕ) → j < 55 → (j < i) ⊎ (i ≤ j) → (i < j) ⊎ (j ≤ i) → get_or (set numbers i x) j 0 < modulus
     here_or_not j inside (inl before) other = elsewhere j inside (omega arith)
-    here_or_not j inside (inr _) (inl behind) = elsewhere j inside (omega arith)
+    here_or_not j inside (inr _) (inl past) = elsewhere j inside (omega arith)
     here_or_not j inside (inr low) (inr high) =
         let same : i ≡ j = omega arith in
         let within : i < length numbers = omega (arith, is.many) in

@@ -9,7 +9,7 @@ use Rattle.std.proofs.lemmas.List.{get_or-map}
 use Rattle.sgb_graph.specs.Draws.{difference, first_x, back_to_first, x_number, y_number}
 use Rattle.sgb_graph.proofs.TestLemmas.{at_each_below, both_first, both_second, where_passes}
 
--- the number that stands j places back in a longer list is the front of the shorter one
+-- the number that stands j places back in a longer list is the first of the shorter one
 pub back_by : (seed k j : ℕ) → slice_index (back_to_first seed (k + j)) j ≡ slice_index (back_to_first seed k) 0
 unfolding back_to_first
 back_by seed k zero = rw (add_zero_right k) refl
@@ -30,7 +30,7 @@ back_past seed (suc k) j =
 
 -- a number by its list and its place there
 pub number_in : (seed n k j : ℕ) → n - 55 ≡ k → 55 - n ≡ j → x_number seed n ≡ slice_index (back_to_first seed k) j
-number_in seed n k j front place = rw (front, place)
+number_in seed n k j first place = rw (first, place)
 
 -- what stands at a place of a list
 pub number_at_place : (seed k j : ℕ) → j ≤ k + 54 → slice_index (back_to_first seed k) j ≡ x_number seed (55 + k - j)

@@ -28,7 +28,7 @@ rows_push : (directed : Bool) (events : List Event) (e : Event) → all_rows dir
 rows_push directed events e =
     flat_map-append (rows_of directed) events (e ∷ []) ∙ ap (λ rows. all_rows directed events ++ rows) (append-nil (rows_of directed e))
 
--- the list of one more event behind: its records come first
+-- the list with one more event at the end: its records come first
 list_push : (directed : Bool) (k : ℕ) (events : List Event) (e : Event) (v : ℕ) → list_from directed k (events ++ e ∷ []) v ≡ links_at v (k + length (all_rows directed events)) (rows_of directed e) ++ list_from directed k events v
 list_push directed k [] e v =
     let new = links_at v k (rows_of directed e) in
@@ -45,7 +45,7 @@ list_push directed k (x ∷ events) e v =
     ∙ (append_assoc (links_at v (k + length (own ++ all_rows directed events)) (rows_of directed e)) (list_from directed from events v) (links_at v k own)
     ∙ ap (λ ls. links_at v (k + length (own ++ all_rows directed events)) (rows_of directed e) ++ ls) (sym (list_first directed k x events v))))
 
--- the records of an event come behind those of the graph, and in front of the lists
+-- the records of an event come after those of the graph, and in front of the lists
 record AddsRows (directed : Bool) (old new : GraphData) (e : Event) : Type 0 where
   count : new.m ≡ old.m + length (rows_of directed e)
   tips : map (λ r. r.tip) new.records ≡ map (λ r. r.tip) old.records ++ map (λ r. At r.tip) (rows_of directed e)

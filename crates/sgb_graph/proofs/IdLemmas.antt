@@ -1,14 +1,15 @@
 -- Texts and numbers that may stand in an id.
-use Rattle.std.proofs.Common.{◌≡◌, ℕ, ◌+◌, ◌%◌, ◌^◌, ◌<◌, ◌≤◌, true, List, [], ◌∷◌, ◌++◌, length, decimal, ℤ, pos, negsuc, suc, arith}
+use Rattle.std.proofs.Common.{◌≡◌, ℕ, ◌+◌, ◌^◌, ◌<◌, ◌≤◌, true, List, [], ◌∷◌, ◌++◌, length, decimal, ℤ, pos, negsuc, suc, arith}
 use Rattle.std.specs.Fmt.{signed_decimal}
 use Rattle.std.specs.List.{All}
 use Rattle.std.proofs.lemmas.Bool.{and_parts}
 use Rattle.std.proofs.lemmas.Bool.Decides.{nat_tests}
-use Rattle.std.proofs.lemmas.Fmt.{decimal_by_steps, length_signed_le}
-use Rattle.std.proofs.lemmas.List.Elements.{All-nil, All-cons, All-append, All-push}
+use Rattle.std.proofs.lemmas.Fmt.{length_signed_le}
+use Rattle.std.proofs.lemmas.List.Elements.{All-nil, All-cons, All-append}
 use Rattle.std.proofs.lemmas.List.{length-append}
 use lib.Signed.{mag}
 use Rattle.sgb_vec.specs.Names.{IsTextByte}
+use Rattle.sgb_vec.proofs.VectorNames.{decimal_is_text}
 use Rattle.sgb_graph.specs.Ids.{IsId}
 use Rattle.sgb_graph.specs.IdTexts.{is_id_byte, is_id_text}
 
@@ -28,37 +29,25 @@ text_passes (b ∷ text) e =
     let parts = and_parts (is_id_byte b) (is_id_text text) e in
     All-cons IsTextByte b text (byte_passes b parts.0) (text_passes text parts.1)
 
--- a digit may stand in an id
-digit_passes : (d : ℕ) → d < 10 → IsTextByte (48 + d)
-digit_passes d h = record { from_space = omega arith; to_tilde = omega arith; no_quote = omega arith; no_backslash = omega arith }
-
--- the digits of a number may
-decimal_passes : (n : ℕ) → n < 2 ^ 64 → All IsTextByte (decimal n)
-decimal_passes n h =
-    decimal_by_steps (λ _ ds. All IsTextByte ds)
-    (λ d low. All-cons IsTextByte (48 + d) [] (digit_passes d low) (All-nil IsTextByte))
-    (λ m ds high rest. All-push IsTextByte ds (48 + m % 10) rest (digit_passes (m % 10) (omega arith)))
-    n h
-
--- so may its sign
+-- a number with its sign may stand in an id
 number_passes : (z : ℤ) → mag z < 2 ^ 63 → All IsTextByte (signed_decimal z)
-number_passes (pos n) h = decimal_passes n (omega arith)
+number_passes (pos n) h = decimal_is_text n (omega arith)
 number_passes (negsuc n) h =
     let minus : IsTextByte 45 = record { from_space = omega arith; to_tilde = omega arith; no_quote = omega arith; no_backslash = omega arith } in
-    All-cons IsTextByte 45 (decimal (suc n)) minus (decimal_passes (suc n) (omega arith))
+    All-cons IsTextByte 45 (decimal (suc n)) minus (decimal_is_text (suc n) (omega arith))
 
 -- a number of 64 bits takes at most 20 bytes
 pub length-number : (z : ℤ) → mag z < 2 ^ 63 → length (signed_decimal z) ≤ 20
 length-number z h = length_signed_le 19 z (omega arith) h
 
--- an id with such a text behind it
+-- an id with such a text after it
 pub IsId-push_text : (bytes text : List ℕ) → IsId bytes → is_id_text text ≡ true → length bytes + length text ≤ 160 → IsId (bytes ++ text)
 IsId-push_text bytes text id passes room = record {
   short = omega (arith, length-append bytes text);
   printable = All-append IsTextByte bytes text id.printable (text_passes text passes);
 }
 
--- an id with a number behind it
+-- an id with a number after it
 pub IsId-push_number : (bytes : List ℕ) (z : ℤ) → IsId bytes → mag z < 2 ^ 63 → length bytes + 20 ≤ 160 → IsId (bytes ++ signed_decimal z)
 IsId-push_number bytes z id small room = record {
   short = omega (arith, length-append bytes (signed_decimal z), length-number z small);

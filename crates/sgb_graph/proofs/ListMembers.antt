@@ -9,22 +9,22 @@ use Rattle.std.proofs.lemmas.List.Sums.{length-filter}
 use Rattle.sgb_graph.specs.Events.{Event, Row, all_rows, links_at, list_from, list_of, rows_of}
 use Rattle.sgb_graph.specs.Growth.{link, row}
 use Rattle.sgb_graph.specs.declared.fields.Link.{Link}
-use Rattle.sgb_graph.proofs.Lists.{slice_get-more, slice_get-front, slice_get-behind}
+use Rattle.sgb_graph.proofs.Lists.{slice_get-more, slice_get-prefix, slice_get-after}
 use Rattle.sgb_graph.proofs.EventLemmas.{list_none, list_first, link_here, no_link_here}
 
--- the first element of a list, and one behind it
+-- the first element of a list, and one after it
 contains_first : {X : Type 0} (x : X) (xs : List X) → Contains (x ∷ xs) x
 contains_first x xs = (0, omega arith, refl)
 
--- one behind the first
-contains_behind : {X : Type 0} (x y : X) (xs : List X) → Contains xs y → Contains (x ∷ xs) y
-contains_behind x y xs (k, below, here) = (suc k, omega arith, here)
+-- one after the first
+contains_after : {X : Type 0} (x y : X) (xs : List X) → Contains xs y → Contains (x ∷ xs) y
+contains_after x y xs (k, below, here) = (suc k, omega arith, here)
 
 -- an empty list has none
 contains_none : {X : Type 0} (x : X) → Contains [] x → ⊥
 contains_none x (k, below, here) = omega arith
 
--- an element of a list is its first, or behind it
+-- an element of a list is its first, or after it
 contains_cases : {X : Type 0} (x y : X) (xs : List X) → Contains (x ∷ xs) y → (x ≡ y) ⊎ Contains xs y
 contains_cases x y xs (zero, below, here) = inl here
 contains_cases x y xs (suc k, below, here) = inr (k, omega arith, here)
@@ -35,8 +35,8 @@ each_link k j [] r is = absurd cc
 each_link k zero (a ∷ rows) r is =
     let same : a ≡ r = cc in
     let place : k + 0 ≡ k = omega arith in
-    let front = contains_first (link k r.tip r.len) (links_at r.start (k + 1) rows) in
-    rw (same, place) (subst (λ ls. Contains ls (link k r.tip r.len)) (sym (link_here r.start k r rows refl)) front)
+    let there = contains_first (link k r.tip r.len) (links_at r.start (k + 1) rows) in
+    rw (same, place) (subst (λ ls. Contains ls (link k r.tip r.len)) (sym (link_here r.start k r rows refl)) there)
 each_link k (suc j) (a ∷ rows) r is = by_start (cases_eq r.start a.start) (each_link (k + 1) j rows r is)
   where
     place : k + 1 + j ≡ k + suc j
@@ -45,7 +45,7 @@ each_link k (suc j) (a ∷ rows) r is = by_start (cases_eq r.start a.start) (eac
     by_start : (r.start ≡ a.start) ⊎ (r.start ≡ a.start → ⊥) → Contains (links_at r.start (k + 1) rows) (link (k + 1 + j) r.tip r.len) → Contains (links_at r.start k (a ∷ rows)) (link (k + suc j) r.tip r.len)
     by_start (inl same) later =
         subst (λ ls. Contains ls (link (k + suc j) r.tip r.len)) (sym (link_here r.start k a rows same))
-        (contains_behind (link k a.tip a.len) (link (k + suc j) r.tip r.len) (links_at r.start (k + 1) rows) (rw place at later))
+        (contains_after (link k a.tip a.len) (link (k + suc j) r.tip r.len) (links_at r.start (k + 1) rows) (rw place at later))
     by_start (inr other) later =
         subst (λ ls. Contains ls (link (k + suc j) r.tip r.len)) (sym (no_link_here r.start k a rows other)) (rw place at later)
 
@@ -56,8 +56,8 @@ record IsRowAt (k v : ℕ) (rows : List Row) (l : Link) : Type 0 where
   is : slice_get rows place ≡ Some (row v l.tip l.len)
 
 -- the same with a row in front
-row_behind : (k v : ℕ) (a : Row) (rows : List Row) (l : Link) → IsRowAt (k + 1) v rows l → IsRowAt k v (a ∷ rows) l
-row_behind k v a rows l at = record { place = suc at.place; number = omega (arith, at.number); is = at.is }
+row_after : (k v : ℕ) (a : Row) (rows : List Row) (l : Link) → IsRowAt (k + 1) v rows l → IsRowAt k v (a ∷ rows) l
+row_after k v a rows l at = record { place = suc at.place; number = omega (arith, at.number); is = at.is }
 
 -- so each link is
 only_link : (k v : ℕ) (rows : List Row) (l : Link) → Contains (links_at v k rows) l → IsRowAt k v rows l
@@ -69,12 +69,12 @@ only_link k v (a ∷ rows) l has = by_start (cases_eq v a.start) (only_link (k +
 
     by_place : v ≡ a.start → (Contains (links_at v (k + 1) rows) l → IsRowAt (k + 1) v rows l) → (link k a.tip a.len ≡ l) ⊎ Contains (links_at v (k + 1) rows) l → IsRowAt k v (a ∷ rows) l
     by_place start later (inl same) = here start same
-    by_place start later (inr behind) = row_behind k v a rows l (later behind)
+    by_place start later (inr high) = row_after k v a rows l (later high)
 
     by_start : (v ≡ a.start) ⊎ (v ≡ a.start → ⊥) → (Contains (links_at v (k + 1) rows) l → IsRowAt (k + 1) v rows l) → IsRowAt k v (a ∷ rows) l
     by_start (inl start) later =
         by_place start later (contains_cases (link k a.tip a.len) l (links_at v (k + 1) rows) (subst (λ ls. Contains ls l) (link_here v k a rows start) has))
-    by_start (inr other) later = row_behind k v a rows l (later (subst (λ ls. Contains ls l) (no_link_here v k a rows other) has))
+    by_start (inr other) later = row_after k v a rows l (later (subst (λ ls. Contains ls l) (no_link_here v k a rows other) has))
 
 -- as many links as rows
 count_link : (k v : ℕ) (rows : List Row) → length (links_at v k rows) ≡ length (filter (λ r. r.start == v) rows)
@@ -99,14 +99,14 @@ each_from directed k (e ∷ events) j r is = by_place (each_from directed (k + l
 
     by_place : (slice_get later (j - length own) ≡ Some r → Contains (list_from directed (k + length own) events r.start) (link (k + length own + (j - length own)) r.tip r.len))
         → (j < length own) ⊎ (length own ≤ j) → Contains (list_from directed k (e ∷ events) r.start) (link (k + j) r.tip r.len)
-    by_place behind (inl in_front) =
+    by_place in_later (inl low) =
         rw (list_first directed k e events r.start)
         (Contains-append_right (list_from directed (k + length own) events r.start) (links_at r.start k own) (link (k + j) r.tip r.len)
-        (each_link k j own r (sym (slice_get-front own later j in_front) ∙ is)))
-    by_place behind (inr after) =
+        (each_link k j own r (sym (slice_get-prefix own later j low) ∙ is)))
+    by_place in_later (inr high) =
         let place : length own + (j - length own) ≡ j = omega arith in
         let number : k + length own + (j - length own) ≡ k + j = omega arith in
-        let there = behind (sym (slice_get-behind own later (j - length own)) ∙ (ap (slice_get (own ++ later)) place ∙ is)) in
+        let there = in_later (sym (slice_get-after own later (j - length own)) ∙ (ap (slice_get (own ++ later)) place ∙ is)) in
         rw (list_first directed k e events r.start)
         (Contains-append_left (list_from directed (k + length own) events r.start) (links_at r.start k own) (link (k + j) r.tip r.len) (rw number at there))
 
@@ -122,16 +122,16 @@ only_from directed k (e ∷ events) v l has =
     later : List Row
     later = all_rows directed events
 
-    in_front : IsRowAt k v own l → IsRowAt k v (own ++ later) l
-    in_front at = record { place = at.place; number = at.number; is = slice_get-more own later at.place (row v l.tip l.len) at.is }
+    in_own : IsRowAt k v own l → IsRowAt k v (own ++ later) l
+    in_own at = record { place = at.place; number = at.number; is = slice_get-more own later at.place (row v l.tip l.len) at.is }
 
-    behind : IsRowAt (k + length own) v later l → IsRowAt k v (own ++ later) l
-    behind at = record { place = length own + at.place; number = omega (arith, at.number); is = slice_get-behind own later at.place ∙ at.is }
+    in_later : IsRowAt (k + length own) v later l → IsRowAt k v (own ++ later) l
+    in_later at = record { place = length own + at.place; number = omega (arith, at.number); is = slice_get-after own later at.place ∙ at.is }
 
     by_part : (Contains (list_from directed (k + length own) events v) l → IsRowAt (k + length own) v later l)
         → Contains (list_from directed (k + length own) events v) l ⊎ Contains (links_at v k own) l → IsRowAt k v (own ++ later) l
-    by_part rest (inl after) = behind (rest after)
-    by_part rest (inr here) = in_front (only_link k v own l here)
+    by_part rest (inl there) = in_later (rest there)
+    by_part rest (inr here) = in_own (only_link k v own l here)
 
 -- as many as start there
 once_from : (directed : Bool) (k : ℕ) (events : List Event) (v : ℕ) → length (list_from directed k events v) ≡ length (filter (λ r. r.start == v) (all_rows directed events))

@@ -11,18 +11,18 @@ slice_get-more [] ys k x is = absurd cc
 slice_get-more (a ∷ xs) ys zero x is = is
 slice_get-more (a ∷ xs) ys (suc k) x is = slice_get-more xs ys k x is
 
--- what stands in the front of a longer list
-pub slice_get-front : {X : Type 0} (xs ys : List X) (k : ℕ) → k < length xs → slice_get (xs ++ ys) k ≡ slice_get xs k
-slice_get-front [] ys k below = absurd (omega arith)
-slice_get-front (a ∷ xs) ys zero below = refl
-slice_get-front (a ∷ xs) ys (suc k) below = slice_get-front xs ys k (omega arith)
+-- what stands in a prefix of a list
+pub slice_get-prefix : {X : Type 0} (xs ys : List X) (k : ℕ) → k < length xs → slice_get (xs ++ ys) k ≡ slice_get xs k
+slice_get-prefix [] ys k below = absurd (omega arith)
+slice_get-prefix (a ∷ xs) ys zero below = refl
+slice_get-prefix (a ∷ xs) ys (suc k) below = slice_get-prefix xs ys k (omega arith)
 
--- what stands behind a list
-pub slice_get-behind : {X : Type 0} (xs ys : List X) (j : ℕ) → slice_get (xs ++ ys) (length xs + j) ≡ slice_get ys j
-slice_get-behind [] ys j = let place : 0 + j ≡ j = omega arith in ap (slice_get ys) place
-slice_get-behind (a ∷ xs) ys j =
+-- what stands after a list
+pub slice_get-after : {X : Type 0} (xs ys : List X) (j : ℕ) → slice_get (xs ++ ys) (length xs + j) ≡ slice_get ys j
+slice_get-after [] ys j = let place : 0 + j ≡ j = omega arith in ap (slice_get ys) place
+slice_get-after (a ∷ xs) ys j =
     let place : suc (length xs) + j ≡ suc (length xs + j) = omega arith in
-    ap (slice_get (a ∷ xs ++ ys)) place ∙ slice_get-behind xs ys j
+    ap (slice_get (a ∷ xs ++ ys)) place ∙ slice_get-after xs ys j
 
 -- the element that was changed
 pub slice_get-at_place_same : {X : Type 0} (f : X → X) (k : ℕ) (xs : List X) (x : X) → slice_get xs k ≡ Some x → slice_get (at_place f k xs) k ≡ Some (f x)

@@ -27,16 +27,16 @@ number_kept fields k u below here some =
     sym (set-get_or fields k u) ∙ (ap (set fields k) (sym here) ∙ rw some at (at_place-is_set number_or_zero k fields u below here))
 
 -- the first i elements mapped, the others as they were
-abbrev pub mapped_front : {X : Type 0} → (X → X) → ℕ → List X → List X
-mapped_front f i xs = map f (take i xs) ++ drop i xs
+abbrev pub mapped_prefix : {X : Type 0} → (X → X) → ℕ → List X → List X
+mapped_prefix f i xs = map f (take i xs) ++ drop i xs
 
 -- one more is mapped
-pub mapped_front-more : {X : Type 0} (f : X → X) (i : ℕ) (xs : List X) (d : X) → i < length xs → set (mapped_front f i xs) i (f (get_or (mapped_front f i xs) i d)) ≡ mapped_front f (i + 1) xs
-mapped_front-more f i [] d below = absurd (omega arith)
-mapped_front-more f zero (a ∷ xs) d below = refl
-mapped_front-more f (suc i) (a ∷ xs) d below =
+pub mapped_prefix-more : {X : Type 0} (f : X → X) (i : ℕ) (xs : List X) (d : X) → i < length xs → set (mapped_prefix f i xs) i (f (get_or (mapped_prefix f i xs) i d)) ≡ mapped_prefix f (i + 1) xs
+mapped_prefix-more f i [] d below = absurd (omega arith)
+mapped_prefix-more f zero (a ∷ xs) d below = refl
+mapped_prefix-more f (suc i) (a ∷ xs) d below =
     let next : suc i + 1 ≡ suc (i + 1) = omega arith in
-    rw next (ap (λ ys. f a ∷ ys) (mapped_front-more f i xs d (omega arith)))
+    rw next (ap (λ ys. f a ∷ ys) (mapped_prefix-more f i xs d (omega arith)))
 
 -- a field of kind I is a number
 number_of_kind : (n m : ℕ) (u : Util) → util_fits n m I u ≡ true → is_number u ≡ true
@@ -118,19 +118,19 @@ hold_then (a ∷ b ∷ c ∷ d ∷ e ∷ []) = record { x = refl; y = refl; z = 
 hold_then (a ∷ b ∷ c ∷ d ∷ e ∷ f ∷ kinds) = record { x = refl; y = refl; z = refl }
 
 -- so do the kinds of vertices
-hold_in_front : (kinds : List Kind) → HoldNumbers kinds → HoldNumbers (vertex_kinds kinds)
-hold_in_front [] h = record { x = refl; y = refl; z = refl }
-hold_in_front (a ∷ []) h = record { x = refl; y = refl; z = refl }
-hold_in_front (a ∷ b ∷ []) h = record { x = refl; y = refl; z = refl }
-hold_in_front (a ∷ b ∷ c ∷ []) h = record { x = refl; y = refl; z = refl }
-hold_in_front (a ∷ b ∷ c ∷ d ∷ []) h = record { x = h.x; y = refl; z = refl }
-hold_in_front (a ∷ b ∷ c ∷ d ∷ e ∷ []) h = record { x = h.x; y = h.y; z = refl }
-hold_in_front (a ∷ b ∷ c ∷ d ∷ e ∷ f ∷ kinds) h = record { x = ap (take 6) h.x; y = ap (take 6) h.y; z = ap (take 6) h.z }
+hold_in_six : (kinds : List Kind) → HoldNumbers kinds → HoldNumbers (vertex_kinds kinds)
+hold_in_six [] h = record { x = refl; y = refl; z = refl }
+hold_in_six (a ∷ []) h = record { x = refl; y = refl; z = refl }
+hold_in_six (a ∷ b ∷ []) h = record { x = refl; y = refl; z = refl }
+hold_in_six (a ∷ b ∷ c ∷ []) h = record { x = refl; y = refl; z = refl }
+hold_in_six (a ∷ b ∷ c ∷ d ∷ []) h = record { x = h.x; y = refl; z = refl }
+hold_in_six (a ∷ b ∷ c ∷ d ∷ e ∷ []) h = record { x = h.x; y = h.y; z = refl }
+hold_in_six (a ∷ b ∷ c ∷ d ∷ e ∷ f ∷ kinds) h = record { x = ap (take 6) h.x; y = ap (take 6) h.y; z = ap (take 6) h.z }
 
 -- where the fields hold integers, every vertex has its numbers
 pub numbers_stay : (g : GraphData) → IsKept g → HoldNumbers g.kinds → map with_some_numbers g.vertices ≡ g.vertices
 numbers_stay g kept hold =
-    map-stays (vertex_fits_in n m g.kinds) with_some_numbers g.vertices (λ x fits. stays x (and_parts (chain_fits m x.arcs) (utils_fit n m front x.util) fits).1) (parts_of g kept.graph).vertices
+    map-stays (vertex_fits_in n m g.kinds) with_some_numbers g.vertices (λ x fits. stays x (and_parts (chain_fits m x.arcs) (utils_fit n m six x.util) fits).1) (parts_of g kept.graph).vertices
   where
     n : ℕ
     n = length g.vertices
@@ -138,39 +138,39 @@ numbers_stay g kept hold =
     m : ℕ
     m = length g.records
 
-    front : List Kind
-    front = vertex_kinds g.kinds
+    six : List Kind
+    six = vertex_kinds g.kinds
 
-    at : HoldNumbers front
-    at = hold_in_front g.kinds hold
+    at : HoldNumbers six
+    at = hold_in_six g.kinds hold
 
-    stays : (x : Vertex) → utils_fit n m front x.util ≡ true → with_some_numbers x ≡ x
+    stays : (x : Vertex) → utils_fit n m six x.util ≡ true → with_some_numbers x ≡ x
     stays x fits =
-        let third = number_stays n m 3 front x.util fits at.x in
-        let fourth = number_stays n m 4 front x.util fits at.y in
-        let fifth = number_stays n m 5 front x.util fits at.z in
+        let third = number_stays n m 3 six x.util fits at.x in
+        let fourth = number_stays n m 4 six x.util fits at.y in
+        let fifth = number_stays n m 5 six x.util fits at.z in
         ap (λ us. record x { util = us })
         (ap (λ us. at_place number_or_zero 5 (at_place number_or_zero 4 us)) third ∙ (ap (at_place number_or_zero 5) fourth ∙ fifth))
 
 -- a vertex with numbers in its fields fits
 some_fit : (n m : ℕ) (kinds : List Kind) (x : Vertex) → vertex_fits_in n m kinds x ≡ true → vertex_fits_in n m (with_number_kinds kinds) (with_some_numbers x) ≡ true
 some_fit n m kinds x fits =
-    let front = vertex_kinds kinds in
-    let parts = and_parts (chain_fits m x.arcs) (utils_fit n m front x.util) fits in
-    let third = number_fits n m 3 front x.util parts.1 in
-    let fourth = number_fits n m 4 (set front 3 I) (at_place number_or_zero 3 x.util) third in
-    let fifth = number_fits n m 5 (set (set front 3 I) 4 I) (at_place number_or_zero 4 (at_place number_or_zero 3 x.util)) fourth in
+    let six = vertex_kinds kinds in
+    let parts = and_parts (chain_fits m x.arcs) (utils_fit n m six x.util) fits in
+    let third = number_fits n m 3 six x.util parts.1 in
+    let fourth = number_fits n m 4 (set six 3 I) (at_place number_or_zero 3 x.util) third in
+    let fifth = number_fits n m 5 (set (set six 3 I) 4 I) (at_place number_or_zero 4 (at_place number_or_zero 3 x.util)) fourth in
     and_from (chain_fits m x.arcs) (utils_fit n m (vertex_kinds (with_number_kinds kinds)) (with_some_numbers x).util) parts.0 (rw (split_kinds kinds).vertices fifth)
 
 -- and with other numbers too
 numbers_fit : (n m : ℕ) (kinds : List Kind) (x y z : ℤ) (v : Vertex) → HoldNumbers kinds → vertex_fits_in n m kinds v ≡ true → vertex_fits_in n m kinds (with_numbers x y z v) ≡ true
 numbers_fit n m kinds x y z v hold fits =
-    let front = vertex_kinds kinds in
-    let at = hold_in_front kinds hold in
-    let parts = and_parts (chain_fits m v.arcs) (utils_fit n m front v.util) fits in
-    let third = put_fits n m 3 x front v.util parts.1 at.x in
-    let fourth = put_fits n m 4 y front (set v.util 3 (Int x)) third at.y in
-    and_from (chain_fits m v.arcs) (utils_fit n m front (with_numbers x y z v).util) parts.0 (put_fits n m 5 z front (set (set v.util 3 (Int x)) 4 (Int y)) fourth at.z)
+    let six = vertex_kinds kinds in
+    let at = hold_in_six kinds hold in
+    let parts = and_parts (chain_fits m v.arcs) (utils_fit n m six v.util) fits in
+    let third = put_fits n m 3 x six v.util parts.1 at.x in
+    let fourth = put_fits n m 4 y six (set v.util 3 (Int x)) third at.y in
+    and_from (chain_fits m v.arcs) (utils_fit n m six (with_numbers x y z v).util) parts.0 (put_fits n m 5 z six (set (set v.util 3 (Int x)) 4 (Int y)) fourth at.z)
 
 -- the graph with these numbers is one
 pub ints_kept : (g : GraphData) (v : ℕ) (x y z : ℤ) → IsKept g → IsKept (with_ints g v x y z)

@@ -7,7 +7,7 @@ use lib.IntN.{nat_abs}
 use Rattle.std.proofs.lemmas.Bool.{cases_lt}
 use Rattle.std.proofs.lemmas.List.{ext_get_or}
 use Rattle.std.proofs.lemmas.List.FromFn.{get_or-map-range_with_len, length-map-range_with_len}
-use Rattle.sgb_graph.specs.Draws.{IsUniformDraw, StandsAt, bound_below, draw, modulus, seed_of, x_number}
+use Rattle.sgb_graph.specs.Draws.{IsUniformDraw, IsAtDraw, bound_below, draw, modulus, seed_of, x_number}
 use Rattle.sgb_graph.specs.Flips.{HandsOut, IsCycle, IsFirstCycle, IsNextCycle}
 use Rattle.sgb_graph.proofs.DrawLemmas.{first_number}
 use Rattle.sgb_graph.proofs.Cycles.{IsWindow, next_window}
@@ -23,13 +23,13 @@ from_values f many xs long at =
     (λ i inside. let below : i < many = omega arith in at i below ∙ sym (get_or-map-range_with_len f 1 many i (i + 1) 0 below (omega arith)))
 
 -- a generator that stands at draw k holds the numbers of a cycle
-pub stands_window : (start : ℤ) (k : ℕ) (numbers : List ℕ) (left : ℕ) → StandsAt start k numbers left → IsWindow (seed_of start) (55 * (5 + k / 55)) numbers
+pub stands_window : (start : ℤ) (k : ℕ) (numbers : List ℕ) (left : ℕ) → IsAtDraw start k numbers left → IsWindow (seed_of start) (55 * (5 + k / 55)) numbers
 stands_window start k numbers left stands = record {
   at = λ i inside. value_at (λ j. x_number (seed_of start) (55 * (5 + k / 55) + j)) 55 numbers i stands.cycle inside;
 }
 
 -- and one that holds them stands there
-pub window_stands : (start : ℤ) (k n : ℕ) (numbers : List ℕ) (left : ℕ) → IsCycle numbers → IsWindow (seed_of start) n numbers → n ≡ 55 * (5 + k / 55) → left ≡ 54 - k % 55 → StandsAt start k numbers left
+pub window_stands : (start : ℤ) (k n : ℕ) (numbers : List ℕ) (left : ℕ) → IsCycle numbers → IsWindow (seed_of start) n numbers → n ≡ 55 * (5 + k / 55) → left ≡ 54 - k % 55 → IsAtDraw start k numbers left
 window_stands start k n numbers left is window place still = record {
   cycle = from_values (λ j. x_number (seed_of start) (55 * (5 + k / 55) + j)) 55 numbers is.many
       (λ i inside. window.at i inside ∙ ap (λ p. x_number (seed_of start) (p + (i + 1))) place);
@@ -45,14 +45,14 @@ first_window seed numbers is = record {
 -- what was handed out is draw k, and the generator stands at the next one then
 pub record HandsOutDraw (start : ℤ) (k result : ℕ) (new : List ℕ) (left : ℕ) : Type 0 where
   pub value : result ≡ draw (seed_of start) k
-  pub stands : StandsAt start (k + 1) new left
+  pub stands : IsAtDraw start (k + 1) new left
 
 -- a number of the sequence by its place in the cycle
 placed : (seed n m p : ℕ) (numbers : List ℕ) (result : ℕ) → IsWindow seed n numbers → p < 55 → result ≡ get_or numbers p 0 → n + (p + 1) ≡ m → result ≡ x_number seed m
 placed seed n m p numbers result window inside is place = is ∙ (window.at p inside ∙ ap (λ q. x_number seed q) place)
 
 -- a generator that stands at a draw hands it out
-pub hands_out_draw : (start : ℤ) (k : ℕ) (old : List ℕ) (left result : ℕ) (new : List ℕ) (left_after : ℕ) → StandsAt start k old left → HandsOut old left result new left_after → HandsOutDraw start k result new left_after
+pub hands_out_draw : (start : ℤ) (k : ℕ) (old : List ℕ) (left result : ℕ) (new : List ℕ) (left_after : ℕ) → IsAtDraw start k old left → HandsOut old left result new left_after → HandsOutDraw start k result new left_after
 hands_out_draw start k old left result new left_after stands out = by_cases (cases_lt 0 left)
   where
     window : IsWindow (seed_of start) (55 * (5 + k / 55)) old
@@ -111,7 +111,7 @@ cycle_from_next seed j old new is next =
     record { cycle = next.cycle; window = subst (λ n. IsWindow seed n new) place (next_window seed (55 * j) old new is.window next) }
 
 -- after five of them a generator stands at draw 0
-pub starts : (start : ℤ) (numbers : List ℕ) → IsCycleFrom (seed_of start) (55 * 5) numbers → StandsAt start 0 numbers 54
+pub starts : (start : ℤ) (numbers : List ℕ) → IsCycleFrom (seed_of start) (55 * 5) numbers → IsAtDraw start 0 numbers 54
 starts start numbers is = window_stands start 0 (55 * 5) numbers 54 is.cycle is.window (omega arith) (omega arith)
 
 -- the draws from k on were thrown away, and the generator stands at the next one
@@ -119,10 +119,10 @@ pub record HasThrownAway (start : ℤ) (m k : ℕ) (numbers : List ℕ) (left : 
   pub next : ℕ
   pub from_place : k ≤ next
   pub thrown_away : (t : ℕ) → k ≤ t → t < next → bound_below m ≤ draw (seed_of start) t
-  pub stands : StandsAt start next numbers left
+  pub stands : IsAtDraw start next numbers left
 
 -- none yet
-pub thrown_none : (start : ℤ) (m k : ℕ) (numbers : List ℕ) (left : ℕ) → StandsAt start k numbers left → HasThrownAway start m k numbers left
+pub thrown_none : (start : ℤ) (m k : ℕ) (numbers : List ℕ) (left : ℕ) → IsAtDraw start k numbers left → HasThrownAway start m k numbers left
 thrown_none start m k numbers left stands = record { next = k; from_place = omega arith; thrown_away = λ t low high. absurd (omega arith); stands = stands }
 
 -- one more
@@ -143,9 +143,9 @@ thrown_more start m k old left result new left_after has out above =
         let same : has.next ≡ t = omega arith in
         subst (λ i. bound_below m ≤ draw (seed_of start) i) same here
 
--- the uniform draw, and that the generator stands behind the draw that it is made of
+-- the uniform draw, and that the generator stands after the draw that it is made of
 pub uniform_taken : (start : ℤ) (m k : ℕ) (old : List ℕ) (left result : ℕ) (new : List ℕ) (left_after : ℕ) → HasThrownAway start m k old left → HandsOut old left result new left_after → result < bound_below m
-    → (last : ℕ) × IsUniformDraw (seed_of start) m k (result % m) last × StandsAt start (last + 1) new left_after
+    → (last : ℕ) × IsUniformDraw (seed_of start) m k (result % m) last × IsAtDraw start (last + 1) new left_after
 uniform_taken start m k old left result new left_after has out below =
     let drawn = hands_out_draw start has.next old left result new left_after has.stands out in
     let here : draw (seed_of start) has.next < bound_below m = subst (λ x. x < bound_below m) drawn.value below in

@@ -29,7 +29,7 @@ pub record IsGraphOf (d : Description) (g : GraphData) : Type 0 where
   pub arcs : HasArcsOf d.directed d.events g
   pub arc_fields : All HasNoFields g.records
 
--- the answer is the graph that is described, or the stated refusal; or want of memory
+-- the result is the graph that is described, or the stated refusal; or it is out of memory
 abbrev pub IsAnswerOf : Result Description Panic → Result GraphData Panic → Type 0
 IsAnswerOf (Ok d) (Ok g) = IsGraphOf d g
 IsAnswerOf (Ok d) (Err e) = e ≡ NoRoom

@@ -52,13 +52,13 @@ draw seed t = x_number seed (55 * (5 + (t + 1) / 55) + 55 - (t + 1) % 55)
 abbrev pub bound_below : ℕ → ℕ
 bound_below m = modulus - modulus % m
 
--- the uniform draw below m from draw k on is this answer, and `last` is the number of the draw that it is
+-- the uniform draw below m from draw k on is this number, and `last` is the number of the draw that it is
 -- made of: the first one from k on that is not thrown away
-pub record IsUniformDraw (seed m k answer last : ℕ) : Type 0 where
+pub record IsUniformDraw (seed m k number last : ℕ) : Type 0 where
   pub from_place : k ≤ last
   pub taken : draw seed last < bound_below m
   pub thrown_away : (t : ℕ) → k ≤ t → t < last → bound_below m ≤ draw seed t
-  pub value : answer ≡ draw seed last % m
+  pub value : number ≡ draw seed last % m
 
 -- the number of the first of so many draws from k on that a uniform draw below m does not throw away
 abbrev pub first_taken : ℕ → ℕ → ℕ → ℕ → Option ℕ
@@ -70,6 +70,6 @@ uniform_within seed m k many = option_map (λ t. draw seed t % m) (first_taken s
 
 -- a generator that was started from this value stands at draw k: it holds a whole cycle of numbers,
 -- X(55 c + 1) to X(55 c + 55) where c is 5 + k / 55, and so many of them are still to come
-pub record StandsAt (start : ℤ) (k : ℕ) (numbers : List ℕ) (left : ℕ) : Type 0 where
+pub record IsAtDraw (start : ℤ) (k : ℕ) (numbers : List ℕ) (left : ℕ) : Type 0 where
   pub cycle : numbers ≡ map (λ i. x_number (seed_of start) (55 * (5 + k / 55) + i)) (range_with_len 1 55)
   pub still : left ≡ 54 - k % 55

@@ -38,7 +38,7 @@ abbrev pub first_number : List Link → Option ℕ
 first_number [] = None
 first_number (l ∷ links) = Some l.number
 
--- the number of the arc that stands behind arc k in a list
+-- the number of the arc that stands after arc k in a list
 abbrev pub number_after : ℕ → List Link → Option ℕ
 number_after k [] = None
 number_after k (l ∷ links) = if l.number == k then first_number links else number_after k links
@@ -57,8 +57,8 @@ vertices_of d =
     map (λ p. vertex_with p.1.0 p.1.1 (list_of d.directed d.events p.0)) (enumerate_from 0 (zip d.names d.fields))
 
 -- the records of the events, each in the list of the vertex where it starts
-abbrev pub records_of : Bool → List Event → List ArcRec
-records_of directed events =
+abbrev pub records_of_events : Bool → List Event → List ArcRec
+records_of_events directed events =
     map (λ p. record_in (list_of directed events p.1.start) p.0 p.1) (enumerate_from 0 (all_rows directed events))
 
 -- the graph that is described
@@ -69,7 +69,7 @@ graph_described d = record {
   kinds = d.kinds;
   util = d.util;
   vertices = vertices_of d;
-  records = records_of d.directed d.events;
+  records = records_of_events d.directed d.events;
 }
 
 -- the graph of these events, on vertices of these names, with this id; it uses no utility field

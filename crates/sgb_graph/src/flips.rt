@@ -1,6 +1,6 @@
 //! The random number generator of GB_FLIP.
 ghost use Rattle.std.specs.Prelude.{◌≡◌, ℕ, ℤ, ◌+◌, ◌%◌, ◌<◌, ◌≤◌};
-ghost use Rattle.sgb_graph.specs.Draws.{IsUniformDraw, StandsAt, difference, draw, modulus, seed_of};
+ghost use Rattle.sgb_graph.specs.Draws.{IsUniformDraw, IsAtDraw, difference, draw, modulus, seed_of};
 ghost use Rattle.sgb_graph.specs.Flips.{HandsOut, IsCycle, IsFirstCycle, IsNextCycle, rotated_once};
 
 use std::marker::Model;
@@ -35,7 +35,7 @@ impl Model for Flip {
 impl Flip {
     /// A generator started from this value, which counts modulo 2^31 (GB_FLIP, gb_init_rand).
     pub fn new(start: i64) -> Flip
-        ensures { StandsAt start 0 result.numbers result.left }
+        ensures { IsAtDraw start 0 result.numbers result.left }
     {
         let mut numbers = first_cycle(seed_of(start));
         for _thrown in 0..THROWN_AWAY {
@@ -49,21 +49,21 @@ impl Flip {
 
     /// The next number, from 0 to 2^31 - 1 (GB_FLIP, gb_next_rand).
     pub fn draw(&mut self) -> u32
-        ensures stands { (start : ℤ) (k : ℕ) → StandsAt start k self.old.numbers self.old.left
-            → (result ≡ draw (seed_of start) k) × StandsAt start (k + 1) self.new.numbers self.new.left }
+        ensures stands { (start : ℤ) (k : ℕ) → IsAtDraw start k self.old.numbers self.old.left
+            → (result ≡ draw (seed_of start) k) × IsAtDraw start (k + 1) self.new.numbers self.new.left }
         ensures below { result < modulus }
     {
         hand_out(&mut self.numbers, &mut self.left)
     }
 
-    /// A uniform number below `m`, which has to be from 1 to 2^31 (GB_FLIP, gb_unif_rand): draws are thrown
+    /// A uniform number below `m`, for `m` from 1 to 2^31 (GB_FLIP, gb_unif_rand): draws are thrown
     /// away until one is below the greatest multiple of `m` up to 2^31.
     pub fn below(&mut self, m: u32) -> u32
         requires positive { 1 ≤ m }
         requires small { m ≤ modulus }
-        ensures stands { (start : ℤ) (k : ℕ) → StandsAt start k self.old.numbers self.old.left
+        ensures stands { (start : ℤ) (k : ℕ) → IsAtDraw start k self.old.numbers self.old.left
             → (last : ℕ) × IsUniformDraw (seed_of start) m k result last
-            × StandsAt start (last + 1) self.new.numbers self.new.left }
+            × IsAtDraw start (last + 1) self.new.numbers self.new.left }
         ensures below { result < m }
     {
         let bound = MODULUS - MODULUS % m;

@@ -44,7 +44,7 @@ impl Graph {
     /// The graph of these names that has no arcs and uses no utility fields; its id is `gb_new_graph(n)`
     /// (GB_GRAPH, gb_new_graph).
     ///
-    /// `VeryBad` above 1,000,000,000 names, `NoRoom` where memory is refused. The names are gone after a
+    /// `VeryBad` above 1,000,000,000 names, `NoRoom` when out of memory. The names are gone after a
     /// refusal too.
     pub fn new(alloc: Global, names: Names) -> Result<Graph, Panic>
         ensures ok { IfOk result (λ g. g ≡ new_graph names) }
@@ -95,7 +95,7 @@ impl Graph {
         self.id = id;
     }
 
-    /// The name of vertex `v`, which has to be one.
+    /// The name of vertex `v < n`.
     pub fn name(&self, v: u32) -> &Text
         requires { v < length self.now.vertices }
         ensures { slice_get (map (λ x. x.name) self.now.vertices) v ≡ Some result.now }
@@ -110,7 +110,7 @@ impl Graph {
         &self.kinds
     }
 
-    /// Vertex `v`, which has to be one.
+    /// Vertex `v < n`.
     pub fn vertex(&self, v: u32) -> &Vertex
         requires { v < length self.now.vertices }
         ensures { slice_get self.now.vertices v ≡ Some result.now }
@@ -125,7 +125,7 @@ impl Graph {
         self.records.len()
     }
 
-    /// Record number `k`, which has to be one.
+    /// Arc record `k`, below `records_len()`.
     pub fn arc_rec(&self, k: usize) -> &ArcRec
         requires { k < length self.now.records }
         ensures { slice_get self.now.records k ≡ Some result.now }

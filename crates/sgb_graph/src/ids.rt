@@ -1,7 +1,6 @@
 ghost use Rattle.std.specs.Prelude.{◌≡◌, ◌≤◌, ◌+◌, ◌*◌, [], ◌++◌, ◌↔◌, length, IsTrue, IfOk, IsErrOf, IsOkUnless};
 ghost use Rattle.std.specs.Fmt.{signed_decimal};
-ghost use Rattle.sgb_vec.specs.Names.{IsTextByte};
-ghost use Rattle.sgb_graph.specs.IdTexts.{flag_text, is_id_text, numbers_text};
+ghost use Rattle.sgb_graph.specs.IdTexts.{flag_text, hexadecimal_text, is_id_text, numbers_text};
 ghost use Rattle.sgb_graph.specs.Ids.{most_id_bytes, IsId};
 
 mod compounds;
@@ -9,8 +8,9 @@ mod hexadecimals;
 
 use arrayvec::ArrayVec;
 pub use compounds::{compound_id, double_compound_id};
+use hexadecimals::{MOST_HEXADECIMAL_DIGITS, put_hexadecimal_digits};
 use itoa::Buffer;
-use sgb_vec::Panic;
+use sgb_vec::{Panic, is_text_byte};
 use std::marker::Model;
 
 // An id has at most this many bytes.
@@ -44,7 +44,7 @@ impl Id {
         ensures refused { IsErrOf result Panic.Syntax ↔ ¬ IsId bytes.now }
         ensures err { IsOkUnless result Panic.Syntax }
     {
-        if !bytes.iter().all(|byte| is_id_byte(*byte)) {
+        if !bytes.iter().all(|byte| is_text_byte(*byte)) {
             return Err(Panic::Syntax);
         }
         let mut id = ArrayVec::new();
@@ -91,7 +91,7 @@ impl IdWriter {
         }
     }
 
-    /// Puts a text behind the bytes so far; it has to have room, and bytes that an id may have.
+    /// Appends a text; it has to have room, and bytes that an id may have.
     pub fn push_text(&mut self, text: &[u8])
         requires room { length self.old + length text.now ≤ most_id_bytes }
         requires text { IsTrue (is_id_text text.now) }
@@ -100,7 +100,7 @@ impl IdWriter {
         let _written = self.bytes.try_extend_from_slice(text);
     }
 
-    /// Puts a number in decimal behind the bytes so far; it takes at most 20 of them.
+    /// Appends a number in decimal, at most 20 bytes.
     pub fn push_number(&mut self, number: i64)
         requires { length self.old + 20 ≤ most_id_bytes }
         ensures bytes { self.new ≡ self.old ++ signed_decimal number }
@@ -112,7 +112,7 @@ impl IdWriter {
             .try_extend_from_slice(digits.format(number).as_bytes());
     }
 
-    /// Puts numbers in decimal after the bytes so far, each with a comma after it; they take at most 21 of them each.
+    /// Appends numbers in decimal, each with a comma after it: at most 21 bytes each.
     pub fn push_numbers(&mut self, numbers: &[i64])
         requires { length self.old + 21 * length numbers.now ≤ most_id_bytes }
         ensures bytes { self.new ≡ self.old ++ numbers_text numbers.now }
@@ -124,7 +124,7 @@ impl IdWriter {
         }
     }
 
-    /// Puts a flag after the bytes so far: 1 or 0.
+    /// Appends a flag: 1 or 0.
     pub fn push_flag(&mut self, flag: bool)
         requires { length self.old + 1 ≤ most_id_bytes }
         ensures { self.new ≡ self.old ++ flag_text flag }
@@ -136,6 +136,18 @@ impl IdWriter {
         }
     }
 
+    /// Appends a number in hexadecimal, at most 18 bytes: `0x`, and its digits in lower case with no leading zeros.
+    pub fn push_hexadecimal(&mut self, number: u64)
+        requires { length self.old + 18 ≤ most_id_bytes }
+        ensures bytes { self.new ≡ self.old ++ hexadecimal_text number }
+        ensures short { length self.new ≤ length self.old + 18 }
+    {
+        let mut text = [b'0'; MOST_HEXADECIMAL_DIGITS];
+        let start = put_hexadecimal_digits(&mut text, number);
+        self.push_text(b"0x");
+        self.push_text(&text[start..]);
+    }
+
     /// The id of these bytes.
     pub fn id(self) -> Id
         ensures { result ≡ self }
@@ -143,13 +155,6 @@ impl IdWriter {
         let IdWriter { bytes } = self;
         Id { bytes }
     }
-}
-
-// Whether the byte may stand in an id.
-fn is_id_byte(byte: u8) -> bool
-    ensures { IsTrue result ↔ IsTextByte byte }
-{
-    b' ' <= byte && byte <= b'~' && byte != b'"' && byte != b'\\'
 }
 
 #[cfg(test)]

@@ -9,7 +9,7 @@ ghost use Rattle.sgb_graph.specs.Draws.{IsUniformDraw, difference, draw, first_t
 
 /// The random numbers by their rules (GB_FLIP, gb_init_rand and gb_flip_cycle): number 55 is the seed,
 /// number 21k mod 55 is Y(k), and each later number is the 55th before it less the 24th before it.
-pub fn numbers_law()
+pub fn random_numbers_law()
     ensures seed { (seed : ℕ) → x_number seed 55 ≡ y_number seed 0 }
     ensures first { (seed k : ℕ) → 1 ≤ k → k ≤ 54 → x_number seed (21 * k % 55) ≡ y_number seed k }
     ensures later { (seed n : ℕ) → 55 < n → x_number seed n ≡ difference (x_number seed (n - 55)) (x_number seed (n - 24)) }

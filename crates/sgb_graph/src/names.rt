@@ -28,9 +28,9 @@ impl Names {
         }
     }
 
-    /// Puts one more name behind the others.
+    /// Appends a name.
     ///
-    /// An error is want of memory: it hands the name back, and the names stay as they were.
+    /// An error means out of memory: it hands the name back, and the names stay as they were.
     pub fn push(&mut self, name: Text) -> Result<(), Text>
         ensures ok { OnOk result (self.new ≡ self.old ++ name ∷ []) }
         ensures err { OnErr result (self.new ≡ self.old) }

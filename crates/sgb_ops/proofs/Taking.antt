@@ -10,7 +10,7 @@ use Rattle.sgb_ops.specs.Taken.{is_loop_with, each_edge_once}
 abbrev leads_up : ℕ → Link → Type 0
 leads_up v l = v ≤ l.tip
 
--- both ways of going on behind an arc
+-- both ways of going on after an arc
 either_way : (v : ℕ) (b : Bool) (xs ys : List Link) → All (leads_up v) xs → All (leads_up v) ys → All (leads_up v) (cond b xs ys)
 either_way v true xs ys p q = p
 either_way v false xs ys p q = q

@@ -10,7 +10,8 @@ use Rattle.sgb_graph.specs.declared.fields.Kind.TheVariants.{Z, I}
 use Rattle.sgb_graph.specs.declared.fields.Util.{Util}
 use Rattle.sgb_graph.specs.declared.fields.Util.TheVariants.{Nothing, Int}
 use Rattle.sgb_graph.specs.Descriptions.{Description}
-use Rattle.sgb_ops.specs.Titles.{flag, closing}
+use Rattle.sgb_graph.specs.IdTexts.{flag_text}
+use Rattle.sgb_ops.specs.Titles.{closing}
 use Rattle.sgb_ops.specs.Entries.{Entry, Copies}
 use Rattle.sgb_ops.specs.Induced.{induced_of}
 use Rattle.sgb_gen.specs.Boards.{board}
@@ -28,7 +29,7 @@ uu_field n = Int n ∷ replicate 5 Nothing
 -- the id of a complete bipartite graph
 abbrev pub bi_complete_id : ℤ → ℤ → Bool → List ℕ
 bi_complete_id n1 n2 directed =
-    codes "bi_complete(" ++ signed_decimal n1 ++ closing (signed_decimal n2 ∷ flag directed ∷ [])
+    codes "bi_complete(" ++ signed_decimal n1 ++ closing (signed_decimal n2 ∷ flag_text directed ∷ [])
 
 -- the entries of these numbers of copies, or why they are refused: one is negative; then one, or both
 -- together, are too many vertices

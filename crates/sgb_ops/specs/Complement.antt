@@ -9,7 +9,8 @@ use Rattle.sgb_graph.specs.Ids.{compound_id}
 use Rattle.sgb_graph.specs.Descriptions.{Description}
 use Rattle.sgb_graph.specs.Made.{plain}
 use Rattle.sgb_ops.specs.Operands.{places_of, names_of}
-use Rattle.sgb_ops.specs.Titles.{flag, closing}
+use Rattle.sgb_graph.specs.IdTexts.{flag_text}
+use Rattle.sgb_ops.specs.Titles.{closing}
 
 -- u's list has an arc to w
 abbrev pub has_arc : GraphData → ℕ → ℕ → Bool
@@ -29,7 +30,7 @@ complement_events g copy self directed =
 -- the id of a complement
 abbrev pub complement_id : List ℕ → Bool → Bool → Bool → List ℕ
 complement_id id copy self directed =
-    compound_id (codes "complement(") id (closing (flag copy ∷ flag self ∷ flag directed ∷ []))
+    compound_id (codes "complement(") id (closing (flag_text copy ∷ flag_text self ∷ flag_text directed ∷ []))
 
 -- complement(g, copy, self, directed): it is never refused
 abbrev pub complement_of : GraphData → Bool → Bool → Bool → Result Description Panic

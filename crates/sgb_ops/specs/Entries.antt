@@ -15,12 +15,12 @@ use Rattle.sgb_ops.specs.Titles.{primed_name, numbered_name, substituted_name}
 -- an entry: so many copies of the vertex, or a graph in its place
 pub data Entry : Type 0 where
   Copies : ℕ → Entry
-  Graph : GraphData → Entry
+  Substitute : GraphData → Entry
 
 -- how many vertices stand in the place of a vertex with this entry
 abbrev pub size_of_entry : Entry → ℕ
 size_of_entry (Copies k) = k
-size_of_entry (Graph inner) = order_of inner
+size_of_entry (Substitute inner) = order_of inner
 
 -- how many vertices the result has in all
 abbrev pub total_of : List Entry → ℕ
@@ -29,7 +29,7 @@ total_of entries = sum_by size_of_entry entries
 -- the entry is a number above the number of vertices that a graph can have
 abbrev pub is_too_great : Entry → Bool
 is_too_great (Copies k) = nat_lt most_vertices k
-is_too_great (Graph inner) = false
+is_too_great (Substitute inner) = false
 
 -- the entries for a graph with n vertices, or why they are refused: not one for each vertex; then a number
 -- that is too great, or too many vertices in all
@@ -53,7 +53,7 @@ names_of_copies text (Copies zero) = []
 names_of_copies text (Copies (suc zero)) = text ∷ []
 names_of_copies text (Copies (suc (suc zero))) = text ∷ primed_name text ∷ []
 names_of_copies text (Copies (suc (suc (suc k)))) = map (numbered_name text) (range_with_len 0 (suc (suc (suc k))))
-names_of_copies text (Graph inner) = map (substituted_name text) (names_of inner)
+names_of_copies text (Substitute inner) = map (substituted_name text) (names_of inner)
 
 -- the names of all vertices of the result
 abbrev pub names_by_entries : List (List ℕ) → List Entry → List (List ℕ)
@@ -62,7 +62,7 @@ names_by_entries names entries = flat_map (λ p. names_of_copies p.0 p.1) (zip n
 -- the events inside an entry whose first vertex is the one given
 abbrev pub inner_events : Bool → ℕ → Entry → List Event
 inner_events directed start (Copies k) = []
-inner_events directed start (Graph inner) =
+inner_events directed start (Substitute inner) =
     flat_map (λ w. map (λ b. record { from = start + w; to = start + b.tip; len = b.len }) (taken directed inner w)) (places_of inner)
 
 -- the events inside the graphs that stand in the places of vertices

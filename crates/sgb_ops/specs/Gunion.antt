@@ -10,7 +10,8 @@ use Rattle.sgb_graph.specs.Made.{plain}
 use Rattle.sgb_ops.specs.Operands.{order_of, places_of, names_of}
 use Rattle.sgb_ops.specs.Taken.{taken}
 use Rattle.sgb_ops.specs.Merged.{merged_unless}
-use Rattle.sgb_ops.specs.Titles.{flag, closing}
+use Rattle.sgb_graph.specs.IdTexts.{flag_text}
+use Rattle.sgb_ops.specs.Titles.{closing}
 
 -- the arcs taken of v in g, then those taken of v in h, if it has that vertex, whose tip is a vertex of g
 abbrev pub union_arcs : GraphData → GraphData → Bool → ℕ → List Link
@@ -25,7 +26,7 @@ union_events g h directed =
 -- the id of a union
 abbrev pub gunion_id : List ℕ → List ℕ → Bool → Bool → List ℕ
 gunion_id id1 id2 multi directed =
-    double_compound_id (codes "gunion(") id1 (codes ",") id2 (closing (flag multi ∷ flag directed ∷ []))
+    double_compound_id (codes "gunion(") id1 (codes ",") id2 (closing (flag_text multi ∷ flag_text directed ∷ []))
 
 -- gunion(g, h, multi, directed): it is never refused
 abbrev pub gunion_of : GraphData → GraphData → Bool → Bool → Result Description Panic

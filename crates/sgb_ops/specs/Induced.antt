@@ -10,7 +10,8 @@ use Rattle.sgb_graph.specs.Made.{plain}
 use Rattle.sgb_ops.specs.Operands.{order_of, places_of, names_of}
 use Rattle.sgb_ops.specs.Taken.{taken}
 use Rattle.sgb_ops.specs.Merged.{merged_unless}
-use Rattle.sgb_ops.specs.Titles.{flag, closing}
+use Rattle.sgb_graph.specs.IdTexts.{flag_text}
+use Rattle.sgb_ops.specs.Titles.{closing}
 use Rattle.sgb_ops.specs.Entries.{Entry, accepted_entries, copies_of, names_by_entries, events_within}
 
 -- the copies of the tip that copy u of v is joined to for an arc from v: all of them; but of a loop of an
@@ -33,7 +34,7 @@ induced_events g entries self multi directed =
 -- the id of an induced graph; the description in it is empty
 abbrev pub induced_id : List ℕ → Bool → Bool → Bool → List ℕ
 induced_id id self multi directed =
-    compound_id (codes "induced(") id (closing ([] ∷ flag self ∷ flag multi ∷ flag directed ∷ []))
+    compound_id (codes "induced(") id (closing ([] ∷ flag_text self ∷ flag_text multi ∷ flag_text directed ∷ []))
 
 -- the graph of entries that are not refused
 abbrev pub induced_graph : GraphData → List Entry → Bool → Bool → Bool → Description

@@ -12,7 +12,8 @@ use Rattle.sgb_graph.specs.Made.{plain}
 use Rattle.sgb_ops.specs.Lengths.{greater, least_of}
 use Rattle.sgb_ops.specs.Operands.{order_of, names_of}
 use Rattle.sgb_ops.specs.Taken.{taken}
-use Rattle.sgb_ops.specs.Titles.{flag, closing}
+use Rattle.sgb_graph.specs.IdTexts.{flag_text}
+use Rattle.sgb_ops.specs.Titles.{closing}
 
 -- how many of the arcs lead to u
 abbrev pub count_to : ℕ → List Link → ℕ
@@ -54,7 +55,7 @@ intersection_events g h multi directed =
 -- the id of an intersection
 abbrev pub intersection_id : List ℕ → List ℕ → Bool → Bool → List ℕ
 intersection_id id1 id2 multi directed =
-    double_compound_id (codes "intersection(") id1 (codes ",") id2 (closing (flag multi ∷ flag directed ∷ []))
+    double_compound_id (codes "intersection(") id1 (codes ",") id2 (closing (flag_text multi ∷ flag_text directed ∷ []))
 
 -- intersection(g, h, multi, directed): it is never refused
 abbrev pub intersection_of : GraphData → GraphData → Bool → Bool → Result Description Panic

@@ -15,7 +15,8 @@ use Rattle.sgb_graph.specs.Descriptions.{Description}
 use Rattle.sgb_graph.specs.Made.{plain}
 use Rattle.sgb_ops.specs.Operands.{places_of, name_at}
 use Rattle.sgb_ops.specs.Taken.{taken}
-use Rattle.sgb_ops.specs.Titles.{flag, closing, line_name}
+use Rattle.sgb_graph.specs.IdTexts.{flag_text}
+use Rattle.sgb_ops.specs.Titles.{closing, line_name}
 
 -- an arc or edge as a vertex of the line graph: its two ends, and the number of the record taken
 pub record Line : Type 0 where
@@ -24,19 +25,19 @@ pub record Line : Type 0 where
   pub number : ℕ
 
 -- the lines: the arcs taken of each vertex, from the last vertex down to the first
-abbrev pub lines_of : GraphData → Bool → List Line
-lines_of g directed =
+abbrev pub lines_of_graph : GraphData → Bool → List Line
+lines_of_graph g directed =
     flat_map (λ v. map (λ l. record { from = v; to = l.tip; number = l.number }) (taken directed g v)) (reverse (places_of g))
 
 -- the tip is vertex v
-abbrev pub is_vertex : Ref → ℕ → Bool
-is_vertex Null v = false
-is_vertex One v = false
-is_vertex (At w) v = w == v
+abbrev pub points_to : Ref → ℕ → Bool
+points_to Null v = false
+points_to One v = false
+points_to (At w) v = w == v
 
 -- the record with the next number is there, and leads back to where the line begins
 abbrev pub has_way_back : GraphData → Line → Bool
-has_way_back g line = option_map_or (λ r. is_vertex r.tip line.from) (slice_get g.records (line.number + 1)) false
+has_way_back g line = option_map_or (λ r. points_to r.tip line.from) (slice_get g.records (line.number + 1)) false
 
 -- every line is an edge with its two records, and the lines number half of the graph's arcs, rounded down
 abbrev pub is_of_edges : GraphData → List Line → Bool
@@ -70,9 +71,9 @@ names_of_lines g directed lines = map (λ line. line_name directed (name_at g li
 
 -- the id of a line graph
 abbrev pub lines_id : List ℕ → Bool → List ℕ
-lines_id id directed = compound_id (codes "lines(") id (closing (flag directed ∷ []))
+lines_id id directed = compound_id (codes "lines(") id (closing (flag_text directed ∷ []))
 
 -- lines(g, directed)
 abbrev pub line_graph_of : GraphData → Bool → Result Description Panic
-line_graph_of g directed = and_then (accepted_lines g directed (lines_of g directed)) (λ lines.
+line_graph_of g directed = and_then (accepted_lines g directed (lines_of_graph g directed)) (λ lines.
     Ok (plain directed (line_events directed lines) (names_of_lines g directed lines) (lines_id g.id directed)))

@@ -1,7 +1,6 @@
 -- The products of two graphs, on the pairs of their vertices [GB_BASIC, product].
 use Rattle.std.specs.Prelude.{ℕ, ℤ, ◌+◌, ◌*◌, ◌%◌, ◌==◌, Bool, List, [], ◌∷◌, ◌++◌, map, flat_map, codes, decimal, nat_lt, unsigned_abs, if◌then◌else◌, Result, Ok, Err}
 use Rattle.sgb_vec.specs.Limits.{most_vertices}
-use Rattle.sgb_vec.specs.Results.{and_then}
 use Rattle.sgb_vec.specs.declared.panics.Panic.{Panic}
 use Rattle.sgb_vec.specs.declared.panics.Panic.TheVariants.{VeryBad}
 use Rattle.sgb_graph.specs.Graphs.{GraphData, chain_of}
@@ -12,7 +11,8 @@ use Rattle.sgb_graph.specs.Made.{plain}
 use Rattle.sgb_ops.specs.Lengths.{lesser}
 use Rattle.sgb_ops.specs.Operands.{order_of, places_of, names_of}
 use Rattle.sgb_ops.specs.Taken.{taken}
-use Rattle.sgb_ops.specs.Titles.{flag, closing, pair_name}
+use Rattle.sgb_graph.specs.IdTexts.{flag_text}
+use Rattle.sgb_ops.specs.Titles.{closing, pair_name}
 
 -- the three products
 pub data ProductType : Type 0 where
@@ -65,14 +65,14 @@ product_events Strong g h directed = second_steps g h directed ++ first_steps g 
 abbrev pub names_of_pairs : GraphData → GraphData → List (List ℕ)
 names_of_pairs g h = flat_map (λ a. map (λ b. pair_name a b) (names_of h)) (names_of g)
 
--- how many pairs the vertices of graphs with n and h of them make, or the refusal of too many
-abbrev pub accepted_order : ℕ → ℕ → Result ℕ Panic
-accepted_order n h = if nat_lt most_vertices (n * h) then Err VeryBad else Ok (n * h)
+-- the vertices of graphs with n and h of them make more pairs than a graph can have vertices
+abbrev pub has_too_many_pairs : ℕ → ℕ → Bool
+has_too_many_pairs n h = nat_lt most_vertices (n * h)
 
 -- the id of a product
 abbrev pub product_id : List ℕ → List ℕ → ProductType → Bool → List ℕ
 product_id id1 id2 t directed =
-    double_compound_id (codes "product(") id1 (codes ",") id2 (closing (decimal (type_number t) ∷ flag directed ∷ []))
+    double_compound_id (codes "product(") id1 (codes ",") id2 (closing (decimal (type_number t) ∷ flag_text directed ∷ []))
 
 -- the product of that type
 abbrev pub product_graph : ProductType → GraphData → GraphData → Bool → Description
@@ -82,4 +82,4 @@ product_graph t g h directed =
 -- product(g, h, kind, directed)
 abbrev pub product_graph_of : GraphData → GraphData → ℤ → Bool → Result Description Panic
 product_graph_of g h kind directed =
-    and_then (accepted_order (order_of g) (order_of h)) (λ pairs. Ok (product_graph (product_type kind) g h directed))
+    if has_too_many_pairs (order_of g) (order_of h) then Err VeryBad else Ok (product_graph (product_type kind) g h directed)

@@ -2,11 +2,6 @@
 -- most 4,095 bytes, so a part that would not fit is cut.
 use Rattle.std.specs.Prelude.{ℕ, Bool, true, false, List, ◌++◌, ◌∷◌, flat_map, take, decimal, codes}
 
--- a flag in an id
-abbrev pub flag : Bool → List ℕ
-flag true = codes "1"
-flag false = codes "0"
-
 -- the end of an id: each parameter with a comma in front (44), and the bracket
 abbrev pub closing : List (List ℕ) → List ℕ
 closing parameters = flat_map (λ text. 44 ∷ text) parameters ++ codes ")"

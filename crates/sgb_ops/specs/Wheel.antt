@@ -6,8 +6,9 @@ use Rattle.sgb_vec.specs.Results.{and_then}
 use Rattle.sgb_vec.specs.declared.panics.Panic.{Panic}
 use Rattle.sgb_vec.specs.declared.panics.Panic.TheVariants.{Bad, VeryBad}
 use Rattle.sgb_graph.specs.Descriptions.{Description}
-use Rattle.sgb_ops.specs.Titles.{flag, closing}
-use Rattle.sgb_ops.specs.Entries.{Entry, Copies, Graph}
+use Rattle.sgb_graph.specs.IdTexts.{flag_text}
+use Rattle.sgb_ops.specs.Titles.{closing}
+use Rattle.sgb_ops.specs.Entries.{Entry, Copies, Substitute}
 use Rattle.sgb_ops.specs.Induced.{induced_of}
 use Rattle.sgb_gen.specs.Boards.{board}
 use Rattle.sgb_graph.specs.Made.{graph_described}
@@ -16,7 +17,7 @@ use Rattle.sgb_ops.specs.Boards.{pair_of_vertices, rim_of_wheel}
 -- the id of a wheel
 abbrev pub wheel_id : ℤ → ℤ → Bool → List ℕ
 wheel_id n n1 directed =
-    codes "wheel(" ++ signed_decimal n ++ closing (signed_decimal n1 ∷ flag directed ∷ [])
+    codes "wheel(" ++ signed_decimal n ++ closing (signed_decimal n1 ∷ flag_text directed ∷ [])
 
 -- the entry of that many vertices in the middle, or why they are refused: a negative number; then too many
 abbrev pub accepted_middle : ℤ → Result Entry Panic
@@ -34,5 +35,5 @@ wheel_of n n1 directed =
     and_then (accepted_middle n1) (λ middle.
     and_then (board (rim_of_wheel n directed)) (λ rim.
     and_then (board (pair_of_vertices directed)) (λ pair.
-    and_then (induced_of (graph_described pair) (middle ∷ Graph (graph_described rim) ∷ []) false false directed) (λ d.
+    and_then (induced_of (graph_described pair) (middle ∷ Substitute (graph_described rim) ∷ []) false false directed) (λ d.
     Ok (with_wheel_id n n1 directed d)))))

@@ -12,10 +12,11 @@ use Rattle.std.proofs.lemmas.Nat.{mul-le}
 use Rattle.sgb_vec.specs.Boxes.{box, product_of}
 use Rattle.sgb_vec.specs.Order.{IsFirst, IsNext, IsLast}
 use Rattle.sgb_vec.proofs.Products.{factors-pos}
-use Rattle.sgb_vec.proofs.BoxPlaces.{EachBelow, StandsAt, StandsAt-box, StandsAt-from_slice_get, place_of, place_of-below, slice_get-place_of, length-box}
+use Rattle.sgb_vec.specs.Lexicographic.{IsBelow}
+use Rattle.sgb_vec.proofs.BoxPlaces.{StandsAt, StandsAt-box, StandsAt-from_slice_get, place_of, place_of-below, slice_get-place_of, length-box}
 
 -- the vector at the next place is the next
-pub IsNext-from_places : (sizes v w : List ℕ) → EachBelow w sizes → place_of sizes w ≡ place_of sizes v + 1 → IsNext (box sizes) v w
+pub IsNext-from_places : (sizes v w : List ℕ) → IsBelow w sizes → place_of sizes w ≡ place_of sizes v + 1 → IsNext (box sizes) v w
 IsNext-from_places sizes v w b e i at =
     let there = StandsAt-from_slice_get sizes v i at in
     let next : place_of sizes w ≡ i + 1 = omega arith in
@@ -50,7 +51,7 @@ abbrev pub ComesBefore : List ℕ → List ℕ → Type 0
 ComesBefore v w = slice_cmp nat_cmp v w ≡ Less
 
 -- of two vectors below the sizes, the one at the smaller place comes before the other
-pub ComesBefore-from_places : (sizes v w : List ℕ) → EachBelow v sizes → EachBelow w sizes → place_of sizes v < place_of sizes w → ComesBefore v w
+pub ComesBefore-from_places : (sizes v w : List ℕ) → IsBelow v sizes → IsBelow w sizes → place_of sizes v < place_of sizes w → ComesBefore v w
 ComesBefore-from_places [] [] [] b c h = absurd (omega arith)
 ComesBefore-from_places [] [] (y ∷ w) b c h = absurd c
 ComesBefore-from_places [] (x ∷ v) w b c h = absurd b
@@ -60,8 +61,8 @@ ComesBefore-from_places (s ∷ sizes) (x ∷ v) (y ∷ w) b c h =
     let n = product_of sizes in
     elim (cases_order x y) [
       | inl same ↦
-          let behind : place_of sizes v < place_of sizes w = omega (arith, ap (λ m. m * n) same) in
-          rw (← nat_cmp_is x y Equal same) (ComesBefore-from_places sizes v w b.1 c.1 behind)
+          let after : place_of sizes v < place_of sizes w = omega (arith, ap (λ m. m * n) same) in
+          rw (← nat_cmp_is x y Equal same) (ComesBefore-from_places sizes v w b.1 c.1 after)
       | inr (inl less) ↦ rw (← nat_cmp_is x y Less less)
       | inr (inr more) ↦ absurd (omega (arith, mul-le (y + 1) n x n (omega arith) (omega arith), place_of-below sizes w c.1))
     ]

@@ -1,6 +1,6 @@
 -- Where a vector stands among the vectors of a box, and which vectors those are.
 use Rattle.std.proofs.Common.{◌≡◌, ℕ, ◌+◌, ◌*◌, ◌/◌, ◌%◌, ◌<◌, ◌↔◌, true, nat_lt, List, [], ◌∷◌, length, get_or, take, map, refl, sym, ap, subst, ◌∙◌, zero-add, arith, length-append}
-use Rattle.std.specs.List.{AllZip, Contains, flat_map, range_with_len, slice_get, list_all, zip}
+use Rattle.std.specs.List.{Contains, flat_map, range_with_len, slice_get, list_all, zip}
 use Rattle.std.specs.Prelude.{Some}
 use Rattle.std.proofs.lemmas.List.{length-map, length-take-le, get_or-map}
 use Rattle.std.proofs.lemmas.List.Elements.{length_all_zip, AllZip-get_or}
@@ -10,11 +10,8 @@ use Rattle.std.proofs.lemmas.List.FromFn.{length-range_with_len, get_or-range_wi
 use Rattle.std.proofs.lemmas.List.Concat.{get_or-flat_map}
 use Rattle.std.proofs.lemmas.Nat.{mul-add-lt, div-add-mod', div_below, mod_below}
 use Rattle.sgb_vec.specs.Boxes.{box, product_of}
+use Rattle.sgb_vec.specs.Lexicographic.{IsBelow}
 use Rattle.sgb_vec.proofs.Products.{factors-pos}
-
--- as many entries as sizes, each below its size
-abbrev pub EachBelow : List ℕ → List ℕ → Type 0
-EachBelow v sizes = AllZip (λ x s. x < s) v sizes
 
 -- the place of a vector among the vectors of a box, in lexicographic order
 abbrev pub place_of : List ℕ → List ℕ → ℕ
@@ -22,20 +19,20 @@ place_of (s ∷ sizes) (x ∷ v) = x * product_of sizes + place_of sizes v
 place_of _ _ = 0
 
 -- the entry at a place is below the size there
-pub EachBelow-at : (sizes v : List ℕ) (k : ℕ) → EachBelow v sizes → k < length v → get_or v k 0 < get_or sizes k 0
-EachBelow-at sizes v k b h = AllZip-get_or (λ x s. x < s) v sizes k 0 0 b h
+pub IsBelow-at : (sizes v : List ℕ) (k : ℕ) → IsBelow v sizes → k < length v → get_or v k 0 < get_or sizes k 0
+IsBelow-at sizes v k b h = AllZip-get_or (λ x s. x < s) v sizes k 0 0 b h
 
 -- there are as many entries as sizes
-pub EachBelow-length : (sizes v : List ℕ) → EachBelow v sizes → length v ≡ length sizes
-EachBelow-length sizes v b = length_all_zip (λ x s. x < s) v sizes b
+pub IsBelow-length : (sizes v : List ℕ) → IsBelow v sizes → length v ≡ length sizes
+IsBelow-length sizes v b = length_all_zip (λ x s. x < s) v sizes b
 
 -- the test of each pair, where there are as many entries as sizes
-pub EachBelow-test : (sizes v : List ℕ) → length v ≡ length sizes → (list_all (λ p. nat_lt p.0 p.1) (zip v sizes) ≡ true) ↔ EachBelow v sizes
-EachBelow-test [] [] e = (λ _. tt, λ _. refl)
-EachBelow-test [] (x ∷ v) e = absurd (omega arith)
-EachBelow-test (s ∷ sizes) [] e = absurd (omega arith)
-EachBelow-test (s ∷ sizes) (x ∷ v) e =
-    let rest = EachBelow-test sizes v (omega arith) in (
+pub IsBelow-test : (sizes v : List ℕ) → length v ≡ length sizes → (list_all (λ p. nat_lt p.0 p.1) (zip v sizes) ≡ true) ↔ IsBelow v sizes
+IsBelow-test [] [] e = (λ _. tt, λ _. refl)
+IsBelow-test [] (x ∷ v) e = absurd (omega arith)
+IsBelow-test (s ∷ sizes) [] e = absurd (omega arith)
+IsBelow-test (s ∷ sizes) (x ∷ v) e =
+    let rest = IsBelow-test sizes v (omega arith) in (
       λ h. let parts = and_parts (nat_lt x s) (list_all (λ p. nat_lt p.0 p.1) (zip v sizes)) h in (ltb-true x s parts.0, rest.0 parts.1),
       λ b. and_from (nat_lt x s) (list_all (λ p. nat_lt p.0 p.1) (zip v sizes)) (lt-ltb x s b.0) (rest.1 b.1),
     )
@@ -73,7 +70,7 @@ get_or-box s sizes x j d h k =
     ∙ get_or-map (λ v. x ∷ v) (box sizes) j d d (omega (arith, length-box sizes))
 
 -- a vector of the box stands within it
-pub place_of-below : (sizes v : List ℕ) → EachBelow v sizes → place_of sizes v < product_of sizes
+pub place_of-below : (sizes v : List ℕ) → IsBelow v sizes → place_of sizes v < product_of sizes
 place_of-below [] [] b = omega arith
 place_of-below [] (x ∷ v) b = absurd b
 place_of-below (s ∷ sizes) [] b = absurd b
@@ -81,7 +78,7 @@ place_of-below (s ∷ sizes) (x ∷ v) b =
     omega (arith, mul-add-lt x (product_of sizes) (place_of sizes v) s b.0 (place_of-below sizes v b.1))
 
 -- at its place stands the vector
-pub get_or-place_of : (sizes v d : List ℕ) → EachBelow v sizes → get_or (box sizes) (place_of sizes v) d ≡ v
+pub get_or-place_of : (sizes v d : List ℕ) → IsBelow v sizes → get_or (box sizes) (place_of sizes v) d ≡ v
 unfolding box
 get_or-place_of [] [] d b = refl
 get_or-place_of [] (x ∷ v) d b = absurd b
@@ -92,7 +89,7 @@ get_or-place_of (s ∷ sizes) (x ∷ v) d b =
 
 -- a vector that stands at place i: its entries are below the sizes, and its place is i
 pub record StandsAt (sizes v : List ℕ) (i : ℕ) : Type 0 where
-  pub each_below : EachBelow v sizes
+  pub each_below : IsBelow v sizes
   pub place : place_of sizes v ≡ i
 
 -- a vector with x in front of one that stands at place j of the other sizes
@@ -108,23 +105,23 @@ StandsAt-box (s ∷ sizes) i d h =
     let n_pos : 0 < n = (factors-pos s n (omega arith)).1 in
     let x_below : i / n < s = div_below i n s n_pos h in
     let j_below : i % n < n = mod_below i n n_pos in
-    let behind = StandsAt-cons s sizes _ (i / n) (i % n) _ x_below (StandsAt-box sizes (i % n) d j_below) refl in
+    let after = StandsAt-cons s sizes _ (i / n) (i % n) _ x_below (StandsAt-box sizes (i % n) d j_below) refl in
     let row : StandsAt (s ∷ sizes) (get_or (box (s ∷ sizes)) (i / n * n + i % n) d) (i / n * n + i % n) =
-    rw (get_or-box s sizes (i / n) (i % n) d x_below j_below) behind in
+    rw (get_or-box s sizes (i / n) (i % n) d x_below j_below) after in
     subst (λ m. StandsAt (s ∷ sizes) (get_or (box (s ∷ sizes)) m d) m) (div-add-mod' i n) row
 
 -- the vectors of a box are those with as many entries as there are sizes, each below its size
-pub EachBelow-from_Contains : (sizes v : List ℕ) → Contains (box sizes) v → EachBelow v sizes
-EachBelow-from_Contains sizes v (i, within, at) =
+pub IsBelow-from_Contains : (sizes v : List ℕ) → Contains (box sizes) v → IsBelow v sizes
+IsBelow-from_Contains sizes v (i, within, at) =
     let there = StandsAt-box sizes i v (omega (arith, length-box sizes)) in
-    subst (λ w. EachBelow w sizes) at there.each_below
+    subst (λ w. IsBelow w sizes) at there.each_below
 
-pub Contains-from_EachBelow : (sizes v : List ℕ) → EachBelow v sizes → Contains (box sizes) v
-Contains-from_EachBelow sizes v b =
+pub Contains-from_IsBelow : (sizes v : List ℕ) → IsBelow v sizes → Contains (box sizes) v
+Contains-from_IsBelow sizes v b =
     (place_of sizes v, omega (arith, length-box sizes, place_of-below sizes v b), get_or-place_of sizes v v b)
 
-pub Contains-box : (sizes v : List ℕ) → Contains (box sizes) v ↔ EachBelow v sizes
-Contains-box sizes v = (EachBelow-from_Contains sizes v, Contains-from_EachBelow sizes v)
+pub Contains-box : (sizes v : List ℕ) → Contains (box sizes) v ↔ IsBelow v sizes
+Contains-box sizes v = (IsBelow-from_Contains sizes v, Contains-from_IsBelow sizes v)
 
 -- a vector of the box stands at its place and at no other
 pub StandsAt-from_slice_get : (sizes v : List ℕ) (i : ℕ) → slice_get (box sizes) i ≡ Some v → StandsAt sizes v i
@@ -134,6 +131,6 @@ StandsAt-from_slice_get sizes v i at =
     subst (λ w. StandsAt sizes w i) (get_or_from_slice_get (box sizes) i v v at) there
 
 -- and it does stand there
-pub slice_get-place_of : (sizes v : List ℕ) → EachBelow v sizes → slice_get (box sizes) (place_of sizes v) ≡ Some v
+pub slice_get-place_of : (sizes v : List ℕ) → IsBelow v sizes → slice_get (box sizes) (place_of sizes v) ≡ Some v
 slice_get-place_of sizes v b =
     slice_get_read (box sizes) (product_of sizes) (place_of sizes v) v (sym (length-box sizes)) (place_of-below sizes v b) (sym (get_or-place_of sizes v v b))

@@ -6,7 +6,8 @@ use Rattle.std.proofs.lemmas.List.{at_drop_more, drop_all}
 use Rattle.std.proofs.lemmas.Nat.{mul-le}
 use Rattle.sgb_vec.specs.Boxes.{box, product_of}
 use Rattle.sgb_vec.proofs.Products.{factors-pos}
-use Rattle.sgb_vec.proofs.BoxPlaces.{EachBelow, EachBelow-length, place_of, place_of-below, slice_get-place_of}
+use Rattle.sgb_vec.specs.Lexicographic.{IsBelow}
+use Rattle.sgb_vec.proofs.BoxPlaces.{IsBelow-length, place_of, place_of-below, slice_get-place_of}
 
 -- the first k entries make `rank` of the place
 pub record IsRankSoFar (sizes v : List ℕ) (k rank : ℕ) : Type 0 where
@@ -32,20 +33,20 @@ product-drop_pos (suc k) [] h = h
 product-drop_pos (suc k) (s ∷ sizes) h = product-drop_pos k sizes (factors-pos s (product_of sizes) h).1
 
 -- what the entries make so far is below the number of vectors
-pub rank-below : (sizes v : List ℕ) (k rank : ℕ) → IsRankSoFar sizes v k rank → EachBelow v sizes → rank < product_of sizes
+pub rank-below : (sizes v : List ℕ) (k rank : ℕ) → IsRankSoFar sizes v k rank → IsBelow v sizes → rank < product_of sizes
 rank-below sizes v k rank so b =
     let below = place_of-below sizes v b in
     let some = product-drop_pos k sizes (omega arith) in
     omega (arith, so.whole, mul-le rank 1 rank (product_of (drop k sizes)) (omega arith) some)
 
 -- all entries make the place
-pub rank-all : (sizes v : List ℕ) (k rank : ℕ) → IsRankSoFar sizes v k rank → EachBelow v sizes → length v ≤ k → slice_get (box sizes) rank ≡ Some v
+pub rank-all : (sizes v : List ℕ) (k rank : ℕ) → IsRankSoFar sizes v k rank → IsBelow v sizes → length v ≤ k → slice_get (box sizes) rank ≡ Some v
 rank-all sizes v k rank so b h =
-    let none = drop_all k sizes (omega (arith, EachBelow-length sizes v b)) in
+    let none = drop_all k sizes (omega (arith, IsBelow-length sizes v b)) in
     let same : place_of sizes v ≡ rank = omega (arith, so.whole, ap (λ s. rank * product_of s + place_of s (drop k v)) none) in
     ap (slice_get (box sizes)) (sym same) ∙ slice_get-place_of sizes v b
 
 -- the next step stays below the number of vectors
-pub rank-next_below : (sizes v : List ℕ) (k rank : ℕ) → IsRankSoFar sizes v k rank → EachBelow v sizes → k < length v → rank * get_or sizes k 0 + get_or v k 0 < product_of sizes
+pub rank-next_below : (sizes v : List ℕ) (k rank : ℕ) → IsRankSoFar sizes v k rank → IsBelow v sizes → k < length v → rank * get_or sizes k 0 + get_or v k 0 < product_of sizes
 rank-next_below sizes v k rank so b h =
-    rank-below sizes v (k + 1) _ (rank-more sizes v k rank so (omega (arith, EachBelow-length sizes v b)) h) b
+    rank-below sizes v (k + 1) _ (rank-more sizes v k rank so (omega (arith, IsBelow-length sizes v b)) h) b

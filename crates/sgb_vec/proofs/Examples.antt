@@ -32,9 +32,9 @@ pub last_of_repeated : slice_get (box (2 ∷ 3 ∷ 5 ∷ 2 ∷ 3 ∷ 5 ∷ 2 ∷
 unfolding box
 last_of_repeated = refl
 
-pub none_behind_the_last : slice_get (box (2 ∷ 3 ∷ 5 ∷ 2 ∷ 3 ∷ 5 ∷ 2 ∷ [])) 1800 ≡ None
+pub none_after_the_last : slice_get (box (2 ∷ 3 ∷ 5 ∷ 2 ∷ 3 ∷ 5 ∷ 2 ∷ [])) 1800 ≡ None
 unfolding box
-none_behind_the_last = refl
+none_after_the_last = refl
 
 -- the vectors of board(2,3,..), and those of no dimensions and of a size of 0
 pub vectors_of_2_by_3 : box (2 ∷ 3 ∷ []) ≡ (0 ∷ 0 ∷ []) ∷ (0 ∷ 1 ∷ []) ∷ (0 ∷ 2 ∷ []) ∷ (1 ∷ 0 ∷ []) ∷ (1 ∷ 1 ∷ []) ∷ (1 ∷ 2 ∷ []) ∷ []
@@ -77,7 +77,7 @@ pub simplex_repeated : simplex_of (pos 2) (pos 1) (negsuc 3) (pos 0) (pos 0) (po
 unfolding repeated
 simplex_repeated = refl
 
--- simplex(0,3,0,..): the bound is cut to 0, in the name too, and there are no dimensions
+-- simplex(0,3,0,..): the bound is clamped to 0, in the name too, and there are no dimensions
 pub simplex_cut : simplex_of (pos 0) (pos 3) (pos 0) (pos 0) (pos 0) (pos 0)
     ≡ Ok (record { params = pos 0 ∷ pos 0 ∷ pos 0 ∷ pos 0 ∷ pos 0 ∷ pos 0 ∷ []; sizes = 0 ∷ [] })
 simplex_cut = refl
@@ -158,6 +158,6 @@ pub vector_of_great_entry : vector_of (codes "4294967296") ≡ None
 unfolding vector_of name_of_vector digits
 vector_of_great_entry = refl
 
-pub vector_of_dot_behind : vector_of (codes "1.") ≡ None
+pub vector_of_dot_at_the_end : vector_of (codes "1.") ≡ None
 unfolding vector_of name_of_vector digits
-vector_of_dot_behind = refl
+vector_of_dot_at_the_end = refl

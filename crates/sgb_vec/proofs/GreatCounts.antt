@@ -66,12 +66,12 @@ pub All-from_few : (i : ℕ) (row bounds : List ℕ) → FewUpTo i (length row) 
 All-from_few i row bounds before counts =
     All-from_get_or (λ count. count ≤ most_vertices) row 0 (λ k h. omega (arith, counts.at k h, before.few i k (omega arith) h))
 
--- so is what is read of it; behind the row that is 0
+-- so is what is read of it; after the row that is 0
 pub get_or_small : (row : List ℕ) (k : ℕ) → All (λ count. count ≤ most_vertices) row → get_or row k 0 ≤ most_vertices
 get_or_small row k small =
     elim (cases_lt k (length row)) [
       | inl here ↦ All-get_or (λ count. count ≤ most_vertices) row k 0 here small
-      | inr behind ↦ omega (arith, get_or_past row k 0 behind)
+      | inr after ↦ omega (arith, get_or_past row k 0 after)
     ]
 
 -- the first bound alone has no count above 1
@@ -104,7 +104,7 @@ unfolding has_great_count
 has_great_count-none n len bounds long before =
     let small : (j k : ℕ) → j < length bounds → k ≤ n → count_of_sum k (take (j + 1) bounds) ≤ most_vertices = λ j k h l. elim (cases_lt k len) [
       | inl counted ↦ before.few (j + 1) k (omega arith) counted
-      | inr behind ↦ omega (arith, count_of_sum-far (take (j + 1) bounds) k (omega (arith, sum_by-take-le (λ x. x) bounds (j + 1))))
+      | inr after ↦ omega (arith, count_of_sum-far (take (j + 1) bounds) k (omega (arith, sum_by-take-le (λ x. x) bounds (j + 1))))
     ] in
     list_any-range_none (λ i. list_any (λ m. nat_lt most_vertices (count_of_sum m (take (i + 1) bounds))) (range_with_len 0 (n + 1))) (length bounds - 1) 1 (λ j low high.
     list_any-range_none (λ i. nat_lt most_vertices (count_of_sum i (take (j + 1) bounds))) (n + 1) 0 (λ k first last.
@@ -117,10 +117,10 @@ has_great_count-few n [] short = refl
 has_great_count-few n (b ∷ []) short = refl
 has_great_count-few n (b ∷ c ∷ bounds) short = absurd (omega arith)
 
--- the count of n stands at its place in the row; behind the row it is 0
+-- the count of n stands at its place in the row; after the row it is 0
 pub count_of_sum-in_row : (n : ℕ) (row bounds : List ℕ) → length row ≡ min n (sum bounds) + 1 → CountsSums row bounds → count_of_sum n bounds ≡ get_or row n 0
 count_of_sum-in_row n row bounds long counts =
     elim (cases_lt n (length row)) [
       | inl here ↦ sym (counts.at n here)
-      | inr behind ↦ count_of_sum-far bounds n (omega arith) ∙ sym (get_or_past row n 0 behind)
+      | inr after ↦ count_of_sum-far bounds n (omega arith) ∙ sym (get_or_past row n 0 after)
     ]

@@ -1,4 +1,4 @@
--- Digits in a radix at the front of a text, and the number that they write.
+-- Digits in a radix that a text begins with, and the number that they write.
 use Rattle.std.proofs.Common.{◌≡◌, ℕ, zero, suc, ◌+◌, ◌-◌, ◌*◌, ◌^◌, ◌<◌, ◌≤◌, ◌⊎◌, true, false, cond, List, [], ◌∷◌, ◌++◌, length, take, drop, get_or, slice_get, Some, refl, sym, ◌∙◌, ap, subst, inl, inr, append-nil, arith, length-append, lt_of_lt_of_le}
 use native.Mathlib.Nat.{pow-le-pow_right}
 use Rattle.std.specs.Char.{digit_value, is_digit}
@@ -94,7 +94,7 @@ digits_same radix most a u b v rest all no_more next all_b short none e = elim (
       sym (ends_here b a t.0 t.1 (nothing_before radix b t.0 u v all_longer none t.2))
 ]
 
--- the text in two parts, behind its leading digits, m at most
+-- the text in two parts, after its leading digits, m at most
 pub record DigitsTaken (radix m : ℕ) (text digits : List ℕ) : Type 0 where
   pub all : AllDigits radix digits
   pub short : length digits ≤ m

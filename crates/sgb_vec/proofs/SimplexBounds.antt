@@ -6,7 +6,7 @@ use Rattle.std.proofs.lemmas.List.{map-append, length-map}
 use Rattle.std.proofs.lemmas.List.FromFn.{length-map-range_with_len}
 use Rattle.sgb_vec.specs.Limits.{most_dimensions, most_vertices}
 use Rattle.sgb_vec.specs.Sizes.{Normalized, before_stop, stop_of, zero_after_stop, repeated}
-use Rattle.sgb_vec.specs.Bounds.{first_parameter, bounds_to_repeat, bounds_count, bounds_by_stop, cut_parameter, simplex_by_stop, simplex_of}
+use Rattle.sgb_vec.specs.Bounds.{first_parameter, bounds_to_repeat, bounds_count, bounds_by_stop, clamped_parameter, simplex_by_stop, simplex_of}
 use Rattle.sgb_vec.specs.declared.panics.Panic.TheVariants.{Bad, VeryBad}
 use Rattle.sgb_vec.proofs.BoardSizes.{repeated-none, repeated-more, repeated_once}
 
@@ -20,13 +20,13 @@ length-repeated : (s : List ℕ) (k : ℕ) → length (repeated s k) ≡ k
 unfolding repeated
 length-repeated s k = length-map-range_with_len (λ i. get_or s (i % length s) 0) 0 k
 
--- no bound cut
-pub cut-none : (n : ℕ) (s : List ℕ) → map (λ b. min b n) (repeated s 0) ≡ []
-cut-none n s = rw (repeated-none s) refl
+-- no bound clamped
+pub clamped-none : (n : ℕ) (s : List ℕ) → map (λ b. min b n) (repeated s 0) ≡ []
+clamped-none n s = rw (repeated-none s) refl
 
--- one more bound cut
-pub cut-more : (n : ℕ) (s : List ℕ) (k : ℕ) → map (λ b. min b n) (repeated s (k + 1)) ≡ map (λ b. min b n) (repeated s k) ++ min (get_or s (k % length s) 0) n ∷ []
-cut-more n s k = rw (repeated-more s k, map-append (λ b. min b n) (repeated s k) (get_or s (k % length s) 0 ∷ [])) refl
+-- one more bound clamped
+pub clamped-more : (n : ℕ) (s : List ℕ) (k : ℕ) → map (λ b. min b n) (repeated s (k + 1)) ≡ map (λ b. min b n) (repeated s k) ++ min (get_or s (k % length s) 0) n ∷ []
+clamped-more n s k = rw (repeated-more s k, map-append (λ b. min b n) (repeated s k) (get_or s (k % length s) 0 ∷ [])) refl
 
 -- a parameter stands for each entry
 pub length-zero_after_stop : (entries : List ℤ) → length (zero_after_stop entries) ≡ length entries
@@ -36,7 +36,7 @@ length-zero_after_stop (pos (suc n) ∷ rest) = grind (arith, length-zero_after_
 length-zero_after_stop (negsuc d ∷ rest) = grind (arith, length-map rest (λ (n : ℤ). pos 0))
 
 -- an accepted simplex
-pub simplex_by_stop-fits : (n : ℕ) (entries : List ℤ) (s : List ℕ) (e : ℤ) → bounds_count s e ≤ most_dimensions + 1 → n ≤ most_vertices → simplex_by_stop n entries s e ≡ Ok (record { params = pos n ∷ map (cut_parameter n) (zero_after_stop entries); sizes = map (λ b. min b n) (repeated s (bounds_count s e)) })
+pub simplex_by_stop-fits : (n : ℕ) (entries : List ℤ) (s : List ℕ) (e : ℤ) → bounds_count s e ≤ most_dimensions + 1 → n ≤ most_vertices → simplex_by_stop n entries s e ≡ Ok (record { params = pos n ∷ map (clamped_parameter n) (zero_after_stop entries); sizes = map (λ b. min b n) (repeated s (bounds_count s e)) })
 simplex_by_stop-fits n entries s e few small =
     let t : nat_lt (most_dimensions + 1) (bounds_count s e) ≡ false = grind (arith, nat_tests) in
     let u : nat_lt most_vertices n ≡ false = grind (arith, nat_tests) in

@@ -7,7 +7,7 @@ use Rattle.std.proofs.lemmas.List.Elements.{filter-append}
 use Rattle.std.proofs.lemmas.List.Sums.{sum_by-cons}
 use Rattle.sgb_vec.specs.Boxes.{box}
 use Rattle.sgb_vec.specs.Sums.{bounded_sums, count_of_sum}
-use Rattle.sgb_vec.proofs.Windows.{shifted, window, window_same, window_comm, window_far, one_at_zero, window-one_at_zero, window-one_at_zero_front}
+use Rattle.sgb_vec.proofs.Windows.{shifted, window, window_same, window_comm, window_far, one_at_zero, window-one_at_zero, window-one_at_zero_prefix}
 
 -- the sequence x places later, with 0 in front
 abbrev later : ℕ → (ℕ → ℕ) → ℕ → ℕ
@@ -96,7 +96,7 @@ count_of_sum-cons b bounds k =
     let all_rows : count_of_sum k (b ∷ bounds) ≡ laters 0 (b + 1) (tally vectors) k = tally-rows vectors (b + 1) 0 k in
     all_rows ∙ ap (λ n. laters 0 n (tally vectors) k) (add-one b) ∙ laters-window b (tally vectors) k
 
--- so does a bound behind
+-- so does a bound after
 pub count_of_sum-snoc : (bounds : List ℕ) (b k : ℕ) → count_of_sum k (bounds ++ b ∷ []) ≡ window b (λ i. count_of_sum i bounds) k
 count_of_sum-snoc [] b k = count_of_sum-cons b [] k
 count_of_sum-snoc (a ∷ bounds) b k =
@@ -126,7 +126,7 @@ count_of_sum-few (b ∷ []) k short h =
     let within : k ≤ b = omega (arith, sum_by-cons (λ y. y) b []) in
     count_of_sum-cons b [] k
     ∙ window_same b (λ i. count_of_sum i []) one_at_zero k (λ i _. count_of_sum-nil i)
-    ∙ window-one_at_zero_front b k within
+    ∙ window-one_at_zero_prefix b k within
 count_of_sum-few (b ∷ c ∷ bounds) k short h = absurd (omega arith)
 
 -- no vector above the sum of the bounds

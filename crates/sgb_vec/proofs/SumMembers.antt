@@ -8,7 +8,7 @@ use Rattle.std.proofs.lemmas.List.Kept.{AllPairs-filter}
 use Rattle.sgb_vec.specs.Boxes.{box}
 use Rattle.sgb_vec.specs.Sums.{bounded_sums}
 use Rattle.sgb_vec.specs.Lexicographic.{IsBefore, IsRising, IsBelow, IsWithin}
-use Rattle.sgb_vec.proofs.BoxPlaces.{EachBelow-from_Contains, Contains-from_EachBelow}
+use Rattle.sgb_vec.proofs.BoxPlaces.{IsBelow-from_Contains, Contains-from_IsBelow}
 use Rattle.sgb_vec.proofs.BoxOrder.{box-rises}
 
 -- what a filter keeps is an element that passes
@@ -51,8 +51,8 @@ Contains-bounded_sums n bounds v =
     let sizes = map (λ b. b + 1) bounds in
     let adds : List ℕ → Bool = λ w. eqb (sum w) n in (
       λ h. let kept = Contains-from_filter adds (box sizes) v h in
-          (within-from_below v bounds (EachBelow-from_Contains sizes v kept.0), eqb-true (sum v) n kept.1),
-      λ h. Contains-filter adds (box sizes) v (eq-eqb (sum v) n h.1) (Contains-from_EachBelow sizes v (below-from_within v bounds h.0)),
+          (within-from_below v bounds (IsBelow-from_Contains sizes v kept.0), eqb-true (sum v) n kept.1),
+      λ h. Contains-filter adds (box sizes) v (eq-eqb (sum v) n h.1) (Contains-from_IsBelow sizes v (below-from_within v bounds h.0)),
     )
 
 -- they rise lexicographically

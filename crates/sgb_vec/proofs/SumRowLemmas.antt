@@ -7,7 +7,7 @@ use Rattle.std.proofs.lemmas.List.Sums.{sum_by-cons, sum_by_more, sum_by-le}
 use Rattle.sgb_vec.specs.Limits.{most_vertices}
 use Rattle.sgb_vec.specs.Sums.{count_of_sum}
 use Rattle.sgb_vec.specs.SumRows.{CountsSums}
-use Rattle.sgb_vec.proofs.Windows.{up_to, window_front, window_behind}
+use Rattle.sgb_vec.proofs.Windows.{up_to, window_prefix, window_after}
 use Rattle.sgb_vec.proofs.SumCounts.{count_of_sum-nil, count_of_sum-snoc}
 
 -- a 1, and then n zeros
@@ -26,7 +26,7 @@ CountsSums-nil n = record { at = at_each n }
 pub sum_fits : (row : List ℕ) → length row ≤ most_vertices + 1 → All (λ count. count ≤ most_vertices) row → sum row < 2 ^ 64
 sum_fits row short small = omega (arith, sum_by-le (λ x. x) most_vertices row small)
 
--- a longer front has at least the sum of a shorter one
+-- a longer prefix has at least the sum of a shorter one
 pub sum-take_le : (i k : ℕ) (xs : List ℕ) → i ≤ k → sum (take i xs) ≤ sum (take k xs)
 sum-take_le zero k xs h = omega arith
 sum-take_le (suc i) zero xs h = absurd (omega arith)
@@ -47,15 +47,15 @@ pub CountsSums-snoc : (row sums next bounds : List ℕ) (b : ℕ) → CountsSums
     → ((k : ℕ) → k < b + 1 → get_or next k 0 ≡ get_or sums k 0)
     → ((k : ℕ) → b + 1 ≤ k → k < length sums → get_or next k 0 + get_or sums (k - (b + 1)) 0 ≡ get_or sums k 0)
     → CountsSums next (bounds ++ b ∷ [])
-CountsSums-snoc row sums next bounds b counts long long_next running front behind =
+CountsSums-snoc row sums next bounds b counts long long_next running start after =
     let f : ℕ → ℕ = λ i. count_of_sum i bounds in
     let total : (i : ℕ) → i < length row → get_or sums i 0 ≡ up_to f i = λ i h. running i h ∙ sum-take_up_to row f i counts.at h in
     record {
       at = λ k h. elim (cases_lt k (b + 1)) [
-        | inl low ↦ front k low ∙ total k (omega arith) ∙ sym (window_front b f k (omega arith)) ∙ sym (count_of_sum-snoc bounds b k)
+        | inl low ↦ start k low ∙ total k (omega arith) ∙ sym (window_prefix b f k (omega arith)) ∙ sym (count_of_sum-snoc bounds b k)
         | inr high ↦
             let i : ℕ = k - (b + 1) in
-            omega (arith, behind k high (omega arith), total k (omega arith), total i (omega arith), window_behind b i f k (omega arith), count_of_sum-snoc bounds b k)
+            omega (arith, after k high (omega arith), total k (omega arith), total i (omega arith), window_after b i f k (omega arith), count_of_sum-snoc bounds b k)
       ];
     }
 

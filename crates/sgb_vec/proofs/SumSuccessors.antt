@@ -23,9 +23,9 @@ IsBefore-asymmetric v w h k =
 pub IsBefore-less : (x y : ℕ) (v w : List ℕ) → x < y → IsBefore (x ∷ v) (y ∷ w)
 IsBefore-less x y v w less = rw (← nat_cmp_is x y Less less)
 
--- behind the same first entry the others decide
+-- after the same first entry the others decide
 pub IsBefore-same : (x y : ℕ) (v w : List ℕ) → x ≡ y → IsBefore v w → IsBefore (x ∷ v) (y ∷ w)
-IsBefore-same x y v w same behind = rw (← nat_cmp_is x y Equal same) behind
+IsBefore-same x y v w same after = rw (← nat_cmp_is x y Equal same) after
 
 -- and there is no other way
 pub IsBefore-cases : (x y : ℕ) (v w : List ℕ) → IsBefore (x ∷ v) (y ∷ w) → (x < y) ⊎ ((x ≡ y) × IsBefore v w)
@@ -75,7 +75,7 @@ IsGreatest-nil = record {
   none_above = λ u h e before. elim u as (λ u. IsWithin u [] → IsBefore [] u → ⊥) [ [] ↦ λ _ b. cc b | x ∷ u ↦ λ k _. absurd k ] h before;
 }
 
--- an entry in front of the least vector is 0, or those behind it have no room for more
+-- an entry in front of the least vector is 0, or those after it have no room for more
 none_below-cons : (b x : ℕ) (bounds w u : List ℕ) → IsLeast bounds w → (0 < x → sum w ≡ sum bounds) → IsWithin u (b ∷ bounds) → sum u ≡ sum (x ∷ w) → IsBefore u (x ∷ w) → ⊥
 none_below-cons b x bounds w [] least full h e before = absurd h
 none_below-cons b x bounds w (y ∷ u) least full h e before =
@@ -148,7 +148,7 @@ IsNearest-cons b x bounds v w low near = record {
   none_between = λ u. between-cons b x bounds v w u near;
 }
 
--- the entry at p grows, where those behind it are the greatest, and they become the least
+-- the entry at p grows, where those after it are the greatest, and they become the least
 pub IsNearest-at : (bounds v w : List ℕ) (p : ℕ) → IsWithin v bounds → p < length v → get_or v p 0 < get_or bounds p 0 → IsGreatest (drop (suc p) bounds) (drop (suc p) v) → IsLeast (drop (suc p) bounds) w → sum (drop (suc p) v) ≡ sum w + 1 → IsNearest bounds v (take p v ++ (get_or v p 0 + 1) ∷ w)
 IsNearest-at [] [] w p h within low greatest least one = absurd (omega arith)
 IsNearest-at [] (x ∷ v) w p h within low greatest least one = absurd h

@@ -48,10 +48,10 @@ filled-all bounds entries rest total room so =
     let no_rest : rest ≡ 0 = elim (cases_lt 0 rest) [ inl some ↦ absurd (omega (arith, so.adds, so.full some)) | inr none ↦ omega arith ] in
     IsFirst-least total bounds entries so.least (omega (arith, so.adds))
 
--- the entries from a place on are the greatest of their sum, which is `behind`
-pub record IsGreatestFrom (bounds entries : List ℕ) (place behind : ℕ) : Type 0 where
+-- the entries from a place on are the greatest of their sum, which is `after`
+pub record IsGreatestFrom (bounds entries : List ℕ) (place after : ℕ) : Type 0 where
   pub greatest : IsGreatest (drop place bounds) (drop place entries)
-  pub adds : behind ≡ sum (drop place entries)
+  pub adds : after ≡ sum (drop place entries)
 
 -- no entry yet
 pub greatest-none : (bounds entries : List ℕ) → IsWithin entries bounds → IsGreatestFrom bounds entries (length entries) 0
@@ -60,9 +60,9 @@ greatest-none bounds entries within =
     let no_entries : drop (length entries) entries ≡ [] = drop_all (length entries) entries (omega arith) in
     record { greatest = rw (no_bounds, no_entries) IsGreatest-nil; adds = rw no_entries refl }
 
--- one entry more, which cannot grow at the cost of those behind it
-pub greatest-more : (bounds entries : List ℕ) (p q behind : ℕ) → q ≡ p + 1 → IsWithin entries bounds → p < length entries → (0 < behind → get_or bounds p 0 ≤ get_or entries p 0) → IsGreatestFrom bounds entries q behind → IsGreatestFrom bounds entries p (behind + get_or entries p 0)
-greatest-more bounds entries p q behind next within k top so =
+-- one entry more, which cannot grow at the cost of those after it
+pub greatest-more : (bounds entries : List ℕ) (p q after : ℕ) → q ≡ p + 1 → IsWithin entries bounds → p < length entries → (0 < after → get_or bounds p 0 ≤ get_or entries p 0) → IsGreatestFrom bounds entries q after → IsGreatestFrom bounds entries p (after + get_or entries p 0)
+greatest-more bounds entries p q after next within k top so =
     let b = get_or bounds p 0 in
     let x = get_or entries p 0 in
     let h : p < length bounds = omega (arith, IsWithin-length bounds entries within) in
@@ -74,14 +74,14 @@ greatest-more bounds entries p q behind next within k top so =
     }
 
 -- what one entry more makes of it is at most what all entries add to
-pub behind-more_le : (bounds entries : List ℕ) (p q behind : ℕ) → q ≡ p + 1 → p < length entries → IsGreatestFrom bounds entries q behind → behind + get_or entries p 0 ≤ sum entries
-behind-more_le bounds entries p q behind next k so =
+pub after-more_le : (bounds entries : List ℕ) (p q after : ℕ) → q ≡ p + 1 → p < length entries → IsGreatestFrom bounds entries q after → after + get_or entries p 0 ≤ sum entries
+after-more_le bounds entries p q after next k so =
     let entries_from : sum (drop p entries) ≡ get_or entries p 0 + sum (drop q entries) = rw next (sum_by-drop_more (λ x. x) entries p 0 k) in
     omega (arith, so.adds, sum_by-take-drop (λ x. x) entries p)
 
 -- all entries are the last vector
-pub greatest-all : (bounds entries : List ℕ) (behind : ℕ) → IsGreatestFrom bounds entries 0 behind → IsLast (bounded_sums (sum entries) bounds) entries
-greatest-all bounds entries behind so = IsLast-greatest (sum entries) bounds entries so.greatest refl
+pub greatest-all : (bounds entries : List ℕ) (after : ℕ) → IsGreatestFrom bounds entries 0 after → IsLast (bounded_sums (sum entries) bounds) entries
+greatest-all bounds entries after so = IsLast-greatest (sum entries) bounds entries so.greatest refl
 
 -- the entries from a place on are within the bounds from there on
 pub IsWithin-drop : (bounds v : List ℕ) (p : ℕ) → IsWithin v bounds → IsWithin (drop p v) (drop p bounds)
@@ -91,23 +91,23 @@ IsWithin-drop [] (x ∷ v) (suc p) h = absurd h
 IsWithin-drop (b ∷ bounds) [] (suc p) h = absurd h
 IsWithin-drop (b ∷ bounds) (x ∷ v) (suc p) h = IsWithin-drop bounds v p h.1
 
--- what a write at p and then of all that is behind it leaves
+-- what a write at p and then of all that is after it leaves
 pub put_mid-tail : (v w : List ℕ) (p x : ℕ) → p < length v → put_mid (p + 1) (length (set v p x) - (p + 1)) (set v p x) w ≡ take p v ++ (x ∷ w)
 put_mid-tail v w p x h =
     let s = set v p x in
-    let front : take (p + 1) s ≡ take p v ++ (x ∷ []) = take_more_set v p x h in
+    let kept : take (p + 1) s ≡ take p v ++ (x ∷ []) = take_more_set v p x h in
     let back : drop (length s - (p + 1)) (drop (p + 1) s) ≡ [] = drop_all (length s - (p + 1)) (drop (p + 1) s) (omega (arith, length-drop (p + 1) s)) in
-    rw (front, back, append-nil) (simp append_assoc)
+    rw (kept, back, append-nil) (simp append_assoc)
 
--- the step to the next vector: the entry at p grows, and the others behind it become the first of their sum
-pub IsNext-step : (bounds v w : List ℕ) (p behind less : ℕ) → IsWithin v bounds → p < length v → get_or v p 0 < get_or bounds p 0 → behind ≡ sum (drop (p + 1) v) → less + 1 ≡ behind → IsLast (bounded_sums behind (drop (p + 1) bounds)) (drop (p + 1) v) → IsFirst (bounded_sums less (drop (p + 1) bounds)) w → IsNext (bounded_sums (sum v) bounds) v (take p v ++ ((get_or v p 0 + 1) ∷ w))
-IsNext-step bounds v w p behind less within h low adds one last first =
+-- the step to the next vector: the entry at p grows, and the others after it become the first of their sum
+pub IsNext-step : (bounds v w : List ℕ) (p after less : ℕ) → IsWithin v bounds → p < length v → get_or v p 0 < get_or bounds p 0 → after ≡ sum (drop (p + 1) v) → less + 1 ≡ after → IsLast (bounded_sums after (drop (p + 1) bounds)) (drop (p + 1) v) → IsFirst (bounded_sums less (drop (p + 1) bounds)) w → IsNext (bounded_sums (sum v) bounds) v (take p v ++ ((get_or v p 0 + 1) ∷ w))
+IsNext-step bounds v w p after less within h low adds one last first =
     let tail = IsWithin-drop bounds v (suc p) within in
     let q : p + 1 ≡ suc p = add-one p in
-    let last_behind : IsLast (bounded_sums behind (drop (suc p) bounds)) (drop (suc p) v) = rw q at last in
-    let first_behind : IsFirst (bounded_sums less (drop (suc p) bounds)) w = rw q at first in
-    let adds_behind : behind ≡ sum (drop (suc p) v) = rw q at adds in
-    let greatest = IsGreatest-last behind (drop (suc p) bounds) (drop (suc p) v) tail (sym adds_behind) last_behind in
-    let parts = first-within less (drop (suc p) bounds) w first_behind in
-    let least = IsLeast-first less (drop (suc p) bounds) w first_behind in
+    let last_after : IsLast (bounded_sums after (drop (suc p) bounds)) (drop (suc p) v) = rw q at last in
+    let first_after : IsFirst (bounded_sums less (drop (suc p) bounds)) w = rw q at first in
+    let adds_after : after ≡ sum (drop (suc p) v) = rw q at adds in
+    let greatest = IsGreatest-last after (drop (suc p) bounds) (drop (suc p) v) tail (sym adds_after) last_after in
+    let parts = first-within less (drop (suc p) bounds) w first_after in
+    let least = IsLeast-first less (drop (suc p) bounds) w first_after in
     IsNext-nearest (sum v) bounds v _ (IsNearest-at bounds v w p within h low greatest least (omega (arith, parts.1))) refl

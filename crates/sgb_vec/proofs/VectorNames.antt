@@ -7,11 +7,11 @@ use Rattle.std.proofs.lemmas.List.Elements.{All-nil, All-cons, All-tail, All-app
 use Rattle.sgb_vec.specs.Names.{name_of_vector, IsTextByte, IsText}
 
 -- a digit may stand in a text
-digit_is_text : (d : ℕ) → d < 10 → IsTextByte (48 + d)
+pub digit_is_text : (d : ℕ) → d < 10 → IsTextByte (48 + d)
 digit_is_text d h = record { from_space = omega arith; to_tilde = omega arith; no_quote = omega arith; no_backslash = omega arith }
 
 -- the digits of a number may stand in a text
-decimal_is_text : (n : ℕ) → n < 2 ^ 64 → All IsTextByte (decimal n)
+pub decimal_is_text : (n : ℕ) → n < 2 ^ 64 → All IsTextByte (decimal n)
 decimal_is_text n h =
     decimal_by_steps (λ _ ds. All IsTextByte ds)
     (λ d low. All-cons IsTextByte (48 + d) [] (digit_is_text d low) (All-nil IsTextByte))
@@ -33,7 +33,7 @@ name_of_more : (x y : ℕ) (rest : List ℕ) → name_of_vector (x ∷ y ∷ res
 unfolding name_of_vector
 name_of_more x y rest = refl
 
--- one more entry behind others
+-- one more entry after others
 name_of_vector-push : (xs : List ℕ) (y : ℕ) → 0 < length xs → name_of_vector (xs ++ y ∷ []) ≡ (name_of_vector xs ++ 46 ∷ []) ++ decimal y
 name_of_vector-push [] y some = absurd (omega arith)
 name_of_vector-push (x ∷ []) y some = rw (name_of_more x y [], name_of_one x, name_of_one y) (simp append_assoc)

@@ -48,20 +48,20 @@ window_comm (suc a) b f (suc k) =
     omega (arith, window_comm a b f k)
 
 -- up to its width the window has all terms
-pub window_front : (b : ℕ) (f : ℕ → ℕ) (k : ℕ) → k ≤ b → window b f k ≡ up_to f k
-window_front zero f zero h = refl
-window_front zero f (suc k) h = absurd (omega arith)
-window_front (suc b) f zero h = omega arith
-window_front (suc b) f (suc k) h = omega (arith, window_front b f k (omega arith))
+pub window_prefix : (b : ℕ) (f : ℕ → ℕ) (k : ℕ) → k ≤ b → window b f k ≡ up_to f k
+window_prefix zero f zero h = refl
+window_prefix zero f (suc k) h = absurd (omega arith)
+window_prefix (suc b) f zero h = omega arith
+window_prefix (suc b) f (suc k) h = omega (arith, window_prefix b f k (omega arith))
 
--- behind it, all but those before the window
-pub window_behind : (b i : ℕ) (f : ℕ → ℕ) (k : ℕ) → k ≡ b + 1 + i → window b f k + up_to f i ≡ up_to f k
-window_behind zero i f zero e = absurd (omega arith)
-window_behind zero i f (suc k) e = let same : i ≡ k = omega arith in omega (arith, ap (up_to f) same)
-window_behind (suc b) i f zero e = absurd (omega arith)
-window_behind (suc b) i f (suc k) e = omega (arith, window_behind b i f k (omega arith))
+-- after it, all but those before the window
+pub window_after : (b i : ℕ) (f : ℕ → ℕ) (k : ℕ) → k ≡ b + 1 + i → window b f k + up_to f i ≡ up_to f k
+window_after zero i f zero e = absurd (omega arith)
+window_after zero i f (suc k) e = let same : i ≡ k = omega arith in omega (arith, ap (up_to f) same)
+window_after (suc b) i f zero e = absurd (omega arith)
+window_after (suc b) i f (suc k) e = omega (arith, window_after b i f k (omega arith))
 
--- far behind the last term that is not 0
+-- far after the last term that is not 0
 pub window_far : (b m : ℕ) (f : ℕ → ℕ) → ((i : ℕ) → m < i → f i ≡ 0) → (k : ℕ) → b + m < k → window b f k ≡ 0
 window_far zero m f z k h = z k (omega arith)
 window_far (suc b) m f z zero h = absurd (omega arith)
@@ -80,8 +80,8 @@ window-one_at_zero (suc b) zero = omega arith
 window-one_at_zero (suc b) (suc k) = omega (arith, window-one_at_zero b k)
 
 -- up to their width they have it
-pub window-one_at_zero_front : (b k : ℕ) → k ≤ b → window b one_at_zero k ≡ 1
-window-one_at_zero_front zero zero h = refl
-window-one_at_zero_front zero (suc k) h = absurd (omega arith)
-window-one_at_zero_front (suc b) zero h = refl
-window-one_at_zero_front (suc b) (suc k) h = omega (arith, window-one_at_zero_front b k (omega arith))
+pub window-one_at_zero_prefix : (b k : ℕ) → k ≤ b → window b one_at_zero k ≡ 1
+window-one_at_zero_prefix zero zero h = refl
+window-one_at_zero_prefix zero (suc k) h = absurd (omega arith)
+window-one_at_zero_prefix (suc b) zero h = refl
+window-one_at_zero_prefix (suc b) (suc k) h = omega (arith, window-one_at_zero_prefix b k (omega arith))

@@ -29,9 +29,9 @@ bounds_by_stop s (pos e) = s
 bounds_by_stop s (negsuc e) = repeated s (e + 2)
 
 -- a parameter as the official name has it: n in the place of a bound above n
-abbrev pub cut_parameter : ℕ → ℤ → ℤ
-cut_parameter n (pos b) = pos (min b n)
-cut_parameter n (negsuc d) = negsuc d
+abbrev pub clamped_parameter : ℕ → ℤ → ℤ
+clamped_parameter n (pos b) = pos (min b n)
+clamped_parameter n (negsuc d) = negsuc d
 
 -- the parameters and bounds, where s is to be repeated before the stop e of the entries
 abbrev pub simplex_by_stop : ℕ → List ℤ → List ℕ → ℤ → Result Normalized Panic
@@ -39,7 +39,7 @@ simplex_by_stop n entries s e =
     if nat_lt (most_dimensions + 1) (bounds_count s e) then Err Bad
     else (if nat_lt most_vertices n then Err VeryBad
     else Ok (record {
-      params = pos n ∷ map (cut_parameter n) (zero_after_stop entries);
+      params = pos n ∷ map (clamped_parameter n) (zero_after_stop entries);
       sizes = map (λ b. min b n) (bounds_by_stop s e);
     }))
 

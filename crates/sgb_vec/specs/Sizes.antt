@@ -13,7 +13,7 @@ before_stop (pos zero ∷ rest) = []
 before_stop (pos (suc n) ∷ rest) = suc n ∷ before_stop rest
 before_stop (negsuc n ∷ rest) = []
 
--- the stop; a 0 stands behind the last entry
+-- the stop; a 0 stands after the last entry
 abbrev pub stop_of : List ℤ → ℤ
 stop_of [] = pos 0
 stop_of (pos zero ∷ rest) = pos 0

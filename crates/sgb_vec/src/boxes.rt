@@ -151,7 +151,7 @@ fn put_zeros(vector: &mut Vector, count: usize)
 fn last_below_top(sizes: &[u32], entries: &[u32]) -> Option<usize>
     requires { AllZip (λ x s. x < s) entries.now sizes.now }
     ensures below { IfSome result (λ p. (p < length entries.now) × (slice_index entries.now p + 1 < slice_index sizes.now p)) }
-    ensures top_behind { IfSome result (λ p. (k : ℕ) → p < k → k < length entries.now → slice_index entries.now k + 1 ≡ slice_index sizes.now k) }
+    ensures top_after { IfSome result (λ p. (k : ℕ) → p < k → k < length entries.now → slice_index entries.now k + 1 ≡ slice_index sizes.now k) }
     ensures all_top { IfNone result ((k : ℕ) → k < length entries.now → slice_index entries.now k + 1 ≡ slice_index sizes.now k) }
 {
     for place in (0..sizes.len()).rev() {
@@ -162,7 +162,7 @@ fn last_below_top(sizes: &[u32], entries: &[u32]) -> Option<usize>
     None
 }
 
-// Puts the member after `entries` into it: the last entry that can grow grows, and 0 stands behind it.
+// Puts the member after `entries` into it: the last entry that can grow grows, and 0 stands after it.
 // `false` where none can, and `entries` is then as before.
 fn advance(sizes: &[u32], entries: &mut [u32]) -> bool
     requires { Contains (box sizes.now) entries.old }

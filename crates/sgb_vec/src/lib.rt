@@ -19,4 +19,4 @@ pub use limits::MOST_VERTICES;
 pub use panics::Panic;
 pub use shapes::{Shape, board_sizes, simplex_bounds};
 pub use sums::SumFamily;
-pub use texts::{Text, name_of};
+pub use texts::{Text, is_text_byte, name_of};

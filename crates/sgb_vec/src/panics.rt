@@ -5,7 +5,7 @@ use std::alloc::{AllocError, AllocFailed};
 /// Why a graph is refused: the panic codes of GB_GRAPH that this library gives.
 #[derive(Clone, Copy, Debug, PartialEq, Eq, Hash)]
 pub enum Panic {
-    /// Memory was refused.
+    /// Out of memory.
     NoRoom,
     /// The head of a `.gb` file is wrong.
     Early,

@@ -32,7 +32,7 @@ impl Text {
     /// The string of these bytes.
     ///
     /// `Syntax` where they are no string: above 4,095 bytes, or one that is not printable ASCII (32 to 126)
-    /// or is `"` or `\`. `NoRoom` where memory is refused.
+    /// or is `"` or `\`. `NoRoom` when out of memory.
     pub fn new(alloc: Global, bytes: &[u8]) -> Result<Text, Panic>
         ensures ok { IfOk result (λ text. (text ≡ bytes.now) × IsText bytes.now) }
         ensures refused { IsErrOf result Panic.Syntax ↔ ¬ IsText bytes.now }
@@ -53,7 +53,7 @@ impl Text {
         self.bytes.as_slice()
     }
 
-    /// The same string once more. `NoRoom` where memory is refused, and nothing else.
+    /// The same string once more. `NoRoom` when out of memory, and nothing else.
     pub fn copy(&self, alloc: Global) -> Result<Text, Panic>
         ensures ok { IfOk result (λ text. text ≡ self.now) }
         ensures err { OnErr result (IsErrOf result Panic.NoRoom) }
@@ -70,8 +70,9 @@ fn is_text(bytes: &[u8]) -> bool
     bytes.len() <= MOST_BYTES && bytes.iter().all(|byte| is_text_byte(*byte))
 }
 
-// Whether the byte may stand in a string.
-fn is_text_byte(byte: u8) -> bool
+/// Whether the byte may stand in a string, and so in a name or an id: printable ASCII (32 to 126), and neither `"` nor
+/// `\` (GB_SAVE).
+pub fn is_text_byte(byte: u8) -> bool
     ensures { IsTrue result ↔ IsTextByte byte }
 {
     b' ' <= byte && byte <= b'~' && byte != b'"' && byte != b'\\'
@@ -79,7 +80,7 @@ fn is_text_byte(byte: u8) -> bool
 
 /// The name of a vector of at most 92 entries (GB_BASIC, board): its entries in decimal, joined by dots.
 ///
-/// `NoRoom` where memory is refused, and nothing else.
+/// `NoRoom` when out of memory, and nothing else.
 pub fn name_of(alloc: Global, vector: &[u32]) -> Result<Text, Panic>
     requires { length vector.now ≤ most_dimensions + 1 }
     ensures ok { IfOk result (λ name. name ≡ name_of_vector vector.now) }

@@ -8,10 +8,10 @@ use sgb_vec::Panic;
 use std::alloc::AllocError;
 
 impl Graph {
-    /// A new arc of length `len` from `u` to `v`, which have to be vertices; it becomes the first on the list of
-    /// `u`. Records may not have utility fields yet (GB_GRAPH, gb_new_arc).
+    /// A new arc of length `len` from vertex `u < n` to vertex `v < n`; it becomes the first on the list of `u`.
+    /// Records may not have utility fields yet (GB_GRAPH, gb_new_arc).
     ///
-    /// An error is want of memory, `NoRoom`, and leaves the graph as it was.
+    /// `NoRoom` when out of memory, and nothing else; the graph is then as it was.
     pub fn new_arc(&mut self, u: u32, v: u32, len: i64) -> Result<(), Panic>
         requires from { u < length self.old.vertices }
         requires to { v < length self.old.vertices }
@@ -25,12 +25,11 @@ impl Graph {
         Ok(())
     }
 
-    /// A new edge of length `len` between `u` and `v`, which have to be vertices: two records with consecutive
-    /// numbers, the lower first on the list of the smaller end, the higher on that of the other; of a loop the
-    /// lower is the first and the higher follows it. Records may not have utility fields yet (GB_GRAPH,
-    /// gb_new_edge).
+    /// A new edge of length `len` between vertices `u < n` and `v < n`: two records with consecutive numbers, the
+    /// lower first on the list of the smaller end, the higher on that of the other; of a loop the lower is the
+    /// first and the higher follows it. Records may not have utility fields yet (GB_GRAPH, gb_new_edge).
     ///
-    /// An error is want of memory, `NoRoom`, and leaves the graph as it was.
+    /// `NoRoom` when out of memory, and nothing else; the graph is then as it was.
     pub fn new_edge(&mut self, u: u32, v: u32, len: i64) -> Result<(), Panic>
         requires from { u < length self.old.vertices }
         requires to { v < length self.old.vertices }
@@ -142,7 +141,7 @@ fn record_to(v: u32, after: Option<usize>, len: i64) -> ArcRec
     }
 }
 
-// Puts two records behind the others, or neither.
+// Puts two records after the others, or neither.
 fn push_pair(records: &mut Vec<ArcRec>, lower: ArcRec, higher: ArcRec) -> Result<(), AllocError>
     ensures ok { OnOk result (records.new.items ≡ records.old.items ++ lower ∷ higher ∷ []) }
     ensures err { OnErr result (records.new.items ≡ records.old.items) }

@@ -28,7 +28,7 @@ impl<'a> Model for Arcs<'a> {
 }
 
 impl Graph {
-    /// The arcs of vertex `v`, which has to be one, in the order of its list: later arcs come first (GB_GRAPH,
+    /// The arcs of vertex `v < n`, in the order of its list: later arcs come first (GB_GRAPH,
     /// arcs field).
     pub fn arcs(&self, v: u32) -> Arcs<'_>
         requires { v < length self.now.vertices }

@@ -8,7 +8,7 @@ use super::Graph;
 use crate::fields::{Kind, Util, Vertex};
 
 impl Graph {
-    /// Puts three integers into the utility fields x, y, z of vertex `v`, which has to be one. These fields then
+    /// Puts three integers into the utility fields x, y, z of vertex `v < n`. These fields then
     /// hold integers in every vertex: 0 where there was none (GB_GRAPH, util_types).
     pub fn set_vertex_ints(&mut self, v: u32, x: i64, y: i64, z: i64)
         requires { v < length self.old.vertices }

@@ -7,16 +7,16 @@ use super::{Id, IdWriter, MOST_BYTES};
 
 /// The id of a result with one operand: `s1`, the operand's id, `s2` (GB_GRAPH, make_compound_id).
 ///
-/// Where they do not fit into an id, only a front of the operand's id stands there, with `...)` behind it. The texts
+/// Where they do not fit into an id, only a prefix of the operand's id stands there, with `...)` after it. The texts
 /// have at most 151 bytes together, all of which an id may have.
 #[tactic(auto, unfolding(crate::specs::Ids::compound_id))]
 pub fn compound_id(s1: &[u8], id: &Id, s2: &[u8]) -> Id
     requires room { length s1.now + length s2.now ≤ 151 }
     requires before { IsTrue (is_id_text s1.now) }
-    requires behind { IsTrue (is_id_text s2.now) }
+    requires after { IsTrue (is_id_text s2.now) }
     ensures { result ≡ compound_id s1.now id.now s2.now }
 {
-    // What the texts leave of a field of 161 bytes, of which the last is the zero behind the id.
+    // What the texts leave of a field of 161 bytes, of which the last is the zero after the id.
     let available = MOST_BYTES + 1 - (s1.len() + s2.len());
     let fits = id.bytes().len() < available;
     let mut writer = IdWriter::new();
@@ -29,17 +29,17 @@ pub fn compound_id(s1: &[u8], id: &Id, s2: &[u8]) -> Id
 /// The id of a result with two operands: `s1`, the first one's id, `s2`, the second one's id, `s3` (GB_GRAPH,
 /// make_double_compound_id).
 ///
-/// Where they do not fit into an id, only a front of each operand's id stands there, with `...)` behind it. The texts
+/// Where they do not fit into an id, only a prefix of each operand's id stands there, with `...)` after it. The texts
 /// have at most 151 bytes together, all of which an id may have.
 #[tactic(auto, unfolding(crate::specs::Ids::double_compound_id))]
 pub fn double_compound_id(s1: &[u8], id1: &Id, s2: &[u8], id2: &Id, s3: &[u8]) -> Id
     requires room { length s1.now + length s2.now + length s3.now ≤ 151 }
     requires before { IsTrue (is_id_text s1.now) }
     requires between { IsTrue (is_id_text s2.now) }
-    requires behind { IsTrue (is_id_text s3.now) }
+    requires after { IsTrue (is_id_text s3.now) }
     ensures { result ≡ double_compound_id s1.now id1.now s2.now id2.now s3.now }
 {
-    // What the texts leave of a field of 161 bytes, of which the last is the zero behind the id.
+    // What the texts leave of a field of 161 bytes, of which the last is the zero after the id.
     let available = MOST_BYTES + 1 - (s1.len() + s2.len() + s3.len());
     let fits = id1.bytes().len() + id2.bytes().len() < available;
     let mut writer = IdWriter::new();
@@ -51,7 +51,7 @@ pub fn double_compound_id(s1: &[u8], id1: &Id, s2: &[u8], id2: &Id, s3: &[u8]) -
     writer.id()
 }
 
-// Puts an operand's id behind the bytes so far: where it does not fit, its first `kept` bytes and `...)`.
+// Appends an operand's id: where it does not fit, its first `kept` bytes and `...)`.
 fn push_operand(writer: &mut IdWriter, id: &Id, fits: bool, kept: usize)
     requires { length writer.old + length (if fits then id.now else cut_id kept id.now) ≤ most_id_bytes }
     ensures { writer.new ≡ writer.old ++ (if fits then id.now else cut_id kept id.now) }

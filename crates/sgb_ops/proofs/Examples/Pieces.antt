@@ -29,16 +29,16 @@ pub three_loops : each_edge_once 0 (link 0 0 1 ∷ link 1 0 1 ∷ link 2 0 1 ∷
 unfolding each_edge_once
 three_loops = refl
 
--- the record behind a loop is left out whatever its tip, but only with the next number
-pub behind_loop : each_edge_once 1 (link 4 1 1 ∷ link 5 2 1 ∷ link 7 1 1 ∷ link 9 2 1 ∷ link 3 0 1 ∷ [])
+-- the record after a loop is left out whatever its tip, but only with the next number
+pub after_loop : each_edge_once 1 (link 4 1 1 ∷ link 5 2 1 ∷ link 7 1 1 ∷ link 9 2 1 ∷ link 3 0 1 ∷ [])
     ≡ link 4 1 1 ∷ link 7 1 1 ∷ link 9 2 1 ∷ []
 unfolding each_edge_once
-behind_loop = refl
+after_loop = refl
 
 -- a record that is passed over leaves out no other
-pub behind_lower : each_edge_once 1 (link 4 0 1 ∷ link 5 1 1 ∷ []) ≡ link 5 1 1 ∷ []
+pub after_lower : each_edge_once 1 (link 4 0 1 ∷ link 5 1 1 ∷ []) ≡ link 5 1 1 ∷ []
 unfolding each_edge_once
-behind_lower = refl
+after_lower = refl
 
 -- parallel edges, and the least length of three
 abbrev parallel : List Event

@@ -1,12 +1,11 @@
 -- Products.
-use Rattle.std.specs.Prelude.{◌≡◌, pos, negsuc, false, [], ◌∷◌, map, Ok, Err, codes, refl}
+use Rattle.std.specs.Prelude.{◌≡◌, pos, negsuc, true, false, [], ◌∷◌, map, codes, refl}
 use Rattle.std.specs.Fmt.{digits}
-use Rattle.sgb_vec.specs.declared.panics.Panic.TheVariants.{VeryBad}
 use Rattle.sgb_graph.specs.Graphs.{numbers_from}
 use Rattle.sgb_graph.specs.Events.{list_from}
 use Rattle.sgb_graph.specs.Ids.{double_compound_id}
 use Rattle.sgb_ops.specs.Taken.{each_edge_once}
-use Rattle.sgb_ops.specs.Product.{Cartesian, Direct, Strong, product_type, accepted_order, product_graph_of}
+use Rattle.sgb_ops.specs.Product.{Cartesian, Direct, Strong, product_type, has_too_many_pairs, product_graph_of}
 use Rattle.sgb_ops.proofs.Examples.Operands.{complete_2, complete_3, blocks, block, arcs, names, title}
 
 -- product(complete(2),complete(2),0,0)
@@ -48,8 +47,8 @@ unfolding digits numbers_from list_from each_edge_once
 lesser_length = refl
 
 -- 40,000 by 40,000 vertices are too many, 1,000 by 1,000,000 are not
-pub too_many : accepted_order 40_000 40_000 ≡ Err VeryBad
+pub too_many : has_too_many_pairs 40_000 40_000 ≡ true
 too_many = refl
 
-pub not_too_many : accepted_order 1_000 1_000_000 ≡ Ok 1_000_000_000
+pub not_too_many : has_too_many_pairs 1_000 1_000_000 ≡ false
 not_too_many = refl

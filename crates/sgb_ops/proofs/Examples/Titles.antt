@@ -79,7 +79,7 @@ substituted_cut = refl
 pub substituted_length : length (substituted_name a b) ≡ 4095
 substituted_length = refl
 
--- a prime stands behind 4,094 bytes, a number behind 4,084
+-- a prime stands after 4,094 bytes, a number after 4,084
 pub prime_cut : drop 4092 (primed_name a) ≡ codes "aa'"
 prime_cut = refl
 

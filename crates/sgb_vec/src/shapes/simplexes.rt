@@ -1,7 +1,7 @@
 ghost use Rattle.std.specs.Prelude.{◌≡◌, ◌+◌, ◌<◌, ◌≤◌, pos, ◌∷◌, length, map, min};
 ghost use Rattle.sgb_vec.specs.Limits.{most_dimensions};
 ghost use Rattle.sgb_vec.specs.Sizes.{before_stop, stop_of, repeated, zero_after_stop};
-ghost use Rattle.sgb_vec.specs.Bounds.{first_parameter, bounds_to_repeat, bounds_count, cut_parameter, simplex_by_stop, simplex_of};
+ghost use Rattle.sgb_vec.specs.Bounds.{first_parameter, bounds_to_repeat, bounds_count, clamped_parameter, simplex_by_stop, simplex_of};
 
 use super::entries::{before_stop, stop_of, zero_after_stop};
 use super::{MOST_DIMENSIONS, Shape};
@@ -44,8 +44,8 @@ fn simplex_of(n: u64, entries: &[i64; 5]) -> Result<Shape, Panic>
     if n > u64::from(MOST_VERTICES) {
         return Err(Panic::VeryBad);
     }
-    let sizes = cut_bounds(n as u32, to_repeat.as_slice(), count as usize);
-    let params = cut_parameters(n as u32, zero_after_stop(entries).as_slice());
+    let sizes = clamped_bounds(n as u32, to_repeat.as_slice(), count as usize);
+    let params = clamped_parameters(n as u32, zero_after_stop(entries).as_slice());
     Ok(Shape { params, sizes })
 }
 
@@ -70,7 +70,7 @@ fn bounds_count(to_repeat: &[u64], stop: i64) -> u64
 }
 
 // The first `count` bounds of `to_repeat` repeated in turn, n in the place of each above n.
-fn cut_bounds(n: u32, to_repeat: &[u64], count: usize) -> ArrayVec<u32, 92>
+fn clamped_bounds(n: u32, to_repeat: &[u64], count: usize) -> ArrayVec<u32, 92>
     requires some { 0 < length to_repeat.now }
     requires few { count ≤ most_dimensions + 1 }
     ensures { result.items ≡ map (λ b. min b n) (repeated to_repeat.now count) }
@@ -84,9 +84,9 @@ fn cut_bounds(n: u32, to_repeat: &[u64], count: usize) -> ArrayVec<u32, 92>
 }
 
 // The parameters as the official name has them: n, and then the entries, n in the place of each above n.
-fn cut_parameters(n: u32, entries: &[i64]) -> ArrayVec<i64, 6>
+fn clamped_parameters(n: u32, entries: &[i64]) -> ArrayVec<i64, 6>
     requires { length entries.now ≤ 5 }
-    ensures { result.items ≡ pos n ∷ map (cut_parameter n) entries.now }
+    ensures { result.items ≡ pos n ∷ map (clamped_parameter n) entries.now }
 {
     let n = i64::from(n);
     let mut params = ArrayVec::new();

@@ -4,13 +4,14 @@ ghost use Rattle.sgb_vec.specs.Limits.{most_dimensions, most_vertices};
 ghost use Rattle.sgb_vec.specs.Sums.{count_of_sum, has_great_count};
 ghost use Rattle.sgb_vec.specs.SumRows.{CountsSums};
 
+use super::total_of;
 use crate::limits::MOST_VERTICES;
 use crate::panics::Panic;
 use std::alloc::Global;
 
 // How many vectors within the bounds add to `total`: the counts of the sums from 0 up stand in a row, which
 // takes one bound after another. `VeryBad` where for some of the first bounds, two or more, and some sum up to
-// `total` there are more than 1,000,000,000; `NoRoom` where memory is refused.
+// `total` there are more than 1,000,000,000; `NoRoom` when out of memory.
 pub(super) fn count_vectors(alloc: Global, total: u32, bounds: &[u32]) -> Result<u32, Panic>
     requires low { total ≤ most_vertices }
     requires few { length bounds.now ≤ most_dimensions + 1 }
@@ -36,7 +37,7 @@ fn count_of_one(total: u32, bounds: &[u32]) -> u32
     ensures count { result ≡ count_of_sum total bounds.now }
     ensures small { result ≤ 1 }
 {
-    if u64::from(total) <= sum_of(bounds) {
+    if u64::from(total) <= total_of(bounds) {
         1
     } else {
         0
@@ -49,18 +50,10 @@ fn row_length(total: u32, bounds: &[u32]) -> usize
     requires { length bounds.now ≤ most_dimensions + 1 }
     ensures { result ≡ min total (sum bounds.now) + 1 }
 {
-    u64::from(total).min(sum_of(bounds)) as usize + 1
+    u64::from(total).min(total_of(bounds)) as usize + 1
 }
 
-// The sum of the bounds, which may be above 32 bits.
-fn sum_of(bounds: &[u32]) -> u64
-    requires { length bounds.now ≤ most_dimensions + 1 }
-    ensures { result ≡ sum bounds.now }
-{
-    bounds.iter().map(|bound| u64::from(*bound)).sum()
-}
-
-// The row of no bounds: one vector adds to 0, and none to another sum. `NoRoom` where memory is refused.
+// The row of no bounds: one vector adds to 0, and none to another sum. `NoRoom` when out of memory.
 fn row_of_no_bounds(alloc: Global, len: usize) -> Result<Vec<u64>, Panic>
     requires { 0 < len }
     ensures counts { IfOk result (λ row. CountsSums row.items []) }
@@ -75,7 +68,7 @@ fn row_of_no_bounds(alloc: Global, len: usize) -> Result<Vec<u64>, Panic>
     Ok(row)
 }
 
-// Makes the row of some bounds that of these and one more: an entry of at most `bound` comes behind each vector.
+// Makes the row of some bounds that of these and one more: an entry of at most `bound` comes after each vector.
 fn add_bound(row: &mut [u64], bound: u32)
     requires short { length row.old ≤ most_vertices + 1 }
     requires small { All (λ count. count ≤ most_vertices) row.old }
@@ -101,8 +94,8 @@ fn add_up(row: &mut [u64])
 fn take_off(row: &mut [u64], width: usize)
     requires some { 0 < width }
     requires rising { (k : ℕ) → width ≤ k → k < length row.old → slice_index row.old (k - width) ≤ slice_index row.old k }
-    ensures front { (k : ℕ) → k < width → slice_index row.new k ≡ slice_index row.old k }
-    ensures behind { (k : ℕ) → width ≤ k → k < length row.old → slice_index row.new k + slice_index row.old (k - width) ≡ slice_index row.old k }
+    ensures prefix { (k : ℕ) → k < width → slice_index row.new k ≡ slice_index row.old k }
+    ensures after { (k : ℕ) → width ≤ k → k < length row.old → slice_index row.new k + slice_index row.old (k - width) ≡ slice_index row.old k }
 {
     for place in (width..row.len()).rev() {
         row[place] -= row[place - width];
@@ -116,7 +109,7 @@ fn has_great(row: &[u64]) -> bool
     row.iter().any(|count| *count > u64::from(MOST_VERTICES))
 }
 
-// The count at the place `total`; 0 behind the row.
+// The count at the place `total`; 0 after the row.
 fn count_at(row: &[u64], total: u32) -> u32
     requires { All (λ count. count ≤ most_vertices) row.now }
     ensures { result ≡ slice_index row.now total }

@@ -12,7 +12,7 @@ fn is_joined(id: &Id, texts: &[&[u8]]) -> bool {
     let mut rest = id.bytes();
     for text in texts {
         match rest.strip_prefix(*text) {
-            Some(behind) => rest = behind,
+            Some(left) => rest = left,
             None => return false,
         }
     }
@@ -54,30 +54,30 @@ fn complements(times: u32) -> Result<Id, Panic> {
 
 #[test]
 fn the_eighth_complement_is_cut(rt: HostRuntime) {
-    let front: &[u8] = b"complement(";
-    let behind: &[u8] = b",0,0,0)";
+    let start: &[u8] = b"complement(";
+    let end: &[u8] = b",0,0,0)";
     assert!(rt;
         complements(8).is_ok_and(|id| {
             id.bytes().len() == 160
                 && is_joined(
                     &id,
                     &[
-                        front,
-                        front,
-                        front,
-                        front,
-                        front,
-                        front,
-                        front,
-                        front,
+                        start,
+                        start,
+                        start,
+                        start,
+                        start,
+                        start,
+                        start,
+                        start,
                         b"subsets(2,1,-4,0,0,0,0x1,0)",
-                        behind,
-                        behind,
-                        behind,
-                        behind,
+                        end,
+                        end,
+                        end,
+                        end,
                         b",0,0,0",
                         b"...)",
-                        behind,
+                        end,
                     ],
                 )
         })
@@ -91,7 +91,7 @@ fn union_of_twins(id: &Id) -> Id {
 
 #[test]
 fn both_ids_are_cut(rt: HostRuntime) {
-    let front: &[u8] = b"complement(";
+    let start: &[u8] = b"complement(";
     assert!(rt;
         complements(8).is_ok_and(|id| {
             let union = union_of_twins(&id);
@@ -99,8 +99,8 @@ fn both_ids_are_cut(rt: HostRuntime) {
                 && is_joined(
                     &union,
                     &[
-                        b"gunion(", front, front, front, front, front, front, b"com...)", b",",
-                        front, front, front, front, front, front, b"com...)", b",0,0)",
+                        b"gunion(", start, start, start, start, start, start, b"com...)", b",",
+                        start, start, start, start, start, start, b"com...)", b",0,0)",
                     ],
                 )
         })

@@ -1,14 +1,14 @@
 use Rattle.std.proofs.Common.{◌∙◌, sym, eqb-true}
-use Rattle.sgb_vec.proofs.BoxPlaces.{EachBelow-test, EachBelow-length}
+use Rattle.sgb_vec.proofs.BoxPlaces.{IsBelow-test, IsBelow-length}
 use Rattle.sgb_vec.proofs.boxes.each_below.Goals as goal
 
 pub returns-then-entries-sizes : goal.returns-then-entries-sizes
 returns-then-entries-sizes c =
-    let means = EachBelow-test c.args.sizes.now c.args.entries.now c.if-entries-sizes.true in
+    let means = IsBelow-test c.args.sizes.now c.args.entries.now c.if-entries-sizes.true in
     (λ yes. means.0 (sym c.pairs_below.ensures ∙ yes), λ below. c.pairs_below.ensures ∙ means.1 below)
 
 pub returns-else-entries-sizes : goal.returns-else-entries-sizes
 returns-else-entries-sizes c = (
   λ yes. absurd (c.if-entries-sizes.false (eqb-true _ _ yes)),
-  λ below. absurd (c.if-entries-sizes.false (EachBelow-length _ _ below)),
+  λ below. absurd (c.if-entries-sizes.false (IsBelow-length _ _ below)),
 )

@@ -1,5 +1,5 @@
 use Rattle.std.proofs.Common.{arith}
-use Rattle.sgb_vec.proofs.BoxPlaces.{EachBelow-length}
+use Rattle.sgb_vec.proofs.BoxPlaces.{IsBelow-length}
 use Rattle.sgb_vec.proofs.BoxRanks.{rank-more, rank-next_below, rank-all}
 use Rattle.sgb_vec.proofs.boxes.place_among.Goals as goal
 
@@ -14,7 +14,7 @@ overflow_add-place c =
 pub loop-k-preserved : goal.loop-k-preserved
 loop-k-preserved c =
     rank-more c.args.sizes.now c.args.vector.now c.loop-k.k c.loop-k.place c.loop-k.invariant
-    (omega (arith, EachBelow-length c.args.sizes.now c.args.vector.now c.requires.below)) c.loop-k-test.true
+    (omega (arith, IsBelow-length c.args.sizes.now c.args.vector.now c.requires.below)) c.loop-k-test.true
 
 pub returns : goal.returns
 returns c = rank-all c.args.sizes.now c.args.vector.now c.loop-k.k c.loop-k.place c.loop-k.invariant c.requires.below (omega arith)

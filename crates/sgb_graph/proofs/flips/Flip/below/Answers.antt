@@ -1,5 +1,5 @@
 use Rattle.std.proofs.Common.{sym, subst}
-use Rattle.sgb_graph.specs.Draws.{StandsAt, bound_below}
+use Rattle.sgb_graph.specs.Draws.{IsAtDraw, bound_below}
 use Rattle.sgb_graph.specs.Flips.{FlipData}
 use Rattle.sgb_graph.proofs.Standing.{thrown_none, thrown_more, uniform_taken}
 use Rattle.sgb_graph.proofs.Waiting.{bound_above, waiting_falls}
@@ -9,7 +9,7 @@ pub loop-self-init : goal.loop-self-init
 loop-self-init c = record {
   flip = c.self.invariant;
   thrown = λ start k stands.
-      thrown_none start c.args.m k _ _ (subst (λ (d : FlipData). StandsAt start k d.numbers d.left) (sym c.self.view_is) stands);
+      thrown_none start c.args.m k _ _ (subst (λ (d : FlipData). IsAtDraw start k d.numbers d.left) (sym c.self.view_is) stands);
 }
 
 pub loop-self-preserved : goal.loop-self-preserved

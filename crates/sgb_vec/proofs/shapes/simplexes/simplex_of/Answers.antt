@@ -6,8 +6,8 @@ use Rattle.sgb_vec.specs.Bounds.{bounds_to_repeat, bounds_count}
 use Rattle.sgb_vec.proofs.SimplexBounds.{length-zero_after_stop, simplex_by_stop-fits}
 use Rattle.sgb_vec.proofs.shapes.simplexes.simplex_of.Goals as goal
 
-pub cut_parameters-params-requires : goal.cut_parameters-params-requires
-cut_parameters-params-requires c = grind (arith, common_steps, length-zero_after_stop c.args.entries.now)
+pub clamped_parameters-params-requires : goal.clamped_parameters-params-requires
+clamped_parameters-params-requires c = grind (arith, common_steps, length-zero_after_stop c.args.entries.now)
 
 pub returns : goal.returns
 returns c =

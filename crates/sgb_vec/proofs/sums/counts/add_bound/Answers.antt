@@ -12,4 +12,4 @@ take_off-requires-clause-rising c = λ k low high.
 
 pub returns : goal.returns
 returns c = λ bounds counts.
-    CountsSums-snoc c.args.row.now c.add_up.new.row c.take_off.new.row bounds c.args.bound counts (omega arith) (omega arith) c.add_up.ensures c.take_off.ensures.front c.take_off.ensures.behind
+    CountsSums-snoc c.args.row.now c.add_up.new.row c.take_off.new.row bounds c.args.bound counts (omega arith) (omega arith) c.add_up.ensures c.take_off.ensures.prefix c.take_off.ensures.after

@@ -1,8 +1,0 @@
-use Rattle.std.proofs.Common.{◌≡◌, ◌+◌, ◌∷◌, ◌++◌, length, drop, map, pos}
-use Rattle.sgb_vec.specs.Bounds.{cut_parameter}
-use Rattle.sgb_vec.proofs.shapes.simplexes.cut_parameters.Given as goal
-
--- the parameters so far, with the cut ones of the rest, are all
-abbrev pub invariant-loop-entry : goal.invariant-loop-entry
-invariant-loop-entry l =
-    (l.params.items ++ map (cut_parameter l.fn.n) (drop l.entry-index l.entries) ≡ pos l.fn.n ∷ map (cut_parameter l.fn.n) l.entries) × (length l.params.items ≡ l.entry-index + 1)

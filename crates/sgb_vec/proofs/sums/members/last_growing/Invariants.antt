@@ -1,5 +1,0 @@
-use Rattle.sgb_vec.proofs.SumTails.{IsGreatestFrom}
-use Rattle.sgb_vec.proofs.sums.members.last_growing.Given as goal
-
-abbrev pub invariant-loop-place : goal.invariant-loop-place
-invariant-loop-place l = IsGreatestFrom l.bounds l.entries l.place l.behind

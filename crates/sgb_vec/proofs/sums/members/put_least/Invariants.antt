@@ -1,5 +1,0 @@
-use Rattle.sgb_vec.proofs.SumTails.{IsFilledFrom}
-use Rattle.sgb_vec.proofs.sums.members.put_least.Given as goal
-
-abbrev pub invariant-loop-place : goal.invariant-loop-place
-invariant-loop-place l = IsFilledFrom l.bounds l.entries l.place l.rest l.total
