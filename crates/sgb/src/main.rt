@@ -14,9 +14,9 @@ mod tests;
 mod writing;
 
 use program::run_program;
-use sgb_file::{FromRead, ToWrite};
+use sgb_file::{Buffered, FromRead, ToWrite};
 use std::env;
-use std::io::{self, BufWriter};
+use std::io;
 use std::process::ExitCode;
 use std::rt::Env;
 
@@ -25,26 +25,18 @@ fn main(rt: HostRuntime) -> ExitCode {
     let words = words(&rt);
     let mut source = FromRead::new(rt.stdin());
     let mut errors = ToWrite::new(rt.stderr());
-    let status = match BufWriter::new(alloc, rt.stdout()) {
-        Ok(out) => run_program(
-            alloc,
-            words,
-            &mut source,
-            &mut ToWrite::new(out),
-            &mut errors,
-        ),
-        Err(error) => run_program(
-            alloc,
-            Err(error),
-            &mut source,
-            &mut ToWrite::new(rt.stdout()),
-            &mut errors,
-        ),
+    let status = match Buffered::new(alloc, rt.stdout()) {
+        Ok(mut out) => run_program(alloc, words, &mut source, &mut out, &mut errors),
+        // No memory for the buffer is none for the words.
+        Err(error) => {
+            let mut out = ToWrite::new(rt.stdout());
+            run_program(alloc, Err(error), &mut source, &mut out, &mut errors)
+        }
     };
     ExitCode::from(status)
 }
 
-// The words of the call.
+// The words of the command line.
 fn words<R: Env + AllocGlobal>(rt: &R) -> io::Result<Vec<String>> {
     let words = env::args(rt)?.collect(rt.alloc())?;
     Ok(words)

@@ -3,10 +3,11 @@
 ghost use Rattle.std.specs.Prelude.{◌≡◌, false};
 
 use crate::program::run_program;
-use sgb_file::{CutSink, CutSource, MemSink, MemSource, Sink};
+use sgb_file::{MemSink, MemSource, Sink};
 use std::alloc::Global;
-use std::io::{Error, ErrorKind};
 use std::test::Fail;
+
+mod endings;
 
 const USAGE: &str =
     "usage: sgb (names|list) EXPR [--after NAME|--skip K], sgb save EXPR, sgb queen, sgb flip EXPR\n";
@@ -20,7 +21,7 @@ struct Case<'a> {
     status: u8,
 }
 
-// The words of a call behind the program's name.
+// The words of a call after the program's name.
 fn words_of(alloc: Global, words: &[&str]) -> Result<Vec<String>, Fail> {
     let mut all = Vec::new(alloc);
     all.push(String::from_str(alloc, "sgb")?)?;
@@ -30,7 +31,7 @@ fn words_of(alloc: Global, words: &[&str]) -> Result<Vec<String>, Fail> {
     Ok(all)
 }
 
-// Makes a call, and answers its exit status.
+// Makes a call, and returns its exit status.
 fn call<W: Sink, E: Sink>(
     alloc: Global,
     words: &[&str],
@@ -544,31 +545,6 @@ fn a_listing_of_the_chessboard(rt: HostRuntime) -> Result<(), Fail> {
     Ok(())
 }
 
-// A sink that takes a few bytes and then fails has exactly the first bytes of the listing, however many it takes at
-// once; one that takes a byte for each put has all of it.
-#[test]
-fn a_listing_into_a_short_sink(rt: HostRuntime) -> Result<(), Fail> {
-    let words = ["list", "board(2,0,0,0,1,0,0)"];
-    let whole =
-        b"  The graph whose official name is\nboard(2,0,0,0,1,0,0)\n  has 2 vertices and 2 arcs:\n\n\
-        0\n  -> 1, length 1\n1\n  -> 0, length 1\n";
-    for each in [1usize, 7, 1000] {
-        for limit in 0..whole.len() {
-            let mut out: CutSink<160> = CutSink::new(each, limit, false);
-            let mut errors: CutSink<128> = CutSink::new(each, 128, false);
-            assert_eq!(rt; call(rt.alloc(), &words, &mut out, &mut errors)?, 3);
-            assert_eq!(rt; out.bytes(), &whole[..limit]);
-            assert_eq!(rt; errors.bytes(), b"sgb: write fault\n".as_slice());
-        }
-        let mut out: CutSink<160> = CutSink::new(each, whole.len(), false);
-        let mut errors: CutSink<128> = CutSink::new(each, 128, false);
-        assert_eq!(rt; call(rt.alloc(), &words, &mut out, &mut errors)?, 0);
-        assert_eq!(rt; out.bytes(), whole.as_slice());
-        assert_eq!(rt; errors.bytes(), b"".as_slice());
-    }
-    Ok(())
-}
-
 #[test]
 fn eighteen_hundred_names(rt: HostRuntime) -> Result<(), Fail> {
     let mut out = MemSink::new(rt.alloc());
@@ -583,100 +559,5 @@ fn eighteen_hundred_names(rt: HostRuntime) -> Result<(), Fail> {
         out.bytes()
             .starts_with(b"0.0.0.0.0.0.0\n0.0.0.0.0.0.1\n0.0.0.0.0.1.0\n")
     );
-    Ok(())
-}
-
-#[test]
-fn a_sink_of_ten_bytes(rt: HostRuntime) -> Result<(), Fail> {
-    for each in [1usize, 3, 100] {
-        let mut out: CutSink<64> = CutSink::new(each, 10, false);
-        let mut errors: CutSink<128> = CutSink::new(each, 128, false);
-        let words = ["names", "board(2,3,0,0,1,0,0)"];
-        assert_eq!(rt; call(rt.alloc(), &words, &mut out, &mut errors)?, 3);
-        assert_eq!(rt; out.bytes(), b"0.0\n0.1\n0.".as_slice());
-        assert_eq!(rt; errors.bytes(), b"sgb: write fault\n".as_slice());
-    }
-    Ok(())
-}
-
-#[test]
-fn a_byte_for_each_put(rt: HostRuntime) -> Result<(), Fail> {
-    let mut out: CutSink<64> = CutSink::new(1, 64, false);
-    let mut errors: CutSink<128> = CutSink::new(1, 128, false);
-    let words = ["names", "board(2,3,0,0,1,0,0)"];
-    assert_eq!(rt; call(rt.alloc(), &words, &mut out, &mut errors)?, 0);
-    assert_eq!(rt; out.bytes(), b"0.0\n0.1\n0.2\n1.0\n1.1\n1.2\n".as_slice());
-    assert_eq!(rt; errors.bytes(), b"".as_slice());
-    Ok(())
-}
-
-#[test]
-fn a_flush_that_fails(rt: HostRuntime) -> Result<(), Fail> {
-    let mut out: CutSink<64> = CutSink::new(64, 64, true);
-    let mut errors: CutSink<128> = CutSink::new(128, 128, false);
-    let words = ["names", "board(2,0,0,0,1,0,0)"];
-    assert_eq!(rt; call(rt.alloc(), &words, &mut out, &mut errors)?, 3);
-    assert_eq!(rt; out.bytes(), b"0\n1\n".as_slice());
-    assert_eq!(rt; errors.bytes(), b"sgb: write fault\n".as_slice());
-    // a refused request flushes nothing, and keeps its own line
-    let mut out: CutSink<64> = CutSink::new(64, 64, true);
-    let mut errors: CutSink<128> = CutSink::new(128, 128, false);
-    let words = ["names", "board(2,-92,0,0,1,0,0)"];
-    assert_eq!(rt; call(rt.alloc(), &words, &mut out, &mut errors)?, 1);
-    assert_eq!(rt;
-        errors.bytes(),
-        b"Something went wrong (panic code 30)!\n".as_slice()
-    );
-    Ok(())
-}
-
-#[test]
-fn a_standard_error_that_fails(rt: HostRuntime) -> Result<(), Fail> {
-    for (words, status) in [
-        (["names", "board(3,"], 2),
-        (["names", "board(2,-92,0,0,1,0,0)"], 1),
-    ] {
-        let mut out = MemSink::new(rt.alloc());
-        let mut errors: CutSink<128> = CutSink::new(128, 0, false);
-        assert_eq!(rt; call(rt.alloc(), &words, &mut out, &mut errors)?, status);
-        assert_eq!(rt; errors.bytes(), b"".as_slice());
-    }
-    Ok(())
-}
-
-#[test]
-fn a_source_that_fails_is_not_read(rt: HostRuntime) -> Result<(), Fail> {
-    let mut source = CutSource::new(b"", 1, 0);
-    let mut out = MemSink::new(rt.alloc());
-    let mut errors = MemSink::new(rt.alloc());
-    let words = words_of(rt.alloc(), &["names", "board(2,0,0,0,1,0,0)"])?;
-    let status = run_program(rt.alloc(), Ok(words), &mut source, &mut out, &mut errors);
-    assert_eq!(rt; status, 0);
-    assert_eq!(rt; out.bytes(), b"0\n1\n".as_slice());
-    Ok(())
-}
-
-// Words that could not be read are an invalid command line, unless memory ran out.
-#[test]
-fn words_that_could_not_be_read(rt: HostRuntime) -> Result<(), Fail> {
-    let cases = [
-        (ErrorKind::InvalidData, USAGE, 2),
-        (ErrorKind::Other, USAGE, 2),
-        (
-            ErrorKind::OutOfMemory,
-            "Something went wrong (panic code 1)!\n",
-            1,
-        ),
-    ];
-    for (kind, line, status) in cases {
-        let mut source = MemSource::new(b"");
-        let mut out: CutSink<64> = CutSink::new(64, 64, true);
-        let mut errors = MemSink::new(rt.alloc());
-        let words = Err(Error::from(kind));
-        let answered = run_program(rt.alloc(), words, &mut source, &mut out, &mut errors);
-        assert_eq!(rt; answered, status);
-        assert_eq!(rt; errors.bytes(), line.as_bytes());
-        assert!(rt; !out.failed());
-    }
     Ok(())
 }
