@@ -82,8 +82,7 @@ impl Family for SumFamily {
     }
 
     fn holds(&self, vector: &[u32]) -> bool {
-        each_within(vector, self.bounds.as_slice())
-            && total_of(vector) == u64::from(self.total)
+        each_within(vector, self.bounds.as_slice()) && total_of(vector) == u64::from(self.total)
     }
 
     fn first(&self, vector: &mut Vector) -> bool {

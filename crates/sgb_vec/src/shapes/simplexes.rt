@@ -15,7 +15,7 @@ use arrayvec::ArrayVec;
 /// n, among the parameters too.
 ///
 /// `Bad` where n is negative, or else above 91 dimensions, one less than bounds; else `VeryBad` where n is
-/// above 1,000,000,000. That the vectors are not too many is left to another function.
+/// above 1,000,000,000. Whether there are too many vectors is left to `SumFamily::new`.
 pub fn simplex_bounds(n: i64, n0: i64, n1: i64, n2: i64, n3: i64, n4: i64) -> Result<Shape, Panic>
     ensures { result ≡ simplex_of n n0 n1 n2 n3 n4 }
 {
