@@ -14,7 +14,7 @@ use Rattle.sgb_gen.specs.Limits.{most_piece}
 use Rattle.sgb_gen.specs.Shorthands.{circuit, complete, cycle, disjoint_subsets, empty, petersen, transitive}
 use Rattle.sgb_gen.specs.Simplexes.{SimplexParams, accepted_simplex, simplex}
 use Rattle.sgb_gen.specs.Subsets.{SubsetsParams, accepted_subsets, subsets}
-use Rattle.sgb.specs.Answers.{answer_behind, answer_from, answer_of, left_out, left_out_by, list_answer, names_answer, vertex_named}
+use Rattle.sgb.specs.Outcomes.{answer_after, answer_from, answer_of, left_out, left_out_by, list_answer, names_answer, vertex_named}
 use Rattle.sgb.specs.Values.{value_of}
 use Rattle.sgb.specs.declared.expressions.Expr.{Expr}
 use Rattle.sgb.specs.declared.expressions.Expr.TheVariants as expr
@@ -124,7 +124,7 @@ value_judged expr.Petersen = subsets_judged petersen
 abbrev IsOwn : {T : Type 0} → Result T Fault → Type 0
 IsOwn r = r ≢ Err (fault.Panic NoRoom)
 
--- how many vertices at the front are left out
+-- how many first vertices are left out
 left_out_own : (names : List (List ℕ)) (resume : Resume) → IsOwn (left_out names resume)
 left_out_own names resume.Whole = λ e. cc
 left_out_own names (resume.Skip k) = λ e. cc
@@ -135,9 +135,9 @@ left_out_own names (resume.After name) = at_vertex (vertex_named name names)
     at_vertex None e = cc
 
 -- what is written once that is known
-behind_own : (from : Result ℕ Fault) (text : ℕ → List ℕ) → IsOwn from → IsOwn (answer_behind from text)
-behind_own (Ok k) text p e = cc
-behind_own (Err f) text p e =
+skipped_own : (from : Result ℕ Fault) (text : ℕ → List ℕ) → IsOwn from → IsOwn (answer_after from text)
+skipped_own (Ok k) text p e = cc
+skipped_own (Err f) text p e =
     let same : f ≡ fault.Panic NoRoom = cc in
     p (ap Err same)
 
@@ -148,7 +148,7 @@ from_own (Err r) answer p q = λ e.
     let same : r ≡ NoRoom = cc in
     p (ap Err same)
 
--- the answer of a request is its output or its own refusal, never want of memory
+-- the answer of a request is its output or its own refusal, never that memory ran out
 pub answer_own : (r : Request) → answer_of r ≢ Err (fault.Panic NoRoom)
-answer_own (request.Names e resume) = from_own (value_of e) _ (value_judged e) (λ d. behind_own _ _ (left_out_own _ resume))
-answer_own (request.List e resume) = from_own (value_of e) _ (value_judged e) (λ d. behind_own _ _ (left_out_own _ resume))
+answer_own (request.Names e resume) = from_own (value_of e) _ (value_judged e) (λ d. skipped_own _ _ (left_out_own _ resume))
+answer_own (request.List e resume) = from_own (value_of e) _ (value_judged e) (λ d. skipped_own _ _ (left_out_own _ resume))

@@ -1,10 +1,10 @@
 -- What the contracts of sgb speak of.
-pub mod Answers
 pub mod CommandLine
 pub mod Expressions
 pub mod Faults
 pub mod Fronts
 pub mod Grammar
+pub mod Outcomes
 pub mod Program
 pub mod Reading
 pub mod Requests

@@ -1,7 +1,7 @@
 //! sgb: the names and listings of the graphs of Stanford GraphBase's generators.
 #![tactic(auto)]
 
-pub(crate) mod calls;
+pub(crate) mod arguments;
 pub mod command_line;
 mod evaluation;
 pub mod expressions;
