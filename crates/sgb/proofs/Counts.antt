@@ -14,7 +14,7 @@ own = numerals_by_value (AllDigits 10) tells_digits
 value_fits : (text : List ℕ) → AllDigits 10 text → length text ≤ 18 → digits_value 10 text < 2 ^ 64
 value_fits text digits short = let low : digits_value 10 text < 10 ^ 18 = digits_value_short own text 18 digits short in omega arith
 
--- of a text of at most 18 bytes with no plus in front, `parse` gives a number exactly where it is 1 to 18 digits
+-- of a text of at most 18 bytes with no plus before it, `parse` gives a number exactly where it is 1 to 18 digits
 pub count_read : {E : Type 0} (text : List ℕ) (r : Result ℕ E) → ParsesUnsigned 64 10 text r → length text ≤ 18 → get_or text 0 0 ≢ 43
     → SomeIff (result_ok r) (IsDigits text) (digits_value 10 text)
 count_read {E} text r parsed short plain = go r (parse_plain own 64 text r parsed plain)

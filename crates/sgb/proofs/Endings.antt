@@ -7,14 +7,14 @@ use Rattle.sgb_vec.specs.declared.panics.Panic.TheVariants.{NoRoom}
 use Rattle.sgb_vec.specs.declared.panics.Panic.{Panic}
 use Rattle.sgb_graph.specs.Descriptions.{Description, IsAnswerOf}
 use Rattle.sgb_graph.specs.Graphs.{GraphData}
-use Rattle.sgb.specs.Answers.{answer_behind, answer_from, list_answer, names_answer, outcome_of}
+use Rattle.sgb.specs.Outcomes.{answer_after, answer_from, list_answer, names_answer, outcome_of}
 use Rattle.sgb.specs.Texts.{shown, shown_graph}
 use Rattle.sgb.specs.Values.{IsLocalOf}
 use Rattle.sgb.specs.declared.requests.Resume.{Resume}
 use Rattle.sgb.proofs.Shown.{list_answer-is}
 use Rattle.sgb_file.specs.Devices.{AppendsUnlessFailed}
 use Rattle.sgb.specs.Faults.{line_of, status_of}
-use Rattle.sgb.specs.Runs.{Change, Answers}
+use Rattle.sgb.specs.Runs.{Change, IsRunOf}
 use Rattle.sgb.specs.Writing.{IsEnded, IsWhole, IsWritten, IsCutOff}
 use Rattle.sgb.specs.declared.faults.Fault.{Fault}
 use Rattle.sgb.specs.declared.faults.Fault.TheVariants as fault
@@ -31,14 +31,14 @@ no_line false a = Appends-nil a
 
 -- the request was answered in full
 pub answers_ok : {T : Type 0} (a : Result (List ℕ) Fault) (x : T) (w v e : Option (List ℕ)) (wf ef : Bool)
-    → IsEnded a (change w v wf) (Ok x) → Answers (outcome_of a) (change w v wf) (change e e ef) 0
+    → IsEnded a (change w v wf) (Ok x) → IsRunOf (outcome_of a) (change w v wf) (change e e ef) 0
 answers_ok (Ok text) x w v e true ef p = absurd (both_ways true p.sound refl)
 answers_ok (Ok text) x w v e false ef p = inl (record { output = p.output; line = no_line ef e; exit = refl })
 answers_ok (Err g) x w v e wf ef p = absurd p
 
--- the request was cut off, by the sink or by want of memory
+-- the request was cut off, by the sink or out of memory
 cut_answers : (text : List ℕ) (f : Fault) (w v e d : Option (List ℕ)) (wf ef : Bool) → IsCutOff text (change w v wf) f
-    → AppendsUnlessFailed ef e d (line_of f) → Answers (outcome_of (Ok text)) (change w v wf) (change e d ef) (status_of f)
+    → AppendsUnlessFailed ef e d (line_of f) → IsRunOf (outcome_of (Ok text)) (change w v wf) (change e d ef) (status_of f)
 cut_answers text f w v e d true ef p line = elim p.cause [
   | inl h ↦ record {
     output = p.output;
@@ -58,7 +58,7 @@ cut_answers text f w v e d false ef p line = elim p.cause [
 
 -- the request was refused, or memory was, with nothing written
 refused_answers : (g f : Fault) (w v e d : Option (List ℕ)) (wf ef : Bool) → (f ≡ g) ⊎ (f ≡ fault.Panic NoRoom) → IsWhole [] (change w v wf)
-    → AppendsUnlessFailed ef e d (line_of f) → Answers (outcome_of (Err g)) (change w v wf) (change e d ef) (status_of f)
+    → AppendsUnlessFailed ef e d (line_of f) → IsRunOf (outcome_of (Err g)) (change w v wf) (change e d ef) (status_of f)
 refused_answers g f w v e d true ef by p line = absurd (both_ways true p.sound refl)
 refused_answers g f w v e d false ef (inl same) p line = inl (record {
   output = p.output;
@@ -74,22 +74,22 @@ refused_answers g f w v e d false ef (inr memory) p line = inr (record {
 -- the request ended with a fault, and its line was written
 pub answers_err : (T : Type 0) (a : Result (List ℕ) Fault) (f : Fault) (w v e d : Option (List ℕ)) (wf ef : Bool)
     → IsEnded {T = T} a (change w v wf) (Err f) → AppendsUnlessFailed ef e d (line_of f)
-    → Answers (outcome_of a) (change w v wf) (change e d ef) (status_of f)
+    → IsRunOf (outcome_of a) (change w v wf) (change e d ef) (status_of f)
 answers_err T (Ok text) f w v e d wf ef p line = cut_answers text f w v e d wf ef p line
 answers_err T (Err g) f w v e d wf ef p line = refused_answers g f w v e d wf ef p.0 p.1 line
 
--- the flush behind a text failed
+-- the flush after a text failed
 flush_cut : (text : List ℕ) (a b c : Option (List ℕ)) (failed : Bool) (f : Fault) → Appends a b text → Keeps b c → failed ≡ true → f ≡ fault.Write
     → IsCutOff text (change a c failed) f
 flush_cut text a b c failed f p q h e = record { output = prefix_all a c text (Appends-kept a b c text p q); cause = inl (h, e) }
 
--- the flush behind an answer that was written failed
+-- the flush after an answer that was written failed
 pub flush_failed : {T : Type 0} (S : Type 0) (a : Result (List ℕ) Fault) (x : T) (w v u : Option (List ℕ)) (before after : Bool) (f : Fault)
     → IsEnded a (change w v before) (Ok x) → Keeps v u → after ≡ true → f ≡ fault.Write → IsEnded {T = S} a (change w u after) (Err f)
 flush_failed S (Ok text) x w v u before after f p kept failed e = flush_cut text w v u after f p.output kept failed e
 flush_failed S (Err g) x w v u before after f p kept failed e = absurd p
 
--- the flush behind an answer that was written went well
+-- the flush after an answer that was written went well
 pub flush_sound : {T S : Type 0} (a : Result (List ℕ) Fault) (x : T) (y : S) (w v u : Option (List ℕ)) (before after : Bool)
     → IsEnded a (change w v before) (Ok x) → Keeps v u → after ≡ false → IsEnded a (change w u after) (Ok y)
 flush_sound (Ok text) x y w v u before after p kept sound = record { output = Appends-kept w v u text p.output kept; sound = sound }
@@ -102,25 +102,25 @@ refused_at_once T a f w failed e h =
     let P : Result (List ℕ) Fault → Type 0 = λ r. IsEnded {T = T} r (change w w failed) (Err f) in
     subst P (sym e) (inl refl, record { output = Appends-nil w; sound = h })
 
--- want of memory before anything was written
+-- out of memory before anything was written
 pub memory_at_once : (T : Type 0) (a : Result (List ℕ) Fault) (w : Option (List ℕ)) (failed : Bool) → failed ≡ false
     → IsEnded {T = T} a (change w w failed) (Err (fault.Panic NoRoom))
 memory_at_once T (Ok text) w failed h = record { output = prefix_none w text; cause = inr (h, refl) }
 memory_at_once T (Err g) w failed h = (inr refl, record { output = Appends-nil w; sound = h })
 
 -- an answer that was written or cut off, once it is known where it begins
-pub ended_behind : {T : Type 0} (from : Result ℕ Fault) (k : ℕ) (text : ℕ → List ℕ) (out : Change) (r : Result T Fault)
-    → Ok k ≡ from → IsWritten (text k) out r → IsEnded (answer_behind from text) out r
-ended_behind {T = T} from k text out (Ok x) e p = subst (λ (a : Result ℕ Fault). IsEnded {T = T} (answer_behind a text) out (Ok x)) e p
-ended_behind {T = T} from k text out (Err f) e p = subst (λ (a : Result ℕ Fault). IsEnded {T = T} (answer_behind a text) out (Err f)) e p
+pub ended_after : {T : Type 0} (from : Result ℕ Fault) (k : ℕ) (text : ℕ → List ℕ) (out : Change) (r : Result T Fault)
+    → Ok k ≡ from → IsWritten (text k) out r → IsEnded (answer_after from text) out r
+ended_after {T = T} from k text out (Ok x) e p = subst (λ (a : Result ℕ Fault). IsEnded {T = T} (answer_after a text) out (Ok x)) e p
+ended_after {T = T} from k text out (Err f) e p = subst (λ (a : Result ℕ Fault). IsEnded {T = T} (answer_after a text) out (Err f)) e p
 
 -- an answer refused because it is not known where it begins
-pub refused_behind : (T : Type 0) (from : Result ℕ Fault) (text : ℕ → List ℕ) (f : Fault) (w : Option (List ℕ)) (failed : Bool)
-    → (Err f ≡ from) ⊎ ◌≡◌ {A = Result ℕ Fault} (Err f) (Err (fault.Panic NoRoom)) → failed ≡ false → IsEnded {T = T} (answer_behind from text) (change w w failed) (Err f)
-refused_behind T from text f w failed (inl e) h = refused_at_once T (answer_behind from text) f w failed (ap (λ (a : Result ℕ Fault). answer_behind a text) (sym e)) h
-refused_behind T from text f w failed (inr e) h =
+pub refused_after : (T : Type 0) (from : Result ℕ Fault) (text : ℕ → List ℕ) (f : Fault) (w : Option (List ℕ)) (failed : Bool)
+    → (Err f ≡ from) ⊎ ◌≡◌ {A = Result ℕ Fault} (Err f) (Err (fault.Panic NoRoom)) → failed ≡ false → IsEnded {T = T} (answer_after from text) (change w w failed) (Err f)
+refused_after T from text f w failed (inl e) h = refused_at_once T (answer_after from text) f w failed (ap (λ (a : Result ℕ Fault). answer_after a text) (sym e)) h
+refused_after T from text f w failed (inr e) h =
     let memory : f ≡ fault.Panic NoRoom = cc in
-    subst (λ g. IsEnded {T = T} (answer_behind from text) (change w w failed) (Err g)) (sym memory) (memory_at_once T (answer_behind from text) w failed h)
+    subst (λ g. IsEnded {T = T} (answer_after from text) (change w w failed) (Err g)) (sym memory) (memory_at_once T (answer_after from text) w failed h)
 
 -- an answer refused because its graph is
 pub refused_value : (T : Type 0) (v : Result Description Panic) (answer : Description → Result (List ℕ) Fault) (p : Panic) (f : Fault) (w : Option (List ℕ)) (failed : Bool)

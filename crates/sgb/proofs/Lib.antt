@@ -1,12 +1,13 @@
 -- The lemmas of sgb, by subject.
-pub mod CallLemmas
+pub mod ClapHelp
+pub mod ClapRequired
+pub mod ClapValues
 pub mod Counts
 pub mod CutOff
 pub mod Endings
-pub mod HelpRefused
+pub mod EnteredCommands
 pub mod Lines
 pub mod Listings
 pub mod Named
 pub mod Refusals
-pub mod RequiredValues
 pub mod Shown

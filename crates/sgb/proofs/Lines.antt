@@ -6,11 +6,11 @@ use Rattle.std.proofs.lemmas.List.{drop_all}
 use Rattle.std.proofs.lemmas.Option.{slice_get_within, get_or_from_slice_get}
 use Rattle.sgb_vec.specs.Order.{IsFirst, IsNext, IsLast}
 
--- the texts from place on, of those behind the first skip
+-- the texts from place on, of those after the first skip
 abbrev pub texts_left : {X : Type 0} → (X → List ℕ) → List X → ℕ → ℕ → List ℕ
 texts_left f xs skip place = flat_map f (drop (max skip place) xs)
 
--- at the front, those behind the first skip
+-- at first, those after the first skip
 pub texts_left-whole : {X : Type 0} (f : X → List ℕ) (xs : List X) (skip : ℕ) → texts_left f xs skip 0 ≡ flat_map f (drop skip xs)
 texts_left-whole f xs skip =
     let e : max skip 0 ≡ skip = omega arith in
@@ -37,23 +37,23 @@ texts_left-at f xs skip place x h e =
     ap (λ k. flat_map f (drop k xs)) here ∙ ap (flat_map f) (drop-at xs place x e)
     ∙ ap (λ k. f x ++ flat_map f (drop k xs)) (sym next)
 
--- none is left behind the last
+-- none is left after the last
 pub texts_left-none : {X : Type 0} (f : X → List ℕ) (xs : List X) (skip place : ℕ) → length xs ≤ place → texts_left f xs skip place ≡ []
 texts_left-none f xs skip place h =
-    let behind : length xs ≤ max skip place = omega arith in
-    ap (flat_map f) (drop_all (max skip place) xs behind)
+    let past : length xs ≤ max skip place = omega arith in
+    ap (flat_map f) (drop_all (max skip place) xs past)
 
 -- the vector at a place is one of the members
 pub Contains-at : (members : List (List ℕ)) (i : ℕ) (v : List ℕ) → slice_get members i ≡ Some v → Contains members v
 Contains-at members i v e = (i, slice_get_within members i v e, get_or_from_slice_get members i v v e)
 
--- the vector behind the one at a place stands at the next place
+-- the vector after the one at a place stands at the next place
 pub next_at : (members : List (List ℕ)) (i : ℕ) (found : Bool) (v w : List ℕ) → OnTrue found (IsNext members v w) → OnFalse found (IsLast members v)
     → slice_get members i ≡ Some v → i + 1 < length members → slice_get members (i + 1) ≡ Some w
 next_at members i true v w next last e h = next i e
 next_at members i false v w next last e h = let at_end = last i e in absurd (omega arith)
 
--- the first vector stands at the front
+-- the first vector stands at place 0
 pub at_first : (members : List (List ℕ)) (found : Bool) (v : List ℕ) → OnTrue found (IsFirst members v) → OnFalse found (members ≡ []) → 0 < length members
     → slice_get members 0 ≡ Some v
 at_first members true v first none some = first

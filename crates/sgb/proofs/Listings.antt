@@ -19,12 +19,12 @@ range-none k n h =
     let none : n - k ≡ 0 = omega arith in
     ap (range_with_len k) none
 
--- the block of a vertex stands before those behind it
+-- the block of a vertex stands before those after it
 pub blocks-first : (g : Shown) (v : ℕ) → v < length g.names → blocks g v ≡ block g v ++ blocks g (v + 1)
 unfolding blocks
 blocks-first g v h = ap (flat_map (block g)) (range-first v (length g.names) h)
 
--- no block is left behind the last vertex
+-- no block is left after the last vertex
 pub blocks-none : (g : Shown) (v : ℕ) → length g.names ≤ v → blocks g v ≡ []
 unfolding blocks
 blocks-none g v h = ap (flat_map (block g)) (range-none v (length g.names) h)

@@ -6,7 +6,7 @@ use Rattle.std.proofs.lemmas.Bool.Decides.{nat_tests}
 use Rattle.std.proofs.lemmas.List.Sums.{position_or_len_is}
 use Rattle.std.proofs.lemmas.Option.{slice_get_within, get_or_from_slice_get}
 use Rattle.std.proofs.lemmas.Bool.{cases_lt}
-use Rattle.sgb.specs.Answers.{vertex_named}
+use Rattle.sgb.specs.Outcomes.{vertex_named}
 
 -- this vertex has the name
 abbrev pub has_name : List ℕ → List ℕ → Bool
@@ -21,7 +21,7 @@ pub none_before-more : (names : List (List ℕ)) (name other : List ℕ) (i : �
     → NoneBefore names name i → NoneBefore names name (i + 1)
 none_before-more names name other i at differs none = λ k h. elim (cases_lt k i) [
   | inl before ↦ none k before
-  | inr behind ↦
+  | inr past ↦
       let same : k ≡ i = omega arith in
       ap (λ j. has_name name (slice_index_or names j [])) same ∙ ap (has_name name) (get_or_from_slice_get names i other [] at) ∙ differs
 ]

@@ -20,7 +20,7 @@ use Rattle.sgb_expr.specs.declared.expressions.Expr.{Expr}
 use Rattle.sgb_expr.specs.declared.expressions.Expr.TheVariants as expr
 use Rattle.sgb_expr.specs.declared.expressions.Family.{Family}
 use Rattle.sgb_expr.specs.declared.expressions.Family.TheVariants as family
-use Rattle.sgb.specs.Answers.{answer_behind, answer_from, answer_of, left_out, left_out_by, list_answer, names_answer, vertex_named}
+use Rattle.sgb.specs.Outcomes.{answer_after, answer_from, answer_of, left_out, left_out_by, list_answer, names_answer, vertex_named}
 use Rattle.sgb.specs.Values.{family_value, value_of}
 use Rattle.sgb.specs.declared.faults.Fault.{Fault}
 use Rattle.sgb.specs.declared.faults.Fault.TheVariants as fault
@@ -122,7 +122,7 @@ value_judged (expr.Family f) = family_judged f
 abbrev IsOwn : {T : Type 0} → Result T Fault → Type 0
 IsOwn r = r ≢ Err (fault.Panic NoRoom)
 
--- how many vertices at the front are left out
+-- how many first vertices are left out
 left_out_own : (names : List (List ℕ)) (resume : Resume) → IsOwn (left_out names resume)
 left_out_own names resume.Whole = λ e. cc
 left_out_own names (resume.Skip k) = λ e. cc
@@ -133,9 +133,9 @@ left_out_own names (resume.After name) = at_vertex (vertex_named name names)
     at_vertex None e = cc
 
 -- what is written once that is known
-behind_own : (from : Result ℕ Fault) (text : ℕ → List ℕ) → IsOwn from → IsOwn (answer_behind from text)
-behind_own (Ok k) text p e = cc
-behind_own (Err f) text p e =
+skipped_own : (from : Result ℕ Fault) (text : ℕ → List ℕ) → IsOwn from → IsOwn (answer_after from text)
+skipped_own (Ok k) text p e = cc
+skipped_own (Err f) text p e =
     let same : f ≡ fault.Panic NoRoom = cc in
     p (ap Err same)
 
@@ -148,5 +148,5 @@ from_own (Err r) answer p q = λ e.
 
 -- the answer of a request is its output or its own refusal, never out of memory
 pub answer_own : (r : Request) → answer_of r ≢ Err (fault.Panic NoRoom)
-answer_own (request.Names e resume) = from_own (value_of e) _ (value_judged e) (λ d. behind_own _ _ (left_out_own _ resume))
-answer_own (request.List e resume) = from_own (value_of e) _ (value_judged e) (λ d. behind_own _ _ (left_out_own _ resume))
+answer_own (request.Names e resume) = from_own (value_of e) _ (value_judged e) (λ d. skipped_own _ _ (left_out_own _ resume))
+answer_own (request.List e resume) = from_own (value_of e) _ (value_judged e) (λ d. skipped_own _ _ (left_out_own _ resume))

@@ -5,7 +5,7 @@ use Rattle.std.proofs.lemmas.List.{length-map}
 use Rattle.sgb_graph.specs.Descriptions.{Description, IsGraphOf}
 use Rattle.sgb_graph.specs.Events.{list_of}
 use Rattle.sgb_graph.specs.Graphs.{GraphData, chain_of}
-use Rattle.sgb.specs.Answers.{left_out, list_answer, answer_behind, head_for}
+use Rattle.sgb.specs.Outcomes.{left_out, list_answer, answer_after, head_for}
 use Rattle.sgb.specs.Texts.{Shown, shown, shown_graph, name_line, arc_line, head, block, blocks}
 use Rattle.sgb.specs.declared.requests.Resume.{Resume}
 use Rattle.sgb.specs.declared.faults.Fault.{Fault}
@@ -39,9 +39,9 @@ unfolding head
 head_is d g is = rw (is.id, is.names, is.arcs.count) refl
 
 -- what is known of where an answer begins makes the same answer of the same texts
-same_behind : (from : Result ℕ Fault) (f g : ℕ → List ℕ) → ((k : ℕ) → f k ≡ g k) → answer_behind from f ≡ answer_behind from g
-same_behind (Ok k) f g h = ap Ok (h k)
-same_behind (Err e) f g h = refl
+same_after : (from : Result ℕ Fault) (f g : ℕ → List ℕ) → ((k : ℕ) → f k ≡ g k) → answer_after from f ≡ answer_after from g
+same_after (Ok k) f g h = ap Ok (h k)
+same_after (Err e) f g h = refl
 
 -- the head stands, or does not
 same_head : (resume : Resume) (x y : List ℕ) → x ≡ y → head_for resume x ≡ head_for resume y
@@ -52,6 +52,6 @@ pub list_answer-is : (d : Description) (g : GraphData) (resume : Resume) → IsG
     → list_answer (shown_graph g) resume ≡ list_answer (shown d) resume
 list_answer-is d g resume is =
     let text = λ (s : Shown) (k : ℕ). head_for resume (head s) ++ blocks s k in
-    ap (λ names. answer_behind (left_out names resume) (text (shown_graph g))) is.names
-    ∙ same_behind (left_out d.names resume) (text (shown_graph g)) (text (shown d))
+    ap (λ names. answer_after (left_out names resume) (text (shown_graph g))) is.names
+    ∙ same_after (left_out d.names resume) (text (shown_graph g)) (text (shown d))
     (λ k. ap₂ (λ x y. x ++ y) (same_head resume _ _ (head_is d g is)) (blocks_are d g is k))

@@ -8,13 +8,13 @@ use Rattle.clap.specs.declared.error.kind.ErrorKind.{ErrorKind}
 use Rattle.clap.specs.declared.error.kind.ErrorKind.TheVariants.{OutOfMemory}
 use Rattle.clap.specs.declared.parser.matches.ArgMatches.{ArgMatches}
 use Rattle.sgb_vec.specs.declared.panics.Panic.TheVariants.{NoRoom}
-use Rattle.sgb.specs.declared.calls.Call.{Call}
-use Rattle.sgb.specs.declared.calls.Call.TheVariants as call
-use Rattle.sgb.specs.declared.calls.Values.{Values}
+use Rattle.sgb.specs.declared.arguments.Subcommand.{Subcommand}
+use Rattle.sgb.specs.declared.arguments.Subcommand.TheVariants as subcommand
+use Rattle.sgb.specs.declared.arguments.Arguments.{Arguments}
 use Rattle.sgb.specs.declared.faults.Fault.{Fault}
 use Rattle.sgb.specs.declared.faults.Fault.TheVariants as fault
 
--- `EXPR`, which has to be there
+-- `EXPR`, which is required
 abbrev pub expression_rule : Rule
 expression_rule = record (new_rule (codes "EXPR")) { action = Some Set; required = true }
 
@@ -59,15 +59,15 @@ pub record Asks (words : List Text) (command expression : Text) (after skip : Op
   pub asked :
       asked_of words ≡ Some (record { command = command; expression = Some expression; after = after; skip = skip })
 
--- clap refuses the words, or answers them with a text of its own
+-- clap refuses the words, or has a text of its own for them
 abbrev pub IsRefusedByClap : List Text → Type 0
 IsRefusedByClap words = fault_of command_line words ≢ []
 
 -- clap refuses the words, or there is no command
-abbrev pub IsNoCall : List Text → Type 0
-IsNoCall words = IsRefusedByClap words ⊎ (asked_of words ≡ None)
+abbrev pub HasNoCommand : List Text → Type 0
+HasNoCommand words = IsRefusedByClap words ⊎ (asked_of words ≡ None)
 
--- what an error of this kind is answered with
+-- the fault for an error of this kind
 abbrev pub fault_of_kind : ErrorKind → Fault
 fault_of_kind OutOfMemory = fault.Panic NoRoom
 fault_of_kind _ = fault.Usage
@@ -82,24 +82,24 @@ abbrev pub bytes_of : Option (Bor Text) → Option Text
 bytes_of = option_map (λ text. text.now)
 
 -- a command's matches give these values
-abbrev pub Gives : List Row → Values → Type 0
+abbrev pub Gives : List Row → Arguments → Type 0
 Gives rows values =
     (first_of (codes "EXPR") rows ≡ Some values.expression.now)
     × (first_of (codes "after") rows ≡ bytes_of values.after)
     × (first_of (codes "skip") rows ≡ bytes_of values.skip)
 
 -- the words are those of this command with these values
-abbrev pub AsksBy : List Text → Text → Values → Type 0
+abbrev pub AsksBy : List Text → Text → Arguments → Type 0
 AsksBy words command values =
     Asks words command values.expression.now (bytes_of values.after) (bytes_of values.skip)
 
--- the words call for this
-abbrev pub IsCall : List Text → Call → Type 0
-IsCall words (call.Names values) = AsksBy words (codes "names") values
-IsCall words (call.List values) = AsksBy words (codes "list") values
+-- the words enter this command with these values
+abbrev pub EntersSubcommand : List Text → Subcommand → Type 0
+EntersSubcommand words (subcommand.Names values) = AsksBy words (codes "names") values
+EntersSubcommand words (subcommand.List values) = AsksBy words (codes "list") values
 
 -- the words are refused with this fault before their values are looked at
-abbrev pub IsRefusedUse : List Text → Fault → Type 0
-IsRefusedUse words fault.Usage = IsNoCall words
-IsRefusedUse words (fault.Panic p) = p ≡ NoRoom
-IsRefusedUse words _ = ⊥
+abbrev pub IsRefusedAtOnce : List Text → Fault → Type 0
+IsRefusedAtOnce words fault.Usage = HasNoCommand words
+IsRefusedAtOnce words (fault.Panic p) = p ≡ NoRoom
+IsRefusedAtOnce words _ = ⊥

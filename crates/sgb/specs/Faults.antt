@@ -4,7 +4,7 @@ use Rattle.sgb_vec.specs.Codes.{code_of}
 use Rattle.sgb.specs.declared.faults.Fault.{Fault}
 use Rattle.sgb.specs.declared.faults.Fault.TheVariants.{Usage, TooLarge, Expr, Panic, NoVertex, Read, Write}
 
--- the exit status: 2 for a wrong call, 1 for a refused graph or vertex, 3 for a device
+-- the exit status: 2 for an invalid command line, 1 for a refused graph or vertex, 3 for a device
 abbrev pub status_of : Fault → ℕ
 status_of Usage = 2
 status_of TooLarge = 2

@@ -1,8 +1,8 @@
 -- What the contracts of sgb speak of.
-pub mod Answers
 pub mod CommandLine
 pub mod Counts
 pub mod Faults
+pub mod Outcomes
 pub mod Program
 pub mod Reading
 pub mod Requests

@@ -2,7 +2,7 @@
 use Rattle.std.specs.Prelude.{◌≡◌, ◌⊎◌, List, Option, Some, None, Result, Ok, Err, codes}
 use Rattle.std.specs.Str.Parse.{digits_value}
 use Rattle.clap.specs.Words.{Text}
-use Rattle.sgb.specs.CommandLine.{Asks, IsNoCall}
+use Rattle.sgb.specs.CommandLine.{Asks, HasNoCommand}
 use Rattle.sgb.specs.Counts.{IsDigits}
 use Rattle.sgb.specs.Reading.{IsReadAs}
 use Rattle.sgb_vec.specs.declared.panics.Panic.TheVariants.{NoRoom}
@@ -31,7 +31,7 @@ resume_of (Some name) _ = After name
 abbrev pub IsResumeOf : Option Text → Option Text → Resume → Type 0
 IsResumeOf after skip resume = GoTogether after skip × (resume ≡ resume_of after skip)
 
--- the fault of values of `--after` and `--skip`: `Usage` where they do not go together, or want of memory
+-- the fault of values of `--after` and `--skip`: `Usage` where they do not go together, or out of memory
 abbrev pub IsResumeFault : Option Text → Option Text → Fault → Type 0
 IsResumeFault after skip fault.Usage = GoTogether after skip → ⊥
 IsResumeFault after skip (fault.Panic p) = p ≡ NoRoom
@@ -41,17 +41,17 @@ IsResumeFault after skip _ = ⊥
 abbrev pub AreReadAs : Text → Option Text → Option Text → Expr → Resume → Type 0
 AreReadAs text after skip e resume = IsResumeOf after skip resume × IsReadAs text (Ok e)
 
--- the fault of these values: `Usage` by the options before the expression is read, or want of memory
+-- the fault of these values: `Usage` by the options before the expression is read, or out of memory
 abbrev pub AreRefused : Text → Option Text → Option Text → Fault → Type 0
 AreRefused text after skip fault.Usage = GoTogether after skip → ⊥
 AreRefused text after skip (fault.Panic p) = p ≡ NoRoom
 AreRefused text after skip f = GoTogether after skip × IsReadAs text (Err f)
 
--- a wrong call: clap refuses the words, or there is no command, or both options stand, or K is no number of 1 to
+-- an invalid command line: clap refuses the words, or there is no command, or both options stand, or K is no number of 1 to
 -- 18 digits
-abbrev pub IsWrongCall : List Text → Type 0
-IsWrongCall words =
-    IsNoCall words
+abbrev pub IsInvalidCommandLine : List Text → Type 0
+IsInvalidCommandLine words =
+    HasNoCommand words
     ⊎ ((command expression : Text) × (after skip : Option Text)
     × Asks words command expression after skip × (GoTogether after skip → ⊥))
 
@@ -66,15 +66,15 @@ abbrev pub IsRequest : List Text → Request → Type 0
 IsRequest words (request.Names e resume) = IsAskedOf words (codes "names") e resume
 IsRequest words (request.List e resume) = IsAskedOf words (codes "list") e resume
 
--- the words are refused with this fault, want of memory aside
-abbrev pub IsRefusedCall : List Text → Fault → Type 0
-IsRefusedCall words fault.Usage = IsWrongCall words
-IsRefusedCall words (fault.Panic p) = p ≡ NoRoom
-IsRefusedCall words f =
+-- the words are refused with this fault; out of memory any may be
+abbrev pub IsRefusedCommandLine : List Text → Fault → Type 0
+IsRefusedCommandLine words fault.Usage = IsInvalidCommandLine words
+IsRefusedCommandLine words (fault.Panic p) = p ≡ NoRoom
+IsRefusedCommandLine words f =
     (command text : Text) × (after skip : Option Text)
     × Asks words command text after skip × GoTogether after skip × IsReadAs text (Err f)
 
--- what the words are answered with
-abbrev pub IsCallAnsweredBy : List Text → Result Request Fault → Type 0
-IsCallAnsweredBy words (Ok r) = IsRequest words r
-IsCallAnsweredBy words (Err f) = IsRefusedCall words f
+-- what the words are read as: a request, or the fault that they are refused with
+abbrev pub IsCommandLineReadAs : List Text → Result Request Fault → Type 0
+IsCommandLineReadAs words (Ok r) = IsRequest words r
+IsCommandLineReadAs words (Err f) = IsRefusedCommandLine words f

@@ -12,21 +12,21 @@ pub record IsWhole (text : List ℕ) (out : Change) : Type 0 where
   pub output : Appends out.before out.after text
   pub sound : out.failed ≡ false
 
--- writing was cut off by the sink's failure, or by want of memory while the sink is sound
+-- writing was cut off by the sink's failure, or when out of memory while the sink is sound
 abbrev pub IsCause : Change → Fault → Type 0
 IsCause out f = ((out.failed ≡ true) × (f ≡ fault.Write)) ⊎ ((out.failed ≡ false) × (f ≡ fault.Panic NoRoom))
 
--- a front of the text was written, until this fault
+-- a prefix of the text was written, until this fault
 pub record IsCutOff (text : List ℕ) (out : Change) (f : Fault) : Type 0 where
   pub output : AppendsPrefix out.before out.after text
   pub cause : IsCause out f
 
--- the text was written, or a front of it until a fault
+-- the text was written, or a prefix of it until a fault
 abbrev pub IsWritten : {T : Type 0} → List ℕ → Change → Result T Fault → Type 0
 IsWritten text out (Ok x) = IsWhole text out
 IsWritten text out (Err f) = IsCutOff text out f
 
--- the request was answered, or cut off, or refused with nothing written, by its own fault or want of memory
+-- the request was answered, or cut off, or refused with nothing written, by its own fault or out of memory
 abbrev pub IsEnded : {T : Type 0} → Result (List ℕ) Fault → Change → Result T Fault → Type 0
 IsEnded (Ok text) out r = IsWritten text out r
 IsEnded (Err g) out (Ok x) = ⊥

@@ -6,9 +6,9 @@ ghost use Rattle.std.specs.Str.Parse.{digits_value};
 ghost use Rattle.std.specs.String.{string_bytes};
 ghost use Rattle.sgb.specs.CommandLine.{bytes_of};
 ghost use Rattle.sgb.specs.Counts.{IsDigits};
-ghost use Rattle.sgb.specs.Requests.{AreReadAs, AreRefused, IsCallAnsweredBy, IsResumeFault, IsResumeOf};
+ghost use Rattle.sgb.specs.Requests.{AreReadAs, AreRefused, IsCommandLineReadAs, IsResumeFault, IsResumeOf};
 
-use crate::calls::{Call, Values, call_of};
+use crate::arguments::{Arguments, Subcommand, entered_subcommand};
 use crate::expressions::parse_expr;
 use crate::faults::Fault;
 use crate::requests::{Name, Request, Resume};
@@ -21,18 +21,18 @@ const MOST_DIGITS: usize = 18;
 /// The request that the words make, of which the first is the program's name: `names EXPR` or `list EXPR`,
 /// each with `--after NAME`, with `--skip K` or with neither, as clap reads them.
 ///
-/// `Usage` where clap refuses the words or answers them with a text of its own, where no command
-/// stands, where both options stand, and where K is not 1 to 18 decimal digits. After that `TooLarge` and
-/// `Expr(k)` as `parse_expr` answers them. `Panic(NoRoom)` where memory ran out.
+/// `Usage` where clap refuses the words or has a text of its own for them, where no command stands, where both
+/// options stand, and where K is not 1 to 18 decimal digits. After that `TooLarge` and `Expr(k)` as `parse_expr`
+/// returns them. `Panic(NoRoom)` when out of memory.
 pub fn request(alloc: Global, words: &[String]) -> Result<Request, Fault>
-    ensures { IsCallAnsweredBy (map string_bytes words.now) result }
+    ensures { IsCommandLineReadAs (map string_bytes words.now) result }
 {
-    match call_of(alloc, words)? {
-        Call::Names(values) => {
+    match entered_subcommand(alloc, words)? {
+        Subcommand::Names(values) => {
             let (graph, resume) = read(alloc, values)?;
             Ok(Request::Names(graph, resume))
         }
-        Call::List(values) => {
+        Subcommand::List(values) => {
             let (graph, resume) = read(alloc, values)?;
             Ok(Request::List(graph, resume))
         }
@@ -40,7 +40,7 @@ pub fn request(alloc: Global, words: &[String]) -> Result<Request, Fault>
 }
 
 // The expression that a command's values name, and where its answer begins. The options come first.
-fn read(alloc: Global, values: Values) -> Result<(Expr, Resume), Fault>
+fn read(alloc: Global, values: Arguments) -> Result<(Expr, Resume), Fault>
     ensures { MatchResult result
         (λ read. AreReadAs values.entry.expression.now (bytes_of values.entry.after) (bytes_of values.entry.skip) read.0 read.1)
         (AreRefused values.entry.expression.now (bytes_of values.entry.after) (bytes_of values.entry.skip)) }
@@ -51,7 +51,7 @@ fn read(alloc: Global, values: Values) -> Result<(Expr, Resume), Fault>
 }
 
 // Where the answer begins by the values of `--after` and `--skip`. `Usage` where both stand, or where that of
-// `--skip` is not 1 to 18 digits. `Panic(NoRoom)` where memory is refused.
+// `--skip` is not 1 to 18 digits. `Panic(NoRoom)` when out of memory.
 fn resume_of(alloc: Global, after: Option<&str>, skip: Option<&str>) -> Result<Resume, Fault>
     ensures { MatchResult result (IsResumeOf (bytes_of after.entry) (bytes_of skip.entry))
         (IsResumeFault (bytes_of after.entry) (bytes_of skip.entry)) }

@@ -14,16 +14,16 @@ const MOST_BYTES: usize = 64;
 /// Why a request ends without its whole answer.
 #[derive(Clone, Copy, Debug, PartialEq, Eq, Error)]
 pub enum Fault {
-    /// The words are no call of the program.
+    /// The words are an invalid command line.
     #[error("usage")]
     Usage,
     /// The expression is too large to be read.
     #[error("expression too large")]
     TooLarge,
-    /// The text is no expression; its longest front that begins one has this many bytes.
+    /// The text is no expression; its longest prefix that begins one has this many bytes.
     #[error("bad expression at byte {0}")]
     Expr(u32),
-    /// The graph is refused, or memory is.
+    /// The graph is refused, or memory ran out.
     #[error("panic code {}", .0.code())]
     Panic(Panic),
     /// No vertex has the name.

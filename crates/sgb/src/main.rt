@@ -1,7 +1,7 @@
 //! sgb: the names and listings of the graphs of Stanford GraphBase's generators.
 #![tactic(auto)]
 
-pub(crate) mod calls;
+pub(crate) mod arguments;
 pub mod command_line;
 mod evaluation;
 pub mod expressions;
@@ -15,10 +15,9 @@ mod writing;
 
 use program::run_program;
 use sgb_file::{Buffered, FromRead, ToWrite};
-use std::env;
-use std::io;
 use std::process::ExitCode;
 use std::rt::Env;
+use std::{env, io};
 
 fn main(rt: HostRuntime) -> ExitCode {
     let alloc = rt.alloc();

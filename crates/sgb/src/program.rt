@@ -3,8 +3,8 @@
 ghost use Rattle.std.specs.Prelude.{◌≡◌, Ok, Err, MatchResult, false, map};
 ghost use Rattle.std.specs.IoError.{error_kind};
 ghost use Rattle.std.specs.String.{string_bytes};
-ghost use Rattle.sgb.specs.Program.{AnswersWords, IsReported, unread_fault};
-ghost use Rattle.sgb.specs.Requests.{IsCallAnsweredBy};
+ghost use Rattle.sgb.specs.Program.{IsProgramRun, IsReported, unread_fault};
+ghost use Rattle.sgb.specs.Requests.{IsCommandLineReadAs};
 
 use crate::command_line::request;
 use crate::faults::{Fault, report};
@@ -29,7 +29,7 @@ pub fn run_program<R: Source, W: Sink, E: Sink>(
 ) -> u8
     requires { W.has_failed out.old ≡ false }
     ensures read { MatchResult words
-        (λ words. AnswersWords (map string_bytes words.items)
+        (λ words. IsProgramRun (map string_bytes words.items)
         (record { before = W.written out.old; after = W.written out.new; failed = W.has_failed out.new })
         (record { before = E.written errors.old; after = E.written errors.new; failed = E.has_failed errors.new })
         result)
@@ -48,7 +48,7 @@ pub fn run_program<R: Source, W: Sink, E: Sink>(
 // The request that the words make, if they could be read.
 fn request_of(alloc: Global, words: io::Result<Vec<String>>) -> Result<Request, Fault>
     ensures { MatchResult words
-        (λ words. IsCallAnsweredBy (map string_bytes words.items) result)
+        (λ words. IsCommandLineReadAs (map string_bytes words.items) result)
         (λ error. result ≡ Err (unread_fault (error_kind error))) }
 {
     match words {

@@ -22,7 +22,7 @@ impl Model for Name {
 }
 
 impl Name {
-    /// The name of these bytes. `NoRoom` where memory is refused.
+    /// The name of these bytes. `NoRoom` when out of memory.
     pub fn new(alloc: Global, bytes: &[u8]) -> Result<Name, Panic>
         ensures ok { IfOk result (λ name. name ≡ bytes.now) }
         ensures memory { IsOkUnless result Panic.NoRoom }
@@ -44,9 +44,9 @@ impl Name {
 pub enum Resume {
     /// At the first vertex.
     Whole,
-    /// Behind the first so many vertices.
+    /// After the first so many vertices.
     Skip(u64),
-    /// Behind the first vertex of this name.
+    /// After the first vertex of this name.
     After(Name),
 }
 

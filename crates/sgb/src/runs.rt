@@ -2,8 +2,8 @@
 
 ghost use Rattle.std.specs.Prelude.{◌≡◌, ◌≢◌, Err, false};
 ghost use Rattle.sgb_vec.specs.declared.panics.Panic.TheVariants.{NoRoom};
-ghost use Rattle.sgb.specs.Answers.{answer_from, answer_of, list_answer, names_answer, outcome_of};
-ghost use Rattle.sgb.specs.Runs.{Answers};
+ghost use Rattle.sgb.specs.Outcomes.{answer_from, answer_of, list_answer, names_answer, outcome_of};
+ghost use Rattle.sgb.specs.Runs.{IsRunOf};
 ghost use Rattle.sgb.specs.Texts.{shown};
 ghost use Rattle.sgb.specs.Values.{value_of};
 ghost use Rattle.sgb.specs.Writing.{IsEnded};
@@ -17,9 +17,10 @@ use sgb_expr::Expr;
 use sgb_file::{Sink, Source};
 use std::alloc::Global;
 
-/// Answers a request: writes its output to `out`, or the line of a fault to `errors`, and answers the exit
-/// status. The answer is that of the definitions, unless `out` fails (3, a front of the output) or memory is
-/// refused (1, a front of the output). An answer that is given in full ends with one flush of `out`.
+/// Answers a request: writes its output to `out`, or the line of a fault to `errors`, and returns the exit status. The
+/// answer is that of the definitions, unless `out` fails (3, a prefix of the output) or memory runs out (1, a prefix of
+/// the output). An answer that is given in full ends with one flush of `out`.
+///
 /// `source` is standard input.
 pub fn run<R: Source, W: Sink, E: Sink>(
     alloc: Global,
@@ -29,7 +30,7 @@ pub fn run<R: Source, W: Sink, E: Sink>(
     errors: &mut E,
 ) -> u8
     requires { W.has_failed out.old ≡ false }
-    ensures answers { Answers (outcome_of (answer_of request.now))
+    ensures answers { IsRunOf (outcome_of (answer_of request.now))
         (record { before = W.written out.old; after = W.written out.new; failed = W.has_failed out.new })
         (record { before = E.written errors.old; after = E.written errors.new; failed = E.has_failed errors.new })
         result }

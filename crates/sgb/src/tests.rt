@@ -374,7 +374,7 @@ fn sums_over_memory(rt: HostRuntime) -> Result<(), Fail> {
             line: "",
             status: 0,
         },
-        // no vertex at all, one, and a bound cut to the sum
+        // no vertex at all, one, and a bound clamped to the sum
         Case {
             words: &["names", "simplex(5,2,2,0,0,0,0)"],
             output: "",

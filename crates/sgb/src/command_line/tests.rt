@@ -5,8 +5,8 @@ use sgb_expr::{Expr, Family};
 use sgb_gen::BoardParams;
 use std::test::Fail;
 
-// What the program's words are answered with.
-fn answer(rt: &HostRuntime, texts: &[&str]) -> Result<Result<Request, Fault>, Fail> {
+// What the program's words are read as.
+fn read(rt: &HostRuntime, texts: &[&str]) -> Result<Result<Request, Fault>, Fail> {
     let alloc = rt.alloc();
     let mut words = Vec::new(alloc);
     for text in texts {
@@ -64,8 +64,8 @@ fn small_board() -> Expr {
 
 const BOARD: &str = "board(2,3,0,0,1,0,0)";
 
-// Words behind a command's name, and where the answer begins by them.
-static RIGHT_CALLS: [(&[&str], Start); 14] = [
+// Words after a command's name, and where the answer begins by them.
+static VALID_WORDS: [(&[&str], Start); 14] = [
     (&[BOARD], Start::Whole),
     (&["--", BOARD], Start::Whole),
     (&[BOARD, "--skip", "1799"], Start::Skip(1799)),
@@ -86,13 +86,13 @@ static RIGHT_CALLS: [(&[&str], Start); 14] = [
 ];
 
 #[test]
-fn right_calls(rt: HostRuntime) -> Result<(), Fail> {
+fn valid_command_lines(rt: HostRuntime) -> Result<(), Fail> {
     let commands = [("names", Command::Names), ("list", Command::List)];
     for (name, command) in commands {
-        for (behind, start) in RIGHT_CALLS {
+        for (after, start) in VALID_WORDS {
             let mut words = vec![in rt.alloc(); "sgb", name]?;
-            words.extend_from_slice(behind)?;
-            let request = answer(&rt, &words)?;
+            words.extend_from_slice(after)?;
+            let request = read(&rt, &words)?;
             assert!(rt;
                 request.is_ok_and(|request| asks(&request, command, start)),
                 "{words:?}"
@@ -109,8 +109,8 @@ fn a_name_is_its_bytes(rt: HostRuntime) -> Result<(), Fail> {
     Ok(())
 }
 
-// Words that are no call of the program.
-static WRONG_CALLS: [&[&str]; 39] = [
+// Words that are an invalid command line.
+static INVALID_COMMAND_LINES: [&[&str]; 39] = [
     &[],
     &["sgb"],
     &["sgb", "name", BOARD],
@@ -153,9 +153,9 @@ static WRONG_CALLS: [&[&str]; 39] = [
 ];
 
 #[test]
-fn wrong_calls(rt: HostRuntime) -> Result<(), Fail> {
-    for words in WRONG_CALLS {
-        assert_eq!(rt; answer(&rt, words)?.err(), Some(Fault::Usage), "{words:?}");
+fn invalid_command_lines(rt: HostRuntime) -> Result<(), Fail> {
+    for words in INVALID_COMMAND_LINES {
+        assert_eq!(rt; read(&rt, words)?.err(), Some(Fault::Usage), "{words:?}");
     }
     Ok(())
 }
@@ -171,7 +171,7 @@ fn bad_expressions(rt: HostRuntime) -> Result<(), Fail> {
     ];
     for (words, length) in cases {
         assert_eq!(rt;
-            answer(&rt, words)?.err(),
+            read(&rt, words)?.err(),
             Some(Fault::Expr(length)),
             "{words:?}"
         );

@@ -127,7 +127,11 @@ static REFUSED: [(&[&str], &str, u8); 8] = [
         "Something went wrong (panic code 40)!\n",
         1,
     ),
-    (&["names", SMALL, "--after", "2"], "sgb: no such vertex\n", 1),
+    (
+        &["names", SMALL, "--after", "2"],
+        "sgb: no such vertex\n",
+        1,
+    ),
     (&["list", SMALL, "--after", "2"], "sgb: no such vertex\n", 1),
 ];
 
@@ -137,14 +141,22 @@ fn an_answer_in_full_ends_with_one_flush(rt: HostRuntime) -> Result<(), Fail> {
     for (words, empty) in ANSWERED {
         let mut out = Counted::new(false, false);
         let mut errors = Counted::new(false, false);
-        assert_eq!(rt; call(rt.alloc(), words, &mut out, &mut errors)?, 0, "{words:?}");
+        assert_eq!(rt;
+            call(rt.alloc(), words, &mut out, &mut errors)?,
+            0,
+            "{words:?}"
+        );
         assert_eq!(rt; out.flushes, 1, "{words:?}");
         assert_eq!(rt; out.puts == 0, empty, "{words:?}");
         assert_eq!(rt; errors.puts, 0, "{words:?}");
         // a flush that fails is a write fault
         let mut out = Counted::new(false, true);
         let mut errors = MemSink::new(rt.alloc());
-        assert_eq!(rt; call(rt.alloc(), words, &mut out, &mut errors)?, 3, "{words:?}");
+        assert_eq!(rt;
+            call(rt.alloc(), words, &mut out, &mut errors)?,
+            3,
+            "{words:?}"
+        );
         assert_eq!(rt; out.flushes, 1, "{words:?}");
         assert_eq!(rt; errors.bytes(), b"sgb: write fault\n".as_slice());
     }
@@ -158,13 +170,21 @@ fn a_refused_call_leaves_the_output_alone(rt: HostRuntime) -> Result<(), Fail> {
     for (words, line, status) in REFUSED {
         let mut out = Counted::new(true, true);
         let mut errors = MemSink::new(rt.alloc());
-        assert_eq!(rt; call(rt.alloc(), words, &mut out, &mut errors)?, status, "{words:?}");
+        assert_eq!(rt;
+            call(rt.alloc(), words, &mut out, &mut errors)?,
+            status,
+            "{words:?}"
+        );
         assert_eq!(rt; errors.bytes(), line.as_bytes(), "{words:?}");
         assert_eq!(rt; out.puts, 0, "{words:?}");
         assert_eq!(rt; out.flushes, 0, "{words:?}");
         for fails in [false, true] {
             let mut errors = Counted::new(fails, false);
-            assert_eq!(rt; call(rt.alloc(), words, &mut out, &mut errors)?, status, "{words:?}");
+            assert_eq!(rt;
+                call(rt.alloc(), words, &mut out, &mut errors)?,
+                status,
+                "{words:?}"
+            );
             assert_eq!(rt; errors.puts, 1, "{words:?}");
             assert_eq!(rt; errors.flushes, 0, "{words:?}");
         }
@@ -180,7 +200,11 @@ fn a_write_fault_ends_the_request(rt: HostRuntime) -> Result<(), Fail> {
         for fails in [false, true] {
             let mut out = Counted::new(true, false);
             let mut errors = Counted::new(fails, false);
-            assert_eq!(rt; call(rt.alloc(), &words, &mut out, &mut errors)?, 3, "{words:?}");
+            assert_eq!(rt;
+                call(rt.alloc(), &words, &mut out, &mut errors)?,
+                3,
+                "{words:?}"
+            );
             assert_eq!(rt; out.puts, 1, "{words:?}");
             assert_eq!(rt; out.flushes, 0, "{words:?}");
             assert_eq!(rt; errors.puts, 1, "{words:?}");

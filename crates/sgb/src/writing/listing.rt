@@ -1,7 +1,7 @@
 //! The listing of a graph, written to a sink.
 ghost use Rattle.std.specs.Prelude.{◌≡◌, ◌<◌, false, length, map};
 ghost use Rattle.std.specs.List.{flat_map};
-ghost use Rattle.sgb.specs.Answers.{head_for, left_out, list_answer, vertex_named};
+ghost use Rattle.sgb.specs.Outcomes.{head_for, left_out, list_answer, vertex_named};
 ghost use Rattle.sgb.specs.Texts.{arc_line, block, blocks, head, shown_graph};
 ghost use Rattle.sgb.specs.Writing.{IsEnded, IsWritten};
 
@@ -15,7 +15,7 @@ use sgb_graph::{Graph, Link};
 /// Writes the listing of a graph: the head, and a block for each vertex; or, where the answer begins further on,
 /// the blocks from there.
 ///
-/// `NoVertex` where it is to begin behind a name that no vertex has.
+/// `NoVertex` where it is to begin after a name that no vertex has.
 pub(crate) fn write_listing<W: Sink>(
     graph: &Graph,
     resume: &Resume,
@@ -40,7 +40,7 @@ fn write_head_for<W: Sink>(resume: &Resume, graph: &Graph, out: &mut W) -> Resul
     }
 }
 
-// How many vertices at the front are left out.
+// How many first vertices are left out.
 fn vertices_left_out(graph: &Graph, resume: &Resume) -> Result<u64, Fault>
     ensures { result ≡ left_out (map (λ v. v.name) graph.now.vertices) resume.now }
 {

@@ -2,7 +2,7 @@
 ghost use Rattle.std.specs.Prelude.{◌≡◌, ◌⊎◌, ◌≤◌, ◌+◌, Ok, Err, false, length, map};
 ghost use Rattle.sgb_vec.specs.Limits.{most_dimensions};
 ghost use Rattle.sgb_vec.specs.Names.{name_of_vector};
-ghost use Rattle.sgb.specs.Answers.{left_out, names_answer, vertex_named};
+ghost use Rattle.sgb.specs.Outcomes.{left_out, names_answer, vertex_named};
 ghost use Rattle.sgb.specs.Texts.{name_line, name_lines};
 ghost use Rattle.sgb.specs.Writing.{IsEnded, IsWritten};
 
@@ -15,7 +15,7 @@ use std::alloc::Global;
 
 /// Writes the name lines of a family's vectors, from where the answer begins.
 ///
-/// `NoVertex` where it is to begin behind a name that no vector has.
+/// `NoVertex` where it is to begin after a name that no vector has.
 pub(crate) fn write_names<F: Family, W: Sink>(
     alloc: Global,
     family: &F,
@@ -26,10 +26,10 @@ pub(crate) fn write_names<F: Family, W: Sink>(
     ensures { IsEnded (names_answer (map name_of_vector (F.members family.now)) resume.now) (record { before = W.written out.old; after = W.written out.new; failed = W.has_failed out.new }) result }
 {
     let skip = vectors_left_out(alloc, family, resume)?;
-    write_names_behind(alloc, family, skip, out)
+    write_names_after(alloc, family, skip, out)
 }
 
-// How many vectors at the front are left out.
+// How many first vectors are left out.
 fn vectors_left_out<F: Family>(alloc: Global, family: &F, resume: &Resume) -> Result<u64, Fault>
     ensures { (result ≡ left_out (map name_of_vector (F.members family.now)) resume.now) ⊎ (result ≡ Err (Fault.Panic Panic.NoRoom)) }
 {
@@ -58,8 +58,8 @@ fn vector_named<F: Family>(alloc: Global, family: &F, name: &[u8]) -> Result<Opt
     Ok(None)
 }
 
-// Writes the name lines of a family's vectors behind the first `skip`.
-fn write_names_behind<F: Family, W: Sink>(
+// Writes the name lines of a family's vectors after the first `skip`.
+fn write_names_after<F: Family, W: Sink>(
     alloc: Global,
     family: &F,
     skip: u64,

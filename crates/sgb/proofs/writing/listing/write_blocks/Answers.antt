@@ -31,5 +31,5 @@ loop-v-preserved g c =
 pub returns : goal.returns
 returns g c =
     let shown = shown_graph c.args.graph.now in
-    let behind : length shown.names ≤ c.loop-v.v = omega (arith, length-map c.args.graph.now.vertices (λ v. v.name), c.n-end.ensures.count) in
-    record { output = so_far-all _ _ _ _ (blocks-none shown c.loop-v.v behind) c.loop-v.invariant.0; sound = c.loop-v.invariant.1 }
+    let past : length shown.names ≤ c.loop-v.v = omega (arith, length-map c.args.graph.now.vertices (λ v. v.name), c.n-end.ensures.count) in
+    record { output = so_far-all _ _ _ _ (blocks-none shown c.loop-v.v past) c.loop-v.invariant.0; sound = c.loop-v.invariant.1 }

@@ -7,7 +7,7 @@ use Rattle.clap.specs.Lexer.{long_of, short_of}
 use Rattle.clap.specs.Simple.{Shape}
 use Rattle.clap.specs.Walk.{Held, Names, Outcome, Rule, Step, Text, Waiting, Walk, after_flag, after_step, arg_by_index, arg_by_long, bundle, done, idle, long_met, long_or_other, next, option, plain, plain_word, positional, refused, short_or_plain, subcommand, subcommand_met, subcommand_or_other, to_positional, trailing, value, waits, walked, walked_from, word_met}
 use Rattle.clap.specs.declared.error.kind.ErrorKind.TheVariants as kind
-use Rattle.sgb.proofs.RequiredValues.{none_first, none_second}
+use Rattle.sgb.proofs.ClapRequired.{none_first, none_second}
 
 -- the walk has not entered `help`
 abbrev pub IsNotHelp : Option (Text × List Text) → Type 0

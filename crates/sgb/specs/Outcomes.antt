@@ -18,25 +18,25 @@ use Rattle.sgb.specs.declared.requests.Resume.TheVariants as resume
 abbrev pub vertex_named : List ℕ → List (List ℕ) → Option ℕ
 vertex_named name names = position (λ other. pointwise nat_eq other name) names
 
--- how many vertices at the front are left out: those up to a vertex that is there
+-- how many first vertices are left out: those up to a vertex that is there
 abbrev pub left_out_by : Option ℕ → Result ℕ Fault
 left_out_by (Some v) = Ok (suc v)
 left_out_by None = Err fault.NoVertex
 
--- how many vertices at the front of these names are left out
+-- how many first vertices of these names are left out
 abbrev pub left_out : List (List ℕ) → Resume → Result ℕ Fault
 left_out names resume.Whole = Ok 0
 left_out names (resume.Skip k) = Ok k
 left_out names (resume.After name) = left_out_by (vertex_named name names)
 
 -- what is written once it is known how many vertices are left out
-abbrev pub answer_behind : Result ℕ Fault → (ℕ → List ℕ) → Result (List ℕ) Fault
-answer_behind (Ok k) text = Ok (text k)
-answer_behind (Err f) text = Err f
+abbrev pub answer_after : Result ℕ Fault → (ℕ → List ℕ) → Result (List ℕ) Fault
+answer_after (Ok k) text = Ok (text k)
+answer_after (Err f) text = Err f
 
 -- the answer of a command `names`, of names
 abbrev pub names_answer : List (List ℕ) → Resume → Result (List ℕ) Fault
-names_answer names resume = answer_behind (left_out names resume) (name_lines names)
+names_answer names resume = answer_after (left_out names resume) (name_lines names)
 
 -- what stands before the blocks: nothing where the listing is resumed
 abbrev pub head_for : Resume → List ℕ → List ℕ
@@ -46,7 +46,7 @@ head_for (resume.After name) text = []
 
 -- the answer of a command `list`, of what is shown of a graph
 abbrev pub list_answer : Shown → Resume → Result (List ℕ) Fault
-list_answer g resume = answer_behind (left_out g.names resume) (λ k. head_for resume (head g) ++ blocks g k)
+list_answer g resume = answer_after (left_out g.names resume) (λ k. head_for resume (head g) ++ blocks g k)
 
 -- the answer that is made of an accepted graph; a refusal stays as it is
 abbrev pub answer_from : Result Description Panic → (Description → Result (List ℕ) Fault) → Result (List ℕ) Fault

@@ -1,10 +1,10 @@
-//! The words of a command line, as clap reads them.
+//! The subcommand and the arguments that clap finds in the words of a command line.
 
 ghost use Rattle.std.specs.Prelude.{◌≡◌, IfOk, IsSome, MatchResult, codes, false, map};
 ghost use Rattle.std.specs.String.{string_bytes};
 ghost use Rattle.clap.specs.Words.{HasKind, app_of, fault_of, first_of, found_of, rows_of, rule_of, shape_of};
 ghost use Rattle.clap.specs.declared.builder.command.Command.TheViews.{out-Command};
-ghost use Rattle.sgb.specs.CommandLine.{Gives, IsCall, IsRefusedUse, IsTaken, command_line};
+ghost use Rattle.sgb.specs.CommandLine.{Gives, EntersSubcommand, IsRefusedAtOnce, IsTaken, command_line};
 ghost use Rattle.sgb.specs.CommandLine.{expression_rule, option_rule, output_shape};
 
 use crate::faults::Fault;
@@ -15,19 +15,19 @@ use std::alloc::{AllocError, Global};
 
 /// The values that the words give to a command that writes a graph.
 #[derive(Clone, Copy)]
-pub(crate) struct Values<'a> {
+pub(crate) struct Arguments<'a> {
     pub expression: &'a str,
     pub after: Option<&'a str>,
     pub skip: Option<&'a str>,
 }
 
-/// A call of the program, with the values that the words give.
+/// A command of the program, with the values that the words give.
 #[derive(Clone, Copy)]
-pub(crate) enum Call<'a> {
+pub(crate) enum Subcommand<'a> {
     /// `names EXPR [--after NAME|--skip K]`.
-    Names(Values<'a>),
+    Names(Arguments<'a>),
     /// `list EXPR [--after NAME|--skip K]`.
-    List(Values<'a>),
+    List(Arguments<'a>),
 }
 
 impl From<Error> for Fault {
@@ -46,18 +46,21 @@ impl From<Error> for Fault {
     }
 }
 
-/// What the words call for, the first of them being the program's name. `Usage` where clap refuses
-/// them or no command stands, and `NoRoom` where memory ran out.
-pub(crate) fn call_of<'a>(alloc: Global, words: &'a [String]) -> Result<Call<'a>, Fault>
-    ensures { MatchResult result (IsCall (map string_bytes words.entry.now))
-        (IsRefusedUse (map string_bytes words.entry.now)) }
+/// The command that the words enter, the first of them being the program's name. `Usage` where clap refuses them or
+/// no command stands, and `NoRoom` when out of memory.
+pub(crate) fn entered_subcommand<'a>(
+    alloc: Global,
+    words: &'a [String],
+) -> Result<Subcommand<'a>, Fault>
+    ensures { MatchResult result (EntersSubcommand (map string_bytes words.entry.now))
+        (IsRefusedAtOnce (map string_bytes words.entry.now)) }
 {
     let matches = matches_of(alloc, words)?;
     if let Some(entered) = matches.subcommand_matches("names") {
-        return Ok(Call::Names(values_of(entered)));
+        return Ok(Subcommand::Names(arguments_of(entered)));
     }
     if let Some(entered) = matches.subcommand_matches("list") {
-        return Ok(Call::List(values_of(entered)));
+        return Ok(Subcommand::List(arguments_of(entered)));
     }
     Err(Fault::Usage)
 }
@@ -91,7 +94,7 @@ fn output_command<'a>(alloc: Global, name: &'a str) -> Result<Command<'a>, Alloc
         .arg(value_option(alloc, "skip"))
 }
 
-// `EXPR`, which has to be there.
+// `EXPR`, which is required.
 fn expression_argument<'a>(alloc: Global) -> Arg<'a>
     ensures rule { rule_of result ≡ expression_rule }
     ensures local { result.global ≡ false }
@@ -110,11 +113,11 @@ fn value_option<'a>(alloc: Global, name: &'a str) -> Arg<'a>
 }
 
 // The values that the matches of a command give.
-fn values_of<'a>(entered: &ArgMatches<'a>) -> Values<'a>
+fn arguments_of<'a>(entered: &ArgMatches<'a>) -> Arguments<'a>
     requires { IsSome (first_of (codes "EXPR") (rows_of (found_of entered.now))) }
     ensures { Gives (rows_of (found_of entered.now)) result }
 {
-    Values {
+    Arguments {
         expression: entered.get_str("EXPR").unwrap(),
         after: entered.get_str("after"),
         skip: entered.get_str("skip"),

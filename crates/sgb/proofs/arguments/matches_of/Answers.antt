@@ -1,5 +1,5 @@
-use Rattle.sgb.proofs.CallLemmas.{parsed}
-use Rattle.sgb.proofs.calls.matches_of.Goals as goal
+use Rattle.sgb.proofs.EnteredCommands.{parsed}
+use Rattle.sgb.proofs.arguments.matches_of.Goals as goal
 
 pub returns : goal.returns
 returns c =

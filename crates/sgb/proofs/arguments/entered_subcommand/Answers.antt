@@ -1,13 +1,13 @@
 use Rattle.std.proofs.Common.{refl, true≢false, sym}
-use Rattle.sgb.proofs.CallLemmas.{has_expression, not_called}
-use Rattle.sgb.proofs.calls.call_of.Goals as goal
+use Rattle.sgb.proofs.EnteredCommands.{has_expression, not_called}
+use Rattle.sgb.proofs.arguments.entered_subcommand.Goals as goal
 
-pub values_of-requires : goal.values_of-requires
-values_of-requires c =
+pub arguments_of-requires : goal.arguments_of-requires
+arguments_of-requires c =
     has_expression _ _ _ _ c.in_ok-matches.ensures (c.in-Some.ensures.found.0 refl) c.in-Some.ensures.rows
 
-pub values_of-requires-in-Some-subcommand_matches : goal.values_of-requires-in-Some-subcommand_matches
-values_of-requires-in-Some-subcommand_matches c =
+pub arguments_of-requires-in-Some-subcommand_matches : goal.arguments_of-requires-in-Some-subcommand_matches
+arguments_of-requires-in-Some-subcommand_matches c =
     let list = c.in-Some-subcommand_matches.ensures in
     has_expression _ _ _ _ c.in_ok-matches.ensures (list.found.0 refl) list.rows
 

@@ -3,7 +3,7 @@ use Rattle.sgb_vec.specs.Names.{name_of_vector}
 use Rattle.sgb.specs.Texts.{name_line, name_lines}
 use Rattle.sgb.proofs.Lines.{texts_left}
 use Rattle.sgb_file.proofs.SoFar.{SoFar}
-use Rattle.sgb.proofs.writing.names.write_names_behind.Given as goal
+use Rattle.sgb.proofs.writing.names.write_names_after.Given as goal
 
 abbrev pub invariant-loop-place : goal.invariant-loop-place
 invariant-loop-place g l =

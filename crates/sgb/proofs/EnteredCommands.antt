@@ -13,9 +13,10 @@ use Rattle.clap.specs.declared.parser.matches.ArgMatches.{ArgMatches}
 use Rattle.clap.specs.declared.parser.matches.ArgMatches.TheViews.{out-ArgMatches, out-SubCommand}
 use Rattle.clap.specs.declared.parser.matches.SubCommand.{SubCommand}
 use Rattle.std.specs.Box.{box_value}
-use Rattle.sgb.specs.CommandLine.{IsNoCall, IsTaken, asked_by, command_line, output_shape}
-use Rattle.sgb.proofs.HelpRefused.{IsNotHelp, walk_stops}
-use Rattle.sgb.proofs.RequiredValues.{each_valued, is_valued, none_first, none_second, required_first}
+use Rattle.sgb.specs.CommandLine.{HasNoCommand, IsTaken, asked_by, command_line, output_shape}
+use Rattle.sgb.proofs.ClapValues.{name_by_rows, or_false, pair_is}
+use Rattle.sgb.proofs.ClapHelp.{IsNotHelp, walk_stops}
+use Rattle.sgb.proofs.ClapRequired.{each_valued, is_valued, none_first, none_second, required_first}
 
 -- ---- what clap makes of the words
 
@@ -49,11 +50,6 @@ commands = output_leaf (codes "names") ∷ output_leaf (codes "list") ∷ []
 -- its command `help`, which clap adds
 abbrev help_leaf : Shape
 help_leaf = built_leaf help_shape
-
--- a test or false
-or_false : (b : Bool) → (b || false) ≡ true → b ≡ true
-or_false true e = e
-or_false false e = e
 
 -- the command of this shape is entered, with words that have no fault at it
 record IsEntered (s : Shape) (e : Text × List Row) : Type 0 where
@@ -141,24 +137,6 @@ expression_there : (e : Text × List Row) → IsOutputEntered e → IsSome (firs
 expression_there e (inl names) = names.1
 expression_there e (inr list) = list.1
 
--- a pair from its parts
-pair_is : (o : Option (Text × List Row)) (name : Text) (rows : List Row) → option_map (λ p. p.0) o ≡ Some name → option_map (λ p. p.1) o ≡ Some rows → o ≡ Some (name, rows)
-pair_is (Some p) name rows first second =
-    let a : p.0 ≡ name = cc in
-    let b : p.1 ≡ rows = cc in
-    ap₂ (λ x y. Some (x, y)) a b
-pair_is None name rows first second = cc
-
--- a map of a map
-maps : {X Y Z : Type 0} (f : X → Y) (g : Y → Z) (o : Option X) → option_map g (option_map f o) ≡ option_map (λ x. g (f x)) o
-maps f g (Some x) = refl
-maps f g None = refl
-
--- the name of the command entered, by its rows
-name_by_rows : (m : ArgMatches) → subcommand_name_of m ≡ option_map (λ p. p.0) (subcommand_rows_of m)
-name_by_rows m = sym (maps (λ (b : Box SubCommand Global). ((out-SubCommand (box_value b)).name.now, rows_of (found_of (out-SubCommand (box_value b)).matches)))
-    (λ (p : Text × List Row). p.0) (out-ArgMatches m).subcommand)
-
 -- the command of these matches is the one that the words enter
 pub entered_is : (words : List Text) (m : ArgMatches) (name : Text) (rows : List Row) → IsTaken words m → subcommand_name_of m ≡ Some name
     → option_map (λ p. p.1) (subcommand_rows_of m) ≡ Some rows → subcommand_of command_line words ≡ Some (name, rows)
@@ -172,10 +150,10 @@ has_expression words m name rows is named has =
 
 -- where neither `names` nor `list` is entered, no command is
 pub not_called : (words : List Text) (m : ArgMatches) → IsTaken words m → (subcommand_name_of m ≡ Some (codes "names") → ⊥)
-    → (subcommand_name_of m ≡ Some (codes "list") → ⊥) → IsNoCall words
+    → (subcommand_name_of m ≡ Some (codes "list") → ⊥) → HasNoCommand words
 not_called words m is no_names no_list = go (subcommand_of command_line words) refl
   where
-    go : (o : Option (Text × List Row)) → subcommand_of command_line words ≡ o → IsNoCall words
+    go : (o : Option (Text × List Row)) → subcommand_of command_line words ≡ o → HasNoCommand words
     go None e = inr (ap (option_map asked_by) e)
     go (Some p) e = absurd (which (which_entered p (commands_entered words p is.taken e)))
       where

@@ -2,7 +2,7 @@ use Rattle.std.proofs.Common.{◌∙◌, Bor, sym, ap, option_map, codes}
 use Rattle.clap.proofs.CallerLemmas.{some_of_text}
 use Rattle.clap.proofs.WalkLemmas.{first_value-rows}
 use Rattle.clap.specs.Words.{Text, found_of}
-use Rattle.sgb.proofs.calls.values_of.Goals as goal
+use Rattle.sgb.proofs.arguments.arguments_of.Goals as goal
 
 pub unwrap-requires : goal.unwrap-requires
 unwrap-requires c =
