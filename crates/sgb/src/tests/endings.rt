@@ -163,8 +163,7 @@ fn an_answer_in_full_ends_with_one_flush(rt: HostRuntime) -> Result<(), Fail> {
     Ok(())
 }
 
-// A refused call makes no call of the output, so that its line and status stay also where a flush would fail. Its
-// line is one put of standard error, and where that fails the status is the same.
+// A refused call makes no call of the output, so that its line and status stay also where a flush would fail.
 #[test]
 fn a_refused_call_leaves_the_output_alone(rt: HostRuntime) -> Result<(), Fail> {
     for (words, line, status) in REFUSED {
@@ -178,13 +177,23 @@ fn a_refused_call_leaves_the_output_alone(rt: HostRuntime) -> Result<(), Fail> {
         assert_eq!(rt; errors.bytes(), line.as_bytes(), "{words:?}");
         assert_eq!(rt; out.puts, 0, "{words:?}");
         assert_eq!(rt; out.flushes, 0, "{words:?}");
+    }
+    Ok(())
+}
+
+// Its line is one put of standard error, and where that fails the status is the same.
+#[test]
+fn the_line_of_a_refused_call_is_one_put(rt: HostRuntime) -> Result<(), Fail> {
+    for (words, _line, status) in REFUSED {
         for fails in [false, true] {
+            let mut out = Counted::new(true, true);
             let mut errors = Counted::new(fails, false);
             assert_eq!(rt;
                 call(rt.alloc(), words, &mut out, &mut errors)?,
                 status,
                 "{words:?}"
             );
+            assert_eq!(rt; out.puts, 0, "{words:?}");
             assert_eq!(rt; errors.puts, 1, "{words:?}");
             assert_eq!(rt; errors.flushes, 0, "{words:?}");
         }
