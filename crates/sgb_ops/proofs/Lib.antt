@@ -1,4 +1,7 @@
 -- Lemmas on the definitions, and worked examples.
 pub mod Taking
 pub mod Merging
+pub mod Marks
+pub mod Results
+pub mod ComplementEvents
 pub mod Examples

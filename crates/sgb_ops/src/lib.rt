@@ -1,6 +1,12 @@
 //! The operations of GB_BASIC that make graphs from graphs.
 #![tactic(auto)]
 
+#[cfg(test)]
+mod blocks;
+mod complements;
 mod laws;
+mod operands;
+mod titles;
 
+pub use complements::complement;
 pub use laws::{merged_are_apart, taken_lead_up};
