@@ -1,4 +1,4 @@
-ghost use Rattle.sgb_ops.specs.Merged.{MergedAreApart};
+ghost use Rattle.sgb_ops.specs.Merged.{MergedAreApart, MergedAreShortest, MergedAreTheFirst, MergedHasEachPair};
 ghost use Rattle.sgb_ops.specs.Taken.{TakenLeadUp};
 
 /// An arc that is taken of a vertex for an undirected result leads to no vertex before it (GB_BASIC, gunion).
@@ -9,4 +9,12 @@ pub fn taken_lead_up()
 /// Of merged events no two have the same ends (GB_BASIC, gunion).
 pub fn merged_are_apart()
     ensures { MergedAreApart }
+{}
+
+/// Of all events with the same ends one is left, at the first one's place, with the least length of them all, and
+/// nothing else is left (GB_BASIC, gunion).
+pub fn merging_law()
+    ensures each { MergedHasEachPair }
+    ensures first { MergedAreTheFirst }
+    ensures least { MergedAreShortest }
 {}
