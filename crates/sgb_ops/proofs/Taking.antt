@@ -1,10 +1,15 @@
 -- What is known of the arcs taken of a list.
-use Rattle.std.proofs.Common.{ℕ, ◌≤◌, Bool, true, false, cond, ltb, List, [], ◌∷◌, inl, inr}
-use Rattle.std.specs.Prelude.{All}
-use Rattle.std.proofs.lemmas.Bool.{cases_Bool, ltb-false}
-use Rattle.std.proofs.lemmas.List.Elements.{All-nil, All-cons}
+use Rattle.std.proofs.Common.{◌≡◌, ◌+◌, ◌*◌, ◌≤◌, ◌<◌, ◌==◌, ◌⊎◌, ℕ, ℤ, min, max, Bool, true, false, cond, ltb, nat_lt, List, [], ◌∷◌, ◌++◌, map, reverse, length, refl, sym, ap, ◌∙◌, inl, inr, arith}
+use Rattle.std.specs.Prelude.{All, filter, if◌then◌else◌}
+use Rattle.std.specs.List.{enumerate_from}
+use Rattle.std.proofs.lemmas.Bool.{cases_Bool, cases_eq, ltb-false, eq-eqb, ne_eqb, lt-ltb, le-ltb, and_right}
+use Rattle.std.proofs.lemmas.List.{append-nil, reverse-append}
+use Rattle.std.proofs.lemmas.List.Elements.{All-nil, All-cons, All-head, All-tail, All-append, All-weaker}
+use Rattle.sgb_graph.specs.Graphs.{GraphData}
+use Rattle.sgb_graph.specs.Events.{Event, Row, HasArcsOf, links_at, list_from, rows_of}
+use Rattle.sgb_graph.specs.Growth.{link, row}
 use Rattle.sgb_graph.specs.declared.fields.Link.{Link}
-use Rattle.sgb_ops.specs.Taken.{is_loop_with, each_edge_once}
+use Rattle.sgb_ops.specs.Taken.{is_loop_with, each_edge_once, taken, lower_record, edges_up_from}
 
 -- an arc of the list of v that leads to no vertex before it
 abbrev leads_up : ℕ → Link → Type 0
@@ -31,3 +36,117 @@ each_edge_once_leads_up v (l ∷ []) = one_more v l [] [] (All-nil (leads_up v))
 each_edge_once_leads_up v (l ∷ k ∷ links) =
     let next = each_edge_once_leads_up v (k ∷ links) in
     one_more v l _ _ next (either_way v (is_loop_with v l k) _ _ (each_edge_once_leads_up v links) next)
+
+-- a list of arcs cut in two where no number is followed by the next: what is taken of each part
+apart_at : (v : ℕ) (skip loop : Bool) (l : Link) (one two three four rest : List Link) → one ≡ two ++ rest → three ≡ four ++ rest
+    → (if skip then one else l ∷ (if loop then three else one)) ≡ (if skip then two else l ∷ (if loop then four else two)) ++ rest
+apart_at v true loop l one two three four rest p q = p
+apart_at v false true l one two three four rest p q = ap (λ xs. l ∷ xs) q
+apart_at v false false l one two three four rest p q = ap (λ xs. l ∷ xs) p
+
+-- the last arc of the first part leaves out none of the second
+last_alone : (v : ℕ) (skip : Bool) (l : Link) (rest : List Link)
+    → (if skip then rest else l ∷ rest) ≡ (if skip then [] else l ∷ []) ++ rest
+last_alone v true l rest = refl
+last_alone v false l rest = refl
+
+-- taken of two lists, one after the other
+taken_apart : (v low : ℕ) (xs ys : List Link) → All (λ l. low ≤ l.number) xs → All (λ l. l.number < low) ys
+    → each_edge_once v (xs ++ ys) ≡ each_edge_once v xs ++ each_edge_once v ys
+unfolding each_edge_once
+taken_apart v low [] ys high below = refl
+taken_apart v low (l ∷ []) [] high below = sym (append-nil (each_edge_once v (l ∷ [])))
+taken_apart v low (l ∷ []) (y ∷ ys) high below =
+    let one = All-head (λ m. low ≤ m.number) l [] high in
+    let two = All-head (λ m. m.number < low) y ys below in
+    let not_next : (y.number == l.number + 1) ≡ false = ne_eqb y.number (l.number + 1) (λ e. absurd (omega arith)) in
+    let no : is_loop_with v l y ≡ false = and_right (l.tip == v) (y.number == l.number + 1) not_next in
+    rw no (last_alone v (nat_lt l.tip v) l (each_edge_once v (y ∷ ys)))
+taken_apart v low (l ∷ m ∷ xs) ys high below =
+    let after = All-tail (λ x. low ≤ x.number) l (m ∷ xs) high in
+    apart_at v (nat_lt l.tip v) (is_loop_with v l m) l _ _ _ _ (each_edge_once v ys)
+    (taken_apart v low (m ∷ xs) ys after below)
+    (taken_apart v low xs ys (All-tail (λ x. low ≤ x.number) m xs after) below)
+
+-- of the records of one edge the lower one is taken, at the smaller end
+one_edge : (v k a b : ℕ) (far : ℤ) → a ≤ b
+    → each_edge_once v (links_at v k (row a b far ∷ row b a far ∷ [])) ≡ (if a == v then link k b far ∷ [] else [])
+unfolding each_edge_once
+one_edge v k a b far up = by_ends (cases_eq a v) (cases_eq b v)
+  where
+    by_ends : (a ≡ v) ⊎ (a ≡ v → ⊥) → (b ≡ v) ⊎ (b ≡ v → ⊥)
+        → each_edge_once v (links_at v k (row a b far ∷ row b a far ∷ [])) ≡ (if a == v then link k b far ∷ [] else [])
+    by_ends (inl low) (inl high) =
+        let is_low = eq-eqb a v low in
+        let is_high = eq-eqb b v high in
+        let up_there = le-ltb b v (omega arith) in
+        let next = eq-eqb (k + 1) (k + 1) refl in
+        simp (is_low, is_high, up_there, next)
+    by_ends (inl low) (inr not_high) =
+        let is_low = eq-eqb a v low in
+        let is_high = ne_eqb b v not_high in
+        let up_there = le-ltb b v (omega arith) in
+        simp (is_low, is_high, up_there)
+    by_ends (inr not_low) (inl high) =
+        let is_low = ne_eqb a v not_low in
+        let is_high = eq-eqb b v high in
+        let down : a < v = omega arith in
+        let down_there = lt-ltb a v down in
+        simp (is_low, is_high, down_there)
+    by_ends (inr not_low) (inr not_high) =
+        let is_low = ne_eqb a v not_low in
+        let is_high = ne_eqb b v not_high in
+        simp (is_low, is_high)
+
+-- the numbers of the links of some rows
+numbers_at : (v k : ℕ) (rows : List Row) → All (λ l. (k ≤ l.number) × (l.number < k + length rows)) (links_at v k rows)
+numbers_at v k [] = All-nil _
+numbers_at v k (r ∷ rows) = by_start (cases_Bool (r.start == v)) (numbers_at v (k + 1) rows)
+  where
+    In : Link → Type 0
+    In l = (k ≤ l.number) × (l.number < k + length (r ∷ rows))
+
+    wider : All (λ l. (k + 1 ≤ l.number) × (l.number < k + 1 + length rows)) (links_at v (k + 1) rows) → All In (links_at v (k + 1) rows)
+    wider all = All-weaker (λ l. (k + 1 ≤ l.number) × (l.number < k + 1 + length rows)) In (λ l p. (omega (arith, p.0), omega (arith, p.1))) (links_at v (k + 1) rows) all
+
+    by_start : ((r.start == v) ≡ true) ⊎ ((r.start == v) ≡ false)
+        → All (λ l. (k + 1 ≤ l.number) × (l.number < k + 1 + length rows)) (links_at v (k + 1) rows)
+        → All In ((if r.start == v then link k r.tip r.len ∷ [] else []) ++ links_at v (k + 1) rows)
+    by_start (inl starts) all = rw starts (All-cons In (link k r.tip r.len) (links_at v (k + 1) rows) (omega arith, omega arith) (wider all))
+    by_start (inr not_here) all = rw not_here (wider all)
+
+-- the numbers on the list of events whose first record has number k
+numbers_from_first : (k : ℕ) (events : List Event) (v : ℕ) → All (λ l. k ≤ l.number) (list_from false k events v)
+unfolding list_from
+numbers_from_first k [] v = All-nil _
+numbers_from_first k (e ∷ events) v =
+    All-append (λ l. k ≤ l.number) (list_from false (k + 2) events v) (links_at v k (rows_of false e))
+    (All-weaker (λ l. k + 2 ≤ l.number) (λ l. k ≤ l.number) (λ l p. omega (arith, p)) _ (numbers_from_first (k + 2) events v))
+    (All-weaker (λ l. (k ≤ l.number) × (l.number < k + 2)) (λ l. k ≤ l.number) (λ l p. p.0) _ (numbers_at v k (rows_of false e)))
+
+-- taken of the list of the events, whose first one has this place
+taken_from : (v i : ℕ) (events : List Event)
+    → each_edge_once v (list_from false (2 * i) events v) ≡ reverse (map lower_record (filter (λ p. min p.1.from p.1.to == v) (enumerate_from i events)))
+unfolding list_from each_edge_once
+taken_from v i [] = refl
+taken_from v i (e ∷ events) =
+    let next = taken_from v (i + 1) events in
+    let place : 2 * (i + 1) ≡ 2 * i + 2 = omega arith in
+    let own = one_edge v (2 * i) (min e.from e.to) (max e.from e.to) e.len (omega arith) in
+    taken_apart v (2 * i + 2) (list_from false (2 * i + 2) events v) (links_at v (2 * i) (rows_of false e)) (numbers_from_first (2 * i + 2) events v)
+    (All-weaker (λ l. (2 * i ≤ l.number) × (l.number < 2 * i + 2)) (λ l. l.number < 2 * i + 2) (λ l p. p.1) _ (numbers_at v (2 * i) (rows_of false e)))
+    ∙ (ap (λ xs. xs ++ each_edge_once v (links_at v (2 * i) (rows_of false e))) (ap (λ k. each_edge_once v (list_from false k events v)) (sym place) ∙ next)
+    ∙ (ap (λ ys. reverse (map lower_record later) ++ ys) own ∙ by_end (min e.from e.to == v)))
+  where
+    later : List (ℕ × Event)
+    later = filter (λ p. min p.1.from p.1.to == v) (enumerate_from (i + 1) events)
+
+    by_end : (b : Bool) → reverse (map lower_record later) ++ (if b then link (2 * i) (max e.from e.to) e.len ∷ [] else [])
+        ≡ reverse (map lower_record (cond b ((i, e) ∷ later) later))
+    by_end true = sym (reverse-append (link (2 * i) (max e.from e.to) e.len ∷ []) (map lower_record later))
+    by_end false = append-nil (reverse (map lower_record later))
+
+-- the arcs taken of a vertex of a graph of edges
+pub taken_of_edges : (events : List Event) (g : GraphData) (v : ℕ) → HasArcsOf false events g → v < length g.vertices
+    → taken false g v ≡ reverse (map lower_record (edges_up_from v events))
+taken_of_edges events g v has below = ap (each_edge_once v) (has.lists v below) ∙ taken_from v 0 events

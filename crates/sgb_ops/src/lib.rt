@@ -3,4 +3,4 @@
 
 mod laws;
 
-pub use laws::{merged_are_apart, merging_law, taken_lead_up};
+pub use laws::{merged_are_apart, merging_law, taken_lead_up, taking_law};
