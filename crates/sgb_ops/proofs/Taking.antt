@@ -1,7 +1,8 @@
 -- What is known of the arcs taken of a list.
-use Rattle.std.proofs.Common.{◌≡◌, ◌+◌, ◌*◌, ◌≤◌, ◌<◌, ◌==◌, ◌⊎◌, ℕ, ℤ, min, max, Bool, true, false, cond, ltb, nat_lt, List, [], ◌∷◌, ◌++◌, map, reverse, length, refl, sym, ap, ◌∙◌, inl, inr, arith}
+use Rattle.std.proofs.Common.{◌≡◌, ◌+◌, ◌*◌, ◌≤◌, ◌<◌, ◌==◌, ◌⊎◌, ℕ, ℤ, min, max, Bool, true, false, ◌&&◌, cond, ltb, nat_lt, List, [], ◌∷◌, ◌++◌, map, reverse, length, refl, sym, ap, ◌∙◌, inl, inr, Option, Some, None, arith}
 use Rattle.std.specs.Prelude.{All, filter, if◌then◌else◌}
 use Rattle.std.specs.List.{enumerate_from}
+use Rattle.std.specs.Option.{option_map_or}
 use Rattle.std.proofs.lemmas.Bool.{cases_Bool, cases_eq, ltb-false, eq-eqb, ne_eqb, lt-ltb, le-ltb, and_right}
 use Rattle.std.proofs.lemmas.List.{append-nil, reverse-append}
 use Rattle.std.proofs.lemmas.List.Elements.{All-nil, All-cons, All-head, All-tail, All-append, All-weaker}
@@ -10,6 +11,7 @@ use Rattle.sgb_graph.specs.Events.{Event, Row, HasArcsOf, links_at, list_from, r
 use Rattle.sgb_graph.specs.Growth.{link, row}
 use Rattle.sgb_graph.specs.declared.fields.Link.{Link}
 use Rattle.sgb_ops.specs.Taken.{is_loop_with, each_edge_once, taken, lower_record, edges_up_from}
+use Rattle.sgb_ops.specs.TakenArcs.{IsStep, taken_after, without_other}
 
 -- an arc of the list of v that leads to no vertex before it
 abbrev leads_up : ℕ → Link → Type 0
@@ -150,3 +152,70 @@ taken_from v i (e ∷ events) =
 pub taken_of_edges : (events : List Event) (g : GraphData) (v : ℕ) → HasArcsOf false events g → v < length g.vertices
     → taken false g v ≡ reverse (map lower_record (edges_up_from v events))
 taken_of_edges events g v has below = ap (each_edge_once v) (has.lists v below) ∙ taken_from v 0 events
+
+-- whether this number follows that of a loop that was taken
+abbrev pub is_other : Option ℕ → ℕ → Bool
+is_other after_loop number = option_map_or (λ k. number == k + 1) after_loop false
+
+-- an arc that follows no loop with its number is not left out
+kept_after : (after_loop : Option ℕ) (l : Link) (links : List Link) → is_other after_loop l.number ≡ false → without_other after_loop (l ∷ links) ≡ l ∷ links
+kept_after None l links out = refl
+kept_after (Some k) l links out = rw out refl
+
+-- the other record of a loop is passed over
+pub step_other : (directed : Bool) (v : ℕ) (after_loop : Option ℕ) (l : Link) → is_other after_loop l.number ≡ true → IsStep directed v after_loop l false None
+step_other directed v None l is = absurd cc
+step_other directed v (Some k) l is = λ links. rw is refl
+
+-- each other arc is taken for a directed result
+pub step_directed : (v : ℕ) (after_loop : Option ℕ) (l : Link) → is_other after_loop l.number ≡ false → IsStep true v after_loop l true None
+step_directed v after_loop l out = λ links. kept_after after_loop l links out
+
+-- one arc of the list of an undirected graph
+one_taken : (v : ℕ) (l : Link) (links : List Link)
+    → each_edge_once v (l ∷ links) ≡ (if nat_lt l.tip v then each_edge_once v links else l ∷ each_edge_once v (without_other (if l.tip == v then Some l.number else None) links))
+unfolding each_edge_once
+one_taken v l [] = by_test (l.tip == v)
+  where
+    by_test : (b : Bool) → (if nat_lt l.tip v then [] else l ∷ [])
+        ≡ (if nat_lt l.tip v then [] else l ∷ each_edge_once v (without_other (if b then Some l.number else None) []))
+    by_test true = refl
+    by_test false = refl
+one_taken v l (k ∷ links) = by_test (l.tip == v)
+  where
+    by_next : (b : Bool) → (if b then each_edge_once v links else each_edge_once v (k ∷ links)) ≡ each_edge_once v (if b then links else k ∷ links)
+    by_next true = refl
+    by_next false = refl
+
+    by_test : (b : Bool) → (if nat_lt l.tip v then each_edge_once v (k ∷ links) else l ∷ (if b && (k.number == l.number + 1) then each_edge_once v links else each_edge_once v (k ∷ links)))
+        ≡ (if nat_lt l.tip v then each_edge_once v (k ∷ links) else l ∷ each_edge_once v (without_other (if b then Some l.number else None) (k ∷ links)))
+    by_test true = ap (λ xs. if nat_lt l.tip v then each_edge_once v (k ∷ links) else l ∷ xs) (by_next (k.number == l.number + 1))
+    by_test false = refl
+
+-- an arc to a vertex before v is passed over
+pub step_down : (v : ℕ) (after_loop : Option ℕ) (l : Link) → is_other after_loop l.number ≡ false → l.tip < v → IsStep false v after_loop l false None
+step_down v after_loop l out down = λ links.
+    let before = lt-ltb l.tip v down in
+    ap (each_edge_once v) (kept_after after_loop l links out) ∙ (one_taken v l links ∙ rw before refl)
+
+-- of a loop the first record is taken
+pub step_loop : (v : ℕ) (after_loop : Option ℕ) (l : Link) → is_other after_loop l.number ≡ false → l.tip ≡ v → IsStep false v after_loop l true (Some l.number)
+step_loop v after_loop l out here = λ links.
+    let up = le-ltb l.tip v (omega arith) in
+    let loop = eq-eqb l.tip v here in
+    ap (each_edge_once v) (kept_after after_loop l links out) ∙ (one_taken v l links ∙ rw (up, loop) refl)
+
+-- an arc to a vertex after v is taken
+pub step_up : (v : ℕ) (after_loop : Option ℕ) (l : Link) → is_other after_loop l.number ≡ false → v ≤ l.tip → (l.tip ≡ v → ⊥) → IsStep false v after_loop l true None
+step_up v after_loop l out up other = λ links.
+    let not_down = le-ltb l.tip v up in
+    let no_loop = ne_eqb l.tip v other in
+    ap (each_edge_once v) (kept_after after_loop l links out) ∙ (one_taken v l links ∙ rw (not_down, no_loop) refl)
+
+-- of no arcs none is taken
+pub none_taken : (directed : Bool) (v : ℕ) (after_loop : Option ℕ) → taken_after directed v after_loop [] ≡ []
+unfolding each_edge_once
+none_taken true v None = refl
+none_taken true v (Some k) = refl
+none_taken false v None = refl
+none_taken false v (Some k) = refl
