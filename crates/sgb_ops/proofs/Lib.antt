@@ -1,5 +1,6 @@
 -- Lemmas on the definitions, and worked examples.
 pub mod Taking
+pub mod Ends
 pub mod Merging
 pub mod Marks
 pub mod Results

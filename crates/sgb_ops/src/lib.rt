@@ -6,7 +6,8 @@ mod blocks;
 mod complements;
 mod laws;
 mod operands;
+mod taken;
 mod titles;
 
 pub use complements::complement;
-pub use laws::{merged_are_apart, taken_lead_up};
+pub use laws::{merged_are_apart, merging_law, taken_lead_up, taking_law};
