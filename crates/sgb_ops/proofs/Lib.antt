@@ -1,4 +1,8 @@
 -- Lemmas on the definitions, and worked examples.
 pub mod Taking
+pub mod Ends
 pub mod Merging
+pub mod Marks
+pub mod Results
+pub mod ComplementEvents
 pub mod Examples

@@ -1,22 +1,24 @@
 -- What is known of merged events.
-use Rattle.std.proofs.Common.{◌≡◌, Bool, true, false, not, List, [], ◌∷◌, refl, sym, arith}
-use Rattle.std.specs.Prelude.{All, AllPairs, filter}
-use Rattle.std.proofs.lemmas.List.Elements.{filter_passes}
+use Rattle.std.proofs.Common.{◌≡◌, ◌+◌, ◌⊎◌, ◌≤ℤ◌, ℕ, ℤ, pos, zero, suc, Bool, true, false, not, ◌||◌, List, [], ◌∷◌, ◌++◌, map, take, length, fold, refl, sym, ap, ◌∙◌, subst, inl, inr, cond, arith}
+use Rattle.std.specs.Prelude.{All, AllPairs, Contains, filter, flat_map, if◌then◌else◌}
+use Rattle.std.specs.List.{list_any, enumerate_from}
+use Rattle.std.proofs.lemmas.Bool.{cases_Bool, not-true, not_from_false}
+use Rattle.std.proofs.lemmas.Int.{fold-int_min_bounds, fold-int_min_reached}
+use Rattle.std.proofs.lemmas.List.{append_assoc, length-append, take_at}
+use Rattle.std.proofs.lemmas.List.Elements.{All-nil, All-cons, All-head, All-tail, All-contains, All-filter, All-contains_itself, filter_passes, filter-append}
 use Rattle.std.proofs.lemmas.List.Kept.{AllPairs-filter, AllPairs-cons}
 use Rattle.sgb_graph.specs.Events.{Event}
-use Rattle.sgb_ops.specs.Merged.{has_ends_of, with_least_length, merged}
+use Rattle.sgb_ops.specs.Lengths.{lesser}
+use Rattle.sgb_ops.specs.Merged.{has_ends_of, with_least_length, merged, ends_of, first_ones, IsShortest}
+use Rattle.sgb_ops.proofs.Ends.{own_ends, ends_turned, ends_joined, ends_either_way}
 
 -- the events do not have the same ends
 abbrev apart : Bool → Event → Event → Type 0
 apart directed e f = has_ends_of directed e f ≡ false
 
-false_from_not : (b : Bool) → not b ≡ true → b ≡ false
-false_from_not true h = sym h
-false_from_not false h = refl
-
 -- events without those that have the ends of e
 others : (directed : Bool) (e : Event) (events : List Event) → All (apart directed e) (filter (λ f. not (has_ends_of directed e f)) events)
-others directed e events = λ k d h. false_from_not _ (filter_passes (λ f. not (has_ends_of directed e f)) events k d h)
+others directed e events = λ k d h. not-true _ (filter_passes (λ f. not (has_ends_of directed e f)) events k d h)
 
 pub merged_apart : (directed : Bool) (events : List Event) → AllPairs (apart directed) (merged directed events)
 unfolding merged
@@ -24,3 +26,188 @@ merged_apart directed [] = λ i j d h k. absurd (omega (arith, h, k))
 merged_apart directed (e ∷ events) =
     AllPairs-cons (apart directed) (with_least_length directed e events) _ (others directed e (merged directed events))
     (AllPairs-filter (apart directed) (λ f. not (has_ends_of directed e f)) (merged directed events) (merged_apart directed events))
+
+-- an element of a list, at its first place or after it
+contains_first : {X : Type 0} (x : X) (xs : List X) → Contains (x ∷ xs) x
+contains_first x xs = (0, omega arith, refl)
+
+contains_after : {X : Type 0} (x y : X) (xs : List X) → Contains xs y → Contains (x ∷ xs) y
+contains_after x y xs (k, below, here) = (suc k, omega arith, here)
+
+contains_none : {X : Type 0} (x : X) → Contains [] x → ⊥
+contains_none x (k, below, here) = omega arith
+
+contains_cases : {X : Type 0} (x y : X) (xs : List X) → Contains (x ∷ xs) y → (x ≡ y) ⊎ Contains xs y
+contains_cases x y xs (zero, below, here) = inl here
+contains_cases x y xs (suc k, below, here) = inr (k, omega arith, here)
+
+-- one that passes a test is kept by the filter
+contains_filter : {X : Type 0} (p : X → Bool) (xs : List X) (x : X) → p x ≡ true → Contains xs x → Contains (filter p xs) x
+contains_filter p [] x passes has = absurd (contains_none x has)
+contains_filter p (a ∷ xs) x passes has = by_place (contains_cases a x xs has) (contains_filter p xs x passes)
+  where
+    later : Bool → Contains (filter p xs) x → Contains (cond (p a) (a ∷ filter p xs) (filter p xs)) x
+    later _ there = elim (cases_Bool (p a)) [
+      | inl kept ↦ rw kept (contains_after a x (filter p xs) there)
+      | inr out ↦ rw out there
+    ]
+
+    by_place : (a ≡ x) ⊎ Contains xs x → (Contains xs x → Contains (filter p xs) x) → Contains (cond (p a) (a ∷ filter p xs) (filter p xs)) x
+    by_place (inl here) rest = let kept : p a ≡ true = ap p here ∙ passes in rw kept (subst (λ y. Contains (a ∷ filter p xs) y) here (contains_first a (filter p xs)))
+    by_place (inr there) rest = later true (rest there)
+
+-- the element that a made one was made of
+contains_map : {X Y : Type 0} (f : X → Y) (xs : List X) (y : Y) → Contains (map f xs) y → (x : X) × Contains xs x × (f x ≡ y)
+contains_map f [] y has = absurd (contains_none y has)
+contains_map f (a ∷ xs) y has = by_place (contains_cases (f a) y (map f xs) has) (contains_map f xs y)
+  where
+    by_place : (f a ≡ y) ⊎ Contains (map f xs) y → (Contains (map f xs) y → (x : _) × Contains xs x × (f x ≡ y)) → (x : _) × Contains (a ∷ xs) x × (f x ≡ y)
+    by_place (inl here) rest = (a, contains_first a xs, here)
+    by_place (inr there) rest = let of = rest there in (of.0, contains_after a of.0 xs of.1, of.2)
+
+-- a fact on what is made of the elements that pass a test
+below_kept : (p : Event → Bool) (r : ℤ) (events : List Event) → All (λ x. r ≤ℤ x) (map (λ (f : Event). f.len) (filter p events)) → All (λ f. p f ≡ true → r ≤ℤ f.len) events
+below_kept p r [] all = All-nil (λ (f : Event). p f ≡ true → r ≤ℤ f.len)
+below_kept p r (e ∷ events) all = elim (cases_Bool (p e)) [
+  | inl kept ↦
+      let seen = rw kept at all in
+      All-cons (λ (f : Event). p f ≡ true → r ≤ℤ f.len) e events (λ h. All-head (λ x. r ≤ℤ x) e.len _ seen) (below_kept p r events (All-tail (λ x. r ≤ℤ x) e.len _ seen))
+  | inr out ↦
+      let seen = rw out at all in
+      All-cons (λ (f : Event). p f ≡ true → r ≤ℤ f.len) e events (λ h. absurd cc) (below_kept p r events seen)
+]
+
+-- the first of merged events is as short as the shortest with its ends
+first_is_shortest : (directed : Bool) (e : Event) (events : List Event) → IsShortest directed (e ∷ events) (with_least_length directed e events)
+first_is_shortest directed e events = record {
+  one = by_place (fold-int_min_reached e.len lengths shortest refl);
+  least = All-cons (λ f. has_ends_of directed e f ≡ true → shortest ≤ℤ f.len) e events (λ h. bounds.0) (below_kept (has_ends_of directed e) shortest events bounds.1);
+}
+  where
+    like : List Event
+    like = filter (has_ends_of directed e) events
+
+    lengths : List ℤ
+    lengths = map (λ (f : Event). f.len) like
+
+    shortest : ℤ
+    shortest = fold lesser e.len lengths
+
+    bounds : (shortest ≤ℤ e.len) × All (λ x. shortest ≤ℤ x) lengths
+    bounds = fold-int_min_bounds e.len lengths shortest refl
+
+    by_place : (shortest ≡ e.len) ⊎ Contains lengths shortest
+        → (f : Event) × Contains (e ∷ events) f × (has_ends_of directed e f ≡ true) × (f.len ≡ shortest)
+    by_place (inl own) = (e, contains_first e events, own_ends directed e, sym own)
+    by_place (inr among) =
+        let of = contains_map (λ (f : Event). f.len) like shortest among in (
+          of.0,
+          contains_after e of.0 events (All-contains (Contains events) like of.0 (All-filter (has_ends_of directed e) (Contains events) events (All-contains_itself events)) of.1),
+          All-contains (λ f. has_ends_of directed e f ≡ true) like of.0 (filter_passes (has_ends_of directed e) events) of.1,
+          of.2,
+        )
+
+-- one that stays so with an event in front that has not its ends
+stays_shortest : (directed : Bool) (e : Event) (events : List Event) (f : Event) → apart directed e f → IsShortest directed events f → IsShortest directed (e ∷ events) f
+stays_shortest directed e events f other short = record {
+  one = (short.one.0, contains_after e short.one.0 events short.one.1, short.one.2, short.one.3);
+  least = All-cons (λ x. has_ends_of directed f x ≡ true → f.len ≤ℤ x.len) e events (λ h. absurd (no h)) short.least;
+}
+  where
+    no : has_ends_of directed f e ≡ true → ⊥
+    no h = let turned = ends_turned directed f e h in absurd cc
+
+pub merged_shortest : (directed : Bool) (events : List Event) → All (IsShortest directed events) (merged directed events)
+unfolding merged
+merged_shortest directed [] = All-nil (IsShortest directed [])
+merged_shortest directed (e ∷ events) =
+    let rest = merged directed events in
+    let without = filter (λ f. not (has_ends_of directed e f)) rest in
+    All-cons (IsShortest directed (e ∷ events)) (with_least_length directed e events) without (first_is_shortest directed e events)
+    (λ k d h. stays_shortest directed e events _ (others directed e rest k d h)
+    (All-filter (λ f. not (has_ends_of directed e f)) (IsShortest directed events) rest (merged_shortest directed events) k d h))
+
+-- each event has its ends in one of them
+pub merged_has_each : (directed : Bool) (events : List Event) (e : Event) → Contains events e → (f : Event) × Contains (merged directed events) f × (has_ends_of directed e f ≡ true)
+unfolding merged
+merged_has_each directed [] e has = absurd (contains_none e has)
+merged_has_each directed (a ∷ events) e has = by_place (contains_cases a e events has) (merged_has_each directed events e)
+  where
+    first : Event
+    first = with_least_length directed a events
+
+    rest : List Event
+    rest = filter (λ f. not (has_ends_of directed a f)) (merged directed events)
+
+    by_ends : (f : Event) → Contains (merged directed events) f → has_ends_of directed e f ≡ true
+        → (has_ends_of directed a f ≡ true) ⊎ (has_ends_of directed a f ≡ false)
+        → (f : Event) × Contains (first ∷ rest) f × (has_ends_of directed e f ≡ true)
+    by_ends f there same (inl like) = (first, contains_first first rest, ends_joined directed e f a same (ends_turned directed a f like))
+    by_ends f there same (inr other) =
+        (f, contains_after first f rest (contains_filter (λ x. not (has_ends_of directed a x)) (merged directed events) f (not_from_false _ other) there), same)
+
+    by_place : (a ≡ e) ⊎ Contains events e → (Contains events e → (f : Event) × Contains (merged directed events) f × (has_ends_of directed e f ≡ true))
+        → (f : Event) × Contains (first ∷ rest) f × (has_ends_of directed e f ≡ true)
+    by_place (inl here) later = (first, contains_first first rest, subst (λ x. has_ends_of directed x a ≡ true) here (own_ends directed a))
+    by_place (inr there) later = let of = later there in by_ends of.0 of.1 of.2 (cases_Bool (has_ends_of directed a of.0))
+
+-- the first ones of events that come after others
+abbrev firsts_after : Bool → List Event → List Event → List Event
+firsts_after directed before [] = []
+firsts_after directed before (x ∷ events) =
+    (if list_any (has_ends_of directed x) before then [] else x ∷ []) ++ firsts_after directed (before ++ x ∷ []) events
+
+-- these are the first ones, found by their places
+first_at_places : (directed : Bool) (all before events : List Event) (k : ℕ) → all ≡ before ++ events → k ≡ length before
+    → flat_map (λ p. if list_any (has_ends_of directed p.1) (take p.0 all) then [] else p.1 ∷ []) (enumerate_from k events) ≡ firsts_after directed before events
+first_at_places directed all before [] k is place = refl
+first_at_places directed all before (x ∷ events) k is place =
+    let next = first_at_places directed all (before ++ x ∷ []) events (k + 1) (is ∙ sym (append_assoc before (x ∷ []) events)) (omega (arith, length-append before (x ∷ []))) in
+    let earlier : take k all ≡ before = ap (take k) is ∙ take_at before (x ∷ events) k (sym place) in
+    rw (earlier, next) refl
+
+-- of the first ones after e those that have not its ends are left
+one_less : (directed : Bool) (e x : Event) (b c : Bool) → has_ends_of directed x e ≡ b
+    → (if b || c then [] else x ∷ []) ≡ filter (λ f. not (has_ends_of directed e f)) (if c then [] else x ∷ [])
+one_less directed e x true true is = refl
+one_less directed e x false true is = refl
+one_less directed e x true false is = let turned : has_ends_of directed e x ≡ true = ends_either_way directed e x ∙ is in rw turned refl
+one_less directed e x false false is = let turned : has_ends_of directed e x ≡ false = ends_either_way directed e x ∙ is in rw turned refl
+
+firsts_without : (directed : Bool) (e : Event) (before events : List Event)
+    → firsts_after directed (e ∷ before) events ≡ filter (λ f. not (has_ends_of directed e f)) (firsts_after directed before events)
+firsts_without directed e before [] = refl
+firsts_without directed e before (x ∷ events) =
+    let now = one_less directed e x (has_ends_of directed x e) (list_any (has_ends_of directed x) before) refl in
+    let next = firsts_without directed e (before ++ x ∷ []) events in
+    let parts = filter-append (λ f. not (has_ends_of directed e f)) (if list_any (has_ends_of directed x) before then [] else x ∷ []) (firsts_after directed (before ++ x ∷ []) events) in
+    ap (λ xs. xs ++ firsts_after directed (e ∷ (before ++ x ∷ [])) events) now
+    ∙ (ap (λ ys. filter (λ f. not (has_ends_of directed e f)) (if list_any (has_ends_of directed x) before then [] else x ∷ []) ++ ys) next ∙ sym parts)
+
+-- what a test of the ends keeps, seen by the ends
+ends_kept : (t : ℕ × ℕ → Bool) (events : List Event) → map ends_of (filter (λ f. t (ends_of f)) events) ≡ filter t (map ends_of events)
+ends_kept t [] = refl
+ends_kept t (e ∷ events) = by_test (t (ends_of e)) (ends_kept t events)
+  where
+    by_test : (b : Bool) → map ends_of (filter (λ f. t (ends_of f)) events) ≡ filter t (map ends_of events)
+        → map ends_of (cond b (e ∷ filter (λ f. t (ends_of f)) events) (filter (λ f. t (ends_of f)) events)) ≡ cond b (ends_of e ∷ filter t (map ends_of events)) (filter t (map ends_of events))
+    by_test true rest = ap (λ xs. ends_of e ∷ xs) rest
+    by_test false rest = rest
+
+-- an event at the ends
+abbrev at_ends : ℕ × ℕ → Event
+at_ends p = record { from = p.0; to = p.1; len = pos 0 }
+
+merged_after : (directed : Bool) (events : List Event) → map ends_of (merged directed events) ≡ map ends_of (firsts_after directed [] events)
+unfolding merged
+merged_after directed [] = refl
+merged_after directed (e ∷ events) =
+    let t = λ (p : ℕ × ℕ). not (has_ends_of directed e (at_ends p)) in
+    let left = ends_kept t (merged directed events) in
+    let right = ends_kept t (firsts_after directed [] events) in
+    ap (λ xs. ends_of e ∷ xs)
+    (left ∙ (ap (filter t) (merged_after directed events) ∙ (sym right ∙ ap (map ends_of) (sym (firsts_without directed e [] events)))))
+
+-- the ends that are left are those of the first ones
+pub merged_first : (directed : Bool) (events : List Event) → map ends_of (merged directed events) ≡ map ends_of (first_ones directed events)
+merged_first directed events = merged_after directed events ∙ sym (ap (map ends_of) (first_at_places directed events [] events 0 refl refl))

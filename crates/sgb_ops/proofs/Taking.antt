@@ -1,10 +1,17 @@
 -- What is known of the arcs taken of a list.
-use Rattle.std.proofs.Common.{ℕ, ◌≤◌, Bool, true, false, cond, ltb, List, [], ◌∷◌, inl, inr}
-use Rattle.std.specs.Prelude.{All}
-use Rattle.std.proofs.lemmas.Bool.{cases_Bool, ltb-false}
-use Rattle.std.proofs.lemmas.List.Elements.{All-nil, All-cons}
+use Rattle.std.proofs.Common.{◌≡◌, ◌+◌, ◌*◌, ◌≤◌, ◌<◌, ◌==◌, ◌⊎◌, ℕ, ℤ, min, max, Bool, true, false, ◌&&◌, cond, ltb, nat_lt, List, [], ◌∷◌, ◌++◌, map, reverse, length, refl, sym, ap, ◌∙◌, inl, inr, Option, Some, None, arith}
+use Rattle.std.specs.Prelude.{All, filter, if◌then◌else◌}
+use Rattle.std.specs.List.{enumerate_from}
+use Rattle.std.specs.Option.{option_map_or}
+use Rattle.std.proofs.lemmas.Bool.{cases_Bool, cases_eq, ltb-false, eq-eqb, ne_eqb, lt-ltb, le-ltb, and_right}
+use Rattle.std.proofs.lemmas.List.{append-nil, reverse-append}
+use Rattle.std.proofs.lemmas.List.Elements.{All-nil, All-cons, All-head, All-tail, All-append, All-weaker}
+use Rattle.sgb_graph.specs.Graphs.{GraphData}
+use Rattle.sgb_graph.specs.Events.{Event, Row, HasArcsOf, links_at, list_from, rows_of}
+use Rattle.sgb_graph.specs.Growth.{link, row}
 use Rattle.sgb_graph.specs.declared.fields.Link.{Link}
-use Rattle.sgb_ops.specs.Taken.{is_loop_with, each_edge_once}
+use Rattle.sgb_ops.specs.Taken.{is_loop_with, each_edge_once, taken, lower_record, edges_up_from}
+use Rattle.sgb_ops.specs.TakenArcs.{IsStep, taken_after, without_other}
 
 -- an arc of the list of v that leads to no vertex before it
 abbrev leads_up : ℕ → Link → Type 0
@@ -31,3 +38,184 @@ each_edge_once_leads_up v (l ∷ []) = one_more v l [] [] (All-nil (leads_up v))
 each_edge_once_leads_up v (l ∷ k ∷ links) =
     let next = each_edge_once_leads_up v (k ∷ links) in
     one_more v l _ _ next (either_way v (is_loop_with v l k) _ _ (each_edge_once_leads_up v links) next)
+
+-- a list of arcs cut in two where no number is followed by the next: what is taken of each part
+apart_at : (v : ℕ) (skip loop : Bool) (l : Link) (one two three four rest : List Link) → one ≡ two ++ rest → three ≡ four ++ rest
+    → (if skip then one else l ∷ (if loop then three else one)) ≡ (if skip then two else l ∷ (if loop then four else two)) ++ rest
+apart_at v true loop l one two three four rest p q = p
+apart_at v false true l one two three four rest p q = ap (λ xs. l ∷ xs) q
+apart_at v false false l one two three four rest p q = ap (λ xs. l ∷ xs) p
+
+-- the last arc of the first part leaves out none of the second
+last_alone : (v : ℕ) (skip : Bool) (l : Link) (rest : List Link)
+    → (if skip then rest else l ∷ rest) ≡ (if skip then [] else l ∷ []) ++ rest
+last_alone v true l rest = refl
+last_alone v false l rest = refl
+
+-- taken of two lists, one after the other
+taken_apart : (v low : ℕ) (xs ys : List Link) → All (λ l. low ≤ l.number) xs → All (λ l. l.number < low) ys
+    → each_edge_once v (xs ++ ys) ≡ each_edge_once v xs ++ each_edge_once v ys
+unfolding each_edge_once
+taken_apart v low [] ys high below = refl
+taken_apart v low (l ∷ []) [] high below = sym (append-nil (each_edge_once v (l ∷ [])))
+taken_apart v low (l ∷ []) (y ∷ ys) high below =
+    let one = All-head (λ m. low ≤ m.number) l [] high in
+    let two = All-head (λ m. m.number < low) y ys below in
+    let not_next : (y.number == l.number + 1) ≡ false = ne_eqb y.number (l.number + 1) (λ e. absurd (omega arith)) in
+    let no : is_loop_with v l y ≡ false = and_right (l.tip == v) (y.number == l.number + 1) not_next in
+    rw no (last_alone v (nat_lt l.tip v) l (each_edge_once v (y ∷ ys)))
+taken_apart v low (l ∷ m ∷ xs) ys high below =
+    let after = All-tail (λ x. low ≤ x.number) l (m ∷ xs) high in
+    apart_at v (nat_lt l.tip v) (is_loop_with v l m) l _ _ _ _ (each_edge_once v ys)
+    (taken_apart v low (m ∷ xs) ys after below)
+    (taken_apart v low xs ys (All-tail (λ x. low ≤ x.number) m xs after) below)
+
+-- of the records of one edge the lower one is taken, at the smaller end
+one_edge : (v k a b : ℕ) (far : ℤ) → a ≤ b
+    → each_edge_once v (links_at v k (row a b far ∷ row b a far ∷ [])) ≡ (if a == v then link k b far ∷ [] else [])
+unfolding each_edge_once
+one_edge v k a b far up = by_ends (cases_eq a v) (cases_eq b v)
+  where
+    by_ends : (a ≡ v) ⊎ (a ≡ v → ⊥) → (b ≡ v) ⊎ (b ≡ v → ⊥)
+        → each_edge_once v (links_at v k (row a b far ∷ row b a far ∷ [])) ≡ (if a == v then link k b far ∷ [] else [])
+    by_ends (inl low) (inl high) =
+        let is_low = eq-eqb a v low in
+        let is_high = eq-eqb b v high in
+        let up_there = le-ltb b v (omega arith) in
+        let next = eq-eqb (k + 1) (k + 1) refl in
+        simp (is_low, is_high, up_there, next)
+    by_ends (inl low) (inr not_high) =
+        let is_low = eq-eqb a v low in
+        let is_high = ne_eqb b v not_high in
+        let up_there = le-ltb b v (omega arith) in
+        simp (is_low, is_high, up_there)
+    by_ends (inr not_low) (inl high) =
+        let is_low = ne_eqb a v not_low in
+        let is_high = eq-eqb b v high in
+        let down : a < v = omega arith in
+        let down_there = lt-ltb a v down in
+        simp (is_low, is_high, down_there)
+    by_ends (inr not_low) (inr not_high) =
+        let is_low = ne_eqb a v not_low in
+        let is_high = ne_eqb b v not_high in
+        simp (is_low, is_high)
+
+-- the numbers of the links of some rows
+numbers_at : (v k : ℕ) (rows : List Row) → All (λ l. (k ≤ l.number) × (l.number < k + length rows)) (links_at v k rows)
+numbers_at v k [] = All-nil _
+numbers_at v k (r ∷ rows) = by_start (cases_Bool (r.start == v)) (numbers_at v (k + 1) rows)
+  where
+    In : Link → Type 0
+    In l = (k ≤ l.number) × (l.number < k + length (r ∷ rows))
+
+    wider : All (λ l. (k + 1 ≤ l.number) × (l.number < k + 1 + length rows)) (links_at v (k + 1) rows) → All In (links_at v (k + 1) rows)
+    wider all = All-weaker (λ l. (k + 1 ≤ l.number) × (l.number < k + 1 + length rows)) In (λ l p. (omega (arith, p.0), omega (arith, p.1))) (links_at v (k + 1) rows) all
+
+    by_start : ((r.start == v) ≡ true) ⊎ ((r.start == v) ≡ false)
+        → All (λ l. (k + 1 ≤ l.number) × (l.number < k + 1 + length rows)) (links_at v (k + 1) rows)
+        → All In ((if r.start == v then link k r.tip r.len ∷ [] else []) ++ links_at v (k + 1) rows)
+    by_start (inl starts) all = rw starts (All-cons In (link k r.tip r.len) (links_at v (k + 1) rows) (omega arith, omega arith) (wider all))
+    by_start (inr not_here) all = rw not_here (wider all)
+
+-- the numbers on the list of events whose first record has number k
+numbers_from_first : (k : ℕ) (events : List Event) (v : ℕ) → All (λ l. k ≤ l.number) (list_from false k events v)
+unfolding list_from
+numbers_from_first k [] v = All-nil _
+numbers_from_first k (e ∷ events) v =
+    All-append (λ l. k ≤ l.number) (list_from false (k + 2) events v) (links_at v k (rows_of false e))
+    (All-weaker (λ l. k + 2 ≤ l.number) (λ l. k ≤ l.number) (λ l p. omega (arith, p)) _ (numbers_from_first (k + 2) events v))
+    (All-weaker (λ l. (k ≤ l.number) × (l.number < k + 2)) (λ l. k ≤ l.number) (λ l p. p.0) _ (numbers_at v k (rows_of false e)))
+
+-- taken of the list of the events, whose first one has this place
+taken_from : (v i : ℕ) (events : List Event)
+    → each_edge_once v (list_from false (2 * i) events v) ≡ reverse (map lower_record (filter (λ p. min p.1.from p.1.to == v) (enumerate_from i events)))
+unfolding list_from each_edge_once
+taken_from v i [] = refl
+taken_from v i (e ∷ events) =
+    let next = taken_from v (i + 1) events in
+    let place : 2 * (i + 1) ≡ 2 * i + 2 = omega arith in
+    let own = one_edge v (2 * i) (min e.from e.to) (max e.from e.to) e.len (omega arith) in
+    taken_apart v (2 * i + 2) (list_from false (2 * i + 2) events v) (links_at v (2 * i) (rows_of false e)) (numbers_from_first (2 * i + 2) events v)
+    (All-weaker (λ l. (2 * i ≤ l.number) × (l.number < 2 * i + 2)) (λ l. l.number < 2 * i + 2) (λ l p. p.1) _ (numbers_at v (2 * i) (rows_of false e)))
+    ∙ (ap (λ xs. xs ++ each_edge_once v (links_at v (2 * i) (rows_of false e))) (ap (λ k. each_edge_once v (list_from false k events v)) (sym place) ∙ next)
+    ∙ (ap (λ ys. reverse (map lower_record later) ++ ys) own ∙ by_end (min e.from e.to == v)))
+  where
+    later : List (ℕ × Event)
+    later = filter (λ p. min p.1.from p.1.to == v) (enumerate_from (i + 1) events)
+
+    by_end : (b : Bool) → reverse (map lower_record later) ++ (if b then link (2 * i) (max e.from e.to) e.len ∷ [] else [])
+        ≡ reverse (map lower_record (cond b ((i, e) ∷ later) later))
+    by_end true = sym (reverse-append (link (2 * i) (max e.from e.to) e.len ∷ []) (map lower_record later))
+    by_end false = append-nil (reverse (map lower_record later))
+
+-- the arcs taken of a vertex of a graph of edges
+pub taken_of_edges : (events : List Event) (g : GraphData) (v : ℕ) → HasArcsOf false events g → v < length g.vertices
+    → taken false g v ≡ reverse (map lower_record (edges_up_from v events))
+taken_of_edges events g v has below = ap (each_edge_once v) (has.lists v below) ∙ taken_from v 0 events
+
+-- whether this number follows that of a loop that was taken
+abbrev pub is_other : Option ℕ → ℕ → Bool
+is_other after_loop number = option_map_or (λ k. number == k + 1) after_loop false
+
+-- an arc that follows no loop with its number is not left out
+kept_after : (after_loop : Option ℕ) (l : Link) (links : List Link) → is_other after_loop l.number ≡ false → without_other after_loop (l ∷ links) ≡ l ∷ links
+kept_after None l links out = refl
+kept_after (Some k) l links out = rw out refl
+
+-- the other record of a loop is passed over
+pub step_other : (directed : Bool) (v : ℕ) (after_loop : Option ℕ) (l : Link) → is_other after_loop l.number ≡ true → IsStep directed v after_loop l false None
+step_other directed v None l is = absurd cc
+step_other directed v (Some k) l is = λ links. rw is refl
+
+-- each other arc is taken for a directed result
+pub step_directed : (v : ℕ) (after_loop : Option ℕ) (l : Link) → is_other after_loop l.number ≡ false → IsStep true v after_loop l true None
+step_directed v after_loop l out = λ links. kept_after after_loop l links out
+
+-- one arc of the list of an undirected graph
+one_taken : (v : ℕ) (l : Link) (links : List Link)
+    → each_edge_once v (l ∷ links) ≡ (if nat_lt l.tip v then each_edge_once v links else l ∷ each_edge_once v (without_other (if l.tip == v then Some l.number else None) links))
+unfolding each_edge_once
+one_taken v l [] = by_test (l.tip == v)
+  where
+    by_test : (b : Bool) → (if nat_lt l.tip v then [] else l ∷ [])
+        ≡ (if nat_lt l.tip v then [] else l ∷ each_edge_once v (without_other (if b then Some l.number else None) []))
+    by_test true = refl
+    by_test false = refl
+one_taken v l (k ∷ links) = by_test (l.tip == v)
+  where
+    by_next : (b : Bool) → (if b then each_edge_once v links else each_edge_once v (k ∷ links)) ≡ each_edge_once v (if b then links else k ∷ links)
+    by_next true = refl
+    by_next false = refl
+
+    by_test : (b : Bool) → (if nat_lt l.tip v then each_edge_once v (k ∷ links) else l ∷ (if b && (k.number == l.number + 1) then each_edge_once v links else each_edge_once v (k ∷ links)))
+        ≡ (if nat_lt l.tip v then each_edge_once v (k ∷ links) else l ∷ each_edge_once v (without_other (if b then Some l.number else None) (k ∷ links)))
+    by_test true = ap (λ xs. if nat_lt l.tip v then each_edge_once v (k ∷ links) else l ∷ xs) (by_next (k.number == l.number + 1))
+    by_test false = refl
+
+-- an arc to a vertex before v is passed over
+pub step_down : (v : ℕ) (after_loop : Option ℕ) (l : Link) → is_other after_loop l.number ≡ false → l.tip < v → IsStep false v after_loop l false None
+step_down v after_loop l out down = λ links.
+    let before = lt-ltb l.tip v down in
+    ap (each_edge_once v) (kept_after after_loop l links out) ∙ (one_taken v l links ∙ rw before refl)
+
+-- of a loop the first record is taken
+pub step_loop : (v : ℕ) (after_loop : Option ℕ) (l : Link) → is_other after_loop l.number ≡ false → l.tip ≡ v → IsStep false v after_loop l true (Some l.number)
+step_loop v after_loop l out here = λ links.
+    let up = le-ltb l.tip v (omega arith) in
+    let loop = eq-eqb l.tip v here in
+    ap (each_edge_once v) (kept_after after_loop l links out) ∙ (one_taken v l links ∙ rw (up, loop) refl)
+
+-- an arc to a vertex after v is taken
+pub step_up : (v : ℕ) (after_loop : Option ℕ) (l : Link) → is_other after_loop l.number ≡ false → v ≤ l.tip → (l.tip ≡ v → ⊥) → IsStep false v after_loop l true None
+step_up v after_loop l out up other = λ links.
+    let not_down = le-ltb l.tip v up in
+    let no_loop = ne_eqb l.tip v other in
+    ap (each_edge_once v) (kept_after after_loop l links out) ∙ (one_taken v l links ∙ rw (not_down, no_loop) refl)
+
+-- of no arcs none is taken
+pub none_taken : (directed : Bool) (v : ℕ) (after_loop : Option ℕ) → taken_after directed v after_loop [] ≡ []
+unfolding each_edge_once
+none_taken true v None = refl
+none_taken true v (Some k) = refl
+none_taken false v None = refl
+none_taken false v (Some k) = refl

@@ -16,16 +16,24 @@ use Rattle.sgb_ops.specs.Titles.{closing}
 abbrev pub has_arc : GraphData → ℕ → ℕ → Bool
 has_arc g u w = list_any (λ l. l.tip == w) (chain_of g u)
 
--- the result has an arc from u to w: where u has one in g, if a copy is wanted, and else where it has none;
--- a loop only where loops are wanted; an edge only from its smaller end
-abbrev pub is_wanted : GraphData → Bool → Bool → Bool → ℕ → ℕ → Bool
-is_wanted g copy self directed u w =
-    beq (has_arc g u w) copy && (self || not (w == u)) && (directed || nat_le u w)
+-- the result has an arc from u to w, where the operand has one or not: where it has one, if a copy is wanted, and
+-- else where it has none; a loop only where loops are wanted; an edge only from its smaller end
+abbrev pub is_wanted_where : Bool → Bool → Bool → Bool → ℕ → ℕ → Bool
+is_wanted_where arc copy self directed u w =
+    beq arc copy && (self || not (w == u)) && (directed || nat_le u w)
 
--- the wanted pairs in lexicographic order, each with length 1
+-- the result has an arc from u to w
+abbrev pub is_wanted : GraphData → Bool → Bool → Bool → ℕ → ℕ → Bool
+is_wanted g copy self directed u w = is_wanted_where (has_arc g u w) copy self directed u w
+
+-- the wanted arcs from u in order, each of length 1
+abbrev pub complement_events_from : GraphData → Bool → Bool → Bool → ℕ → List Event
+complement_events_from g copy self directed u =
+    map (λ w. record { from = u; to = w; len = pos 1 }) (filter (is_wanted g copy self directed u) (places_of g))
+
+-- the wanted pairs in lexicographic order
 abbrev pub complement_events : GraphData → Bool → Bool → Bool → List Event
-complement_events g copy self directed =
-    flat_map (λ u. map (λ w. record { from = u; to = w; len = pos 1 }) (filter (is_wanted g copy self directed u) (places_of g))) (places_of g)
+complement_events g copy self directed = flat_map (complement_events_from g copy self directed) (places_of g)
 
 -- the id of a complement
 abbrev pub complement_id : List ℕ → Bool → Bool → Bool → List ℕ

@@ -2,6 +2,7 @@
 pub mod Operands
 pub mod Lengths
 pub mod Taken
+pub mod TakenArcs
 pub mod Merged
 pub mod Titles
 pub mod Complement

@@ -1,12 +1,26 @@
-ghost use Rattle.sgb_ops.specs.Merged.{MergedAreApart};
-ghost use Rattle.sgb_ops.specs.Taken.{TakenLeadUp};
+ghost use Rattle.sgb_ops.specs.Merged.{MergedAreApart, MergedAreShortest, MergedAreTheFirst, MergedHasEachPair};
+ghost use Rattle.sgb_ops.specs.Taken.{TakenAreLowerRecords, TakenLeadUp};
 
 /// An arc that is taken of a vertex for an undirected result leads to no vertex before it (GB_BASIC, gunion).
 pub fn taken_lead_up()
     ensures { TakenLeadUp }
 {}
 
+/// The arcs taken of a vertex of a graph of edges for an undirected result are, of each edge with this smaller end, its
+/// lower record, once; later edges come first (GB_BASIC, gunion).
+pub fn taking_law()
+    ensures { TakenAreLowerRecords }
+{}
+
 /// Of merged events no two have the same ends (GB_BASIC, gunion).
 pub fn merged_are_apart()
     ensures { MergedAreApart }
+{}
+
+/// Of all events with the same ends one is left, at the first one's place, with the least length of them all, and
+/// nothing else is left (GB_BASIC, gunion).
+pub fn merging_law()
+    ensures each { MergedHasEachPair }
+    ensures first { MergedAreTheFirst }
+    ensures least { MergedAreShortest }
 {}

@@ -10,7 +10,7 @@ use Rattle.sgb_ops.specs.Merged.{merged}
 use Rattle.sgb_ops.specs.Complement.{complement_of, complement_events}
 use Rattle.sgb_ops.specs.Gunion.{gunion_of}
 use Rattle.sgb_ops.specs.Intersection.{intersection_of}
-use Rattle.sgb_ops.proofs.Examples.Operands.{event, complete_3, complete_4, circuit_3, circuit_4, path_3, loop_1, blocks, block, arcs, names, title}
+use Rattle.sgb_ops.proofs.Examples.Operands.{event, complete_3, complete_4, circuit_3, circuit_4, cycle_3, path_3, loop_1, blocks, block, arcs, names, title}
 
 -- complement(board(3,0,0,0,1,0,0),0,0,0): the two ends of the path
 pub complement_of_path : blocks (complement_of path_3 false false false)
@@ -36,6 +36,20 @@ copy_of_loop = refl
 pub copy_without_loop : complement_events loop_1 true false false ≡ []
 unfolding numbers_from list_from
 copy_without_loop = refl
+
+-- of a graph with arcs one way: where u has none to w, whatever w has
+pub complement_of_cycle : complement_events cycle_3 false false true ≡ event 0 2 1 ∷ event 1 0 1 ∷ event 2 1 1 ∷ []
+unfolding numbers_from list_from
+complement_of_cycle = refl
+
+-- with edges, where the smaller end has none to the greater one
+pub edges_of_cycle : complement_events cycle_3 false false false ≡ event 0 2 1 ∷ []
+unfolding numbers_from list_from
+edges_of_cycle = refl
+
+pub copied_edges_of_cycle : complement_events cycle_3 true false false ≡ event 0 1 1 ∷ event 1 2 1 ∷ []
+unfolding numbers_from list_from
+copied_edges_of_cycle = refl
 
 -- of a graph of no vertices
 abbrev nothing : GraphData

@@ -1,0 +1,67 @@
+-- What it means that two events have the same ends.
+use Rattle.std.proofs.Common.{◌≡◌, ◌⊎◌, ◌==◌, ◌&&◌, Bool, true, false, refl, sym, ◌∙◌, inl, inr}
+use Rattle.std.proofs.lemmas.Bool.{and_parts, or_cases, or_right, eqb-true, eq-eqb}
+use Rattle.sgb_graph.specs.Events.{Event}
+use Rattle.sgb_ops.specs.Merged.{has_ends_of}
+
+-- the same ends in the same order
+record SameWay (e f : Event) : Type 0 where
+  pub from : f.from ≡ e.from
+  pub to : f.to ≡ e.to
+
+-- or in the other order
+record OtherWay (directed : Bool) (e f : Event) : Type 0 where
+  pub edges : directed ≡ false
+  pub from : f.from ≡ e.to
+  pub to : f.to ≡ e.from
+
+same_way : (directed : Bool) (e f : Event) → SameWay e f → has_ends_of directed e f ≡ true
+same_way directed e f same = rw (eq-eqb f.from e.from same.from, eq-eqb f.to e.to same.to) refl
+
+other_way : (e f : Event) → OtherWay false e f → has_ends_of false e f ≡ true
+other_way e f other = rw (eq-eqb f.from e.to other.from, eq-eqb f.to e.from other.to) (or_right _ true refl)
+
+has_ends : (directed : Bool) (e f : Event) → SameWay e f ⊎ OtherWay directed e f → has_ends_of directed e f ≡ true
+has_ends directed e f (inl same) = same_way directed e f same
+has_ends directed e f (inr other) = rw other.edges (other_way e f (rw other.edges at other))
+
+ends : (directed : Bool) (e f : Event) → has_ends_of directed e f ≡ true → SameWay e f ⊎ OtherWay directed e f
+ends true e f h = elim (or_cases ((f.from == e.from) && (f.to == e.to)) false h) [
+  | inl one ↦ let parts = and_parts _ _ one in inl record { from = eqb-true _ _ parts.0; to = eqb-true _ _ parts.1 }
+  | inr none ↦ absurd cc
+]
+ends false e f h = elim (or_cases ((f.from == e.from) && (f.to == e.to)) ((f.from == e.to) && (f.to == e.from)) h) [
+  | inl one ↦ let parts = and_parts _ _ one in inl record { from = eqb-true _ _ parts.0; to = eqb-true _ _ parts.1 }
+  | inr two ↦ let parts = and_parts _ _ two in inr record { edges = refl; from = eqb-true _ _ parts.0; to = eqb-true _ _ parts.1 }
+]
+
+-- each event has its own ends
+pub own_ends : (directed : Bool) (e : Event) → has_ends_of directed e e ≡ true
+own_ends directed e = same_way directed e e record { from = refl; to = refl }
+
+turned_ways : (directed : Bool) (e f : Event) → SameWay e f ⊎ OtherWay directed e f → SameWay f e ⊎ OtherWay directed f e
+turned_ways directed e f (inl same) = inl record { from = sym same.from; to = sym same.to }
+turned_ways directed e f (inr other) = inr record { edges = other.edges; from = sym other.to; to = sym other.from }
+
+-- two events have each other's ends
+pub ends_turned : (directed : Bool) (e f : Event) → has_ends_of directed e f ≡ true → has_ends_of directed f e ≡ true
+ends_turned directed e f h = has_ends directed f e (turned_ways directed e f (ends directed e f h))
+
+joined_ways : (directed : Bool) (e f g : Event) → SameWay e f ⊎ OtherWay directed e f → SameWay f g ⊎ OtherWay directed f g → SameWay e g ⊎ OtherWay directed e g
+joined_ways directed e f g (inl a) (inl b) = inl record { from = b.from ∙ a.from; to = b.to ∙ a.to }
+joined_ways directed e f g (inl a) (inr b) = inr record { edges = b.edges; from = b.from ∙ a.to; to = b.to ∙ a.from }
+joined_ways directed e f g (inr a) (inl b) = inr record { edges = a.edges; from = b.from ∙ a.from; to = b.to ∙ a.to }
+joined_ways directed e f g (inr a) (inr b) = inl record { from = b.from ∙ a.to; to = b.to ∙ a.from }
+
+-- those of an event that has the ends of another
+pub ends_joined : (directed : Bool) (e f g : Event) → has_ends_of directed e f ≡ true → has_ends_of directed f g ≡ true → has_ends_of directed e g ≡ true
+ends_joined directed e f g one two = has_ends directed e g (joined_ways directed e f g (ends directed e f one) (ends directed f g two))
+
+by_both : (a b : Bool) → (a ≡ true → b ≡ true) → (b ≡ true → a ≡ true) → a ≡ b
+by_both true b to from = sym (to refl)
+by_both false true to from = from refl
+by_both false false to from = refl
+
+-- the test says the same both ways
+pub ends_either_way : (directed : Bool) (e f : Event) → has_ends_of directed e f ≡ has_ends_of directed f e
+ends_either_way directed e f = by_both (has_ends_of directed e f) (has_ends_of directed f e) (ends_turned directed e f) (ends_turned directed f e)

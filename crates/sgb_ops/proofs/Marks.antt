@@ -1,0 +1,50 @@
+-- Marks at the vertices that a list of arcs leads to.
+use Rattle.std.proofs.Common.{◌≡◌, ◌≢◌, ℕ, ◌+◌, ◌<◌, ◌≤◌, ◌==◌, Bool, true, false, cond, List, ◌∷◌, ◌++◌, length, take, set, get_or, refl, subst, ◌∙◌, inl, inr, arith}
+use Rattle.std.specs.List.{list_any}
+use Rattle.std.proofs.lemmas.Bool.{cases_Bool}
+use Rattle.std.proofs.lemmas.Bool.Decides.{nat_tests}
+use Rattle.std.proofs.lemmas.List.{get_or-set_same, get_or-set_other, take-append-le, take_all}
+use Rattle.sgb_graph.specs.declared.fields.Link.{Link}
+
+-- one of these arcs leads to w
+abbrev pub leads_to : List Link → ℕ → Bool
+leads_to links w = list_any (λ l. l.tip == w) links
+
+-- what stands at w: the mark where one of these arcs leads there, else what these marks have
+abbrev pub mark_at : List Link → ℕ → List ℕ → ℕ → ℕ
+mark_at links mark marks w = cond (leads_to links w) mark (get_or marks w 0)
+
+-- both ways the same
+same_both : (b : Bool) (m : ℕ) → cond b m m ≡ m
+same_both true m = refl
+same_both false m = refl
+
+-- the tip of the first arc is marked
+pub mark_at-next : (l : Link) (links : List Link) (mark : ℕ) (marks : List ℕ) (w : ℕ) → l.tip < length marks → mark_at links mark (set marks l.tip mark) w ≡ mark_at (l ∷ links) mark marks w
+mark_at-next l links mark marks w within = elim (cases_Bool (l.tip == w)) [
+  | inl e ↦
+      let same : l.tip ≡ w = grind (arith, nat_tests) in
+      let here : get_or (set marks l.tip mark) w 0 ≡ mark = subst (λ k. get_or (set marks l.tip mark) k 0 ≡ mark) same (get_or-set_same marks l.tip mark 0 within) in
+      rw (e, here) (same_both (leads_to links w) mark)
+  | inr e ↦
+      let other : w ≢ l.tip = λ same. absurd (grind (arith, nat_tests)) in
+      rw (e, get_or-set_other marks l.tip w mark 0 other) refl
+]
+
+-- marks of earlier lists are less than the mark of this one, so that this mark is at w where this list leads there
+pub is_marked : (links : List Link) (u : ℕ) (marks : List ℕ) (w : ℕ) → get_or marks w 0 ≤ u → (mark_at links (u + 1) marks w == u + 1) ≡ leads_to links w
+is_marked links u marks w earlier = elim (cases_Bool (leads_to links w)) [
+  | inl e ↦ rw e grind (arith, nat_tests)
+  | inr e ↦ rw e grind (arith, nat_tests)
+]
+
+-- and no mark is greater
+pub mark_at-le : (links : List Link) (u : ℕ) (marks : List ℕ) (w : ℕ) → get_or marks w 0 ≤ u → mark_at links (u + 1) marks w ≤ u + 1
+mark_at-le links u marks w earlier = elim (cases_Bool (leads_to links w)) [
+  | inl e ↦ rw e omega arith
+  | inr e ↦ rw e omega arith
+]
+
+-- marks that were lent as a whole
+pub lent_back : (n : ℕ) (marks beyond : List ℕ) → length marks ≡ n → take n (marks ++ beyond) ≡ marks
+lent_back n marks beyond e = take-append-le n marks beyond (omega arith) ∙ take_all n marks (omega arith)

@@ -1,0 +1,138 @@
+//! The complement of a graph, or a copy of it without parallel arcs (GB_BASIC, complement).
+ghost use Rattle.std.specs.Prelude.{◌≡◌, ◌<◌, ◌+◌, ◌==◌, [], ◌∷◌, ℕ, pos, length, slice_index, map, filter, OnOk, IsOkUnless, if◌then◌else◌};
+ghost use Rattle.sgb_graph.specs.Descriptions.{IsAnswerOf};
+ghost use Rattle.sgb_graph.specs.Growth.{AddsEvents, HasPlainArcs};
+ghost use Rattle.sgb_ops.specs.Complement.{complement_events, complement_events_from, complement_id, complement_of, has_arc, is_wanted_where};
+
+use crate::operands::names_of;
+use crate::titles::flag_byte;
+use sgb_graph::{Graph, Id, compound_id};
+use sgb_vec::Panic;
+use std::alloc::Global;
+
+/// The complement of a graph, or a copy of it without parallel arcs (GB_BASIC, complement): the graph of the same
+/// names whose arcs, or edges unless `directed`, all of length 1, lead from vertex u to vertex w where `graph` has no
+/// arc from u to w, or with `copy` where it has one. A loop comes with `self_loops` only, an edge from its smaller end
+/// only. They come for each u in order, and then for each w in order. The id is `complement(ID,copy,self_loops,directed)`.
+///
+/// `NoRoom` when out of memory, and nothing else.
+pub fn complement(
+    alloc: Global,
+    graph: &Graph,
+    copy: bool,
+    self_loops: bool,
+    directed: bool,
+) -> Result<Graph, Panic>
+    ensures { IsAnswerOf (complement_of graph.now copy self_loops directed) result }
+{
+    let wanted = Wanted {
+        copy,
+        self_loops,
+        directed,
+    };
+    let names = names_of(alloc, graph)?;
+    let mut built = Graph::new(alloc, names)?;
+    wanted.add_arcs(alloc, graph, &mut built)?;
+    built.set_id(wanted.id(graph.id()));
+    Ok(built)
+}
+
+// Which arcs a complement has.
+#[derive(Clone, Copy)]
+struct Wanted {
+    copy: bool,
+    self_loops: bool,
+    directed: bool,
+}
+
+impl Wanted {
+    // The id of the result, made from the operand's.
+    fn id(self, id: &Id) -> Id
+        ensures { result ≡ complement_id id.now self.copy self.self_loops self.directed }
+    {
+        let end = [
+            b',',
+            flag_byte(self.copy),
+            b',',
+            flag_byte(self.self_loops),
+            b',',
+            flag_byte(self.directed),
+            b')',
+        ];
+        compound_id(b"complement(", id, &end)
+    }
+
+    // Adds the arcs of the result: for each vertex of `graph` in order those from it.
+    fn add_arcs(self, alloc: Global, graph: &Graph, built: &mut Graph) -> Result<(), Panic>
+        requires vertices { length built.old.vertices ≡ length graph.now.vertices }
+        requires plain { HasPlainArcs built.old }
+        ensures ok { OnOk result (AddsEvents self.directed built.old built.new (complement_events graph.now self.copy self.self_loops self.directed)) }
+        ensures memory { IsOkUnless result Panic.NoRoom }
+    {
+        // For each vertex w the last u + 1 so far where u has an arc to w, or 0.
+        let mut marks = vec![in alloc; 0; graph.n() as usize]?;
+        for u in 0..graph.n() {
+            mark_tips(&mut marks, graph, u, u + 1);
+            self.add_arcs_from(graph, u, &marks, built)?;
+        }
+        Ok(())
+    }
+
+    // Adds the arcs from vertex `u`, in order. `marks` has `u + 1` where `u` has an arc in `graph`.
+    fn add_arcs_from(
+        self,
+        graph: &Graph,
+        u: u32,
+        marks: &[u32],
+        built: &mut Graph,
+    ) -> Result<(), Panic>
+        requires vertex { u < length graph.now.vertices }
+        requires vertices { length built.old.vertices ≡ length graph.now.vertices }
+        requires plain { HasPlainArcs built.old }
+        requires marks { length marks.now ≡ length graph.now.vertices }
+        requires marked { (w : ℕ) → w < length graph.now.vertices → (slice_index marks.now w == u + 1) ≡ has_arc graph.now u w }
+        ensures ok { OnOk result (AddsEvents self.directed built.old built.new (complement_events_from graph.now self.copy self.self_loops self.directed u)) }
+        ensures memory { IsOkUnless result Panic.NoRoom }
+    {
+        for w in 0..graph.n() {
+            self.add_arc(built, u, w, marks[w as usize] == u + 1)?;
+        }
+        Ok(())
+    }
+
+    // Adds the arc from `u` to `w` where it is wanted; `has_arc` tells whether the operand has one.
+    fn add_arc(self, built: &mut Graph, u: u32, w: u32, has_arc: bool) -> Result<(), Panic>
+        requires from { u < length built.old.vertices }
+        requires to { w < length built.old.vertices }
+        requires plain { HasPlainArcs built.old }
+        ensures ok { OnOk result (AddsEvents self.directed built.old built.new
+            (if is_wanted_where has_arc self.copy self.self_loops self.directed u w then record { from = u; to = w; len = pos 1 } ∷ [] else [])) }
+        ensures memory { IsOkUnless result Panic.NoRoom }
+    {
+        if self.has(u, w, has_arc) {
+            return built.add_event(self.directed, u, w, 1);
+        }
+        Ok(())
+    }
+
+    // Whether the result has an arc from `u` to `w`.
+    fn has(self, u: u32, w: u32, has_arc: bool) -> bool
+        ensures { result ≡ is_wanted_where has_arc self.copy self.self_loops self.directed u w }
+    {
+        has_arc == self.copy && (self.self_loops || w != u) && (self.directed || u <= w)
+    }
+}
+
+// Puts `mark` at each vertex that the list of `u` leads to.
+fn mark_tips(marks: &mut [u32], graph: &Graph, u: u32, mark: u32)
+    requires vertex { u < length graph.now.vertices }
+    requires marks { length marks.old ≡ length graph.now.vertices }
+    ensures { (w : ℕ) → w < length graph.now.vertices → slice_index marks.new w ≡ (if has_arc graph.now u w then mark else slice_index marks.old w) }
+{
+    for link in graph.arcs(u) {
+        marks[link.tip as usize] = mark;
+    }
+}
+
+#[cfg(test)]
+mod tests;
