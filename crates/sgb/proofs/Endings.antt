@@ -5,13 +5,13 @@ use Rattle.std.proofs.KnownBytes.{Appends-nil, Appends-kept}
 use Rattle.std.proofs.lemmas.Bool.{both_ways}
 use Rattle.sgb_vec.specs.declared.panics.Panic.TheVariants.{NoRoom}
 use Rattle.sgb_vec.specs.declared.panics.Panic.{Panic}
-use Rattle.sgb_graph.specs.Descriptions.{Description, IsAnswerOf}
+use Rattle.sgb_graph.specs.Descriptions.{Description}
 use Rattle.sgb_graph.specs.Graphs.{GraphData}
-use Rattle.sgb.specs.Outcomes.{answer_after, answer_from, list_answer, names_answer, outcome_of}
-use Rattle.sgb.specs.Texts.{shown, shown_graph}
-use Rattle.sgb.specs.Values.{IsLocalOf}
+use Rattle.sgb_graph.specs.Made.{graph_described}
+use Rattle.sgb_ops.specs.Operands.{names_of}
+use Rattle.sgb.specs.Outcomes.{answer_after, answer_from, names_answer, outcome_of}
+use Rattle.sgb.specs.Values.{IsLocalOf, IsValue, made}
 use Rattle.sgb.specs.declared.requests.Resume.{Resume}
-use Rattle.sgb.proofs.Shown.{list_answer-is}
 use Rattle.sgb_file.specs.Devices.{AppendsUnlessFailed}
 use Rattle.sgb.specs.Faults.{line_of, status_of}
 use Rattle.sgb.specs.Runs.{Change, IsRunOf}
@@ -123,35 +123,28 @@ refused_after T from text f w failed (inr e) h =
     subst (λ g. IsEnded {T = T} (answer_after from text) (change w w failed) (Err g)) (sym memory) (memory_at_once T (answer_after from text) w failed h)
 
 -- an answer refused because its graph is
-pub refused_value : (T : Type 0) (v : Result Description Panic) (answer : Description → Result (List ℕ) Fault) (p : Panic) (f : Fault) (w : Option (List ℕ)) (failed : Bool)
-    → IsAnswerOf v (Err p) → f ≡ fault.Panic p → failed ≡ false → IsEnded {T = T} (answer_from v answer) (change w w failed) (Err f)
-refused_value T (Ok d) answer p f w failed e is h =
-    let memory : f ≡ fault.Panic NoRoom = is ∙ ap fault.Panic e in
-    subst (λ g. IsEnded {T = T} (answer d) (change w w failed) (Err g)) (sym memory) (memory_at_once T (answer d) w failed h)
-refused_value T (Err q) answer p f w failed (inl e) is h =
-    refused_at_once T (Err (fault.Panic q)) f w failed (ap Err (ap fault.Panic (sym e) ∙ sym is)) h
-refused_value T (Err q) answer p f w failed (inr e) is h =
-    let memory : f ≡ fault.Panic NoRoom = is ∙ ap fault.Panic e in
-    subst (λ g. IsEnded {T = T} (Err (fault.Panic q)) (change w w failed) (Err g)) (sym memory) (memory_at_once T (Err (fault.Panic q)) w failed h)
-
--- a listing of the graph of an expression
-pub listed_value : {T : Type 0} (v : Result Description Panic) (g : GraphData) (resume : Resume) (out : Change) (r : Result T Fault)
-    → IsAnswerOf v (Ok g) → IsEnded (list_answer (shown_graph g) resume) out r → IsEnded (answer_from v (λ d. list_answer (shown d) resume)) out r
-listed_value {T = T} (Ok d) g resume out r is p = subst (λ (a : Result (List ℕ) Fault). IsEnded {T = T} a out r) (list_answer-is d g resume is) p
-listed_value (Err q) g resume out r is p = absurd is
-
--- names of the graph of an expression
-pub named_value : {T : Type 0} (v : Result Description Panic) (d : Description) (names : List (List ℕ)) (resume : Resume) (out : Change) (r : Result T Fault)
-    → v ≡ Ok d → d.names ≡ names → IsEnded (names_answer names resume) out r → IsEnded (answer_from v (λ x. names_answer x.names resume)) out r
-named_value {T = T} v d names resume out r e same p =
-    subst (λ (u : Result Description Panic). IsEnded {T = T} (answer_from u (λ x. names_answer x.names resume)) out r) (sym e)
-    (subst (λ (ns : List (List ℕ)). IsEnded {T = T} (names_answer ns resume) out r) (sym same) p)
-
--- names of no graph: the generator refuses its parameters
-pub refused_local : (T : Type 0) (v : Result Description Panic) (answer : Description → Result (List ℕ) Fault) (p : Panic) (f : Fault) (w : Option (List ℕ)) (failed : Bool)
-    → IsLocalOf v (Err p) → f ≡ fault.Panic p → failed ≡ false → IsEnded {T = T} (answer_from v answer) (change w w failed) (Err f)
-refused_local T v answer p f w failed (inl e) is h =
-    refused_at_once T (answer_from v answer) f w failed (ap (λ (u : Result Description Panic). answer_from u answer) e ∙ ap Err (sym is)) h
-refused_local T v answer p f w failed (inr e) is h =
+pub refused_value : (T : Type 0) (v : Result GraphData Panic) (answer : GraphData → Result (List ℕ) Fault) (p : Panic) (f : Fault) (w : Option (List ℕ)) (failed : Bool)
+    → IsValue v (Err p) → f ≡ fault.Panic p → failed ≡ false → IsEnded {T = T} (answer_from v answer) (change w w failed) (Err f)
+refused_value T v answer p f w failed (inl e) is h =
+    refused_at_once T (answer_from v answer) f w failed (ap (λ (u : Result GraphData Panic). answer_from u answer) e ∙ ap Err (sym is)) h
+refused_value T v answer p f w failed (inr e) is h =
     let memory : f ≡ fault.Panic NoRoom = is ∙ ap fault.Panic e in
     subst (λ g. IsEnded {T = T} (answer_from v answer) (change w w failed) (Err g)) (sym memory) (memory_at_once T (answer_from v answer) w failed h)
+
+-- an answer that is made of the graph of an expression
+pub ended_value : {T : Type 0} (v : Result GraphData Panic) (g : GraphData) (answer : GraphData → Result (List ℕ) Fault) (out : Change) (r : Result T Fault)
+    → v ≡ Ok g → IsEnded (answer g) out r → IsEnded (answer_from v answer) out r
+ended_value {T = T} v g answer out r e p = subst (λ (u : Result GraphData Panic). IsEnded {T = T} (answer_from u answer) out r) (sym e) p
+
+-- names of a generator's vertices
+pub named_value : {T : Type 0} (v : Result Description Panic) (d : Description) (names : List (List ℕ)) (resume : Resume) (out : Change) (r : Result T Fault)
+    → v ≡ Ok d → names_of (graph_described d) ≡ names → IsEnded (names_answer names resume) out r
+    → IsEnded (answer_from (made v) (λ g. names_answer (names_of g) resume)) out r
+named_value {T = T} v d names resume out r e same p =
+    subst (λ (u : Result Description Panic). IsEnded {T = T} (answer_from (made u) (λ g. names_answer (names_of g) resume)) out r) (sym e)
+    (subst (λ (ns : List (List ℕ)). IsEnded {T = T} (names_answer ns resume) out r) (sym same) p)
+
+-- a generator refuses its parameters
+pub local_value : (v : Result Description Panic) (p : Panic) → IsLocalOf v (Err p) → IsValue (made v) (Err p)
+local_value v p (inl e) = inl (ap made e)
+local_value v p (inr e) = inr e

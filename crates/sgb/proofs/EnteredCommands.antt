@@ -5,7 +5,7 @@ use Rattle.std.specs.Option.{option_map_or}
 use Rattle.std.proofs.lemmas.Slice.Eq.{bytes_eq-Decides}
 use Rattle.clap.specs.Faults.{entered_fault, level_fault}
 use Rattle.clap.specs.Kinds.{Kinds}
-use Rattle.clap.specs.Simple.{argument_words, built_leaf, entered, help_shape, inherited, label_of, marked_built, names_of, rows_at, with_leaf_noted}
+use Rattle.clap.specs.Simple.{argument_words, built_leaf, entered, help_shape, inherited, label_of, marked_built, new_shape, names_of, rows_at, with_leaf_noted}
 use Rattle.clap.specs.Walk.{answers_to, nothing_held, stop_after, walk_from}
 use Rattle.clap.specs.Words.{App, FailsBy, HasKind, HasMatchesOf, Row, Rule, Shape, Text, built, fault_of, first_of, found_of, is_simple_and_free, rows_of, subcommand_name_of, subcommand_of, subcommand_rows_of}
 use Rattle.clap.specs.declared.error.Error.{Error}
@@ -13,7 +13,7 @@ use Rattle.clap.specs.declared.parser.matches.ArgMatches.{ArgMatches}
 use Rattle.clap.specs.declared.parser.matches.ArgMatches.TheViews.{out-ArgMatches, out-SubCommand}
 use Rattle.clap.specs.declared.parser.matches.SubCommand.{SubCommand}
 use Rattle.std.specs.Box.{box_value}
-use Rattle.sgb.specs.CommandLine.{HasNoCommand, IsTaken, asked_by, command_line, output_shape}
+use Rattle.sgb.specs.CommandLine.{Enters, HasNoCommand, IsTaken, asked_by, command_line, output_shape}
 use Rattle.sgb.proofs.ClapValues.{name_by_rows, or_false, pair_is}
 use Rattle.sgb.proofs.ClapHelp.{IsNotHelp, walk_stops}
 use Rattle.sgb.proofs.ClapRequired.{each_valued, is_valued, none_first, none_second, required_first}
@@ -43,9 +43,13 @@ built_line = built command_line
 abbrev output_leaf : Text → Shape
 output_leaf name = built_leaf (inherited (with_leaf_noted (marked_built command_line.top)) (output_shape name))
 
+-- its command `queen`, which has no argument
+abbrev queen_leaf : Shape
+queen_leaf = built_leaf (inherited (with_leaf_noted (marked_built command_line.top)) (new_shape (codes "queen")))
+
 -- its commands, as the program knows them
 abbrev commands : List Shape
-commands = output_leaf (codes "names") ∷ output_leaf (codes "list") ∷ []
+commands = output_leaf (codes "names") ∷ output_leaf (codes "list") ∷ queen_leaf ∷ []
 
 -- its command `help`, which clap adds
 abbrev help_leaf : Shape
@@ -122,36 +126,49 @@ HasExpression name e = (e.0 ≡ name) × IsSome (first_of (codes "EXPR") e.1)
 output_entered : (name : Text) (e : Text × List Row) → IsEntered (output_leaf name) e → HasExpression name e
 output_entered name e is = first_entered (output_leaf name) _ _ e refl refl refl is
 
--- `names` or `list` is entered, with its expression
-abbrev IsOutputEntered : Text × List Row → Type 0
-IsOutputEntered e = HasExpression (codes "names") e ⊎ HasExpression (codes "list") e
+-- a command is entered under its name
+name_entered : (s : Shape) (e : Text × List Row) → IsEntered s e → e.0 ≡ s.name
+name_entered s e is = subst (λ (e : Text × List Row). e.0 ≡ s.name) is.rows refl
+
+-- `names` or `list` is entered, with its expression, or `queen`
+abbrev IsCommandEntered : Text × List Row → Type 0
+IsCommandEntered e = HasExpression (codes "names") e ⊎ (HasExpression (codes "list") e ⊎ (e.0 ≡ codes "queen"))
 
 -- which of the commands it is
-which_entered : (e : Text × List Row) → IsOneEntered commands e → IsOutputEntered e
+which_entered : (e : Text × List Row) → IsOneEntered commands e → IsCommandEntered e
 which_entered e (inl names) = inl (output_entered _ e names)
-which_entered e (inr (inl list)) = inr (output_entered _ e list)
-which_entered e (inr (inr none)) = absurd none
+which_entered e (inr (inl list)) = inr (inl (output_entered _ e list))
+which_entered e (inr (inr (inl queen))) = inr (inr (name_entered queen_leaf e queen))
+which_entered e (inr (inr (inr none))) = absurd none
 
--- its expression is there
-expression_there : (e : Text × List Row) → IsOutputEntered e → IsSome (first_of (codes "EXPR") e.1)
-expression_there e (inl names) = names.1
-expression_there e (inr list) = list.1
+-- its expression is there, unless it is `queen`
+expression_there : (e : Text × List Row) → e.0 ≢ codes "queen" → IsCommandEntered e → IsSome (first_of (codes "EXPR") e.1)
+expression_there e other (inl names) = names.1
+expression_there e other (inr (inl list)) = list.1
+expression_there e other (inr (inr queen)) = absurd (other queen)
 
 -- the command of these matches is the one that the words enter
 pub entered_is : (words : List Text) (m : ArgMatches) (name : Text) (rows : List Row) → IsTaken words m → subcommand_name_of m ≡ Some name
     → option_map (λ p. p.1) (subcommand_rows_of m) ≡ Some rows → subcommand_of command_line words ≡ Some (name, rows)
 entered_is words m name rows is named has = sym is.entered ∙ pair_is _ name rows (sym (name_by_rows m) ∙ named) has
 
--- the matches of a command have an expression
-pub has_expression : (words : List Text) (m : ArgMatches) (name : Text) (rows : List Row) → IsTaken words m → subcommand_name_of m ≡ Some name
+-- the matches of a command have an expression, unless it is `queen`
+pub has_expression : (words : List Text) (m : ArgMatches) (name : Text) (rows : List Row) → name ≢ codes "queen" → IsTaken words m → subcommand_name_of m ≡ Some name
     → option_map (λ p. p.1) (subcommand_rows_of m) ≡ Some rows → IsSome (first_of (codes "EXPR") rows)
-has_expression words m name rows is named has =
-    expression_there (name, rows) (which_entered _ (commands_entered words _ is.taken (entered_is words m _ rows is named has)))
+has_expression words m name rows other is named has =
+    expression_there (name, rows) other (which_entered _ (commands_entered words _ is.taken (entered_is words m _ rows is named has)))
 
--- where neither `names` nor `list` is entered, no command is
+-- the command of these matches is entered
+pub enters : (words : List Text) (m : ArgMatches) (name : Text) → IsTaken words m → subcommand_name_of m ≡ Some name → Enters words name
+enters words m name is named = record {
+  taken = is.taken;
+  entered = ap (option_map (λ (p : Text × List Row). p.0)) (sym is.entered) ∙ sym (name_by_rows m) ∙ named;
+}
+
+-- where none of the commands is entered, no command is
 pub not_called : (words : List Text) (m : ArgMatches) → IsTaken words m → (subcommand_name_of m ≡ Some (codes "names") → ⊥)
-    → (subcommand_name_of m ≡ Some (codes "list") → ⊥) → HasNoCommand words
-not_called words m is no_names no_list = go (subcommand_of command_line words) refl
+    → (subcommand_name_of m ≡ Some (codes "list") → ⊥) → (subcommand_name_of m ≡ Some (codes "queen") → ⊥) → HasNoCommand words
+not_called words m is no_names no_list no_queen = go (subcommand_of command_line words) refl
   where
     go : (o : Option (Text × List Row)) → subcommand_of command_line words ≡ o → HasNoCommand words
     go None e = inr (ap (option_map asked_by) e)
@@ -160,6 +177,7 @@ not_called words m is no_names no_list = go (subcommand_of command_line words) r
         named : subcommand_name_of m ≡ Some p.0
         named = name_by_rows m ∙ ap (option_map (λ (p : Text × List Row). p.0)) (is.entered ∙ e)
 
-        which : IsOutputEntered p → ⊥
+        which : IsCommandEntered p → ⊥
         which (inl names) = no_names (named ∙ ap Some names.0)
-        which (inr list) = no_list (named ∙ ap Some list.0)
+        which (inr (inl list)) = no_list (named ∙ ap Some list.0)
+        which (inr (inr queen)) = no_queen (named ∙ ap Some queen)

@@ -10,4 +10,4 @@ pub mod Lines
 pub mod Listings
 pub mod Named
 pub mod Refusals
-pub mod Shown
+pub mod Values

@@ -1,11 +1,14 @@
 -- Parts of a listing, one after the other.
-use Rattle.std.proofs.Common.{◌≡◌, ◌∙◌, ◌+◌, ◌-◌, ◌<◌, ◌≤◌, ℕ, suc, min, List, [], ◌∷◌, ◌++◌, length, Some, sym, ap, ap₂, append_assoc, inl, inr, arith, codes, decimal}
+use Rattle.std.proofs.Common.{◌≡◌, ◌∙◌, ◌+◌, ◌-◌, ◌<◌, ◌≤◌, ℕ, suc, min, List, [], ◌∷◌, ◌++◌, length, Some, drop, add-one, drop-cons, sym, ap, ap₂, append_assoc, inl, inr, arith, codes, decimal}
 use Rattle.std.specs.Fmt.{signed_decimal}
-use Rattle.std.specs.List.{flat_map, range_with_len, slice_get}
+use Rattle.std.specs.List.{flat_map, range_with_len, slice_get, slice_index_or}
 use Rattle.std.proofs.lemmas.Bool.{cases_lt}
+use Rattle.std.proofs.lemmas.List.{drop_all}
 use Rattle.std.proofs.lemmas.Option.{get_or_from_slice_get}
 use Rattle.sgb_graph.specs.declared.fields.Link.{Link}
-use Rattle.sgb.specs.Texts.{Shown, name_line, arc_line, block, blocks, head}
+use Rattle.sgb_graph.specs.Graphs.{GraphData, chain_of}
+use Rattle.sgb_ops.specs.Operands.{names_of}
+use Rattle.sgb.specs.Texts.{name_line, name_lines, arc_line, block, blocks, head}
 
 -- the numbers from k to below n, k first
 pub range-first : (k n : ℕ) → k < n → range_with_len k (n - k) ≡ k ∷ range_with_len (k + 1) (n - (k + 1))
@@ -20,32 +23,52 @@ range-none k n h =
     ap (range_with_len k) none
 
 -- the block of a vertex stands before those after it
-pub blocks-first : (g : Shown) (v : ℕ) → v < length g.names → blocks g v ≡ block g v ++ blocks g (v + 1)
+pub blocks-first : (g : GraphData) (v : ℕ) → v < length (names_of g) → blocks g v ≡ block g v ++ blocks g (v + 1)
 unfolding blocks
-blocks-first g v h = ap (flat_map (block g)) (range-first v (length g.names) h)
+blocks-first g v h = ap (flat_map (block g)) (range-first v (length (names_of g)) h)
 
 -- no block is left after the last vertex
-pub blocks-none : (g : Shown) (v : ℕ) → length g.names ≤ v → blocks g v ≡ []
+pub blocks-none : (g : GraphData) (v : ℕ) → length (names_of g) ≤ v → blocks g v ≡ []
 unfolding blocks
-blocks-none g v h = ap (flat_map (block g)) (range-none v (length g.names) h)
+blocks-none g v h = ap (flat_map (block g)) (range-none v (length (names_of g)) h)
 
 -- none either from a vertex that is not there on
-pub blocks-min : (g : Shown) (k : ℕ) → blocks g (min k (length g.names)) ≡ blocks g k
-blocks-min g k = elim (cases_lt k (length g.names)) [
+pub blocks-min : (g : GraphData) (k : ℕ) → blocks g (min k (length (names_of g))) ≡ blocks g k
+blocks-min g k = elim (cases_lt k (length (names_of g))) [
   | inl low ↦
-      let e : min k (length g.names) ≡ k = omega (arith, low) in
+      let e : min k (length (names_of g)) ≡ k = omega (arith, low) in
       ap (blocks g) e
   | inr high ↦
-      let e : min k (length g.names) ≡ length g.names = omega (arith, high) in
-      ap (blocks g) e ∙ blocks-none g (length g.names) (omega arith) ∙ sym (blocks-none g k high)
+      let e : min k (length (names_of g)) ≡ length (names_of g) = omega (arith, high) in
+      ap (blocks g) e ∙ blocks-none g (length (names_of g)) (omega arith) ∙ sym (blocks-none g k high)
 ]
 
 -- a block is the line of the vertex's name and those of its arcs
-pub block-parts : (g : Shown) (v : ℕ) (name : List ℕ) (links : List Link) → slice_get g.names v ≡ Some name → g.list v ≡ links
-    → block g v ≡ name_line name ++ flat_map (arc_line g.names) links
+pub block-parts : (g : GraphData) (v : ℕ) (links : List Link) → chain_of g v ≡ links
+    → block g v ≡ name_line (slice_index_or (names_of g) v []) ++ flat_map (arc_line (names_of g)) links
 unfolding block
-block-parts g v name links named listed =
-    ap₂ (λ text ls. name_line text ++ flat_map (arc_line g.names) ls) (get_or_from_slice_get g.names v name [] named) listed
+block-parts g v links listed = ap (λ ls. name_line (slice_index_or (names_of g) v []) ++ flat_map (arc_line (names_of g)) ls) listed
+
+-- the line of the name of a vertex that is there stands before those after it
+pub name_lines-first : (names : List (List ℕ)) (v : ℕ) → v < length names → name_lines names v ≡ name_line (slice_index_or names v []) ++ name_lines names (v + 1)
+unfolding name_lines
+name_lines-first names v h = ap (flat_map name_line) (drop-cons names v [] h ∙ ap (λ k. slice_index_or names v [] ∷ drop k names) (sym (add-one v)))
+
+-- no line is left after the last vertex
+pub name_lines-none : (names : List (List ℕ)) (v : ℕ) → length names ≤ v → name_lines names v ≡ []
+unfolding name_lines
+name_lines-none names v h = ap (flat_map name_line) (drop_all v names h)
+
+-- none either from a vertex that is not there on
+pub name_lines-min : (names : List (List ℕ)) (k : ℕ) → name_lines names (min k (length names)) ≡ name_lines names k
+name_lines-min names k = elim (cases_lt k (length names)) [
+  | inl low ↦
+      let e : min k (length names) ≡ k = omega (arith, low) in
+      ap (name_lines names) e
+  | inr high ↦
+      let e : min k (length names) ≡ length names = omega (arith, high) in
+      ap (name_lines names) e ∙ name_lines-none names (length names) (omega arith) ∙ sym (name_lines-none names k high)
+]
 
 -- five texts, and seven, one after the other
 five : (a b c d e : List ℕ) → a ++ b ++ c ++ d ++ e ≡ a ++ (b ++ (c ++ (d ++ e)))
@@ -64,8 +87,8 @@ arc_line-parts names link name len named digits =
     ∙ five (codes "  -> ") name (codes ", length ") len (codes "\n")
 
 -- the head in parts
-pub head-parts : (g : Shown) (id vertices arcs : List ℕ) → id ≡ g.id → vertices ≡ decimal (length g.names) → arcs ≡ decimal g.count
+pub head-parts : (g : GraphData) (id vertices arcs : List ℕ) → id ≡ g.id → vertices ≡ decimal (length (names_of g)) → arcs ≡ decimal g.m
     → head g ≡ codes "  The graph whose official name is\n" ++ (id ++ (codes "\n  has " ++ (vertices ++ (codes " vertices and " ++ (arcs ++ codes " arcs:\n\n")))))
 unfolding head
 head-parts g id vertices arcs named n m =
-    rw (named, n, m) (seven (codes "  The graph whose official name is\n") g.id (codes "\n  has ") (decimal (length g.names)) (codes " vertices and ") (decimal g.count) (codes " arcs:\n\n"))
+    rw (named, n, m) (seven (codes "  The graph whose official name is\n") g.id (codes "\n  has ") (decimal (length (names_of g))) (codes " vertices and ") (decimal g.m) (codes " arcs:\n\n"))

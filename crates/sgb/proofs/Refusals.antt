@@ -8,7 +8,7 @@ use Rattle.sgb_vec.specs.Sizes.{before_stop, board_by_stop, board_of, count_by_s
 use Rattle.sgb_vec.specs.Sums.{has_great_count, sum_of}
 use Rattle.sgb_vec.specs.declared.panics.Panic.{Panic}
 use Rattle.sgb_vec.specs.declared.panics.Panic.TheVariants.{Bad, NoRoom, VeryBad}
-use Rattle.sgb_graph.specs.Descriptions.{Description}
+use Rattle.sgb_graph.specs.Graphs.{GraphData}
 use Rattle.sgb_gen.specs.Boards.{accepted_board, board, piece_of}
 use Rattle.sgb_gen.specs.Limits.{most_piece}
 use Rattle.sgb_gen.specs.Simplexes.{accepted_simplex, simplex}
@@ -16,11 +16,10 @@ use Rattle.sgb_gen.specs.Subsets.{accepted_subsets, subsets}
 use Rattle.sgb_gen.specs.declared.params.BoardParams.{BoardParams}
 use Rattle.sgb_gen.specs.declared.params.SimplexParams.{SimplexParams}
 use Rattle.sgb_gen.specs.declared.params.SubsetsParams.{SubsetsParams}
-use Rattle.sgb_expr.specs.declared.expressions.Expr.{Expr}
-use Rattle.sgb_expr.specs.declared.expressions.Expr.TheVariants as expr
-use Rattle.sgb_expr.specs.declared.expressions.Family.{Family}
+use Rattle.sgb_expr.specs.Expression.{Expression, Family, Complement, Gunion, Intersection, expression_of}
+use Rattle.sgb_expr.specs.declared.expressions.Family.{Family as AFamily}
 use Rattle.sgb_expr.specs.declared.expressions.Family.TheVariants as family
-use Rattle.sgb.specs.Outcomes.{answer_after, answer_from, answer_of, left_out, left_out_by, list_answer, names_answer, vertex_named}
+use Rattle.sgb.specs.Outcomes.{answer_after, answer_from, answer_of, left_out, left_out_by, list_answer, names_answer, queen_moves, vertex_named}
 use Rattle.sgb.specs.Values.{family_value, value_of}
 use Rattle.sgb.specs.declared.faults.Fault.{Fault}
 use Rattle.sgb.specs.declared.faults.Fault.TheVariants as fault
@@ -107,14 +106,17 @@ subsets_judged p =
     after _ _ accepted_judged (λ s. accepted _)
 
 -- a graph of a generator
-family_judged : (f : Family) → IsJudged (family_value f)
+family_judged : (f : AFamily) → IsJudged (family_value f)
 family_judged (family.Board p) = board_judged p
 family_judged (family.Simplex p) = simplex_judged p
 family_judged (family.Subsets p) = subsets_judged p
 
 -- an expression
-value_judged : (e : Expr) → IsJudged (value_of e)
-value_judged (expr.Family f) = family_judged f
+value_judged : (e : Expression) → IsJudged (value_of e)
+value_judged (Family f) = after (family_value f) _ (family_judged f) (λ d. accepted _)
+value_judged (Complement e copy self_loops directed) = after _ _ (value_judged e) (λ g. accepted _)
+value_judged (Gunion e f multi directed) = after _ _ (value_judged e) (λ g. after _ _ (value_judged f) (λ h. accepted _))
+value_judged (Intersection e f multi directed) = after _ _ (value_judged e) (λ g. after _ _ (value_judged f) (λ h. accepted _))
 
 -- ---- answers
 
@@ -140,7 +142,7 @@ skipped_own (Err f) text p e =
     p (ap Err same)
 
 -- an answer that is made of a graph
-from_own : (v : Result Description Panic) (answer : Description → Result (List ℕ) Fault) → IsJudged v → ((d : Description) → IsOwn (answer d)) → IsOwn (answer_from v answer)
+from_own : (v : Result GraphData Panic) (answer : GraphData → Result (List ℕ) Fault) → IsJudged v → ((g : GraphData) → IsOwn (answer g)) → IsOwn (answer_from v answer)
 from_own (Ok d) answer p q = q d
 from_own (Err r) answer p q = λ e.
     let same : r ≡ NoRoom = cc in
@@ -148,5 +150,6 @@ from_own (Err r) answer p q = λ e.
 
 -- the answer of a request is its output or its own refusal, never out of memory
 pub answer_own : (r : Request) → answer_of r ≢ Err (fault.Panic NoRoom)
-answer_own (request.Names e resume) = from_own (value_of e) _ (value_judged e) (λ d. skipped_own _ _ (left_out_own _ resume))
-answer_own (request.List e resume) = from_own (value_of e) _ (value_judged e) (λ d. skipped_own _ _ (left_out_own _ resume))
+answer_own (request.Names e resume) = from_own (value_of (expression_of e)) _ (value_judged (expression_of e)) (λ d. skipped_own _ _ (left_out_own _ resume))
+answer_own (request.List e resume) = from_own (value_of (expression_of e)) _ (value_judged (expression_of e)) (λ d. skipped_own _ _ (left_out_own _ resume))
+answer_own request.Queen = from_own (value_of queen_moves) _ (value_judged queen_moves) (λ g. λ e. cc)

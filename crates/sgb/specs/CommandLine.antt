@@ -31,7 +31,8 @@ output_shape name = record (new_shape name) {
 -- `sgb` and its commands
 abbrev pub command_line : App
 command_line =
-    with_subcommand (with_subcommand (new_app (codes "sgb")) (output_shape (codes "names"))) (output_shape (codes "list"))
+    with_subcommand (with_subcommand (with_subcommand (new_app (codes "sgb")) (output_shape (codes "names"))) (output_shape (codes "list")))
+    (new_shape (codes "queen"))
 
 -- a command with the values of its argument and its options, as the words give them
 pub record Asked : Type 0 where
@@ -58,6 +59,11 @@ pub record Asks (words : List Text) (command expression : Text) (after skip : Op
   pub taken : fault_of command_line words ≡ []
   pub asked :
       asked_of words ≡ Some (record { command = command; expression = Some expression; after = after; skip = skip })
+
+-- the words are those of the command of this name, with nothing after it
+pub record Enters (words : List Text) (command : Text) : Type 0 where
+  pub taken : fault_of command_line words ≡ []
+  pub entered : option_map (λ e. e.0) (subcommand_of command_line words) ≡ Some command
 
 -- clap refuses the words, or has a text of its own for them
 abbrev pub IsRefusedByClap : List Text → Type 0
@@ -97,6 +103,7 @@ AsksBy words command values =
 abbrev pub EntersSubcommand : List Text → Subcommand → Type 0
 EntersSubcommand words (subcommand.Names values) = AsksBy words (codes "names") values
 EntersSubcommand words (subcommand.List values) = AsksBy words (codes "list") values
+EntersSubcommand words subcommand.Queen = Enters words (codes "queen")
 
 -- the words are refused with this fault before their values are looked at
 abbrev pub IsRefusedAtOnce : List Text → Fault → Type 0

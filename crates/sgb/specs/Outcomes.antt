@@ -1,11 +1,16 @@
 -- What a request is answered with: the output, the line on standard error, and the exit status.
-use Rattle.std.specs.Prelude.{ℕ, suc, List, [], ◌++◌, Option, Some, None, Result, Ok, Err, nat_eq}
+use Rattle.std.specs.Prelude.{ℕ, suc, ℤ, pos, neg_ℤ, false, codes, List, [], ◌++◌, Option, Some, None, Result, Ok, Err, nat_eq}
 use Rattle.std.specs.List.{position}
 use Rattle.std.specs.Cmp.Lexicographic.{pointwise}
 use Rattle.sgb_vec.specs.declared.panics.Panic.{Panic}
-use Rattle.sgb_graph.specs.Descriptions.{Description}
+use Rattle.sgb_graph.specs.Graphs.{GraphData}
+use Rattle.sgb_gen.specs.declared.params.BoardParams.{BoardParams}
+use Rattle.sgb_ops.specs.Operands.{names_of}
+use Rattle.sgb_expr.specs.Expression.{Expression, Family, Gunion, expression_of}
+use Rattle.sgb_expr.specs.declared.expressions.Family.{Family as AFamily}
+use Rattle.sgb_expr.specs.declared.expressions.Family.TheVariants as family
 use Rattle.sgb.specs.Faults.{status_of, line_of}
-use Rattle.sgb.specs.Texts.{Shown, shown, name_lines, head, blocks}
+use Rattle.sgb.specs.Texts.{name_lines, head, blocks}
 use Rattle.sgb.specs.Values.{value_of}
 use Rattle.sgb.specs.declared.faults.Fault.{Fault}
 use Rattle.sgb.specs.declared.faults.Fault.TheVariants as fault
@@ -44,19 +49,33 @@ head_for resume.Whole text = text
 head_for (resume.Skip k) text = []
 head_for (resume.After name) text = []
 
--- the answer of a command `list`, of what is shown of a graph
-abbrev pub list_answer : Shown → Resume → Result (List ℕ) Fault
-list_answer g resume = answer_after (left_out g.names resume) (λ k. head_for resume (head g) ++ blocks g k)
+-- the answer of a command `list`, of a graph
+abbrev pub list_answer : GraphData → Resume → Result (List ℕ) Fault
+list_answer g resume = answer_after (left_out (names_of g) resume) (λ k. head_for resume (head g) ++ blocks g k)
 
 -- the answer that is made of an accepted graph; a refusal stays as it is
-abbrev pub answer_from : Result Description Panic → (Description → Result (List ℕ) Fault) → Result (List ℕ) Fault
-answer_from (Ok d) answer = answer d
+abbrev pub answer_from : Result GraphData Panic → (GraphData → Result (List ℕ) Fault) → Result (List ℕ) Fault
+answer_from (Ok g) answer = answer g
 answer_from (Err p) answer = Err (fault.Panic p)
+
+-- the moves of a piece on a board of three rows and four columns
+abbrev pub moves_of : ℤ → AFamily
+moves_of step =
+    family.Board (record { n1 = pos 3; n2 = pos 4; n3 = pos 0; n4 = pos 0; piece = step; wrap = pos 0; directed = false })
+
+-- the moves of queens: those of rooks and those of bishops [QUEEN]
+unfoldable pub queen_moves : Expression
+queen_moves = Gunion (Family (moves_of (neg_ℤ (pos 1)))) (Family (moves_of (neg_ℤ (pos 2)))) false false
+
+-- what `queen` writes before the listing
+abbrev pub queen_title : List ℕ
+queen_title = codes "Queen Moves on a 3x4 Board\n\n"
 
 -- the output of a request, or the fault that refuses it
 abbrev pub answer_of : Request → Result (List ℕ) Fault
-answer_of (request.Names e resume) = answer_from (value_of e) (λ d. names_answer d.names resume)
-answer_of (request.List e resume) = answer_from (value_of e) (λ d. list_answer (shown d) resume)
+answer_of (request.Names e resume) = answer_from (value_of (expression_of e)) (λ g. names_answer (names_of g) resume)
+answer_of (request.List e resume) = answer_from (value_of (expression_of e)) (λ g. list_answer g resume)
+answer_of request.Queen = answer_from (value_of queen_moves) (λ g. Ok (queen_title ++ (head g ++ blocks g 0)))
 
 -- output, line on standard error, and exit status
 pub record Outcome : Type 0 where

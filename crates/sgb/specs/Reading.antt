@@ -1,6 +1,7 @@
 -- What reading an expression returns to a request.
 use Rattle.std.specs.Prelude.{◌≡◌, ℕ, List, Result, Ok, Err}
 use Rattle.sgb_vec.specs.declared.panics.Panic.TheVariants.{NoRoom}
+use Rattle.sgb_expr.specs.Expression.{expression_of}
 use Rattle.sgb_expr.specs.Expressions.{IsExpression, IsNoExpression, IsLongestPrefix, IsTooLarge}
 use Rattle.sgb_expr.specs.declared.expressions.Expr.{Expr}
 use Rattle.sgb_expr.specs.declared.expressions.Unread.{Unread}
@@ -24,5 +25,5 @@ IsRefusedText text _ = ⊥
 
 -- the text is read as this expression, or refused so
 abbrev pub IsReadAs : List ℕ → Result Expr Fault → Type 0
-IsReadAs text (Ok e) = (IsTooLarge text → ⊥) × IsExpression text e
+IsReadAs text (Ok e) = (IsTooLarge text → ⊥) × IsExpression text (expression_of e)
 IsReadAs text (Err f) = IsRefusedText text f

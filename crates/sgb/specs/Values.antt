@@ -1,27 +1,46 @@
 -- The graphs that expressions name [GB_BASIC].
 use Rattle.std.specs.Prelude.{◌≡◌, ◌⊎◌, Result, Ok, Err}
+use Rattle.sgb_vec.specs.Results.{and_then}
 use Rattle.sgb_vec.specs.declared.panics.Panic.{Panic}
 use Rattle.sgb_vec.specs.declared.panics.Panic.TheVariants.{NoRoom}
 use Rattle.sgb_graph.specs.Descriptions.{Description}
+use Rattle.sgb_graph.specs.Graphs.{GraphData}
+use Rattle.sgb_graph.specs.Made.{graph_described}
 use Rattle.sgb_gen.specs.Boards.{board, board_graph}
 use Rattle.sgb_gen.specs.Simplexes.{simplex, simplex_graph}
 use Rattle.sgb_gen.specs.Subsets.{subsets, subsets_graph}
-use Rattle.sgb_expr.specs.declared.expressions.Expr.{Expr}
-use Rattle.sgb_expr.specs.declared.expressions.Expr.TheVariants as expr
-use Rattle.sgb_expr.specs.declared.expressions.Family.{Family}
+use Rattle.sgb_ops.specs.Complement.{complement_of}
+use Rattle.sgb_ops.specs.Gunion.{gunion_of}
+use Rattle.sgb_ops.specs.Intersection.{intersection_of}
+use Rattle.sgb_expr.specs.Expression.{Expression, Family, Complement, Gunion, Intersection}
+use Rattle.sgb_expr.specs.declared.expressions.Family.{Family as AFamily}
 use Rattle.sgb_expr.specs.declared.expressions.Family.TheVariants as family
 use Rattle.sgb.specs.declared.evaluation.Local.{Local}
 use Rattle.sgb.specs.declared.evaluation.Local.TheVariants as local
 
 -- the graph of a generator with its parameters, or why it is refused
-abbrev pub family_value : Family → Result Description Panic
+abbrev pub family_value : AFamily → Result Description Panic
 family_value (family.Board p) = board p
 family_value (family.Simplex p) = simplex p
 family_value (family.Subsets p) = subsets p
 
--- the graph of an expression, or why it is refused
-abbrev pub value_of : Expr → Result Description Panic
-value_of (expr.Family f) = family_value f
+-- the graph that is described, or why it is refused
+abbrev pub made : Result Description Panic → Result GraphData Panic
+made value = and_then value (λ d. Ok (graph_described d))
+
+-- the graph of an expression, or the first refusal: the operands' from left to right, then the operation's
+abbrev pub value_of : Expression → Result GraphData Panic
+value_of (Family f) = made (family_value f)
+value_of (Complement e copy self_loops directed) = and_then (value_of e) (λ g. made (complement_of g copy self_loops directed))
+value_of (Gunion e f multi directed) =
+    and_then (value_of e) (λ g. and_then (value_of f) (λ h. made (gunion_of g h multi directed)))
+value_of (Intersection e f multi directed) =
+    and_then (value_of e) (λ g. and_then (value_of f) (λ h. made (intersection_of g h multi directed)))
+
+-- the result is this graph, or this refusal; or it is out of memory
+abbrev pub IsValue : Result GraphData Panic → Result GraphData Panic → Type 0
+IsValue value (Ok g) = value ≡ Ok g
+IsValue value (Err p) = (value ≡ Err p) ⊎ (p ≡ NoRoom)
 
 -- the graph of accepted parameters
 abbrev pub described : Local → Description

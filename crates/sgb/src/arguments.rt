@@ -28,6 +28,8 @@ pub(crate) enum Subcommand<'a> {
     Names(Arguments<'a>),
     /// `list EXPR [--after NAME|--skip K]`.
     List(Arguments<'a>),
+    /// `queen`.
+    Queen,
 }
 
 impl From<Error> for Fault {
@@ -62,6 +64,9 @@ pub(crate) fn entered_subcommand<'a>(
     if let Some(entered) = matches.subcommand_matches("list") {
         return Ok(Subcommand::List(arguments_of(entered)));
     }
+    if matches.subcommand_matches("queen").is_some() {
+        return Ok(Subcommand::Queen);
+    }
     Err(Fault::Usage)
 }
 
@@ -79,7 +84,8 @@ fn command_line<'a>(alloc: Global) -> Result<Command<'a>, AllocError>
 {
     Command::new(alloc, "sgb")
         .subcommand(output_command(alloc, "names")?)?
-        .subcommand(output_command(alloc, "list")?)
+        .subcommand(output_command(alloc, "list")?)?
+        .subcommand(Command::new(alloc, "queen"))
 }
 
 // The command of this name, with `EXPR [--after NAME|--skip K]`. That not both options stand is not left to

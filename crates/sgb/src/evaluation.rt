@@ -1,10 +1,14 @@
 //! The graphs that expressions name (GB_BASIC).
+ghost use Rattle.std.specs.Prelude.{◌≡◌};
 ghost use Rattle.sgb_graph.specs.Descriptions.{IsAnswerOf};
-ghost use Rattle.sgb.specs.Values.{IsLocalOf, value_of};
+ghost use Rattle.sgb_expr.specs.Expression.{expression_of};
+ghost use Rattle.sgb.specs.Outcomes.{moves_of, queen_moves};
+ghost use Rattle.sgb.specs.Values.{IsLocalOf, IsValue, family_value, value_of};
 
 use sgb_expr::{Expr, Family};
-use sgb_gen::{Board, Simplex, Subsets};
+use sgb_gen::{Board, BoardParams, Simplex, Subsets};
 use sgb_graph::Graph;
+use sgb_ops::{complement, gunion, intersection};
 use sgb_vec::Panic;
 use std::alloc::Global;
 
@@ -16,13 +20,51 @@ pub(crate) enum Local {
     Subsets(Subsets),
 }
 
-/// The graph of an expression.
+/// The graph of an expression. Operands come before their operation, from left to right; each is dropped when the
+/// operation is made.
 ///
-/// The refusal of its generator, or `NoRoom` when out of memory.
+/// The first refusal, or `NoRoom` when out of memory.
 pub(crate) fn graph_of(alloc: Global, expression: &Expr) -> Result<Graph, Panic>
-    ensures { IsAnswerOf (value_of expression.now) result }
+    ensures { IsValue (value_of (expression_of expression.now)) result }
 {
-    let Expr::Family(family) = expression;
+    match expression {
+        Expr::Family(family) => family_graph(alloc, family),
+        Expr::Complement {
+            graph,
+            copy,
+            self_loops,
+            directed,
+        } => {
+            let operand = graph_of(alloc, graph)?;
+            complement(alloc, &operand, *copy, *self_loops, *directed)
+        }
+        Expr::Gunion {
+            first,
+            second,
+            multi,
+            directed,
+        } => {
+            let left = graph_of(alloc, first)?;
+            let right = graph_of(alloc, second)?;
+            gunion(alloc, &left, &right, *multi, *directed)
+        }
+        Expr::Intersection {
+            first,
+            second,
+            multi,
+            directed,
+        } => {
+            let left = graph_of(alloc, first)?;
+            let right = graph_of(alloc, second)?;
+            intersection(alloc, &left, &right, *multi, *directed)
+        }
+    }
+}
+
+// The graph of a generator.
+fn family_graph(alloc: Global, family: &Family) -> Result<Graph, Panic>
+    ensures { IsAnswerOf (family_value family.now) result }
+{
     match family {
         Family::Board(params) => params.graph(alloc),
         Family::Simplex(params) => params.graph(alloc),
@@ -30,13 +72,38 @@ pub(crate) fn graph_of(alloc: Global, expression: &Expr) -> Result<Graph, Panic>
     }
 }
 
-/// The accepted parameters of the generator that an expression calls.
+/// The moves of queens on a board of three rows and four columns: those of rooks and those of bishops (QUEEN).
+///
+/// `NoRoom` when out of memory.
+pub(crate) fn queen_moves(alloc: Global) -> Result<Graph, Panic>
+    ensures { IsValue (value_of queen_moves) result }
+{
+    let rooks = family_graph(alloc, &moves_of(-1))?;
+    let bishops = family_graph(alloc, &moves_of(-2))?;
+    gunion(alloc, &rooks, &bishops, false, false)
+}
+
+// The moves of a piece on that board.
+fn moves_of(piece: i64) -> Family
+    ensures { result ≡ moves_of piece }
+{
+    Family::Board(BoardParams {
+        n1: 3,
+        n2: 4,
+        n3: 0,
+        n4: 0,
+        piece,
+        wrap: 0,
+        directed: false,
+    })
+}
+
+/// The accepted parameters of a generator.
 ///
 /// The generator's refusal, or `NoRoom` when out of memory.
-pub(crate) fn local_of(alloc: Global, expression: &Expr) -> Result<Local, Panic>
-    ensures { IsLocalOf (value_of expression.now) result }
+pub(crate) fn local_of(alloc: Global, family: &Family) -> Result<Local, Panic>
+    ensures { IsLocalOf (family_value family.now) result }
 {
-    let Expr::Family(family) = expression;
     match family {
         Family::Board(params) => {
             let board = Board::from_params(params)?;

@@ -1,7 +1,7 @@
 //! Expressions read for a request.
 ghost use Rattle.std.specs.Prelude.{◌≡◌, IfOk, List, ℕ};
+ghost use Rattle.sgb_expr.specs.Expression.{Expression, expression_of};
 ghost use Rattle.sgb_expr.specs.Expressions.{IsExpression};
-ghost use Rattle.sgb_expr.specs.declared.expressions.Expr.{Expr};
 ghost use Rattle.sgb.specs.Reading.{IsReadAs};
 
 use crate::faults::Fault;
@@ -32,7 +32,7 @@ impl From<Unread> for Fault {
 /// `Panic(NoRoom)` when out of memory.
 pub fn parse_expr(alloc: Global, text: &[u8]) -> Result<Expr, Fault>
     ensures read { IsReadAs text.now result }
-    ensures only { (e : Expr) → IsExpression text.now e → IfOk result (λ read. read ≡ e) }
+    ensures only { (e : Expression) → IsExpression text.now e → IfOk result (λ read. expression_of read ≡ e) }
 {
     let expression = read_expr(alloc, text)?;
     Ok(expression)

@@ -57,4 +57,6 @@ pub enum Request {
     Names(Expr, Resume),
     /// The graph's listing: its vertices, each with its arcs.
     List(Expr, Resume),
+    /// The moves of queens on a board of three rows and four columns.
+    Queen,
 }

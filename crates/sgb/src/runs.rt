@@ -1,19 +1,22 @@
 //! Requests answered: evaluation, output, the line of a fault and the exit status.
 
-ghost use Rattle.std.specs.Prelude.{◌≡◌, ◌≢◌, Err, false};
+ghost use Rattle.std.specs.Prelude.{◌≡◌, ◌≢◌, ◌++◌, Ok, Err, false};
 ghost use Rattle.sgb_vec.specs.declared.panics.Panic.TheVariants.{NoRoom};
-ghost use Rattle.sgb.specs.Outcomes.{answer_from, answer_of, list_answer, names_answer, outcome_of};
+ghost use Rattle.sgb_expr.specs.Expression.{expression_of};
+ghost use Rattle.sgb_ops.specs.Operands.{names_of};
+ghost use Rattle.sgb.specs.Outcomes.{answer_from, answer_of, list_answer, names_answer, outcome_of, queen_moves, queen_title};
 ghost use Rattle.sgb.specs.Runs.{IsRunOf};
-ghost use Rattle.sgb.specs.Texts.{shown};
-ghost use Rattle.sgb.specs.Values.{value_of};
+ghost use Rattle.sgb.specs.Texts.{blocks, head};
+ghost use Rattle.sgb.specs.Values.{family_value, made, value_of};
 ghost use Rattle.sgb.specs.Writing.{IsEnded};
 
-use crate::evaluation::{Local, graph_of, local_of};
+use crate::evaluation::{Local, graph_of, local_of, queen_moves};
 use crate::faults::{Fault, report};
 use crate::requests::{Request, Resume};
-use crate::writing::listing::write_listing;
+use crate::writing::listing::{write_listing, write_titled_listing};
 use crate::writing::names::write_names;
-use sgb_expr::Expr;
+use crate::writing::vertices::write_vertex_names;
+use sgb_expr::{Expr, Family};
 use sgb_file::{Sink, Source};
 use std::alloc::Global;
 
@@ -66,10 +69,11 @@ fn write_answer<W: Sink>(alloc: Global, request: &Request, out: &mut W) -> Resul
     match request {
         Request::Names(expression, resume) => answer_names(alloc, expression, resume, out),
         Request::List(expression, resume) => answer_list(alloc, expression, resume, out),
+        Request::Queen => answer_queen(alloc, out),
     }
 }
 
-// Writes the names of an expression's vertices. The vectors of a generator are walked: no graph is built.
+// Writes the names of an expression's vertices.
 fn answer_names<W: Sink>(
     alloc: Global,
     expression: &Expr,
@@ -77,9 +81,26 @@ fn answer_names<W: Sink>(
     out: &mut W,
 ) -> Result<(), Fault>
     requires { W.has_failed out.old ≡ false }
-    ensures { IsEnded (answer_from (value_of expression.now) (λ d. names_answer d.names resume.now)) (record { before = W.written out.old; after = W.written out.new; failed = W.has_failed out.new }) result }
+    ensures { IsEnded (answer_from (value_of (expression_of expression.now)) (λ g. names_answer (names_of g) resume.now)) (record { before = W.written out.old; after = W.written out.new; failed = W.has_failed out.new }) result }
 {
-    match local_of(alloc, expression)? {
+    if let Expr::Family(family) = expression {
+        return answer_family_names(alloc, family, resume, out);
+    }
+    let graph = graph_of(alloc, expression)?;
+    write_vertex_names(&graph, resume, out)
+}
+
+// Writes the names of a generator's vertices. Its vectors are walked: no graph is built.
+fn answer_family_names<W: Sink>(
+    alloc: Global,
+    family: &Family,
+    resume: &Resume,
+    out: &mut W,
+) -> Result<(), Fault>
+    requires { W.has_failed out.old ≡ false }
+    ensures { IsEnded (answer_from (made (family_value family.now)) (λ g. names_answer (names_of g) resume.now)) (record { before = W.written out.old; after = W.written out.new; failed = W.has_failed out.new }) result }
+{
+    match local_of(alloc, family)? {
         Local::Board(board) => write_names(alloc, board.family(), resume, out),
         Local::Simplex(simplex) => write_names(alloc, simplex.family(), resume, out),
         Local::Subsets(subsets) => write_names(alloc, subsets.family(), resume, out),
@@ -94,8 +115,17 @@ fn answer_list<W: Sink>(
     out: &mut W,
 ) -> Result<(), Fault>
     requires { W.has_failed out.old ≡ false }
-    ensures { IsEnded (answer_from (value_of expression.now) (λ d. list_answer (shown d) resume.now)) (record { before = W.written out.old; after = W.written out.new; failed = W.has_failed out.new }) result }
+    ensures { IsEnded (answer_from (value_of (expression_of expression.now)) (λ g. list_answer g resume.now)) (record { before = W.written out.old; after = W.written out.new; failed = W.has_failed out.new }) result }
 {
     let graph = graph_of(alloc, expression)?;
     write_listing(&graph, resume, out)
+}
+
+// Writes the moves of queens on a board of three rows and four columns, under their title.
+fn answer_queen<W: Sink>(alloc: Global, out: &mut W) -> Result<(), Fault>
+    requires { W.has_failed out.old ≡ false }
+    ensures { IsEnded (answer_from (value_of queen_moves) (λ g. Ok (queen_title ++ (head g ++ blocks g 0)))) (record { before = W.written out.old; after = W.written out.new; failed = W.has_failed out.new }) result }
+{
+    let graph = queen_moves(alloc)?;
+    write_titled_listing(b"Queen Moves on a 3x4 Board\n\n", &graph, out)
 }

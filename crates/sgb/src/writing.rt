@@ -5,6 +5,7 @@ ghost use Rattle.sgb.specs.Writing.{IsWritten};
 
 pub(crate) mod listing;
 pub(crate) mod names;
+pub(crate) mod vertices;
 
 use crate::faults::Fault;
 use sgb_file::{Sink, put_all};

@@ -1,11 +1,13 @@
 //! The listing of a graph, written to a sink.
-ghost use Rattle.std.specs.Prelude.{◌≡◌, ◌<◌, false, length, map};
+ghost use Rattle.std.specs.Prelude.{◌≡◌, ◌<◌, ◌++◌, false, length};
 ghost use Rattle.std.specs.List.{flat_map};
-ghost use Rattle.sgb.specs.Outcomes.{head_for, left_out, list_answer, vertex_named};
-ghost use Rattle.sgb.specs.Texts.{arc_line, block, blocks, head, shown_graph};
+ghost use Rattle.sgb_ops.specs.Operands.{names_of};
+ghost use Rattle.sgb.specs.Outcomes.{head_for, list_answer};
+ghost use Rattle.sgb.specs.Texts.{arc_line, block, blocks, head};
 ghost use Rattle.sgb.specs.Writing.{IsEnded, IsWritten};
 
-use super::write_texts;
+use super::vertices::{vertices_left_out, write_name_line};
+use super::{write_bytes, write_texts};
 use crate::faults::Fault;
 use crate::requests::Resume;
 use itoa::Buffer;
@@ -22,17 +24,31 @@ pub(crate) fn write_listing<W: Sink>(
     out: &mut W,
 ) -> Result<(), Fault>
     requires { W.has_failed out.old ≡ false }
-    ensures { IsEnded (list_answer (shown_graph graph.now) resume.now) (record { before = W.written out.old; after = W.written out.new; failed = W.has_failed out.new }) result }
+    ensures { IsEnded (list_answer graph.now resume.now) (record { before = W.written out.old; after = W.written out.new; failed = W.has_failed out.new }) result }
 {
     let from = vertices_left_out(graph, resume)?;
     write_head_for(resume, graph, out)?;
     write_blocks(graph, from, out)
 }
 
+/// Writes this title, and then the listing of a graph.
+pub(crate) fn write_titled_listing<W: Sink>(
+    title: &[u8],
+    graph: &Graph,
+    out: &mut W,
+) -> Result<(), Fault>
+    requires { W.has_failed out.old ≡ false }
+    ensures { IsWritten (title.now ++ (head graph.now ++ blocks graph.now 0)) (record { before = W.written out.old; after = W.written out.new; failed = W.has_failed out.new }) result }
+{
+    write_bytes(out, title)?;
+    write_head(graph, out)?;
+    write_blocks(graph, 0, out)
+}
+
 // Writes the head, but where the listing is resumed.
 fn write_head_for<W: Sink>(resume: &Resume, graph: &Graph, out: &mut W) -> Result<(), Fault>
     requires { W.has_failed out.old ≡ false }
-    ensures { IsWritten (head_for resume.now (head (shown_graph graph.now))) (record { before = W.written out.old; after = W.written out.new; failed = W.has_failed out.new }) result }
+    ensures { IsWritten (head_for resume.now (head graph.now)) (record { before = W.written out.old; after = W.written out.new; failed = W.has_failed out.new }) result }
 {
     match resume {
         Resume::Whole => write_head(graph, out),
@@ -40,36 +56,10 @@ fn write_head_for<W: Sink>(resume: &Resume, graph: &Graph, out: &mut W) -> Resul
     }
 }
 
-// How many first vertices are left out.
-fn vertices_left_out(graph: &Graph, resume: &Resume) -> Result<u64, Fault>
-    ensures { result ≡ left_out (map (λ v. v.name) graph.now.vertices) resume.now }
-{
-    match resume {
-        Resume::Whole => Ok(0),
-        Resume::Skip(count) => Ok(*count),
-        Resume::After(name) => match vertex_named(graph, name.bytes()) {
-            Some(v) => Ok(u64::from(v) + 1),
-            None => Err(Fault::NoVertex),
-        },
-    }
-}
-
-// The first vertex of this name.
-fn vertex_named(graph: &Graph, name: &[u8]) -> Option<u32>
-    ensures { result ≡ vertex_named name.now (map (λ v. v.name) graph.now.vertices) }
-{
-    for v in 0..graph.n() {
-        if graph.name(v).bytes() == name {
-            return Some(v);
-        }
-    }
-    None
-}
-
 // Writes what stands before the blocks.
 fn write_head<W: Sink>(graph: &Graph, out: &mut W) -> Result<(), Fault>
     requires { W.has_failed out.old ≡ false }
-    ensures { IsWritten (head (shown_graph graph.now)) (record { before = W.written out.old; after = W.written out.new; failed = W.has_failed out.new }) result }
+    ensures { IsWritten (head graph.now) (record { before = W.written out.old; after = W.written out.new; failed = W.has_failed out.new }) result }
 {
     let mut vertices = Buffer::new();
     let mut arcs = Buffer::new();
@@ -90,7 +80,7 @@ fn write_head<W: Sink>(graph: &Graph, out: &mut W) -> Result<(), Fault>
 // Writes the blocks of the vertices from `from` on.
 fn write_blocks<W: Sink>(graph: &Graph, from: u64, out: &mut W) -> Result<(), Fault>
     requires { W.has_failed out.old ≡ false }
-    ensures { IsWritten (blocks (shown_graph graph.now) from) (record { before = W.written out.old; after = W.written out.new; failed = W.has_failed out.new }) result }
+    ensures { IsWritten (blocks graph.now from) (record { before = W.written out.old; after = W.written out.new; failed = W.has_failed out.new }) result }
 {
     let end = graph.n();
     let start = from.min(u64::from(end)) as u32;
@@ -104,9 +94,9 @@ fn write_blocks<W: Sink>(graph: &Graph, from: u64, out: &mut W) -> Result<(), Fa
 fn write_block<W: Sink>(graph: &Graph, v: u32, out: &mut W) -> Result<(), Fault>
     requires vertex { v < length graph.now.vertices }
     requires sound { W.has_failed out.old ≡ false }
-    ensures { IsWritten (block (shown_graph graph.now) v) (record { before = W.written out.old; after = W.written out.new; failed = W.has_failed out.new }) result }
+    ensures { IsWritten (block graph.now v) (record { before = W.written out.old; after = W.written out.new; failed = W.has_failed out.new }) result }
 {
-    write_texts(out, &[graph.name(v).bytes(), b"\n"])?;
+    write_name_line(graph, v, out)?;
     for link in graph.arcs(v) {
         write_arc(graph, link, out)?;
     }
@@ -117,7 +107,7 @@ fn write_block<W: Sink>(graph: &Graph, v: u32, out: &mut W) -> Result<(), Fault>
 fn write_arc<W: Sink>(graph: &Graph, link: Link, out: &mut W) -> Result<(), Fault>
     requires tip { link.tip < length graph.now.vertices }
     requires sound { W.has_failed out.old ≡ false }
-    ensures { IsWritten (arc_line (map (λ v. v.name) graph.now.vertices) link) (record { before = W.written out.old; after = W.written out.new; failed = W.has_failed out.new }) result }
+    ensures { IsWritten (arc_line (names_of graph.now) link) (record { before = W.written out.old; after = W.written out.new; failed = W.has_failed out.new }) result }
 {
     let mut len = Buffer::new();
     write_texts(

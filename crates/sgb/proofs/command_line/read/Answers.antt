@@ -1,8 +1,8 @@
-use Rattle.std.specs.Prelude.{Option, Err}
+use Rattle.std.specs.Prelude.{Option, Ok}
 use Rattle.std.proofs.Common.{subst}
 use Rattle.std.proofs.lemmas.Result.{err_from_is_err_and}
 use Rattle.clap.specs.Words.{Text}
-use Rattle.sgb.specs.Reading.{IsRefusedText}
+use Rattle.sgb.specs.Reading.{IsReadAs, IsRefusedText}
 use Rattle.sgb.specs.Requests.{AreRefused, GoTogether}
 use Rattle.sgb.specs.declared.faults.Fault.{Fault}
 use Rattle.sgb.specs.declared.faults.Fault.TheVariants as fault
@@ -23,3 +23,7 @@ returns-in_err-graph c =
     let p = err_from_is_err_and c.from_residual-in_err-graph.result c.from_residual-in_err-graph.ensures.1 in
     rw (p.1, p.2) (refused c.args.values.expression.now _ _ _ c.in_ok-resume.ensures.0
     (subst (λ (u : Text). IsRefusedText u c.in_err-graph.field-0.0) c.as_bytes.ensures.value c.in_err-graph.ensures.read))
+
+pub returns : goal.returns
+returns c =
+    (c.in_ok-resume.ensures, subst (λ (u : Text). IsReadAs u (Ok c.in_ok-graph.graph)) c.as_bytes.ensures.value c.in_ok-graph.ensures.read)

@@ -1,5 +1,5 @@
 use Rattle.std.proofs.lemmas.Result.{err_from_is_err_and}
-use Rattle.sgb.proofs.Endings.{listed_value, refused_value}
+use Rattle.sgb.proofs.Endings.{ended_value, refused_value}
 use Rattle.sgb.proofs.runs.answer_list.Goals as goal
 
 pub returns-in_err-graph : goal.returns-in_err-graph
@@ -8,4 +8,4 @@ returns-in_err-graph g c =
     rw p.1 (refused_value _ _ _ _ _ _ _ c.in_err-graph.ensures p.2 c.requires)
 
 pub returns : goal.returns
-returns g c = listed_value _ _ _ _ _ c.in_ok-graph.ensures c.write_listing.ensures
+returns g c = ended_value _ c.in_ok-graph.graph _ _ _ c.in_ok-graph.ensures c.write_listing.ensures

@@ -4,7 +4,7 @@ use Rattle.std.specs.List.{All, flat_map}
 use Rattle.std.proofs.lemmas.List.Elements.{All-tail}
 use Rattle.std.proofs.lemmas.Result.{err_from_is_err_and}
 use Rattle.sgb_graph.specs.declared.fields.Link.{Link}
-use Rattle.sgb.specs.Texts.{arc_line, shown_graph}
+use Rattle.sgb.specs.Texts.{arc_line}
 use Rattle.sgb.proofs.Listings.{block-parts}
 use Rattle.sgb_file.proofs.SoFar.{so_far-all, so_far-more, so_far-none}
 use Rattle.sgb.proofs.CutOff.{cut_more, so_far-cut}
@@ -17,19 +17,19 @@ step_some s u r link e h = subst (λ o. YieldsFirst (λ x. x) s o u) e h
 step_none : (s u : List Link) (r : Option Link) → r ≡ None → YieldsFirst (λ x. x) s r u → s ≡ []
 step_none s u r e h = (subst (λ o. YieldsFirst (λ x. x) s o u) e h).0
 
-pub returns-in_err-write_texts : goal.returns-in_err-write_texts
-returns-in_err-write_texts g c =
+pub returns-in_err-write_name_line : goal.returns-in_err-write_name_line
+returns-in_err-write_name_line g c =
     let p = err_from_is_err_and c.from_residual.result c.from_residual.ensures.1 in
-    let parts = block-parts (shown_graph c.args.graph.now) c.args.v _ _ (c.name.ensures ∙ ap Some (sym c.bytes.ensures.value)) refl in
-    rw (p.1, p.2, parts) (cut_more _ _ _ _ c.in_err-write_texts.ensures)
+    let parts = block-parts c.args.graph.now c.args.v _ refl in
+    rw (p.1, p.2, parts) (cut_more _ _ _ _ c.in_err-write_name_line.ensures)
 
 pub loop-link-init : goal.loop-link-init
 loop-link-init g c =
     let links = c.into_iter-link-iterator.ensures.into_iter_gives in
-    let parts = block-parts (shown_graph c.args.graph.now) c.args.v _ _ (c.name.ensures ∙ ap Some (sym c.bytes.ensures.value)) (sym (links ∙ c.arcs-link-items.ensures.chain)) in (
-      so_far-more _ _ _ _ _ _ _ parts (so_far-none _ _) c.in_ok-write_texts.ensures.output,
+    let parts = block-parts c.args.graph.now c.args.v _ (sym (links ∙ c.arcs-link-items.ensures.chain)) in (
+      so_far-more _ _ _ _ _ _ _ parts (so_far-none _ _) c.in_ok-write_name_line.ensures.output,
       subst (All (λ link. link.tip < length c.args.graph.now.vertices)) (sym links) c.arcs-link-items.ensures.tips,
-      c.in_ok-write_texts.ensures.sound,
+      c.in_ok-write_name_line.ensures.sound,
     )
 
 pub returns-in_err-write_arc : goal.returns-in_err-write_arc

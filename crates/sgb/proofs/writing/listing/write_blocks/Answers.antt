@@ -1,7 +1,8 @@
 use Rattle.std.proofs.Common.{◌≡◌, ◌≤◌, ◌<◌, ◌∙◌, min, sym, ap, length, arith}
 use Rattle.std.proofs.lemmas.List.{length-map}
 use Rattle.std.proofs.lemmas.Result.{err_from_is_err_and}
-use Rattle.sgb.specs.Texts.{blocks, shown_graph}
+use Rattle.sgb_ops.specs.Operands.{names_of}
+use Rattle.sgb.specs.Texts.{blocks}
 use Rattle.sgb.proofs.Listings.{blocks-first, blocks-min, blocks-none}
 use Rattle.sgb_file.proofs.SoFar.{so_far-all, so_far-more, so_far-none, so_far-same}
 use Rattle.sgb.proofs.CutOff.{so_far-cut}
@@ -9,27 +10,27 @@ use Rattle.sgb.proofs.writing.listing.write_blocks.Goals as goal
 
 pub loop-v-init : goal.loop-v-init
 loop-v-init g c =
-    let shown = shown_graph c.args.graph.now in
-    let start : min c.args.from (length shown.names) ≡ c.min-start.result =
+    let graph = c.args.graph.now in
+    let start : min c.args.from (length (names_of graph)) ≡ c.min-start.result =
     omega (arith, length-map c.args.graph.now.vertices (λ v. v.name), c.n-end.ensures.count, c.min-start.ensures, c.from.ensures) in
-    let left = sym (blocks-min shown c.args.from) ∙ ap (blocks shown) start in
+    let left = sym (blocks-min graph c.args.from) ∙ ap (blocks graph) start in
     (so_far-same _ _ _ _ _ left (so_far-none _ _), c.requires)
 
 pub returns-in_err-write_block : goal.returns-in_err-write_block
 returns-in_err-write_block g c =
     let p = err_from_is_err_and c.from_residual.result c.from_residual.ensures.1 in
-    let shown = shown_graph c.args.graph.now in
-    let within : c.loop-v.v < length shown.names = omega (arith, length-map c.args.graph.now.vertices (λ v. v.name), c.n-end.ensures.count) in
-    rw (p.1, p.2) (so_far-cut _ _ _ _ _ _ _ _ _ (blocks-first shown c.loop-v.v within) c.loop-v.invariant.0 c.in_err-write_block.ensures)
+    let graph = c.args.graph.now in
+    let within : c.loop-v.v < length (names_of graph) = omega (arith, length-map c.args.graph.now.vertices (λ v. v.name), c.n-end.ensures.count) in
+    rw (p.1, p.2) (so_far-cut _ _ _ _ _ _ _ _ _ (blocks-first graph c.loop-v.v within) c.loop-v.invariant.0 c.in_err-write_block.ensures)
 
 pub loop-v-preserved : goal.loop-v-preserved
 loop-v-preserved g c =
-    let shown = shown_graph c.args.graph.now in
-    let within : c.loop-v.v < length shown.names = omega (arith, length-map c.args.graph.now.vertices (λ v. v.name), c.n-end.ensures.count) in
-    (so_far-more _ _ _ _ _ _ _ (blocks-first shown c.loop-v.v within) c.loop-v.invariant.0 c.in_ok-write_block.ensures.output, c.in_ok-write_block.ensures.sound)
+    let graph = c.args.graph.now in
+    let within : c.loop-v.v < length (names_of graph) = omega (arith, length-map c.args.graph.now.vertices (λ v. v.name), c.n-end.ensures.count) in
+    (so_far-more _ _ _ _ _ _ _ (blocks-first graph c.loop-v.v within) c.loop-v.invariant.0 c.in_ok-write_block.ensures.output, c.in_ok-write_block.ensures.sound)
 
 pub returns : goal.returns
 returns g c =
-    let shown = shown_graph c.args.graph.now in
-    let past : length shown.names ≤ c.loop-v.v = omega (arith, length-map c.args.graph.now.vertices (λ v. v.name), c.n-end.ensures.count) in
-    record { output = so_far-all _ _ _ _ (blocks-none shown c.loop-v.v past) c.loop-v.invariant.0; sound = c.loop-v.invariant.1 }
+    let graph = c.args.graph.now in
+    let past : length (names_of graph) ≤ c.loop-v.v = omega (arith, length-map c.args.graph.now.vertices (λ v. v.name), c.n-end.ensures.count) in
+    record { output = so_far-all _ _ _ _ (blocks-none graph c.loop-v.v past) c.loop-v.invariant.0; sound = c.loop-v.invariant.1 }

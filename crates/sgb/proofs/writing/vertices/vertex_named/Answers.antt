@@ -1,7 +1,7 @@
 use Rattle.std.proofs.Common.{◌≡◌, ◌∙◌, sym, ap, map, length, arith}
 use Rattle.std.proofs.lemmas.List.{length-map}
 use Rattle.sgb.proofs.Named.{named_here, named_nowhere, none_before-more, has_name}
-use Rattle.sgb.proofs.writing.listing.vertex_named.Goals as goal
+use Rattle.sgb.proofs.writing.vertices.vertex_named.Goals as goal
 
 pub returns-then-eq : goal.returns-then-eq
 returns-then-eq c =

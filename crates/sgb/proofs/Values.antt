@@ -1,0 +1,55 @@
+-- Values of expressions, from those of their operands.
+use Rattle.std.proofs.Common.{◌∙◌, length, ◌≡◌, ◌⊎◌, Result, Ok, Err, ap, sym, subst, inl, inr}
+use Rattle.sgb_vec.specs.Results.{and_then}
+use Rattle.sgb_vec.specs.declared.panics.Panic.{Panic}
+use Rattle.sgb_graph.specs.Descriptions.{Description, IsGraphOf, IsAnswerOf}
+use Rattle.sgb_graph.specs.Graphs.{GraphData}
+use Rattle.sgb_graph.specs.Made.{graph_described}
+use Rattle.std.proofs.lemmas.List.{length-map}
+use Rattle.sgb_vec.specs.Names.{name_of_vector}
+use Rattle.sgb_gen.specs.Boards.{board_graph, board_vectors}
+use Rattle.sgb_gen.specs.Simplexes.{simplex_graph, simplex_vectors}
+use Rattle.sgb_gen.specs.Subsets.{subsets_graph, subsets_vectors}
+use Rattle.sgb_gen.specs.VectorGraphs.{family_graph, fields_of_vector}
+use Rattle.sgb_ops.specs.Operands.{names_of}
+use Rattle.sgb.specs.Values.{IsValue, described, made}
+use Rattle.sgb.specs.declared.evaluation.Local.{Local}
+use Rattle.sgb.specs.declared.evaluation.Local.TheVariants as local
+
+described_only : (d : Description) (g : GraphData) → IsGraphOf d g → g ≡ graph_described d
+described_only d g is = ?
+
+described_names : (d : Description) → length d.fields ≡ length d.names → names_of (graph_described d) ≡ d.names
+described_names d same = ?
+
+-- the vertices of accepted parameters have the names of their vectors
+pub local_names : (l : Local) → names_of (graph_described (described l)) ≡ (described l).names
+unfolding family_graph
+local_names (local.Board b) = described_names (board_graph b) (length-map (board_vectors b) fields_of_vector ∙ sym (length-map (board_vectors b) name_of_vector))
+local_names (local.Simplex s) = described_names (simplex_graph s) (length-map (simplex_vectors s) fields_of_vector ∙ sym (length-map (simplex_vectors s) name_of_vector))
+local_names (local.Subsets s) = described_names (subsets_graph s) (length-map (subsets_vectors s) fields_of_vector ∙ sym (length-map (subsets_vectors s) name_of_vector))
+
+-- what an operation or a generator returns is the graph that is described
+pub value_made : (value : Result Description Panic) (r : Result GraphData Panic) → IsAnswerOf value r → IsValue (made value) r
+value_made (Ok d) (Ok g) is = ap Ok (sym (described_only d g is))
+value_made (Ok d) (Err p) is = inr is
+value_made (Err f) (Ok g) is = absurd is
+value_made (Err f) (Err p) (inl e) = inl (ap Err (sym e))
+value_made (Err f) (Err p) (inr e) = inr e
+
+-- what is made of an operand
+pub value_then : (operand : Result GraphData Panic) (g : GraphData) (make : GraphData → Result GraphData Panic) (r : Result GraphData Panic)
+    → operand ≡ Ok g → IsValue (make g) r → IsValue (and_then operand make) r
+value_then operand g make r e is = subst (λ (v : Result GraphData Panic). IsValue (and_then v make) r) (sym e) is
+
+-- a refusal of an operand stays
+pub value_refused : (operand : Result GraphData Panic) (make : GraphData → Result GraphData Panic) (p : Panic) → IsValue operand (Err p) → IsValue (and_then operand make) (Err p)
+value_refused operand make p (inl e) = inl (ap (λ (v : Result GraphData Panic). and_then v make) e)
+value_refused operand make p (inr e) = inr e
+
+-- what is made of two operands
+pub value_of_two : (first second : Result GraphData Panic) (g h : GraphData) (make : GraphData → GraphData → Result Description Panic) (r : Result GraphData Panic)
+    → first ≡ Ok g → second ≡ Ok h → IsAnswerOf (make g h) r → IsValue (and_then first (λ g. and_then second (λ h. made (make g h)))) r
+value_of_two first second g h make r e f is =
+    value_then first g (λ g. and_then second (λ h. made (make g h))) r e
+    (value_then second h (λ h. made (make g h)) r f (value_made (make g h) r is))

@@ -1,0 +1,36 @@
+use Rattle.std.proofs.Common.{◌≡◌, ◌≤◌, ◌<◌, ◌∙◌, min, sym, ap, length, arith}
+use Rattle.std.proofs.lemmas.List.{length-map}
+use Rattle.std.proofs.lemmas.Result.{err_from_is_err_and}
+use Rattle.sgb_ops.specs.Operands.{names_of}
+use Rattle.sgb.specs.Texts.{name_lines}
+use Rattle.sgb.proofs.Listings.{name_lines-first, name_lines-min, name_lines-none}
+use Rattle.sgb_file.proofs.SoFar.{so_far-all, so_far-more, so_far-none, so_far-same}
+use Rattle.sgb.proofs.CutOff.{so_far-cut}
+use Rattle.sgb.proofs.writing.vertices.write_name_lines.Goals as goal
+
+pub loop-v-init : goal.loop-v-init
+loop-v-init g c =
+    let graph = c.args.graph.now in
+    let start : min c.args.from (length (names_of graph)) ≡ c.min-start.result =
+    omega (arith, length-map c.args.graph.now.vertices (λ v. v.name), c.n-end.ensures.count, c.min-start.ensures, c.from.ensures) in
+    let left = sym (name_lines-min (names_of graph) c.args.from) ∙ ap (name_lines (names_of graph)) start in
+    (so_far-same _ _ _ _ _ left (so_far-none _ _), c.requires)
+
+pub returns-in_err-write_name_line : goal.returns-in_err-write_name_line
+returns-in_err-write_name_line g c =
+    let p = err_from_is_err_and c.from_residual.result c.from_residual.ensures.1 in
+    let graph = c.args.graph.now in
+    let within : c.loop-v.v < length (names_of graph) = omega (arith, length-map c.args.graph.now.vertices (λ v. v.name), c.n-end.ensures.count) in
+    rw (p.1, p.2) (so_far-cut _ _ _ _ _ _ _ _ _ (name_lines-first (names_of graph) c.loop-v.v within) c.loop-v.invariant.0 c.in_err-write_name_line.ensures)
+
+pub loop-v-preserved : goal.loop-v-preserved
+loop-v-preserved g c =
+    let graph = c.args.graph.now in
+    let within : c.loop-v.v < length (names_of graph) = omega (arith, length-map c.args.graph.now.vertices (λ v. v.name), c.n-end.ensures.count) in
+    (so_far-more _ _ _ _ _ _ _ (name_lines-first (names_of graph) c.loop-v.v within) c.loop-v.invariant.0 c.in_ok-write_name_line.ensures.output, c.in_ok-write_name_line.ensures.sound)
+
+pub returns : goal.returns
+returns g c =
+    let graph = c.args.graph.now in
+    let past : length (names_of graph) ≤ c.loop-v.v = omega (arith, length-map c.args.graph.now.vertices (λ v. v.name), c.n-end.ensures.count) in
+    record { output = so_far-all _ _ _ _ (name_lines-none (names_of graph) c.loop-v.v past) c.loop-v.invariant.0; sound = c.loop-v.invariant.1 }

@@ -1,0 +1,78 @@
+//! The names of a graph's vertices, written one a line, and where an answer begins by a name.
+ghost use Rattle.std.specs.Prelude.{◌≡◌, ◌<◌, [], false, length};
+ghost use Rattle.std.specs.List.{slice_index_or};
+ghost use Rattle.sgb_ops.specs.Operands.{names_of};
+ghost use Rattle.sgb.specs.Outcomes.{left_out, names_answer, vertex_named};
+ghost use Rattle.sgb.specs.Texts.{name_line, name_lines};
+ghost use Rattle.sgb.specs.Writing.{IsEnded, IsWritten};
+
+use super::write_texts;
+use crate::faults::Fault;
+use crate::requests::Resume;
+use sgb_file::Sink;
+use sgb_graph::Graph;
+
+/// Writes the names of a graph's vertices, each on a line, from where the answer begins.
+///
+/// `NoVertex` where it is to begin after a name that no vertex has.
+pub(crate) fn write_vertex_names<W: Sink>(
+    graph: &Graph,
+    resume: &Resume,
+    out: &mut W,
+) -> Result<(), Fault>
+    requires { W.has_failed out.old ≡ false }
+    ensures { IsEnded (names_answer (names_of graph.now) resume.now) (record { before = W.written out.old; after = W.written out.new; failed = W.has_failed out.new }) result }
+{
+    let from = vertices_left_out(graph, resume)?;
+    write_name_lines(graph, from, out)
+}
+
+// Writes the names of the vertices from `from` on.
+fn write_name_lines<W: Sink>(graph: &Graph, from: u64, out: &mut W) -> Result<(), Fault>
+    requires { W.has_failed out.old ≡ false }
+    ensures { IsWritten (name_lines (names_of graph.now) from) (record { before = W.written out.old; after = W.written out.new; failed = W.has_failed out.new }) result }
+{
+    let end = graph.n();
+    let start = from.min(u64::from(end)) as u32;
+    for v in start..end {
+        write_name_line(graph, v, out)?;
+    }
+    Ok(())
+}
+
+/// Writes the line of a vertex: its name and a newline.
+pub(super) fn write_name_line<W: Sink>(graph: &Graph, v: u32, out: &mut W) -> Result<(), Fault>
+    requires vertex { v < length graph.now.vertices }
+    requires sound { W.has_failed out.old ≡ false }
+    ensures { IsWritten (name_line (slice_index_or (names_of graph.now) v [])) (record { before = W.written out.old; after = W.written out.new; failed = W.has_failed out.new }) result }
+{
+    write_texts(out, &[graph.name(v).bytes(), b"\n"])
+}
+
+/// How many first vertices are left out.
+///
+/// `NoVertex` where the answer is to begin after a name that no vertex has.
+pub(super) fn vertices_left_out(graph: &Graph, resume: &Resume) -> Result<u64, Fault>
+    ensures { result ≡ left_out (names_of graph.now) resume.now }
+{
+    match resume {
+        Resume::Whole => Ok(0),
+        Resume::Skip(count) => Ok(*count),
+        Resume::After(name) => match vertex_named(graph, name.bytes()) {
+            Some(v) => Ok(u64::from(v) + 1),
+            None => Err(Fault::NoVertex),
+        },
+    }
+}
+
+// The first vertex of this name.
+fn vertex_named(graph: &Graph, name: &[u8]) -> Option<u32>
+    ensures { result ≡ vertex_named name.now (names_of graph.now) }
+{
+    for v in 0..graph.n() {
+        if graph.name(v).bytes() == name {
+            return Some(v);
+        }
+    }
+    None
+}
