@@ -32,6 +32,11 @@ arcs_stay directed events vectors old new id h k =
       tips = ap (map (λ r. r.tip)) k.records ∙ h.tips;
       lengths = ap (map (λ r. r.len)) k.records ∙ h.lengths;
       lists = λ v within. k.chains v ∙ h.lists v (omega arith);
+      within = subst (λ n. All (IsWithin n) events) (sym size) h.within;
+      ends = All-from_map (λ first. ends_of new.records first ≡ true) (λ v. v.arcs) new.vertices
+          (subst (All (λ first. ends_of new.records first ≡ true)) (sym k.firsts)
+          (subst (λ rs. All (λ first. ends_of rs first ≡ true) (map (λ v. v.arcs) old.vertices)) (sym k.records)
+          (All-map (λ first. ends_of old.records first ≡ true) (λ v. v.arcs) old.vertices h.ends)));
     }
 
 -- the graph of a family: names, then arcs, coordinates and the id
