@@ -13,19 +13,19 @@ use Rattle.sgb_graph.proofs.Lists.{slice_get-more, slice_get-prefix, slice_get-a
 use Rattle.sgb_graph.proofs.EventLemmas.{list_none, list_first, link_here, no_link_here}
 
 -- the first element of a list, and one after it
-contains_first : {X : Type 0} (x : X) (xs : List X) → Contains (x ∷ xs) x
+pub contains_first : {X : Type 0} (x : X) (xs : List X) → Contains (x ∷ xs) x
 contains_first x xs = (0, omega arith, refl)
 
 -- one after the first
-contains_after : {X : Type 0} (x y : X) (xs : List X) → Contains xs y → Contains (x ∷ xs) y
+pub contains_after : {X : Type 0} (x y : X) (xs : List X) → Contains xs y → Contains (x ∷ xs) y
 contains_after x y xs (k, below, here) = (suc k, omega arith, here)
 
 -- an empty list has none
-contains_none : {X : Type 0} (x : X) → Contains [] x → ⊥
+pub contains_none : {X : Type 0} (x : X) → Contains [] x → ⊥
 contains_none x (k, below, here) = omega arith
 
 -- an element of a list is its first, or after it
-contains_cases : {X : Type 0} (x y : X) (xs : List X) → Contains (x ∷ xs) y → (x ≡ y) ⊎ Contains xs y
+pub contains_cases : {X : Type 0} (x y : X) (xs : List X) → Contains (x ∷ xs) y → (x ≡ y) ⊎ Contains xs y
 contains_cases x y xs (zero, below, here) = inl here
 contains_cases x y xs (suc k, below, here) = inr (k, omega arith, here)
 

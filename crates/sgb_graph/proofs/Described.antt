@@ -1,0 +1,171 @@
+-- The graph that is described is the only one.
+use Rattle.std.proofs.Common.{◌≡◌, ◌+◌, ◌<◌, ◌⊎◌, ℕ, suc, min, max, Bool, true, false, List, [], ◌∷◌, length, map, zip, drop, Option, Some, None, refl, ap, sym, ◌∙◌, subst, inl, inr, arith}
+use Rattle.std.specs.Prelude.{slice_get}
+use Rattle.std.specs.List.{All, Contains, enumerate_from}
+use Rattle.std.proofs.lemmas.Bool.{eq-eqb, ne_eqb, cases_eq}
+use Rattle.std.proofs.lemmas.List.Elements.{All-nil, All-cons, All-append, All-head, All-tail}
+use Rattle.std.proofs.lemmas.Option.{slice_get_within, get_or_from_slice_get}
+use Rattle.sgb_graph.specs.Graphs.{GraphData, HasNoFields, ends_of, links_of}
+use Rattle.sgb_graph.specs.Events.{Event, IsWithin, Row, all_rows, list_of, rows_of}
+use Rattle.sgb_graph.specs.Descriptions.{Description, IsGraphOf}
+use Rattle.sgb_graph.specs.Made.{first_number, graph_described, number_after, record_in, records_of_events, vertex_with, vertices_of}
+use Rattle.sgb_graph.specs.Growth.{graph_data, link, row}
+use Rattle.sgb_graph.specs.declared.fields.Ref.TheVariants.{At}
+use Rattle.sgb_graph.specs.declared.fields.Util.{Util}
+use Rattle.sgb_graph.specs.declared.fields.Util.TheVariants.{Nothing}
+use Rattle.sgb_graph.specs.declared.fields.Vertex.{Vertex}
+use Rattle.sgb_graph.specs.declared.fields.ArcRec.{ArcRec}
+use Rattle.sgb_graph.specs.declared.fields.Link.{Link}
+use Rattle.sgb_graph.proofs.AddingArcs.{element_at}
+use Rattle.sgb_graph.proofs.Chains.{IsStep, links_of_none, step_of}
+use Rattle.sgb_graph.proofs.Growing.{chain_at}
+use Rattle.sgb_graph.proofs.ListMembers.{contains_cases, contains_none, each_on_list}
+
+-- a list that ends begins with its first record
+first_is : (records : List ArcRec) (first : Option ℕ) → ends_of records first ≡ true → first_number (links_of records first) ≡ first
+first_is records None ends = ap first_number (links_of_none records)
+first_is records (Some k) ends = ap first_number (step_of records k ends).links
+
+-- and after each record on it stands the one that comes next
+after_is : (links : List Link) (records : List ArcRec) (first : Option ℕ) (l : Link) (r : ArcRec) → ends_of records first ≡ true → links_of records first ≡ links → Contains links l → slice_get records l.number ≡ Some r → number_after l.number links ≡ r.next
+after_is [] records first l r ends e has is = absurd (contains_none l has)
+after_is (a ∷ links) records None l r ends e has is = let none = sym (links_of_none records) ∙ e in absurd cc
+after_is (a ∷ links) records (Some k) l r ends e has is =
+    by_number (cases_eq a.number l.number) (after_is links records step.here.next l r step.ends (sym rest))
+  where
+    step : IsStep records k
+    step = step_of records k ends
+
+    rest : links ≡ links_of records step.here.next
+    rest = ap (drop 1) (sym e ∙ step.links)
+
+    number : Some a.number ≡ Some k
+    number = ap first_number (sym e ∙ step.links)
+
+    by_number : (a.number ≡ l.number) ⊎ (a.number ≡ l.number → ⊥) → (Contains links l → slice_get records l.number ≡ Some r → number_after l.number links ≡ r.next) → number_after l.number (a ∷ links) ≡ r.next
+    by_number (inl same) later =
+        let here : step.here ≡ r = let at = step.is in let start = number in cc in
+        rw (eq-eqb a.number l.number same) (ap first_number rest ∙ first_is records step.here.next step.ends ∙ ap (λ (x : ArcRec). x.next) here)
+    by_number (inr other) later = rw (ne_eqb a.number l.number other) (by_place (contains_cases a l links has))
+      where
+        by_place : (a ≡ l) ⊎ Contains links l → number_after l.number links ≡ r.next
+        by_place (inl same) = absurd (other (ap (λ (x : Link). x.number) same))
+        by_place (inr there) = later there is
+
+-- vertices by their names, fields and first records
+vertices_are : (lists : ℕ → List Link) (k : ℕ) (vertices : List Vertex) → ((i : ℕ) (x : Vertex) → slice_get vertices i ≡ Some x → x.arcs ≡ first_number (lists (k + i)))
+    → vertices ≡ map (λ p. vertex_with p.1.0 p.1.1 (lists p.0)) (enumerate_from k (zip (map (λ v. v.name) vertices) (map (λ v. v.util) vertices)))
+vertices_are lists k [] firsts = refl
+vertices_are lists k (x ∷ vertices) firsts =
+    let place : k + 0 ≡ k = omega arith in
+    let own : x.arcs ≡ first_number (lists k) = firsts 0 x refl ∙ ap (λ j. first_number (lists j)) place in
+    ap (λ first. record x { arcs = first } ∷ vertices) own
+    ∙ ap (λ xs. vertex_with x.name x.util (lists k) ∷ xs)
+    (vertices_are lists (k + 1) vertices (λ i y is. let after : k + suc i ≡ k + 1 + i = omega arith in firsts (suc i) y is ∙ ap (λ j. first_number (lists j)) after))
+
+-- a record by its parts
+record_is : (links : List Link) (k : ℕ) (a : Row) (r : ArcRec) → r.tip ≡ At a.tip → r.len ≡ a.len → HasNoFields r → r.next ≡ number_after k links → r ≡ record_in links k a
+record_is links k a r tip len none next =
+    ap (λ t. record r { tip = t }) tip
+    ∙ ap (λ n. record r { tip = At a.tip; next = n }) next
+    ∙ ap (λ l. record r { tip = At a.tip; next = number_after k links; len = l }) len
+    ∙ ap (λ f. record r { tip = At a.tip; next = number_after k links; len = a.len; a = f }) none.0
+    ∙ ap (λ f. record r { tip = At a.tip; next = number_after k links; len = a.len; a = Nothing; b = f }) none.1
+
+-- records by theirs
+records_are : (lists : ℕ → List Link) (k : ℕ) (records : List ArcRec) (rows : List Row) → map (λ r. r.tip) records ≡ map (λ r. At r.tip) rows → map (λ r. r.len) records ≡ map (λ r. r.len) rows → All HasNoFields records
+    → ((i : ℕ) (r : ArcRec) (a : Row) → slice_get records i ≡ Some r → slice_get rows i ≡ Some a → r.next ≡ number_after (k + i) (lists a.start))
+    → records ≡ map (λ p. record_in (lists p.1.start) p.0 p.1) (enumerate_from k rows)
+records_are lists k [] [] tips lengths none nexts = refl
+records_are lists k [] (a ∷ rows) tips lengths none nexts = absurd cc
+records_are lists k (r ∷ records) [] tips lengths none nexts = absurd cc
+records_are lists k (r ∷ records) (a ∷ rows) tips lengths none nexts =
+    let place : k + 0 ≡ k = omega arith in
+    let next : r.next ≡ number_after k (lists a.start) = nexts 0 r a refl refl ∙ ap (λ j. number_after j (lists a.start)) place in
+    let own = record_is (lists a.start) k a r (same_first tips) (same_first lengths) (All-head HasNoFields r records none) next in
+    ap (λ x. x ∷ records) own
+    ∙ ap (λ xs. record_in (lists a.start) k a ∷ xs)
+    (records_are lists (k + 1) records rows (ap (drop 1) tips) (ap (drop 1) lengths) (All-tail HasNoFields r records none)
+    (λ i s b is at. let after : k + suc i ≡ k + 1 + i = omega arith in nexts (suc i) s b is at ∙ ap (λ j. number_after j (lists b.start)) after))
+  where
+    same_first : {X : Type 0} {x y : X} {xs ys : List X} → x ∷ xs ≡ y ∷ ys → x ≡ y
+    same_first e = cc
+
+-- an event within the vertices has its records there
+rows_within : (n : ℕ) (directed : Bool) (e : Event) → IsWithin n e → All (λ r. r.start < n) (rows_of directed e)
+rows_within n true e within = All-cons (λ (r : Row). r.start < n) (row e.from e.to e.len) [] within.0 (All-nil (λ (r : Row). r.start < n))
+rows_within n false e within =
+    let from = within.0 in
+    let to = within.1 in
+    let smaller : min e.from e.to < n = omega arith in
+    let greater : max e.from e.to < n = omega arith in
+    let lower = row (min e.from e.to) (max e.from e.to) e.len in
+    let higher = row (max e.from e.to) (min e.from e.to) e.len in
+    All-cons (λ (r : Row). r.start < n) lower (higher ∷ []) smaller (All-cons (λ (r : Row). r.start < n) higher [] greater (All-nil (λ (r : Row). r.start < n)))
+
+-- so have all
+all_rows_within : (n : ℕ) (directed : Bool) (events : List Event) → All (IsWithin n) events → All (λ r. r.start < n) (all_rows directed events)
+all_rows_within n directed [] within = All-nil (λ (r : Row). r.start < n)
+all_rows_within n directed (e ∷ events) within =
+    All-append (λ (r : Row). r.start < n) (rows_of directed e) (all_rows directed events)
+    (rows_within n directed e (All-head (IsWithin n) e events within)) (all_rows_within n directed events (All-tail (IsWithin n) e events within))
+
+-- what holds of all holds of each
+at_get : {X : Type 0} (P : X → Type 0) (xs : List X) (i : ℕ) (x : X) → All P xs → slice_get xs i ≡ Some x → P x
+at_get P xs i x all is = subst P (get_or_from_slice_get xs i x x is) (all i x (slice_get_within xs i x is))
+
+-- a graph that is described is the one that the description makes
+pub described_only : (d : Description) (g : GraphData) → IsGraphOf d g → g ≡ graph_described d
+described_only d g h =
+    ap (λ x. graph_data x g.m g.kinds g.util g.vertices g.records) h.id
+    ∙ ap (λ x. graph_data d.id x g.kinds g.util g.vertices g.records) h.arcs.count
+    ∙ ap (λ x. graph_data d.id count x g.util g.vertices g.records) h.kinds
+    ∙ ap (λ x. graph_data d.id count d.kinds x g.vertices g.records) h.util
+    ∙ ap (λ x. graph_data d.id count d.kinds d.util x g.records) vertices
+    ∙ ap (λ x. graph_data d.id count d.kinds d.util (vertices_of d) x) records
+  where
+    rows : List Row
+    rows = all_rows d.directed d.events
+
+    count : ℕ
+    count = length rows
+
+    lists : ℕ → List Link
+    lists v = list_of d.directed d.events v
+
+    chain_is : (v : ℕ) (x : Vertex) → slice_get g.vertices v ≡ Some x → links_of g.records x.arcs ≡ lists v
+    chain_is v x is = sym (chain_at g v x is) ∙ h.arcs.lists v (slice_get_within g.vertices v x is)
+
+    chain_ends : (v : ℕ) (x : Vertex) → slice_get g.vertices v ≡ Some x → ends_of g.records x.arcs ≡ true
+    chain_ends v x is = at_get (λ (y : Vertex). ends_of g.records y.arcs ≡ true) g.vertices v x h.arcs.ends is
+
+    first_at : (i : ℕ) (x : Vertex) → slice_get g.vertices i ≡ Some x → x.arcs ≡ first_number (lists (0 + i))
+    first_at i x is =
+        let place : i ≡ 0 + i = omega arith in
+        sym (first_is g.records x.arcs (chain_ends i x is)) ∙ ap first_number (chain_is i x is) ∙ ap (λ j. first_number (lists j)) place
+
+    vertices : g.vertices ≡ vertices_of d
+    vertices = vertices_are lists 0 g.vertices first_at
+        ∙ ap (λ ns. map (λ p. vertex_with p.1.0 p.1.1 (lists p.0)) (enumerate_from 0 (zip ns (map (λ v. v.util) g.vertices)))) h.names
+        ∙ ap (λ fs. map (λ p. vertex_with p.1.0 p.1.1 (lists p.0)) (enumerate_from 0 (zip d.names fs))) h.fields
+
+    next_at : (i : ℕ) (r : ArcRec) (a : Row) → slice_get g.records i ≡ Some r → slice_get rows i ≡ Some a → r.next ≡ number_after (0 + i) (lists a.start)
+    next_at i r a is at =
+        let place : i ≡ 0 + i = omega arith in
+        let below : a.start < length g.vertices = at_get (λ (b : Row). b.start < length g.vertices) rows i a (all_rows_within (length g.vertices) d.directed d.events h.arcs.within) at in
+        let x = element_at g.vertices a.start below in
+        sym (after_is (lists a.start) g.records x.element.arcs (link i a.tip a.len) r (chain_ends a.start x.element x.is) (chain_is a.start x.element x.is) (each_on_list d.directed d.events i a at) is)
+        ∙ ap (λ j. number_after j (lists a.start)) place
+
+    records : g.records ≡ records_of_events d.directed d.events
+    records = records_are lists 0 g.records rows h.arcs.tips h.arcs.lengths h.arc_fields next_at
+
+-- the vertices of a description have its names
+names_are : (lists : ℕ → List Link) (k : ℕ) (names : List (List ℕ)) (fields : List (List Util)) → length fields ≡ length names → map (λ v. v.name) (map (λ p. vertex_with p.1.0 p.1.1 (lists p.0)) (enumerate_from k (zip names fields))) ≡ names
+names_are lists k [] fields same = refl
+names_are lists k (name ∷ names) [] same = absurd (omega arith)
+names_are lists k (name ∷ names) (field ∷ fields) same = ap (λ ns. name ∷ ns) (names_are lists (k + 1) names fields (omega arith))
+
+-- as the graph has them
+pub described_names : (d : Description) → length d.fields ≡ length d.names → map (λ v. v.name) (graph_described d).vertices ≡ d.names
+described_names d same = names_are (list_of d.directed d.events) 0 d.names d.fields same
