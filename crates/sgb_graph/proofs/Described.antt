@@ -1,11 +1,13 @@
--- The graph that is described is the only one.
-use Rattle.std.proofs.Common.{◌≡◌, ◌+◌, ◌<◌, ◌⊎◌, ℕ, suc, min, max, Bool, true, false, List, [], ◌∷◌, length, map, zip, drop, Option, Some, None, refl, ap, sym, ◌∙◌, subst, inl, inr, arith}
+-- The graph that is described: it is one, and the only one.
+use Rattle.std.proofs.Common.{◌≡◌, ◌≢◌, ◌+◌, ◌<◌, ◌≤◌, ◌⊎◌, ℕ, zero, suc, min, max, Bool, true, false, List, [], ◌∷◌, length, map, zip, drop, Option, Some, None, refl, ap, sym, ◌∙◌, subst, inl, inr, arith}
 use Rattle.std.specs.Prelude.{slice_get}
-use Rattle.std.specs.List.{All, Contains, enumerate_from}
+use Rattle.std.specs.List.{All, AllPairs, Contains, enumerate_from, flat_map}
 use Rattle.std.proofs.lemmas.Bool.{eq-eqb, ne_eqb, cases_eq}
-use Rattle.std.proofs.lemmas.List.Elements.{All-nil, All-cons, All-append, All-head, All-tail}
+use Rattle.std.proofs.lemmas.List.Elements.{All-nil, All-cons, All-append, All-contains, All-head, All-tail}
+use Rattle.std.proofs.lemmas.List.{length-map}
+use Rattle.std.proofs.lemmas.List.FromFn.{length-enumerate_from}
 use Rattle.std.proofs.lemmas.Option.{slice_get_within, get_or_from_slice_get}
-use Rattle.sgb_graph.specs.Graphs.{GraphData, HasNoFields, ends_of, links_of}
+use Rattle.sgb_graph.specs.Graphs.{GraphData, HasNoFields, ends_from, ends_of, link_of, links_of, vertex_of}
 use Rattle.sgb_graph.specs.Events.{Event, IsWithin, Row, all_rows, list_of, rows_of}
 use Rattle.sgb_graph.specs.Descriptions.{Description, IsGraphOf}
 use Rattle.sgb_graph.specs.Made.{first_number, graph_described, number_after, record_in, records_of_events, vertex_with, vertices_of}
@@ -17,9 +19,9 @@ use Rattle.sgb_graph.specs.declared.fields.Vertex.{Vertex}
 use Rattle.sgb_graph.specs.declared.fields.ArcRec.{ArcRec}
 use Rattle.sgb_graph.specs.declared.fields.Link.{Link}
 use Rattle.sgb_graph.proofs.AddingArcs.{element_at}
-use Rattle.sgb_graph.proofs.Chains.{IsStep, links_of_none, step_of}
+use Rattle.sgb_graph.proofs.Chains.{IsStep, ends_none, ends_step, links_of_none, links_step, links_within, numbers_none, step_of}
 use Rattle.sgb_graph.proofs.Growing.{chain_at}
-use Rattle.sgb_graph.proofs.ListMembers.{contains_cases, contains_none, each_on_list}
+use Rattle.sgb_graph.proofs.ListMembers.{AreApart, apart_on_list, contains_after, contains_cases, contains_first, contains_none, each_on_list, only_on_list, short_list}
 
 -- a list that ends begins with its first record
 first_is : (records : List ArcRec) (first : Option ℕ) → ends_of records first ≡ true → first_number (links_of records first) ≡ first
@@ -169,3 +171,132 @@ names_are lists k (name ∷ names) (field ∷ fields) same = ap (λ ns. name ∷
 -- as the graph has them
 pub described_names : (d : Description) → length d.fields ≡ length d.names → map (λ v. v.name) (graph_described d).vertices ≡ d.names
 described_names d same = names_are (list_of d.directed d.events) 0 d.names d.fields same
+
+-- and its fields
+fields_are : (lists : ℕ → List Link) (k : ℕ) (names : List (List ℕ)) (fields : List (List Util)) → length fields ≡ length names → map (λ v. v.util) (map (λ p. vertex_with p.1.0 p.1.1 (lists p.0)) (enumerate_from k (zip names fields))) ≡ fields
+fields_are lists k [] [] same = refl
+fields_are lists k [] (field ∷ fields) same = absurd (omega arith)
+fields_are lists k (name ∷ names) [] same = absurd (omega arith)
+fields_are lists k (name ∷ names) (field ∷ fields) same = ap (λ fs. field ∷ fs) (fields_are lists (k + 1) names fields (omega arith))
+
+-- each has the first record of its list
+firsts_are : (lists : ℕ → List Link) (k : ℕ) (names : List (List ℕ)) (fields : List (List Util)) (i : ℕ) (x : Vertex) → slice_get (map (λ p. vertex_with p.1.0 p.1.1 (lists p.0)) (enumerate_from k (zip names fields))) i ≡ Some x → x.arcs ≡ first_number (lists (k + i))
+firsts_are lists k [] fields i x is = absurd cc
+firsts_are lists k (name ∷ names) [] i x is = absurd cc
+firsts_are lists k (name ∷ names) (field ∷ fields) zero x is =
+    let place : k ≡ k + 0 = omega arith in
+    let same : vertex_with name field (lists k) ≡ x = cc in
+    ap (λ (y : Vertex). y.arcs) (sym same) ∙ ap (λ j. first_number (lists j)) place
+firsts_are lists k (name ∷ names) (field ∷ fields) (suc i) x is =
+    let place : k + 1 + i ≡ k + suc i = omega arith in
+    firsts_are lists (k + 1) names fields i x is ∙ ap (λ j. first_number (lists j)) place
+
+-- the records of rows: their tips, their lengths, their fields, and each at its place
+record_tips : (lists : ℕ → List Link) (k : ℕ) (rows : List Row) → map (λ r. r.tip) (map (λ p. record_in (lists p.1.start) p.0 p.1) (enumerate_from k rows)) ≡ map (λ r. At r.tip) rows
+record_tips lists k [] = refl
+record_tips lists k (a ∷ rows) = ap (λ ts. At a.tip ∷ ts) (record_tips lists (k + 1) rows)
+
+record_lengths : (lists : ℕ → List Link) (k : ℕ) (rows : List Row) → map (λ r. r.len) (map (λ p. record_in (lists p.1.start) p.0 p.1) (enumerate_from k rows)) ≡ map (λ r. r.len) rows
+record_lengths lists k [] = refl
+record_lengths lists k (a ∷ rows) = ap (λ ls. a.len ∷ ls) (record_lengths lists (k + 1) rows)
+
+record_fields : (lists : ℕ → List Link) (k : ℕ) (rows : List Row) → All HasNoFields (map (λ p. record_in (lists p.1.start) p.0 p.1) (enumerate_from k rows))
+record_fields lists k [] = All-nil HasNoFields
+record_fields lists k (a ∷ rows) =
+    All-cons HasNoFields (record_in (lists a.start) k a) (map (λ p. record_in (lists p.1.start) p.0 p.1) (enumerate_from (k + 1) rows)) (refl, refl) (record_fields lists (k + 1) rows)
+
+record_at : (lists : ℕ → List Link) (k : ℕ) (rows : List Row) (i : ℕ) (a : Row) → slice_get rows i ≡ Some a → slice_get (map (λ p. record_in (lists p.1.start) p.0 p.1) (enumerate_from k rows)) i ≡ Some (record_in (lists a.start) (k + i) a)
+record_at lists k [] i a is = absurd cc
+record_at lists k (b ∷ rows) zero a is =
+    let place : k ≡ k + 0 = omega arith in
+    let same : b ≡ a = cc in
+    ap (λ c. Some (record_in (lists c.start) k c)) same ∙ ap (λ j. Some (record_in (lists a.start) j a)) place
+record_at lists k (b ∷ rows) (suc i) a is =
+    let place : k + 1 + i ≡ k + suc i = omega arith in
+    record_at lists (k + 1) rows i a is ∙ ap (λ j. Some (record_in (lists a.start) j a)) place
+
+-- the record of an arc that stands in a list
+record StandsIn (records : List ArcRec) (links : List Link) (l : Link) : Type 0 where
+  here : ArcRec
+  is : slice_get records l.number ≡ Some here
+  tip : vertex_of here.tip ≡ l.tip
+  len : here.len ≡ l.len
+  next : here.next ≡ number_after l.number links
+
+-- where each arc of a list does, and no two have the same number, the way is that list
+record IsWay (fuel : ℕ) (records : List ArcRec) (links : List Link) : Type 0 where
+  ends : ends_from fuel records (first_number links) ≡ true
+  arcs : links_within fuel records (first_number links) ≡ links
+
+way_is : (fuel : ℕ) (records : List ArcRec) (links : List Link) → length links ≤ fuel → AllPairs AreApart links → ((l : Link) → Contains links l → StandsIn records links l) → IsWay fuel records links
+way_is fuel records [] short apart stand = record { ends = ends_none fuel records; arcs = ap (flat_map (link_of records)) (numbers_none fuel records) }
+way_is zero records (l ∷ links) short apart stand = absurd (omega arith)
+way_is (suc fuel) records (l ∷ links) short apart stand =
+    let first = stand l (contains_first l links) in
+    let next : first.here.next ≡ first_number links = first.next ∙ rw (eq-eqb l.number l.number refl) refl in
+    let rest = way_is fuel records links (omega arith) (λ i j d less below. apart (suc i) (suc j) d (omega arith) (omega arith)) later in
+    record {
+      ends = ends_step fuel records l.number first.here first.is ∙ ap (ends_from fuel records) next ∙ rest.ends;
+      arcs = links_step fuel records l.number first.here first.is
+          ∙ ap (λ n. link l.number (vertex_of first.here.tip) first.here.len ∷ links_within fuel records n) next
+          ∙ ap (λ ls. link l.number (vertex_of first.here.tip) first.here.len ∷ ls) rest.arcs
+          ∙ ap (λ t. link l.number t first.here.len ∷ links) first.tip
+          ∙ ap (λ n. link l.number l.tip n ∷ links) first.len;
+    }
+  where
+    later : (m : Link) → Contains links m → StandsIn records links m
+    later m has =
+        let stands = stand m (contains_after l m links has) in
+        let other : l.number ≢ m.number = All-contains (AreApart l) links m (λ k d below. apart 0 (suc k) d (omega arith) (omega arith)) has in
+        record { here = stands.here; is = stands.is; tip = stands.tip; len = stands.len; next = stands.next ∙ rw (ne_eqb l.number m.number other) refl }
+
+-- the graph that a description makes is described
+pub described_is : (d : Description) → All (IsWithin (length d.names)) d.events → length d.fields ≡ length d.names → IsGraphOf d (graph_described d)
+described_is d within same = record {
+  id = refl;
+  kinds = refl;
+  util = refl;
+  names = described_names d same;
+  fields = fields_are lists 0 d.names d.fields same;
+  arcs = record {
+    count = refl;
+    tips = record_tips lists 0 rows;
+    lengths = record_lengths lists 0 rows;
+    lists = λ v below. let x = element_at (vertices_of d) v below in chain_at (graph_described d) v x.element x.is ∙ ap (links_of records) (first_at v x.element x.is) ∙ (way v).arcs;
+    within = subst (λ n. All (IsWithin n) d.events) (sym size) within;
+    ends = λ v x below. let y = element_at (vertices_of d) v below in
+        subst (λ z. ends_of records z.arcs ≡ true) (sym (get_or_from_slice_get (vertices_of d) v y.element x y.is))
+        (ap (ends_of records) (first_at v y.element y.is) ∙ (way v).ends);
+  };
+  arc_fields = record_fields lists 0 rows;
+}
+  where
+    rows : List Row
+    rows = all_rows d.directed d.events
+
+    records : List ArcRec
+    records = records_of_events d.directed d.events
+
+    lists : ℕ → List Link
+    lists v = list_of d.directed d.events v
+
+    size : length (vertices_of d) ≡ length d.names
+    size = sym (length-map (vertices_of d) (λ v. v.name)) ∙ ap length (described_names d same)
+
+    first_at : (v : ℕ) (x : Vertex) → slice_get (vertices_of d) v ≡ Some x → x.arcs ≡ first_number (lists v)
+    first_at v x is = let place : 0 + v ≡ v = omega arith in firsts_are lists 0 d.names d.fields v x is ∙ ap (λ j. first_number (lists j)) place
+
+    stands : (v : ℕ) (l : Link) → Contains (lists v) l → StandsIn records (lists v) l
+    stands v l has = record {
+      here = record_in (lists v) (0 + l.number) (row v l.tip l.len);
+      is = record_at lists 0 rows l.number (row v l.tip l.len) (only_on_list d.directed d.events v l has);
+      tip = refl;
+      len = refl;
+      next = let place : 0 + l.number ≡ l.number = omega arith in ap (λ j. number_after j (lists v)) place;
+    }
+
+    many : length records ≡ length rows
+    many = length-map (enumerate_from 0 rows) (λ p. record_in (lists p.1.start) p.0 p.1) ∙ length-enumerate_from 0 rows
+
+    way : (v : ℕ) → IsWay (length records) records (lists v)
+    way v = way_is (length records) records (lists v) (omega (arith, many, short_list d.directed d.events v)) (apart_on_list d.directed d.events v) (stands v)
