@@ -9,6 +9,7 @@ use Rattle.sgb_graph.specs.Made.{no_kinds, no_fields}
 use Rattle.sgb_graph.specs.declared.fields.Kind.{Kind}
 use Rattle.sgb_graph.specs.declared.fields.Util.{Util}
 use Rattle.sgb_graph.specs.declared.fields.Vertex.{Vertex}
+use Rattle.sgb_graph.proofs.Numbers.{ints_firsts}
 use Rattle.sgb_gen.specs.VectorGraphs.{HasCoordinates}
 use Rattle.sgb_gen.specs.VectorGraphs.{fields_of_vector, kinds_of_family}
 use Rattle.sgb_gen.proofs.FamilyWalks.{drop_at_vector, take_at_vector}
@@ -41,12 +42,13 @@ pub record HasSomeCoordinates (vectors : List (List ℕ)) (u : ℕ) (old new : G
   pub records : new.records ≡ old.records
   pub names : map (λ v. v.name) new.vertices ≡ map (λ v. v.name) old.vertices
   pub fields : map (λ v. v.util) new.vertices ≡ fields_so_far u vectors
+  pub firsts : map (λ v. v.arcs) new.vertices ≡ map (λ v. v.arcs) old.vertices
   pub chains : (v : ℕ) → chain_of new v ≡ chain_of old v
 
 -- none has at first
 pub coordinates-none : (vectors : List (List ℕ)) (g : GraphData) → g.kinds ≡ no_kinds → map (λ v. v.util) g.vertices ≡ map (λ v. no_fields) vectors → HasSomeCoordinates vectors 0 g g
 coordinates-none vectors g kinds fields =
-    record { id = refl; count = refl; kinds = kinds; util = refl; records = refl; names = refl; fields = fields; chains = λ v. refl }
+    record { id = refl; count = refl; kinds = kinds; util = refl; records = refl; names = refl; fields = fields; firsts = refl; chains = λ v. refl }
 
 -- a map that gives the same for each element
 pub map-each : {X Y Z : Type 0} (f : Y → Z) (g : X → Y) (h : X → Z) → ((x : X) → f (g x) ≡ h x) → (xs : List X) → map f (map g xs) ≡ map h xs
@@ -113,6 +115,8 @@ coordinates-more vectors u v old now new at h k =
       records = ap (λ g. g.records) k.whole ∙ h.records;
       names = k.names ∙ h.names;
       fields = k.fields ∙ fields-more vectors u v now.vertices at h.fields;
+      firsts = ap (λ g. map (λ w. w.arcs) g.vertices) k.whole
+          ∙ ints_firsts now u (pos (slice_index v 0)) (pos (slice_index v 1)) (pos (slice_index v 2)) ∙ h.firsts;
       chains = λ w. k.chains w ∙ h.chains w;
     })
 
@@ -126,5 +130,6 @@ coordinates-all vectors u old new e h = record {
   records = h.records;
   names = h.names;
   fields = h.fields ∙ fields-all u vectors e;
+  firsts = h.firsts;
   chains = h.chains;
 }

@@ -1,13 +1,14 @@
 -- The graph of a family, made step by step, is the one that is described.
-use Rattle.std.proofs.Common.{◌≡◌, ℕ, Bool, List, length, map, Result, Ok, Err, refl, sym, ap, subst, ◌∙◌, arith}
+use Rattle.std.proofs.Common.{◌≡◌, ℕ, Bool, true, List, [], ◌∷◌, length, map, Result, Ok, Err, refl, sym, ap, subst, ◌∙◌, arith}
 use Rattle.std.specs.List.{All}
+use Rattle.std.proofs.lemmas.List.Elements.{All-cons, All-head, All-map, All-nil, All-tail}
 use Rattle.std.specs.Result.{IsErr, IsErrAnd}
 use Rattle.std.proofs.lemmas.List.{length-map}
 use Rattle.sgb_vec.specs.Names.{name_of_vector}
 use Rattle.sgb_vec.specs.declared.panics.Panic.{Panic}
 use Rattle.sgb_vec.specs.declared.panics.Panic.TheVariants.{NoRoom}
-use Rattle.sgb_graph.specs.Graphs.{GraphData}
-use Rattle.sgb_graph.specs.Events.{Event, HasArcsOf}
+use Rattle.sgb_graph.specs.Graphs.{GraphData, ends_of}
+use Rattle.sgb_graph.specs.Events.{Event, HasArcsOf, IsWithin}
 use Rattle.sgb_graph.specs.Descriptions.{Description, IsAnswerOf, IsGraphOf}
 use Rattle.sgb_graph.specs.Growth.{new_graph, with_id}
 use Rattle.sgb_graph.specs.Made.{no_fields}
@@ -23,6 +24,11 @@ pub fields_unused : (vectors : List (List ℕ)) (directed : Bool) (old new : Gra
 fields_unused vectors directed old new events e h =
     h.rest.fields ∙ ap (λ g. map (λ v. v.util) g.vertices) e ∙ new_fields (map name_of_vector vectors) ∙ map-map (λ t. no_fields) name_of_vector vectors
 
+-- a fact of what is made of each element
+All-from_map : {X Y : Type 0} (P : Y → Type 0) (f : X → Y) (xs : List X) → All P (map f xs) → All (λ x. P (f x)) xs
+All-from_map P f [] h = All-nil (λ x. P (f x))
+All-from_map P f (x ∷ xs) h = All-cons (λ x. P (f x)) x xs (All-head P (f x) (map f xs) h) (All-from_map P f xs (All-tail P (f x) (map f xs) h))
+
 -- arcs stay where the coordinates are put and the id is changed
 arcs_stay : (directed : Bool) (events : List Event) (vectors : List (List ℕ)) (old new : GraphData) (id : List ℕ) → HasArcsOf directed events old → HasCoordinates vectors old new → HasArcsOf directed events (with_id id new)
 arcs_stay directed events vectors old new id h k =
@@ -32,6 +38,11 @@ arcs_stay directed events vectors old new id h k =
       tips = ap (map (λ r. r.tip)) k.records ∙ h.tips;
       lengths = ap (map (λ r. r.len)) k.records ∙ h.lengths;
       lists = λ v within. k.chains v ∙ h.lists v (omega arith);
+      within = subst (λ n. All (IsWithin n) events) (sym size) h.within;
+      ends = All-from_map (λ first. ends_of new.records first ≡ true) (λ v. v.arcs) new.vertices
+          (subst (All (λ first. ends_of new.records first ≡ true)) (sym k.firsts)
+          (subst (λ rs. All (λ first. ends_of rs first ≡ true) (map (λ v. v.arcs) old.vertices)) (sym k.records)
+          (All-map (λ first. ends_of old.records first ≡ true) (λ v. v.arcs) old.vertices h.ends)));
     }
 
 -- the graph of a family: names, then arcs, coordinates and the id

@@ -18,6 +18,7 @@ pub mod DisplacementLengths
 pub mod Coordinates
 pub mod WrittenIds
 pub mod FamilyGraphs
+pub mod FieldCounts
 pub mod Examples
 pub mod Vertices
 pub mod Places

@@ -72,4 +72,5 @@ pub record HasCoordinates (vectors : List (List ℕ)) (old new : GraphData) : Ty
   pub records : new.records ≡ old.records
   pub names : map (λ v. v.name) new.vertices ≡ map (λ v. v.name) old.vertices
   pub fields : map (λ v. v.util) new.vertices ≡ map fields_of_vector vectors
+  pub firsts : map (λ v. v.arcs) new.vertices ≡ map (λ v. v.arcs) old.vertices
   pub chains : (v : ℕ) → chain_of new v ≡ chain_of old v

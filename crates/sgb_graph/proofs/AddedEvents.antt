@@ -106,6 +106,6 @@ adds-graph directed texts events g text h = record {
   util = h.rest.util;
   names = h.rest.names ∙ new_names texts;
   fields = h.rest.fields ∙ new_fields texts;
-  arcs = let a = adds-new directed texts events g h in record { count = a.count; tips = a.tips; lengths = a.lengths; lists = a.lists };
+  arcs = let a = adds-new directed texts events g h in record { count = a.count; tips = a.tips; lengths = a.lengths; lists = a.lists; within = a.within; ends = a.ends };
   arc_fields = adds-new_fields directed texts events g h;
 }

@@ -17,7 +17,7 @@ use Rattle.sgb_graph.specs.declared.fields.ArcRec.{ArcRec}
 use Rattle.sgb_graph.proofs.Lists.{slice_get-at_place_same, slice_get-at_place_other, slice_get-after, length-at_place, map-at_place, list_all-get, list_all-at_place}
 use Rattle.sgb_graph.proofs.Fitting.{vertex_fits_in, record_fits_in, chain_fits_more}
 use Rattle.sgb_graph.proofs.Chains.{ends_step, ends_kept, links_step, links_kept, leads_step, leads_kept, links_within, lead_within}
-use Rattle.sgb_graph.proofs.Growing.{HasParts, NewFit, parts_of, graph_from_parts, first_ends, is_good, all_good_more, grown, grown_is_graph, chain_kept, chain_at}
+use Rattle.sgb_graph.proofs.Growing.{HasParts, NewFit, parts_of, graph_from_parts, first_ends, is_good, all_good_more, grown, grown_is_graph, chain_kept, chain_at, lists_end}
 
 -- a place of a list has an element
 pub record HasElement {X : Type 0} (xs : List X) (k : ℕ) : Type 0 where
@@ -177,6 +177,8 @@ arc_added g u v far kept plain u_in v_in = (adds, still)
       chain = chain_at (with_arc g u v far) u (with_arcs (Some m) x.element) (slice_get-at_place_same (with_arcs (Some m)) u g.vertices x.element x.is)
           ∙ (ap (λ steps. links_within steps all (Some m)) longer ∙ lead.links);
       others = λ w other. chain_kept g (g.m + 1) (at_place (with_arcs (Some m)) u g.vertices) (new ∷ []) w has (slice_get-at_place_other (with_arcs (Some m)) u w g.vertices other);
+      within = (u_in, v_in);
+      ends = lists_end (with_arc g u v far) (parts_of (with_arc g u v far) still.graph);
       rest = keeps_all g (g.m + 1) (Some m) u (new ∷ []);
     }
 

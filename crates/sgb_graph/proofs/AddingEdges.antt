@@ -13,7 +13,7 @@ use Rattle.sgb_graph.specs.declared.fields.Link.{Link}
 use Rattle.sgb_graph.proofs.Lists.{slice_get-at_place_same, slice_get-at_place_other, slice_get-after, length-at_place, map-at_place, list_all-at_place}
 use Rattle.sgb_graph.proofs.Fitting.{record_fits_in, chain_fits_more}
 use Rattle.sgb_graph.proofs.Chains.{ends_step, links_step, leads_step, links_within, lead_within}
-use Rattle.sgb_graph.proofs.Growing.{HasParts, NewFit, parts_of, graph_from_parts, is_good, all_good_more, grown, grown_is_graph, chain_kept, chain_at}
+use Rattle.sgb_graph.proofs.Growing.{HasParts, NewFit, parts_of, graph_from_parts, is_good, all_good_more, grown, grown_is_graph, chain_kept, chain_at, lists_end}
 use Rattle.sgb_graph.proofs.AddingArcs.{element_at, chain_of_vertex, plain_record_fits, good_with_arcs, IsLead, lead_of}
 
 -- the graph with two records between low and high, the lower of them before the one given
@@ -204,7 +204,8 @@ loop_is_pair g u far kept plain below =
     let has = parts_of g kept.graph in
     let down = lower_of_loop g u far has below in
     let least : min u u ≡ u = omega arith in
-    let most : max u u ≡ u = omega arith in (
+    let most : max u u ≡ u = omega arith in
+    let still = pair_is_kept g u u after far (link (m + 1) u far ∷ chain_of g u) kept plain below below (lt-ltb (m + 1) (m + 2) (omega arith)) down in (
       record {
         count = refl;
         records = rw (eq-eqb u u refl, least, most) refl;
@@ -212,9 +213,11 @@ loop_is_pair g u far kept plain below =
         smaller = λ other. absurd (other refl);
         greater = λ other. absurd (other refl);
         others = λ w other also. other_chain g u u after far w has other other;
+        within = (below, below);
+        ends = lists_end (with_pair g u u after far) (parts_of (with_pair g u u after far) still.graph);
         rest = pair_keeps g u u after far;
       },
-      pair_is_kept g u u after far (link (m + 1) u far ∷ chain_of g u) kept plain below below (lt-ltb (m + 1) (m + 2) (omega arith)) down,
+      still,
     )
 
 -- so a new edge from a vertex to itself is a loop
@@ -237,7 +240,8 @@ pair_joins g u v far kept plain u_in v_in other =
     let after = first_arc g.vertices low in
     let has = parts_of g kept.graph in
     let down = lower_of_two g low high far has low_in in
-    let fits = chain_fits_more m (m + 2) after (omega arith) (chain_of_vertex g low has low_in).fits in (
+    let fits = chain_fits_more m (m + 2) after (omega arith) (chain_of_vertex g low has low_in).fits in
+    let still = pair_is_kept g low high after far (chain_of g low) kept plain low_in high_in fits down in (
       record {
         count = refl;
         records = rw (ne_eqb u v other) refl;
@@ -245,9 +249,11 @@ pair_joins g u v far kept plain u_in v_in other =
         smaller = λ _. lower_chain g low high after far (chain_of g low) low_in down;
         greater = λ _. higher_chain g low high after far has high_in apart;
         others = λ w not_u not_v. other_chain g low high after far w has (λ e. neither w not_u not_v (min_is u v) e) (λ e. neither w not_u not_v (max_is u v) e);
+        within = (u_in, v_in);
+        ends = lists_end (with_pair g low high after far) (parts_of (with_pair g low high after far) still.graph);
         rest = pair_keeps g low high after far;
       },
-      pair_is_kept g low high after far (chain_of g low) kept plain low_in high_in fits down,
+      still,
     )
   where
     min_is : (a b : ℕ) → (min a b ≡ a) ⊎ (min a b ≡ b)

@@ -19,7 +19,7 @@ ends_none zero records = refl
 ends_none (suc fuel) records = refl
 
 -- and meets no record
-numbers_none : (fuel : ℕ) (records : List ArcRec) → numbers_from fuel records None ≡ []
+pub numbers_none : (fuel : ℕ) (records : List ArcRec) → numbers_from fuel records None ≡ []
 unfolding numbers_from
 numbers_none zero records = refl
 numbers_none (suc fuel) records = refl

@@ -1,17 +1,19 @@
 -- The lists of events, as events come one by one.
-use Rattle.std.proofs.Common.{◌≡◌, ◌≢◌, ◌+◌, ◌⊎◌, ℕ, ℤ, min, max, Bool, true, false, List, [], ◌∷◌, ◌++◌, length, map, Option, Some, None, refl, ap, sym, ◌∙◌, inl, inr, arith}
+use Rattle.std.proofs.Common.{◌≡◌, ◌≢◌, ◌+◌, ◌⊎◌, ℕ, ℤ, min, max, Bool, true, false, List, [], ◌∷◌, ◌++◌, length, map, Option, Some, None, refl, ap, sym, subst, ◌∙◌, inl, inr, arith}
 use Rattle.std.specs.Prelude.{slice_get}
+use Rattle.std.specs.List.{All}
 use Rattle.std.specs.Option.{option_map, option_map_or}
 use Rattle.std.proofs.lemmas.Bool.{eq-eqb, ne_eqb, cases_eq}
 use Rattle.std.proofs.lemmas.List.{append-nil, append_assoc, map-append, length-append, length-map}
+use Rattle.std.proofs.lemmas.List.Elements.{All-nil, All-cons, All-append, All-map}
 use Rattle.std.proofs.lemmas.List.Concat.{flat_map-append}
 use Rattle.std.proofs.lemmas.Option.{slice_get-map}
-use Rattle.sgb_graph.specs.Graphs.{GraphData, chain_of, links_of}
-use Rattle.sgb_graph.specs.Events.{Event, Row, HasArcsOf, all_rows, links_at, list_from, list_of, rows_of}
+use Rattle.sgb_graph.specs.Graphs.{GraphData, ListsEnd, chain_of, ends_of, links_of}
+use Rattle.sgb_graph.specs.Events.{Event, Row, HasArcsOf, IsWithin, all_rows, links_at, list_from, list_of, rows_of}
 use Rattle.sgb_graph.specs.Growth.{AddsArc, AddsEdge, ArcsLead, EdgesLead, link, new_graph, new_vertex, row}
 use Rattle.sgb_graph.specs.declared.fields.Ref.TheVariants.{At}
 use Rattle.sgb_graph.specs.declared.fields.Vertex.{Vertex}
-use Rattle.sgb_graph.proofs.Chains.{links_of_none}
+use Rattle.sgb_graph.proofs.Chains.{ends_none, links_of_none}
 
 -- the list of no event, and of one more in front
 pub list_none : (directed : Bool) (k v : ℕ) → list_from directed k [] v ≡ []
@@ -51,6 +53,8 @@ record AddsRows (directed : Bool) (old new : GraphData) (e : Event) : Type 0 whe
   tips : map (λ r. r.tip) new.records ≡ map (λ r. r.tip) old.records ++ map (λ r. At r.tip) (rows_of directed e)
   lengths : map (λ r. r.len) new.records ≡ map (λ r. r.len) old.records ++ map (λ r. r.len) (rows_of directed e)
   lists : (w : ℕ) → chain_of new w ≡ links_at w (length old.records) (rows_of directed e) ++ chain_of old w
+  within : IsWithin (length old.vertices) e
+  ends : ListsEnd new
   size : length new.vertices ≡ length old.vertices
 
 -- then the graph has the arcs of that event too
@@ -62,6 +66,9 @@ rows_added directed events e old new has adds = record {
   lists = λ v below. adds.lists v
       ∙ (ap (λ ls. links_at v (length old.records) own ++ ls) (has.lists v (omega (arith, adds.size)))
       ∙ (ap (λ j. links_at v j own ++ list_of directed events v) place ∙ sym (list_push directed 0 events e v)));
+  within = subst (λ n. All (IsWithin n) (events ++ e ∷ [])) (sym adds.size)
+      (All-append (IsWithin (length old.vertices)) events (e ∷ []) has.within (All-cons (IsWithin (length old.vertices)) e [] adds.within (All-nil (IsWithin (length old.vertices)))));
+  ends = adds.ends;
 }
   where
     rows : List Row
@@ -84,8 +91,14 @@ new_has_none directed names = record {
   tips = refl;
   lengths = refl;
   lists = λ v below. none_at v;
+  within = All-nil (IsWithin (length (map new_vertex names)));
+  ends = All-map (λ (x : Vertex). ends_of [] x.arcs ≡ true) new_vertex names (none_ends names);
 }
   where
+    none_ends : (texts : List (List ℕ)) → All (λ (text : List ℕ). ends_of [] None ≡ true) texts
+    none_ends [] = All-nil (λ (text : List ℕ). ends_of [] None ≡ true)
+    none_ends (t ∷ texts) = All-cons (λ (text : List ℕ). ends_of [] None ≡ true) t texts (ends_none 0 []) (none_ends texts)
+
     by_name : (o : Option (List ℕ)) → option_map_or (λ (x : Vertex). links_of [] x.arcs) (option_map new_vertex o) [] ≡ []
     by_name None = refl
     by_name (Some text) = links_of_none []
@@ -124,6 +137,8 @@ arc_adds old new e adds = record {
   tips = ap (map (λ r. r.tip)) adds.records ∙ map-append (λ r. r.tip) old.records _;
   lengths = ap (map (λ r. r.len)) adds.records ∙ map-append (λ r. r.len) old.records _;
   lists = λ w. at_vertex w (cases_eq w e.from);
+  within = adds.within;
+  ends = adds.ends;
   size = adds.rest.size;
 }
   where
@@ -138,6 +153,8 @@ edge_adds old new e adds = record {
   tips = ap (map (λ r. r.tip)) adds.records ∙ map-append (λ r. r.tip) old.records _;
   lengths = ap (map (λ r. r.len)) adds.records ∙ map-append (λ r. r.len) old.records _;
   lists = λ w. at_vertex w (cases_eq w low) (cases_eq w high);
+  within = adds.within;
+  ends = adds.ends;
   size = adds.rest.size;
 }
   where

@@ -1,3 +1,4 @@
 -- Worked examples of the definitions, each with the value that the published programs give.
 pub mod Draws
 pub mod Made
+pub mod Rings

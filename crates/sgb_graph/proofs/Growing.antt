@@ -1,13 +1,14 @@
 -- A graph with more records at the end is one, and keeps the chains that stay.
-use Rattle.std.proofs.Common.{◌≡◌, ◌≤◌, ◌<◌, ◌⊎◌, ℕ, Bool, true, ◌&&◌, List, [], ◌++◌, length, Option, Some, None, refl, ap, ◌∙◌, inl, inr, arith}
+use Rattle.std.proofs.Common.{◌≡◌, ◌≤◌, ◌<◌, ◌⊎◌, ℕ, Bool, true, ◌&&◌, List, [], ◌∷◌, ◌++◌, length, Option, Some, None, refl, ap, ◌∙◌, inl, inr, arith}
 use Rattle.std.specs.Prelude.{slice_get, nat_le}
 use Rattle.std.specs.Option.{option_map_or}
-use Rattle.std.specs.List.{list_all}
+use Rattle.std.specs.List.{All, list_all}
 use Rattle.std.proofs.lemmas.Bool.{and_parts, and_from, ltb-true, cases_lt}
 use Rattle.std.proofs.lemmas.List.{length-append}
+use Rattle.std.proofs.lemmas.List.Elements.{All-nil, All-cons}
 use Rattle.std.proofs.lemmas.List.Folds.{list_all-append}
 use Rattle.sgb_vec.specs.Limits.{most_vertices}
-use Rattle.sgb_graph.specs.Graphs.{GraphData, ends_of, links_of, chain_of}
+use Rattle.sgb_graph.specs.Graphs.{GraphData, ListsEnd, ends_of, links_of, chain_of}
 use Rattle.sgb_graph.specs.Sound.{IsGraph, chains_end, vertex_kinds, graph_kinds, chain_fits, utils_fit, lists_lead_to_vertices, vertex_fits, record_fits}
 use Rattle.sgb_graph.specs.Growth.{graph_data}
 use Rattle.sgb_graph.specs.declared.fields.Kind.{Kind}
@@ -133,3 +134,14 @@ chain_kept g count vertices more w has same = by_vertex (slice_get g.vertices w)
 -- the chain of a vertex by its first record
 pub chain_at : (g : GraphData) (w : ℕ) (x : Vertex) → slice_get g.vertices w ≡ Some x → chain_of g w ≡ links_of g.records x.arcs
 chain_at g w x is = ap (λ o. option_map_or (λ (v : Vertex). links_of g.records v.arcs) o []) is
+
+-- the list of each vertex of a graph ends
+pub lists_end : (g : GraphData) → HasParts g → ListsEnd g
+lists_end g has = each g.vertices has.vertices
+  where
+    each : (vertices : List Vertex) → list_all (vertex_fits_in (length g.vertices) (length g.records) g.kinds) vertices ≡ true → All (λ (x : Vertex). ends_of g.records x.arcs ≡ true) vertices
+    each [] fit = All-nil (λ (x : Vertex). ends_of g.records x.arcs ≡ true)
+    each (x ∷ vertices) fit =
+        let parts = and_parts (vertex_fits_in (length g.vertices) (length g.records) g.kinds x) (list_all (vertex_fits_in (length g.vertices) (length g.records) g.kinds) vertices) fit in
+        let start = and_parts (chain_fits (length g.records) x.arcs) (utils_fit (length g.vertices) (length g.records) (vertex_kinds g.kinds) x.util) parts.0 in
+        All-cons (λ (y : Vertex). ends_of g.records y.arcs ≡ true) x vertices (first_ends g.records x.arcs has.ends start.0) (each vertices parts.1)

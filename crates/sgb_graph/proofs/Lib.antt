@@ -4,6 +4,7 @@ pub mod AddingArcs
 pub mod AddingEdges
 pub mod Chains
 pub mod CompoundIds
+pub mod Described
 pub mod DrawLemmas
 pub mod EventLemmas
 pub mod Examples

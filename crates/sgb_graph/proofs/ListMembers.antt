@@ -1,11 +1,13 @@
 -- What stands on the list of a vertex: the records that start there.
-use Rattle.std.proofs.Common.{◌≡◌, ◌+◌, ◌-◌, ◌≤◌, ◌<◌, ◌⊎◌, ◌==◌, ℕ, zero, suc, Bool, true, false, List, [], ◌∷◌, ◌++◌, length, Some, count_by, refl, ap, sym, ◌∙◌, subst, inl, inr, arith}
+use Rattle.std.proofs.Common.{◌≡◌, ◌≢◌, get_or, ◌+◌, ◌-◌, ◌≤◌, ◌<◌, ◌⊎◌, ◌==◌, ℕ, zero, suc, Bool, true, false, List, [], ◌∷◌, ◌++◌, length, Some, count_by, refl, ap, sym, ◌∙◌, subst, inl, inr, arith}
 use Rattle.std.specs.Prelude.{slice_get, cond, if◌then◌else◌}
-use Rattle.std.specs.List.{Contains, filter}
+use Rattle.std.specs.List.{All, AllPairs, Contains, filter}
+use Rattle.std.proofs.lemmas.List.Kept.{AllPairs-cons}
+use Rattle.std.proofs.lemmas.Option.{slice_get_within}
 use Rattle.std.proofs.lemmas.Bool.{cases_eq, cases_lt}
 use Rattle.std.proofs.lemmas.List.{length-append}
-use Rattle.std.proofs.lemmas.List.Elements.{filter-append, Contains-append_left, Contains-append_right, Contains-append_cases}
-use Rattle.std.proofs.lemmas.List.Sums.{length-filter}
+use Rattle.std.proofs.lemmas.List.Elements.{All-append, All-head, All-tail, Contains-get_or, filter-append, Contains-append_left, Contains-append_right, Contains-append_cases}
+use Rattle.std.proofs.lemmas.List.Sums.{count_by-le-length, length-filter}
 use Rattle.sgb_graph.specs.Events.{Event, Row, all_rows, links_at, list_from, list_of, rows_of}
 use Rattle.sgb_graph.specs.Growth.{link, row}
 use Rattle.sgb_graph.specs.declared.fields.Link.{Link}
@@ -13,19 +15,19 @@ use Rattle.sgb_graph.proofs.Lists.{slice_get-more, slice_get-prefix, slice_get-a
 use Rattle.sgb_graph.proofs.EventLemmas.{list_none, list_first, link_here, no_link_here}
 
 -- the first element of a list, and one after it
-contains_first : {X : Type 0} (x : X) (xs : List X) → Contains (x ∷ xs) x
+pub contains_first : {X : Type 0} (x : X) (xs : List X) → Contains (x ∷ xs) x
 contains_first x xs = (0, omega arith, refl)
 
 -- one after the first
-contains_after : {X : Type 0} (x y : X) (xs : List X) → Contains xs y → Contains (x ∷ xs) y
+pub contains_after : {X : Type 0} (x y : X) (xs : List X) → Contains xs y → Contains (x ∷ xs) y
 contains_after x y xs (k, below, here) = (suc k, omega arith, here)
 
 -- an empty list has none
-contains_none : {X : Type 0} (x : X) → Contains [] x → ⊥
+pub contains_none : {X : Type 0} (x : X) → Contains [] x → ⊥
 contains_none x (k, below, here) = omega arith
 
 -- an element of a list is its first, or after it
-contains_cases : {X : Type 0} (x y : X) (xs : List X) → Contains (x ∷ xs) y → (x ≡ y) ⊎ Contains xs y
+pub contains_cases : {X : Type 0} (x y : X) (xs : List X) → Contains (x ∷ xs) y → (x ≡ y) ⊎ Contains xs y
 contains_cases x y xs (zero, below, here) = inl here
 contains_cases x y xs (suc k, below, here) = inr (k, omega arith, here)
 
@@ -160,3 +162,62 @@ only_on_list directed events v l has =
 -- and each is there once
 pub once_on_list : (directed : Bool) (events : List Event) (v : ℕ) → length (list_of directed events v) ≡ count_by (λ r. r.start == v) (all_rows directed events)
 once_on_list directed events v = once_from directed 0 events v ∙ length-filter (λ (r : Row). r.start == v) (all_rows directed events)
+
+-- two arcs of different numbers
+abbrev pub AreApart : Link → Link → Type 0
+AreApart l m = l.number ≢ m.number
+
+-- what holds of each element of a list
+all_from_contains : {X : Type 0} (P : X → Type 0) (xs : List X) → ((x : X) → Contains xs x → P x) → All P xs
+all_from_contains P xs each k d below = each (get_or xs k d) (Contains-get_or xs k d below)
+
+-- pairs within each of two lists, and of one with the other
+pairs_append : {X : Type 0} (R : X → X → Type 0) (xs ys : List X) → AllPairs R xs → AllPairs R ys → All (λ x. All (R x) ys) xs → AllPairs R (xs ++ ys)
+pairs_append R [] ys one other across = other
+pairs_append R (x ∷ xs) ys one other across =
+    AllPairs-cons R x (xs ++ ys)
+    (All-append (R x) xs ys (λ k d below. one 0 (suc k) d (omega arith) (omega arith)) (All-head (λ y. All (R y) ys) x xs across))
+    (pairs_append R xs ys (λ i j d less below. one (suc i) (suc j) d (omega arith) (omega arith)) other (All-tail (λ y. All (R y) ys) x xs across))
+
+-- the links of rows have different numbers
+links_apart : (k v : ℕ) (rows : List Row) → AllPairs AreApart (links_at v k rows)
+links_apart k v [] = λ i j d less below. absurd (omega arith)
+links_apart k v (a ∷ rows) = by_start (cases_eq v a.start) (links_apart (k + 1) v rows)
+  where
+    by_start : (v ≡ a.start) ⊎ (v ≡ a.start → ⊥) → AllPairs AreApart (links_at v (k + 1) rows) → AllPairs AreApart (links_at v k (a ∷ rows))
+    by_start (inl start) later =
+        subst (AllPairs AreApart) (sym (link_here v k a rows start))
+        (AllPairs-cons AreApart (link k a.tip a.len) (links_at v (k + 1) rows)
+        (all_from_contains (AreApart (link k a.tip a.len)) (links_at v (k + 1) rows) (λ m has same. omega (arith, (only_link (k + 1) v rows m has).number, same))) later)
+    by_start (inr other) later = subst (AllPairs AreApart) (sym (no_link_here v k a rows other)) later
+
+-- so do those of a list
+apart_from : (directed : Bool) (k : ℕ) (events : List Event) (v : ℕ) → AllPairs AreApart (list_from directed k events v)
+apart_from directed k [] v = subst (AllPairs AreApart) (sym (list_none directed k v)) (links_apart k v [])
+apart_from directed k (e ∷ events) v =
+    subst (AllPairs AreApart) (sym (list_first directed k e events v))
+    (pairs_append AreApart others here (apart_from directed (k + length own) events v) (links_apart k v own)
+    (all_from_contains (λ l. All (AreApart l) here) others (λ l has. all_from_contains (AreApart l) here (λ m is. across l m has is))))
+  where
+    own : List Row
+    own = rows_of directed e
+
+    here : List Link
+    here = links_at v k own
+
+    others : List Link
+    others = list_from directed (k + length own) events v
+
+    across : (l m : Link) → Contains others l → Contains here m → AreApart l m
+    across l m has is same =
+        let late = only_from directed (k + length own) events v l has in
+        let early = only_link k v own m is in
+        let inside = slice_get_within own early.place (row v m.tip m.len) early.is in
+        omega (arith, late.number, early.number, inside, same)
+
+pub apart_on_list : (directed : Bool) (events : List Event) (v : ℕ) → AllPairs AreApart (list_of directed events v)
+apart_on_list directed events v = apart_from directed 0 events v
+
+-- and the list is no longer than there are records
+pub short_list : (directed : Bool) (events : List Event) (v : ℕ) → length (list_of directed events v) ≤ length (all_rows directed events)
+short_list directed events v = omega (arith, once_on_list directed events v, count_by-le-length (λ (r : Row). r.start == v) (all_rows directed events))

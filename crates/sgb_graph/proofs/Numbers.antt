@@ -220,6 +220,11 @@ ints_fields g v x y z =
     map-at_place_made (λ w. w.util) (with_numbers x y z) (put_numbers x y z) v (map with_some_numbers g.vertices) (λ w. refl)
     ∙ ap (at_place (put_numbers x y z) v) (map-map (λ w. w.util) with_some_numbers g.vertices)
 
+-- its first records
+pub ints_firsts : (g : GraphData) (v : ℕ) (x y z : ℤ) → map (λ w. w.arcs) (with_ints g v x y z).vertices ≡ map (λ w. w.arcs) g.vertices
+ints_firsts g v x y z =
+    map-at_place (λ w. w.arcs) (with_numbers x y z) v (map with_some_numbers g.vertices) (λ w. refl) ∙ map-map (λ w. w.arcs) with_some_numbers g.vertices
+
 -- its chains, which depend on the first records alone
 chain_by_first : (g : GraphData) (w : ℕ) → chain_of g w ≡ option_map_or (links_of g.records) (slice_get (map (λ x. x.arcs) g.vertices) w) []
 chain_by_first g w =
@@ -232,6 +237,5 @@ chain_by_first g w =
 -- so they stay
 pub ints_chains : (g : GraphData) (v : ℕ) (x y z : ℤ) (w : ℕ) → chain_of (with_ints g v x y z) w ≡ chain_of g w
 ints_chains g v x y z w =
-    let firsts = map-at_place (λ (u : Vertex). u.arcs) (with_numbers x y z) v (map with_some_numbers g.vertices) (λ u. refl) ∙ map-map (λ (u : Vertex). u.arcs) with_some_numbers g.vertices in
     chain_by_first (with_ints g v x y z) w
-    ∙ (ap (λ fs. option_map_or (links_of g.records) (slice_get fs w) []) firsts ∙ sym (chain_by_first g w))
+    ∙ (ap (λ fs. option_map_or (links_of g.records) (slice_get fs w) []) (ints_firsts g v x y z) ∙ sym (chain_by_first g w))

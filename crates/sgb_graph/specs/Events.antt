@@ -1,7 +1,7 @@
 -- The graph that a list of events makes [GB_GRAPH, gb_new_arc and gb_new_edge].
-use Rattle.std.specs.Prelude.{◌≡◌, ◌<◌, ◌+◌, ◌==◌, ℕ, ℤ, min, max, Bool, true, false, List, [], ◌∷◌, ◌++◌, length, map, if◌then◌else◌}
+use Rattle.std.specs.Prelude.{◌≡◌, ◌<◌, ◌+◌, ◌==◌, ℕ, ℤ, min, max, Bool, true, false, List, [], ◌∷◌, ◌++◌, length, map, All, if◌then◌else◌}
 use Rattle.std.specs.List.{flat_map}
-use Rattle.sgb_graph.specs.Graphs.{GraphData, chain_of}
+use Rattle.sgb_graph.specs.Graphs.{GraphData, ListsEnd, chain_of}
 use Rattle.sgb_graph.specs.declared.fields.Ref.TheVariants.{At}
 use Rattle.sgb_graph.specs.declared.fields.Link.{Link}
 
@@ -45,9 +45,16 @@ list_from directed k (e ∷ events) v =
 abbrev pub list_of : Bool → List Event → ℕ → List Link
 list_of directed events v = list_from directed 0 events v
 
--- the graph's arcs are those of the events: its number of arcs, its records and each vertex's list
+-- the event is between two of n vertices
+abbrev pub IsWithin : ℕ → Event → Type 0
+IsWithin n e = (e.from < n) × (e.to < n)
+
+-- the graph's arcs are those of the events: its number of arcs, its records and each vertex's list, which comes
+-- to an end; the events are between its vertices
 pub record HasArcsOf (directed : Bool) (events : List Event) (g : GraphData) : Type 0 where
   pub count : g.m ≡ length (all_rows directed events)
   pub tips : map (λ r. r.tip) g.records ≡ map (λ r. At r.tip) (all_rows directed events)
   pub lengths : map (λ r. r.len) g.records ≡ map (λ r. r.len) (all_rows directed events)
   pub lists : (v : ℕ) → v < length g.vertices → chain_of g v ≡ list_of directed events v
+  pub within : All (IsWithin (length g.vertices)) events
+  pub ends : ListsEnd g

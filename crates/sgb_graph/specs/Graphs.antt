@@ -1,5 +1,5 @@
 -- Graphs as data, and the lists of arcs that hang from their vertices [GB_GRAPH].
-use Rattle.std.specs.Prelude.{◌≡◌, ℕ, zero, suc, Bool, true, false, List, [], ◌∷◌, length, Option, slice_get}
+use Rattle.std.specs.Prelude.{◌≡◌, ℕ, zero, suc, Bool, true, false, List, [], ◌∷◌, length, All, IsTrue, Option, slice_get}
 use Rattle.std.specs.List.{flat_map}
 use Rattle.std.specs.Option.{option_map_or}
 use Rattle.sgb_graph.specs.declared.fields.Kind.{Kind}
@@ -62,3 +62,7 @@ links_of records first = flat_map (link_of records) (numbers_of records first)
 -- the list of arcs of vertex v
 abbrev pub chain_of : GraphData → ℕ → List Link
 chain_of g v = option_map_or (λ x. links_of g.records x.arcs) (slice_get g.vertices v) []
+
+-- the list of each vertex comes to an end
+abbrev pub ListsEnd : GraphData → Type 0
+ListsEnd g = All (λ x. IsTrue (ends_of g.records x.arcs)) g.vertices

@@ -1,7 +1,7 @@
 -- How a graph is made and grows, step by step [GB_GRAPH, gb_new_graph, gb_new_arc and gb_new_edge].
-use Rattle.std.specs.Prelude.{◌≡◌, ◌≢◌, ◌≤◌, ◌+◌, ◌++◌, ◌^◌, ◌==◌, ℕ, zero, suc, ℤ, pos, min, max, List, [], ◌∷◌, length, map, All, codes, decimal, Option, Some, None, slice_get, slice_set, Bool, true, false, if◌then◌else◌}
+use Rattle.std.specs.Prelude.{◌≡◌, ◌≢◌, ◌≤◌, ◌<◌, ◌+◌, ◌++◌, ◌^◌, ◌==◌, ℕ, zero, suc, ℤ, pos, min, max, List, [], ◌∷◌, length, map, All, codes, decimal, Option, Some, None, slice_get, slice_set, Bool, true, false, if◌then◌else◌}
 use Rattle.std.specs.Option.{option_and_then}
-use Rattle.sgb_graph.specs.Graphs.{GraphData, HasNoFields, chain_of}
+use Rattle.sgb_graph.specs.Graphs.{GraphData, HasNoFields, ListsEnd, chain_of}
 use Rattle.sgb_graph.specs.Events.{Event, HasArcsOf, Row}
 use Rattle.sgb_graph.specs.Made.{no_kinds, no_fields}
 use Rattle.sgb_graph.specs.Sound.{IsGraph, arc_kinds}
@@ -81,6 +81,8 @@ pub record AddsArc (old new : GraphData) (u v : ℕ) (len : ℤ) : Type 0 where
   pub records : new.records ≡ old.records ++ arc_record v (first_arc old.vertices u) len ∷ []
   pub chain : chain_of new u ≡ link (length old.records) v len ∷ chain_of old u
   pub others : (w : ℕ) → w ≢ u → chain_of new w ≡ chain_of old w
+  pub within : (u < length old.vertices) × (v < length old.vertices)
+  pub ends : ListsEnd new
   pub rest : KeepsAllButArcs old new
 
 -- what follows the lower record, number k, of a new edge: where it is a loop, the higher one
@@ -101,6 +103,8 @@ pub record AddsEdge (old new : GraphData) (u v : ℕ) (len : ℤ) : Type 0 where
   pub smaller : u ≢ v → chain_of new (min u v) ≡ link (length old.records) (max u v) len ∷ chain_of old (min u v)
   pub greater : u ≢ v → chain_of new (max u v) ≡ link (length old.records + 1) (min u v) len ∷ chain_of old (max u v)
   pub others : (w : ℕ) → w ≢ u → w ≢ v → chain_of new w ≡ chain_of old w
+  pub within : (u < length old.vertices) × (v < length old.vertices)
+  pub ends : ListsEnd new
   pub rest : KeepsAllButArcs old new
 
 -- the new graph is the old one with the arcs of these events after those that it had

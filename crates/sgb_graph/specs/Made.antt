@@ -1,9 +1,9 @@
 -- The graph that a list of events makes, as a whole [GB_GRAPH, gb_new_graph, gb_new_arc and gb_new_edge].
-use Rattle.std.specs.Prelude.{ℕ, ◌==◌, Bool, List, [], ◌∷◌, length, map, zip, replicate, Option, Some, None, if◌then◌else◌}
+use Rattle.std.specs.Prelude.{◌≡◌, ℕ, ◌==◌, Bool, List, [], ◌∷◌, length, map, All, zip, replicate, Option, Some, None, if◌then◌else◌}
 use Rattle.std.specs.List.{enumerate_from}
 use Rattle.sgb_graph.specs.Graphs.{GraphData}
-use Rattle.sgb_graph.specs.Events.{Event, Row, all_rows, list_of}
-use Rattle.sgb_graph.specs.Descriptions.{Description}
+use Rattle.sgb_graph.specs.Events.{Event, IsWithin, Row, all_rows, list_of}
+use Rattle.sgb_graph.specs.Descriptions.{Description, IsGraphOf}
 use Rattle.sgb_graph.specs.declared.fields.Kind.{Kind}
 use Rattle.sgb_graph.specs.declared.fields.Kind.TheVariants.{Z}
 use Rattle.sgb_graph.specs.declared.fields.Ref.TheVariants.{At}
@@ -75,3 +75,12 @@ graph_described d = record {
 -- the graph of these events, on vertices of these names, with this id; it uses no utility field
 abbrev pub graph_of : Bool → List Event → List (List ℕ) → List ℕ → GraphData
 graph_of directed events names id = graph_described (plain directed events names id)
+
+-- a graph that is described is the one that its description makes
+abbrev pub DescribedIsOnly : Type 0
+DescribedIsOnly = (d : Description) (g : GraphData) → IsGraphOf d g → g ≡ graph_described d
+
+-- and that one is described, where the events are between its vertices and each vertex has its fields
+abbrev pub DescribedIs : Type 0
+DescribedIs = (d : Description) → All (IsWithin (length d.names)) d.events → length d.fields ≡ length d.names
+    → IsGraphOf d (graph_described d)

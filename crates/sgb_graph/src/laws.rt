@@ -1,7 +1,7 @@
 ghost use Rattle.std.specs.Prelude.{◌≡◌, ℕ, ◌-◌, ◌*◌, ◌%◌, ◌<◌, ◌≤◌, ◌==◌, ◌++◌, [], ◌∷◌, Bool, true, false, List, length, Some, slice_get, Contains, count_by};
 ghost use Rattle.sgb_graph.specs.Graphs.{GraphData};
 ghost use Rattle.sgb_graph.specs.Descriptions.{IsGraphOf};
-ghost use Rattle.sgb_graph.specs.Made.{plain};
+ghost use Rattle.sgb_graph.specs.Made.{DescribedIs, DescribedIsOnly, plain};
 ghost use Rattle.sgb_graph.specs.Events.{Event, HasArcsOf, Row, all_rows, list_of};
 ghost use Rattle.sgb_graph.specs.Growth.{AddsArc, AddsEdge, AddsEvents, ArcsLead, EdgesLead, link, new_graph, row, with_id};
 ghost use Rattle.sgb_graph.specs.declared.fields.Link.{Link};
@@ -63,4 +63,10 @@ pub fn lists_law()
         → slice_get (all_rows directed events) l.number ≡ Some (row v l.tip l.len) }
     ensures once { (directed : Bool) (events : List Event) (v : ℕ)
         → length (list_of directed events v) ≡ count_by (λ r. r.start == v) (all_rows directed events) }
+{}
+
+/// A description makes one graph, and no other graph is the one that it describes.
+pub fn described_law()
+    ensures only { DescribedIsOnly }
+    ensures is { DescribedIs }
 {}

@@ -1,12 +1,12 @@
 -- The graph that a `.gb` file of complete(2) holds is the graph of its description.
-use Rattle.std.specs.Prelude.{◌≡◌, ◌<◌, ℕ, zero, suc, pos, false, List, [], ◌∷◌, length, replicate, Some, None, IfOk, codes, refl}
+use Rattle.std.specs.Prelude.{◌≡◌, ◌<◌, ℕ, zero, suc, pos, true, false, List, [], ◌∷◌, length, replicate, Some, None, IfOk, codes, refl}
 use Rattle.std.proofs.Common.{arith}
 use Rattle.std.proofs.lemmas.List.Elements.{All-from_recursion}
 use Rattle.std.specs.Fmt.{digits}
 use Rattle.sgb_vec.specs.Boxes.{box}
 use Rattle.sgb_vec.specs.Names.{name_of_vector}
-use Rattle.sgb_graph.specs.Graphs.{GraphData, chain_of, numbers_from}
-use Rattle.sgb_graph.specs.Events.{Event, HasArcsOf, list_from, list_of}
+use Rattle.sgb_graph.specs.Graphs.{GraphData, chain_of, ends_from, ends_of, numbers_from}
+use Rattle.sgb_graph.specs.Events.{Event, HasArcsOf, IsWithin, list_from, list_of}
 use Rattle.sgb_graph.specs.Descriptions.{IsGraphOf}
 use Rattle.sgb_graph.specs.declared.fields.Kind.TheVariants.{Z, I}
 use Rattle.sgb_graph.specs.declared.fields.Ref.TheVariants.{At}
@@ -46,7 +46,15 @@ lists (suc (suc v)) h = absurd (omega arith)
 
 -- its arcs are those of the edge
 arcs : HasArcsOf false edges pair
-arcs = record { count = refl; tips = refl; lengths = refl; lists = lists }
+unfolding ends_from
+arcs = record {
+  count = refl;
+  tips = refl;
+  lengths = refl;
+  lists = lists;
+  within = All-from_recursion (IsWithin 2) edges ((omega arith, omega arith), tt);
+  ends = All-from_recursion (λ x. ends_of pair.records x.arcs ≡ true) pair.vertices (refl, (refl, tt));
+}
 
 -- the graph of complete(2)
 pub pair_is_complete : IfOk (board (complete (pos 2))) (λ d. IsGraphOf d pair)
