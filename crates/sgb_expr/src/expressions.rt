@@ -20,7 +20,7 @@ pub enum Family {
 }
 
 /// An expression that names a graph.
-#[derive(Debug, Drop)]
+#[derive(Debug, Drop, PartialEq, Eq)]
 pub enum Expr {
     /// A graph of a generator.
     Family(Family),
