@@ -4,5 +4,7 @@ pub mod Digits
 pub mod NumberReaders
 pub mod IntegerLists
 pub mod NameOpenings
-pub mod ExpressionReaders
+pub mod FamilyReaders
+pub mod Forms
+pub mod Nesting
 pub mod WholeReading

@@ -2,7 +2,8 @@
 -- another, and one or the other.
 use Rattle.std.proofs.Common.{◌≡◌, ℕ, ◌≤◌, ◌⊎◌, List, [], ◌∷◌, ◌++◌, length, min, Option, Some, None, Result, Ok, Err, refl, sym, ◌∙◌, ap, subst, inl, inr, append_assoc, append-nil, arith, length-append}
 use Rattle.std.proofs.lemmas.Bool.{cases_lt}
-use Rattle.sgb_expr.specs.Readings.{◌>>=◌, either}
+use Rattle.sgb_expr.specs.Languages.{Then, As}
+use Rattle.sgb_expr.specs.Readings.{◌>>=◌, then_read, read_as, either}
 
 -- the first byte of a text
 abbrev pub next : List ℕ → Option ℕ
@@ -66,14 +67,6 @@ next_after (byte ∷ text) a b e = refl
 pub none_next : (text : List ℕ) → next text ≡ None → text ≡ []
 none_next [] e = refl
 none_next (byte ∷ text) e = absurd (cc)
-
--- a word of the first language and then one of the second, which may depend on the first's value
-abbrev pub Then : {V W : Type 0} → (List ℕ → V → Type 0) → (V → List ℕ → W → Type 0) → List ℕ → W → Type 0
-Then {V} First Second word value = (a b : List ℕ) × (v : V) × (word ≡ a ++ b) × First a v × Second v b value
-
--- one reader and then another
-abbrev pub then_read : {V W : Type 0} → (List ℕ → Result (V × List ℕ) ℕ) → (V → List ℕ → Result (W × List ℕ) ℕ) → List ℕ → Result (W × List ℕ) ℕ
-then_read first second text = first text >>= λ x. second x.0 x.1
 
 -- what the second finds after the first
 then_found : {V W : Type 0} (First : List ℕ → V → Type 0) (Second : V → List ℕ → W → Type 0) (first : List ℕ → Result (V × List ℕ) ℕ) (second : V → List ℕ → Result (W × List ℕ) ℕ)
@@ -145,14 +138,6 @@ reads_then {V} {W} {First} {Second} {Tail} {After} {first} {second} f g follows 
       ∙ (g is.2).again is.1 tail w is.5 t;
   some = let a = f.some in let b = (g a.1).some in (a.0 ++ b.0, b.1, (a.0, b.0, a.1, refl, a.2, b.2));
 }
-
--- a reader's value under a function
-abbrev pub read_as : {V W : Type 0} → (V → W) → (List ℕ → Result (V × List ℕ) ℕ) → List ℕ → Result (W × List ℕ) ℕ
-read_as f read text = read text >>= λ x. Ok (f x.0, x.1)
-
--- words of the function's values
-abbrev pub As : {V W : Type 0} → (V → W) → (List ℕ → V → Type 0) → List ℕ → W → Type 0
-As {V} f Word word value = (v : V) × Word word v × (value ≡ f v)
 
 -- a reader of the function's values
 pub reads_as : {V W : Type 0} (f : V → W) {Word : List ℕ → V → Type 0} {Tail : List ℕ → Type 0} {read : List ℕ → Result (V × List ℕ) ℕ} → Reads Word Tail read → Reads (As f Word) Tail (read_as f read)

@@ -176,7 +176,7 @@ last_word {V} word text = elim (fixed_cases word.0 text) [
 ]
 
 -- both tests hold
-both_true : (a b : Bool) → (a && b) ≡ true → (a ≡ true) × (b ≡ true)
+pub both_true : (a b : Bool) → (a && b) ≡ true → (a ≡ true) × (b ≡ true)
 both_true true b e = (refl, e)
 both_true false b e = absurd (cc)
 

@@ -1,11 +1,14 @@
 -- The expressions that name a graph, in GraphBase's official names; which texts are too large to be read.
-use Rattle.std.specs.Prelude.{◌≡◌, ◌≤◌, ◌<◌, ◌+◌, ◌⊎◌, ◌==◌, ℕ, List, ◌++◌, length, take, count_by, Result, Ok, Err}
-use Rattle.sgb_expr.specs.Forms.{Names}
+use Rattle.std.specs.Prelude.{◌≡◌, ◌≤◌, ◌<◌, ◌+◌, ◌⊎◌, ◌==◌, ℕ, zero, suc, List, ◌++◌, length, take, count_by, Result, Ok, Err}
+use Rattle.sgb_expr.specs.Expression.{Expression, expression_of}
+use Rattle.sgb_expr.specs.Operations.{IsGenerator, IsCallOf}
 use Rattle.sgb_expr.specs.Names.{opening_of}
 use Rattle.sgb_expr.specs.declared.expressions.Expr.{Expr}
 use Rattle.sgb_expr.specs.declared.expressions.Unread.{Unread}
 use Rattle.sgb_expr.specs.declared.expressions.Unread.TheVariants as unread
+use Rattle.sgb_expr.specs.declared.names.FamilyName.{FamilyName}
 use Rattle.sgb_expr.specs.declared.names.Name.{Name}
+use Rattle.sgb_expr.specs.declared.names.Name.TheVariants as form
 
 -- an expression has at most this many bytes
 abbrev pub most_bytes : ℕ
@@ -15,13 +18,21 @@ most_bytes = 65_536
 abbrev pub most_depth : ℕ
 most_depth = 64
 
--- the text is this expression: a name, `(`, and arguments of its form with `)`
-abbrev pub IsExpression : List ℕ → Expr → Type 0
-IsExpression text e = (name : Name) × (arguments : List ℕ) × (text ≡ opening_of name ++ arguments) × Names name arguments e
+-- the text is this expression, in which operations stand one in another at most so deep: a name, `(`, and arguments of its
+-- form with `)`
+abbrev pub IsNested : ℕ → List ℕ → Expression → Type 0
+IsNested zero text e =
+    (name : FamilyName) × (arguments : List ℕ) × (text ≡ opening_of (form.Family name) ++ arguments) × IsGenerator name arguments e
+IsNested (suc depth) text e =
+    (name : Name) × (arguments : List ℕ) × (text ≡ opening_of name ++ arguments) × IsCallOf (IsNested depth) name arguments e
+
+-- the text is this expression
+abbrev pub IsExpression : List ℕ → Expression → Type 0
+IsExpression text e = (depth : ℕ) × IsNested depth text e
 
 -- the text begins an expression: something can follow that makes it one
 abbrev pub BeginsExpression : List ℕ → Type 0
-BeginsExpression text = (more : List ℕ) × (e : Expr) × IsExpression (text ++ more) e
+BeginsExpression text = (more : List ℕ) × (e : Expression) × IsExpression (text ++ more) e
 
 -- the first k bytes of the text are its longest prefix that begins some expression
 pub record IsLongestPrefix (text : List ℕ) (k : ℕ) : Type 0 where
@@ -31,7 +42,7 @@ pub record IsLongestPrefix (text : List ℕ) (k : ℕ) : Type 0 where
 
 -- the text is no expression
 abbrev pub IsNoExpression : List ℕ → Type 0
-IsNoExpression text = (e : Expr) → IsExpression text e → ⊥
+IsNoExpression text = (e : Expression) → IsExpression text e → ⊥
 
 -- how many `(` (40) and how many `)` (41)
 abbrev pub opened_count : List ℕ → ℕ
@@ -57,5 +68,5 @@ IsUnread text unread.NoRoom = Unit {0}
 
 -- the text is read as this expression, or not read for this cause
 abbrev pub IsReadAs : List ℕ → Result Expr Unread → Type 0
-IsReadAs text (Ok e) = (IsTooLarge text → ⊥) × IsExpression text e
+IsReadAs text (Ok e) = (IsTooLarge text → ⊥) × IsExpression text (expression_of e)
 IsReadAs text (Err cause) = IsUnread text cause

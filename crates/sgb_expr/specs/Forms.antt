@@ -1,4 +1,4 @@
--- What the forms of expressions mean: the arguments of each, and the graph that they name.
+-- What the generators' forms mean: the arguments of each, and the graph that they name.
 use Rattle.std.specs.Prelude.{◌≡◌, ℕ, ℤ, pos, negsuc, zero, suc, Bool, true, false, List, [], ◌∷◌, ◌++◌, codes}
 use Rattle.std.specs.List.{slice_index_or}
 use Rattle.sgb_gen.specs.Shorthands.{complete, transitive, empty, circuit, cycle, disjoint_subsets, petersen}
@@ -6,11 +6,10 @@ use Rattle.sgb_gen.specs.declared.params.BoardParams.{BoardParams}
 use Rattle.sgb_gen.specs.declared.params.SimplexParams.{SimplexParams}
 use Rattle.sgb_gen.specs.declared.params.SubsetsParams.{SubsetsParams}
 use Rattle.sgb_expr.specs.Numbers.{IsInteger, IsBits}
-use Rattle.sgb_expr.specs.declared.expressions.Expr.{Expr}
-use Rattle.sgb_expr.specs.declared.expressions.Expr.TheVariants as expr
+use Rattle.sgb_expr.specs.declared.expressions.Family.{Family}
 use Rattle.sgb_expr.specs.declared.expressions.Family.TheVariants as family
-use Rattle.sgb_expr.specs.declared.names.Name.{Name}
-use Rattle.sgb_expr.specs.declared.names.Name.TheVariants.{Board, Simplex, Subsets, Complete, Transitive, Empty, Circuit, Cycle, DisjointSubsets, Petersen}
+use Rattle.sgb_expr.specs.declared.names.FamilyName.{FamilyName}
+use Rattle.sgb_expr.specs.declared.names.FamilyName.TheVariants.{Board, Simplex, Subsets, Complete, Transitive, Empty, Circuit, Cycle, DisjointSubsets, Petersen}
 
 -- an integer taken as a flag: true where it is not zero
 abbrev pub flag_of : ℤ → Bool
@@ -71,30 +70,20 @@ AreNumbers separator (suc n) end text numbers =
 abbrev pub AreArguments : ℕ → List ℕ → List ℤ → Type 0
 AreArguments n = AreNumbers [] n (codes ")")
 
--- a board, a simplex, subsets as an expression
-abbrev pub a_board : BoardParams → Expr
-a_board p = expr.Family (family.Board p)
-
-abbrev pub a_simplex : SimplexParams → Expr
-a_simplex p = expr.Family (family.Simplex p)
-
-abbrev pub a_subsets : SubsetsParams → Expr
-a_subsets p = expr.Family (family.Subsets p)
-
--- the text is the arguments of the form of this name, to its `)`, and with them it names this graph
-abbrev pub Names : Name → List ℕ → Expr → Type 0
-Names Board text e = (numbers : List ℤ) × AreArguments 7 text numbers × (e ≡ a_board (board_of numbers))
-Names Simplex text e = (numbers : List ℤ) × AreArguments 7 text numbers × (e ≡ a_simplex (simplex_of numbers))
-Names Subsets text e =
+-- the text is the arguments of the generator's form of this name, to its `)`, and with them it names this graph
+abbrev pub IsFamilyCall : FamilyName → List ℕ → Family → Type 0
+IsFamilyCall Board text f = (numbers : List ℤ) × AreArguments 7 text numbers × (f ≡ family.Board (board_of numbers))
+IsFamilyCall Simplex text f = (numbers : List ℤ) × AreArguments 7 text numbers × (f ≡ family.Simplex (simplex_of numbers))
+IsFamilyCall Subsets text f =
     (numbers : List ℤ) × (size_bits : ℕ) × (directed : List ℤ) × (first bits last : List ℕ)
     × (text ≡ first ++ bits ++ last) × AreNumbers [] 6 (codes ",") first numbers × IsBits bits size_bits
-    × AreNumbers (codes ",") 1 (codes ")") last directed × (e ≡ a_subsets (subsets_of numbers size_bits (number_of directed 0)))
-Names Complete text e = (numbers : List ℤ) × AreArguments 1 text numbers × (e ≡ a_board (complete (number_of numbers 0)))
-Names Transitive text e = (numbers : List ℤ) × AreArguments 1 text numbers × (e ≡ a_board (transitive (number_of numbers 0)))
-Names Empty text e = (numbers : List ℤ) × AreArguments 1 text numbers × (e ≡ a_board (empty (number_of numbers 0)))
-Names Circuit text e = (numbers : List ℤ) × AreArguments 1 text numbers × (e ≡ a_board (circuit (number_of numbers 0)))
-Names Cycle text e = (numbers : List ℤ) × AreArguments 1 text numbers × (e ≡ a_board (cycle (number_of numbers 0)))
-Names DisjointSubsets text e =
+    × AreNumbers (codes ",") 1 (codes ")") last directed × (f ≡ family.Subsets (subsets_of numbers size_bits (number_of directed 0)))
+IsFamilyCall Complete text f = (numbers : List ℤ) × AreArguments 1 text numbers × (f ≡ family.Board (complete (number_of numbers 0)))
+IsFamilyCall Transitive text f = (numbers : List ℤ) × AreArguments 1 text numbers × (f ≡ family.Board (transitive (number_of numbers 0)))
+IsFamilyCall Empty text f = (numbers : List ℤ) × AreArguments 1 text numbers × (f ≡ family.Board (empty (number_of numbers 0)))
+IsFamilyCall Circuit text f = (numbers : List ℤ) × AreArguments 1 text numbers × (f ≡ family.Board (circuit (number_of numbers 0)))
+IsFamilyCall Cycle text f = (numbers : List ℤ) × AreArguments 1 text numbers × (f ≡ family.Board (cycle (number_of numbers 0)))
+IsFamilyCall DisjointSubsets text f =
     (numbers : List ℤ) × AreArguments 2 text numbers
-    × (e ≡ a_subsets (disjoint_subsets (number_of numbers 0) (number_of numbers 1)))
-Names Petersen text e = (numbers : List ℤ) × AreArguments 0 text numbers × (e ≡ a_subsets petersen)
+    × (f ≡ family.Subsets (disjoint_subsets (number_of numbers 0) (number_of numbers 1)))
+IsFamilyCall Petersen text f = (numbers : List ℤ) × AreArguments 0 text numbers × (f ≡ family.Subsets petersen)

@@ -1,47 +1,78 @@
 -- Reading an expression from the beginning of a text: its name, and then its form alone.
-use Rattle.std.specs.Prelude.{ℕ, ℤ, List, [], ◌∷◌, length, codes, Result, Ok, Err}
+use Rattle.std.specs.Prelude.{ℕ, ℤ, zero, suc, List, [], ◌∷◌, length, codes, Result, Ok, Err}
 use Rattle.sgb_gen.specs.Shorthands.{complete, transitive, empty, circuit, cycle, disjoint_subsets, petersen}
-use Rattle.sgb_expr.specs.Forms.{number_of, board_of, simplex_of, subsets_of, a_board, a_simplex, a_subsets}
-use Rattle.sgb_expr.specs.Names.{openings}
-use Rattle.sgb_expr.specs.Readings.{◌>>=◌, word_at, bits_at, integers_at}
-use Rattle.sgb_expr.specs.declared.expressions.Expr.{Expr}
+use Rattle.sgb_expr.specs.Expression.{Expression}
+use Rattle.sgb_expr.specs.Forms.{number_of, board_of, simplex_of, subsets_of}
+use Rattle.sgb_expr.specs.Operations.{Operands, complement_of, gunion_of, intersection_of}
+use Rattle.sgb_expr.specs.Names.{family_openings, openings}
+use Rattle.sgb_expr.specs.Readings.{◌>>=◌, then_read, read_after, read_as, word_at, bits_at, integers_at}
+use Rattle.sgb_expr.specs.declared.expressions.Family.{Family}
+use Rattle.sgb_expr.specs.declared.expressions.Family.TheVariants as family
+use Rattle.sgb_expr.specs.declared.names.FamilyName.{FamilyName}
+use Rattle.sgb_expr.specs.declared.names.FamilyName.TheVariants.{Board, Simplex, Subsets, Complete, Transitive, Empty, Circuit, Cycle, DisjointSubsets, Petersen}
 use Rattle.sgb_expr.specs.declared.names.Name.{Name}
-use Rattle.sgb_expr.specs.declared.names.Name.TheVariants.{Board, Simplex, Subsets, Complete, Transitive, Empty, Circuit, Cycle, DisjointSubsets, Petersen}
+use Rattle.sgb_expr.specs.declared.names.Name.TheVariants as name
 
--- n integers to a `)`, as the expression that is made of them
-abbrev pub integers_as : (List ℤ → Expr) → ℕ → List ℕ → Result (Expr × List ℕ) ℕ
+-- n integers to a `)`, as the generator with its parameters that is made of them
+abbrev pub integers_as : (List ℤ → Family) → ℕ → List ℕ → Result (Family × List ℕ) ℕ
 integers_as make n text = integers_at [] n (codes ")") text >>= λ read. Ok (make read.0, read.1)
 
 -- the arguments of subsets
-abbrev pub subsets_at : List ℕ → Result (Expr × List ℕ) ℕ
+abbrev pub subsets_at : List ℕ → Result (Family × List ℕ) ℕ
 subsets_at text =
     integers_at [] 6 (codes ",") text >>= λ numbers.
     bits_at numbers.1 >>= λ bits.
     integers_at (codes ",") 1 (codes ")") bits.1 >>= λ directed.
-    Ok (a_subsets (subsets_of numbers.0 bits.0 (number_of directed.0 0)), directed.1)
+    Ok (family.Subsets (subsets_of numbers.0 bits.0 (number_of directed.0 0)), directed.1)
 
--- the arguments of the form of this name
-abbrev pub arguments_at : Name → List ℕ → Result (Expr × List ℕ) ℕ
-arguments_at Board = integers_as (λ numbers. a_board (board_of numbers)) 7
-arguments_at Simplex = integers_as (λ numbers. a_simplex (simplex_of numbers)) 7
-arguments_at Subsets = subsets_at
-arguments_at Complete = integers_as (λ numbers. a_board (complete (number_of numbers 0))) 1
-arguments_at Transitive = integers_as (λ numbers. a_board (transitive (number_of numbers 0))) 1
-arguments_at Empty = integers_as (λ numbers. a_board (empty (number_of numbers 0))) 1
-arguments_at Circuit = integers_as (λ numbers. a_board (circuit (number_of numbers 0))) 1
-arguments_at Cycle = integers_as (λ numbers. a_board (cycle (number_of numbers 0))) 1
-arguments_at DisjointSubsets = integers_as (λ numbers. a_subsets (disjoint_subsets (number_of numbers 0) (number_of numbers 1))) 2
-arguments_at Petersen = integers_as (λ numbers. a_subsets petersen) 0
+-- the arguments of the generator's form of this name
+abbrev pub family_at : FamilyName → List ℕ → Result (Family × List ℕ) ℕ
+family_at Board = integers_as (λ numbers. family.Board (board_of numbers)) 7
+family_at Simplex = integers_as (λ numbers. family.Simplex (simplex_of numbers)) 7
+family_at Subsets = subsets_at
+family_at Complete = integers_as (λ numbers. family.Board (complete (number_of numbers 0))) 1
+family_at Transitive = integers_as (λ numbers. family.Board (transitive (number_of numbers 0))) 1
+family_at Empty = integers_as (λ numbers. family.Board (empty (number_of numbers 0))) 1
+family_at Circuit = integers_as (λ numbers. family.Board (circuit (number_of numbers 0))) 1
+family_at Cycle = integers_as (λ numbers. family.Board (cycle (number_of numbers 0))) 1
+family_at DisjointSubsets = integers_as (λ numbers. family.Subsets (disjoint_subsets (number_of numbers 0) (number_of numbers 1))) 2
+family_at Petersen = integers_as (λ numbers. family.Subsets petersen) 0
 
--- the expression with which the text begins
-abbrev pub expression_at : List ℕ → Result (Expr × List ℕ) ℕ
-expression_at text = word_at openings text >>= λ named. arguments_at named.0 named.1
+-- a generator's arguments, as an expression
+abbrev pub generator_at : FamilyName → List ℕ → Result (Expression × List ℕ) ℕ
+generator_at name = read_as Expression.Family (family_at name)
+
+-- a graph and three integers, to a `)`, where `inner` reads the expressions inside
+abbrev pub complement_with : (List ℕ → Result (Expression × List ℕ) ℕ) → List ℕ → Result (Expression × List ℕ) ℕ
+complement_with inner = then_read inner (λ graph. read_as (complement_of graph) (integers_at (codes ",") 3 (codes ")")))
+
+-- two graphs and two integers, to a `)`, where `inner` reads the expressions inside
+abbrev pub operands_with : (List ℕ → Result (Expression × List ℕ) ℕ) → List ℕ → Result (Operands × List ℕ) ℕ
+operands_with inner =
+    then_read inner (λ first. read_after (codes ",") (then_read inner (λ second.
+    read_as (λ numbers. record { first = first; second = second; numbers = numbers }) (integers_at (codes ",") 2 (codes ")")))))
+
+-- the arguments of the form of this name, where `inner` reads the expressions inside
+abbrev pub arguments_with : (List ℕ → Result (Expression × List ℕ) ℕ) → Name → List ℕ → Result (Expression × List ℕ) ℕ
+arguments_with inner (name.Family family) = generator_at family
+arguments_with inner name.Complement = complement_with inner
+arguments_with inner name.Gunion = read_as gunion_of (operands_with inner)
+arguments_with inner name.Intersection = read_as intersection_of (operands_with inner)
+
+-- the expression with which the text begins, where operations stand one in another at most so deep
+abbrev pub nested_at : ℕ → List ℕ → Result (Expression × List ℕ) ℕ
+nested_at zero = then_read (word_at family_openings) generator_at
+nested_at (suc depth) = then_read (word_at openings) (arguments_with (nested_at depth))
+
+-- the expression with which the text begins, whose calls are fewer than the text's bytes
+unfoldable pub expression_at : List ℕ → Result (Expression × List ℕ) ℕ
+expression_at text = nested_at (length text) text
 
 -- nothing is left
-abbrev pub at_end : Expr → List ℕ → Result Expr ℕ
+abbrev pub at_end : Expression → List ℕ → Result Expression ℕ
 at_end e [] = Ok e
 at_end e (byte ∷ rest) = Err (length (byte ∷ rest))
 
 -- the expression that the text is
-abbrev pub whole_at : List ℕ → Result Expr ℕ
+abbrev pub whole_at : List ℕ → Result Expression ℕ
 whole_at text = expression_at text >>= λ read. at_end read.0 read.1

@@ -11,6 +11,14 @@ abbrev pub ◌>>=◌ : {A B : Type 0} → Result A ℕ → (A → Result B ℕ) 
 (Ok x) >>= f = f x
 (Err left) >>= f = Err left
 
+-- one reader and then another
+abbrev pub then_read : {V W : Type 0} → (List ℕ → Result (V × List ℕ) ℕ) → (V → List ℕ → Result (W × List ℕ) ℕ) → List ℕ → Result (W × List ℕ) ℕ
+then_read first second text = first text >>= λ x. second x.0 x.1
+
+-- a reader's value under a function
+abbrev pub read_as : {V W : Type 0} → (V → W) → (List ℕ → Result (V × List ℕ) ℕ) → List ℕ → Result (W × List ℕ) ℕ
+read_as f read text = read text >>= λ x. Ok (f x.0, x.1)
+
 -- the first of two readings that succeeds, else the place that is further on
 abbrev pub either : {A : Type 0} → Result A ℕ → Result A ℕ → Result A ℕ
 either (Ok x) r = Ok x
@@ -26,6 +34,10 @@ fixed_at (byte ∷ bytes) (other ∷ text) = if byte == other then fixed_at byte
 -- the same, as the text of a value
 abbrev pub fixed_as : {V : Type 0} → V → List ℕ → List ℕ → Result (V × List ℕ) ℕ
 fixed_as value bytes text = fixed_at bytes text >>= λ rest. Ok (value, rest)
+
+-- these bytes and then a reader
+abbrev pub read_after : {V : Type 0} → List ℕ → (List ℕ → Result (V × List ℕ) ℕ) → List ℕ → Result (V × List ℕ) ℕ
+read_after bytes read text = fixed_at bytes text >>= read
 
 -- the value of the word, among these, with which the text begins
 abbrev pub word_at : {V : Type 0} → List (List ℕ × V) → List ℕ → Result (V × List ℕ) ℕ

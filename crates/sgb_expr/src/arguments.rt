@@ -1,12 +1,12 @@
-//! The arguments of each form, and the graph that they name.
+//! The arguments of each generator's form, and the graph that they name.
 ghost use Rattle.std.specs.Prelude.{◌≡◌, ◌<◌, ◌^◌, length, nat_abs};
 ghost use Rattle.sgb_gen.specs.Shorthands.{complete, transitive, empty, circuit, cycle, disjoint_subsets, petersen};
-ghost use Rattle.sgb_expr.specs.Forms.{a_subsets, board_of, simplex_of, subsets_of, number_of};
+ghost use Rattle.sgb_expr.specs.Forms.{board_of, simplex_of, subsets_of, number_of};
 ghost use Rattle.sgb_expr.specs.Gives.{Gives};
-ghost use Rattle.sgb_expr.specs.Reading.{arguments_at, subsets_at};
+ghost use Rattle.sgb_expr.specs.Reading.{family_at, subsets_at};
 
-use crate::expressions::{Expr, Family};
-use crate::names::Name;
+use crate::expressions::Family;
+use crate::names::FamilyName;
 use crate::numbers::{bits, integers};
 use crate::wrong::Wrong;
 use sgb_gen::{
@@ -14,62 +14,59 @@ use sgb_gen::{
     petersen, transitive,
 };
 
-/// The expression whose name has been read, and the text after its `)`; or where the text goes wrong.
-pub(crate) fn arguments(name: Name, text: &[u8]) -> Result<(Expr, &[u8]), Wrong>
-    ensures { Gives (λ x. (x.0, x.1.now)) result (arguments_at name text.now) }
+/// The graph of the generator whose name has been read, and the text after its `)`; or where the text goes wrong.
+pub(crate) fn family(name: FamilyName, text: &[u8]) -> Result<(Family, &[u8]), Wrong>
+    ensures { Gives (λ x. (x.0, x.1.now)) result (family_at name text.now) }
 {
     match name {
-        Name::Board => {
+        FamilyName::Board => {
             let (numbers, rest) = integers(b"", text, b")")?;
-            Ok((Expr::Family(Family::Board(board(numbers))), rest))
+            Ok((Family::Board(board(numbers)), rest))
         }
-        Name::Simplex => {
+        FamilyName::Simplex => {
             let (numbers, rest) = integers(b"", text, b")")?;
-            Ok((Expr::Family(Family::Simplex(simplex(numbers))), rest))
+            Ok((Family::Simplex(simplex(numbers)), rest))
         }
-        Name::Subsets => subsets_arguments(text),
-        Name::Complete => {
+        FamilyName::Subsets => subsets_arguments(text),
+        FamilyName::Complete => {
             let ([n], rest) = integers::<1>(b"", text, b")")?;
-            Ok((Expr::Family(Family::Board(complete(n))), rest))
+            Ok((Family::Board(complete(n)), rest))
         }
-        Name::Transitive => {
+        FamilyName::Transitive => {
             let ([n], rest) = integers::<1>(b"", text, b")")?;
-            Ok((Expr::Family(Family::Board(transitive(n))), rest))
+            Ok((Family::Board(transitive(n)), rest))
         }
-        Name::Empty => {
+        FamilyName::Empty => {
             let ([n], rest) = integers::<1>(b"", text, b")")?;
-            Ok((Expr::Family(Family::Board(empty(n))), rest))
+            Ok((Family::Board(empty(n)), rest))
         }
-        Name::Circuit => {
+        FamilyName::Circuit => {
             let ([n], rest) = integers::<1>(b"", text, b")")?;
-            Ok((Expr::Family(Family::Board(circuit(n))), rest))
+            Ok((Family::Board(circuit(n)), rest))
         }
-        Name::Cycle => {
+        FamilyName::Cycle => {
             let ([n], rest) = integers::<1>(b"", text, b")")?;
-            Ok((Expr::Family(Family::Board(cycle(n))), rest))
+            Ok((Family::Board(cycle(n)), rest))
         }
-        Name::DisjointSubsets => {
+        FamilyName::DisjointSubsets => {
             let ([n, k], rest) = integers::<2>(b"", text, b")")?;
-            Ok((Expr::Family(Family::Subsets(disjoint_subsets(n, k))), rest))
+            Ok((Family::Subsets(disjoint_subsets(n, k)), rest))
         }
-        Name::Petersen => {
+        FamilyName::Petersen => {
             let ([], rest) = integers::<0>(b"", text, b")")?;
-            Ok((Expr::Family(Family::Subsets(petersen())), rest))
+            Ok((Family::Subsets(petersen()), rest))
         }
     }
 }
 
 // The arguments of subsets, of which the seventh is bits.
-fn subsets_arguments(text: &[u8]) -> Result<(Expr, &[u8]), Wrong>
+fn subsets_arguments(text: &[u8]) -> Result<(Family, &[u8]), Wrong>
     ensures { Gives (λ x. (x.0, x.1.now)) result (subsets_at text.now) }
 {
     let (numbers, rest) = integers(b"", text, b",")?;
     let (size_bits, rest) = bits(rest)?;
     let ([directed], rest) = integers::<1>(b",", rest, b")")?;
-    Ok((
-        Expr::Family(Family::Subsets(subsets(numbers, size_bits, directed))),
-        rest,
-    ))
+    Ok((Family::Subsets(subsets(numbers, size_bits, directed)), rest))
 }
 
 // The board of these numbers, in the order of its name.

@@ -1,12 +1,12 @@
 //! The expressions that name a graph, and reading them.
-ghost use Rattle.std.specs.Prelude.{◌≡◌, IfOk, List, ℕ};
+ghost use Rattle.std.specs.Prelude.{◌≡◌, IfOk};
+ghost use Rattle.sgb_expr.specs.Expression.{Expression, expression_of};
 ghost use Rattle.sgb_expr.specs.Expressions.{IsExpression, IsReadAs};
 ghost use Rattle.sgb_expr.specs.Gives.{Gives};
-ghost use Rattle.sgb_expr.specs.Reading.{expression_at, whole_at};
+ghost use Rattle.sgb_expr.specs.Reading.{whole_at};
 
-use crate::arguments::arguments;
 use crate::measure::is_too_large;
-use crate::names::opening;
+use crate::operations::expression;
 use crate::wrong::Wrong;
 use sgb_gen::{BoardParams, SimplexParams, SubsetsParams};
 use std::alloc::Global;
@@ -20,10 +20,31 @@ pub enum Family {
 }
 
 /// An expression that names a graph.
-#[derive(Clone, Copy, Debug, PartialEq, Eq)]
+#[derive(Debug, Drop, PartialEq, Eq)]
 pub enum Expr {
     /// A graph of a generator.
     Family(Family),
+    /// The complement of a graph, or a copy of it (GB_BASIC, complement).
+    Complement {
+        graph: Box<Expr>,
+        copy: bool,
+        self_loops: bool,
+        directed: bool,
+    },
+    /// The union of two graphs (GB_BASIC, gunion).
+    Gunion {
+        first: Box<Expr>,
+        second: Box<Expr>,
+        multi: bool,
+        directed: bool,
+    },
+    /// The intersection of two graphs (GB_BASIC, intersection).
+    Intersection {
+        first: Box<Expr>,
+        second: Box<Expr>,
+        multi: bool,
+        directed: bool,
+    },
 }
 
 /// Why a text is not read as an expression.
@@ -47,13 +68,12 @@ pub enum Unread {
 /// when out of memory.
 pub fn read_expr(alloc: Global, text: &[u8]) -> Result<Expr, Unread>
     ensures read { IsReadAs text.now result }
-    ensures only { (e : Expr) → IsExpression text.now e → IfOk result (λ read. read ≡ e) }
+    ensures only { (e : Expression) → IsExpression text.now e → IfOk result (λ read. expression_of read ≡ e) }
 {
-    let _ = alloc;
     if is_too_large(text) {
         return Err(Unread::TooLarge);
     }
-    match whole(text) {
+    match whole(alloc, text) {
         Ok(expression) => Ok(expression),
         Err(Wrong::Left(left)) => Err(Unread::At((text.len() - left) as u32)),
         Err(Wrong::NoRoom) => Err(Unread::NoRoom),
@@ -61,23 +81,15 @@ pub fn read_expr(alloc: Global, text: &[u8]) -> Result<Expr, Unread>
 }
 
 // The expression that the whole text is, or where it goes wrong.
-fn whole(text: &[u8]) -> Result<Expr, Wrong>
-    ensures { Gives (λ e. e) result (whole_at text.now) }
+fn whole(alloc: Global, text: &[u8]) -> Result<Expr, Wrong>
+    ensures { Gives expression_of result (whole_at text.now) }
 {
-    let (expression, rest) = expression(text)?;
+    let (expression, rest) = expression(alloc, text)?;
     if rest.is_empty() {
         Ok(expression)
     } else {
         Err(Wrong::Left(rest.len()))
     }
-}
-
-// The expression with which the text begins, or where the text goes wrong.
-fn expression(text: &[u8]) -> Result<(Expr, &[u8]), Wrong>
-    ensures { Gives (λ x. (x.0, x.1.now)) result (expression_at text.now) }
-{
-    let (name, rest) = opening(text)?;
-    arguments(name, rest)
 }
 
 #[cfg(test)]

@@ -6,6 +6,7 @@ pub mod expressions;
 mod measure;
 mod names;
 mod numbers;
+mod operations;
 mod wrong;
 
 pub use expressions::{Expr, Family, Unread, read_expr};

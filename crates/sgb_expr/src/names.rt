@@ -7,9 +7,9 @@ ghost use Rattle.sgb_expr.specs.Readings.{word_at};
 use crate::numbers::fixed;
 use crate::wrong::Wrong;
 
-/// The name of a form.
+/// The name of a generator, or a short name of some of its graphs.
 #[derive(Clone, Copy, Debug, PartialEq, Eq)]
-pub(crate) enum Name {
+pub(crate) enum FamilyName {
     Board,
     Simplex,
     Subsets,
@@ -22,18 +22,30 @@ pub(crate) enum Name {
     Petersen,
 }
 
+/// The name of a form.
+#[derive(Clone, Copy, Debug, PartialEq, Eq)]
+pub(crate) enum Name {
+    Family(FamilyName),
+    Complement,
+    Gunion,
+    Intersection,
+}
+
 // Each name, once.
-const ALL: [Name; 10] = [
-    Name::Board,
-    Name::Simplex,
-    Name::Subsets,
-    Name::Complete,
-    Name::Transitive,
-    Name::Empty,
-    Name::Circuit,
-    Name::Cycle,
-    Name::DisjointSubsets,
-    Name::Petersen,
+const ALL: [Name; 13] = [
+    Name::Family(FamilyName::Board),
+    Name::Family(FamilyName::Simplex),
+    Name::Family(FamilyName::Subsets),
+    Name::Family(FamilyName::Complete),
+    Name::Family(FamilyName::Transitive),
+    Name::Family(FamilyName::Empty),
+    Name::Family(FamilyName::Circuit),
+    Name::Family(FamilyName::Cycle),
+    Name::Family(FamilyName::DisjointSubsets),
+    Name::Family(FamilyName::Petersen),
+    Name::Complement,
+    Name::Gunion,
+    Name::Intersection,
 ];
 
 /// The name with which the text begins and the text after its parenthesis, or where the text begins no name.
@@ -56,15 +68,18 @@ fn text_of(name: Name) -> &'static [u8]
     ensures { result.now ≡ opening_of name }
 {
     match name {
-        Name::Board => b"board(",
-        Name::Simplex => b"simplex(",
-        Name::Subsets => b"subsets(",
-        Name::Complete => b"complete(",
-        Name::Transitive => b"transitive(",
-        Name::Empty => b"empty(",
-        Name::Circuit => b"circuit(",
-        Name::Cycle => b"cycle(",
-        Name::DisjointSubsets => b"disjoint_subsets(",
-        Name::Petersen => b"petersen(",
+        Name::Family(FamilyName::Board) => b"board(",
+        Name::Family(FamilyName::Simplex) => b"simplex(",
+        Name::Family(FamilyName::Subsets) => b"subsets(",
+        Name::Family(FamilyName::Complete) => b"complete(",
+        Name::Family(FamilyName::Transitive) => b"transitive(",
+        Name::Family(FamilyName::Empty) => b"empty(",
+        Name::Family(FamilyName::Circuit) => b"circuit(",
+        Name::Family(FamilyName::Cycle) => b"cycle(",
+        Name::Family(FamilyName::DisjointSubsets) => b"disjoint_subsets(",
+        Name::Family(FamilyName::Petersen) => b"petersen(",
+        Name::Complement => b"complement(",
+        Name::Gunion => b"gunion(",
+        Name::Intersection => b"intersection(",
     }
 }

@@ -1,4 +1,5 @@
 use super::*;
+use sgb_gen::{circuit, complete, petersen};
 use std::test::Fail;
 
 /// The board with these numbers.
@@ -243,6 +244,187 @@ fn the_longest_prefix_is_that_of_some_form(rt: HostRuntime) {
             "at {text}"
         );
     }
+}
+
+/// The complement with these flags.
+fn complement(alloc: Global, graph: Family, flags: [bool; 3]) -> Result<Expr, Fail> {
+    let [copy, self_loops, directed] = flags;
+    Ok(Expr::Complement {
+        graph: Box::new(alloc, Expr::Family(graph))?,
+        copy,
+        self_loops,
+        directed,
+    })
+}
+
+/// The union with these flags.
+fn gunion(alloc: Global, first: Expr, second: Expr, flags: [bool; 2]) -> Result<Expr, Fail> {
+    let [multi, directed] = flags;
+    Ok(Expr::Gunion {
+        first: Box::new(alloc, first)?,
+        second: Box::new(alloc, second)?,
+        multi,
+        directed,
+    })
+}
+
+/// The intersection with these flags.
+fn intersection(alloc: Global, first: Expr, second: Expr, flags: [bool; 2]) -> Result<Expr, Fail> {
+    let [multi, directed] = flags;
+    Ok(Expr::Intersection {
+        first: Box::new(alloc, first)?,
+        second: Box::new(alloc, second)?,
+        multi,
+        directed,
+    })
+}
+
+#[test]
+fn operations_are_read(rt: HostRuntime) -> Result<(), Fail> {
+    let alloc = rt.alloc();
+    let whole = Family::Board(complete(3));
+    let ring = Family::Board(circuit(5));
+    let famous = Family::Subsets(petersen());
+    for (text, want) in [
+        (
+            "complement(complete(3),0,00,-0)",
+            complement(alloc, whole, [false, false, false])?,
+        ),
+        (
+            "complement(complete(3),1,0,0)",
+            complement(alloc, whole, [true, false, false])?,
+        ),
+        (
+            "complement(petersen(),0,-2,999999999999999999)",
+            complement(alloc, famous, [false, true, true])?,
+        ),
+        (
+            "gunion(complete(3),circuit(5),1,0)",
+            gunion(
+                alloc,
+                Expr::Family(whole),
+                Expr::Family(ring),
+                [true, false],
+            )?,
+        ),
+        (
+            "intersection(circuit(5),complete(3),0,1)",
+            intersection(
+                alloc,
+                Expr::Family(ring),
+                Expr::Family(whole),
+                [false, true],
+            )?,
+        ),
+        (
+            "intersection(gunion(petersen(),circuit(5),0,0),complement(complete(3),0,1,0),1,1)",
+            intersection(
+                alloc,
+                gunion(
+                    alloc,
+                    Expr::Family(famous),
+                    Expr::Family(ring),
+                    [false, false],
+                )?,
+                complement(alloc, whole, [false, true, false])?,
+                [true, true],
+            )?,
+        ),
+    ] {
+        assert_eq!(rt; read_expr(alloc, text.as_bytes()), Ok(want), "at {text}");
+    }
+    Ok(())
+}
+
+#[test]
+fn operations_go_wrong_somewhere(rt: HostRuntime) {
+    for (text, want) in [
+        ("complement(", 11),
+        ("complement()", 11),
+        ("complet", 7),
+        ("complex(3)", 6),
+        ("complement(complete(3", 21),
+        ("complement(complete(3,0,0,0)", 21),
+        ("complement(complete(3))", 22),
+        ("complement(complete(3),0,0)", 26),
+        ("complement(complete(3),0,0,0", 28),
+        ("complement(complete(3),0,0,0,0)", 28),
+        ("complement(petersen(),0,0,0)x", 28),
+        ("complement( petersen(),0,0,0)", 11),
+        ("complement(board(1,2,3,4,5,6),0,0,0)", 28),
+        ("complement(gunion(", 18),
+        ("gunion(petersen()petersen(),0,0)", 17),
+        ("gunion(petersen(),0,0)", 18),
+        ("gunion(petersen(),,0,0)", 18),
+        ("gunion(petersen(),petersen(1),0,0)", 27),
+        ("gunion(petersen(),petersen()0,0)", 28),
+        ("gunion(petersen(),petersen(),x,0)", 29),
+        ("gunion(petersen(),petersen(),0x1,0)", 30),
+        ("gunion(petersen(),petersen(),0)", 30),
+        ("intersection(empty(1),complement(inter(", 38),
+        ("intersection(empty(1),complement(empty(1),1),0,0)", 43),
+        ("intersections(", 12),
+        ("petersen(),0,0)", 10),
+    ] {
+        assert_eq!(rt;
+            read_expr(rt.alloc(), text.as_bytes()),
+            bad(want),
+            "at {text}"
+        );
+    }
+}
+
+/// So many complements one in another, the innermost of the petersen graph; without their ends if not `ended`.
+fn complements(alloc: Global, count: usize, ended: bool) -> Result<String, Fail> {
+    let mut text = String::new(alloc);
+    for _ in 0..count {
+        text.push_str("complement(")?;
+    }
+    if !ended {
+        return Ok(text);
+    }
+    text.push_str("petersen()")?;
+    for _ in 0..count {
+        text.push_str(",0,0,0)")?;
+    }
+    Ok(text)
+}
+
+#[test]
+fn parentheses_are_open_at_most_64_deep(rt: HostRuntime) -> Result<(), Fail> {
+    let alloc = rt.alloc();
+    let deep = complements(alloc, 63, true)?;
+    assert!(rt; read_expr(alloc, deep.as_bytes()).is_ok());
+    let deeper = complements(alloc, 64, true)?;
+    assert_eq!(rt; read_expr(alloc, deeper.as_bytes()), Err(Unread::TooLarge));
+    let begun = complements(alloc, 64, false)?;
+    assert_eq!(rt; read_expr(alloc, begun.as_bytes()), bad(704));
+    Ok(())
+}
+
+/// The union of the graph with itself, with this text in place of its flags.
+fn doubled(alloc: Global, graph: &str, flags: &str) -> Result<String, Fail> {
+    let mut text = String::from_str(alloc, "gunion(")?;
+    text.push_str(graph)?;
+    text.push(',')?;
+    text.push_str(graph)?;
+    text.push_str(flags)?;
+    Ok(text)
+}
+
+#[test]
+fn unions_of_65536_bytes_are_read(rt: HostRuntime) -> Result<(), Fail> {
+    let alloc = rt.alloc();
+    let mut graph = String::from_str(alloc, "transitive(1234567)")?;
+    for _ in 0..10 {
+        graph = doubled(alloc, graph.as_str(), ",0,0)")?;
+    }
+    let longest = doubled(alloc, graph.as_str(), ",00000000000000,0)")?;
+    assert_eq!(rt; longest.len(), 65_536);
+    assert!(rt; read_expr(alloc, longest.as_bytes()).is_ok());
+    let longer = doubled(alloc, graph.as_str(), ",000000000000000,0)")?;
+    assert_eq!(rt; read_expr(alloc, longer.as_bytes()), Err(Unread::TooLarge));
+    Ok(())
 }
 
 #[test]

@@ -1,0 +1,203 @@
+-- Expressions inside expressions: their readers, and that as many levels as the text has bytes are enough.
+use Rattle.std.proofs.Common.{◌≡◌, ◌≤◌, ◌<◌, ◌&&◌, ℕ, zero, suc, Bool, true, false, List, [], ◌∷◌, ◌++◌, map, length, get_or, Ok, Err, refl, sym, ◌∙◌, ap, subst, inl, inr, arith, length-append, lit<}
+use Rattle.std.proofs.lemmas.Bool.{cases_lt}
+use Rattle.sgb_expr.specs.Expression.{Expression}
+use Rattle.sgb_expr.specs.Expressions.{IsNested}
+use Rattle.sgb_expr.specs.Gives.{Fails}
+use Rattle.sgb_expr.specs.Languages.{Then}
+use Rattle.sgb_expr.specs.Names.{all_names, all_family_names, family_openings, openings, opening_of}
+use Rattle.sgb_expr.specs.Operations.{IsCallOf, IsGenerator}
+use Rattle.sgb_expr.specs.Readings.{then_read, word_at}
+use Rattle.sgb_expr.specs.Reading.{arguments_with, expression_at, nested_at}
+use Rattle.sgb_expr.specs.declared.names.FamilyName.{FamilyName}
+use Rattle.sgb_expr.specs.declared.names.FamilyName.TheVariants.{Board, Simplex, Subsets, Complete, Transitive, Empty, Circuit, Cycle, DisjointSubsets, Petersen}
+use Rattle.sgb_expr.specs.declared.names.Name.{Name}
+use Rattle.sgb_expr.specs.declared.names.Name.TheVariants.{Family, Complement, Gunion, Intersection}
+use Rattle.sgb_expr.specs.declared.wrong.Wrong.{Wrong}
+use Rattle.sgb_expr.specs.declared.wrong.Wrong.TheVariants.{Left, NoRoom}
+use Rattle.sgb_expr.proofs.Readers.{Reads, bind_of, bind_stops, reads_then, reads_as, reads_is}
+use Rattle.sgb_expr.proofs.Words.{Anything, IsWord, both_true, reads_words}
+use Rattle.sgb_expr.proofs.FamilyReaders.{reads_family}
+use Rattle.sgb_expr.proofs.Forms.{Within, form_of, no_longer, bind_agrees}
+
+-- a word stands among those of its list
+word_there : {N : Type 0} (opening : N → List ℕ) (names : List N) (i : ℕ) (default : N) → i < length names → IsWord (map (λ n. (opening n, n)) names) (opening (get_or names i default)) (get_or names i default)
+word_there opening [] i default h = absurd (omega (arith, h))
+word_there opening (n ∷ []) zero default h = (refl, refl)
+word_there opening (n ∷ []) (suc i) default h = absurd (omega (arith, h))
+word_there opening (n ∷ m ∷ names) zero default h = inl (refl, refl)
+word_there opening (n ∷ m ∷ names) (suc i) default h = inr (word_there opening (m ∷ names) i default (omega (arith, h)))
+
+-- the opening of generator i stands among theirs
+family_there : (i : ℕ) → i < 10 → IsWord family_openings (opening_of (Family (get_or all_family_names i Board))) (get_or all_family_names i Board)
+unfolding family_openings
+family_there i h = word_there (λ name. opening_of (Family name)) all_family_names i Board h
+
+family_is_there : (name : FamilyName) → IsWord family_openings (opening_of (Family name)) name
+family_is_there Board = family_there 0 (lit< tt)
+family_is_there Simplex = family_there 1 (lit< tt)
+family_is_there Subsets = family_there 2 (lit< tt)
+family_is_there Complete = family_there 3 (lit< tt)
+family_is_there Transitive = family_there 4 (lit< tt)
+family_is_there Empty = family_there 5 (lit< tt)
+family_is_there Circuit = family_there 6 (lit< tt)
+family_is_there Cycle = family_there 7 (lit< tt)
+family_is_there DisjointSubsets = family_there 8 (lit< tt)
+family_is_there Petersen = family_there 9 (lit< tt)
+
+-- the opening of form i stands among all
+there : (i : ℕ) → i < 13 → IsWord openings (opening_of (get_or all_names i Complement)) (get_or all_names i Complement)
+unfolding openings
+there i h = word_there opening_of all_names i Complement h
+
+name_is_there : (name : Name) → IsWord openings (opening_of name) name
+name_is_there (Family Board) = there 0 (lit< tt)
+name_is_there (Family Simplex) = there 1 (lit< tt)
+name_is_there (Family Subsets) = there 2 (lit< tt)
+name_is_there (Family Complete) = there 3 (lit< tt)
+name_is_there (Family Transitive) = there 4 (lit< tt)
+name_is_there (Family Empty) = there 5 (lit< tt)
+name_is_there (Family Circuit) = there 6 (lit< tt)
+name_is_there (Family Cycle) = there 7 (lit< tt)
+name_is_there (Family DisjointSubsets) = there 8 (lit< tt)
+name_is_there (Family Petersen) = there 9 (lit< tt)
+name_is_there Complement = there 10 (lit< tt)
+name_is_there Gunion = there 11 (lit< tt)
+name_is_there Intersection = there 12 (lit< tt)
+
+-- an opening is that of its name
+opening_is : {N : Type 0} (opening : N → List ℕ) (names : List N) (text : List ℕ) (name : N) → IsWord (map (λ n. (opening n, n)) names) text name → text ≡ opening name
+opening_is opening [] text name w = absurd w
+opening_is opening (n ∷ []) text name w = w.0 ∙ ap opening (sym w.1)
+opening_is opening (n ∷ m ∷ names) text name (inl w) = w.0 ∙ ap opening (sym w.1)
+opening_is opening (n ∷ m ∷ names) text name (inr w) = opening_is opening (m ∷ names) text name w
+
+-- each word has a first byte
+abbrev starts : List ℕ → Bool
+starts [] = false
+starts (byte ∷ bytes) = true
+
+abbrev all_start : {V : Type 0} → List (List ℕ × V) → Bool
+all_start [] = true
+all_start (word ∷ words) = starts word.0 && all_start words
+
+some_bytes : (bytes : List ℕ) → starts bytes ≡ true → 0 < length bytes
+some_bytes [] e = absurd (cc)
+some_bytes (byte ∷ bytes) e = omega arith
+
+word_starts : {V : Type 0} (words : List (List ℕ × V)) (text : List ℕ) (v : V) → all_start words ≡ true → IsWord words text v → 0 < length text
+word_starts [] text v e w = absurd w
+word_starts (word ∷ []) text v e w = some_bytes text (ap starts w.0 ∙ (both_true (starts word.0) true e).0)
+word_starts (word ∷ other ∷ words) text v e (inl w) = some_bytes text (ap starts w.0 ∙ (both_true (starts word.0) (all_start (other ∷ words)) e).0)
+word_starts (word ∷ other ∷ words) text v e (inr w) = word_starts (other ∷ words) text v (both_true (starts word.0) (all_start (other ∷ words)) e).1 w
+
+-- readers of openings
+reads_family_openings : Reads (IsWord family_openings) Anything (word_at family_openings)
+unfolding family_openings
+reads_family_openings =
+    let later = Simplex ∷ Subsets ∷ Complete ∷ Transitive ∷ Empty ∷ Circuit ∷ Cycle ∷ DisjointSubsets ∷ Petersen ∷ [] in
+    reads_words (opening_of (Family Board), Board) (map (λ name. (opening_of (Family name), name)) later) refl
+
+reads_openings : Reads (IsWord openings) Anything (word_at openings)
+unfolding openings
+reads_openings =
+    let families = Simplex ∷ Subsets ∷ Complete ∷ Transitive ∷ Empty ∷ Circuit ∷ Cycle ∷ DisjointSubsets ∷ Petersen ∷ [] in
+    let later = map (λ name. Family name) families ++ Complement ∷ Gunion ∷ Intersection ∷ [] in
+    reads_words (opening_of (Family Board), Family Board) (map (λ name. (opening_of name, name)) later) refl
+
+-- what is left after a name is shorter than the text
+openings_start : all_start openings ≡ true
+unfolding openings
+openings_start = refl
+
+pub opening_shorter : (text : List ℕ) (name : Name) (rest : List ℕ) → word_at openings text ≡ Ok (name, rest) → length rest < length text
+opening_shorter text name rest e =
+    let f = reads_openings.found text name rest e in
+    let some = word_starts openings f.word name openings_start f.is in
+    omega (arith, some, ap length f.whole, length-append f.word rest)
+
+-- expressions in which no operation stands
+generator_is : (text : List ℕ) (e : Expression) → Then (IsWord family_openings) IsGenerator text e → IsNested 0 text e
+unfolding family_openings
+generator_is text e h = (h.2, h.1, h.3 ∙ ap (λ u. u ++ h.1) (opening_is (λ name. opening_of (Family name)) all_family_names h.0 h.2 h.4), h.5)
+
+generator_from : (text : List ℕ) (e : Expression) → IsNested 0 text e → Then (IsWord family_openings) IsGenerator text e
+generator_from text e h = (opening_of (Family h.0), h.1, h.0, h.2, family_is_there h.0, h.3)
+
+-- expressions in which operations may stand
+call_is : (depth : ℕ) (text : List ℕ) (e : Expression) → Then (IsWord openings) (IsCallOf (IsNested depth)) text e → IsNested (suc depth) text e
+unfolding openings
+call_is depth text e h = (h.2, h.1, h.3 ∙ ap (λ u. u ++ h.1) (opening_is opening_of all_names h.0 h.2 h.4), h.5)
+
+call_from : (depth : ℕ) (text : List ℕ) (e : Expression) → IsNested (suc depth) text e → Then (IsWord openings) (IsCallOf (IsNested depth)) text e
+call_from depth text e h = (opening_of h.0, h.1, h.0, h.2, name_is_there h.0, h.3)
+
+-- a reader of expressions to each depth
+pub reads_nested : (depth : ℕ) → Reads (IsNested depth) Anything (nested_at depth)
+reads_nested zero =
+    reads_is generator_is generator_from
+    (reads_then reads_family_openings (λ name. reads_as Expression.Family (reads_family name)) (λ v word tail value w t. tt))
+reads_nested (suc depth) =
+    reads_is (call_is depth) (call_from depth)
+    (reads_then reads_openings (λ name. (form_of name).reads (IsNested depth) (nested_at depth) (reads_nested depth)) (λ v word tail value w t. tt))
+
+-- an expression stands at each greater depth
+deeper : (depth : ℕ) → Within (IsNested depth) (IsNested (suc depth))
+deeper zero text e w = (Family w.0, w.1, w.2, w.3)
+deeper (suc depth) text e w = (w.0, w.1, w.2, (form_of w.0).more (IsNested depth) (IsNested (suc depth)) (deeper depth) w.1 e w.3)
+
+pub deep_enough : (more depth : ℕ) → depth ≤ more → Within (IsNested depth) (IsNested more)
+deep_enough zero depth h text e w =
+    let none : depth ≡ zero = omega (arith, h) in
+    subst (λ (d : ℕ). IsNested d text e) none w
+deep_enough (suc more) depth h text e w = elim (cases_lt depth (suc more)) [
+  | inl lt ↦ deeper more text e (deep_enough more depth (omega (arith, lt)) text e w)
+  | inr ge ↦
+      let all : depth ≡ suc more = omega (arith, h, ge) in
+      subst (λ (d : ℕ). IsNested d text e) all w
+]
+
+-- nothing is read of nothing
+nothing_read : (depth : ℕ) → nested_at depth [] ≡ Err 0
+unfolding family_openings openings
+nothing_read zero = refl
+nothing_read (suc depth) = refl
+
+-- depths of at least the text's length are all the same
+pub enough : (depth other : ℕ) (text : List ℕ) → length text ≤ depth → length text ≤ other → nested_at depth text ≡ nested_at other text
+enough depth other [] h k = nothing_read depth ∙ sym (nothing_read other)
+enough zero other (byte ∷ text) h k = absurd (omega (arith, h))
+enough (suc depth) zero (byte ∷ text) h k = absurd (omega (arith, k))
+enough (suc depth) (suc other) (byte ∷ text) h k =
+    bind_agrees (word_at openings (byte ∷ text)) (λ x. arguments_with (nested_at depth) x.0 x.1) (λ x. arguments_with (nested_at other) x.0 x.1)
+    (λ x e.
+    let shorter = opening_shorter (byte ∷ text) x.0 x.1 e in
+    (form_of x.0).agrees (IsNested depth) (nested_at depth) (nested_at other) (length x.1) (reads_nested depth)
+    (λ u within. enough depth other u (omega (arith, within, shorter, h)) (omega (arith, within, shorter, k))) x.1 (omega arith))
+
+-- an expression is read to any depth of at least its length
+pub expression_nested : (depth : ℕ) (text : List ℕ) → length text ≤ depth → expression_at text ≡ nested_at depth text
+unfolding expression_at
+expression_nested depth text h = enough (length text) depth text (omega arith) h
+
+-- an expression is read by its name, and then its form, in which expressions are read
+pub expression_read : (text : List ℕ) → expression_at text ≡ then_read (word_at openings) (arguments_with expression_at) text
+expression_read text =
+    expression_nested (suc (length text)) text (omega arith)
+    ∙ bind_agrees (word_at openings text) (λ x. arguments_with (nested_at (length text)) x.0 x.1) (λ x. arguments_with expression_at x.0 x.1)
+    (λ x e. (form_of x.0).agrees (IsNested (length text)) (nested_at (length text)) expression_at (length text) (reads_nested (length text))
+    (λ u within. sym (expression_nested (length text) u within)) x.1 (omega (arith, opening_shorter text x.0 x.1 e)))
+
+-- what is left after an expression is no longer than the text
+pub expression_no_longer : (text : List ℕ) (e : Expression) (rest : List ℕ) → expression_at text ≡ Ok (e, rest) → length rest ≤ length text
+expression_no_longer text e rest h =
+    no_longer (reads_nested (length text)) text e rest (sym (expression_nested (length text) text (omega arith)) ∙ h)
+
+-- after a name its form is read
+pub name_read : (text : List ℕ) (name : Name) (rest : List ℕ) → word_at openings text ≡ Ok (name, rest) → expression_at text ≡ arguments_with expression_at name rest
+name_read text name rest e = expression_read text ∙ bind_of (word_at openings text) (λ x. arguments_with expression_at x.0 x.1) (name, rest) e
+
+-- where no name begins, no expression does
+pub name_wrong : (w : Wrong) (text : List ℕ) → Fails w (word_at openings text) → Fails w (expression_at text)
+name_wrong (Left left) text e = expression_read text ∙ bind_stops (word_at openings text) (λ x. arguments_with expression_at x.0 x.1) left e
+name_wrong NoRoom text e = tt

@@ -1,0 +1,15 @@
+use Rattle.std.proofs.Common.{◌+◌, ◌*◌, length}
+use Rattle.sgb_expr.proofs.operations.+expressions.Given as goal
+
+-- a name is taken off, then the arguments are told apart, then expressions inside are read
+abbrev pub decreases-expression : goal.decreases-expression
+decreases-expression l = 3 * length l.text.now
+
+abbrev pub decreases-arguments : goal.decreases-arguments
+decreases-arguments l = 3 * length l.text.now + 2
+
+abbrev pub decreases-complement : goal.decreases-complement
+decreases-complement l = 3 * length l.text.now + 1
+
+abbrev pub decreases-operands : goal.decreases-operands
+decreases-operands l = 3 * length l.text.now + 1

@@ -1,0 +1,14 @@
+-- Languages: which texts are words, and of which values; words one after another.
+use Rattle.std.specs.Prelude.{◌≡◌, ℕ, List, ◌++◌}
+
+-- a word of the first language and then one of the second, which may depend on the first's value
+abbrev pub Then : {V W : Type 0} → (List ℕ → V → Type 0) → (V → List ℕ → W → Type 0) → List ℕ → W → Type 0
+Then {V} First Second word value = (a b : List ℕ) × (v : V) × (word ≡ a ++ b) × First a v × Second v b value
+
+-- these bytes and then a word
+abbrev pub After : {V : Type 0} → List ℕ → (List ℕ → V → Type 0) → List ℕ → V → Type 0
+After bytes Word word value = (rest : List ℕ) × (word ≡ bytes ++ rest) × Word rest value
+
+-- words of the function's values
+abbrev pub As : {V W : Type 0} → (V → W) → (List ℕ → V → Type 0) → List ℕ → W → Type 0
+As {V} f Word word value = (v : V) × Word word v × (value ≡ f v)

@@ -1,0 +1,47 @@
+-- What the forms of all names mean: the arguments of each, where the expressions inside are words of a language.
+use Rattle.std.specs.Prelude.{ℕ, ℤ, Bool, List, codes}
+use Rattle.sgb_expr.specs.Expression.{Expression}
+use Rattle.sgb_expr.specs.Forms.{AreNumbers, IsFamilyCall, flag_of, number_of}
+use Rattle.sgb_expr.specs.Languages.{After, As, Then}
+use Rattle.sgb_expr.specs.declared.names.FamilyName.{FamilyName}
+use Rattle.sgb_expr.specs.declared.names.Name.{Name}
+use Rattle.sgb_expr.specs.declared.names.Name.TheVariants.{Family, Complement, Gunion, Intersection}
+
+-- integer number k of some, counted from 0, as a flag
+abbrev pub flag_at : List ℤ → ℕ → Bool
+flag_at numbers k = flag_of (number_of numbers k)
+
+-- complement(graph,copy,self_loops,directed)
+abbrev pub complement_of : Expression → List ℤ → Expression
+complement_of graph numbers = Expression.Complement graph (flag_at numbers 0) (flag_at numbers 1) (flag_at numbers 2)
+
+-- two graphs, and two integers after them
+pub record Operands : Type 0 where
+  pub first : Expression
+  pub second : Expression
+  pub numbers : List ℤ
+
+-- gunion(first,second,multi,directed)
+abbrev pub gunion_of : Operands → Expression
+gunion_of o = Expression.Gunion o.first o.second (flag_at o.numbers 0) (flag_at o.numbers 1)
+
+-- intersection(first,second,multi,directed)
+abbrev pub intersection_of : Operands → Expression
+intersection_of o = Expression.Intersection o.first o.second (flag_at o.numbers 0) (flag_at o.numbers 1)
+
+-- the text is the arguments of the generator's form of this name, and with them it is this expression
+abbrev pub IsGenerator : FamilyName → List ℕ → Expression → Type 0
+IsGenerator name = As Expression.Family (IsFamilyCall name)
+
+-- two graphs and two integers, to a `)`, where Inner tells the texts of the expressions inside
+abbrev pub AreOperands : (List ℕ → Expression → Type 0) → List ℕ → Operands → Type 0
+AreOperands Inner =
+    Then Inner (λ first. After (codes ",") (Then Inner (λ second.
+    As (λ numbers. record { first = first; second = second; numbers = numbers }) (AreNumbers (codes ",") 2 (codes ")")))))
+
+-- the text is the arguments of the form of this name, to its `)`, where Inner tells the texts of the expressions inside
+abbrev pub IsCallOf : (List ℕ → Expression → Type 0) → Name → List ℕ → Expression → Type 0
+IsCallOf Inner (Family name) = IsGenerator name
+IsCallOf Inner Complement = Then Inner (λ graph. As (complement_of graph) (AreNumbers (codes ",") 3 (codes ")")))
+IsCallOf Inner Gunion = As gunion_of (AreOperands Inner)
+IsCallOf Inner Intersection = As intersection_of (AreOperands Inner)
