@@ -1,16 +1,14 @@
 -- Parameters are refused for what they are: never out of memory.
-use Rattle.std.proofs.Common.{◌≡◌, ◌≢◌, ℕ, ℤ, pos, negsuc, Bool, true, false, cond, List, [], ◌∷◌, Option, Some, None, Result, Ok, Err, length, ap, nat_lt}
-use Rattle.sgb_vec.specs.Bounds.{bounds_count, bounds_to_repeat, first_parameter, simplex_by_stop, simplex_of}
-use Rattle.sgb_vec.specs.Boxes.{box_of, product_of}
-use Rattle.sgb_vec.specs.Limits.{most_dimensions, most_vertices}
+use Rattle.std.proofs.Common.{◌≡◌, ◌≢◌, ℕ, ℤ, pos, negsuc, Bool, true, false, cond, List, [], ◌∷◌, Option, Some, None, Result, Ok, Err, ap}
+use Rattle.sgb_vec.specs.Bounds.{simplex_of}
+use Rattle.sgb_vec.specs.Boxes.{box_of}
 use Rattle.sgb_vec.specs.Results.{and_then}
-use Rattle.sgb_vec.specs.Sizes.{before_stop, board_by_stop, board_of, count_by_stop, has_great_size, sizes_by_stop, stop_of}
-use Rattle.sgb_vec.specs.Sums.{has_great_count, sum_of}
+use Rattle.sgb_vec.specs.Sizes.{before_stop, board_by_stop, board_of, stop_of}
+use Rattle.sgb_vec.specs.Sums.{sum_of}
 use Rattle.sgb_vec.specs.declared.panics.Panic.{Panic}
 use Rattle.sgb_vec.specs.declared.panics.Panic.TheVariants.{Bad, NoRoom, VeryBad}
 use Rattle.sgb_graph.specs.Graphs.{GraphData}
-use Rattle.sgb_gen.specs.Boards.{accepted_board, board, piece_of}
-use Rattle.sgb_gen.specs.Limits.{most_piece}
+use Rattle.sgb_gen.specs.Boards.{accepted_board, board}
 use Rattle.sgb_gen.specs.Simplexes.{accepted_simplex, simplex}
 use Rattle.sgb_gen.specs.Subsets.{accepted_subsets, subsets}
 use Rattle.sgb_gen.specs.declared.params.BoardParams.{BoardParams}
@@ -19,7 +17,7 @@ use Rattle.sgb_gen.specs.declared.params.SubsetsParams.{SubsetsParams}
 use Rattle.sgb_expr.specs.Expression.{Expression, Family, Complement, Gunion, Intersection, expression_of}
 use Rattle.sgb_expr.specs.declared.expressions.Family.{Family as AFamily}
 use Rattle.sgb_expr.specs.declared.expressions.Family.TheVariants as family
-use Rattle.sgb.specs.Outcomes.{answer_after, answer_from, answer_of, left_out, left_out_by, list_answer, names_answer, queen_moves, vertex_named}
+use Rattle.sgb.specs.Outcomes.{answer_after, answer_from, answer_of, left_out, left_out_by, queen_moves, vertex_named}
 use Rattle.sgb.specs.Values.{family_value, value_of}
 use Rattle.sgb.specs.declared.faults.Fault.{Fault}
 use Rattle.sgb.specs.declared.faults.Fault.TheVariants as fault

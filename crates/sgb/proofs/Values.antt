@@ -1,8 +1,9 @@
 -- Values of expressions, from those of their operands.
-use Rattle.std.proofs.Common.{◌∙◌, length, ◌≡◌, ◌⊎◌, Result, Ok, Err, ap, sym, subst, inl, inr}
+use Rattle.std.proofs.Common.{◌∙◌, ◌≡◌, Result, Ok, Err, ap, sym, subst, inl, inr}
 use Rattle.sgb_vec.specs.Results.{and_then}
 use Rattle.sgb_vec.specs.declared.panics.Panic.{Panic}
-use Rattle.sgb_graph.specs.Descriptions.{Description, IsGraphOf, IsAnswerOf}
+use Rattle.sgb_graph.specs.Descriptions.{Description, IsAnswerOf}
+use Rattle.sgb_graph.proofs.Described.{described_names, described_only}
 use Rattle.sgb_graph.specs.Graphs.{GraphData}
 use Rattle.sgb_graph.specs.Made.{graph_described}
 use Rattle.std.proofs.lemmas.List.{length-map}
@@ -15,12 +16,6 @@ use Rattle.sgb_ops.specs.Operands.{names_of}
 use Rattle.sgb.specs.Values.{IsValue, described, made}
 use Rattle.sgb.specs.declared.evaluation.Local.{Local}
 use Rattle.sgb.specs.declared.evaluation.Local.TheVariants as local
-
-described_only : (d : Description) (g : GraphData) → IsGraphOf d g → g ≡ graph_described d
-described_only d g is = ?
-
-described_names : (d : Description) → length d.fields ≡ length d.names → names_of (graph_described d) ≡ d.names
-described_names d same = ?
 
 -- the vertices of accepted parameters have the names of their vectors
 pub local_names : (l : Local) → names_of (graph_described (described l)) ≡ (described l).names

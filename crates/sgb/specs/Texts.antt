@@ -1,5 +1,5 @@
 -- The texts of graphs: the names of the vertices, and the listing, each vertex with its arcs.
-use Rattle.std.specs.Prelude.{ℕ, ◌-◌, List, [], ◌∷◌, ◌++◌, map, length, drop, codes, decimal}
+use Rattle.std.specs.Prelude.{ℕ, ◌-◌, List, [], ◌∷◌, ◌++◌, length, drop, codes, decimal}
 use Rattle.std.specs.Fmt.{signed_decimal}
 use Rattle.std.specs.List.{flat_map, range_with_len, slice_index_or}
 use Rattle.sgb_graph.specs.Graphs.{GraphData, chain_of}

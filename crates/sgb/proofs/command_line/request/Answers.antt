@@ -1,10 +1,9 @@
-use Rattle.std.proofs.Common.{◌≡◌, List, Option, Ok, Err, map, codes, subst, inr}
+use Rattle.std.proofs.Common.{List, Option, map, codes, subst, inr}
 use Rattle.std.proofs.lemmas.Result.{err_from_is_err_and}
 use Rattle.std.specs.String.{string_bytes}
 use Rattle.clap.specs.Words.{Text}
 use Rattle.sgb.specs.CommandLine.{Asks, EntersSubcommand, bytes_of}
-use Rattle.sgb.specs.Requests.{AreRefused, IsCommandLineReadAs, IsRefusedCommandLine}
-use Rattle.sgb.specs.declared.arguments.Subcommand.{Subcommand}
+use Rattle.sgb.specs.Requests.{AreRefused, IsRefusedCommandLine}
 use Rattle.sgb.specs.declared.faults.Fault.{Fault}
 use Rattle.sgb.specs.declared.faults.Fault.TheVariants as fault
 use Rattle.sgb.proofs.command_line.request.Goals as goal
@@ -14,7 +13,7 @@ refused : (words : List Text) (command text : Text) (after skip : Option Text) (
     → IsRefusedCommandLine words f
 refused words command text after skip fault.Usage asks h = inr (command, text, after, skip, asks, h)
 refused words command text after skip fault.TooLarge asks h = (command, text, after, skip, asks, h.0, h.1)
-refused words command text after skip (fault.Expr k) asks h = (command, text, after, skip, asks, h)
+refused words command text after skip (fault.Expr k) asks h = (command, text, after, skip, asks, h.0, h.1)
 refused words command text after skip (fault.Panic p) asks h = h
 refused words command text after skip fault.NoVertex asks h = absurd h.1
 refused words command text after skip fault.Read asks h = absurd h.1

@@ -1,4 +1,3 @@
-use Rattle.std.proofs.Common.{sym, subst}
 use Rattle.std.proofs.lemmas.Result.{err_from_is_err_and}
 use Rattle.sgb.proofs.Endings.{ended_value, refused_value}
 use Rattle.sgb.proofs.runs.answer_names.Goals as goal
