@@ -1,5 +1,5 @@
 # make          proves and builds the program; leaves it as ./sgb
-# make demo     that, and two small graphs
+# make demo     that, and three small graphs
 # make check    the gate: all proofs from nothing, the must-fail edits, the tests, the program
 # make install  puts the program into $(PREFIX)/bin
 
@@ -15,6 +15,7 @@ sgb: FORCE
 demo: sgb
 	./sgb names "board(2,3,0,0,1,0,0)"
 	./sgb list "petersen()"
+	./sgb queen
 
 check:
 	bash .ci/run

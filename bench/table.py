@@ -37,6 +37,11 @@ REQUESTS = [
     ["list", "simplex(1000,-2,0,0,0,0,0)"],
     ["list", "disjoint_subsets(15,6)"],
     ["list", "subsets(20,5,-5,0,0,0,0xff,0)"],
+    # operations: queens on 80 x 80 beside the rooks alone, a complement, an intersection
+    ["list", "board(80,80,0,0,-1,0,0)"],
+    ["list", "gunion(board(80,80,0,0,-1,0,0),board(80,80,0,0,-2,0,0),0,0)"],
+    ["list", "complement(board(1500,0,0,0,1,0,0),0,0,0)"],
+    ["list", "intersection(board(80,80,0,0,-1,0,0),board(80,80,0,0,-2,0,0),1,0)"],
 ]
 
 
@@ -53,14 +58,14 @@ def cost(words):
 
 def main():
     wanted = sys.argv[1:]
-    print(f"{'request':<56} {'seconds':>8} {'peak MB':>8} {'bytes out':>12}")
+    print(f"{'request':<66} {'seconds':>8} {'peak MB':>8} {'bytes out':>12}")
     for words in REQUESTS:
         text = " ".join(words)
         if wanted and not any(word in text for word in wanted):
             continue
         status, seconds, peak, count = cost(words)
         note = "" if status == 0 else f"  status {status}"
-        print(f"{text:<56} {seconds:>8.2f} {peak / 1024:>8.0f} {count:>12}{note}", flush=True)
+        print(f"{text:<66} {seconds:>8.2f} {peak / 1024:>8.0f} {count:>12}{note}", flush=True)
 
 
 if __name__ == "__main__":
