@@ -2,6 +2,9 @@
 pub mod Taking
 pub mod Ends
 pub mod Merging
+pub mod MergeSteps
+pub mod EventsWithin
+pub mod UnionEvents
 pub mod Marks
 pub mod Results
 pub mod ComplementEvents

@@ -4,6 +4,7 @@ pub mod Lengths
 pub mod Taken
 pub mod TakenArcs
 pub mod Merged
+pub mod Ends
 pub mod Titles
 pub mod Complement
 pub mod Gunion
