@@ -5,6 +5,7 @@ pub mod Taken
 pub mod TakenArcs
 pub mod Merged
 pub mod Ends
+pub mod Tallies
 pub mod Titles
 pub mod Complement
 pub mod Gunion
