@@ -1,8 +1,13 @@
 -- What it means that two events have the same ends.
-use Rattle.std.proofs.Common.{◌≡◌, ◌⊎◌, ◌==◌, ◌&&◌, Bool, true, false, refl, sym, ◌∙◌, inl, inr}
-use Rattle.std.proofs.lemmas.Bool.{and_parts, or_cases, or_right, eqb-true, eq-eqb}
+use Rattle.std.proofs.Common.{◌≡◌, ◌⊎◌, ◌==◌, ◌&&◌, ◌||◌, ℕ, min, max, Bool, true, false, refl, sym, ◌∙◌, inl, inr, arith}
+use Rattle.std.proofs.lemmas.Bool.{and_parts, and_from, or_cases, or_right, eqb-true, eq-eqb, cases_eq}
 use Rattle.sgb_graph.specs.Events.{Event}
+use Rattle.sgb_ops.specs.Ends.{ends_key}
 use Rattle.sgb_ops.specs.Merged.{has_ends_of}
+
+-- two pairs of numbers are the same
+abbrev pub has_same_pair : ℕ × ℕ → ℕ × ℕ → Bool
+has_same_pair p q = (p.0 == q.0) && (p.1 == q.1)
 
 -- the same ends in the same order
 record SameWay (e f : Event) : Type 0 where
@@ -65,3 +70,35 @@ by_both false false to from = refl
 -- the test says the same both ways
 pub ends_either_way : (directed : Bool) (e f : Event) → has_ends_of directed e f ≡ has_ends_of directed f e
 ends_either_way directed e f = by_both (has_ends_of directed e f) (has_ends_of directed f e) (ends_turned directed e f) (ends_turned directed f e)
+
+-- in the same way of edges the smaller ends are the same, and the greater ones; and the other way round
+keys_of_ways : (e f : Event) → (f.from ≡ e.from) × (f.to ≡ e.to) ⊎ (f.from ≡ e.to) × (f.to ≡ e.from)
+    → (min f.from f.to ≡ min e.from e.to) × (max f.from f.to ≡ max e.from e.to)
+keys_of_ways e f (inl same) = (omega (arith, same.0, same.1), omega (arith, same.0, same.1))
+keys_of_ways e f (inr other) = (omega (arith, other.0, other.1), omega (arith, other.0, other.1))
+
+ways_of_keys : (e f : Event) → min f.from f.to ≡ min e.from e.to → max f.from f.to ≡ max e.from e.to → SameWay e f ⊎ OtherWay false e f
+ways_of_keys e f low high = elim (cases_eq f.from e.from) [
+  | inl same ↦ inl record { from = same; to = omega (arith, low, high, same) }
+  | inr other ↦ inr record { edges = refl; from = omega (arith, low, high, other); to = omega (arith, low, high, other) }
+]
+
+-- the keys of two events are the same where they have the same ends
+pub key_tells : (directed : Bool) (e f : Event) → has_same_pair (ends_key directed f) (ends_key directed e) ≡ has_ends_of directed e f
+key_tells true e f = by_end ((f.from == e.from) && (f.to == e.to))
+  where
+    by_end : (b : Bool) → b ≡ b || false
+    by_end true = refl
+    by_end false = refl
+key_tells false e f =
+    by_both (has_same_pair (ends_key false f) (ends_key false e)) (has_ends_of false e f)
+    (λ h.
+    let parts = and_parts _ _ h in
+    has_ends false e f (ways_of_keys e f (eqb-true _ _ parts.0) (eqb-true _ _ parts.1)))
+    (λ h.
+    let same = by_way (ends false e f h) in
+    and_from _ _ (eq-eqb _ _ same.0) (eq-eqb _ _ same.1))
+  where
+    by_way : SameWay e f ⊎ OtherWay false e f → (min f.from f.to ≡ min e.from e.to) × (max f.from f.to ≡ max e.from e.to)
+    by_way (inl w) = keys_of_ways e f (inl (w.from, w.to))
+    by_way (inr w) = keys_of_ways e f (inr (w.from, w.to))

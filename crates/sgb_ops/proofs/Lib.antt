@@ -2,6 +2,11 @@
 pub mod Taking
 pub mod Ends
 pub mod Merging
+pub mod MergeSteps
+pub mod EventsWithin
+pub mod UnionEvents
+pub mod TallyLemmas
+pub mod CommonEvents
 pub mod Marks
 pub mod Results
 pub mod ComplementEvents

@@ -4,6 +4,8 @@ pub mod Lengths
 pub mod Taken
 pub mod TakenArcs
 pub mod Merged
+pub mod Ends
+pub mod Tallies
 pub mod Titles
 pub mod Complement
 pub mod Gunion

@@ -4,10 +4,17 @@
 #[cfg(test)]
 mod blocks;
 mod complements;
+mod events;
+mod gunions;
+mod intersections;
 mod laws;
+mod merged;
 mod operands;
 mod taken;
+mod tallies;
 mod titles;
 
 pub use complements::complement;
+pub use gunions::gunion;
+pub use intersections::intersection;
 pub use laws::{merged_are_apart, merging_law, taken_lead_up, taking_law};

@@ -1,0 +1,208 @@
+-- The events of an intersection, as they are found one by one.
+use Rattle.std.proofs.Common.{◌≡◌, ◌<◌, ◌≤◌, ◌+◌, ◌-◌, ◌==◌, ◌⊎◌, ℕ, suc, min, ℤ, Bool, true, false, not, List, [], ◌∷◌, ◌++◌, map, take, length, Option, Some, None, refl, sym, ap, subst, ◌∙◌, append_assoc, inl, inr, arith}
+use Rattle.std.specs.Prelude.{All, flat_map, nat_lt, if◌then◌else◌}
+use Rattle.std.specs.List.{range_with_len, enumerate_from}
+use Rattle.std.proofs.lemmas.Bool.{cases_Bool, cases_eq, cases_lt, eq-eqb, ne_eqb, lt-ltb, le-ltb, ltb-true}
+use Rattle.std.proofs.lemmas.List.{length-append, take_at}
+use Rattle.std.proofs.lemmas.List.Elements.{All-nil, All-cons, All-append}
+use Rattle.std.proofs.lemmas.List.Sums.{length-filter}
+use Rattle.sgb_graph.specs.Graphs.{GraphData}
+use Rattle.sgb_graph.specs.Events.{Event}
+use Rattle.sgb_graph.specs.Growth.{IsKept}
+use Rattle.sgb_graph.specs.declared.fields.Link.{Link}
+use Rattle.sgb_ops.specs.Ends.{AllWithin}
+use Rattle.sgb_ops.specs.Intersection.{count_to, least_to, common_count, common_length, common_event, common_events, intersection_events}
+use Rattle.sgb_ops.specs.Lengths.{greater, least_of}
+use Rattle.sgb_ops.specs.Operands.{order_of}
+use Rattle.sgb_ops.specs.Taken.{taken}
+use Rattle.sgb_ops.specs.Tallies.{tally_of, tally_to, without_one, second_length, event_left}
+use Rattle.sgb_ops.specs.declared.tallies.Tally.{Tally}
+use Rattle.sgb_ops.proofs.EventsWithin.{TipBelow, Within, taken_tips, events_after_within}
+use Rattle.sgb_ops.proofs.TallyLemmas.{arcs_to, count_more_here, count_more_elsewhere, count_at, tip_counted}
+
+-- the events for arcs of hs that stand after others
+abbrev pub commons_after : Bool → ℕ → List Link → List Link → List Link → List Link → List Event
+commons_after multi v gs hs before [] = []
+commons_after multi v gs hs before (l ∷ links) = common_event multi v gs hs before l ++ commons_after multi v gs hs (before ++ l ∷ []) links
+
+-- how many of the arcs are left when so many were met
+abbrev pub count_left : Bool → ℕ → ℕ → ℕ
+count_left true count met = count - met
+count_left false count met = if met == 0 then count else 0
+
+abbrev pub tally_left : Bool → ℕ → Option Tally → Option Tally
+tally_left multi met None = None
+tally_left multi met (Some t) = Some (record t { count = count_left multi t.count met })
+
+-- what is left of the arcs of gs to u after these of hs
+abbrev pub left_after : Bool → ℕ → List Link → List Link → Option Tally
+left_after multi u gs before = tally_left multi (count_to u before) (tally_to u gs)
+
+-- the events of the vertices from v on that both graphs have
+abbrev pub events_after : GraphData → GraphData → Bool → Bool → ℕ → List Event
+events_after g h multi directed v =
+    flat_map (λ u. common_events multi u (taken directed g u) (taken directed h u)) (range_with_len v (min (order_of g) (order_of h) - v))
+
+-- these are those that are found by their places
+pub commons_at_places : (multi : Bool) (v : ℕ) (gs hs before links : List Link) (k : ℕ) → hs ≡ before ++ links → k ≡ length before
+    → flat_map (λ p. common_event multi v gs hs (take p.0 hs) p.1) (enumerate_from k links) ≡ commons_after multi v gs hs before links
+commons_at_places multi v gs hs before [] k is place = refl
+commons_at_places multi v gs hs before (l ∷ links) k is place =
+    let next = commons_at_places multi v gs hs (before ++ l ∷ []) links (k + 1) (is ∙ sym (append_assoc before (l ∷ []) links)) (omega (arith, length-append before (l ∷ []))) in
+    let earlier : take k hs ≡ before = ap (take k) is ∙ take_at before (l ∷ links) k (sym place) in
+    ap (λ xs. common_event multi v gs hs xs l ++ flat_map (λ p. common_event multi v gs hs (take p.0 hs) p.1) (enumerate_from (k + 1) links)) earlier
+    ∙ ap (λ es. common_event multi v gs hs before l ++ es) next
+
+-- at first all arcs are left
+none_met : (multi : Bool) (o : Option Tally) → o ≡ tally_left multi 0 o
+none_met true None = refl
+none_met false None = refl
+none_met true (Some t) = let same : t.count - 0 ≡ t.count = omega arith in ap (λ (k : ℕ). Some (record { count = k; least = t.least })) (sym same)
+none_met false (Some t) = refl
+
+pub left_at_first : (multi : Bool) (u : ℕ) (gs : List Link) → tally_to u gs ≡ left_after multi u gs []
+left_at_first multi u gs = none_met multi (tally_to u gs)
+
+-- one more is met
+one_met : (multi : Bool) (met : ℕ) (o : Option Tally) → tally_left multi (met + 1) o ≡ without_one multi (tally_left multi met o)
+one_met true met None = refl
+one_met false met None = refl
+one_met true met (Some t) = let less : t.count - (met + 1) ≡ t.count - met - 1 = omega arith in ap (λ (k : ℕ). Some (record { count = k; least = t.least })) less
+one_met false met (Some t) = let some : (met + 1 == 0) ≡ false = ne_eqb (met + 1) 0 (λ e. absurd (omega (arith, e))) in rw some refl
+
+pub left_more : (multi : Bool) (u : ℕ) (gs before : List Link) (l : Link)
+    → (if l.tip == u then without_one multi (left_after multi u gs before) else left_after multi u gs before) ≡ left_after multi u gs (before ++ l ∷ [])
+left_more multi u gs before l = elim (cases_eq l.tip u) [
+  | inl here ↦
+      let same = eq-eqb l.tip u here in
+      rw same (sym (ap (λ k. tally_left multi k (tally_to u gs)) (count_more_here u before l here) ∙ one_met multi (count_to u before) (tally_to u gs)))
+  | inr other ↦
+      let apart = ne_eqb l.tip u other in
+      rw apart (sym (ap (λ k. tally_left multi k (tally_to u gs)) (count_more_elsewhere u before l other)))
+]
+
+-- how many there are in the end, by how many the two graphs have
+abbrev most_common : Bool → ℕ → ℕ → ℕ
+most_common true a b = min a b
+most_common false a b = min 1 (min a b)
+
+common_counts : (multi : Bool) (u : ℕ) (gs hs : List Link) → common_count multi u gs hs ≡ most_common multi (count_to u gs) (count_to u hs)
+common_counts true u gs hs = refl
+common_counts false u gs hs = refl
+
+-- one is wanted where some are left
+wanted_left : (multi : Bool) (a b met : ℕ) → met < b → nat_lt met (most_common multi a b) ≡ not (count_left multi a met == 0)
+wanted_left true a b met within = elim (cases_lt met a) [
+  | inl some ↦
+      let yes = lt-ltb met (min a b) (omega (arith, some, within)) in
+      let left = ne_eqb (a - met) 0 (λ e. absurd (omega (arith, e, some))) in
+      rw (yes, left) refl
+  | inr none ↦
+      let no = le-ltb met (min a b) (omega (arith, none)) in
+      let left = eq-eqb (a - met) 0 (omega (arith, none)) in
+      rw (no, left) refl
+]
+wanted_left false a b met within = elim (cases_eq met 0) [
+  | inl first ↦
+      let is = eq-eqb met 0 first in
+      elim (cases_eq a 0) [
+        | inl none ↦
+            let no = le-ltb met (min 1 (min a b)) (omega (arith, none)) in
+            let left = eq-eqb a 0 none in
+            rw (no, is, left) refl
+        | inr some ↦
+            let yes = lt-ltb met (min 1 (min a b)) (omega (arith, first, some, within)) in
+            let left = ne_eqb a 0 some in
+            rw (yes, is, left) refl
+      ]
+  | inr later ↦
+      let is_later = ne_eqb met 0 later in
+      let no = le-ltb met (min 1 (min a b)) (omega (arith, later)) in
+      rw (no, is_later) refl
+]
+
+-- the length that counts in the second graph, where some of its arcs lead there
+second_least : (links : List Link) (far : ℤ) → 0 < length links → second_length false far (tally_of links) ≡ least_of (map (λ x. x.len) links)
+second_least [] far some = absurd (omega (arith, some))
+second_least (l ∷ links) far some = refl
+
+lengths_agree : (multi : Bool) (gs hs : List Link) (l : Link) → 0 < count_to l.tip hs
+    → common_length multi gs hs l ≡ greater (least_to l.tip gs) (second_length multi l.len (tally_to l.tip hs))
+lengths_agree true gs hs l some = refl
+lengths_agree false gs hs l some =
+    ap (greater (least_to l.tip gs)) (sym (second_least (arcs_to l.tip hs) l.len (omega (arith, some, length-filter (λ (x : Link). x.tip == l.tip) hs))))
+
+-- nothing is left of none
+nothing_left : (multi : Bool) (met : ℕ) → count_left multi 0 met ≡ 0
+nothing_left true met = omega arith
+nothing_left false met = by_test (met == 0)
+  where
+    by_test : (b : Bool) → (if b then (let n : ℕ = 0 in n) else 0) ≡ (let n : ℕ = 0 in n)
+    by_test true = refl
+    by_test false = refl
+
+either_way : (b : Bool) (e : Event) → (if b then [] else e ∷ []) ≡ (if not b then e ∷ [] else [])
+either_way true e = refl
+either_way false e = refl
+
+-- the event where so many arcs of the graphs lead to u, and so many were met
+event_counted : (multi : Bool) (v u b met : ℕ) (far all : ℤ) (arcs : List Link) → met < b
+    → (0 < length arcs → all ≡ greater (least_of (map (λ l. l.len) arcs)) far)
+    → event_left v u far (tally_left multi met (tally_of arcs)) ≡ (if nat_lt met (most_common multi (length arcs) b) then record { from = v; to = u; len = all } ∷ [] else [])
+event_counted multi v u b met far all [] within long =
+    let none : nat_lt met (most_common multi 0 b) ≡ false = wanted_left multi 0 b met within ∙ rw (nothing_left multi met) refl in
+    rw none refl
+event_counted multi v u b met far all (x ∷ arcs) within long =
+    let some = wanted_left multi (length (x ∷ arcs)) b met within in
+    let length_is = long (omega arith) in
+    rw (some, length_is) (either_way (count_left multi (length (x ∷ arcs)) met == 0) (record { from = v; to = u; len = greater (least_of (map (λ l. l.len) (x ∷ arcs))) far }))
+
+-- the event for an arc that stands after others
+pub event_there : (multi : Bool) (v : ℕ) (gs hs before links : List Link) (l : Link) → hs ≡ before ++ l ∷ links
+    → event_left v l.tip (second_length multi l.len (tally_to l.tip hs)) (left_after multi l.tip gs before) ≡ common_event multi v gs hs before l
+event_there multi v gs hs before links l is =
+    let u = l.tip in
+    let within : count_to u before < count_to u hs = subst (λ xs. count_to u before < count_to u xs) (sym is) (count_at u before links l refl) in
+    let many : length (arcs_to u gs) ≡ count_to u gs = length-filter (λ (x : Link). x.tip == u) gs in
+    let counts : most_common multi (length (arcs_to u gs)) (count_to u hs) ≡ common_count multi u gs hs = ap (λ a. most_common multi a (count_to u hs)) many ∙ sym (common_counts multi u gs hs) in
+    event_counted multi v u (count_to u hs) (count_to u before) (second_length multi l.len (tally_to u hs)) (common_length multi gs hs l) (arcs_to u gs) within (λ some. lengths_agree multi gs hs l (omega (arith, within)))
+    ∙ ap (λ k. if nat_lt (count_to u before) k then record { from = v; to = u; len = common_length multi gs hs l } ∷ [] else []) counts
+
+-- the ends of the events of v are below n
+pub commons_within : (n : ℕ) (multi : Bool) (v : ℕ) (gs hs before links : List Link) → v < n → All (TipBelow n) gs → AllWithin n (commons_after multi v gs hs before links)
+commons_within n multi v gs hs before [] below all = All-nil (Within n)
+commons_within n multi v gs hs before (l ∷ links) below all =
+    All-append (Within n) (common_event multi v gs hs before l) (commons_after multi v gs hs (before ++ l ∷ []) links) (by_test (cases_Bool (nat_lt (count_to l.tip before) (common_count multi l.tip gs hs))))
+    (commons_within n multi v gs hs (before ++ l ∷ []) links below all)
+  where
+    some : (m : Bool) → count_to l.tip before < common_count m l.tip gs hs → 0 < count_to l.tip gs
+    some true wanted = omega (arith, wanted)
+    some false wanted = omega (arith, wanted)
+
+    by_test : (nat_lt (count_to l.tip before) (common_count multi l.tip gs hs) ≡ true) ⊎ (nat_lt (count_to l.tip before) (common_count multi l.tip gs hs) ≡ false)
+        → AllWithin n (common_event multi v gs hs before l)
+    by_test (inl wanted) =
+        let tip : l.tip < n = tip_counted n l.tip gs all (some multi (ltb-true _ _ wanted)) in
+        rw wanted (All-cons (Within n) (record { from = v; to = l.tip; len = common_length multi gs hs l }) [] (below, tip) (All-nil (Within n)))
+    by_test (inr unwanted) = rw unwanted (All-nil (Within n))
+
+-- and so are those of all vertices
+pub intersection_within : (g h : GraphData) (multi directed : Bool) → IsKept g → AllWithin (order_of g) (intersection_events g h multi directed)
+intersection_within g h multi directed kept =
+    events_after_within (order_of g) (λ v. common_events multi v (taken directed g v) (taken directed h v)) 0 (min (order_of g) (order_of h))
+    (λ v low high.
+    subst (AllWithin (order_of g)) (sym (commons_at_places multi v (taken directed g v) (taken directed h v) [] (taken directed h v) 0 refl refl))
+    (commons_within (order_of g) multi v (taken directed g v) (taken directed h v) [] (taken directed h v) (omega (arith, high)) (taken_tips directed g v kept (omega (arith, high)))))
+
+-- those of v come first
+pub events_after-next : (g h : GraphData) (multi directed : Bool) (v : ℕ) → v < min (order_of g) (order_of h)
+    → events_after g h multi directed v ≡ common_events multi v (taken directed g v) (taken directed h v) ++ events_after g h multi directed (v + 1)
+events_after-next g h multi directed v below =
+    let count : min (order_of g) (order_of h) - v ≡ suc (min (order_of g) (order_of h) - (v + 1)) = omega (arith, below) in
+    ap (λ n. flat_map (λ u. common_events multi u (taken directed g u) (taken directed h u)) (range_with_len v n)) count
+
+-- past the last vertex there are none
+pub events_after-none : (g h : GraphData) (multi directed : Bool) (v : ℕ) → min (order_of g) (order_of h) ≤ v → events_after g h multi directed v ≡ []
+events_after-none g h multi directed v past =
+    let count : min (order_of g) (order_of h) - v ≡ 0 = omega (arith, past) in
+    ap (λ n. flat_map (λ u. common_events multi u (taken directed g u) (taken directed h u)) (range_with_len v n)) count

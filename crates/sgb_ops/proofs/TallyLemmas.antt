@@ -1,0 +1,101 @@
+-- What is noted of arcs.
+use Rattle.std.proofs.Common.{◌≡◌, ◌<◌, ◌≤◌, ◌+◌, ◌==◌, ℕ, pos, Bool, true, false, cond, List, [], ◌∷◌, ◌++◌, map, length, fold, Option, Some, refl, sym, ap, ◌∙◌, append-nil, inl, inr, arith}
+use Rattle.std.specs.Prelude.{All, filter, if◌then◌else◌}
+use Rattle.std.specs.Option.{option_map_or}
+use Rattle.std.proofs.lemmas.Bool.{cases_eq, eq-eqb, ne_eqb, eqb-true}
+use Rattle.std.proofs.lemmas.List.{map_push, length-append}
+use Rattle.std.proofs.lemmas.List.Elements.{All-head, All-filter, filter-append, filter_passes}
+use Rattle.std.proofs.lemmas.List.Sums.{fold-append, length-filter, count_by-le-length}
+use Rattle.sgb_graph.specs.declared.fields.Link.{Link}
+use Rattle.sgb_ops.specs.Intersection.{count_to}
+use Rattle.sgb_ops.specs.Lengths.{lesser}
+use Rattle.sgb_ops.specs.Tallies.{tally_of, tally_to, one_more}
+use Rattle.sgb_ops.specs.declared.tallies.Tally.{Tally}
+use Rattle.sgb_ops.proofs.EventsWithin.{TipBelow}
+
+-- any arc
+abbrev pub no_arc : Link
+no_arc = record { number = 0; tip = 0; len = pos 0 }
+
+-- the arcs that lead to u
+abbrev pub arcs_to : ℕ → List Link → List Link
+arcs_to u links = filter (λ l. l.tip == u) links
+
+-- one arc more
+tally_of_more : (links : List Link) (l : Link) → tally_of (links ++ l ∷ []) ≡ Some (one_more l.len (tally_of links))
+tally_of_more [] l = refl
+tally_of_more (x ∷ links) l =
+    let many : length (x ∷ links ++ l ∷ []) ≡ length (x ∷ links) + 1 = omega (arith, length-append links (l ∷ [])) in
+    let least : fold lesser x.len (map (λ y. y.len) (links ++ l ∷ [])) ≡ lesser (fold lesser x.len (map (λ y. y.len) links)) l.len =
+    ap (fold lesser x.len) (map_push (λ y. y.len) links l) ∙ fold-append lesser x.len (map (λ y. y.len) links) (l.len ∷ []) in
+    rw (many, least) refl
+
+arcs_to_more : (u : ℕ) (links : List Link) (l : Link) (b : Bool) → (l.tip == u) ≡ b → arcs_to u (links ++ l ∷ []) ≡ arcs_to u links ++ (if b then l ∷ [] else [])
+arcs_to_more u links l b is =
+    filter-append (λ x. x.tip == u) links (l ∷ []) ∙ ap (λ c. arcs_to u links ++ cond c (l ∷ []) []) is
+
+-- to u itself
+pub tally_more_here : (u : ℕ) (links : List Link) (l : Link) → l.tip ≡ u → tally_to u (links ++ l ∷ []) ≡ Some (one_more l.len (tally_to u links))
+tally_more_here u links l here =
+    ap tally_of (arcs_to_more u links l true (eq-eqb l.tip u here)) ∙ tally_of_more (arcs_to u links) l
+
+-- or to another vertex
+pub tally_more_elsewhere : (u : ℕ) (links : List Link) (l : Link) → (l.tip ≡ u → ⊥) → tally_to u (links ++ l ∷ []) ≡ tally_to u links
+tally_more_elsewhere u links l other =
+    ap tally_of (arcs_to_more u links l false (ne_eqb l.tip u other) ∙ append-nil (arcs_to u links))
+
+-- what stands in a map with one arc more
+pub noted_more : (u : ℕ) (links : List Link) (l : Link) (old now : Option Tally) → old ≡ tally_to l.tip links → now ≡ tally_to u links
+    → cond (l.tip == u) (Some (one_more l.len old)) now ≡ tally_to u (links ++ l ∷ [])
+noted_more u links l old now was is = elim (cases_eq l.tip u) [
+  | inl here ↦
+      let same = eq-eqb l.tip u here in
+      let before : old ≡ tally_to u links = was ∙ ap (λ k. tally_to k links) here in
+      rw (same, before) (sym (tally_more_here u links l here))
+  | inr other ↦
+      let apart = ne_eqb l.tip u other in
+      rw apart (is ∙ sym (tally_more_elsewhere u links l other))
+]
+
+-- how many arcs to u there are, one more arc later
+pub count_more_here : (u : ℕ) (links : List Link) (l : Link) → l.tip ≡ u → count_to u (links ++ l ∷ []) ≡ count_to u links + 1
+count_more_here u links l here =
+    let test = λ (x : Link). x.tip == u in
+    let more = arcs_to_more u links l true (eq-eqb l.tip u here) in
+    omega (arith, length-filter test (links ++ l ∷ []), length-filter test links, ap length more, length-append (arcs_to u links) (l ∷ []))
+
+pub count_more_elsewhere : (u : ℕ) (links : List Link) (l : Link) → (l.tip ≡ u → ⊥) → count_to u (links ++ l ∷ []) ≡ count_to u links
+count_more_elsewhere u links l other =
+    let test = λ (x : Link). x.tip == u in
+    let more = arcs_to_more u links l false (ne_eqb l.tip u other) ∙ append-nil (arcs_to u links) in
+    omega (arith, length-filter test (links ++ l ∷ []), length-filter test links, ap length more)
+
+-- an arc that stands after others is not among them
+pub count_at : (u : ℕ) (before links : List Link) (l : Link) → l.tip ≡ u → count_to u before < count_to u (before ++ l ∷ links)
+count_at u before links l here =
+    let test = λ (x : Link). x.tip == u in
+    let there = eq-eqb l.tip u here in
+    let all : arcs_to u (before ++ l ∷ links) ≡ arcs_to u before ++ l ∷ arcs_to u links = filter-append test before (l ∷ links) ∙ ap (λ b. arcs_to u before ++ cond b (l ∷ arcs_to u links) (arcs_to u links)) there in
+    omega (arith, length-filter test before, length-filter test (before ++ l ∷ links), ap length all, length-append (arcs_to u before) (l ∷ arcs_to u links))
+
+-- a tally counts no more arcs than there are
+few_of : (links : List Link) → option_map_or (λ (t : Tally). t.count + 1) (tally_of links) 0 ≤ length links + 1
+few_of [] = omega arith
+few_of (l ∷ links) = omega arith
+
+pub few_to : (u : ℕ) (links : List Link) → option_map_or (λ (t : Tally). t.count + 1) (tally_to u links) 0 ≤ length links + 1
+few_to u links =
+    omega (arith, few_of (arcs_to u links), length-filter (λ (x : Link). x.tip == u) links, count_by-le-length (λ (x : Link). x.tip == u) links)
+
+-- a vertex that some of the arcs lead to is below n where they all lead below n
+pub tip_counted : (n u : ℕ) (links : List Link) → All (TipBelow n) links → 0 < count_to u links → u < n
+tip_counted n u links all some =
+    by_arcs (arcs_to u links) (length-filter test links) (All-filter test (TipBelow n) links all) (filter_passes test links)
+  where
+    test : Link → Bool
+    test x = x.tip == u
+
+    by_arcs : (xs : List Link) → length xs ≡ count_to u links → All (TipBelow n) xs → All (λ x. test x ≡ true) xs → u < n
+    by_arcs [] many below there = absurd (omega (arith, some, many))
+    by_arcs (x ∷ xs) many below there =
+        omega (arith, All-head (TipBelow n) x xs below, eqb-true x.tip u (All-head (λ y. test y ≡ true) x xs there))

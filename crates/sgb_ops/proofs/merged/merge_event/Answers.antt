@@ -1,0 +1,56 @@
+use Rattle.std.proofs.Common.{◌≡◌, ◌∙◌, ◌++◌, ◌∷◌, [], ℕ, List, true, false, sym, ap}
+use Rattle.std.specs.List.{list_any, position_or_len}
+use Rattle.std.proofs.lemmas.Bool.{not-true, not-false}
+use Rattle.std.proofs.lemmas.List.{map_push}
+use Rattle.std.specs.Prelude.{map, if◌then◌else◌, set}
+use Rattle.sgb_ops.specs.Ends.{ends_key}
+use Rattle.sgb_ops.proofs.Ends.{has_same_pair}
+use Rattle.sgb_ops.proofs.MergeSteps.{has_key, put_last, put_there, keys_stay}
+use Rattle.sgb_ops.proofs.merged.merge_event.Goals as goal
+
+-- what the set of ends says of a pair is what the events say of the event's ends
+same_test : (keys ks : List (ℕ × ℕ)) (k key : ℕ × ℕ) → k ≡ key → keys ≡ ks → list_any (has_same_pair k) keys ≡ list_any (has_same_pair key) ks
+same_test keys ks k key e f = ap (λ p. list_any (has_same_pair p) keys) e ∙ ap (list_any (has_same_pair key)) f
+
+same_place : (keys ks : List (ℕ × ℕ)) (k key : ℕ × ℕ) → k ≡ key → keys ≡ ks → position_or_len (has_same_pair k) keys ≡ position_or_len (has_same_pair key) ks
+same_place keys ks k key e f = ap (λ p. position_or_len (has_same_pair p) keys) e ∙ ap (position_or_len (has_same_pair key)) f
+
+pub returns-then-is_new-clause-ok : goal.returns-then-is_new-clause-ok
+returns-then-is_new-clause-ok c =
+    let none : has_key c.args.directed c.args.left.now.items c.args.event ≡ false =
+    sym (same_test c.args.ends.now.keys _ c.ends.result _ c.ends.ensures c.requires.ends) ∙ not-true _ (sym c.in_ok-place.ensures.added ∙ c.if-is_new.true) in
+    c.in_ok-push.ensures.items ∙ sym (put_last c.args.directed c.args.left.now.items c.args.event none)
+
+pub returns-then-is_new-clause-ends : goal.returns-then-is_new-clause-ends
+returns-then-is_new-clause-ends c =
+    let keys = c.args.ends.now.keys in
+    let key = ends_key c.args.directed in
+    let none : list_any (has_same_pair c.ends.result) keys ≡ false = not-true _ (sym c.in_ok-place.ensures.added ∙ c.if-is_new.true) in
+    c.in_ok-place.ensures.keys
+    ∙ (ap (λ b. if b then keys else keys ++ c.ends.result ∷ []) none
+    ∙ (ap (λ k. keys ++ k ∷ []) c.ends.ensures
+    ∙ (ap (λ ks. ks ++ key c.args.event ∷ []) c.requires.ends
+    ∙ (sym (map_push key c.args.left.now.items c.args.event) ∙ ap (map key) (sym c.in_ok-push.ensures.items)))))
+
+pub returns-clause-ok : goal.returns-clause-ok
+returns-clause-ok c =
+    let left = c.args.left.now.items in
+    let place = c.in_ok-place.place in
+    let has : has_key c.args.directed left c.args.event ≡ true =
+    sym (same_test c.args.ends.now.keys _ c.ends.result _ c.ends.ensures c.requires.ends) ∙ not-false _ (sym c.in_ok-place.ensures.added ∙ c.if-is_new.false) in
+    ap (set left place) c.shortened.ensures
+    ∙ put_there c.args.directed left c.args.event c.index.result.now place has (c.in_ok-place.ensures.index ∙ same_place c.args.ends.now.keys _ c.ends.result _ c.ends.ensures c.requires.ends) c.index.ensures
+
+pub returns-clause-ends : goal.returns-clause-ends
+returns-clause-ends c =
+    let left = c.args.left.now.items in
+    let place = c.in_ok-place.place in
+    let keys = c.args.ends.now.keys in
+    let key = ends_key c.args.directed in
+    let some : list_any (has_same_pair c.ends.result) keys ≡ true = not-false _ (sym c.in_ok-place.ensures.added ∙ c.if-is_new.false) in
+    let has : has_key c.args.directed left c.args.event ≡ true = sym (same_test keys _ c.ends.result _ c.ends.ensures c.requires.ends) ∙ some in
+    let there = ap (set left place) c.shortened.ensures
+    ∙ put_there c.args.directed left c.args.event c.index.result.now place has (c.in_ok-place.ensures.index ∙ same_place keys _ c.ends.result _ c.ends.ensures c.requires.ends) c.index.ensures in
+    c.in_ok-place.ensures.keys
+    ∙ (ap (λ b. if b then keys else keys ++ c.ends.result ∷ []) some
+    ∙ (c.requires.ends ∙ (sym (keys_stay c.args.directed left c.args.event has) ∙ ap (map key) (sym there))))

@@ -1,0 +1,26 @@
+use Rattle.std.proofs.Common.{◌≡◌, ◌+◌, ◌∙◌, ◌++◌, ◌∷◌, [], sym, ap, take, arith}
+use Rattle.std.specs.Prelude.{map}
+use Rattle.std.proofs.lemmas.List.{take_more}
+use Rattle.sgb_ops.specs.Ends.{ends_key, with_event}
+use Rattle.sgb_ops.specs.Merged.{merged}
+use Rattle.sgb_ops.proofs.MergeSteps.{merged_more}
+use Rattle.sgb_ops.proofs.merged.merged.Goals as goal
+
+pub loop-event-init : goal.loop-event-init
+unfolding merged
+loop-event-init c =
+    let nothing : c.new-left.result.items ≡ [] = c.new-left.ensures.items in
+    (nothing, c.new-ends.ensures.empty ∙ ap (map (ends_key c.args.directed)) (sym nothing))
+
+pub loop-event-preserved : goal.loop-event-preserved
+loop-event-preserved c =
+    let events = c.args.events.now in
+    let e = c.event-item.result in
+    let i = c.loop-event.event-index in
+    let next : take (i + 1) events ≡ take i events ++ e ∷ [] = take_more events i e (omega arith) ∙ ap (λ x. take i events ++ x ∷ []) (sym c.event-item.is) in (
+      c.in_ok-merge_event.ensures.ok
+          ∙ (ap (λ left. with_event c.args.directed left e) c.loop-event.invariant.0
+          ∙ (sym (merged_more c.args.directed (take i events) e)
+          ∙ ap (merged c.args.directed) (sym next))),
+      c.in_ok-merge_event.ensures.ends,
+    )

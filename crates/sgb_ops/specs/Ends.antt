@@ -1,0 +1,28 @@
+-- The ends of events, and events that are merged one by one [GB_BASIC, gunion].
+use Rattle.std.specs.Prelude.{ℕ, ◌<◌, min, max, All, Bool, true, false, List, [], ◌∷◌, if◌then◌else◌}
+use Rattle.sgb_graph.specs.Events.{Event}
+use Rattle.sgb_graph.specs.declared.fields.Link.{Link}
+use Rattle.sgb_ops.specs.Lengths.{lesser}
+use Rattle.sgb_ops.specs.Merged.{has_ends_of}
+
+-- the event of an arc on the list of v
+abbrev pub event_of : ℕ → Link → Event
+event_of v l = record { from = v; to = l.tip; len = l.len }
+
+-- the ends of the events are vertices of a graph that has n of them
+abbrev pub AllWithin : ℕ → List Event → Type 0
+AllWithin n events = All (λ e. (e.from < n) × (e.to < n)) events
+
+-- the two ends, those of edges with the smaller one first
+abbrev pub ends_key : Bool → Event → ℕ × ℕ
+ends_key true e = (e.from, e.to)
+ends_key false e = (min e.from e.to, max e.from e.to)
+
+-- an event with the lesser of its length and that of another
+abbrev pub shortened : Event → Event → Event
+shortened e other = record e { len = lesser e.len other.len }
+
+-- merged events and one more: it shortens the one that has its ends, or comes last
+abbrev pub with_event : Bool → List Event → Event → List Event
+with_event directed [] e = e ∷ []
+with_event directed (f ∷ events) e = if has_ends_of directed f e then shortened f e ∷ events else f ∷ with_event directed events e

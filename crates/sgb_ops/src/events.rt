@@ -1,0 +1,96 @@
+//! The events of which the graph of an operation is made (GB_GRAPH, gb_new_arc and gb_new_edge).
+ghost use Rattle.std.specs.Prelude.{◌≡◌, ◌≤◌, ◌<◌, length, All, OnOk, IfOk, IsOkUnless};
+ghost use Rattle.sgb_vec.specs.Limits.{most_vertices};
+ghost use Rattle.sgb_graph.specs.Descriptions.{IsGraphOf};
+ghost use Rattle.sgb_graph.specs.Growth.{AddsEvents, HasPlainArcs};
+ghost use Rattle.sgb_graph.specs.Made.{plain};
+ghost use Rattle.sgb_ops.specs.Ends.{AllWithin, ends_key, shortened};
+
+use sgb_graph::{Graph, Id, Names};
+use sgb_vec::Panic;
+use std::alloc::Global;
+use std::marker::Model;
+
+/// An arc or an edge that is to be made.
+#[derive(Clone, Copy)]
+pub(crate) struct Event {
+    from: u32,
+    to: u32,
+    len: i64,
+}
+
+impl Model for Event {
+    ghost use Rattle.sgb_graph.specs.Events.{Event};
+
+    ghost Value = { Event };
+
+    ghost view = { λ e. record { from = e.from; to = e.to; len = e.len } };
+
+    ghost inverse = { λ e. record { from = e.from; to = e.to; len = e.len } };
+}
+
+impl Event {
+    /// An arc or an edge of length `len` from vertex `from` to vertex `to`.
+    pub(crate) fn new(from: u32, to: u32, len: i64) -> Event
+        ensures { result ≡ record { from = from; to = to; len = len } }
+    {
+        Event { from, to, len }
+    }
+
+    /// Its two ends, so that those of two events are the same where the events have the same ends: in order for arcs,
+    /// the smaller one first for edges.
+    pub(crate) fn ends(self, directed: bool) -> (u32, u32)
+        ensures { result ≡ ends_key directed self }
+    {
+        if directed {
+            (self.from, self.to)
+        } else {
+            (self.from.min(self.to), self.from.max(self.to))
+        }
+    }
+
+    /// The event with the lesser of its length and that of another.
+    pub(crate) fn shortened(self, other: Event) -> Event
+        ensures { result ≡ shortened self other }
+    {
+        Event {
+            len: self.len.min(other.len),
+            ..self
+        }
+    }
+}
+
+/// The graph of these names, whose arcs are those of `events`, in their order, and edges unless `directed`. The ends of
+/// `events` are below the number of names.
+///
+/// `NoRoom` when out of memory, and nothing else.
+pub(crate) fn graph_of(
+    alloc: Global,
+    directed: bool,
+    events: &[Event],
+    names: Names,
+    id: Id,
+) -> Result<Graph, Panic>
+    requires few { length names ≤ most_vertices }
+    requires within { AllWithin (length names) events.now }
+    ensures ok { IfOk result (λ g. IsGraphOf (plain directed events.now names id) g) }
+    ensures memory { IsOkUnless result Panic.NoRoom }
+{
+    let mut built = Graph::new(alloc, names)?;
+    add_events(&mut built, directed, events)?;
+    built.set_id(id);
+    Ok(built)
+}
+
+// Adds the arcs, or edges, of `events` in their order.
+fn add_events(built: &mut Graph, directed: bool, events: &[Event]) -> Result<(), Panic>
+    requires within { AllWithin (length built.old.vertices) events.now }
+    requires plain { HasPlainArcs built.old }
+    ensures ok { OnOk result (AddsEvents directed built.old built.new events.now) }
+    ensures memory { IsOkUnless result Panic.NoRoom }
+{
+    for event in events {
+        built.add_event(directed, event.from, event.to, event.len)?;
+    }
+    Ok(())
+}

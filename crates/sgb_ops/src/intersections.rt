@@ -1,0 +1,155 @@
+//! The intersection of two graphs on the vertices of the first (GB_BASIC, intersection).
+ghost use Rattle.std.specs.Prelude.{◌≡◌, ◌<◌, ◌++◌, ℕ, length, nat_eq, OnOk, IfOk, IsOkUnless, if◌then◌else◌, ◌==◌};
+ghost use Rattle.indexmap.specs.IndexMap.{get};
+ghost use Rattle.sgb_graph.specs.Descriptions.{IsAnswerOf};
+ghost use Rattle.sgb_ops.specs.Ends.{AllWithin};
+ghost use Rattle.sgb_ops.specs.Intersection.{common_events, intersection_events, intersection_id, intersection_of};
+ghost use Rattle.sgb_ops.specs.Taken.{taken};
+ghost use Rattle.sgb_ops.specs.Tallies.{event_left, one_less, second_length, without_one};
+
+use crate::events::{Event, graph_of};
+use crate::operands::names_of;
+use crate::taken::taken;
+use crate::tallies::{Tally, tallies};
+use crate::titles::flag_byte;
+use indexmap::IndexMap;
+use sgb_graph::{Graph, Id, Link, double_compound_id};
+use sgb_vec::Panic;
+use std::alloc::Global;
+
+/// The intersection of two graphs (GB_BASIC, intersection): the graph of the names of `first` whose arcs, or edges
+/// unless `directed`, are those that both have. Vertex v of the one is vertex v of the other. Of parallel ones there is
+/// one, with the greater of the least lengths in the two; with `multi` as many as in the graph that has fewer, each with
+/// the greater of its length in `second` and the least one in `first`. They come for each vertex in order, and then in
+/// the order of its list in `second`. The id is `intersection(ID1,ID2,multi,directed)`.
+///
+/// `NoRoom` when out of memory, and nothing else.
+pub fn intersection(
+    alloc: Global,
+    first: &Graph,
+    second: &Graph,
+    multi: bool,
+    directed: bool,
+) -> Result<Graph, Panic>
+    ensures { IsAnswerOf (intersection_of first.now second.now multi directed) result }
+{
+    let events = common_arcs(alloc, first, second, multi, directed)?;
+    let names = names_of(alloc, first)?;
+    let id = title(first.id(), second.id(), multi, directed);
+    graph_of(alloc, directed, &events, names, id)
+}
+
+// The id of the result, made from the operands'.
+fn title(id1: &Id, id2: &Id, multi: bool, directed: bool) -> Id
+    ensures { result ≡ intersection_id id1.now id2.now multi directed }
+{
+    let end = [b',', flag_byte(multi), b',', flag_byte(directed), b')'];
+    double_compound_id(b"intersection(", id1, b",", id2, &end)
+}
+
+// The events of all vertices that both graphs have.
+fn common_arcs(
+    alloc: Global,
+    first: &Graph,
+    second: &Graph,
+    multi: bool,
+    directed: bool,
+) -> Result<Vec<Event>, Panic>
+    ensures ok { IfOk result (λ events. events.items ≡ intersection_events first.now second.now multi directed) }
+    ensures within { IfOk result (λ events. AllWithin (length first.now.vertices) events.items) }
+    ensures memory { IsOkUnless result Panic.NoRoom }
+{
+    let mut events = Vec::new(alloc);
+    for v in 0..first.n().min(second.n()) {
+        let ours = taken_arcs(alloc, first, directed, v)?;
+        let theirs = taken_arcs(alloc, second, directed, v)?;
+        push_common(&mut events, alloc, multi, v, &ours, &theirs)?;
+    }
+    Ok(events)
+}
+
+// The arcs taken of vertex `v`.
+fn taken_arcs(alloc: Global, graph: &Graph, directed: bool, v: u32) -> Result<Vec<Link>, Panic>
+    requires { v < length graph.now.vertices }
+    ensures ok { IfOk result (λ arcs. arcs.items ≡ taken directed graph.now v) }
+    ensures memory { IsOkUnless result Panic.NoRoom }
+{
+    let mut arcs = Vec::new(alloc);
+    for link in taken(graph, directed, v) {
+        arcs.push(link)?;
+    }
+    Ok(arcs)
+}
+
+// Appends the events of vertex `v`, where these arcs were taken of it in the two graphs.
+fn push_common(
+    events: &mut Vec<Event>,
+    alloc: Global,
+    multi: bool,
+    v: u32,
+    ours: &[Link],
+    theirs: &[Link],
+) -> Result<(), Panic>
+    ensures ok { OnOk result (events.new.items ≡ events.old.items ++ common_events multi v ours.now theirs.now) }
+    ensures memory { IsOkUnless result Panic.NoRoom }
+{
+    let mut left = tallies(alloc, ours)?;
+    let shortest = tallies(alloc, theirs)?;
+    for arc in theirs {
+        let len = second_length(multi, *arc, shortest.get(&arc.tip).copied());
+        push_if_left(events, &mut left, multi, v, *arc, len)?;
+    }
+    Ok(())
+}
+
+// The length in the second graph that counts for this arc of it; `tally` is that of the arcs to its tip.
+fn second_length(multi: bool, arc: Link, tally: Option<Tally>) -> i64
+    ensures { result ≡ second_length multi arc.len tally }
+{
+    if multi {
+        return arc.len;
+    }
+    match tally {
+        None => arc.len,
+        Some(tally) => tally.least,
+    }
+}
+
+// Appends the event for this arc of the second graph, where arcs of the first to its tip are left, and counts that one
+// as gone; without `multi` all of them.
+fn push_if_left(
+    events: &mut Vec<Event>,
+    left: &mut IndexMap<u32, Tally>,
+    multi: bool,
+    v: u32,
+    arc: Link,
+    len: i64,
+) -> Result<(), Panic>
+    ensures ok { OnOk result (events.new.items ≡ events.old.items ++ event_left v arc.tip len (get nat_eq left.old arc.tip)) }
+    ensures left { OnOk result ((u : ℕ) → get nat_eq left.new u ≡ (if arc.tip == u then without_one multi (get nat_eq left.old u) else get nat_eq left.old u)) }
+    ensures memory { IsOkUnless result Panic.NoRoom }
+{
+    let Some(tally) = left.get(&arc.tip).copied() else {
+        return Ok(());
+    };
+    if tally.count == 0 {
+        return Ok(());
+    }
+    left.insert(arc.tip, one_less(multi, tally))?;
+    events.push(Event::new(v, arc.tip, tally.least.max(len)))?;
+    Ok(())
+}
+
+// The tally with one arc less; with none, unless parallel arcs are wanted.
+fn one_less(multi: bool, tally: Tally) -> Tally
+    requires { 0 < tally.count }
+    ensures { result ≡ one_less multi tally }
+{
+    Tally {
+        count: if multi { tally.count - 1 } else { 0 },
+        least: tally.least,
+    }
+}
+
+#[cfg(test)]
+mod tests;

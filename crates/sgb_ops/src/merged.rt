@@ -1,0 +1,63 @@
+//! Events with the same two ends made into one (GB_BASIC, gunion).
+ghost use Rattle.std.specs.Prelude.{◌≡◌, map, OnOk, IfOk, IsOkUnless};
+ghost use Rattle.sgb_ops.specs.Ends.{ends_key, with_event};
+ghost use Rattle.sgb_ops.specs.Merged.{merged, merged_unless};
+
+use crate::events::Event;
+use indexmap::IndexSet;
+use sgb_vec::Panic;
+use std::alloc::Global;
+
+/// The events as they are where parallel ones are wanted, else of those with the same two ends one, at the first one's
+/// place, with the least length of them all (GB_BASIC, gunion). It takes the expected time of their number.
+///
+/// `NoRoom` when out of memory, and nothing else.
+pub(crate) fn merged_unless(
+    alloc: Global,
+    multi: bool,
+    directed: bool,
+    events: Vec<Event>,
+) -> Result<Vec<Event>, Panic>
+    ensures ok { IfOk result (λ left. left.items ≡ merged_unless multi directed events.items) }
+    ensures memory { IsOkUnless result Panic.NoRoom }
+{
+    if multi {
+        return Ok(events);
+    }
+    merged(alloc, directed, &events)
+}
+
+// Of the events with the same two ends one, at the first one's place, with the least length.
+fn merged(alloc: Global, directed: bool, events: &[Event]) -> Result<Vec<Event>, Panic>
+    ensures ok { IfOk result (λ left. left.items ≡ merged directed events.now) }
+    ensures memory { IsOkUnless result Panic.NoRoom }
+{
+    let mut left = Vec::new(alloc);
+    // The ends of the events that are left, in the same order.
+    let mut ends = IndexSet::new(alloc);
+    for event in events {
+        merge_event(&mut left, &mut ends, directed, *event)?;
+    }
+    Ok(left)
+}
+
+// Shortens the event that has the ends of this one, or puts this one last. `ends` has the ends of those in `left`.
+fn merge_event(
+    left: &mut Vec<Event>,
+    ends: &mut IndexSet<(u32, u32)>,
+    directed: bool,
+    event: Event,
+) -> Result<(), Panic>
+    requires ends { ends.old.keys ≡ map (ends_key directed) left.old.items }
+    ensures ok { OnOk result (left.new.items ≡ with_event directed left.old.items event) }
+    ensures ends { OnOk result (ends.new.keys ≡ map (ends_key directed) left.new.items) }
+    ensures memory { IsOkUnless result Panic.NoRoom }
+{
+    let (place, is_new) = ends.insert_full(event.ends(directed))?;
+    if is_new {
+        left.push(event)?;
+        return Ok(());
+    }
+    left[place] = left[place].shortened(event);
+    Ok(())
+}
