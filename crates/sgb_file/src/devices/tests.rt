@@ -25,79 +25,79 @@ const ALPHABET: &[u8] = b"abcdefghijklmnopqrstuvwxyz";
 fn a_memory_source_gives_its_bytes_and_ends(rt: HostRuntime) {
     let mut source = MemSource::new(b"abcde");
     let mut buffer = [0; 3];
-    assert_eq!(rt; source.take(&mut buffer), Ok(3));
-    assert_eq!(rt; buffer.as_slice(), b"abc".as_slice());
-    assert_eq!(rt; source.take(&mut buffer), Ok(2));
-    assert_eq!(rt; buffer.as_slice(), b"dec".as_slice());
-    assert_eq!(rt; source.take(&mut buffer), Ok(0));
+    assert!(rt; source.take(&mut buffer) == Ok(3));
+    assert!(rt; buffer.as_slice() == b"abc".as_slice());
+    assert!(rt; source.take(&mut buffer) == Ok(2));
+    assert!(rt; buffer.as_slice() == b"dec".as_slice());
+    assert!(rt; source.take(&mut buffer) == Ok(0));
     assert!(rt; !source.failed());
 }
 
 #[test]
 fn a_memory_sink_keeps_all(rt: HostRuntime) {
     let mut sink = MemSink::new(rt.alloc());
-    assert_eq!(rt; sink.put(b"abc"), Ok(3));
-    assert_eq!(rt; put_all(&mut sink, b"de"), Ok(()));
-    assert_eq!(rt; sink.flush(), Ok(()));
+    assert!(rt; sink.put(b"abc") == Ok(3));
+    assert!(rt; put_all(&mut sink, b"de") == Ok(()));
+    assert!(rt; sink.flush() == Ok(()));
     assert!(rt; !sink.failed());
-    assert_eq!(rt; sink.bytes(), b"abcde".as_slice());
+    assert!(rt; sink.bytes() == b"abcde".as_slice());
 }
 
 #[test]
 fn a_cut_source_stops_at_its_limit(rt: HostRuntime) {
     let mut source = CutSource::new(ALPHABET, 4, 6);
     let mut buffer = [0; 5];
-    assert_eq!(rt; source.take(&mut buffer), Ok(4));
-    assert_eq!(rt; buffer.as_slice(), b"abcd\0".as_slice());
-    assert_eq!(rt; source.take(&mut buffer), Ok(2));
-    assert_eq!(rt; buffer.as_slice(), b"efcd\0".as_slice());
+    assert!(rt; source.take(&mut buffer) == Ok(4));
+    assert!(rt; buffer.as_slice() == b"abcd\0".as_slice());
+    assert!(rt; source.take(&mut buffer) == Ok(2));
+    assert!(rt; buffer.as_slice() == b"efcd\0".as_slice());
     assert!(rt; !source.failed());
-    assert_eq!(rt; source.take(&mut buffer), Err(Failed));
+    assert!(rt; source.take(&mut buffer) == Err(Failed));
     assert!(rt; source.failed());
-    assert_eq!(rt; source.take(&mut buffer), Err(Failed));
+    assert!(rt; source.take(&mut buffer) == Err(Failed));
 }
 
 #[test]
 fn a_cut_source_fails_at_its_end_too(rt: HostRuntime) {
     let mut source = CutSource::new(b"ab", 9, 2);
     let mut buffer = [0; 5];
-    assert_eq!(rt; source.take(&mut buffer), Ok(2));
-    assert_eq!(rt; source.take(&mut buffer), Err(Failed));
+    assert!(rt; source.take(&mut buffer) == Ok(2));
+    assert!(rt; source.take(&mut buffer) == Err(Failed));
     let mut longer = CutSource::new(b"ab", 9, 3);
-    assert_eq!(rt; longer.take(&mut buffer), Ok(2));
-    assert_eq!(rt; longer.take(&mut buffer), Ok(0));
+    assert!(rt; longer.take(&mut buffer) == Ok(2));
+    assert!(rt; longer.take(&mut buffer) == Ok(0));
     assert!(rt; !longer.failed());
 }
 
 #[test]
 fn a_cut_sink_holds_the_prefix_up_to_its_limit(rt: HostRuntime) {
     let mut sink = CutSink::<64>::new(4, 10, false);
-    assert_eq!(rt; put_all(&mut sink, ALPHABET), Err(Failed));
-    assert_eq!(rt; sink.bytes(), b"abcdefghij".as_slice());
+    assert!(rt; put_all(&mut sink, ALPHABET) == Err(Failed));
+    assert!(rt; sink.bytes() == b"abcdefghij".as_slice());
     assert!(rt; sink.failed());
-    assert_eq!(rt; put_all(&mut sink, b""), Ok(()));
-    assert_eq!(rt; sink.flush(), Err(Failed));
+    assert!(rt; put_all(&mut sink, b"") == Ok(()));
+    assert!(rt; sink.flush() == Err(Failed));
 }
 
 #[test]
 fn a_cut_sink_fails_when_full(rt: HostRuntime) {
     let mut sink = CutSink::<3>::new(2, 10, false);
-    assert_eq!(rt; sink.put(b"abcd"), Ok(2));
-    assert_eq!(rt; sink.put(b"cd"), Ok(1));
-    assert_eq!(rt; sink.flush(), Ok(()));
+    assert!(rt; sink.put(b"abcd") == Ok(2));
+    assert!(rt; sink.put(b"cd") == Ok(1));
+    assert!(rt; sink.flush() == Ok(()));
     assert!(rt; !sink.failed());
-    assert_eq!(rt; sink.put(b"d"), Err(Failed));
-    assert_eq!(rt; sink.bytes(), b"abc".as_slice());
+    assert!(rt; sink.put(b"d") == Err(Failed));
+    assert!(rt; sink.bytes() == b"abc".as_slice());
 }
 
 #[test]
 fn a_cut_sink_fails_at_its_flush(rt: HostRuntime) {
     let mut sink = CutSink::<8>::new(8, 8, true);
-    assert_eq!(rt; put_all(&mut sink, b"abc"), Ok(()));
-    assert_eq!(rt; sink.flush(), Err(Failed));
+    assert!(rt; put_all(&mut sink, b"abc") == Ok(()));
+    assert!(rt; sink.flush() == Err(Failed));
     assert!(rt; sink.failed());
-    assert_eq!(rt; sink.put(b"d"), Err(Failed));
-    assert_eq!(rt; sink.bytes(), b"abc".as_slice());
+    assert!(rt; sink.put(b"d") == Err(Failed));
+    assert!(rt; sink.bytes() == b"abc".as_slice());
 }
 
 #[test]
@@ -107,8 +107,8 @@ fn a_memory_source_gives_long_texts_at_once(rt: HostRuntime) -> Result<(), Fail>
         let mut source = MemSource::new(&text);
         let mut buffer = long_text(rt.alloc(), len)?;
         buffer.fill(255);
-        assert_eq!(rt; source.take(&mut buffer), Ok(len));
-        assert_eq!(rt; buffer.as_slice(), text.as_slice());
+        assert!(rt; source.take(&mut buffer) == Ok(len));
+        assert!(rt; buffer.as_slice() == text.as_slice());
     }
     Ok(())
 }
@@ -118,9 +118,9 @@ fn a_memory_sink_takes_long_texts_at_once(rt: HostRuntime) -> Result<(), Fail> {
     for len in LENGTHS {
         let text = long_text(rt.alloc(), len)?;
         let mut sink = MemSink::new(rt.alloc());
-        assert_eq!(rt; sink.put(&text), Ok(len));
-        assert_eq!(rt; sink.bytes(), text.as_slice());
-        assert_eq!(rt; sink.put(&text), Ok(len));
+        assert!(rt; sink.put(&text) == Ok(len));
+        assert!(rt; sink.bytes() == text.as_slice());
+        assert!(rt; sink.put(&text) == Ok(len));
     }
     Ok(())
 }

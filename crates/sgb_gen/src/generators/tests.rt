@@ -1,7 +1,11 @@
 use super::{board, simplex, subsets};
 use sgb_graph::{Graph, Kind};
 use sgb_vec::Panic;
+use std::process::Abort;
 use std::test::Fail;
+
+// A vertex with its name and its list of arcs, each with its tip and length.
+type Block<'a> = (u32, &'a [u8], &'a [(u32, i64)]);
 
 // Whether vertex v has this name, and a list of these arcs, each with its tip and length.
 fn has_block(graph: &Graph, v: u32, name: &[u8], list: &[(u32, i64)]) -> bool {
@@ -20,242 +24,311 @@ fn has_block(graph: &Graph, v: u32, name: &[u8], list: &[(u32, i64)]) -> bool {
     expected.next().is_none()
 }
 
-#[test]
-fn four_squares(rt: HostRuntime) -> Result<(), Fail> {
-    let graph = board(rt.alloc(), 2, 2, 0, 0, 1, 0, false)?;
-    assert_eq!(rt; graph.id().bytes(), b"board(2,2,0,0,1,0,0)".as_slice());
-    assert_eq!(rt; graph.n(), 4);
-    assert_eq!(rt; graph.m(), 8);
-    assert!(rt; has_block(&graph, 0, b"0.0", &[(2, 1), (1, 1)]));
-    assert!(rt; has_block(&graph, 1, b"0.1", &[(3, 1), (0, 1)]));
-    assert!(rt; has_block(&graph, 2, b"1.0", &[(0, 1), (3, 1)]));
-    assert!(rt; has_block(&graph, 3, b"1.1", &[(1, 1), (2, 1)]));
-    Ok(())
+// Compares the graph with its id, its counts of vertices and arcs and some of its vertices.
+fn compare<A: Abort>(rt: &A, graph: &Graph, id: &[u8], n: u32, m: u64, blocks: &[Block]) {
+    assert!(rt; graph.id().bytes() == id);
+    assert!(rt; graph.n() == n);
+    assert!(rt; graph.m() == m);
+    // where there is a vertex, its coordinates are kept as numbers
+    assert!(rt; (graph.kinds()[3] == Kind::Z) == (n == 0));
+    for (v, name, list) in blocks {
+        assert!(rt; has_block(graph, *v, name, list));
+    }
 }
 
-#[test]
-fn a_ring_for_riders(rt: HostRuntime) -> Result<(), Fail> {
-    let graph = board(rt.alloc(), 3, 0, 0, 0, -1, 1, false)?;
-    assert_eq!(rt; graph.id().bytes(), b"board(3,0,0,0,-1,1,0)".as_slice());
-    assert_eq!(rt; graph.m(), 12);
-    assert!(rt; has_block(&graph, 0, b"0", &[(2, 1), (1, 2), (2, 2), (1, 1)]));
-    assert!(rt; has_block(&graph, 1, b"1", &[(2, 2), (0, 2), (2, 1), (0, 1)]));
-    assert!(rt; has_block(&graph, 2, b"2", &[(1, 2), (0, 1), (1, 1), (0, 2)]));
-    Ok(())
-}
-
-#[test]
-fn one_square(rt: HostRuntime) -> Result<(), Fail> {
-    let edge = board(rt.alloc(), 1, 0, 0, 0, 1, 1, false)?;
-    assert_eq!(rt; edge.m(), 2);
-    assert!(rt; has_block(&edge, 0, b"0", &[(0, 1), (0, 1)]));
-    assert_eq!(rt; board(rt.alloc(), 1, 0, 0, 0, 1, 1, true)?.m(), 1);
-    assert_eq!(rt; board(rt.alloc(), 1, 0, 0, 0, -1, 1, false)?.m(), 0);
-    Ok(())
-}
-
-#[test]
-fn chessboards(rt: HostRuntime) -> Result<(), Fail> {
+const BOARDS: [(
+    [i64; 6],
+    bool,
+    &'static [u8],
+    u32,
+    u64,
+    &'static [Block<'static>],
+); 11] = [
+    (
+        [2, 2, 0, 0, 1, 0],
+        false,
+        b"board(2,2,0,0,1,0,0)",
+        4,
+        8,
+        &[
+            (0, b"0.0", &[(2, 1), (1, 1)]),
+            (1, b"0.1", &[(3, 1), (0, 1)]),
+            (2, b"1.0", &[(0, 1), (3, 1)]),
+            (3, b"1.1", &[(1, 1), (2, 1)]),
+        ],
+    ),
+    // a ring for riders
+    (
+        [3, 0, 0, 0, -1, 1],
+        false,
+        b"board(3,0,0,0,-1,1,0)",
+        3,
+        12,
+        &[
+            (0, b"0", &[(2, 1), (1, 2), (2, 2), (1, 1)]),
+            (1, b"1", &[(2, 2), (0, 2), (2, 1), (0, 1)]),
+            (2, b"2", &[(1, 2), (0, 1), (1, 1), (0, 2)]),
+        ],
+    ),
+    (
+        [1, 0, 0, 0, 1, 1],
+        false,
+        b"board(1,0,0,0,1,1,0)",
+        1,
+        2,
+        &[(0, b"0", &[(0, 1), (0, 1)])],
+    ),
+    ([1, 0, 0, 0, 1, 1], true, b"board(1,0,0,0,1,1,1)", 1, 1, &[]),
+    (
+        [1, 0, 0, 0, -1, 1],
+        false,
+        b"board(1,0,0,0,-1,1,0)",
+        1,
+        0,
+        &[],
+    ),
     // the rook's, the king's diagonal, the knight's and the queen's diagonal moves on 8 by 8
-    let arcs = [(1, 224), (2, 196), (5, 336), (-2, 560)];
-    for (piece, m) in arcs {
-        let graph = board(rt.alloc(), 0, 5, 5, 5, piece, 0, false)?;
-        assert_eq!(rt; graph.n(), 64);
-        assert_eq!(rt; graph.m(), m);
+    (
+        [0, 5, 5, 5, 1, 0],
+        false,
+        b"board(8,8,0,0,1,0,0)",
+        64,
+        224,
+        &[],
+    ),
+    (
+        [0, 5, 5, 5, 2, 0],
+        false,
+        b"board(8,8,0,0,2,0,0)",
+        64,
+        196,
+        &[],
+    ),
+    (
+        [0, 5, 5, 5, 5, 0],
+        false,
+        b"board(8,8,0,0,5,0,0)",
+        64,
+        336,
+        &[],
+    ),
+    (
+        [0, 5, 5, 5, -2, 0],
+        false,
+        b"board(8,8,0,0,-2,0,0)",
+        64,
+        560,
+        &[],
+    ),
+    // each of 600 places has two neighbours in each of two dimensions, at one edge each
+    (
+        [20, 30, 0, 0, 1, -1],
+        true,
+        b"board(20,30,0,0,1,-1,1)",
+        600,
+        1_200,
+        &[(599, b"19.29", &[(29, 1), (570, 1)])],
+    ),
+    (
+        [2, 0, 0, 0, -2_147_483_647, 0],
+        false,
+        b"board(2,0,0,0,-2147483647,0,0)",
+        2,
+        0,
+        &[],
+    ),
+];
+
+#[test]
+fn boards(rt: HostRuntime) -> Result<(), Fail> {
+    for ([n1, n2, n3, n4, piece, wrap], directed, id, n, m, blocks) in BOARDS {
+        let graph = board(rt.alloc(), n1, n2, n3, n4, piece, wrap, directed)?;
+        compare(&rt, &graph, id, n, m, blocks);
     }
     Ok(())
 }
 
 #[test]
-fn torus(rt: HostRuntime) -> Result<(), Fail> {
-    // each of 600 places has two neighbours in each of two dimensions, at one edge each
-    let graph = board(rt.alloc(), 20, 30, 0, 0, 1, -1, true)?;
-    assert_eq!(rt; graph.id().bytes(), b"board(20,30,0,0,1,-1,1)".as_slice());
-    assert_eq!(rt; graph.m(), 1_200);
-    assert!(rt; has_block(&graph, 599, b"19.29", &[(29, 1), (570, 1)]));
+fn refused_boards(rt: HostRuntime) {
+    for ([n1, n2, piece], panic) in [
+        ([2, -92, 1], Panic::Bad),
+        ([2, -30, 1], Panic::VeryBad),
+        ([2, 0, 2_147_483_648], Panic::VeryBad),
+        ([2, 0, -2_147_483_648], Panic::VeryBad),
+    ] {
+        let refusal = board(rt.alloc(), n1, n2, 0, 0, piece, 0, false).err();
+        assert!(rt; refusal == Some(panic));
+    }
+}
+
+const SIMPLEXES: [([i64; 3], &'static [u8], u32, u64, &'static [Block<'static>]); 4] = [
+    (
+        [2, 0, 0],
+        b"simplex(2,-2,0,0,0,0,0)",
+        6,
+        18,
+        &[
+            (0, b"0.0.2", &[(3, 1), (1, 1)]),
+            (1, b"0.1.1", &[(4, 1), (3, 1), (2, 1), (0, 1)]),
+            (2, b"0.2.0", &[(4, 1), (1, 1)]),
+            (3, b"1.0.1", &[(5, 1), (4, 1), (0, 1), (1, 1)]),
+            (4, b"1.1.0", &[(5, 1), (3, 1), (1, 1), (2, 1)]),
+            (5, b"2.0.0", &[(3, 1), (4, 1)]),
+        ],
+    ),
+    ([5, 2, 2], b"simplex(5,2,2,0,0,0,0)", 0, 0, &[]),
+    (
+        [0, 3, 0],
+        b"simplex(0,0,0,0,0,0,0)",
+        1,
+        0,
+        &[(0, b"0", &[])],
+    ),
+    (
+        [3, 3, 0],
+        b"simplex(3,3,0,0,0,0,0)",
+        1,
+        0,
+        &[(0, b"3", &[])],
+    ),
+];
+
+#[test]
+fn simplexes(rt: HostRuntime) -> Result<(), Fail> {
+    for ([total, n0, n1], id, n, m, blocks) in SIMPLEXES {
+        let graph = simplex(rt.alloc(), total, n0, n1, 0, 0, 0, false)?;
+        compare(&rt, &graph, id, n, m, blocks);
+    }
     Ok(())
 }
 
-#[test]
-fn refusals(rt: HostRuntime) -> Result<(), Fail> {
-    assert_eq!(rt;
-        board(rt.alloc(), 2, -92, 0, 0, 1, 0, false).err(),
-        Some(Panic::Bad)
-    );
-    assert_eq!(rt;
-        board(rt.alloc(), 2, -30, 0, 0, 1, 0, false).err(),
-        Some(Panic::VeryBad)
-    );
-    assert_eq!(rt;
-        board(rt.alloc(), 2, 0, 0, 0, 2_147_483_648, 0, false).err(),
-        Some(Panic::VeryBad)
-    );
-    assert_eq!(rt;
-        board(rt.alloc(), 2, 0, 0, 0, -2_147_483_648, 0, false).err(),
-        Some(Panic::VeryBad)
-    );
-    assert_eq!(rt;
-        board(rt.alloc(), 2, 0, 0, 0, -2_147_483_647, 0, false)?.m(),
-        0
-    );
-    Ok(())
-}
+// The refusals of simplexes, which subsets have too.
+const REFUSALS: [(i64, i64, Panic); 3] = [
+    (-1, 0, Panic::Bad),
+    (1_000_000_001, 1, Panic::VeryBad),
+    (30, -30, Panic::VeryBad),
+];
 
 #[test]
-fn six_vectors_of_sum_two(rt: HostRuntime) -> Result<(), Fail> {
-    let graph = simplex(rt.alloc(), 2, 0, 0, 0, 0, 0, false)?;
-    assert_eq!(rt; graph.id().bytes(), b"simplex(2,-2,0,0,0,0,0)".as_slice());
-    assert_eq!(rt; graph.n(), 6);
-    assert_eq!(rt; graph.m(), 18);
-    assert!(rt; has_block(&graph, 0, b"0.0.2", &[(3, 1), (1, 1)]));
-    assert!(rt; has_block(&graph, 1, b"0.1.1", &[(4, 1), (3, 1), (2, 1), (0, 1)]));
-    assert!(rt; has_block(&graph, 2, b"0.2.0", &[(4, 1), (1, 1)]));
-    assert!(rt; has_block(&graph, 3, b"1.0.1", &[(5, 1), (4, 1), (0, 1), (1, 1)]));
-    assert!(rt; has_block(&graph, 4, b"1.1.0", &[(5, 1), (3, 1), (1, 1), (2, 1)]));
-    assert!(rt; has_block(&graph, 5, b"2.0.0", &[(3, 1), (4, 1)]));
-    Ok(())
+fn refused_simplexes_and_subsets(rt: HostRuntime) {
+    for (n, n0, panic) in REFUSALS {
+        let refusal = simplex(rt.alloc(), n, n0, 0, 0, 0, 0, false).err();
+        assert!(rt; refusal == Some(panic));
+        let refusal = subsets(rt.alloc(), n, n0, 0, 0, 0, 0, 1, false).err();
+        assert!(rt; refusal == Some(panic));
+    }
 }
 
-#[test]
-fn no_vector_and_one(rt: HostRuntime) -> Result<(), Fail> {
-    let empty = simplex(rt.alloc(), 5, 2, 2, 0, 0, 0, false)?;
-    assert_eq!(rt; empty.id().bytes(), b"simplex(5,2,2,0,0,0,0)".as_slice());
-    assert_eq!(rt; empty.n(), 0);
-    assert_eq!(rt; *empty.kinds(), [Kind::Z; 14]);
-    let zero = simplex(rt.alloc(), 0, 3, 0, 0, 0, 0, false)?;
-    assert_eq!(rt; zero.id().bytes(), b"simplex(0,0,0,0,0,0,0)".as_slice());
-    assert_eq!(rt; zero.n(), 1);
-    assert!(rt; has_block(&zero, 0, b"0", &[]));
-    let three = simplex(rt.alloc(), 3, 3, 0, 0, 0, 0, false)?;
-    assert_eq!(rt; three.n(), 1);
-    assert!(rt; has_block(&three, 0, b"3", &[]));
-    Ok(())
-}
+const SUBSETS: [(
+    [i64; 4],
+    u64,
+    bool,
+    &'static [u8],
+    u32,
+    u64,
+    &'static [Block<'static>],
+); 9] = [
+    (
+        [3, 2, 2, 2],
+        3,
+        false,
+        b"subsets(3,2,2,2,0,0,0x3,0)",
+        7,
+        18,
+        &[(3, b"1.1.1", &[]), (6, b"2.1.0", &[(2, 1), (1, 1), (0, 1)])],
+    ),
+    // the Petersen graph
+    (
+        [2, 1, -4, 0],
+        1,
+        false,
+        b"subsets(2,1,-4,0,0,0,0x1,0)",
+        10,
+        30,
+        &[
+            (0, b"0.0.0.1.1", &[(9, 1), (8, 1), (5, 1)]),
+            (9, b"1.1.0.0.0", &[(2, 1), (1, 1), (0, 1)]),
+            (8, b"1.0.1.0.0", &[(4, 1), (3, 1), (0, 1)]),
+            (5, b"0.1.1.0.0", &[(7, 1), (6, 1), (0, 1)]),
+        ],
+    ),
+    // loops, as edges and as arcs
+    (
+        [1, 1, 1, 0],
+        2,
+        false,
+        b"subsets(1,1,1,0,0,0,0x2,0)",
+        2,
+        4,
+        &[
+            (0, b"0.1", &[(0, 1), (0, 1)]),
+            (1, b"1.0", &[(1, 1), (1, 1)]),
+        ],
+    ),
+    (
+        [1, 1, 1, 0],
+        2,
+        true,
+        b"subsets(1,1,1,0,0,0,0x2,1)",
+        2,
+        2,
+        &[(0, b"0.1", &[(0, 1)]), (1, b"1.0", &[(1, 1)])],
+    ),
+    // arcs go to later vertices
+    (
+        [1, 1, 1, 0],
+        1,
+        true,
+        b"subsets(1,1,1,0,0,0,0x1,1)",
+        2,
+        1,
+        &[(0, b"0.1", &[(1, 1)]), (1, b"1.0", &[])],
+    ),
+    // no size is wanted
+    (
+        [2, 0, 0, 0],
+        0,
+        false,
+        b"subsets(2,-2,0,0,0,0,0x0,0)",
+        6,
+        0,
+        &[],
+    ),
+    // the greatest size that has a bit, and one above it
+    (
+        [63, 63, 0, 0],
+        1 << 63,
+        false,
+        b"subsets(63,63,0,0,0,0,0x8000000000000000,0)",
+        1,
+        2,
+        &[(0, b"63", &[(0, 1), (0, 1)])],
+    ),
+    (
+        [64, 64, 0, 0],
+        u64::MAX,
+        false,
+        b"subsets(64,64,0,0,0,0,0xffffffffffffffff,0)",
+        1,
+        0,
+        &[(0, b"64", &[])],
+    ),
+    (
+        [5, 2, 2, 0],
+        1,
+        false,
+        b"subsets(5,2,2,0,0,0,0x1,0)",
+        0,
+        0,
+        &[],
+    ),
+];
 
 #[test]
-fn refused_simplexes(rt: HostRuntime) -> Result<(), Fail> {
-    assert_eq!(rt;
-        simplex(rt.alloc(), -1, 0, 0, 0, 0, 0, false).err(),
-        Some(Panic::Bad)
-    );
-    assert_eq!(rt;
-        simplex(rt.alloc(), 1_000_000_001, 1, 0, 0, 0, 0, false).err(),
-        Some(Panic::VeryBad)
-    );
-    assert_eq!(rt;
-        simplex(rt.alloc(), 30, -30, 0, 0, 0, 0, false).err(),
-        Some(Panic::VeryBad)
-    );
-    Ok(())
-}
-
-#[test]
-fn multisets_of_three(rt: HostRuntime) -> Result<(), Fail> {
-    let graph = subsets(rt.alloc(), 3, 2, 2, 2, 0, 0, 3, false)?;
-    assert_eq!(rt;
-        graph.id().bytes(),
-        b"subsets(3,2,2,2,0,0,0x3,0)".as_slice()
-    );
-    assert_eq!(rt; graph.n(), 7);
-    assert_eq!(rt; graph.m(), 18);
-    assert!(rt; has_block(&graph, 3, b"1.1.1", &[]));
-    assert!(rt; has_block(&graph, 6, b"2.1.0", &[(2, 1), (1, 1), (0, 1)]));
-    Ok(())
-}
-
-#[test]
-fn petersen_graph(rt: HostRuntime) -> Result<(), Fail> {
-    let graph = subsets(rt.alloc(), 2, 1, -4, 0, 0, 0, 1, false)?;
-    assert_eq!(rt;
-        graph.id().bytes(),
-        b"subsets(2,1,-4,0,0,0,0x1,0)".as_slice()
-    );
-    assert_eq!(rt; graph.n(), 10);
-    assert_eq!(rt; graph.m(), 30);
-    assert!(rt; has_block(&graph, 0, b"0.0.0.1.1", &[(9, 1), (8, 1), (5, 1)]));
-    assert_eq!(rt; graph.name(9).bytes(), b"1.1.0.0.0".as_slice());
-    assert_eq!(rt; graph.name(8).bytes(), b"1.0.1.0.0".as_slice());
-    assert_eq!(rt; graph.name(5).bytes(), b"0.1.1.0.0".as_slice());
-    Ok(())
-}
-
-#[test]
-fn loops_of_subsets(rt: HostRuntime) -> Result<(), Fail> {
-    let edges = subsets(rt.alloc(), 1, 1, 1, 0, 0, 0, 2, false)?;
-    assert_eq!(rt; edges.m(), 4);
-    assert!(rt; has_block(&edges, 0, b"0.1", &[(0, 1), (0, 1)]));
-    assert!(rt; has_block(&edges, 1, b"1.0", &[(1, 1), (1, 1)]));
-    let arcs = subsets(rt.alloc(), 1, 1, 1, 0, 0, 0, 2, true)?;
-    assert_eq!(rt; arcs.id().bytes(), b"subsets(1,1,1,0,0,0,0x2,1)".as_slice());
-    assert_eq!(rt; arcs.m(), 2);
-    assert!(rt; has_block(&arcs, 0, b"0.1", &[(0, 1)]));
-    assert!(rt; has_block(&arcs, 1, b"1.0", &[(1, 1)]));
-    Ok(())
-}
-
-#[test]
-fn arcs_to_later_subsets(rt: HostRuntime) -> Result<(), Fail> {
-    let graph = subsets(rt.alloc(), 1, 1, 1, 0, 0, 0, 1, true)?;
-    assert_eq!(rt; graph.m(), 1);
-    assert!(rt; has_block(&graph, 0, b"0.1", &[(1, 1)]));
-    assert!(rt; has_block(&graph, 1, b"1.0", &[]));
-    Ok(())
-}
-
-#[test]
-fn no_sizes_wanted(rt: HostRuntime) -> Result<(), Fail> {
-    let graph = subsets(rt.alloc(), 2, 0, 0, 0, 0, 0, 0, false)?;
-    assert_eq!(rt;
-        graph.id().bytes(),
-        b"subsets(2,-2,0,0,0,0,0x0,0)".as_slice()
-    );
-    assert_eq!(rt; graph.n(), 6);
-    assert_eq!(rt; graph.m(), 0);
-    Ok(())
-}
-
-#[test]
-fn greatest_sizes(rt: HostRuntime) -> Result<(), Fail> {
-    let last = subsets(rt.alloc(), 63, 63, 0, 0, 0, 0, 1 << 63, false)?;
-    assert_eq!(rt;
-        last.id().bytes(),
-        b"subsets(63,63,0,0,0,0,0x8000000000000000,0)".as_slice()
-    );
-    assert!(rt; has_block(&last, 0, b"63", &[(0, 1), (0, 1)]));
-    let above = subsets(rt.alloc(), 64, 64, 0, 0, 0, 0, u64::MAX, false)?;
-    assert_eq!(rt;
-        above.id().bytes(),
-        b"subsets(64,64,0,0,0,0,0xffffffffffffffff,0)".as_slice()
-    );
-    assert!(rt; has_block(&above, 0, b"64", &[]));
-    Ok(())
-}
-
-#[test]
-fn no_subsets(rt: HostRuntime) -> Result<(), Fail> {
-    let graph = subsets(rt.alloc(), 5, 2, 2, 0, 0, 0, 1, false)?;
-    assert_eq!(rt;
-        graph.id().bytes(),
-        b"subsets(5,2,2,0,0,0,0x1,0)".as_slice()
-    );
-    assert_eq!(rt; graph.n(), 0);
-    assert_eq!(rt; graph.m(), 0);
-    Ok(())
-}
-
-#[test]
-fn refused_subsets(rt: HostRuntime) -> Result<(), Fail> {
-    assert_eq!(rt;
-        subsets(rt.alloc(), -1, 0, 0, 0, 0, 0, 1, false).err(),
-        Some(Panic::Bad)
-    );
-    assert_eq!(rt;
-        subsets(rt.alloc(), 1_000_000_001, 1, 0, 0, 0, 0, 1, false).err(),
-        Some(Panic::VeryBad)
-    );
-    assert_eq!(rt;
-        subsets(rt.alloc(), 30, -30, 0, 0, 0, 0, 1, false).err(),
-        Some(Panic::VeryBad)
-    );
+fn graphs_of_subsets(rt: HostRuntime) -> Result<(), Fail> {
+    for ([total, n0, n1, n2], size_bits, directed, id, n, m, blocks) in SUBSETS {
+        let graph = subsets(rt.alloc(), total, n0, n1, n2, 0, 0, size_bits, directed)?;
+        compare(&rt, &graph, id, n, m, blocks);
+    }
     Ok(())
 }

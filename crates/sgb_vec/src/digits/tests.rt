@@ -14,16 +14,16 @@ fn digits_are_taken_up_to_a_byte_that_is_none(rt: HostRuntime) {
         (b"0102", 2, 16, b"010"),
     ];
     for (text, radix, most, digits) in table {
-        assert_eq!(rt; leading_digits(text, radix, most), digits);
+        assert!(rt; leading_digits(text, radix, most) == digits);
     }
 }
 
 #[test]
 fn digits_write_a_number(rt: HostRuntime) {
-    assert_eq!(rt; digits_value(b"0", 10), 0);
-    assert_eq!(rt; digits_value(b"007", 10), 7);
-    assert_eq!(rt; digits_value(b"18446744073709551615", 10), u64::MAX);
-    assert_eq!(rt; digits_value(b"fFfFfFfFfFfFfFfF", 16), u64::MAX);
-    assert_eq!(rt; digits_value(b"1010", 2), 10);
-    assert_eq!(rt; digits_value(b"Zz", 36), 1295);
+    assert!(rt; digits_value(b"0", 10) == 0);
+    assert!(rt; digits_value(b"007", 10) == 7);
+    assert!(rt; digits_value(b"18446744073709551615", 10) == u64::MAX);
+    assert!(rt; digits_value(b"fFfFfFfFfFfFfFfF", 16) == u64::MAX);
+    assert!(rt; digits_value(b"1010", 2) == 10);
+    assert!(rt; digits_value(b"Zz", 36) == 1295);
 }

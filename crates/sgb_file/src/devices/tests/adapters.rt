@@ -85,10 +85,10 @@ impl Write for Counts {
 fn a_reader_is_a_source(rt: HostRuntime) {
     let mut source = FromRead::new(b"abc".as_slice());
     let mut buffer = [0; 2];
-    assert_eq!(rt; source.take(&mut buffer), Ok(2));
-    assert_eq!(rt; buffer.as_slice(), b"ab".as_slice());
-    assert_eq!(rt; source.take(&mut buffer), Ok(1));
-    assert_eq!(rt; source.take(&mut buffer), Ok(0));
+    assert!(rt; source.take(&mut buffer) == Ok(2));
+    assert!(rt; buffer.as_slice() == b"ab".as_slice());
+    assert!(rt; source.take(&mut buffer) == Ok(1));
+    assert!(rt; source.take(&mut buffer) == Ok(0));
     assert!(rt; !source.failed());
 }
 
@@ -96,12 +96,12 @@ fn a_reader_is_a_source(rt: HostRuntime) {
 fn a_writer_is_a_sink(rt: HostRuntime) {
     let mut written = Vec::new(rt.alloc());
     let mut sink = ToWrite::new(&mut written);
-    assert_eq!(rt; put_all(&mut sink, b"abc"), Ok(()));
-    assert_eq!(rt; sink.put(b"de"), Ok(2));
-    assert_eq!(rt; sink.flush(), Ok(()));
+    assert!(rt; put_all(&mut sink, b"abc") == Ok(()));
+    assert!(rt; sink.put(b"de") == Ok(2));
+    assert!(rt; sink.flush() == Ok(()));
     assert!(rt; !sink.failed());
     drop(sink);
-    assert_eq!(rt; written.as_slice(), b"abcde".as_slice());
+    assert!(rt; written.as_slice() == b"abcde".as_slice());
 }
 
 #[test]
@@ -111,17 +111,17 @@ fn long_texts_are_read_at_once(rt: HostRuntime) -> Result<(), Fail> {
         let mut buffer = long_text(rt.alloc(), len)?;
         buffer.fill(255);
         let mut source = FromRead::new(text.as_slice());
-        assert_eq!(rt; source.take(&mut buffer), Ok(len));
-        assert_eq!(rt; buffer.as_slice(), text.as_slice());
+        assert!(rt; source.take(&mut buffer) == Ok(len));
+        assert!(rt; buffer.as_slice() == text.as_slice());
         let mut reader = FailsOnce {
             at: 0,
             kind: ErrorKind::Other,
             reads: 0,
         };
         let mut source = FromRead::new(&mut reader);
-        assert_eq!(rt; source.take(&mut buffer), Ok(len));
+        assert!(rt; source.take(&mut buffer) == Ok(len));
         drop(source);
-        assert_eq!(rt; reader.reads, 1);
+        assert!(rt; reader.reads == 1);
     }
     Ok(())
 }
@@ -132,17 +132,17 @@ fn long_texts_are_written_at_once(rt: HostRuntime) -> Result<(), Fail> {
         let text = long_text(rt.alloc(), len)?;
         let mut written = Vec::new(rt.alloc());
         let mut sink = ToWrite::new(&mut written);
-        assert_eq!(rt; sink.put(&text), Ok(len));
+        assert!(rt; sink.put(&text) == Ok(len));
         drop(sink);
-        assert_eq!(rt; written.as_slice(), text.as_slice());
+        assert!(rt; written.as_slice() == text.as_slice());
         let mut writer = Counts::new(len);
         let mut sink = ToWrite::new(&mut writer);
-        assert_eq!(rt; sink.put(&text), Ok(len));
-        assert_eq!(rt; put_all(&mut sink, &text), Ok(()));
+        assert!(rt; sink.put(&text) == Ok(len));
+        assert!(rt; put_all(&mut sink, &text) == Ok(()));
         drop(sink);
-        assert_eq!(rt; writer.writes, 2);
-        assert_eq!(rt; writer.taken, 2 * len);
-        assert_eq!(rt; writer.flushes, 0);
+        assert!(rt; writer.writes == 2);
+        assert!(rt; writer.taken == 2 * len);
+        assert!(rt; writer.flushes == 0);
     }
     Ok(())
 }
@@ -152,11 +152,11 @@ fn a_text_is_written_in_as_few_calls_as_the_writer_takes(rt: HostRuntime) -> Res
     let text = long_text(rt.alloc(), 100_000)?;
     let mut writer = Counts::new(4_096);
     let mut sink = ToWrite::new(&mut writer);
-    assert_eq!(rt; put_all(&mut sink, &text), Ok(()));
-    assert_eq!(rt; put_all(&mut sink, b""), Ok(()));
+    assert!(rt; put_all(&mut sink, &text) == Ok(()));
+    assert!(rt; put_all(&mut sink, b"") == Ok(()));
     drop(sink);
-    assert_eq!(rt; writer.writes, 25);
-    assert_eq!(rt; writer.taken, 100_000);
+    assert!(rt; writer.writes == 25);
+    assert!(rt; writer.taken == 100_000);
     Ok(())
 }
 
@@ -168,15 +168,15 @@ fn the_first_failed_read_is_final(rt: HostRuntime) {
             let mut source = FromRead::new(&mut reader);
             let mut buffer = [0; 8];
             for _ in 1..at {
-                assert_eq!(rt; source.take(&mut buffer), Ok(8));
+                assert!(rt; source.take(&mut buffer) == Ok(8));
                 assert!(rt; !source.failed());
             }
             for _ in 0..3 {
-                assert_eq!(rt; source.take(&mut buffer), Err(Failed));
+                assert!(rt; source.take(&mut buffer) == Err(Failed));
                 assert!(rt; source.failed());
             }
             drop(source);
-            assert_eq!(rt; reader.reads, at);
+            assert!(rt; reader.reads == at);
         }
     }
 }
@@ -189,15 +189,15 @@ fn the_first_failed_write_is_final(rt: HostRuntime) {
             writer.kind = kind;
             writer.failing_write = at;
             let mut sink = ToWrite::new(&mut writer);
-            assert_eq!(rt; put_all(&mut sink, b"abcdefgh"), Err(Failed));
+            assert!(rt; put_all(&mut sink, b"abcdefgh") == Err(Failed));
             assert!(rt; sink.failed());
-            assert_eq!(rt; sink.put(b"abc"), Err(Failed));
-            assert_eq!(rt; put_all(&mut sink, b"abc"), Err(Failed));
-            assert_eq!(rt; sink.flush(), Err(Failed));
+            assert!(rt; sink.put(b"abc") == Err(Failed));
+            assert!(rt; put_all(&mut sink, b"abc") == Err(Failed));
+            assert!(rt; sink.flush() == Err(Failed));
             assert!(rt; sink.failed());
             drop(sink);
-            assert_eq!(rt; writer.writes, at);
-            assert_eq!(rt; writer.flushes, 0);
+            assert!(rt; writer.writes == at);
+            assert!(rt; writer.flushes == 0);
         }
     }
 }
@@ -206,28 +206,28 @@ fn the_first_failed_write_is_final(rt: HostRuntime) {
 fn a_write_of_nothing_is_final(rt: HostRuntime) {
     let mut writer = Counts::new(0);
     let mut sink = ToWrite::new(&mut writer);
-    assert_eq!(rt; sink.put(b""), Ok(0));
+    assert!(rt; sink.put(b"") == Ok(0));
     assert!(rt; !sink.failed());
-    assert_eq!(rt; put_all(&mut sink, b"abc"), Err(Failed));
+    assert!(rt; put_all(&mut sink, b"abc") == Err(Failed));
     assert!(rt; sink.failed());
-    assert_eq!(rt; sink.put(b"abc"), Err(Failed));
-    assert_eq!(rt; sink.flush(), Err(Failed));
+    assert!(rt; sink.put(b"abc") == Err(Failed));
+    assert!(rt; sink.flush() == Err(Failed));
     drop(sink);
-    assert_eq!(rt; writer.writes, 2);
-    assert_eq!(rt; writer.flushes, 0);
+    assert!(rt; writer.writes == 2);
+    assert!(rt; writer.flushes == 0);
 }
 
 #[test]
 fn each_flush_reaches_the_writer_once(rt: HostRuntime) {
     let mut writer = Counts::new(8);
     let mut sink = ToWrite::new(&mut writer);
-    assert_eq!(rt; sink.flush(), Ok(()));
-    assert_eq!(rt; sink.put(b"abc"), Ok(3));
-    assert_eq!(rt; sink.flush(), Ok(()));
+    assert!(rt; sink.flush() == Ok(()));
+    assert!(rt; sink.put(b"abc") == Ok(3));
+    assert!(rt; sink.flush() == Ok(()));
     assert!(rt; !sink.failed());
     drop(sink);
-    assert_eq!(rt; writer.writes, 1);
-    assert_eq!(rt; writer.flushes, 2);
+    assert!(rt; writer.writes == 1);
+    assert!(rt; writer.flushes == 2);
 }
 
 #[test]
@@ -237,15 +237,15 @@ fn the_first_failed_flush_is_final(rt: HostRuntime) {
         writer.kind = kind;
         writer.failing_flush = 1;
         let mut sink = ToWrite::new(&mut writer);
-        assert_eq!(rt; sink.put(b"abc"), Ok(3));
-        assert_eq!(rt; sink.flush(), Err(Failed));
+        assert!(rt; sink.put(b"abc") == Ok(3));
+        assert!(rt; sink.flush() == Err(Failed));
         assert!(rt; sink.failed());
-        assert_eq!(rt; sink.flush(), Err(Failed));
-        assert_eq!(rt; sink.put(b"de"), Err(Failed));
+        assert!(rt; sink.flush() == Err(Failed));
+        assert!(rt; sink.put(b"de") == Err(Failed));
         assert!(rt; sink.failed());
         drop(sink);
-        assert_eq!(rt; writer.writes, 1);
-        assert_eq!(rt; writer.flushes, 1);
+        assert!(rt; writer.writes == 1);
+        assert!(rt; writer.flushes == 1);
     }
 }
 
@@ -267,16 +267,16 @@ fn a_buffer_is_given_up_with_the_first_fault(rt: HostRuntime) -> Result<(), Fail
             }
             if kind == ErrorKind::Interrupted {
                 // std's buffer writes again after an interrupt
-                assert_eq!(rt; fault, Ok(()));
+                assert!(rt; fault == Ok(()));
                 continue;
             }
-            assert_eq!(rt; fault, Err(Failed), "{failing}");
+            assert!(rt; fault == Err(Failed), "{failing}");
             assert!(rt; sink.failed());
-            assert_eq!(rt; sink.put(b"x"), Err(Failed));
-            assert_eq!(rt; sink.flush(), Err(Failed));
+            assert!(rt; sink.put(b"x") == Err(Failed));
+            assert!(rt; sink.flush() == Err(Failed));
             drop(sink);
-            assert_eq!(rt; writer.writes, failing);
-            assert_eq!(rt; writer.flushes, 0);
+            assert!(rt; writer.writes == failing);
+            assert!(rt; writer.flushes == 0);
         }
     }
     Ok(())
@@ -288,19 +288,19 @@ fn a_buffer_is_written_at_a_flush(rt: HostRuntime) -> Result<(), Fail> {
         let mut writer = Counts::new(100);
         writer.failing_flush = failing_flush;
         let mut sink = Buffered::new(rt.alloc(), &mut writer)?;
-        assert_eq!(rt; put_all(&mut sink, b"abc"), Ok(()));
-        assert_eq!(rt; sink.flush().is_err(), failing_flush == 1);
-        assert_eq!(rt; sink.failed(), failing_flush == 1);
+        assert!(rt; put_all(&mut sink, b"abc") == Ok(()));
+        assert!(rt; sink.flush().is_err() == (failing_flush == 1));
+        assert!(rt; sink.failed() == (failing_flush == 1));
         drop(sink);
-        assert_eq!(rt; writer.writes, 1);
-        assert_eq!(rt; writer.taken, 3);
-        assert_eq!(rt; writer.flushes, 1);
+        assert!(rt; writer.writes == 1);
+        assert!(rt; writer.taken == 3);
+        assert!(rt; writer.flushes == 1);
     }
     // what is held back is written when a sound sink is dropped
     let mut written = Vec::new(rt.alloc());
     let mut sink = Buffered::new(rt.alloc(), &mut written)?;
-    assert_eq!(rt; put_all(&mut sink, b"abc"), Ok(()));
+    assert!(rt; put_all(&mut sink, b"abc") == Ok(()));
     drop(sink);
-    assert_eq!(rt; written.as_slice(), b"abc".as_slice());
+    assert!(rt; written.as_slice() == b"abc".as_slice());
     Ok(())
 }

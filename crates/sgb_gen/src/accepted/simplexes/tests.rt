@@ -2,29 +2,38 @@ use super::Simplex;
 use sgb_vec::{Family, Panic};
 use std::test::Fail;
 
+// Parameters with the count of dimensions, the count of vectors and the id that they give.
+const ACCEPTED: [([i64; 6], bool, usize, u32, &'static [u8]); 2] = [
+    ([2, 0, 0, 0, 0, 0], true, 3, 6, b"simplex(2,-2,0,0,0,0,1)"),
+    (
+        [4, 9, 2, -5, 7, 7],
+        false,
+        6,
+        108,
+        b"simplex(4,4,2,-5,0,0,0)",
+    ),
+];
+
 #[test]
 fn family_and_id(rt: HostRuntime) -> Result<(), Fail> {
-    let simplex = Simplex::new(rt.alloc(), 2, 0, 0, 0, 0, 0, true)?;
-    assert_eq!(rt; simplex.family().dims(), 3);
-    assert_eq!(rt; simplex.family().size(), 6);
-    assert_eq!(rt; simplex.id().bytes(), b"simplex(2,-2,0,0,0,0,1)".as_slice());
+    for ([n, n0, n1, n2, n3, n4], directed, dims, size, id) in ACCEPTED {
+        let simplex = Simplex::new(rt.alloc(), n, n0, n1, n2, n3, n4, directed)?;
+        assert!(rt; simplex.family().dims() == dims);
+        assert!(rt; simplex.family().size() == size);
+        assert!(rt; simplex.id().bytes() == id);
+    }
     Ok(())
 }
 
 #[test]
-fn bounds_above_the_sum(rt: HostRuntime) -> Result<(), Fail> {
-    let simplex = Simplex::new(rt.alloc(), 4, 9, 2, -5, 7, 7, false)?;
-    assert_eq!(rt; simplex.id().bytes(), b"simplex(4,4,2,-5,0,0,0)".as_slice());
-    assert_eq!(rt; simplex.family().dims(), 6);
-    Ok(())
-}
-
-#[test]
-fn refusals(rt: HostRuntime) -> Result<(), Fail> {
-    let new = |n, n0| Simplex::new(rt.alloc(), n, n0, 0, 0, 0, 0, false).err();
-    assert_eq!(rt; new(-1, 0), Some(Panic::Bad));
-    assert_eq!(rt; new(1_000_000_001, 1), Some(Panic::VeryBad));
-    assert_eq!(rt; new(30, -30), Some(Panic::VeryBad));
-    assert_eq!(rt; new(30, -92), Some(Panic::Bad));
-    Ok(())
+fn refusals(rt: HostRuntime) {
+    for (n, n0, panic) in [
+        (-1, 0, Panic::Bad),
+        (1_000_000_001, 1, Panic::VeryBad),
+        (30, -30, Panic::VeryBad),
+        (30, -92, Panic::Bad),
+    ] {
+        let refusal = Simplex::new(rt.alloc(), n, n0, 0, 0, 0, 0, false).err();
+        assert!(rt; refusal == Some(panic));
+    }
 }
