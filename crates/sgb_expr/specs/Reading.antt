@@ -64,7 +64,7 @@ abbrev pub nested_at : ℕ → List ℕ → Result (Expression × List ℕ) ℕ
 nested_at zero = then_read (word_at family_openings) generator_at
 nested_at (suc depth) = then_read (word_at openings) (arguments_with (nested_at depth))
 
--- the expression with which the text begins, whose calls are fewer than the text's bytes
+-- the expression with which the text begins: no text has room for operations deeper than it has bytes
 unfoldable pub expression_at : List ℕ → Result (Expression × List ℕ) ℕ
 expression_at text = nested_at (length text) text
 

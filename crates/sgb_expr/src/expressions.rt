@@ -59,9 +59,11 @@ pub enum Unread {
 }
 
 /// The expression that the text is: one of GraphBase's official names and, in parentheses, its arguments with commas
-/// between them (GB_BASIC, board, simplex, subsets and their special cases), with no spaces. `size_bits` is 1 to 18
-/// digits, or `0x` and 1 to 16 hexadecimal ones; each other argument is an optional `-` and 1 to 18 digits. A short
-/// name is read as the parameters that it stands for.
+/// between them, with no spaces: `board`, `simplex`, `subsets` and their special cases, with integers; `complement`
+/// with an expression and three integers, `gunion` and `intersection` with two expressions and two integers (GB_BASIC).
+/// `size_bits` is 1 to 18 digits, or `0x` and 1 to 16 hexadecimal ones; each other integer is an optional `-` and 1 to
+/// 18 digits, and a flag is true where its integer is not zero. A short name is read as the parameters that it stands
+/// for.
 ///
 /// `TooLarge` before all else where the text has more than 65,536 bytes, or some prefix of it has over 64 more `(`
 /// than `)`. `At(k)` where it is no expression; its first k bytes are its longest prefix that begins one. `NoRoom`

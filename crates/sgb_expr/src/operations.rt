@@ -4,6 +4,7 @@ ghost use Rattle.sgb_expr.specs.Expression.{expression_of};
 ghost use Rattle.sgb_expr.specs.Gives.{Gives};
 ghost use Rattle.sgb_expr.specs.TwoGraphs.{operands_of};
 ghost use Rattle.sgb_expr.specs.declared.wrong.Wrong.TheVariants.{NoRoom};
+ghost use Rattle.sgb_expr.specs.Operations.{gunion_of, intersection_of};
 ghost use Rattle.sgb_expr.specs.Reading.{arguments_with, complement_with, expression_at, operands_with};
 
 use crate::arguments::family;
@@ -34,26 +35,12 @@ fn arguments(alloc: Global, name: Name, text: &[u8]) -> Result<(Expr, &[u8]), Wr
         }
         Name::Complement => complement(alloc, text),
         Name::Gunion => {
-            let (o, rest) = operands(alloc, text)?;
-            let [multi, directed] = o.numbers;
-            let gunion = Expr::Gunion {
-                first: o.first,
-                second: o.second,
-                multi: multi != 0,
-                directed: directed != 0,
-            };
-            Ok((gunion, rest))
+            let (graphs, rest) = two_graphs(alloc, text)?;
+            Ok((gunion(graphs), rest))
         }
         Name::Intersection => {
-            let (o, rest) = operands(alloc, text)?;
-            let [multi, directed] = o.numbers;
-            let intersection = Expr::Intersection {
-                first: o.first,
-                second: o.second,
-                multi: multi != 0,
-                directed: directed != 0,
-            };
-            Ok((intersection, rest))
+            let (graphs, rest) = two_graphs(alloc, text)?;
+            Ok((intersection(graphs), rest))
         }
     }
 }
@@ -84,11 +71,12 @@ struct TwoGraphs {
 
 // The two graphs and two integers with which the text begins, to a `)`.
 #[cycle(expressions)]
-fn operands(alloc: Global, text: &[u8]) -> Result<(TwoGraphs, &[u8]), Wrong>
+fn two_graphs(alloc: Global, text: &[u8]) -> Result<(TwoGraphs, &[u8]), Wrong>
     ensures { Gives (λ x. (operands_of x.0, x.1.now)) result (operands_with expression_at text.now) }
 {
     let (first, rest) = expression(alloc, text)?;
-    let (second, rest) = expression(alloc, fixed(b",", rest)?)?;
+    let begun = fixed(b",", rest)?;
+    let (second, rest) = expression(alloc, begun)?;
     let (numbers, rest) = integers(b",", rest, b")")?;
     let graphs = TwoGraphs {
         first: boxed(alloc, first)?,
@@ -96,6 +84,32 @@ fn operands(alloc: Global, text: &[u8]) -> Result<(TwoGraphs, &[u8]), Wrong>
         numbers,
     };
     Ok((graphs, rest))
+}
+
+// The union of two graphs, by whether it keeps parallel edges and is directed.
+fn gunion(graphs: TwoGraphs) -> Expr
+    ensures { expression_of result ≡ gunion_of (operands_of graphs) }
+{
+    let [multi, directed] = graphs.numbers;
+    Expr::Gunion {
+        first: graphs.first,
+        second: graphs.second,
+        multi: multi != 0,
+        directed: directed != 0,
+    }
+}
+
+// The intersection of two graphs, by whether it keeps parallel edges and is directed.
+fn intersection(graphs: TwoGraphs) -> Expr
+    ensures { expression_of result ≡ intersection_of (operands_of graphs) }
+{
+    let [multi, directed] = graphs.numbers;
+    Expr::Intersection {
+        first: graphs.first,
+        second: graphs.second,
+        multi: multi != 0,
+        directed: directed != 0,
+    }
 }
 
 // The expression in a box, unless there is no memory for it.

@@ -19,8 +19,8 @@ pub expression-returns : goal.expression-returns
 expression-returns t c =
     rw (name_read c.args.text.now c.in_ok-name.name c.in_ok-name.rest.now c.in_ok-name.ensures) c.arguments.ensures
 
-pub operands-expression-requires-2 : goal.operands-expression-requires-2
-operands-expression-requires-2 t c =
+pub two_graphs-expression-requires-2 : goal.two_graphs-expression-requires-2
+two_graphs-expression-requires-2 t c =
     let first = expression_no_longer c.args.text.now (expression_of c.in_ok-first.first) c.in_ok-first.rest.now c.in_ok-first.ensures in
-    let comma = fixed_no_longer (codes ",") c.in_ok-first.rest.now c.in_ok-fixed.field-0.now c.in_ok-fixed.ensures in
+    let comma = fixed_no_longer (codes ",") c.in_ok-first.rest.now c.in_ok-begun.begun.now c.in_ok-begun.ensures in
     (omega (arith, first, comma, c.decreases), tt)

@@ -11,5 +11,5 @@ decreases-arguments l = 3 * length l.text.now + 2
 abbrev pub decreases-complement : goal.decreases-complement
 decreases-complement l = 3 * length l.text.now + 1
 
-abbrev pub decreases-operands : goal.decreases-operands
-decreases-operands l = 3 * length l.text.now + 1
+abbrev pub decreases-two_graphs : goal.decreases-two_graphs
+decreases-two_graphs l = 3 * length l.text.now + 1
