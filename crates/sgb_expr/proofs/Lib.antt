@@ -8,3 +8,4 @@ pub mod FamilyReaders
 pub mod Forms
 pub mod Nesting
 pub mod WholeReading
+pub mod Examples
