@@ -8,7 +8,7 @@ use Rattle.sgb_ops.specs.Taken.{each_edge_once}
 use Rattle.sgb_ops.specs.Merged.{merged, merged_unless}
 use Rattle.sgb_ops.specs.Gunion.{union_events}
 use Rattle.sgb_ops.specs.Intersection.{intersection_of, intersection_events}
-use Rattle.sgb_ops.proofs.Examples.Operands.{event, numbers, complete_3, cycle_3, rider_3, circuit_4, title}
+use Rattle.sgb_ops.proofs.Examples.Operands.{event, numbers, complete_3, cycle_3, rider_3, circuit_3, circuit_4, loop_1, title}
 
 -- two edges between 0 and 1, the shorter one last; and graphs with one that is shorter still
 abbrev first : GraphData
@@ -40,6 +40,13 @@ pub union_of_arcs_merged : merged_unless false true (union_events first second t
     ≡ event 0 1 2 ∷ event 0 2 1 ∷ event 1 0 2 ∷ event 1 2 7 ∷ event 2 0 1 ∷ event 2 1 7 ∷ []
 unfolding numbers_from list_from merged
 union_of_arcs_merged = refl
+
+-- with a graph that has fewer vertices
+pub union_with_fewer : union_events circuit_3 loop_1 true
+    ≡ event 0 2 1 ∷ event 0 1 1 ∷ event 0 0 1 ∷ event 0 0 1
+    ∷ event 1 2 1 ∷ event 1 0 1 ∷ event 2 0 1 ∷ event 2 1 1 ∷ []
+unfolding numbers_from list_from
+union_with_fewer = refl
 
 -- of edges both ways round two between each two vertices
 pub intersection_of_riders : intersection_events rider_3 rider_3 true false
