@@ -7,4 +7,5 @@ pub mod Lines
 pub mod Product
 pub mod Induced
 pub mod Queen
+pub mod Parallel
 pub mod Petersen
