@@ -1,5 +1,7 @@
 //! Devices that fail: what becomes of the faults of each, and how often it is called.
 
+ghost use Rattle.std.specs.Prelude.{◌<◌};
+
 use super::devices::Counted;
 use super::{WRITE_FAULT, call};
 use sgb_file::{Buffered, CutSink};
