@@ -45,6 +45,7 @@ fn asks(request: &Request, command: Command, start: Start) -> bool {
     let (asked, graph, resume) = match request {
         Request::Names(graph, resume) => (Command::Names, graph, resume),
         Request::List(graph, resume) => (Command::List, graph, resume),
+        Request::Queen => return false,
     };
     asked == command && *graph == small_board() && begins(resume, start)
 }

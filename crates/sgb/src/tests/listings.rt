@@ -1,0 +1,164 @@
+//! The listings of the graphs that generators make.
+
+use super::{Parts, answers_are, answers_have};
+use std::test::Fail;
+
+static LISTINGS: [(&[&str], &str); 16] = [
+    (
+        &["list", "board(2,2,0,0,1,0,0)"],
+        "  The graph whose official name is\nboard(2,2,0,0,1,0,0)\n  has 4 vertices and 8 arcs:\n\n\
+                0.0\n  -> 1.0, length 1\n  -> 0.1, length 1\n0.1\n  -> 1.1, length 1\n  -> 0.0, length 1\n\
+                1.0\n  -> 0.0, length 1\n  -> 1.1, length 1\n1.1\n  -> 0.1, length 1\n  -> 1.0, length 1\n",
+    ),
+    // a rider on a circle
+    (
+        &["list", "board(3,0,0,0,-1,1,0)"],
+        "  The graph whose official name is\nboard(3,0,0,0,-1,1,0)\n  has 3 vertices and 12 arcs:\n\n\
+                0\n  -> 2, length 1\n  -> 1, length 2\n  -> 2, length 2\n  -> 1, length 1\n\
+                1\n  -> 2, length 2\n  -> 0, length 2\n  -> 2, length 1\n  -> 0, length 1\n\
+                2\n  -> 1, length 2\n  -> 0, length 1\n  -> 1, length 1\n  -> 0, length 2\n",
+    ),
+    // a rider on a line
+    (
+        &["list", "board(3,0,0,0,-1,0,0)"],
+        "  The graph whose official name is\nboard(3,0,0,0,-1,0,0)\n  has 3 vertices and 6 arcs:\n\n\
+                0\n  -> 2, length 2\n  -> 1, length 1\n1\n  -> 2, length 1\n  -> 0, length 1\n\
+                2\n  -> 1, length 1\n  -> 0, length 2\n",
+    ),
+    // a loop: both records of an edge, one arc, none for a rider
+    (
+        &["list", "board(1,0,0,0,1,1,0)"],
+        "  The graph whose official name is\nboard(1,0,0,0,1,1,0)\n  has 1 vertices and 2 arcs:\n\n\
+                0\n  -> 0, length 1\n  -> 0, length 1\n",
+    ),
+    (
+        &["list", "board(1,0,0,0,1,1,1)"],
+        "  The graph whose official name is\nboard(1,0,0,0,1,1,1)\n  has 1 vertices and 1 arcs:\n\n\
+                0\n  -> 0, length 1\n",
+    ),
+    (
+        &["list", "board(1,0,0,0,-1,1,0)"],
+        "  The graph whose official name is\nboard(1,0,0,0,-1,1,0)\n  has 1 vertices and 0 arcs:\n\n0\n",
+    ),
+    // resumed listings have no head
+    (
+        &["list", "board(3,0,0,0,-1,0,0)", "--after", "1"],
+        "2\n  -> 1, length 1\n  -> 0, length 2\n",
+    ),
+    (
+        &["list", "board(3,0,0,0,-1,0,0)", "--skip", "2"],
+        "2\n  -> 1, length 1\n  -> 0, length 2\n",
+    ),
+    (&["list", "board(1,0,0,0,-1,1,0)", "--skip", "0"], "0\n"),
+    (&["list", "board(3,0,0,0,-1,0,0)", "--after", "2"], ""),
+    (
+        &[
+            "list",
+            "board(3,0,0,0,-1,0,0)",
+            "--skip",
+            "999999999999999999",
+        ],
+        "",
+    ),
+    (
+        &["list", "simplex(2,0,0,0,0,0,0)"],
+        "  The graph whose official name is\nsimplex(2,-2,0,0,0,0,0)\n  has 6 vertices and 18 arcs:\n\n\
+                0.0.2\n  -> 1.0.1, length 1\n  -> 0.1.1, length 1\n\
+                0.1.1\n  -> 1.1.0, length 1\n  -> 1.0.1, length 1\n  -> 0.2.0, length 1\n  -> 0.0.2, length 1\n\
+                0.2.0\n  -> 1.1.0, length 1\n  -> 0.1.1, length 1\n\
+                1.0.1\n  -> 2.0.0, length 1\n  -> 1.1.0, length 1\n  -> 0.0.2, length 1\n  -> 0.1.1, length 1\n\
+                1.1.0\n  -> 2.0.0, length 1\n  -> 1.0.1, length 1\n  -> 0.1.1, length 1\n  -> 0.2.0, length 1\n\
+                2.0.0\n  -> 1.0.1, length 1\n  -> 1.1.0, length 1\n",
+    ),
+    (
+        &["list", "simplex(2,0,0,0,0,0,0)", "--after", "1.0.1"],
+        "1.1.0\n  -> 2.0.0, length 1\n  -> 1.0.1, length 1\n  -> 0.1.1, length 1\n  -> 0.2.0, length 1\n\
+                2.0.0\n  -> 1.0.1, length 1\n  -> 1.1.0, length 1\n",
+    ),
+    (
+        &["list", "simplex(5,2,2,0,0,0,0)"],
+        "  The graph whose official name is\nsimplex(5,2,2,0,0,0,0)\n  has 0 vertices and 0 arcs:\n\n",
+    ),
+    (
+        &["list", "simplex(0,3,0,0,0,0,0)"],
+        "  The graph whose official name is\nsimplex(0,0,0,0,0,0,0)\n  has 1 vertices and 0 arcs:\n\n0\n",
+    ),
+    (
+        &["list", "subsets(3,2,2,2,0,0,3,0)", "--skip", "3"],
+        "1.1.1\n1.2.0\n  -> 2.0.1, length 1\n  -> 1.0.2, length 1\n  -> 0.1.2, length 1\n\
+                2.0.1\n  -> 1.2.0, length 1\n  -> 0.2.1, length 1\n  -> 0.1.2, length 1\n\
+                2.1.0\n  -> 1.0.2, length 1\n  -> 0.2.1, length 1\n  -> 0.1.2, length 1\n",
+    ),
+];
+
+#[test]
+fn listings_of_graphs(rt: HostRuntime) -> Result<(), Fail> {
+    answers_are(&rt, rt.alloc(), &LISTINGS)
+}
+
+// The head, and so the official name and the numbers of vertices and arcs; and the last block. A listing has four
+// lines before the first vertex, and one for each vertex and each arc.
+static PARTS_OF_LISTINGS: [Parts; 9] = [
+    Parts {
+        words: &["list", "complete(4)"],
+        start: "  The graph whose official name is\nboard(4,0,0,0,-1,0,0)\n  has 4 vertices and 12 arcs:\n\n",
+        end: "\n3\n  -> 2, length 1\n  -> 1, length 2\n  -> 0, length 3\n",
+        lines: 20,
+    },
+    Parts {
+        words: &["list", "transitive(3)"],
+        start: "  The graph whose official name is\nboard(3,0,0,0,-1,0,1)\n  has 3 vertices and 3 arcs:\n\n",
+        end: "\n1\n  -> 2, length 1\n2\n",
+        lines: 10,
+    },
+    Parts {
+        words: &["list", "empty(2)"],
+        start: "  The graph whose official name is\nboard(2,0,0,0,2,0,0)\n  has 2 vertices and 0 arcs:\n\n",
+        end: "\n0\n1\n",
+        lines: 6,
+    },
+    Parts {
+        words: &["list", "circuit(4)"],
+        start: "  The graph whose official name is\nboard(4,0,0,0,1,1,0)\n  has 4 vertices and 8 arcs:\n\n",
+        end: "\n3\n  -> 0, length 1\n  -> 2, length 1\n",
+        lines: 16,
+    },
+    Parts {
+        words: &["list", "cycle(3)"],
+        start: "  The graph whose official name is\nboard(3,0,0,0,1,1,1)\n  has 3 vertices and 3 arcs:\n\n",
+        end: "\n2\n  -> 0, length 1\n",
+        lines: 10,
+    },
+    Parts {
+        words: &["list", "disjoint_subsets(4,1)"],
+        start: "  The graph whose official name is\nsubsets(1,1,-3,0,0,0,0x1,0)\n  has 4 vertices and 12 arcs:\n\n",
+        end: "\n1.0.0.0\n  -> 0.1.0.0, length 1\n  -> 0.0.1.0, length 1\n  -> 0.0.0.1, length 1\n",
+        lines: 20,
+    },
+    Parts {
+        words: &["list", "petersen()"],
+        start: "  The graph whose official name is\nsubsets(2,1,-4,0,0,0,0x1,0)\n  has 10 vertices and 30 arcs:\n\n\
+            0.0.0.1.1\n  -> 1.1.0.0.0, length 1\n  -> 1.0.1.0.0, length 1\n  -> 0.1.1.0.0, length 1\n",
+        end: "\n1.1.0.0.0\n  -> 0.0.1.1.0, length 1\n  -> 0.0.1.0.1, length 1\n  -> 0.0.0.1.1, length 1\n",
+        lines: 44,
+    },
+    // a single vector, and the names of vertices where the numbers of elements are not those of subsets
+    Parts {
+        words: &["list", "disjoint_subsets(-999999999999999999,2)"],
+        start: "  The graph whose official name is\nsubsets(2,1,2,0,0,0,0x1,0)\n  has 2 vertices and 0 arcs:\n\n",
+        end: "\n0.2\n1.1\n",
+        lines: 6,
+    },
+    // the default board
+    Parts {
+        words: &["list", "board(0,5,5,5,0,0,0)"],
+        start: "  The graph whose official name is\nboard(8,8,0,0,1,0,0)\n  has 64 vertices and 224 arcs:\n\n0.0\n",
+        end: "\n7.7\n  -> 6.7, length 1\n  -> 7.6, length 1\n",
+        lines: 292,
+    },
+];
+
+#[test]
+fn short_names(rt: HostRuntime) -> Result<(), Fail> {
+    answers_have(&rt, rt.alloc(), &PARTS_OF_LISTINGS)
+}

@@ -1,0 +1,64 @@
+//! The names of the vertices that generators make.
+
+use super::{Parts, answers_are, answers_have};
+use std::test::Fail;
+
+static NAMES: [(&[&str], &str); 16] = [
+    (
+        &["names", "board(2,3,0,0,1,0,0)"],
+        "0.0\n0.1\n0.2\n1.0\n1.1\n1.2\n",
+    ),
+    (
+        &["names", "board(2,3,5,-7,1,0,0)", "--skip", "1799"],
+        "1.2.4.1.2.4.1\n",
+    ),
+    (&["names", "--skip=5", "board(2,3,0,0,1,0,0)"], "1.2\n"),
+    (&["names", "board(2,3,0,0,1,0,0)", "--skip", "6"], ""),
+    (
+        &[
+            "names",
+            "board(2,3,0,0,1,0,0)",
+            "--skip",
+            "999999999999999999",
+        ],
+        "",
+    ),
+    (&["names", "board(2,0,0,0,-1,0,0)"], "0\n1\n"),
+    (&["names", "board(2,0,0,0,1,1,0)", "--after", "0"], "1\n"),
+    (
+        &["names", "board(2,3,0,0,1,0,0)", "--after", "1.1"],
+        "1.2\n",
+    ),
+    (&["names", "board(2,3,0,0,1,0,0)", "--after", "1.2"], ""),
+    (
+        &["names", "simplex(2,0,0,0,0,0,0)", "--after", "1.0.1"],
+        "1.1.0\n2.0.0\n",
+    ),
+    (&["names", "simplex(2,0,0,0,0,0,0)", "--after", "2.0.0"], ""),
+    (&["names", "simplex(2,0,0,0,0,0,0)", "--skip", "9"], ""),
+    // no vertex at all, one, and a bound clamped to the sum
+    (&["names", "simplex(5,2,2,0,0,0,0)"], ""),
+    (&["names", "simplex(3,3,0,0,0,0,0)"], "3\n"),
+    (&["names", "simplex(0,0,0,0,0,0,0)"], "0.0.0\n"),
+    (
+        &["names", "subsets(3,2,2,2,0,0,0x3,1)"],
+        "0.1.2\n0.2.1\n1.0.2\n1.1.1\n1.2.0\n2.0.1\n2.1.0\n",
+    ),
+];
+
+#[test]
+fn names_of_vertices(rt: HostRuntime) -> Result<(), Fail> {
+    answers_are(&rt, rt.alloc(), &NAMES)
+}
+
+static MANY_NAMES: [Parts; 1] = [Parts {
+    words: &["names", "board(2,3,5,-7,1,0,0)"],
+    start: "0.0.0.0.0.0.0\n0.0.0.0.0.0.1\n0.0.0.0.0.1.0\n",
+    end: "\n1.2.4.1.2.4.1\n",
+    lines: 1800,
+}];
+
+#[test]
+fn eighteen_hundred_names(rt: HostRuntime) -> Result<(), Fail> {
+    answers_have(&rt, rt.alloc(), &MANY_NAMES)
+}

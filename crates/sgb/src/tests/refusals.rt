@@ -1,0 +1,263 @@
+//! Calls that are refused: the line and the exit status of each.
+
+use super::devices::Counted;
+use super::{USAGE, call};
+use crate::faults::{Fault, report};
+use crate::program::run_program;
+use sgb_file::CutSource;
+use sgb_vec::Panic;
+use std::alloc::Global;
+use std::io::{Error, ErrorKind};
+use std::process::Abort;
+use std::test::Fail;
+
+const SMALL: &str = "board(2,0,0,0,1,0,0)";
+
+// Words that are refused or make a request that is, with the line and the status.
+static REFUSED: [(&[&str], &str, u8); 36] = [
+    (
+        &["names", "board(2,-92,0,0,1,0,0)"],
+        "Something went wrong (panic code 30)!\n",
+        1,
+    ),
+    (
+        &["names", "board(2,-30,0,0,1,0,0)"],
+        "Something went wrong (panic code 40)!\n",
+        1,
+    ),
+    (
+        &["names", "board(2,0,0,0,2147483648,0,0)"],
+        "Something went wrong (panic code 40)!\n",
+        1,
+    ),
+    (
+        &["names", "board(65536,65536,0,0,1,0,0)"],
+        "Something went wrong (panic code 40)!\n",
+        1,
+    ),
+    (
+        &["names", "board(2,3,0,0,1,0,0)", "--after", "01.1"],
+        "sgb: no such vertex\n",
+        1,
+    ),
+    (
+        &["names", "board(2,3,0,0,1,0,0)", "--after", ""],
+        "sgb: no such vertex\n",
+        1,
+    ),
+    (
+        &["names", "board(3,", "--after", "1", "--skip", "1"],
+        USAGE,
+        2,
+    ),
+    (&["names", "board(3,"], "sgb: bad expression at byte 8\n", 2),
+    (
+        &["names", "boards(1)"],
+        "sgb: bad expression at byte 5\n",
+        2,
+    ),
+    (&["names", ""], "sgb: bad expression at byte 0\n", 2),
+    (
+        &[
+            "names",
+            "(((((((((((((((((((((((((((((((((((((((((((((((((((((((((((((((((",
+        ],
+        "sgb: expression too large\n",
+        2,
+    ),
+    (&["names", "x", "--skip", "x"], USAGE, 2),
+    (&[], USAGE, 2),
+    (
+        &["list", "board(3,0,0,0,-1,0,0)", "--after", "3"],
+        "sgb: no such vertex\n",
+        1,
+    ),
+    (
+        &["list", "board(2,-92,0,0,1,0,0)"],
+        "Something went wrong (panic code 30)!\n",
+        1,
+    ),
+    (
+        &["list", "board(2,-30,0,0,1,0,0)"],
+        "Something went wrong (panic code 40)!\n",
+        1,
+    ),
+    (
+        &[
+            "list",
+            "board(2,0,0,0,2147483648,0,0)",
+            "--after",
+            "no vertex",
+        ],
+        "Something went wrong (panic code 40)!\n",
+        1,
+    ),
+    (
+        &["names", "simplex(2,0,0,0,0,0,0)", "--after", "01.0.1"],
+        "sgb: no such vertex\n",
+        1,
+    ),
+    (
+        &["list", "simplex(-1,0,0,0,0,0,0)"],
+        "Something went wrong (panic code 30)!\n",
+        1,
+    ),
+    (
+        &["list", "simplex(1000000001,1,0,0,0,0,0)"],
+        "Something went wrong (panic code 40)!\n",
+        1,
+    ),
+    (
+        &["names", "simplex(30,-30,0,0,0,0,0)"],
+        "Something went wrong (panic code 40)!\n",
+        1,
+    ),
+    (
+        &["names", "subsets(30,-92,0,0,0,0,1,0)"],
+        "Something went wrong (panic code 30)!\n",
+        1,
+    ),
+    (
+        &["list", "subsets(64,64,64,0,0,0,0x10000000000000000,0)"],
+        "sgb: bad expression at byte 41\n",
+        2,
+    ),
+    (&["list", SMALL, "--after", "2"], "sgb: no such vertex\n", 1),
+    (
+        &["names", SMALL, "--after", "2"],
+        "sgb: no such vertex\n",
+        1,
+    ),
+    (&["names", SMALL, "--skip", "x"], USAGE, 2),
+    (
+        &[
+            "list",
+            "(((((((((((((((((((((((((((((((((((((((((((((((((((((((((((((((((",
+        ],
+        "sgb: expression too large\n",
+        2,
+    ),
+    (
+        &["list", "board(65536,65536,0,0,1,0,0)"],
+        "Something went wrong (panic code 40)!\n",
+        1,
+    ),
+    (&["queen", "petersen()"], USAGE, 2),
+    (&["queen", "--skip", "1"], USAGE, 2),
+    (
+        &["names", "gunion(petersen(),"],
+        "sgb: bad expression at byte 18\n",
+        2,
+    ),
+    (
+        &["list", "complement(petersen(),0,0,0)x"],
+        "sgb: bad expression at byte 28\n",
+        2,
+    ),
+    (
+        &[
+            "names",
+            "complement(petersen(),0,0,0)",
+            "--after",
+            "0.0.0.0.0",
+        ],
+        "sgb: no such vertex\n",
+        1,
+    ),
+    // operands come from left to right
+    (
+        &[
+            "list",
+            "gunion(board(2,-251,0,0,1,0,0),board(2,-30,0,0,1,0,0),0,0)",
+        ],
+        "Something went wrong (panic code 30)!\n",
+        1,
+    ),
+    (
+        &[
+            "list",
+            "gunion(board(2,-30,0,0,1,0,0),board(2,-251,0,0,1,0,0),0,0)",
+        ],
+        "Something went wrong (panic code 40)!\n",
+        1,
+    ),
+    (
+        &[
+            "names",
+            "complement(intersection(petersen(),board(2,-30,0,0,1,0,0),0,0),0,0,0)",
+        ],
+        "Something went wrong (panic code 40)!\n",
+        1,
+    ),
+];
+
+// A refused call makes no call of the output, and its line is one put of standard error; where that fails the status
+// is the same.
+fn check_refusals(rt: &impl Abort, alloc: Global, deaf: bool) -> Result<(), Fail> {
+    for (words, line, status) in REFUSED {
+        let mut out = Counted::new(alloc, true, true);
+        let mut errors = Counted::new(alloc, deaf, true);
+        let found = call(alloc, words, &mut out, &mut errors)?;
+        assert_eq!(rt; found, status, "{words:?}");
+        assert_eq!(rt;
+            errors.bytes(),
+            if deaf { b"" } else { line.as_bytes() },
+            "{words:?}"
+        );
+        assert_eq!(rt; errors.puts(), 1, "{words:?}");
+        assert_eq!(rt; errors.flushes(), 0, "{words:?}");
+        assert!(rt; out.puts() == 0 && out.flushes() == 0, "{words:?}");
+    }
+    Ok(())
+}
+
+#[test]
+fn a_refused_call_is_one_line(rt: HostRuntime) -> Result<(), Fail> {
+    check_refusals(&rt, rt.alloc(), false)?;
+    check_refusals(&rt, rt.alloc(), true)
+}
+
+// Each fault's line is one put.
+#[test]
+fn a_line_is_one_put(rt: HostRuntime) {
+    let faults = [
+        Fault::Usage,
+        Fault::TooLarge,
+        Fault::Expr(0),
+        Fault::Expr(u32::MAX),
+        Fault::Panic(Panic::NoRoom),
+        Fault::Panic(Panic::Invalid),
+        Fault::NoVertex,
+        Fault::Read,
+        Fault::Write,
+    ];
+    for fault in faults {
+        let mut errors = Counted::new(rt.alloc(), false, false);
+        let _status = report(&fault, &mut errors);
+        assert_eq!(rt; errors.puts(), 1, "{fault}");
+    }
+}
+
+// Words that could not be read are an invalid command line, unless memory ran out.
+#[test]
+fn words_that_could_not_be_read(rt: HostRuntime) {
+    let cases = [
+        (ErrorKind::InvalidData, USAGE, 2),
+        (ErrorKind::Other, USAGE, 2),
+        (
+            ErrorKind::OutOfMemory,
+            "Something went wrong (panic code 1)!\n",
+            1,
+        ),
+    ];
+    for (kind, line, status) in cases {
+        let mut source = CutSource::new(b"", 1, 0);
+        let mut out = Counted::new(rt.alloc(), false, true);
+        let mut errors = Counted::new(rt.alloc(), false, false);
+        let words = Err(Error::from(kind));
+        let answered = run_program(rt.alloc(), words, &mut source, &mut out, &mut errors);
+        assert_eq!(rt; answered, status);
+        assert_eq!(rt; errors.bytes(), line.as_bytes());
+        assert_eq!(rt; out.flushes(), 0);
+    }
+}
