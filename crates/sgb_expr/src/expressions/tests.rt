@@ -330,7 +330,7 @@ fn operations_are_read(rt: HostRuntime) -> Result<(), Fail> {
             )?,
         ),
     ] {
-        assert_eq!(rt; read_expr(alloc, text.as_bytes()), Ok(want), "at {text}");
+        assert!(rt; read_expr(alloc, text.as_bytes()) == Ok(want), "at {text}");
     }
     Ok(())
 }
@@ -365,9 +365,8 @@ fn operations_go_wrong_somewhere(rt: HostRuntime) {
         ("intersections(", 12),
         ("petersen(),0,0)", 10),
     ] {
-        assert_eq!(rt;
-            read_expr(rt.alloc(), text.as_bytes()),
-            bad(want),
+        assert!(rt;
+            read_expr(rt.alloc(), text.as_bytes()) == bad(want),
             "at {text}"
         );
     }
@@ -395,9 +394,9 @@ fn parentheses_are_open_at_most_64_deep(rt: HostRuntime) -> Result<(), Fail> {
     let deep = complements(alloc, 63, true)?;
     assert!(rt; read_expr(alloc, deep.as_bytes()).is_ok());
     let deeper = complements(alloc, 64, true)?;
-    assert_eq!(rt; read_expr(alloc, deeper.as_bytes()), Err(Unread::TooLarge));
+    assert!(rt; read_expr(alloc, deeper.as_bytes()) == Err(Unread::TooLarge));
     let begun = complements(alloc, 64, false)?;
-    assert_eq!(rt; read_expr(alloc, begun.as_bytes()), bad(704));
+    assert!(rt; read_expr(alloc, begun.as_bytes()) == bad(704));
     Ok(())
 }
 
@@ -419,10 +418,10 @@ fn unions_of_65536_bytes_are_read(rt: HostRuntime) -> Result<(), Fail> {
         graph = doubled(alloc, graph.as_str(), ",0,0)")?;
     }
     let longest = doubled(alloc, graph.as_str(), ",00000000000000,0)")?;
-    assert_eq!(rt; longest.len(), 65_536);
+    assert!(rt; longest.len() == 65_536);
     assert!(rt; read_expr(alloc, longest.as_bytes()).is_ok());
     let longer = doubled(alloc, graph.as_str(), ",000000000000000,0)")?;
-    assert_eq!(rt; read_expr(alloc, longer.as_bytes()), Err(Unread::TooLarge));
+    assert!(rt; read_expr(alloc, longer.as_bytes()) == Err(Unread::TooLarge));
     Ok(())
 }
 
