@@ -14,7 +14,7 @@ use std::test::Fail;
 const SMALL: &str = "board(2,0,0,0,1,0,0)";
 
 // Words that are refused or make a request that is, with the line and the status.
-static REFUSED: [(&[&str], &str, u8); 36] = [
+static REFUSED: [(&[&str], &str, u8); 39] = [
     (
         &["names", "board(2,-92,0,0,1,0,0)"],
         "Something went wrong (panic code 30)!\n",
@@ -51,6 +51,17 @@ static REFUSED: [(&[&str], &str, u8); 36] = [
         2,
     ),
     (&["names", "board(3,"], "sgb: bad expression at byte 8\n", 2),
+    (&["names", "--", "-x"], "sgb: bad expression at byte 0\n", 2),
+    (
+        &["names", "board(3,", "--skip", "1"],
+        "sgb: bad expression at byte 8\n",
+        2,
+    ),
+    (
+        &["list", "board(3,", "--after", "1"],
+        "sgb: bad expression at byte 8\n",
+        2,
+    ),
     (
         &["names", "boards(1)"],
         "sgb: bad expression at byte 5\n",
