@@ -5,7 +5,7 @@ use super::{Parts, answered, answers_are, answers_have, call};
 use std::alloc::Global;
 use std::test::Fail;
 
-static ANSWERS: [(&[&str], &str); 12] = [
+static ANSWERS: [(&[&str], &str); 13] = [
     (
         &["list", "gunion(complete(3),circuit(3),0,0)"],
         "  The graph whose official name is\ngunion(board(3,0,0,0,-1,0,0),board(3,0,0,0,1,1,0),0,0)\n  has 3 vertices and 6 arcs:\n\n\
@@ -76,6 +76,10 @@ static ANSWERS: [(&[&str], &str); 12] = [
         &["list", "complement(simplex(5,2,2,0,0,0,0),0,0,0)"],
         "  The graph whose official name is\ncomplement(simplex(5,2,2,0,0,0,0),0,0,0)\n  has 0 vertices and 0 arcs:\n\n",
     ),
+    (
+        &["list", "complement(simplex(5,2,2,0,0,0,0),0,1,0)"],
+        "  The graph whose official name is\ncomplement(simplex(5,2,2,0,0,0,0),0,1,0)\n  has 0 vertices and 0 arcs:\n\n",
+    ),
 ];
 
 #[test]
@@ -84,7 +88,7 @@ fn answers_to_nested_expressions(rt: HostRuntime) -> Result<(), Fail> {
 }
 
 // The head and the first block, and the last one.
-static PARTS_OF_ANSWERS: [Parts; 3] = [
+static PARTS_OF_ANSWERS: [Parts; 4] = [
     Parts {
         words: &["queen"],
         start: "Queen Moves on a 3x4 Board\n\n  The graph whose official name is\n\
@@ -114,6 +118,17 @@ static PARTS_OF_ANSWERS: [Parts; 3] = [
             gunion(complement(complement(complement(subsets(2,1,-4,0,0,0,0x1,0),0,0,0),0...),complement(complement(complement(complement(subsets(2,1,-4,0,0,0,0x1,...),0,0)\n  has 10 vertices and 90 arcs:\n\n0.0.0.1.1\n",
         end: ", length 1\n",
         lines: 104,
+    },
+    // both are the id that was cut above, and are cut once more
+    Parts {
+        words: &[
+            "list",
+            "gunion(complement(complement(complement(complement(complement(complement(complement(complement(petersen(),0,0,0),0,0,0),0,0,0),0,0,0),0,0,0),0,0,0),0,0,0),0,0,0),complement(complement(complement(complement(complement(complement(complement(complement(petersen(),0,0,0),0,0,0),0,0,0),0,0,0),0,0,0),0,0,0),0,0,0),0,0,0),0,0)",
+        ],
+        start: "  The graph whose official name is\n\
+            gunion(complement(complement(complement(complement(complement(complement(com...),complement(complement(complement(complement(complement(complement(com...),0,0)\n  has 10 vertices and 30 arcs:\n\n0.0.0.1.1\n",
+        end: "\n1.1.0.0.0\n  -> 0.0.1.1.0, length 1\n  -> 0.0.1.0.1, length 1\n  -> 0.0.0.1.1, length 1\n",
+        lines: 44,
     },
 ];
 
