@@ -10,4 +10,6 @@ pub mod CommonEvents
 pub mod Marks
 pub mod Results
 pub mod ComplementEvents
+pub mod JoinedNames
+pub mod LineEvents
 pub mod Examples

@@ -1,5 +1,5 @@
 -- The line graph: a vertex for each arc or edge [GB_BASIC, lines].
-use Rattle.std.specs.Prelude.{ℕ, pos, ◌+◌, ◌/◌, ◌==◌, Bool, true, false, not, ◌&&◌, ◌||◌, List, [], ◌∷◌, map, reverse, filter, flat_map, take, length, slice_get, codes, nat_lt, if◌then◌else◌, Result, Ok, Err}
+use Rattle.std.specs.Prelude.{ℕ, pos, ◌+◌, ◌/◌, ◌<◌, ◌==◌, Bool, true, false, not, ◌&&◌, ◌||◌, List, [], ◌∷◌, map, reverse, filter, flat_map, take, length, slice_get, codes, nat_lt, if◌then◌else◌, Result, Ok, Err}
 use Rattle.std.specs.List.{list_all, enumerate_from}
 use Rattle.std.specs.Option.{option_map_or}
 use Rattle.sgb_vec.specs.Limits.{most_vertices}
@@ -9,25 +9,28 @@ use Rattle.sgb_vec.specs.declared.panics.Panic.TheVariants.{VeryBad, Invalid}
 use Rattle.sgb_graph.specs.Graphs.{GraphData}
 use Rattle.sgb_graph.specs.Events.{Event}
 use Rattle.sgb_graph.specs.Ids.{compound_id}
+use Rattle.sgb_graph.specs.declared.fields.Link.{Link}
 use Rattle.sgb_graph.specs.declared.fields.Ref.{Ref}
 use Rattle.sgb_graph.specs.declared.fields.Ref.TheVariants.{Null, One, At}
 use Rattle.sgb_graph.specs.Descriptions.{Description}
 use Rattle.sgb_graph.specs.Made.{plain}
 use Rattle.sgb_ops.specs.Operands.{places_of, name_at}
+use Rattle.sgb_ops.specs.declared.line_graphs.Line.{Line}
 use Rattle.sgb_ops.specs.Taken.{taken}
 use Rattle.sgb_graph.specs.IdTexts.{flag_text}
 use Rattle.sgb_ops.specs.Titles.{closing, line_name}
 
--- an arc or edge as a vertex of the line graph: its two ends, and the number of the record taken
-pub record Line : Type 0 where
-  pub from : ℕ
-  pub to : ℕ
-  pub number : ℕ
+-- the line of an arc that is taken of v
+abbrev pub line_of : ℕ → Link → Line
+line_of v l = record { from = v; to = l.tip; number = l.number }
 
 -- the lines: the arcs taken of each vertex, from the last vertex down to the first
 abbrev pub lines_of_graph : GraphData → Bool → List Line
-lines_of_graph g directed =
-    flat_map (λ v. map (λ l. record { from = v; to = l.tip; number = l.number }) (taken directed g v)) (reverse (places_of g))
+lines_of_graph g directed = flat_map (λ v. map (line_of v) (taken directed g v)) (reverse (places_of g))
+
+-- the two ends of the line are vertices of a graph that has n of them
+abbrev pub LineWithin : ℕ → Line → Type 0
+LineWithin n line = (line.from < n) × (line.to < n)
 
 -- the tip is vertex v
 abbrev pub points_to : Ref → ℕ → Bool
@@ -54,16 +57,24 @@ accepted_lines g directed lines =
 abbrev pub share_vertex : Line → Line → Bool
 share_vertex a b = (a.from == b.from) || (a.from == b.to) || (a.to == b.from) || (a.to == b.to)
 
--- the lines that line number i is joined to. Directed: every line that begins where it ends. Undirected:
--- every earlier line that shares a vertex with it
-abbrev pub lines_met : Bool → List Line → ℕ → Line → List (ℕ × Line)
-lines_met true lines i line = filter (λ p. p.1.from == line.to) (enumerate_from 0 lines)
-lines_met false lines i line = filter (λ p. share_vertex line p.1) (enumerate_from 0 (take i lines))
+-- directed, the other line begins where this one ends; undirected, they share a vertex
+abbrev pub meets : Bool → Line → Line → Bool
+meets true line other = other.from == line.to
+meets false line other = share_vertex line other
 
--- from each line in order to each line that it is joined to in order, with length 1
+-- among which lines those are that line number i is joined to: all, or undirected the earlier ones
+abbrev pub lines_for : Bool → List Line → ℕ → List Line
+lines_for true lines i = lines
+lines_for false lines i = take i lines
+
+-- from line number i to each of the others, which have the numbers from 0 on, that it meets, with length 1
+abbrev pub events_to : Bool → ℕ → Line → List Line → List Event
+events_to directed i line others =
+    map (λ q. record { from = i; to = q.0; len = pos 1 }) (filter (λ q. meets directed line q.1) (enumerate_from 0 others))
+
+-- from each line in order to each line that it is joined to in order
 abbrev pub line_events : Bool → List Line → List Event
-line_events directed lines =
-    flat_map (λ p. map (λ q. record { from = p.0; to = q.0; len = pos 1 }) (lines_met directed lines p.0 p.1)) (enumerate_from 0 lines)
+line_events directed lines = flat_map (λ p. events_to directed p.0 p.1 (lines_for directed lines p.0)) (enumerate_from 0 lines)
 
 -- the names of the lines
 abbrev pub names_of_lines : GraphData → Bool → List Line → List (List ℕ)

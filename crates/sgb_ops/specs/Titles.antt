@@ -24,10 +24,14 @@ most_before_prime = 4_094
 abbrev pub most_before_number : ℕ
 most_before_number = 4_084
 
+-- what stands between the two names of a line
+abbrev pub line_sign : Bool → List ℕ
+line_sign true = codes "->"
+line_sign false = codes "--"
+
 -- the name of the line from a to b [lines]
 abbrev pub line_name : Bool → List ℕ → List ℕ → List ℕ
-line_name true a b = take most_line_start a ++ codes "->" ++ take most_line_end b
-line_name false a b = take most_line_start a ++ codes "--" ++ take most_line_end b
+line_name directed a b = take most_line_start a ++ line_sign directed ++ take most_line_end b
 
 -- the name of the pair of a and b [product]
 abbrev pub pair_name : List ℕ → List ℕ → List ℕ

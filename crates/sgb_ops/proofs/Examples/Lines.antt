@@ -1,12 +1,13 @@
 -- Line graphs.
-use Rattle.std.specs.Prelude.{◌≡◌, pos, true, false, [], ◌∷◌, Some, None, Err, codes, refl}
+use Rattle.std.specs.Prelude.{◌≡◌, ℕ, pos, true, false, [], ◌∷◌, Option, Some, None, Err, codes, refl}
 use Rattle.std.specs.Fmt.{digits}
 use Rattle.sgb_vec.specs.declared.panics.Panic.TheVariants.{Invalid}
 use Rattle.sgb_graph.specs.Graphs.{GraphData, numbers_from}
 use Rattle.sgb_graph.specs.Events.{list_from}
 use Rattle.sgb_graph.specs.Ids.{compound_id}
 use Rattle.sgb_graph.specs.Made.{no_kinds, no_fields}
-use Rattle.sgb_graph.specs.declared.fields.Ref.TheVariants.{At}
+use Rattle.sgb_graph.specs.declared.fields.Ref.{Ref}
+use Rattle.sgb_graph.specs.declared.fields.Ref.TheVariants.{At, One, Null}
 use Rattle.sgb_graph.specs.declared.fields.Util.TheVariants.{Nothing}
 use Rattle.sgb_ops.specs.Taken.{each_edge_once}
 use Rattle.sgb_ops.specs.Lines.{line_graph_of}
@@ -68,3 +69,45 @@ shared = record {
 pub lines_of_shared : line_graph_of shared false ≡ Err Invalid
 unfolding digits numbers_from each_edge_once
 lines_of_shared = refl
+
+-- two vertices x and y, of which one has a list: record 0, which leads to itself. Record 1 has another tip
+abbrev pair : ℕ → Option ℕ → Option ℕ → Ref → Ref → GraphData
+pair count first second here there = record {
+  id = codes "p";
+  m = count;
+  kinds = no_kinds;
+  util = no_fields;
+  vertices = record { name = codes "x"; arcs = first; util = no_fields } ∷ record { name = codes "y"; arcs = second; util = no_fields } ∷ [];
+  records = record { tip = here; next = None; len = pos 1; a = Nothing; b = Nothing } ∷ record { tip = there; next = None; len = pos 1; a = Nothing; b = Nothing } ∷ [];
+}
+
+-- a loop at y; its other record need not be on a list
+pub lines_of_half_a_loop : names (line_graph_of (pair 2 None (Some 0) (At 1) (At 1)) false) ≡ codes "y--y" ∷ []
+unfolding digits numbers_from each_edge_once
+lines_of_half_a_loop = refl
+
+-- the other record leads elsewhere, or to no vertex: the null value is not vertex 0, and the value 1 is not vertex 1
+pub lines_with_no_way_back : line_graph_of (pair 2 None (Some 0) (At 1) (At 0)) false ≡ Err Invalid
+unfolding digits numbers_from each_edge_once
+lines_with_no_way_back = refl
+
+pub lines_with_one_for_a_tip : line_graph_of (pair 2 None (Some 0) (At 1) One) false ≡ Err Invalid
+unfolding digits numbers_from each_edge_once
+lines_with_one_for_a_tip = refl
+
+pub lines_with_null_for_a_tip : line_graph_of (pair 2 (Some 0) None (At 0) Null) false ≡ Err Invalid
+unfolding digits numbers_from each_edge_once
+lines_with_null_for_a_tip = refl
+
+-- the numbers of arcs that one line may have
+pub lines_of_one_arc : line_graph_of (pair 1 None (Some 0) (At 1) (At 1)) false ≡ Err Invalid
+unfolding digits numbers_from each_edge_once
+lines_of_one_arc = refl
+
+pub lines_of_three_arcs : names (line_graph_of (pair 3 None (Some 0) (At 1) (At 1)) false) ≡ codes "y--y" ∷ []
+unfolding digits numbers_from each_edge_once
+lines_of_three_arcs = refl
+
+pub lines_of_four_arcs : line_graph_of (pair 4 None (Some 0) (At 1) (At 1)) false ≡ Err Invalid
+unfolding digits numbers_from each_edge_once
+lines_of_four_arcs = refl

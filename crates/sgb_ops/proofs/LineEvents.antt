@@ -1,0 +1,115 @@
+-- The lines of a graph and the events between them, as they are found one by one.
+use Rattle.std.proofs.Common.{◌≡◌, ◌<◌, ◌≤◌, ◌+◌, ℕ, zero, suc, pos, Bool, true, false, cond, List, [], ◌∷◌, ◌++◌, map, reverse, length, refl, sym, ap, subst, ◌∙◌, arith}
+use Rattle.std.specs.Prelude.{All, filter, flat_map}
+use Rattle.std.specs.List.{range_with_len, enumerate_from}
+use Rattle.std.proofs.lemmas.List.{reverse-append, length-take-le}
+use Rattle.std.proofs.lemmas.List.Elements.{All-nil, All-cons, All-append, All-map}
+use Rattle.sgb_graph.specs.Graphs.{GraphData}
+use Rattle.sgb_graph.specs.Events.{Event}
+use Rattle.sgb_graph.specs.Growth.{IsKept}
+use Rattle.sgb_ops.specs.Ends.{AllWithin}
+use Rattle.sgb_ops.specs.Lines.{LineWithin, events_to, line_events, line_of, lines_for, lines_of_graph, meets}
+use Rattle.sgb_ops.specs.Operands.{order_of}
+use Rattle.sgb_ops.specs.Taken.{taken}
+use Rattle.sgb_ops.specs.declared.line_graphs.Line.{Line}
+use Rattle.sgb_ops.proofs.EventsWithin.{Within, taken_tips}
+
+-- the numbers below k + 1, k first
+range_more : (a n : ℕ) → range_with_len a (suc n) ≡ range_with_len a n ++ (a + n) ∷ []
+range_more a zero = ap (λ (k : ℕ). k ∷ []) (omega arith)
+range_more a (suc n) =
+    let last : a + 1 + n ≡ a + suc n = omega arith in
+    ap (λ ks. a ∷ ks) (range_more (a + 1) n) ∙ ap (λ (k : ℕ). a ∷ range_with_len (a + 1) n ++ k ∷ []) last
+
+pub below_more : (k : ℕ) → reverse (range_with_len 0 (suc k)) ≡ k ∷ reverse (range_with_len 0 k)
+below_more k =
+    let last : 0 + k ≡ k = omega arith in
+    ap reverse (range_more 0 k) ∙ (reverse-append (range_with_len 0 k) ((0 + k) ∷ []) ∙ ap (λ (j : ℕ). j ∷ reverse (range_with_len 0 k)) last)
+
+-- the lines that begin at v
+abbrev pub lines_at : GraphData → Bool → ℕ → List Line
+lines_at g directed v = map (line_of v) (taken directed g v)
+
+-- the lines that begin below k
+abbrev pub lines_below : GraphData → Bool → ℕ → List Line
+lines_below g directed k = flat_map (lines_at g directed) (reverse (range_with_len 0 k))
+
+-- those of the last of these vertices come first
+pub lines_below-more : (g : GraphData) (directed : Bool) (k : ℕ) → lines_below g directed (k + 1) ≡ lines_at g directed k ++ lines_below g directed k
+lines_below-more g directed k =
+    let next : k + 1 ≡ suc k = omega arith in
+    ap (lines_below g directed) next ∙ ap (flat_map (lines_at g directed)) (below_more k)
+
+-- their ends are vertices
+lines_at_within : (g : GraphData) (directed : Bool) (v : ℕ) → IsKept g → v < order_of g → All (LineWithin (order_of g)) (lines_at g directed v)
+lines_at_within g directed v kept below =
+    All-map (LineWithin (order_of g)) (line_of v) (taken directed g v) (λ k d h. (below, taken_tips directed g v kept below k d h))
+
+lines_below_within : (g : GraphData) (directed : Bool) (k : ℕ) → IsKept g → k ≤ order_of g → All (LineWithin (order_of g)) (lines_below g directed k)
+lines_below_within g directed zero kept few = All-nil (LineWithin (order_of g))
+lines_below_within g directed (suc k) kept few =
+    let next : suc k ≡ k + 1 = omega arith in
+    let here = lines_at_within g directed k kept (omega (arith, few)) in
+    let below = lines_below_within g directed k kept (omega (arith, few)) in
+    subst (All (LineWithin (order_of g))) (sym (ap (lines_below g directed) next ∙ lines_below-more g directed k))
+    (All-append (LineWithin (order_of g)) (lines_at g directed k) (lines_below g directed k) here below)
+
+pub lines_within : (g : GraphData) (directed : Bool) → IsKept g → All (LineWithin (order_of g)) (lines_of_graph g directed)
+lines_within g directed kept = lines_below_within g directed (order_of g) kept (omega arith)
+
+-- the events from line number i to these lines
+abbrev events_of : ℕ → List (ℕ × Line) → List Event
+events_of i met = map (λ q. record { from = i; to = q.0; len = pos 1 }) met
+
+-- the events from line number i to those of the others that it meets, where they have the numbers from j on
+abbrev pub events_on : Bool → ℕ → Line → ℕ → List Line → List Event
+events_on directed i line j others =
+    map (λ q. record { from = i; to = q.0; len = pos 1 }) (filter (λ q. meets directed line q.1) (enumerate_from j others))
+
+-- the one to the line of this number, if they meet
+abbrev pub event_if : Bool → ℕ → ℕ → List Event
+event_if meet i j = cond meet (record { from = i; to = j; len = pos 1 } ∷ []) []
+
+-- it comes first
+pub events_on-next : (directed : Bool) (i : ℕ) (line : Line) (j : ℕ) (other : Line) (others : List Line)
+    → events_on directed i line j (other ∷ others) ≡ event_if (meets directed line other) i j ++ events_on directed i line (j + 1) others
+events_on-next directed i line j other others =
+    let rest = filter (λ q. meets directed line q.1) (enumerate_from (j + 1) others) in
+    elim (meets directed line other) as (λ b. events_of i (cond b ((j, other) ∷ rest) rest) ≡ event_if b i j ++ events_of i rest) [
+      | true ↦ refl
+      | false ↦ refl
+    ]
+
+-- their ends are numbers of lines
+event_if_within : (n : ℕ) (meet : Bool) (i j : ℕ) → i < n → j < n → AllWithin n (event_if meet i j)
+event_if_within n true i j first second = All-cons (Within n) (record { from = i; to = j; len = pos 1 }) [] (first, second) (All-nil (Within n))
+event_if_within n false i j first second = All-nil (Within n)
+
+events_on_within : (n : ℕ) (directed : Bool) (i : ℕ) (line : Line) (j : ℕ) (others : List Line) → i < n → j + length others ≤ n
+    → AllWithin n (events_on directed i line j others)
+events_on_within n directed i line j [] here few = All-nil (Within n)
+events_on_within n directed i line j (other ∷ others) here few =
+    subst (AllWithin n) (sym (events_on-next directed i line j other others))
+    (All-append (Within n) (event_if (meets directed line other) i j) (events_on directed i line (j + 1) others)
+    (event_if_within n (meets directed line other) i j here (omega (arith, few)))
+    (events_on_within n directed i line (j + 1) others here (omega (arith, few))))
+
+-- the events from the lines that are left, which have the numbers from i on
+abbrev pub events_from : Bool → List Line → ℕ → List Line → List Event
+events_from directed lines i left = flat_map (λ p. events_to directed p.0 p.1 (lines_for directed lines p.0)) (enumerate_from i left)
+
+few_for : (directed : Bool) (lines : List Line) (i : ℕ) → i ≤ length lines → length (lines_for directed lines i) ≤ length lines
+few_for true lines i within = omega arith
+few_for false lines i within = let some = length-take-le i lines within in omega (arith, some, within)
+
+events_from_within : (directed : Bool) (lines : List Line) (i : ℕ) (left : List Line) → i + length left ≤ length lines
+    → AllWithin (length lines) (events_from directed lines i left)
+events_from_within directed lines i [] few = All-nil (Within (length lines))
+events_from_within directed lines i (line ∷ left) few =
+    let some = few_for directed lines i (omega (arith, few)) in
+    All-append (Within (length lines)) (events_to directed i line (lines_for directed lines i)) (events_from directed lines (i + 1) left)
+    (events_on_within (length lines) directed i line 0 (lines_for directed lines i) (omega (arith, few)) (omega (arith, some)))
+    (events_from_within directed lines (i + 1) left (omega (arith, few)))
+
+pub line_events_within : (directed : Bool) (lines : List Line) → AllWithin (length lines) (line_events directed lines)
+line_events_within directed lines = events_from_within directed lines 0 lines (omega arith)
