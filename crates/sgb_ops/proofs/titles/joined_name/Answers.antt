@@ -1,0 +1,18 @@
+use Rattle.std.proofs.Common.{◌≡◌, ◌++◌, ◌∙◌, take, sym, subst, ap}
+use Rattle.sgb_vec.specs.Names.{IsText}
+use Rattle.sgb_ops.proofs.JoinedNames.{joined_is_text}
+use Rattle.sgb_ops.proofs.titles.joined_name.Goals as goal
+
+pub returns-clause-memory : goal.returns-clause-memory
+returns-clause-memory c =
+    let first = c.args.first.now in
+    let second = c.args.second.now in
+    let separator = c.args.separator.now in
+    let start = take c.args.most_first first in
+    let end = take c.args.most_second second in
+    let is : c.deref.result.now ≡ start ++ separator ++ end =
+    c.deref.ensures.value
+    ∙ (c.in_ok-extend_from_slice-2.ensures.items
+    ∙ (ap (λ bs. bs ++ c.front-2.result.now) (c.in_ok-extend_from_slice.ensures.items ∙ ap (λ bs. bs ++ separator) (c.in_ok-bytes.ensures.items ∙ (c.front.ensures ∙ ap (take c.args.most_first) c.bytes.ensures.value)))
+    ∙ ap (λ bs. start ++ separator ++ bs) (c.front-2.ensures ∙ ap (take c.args.most_second) c.bytes-2.ensures.value))) in
+    c.new.ensures.err (subst IsText (sym is) (joined_is_text first separator second c.args.most_first c.args.most_second c.bytes.ensures.text c.bytes-2.ensures.text c.requires.printable c.requires.short))
