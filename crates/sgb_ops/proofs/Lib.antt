@@ -8,6 +8,8 @@ pub mod UnionEvents
 pub mod TallyLemmas
 pub mod CommonEvents
 pub mod Marks
+pub mod Places
+pub mod Pairs
 pub mod Results
 pub mod ComplementEvents
 pub mod JoinedNames

@@ -5,6 +5,7 @@ use Rattle.sgb_vec.specs.declared.panics.Panic.{Panic}
 use Rattle.sgb_vec.specs.declared.panics.Panic.TheVariants.{VeryBad}
 use Rattle.sgb_graph.specs.Graphs.{GraphData, chain_of}
 use Rattle.sgb_graph.specs.Events.{Event}
+use Rattle.sgb_graph.specs.declared.fields.Link.{Link}
 use Rattle.sgb_graph.specs.Ids.{double_compound_id}
 use Rattle.sgb_graph.specs.Descriptions.{Description}
 use Rattle.sgb_graph.specs.Made.{plain}
@@ -13,12 +14,8 @@ use Rattle.sgb_ops.specs.Operands.{order_of, places_of, names_of}
 use Rattle.sgb_ops.specs.Taken.{taken}
 use Rattle.sgb_graph.specs.IdTexts.{flag_text}
 use Rattle.sgb_ops.specs.Titles.{closing, pair_name}
-
--- the three products
-pub data ProductType : Type 0 where
-  Cartesian : ProductType
-  Direct : ProductType
-  Strong : ProductType
+use Rattle.sgb_ops.specs.declared.products.ProductType.{ProductType}
+use Rattle.sgb_ops.specs.declared.products.ProductType.TheVariants.{Cartesian, Direct, Strong}
 
 -- 0 is the cartesian product, an odd number the direct one, any other even number the strong one
 abbrev pub product_type : ℤ → ProductType
@@ -35,24 +32,45 @@ type_number Strong = 2
 abbrev pub pair_place : ℕ → ℕ → ℕ → ℕ
 pair_place h x y = x * h + y
 
--- the events that step in the second coordinate: for each y, each arc taken of y, each x
+-- an arc b from y in the graph of the second coordinate, beside x
+abbrev pub second_step : ℕ → ℕ → Link → ℕ → Event
+second_step h y b x = record { from = pair_place h x y; to = pair_place h x b.tip; len = b.len }
+
+-- an arc a from x in the graph of the first coordinate, beside y
+abbrev pub first_step : ℕ → ℕ → Link → ℕ → Event
+first_step h x a y = record { from = pair_place h x y; to = pair_place h a.tip y; len = a.len }
+
+-- both at once, with the lesser length
+abbrev pub both_step : ℕ → ℕ → ℕ → Link → Link → Event
+both_step h x y a b = record { from = pair_place h x y; to = pair_place h a.tip b.tip; len = lesser a.len b.len }
+
+-- the steps in the second coordinate from all pairs of y: for each arc taken of y, each x
+abbrev pub second_steps_at : GraphData → GraphData → Bool → ℕ → List Event
+second_steps_at g h directed y = flat_map (λ b. map (second_step (order_of h) y b) (places_of g)) (taken directed h y)
+
+-- the steps in the first coordinate from all pairs of x: for each arc taken of x, each y
+abbrev pub first_steps_at : GraphData → GraphData → Bool → ℕ → List Event
+first_steps_at g h directed x = flat_map (λ a. map (first_step (order_of h) x a) (places_of h)) (taken directed g x)
+
+-- the steps in both from (x, y): for each arc taken of x, each arc of y's whole list
+abbrev pub both_steps_at : GraphData → GraphData → Bool → ℕ → ℕ → List Event
+both_steps_at g h directed x y = flat_map (λ a. map (both_step (order_of h) x y a) (chain_of h y)) (taken directed g x)
+
+-- those from all pairs of x, in the order of y
+abbrev pub both_steps_of_row : GraphData → GraphData → Bool → ℕ → List Event
+both_steps_of_row g h directed x = flat_map (both_steps_at g h directed x) (places_of h)
+
+-- the events that step in the second coordinate, for each y
 abbrev pub second_steps : GraphData → GraphData → Bool → List Event
-second_steps g h directed =
-    let place = pair_place (order_of h) in
-    flat_map (λ y. flat_map (λ b. map (λ x. record { from = place x y; to = place x b.tip; len = b.len }) (places_of g)) (taken directed h y)) (places_of h)
+second_steps g h directed = flat_map (second_steps_at g h directed) (places_of h)
 
--- the events that step in the first coordinate: for each x, each arc taken of x, each y
+-- those that step in the first, for each x
 abbrev pub first_steps : GraphData → GraphData → Bool → List Event
-first_steps g h directed =
-    let place = pair_place (order_of h) in
-    flat_map (λ x. flat_map (λ a. map (λ y. record { from = place x y; to = place a.tip y; len = a.len }) (places_of h)) (taken directed g x)) (places_of g)
+first_steps g h directed = flat_map (first_steps_at g h directed) (places_of g)
 
--- the events that step in both: for each pair (x, y), each arc taken of x, each arc of y's whole list, with
--- the lesser length
+-- those that step in both, for each pair
 abbrev pub both_steps : GraphData → GraphData → Bool → List Event
-both_steps g h directed =
-    let place = pair_place (order_of h) in
-    flat_map (λ x. flat_map (λ y. flat_map (λ a. map (λ b. record { from = place x y; to = place a.tip b.tip; len = lesser a.len b.len }) (chain_of h y)) (taken directed g x)) (places_of h)) (places_of g)
+both_steps g h directed = flat_map (both_steps_of_row g h directed) (places_of g)
 
 -- the cartesian product steps in one coordinate, the direct one in both; the strong one has the events of
 -- the cartesian one and then those of the direct one

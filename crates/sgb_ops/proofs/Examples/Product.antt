@@ -5,7 +5,8 @@ use Rattle.sgb_graph.specs.Graphs.{numbers_from}
 use Rattle.sgb_graph.specs.Events.{list_from}
 use Rattle.sgb_graph.specs.Ids.{double_compound_id}
 use Rattle.sgb_ops.specs.Taken.{each_edge_once}
-use Rattle.sgb_ops.specs.Product.{Cartesian, Direct, Strong, product_type, has_too_many_pairs, product_graph_of}
+use Rattle.sgb_ops.specs.declared.products.ProductType.TheVariants.{Cartesian, Direct, Strong}
+use Rattle.sgb_ops.specs.Product.{product_type, has_too_many_pairs, product_graph_of}
 use Rattle.sgb_ops.proofs.Examples.Operands.{complete_2, complete_3, blocks, block, arcs, names, title}
 
 -- product(complete(2),complete(2),0,0)
