@@ -14,4 +14,5 @@ pub mod Results
 pub mod ComplementEvents
 pub mod JoinedNames
 pub mod LineEvents
+pub mod LineLists
 pub mod Examples

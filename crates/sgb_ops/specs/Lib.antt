@@ -11,6 +11,7 @@ pub mod Complement
 pub mod Gunion
 pub mod Intersection
 pub mod Lines
+pub mod LineLists
 pub mod Product
 pub mod Entries
 pub mod Induced

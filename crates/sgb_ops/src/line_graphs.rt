@@ -1,11 +1,12 @@
 //! The line graph of a graph, which has a vertex for each arc or edge (GB_BASIC, lines).
-ghost use Rattle.std.specs.Prelude.{◌≡◌, ◌≤◌, ◌<◌, ◌+◌, ◌++◌, ◌==◌, ◌&&◌, [], ◌∷◌, Ok, Err, pos, length, map, All, OnOk, IfOk, IfErr, IsOkUnless, if◌then◌else◌};
+ghost use Rattle.std.specs.Prelude.{◌≡◌, ℕ, true, false, ◌≤◌, ◌<◌, ◌+◌, ◌++◌, ◌==◌, ◌&&◌, [], ◌∷◌, Ok, Err, pos, length, map, All, OnOk, IfOk, IfErr, IsOkUnless, if◌then◌else◌};
 ghost use Rattle.std.specs.List.{list_all};
 ghost use Rattle.sgb_vec.specs.Limits.{most_vertices};
 ghost use Rattle.sgb_graph.specs.Descriptions.{IsAnswerOf, IsGraphOf};
 ghost use Rattle.sgb_graph.specs.Made.{plain};
 ghost use Rattle.sgb_ops.specs.Ends.{AllWithin};
-ghost use Rattle.sgb_ops.specs.Lines.{LineWithin, accepted_lines, events_to, has_way_back, is_of_edges, line_events, line_graph_of, line_of, lines_for, lines_id, lines_of_graph, meets, names_of_lines, points_to, share_vertex};
+ghost use Rattle.sgb_ops.specs.Lines.{LineWithin, accepted_lines, has_way_back, is_of_edges, line_events, line_graph_of, line_of, lines_id, lines_of_graph, names_of_lines, points_to};
+ghost use Rattle.sgb_ops.specs.LineLists.{FallFrom, counts, events_to_listed, list_at, touches, touching};
 ghost use Rattle.sgb_ops.specs.Operands.{name_at};
 ghost use Rattle.sgb_ops.specs.Taken.{taken};
 ghost use Rattle.sgb_ops.specs.Titles.{line_name, line_sign};
@@ -59,10 +60,11 @@ fn graph_of_lines(
 ) -> Result<Graph, Panic>
     requires few { length lines.now ≤ most_vertices }
     requires within { All (LineWithin (length graph.now.vertices)) lines.now }
+    requires falling { directed ≡ false → FallFrom (length graph.now.vertices) lines.now }
     ensures ok { IfOk result (λ g. IsGraphOf (plain directed (line_events directed lines.now) (names_of_lines graph.now directed lines.now) (lines_id graph.now.id directed)) g) }
     ensures memory { IsOkUnless result Panic.NoRoom }
 {
-    let events = line_events(alloc, directed, lines)?;
+    let events = line_events(alloc, graph.n(), directed, lines)?;
     let names = names_of_lines(alloc, graph, directed, lines)?;
     graph_of(alloc, directed, &events, names, title(graph.id(), directed))
 }
@@ -78,6 +80,7 @@ fn title(id: &Id, directed: bool) -> Id
 fn lines_of_graph(alloc: Global, graph: &Graph, directed: bool) -> Result<Vec<Line>, Panic>
     ensures ok { IfOk result (λ lines. lines.items ≡ lines_of_graph graph.now directed) }
     ensures within { IfOk result (λ lines. All (LineWithin (length graph.now.vertices)) lines.items) }
+    ensures falling { directed ≡ false → IfOk result (λ lines. FallFrom (length graph.now.vertices) lines.items) }
     ensures memory { IsOkUnless result Panic.NoRoom }
 {
     let mut lines = Vec::new(alloc);
@@ -142,26 +145,6 @@ impl Line {
         points_to(graph.arc_rec(self.number + 1).tip, self.from)
     }
 
-    // Directed, whether the other line begins where this one ends; undirected, whether they share a vertex.
-    fn meets(self, directed: bool, other: Line) -> bool
-        ensures { result ≡ meets directed self other }
-    {
-        if directed {
-            return other.from == self.to;
-        }
-        self.shares_vertex(other)
-    }
-
-    // Whether the two edges share a vertex.
-    fn shares_vertex(self, other: Line) -> bool
-        ensures { result ≡ share_vertex self other }
-    {
-        self.from == other.from
-            || self.from == other.to
-            || self.to == other.from
-            || self.to == other.to
-    }
-
     // The line's name, made of the names of its ends.
     fn name(self, alloc: Global, graph: &Graph, directed: bool) -> Result<Text, Panic>
         requires { LineWithin (length graph.now.vertices) self }
@@ -220,48 +203,130 @@ fn names_of_lines(
 }
 
 // The events of the line graph.
-fn line_events(alloc: Global, directed: bool, lines: &[Line]) -> Result<Vec<Event>, Panic>
+fn line_events(alloc: Global, n: u32, directed: bool, lines: &[Line]) -> Result<Vec<Event>, Panic>
     requires few { length lines.now ≤ most_vertices }
+    requires within { All (LineWithin n) lines.now }
+    requires falling { directed ≡ false → FallFrom n lines.now }
     ensures ok { IfOk result (λ events. events.items ≡ line_events directed lines.now) }
     ensures within { IfOk result (λ events. AllWithin (length lines.now) events.items) }
     ensures memory { IsOkUnless result Panic.NoRoom }
 {
+    let lists = line_lists(alloc, n, directed, lines)?;
     let mut events = Vec::new(alloc);
     for (i, line) in lines.iter().enumerate() {
-        push_events(
-            &mut events,
-            directed,
-            i as u32,
-            *line,
-            lines_for(directed, lines, i),
-        )?;
+        push_events(&mut events, directed, i as u32, *line, &lists)?;
     }
     Ok(events)
 }
 
-// Among which lines those are that line number `i` is joined to: all, or undirected the earlier ones.
-fn lines_for(directed: bool, lines: &[Line], i: usize) -> &[Line]
-    requires { i ≤ length lines.now }
-    ensures { result.now ≡ lines_for directed lines.now i }
-{
-    if directed { lines } else { &lines[..i] }
-}
-
-// Appends the events from line number `i` to those of the others that it meets.
+// Appends the events from line number `i`. An undirected one meets earlier lines at its end, but those that begin where
+// it begins, and then those at its beginning: they come later.
 fn push_events(
     events: &mut Vec<Event>,
     directed: bool,
     i: u32,
     line: Line,
-    others: &[Line],
+    lists: &[Vec<(u32, Line)>],
 ) -> Result<(), Panic>
-    requires few { length others.now ≤ most_vertices }
-    ensures ok { OnOk result (events.new.items ≡ events.old.items ++ events_to directed i line others.now) }
+    requires within { LineWithin (length lists.now) line }
+    ensures ok { OnOk result (events.new.items ≡ events.old.items
+        ++ (if directed then events_to_listed false false i line (list_at lists.now line.to)
+        else events_to_listed true true i line (list_at lists.now line.to) ++ events_to_listed true false i line (list_at lists.now line.from))) }
     ensures memory { IsOkUnless result Panic.NoRoom }
 {
-    for (j, other) in others.iter().enumerate() {
-        push_event_if(events, line.meets(directed, *other), i, j as u32)?;
+    let at_end = &lists[line.to as usize];
+    if directed {
+        return push_listed(events, false, false, i, line, at_end);
     }
+    push_listed(events, true, true, i, line, at_end)?;
+    push_listed(events, true, false, i, line, &lists[line.from as usize])
+}
+
+// Appends the events from line number `i` to those of the list that count.
+fn push_listed(
+    events: &mut Vec<Event>,
+    earlier: bool,
+    elsewhere: bool,
+    i: u32,
+    line: Line,
+    list: &[(u32, Line)],
+) -> Result<(), Panic>
+    ensures ok { OnOk result (events.new.items ≡ events.old.items ++ events_to_listed earlier elsewhere i line list.now) }
+    ensures memory { IsOkUnless result Panic.NoRoom }
+{
+    for other in list {
+        let wanted = counts(earlier, elsewhere, i, line, *other);
+        push_event_if(events, wanted, i, other.0)?;
+    }
+    Ok(())
+}
+
+// Whether the other line counts for line number `i`.
+fn counts(earlier: bool, elsewhere: bool, i: u32, line: Line, other: (u32, Line)) -> bool
+    ensures { result ≡ counts earlier elsewhere i line other }
+{
+    (!earlier || other.0 < i) && (!elsewhere || other.1.from != line.from)
+}
+
+// For each of `n` vertices the lines at it, in order, with their numbers.
+fn line_lists(
+    alloc: Global,
+    n: u32,
+    directed: bool,
+    lines: &[Line],
+) -> Result<Vec<Vec<(u32, Line)>>, Panic>
+    requires few { length lines.now ≤ most_vertices }
+    requires within { All (LineWithin n) lines.now }
+    ensures ok { IfOk result (λ lists. (w : ℕ) → list_at lists.items w ≡ touching directed w 0 lines.now) }
+    ensures size { IfOk result (λ lists. length lists.items ≡ n) }
+    ensures memory { IsOkUnless result Panic.NoRoom }
+{
+    let mut lists = empty_lists(alloc, n)?;
+    for (j, line) in lines.iter().enumerate() {
+        push_line(&mut lists, directed, (j as u32, *line))?;
+    }
+    Ok(lists)
+}
+
+// So many empty lists.
+fn empty_lists(alloc: Global, n: u32) -> Result<Vec<Vec<(u32, Line)>>, Panic>
+    ensures ok { IfOk result (λ lists. (w : ℕ) → list_at lists.items w ≡ []) }
+    ensures size { IfOk result (λ lists. length lists.items ≡ n) }
+    ensures memory { IsOkUnless result Panic.NoRoom }
+{
+    let mut lists = Vec::new(alloc);
+    for _w in 0..n {
+        lists.push(Vec::new(alloc))?;
+    }
+    Ok(lists)
+}
+
+// Appends the line to the list of each of its ends; directed, of its beginning.
+fn push_line(
+    lists: &mut Vec<Vec<(u32, Line)>>,
+    directed: bool,
+    line: (u32, Line),
+) -> Result<(), Panic>
+    requires within { LineWithin (length lists.old.items) line.1 }
+    ensures ok { OnOk result ((w : ℕ) → list_at lists.new.items w ≡ list_at lists.old.items w ++ (if touches directed w line.1 then line ∷ [] else [])) }
+    ensures size { OnOk result (length lists.new.items ≡ length lists.old.items) }
+    ensures memory { IsOkUnless result Panic.NoRoom }
+{
+    push_at(lists, line.1.from, line)?;
+    if !directed && line.1.to != line.1.from {
+        push_at(lists, line.1.to, line)?;
+    }
+    Ok(())
+}
+
+// Appends the line to list number `w`.
+fn push_at(lists: &mut Vec<Vec<(u32, Line)>>, w: u32, line: (u32, Line)) -> Result<(), Panic>
+    requires { w < length lists.old.items }
+    ensures ok { OnOk result ((u : ℕ) → list_at lists.new.items u ≡ list_at lists.old.items u ++ (if w == u then line ∷ [] else [])) }
+    ensures size { OnOk result (length lists.new.items ≡ length lists.old.items) }
+    ensures memory { IsOkUnless result Panic.NoRoom }
+{
+    lists[w as usize].push(line)?;
     Ok(())
 }
 

@@ -2,6 +2,8 @@ use Rattle.std.proofs.Common.{◌++◌, ◌-◌, ◌+◌, ◌≡◌, ◌∙◌, 
 use Rattle.sgb_ops.specs.Lines.{LineWithin}
 use Rattle.sgb_ops.specs.Operands.{order_of}
 use Rattle.sgb_ops.proofs.LineEvents.{lines_at, lines_below, lines_below-more, lines_within}
+use Rattle.sgb_ops.specs.LineLists.{FallFrom}
+use Rattle.sgb_ops.proofs.LineLists.{lines_fall}
 use Rattle.sgb_ops.proofs.line_graphs.lines_of_graph.Goals as goal
 
 pub loop-v-preserved : goal.loop-v-preserved
@@ -22,3 +24,11 @@ returns-clause-within c =
     subst (All (LineWithin (order_of g)))
     (sym (sym (append-nil _) ∙ (ap (λ ls. c.loop-v.lines.items ++ ls) (sym (ap (lines_below g c.args.directed) none)) ∙ c.loop-v.invariant)))
     (lines_within g c.args.directed c.n-v.ensures.kept)
+
+pub returns-clause-falling : goal.returns-clause-falling
+returns-clause-falling c = λ e.
+    let g = c.args.graph.now in
+    let none : c.loop-v.v ≡ 0 = omega arith in
+    subst (FallFrom (order_of g))
+    (sym (sym (append-nil _) ∙ (ap (λ ls. c.loop-v.lines.items ++ ls) (sym (ap (lines_below g c.args.directed) none)) ∙ c.loop-v.invariant)))
+    (lines_fall g c.args.directed e)
