@@ -5,6 +5,7 @@ ghost use Rattle.sgb_vec.specs.Limits.{most_vertices};
 ghost use Rattle.sgb_graph.specs.Descriptions.{IsAnswerOf};
 ghost use Rattle.sgb_graph.specs.Graphs.{chain_of};
 ghost use Rattle.sgb_graph.specs.Growth.{AddsEvents, HasPlainArcs, IsKept};
+ghost use Rattle.sgb_ops.specs.Lengths.{lesser};
 ghost use Rattle.sgb_ops.specs.Operands.{names_of};
 ghost use Rattle.sgb_ops.specs.Product.{both_step, both_steps, both_steps_at, both_steps_of_row, first_step, first_steps_at, first_steps, names_of_pairs, pair_place, product_events, product_graph_of, product_id, product_type, second_step, second_steps, second_steps_at, type_number};
 ghost use Rattle.sgb_ops.specs.Taken.{taken};
@@ -390,10 +391,17 @@ fn add_both_step(
             directed,
             from,
             sizes.place(arc.tip, other.tip),
-            arc.len.min(other.len),
+            lesser(arc.len, other.len),
         )?;
     }
     Ok(())
+}
+
+// The lesser of two lengths.
+fn lesser(a: i64, b: i64) -> i64
+    ensures { result ≡ lesser a b }
+{
+    a.min(b)
 }
 
 // The names of the pairs.

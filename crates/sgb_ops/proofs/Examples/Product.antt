@@ -6,8 +6,8 @@ use Rattle.sgb_graph.specs.Events.{list_from}
 use Rattle.sgb_graph.specs.Ids.{double_compound_id}
 use Rattle.sgb_ops.specs.Taken.{each_edge_once}
 use Rattle.sgb_ops.specs.declared.products.ProductType.TheVariants.{Cartesian, Direct, Strong}
-use Rattle.sgb_ops.specs.Product.{product_type, has_too_many_pairs, product_graph_of}
-use Rattle.sgb_ops.proofs.Examples.Operands.{complete_2, complete_3, blocks, block, arcs, names, title}
+use Rattle.sgb_ops.specs.Product.{product_type, product_events, both_steps_at, has_too_many_pairs, product_graph_of}
+use Rattle.sgb_ops.proofs.Examples.Operands.{event, path_3, complete_2, complete_3, blocks, block, arcs, names, title}
 
 -- product(complete(2),complete(2),0,0)
 pub product_names : names (product_graph_of complete_2 complete_2 (pos 0) false)
@@ -53,3 +53,67 @@ too_many = refl
 
 pub not_too_many : has_too_many_pairs 1_000 1_000_000 ≡ false
 not_too_many = refl
+
+-- the names of pairs of different operands, in lexicographic order
+pub names_of_different : names (product_graph_of complete_3 complete_2 (pos 0) false)
+    ≡ codes "0,0" ∷ codes "0,1" ∷ codes "1,0" ∷ codes "1,1" ∷ codes "2,0" ∷ codes "2,1" ∷ []
+unfolding digits
+names_of_different = refl
+
+pub strong_title : title (product_graph_of complete_3 path_3 (negsuc 1) true) ≡ codes "product(board(3,0,0,0,-1,0,0),board(3,0,0,0,1,0,0),2,1)"
+unfolding digits double_compound_id
+strong_title = refl
+
+-- the pair (x, y) of a triangle and an edge is vertex 2 x + y: its steps in the second coordinate come first, then those
+-- in the first, where the edge of length 2 leads each list
+pub cartesian_events : product_events Cartesian complete_3 complete_2 false
+    ≡ event 0 1 1 ∷ event 2 3 1 ∷ event 4 5 1
+    ∷ event 0 4 2 ∷ event 1 5 2 ∷ event 0 2 1 ∷ event 1 3 1 ∷ event 2 4 1 ∷ event 3 5 1 ∷ []
+unfolding digits numbers_from list_from each_edge_once
+cartesian_events = refl
+
+-- an edge and a triangle: (x, y) is vertex 3 x + y
+pub cartesian_events_turned : product_events Cartesian complete_2 complete_3 false
+    ≡ event 0 2 2 ∷ event 3 5 2 ∷ event 0 1 1 ∷ event 3 4 1 ∷ event 1 2 1 ∷ event 4 5 1
+    ∷ event 0 3 1 ∷ event 1 4 1 ∷ event 2 5 1 ∷ []
+unfolding digits numbers_from list_from each_edge_once
+cartesian_events_turned = refl
+
+-- the lesser length is 1 where the edge of the first has length 2; both arcs of the second's edge count
+pub direct_events : product_events Direct complete_3 complete_2 false
+    ≡ event 0 5 1 ∷ event 0 3 1 ∷ event 1 4 1 ∷ event 1 2 1 ∷ event 2 5 1 ∷ event 3 4 1 ∷ []
+unfolding digits numbers_from list_from each_edge_once
+direct_events = refl
+
+pub direct_events_turned : product_events Direct complete_2 complete_3 false
+    ≡ event 0 5 1 ∷ event 0 4 1 ∷ event 1 5 1 ∷ event 1 3 1 ∷ event 2 4 1 ∷ event 2 3 1 ∷ []
+unfolding digits numbers_from list_from each_edge_once
+direct_events_turned = refl
+
+-- with each arc of the first go all of the second; two edges of length 2 make one of length 2
+pub direct_events_of_triangles : both_steps_at complete_3 complete_3 false 0 0
+    ≡ event 0 8 2 ∷ event 0 7 1 ∷ event 0 5 1 ∷ event 0 4 1 ∷ []
+unfolding digits numbers_from list_from each_edge_once
+direct_events_of_triangles = refl
+
+-- the direct steps of the strong product come last, and so first on each list
+pub strong_events : product_events Strong complete_2 complete_2 false
+    ≡ event 0 1 1 ∷ event 2 3 1 ∷ event 0 2 1 ∷ event 1 3 1 ∷ event 0 3 1 ∷ event 1 2 1 ∷ []
+unfolding digits numbers_from list_from each_edge_once
+strong_events = refl
+
+pub strong_block : block (product_graph_of complete_2 complete_2 (pos 2) false) 0
+    ≡ (codes "1,1", pos 1) ∷ (codes "1,0", pos 1) ∷ (codes "0,1", pos 1) ∷ []
+unfolding digits numbers_from list_from each_edge_once
+strong_block = refl
+
+-- for arcs both records of an edge are taken
+pub directed_events : map (λ t. product_events t complete_2 complete_2 true) (Cartesian ∷ Direct ∷ [])
+    ≡ (event 0 1 1 ∷ event 2 3 1 ∷ event 1 0 1 ∷ event 3 2 1 ∷ event 0 2 1 ∷ event 1 3 1 ∷ event 2 0 1 ∷ event 3 1 1 ∷ [])
+    ∷ (event 0 3 1 ∷ event 1 2 1 ∷ event 2 1 1 ∷ event 3 0 1 ∷ []) ∷ []
+unfolding digits numbers_from list_from each_edge_once
+directed_events = refl
+
+pub directed_arcs : map (λ kind. arcs (product_graph_of complete_2 complete_2 (pos kind) true)) (0 ∷ 1 ∷ 2 ∷ []) ≡ 8 ∷ 4 ∷ 12 ∷ []
+unfolding numbers_from list_from each_edge_once
+directed_arcs = refl

@@ -42,6 +42,8 @@ fn many_pairs_and_none(rt: HostRuntime) -> Result<(), Fail> {
     let nothing = simplex(rt.alloc(), 5, 2, 2, 0, 0, 0, false)?;
     let edge = complete(2).graph(rt.alloc())?;
     let none = product(rt.alloc(), &edge, &nothing, 2, true)?;
+    assert!(rt; product(rt.alloc(), &many, &edge, 1, false)?.n() == 80_000);
+    assert!(rt; product(rt.alloc(), &edge, &many, 1, false)?.n() == 80_000);
     assert!(rt; none.n() == 0);
     assert!(rt; none.m() == 0);
     Ok(())
