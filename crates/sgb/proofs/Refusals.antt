@@ -15,10 +15,10 @@ use Rattle.sgb_gen.specs.declared.params.BoardParams.{BoardParams}
 use Rattle.sgb_gen.specs.declared.params.SimplexParams.{SimplexParams}
 use Rattle.sgb_gen.specs.declared.params.SubsetsParams.{SubsetsParams}
 use Rattle.sgb_expr.specs.Expression.{Expression, Family, Complement, Gunion, Intersection, expression_of}
-use Rattle.sgb_expr.specs.declared.expressions.Family.{Family as AFamily}
+use Rattle.sgb_expr.specs.declared.expressions.Family.{Family as Generator}
 use Rattle.sgb_expr.specs.declared.expressions.Family.TheVariants as family
 use Rattle.sgb.specs.Outcomes.{answer_after, answer_from, answer_of, left_out, left_out_by, queen_moves, vertex_named}
-use Rattle.sgb.specs.Values.{family_value, value_of}
+use Rattle.sgb.specs.Values.{both, family_value, value_of}
 use Rattle.sgb.specs.declared.faults.Fault.{Fault}
 use Rattle.sgb.specs.declared.faults.Fault.TheVariants as fault
 use Rattle.sgb.specs.declared.requests.Request.{Request}
@@ -104,17 +104,21 @@ subsets_judged p =
     after _ _ accepted_judged (λ s. accepted _)
 
 -- a graph of a generator
-family_judged : (f : AFamily) → IsJudged (family_value f)
+family_judged : (f : Generator) → IsJudged (family_value f)
 family_judged (family.Board p) = board_judged p
 family_judged (family.Simplex p) = simplex_judged p
 family_judged (family.Subsets p) = subsets_judged p
+
+-- two values
+both_judged : {T U : Type 0} (r : Result T Panic) (s : Result U Panic) → IsJudged r → IsJudged s → IsJudged (both r s)
+both_judged r s p q = after r _ p (λ x. after s _ q (λ y. accepted _))
 
 -- an expression
 value_judged : (e : Expression) → IsJudged (value_of e)
 value_judged (Family f) = after (family_value f) _ (family_judged f) (λ d. accepted _)
 value_judged (Complement e copy self_loops directed) = after _ _ (value_judged e) (λ g. accepted _)
-value_judged (Gunion e f multi directed) = after _ _ (value_judged e) (λ g. after _ _ (value_judged f) (λ h. accepted _))
-value_judged (Intersection e f multi directed) = after _ _ (value_judged e) (λ g. after _ _ (value_judged f) (λ h. accepted _))
+value_judged (Gunion e f multi directed) = after _ _ (both_judged _ _ (value_judged e) (value_judged f)) (λ operands. accepted _)
+value_judged (Intersection e f multi directed) = after _ _ (both_judged _ _ (value_judged e) (value_judged f)) (λ operands. accepted _)
 
 -- ---- answers
 

@@ -1,5 +1,5 @@
 -- Values of expressions, from those of their operands.
-use Rattle.std.proofs.Common.{◌∙◌, ◌≡◌, Result, Ok, Err, ap, sym, subst, inl, inr}
+use Rattle.std.proofs.Common.{◌∙◌, ◌≡◌, ◌+◌, ℕ, Result, Ok, Err, ap, refl, sym, subst, inl, inr}
 use Rattle.sgb_vec.specs.Results.{and_then}
 use Rattle.sgb_vec.specs.declared.panics.Panic.{Panic}
 use Rattle.sgb_graph.specs.Descriptions.{Description, IsAnswerOf}
@@ -13,7 +13,8 @@ use Rattle.sgb_gen.specs.Simplexes.{simplex_graph, simplex_vectors}
 use Rattle.sgb_gen.specs.Subsets.{subsets_graph, subsets_vectors}
 use Rattle.sgb_gen.specs.VectorGraphs.{family_graph, fields_of_vector}
 use Rattle.sgb_ops.specs.Operands.{names_of}
-use Rattle.sgb.specs.Values.{IsValue, described, made}
+use Rattle.sgb_expr.specs.Expression.{Expression, Family, Complement, Gunion, Intersection}
+use Rattle.sgb.specs.Values.{IsValue, both, described, made}
 use Rattle.sgb.specs.declared.evaluation.Local.{Local}
 use Rattle.sgb.specs.declared.evaluation.Local.TheVariants as local
 
@@ -33,18 +34,22 @@ value_made (Err f) (Err p) (inl e) = inl (ap Err (sym e))
 value_made (Err f) (Err p) (inr e) = inr e
 
 -- what is made of an operand
-pub value_then : (operand : Result GraphData Panic) (g : GraphData) (make : GraphData → Result GraphData Panic) (r : Result GraphData Panic)
-    → operand ≡ Ok g → IsValue (make g) r → IsValue (and_then operand make) r
-value_then operand g make r e is = subst (λ (v : Result GraphData Panic). IsValue (and_then v make) r) (sym e) is
+pub value_then : {T U : Type 0} (operand : Result T Panic) (x : T) (make : T → Result U Panic) (r : Result U Panic)
+    → operand ≡ Ok x → IsValue (make x) r → IsValue (and_then operand make) r
+value_then {T} {U} operand x make r e is = subst (λ (v : Result T Panic). IsValue (and_then v make) r) (sym e) is
 
 -- a refusal of an operand stays
-pub value_refused : (operand : Result GraphData Panic) (make : GraphData → Result GraphData Panic) (p : Panic) → IsValue operand (Err p) → IsValue (and_then operand make) (Err p)
-value_refused operand make p (inl e) = inl (ap (λ (v : Result GraphData Panic). and_then v make) e)
+pub value_refused : {T U : Type 0} (operand : Result T Panic) (make : T → Result U Panic) (p : Panic) → IsValue operand (Err p) → IsValue (and_then operand make) (Err p)
+value_refused {T} operand make p (inl e) = inl (ap (λ (v : Result T Panic). and_then v make) e)
 value_refused operand make p (inr e) = inr e
 
--- what is made of two operands
-pub value_of_two : (first second : Result GraphData Panic) (g h : GraphData) (make : GraphData → GraphData → Result Description Panic) (r : Result GraphData Panic)
-    → first ≡ Ok g → second ≡ Ok h → IsAnswerOf (make g h) r → IsValue (and_then first (λ g. and_then second (λ h. made (make g h)))) r
-value_of_two first second g h make r e f is =
-    value_then first g (λ g. and_then second (λ h. made (make g h))) r e
-    (value_then second h (λ h. made (make g h)) r f (value_made (make g h) r is))
+-- two operands, one after the other
+pub value_both : {T U : Type 0} (first : Result T Panic) (second : Result U Panic) (x : T) (y : U) → first ≡ Ok x → second ≡ Ok y → both first second ≡ Ok (x, y)
+value_both first second x y e f = rw (e, f) refl
+
+-- how large an expression is: larger than its operands together
+abbrev pub size_of : Expression → ℕ
+size_of (Family f) = 1
+size_of (Complement e copy self_loops directed) = size_of e + 1
+size_of (Gunion e f multi directed) = size_of e + size_of f + 2
+size_of (Intersection e f multi directed) = size_of e + size_of f + 2

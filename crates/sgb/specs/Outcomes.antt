@@ -6,7 +6,7 @@ use Rattle.sgb_vec.specs.declared.panics.Panic.{Panic}
 use Rattle.sgb_graph.specs.Graphs.{GraphData}
 use Rattle.sgb_ops.specs.Operands.{names_of}
 use Rattle.sgb_expr.specs.Expression.{Expression, Family, Gunion, expression_of}
-use Rattle.sgb_expr.specs.declared.expressions.Family.{Family as AFamily}
+use Rattle.sgb_expr.specs.declared.expressions.Family.{Family as Generator}
 use Rattle.sgb_expr.specs.declared.expressions.Family.TheVariants as family
 use Rattle.sgb.specs.Faults.{status_of, line_of}
 use Rattle.sgb.specs.Texts.{name_lines, head, blocks}
@@ -58,7 +58,7 @@ answer_from (Ok g) answer = answer g
 answer_from (Err p) answer = Err (fault.Panic p)
 
 -- the moves of a piece on a board of three rows and four columns
-abbrev pub moves_of : ℤ → AFamily
+abbrev pub moves_of : ℤ → Generator
 moves_of step =
     family.Board (record { n1 = pos 3; n2 = pos 4; n3 = pos 0; n4 = pos 0; piece = step; wrap = pos 0; directed = false })
 

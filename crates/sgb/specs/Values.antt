@@ -13,13 +13,13 @@ use Rattle.sgb_ops.specs.Complement.{complement_of}
 use Rattle.sgb_ops.specs.Gunion.{gunion_of}
 use Rattle.sgb_ops.specs.Intersection.{intersection_of}
 use Rattle.sgb_expr.specs.Expression.{Expression, Family, Complement, Gunion, Intersection}
-use Rattle.sgb_expr.specs.declared.expressions.Family.{Family as AFamily}
+use Rattle.sgb_expr.specs.declared.expressions.Family.{Family as Generator}
 use Rattle.sgb_expr.specs.declared.expressions.Family.TheVariants as family
 use Rattle.sgb.specs.declared.evaluation.Local.{Local}
 use Rattle.sgb.specs.declared.evaluation.Local.TheVariants as local
 
 -- the graph of a generator with its parameters, or why it is refused
-abbrev pub family_value : AFamily → Result Description Panic
+abbrev pub family_value : Generator → Result Description Panic
 family_value (family.Board p) = board p
 family_value (family.Simplex p) = simplex p
 family_value (family.Subsets p) = subsets p
@@ -28,18 +28,22 @@ family_value (family.Subsets p) = subsets p
 abbrev pub made : Result Description Panic → Result GraphData Panic
 made value = and_then value (λ d. Ok (graph_described d))
 
+-- two values, where the first's refusal comes before the second's
+abbrev pub both : {T U : Type 0} → Result T Panic → Result U Panic → Result (T × U) Panic
+both first second = and_then first (λ x. and_then second (λ y. Ok (x, y)))
+
 -- the graph of an expression, or the first refusal: the operands' from left to right, then the operation's
 abbrev pub value_of : Expression → Result GraphData Panic
 value_of (Family f) = made (family_value f)
 value_of (Complement e copy self_loops directed) = and_then (value_of e) (λ g. made (complement_of g copy self_loops directed))
 value_of (Gunion e f multi directed) =
-    and_then (value_of e) (λ g. and_then (value_of f) (λ h. made (gunion_of g h multi directed)))
+    and_then (both (value_of e) (value_of f)) (λ operands. made (gunion_of operands.0 operands.1 multi directed))
 value_of (Intersection e f multi directed) =
-    and_then (value_of e) (λ g. and_then (value_of f) (λ h. made (intersection_of g h multi directed)))
+    and_then (both (value_of e) (value_of f)) (λ operands. made (intersection_of operands.0 operands.1 multi directed))
 
--- the result is this graph, or this refusal; or it is out of memory
-abbrev pub IsValue : Result GraphData Panic → Result GraphData Panic → Type 0
-IsValue value (Ok g) = value ≡ Ok g
+-- the result is this value, or this refusal; or it is out of memory
+abbrev pub IsValue : {T : Type 0} → Result T Panic → Result T Panic → Type 0
+IsValue value (Ok x) = value ≡ Ok x
 IsValue value (Err p) = (value ≡ Err p) ⊎ (p ≡ NoRoom)
 
 -- the graph of accepted parameters

@@ -3,7 +3,7 @@ ghost use Rattle.std.specs.Prelude.{◌≡◌};
 ghost use Rattle.sgb_graph.specs.Descriptions.{IsAnswerOf};
 ghost use Rattle.sgb_expr.specs.Expression.{expression_of};
 ghost use Rattle.sgb.specs.Outcomes.{moves_of, queen_moves};
-ghost use Rattle.sgb.specs.Values.{IsLocalOf, IsValue, family_value, value_of};
+ghost use Rattle.sgb.specs.Values.{IsLocalOf, IsValue, both, family_value, value_of};
 
 use sgb_expr::{Expr, Family};
 use sgb_gen::{Board, BoardParams, Simplex, Subsets};
@@ -24,6 +24,7 @@ pub(crate) enum Local {
 /// operation is made.
 ///
 /// The first refusal, or `NoRoom` when out of memory.
+#[cycle(graphs)]
 pub(crate) fn graph_of(alloc: Global, expression: &Expr) -> Result<Graph, Panic>
     ensures { IsValue (value_of (expression_of expression.now)) result }
 {
@@ -44,8 +45,7 @@ pub(crate) fn graph_of(alloc: Global, expression: &Expr) -> Result<Graph, Panic>
             multi,
             directed,
         } => {
-            let left = graph_of(alloc, first)?;
-            let right = graph_of(alloc, second)?;
+            let (left, right) = operands(alloc, first, second)?;
             gunion(alloc, &left, &right, *multi, *directed)
         }
         Expr::Intersection {
@@ -54,11 +54,20 @@ pub(crate) fn graph_of(alloc: Global, expression: &Expr) -> Result<Graph, Panic>
             multi,
             directed,
         } => {
-            let left = graph_of(alloc, first)?;
-            let right = graph_of(alloc, second)?;
+            let (left, right) = operands(alloc, first, second)?;
             intersection(alloc, &left, &right, *multi, *directed)
         }
     }
+}
+
+// The graphs of two expressions; the first one's refusal before the second's.
+#[cycle(graphs)]
+fn operands(alloc: Global, first: &Expr, second: &Expr) -> Result<(Graph, Graph), Panic>
+    ensures { IsValue (both (value_of (expression_of first.now)) (value_of (expression_of second.now))) result }
+{
+    let left = graph_of(alloc, first)?;
+    let right = graph_of(alloc, second)?;
+    Ok((left, right))
 }
 
 // The graph of a generator.

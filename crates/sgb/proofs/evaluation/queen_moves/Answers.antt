@@ -4,8 +4,8 @@ use Rattle.sgb_graph.specs.Graphs.{GraphData}
 use Rattle.sgb_expr.specs.declared.expressions.Family.{Family}
 use Rattle.sgb_ops.specs.Gunion.{gunion_of}
 use Rattle.sgb.specs.Outcomes.{moves_of, queen_moves}
-use Rattle.sgb.specs.Values.{family_value, made}
-use Rattle.sgb.proofs.Values.{value_made, value_of_two}
+use Rattle.sgb.specs.Values.{both, family_value, made}
+use Rattle.sgb.proofs.Values.{value_both, value_made, value_then}
 use Rattle.sgb.proofs.evaluation.queen_moves.Goals as goal
 
 -- the graph of a family that is known
@@ -15,6 +15,7 @@ moves_made e f g same is = value_made (family_value f) (Ok g) (subst (λ (x : Fa
 pub returns : goal.returns
 unfolding queen_moves
 returns c =
-    value_of_two (made (family_value (moves_of (neg_ℤ (pos 1))))) (made (family_value (moves_of (neg_ℤ (pos 2))))) c.in_ok-rooks.rooks c.in_ok-bishops.bishops
-    (λ g h. gunion_of g h false false) c.gunion.result
-    (moves_made _ _ _ c.moves_of.ensures c.in_ok-rooks.ensures) (moves_made _ _ _ c.moves_of-2.ensures c.in_ok-bishops.ensures) c.gunion.ensures
+    value_then (both (made (family_value (moves_of (neg_ℤ (pos 1))))) (made (family_value (moves_of (neg_ℤ (pos 2)))))) (c.in_ok-rooks.rooks, c.in_ok-bishops.bishops)
+    (λ operands. made (gunion_of operands.0 operands.1 false false)) c.gunion.result
+    (value_both _ _ c.in_ok-rooks.rooks c.in_ok-bishops.bishops (moves_made _ _ _ c.moves_of.ensures c.in_ok-rooks.ensures) (moves_made _ _ _ c.moves_of-2.ensures c.in_ok-bishops.ensures))
+    (value_made (gunion_of c.in_ok-rooks.rooks c.in_ok-bishops.bishops false false) c.gunion.result c.gunion.ensures)

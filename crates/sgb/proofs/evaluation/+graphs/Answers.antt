@@ -1,0 +1,51 @@
+use Rattle.std.proofs.Common.{◌≡◌, Ok, sym, subst}
+use Rattle.sgb_graph.specs.Graphs.{GraphData}
+use Rattle.sgb_expr.specs.Expression.{expression_of}
+use Rattle.sgb_expr.specs.declared.expressions.Expr.{Expr}
+use Rattle.sgb_ops.specs.Complement.{complement_of}
+use Rattle.sgb_ops.specs.Gunion.{gunion_of}
+use Rattle.sgb_ops.specs.Intersection.{intersection_of}
+use Rattle.sgb.specs.Values.{IsValue, both, made, value_of}
+use Rattle.sgb.proofs.Values.{value_made, value_then}
+use Rattle.sgb.proofs.evaluation.+graphs.Goals as goal
+
+-- the value of an operand that stands in a box
+at_value : (e f : Expr) (g : GraphData) → e ≡ f → value_of (expression_of e) ≡ Ok g → value_of (expression_of f) ≡ Ok g
+at_value e f g same is = subst (λ (x : Expr). value_of (expression_of x) ≡ Ok g) same is
+
+-- the values of two operands that stand in boxes
+at_values : (e f e' f' : Expr) (operands : GraphData × GraphData) → e ≡ e' → f ≡ f' → both (value_of (expression_of e)) (value_of (expression_of f)) ≡ Ok operands
+    → both (value_of (expression_of e')) (value_of (expression_of f')) ≡ Ok operands
+at_values e f e' f' operands same alike is =
+    subst (λ (x : Expr). both (value_of (expression_of x)) (value_of (expression_of f')) ≡ Ok operands) same
+    (subst (λ (y : Expr). both (value_of (expression_of e)) (value_of (expression_of y)) ≡ Ok operands) alike is)
+
+pub graph_of-returns-in-Family : goal.graph_of-returns-in-Family
+graph_of-returns-in-Family t c =
+    subst (λ (e : Expr). IsValue (value_of (expression_of e)) c.family_graph.result) (sym c.in-Family.is) (value_made _ _ c.family_graph.ensures)
+
+pub graph_of-returns-in_ok-operand-in-Complement : goal.graph_of-returns-in_ok-operand-in-Complement
+graph_of-returns-in_ok-operand-in-Complement t c =
+    let a = c.in-Complement in
+    subst (λ (e : Expr). IsValue (value_of (expression_of e)) c.complement.result) (sym a.is)
+    (value_then (value_of (expression_of a.graph.value)) c.in_ok-operand-in-Complement.operand (λ g. made (complement_of g a.copy a.self_loops a.directed)) c.complement.result
+    (at_value c.deref.result.now a.graph.value c.in_ok-operand-in-Complement.operand c.deref.ensures c.in_ok-operand-in-Complement.ensures)
+    (value_made (complement_of c.in_ok-operand-in-Complement.operand a.copy a.self_loops a.directed) c.complement.result c.complement.ensures))
+
+pub graph_of-returns-in_ok-left-in-Gunion : goal.graph_of-returns-in_ok-left-in-Gunion
+graph_of-returns-in_ok-left-in-Gunion t c =
+    let a = c.in-Gunion in
+    subst (λ (e : Expr). IsValue (value_of (expression_of e)) c.gunion.result) (sym a.is)
+    (value_then (both (value_of (expression_of a.first.value)) (value_of (expression_of a.second.value))) (c.in_ok-left-in-Gunion.left, c.in_ok-left-in-Gunion.right)
+    (λ operands. made (gunion_of operands.0 operands.1 a.multi a.directed)) c.gunion.result
+    (at_values _ _ a.first.value a.second.value _ c.deref-in-Gunion.ensures c.deref-in-Gunion-2.ensures c.in_ok-left-in-Gunion.ensures)
+    (value_made (gunion_of c.in_ok-left-in-Gunion.left c.in_ok-left-in-Gunion.right a.multi a.directed) c.gunion.result c.gunion.ensures))
+
+pub graph_of-returns-in_ok-left-in-Intersection : goal.graph_of-returns-in_ok-left-in-Intersection
+graph_of-returns-in_ok-left-in-Intersection t c =
+    let a = c.in-Intersection in
+    subst (λ (e : Expr). IsValue (value_of (expression_of e)) c.intersection.result) (sym a.is)
+    (value_then (both (value_of (expression_of a.first.value)) (value_of (expression_of a.second.value))) (c.in_ok-left-in-Intersection.left, c.in_ok-left-in-Intersection.right)
+    (λ operands. made (intersection_of operands.0 operands.1 a.multi a.directed)) c.intersection.result
+    (at_values _ _ a.first.value a.second.value _ c.deref-in-Intersection.ensures c.deref-in-Intersection-2.ensures c.in_ok-left-in-Intersection.ensures)
+    (value_made (intersection_of c.in_ok-left-in-Intersection.left c.in_ok-left-in-Intersection.right a.multi a.directed) c.intersection.result c.intersection.ensures))
