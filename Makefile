@@ -1,6 +1,7 @@
 # make          proves and builds the program; leaves it as ./sgb
 # make demo     that, and three small graphs
 # make check    the gate: all proofs from nothing, the must-fail edits, the tests, the program
+# make examples  turns two listings into Graphviz's DOT and into edge lists, and compares them
 # make install  puts the program into $(PREFIX)/bin
 
 PREFIX ?= /usr/local
@@ -17,6 +18,12 @@ demo: sgb
 	./sgb list "petersen()"
 	./sgb queen
 
+examples: sgb
+	./sgb list "petersen()" | awk -f examples/dot.awk | cmp - examples/petersen.dot
+	./sgb list "petersen()" | awk -f examples/edges.awk | cmp - examples/petersen.tsv
+	./sgb list "board(3,3,0,0,1,1,1)" | awk -v directed=1 -f examples/dot.awk | cmp - examples/cylinder.dot
+	./sgb list "board(3,3,0,0,1,1,1)" | awk -v directed=1 -f examples/edges.awk | cmp - examples/cylinder.tsv
+
 check:
 	bash .ci/run
 
@@ -25,4 +32,4 @@ install: sgb
 
 FORCE:
 
-.PHONY: all demo check install FORCE
+.PHONY: all demo examples check install FORCE
