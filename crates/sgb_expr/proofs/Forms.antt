@@ -1,12 +1,12 @@
 -- The forms of names: languages made of that of the expressions inside, and their readers, made of the reader of these.
-use Rattle.std.proofs.Common.{◌≡◌, ◌≤◌, ℕ, List, ◌++◌, length, inl, inr, codes, Result, Ok, Err, refl, sym, ◌∙◌, ap, arith, length-append}
+use Rattle.std.proofs.Common.{◌≡◌, ◌≤◌, ℕ, List, [], ◌++◌, length, inl, inr, codes, Result, Ok, Err, refl, sym, ◌∙◌, ap, arith, length-append}
 use Rattle.sgb_expr.specs.Expression.{Expression}
 use Rattle.sgb_expr.specs.Languages.{Then, After, As}
-use Rattle.sgb_expr.specs.Operations.{AreOperands, IsCallOf, complement_of, gunion_of, intersection_of}
+use Rattle.sgb_expr.specs.Operations.{AreOperands, IsCallOf, complement_of, gunion_of, intersection_of, product_of, lines_of, bi_complete_of, wheel_of}
 use Rattle.sgb_expr.specs.Readings.{◌>>=◌, then_read, read_after, read_as, fixed_at}
 use Rattle.sgb_expr.specs.Reading.{arguments_with, operands_with}
 use Rattle.sgb_expr.specs.declared.names.Name.{Name}
-use Rattle.sgb_expr.specs.declared.names.Name.TheVariants.{Family, Complement, Gunion, Intersection}
+use Rattle.sgb_expr.specs.declared.names.Name.TheVariants.{Family, Complement, Gunion, Intersection, Lines, Product, BiComplete, Wheel}
 use Rattle.sgb_expr.proofs.Readers.{Reads, ok_same, reads_then, reads_as, reads_is}
 use Rattle.sgb_expr.proofs.Words.{Anything, reads_fixed, reads_same, fixed_cases, no_ok}
 use Rattle.sgb_expr.proofs.FamilyReaders.{close_end, fixed_then, reads_family, reads_integers}
@@ -120,3 +120,7 @@ form_of (Family name) = plain (reads_as Expression.Family (reads_family name))
 form_of Complement = form_then inside (λ graph. plain (reads_as (complement_of graph) (reads_integers (codes ",") 3 (codes ")") close_end)))
 form_of Gunion = form_as gunion_of operands_form
 form_of Intersection = form_as intersection_of operands_form
+form_of Lines = form_then inside (λ graph. plain (reads_as (lines_of graph) (reads_integers (codes ",") 1 (codes ")") close_end)))
+form_of Product = form_as product_of operands_form
+form_of BiComplete = plain (reads_as bi_complete_of (reads_integers [] 3 (codes ")") close_end))
+form_of Wheel = plain (reads_as wheel_of (reads_integers [] 3 (codes ")") close_end))

@@ -3,7 +3,7 @@ use Rattle.std.specs.Prelude.{ℕ, List, [], ◌∷◌, ◌++◌, codes, map}
 use Rattle.sgb_expr.specs.declared.names.FamilyName.{FamilyName}
 use Rattle.sgb_expr.specs.declared.names.FamilyName.TheVariants.{Board, Simplex, Subsets, Complete, Transitive, Empty, Circuit, Cycle, DisjointSubsets, Petersen}
 use Rattle.sgb_expr.specs.declared.names.Name.{Name}
-use Rattle.sgb_expr.specs.declared.names.Name.TheVariants.{Family, Complement, Gunion, Intersection}
+use Rattle.sgb_expr.specs.declared.names.Name.TheVariants.{Family, Complement, Gunion, Intersection, Lines, Product, BiComplete, Wheel}
 
 -- a form's name and the parenthesis after it
 abbrev pub opening_of : Name → List ℕ
@@ -20,6 +20,10 @@ opening_of (Family Petersen) = codes "petersen("
 opening_of Complement = codes "complement("
 opening_of Gunion = codes "gunion("
 opening_of Intersection = codes "intersection("
+opening_of Lines = codes "lines("
+opening_of Product = codes "product("
+opening_of BiComplete = codes "bi_complete("
+opening_of Wheel = codes "wheel("
 
 -- each name of a generator, once
 abbrev pub all_family_names : List FamilyName
@@ -28,7 +32,7 @@ all_family_names =
 
 -- each name, once
 abbrev pub all_names : List Name
-all_names = map (λ name. Family name) all_family_names ++ Complement ∷ Gunion ∷ Intersection ∷ []
+all_names = map (λ name. Family name) all_family_names ++ Complement ∷ Gunion ∷ Intersection ∷ Lines ∷ Product ∷ BiComplete ∷ Wheel ∷ []
 
 -- the openings of generators, each with its name
 unfoldable pub family_openings : List (List ℕ × FamilyName)

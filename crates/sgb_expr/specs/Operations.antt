@@ -1,11 +1,11 @@
 -- What the forms of all names mean: the arguments of each, where the expressions inside are words of a language.
 use Rattle.std.specs.Prelude.{ℕ, ℤ, Bool, List, codes}
 use Rattle.sgb_expr.specs.Expression.{Expression}
-use Rattle.sgb_expr.specs.Forms.{AreNumbers, IsFamilyCall, flag_of, number_of}
+use Rattle.sgb_expr.specs.Forms.{AreArguments, AreNumbers, IsFamilyCall, flag_of, number_of}
 use Rattle.sgb_expr.specs.Languages.{After, As, Then}
 use Rattle.sgb_expr.specs.declared.names.FamilyName.{FamilyName}
 use Rattle.sgb_expr.specs.declared.names.Name.{Name}
-use Rattle.sgb_expr.specs.declared.names.Name.TheVariants.{Family, Complement, Gunion, Intersection}
+use Rattle.sgb_expr.specs.declared.names.Name.TheVariants.{Family, Complement, Gunion, Intersection, Lines, Product, BiComplete, Wheel}
 
 -- integer number k of some, counted from 0, as a flag
 abbrev pub flag_at : List ℤ → ℕ → Bool
@@ -29,6 +29,22 @@ gunion_of o = Expression.Gunion o.first o.second (flag_at o.numbers 0) (flag_at 
 abbrev pub intersection_of : Operands → Expression
 intersection_of o = Expression.Intersection o.first o.second (flag_at o.numbers 0) (flag_at o.numbers 1)
 
+-- product(first,second,kind,directed)
+abbrev pub product_of : Operands → Expression
+product_of o = Expression.Product o.first o.second (number_of o.numbers 0) (flag_at o.numbers 1)
+
+-- lines(graph,directed)
+abbrev pub lines_of : Expression → List ℤ → Expression
+lines_of graph numbers = Expression.Lines graph (flag_at numbers 0)
+
+-- bi_complete(n1,n2,directed)
+abbrev pub bi_complete_of : List ℤ → Expression
+bi_complete_of numbers = Expression.BiComplete (number_of numbers 0) (number_of numbers 1) (flag_at numbers 2)
+
+-- wheel(n,n1,directed)
+abbrev pub wheel_of : List ℤ → Expression
+wheel_of numbers = Expression.Wheel (number_of numbers 0) (number_of numbers 1) (flag_at numbers 2)
+
 -- the text is the arguments of the generator's form of this name, and with them it is this expression
 abbrev pub IsGenerator : FamilyName → List ℕ → Expression → Type 0
 IsGenerator name = As Expression.Family (IsFamilyCall name)
@@ -45,3 +61,7 @@ IsCallOf Inner (Family name) = IsGenerator name
 IsCallOf Inner Complement = Then Inner (λ graph. As (complement_of graph) (AreNumbers (codes ",") 3 (codes ")")))
 IsCallOf Inner Gunion = As gunion_of (AreOperands Inner)
 IsCallOf Inner Intersection = As intersection_of (AreOperands Inner)
+IsCallOf Inner Lines = Then Inner (λ graph. As (lines_of graph) (AreNumbers (codes ",") 1 (codes ")")))
+IsCallOf Inner Product = As product_of (AreOperands Inner)
+IsCallOf Inner BiComplete = As bi_complete_of (AreArguments 3)
+IsCallOf Inner Wheel = As wheel_of (AreArguments 3)

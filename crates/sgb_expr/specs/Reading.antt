@@ -3,7 +3,7 @@ use Rattle.std.specs.Prelude.{ℕ, ℤ, zero, suc, List, [], ◌∷◌, length, 
 use Rattle.sgb_gen.specs.Shorthands.{complete, transitive, empty, circuit, cycle, disjoint_subsets, petersen}
 use Rattle.sgb_expr.specs.Expression.{Expression}
 use Rattle.sgb_expr.specs.Forms.{number_of, board_of, simplex_of, subsets_of}
-use Rattle.sgb_expr.specs.Operations.{Operands, complement_of, gunion_of, intersection_of}
+use Rattle.sgb_expr.specs.Operations.{Operands, complement_of, gunion_of, intersection_of, product_of, lines_of, bi_complete_of, wheel_of}
 use Rattle.sgb_expr.specs.Names.{family_openings, openings}
 use Rattle.sgb_expr.specs.Readings.{◌>>=◌, then_read, read_after, read_as, word_at, bits_at, integers_at}
 use Rattle.sgb_expr.specs.declared.expressions.Family.{Family}
@@ -46,6 +46,10 @@ generator_at name = read_as Expression.Family (family_at name)
 abbrev pub complement_with : (List ℕ → Result (Expression × List ℕ) ℕ) → List ℕ → Result (Expression × List ℕ) ℕ
 complement_with inner = then_read inner (λ graph. read_as (complement_of graph) (integers_at (codes ",") 3 (codes ")")))
 
+-- a graph and an integer, to a `)`, where `inner` reads the expressions inside
+abbrev pub lines_with : (List ℕ → Result (Expression × List ℕ) ℕ) → List ℕ → Result (Expression × List ℕ) ℕ
+lines_with inner = then_read inner (λ graph. read_as (lines_of graph) (integers_at (codes ",") 1 (codes ")")))
+
 -- two graphs and two integers, to a `)`, where `inner` reads the expressions inside
 abbrev pub operands_with : (List ℕ → Result (Expression × List ℕ) ℕ) → List ℕ → Result (Operands × List ℕ) ℕ
 operands_with inner =
@@ -58,6 +62,10 @@ arguments_with inner (name.Family family) = generator_at family
 arguments_with inner name.Complement = complement_with inner
 arguments_with inner name.Gunion = read_as gunion_of (operands_with inner)
 arguments_with inner name.Intersection = read_as intersection_of (operands_with inner)
+arguments_with inner name.Lines = lines_with inner
+arguments_with inner name.Product = read_as product_of (operands_with inner)
+arguments_with inner name.BiComplete = read_as bi_complete_of (integers_at [] 3 (codes ")"))
+arguments_with inner name.Wheel = read_as wheel_of (integers_at [] 3 (codes ")"))
 
 -- the expression with which the text begins, where operations stand one in another at most so deep
 abbrev pub nested_at : ℕ → List ℕ → Result (Expression × List ℕ) ℕ

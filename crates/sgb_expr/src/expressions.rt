@@ -45,6 +45,30 @@ pub enum Expr {
         multi: bool,
         directed: bool,
     },
+    /// The line graph of a graph (GB_BASIC, lines).
+    Lines {
+        graph: Box<Expr>,
+        directed: bool,
+    },
+    /// A product of two graphs, of this kind (GB_BASIC, product).
+    Product {
+        first: Box<Expr>,
+        second: Box<Expr>,
+        kind: i64,
+        directed: bool,
+    },
+    /// A complete bipartite graph with n1 and n2 vertices in its parts (GB_BASIC, bi_complete).
+    BiComplete {
+        n1: i64,
+        n2: i64,
+        directed: bool,
+    },
+    /// A wheel with n vertices around n1 in its middle (GB_BASIC, wheel).
+    Wheel {
+        n: i64,
+        n1: i64,
+        directed: bool,
+    },
 }
 
 /// Why a text is not read as an expression.
@@ -60,7 +84,9 @@ pub enum Unread {
 
 /// The expression that the text is: one of GraphBase's official names and, in parentheses, its arguments with commas
 /// between them, with no spaces: `board`, `simplex`, `subsets` and their special cases, with integers; `complement`
-/// with an expression and three integers, `gunion` and `intersection` with two expressions and two integers (GB_BASIC).
+/// with an expression and three integers, `gunion` and `intersection` with two expressions and two integers, `lines`
+/// with an expression and an integer, `product` with two expressions and two integers, `bi_complete` and `wheel` with
+/// three integers (GB_BASIC).
 /// `size_bits` is 1 to 18 digits, or `0x` and 1 to 16 hexadecimal ones; each other integer is an optional `-` and 1 to
 /// 18 digits, and a flag is true where its integer is not zero. A short name is read as the parameters that it stands
 /// for.

@@ -29,10 +29,14 @@ pub(crate) enum Name {
     Complement,
     Gunion,
     Intersection,
+    Lines,
+    Product,
+    BiComplete,
+    Wheel,
 }
 
 // Each name, once.
-const ALL: [Name; 13] = [
+const ALL: [Name; 17] = [
     Name::Family(FamilyName::Board),
     Name::Family(FamilyName::Simplex),
     Name::Family(FamilyName::Subsets),
@@ -46,6 +50,10 @@ const ALL: [Name; 13] = [
     Name::Complement,
     Name::Gunion,
     Name::Intersection,
+    Name::Lines,
+    Name::Product,
+    Name::BiComplete,
+    Name::Wheel,
 ];
 
 /// The name with which the text begins and the text after its parenthesis, or where the text begins no name.
@@ -81,5 +89,9 @@ fn text_of(name: Name) -> &'static [u8]
         Name::Complement => b"complement(",
         Name::Gunion => b"gunion(",
         Name::Intersection => b"intersection(",
+        Name::Lines => b"lines(",
+        Name::Product => b"product(",
+        Name::BiComplete => b"bi_complete(",
+        Name::Wheel => b"wheel(",
     }
 }

@@ -1,11 +1,12 @@
 //! Expressions at the beginning of a text, of which some stand inside others.
-ghost use Rattle.std.specs.Prelude.{◌≡◌, IfErr, IfOk};
+ghost use Rattle.std.specs.Prelude.{◌≡◌, IfErr, IfOk, [], codes};
 ghost use Rattle.sgb_expr.specs.Expression.{expression_of};
 ghost use Rattle.sgb_expr.specs.Gives.{Gives};
 ghost use Rattle.sgb_expr.specs.TwoGraphs.{operands_of};
 ghost use Rattle.sgb_expr.specs.declared.wrong.Wrong.TheVariants.{NoRoom};
-ghost use Rattle.sgb_expr.specs.Operations.{gunion_of, intersection_of};
-ghost use Rattle.sgb_expr.specs.Reading.{arguments_with, complement_with, expression_at, operands_with};
+ghost use Rattle.sgb_expr.specs.Operations.{bi_complete_of, gunion_of, intersection_of, product_of, wheel_of};
+ghost use Rattle.sgb_expr.specs.Readings.{integers_at, read_as};
+ghost use Rattle.sgb_expr.specs.Reading.{arguments_with, complement_with, expression_at, lines_with, operands_with};
 
 use crate::arguments::family;
 use crate::expressions::Expr;
@@ -42,6 +43,13 @@ fn arguments(alloc: Global, name: Name, text: &[u8]) -> Result<(Expr, &[u8]), Wr
             let (graphs, rest) = two_graphs(alloc, text)?;
             Ok((intersection(graphs), rest))
         }
+        Name::Lines => lines(alloc, text),
+        Name::Product => {
+            let (graphs, rest) = two_graphs(alloc, text)?;
+            Ok((product(graphs), rest))
+        }
+        Name::BiComplete => bi_complete(text),
+        Name::Wheel => wheel(text),
     }
 }
 
@@ -59,6 +67,20 @@ fn complement(alloc: Global, text: &[u8]) -> Result<(Expr, &[u8]), Wrong>
         directed: directed != 0,
     };
     Ok((complement, rest))
+}
+
+// The arguments of a line graph.
+#[cycle(expressions)]
+fn lines(alloc: Global, text: &[u8]) -> Result<(Expr, &[u8]), Wrong>
+    ensures { Gives (λ x. (expression_of x.0, x.1.now)) result (lines_with expression_at text.now) }
+{
+    let (graph, rest) = expression(alloc, text)?;
+    let ([directed], rest) = integers::<1>(b",", rest, b")")?;
+    let lines = Expr::Lines {
+        graph: boxed(alloc, graph)?,
+        directed: directed != 0,
+    };
+    Ok((lines, rest))
 }
 
 // Two graphs, and two integers after them.
@@ -110,6 +132,45 @@ fn intersection(graphs: TwoGraphs) -> Expr
         multi: multi != 0,
         directed: directed != 0,
     }
+}
+
+// The product of two graphs, by its kind and whether it is directed.
+fn product(graphs: TwoGraphs) -> Expr
+    ensures { expression_of result ≡ product_of (operands_of graphs) }
+{
+    let [kind, directed] = graphs.numbers;
+    Expr::Product {
+        first: graphs.first,
+        second: graphs.second,
+        kind,
+        directed: directed != 0,
+    }
+}
+
+// The arguments of a complete bipartite graph.
+fn bi_complete(text: &[u8]) -> Result<(Expr, &[u8]), Wrong>
+    ensures { Gives (λ x. (expression_of x.0, x.1.now)) result (read_as bi_complete_of (integers_at [] 3 (codes ")")) text.now) }
+{
+    let ([n1, n2, directed], rest) = integers::<3>(b"", text, b")")?;
+    let graph = Expr::BiComplete {
+        n1,
+        n2,
+        directed: directed != 0,
+    };
+    Ok((graph, rest))
+}
+
+// The arguments of a wheel.
+fn wheel(text: &[u8]) -> Result<(Expr, &[u8]), Wrong>
+    ensures { Gives (λ x. (expression_of x.0, x.1.now)) result (read_as wheel_of (integers_at [] 3 (codes ")")) text.now) }
+{
+    let ([n, n1, directed], rest) = integers::<3>(b"", text, b")")?;
+    let graph = Expr::Wheel {
+        n,
+        n1,
+        directed: directed != 0,
+    };
+    Ok((graph, rest))
 }
 
 // The expression in a box, unless there is no memory for it.

@@ -13,3 +13,6 @@ decreases-complement l = 3 * length l.text.now + 1
 
 abbrev pub decreases-two_graphs : goal.decreases-two_graphs
 decreases-two_graphs l = 3 * length l.text.now + 1
+
+abbrev pub decreases-lines : goal.decreases-lines
+decreases-lines l = 3 * length l.text.now + 1
