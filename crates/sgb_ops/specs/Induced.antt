@@ -12,7 +12,8 @@ use Rattle.sgb_ops.specs.Taken.{taken}
 use Rattle.sgb_ops.specs.Merged.{merged_unless}
 use Rattle.sgb_graph.specs.IdTexts.{flag_text}
 use Rattle.sgb_ops.specs.Titles.{closing}
-use Rattle.sgb_ops.specs.Entries.{Entry, accepted_entries, copies_of, names_by_entries, events_within}
+use Rattle.sgb_ops.specs.declared.entries.Entry.{Entry}
+use Rattle.sgb_ops.specs.Entries.{accepted_entries, copies_of, names_by_entries, events_within}
 
 -- the copies of the tip that copy u of v is joined to for an arc from v: all of them; but of a loop of an
 -- undirected graph those from u on

@@ -4,6 +4,7 @@
 #[cfg(test)]
 mod blocks;
 mod complements;
+mod entries;
 mod events;
 mod gunions;
 mod intersections;
@@ -17,6 +18,7 @@ mod tallies;
 mod titles;
 
 pub use complements::complement;
+pub use entries::Entry;
 pub use gunions::gunion;
 pub use intersections::intersection;
 pub use laws::{merged_are_apart, merging_law, taken_lead_up, taking_law};
