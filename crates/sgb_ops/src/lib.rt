@@ -5,6 +5,7 @@
 mod blocks;
 mod bipartite_graphs;
 mod complements;
+mod copied_names;
 mod entries;
 mod events;
 mod gunions;
