@@ -5,6 +5,7 @@ pub mod Merging
 pub mod MergeSteps
 pub mod EntryTotals
 pub mod EventsWithin
+pub mod WantedEvents
 pub mod UnionEvents
 pub mod TallyLemmas
 pub mod CommonEvents

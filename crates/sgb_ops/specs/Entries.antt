@@ -8,6 +8,7 @@ use Rattle.sgb_vec.specs.declared.panics.Panic.{Panic}
 use Rattle.sgb_vec.specs.declared.panics.Panic.TheVariants.{Bad, VeryBad}
 use Rattle.sgb_graph.specs.Graphs.{GraphData}
 use Rattle.sgb_graph.specs.Events.{Event}
+use Rattle.sgb_graph.specs.declared.fields.Link.{Link}
 use Rattle.sgb_ops.specs.declared.entries.Entry.{Entry}
 use Rattle.sgb_ops.specs.declared.entries.Entry.TheVariants as entry
 use Rattle.sgb_ops.specs.Operands.{order_of, places_of, names_of}
@@ -56,11 +57,18 @@ names_of_copies text (entry.Graph inner) = map (substituted_name text) (names_of
 abbrev pub names_by_entries : List (List ℕ) → List Entry → List (List ℕ)
 names_by_entries names entries = flat_map (λ p. names_of_copies p.0 p.1) (zip names entries)
 
+-- an arc b of vertex w of a graph whose first vertex is the one given
+abbrev pub inner_event : ℕ → ℕ → Link → Event
+inner_event start w b = record { from = start + w; to = start + b.tip; len = b.len }
+
+-- the events of the arcs taken of its vertex w
+abbrev pub inner_events_from : Bool → ℕ → GraphData → ℕ → List Event
+inner_events_from directed start inner w = map (inner_event start w) (taken directed inner w)
+
 -- the events inside an entry whose first vertex is the one given
 abbrev pub inner_events : Bool → ℕ → Entry → List Event
 inner_events directed start (entry.Copies k) = []
-inner_events directed start (entry.Graph inner) =
-    flat_map (λ w. map (λ b. record { from = start + w; to = start + b.tip; len = b.len }) (taken directed inner w)) (places_of inner)
+inner_events directed start (entry.Graph inner) = flat_map (inner_events_from directed start inner) (places_of inner)
 
 -- the events inside the graphs that stand in the places of vertices
 abbrev pub events_within : List Entry → Bool → List Event

@@ -105,13 +105,20 @@ impl<'a> Copies<'a> {
         self.entries
     }
 
-    /// The first copy of vertex `v`; of `v = n` the number of all copies. The copies of `v` end where those of `v + 1`
-    /// begin.
+    /// The first copy of vertex `v`. Its copies end before `end(v)`.
     pub(crate) fn first(&self, v: u32) -> u32
-        requires { v ≤ length self.now }
+        requires { v < length self.now }
         ensures value { result ≡ first_copy self.now v }
     {
         self.firsts[v as usize]
+    }
+
+    /// The first copy of what comes after vertex `v`.
+    pub(crate) fn end(&self, v: u32) -> u32
+        requires { v < length self.now }
+        ensures value { result ≡ first_copy self.now (v + 1) }
+    {
+        self.firsts[v as usize + 1]
     }
 }
 

@@ -9,6 +9,7 @@ mod copied_names;
 mod entries;
 mod events;
 mod gunions;
+mod induced_events;
 mod induced_graphs;
 mod intersections;
 mod laws;
