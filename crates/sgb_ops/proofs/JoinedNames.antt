@@ -1,10 +1,11 @@
 -- Names that are made of names.
-use Rattle.std.proofs.Common.{ℕ, ◌≤◌, ◌+◌, List, ◌++◌, take, length, arith}
-use Rattle.std.specs.Prelude.{All}
-use Rattle.std.proofs.lemmas.List.{length-take, length-append}
+use Rattle.std.proofs.Common.{◌≡◌, ℕ, ◌≤◌, ◌<◌, ◌+◌, ◌^◌, List, [], ◌∷◌, ◌++◌, take, length, arith}
+use Rattle.std.specs.Prelude.{All, decimal}
+use Rattle.std.proofs.lemmas.Fmt.{length-decimal-le}
+use Rattle.std.proofs.lemmas.List.{length-take, length-append, take_all}
 use Rattle.std.proofs.lemmas.List.Elements.{All-append, All-take}
 use Rattle.sgb_vec.specs.Limits.{most_bytes}
-use Rattle.sgb_vec.specs.Names.{IsText, IsTextByte}
+use Rattle.sgb_vec.specs.Names.{IsText, IsTextByte, name_of_vector}
 
 -- a name of two cut names with a text between them
 pub joined_is_text : (a separator b : List ℕ) (most_a most_b : ℕ) → IsText a → IsText b → All IsTextByte separator → most_a + length separator + most_b ≤ most_bytes
@@ -14,3 +15,15 @@ joined_is_text a separator b most_a most_b first second between fits = record {
   printable = All-append IsTextByte (take most_a a ++ separator) (take most_b b)
       (All-append IsTextByte (take most_a a) separator (All-take IsTextByte most_a a first.printable) between) (All-take IsTextByte most_b b second.printable);
 }
+
+-- a cut name with a text after it
+pub ended_is_text : (a end : List ℕ) (most : ℕ) → IsText a → All IsTextByte end → most + length end ≤ most_bytes → IsText (take most a ++ end)
+ended_is_text a end most name after fits = record {
+  short = omega (arith, fits, length-take most a, length-append (take most a) end);
+  printable = All-append IsTextByte (take most a) end (All-take IsTextByte most a name.printable) after;
+}
+
+-- a number of 32 bits has at most ten digits
+pub whole_number : (k : ℕ) → k < 2 ^ 32 → take 10 (name_of_vector (k ∷ [])) ≡ decimal k
+unfolding name_of_vector
+whole_number k fits = take_all 10 (decimal k) (length-decimal-le 10 k (omega arith) (omega (arith, fits)) (omega (arith, fits)))

@@ -3,7 +3,9 @@ pub mod Taking
 pub mod Ends
 pub mod Merging
 pub mod MergeSteps
+pub mod EntryTotals
 pub mod EventsWithin
+pub mod WantedEvents
 pub mod UnionEvents
 pub mod TallyLemmas
 pub mod CommonEvents

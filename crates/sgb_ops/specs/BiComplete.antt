@@ -12,7 +12,8 @@ use Rattle.sgb_graph.specs.declared.fields.Util.TheVariants.{Nothing, Int}
 use Rattle.sgb_graph.specs.Descriptions.{Description}
 use Rattle.sgb_graph.specs.IdTexts.{flag_text}
 use Rattle.sgb_ops.specs.Titles.{closing}
-use Rattle.sgb_ops.specs.Entries.{Entry, Copies}
+use Rattle.sgb_ops.specs.declared.entries.Entry.{Entry}
+use Rattle.sgb_ops.specs.declared.entries.Entry.TheVariants as entry
 use Rattle.sgb_ops.specs.Induced.{induced_of}
 use Rattle.sgb_gen.specs.Boards.{board}
 use Rattle.sgb_graph.specs.Made.{graph_described}
@@ -38,7 +39,7 @@ accepted_parts (negsuc n1) n2 = Err Bad
 accepted_parts (pos n1) (negsuc n2) = Err Bad
 accepted_parts (pos n1) (pos n2) =
     if nat_lt most_vertices n1 || nat_lt most_vertices n2 || nat_lt most_vertices (n1 + n2) then Err VeryBad
-    else Ok (Copies n1 ∷ Copies n2 ∷ [])
+    else Ok (entry.Copies n1 ∷ entry.Copies n2 ∷ [])
 
 -- the graph with the id of a complete bipartite graph, and with n1 in the field uu
 abbrev pub with_parts : ℤ → ℤ → Bool → Description → Description

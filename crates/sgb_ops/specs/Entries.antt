@@ -8,19 +8,17 @@ use Rattle.sgb_vec.specs.declared.panics.Panic.{Panic}
 use Rattle.sgb_vec.specs.declared.panics.Panic.TheVariants.{Bad, VeryBad}
 use Rattle.sgb_graph.specs.Graphs.{GraphData}
 use Rattle.sgb_graph.specs.Events.{Event}
+use Rattle.sgb_graph.specs.declared.fields.Link.{Link}
+use Rattle.sgb_ops.specs.declared.entries.Entry.{Entry}
+use Rattle.sgb_ops.specs.declared.entries.Entry.TheVariants as entry
 use Rattle.sgb_ops.specs.Operands.{order_of, places_of, names_of}
 use Rattle.sgb_ops.specs.Taken.{taken}
 use Rattle.sgb_ops.specs.Titles.{primed_name, numbered_name, substituted_name}
 
--- an entry: so many copies of the vertex, or a graph in its place
-pub data Entry : Type 0 where
-  Copies : ℕ → Entry
-  Substitute : GraphData → Entry
-
 -- how many vertices stand in the place of a vertex with this entry
 abbrev pub size_of_entry : Entry → ℕ
-size_of_entry (Copies k) = k
-size_of_entry (Substitute inner) = order_of inner
+size_of_entry (entry.Copies k) = k
+size_of_entry (entry.Graph inner) = order_of inner
 
 -- how many vertices the result has in all
 abbrev pub total_of : List Entry → ℕ
@@ -28,8 +26,8 @@ total_of entries = sum_by size_of_entry entries
 
 -- the entry is a number above the number of vertices that a graph can have
 abbrev pub is_too_great : Entry → Bool
-is_too_great (Copies k) = nat_lt most_vertices k
-is_too_great (Substitute inner) = false
+is_too_great (entry.Copies k) = nat_lt most_vertices k
+is_too_great (entry.Graph inner) = false
 
 -- the entries for a graph with n vertices, or why they are refused: not one for each vertex; then a number
 -- that is too great, or too many vertices in all
@@ -49,21 +47,28 @@ copies_of entries v = range_with_len (first_copy entries v) (option_map_or size_
 -- the names of the vertices that stand in the place of the vertex of this name: none; the name; the name and
 -- the name with `'`; the name with `:0` to `:k-1`; the name with `:` and each name of the graph
 abbrev pub names_of_copies : List ℕ → Entry → List (List ℕ)
-names_of_copies text (Copies zero) = []
-names_of_copies text (Copies (suc zero)) = text ∷ []
-names_of_copies text (Copies (suc (suc zero))) = text ∷ primed_name text ∷ []
-names_of_copies text (Copies (suc (suc (suc k)))) = map (numbered_name text) (range_with_len 0 (suc (suc (suc k))))
-names_of_copies text (Substitute inner) = map (substituted_name text) (names_of inner)
+names_of_copies text (entry.Copies zero) = []
+names_of_copies text (entry.Copies (suc zero)) = text ∷ []
+names_of_copies text (entry.Copies (suc (suc zero))) = text ∷ primed_name text ∷ []
+names_of_copies text (entry.Copies (suc (suc (suc k)))) = map (numbered_name text) (range_with_len 0 (suc (suc (suc k))))
+names_of_copies text (entry.Graph inner) = map (substituted_name text) (names_of inner)
 
 -- the names of all vertices of the result
 abbrev pub names_by_entries : List (List ℕ) → List Entry → List (List ℕ)
 names_by_entries names entries = flat_map (λ p. names_of_copies p.0 p.1) (zip names entries)
 
+-- an arc b of vertex w of a graph whose first vertex is the one given
+abbrev pub inner_event : ℕ → ℕ → Link → Event
+inner_event start w b = record { from = start + w; to = start + b.tip; len = b.len }
+
+-- the events of the arcs taken of its vertex w
+abbrev pub inner_events_from : Bool → ℕ → GraphData → ℕ → List Event
+inner_events_from directed start inner w = map (inner_event start w) (taken directed inner w)
+
 -- the events inside an entry whose first vertex is the one given
 abbrev pub inner_events : Bool → ℕ → Entry → List Event
-inner_events directed start (Copies k) = []
-inner_events directed start (Substitute inner) =
-    flat_map (λ w. map (λ b. record { from = start + w; to = start + b.tip; len = b.len }) (taken directed inner w)) (places_of inner)
+inner_events directed start (entry.Copies k) = []
+inner_events directed start (entry.Graph inner) = flat_map (inner_events_from directed start inner) (places_of inner)
 
 -- the events inside the graphs that stand in the places of vertices
 abbrev pub events_within : List Entry → Bool → List Event

@@ -14,6 +14,7 @@ pub mod Lines
 pub mod LineLists
 pub mod Product
 pub mod Entries
+pub mod Copies
 pub mod Induced
 pub mod Boards
 pub mod BiComplete

@@ -8,7 +8,8 @@ use Rattle.sgb_vec.specs.declared.panics.Panic.TheVariants.{Bad, VeryBad}
 use Rattle.sgb_graph.specs.Descriptions.{Description}
 use Rattle.sgb_graph.specs.IdTexts.{flag_text}
 use Rattle.sgb_ops.specs.Titles.{closing}
-use Rattle.sgb_ops.specs.Entries.{Entry, Copies, Substitute}
+use Rattle.sgb_ops.specs.declared.entries.Entry.{Entry}
+use Rattle.sgb_ops.specs.declared.entries.Entry.TheVariants as entry
 use Rattle.sgb_ops.specs.Induced.{induced_of}
 use Rattle.sgb_gen.specs.Boards.{board}
 use Rattle.sgb_graph.specs.Made.{graph_described}
@@ -22,7 +23,7 @@ wheel_id n n1 directed =
 -- the entry of that many vertices in the middle, or why they are refused: a negative number; then too many
 abbrev pub accepted_middle : ℤ → Result Entry Panic
 accepted_middle (negsuc n1) = Err Bad
-accepted_middle (pos n1) = if nat_lt most_vertices n1 then Err VeryBad else Ok (Copies n1)
+accepted_middle (pos n1) = if nat_lt most_vertices n1 then Err VeryBad else Ok (entry.Copies n1)
 
 -- the graph with the id of a wheel
 abbrev pub with_wheel_id : ℤ → ℤ → Bool → Description → Description
@@ -35,5 +36,5 @@ wheel_of n n1 directed =
     and_then (accepted_middle n1) (λ middle.
     and_then (board (rim_of_wheel n directed)) (λ rim.
     and_then (board (pair_of_vertices directed)) (λ pair.
-    and_then (induced_of (graph_described pair) (middle ∷ Substitute (graph_described rim) ∷ []) false false directed) (λ d.
+    and_then (induced_of (graph_described pair) (middle ∷ entry.Graph (graph_described rim) ∷ []) false false directed) (λ d.
     Ok (with_wheel_id n n1 directed d)))))

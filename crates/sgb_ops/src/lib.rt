@@ -3,9 +3,14 @@
 
 #[cfg(test)]
 mod blocks;
+mod bipartite_graphs;
 mod complements;
+mod copied_names;
+mod entries;
 mod events;
 mod gunions;
+mod induced_events;
+mod induced_graphs;
 mod intersections;
 mod laws;
 mod line_graphs;
@@ -15,10 +20,15 @@ mod products;
 mod taken;
 mod tallies;
 mod titles;
+mod wheels;
 
+pub use bipartite_graphs::bi_complete;
 pub use complements::complement;
+pub use entries::Entry;
 pub use gunions::gunion;
+pub use induced_graphs::induced;
 pub use intersections::intersection;
 pub use laws::{merged_are_apart, merging_law, taken_lead_up, taking_law};
 pub use line_graphs::lines;
 pub use products::product;
+pub use wheels::wheel;

@@ -37,6 +37,25 @@ pub(crate) fn joined_name(
     Text::new(alloc, &bytes)
 }
 
+/// The first `most` bytes of the name, and `end` after them.
+///
+/// `NoRoom` when out of memory, and nothing else.
+pub(crate) fn ended_name(
+    alloc: Global,
+    name: &Text,
+    most: usize,
+    end: &[u8],
+) -> Result<Text, Panic>
+    requires short { most + length end.now ≤ most_bytes }
+    requires printable { All IsTextByte end.now }
+    ensures ok { IfOk result (λ text. text ≡ take most name.now ++ end.now) }
+    ensures memory { IsOkUnless result Panic.NoRoom }
+{
+    let mut bytes = Vec::from_slice(alloc, front(name.bytes(), most))?;
+    bytes.extend_from_slice(end)?;
+    Text::new(alloc, &bytes)
+}
+
 // At most the first `most` bytes.
 fn front(bytes: &[u8], most: usize) -> &[u8]
     ensures { result.now ≡ take most bytes.now }

@@ -1,0 +1,81 @@
+-- The wanted events of a list, as they are found part by part.
+use Rattle.std.proofs.Common.{◌≡◌, ◌<◌, ◌≤◌, ◌+◌, ◌-◌, ℕ, ℤ, suc, Bool, false, List, [], ◌∷◌, ◌++◌, map, length, inl, inr, refl, sym, ap, subst, ◌∙◌, append_assoc, append-nil, arith}
+use Rattle.std.specs.Prelude.{All, filter, flat_map, nat_lt}
+use Rattle.std.specs.List.{range_with_len, enumerate_from}
+use Rattle.std.proofs.lemmas.Bool.{ltb-false, cases_Bool}
+use Rattle.std.proofs.lemmas.List.{map-append, drop_more}
+use Rattle.std.proofs.lemmas.List.Elements.{filter-append}
+use Rattle.sgb_graph.specs.Events.{Event}
+use Rattle.sgb_graph.specs.declared.fields.Link.{Link}
+use Rattle.sgb_ops.specs.declared.entries.Entry.{Entry}
+use Rattle.sgb_ops.specs.Copies.{leads_to_copies}
+use Rattle.sgb_ops.specs.Entries.{first_copy, inner_events}
+use Rattle.sgb_ops.specs.Induced.{copies_met, event_between, events_of_arc, is_met, is_wanted, wanted}
+use Rattle.sgb_ops.proofs.EntryTotals.{copies_between}
+
+-- the wanted ones of a part more
+pub wanted_more : (self : Bool) (now new part rest whole all : List Event) → whole ≡ part ++ rest → now ++ wanted self whole ≡ all → new ≡ now ++ wanted self part → new ++ wanted self rest ≡ all
+wanted_more self now new part rest whole all is h grown =
+    ap (λ es. es ++ wanted self rest) grown
+    ∙ (append_assoc now (wanted self part) (wanted self rest)
+    ∙ (ap (λ es. now ++ es) (sym (filter-append (is_wanted self) part rest))
+    ∙ (ap (λ es. now ++ wanted self es) (sym is) ∙ h)))
+
+-- those of all parts
+pub wanted_all : (self : Bool) (now whole all : List Event) → whole ≡ [] → now ++ wanted self whole ≡ all → now ≡ all
+wanted_all self now whole all none h = sym (append-nil now) ∙ (ap (λ es. now ++ wanted self es) (sym none) ∙ h)
+
+-- the events of the places from i on, before the one where they stop
+abbrev pub events_until : (ℕ → List Event) → ℕ → ℕ → List Event
+events_until f stop i = flat_map f (range_with_len i (stop - i))
+
+pub until_more : (f : ℕ → List Event) (stop i : ℕ) → i < stop → events_until f stop i ≡ f i ++ events_until f stop (i + 1)
+until_more f stop i below =
+    let count : stop - i ≡ suc (stop - (i + 1)) = omega (arith, below) in
+    ap (λ n. flat_map f (range_with_len i n)) count
+
+pub until_none : (f : ℕ → List Event) (stop i : ℕ) → stop ≤ i → events_until f stop i ≡ []
+until_none f stop i past =
+    let count : stop - i ≡ 0 = omega (arith, past) in
+    ap (λ n. flat_map f (range_with_len i n)) count
+
+-- of the copies t to stop those that copy u of v is joined to for an arc a from v
+abbrev pub events_met : Bool → ℕ → ℕ → Link → ℕ → ℕ → List Event
+events_met directed v u a stop t = map (event_between u a.len) (filter (is_met directed v u a.tip) (range_with_len t (stop - t)))
+
+pub met_more : (directed : Bool) (v u : ℕ) (a : Link) (stop t : ℕ) → t < stop
+    → events_met directed v u a stop t ≡ map (event_between u a.len) (filter (is_met directed v u a.tip) (t ∷ [])) ++ events_met directed v u a stop (t + 1)
+met_more directed v u a stop t below =
+    let count : stop - t ≡ suc (stop - (t + 1)) = omega (arith, below) in
+    let later = range_with_len (t + 1) (stop - (t + 1)) in
+    let met = filter (is_met directed v u a.tip) in
+    ap (λ n. map (event_between u a.len) (met (range_with_len t n))) count
+    ∙ (ap (map (event_between u a.len)) (filter-append (is_met directed v u a.tip) (t ∷ []) later)
+    ∙ map-append (event_between u a.len) (met (t ∷ [])) (met later))
+
+pub met_none : (directed : Bool) (v u : ℕ) (a : Link) (stop t : ℕ) → stop ≤ t → events_met directed v u a stop t ≡ []
+met_none directed v u a stop t past =
+    let count : stop - t ≡ 0 = omega (arith, past) in
+    ap (λ n. map (event_between u a.len) (filter (is_met directed v u a.tip) (range_with_len t n))) count
+
+-- an arc that leads to no copies gives no events
+no_copies : (entries : List Entry) (directed : Bool) (v u : ℕ) (a : Link) → leads_to_copies entries a ≡ false → events_of_arc entries directed v u a ≡ []
+no_copies entries directed v u a none =
+    let first = first_copy entries a.tip in
+    let last = first_copy entries (a.tip + 1) in
+    let less = ltb-false first last none in
+    let count : last - first ≡ 0 = omega (arith, less) in
+    ap (λ ts. map (event_between u a.len) (filter (is_met directed v u a.tip) ts)) (sym (copies_between entries a.tip first last refl refl) ∙ ap (range_with_len first) count)
+
+pub arcs_to_copies : (entries : List Entry) (directed : Bool) (v u : ℕ) (arcs : List Link) → flat_map (events_of_arc entries directed v u) (filter (leads_to_copies entries) arcs) ≡ flat_map (events_of_arc entries directed v u) arcs
+arcs_to_copies entries directed v u [] = refl
+arcs_to_copies entries directed v u (a ∷ arcs) =
+    let rest = arcs_to_copies entries directed v u arcs in
+    elim (cases_Bool (leads_to_copies entries a)) [
+      | inl e ↦ rw e (ap (λ es. events_of_arc entries directed v u a ++ es) rest)
+      | inr e ↦ rw e (rest ∙ ap (λ es. es ++ flat_map (events_of_arc entries directed v u) arcs) (sym (no_copies entries directed v u a e)))
+    ]
+
+-- the events inside the entries that are left, the first of which stands at place v
+abbrev pub events_within_from : List Entry → Bool → ℕ → List Entry → List Event
+events_within_from entries directed v left = flat_map (λ p. inner_events directed (first_copy entries p.0) p.1) (enumerate_from v left)

@@ -1,0 +1,138 @@
+//! The names of the vertices that stand in the places of others (GB_BASIC, induced).
+ghost use Rattle.std.specs.Prelude.{◌≡◌, ◌<◌, ◌≤◌, ◌++◌, [], ◌∷◌, length, map, OnOk, IfOk, IsOkUnless};
+ghost use Rattle.std.specs.List.{range_with_len};
+ghost use Rattle.sgb_vec.specs.Limits.{most_vertices};
+ghost use Rattle.sgb_ops.specs.declared.entries.Entry.TheVariants as entry;
+ghost use Rattle.sgb_ops.specs.Entries.{names_by_entries, names_of_copies};
+ghost use Rattle.sgb_ops.specs.Operands.{names_of};
+ghost use Rattle.sgb_ops.specs.Titles.{numbered_name, primed_name, substituted_name};
+
+use crate::entries::Entry;
+use crate::titles::{ended_name, joined_name};
+use sgb_graph::{Graph, Names};
+use sgb_vec::{Panic, Text, name_of};
+use std::alloc::Global;
+
+// How many bytes of a name stay before `'`.
+const MOST_BEFORE_PRIME: usize = 4_094;
+
+// How many bytes of a name stay before `:` and a number, which has at most ten.
+const MOST_BEFORE_NUMBER: usize = 4_084;
+
+const MOST_NUMBER: usize = 10;
+
+// How many bytes of each name stay in the name of a vertex that stands in another's place.
+const MOST_PART: usize = 2_047;
+
+/// The names of the vertices that stand in the places of those of `graph`, by the entries, one for each vertex.
+///
+/// `NoRoom` when out of memory, and nothing else.
+pub(crate) fn names_by_entries(
+    alloc: Global,
+    graph: &Graph,
+    entries: &[Entry],
+) -> Result<Names, Panic>
+    requires { length entries.now ≡ length graph.now.vertices }
+    ensures ok { IfOk result (λ names. names ≡ names_by_entries (names_of graph.now) entries.now) }
+    ensures memory { IsOkUnless result Panic.NoRoom }
+{
+    let mut names = Names::new(alloc);
+    for v in 0..graph.n() {
+        push_copies(alloc, &mut names, graph.name(v), &entries[v as usize])?;
+    }
+    Ok(names)
+}
+
+// Appends the names of the vertices in the place of the one of this name.
+fn push_copies(
+    alloc: Global,
+    names: &mut Names,
+    name: &Text,
+    entry: &Entry,
+) -> Result<(), Panic>
+    ensures ok { OnOk result (names.new ≡ names.old ++ names_of_copies name.now entry.now) }
+    ensures memory { IsOkUnless result Panic.NoRoom }
+{
+    match entry {
+        Entry::Copies(count) => push_counted(alloc, names, name, *count),
+        Entry::Graph(inner) => push_substituted(alloc, names, name, inner),
+    }
+}
+
+// Appends the names of so many copies: one has the name, the second of two a prime too, three or more have numbers.
+fn push_counted(
+    alloc: Global,
+    names: &mut Names,
+    name: &Text,
+    count: u32,
+) -> Result<(), Panic>
+    ensures ok { OnOk result (names.new ≡ names.old ++ names_of_copies name.now (entry.Copies count)) }
+    ensures memory { IsOkUnless result Panic.NoRoom }
+{
+    if count > 2 {
+        return push_numbered(alloc, names, name, count);
+    }
+    if count > 0 {
+        push_name(names, name.copy(alloc)?)?;
+    }
+    if count > 1 {
+        push_name(names, ended_name(alloc, name, MOST_BEFORE_PRIME, b"'")?)?;
+    }
+    Ok(())
+}
+
+// Appends a name.
+fn push_name(names: &mut Names, name: Text) -> Result<(), Panic>
+    ensures ok { OnOk result (names.new ≡ names.old ++ name ∷ []) }
+    ensures memory { IsOkUnless result Panic.NoRoom }
+{
+    match names.push(name) {
+        Ok(()) => Ok(()),
+        Err(_refused) => Err(Panic::NoRoom),
+    }
+}
+
+// Appends the name with `:0`, `:1` and so on, so many times.
+fn push_numbered(
+    alloc: Global,
+    names: &mut Names,
+    name: &Text,
+    count: u32,
+) -> Result<(), Panic>
+    ensures ok { OnOk result (names.new ≡ names.old ++ map (numbered_name name.now) (range_with_len 0 count)) }
+    ensures memory { IsOkUnless result Panic.NoRoom }
+{
+    for k in 0..count {
+        push_name(names, numbered_name(alloc, name, k)?)?;
+    }
+    Ok(())
+}
+
+// The name of copy number `k`.
+fn numbered_name(alloc: Global, name: &Text, k: u32) -> Result<Text, Panic>
+    ensures ok { IfOk result (λ text. text ≡ numbered_name name.now k) }
+    ensures memory { IsOkUnless result Panic.NoRoom }
+{
+    let number = name_of(alloc, &[k])?;
+    joined_name(alloc, name, MOST_BEFORE_NUMBER, b":", &number, MOST_NUMBER)
+}
+
+// Appends the name with `:` and each name of the graph.
+fn push_substituted(
+    alloc: Global,
+    names: &mut Names,
+    name: &Text,
+    inner: &Graph,
+) -> Result<(), Panic>
+    ensures ok { OnOk result (names.new ≡ names.old ++ map (substituted_name name.now) (names_of inner.now)) }
+    ensures memory { IsOkUnless result Panic.NoRoom }
+{
+    for w in 0..inner.n() {
+        let part = inner.name(w);
+        push_name(
+            names,
+            joined_name(alloc, name, MOST_PART, b":", part, MOST_PART)?,
+        )?;
+    }
+    Ok(())
+}
