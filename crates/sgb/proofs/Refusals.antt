@@ -6,7 +6,7 @@ use Rattle.sgb_vec.specs.Results.{and_then}
 use Rattle.sgb_vec.specs.Sizes.{before_stop, board_by_stop, board_of, stop_of}
 use Rattle.sgb_vec.specs.Sums.{sum_of}
 use Rattle.sgb_vec.specs.declared.panics.Panic.{Panic}
-use Rattle.sgb_vec.specs.declared.panics.Panic.TheVariants.{Bad, NoRoom, VeryBad}
+use Rattle.sgb_vec.specs.declared.panics.Panic.TheVariants.{Bad, Invalid, NoRoom, VeryBad}
 use Rattle.sgb_graph.specs.Graphs.{GraphData}
 use Rattle.sgb_gen.specs.Boards.{accepted_board, board}
 use Rattle.sgb_gen.specs.Simplexes.{accepted_simplex, simplex}
@@ -14,7 +14,18 @@ use Rattle.sgb_gen.specs.Subsets.{accepted_subsets, subsets}
 use Rattle.sgb_gen.specs.declared.params.BoardParams.{BoardParams}
 use Rattle.sgb_gen.specs.declared.params.SimplexParams.{SimplexParams}
 use Rattle.sgb_gen.specs.declared.params.SubsetsParams.{SubsetsParams}
-use Rattle.sgb_expr.specs.Expression.{Expression, Family, Complement, Gunion, Intersection, expression_of}
+use Rattle.sgb_ops.specs.BiComplete.{accepted_parts, bi_complete_of, with_parts}
+use Rattle.sgb_ops.specs.Boards.{pair_of_vertices, rim_of_wheel}
+use Rattle.sgb_ops.specs.Entries.{accepted_entries}
+use Rattle.sgb_ops.specs.Induced.{induced_of}
+use Rattle.sgb_ops.specs.Lines.{Line, accepted_lines, line_graph_of, lines_of_graph}
+use Rattle.sgb_ops.specs.Operands.{order_of}
+use Rattle.sgb_ops.specs.Product.{product_graph_of}
+use Rattle.sgb_ops.specs.Wheel.{accepted_middle, wheel_of, with_wheel_id}
+use Rattle.sgb_ops.specs.declared.entries.Entry.{Entry}
+use Rattle.sgb_ops.specs.declared.entries.Entry.TheVariants as entry
+use Rattle.sgb_graph.specs.Made.{graph_described}
+use Rattle.sgb_expr.specs.Expression.{Expression, Family, Complement, Gunion, Intersection, Lines, Product, BiComplete, Wheel, expression_of}
 use Rattle.sgb_expr.specs.declared.expressions.Family.{Family as Generator}
 use Rattle.sgb_expr.specs.declared.expressions.Family.TheVariants as family
 use Rattle.sgb.specs.Outcomes.{answer_after, answer_from, answer_of, left_out, left_out_by, queen_moves, vertex_named}
@@ -43,6 +54,10 @@ refused_bad e = cc
 -- refused with code 40
 refused_very_bad : {T : Type 0} → IsJudged {T = T} (Err VeryBad)
 refused_very_bad e = cc
+
+-- refused with code 60
+refused_invalid : {T : Type 0} → IsJudged {T = T} (Err Invalid)
+refused_invalid e = cc
 
 -- one or the other
 either : {T : Type 0} (b : Bool) (r s : Result T Panic) → IsJudged r → IsJudged s → IsJudged (cond b r s)
@@ -109,6 +124,49 @@ family_judged (family.Board p) = board_judged p
 family_judged (family.Simplex p) = simplex_judged p
 family_judged (family.Subsets p) = subsets_judged p
 
+-- the entries of an induced graph
+entries_judged : (n : ℕ) (entries : List Entry) → IsJudged (accepted_entries n entries)
+entries_judged n entries = either _ _ _ refused_bad (either _ _ _ refused_very_bad (accepted _))
+
+-- an induced graph
+induced_judged : (g : GraphData) (entries : List Entry) (self multi directed : Bool) → IsJudged (induced_of g entries self multi directed)
+induced_judged g entries self multi directed = after _ _ (entries_judged (order_of g) entries) (λ list. accepted _)
+
+-- a line graph
+lines_judged : (g : GraphData) (directed : Bool) → IsJudged (line_graph_of g directed)
+lines_judged g directed = after _ _ (of_lines (lines_of_graph g directed)) (λ lines. accepted _)
+  where
+    of_lines : (lines : List Line) → IsJudged (accepted_lines g directed lines)
+    of_lines lines = either _ _ _ refused_invalid (either _ _ _ refused_very_bad (accepted _))
+
+-- a product
+product_judged : (g h : GraphData) (kind : ℤ) (directed : Bool) → IsJudged (product_graph_of g h kind directed)
+product_judged g h kind directed = either _ _ _ refused_very_bad (accepted _)
+
+-- a complete bipartite graph
+bi_complete_judged : (n1 n2 : ℤ) (directed : Bool) → IsJudged (bi_complete_of n1 n2 directed)
+bi_complete_judged n1 n2 directed =
+    after _ _ (parts n1 n2) (λ entries.
+    after _ _ (board_judged (pair_of_vertices directed)) (λ pair.
+    after _ _ (induced_judged (graph_described pair) entries false false directed) (λ d. accepted (with_parts n1 n2 directed d))))
+  where
+    parts : (n1 n2 : ℤ) → IsJudged (accepted_parts n1 n2)
+    parts (negsuc n1) n2 = refused_bad
+    parts (pos n1) (negsuc n2) = refused_bad
+    parts (pos n1) (pos n2) = either _ _ _ refused_very_bad (accepted _)
+
+-- a wheel
+wheel_judged : (n n1 : ℤ) (directed : Bool) → IsJudged (wheel_of n n1 directed)
+wheel_judged n n1 directed =
+    after _ _ (middle n1) (λ centre.
+    after _ _ (board_judged (rim_of_wheel n directed)) (λ rim.
+    after _ _ (board_judged (pair_of_vertices directed)) (λ pair.
+    after _ _ (induced_judged (graph_described pair) (centre ∷ entry.Graph (graph_described rim) ∷ []) false false directed) (λ d. accepted (with_wheel_id n n1 directed d)))))
+  where
+    middle : (n1 : ℤ) → IsJudged (accepted_middle n1)
+    middle (negsuc n1) = refused_bad
+    middle (pos n1) = either _ _ _ refused_very_bad (accepted _)
+
 -- two values
 both_judged : {T U : Type 0} (r : Result T Panic) (s : Result U Panic) → IsJudged r → IsJudged s → IsJudged (both r s)
 both_judged r s p q = after r _ p (λ x. after s _ q (λ y. accepted _))
@@ -119,6 +177,11 @@ value_judged (Family f) = after (family_value f) _ (family_judged f) (λ d. acce
 value_judged (Complement e copy self_loops directed) = after _ _ (value_judged e) (λ g. accepted _)
 value_judged (Gunion e f multi directed) = after _ _ (both_judged _ _ (value_judged e) (value_judged f)) (λ operands. accepted _)
 value_judged (Intersection e f multi directed) = after _ _ (both_judged _ _ (value_judged e) (value_judged f)) (λ operands. accepted _)
+value_judged (Lines e directed) = after _ _ (value_judged e) (λ g. after _ _ (lines_judged g directed) (λ d. accepted _))
+value_judged (Product e f kind directed) =
+    after _ _ (both_judged _ _ (value_judged e) (value_judged f)) (λ operands. after _ _ (product_judged operands.0 operands.1 kind directed) (λ d. accepted _))
+value_judged (BiComplete n1 n2 directed) = after _ _ (bi_complete_judged n1 n2 directed) (λ d. accepted _)
+value_judged (Wheel n n1 directed) = after _ _ (wheel_judged n n1 directed) (λ d. accepted _)
 
 -- ---- answers
 

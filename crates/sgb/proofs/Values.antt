@@ -13,7 +13,7 @@ use Rattle.sgb_gen.specs.Simplexes.{simplex_graph, simplex_vectors}
 use Rattle.sgb_gen.specs.Subsets.{subsets_graph, subsets_vectors}
 use Rattle.sgb_gen.specs.VectorGraphs.{family_graph, fields_of_vector}
 use Rattle.sgb_ops.specs.Operands.{names_of}
-use Rattle.sgb_expr.specs.Expression.{Expression, Family, Complement, Gunion, Intersection}
+use Rattle.sgb_expr.specs.Expression.{Expression, Family, Complement, Gunion, Intersection, Lines, Product, BiComplete, Wheel}
 use Rattle.sgb.specs.Values.{IsValue, both, described, made}
 use Rattle.sgb.specs.declared.evaluation.Local.{Local}
 use Rattle.sgb.specs.declared.evaluation.Local.TheVariants as local
@@ -53,3 +53,7 @@ size_of (Family f) = 1
 size_of (Complement e copy self_loops directed) = size_of e + 1
 size_of (Gunion e f multi directed) = size_of e + size_of f + 2
 size_of (Intersection e f multi directed) = size_of e + size_of f + 2
+size_of (Lines e directed) = size_of e + 1
+size_of (Product e f kind directed) = size_of e + size_of f + 2
+size_of (BiComplete n1 n2 directed) = 1
+size_of (Wheel n n1 directed) = 1

@@ -12,7 +12,11 @@ use Rattle.sgb_gen.specs.Subsets.{subsets, subsets_graph}
 use Rattle.sgb_ops.specs.Complement.{complement_of}
 use Rattle.sgb_ops.specs.Gunion.{gunion_of}
 use Rattle.sgb_ops.specs.Intersection.{intersection_of}
-use Rattle.sgb_expr.specs.Expression.{Expression, Family, Complement, Gunion, Intersection}
+use Rattle.sgb_ops.specs.Lines.{line_graph_of}
+use Rattle.sgb_ops.specs.Product.{product_graph_of}
+use Rattle.sgb_ops.specs.BiComplete.{bi_complete_of}
+use Rattle.sgb_ops.specs.Wheel.{wheel_of}
+use Rattle.sgb_expr.specs.Expression.{Expression, Family, Complement, Gunion, Intersection, Lines, Product, BiComplete, Wheel}
 use Rattle.sgb_expr.specs.declared.expressions.Family.{Family as Generator}
 use Rattle.sgb_expr.specs.declared.expressions.Family.TheVariants as family
 use Rattle.sgb.specs.declared.evaluation.Local.{Local}
@@ -40,6 +44,11 @@ value_of (Gunion e f multi directed) =
     and_then (both (value_of e) (value_of f)) (λ operands. made (gunion_of operands.0 operands.1 multi directed))
 value_of (Intersection e f multi directed) =
     and_then (both (value_of e) (value_of f)) (λ operands. made (intersection_of operands.0 operands.1 multi directed))
+value_of (Lines e directed) = and_then (value_of e) (λ g. made (line_graph_of g directed))
+value_of (Product e f kind directed) =
+    and_then (both (value_of e) (value_of f)) (λ operands. made (product_graph_of operands.0 operands.1 kind directed))
+value_of (BiComplete n1 n2 directed) = made (bi_complete_of n1 n2 directed)
+value_of (Wheel n n1 directed) = made (wheel_of n n1 directed)
 
 -- the result is this value, or this refusal; or it is out of memory
 abbrev pub IsValue : {T : Type 0} → Result T Panic → Result T Panic → Type 0

@@ -8,7 +8,7 @@ ghost use Rattle.sgb.specs.Values.{IsLocalOf, IsValue, both, family_value, value
 use sgb_expr::{Expr, Family};
 use sgb_gen::{Board, BoardParams, Simplex, Subsets};
 use sgb_graph::Graph;
-use sgb_ops::{complement, gunion, intersection};
+use sgb_ops::{bi_complete, complement, gunion, intersection, lines, product, wheel};
 use sgb_vec::Panic;
 use std::alloc::Global;
 
@@ -57,6 +57,21 @@ pub(crate) fn graph_of(alloc: Global, expression: &Expr) -> Result<Graph, Panic>
             let (left, right) = operands(alloc, first, second)?;
             intersection(alloc, &left, &right, *multi, *directed)
         }
+        Expr::Lines { graph, directed } => {
+            let operand = graph_of(alloc, graph)?;
+            lines(alloc, &operand, *directed)
+        }
+        Expr::Product {
+            first,
+            second,
+            kind,
+            directed,
+        } => {
+            let (left, right) = operands(alloc, first, second)?;
+            product(alloc, &left, &right, *kind, *directed)
+        }
+        Expr::BiComplete { n1, n2, directed } => bi_complete(alloc, *n1, *n2, *directed),
+        Expr::Wheel { n, n1, directed } => wheel(alloc, *n, *n1, *directed),
     }
 }
 

@@ -1,10 +1,17 @@
-use Rattle.std.proofs.Common.{◌≡◌, Ok, sym, subst}
+use Rattle.std.proofs.Common.{◌≡◌, ℤ, Bool, Result, Ok, sym, subst, w64, rules}
+use Rattle.std.proofs.lemmas.Int.{to_z-of_z}
+use Rattle.sgb_vec.specs.declared.panics.Panic.{Panic}
+use Rattle.sgb_graph.specs.Descriptions.{Description, IsAnswerOf}
 use Rattle.sgb_graph.specs.Graphs.{GraphData}
 use Rattle.sgb_expr.specs.Expression.{expression_of}
 use Rattle.sgb_expr.specs.declared.expressions.Expr.{Expr}
 use Rattle.sgb_ops.specs.Complement.{complement_of}
 use Rattle.sgb_ops.specs.Gunion.{gunion_of}
 use Rattle.sgb_ops.specs.Intersection.{intersection_of}
+use Rattle.sgb_ops.specs.Lines.{line_graph_of}
+use Rattle.sgb_ops.specs.Product.{product_graph_of}
+use Rattle.sgb_ops.specs.BiComplete.{bi_complete_of}
+use Rattle.sgb_ops.specs.Wheel.{wheel_of}
 use Rattle.sgb.specs.Values.{IsValue, both, made, value_of}
 use Rattle.sgb.proofs.Values.{value_made, value_then}
 use Rattle.sgb.proofs.evaluation.+graphs.Goals as goal
@@ -49,3 +56,40 @@ graph_of-returns-in_ok-left-in-Intersection t c =
     (λ operands. made (intersection_of operands.0 operands.1 a.multi a.directed)) c.intersection.result
     (at_values _ _ a.first.value a.second.value _ c.deref-in-Intersection.ensures c.deref-in-Intersection-2.ensures c.in_ok-left-in-Intersection.ensures)
     (value_made (intersection_of c.in_ok-left-in-Intersection.left c.in_ok-left-in-Intersection.right a.multi a.directed) c.intersection.result c.intersection.ensures))
+
+pub graph_of-returns-in_ok-operand-in-Lines : goal.graph_of-returns-in_ok-operand-in-Lines
+graph_of-returns-in_ok-operand-in-Lines t c =
+    let a = c.in-Lines in
+    subst (λ (e : Expr). IsValue (value_of (expression_of e)) c.lines.result) (sym a.is)
+    (value_then (value_of (expression_of a.graph.value)) c.in_ok-operand-in-Lines.operand (λ g. made (line_graph_of g a.directed)) c.lines.result
+    (at_value _ a.graph.value c.in_ok-operand-in-Lines.operand c.deref-in-Lines.ensures c.in_ok-operand-in-Lines.ensures)
+    (value_made (line_graph_of c.in_ok-operand-in-Lines.operand a.directed) c.lines.result c.lines.ensures))
+
+pub graph_of-returns-in_ok-left-in-Product : goal.graph_of-returns-in_ok-left-in-Product
+graph_of-returns-in_ok-left-in-Product t c =
+    let a = c.in-Product in
+    subst (λ (e : Expr). IsValue (value_of (expression_of e)) c.product.result) (sym a.is)
+    (value_then (both (value_of (expression_of a.first.value)) (value_of (expression_of a.second.value))) (c.in_ok-left-in-Product.left, c.in_ok-left-in-Product.right)
+    (λ operands. made (product_graph_of operands.0 operands.1 a.kind a.directed)) c.product.result
+    (at_values _ _ a.first.value a.second.value _ c.deref-in-Product.ensures c.deref-in-Product-2.ensures c.in_ok-left-in-Product.ensures)
+    (value_made (product_graph_of c.in_ok-left-in-Product.left c.in_ok-left-in-Product.right a.kind a.directed) c.product.result
+    (subst (λ kind. IsAnswerOf (product_graph_of c.in_ok-left-in-Product.left c.in_ok-left-in-Product.right kind a.directed) c.product.result)
+    (to_z-of_z w64 a.kind (search rules)) c.product.ensures)))
+
+-- the answer to two integers that stand for themselves
+at_numbers : (make : ℤ → ℤ → Result Description Panic) (m n m' n' : ℤ) (r : Result GraphData Panic) → m' ≡ m → n' ≡ n → IsAnswerOf (make m' n') r → IsAnswerOf (make m n) r
+at_numbers make m n m' n' r e f is = subst (λ k. IsAnswerOf (make m k) r) f (subst (λ k. IsAnswerOf (make k n') r) e is)
+
+pub graph_of-returns-in-BiComplete : goal.graph_of-returns-in-BiComplete
+graph_of-returns-in-BiComplete t c =
+    let a = c.in-BiComplete in
+    subst (λ (e : Expr). IsValue (value_of (expression_of e)) c.bi_complete.result) (sym a.is)
+    (value_made (bi_complete_of a.n1 a.n2 a.directed) c.bi_complete.result
+    (at_numbers (λ n1 n2. bi_complete_of n1 n2 a.directed) a.n1 a.n2 _ _ c.bi_complete.result (to_z-of_z w64 a.n1 (search rules)) (to_z-of_z w64 a.n2 (search rules)) c.bi_complete.ensures))
+
+pub graph_of-returns-in-Wheel : goal.graph_of-returns-in-Wheel
+graph_of-returns-in-Wheel t c =
+    let a = c.in-Wheel in
+    subst (λ (e : Expr). IsValue (value_of (expression_of e)) c.wheel.result) (sym a.is)
+    (value_made (wheel_of a.n a.n1 a.directed) c.wheel.result
+    (at_numbers (λ n n1. wheel_of n n1 a.directed) a.n a.n1 _ _ c.wheel.result (to_z-of_z w64 a.n (search rules)) (to_z-of_z w64 a.n1 (search rules)) c.wheel.ensures))
