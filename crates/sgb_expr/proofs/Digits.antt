@@ -18,7 +18,7 @@ abbrev pub NoDigit : ℕ → List ℕ → Type 0
 NoDigit radix text = (byte : ℕ) → next text ≡ Some byte → digit_value byte < radix → ⊥
 
 -- one digit more, or none
-leading_more : (radix most byte : ℕ) (text : List ℕ) → leading_digits radix (suc most) (byte ∷ text) ≡ cond (is_digit byte radix) (byte ∷ leading_digits radix most text) []
+pub leading_more : (radix most byte : ℕ) (text : List ℕ) → leading_digits radix (suc most) (byte ∷ text) ≡ cond (is_digit byte radix) (byte ∷ leading_digits radix most text) []
 leading_more radix most byte text = take_while-cons (λ b. is_digit b radix) byte (take most text)
 
 -- a byte is a digit or none

@@ -4,8 +4,8 @@ use Rattle.std.specs.Char.{digit_value}
 use Rattle.sgb_gen.specs.Shorthands.{complete, transitive, empty, circuit, cycle, disjoint_subsets, petersen}
 use Rattle.sgb_expr.specs.Numbers.{IsInteger, IsBits}
 use Rattle.sgb_expr.specs.Forms.{AreNumbers, IsFamilyCall, number_of, board_of, simplex_of, subsets_of}
-use Rattle.sgb_expr.specs.Languages.{Then, As}
-use Rattle.sgb_expr.specs.Readings.{◌>>=◌, then_read, read_as, fixed_at, integer_at, integers_at}
+use Rattle.sgb_expr.specs.Languages.{Then, After, As}
+use Rattle.sgb_expr.specs.Readings.{◌>>=◌, then_read, read_after, read_as, fixed_at, integer_at, integers_at}
 use Rattle.sgb_expr.specs.Reading.{family_at, subsets_at}
 use Rattle.sgb_expr.specs.declared.expressions.Family.{Family}
 use Rattle.sgb_expr.specs.declared.expressions.Family.TheVariants as family
@@ -23,6 +23,14 @@ no_value = 0
 pub fixed_then : {B : Type 0} (r : Result (List ℕ) ℕ) (f : List ℕ → Result B ℕ) → ((r >>= λ rest. Ok (no_value, rest)) >>= λ (x : ℕ × List ℕ). f x.1) ≡ (r >>= f)
 fixed_then (Ok rest) f = refl
 fixed_then (Err left) f = refl
+
+-- these bytes and then a word
+pub reads_after : {V : Type 0} {Word : List ℕ → V → Type 0} {Tail : List ℕ → Type 0} {read : List ℕ → Result (V × List ℕ) ℕ} (bytes : List ℕ) → Reads Word Tail read → Reads (After bytes Word) Tail (read_after bytes read)
+reads_after {V} {Word} {Tail} {read} bytes r =
+    reads_is
+    (λ word value w. (w.1, w.3 ∙ ap (λ u. u ++ w.1) w.4.0, w.5))
+    (λ word value w. (bytes, w.0, 0, w.1, (refl, refl), w.2))
+    (reads_same (λ text. fixed_then (fixed_at bytes text) read) (reads_then (reads_fixed {V = ℕ} 0 bytes) (λ _. r) (λ v word tail value w t. tt)))
 
 -- a text that begins with a byte that is no digit or letter
 pub clear_byte : (byte : ℕ) (text : List ℕ) → 36 ≤ digit_value byte → Clear (byte ∷ text)

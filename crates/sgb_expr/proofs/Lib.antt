@@ -5,7 +5,11 @@ pub mod NumberReaders
 pub mod IntegerLists
 pub mod NameOpenings
 pub mod FamilyReaders
+pub mod Lengths
+pub mod EntryReaders
 pub mod Forms
 pub mod Nesting
+pub mod EntryLists
+pub mod CodeExpressions
 pub mod WholeReading
 pub mod Examples

@@ -12,13 +12,15 @@ use Rattle.sgb_expr.specs.Reading.{arguments_with, expression_at, nested_at}
 use Rattle.sgb_expr.specs.declared.names.FamilyName.{FamilyName}
 use Rattle.sgb_expr.specs.declared.names.FamilyName.TheVariants.{Board, Simplex, Subsets, Complete, Transitive, Empty, Circuit, Cycle, DisjointSubsets, Petersen}
 use Rattle.sgb_expr.specs.declared.names.Name.{Name}
-use Rattle.sgb_expr.specs.declared.names.Name.TheVariants.{Family, Complement, Gunion, Intersection, Lines, Product, BiComplete, Wheel}
+use Rattle.sgb_expr.specs.declared.names.Name.TheVariants.{Family, Complement, Gunion, Intersection, Lines, Product, Induced, BiComplete, Wheel}
 use Rattle.sgb_expr.specs.declared.wrong.Wrong.{Wrong}
 use Rattle.sgb_expr.specs.declared.wrong.Wrong.TheVariants.{Left, NoRoom}
 use Rattle.sgb_expr.proofs.Readers.{Reads, bind_of, bind_stops, reads_then, reads_as, reads_is}
 use Rattle.sgb_expr.proofs.Words.{Anything, IsWord, both_true, reads_words}
 use Rattle.sgb_expr.proofs.FamilyReaders.{reads_family}
-use Rattle.sgb_expr.proofs.Forms.{Within, form_of, no_longer, bind_agrees}
+use Rattle.sgb_expr.proofs.Lengths.{Within, no_longer, bind_agrees}
+use Rattle.sgb_expr.proofs.EntryReaders.{Inside, is_lettered, lettered_more}
+use Rattle.sgb_expr.proofs.Forms.{form_of}
 
 -- a word stands among those of its list
 word_there : {N : Type 0} (opening : N → List ℕ) (names : List N) (i : ℕ) (default : N) → i < length names → IsWord (map (λ n. (opening n, n)) names) (opening (get_or names i default)) (get_or names i default)
@@ -46,7 +48,7 @@ family_is_there DisjointSubsets = family_there 8 (lit< tt)
 family_is_there Petersen = family_there 9 (lit< tt)
 
 -- the opening of form i stands among all
-there : (i : ℕ) → i < 17 → IsWord openings (opening_of (get_or all_names i Complement)) (get_or all_names i Complement)
+there : (i : ℕ) → i < 18 → IsWord openings (opening_of (get_or all_names i Complement)) (get_or all_names i Complement)
 unfolding openings
 there i h = word_there opening_of all_names i Complement h
 
@@ -66,8 +68,9 @@ name_is_there Gunion = there 11 (lit< tt)
 name_is_there Intersection = there 12 (lit< tt)
 name_is_there Lines = there 13 (lit< tt)
 name_is_there Product = there 14 (lit< tt)
-name_is_there BiComplete = there 15 (lit< tt)
-name_is_there Wheel = there 16 (lit< tt)
+name_is_there Induced = there 15 (lit< tt)
+name_is_there BiComplete = there 16 (lit< tt)
+name_is_there Wheel = there 17 (lit< tt)
 
 -- an opening is that of its name
 opening_is : {N : Type 0} (opening : N → List ℕ) (names : List N) (text : List ℕ) (name : N) → IsWord (map (λ n. (opening n, n)) names) text name → text ≡ opening name
@@ -106,7 +109,7 @@ reads_openings : Reads (IsWord openings) Anything (word_at openings)
 unfolding openings
 reads_openings =
     let families = Simplex ∷ Subsets ∷ Complete ∷ Transitive ∷ Empty ∷ Circuit ∷ Cycle ∷ DisjointSubsets ∷ Petersen ∷ [] in
-    let later = map (λ name. Family name) families ++ Complement ∷ Gunion ∷ Intersection ∷ Lines ∷ Product ∷ BiComplete ∷ Wheel ∷ [] in
+    let later = map (λ name. Family name) families ++ Complement ∷ Gunion ∷ Intersection ∷ Lines ∷ Product ∷ Induced ∷ BiComplete ∷ Wheel ∷ [] in
     reads_words (opening_of (Family Board), Family Board) (map (λ name. (opening_of name, name)) later) refl
 
 -- what is left after a name is shorter than the text
@@ -136,6 +139,30 @@ call_is depth text e h = (h.2, h.1, h.3 ∙ ap (λ u. u ++ h.1) (opening_is open
 call_from : (depth : ℕ) (text : List ℕ) (e : Expression) → IsNested (suc depth) text e → Then (IsWord openings) (IsCallOf (IsNested depth)) text e
 call_from depth text e h = (opening_of h.0, h.1, h.0, h.2, name_is_there h.0, h.3)
 
+-- each word begins with a letter
+abbrev all_lettered : {V : Type 0} → List (List ℕ × V) → Bool
+all_lettered [] = true
+all_lettered (word ∷ words) = is_lettered word.0 && all_lettered words
+
+word_lettered : {V : Type 0} (words : List (List ℕ × V)) (text : List ℕ) (v : V) → all_lettered words ≡ true → IsWord words text v → is_lettered text ≡ true
+word_lettered [] text v e w = absurd w
+word_lettered (word ∷ []) text v e w = ap is_lettered w.0 ∙ (both_true (is_lettered word.0) true e).0
+word_lettered (word ∷ other ∷ words) text v e (inl w) = ap is_lettered w.0 ∙ (both_true (is_lettered word.0) (all_lettered (other ∷ words)) e).0
+word_lettered (word ∷ other ∷ words) text v e (inr w) = word_lettered (other ∷ words) text v (both_true (is_lettered word.0) (all_lettered (other ∷ words)) e).1 w
+
+openings_lettered : all_lettered openings ≡ true
+unfolding openings
+openings_lettered = refl
+
+-- an expression begins with a letter
+opening_lettered : (name : Name) (arguments text : List ℕ) → text ≡ opening_of name ++ arguments → is_lettered text ≡ true
+opening_lettered name arguments text e =
+    ap is_lettered e ∙ lettered_more (opening_of name) arguments (word_lettered openings (opening_of name) name openings_lettered (name_is_there name))
+
+nested_lettered : (depth : ℕ) (text : List ℕ) (e : Expression) → IsNested depth text e → is_lettered text ≡ true
+nested_lettered zero text e w = opening_lettered (Family w.0) w.1 text w.2
+nested_lettered (suc depth) text e w = opening_lettered w.0 w.1 text w.2
+
 -- a reader of expressions to each depth
 pub reads_nested : (depth : ℕ) → Reads (IsNested depth) Anything (nested_at depth)
 reads_nested zero =
@@ -143,7 +170,11 @@ reads_nested zero =
     (reads_then reads_family_openings (λ name. reads_as Expression.Family (reads_family name)) (λ v word tail value w t. tt))
 reads_nested (suc depth) =
     reads_is (call_is depth) (call_from depth)
-    (reads_then reads_openings (λ name. (form_of name).reads (IsNested depth) (nested_at depth) (reads_nested depth)) (λ v word tail value w t. tt))
+    (reads_then reads_openings (λ name. (form_of name).reads (IsNested depth) (nested_at depth) (record { reads = reads_nested depth; lettered = nested_lettered depth })) (λ v word tail value w t. tt))
+
+-- expressions of each depth may stand inside others
+inside_nested : (depth : ℕ) → Inside (IsNested depth) (nested_at depth)
+inside_nested depth = record { reads = reads_nested depth; lettered = nested_lettered depth }
 
 -- an expression stands at each greater depth
 deeper : (depth : ℕ) → Within (IsNested depth) (IsNested (suc depth))
@@ -176,7 +207,7 @@ enough (suc depth) (suc other) (byte ∷ text) h k =
     bind_agrees (word_at openings (byte ∷ text)) (λ x. arguments_with (nested_at depth) x.0 x.1) (λ x. arguments_with (nested_at other) x.0 x.1)
     (λ x e.
     let shorter = opening_shorter (byte ∷ text) x.0 x.1 e in
-    (form_of x.0).agrees (IsNested depth) (nested_at depth) (nested_at other) (length x.1) (reads_nested depth)
+    (form_of x.0).agrees (IsNested depth) (nested_at depth) (nested_at other) (length x.1) (inside_nested depth)
     (λ u within. enough depth other u (omega (arith, within, shorter, h)) (omega (arith, within, shorter, k))) x.1 (omega arith))
 
 -- an expression is read to any depth of at least its length
@@ -189,7 +220,7 @@ pub expression_read : (text : List ℕ) → expression_at text ≡ then_read (wo
 expression_read text =
     expression_nested (suc (length text)) text (omega arith)
     ∙ bind_agrees (word_at openings text) (λ x. arguments_with (nested_at (length text)) x.0 x.1) (λ x. arguments_with expression_at x.0 x.1)
-    (λ x e. (form_of x.0).agrees (IsNested (length text)) (nested_at (length text)) expression_at (length text) (reads_nested (length text))
+    (λ x e. (form_of x.0).agrees (IsNested (length text)) (nested_at (length text)) expression_at (length text) (inside_nested (length text))
     (λ u within. sym (expression_nested (length text) u within)) x.1 (omega (arith, opening_shorter text x.0 x.1 e)))
 
 -- what is left after an expression is no longer than the text

@@ -4,9 +4,9 @@ use Rattle.std.specs.Char.{digit_value}
 use Rattle.std.specs.Str.Parse.{IsNumeral}
 use Rattle.std.proofs.lemmas.Bool.{cases_lt}
 use Rattle.sgb_expr.specs.Numbers.{IsNumber, IsInteger, IsBits, most_digits, most_hex_digits}
-use Rattle.sgb_expr.specs.Languages.{Then, As}
+use Rattle.sgb_expr.specs.Languages.{Then, As, Or}
 use Rattle.sgb_expr.specs.Readings.{◌>>=◌, then_read, read_as, fixed_at, fixed_as, number_at, signed_at, integer_at, bits_after, bits_at}
-use Rattle.sgb_expr.proofs.Readers.{next, next_after, Found, Wrong, Reads, Or, bind_of, bind_stops, cut_in, reads_then, reads_as, reads_or, reads_is, reads_before}
+use Rattle.sgb_expr.proofs.Readers.{next, next_after, Found, Wrong, Reads, bind_of, bind_stops, cut_in, reads_then, reads_as, reads_or, reads_is, reads_before}
 use Rattle.sgb_expr.proofs.Words.{Fixed, Parts, fixed_again, fixed_cases, fixed_stops, reads_fixed, reads_same, no_ok, err_same}
 use Rattle.sgb_expr.proofs.Digits.{NoDigit, leading, reads_number, number_found, number_stops, leading_again, no_digit_same, no_items, zero_is_number}
 

@@ -2,7 +2,7 @@
 -- another, and one or the other.
 use Rattle.std.proofs.Common.{◌≡◌, ℕ, ◌≤◌, ◌⊎◌, List, [], ◌∷◌, ◌++◌, length, min, Option, Some, None, Result, Ok, Err, refl, sym, ◌∙◌, ap, subst, inl, inr, append_assoc, append-nil, arith, length-append}
 use Rattle.std.proofs.lemmas.Bool.{cases_lt}
-use Rattle.sgb_expr.specs.Languages.{Then, As}
+use Rattle.sgb_expr.specs.Languages.{Then, As, Or}
 use Rattle.sgb_expr.specs.Readings.{◌>>=◌, then_read, read_as, either}
 
 -- the first byte of a text
@@ -183,16 +183,12 @@ cut_in (c ∷ a) u (d ∷ b) v e h =
     let t = cut_in a u b v (cc) h in
     (t.0, (cc (t.1, same)), t.2)
 
--- either of two languages
-abbrev pub Or : {V : Type 0} → (List ℕ → V → Type 0) → (List ℕ → V → Type 0) → List ℕ → V → Type 0
-Or First Second word value = First word value ⊎ Second word value
-
 -- one reader, and where it stops the other
 abbrev pub or_read : {V : Type 0} → (List ℕ → Result (V × List ℕ) ℕ) → (List ℕ → Result (V × List ℕ) ℕ) → List ℕ → Result (V × List ℕ) ℕ
 or_read first second text = either (first text) (second text)
 
 -- the first reads
-either_first : {A : Type 0} (r s : Result A ℕ) (x : A) → r ≡ Ok x → either r s ≡ Ok x
+pub either_first : {A : Type 0} (r s : Result A ℕ) (x : A) → r ≡ Ok x → either r s ≡ Ok x
 either_first {A} r s x e = ap (λ (t : Result A ℕ). either t s) e
 
 -- the first stops, and the second reads
@@ -200,7 +196,7 @@ either_second : {A : Type 0} (r s : Result A ℕ) (left : ℕ) (x : A) → r ≡
 either_second {A} r s left x e f = ap (λ (t : Result A ℕ). either t s) e ∙ ap (λ (t : Result A ℕ). either (Err left) t) f
 
 -- both stop
-either_stops : {A : Type 0} (r s : Result A ℕ) (left other : ℕ) → r ≡ Err left → s ≡ Err other → either r s ≡ Err (min left other)
+pub either_stops : {A : Type 0} (r s : Result A ℕ) (left other : ℕ) → r ≡ Err left → s ≡ Err other → either r s ≡ Err (min left other)
 either_stops {A} r s left other e f = ap (λ (t : Result A ℕ). either t s) e ∙ ap (λ (t : Result A ℕ). either (Err left) t) f
 
 -- what one of two readers found

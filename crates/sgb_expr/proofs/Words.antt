@@ -12,7 +12,7 @@ fixed_step : (byte : ℕ) (bytes text : List ℕ) → fixed_at (byte ∷ bytes) 
 fixed_step byte bytes text = rw (eq-eqb byte byte refl) refl
 
 -- another byte
-fixed_other : (byte other : ℕ) (bytes text : List ℕ) → (byte == other) ≡ false → fixed_at (byte ∷ bytes) (other ∷ text) ≡ Err (length (other ∷ text))
+pub fixed_other : (byte other : ℕ) (bytes text : List ℕ) → (byte == other) ≡ false → fixed_at (byte ∷ bytes) (other ∷ text) ≡ Err (length (other ∷ text))
 fixed_other byte other bytes text e = rw e refl
 
 -- a text that begins with the bytes

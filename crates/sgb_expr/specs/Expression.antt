@@ -1,27 +1,57 @@
 -- The expressions that name graphs, and which of them a value of the code is.
-use Rattle.std.specs.Prelude.{Bool, ℤ}
-use Rattle.sgb_expr.specs.declared.expressions.Expr.{Expr}
+use Rattle.std.specs.Prelude.{Bool, ℤ, List, [], ◌∷◌}
+use Rattle.sgb_expr.specs.declared.expressions.Expr.{Expr, Row_of-EntryExpr, end_of-EntryExpr, more_of-EntryExpr}
 use Rattle.sgb_expr.specs.declared.expressions.Expr.TheVariants as expr
+use Rattle.sgb_expr.specs.declared.entries.EntryExpr.{EntryExpr}
+use Rattle.sgb_expr.specs.declared.entries.EntryExpr.TheVariants as entry
 use Rattle.sgb_expr.specs.declared.expressions.Family.{Family as Generator}
 
--- an expression that names a graph: a generator with its parameters, or an operation on expressions
-pub data Expression : Type 0 where
-  Family : Generator → Expression
-  Complement : (graph : Expression) → (copy self_loops directed : Bool) → Expression
-  Gunion : (first second : Expression) → (multi directed : Bool) → Expression
-  Intersection : (first second : Expression) → (multi directed : Bool) → Expression
-  Lines : (graph : Expression) → (directed : Bool) → Expression
-  Product : (first second : Expression) → (kind : ℤ) → (directed : Bool) → Expression
-  BiComplete : (n1 n2 : ℤ) → (directed : Bool) → Expression
-  Wheel : (n n1 : ℤ) → (directed : Bool) → Expression
+mutual
+  -- an expression that names a graph: a generator with its parameters, or an operation on expressions
+  pub data Expression : Type 0 where
+    Family : Generator → Expression
+    Complement : (graph : Expression) → (copy self_loops directed : Bool) → Expression
+    Gunion : (first second : Expression) → (multi directed : Bool) → Expression
+    Intersection : (first second : Expression) → (multi directed : Bool) → Expression
+    Lines : (graph : Expression) → (directed : Bool) → Expression
+    Product : (first second : Expression) → (kind : ℤ) → (directed : Bool) → Expression
+    Induced : (graph : Expression) → (entries : Entries) → (self_loops multi directed : Bool) → Expression
+    BiComplete : (n1 n2 : ℤ) → (directed : Bool) → Expression
+    Wheel : (n n1 : ℤ) → (directed : Bool) → Expression
 
--- the expression that a value of the code holds
-abbrev pub expression_of : Expr → Expression
-expression_of (expr.Family f) = Family f
-expression_of (expr.Complement' p graph copy self_loops directed) = Complement (expression_of graph) copy self_loops directed
-expression_of (expr.Gunion' p first q second multi directed) = Gunion (expression_of first) (expression_of second) multi directed
-expression_of (expr.Intersection' p first q second multi directed) = Intersection (expression_of first) (expression_of second) multi directed
-expression_of (expr.Lines' p graph directed) = Lines (expression_of graph) directed
-expression_of (expr.Product' p first q second kind directed) = Product (expression_of first) (expression_of second) kind directed
-expression_of (expr.BiComplete n1 n2 directed) = BiComplete n1 n2 directed
-expression_of (expr.Wheel n n1 directed) = Wheel n n1 directed
+  -- an entry of an induced graph: an integer or an expression
+  pub data Entry : Type 0 where
+    Number : ℤ → Entry
+    Graph : Expression → Entry
+
+  -- the entries of an induced graph, in order
+  pub data Entries : Type 0 where
+    NoEntries : Entries
+    EntryThen : (entry : Entry) → (others : Entries) → Entries
+
+-- these entries
+abbrev pub entries_of : List Entry → Entries
+entries_of [] = NoEntries
+entries_of (entry ∷ others) = EntryThen entry (entries_of others)
+
+abbrev mutual
+  -- the expression that a value of the code holds
+  pub expression_of : Expr → Expression
+  expression_of (expr.Family f) = Family f
+  expression_of (expr.Complement' p graph copy self_loops directed) = Complement (expression_of graph) copy self_loops directed
+  expression_of (expr.Gunion' p first q second multi directed) = Gunion (expression_of first) (expression_of second) multi directed
+  expression_of (expr.Intersection' p first q second multi directed) = Intersection (expression_of first) (expression_of second) multi directed
+  expression_of (expr.Lines' p graph directed) = Lines (expression_of graph) directed
+  expression_of (expr.Product' p first q second kind directed) = Product (expression_of first) (expression_of second) kind directed
+  expression_of (expr.Induced' p graph shape entries self_loops multi directed) = Induced (expression_of graph) (row_entries entries) self_loops multi directed
+  expression_of (expr.BiComplete n1 n2 directed) = BiComplete n1 n2 directed
+  expression_of (expr.Wheel n n1 directed) = Wheel n n1 directed
+
+  pub entry_of : EntryExpr → Entry
+  entry_of (entry.Number n) = Number n
+  entry_of (entry.Graph e) = Graph (expression_of e)
+
+  -- those of a `Vec`
+  pub row_entries : {n : _} → Row_of-EntryExpr n → Entries
+  row_entries end_of-EntryExpr = NoEntries
+  row_entries (more_of-EntryExpr e others) = EntryThen (entry_of e) (row_entries others)

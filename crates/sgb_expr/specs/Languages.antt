@@ -1,5 +1,5 @@
 -- Languages: which texts are words, and of which values; words one after another.
-use Rattle.std.specs.Prelude.{◌≡◌, ℕ, List, ◌++◌}
+use Rattle.std.specs.Prelude.{◌≡◌, ◌⊎◌, ℕ, List, ◌++◌}
 
 -- a word of the first language and then one of the second, which may depend on the first's value
 abbrev pub Then : {V W : Type 0} → (List ℕ → V → Type 0) → (V → List ℕ → W → Type 0) → List ℕ → W → Type 0
@@ -12,3 +12,7 @@ After bytes Word word value = (rest : List ℕ) × (word ≡ bytes ++ rest) × W
 -- words of the function's values
 abbrev pub As : {V W : Type 0} → (V → W) → (List ℕ → V → Type 0) → List ℕ → W → Type 0
 As {V} f Word word value = (v : V) × Word word v × (value ≡ f v)
+
+-- a word of either language
+abbrev pub Or : {V : Type 0} → (List ℕ → V → Type 0) → (List ℕ → V → Type 0) → List ℕ → V → Type 0
+Or First Second word value = First word value ⊎ Second word value

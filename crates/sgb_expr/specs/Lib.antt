@@ -10,3 +10,4 @@ pub mod Readings
 pub mod Reading
 pub mod Gives
 pub mod TwoGraphs
+pub mod CodeEntries

@@ -3,7 +3,7 @@ use Rattle.std.specs.Prelude.{ℕ, List, [], ◌∷◌, ◌++◌, codes, map}
 use Rattle.sgb_expr.specs.declared.names.FamilyName.{FamilyName}
 use Rattle.sgb_expr.specs.declared.names.FamilyName.TheVariants.{Board, Simplex, Subsets, Complete, Transitive, Empty, Circuit, Cycle, DisjointSubsets, Petersen}
 use Rattle.sgb_expr.specs.declared.names.Name.{Name}
-use Rattle.sgb_expr.specs.declared.names.Name.TheVariants.{Family, Complement, Gunion, Intersection, Lines, Product, BiComplete, Wheel}
+use Rattle.sgb_expr.specs.declared.names.Name.TheVariants.{Family, Complement, Gunion, Intersection, Lines, Product, Induced, BiComplete, Wheel}
 
 -- a form's name and the parenthesis after it
 abbrev pub opening_of : Name → List ℕ
@@ -22,6 +22,7 @@ opening_of Gunion = codes "gunion("
 opening_of Intersection = codes "intersection("
 opening_of Lines = codes "lines("
 opening_of Product = codes "product("
+opening_of Induced = codes "induced("
 opening_of BiComplete = codes "bi_complete("
 opening_of Wheel = codes "wheel("
 
@@ -32,7 +33,9 @@ all_family_names =
 
 -- each name, once
 abbrev pub all_names : List Name
-all_names = map (λ name. Family name) all_family_names ++ Complement ∷ Gunion ∷ Intersection ∷ Lines ∷ Product ∷ BiComplete ∷ Wheel ∷ []
+all_names =
+    map (λ name. Family name) all_family_names
+    ++ Complement ∷ Gunion ∷ Intersection ∷ Lines ∷ Product ∷ Induced ∷ BiComplete ∷ Wheel ∷ []
 
 -- the openings of generators, each with its name
 unfoldable pub family_openings : List (List ℕ × FamilyName)

@@ -1,11 +1,12 @@
 -- What the forms of all names mean: the arguments of each, where the expressions inside are words of a language.
-use Rattle.std.specs.Prelude.{ℕ, ℤ, Bool, List, codes}
-use Rattle.sgb_expr.specs.Expression.{Expression}
+use Rattle.std.specs.Prelude.{◌≡◌, ℕ, ℤ, Bool, List, [], ◌∷◌, ◌++◌, codes}
+use Rattle.sgb_expr.specs.Expression.{Expression, Entry, entries_of}
 use Rattle.sgb_expr.specs.Forms.{AreArguments, AreNumbers, IsFamilyCall, flag_of, number_of}
-use Rattle.sgb_expr.specs.Languages.{After, As, Then}
+use Rattle.sgb_expr.specs.Languages.{After, As, Or, Then}
+use Rattle.sgb_expr.specs.Numbers.{IsInteger}
 use Rattle.sgb_expr.specs.declared.names.FamilyName.{FamilyName}
 use Rattle.sgb_expr.specs.declared.names.Name.{Name}
-use Rattle.sgb_expr.specs.declared.names.Name.TheVariants.{Family, Complement, Gunion, Intersection, Lines, Product, BiComplete, Wheel}
+use Rattle.sgb_expr.specs.declared.names.Name.TheVariants.{Family, Complement, Gunion, Intersection, Lines, Product, Induced, BiComplete, Wheel}
 
 -- integer number k of some, counted from 0, as a flag
 abbrev pub flag_at : List ℤ → ℕ → Bool
@@ -37,6 +38,10 @@ product_of o = Expression.Product o.first o.second (number_of o.numbers 0) (flag
 abbrev pub lines_of : Expression → List ℤ → Expression
 lines_of graph numbers = Expression.Lines graph (flag_at numbers 0)
 
+-- induced(graph,entries,self_loops,multi,directed)
+abbrev pub induced_of : Expression → List Entry → List ℤ → Expression
+induced_of graph entries numbers = Expression.Induced graph (entries_of entries) (flag_at numbers 0) (flag_at numbers 1) (flag_at numbers 2)
+
 -- bi_complete(n1,n2,directed)
 abbrev pub bi_complete_of : List ℤ → Expression
 bi_complete_of numbers = Expression.BiComplete (number_of numbers 0) (number_of numbers 1) (flag_at numbers 2)
@@ -55,6 +60,20 @@ AreOperands Inner =
     Then Inner (λ first. After (codes ",") (Then Inner (λ second.
     As (λ numbers. record { first = first; second = second; numbers = numbers }) (AreNumbers (codes ",") 2 (codes ")")))))
 
+-- an entry: an integer or an expression, where Inner tells the texts of the expressions inside
+abbrev pub IsEntry : (List ℕ → Expression → Type 0) → List ℕ → Entry → Type 0
+IsEntry Inner = Or (As Entry.Number IsInteger) (As Entry.Graph Inner)
+
+-- entries, each after a separator, which is `,` from the second on, and then a `]`
+abbrev pub AreEntries : (List ℕ → Expression → Type 0) → List ℕ → List ℕ → List Entry → Type 0
+AreEntries Inner separator text [] = text ≡ codes "]"
+AreEntries Inner separator text (entry ∷ others) =
+    (word rest : List ℕ) × (text ≡ separator ++ word ++ rest) × IsEntry Inner word entry × AreEntries Inner (codes ",") rest others
+
+-- entries with commas between them, in brackets
+abbrev pub IsEntryList : (List ℕ → Expression → Type 0) → List ℕ → List Entry → Type 0
+IsEntryList Inner = After (codes "[") (AreEntries Inner [])
+
 -- the text is the arguments of the form of this name, to its `)`, where Inner tells the texts of the expressions inside
 abbrev pub IsCallOf : (List ℕ → Expression → Type 0) → Name → List ℕ → Expression → Type 0
 IsCallOf Inner (Family name) = IsGenerator name
@@ -63,5 +82,8 @@ IsCallOf Inner Gunion = As gunion_of (AreOperands Inner)
 IsCallOf Inner Intersection = As intersection_of (AreOperands Inner)
 IsCallOf Inner Lines = Then Inner (λ graph. As (lines_of graph) (AreNumbers (codes ",") 1 (codes ")")))
 IsCallOf Inner Product = As product_of (AreOperands Inner)
+IsCallOf Inner Induced =
+    Then Inner (λ graph. After (codes ",") (Then (IsEntryList Inner) (λ entries.
+    As (induced_of graph entries) (AreNumbers (codes ",") 3 (codes ")")))))
 IsCallOf Inner BiComplete = As bi_complete_of (AreArguments 3)
 IsCallOf Inner Wheel = As wheel_of (AreArguments 3)

@@ -1,11 +1,11 @@
 -- Reading an expression from the beginning of a text: its name, and then its form alone.
 use Rattle.std.specs.Prelude.{ℕ, ℤ, zero, suc, List, [], ◌∷◌, length, codes, Result, Ok, Err}
 use Rattle.sgb_gen.specs.Shorthands.{complete, transitive, empty, circuit, cycle, disjoint_subsets, petersen}
-use Rattle.sgb_expr.specs.Expression.{Expression}
+use Rattle.sgb_expr.specs.Expression.{Expression, Entry}
 use Rattle.sgb_expr.specs.Forms.{number_of, board_of, simplex_of, subsets_of}
-use Rattle.sgb_expr.specs.Operations.{Operands, complement_of, gunion_of, intersection_of, product_of, lines_of, bi_complete_of, wheel_of}
+use Rattle.sgb_expr.specs.Operations.{Operands, complement_of, gunion_of, intersection_of, product_of, lines_of, induced_of, bi_complete_of, wheel_of}
 use Rattle.sgb_expr.specs.Names.{family_openings, openings}
-use Rattle.sgb_expr.specs.Readings.{◌>>=◌, then_read, read_after, read_as, word_at, bits_at, integers_at}
+use Rattle.sgb_expr.specs.Readings.{◌>>=◌, either, or_else, then_read, read_after, read_as, fixed_as, word_at, bits_at, integer_at, integers_at}
 use Rattle.sgb_expr.specs.declared.expressions.Family.{Family}
 use Rattle.sgb_expr.specs.declared.expressions.Family.TheVariants as family
 use Rattle.sgb_expr.specs.declared.names.FamilyName.{FamilyName}
@@ -56,6 +56,35 @@ operands_with inner =
     then_read inner (λ first. read_after (codes ",") (then_read inner (λ second.
     read_as (λ numbers. record { first = first; second = second; numbers = numbers }) (integers_at (codes ",") 2 (codes ")")))))
 
+-- an entry, where `inner` reads the expressions inside
+abbrev pub entry_at : (List ℕ → Result (Expression × List ℕ) ℕ) → List ℕ → Result (Entry × List ℕ) ℕ
+entry_at inner text = either (read_as Entry.Number integer_at text) (read_as Entry.Graph inner text)
+
+-- a `]`, or an entry after this separator and what `others` reads
+abbrev pub entries_then : (List ℕ → Result (Expression × List ℕ) ℕ) → (List ℕ → Result (List Entry × List ℕ) ℕ) → List ℕ → List ℕ → Result (List Entry × List ℕ) ℕ
+entries_then inner others separator text =
+    or_else (fixed_as [] (codes "]") text)
+    (read_after separator (then_read (entry_at inner) (λ entry. read_as (λ more. entry ∷ more) others)) text)
+
+-- so many entries at most, each after a separator, which is `,` from the second on, and then a `]`
+abbrev pub entries_for : (List ℕ → Result (Expression × List ℕ) ℕ) → ℕ → List ℕ → List ℕ → Result (List Entry × List ℕ) ℕ
+entries_for inner zero separator = fixed_as [] (codes "]")
+entries_for inner (suc most) separator = entries_then inner (entries_for inner most (codes ",")) separator
+
+-- entries to a `]`: no text has room for more than one of them beyond its bytes
+unfoldable pub entries_at : (List ℕ → Result (Expression × List ℕ) ℕ) → List ℕ → List ℕ → Result (List Entry × List ℕ) ℕ
+entries_at inner separator text = entries_for inner (suc (length text)) separator text
+
+-- entries in brackets
+abbrev pub entry_list_at : (List ℕ → Result (Expression × List ℕ) ℕ) → List ℕ → Result (List Entry × List ℕ) ℕ
+entry_list_at inner = read_after (codes "[") (entries_at inner [])
+
+-- a graph, entries and three integers, to a `)`, where `inner` reads the expressions inside
+abbrev pub induced_with : (List ℕ → Result (Expression × List ℕ) ℕ) → List ℕ → Result (Expression × List ℕ) ℕ
+induced_with inner =
+    then_read inner (λ graph. read_after (codes ",") (then_read (entry_list_at inner) (λ entries.
+    read_as (induced_of graph entries) (integers_at (codes ",") 3 (codes ")")))))
+
 -- the arguments of the form of this name, where `inner` reads the expressions inside
 abbrev pub arguments_with : (List ℕ → Result (Expression × List ℕ) ℕ) → Name → List ℕ → Result (Expression × List ℕ) ℕ
 arguments_with inner (name.Family family) = generator_at family
@@ -64,6 +93,7 @@ arguments_with inner name.Gunion = read_as gunion_of (operands_with inner)
 arguments_with inner name.Intersection = read_as intersection_of (operands_with inner)
 arguments_with inner name.Lines = lines_with inner
 arguments_with inner name.Product = read_as product_of (operands_with inner)
+arguments_with inner name.Induced = induced_with inner
 arguments_with inner name.BiComplete = read_as bi_complete_of (integers_at [] 3 (codes ")"))
 arguments_with inner name.Wheel = read_as wheel_of (integers_at [] 3 (codes ")"))
 

@@ -25,6 +25,11 @@ either (Ok x) r = Ok x
 either (Err left) (Ok x) = Ok x
 either (Err left) (Err other) = Err (min left other)
 
+-- the first of two readings if it succeeds, else the second
+abbrev pub or_else : {A : Type 0} → Result A ℕ → Result A ℕ → Result A ℕ
+or_else (Ok x) r = Ok x
+or_else (Err left) r = r
+
 -- the text after these bytes, with which the text begins
 abbrev pub fixed_at : List ℕ → List ℕ → Result (List ℕ) ℕ
 fixed_at [] text = Ok text

@@ -5,6 +5,7 @@ ghost use Rattle.sgb_expr.specs.Expressions.{IsExpression, IsReadAs};
 ghost use Rattle.sgb_expr.specs.Gives.{Gives};
 ghost use Rattle.sgb_expr.specs.Reading.{whole_at};
 
+use crate::entries::Entries;
 use crate::measure::is_too_large;
 use crate::operations::expression;
 use crate::wrong::Wrong;
@@ -20,6 +21,7 @@ pub enum Family {
 }
 
 /// An expression that names a graph.
+#[cycle(expr)]
 #[derive(Debug, Drop, PartialEq, Eq)]
 pub enum Expr {
     /// A graph of a generator.
@@ -57,6 +59,14 @@ pub enum Expr {
         kind: i64,
         directed: bool,
     },
+    /// The graph induced by entries (GB_BASIC, induced).
+    Induced {
+        graph: Box<Expr>,
+        entries: Entries,
+        self_loops: bool,
+        multi: bool,
+        directed: bool,
+    },
     /// A complete bipartite graph with n1 and n2 vertices in its parts (GB_BASIC, bi_complete).
     BiComplete {
         n1: i64,
@@ -85,8 +95,9 @@ pub enum Unread {
 /// The expression that the text is: one of GraphBase's official names and, in parentheses, its arguments with commas
 /// between them, with no spaces: `board`, `simplex`, `subsets` and their special cases, with integers; `complement`
 /// with an expression and three integers, `gunion` and `intersection` with two expressions and two integers, `lines`
-/// with an expression and an integer, `product` with two expressions and two integers, `bi_complete` and `wheel` with
-/// three integers (GB_BASIC).
+/// with an expression and an integer, `product` with two expressions and two integers, `induced` with an expression,
+/// entries and three integers, `bi_complete` and `wheel` with three integers (GB_BASIC). Entries are a `[`, integers and
+/// expressions in any order with commas between them, and a `]`.
 /// `size_bits` is 1 to 18 digits, or `0x` and 1 to 16 hexadecimal ones; each other integer is an optional `-` and 1 to
 /// 18 digits, and a flag is true where its integer is not zero. A short name is read as the parameters that it stands
 /// for.

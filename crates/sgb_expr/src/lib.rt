@@ -2,6 +2,7 @@
 #![tactic(auto)]
 
 mod arguments;
+pub mod entries;
 pub mod expressions;
 mod measure;
 mod names;
@@ -9,4 +10,5 @@ mod numbers;
 mod operations;
 mod wrong;
 
+pub use entries::{Entries, EntryExpr};
 pub use expressions::{Expr, Family, Unread, read_expr};

@@ -31,12 +31,13 @@ pub(crate) enum Name {
     Intersection,
     Lines,
     Product,
+    Induced,
     BiComplete,
     Wheel,
 }
 
 // Each name, once.
-const ALL: [Name; 17] = [
+const ALL: [Name; 18] = [
     Name::Family(FamilyName::Board),
     Name::Family(FamilyName::Simplex),
     Name::Family(FamilyName::Subsets),
@@ -52,6 +53,7 @@ const ALL: [Name; 17] = [
     Name::Intersection,
     Name::Lines,
     Name::Product,
+    Name::Induced,
     Name::BiComplete,
     Name::Wheel,
 ];
@@ -91,6 +93,7 @@ fn text_of(name: Name) -> &'static [u8]
         Name::Intersection => b"intersection(",
         Name::Lines => b"lines(",
         Name::Product => b"product(",
+        Name::Induced => b"induced(",
         Name::BiComplete => b"bi_complete(",
         Name::Wheel => b"wheel(",
     }

@@ -104,8 +104,8 @@ pub(crate) fn integers<'a, const N: usize>(
     Ok((numbers, fixed(end, rest)?))
 }
 
-// What stands before the integer with this place: the separator before the first, else `,`.
-fn separator_before<'a>(place: usize, first: &'a [u8]) -> &'a [u8]
+/// What stands before the integer with this place: the separator before the first, else `,`.
+pub(crate) fn separator_before<'a>(place: usize, first: &'a [u8]) -> &'a [u8]
     ensures { result.now ≡ separator_before place first.entry.now }
 {
     if place == 0 { first } else { b"," }

@@ -1,17 +1,19 @@
 //! Expressions at the beginning of a text, of which some stand inside others.
-ghost use Rattle.std.specs.Prelude.{◌≡◌, IfErr, IfOk, [], codes};
-ghost use Rattle.sgb_expr.specs.Expression.{expression_of};
+ghost use Rattle.std.specs.Prelude.{◌≡◌, IfErr, IfOk, OnOk, [], ◌∷◌, ◌++◌, codes};
+ghost use Rattle.sgb_expr.specs.CodeEntries.{list_of};
+ghost use Rattle.sgb_expr.specs.Expression.{entry_of, expression_of};
 ghost use Rattle.sgb_expr.specs.Gives.{Gives};
 ghost use Rattle.sgb_expr.specs.TwoGraphs.{operands_of};
 ghost use Rattle.sgb_expr.specs.declared.wrong.Wrong.TheVariants.{NoRoom};
-ghost use Rattle.sgb_expr.specs.Operations.{bi_complete_of, gunion_of, intersection_of, product_of, wheel_of};
+ghost use Rattle.sgb_expr.specs.Operations.{bi_complete_of, gunion_of, induced_of, intersection_of, product_of, wheel_of};
 ghost use Rattle.sgb_expr.specs.Readings.{integers_at, read_as};
-ghost use Rattle.sgb_expr.specs.Reading.{arguments_with, complement_with, expression_at, lines_with, operands_with};
+ghost use Rattle.sgb_expr.specs.Reading.{arguments_with, complement_with, entry_at, entry_list_at, expression_at, induced_with, lines_with, operands_with};
 
 use crate::arguments::family;
+use crate::entries::{Entries, EntryExpr};
 use crate::expressions::Expr;
 use crate::names::{Name, opening};
-use crate::numbers::{fixed, integers};
+use crate::numbers::{fixed, integer, integers, separator_before};
 use crate::wrong::Wrong;
 use std::alloc::Global;
 
@@ -48,6 +50,7 @@ fn arguments(alloc: Global, name: Name, text: &[u8]) -> Result<(Expr, &[u8]), Wr
             let (graphs, rest) = two_graphs(alloc, text)?;
             Ok((product(graphs), rest))
         }
+        Name::Induced => induced(alloc, text),
         Name::BiComplete => bi_complete(text),
         Name::Wheel => wheel(text),
     }
@@ -106,6 +109,75 @@ fn two_graphs(alloc: Global, text: &[u8]) -> Result<(TwoGraphs, &[u8]), Wrong>
         numbers,
     };
     Ok((graphs, rest))
+}
+
+// The arguments of an induced graph.
+#[cycle(expressions)]
+fn induced(alloc: Global, text: &[u8]) -> Result<(Expr, &[u8]), Wrong>
+    ensures { Gives (λ x. (expression_of x.0, x.1.now)) result (induced_with expression_at text.now) }
+{
+    let (graph, rest) = expression(alloc, text)?;
+    let begun = fixed(b",", rest)?;
+    let (entries, rest) = entry_list(alloc, begun)?;
+    let (numbers, rest) = integers(b",", rest, b")")?;
+    Ok((induced_graph(boxed(alloc, graph)?, entries, numbers), rest))
+}
+
+// The graph that entries induce, by whether it keeps self-loops and parallel edges and is directed.
+fn induced_graph(graph: Box<Expr>, entries: Entries, numbers: [i64; 3]) -> Expr
+    ensures { expression_of result ≡ induced_of (expression_of graph.value) (list_of entries) numbers }
+{
+    let [self_loops, multi, directed] = numbers;
+    Expr::Induced {
+        graph,
+        entries,
+        self_loops: self_loops != 0,
+        multi: multi != 0,
+        directed: directed != 0,
+    }
+}
+
+// The entries in brackets with which the text begins.
+#[cycle(expressions)]
+fn entry_list(alloc: Global, text: &[u8]) -> Result<(Entries, &[u8]), Wrong>
+    ensures { Gives (λ x. (list_of x.0, x.1.now)) result (entry_list_at expression_at text.now) }
+{
+    let mut list = Vec::new(alloc);
+    let mut rest = fixed(b"[", text)?;
+    'entries: loop {
+        if let Some(after) = rest.strip_prefix(b"]") {
+            return Ok((Entries::new(list), after));
+        }
+        let begun = fixed(separator_before(list.len(), b""), rest)?;
+        let (one, after) = entry(alloc, begun)?;
+        keep(&mut list, one)?;
+        rest = after;
+    }
+}
+
+// One entry more at the end of the list, unless there is no memory for it.
+fn keep(list: &mut Vec<EntryExpr>, one: EntryExpr) -> Result<(), Wrong>
+    ensures kept { OnOk result (list.new.items ≡ list.old.items ++ one ∷ []) }
+    ensures refused { IfErr result (λ e. e ≡ NoRoom) }
+{
+    list.push(one).map_err(|_| Wrong::NoRoom)
+}
+
+// The entry with which the text begins: an integer, or else an expression.
+#[cycle(expressions)]
+fn entry(alloc: Global, text: &[u8]) -> Result<(EntryExpr, &[u8]), Wrong>
+    ensures { Gives (λ x. (entry_of x.0, x.1.now)) result (entry_at expression_at text.now) }
+{
+    let left = match integer(text) {
+        Ok((number, rest)) => return Ok((EntryExpr::Number(number), rest)),
+        Err(Wrong::Left(left)) => left,
+        Err(Wrong::NoRoom) => return Err(Wrong::NoRoom),
+    };
+    match expression(alloc, text) {
+        Ok((graph, rest)) => Ok((EntryExpr::Graph(graph), rest)),
+        Err(Wrong::Left(other)) => Err(Wrong::Left(left.min(other))),
+        Err(Wrong::NoRoom) => Err(Wrong::NoRoom),
+    }
 }
 
 // The union of two graphs, by whether it keeps parallel edges and is directed.

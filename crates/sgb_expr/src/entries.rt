@@ -1,0 +1,52 @@
+//! The entries of an induced graph: integers and expressions, in order.
+ghost use Rattle.std.specs.Prelude.{◌≡◌, ◌==◌, length};
+ghost use Rattle.sgb_expr.specs.CodeEntries.{list_of, listed};
+
+use crate::expressions::Expr;
+
+/// An entry of an induced graph (GB_BASIC, induced).
+#[cycle(expr)]
+#[derive(Debug, Drop, PartialEq, Eq)]
+pub enum EntryExpr {
+    /// An integer.
+    Number(i64),
+    /// An expression.
+    Graph(Expr),
+}
+
+/// The entries of an induced graph, in order (GB_BASIC, induced).
+#[cycle(expr)]
+#[derive(Debug, Drop, PartialEq, Eq)]
+pub struct Entries {
+    list: Vec<EntryExpr>,
+}
+
+impl Entries {
+    /// These entries, in order.
+    pub fn new(list: Vec<EntryExpr>) -> Entries
+        ensures { list_of result ≡ listed list.items }
+    {
+        Entries { list }
+    }
+
+    /// How many entries there are.
+    pub fn len(&self) -> usize
+        ensures { result ≡ length (list_of self.now) }
+    {
+        self.list.len()
+    }
+
+    /// Whether there is no entry.
+    pub fn is_empty(&self) -> bool
+        ensures { result ≡ (length (list_of self.now) == 0) }
+    {
+        self.list.is_empty()
+    }
+
+    /// All entries, in order.
+    pub fn as_slice(&self) -> &[EntryExpr]
+        ensures { listed result.now ≡ list_of self.now }
+    {
+        self.list.as_slice()
+    }
+}
