@@ -24,6 +24,9 @@ entries_more entries i e below is = take_more entries i e below ∙ ap (λ x. ta
 pub total_more : (entries : List Entry) (i : ℕ) (e : Entry) → i < length entries → e ≡ get_or entries i e → total_of (take (i + 1) entries) ≡ total_of (take i entries) + size_of_entry e
 total_more entries i e below is = ap total_of (entries_more entries i e below is) ∙ sum_by_push size_of_entry (take i entries) e
 
+pub total_at : (entries : List Entry) (i : ℕ) (d : Entry) → i < length entries → total_of (take (i + 1) entries) ≡ total_of (take i entries) + size_of_entry (get_or entries i d)
+total_at entries i d below = ap total_of (take_more entries i d below) ∙ sum_by_push size_of_entry (take i entries) (get_or entries i d)
+
 -- it is sound, as those before are
 pub kept_more : (entries : List Entry) (i : ℕ) (e : Entry) → i < length entries → e ≡ get_or entries i e → All IsKeptEntry (take i entries) → IsKeptEntry e → All IsKeptEntry (take (i + 1) entries)
 kept_more entries i e below is before now =

@@ -6,6 +6,7 @@ pub mod MergeSteps
 pub mod EntryTotals
 pub mod EventsWithin
 pub mod WantedEvents
+pub mod CopiesWithin
 pub mod UnionEvents
 pub mod TallyLemmas
 pub mod CommonEvents

@@ -1,13 +1,33 @@
 //! Induced graphs: vertices dropped, kept, repeated, or with a graph put in their place (GB_BASIC, induced).
+ghost use Rattle.std.specs.Prelude.{◌≡◌};
 ghost use Rattle.sgb_graph.specs.Descriptions.{IsAnswerOf};
-ghost use Rattle.sgb_ops.specs.Induced.{induced_of};
+ghost use Rattle.sgb_ops.specs.Induced.{induced_id, induced_of};
 
-use crate::entries::Entry;
-use sgb_graph::Graph;
+use crate::copied_names::names_by_entries;
+use crate::entries::{Copies, Entry, accept_entries};
+use crate::events::graph_of;
+use crate::induced_events::{Flags, all_events};
+use crate::merged::merged_unless;
+use crate::titles::flag_byte;
+use sgb_graph::{Graph, Id, compound_id};
 use sgb_vec::Panic;
 use std::alloc::Global;
 
-/// An induced graph (GB_BASIC, induced).
+/// An induced graph (GB_BASIC, induced): by the entries, one for each vertex of `graph`, each vertex is dropped, kept,
+/// repeated, or replaced by the vertices of a graph.
+///
+/// The one copy of a vertex has its name; the second of two has it with `'` (of which at most 4,094 bytes count); three
+/// or more have it with `:0`, `:1` and so on (4,084); the vertices of a graph have it with `:` and their own names
+/// (2,047 each).
+///
+/// The arcs, or edges unless `directed`, are first those inside the graphs that are entries, in order. Then for each
+/// vertex of `graph`, each copy u of it, each arc of its list and each copy t of the tip, one from u to t of the arc's
+/// length; of an undirected loop only where t is not before u. Unless `directed`, of an edge the arc at the smaller end
+/// counts. Loops come only with `self_loops`. Of parallel arcs only the first stays, with the least length of them all,
+/// unless `multi`. The id is `induced(ID,,self_loops,multi,directed)`.
+///
+/// `Bad` where the entries are not as many as the vertices of `graph`; else `VeryBad` where they make more than
+/// 1,000,000,000 vertices. `NoRoom` when out of memory.
 pub fn induced(
     alloc: Global,
     graph: &Graph,
@@ -18,5 +38,32 @@ pub fn induced(
 ) -> Result<Graph, Panic>
     ensures { IsAnswerOf (induced_of graph.now entries.now self_loops multi directed) result }
 {
-    Err(Panic::NoRoom)
+    accept_entries(graph.n(), entries)?;
+    let copies = Copies::new(alloc, entries)?;
+    let flags = Flags {
+        self_loops,
+        directed,
+    };
+    let all = all_events(alloc, graph, &copies, flags)?;
+    let events = merged_unless(alloc, multi, directed, all)?;
+    let names = names_by_entries(alloc, graph, entries)?;
+    let id = title(graph.id(), self_loops, multi, directed);
+    graph_of(alloc, directed, &events, names, id)
+}
+
+// The id of the result, made from the operand's; the entries are not in it.
+fn title(id: &Id, self_loops: bool, multi: bool, directed: bool) -> Id
+    ensures { result ≡ induced_id id.now self_loops multi directed }
+{
+    let end = [
+        b',',
+        b',',
+        flag_byte(self_loops),
+        b',',
+        flag_byte(multi),
+        b',',
+        flag_byte(directed),
+        b')',
+    ];
+    compound_id(b"induced(", id, &end)
 }

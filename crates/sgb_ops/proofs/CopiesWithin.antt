@@ -1,0 +1,115 @@
+-- The vertices that entries make: the names of all, and the events between them.
+use Rattle.std.proofs.Common.{◌≡◌, ◌<◌, ◌≤◌, ◌+◌, ℕ, zero, suc, Bool, true, false, List, [], ◌∷◌, ◌++◌, map, length, get_or, refl, sym, ap, subst, ◌∙◌, arith}
+use Rattle.std.specs.Prelude.{All, filter, flat_map, slice_get}
+use Rattle.std.specs.List.{range_with_len, enumerate_from}
+use Rattle.std.specs.Option.{option_map_or}
+use Rattle.std.proofs.lemmas.List.{length-append, length-map, take_more}
+use Rattle.std.proofs.lemmas.List.Elements.{All-nil, All-cons, All-head, All-tail, All-append, All-map, All-filter}
+use Rattle.std.proofs.lemmas.List.FromFn.{length-range_with_len, length-enumerate_from, get_or-enumerate_from}
+use Rattle.std.proofs.lemmas.List.Sums.{sum_by-cons, sum_by-take-le}
+use Rattle.sgb_graph.specs.Graphs.{GraphData}
+use Rattle.sgb_graph.specs.Events.{Event}
+use Rattle.sgb_graph.specs.declared.fields.Link.{Link}
+use Rattle.sgb_ops.specs.declared.entries.Entry.{Entry}
+use Rattle.sgb_ops.specs.declared.entries.Entry.TheVariants as entry
+use Rattle.sgb_ops.specs.Copies.{IsKeptEntry}
+use Rattle.sgb_ops.specs.Ends.{AllWithin}
+use Rattle.sgb_ops.specs.Entries.{copies_of, events_within, first_copy, inner_event, inner_events, inner_events_from, names_by_entries, names_of_copies, size_of_entry, total_of}
+use Rattle.sgb_ops.specs.Induced.{all_events, copies_met, event_between, events_between, events_of_arc, events_of_copies, events_of_copy, induced_events, is_met, is_wanted, wanted}
+use Rattle.sgb_ops.specs.Operands.{order_of, places_of, names_of}
+use Rattle.sgb_ops.specs.Taken.{taken}
+use Rattle.sgb_ops.specs.Titles.{numbered_name, substituted_name}
+use Rattle.sgb_ops.proofs.EntryTotals.{copies_within, total_at}
+use Rattle.sgb_ops.proofs.EventsWithin.{Within, TipBelow, merged_unless_within, taken_tips, events_after_within}
+
+-- as many names as vertices
+length-names_of_copies : (text : List ℕ) (e : Entry) → length (names_of_copies text e) ≡ size_of_entry e
+length-names_of_copies text (entry.Copies zero) = refl
+length-names_of_copies text (entry.Copies (suc zero)) = refl
+length-names_of_copies text (entry.Copies (suc (suc zero))) = refl
+length-names_of_copies text (entry.Copies (suc (suc (suc k)))) =
+    length-map (range_with_len 0 (suc (suc (suc k)))) (numbered_name text) ∙ length-range_with_len 0 (suc (suc (suc k)))
+length-names_of_copies text (entry.Graph inner) = length-map (names_of inner) (substituted_name text) ∙ length-map inner.vertices (λ x. x.name)
+
+pub length-names : (names : List (List ℕ)) (entries : List Entry) → length entries ≡ length names → length (names_by_entries names entries) ≡ total_of entries
+length-names [] [] same = refl
+length-names [] (e ∷ entries) same = absurd (omega (arith, same))
+length-names (name ∷ names) [] same = absurd (omega (arith, same))
+length-names (name ∷ names) (e ∷ entries) same =
+    length-append (names_of_copies name e) (names_by_entries names entries)
+    ∙ (omega (arith, length-names_of_copies name e, length-names names entries (omega (arith, same)), sum_by-cons size_of_entry e entries))
+
+-- what holds of what each element gives holds of what all give
+all_of_each : {X Y : Type 0} (Q : X → Type 0) (P : Y → Type 0) (f : X → List Y) (xs : List X) → All Q xs → ((x : X) → Q x → All P (f x)) → All P (flat_map f xs)
+all_of_each Q P f [] all each = All-nil P
+all_of_each Q P f (x ∷ xs) all each =
+    All-append P (f x) (flat_map f xs) (each x (All-head Q x xs all)) (all_of_each Q P f xs (All-tail Q x xs all) each)
+
+-- of all elements, with nothing known of them
+all_of_any : {X Y : Type 0} (P : Y → Type 0) (f : X → List Y) (xs : List X) → ((x : X) → All P (f x)) → All P (flat_map f xs)
+all_of_any P f [] each = All-nil P
+all_of_any P f (x ∷ xs) each = All-append P (f x) (flat_map f xs) (each x) (all_of_any P f xs each)
+
+-- a vertex of n
+abbrev Below : ℕ → ℕ → Type 0
+Below n u = u < n
+
+-- the numbers from a on are below what comes after them
+range_below : (n a k : ℕ) → a + k ≤ n → All (Below n) (range_with_len a k)
+range_below n a zero few = All-nil (Below n)
+range_below n a (suc k) few = All-cons (Below n) a (range_with_len (a + 1) k) (omega (arith, few)) (range_below n (a + 1) k (omega (arith, few)))
+
+module _ (entries : List Entry) (directed : Bool) where
+  -- the copies of a vertex are among those of all
+  all_copies : (v : ℕ) → All (Below (total_of entries)) (copies_of entries v)
+  all_copies v = range_below (total_of entries) (first_copy entries v) (option_map_or size_of_entry (slice_get entries v) 0) (copies_within entries v)
+
+  of_arc : (v u : ℕ) (a : Link) → u < total_of entries → AllWithin (total_of entries) (events_of_arc entries directed v u a)
+  of_arc v u a below =
+      All-map (Within (total_of entries)) (event_between u a.len) (copies_met entries directed v u a.tip)
+      (λ k d h. (below, All-filter (is_met directed v u a.tip) (Below (total_of entries)) (copies_of entries a.tip) (all_copies a.tip) k d h))
+
+  of_copy : (g : GraphData) (v u : ℕ) → u < total_of entries → AllWithin (total_of entries) (events_of_copy g entries directed v u)
+  of_copy g v u below = all_of_any (Within (total_of entries)) (events_of_arc entries directed v u) (taken directed g v) (λ a. of_arc v u a below)
+
+  of_copies : (g : GraphData) (v : ℕ) → AllWithin (total_of entries) (events_of_copies g entries directed v)
+  of_copies g v = all_of_each (Below (total_of entries)) (Within (total_of entries)) (events_of_copy g entries directed v) (copies_of entries v) (all_copies v) (λ u below. of_copy g v u below)
+
+  -- the events between copies are between vertices of the result
+  between_within : (g : GraphData) → AllWithin (total_of entries) (events_between g entries directed)
+  between_within g = all_of_any (Within (total_of entries)) (events_of_copies g entries directed) (places_of g) (λ v. of_copies g v)
+
+  -- those inside an entry are between its vertices
+  inner_within : (start : ℕ) (e : Entry) → start + size_of_entry e ≤ total_of entries → IsKeptEntry e → AllWithin (total_of entries) (inner_events directed start e)
+  inner_within start (entry.Copies k) few kept = All-nil (Within (total_of entries))
+  inner_within start (entry.Graph inner) few kept =
+      events_after_within (total_of entries) (inner_events_from directed start inner) 0 (order_of inner)
+      (λ w low high.
+      let below : w < order_of inner = omega (arith, high) in
+      All-map (Within (total_of entries)) (inner_event start w) (taken directed inner w)
+      (λ k d h. let tip = taken_tips directed inner w kept below k d h in (omega (arith, few, below), omega (arith, few, tip))))
+
+  -- an entry with its place
+  abbrev Fits : ℕ × Entry → Type 0
+  Fits p = (first_copy entries p.0 + size_of_entry p.1 ≤ total_of entries) × IsKeptEntry p.1
+
+  all_fit : All IsKeptEntry entries → All Fits (enumerate_from 0 entries)
+  all_fit kept = λ k d h.
+      let below : k < length entries = omega (arith, h, length-enumerate_from 0 entries) in
+      let e = get_or entries k d.1 in
+      let place : 0 + k ≡ k = omega arith in
+      let more = total_at entries k d.1 below in
+      subst Fits (sym (get_or-enumerate_from 0 entries k d below ∙ ap (λ i. (i, e)) place))
+      (omega (arith, more, sum_by-take-le size_of_entry entries (k + 1)), kept k d.1 below)
+
+  events_inside : All IsKeptEntry entries → AllWithin (total_of entries) (events_within entries directed)
+  events_inside kept =
+      all_of_each Fits (Within (total_of entries)) (λ p. inner_events directed (first_copy entries p.0) p.1) (enumerate_from 0 entries) (all_fit kept)
+      (λ p fits. inner_within (first_copy entries p.0) p.1 fits.0 fits.1)
+
+  -- all events are between vertices of the result
+  pub induced_within : (g : GraphData) (self multi : Bool) → All IsKeptEntry entries → AllWithin (total_of entries) (induced_events g entries self multi directed)
+  induced_within g self multi kept =
+      merged_unless_within (total_of entries) multi directed (wanted self (all_events g entries directed))
+      (All-filter (is_wanted self) (Within (total_of entries)) (all_events g entries directed)
+      (All-append (Within (total_of entries)) (events_within entries directed) (events_between g entries directed) (events_inside kept) (between_within g)))
