@@ -6,6 +6,7 @@ pub mod Counts
 pub mod CutOff
 pub mod Endings
 pub mod EnteredCommands
+pub mod EntryValues
 pub mod Lines
 pub mod Listings
 pub mod Named

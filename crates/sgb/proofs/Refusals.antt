@@ -18,14 +18,15 @@ use Rattle.sgb_ops.specs.BiComplete.{accepted_parts, bi_complete_of, with_parts}
 use Rattle.sgb_ops.specs.Boards.{pair_of_vertices, rim_of_wheel}
 use Rattle.sgb_ops.specs.Entries.{accepted_entries}
 use Rattle.sgb_ops.specs.Induced.{induced_of}
-use Rattle.sgb_ops.specs.Lines.{Line, accepted_lines, line_graph_of, lines_of_graph}
+use Rattle.sgb_ops.specs.Lines.{accepted_lines, line_graph_of, lines_of_graph}
 use Rattle.sgb_ops.specs.Operands.{order_of}
 use Rattle.sgb_ops.specs.Product.{product_graph_of}
 use Rattle.sgb_ops.specs.Wheel.{accepted_middle, wheel_of, with_wheel_id}
+use Rattle.sgb_ops.specs.declared.line_graphs.Line.{Line}
 use Rattle.sgb_ops.specs.declared.entries.Entry.{Entry}
 use Rattle.sgb_ops.specs.declared.entries.Entry.TheVariants as entry
 use Rattle.sgb_graph.specs.Made.{graph_described}
-use Rattle.sgb_expr.specs.Expression.{Expression, Family, Complement, Gunion, Intersection, Lines, Product, BiComplete, Wheel, expression_of}
+use Rattle.sgb_expr.specs.Expression.{Expression, Family, Complement, Gunion, Intersection, Lines, Product, Induced, BiComplete, Wheel, Entries, NoEntries, EntryThen, Number, Graph, expression_of}
 use Rattle.sgb_expr.specs.declared.expressions.Family.{Family as Generator}
 use Rattle.sgb_expr.specs.declared.expressions.Family.TheVariants as family
 use Rattle.sgb.specs.Outcomes.{answer_after, answer_from, answer_of, left_out, left_out_by, queen_moves, vertex_named}

@@ -13,7 +13,7 @@ use Rattle.sgb_gen.specs.Simplexes.{simplex_graph, simplex_vectors}
 use Rattle.sgb_gen.specs.Subsets.{subsets_graph, subsets_vectors}
 use Rattle.sgb_gen.specs.VectorGraphs.{family_graph, fields_of_vector}
 use Rattle.sgb_ops.specs.Operands.{names_of}
-use Rattle.sgb_expr.specs.Expression.{Expression, Family, Complement, Gunion, Intersection, Lines, Product, BiComplete, Wheel}
+use Rattle.sgb_expr.specs.Expression.{Expression, Family, Complement, Gunion, Intersection, Lines, Product, Induced, BiComplete, Wheel, Entry, Number, Graph, Entries, NoEntries, EntryThen}
 use Rattle.sgb.specs.Values.{IsValue, both, described, made}
 use Rattle.sgb.specs.declared.evaluation.Local.{Local}
 use Rattle.sgb.specs.declared.evaluation.Local.TheVariants as local
@@ -47,13 +47,25 @@ value_refused operand make p (inr e) = inr e
 pub value_both : {T U : Type 0} (first : Result T Panic) (second : Result U Panic) (x : T) (y : U) → first ≡ Ok x → second ≡ Ok y → both first second ≡ Ok (x, y)
 value_both first second x y e f = rw (e, f) refl
 
--- how large an expression is: larger than its operands together
-abbrev pub size_of : Expression → ℕ
-size_of (Family f) = 1
-size_of (Complement e copy self_loops directed) = size_of e + 1
-size_of (Gunion e f multi directed) = size_of e + size_of f + 2
-size_of (Intersection e f multi directed) = size_of e + size_of f + 2
-size_of (Lines e directed) = size_of e + 1
-size_of (Product e f kind directed) = size_of e + size_of f + 2
-size_of (BiComplete n1 n2 directed) = 1
-size_of (Wheel n n1 directed) = 1
+abbrev mutual
+  -- how large an expression is: larger than its operands together
+  pub size_of : Expression → ℕ
+  size_of (Family f) = 1
+  size_of (Complement e copy self_loops directed) = size_of e + 1
+  size_of (Gunion e f multi directed) = size_of e + size_of f + 2
+  size_of (Intersection e f multi directed) = size_of e + size_of f + 2
+  size_of (Lines e directed) = size_of e + 1
+  size_of (Product e f kind directed) = size_of e + size_of f + 2
+  size_of (Induced e entries self_loops multi directed) = size_of e + size_of_entries entries + 2
+  size_of (BiComplete n1 n2 directed) = 1
+  size_of (Wheel n n1 directed) = 1
+
+  -- how large an entry is
+  pub size_of_entry : Entry → ℕ
+  size_of_entry (Number n) = 0
+  size_of_entry (Graph e) = size_of e + 1
+
+  -- how large entries are together
+  pub size_of_entries : Entries → ℕ
+  size_of_entries NoEntries = 0
+  size_of_entries (EntryThen first others) = size_of_entry first + size_of_entries others

@@ -1,8 +1,9 @@
 -- The graphs that expressions name [GB_BASIC].
-use Rattle.std.specs.Prelude.{◌≡◌, ◌⊎◌, Result, Ok, Err}
+use Rattle.std.specs.Prelude.{◌≡◌, ◌⊎◌, ℕ, pos, negsuc, min, List, [], ◌∷◌, Result, Ok, Err}
+use Rattle.sgb_vec.specs.Limits.{most_entry}
 use Rattle.sgb_vec.specs.Results.{and_then}
 use Rattle.sgb_vec.specs.declared.panics.Panic.{Panic}
-use Rattle.sgb_vec.specs.declared.panics.Panic.TheVariants.{NoRoom}
+use Rattle.sgb_vec.specs.declared.panics.Panic.TheVariants.{Bad, NoRoom}
 use Rattle.sgb_graph.specs.Descriptions.{Description}
 use Rattle.sgb_graph.specs.Graphs.{GraphData}
 use Rattle.sgb_graph.specs.Made.{graph_described}
@@ -16,9 +17,14 @@ use Rattle.sgb_ops.specs.Lines.{line_graph_of}
 use Rattle.sgb_ops.specs.Product.{product_graph_of}
 use Rattle.sgb_ops.specs.BiComplete.{bi_complete_of}
 use Rattle.sgb_ops.specs.Wheel.{wheel_of}
-use Rattle.sgb_expr.specs.Expression.{Expression, Family, Complement, Gunion, Intersection, Lines, Product, BiComplete, Wheel}
+use Rattle.sgb_ops.specs.Induced.{induced_of}
+use Rattle.sgb_ops.specs.declared.entries.Entry.{Entry}
+use Rattle.sgb_ops.specs.declared.entries.Entry.TheVariants as entry
+use Rattle.sgb_expr.specs.Expression.{Expression, Family, Complement, Gunion, Intersection, Lines, Product, Induced, BiComplete, Wheel, Entry as EntryExpression, Number, Graph, Entries, NoEntries, EntryThen}
 use Rattle.sgb_expr.specs.declared.expressions.Family.{Family as Generator}
 use Rattle.sgb_expr.specs.declared.expressions.Family.TheVariants as family
+use Rattle.sgb.specs.declared.evaluation.entries.EntryValue.{EntryValue}
+use Rattle.sgb.specs.declared.evaluation.entries.EntryValue.TheVariants as value
 use Rattle.sgb.specs.declared.evaluation.Local.{Local}
 use Rattle.sgb.specs.declared.evaluation.Local.TheVariants as local
 
@@ -36,19 +42,44 @@ made value = and_then value (λ d. Ok (graph_described d))
 abbrev pub both : {T U : Type 0} → Result T Panic → Result U Panic → Result (T × U) Panic
 both first second = and_then first (λ x. and_then second (λ y. Ok (x, y)))
 
--- the graph of an expression, or the first refusal: the operands' from left to right, then the operation's
-abbrev pub value_of : Expression → Result GraphData Panic
-value_of (Family f) = made (family_value f)
-value_of (Complement e copy self_loops directed) = and_then (value_of e) (λ g. made (complement_of g copy self_loops directed))
-value_of (Gunion e f multi directed) =
-    and_then (both (value_of e) (value_of f)) (λ operands. made (gunion_of operands.0 operands.1 multi directed))
-value_of (Intersection e f multi directed) =
-    and_then (both (value_of e) (value_of f)) (λ operands. made (intersection_of operands.0 operands.1 multi directed))
-value_of (Lines e directed) = and_then (value_of e) (λ g. made (line_graph_of g directed))
-value_of (Product e f kind directed) =
-    and_then (both (value_of e) (value_of f)) (λ operands. made (product_graph_of operands.0 operands.1 kind directed))
-value_of (BiComplete n1 n2 directed) = made (bi_complete_of n1 n2 directed)
-value_of (Wheel n n1 directed) = made (wheel_of n n1 directed)
+-- the entry that is handed on: a number of copies, at most the greatest of 32 bits; a negative number is refused
+abbrev pub handed_entry : EntryValue → Result Entry Panic
+handed_entry (value.Number (pos k)) = Ok (entry.Copies (min k most_entry))
+handed_entry (value.Number (negsuc k)) = Err Bad
+handed_entry (value.Graph g) = Ok (entry.Graph g)
+
+-- the entries that are handed on
+unfoldable pub handed_entries : List EntryValue → Result (List Entry) Panic
+handed_entries [] = Ok []
+handed_entries (first ∷ others) = and_then (both (handed_entry first) (handed_entries others)) (λ p. Ok (p.0 ∷ p.1))
+
+abbrev mutual
+  -- the graph of an expression, or the first refusal: the operands' from left to right, then the operation's
+  pub value_of : Expression → Result GraphData Panic
+  value_of (Family f) = made (family_value f)
+  value_of (Complement e copy self_loops directed) = and_then (value_of e) (λ g. made (complement_of g copy self_loops directed))
+  value_of (Gunion e f multi directed) =
+      and_then (both (value_of e) (value_of f)) (λ operands. made (gunion_of operands.0 operands.1 multi directed))
+  value_of (Intersection e f multi directed) =
+      and_then (both (value_of e) (value_of f)) (λ operands. made (intersection_of operands.0 operands.1 multi directed))
+  value_of (Lines e directed) = and_then (value_of e) (λ g. made (line_graph_of g directed))
+  value_of (Product e f kind directed) =
+      and_then (both (value_of e) (value_of f)) (λ operands. made (product_graph_of operands.0 operands.1 kind directed))
+  value_of (Induced e entries self_loops multi directed) =
+      and_then (both (value_of e) (values_of entries)) (λ operands.
+      and_then (handed_entries operands.1) (λ list. made (induced_of operands.0 list self_loops multi directed)))
+  value_of (BiComplete n1 n2 directed) = made (bi_complete_of n1 n2 directed)
+  value_of (Wheel n n1 directed) = made (wheel_of n n1 directed)
+
+  -- an entry, or why its graph is refused
+  pub entry_value : EntryExpression → Result EntryValue Panic
+  entry_value (Number n) = Ok (value.Number n)
+  entry_value (Graph e) = and_then (value_of e) (λ g. Ok (value.Graph g))
+
+  -- the entries in order, or the first refusal of a graph among them
+  pub values_of : Entries → Result (List EntryValue) Panic
+  values_of NoEntries = Ok []
+  values_of (EntryThen first others) = and_then (both (entry_value first) (values_of others)) (λ p. Ok (p.0 ∷ p.1))
 
 -- the result is this value, or this refusal; or it is out of memory
 abbrev pub IsValue : {T : Type 0} → Result T Panic → Result T Panic → Type 0

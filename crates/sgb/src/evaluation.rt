@@ -1,14 +1,18 @@
 //! The graphs that expressions name (GB_BASIC).
-ghost use Rattle.std.specs.Prelude.{◌≡◌};
+ghost use Rattle.std.specs.Prelude.{◌≡◌, Err, Ok, IfErr, IfOk};
 ghost use Rattle.sgb_graph.specs.Descriptions.{IsAnswerOf};
-ghost use Rattle.sgb_expr.specs.Expression.{expression_of};
+ghost use Rattle.sgb_expr.specs.CodeEntries.{listed};
+ghost use Rattle.sgb_expr.specs.Expression.{entries_of, entry_of, expression_of};
 ghost use Rattle.sgb.specs.Outcomes.{moves_of, queen_moves};
-ghost use Rattle.sgb.specs.Values.{IsLocalOf, IsValue, both, family_value, value_of};
+ghost use Rattle.sgb.specs.Values.{IsLocalOf, IsValue, both, entry_value, family_value, value_of, values_of};
 
-use sgb_expr::{Expr, Family};
+mod entries;
+
+use entries::{EntryValue, handed_entries};
+use sgb_expr::{EntryExpr, Expr, Family};
 use sgb_gen::{Board, BoardParams, Simplex, Subsets};
 use sgb_graph::Graph;
-use sgb_ops::{bi_complete, complement, gunion, intersection, lines, product, wheel};
+use sgb_ops::{bi_complete, complement, gunion, induced, intersection, lines, product, wheel};
 use sgb_vec::Panic;
 use std::alloc::Global;
 
@@ -70,6 +74,18 @@ pub(crate) fn graph_of(alloc: Global, expression: &Expr) -> Result<Graph, Panic>
             let (left, right) = operands(alloc, first, second)?;
             product(alloc, &left, &right, *kind, *directed)
         }
+        Expr::Induced {
+            graph,
+            entries,
+            self_loops,
+            multi,
+            directed,
+        } => {
+            let operand = graph_of(alloc, graph)?;
+            let values = values_of(alloc, entries.as_slice())?;
+            let list = handed_entries(alloc, values)?;
+            induced(alloc, &operand, &list, *self_loops, *multi, *directed)
+        }
         Expr::BiComplete { n1, n2, directed } => bi_complete(alloc, *n1, *n2, *directed),
         Expr::Wheel { n, n1, directed } => wheel(alloc, *n, *n1, *directed),
     }
@@ -83,6 +99,34 @@ fn operands(alloc: Global, first: &Expr, second: &Expr) -> Result<(Graph, Graph)
     let left = graph_of(alloc, first)?;
     let right = graph_of(alloc, second)?;
     Ok((left, right))
+}
+
+// The values of entries, in order.
+#[cycle(graphs)]
+fn values_of(alloc: Global, entries: &[EntryExpr]) -> Result<Vec<EntryValue>, Panic>
+    ensures ok { IfOk result (λ values. values_of (entries_of (listed entries.now)) ≡ Ok values.items) }
+    ensures refused { IfErr result (λ p. IsValue (values_of (entries_of (listed entries.now))) (Err p)) }
+{
+    let mut values = Vec::with_capacity(alloc, entries.len())?;
+    for entry in entries {
+        let value = value_of_entry(alloc, entry)?;
+        values.push(value)?;
+    }
+    Ok(values)
+}
+
+// The value of an entry.
+#[cycle(graphs)]
+fn value_of_entry(alloc: Global, entry: &EntryExpr) -> Result<EntryValue, Panic>
+    ensures { IsValue (entry_value (entry_of entry.now)) result }
+{
+    match entry {
+        EntryExpr::Number(number) => Ok(EntryValue::Number(*number)),
+        EntryExpr::Graph(expression) => {
+            let graph = graph_of(alloc, expression)?;
+            Ok(EntryValue::Graph(graph))
+        }
+    }
 }
 
 // The graph of a generator.

@@ -1,6 +1,9 @@
-use Rattle.std.proofs.Common.{◌+◌}
-use Rattle.sgb_expr.specs.Expression.{expression_of}
-use Rattle.sgb.proofs.Values.{size_of}
+use Rattle.std.proofs.Common.{◌≡◌, ◌+◌, drop}
+use Rattle.sgb_expr.specs.CodeEntries.{listed}
+use Rattle.sgb_expr.specs.Expression.{entries_of, entry_of, expression_of}
+use Rattle.sgb.specs.Values.{values_of}
+use Rattle.sgb.proofs.EntryValues.{and_values}
+use Rattle.sgb.proofs.Values.{size_of, size_of_entries, size_of_entry}
 use Rattle.sgb.proofs.evaluation.+graphs.Given as goal
 
 -- an expression is larger than its operands together
@@ -9,3 +12,14 @@ decreases-graph_of l = size_of (expression_of l.expression.now)
 
 abbrev pub decreases-operands : goal.decreases-operands
 decreases-operands l = size_of (expression_of l.first.now) + size_of (expression_of l.second.now) + 1
+
+abbrev pub decreases-values_of : goal.decreases-values_of
+decreases-values_of l = size_of_entries (entries_of (listed l.entries.now)) + 1
+
+abbrev pub decreases-value_of_entry : goal.decreases-value_of_entry
+decreases-value_of_entry l = size_of_entry (entry_of l.entry.now)
+
+-- with the values of the entries that are left, they are all
+abbrev pub invariant-values_of-loop-entry : goal.invariant-values_of-loop-entry
+invariant-values_of-loop-entry l =
+    and_values l.values.items (values_of (entries_of (listed (drop l.entry-index l.entries)))) ≡ values_of (entries_of (listed l.entries))

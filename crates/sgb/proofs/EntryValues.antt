@@ -1,0 +1,76 @@
+-- The values of entries, one after another.
+use Rattle.std.proofs.Common.{◌≡◌, ◌≤◌, ◌+◌, ◌++◌, ℕ, zero, suc, Bool, Box, Global, List, [], ◌∷◌, drop, Option, Some, None, Result, Ok, Err, inl, inr, refl, sym, ap, ◌∙◌, rules, arith}
+use Rattle.std.specs.Prelude.{slice_get}
+use Rattle.std.proofs.lemmas.List.{append_assoc}
+use Rattle.sgb_vec.specs.Results.{and_then}
+use Rattle.sgb_vec.specs.declared.panics.Panic.{Panic}
+use Rattle.sgb_graph.specs.Graphs.{GraphData}
+use Rattle.sgb_ops.specs.Induced.{induced_of}
+use Rattle.sgb_expr.proofs.CodeExpressions.{induced_is}
+use Rattle.sgb_expr.specs.CodeEntries.{list_of, listed}
+use Rattle.sgb_expr.specs.Expression.{entries_of, entry_of, expression_of}
+use Rattle.sgb_expr.specs.declared.entries.Entries.{Entries}
+use Rattle.sgb_expr.specs.declared.expressions.Expr.{Expr}
+use Rattle.sgb_expr.specs.declared.expressions.Expr.TheVariants as expr
+use Rattle.sgb_expr.specs.declared.entries.EntryExpr.{EntryExpr}
+use Rattle.sgb.specs.Values.{IsValue, both, handed_entries, made, value_of, values_of}
+use Rattle.sgb.specs.declared.evaluation.entries.EntryValue.{EntryValue}
+use Rattle.sgb.proofs.Values.{size_of, size_of_entries, size_of_entry}
+
+-- these values and then others
+abbrev pub and_values : {T : Type 0} → List T → Result (List T) Panic → Result (List T) Panic
+and_values done rest = and_then rest (λ others. Ok (done ++ others))
+
+-- none before
+pub and_none : {T : Type 0} (rest : Result (List T) Panic) → and_values [] rest ≡ rest
+and_none (Ok others) = refl
+and_none (Err p) = refl
+
+-- one more
+pub and_one_more : {T : Type 0} (done : List T) (first : Result T Panic) (x : T) (rest : Result (List T) Panic) → first ≡ Ok x
+    → and_values done (and_then (both first rest) (λ p. Ok (p.0 ∷ p.1))) ≡ and_values (done ++ x ∷ []) rest
+and_one_more done first x (Ok others) e = rw e (ap Ok (sym (append_assoc done (x ∷ []) others)))
+and_one_more done first x (Err p) e = rw e refl
+
+-- a refusal, or out of memory, of the next one
+pub and_refused : {T : Type 0} (done : List T) (first : Result T Panic) (rest : Result (List T) Panic) (p : Panic) → IsValue first (Err p)
+    → IsValue (and_values done (and_then (both first rest) (λ p. Ok (p.0 ∷ p.1)))) (Err p)
+and_refused done first rest p (inl e) = inl (rw e refl)
+and_refused done first rest p (inr e) = inr e
+
+-- an entry is no larger than all of them together
+pub entry_smaller : (entries : List EntryExpr) (k : ℕ) (one : EntryExpr) → slice_get entries k ≡ Some one → size_of_entry (entry_of one) ≤ size_of_entries (entries_of (listed entries))
+entry_smaller [] k one e = absurd (search rules)
+entry_smaller (first ∷ others) zero one e = search (rules, arith)
+entry_smaller (first ∷ others) (suc k) one e =
+    let below = entry_smaller others k one e in
+    omega (arith, below)
+
+-- the value of an induced graph, from those of its graph and its entries
+abbrev pub induced_from : Result GraphData Panic → Result (List EntryValue) Panic → Bool → Bool → Bool → Result GraphData Panic
+induced_from graph entries self_loops multi directed =
+    and_then (both graph entries) (λ operands. and_then (handed_entries operands.1) (λ list. made (induced_of operands.0 list self_loops multi directed)))
+
+-- of an expression of the code
+pub induced_value : (e : Expr) (graph : Box Expr Global) (entries : Entries) (self_loops multi directed : Bool) → e ≡ expr.Induced graph entries self_loops multi directed
+    → value_of (expression_of e) ≡ induced_from (value_of (expression_of graph.value)) (values_of (entries_of (list_of entries))) self_loops multi directed
+induced_value e graph entries self_loops multi directed is =
+    ap (λ x. value_of (expression_of x)) is ∙ ap value_of (induced_is graph entries self_loops multi directed)
+
+-- its size
+pub induced_size : (e : Expr) (graph : Box Expr Global) (entries : Entries) (self_loops multi directed : Bool) → e ≡ expr.Induced graph entries self_loops multi directed
+    → size_of (expression_of e) ≡ size_of (expression_of graph.value) + size_of_entries (entries_of (list_of entries)) + 2
+induced_size e graph entries self_loops multi directed is =
+    ap (λ x. size_of (expression_of x)) is ∙ ap size_of (induced_is graph entries self_loops multi directed)
+
+-- a refusal of the entries
+pub entries_refused : (graph : Result GraphData Panic) (entries : Result (List EntryValue) Panic) (g : GraphData) (self_loops multi directed : Bool) (p : Panic)
+    → graph ≡ Ok g → IsValue entries (Err p) → IsValue (induced_from graph entries self_loops multi directed) (Err p)
+entries_refused graph entries g self_loops multi directed p e (inl f) = inl (rw (e, f) refl)
+entries_refused graph entries g self_loops multi directed p e (inr f) = inr f
+
+-- what is made of entries that are not refused
+pub entries_handed : (graph : Result GraphData Panic) (entries : Result (List EntryValue) Panic) (g : GraphData) (values : List EntryValue) (self_loops multi directed : Bool) (r : Result GraphData Panic)
+    → graph ≡ Ok g → entries ≡ Ok values → IsValue (and_then (handed_entries values) (λ list. made (induced_of g list self_loops multi directed))) r
+    → IsValue (induced_from graph entries self_loops multi directed) r
+entries_handed graph entries g values self_loops multi directed r e f is = rw (e, f) is
