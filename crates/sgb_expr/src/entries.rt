@@ -50,3 +50,6 @@ impl Entries {
         self.list.as_slice()
     }
 }
+
+#[cfg(test)]
+mod tests;
