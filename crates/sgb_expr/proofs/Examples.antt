@@ -1,10 +1,10 @@
 -- Texts and the expressions that they are, and where others go wrong, by evaluation.
-use Rattle.std.proofs.Common.{◌≡◌, true, false, codes, Ok, Err, refl, pos}
+use Rattle.std.proofs.Common.{◌≡◌, true, false, codes, Ok, Err, refl, pos, negsuc}
 use Rattle.sgb_gen.specs.Shorthands.{complete, petersen}
-use Rattle.sgb_expr.specs.Expression.{Expression}
+use Rattle.sgb_expr.specs.Expression.{Expression, Entry, Entries}
 use Rattle.sgb_expr.specs.Expressions.{IsExpression}
 use Rattle.sgb_expr.specs.Names.{family_openings, openings}
-use Rattle.sgb_expr.specs.Reading.{expression_at, whole_at}
+use Rattle.sgb_expr.specs.Reading.{entries_at, expression_at, whole_at}
 use Rattle.sgb_expr.specs.declared.expressions.Family.TheVariants.{Board, Subsets}
 use Rattle.sgb_expr.proofs.WholeReading.{whole_read}
 
@@ -25,3 +25,48 @@ reads_union = refl
 wrong_inside : whole_at (codes "gunion(complement(petersen(),1,0),petersen(),0,0)") ≡ Err 17
 unfolding expression_at openings family_openings
 wrong_inside = refl
+
+-- a line graph that is directed
+reads_lines : whole_at (codes "lines(petersen(),-7)") ≡ Ok (Expression.Lines (Expression.Family (Subsets petersen)) true)
+unfolding expression_at openings family_openings
+reads_lines = refl
+
+-- a product, whose kind is an integer as it stands
+reads_product : whole_at (codes "product(petersen(),complete(2),-3,1)") ≡ Ok (Expression.Product (Expression.Family (Subsets petersen)) (Expression.Family (Board (complete (pos 2)))) (negsuc 2) true)
+unfolding expression_at openings family_openings
+reads_product = refl
+
+-- a complete bipartite graph, and a wheel
+reads_bi_complete : whole_at (codes "bi_complete(2,-3,1)") ≡ Ok (Expression.BiComplete (pos 2) (negsuc 2) true)
+unfolding expression_at openings family_openings
+reads_bi_complete = refl
+
+reads_wheel : whole_at (codes "wheel(5,1,0)") ≡ Ok (Expression.Wheel (pos 5) (pos 1) false)
+unfolding expression_at openings family_openings
+reads_wheel = refl
+
+-- entries are integers and expressions, in order
+reads_induced : whole_at (codes "induced(complete(2),[3,petersen(),-4],0,9,0)")
+    ≡ Ok (Expression.Induced (Expression.Family (Board (complete (pos 2)))) (Entries.EntryThen (Entry.Number (pos 3)) (Entries.EntryThen (Entry.Graph (Expression.Family (Subsets petersen))) (Entries.EntryThen (Entry.Number (negsuc 3)) Entries.NoEntries))) false true false)
+unfolding expression_at entries_at openings family_openings
+reads_induced = refl
+
+-- there may be none
+reads_no_entries : whole_at (codes "induced(petersen(),[],1,0,1)") ≡ Ok (Expression.Induced (Expression.Family (Subsets petersen)) Entries.NoEntries true false true)
+unfolding expression_at entries_at openings family_openings
+reads_no_entries = refl
+
+-- 10 bytes are left: no entry begins with a `,`
+wrong_first_entry : whole_at (codes "induced(petersen(),[,1],0,0,0)") ≡ Err 10
+unfolding expression_at entries_at openings family_openings
+wrong_first_entry = refl
+
+-- 8 bytes are left: an entry has to come after a `,`
+wrong_last_entry : whole_at (codes "induced(petersen(),[1,],0,0,0)") ≡ Err 8
+unfolding expression_at entries_at openings family_openings
+wrong_last_entry = refl
+
+-- 10 bytes are left: a `,` has to come before the next entry
+wrong_comma : whole_at (codes "induced(petersen(),[1-2],0,0,0)") ≡ Err 10
+unfolding expression_at entries_at openings family_openings
+wrong_comma = refl

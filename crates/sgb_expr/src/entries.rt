@@ -1,6 +1,6 @@
 //! The entries of an induced graph: integers and expressions, in order.
 ghost use Rattle.std.specs.Prelude.{◌≡◌, ◌==◌, length};
-ghost use Rattle.sgb_expr.specs.CodeEntries.{list_of, listed};
+ghost use Rattle.sgb_expr.specs.CodeEntries.{items_of};
 
 use crate::expressions::Expr;
 
@@ -24,29 +24,32 @@ pub struct Entries {
 impl Entries {
     /// These entries, in order.
     pub fn new(list: Vec<EntryExpr>) -> Entries
-        ensures { list_of result ≡ listed list.items }
+        ensures { items_of result ≡ list.items }
     {
         Entries { list }
     }
 
     /// How many entries there are.
     pub fn len(&self) -> usize
-        ensures { result ≡ length (list_of self.now) }
+        ensures { result ≡ length (items_of self.now) }
     {
         self.list.len()
     }
 
     /// Whether there is no entry.
     pub fn is_empty(&self) -> bool
-        ensures { result ≡ (length (list_of self.now) == 0) }
+        ensures { result ≡ (length (items_of self.now) == 0) }
     {
         self.list.is_empty()
     }
 
     /// All entries, in order.
     pub fn as_slice(&self) -> &[EntryExpr]
-        ensures { listed result.now ≡ list_of self.now }
+        ensures { result.now ≡ items_of self.now }
     {
         self.list.as_slice()
     }
 }
+
+#[cfg(test)]
+mod tests;

@@ -372,6 +372,97 @@ fn operations_go_wrong_somewhere(rt: HostRuntime) {
     }
 }
 
+/// The product of this kind.
+fn product(alloc: Global, graphs: [Family; 2], kind: i64, directed: bool) -> Result<Expr, Fail> {
+    let [first, second] = graphs;
+    Ok(Expr::Product {
+        first: Box::new(alloc, Expr::Family(first))?,
+        second: Box::new(alloc, Expr::Family(second))?,
+        kind,
+        directed,
+    })
+}
+
+/// The line graph.
+fn lines(alloc: Global, graph: Family, directed: bool) -> Result<Expr, Fail> {
+    Ok(Expr::Lines {
+        graph: Box::new(alloc, Expr::Family(graph))?,
+        directed,
+    })
+}
+
+#[test]
+fn lines_products_and_short_forms_are_read(rt: HostRuntime) -> Result<(), Fail> {
+    let alloc = rt.alloc();
+    let ring = Family::Board(circuit(5));
+    let famous = Family::Subsets(petersen());
+    for (text, want) in [
+        ("lines(petersen(),0)", lines(alloc, famous, false)?),
+        ("lines(circuit(5),-3)", lines(alloc, ring, true)?),
+        (
+            "product(petersen(),circuit(5),2,1)",
+            product(alloc, [famous, ring], 2, true)?,
+        ),
+        (
+            "product(circuit(5),petersen(),-7,0)",
+            product(alloc, [ring, famous], -7, false)?,
+        ),
+        (
+            "bi_complete(2,-3,0)",
+            Expr::BiComplete {
+                n1: 2,
+                n2: -3,
+                directed: false,
+            },
+        ),
+        (
+            "wheel(5,1,2)",
+            Expr::Wheel {
+                n: 5,
+                n1: 1,
+                directed: true,
+            },
+        ),
+    ] {
+        assert!(rt; read_expr(alloc, text.as_bytes()) == Ok(want), "at {text}");
+    }
+    Ok(())
+}
+
+/// Texts that are no expressions, each with the length of its longest prefix that begins one.
+const CUT: [(&str, u32); 20] = [
+    ("l", 1),
+    ("line(petersen(),1)", 4),
+    ("lines(", 6),
+    ("lines(petersen())", 16),
+    ("lines(petersen(),", 17),
+    ("lines(petersen(),1", 18),
+    ("lines(petersen(),1,0)", 18),
+    ("produce(", 6),
+    ("product(petersen(),1,0)", 19),
+    ("product(petersen(),petersen(),1", 31),
+    ("product(petersen(),petersen(),1)", 31),
+    ("product(petersen(),petersen(),1,0,0)", 33),
+    ("bicomplete(2,3,0)", 2),
+    ("bi_complete(2)", 13),
+    ("bi_complete(2,3)", 15),
+    ("bi_complete(2,3,0", 17),
+    ("wheels(", 5),
+    ("wheel(petersen(),1,0)", 6),
+    ("wheel(5,1)", 9),
+    ("wheel(5,1,0,0)", 11),
+];
+
+#[test]
+fn lines_products_and_short_forms_go_wrong_somewhere(rt: HostRuntime) {
+    for (text, want) in CUT {
+        assert!(rt;
+            read_expr(rt.alloc(), text.as_bytes()) == bad(want),
+            "at {text}"
+        );
+    }
+}
+
 /// So many complements one in another, the innermost of the petersen graph; without their ends if not `ended`.
 fn complements(alloc: Global, count: usize, ended: bool) -> Result<String, Fail> {
     let mut text = String::new(alloc);

@@ -3,7 +3,8 @@ use Rattle.std.proofs.lemmas.Slice.Eq.{strip_prefix_is}
 use Rattle.std.proofs.lemmas.Bool.Decides.{Decides-eqb}
 use Rattle.std.proofs.lemmas.Result.{err_from_is_err_and}
 use Rattle.sgb_expr.specs.CodeEntries.{listed}
-use Rattle.sgb_expr.specs.Expression.{Entry, entry_of, expression_of}
+use Rattle.sgb_expr.specs.Expression.{entry_of, expression_of}
+use Rattle.sgb_expr.specs.declared.entries.EntryExpr.{EntryExpr}
 use Rattle.sgb_expr.specs.Reading.{entry_list_at, expression_at}
 use Rattle.sgb_expr.proofs.EntryLists.{and_entries, entries_end, entry_kept, entry_wrong, next_separator, separator_counts, separator_wrong}
 use Rattle.sgb_expr.proofs.EntryReaders.{entry_no_longer}
@@ -41,7 +42,7 @@ pub entry_list-returns-in-Some : goal.entry_list-returns-in-Some
 entry_list-returns-in-Some t c =
     let ends = strip_prefix_is Decides-eqb c.entries.rest.now (codes "]") (Some c.in-Some.after) c.in-Some.ensures.cases in
     entries_end (listed c.entries.list.items) _ c.entries.rest.now c.in-Some.after.now _ ends c.entries.invariant.read
-    ∙ ap (λ (es : List Entry). Ok (es, c.in-Some.after.now)) (sym c.new.ensures)
+    ∙ ap (λ (es : List EntryExpr). Ok (listed es, c.in-Some.after.now)) (sym c.new.ensures)
 
 pub entry_list-returns-in_err-begun : goal.entry_list-returns-in_err-begun
 entry_list-returns-in_err-begun t c =
