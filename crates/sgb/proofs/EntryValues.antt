@@ -1,11 +1,11 @@
 -- The values of entries, one after another.
-use Rattle.std.proofs.Common.{◌≡◌, ◌≤◌, ◌+◌, ◌++◌, ℕ, zero, suc, Bool, Box, Global, List, [], ◌∷◌, drop, Option, Some, None, Result, Ok, Err, inl, inr, refl, sym, ap, ◌∙◌, rules, arith}
-use Rattle.std.specs.Prelude.{slice_get}
-use Rattle.std.proofs.lemmas.List.{append_assoc}
+use Rattle.std.proofs.Common.{◌≡◌, ◌≤◌, ◌<◌, ◌+◌, ◌++◌, ℕ, zero, suc, Bool, Box, Global, List, [], ◌∷◌, length, get_or, Result, Ok, Err, inl, inr, refl, sym, ap, ◌∙◌, rules, arith}
+use Rattle.std.proofs.lemmas.List.{append-nil, append_assoc}
 use Rattle.sgb_vec.specs.Results.{and_then}
 use Rattle.sgb_vec.specs.declared.panics.Panic.{Panic}
 use Rattle.sgb_graph.specs.Graphs.{GraphData}
 use Rattle.sgb_ops.specs.Induced.{induced_of}
+use Rattle.sgb_ops.specs.declared.entries.Entry.{Entry as Handed}
 use Rattle.sgb_expr.proofs.CodeExpressions.{induced_is}
 use Rattle.sgb_expr.specs.CodeEntries.{list_of, listed}
 use Rattle.sgb_expr.specs.Expression.{entries_of, entry_of, expression_of}
@@ -38,13 +38,23 @@ pub and_refused : {T : Type 0} (done : List T) (first : Result T Panic) (rest : 
 and_refused done first rest p (inl e) = inl (rw e refl)
 and_refused done first rest p (inr e) = inr e
 
+-- a list of no length
+pub length_zero : {T : Type 0} (list : List T) → length list ≡ 0 → list ≡ []
+length_zero [] e = refl
+length_zero (x ∷ list) e = absurd (omega (arith, e))
+
+-- no value is left
+pub handed_none : (done : List Handed) (values : List EntryValue) → values ≡ [] → and_values done (handed_entries values) ≡ Ok done
+unfolding handed_entries
+handed_none done values e = rw e (ap Ok (append-nil done))
+
 -- an entry is no larger than all of them together
-pub entry_smaller : (entries : List EntryExpr) (k : ℕ) (one : EntryExpr) → slice_get entries k ≡ Some one → size_of_entry (entry_of one) ≤ size_of_entries (entries_of (listed entries))
-entry_smaller [] k one e = absurd (search rules)
-entry_smaller (first ∷ others) zero one e = search (rules, arith)
-entry_smaller (first ∷ others) (suc k) one e =
-    let below = entry_smaller others k one e in
-    omega (arith, below)
+pub entry_smaller : (entries : List EntryExpr) (k : ℕ) (default : EntryExpr) → k < length entries → size_of_entry (entry_of (get_or entries k default)) ≤ size_of_entries (entries_of (listed entries))
+entry_smaller [] k default below = absurd (search (rules, arith))
+entry_smaller (first ∷ others) zero default below = omega arith
+entry_smaller (first ∷ others) (suc k) default below =
+    let smaller = entry_smaller others k default (omega (arith, below)) in
+    omega (arith, smaller)
 
 -- the value of an induced graph, from those of its graph and its entries
 abbrev pub induced_from : Result GraphData Panic → Result (List EntryValue) Panic → Bool → Bool → Bool → Result GraphData Panic

@@ -30,7 +30,9 @@ use Rattle.sgb_expr.specs.Expression.{Expression, Family, Complement, Gunion, In
 use Rattle.sgb_expr.specs.declared.expressions.Family.{Family as Generator}
 use Rattle.sgb_expr.specs.declared.expressions.Family.TheVariants as family
 use Rattle.sgb.specs.Outcomes.{answer_after, answer_from, answer_of, left_out, left_out_by, queen_moves, vertex_named}
-use Rattle.sgb.specs.Values.{both, family_value, value_of}
+use Rattle.sgb.specs.Values.{both, family_value, handed_entries, handed_entry, value_of, values_of}
+use Rattle.sgb.specs.declared.evaluation.entries.EntryValue.{EntryValue}
+use Rattle.sgb.specs.declared.evaluation.entries.EntryValue.TheVariants as value
 use Rattle.sgb.specs.declared.faults.Fault.{Fault}
 use Rattle.sgb.specs.declared.faults.Fault.TheVariants as fault
 use Rattle.sgb.specs.declared.requests.Request.{Request}
@@ -172,17 +174,39 @@ wheel_judged n n1 directed =
 both_judged : {T U : Type 0} (r : Result T Panic) (s : Result U Panic) → IsJudged r → IsJudged s → IsJudged (both r s)
 both_judged r s p q = after r _ p (λ x. after s _ q (λ y. accepted _))
 
--- an expression
-value_judged : (e : Expression) → IsJudged (value_of e)
-value_judged (Family f) = after (family_value f) _ (family_judged f) (λ d. accepted _)
-value_judged (Complement e copy self_loops directed) = after _ _ (value_judged e) (λ g. accepted _)
-value_judged (Gunion e f multi directed) = after _ _ (both_judged _ _ (value_judged e) (value_judged f)) (λ operands. accepted _)
-value_judged (Intersection e f multi directed) = after _ _ (both_judged _ _ (value_judged e) (value_judged f)) (λ operands. accepted _)
-value_judged (Lines e directed) = after _ _ (value_judged e) (λ g. after _ _ (lines_judged g directed) (λ d. accepted _))
-value_judged (Product e f kind directed) =
-    after _ _ (both_judged _ _ (value_judged e) (value_judged f)) (λ operands. after _ _ (product_judged operands.0 operands.1 kind directed) (λ d. accepted _))
-value_judged (BiComplete n1 n2 directed) = after _ _ (bi_complete_judged n1 n2 directed) (λ d. accepted _)
-value_judged (Wheel n n1 directed) = after _ _ (wheel_judged n n1 directed) (λ d. accepted _)
+-- the entries that are handed on
+handed_judged : (values : List EntryValue) → IsJudged (handed_entries values)
+unfolding handed_entries
+handed_judged [] = accepted _
+handed_judged (first ∷ others) = after _ _ (both_judged _ _ (one first) (handed_judged others)) (λ p. accepted _)
+  where
+    one : (v : EntryValue) → IsJudged (handed_entry v)
+    one (value.Number (pos k)) = accepted _
+    one (value.Number (negsuc k)) = refused_bad
+    one (value.Graph g) = accepted _
+
+mutual
+  -- an expression
+  value_judged : (e : Expression) → IsJudged (value_of e)
+  value_judged (Family f) = after (family_value f) _ (family_judged f) (λ d. accepted _)
+  value_judged (Complement e copy self_loops directed) = after _ _ (value_judged e) (λ g. accepted _)
+  value_judged (Gunion e f multi directed) = after _ _ (both_judged _ _ (value_judged e) (value_judged f)) (λ operands. accepted _)
+  value_judged (Intersection e f multi directed) = after _ _ (both_judged _ _ (value_judged e) (value_judged f)) (λ operands. accepted _)
+  value_judged (Lines e directed) = after _ _ (value_judged e) (λ g. after _ _ (lines_judged g directed) (λ d. accepted _))
+  value_judged (Product e f kind directed) =
+      after _ _ (both_judged _ _ (value_judged e) (value_judged f)) (λ operands. after _ _ (product_judged operands.0 operands.1 kind directed) (λ d. accepted _))
+  value_judged (Induced e entries self_loops multi directed) =
+      after _ _ (both_judged _ _ (value_judged e) (values_judged entries)) (λ operands.
+      after _ _ (handed_judged operands.1) (λ list. after _ _ (induced_judged operands.0 list self_loops multi directed) (λ d. accepted _)))
+  value_judged (BiComplete n1 n2 directed) = after _ _ (bi_complete_judged n1 n2 directed) (λ d. accepted _)
+  value_judged (Wheel n n1 directed) = after _ _ (wheel_judged n n1 directed) (λ d. accepted _)
+
+  -- entries
+  values_judged : (entries : Entries) → IsJudged (values_of entries)
+  values_judged NoEntries = accepted _
+  values_judged (EntryThen (Number n) others) = after _ _ (both_judged _ _ (accepted _) (values_judged others)) (λ p. accepted _)
+  values_judged (EntryThen (Graph e) others) =
+      after _ _ (both_judged _ _ (after _ _ (value_judged e) (λ g. accepted _)) (values_judged others)) (λ p. accepted _)
 
 -- ---- answers
 

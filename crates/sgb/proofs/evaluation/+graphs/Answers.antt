@@ -1,10 +1,12 @@
-use Rattle.std.proofs.Common.{◌≡◌, ◌+◌, ℤ, Bool, List, Result, Ok, Err, ap, sym, subst, w64, rules, arith}
+use Rattle.std.proofs.Common.{◌≡◌, ◌<◌, ◌+◌, length, ℤ, Bool, List, Result, Ok, Err, ap, sym, subst, w64, rules, arith}
 use Rattle.std.proofs.lemmas.Result.{err_from_is_err_and}
 use Rattle.std.proofs.lemmas.Int.{to_z-of_z}
 use Rattle.sgb_vec.specs.declared.panics.Panic.{Panic}
 use Rattle.sgb_graph.specs.Descriptions.{Description, IsAnswerOf}
 use Rattle.sgb_graph.specs.Graphs.{GraphData}
-use Rattle.sgb_expr.specs.Expression.{Entry, entries_of, expression_of}
+use Rattle.sgb_expr.specs.CodeEntries.{listed}
+use Rattle.sgb_expr.specs.Expression.{entries_of, entry_of, expression_of}
+use Rattle.sgb_expr.specs.declared.entries.EntryExpr.{EntryExpr}
 use Rattle.sgb_ops.specs.Induced.{induced_of}
 use Rattle.sgb_ops.specs.declared.entries.Entry.{Entry as Handed}
 use Rattle.sgb_expr.specs.declared.expressions.Expr.{Expr}
@@ -17,7 +19,7 @@ use Rattle.sgb_ops.specs.BiComplete.{bi_complete_of}
 use Rattle.sgb_ops.specs.Wheel.{wheel_of}
 use Rattle.sgb.specs.Values.{IsValue, both, handed_entries, made, value_of, values_of}
 use Rattle.sgb.proofs.EntryValues.{entries_handed, entries_refused, entry_smaller, induced_size, induced_value}
-use Rattle.sgb.proofs.Values.{size_of_entries, value_made, value_refused, value_then}
+use Rattle.sgb.proofs.Values.{size_of_entries, size_of_entry, value_made, value_refused, value_then}
 use Rattle.sgb.proofs.evaluation.+graphs.Goals as goal
 
 -- the value of an operand that stands in a box
@@ -102,14 +104,14 @@ pub graph_of-values_of-requires : goal.graph_of-values_of-requires
 graph_of-values_of-requires t c =
     let a = c.in-Induced in
     let size = induced_size c.args.expression.now a.graph a.entries a.self_loops a.multi a.directed a.is in
-    let same = ap (λ es. size_of_entries (entries_of es)) c.as_slice.ensures in
+    let same = ap (λ es. size_of_entries (entries_of (listed es))) c.as_slice.ensures in
     (omega (arith, size, same, c.decreases), tt)
 
 pub graph_of-returns-in_err-values-in-Induced : goal.graph_of-returns-in_err-values-in-Induced
 graph_of-returns-in_err-values-in-Induced t c =
     let a = c.in-Induced in
     let p = err_from_is_err_and c.from_residual-in_err-values-in-Induced.result c.from_residual-in_err-values-in-Induced.ensures.1 in
-    let refused = subst (λ (es : List Entry). IsValue (values_of (entries_of es)) (Err c.in_err-values-in-Induced.field-0.0)) c.as_slice.ensures c.in_err-values-in-Induced.ensures.refused in
+    let refused = subst (λ (es : List EntryExpr). IsValue (values_of (entries_of (listed es))) (Err c.in_err-values-in-Induced.field-0.0)) c.as_slice.ensures c.in_err-values-in-Induced.ensures.refused in
     rw (p.1, p.2)
     (subst (λ (v : Result GraphData Panic). IsValue v (Err c.in_err-values-in-Induced.field-0.0)) (sym (induced_value c.args.expression.now a.graph a.entries a.self_loops a.multi a.directed a.is))
     (entries_refused _ _ c.in_ok-operand-in-Induced.operand a.self_loops a.multi a.directed c.in_err-values-in-Induced.field-0.0
@@ -120,7 +122,7 @@ graph_of-returns-in_err-list-in-Induced t c =
     let a = c.in-Induced in
     let p = err_from_is_err_and c.from_residual-in_err-list-in-Induced.result c.from_residual-in_err-list-in-Induced.ensures.1 in
     let values = c.in_ok-values-in-Induced.values.items in
-    let is = subst (λ (es : List Entry). values_of (entries_of es) ≡ Ok values) c.as_slice.ensures c.in_ok-values-in-Induced.ensures.ok in
+    let is = subst (λ (es : List EntryExpr). values_of (entries_of (listed es)) ≡ Ok values) c.as_slice.ensures c.in_ok-values-in-Induced.ensures.ok in
     rw (p.1, p.2)
     (subst (λ (v : Result GraphData Panic). IsValue v (Err c.in_err-list-in-Induced.field-0.0)) (sym (induced_value c.args.expression.now a.graph a.entries a.self_loops a.multi a.directed a.is))
     (entries_handed _ _ c.in_ok-operand-in-Induced.operand values a.self_loops a.multi a.directed (Err c.in_err-list-in-Induced.field-0.0)
@@ -134,7 +136,7 @@ graph_of-returns-in_ok-list-in-Induced t c =
     let values = c.in_ok-values-in-Induced.values.items in
     let list = c.in_ok-list-in-Induced.list.items in
     let operand = c.in_ok-operand-in-Induced.operand in
-    let is = subst (λ (es : List Entry). values_of (entries_of es) ≡ Ok values) c.as_slice.ensures c.in_ok-values-in-Induced.ensures.ok in
+    let is = subst (λ (es : List EntryExpr). values_of (entries_of (listed es)) ≡ Ok values) c.as_slice.ensures c.in_ok-values-in-Induced.ensures.ok in
     let answer = subst (λ (es : List Handed). IsAnswerOf (induced_of operand es a.self_loops a.multi a.directed) c.induced.result) c.deref-in-Induced-2.ensures.value c.induced.ensures in
     subst (λ (v : Result GraphData Panic). IsValue v c.induced.result) (sym (induced_value c.args.expression.now a.graph a.entries a.self_loops a.multi a.directed a.is))
     (entries_handed _ _ operand values a.self_loops a.multi a.directed c.induced.result
@@ -144,5 +146,7 @@ graph_of-returns-in_ok-list-in-Induced t c =
 
 pub values_of-value_of_entry-requires : goal.values_of-value_of_entry-requires
 values_of-value_of_entry-requires t c =
-    let smaller = entry_smaller c.args.entries.now c.loop-entry.entry-index c.entry-item.result (search (rules, c.entry-item.is)) in
-    (omega (arith, smaller, c.decreases), tt)
+    let within : c.loop-entry.entry-index < length c.args.entries.now = search (rules, arith) in
+    let smaller = entry_smaller c.args.entries.now c.loop-entry.entry-index c.entry-item.result within in
+    let same = ap (λ (e : EntryExpr). size_of_entry (entry_of e)) c.entry-item.is in
+    (omega (arith, smaller, same, c.decreases), tt)
