@@ -1,7 +1,8 @@
 -- Parameters are refused for what they are: never out of memory.
-use Rattle.std.proofs.Common.{◌≡◌, ◌≢◌, ℕ, ℤ, pos, negsuc, Bool, true, false, cond, List, [], ◌∷◌, Option, Some, None, Result, Ok, Err, ap}
+use Rattle.std.proofs.Common.{◌≡◌, ◌≢◌, ◌&&◌, not, nat_lt, length, ℕ, ℤ, pos, negsuc, Bool, true, false, cond, List, [], ◌∷◌, Option, Some, None, Result, Ok, Err, ap}
 use Rattle.sgb_vec.specs.Bounds.{simplex_of}
 use Rattle.sgb_vec.specs.Boxes.{box_of}
+use Rattle.sgb_vec.specs.Limits.{most_vertices}
 use Rattle.sgb_vec.specs.Results.{and_then}
 use Rattle.sgb_vec.specs.Sizes.{before_stop, board_by_stop, board_of, stop_of}
 use Rattle.sgb_vec.specs.Sums.{sum_of}
@@ -18,11 +19,10 @@ use Rattle.sgb_ops.specs.BiComplete.{accepted_parts, bi_complete_of, with_parts}
 use Rattle.sgb_ops.specs.Boards.{pair_of_vertices, rim_of_wheel}
 use Rattle.sgb_ops.specs.Entries.{accepted_entries}
 use Rattle.sgb_ops.specs.Induced.{induced_of}
-use Rattle.sgb_ops.specs.Lines.{accepted_lines, line_graph_of, lines_of_graph}
+use Rattle.sgb_ops.specs.Lines.{accepted_lines, is_of_edges, line_graph_of, lines_of_graph}
 use Rattle.sgb_ops.specs.Operands.{order_of}
 use Rattle.sgb_ops.specs.Product.{product_graph_of}
 use Rattle.sgb_ops.specs.Wheel.{accepted_middle, wheel_of, with_wheel_id}
-use Rattle.sgb_ops.specs.declared.line_graphs.Line.{Line}
 use Rattle.sgb_ops.specs.declared.entries.Entry.{Entry}
 use Rattle.sgb_ops.specs.declared.entries.Entry.TheVariants as entry
 use Rattle.sgb_graph.specs.Made.{graph_described}
@@ -137,10 +137,11 @@ induced_judged g entries self multi directed = after _ _ (entries_judged (order_
 
 -- a line graph
 lines_judged : (g : GraphData) (directed : Bool) → IsJudged (line_graph_of g directed)
-lines_judged g directed = after _ _ (of_lines (lines_of_graph g directed)) (λ lines. accepted _)
-  where
-    of_lines : (lines : List Line) → IsJudged (accepted_lines g directed lines)
-    of_lines lines = either _ _ _ refused_invalid (either _ _ _ refused_very_bad (accepted _))
+lines_judged g directed =
+    let lines = lines_of_graph g directed in
+    after (accepted_lines g directed lines) _
+    (either (not directed && not (is_of_edges g lines)) _ _ refused_invalid (either (nat_lt most_vertices (length lines)) _ _ refused_very_bad (accepted lines)))
+    (λ ls. accepted _)
 
 -- a product
 product_judged : (g h : GraphData) (kind : ℤ) (directed : Bool) → IsJudged (product_graph_of g h kind directed)
