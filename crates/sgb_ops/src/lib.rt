@@ -4,6 +4,7 @@
 #[cfg(test)]
 mod blocks;
 mod bipartite_graphs;
+mod boards;
 mod complements;
 mod copied_names;
 mod entries;
