@@ -58,12 +58,7 @@ pub(crate) fn joined_name(
 /// The first `most` bytes of the name, and `end` after them.
 ///
 /// `NoRoom` when out of memory, and nothing else.
-pub(crate) fn ended_name(
-    alloc: Global,
-    name: &Text,
-    most: usize,
-    end: &[u8],
-) -> Result<Text, Panic>
+pub(crate) fn ended_name(alloc: Global, name: &Text, most: usize, end: &[u8]) -> Result<Text, Panic>
     requires short { most + length end.now ≤ most_bytes }
     requires printable { All IsTextByte end.now }
     ensures ok { IfOk result (λ text. text ≡ take most name.now ++ end.now) }

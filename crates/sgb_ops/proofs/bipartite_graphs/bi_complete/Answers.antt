@@ -2,11 +2,9 @@ use Rattle.std.proofs.Common.{◌≡◌, ◌∙◌, Ok, Err, false, w64, to_z, o
 use Rattle.std.proofs.lemmas.Int.{to_z-of_z}
 use Rattle.std.proofs.lemmas.Result.{err_from_is_err_and}
 use Rattle.sgb_vec.specs.Results.{and_then}
-use Rattle.sgb_graph.specs.Descriptions.{IsAnswerOf}
 use Rattle.sgb_graph.specs.Growth.{with_id, with_uu}
-use Rattle.sgb_graph.specs.Made.{graph_described}
 use Rattle.sgb_gen.specs.Boards.{board}
-use Rattle.sgb_ops.specs.BiComplete.{accepted_parts, bi_complete_id, bi_complete_of, with_parts}
+use Rattle.sgb_ops.specs.BiComplete.{accepted_parts, bi_complete_id, with_parts}
 use Rattle.sgb_ops.specs.Boards.{pair_of_vertices}
 use Rattle.sgb_ops.specs.Induced.{induced_of}
 use Rattle.sgb_ops.proofs.AnswersOnward.{changed, induced_uses_none, onward, parts_made, refused_onward}
