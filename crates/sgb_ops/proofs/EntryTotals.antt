@@ -1,16 +1,15 @@
 -- How many vertices entries make.
-use Rattle.std.proofs.Common.{◌≡◌, ◌<◌, ◌≤◌, ◌+◌, ◌-◌, ℕ, zero, suc, Bool, true, false, List, [], ◌∷◌, ◌++◌, map, take, length, get_or, refl, sym, ap, subst, ◌∙◌, arith}
+use Rattle.std.proofs.Common.{◌≡◌, ◌<◌, ◌≤◌, ◌+◌, ◌-◌, ℕ, zero, suc, false, List, [], ◌∷◌, ◌++◌, take, length, get_or, refl, sym, ap, subst, ◌∙◌, arith}
 use Rattle.std.specs.Prelude.{All, slice_get}
 use Rattle.std.specs.List.{list_any, range_with_len}
 use Rattle.std.specs.Option.{option_map_or}
 use Rattle.std.proofs.lemmas.Bool.{le-ltb, eq-eqb}
-use Rattle.std.proofs.lemmas.List.{take_more, take_all, map-append}
+use Rattle.std.proofs.lemmas.List.{take_more}
 use Rattle.std.proofs.lemmas.List.Elements.{All-nil, All-cons, All-append}
 use Rattle.std.proofs.lemmas.List.FromFn.{length-map-range_with_len, get_or-map-range_with_len}
 use Rattle.std.proofs.lemmas.List.Sums.{sum_by-cons, sum_by_push, sum_by-take-le}
 use Rattle.sgb_vec.specs.Limits.{most_vertices}
-use Rattle.sgb_vec.specs.declared.panics.Panic.{Panic}
-use Rattle.std.specs.Prelude.{Result, Ok, Err}
+use Rattle.std.specs.Prelude.{Ok}
 use Rattle.sgb_ops.specs.declared.entries.Entry.{Entry}
 use Rattle.sgb_ops.specs.declared.entries.Entry.TheVariants as entry
 use Rattle.sgb_ops.specs.Copies.{IsKeptEntry, first_copies}
@@ -48,7 +47,6 @@ none_too_great (e ∷ entries) few =
 pub few_accepted : (n : ℕ) (entries : List Entry) → length entries ≡ n → total_of entries ≤ most_vertices → accepted_entries n entries ≡ Ok entries
 few_accepted n entries count few =
     rw (eq-eqb (length entries) n count, none_too_great entries few, le-ltb most_vertices (total_of entries) few) refl
-
 
 -- the first copy of a vertex or of what comes after the last one, where it is looked up
 pub first_at : (entries : List Entry) (firsts : List ℕ) (v d : ℕ) → firsts ≡ first_copies entries → v ≤ length entries → get_or firsts v d ≡ first_copy entries v

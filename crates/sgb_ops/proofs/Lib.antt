@@ -14,6 +14,7 @@ pub mod Marks
 pub mod Places
 pub mod Pairs
 pub mod Results
+pub mod AnswersOnward
 pub mod ComplementEvents
 pub mod JoinedNames
 pub mod LineEvents

@@ -1,16 +1,16 @@
 -- The wanted events of a list, as they are found part by part.
-use Rattle.std.proofs.Common.{◌≡◌, ◌<◌, ◌≤◌, ◌+◌, ◌-◌, ℕ, ℤ, suc, Bool, false, List, [], ◌∷◌, ◌++◌, map, length, inl, inr, refl, sym, ap, subst, ◌∙◌, append_assoc, append-nil, arith}
-use Rattle.std.specs.Prelude.{All, filter, flat_map, nat_lt}
+use Rattle.std.proofs.Common.{◌≡◌, ◌<◌, ◌≤◌, ◌+◌, ◌-◌, ℕ, suc, Bool, false, List, [], ◌∷◌, ◌++◌, map, inl, inr, refl, sym, ap, ◌∙◌, append_assoc, append-nil, arith}
+use Rattle.std.specs.Prelude.{filter, flat_map}
 use Rattle.std.specs.List.{range_with_len, enumerate_from}
 use Rattle.std.proofs.lemmas.Bool.{ltb-false, cases_Bool}
-use Rattle.std.proofs.lemmas.List.{map-append, drop_more}
+use Rattle.std.proofs.lemmas.List.{map-append}
 use Rattle.std.proofs.lemmas.List.Elements.{filter-append}
 use Rattle.sgb_graph.specs.Events.{Event}
 use Rattle.sgb_graph.specs.declared.fields.Link.{Link}
 use Rattle.sgb_ops.specs.declared.entries.Entry.{Entry}
 use Rattle.sgb_ops.specs.Copies.{leads_to_copies}
 use Rattle.sgb_ops.specs.Entries.{first_copy, inner_events}
-use Rattle.sgb_ops.specs.Induced.{copies_met, event_between, events_of_arc, is_met, is_wanted, wanted}
+use Rattle.sgb_ops.specs.Induced.{event_between, events_of_arc, is_met, is_wanted, wanted}
 use Rattle.sgb_ops.proofs.EntryTotals.{copies_between}
 
 -- the wanted ones of a part more

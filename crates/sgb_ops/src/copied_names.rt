@@ -44,12 +44,7 @@ pub(crate) fn names_by_entries(
 }
 
 // Appends the names of the vertices in the place of the one of this name.
-fn push_copies(
-    alloc: Global,
-    names: &mut Names,
-    name: &Text,
-    entry: &Entry,
-) -> Result<(), Panic>
+fn push_copies(alloc: Global, names: &mut Names, name: &Text, entry: &Entry) -> Result<(), Panic>
     ensures ok { OnOk result (names.new ≡ names.old ++ names_of_copies name.now entry.now) }
     ensures memory { IsOkUnless result Panic.NoRoom }
 {
@@ -60,12 +55,7 @@ fn push_copies(
 }
 
 // Appends the names of so many copies: one has the name, the second of two a prime too, three or more have numbers.
-fn push_counted(
-    alloc: Global,
-    names: &mut Names,
-    name: &Text,
-    count: u32,
-) -> Result<(), Panic>
+fn push_counted(alloc: Global, names: &mut Names, name: &Text, count: u32) -> Result<(), Panic>
     ensures ok { OnOk result (names.new ≡ names.old ++ names_of_copies name.now (entry.Copies count)) }
     ensures memory { IsOkUnless result Panic.NoRoom }
 {
@@ -93,12 +83,7 @@ fn push_name(names: &mut Names, name: Text) -> Result<(), Panic>
 }
 
 // Appends the name with `:0`, `:1` and so on, so many times.
-fn push_numbered(
-    alloc: Global,
-    names: &mut Names,
-    name: &Text,
-    count: u32,
-) -> Result<(), Panic>
+fn push_numbered(alloc: Global, names: &mut Names, name: &Text, count: u32) -> Result<(), Panic>
     ensures ok { OnOk result (names.new ≡ names.old ++ map (numbered_name name.now) (range_with_len 0 count)) }
     ensures memory { IsOkUnless result Panic.NoRoom }
 {

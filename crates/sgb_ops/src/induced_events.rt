@@ -78,12 +78,7 @@ fn push_inner_events(
 }
 
 // Appends the events of a graph whose first vertex is `start`.
-fn push_graph(
-    events: &mut Vec<Event>,
-    inner: &Graph,
-    start: u32,
-    flags: Flags,
-) -> Result<(), Panic>
+fn push_graph(events: &mut Vec<Event>, inner: &Graph, start: u32, flags: Flags) -> Result<(), Panic>
     requires { start + length inner.now.vertices ≤ most_vertices }
     ensures ok { OnOk result (events.new.items ≡ events.old.items ++ wanted flags.self_loops (inner_events flags.directed start (entry.Graph inner.now))) }
     ensures memory { IsOkUnless result Panic.NoRoom }

@@ -1,9 +1,10 @@
 //! The operations of GB_BASIC that make graphs from graphs.
 #![tactic(auto)]
 
+mod bipartite_graphs;
 #[cfg(test)]
 mod blocks;
-mod bipartite_graphs;
+mod boards;
 mod complements;
 mod copied_names;
 mod entries;

@@ -1,9 +1,12 @@
 //! Pieces of the ids of results, and names made of names.
-ghost use Rattle.std.specs.Prelude.{◌≡◌, ◌≤◌, ◌+◌, ◌++◌, [], ◌∷◌, All, length, take, IfOk, IsOkUnless};
-ghost use Rattle.sgb_graph.specs.IdTexts.{flag_text};
+ghost use Rattle.std.specs.Prelude.{◌≡◌, ◌≤◌, ◌+◌, ◌++◌, [], ◌∷◌, All, length, take, IfOk, IsOkUnless, IsTrue};
+ghost use Rattle.std.specs.Fmt.{signed_decimal};
+ghost use Rattle.sgb_graph.specs.IdTexts.{flag_text, is_id_text};
 ghost use Rattle.sgb_vec.specs.Limits.{most_bytes};
 ghost use Rattle.sgb_vec.specs.Names.{IsTextByte};
+ghost use Rattle.sgb_ops.specs.Titles.{closing};
 
+use sgb_graph::{Id, IdWriter};
 use sgb_vec::{Panic, Text};
 use std::alloc::Global;
 
@@ -12,6 +15,21 @@ pub(crate) fn flag_byte(flag: bool) -> u8
     ensures { (result ∷ []) ≡ flag_text flag }
 {
     if flag { b'1' } else { b'0' }
+}
+
+/// The id of a graph of two numbers: `start`, the numbers and the flag with commas between them, and a bracket.
+pub(crate) fn numbers_id(start: &[u8], n1: i64, n2: i64, directed: bool) -> Id
+    requires short { length start.now ≤ 100 }
+    requires text { IsTrue (is_id_text start.now) }
+    ensures { result ≡ start.now ++ signed_decimal n1 ++ closing (signed_decimal n2 ∷ flag_text directed ∷ []) }
+{
+    let mut writer = IdWriter::new();
+    writer.push_text(start);
+    writer.push_number(n1);
+    writer.push_text(b",");
+    writer.push_number(n2);
+    writer.push_text(&[b',', flag_byte(directed), b')']);
+    writer.id()
 }
 
 /// The first `most_first` bytes of the first name and the first `most_second` of the second, with the separator
@@ -40,12 +58,7 @@ pub(crate) fn joined_name(
 /// The first `most` bytes of the name, and `end` after them.
 ///
 /// `NoRoom` when out of memory, and nothing else.
-pub(crate) fn ended_name(
-    alloc: Global,
-    name: &Text,
-    most: usize,
-    end: &[u8],
-) -> Result<Text, Panic>
+pub(crate) fn ended_name(alloc: Global, name: &Text, most: usize, end: &[u8]) -> Result<Text, Panic>
     requires short { most + length end.now ≤ most_bytes }
     requires printable { All IsTextByte end.now }
     ensures ok { IfOk result (λ text. text ≡ take most name.now ++ end.now) }

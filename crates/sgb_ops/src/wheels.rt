@@ -1,14 +1,48 @@
-//! Wheels (GB_BASIC, wheel).
+//! Wheels: vertices in the middle, each joined to all those of a rim (GB_BASIC, wheel).
+ghost use Rattle.std.specs.Prelude.{◌≡◌, Ok, Err, IfOk, IfErr};
 ghost use Rattle.sgb_graph.specs.Descriptions.{IsAnswerOf};
-ghost use Rattle.sgb_ops.specs.Wheel.{wheel_of};
+ghost use Rattle.sgb_ops.specs.Wheel.{accepted_middle, wheel_of};
 
+use crate::boards::{pair_of_vertices, rim_of_wheel};
+use crate::entries::Entry;
+use crate::induced_graphs::induced;
+use crate::titles::numbers_id;
 use sgb_graph::Graph;
-use sgb_vec::Panic;
+use sgb_vec::{MOST_VERTICES, Panic};
 use std::alloc::Global;
 
-/// A wheel (GB_BASIC, wheel).
+/// The wheel of `n` vertices in a circle around `n1` in the middle (GB_BASIC, wheel): `induced` of the board of two
+/// vertices, with `n1` copies of the first and a cycle of `n` vertices in the place of the second, so that each in the
+/// middle is joined to each of the rim, with arcs from the middle where `directed` and edges where not. Where `n` is not
+/// positive, the rim is the board of 8 by 8. The id is `wheel(n,n1,directed)`.
+///
+/// `Bad` where `n1` is negative; else `VeryBad` where `n` or `n1` is above 1,000,000,000, or where they make more than
+/// 1,000,000,000 vertices. `NoRoom` when out of memory.
 pub fn wheel(alloc: Global, n: i64, n1: i64, directed: bool) -> Result<Graph, Panic>
     ensures { IsAnswerOf (wheel_of n n1 directed) result }
 {
-    Err(Panic::NoRoom)
+    let middle = accepted_middle(n1)?;
+    let rim = rim_of_wheel(alloc, n, directed)?;
+    let pair = pair_of_vertices(alloc, directed)?;
+    let entries = [middle, Entry::Graph(rim)];
+    let mut built = induced(alloc, &pair, &entries, false, false, directed)?;
+    built.set_id(numbers_id(b"wheel(", n, n1, directed));
+    Ok(built)
 }
+
+// The entry of so many vertices in the middle.
+fn accepted_middle(n1: i64) -> Result<Entry, Panic>
+    ensures ok { IfOk result (λ middle. accepted_middle n1 ≡ Ok middle) }
+    ensures refused { IfErr result (λ e. accepted_middle n1 ≡ Err e) }
+{
+    if n1 < 0 {
+        return Err(Panic::Bad);
+    }
+    if n1 > i64::from(MOST_VERTICES) {
+        return Err(Panic::VeryBad);
+    }
+    Ok(Entry::Copies(n1 as u32))
+}
+
+#[cfg(test)]
+mod tests;

@@ -1,4 +1,4 @@
-use Rattle.std.proofs.Common.{◌≡◌, ◌∙◌, take, ap}
+use Rattle.std.proofs.Common.{◌∙◌, take, ap}
 use Rattle.sgb_ops.proofs.JoinedNames.{whole_number}
 use Rattle.sgb_ops.proofs.copied_names.numbered_name.Goals as goal
 

@@ -1,4 +1,4 @@
-use Rattle.std.proofs.Common.{◌≡◌, ◌+◌, ◌++◌, ◌∷◌, [], ◌∙◌, map, take, length, sym, ap, arith}
+use Rattle.std.proofs.Common.{◌≡◌, ◌+◌, ◌++◌, ◌∷◌, [], ◌∙◌, map, length, sym, ap, arith}
 use Rattle.std.specs.List.{range_with_len}
 use Rattle.std.proofs.lemmas.List.FromFn.{map-range_with_len_more}
 use Rattle.sgb_ops.specs.Entries.{first_copy}
@@ -10,8 +10,8 @@ loop-entry-preserved c =
     let entries = c.args.entries.now in
     let i = c.loop-entry.entry-index in (
       c.in_ok-push.ensures.items
-      ∙ (ap (λ ks. ks ++ c.loop-entry.total ∷ []) c.loop-entry.invariant.0
-      ∙ (ap (λ k. map (first_copy entries) (range_with_len 0 i) ++ k ∷ []) c.loop-entry.invariant.1 ∙ sym (map-range_with_len_more (first_copy entries) 0 i i (omega arith)))),
+          ∙ (ap (λ ks. ks ++ c.loop-entry.total ∷ []) c.loop-entry.invariant.0
+          ∙ (ap (λ k. map (first_copy entries) (range_with_len 0 i) ++ k ∷ []) c.loop-entry.invariant.1 ∙ sym (map-range_with_len_more (first_copy entries) 0 i i (omega arith)))),
       omega (arith, total_more entries i c.entry-item.result (omega arith) c.entry-item.is, c.loop-entry.invariant.1, c.size-total.ensures.value),
     )
 

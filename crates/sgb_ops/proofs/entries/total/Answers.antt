@@ -1,4 +1,4 @@
-use Rattle.std.proofs.Common.{◌≡◌, ◌+◌, ◌∙◌, sym, ap, arith}
+use Rattle.std.proofs.Common.{arith}
 use Rattle.sgb_ops.proofs.EntryTotals.{total_more, kept_more}
 use Rattle.sgb_ops.proofs.entries.total.Goals as goal
 

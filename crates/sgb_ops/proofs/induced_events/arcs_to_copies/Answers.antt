@@ -1,6 +1,6 @@
-use Rattle.std.proofs.Common.{◌≡◌, ◌++◌, ◌∷◌, [], ◌∙◌, ◌<◌, cond, filter, length, sym, ap, subst, append_assoc, append-nil, arith}
+use Rattle.std.proofs.Common.{◌≡◌, ◌++◌, ◌∷◌, [], ◌∙◌, filter, length, sym, ap, subst, append_assoc, append-nil}
 use Rattle.std.specs.List.{All}
-use Rattle.std.proofs.lemmas.List.Elements.{All-head, All-tail, All-filter, filter-append}
+use Rattle.std.proofs.lemmas.List.Elements.{All-tail, All-filter, filter-append}
 use Rattle.sgb_ops.specs.Copies.{leads_to_copies}
 use Rattle.sgb_ops.specs.Taken.{taken}
 use Rattle.sgb_ops.proofs.EventsWithin.{TipBelow, taken_tips}
@@ -26,9 +26,9 @@ loop-arc-preserved c =
     let step = steps_to c.loop-arc.arc-iterator rest c.next.result arc c.in-Some.is c.next.ensures.steps in (
       All-tail (TipBelow n) arc rest (subst (All (TipBelow n)) step c.loop-arc.invariant.0),
       ap (λ ls. ls ++ filter p rest) c.in_ok-push_arc_to_copies.ensures.ok
-      ∙ (append_assoc before (filter p (arc ∷ [])) (filter p rest)
-      ∙ (ap (λ ls. before ++ ls) (sym (filter-append p (arc ∷ []) rest))
-      ∙ (ap (λ ls. before ++ filter p ls) (sym step) ∙ c.loop-arc.invariant.1))),
+          ∙ (append_assoc before (filter p (arc ∷ [])) (filter p rest)
+          ∙ (ap (λ ls. before ++ ls) (sym (filter-append p (arc ∷ []) rest))
+          ∙ (ap (λ ls. before ++ filter p ls) (sym step) ∙ c.loop-arc.invariant.1))),
     )
 
 pub returns-clause-tips : goal.returns-clause-tips

@@ -1,5 +1,5 @@
-use Rattle.std.proofs.Common.{◌++◌, ◌+◌, ◌-◌, ◌∙◌, refl, ap, sym, arith}
-use Rattle.std.specs.List.{flat_map, range_with_len}
+use Rattle.std.proofs.Common.{◌++◌, ◌+◌, ◌∙◌, refl, ap, arith}
+use Rattle.std.specs.List.{flat_map}
 use Rattle.sgb_ops.specs.Entries.{first_copy}
 use Rattle.sgb_ops.specs.Induced.{events_of_arc, events_of_copies, events_of_copy, wanted}
 use Rattle.sgb_ops.specs.Taken.{taken}

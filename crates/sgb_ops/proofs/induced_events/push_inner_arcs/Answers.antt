@@ -1,7 +1,7 @@
-use Rattle.std.proofs.Common.{◌≡◌, ℤ, w64, rules, ◌++◌, ◌∷◌, [], ◌∙◌, ◌<◌, ◌+◌, map, length, sym, ap, subst, arith}
+use Rattle.std.proofs.Common.{◌≡◌, ℤ, w64, rules, ◌++◌, ◌∷◌, [], ◌∙◌, ◌+◌, map, length, sym, ap, subst}
 use Rattle.std.specs.List.{All}
 use Rattle.std.proofs.lemmas.Int.{to_z-of_z}
-use Rattle.std.proofs.lemmas.List.Elements.{All-head, All-tail}
+use Rattle.std.proofs.lemmas.List.Elements.{All-tail}
 use Rattle.sgb_ops.specs.Entries.{inner_event, inner_events_from}
 use Rattle.sgb_ops.specs.Induced.{wanted}
 use Rattle.sgb_ops.specs.Taken.{taken}
@@ -33,6 +33,6 @@ loop-arc-preserved c =
     let whole = inner_events_from c.args.flags.directed c.args.start c.args.inner.now c.args.w in (
       All-tail (TipBelow n) arc rest (subst (All (TipBelow n)) step c.loop-arc.invariant.0),
       wanted_more self c.loop-arc.events.items c.push_wanted.new.events.items (event arc ∷ []) (map event rest) (map event c.loop-arc.arc-iterator) (c.args.events.now.items ++ wanted self whole)
-      (ap (map event) step) c.loop-arc.invariant.1
-      (c.in_ok-push_wanted.ensures.ok ∙ ap (λ e. c.loop-arc.events.items ++ wanted self (e ∷ [])) (c.new-event.ensures ∙ same)),
+          (ap (map event) step) c.loop-arc.invariant.1
+          (c.in_ok-push_wanted.ensures.ok ∙ ap (λ e. c.loop-arc.events.items ++ wanted self (e ∷ [])) (c.new-event.ensures ∙ same)),
     )
