@@ -1,9 +1,10 @@
 //! The arguments of each generator's form, and the graph that they name.
-ghost use Rattle.std.specs.Prelude.{◌≡◌, ◌<◌, ◌^◌, length, nat_abs};
+ghost use Rattle.std.specs.Prelude.{◌≡◌, ◌<◌, ◌^◌, IfOk, [], ◌∷◌, codes, length, nat_abs};
 ghost use Rattle.sgb_gen.specs.Shorthands.{complete, transitive, empty, circuit, cycle, disjoint_subsets, petersen};
 ghost use Rattle.sgb_expr.specs.Forms.{board_of, simplex_of, subsets_of, number_of};
 ghost use Rattle.sgb_expr.specs.Gives.{Gives};
 ghost use Rattle.sgb_expr.specs.Reading.{family_at, subsets_at};
+ghost use Rattle.sgb_expr.specs.Readings.{integers_at};
 
 use crate::expressions::Family;
 use crate::names::FamilyName;
@@ -28,26 +29,11 @@ pub(crate) fn family(name: FamilyName, text: &[u8]) -> Result<(Family, &[u8]), W
             Ok((Family::Simplex(simplex(numbers)), rest))
         }
         FamilyName::Subsets => subsets_arguments(text),
-        FamilyName::Complete => {
-            let ([n], rest) = integers::<1>(b"", text, b")")?;
-            Ok((Family::Board(complete(n)), rest))
-        }
-        FamilyName::Transitive => {
-            let ([n], rest) = integers::<1>(b"", text, b")")?;
-            Ok((Family::Board(transitive(n)), rest))
-        }
-        FamilyName::Empty => {
-            let ([n], rest) = integers::<1>(b"", text, b")")?;
-            Ok((Family::Board(empty(n)), rest))
-        }
-        FamilyName::Circuit => {
-            let ([n], rest) = integers::<1>(b"", text, b")")?;
-            Ok((Family::Board(circuit(n)), rest))
-        }
-        FamilyName::Cycle => {
-            let ([n], rest) = integers::<1>(b"", text, b")")?;
-            Ok((Family::Board(cycle(n)), rest))
-        }
+        FamilyName::Complete => one(text).map(|(n, rest)| (Family::Board(complete(n)), rest)),
+        FamilyName::Transitive => one(text).map(|(n, rest)| (Family::Board(transitive(n)), rest)),
+        FamilyName::Empty => one(text).map(|(n, rest)| (Family::Board(empty(n)), rest)),
+        FamilyName::Circuit => one(text).map(|(n, rest)| (Family::Board(circuit(n)), rest)),
+        FamilyName::Cycle => one(text).map(|(n, rest)| (Family::Board(cycle(n)), rest)),
         FamilyName::DisjointSubsets => {
             let ([n, k], rest) = integers::<2>(b"", text, b")")?;
             Ok((Family::Subsets(disjoint_subsets(n, k)), rest))
@@ -57,6 +43,15 @@ pub(crate) fn family(name: FamilyName, text: &[u8]) -> Result<(Family, &[u8]), W
             Ok((Family::Subsets(petersen()), rest))
         }
     }
+}
+
+// The integer of a form that has one, and the text after its `)`.
+fn one(text: &[u8]) -> Result<(i64, &[u8]), Wrong>
+    ensures read { Gives (λ x. (x.0 ∷ [], x.1.now)) result (integers_at [] 1 (codes ")") text.now) }
+    ensures bound { IfOk result (λ x. nat_abs x.0 < 10 ^ 18) }
+{
+    let ([n], rest) = integers::<1>(b"", text, b")")?;
+    Ok((n, rest))
 }
 
 // The arguments of subsets, of which the seventh is bits.
