@@ -2,6 +2,7 @@
 pub mod ChecksumLemmas
 pub mod RestoringLemmas
 pub mod LayoutLemmas
+pub mod LineLemmas
 pub mod Examples
 pub mod PartialWrites
 pub mod SoFar
