@@ -3,6 +3,7 @@ pub mod ChecksumLemmas
 pub mod RestoringLemmas
 pub mod LayoutLemmas
 pub mod LineLemmas
+pub mod LaidOutText
 pub mod Examples
 pub mod PartialWrites
 pub mod SoFar
