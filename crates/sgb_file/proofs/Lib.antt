@@ -4,6 +4,7 @@ pub mod RestoringLemmas
 pub mod LayoutLemmas
 pub mod LineLemmas
 pub mod LaidOutText
+pub mod FieldReading
 pub mod Examples
 pub mod PartialWrites
 pub mod SoFar
