@@ -5,6 +5,7 @@ pub mod LayoutLemmas
 pub mod LineLemmas
 pub mod LaidOutText
 pub mod FieldReading
+pub mod RecordReading
 pub mod Examples
 pub mod PartialWrites
 pub mod SoFar
