@@ -6,6 +6,7 @@ pub mod LineLemmas
 pub mod LaidOutText
 pub mod FieldReading
 pub mod RecordReading
+pub mod WrittenLines
 pub mod Examples
 pub mod PartialWrites
 pub mod SoFar

@@ -100,7 +100,7 @@ pub record IsField (counts : Counts) (kind : Kind) (u : Util) : Type 0 where
   pub read : IsRead (field_at counts kind) text u
   pub line : is_line text ≡ true
 
-integer_field : (counts : Counts) (u : Util) → util_fits counts.vertices counts.arcs I u ≡ true → ValueCanBeSaved u → IsField counts I u
+pub integer_field : (counts : Counts) (u : Util) → util_fits counts.vertices counts.arcs I u ≡ true → ValueCanBeSaved u → IsField counts I u
 integer_field counts Nothing fits h = absurd cc
 integer_field counts (Int i) fits h = record {
   text = signed_decimal i;
@@ -136,7 +136,7 @@ string_field counts (Str s) fits h = record {
 }
 string_field counts (Chain first) fits h = absurd cc
 
-chain_field : (counts : Counts) → AreSmall counts → (u : Util) → util_fits counts.vertices counts.arcs A u ≡ true → IsField counts A u
+pub chain_field : (counts : Counts) → AreSmall counts → (u : Util) → util_fits counts.vertices counts.arcs A u ≡ true → IsField counts A u
 chain_field counts small Nothing fits = absurd cc
 chain_field counts small (Int i) fits = absurd cc
 chain_field counts small (VertexField r) fits = absurd cc
@@ -210,11 +210,7 @@ pub fields_read : (counts : Counts) → AreSmall counts → (kinds : List Kind) 
 unfolding more_fields_at
 fields_read counts small [] [] fits h rest line = refl
 fields_read counts small [] (u ∷ utils) fits h rest line = absurd cc
-fields_read counts small (Z ∷ kinds) [] fits h rest line = absurd cc
-fields_read counts small (I ∷ kinds) [] fits h rest line = absurd cc
-fields_read counts small (V ∷ kinds) [] fits h rest line = absurd cc
-fields_read counts small (S ∷ kinds) [] fits h rest line = absurd cc
-fields_read counts small (A ∷ kinds) [] fits h rest line = absurd cc
+fields_read counts small (kind ∷ kinds) [] fits h rest line = absurd cc
 fields_read counts small (Z ∷ kinds) (Nothing ∷ utils) fits h rest line =
     ap (found_as (λ fields. Nothing ∷ fields)) (fields_read counts small kinds utils fits (All-tail ValueCanBeSaved Nothing utils h) rest line)
 fields_read counts small (Z ∷ kinds) (Int i ∷ utils) fits h rest line = absurd cc
