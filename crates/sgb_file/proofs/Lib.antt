@@ -7,6 +7,7 @@ pub mod LaidOutText
 pub mod FieldReading
 pub mod RecordReading
 pub mod WrittenLines
+pub mod FileReading
 pub mod Examples
 pub mod PartialWrites
 pub mod SoFar
