@@ -1,25 +1,23 @@
 -- Lemmas on the texts of fields: what is written is read again.
-use Rattle.std.specs.Prelude.{◌≡◌, ℕ, zero, suc, ℤ, pos, negsuc, neg_ℤ, ◌+◌, ◌*◌, ◌^◌, ◌<◌, ◌≤◌, Bool, true, false, cond, not, ◌&&◌, ◌||◌, List, [], ◌∷◌, ◌++◌, length, take, drop, codes, decimal, Option, Some, None, option_map, All, FitsSigned, nat_le, nat_lt, ◌==◌, refl}
+use Rattle.std.specs.Prelude.{◌≡◌, ℕ, zero, suc, ℤ, pos, negsuc, ◌+◌, ◌*◌, ◌^◌, ◌<◌, ◌≤◌, Bool, true, false, not, ◌||◌, List, [], ◌∷◌, ◌++◌, length, take, drop, codes, decimal, Option, Some, None, option_map, All, FitsSigned, nat_le, nat_lt, ◌==◌, refl}
 use Rattle.std.specs.Fmt.{signed_decimal}
 use Rattle.std.specs.Int.{w64}
-use Rattle.std.specs.List.{list_all, list_any, position_or_len, before_first, after_first}
+use Rattle.std.specs.List.{list_all, list_any, position_or_len}
 use Rattle.std.specs.Str.Parse.{AllDigits, digits_value}
-use Rattle.std.proofs.Common.{ap, sym, ◌∙◌, append_assoc, arith, length-append, take-append-drop}
+use Rattle.std.proofs.Common.{ap, ◌∙◌, append_assoc, arith, length-append, take-append-drop}
 use Rattle.std.proofs.Math.Seq.{take-append_seam, drop-append_seam}
 use Rattle.std.proofs.lemmas.Bool.{and_parts, and_from}
 use Rattle.std.proofs.lemmas.Bool.Decides.{nat_tests}
 use Rattle.std.proofs.lemmas.Fmt.{decimal_is_IsNumeral, length-decimal-le}
 use Rattle.std.proofs.lemmas.List.Elements.{All-head, All-tail}
 use Rattle.std.proofs.lemmas.Str.Parse.{digit_at}
-use Rattle.sgb_vec.specs.Limits.{most_bytes}
-use Rattle.sgb_vec.specs.Names.{IsText, IsTextByte}
-use Rattle.sgb_graph.specs.declared.fields.Kind.{Kind}
+use Rattle.sgb_vec.specs.Names.{IsTextByte}
 use Rattle.sgb_graph.specs.declared.fields.Ref.{Ref}
 use Rattle.sgb_graph.specs.declared.fields.Ref.TheVariants.{Null, One, At}
 use Rattle.sgb_graph.specs.Sound.{ref_fits, chain_fits}
-use Rattle.sgb_file.specs.Fields.{Found, given, found_as, is_decimal_digit, number_of, number_below, most_number_digits, most_integer_digits, integer_of, ref_of, record_number_of, is_string_byte, unbroken, string_of, string_at, plain_text, plain_at, after_prefix}
+use Rattle.sgb_file.specs.Fields.{Found, found_as, is_decimal_digit, number_of, number_below, most_number_digits, most_integer_digits, integer_of, ref_of, record_number_of, is_string_byte, unbroken, string_at, plain_text, plain_at, after_prefix}
 use Rattle.sgb_file.specs.Saving.{quoted, ref_text, record_number_text}
-use Rattle.sgb_file.proofs.LineLemmas.{not_true, is_line, is_one_line, is_within_line, ends_well, ends_well-last, list_all-drop, list_all-take, list_all-join, line-append}
+use Rattle.sgb_file.proofs.LineLemmas.{not_true, is_line, is_one_line, is_within_line, ends_well, ends_well-last, list_all-drop, list_all-take, list_all-join}
 use Rattle.sgb_file.proofs.LaidOutText.{with_breaks, breaks_within}
 
 -- a text that begins with a comma or a newline
@@ -292,7 +290,7 @@ string_says most inside s more quotes says short bytes =
     let rest : drop (length inside + 1) after ≡ more = next_after inside more in
     let fits : nat_le (length s) most ≡ true = grind (arith, nat_tests) in
     rw joined (rw (any_after (λ c. c == 34) inside 34 more refl) (rw place (rw before (rw says (rw fits (rw bytes (rw rest refl)))))))
-    where
+  where
     next_after : (x y : List ℕ) → drop (length x + 1) (x ++ 34 ∷ y) ≡ y
     next_after [] y = refl
     next_after (c ∷ x) y = let same : suc (length x) + 1 ≡ suc (length x + 1) = omega arith in rw same (next_after x y)

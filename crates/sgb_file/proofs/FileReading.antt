@@ -1,5 +1,5 @@
 -- Lemmas on whole files: what is written is a file of the graph.
-use Rattle.std.specs.Prelude.{◌≡◌, ℕ, suc, pos, ◌+◌, ◌-◌, ◌^◌, ◌<◌, ◌≤◌, Bool, true, false, not, ◌&&◌, List, [], ◌∷◌, ◌++◌, map, length, take, drop, codes, decimal, Option, Some, option_map, filter, filter_map, take_while, All, IsTrue, slice_index, nat_le, nat_lt, ◌==◌, refl, ⊤}
+use Rattle.std.specs.Prelude.{◌≡◌, ℕ, suc, pos, ◌+◌, ◌-◌, ◌^◌, ◌<◌, ◌≤◌, true, false, not, ◌&&◌, List, [], ◌∷◌, ◌++◌, map, length, take, drop, codes, decimal, Some, option_map, filter, filter_map, take_while, All, slice_index, nat_le, ◌==◌, refl, ⊤}
 use Rattle.std.specs.List.{list_all, flat_map, prefix_len}
 use Rattle.std.proofs.Common.{ap, sym, ◌∙◌, append_assoc, append-nil, arith, length-append}
 use Rattle.std.proofs.Math.Seq.{take-append_seam, drop-append_seam}
@@ -17,12 +17,12 @@ use Rattle.sgb_graph.specs.declared.fields.Vertex.{Vertex}
 use Rattle.sgb_graph.specs.declared.fields.ArcRec.{ArcRec}
 use Rattle.sgb_file.specs.FileLines.{lines_of_text, clean_lines, text_of_lines}
 use Rattle.sgb_file.specs.Checksum.{checksum_prime, weighted_sum, has_star, checksum_of_lines}
-use Rattle.sgb_file.specs.Fields.{Found, given, is_decimal_digit, number_of, most_number_digits}
+use Rattle.sgb_file.specs.Fields.{is_decimal_digit, number_of, most_number_digits}
 use Rattle.sgb_file.specs.Records.{Head, vertex_record_at, arc_record_at, records_at}
-use Rattle.sgb_file.specs.Restoring.{Opening, IsFileOf, kind_of_letter, kinds_at, leading_number, head_of_line, opening_of, graph_of_records, checksum_in_line, lines_before, line_closes, closes}
+use Rattle.sgb_file.specs.Restoring.{IsFileOf, kind_of_letter, kinds_at, leading_number, head_of_line, opening_of, checksum_in_line, closes}
 use Rattle.sgb_file.specs.Saving.{letter_of, graph_texts, vertex_texts, arc_texts, record_lines, head_line, middle_lines, checksum_line, text_of_graph}
 use Rattle.sgb_file.specs.Saved.{CanBeSaved}
-use Rattle.sgb_file.proofs.LineLemmas.{is_line, is_one_line, list_all-join, are_one_line, lines_read, clean_lines_read, clean_are_one_line, ends_well}
+use Rattle.sgb_file.proofs.LineLemmas.{is_line, is_one_line, list_all-join, lines_read, clean_lines_read, clean_are_one_line, ends_well}
 use Rattle.sgb_file.proofs.FieldReading.{decimal_digits, number_read}
 use Rattle.sgb_file.proofs.RecordReading.{AreSmall, head_of, vertex_read, arc_read, graph_read, all_read}
 use Rattle.sgb_file.proofs.WrittenLines.{IsWrittenVertex, IsWrittenRecord, vertices_written, records_written, middle_are_lines, head_is_line, checksum_is_line}

@@ -1,14 +1,14 @@
 -- Lemmas on the text of pieces that are laid out: what stands after a line's beginning.
-use Rattle.std.specs.Prelude.{◌≡◌, ℕ, zero, suc, ◌+◌, ◌-◌, ◌*◌, ◌/◌, ◌<◌, ◌≤◌, Bool, true, false, cond, not, ◌&&◌, List, [], ◌∷◌, ◌++◌, map, length, take, drop, codes, nat_le, ◌==◌, refl}
-use Rattle.std.specs.List.{list_all, flat_map, range_with_len}
+use Rattle.std.specs.Prelude.{◌≡◌, ℕ, zero, suc, ◌+◌, ◌-◌, ◌*◌, ◌<◌, ◌≤◌, Bool, true, false, cond, not, List, [], ◌∷◌, ◌++◌, map, length, take, drop, codes, ◌==◌, refl}
+use Rattle.std.specs.List.{list_all, range_with_len}
 use Rattle.std.proofs.Common.{ap, sym, ◌∙◌, append_assoc, append-nil, arith, length-append}
 use Rattle.std.proofs.lemmas.Bool.{and_parts, and_from}
 use Rattle.std.proofs.lemmas.Bool.Decides.{nat_tests}
 use Rattle.std.proofs.lemmas.Grind.{flat_map-append}
 use Rattle.std.proofs.lemmas.List.{take-append-le, drop-drop}
-use Rattle.std.proofs.lemmas.List.Folds.{list_all-append, list_all-map}
+use Rattle.std.proofs.lemmas.List.Folds.{list_all-map}
 use Rattle.sgb_file.specs.FileLines.{text_of_lines}
-use Rattle.sgb_file.specs.Saving.{most_line_bytes, breaks_of, broken_lines, last_part, fits_on, part_from_break, lines_ended, line_begun, laid_out, pieces_of, record_lines}
+use Rattle.sgb_file.specs.Saving.{breaks_of, broken_lines, last_part, fits_on, lines_ended, line_begun, laid_out, pieces_of, record_lines}
 use Rattle.sgb_file.proofs.LineLemmas.{is_line, is_one_line, is_within_line, ends_well, ends_well-last, line-append, line-drop, list_all-take, list_all-join}
 
 -- the text with so many breaks in it, each a `\` (92) and a newline (10): after its first bytes, and then after
@@ -124,11 +124,12 @@ breaks_within (suc n) first x y h =
     ∙ ap (λ t. take first x ++ 92 ∷ 10 ∷ with_breaks n 78 t) (drop_within first x y room)
     ∙ ap (λ t. take first x ++ 92 ∷ 10 ∷ t) (breaks_within n 78 (drop first x) y left)
     ∙ sym (append_assoc (take first x) (92 ∷ 10 ∷ with_breaks n 78 (drop first x)) y)
-    where
+  where
     length_left : (k : ℕ) (z : List ℕ) → length (drop k z) ≡ length z - k
     length_left zero z = omega arith
     length_left (suc k) [] = omega arith
     length_left (suc k) (b ∷ z) = length_left k z ∙ omega arith
+
     drop_within : (k : ℕ) (z w : List ℕ) → k ≤ length z → drop k (z ++ w) ≡ drop k z ++ w
     drop_within zero z w e = refl
     drop_within (suc k) [] w e = absurd (omega (arith, e))
@@ -179,7 +180,7 @@ lay_out line text (next ∷ texts) =
       few = λ some. omega (arith, short, placed.few some);
       starts = placed.starts;
     }
-    where
+  where
     few_fit : (n k : ℕ) → (0 < n → 78 * n + 1 ≤ k) → 78 + 78 * n ≤ k + 78
     few_fit zero k h = omega arith
     few_fit (suc n) k h = omega (arith, h (omega arith))

@@ -1,15 +1,13 @@
 -- Lemmas on the records of a file: what is written is read again.
-use Rattle.std.specs.Prelude.{◌≡◌, ℕ, zero, suc, ℤ, pos, negsuc, ◌+◌, ◌*◌, ◌^◌, ◌<◌, ◌≤◌, Bool, true, false, cond, not, ◌&&◌, ◌||◌, List, [], ◌∷◌, ◌++◌, length, take, drop, codes, decimal, Option, Some, None, option_map, All, FitsSigned, nat_le, nat_lt, ◌==◌, refl}
+use Rattle.std.specs.Prelude.{◌≡◌, ℕ, suc, ℤ, pos, negsuc, ◌^◌, ◌<◌, ◌≤◌, Bool, true, false, cond, ◌&&◌, List, [], ◌∷◌, ◌++◌, length, codes, decimal, Option, Some, None, option_map, All, FitsSigned, nat_lt, ◌==◌, refl}
 use Rattle.std.specs.Fmt.{signed_decimal}
 use Rattle.std.specs.Int.{w64}
 use Rattle.std.specs.List.{list_all, flat_map}
-use Rattle.std.proofs.Common.{ap, sym, ◌∙◌, append_assoc, arith}
+use Rattle.std.proofs.Common.{ap, ◌∙◌, append_assoc, arith}
 use Rattle.std.proofs.lemmas.Bool.{and_parts, and_from}
 use Rattle.std.proofs.lemmas.Bool.Decides.{nat_tests, Decides-eqb}
-use Rattle.std.proofs.lemmas.Grind.{flat_map-append}
 use Rattle.std.proofs.lemmas.List.Elements.{All-head, All-tail, All-cons, All-nil}
 use Rattle.sgb_vec.specs.Limits.{most_bytes}
-use Rattle.sgb_vec.specs.Names.{IsText, IsTextByte}
 use Rattle.sgb_graph.specs.Graphs.{GraphData}
 use Rattle.sgb_graph.specs.Ids.{most_id_bytes, IsId}
 use Rattle.sgb_graph.specs.Sound.{ref_fits, chain_fits, util_fits, utils_fit, vertex_fits, record_fits, vertex_kinds, arc_kinds, graph_kinds}
@@ -26,9 +24,9 @@ use Rattle.sgb_file.specs.Fields.{Counts, Found, given, found_as, is_decimal_dig
 use Rattle.sgb_file.specs.Records.{Head, after_comma, more_fields_at, record_at, graph_record_at, vertex_record_at, vertex_of_fields, arc_record_at, arc_of_fields, all_at}
 use Rattle.sgb_file.specs.Saving.{quoted, ref_text, record_number_text, field_texts, graph_texts, vertex_texts, arc_texts, pieces_of, record_lines}
 use Rattle.sgb_file.specs.Saved.{ValueCanBeSaved, VertexCanBeSaved, ArcCanBeSaved}
-use Rattle.sgb_file.proofs.LineLemmas.{is_line, is_one_line, is_within_line, ends_well, list_all-join}
-use Rattle.sgb_file.proofs.LaidOutText.{with_breaks, after_line, after_field, lay_out, laid_out_text, record_are_lines}
-use Rattle.sgb_file.proofs.FieldReading.{Ends, AreFew, IsRead, is_read_as, decimal_digits, number_is_read, integer_is_read, ref_is_read, record_number_is_read, string_is_read, quoted_is_line}
+use Rattle.sgb_file.proofs.LineLemmas.{is_line, is_one_line, is_within_line, ends_well}
+use Rattle.sgb_file.proofs.LaidOutText.{with_breaks, after_line, after_field, lay_out, laid_out_text}
+use Rattle.sgb_file.proofs.FieldReading.{Ends, IsRead, is_read_as, decimal_digits, number_is_read, integer_is_read, ref_is_read, record_number_is_read, string_is_read, quoted_is_line}
 
 -- counts that numbers of 18 digits reach
 pub record AreSmall (counts : Counts) : Type 0 where
