@@ -8,6 +8,7 @@ pub mod FieldReading
 pub mod RecordReading
 pub mod WrittenLines
 pub mod FileReading
+pub mod SavedGraphs
 pub mod Examples
 pub mod PartialWrites
 pub mod SoFar

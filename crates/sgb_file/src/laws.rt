@@ -5,6 +5,10 @@ ghost use Rattle.sgb_file.specs.Restoring.{IsFileOf, graph_of_text};
 ghost use Rattle.sgb_file.specs.Saved.{CanBeSaved};
 ghost use Rattle.sgb_file.specs.Saving.{breaks_of, most_line_bytes, part_from_break, record_lines, text_of_graph};
 
+mod saved_graphs;
+
+pub use saved_graphs::graphs_can_be_saved;
+
 /// The order of bytes in the checksum is a bijection on the 96 characters of a file (GB_IO, imap_chr):
 /// each has a place below 96, and each place has one character.
 pub fn checksum_order_law()
