@@ -14,6 +14,7 @@ use Rattle.std.proofs.lemmas.Str.Parse.{digit_at}
 use Rattle.sgb_vec.specs.Names.{IsTextByte}
 use Rattle.sgb_graph.specs.declared.fields.Ref.{Ref}
 use Rattle.sgb_graph.specs.declared.fields.Ref.TheVariants.{Null, One, At}
+use Rattle.sgb_graph.proofs.Lists.{list_all-weaker}
 use Rattle.sgb_graph.specs.Sound.{ref_fits, chain_fits}
 use Rattle.sgb_file.specs.Fields.{Found, found_as, is_decimal_digit, number_of, number_below, most_number_digits, most_integer_digits, integer_of, ref_of, record_number_of, is_string_byte, unbroken, string_at, plain_text, plain_at, after_prefix}
 use Rattle.sgb_file.specs.Saving.{quoted, ref_text, record_number_text}
@@ -105,10 +106,7 @@ digit_is_plain : (b : ℕ) → is_decimal_digit b ≡ true → is_plain_byte b �
 digit_is_plain b h = grind (arith, nat_tests)
 
 digits_are_plain : (text : List ℕ) → list_all is_decimal_digit text ≡ true → list_all is_plain_byte text ≡ true
-digits_are_plain [] h = refl
-digits_are_plain (b ∷ text) h =
-    let parts = and_parts (is_decimal_digit b) (list_all is_decimal_digit text) h in
-    and_from (is_plain_byte b) (list_all is_plain_byte text) (digit_is_plain b parts.0) (digits_are_plain text parts.1)
+digits_are_plain text h = list_all-weaker is_decimal_digit is_plain_byte text digit_is_plain h
 
 -- digits as std has them are decimal digits
 digit_tested : (b : ℕ) → (48 ≤ b) × (b ≤ 57) → is_decimal_digit b ≡ true
@@ -185,7 +183,7 @@ below_read limit n most h =
     let small : nat_lt n limit ≡ true = grind (arith, nat_tests) in
     rw (number_read most_number_digits n (omega arith) (omega (arith, most, h)) (omega (arith, most, h))) (rw small refl)
 
-test_below : (n limit : ℕ) → nat_lt n limit ≡ true → n < limit
+pub test_below : (n limit : ℕ) → nat_lt n limit ≡ true → n < limit
 test_below n limit e = grind (arith, nat_tests)
 
 -- a vertex is read of its text
@@ -218,13 +216,6 @@ pub string_bytes : (text : List ℕ) → All IsTextByte text → list_all is_str
 string_bytes [] h = refl
 string_bytes (b ∷ text) h =
     and_from (is_string_byte b) (list_all is_string_byte text) (string_byte b (All-head IsTextByte b text h)) (string_bytes text (All-tail IsTextByte b text h))
-
--- where each byte passes one test, it passes another
-all_by : (p q : ℕ → Bool) → ((b : ℕ) → p b ≡ true → q b ≡ true) → (text : List ℕ) → list_all p text ≡ true → list_all q text ≡ true
-all_by p q follows [] h = refl
-all_by p q follows (b ∷ text) h =
-    let parts = and_parts (p b) (list_all p text) h in
-    and_from (q b) (list_all q text) (follows b parts.0) (all_by p q follows text parts.1)
 
 -- no byte of a text is a quote, or a backslash
 abbrev no_quotes : List ℕ → Bool
@@ -298,8 +289,8 @@ string_says most inside s more quotes says short bytes =
 pub string_is_read : (most : ℕ) (s : List ℕ) → length s ≤ most → All IsTextByte s → IsRead (string_at most) (quoted s) s
 string_is_read most s short printable =
     let bytes = string_bytes s printable in
-    let quotes = all_by is_string_byte (λ b. not (b == 34)) (λ b h. grind (arith, nat_tests)) s bytes in
-    let slashes = all_by is_string_byte (λ b. not (b == 92)) (λ b h. grind (arith, nat_tests)) s bytes in
+    let quotes = list_all-weaker is_string_byte (λ b. not (b == 34)) s (λ b h. grind (arith, nat_tests)) bytes in
+    let slashes = list_all-weaker is_string_byte (λ b. not (b == 92)) s (λ b h. grind (arith, nat_tests)) bytes in
     record {
       reads = λ breaks more few e.
           ap (λ x. string_at most (x ++ more)) (quoted_breaks breaks s few)
@@ -308,14 +299,11 @@ string_is_read most s short printable =
           ap (λ x. after_prefix (codes "\n") (x ++ more)) (quoted_breaks breaks s few);
     }
 
--- each text of a field is a line as it is written
-plain_within : (b : ℕ) → is_plain_byte b ≡ true → is_within_line b ≡ true
-plain_within b h = grind (arith, nat_tests)
-
+-- a quoted text is a line as it is written
 string_within : (b : ℕ) → is_string_byte b ≡ true → is_within_line b ≡ true
 string_within b h = grind (arith, nat_tests)
 
 pub quoted_is_line : (s : List ℕ) → All IsTextByte s → is_line (quoted s) ≡ true
 quoted_is_line s h =
-    let bytes = all_by is_string_byte is_within_line string_within s (string_bytes s h) in
+    let bytes = list_all-weaker is_string_byte is_within_line s string_within (string_bytes s h) in
     and_from (is_one_line (quoted s)) (ends_well (quoted s)) (list_all-join is_within_line s (34 ∷ []) bytes refl) (ends_well-last (34 ∷ s) 34 refl)

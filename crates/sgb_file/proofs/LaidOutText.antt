@@ -6,7 +6,7 @@ use Rattle.std.proofs.lemmas.Bool.{and_parts, and_from}
 use Rattle.std.proofs.lemmas.Bool.Decides.{nat_tests}
 use Rattle.std.proofs.lemmas.Grind.{flat_map-append}
 use Rattle.std.proofs.lemmas.List.{take-append-le, drop-drop}
-use Rattle.std.proofs.lemmas.List.Folds.{list_all-map}
+use Rattle.sgb_graph.proofs.Lists.{list_all-made}
 use Rattle.sgb_file.specs.FileLines.{text_of_lines}
 use Rattle.sgb_file.specs.Saving.{breaks_of, broken_lines, last_part, fits_on, lines_ended, line_begun, laid_out, pieces_of, record_lines}
 use Rattle.sgb_file.proofs.LineLemmas.{is_line, is_one_line, is_within_line, ends_well, ends_well-last, line-append, line-drop, list_all-take, list_all-join}
@@ -194,12 +194,9 @@ broken_is_line piece h k =
     (list_all-join is_within_line part (92 ∷ []) (list_all-take is_within_line 78 (drop (78 * k) piece) left.0) refl)
     (ends_well-last part 92 refl)
 
-passes_all : {X : Type 0} (test : X → Bool) → ((x : X) → test x ≡ true) → (xs : List X) → list_all test xs ≡ true
-passes_all test each [] = refl
-passes_all test each (x ∷ xs) = rw (each x) (passes_all test each xs)
-
 broken_are_lines : (piece : List ℕ) → is_line piece ≡ true → list_all is_line (broken_lines piece) ≡ true
-broken_are_lines piece h = rw list_all-map (passes_all _ (broken_is_line piece h) (range_with_len 0 (breaks_of piece)))
+broken_are_lines piece h =
+    list_all-made is_line (λ k. take 78 (drop (78 * k) piece) ++ 92 ∷ []) (range_with_len 0 (breaks_of piece)) (broken_is_line piece h)
 
 ended_are_lines : (fits empty : Bool) (line piece : List ℕ) → is_line line ≡ true → is_line piece ≡ true
     → list_all is_line (cond fits [] (cond empty [] (line ∷ []) ++ broken_lines piece)) ≡ true

@@ -6,6 +6,7 @@ use Rattle.std.proofs.lemmas.Bool.{and_parts, and_from}
 use Rattle.std.proofs.lemmas.List.{map-append}
 use Rattle.std.proofs.lemmas.List.Folds.{list_all-append}
 use Rattle.std.proofs.lemmas.Bool.Decides.{nat_tests}
+use Rattle.sgb_graph.proofs.Lists.{list_all-weaker, list_all-mapped, map-stays}
 use Rattle.sgb_file.specs.FileLines.{lines_among, lines_of_text, without_end_spaces, clean_lines, text_of_lines}
 
 -- the byte is no newline
@@ -87,19 +88,12 @@ stays_clean (b ∷ []) h = rw (not_true (b == 32) h) refl
 stays_clean (b ∷ c ∷ line) h = rw (stays_clean (c ∷ line) h) (not_empty (b == 32) b c line)
 
 -- lines that end with no space stay as they are
-pub stay_clean : (lines : List (List ℕ)) → list_all is_line lines ≡ true → map without_end_spaces lines ≡ lines
-stay_clean [] h = refl
-stay_clean (line ∷ lines) h =
-    let parts = and_parts (is_line line) (list_all is_line lines) h in
-    let clean = stays_clean line (and_parts (is_one_line line) (ends_well line) parts.0).1 in
-    ap (λ l. l ∷ map without_end_spaces lines) clean ∙ ap (λ ls. line ∷ ls) (stay_clean lines parts.1)
+stay_clean : (lines : List (List ℕ)) → list_all is_line lines ≡ true → map without_end_spaces lines ≡ lines
+stay_clean lines h = map-stays is_line without_end_spaces lines (λ line e. stays_clean line (and_parts (is_one_line line) (ends_well line) e).1) h
 
 -- lines as they are written have no newlines in them
 pub are_one_line : (lines : List (List ℕ)) → list_all is_line lines ≡ true → list_all is_one_line lines ≡ true
-are_one_line [] h = refl
-are_one_line (line ∷ lines) h =
-    let parts = and_parts (is_line line) (list_all is_line lines) h in
-    and_from (is_one_line line) (list_all is_one_line lines) (and_parts (is_one_line line) (ends_well line) parts.0).0 (are_one_line lines parts.1)
+are_one_line lines h = list_all-weaker is_line is_one_line lines (λ line e. (and_parts (is_one_line line) (ends_well line) e).0) h
 
 -- the clean lines of a text are those that it was made of, and then those of what follows
 pub clean_lines_read : (lines : List (List ℕ)) (more : List ℕ) → list_all is_line lines ≡ true → clean_lines (text_of_lines lines ++ more) ≡ lines ++ clean_lines more
@@ -143,16 +137,11 @@ cleaned_in_line (b ∷ line) h =
     let parts = and_parts (is_within_line b) (is_one_line line) h in
     without_in_line (b == 32 && length (without_end_spaces line) == 0) b (without_end_spaces line) parts.0 (cleaned_in_line line parts.1)
 
-cleaned_are_in_line : (lines : List (List ℕ)) → list_all is_one_line lines ≡ true → list_all is_one_line (map without_end_spaces lines) ≡ true
-cleaned_are_in_line [] h = refl
-cleaned_are_in_line (line ∷ lines) h =
-    let parts = and_parts (is_one_line line) (list_all is_one_line lines) h in
-    and_from (is_one_line (without_end_spaces line)) (list_all is_one_line (map without_end_spaces lines)) (cleaned_in_line line parts.0) (cleaned_are_in_line lines parts.1)
-
 -- the clean lines of any text have no newlines
 pub clean_are_one_line : (text : List ℕ) → list_all is_one_line (clean_lines text) ≡ true
 clean_are_one_line text =
-    cleaned_are_in_line (lines_of_text text) (among_in_line (slice_split (λ b. b == 10) text) (parts_in_line text))
+    list_all-mapped is_one_line is_one_line without_end_spaces (lines_of_text text) cleaned_in_line
+    (among_in_line (slice_split (λ b. b == 10) text) (parts_in_line text))
 
 -- a line is one with a part after it, or with its beginning left out
 pub ends_well-append : (x y : List ℕ) → ends_well x ≡ true → ends_well y ≡ true → ends_well (x ++ y) ≡ true

@@ -8,6 +8,7 @@ use Rattle.std.proofs.lemmas.Bool.{and_parts, and_from}
 use Rattle.std.proofs.lemmas.Bool.Decides.{nat_tests, Decides-eqb}
 use Rattle.std.proofs.lemmas.List.Elements.{All-head, All-tail, All-cons, All-nil}
 use Rattle.sgb_vec.specs.Limits.{most_bytes}
+use Rattle.sgb_graph.proofs.Lists.{list_all-weaker}
 use Rattle.sgb_graph.specs.Graphs.{GraphData}
 use Rattle.sgb_graph.specs.Ids.{most_id_bytes, IsId}
 use Rattle.sgb_graph.specs.Sound.{ref_fits, chain_fits, util_fits, utils_fit, vertex_fits, record_fits, vertex_kinds, arc_kinds, graph_kinds}
@@ -26,7 +27,7 @@ use Rattle.sgb_file.specs.Saving.{quoted, ref_text, record_number_text, field_te
 use Rattle.sgb_file.specs.Saved.{ValueCanBeSaved, VertexCanBeSaved, ArcCanBeSaved}
 use Rattle.sgb_file.proofs.LineLemmas.{is_line, is_one_line, is_within_line, ends_well}
 use Rattle.sgb_file.proofs.LaidOutText.{with_breaks, after_line, after_field, lay_out, laid_out_text}
-use Rattle.sgb_file.proofs.FieldReading.{Ends, IsRead, is_read_as, decimal_digits, number_is_read, integer_is_read, ref_is_read, record_number_is_read, string_is_read, quoted_is_line}
+use Rattle.sgb_file.proofs.FieldReading.{Ends, test_below, IsRead, is_read_as, decimal_digits, number_is_read, integer_is_read, ref_is_read, record_number_is_read, string_is_read, quoted_is_line}
 
 -- counts that numbers of 18 digits reach
 pub record AreSmall (counts : Counts) : Type 0 where
@@ -37,13 +38,8 @@ pub record AreSmall (counts : Counts) : Type 0 where
 abbrev is_visible : ℕ → Bool
 is_visible b = nat_lt 32 b
 
-visible_within : (text : List ℕ) → list_all is_visible text ≡ true → is_one_line text ≡ true
-visible_within [] h = refl
-visible_within (b ∷ text) h =
-    let parts = and_parts (is_visible b) (list_all is_visible text) h in
-    let byte : is_visible b ≡ true = parts.0 in
-    let within : is_within_line b ≡ true = grind (arith, nat_tests) in
-    and_from (is_within_line b) (is_one_line text) within (visible_within text parts.1)
+visible_within : (b : ℕ) → is_visible b ≡ true → is_within_line b ≡ true
+visible_within b h = grind (arith, nat_tests)
 
 visible_ends_well : (text : List ℕ) → list_all is_visible text ≡ true → ends_well text ≡ true
 unfolding ends_well
@@ -53,18 +49,13 @@ visible_ends_well (b ∷ c ∷ text) h = visible_ends_well (c ∷ text) (and_par
 
 -- a text of such bytes is a line as it is written
 pub visible_is_line : (text : List ℕ) → list_all is_visible text ≡ true → is_line text ≡ true
-visible_is_line text h = and_from (is_one_line text) (ends_well text) (visible_within text h) (visible_ends_well text h)
+visible_is_line text h = and_from (is_one_line text) (ends_well text) (list_all-weaker is_visible is_within_line text visible_within h) (visible_ends_well text h)
 
-digits_visible : (text : List ℕ) → list_all is_decimal_digit text ≡ true → list_all is_visible text ≡ true
-digits_visible [] h = refl
-digits_visible (b ∷ text) h =
-    let parts = and_parts (is_decimal_digit b) (list_all is_decimal_digit text) h in
-    let digit : is_decimal_digit b ≡ true = parts.0 in
-    let byte : is_visible b ≡ true = grind (arith, nat_tests) in
-    and_from (is_visible b) (list_all is_visible text) byte (digits_visible text parts.1)
+digit_visible : (b : ℕ) → is_decimal_digit b ≡ true → is_visible b ≡ true
+digit_visible b h = grind (arith, nat_tests)
 
 pub decimal_visible : (n : ℕ) → n < 2 ^ 64 → list_all is_visible (decimal n) ≡ true
-decimal_visible n h = digits_visible (decimal n) (decimal_digits n h)
+decimal_visible n h = list_all-weaker is_decimal_digit is_visible (decimal n) digit_visible (decimal_digits n h)
 
 pub decimal_is_line : (n : ℕ) → n < 2 ^ 64 → is_line (decimal n) ≡ true
 decimal_is_line n h = visible_is_line (decimal n) (decimal_visible n h)
@@ -76,9 +67,6 @@ lettered_is_line b n e h = visible_is_line (b ∷ decimal n) (and_from (is_visib
 integer_is_line : (i : ℤ) → FitsSigned w64 i → is_line (signed_decimal i) ≡ true
 integer_is_line (pos n) h = decimal_is_line n (omega (arith, h))
 integer_is_line (negsuc n) h = lettered_is_line 45 (suc n) refl (omega (arith, h))
-
-test_below : (n limit : ℕ) → nat_lt n limit ≡ true → n < limit
-test_below n limit e = grind (arith, nat_tests)
 
 ref_is_line : (n : ℕ) (r : Ref) → n ≤ 10 ^ 18 → ref_fits n r ≡ true → is_line (ref_text r) ≡ true
 unfolding ends_well

@@ -1,5 +1,5 @@
 -- Lemmas on the graphs that can be saved, found so an element at a time.
-use Rattle.std.specs.Prelude.{◌≡◌, ℕ, suc, ◌+◌, ◌-◌, ◌<◌, ◌≤◌, ◌⊎◌, Bool, true, false, ◌&&◌, List, [], ◌∷◌, length, drop, get_or, Some, slice_get, All, refl}
+use Rattle.std.specs.Prelude.{◌≡◌, ℕ, suc, ◌+◌, ◌<◌, ◌≤◌, true, ◌&&◌, List, [], ◌∷◌, length, get_or, Some, slice_get, All, refl}
 use Rattle.std.specs.List.{list_all}
 use Rattle.std.proofs.Common.{ap, sym, ◌∙◌, arith, inl, inr, subst, length-drop}
 use Rattle.std.proofs.lemmas.Bool.{and_parts, cases_lt}

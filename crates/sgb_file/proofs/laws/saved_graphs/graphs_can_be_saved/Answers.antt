@@ -1,4 +1,4 @@
-use Rattle.std.proofs.Common.{◌≡◌, length, sym, ap, ◌∙◌}
+use Rattle.std.proofs.Common.{length, sym, ap, ◌∙◌}
 use Rattle.sgb_file.proofs.SavedGraphs.{six_fields}
 use Rattle.sgb_file.proofs.laws.saved_graphs.graphs_can_be_saved.Goals as goal
 
