@@ -4,12 +4,13 @@ ghost use Rattle.sgb_file.specs.Saved.{ArcCanBeSaved, CanBeSaved, ValueCanBeSave
 use sgb_graph::{ArcRec, Graph, Kind, Util, Vertex};
 
 /// Every graph can be saved whose numbers of arcs and of arc records have at most 18 digits (GB_SAVE,
-/// save_graph). It returns nothing; it reads the graph once.
+/// save_graph).
 pub fn graphs_can_be_saved(graph: &Graph)
     requires arcs { graph.now.m < number_limit }
     requires records { length graph.now.records < number_limit }
     ensures { CanBeSaved graph.now }
 {
+    // What a type keeps, as that a name is a text, is known of a value that is read. So each part is read once.
     let _n = graph.n();
     let _id = graph.id().bytes();
     are_fourteen(graph.kinds());
