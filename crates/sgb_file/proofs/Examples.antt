@@ -4,3 +4,4 @@ pub mod GraphFiles
 pub mod Restoring
 pub mod Refusals
 pub mod Saving
+pub mod SavedGraphs

@@ -1,8 +1,13 @@
-ghost use Rattle.std.specs.Prelude.{ℕ, List, ◌↔◌, ◌≡◌, ◌<◌, ◌≤◌, All, Ok, length};
+ghost use Rattle.std.specs.Prelude.{ℕ, List, ◌↔◌, ◌≡◌, ◌<◌, ◌≤◌, ◌++◌, All, Ok, length};
 ghost use Rattle.sgb_graph.specs.Graphs.{GraphData};
 ghost use Rattle.sgb_file.specs.Checksum.{IsOrder, checksum, running_checksum};
 ghost use Rattle.sgb_file.specs.Restoring.{IsFileOf, graph_of_text};
-ghost use Rattle.sgb_file.specs.Saving.{breaks_of, most_line_bytes, part_from_break, record_lines};
+ghost use Rattle.sgb_file.specs.Saved.{CanBeSaved};
+ghost use Rattle.sgb_file.specs.Saving.{breaks_of, most_line_bytes, part_from_break, record_lines, text_of_graph};
+
+mod saved_graphs;
+
+pub use saved_graphs::graphs_can_be_saved;
 
 /// The order of bytes in the checksum is a bijection on the 96 characters of a file (GB_IO, imap_chr):
 /// each has a place below 96, and each place has one character.
@@ -26,4 +31,10 @@ pub fn read_text_law()
 pub fn line_bytes_law()
     ensures lines { (texts : List (List ℕ)) → All (λ line. length line ≤ most_line_bytes) (record_lines texts) }
     ensures broken { (piece : List ℕ) (k : ℕ) → (k < breaks_of piece) ↔ (most_line_bytes < length (part_from_break piece k)) }
+{}
+
+/// What is written is read again as the same graph, whatever follows it (GB_SAVE, save_graph and restore_graph).
+pub fn written_is_read_law()
+    ensures file { (g : GraphData) (more : List ℕ) → CanBeSaved g → IsFileOf g (text_of_graph g ++ more) }
+    ensures read { (g : GraphData) (more : List ℕ) → CanBeSaved g → graph_of_text (text_of_graph g ++ more) ≡ Ok g }
 {}

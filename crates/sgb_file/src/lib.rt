@@ -9,4 +9,7 @@ pub use devices::{
     Buffered, CutSink, CutSource, Failed, FromRead, MemSink, MemSource, Sink, Source, ToWrite,
     put_all,
 };
-pub use laws::{checksum_order_law, line_bytes_law, read_text_law, running_checksum_law};
+pub use laws::{
+    checksum_order_law, graphs_can_be_saved, line_bytes_law, read_text_law, running_checksum_law,
+    written_is_read_law,
+};

@@ -1,0 +1,140 @@
+-- Graphs that can be saved, at each limit, and what becomes of a file past it.
+use Rattle.std.specs.Prelude.{◌≡◌, ℕ, pos, negsuc, true, List, [], ◌∷◌, ◌++◌, codes, replicate, Some, None, Err, All, refl}
+use Rattle.std.specs.List.{list_all}
+use Rattle.std.specs.Fmt.{digits}
+use Rattle.std.proofs.Common.{arith}
+use Rattle.std.proofs.lemmas.Bool.{and_parts}
+use Rattle.std.proofs.lemmas.Bool.Decides.{nat_tests}
+use Rattle.std.proofs.lemmas.List.Elements.{All-nil, All-cons}
+use Rattle.sgb_vec.specs.Names.{IsText, IsTextByte}
+use Rattle.sgb_vec.specs.declared.panics.Panic.TheVariants.{Early, Syntax}
+use Rattle.sgb_graph.specs.Graphs.{GraphData, ends_from, numbers_from}
+use Rattle.sgb_graph.specs.declared.fields.Kind.{Kind}
+use Rattle.sgb_graph.specs.declared.fields.Kind.TheVariants.{Z, I, V, S, A}
+use Rattle.sgb_graph.specs.declared.fields.Ref.TheVariants.{Null, One, At}
+use Rattle.sgb_graph.specs.declared.fields.Util.{Util}
+use Rattle.sgb_graph.specs.declared.fields.Util.TheVariants.{Nothing, Int, Vertex as VertexField, Str, Chain}
+use Rattle.sgb_graph.specs.declared.fields.Vertex.{Vertex}
+use Rattle.sgb_graph.specs.declared.fields.ArcRec.{ArcRec}
+use Rattle.sgb_file.specs.FileLines.{lines_among, without_end_spaces}
+use Rattle.sgb_file.specs.Checksum.{weighted_sum}
+use Rattle.sgb_file.specs.Fields.{is_string_byte, unbroken}
+use Rattle.sgb_file.specs.Records.{more_fields_at, all_at}
+use Rattle.sgb_file.specs.Restoring.{opening_of, graph_of_text}
+use Rattle.sgb_file.specs.Saving.{pieces_of, laid_out, text_of_graph}
+use Rattle.sgb_file.specs.Saved.{CanBeSaved, ValueCanBeSaved, VertexCanBeSaved, ArcCanBeSaved}
+
+-- bytes that pass the test of a string's bytes
+text_byte : (b : ℕ) → is_string_byte b ≡ true → IsTextByte b
+text_byte b h = record {
+  from_space = grind (arith, nat_tests);
+  to_tilde = grind (arith, nat_tests);
+  no_quote = λ e. grind (arith, nat_tests);
+  no_backslash = λ e. grind (arith, nat_tests);
+}
+
+text_bytes : (text : List ℕ) → list_all is_string_byte text ≡ true → All IsTextByte text
+text_bytes [] h = All-nil IsTextByte
+text_bytes (b ∷ text) h =
+    let parts = and_parts (is_string_byte b) (list_all is_string_byte text) h in
+    All-cons IsTextByte b text (text_byte b parts.0) (text_bytes text parts.1)
+
+-- a name of the most bytes, and an id of the most bytes
+abbrev longest_name : List ℕ
+longest_name = replicate 4095 126
+
+abbrev longest_id : List ℕ
+longest_id = replicate 160 32
+
+-- the fields of a vertex: an integer, a vertex, a string and an arc
+abbrev last_vertex : Vertex
+last_vertex = record {
+  name = longest_name;
+  arcs = Some 0;
+  util = Nothing ∷ Int (negsuc 9223372036854775807) ∷ VertexField One ∷ Str longest_name ∷ Chain None ∷ Nothing ∷ [];
+}
+
+abbrev last_arc : ArcRec
+last_arc = record { tip = At 0; next = None; len = negsuc 9223372036854775807; a = Int (pos 9223372036854775807); b = VertexField Null }
+
+-- a graph at the limits
+abbrev pub at_limits : GraphData
+at_limits = record {
+  id = longest_id;
+  m = 999999999999999999;
+  kinds = Z ∷ I ∷ V ∷ S ∷ A ∷ Z ∷ I ∷ V ∷ I ∷ Z ∷ Z ∷ Z ∷ Z ∷ Z ∷ [];
+  util = Int (pos 9223372036854775807) ∷ Nothing ∷ Nothing ∷ Nothing ∷ Nothing ∷ Nothing ∷ [];
+  vertices = last_vertex ∷ [];
+  records = last_arc ∷ [];
+}
+
+name_is_text : IsText longest_name
+name_is_text = record { short = omega arith; printable = text_bytes longest_name refl }
+
+all_values : (a b c d e f : Util) → ValueCanBeSaved a → ValueCanBeSaved b → ValueCanBeSaved c → ValueCanBeSaved d → ValueCanBeSaved e → ValueCanBeSaved f → All ValueCanBeSaved (a ∷ b ∷ c ∷ d ∷ e ∷ f ∷ [])
+all_values a b c d e f ha hb hc hd he hf =
+    All-cons ValueCanBeSaved a (b ∷ c ∷ d ∷ e ∷ f ∷ []) ha
+    (All-cons ValueCanBeSaved b (c ∷ d ∷ e ∷ f ∷ []) hb
+    (All-cons ValueCanBeSaved c (d ∷ e ∷ f ∷ []) hc
+    (All-cons ValueCanBeSaved d (e ∷ f ∷ []) hd
+    (All-cons ValueCanBeSaved e (f ∷ []) he (All-cons ValueCanBeSaved f [] hf (All-nil ValueCanBeSaved))))))
+
+-- it can be saved
+pub limits_can_be_saved : CanBeSaved at_limits
+unfolding ends_from numbers_from
+limits_can_be_saved = record {
+  graph = record { vertices_fit = refl; fields = refl; lists = refl };
+  kinds = refl;
+  id = record { short = omega arith; printable = text_bytes longest_id refl };
+  arcs_counted = omega arith;
+  records_counted = omega arith;
+  util = all_values (Int (pos 9223372036854775807)) Nothing Nothing Nothing Nothing Nothing (omega arith) tt tt tt tt tt;
+  vertices = All-cons VertexCanBeSaved last_vertex [] (record {
+    name = name_is_text;
+    util = all_values Nothing (Int (negsuc 9223372036854775807)) (VertexField One) (Str longest_name) (Chain None) Nothing tt (omega arith) tt name_is_text tt tt;
+  }) (All-nil VertexCanBeSaved);
+  records = All-cons ArcCanBeSaved last_arc [] (record { len = omega arith; a = omega arith; b = tt }) (All-nil ArcCanBeSaved);
+}
+
+-- a graph of no vertices, with an integer
+abbrev small : List ℕ → ℕ → List Kind → Util → GraphData
+small text arcs own value = record {
+  id = text;
+  m = arcs;
+  kinds = replicate 8 Z ++ own;
+  util = value ∷ Nothing ∷ Nothing ∷ Nothing ∷ Nothing ∷ Nothing ∷ [];
+  vertices = [];
+  records = [];
+}
+
+abbrev one_integer : List Kind
+one_integer = I ∷ replicate 5 Z
+
+-- one arc too many
+pub arcs_past_limit : graph_of_text (text_of_graph (small (codes "a") 1000000000000000000 one_integer (Int (pos 1)))) ≡ Err Syntax
+unfolding digits weighted_sum pieces_of laid_out lines_among without_end_spaces unbroken more_fields_at all_at opening_of ends_from numbers_from
+arcs_past_limit = refl
+
+-- fifteen kinds
+pub kinds_past_limit : graph_of_text (text_of_graph (small (codes "a") 0 (one_integer ++ Z ∷ []) (Int (pos 1)))) ≡ Err Early
+unfolding digits weighted_sum pieces_of laid_out lines_among without_end_spaces unbroken more_fields_at all_at opening_of ends_from numbers_from
+kinds_past_limit = refl
+
+-- an id of 161 bytes, and one with a quote in it
+pub id_past_limit : graph_of_text (text_of_graph (small (replicate 161 97) 0 one_integer (Int (pos 1)))) ≡ Err Syntax
+unfolding digits weighted_sum pieces_of laid_out lines_among without_end_spaces unbroken more_fields_at all_at opening_of ends_from numbers_from
+id_past_limit = refl
+
+pub id_with_quote : graph_of_text (text_of_graph (small (codes "a\"b") 0 one_integer (Int (pos 1)))) ≡ Err Syntax
+unfolding digits weighted_sum pieces_of laid_out lines_among without_end_spaces unbroken more_fields_at all_at opening_of ends_from numbers_from
+id_with_quote = refl
+
+-- an integer of more than 64 bits
+pub integer_past_limit : graph_of_text (text_of_graph (small (codes "a") 0 one_integer (Int (pos 9223372036854775808)))) ≡ Err Syntax
+unfolding digits weighted_sum pieces_of laid_out lines_among without_end_spaces unbroken more_fields_at all_at opening_of ends_from numbers_from
+integer_past_limit = refl
+
+-- a string of 4,096 bytes
+pub string_past_limit : graph_of_text (text_of_graph (small (codes "a") 0 (S ∷ replicate 5 Z) (Str (replicate 4096 97)))) ≡ Err Syntax
+unfolding digits weighted_sum pieces_of laid_out lines_among without_end_spaces unbroken more_fields_at all_at opening_of ends_from numbers_from
+string_past_limit = refl

@@ -1,0 +1,7 @@
+use Rattle.sgb_file.specs.Saved.{ValueCanBeSaved}
+use Rattle.sgb_file.proofs.SavedGraphs.{HoldsOfFirst}
+use Rattle.sgb_file.proofs.laws.saved_graphs.values_can_be_saved.Given as goal
+
+-- the values read so far can be saved
+abbrev pub invariant-loop-value : goal.invariant-loop-value
+invariant-loop-value l = HoldsOfFirst ValueCanBeSaved l.values l.value-index
