@@ -7,6 +7,7 @@ mod graphs;
 mod ids;
 mod laws;
 mod names;
+mod parts;
 
 pub use fields::{ArcRec, Kind, Link, Ref, Util, Vertex};
 pub use flips::Flip;
@@ -16,3 +17,4 @@ pub use laws::{
     arcs_law, described_law, edges_law, events_law, lists_law, random_numbers_law, uniform_draw_law,
 };
 pub use names::Names;
+pub use parts::Parts;
