@@ -1,14 +1,14 @@
 -- Parts that were checked: what fits, and the graph that they make up.
-use Rattle.std.proofs.Common.{◌≡◌, ◌≤◌, ◌^◌, ◌&&◌, ℕ, Bool, true, List, [], ◌∷◌, length, slice_index_or, refl, ap, sym, ◌∙◌, arith}
-use Rattle.std.specs.Prelude.{nat_le}
+use Rattle.std.proofs.Common.{◌≡◌, ◌⊎◌, ◌&&◌, ℕ, Bool, true, false, List, [], ◌∷◌, length, slice_index_or, refl, ap, sym, ◌∙◌, inl, inr, arith}
+use Rattle.std.specs.Prelude.{nat_le, Ok, Err, if◌then◌else◌}
 use Rattle.std.specs.List.{list_all, zip}
 use Rattle.std.proofs.Math.Bool.{and-true}
-use Rattle.std.proofs.lemmas.Bool.{and_parts, and_from}
+use Rattle.std.proofs.lemmas.Bool.{and_parts, and_from, cases_Bool}
 use Rattle.sgb_vec.specs.Limits.{most_vertices}
+use Rattle.sgb_vec.specs.declared.panics.Panic.TheVariants.{Syntax}
 use Rattle.sgb_graph.specs.Graphs.{GraphData, ends_of}
 use Rattle.sgb_graph.specs.Sound.{IsGraph, util_fits, utils_fit, fields_fit, is_sound, chains_end, chain_fits, graph_kinds, record_fits, vertex_fits, vertex_kinds}
-use Rattle.sgb_graph.specs.Growth.{IsKept}
-use Rattle.sgb_graph.specs.Parts.{is_graph}
+use Rattle.sgb_graph.specs.Parts.{is_graph, checked}
 use Rattle.sgb_graph.specs.declared.fields.Kind.{Kind}
 use Rattle.sgb_graph.specs.declared.fields.Util.{Util}
 use Rattle.sgb_graph.specs.declared.fields.Vertex.{Vertex}
@@ -57,6 +57,14 @@ passes_graph g is =
     and_from (nat_le (length g.vertices) most_vertices && fields_fit g) (is_sound g)
     (and_from (nat_le (length g.vertices) most_vertices) (fields_fit g) is.vertices_fit is.fields) is.lists
 
--- they are kept as one
-pub is_kept_from : (g : GraphData) → g.m ≤ 10 ^ 18 → is_graph g ≡ true → IsKept g
-is_kept_from g few e = record { graph = is_graph_from g e; count = omega arith }
+-- so parts that make up a graph are that graph
+pub graph_is_checked : (g : GraphData) → IsGraph g → checked g ≡ Ok g
+graph_is_checked g is = ap (λ passes. if passes then Ok g else Err Syntax) (passes_graph g is)
+
+-- and others are refused
+pub other_is_refused : (g : GraphData) → (IsGraph g → ⊥) → checked g ≡ Err Syntax
+other_is_refused g other = by_test (cases_Bool (is_graph g))
+  where
+    by_test : (is_graph g ≡ true) ⊎ (is_graph g ≡ false) → checked g ≡ Err Syntax
+    by_test (inl passes) = absurd (other (is_graph_from g passes))
+    by_test (inr fails) = ap (λ passes. if passes then Ok g else Err Syntax) fails

@@ -206,4 +206,4 @@ fn new_vertices(alloc: Global, names: Names) -> Result<Vec<Vertex>, AllocError>
 }
 
 #[cfg(test)]
-mod tests;
+pub(crate) mod tests;

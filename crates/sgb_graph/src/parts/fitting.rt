@@ -62,7 +62,7 @@ impl Parts {
         self.util_fits(kinds[0], &arc.a) && self.util_fits(kinds[1], &arc.b)
     }
 
-    // Whether each of as many values as kinds is of its kind.
+    // Whether the values fit these kinds, of which there are as many.
     fn utils_fit(&self, kinds: &[Kind], utils: &[Util]) -> bool
         requires { length kinds.now ≡ length utils.now }
         ensures { result ≡ utils_fit (length self.now.vertices) (length self.now.records) kinds.now utils.now }
@@ -70,7 +70,7 @@ impl Parts {
         self.each_fits(kinds, utils)
     }
 
-    // The same, kind by kind.
+    // Whether each value is of the kind at its place.
     fn each_fits(&self, kinds: &[Kind], utils: &[Util]) -> bool
         ensures { result ≡ list_all (λ p. util_fits (length self.now.vertices) (length self.now.records) p.0 p.1)
             (zip kinds.now utils.now) }
