@@ -30,18 +30,18 @@ unfolding ends_from
 ends_step fuel records k r is = ap (λ o. option_map_or (λ (x : ArcRec). ends_from fuel records x.next) o false) is
 
 -- and meets that record first
-numbers_step : (fuel : ℕ) (records : List ArcRec) (k : ℕ) (r : ArcRec) → slice_get records k ≡ Some r → numbers_from (suc fuel) records (Some k) ≡ k ∷ numbers_from fuel records r.next
+pub numbers_step : (fuel : ℕ) (records : List ArcRec) (k : ℕ) (r : ArcRec) → slice_get records k ≡ Some r → numbers_from (suc fuel) records (Some k) ≡ k ∷ numbers_from fuel records r.next
 unfolding numbers_from
 numbers_step fuel records k r is = ap (λ o. option_map_or (λ (x : ArcRec). k ∷ numbers_from fuel records x.next) o []) is
 
 -- a way that ends, ends after each record that it meets
-record EndsAfter (fuel : ℕ) (records : List ArcRec) (k : ℕ) : Type 0 where
-  here : ArcRec
-  is : slice_get records k ≡ Some here
-  ends : ends_from fuel records here.next ≡ true
+pub record EndsAfter (fuel : ℕ) (records : List ArcRec) (k : ℕ) : Type 0 where
+  pub here : ArcRec
+  pub is : slice_get records k ≡ Some here
+  pub ends : ends_from fuel records here.next ≡ true
 
 -- so it goes from there
-ends_after : (fuel : ℕ) (records : List ArcRec) (k : ℕ) → ends_from (suc fuel) records (Some k) ≡ true → EndsAfter fuel records k
+pub ends_after : (fuel : ℕ) (records : List ArcRec) (k : ℕ) → ends_from (suc fuel) records (Some k) ≡ true → EndsAfter fuel records k
 unfolding ends_from
 ends_after fuel records k e = by_record (slice_get records k) refl e
   where
@@ -50,12 +50,12 @@ ends_after fuel records k e = by_record (slice_get records k) refl e
     by_record (Some r) is h = record { here = r; is = is; ends = h }
 
 -- a way that ends without a step starts from no record
-no_start : (records : List ArcRec) (k : ℕ) → ends_from zero records (Some k) ≡ true → ⊥
+pub no_start : (records : List ArcRec) (k : ℕ) → ends_from zero records (Some k) ≡ true → ⊥
 unfolding ends_from
 no_start records k e = cc
 
 -- a way that ends, ends with more records and more steps
-ends_more : (fuel steps : ℕ) (records more : List ArcRec) (first : Option ℕ) → fuel ≤ steps → ends_from fuel records first ≡ true → ends_from steps (records ++ more) first ≡ true
+pub ends_more : (fuel steps : ℕ) (records more : List ArcRec) (first : Option ℕ) → fuel ≤ steps → ends_from fuel records first ≡ true → ends_from steps (records ++ more) first ≡ true
 ends_more fuel steps records more None le e = ends_none steps (records ++ more)
 ends_more zero steps records more (Some k) le e = absurd (no_start records k e)
 ends_more (suc fuel) zero records more (Some k) le e = absurd (omega arith)
@@ -64,7 +64,7 @@ ends_more (suc fuel) (suc steps) records more (Some k) le e =
     ends_step steps (records ++ more) k b.here (slice_get-more records more k b.here b.is) ∙ ends_more fuel steps records more b.here.next (omega arith) b.ends
 
 -- and meets the same records
-numbers_more : (fuel steps : ℕ) (records more : List ArcRec) (first : Option ℕ) → fuel ≤ steps → ends_from fuel records first ≡ true → numbers_from steps (records ++ more) first ≡ numbers_from fuel records first
+pub numbers_more : (fuel steps : ℕ) (records more : List ArcRec) (first : Option ℕ) → fuel ≤ steps → ends_from fuel records first ≡ true → numbers_from steps (records ++ more) first ≡ numbers_from fuel records first
 numbers_more fuel steps records more None le e = numbers_none steps (records ++ more) ∙ sym (numbers_none fuel records)
 numbers_more zero steps records more (Some k) le e = absurd (no_start records k e)
 numbers_more (suc fuel) zero records more (Some k) le e = absurd (omega arith)
@@ -74,11 +74,11 @@ numbers_more (suc fuel) (suc steps) records more (Some k) le e =
     ∙ (ap (λ ks. k ∷ ks) (numbers_more fuel steps records more b.here.next (omega arith) b.ends) ∙ sym (numbers_step fuel records k b.here b.is))
 
 -- each record on a way is one
-is_record : List ArcRec → ℕ → Bool
+unfoldable pub is_record : List ArcRec → ℕ → Bool
 is_record records k = is_some (slice_get records k)
 
 -- so it is all records
-numbers_are_records : (fuel : ℕ) (records : List ArcRec) (first : Option ℕ) → list_all (is_record records) (numbers_from fuel records first) ≡ true
+pub numbers_are_records : (fuel : ℕ) (records : List ArcRec) (first : Option ℕ) → list_all (is_record records) (numbers_from fuel records first) ≡ true
 unfolding numbers_from is_record
 numbers_are_records zero records first = refl
 numbers_are_records (suc fuel) records None = refl

@@ -4,8 +4,10 @@ pub mod AddingArcs
 pub mod AddingEdges
 pub mod Chains
 pub mod CompoundIds
+pub mod CheckedParts
 pub mod Described
 pub mod DrawLemmas
+pub mod EndingWays
 pub mod EventLemmas
 pub mod Examples
 pub mod Fitting
@@ -14,6 +16,7 @@ pub mod HexadecimalDigits
 pub mod IdLemmas
 pub mod ListMembers
 pub mod Lists
+pub mod MarkedWays
 pub mod NewGraphs
 pub mod Numbers
 pub mod OwnNumbers

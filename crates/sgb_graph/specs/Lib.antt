@@ -7,5 +7,7 @@ pub mod Growth
 pub mod IdTexts
 pub mod Ids
 pub mod Made
+pub mod Parts
 pub mod Sound
+pub mod Walks
 pub mod Flips

@@ -1,7 +1,7 @@
 ghost use Rattle.std.specs.Prelude.{◌≡◌, ◌<◌, ◌≤◌, length, map, ◌↔◌, slice_get, Some, IfOk, IsErrOf, IsOkUnless};
 ghost use Rattle.sgb_vec.specs.Limits.{most_vertices};
 ghost use Rattle.sgb_graph.specs.Made.{no_fields};
-ghost use Rattle.sgb_graph.specs.Growth.{IsKept, new_id, new_graph, new_vertex, with_id};
+ghost use Rattle.sgb_graph.specs.Growth.{IsKept, graph_data, new_id, new_graph, new_vertex, with_id};
 
 mod adding;
 mod arcs;
@@ -64,6 +64,28 @@ impl Graph {
             vertices,
             records: Vec::new(alloc),
         })
+    }
+
+    // The graph of these parts, which make up one.
+    pub(crate) fn from_parts(
+        id: Id,
+        m: u64,
+        kinds: [Kind; 14],
+        util: [Util; 6],
+        vertices: Vec<Vertex>,
+        records: Vec<ArcRec>,
+    ) -> Graph
+        requires { IsKept (graph_data id m kinds util vertices.items records.items) }
+        ensures { result ≡ graph_data id m kinds util vertices.items records.items }
+    {
+        Graph {
+            id,
+            m,
+            kinds,
+            util,
+            vertices,
+            records,
+        }
     }
 
     /// The number of vertices.
@@ -184,4 +206,4 @@ fn new_vertices(alloc: Global, names: Names) -> Result<Vec<Vertex>, AllocError>
 }
 
 #[cfg(test)]
-mod tests;
+pub(crate) mod tests;

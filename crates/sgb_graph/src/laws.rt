@@ -1,6 +1,9 @@
-ghost use Rattle.std.specs.Prelude.{◌≡◌, ℕ, ◌-◌, ◌*◌, ◌%◌, ◌<◌, ◌≤◌, ◌==◌, ◌++◌, [], ◌∷◌, Bool, true, false, List, length, Some, slice_get, Contains, count_by};
+ghost use Rattle.std.specs.Prelude.{◌≡◌, ℕ, ◌-◌, ◌*◌, ◌%◌, ◌<◌, ◌≤◌, ◌==◌, ◌++◌, [], ◌∷◌, Bool, true, false, List, length, Some, Ok, Err, slice_get, Contains, count_by};
 ghost use Rattle.sgb_graph.specs.Graphs.{GraphData};
+ghost use Rattle.sgb_vec.specs.declared.panics.Panic.TheVariants.{Syntax};
 ghost use Rattle.sgb_graph.specs.Descriptions.{IsGraphOf};
+ghost use Rattle.sgb_graph.specs.Parts.{checked};
+ghost use Rattle.sgb_graph.specs.Sound.{IsGraph};
 ghost use Rattle.sgb_graph.specs.Made.{DescribedIs, DescribedIsOnly, plain};
 ghost use Rattle.sgb_graph.specs.Events.{Event, HasArcsOf, Row, all_rows, list_of};
 ghost use Rattle.sgb_graph.specs.Growth.{AddsArc, AddsEdge, AddsEvents, ArcsLead, EdgesLead, link, new_graph, row, with_id};
@@ -69,4 +72,10 @@ pub fn lists_law()
 pub fn described_law()
     ensures only { DescribedIsOnly }
     ensures is { DescribedIs }
+{}
+
+/// Parts that make up a graph are that graph, and others are refused (GB_SAVE, restore_graph).
+pub fn parts_law()
+    ensures graph { (g : GraphData) → IsGraph g → checked g ≡ Ok g }
+    ensures other { (g : GraphData) → ¬ IsGraph g → checked g ≡ Err Syntax }
 {}

@@ -22,7 +22,7 @@ fn graph_of(alloc: Global, digits: &[u8]) -> Result<Graph, Panic>
 }
 
 // Whether the list of v has these arcs, each with its number, tip and length.
-fn has_list(graph: &Graph, v: u32, list: &[(usize, u32, i64)]) -> bool {
+pub(crate) fn has_list(graph: &Graph, v: u32, list: &[(usize, u32, i64)]) -> bool {
     if v >= graph.n() {
         return false;
     }

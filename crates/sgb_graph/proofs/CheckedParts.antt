@@ -1,0 +1,70 @@
+-- Parts that were checked: what fits, and the graph that they make up.
+use Rattle.std.proofs.Common.{◌≡◌, ◌⊎◌, ◌&&◌, ℕ, Bool, true, false, List, [], ◌∷◌, length, slice_index_or, refl, ap, sym, ◌∙◌, inl, inr, arith}
+use Rattle.std.specs.Prelude.{nat_le, Ok, Err, if◌then◌else◌}
+use Rattle.std.specs.List.{list_all, zip}
+use Rattle.std.proofs.Math.Bool.{and-true}
+use Rattle.std.proofs.lemmas.Bool.{and_parts, and_from, cases_Bool}
+use Rattle.sgb_vec.specs.Limits.{most_vertices}
+use Rattle.sgb_vec.specs.declared.panics.Panic.TheVariants.{Syntax}
+use Rattle.sgb_graph.specs.Graphs.{GraphData, ends_of}
+use Rattle.sgb_graph.specs.Sound.{IsGraph, util_fits, utils_fit, fields_fit, is_sound, chains_end, chain_fits, graph_kinds, record_fits, vertex_fits, vertex_kinds}
+use Rattle.sgb_graph.specs.Parts.{is_graph, checked}
+use Rattle.sgb_graph.specs.declared.fields.Kind.{Kind}
+use Rattle.sgb_graph.specs.declared.fields.Util.{Util}
+use Rattle.sgb_graph.specs.declared.fields.Vertex.{Vertex}
+use Rattle.sgb_graph.proofs.Lists.{list_all-weaker}
+use Rattle.sgb_graph.proofs.Growing.{first_ends}
+
+-- values fit their kinds where each fits its own
+pub utils_fit_each : (n m : ℕ) (kinds : List Kind) (utils : List Util) → length kinds ≡ length utils → utils_fit n m kinds utils ≡ list_all (λ p. util_fits n m p.0 p.1) (zip kinds utils)
+utils_fit_each n m [] [] long = refl
+utils_fit_each n m [] (util ∷ utils) long = absurd (omega arith)
+utils_fit_each n m (kind ∷ kinds) [] long = absurd (omega arith)
+utils_fit_each n m (kind ∷ kinds) (util ∷ utils) long =
+    ap (λ b. util_fits n m kind util && b) (utils_fit_each n m kinds utils (omega arith))
+
+-- two of them
+two_fit : (n m : ℕ) (kinds : List Kind) (d : Kind) (a b : Util) → length kinds ≡ 2 → utils_fit n m kinds (a ∷ b ∷ []) ≡ (util_fits n m (slice_index_or kinds 0 d) a && util_fits n m (slice_index_or kinds 1 d) b)
+two_fit n m [] d a b long = absurd (omega arith)
+two_fit n m (x ∷ []) d a b long = absurd (omega arith)
+two_fit n m (x ∷ y ∷ []) d a b long = ap (λ t. util_fits n m x a && t) (and-true (util_fits n m y b))
+two_fit n m (x ∷ y ∷ z ∷ kinds) d a b long = absurd (omega arith)
+
+-- where the first fits, they fit if the second does
+pub both_fit : (n m : ℕ) (kinds : List Kind) (d : Kind) (a b : Util) {fits : Bool} → length kinds ≡ 2 → util_fits n m (slice_index_or kinds 0 d) a ≡ true → fits ≡ util_fits n m (slice_index_or kinds 1 d) b → fits ≡ utils_fit n m kinds (a ∷ b ∷ [])
+both_fit n m kinds d a b long first second =
+    second ∙ (ap (λ t. t && util_fits n m (slice_index_or kinds 1 d) b) (sym first) ∙ sym (two_fit n m kinds d a b long))
+
+-- the list of each vertex ends where the numbers fit and all chains end
+pub lists_end : (g : GraphData) → fields_fit g ≡ true → chains_end g.records ≡ true → list_all (λ x. ends_of g.records x.arcs) g.vertices ≡ true
+lists_end g fits ends =
+    let parts = and_parts (utils_fit (length g.vertices) (length g.records) (graph_kinds g.kinds) g.util && list_all (vertex_fits g) g.vertices) (list_all (record_fits g) g.records) fits in
+    let own = and_parts (utils_fit (length g.vertices) (length g.records) (graph_kinds g.kinds) g.util) (list_all (vertex_fits g) g.vertices) parts.0 in
+    list_all-weaker (vertex_fits g) (λ (x : Vertex). ends_of g.records x.arcs) g.vertices
+    (λ x fit. first_ends g.records x.arcs ends (and_parts (chain_fits (length g.records) x.arcs) (utils_fit (length g.vertices) (length g.records) (vertex_kinds g.kinds) x.util) fit).0)
+    own.1
+
+-- parts that pass the check are a graph
+pub is_graph_from : (g : GraphData) → is_graph g ≡ true → IsGraph g
+is_graph_from g e =
+    let sound = and_parts (nat_le (length g.vertices) most_vertices && fields_fit g) (is_sound g) e in
+    let fit = and_parts (nat_le (length g.vertices) most_vertices) (fields_fit g) sound.0 in
+    record { vertices_fit = fit.0; fields = fit.1; lists = sound.1 }
+
+-- and a graph passes it
+pub passes_graph : (g : GraphData) → IsGraph g → is_graph g ≡ true
+passes_graph g is =
+    and_from (nat_le (length g.vertices) most_vertices && fields_fit g) (is_sound g)
+    (and_from (nat_le (length g.vertices) most_vertices) (fields_fit g) is.vertices_fit is.fields) is.lists
+
+-- so parts that make up a graph are that graph
+pub graph_is_checked : (g : GraphData) → IsGraph g → checked g ≡ Ok g
+graph_is_checked g is = ap (λ passes. if passes then Ok g else Err Syntax) (passes_graph g is)
+
+-- and others are refused
+pub other_is_refused : (g : GraphData) → (IsGraph g → ⊥) → checked g ≡ Err Syntax
+other_is_refused g other = by_test (cases_Bool (is_graph g))
+  where
+    by_test : (is_graph g ≡ true) ⊎ (is_graph g ≡ false) → checked g ≡ Err Syntax
+    by_test (inl passes) = absurd (other (is_graph_from g passes))
+    by_test (inr fails) = ap (λ passes. if passes then Ok g else Err Syntax) fails

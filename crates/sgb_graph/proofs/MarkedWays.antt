@@ -1,0 +1,150 @@
+-- Steps of walks along chains of records, and the marks that they set.
+use Rattle.std.proofs.Common.{◌≡◌, ◌≤◌, ◌<◌, ◌⊎◌, ◌+◌, ◌&&◌, ℕ, zero, suc, Bool, true, false, List, ◌∷◌, length, set, get_or, replicate, Option, Some, None, refl, ap, sym, ◌∙◌, subst, inl, inr, arith}
+use Rattle.std.specs.Prelude.{slice_get, is_some, not, IsTrue}
+use Rattle.std.specs.List.{list_all, range_with_len}
+use Rattle.std.specs.Option.{option_map_or}
+use Rattle.std.proofs.lemmas.Bool.{and_parts, cases_eq}
+use Rattle.std.proofs.lemmas.List.{get_or-set_other}
+use Rattle.std.proofs.lemmas.List.Folds.{list_all_at}
+use Rattle.std.proofs.lemmas.Option.{slice_get_past, slice_get_within, get_or_from_slice_get}
+use Rattle.std.proofs.lemmas.List.FromFn.{length-range_with_len, get_or-range_with_len}
+use Rattle.sgb_graph.specs.Graphs.{ends_from, numbers_of, ends_of}
+use Rattle.sgb_graph.specs.Sound.{chains_end, leads_to_vertex, is_vertex}
+use Rattle.sgb_graph.specs.Walks.{leads_of}
+use Rattle.sgb_graph.specs.declared.fields.ArcRec.{ArcRec}
+use Rattle.sgb_graph.proofs.Chains.{ends_none, ends_step, ends_after, no_start, numbers_none, numbers_step}
+use Rattle.sgb_graph.proofs.EndingWays.{ends_longer, ends_within, numbers_longer}
+use Rattle.sgb_graph.proofs.Lists.{list_all-range}
+
+-- a way that ends from a record: it meets that one, and then those of the way from the next one, which ends
+pub record IsWayStep (records : List ArcRec) (k : ℕ) : Type 0 where
+  pub here : ArcRec
+  pub is : slice_get records k ≡ Some here
+  pub numbers : numbers_of records (Some k) ≡ k ∷ numbers_of records here.next
+  pub ends : ends_of records here.next ≡ true
+
+-- so it goes
+pub way_step : (records : List ArcRec) (k : ℕ) → ends_of records (Some k) ≡ true → IsWayStep records k
+way_step records k ends = by_length (length records) refl
+  where
+    by_length : (n : ℕ) → length records ≡ n → IsWayStep records k
+    by_length zero is = absurd (no_start records k (rw is at ends))
+    by_length (suc n) is =
+        let b = ends_after n records k (rw is at ends) in
+        let same = numbers_longer n (length records) records b.here.next (omega arith) b.ends in
+        record {
+          here = b.here;
+          is = b.is;
+          numbers = rw is (numbers_step n records k b.here b.is ∙ ap (λ ks. k ∷ ks) (sym (rw is at same)));
+          ends = ends_longer n (length records) records b.here.next (omega arith) b.ends;
+        }
+
+-- the way from a record that is not there does not end
+pub ends_outside : (fuel : ℕ) (records : List ArcRec) (k : ℕ) → length records ≤ k → ends_from fuel records (Some k) ≡ false
+unfolding ends_from
+ends_outside zero records k out = refl
+ends_outside (suc fuel) records k out = ap (λ o. option_map_or (λ (x : ArcRec). ends_from fuel records x.next) o false) (slice_get_past records k out)
+
+-- such a record is one of them
+pub way_inside : (records : List ArcRec) (k : ℕ) → ends_of records (Some k) ≡ true → k < length records
+way_inside records k ends = let step = way_step records k ends in slice_get_within records k step.here step.is
+
+-- the rest of the way is shorter
+pub way_shorter : (records : List ArcRec) (k : ℕ) (r : ArcRec) → ends_of records (Some k) ≡ true → r ≡ get_or records k r → length (numbers_of records r.next) < length (numbers_of records (Some k))
+way_shorter records k r ends here =
+    let step = way_step records k ends in
+    let read : r ≡ step.here = here ∙ get_or_from_slice_get records k step.here r step.is in
+    rw (read, step.numbers) (omega arith)
+
+-- and ends
+pub way_goes_on : (records : List ArcRec) (k : ℕ) (r : ArcRec) → ends_of records (Some k) ≡ true → r ≡ get_or records k r → ends_of records r.next ≡ true
+way_goes_on records k r ends here =
+    let step = way_step records k ends in
+    let read : r ≡ step.here = here ∙ get_or_from_slice_get records k step.here r step.is in
+    rw read step.ends
+
+-- so many steps lead from the first record to the next one
+abbrev pub StepsLead : List ArcRec → Option ℕ → ℕ → Option ℕ → Type 0
+StepsLead records first steps next = (fuel : ℕ) → ends_from (fuel + steps) records first ≡ ends_from fuel records next
+
+-- none yet
+pub steps_none : (records : List ArcRec) (first : Option ℕ) → StepsLead records first 0 first
+steps_none records first fuel = let none : fuel + 0 ≡ fuel = omega arith in ap (λ n. ends_from n records first) none
+
+-- one more
+pub steps_more : (records : List ArcRec) (first : Option ℕ) (steps k : ℕ) (r : ArcRec) → StepsLead records first steps (Some k) → slice_get records k ≡ Some r → StepsLead records first (steps + 1) r.next
+steps_more records first steps k r lead is fuel =
+    let place : suc fuel + steps ≡ fuel + (steps + 1) = omega arith in
+    ap (λ n. ends_from n records first) (sym place) ∙ (lead (suc fuel) ∙ ends_step fuel records k r is)
+
+-- what is left of as many steps as there are records
+left_steps : (records : List ArcRec) (first : Option ℕ) (steps : ℕ) (next : Option ℕ) (left : ℕ) → StepsLead records first steps next → left + steps ≡ length records → ends_of records first ≡ ends_from left records next
+left_steps records first steps next left lead place = ap (λ n. ends_from n records first) (sym place) ∙ lead left
+
+-- the walk comes to an end
+pub walk_ends : (records : List ArcRec) (first : Option ℕ) (steps left : ℕ) → StepsLead records first steps None → left + steps ≡ length records → ends_of records first ≡ true
+walk_ends records first steps left lead place = left_steps records first steps None left lead place ∙ ends_none left records
+
+-- it comes to a record that is not there
+pub walk_outside : (records : List ArcRec) (first : Option ℕ) (steps left k : ℕ) → StepsLead records first steps (Some k) → left + steps ≡ length records → length records ≤ k → ends_of records first ≡ false
+walk_outside records first steps left k lead place out = left_steps records first steps (Some k) left lead place ∙ ends_outside left records k out
+
+-- it comes to a record from which it ends
+pub walk_meets : (records : List ArcRec) (first : Option ℕ) (steps k : ℕ) → StepsLead records first steps (Some k) → ends_of records (Some k) ≡ true → ends_of records first ≡ true
+walk_meets records first steps k lead ends = ends_within (length records + steps) records first (lead (length records) ∙ ends)
+
+-- with no step left it has ended, or goes on
+no_steps : (records : List ArcRec) (next : Option ℕ) (none : Bool) → is_some next ≡ not none → none ≡ ends_from zero records next
+unfolding ends_from
+no_steps records None true test = refl
+no_steps records None false test = absurd cc
+no_steps records (Some k) true test = absurd cc
+no_steps records (Some k) false test = refl
+
+-- after as many steps as there are records it has ended, or it never does
+pub walk_is_over : (records : List ArcRec) (first next : Option ℕ) (steps : ℕ) (none : Bool) → StepsLead records first steps next → steps ≡ length records → is_some next ≡ not none → none ≡ ends_of records first
+walk_is_over records first next steps none lead all test =
+    no_steps records next none test ∙ sym (left_steps records first steps next 0 lead (omega arith))
+
+-- each arc on a way leads to a vertex where the first does, and each on the way after it
+pub leads_step : (records : List ArcRec) (k : ℕ) (r : ArcRec) → ends_of records (Some k) ≡ true → r ≡ get_or records k r → leads_of records (Some k) ≡ (is_vertex r.tip && leads_of records r.next)
+leads_step records k r ends here =
+    let step = way_step records k ends in
+    let read : r ≡ step.here = here ∙ get_or_from_slice_get records k step.here r step.is in
+    let tip : leads_to_vertex records k ≡ is_vertex step.here.tip = ap (λ o. option_map_or (λ (x : ArcRec). is_vertex x.tip) o false) step.is in
+    rw read (ap (list_all (leads_to_vertex records)) step.numbers ∙ ap (λ b. b && leads_of records step.here.next) tip)
+
+-- they do on the way after it where they do on all of it
+pub leads_goes_on : (records : List ArcRec) (k : ℕ) (r : ArcRec) → ends_of records (Some k) ≡ true → r ≡ get_or records k r → leads_of records (Some k) ≡ true → leads_of records r.next ≡ true
+leads_goes_on records k r ends here all =
+    (and_parts (is_vertex r.tip) (leads_of records r.next) (sym (leads_step records k r ends here) ∙ all)).1
+
+-- no arc is on the way from none
+pub leads_none : (records : List ArcRec) → leads_of records None ≡ true
+leads_none records = ap (list_all (leads_to_vertex records)) (numbers_none (length records) records)
+
+-- no record is marked yet
+pub none_marked : (n k : ℕ) → get_or (replicate n false) k false ≡ false
+none_marked zero k = refl
+none_marked (suc n) zero = refl
+none_marked (suc n) (suc k) = none_marked n k
+
+-- what holds of each marked record holds with one more, of which it holds too
+pub one_more_marked : (P : ℕ → Type 0) (marks : List Bool) (k : ℕ) → P k → ((j : ℕ) → IsTrue (get_or marks j false) → P j) → (j : ℕ) → IsTrue (get_or (set marks k true) j false) → P j
+one_more_marked P marks k here before j marked = by_place (cases_eq j k)
+  where
+    by_place : (j ≡ k) ⊎ (j ≡ k → ⊥) → P j
+    by_place (inl same) = subst P (sym same) here
+    by_place (inr other) = before j (rw (get_or-set_other marks k j true false other) at marked)
+
+-- some chain does not end
+pub not_all_end : (records : List ArcRec) (k : ℕ) → k < length records → ends_of records (Some k) ≡ false → chains_end records ≡ false
+not_all_end records k below endless =
+    let inside : k < length (range_with_len 0 (length records)) = rw length-range_with_len below in
+    let from_zero : 0 + k ≡ k = omega arith in
+    let place = get_or-range_with_len 0 (length records) k 0 below ∙ from_zero in
+    list_all_at (λ j. ends_of records (Some j)) (range_with_len 0 (length records)) k 0 inside (ap (λ j. ends_of records (Some j)) place ∙ endless)
+
+-- all do
+pub all_end : (records : List ArcRec) → ((k : ℕ) → k < length records → ends_of records (Some k) ≡ true) → chains_end records ≡ true
+all_end records each = list_all-range (λ j. ends_of records (Some j)) 0 (length records) (λ k below. each k (omega arith))

@@ -1,0 +1,49 @@
+use Rattle.std.proofs.Common.{◌≡◌, Some, true, rules, arith}
+use Rattle.std.specs.Prelude.{IsTrue}
+use Rattle.sgb_graph.specs.Graphs.{ends_of}
+use Rattle.sgb_graph.specs.Walks.{leads_of}
+use Rattle.sgb_graph.proofs.MarkedWays.{way_inside, way_shorter, way_goes_on, leads_goes_on, one_more_marked}
+use Rattle.sgb_graph.proofs.parts.walks.mark_way.Goals as goal
+
+pub bounds-marks-k : goal.bounds-marks-k
+bounds-marks-k c =
+    let ends = rw c.in-Some.is at c.loop-next.invariant.ends in
+    omega (arith, c.loop-next.invariant.long, way_inside c.args.records.now c.in-Some.k ends)
+
+pub bounds-marks-k-in-Some : goal.bounds-marks-k-in-Some
+bounds-marks-k-in-Some c =
+    let ends = rw c.in-Some.is at c.loop-next.invariant.ends in
+    omega (arith, c.loop-next.invariant.long, way_inside c.args.records.now c.in-Some.k ends)
+
+pub offset_bounds-records-k : goal.offset_bounds-records-k
+offset_bounds-records-k c =
+    let ends = rw c.in-Some.is at c.loop-next.invariant.ends in
+    let inside = way_inside c.args.records.now c.in-Some.k ends in
+    search rules
+
+pub bounds-records-k : goal.bounds-records-k
+bounds-records-k c = way_inside c.args.records.now c.in-Some.k (rw c.in-Some.is at c.loop-next.invariant.ends)
+
+pub bounds-records-k-else-marks-k : goal.bounds-records-k-else-marks-k
+bounds-records-k-else-marks-k c = way_inside c.args.records.now c.in-Some.k (rw c.in-Some.is at c.loop-next.invariant.ends)
+
+pub loop-next-smaller : goal.loop-next-smaller
+loop-next-smaller c =
+    let ends = rw c.in-Some.is at c.loop-next.invariant.ends in
+    rw (← c.index-records-k.is, c.in-Some.is) (way_shorter c.args.records.now c.in-Some.k c.index-records-k.result ends c.index-records-k.is)
+
+pub loop-next-preserved : goal.loop-next-preserved
+loop-next-preserved c =
+    let records = c.args.records.now in
+    let k = c.in-Some.k in
+    let kept = c.loop-next.invariant in
+    let ends : ends_of records (Some k) ≡ true = rw c.in-Some.is at kept.ends in
+    let inside = way_inside records k ends in
+    let leads : leads_of records c.args.first ≡ true → leads_of records (Some k) ≡ true = rw c.in-Some.is at kept.leads in
+    rw (← c.index-records-k.is) record {
+      long = search rules;
+      ends = way_goes_on records k c.index-records-k.result ends c.index-records-k.is;
+      leads = λ all. leads_goes_on records k c.index-records-k.result ends c.index-records-k.is (leads all);
+      marks_end = λ before. one_more_marked (λ j. IsTrue (ends_of records (Some j))) c.loop-next.marks k ends (kept.marks_end before);
+      marks_lead = λ before all. one_more_marked (λ j. IsTrue (leads_of records (Some j))) c.loop-next.marks k (leads all) (kept.marks_lead before all);
+    }

@@ -1,0 +1,19 @@
+use Rattle.std.proofs.Common.{◌≡◌, length, true}
+use Rattle.std.specs.Prelude.{IsTrue}
+use Rattle.sgb_graph.specs.Graphs.{ends_of, numbers_of}
+use Rattle.sgb_graph.specs.Walks.{leads_of, MarksEnd, MarksLead}
+use Rattle.sgb_graph.proofs.parts.walks.mark_way.Given as goal
+
+-- the way goes on to an end; what holds of marked records holds with the marks so far
+abbrev pub invariant-loop-next : goal.invariant-loop-next
+invariant-loop-next l = record {
+  long : length l.marks ≡ length l.records;
+  ends : ends_of l.records l.next ≡ true;
+  leads : leads_of l.records l.fn.first ≡ true → leads_of l.records l.next ≡ true;
+  marks_end : MarksEnd l.records l.fn.marks → MarksEnd l.records l.marks;
+  marks_lead : MarksLead l.records l.fn.marks → IsTrue (leads_of l.records l.fn.first) → MarksLead l.records l.marks;
+}
+
+-- the rest of the way
+abbrev pub decreases-loop-next : goal.decreases-loop-next
+decreases-loop-next l = length (numbers_of l.records l.next)

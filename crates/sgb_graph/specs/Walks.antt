@@ -1,0 +1,18 @@
+-- Walks along the chains of records, which mark the records that they passed.
+use Rattle.std.specs.Prelude.{ℕ, Bool, false, List, get_or, Option, Some, IsTrue}
+use Rattle.std.specs.List.{list_all}
+use Rattle.sgb_graph.specs.Graphs.{ends_of, numbers_of}
+use Rattle.sgb_graph.specs.Sound.{leads_to_vertex}
+use Rattle.sgb_graph.specs.declared.fields.ArcRec.{ArcRec}
+
+-- each arc on the way from a first record leads to a vertex
+abbrev pub leads_of : List ArcRec → Option ℕ → Bool
+leads_of records first = list_all (leads_to_vertex records) (numbers_of records first)
+
+-- the way from each marked record comes to an end
+abbrev pub MarksEnd : List ArcRec → List Bool → Type 0
+MarksEnd records marks = (k : ℕ) → IsTrue (get_or marks k false) → IsTrue (ends_of records (Some k))
+
+-- each arc on the way from a marked record leads to a vertex
+abbrev pub MarksLead : List ArcRec → List Bool → Type 0
+MarksLead records marks = (k : ℕ) → IsTrue (get_or marks k false) → IsTrue (leads_of records (Some k))

@@ -1,0 +1,112 @@
+//! Walks along the chains of records. Records that were passed are marked, so that each is passed twice at most.
+ghost use Rattle.std.specs.Prelude.{◌≡◌, length, IsTrue, IfOk};
+ghost use Rattle.std.specs.List.{list_all};
+ghost use Rattle.sgb_graph.specs.Graphs.{ends_of};
+ghost use Rattle.sgb_graph.specs.Sound.{chains_end, is_vertex, lists_lead_to_vertices};
+ghost use Rattle.sgb_graph.specs.Walks.{MarksEnd, MarksLead, leads_of};
+
+use crate::fields::{ArcRec, Ref, Vertex};
+use std::alloc::{AllocError, Global};
+
+// Whether the way by next comes to an end from every record.
+pub(super) fn chains_end(alloc: Global, records: &[ArcRec]) -> Result<bool, AllocError>
+    ensures { IfOk result (λ b. b ≡ chains_end records.now) }
+{
+    let mut marks = vec![in alloc; false; records.len()]?;
+    for k in 0..records.len() {
+        if !way_ends(records, &marks, Some(k)) {
+            return Ok(false);
+        }
+        mark_way(records, &mut marks, Some(k));
+    }
+    Ok(true)
+}
+
+// Whether each arc on a vertex's list leads to a vertex.
+pub(super) fn lists_lead_to_vertices(
+    alloc: Global,
+    vertices: &[Vertex],
+    records: &[ArcRec],
+) -> Result<bool, AllocError>
+    requires { IsTrue (list_all (λ v. ends_of records.now v.arcs) vertices.now) }
+    ensures { IfOk result (λ b. b ≡ lists_lead_to_vertices vertices.now records.now) }
+{
+    let mut marks = vec![in alloc; false; records.len()]?;
+    for vertex in vertices {
+        if !way_leads(records, &marks, vertex.arcs) {
+            return Ok(false);
+        }
+        mark_way(records, &mut marks, vertex.arcs);
+    }
+    Ok(true)
+}
+
+// Whether the way from a first record comes to an end, where it does from each marked one. A way of more steps than
+// there are records is a ring.
+fn way_ends(records: &[ArcRec], marks: &[bool], first: Option<usize>) -> bool
+    requires long { length marks.now ≡ length records.now }
+    requires marked { MarksEnd records.now marks.now }
+    ensures { result ≡ ends_of records.now first }
+{
+    let mut next = first;
+    for _step in 0..records.len() {
+        let Some(k) = next else {
+            return true;
+        };
+        if k >= records.len() {
+            return false;
+        }
+        if marks[k] {
+            return true;
+        }
+        next = records[k].next;
+    }
+    next.is_none()
+}
+
+// Whether each arc on the way from a first record leads to a vertex, where it does so from each marked one.
+fn way_leads(records: &[ArcRec], marks: &[bool], first: Option<usize>) -> bool
+    requires long { length marks.now ≡ length records.now }
+    requires ends { IsTrue (ends_of records.now first) }
+    requires marked { MarksLead records.now marks.now }
+    ensures { result ≡ leads_of records.now first }
+{
+    let mut next = first;
+    while let Some(k) = next {
+        let arc = &records[k];
+        if marks[k] {
+            return true;
+        }
+        if !is_vertex(arc.tip) {
+            return false;
+        }
+        next = arc.next;
+    }
+    true
+}
+
+// Marks the records on the way from a first one, up to one that has a mark.
+fn mark_way(records: &[ArcRec], marks: &mut [bool], first: Option<usize>)
+    requires long { length marks.old ≡ length records.now }
+    requires ends { IsTrue (ends_of records.now first) }
+    ensures long { length marks.new ≡ length marks.old }
+    ensures ends { MarksEnd records.now marks.old → MarksEnd records.now marks.new }
+    ensures leads { MarksLead records.now marks.old → IsTrue (leads_of records.now first)
+        → MarksLead records.now marks.new }
+{
+    let mut next = first;
+    while let Some(k) = next {
+        if marks[k] {
+            return;
+        }
+        marks[k] = true;
+        next = records[k].next;
+    }
+}
+
+// Whether this is a vertex.
+fn is_vertex(tip: Ref) -> bool
+    ensures { result ≡ is_vertex tip }
+{
+    matches!(tip, Ref::At(_))
+}
