@@ -9,6 +9,7 @@ use std::alloc::Global;
 use std::process::Abort;
 use std::test::Fail;
 
+mod derived;
 mod devices;
 mod endings;
 mod listings;

@@ -204,12 +204,17 @@ static REFUSED: [(&[&str], &str, u8); 39] = [
 
 // A refused call makes no call of the output, and its line is one put of standard error; where that fails the status
 // is the same.
-fn check_refusals(rt: &impl Abort, alloc: Global, deaf: bool) -> Result<(), Fail> {
-    for (words, line, status) in REFUSED {
+pub(super) fn check_refusals(
+    rt: &impl Abort,
+    alloc: Global,
+    calls: &[(&[&str], &str, u8)],
+    deaf: bool,
+) -> Result<(), Fail> {
+    for (words, line, status) in calls {
         let mut out = Counted::new(alloc, true, true);
         let mut errors = Counted::new(alloc, deaf, true);
         let found = call(alloc, words, &mut out, &mut errors)?;
-        assert_eq!(rt; found, status, "{words:?}");
+        assert_eq!(rt; found, *status, "{words:?}");
         assert_eq!(rt;
             errors.bytes(),
             if deaf { b"" } else { line.as_bytes() },
@@ -224,8 +229,8 @@ fn check_refusals(rt: &impl Abort, alloc: Global, deaf: bool) -> Result<(), Fail
 
 #[test]
 fn a_refused_call_is_one_line(rt: HostRuntime) -> Result<(), Fail> {
-    check_refusals(&rt, rt.alloc(), false)?;
-    check_refusals(&rt, rt.alloc(), true)
+    check_refusals(&rt, rt.alloc(), &REFUSED, false)?;
+    check_refusals(&rt, rt.alloc(), &REFUSED, true)
 }
 
 // Each fault's line is one put.

@@ -1,0 +1,161 @@
+//! Line graphs, products, induced graphs, complete bipartite graphs and wheels.
+
+use super::refusals::check_refusals;
+use super::answers_are;
+use std::test::Fail;
+
+static ANSWERS: [(&[&str], &str); 15] = [
+    (
+        &["list", "wheel(3,1,0)"],
+        "  The graph whose official name is\nwheel(3,1,0)\n  has 4 vertices and 12 arcs:\n\n\
+        0\n  -> 1:2, length 1\n  -> 1:1, length 1\n  -> 1:0, length 1\n\
+        1:0\n  -> 0, length 1\n  -> 1:1, length 1\n  -> 1:2, length 1\n\
+        1:1\n  -> 0, length 1\n  -> 1:2, length 1\n  -> 1:0, length 1\n\
+        1:2\n  -> 0, length 1\n  -> 1:1, length 1\n  -> 1:0, length 1\n",
+    ),
+    (&["names", "bi_complete(2,3,0)"], "0\n0'\n1:0\n1:1\n1:2\n"),
+    (
+        &["list", "lines(complete(3),0)"],
+        "  The graph whose official name is\nlines(board(3,0,0,0,-1,0,0),0)\n  has 3 vertices and 6 arcs:\n\n\
+        1--2\n  -> 0--1, length 1\n  -> 0--2, length 1\n\
+        0--2\n  -> 0--1, length 1\n  -> 1--2, length 1\n\
+        0--1\n  -> 0--2, length 1\n  -> 1--2, length 1\n",
+    ),
+    // the second line begins where the first ends
+    (
+        &["list", "lines(transitive(3),1)"],
+        "  The graph whose official name is\nlines(board(3,0,0,0,-1,0,1),1)\n  has 3 vertices and 1 arcs:\n\n\
+        1->2\n0->2\n0->1\n  -> 1->2, length 1\n",
+    ),
+    (
+        &["list", "product(complete(2),complete(2),0,0)"],
+        "  The graph whose official name is\nproduct(board(2,0,0,0,-1,0,0),board(2,0,0,0,-1,0,0),0,0)\n  has 4 vertices and 8 arcs:\n\n\
+        0,0\n  -> 1,0, length 1\n  -> 0,1, length 1\n\
+        0,1\n  -> 1,1, length 1\n  -> 0,0, length 1\n\
+        1,0\n  -> 0,0, length 1\n  -> 1,1, length 1\n\
+        1,1\n  -> 0,1, length 1\n  -> 1,0, length 1\n",
+    ),
+    // an odd type is the direct product, and its id has type 1
+    (
+        &["list", "product(complete(2),complete(2),3,0)"],
+        "  The graph whose official name is\nproduct(board(2,0,0,0,-1,0,0),board(2,0,0,0,-1,0,0),1,0)\n  has 4 vertices and 4 arcs:\n\n\
+        0,0\n  -> 1,1, length 1\n\
+        0,1\n  -> 1,0, length 1\n\
+        1,0\n  -> 0,1, length 1\n\
+        1,1\n  -> 0,0, length 1\n",
+    ),
+    (
+        &["names", "induced(complete(2),[0,3],0,0,0)"],
+        "1:0\n1:1\n1:2\n",
+    ),
+    // two copies of one end, and a graph in the place of the other
+    (
+        &["list", "induced(complete(2),[2,circuit(3)],0,0,0)"],
+        "  The graph whose official name is\ninduced(board(2,0,0,0,-1,0,0),,0,0,0)\n  has 5 vertices and 18 arcs:\n\n\
+        0\n  -> 1:2, length 1\n  -> 1:1, length 1\n  -> 1:0, length 1\n\
+        0'\n  -> 1:2, length 1\n  -> 1:1, length 1\n  -> 1:0, length 1\n\
+        1:0\n  -> 0', length 1\n  -> 0, length 1\n  -> 1:1, length 1\n  -> 1:2, length 1\n\
+        1:1\n  -> 0', length 1\n  -> 0, length 1\n  -> 1:2, length 1\n  -> 1:0, length 1\n\
+        1:2\n  -> 0', length 1\n  -> 0, length 1\n  -> 1:1, length 1\n  -> 1:0, length 1\n",
+    ),
+    // no entry for no vertex, and a graph of no vertices in the place of one
+    (
+        &["names", "induced(simplex(5,2,2,0,0,0,0),[],0,0,0)"],
+        "",
+    ),
+    (
+        &[
+            "names",
+            "induced(complete(2),[1,simplex(5,2,2,0,0,0,0)],0,0,0)",
+        ],
+        "0\n",
+    ),
+    // an entry that is itself induced
+    (
+        &[
+            "names",
+            "induced(complete(2),[1,induced(complete(2),[-0,2],0,0,0)],0,0,0)",
+        ],
+        "0\n1:1\n1:1'\n",
+    ),
+    // names that repeat
+    (
+        &["names", "lines(board(3,0,0,0,-1,1,0),0)"],
+        "1--2\n1--2\n0--2\n0--1\n0--2\n0--1\n",
+    ),
+    (
+        &["names", "lines(board(3,0,0,0,-1,1,0),0)", "--after", "1--2"],
+        "1--2\n0--2\n0--1\n0--2\n0--1\n",
+    ),
+    (
+        &["names", "lines(board(3,0,0,0,-1,1,0),0)", "--skip", "2"],
+        "0--2\n0--1\n0--2\n0--1\n",
+    ),
+    (&["list", "bi_complete(0,0,1)", "--skip", "0"], ""),
+];
+
+#[test]
+fn answers_to_derived_graphs(rt: HostRuntime) -> Result<(), Fail> {
+    answers_are(&rt, rt.alloc(), &ANSWERS)
+}
+
+const CODE_30: &str = "Something went wrong (panic code 30)!\n";
+const CODE_40: &str = "Something went wrong (panic code 40)!\n";
+const CODE_60: &str = "Something went wrong (panic code 60)!\n";
+
+// Operands and entries are evaluated in order before the operation's own refusals, and then a negative entry is refused.
+static REFUSED: [(&[&str], &str, u8); 15] = [
+    (&["list", "lines(cycle(3),0)"], CODE_60, 1),
+    (
+        &["list", "product(empty(40000),empty(40000),0,0)"],
+        CODE_40,
+        1,
+    ),
+    (&["names", "bi_complete(-1,2,0)"], CODE_30, 1),
+    (&["names", "bi_complete(2000000000,-1,0)"], CODE_30, 1),
+    (&["names", "bi_complete(1000000000,1,0)"], CODE_40, 1),
+    (&["names", "wheel(3,-1,0)"], CODE_30, 1),
+    (&["names", "wheel(2000000000,1,0)"], CODE_40, 1),
+    (&["names", "induced(complete(2),[1],0,0,0)"], CODE_30, 1),
+    (&["names", "induced(complete(2),[],0,0,0)"], CODE_30, 1),
+    (&["names", "induced(complete(2),[1,-1],0,0,0)"], CODE_30, 1),
+    (
+        &["names", "induced(complete(2),[1,2000000000],0,0,0)"],
+        CODE_40,
+        1,
+    ),
+    (
+        &[
+            "names",
+            "induced(complete(2),[1,999999999999999999],0,0,0)",
+        ],
+        CODE_40,
+        1,
+    ),
+    (
+        &["names", "induced(complete(2),[2000000000,-1],0,0,0)"],
+        CODE_30,
+        1,
+    ),
+    (
+        &[
+            "names",
+            "induced(complete(2),[-1,board(2,-30,0,0,1,0,0)],0,0,0)",
+        ],
+        CODE_40,
+        1,
+    ),
+    (
+        &[
+            "names",
+            "induced(board(2,-92,0,0,1,0,0),[board(2,-30,0,0,1,0,0)],0,0,0)",
+        ],
+        CODE_30,
+        1,
+    ),
+];
+
+#[test]
+fn refusals_of_derived_graphs(rt: HostRuntime) -> Result<(), Fail> {
+    check_refusals(&rt, rt.alloc(), &REFUSED, false)
+}
