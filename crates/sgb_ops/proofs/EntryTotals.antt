@@ -57,7 +57,7 @@ pub length-firsts : (entries : List Entry) (firsts : List ℕ) → firsts ≡ fi
 length-firsts entries firsts is = ap length is ∙ length-map-range_with_len (first_copy entries) 0 (length entries + 1)
 
 -- the copies of a vertex come between its first one and that of the next vertex
-next_first : (entries : List Entry) (v : ℕ) → first_copy entries (suc v) ≡ first_copy entries v + option_map_or size_of_entry (slice_get entries v) 0
+pub next_first : (entries : List Entry) (v : ℕ) → first_copy entries (suc v) ≡ first_copy entries v + option_map_or size_of_entry (slice_get entries v) 0
 next_first [] zero = refl
 next_first [] (suc v) = refl
 next_first (e ∷ entries) zero = omega (arith, sum_by-cons size_of_entry e [])

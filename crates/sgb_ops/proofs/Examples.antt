@@ -6,6 +6,7 @@ pub mod Pairs
 pub mod Lines
 pub mod Product
 pub mod Induced
+pub mod Copies
 pub mod Queen
 pub mod Parallel
 pub mod Petersen

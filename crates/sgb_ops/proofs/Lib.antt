@@ -19,4 +19,5 @@ pub mod ComplementEvents
 pub mod JoinedNames
 pub mod LineEvents
 pub mod LineLists
+pub mod CopiesInOrder
 pub mod Examples

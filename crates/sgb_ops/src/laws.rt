@@ -1,3 +1,4 @@
+ghost use Rattle.sgb_ops.specs.Copies.{CopiesAreAll, CopiesAreApart};
 ghost use Rattle.sgb_ops.specs.Merged.{MergedAreApart, MergedAreShortest, MergedAreTheFirst, MergedHasEachPair};
 ghost use Rattle.sgb_ops.specs.Taken.{TakenAreLowerRecords, TakenLeadUp};
 
@@ -23,4 +24,11 @@ pub fn merging_law()
     ensures each { MergedHasEachPair }
     ensures first { MergedAreTheFirst }
     ensures least { MergedAreShortest }
+{}
+
+/// The copies of the vertices, one after another, are all vertices of the result in order, and each is a copy of one
+/// vertex only (GB_BASIC, induced).
+pub fn copies_law()
+    ensures all { CopiesAreAll }
+    ensures apart { CopiesAreApart }
 {}

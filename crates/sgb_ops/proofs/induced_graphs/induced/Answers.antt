@@ -19,10 +19,9 @@ graph_of-requires-clause-within c =
     let g = c.args.graph.now in
     let entries = c.args.entries.now in
     let self = c.args.self_loops in
-    let multi = c.args.multi in
     let d = c.args.directed in
     let count : length entries ≡ length (names_of g) = c.in_ok-accept_entries.ensures.count ∙ (c.n.ensures.count ∙ sym (length-map g.vertices (λ x. x.name))) in
     let size = ap length c.in_ok-names.ensures.ok ∙ length-names (names_of g) entries count in
     let all = c.in_ok-all.ensures.ok ∙ ap (λ es. wanted self (all_events g es d)) c.in_ok-copies.ensures.ok in
-    let same = c.deref.ensures.value ∙ (c.in_ok-events.ensures.ok ∙ ap (merged_unless multi d) all) in
-    subst (λ k. AllWithin k c.deref.result.now) (sym size) (subst (AllWithin _) (sym same) (induced_within entries d g self multi c.in_ok-accept_entries.ensures.kept))
+    let same = c.deref.ensures.value ∙ (c.in_ok-events.ensures.ok ∙ ap (merged_unless _ d) all) in
+    subst (λ k. AllWithin k c.deref.result.now) (sym size) (subst (AllWithin _) (sym same) (induced_within entries d g self _ c.in_ok-accept_entries.ensures.kept))

@@ -1,0 +1,109 @@
+-- Copies of vertices, graphs in their places, and the entries that are accepted.
+use Rattle.std.specs.Prelude.{◌≡◌, pos, negsuc, false, true, [], ◌∷◌, Ok, Err, codes, refl}
+use Rattle.std.specs.Fmt.{digits}
+use Rattle.sgb_vec.specs.Boxes.{box}
+use Rattle.sgb_vec.specs.Names.{name_of_vector}
+use Rattle.sgb_vec.specs.Sizes.{repeated}
+use Rattle.sgb_gen.specs.VectorGraphs.{family_graph}
+use Rattle.sgb_gen.specs.Displacements.{displacements, vectors_of_norm}
+use Rattle.sgb_gen.specs.Moves.{board_moves}
+use Rattle.sgb_gen.specs.Boards.{board_id}
+use Rattle.sgb_vec.specs.declared.panics.Panic.TheVariants.{Bad, VeryBad}
+use Rattle.sgb_graph.specs.Graphs.{numbers_from}
+use Rattle.sgb_graph.specs.Events.{list_from}
+use Rattle.sgb_graph.specs.Ids.{compound_id}
+use Rattle.sgb_ops.specs.Taken.{each_edge_once}
+use Rattle.sgb_ops.specs.Merged.{merged}
+use Rattle.sgb_ops.specs.declared.entries.Entry.TheVariants as entry
+use Rattle.sgb_ops.specs.Entries.{accepted_entries}
+use Rattle.sgb_ops.specs.Induced.{induced_events, induced_of}
+use Rattle.sgb_ops.specs.BiComplete.{bi_complete_of}
+use Rattle.sgb_ops.specs.Wheel.{wheel_of}
+use Rattle.sgb_ops.proofs.Examples.Operands.{event, complete_2, complete_3, cycle_3, path_3, loop_1, blocks, arcs, title}
+
+-- as many vertices as a graph can have, and one more; an entry too many
+pub most_copies : accepted_entries 1 (entry.Copies 1_000_000_000 ∷ []) ≡ Ok (entry.Copies 1_000_000_000 ∷ [])
+most_copies = refl
+
+pub too_many_copies : accepted_entries 2 (entry.Copies 999_999_999 ∷ entry.Copies 2 ∷ []) ≡ Err VeryBad
+too_many_copies = refl
+
+pub vertices_of_a_graph_count : accepted_entries 2 (entry.Copies 999_999_998 ∷ entry.Graph complete_3 ∷ []) ≡ Err VeryBad
+vertices_of_a_graph_count = refl
+
+pub too_many_entries : induced_of complete_2 (entry.Copies 1 ∷ entry.Copies 1 ∷ entry.Copies 1 ∷ []) false false false ≡ Err Bad
+too_many_entries = refl
+
+-- two copies of 0 and of 2, one of 1: for each copy the edge of length 2 comes first
+pub copies_of_a_triangle : induced_events complete_3 (entry.Copies 2 ∷ entry.Copies 1 ∷ entry.Copies 2 ∷ []) true true false
+    ≡ event 0 3 2 ∷ event 0 4 2 ∷ event 0 2 1 ∷ event 1 3 2 ∷ event 1 4 2 ∷ event 1 2 1 ∷ event 2 3 1 ∷ event 2 4 1 ∷ []
+unfolding numbers_from list_from each_edge_once
+copies_of_a_triangle = refl
+
+-- arcs lead from copies to copies
+pub copies_of_a_cycle : induced_events cycle_3 (entry.Copies 2 ∷ entry.Copies 1 ∷ entry.Copies 0 ∷ []) false true true ≡ event 0 2 1 ∷ event 1 2 1 ∷ []
+unfolding numbers_from list_from
+copies_of_a_cycle = refl
+
+-- each of the two records of a loop leads from each copy to each
+pub parallel_copies : induced_events loop_1 (entry.Copies 2 ∷ []) true true true
+    ≡ event 0 0 1 ∷ event 0 1 1 ∷ event 0 0 1 ∷ event 0 1 1 ∷ event 1 0 1 ∷ event 1 1 1 ∷ event 1 0 1 ∷ event 1 1 1 ∷ []
+unfolding numbers_from list_from
+parallel_copies = refl
+
+-- one copy, a triangle and an edge in the places of the vertices of a path: first the edges inside the graphs, each once
+pub graphs_on_a_path : induced_events path_3 (entry.Copies 1 ∷ entry.Graph complete_3 ∷ entry.Graph complete_2 ∷ []) false true false
+    ≡ event 1 3 2 ∷ event 1 2 1 ∷ event 2 3 1 ∷ event 4 5 1
+    ∷ event 0 1 1 ∷ event 0 2 1 ∷ event 0 3 1 ∷ event 1 4 1 ∷ event 1 5 1 ∷ event 2 4 1 ∷ event 2 5 1 ∷ event 3 4 1 ∷ event 3 5 1 ∷ []
+unfolding numbers_from list_from each_edge_once
+graphs_on_a_path = refl
+
+-- arcs inside keep their ways
+pub cycle_at_an_edge : induced_events complete_2 (entry.Copies 1 ∷ entry.Graph cycle_3 ∷ []) false true true
+    ≡ event 1 2 1 ∷ event 2 3 1 ∷ event 3 1 1 ∷ event 0 1 1 ∷ event 0 2 1 ∷ event 0 3 1 ∷ event 1 0 1 ∷ event 2 0 1 ∷ event 3 0 1 ∷ []
+unfolding numbers_from list_from
+cycle_at_an_edge = refl
+
+-- the flags in the id
+pub title_with_loops : title (induced_of complete_2 (entry.Copies 1 ∷ entry.Copies 1 ∷ []) true false false) ≡ codes "induced(board(2,0,0,0,-1,0,0),,1,0,0)"
+unfolding digits numbers_from list_from each_edge_once merged compound_id
+title_with_loops = refl
+
+pub title_with_parallels : title (induced_of complete_2 (entry.Copies 1 ∷ entry.Copies 1 ∷ []) false true false) ≡ codes "induced(board(2,0,0,0,-1,0,0),,0,1,0)"
+unfolding digits numbers_from list_from each_edge_once merged compound_id
+title_with_parallels = refl
+
+-- bi_complete(2,3,1): arcs one way
+pub bi_complete_directed : arcs (bi_complete_of (pos 2) (pos 3) true) ≡ 6
+unfolding digits numbers_from list_from each_edge_once merged box repeated name_of_vector displacements vectors_of_norm board_moves board_id family_graph
+bi_complete_directed = refl
+
+pub bi_complete_directed_title : title (bi_complete_of (pos 2) (pos 3) true) ≡ codes "bi_complete(2,3,1)"
+unfolding digits numbers_from list_from each_edge_once merged compound_id box repeated name_of_vector displacements vectors_of_norm board_moves board_id family_graph
+bi_complete_directed_title = refl
+
+-- bi_complete(2,-1,0)
+pub bi_complete_second_negative : bi_complete_of (pos 2) (negsuc 0) false ≡ Err Bad
+bi_complete_second_negative = refl
+
+-- wheel(3,1,1): arcs around the rim, and from the middle to it
+pub wheel_directed : blocks (wheel_of (pos 3) (pos 1) true)
+    ≡ ((codes "1:2", pos 1) ∷ (codes "1:1", pos 1) ∷ (codes "1:0", pos 1) ∷ [])
+    ∷ ((codes "1:1", pos 1) ∷ [])
+    ∷ ((codes "1:2", pos 1) ∷ [])
+    ∷ ((codes "1:0", pos 1) ∷ []) ∷ []
+unfolding digits box name_of_vector numbers_from list_from each_edge_once merged repeated displacements vectors_of_norm board_moves board_id family_graph
+wheel_directed = refl
+
+pub wheel_directed_title : title (wheel_of (pos 3) (pos 2) true) ≡ codes "wheel(3,2,1)"
+unfolding digits box name_of_vector numbers_from list_from each_edge_once merged compound_id repeated displacements vectors_of_norm board_moves board_id family_graph
+wheel_directed_title = refl
+
+-- a rim of two vertices: of its two edges one is left
+pub wheel_of_two : arcs (wheel_of (pos 2) (pos 1) false) ≡ 6
+unfolding digits box name_of_vector numbers_from list_from each_edge_once merged repeated displacements vectors_of_norm board_moves board_id family_graph
+wheel_of_two = refl
+
+-- a negative middle is refused before a rim that is too great
+pub wheel_negative_first : wheel_of (pos 1_000_000_001) (negsuc 0) false ≡ Err Bad
+wheel_negative_first = refl
