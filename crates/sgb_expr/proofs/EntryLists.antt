@@ -1,7 +1,7 @@
 -- Entries read one after another.
-use Rattle.std.proofs.Common.{◌≡◌, ◌≢◌, ◌≤◌, ◌<◌, ◌+◌, ◌-◌, ℕ, zero, suc, List, [], ◌∷◌, ◌++◌, length, map, codes, Result, Ok, Err, refl, sym, ◌∙◌, ap, inl, inr, append_assoc, append-nil, arith}
+use Rattle.std.proofs.Common.{◌≡◌, ◌≢◌, ◌+◌, ◌-◌, ℕ, zero, suc, List, [], ◌∷◌, ◌++◌, length, codes, Result, Ok, Err, refl, sym, ◌∙◌, ap, inl, inr, append_assoc, append-nil, arith}
 use Rattle.sgb_expr.specs.CodeEntries.{listed}
-use Rattle.sgb_expr.specs.Expression.{Expression, Entry, entry_of}
+use Rattle.sgb_expr.specs.Expression.{Entry, entry_of}
 use Rattle.sgb_expr.specs.Gives.{Fails}
 use Rattle.sgb_expr.specs.Readings.{◌>>=◌, or_else, then_read, read_after, read_as, fixed_at, fixed_as, separator_before}
 use Rattle.sgb_expr.specs.Reading.{entry_at, entries_at, entry_list_at, expression_at}

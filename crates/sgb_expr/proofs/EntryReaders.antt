@@ -6,9 +6,9 @@ use Rattle.sgb_expr.specs.Expression.{Expression, Entry}
 use Rattle.sgb_expr.specs.Languages.{Then, After, As, Or}
 use Rattle.sgb_expr.specs.Numbers.{IsInteger, most_digits}
 use Rattle.sgb_expr.specs.Operations.{IsEntry, AreEntries}
-use Rattle.sgb_expr.specs.Readings.{◌>>=◌, either, or_else, then_read, read_after, read_as, fixed_at, fixed_as, number_at, signed_at, integer_at}
+use Rattle.sgb_expr.specs.Readings.{◌>>=◌, either, or_else, then_read, read_as, fixed_at, fixed_as, number_at, integer_at}
 use Rattle.sgb_expr.specs.Reading.{entry_at, entries_then, entries_for, entries_at}
-use Rattle.sgb_expr.proofs.Readers.{next, Reads, bind_ok, bind_of, bind_stops, ok_same, either_found, either_stops, by_first, by_second, cut_in, reads_then, reads_as, reads_or, reads_before}
+use Rattle.sgb_expr.proofs.Readers.{next, Reads, bind_ok, bind_stops, ok_same, either_found, either_stops, by_first, by_second, cut_in, reads_then, reads_as, reads_or, reads_before}
 use Rattle.sgb_expr.proofs.Words.{Anything, Fixed, both_true, fixed_other, reads_fixed, reads_same, no_ok, err_same}
 use Rattle.sgb_expr.proofs.Digits.{leading_more, number_stops}
 use Rattle.sgb_expr.proofs.NumberReaders.{Clear, reads_integer}

@@ -1,5 +1,5 @@
 -- The forms of names: languages made of that of the expressions inside, and their readers, made of the reader of these.
-use Rattle.std.proofs.Common.{◌≡◌, ◌≤◌, ℕ, List, [], length, codes, Result, Ok, refl, ◌∙◌, ap, arith}
+use Rattle.std.proofs.Common.{ℕ, List, [], codes, Result, Ok, refl, ◌∙◌, ap, arith}
 use Rattle.sgb_expr.specs.Expression.{Expression}
 use Rattle.sgb_expr.specs.Forms.{AreNumbers}
 use Rattle.sgb_expr.specs.Languages.{Then, After, As}

@@ -1,5 +1,5 @@
 -- How much readers leave of a text.
-use Rattle.std.proofs.Common.{◌≡◌, ◌≤◌, ◌+◌, ℕ, List, ◌++◌, length, inl, inr, Result, Ok, Err, refl, sym, ◌∙◌, ap, arith, length-append}
+use Rattle.std.proofs.Common.{◌≡◌, ◌≤◌, ◌+◌, ℕ, List, length, inl, inr, Result, Ok, Err, refl, sym, ◌∙◌, ap, arith, length-append}
 use Rattle.sgb_expr.specs.Readings.{◌>>=◌, fixed_at}
 use Rattle.sgb_expr.proofs.Readers.{Reads, ok_same}
 use Rattle.sgb_expr.proofs.Words.{fixed_cases, no_ok}

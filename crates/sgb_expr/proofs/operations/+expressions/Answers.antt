@@ -1,4 +1,4 @@
-use Rattle.std.proofs.Common.{arith, rules, codes, length, length-append, List, ◌≡◌, ◌+◌, ◌++◌, ℕ, Ok, Some, None, sym, ◌∙◌, ap, subst}
+use Rattle.std.proofs.Common.{arith, rules, codes, length, length-append, List, ◌≡◌, ◌+◌, ℕ, Ok, Some, None, sym, ◌∙◌, ap, subst}
 use Rattle.std.proofs.lemmas.Slice.Eq.{strip_prefix_is}
 use Rattle.std.proofs.lemmas.Bool.Decides.{Decides-eqb}
 use Rattle.std.proofs.lemmas.Result.{err_from_is_err_and}
