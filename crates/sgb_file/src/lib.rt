@@ -4,6 +4,7 @@
 
 mod devices;
 mod laws;
+mod saving;
 
 pub use devices::{
     Buffered, CutSink, CutSource, Failed, FromRead, MemSink, MemSource, Sink, Source, ToWrite,
