@@ -89,3 +89,7 @@ pub lines-all : (all left : List (List ℕ)) (a b : Stage) → left ≡ [] → L
 lines-all all left a b e p =
     let whole : p.0 ≡ all = sym (append-nil p.0) ∙ (ap (λ lines. p.0 ++ lines) (sym e) ∙ sym p.1) in
     subst (λ lines. HasLaid lines a b) whole p.2
+
+-- what becomes of the lines that are left becomes of all
+pub lines-last : {T E : Type 0} (all left : List (List ℕ)) (line : List ℕ) (a b c : Stage) (r : Result T E) → LinesSoFar all left a b → IsLaid left line b c r → IsLaid all line a c r
+lines-last all left line a b c r p q = laid-after all p.0 left line a b c r p.1 p.2 q

@@ -5,6 +5,8 @@ pub mod LayoutLemmas
 pub mod BrokenLines
 pub mod LaidLines
 pub mod PlacedPieces
+pub mod FieldTexts
+pub mod RecordLines
 pub mod Examples
 pub mod PartialWrites
 pub mod SoFar

@@ -1,11 +1,13 @@
 -- Lines that are laid out one after another, with the checksum of the lines so far [GB_SAVE, save_graph].
-use Rattle.std.specs.Prelude.{◌≡◌, ℕ, ◌+◌, ◌*◌, ◌%◌, Bool, true, false, not, List, [], ◌∷◌, ◌++◌, fold, filter, codes, Option, Result, Ok, Err, map, length, ◌==◌, if◌then◌else◌}
-use Rattle.std.specs.List.{range_with_len}
+use Rattle.std.specs.Prelude.{◌≡◌, ℕ, ◌+◌, ◌*◌, ◌%◌, Bool, true, false, not, List, [], ◌∷◌, ◌++◌, fold, filter, codes, Option, Result, Ok, Err, map, length, decimal, ◌==◌, if◌then◌else◌}
+use Rattle.std.specs.List.{flat_map, range_with_len}
 use Rattle.std.specs.Io.KnownBytes.{Appends}
 use Rattle.sgb_file.specs.Devices.{AppendsPrefix}
 use Rattle.sgb_file.specs.FileLines.{text_of_lines}
 use Rattle.sgb_file.specs.Checksum.{value_of_byte, checksum_prime, has_star}
-use Rattle.sgb_file.specs.Saving.{broken_lines, last_part, line_begun, lines_ended}
+use Rattle.sgb_file.specs.Saving.{broken_lines, laid_out, last_part, line_begun, lines_ended, pieces_of, record_lines, vertex_texts, arc_texts}
+use Rattle.sgb_graph.specs.declared.fields.Vertex.{Vertex}
+use Rattle.sgb_graph.specs.declared.fields.ArcRec.{ArcRec}
 
 -- the place of a byte in the order of the checksum
 unfoldable pub place_of : ℕ → ℕ
@@ -75,7 +77,40 @@ abbrev pub IsPlaced : {T E : Type 0} → List ℕ → Stage → Stage → Result
 IsPlaced piece old new result =
     IsLaid (lines_ended old.layout.line piece) (line_begun old.layout.line piece) old new result
 
--- the piece of a field's text: a comma after it where more fields follow
+-- the pieces of these texts were laid out after the beginning of a line, and the last line ended
+abbrev pub AreLaidOut : {T E : Type 0} → List (List ℕ) → Stage → Stage → Result T E → Type 0
+AreLaidOut texts old new result = IsLaid (laid_out old.layout.line (pieces_of texts)) [] old new result
+
+-- the lines of the records of vertices, and of arc records
+unfoldable pub vertex_lines : List Vertex → List (List ℕ)
+vertex_lines vertices = flat_map (λ v. record_lines (vertex_texts v)) vertices
+
+unfoldable pub arc_lines : List ArcRec → List (List ℕ)
+arc_lines records = flat_map (λ r. record_lines (arc_texts r)) records
+
+-- the comma after a field where more fields follow
+abbrev pub comma_of : Bool → List ℕ
+comma_of true = codes ","
+comma_of false = []
+
+-- the piece of a field's text
 abbrev pub piece_of : Bool → List ℕ → List ℕ
-piece_of true text = text ++ codes ","
-piece_of false text = text
+piece_of more text = text ++ comma_of more
+
+-- there is any text
+abbrev pub has_any : List (List ℕ) → Bool
+has_any [] = false
+has_any (text ∷ texts) = true
+
+-- the first of these texts, if there is any, was laid out as a piece
+abbrev pub IsNextPlaced : {T E : Type 0} → Bool → List (List ℕ) → Stage → Stage → Result T E → Type 0
+IsNextPlaced more [] old new result = IsLaid [] old.layout.line old new result
+IsNextPlaced more (text ∷ texts) old new result = IsPlaced (piece_of more text) old new result
+
+-- the first line and its newline, and the last
+abbrev pub head_text : List ℕ → ℕ → ℕ → List ℕ
+head_text letters n records =
+    codes "* GraphBase graph (util_types " ++ letters ++ codes "," ++ decimal n ++ codes "V," ++ decimal records ++ codes "A)\n"
+
+abbrev pub checksum_text : ℕ → List ℕ
+checksum_text checksum = codes "* Checksum " ++ decimal checksum ++ codes "\n"

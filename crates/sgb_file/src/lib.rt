@@ -11,3 +11,4 @@ pub use devices::{
     put_all,
 };
 pub use laws::{checksum_order_law, line_bytes_law, read_text_law, running_checksum_law};
+pub use saving::write_gb;
