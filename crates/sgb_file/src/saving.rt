@@ -63,7 +63,11 @@ fn put_head<W: Sink>(
 fn letters(kinds: &[Kind; 14]) -> [u8; 14]
     ensures { result ≡ map letter_of kinds.now }
 {
-    kinds.map(|kind| letter(kind))
+    let mut letters = [b'Z'; 14];
+    for place in 0..14 {
+        letters[place] = letter(kinds[place]);
+    }
+    letters
 }
 
 // The letter of a kind.
