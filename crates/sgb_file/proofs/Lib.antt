@@ -7,6 +7,7 @@ pub mod LaidLines
 pub mod PlacedPieces
 pub mod FieldTexts
 pub mod RecordLines
+pub mod WholeText
 pub mod Examples
 pub mod PartialWrites
 pub mod SoFar

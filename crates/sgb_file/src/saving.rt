@@ -10,6 +10,8 @@ mod fields;
 mod layouts;
 mod lines;
 mod records;
+#[cfg(test)]
+mod tests;
 
 use crate::devices::{Failed, Sink, put_all};
 use itoa::Buffer;
@@ -40,6 +42,7 @@ fn put_head<W: Sink>(
     n: u32,
     records: usize,
 ) -> Result<(), Failed>
+    ensures kinds { length kinds.now ≡ 14 }
     ensures put { IsPut (head_text (map letter_of kinds.now) n records) (W.written sink.old) (W.written sink.new) (W.has_failed sink.new) result }
     ensures sound { OnOk result (W.has_failed sink.new ≡ W.has_failed sink.old) }
 {
