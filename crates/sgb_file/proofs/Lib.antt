@@ -9,6 +9,12 @@ pub mod RecordReading
 pub mod WrittenLines
 pub mod FileReading
 pub mod SavedGraphs
+pub mod BrokenLines
+pub mod LaidLines
+pub mod PlacedPieces
+pub mod FieldTexts
+pub mod RecordLines
+pub mod WholeText
 pub mod Examples
 pub mod PartialWrites
 pub mod SoFar

@@ -7,3 +7,4 @@ pub mod Records
 pub mod Restoring
 pub mod Saving
 pub mod Saved
+pub mod Layouts

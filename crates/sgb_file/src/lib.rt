@@ -4,6 +4,7 @@
 
 mod devices;
 mod laws;
+mod saving;
 
 pub use devices::{
     Buffered, CutSink, CutSource, Failed, FromRead, MemSink, MemSource, Sink, Source, ToWrite,
@@ -13,3 +14,4 @@ pub use laws::{
     checksum_order_law, graphs_can_be_saved, line_bytes_law, read_text_law, running_checksum_law,
     written_is_read_law,
 };
+pub use saving::write_gb;
