@@ -6,6 +6,9 @@ use Rattle.std.proofs.Math.Nat.{mul_assoc, mul_comm, add-mul, pow-suc, add-mul-m
 use Rattle.std.proofs.lemmas.Nat.{mod_below}
 use Rattle.std.proofs.lemmas.Bool.Decides.{Decides-eqb, Decides-ltb, nat_tests}
 use Rattle.sgb_graph.proofs.TestLemmas.{at_each_below, both_first, both_second, where_passes}
+use Rattle.std.specs.Prelude.{slice_index_or as get_or}
+use Rattle.std.proofs.lemmas.Grind.{get_or_default_zero}
+use Rattle.sgb_file.specs.Layouts.{place_of, places}
 use Rattle.sgb_file.specs.Checksum.{characters, value_of_byte, is_character, weighted_sum}
 
 -- the byte has a place below 96, where it stands
@@ -81,3 +84,14 @@ running_from p positive (byte ∷ bytes) a h =
     let all : (2 * a + v) * k + weighted_sum bytes ≡ a * 2 ^ suc (length bytes) + (v * k + weighted_sum bytes) =
     rw power (ap (λ (x : ℕ). x + weighted_sum bytes) (weighed a v k) ∙ omega arith) in
     rest ∙ (open_up ∙ ap (λ (x : ℕ). x % p) all)
+
+-- the table of places has each byte's
+length-places : length places ≡ 256
+unfolding places place_of
+length-places = refl
+
+pub place_in_table : (byte d : ℕ) → byte < 256 → get_or places byte d ≡ place_of byte
+unfolding places place_of
+place_in_table byte d h =
+    get_or_default_zero places byte d (rw length-places h)
+    ∙ (Decides-eqb _ _).0 (at_each_below (λ b. get_or places b 0 == place_of b) 256 refl byte h)

@@ -6,3 +6,4 @@ pub mod Fields
 pub mod Records
 pub mod Restoring
 pub mod Saving
+pub mod Layouts

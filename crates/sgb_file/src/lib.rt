@@ -4,9 +4,11 @@
 
 mod devices;
 mod laws;
+mod saving;
 
 pub use devices::{
     Buffered, CutSink, CutSource, Failed, FromRead, MemSink, MemSource, Sink, Source, ToWrite,
     put_all,
 };
 pub use laws::{checksum_order_law, line_bytes_law, read_text_law, running_checksum_law};
+pub use saving::write_gb;

@@ -1,0 +1,140 @@
+-- The texts of fields, laid out as pieces one after another.
+use Rattle.std.proofs.Common.{◌≡◌, ◌<◌, ◌≤◌, ◌+◌, ◌++◌, ◌∙◌, ℕ, Bool, true, false, Bor, List, [], ◌∷◌, Result, Ok, Err, length, drop, map, slice_index_or, refl, sym, ap, subst, append-nil, suc, Some, arith, slice_get}
+use Rattle.sgb_graph.specs.Sound.{utils_fit}
+use Rattle.sgb_graph.specs.declared.fields.Kind.{Kind}
+use Rattle.sgb_graph.proofs.TestLemmas.{both_second}
+use Rattle.std.specs.List.{flat_map}
+use Rattle.std.proofs.lemmas.List.{at_drop_more, drop_all}
+use Rattle.sgb_graph.specs.declared.fields.Util.{Util}
+use Rattle.sgb_graph.specs.declared.fields.Util.TheVariants.{Nothing, Int, Vertex as VertexField, Str, Chain}
+use Rattle.sgb_file.specs.Saving.{field_texts, pieces_of, laid_out, lines_ended, line_begun}
+use Rattle.sgb_file.specs.Layouts.{Stage, HasLaid, IsStopped, IsLaid, IsPlaced, IsNextPlaced, AreLaidOut, has_any, piece_of}
+use Rattle.sgb_file.proofs.LaidLines.{LinesSoFar, lines-none, lines-more, lines-cut, lines-last, stopped-first, laid-after, laid-append, laid-none}
+
+-- the texts of fields
+abbrev pub texts_of : List (Bor Util) → List (List ℕ)
+texts_of fields = flat_map field_texts (map (λ field. field.now) fields)
+
+-- of texts after texts
+pub any-here : (xs ys : List (List ℕ)) → has_any xs ≡ true → has_any (xs ++ ys) ≡ true
+any-here [] ys e = absurd cc
+any-here (x ∷ xs) ys e = refl
+
+pub any-later : (xs ys : List (List ℕ)) → has_any xs ≡ false → has_any (xs ++ ys) ≡ has_any ys
+any-later [] ys e = refl
+any-later (x ∷ xs) ys e = absurd cc
+
+-- the texts from the i-th field on
+pub texts-from : (fields : List (Bor Util)) (i : ℕ) (field : Bor Util) → i < length fields → field ≡ slice_index_or fields i field
+    → texts_of (drop i fields) ≡ field_texts field.now ++ texts_of (drop (i + 1) fields)
+texts-from fields i field h e =
+    at_drop_more texts_of fields i field h ∙ ap (λ (f : Bor Util). field_texts f.now ++ texts_of (drop (i + 1) fields)) (sym e)
+
+-- the first text as a piece, and the others after it
+pub first_piece : (line text : List ℕ) (rest : List (List ℕ)) → laid_out line (pieces_of (text ∷ rest))
+    ≡ lines_ended line (piece_of (has_any rest) text) ++ laid_out (line_begun line (piece_of (has_any rest) text)) (pieces_of rest)
+unfolding laid_out pieces_of
+first_piece line text [] = rw (append-nil text) refl
+first_piece line text (x ∷ xs) = refl
+
+-- the first text was laid out, and the others are left
+text-more : (text : List ℕ) (rest all : List (List ℕ)) (a b c : Stage) → LinesSoFar all (laid_out b.layout.line (pieces_of (text ∷ rest))) a b
+    → IsPlaced {T = Bool} {E = Bool} (piece_of (has_any rest) text) b c (Ok true) → LinesSoFar all (laid_out c.layout.line (pieces_of rest)) a c
+text-more text rest all a b c p q =
+    subst (λ line. LinesSoFar all (laid_out line (pieces_of rest)) a c) (sym q.1)
+    (lines-more all _ (lines_ended b.layout.line (piece_of (has_any rest) text)) _ a b c (first_piece b.layout.line text rest) p q.0)
+
+text-cut : (text : List ℕ) (rest all : List (List ℕ)) (a b c : Stage) → LinesSoFar all (laid_out b.layout.line (pieces_of (text ∷ rest))) a b
+    → IsStopped (lines_ended b.layout.line (piece_of (has_any rest) text)) b c → IsStopped all a c
+text-cut text rest all a b c p q =
+    lines-cut all _ (lines_ended b.layout.line (piece_of (has_any rest) text)) _ a b c (first_piece b.layout.line text rest) p q
+
+-- the same of a field, which may have no text
+pub field-more : (T E : Type 0) (x : T) (f : Util) (rest all : List (List ℕ)) (a b c : Stage) → LinesSoFar all (laid_out b.layout.line (pieces_of (field_texts f ++ rest))) a b
+    → IsNextPlaced {T = T} {E = E} (has_any rest) (field_texts f) b c (Ok x) → LinesSoFar all (laid_out c.layout.line (pieces_of rest)) a c
+field-more T E x Nothing rest all a b c p q =
+    subst (λ line. LinesSoFar all (laid_out line (pieces_of rest)) a c) (sym q.1) (lines-more all _ [] _ a b c refl p q.0)
+field-more T E x (Int i) rest all a b c p q = text-more _ rest all a b c p q
+field-more T E x (VertexField r) rest all a b c p q = text-more _ rest all a b c p q
+field-more T E x (Str s) rest all a b c p q = text-more _ rest all a b c p q
+field-more T E x (Chain first) rest all a b c p q = text-more _ rest all a b c p q
+
+pub field-cut : (T E : Type 0) (x : E) (f : Util) (rest all : List (List ℕ)) (a b c : Stage) → LinesSoFar all (laid_out b.layout.line (pieces_of (field_texts f ++ rest))) a b
+    → IsNextPlaced {T = T} {E = E} (has_any rest) (field_texts f) b c (Err x) → IsStopped all a c
+field-cut T E x Nothing rest all a b c p q = lines-cut all _ [] _ a b c refl p q
+field-cut T E x (Int i) rest all a b c p q = text-cut _ rest all a b c p q
+field-cut T E x (VertexField r) rest all a b c p q = text-cut _ rest all a b c p q
+field-cut T E x (Str s) rest all a b c p q = text-cut _ rest all a b c p q
+field-cut T E x (Chain first) rest all a b c p q = text-cut _ rest all a b c p q
+
+-- fields one by one: the next one was laid out, or the writing stopped there
+pub fields-more : (T E : Type 0) (x : T) (fields : List (Bor Util)) (i : ℕ) (field : Bor Util) (more : Bool) (all : List (List ℕ)) (a b c : Stage)
+    → i < length fields → field ≡ slice_index_or fields i field → more ≡ has_any (texts_of (drop (i + 1) fields))
+    → LinesSoFar all (laid_out b.layout.line (pieces_of (texts_of (drop i fields)))) a b
+    → IsNextPlaced {T = T} {E = E} more (field_texts field.now) b c (Ok x)
+    → LinesSoFar all (laid_out c.layout.line (pieces_of (texts_of (drop (i + 1) fields)))) a c
+fields-more T E x fields i field more all a b c h e m p q =
+    field-more T E x field.now (texts_of (drop (i + 1) fields)) all a b c
+    (subst (λ texts. LinesSoFar all (laid_out b.layout.line (pieces_of texts)) a b) (texts-from fields i field h e) p)
+    (subst (λ (w : Bool). IsNextPlaced {T = T} {E = E} w (field_texts field.now) b c (Ok x)) m q)
+
+pub fields-cut : (T E : Type 0) (x : E) (fields : List (Bor Util)) (i : ℕ) (field : Bor Util) (more : Bool) (all : List (List ℕ)) (a b c : Stage)
+    → i < length fields → field ≡ slice_index_or fields i field → more ≡ has_any (texts_of (drop (i + 1) fields))
+    → LinesSoFar all (laid_out b.layout.line (pieces_of (texts_of (drop i fields)))) a b
+    → IsNextPlaced {T = T} {E = E} more (field_texts field.now) b c (Err x) → IsStopped all a c
+fields-cut T E x fields i field more all a b c h e m p q =
+    field-cut T E x field.now (texts_of (drop (i + 1) fields)) all a b c
+    (subst (λ texts. LinesSoFar all (laid_out b.layout.line (pieces_of texts)) a b) (texts-from fields i field h e) p)
+    (subst (λ (w : Bool). IsNextPlaced {T = T} {E = E} w (field_texts field.now) b c (Err x)) m q)
+
+-- no field is left: the line ends
+no_texts : (line : List ℕ) → laid_out line (pieces_of []) ≡ line ∷ []
+unfolding laid_out pieces_of
+no_texts line = refl
+
+pub fields-end : {T E : Type 0} (fields : List (Bor Util)) (i : ℕ) (all : List (List ℕ)) (a b c : Stage) (r : Result T E) → length fields ≤ i
+    → LinesSoFar all (laid_out b.layout.line (pieces_of (texts_of (drop i fields)))) a b → IsLaid (b.layout.line ∷ []) [] b c r → IsLaid all [] a c r
+fields-end fields i all a b c r h p q =
+    let none = ap (λ fs. laid_out b.layout.line (pieces_of (texts_of fs))) (drop_all i fields h) ∙ no_texts b.layout.line in
+    lines-last all (b.layout.line ∷ []) [] a b c r (subst (λ lines. LinesSoFar all lines a b) none p) q
+
+-- a piece was laid out
+abbrev pub HasPlaced : List ℕ → Stage → Stage → Type 0
+HasPlaced piece a b = HasLaid (lines_ended a.layout.line piece) a b × (b.layout.line ≡ line_begun a.layout.line piece)
+
+-- a record whose first text was laid out, or where the writing stopped there
+pub record-cut : (text t : List ℕ) (rest : List (List ℕ)) (more : Bool) (a b : Stage) → t ≡ text → more ≡ has_any rest
+    → IsStopped (lines_ended a.layout.line (piece_of more t)) a b → IsStopped (laid_out a.layout.line (pieces_of (text ∷ rest))) a b
+record-cut text t rest more a b w e p =
+    stopped-first _ _ _ a b (first_piece a.layout.line text rest)
+    (subst (λ (v : Bool). IsStopped (lines_ended a.layout.line (piece_of v text)) a b) e (subst (λ (u : List ℕ). IsStopped (lines_ended a.layout.line (piece_of more u)) a b) w p))
+
+pub record-then : {T E : Type 0} (text t : List ℕ) (rest : List (List ℕ)) (more : Bool) (a b c : Stage) (r : Result T E) → t ≡ text
+    → more ≡ has_any rest → HasPlaced (piece_of more t) a b → AreLaidOut rest b c r → AreLaidOut (text ∷ rest) a c r
+record-then text t rest more a b c r w e p q =
+    let placed = subst (λ (v : Bool). HasPlaced (piece_of v text) a b) e (subst (λ (u : List ℕ). HasPlaced (piece_of more u) a b) w p) in
+    let rests = subst (λ line. IsLaid (laid_out line (pieces_of rest)) [] b c r) placed.1 q in
+    laid-after _ _ _ _ a b c r (first_piece a.layout.line text rest) placed.0 rests
+
+pub record-stopped : (text t : List ℕ) (rest : List (List ℕ)) (more : Bool) (a b c : Stage) → t ≡ text
+    → more ≡ has_any rest → HasPlaced (piece_of more t) a b → IsStopped (laid_out b.layout.line (pieces_of rest)) b c → IsStopped (laid_out a.layout.line (pieces_of (text ∷ rest))) a c
+record-stopped text t rest more a b c w e p q = record-then {T = Bool} {E = Bool} text t rest more a b c (Err true) w e p q
+
+-- six values in a list of six
+pub six_values : {X : Type 0} (xs : List X) (a b c d e f : X) → length xs ≡ 6 → slice_get xs 0 ≡ Some a → slice_get xs 1 ≡ Some b → slice_get xs 2 ≡ Some c
+    → slice_get xs 3 ≡ Some d → slice_get xs 4 ≡ Some e → slice_get xs 5 ≡ Some f → a ∷ b ∷ c ∷ d ∷ e ∷ f ∷ [] ≡ xs
+six_values (x0 ∷ x1 ∷ x2 ∷ x3 ∷ x4 ∷ x5 ∷ []) a b c d e f n h0 h1 h2 h3 h4 h5 = cc
+six_values [] a b c d e f n h0 h1 h2 h3 h4 h5 = absurd (omega (arith, n))
+six_values (x0 ∷ []) a b c d e f n h0 h1 h2 h3 h4 h5 = absurd (omega (arith, n))
+six_values (x0 ∷ x1 ∷ []) a b c d e f n h0 h1 h2 h3 h4 h5 = absurd (omega (arith, n))
+six_values (x0 ∷ x1 ∷ x2 ∷ []) a b c d e f n h0 h1 h2 h3 h4 h5 = absurd (omega (arith, n))
+six_values (x0 ∷ x1 ∷ x2 ∷ x3 ∷ []) a b c d e f n h0 h1 h2 h3 h4 h5 = absurd (omega (arith, n))
+six_values (x0 ∷ x1 ∷ x2 ∷ x3 ∷ x4 ∷ []) a b c d e f n h0 h1 h2 h3 h4 h5 = absurd (omega (arith, n))
+six_values (x0 ∷ x1 ∷ x2 ∷ x3 ∷ x4 ∷ x5 ∷ x6 ∷ xs) a b c d e f n h0 h1 h2 h3 h4 h5 = absurd (omega (arith, n))
+
+-- as many values as kinds
+pub as_many : (n m : ℕ) (kinds : List Kind) (utils : List Util) → utils_fit n m kinds utils ≡ true → length utils ≡ length kinds
+as_many n m [] [] e = refl
+as_many n m [] (u ∷ us) e = absurd cc
+as_many n m (k ∷ ks) [] e = absurd cc
+as_many n m (k ∷ ks) (u ∷ us) e = ap suc (as_many n m ks us (both_second _ _ e))

@@ -1,0 +1,110 @@
+-- Bytes that are put on lines, and pieces that are laid out, one after another.
+use Rattle.std.proofs.Common.{◌≡◌, ◌≤◌, ◌++◌, ◌∙◌, ℕ, Bool, true, false, List, [], ◌∷◌, Option, Result, Ok, Err, length, take, drop, slice_index_or, subst, ◌<◌, ◌+◌, refl, sym, ap, append_assoc, append-nil, arith, length-append}
+use Rattle.std.proofs.lemmas.List.{take-append-drop, take_more}
+use Rattle.std.proofs.lemmas.Bool.Decides.{nat_tests}
+use Rattle.sgb_file.specs.Saving.{broken_lines, last_part, fits_on, lines_ended, line_begun}
+use Rattle.sgb_file.specs.Layouts.{LayoutState, Stage, HasLaid, IsStopped, IsLaid, IsFilled, IsPlaced, lines_before, line_before}
+use Rattle.sgb_file.proofs.BrokenLines.{broken-short, last-short, broken-once, last-once, broken-append, last-append}
+use Rattle.sgb_file.proofs.LaidLines.{laid-none, laid-append, laid-after, stopped-first, stopped-after}
+
+-- two stages that differ in the line alone
+pub record AreAlike (a b : Stage) : Type 0 where
+  pub written : b.written ≡ a.written
+  pub failed : b.failed ≡ a.failed
+  pub checksum : b.layout.checksum ≡ a.layout.checksum
+
+-- lines that were written between stages alike
+pub laid-alike : (lines : List (List ℕ)) (a b c d : Stage) → AreAlike a b → HasLaid lines b c → AreAlike c d → HasLaid lines a d
+laid-alike lines a b c d p q r =
+    laid-append [] lines a b d (laid-none a b p.written p.failed p.checksum)
+    (rw (sym (append-nil lines)) (laid-append lines [] b c d q (laid-none c d r.written r.failed r.checksum)))
+
+pub stopped-alike : (lines : List (List ℕ)) (a b c : Stage) → AreAlike a b → IsStopped lines b c → IsStopped lines a c
+stopped-alike lines a b c p q =
+    stopped-after lines [] lines a b c refl (laid-none a b p.written p.failed p.checksum) q
+
+-- bytes that fit on the line
+pub filled-short : (bytes : List ℕ) (a b : Stage) → length (a.layout.line ++ bytes) ≤ 79 → AreAlike a b → b.layout.line ≡ a.layout.line ++ bytes
+    → HasLaid (broken_lines (a.layout.line ++ bytes)) a b × (b.layout.line ≡ last_part (a.layout.line ++ bytes))
+filled-short bytes a b short alike line = (
+  rw (broken-short (a.layout.line ++ bytes) short) (laid-none a b alike.written alike.failed alike.checksum),
+  line ∙ sym (last-short (a.layout.line ++ bytes) short),
+)
+
+-- a byte that breaks the line: the writing stopped, or the next line was begun
+pub stopped-once : (byte : ℕ) (a b c : Stage) → length a.layout.line ≡ 79 → b.layout.line ≡ take 78 a.layout.line ++ 92 ∷ [] → AreAlike a b
+    → IsStopped (b.layout.line ∷ []) b c → IsStopped (broken_lines (a.layout.line ++ byte ∷ [])) a c
+stopped-once byte a b c full line alike p =
+    rw (broken-once a.layout.line byte full ∙ ap (λ (xs : List ℕ). xs ∷ []) (sym line)) (stopped-alike (b.layout.line ∷ []) a b c alike p)
+
+pub filled-once : (byte : ℕ) (a b c d : Stage) → length a.layout.line ≡ 79 → b.layout.line ≡ take 78 a.layout.line ++ 92 ∷ [] → AreAlike a b
+    → HasLaid (b.layout.line ∷ []) b c → AreAlike c d → d.layout.line ≡ drop 78 a.layout.line ++ byte ∷ []
+    → HasLaid (broken_lines (a.layout.line ++ byte ∷ [])) a d × (d.layout.line ≡ last_part (a.layout.line ++ byte ∷ []))
+filled-once byte a b c d full line alike p same rest = (
+  rw (broken-once a.layout.line byte full ∙ ap (λ (xs : List ℕ). xs ∷ []) (sym line)) (laid-alike (b.layout.line ∷ []) a b c d alike p same),
+  rest ∙ sym (last-once a.layout.line byte full),
+)
+
+-- more bytes after the first ones
+filled-parts : (line xs ys : List ℕ) → broken_lines (line ++ (xs ++ ys)) ≡ broken_lines (line ++ xs) ++ broken_lines (last_part (line ++ xs) ++ ys)
+filled-parts line xs ys = ap broken_lines (sym (append_assoc line xs ys)) ∙ broken-append (line ++ xs) ys
+
+pub filled-cut : (xs ys : List ℕ) (a b : Stage) → IsStopped (broken_lines (a.layout.line ++ xs)) a b → IsStopped (broken_lines (a.layout.line ++ (xs ++ ys))) a b
+filled-cut xs ys a b p = stopped-first _ _ _ a b (filled-parts a.layout.line xs ys) p
+
+pub filled-then : {T E : Type 0} (xs ys : List ℕ) (a b c : Stage) (r : Result T E)
+    → HasLaid (broken_lines (a.layout.line ++ xs)) a b × (b.layout.line ≡ last_part (a.layout.line ++ xs)) → IsFilled ys b c r → IsFilled (xs ++ ys) a c r
+filled-then xs ys a b c r p q =
+    rw (ap last_part (sym (append_assoc a.layout.line xs ys)) ∙ last-append (a.layout.line ++ xs) ys)
+    (laid-after _ _ _ _ a b c r (filled-parts a.layout.line xs ys) p.0 (rw (sym p.1) q))
+
+-- these bytes were put on lines
+abbrev pub HasFilled : List ℕ → Stage → Stage → Type 0
+HasFilled bytes a b = HasLaid (broken_lines (a.layout.line ++ bytes)) a b × (b.layout.line ≡ last_part (a.layout.line ++ bytes))
+
+pub filled-more : (xs ys : List ℕ) (a b c : Stage) → HasFilled xs a b → HasFilled ys b c → HasFilled (xs ++ ys) a c
+filled-more xs ys a b c p q = filled-then {T = Bool} {E = Bool} xs ys a b c (Ok true) p q
+
+pub filled-stopped : (xs ys : List ℕ) (a b c : Stage) → HasFilled xs a b → IsStopped (broken_lines (b.layout.line ++ ys)) b c → IsStopped (broken_lines (a.layout.line ++ (xs ++ ys))) a c
+filled-stopped xs ys a b c p q = filled-then {T = Bool} {E = Bool} xs ys a b c (Err true) p q
+
+-- bytes one by one: the next one was put on lines, or the writing stopped there
+pub filled-next : (bytes : List ℕ) (i d : ℕ) (a b c : Stage) → i < length bytes → HasFilled (take i bytes) a b → HasFilled (slice_index_or bytes i d ∷ []) b c
+    → HasFilled (take (i + 1) bytes) a c
+filled-next bytes i d a b c h p q =
+    subst (λ xs. HasFilled xs a c) (sym (take_more bytes i d h)) (filled-more (take i bytes) (slice_index_or bytes i d ∷ []) a b c p q)
+
+pub filled-stopped-at : (bytes : List ℕ) (i d : ℕ) (a b c : Stage) → i < length bytes → HasFilled (take i bytes) a b
+    → IsStopped (broken_lines (b.layout.line ++ slice_index_or bytes i d ∷ [])) b c → IsStopped (broken_lines (a.layout.line ++ bytes)) a c
+filled-stopped-at bytes i d a b c h p q =
+    let whole = ap (λ xs. xs ++ drop (i + 1) bytes) (sym (take_more bytes i d h)) ∙ take-append-drop (i + 1) bytes in
+    subst (λ xs. IsStopped (broken_lines (a.layout.line ++ xs)) a c) whole
+    (filled-cut (take i bytes ++ slice_index_or bytes i d ∷ []) (drop (i + 1) bytes) a c (filled-stopped (take i bytes) (slice_index_or bytes i d ∷ []) a b c p q))
+
+-- no bytes
+pub filled-none : (a : Stage) → length a.layout.line ≤ 79 → HasFilled [] a a
+filled-none a short =
+    let whole = append-nil a.layout.line in
+    filled-short [] a a (rw whole short) (record { written = refl; failed = refl; checksum = refl }) (sym whole)
+
+-- a piece: what is written before it, and what its bytes fill
+placed-lines : (fits : Bool) (line piece : List ℕ) → fits_on line piece ≡ fits → lines_ended line piece ≡ lines_before fits line ++ broken_lines (line_before fits line ++ piece)
+placed-lines true line piece e =
+    let short : length (line ++ piece) ≤ 79 = rw length-append (grind (arith, nat_tests, e)) in
+    rw (e, broken-short (line ++ piece) short) refl
+placed-lines false line piece e = rw e refl
+
+placed-line : (fits : Bool) (line piece : List ℕ) → fits_on line piece ≡ fits → line_begun line piece ≡ last_part (line_before fits line ++ piece)
+placed-line true line piece e =
+    let short : length (line ++ piece) ≤ 79 = rw length-append (grind (arith, nat_tests, e)) in
+    rw (e, last-short (line ++ piece) short) refl
+placed-line false line piece e = rw e refl
+
+pub placed-cut : (fits : Bool) (piece : List ℕ) (a b : Stage) → fits_on a.layout.line piece ≡ fits → IsStopped (lines_before fits a.layout.line) a b → IsStopped (lines_ended a.layout.line piece) a b
+placed-cut fits piece a b e p = stopped-first _ _ _ a b (placed-lines fits a.layout.line piece e) p
+
+pub placed-then : {T E : Type 0} (fits : Bool) (piece : List ℕ) (a b c : Stage) (r : Result T E) → fits_on a.layout.line piece ≡ fits
+    → HasLaid (lines_before fits a.layout.line) a b × (b.layout.line ≡ line_before fits a.layout.line) → IsFilled piece b c r → IsPlaced piece a c r
+placed-then fits piece a b c r e p q =
+    rw (placed-line fits a.layout.line piece e)
+    (laid-after _ _ _ _ a b c r (placed-lines fits a.layout.line piece e) p.0 (rw (sym p.1) q))

@@ -1,0 +1,58 @@
+-- The text of a graph in three parts, and what stands in each.
+use Rattle.std.proofs.Common.{◌≡◌, ◌<◌, ◌+◌, ◌*◌, ◌%◌, ◌^◌, ◌++◌, ◌∙◌, ℕ, Bool, true, List, [], ◌∷◌, Option, length, drop, map, codes, decimal, refl, sym, ap, append_assoc, append-nil, arith}
+use Rattle.std.proofs.lemmas.List.Concat.{flat_map-append}
+use Rattle.std.proofs.Math.ListN.{length-drop}
+use Rattle.std.specs.Io.KnownBytes.{Appends}
+use Rattle.sgb_graph.specs.Graphs.{GraphData}
+use Rattle.sgb_graph.specs.Growth.{IsKept}
+use Rattle.sgb_graph.proofs.TestLemmas.{both_first}
+use Rattle.sgb_file.specs.FileLines.{text_of_lines}
+use Rattle.sgb_file.specs.Checksum.{checksum_of_lines, checksum_prime, has_star, weighted_sum}
+use Rattle.sgb_file.specs.Saving.{letter_of, head_line, middle_lines, checksum_line, text_of_graph}
+use Rattle.sgb_file.specs.Layouts.{checksum_after, checksum_from, checksum_text, counted_bytes, head_text, place_of, Stage, HasLaid, IsStopped}
+use Rattle.sgb_file.specs.Devices.{AppendsPrefix}
+use Rattle.sgb_file.proofs.ChecksumLemmas.{running_from}
+use Rattle.sgb_file.proofs.FieldTexts.{as_many}
+use Rattle.sgb_file.proofs.LaidLines.{checksum-starred}
+
+-- a line with a star, written as it is
+pub starred-laid : (line : List ℕ) (a b : Stage) → has_star line ≡ true → Appends a.written b.written (text_of_lines (line ∷ [])) → b.failed ≡ a.failed
+    → b.layout.checksum ≡ a.layout.checksum → HasLaid (line ∷ []) a b
+starred-laid line a b e p sound sum = record { written = p; sound = sound; checksum = sum ∙ sym (checksum-starred a.layout.checksum line e) }
+
+-- the checksum byte by byte is the checksum
+pub checksum-whole : (lines : List (List ℕ)) → checksum_from 0 (counted_bytes lines) ≡ checksum_of_lines lines
+unfolding checksum_from checksum_after counted_bytes place_of
+checksum-whole lines =
+    let bytes = counted_bytes lines in
+    let alone : 0 * 2 ^ length bytes + weighted_sum bytes ≡ weighted_sum bytes = omega arith in
+    running_from checksum_prime (omega arith) bytes 0 (omega arith) ∙ ap (λ (x : ℕ). x % checksum_prime) alone
+
+-- the text is the first line, the records, and the last line
+pub text-parts : (g : GraphData) (n records sum : ℕ) → n ≡ length g.vertices → records ≡ length g.records → sum ≡ checksum_of_lines (middle_lines g)
+    → text_of_graph g ≡ head_text (map letter_of g.kinds) n records ++ (text_of_lines (middle_lines g) ++ checksum_text sum)
+text-parts g n records sum h k s =
+    let front : List ℕ = codes "* GraphBase graph (util_types " ++ map letter_of g.kinds ++ codes "," ++ decimal (length g.vertices) ++ codes "V," ++ decimal (length g.records) in
+    let first : head_line g ++ 10 ∷ [] ≡ head_text (map letter_of g.kinds) n records =
+    rw (h, k) (append_assoc front (codes "A)") (10 ∷ [])) in
+    let last : text_of_lines (middle_lines g ++ checksum_line g ∷ []) ≡ text_of_lines (middle_lines g) ++ checksum_text sum =
+    flat_map-append (λ line. line ++ 10 ∷ []) (middle_lines g) (checksum_line g ∷ [])
+    ∙ ap (λ text. text_of_lines (middle_lines g) ++ text) (append-nil (checksum_line g ++ 10 ∷ []) ∙ ap (λ (x : ℕ). checksum_text x) (sym s)) in
+    ap (λ text. text ++ text_of_lines (middle_lines g ++ checksum_line g ∷ [])) first ∙ ap (λ text. head_text (map letter_of g.kinds) n records ++ text) last
+
+-- a graph has six fields of its own
+pub six_fields : (g : GraphData) → length g.kinds ≡ 14 → IsKept g → length g.util ≡ 6
+six_fields g size kept =
+    as_many (length g.vertices) (length g.records) (drop 8 g.kinds) g.util (both_first _ _ (both_first _ _ kept.graph.fields))
+    ∙ (length-drop 8 g.kinds ∙ rw size refl)
+
+-- the writing stopped within a line with a star
+pub starred-stopped : (line : List ℕ) (a b : Stage) → AppendsPrefix a.written b.written (text_of_lines (line ∷ [])) → b.failed ≡ true → IsStopped (line ∷ []) a b
+starred-stopped line a b p failed = record { written = p; failed = failed }
+
+-- seven texts, one after another
+pub seven_texts : (a b c d e f g : List ℕ) → a ++ (b ++ (c ++ (d ++ (e ++ (f ++ (g ++ [])))))) ≡ a ++ b ++ c ++ d ++ e ++ f ++ g
+seven_texts a b c d e f g =
+    ap (λ x. a ++ (b ++ (c ++ (d ++ (e ++ (f ++ x)))))) (append-nil g)
+    ∙ (sym (append_assoc a b (c ++ (d ++ (e ++ (f ++ g))))) ∙ (sym (append_assoc (a ++ b) c (d ++ (e ++ (f ++ g))))
+    ∙ (sym (append_assoc (a ++ b ++ c) d (e ++ (f ++ g))) ∙ (sym (append_assoc (a ++ b ++ c ++ d) e (f ++ g)) ∙ sym (append_assoc (a ++ b ++ c ++ d ++ e) f g)))))

@@ -1,0 +1,147 @@
+//! The fields of records, laid out (GB_SAVE, save_graph).
+ghost use Rattle.std.specs.Prelude.{◌≡◌, ◌≤◌, ◌++◌, length, map, codes, decimal, true, false};
+ghost use Rattle.std.specs.Fmt.{signed_decimal};
+ghost use Rattle.std.specs.List.{flat_map};
+ghost use Rattle.sgb_file.specs.Layouts.{AreLaidOut, IsNextPlaced, IsPlaced, comma_of, has_any, piece_of, stage};
+ghost use Rattle.sgb_file.specs.Saving.{field_texts, pieces_of, quoted, record_number_text, ref_text};
+
+use super::layouts::Layout;
+use crate::devices::{Failed, Sink};
+use itoa::Buffer;
+use sgb_graph::{Ref, Util};
+
+// Lays out the fields that are used, which end the record.
+pub(super) fn put_fields<W: Sink>(
+    layout: &mut Layout,
+    sink: &mut W,
+    fields: &[&Util],
+) -> Result<(), Failed>
+    ensures { AreLaidOut (flat_map field_texts (map (λ field. field.now) fields.now)) (stage (W.written sink.old) (W.has_failed sink.old) layout.old) (stage (W.written sink.new) (W.has_failed sink.new) layout.new) result }
+{
+    for place in 0..fields.len() {
+        let more = any_used(&fields[place + 1..]);
+        put_field(layout, sink, fields[place], more)?;
+    }
+    layout.end_line(sink)
+}
+
+// Whether any of the fields is used.
+pub(super) fn any_used(fields: &[&Util]) -> bool
+    ensures { result ≡ has_any (flat_map field_texts (map (λ field. field.now) fields.now)) }
+{
+    for field in fields {
+        if is_used(field) {
+            return true;
+        }
+    }
+    false
+}
+
+// Whether the field is used.
+fn is_used(field: &Util) -> bool
+    ensures { result ≡ has_any (field_texts field.now) }
+{
+    !matches!(field, Util::Nothing)
+}
+
+// Lays out a field, if it is used; `more` says whether others follow.
+fn put_field<W: Sink>(
+    layout: &mut Layout,
+    sink: &mut W,
+    field: &Util,
+    more: bool,
+) -> Result<(), Failed>
+    ensures { IsNextPlaced more (field_texts field.now) (stage (W.written sink.old) (W.has_failed sink.old) layout.old) (stage (W.written sink.new) (W.has_failed sink.new) layout.new) result }
+{
+    match field {
+        Util::Nothing => Ok(()),
+        Util::Int(number) => put_integer(layout, sink, *number, more),
+        Util::Vertex(vertex) => put_ref(layout, sink, *vertex, more),
+        Util::Str(text) => put_string(layout, sink, text.bytes(), more),
+        Util::Chain(first) => put_record_number(layout, sink, *first, more),
+    }
+}
+
+// Lays out a string.
+pub(super) fn put_string<W: Sink>(
+    layout: &mut Layout,
+    sink: &mut W,
+    bytes: &[u8],
+    more: bool,
+) -> Result<(), Failed>
+    ensures { IsPlaced (piece_of more (quoted bytes.now)) (stage (W.written sink.old) (W.has_failed sink.old) layout.old) (stage (W.written sink.new) (W.has_failed sink.new) layout.new) result }
+{
+    let end: &[u8] = if more { b"\"," } else { b"\"" };
+    layout.place(sink, b"\"", bytes, end)
+}
+
+// Lays out an integer.
+pub(super) fn put_integer<W: Sink>(
+    layout: &mut Layout,
+    sink: &mut W,
+    number: i64,
+    more: bool,
+) -> Result<(), Failed>
+    ensures { IsPlaced (piece_of more (signed_decimal number)) (stage (W.written sink.old) (W.has_failed sink.old) layout.old) (stage (W.written sink.new) (W.has_failed sink.new) layout.new) result }
+{
+    let mut digits = Buffer::new();
+    layout.place(sink, b"", digits.format(number).as_bytes(), comma(more))
+}
+
+// Lays out a number.
+pub(super) fn put_number<W: Sink>(
+    layout: &mut Layout,
+    sink: &mut W,
+    number: u64,
+    more: bool,
+) -> Result<(), Failed>
+    ensures { IsPlaced (piece_of more (decimal number)) (stage (W.written sink.old) (W.has_failed sink.old) layout.old) (stage (W.written sink.new) (W.has_failed sink.new) layout.new) result }
+{
+    let mut digits = Buffer::new();
+    layout.place(sink, b"", digits.format(number).as_bytes(), comma(more))
+}
+
+// Lays out a vertex.
+pub(super) fn put_ref<W: Sink>(
+    layout: &mut Layout,
+    sink: &mut W,
+    vertex: Ref,
+    more: bool,
+) -> Result<(), Failed>
+    ensures { IsPlaced (piece_of more (ref_text vertex)) (stage (W.written sink.old) (W.has_failed sink.old) layout.old) (stage (W.written sink.new) (W.has_failed sink.new) layout.new) result }
+{
+    match vertex {
+        Ref::Null => layout.place(sink, b"", b"0", comma(more)),
+        Ref::One => layout.place(sink, b"", b"1", comma(more)),
+        Ref::At(number) => {
+            let mut digits = Buffer::new();
+            layout.place(sink, b"V", digits.format(number).as_bytes(), comma(more))
+        }
+    }
+}
+
+// Lays out an arc record's number.
+pub(super) fn put_record_number<W: Sink>(
+    layout: &mut Layout,
+    sink: &mut W,
+    first: Option<usize>,
+    more: bool,
+) -> Result<(), Failed>
+    ensures { IsPlaced (piece_of more (record_number_text first)) (stage (W.written sink.old) (W.has_failed sink.old) layout.old) (stage (W.written sink.new) (W.has_failed sink.new) layout.new) result }
+{
+    match first {
+        None => layout.place(sink, b"", b"0", comma(more)),
+        Some(number) => {
+            let mut digits = Buffer::new();
+            layout.place(sink, b"A", digits.format(number).as_bytes(), comma(more))
+        }
+    }
+}
+
+// The comma after a field where more follow.
+fn comma(more: bool) -> &'static [u8]
+    ensures text { result.now ≡ comma_of more }
+    ensures short { length result.now ≤ 1 }
+{
+    if more { b"," } else { b"" }
+}

@@ -1,0 +1,132 @@
+//! Pieces laid out on lines of at most 79 bytes (GB_SAVE, save_graph).
+ghost use Rattle.std.specs.Prelude.{◌≡◌, ◌+◌, ◌≤◌, ◌++◌, ◌∷◌, [], length, take, drop};
+ghost use Rattle.sgb_file.specs.Layouts.{IsFilled, IsLaid, IsPlaced, line_before, lines_before, stage};
+ghost use Rattle.sgb_file.specs.Saving.{broken_line_bytes, fits_on, most_line_bytes};
+
+use super::lines::{Line, MOST_LINE_BYTES};
+use crate::devices::{Failed, Sink};
+use std::marker::Model;
+
+// A layout under way: the checksum of the lines so far, and the beginning of the next line.
+#[derive(Drop)]
+pub(super) struct Layout {
+    checksum: u32,
+    line: Line,
+}
+
+impl Model for Layout {
+    ghost use Rattle.sgb_file.specs.Layouts.{LayoutState};
+
+    ghost Value = { LayoutState };
+
+    ghost view = { λ layout. record { checksum = layout.checksum; line = layout.line } };
+}
+
+impl Layout {
+    // No lines yet.
+    pub(super) fn new() -> Layout
+        ensures checksum { result.checksum ≡ 0 }
+        ensures line { result.line ≡ [] }
+    {
+        Layout {
+            checksum: 0,
+            line: Line::new(),
+        }
+    }
+
+    // The checksum of the lines so far.
+    pub(super) fn checksum(&self) -> u32
+        ensures { result ≡ self.now.checksum }
+    {
+        self.checksum
+    }
+
+    // Ends the line.
+    pub(super) fn end_line<W: Sink>(&mut self, sink: &mut W) -> Result<(), Failed>
+        ensures { IsLaid (self.old.line ∷ []) [] (stage (W.written sink.old) (W.has_failed sink.old) self.old) (stage (W.written sink.new) (W.has_failed sink.new) self.new) result }
+    {
+        self.checksum = self.line.checksum_after(self.checksum);
+        self.line.put(sink)
+    }
+
+    // Lays out a piece in three parts.
+    pub(super) fn place<W: Sink>(
+        &mut self,
+        sink: &mut W,
+        front: &[u8],
+        body: &[u8],
+        back: &[u8],
+    ) -> Result<(), Failed>
+        requires front { length front.now ≤ 1 }
+        requires back { length back.now ≤ 2 }
+        ensures { IsPlaced (front.now ++ body.now ++ back.now) (stage (W.written sink.old) (W.has_failed sink.old) self.old) (stage (W.written sink.new) (W.has_failed sink.new) self.new) result }
+    {
+        let fits = self.has_room(front, body, back);
+        self.make_room(sink, fits)?;
+        self.fill_all(sink, front, body, back)
+    }
+
+    // Whether the line has room for a piece in three parts.
+    fn has_room(&self, front: &[u8], body: &[u8], back: &[u8]) -> bool
+        requires front { length front.now ≤ 1 }
+        requires back { length back.now ≤ 2 }
+        ensures { result ≡ fits_on self.now.line (front.now ++ body.now ++ back.now) }
+    {
+        let len = self.line.len();
+        body.len() <= MOST_LINE_BYTES
+            && len + front.len() + body.len() + back.len() <= MOST_LINE_BYTES
+    }
+
+    // Ends a line that was begun, where the next piece does not fit on it.
+    fn make_room<W: Sink>(&mut self, sink: &mut W, fits: bool) -> Result<(), Failed>
+        ensures { IsLaid (lines_before fits self.old.line) (line_before fits self.old.line) (stage (W.written sink.old) (W.has_failed sink.old) self.old) (stage (W.written sink.new) (W.has_failed sink.new) self.new) result }
+    {
+        if fits || self.line.len() == 0 {
+            return Ok(());
+        }
+        self.end_line(sink)
+    }
+
+    // Puts three texts on lines, one after the other.
+    fn fill_all<W: Sink>(
+        &mut self,
+        sink: &mut W,
+        front: &[u8],
+        body: &[u8],
+        back: &[u8],
+    ) -> Result<(), Failed>
+        ensures { IsFilled (front.now ++ body.now ++ back.now) (stage (W.written sink.old) (W.has_failed sink.old) self.old) (stage (W.written sink.new) (W.has_failed sink.new) self.new) result }
+    {
+        self.fill(sink, front)?;
+        self.fill(sink, body)?;
+        self.fill(sink, back)
+    }
+
+    // Puts bytes on the line, and breaks it as often as they need.
+    fn fill<W: Sink>(&mut self, sink: &mut W, bytes: &[u8]) -> Result<(), Failed>
+        ensures { IsFilled bytes.now (stage (W.written sink.old) (W.has_failed sink.old) self.old) (stage (W.written sink.new) (W.has_failed sink.new) self.new) result }
+    {
+        if bytes.len() <= MOST_LINE_BYTES - self.line.len() {
+            self.line.push(bytes);
+            return Ok(());
+        }
+        for byte in bytes {
+            self.fill_byte(sink, *byte)?;
+        }
+        Ok(())
+    }
+
+    // Puts a byte on the line, and breaks the line where it is full.
+    fn fill_byte<W: Sink>(&mut self, sink: &mut W, byte: u8) -> Result<(), Failed>
+        ensures { IsFilled (byte ∷ []) (stage (W.written sink.old) (W.has_failed sink.old) self.old) (stage (W.written sink.new) (W.has_failed sink.new) self.new) result }
+    {
+        if self.line.len() < MOST_LINE_BYTES {
+            self.line.push(&[byte]);
+            return Ok(());
+        }
+        let last = self.line.replace_last(b'\\');
+        self.end_line(sink)?;
+        self.line.push(&[last, byte]);
+        Ok(())
+    }
+}
