@@ -4,13 +4,13 @@ use Rattle.std.specs.Prelude.{slice_get, is_some, not, IsTrue}
 use Rattle.std.specs.List.{list_all, range_with_len}
 use Rattle.std.specs.Option.{option_map_or}
 use Rattle.std.proofs.lemmas.Bool.{and_parts, cases_eq}
-use Rattle.std.proofs.lemmas.List.{get_or-set_other}
+use Rattle.std.proofs.lemmas.List.{get_or-set_same, get_or-set_other}
 use Rattle.std.proofs.lemmas.List.Folds.{list_all_at}
 use Rattle.std.proofs.lemmas.Option.{slice_get_past, slice_get_within, get_or_from_slice_get}
 use Rattle.std.proofs.lemmas.List.FromFn.{length-range_with_len, get_or-range_with_len}
 use Rattle.sgb_graph.specs.Graphs.{ends_from, numbers_of, ends_of}
 use Rattle.sgb_graph.specs.Sound.{chains_end, leads_to_vertex, is_vertex}
-use Rattle.sgb_graph.specs.Walks.{leads_of}
+use Rattle.sgb_graph.specs.Walks.{leads_of, is_marked, MarksGoOn}
 use Rattle.sgb_graph.specs.declared.fields.ArcRec.{ArcRec}
 use Rattle.sgb_graph.proofs.Chains.{ends_none, ends_step, ends_after, no_start, numbers_none, numbers_step}
 use Rattle.sgb_graph.proofs.EndingWays.{ends_longer, ends_within, numbers_longer}
@@ -148,3 +148,41 @@ not_all_end records k below endless =
 -- all do
 pub all_end : (records : List ArcRec) → ((k : ℕ) → k < length records → ends_of records (Some k) ≡ true) → chains_end records ≡ true
 all_end records each = list_all-range (λ j. ends_of records (Some j)) 0 (length records) (λ k below. each k (omega arith))
+
+-- the record after a marked one is marked, or it is the next one of the walk
+abbrev pub MarksReach : List ArcRec → List Bool → Option ℕ → Type 0
+MarksReach records marks next =
+    (k : ℕ) (r : ArcRec) → slice_get records k ≡ Some r → IsTrue (get_or marks k false) → (r.next ≡ next) ⊎ IsTrue (is_marked marks r.next)
+
+-- one more mark leaves the others
+still_marked : (marks : List Bool) (k : ℕ) (first : Option ℕ) → k < length marks → is_marked marks first ≡ true → is_marked (set marks k true) first ≡ true
+still_marked marks k None inside marked = refl
+still_marked marks k (Some j) inside marked = by_place (cases_eq j k)
+  where
+    by_place : (j ≡ k) ⊎ (j ≡ k → ⊥) → get_or (set marks k true) j false ≡ true
+    by_place (inl same) = rw same (get_or-set_same marks k true false inside)
+    by_place (inr other) = get_or-set_other marks k j true false other ∙ marked
+
+-- what is marked, or is the next record, is marked with it
+pub reached_more : (marks : List Bool) (k : ℕ) (first : Option ℕ) → k < length marks → (first ≡ Some k) ⊎ IsTrue (is_marked marks first) → IsTrue (is_marked (set marks k true) first)
+reached_more marks k first inside (inl same) = rw same (get_or-set_same marks k true false inside)
+reached_more marks k first inside (inr marked) = still_marked marks k first inside marked
+
+-- the walk goes on by one record
+pub reach_more : (records : List ArcRec) (marks : List Bool) (k : ℕ) (r : ArcRec) → k < length marks → slice_get records k ≡ Some r → MarksReach records marks (Some k) → MarksReach records (set marks k true) r.next
+reach_more records marks k r inside is reach j x there marked = by_place (cases_eq j k)
+  where
+    by_place : (j ≡ k) ⊎ (j ≡ k → ⊥) → (x.next ≡ r.next) ⊎ IsTrue (is_marked (set marks k true) x.next)
+    by_place (inl same) =
+        let one : Some x ≡ Some r = sym there ∙ (ap (slice_get records) same ∙ is) in
+        inl (ap (λ o. option_map_or (λ (y : ArcRec). y.next) o None) one)
+    by_place (inr other) =
+        inr (reached_more marks k x.next inside (reach j x there (rw (get_or-set_other marks k j true false other) at marked)))
+
+-- it is over where the next record is marked, or there is none
+pub reached_all : (marks : List Bool) (next first : Option ℕ) → is_marked marks next ≡ true → (first ≡ next) ⊎ IsTrue (is_marked marks first) → IsTrue (is_marked marks first)
+reached_all marks next first over (inl same) = rw same over
+reached_all marks next first over (inr marked) = marked
+
+pub reach_all : (records : List ArcRec) (marks : List Bool) (next : Option ℕ) → is_marked marks next ≡ true → MarksReach records marks next → MarksGoOn records marks
+reach_all records marks next over reach k r is marked = reached_all marks next r.next over (reach k r is marked)

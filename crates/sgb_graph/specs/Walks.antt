@@ -1,6 +1,7 @@
 -- Walks along the chains of records, which mark the records that they passed.
-use Rattle.std.specs.Prelude.{ℕ, Bool, false, List, get_or, Option, Some, IsTrue}
+use Rattle.std.specs.Prelude.{◌≡◌, ℕ, Bool, true, false, List, get_or, Option, Some, IsTrue, slice_get}
 use Rattle.std.specs.List.{list_all}
+use Rattle.std.specs.Option.{option_map_or}
 use Rattle.sgb_graph.specs.Graphs.{ends_of, numbers_of}
 use Rattle.sgb_graph.specs.Sound.{leads_to_vertex}
 use Rattle.sgb_graph.specs.declared.fields.ArcRec.{ArcRec}
@@ -16,3 +17,12 @@ MarksEnd records marks = (k : ℕ) → IsTrue (get_or marks k false) → IsTrue 
 -- each arc on the way from a marked record leads to a vertex
 abbrev pub MarksLead : List ArcRec → List Bool → Type 0
 MarksLead records marks = (k : ℕ) → IsTrue (get_or marks k false) → IsTrue (leads_of records (Some k))
+
+-- the first record of a way is marked, where it has one
+abbrev pub is_marked : List Bool → Option ℕ → Bool
+is_marked marks first = option_map_or (λ k. get_or marks k false) first true
+
+-- the record after a marked one is marked, so that all on its way are
+abbrev pub MarksGoOn : List ArcRec → List Bool → Type 0
+MarksGoOn records marks =
+    (k : ℕ) (r : ArcRec) → slice_get records k ≡ Some r → IsTrue (get_or marks k false) → IsTrue (is_marked marks r.next)

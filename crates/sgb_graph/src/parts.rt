@@ -83,8 +83,8 @@ impl Parts {
         Ok(())
     }
 
-    /// The graph that the parts make up, which has just these parts (GB_SAVE, restore_graph). It takes the time and the
-    /// memory of their number.
+    /// The graph that the parts make up, which has just these parts (GB_SAVE, restore_graph). It takes time and memory in
+    /// proportion to their number.
     ///
     /// `Syntax` where they make up none: above 1,000,000,000 vertices; a utility field that is not of its kind; the
     /// number of a vertex or of a record that is not there; a chain of records that does not end, on a list or not; an

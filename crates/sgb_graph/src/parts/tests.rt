@@ -112,7 +112,17 @@ fn fields_fit_their_kinds(rt: HostRuntime) {
     let alloc = rt.alloc();
     assert!(rt; with_field(alloc, Kind::I, Util::Int(7)).is_ok());
     assert!(rt; with_field(alloc, Kind::V, Util::Vertex(Ref::At(0))).is_ok());
-    assert!(rt; matches!(with_field(alloc, Kind::I, Util::Nothing), Err(Panic::Syntax)));
+    assert!(rt;
+        matches!(
+            with_field(alloc, Kind::I, Util::Nothing),
+            Err(Panic::Syntax)
+        )
+    );
     assert!(rt; matches!(with_field(alloc, Kind::Z, Util::Int(7)), Err(Panic::Syntax)));
-    assert!(rt; matches!(with_field(alloc, Kind::V, Util::Vertex(Ref::At(1))), Err(Panic::Syntax)));
+    assert!(rt;
+        matches!(
+            with_field(alloc, Kind::V, Util::Vertex(Ref::At(1))),
+            Err(Panic::Syntax)
+        )
+    );
 }

@@ -3,7 +3,7 @@ ghost use Rattle.std.specs.Prelude.{◌≡◌, length, IsTrue, IfOk};
 ghost use Rattle.std.specs.List.{list_all};
 ghost use Rattle.sgb_graph.specs.Graphs.{ends_of};
 ghost use Rattle.sgb_graph.specs.Sound.{chains_end, is_vertex, lists_lead_to_vertices};
-ghost use Rattle.sgb_graph.specs.Walks.{MarksEnd, MarksLead, leads_of};
+ghost use Rattle.sgb_graph.specs.Walks.{MarksEnd, MarksGoOn, MarksLead, is_marked, leads_of};
 
 use crate::fields::{ArcRec, Ref, Vertex};
 use std::alloc::{AllocError, Global};
@@ -93,6 +93,8 @@ fn mark_way(records: &[ArcRec], marks: &mut [bool], first: Option<usize>)
     ensures ends { MarksEnd records.now marks.old → MarksEnd records.now marks.new }
     ensures leads { MarksLead records.now marks.old → IsTrue (leads_of records.now first)
         → MarksLead records.now marks.new }
+    ensures first { IsTrue (is_marked marks.new first) }
+    ensures on { MarksGoOn records.now marks.old → MarksGoOn records.now marks.new }
 {
     let mut next = first;
     while let Some(k) = next {

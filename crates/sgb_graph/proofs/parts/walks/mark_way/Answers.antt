@@ -1,8 +1,9 @@
-use Rattle.std.proofs.Common.{◌≡◌, Some, true, rules, arith}
+use Rattle.std.proofs.Common.{◌≡◌, ◌⊎◌, ◌<◌, length, Some, None, true, refl, inl, inr, rules, arith}
 use Rattle.std.specs.Prelude.{IsTrue}
+use Rattle.std.proofs.lemmas.Option.{slice_get_read}
 use Rattle.sgb_graph.specs.Graphs.{ends_of}
-use Rattle.sgb_graph.specs.Walks.{leads_of}
-use Rattle.sgb_graph.proofs.MarkedWays.{way_inside, way_shorter, way_goes_on, leads_goes_on, one_more_marked}
+use Rattle.sgb_graph.specs.Walks.{leads_of, is_marked}
+use Rattle.sgb_graph.proofs.MarkedWays.{way_inside, way_shorter, way_goes_on, leads_goes_on, one_more_marked, reached_more, reach_more, reached_all, reach_all}
 use Rattle.sgb_graph.proofs.parts.walks.mark_way.Goals as goal
 
 pub bounds-marks-k : goal.bounds-marks-k
@@ -39,6 +40,9 @@ loop-next-preserved c =
     let kept = c.loop-next.invariant in
     let ends : ends_of records (Some k) ≡ true = rw c.in-Some.is at kept.ends in
     let inside = way_inside records k ends in
+    let within : k < length c.loop-next.marks = omega (arith, kept.long, inside) in
+    let read = slice_get_read records (length records) k c.index-records-k.result refl inside c.index-records-k.is in
+    let first : (c.args.first ≡ Some k) ⊎ IsTrue (is_marked c.loop-next.marks c.args.first) = rw c.in-Some.is at kept.first in
     let leads : leads_of records c.args.first ≡ true → leads_of records (Some k) ≡ true = rw c.in-Some.is at kept.leads in
     rw (← c.index-records-k.is) record {
       long = search rules;
@@ -46,4 +50,32 @@ loop-next-preserved c =
       leads = λ all. leads_goes_on records k c.index-records-k.result ends c.index-records-k.is (leads all);
       marks_end = λ before. one_more_marked (λ j. IsTrue (ends_of records (Some j))) c.loop-next.marks k ends (kept.marks_end before);
       marks_lead = λ before all. one_more_marked (λ j. IsTrue (leads_of records (Some j))) c.loop-next.marks k (leads all) (kept.marks_lead before all);
+      first = inr (reached_more c.loop-next.marks k c.args.first within first);
+      reach = λ before. reach_more records c.loop-next.marks k c.index-records-k.result within read (rw c.in-Some.is at (kept.reach before));
     }
+
+pub loop-next-init : goal.loop-next-init
+loop-next-init c = record {
+  long = search rules;
+  ends = search rules;
+  leads = λ all. all;
+  marks_end = λ before. before;
+  marks_lead = λ before all. before;
+  first = inl refl;
+  reach = λ before k r is marked. inr (before k r is marked);
+}
+
+pub returns-then-marks-k-clause-first : goal.returns-then-marks-k-clause-first
+returns-then-marks-k-clause-first c =
+    reached_all c.loop-next.marks (Some c.in-Some.k) c.args.first (search rules) (rw c.in-Some.is at c.loop-next.invariant.first)
+
+pub returns-then-marks-k-clause-on : goal.returns-then-marks-k-clause-on
+returns-then-marks-k-clause-on c = λ before.
+    reach_all c.args.records.now c.loop-next.marks (Some c.in-Some.k) (search rules) (rw c.in-Some.is at (c.loop-next.invariant.reach before))
+
+pub returns-clause-first : goal.returns-clause-first
+returns-clause-first c = reached_all c.loop-next.marks None c.args.first refl (rw c.in_default.is at c.loop-next.invariant.first)
+
+pub returns-clause-on : goal.returns-clause-on
+returns-clause-on c = λ before.
+    reach_all c.args.records.now c.loop-next.marks None refl (rw c.in_default.is at (c.loop-next.invariant.reach before))

@@ -1,10 +1,12 @@
-use Rattle.std.proofs.Common.{◌≡◌, length, true}
+use Rattle.std.proofs.Common.{◌≡◌, ◌⊎◌, length, true}
 use Rattle.std.specs.Prelude.{IsTrue}
 use Rattle.sgb_graph.specs.Graphs.{ends_of, numbers_of}
-use Rattle.sgb_graph.specs.Walks.{leads_of, MarksEnd, MarksLead}
+use Rattle.sgb_graph.specs.Walks.{leads_of, is_marked, MarksEnd, MarksGoOn, MarksLead}
+use Rattle.sgb_graph.proofs.MarkedWays.{MarksReach}
 use Rattle.sgb_graph.proofs.parts.walks.mark_way.Given as goal
 
--- the way goes on to an end; what holds of marked records holds with the marks so far
+-- the way goes on to an end; what holds of marked records holds with the
+-- marks so far, which reach from the first record to the next one
 abbrev pub invariant-loop-next : goal.invariant-loop-next
 invariant-loop-next l = record {
   long : length l.marks ≡ length l.records;
@@ -12,6 +14,8 @@ invariant-loop-next l = record {
   leads : leads_of l.records l.fn.first ≡ true → leads_of l.records l.next ≡ true;
   marks_end : MarksEnd l.records l.fn.marks → MarksEnd l.records l.marks;
   marks_lead : MarksLead l.records l.fn.marks → IsTrue (leads_of l.records l.fn.first) → MarksLead l.records l.marks;
+  first : (l.fn.first ≡ l.next) ⊎ IsTrue (is_marked l.marks l.fn.first);
+  reach : MarksGoOn l.records l.fn.marks → MarksReach l.records l.marks l.next;
 }
 
 -- the rest of the way
