@@ -1,7 +1,7 @@
 //! Line graphs, products, induced graphs, complete bipartite graphs and wheels.
 
-use super::refusals::check_refusals;
 use super::answers_are;
+use super::refusals::check_refusals;
 use std::test::Fail;
 
 static ANSWERS: [(&[&str], &str); 15] = [
@@ -59,10 +59,7 @@ static ANSWERS: [(&[&str], &str); 15] = [
         1:2\n  -> 0', length 1\n  -> 0, length 1\n  -> 1:1, length 1\n  -> 1:0, length 1\n",
     ),
     // no entry for no vertex, and a graph of no vertices in the place of one
-    (
-        &["names", "induced(simplex(5,2,2,0,0,0,0),[],0,0,0)"],
-        "",
-    ),
+    (&["names", "induced(simplex(5,2,2,0,0,0,0),[],0,0,0)"], ""),
     (
         &[
             "names",
@@ -100,7 +97,9 @@ fn answers_to_derived_graphs(rt: HostRuntime) -> Result<(), Fail> {
 }
 
 const CODE_30: &str = "Something went wrong (panic code 30)!\n";
+
 const CODE_40: &str = "Something went wrong (panic code 40)!\n";
+
 const CODE_60: &str = "Something went wrong (panic code 60)!\n";
 
 // Operands and entries are evaluated in order before the operation's own refusals, and then a negative entry is refused.
@@ -125,10 +124,7 @@ static REFUSED: [(&[&str], &str, u8); 15] = [
         1,
     ),
     (
-        &[
-            "names",
-            "induced(complete(2),[1,999999999999999999],0,0,0)",
-        ],
+        &["names", "induced(complete(2),[1,999999999999999999],0,0,0)"],
         CODE_40,
         1,
     ),
