@@ -15,7 +15,7 @@ use crate::events::{Event, graph_of};
 use crate::taken::taken;
 use crate::titles::{flag_byte, joined_name};
 use sgb_graph::{Graph, Id, Names, Ref, compound_id};
-use sgb_vec::{Panic, Text};
+use sgb_vec::{MOST_VERTICES, Panic, Text};
 use std::alloc::Global;
 
 // An arc or edge as a vertex of the line graph: its two ends, and the number of the record taken.
@@ -25,9 +25,6 @@ struct Line {
     to: u32,
     number: usize,
 }
-
-// A graph has at most this many vertices.
-const MOST_VERTICES: usize = 1_000_000_000;
 
 // How many bytes of the names of a line's two ends stay in its name.
 const MOST_LINE_START: usize = 2_046;
@@ -114,7 +111,7 @@ fn accept_lines(graph: &Graph, directed: bool, lines: &[Line]) -> Result<(), Pan
     if !directed && !is_of_edges(graph, lines) {
         return Err(Panic::Invalid);
     }
-    if lines.len() > MOST_VERTICES {
+    if lines.len() > MOST_VERTICES as usize {
         return Err(Panic::VeryBad);
     }
     Ok(())

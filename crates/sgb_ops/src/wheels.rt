@@ -1,6 +1,7 @@
 //! Wheels: vertices in the middle, each joined to all those of a rim (GB_BASIC, wheel).
-ghost use Rattle.std.specs.Prelude.{◌≡◌, Ok, Err, IfOk, IfErr};
+ghost use Rattle.std.specs.Prelude.{◌≡◌, [], ◌∷◌, Ok, Err, IfOk, IfErr};
 ghost use Rattle.sgb_graph.specs.Descriptions.{IsAnswerOf};
+ghost use Rattle.sgb_ops.specs.declared.entries.Entry.TheVariants as entry;
 ghost use Rattle.sgb_ops.specs.Wheel.{accepted_middle, wheel_of};
 
 use crate::boards::{pair_of_vertices, rim_of_wheel};
@@ -24,10 +25,17 @@ pub fn wheel(alloc: Global, n: i64, n1: i64, directed: bool) -> Result<Graph, Pa
     let middle = accepted_middle(n1)?;
     let rim = rim_of_wheel(alloc, n, directed)?;
     let pair = pair_of_vertices(alloc, directed)?;
-    let entries = [middle, Entry::Graph(rim)];
+    let entries = entries(middle, rim);
     let mut built = induced(alloc, &pair, &entries, false, false, directed)?;
     built.set_id(numbers_id(b"wheel(", n, n1, directed));
     Ok(built)
+}
+
+// The entries: the middle, and then the rim.
+fn entries(middle: Entry, rim: Graph) -> [Entry; 2]
+    ensures { result ≡ middle ∷ entry.Graph rim ∷ [] }
+{
+    [middle, Entry::Graph(rim)]
 }
 
 // The entry of so many vertices in the middle.

@@ -23,6 +23,7 @@ returns c =
     let middle = c.in_ok-middle.middle in
     let rim = c.in_ok-rim.rim in
     let pair = c.in_ok-pair.pair in
+    let entries = c.entries-entries.ensures in
     let built = c.in_ok-built.built in
     let new = c.set_id.new.self in
     let accepted : accepted_middle n1 ≡ Ok middle = ap accepted_middle (sym inside) ∙ c.in_ok-middle.ensures.ok in
@@ -32,7 +33,7 @@ returns c =
     rw accepted
     (onward (board (rim_of_wheel n d)) rim (λ h. and_then (board (pair_of_vertices d)) (λ p. and_then (induced_of (graph_described p) (middle ∷ entry.Graph h ∷ []) false false d) (λ x. Ok (with_wheel_id n n1 d x)))) (Ok new) rim_made
     (onward (board (pair_of_vertices d)) pair (λ g. and_then (induced_of g (middle ∷ entry.Graph rim ∷ []) false false d) (λ x. Ok (with_wheel_id n n1 d x))) (Ok new) c.in_ok-pair.ensures
-    (changed (induced_of pair (middle ∷ entry.Graph rim ∷ []) false false d) built new (with_wheel_id n n1 d) c.in_ok-built.ensures
+    (changed (induced_of pair (middle ∷ entry.Graph rim ∷ []) false false d) built new (with_wheel_id n n1 d) (subst (λ es. IsAnswerOf (induced_of pair es false false d) (Ok built)) entries c.in_ok-built.ensures)
     (λ x is h. wheel_made n n1 d x built new h made))))
 
 pub returns-in_err-built : goal.returns-in_err-built
@@ -45,6 +46,7 @@ returns-in_err-built c =
     let middle = c.in_ok-middle.middle in
     let rim = c.in_ok-rim.rim in
     let pair = c.in_ok-pair.pair in
+    let entries = c.entries-entries.ensures in
     let accepted : accepted_middle n1 ≡ Ok middle = ap accepted_middle (sym inside) ∙ c.in_ok-middle.ensures.ok in
     let rim_made = subst (λ k. IsAnswerOf (board (rim_of_wheel k d)) (Ok rim)) around c.in_ok-rim.ensures in
     let e = c.in_err-built.field-0.0 in
@@ -52,4 +54,4 @@ returns-in_err-built c =
     rw (accepted, p.1, p.2)
     (onward (board (rim_of_wheel n d)) rim (λ h. and_then (board (pair_of_vertices d)) (λ p. and_then (induced_of (graph_described p) (middle ∷ entry.Graph h ∷ []) false false d) (λ x. Ok (with_wheel_id n n1 d x)))) (Err e) rim_made
     (onward (board (pair_of_vertices d)) pair (λ g. and_then (induced_of g (middle ∷ entry.Graph rim ∷ []) false false d) (λ x. Ok (with_wheel_id n n1 d x))) (Err e) c.in_ok-pair.ensures
-    (refused_onward (induced_of pair (middle ∷ entry.Graph rim ∷ []) false false d) e (λ x. Ok (with_wheel_id n n1 d x)) c.in_err-built.ensures)))
+    (refused_onward (induced_of pair (middle ∷ entry.Graph rim ∷ []) false false d) e (λ x. Ok (with_wheel_id n n1 d x)) (subst (λ es. IsAnswerOf (induced_of pair es false false d) (Err e)) entries c.in_err-built.ensures))))
