@@ -80,7 +80,7 @@ broken-append-by (suc n) xs ys h =
           let front = take-append-le 78 xs ys (omega (arith, long)) in
           let back = drop-append-le 78 xs ys (omega (arith, long)) in (
             broken-long (xs ++ ys) whole
-            ∙ rw (front, back, broken-long xs long, last-long xs long) (ap (λ lines. (take 78 xs ++ 92 ∷ []) ∷ lines) more.0),
+                ∙ rw (front, back, broken-long xs long, last-long xs long) (ap (λ lines. (take 78 xs ++ 92 ∷ []) ∷ lines) more.0),
             last-long (xs ++ ys) whole ∙ rw (back, last-long xs long) more.1,
           )
       | inr short ↦ rw (broken-short xs short, last-short xs short) (refl, refl)

@@ -45,7 +45,7 @@ laid-append xs ys a b c p q = record {
   written = rw (flat_map-append (λ line. line ++ 10 ∷ []) xs ys) (Appends-trans a.written b.written c.written (text_of_lines xs) (text_of_lines ys) p.written q.written);
   sound = q.sound ∙ p.sound;
   checksum = q.checksum ∙ (ap (λ sum. checksum_from sum (counted_bytes ys)) p.checksum ∙
-    (sym (checksum_from-append a.layout.checksum (counted_bytes xs) (counted_bytes ys)) ∙ ap (checksum_from a.layout.checksum) (sym (counted-append xs ys))));
+      (sym (checksum_from-append a.layout.checksum (counted_bytes xs) (counted_bytes ys)) ∙ ap (checksum_from a.layout.checksum) (sym (counted-append xs ys))));
 }
 
 -- the writing stopped within the first lines

@@ -86,7 +86,7 @@ all_kinds = record {
   util = Chain (Some 1) ∷ Nothing ∷ Nothing ∷ Nothing ∷ Nothing ∷ Str (codes "q") ∷ [];
   vertices = record { name = codes "p"; arcs = None; util = Chain (Some 0) ∷ VertexField One ∷ Str [] ∷ Int (negsuc 6) ∷ Nothing ∷ Nothing ∷ [] } ∷ [];
   records = record { tip = One; next = None; len = negsuc 2; a = Int (pos 4); b = VertexField Null }
-    ∷ record { tip = At 0; next = Some 0; len = pos 0; a = Int (pos 5); b = VertexField (At 0) } ∷ [];
+      ∷ record { tip = At 0; next = Some 0; len = pos 0; a = Int (pos 5); b = VertexField (At 0) } ∷ [];
 }
 
 pub of_all_kinds : text_of_graph all_kinds ≡ text_of_lines (

@@ -14,6 +14,6 @@ returns-then-fits g c = elim c.then-fits.branch [
   | then-fits-via-then-fits w ↦ rw w.if-fits.true (laid-none _ _ refl refl refl, refl)
   | then-fits-via-else-fits+then-len-eq0 w ↦
       let empty : c.args.self.now.line ≡ [] =
-          empty_line c.args.self.now.line (sym (ap (λ l. length l.line) c.self.view_is) ∙ (sym w.len.ensures.value ∙ w.if-len-eq0.true)) in
+      empty_line c.args.self.now.line (sym (ap (λ l. length l.line) c.self.view_is) ∙ (sym w.len.ensures.value ∙ w.if-len-eq0.true)) in
       rw (w.if-fits.false, empty) (laid-none _ _ refl refl refl, refl)
 ]
