@@ -1,4 +1,4 @@
-use Rattle.std.proofs.Common.{◌∙◌, ◌∷◌, ap, map, refl, subst, true}
+use Rattle.std.proofs.Common.{◌∙◌, ◌∷◌, ap, refl, subst, true}
 use Rattle.std.specs.List.{flat_map}
 use Rattle.std.proofs.lemmas.Result.{err_from_is_err_and}
 use Rattle.sgb_file.specs.Layouts.{AreLaidOut, has_any, stage}

@@ -1,5 +1,4 @@
-use Rattle.std.proofs.Common.{◌≡◌, ◌∙◌, true, false, List, [], ◌∷◌, ◌==◌, ℕ, length, sym, ap, refl, arith}
-use Rattle.sgb_file.specs.Layouts.{HasLaid, lines_before, line_before}
+use Rattle.std.proofs.Common.{◌≡◌, ◌∙◌, List, [], ◌∷◌, ℕ, length, sym, ap, refl, arith}
 use Rattle.sgb_file.proofs.LaidLines.{laid-none}
 use Rattle.sgb_file.proofs.saving.layouts.Layout.make_room.Goals as goal
 use Rattle.sgb_file.proofs.saving.layouts.Layout.make_room.Goals.{then-fits-via-then-fits, then-fits-via-else-fits+then-len-eq0}
