@@ -1,7 +1,7 @@
 -- Lemmas on the lines of a piece that is broken.
-use Rattle.std.specs.Prelude.{◌≡◌, ℕ, zero, suc, ◌+◌, ◌-◌, ◌*◌, ◌/◌, ◌<◌, ◌≤◌, Bool, true, false, List, [], ◌∷◌, ◌++◌, map, length, take, drop, refl}
+use Rattle.std.specs.Prelude.{◌≡◌, ℕ, zero, suc, ◌+◌, ◌*◌, ◌<◌, ◌≤◌, List, [], ◌∷◌, ◌++◌, map, length, take, drop, refl}
 use Rattle.std.specs.List.{range_with_len}
-use Rattle.std.proofs.Common.{arith, ap, sym, ◌∙◌, length-append, append_assoc}
+use Rattle.std.proofs.Common.{arith, ap, sym, ◌∙◌, length-append}
 use Rattle.std.proofs.lemmas.List.{drop-drop, drop-append-le, take-append-le}
 use Rattle.std.proofs.Math.ListN.{length-drop}
 use Rattle.std.proofs.Common.{inl, inr}
@@ -80,7 +80,7 @@ broken-append-by (suc n) xs ys h =
           let front = take-append-le 78 xs ys (omega (arith, long)) in
           let back = drop-append-le 78 xs ys (omega (arith, long)) in (
             broken-long (xs ++ ys) whole
-            ∙ rw (front, back, broken-long xs long, last-long xs long) (ap (λ lines. (take 78 xs ++ 92 ∷ []) ∷ lines) more.0),
+                ∙ rw (front, back, broken-long xs long, last-long xs long) (ap (λ lines. (take 78 xs ++ 92 ∷ []) ∷ lines) more.0),
             last-long (xs ++ ys) whole ∙ rw (back, last-long xs long) more.1,
           )
       | inr short ↦ rw (broken-short xs short, last-short xs short) (refl, refl)

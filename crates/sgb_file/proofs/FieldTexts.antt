@@ -9,7 +9,7 @@ use Rattle.sgb_graph.specs.declared.fields.Util.{Util}
 use Rattle.sgb_graph.specs.declared.fields.Util.TheVariants.{Nothing, Int, Vertex as VertexField, Str, Chain}
 use Rattle.sgb_file.specs.Saving.{field_texts, pieces_of, laid_out, lines_ended, line_begun}
 use Rattle.sgb_file.specs.Layouts.{Stage, HasLaid, IsStopped, IsLaid, IsPlaced, IsNextPlaced, AreLaidOut, has_any, piece_of}
-use Rattle.sgb_file.proofs.LaidLines.{LinesSoFar, lines-none, lines-more, lines-cut, lines-last, stopped-first, laid-after, laid-append, laid-none}
+use Rattle.sgb_file.proofs.LaidLines.{LinesSoFar, lines-more, lines-cut, lines-last, stopped-first, laid-after}
 
 -- the texts of fields
 abbrev pub texts_of : List (Bor Util) → List (List ℕ)

@@ -1,14 +1,13 @@
 -- Lines that are written one after another, with the checksum of those that count.
-use Rattle.std.proofs.Common.{◌≡◌, ◌++◌, ◌∙◌, ℕ, Bool, true, false, List, [], ◌∷◌, Option, Result, Ok, Err, length, refl, sym, ap, subst, append_assoc, append-nil, fold, filter, not}
+use Rattle.std.proofs.Common.{◌≡◌, ◌++◌, ◌∙◌, ℕ, true, false, List, [], ◌∷◌, Result, Ok, Err, refl, sym, ap, subst, append_assoc, append-nil, not}
 use Rattle.std.proofs.lemmas.List.Concat.{flat_map-append}
 use Rattle.std.specs.Io.KnownBytes.{Appends}
 use Rattle.std.proofs.KnownBytes.{Appends-trans, Appends-nil}
 use Rattle.std.proofs.lemmas.List.Elements.{filter-append}
 use Rattle.std.proofs.lemmas.List.Sums.{fold-append}
-use Rattle.sgb_file.specs.Devices.{AppendsPrefix, IsPut}
 use Rattle.sgb_file.specs.FileLines.{text_of_lines}
-use Rattle.sgb_file.specs.Checksum.{has_star, checksum_prime, checksum_of_lines, weighted_sum}
-use Rattle.sgb_file.specs.Layouts.{checksum_after, checksum_from, counted_bytes, LayoutState, Stage, stage, HasLaid, IsStopped, IsLaid}
+use Rattle.sgb_file.specs.Checksum.{has_star}
+use Rattle.sgb_file.specs.Layouts.{checksum_after, checksum_from, counted_bytes, Stage, HasLaid, IsStopped, IsLaid}
 use Rattle.sgb_file.proofs.WrittenPrefixes.{prefix_more, prefix_after}
 
 -- the checksum after two texts
@@ -45,7 +44,7 @@ laid-append xs ys a b c p q = record {
   written = rw (flat_map-append (λ line. line ++ 10 ∷ []) xs ys) (Appends-trans a.written b.written c.written (text_of_lines xs) (text_of_lines ys) p.written q.written);
   sound = q.sound ∙ p.sound;
   checksum = q.checksum ∙ (ap (λ sum. checksum_from sum (counted_bytes ys)) p.checksum ∙
-    (sym (checksum_from-append a.layout.checksum (counted_bytes xs) (counted_bytes ys)) ∙ ap (checksum_from a.layout.checksum) (sym (counted-append xs ys))));
+      (sym (checksum_from-append a.layout.checksum (counted_bytes xs) (counted_bytes ys)) ∙ ap (checksum_from a.layout.checksum) (sym (counted-append xs ys))));
 }
 
 -- the writing stopped within the first lines

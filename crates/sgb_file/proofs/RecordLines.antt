@@ -1,11 +1,11 @@
 -- Records that are written one after another.
-use Rattle.std.proofs.Common.{◌≡◌, ◌<◌, ◌≤◌, ◌+◌, ◌++◌, ◌∙◌, ℕ, List, [], ◌∷◌, Option, Some, Result, Ok, Err, length, drop, refl, sym, ap, subst, map, slice_index_or, slice_get}
+use Rattle.std.proofs.Common.{◌≡◌, ◌<◌, ◌≤◌, ◌+◌, ◌++◌, ◌∙◌, ℕ, List, [], Some, length, drop, ap, subst, slice_get}
 use Rattle.std.specs.List.{flat_map}
 use Rattle.std.proofs.lemmas.List.{at_drop_more, drop_all}
 use Rattle.std.proofs.lemmas.Option.{get_or_from_slice_get}
 use Rattle.sgb_file.specs.Saving.{record_lines, laid_out, pieces_of}
-use Rattle.sgb_file.specs.Layouts.{Stage, HasLaid, IsStopped, IsLaid, AreLaidOut}
-use Rattle.sgb_file.proofs.LaidLines.{LinesSoFar, lines-none, lines-more, lines-cut, lines-all}
+use Rattle.sgb_file.specs.Layouts.{Stage, HasLaid, IsStopped}
+use Rattle.sgb_file.proofs.LaidLines.{LinesSoFar, lines-more, lines-cut, lines-all}
 
 -- the records from this place on are left, and no line was begun
 abbrev pub RecordsSoFar : {X : Type 0} → (X → List (List ℕ)) → List X → ℕ → Stage → Stage → Type 0

@@ -1,5 +1,5 @@
 -- The text of a graph in three parts, and what stands in each.
-use Rattle.std.proofs.Common.{◌≡◌, ◌<◌, ◌+◌, ◌*◌, ◌%◌, ◌^◌, ◌++◌, ◌∙◌, ℕ, Bool, true, List, [], ◌∷◌, Option, length, drop, map, codes, decimal, refl, sym, ap, append_assoc, append-nil, arith}
+use Rattle.std.proofs.Common.{◌≡◌, ◌+◌, ◌*◌, ◌%◌, ◌^◌, ◌++◌, ◌∙◌, ℕ, true, List, [], ◌∷◌, length, drop, map, codes, decimal, refl, sym, ap, append_assoc, append-nil, arith}
 use Rattle.std.proofs.lemmas.List.Concat.{flat_map-append}
 use Rattle.std.proofs.Math.ListN.{length-drop}
 use Rattle.std.specs.Io.KnownBytes.{Appends}

@@ -36,12 +36,7 @@ pub fn write_gb<W: Sink>(graph: &Graph, sink: &mut W) -> Result<(), Failed>
 }
 
 // Writes the first line: the letters of the kinds, and how many vertices and arc records there are.
-fn put_head<W: Sink>(
-    sink: &mut W,
-    kinds: &[Kind; 14],
-    n: u32,
-    records: usize,
-) -> Result<(), Failed>
+fn put_head<W: Sink>(sink: &mut W, kinds: &[Kind; 14], n: u32, records: usize) -> Result<(), Failed>
     ensures kinds { length kinds.now ≡ 14 }
     ensures put { IsPut (head_text (map letter_of kinds.now) n records) (W.written sink.old) (W.written sink.new) (W.has_failed sink.new) result }
     ensures sound { OnOk result (W.has_failed sink.new ≡ W.has_failed sink.old) }
@@ -123,11 +118,7 @@ fn put_vertices<W: Sink>(
 }
 
 // Writes the arc records, on lists or not.
-fn put_arcs<W: Sink>(
-    layout: &mut Layout,
-    sink: &mut W,
-    graph: &Graph,
-) -> Result<(), Failed>
+fn put_arcs<W: Sink>(layout: &mut Layout, sink: &mut W, graph: &Graph) -> Result<(), Failed>
     requires { layout.old.line ≡ [] }
     ensures { IsLaid (arc_lines graph.now.records) [] (stage (W.written sink.old) (W.has_failed sink.old) layout.old) (stage (W.written sink.new) (W.has_failed sink.new) layout.new) result }
 {

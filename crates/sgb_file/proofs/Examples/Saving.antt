@@ -1,5 +1,9 @@
 -- Texts that are written.
-use Rattle.std.specs.Prelude.{◌≡◌, List, ℕ, [], ◌∷◌, ◌++◌, codes, length, replicate, refl}
+use Rattle.std.specs.Prelude.{◌≡◌, List, ℕ, [], ◌∷◌, ◌++◌, codes, length, replicate, refl, pos, negsuc, Some, None}
+use Rattle.sgb_graph.specs.Graphs.{GraphData}
+use Rattle.sgb_graph.specs.declared.fields.Kind.TheVariants.{Z, I, V, S, A}
+use Rattle.sgb_graph.specs.declared.fields.Ref.TheVariants.{Null, One, At}
+use Rattle.sgb_graph.specs.declared.fields.Util.TheVariants.{Nothing, Int, Vertex as VertexField, Str, Chain}
 use Rattle.std.specs.List.{repeat}
 use Rattle.std.specs.Fmt.{digits}
 use Rattle.sgb_file.specs.FileLines.{text_of_lines}
@@ -72,3 +76,27 @@ pub broken_twice : laid_out (codes "x,") (replicate 158 48 ∷ []) ≡
     codes "x," ∷ (replicate 78 48 ++ codes "\\") ∷ (replicate 78 48 ++ codes "\\") ∷ replicate 2 48 ∷ []
 unfolding laid_out
 broken_twice = refl
+
+-- a graph that has fields of all kinds, each of its values, records on no list, and more arcs than records
+abbrev pub all_kinds : GraphData
+all_kinds = record {
+  id = codes "k";
+  m = 5;
+  kinds = A ∷ V ∷ S ∷ I ∷ Z ∷ Z ∷ I ∷ V ∷ A ∷ Z ∷ Z ∷ Z ∷ Z ∷ S ∷ [];
+  util = Chain (Some 1) ∷ Nothing ∷ Nothing ∷ Nothing ∷ Nothing ∷ Str (codes "q") ∷ [];
+  vertices = record { name = codes "p"; arcs = None; util = Chain (Some 0) ∷ VertexField One ∷ Str [] ∷ Int (negsuc 6) ∷ Nothing ∷ Nothing ∷ [] } ∷ [];
+  records = record { tip = One; next = None; len = negsuc 2; a = Int (pos 4); b = VertexField Null }
+      ∷ record { tip = At 0; next = Some 0; len = pos 0; a = Int (pos 5); b = VertexField (At 0) } ∷ [];
+}
+
+pub of_all_kinds : text_of_graph all_kinds ≡ text_of_lines (
+    codes "* GraphBase graph (util_types AVSIZZIVAZZZZS,1V,2A)"
+    ∷ codes "\"k\",1,5,A1,\"q\""
+    ∷ codes "* Vertices"
+    ∷ codes "\"p\",0,A0,1,\"\",-7"
+    ∷ codes "* Arcs"
+    ∷ codes "1,0,-3,4,0"
+    ∷ codes "V0,A0,0,5,V0"
+    ∷ codes "* Checksum 605739239" ∷ [])
+unfolding digits weighted_sum pieces_of laid_out
+of_all_kinds = refl

@@ -31,7 +31,9 @@ const PLACES: [u8; 256] = [
 pub(super) fn checksum_from(sum: u32, bytes: &[u8]) -> u32
     ensures { result ≡ checksum_from sum bytes.now }
 {
-    bytes.iter().fold(sum, |before, byte| checksum_after(before, *byte))
+    bytes
+        .iter()
+        .fold(sum, |before, byte| checksum_after(before, *byte))
 }
 
 // The checksum after one byte more.

@@ -1,5 +1,4 @@
-use Rattle.std.proofs.Common.{◌≡◌, ◌∙◌, List, ℕ, codes, decimal, map, sym, ap, subst}
-use Rattle.sgb_file.specs.Devices.{IsPut}
+use Rattle.std.proofs.Common.{◌≡◌, ◌∙◌, codes, decimal, map, sym}
 use Rattle.sgb_file.specs.Saving.{letter_of}
 use Rattle.sgb_file.proofs.WholeText.{seven_texts}
 use Rattle.sgb_file.proofs.saving.put_head.Goals as goal

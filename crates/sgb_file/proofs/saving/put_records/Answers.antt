@@ -1,5 +1,4 @@
-use Rattle.std.proofs.Common.{◌≡◌, ◌∙◌, ◌++◌, [], ◌∷◌, List, ℕ, codes, refl, subst, sym, ap}
-use Rattle.std.specs.List.{flat_map}
+use Rattle.std.proofs.Common.{◌++◌, [], ◌∷◌, codes, refl, subst}
 use Rattle.std.proofs.lemmas.Result.{err_from_is_err_and}
 use Rattle.sgb_file.specs.Layouts.{vertex_lines, arc_lines, stage, HasLaid, IsStopped}
 use Rattle.sgb_file.specs.Saving.{record_lines, graph_texts, laid_out, pieces_of}

@@ -1,9 +1,7 @@
-use Rattle.std.proofs.Common.{◌≡◌, ◌∙◌, ◌++◌, List, ℕ, refl, subst, sym, ap, map, length}
+use Rattle.std.proofs.Common.{◌∙◌, refl, sym, ap, map, length}
 use Rattle.std.proofs.lemmas.Result.{err_from_is_err_and}
-use Rattle.sgb_file.specs.Devices.{IsPut}
-use Rattle.sgb_file.specs.FileLines.{text_of_lines}
 use Rattle.sgb_file.specs.Checksum.{checksum_of_lines}
-use Rattle.sgb_file.specs.Layouts.{checksum_from, checksum_text, counted_bytes, head_text}
+use Rattle.sgb_file.specs.Layouts.{checksum_from, counted_bytes}
 use Rattle.sgb_file.specs.Saving.{letter_of, middle_lines}
 use Rattle.sgb_file.proofs.WrittenPrefixes.{put_after, prefix_more, prefix_after}
 use Rattle.sgb_file.proofs.WholeText.{text-parts, checksum-whole, six_fields}

@@ -1,4 +1,4 @@
-use Rattle.std.proofs.Common.{◌≡◌, ◌∙◌, ◌+◌, sym, ap, refl, drop, arith}
+use Rattle.std.proofs.Common.{◌∙◌, ◌+◌, sym, ap, refl, drop, arith}
 use Rattle.std.proofs.lemmas.List.{drop_all}
 use Rattle.sgb_file.specs.Layouts.{has_any}
 use Rattle.sgb_file.specs.Saving.{field_texts}

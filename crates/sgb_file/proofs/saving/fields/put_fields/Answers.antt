@@ -13,7 +13,7 @@ pub returns-in_err-put_field : goal.returns-in_err-put_field
 returns-in_err-put_field g c =
     let p = err_from_is_err_and c.from_residual.result c.from_residual.ensures.1 in
     rw p.1 (fields-cut _ _ _ c.args.fields.now c.loop-place.place _ _ _ _ _ _ c.loop-place-test.true c.index-fields-place.is (c.any_used-more.ensures ∙ ap (λ fields. has_any (texts_of fields)) (take_rest c.args.fields.now (c.loop-place.place + 1)))
-      c.loop-place.invariant c.in_err-put_field.ensures)
+    c.loop-place.invariant c.in_err-put_field.ensures)
 
 pub loop-place-preserved : goal.loop-place-preserved
 loop-place-preserved g c =

@@ -1,4 +1,4 @@
-use Rattle.std.proofs.Common.{◌∙◌, [], ◌∷◌, ap, refl, true, w64, rules}
+use Rattle.std.proofs.Common.{[], ◌∷◌, ap, refl, true, w64, rules}
 use Rattle.std.specs.List.{flat_map}
 use Rattle.std.specs.Fmt.{signed_decimal}
 use Rattle.std.proofs.lemmas.Int.{to_z-of_z}
@@ -20,7 +20,7 @@ returns-in_err-put_record_number g c =
     let r = c.args.arc.now in
     let rest = flat_map field_texts (r.a ∷ r.b ∷ []) in
     rw p.1 (record-stopped (ref_text r.tip) _ (record_number_text r.next ∷ signed_decimal r.len ∷ rest) true _ _ _ refl refl c.in_ok-put_ref.ensures
-      (record-cut (record_number_text r.next) _ (signed_decimal r.len ∷ rest) true _ _ refl refl c.in_err-put_record_number.ensures))
+    (record-cut (record_number_text r.next) _ (signed_decimal r.len ∷ rest) true _ _ refl refl c.in_err-put_record_number.ensures))
 
 pub returns-in_err-put_integer : goal.returns-in_err-put_integer
 returns-in_err-put_integer g c =
@@ -28,8 +28,8 @@ returns-in_err-put_integer g c =
     let r = c.args.arc.now in
     let rest = flat_map field_texts (r.a ∷ r.b ∷ []) in
     rw p.1 (record-stopped (ref_text r.tip) _ (record_number_text r.next ∷ signed_decimal r.len ∷ rest) true _ _ _ refl refl c.in_ok-put_ref.ensures
-      (record-stopped (record_number_text r.next) _ (signed_decimal r.len ∷ rest) true _ _ _ refl refl c.in_ok-put_record_number.ensures
-      (record-cut (signed_decimal r.len) _ rest _ _ _ (ap signed_decimal (to_z-of_z w64 r.len (search rules))) c.any_used.ensures c.in_err-put_integer.ensures)))
+    (record-stopped (record_number_text r.next) _ (signed_decimal r.len ∷ rest) true _ _ _ refl refl c.in_ok-put_record_number.ensures
+    (record-cut (signed_decimal r.len) _ rest _ _ _ (ap signed_decimal (to_z-of_z w64 r.len (search rules))) c.any_used.ensures c.in_err-put_integer.ensures)))
 
 pub returns : goal.returns
 returns g c =

@@ -20,7 +20,7 @@ returns-in_err-put_number g c =
     let id = ap quoted (c.bytes.ensures.value ∙ c.id.ensures) in
     let n = ap decimal (c.from.ensures ∙ c.n.ensures.count) in
     rw p.1 (record-stopped (quoted v.id) _ (decimal (length v.vertices) ∷ decimal v.m ∷ flat_map field_texts v.util) true _ _ _ id refl c.in_ok-put_string.ensures
-      (record-cut (decimal (length v.vertices)) _ (decimal v.m ∷ flat_map field_texts v.util) true _ _ n refl c.in_err-put_number.ensures))
+    (record-cut (decimal (length v.vertices)) _ (decimal v.m ∷ flat_map field_texts v.util) true _ _ n refl c.in_err-put_number.ensures))
 
 pub returns-in_err-put_number-2 : goal.returns-in_err-put_number-2
 returns-in_err-put_number-2 g c =
@@ -30,8 +30,8 @@ returns-in_err-put_number-2 g c =
     let n = ap decimal (c.from.ensures ∙ c.n.ensures.count) in
     let more = c.any_used.ensures ∙ ap (λ us. has_any (flat_map field_texts us)) c.graph_fields-fields.ensures in
     rw p.1 (record-stopped (quoted v.id) _ (decimal (length v.vertices) ∷ decimal v.m ∷ flat_map field_texts v.util) true _ _ _ id refl c.in_ok-put_string.ensures
-      (record-stopped (decimal (length v.vertices)) _ (decimal v.m ∷ flat_map field_texts v.util) true _ _ _ n refl c.in_ok-put_number.ensures
-      (record-cut (decimal v.m) _ (flat_map field_texts v.util) _ _ _ (ap decimal c.m.ensures) more c.in_err-put_number-2.ensures)))
+    (record-stopped (decimal (length v.vertices)) _ (decimal v.m ∷ flat_map field_texts v.util) true _ _ _ n refl c.in_ok-put_number.ensures
+    (record-cut (decimal v.m) _ (flat_map field_texts v.util) _ _ _ (ap decimal c.m.ensures) more c.in_err-put_number-2.ensures)))
 
 pub returns : goal.returns
 returns g c =

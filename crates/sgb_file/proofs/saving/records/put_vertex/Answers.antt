@@ -1,4 +1,4 @@
-use Rattle.std.proofs.Common.{◌∙◌, ◌∷◌, ap, map, refl, subst, true}
+use Rattle.std.proofs.Common.{◌∙◌, ◌∷◌, ap, refl, subst, true}
 use Rattle.std.specs.List.{flat_map}
 use Rattle.std.proofs.lemmas.Result.{err_from_is_err_and}
 use Rattle.sgb_file.specs.Layouts.{AreLaidOut, has_any, stage}
@@ -18,7 +18,7 @@ returns-in_err-put_record_number g c =
     let v = c.args.vertex.now in
     let more = c.any_used.ensures ∙ ap (λ us. has_any (flat_map field_texts us)) c.each_ref-fields.ensures.items in
     rw p.1 (record-stopped (quoted v.name) _ (record_number_text v.arcs ∷ flat_map field_texts v.util) true _ _ _ (ap quoted c.bytes.ensures.value) refl c.in_ok-put_string.ensures
-      (record-cut (record_number_text v.arcs) _ (flat_map field_texts v.util) _ _ _ refl more c.in_err-put_record_number.ensures))
+    (record-cut (record_number_text v.arcs) _ (flat_map field_texts v.util) _ _ _ refl more c.in_err-put_record_number.ensures))
 
 pub returns : goal.returns
 returns g c =

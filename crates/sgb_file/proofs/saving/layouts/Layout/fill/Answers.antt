@@ -1,4 +1,4 @@
-use Rattle.std.proofs.Common.{◌≡◌, ◌≤◌, ◌∙◌, ◌++◌, [], ◌∷◌, sym, ap, arith, length, drop, refl, length-append, append_assoc}
+use Rattle.std.proofs.Common.{◌≤◌, ◌∙◌, ◌++◌, ap, arith, length, refl, length-append}
 use Rattle.std.proofs.lemmas.Result.{err_from_is_err_and}
 use Rattle.sgb_file.proofs.PlacedPieces.{filled-short, filled-none, filled-next, filled-stopped-at}
 use Rattle.sgb_file.proofs.saving.layouts.Layout.fill.Goals as goal

@@ -1,4 +1,4 @@
-use Rattle.std.proofs.Common.{◌≡◌, ◌≤◌, ◌∙◌, ◌++◌, [], ◌∷◌, sym, ap, arith, length, take, drop, refl, length-append, append_assoc}
+use Rattle.std.proofs.Common.{◌≡◌, ◌≤◌, ◌∙◌, ◌++◌, [], ◌∷◌, sym, ap, arith, length, take, drop, refl, length-append}
 use Rattle.std.proofs.lemmas.Result.{err_from_is_err_and}
 use Rattle.sgb_file.proofs.PlacedPieces.{filled-short, filled-once, stopped-once}
 use Rattle.sgb_file.proofs.saving.layouts.Layout.fill_byte.Goals as goal

@@ -1,5 +1,4 @@
-use Rattle.std.proofs.Common.{◌≡◌, ◌∙◌, true, false, List, [], ◌∷◌, ◌==◌, ℕ, length, sym, ap, refl, arith}
-use Rattle.sgb_file.specs.Layouts.{HasLaid, lines_before, line_before}
+use Rattle.std.proofs.Common.{◌≡◌, ◌∙◌, List, [], ◌∷◌, ℕ, length, sym, ap, refl, arith}
 use Rattle.sgb_file.proofs.LaidLines.{laid-none}
 use Rattle.sgb_file.proofs.saving.layouts.Layout.make_room.Goals as goal
 use Rattle.sgb_file.proofs.saving.layouts.Layout.make_room.Goals.{then-fits-via-then-fits, then-fits-via-else-fits+then-len-eq0}
@@ -14,6 +13,6 @@ returns-then-fits g c = elim c.then-fits.branch [
   | then-fits-via-then-fits w ↦ rw w.if-fits.true (laid-none _ _ refl refl refl, refl)
   | then-fits-via-else-fits+then-len-eq0 w ↦
       let empty : c.args.self.now.line ≡ [] =
-          empty_line c.args.self.now.line (sym (ap (λ l. length l.line) c.self.view_is) ∙ (sym w.len.ensures.value ∙ w.if-len-eq0.true)) in
+      empty_line c.args.self.now.line (sym (ap (λ l. length l.line) c.self.view_is) ∙ (sym w.len.ensures.value ∙ w.if-len-eq0.true)) in
       rw (w.if-fits.false, empty) (laid-none _ _ refl refl refl, refl)
 ]

@@ -1,4 +1,4 @@
-use Rattle.std.proofs.Common.{◌++◌, sym}
+use Rattle.std.proofs.Common.{sym}
 use Rattle.std.proofs.lemmas.Result.{err_from_is_err_and}
 use Rattle.sgb_file.proofs.PlacedPieces.{placed-cut, placed-then}
 use Rattle.sgb_file.proofs.saving.layouts.Layout.place.Goals as goal

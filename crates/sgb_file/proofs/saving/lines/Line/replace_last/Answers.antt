@@ -1,4 +1,4 @@
-use Rattle.std.proofs.Common.{◌≡◌, ◌∙◌, sym, ap, arith, [], ◌∷◌, drop, length, slice_index_or}
+use Rattle.std.proofs.Common.{◌≡◌, ◌∙◌, ap, arith, ◌∷◌, length, slice_index_or}
 use Rattle.std.proofs.lemmas.List.{drop_more, drop_all}
 use Rattle.sgb_file.proofs.saving.lines.Line.replace_last.Goals as goal
 
