@@ -243,4 +243,5 @@ from_own (Err r) answer p q = λ e.
 pub answer_own : (r : Request) → answer_of r ≢ Err (fault.Panic NoRoom)
 answer_own (request.Names e resume) = from_own (value_of (expression_of e)) _ (value_judged (expression_of e)) (λ d. skipped_own _ _ (left_out_own _ resume))
 answer_own (request.List e resume) = from_own (value_of (expression_of e)) _ (value_judged (expression_of e)) (λ d. skipped_own _ _ (left_out_own _ resume))
+answer_own (request.Save e) = from_own (value_of (expression_of e)) _ (value_judged (expression_of e)) (λ g. λ e. cc)
 answer_own request.Queen = from_own (value_of queen_moves) _ (value_judged queen_moves) (λ g. λ e. cc)

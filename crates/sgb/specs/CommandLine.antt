@@ -28,11 +28,17 @@ output_shape name = record (new_shape name) {
   rules = expression_rule ∷ option_rule (codes "after") ∷ option_rule (codes "skip") ∷ [];
 }
 
+-- the command `save`, with `EXPR` alone
+abbrev pub save_shape : Shape
+save_shape = record (new_shape (codes "save")) { rules = expression_rule ∷ [] }
+
+-- `sgb` with the commands that begin where the options say
+abbrev pub output_command_line : App
+output_command_line = with_subcommand (with_subcommand (new_app (codes "sgb")) (output_shape (codes "names"))) (output_shape (codes "list"))
+
 -- `sgb` and its commands
 abbrev pub command_line : App
-command_line =
-    with_subcommand (with_subcommand (with_subcommand (new_app (codes "sgb")) (output_shape (codes "names"))) (output_shape (codes "list")))
-    (new_shape (codes "queen"))
+command_line = with_subcommand (with_subcommand output_command_line save_shape) (new_shape (codes "queen"))
 
 -- a command with the values of its argument and its options, as the words give them
 pub record Asked : Type 0 where
@@ -59,6 +65,15 @@ pub record Asks (words : List Text) (command expression : Text) (after skip : Op
   pub taken : fault_of command_line words ≡ []
   pub asked :
       asked_of words ≡ Some (record { command = command; expression = Some expression; after = after; skip = skip })
+
+-- a command's name and its expression, by its name and its matches
+abbrev pub called_by : Text × List Row → Text × Option Text
+called_by entered = (entered.0, first_of (codes "EXPR") entered.1)
+
+-- the words are those of this command, which takes an expression alone, with this expression
+pub record AsksAlone (words : List Text) (command expression : Text) : Type 0 where
+  pub taken : fault_of command_line words ≡ []
+  pub called : option_map called_by (subcommand_of command_line words) ≡ Some (command, Some expression)
 
 -- the words are those of the command of this name, with nothing after it
 pub record Enters (words : List Text) (command : Text) : Type 0 where
@@ -103,6 +118,7 @@ AsksBy words command values =
 abbrev pub EntersSubcommand : List Text → Subcommand → Type 0
 EntersSubcommand words (subcommand.Names values) = AsksBy words (codes "names") values
 EntersSubcommand words (subcommand.List values) = AsksBy words (codes "list") values
+EntersSubcommand words (subcommand.Save text) = AsksAlone words (codes "save") text.now
 EntersSubcommand words subcommand.Queen = Enters words (codes "queen")
 
 -- the words are refused with this fault before their values are looked at

@@ -8,6 +8,7 @@ use Rattle.sgb_ops.specs.Operands.{names_of}
 use Rattle.sgb_expr.specs.Expression.{Expression, Family, Gunion, expression_of}
 use Rattle.sgb_expr.specs.declared.expressions.Family.{Family as Generator}
 use Rattle.sgb_expr.specs.declared.expressions.Family.TheVariants as family
+use Rattle.sgb_file.specs.Saving.{text_of_graph}
 use Rattle.sgb.specs.Faults.{status_of, line_of}
 use Rattle.sgb.specs.Texts.{name_lines, head, blocks}
 use Rattle.sgb.specs.Values.{value_of}
@@ -74,6 +75,7 @@ queen_title = codes "Queen Moves on a 3x4 Board\n\n"
 abbrev pub answer_of : Request → Result (List ℕ) Fault
 answer_of (request.Names e resume) = answer_from (value_of (expression_of e)) (λ g. names_answer (names_of g) resume)
 answer_of (request.List e resume) = answer_from (value_of (expression_of e)) (λ g. list_answer g resume)
+answer_of (request.Save e) = answer_from (value_of (expression_of e)) (λ g. Ok (text_of_graph g))
 answer_of request.Queen = answer_from (value_of queen_moves) (λ g. Ok (queen_title ++ (head g ++ blocks g 0)))
 
 -- output, line on standard error, and exit status

@@ -2,7 +2,7 @@
 use Rattle.std.specs.Prelude.{◌≡◌, ◌⊎◌, List, Option, Some, None, Result, Ok, Err, codes}
 use Rattle.std.specs.Str.Parse.{digits_value}
 use Rattle.clap.specs.Words.{Text}
-use Rattle.sgb.specs.CommandLine.{Asks, Enters, HasNoCommand}
+use Rattle.sgb.specs.CommandLine.{Asks, AsksAlone, Enters, HasNoCommand}
 use Rattle.sgb.specs.Counts.{IsDigits}
 use Rattle.sgb.specs.Reading.{IsReadAs}
 use Rattle.sgb_vec.specs.declared.panics.Panic.TheVariants.{NoRoom}
@@ -65,6 +65,7 @@ IsAskedOf words command e resume =
 abbrev pub IsRequest : List Text → Request → Type 0
 IsRequest words (request.Names e resume) = IsAskedOf words (codes "names") e resume
 IsRequest words (request.List e resume) = IsAskedOf words (codes "list") e resume
+IsRequest words (request.Save e) = (text : Text) × AsksAlone words (codes "save") text × IsReadAs text (Ok e)
 IsRequest words request.Queen = Enters words (codes "queen")
 
 -- the words are refused with this fault; out of memory any may be
@@ -72,8 +73,9 @@ abbrev pub IsRefusedCommandLine : List Text → Fault → Type 0
 IsRefusedCommandLine words fault.Usage = IsInvalidCommandLine words
 IsRefusedCommandLine words (fault.Panic p) = p ≡ NoRoom
 IsRefusedCommandLine words f =
-    (command text : Text) × (after skip : Option Text)
-    × Asks words command text after skip × GoTogether after skip × IsReadAs text (Err f)
+    ((command text : Text) × (after skip : Option Text)
+    × Asks words command text after skip × GoTogether after skip × IsReadAs text (Err f))
+    ⊎ ((text : Text) × AsksAlone words (codes "save") text × IsReadAs text (Err f))
 
 -- what the words are read as: a request, or the fault that they are refused with
 abbrev pub IsCommandLineReadAs : List Text → Result Request Fault → Type 0

@@ -1,11 +1,11 @@
 //! The subcommand and the arguments that clap finds in the words of a command line.
 
-ghost use Rattle.std.specs.Prelude.{◌≡◌, IfOk, IsSome, MatchResult, codes, false, map};
+ghost use Rattle.std.specs.Prelude.{◌≡◌, IfOk, IsSome, MatchResult, Some, codes, false, map};
 ghost use Rattle.std.specs.String.{string_bytes};
 ghost use Rattle.clap.specs.Words.{HasKind, app_of, fault_of, first_of, found_of, rows_of, rule_of, shape_of};
 ghost use Rattle.clap.specs.declared.builder.command.Command.TheViews.{out-Command};
 ghost use Rattle.sgb.specs.CommandLine.{Gives, EntersSubcommand, IsRefusedAtOnce, IsTaken, command_line};
-ghost use Rattle.sgb.specs.CommandLine.{expression_rule, option_rule, output_shape};
+ghost use Rattle.sgb.specs.CommandLine.{expression_rule, option_rule, output_command_line, output_shape, save_shape};
 
 use crate::faults::Fault;
 use clap::error::ErrorKind;
@@ -28,6 +28,8 @@ pub(crate) enum Subcommand<'a> {
     Names(Arguments<'a>),
     /// `list EXPR [--after NAME|--skip K]`.
     List(Arguments<'a>),
+    /// `save EXPR`.
+    Save(&'a str),
     /// `queen`.
     Queen,
 }
@@ -64,6 +66,9 @@ pub(crate) fn entered_subcommand<'a>(
     if let Some(entered) = matches.subcommand_matches("list") {
         return Ok(Subcommand::List(arguments_of(entered)));
     }
+    if let Some(entered) = matches.subcommand_matches("save") {
+        return Ok(Subcommand::Save(expression_in(entered)));
+    }
     if matches.subcommand_matches("queen").is_some() {
         return Ok(Subcommand::Queen);
     }
@@ -82,10 +87,18 @@ fn matches_of<'a>(alloc: Global, words: &'a [String]) -> Result<ArgMatches<'a>, 
 fn command_line<'a>(alloc: Global) -> Result<Command<'a>, AllocError>
     ensures { IfOk result (λ c. app_of c ≡ command_line) }
 {
+    output_command_line(alloc)?
+        .subcommand(save_command(alloc)?)?
+        .subcommand(Command::new(alloc, "queen"))
+}
+
+// `sgb` with the commands that begin where the options say.
+fn output_command_line<'a>(alloc: Global) -> Result<Command<'a>, AllocError>
+    ensures { IfOk result (λ c. app_of c ≡ output_command_line) }
+{
     Command::new(alloc, "sgb")
         .subcommand(output_command(alloc, "names")?)?
-        .subcommand(output_command(alloc, "list")?)?
-        .subcommand(Command::new(alloc, "queen"))
+        .subcommand(output_command(alloc, "list")?)
 }
 
 // The command of this name, with `EXPR [--after NAME|--skip K]`. That not both options stand is not left to
@@ -98,6 +111,14 @@ fn output_command<'a>(alloc: Global, name: &'a str) -> Result<Command<'a>, Alloc
         .arg(expression_argument(alloc))?
         .arg(value_option(alloc, "after"))?
         .arg(value_option(alloc, "skip"))
+}
+
+// The command `save`, with `EXPR` alone.
+fn save_command<'a>(alloc: Global) -> Result<Command<'a>, AllocError>
+    ensures shape { IfOk result (λ c. shape_of c ≡ save_shape) }
+    ensures local { IfOk result (λ c. (out-Command c).has_globals ≡ false) }
+{
+    Command::new(alloc, "save").arg(expression_argument(alloc))
 }
 
 // `EXPR`, which is required.
@@ -124,8 +145,16 @@ fn arguments_of<'a>(entered: &ArgMatches<'a>) -> Arguments<'a>
     ensures { Gives (rows_of (found_of entered.now)) result }
 {
     Arguments {
-        expression: entered.get_str("EXPR").unwrap(),
+        expression: expression_in(entered),
         after: entered.get_str("after"),
         skip: entered.get_str("skip"),
     }
+}
+
+// The expression that the matches of a command give.
+fn expression_in<'a>(entered: &ArgMatches<'a>) -> &'a str
+    requires { IsSome (first_of (codes "EXPR") (rows_of (found_of entered.now))) }
+    ensures { first_of (codes "EXPR") (rows_of (found_of entered.now)) ≡ Some result.now }
+{
+    entered.get_str("EXPR").unwrap()
 }

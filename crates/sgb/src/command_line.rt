@@ -19,7 +19,7 @@ use std::alloc::Global;
 const MOST_DIGITS: usize = 18;
 
 /// The request that the words make, of which the first is the program's name: `names EXPR` or `list EXPR`,
-/// each with `--after NAME`, with `--skip K` or with neither, or `queen`, as clap reads them.
+/// each with `--after NAME`, with `--skip K` or with neither, `save EXPR`, or `queen`, as clap reads them.
 ///
 /// `Usage` where clap refuses the words or has a text of its own for them, where no command stands, where both
 /// options stand, and where K is not 1 to 18 decimal digits. After that `TooLarge` and `Expr(k)` as `parse_expr`
@@ -35,6 +35,10 @@ pub fn request(alloc: Global, words: &[String]) -> Result<Request, Fault>
         Subcommand::List(values) => {
             let (graph, resume) = read(alloc, values)?;
             Ok(Request::List(graph, resume))
+        }
+        Subcommand::Save(text) => {
+            let graph = parse_expr(alloc, text.as_bytes())?;
+            Ok(Request::Save(graph))
         }
         Subcommand::Queen => Ok(Request::Queen),
     }

@@ -1,4 +1,4 @@
-//! sgb: the names and listings of the graphs of Stanford GraphBase's generators.
+//! sgb: the names, listings and files of graphs that Stanford GraphBase's generators and operations make.
 #![tactic(auto)]
 
 pub(crate) mod arguments;

@@ -57,6 +57,8 @@ pub enum Request {
     Names(Expr, Resume),
     /// The graph's listing: its vertices, each with its arcs.
     List(Expr, Resume),
+    /// The `.gb` file of the graph.
+    Save(Expr),
     /// The moves of queens on a board of three rows and four columns.
     Queen,
 }

@@ -3,6 +3,7 @@
 ghost use Rattle.std.specs.Prelude.{◌≡◌, ◌≢◌, ◌++◌, Ok, Err, false};
 ghost use Rattle.sgb_vec.specs.declared.panics.Panic.TheVariants.{NoRoom};
 ghost use Rattle.sgb_expr.specs.Expression.{expression_of};
+ghost use Rattle.sgb_file.specs.Saving.{text_of_graph};
 ghost use Rattle.sgb_ops.specs.Operands.{names_of};
 ghost use Rattle.sgb.specs.Outcomes.{answer_from, answer_of, list_answer, names_answer, outcome_of, queen_moves, queen_title};
 ghost use Rattle.sgb.specs.Runs.{IsRunOf};
@@ -13,6 +14,7 @@ ghost use Rattle.sgb.specs.Writing.{IsEnded};
 use crate::evaluation::{Local, graph_of, local_of, queen_moves};
 use crate::faults::{Fault, report};
 use crate::requests::{Request, Resume};
+use crate::writing::files::write_file;
 use crate::writing::listing::{write_listing, write_titled_listing};
 use crate::writing::names::write_names;
 use crate::writing::vertices::write_vertex_names;
@@ -69,6 +71,7 @@ fn write_answer<W: Sink>(alloc: Global, request: &Request, out: &mut W) -> Resul
     match request {
         Request::Names(expression, resume) => answer_names(alloc, expression, resume, out),
         Request::List(expression, resume) => answer_list(alloc, expression, resume, out),
+        Request::Save(expression) => answer_save(alloc, expression, out),
         Request::Queen => answer_queen(alloc, out),
     }
 }
@@ -119,6 +122,15 @@ fn answer_list<W: Sink>(
 {
     let graph = graph_of(alloc, expression)?;
     write_listing(&graph, resume, out)
+}
+
+// Writes the `.gb` file of an expression's graph.
+fn answer_save<W: Sink>(alloc: Global, expression: &Expr, out: &mut W) -> Result<(), Fault>
+    requires { W.has_failed out.old ≡ false }
+    ensures { IsEnded (answer_from (value_of (expression_of expression.now)) (λ g. Ok (text_of_graph g))) (record { before = W.written out.old; after = W.written out.new; failed = W.has_failed out.new }) result }
+{
+    let graph = graph_of(alloc, expression)?;
+    write_file(&graph, out)
 }
 
 // Writes the moves of queens on a board of three rows and four columns, under their title.

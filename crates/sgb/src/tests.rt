@@ -16,6 +16,7 @@ mod listings;
 mod names;
 mod operations;
 mod refusals;
+mod saving;
 
 const USAGE: &str =
     "usage: sgb (names|list) EXPR [--after NAME|--skip K], sgb save EXPR, sgb queen, sgb flip EXPR\n";

@@ -45,9 +45,17 @@ fn asks(request: &Request, command: Command, start: Start) -> bool {
     let (asked, graph, resume) = match request {
         Request::Names(graph, resume) => (Command::Names, graph, resume),
         Request::List(graph, resume) => (Command::List, graph, resume),
-        Request::Queen => return false,
+        Request::Save(_) | Request::Queen => return false,
     };
     asked == command && *graph == small_board() && begins(resume, start)
+}
+
+// Whether the words ask for the board's file.
+fn saves(request: &Request) -> bool {
+    match request {
+        Request::Save(graph) => *graph == small_board(),
+        _ => false,
+    }
 }
 
 // `board(2,3,0,0,1,0,0)`.
@@ -104,6 +112,13 @@ fn valid_command_lines(rt: HostRuntime) -> Result<(), Fail> {
 }
 
 #[test]
+fn save_takes_an_expression(rt: HostRuntime) -> Result<(), Fail> {
+    let request = read(&rt, &["sgb", "save", BOARD])?;
+    assert!(rt; request.is_ok_and(|request| saves(&request)));
+    Ok(())
+}
+
+#[test]
 fn a_name_is_its_bytes(rt: HostRuntime) -> Result<(), Fail> {
     let name = Name::new(rt.alloc(), &[0, 255, b'.', 10])?;
     assert_eq!(rt; name.bytes(), [0, 255, b'.', 10].as_slice());
@@ -111,7 +126,7 @@ fn a_name_is_its_bytes(rt: HostRuntime) -> Result<(), Fail> {
 }
 
 // Words that are an invalid command line.
-static INVALID_COMMAND_LINES: [&[&str]; 39] = [
+static INVALID_COMMAND_LINES: [&[&str]; 45] = [
     &[],
     &["sgb"],
     &["sgb", "name", BOARD],
@@ -120,6 +135,12 @@ static INVALID_COMMAND_LINES: [&[&str]; 39] = [
     &["sgb", "names"],
     &["sgb", "list"],
     &["sgb", "list", "--after", "1"],
+    &["sgb", "save"],
+    &["sgb", "save", BOARD, BOARD],
+    &["sgb", "save", BOARD, "--after", "1"],
+    &["sgb", "save", BOARD, "--skip", "1"],
+    &["sgb", "save", "board(", "--skip", "1"],
+    &["sgb", "save", "--skip=x", BOARD],
     &["sgb", "names", BOARD, BOARD],
     &["sgb", "names", "list", BOARD],
     &["sgb", "names", BOARD, "--skip"],

@@ -13,9 +13,10 @@ use std::test::Fail;
 const SMALL: &str = "board(2,0,0,0,1,0,0)";
 
 // Words that make a request with an answer in full, and whether that is empty.
-static ANSWERED: [(&[&str], bool); 7] = [
+static ANSWERED: [(&[&str], bool); 8] = [
     (&["names", SMALL], false),
     (&["list", SMALL], false),
+    (&["save", SMALL], false),
     (&["queen"], false),
     (&["names", SMALL, "--skip", "2"], true),
     (&["list", SMALL, "--skip", "2"], true),
@@ -143,7 +144,16 @@ fn short_sinks(rt: HostRuntime) -> Result<(), Fail> {
     let listing =
         "  The graph whose official name is\nboard(2,0,0,0,1,0,0)\n  has 2 vertices and 2 arcs:\n\n\
         0\n  -> 1, length 1\n1\n  -> 0, length 1\n";
+    let file = "* GraphBase graph (util_types ZZZIIIZZZZZZZZ,1V,0A)\n\"board(1,0,0,0,1,0,0)\",1,0\n\
+        * Vertices\n\"0\",0,0,0,0\n* Arcs\n* Checksum 386652336\n";
     for each in [1usize, 3, 7, 1000] {
+        check_short_sinks(
+            &rt,
+            rt.alloc(),
+            &["save", "board(1,0,0,0,1,0,0)"],
+            file,
+            each,
+        )?;
         check_short_sinks(
             &rt,
             rt.alloc(),

@@ -14,7 +14,7 @@ use std::test::Fail;
 const SMALL: &str = "board(2,0,0,0,1,0,0)";
 
 // Words that are refused or make a request that is, with the line and the status.
-static REFUSED: [(&[&str], &str, u8); 39] = [
+static REFUSED: [(&[&str], &str, u8); 44] = [
     (
         &["names", "board(2,-92,0,0,1,0,0)"],
         "Something went wrong (panic code 30)!\n",
@@ -151,6 +151,15 @@ static REFUSED: [(&[&str], &str, u8); 39] = [
     (
         &["list", "board(65536,65536,0,0,1,0,0)"],
         "Something went wrong (panic code 40)!\n",
+        1,
+    ),
+    (&["save"], USAGE, 2),
+    (&["save", "petersen()", "--after", "1"], USAGE, 2),
+    (&["save", "petersen()", "--skip", "1"], USAGE, 2),
+    (&["save", "board(3,"], "sgb: bad expression at byte 8\n", 2),
+    (
+        &["save", "board(2,-92,0,0,1,0,0)"],
+        "Something went wrong (panic code 30)!\n",
         1,
     ),
     (&["queen", "petersen()"], USAGE, 2),

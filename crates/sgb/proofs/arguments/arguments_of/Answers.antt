@@ -1,17 +1,12 @@
-use Rattle.std.proofs.Common.{◌∙◌, Bor, sym, ap, option_map, codes}
-use Rattle.clap.proofs.CallerLemmas.{some_of_text}
+use Rattle.std.proofs.Common.{◌∙◌, sym, codes}
 use Rattle.clap.proofs.WalkLemmas.{first_value-rows}
-use Rattle.clap.specs.Words.{Text, found_of}
+use Rattle.clap.specs.Words.{found_of}
 use Rattle.sgb.proofs.arguments.arguments_of.Goals as goal
-
-pub unwrap-requires : goal.unwrap-requires
-unwrap-requires c =
-    some_of_text (λ (s : Bor Text). s.now) _ _ (c.get_str.ensures ∙ first_value-rows (found_of c.args.entered.now) (codes "EXPR")) c.requires
 
 pub returns : goal.returns
 returns c =
     let found = found_of c.args.entered.now in (
-      sym (first_value-rows found (codes "EXPR")) ∙ sym c.get_str.ensures ∙ ap (option_map (λ (s : Bor Text). s.now)) c.unwrap.ensures,
-      sym (first_value-rows found (codes "after")) ∙ sym c.get_str-2.ensures,
-      sym (first_value-rows found (codes "skip")) ∙ sym c.get_str-3.ensures,
+      c.expression_in.ensures,
+      sym (first_value-rows found (codes "after")) ∙ sym c.get_str.ensures,
+      sym (first_value-rows found (codes "skip")) ∙ sym c.get_str-2.ensures,
     )
