@@ -42,6 +42,17 @@ REQUESTS = [
     ["list", "gunion(board(80,80,0,0,-1,0,0),board(80,80,0,0,-2,0,0),0,0)"],
     ["list", "complement(board(1500,0,0,0,1,0,0),0,0,0)"],
     ["list", "intersection(board(80,80,0,0,-1,0,0),board(80,80,0,0,-2,0,0),1,0)"],
+    # line graphs, products, complete bipartite graphs, wheels
+    ["list", "lines(complete(120),0)"],
+    ["list", "lines(board(400,400,0,0,1,0,1),1)"],
+    ["list", "product(circuit(400),circuit(400),2,0)"],
+    ["list", "product(complete(40),complete(40),1,0)"],
+    ["list", "bi_complete(1000,1000,0)"],
+    ["list", "wheel(100000,10,0)"],
+    # files
+    ["save", "board(600,600,0,0,1,0,0)"],
+    ["save", "board(100,100,0,0,-1,0,0)"],
+    ["save", "simplex(25,-5,0,0,0,0,0)"],
 ]
 
 
