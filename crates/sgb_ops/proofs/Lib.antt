@@ -19,5 +19,6 @@ pub mod ComplementEvents
 pub mod JoinedNames
 pub mod LineEvents
 pub mod LineLists
+pub mod EdgeLines
 pub mod CopiesInOrder
 pub mod Examples

@@ -1,4 +1,5 @@
 ghost use Rattle.sgb_ops.specs.Copies.{CopiesAreAll, CopiesAreApart};
+ghost use Rattle.sgb_ops.specs.Lines.{LinesTakesEdges};
 ghost use Rattle.sgb_ops.specs.Merged.{MergedAreApart, MergedAreShortest, MergedAreTheFirst, MergedHasEachPair};
 ghost use Rattle.sgb_ops.specs.Taken.{TakenAreLowerRecords, TakenLeadUp};
 
@@ -31,4 +32,9 @@ pub fn merging_law()
 pub fn copies_law()
     ensures all { CopiesAreAll }
     ensures apart { CopiesAreApart }
+{}
+
+/// The line graph of a graph of edges is never refused for its edges (GB_BASIC, lines).
+pub fn lines_law()
+    ensures { LinesTakesEdges }
 {}

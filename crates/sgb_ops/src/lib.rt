@@ -29,7 +29,7 @@ pub use entries::Entry;
 pub use gunions::gunion;
 pub use induced_graphs::induced;
 pub use intersections::intersection;
-pub use laws::{copies_law, merged_are_apart, merging_law, taken_lead_up, taking_law};
+pub use laws::{copies_law, lines_law, merged_are_apart, merging_law, taken_lead_up, taking_law};
 pub use line_graphs::lines;
 pub use products::product;
 pub use wheels::wheel;
