@@ -2,7 +2,7 @@
 # make demo     that, and three small graphs
 # make check    the gate: all proofs from nothing, the must-fail edits, the tests, the program
 # make examples  turns two listings into Graphviz's DOT and into edge lists, and compares them
-# make install  puts the program into $(PREFIX)/bin
+# make install  puts the program into $(PREFIX)/bin, and its manual page into $(PREFIX)/share/man
 
 PREFIX ?= /usr/local
 
@@ -29,6 +29,7 @@ check:
 
 install: sgb
 	install -D crates/sgb/out/sgb $(DESTDIR)$(PREFIX)/bin/sgb
+	install -D -m 644 man/sgb.1 $(DESTDIR)$(PREFIX)/share/man/man1/sgb.1
 
 FORCE:
 
