@@ -27,21 +27,30 @@ fn files_of_graphs(rt: HostRuntime) -> Result<(), Fail> {
     answers_are(&rt, rt.alloc(), &FILES)
 }
 
-// The record of a graph whose id was cut takes three lines.
-static PARTS_OF_FILES: [Parts; 1] = [Parts {
-    words: &[
-        "save",
-        "complement(complement(complement(complement(complement(complement(complement(complement(petersen(),0,0,0),0,0,0),0,0,0),0,0,0),0,0,0),0,0,0),0,0,0),0,0,0)",
-    ],
-    start: "* GraphBase graph (util_types ZZZZZZZZZZZZZZ,10V,30A)\n\
-        \"complement(complement(complement(complement(complement(complement(complement(\\\n\
-        complement(subsets(2,1,-4,0,0,0,0x1,0),0,0,0),0,0,0),0,0,0),0,0,0),0,0,0...),0\\\n\
-        ,0,0)\",10,30\n* Vertices\n\"0.0.0.1.1\",A",
-    end: "\nV5,A19,1\n* Checksum 617074040\n",
-    lines: 47,
-}];
+static PARTS_OF_FILES: [Parts; 2] = [
+    // a record of three lines: that of a graph whose id was cut
+    Parts {
+        words: &[
+            "save",
+            "complement(complement(complement(complement(complement(complement(complement(complement(petersen(),0,0,0),0,0,0),0,0,0),0,0,0),0,0,0),0,0,0),0,0,0),0,0,0)",
+        ],
+        start: "* GraphBase graph (util_types ZZZZZZZZZZZZZZ,10V,30A)\n\
+            \"complement(complement(complement(complement(complement(complement(complement(\\\n\
+            complement(subsets(2,1,-4,0,0,0,0x1,0),0,0,0),0,0,0),0,0,0),0,0,0),0,0,0...),0\\\n\
+            ,0,0)\",10,30\n* Vertices\n\"0.0.0.1.1\",A",
+        end: "\nV5,A19,1\n* Checksum 617074040\n",
+        lines: 47,
+    },
+    // the graph's own field uu
+    Parts {
+        words: &["save", "bi_complete(2,3,0)"],
+        start: "* GraphBase graph (util_types ZZZZZZZZIZZZZZ,5V,12A)\n\"bi_complete(2,3,0)\",5,12,2\n* Vertices\n\"0\",A4\n",
+        end: "\nV1,A5,1\n* Checksum 1055170211\n",
+        lines: 22,
+    },
+];
 
 #[test]
-fn a_record_of_three_lines(rt: HostRuntime) -> Result<(), Fail> {
+fn long_records_and_own_fields(rt: HostRuntime) -> Result<(), Fail> {
     answers_have(&rt, rt.alloc(), &PARTS_OF_FILES)
 }
