@@ -6,7 +6,7 @@ use Rattle.sgb_file.proofs.SoFar.{SoFar, so_far-prefix}
 use Rattle.sgb_file.proofs.WrittenPrefixes.{prefix_more, prefix_after}
 use Rattle.sgb.specs.Runs.{Change}
 use Rattle.sgb.specs.Writing.{IsWritten, IsCutOff}
-use Rattle.sgb.specs.declared.faults.Fault.{Fault}
+use Rattle.sgb_requests.specs.declared.faults.Fault.{Fault}
 
 -- a text cut off is one with more after it cut off
 pub cut_more : (xs ys : List ℕ) (out : Change) (f : Fault) → IsCutOff xs out f → IsCutOff (xs ++ ys) out f

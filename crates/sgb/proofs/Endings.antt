@@ -11,13 +11,13 @@ use Rattle.sgb_graph.specs.Made.{graph_described}
 use Rattle.sgb_ops.specs.Operands.{names_of}
 use Rattle.sgb.specs.Outcomes.{answer_after, answer_from, names_answer, outcome_of}
 use Rattle.sgb.specs.Values.{IsLocalOf, IsValue, made}
-use Rattle.sgb.specs.declared.requests.Resume.{Resume}
+use Rattle.sgb_requests.specs.declared.requests.Resume.{Resume}
 use Rattle.sgb_file.specs.Devices.{AppendsUnlessFailed}
-use Rattle.sgb.specs.Faults.{line_of, status_of}
+use Rattle.sgb_requests.specs.Faults.{line_of, status_of}
 use Rattle.sgb.specs.Runs.{Change, IsRunOf}
 use Rattle.sgb.specs.Writing.{IsEnded, IsWhole, IsWritten, IsCutOff}
-use Rattle.sgb.specs.declared.faults.Fault.{Fault}
-use Rattle.sgb.specs.declared.faults.Fault.TheVariants as fault
+use Rattle.sgb_requests.specs.declared.faults.Fault.{Fault}
+use Rattle.sgb_requests.specs.declared.faults.Fault.TheVariants as fault
 use Rattle.sgb_file.proofs.WrittenPrefixes.{prefix_all, prefix_none}
 
 -- the bytes that a sink tells, before and after, and whether it has failed

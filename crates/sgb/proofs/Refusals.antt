@@ -33,12 +33,12 @@ use Rattle.sgb.specs.Outcomes.{answer_after, answer_from, answer_of, left_out, l
 use Rattle.sgb.specs.Values.{both, family_value, handed_entries, handed_entry, value_of, values_of}
 use Rattle.sgb.specs.declared.evaluation.entries.EntryValue.{EntryValue}
 use Rattle.sgb.specs.declared.evaluation.entries.EntryValue.TheVariants as value
-use Rattle.sgb.specs.declared.faults.Fault.{Fault}
-use Rattle.sgb.specs.declared.faults.Fault.TheVariants as fault
-use Rattle.sgb.specs.declared.requests.Request.{Request}
-use Rattle.sgb.specs.declared.requests.Request.TheVariants as request
-use Rattle.sgb.specs.declared.requests.Resume.{Resume}
-use Rattle.sgb.specs.declared.requests.Resume.TheVariants as resume
+use Rattle.sgb_requests.specs.declared.faults.Fault.{Fault}
+use Rattle.sgb_requests.specs.declared.faults.Fault.TheVariants as fault
+use Rattle.sgb_requests.specs.declared.requests.Request.{Request}
+use Rattle.sgb_requests.specs.declared.requests.Request.TheVariants as request
+use Rattle.sgb_requests.specs.declared.requests.Resume.{Resume}
+use Rattle.sgb_requests.specs.declared.requests.Resume.TheVariants as resume
 
 -- ---- parameters
 

@@ -9,15 +9,15 @@ use Rattle.sgb_expr.specs.Expression.{Expression, Family, Gunion, expression_of}
 use Rattle.sgb_expr.specs.declared.expressions.Family.{Family as Generator}
 use Rattle.sgb_expr.specs.declared.expressions.Family.TheVariants as family
 use Rattle.sgb_file.specs.Saving.{text_of_graph}
-use Rattle.sgb.specs.Faults.{status_of, line_of}
+use Rattle.sgb_requests.specs.Faults.{status_of, line_of}
 use Rattle.sgb.specs.Texts.{name_lines, head, blocks}
 use Rattle.sgb.specs.Values.{value_of}
-use Rattle.sgb.specs.declared.faults.Fault.{Fault}
-use Rattle.sgb.specs.declared.faults.Fault.TheVariants as fault
-use Rattle.sgb.specs.declared.requests.Request.{Request}
-use Rattle.sgb.specs.declared.requests.Request.TheVariants as request
-use Rattle.sgb.specs.declared.requests.Resume.{Resume}
-use Rattle.sgb.specs.declared.requests.Resume.TheVariants as resume
+use Rattle.sgb_requests.specs.declared.faults.Fault.{Fault}
+use Rattle.sgb_requests.specs.declared.faults.Fault.TheVariants as fault
+use Rattle.sgb_requests.specs.declared.requests.Request.{Request}
+use Rattle.sgb_requests.specs.declared.requests.Request.TheVariants as request
+use Rattle.sgb_requests.specs.declared.requests.Resume.{Resume}
+use Rattle.sgb_requests.specs.declared.requests.Resume.TheVariants as resume
 
 -- the first vertex of this name
 abbrev pub vertex_named : List ℕ → List (List ℕ) → Option ℕ

@@ -5,9 +5,9 @@ use Rattle.std.specs.Io.KnownBytes.{Appends}
 use Rattle.sgb_vec.specs.declared.panics.Panic.TheVariants.{NoRoom}
 use Rattle.sgb.specs.Outcomes.{Outcome}
 use Rattle.sgb_file.specs.Devices.{AppendsPrefix, AppendsUnlessFailed}
-use Rattle.sgb.specs.Faults.{status_of, line_of}
-use Rattle.sgb.specs.declared.faults.Fault.{Fault}
-use Rattle.sgb.specs.declared.faults.Fault.TheVariants as fault
+use Rattle.sgb_requests.specs.Faults.{status_of, line_of}
+use Rattle.sgb_requests.specs.declared.faults.Fault.{Fault}
+use Rattle.sgb_requests.specs.declared.faults.Fault.TheVariants as fault
 
 -- the bytes that a sink tells, before and after, and whether it has failed afterwards
 pub record Change : Type 0 where

@@ -4,8 +4,8 @@ use Rattle.std.specs.Io.KnownBytes.{Appends}
 use Rattle.sgb_vec.specs.declared.panics.Panic.TheVariants.{NoRoom}
 use Rattle.sgb_file.specs.Devices.{AppendsPrefix}
 use Rattle.sgb.specs.Runs.{Change}
-use Rattle.sgb.specs.declared.faults.Fault.{Fault}
-use Rattle.sgb.specs.declared.faults.Fault.TheVariants as fault
+use Rattle.sgb_requests.specs.declared.faults.Fault.{Fault}
+use Rattle.sgb_requests.specs.declared.faults.Fault.TheVariants as fault
 
 -- the text was written whole
 pub record IsWhole (text : List ℕ) (out : Change) : Type 0 where

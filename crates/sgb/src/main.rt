@@ -1,13 +1,8 @@
 //! sgb: the names, listings and files of graphs that Stanford GraphBase's generators and operations make.
 #![tactic(auto)]
 
-pub(crate) mod arguments;
-pub mod command_line;
 mod evaluation;
-pub mod expressions;
-pub mod faults;
 pub mod program;
-pub mod requests;
 pub mod runs;
 #[cfg(test)]
 mod tests;

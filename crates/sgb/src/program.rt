@@ -4,13 +4,11 @@ ghost use Rattle.std.specs.Prelude.{◌≡◌, Ok, Err, MatchResult, false, map}
 ghost use Rattle.std.specs.IoError.{error_kind};
 ghost use Rattle.std.specs.String.{string_bytes};
 ghost use Rattle.sgb.specs.Program.{IsProgramRun, IsReported, unread_fault};
-ghost use Rattle.sgb.specs.Requests.{IsCommandLineReadAs};
+ghost use Rattle.sgb_requests.specs.Requests.{IsCommandLineReadAs};
 
-use crate::command_line::request;
-use crate::faults::{Fault, report};
-use crate::requests::Request;
 use crate::runs::run;
 use sgb_file::{Sink, Source};
+use sgb_requests::{Fault, Request, report, request};
 use sgb_vec::Panic;
 use std::alloc::Global;
 use std::io::{self, ErrorKind};

@@ -12,14 +12,13 @@ ghost use Rattle.sgb.specs.Values.{family_value, made, value_of};
 ghost use Rattle.sgb.specs.Writing.{IsEnded};
 
 use crate::evaluation::{Local, graph_of, local_of, queen_moves};
-use crate::faults::{Fault, report};
-use crate::requests::{Request, Resume};
 use crate::writing::files::write_file;
 use crate::writing::listing::{write_listing, write_titled_listing};
 use crate::writing::names::write_names;
 use crate::writing::vertices::write_vertex_names;
 use sgb_expr::{Expr, Family};
 use sgb_file::{Sink, Source};
+use sgb_requests::{Fault, Request, Resume, report};
 use std::alloc::Global;
 
 /// Answers a request: writes its output to `out`, or the line of a fault to `errors`, and returns the exit status. The

@@ -8,8 +8,8 @@ pub(crate) mod listing;
 pub(crate) mod names;
 pub(crate) mod vertices;
 
-use crate::faults::Fault;
 use sgb_file::{Sink, put_all};
+use sgb_requests::Fault;
 
 // Writes bytes.
 fn write_bytes<W: Sink>(out: &mut W, bytes: &[u8]) -> Result<(), Fault>

@@ -2,9 +2,9 @@
 
 use super::devices::Counted;
 use super::{USAGE, call};
-use crate::faults::{Fault, report};
 use crate::program::run_program;
 use sgb_file::CutSource;
+use sgb_requests::{Fault, report};
 use sgb_vec::Panic;
 use std::alloc::Global;
 use std::io::{Error, ErrorKind};

@@ -3,9 +3,9 @@ ghost use Rattle.std.specs.Prelude.{◌≡◌, false};
 ghost use Rattle.sgb_file.specs.Saving.{text_of_graph};
 ghost use Rattle.sgb.specs.Writing.{IsWritten};
 
-use crate::faults::Fault;
 use sgb_file::{Sink, write_gb};
 use sgb_graph::Graph;
+use sgb_requests::Fault;
 
 /// Writes the `.gb` file of a graph (GB_SAVE, save_graph).
 pub(crate) fn write_file<W: Sink>(graph: &Graph, out: &mut W) -> Result<(), Fault>

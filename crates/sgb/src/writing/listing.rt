@@ -8,11 +8,10 @@ ghost use Rattle.sgb.specs.Writing.{IsEnded, IsWritten};
 
 use super::vertices::{vertices_left_out, write_name_line};
 use super::{write_bytes, write_texts};
-use crate::faults::Fault;
-use crate::requests::Resume;
 use itoa::Buffer;
 use sgb_file::Sink;
 use sgb_graph::{Graph, Link};
+use sgb_requests::{Fault, Resume};
 
 /// Writes the listing of a graph: the head, and a block for each vertex; or, where the answer begins further on,
 /// the blocks from there.

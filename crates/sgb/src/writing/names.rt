@@ -7,9 +7,8 @@ ghost use Rattle.sgb.specs.Texts.{name_line, name_lines};
 ghost use Rattle.sgb.specs.Writing.{IsEnded, IsWritten};
 
 use super::write_texts;
-use crate::faults::Fault;
-use crate::requests::Resume;
 use sgb_file::Sink;
+use sgb_requests::{Fault, Resume};
 use sgb_vec::{Family, Panic, Vector, name_of};
 use std::alloc::Global;
 

@@ -7,10 +7,9 @@ ghost use Rattle.sgb.specs.Texts.{name_line, name_lines};
 ghost use Rattle.sgb.specs.Writing.{IsEnded, IsWritten};
 
 use super::write_texts;
-use crate::faults::Fault;
-use crate::requests::Resume;
 use sgb_file::Sink;
 use sgb_graph::Graph;
+use sgb_requests::{Fault, Resume};
 
 /// Writes the names of a graph's vertices, each on a line, from where the answer begins.
 ///

@@ -1,0 +1,46 @@
+use Rattle.std.proofs.Common.{◌∙◌, ◌≢◌, refl, true≢false, sym, ap, codes, arith, slice_index_or}
+use Rattle.sgb_requests.proofs.EnteredCommands.{asks_alone, enters, has_expression, not_called}
+use Rattle.sgb_requests.proofs.arguments.entered_subcommand.Goals as goal
+
+-- other names than `queen`, by their first letters
+names_apart : codes "names" ≢ codes "queen"
+names_apart e = omega (arith, ap (λ text. slice_index_or text 0 0) e)
+
+list_apart : codes "list" ≢ codes "queen"
+list_apart e = omega (arith, ap (λ text. slice_index_or text 0 0) e)
+
+save_apart : codes "save" ≢ codes "queen"
+save_apart e = omega (arith, ap (λ text. slice_index_or text 0 0) e)
+
+pub arguments_of-requires : goal.arguments_of-requires
+arguments_of-requires c =
+    has_expression _ _ _ _ names_apart c.in_ok-matches.ensures (c.in-Some.ensures.found.0 refl) c.in-Some.ensures.rows
+
+pub arguments_of-requires-in-Some-subcommand_matches : goal.arguments_of-requires-in-Some-subcommand_matches
+arguments_of-requires-in-Some-subcommand_matches c =
+    let list = c.in-Some-subcommand_matches.ensures in
+    has_expression _ _ _ _ list_apart c.in_ok-matches.ensures (list.found.0 refl) list.rows
+
+pub expression_in-requires : goal.expression_in-requires
+expression_in-requires c =
+    let save = c.in-Some-subcommand_matches-2.ensures in
+    has_expression _ _ _ _ save_apart c.in_ok-matches.ensures (save.found.0 refl) save.rows
+
+pub returns-in-Some-subcommand_matches-2 : goal.returns-in-Some-subcommand_matches-2
+returns-in-Some-subcommand_matches-2 c =
+    let save = c.in-Some-subcommand_matches-2.ensures in
+    asks_alone _ _ _ _ _ c.in_ok-matches.ensures (save.found.0 refl) save.rows c.expression_in.ensures
+
+pub returns-then-is_some : goal.returns-then-is_some
+returns-then-is_some c =
+    enters _ _ _ c.in_ok-matches.ensures (c.subcommand_matches-4.ensures.found.0 (sym c.is_some.ensures ∙ c.if-is_some.true))
+
+pub returns : goal.returns
+returns c =
+    let no_names = c.in_default.ensures.found.1 in
+    let no_list = c.in_default-subcommand_matches.ensures.found.1 in
+    let no_save = c.in_default-subcommand_matches-2.ensures.found.1 in
+    let no_queen = c.subcommand_matches-4.ensures.found.1 in
+    not_called _ _ c.in_ok-matches.ensures (λ e. true≢false (sym (no_names e))) (λ e. true≢false (sym (no_list e)))
+    (λ e. true≢false (sym (no_save e)))
+    (λ e. true≢false (sym (no_queen e) ∙ sym c.is_some.ensures ∙ c.if-is_some.false))

@@ -1,0 +1,13 @@
+use Rattle.std.proofs.Common.{◌≢◌, ◌≤◌, length, get_or, subst, sym, rules, arith, Option, ℕ}
+use Rattle.std.specs.Option.{SomeIff}
+use Rattle.std.specs.Str.Parse.{digits_value}
+use Rattle.sgb_requests.specs.Counts.{IsDigits}
+use Rattle.sgb_requests.proofs.Counts.{count_read}
+use Rattle.sgb_requests.proofs.command_line.count_of.Goals as goal
+
+pub returns : goal.returns
+returns c =
+    let text = c.args.text.now in
+    let short : length text ≤ 18 = omega arith in
+    let plain : get_or text 0 0 ≢ 43 = search rules in
+    subst (λ (o : Option ℕ). SomeIff o (IsDigits text) (digits_value 10 text)) (sym c.ok.ensures.value) (count_read text _ c.parse.ensures.value.0 short plain)

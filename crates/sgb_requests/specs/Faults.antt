@@ -1,0 +1,29 @@
+-- The faults of a request: the line that each prints on standard error, and its exit status.
+use Rattle.std.specs.Prelude.{ℕ, List, ◌++◌, codes, decimal}
+use Rattle.sgb_vec.specs.Codes.{code_of}
+use Rattle.sgb_requests.specs.declared.faults.Fault.{Fault}
+use Rattle.sgb_requests.specs.declared.faults.Fault.TheVariants.{Usage, TooLarge, Expr, Panic, NoVertex, Read, Write}
+
+-- the exit status: 2 for an invalid command line, 1 for a refused graph or vertex, 3 for a device
+abbrev pub status_of : Fault → ℕ
+status_of Usage = 2
+status_of TooLarge = 2
+status_of (Expr k) = 2
+status_of (Panic p) = 1
+status_of NoVertex = 1
+status_of Read = 3
+status_of Write = 3
+
+-- the usage line
+unfoldable pub usage_line : List ℕ
+usage_line = codes "usage: sgb (names|list) EXPR [--after NAME|--skip K], sgb save EXPR, sgb queen, sgb flip EXPR\n"
+
+-- the line on standard error, with its newline
+unfoldable pub line_of : Fault → List ℕ
+line_of Usage = usage_line
+line_of TooLarge = codes "sgb: expression too large\n"
+line_of (Expr k) = codes "sgb: bad expression at byte " ++ decimal k ++ codes "\n"
+line_of (Panic p) = codes "Something went wrong (panic code " ++ decimal (code_of p) ++ codes ")!\n"
+line_of NoVertex = codes "sgb: no such vertex\n"
+line_of Read = codes "sgb: read fault\n"
+line_of Write = codes "sgb: write fault\n"

@@ -1,0 +1,29 @@
+-- What reading an expression returns to a request.
+use Rattle.std.specs.Prelude.{◌≡◌, ℕ, List, Result, Ok, Err}
+use Rattle.sgb_vec.specs.declared.panics.Panic.TheVariants.{NoRoom}
+use Rattle.sgb_expr.specs.Expression.{expression_of}
+use Rattle.sgb_expr.specs.Expressions.{IsExpression, IsNoExpression, IsLongestPrefix, IsTooLarge}
+use Rattle.sgb_expr.specs.declared.expressions.Expr.{Expr}
+use Rattle.sgb_expr.specs.declared.expressions.Unread.{Unread}
+use Rattle.sgb_expr.specs.declared.expressions.Unread.TheVariants as unread
+use Rattle.sgb_requests.specs.declared.faults.Fault.{Fault}
+use Rattle.sgb_requests.specs.declared.faults.Fault.TheVariants as fault
+
+-- the fault of a text that is not read
+abbrev pub fault_of_unread : Unread → Fault
+fault_of_unread unread.TooLarge = fault.TooLarge
+fault_of_unread (unread.At k) = fault.Expr k
+fault_of_unread unread.NoRoom = fault.Panic NoRoom
+
+-- the text is refused with this fault: too large before all else, then no expression, with the length of the longest
+-- prefix that begins one; or out of memory
+abbrev pub IsRefusedText : List ℕ → Fault → Type 0
+IsRefusedText text fault.TooLarge = IsTooLarge text
+IsRefusedText text (fault.Expr k) = (IsTooLarge text → ⊥) × IsNoExpression text × IsLongestPrefix text k
+IsRefusedText text (fault.Panic p) = p ≡ NoRoom
+IsRefusedText text _ = ⊥
+
+-- the text is read as this expression, or refused so
+abbrev pub IsReadAs : List ℕ → Result Expr Fault → Type 0
+IsReadAs text (Ok e) = (IsTooLarge text → ⊥) × IsExpression text (expression_of e)
+IsReadAs text (Err f) = IsRefusedText text f

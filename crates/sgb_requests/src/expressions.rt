@@ -1,0 +1,42 @@
+//! Expressions read for a request.
+ghost use Rattle.std.specs.Prelude.{◌≡◌, IfOk, List, ℕ};
+ghost use Rattle.sgb_expr.specs.Expression.{Expression, expression_of};
+ghost use Rattle.sgb_expr.specs.Expressions.{IsExpression};
+ghost use Rattle.sgb_requests.specs.Reading.{IsReadAs};
+
+use crate::faults::Fault;
+use sgb_expr::{Expr, Unread, read_expr};
+use sgb_vec::Panic;
+use std::alloc::Global;
+
+impl From<Unread> for Fault {
+    ghost use Rattle.std.specs.Prelude.{◌≡◌};
+    ghost use Rattle.sgb_requests.specs.Reading.{fault_of_unread};
+
+    ghost from_gives = { λ cause fault. fault ≡ fault_of_unread cause };
+
+    fn from(cause: Unread) -> Fault {
+        match cause {
+            Unread::TooLarge => Fault::TooLarge,
+            Unread::At(k) => Fault::Expr(k),
+            Unread::NoRoom => Fault::Panic(Panic::NoRoom),
+        }
+    }
+}
+
+/// The expression that the text is: one of GraphBase's official names and, in parentheses, its arguments with commas
+/// between them (GB_BASIC, board, simplex, subsets and their special cases), with no spaces.
+///
+/// `TooLarge` before all else where the text has more than 65,536 bytes, or some prefix of it has over 64 more `(`
+/// than `)`. `Expr(k)` where it is no expression; its first k bytes are its longest prefix that begins one.
+/// `Panic(NoRoom)` when out of memory.
+pub fn parse_expr(alloc: Global, text: &[u8]) -> Result<Expr, Fault>
+    ensures read { IsReadAs text.now result }
+    ensures only { (e : Expression) → IsExpression text.now e → IfOk result (λ read. expression_of read ≡ e) }
+{
+    let expression = read_expr(alloc, text)?;
+    Ok(expression)
+}
+
+#[cfg(test)]
+mod tests;

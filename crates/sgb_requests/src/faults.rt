@@ -1,0 +1,119 @@
+ghost use Rattle.std.specs.Prelude.{◌≡◌, ◌≤◌, ◌+◌, ◌++◌, decimal, length};
+ghost use Rattle.sgb_file.specs.Devices.{AppendsUnlessFailed, IsPut};
+ghost use Rattle.sgb_requests.specs.Faults.{line_of, status_of};
+
+use arrayvec::ArrayVec;
+use itoa::Buffer;
+use sgb_file::{Failed, Sink, put_all};
+use sgb_vec::Panic;
+use thiserror::Error;
+
+// A line with a number in it has at most this many bytes.
+const MOST_BYTES: usize = 64;
+
+/// Why a request ends without its whole answer.
+#[derive(Clone, Copy, Debug, PartialEq, Eq, Error)]
+pub enum Fault {
+    /// The words are an invalid command line.
+    #[error("usage")]
+    Usage,
+    /// The expression is too large to be read.
+    #[error("expression too large")]
+    TooLarge,
+    /// The text is no expression; its longest prefix that begins one has this many bytes.
+    #[error("bad expression at byte {0}")]
+    Expr(u32),
+    /// The graph is refused, or memory ran out.
+    #[error("panic code {}", .0.code())]
+    Panic(Panic),
+    /// No vertex has the name.
+    #[error("no such vertex")]
+    NoVertex,
+    /// Standard input failed.
+    #[error("read fault")]
+    Read,
+    /// The output failed.
+    #[error("write fault")]
+    Write,
+}
+
+impl From<Panic> for Fault {
+    ghost use Rattle.std.specs.Prelude.{◌≡◌};
+    ghost use Rattle.sgb_requests.specs.declared.faults.Fault.TheVariants as fault;
+
+    ghost from_gives = { λ p f. f ≡ fault.Panic p };
+
+    fn from(panic: Panic) -> Fault {
+        Fault::Panic(panic)
+    }
+}
+
+/// The exit status of a fault: 1, 2 or 3.
+pub fn status(fault: &Fault) -> u8
+    ensures { result ≡ status_of fault.now }
+{
+    match fault {
+        Fault::Panic(_) | Fault::NoVertex => 1,
+        Fault::Usage | Fault::TooLarge | Fault::Expr(_) => 2,
+        Fault::Read | Fault::Write => 3,
+    }
+}
+
+/// Writes the fault's line, all of it at once, and returns its exit status. A sink that fails has a prefix of the line,
+/// and the status is the same.
+pub fn report<E: Sink>(fault: &Fault, errors: &mut E) -> u8
+    ensures line { AppendsUnlessFailed (E.has_failed errors.new) (E.written errors.old) (E.written errors.new) (line_of fault.now) }
+    ensures status { result ≡ status_of fault.now }
+{
+    let _written = put_line(fault, errors);
+    status(fault)
+}
+
+// Puts the line of a fault.
+#[tactic(auto, unfolding(crate::specs::Faults::line_of, crate::specs::Faults::usage_line))]
+fn put_line<E: Sink>(fault: &Fault, errors: &mut E) -> Result<(), Failed>
+    ensures { IsPut (line_of fault.now) (E.written errors.old) (E.written errors.new) (E.has_failed errors.new) result }
+{
+    match fault {
+        Fault::Usage => put_all(
+            errors,
+            b"usage: sgb (names|list) EXPR [--after NAME|--skip K], sgb save EXPR, sgb queen, sgb flip EXPR\n",
+        ),
+        Fault::TooLarge => put_all(errors, b"sgb: expression too large\n"),
+        Fault::Expr(k) => put_number(b"sgb: bad expression at byte ", *k, b"\n", errors),
+        Fault::Panic(panic) => {
+            let code = u32::from(panic.code());
+            put_number(b"Something went wrong (panic code ", code, b")!\n", errors)
+        }
+        Fault::NoVertex => put_all(errors, b"sgb: no such vertex\n"),
+        Fault::Read => put_all(errors, b"sgb: read fault\n"),
+        Fault::Write => put_all(errors, b"sgb: write fault\n"),
+    }
+}
+
+// Puts a number in decimal between two texts, all of it at once.
+fn put_number<E: Sink>(
+    before: &[u8],
+    number: u32,
+    after: &[u8],
+    errors: &mut E,
+) -> Result<(), Failed>
+    requires { length before.now + length after.now ≤ 54 }
+    ensures { IsPut (before.now ++ decimal number ++ after.now) (E.written errors.old) (E.written errors.new) (E.has_failed errors.new) result }
+{
+    let line = number_line(before, number, after);
+    put_all(errors, line.as_slice())
+}
+
+// The line of a number in decimal between two texts. The number has at most 10 digits.
+fn number_line(before: &[u8], number: u32, after: &[u8]) -> ArrayVec<u8, MOST_BYTES>
+    requires { length before.now + length after.now ≤ 54 }
+    ensures { result.items ≡ before.now ++ decimal number ++ after.now }
+{
+    let mut digits = Buffer::new();
+    let mut line = ArrayVec::new();
+    let _before = line.try_extend_from_slice(before);
+    let _digits = line.try_extend_from_slice(digits.format(number).as_bytes());
+    let _after = line.try_extend_from_slice(after);
+    line
+}
