@@ -54,3 +54,6 @@ fn entry_has_stdin(entry: &EntryExpr) -> bool
         EntryExpr::Graph(graph) => graph.has_stdin(),
     }
 }
+
+#[cfg(test)]
+mod tests;
