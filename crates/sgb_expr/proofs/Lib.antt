@@ -12,5 +12,7 @@ pub mod Nesting
 pub mod EntryLists
 pub mod CodeExpressions
 pub mod StdinUses
+pub mod WholeWords
 pub mod WholeReading
+pub mod FlipReading
 pub mod Examples

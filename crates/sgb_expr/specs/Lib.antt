@@ -12,3 +12,4 @@ pub mod Gives
 pub mod TwoGraphs
 pub mod CodeEntries
 pub mod StdinUses
+pub mod FlipTexts

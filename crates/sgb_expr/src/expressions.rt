@@ -83,12 +83,12 @@ pub enum Expr {
     Stdin,
 }
 
-/// Why a text is not read as an expression.
+/// Why a text is not read, as an expression or as what is asked of the random generator.
 #[derive(Clone, Copy, Debug, PartialEq, Eq)]
 pub enum Unread {
     /// It has more than 65,536 bytes, or some prefix of it has over 64 more `(` than `)`.
     TooLarge,
-    /// It is no expression; its longest prefix that begins one has this many bytes.
+    /// It is no such text; its longest prefix that begins one has this many bytes.
     At(u32),
     /// Out of memory.
     NoRoom,
