@@ -88,15 +88,6 @@ line_closes before (line ∷ anything) = option_map_or (λ c. checksum_agrees c 
 abbrev pub closes : Opening → List ℕ → Bool
 closes opening rest = line_closes (lines_before opening (lines_of_text rest)) (lines_of_text rest)
 
--- the text is a file of the graph
-pub record IsFileOf (g : GraphData) (text : List ℕ) : Type 0 where
-  pub opening : Opening
-  pub rest : List ℕ
-  pub opens : opening_of (clean_lines text) ≡ Some opening
-  pub says : graph_of_records opening ≡ Some (record { value = g; rest = rest })
-  pub ends : IsTrue (closes opening rest)
-  pub sound : IsTrue (is_sound g)
-
 -- the graph where the file ends well and the lists are lists
 abbrev pub graph_at_end : Bool → Bool → GraphData → Result GraphData Panic
 graph_at_end false sound g = Err Late
