@@ -15,7 +15,7 @@ use Rattle.sgb_graph.specs.declared.fields.Kind.TheVariants.{Z, I, V, S, A}
 use Rattle.sgb_graph.specs.declared.fields.Ref.{Ref}
 use Rattle.sgb_graph.specs.declared.fields.Ref.TheVariants.{Null, One, At}
 use Rattle.sgb_graph.specs.declared.fields.Util.{Util}
-use Rattle.sgb_graph.specs.declared.fields.Util.TheVariants.{Nothing, Int, Vertex as VertexField, Str, Chain}
+use Rattle.sgb_graph.specs.declared.fields.Util.TheVariants.{Int, Vertex as VertexField, Str, Chain}
 use Rattle.sgb_file.specs.Fields.{Counts, Found, given, found_as, is_decimal_digit, number_of, number_below, most_number_digits, most_integer_digits, integer_of, ref_of, record_number_of, is_string_byte, unbroken, string_of, string_at, plain_text, plain_at, field_at, after_prefix}
 use Rattle.sgb_file.specs.Files.{IsStringText, IsFieldText}
 use Rattle.sgb_file.specs.Saving.{quoted}
@@ -168,7 +168,7 @@ integer_is_plain (b ∷ text) i e = by_sign (b == 45) refl e
   where
     by_sign : (minus : Bool) → (b == 45) ≡ minus
         → (if minus then given (number_of most_integer_digits text) (λ n. if nat_le n (2 ^ 63) then Some (neg_ℤ (pos n)) else None)
-          else given (number_of most_integer_digits (b ∷ text)) (λ n. if nat_lt n (2 ^ 63) then Some (pos n) else None)) ≡ Some i
+        else given (number_of most_integer_digits (b ∷ text)) (λ n. if nat_lt n (2 ^ 63) then Some (pos n) else None)) ≡ Some i
         → IsPlainText (b ∷ text)
     by_sign true is e =
         let g = was_given (number_of most_integer_digits text) e in

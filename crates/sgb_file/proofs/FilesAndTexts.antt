@@ -1,9 +1,9 @@
 -- Files and their texts: a text is read as a graph exactly where it is a file of it.
-use Rattle.std.specs.Prelude.{◌≡◌, ◌≢◌, ◌⊎◌, ℕ, zero, suc, ℤ, pos, negsuc, neg_ℤ, ◌+◌, ◌-◌, ◌<◌, ◌≤◌, Bool, true, false, cond, not, ◌&&◌, List, [], ◌∷◌, ◌++◌, map, length, take, drop, codes, Option, Some, None, Ok, option_map, filter_map, take_while, All, IsTrue, IsFalse, slice_index, nat_le, ◌==◌, if◌then◌else◌, refl, ⊤}
-use Rattle.std.specs.List.{list_all, prefix_len, slice_split, cons_option}
+use Rattle.std.specs.Prelude.{◌≡◌, ◌⊎◌, ℕ, zero, suc, ℤ, pos, neg_ℤ, ◌+◌, ◌-◌, ◌<◌, ◌≤◌, Bool, true, false, cond, not, ◌&&◌, List, [], ◌∷◌, ◌++◌, map, length, take, drop, codes, Option, Some, None, Ok, option_map, filter_map, take_while, All, slice_index, nat_le, ◌==◌, if◌then◌else◌, refl}
+use Rattle.std.specs.List.{list_all, prefix_len, cons_option}
 use Rattle.std.specs.Option.{option_map_or}
-use Rattle.std.proofs.Common.{ap, sym, subst, ◌∙◌, append_assoc, append-nil, arith, length-append, inl, inr}
-use Rattle.std.proofs.Math.Seq.{take-append_seam, drop-append_seam}
+use Rattle.std.proofs.Common.{ap, sym, subst, ◌∙◌, append_assoc, arith, length-append, inl, inr}
+use Rattle.std.proofs.Math.Seq.{take-append_seam}
 use Rattle.std.proofs.lemmas.Bool.{and_parts, and_from}
 use Rattle.std.proofs.lemmas.Bool.Decides.{nat_tests, Decides-eqb}
 use Rattle.std.proofs.lemmas.Grind.{flat_map-append}
@@ -12,17 +12,16 @@ use Rattle.std.proofs.lemmas.List.Folds.{list_all-append}
 use Rattle.std.proofs.lemmas.List.Elements.{All-head, All-tail, All-cons, All-nil}
 use Rattle.sgb_vec.specs.Limits.{most_vertices}
 use Rattle.sgb_graph.specs.Graphs.{GraphData}
-use Rattle.sgb_graph.specs.Sound.{is_sound}
 use Rattle.sgb_graph.specs.declared.fields.Kind.{Kind}
 use Rattle.sgb_graph.specs.declared.fields.Kind.TheVariants.{Z, I, V, S, A}
-use Rattle.sgb_file.specs.FileLines.{lines_among, lines_of_text, clean_lines, text_of_lines}
+use Rattle.sgb_file.specs.FileLines.{lines_of_text, clean_lines, text_of_lines}
 use Rattle.sgb_file.specs.Checksum.{has_star, checksum_of_lines}
-use Rattle.sgb_file.specs.Fields.{Found, given, is_decimal_digit, number_of, most_number_digits, after_prefix}
+use Rattle.sgb_file.specs.Fields.{Found, is_decimal_digit, number_of, most_number_digits, after_prefix}
 use Rattle.sgb_file.specs.Records.{Head, records_at}
-use Rattle.sgb_file.specs.Restoring.{Opening, kind_of_letter, kinds_at, leading_number, head_of_line, opening_of, graph_of_records, checksum_in_line, lines_before, checksum_agrees, line_closes, closes, graph_of_text}
+use Rattle.sgb_file.specs.Restoring.{Opening, kind_of_letter, kinds_at, leading_number, head_of_line, opening_of, checksum_in_line, checksum_agrees, line_closes, closes, graph_of_text}
 use Rattle.sgb_file.specs.Saving.{letter_of}
 use Rattle.sgb_file.specs.Files.{IsFirstLine, IsComment, BeginsWithNoDigit, IsChecksumLine, IsRecord, IsArcRecord, AreRecords, AreRecordsOf, IsFileOf, head_of}
-use Rattle.sgb_file.proofs.LineLemmas.{is_one_line, is_within_line, lines_read, line_read, clean_are_one_line, not_true}
+use Rattle.sgb_file.proofs.LineLemmas.{is_one_line, is_within_line, lines_read, clean_are_one_line}
 use Rattle.sgb_file.proofs.FoundParts.{was_given, was_mapped, was_let_through, was_chosen}
 use Rattle.sgb_file.proofs.ReadParts.{at_most, number_digits}
 use Rattle.sgb_file.proofs.FileReading.{leading_says, kinds_read, opened_by, lines_again}
@@ -126,7 +125,7 @@ first_line_found line head e =
     let n_is = leading_found second.first n.first n.here in
     let m_is = leading_found third.first m.first m.here in
     let after_letters = ap (λ x. codes "," ++ x) (n_is.parts ∙ ap (λ x. n_is.digits ++ x) (prefix_is (codes "V,") n.first.rest third.first third.here
-        ∙ ap (λ x. codes "V," ++ x) (m_is.parts ∙ ap (λ x. m_is.digits ++ x) (prefix_is (codes "A)") m.first.rest anything.first anything.here)))) in
+    ∙ ap (λ x. codes "V," ++ x) (m_is.parts ∙ ap (λ x. m_is.digits ++ x) (prefix_is (codes "A)") m.first.rest anything.first anything.here)))) in
     subst (λ (h : Head). IsFirstLine h line) through.1 (record {
       n = n_is.digits;
       m = m_is.digits;

@@ -22,7 +22,7 @@ use Rattle.sgb_graph.specs.declared.fields.Vertex.{Vertex}
 use Rattle.sgb_graph.specs.declared.fields.ArcRec.{ArcRec}
 use Rattle.sgb_file.specs.FileLines.{text_of_lines}
 use Rattle.sgb_file.specs.Fields.{Counts, Found, given, found_as, is_decimal_digit, most_number_digits, number_of, field_at, plain_at, string_at, integer_of, ref_of, record_number_of, after_prefix}
-use Rattle.sgb_file.specs.Records.{Head, after_comma, more_fields_at, record_at, graph_record_at, vertex_record_at, vertex_of_fields, arc_record_at, arc_of_fields, all_at}
+use Rattle.sgb_file.specs.Records.{after_comma, more_fields_at, record_at, graph_record_at, vertex_record_at, vertex_of_fields, arc_record_at, arc_of_fields, all_at}
 use Rattle.sgb_file.specs.Files.{head_of}
 use Rattle.sgb_file.specs.Saving.{quoted, ref_text, record_number_text, field_texts, graph_texts, vertex_texts, arc_texts, pieces_of, record_lines}
 use Rattle.sgb_file.specs.Saved.{ValueCanBeSaved, VertexCanBeSaved, ArcCanBeSaved}

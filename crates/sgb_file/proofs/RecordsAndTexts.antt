@@ -1,5 +1,5 @@
 -- Records and their texts: a record's reader finds exactly a record of these values.
-use Rattle.std.specs.Prelude.{◌≡◌, ◌⊎◌, ℕ, zero, suc, true, List, [], ◌∷◌, ◌++◌, length, codes, Option, Some, None, option_map, unwrap_or, ◌==◌, if◌then◌else◌, refl}
+use Rattle.std.specs.Prelude.{◌≡◌, ℕ, zero, suc, true, List, [], ◌∷◌, ◌++◌, length, codes, Option, Some, None, option_map, unwrap_or, ◌==◌, refl}
 use Rattle.std.proofs.Common.{ap, sym, subst, ◌∙◌, append_assoc, inl, inr}
 use Rattle.std.proofs.lemmas.Bool.Decides.{Decides-eqb}
 use Rattle.sgb_graph.specs.Graphs.{GraphData}
@@ -11,12 +11,12 @@ use Rattle.sgb_graph.specs.declared.fields.Util.{Util}
 use Rattle.sgb_graph.specs.declared.fields.Util.TheVariants.{Nothing}
 use Rattle.sgb_graph.specs.declared.fields.Vertex.{Vertex}
 use Rattle.sgb_graph.specs.declared.fields.ArcRec.{ArcRec}
-use Rattle.sgb_file.specs.Fields.{Counts, Found, given, found_as, number_of, most_number_digits, string_at, plain_at, plain_text, field_at, after_prefix}
+use Rattle.sgb_file.specs.Fields.{Counts, Found, given, found_as, number_of, most_number_digits, string_at, plain_at, field_at, after_prefix}
 use Rattle.sgb_file.specs.Records.{Head, after_comma, more_fields_at, record_at, graph_record_at, vertex_of_fields, vertex_record_at, arc_of_fields, arc_record_at, all_at, records_at}
 use Rattle.sgb_file.specs.Files.{IsStringText, IsFieldText, AreFieldTexts, IsComma, IsRecord, IsRecordOf, IsVertexRecord, IsArcRecord, IsGraphRecord, AreRecords, AreRecordsOf, head_of}
-use Rattle.sgb_file.proofs.FoundParts.{was_given, was_mapped, was_found_as, was_let_through, was_chosen}
+use Rattle.sgb_file.proofs.FoundParts.{was_given, was_mapped, was_found_as, was_let_through}
 use Rattle.sgb_file.proofs.FieldReading.{Ends}
-use Rattle.sgb_file.proofs.ReadParts.{IsGoodHead, VertexFits, ArcFits, are_of_vertex, are_of_arc, fields_of_vertex, fields_of_arc, head_again, all_found, own_found, vertex_found, arc_found}
+use Rattle.sgb_file.proofs.ReadParts.{VertexFits, ArcFits, are_of_vertex, are_of_arc, fields_of_vertex, fields_of_arc, head_again, all_found, own_found, vertex_found, arc_found}
 use Rattle.sgb_file.proofs.FieldsAndTexts.{StandsIn, FindsTexts, IsFoundAs, prefix_is, plain_finds, string_finds, field_finds, plain_is_found, number_is_plain, string_is_found, field_is_found}
 
 -- what follows the first field of a record
@@ -90,8 +90,8 @@ next_found counts kind kinds used more text found e =
         is_tail = (c.comma, others.whole, c.is_comma, others.says.is_tail, refl);
       };
       parts = c.parts ∙ ap (λ x. c.comma ++ x) (field.parts ∙ ap (λ x. field.whole ++ x) others.parts)
-      ∙ ap (λ x. c.comma ++ x) (sym (append_assoc field.whole others.whole m.first.rest))
-      ∙ sym (append_assoc c.comma (field.whole ++ others.whole) m.first.rest);
+          ∙ ap (λ x. c.comma ++ x) (sym (append_assoc field.whole others.whole m.first.rest))
+          ∙ sym (append_assoc c.comma (field.whole ++ others.whole) m.first.rest);
     })
 
 more_found : (counts : Counts) (kinds : List Kind) → FindsTexts (more_fields_at counts kinds) (IsMore counts kinds)

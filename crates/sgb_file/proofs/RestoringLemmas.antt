@@ -3,9 +3,8 @@ use Rattle.std.specs.Prelude.{◌≡◌, ℕ, Bool, true, false, List, Option, S
 use Rattle.std.proofs.Common.{ap}
 use Rattle.sgb_graph.specs.Graphs.{GraphData}
 use Rattle.sgb_graph.specs.Sound.{is_sound}
-use Rattle.sgb_file.specs.FileLines.{clean_lines}
 use Rattle.sgb_file.specs.Fields.{Found}
-use Rattle.sgb_file.specs.Restoring.{Opening, opening_of, graph_of_records, closes, graph_at_end, graph_after, graph_of_opening, graph_of_text}
+use Rattle.sgb_file.specs.Restoring.{Opening, graph_of_records, closes, graph_at_end, graph_after, graph_of_opening}
 
 -- the graph of an end is the graph itself, where both tests pass
 pub record PassesBoth (ending lists : Bool) (found g : GraphData) : Type 0 where
