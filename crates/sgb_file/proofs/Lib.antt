@@ -3,6 +3,9 @@ pub mod ChecksumLemmas
 pub mod RestoringLemmas
 pub mod FoundParts
 pub mod ReadParts
+pub mod FieldsAndTexts
+pub mod RecordsAndTexts
+pub mod FilesAndTexts
 pub mod LayoutLemmas
 pub mod LineLemmas
 pub mod LaidOutText

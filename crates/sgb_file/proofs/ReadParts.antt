@@ -30,8 +30,8 @@ use Rattle.sgb_file.specs.Fields.{Counts, Found, given, is_decimal_digit, number
 use Rattle.sgb_file.specs.Records.{Head, after_comma, more_fields_at, record_at, graph_record_at, vertex_of_fields, vertex_record_at, arc_of_fields, arc_record_at, all_at, records_at}
 use Rattle.sgb_file.specs.Restoring.{Opening, kinds_at, kind_of_letter, leading_number, head_of_line, opening_of, graph_of_records, graph_of_text}
 use Rattle.sgb_file.specs.Saved.{number_limit, ValueCanBeSaved, VertexCanBeSaved, ArcCanBeSaved, CanBeChecked, CanBeSaved}
+use Rattle.sgb_file.specs.Files.{head_of}
 use Rattle.sgb_file.proofs.FoundParts.{was_given, was_mapped, was_found_as, was_let_through, was_chosen}
-use Rattle.sgb_file.proofs.RecordReading.{head_of}
 use Rattle.sgb_file.proofs.RestoringLemmas.{parts_of_opening}
 
 -- digits as std has them
@@ -44,15 +44,21 @@ digit_in_range b h =
 digit_from_range : (b : ℕ) → IsInRange 48 57 b → is_decimal_digit b ≡ true
 digit_from_range b h = let low = h.0 in let high = h.1 in grind (arith, nat_tests)
 
-tells_decimal_digits : IsDigitsTest (λ ds. list_all is_decimal_digit ds ≡ true)
+pub tells_decimal_digits : IsDigitsTest (λ ds. list_all is_decimal_digit ds ≡ true)
 tells_decimal_digits = record {
   empty = refl;
   parts = λ c cs e. let p = and_parts (is_decimal_digit c) (list_all is_decimal_digit cs) e in (digit_in_range c p.0, p.1);
   more = λ c cs k e. and_from (is_decimal_digit c) (list_all is_decimal_digit cs) (digit_from_range c k) e;
 }
 
-at_most : (n k : ℕ) → nat_le n k ≡ true → n ≤ k
+pub at_most : (n k : ℕ) → nat_le n k ≡ true → n ≤ k
 at_most n k h = grind (arith, nat_tests)
+
+-- a number's text is digits
+pub number_digits : (most : ℕ) (text : List ℕ) (n : ℕ) → number_of most text ≡ Some n → list_all is_decimal_digit text ≡ true
+number_digits most text n e =
+    let p = was_let_through (nat_lt 0 (length text) && nat_le (length text) most && list_all is_decimal_digit text) (digits_value 10 text) n e in
+    (and_parts (nat_lt 0 (length text) && nat_le (length text) most) (list_all is_decimal_digit text) p.0).1
 
 -- a number of so many digits
 pub number_is_small : (most : ℕ) (text : List ℕ) (n : ℕ) → number_of most text ≡ Some n → n < 10 ^ most
@@ -143,14 +149,14 @@ read_string_fits most bytes s e =
     let parts = and_parts (nat_le (length (unbroken bytes)) most) (list_all is_string_byte (unbroken bytes)) p.0 in
     subst (λ (t : List ℕ). (length t ≤ most) × All IsTextByte t) p.1 (at_most (length (unbroken bytes)) most parts.0, text_bytes (unbroken bytes) parts.1)
 
-string_found : (most : ℕ) (text : List ℕ) (found : Found (List ℕ)) → string_at most text ≡ Some found → (length found.value ≤ most) × All IsTextByte found.value
+pub string_found : (most : ℕ) (text : List ℕ) (found : Found (List ℕ)) → string_at most text ≡ Some found → (length found.value ≤ most) × All IsTextByte found.value
 string_found most [] found e = absurd cc
 string_found most (b ∷ text) found e =
     let m = was_mapped (string_of most (before_first (λ c. c == 34) text)) (was_chosen (b == 34 && list_any (λ c. c == 34) text) e).1 in
     subst (λ (f : Found (List ℕ)). (length f.value ≤ most) × All IsTextByte f.value) m.same (read_string_fits most (before_first (λ c. c == 34) text) m.first m.here)
 
 -- what a plain text says
-plain_said : {X : Type 0} (says : List ℕ → Option X) (text : List ℕ) (found : Found X) → plain_at says text ≡ Some found → says (plain_text text) ≡ Some found.value
+pub plain_said : {X : Type 0} (says : List ℕ → Option X) (text : List ℕ) (found : Found X) → plain_at says text ≡ Some found → says (plain_text text) ≡ Some found.value
 plain_said says text found e =
     let m = was_mapped (says (plain_text text)) e in
     m.here ∙ ap (λ f. Some f.value) m.same
@@ -227,11 +233,11 @@ record_found : (counts : Counts) (kind : Kind) (kinds : List Kind) → FindsFiel
 record_found counts kind kinds = field_and_more counts kind kinds (more_found counts kinds)
 
 -- a vertex that was read
-record VertexFits (counts : Counts) (kinds : List Kind) (v : Vertex) : Type 0 where
+pub record VertexFits (counts : Counts) (kinds : List Kind) (v : Vertex) : Type 0 where
   fits : (chain_fits counts.arcs v.arcs && utils_fit counts.vertices counts.arcs (vertex_kinds kinds) v.util) ≡ true
   saved : VertexCanBeSaved v
 
-abbrev fields_of_vertex : Vertex → List Util
+abbrev pub fields_of_vertex : Vertex → List Util
 fields_of_vertex v = Str v.name ∷ Chain v.arcs ∷ v.util
 
 pub are_of_vertex : (us : List Util) (v : Vertex) → vertex_of_fields us ≡ Some v → us ≡ fields_of_vertex v
@@ -251,7 +257,7 @@ vertex_fields_fit counts kinds v h =
       };
     }
 
-vertex_found : (head : Head) (text : List ℕ) (found : Found Vertex) → vertex_record_at head text ≡ Some found → VertexFits head.counts head.kinds found.value
+pub vertex_found : (head : Head) (text : List ℕ) (found : Found Vertex) → vertex_record_at head text ≡ Some found → VertexFits head.counts head.kinds found.value
 vertex_found head text found e =
     let g = was_given (record_at head.counts S (A ∷ vertex_kinds head.kinds) text) e in
     let m = was_mapped (vertex_of_fields g.first.value) g.made in
@@ -261,11 +267,11 @@ vertex_found head text found e =
     (record_found head.counts S (A ∷ vertex_kinds head.kinds) text g.first g.here)))
 
 -- an arc record that was read
-record ArcFits (counts : Counts) (kinds : List Kind) (r : ArcRec) : Type 0 where
+pub record ArcFits (counts : Counts) (kinds : List Kind) (r : ArcRec) : Type 0 where
   fits : (ref_fits counts.vertices r.tip && chain_fits counts.arcs r.next && utils_fit counts.vertices counts.arcs (arc_kinds kinds) (r.a ∷ r.b ∷ [])) ≡ true
   saved : ArcCanBeSaved r
 
-abbrev fields_of_arc : ArcRec → List Util
+abbrev pub fields_of_arc : ArcRec → List Util
 fields_of_arc r = VertexField r.tip ∷ Chain r.next ∷ Int r.len ∷ r.a ∷ r.b ∷ []
 
 pub are_of_arc : (us : List Util) (r : ArcRec) → arc_of_fields us ≡ Some r → us ≡ fields_of_arc r
@@ -291,7 +297,7 @@ arc_fields_fit counts kinds r h =
       };
     }
 
-arc_found : (head : Head) (text : List ℕ) (found : Found ArcRec) → arc_record_at head text ≡ Some found → ArcFits head.counts head.kinds found.value
+pub arc_found : (head : Head) (text : List ℕ) (found : Found ArcRec) → arc_record_at head text ≡ Some found → ArcFits head.counts head.kinds found.value
 arc_found head text found e =
     let g = was_given (record_at head.counts V (A ∷ I ∷ arc_kinds head.kinds) text) e in
     let m = was_mapped (arc_of_fields g.first.value) g.made in
@@ -301,11 +307,11 @@ arc_found head text found e =
     (record_found head.counts V (A ∷ I ∷ arc_kinds head.kinds) text g.first g.here)))
 
 -- records one after another
-record AllFit {X : Type 0} (IsGood : X → Type 0) (n : ℕ) (xs : List X) : Type 0 where
-  count : length xs ≡ n
-  each : All IsGood xs
+pub record AllFit {X : Type 0} (IsGood : X → Type 0) (n : ℕ) (xs : List X) : Type 0 where
+  pub count : length xs ≡ n
+  pub each : All IsGood xs
 
-all_found : {X : Type 0} (one_at : List ℕ → Option (Found X)) (IsGood : X → Type 0) → ((text : List ℕ) (found : Found X) → one_at text ≡ Some found → IsGood found.value)
+pub all_found : {X : Type 0} (one_at : List ℕ → Option (Found X)) (IsGood : X → Type 0) → ((text : List ℕ) (found : Found X) → one_at text ≡ Some found → IsGood found.value)
     → (n : ℕ) (text : List ℕ) (found : Found (List X)) → all_at one_at n text ≡ Some found → AllFit IsGood n found.value
 unfolding all_at
 all_found {X = X} one_at IsGood good zero text found e =
@@ -321,13 +327,13 @@ all_found {X = X} one_at IsGood good (suc n) text found e =
     })
 
 -- the graph's record: a graph with no vertices and no records yet
-record OwnFits (head : Head) (g : GraphData) : Type 0 where
-  kinds : g.kinds ≡ head.kinds
+pub record OwnFits (head : Head) (g : GraphData) : Type 0 where
+  pub kinds : g.kinds ≡ head.kinds
   id : IsId g.id
   arcs_counted : g.m < number_limit
   fields : FieldsFit head.counts (graph_kinds head.kinds) g.util
 
-own_found : (head : Head) (text : List ℕ) (found : Found GraphData) → graph_record_at head text ≡ Some found → OwnFits head found.value
+pub own_found : (head : Head) (text : List ℕ) (found : Found GraphData) → graph_record_at head text ≡ Some found → OwnFits head found.value
 own_found head text found e =
     let number = plain_at (number_of most_number_digits) in
     let id = was_given (string_at most_id_bytes text) e in
@@ -386,7 +392,7 @@ opening_is_good (line ∷ lines) opening e = by_line (head_of_line line) refl e 
         subst (λ (o : Opening). IsGoodHead o.head) same (head_is_good line head here)
 
 -- a test that follows from what holds of each
-all_pass : {X : Type 0} (IsGood : X → Type 0) (p : X → Bool) → ((x : X) → IsGood x → p x ≡ true) → (xs : List X) → All IsGood xs → list_all p xs ≡ true
+pub all_pass : {X : Type 0} (IsGood : X → Type 0) (p : X → Bool) → ((x : X) → IsGood x → p x ≡ true) → (xs : List X) → All IsGood xs → list_all p xs ≡ true
 all_pass IsGood p passes [] h = refl
 all_pass IsGood p passes (x ∷ xs) h =
     and_from (p x) (list_all p xs) (passes x (All-head IsGood x xs h)) (all_pass IsGood p passes xs (All-tail IsGood x xs h))
@@ -422,7 +428,7 @@ parts_can_be_checked g good own vertices records =
     few n h = grind (arith, nat_tests)
 
 -- the counts of a first line are those of the records after it
-head_again : (head : Head) (g : GraphData) → g.kinds ≡ head.kinds → length g.vertices ≡ head.counts.vertices → length g.records ≡ head.counts.arcs → head ≡ head_of g
+pub head_again : (head : Head) (g : GraphData) → g.kinds ≡ head.kinds → length g.vertices ≡ head.counts.vertices → length g.records ≡ head.counts.arcs → head ≡ head_of g
 head_again head g kinds vertices arcs =
     sym (ap (λ ks. record { kinds = ks; counts = record { vertices = length g.vertices; arcs = length g.records } }) kinds
     ∙ ap (λ n. record { kinds = head.kinds; counts = record { vertices = n; arcs = length g.records } }) vertices

@@ -2,8 +2,9 @@ ghost use Rattle.std.specs.Prelude.{ℕ, List, ◌↔◌, ◌≡◌, ◌<◌, �
 ghost use Rattle.sgb_graph.specs.Graphs.{GraphData};
 ghost use Rattle.sgb_file.specs.Checksum.{IsOrder, checksum, running_checksum};
 ghost use Rattle.sgb_file.specs.Fields.{Found};
+ghost use Rattle.sgb_file.specs.Files.{IsFileOf};
 ghost use Rattle.sgb_file.specs.Records.{Head, records_at};
-ghost use Rattle.sgb_file.specs.Restoring.{IsFileOf, graph_of_text, head_of_line};
+ghost use Rattle.sgb_file.specs.Restoring.{graph_of_text, head_of_line};
 ghost use Rattle.sgb_file.specs.Saved.{CanBeChecked, CanBeSaved};
 ghost use Rattle.sgb_file.specs.Saving.{breaks_of, most_line_bytes, part_from_break, record_lines, text_of_graph};
 
