@@ -3,9 +3,11 @@ use Rattle.std.proofs.Common.{◌≡◌, true, false, codes, Ok, Err, refl, pos,
 use Rattle.sgb_gen.specs.Shorthands.{complete, petersen}
 use Rattle.sgb_expr.specs.Expression.{Expression, Entry, Entries}
 use Rattle.sgb_expr.specs.Expressions.{IsExpression}
+use Rattle.sgb_expr.specs.FlipTexts.{IsFlip, whole_flip_at}
 use Rattle.sgb_expr.specs.Names.{family_openings, openings}
 use Rattle.sgb_expr.specs.Reading.{entries_at, expression_at, whole_at}
 use Rattle.sgb_expr.specs.declared.expressions.Family.TheVariants.{Board, Subsets}
+use Rattle.sgb_expr.proofs.FlipReading.{flip_read}
 use Rattle.sgb_expr.proofs.WholeReading.{whole_read}
 
 -- the complement of the petersen graph, with loops
@@ -70,3 +72,14 @@ wrong_last_entry = refl
 wrong_comma : whole_at (codes "induced(petersen(),[1-2],0,0,0)") ≡ Err 10
 unfolding expression_at entries_at openings family_openings
 wrong_comma = refl
+
+-- what is asked of the random generator: leading zeros and a sign
+reads_flip : whole_flip_at (codes "flip(-3,00,5,07)") ≡ Ok (record { start = negsuc 2; skip = pos 0; count = pos 5; m = pos 7 })
+reads_flip = refl
+
+pub flip_is : IsFlip (codes "flip(-3,00,5,07)") (record { start = negsuc 2; skip = pos 0; count = pos 5; m = pos 7 })
+flip_is = flip_read _ _ reads_flip
+
+-- 1 byte is left, a `)` where the fourth integer is missing
+wrong_flip : whole_flip_at (codes "flip(1,2,3)") ≡ Err 1
+wrong_flip = refl

@@ -22,6 +22,7 @@ pub mod Numbers
 pub mod OwnNumbers
 pub mod TestLemmas
 pub mod Tips
+pub mod UniformDraws
 pub mod Cycles
 pub mod FirstCycle
 pub mod Standing

@@ -1,5 +1,5 @@
 -- The random numbers of GB_FLIP, by one formula [GB_FLIP, gb_flip_cycle, gb_init_rand and gb_unif_rand].
-use Rattle.std.specs.Prelude.{◌≡◌, ℕ, zero, suc, ◌+◌, ◌-◌, ◌*◌, ◌/◌, ◌%◌, ◌^◌, ◌<◌, ◌≤◌, ℤ, pos, negsuc, Option, List, ◌∷◌, map, reverse, find, nat_lt, option_map, slice_index}
+use Rattle.std.specs.Prelude.{◌≡◌, ℕ, zero, suc, ◌+◌, ◌-◌, ◌*◌, ◌/◌, ◌%◌, ◌^◌, ◌<◌, ◌≤◌, ℤ, pos, negsuc, Option, List, [], ◌∷◌, map, reverse, find, nat_lt, option_map, unwrap_or, slice_index}
 use Rattle.std.specs.List.{range_with_len}
 
 -- the numbers are from 0 to 2^31 - 1, and their differences are taken modulo 2^31
@@ -67,6 +67,25 @@ first_taken seed m k many = find (λ t. nat_lt (draw seed t) (bound_below m)) (r
 -- the uniform draw below m from draw k on, where it comes within so many draws
 abbrev pub uniform_within : ℕ → ℕ → ℕ → ℕ → Option ℕ
 uniform_within seed m k many = option_map (λ t. draw seed t % m) (first_taken seed m k many)
+
+-- of so many draws in a row, wherever they begin, a uniform draw takes one
+abbrev pub most_tried : ℕ
+most_tried = 1760
+
+-- the number of the draw that a uniform draw below m from draw k on is made of
+abbrev pub used_draw : ℕ → ℕ → ℕ → ℕ
+used_draw seed m k = unwrap_or (first_taken seed m k most_tried) k
+
+-- so many draws, from draw k on
+unfoldable pub plain_draws : ℕ → ℕ → ℕ → List ℕ
+plain_draws seed k zero = []
+plain_draws seed k (suc count) = draw seed k ∷ plain_draws seed (k + 1) count
+
+-- so many uniform draws below m, from draw k on
+unfoldable pub uniform_draws : ℕ → ℕ → ℕ → ℕ → List ℕ
+uniform_draws seed m k zero = []
+uniform_draws seed m k (suc count) =
+    draw seed (used_draw seed m k) % m ∷ uniform_draws seed m (used_draw seed m k + 1) count
 
 -- a generator that was started from this value stands at draw k: it holds a whole cycle of numbers,
 -- X(55 c + 1) to X(55 c + 55) where c is 5 + k / 55, and so many of them are still to come

@@ -8,7 +8,7 @@ ghost use Rattle.sgb_graph.specs.Made.{DescribedIs, DescribedIsOnly, plain};
 ghost use Rattle.sgb_graph.specs.Events.{Event, HasArcsOf, Row, all_rows, list_of};
 ghost use Rattle.sgb_graph.specs.Growth.{AddsArc, AddsEdge, AddsEvents, ArcsLead, EdgesLead, link, new_graph, row, with_id};
 ghost use Rattle.sgb_graph.specs.declared.fields.Link.{Link};
-ghost use Rattle.sgb_graph.specs.Draws.{IsUniformDraw, difference, draw, first_taken, x_number, y_number};
+ghost use Rattle.sgb_graph.specs.Draws.{IsUniformDraw, difference, draw, first_taken, modulus, most_tried, used_draw, x_number, y_number};
 
 /// The random numbers by their rules (GB_FLIP, gb_init_rand and gb_flip_cycle): number 55 is the seed,
 /// number 21k mod 55 is Y(k), and each later number is the 55th before it less the 24th before it.
@@ -18,9 +18,15 @@ pub fn random_numbers_law()
     ensures later { (seed n : ℕ) → 55 < n → x_number seed n ≡ difference (x_number seed (n - 55)) (x_number seed (n - 24)) }
 {}
 
-/// The first draw of some that is not thrown away makes the uniform draw below `m` (GB_FLIP, gb_unif_rand).
+/// The first draw of some that is not thrown away makes the uniform draw below `m`; for `m` from 1 to 2^31 one of any
+/// 1760 draws in a row is not thrown away, and there is no other uniform draw (GB_FLIP, gb_unif_rand).
 pub fn uniform_draw_law()
-    ensures { (seed m k many last : ℕ) → first_taken seed m k many ≡ Some last → IsUniformDraw seed m k (draw seed last % m) last }
+    ensures first { (seed m k many last : ℕ) → first_taken seed m k many ≡ Some last → IsUniformDraw seed m k (draw seed last % m) last }
+    ensures found { (seed m k : ℕ) → 1 ≤ m → m ≤ modulus → first_taken seed m k most_tried ≡ Some (used_draw seed m k) }
+    ensures taken { (seed m k : ℕ) → 1 ≤ m → m ≤ modulus
+        → IsUniformDraw seed m k (draw seed (used_draw seed m k) % m) (used_draw seed m k) }
+    ensures only { (seed m k number last : ℕ) → 1 ≤ m → m ≤ modulus → IsUniformDraw seed m k number last
+        → (last ≡ used_draw seed m k) × (number ≡ draw seed last % m) }
 {}
 
 /// New arcs, one for each event in order, leave the graph of the events (GB_GRAPH, gb_new_arc).

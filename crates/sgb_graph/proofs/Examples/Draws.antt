@@ -1,7 +1,7 @@
 -- Draws of GB_FLIP.
-use Rattle.std.specs.Prelude.{◌≡◌, ◌*◌, ◌%◌, pos, negsuc, refl, true, Some, ◌==◌}
+use Rattle.std.specs.Prelude.{◌≡◌, ◌*◌, ◌%◌, pos, negsuc, refl, true, Some, [], ◌∷◌, ◌==◌}
 use Rattle.std.specs.List.{list_all, range_with_len}
-use Rattle.sgb_graph.specs.Draws.{y_number, x_number, back_to_first, seed_of, draw, first_taken, uniform_within}
+use Rattle.sgb_graph.specs.Draws.{y_number, x_number, back_to_first, seed_of, draw, first_taken, uniform_within, used_draw, plain_draws, uniform_draws}
 
 -- the first draw from -314159, as GB_FLIP's own test has it
 pub first_draw : draw (seed_of (negsuc 314158)) 0 ≡ 119318998
@@ -26,6 +26,25 @@ second_below_one = refl
 pub none_thrown_away : first_taken (seed_of (negsuc 314158)) 2147483648 0 1 ≡ Some 0
 unfolding y_number back_to_first
 none_thrown_away = refl
+
+-- the first four draws from 7
+pub four_draws : plain_draws (seed_of (pos 7)) 0 4 ≡ 529181769 ∷ 719591340 ∷ 1610774012 ∷ 194604418 ∷ []
+unfolding y_number back_to_first plain_draws
+four_draws = refl
+
+-- the first three uniform draws from 7 below 2^30 + 1: draw 2 is thrown away
+pub three_uniform_draws : uniform_draws (seed_of (pos 7)) 1073741825 0 3 ≡ 529181769 ∷ 719591340 ∷ 194604418 ∷ []
+unfolding y_number back_to_first uniform_draws
+three_uniform_draws = refl
+
+pub third_used : used_draw (seed_of (pos 7)) 1073741825 2 ≡ 3
+unfolding y_number back_to_first
+third_used = refl
+
+-- and below 10: none is thrown away
+pub three_digits : uniform_draws (seed_of (pos 7)) 10 0 3 ≡ 9 ∷ 0 ∷ 2 ∷ []
+unfolding y_number back_to_first uniform_draws
+three_digits = refl
 
 -- X(55) is Y(0), and X(21 k mod 55) is Y(k) for k from 1 to 54
 pub first_numbers : list_all (λ k. x_number 119 (21 * k % 55) == y_number 119 k) (range_with_len 1 54) ≡ true
