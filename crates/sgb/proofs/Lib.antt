@@ -1,7 +1,9 @@
 -- The lemmas of sgb, by subject.
 pub mod CutOff
+pub mod DrawnNumbers
 pub mod Endings
 pub mod EntryValues
+pub mod ExamplesFlips
 pub mod Lines
 pub mod Listings
 pub mod Named

@@ -29,6 +29,9 @@ use Rattle.sgb_graph.specs.Made.{graph_described}
 use Rattle.sgb_expr.specs.Expression.{Expression, Family, Complement, Gunion, Intersection, Lines, Product, Induced, BiComplete, Wheel, Entries, NoEntries, EntryThen, Number, Graph, expression_of}
 use Rattle.sgb_expr.specs.declared.expressions.Family.{Family as Generator}
 use Rattle.sgb_expr.specs.declared.expressions.Family.TheVariants as family
+use Rattle.sgb_expr.specs.declared.flips.FlipParams.{FlipParams}
+use Rattle.sgb_graph.specs.Draws.{modulus}
+use Rattle.sgb.specs.FlipAnswers.{accepted_draws, answer_of_draws, flip_answer, most_draws, number_within}
 use Rattle.sgb.specs.Outcomes.{answer_after, answer_from, answer_of, left_out, left_out_by, queen_moves, vertex_named}
 use Rattle.sgb.specs.Values.{both, family_value, handed_entries, handed_entry, value_of, values_of}
 use Rattle.sgb.specs.declared.evaluation.entries.EntryValue.{EntryValue}
@@ -39,6 +42,7 @@ use Rattle.sgb_requests.specs.declared.requests.Request.{Request}
 use Rattle.sgb_requests.specs.declared.requests.Request.TheVariants as request
 use Rattle.sgb_requests.specs.declared.requests.Resume.{Resume}
 use Rattle.sgb_requests.specs.declared.requests.Resume.TheVariants as resume
+use Rattle.sgb.specs.declared.writing.flips.Draws.{Draws}
 
 -- ---- parameters
 
@@ -209,6 +213,19 @@ mutual
   values_judged (EntryThen (Graph e) others) =
       after _ _ (both_judged _ _ (after _ _ (value_judged e) (λ g. accepted _)) (values_judged others)) (λ p. accepted _)
 
+-- ---- flips
+
+-- an integer within its range
+within_judged : (greatest : ℕ) (i : ℤ) → IsJudged (number_within greatest i)
+within_judged greatest (pos n) = either _ _ _ (accepted _) refused_bad
+within_judged greatest (negsuc n) = refused_bad
+
+-- the draws of a flip
+draws_judged : (p : FlipParams) → IsJudged (accepted_draws p)
+draws_judged p =
+    after _ _ (within_judged most_draws p.skip) (λ skip.
+    after _ _ (within_judged most_draws p.count) (λ count. after _ _ (within_judged modulus p.m) (λ m. accepted _)))
+
 -- ---- answers
 
 -- an answer, or a refusal for what the request is
@@ -239,9 +256,20 @@ from_own (Err r) answer p q = λ e.
     let same : r ≡ NoRoom = cc in
     p (ap Err same)
 
+-- the answer of a flip
+flip_own : (p : FlipParams) → IsOwn (flip_answer p)
+flip_own p = from_draws (accepted_draws p) (draws_judged p)
+  where
+    from_draws : (r : Result Draws Panic) → IsJudged r → IsOwn (answer_of_draws r)
+    from_draws (Ok d) h e = cc
+    from_draws (Err p) h e =
+        let same : p ≡ NoRoom = cc in
+        h (ap Err same)
+
 -- the answer of a request is its output or its own refusal, never out of memory
 pub answer_own : (r : Request) → answer_of r ≢ Err (fault.Panic NoRoom)
 answer_own (request.Names e resume) = from_own (value_of (expression_of e)) _ (value_judged (expression_of e)) (λ d. skipped_own _ _ (left_out_own _ resume))
 answer_own (request.List e resume) = from_own (value_of (expression_of e)) _ (value_judged (expression_of e)) (λ d. skipped_own _ _ (left_out_own _ resume))
 answer_own (request.Save e) = from_own (value_of (expression_of e)) _ (value_judged (expression_of e)) (λ g. λ e. cc)
 answer_own request.Queen = from_own (value_of queen_moves) _ (value_judged queen_moves) (λ g. λ e. cc)
+answer_own (request.Flip p) = flip_own p

@@ -10,6 +10,7 @@ use Rattle.sgb_expr.specs.declared.expressions.Family.{Family as Generator}
 use Rattle.sgb_expr.specs.declared.expressions.Family.TheVariants as family
 use Rattle.sgb_file.specs.Saving.{text_of_graph}
 use Rattle.sgb_requests.specs.Faults.{status_of, line_of}
+use Rattle.sgb.specs.FlipAnswers.{flip_answer}
 use Rattle.sgb.specs.Texts.{name_lines, head, blocks}
 use Rattle.sgb.specs.Values.{value_of}
 use Rattle.sgb_requests.specs.declared.faults.Fault.{Fault}
@@ -77,6 +78,7 @@ answer_of (request.Names e resume) = answer_from (value_of (expression_of e)) (�
 answer_of (request.List e resume) = answer_from (value_of (expression_of e)) (λ g. list_answer g resume)
 answer_of (request.Save e) = answer_from (value_of (expression_of e)) (λ g. Ok (text_of_graph g))
 answer_of request.Queen = answer_from (value_of queen_moves) (λ g. Ok (queen_title ++ (head g ++ blocks g 0)))
+answer_of (request.Flip p) = flip_answer p
 
 -- output, line on standard error, and exit status
 pub record Outcome : Type 0 where

@@ -1,4 +1,5 @@
-//! sgb: the names, listings and files of graphs that Stanford GraphBase's generators and operations make.
+//! sgb: the names, listings and files of graphs that Stanford GraphBase's generators and operations make, and its random
+//! numbers.
 #![tactic(auto)]
 
 mod evaluation;

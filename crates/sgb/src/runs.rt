@@ -13,6 +13,7 @@ ghost use Rattle.sgb.specs.Writing.{IsEnded};
 
 use crate::evaluation::{Local, graph_of, local_of, queen_moves};
 use crate::writing::files::write_file;
+use crate::writing::flips::write_flip;
 use crate::writing::listing::{write_listing, write_titled_listing};
 use crate::writing::names::write_names;
 use crate::writing::vertices::write_vertex_names;
@@ -72,6 +73,7 @@ fn write_answer<W: Sink>(alloc: Global, request: &Request, out: &mut W) -> Resul
         Request::List(expression, resume) => answer_list(alloc, expression, resume, out),
         Request::Save(expression) => answer_save(alloc, expression, out),
         Request::Queen => answer_queen(alloc, out),
+        Request::Flip(params) => write_flip(params, out),
     }
 }
 

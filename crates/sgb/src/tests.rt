@@ -12,6 +12,7 @@ use std::test::Fail;
 mod derived;
 mod devices;
 mod endings;
+mod flips;
 mod listings;
 mod names;
 mod operations;

@@ -4,6 +4,7 @@ ghost use Rattle.std.specs.List.{flat_map};
 ghost use Rattle.sgb.specs.Writing.{IsWritten};
 
 pub(crate) mod files;
+pub(crate) mod flips;
 pub(crate) mod listing;
 pub(crate) mod names;
 pub(crate) mod vertices;

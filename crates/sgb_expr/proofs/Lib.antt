@@ -11,5 +11,8 @@ pub mod Forms
 pub mod Nesting
 pub mod EntryLists
 pub mod CodeExpressions
+pub mod StdinUses
+pub mod WholeWords
 pub mod WholeReading
+pub mod FlipReading
 pub mod Examples

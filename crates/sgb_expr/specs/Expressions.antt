@@ -1,6 +1,7 @@
 -- The expressions that name a graph, in GraphBase's official names; which texts are too large to be read.
 use Rattle.std.specs.Prelude.{◌≡◌, ◌≤◌, ◌<◌, ◌+◌, ◌⊎◌, ◌==◌, ℕ, zero, suc, List, ◌++◌, length, take, count_by, Result, Ok, Err}
 use Rattle.sgb_expr.specs.Expression.{Expression, expression_of}
+use Rattle.sgb_expr.specs.Languages.{Begins, IsLongestPrefixOf, IsNoWord}
 use Rattle.sgb_expr.specs.Operations.{IsGenerator, IsCallOf}
 use Rattle.sgb_expr.specs.Names.{opening_of}
 use Rattle.sgb_expr.specs.declared.expressions.Expr.{Expr}
@@ -10,7 +11,7 @@ use Rattle.sgb_expr.specs.declared.names.FamilyName.{FamilyName}
 use Rattle.sgb_expr.specs.declared.names.Name.{Name}
 use Rattle.sgb_expr.specs.declared.names.Name.TheVariants as form
 
--- an expression has at most this many bytes
+-- a text that is read has at most this many bytes
 abbrev pub most_bytes : ℕ
 most_bytes = 65_536
 
@@ -18,8 +19,8 @@ most_bytes = 65_536
 abbrev pub most_depth : ℕ
 most_depth = 64
 
--- the text is this expression, in which operations stand one in another at most so deep: a name, `(`, and arguments of its
--- form with `)`
+-- the text is this expression, in which operations stand one in another at most so deep: a name, with a `(` where its form has
+-- arguments, and these with `)`
 abbrev pub IsNested : ℕ → List ℕ → Expression → Type 0
 IsNested zero text e =
     (name : FamilyName) × (arguments : List ℕ) × (text ≡ opening_of (form.Family name) ++ arguments) × IsGenerator name arguments e
@@ -32,17 +33,15 @@ IsExpression text e = (depth : ℕ) × IsNested depth text e
 
 -- the text begins an expression: something can follow that makes it one
 abbrev pub BeginsExpression : List ℕ → Type 0
-BeginsExpression text = (more : List ℕ) × (e : Expression) × IsExpression (text ++ more) e
+BeginsExpression = Begins IsExpression
 
 -- the first k bytes of the text are its longest prefix that begins some expression
-pub record IsLongestPrefix (text : List ℕ) (k : ℕ) : Type 0 where
-  pub within : k ≤ length text
-  pub begins : BeginsExpression (take k text)
-  pub longest : (j : ℕ) → k < j → j ≤ length text → BeginsExpression (take j text) → ⊥
+abbrev pub IsLongestPrefix : List ℕ → ℕ → Type 0
+IsLongestPrefix = IsLongestPrefixOf IsExpression
 
 -- the text is no expression
 abbrev pub IsNoExpression : List ℕ → Type 0
-IsNoExpression text = (e : Expression) → IsExpression text e → ⊥
+IsNoExpression = IsNoWord IsExpression
 
 -- how many `(` (40) and how many `)` (41)
 abbrev pub opened_count : List ℕ → ℕ

@@ -1,5 +1,5 @@
--- Languages: which texts are words, and of which values; words one after another.
-use Rattle.std.specs.Prelude.{◌≡◌, ◌⊎◌, ℕ, List, ◌++◌}
+-- Languages: which texts are words, and of which values; words one after another; where texts go wrong.
+use Rattle.std.specs.Prelude.{◌≡◌, ◌≤◌, ◌<◌, ◌⊎◌, ℕ, List, ◌++◌, length, take}
 
 -- a word of the first language and then one of the second, which may depend on the first's value
 abbrev pub Then : {V W : Type 0} → (List ℕ → V → Type 0) → (V → List ℕ → W → Type 0) → List ℕ → W → Type 0
@@ -16,3 +16,17 @@ As {V} f Word word value = (v : V) × Word word v × (value ≡ f v)
 -- a word of either language
 abbrev pub Or : {V : Type 0} → (List ℕ → V → Type 0) → (List ℕ → V → Type 0) → List ℕ → V → Type 0
 Or First Second word value = First word value ⊎ Second word value
+
+-- the text begins a word: something can follow that makes it one
+abbrev pub Begins : {V : Type 0} → (List ℕ → V → Type 0) → List ℕ → Type 0
+Begins {V} Word text = (more : List ℕ) × (value : V) × Word (text ++ more) value
+
+-- the first k bytes of the text are its longest prefix that begins some word
+pub record IsLongestPrefixOf {V : Type 0} (Word : List ℕ → V → Type 0) (text : List ℕ) (k : ℕ) : Type 0 where
+  pub within : k ≤ length text
+  pub begins : Begins Word (take k text)
+  pub longest : (j : ℕ) → k < j → j ≤ length text → Begins Word (take j text) → ⊥
+
+-- the text is no word
+abbrev pub IsNoWord : {V : Type 0} → (List ℕ → V → Type 0) → List ℕ → Type 0
+IsNoWord {V} Word text = (value : V) → Word text value → ⊥

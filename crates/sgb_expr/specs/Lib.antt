@@ -11,3 +11,5 @@ pub mod Reading
 pub mod Gives
 pub mod TwoGraphs
 pub mod CodeEntries
+pub mod StdinUses
+pub mod FlipTexts

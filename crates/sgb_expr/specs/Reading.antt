@@ -1,11 +1,11 @@
 -- Reading an expression from the beginning of a text: its name, and then its form alone.
-use Rattle.std.specs.Prelude.{ℕ, ℤ, zero, suc, List, [], ◌∷◌, length, codes, Result, Ok, Err}
+use Rattle.std.specs.Prelude.{ℕ, ℤ, zero, suc, List, [], ◌∷◌, length, codes, Result, Ok}
 use Rattle.sgb_gen.specs.Shorthands.{complete, transitive, empty, circuit, cycle, disjoint_subsets, petersen}
 use Rattle.sgb_expr.specs.Expression.{Expression, Entry}
 use Rattle.sgb_expr.specs.Forms.{number_of, board_of, simplex_of, subsets_of}
 use Rattle.sgb_expr.specs.Operations.{Operands, complement_of, gunion_of, intersection_of, product_of, lines_of, induced_of, bi_complete_of, wheel_of}
 use Rattle.sgb_expr.specs.Names.{family_openings, openings}
-use Rattle.sgb_expr.specs.Readings.{◌>>=◌, either, or_else, then_read, read_after, read_as, fixed_as, word_at, bits_at, integer_at, integers_at}
+use Rattle.sgb_expr.specs.Readings.{◌>>=◌, either, or_else, then_read, read_after, read_as, fixed_as, word_at, bits_at, integer_at, integers_at, whole_by}
 use Rattle.sgb_expr.specs.declared.expressions.Family.{Family}
 use Rattle.sgb_expr.specs.declared.expressions.Family.TheVariants as family
 use Rattle.sgb_expr.specs.declared.names.FamilyName.{FamilyName}
@@ -85,7 +85,7 @@ induced_with inner =
     then_read inner (λ graph. read_after (codes ",") (then_read (entry_list_at inner) (λ entries.
     read_as (induced_of graph entries) (integers_at (codes ",") 3 (codes ")")))))
 
--- the arguments of the form of this name, where `inner` reads the expressions inside
+-- the arguments of the form of this name, where `inner` reads the expressions inside; `stdin` has none
 abbrev pub arguments_with : (List ℕ → Result (Expression × List ℕ) ℕ) → Name → List ℕ → Result (Expression × List ℕ) ℕ
 arguments_with inner (name.Family family) = generator_at family
 arguments_with inner name.Complement = complement_with inner
@@ -96,6 +96,7 @@ arguments_with inner name.Product = read_as product_of (operands_with inner)
 arguments_with inner name.Induced = induced_with inner
 arguments_with inner name.BiComplete = read_as bi_complete_of (integers_at [] 3 (codes ")"))
 arguments_with inner name.Wheel = read_as wheel_of (integers_at [] 3 (codes ")"))
+arguments_with inner name.Stdin = fixed_as Expression.Stdin []
 
 -- the expression with which the text begins, where operations stand one in another at most so deep
 abbrev pub nested_at : ℕ → List ℕ → Result (Expression × List ℕ) ℕ
@@ -106,11 +107,6 @@ nested_at (suc depth) = then_read (word_at openings) (arguments_with (nested_at 
 unfoldable pub expression_at : List ℕ → Result (Expression × List ℕ) ℕ
 expression_at text = nested_at (length text) text
 
--- nothing is left
-abbrev pub at_end : Expression → List ℕ → Result Expression ℕ
-at_end e [] = Ok e
-at_end e (byte ∷ rest) = Err (length (byte ∷ rest))
-
 -- the expression that the text is
 abbrev pub whole_at : List ℕ → Result Expression ℕ
-whole_at text = expression_at text >>= λ read. at_end read.0 read.1
+whole_at = whole_by expression_at

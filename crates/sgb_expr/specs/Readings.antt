@@ -49,6 +49,15 @@ abbrev pub word_at : {V : Type 0} → List (List ℕ × V) → List ℕ → Resu
 word_at [] text = Err (length text)
 word_at (word ∷ words) text = either (fixed_as word.1 word.0 text) (word_at words text)
 
+-- nothing is left
+abbrev pub at_end : {V : Type 0} → V → List ℕ → Result V ℕ
+at_end value [] = Ok value
+at_end value (byte ∷ rest) = Err (length (byte ∷ rest))
+
+-- the value of the word that the whole text is
+abbrev pub whole_by : {V : Type 0} → (List ℕ → Result (V × List ℕ) ℕ) → List ℕ → Result V ℕ
+whole_by read text = read text >>= λ x. at_end x.0 x.1
+
 -- the number that these digits write, with which the text begins
 abbrev pub number_of_digits : ℕ → List ℕ → List ℕ → Result (ℕ × List ℕ) ℕ
 number_of_digits radix [] text = Err (length text)

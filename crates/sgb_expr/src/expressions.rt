@@ -79,21 +79,23 @@ pub enum Expr {
         n1: i64,
         directed: bool,
     },
+    /// The graph of the file on standard input (GB_SAVE, restore_graph).
+    Stdin,
 }
 
-/// Why a text is not read as an expression.
+/// Why a text is not read, as an expression or as what is asked of the random generator.
 #[derive(Clone, Copy, Debug, PartialEq, Eq)]
 pub enum Unread {
     /// It has more than 65,536 bytes, or some prefix of it has over 64 more `(` than `)`.
     TooLarge,
-    /// It is no expression; its longest prefix that begins one has this many bytes.
+    /// It is no such text; its longest prefix that begins one has this many bytes.
     At(u32),
     /// Out of memory.
     NoRoom,
 }
 
-/// The expression that the text is: one of GraphBase's official names and, in parentheses, its arguments with commas
-/// between them, with no spaces: `board`, `simplex`, `subsets` and their special cases, with integers; `complement`
+/// The expression that the text is: `stdin`, or one of GraphBase's official names and, in parentheses, its arguments
+/// with commas between them, with no spaces: `board`, `simplex`, `subsets` and their special cases, with integers; `complement`
 /// with an expression and three integers, `gunion` and `intersection` with two expressions and two integers, `lines`
 /// with an expression and an integer, `product` with two expressions and two integers, `induced` with an expression,
 /// entries and three integers, `bi_complete` and `wheel` with three integers (GB_BASIC). Entries are a `[`, integers and

@@ -1,9 +1,9 @@
-//! How large the text of an expression may be.
+//! How large a text may be that is read: an expression, or what is asked of the random generator.
 
 ghost use Rattle.std.specs.Prelude.{◌≡◌, ◌↔◌, IsTrue};
 ghost use Rattle.sgb_expr.specs.Expressions.{IsDeep, IsTooLarge};
 
-/// An expression has at most this many bytes.
+/// Such a text has at most this many bytes.
 const MOST_BYTES: usize = 65_536;
 
 /// Parentheses are nested at most this deep.

@@ -1,7 +1,7 @@
 //! Fixed texts, integers and bits at the beginning of a text.
-ghost use Rattle.std.specs.Prelude.{◌≡◌, ◌≤◌, ◌<◌, ◌^◌, EachIndex, IfOk, length, nat_abs, nat_eq, pos, slice_index_or};
+ghost use Rattle.std.specs.Prelude.{◌≡◌, ◌≤◌, ◌<◌, ◌^◌, EachIndex, IfErr, IfOk, length, nat_abs, nat_eq, pos, slice_index_or};
 ghost use Rattle.std.specs.List.{common_prefix_len};
-ghost use Rattle.sgb_expr.specs.Gives.{Gives};
+ghost use Rattle.sgb_expr.specs.Gives.{Gives, IsPlace};
 ghost use Rattle.sgb_expr.specs.Readings.{bits_at, fixed_at, integer_at, number_at, integers_at, separator_before};
 
 use crate::wrong::Wrong;
@@ -15,7 +15,8 @@ const MOST_HEX_DIGITS: usize = 16;
 
 /// The text after these bytes, with which it begins, or where the two part.
 pub(crate) fn fixed<'a>(bytes: &[u8], text: &'a [u8]) -> Result<&'a [u8], Wrong>
-    ensures { Gives (λ rest. rest.now) result (fixed_at bytes.now text.entry.now) }
+    ensures read { Gives (λ rest. rest.now) result (fixed_at bytes.now text.entry.now) }
+    ensures place { IfErr result IsPlace }
 {
     let same = common_prefix(bytes, text);
     if same < bytes.len() {
@@ -47,6 +48,7 @@ fn number(text: &[u8], radix: u32, most: usize) -> Result<(u64, &[u8]), Wrong>
     requires most { radix ^ most ≤ 2 ^ 64 }
     ensures read { Gives (λ x. (x.0, x.1.now)) result (number_at radix most text.now) }
     ensures bound { IfOk result (λ x. x.0 < radix ^ most) }
+    ensures place { IfErr result IsPlace }
 {
     let digits = leading_digits(text, radix, most);
     if digits.is_empty() {
@@ -59,6 +61,7 @@ fn number(text: &[u8], radix: u32, most: usize) -> Result<(u64, &[u8]), Wrong>
 pub(crate) fn integer(text: &[u8]) -> Result<(i64, &[u8]), Wrong>
     ensures read { Gives (λ x. (x.0, x.1.now)) result (integer_at text.now) }
     ensures bound { IfOk result (λ x. nat_abs x.0 < 10 ^ 18) }
+    ensures place { IfErr result IsPlace }
 {
     match text.strip_prefix(b"-") {
         Some(digits) => {
@@ -92,6 +95,7 @@ pub(crate) fn integers<'a, const N: usize>(
 ) -> Result<([i64; N], &'a [u8]), Wrong>
     ensures read { Gives (λ x. (x.0, x.1.now)) result (integers_at separator.now N end.now text.entry.now) }
     ensures bound { IfOk result (λ x. EachIndex x.0 (λ k. nat_abs (slice_index_or x.0 k (pos 0)) < 10 ^ 18)) }
+    ensures place { IfErr result IsPlace }
 {
     let mut numbers = [0; N];
     let mut rest = text;

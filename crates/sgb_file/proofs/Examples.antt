@@ -3,5 +3,6 @@ pub mod Checksums
 pub mod GraphFiles
 pub mod Restoring
 pub mod Refusals
+pub mod Limits
 pub mod Saving
 pub mod SavedGraphs

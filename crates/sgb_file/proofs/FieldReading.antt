@@ -65,7 +65,7 @@ plain_text_is text (b ∷ more) h e =
     ap (λ k. take k (text ++ b ∷ more)) (first_after (λ c. c == 44 || c == 10) text b more h e) ∙ take-append_seam text (b ∷ more)
 
 -- a plain text is read as what it says
-plain_read : {X : Type 0} (says : List ℕ → Option X) (text : List ℕ) (value : X) (more : List ℕ) → list_all is_plain_byte text ≡ true → says text ≡ Some value → Ends more
+pub plain_read : {X : Type 0} (says : List ℕ → Option X) (text : List ℕ) (value : X) (more : List ℕ) → list_all is_plain_byte text ≡ true → says text ≡ Some value → Ends more
     → plain_at says (text ++ more) ≡ Some (record { value = value; rest = more })
 plain_read says text value more h said e =
     rw (plain_text_is text more h e) (rw said (ap (λ rest. Some (record { value = value; rest = rest })) (drop-append_seam text more)))
@@ -80,10 +80,10 @@ none_in_short (suc n) text short few = absurd (omega (arith, few (omega arith)))
 no_newline : (b : ℕ) (text : List ℕ) → is_within_line b ≡ true → after_prefix (codes "\n") (b ∷ text) ≡ None
 no_newline b text h = let e : (10 == b) ≡ false = grind (arith, nat_tests) in rw e refl
 
-plain_begins : (text more : List ℕ) → IsPlain text → after_prefix (codes "\n") (text ++ more) ≡ None
-plain_begins [] more h = absurd (omega (arith, h.some))
-plain_begins (b ∷ text) more h =
-    let byte : is_plain_byte b ≡ true = (and_parts (is_plain_byte b) (list_all is_plain_byte text) h.bytes).0 in
+pub plain_begins : (text more : List ℕ) → 0 < length text → list_all is_plain_byte text ≡ true → after_prefix (codes "\n") (text ++ more) ≡ None
+plain_begins [] more some h = absurd (omega (arith, some))
+plain_begins (b ∷ text) more some h =
+    let byte : is_plain_byte b ≡ true = (and_parts (is_plain_byte b) (list_all is_plain_byte text) h).0 in
     no_newline b (text ++ more) (grind (arith, nat_tests))
 
 pub plain_is_read : {X : Type 0} (says : List ℕ → Option X) (text : List ℕ) (value : X) → IsPlain text → says text ≡ Some value → IsRead (plain_at says) text value
@@ -91,7 +91,7 @@ plain_is_read says text value plain said = record {
   reads = λ breaks more few e.
       ap (λ x. plain_at says (x ++ more)) (none_in_short breaks text plain.short few) ∙ plain_read says text value more plain.bytes said e;
   begins = λ breaks more few.
-      ap (λ x. after_prefix (codes "\n") (x ++ more)) (none_in_short breaks text plain.short few) ∙ plain_begins text more plain;
+      ap (λ x. after_prefix (codes "\n") (x ++ more)) (none_in_short breaks text plain.short few) ∙ plain_begins text more plain.some plain.bytes;
 }
 
 -- what is read, as another value
@@ -105,7 +105,7 @@ is_read_as f read text value h = record {
 digit_is_plain : (b : ℕ) → is_decimal_digit b ≡ true → is_plain_byte b ≡ true
 digit_is_plain b h = grind (arith, nat_tests)
 
-digits_are_plain : (text : List ℕ) → list_all is_decimal_digit text ≡ true → list_all is_plain_byte text ≡ true
+pub digits_are_plain : (text : List ℕ) → list_all is_decimal_digit text ≡ true → list_all is_plain_byte text ≡ true
 digits_are_plain text h = list_all-weaker is_decimal_digit is_plain_byte text digit_is_plain h
 
 -- digits as std has them are decimal digits
@@ -218,7 +218,7 @@ string_bytes (b ∷ text) h =
     and_from (is_string_byte b) (list_all is_string_byte text) (string_byte b (All-head IsTextByte b text h)) (string_bytes text (All-tail IsTextByte b text h))
 
 -- no byte of a text is a quote, or a backslash
-abbrev no_quotes : List ℕ → Bool
+abbrev pub no_quotes : List ℕ → Bool
 no_quotes text = list_all (λ b. not (b == 34)) text
 
 abbrev no_slashes : List ℕ → Bool
@@ -271,7 +271,7 @@ quoted_breaks (suc n) s few =
     ap (λ x. 34 ∷ x) (breaks_within (suc n) 77 s (34 ∷ []) within)
 
 -- a quoted text is read as its string
-string_says : (most : ℕ) (inside s more : List ℕ) → no_quotes inside ≡ true → unbroken inside ≡ s → length s ≤ most → list_all is_string_byte s ≡ true
+pub string_says : (most : ℕ) (inside s more : List ℕ) → no_quotes inside ≡ true → unbroken inside ≡ s → length s ≤ most → list_all is_string_byte s ≡ true
     → string_at most (quoted inside ++ more) ≡ Some (record { value = s; rest = more })
 string_says most inside s more quotes says short bytes =
     let after = inside ++ 34 ∷ more in

@@ -1,5 +1,5 @@
 -- Lemmas on whole files: what is written is a file of the graph.
-use Rattle.std.specs.Prelude.{◌≡◌, ℕ, suc, pos, ◌+◌, ◌-◌, ◌^◌, ◌<◌, ◌≤◌, true, false, not, ◌&&◌, List, [], ◌∷◌, ◌++◌, map, length, take, drop, codes, decimal, Some, option_map, filter, filter_map, take_while, All, slice_index, nat_le, ◌==◌, refl, ⊤}
+use Rattle.std.specs.Prelude.{◌≡◌, ℕ, suc, pos, ◌+◌, ◌-◌, ◌^◌, ◌<◌, ◌≤◌, true, false, not, ◌&&◌, List, [], ◌∷◌, ◌++◌, map, length, take, drop, codes, decimal, Some, Ok, option_map, filter, filter_map, take_while, All, slice_index, nat_le, ◌==◌, refl}
 use Rattle.std.specs.List.{list_all, flat_map, prefix_len}
 use Rattle.std.proofs.Common.{ap, sym, ◌∙◌, append_assoc, append-nil, arith, length-append}
 use Rattle.std.proofs.Math.Seq.{take-append_seam, drop-append_seam}
@@ -19,20 +19,18 @@ use Rattle.sgb_file.specs.FileLines.{lines_of_text, clean_lines, text_of_lines}
 use Rattle.sgb_file.specs.Checksum.{checksum_prime, weighted_sum, has_star, checksum_of_lines}
 use Rattle.sgb_file.specs.Fields.{is_decimal_digit, number_of, most_number_digits}
 use Rattle.sgb_file.specs.Records.{Head, vertex_record_at, arc_record_at, records_at}
-use Rattle.sgb_file.specs.Restoring.{IsFileOf, kind_of_letter, kinds_at, leading_number, head_of_line, opening_of, checksum_in_line, closes}
+use Rattle.sgb_file.specs.Restoring.{Opening, graph_of_text, kind_of_letter, kinds_at, leading_number, head_of_line, opening_of, checksum_in_line, closes}
+use Rattle.sgb_file.specs.Files.{BeginsWithNoDigit, head_of}
 use Rattle.sgb_file.specs.Saving.{letter_of, graph_texts, vertex_texts, arc_texts, record_lines, head_line, middle_lines, checksum_line, text_of_graph}
 use Rattle.sgb_file.specs.Saved.{CanBeSaved}
 use Rattle.sgb_file.proofs.LineLemmas.{is_line, is_one_line, list_all-join, lines_read, clean_lines_read, clean_are_one_line, ends_well}
 use Rattle.sgb_file.proofs.FieldReading.{decimal_digits, number_read}
-use Rattle.sgb_file.proofs.RecordReading.{AreSmall, head_of, vertex_read, arc_read, graph_read, all_read}
+use Rattle.sgb_file.proofs.RecordReading.{AreSmall, vertex_read, arc_read, graph_read, all_read}
+use Rattle.sgb_file.proofs.ReadParts.{number_digits}
+use Rattle.sgb_file.proofs.RestoringLemmas.{read_by_parts}
 use Rattle.sgb_file.proofs.WrittenLines.{IsWrittenVertex, IsWrittenRecord, vertices_written, records_written, middle_are_lines, head_is_line, checksum_is_line}
 
--- a text that does not begin with a digit
-abbrev NoDigit : List ℕ → Type 0
-NoDigit [] = ⊤
-NoDigit (b ∷ text) = is_decimal_digit b ≡ false
-
-digits_end : (text more : List ℕ) → list_all is_decimal_digit text ≡ true → NoDigit more → prefix_len is_decimal_digit (text ++ more) ≡ length text
+digits_end : (text more : List ℕ) → list_all is_decimal_digit text ≡ true → BeginsWithNoDigit more → prefix_len is_decimal_digit (text ++ more) ≡ length text
 digits_end [] [] h e = refl
 digits_end [] (b ∷ more) h e = rw e refl
 digits_end (b ∷ text) more h e =
@@ -40,14 +38,16 @@ digits_end (b ∷ text) more h e =
     rw parts.0 (ap (λ k. 1 + k) (digits_end text more parts.1 e) ∙ omega arith)
 
 -- the number that a text begins with is read
-leading_read : (n : ℕ) (more : List ℕ) → n < 10 ^ 18 → NoDigit more → leading_number (decimal n ++ more) ≡ Some (record { value = n; rest = more })
-leading_read n more below none =
-    let text = decimal n in
-    let digits : take_while is_decimal_digit (text ++ more) ≡ text =
-    ap (λ k. take k (text ++ more)) (digits_end text more (decimal_digits n (omega (arith, below))) none) ∙ take-append_seam text more in
-    ap (λ ds. option_map (λ (k : ℕ). record { value = k; rest = drop (length ds) (text ++ more) }) (number_of most_number_digits ds)) digits
-    ∙ ap (option_map (λ k. record { value = k; rest = drop (length text) (text ++ more) })) (number_read most_number_digits n (omega arith) below (omega (arith, below)))
-    ∙ ap (λ rest. Some (record { value = n; rest = rest })) (drop-append_seam text more)
+pub leading_says : (digits more : List ℕ) (k : ℕ) → number_of most_number_digits digits ≡ Some k → BeginsWithNoDigit more → leading_number (digits ++ more) ≡ Some (record { value = k; rest = more })
+leading_says digits more k says none =
+    let taken : take_while is_decimal_digit (digits ++ more) ≡ digits =
+    ap (λ n. take n (digits ++ more)) (digits_end digits more (number_digits most_number_digits digits k says) none) ∙ take-append_seam digits more in
+    ap (λ ds. option_map (λ (n : ℕ). record { value = n; rest = drop (length ds) (digits ++ more) }) (number_of most_number_digits ds)) taken
+    ∙ ap (option_map (λ n. record { value = n; rest = drop (length digits) (digits ++ more) })) says
+    ∙ ap (λ rest. Some (record { value = k; rest = rest })) (drop-append_seam digits more)
+
+leading_read : (n : ℕ) (more : List ℕ) → n < 10 ^ 18 → BeginsWithNoDigit more → leading_number (decimal n ++ more) ≡ Some (record { value = n; rest = more })
+leading_read n more below none = leading_says (decimal n) more n (number_read most_number_digits n (omega arith) below (omega (arith, below))) none
 
 -- the kinds are read of their letters
 letters_say : (kinds : List Kind) → filter_map kind_of_letter (map letter_of kinds) ≡ kinds
@@ -62,7 +62,7 @@ letters_count : (kinds : List Kind) → length (map letter_of kinds) ≡ length 
 letters_count [] = refl
 letters_count (kind ∷ kinds) = ap suc (letters_count kinds)
 
-kinds_read : (kinds : List Kind) (more : List ℕ) → length kinds ≡ 14 → kinds_at (map letter_of kinds ++ more) ≡ Some (record { value = kinds; rest = more })
+pub kinds_read : (kinds : List Kind) (more : List ℕ) → length kinds ≡ 14 → kinds_at (map letter_of kinds ++ more) ≡ Some (record { value = kinds; rest = more })
 kinds_read kinds more h =
     let letters = map letter_of kinds in
     let count : length letters ≡ 14 = letters_count kinds ∙ h in
@@ -106,7 +106,7 @@ checksum_read c below =
     rw first (rw number refl)
 
 -- the lines of a text whose lines these are
-lines_again : (lines : List (List ℕ)) → list_all is_one_line lines ≡ true → lines_of_text (text_of_lines lines) ≡ lines
+pub lines_again : (lines : List (List ℕ)) → list_all is_one_line lines ≡ true → lines_of_text (text_of_lines lines) ≡ lines
 unfolding Rattle.sgb_file.specs.FileLines.lines_among
 lines_again lines h = ap lines_of_text (sym (append-nil (text_of_lines lines))) ∙ lines_read lines [] h ∙ append-nil lines
 
@@ -210,13 +210,13 @@ are_lines g h =
     }
 
 -- the first line opens the file
-opened_by : (line : List ℕ) (head : Head) (others : List (List ℕ)) → head_of_line line ≡ Some head → opening_of (line ∷ others) ≡ Some (record { head = head; lines = others })
+pub opened_by : (line : List ℕ) (head : Head) (others : List (List ℕ)) → head_of_line line ≡ Some head → opening_of (line ∷ others) ≡ Some (record { head = head; lines = others })
 unfolding opening_of
 opened_by line head others h = rw h refl
 
--- what is written is a file of the graph, whatever follows it
-pub written_is_file : (g : GraphData) (more : List ℕ) → CanBeSaved g → IsFileOf g (text_of_graph g ++ more)
-written_is_file g more h =
+-- what is written is read again, whatever follows it
+pub written_is_read : (g : GraphData) (more : List ℕ) → CanBeSaved g → graph_of_text (text_of_graph g ++ more) ≡ Ok g
+written_is_read g more h =
     let lines = are_lines g h in
     let good = ready g h in
     let records = middle_lines g in
@@ -228,11 +228,9 @@ written_is_file g more h =
     clean_lines_read (head_line g ∷ (records ++ line ∷ [])) more all_lines ∙ ap (λ ls. head_line g ∷ ls) (append_assoc records (line ∷ []) others) in
     let one_line = and_from (is_one_line line) (list_all is_one_line others) (and_parts (is_one_line line) (ends_well line) lines.last).0 (clean_are_one_line more) in
     let rest = text_of_lines (line ∷ others) in
-    record {
-      opening = record { head = head_of g; lines = records ++ line ∷ others };
-      rest = rest;
-      opens = ap opening_of whole ∙ opened_by (head_line g) (head_of g) (records ++ line ∷ others) (head_read g h.kinds good.vertices_few h.records_counted);
-      says = ap (records_at (head_of g)) (flat_map-append (λ l. l ++ 10 ∷ []) records (line ∷ others)) ∙ records_read g rest h;
-      ends = closed_by (head_of g) records line others one_line (checksum_read (checksum_of_lines records) (checksum_small g));
-      sound = h.graph.lists;
-    }
+    let opening : Opening = record { head = head_of g; lines = records ++ line ∷ others } in
+    read_by_parts (opening_of (clean_lines (text_of_graph g ++ more))) opening g rest
+    (ap opening_of whole ∙ opened_by (head_line g) (head_of g) (records ++ line ∷ others) (head_read g h.kinds good.vertices_few h.records_counted))
+    (ap (records_at (head_of g)) (flat_map-append (λ l. l ++ 10 ∷ []) records (line ∷ others)) ∙ records_read g rest h)
+    (closed_by (head_of g) records line others one_line (checksum_read (checksum_of_lines records) (checksum_small g)))
+    h.graph.lists

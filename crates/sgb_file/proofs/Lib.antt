@@ -1,6 +1,11 @@
 -- The lemmas and examples of sgb_file.
 pub mod ChecksumLemmas
 pub mod RestoringLemmas
+pub mod FoundParts
+pub mod ReadParts
+pub mod FieldsAndTexts
+pub mod RecordsAndTexts
+pub mod FilesAndTexts
 pub mod LayoutLemmas
 pub mod LineLemmas
 pub mod LaidOutText

@@ -22,7 +22,8 @@ use Rattle.sgb_graph.specs.declared.fields.Vertex.{Vertex}
 use Rattle.sgb_graph.specs.declared.fields.ArcRec.{ArcRec}
 use Rattle.sgb_file.specs.FileLines.{text_of_lines}
 use Rattle.sgb_file.specs.Fields.{Counts, Found, given, found_as, is_decimal_digit, most_number_digits, number_of, field_at, plain_at, string_at, integer_of, ref_of, record_number_of, after_prefix}
-use Rattle.sgb_file.specs.Records.{Head, after_comma, more_fields_at, record_at, graph_record_at, vertex_record_at, vertex_of_fields, arc_record_at, arc_of_fields, all_at}
+use Rattle.sgb_file.specs.Records.{after_comma, more_fields_at, record_at, graph_record_at, vertex_record_at, vertex_of_fields, arc_record_at, arc_of_fields, all_at}
+use Rattle.sgb_file.specs.Files.{head_of}
 use Rattle.sgb_file.specs.Saving.{quoted, ref_text, record_number_text, field_texts, graph_texts, vertex_texts, arc_texts, pieces_of, record_lines}
 use Rattle.sgb_file.specs.Saved.{ValueCanBeSaved, VertexCanBeSaved, ArcCanBeSaved}
 use Rattle.sgb_file.proofs.LineLemmas.{is_line, is_one_line, is_within_line, ends_well}
@@ -228,10 +229,6 @@ record_read counts kind kinds u utils rest field others =
     ap (λ ts. record_at counts kind kinds (text_of_lines (record_lines (ts ++ texts)) ++ rest)) field.texts
     ∙ ap (λ x. given x (λ f. found_as (λ fields. f.value ∷ fields) (more_fields_at counts kinds f.rest))) (field_first (field_at counts kind) field.text u field.read texts rest)
     ∙ ap (found_as (λ fields. u ∷ fields)) (others (lay_out [] field.text texts).next)
-
--- the head of a graph's file
-abbrev pub head_of : GraphData → Head
-head_of g = record { kinds = g.kinds; counts = record { vertices = length g.vertices; arcs = length g.records } }
 
 -- a vertex's record is read
 pub vertex_read : (g : GraphData) (v : Vertex) (rest : List ℕ) → AreSmall (head_of g).counts → vertex_fits g v ≡ true → VertexCanBeSaved v

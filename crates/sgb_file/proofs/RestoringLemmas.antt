@@ -3,9 +3,8 @@ use Rattle.std.specs.Prelude.{◌≡◌, ℕ, Bool, true, false, List, Option, S
 use Rattle.std.proofs.Common.{ap}
 use Rattle.sgb_graph.specs.Graphs.{GraphData}
 use Rattle.sgb_graph.specs.Sound.{is_sound}
-use Rattle.sgb_file.specs.FileLines.{clean_lines}
 use Rattle.sgb_file.specs.Fields.{Found}
-use Rattle.sgb_file.specs.Restoring.{Opening, IsFileOf, opening_of, graph_of_records, closes, graph_at_end, graph_after, graph_of_opening, graph_of_text}
+use Rattle.sgb_file.specs.Restoring.{Opening, graph_of_records, closes, graph_at_end, graph_after, graph_of_opening}
 
 -- the graph of an end is the graph itself, where both tests pass
 pub record PassesBoth (ending lists : Bool) (found g : GraphData) : Type 0 where
@@ -47,24 +46,6 @@ parts_of_opening None g e = absurd cc
 parts_of_opening (Some opening) g e =
     record { opening = opening; here = refl; after = parts_after opening (graph_of_records opening) g e }
 
--- a text that is read as a graph is a file of it
-pub file_from_read : (g : GraphData) (text : List ℕ) → graph_of_text text ≡ Ok g → IsFileOf g text
-file_from_read g text e =
-    let parts = parts_of_opening (opening_of (clean_lines text)) g e in
-    record {
-      opening = parts.opening;
-      rest = parts.after.rest;
-      opens = parts.here;
-      says = parts.after.says;
-      ends = parts.after.ends;
-      sound = parts.after.sound;
-    }
-
 -- the graph of an opening whose parts are those of a file
 pub read_by_parts : (opens : Option Opening) (opening : Opening) (g : GraphData) (rest : List ℕ) → opens ≡ Some opening → graph_of_records opening ≡ Some (record { value = g; rest = rest }) → IsTrue (closes opening rest) → IsTrue (is_sound g) → graph_of_opening opens ≡ Ok g
 read_by_parts opens opening g rest here says ends sound = rw here (rw says (rw (ends, sound)))
-
--- a file of a graph is read as it
-pub read_from_file : (g : GraphData) (text : List ℕ) → IsFileOf g text → graph_of_text text ≡ Ok g
-read_from_file g text file =
-    read_by_parts (opening_of (clean_lines text)) file.opening g file.rest file.opens file.says file.ends file.sound

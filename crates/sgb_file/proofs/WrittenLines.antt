@@ -16,12 +16,13 @@ use Rattle.sgb_graph.specs.declared.fields.Util.TheVariants.{Nothing, Int, Verte
 use Rattle.sgb_graph.specs.declared.fields.Vertex.{Vertex}
 use Rattle.sgb_graph.specs.declared.fields.ArcRec.{ArcRec}
 use Rattle.sgb_file.specs.Fields.{Counts}
+use Rattle.sgb_file.specs.Files.{head_of}
 use Rattle.sgb_file.specs.Saving.{letter_of, field_texts, graph_texts, vertex_texts, arc_texts, record_lines, head_line, middle_lines}
 use Rattle.sgb_file.specs.Saved.{ValueCanBeSaved, VertexCanBeSaved, ArcCanBeSaved}
 use Rattle.sgb_file.proofs.LineLemmas.{is_line, is_one_line, is_within_line, ends_well, list_all-join}
 use Rattle.sgb_file.proofs.LaidOutText.{record_are_lines}
 use Rattle.sgb_file.proofs.FieldReading.{quoted_is_line}
-use Rattle.sgb_file.proofs.RecordReading.{AreSmall, IsField, head_of, decimal_is_line, integer_field, vertex_field, string_field, chain_field}
+use Rattle.sgb_file.proofs.RecordReading.{AreSmall, IsField, decimal_is_line, integer_field, vertex_field, string_field, chain_field}
 
 -- the texts of a field are lines
 field_is_line : (counts : Counts) (kind : Kind) (u : Util) → IsField counts kind u → list_all is_line (field_texts u) ≡ true

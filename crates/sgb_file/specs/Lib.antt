@@ -6,5 +6,6 @@ pub mod Fields
 pub mod Records
 pub mod Restoring
 pub mod Saving
+pub mod Files
 pub mod Saved
 pub mod Layouts

@@ -1,5 +1,5 @@
 -- The graph that a text is a file of, or the code of a text that is a file of none [GB_SAVE, restore_graph].
-use Rattle.std.specs.Prelude.{◌≡◌, ℕ, ◌-◌, ℤ, pos, negsuc, neg_ℤ, Bool, true, false, List, [], ◌∷◌, length, take, drop, codes, Option, Some, None, Result, Ok, Err, option_map, filter_map, take_while, IsTrue, slice_index, ◌==◌, nat_le, if◌then◌else◌}
+use Rattle.std.specs.Prelude.{ℕ, ◌-◌, ℤ, pos, negsuc, neg_ℤ, Bool, true, false, List, [], ◌∷◌, length, take, drop, codes, Option, Some, None, Result, Ok, Err, option_map, filter_map, take_while, slice_index, ◌==◌, nat_le, if◌then◌else◌}
 use Rattle.std.specs.Option.{option_map_or}
 use Rattle.sgb_vec.specs.Limits.{most_vertices}
 use Rattle.sgb_vec.specs.declared.panics.Panic.{Panic}
@@ -87,15 +87,6 @@ line_closes before (line ∷ anything) = option_map_or (λ c. checksum_agrees c 
 -- the text after the records closes the file
 abbrev pub closes : Opening → List ℕ → Bool
 closes opening rest = line_closes (lines_before opening (lines_of_text rest)) (lines_of_text rest)
-
--- the text is a file of the graph
-pub record IsFileOf (g : GraphData) (text : List ℕ) : Type 0 where
-  pub opening : Opening
-  pub rest : List ℕ
-  pub opens : opening_of (clean_lines text) ≡ Some opening
-  pub says : graph_of_records opening ≡ Some (record { value = g; rest = rest })
-  pub ends : IsTrue (closes opening rest)
-  pub sound : IsTrue (is_sound g)
 
 -- the graph where the file ends well and the lists are lists
 abbrev pub graph_at_end : Bool → Bool → GraphData → Result GraphData Panic

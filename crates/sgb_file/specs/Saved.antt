@@ -1,10 +1,11 @@
 -- The graphs that can be written to a file and read again [GB_SAVE, save_graph].
-use Rattle.std.specs.Prelude.{◌≡◌, ℕ, ◌^◌, ◌<◌, length, All, FitsSigned, ⊤}
+use Rattle.std.specs.Prelude.{◌≡◌, ℕ, ◌^◌, ◌<◌, length, All, FitsSigned, IsTrue, nat_le, ⊤}
 use Rattle.std.specs.Int.{w64}
+use Rattle.sgb_vec.specs.Limits.{most_vertices}
 use Rattle.sgb_vec.specs.Names.{IsText}
 use Rattle.sgb_graph.specs.Graphs.{GraphData}
 use Rattle.sgb_graph.specs.Ids.{IsId}
-use Rattle.sgb_graph.specs.Sound.{IsGraph}
+use Rattle.sgb_graph.specs.Sound.{IsGraph, fields_fit}
 use Rattle.sgb_graph.specs.declared.fields.Util.{Util}
 use Rattle.sgb_graph.specs.declared.fields.Util.TheVariants.{Nothing, Int, Vertex as VertexField, Str, Chain}
 use Rattle.sgb_graph.specs.declared.fields.Vertex.{Vertex}
@@ -33,6 +34,18 @@ pub record ArcCanBeSaved (r : ArcRec) : Type 0 where
   pub len : FitsSigned w64 r.len
   pub a : ValueCanBeSaved r.a
   pub b : ValueCanBeSaved r.b
+
+-- parts whose fields fit fourteen kinds, and whose texts, integers and numbers a file can hold; their lists need not be sound
+pub record CanBeChecked (g : GraphData) : Type 0 where
+  pub vertices_fit : IsTrue (nat_le (length g.vertices) most_vertices)
+  pub fields : IsTrue (fields_fit g)
+  pub kinds : length g.kinds ≡ 14
+  pub id : IsId g.id
+  pub arcs_counted : g.m < number_limit
+  pub records_counted : length g.records < number_limit
+  pub util : All ValueCanBeSaved g.util
+  pub vertices : All VertexCanBeSaved g.vertices
+  pub records : All ArcCanBeSaved g.records
 
 -- parts that make up a graph of fourteen kinds, whose texts, integers and numbers a file can hold
 pub record CanBeSaved (g : GraphData) : Type 0 where

@@ -1,8 +1,11 @@
-ghost use Rattle.std.specs.Prelude.{ℕ, List, ◌↔◌, ◌≡◌, ◌<◌, ◌≤◌, ◌++◌, All, Ok, length};
+ghost use Rattle.std.specs.Prelude.{ℕ, List, ◌↔◌, ◌≡◌, ◌<◌, ◌≤◌, ◌++◌, All, Ok, Some, length};
 ghost use Rattle.sgb_graph.specs.Graphs.{GraphData};
 ghost use Rattle.sgb_file.specs.Checksum.{IsOrder, checksum, running_checksum};
-ghost use Rattle.sgb_file.specs.Restoring.{IsFileOf, graph_of_text};
-ghost use Rattle.sgb_file.specs.Saved.{CanBeSaved};
+ghost use Rattle.sgb_file.specs.Fields.{Found};
+ghost use Rattle.sgb_file.specs.Files.{IsFileOf};
+ghost use Rattle.sgb_file.specs.Records.{Head, records_at};
+ghost use Rattle.sgb_file.specs.Restoring.{graph_of_text, head_of_line};
+ghost use Rattle.sgb_file.specs.Saved.{CanBeChecked, CanBeSaved};
 ghost use Rattle.sgb_file.specs.Saving.{breaks_of, most_line_bytes, part_from_break, record_lines, text_of_graph};
 
 mod saved_graphs;
@@ -24,6 +27,14 @@ pub fn running_checksum_law()
 /// A text is read as a graph exactly where it is a file of that graph (GB_SAVE, restore_graph).
 pub fn read_text_law()
     ensures { (g : GraphData) (text : List ℕ) → (graph_of_text text ≡ Ok g) ↔ IsFileOf g text }
+{}
+
+/// What the records of a file say, after a first line, fits its kinds and is within all limits; what may be
+/// wrong with it is only that its lists are not sound (GB_SAVE, restore_graph). So what is read can be saved.
+pub fn file_parts_law()
+    ensures parts { (line text : List ℕ) (head : Head) (found : Found GraphData) →
+        head_of_line line ≡ Some head → records_at head text ≡ Some found → CanBeChecked found.value }
+    ensures saved { (g : GraphData) (text : List ℕ) → graph_of_text text ≡ Ok g → CanBeSaved g }
 {}
 
 /// The lines of a record have at most 79 bytes each, and a piece is broken where more than that are left of

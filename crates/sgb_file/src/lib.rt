@@ -11,7 +11,7 @@ pub use devices::{
     put_all,
 };
 pub use laws::{
-    checksum_order_law, graphs_can_be_saved, line_bytes_law, read_text_law, running_checksum_law,
-    written_is_read_law,
+    checksum_order_law, file_parts_law, graphs_can_be_saved, line_bytes_law, read_text_law,
+    running_checksum_law, written_is_read_law,
 };
 pub use saving::write_gb;

@@ -10,7 +10,7 @@ use Rattle.clap.specs.Walk.{answers_to, nothing_held, stop_after, walk_from}
 use Rattle.clap.specs.Words.{App, FailsBy, HasKind, HasMatchesOf, Row, Rule, Shape, Text, built, fault_of, first_of, is_simple_and_free, subcommand_name_of, subcommand_of, subcommand_rows_of}
 use Rattle.clap.specs.declared.error.Error.{Error}
 use Rattle.clap.specs.declared.parser.matches.ArgMatches.{ArgMatches}
-use Rattle.sgb_requests.specs.CommandLine.{AsksAlone, Enters, HasNoCommand, IsTaken, asked_by, called_by, command_line, output_shape, save_shape}
+use Rattle.sgb_requests.specs.CommandLine.{AsksAlone, Enters, HasNoCommand, IsTaken, alone_shape, asked_by, called_by, command_line, output_shape}
 use Rattle.sgb_requests.proofs.ClapValues.{name_by_rows, or_false, pair_is}
 use Rattle.sgb_requests.proofs.ClapHelp.{IsNotHelp, walk_stops}
 use Rattle.sgb_requests.proofs.ClapRequired.{each_valued, is_valued, none_first, none_second, required_first}
@@ -40,9 +40,9 @@ built_line = built command_line
 abbrev output_leaf : Text → Shape
 output_leaf name = built_leaf (inherited (with_leaf_noted (marked_built command_line.top)) (output_shape name))
 
--- its command `save`, which has `EXPR` alone
-abbrev save_leaf : Shape
-save_leaf = built_leaf (inherited (with_leaf_noted (marked_built command_line.top)) save_shape)
+-- its command of this name that has `EXPR` alone
+abbrev alone_leaf : Text → Shape
+alone_leaf name = built_leaf (inherited (with_leaf_noted (marked_built command_line.top)) (alone_shape name))
 
 -- its command `queen`, which has no argument
 abbrev queen_leaf : Shape
@@ -50,7 +50,8 @@ queen_leaf = built_leaf (inherited (with_leaf_noted (marked_built command_line.t
 
 -- its commands, as the program knows them
 abbrev commands : List Shape
-commands = output_leaf (codes "names") ∷ output_leaf (codes "list") ∷ save_leaf ∷ queen_leaf ∷ []
+commands =
+    output_leaf (codes "names") ∷ output_leaf (codes "list") ∷ alone_leaf (codes "save") ∷ queen_leaf ∷ alone_leaf (codes "flip") ∷ []
 
 -- its command `help`, which clap adds
 abbrev help_leaf : Shape
@@ -123,37 +124,41 @@ first_entered s a rest e valued first required is =
 abbrev HasExpression : Text → Text × List Row → Type 0
 HasExpression name e = (e.0 ≡ name) × IsSome (first_of (codes "EXPR") e.1)
 
--- a command that writes a graph, once it is entered
+-- a command that begins where the options say, once it is entered
 output_entered : (name : Text) (e : Text × List Row) → IsEntered (output_leaf name) e → HasExpression name e
 output_entered name e is = first_entered (output_leaf name) _ _ e refl refl refl is
 
--- `save`, once it is entered
-save_entered : (e : Text × List Row) → IsEntered save_leaf e → HasExpression (codes "save") e
-save_entered e is = first_entered save_leaf _ _ e refl refl refl is
+-- a command of an expression alone, once it is entered
+alone_entered : (name : Text) (e : Text × List Row) → IsEntered (alone_leaf name) e → HasExpression name e
+alone_entered name e is = first_entered (alone_leaf name) _ _ e refl refl refl is
 
 -- a command is entered under its name
 name_entered : (s : Shape) (e : Text × List Row) → IsEntered s e → e.0 ≡ s.name
 name_entered s e is = subst (λ (e : Text × List Row). e.0 ≡ s.name) is.rows refl
 
--- `names`, `list` or `save` is entered, with its expression, or `queen`
+-- `names`, `list`, `save` or `flip` is entered, with its expression, or `queen`
 abbrev IsCommandEntered : Text × List Row → Type 0
 IsCommandEntered e =
-    HasExpression (codes "names") e ⊎ (HasExpression (codes "list") e ⊎ (HasExpression (codes "save") e ⊎ (e.0 ≡ codes "queen")))
+    HasExpression (codes "names") e
+    ⊎ (HasExpression (codes "list") e
+    ⊎ (HasExpression (codes "save") e ⊎ ((e.0 ≡ codes "queen") ⊎ HasExpression (codes "flip") e)))
 
 -- which of the commands it is
 which_entered : (e : Text × List Row) → IsOneEntered commands e → IsCommandEntered e
 which_entered e (inl names) = inl (output_entered _ e names)
 which_entered e (inr (inl list)) = inr (inl (output_entered _ e list))
-which_entered e (inr (inr (inl save))) = inr (inr (inl (save_entered e save)))
-which_entered e (inr (inr (inr (inl queen)))) = inr (inr (inr (name_entered queen_leaf e queen)))
-which_entered e (inr (inr (inr (inr none)))) = absurd none
+which_entered e (inr (inr (inl save))) = inr (inr (inl (alone_entered _ e save)))
+which_entered e (inr (inr (inr (inl queen)))) = inr (inr (inr (inl (name_entered queen_leaf e queen))))
+which_entered e (inr (inr (inr (inr (inl flip))))) = inr (inr (inr (inr (alone_entered _ e flip))))
+which_entered e (inr (inr (inr (inr (inr none))))) = absurd none
 
 -- its expression is there, unless it is `queen`
 expression_there : (e : Text × List Row) → e.0 ≢ codes "queen" → IsCommandEntered e → IsSome (first_of (codes "EXPR") e.1)
 expression_there e other (inl names) = names.1
 expression_there e other (inr (inl list)) = list.1
 expression_there e other (inr (inr (inl save))) = save.1
-expression_there e other (inr (inr (inr queen))) = absurd (other queen)
+expression_there e other (inr (inr (inr (inl queen)))) = absurd (other queen)
+expression_there e other (inr (inr (inr (inr flip)))) = flip.1
 
 -- the command of these matches is the one that the words enter
 pub entered_is : (words : List Text) (m : ArgMatches) (name : Text) (rows : List Row) → IsTaken words m → subcommand_name_of m ≡ Some name
@@ -185,8 +190,8 @@ asks_alone words m name rows text is named has first = record {
 -- where none of the commands is entered, no command is
 pub not_called : (words : List Text) (m : ArgMatches) → IsTaken words m → (subcommand_name_of m ≡ Some (codes "names") → ⊥)
     → (subcommand_name_of m ≡ Some (codes "list") → ⊥) → (subcommand_name_of m ≡ Some (codes "save") → ⊥)
-    → (subcommand_name_of m ≡ Some (codes "queen") → ⊥) → HasNoCommand words
-not_called words m is no_names no_list no_save no_queen = go (subcommand_of command_line words) refl
+    → (subcommand_name_of m ≡ Some (codes "queen") → ⊥) → (subcommand_name_of m ≡ Some (codes "flip") → ⊥) → HasNoCommand words
+not_called words m is no_names no_list no_save no_queen no_flip = go (subcommand_of command_line words) refl
   where
     go : (o : Option (Text × List Row)) → subcommand_of command_line words ≡ o → HasNoCommand words
     go None e = inr (ap (option_map asked_by) e)
@@ -199,4 +204,5 @@ not_called words m is no_names no_list no_save no_queen = go (subcommand_of comm
         which (inl names) = no_names (named ∙ ap Some names.0)
         which (inr (inl list)) = no_list (named ∙ ap Some list.0)
         which (inr (inr (inl save))) = no_save (named ∙ ap Some save.0)
-        which (inr (inr (inr queen))) = no_queen (named ∙ ap Some queen)
+        which (inr (inr (inr (inl queen)))) = no_queen (named ∙ ap Some queen)
+        which (inr (inr (inr (inr flip)))) = no_flip (named ∙ ap Some flip.0)

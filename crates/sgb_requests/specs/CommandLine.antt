@@ -28,9 +28,9 @@ output_shape name = record (new_shape name) {
   rules = expression_rule ∷ option_rule (codes "after") ∷ option_rule (codes "skip") ∷ [];
 }
 
--- the command `save`, with `EXPR` alone
-abbrev pub save_shape : Shape
-save_shape = record (new_shape (codes "save")) { rules = expression_rule ∷ [] }
+-- the command of this name, with `EXPR` alone
+abbrev pub alone_shape : Text → Shape
+alone_shape name = record (new_shape name) { rules = expression_rule ∷ [] }
 
 -- `sgb` with the commands that begin where the options say
 abbrev pub output_command_line : App
@@ -38,7 +38,9 @@ output_command_line = with_subcommand (with_subcommand (new_app (codes "sgb")) (
 
 -- `sgb` and its commands
 abbrev pub command_line : App
-command_line = with_subcommand (with_subcommand output_command_line save_shape) (new_shape (codes "queen"))
+command_line =
+    with_subcommand (with_subcommand (with_subcommand output_command_line (alone_shape (codes "save"))) (new_shape (codes "queen")))
+    (alone_shape (codes "flip"))
 
 -- a command with the values of its argument and its options, as the words give them
 pub record Asked : Type 0 where
@@ -120,6 +122,7 @@ EntersSubcommand words (subcommand.Names values) = AsksBy words (codes "names") 
 EntersSubcommand words (subcommand.List values) = AsksBy words (codes "list") values
 EntersSubcommand words (subcommand.Save text) = AsksAlone words (codes "save") text.now
 EntersSubcommand words subcommand.Queen = Enters words (codes "queen")
+EntersSubcommand words (subcommand.Flip text) = AsksAlone words (codes "flip") text.now
 
 -- the words are refused with this fault before their values are looked at
 abbrev pub IsRefusedAtOnce : List Text → Fault → Type 0

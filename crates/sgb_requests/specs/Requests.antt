@@ -4,7 +4,7 @@ use Rattle.std.specs.Str.Parse.{digits_value}
 use Rattle.clap.specs.Words.{Text}
 use Rattle.sgb_requests.specs.CommandLine.{Asks, AsksAlone, Enters, HasNoCommand}
 use Rattle.sgb_requests.specs.Counts.{IsDigits}
-use Rattle.sgb_requests.specs.Reading.{IsReadAs}
+use Rattle.sgb_requests.specs.Reading.{IsFlipReadAs, IsReadAs}
 use Rattle.sgb_vec.specs.declared.panics.Panic.TheVariants.{NoRoom}
 use Rattle.sgb_expr.specs.declared.expressions.Expr.{Expr}
 use Rattle.sgb_requests.specs.declared.faults.Fault.{Fault}
@@ -67,15 +67,21 @@ IsRequest words (request.Names e resume) = IsAskedOf words (codes "names") e res
 IsRequest words (request.List e resume) = IsAskedOf words (codes "list") e resume
 IsRequest words (request.Save e) = (text : Text) × AsksAlone words (codes "save") text × IsReadAs text (Ok e)
 IsRequest words request.Queen = Enters words (codes "queen")
+IsRequest words (request.Flip p) = (text : Text) × AsksAlone words (codes "flip") text × IsFlipReadAs text (Ok p)
+
+-- the command begins where the options say
+abbrev pub TakesOptions : Text → Type 0
+TakesOptions command = (command ≡ codes "names") ⊎ (command ≡ codes "list")
 
 -- the words are refused with this fault; out of memory any may be
 abbrev pub IsRefusedCommandLine : List Text → Fault → Type 0
 IsRefusedCommandLine words fault.Usage = IsInvalidCommandLine words
 IsRefusedCommandLine words (fault.Panic p) = p ≡ NoRoom
 IsRefusedCommandLine words f =
-    ((command text : Text) × (after skip : Option Text)
+    ((command text : Text) × (after skip : Option Text) × TakesOptions command
     × Asks words command text after skip × GoTogether after skip × IsReadAs text (Err f))
-    ⊎ ((text : Text) × AsksAlone words (codes "save") text × IsReadAs text (Err f))
+    ⊎ (((text : Text) × AsksAlone words (codes "save") text × IsReadAs text (Err f))
+    ⊎ ((text : Text) × AsksAlone words (codes "flip") text × IsFlipReadAs text (Err f)))
 
 -- what the words are read as: a request, or the fault that they are refused with
 abbrev pub IsCommandLineReadAs : List Text → Result Request Fault → Type 0

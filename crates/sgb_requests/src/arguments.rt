@@ -5,7 +5,7 @@ ghost use Rattle.std.specs.String.{string_bytes};
 ghost use Rattle.clap.specs.Words.{HasKind, app_of, fault_of, first_of, found_of, rows_of, rule_of, shape_of};
 ghost use Rattle.clap.specs.declared.builder.command.Command.TheViews.{out-Command};
 ghost use Rattle.sgb_requests.specs.CommandLine.{Gives, EntersSubcommand, IsRefusedAtOnce, IsTaken, command_line};
-ghost use Rattle.sgb_requests.specs.CommandLine.{expression_rule, option_rule, output_command_line, output_shape, save_shape};
+ghost use Rattle.sgb_requests.specs.CommandLine.{alone_shape, expression_rule, option_rule, output_command_line, output_shape};
 
 use crate::faults::Fault;
 use clap::error::ErrorKind;
@@ -32,6 +32,8 @@ pub(crate) enum Subcommand<'a> {
     Save(&'a str),
     /// `queen`.
     Queen,
+    /// `flip EXPR`.
+    Flip(&'a str),
 }
 
 impl From<Error> for Fault {
@@ -72,6 +74,9 @@ pub(crate) fn entered_subcommand<'a>(
     if matches.subcommand_matches("queen").is_some() {
         return Ok(Subcommand::Queen);
     }
+    if let Some(entered) = matches.subcommand_matches("flip") {
+        return Ok(Subcommand::Flip(expression_in(entered)));
+    }
     Err(Fault::Usage)
 }
 
@@ -88,8 +93,9 @@ fn command_line<'a>(alloc: Global) -> Result<Command<'a>, AllocError>
     ensures { IfOk result (λ c. app_of c ≡ command_line) }
 {
     output_command_line(alloc)?
-        .subcommand(save_command(alloc)?)?
-        .subcommand(Command::new(alloc, "queen"))
+        .subcommand(alone_command(alloc, "save")?)?
+        .subcommand(Command::new(alloc, "queen"))?
+        .subcommand(alone_command(alloc, "flip")?)
 }
 
 // `sgb` with the commands that begin where the options say.
@@ -113,12 +119,12 @@ fn output_command<'a>(alloc: Global, name: &'a str) -> Result<Command<'a>, Alloc
         .arg(value_option(alloc, "skip"))
 }
 
-// The command `save`, with `EXPR` alone.
-fn save_command<'a>(alloc: Global) -> Result<Command<'a>, AllocError>
-    ensures shape { IfOk result (λ c. shape_of c ≡ save_shape) }
+// The command of this name, with `EXPR` alone.
+fn alone_command<'a>(alloc: Global, name: &'a str) -> Result<Command<'a>, AllocError>
+    ensures shape { IfOk result (λ c. shape_of c ≡ alone_shape name.entry.now) }
     ensures local { IfOk result (λ c. (out-Command c).has_globals ≡ false) }
 {
-    Command::new(alloc, "save").arg(expression_argument(alloc))
+    Command::new(alloc, name).arg(expression_argument(alloc))
 }
 
 // `EXPR`, which is required.

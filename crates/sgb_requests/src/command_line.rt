@@ -9,7 +9,7 @@ ghost use Rattle.sgb_requests.specs.Counts.{IsDigits};
 ghost use Rattle.sgb_requests.specs.Requests.{AreReadAs, AreRefused, IsCommandLineReadAs, IsResumeFault, IsResumeOf};
 
 use crate::arguments::{Arguments, Subcommand, entered_subcommand};
-use crate::expressions::parse_expr;
+use crate::expressions::{parse_expr, parse_flip};
 use crate::faults::Fault;
 use crate::requests::{Name, Request, Resume};
 use sgb_expr::Expr;
@@ -19,11 +19,11 @@ use std::alloc::Global;
 const MOST_DIGITS: usize = 18;
 
 /// The request that the words make, of which the first is the program's name: `names EXPR` or `list EXPR`,
-/// each with `--after NAME`, with `--skip K` or with neither, `save EXPR`, or `queen`, as clap reads them.
+/// each with `--after NAME`, with `--skip K` or with neither, `save EXPR`, `queen`, or `flip EXPR`, as clap reads them.
 ///
 /// `Usage` where clap refuses the words or has a text of its own for them, where no command stands, where both
 /// options stand, and where K is not 1 to 18 decimal digits. After that `TooLarge` and `Expr(k)` as `parse_expr`
-/// returns them. `Panic(NoRoom)` when out of memory.
+/// returns them, and `parse_flip` for `flip`. `Panic(NoRoom)` when out of memory.
 pub fn request(alloc: Global, words: &[String]) -> Result<Request, Fault>
     ensures { IsCommandLineReadAs (map string_bytes words.now) result }
 {
@@ -41,6 +41,10 @@ pub fn request(alloc: Global, words: &[String]) -> Result<Request, Fault>
             Ok(Request::Save(graph))
         }
         Subcommand::Queen => Ok(Request::Queen),
+        Subcommand::Flip(text) => {
+            let params = parse_flip(text.as_bytes())?;
+            Ok(Request::Flip(params))
+        }
     }
 }
 

@@ -1,11 +1,13 @@
-//! Expressions read for a request.
+//! Expressions and flips read for a request.
 ghost use Rattle.std.specs.Prelude.{◌≡◌, IfOk, List, ℕ};
 ghost use Rattle.sgb_expr.specs.Expression.{Expression, expression_of};
 ghost use Rattle.sgb_expr.specs.Expressions.{IsExpression};
-ghost use Rattle.sgb_requests.specs.Reading.{IsReadAs};
+ghost use Rattle.sgb_expr.specs.FlipTexts.{IsFlip};
+ghost use Rattle.sgb_expr.specs.declared.flips.FlipParams.{FlipParams};
+ghost use Rattle.sgb_requests.specs.Reading.{IsFlipReadAs, IsReadAs};
 
 use crate::faults::Fault;
-use sgb_expr::{Expr, Unread, read_expr};
+use sgb_expr::{Expr, FlipParams, Unread, read_expr, read_flip};
 use sgb_vec::Panic;
 use std::alloc::Global;
 
@@ -36,6 +38,18 @@ pub fn parse_expr(alloc: Global, text: &[u8]) -> Result<Expr, Fault>
 {
     let expression = read_expr(alloc, text)?;
     Ok(expression)
+}
+
+/// The flip that the text is: `flip(START,SKIP,COUNT,M)` with integers as in expressions, and no spaces.
+///
+/// `TooLarge` before all else, as `parse_expr` returns it. `Expr(k)` where it is no flip; its first k bytes are its
+/// longest prefix that begins one.
+pub fn parse_flip(text: &[u8]) -> Result<FlipParams, Fault>
+    ensures read { IsFlipReadAs text.now result }
+    ensures only { (p : FlipParams) → IsFlip text.now p → IfOk result (λ read. read ≡ p) }
+{
+    let params = read_flip(text)?;
+    Ok(params)
 }
 
 #[cfg(test)]

@@ -2,7 +2,7 @@
 
 ghost use Rattle.std.specs.Prelude.{◌≡◌, IfOk, IsOkUnless};
 
-use sgb_expr::Expr;
+use sgb_expr::{Expr, FlipParams};
 use sgb_vec::Panic;
 use std::alloc::Global;
 use std::marker::Model;
@@ -61,4 +61,6 @@ pub enum Request {
     Save(Expr),
     /// The moves of queens on a board of three rows and four columns.
     Queen,
+    /// Random numbers, one a line (GB_FLIP).
+    Flip(FlipParams),
 }

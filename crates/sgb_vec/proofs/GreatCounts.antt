@@ -1,17 +1,18 @@
 -- Whether more vectors than a graph may have vertices add to some number, told from the rows of counts.
-use Rattle.std.proofs.Common.{◌≡◌, ℕ, suc, zero, ◌+◌, ◌-◌, ◌<◌, ◌≤◌, Bool, true, false, List, [], ◌∷◌, length, take, sum, get_or, min, refl, sym, ap, ◌∙◌, inl, inr, arith}
-use Rattle.std.specs.List.{All, list_any, range_with_len}
-use Rattle.std.specs.Prelude.{nat_lt}
-use Rattle.std.proofs.lemmas.Bool.{cases_lt, lt-ltb, le-ltb, ltb-true, or_from, both_ways}
-use Rattle.std.proofs.lemmas.List.{get_or_default, get_or_past}
-use Rattle.std.proofs.lemmas.List.Elements.{All-get_or, All-from_get_or}
+use Rattle.std.proofs.Common.{◌≡◌, ℕ, suc, zero, ◌+◌, ◌-◌, ◌*◌, ◌<◌, ◌≤◌, Bool, true, false, List, [], ◌∷◌, length, take, sum, get_or, min, refl, ap, ◌∙◌, inl, inr, arith}
+use Rattle.std.specs.List.{All, list_any, range_with_len, remove}
+use Rattle.std.specs.Prelude.{nat_lt, nat_le, ◌/◌, ◌⊎◌}
+use Rattle.std.proofs.lemmas.Bool.{cases_lt, lt-ltb, le-ltb, ltb-true, leb-true, and_parts, or_from, both_ways}
+use Rattle.std.proofs.lemmas.List.{get_or_default, take_all}
+use Rattle.std.proofs.lemmas.List.Elements.{All-from_get_or}
 use Rattle.std.proofs.lemmas.List.Folds.{list_any_at, Any-from_list_any}
-use Rattle.std.proofs.lemmas.List.Sums.{sum_by-take-le}
 use Rattle.std.proofs.lemmas.List.FromFn.{length-range_with_len, get_or-range_with_len}
 use Rattle.sgb_vec.specs.Limits.{most_vertices}
 use Rattle.sgb_vec.specs.Sums.{count_of_sum, has_great_count}
-use Rattle.sgb_vec.specs.SumRows.{CountsSums}
-use Rattle.sgb_vec.proofs.SumCounts.{count_of_sum-nil, count_of_sum-one, count_of_sum-far}
+use Rattle.sgb_vec.specs.SumRows.{CountsSums, HasGreatSum, great_bound, has_great_three}
+use Rattle.sgb_vec.proofs.SumCounts.{count_of_sum-nil, count_of_sum-cons, count_of_sum-remove, count_of_sum-cons_le, count_of_sum-take_le, counts_rise}
+use Rattle.sgb_vec.proofs.Hills.{hill_top}
+use Rattle.sgb_vec.proofs.Windows.{window, window_same, window_le, window_prefix, up_to, up_to_ones, up_to_le, up_to-suc, one_at_zero, window-one_at_zero_prefix}
 
 -- a number in a range that passes
 list_any-range : (p : ℕ → Bool) (a n k : ℕ) → a ≤ k → k < a + n → p k ≡ true → list_any p (range_with_len a n) ≡ true
@@ -26,22 +27,6 @@ list_any-range_none p zero a none = refl
 list_any-range_none p (suc n) a none =
     or_from (p a) (list_any p (range_with_len (a + 1) n)) (none a (omega arith) (omega arith)) (list_any-range_none p n (a + 1) (λ k low high. none k (omega arith) (omega arith)))
 
--- the counts of the first j bounds are not too great, for each sum below len and each j up to i
-pub record FewUpTo (i len : ℕ) (bounds : List ℕ) : Type 0 where
-  pub few : (j k : ℕ) → j ≤ i → k < len → count_of_sum k (take j bounds) ≤ most_vertices
-
--- of no bounds none is too great
-pub FewUpTo-nil : (len : ℕ) (bounds : List ℕ) → FewUpTo 0 len bounds
-FewUpTo-nil len bounds = record { few = few }
-  where
-    none : (k : ℕ) → count_of_sum k [] ≤ most_vertices
-    none zero = omega (arith, count_of_sum-nil 0)
-    none (suc k) = omega (arith, count_of_sum-nil (suc k))
-
-    few : (j k : ℕ) → j ≤ 0 → k < len → count_of_sum k (take j bounds) ≤ most_vertices
-    few zero k h l = none k
-    few (suc j) k h l = absurd (omega arith)
-
 -- in a row in which no count is too great
 not_great : (row : List ℕ) (k : ℕ) → list_any (λ count. nat_lt most_vertices count) row ≡ false → k < length row → get_or row k 0 ≤ most_vertices
 not_great row k none h =
@@ -50,65 +35,93 @@ not_great row k none h =
       | inr small ↦ small
     ]
 
--- one more bound, with no count too great
-pub FewUpTo-more : (i : ℕ) (row bounds : List ℕ) → FewUpTo i (length row) bounds → CountsSums row (take (i + 1) bounds) → list_any (λ count. nat_lt most_vertices count) row ≡ false → FewUpTo (i + 1) (length row) bounds
-FewUpTo-more i row bounds before counts none = record {
-  few = λ j k h l. elim (cases_lt j (i + 1)) [
-    | inl earlier ↦ before.few j k (omega arith) l
-    | inr here ↦
-        let same : count_of_sum k (take j bounds) ≡ count_of_sum k (take (i + 1) bounds) = let e : j ≡ i + 1 = omega arith in ap (λ m. count_of_sum k (take m bounds)) e in
-        omega (arith, counts.at k l, not_great row k none l)
-  ];
-}
+-- a row of counts of which none is too great
+pub All-from_none : (row : List ℕ) → list_any (λ count. nat_lt most_vertices count) row ≡ false → All (λ count. count ≤ most_vertices) row
+All-from_none row none = All-from_get_or (λ count. count ≤ most_vertices) row 0 (λ k h. not_great row k none h)
 
--- a row of counts that are not too great
-pub All-from_few : (i : ℕ) (row bounds : List ℕ) → FewUpTo i (length row) bounds → CountsSums row (take i bounds) → All (λ count. count ≤ most_vertices) row
-All-from_few i row bounds before counts =
-    All-from_get_or (λ count. count ≤ most_vertices) row 0 (λ k h. omega (arith, counts.at k h, before.few i k (omega arith) h))
-
--- so is what is read of it; after the row that is 0
-pub get_or_small : (row : List ℕ) (k : ℕ) → All (λ count. count ≤ most_vertices) row → get_or row k 0 ≤ most_vertices
-get_or_small row k small =
-    elim (cases_lt k (length row)) [
-      | inl here ↦ All-get_or (λ count. count ≤ most_vertices) row k 0 here small
-      | inr after ↦ omega (arith, get_or_past row k 0 after)
-    ]
-
--- the first bound alone has no count above 1
-count_of_sum-first : (bounds : List ℕ) (k : ℕ) → count_of_sum k (take 1 bounds) ≤ 1
-count_of_sum-first [] zero = omega (arith, count_of_sum-nil 0)
-count_of_sum-first [] (suc k) = omega (arith, count_of_sum-nil (suc k))
-count_of_sum-first (b ∷ bounds) k = count_of_sum-one b k
-
--- a count too great is one of two bounds at least
-two_bounds : (bounds : List ℕ) (j k : ℕ) → most_vertices < count_of_sum k (take (j + 1) bounds) → 0 < j
-two_bounds bounds zero k h = absurd (omega (arith, count_of_sum-first bounds k))
-two_bounds bounds (suc j) k h = omega arith
-
--- a count too great in the row of the first j + 1 bounds
-pub has_great_count-from_row : (n : ℕ) (row bounds : List ℕ) (j : ℕ) → CountsSums row (take (j + 1) bounds) → j < length bounds → length row ≤ n + 1 → list_any (λ count. nat_lt most_vertices count) row ≡ true → has_great_count n bounds ≡ true
-unfolding has_great_count
-has_great_count-from_row n row bounds j counts within short great =
+-- a count too great in a row of the first bounds is one of all bounds
+pub HasGreatSum-from_row : (n : ℕ) (row bounds : List ℕ) (j : ℕ) → CountsSums n row (take j bounds) → length row ≤ n + 1 → list_any (λ count. nat_lt most_vertices count) row ≡ true → HasGreatSum n bounds
+HasGreatSum-from_row n row bounds j counts short great =
     let found = Any-from_list_any (λ count. nat_lt most_vertices count) row great in
     let k : ℕ = found.0 in
     let h : k < length row = found.2 in
     let count_is : get_or row k 0 ≡ found.1 = get_or_default row k 0 found.1 h ∙ found.3 in
-    let above : most_vertices < count_of_sum k (take (j + 1) bounds) = omega (arith, ltb-true most_vertices found.1 found.4, counts.at k h) in
-    let inner = list_any-range (λ i. nat_lt most_vertices (count_of_sum i (take (j + 1) bounds))) 0 (n + 1) k (omega arith) (omega arith) (lt-ltb most_vertices (count_of_sum k (take (j + 1) bounds)) above) in
-    let second = two_bounds bounds j k above in
+    record {
+      at = k;
+      low = omega arith;
+      great = omega (arith, ltb-true most_vertices found.1 found.4, counts.at k (omega arith), count_of_sum-take_le bounds j k);
+    }
+
+-- two bounds more leave it too great
+pub HasGreatSum-two : (n a b : ℕ) (others : List ℕ) → HasGreatSum n others → HasGreatSum n (a ∷ b ∷ others)
+HasGreatSum-two n a b others h = record {
+  at = h.at;
+  low = h.low;
+  great = omega (arith, h.great, count_of_sum-cons_le b others h.at, count_of_sum-cons_le a (b ∷ others) h.at);
+}
+
+-- equal counts are too great for the same sum
+pub HasGreatSum-same : (n : ℕ) (xs ys : List ℕ) → ((k : ℕ) → count_of_sum k ys ≡ count_of_sum k xs) → HasGreatSum n xs → HasGreatSum n ys
+HasGreatSum-same n xs ys e h = record { at = h.at; low = h.low; great = omega (arith, h.great, e h.at) }
+
+-- three great bounds: each triple of numbers that add to g is within them
+three_great : (g a b c : ℕ) (f : ℕ → ℕ) → ((i : ℕ) → one_at_zero i ≤ f i) → g ≤ a → g ≤ b → g ≤ c → (g + 1) * (g + 2) ≤ 2 * window a (window b (window c f)) g
+three_great g a b c f h la lb lc =
+    let one : (i : ℕ) → i ≤ g → 1 ≤ window c f i = λ i l. omega (arith, window_le c one_at_zero f i (λ j _. h j), window-one_at_zero_prefix c i (omega arith)) in
+    let two : (i : ℕ) → i ≤ g → i + 1 ≤ window b (window c f) i = λ i l. omega (arith, window_prefix b (window c f) i (omega arith), up_to_ones (window c f) i (λ j m. one j (omega arith))) in
+    let all : window a (window b (window c f)) g ≡ up_to (window b (window c f)) g = window_prefix a (window b (window c f)) g la in
+    let more : up_to (λ i. i + 1) g ≤ up_to (window b (window c f)) g = up_to_le (λ i. i + 1) (window b (window c f)) g two in
+    omega (arith, all, more, up_to-suc g)
+
+-- the zero vector alone
+count_of_sum-ge : (bounds : List ℕ) (k : ℕ) → one_at_zero k ≤ count_of_sum k bounds
+count_of_sum-ge bounds k = omega (arith, count_of_sum-nil k, count_of_sum-take_le bounds 0 k)
+
+-- where there are three great bounds, great_bound has too many vectors
+pub HasGreatSum-three : (n a b : ℕ) (others : List ℕ) → has_great_three n a b others ≡ true → HasGreatSum n (a ∷ b ∷ others)
+HasGreatSum-three n a b others h =
+    let parts = and_parts (nat_le great_bound (min (min n a) b)) (list_any (λ c. nat_le great_bound c) others) h in
+    let low : great_bound ≤ min (min n a) b = leb-true great_bound (min (min n a) b) parts.0 in
+    let found = Any-from_list_any (λ c. nat_le great_bound c) others parts.1 in
+    let i : ℕ = found.0 in
+    let c : ℕ = get_or others i 0 in
+    let c_is : c ≡ found.1 = get_or_default others i 0 found.1 found.2 ∙ found.3 in
+    let left = remove others i in
+    let f : ℕ → ℕ = λ k. count_of_sum k left in
+    let last : (k : ℕ) → count_of_sum k others ≡ window c f k = λ k. count_of_sum-remove others i k found.2 ∙ count_of_sum-cons c left k in
+    let all : count_of_sum great_bound (a ∷ b ∷ others) ≡ window a (window b (window c f)) great_bound =
+    count_of_sum-cons a (b ∷ others) great_bound
+    ∙ window_same a (λ k. count_of_sum k (b ∷ others)) (window b (window c f)) great_bound (λ k _. count_of_sum-cons b others k ∙ window_same b (λ m. count_of_sum m others) (window c f) k (λ m _. last m)) in
+    record {
+      at = great_bound;
+      low = omega arith;
+      great = omega (arith, all, three_great great_bound a b c f (count_of_sum-ge left) (omega arith) (omega arith) (omega (arith, leb-true great_bound found.1 found.4)));
+    }
+
+-- a sum with too many vectors
+pub has_great_count-from_sum : (n : ℕ) (bounds : List ℕ) → 2 ≤ length bounds → HasGreatSum n bounds → has_great_count n bounds ≡ true
+unfolding has_great_count
+has_great_count-from_sum n bounds long h =
+    let j : ℕ = length bounds - 1 in
+    let all : take (j + 1) bounds ≡ bounds = take_all (j + 1) bounds (omega arith) in
+    let above : most_vertices < count_of_sum h.at (take (j + 1) bounds) = omega (arith, h.great, ap (count_of_sum h.at) all) in
+    let inner = list_any-range (λ i. nat_lt most_vertices (count_of_sum i (take (j + 1) bounds))) 0 (n + 1) h.at (omega arith) (omega (arith, h.low)) (lt-ltb most_vertices (count_of_sum h.at (take (j + 1) bounds)) above) in
     list_any-range (λ i. list_any (λ m. nat_lt most_vertices (count_of_sum m (take (i + 1) bounds))) (range_with_len 0 (n + 1))) 1 (length bounds - 1) j (omega arith) (omega arith) inner
 
--- no count too great in any row
-pub has_great_count-none : (n len : ℕ) (bounds : List ℕ) → len ≡ min n (sum bounds) + 1 → FewUpTo (length bounds) len bounds → has_great_count n bounds ≡ false
+-- no sum with too many: the greatest count is at half the sum of the bounds, or at n before it
+pub has_great_count-none : (n m : ℕ) (bounds : List ℕ) → m ≡ min n (sum bounds / 2) → count_of_sum m bounds ≤ most_vertices → has_great_count n bounds ≡ false
 unfolding has_great_count
-has_great_count-none n len bounds long before =
-    let small : (j k : ℕ) → j < length bounds → k ≤ n → count_of_sum k (take (j + 1) bounds) ≤ most_vertices = λ j k h l. elim (cases_lt k len) [
-      | inl counted ↦ before.few (j + 1) k (omega arith) counted
-      | inr after ↦ omega (arith, count_of_sum-far (take (j + 1) bounds) k (omega (arith, sum_by-take-le (λ x. x) bounds (j + 1))))
+has_great_count-none n m bounds top few =
+    let f : ℕ → ℕ = λ k. count_of_sum k bounds in
+    let side : m ≡ n ⊎ (sum bounds ≤ m + m + 1) = elim (cases_lt m n) [
+      | inl before ↦ inr (omega arith)
+      | inr same ↦ inl (omega arith)
     ] in
+    let small : (j k : ℕ) → k ≤ n → count_of_sum k (take (j + 1) bounds) ≤ most_vertices = λ j k l.
+    omega (arith, few, count_of_sum-take_le bounds (j + 1) k, hill_top f (sum bounds) (counts_rise bounds) n m k (omega arith) (omega arith) side l) in
     list_any-range_none (λ i. list_any (λ m. nat_lt most_vertices (count_of_sum m (take (i + 1) bounds))) (range_with_len 0 (n + 1))) (length bounds - 1) 1 (λ j low high.
     list_any-range_none (λ i. nat_lt most_vertices (count_of_sum i (take (j + 1) bounds))) (n + 1) 0 (λ k first last.
-    le-ltb most_vertices (count_of_sum k (take (j + 1) bounds)) (small j k (omega arith) (omega arith))))
+    le-ltb most_vertices (count_of_sum k (take (j + 1) bounds)) (small j k (omega arith))))
 
 -- of one bound or none no count is too great
 pub has_great_count-few : (n : ℕ) (bounds : List ℕ) → length bounds < 2 → has_great_count n bounds ≡ false
@@ -116,11 +129,3 @@ unfolding has_great_count
 has_great_count-few n [] short = refl
 has_great_count-few n (b ∷ []) short = refl
 has_great_count-few n (b ∷ c ∷ bounds) short = absurd (omega arith)
-
--- the count of n stands at its place in the row; after the row it is 0
-pub count_of_sum-in_row : (n : ℕ) (row bounds : List ℕ) → length row ≡ min n (sum bounds) + 1 → CountsSums row bounds → count_of_sum n bounds ≡ get_or row n 0
-count_of_sum-in_row n row bounds long counts =
-    elim (cases_lt n (length row)) [
-      | inl here ↦ sym (counts.at n here)
-      | inr after ↦ count_of_sum-far bounds n (omega arith) ∙ sym (get_or_past row n 0 after)
-    ]

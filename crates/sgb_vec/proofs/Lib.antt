@@ -4,8 +4,10 @@ pub mod BoxOrder
 pub mod BoxPlaces
 pub mod BoxRanks
 pub mod BoxSuccessors
+pub mod Convolutions
 pub mod Examples
 pub mod GreatCounts
+pub mod Hills
 pub mod NameReading
 pub mod Numerals
 pub mod Products

@@ -1,13 +1,15 @@
 -- How many vectors within bounds add to a number: one more bound sums the counts over a window.
-use Rattle.std.proofs.Common.{◌≡◌, ℕ, suc, zero, ◌+◌, ◌<◌, ◌≤◌, Bool, true, false, cond, eqb, List, [], ◌∷◌, ◌++◌, length, map, filter, sum, refl, sym, ap, ◌∙◌, add-one, arith, length-append}
-use Rattle.std.specs.List.{flat_map, range_with_len}
+use Rattle.std.proofs.Common.{◌≡◌, ℕ, suc, zero, ◌+◌, ◌<◌, ◌≤◌, Bool, true, false, cond, eqb, List, [], ◌∷◌, ◌++◌, length, map, filter, take, sum, get_or, refl, sym, ap, subst, ◌∙◌, add-one, arith, length-append}
+use Rattle.std.specs.List.{flat_map, range_with_len, remove}
 use Rattle.std.proofs.lemmas.Bool.{ne_eqb}
 use Rattle.std.proofs.lemmas.Bool.Decides.{same_from_decides, Decides-like, Decides-eqb}
 use Rattle.std.proofs.lemmas.List.Elements.{filter-append}
 use Rattle.std.proofs.lemmas.List.Sums.{sum_by-cons}
 use Rattle.sgb_vec.specs.Boxes.{box}
 use Rattle.sgb_vec.specs.Sums.{bounded_sums, count_of_sum}
-use Rattle.sgb_vec.proofs.Windows.{shifted, window, window_same, window_comm, window_far, one_at_zero, window-one_at_zero, window-one_at_zero_prefix}
+use Rattle.sgb_vec.proofs.Convolutions.{products_from, products_same_factors, windows-products}
+use Rattle.sgb_vec.proofs.Hills.{IsHill, IsHill-same, IsHill-window}
+use Rattle.sgb_vec.proofs.Windows.{shifted, window, window_same, window_comm, window_far, window-last_le, window_le, one_at_zero, window-one_at_zero_prefix}
 
 -- the sequence x places later, with 0 in front
 abbrev later : ℕ → (ℕ → ℕ) → ℕ → ℕ
@@ -113,11 +115,6 @@ count_of_sum-nil (suc k) =
     let other : eqb 0 (suc k) ≡ false = ne_eqb 0 (suc k) (λ e. absurd (omega arith)) in
     rw other refl
 
--- at most one vector of one bound
-pub count_of_sum-one : (b k : ℕ) → count_of_sum k (b ∷ []) ≤ 1
-count_of_sum-one b k =
-    omega (arith, count_of_sum-cons b [] k, window_same b (λ i. count_of_sum i []) one_at_zero k (λ i _. count_of_sum-nil i), window-one_at_zero b k)
-
 -- as far as it goes there is one; of no bound there is one that adds to 0
 pub count_of_sum-few : (bounds : List ℕ) (k : ℕ) → length bounds < 2 → k ≤ sum bounds → count_of_sum k bounds ≡ 1
 count_of_sum-few [] zero short h = count_of_sum-nil 0
@@ -136,3 +133,59 @@ count_of_sum-far [] (suc k) h = count_of_sum-nil (suc k)
 count_of_sum-far (b ∷ bounds) k h =
     let far : b + sum bounds < k = omega (arith, sum_by-cons (λ y. y) b bounds) in
     count_of_sum-cons b bounds k ∙ window_far b (sum bounds) (λ i. count_of_sum i bounds) (λ i l. count_of_sum-far bounds i l) k far
+
+-- where a bound is taken out, it sums the counts of the others over a window
+pub count_of_sum-remove : (bounds : List ℕ) (i k : ℕ) → i < length bounds → count_of_sum k bounds ≡ count_of_sum k (get_or bounds i 0 ∷ remove bounds i)
+count_of_sum-remove [] i k h = absurd (omega arith)
+count_of_sum-remove (b ∷ bounds) zero k h = refl
+count_of_sum-remove (b ∷ bounds) (suc i) k h =
+    let a = get_or bounds i 0 in
+    let others = remove bounds i in
+    count_of_sum-cons b bounds k
+    ∙ window_same b (λ j. count_of_sum j bounds) (window a (λ j. count_of_sum j others)) k (λ j _. count_of_sum-remove bounds i j (omega arith) ∙ count_of_sum-cons a others j)
+    ∙ window_comm b a (λ j. count_of_sum j others) k
+    ∙ window_same a (window b (λ j. count_of_sum j others)) (λ j. count_of_sum j (b ∷ others)) k (λ j _. sym (count_of_sum-cons b others j))
+    ∙ sym (count_of_sum-cons a (b ∷ others) k)
+
+-- so do two that are taken out one after another
+pub count_of_sum-taken : (a b : ℕ) (bounds first others : List ℕ) → ((k : ℕ) → count_of_sum k bounds ≡ count_of_sum k (a ∷ first)) → ((k : ℕ) → count_of_sum k first ≡ count_of_sum k (b ∷ others)) → (k : ℕ) → count_of_sum k bounds ≡ count_of_sum k (a ∷ b ∷ others)
+count_of_sum-taken a b bounds first others e f k =
+    e k
+    ∙ count_of_sum-cons a first k
+    ∙ window_same a (λ i. count_of_sum i first) (λ i. count_of_sum i (b ∷ others)) k (λ i _. f i)
+    ∙ sym (count_of_sum-cons a (b ∷ others) k)
+
+-- one more bound makes no count smaller
+pub count_of_sum-cons_le : (b : ℕ) (bounds : List ℕ) (k : ℕ) → count_of_sum k bounds ≤ count_of_sum k (b ∷ bounds)
+count_of_sum-cons_le b bounds k = omega (arith, count_of_sum-cons b bounds k, window-last_le b (λ i. count_of_sum i bounds) k)
+
+-- the first bounds have no greater count than all
+pub count_of_sum-take_le : (bounds : List ℕ) (j k : ℕ) → count_of_sum k (take j bounds) ≤ count_of_sum k bounds
+count_of_sum-take_le [] zero k = omega arith
+count_of_sum-take_le [] (suc j) k = omega arith
+count_of_sum-take_le (b ∷ bounds) zero k = omega (arith, count_of_sum-take_le bounds zero k, count_of_sum-cons_le b bounds k)
+count_of_sum-take_le (b ∷ bounds) (suc j) k =
+    omega (arith, count_of_sum-cons b (take j bounds) k, count_of_sum-cons b bounds k, window_le b (λ i. count_of_sum i (take j bounds)) (λ i. count_of_sum i bounds) k (λ i _. count_of_sum-take_le bounds j i))
+
+-- two bounds: pairs
+pub count_of_sum-two : (a b k : ℕ) → count_of_sum k (a ∷ b ∷ []) ≡ window a (window b one_at_zero) k
+count_of_sum-two a b k =
+    count_of_sum-cons a (b ∷ []) k
+    ∙ window_same a (λ i. count_of_sum i (b ∷ [])) (window b one_at_zero) k (λ i _. count_of_sum-cons b [] i ∙ window_same b (λ j. count_of_sum j []) one_at_zero i (λ j _. count_of_sum-nil j))
+
+-- two bounds more: products of the counts with those of pairs
+pub count_of_sum-pairs : (a b : ℕ) (bounds : List ℕ) (k : ℕ) → count_of_sum k (a ∷ b ∷ bounds) ≡ products_from (λ i. count_of_sum i bounds) (λ i. count_of_sum i (a ∷ b ∷ [])) 0 (suc k)
+count_of_sum-pairs a b bounds k =
+    let f : ℕ → ℕ = λ i. count_of_sum i bounds in
+    count_of_sum-cons a (b ∷ bounds) k
+    ∙ window_same a (λ i. count_of_sum i (b ∷ bounds)) (window b f) k (λ i _. count_of_sum-cons b bounds i)
+    ∙ windows-products a b f k
+    ∙ products_same_factors f (window a (window b one_at_zero)) (λ i. count_of_sum i (a ∷ b ∷ [])) (suc k) 0 (λ i. sym (count_of_sum-two a b i))
+
+-- the counts rise to half the sum of the bounds, and fall after it as they rose
+pub counts_rise : (bounds : List ℕ) → IsHill (λ k. count_of_sum k bounds) (sum bounds)
+counts_rise [] = record { far = count_of_sum-far []; mirror = λ i j e. let same : i ≡ j = omega arith in ap (λ k. count_of_sum k []) same; rises = λ i l. absurd (omega arith) }
+counts_rise (b ∷ bounds) =
+    let f : ℕ → ℕ = λ k. count_of_sum k bounds in
+    let whole : b + sum bounds ≡ sum (b ∷ bounds) = sym (sum_by-cons (λ y. y) b bounds) in
+    subst (IsHill (λ k. count_of_sum k (b ∷ bounds))) whole (IsHill-same (window b f) (λ k. count_of_sum k (b ∷ bounds)) (b + sum bounds) (λ k. sym (count_of_sum-cons b bounds k)) (IsHill-window f (sum bounds) (counts_rise bounds) b))

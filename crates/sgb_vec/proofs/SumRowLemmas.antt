@@ -1,26 +1,29 @@
 -- Rows of counts of a bounded sum: the row of no bounds, and what running sums and a difference make of a row.
-use Rattle.std.proofs.Common.{◌≡◌, ℕ, suc, zero, ◌+◌, ◌-◌, ◌<◌, ◌≤◌, ◌^◌, List, [], ◌∷◌, ◌++◌, length, take, sum, get_or, replicate, sym, ap, ◌∙◌, inl, inr, add-one, arith}
+use Rattle.std.proofs.Common.{◌≡◌, ℕ, suc, zero, ◌+◌, ◌-◌, ◌*◌, ◌<◌, ◌≤◌, ◌^◌, List, [], ◌∷◌, ◌++◌, length, take, sum, get_or, min, replicate, refl, sym, ap, subst, ◌∙◌, inl, inr, add-one, arith}
 use Rattle.std.specs.List.{All}
 use Rattle.std.proofs.lemmas.Bool.{cases_lt}
-use Rattle.std.proofs.lemmas.List.{get_or-replicate, length-replicate, take-append-le, take_all, take_more}
+use Rattle.std.proofs.lemmas.List.{get_or_append_left, get_or-append_right, get_or_past, take-append-le, take_all, take_more}
 use Rattle.std.proofs.lemmas.List.Sums.{sum_by-cons, sum_by_more, sum_by-le}
 use Rattle.sgb_vec.specs.Limits.{most_vertices}
 use Rattle.sgb_vec.specs.Sums.{count_of_sum}
 use Rattle.sgb_vec.specs.SumRows.{CountsSums}
 use Rattle.sgb_vec.proofs.Windows.{up_to, window_prefix, window_after}
-use Rattle.sgb_vec.proofs.SumCounts.{count_of_sum-nil, count_of_sum-snoc}
-
--- a 1, and then n zeros
-abbrev pub one_and_zeros : ℕ → List ℕ
-one_and_zeros n = 1 ∷ replicate n 0
+use Rattle.sgb_vec.proofs.SumCounts.{count_of_sum-nil, count_of_sum-snoc, count_of_sum-far, count_of_sum-pairs}
+use Rattle.sgb_vec.proofs.Convolutions.{products_from, products_same, products_none}
 
 -- the counts of no bounds
-pub CountsSums-nil : (n : ℕ) → CountsSums (one_and_zeros n) []
-CountsSums-nil n = record { at = at_each n }
+pub CountsSums-nil : (n : ℕ) → CountsSums n (1 ∷ []) []
+CountsSums-nil n = record { at = λ k _. at_each k }
   where
-    at_each : (n k : ℕ) → k < length (one_and_zeros n) → get_or (one_and_zeros n) k 0 ≡ count_of_sum k []
-    at_each n zero h = sym (count_of_sum-nil 0)
-    at_each n (suc k) h = get_or-replicate n k 0 0 (omega (arith, length-replicate {A = ℕ} n 0)) ∙ sym (count_of_sum-nil (suc k))
+    at_each : (k : ℕ) → get_or (1 ∷ []) k 0 ≡ count_of_sum k []
+    at_each zero = sym (count_of_sum-nil 0)
+    at_each (suc k) = sym (count_of_sum-nil (suc k))
+
+-- every entry of zeros, and what comes after them, is 0
+get_or-zeros : (m k : ℕ) → get_or (replicate {A = ℕ} m 0) k 0 ≡ 0
+get_or-zeros zero k = get_or_past [] k 0 (omega arith)
+get_or-zeros (suc m) zero = refl
+get_or-zeros (suc m) (suc k) = get_or-zeros m k
 
 -- the sum of a short row of small counts fits 64 bits
 pub sum_fits : (row : List ℕ) → length row ≤ most_vertices + 1 → All (λ count. count ≤ most_vertices) row → sum row < 2 ^ 64
@@ -42,27 +45,78 @@ sum-take_up_to row f (suc k) e h =
     omega (arith, sum_by_more (λ x. x) row (suc k) 0 h, e (suc k) h)
 
 -- running sums, less those that stand b + 1 places before, are the counts of one more bound
-pub CountsSums-snoc : (row sums next bounds : List ℕ) (b : ℕ) → CountsSums row bounds → length sums ≡ length row → length next ≡ length row
+pub CountsSums-snoc : (n : ℕ) (row sums next bounds : List ℕ) (b : ℕ) → CountsSums n row bounds → length row ≡ min n (sum (bounds ++ b ∷ [])) + 1 → length sums ≡ length row → length next ≡ length row
     → ((k : ℕ) → k < length row → get_or sums k 0 ≡ sum (take (k + 1) row))
     → ((k : ℕ) → k < b + 1 → get_or next k 0 ≡ get_or sums k 0)
     → ((k : ℕ) → b + 1 ≤ k → k < length sums → get_or next k 0 + get_or sums (k - (b + 1)) 0 ≡ get_or sums k 0)
-    → CountsSums next (bounds ++ b ∷ [])
-CountsSums-snoc row sums next bounds b counts long long_next running start after =
+    → CountsSums n next (bounds ++ b ∷ [])
+CountsSums-snoc n row sums next bounds b counts whole long long_next running start after =
     let f : ℕ → ℕ = λ i. count_of_sum i bounds in
-    let total : (i : ℕ) → i < length row → get_or sums i 0 ≡ up_to f i = λ i h. running i h ∙ sum-take_up_to row f i counts.at h in
+    let total : (i : ℕ) → i < length row → get_or sums i 0 ≡ up_to f i = λ i h. running i h ∙ sum-take_up_to row f i (λ j l. counts.at j (omega arith)) h in
     record {
-      at = λ k h. elim (cases_lt k (b + 1)) [
-        | inl low ↦ start k low ∙ total k (omega arith) ∙ sym (window_prefix b f k (omega arith)) ∙ sym (count_of_sum-snoc bounds b k)
-        | inr high ↦
-            let i : ℕ = k - (b + 1) in
-            omega (arith, after k high (omega arith), total k (omega arith), total i (omega arith), window_after b i f k (omega arith), count_of_sum-snoc bounds b k)
+      at = λ k h. elim (cases_lt k (length row)) [
+        | inr past ↦ get_or_past next k 0 (omega arith) ∙ sym (count_of_sum-far (bounds ++ b ∷ []) k (omega arith))
+        | inl within ↦ elim (cases_lt k (b + 1)) [
+          | inl low ↦ start k low ∙ total k within ∙ sym (window_prefix b f k (omega arith)) ∙ sym (count_of_sum-snoc bounds b k)
+          | inr high ↦
+              let i : ℕ = k - (b + 1) in
+              omega (arith, after k high (omega arith), total k within, total i (omega arith), window_after b i f k (omega arith), count_of_sum-snoc bounds b k)
+        ]
       ];
     }
+
+-- zeros after the row change no count
+pub CountsSums-filled : (n m : ℕ) (row bounds : List ℕ) → CountsSums n row bounds → CountsSums n (row ++ replicate m 0) bounds
+CountsSums-filled n m row bounds counts = record {
+  at = λ k h. filled k ∙ counts.at k h;
+}
+  where
+    filled : (k : ℕ) → get_or (row ++ replicate m 0) k 0 ≡ get_or row k 0
+    filled k =
+        elim (cases_lt k (length row)) [
+          | inl here ↦ get_or_append_left row (replicate m 0) 0 k here
+          | inr past ↦ get_or-append_right row (replicate m 0) (length row) k 0 refl past ∙ get_or-zeros m (k - length row) ∙ sym (get_or_past row k 0 past)
+        ]
 
 -- a Vec written through a slice of all of it
 pub take_written : (n : ℕ) (xs ys : List ℕ) → n ≡ length xs → take n (xs ++ ys) ≡ xs
 take_written n xs ys e = take-append-le n xs ys (omega arith) ∙ take_all n xs (omega arith)
 
 -- the counts of one more bound
-pub CountsSums-more : (row bounds : List ℕ) (i : ℕ) → i < length bounds → CountsSums row (take i bounds ++ get_or bounds i 0 ∷ []) → CountsSums row (take (i + 1) bounds)
-CountsSums-more row bounds i h counts = rw (take_more bounds i 0 h) counts
+pub CountsSums-more : (n : ℕ) (row bounds : List ℕ) (i : ℕ) → i < length bounds → CountsSums n row (take i bounds ++ get_or bounds i 0 ∷ []) → CountsSums n row (take (i + 1) bounds)
+CountsSums-more n row bounds i h counts = rw (take_more bounds i 0 h) counts
+
+-- products up to t: of the first term, and of the others
+pub products_step : (f w : ℕ → ℕ) (t n : ℕ) → n ≤ t → products_from f w n (t + 1 - n) ≡ f n * w (t - n) + products_from f w (n + 1) (t + 1 - (n + 1))
+products_step f w t n h =
+    let here : t + 1 - n ≡ suc (t - n) = omega arith in
+    let next : t - n ≡ t + 1 - (n + 1) = omega arith in
+    ap (products_from f w n) here ∙ ap (λ m. f n * w (t - n) + m) (ap (λ m. products_from f w m (t - n)) (sym (add-one n)) ∙ ap (products_from f w (n + 1)) next)
+
+-- none are left after the row or after t
+pub products_end : (row : List ℕ) (w : ℕ → ℕ) (t n : ℕ) → n ≡ min (length row) (t + 1) → products_from (λ i. get_or row i 0) w n (t + 1 - n) ≡ 0
+products_end row w t n e =
+    elim (cases_lt t (length row)) [
+      | inl short ↦ let none : t + 1 - n ≡ 0 = omega arith in ap (products_from (λ i. get_or row i 0) w n) none
+      | inr whole ↦ products_none (λ i. get_or row i 0) w (t + 1 - n) n (λ i h. get_or_past row i 0 (omega arith))
+    ]
+
+-- all of them are the count with two bounds more
+pub products_all : (t a b : ℕ) (row bounds : List ℕ) → CountsSums t row bounds → products_from (λ i. get_or row i 0) (λ k. count_of_sum k (a ∷ b ∷ [])) 0 (t + 1) ≡ count_of_sum t (a ∷ b ∷ bounds)
+products_all t a b row bounds counts =
+    let pairs : ℕ → ℕ = λ k. count_of_sum k (a ∷ b ∷ []) in
+    products_same (λ i. get_or row i 0) (λ i. count_of_sum i bounds) pairs (t + 1) 0 (λ i low high. counts.at i (omega arith))
+    ∙ ap (products_from (λ i. count_of_sum i bounds) pairs 0) (add-one t)
+    ∙ sym (count_of_sum-pairs a b bounds t)
+
+-- one bound more: the row is filled up to as many sums as there are, and the counts of the bound summed over it
+pub CountsSums-step : (n i m z : ℕ) (bounds old filled next : List ℕ) → i < length bounds → CountsSums n old (take i bounds) → length old ≡ min n (sum (take i bounds)) + 1
+    → m ≡ min n (sum (take (i + 1) bounds)) + 1 → filled ≡ take m old ++ replicate z 0 → length filled ≡ m
+    → ((k : ℕ) (some : List ℕ) → CountsSums k filled some → length filled ≡ min k (sum (some ++ get_or bounds i 0 ∷ [])) + 1 → CountsSums k next (some ++ get_or bounds i 0 ∷ []))
+    → CountsSums n next (take (i + 1) bounds)
+CountsSums-step n i m z bounds old filled next h counts long m_is filled_is whole step =
+    let kept : take m old ≡ old = take_all m old (omega (arith, sum-take_le i (i + 1) bounds (omega arith))) in
+    let same : old ++ replicate z 0 ≡ filled = ap (λ xs. xs ++ replicate z 0) (sym kept) ∙ sym filled_is in
+    let before : CountsSums n filled (take i bounds) = subst (λ xs. CountsSums n xs (take i bounds)) same (CountsSums-filled n z old (take i bounds) counts) in
+    let all : length filled ≡ min n (sum (take i bounds ++ get_or bounds i 0 ∷ [])) + 1 = whole ∙ m_is ∙ ap (λ xs. min n (sum xs) + 1) (take_more bounds i 0 h) in
+    CountsSums-more n next bounds i h (step n (take i bounds) before all)

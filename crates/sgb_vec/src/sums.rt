@@ -46,7 +46,8 @@ impl SumFamily {
     ///
     /// `Bad` where `n` is negative; `VeryBad` where it is above 1,000,000,000, or where for some j from 1 to
     /// d and some k up to `n` more than 1,000,000,000 vectors within the first j+1 bounds add to k; `NoRoom`
-    /// when out of memory. Time and memory grow with the smaller of `n` and the sum of the bounds.
+    /// when out of memory. Memory grows with the smaller of `n` and the sum of all bounds but the two greatest, and
+    /// stays small where that is refused; so does the time for each bound.
     pub fn new(alloc: Global, n: i64, bounds: &[u32]) -> Result<SumFamily, Panic>
         requires { length bounds.now ≤ most_dimensions + 1 }
         ensures { (result ≡ sum_of n bounds.now) ⊎ (result ≡ Err NoRoom) }

@@ -1,7 +1,7 @@
 use super::request;
 use crate::faults::Fault;
 use crate::requests::{Name, Request, Resume};
-use sgb_expr::{Expr, Family};
+use sgb_expr::{Expr, Family, FlipParams};
 use sgb_gen::BoardParams;
 use std::test::Fail;
 
@@ -45,7 +45,7 @@ fn asks(request: &Request, command: Command, start: Start) -> bool {
     let (asked, graph, resume) = match request {
         Request::Names(graph, resume) => (Command::Names, graph, resume),
         Request::List(graph, resume) => (Command::List, graph, resume),
-        Request::Save(_) | Request::Queen => return false,
+        Request::Save(_) | Request::Queen | Request::Flip(_) => return false,
     };
     asked == command && *graph == small_board() && begins(resume, start)
 }
@@ -72,6 +72,8 @@ fn small_board() -> Expr {
 }
 
 const BOARD: &str = "board(2,3,0,0,1,0,0)";
+
+const FLIP: &str = "flip(1,0,0,0)";
 
 // Words after a command's name, and where the answer begins by them.
 static VALID_WORDS: [(&[&str], Start); 14] = [
@@ -119,6 +121,27 @@ fn save_takes_an_expression(rt: HostRuntime) -> Result<(), Fail> {
 }
 
 #[test]
+fn flip_takes_its_numbers(rt: HostRuntime) -> Result<(), Fail> {
+    let wanted = FlipParams {
+        start: -1,
+        skip: 2,
+        count: 3,
+        m: 4,
+    };
+    for words in [
+        ["sgb", "flip", "flip(-1,2,3,4)"].as_slice(),
+        &["sgb", "flip", "--", "flip(-1,2,3,4)"],
+    ] {
+        let found = match read(&rt, words)? {
+            Ok(Request::Flip(params)) => Some(params),
+            _ => None,
+        };
+        assert_eq!(rt; found, Some(wanted), "{words:?}");
+    }
+    Ok(())
+}
+
+#[test]
 fn a_name_is_its_bytes(rt: HostRuntime) -> Result<(), Fail> {
     let name = Name::new(rt.alloc(), &[0, 255, b'.', 10])?;
     assert_eq!(rt; name.bytes(), [0, 255, b'.', 10].as_slice());
@@ -126,7 +149,7 @@ fn a_name_is_its_bytes(rt: HostRuntime) -> Result<(), Fail> {
 }
 
 // Words that are an invalid command line.
-static INVALID_COMMAND_LINES: [&[&str]; 45] = [
+static INVALID_COMMAND_LINES: [&[&str]; 50] = [
     &[],
     &["sgb"],
     &["sgb", "name", BOARD],
@@ -141,6 +164,11 @@ static INVALID_COMMAND_LINES: [&[&str]; 45] = [
     &["sgb", "save", BOARD, "--skip", "1"],
     &["sgb", "save", "board(", "--skip", "1"],
     &["sgb", "save", "--skip=x", BOARD],
+    &["sgb", "flip"],
+    &["sgb", "flip", FLIP, FLIP],
+    &["sgb", "flip", FLIP, "--after", "1"],
+    &["sgb", "flip", FLIP, "--skip", "1"],
+    &["sgb", "flip", "flip(", "--skip", "1"],
     &["sgb", "names", BOARD, BOARD],
     &["sgb", "names", "list", BOARD],
     &["sgb", "names", BOARD, "--skip"],

@@ -11,7 +11,7 @@ loop-name-init c = (omega arith, openings_all c.args.text.now)
 pub loop-name-preserved : goal.loop-name-preserved
 loop-name-preserved c =
     let text = c.args.text.now in
-    let stops = subst (λ (w : Wrong). Fails w (fixed_at c.text_of.result.now text)) c.in-Err-Left.field-0-is c.in-Err-Left.ensures in
+    let stops = subst (λ (w : Wrong). Fails w (fixed_at c.text_of.result.now text)) c.in-Err-Left.field-0-is c.in-Err-Left.ensures.read in
     let least : c.min-left.result ≡ min c.loop-name.left c.in-Err-Left.other = c.min-left.ensures ∙ ap (λ (n : ℕ). min c.loop-name.left n) c.in-Err-Left.other-is in
     let passed = name_passed c.loop-name.name-index c.loop-name.left c.in-Err-Left.other c.text_of.result.now text c.loop-name-test.true c.text_of.ensures stops c.loop-name.invariant.1 in (
       omega (arith, least, c.loop-name.invariant.0),
@@ -24,4 +24,4 @@ returns c =
 
 pub returns-in-Ok : goal.returns-in-Ok
 returns-in-Ok c =
-    name_found c.loop-name.name-index c.loop-name.left c.text_of.result.now c.args.text.now c.in-Ok.rest.now c.loop-name-test.true c.text_of.ensures c.in-Ok.ensures c.loop-name.invariant.1
+    name_found c.loop-name.name-index c.loop-name.left c.text_of.result.now c.args.text.now c.in-Ok.rest.now c.loop-name-test.true c.text_of.ensures c.in-Ok.ensures.read c.loop-name.invariant.1

@@ -12,6 +12,9 @@ list_apart e = omega (arith, ap (λ text. slice_index_or text 0 0) e)
 save_apart : codes "save" ≢ codes "queen"
 save_apart e = omega (arith, ap (λ text. slice_index_or text 0 0) e)
 
+flip_apart : codes "flip" ≢ codes "queen"
+flip_apart e = omega (arith, ap (λ text. slice_index_or text 0 0) e)
+
 pub arguments_of-requires : goal.arguments_of-requires
 arguments_of-requires c =
     has_expression _ _ _ _ names_apart c.in_ok-matches.ensures (c.in-Some.ensures.found.0 refl) c.in-Some.ensures.rows
@@ -35,12 +38,24 @@ pub returns-then-is_some : goal.returns-then-is_some
 returns-then-is_some c =
     enters _ _ _ c.in_ok-matches.ensures (c.subcommand_matches-4.ensures.found.0 (sym c.is_some.ensures ∙ c.if-is_some.true))
 
+pub expression_in-requires-in-Some-subcommand_matches-3 : goal.expression_in-requires-in-Some-subcommand_matches-3
+expression_in-requires-in-Some-subcommand_matches-3 c =
+    let flip = c.in-Some-subcommand_matches-3.ensures in
+    has_expression _ _ _ _ flip_apart c.in_ok-matches.ensures (flip.found.0 refl) flip.rows
+
+pub returns-in-Some-subcommand_matches-3 : goal.returns-in-Some-subcommand_matches-3
+returns-in-Some-subcommand_matches-3 c =
+    let flip = c.in-Some-subcommand_matches-3.ensures in
+    asks_alone _ _ _ _ _ c.in_ok-matches.ensures (flip.found.0 refl) flip.rows c.expression_in-in-Some-subcommand_matches-3.ensures
+
 pub returns : goal.returns
 returns c =
     let no_names = c.in_default.ensures.found.1 in
     let no_list = c.in_default-subcommand_matches.ensures.found.1 in
     let no_save = c.in_default-subcommand_matches-2.ensures.found.1 in
     let no_queen = c.subcommand_matches-4.ensures.found.1 in
+    let no_flip = c.in_default-subcommand_matches-3.ensures.found.1 in
     not_called _ _ c.in_ok-matches.ensures (λ e. true≢false (sym (no_names e))) (λ e. true≢false (sym (no_list e)))
     (λ e. true≢false (sym (no_save e)))
     (λ e. true≢false (sym (no_queen e) ∙ sym c.is_some.ensures ∙ c.if-is_some.false))
+    (λ e. true≢false (sym (no_flip e)))

@@ -1,41 +1,58 @@
-use Rattle.std.proofs.Common.{List, Option, map, codes, subst, inl, inr}
+use Rattle.std.proofs.Common.{List, Option, map, codes, refl, subst, inl, inr}
 use Rattle.std.proofs.lemmas.Result.{err_from_is_err_and}
 use Rattle.std.specs.String.{string_bytes}
 use Rattle.clap.specs.Words.{Text}
 use Rattle.sgb_requests.specs.CommandLine.{Asks, AsksAlone, EntersSubcommand, bytes_of}
-use Rattle.sgb_requests.specs.Reading.{IsRefusedText}
-use Rattle.sgb_requests.specs.Requests.{AreRefused, IsRefusedCommandLine}
+use Rattle.sgb_requests.specs.Reading.{IsRefusedFlip, IsRefusedText}
+use Rattle.sgb_requests.specs.Requests.{AreRefused, IsRefusedCommandLine, TakesOptions}
 use Rattle.sgb_requests.specs.declared.faults.Fault.{Fault}
 use Rattle.sgb_requests.specs.declared.faults.Fault.TheVariants as fault
 use Rattle.sgb_requests.proofs.command_line.request.Goals as goal
 
 -- values that are refused refuse the words that gave them
-refused : (words : List Text) (command text : Text) (after skip : Option Text) (f : Fault) → Asks words command text after skip → AreRefused text after skip f
-    → IsRefusedCommandLine words f
-refused words command text after skip fault.Usage asks h = inr (command, text, after, skip, asks, h)
-refused words command text after skip fault.TooLarge asks h = inl (command, text, after, skip, asks, h.0, h.1)
-refused words command text after skip (fault.Expr k) asks h = inl (command, text, after, skip, asks, h.0, h.1)
-refused words command text after skip (fault.Panic p) asks h = h
-refused words command text after skip fault.NoVertex asks h = absurd h.1
-refused words command text after skip fault.Read asks h = absurd h.1
-refused words command text after skip fault.Write asks h = absurd h.1
+refused : (words : List Text) (command text : Text) (after skip : Option Text) (f : Fault) → TakesOptions command → Asks words command text after skip
+    → AreRefused text after skip f → IsRefusedCommandLine words f
+refused words command text after skip fault.Usage takes asks h = inr (command, text, after, skip, asks, h)
+refused words command text after skip fault.TooLarge takes asks h = inl (command, text, after, skip, takes, asks, h.0, h.1)
+refused words command text after skip (fault.Expr k) takes asks h = inl (command, text, after, skip, takes, asks, h.0, h.1)
+refused words command text after skip (fault.Panic p) takes asks h = h
+refused words command text after skip fault.NoVertex takes asks h = absurd h.1
+refused words command text after skip fault.Read takes asks h = absurd h.1
+refused words command text after skip fault.Write takes asks h = absurd h.1
 
--- a text that is refused refuses the words that gave it to a command of an expression alone
+-- a text that is refused refuses the words that gave it to `save`
 refused_alone : (words : List Text) (text : Text) (f : Fault) → AsksAlone words (codes "save") text → IsRefusedText text f → IsRefusedCommandLine words f
 refused_alone words text fault.Usage asks h = absurd h
-refused_alone words text fault.TooLarge asks h = inr (text, asks, h)
-refused_alone words text (fault.Expr k) asks h = inr (text, asks, h)
+refused_alone words text fault.TooLarge asks h = inr (inl (text, asks, h))
+refused_alone words text (fault.Expr k) asks h = inr (inl (text, asks, h))
 refused_alone words text (fault.Panic p) asks h = h
 refused_alone words text fault.NoVertex asks h = absurd h
 refused_alone words text fault.Read asks h = absurd h
 refused_alone words text fault.Write asks h = absurd h
+
+-- a text that is refused as a flip refuses the words that gave it to `flip`
+refused_flip : (words : List Text) (text : Text) (f : Fault) → AsksAlone words (codes "flip") text → IsRefusedFlip text f → IsRefusedCommandLine words f
+refused_flip words text fault.Usage asks h = absurd h
+refused_flip words text fault.TooLarge asks h = inr (inr (text, asks, h))
+refused_flip words text (fault.Expr k) asks h = inr (inr (text, asks, h))
+refused_flip words text (fault.Panic p) asks h = absurd h
+refused_flip words text fault.NoVertex asks h = absurd h
+refused_flip words text fault.Read asks h = absurd h
+refused_flip words text fault.Write asks h = absurd h
 
 pub returns-in_err-graph-in-Names : goal.returns-in_err-graph-in-Names
 returns-in_err-graph-in-Names c =
     let p = err_from_is_err_and c.from_residual-in_err-graph-in-Names.result c.from_residual-in_err-graph-in-Names.ensures.1 in
     let values = c.in-Names.values in
     let asks = subst (EntersSubcommand (map string_bytes c.args.words.now)) c.in-Names.is c.in_ok-values.ensures in
-    rw (p.1, p.2) (refused _ (codes "names") values.expression.now (bytes_of values.after) (bytes_of values.skip) _ asks c.in_err-graph-in-Names.ensures)
+    rw (p.1, p.2) (refused _ (codes "names") values.expression.now (bytes_of values.after) (bytes_of values.skip) _ (inl refl) asks c.in_err-graph-in-Names.ensures)
+
+pub returns-in_err-graph-in-List : goal.returns-in_err-graph-in-List
+returns-in_err-graph-in-List c =
+    let p = err_from_is_err_and c.from_residual-in_err-graph-in-List.result c.from_residual-in_err-graph-in-List.ensures.1 in
+    let values = c.in-List.values in
+    let asks = subst (EntersSubcommand (map string_bytes c.args.words.now)) c.in-List.is c.in_ok-values.ensures in
+    rw (p.1, p.2) (refused _ (codes "list") values.expression.now (bytes_of values.after) (bytes_of values.skip) _ (inr refl) asks c.in_err-graph-in-List.ensures)
 
 pub returns-in_err-graph-in-Save : goal.returns-in_err-graph-in-Save
 returns-in_err-graph-in-Save c =
@@ -43,3 +60,10 @@ returns-in_err-graph-in-Save c =
     let asks = subst (EntersSubcommand (map string_bytes c.args.words.now)) c.in-Save.is c.in_ok-values.ensures in
     rw (p.1, p.2) (refused_alone _ c.in-Save.text.now _ asks
     (subst (λ (text : Text). IsRefusedText text c.in_err-graph-in-Save.field-0.0) c.as_bytes.ensures.value c.in_err-graph-in-Save.ensures.read))
+
+pub returns-in_err-params-in-Flip : goal.returns-in_err-params-in-Flip
+returns-in_err-params-in-Flip c =
+    let p = err_from_is_err_and c.from_residual-in_err-params-in-Flip.result c.from_residual-in_err-params-in-Flip.ensures.1 in
+    let asks = subst (EntersSubcommand (map string_bytes c.args.words.now)) c.in-Flip.is c.in_ok-values.ensures in
+    rw (p.1, p.2) (refused_flip _ c.in-Flip.text.now _ asks
+    (subst (λ (text : Text). IsRefusedFlip text c.in_err-params-in-Flip.field-0.0) c.as_bytes-in-Flip.ensures.value c.in_err-params-in-Flip.ensures.read))

@@ -1,0 +1,40 @@
+-- The numbers that a flip draws, one after another.
+use Rattle.std.proofs.Common.{◌≡◌, ◌++◌, ◌+◌, ◌%◌, ◌≤◌, ◌∙◌, [], ◌∷◌, ℕ, zero, suc, ap, sym, refl, arith}
+use Rattle.sgb_graph.specs.Draws.{IsUniformDraw, draw, modulus, plain_draws, uniform_draws}
+use Rattle.sgb_graph.proofs.UniformDraws.{uniform_draw_only}
+use Rattle.sgb.specs.FlipAnswers.{drawn_from, number_line, number_lines}
+
+-- where m is 0, the next draw comes first
+pub plain_first : (seed m k number count : ℕ) → m ≡ 0 → number ≡ draw seed k → drawn_from seed m k (suc count) ≡ number ∷ drawn_from seed m (k + 1) count
+unfolding plain_draws
+plain_first seed zero k number count none e = ap (λ n. n ∷ plain_draws seed (k + 1) count) (sym e)
+plain_first seed (suc m) k number count none e = absurd (omega (arith, none))
+
+-- where m is not 0, the uniform draw below it comes first
+pub uniform_first : (seed m k number last count : ℕ) → 1 ≤ m → m ≤ modulus → IsUniformDraw seed m k number last
+    → drawn_from seed m k (suc count) ≡ number ∷ drawn_from seed m (last + 1) count
+unfolding uniform_draws
+uniform_first seed zero k number last count some small is = absurd (omega (arith, some))
+uniform_first seed (suc m) k number last count some small is =
+    let only = uniform_draw_only seed (suc m) k number last some small is in
+    ap (λ (t : ℕ). draw seed t % suc m ∷ uniform_draws seed (suc m) (t + 1) count) (sym only.0)
+    ∙ ap (λ (n : ℕ). n ∷ uniform_draws seed (suc m) (last + 1) count) (sym only.1)
+
+-- no number is drawn
+pub none_drawn : (seed m k : ℕ) → drawn_from seed m k 0 ≡ []
+unfolding plain_draws uniform_draws
+none_drawn seed zero k = refl
+none_drawn seed (suc m) k = refl
+
+-- their lines, where these are what is left
+pub lines_none : (seed m k left : ℕ) → left ≡ 0 → number_lines (drawn_from seed m k left) ≡ []
+unfolding number_lines
+lines_none seed m k left none =
+    ap (λ (n : ℕ). number_lines (drawn_from seed m k n)) none ∙ ap number_lines (none_drawn seed m k)
+
+pub lines_first : (seed m k next number left rest : ℕ) → left ≡ suc rest
+    → ((count : ℕ) → drawn_from seed m k (suc count) ≡ number ∷ drawn_from seed m next count)
+    → number_lines (drawn_from seed m k left) ≡ number_line number ++ number_lines (drawn_from seed m next rest)
+unfolding number_lines
+lines_first seed m k next number left rest more first =
+    ap (λ (n : ℕ). number_lines (drawn_from seed m k n)) more ∙ ap number_lines (first rest)

@@ -1,0 +1,49 @@
+use Rattle.std.proofs.Common.{◌≡◌, ◌-◌, ◌+◌, ℕ, ℤ, w64, ap, subst, suc, arith, rules}
+use Rattle.std.proofs.lemmas.Int.{to_z-of_z}
+use Rattle.std.proofs.lemmas.Result.{err_from_is_err_and}
+use Rattle.sgb_graph.specs.Draws.{IsAtDraw, seed_of}
+use Rattle.sgb_file.proofs.SoFar.{so_far-all, so_far-more, so_far-none, so_far-same}
+use Rattle.sgb.specs.FlipAnswers.{drawn_from, number_lines}
+use Rattle.sgb.proofs.CutOff.{so_far-cut}
+use Rattle.sgb.proofs.DrawnNumbers.{lines_first, lines_none}
+use Rattle.sgb.proofs.writing.flips.write_draws.Goals as goal
+
+pub loop-number-init : goal.loop-number-init
+loop-number-init g c =
+    let draws = c.args.draws in
+    let begun =
+    subst (λ (s : ℤ). IsAtDraw s 0 c.new-flip.result.numbers c.new-flip.result.left) (to_z-of_z w64 draws.start (search rules)) c.new-flip.ensures in
+    let skipped : 0 + draws.skip ≡ draws.skip = omega arith in
+    let at = subst (λ (k : ℕ). IsAtDraw draws.start k c.skip_draws.new.flip.numbers c.skip_draws.new.flip.left) skipped (c.skip_draws.ensures draws.start 0 begun) in
+    let all : draws.count ≡ draws.count - 0 = omega arith in
+    let same = ap (λ (n : ℕ). number_lines (drawn_from (seed_of draws.start) draws.m draws.skip n)) all in
+    ((draws.skip, at, so_far-same _ _ _ _ _ same (so_far-none _ _)), c.requires.sound)
+
+pub write_number-requires : goal.write_number-requires
+write_number-requires g c = c.loop-number.invariant.1
+
+pub returns-in_err-write_number : goal.returns-in_err-write_number
+returns-in_err-write_number g c =
+    let p = err_from_is_err_and c.from_residual.result c.from_residual.ensures.1 in
+    let draws = c.args.draws in
+    let stands = c.loop-number.invariant.0 in
+    let next = c.next_number.ensures draws.start stands.0 stands.1 in
+    let left : draws.count - c.loop-number._number ≡ suc (draws.count - (c.loop-number._number + 1)) = omega (arith, c.loop-number-test.true) in
+    let first = lines_first (seed_of draws.start) draws.m stands.0 next.0 c.next_number.result _ _ left next.2 in
+    rw (p.1, p.2) (so_far-cut _ _ _ _ _ _ _ _ _ first stands.2 c.in_err-write_number.ensures)
+
+pub loop-number-preserved : goal.loop-number-preserved
+loop-number-preserved g c =
+    let draws = c.args.draws in
+    let stands = c.loop-number.invariant.0 in
+    let next = c.next_number.ensures draws.start stands.0 stands.1 in
+    let left : draws.count - c.loop-number._number ≡ suc (draws.count - (c.loop-number._number + 1)) = omega (arith, c.loop-number-test.true) in
+    let first = lines_first (seed_of draws.start) draws.m stands.0 next.0 c.next_number.result _ _ left next.2 in
+    ((next.0, next.1, so_far-more _ _ _ _ _ _ _ first stands.2 c.in_ok-write_number.ensures.output), c.in_ok-write_number.ensures.sound)
+
+pub returns : goal.returns
+returns g c =
+    let draws = c.args.draws in
+    let stands = c.loop-number.invariant.0 in
+    let none : draws.count - c.loop-number._number ≡ 0 = omega (arith, c.loop-number-test.false) in
+    record { output = so_far-all _ _ _ _ (lines_none (seed_of draws.start) draws.m stands.0 _ none) stands.2; sound = c.loop-number.invariant.1 }

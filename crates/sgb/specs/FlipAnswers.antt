@@ -1,0 +1,54 @@
+-- What `flip` writes: random numbers of GB_FLIP, one a line [GB_FLIP, gb_init_rand, gb_next_rand and gb_unif_rand].
+use Rattle.std.specs.Prelude.{ℕ, zero, suc, ℤ, pos, negsuc, cond, nat_le, decimal, List, [], ◌∷◌, ◌++◌, Result, Ok, Err}
+use Rattle.std.specs.List.{flat_map}
+use Rattle.sgb_vec.specs.Results.{and_then}
+use Rattle.sgb_vec.specs.declared.panics.Panic.{Panic}
+use Rattle.sgb_vec.specs.declared.panics.Panic.TheVariants.{Bad}
+use Rattle.sgb_graph.specs.Draws.{modulus, plain_draws, seed_of, uniform_draws}
+use Rattle.sgb_expr.specs.declared.flips.FlipParams.{FlipParams}
+use Rattle.sgb.specs.declared.writing.flips.Draws.{Draws}
+use Rattle.sgb_requests.specs.declared.faults.Fault.{Fault}
+use Rattle.sgb_requests.specs.declared.faults.Fault.TheVariants as fault
+
+-- so many draws may be thrown away, and so many numbers written
+abbrev pub most_draws : ℕ
+most_draws = 1_000_000_000
+
+-- the integer, where it is from 0 to the greatest
+abbrev pub number_within : ℕ → ℤ → Result ℕ Panic
+number_within greatest (pos n) = cond (nat_le n greatest) (Ok n) (Err Bad)
+number_within greatest (negsuc n) = Err Bad
+
+-- the draws that a flip asks for, where skip and count are from 0 to 1,000,000,000 and m is from 0 to 2^31
+abbrev pub accepted_draws : FlipParams → Result Draws Panic
+accepted_draws p =
+    and_then (number_within most_draws p.skip) (λ skip.
+    and_then (number_within most_draws p.count) (λ count.
+    and_then (number_within modulus p.m) (λ m.
+    Ok (record { start = p.start; skip = skip; count = count; m = m }))))
+
+-- so many numbers from draw k on: plain draws where m is 0, else uniform draws below m
+abbrev pub drawn_from : ℕ → ℕ → ℕ → ℕ → List ℕ
+drawn_from seed zero k count = plain_draws seed k count
+drawn_from seed (suc m) k count = uniform_draws seed (suc m) k count
+
+-- the numbers drawn: after so many draws that are thrown away
+abbrev pub drawn : Draws → List ℕ
+drawn d = drawn_from (seed_of d.start) d.m d.skip d.count
+
+-- the line of a number: its decimal digits and a newline (10)
+abbrev pub number_line : ℕ → List ℕ
+number_line number = decimal number ++ 10 ∷ []
+
+-- the lines of numbers
+unfoldable pub number_lines : List ℕ → List ℕ
+number_lines numbers = flat_map number_line numbers
+
+-- what is written of draws that are accepted; a refusal stays as it is
+abbrev pub answer_of_draws : Result Draws Panic → Result (List ℕ) Fault
+answer_of_draws (Ok d) = Ok (number_lines (drawn d))
+answer_of_draws (Err p) = Err (fault.Panic p)
+
+-- the output of a flip, or the fault that refuses it
+abbrev pub flip_answer : FlipParams → Result (List ℕ) Fault
+flip_answer p = answer_of_draws (accepted_draws p)

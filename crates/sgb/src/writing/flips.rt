@@ -1,0 +1,111 @@
+//! Random numbers, written to a sink (GB_FLIP).
+ghost use Rattle.std.specs.Prelude.{◌≡◌, ◌≤◌, ◌+◌, ◌∷◌, ℕ, ℤ, suc, false};
+ghost use Rattle.sgb_graph.specs.Draws.{IsAtDraw, modulus, seed_of};
+ghost use Rattle.sgb.specs.FlipAnswers.{accepted_draws, drawn, drawn_from, flip_answer, number_line, number_lines, number_within};
+ghost use Rattle.sgb.specs.Writing.{IsEnded, IsWritten};
+
+use super::write_texts;
+use itoa::Buffer;
+use sgb_expr::FlipParams;
+use sgb_file::Sink;
+use sgb_graph::Flip;
+use sgb_requests::Fault;
+use sgb_vec::Panic;
+
+// At most so many draws are thrown away, and so many numbers written.
+const MOST_DRAWS: u32 = 1_000_000_000;
+
+// A uniform draw is below this at most.
+const MOST_BOUND: u32 = 0x8000_0000;
+
+/// The draws that a flip asks for.
+#[derive(Clone, Copy)]
+pub(crate) struct Draws {
+    pub start: i64,
+    pub skip: u32,
+    pub count: u32,
+    pub m: u32,
+}
+
+/// Writes the numbers that a flip asks for, in decimal and one a line (GB_FLIP, gb_init_rand, gb_next_rand and
+/// gb_unif_rand): of a generator started from `start`, after `skip` plain draws that are thrown away, `count` plain
+/// draws where `m` is 0, else `count` uniform draws below `m`. No memory is taken.
+///
+/// `Bad` where `skip` or `count` is not from 0 to 1,000,000,000, or `m` is not from 0 to 2^31.
+pub(crate) fn write_flip<W: Sink>(params: &FlipParams, out: &mut W) -> Result<(), Fault>
+    requires { W.has_failed out.old ≡ false }
+    ensures { IsEnded (flip_answer params.now) (record { before = W.written out.old; after = W.written out.new; failed = W.has_failed out.new }) result }
+{
+    let draws = accepted_draws(params)?;
+    write_draws(draws, out)
+}
+
+// The draws that a flip asks for, within their ranges.
+fn accepted_draws(params: &FlipParams) -> Result<Draws, Panic>
+    ensures { result ≡ accepted_draws params.now }
+{
+    let skip = number_within(MOST_DRAWS, params.skip)?;
+    let count = number_within(MOST_DRAWS, params.count)?;
+    let m = number_within(MOST_BOUND, params.m)?;
+    Ok(Draws {
+        start: params.start,
+        skip,
+        count,
+        m,
+    })
+}
+
+// The integer, where it is from 0 to the greatest. `Bad` where it is not.
+fn number_within(greatest: u32, integer: i64) -> Result<u32, Panic>
+    ensures { result ≡ number_within greatest integer }
+{
+    if 0 <= integer && integer <= i64::from(greatest) {
+        Ok(integer as u32)
+    } else {
+        Err(Panic::Bad)
+    }
+}
+
+// Writes the numbers drawn, each on a line.
+fn write_draws<W: Sink>(draws: Draws, out: &mut W) -> Result<(), Fault>
+    requires bound { draws.m ≤ modulus }
+    requires sound { W.has_failed out.old ≡ false }
+    ensures { IsWritten (number_lines (drawn draws)) (record { before = W.written out.old; after = W.written out.new; failed = W.has_failed out.new }) result }
+{
+    let mut flip = Flip::new(draws.start);
+    skip_draws(&mut flip, draws.skip);
+    for _number in 0..draws.count {
+        write_number(next_number(&mut flip, draws.m), out)?;
+    }
+    Ok(())
+}
+
+// Throws so many draws away.
+fn skip_draws(flip: &mut Flip, skip: u32)
+    ensures { (start : ℤ) (k : ℕ) → IsAtDraw start k flip.old.numbers flip.old.left
+        → IsAtDraw start (k + skip) flip.new.numbers flip.new.left }
+{
+    for _thrown in 0..skip {
+        flip.draw();
+    }
+}
+
+// The next number: a plain draw where m is 0, else a uniform draw below m. Of the numbers from where the generator stood,
+// it is the first one, and the others are those from where it stands then.
+fn next_number(flip: &mut Flip, m: u32) -> u32
+    requires { m ≤ modulus }
+    ensures { (start : ℤ) (k : ℕ) → IsAtDraw start k flip.old.numbers flip.old.left
+        → (next : ℕ) × IsAtDraw start next flip.new.numbers flip.new.left
+        × ((count : ℕ) → drawn_from (seed_of start) m k (suc count) ≡ result ∷ drawn_from (seed_of start) m next count) }
+{
+    if m == 0 { flip.draw() } else { flip.below(m) }
+}
+
+// Writes the line of a number: its digits and a newline.
+fn write_number<W: Sink>(number: u32, out: &mut W) -> Result<(), Fault>
+    requires { W.has_failed out.old ≡ false }
+    ensures { IsWritten (number_line number) (record { before = W.written out.old; after = W.written out.new; failed = W.has_failed out.new }) result }
+{
+    let mut digits = Buffer::new();
+    write_texts(out, &[digits.format(number).as_bytes(), b"\n"])
+}

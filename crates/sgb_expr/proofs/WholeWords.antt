@@ -1,0 +1,72 @@
+-- Whole texts read as words: what is read, and where a text goes wrong.
+use Rattle.std.proofs.Common.{◌≡◌, ◌≤◌, ◌<◌, ◌-◌, ◌+◌, ℕ, List, [], ◌∷◌, ◌++◌, length, take, Ok, Err, refl, sym, ◌∙◌, ap, subst, append_assoc, append-nil, arith, length-append, zero, suc, inl, inr}
+use Rattle.std.proofs.Math.Seq.{take-append_seam}
+use Rattle.sgb_expr.specs.Languages.{IsLongestPrefixOf, IsNoWord}
+use Rattle.sgb_expr.specs.Readings.{at_end, whole_by}
+use Rattle.sgb_expr.proofs.Lengths.{Language, Reader}
+use Rattle.sgb_expr.proofs.Readers.{Reads, next, Stops, bind_ok, bind_err, bind_of, ok_same, stops_within, stops_after, word_again}
+use Rattle.sgb_expr.proofs.Words.{no_ok, err_same}
+
+-- nothing is left after the word
+end_ok : {V : Type 0} (v w : V) (rest : List ℕ) → at_end v rest ≡ Ok w → (rest ≡ []) × (v ≡ w)
+end_ok v w [] h = (refl, ok_same v w h)
+end_ok v w (byte ∷ rest) h = absurd (no_ok h)
+
+-- what is read is a word
+pub word_whole : {V : Type 0} {Word : Language V} {Tail : List ℕ → Type 0} {read : Reader V} → Reads Word Tail read → (text : List ℕ) (value : V) → whole_by read text ≡ Ok value → Word text value
+word_whole {V} {Word} {Tail} {read} r text value h =
+    let x = bind_ok (read text) (λ x. at_end x.0 x.1) value h in
+    let t = end_ok x.0.0 value x.0.1 x.2 in
+    let f = r.found text x.0.0 x.0.1 x.1 in
+    let all : f.word ≡ text = sym (append-nil f.word) ∙ ap (λ u. f.word ++ u) (sym t.0) ∙ sym f.whole in
+    subst (λ (u : List ℕ). Word u value) all (subst (λ (v : V). Word f.word v) t.1 f.is)
+
+-- a word is read
+pub whole_word : {V : Type 0} {Word : Language V} {Tail : List ℕ → Type 0} {read : Reader V} → Reads Word Tail read → Tail [] → (text : List ℕ) (value : V) → Word text value → whole_by read text ≡ Ok value
+whole_word {read = read} r end text value is = bind_of (read text) (λ x. at_end x.0 x.1) (value, []) (word_again r end text value is)
+
+-- something is left after the word
+end_wrong : {V : Type 0} {Word : Language V} {Tail : List ℕ → Type 0} {read : Reader V} → Reads Word Tail read → Tail [] → (text : List ℕ) (value : V) (rest : List ℕ) (left : ℕ) → read text ≡ Ok (value, rest) → at_end value rest ≡ Err left → Stops Word text left
+end_wrong r end text value [] left h k = absurd (no_ok (sym k))
+end_wrong {Word = Word} r end text value (byte ∷ rest) left h k =
+    subst (λ (n : ℕ). Stops Word text n) (err_same (length (byte ∷ rest)) left k) (stops_after r end text value byte rest h)
+
+-- where a text goes wrong
+pub whole_stops : {V : Type 0} {Word : Language V} {Tail : List ℕ → Type 0} {read : Reader V} → Reads Word Tail read → Tail [] → (text : List ℕ) (left : ℕ) → whole_by read text ≡ Err left → Stops Word text left
+whole_stops {read = read} r end text left h = elim (bind_err (read text) (λ x. at_end x.0 x.1) left h) [
+  | inl e ↦ stops_within r end text left e
+  | inr x ↦ end_wrong r end text x.0.0 x.0.1 left x.1 x.2
+]
+
+-- a longer prefix of the text goes on with its next byte
+goes_on : (good bad : List ℕ) (j : ℕ) → length good < j → j ≤ length (good ++ bad) → (rest : List ℕ) × (take j (good ++ bad) ≡ good ++ rest) × ((more : List ℕ) → next (rest ++ more) ≡ next bad)
+goes_on [] [] j above within = absurd (omega (arith, above, within))
+goes_on [] (byte ∷ bad) zero above within = absurd (omega (arith, above))
+goes_on [] (byte ∷ bad) (suc j) above within = (byte ∷ take j bad, refl, λ more. refl)
+goes_on (c ∷ good) bad zero above within = absurd (omega (arith, above))
+goes_on (c ∷ good) bad (suc j) above within =
+    let t = goes_on good bad j (omega (arith, above)) (omega (arith, within)) in
+    (t.0, ap (λ u. c ∷ u) t.1, t.2)
+
+-- a text that is no word, and its longest prefix that begins one
+pub record GoesWrong {V : Type 0} (Word : List ℕ → V → Type 0) (text : List ℕ) (left : ℕ) : Type 0 where
+  pub within : left ≤ length text
+  pub none : IsNoWord Word text
+  pub longest : IsLongestPrefixOf Word text (length text - left)
+
+pub goes_wrong_there : {V : Type 0} (Word : Language V) (text : List ℕ) (left : ℕ) → Stops Word text left → GoesWrong Word text left
+goes_wrong_there {V} Word text left s =
+    let count : length text ≡ length s.good + length s.bad = ap length s.whole ∙ length-append s.good s.bad in
+    let k : length text - left ≡ length s.good = omega (arith, count, s.count) in
+    let prefix : take (length text - left) text ≡ s.good = ap (λ n. take n text) k ∙ ap (take (length s.good)) s.whole ∙ take-append_seam s.good s.bad in record {
+      within = omega (arith, count, s.count);
+      none = λ v is. s.refused s.bad v refl (subst (λ (u : List ℕ). Word u v) s.whole is);
+      longest = record {
+        within = omega arith;
+        begins = (s.more, s.value, subst (λ (u : List ℕ). Word (u ++ s.more) s.value) (sym prefix) s.begins);
+        longest = λ j above within b.
+            let t = goes_on s.good s.bad j (omega (arith, above, k)) (omega (arith, within, ap length s.whole)) in
+            let here : take j text ++ b.0 ≡ s.good ++ (t.0 ++ b.0) = ap (λ u. take j u ++ b.0) s.whole ∙ ap (λ u. u ++ b.0) t.1 ∙ append_assoc s.good t.0 b.0 in
+            s.refused (t.0 ++ b.0) b.1 (t.2 b.0) (subst (λ (u : List ℕ). Word u b.1) here b.2);
+      };
+    }

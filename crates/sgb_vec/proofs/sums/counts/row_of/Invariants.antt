@@ -1,0 +1,12 @@
+use Rattle.std.proofs.Common.{◌≡◌, ◌+◌, ◌≤◌, length, take, sum, min}
+use Rattle.std.specs.List.{All}
+use Rattle.sgb_vec.specs.Limits.{most_vertices}
+use Rattle.sgb_vec.specs.SumRows.{CountsSums}
+use Rattle.sgb_vec.proofs.sums.counts.row_of.Given as goal
+
+-- the row has the counts of the bounds so far, and none was too great
+abbrev pub invariant-loop-place : goal.invariant-loop-place
+invariant-loop-place l =
+    CountsSums l.total l.row.items (take l.place l.bounds)
+    × All (λ count. count ≤ most_vertices) l.row.items
+    × (length l.row.items ≡ min l.total (sum (take l.place l.bounds)) + 1)
