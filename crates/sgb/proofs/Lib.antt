@@ -2,8 +2,12 @@
 pub mod CutOff
 pub mod Endings
 pub mod EntryValues
+pub mod InputEndings
+pub mod KeptInput
 pub mod Lines
 pub mod Listings
 pub mod Named
+pub mod ProgramRuns
 pub mod Refusals
+pub mod StdinValues
 pub mod Values

@@ -1,4 +1,5 @@
 -- What the contracts of sgb speak of.
+pub mod Inputs
 pub mod Outcomes
 pub mod Program
 pub mod Runs

@@ -5,6 +5,7 @@ use Rattle.sgb_expr.specs.Expression.{Expression, Entry, Entries}
 use Rattle.sgb_expr.specs.Expressions.{IsExpression}
 use Rattle.sgb_expr.specs.Names.{family_openings, openings}
 use Rattle.sgb_expr.specs.Reading.{entries_at, expression_at, whole_at}
+use Rattle.sgb_expr.specs.StdinUses.{has_stdin}
 use Rattle.sgb_expr.specs.declared.expressions.Family.TheVariants.{Board, Subsets}
 use Rattle.sgb_expr.proofs.WholeReading.{whole_read}
 
@@ -70,3 +71,22 @@ wrong_last_entry = refl
 wrong_comma : whole_at (codes "induced(petersen(),[1-2],0,0,0)") ≡ Err 10
 unfolding expression_at entries_at openings family_openings
 wrong_comma = refl
+
+-- standard input, by its whole word
+reads_stdin : whole_at (codes "complement(stdin,0,0,1)") ≡ Ok (Expression.Complement Expression.Stdin false false true)
+unfolding expression_at openings family_openings
+reads_stdin = refl
+
+-- 1 byte is left: nothing comes after the word
+wrong_after_stdin : whole_at (codes "stdinx") ≡ Err 1
+unfolding expression_at openings family_openings
+wrong_after_stdin = refl
+
+-- no word begins with `stdi` and something else, so 2 bytes are left
+wrong_in_stdin : whole_at (codes "stdixx") ≡ Err 2
+unfolding expression_at openings family_openings
+wrong_in_stdin = refl
+
+-- it stands in an entry of an entry's graph
+finds_stdin : has_stdin (Expression.Induced (Expression.Family (Subsets petersen)) (Entries.EntryThen (Entry.Number (pos 3)) (Entries.EntryThen (Entry.Graph (Expression.Lines Expression.Stdin true)) Entries.NoEntries)) false true false) ≡ true
+finds_stdin = refl

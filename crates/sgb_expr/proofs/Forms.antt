@@ -7,9 +7,9 @@ use Rattle.sgb_expr.specs.Operations.{AreEntries, AreOperands, IsCallOf, IsEntry
 use Rattle.sgb_expr.specs.Readings.{◌>>=◌, then_read, read_after, read_as, fixed_at, integers_at}
 use Rattle.sgb_expr.specs.Reading.{arguments_with, entries_at, entry_list_at, operands_with}
 use Rattle.sgb_expr.specs.declared.names.Name.{Name}
-use Rattle.sgb_expr.specs.declared.names.Name.TheVariants.{Family, Complement, Gunion, Intersection, Lines, Product, Induced, BiComplete, Wheel}
+use Rattle.sgb_expr.specs.declared.names.Name.TheVariants.{Family, Complement, Gunion, Intersection, Lines, Product, Induced, BiComplete, Wheel, Stdin}
 use Rattle.sgb_expr.proofs.Readers.{Reads, reads_then, reads_as}
-use Rattle.sgb_expr.proofs.Words.{Anything}
+use Rattle.sgb_expr.proofs.Words.{Anything, reads_fixed}
 use Rattle.sgb_expr.proofs.Lengths.{Language, Reader, Within, Agree, no_longer, fixed_no_longer, bind_agrees}
 use Rattle.sgb_expr.proofs.FamilyReaders.{close_end, reads_after, reads_family, reads_integers}
 use Rattle.sgb_expr.proofs.EntryReaders.{Inside, none_before, reads_entries, entries_more, entries_agree}
@@ -99,3 +99,4 @@ form_of Product = form_as product_of operands_form
 form_of Induced = form_then inside induced_form
 form_of BiComplete = plain (reads_as bi_complete_of (reads_integers [] 3 (codes ")") close_end))
 form_of Wheel = plain (reads_as wheel_of (reads_integers [] 3 (codes ")") close_end))
+form_of Stdin = plain (reads_fixed Expression.Stdin [])

@@ -11,5 +11,6 @@ pub mod Forms
 pub mod Nesting
 pub mod EntryLists
 pub mod CodeExpressions
+pub mod StdinUses
 pub mod WholeReading
 pub mod Examples

@@ -12,7 +12,7 @@ use Rattle.sgb_expr.specs.Reading.{arguments_with, expression_at, nested_at}
 use Rattle.sgb_expr.specs.declared.names.FamilyName.{FamilyName}
 use Rattle.sgb_expr.specs.declared.names.FamilyName.TheVariants.{Board, Simplex, Subsets, Complete, Transitive, Empty, Circuit, Cycle, DisjointSubsets, Petersen}
 use Rattle.sgb_expr.specs.declared.names.Name.{Name}
-use Rattle.sgb_expr.specs.declared.names.Name.TheVariants.{Family, Complement, Gunion, Intersection, Lines, Product, Induced, BiComplete, Wheel}
+use Rattle.sgb_expr.specs.declared.names.Name.TheVariants.{Family, Complement, Gunion, Intersection, Lines, Product, Induced, BiComplete, Wheel, Stdin}
 use Rattle.sgb_expr.specs.declared.wrong.Wrong.{Wrong}
 use Rattle.sgb_expr.specs.declared.wrong.Wrong.TheVariants.{Left, NoRoom}
 use Rattle.sgb_expr.proofs.Readers.{Reads, bind_of, bind_stops, reads_then, reads_as, reads_is}
@@ -48,7 +48,7 @@ family_is_there DisjointSubsets = family_there 8 (lit< tt)
 family_is_there Petersen = family_there 9 (lit< tt)
 
 -- the opening of form i stands among all
-there : (i : ℕ) → i < 18 → IsWord openings (opening_of (get_or all_names i Complement)) (get_or all_names i Complement)
+there : (i : ℕ) → i < 19 → IsWord openings (opening_of (get_or all_names i Complement)) (get_or all_names i Complement)
 unfolding openings
 there i h = word_there opening_of all_names i Complement h
 
@@ -71,6 +71,7 @@ name_is_there Product = there 14 (lit< tt)
 name_is_there Induced = there 15 (lit< tt)
 name_is_there BiComplete = there 16 (lit< tt)
 name_is_there Wheel = there 17 (lit< tt)
+name_is_there Stdin = there 18 (lit< tt)
 
 -- an opening is that of its name
 opening_is : {N : Type 0} (opening : N → List ℕ) (names : List N) (text : List ℕ) (name : N) → IsWord (map (λ n. (opening n, n)) names) text name → text ≡ opening name
@@ -109,7 +110,7 @@ reads_openings : Reads (IsWord openings) Anything (word_at openings)
 unfolding openings
 reads_openings =
     let families = Simplex ∷ Subsets ∷ Complete ∷ Transitive ∷ Empty ∷ Circuit ∷ Cycle ∷ DisjointSubsets ∷ Petersen ∷ [] in
-    let later = map (λ name. Family name) families ++ Complement ∷ Gunion ∷ Intersection ∷ Lines ∷ Product ∷ Induced ∷ BiComplete ∷ Wheel ∷ [] in
+    let later = map (λ name. Family name) families ++ Complement ∷ Gunion ∷ Intersection ∷ Lines ∷ Product ∷ Induced ∷ BiComplete ∷ Wheel ∷ Stdin ∷ [] in
     reads_words (opening_of (Family Board), Family Board) (map (λ name. (opening_of name, name)) later) refl
 
 -- what is left after a name is shorter than the text

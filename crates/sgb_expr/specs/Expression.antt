@@ -7,7 +7,7 @@ use Rattle.sgb_expr.specs.declared.entries.EntryExpr.TheVariants as entry
 use Rattle.sgb_expr.specs.declared.expressions.Family.{Family as Generator}
 
 mutual
-  -- an expression that names a graph: a generator with its parameters, or an operation on expressions
+  -- an expression that names a graph: a generator with its parameters, an operation on expressions, or standard input
   pub data Expression : Type 0 where
     Family : Generator → Expression
     Complement : (graph : Expression) → (copy self_loops directed : Bool) → Expression
@@ -18,6 +18,7 @@ mutual
     Induced : (graph : Expression) → (entries : Entries) → (self_loops multi directed : Bool) → Expression
     BiComplete : (n1 n2 : ℤ) → (directed : Bool) → Expression
     Wheel : (n n1 : ℤ) → (directed : Bool) → Expression
+    Stdin : Expression
 
   -- an entry of an induced graph: an integer or an expression
   pub data Entry : Type 0 where
@@ -46,6 +47,7 @@ abbrev mutual
   expression_of (expr.Induced' p graph shape entries self_loops multi directed) = Induced (expression_of graph) (row_entries entries) self_loops multi directed
   expression_of (expr.BiComplete n1 n2 directed) = BiComplete n1 n2 directed
   expression_of (expr.Wheel n n1 directed) = Wheel n n1 directed
+  expression_of expr.Stdin = Stdin
 
   pub entry_of : EntryExpr → Entry
   entry_of (entry.Number n) = Number n

@@ -18,8 +18,8 @@ most_bytes = 65_536
 abbrev pub most_depth : ℕ
 most_depth = 64
 
--- the text is this expression, in which operations stand one in another at most so deep: a name, `(`, and arguments of its
--- form with `)`
+-- the text is this expression, in which operations stand one in another at most so deep: a name, with a `(` where its form has
+-- arguments, and these with `)`
 abbrev pub IsNested : ℕ → List ℕ → Expression → Type 0
 IsNested zero text e =
     (name : FamilyName) × (arguments : List ℕ) × (text ≡ opening_of (form.Family name) ++ arguments) × IsGenerator name arguments e

@@ -11,3 +11,4 @@ pub mod Reading
 pub mod Gives
 pub mod TwoGraphs
 pub mod CodeEntries
+pub mod StdinUses

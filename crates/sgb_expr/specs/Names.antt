@@ -3,9 +3,9 @@ use Rattle.std.specs.Prelude.{ℕ, List, [], ◌∷◌, ◌++◌, codes, map}
 use Rattle.sgb_expr.specs.declared.names.FamilyName.{FamilyName}
 use Rattle.sgb_expr.specs.declared.names.FamilyName.TheVariants.{Board, Simplex, Subsets, Complete, Transitive, Empty, Circuit, Cycle, DisjointSubsets, Petersen}
 use Rattle.sgb_expr.specs.declared.names.Name.{Name}
-use Rattle.sgb_expr.specs.declared.names.Name.TheVariants.{Family, Complement, Gunion, Intersection, Lines, Product, Induced, BiComplete, Wheel}
+use Rattle.sgb_expr.specs.declared.names.Name.TheVariants.{Family, Complement, Gunion, Intersection, Lines, Product, Induced, BiComplete, Wheel, Stdin}
 
--- a form's name and the parenthesis after it
+-- a form's name, with the parenthesis after it where it has arguments
 abbrev pub opening_of : Name → List ℕ
 opening_of (Family Board) = codes "board("
 opening_of (Family Simplex) = codes "simplex("
@@ -25,6 +25,7 @@ opening_of Product = codes "product("
 opening_of Induced = codes "induced("
 opening_of BiComplete = codes "bi_complete("
 opening_of Wheel = codes "wheel("
+opening_of Stdin = codes "stdin"
 
 -- each name of a generator, once
 abbrev pub all_family_names : List FamilyName
@@ -35,7 +36,7 @@ all_family_names =
 abbrev pub all_names : List Name
 all_names =
     map (λ name. Family name) all_family_names
-    ++ Complement ∷ Gunion ∷ Intersection ∷ Lines ∷ Product ∷ Induced ∷ BiComplete ∷ Wheel ∷ []
+    ++ Complement ∷ Gunion ∷ Intersection ∷ Lines ∷ Product ∷ Induced ∷ BiComplete ∷ Wheel ∷ Stdin ∷ []
 
 -- the openings of generators, each with its name
 unfoldable pub family_openings : List (List ℕ × FamilyName)

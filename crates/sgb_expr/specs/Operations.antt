@@ -6,7 +6,7 @@ use Rattle.sgb_expr.specs.Languages.{After, As, Or, Then}
 use Rattle.sgb_expr.specs.Numbers.{IsInteger}
 use Rattle.sgb_expr.specs.declared.names.FamilyName.{FamilyName}
 use Rattle.sgb_expr.specs.declared.names.Name.{Name}
-use Rattle.sgb_expr.specs.declared.names.Name.TheVariants.{Family, Complement, Gunion, Intersection, Lines, Product, Induced, BiComplete, Wheel}
+use Rattle.sgb_expr.specs.declared.names.Name.TheVariants.{Family, Complement, Gunion, Intersection, Lines, Product, Induced, BiComplete, Wheel, Stdin}
 
 -- integer number k of some, counted from 0, as a flag
 abbrev pub flag_at : List ℤ → ℕ → Bool
@@ -74,7 +74,8 @@ AreEntries Inner separator text (entry ∷ others) =
 abbrev pub IsEntryList : (List ℕ → Expression → Type 0) → List ℕ → List Entry → Type 0
 IsEntryList Inner = After (codes "[") (AreEntries Inner [])
 
--- the text is the arguments of the form of this name, to its `)`, where Inner tells the texts of the expressions inside
+-- the text is what follows the name in the form of this name: its arguments to the `)`, where Inner tells the texts of the
+-- expressions inside; nothing after `stdin`
 abbrev pub IsCallOf : (List ℕ → Expression → Type 0) → Name → List ℕ → Expression → Type 0
 IsCallOf Inner (Family name) = IsGenerator name
 IsCallOf Inner Complement = Then Inner (λ graph. As (complement_of graph) (AreNumbers (codes ",") 3 (codes ")")))
@@ -87,3 +88,4 @@ IsCallOf Inner Induced =
     As (induced_of graph entries) (AreNumbers (codes ",") 3 (codes ")")))))
 IsCallOf Inner BiComplete = As bi_complete_of (AreArguments 3)
 IsCallOf Inner Wheel = As wheel_of (AreArguments 3)
+IsCallOf Inner Stdin = λ text e. (text ≡ []) × (e ≡ Expression.Stdin)

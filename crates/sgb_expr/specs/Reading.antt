@@ -85,7 +85,7 @@ induced_with inner =
     then_read inner (λ graph. read_after (codes ",") (then_read (entry_list_at inner) (λ entries.
     read_as (induced_of graph entries) (integers_at (codes ",") 3 (codes ")")))))
 
--- the arguments of the form of this name, where `inner` reads the expressions inside
+-- the arguments of the form of this name, where `inner` reads the expressions inside; `stdin` has none
 abbrev pub arguments_with : (List ℕ → Result (Expression × List ℕ) ℕ) → Name → List ℕ → Result (Expression × List ℕ) ℕ
 arguments_with inner (name.Family family) = generator_at family
 arguments_with inner name.Complement = complement_with inner
@@ -96,6 +96,7 @@ arguments_with inner name.Product = read_as product_of (operands_with inner)
 arguments_with inner name.Induced = induced_with inner
 arguments_with inner name.BiComplete = read_as bi_complete_of (integers_at [] 3 (codes ")"))
 arguments_with inner name.Wheel = read_as wheel_of (integers_at [] 3 (codes ")"))
+arguments_with inner name.Stdin = fixed_as Expression.Stdin []
 
 -- the expression with which the text begins, where operations stand one in another at most so deep
 abbrev pub nested_at : ℕ → List ℕ → Result (Expression × List ℕ) ℕ

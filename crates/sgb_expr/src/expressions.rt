@@ -79,6 +79,8 @@ pub enum Expr {
         n1: i64,
         directed: bool,
     },
+    /// The graph of the file on standard input (GB_SAVE, restore_graph).
+    Stdin,
 }
 
 /// Why a text is not read as an expression.
@@ -92,8 +94,8 @@ pub enum Unread {
     NoRoom,
 }
 
-/// The expression that the text is: one of GraphBase's official names and, in parentheses, its arguments with commas
-/// between them, with no spaces: `board`, `simplex`, `subsets` and their special cases, with integers; `complement`
+/// The expression that the text is: `stdin`, or one of GraphBase's official names and, in parentheses, its arguments
+/// with commas between them, with no spaces: `board`, `simplex`, `subsets` and their special cases, with integers; `complement`
 /// with an expression and three integers, `gunion` and `intersection` with two expressions and two integers, `lines`
 /// with an expression and an integer, `product` with two expressions and two integers, `induced` with an expression,
 /// entries and three integers, `bi_complete` and `wheel` with three integers (GB_BASIC). Entries are a `[`, integers and

@@ -8,6 +8,7 @@ mod measure;
 mod names;
 mod numbers;
 mod operations;
+mod stdin_uses;
 mod wrong;
 
 pub use entries::{Entries, EntryExpr};

@@ -34,10 +34,11 @@ pub(crate) enum Name {
     Induced,
     BiComplete,
     Wheel,
+    Stdin,
 }
 
 // Each name, once.
-const ALL: [Name; 18] = [
+const ALL: [Name; 19] = [
     Name::Family(FamilyName::Board),
     Name::Family(FamilyName::Simplex),
     Name::Family(FamilyName::Subsets),
@@ -56,9 +57,11 @@ const ALL: [Name; 18] = [
     Name::Induced,
     Name::BiComplete,
     Name::Wheel,
+    Name::Stdin,
 ];
 
-/// The name with which the text begins and the text after its parenthesis, or where the text begins no name.
+/// The name with which the text begins, and the text after it and its parenthesis, if its form has one; or where the
+/// text begins no name.
 pub(crate) fn opening(text: &[u8]) -> Result<(Name, &[u8]), Wrong>
     ensures { Gives (λ x. (x.0, x.1.now)) result (word_at openings text.now) }
 {
@@ -73,7 +76,7 @@ pub(crate) fn opening(text: &[u8]) -> Result<(Name, &[u8]), Wrong>
     Err(Wrong::Left(left))
 }
 
-// The name and the parenthesis after it.
+// The name, and the parenthesis after it where the form has one.
 fn text_of(name: Name) -> &'static [u8]
     ensures { result.now ≡ opening_of name }
 {
@@ -96,5 +99,6 @@ fn text_of(name: Name) -> &'static [u8]
         Name::Induced => b"induced(",
         Name::BiComplete => b"bi_complete(",
         Name::Wheel => b"wheel(",
+        Name::Stdin => b"stdin",
     }
 }

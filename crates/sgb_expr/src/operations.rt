@@ -26,7 +26,8 @@ pub(crate) fn expression(alloc: Global, text: &[u8]) -> Result<(Expr, &[u8]), Wr
     arguments(alloc, name, rest)
 }
 
-// The expression whose name has been read, and the text after its `)`; or where the text goes wrong.
+// The expression whose name has been read, and the text after its `)`, if its form has one; or where the text goes
+// wrong.
 #[cycle(expressions)]
 fn arguments(alloc: Global, name: Name, text: &[u8]) -> Result<(Expr, &[u8]), Wrong>
     ensures { Gives (λ x. (expression_of x.0, x.1.now)) result (arguments_with expression_at name text.now) }
@@ -53,6 +54,7 @@ fn arguments(alloc: Global, name: Name, text: &[u8]) -> Result<(Expr, &[u8]), Wr
         Name::Induced => induced(alloc, text),
         Name::BiComplete => bi_complete(text),
         Name::Wheel => wheel(text),
+        Name::Stdin => Ok((Expr::Stdin, text)),
     }
 }
 
