@@ -2,6 +2,7 @@
 pub mod ChecksumLemmas
 pub mod RestoringLemmas
 pub mod LayoutLemmas
+pub mod LinesLeftLemmas
 pub mod LineLemmas
 pub mod LaidOutText
 pub mod FieldReading

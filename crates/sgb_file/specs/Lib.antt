@@ -8,3 +8,4 @@ pub mod Restoring
 pub mod Saving
 pub mod Saved
 pub mod Layouts
+pub mod LinesLeft

@@ -2,8 +2,10 @@
 //! stands for, and the text of a graph.
 #![tactic(auto)]
 
+mod checksums;
 mod devices;
 mod laws;
+mod reading;
 mod saving;
 
 pub use devices::{

@@ -1,6 +1,7 @@
 //! The checksum of a file, made byte by byte (GB_IO, new_checksum).
-ghost use Rattle.std.specs.Prelude.{◌≡◌};
-ghost use Rattle.sgb_file.specs.Layouts.{checksum_after, checksum_from, place_of, places};
+ghost use Rattle.std.specs.Prelude.{◌≡◌, ◌∷◌, []};
+ghost use Rattle.sgb_file.specs.Checksum.{has_star};
+ghost use Rattle.sgb_file.specs.Layouts.{checksum_after, checksum_from, counted_bytes, place_of, places};
 
 // The checksum is taken modulo this prime.
 const PRIME: u64 = 1_073_741_741;
@@ -26,9 +27,26 @@ const PLACES: [u8; 256] = [
     96, 96, 96, 96, 96, 96, 96, 96, 96, 96, 96, 96, 96, 96, 96, 96,
 ];
 
+// The checksum after a line more, from the checksum before it: where the line begins with a star, it does not count.
+pub(crate) fn checksum_after_line(sum: u32, line: &[u8]) -> u32
+    ensures { result ≡ checksum_from sum (counted_bytes (line.now ∷ [])) }
+{
+    if has_star(line) {
+        return sum;
+    }
+    checksum_from(checksum_from(sum, line), b"\n")
+}
+
+// Whether the line begins with a star.
+fn has_star(line: &[u8]) -> bool
+    ensures { result ≡ has_star line.now }
+{
+    !line.is_empty() && line[0] == b'*'
+}
+
 // The checksum after these bytes, from the checksum before them.
 #[tactic(auto, unfolding(crate::specs::Layouts::checksum_from))]
-pub(super) fn checksum_from(sum: u32, bytes: &[u8]) -> u32
+fn checksum_from(sum: u32, bytes: &[u8]) -> u32
     ensures { result ≡ checksum_from sum bytes.now }
 {
     bytes
