@@ -35,23 +35,18 @@ has_no_newline line = list_all (λ b. not (b == 10)) line
 abbrev pub lines_passed : LinesLeft → List (List ℕ)
 lines_passed s = take (length s.all - suc (length s.others)) s.all
 
--- where a line of a file is under way: all lines, those before it with their checksum, this one and those after it
-pub record IsUnderWay (all : List (List ℕ)) (line : List ℕ) (others : List (List ℕ)) (sum : ℕ) : Type 0 where
+-- these lines are left of all, with the checksum of those that were passed
+pub record HasPassed (all left : List (List ℕ)) (sum : ℕ) : Type 0 where
   pub passed : List (List ℕ)
-  pub made : all ≡ passed ++ line ∷ others
+  pub made : all ≡ passed ++ left
   pub checksum : sum ≡ checksum_of_lines passed
 
 -- the lines that are left of a file's bytes: what is left of the line under way, and the bytes after it
 abbrev pub lines_left : List ℕ → Option (List ℕ) → List ℕ → LinesLeft
 lines_left all line rest = record { all = clean_lines all; line = line; others = clean_lines rest }
 
--- the line that was begun is in its place, with the checksum of those before it; what is left of it is an end of it
+-- the line that was begun is in its place, with the checksum of those before it, and what is left of it is an end of it
 abbrev pub AreLinesLeft : List ℕ → Option (List ℕ) → List ℕ → List ℕ → ℕ → Type 0
 AreLinesLeft all None begun rest sum = clean_lines rest ≡ []
 AreLinesLeft all (Some line) begun rest sum =
-    IsUnderWay (clean_lines all) begun (clean_lines rest) sum × (count : ℕ) × (line ≡ drop count begun)
-
--- the first of the lines of these bytes, without the spaces at its end, with the bytes after it; none where there is none
-abbrev pub IsFirstLine : List ℕ → Option (List ℕ) → List ℕ → Type 0
-IsFirstLine bytes None rest = (bytes ≡ []) × (rest ≡ [])
-IsFirstLine bytes (Some line) rest = clean_lines bytes ≡ line ∷ clean_lines rest
+    HasPassed (clean_lines all) (begun ∷ clean_lines rest) sum × (count : ℕ) × (line ≡ drop count begun)

@@ -1,8 +1,9 @@
 //! What is left of the lines of a file while they are read (GB_IO).
-ghost use Rattle.std.specs.Prelude.{◌≡◌, ◌≢◌, ◌≤◌, [], ◌∷◌, List, ℕ, Some, None, IfSome, length, IsTrue, option_map};
+ghost use Rattle.std.specs.Prelude.{◌≡◌, ◌≢◌, ◌≤◌, ◌==◌, [], ◌∷◌, List, ℕ, Some, None, IfSome, length, IsTrue, option_map, position};
+ghost use Rattle.std.specs.List.{position_or_len};
 ghost use Rattle.sgb_file.specs.Checksum.{checksum_of_lines};
-ghost use Rattle.sgb_file.specs.FileLines.{clean_lines, lines_of_text, without_end_spaces};
-ghost use Rattle.sgb_file.specs.LinesLeft.{IsFirstLine, has_no_newline, lines_passed, next_begun, none_begun, skipped};
+ghost use Rattle.sgb_file.specs.FileLines.{clean_lines, without_end_spaces};
+ghost use Rattle.sgb_file.specs.LinesLeft.{HasPassed, has_no_newline, lines_left, lines_passed, next_begun, none_begun, skipped};
 
 use crate::checksums::checksum_after_line;
 use std::marker::Model;
@@ -34,13 +35,30 @@ impl<'a> Lines<'a> {
     pub(super) fn new(bytes: &'a [u8]) -> Lines<'a>
         ensures { result ≡ next_begun (none_begun (clean_lines bytes.now)) }
     {
-        let (line, rest) = begin_line(bytes);
+        Lines::begin(bytes, bytes, 0)
+    }
+
+    // The lines of which these bytes are left, with no line under way: the next one is begun.
+    fn begin(all: &'a [u8], bytes: &'a [u8], sum: u32) -> Lines<'a>
+        requires { HasPassed (clean_lines all.now) (clean_lines bytes.now) sum }
+        ensures { result ≡ next_begun (lines_left all.now None bytes.now) }
+    {
+        if bytes.is_empty() {
+            return Lines {
+                all,
+                line: None,
+                begun: bytes,
+                rest: bytes,
+                sum,
+            };
+        }
+        let (line, rest) = first_line(bytes);
         Lines {
-            all: bytes,
-            line,
-            begun: line.unwrap_or_default(),
+            all,
+            line: Some(line),
+            begun: line,
             rest,
-            sum: 0,
+            sum,
         }
     }
 
@@ -68,14 +86,7 @@ impl<'a> Lines<'a> {
         ensures { self.new ≡ next_begun self.old }
     {
         let sum = checksum_after_line(self.sum, self.begun);
-        let (line, rest) = begin_line(self.rest);
-        *self = Lines {
-            all: self.all,
-            line,
-            begun: line.unwrap_or_default(),
-            rest,
-            sum,
-        };
+        *self = Lines::begin(self.all, self.rest, sum);
     }
 
     // The checksum of the lines before the one under way.
@@ -87,32 +98,38 @@ impl<'a> Lines<'a> {
     }
 }
 
-// The first line of these bytes, without the spaces at its end, and the bytes after it; no line where there are no bytes.
-fn begin_line(bytes: &[u8]) -> (Option<&[u8]>, &[u8])
-    ensures { IsFirstLine bytes.now (option_map (λ line. line.now) result.0) result.1.now }
+// The first line of these bytes, without the spaces at its end, and the bytes after it.
+pub(super) fn first_line(bytes: &[u8]) -> (&[u8], &[u8])
+    requires { length bytes.now ≢ 0 }
+    ensures { clean_lines bytes.now ≡ result.0.now ∷ clean_lines result.1.now }
 {
-    if bytes.is_empty() {
-        return (None, bytes);
+    let end = line_length(bytes);
+    if end == bytes.len() {
+        return (without_end_spaces(bytes), &bytes[end..]);
     }
-    let (line, rest) = split_line(bytes);
-    (Some(without_end_spaces(line)), rest)
+    (without_end_spaces(&bytes[..end]), &bytes[end + 1..])
 }
 
-// The bytes before the first newline, and those after it; without a newline, all bytes and none.
-fn split_line(bytes: &[u8]) -> (&[u8], &[u8])
-    requires { length bytes.now ≢ 0 }
-    ensures { lines_of_text bytes.now ≡ result.0.now ∷ lines_of_text result.1.now }
+// How many bytes stand before the first newline, or in all.
+fn line_length(bytes: &[u8]) -> usize
+    ensures { result ≡ position_or_len (λ b. b == 10) bytes.now }
 {
-    match bytes.iter().position(|b| *b == b'\n') {
-        Some(end) => (&bytes[..end], &bytes[end + 1..]),
-        None => (bytes, b""),
-    }
+    newline_in(bytes).unwrap_or(bytes.len())
+}
+
+// The place of the first newline.
+fn newline_in(bytes: &[u8]) -> Option<usize>
+    ensures { result ≡ position (λ b. b == 10) bytes.now }
+{
+    bytes.iter().position(|byte| *byte == b'\n')
 }
 
 // A line without the spaces at its end.
-fn without_end_spaces(line: &[u8]) -> &[u8]
+fn without_end_spaces<'a>(mut line: &'a [u8]) -> &'a [u8]
     ensures { result.now ≡ without_end_spaces line.now }
 {
-    let length = line.iter().rposition(|b| *b != b' ').map_or(0, |last| last + 1);
-    &line[..length]
+    while !line.is_empty() && line[line.len() - 1] == b' ' {
+        line = &line[..line.len() - 1];
+    }
+    line
 }
