@@ -3,6 +3,10 @@ pub mod ChecksumLemmas
 pub mod RestoringLemmas
 pub mod LayoutLemmas
 pub mod LinesLeftLemmas
+pub mod NumberReading
+pub mod ReadParts
+pub mod Sections
+pub mod Endings
 pub mod LineLemmas
 pub mod LaidOutText
 pub mod FieldReading

@@ -11,8 +11,8 @@ use Rattle.std.proofs.lemmas.Bool.Decides.{nat_tests, Decides-eqb}
 use Rattle.sgb_file.specs.FileLines.{lines_among, lines_of_text, clean_lines, text_of_lines, without_end_spaces}
 use Rattle.sgb_file.specs.Checksum.{checksum_of_lines}
 use Rattle.sgb_file.specs.Layouts.{checksum_from, counted_bytes}
-use Rattle.sgb_file.specs.LinesLeft.{LinesLeft, text_left, skipped, next_begun, has_no_newline, HasPassed, AreLinesLeft, lines_left}
-use Rattle.sgb_file.proofs.LineLemmas.{clean_are_one_line, is_one_line, is_within_line, ends_well, ends_well-last, list_all-drop, first_line, some_part}
+use Rattle.sgb_file.specs.LinesLeft.{LinesLeft, text_left, skipped, next_begun, has_no_newline, HasPassed, AreLinesLeft, lines_left, lines_still}
+use Rattle.sgb_file.proofs.LineLemmas.{clean_are_one_line, is_one_line, is_within_line, ends_well, ends_well-last, list_all-drop, first_line, some_part, line_read, lines_read}
 use Rattle.sgb_file.proofs.LaidLines.{checksum_from-append, counted-append}
 use Rattle.sgb_file.proofs.WholeText.{checksum-whole}
 
@@ -147,3 +147,21 @@ no_bytes (b ∷ bytes) e = absurd (omega (arith, (Decides-eqb (length (b ∷ byt
 
 pub some_bytes : (bytes : List ℕ) → (length bytes == 0) ≡ false → length bytes ≡ suc (length bytes - 1)
 some_bytes bytes e = grind (arith, nat_tests, e)
+
+-- the lines of the text that is left are those that are left
+pub left_lines : (all : List ℕ) (line : Option (List ℕ)) (begun rest : List ℕ) (sum : ℕ) → AreLinesLeft all line begun rest sum
+    → lines_of_text (text_left (lines_left all line rest)) ≡ lines_still (lines_left all line rest)
+unfolding lines_among
+left_lines all None begun rest sum h = refl
+left_lines all (Some line) begun rest sum h =
+    let lines : list_all is_one_line (h.0.passed ++ begun ∷ clean_lines rest) ≡ true = subst (λ ls. list_all is_one_line ls ≡ true) h.0.made (clean_are_one_line all) in
+    let last = and_parts (list_all is_one_line h.0.passed) (list_all is_one_line (begun ∷ clean_lines rest)) (sym (list_all-append is_one_line h.0.passed (begun ∷ clean_lines rest)) ∙ lines) in
+    let first = and_parts (is_one_line begun) (list_all is_one_line (clean_lines rest)) last.1 in
+    let one : is_one_line line ≡ true = subst (λ l. is_one_line l ≡ true) (sym h.2) (list_all-drop is_within_line h.1 begun first.0) in
+    line_read line (text_of_lines (clean_lines rest)) one
+    ∙ ap (λ ls. line ∷ ls) (ap lines_of_text (sym (append-nil (text_of_lines (clean_lines rest)))) ∙ lines_read (clean_lines rest) [] first.1 ∙ append-nil (clean_lines rest))
+
+-- the text of lines of which the first one is begun
+pub begun_text : (all others : List (List ℕ)) → text_left (next_begun (record { all = all; line = None; others = others })) ≡ text_of_lines others
+begun_text all [] = refl
+begun_text all (line ∷ others) = sym (append_assoc line (10 ∷ []) (text_of_lines others))

@@ -9,3 +9,5 @@ pub mod Saving
 pub mod Saved
 pub mod Layouts
 pub mod LinesLeft
+pub mod Found
+pub mod Reading

@@ -15,6 +15,10 @@ pub record LinesLeft : Type 0 where
 abbrev pub text_left : LinesLeft → List ℕ
 text_left s = option_map_or (λ line. line ++ 10 ∷ text_of_lines s.others) s.line []
 
+-- what is left of the line under way, and the lines after it
+abbrev pub lines_still : LinesLeft → List (List ℕ)
+lines_still s = option_map_or (λ line. line ∷ s.others) s.line []
+
 -- the line under way without so many bytes at its beginning
 abbrev pub skipped : ℕ → LinesLeft → LinesLeft
 skipped count s = record s { line = option_map (λ line. drop count line) s.line }

@@ -38,7 +38,7 @@ pub(crate) fn checksum_after_line(sum: u32, line: &[u8]) -> u32
 }
 
 // Whether the line begins with a star.
-fn has_star(line: &[u8]) -> bool
+pub(crate) fn has_star(line: &[u8]) -> bool
     ensures { result ≡ has_star line.now }
 {
     !line.is_empty() && line[0] == b'*'

@@ -2,8 +2,8 @@
 ghost use Rattle.std.specs.Prelude.{◌≡◌, ◌≢◌, ◌≤◌, ◌==◌, [], ◌∷◌, List, ℕ, Some, None, IfSome, length, IsTrue, option_map, position};
 ghost use Rattle.std.specs.List.{position_or_len};
 ghost use Rattle.sgb_file.specs.Checksum.{checksum_of_lines};
-ghost use Rattle.sgb_file.specs.FileLines.{clean_lines, without_end_spaces};
-ghost use Rattle.sgb_file.specs.LinesLeft.{HasPassed, has_no_newline, lines_left, lines_passed, next_begun, none_begun, skipped};
+ghost use Rattle.sgb_file.specs.FileLines.{clean_lines, lines_of_text, without_end_spaces};
+ghost use Rattle.sgb_file.specs.LinesLeft.{HasPassed, has_no_newline, lines_left, lines_passed, lines_still, next_begun, none_begun, skipped, text_left};
 
 use crate::checksums::checksum_after_line;
 use std::marker::Model;
@@ -66,6 +66,7 @@ impl<'a> Lines<'a> {
     pub(super) fn line(&self) -> Option<&'a [u8]>
         ensures left { option_map (λ line. line.now) result ≡ self.now.line }
         ensures one { IfSome result (λ line. IsTrue (has_no_newline line.now)) }
+        ensures lines { lines_of_text (text_left self.now) ≡ lines_still self.now }
     {
         self.line
     }
