@@ -6,6 +6,10 @@ pub mod LinesLeftLemmas
 pub mod LineLemmas
 pub mod LaidOutText
 pub mod FieldReading
+pub mod NumberReading
+pub mod LeftTexts
+pub mod FoundSteps
+pub mod StringReading
 pub mod RecordReading
 pub mod WrittenLines
 pub mod FileReading

@@ -9,3 +9,4 @@ pub mod Saving
 pub mod Saved
 pub mod Layouts
 pub mod LinesLeft
+pub mod Found

@@ -1,3 +1,8 @@
 //! Reading a `.gb` file (GB_SAVE, restore_graph).
+mod fields;
 mod heads;
 mod lines;
+mod numbers;
+mod records;
+mod separators;
+mod strings;
