@@ -131,15 +131,15 @@ pub field_stops : (counts : Counts) (kinds : List Kind) (i : ℕ) (kind d : Kind
     → IsFoundBy (next_field_at counts kind text) (Err e) left → IsFoundBy whole (Err e) after
 field_stops counts kinds i kind d first whole text left after e h is so p =
     subst (λ (o : Option (Found (List Util))). IsFoundBy o (Err e) after) (sym (so ∙ ap (with_first first) (this_field counts kinds i kind d text h is))) (stops e p) where
-  stops : (e : Panic) → IsFoundBy (next_field_at counts kind text) (Err e) left
-      → IsFoundBy (with_first first (given (next_field_at counts kind text) (λ field. found_as (λ fields. field.value ∷ fields) (more_fields_at counts (drop (i + 1) kinds) field.rest)))) (Err e) after
-  stops Syntax p = rw p refl
-  stops NoRoom p = tt
-  stops Early p = absurd p
-  stops Late p = absurd p
-  stops Bad p = absurd p
-  stops VeryBad p = absurd p
-  stops Invalid p = absurd p
+      stops : (e : Panic) → IsFoundBy (next_field_at counts kind text) (Err e) left
+          → IsFoundBy (with_first first (given (next_field_at counts kind text) (λ field. found_as (λ fields. field.value ∷ fields) (more_fields_at counts (drop (i + 1) kinds) field.rest)))) (Err e) after
+      stops Syntax p = rw p refl
+      stops NoRoom p = tt
+      stops Early p = absurd p
+      stops Late p = absurd p
+      stops Bad p = absurd p
+      stops VeryBad p = absurd p
+      stops Invalid p = absurd p
 
 pub field_read : (counts : Counts) (kinds : List Kind) (i : ℕ) (kind d : Kind) (fields : List Util) (u : Util) (whole : Option (Found (List Util))) (text left : List ℕ)
     → i < length kinds → i < length fields → kind ≡ get_or kinds i d → whole ≡ with_first (take i fields) (more_fields_at counts (drop i kinds) text)
@@ -167,14 +167,14 @@ pub end_stops : (counts : Counts) (kinds : List Kind) (i : ℕ) (first : List Ut
     → length kinds ≤ i → whole ≡ with_first first (more_fields_at counts (drop i kinds) text) → IsPassedBy (after_prefix (codes "\n") text) (Err e) left → IsFoundBy whole (Err e) after
 end_stops counts kinds i first whole text left after e h so p =
     subst (λ (o : Option (Found (List Util))). IsFoundBy o (Err e) after) (sym (at_end counts kinds i first whole text h so)) (stops e p) where
-  stops : (e : Panic) → IsPassedBy (after_prefix (codes "\n") text) (Err e) left → IsFoundBy (option_map (λ rest. record { value = first; rest = rest }) (after_prefix (codes "\n") text)) (Err e) after
-  stops Syntax p = rw p refl
-  stops NoRoom p = tt
-  stops Early p = absurd p
-  stops Late p = absurd p
-  stops Bad p = absurd p
-  stops VeryBad p = absurd p
-  stops Invalid p = absurd p
+      stops : (e : Panic) → IsPassedBy (after_prefix (codes "\n") text) (Err e) left → IsFoundBy (option_map (λ rest. record { value = first; rest = rest }) (after_prefix (codes "\n") text)) (Err e) after
+      stops Syntax p = rw p refl
+      stops NoRoom p = tt
+      stops Early p = absurd p
+      stops Late p = absurd p
+      stops Bad p = absurd p
+      stops VeryBad p = absurd p
+      stops Invalid p = absurd p
 
 pub end_read : (counts : Counts) (kinds : List Kind) (i : ℕ) (fields : List Util) (whole : Option (Found (List Util))) (text left : List ℕ)
     → length kinds ≤ i → length fields ≤ i → whole ≡ with_first (take i fields) (more_fields_at counts (drop i kinds) text) → after_prefix (codes "\n") text ≡ Some left

@@ -222,20 +222,20 @@ printable [] h = All-nil IsTextByte
 printable (b ∷ bytes) h =
     let parts = and_parts (is_string_byte b) (list_all is_string_byte bytes) h in
     All-cons IsTextByte b bytes (text_byte b parts.0) (printable bytes parts.1) where
-  text_byte : (b : ℕ) → is_string_byte b ≡ true → IsTextByte b
-  text_byte b h =
-      let first = and_parts (nat_le 32 b && nat_le b 126 && not (b == 34)) (not (b == 92)) h in
-      let second = and_parts (nat_le 32 b && nat_le b 126) (not (b == 34)) first.0 in
-      let third = and_parts (nat_le 32 b) (nat_le b 126) second.0 in
-      let low = third.0 in
-      let high = third.1 in
-      let quote = not_true (b == 34) second.1 in
-      let slash = not_true (b == 92) first.1 in record {
-        from_space = grind (arith, nat_tests);
-        to_tilde = grind (arith, nat_tests);
-        no_quote = grind (arith, nat_tests);
-        no_backslash = grind (arith, nat_tests);
-      }
+      text_byte : (b : ℕ) → is_string_byte b ≡ true → IsTextByte b
+      text_byte b h =
+          let first = and_parts (nat_le 32 b && nat_le b 126 && not (b == 34)) (not (b == 92)) h in
+          let second = and_parts (nat_le 32 b && nat_le b 126) (not (b == 34)) first.0 in
+          let third = and_parts (nat_le 32 b) (nat_le b 126) second.0 in
+          let low = third.0 in
+          let high = third.1 in
+          let quote = not_true (b == 34) second.1 in
+          let slash = not_true (b == 92) first.1 in record {
+            from_space = grind (arith, nat_tests);
+            to_tilde = grind (arith, nat_tests);
+            no_quote = grind (arith, nat_tests);
+            no_backslash = grind (arith, nat_tests);
+          }
 
 -- the test of a string of at most so many bytes, one way or the other
 record Tested (most : ℕ) (bytes : List ℕ) (passed : Bool) : Type 0 where
@@ -277,17 +277,17 @@ text_found bytes left r ok refused err =
       refused = λ q. refused.1 (λ text. false_true q (test_passes most_bytes bytes text.short text.printable));
       err = λ q. err (record { short = passes_short most_bytes bytes q; printable = passes_printable most_bytes bytes q });
     }) where
-  text_ok : (r : Result (List ℕ) Panic) → IfOk r (λ s. (s ≡ bytes) × IsText bytes) → IfOk r (λ s. (s ≡ bytes) × ((nat_le (length bytes) most_bytes && list_all is_string_byte bytes) ≡ true))
-  text_ok (Ok s) h = (h.0, test_passes most_bytes bytes h.1.short h.1.printable)
-  text_ok (Err e) h = tt
+      text_ok : (r : Result (List ℕ) Panic) → IfOk r (λ s. (s ≡ bytes) × IsText bytes) → IfOk r (λ s. (s ≡ bytes) × ((nat_le (length bytes) most_bytes && list_all is_string_byte bytes) ≡ true))
+      text_ok (Ok s) h = (h.0, test_passes most_bytes bytes h.1.short h.1.printable)
+      text_ok (Err e) h = tt
 
-  false_true : {t : Bool} → t ≡ false → t ≡ true → ⊥
-  false_true a b = absurd cc
+      false_true : {t : Bool} → t ≡ false → t ≡ true → ⊥
+      false_true a b = absurd cc
 
 pub id_found : (bytes left : List ℕ) (r : Result (List ℕ) Panic) → IfOk r (λ s. (s ≡ bytes) × IsId bytes) → (IsErrOf r Syntax ↔ ¬ IsId bytes) → IsOkUnless r Syntax → IsFoundBy (string_before most_id_bytes bytes left) r left
 id_found bytes left (Ok s) ok refused err = rw (test_passes most_id_bytes bytes ok.1.short ok.1.printable, ok.0) refl
 id_found bytes left (Err e) ok refused err =
     rw err (no_text (nat_le (length bytes) most_id_bytes && list_all is_string_byte bytes) refl) where
-  no_text : (t : Bool) → (nat_le (length bytes) most_id_bytes && list_all is_string_byte bytes) ≡ t → string_before most_id_bytes bytes left ≡ None
-  no_text true q = absurd (refused.0 (ap (λ (x : Panic). Err x) err) (record { short = passes_short most_id_bytes bytes q; printable = passes_printable most_id_bytes bytes q }))
-  no_text false q = rw q refl
+      no_text : (t : Bool) → (nat_le (length bytes) most_id_bytes && list_all is_string_byte bytes) ≡ t → string_before most_id_bytes bytes left ≡ None
+      no_text true q = absurd (refused.0 (ap (λ (x : Panic). Err x) err) (record { short = passes_short most_id_bytes bytes q; printable = passes_printable most_id_bytes bytes q }))
+      no_text false q = rw q refl

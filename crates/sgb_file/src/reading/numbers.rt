@@ -46,14 +46,22 @@ pub(super) fn integer_of(text: &[u8]) -> Option<i64>
 fn negative_of(number: u128) -> Option<i64>
     ensures { result ≡ negative_of number }
 {
-    if number <= 1 << 63 { Some((-(number as i128)) as i64) } else { None }
+    if number <= 1 << 63 {
+        Some((-(number as i128)) as i64)
+    } else {
+        None
+    }
 }
 
 // The number as an integer of 64 bits.
 fn positive_of(number: u128) -> Option<i64>
     ensures { result ≡ positive_of number }
 {
-    if number < 1 << 63 { Some(number as i64) } else { None }
+    if number < 1 << 63 {
+        Some(number as i64)
+    } else {
+        None
+    }
 }
 
 // The vertex that a text stands for, one of the file's, or none of them: `V` and its number, or `0`, or `1`.

@@ -37,11 +37,7 @@ pub(super) fn read_graph_record(
 }
 
 // The graph's own fields, which end its record.
-fn read_graph_fields(
-    alloc: Global,
-    head: &Head,
-    lines: &mut Lines<'_>,
-) -> Result<[Util; 6], Panic>
+fn read_graph_fields(alloc: Global, head: &Head, lines: &mut Lines<'_>) -> Result<[Util; 6], Panic>
     ensures found { IsFoundBy (more_fields_at head.now.counts (graph_kinds head.now.kinds) (text_left lines.old)) result (text_left lines.new) }
     ensures all { lines.new.all ≡ lines.old.all }
 {
@@ -65,11 +61,7 @@ pub(super) fn read_vertex(
 }
 
 // An arc record. Without strings in it, it takes no memory.
-pub(super) fn read_arc(
-    alloc: Global,
-    head: &Head,
-    lines: &mut Lines<'_>,
-) -> Result<ArcRec, Panic>
+pub(super) fn read_arc(alloc: Global, head: &Head, lines: &mut Lines<'_>) -> Result<ArcRec, Panic>
     ensures found { IsFoundBy (arc_record_at head.now (text_left lines.old)) result (text_left lines.new) }
     ensures all { lines.new.all ≡ lines.old.all }
 {
