@@ -3,13 +3,16 @@ pub mod ChecksumLemmas
 pub mod RestoringLemmas
 pub mod LayoutLemmas
 pub mod LinesLeftLemmas
-pub mod NumberReading
 pub mod ReadParts
 pub mod Sections
 pub mod Endings
 pub mod LineLemmas
 pub mod LaidOutText
 pub mod FieldReading
+pub mod NumberReading
+pub mod LeftTexts
+pub mod FoundSteps
+pub mod StringReading
 pub mod RecordReading
 pub mod WrittenLines
 pub mod FileReading

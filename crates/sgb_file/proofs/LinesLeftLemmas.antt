@@ -71,7 +71,7 @@ pub first_line_of : (text : List ℕ) → position_or_len (λ b. b == 10) text <
 first_line_of text h =
     ap (λ parts. map without_end_spaces (lines_among parts)) (slice_split_first (λ b. b == 10) text 0 h)
     ∙ ap (λ lines. map without_end_spaces lines)
-      (first_line (before_first (λ b. b == 10) text) (slice_split (λ b. b == 10) (after_first (λ b. b == 10) text)) (some_part (after_first (λ b. b == 10) text)))
+    (first_line (before_first (λ b. b == 10) text) (slice_split (λ b. b == 10) (after_first (λ b. b == 10) text)) (some_part (after_first (λ b. b == 10) text)))
 
 -- no bytes have no lines
 pub no_lines : clean_lines [] ≡ []

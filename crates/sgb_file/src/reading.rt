@@ -3,12 +3,15 @@ ghost use Rattle.sgb_file.specs.Reading.{IsReadOf};
 ghost use Rattle.sgb_file.specs.Restoring.{graph_of_text};
 
 mod closings;
+mod fields;
 mod heads;
 mod lines;
 mod numbers;
 mod openings;
 mod records;
 mod sections;
+mod separators;
+mod strings;
 mod texts;
 
 use closings::closes;

@@ -20,10 +20,12 @@ pub loop-k-preserved : goal.loop-k-preserved
 loop-k-preserved c =
     let head = c.args.head.now in
     let count = ap (λ h. h.counts.arcs) c.head-inside.view_is ∙ ap (λ h. h.counts.arcs) c.head.view_is in
-    let within : c.loop-k._k < head.counts.arcs = omega (arith, count, c.loop-k-test.true) in
-    (next_arc head c.loop-k.parts c.add_arc.new.self head.counts.arcs c.loop-k._k c.in_ok-arc.arc (text_left c.loop-k.lines) (text_left c.read_arc.new.lines)
-    within c.in_ok-arc.ensures.found c.in_ok-add_arc.ensures.ok ∙ c.loop-k.invariant.0,
-    c.in_ok-arc.ensures.all ∙ c.loop-k.invariant.1, omega (arith, within))
+    let within : c.loop-k._k < head.counts.arcs = omega (arith, count, c.loop-k-test.true) in (
+      next_arc head c.loop-k.parts c.add_arc.new.self head.counts.arcs c.loop-k._k c.in_ok-arc.arc (text_left c.loop-k.lines) (text_left c.read_arc.new.lines)
+          within c.in_ok-arc.ensures.found c.in_ok-add_arc.ensures.ok ∙ c.loop-k.invariant.0,
+      c.in_ok-arc.ensures.all ∙ c.loop-k.invariant.1,
+      omega (arith, within),
+    )
 
 pub returns-clause-found : goal.returns-clause-found
 returns-clause-found c =

@@ -20,10 +20,12 @@ pub loop-v-preserved : goal.loop-v-preserved
 loop-v-preserved c =
     let head = c.args.head.now in
     let count = ap (λ h. h.counts.vertices) c.head-inside.view_is ∙ ap (λ h. h.counts.vertices) c.head.view_is in
-    let within : c.loop-v._v < head.counts.vertices = omega (arith, count, c.loop-v-test.true) in
-    (next_vertex head c.loop-v.parts c.add_vertex.new.self head.counts.vertices c.loop-v._v c.in_ok-vertex.vertex (text_left c.loop-v.lines) (text_left c.read_vertex.new.lines)
-    within c.in_ok-vertex.ensures.found c.in_ok-add_vertex.ensures.ok ∙ c.loop-v.invariant.0,
-    c.in_ok-vertex.ensures.all ∙ c.loop-v.invariant.1, omega (arith, within))
+    let within : c.loop-v._v < head.counts.vertices = omega (arith, count, c.loop-v-test.true) in (
+      next_vertex head c.loop-v.parts c.add_vertex.new.self head.counts.vertices c.loop-v._v c.in_ok-vertex.vertex (text_left c.loop-v.lines) (text_left c.read_vertex.new.lines)
+          within c.in_ok-vertex.ensures.found c.in_ok-add_vertex.ensures.ok ∙ c.loop-v.invariant.0,
+      c.in_ok-vertex.ensures.all ∙ c.loop-v.invariant.1,
+      omega (arith, within),
+    )
 
 pub returns-clause-found : goal.returns-clause-found
 returns-clause-found c =
