@@ -6,3 +6,5 @@ mod numbers;
 mod records;
 mod separators;
 mod strings;
+#[cfg(test)]
+mod tests;
