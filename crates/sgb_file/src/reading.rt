@@ -12,6 +12,8 @@ mod records;
 mod sections;
 mod separators;
 mod strings;
+#[cfg(test)]
+mod tests;
 mod texts;
 
 use closings::closes;
