@@ -118,7 +118,7 @@ graph_checked text head s rest g r e begun found is h =
     let whole : text_left s ≡ text_of_lines s.all = ap text_left begun ∙ begun_text s.all s.all in
     let says : records_at head (text_of_lines s.all) ≡ Some (record { value = g; rest = rest }) = ap (records_at head) (sym whole) ∙ found in
     let fit : checked g ≡ (if is_sound g then Ok g else Err Syntax) =
-        read_is_checked (clean_lines text) (record { head = head; lines = s.all }) (record { value = g; rest = rest }) (sym e) says in
+    read_is_checked (clean_lines text) (record { head = head; lines = s.all }) (record { value = g; rest = rest }) (sym e) says in
     let same : graph_of_text text ≡ checked g = is ∙ (at_end (is_sound g) ∙ sym fit) in
     subst (λ value. IsReadOf value r) (sym same) (as_read (checked g) r h)
   where
