@@ -62,10 +62,10 @@ induced_from graph entries self_loops multi directed =
     and_then (both graph entries) (λ operands. and_then (handed_entries operands.1) (λ list. made (induced_of operands.0 list self_loops multi directed)))
 
 -- of an expression of the code
-pub induced_value : (e : Expr) (graph : Box Expr Global) (entries : Entries) (self_loops multi directed : Bool) → e ≡ expr.Induced graph entries self_loops multi directed
-    → value_of (expression_of e) ≡ induced_from (value_of (expression_of graph.value)) (values_of (entries_of (list_of entries))) self_loops multi directed
-induced_value e graph entries self_loops multi directed is =
-    ap (λ x. value_of (expression_of x)) is ∙ ap value_of (induced_is graph entries self_loops multi directed)
+pub induced_value : (input : List ℕ) (e : Expr) (graph : Box Expr Global) (entries : Entries) (self_loops multi directed : Bool) → e ≡ expr.Induced graph entries self_loops multi directed
+    → value_of input (expression_of e) ≡ induced_from (value_of input (expression_of graph.value)) (values_of input (entries_of (list_of entries))) self_loops multi directed
+induced_value input e graph entries self_loops multi directed is =
+    ap (λ x. value_of input (expression_of x)) is ∙ ap (value_of input) (induced_is graph entries self_loops multi directed)
 
 -- its size
 pub induced_size : (e : Expr) (graph : Box Expr Global) (entries : Entries) (self_loops multi directed : Bool) → e ≡ expr.Induced graph entries self_loops multi directed

@@ -4,8 +4,12 @@ pub mod DrawnNumbers
 pub mod Endings
 pub mod EntryValues
 pub mod ExamplesFlips
+pub mod InputEndings
+pub mod KeptInput
 pub mod Lines
 pub mod Listings
 pub mod Named
+pub mod ProgramRuns
 pub mod Refusals
+pub mod StdinValues
 pub mod Values

@@ -7,7 +7,7 @@ use Rattle.sgb_vec.specs.Results.{and_then}
 use Rattle.sgb_vec.specs.Sizes.{before_stop, board_by_stop, board_of, stop_of}
 use Rattle.sgb_vec.specs.Sums.{sum_of}
 use Rattle.sgb_vec.specs.declared.panics.Panic.{Panic}
-use Rattle.sgb_vec.specs.declared.panics.Panic.TheVariants.{Bad, Invalid, NoRoom, VeryBad}
+use Rattle.sgb_vec.specs.declared.panics.Panic.TheVariants.{Bad, Early, Invalid, Late, NoRoom, Syntax, VeryBad}
 use Rattle.sgb_graph.specs.Graphs.{GraphData}
 use Rattle.sgb_gen.specs.Boards.{accepted_board, board}
 use Rattle.sgb_gen.specs.Simplexes.{accepted_simplex, simplex}
@@ -26,14 +26,18 @@ use Rattle.sgb_ops.specs.Wheel.{accepted_middle, wheel_of, with_wheel_id}
 use Rattle.sgb_ops.specs.declared.entries.Entry.{Entry}
 use Rattle.sgb_ops.specs.declared.entries.Entry.TheVariants as entry
 use Rattle.sgb_graph.specs.Made.{graph_described}
-use Rattle.sgb_expr.specs.Expression.{Expression, Family, Complement, Gunion, Intersection, Lines, Product, Induced, BiComplete, Wheel, Entries, NoEntries, EntryThen, Number, Graph, expression_of}
+use Rattle.sgb_expr.specs.Expression.{Expression, Family, Complement, Gunion, Intersection, Lines, Product, Induced, BiComplete, Wheel, Stdin, Entries, NoEntries, EntryThen, Number, Graph, expression_of}
 use Rattle.sgb_expr.specs.declared.expressions.Family.{Family as Generator}
 use Rattle.sgb_expr.specs.declared.expressions.Family.TheVariants as family
 use Rattle.sgb_expr.specs.declared.flips.FlipParams.{FlipParams}
 use Rattle.sgb_graph.specs.Draws.{modulus}
 use Rattle.sgb.specs.FlipAnswers.{accepted_draws, answer_of_draws, flip_answer, most_draws, number_within}
 use Rattle.sgb.specs.Outcomes.{answer_after, answer_from, answer_of, left_out, left_out_by, queen_moves, vertex_named}
-use Rattle.sgb.specs.Values.{both, family_value, handed_entries, handed_entry, value_of, values_of}
+use Rattle.sgb_file.specs.Fields.{Found}
+use Rattle.sgb_file.specs.FileLines.{clean_lines}
+use Rattle.sgb_file.specs.Restoring.{Opening, closes, graph_after, graph_at_end, graph_of_opening, graph_of_records, graph_of_text, opening_of}
+use Rattle.sgb_graph.specs.Sound.{is_sound}
+use Rattle.sgb.specs.Values.{both, family_value, handed_entries, handed_entry, stdin_value, value_of, values_of}
 use Rattle.sgb.specs.declared.evaluation.entries.EntryValue.{EntryValue}
 use Rattle.sgb.specs.declared.evaluation.entries.EntryValue.TheVariants as value
 use Rattle.sgb_requests.specs.declared.faults.Fault.{Fault}
@@ -53,6 +57,18 @@ IsJudged r = r ≢ Err NoRoom
 -- an accepted value
 accepted : {T : Type 0} (x : T) → IsJudged (Ok x)
 accepted x e = cc
+
+-- refused with code 10
+refused_early : {T : Type 0} → IsJudged {T = T} (Err Early)
+refused_early e = cc
+
+-- refused with code 11
+refused_late : {T : Type 0} → IsJudged {T = T} (Err Late)
+refused_late e = cc
+
+-- refused with code 20
+refused_syntax : {T : Type 0} → IsJudged {T = T} (Err Syntax)
+refused_syntax e = cc
 
 -- refused with code 30
 refused_bad : {T : Type 0} → IsJudged {T = T} (Err Bad)
@@ -175,6 +191,28 @@ wheel_judged n n1 directed =
     middle (negsuc n1) = refused_bad
     middle (pos n1) = either _ _ _ refused_very_bad (accepted _)
 
+-- a text of a file
+text_judged : (text : List ℕ) → IsJudged (graph_of_text text)
+text_judged text = of_opening (opening_of (clean_lines text))
+  where
+    at_end : (ends sound : Bool) (g : GraphData) → IsJudged (graph_at_end ends sound g)
+    at_end false sound g = refused_late
+    at_end true false g = refused_syntax
+    at_end true true g = accepted _
+
+    of_records : (opening : Opening) (records : Option (Found GraphData)) → IsJudged (graph_after opening records)
+    of_records opening None = refused_syntax
+    of_records opening (Some found) = at_end (closes opening found.rest) (is_sound found.value) found.value
+
+    of_opening : (opening : Option Opening) → IsJudged (graph_of_opening opening)
+    of_opening None = refused_early
+    of_opening (Some opening) = of_records opening (graph_of_records opening)
+
+-- standard input
+stdin_judged : (input : List ℕ) → IsJudged (stdin_value input)
+unfolding stdin_value
+stdin_judged input = either _ _ _ (text_judged input) refused_syntax
+
 -- two values
 both_judged : {T U : Type 0} (r : Result T Panic) (s : Result U Panic) → IsJudged r → IsJudged s → IsJudged (both r s)
 both_judged r s p q = after r _ p (λ x. after s _ q (λ y. accepted _))
@@ -192,26 +230,27 @@ handed_judged (first ∷ others) = after _ _ (both_judged _ _ (one first) (hande
 
 mutual
   -- an expression
-  value_judged : (e : Expression) → IsJudged (value_of e)
-  value_judged (Family f) = after (family_value f) _ (family_judged f) (λ d. accepted _)
-  value_judged (Complement e copy self_loops directed) = after _ _ (value_judged e) (λ g. accepted _)
-  value_judged (Gunion e f multi directed) = after _ _ (both_judged _ _ (value_judged e) (value_judged f)) (λ operands. accepted _)
-  value_judged (Intersection e f multi directed) = after _ _ (both_judged _ _ (value_judged e) (value_judged f)) (λ operands. accepted _)
-  value_judged (Lines e directed) = after _ _ (value_judged e) (λ g. after _ _ (lines_judged g directed) (λ d. accepted _))
-  value_judged (Product e f kind directed) =
-      after _ _ (both_judged _ _ (value_judged e) (value_judged f)) (λ operands. after _ _ (product_judged operands.0 operands.1 kind directed) (λ d. accepted _))
-  value_judged (Induced e entries self_loops multi directed) =
-      after _ _ (both_judged _ _ (value_judged e) (values_judged entries)) (λ operands.
+  value_judged : (input : List ℕ) (e : Expression) → IsJudged (value_of input e)
+  value_judged input (Family f) = after (family_value f) _ (family_judged f) (λ d. accepted _)
+  value_judged input (Complement e copy self_loops directed) = after _ _ (value_judged input e) (λ g. accepted _)
+  value_judged input (Gunion e f multi directed) = after _ _ (both_judged _ _ (value_judged input e) (value_judged input f)) (λ operands. accepted _)
+  value_judged input (Intersection e f multi directed) = after _ _ (both_judged _ _ (value_judged input e) (value_judged input f)) (λ operands. accepted _)
+  value_judged input (Lines e directed) = after _ _ (value_judged input e) (λ g. after _ _ (lines_judged g directed) (λ d. accepted _))
+  value_judged input (Product e f kind directed) =
+      after _ _ (both_judged _ _ (value_judged input e) (value_judged input f)) (λ operands. after _ _ (product_judged operands.0 operands.1 kind directed) (λ d. accepted _))
+  value_judged input (Induced e entries self_loops multi directed) =
+      after _ _ (both_judged _ _ (value_judged input e) (values_judged input entries)) (λ operands.
       after _ _ (handed_judged operands.1) (λ list. after _ _ (induced_judged operands.0 list self_loops multi directed) (λ d. accepted _)))
-  value_judged (BiComplete n1 n2 directed) = after _ _ (bi_complete_judged n1 n2 directed) (λ d. accepted _)
-  value_judged (Wheel n n1 directed) = after _ _ (wheel_judged n n1 directed) (λ d. accepted _)
+  value_judged input (BiComplete n1 n2 directed) = after _ _ (bi_complete_judged n1 n2 directed) (λ d. accepted _)
+  value_judged input (Wheel n n1 directed) = after _ _ (wheel_judged n n1 directed) (λ d. accepted _)
+  value_judged input Stdin = stdin_judged input
 
   -- entries
-  values_judged : (entries : Entries) → IsJudged (values_of entries)
-  values_judged NoEntries = accepted _
-  values_judged (EntryThen (Number n) others) = after _ _ (both_judged _ _ (accepted _) (values_judged others)) (λ p. accepted _)
-  values_judged (EntryThen (Graph e) others) =
-      after _ _ (both_judged _ _ (after _ _ (value_judged e) (λ g. accepted _)) (values_judged others)) (λ p. accepted _)
+  values_judged : (input : List ℕ) (entries : Entries) → IsJudged (values_of input entries)
+  values_judged input NoEntries = accepted _
+  values_judged input (EntryThen (Number n) others) = after _ _ (both_judged _ _ (accepted _) (values_judged input others)) (λ p. accepted _)
+  values_judged input (EntryThen (Graph e) others) =
+      after _ _ (both_judged _ _ (after _ _ (value_judged input e) (λ g. accepted _)) (values_judged input others)) (λ p. accepted _)
 
 -- ---- flips
 
@@ -267,9 +306,11 @@ flip_own p = from_draws (accepted_draws p) (draws_judged p)
         h (ap Err same)
 
 -- the answer of a request is its output or its own refusal, never out of memory
-pub answer_own : (r : Request) → answer_of r ≢ Err (fault.Panic NoRoom)
-answer_own (request.Names e resume) = from_own (value_of (expression_of e)) _ (value_judged (expression_of e)) (λ d. skipped_own _ _ (left_out_own _ resume))
-answer_own (request.List e resume) = from_own (value_of (expression_of e)) _ (value_judged (expression_of e)) (λ d. skipped_own _ _ (left_out_own _ resume))
-answer_own (request.Save e) = from_own (value_of (expression_of e)) _ (value_judged (expression_of e)) (λ g. λ e. cc)
-answer_own request.Queen = from_own (value_of queen_moves) _ (value_judged queen_moves) (λ g. λ e. cc)
-answer_own (request.Flip p) = flip_own p
+pub answer_own : (r : Request) (input : List ℕ) → answer_of r input ≢ Err (fault.Panic NoRoom)
+answer_own (request.Names e resume) input =
+    from_own (value_of input (expression_of e)) _ (value_judged input (expression_of e)) (λ d. skipped_own _ _ (left_out_own _ resume))
+answer_own (request.List e resume) input =
+    from_own (value_of input (expression_of e)) _ (value_judged input (expression_of e)) (λ d. skipped_own _ _ (left_out_own _ resume))
+answer_own (request.Save e) input = from_own (value_of input (expression_of e)) _ (value_judged input (expression_of e)) (λ g. λ e. cc)
+answer_own request.Queen input = from_own (value_of [] queen_moves) _ (value_judged [] queen_moves) (λ g. λ e. cc)
+answer_own (request.Flip p) input = flip_own p

@@ -13,7 +13,7 @@ use Rattle.sgb_gen.specs.Simplexes.{simplex_graph, simplex_vectors}
 use Rattle.sgb_gen.specs.Subsets.{subsets_graph, subsets_vectors}
 use Rattle.sgb_gen.specs.VectorGraphs.{family_graph, fields_of_vector}
 use Rattle.sgb_ops.specs.Operands.{names_of}
-use Rattle.sgb_expr.specs.Expression.{Expression, Family, Complement, Gunion, Intersection, Lines, Product, Induced, BiComplete, Wheel, Entry, Number, Graph, Entries, NoEntries, EntryThen}
+use Rattle.sgb_expr.specs.Expression.{Expression, Family, Complement, Gunion, Intersection, Lines, Product, Induced, BiComplete, Wheel, Stdin, Entry, Number, Graph, Entries, NoEntries, EntryThen}
 use Rattle.sgb.specs.Values.{IsValue, both, described, made}
 use Rattle.sgb.specs.declared.evaluation.Local.{Local}
 use Rattle.sgb.specs.declared.evaluation.Local.TheVariants as local
@@ -59,6 +59,7 @@ abbrev mutual
   size_of (Induced e entries self_loops multi directed) = size_of e + size_of_entries entries + 2
   size_of (BiComplete n1 n2 directed) = 1
   size_of (Wheel n n1 directed) = 1
+  size_of Stdin = 1
 
   -- how large an entry is
   pub size_of_entry : Entry → ℕ

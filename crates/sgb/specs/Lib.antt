@@ -1,5 +1,6 @@
 -- What the contracts of sgb speak of.
 pub mod FlipAnswers
+pub mod Inputs
 pub mod Outcomes
 pub mod Program
 pub mod Runs

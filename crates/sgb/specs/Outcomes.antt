@@ -1,5 +1,5 @@
 -- What a request is answered with: the output, the line on standard error, and the exit status.
-use Rattle.std.specs.Prelude.{ℕ, suc, ℤ, pos, neg_ℤ, false, codes, List, [], ◌++◌, Option, Some, None, Result, Ok, Err, nat_eq}
+use Rattle.std.specs.Prelude.{ℕ, suc, ℤ, pos, neg_ℤ, Bool, false, codes, List, [], ◌++◌, Option, Some, None, Result, Ok, Err, nat_eq}
 use Rattle.std.specs.List.{position}
 use Rattle.std.specs.Cmp.Lexicographic.{pointwise}
 use Rattle.sgb_vec.specs.declared.panics.Panic.{Panic}
@@ -8,6 +8,7 @@ use Rattle.sgb_ops.specs.Operands.{names_of}
 use Rattle.sgb_expr.specs.Expression.{Expression, Family, Gunion, expression_of}
 use Rattle.sgb_expr.specs.declared.expressions.Family.{Family as Generator}
 use Rattle.sgb_expr.specs.declared.expressions.Family.TheVariants as family
+use Rattle.sgb_expr.specs.StdinUses.{has_stdin}
 use Rattle.sgb_file.specs.Saving.{text_of_graph}
 use Rattle.sgb_requests.specs.Faults.{status_of, line_of}
 use Rattle.sgb.specs.FlipAnswers.{flip_answer}
@@ -72,13 +73,21 @@ queen_moves = Gunion (Family (moves_of (neg_ℤ (pos 1)))) (Family (moves_of (ne
 abbrev pub queen_title : List ℕ
 queen_title = codes "Queen Moves on a 3x4 Board\n\n"
 
--- the output of a request, or the fault that refuses it
-abbrev pub answer_of : Request → Result (List ℕ) Fault
-answer_of (request.Names e resume) = answer_from (value_of (expression_of e)) (λ g. names_answer (names_of g) resume)
-answer_of (request.List e resume) = answer_from (value_of (expression_of e)) (λ g. list_answer g resume)
-answer_of (request.Save e) = answer_from (value_of (expression_of e)) (λ g. Ok (text_of_graph g))
-answer_of request.Queen = answer_from (value_of queen_moves) (λ g. Ok (queen_title ++ (head g ++ blocks g 0)))
-answer_of (request.Flip p) = flip_answer p
+-- whether a request reads standard input: where its expression has `stdin`
+abbrev pub reads_input : Request → Bool
+reads_input (request.Names e resume) = has_stdin (expression_of e)
+reads_input (request.List e resume) = has_stdin (expression_of e)
+reads_input (request.Save e) = has_stdin (expression_of e)
+reads_input request.Queen = false
+reads_input (request.Flip p) = false
+
+-- the output of a request where this is standard input, or the fault that refuses it
+abbrev pub answer_of : Request → List ℕ → Result (List ℕ) Fault
+answer_of (request.Names e resume) input = answer_from (value_of input (expression_of e)) (λ g. names_answer (names_of g) resume)
+answer_of (request.List e resume) input = answer_from (value_of input (expression_of e)) (λ g. list_answer g resume)
+answer_of (request.Save e) input = answer_from (value_of input (expression_of e)) (λ g. Ok (text_of_graph g))
+answer_of request.Queen input = answer_from (value_of [] queen_moves) (λ g. Ok (queen_title ++ (head g ++ blocks g 0)))
+answer_of (request.Flip p) input = flip_answer p
 
 -- output, line on standard error, and exit status
 pub record Outcome : Type 0 where

@@ -1,13 +1,14 @@
--- What a run leaves in its sinks.
-use Rattle.std.specs.Prelude.{◌≡◌, ◌⊎◌, ℕ, Bool, List, Option}
+-- What a run leaves in its sinks, by what standard input gives.
+use Rattle.std.specs.Prelude.{◌≡◌, ◌⊎◌, ◌&&◌, ℕ, Bool, true, false, List, Option, IfSome}
 use Rattle.std.specs.Bool.{MatchBool}
 use Rattle.std.specs.Io.KnownBytes.{Appends}
 use Rattle.sgb_vec.specs.declared.panics.Panic.TheVariants.{NoRoom}
-use Rattle.sgb.specs.Outcomes.{Outcome}
+use Rattle.sgb.specs.Outcomes.{Outcome, answer_of, outcome_of, reads_input}
 use Rattle.sgb_file.specs.Devices.{AppendsPrefix, AppendsUnlessFailed}
 use Rattle.sgb_requests.specs.Faults.{status_of, line_of}
 use Rattle.sgb_requests.specs.declared.faults.Fault.{Fault}
 use Rattle.sgb_requests.specs.declared.faults.Fault.TheVariants as fault
+use Rattle.sgb_requests.specs.declared.requests.Request.{Request}
 
 -- the bytes that a sink tells, before and after, and whether it has failed afterwards
 pub record Change : Type 0 where
@@ -33,3 +34,32 @@ abbrev pub IsRunOf : Outcome → Change → Change → ℕ → Type 0
 IsRunOf answer out err status = MatchBool out.failed
     (IsStopped fault.Write answer out err status)
     (IsGiven answer out err status ⊎ IsStopped (fault.Panic NoRoom) answer out err status)
+
+-- only this fault was reported: nothing was written to the output, its line to standard error unless that failed,
+-- and its status was returned
+pub record IsReported (f : Fault) (out err : Change) (status : ℕ) : Type 0 where
+  pub untouched : out.after ≡ out.before
+  pub sound : out.failed ≡ false
+  pub line : AppendsUnlessFailed err.failed err.before err.after (line_of f)
+  pub exit : status ≡ status_of f
+
+-- what a run leaves: where standard input was read and failed, this was reported and nothing else done
+abbrev pub IsRunFrom : Bool → Outcome → Change → Change → ℕ → Type 0
+IsRunFrom failed answer out err status = MatchBool failed (IsReported fault.Read out err status) (IsRunOf answer out err status)
+
+-- the bytes that standard input tells before a run, and whether it has failed afterwards
+pub record Input : Type 0 where
+  pub bytes : Option (List ℕ)
+  pub failed : Bool
+
+-- whether the request reads standard input, and that failed
+abbrev pub fails_to_read : Request → Input → Bool
+fails_to_read r source = reads_input r && source.failed
+
+-- a run that answers this request leaves this: standard input holds a text, the one that it tells, on which the request is
+-- answered; one that does not read it is answered so for every text
+abbrev pub IsRunOn : Request → Input → Change → Change → ℕ → Type 0
+IsRunOn r source out err status =
+    (held : List ℕ) × IfSome source.bytes (λ bytes. held ≡ bytes)
+    × ((input : List ℕ) → (reads_input r ≡ true → input ≡ held)
+    → IsRunFrom (fails_to_read r source) (outcome_of (answer_of r input)) out err status)

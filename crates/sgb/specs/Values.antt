@@ -1,12 +1,13 @@
 -- The graphs that expressions name [GB_BASIC].
-use Rattle.std.specs.Prelude.{◌≡◌, ◌⊎◌, ℕ, pos, negsuc, min, List, [], ◌∷◌, Result, Ok, Err}
+use Rattle.std.specs.Prelude.{◌≡◌, ◌⊎◌, ℕ, ◌^◌, pos, negsuc, min, nat_le, List, [], ◌∷◌, length, Result, Ok, Err, if◌then◌else◌}
 use Rattle.sgb_vec.specs.Limits.{most_entry}
 use Rattle.sgb_vec.specs.Results.{and_then}
 use Rattle.sgb_vec.specs.declared.panics.Panic.{Panic}
-use Rattle.sgb_vec.specs.declared.panics.Panic.TheVariants.{Bad, NoRoom}
+use Rattle.sgb_vec.specs.declared.panics.Panic.TheVariants.{Bad, NoRoom, Syntax}
 use Rattle.sgb_graph.specs.Descriptions.{Description}
 use Rattle.sgb_graph.specs.Graphs.{GraphData}
 use Rattle.sgb_graph.specs.Made.{graph_described}
+use Rattle.sgb_file.specs.Restoring.{graph_of_text}
 use Rattle.sgb_gen.specs.Boards.{board, board_graph}
 use Rattle.sgb_gen.specs.Simplexes.{simplex, simplex_graph}
 use Rattle.sgb_gen.specs.Subsets.{subsets, subsets_graph}
@@ -20,7 +21,7 @@ use Rattle.sgb_ops.specs.Wheel.{wheel_of}
 use Rattle.sgb_ops.specs.Induced.{induced_of}
 use Rattle.sgb_ops.specs.declared.entries.Entry.{Entry}
 use Rattle.sgb_ops.specs.declared.entries.Entry.TheVariants as entry
-use Rattle.sgb_expr.specs.Expression.{Expression, Family, Complement, Gunion, Intersection, Lines, Product, Induced, BiComplete, Wheel, Entry as EntryExpression, Number, Graph, Entries, NoEntries, EntryThen}
+use Rattle.sgb_expr.specs.Expression.{Expression, Family, Complement, Gunion, Intersection, Lines, Product, Induced, BiComplete, Wheel, Stdin, Entry as EntryExpression, Number, Graph, Entries, NoEntries, EntryThen}
 use Rattle.sgb_expr.specs.declared.expressions.Family.{Family as Generator}
 use Rattle.sgb_expr.specs.declared.expressions.Family.TheVariants as family
 use Rattle.sgb.specs.declared.evaluation.entries.EntryValue.{EntryValue}
@@ -38,6 +39,14 @@ family_value (family.Subsets p) = subsets p
 abbrev pub made : Result Description Panic → Result GraphData Panic
 made value = and_then value (λ d. Ok (graph_described d))
 
+-- a file on standard input has at most this many bytes
+abbrev pub most_input : ℕ
+most_input = 2 ^ 30
+
+-- the graph that standard input is a file of, or the code of a text that is a file of none; a longer one is not read
+unfoldable pub stdin_value : List ℕ → Result GraphData Panic
+stdin_value input = if nat_le (length input) most_input then graph_of_text input else Err Syntax
+
 -- two values, where the first's refusal comes before the second's
 abbrev pub both : {T U : Type 0} → Result T Panic → Result U Panic → Result (T × U) Panic
 both first second = and_then first (λ x. and_then second (λ y. Ok (x, y)))
@@ -54,32 +63,34 @@ handed_entries [] = Ok []
 handed_entries (first ∷ others) = and_then (both (handed_entry first) (handed_entries others)) (λ p. Ok (p.0 ∷ p.1))
 
 abbrev mutual
-  -- the graph of an expression, or the first refusal: the operands' from left to right, then the operation's
-  pub value_of : Expression → Result GraphData Panic
-  value_of (Family f) = made (family_value f)
-  value_of (Complement e copy self_loops directed) = and_then (value_of e) (λ g. made (complement_of g copy self_loops directed))
-  value_of (Gunion e f multi directed) =
-      and_then (both (value_of e) (value_of f)) (λ operands. made (gunion_of operands.0 operands.1 multi directed))
-  value_of (Intersection e f multi directed) =
-      and_then (both (value_of e) (value_of f)) (λ operands. made (intersection_of operands.0 operands.1 multi directed))
-  value_of (Lines e directed) = and_then (value_of e) (λ g. made (line_graph_of g directed))
-  value_of (Product e f kind directed) =
-      and_then (both (value_of e) (value_of f)) (λ operands. made (product_graph_of operands.0 operands.1 kind directed))
-  value_of (Induced e entries self_loops multi directed) =
-      and_then (both (value_of e) (values_of entries)) (λ operands.
+  -- the graph of an expression where this is standard input, or the first refusal: the operands' from left to right, then
+  -- the operation's
+  pub value_of : List ℕ → Expression → Result GraphData Panic
+  value_of input (Family f) = made (family_value f)
+  value_of input (Complement e copy self_loops directed) = and_then (value_of input e) (λ g. made (complement_of g copy self_loops directed))
+  value_of input (Gunion e f multi directed) =
+      and_then (both (value_of input e) (value_of input f)) (λ operands. made (gunion_of operands.0 operands.1 multi directed))
+  value_of input (Intersection e f multi directed) =
+      and_then (both (value_of input e) (value_of input f)) (λ operands. made (intersection_of operands.0 operands.1 multi directed))
+  value_of input (Lines e directed) = and_then (value_of input e) (λ g. made (line_graph_of g directed))
+  value_of input (Product e f kind directed) =
+      and_then (both (value_of input e) (value_of input f)) (λ operands. made (product_graph_of operands.0 operands.1 kind directed))
+  value_of input (Induced e entries self_loops multi directed) =
+      and_then (both (value_of input e) (values_of input entries)) (λ operands.
       and_then (handed_entries operands.1) (λ list. made (induced_of operands.0 list self_loops multi directed)))
-  value_of (BiComplete n1 n2 directed) = made (bi_complete_of n1 n2 directed)
-  value_of (Wheel n n1 directed) = made (wheel_of n n1 directed)
+  value_of input (BiComplete n1 n2 directed) = made (bi_complete_of n1 n2 directed)
+  value_of input (Wheel n n1 directed) = made (wheel_of n n1 directed)
+  value_of input Stdin = stdin_value input
 
   -- an entry, or why its graph is refused
-  pub entry_value : EntryExpression → Result EntryValue Panic
-  entry_value (Number n) = Ok (value.Number n)
-  entry_value (Graph e) = and_then (value_of e) (λ g. Ok (value.Graph g))
+  pub entry_value : List ℕ → EntryExpression → Result EntryValue Panic
+  entry_value input (Number n) = Ok (value.Number n)
+  entry_value input (Graph e) = and_then (value_of input e) (λ g. Ok (value.Graph g))
 
   -- the entries in order, or the first refusal of a graph among them
-  pub values_of : Entries → Result (List EntryValue) Panic
-  values_of NoEntries = Ok []
-  values_of (EntryThen first others) = and_then (both (entry_value first) (values_of others)) (λ p. Ok (p.0 ∷ p.1))
+  pub values_of : List ℕ → Entries → Result (List EntryValue) Panic
+  values_of input NoEntries = Ok []
+  values_of input (EntryThen first others) = and_then (both (entry_value input first) (values_of input others)) (λ p. Ok (p.0 ∷ p.1))
 
 -- the result is this value, or this refusal; or it is out of memory
 abbrev pub IsValue : {T : Type 0} → Result T Panic → Result T Panic → Type 0

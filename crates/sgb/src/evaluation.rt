@@ -1,5 +1,5 @@
 //! The graphs that expressions name (GB_BASIC).
-ghost use Rattle.std.specs.Prelude.{◌≡◌, Err, Ok, IfErr, IfOk};
+ghost use Rattle.std.specs.Prelude.{◌≡◌, [], Err, Ok, IfErr, IfOk};
 ghost use Rattle.sgb_graph.specs.Descriptions.{IsAnswerOf};
 ghost use Rattle.sgb_expr.specs.CodeEntries.{listed};
 ghost use Rattle.sgb_expr.specs.Expression.{entries_of, entry_of, expression_of};
@@ -8,6 +8,7 @@ ghost use Rattle.sgb.specs.Values.{IsLocalOf, IsValue, both, entry_value, family
 
 mod entries;
 
+use crate::input::stdin_graph;
 use entries::{EntryValue, handed_entries};
 use sgb_expr::{EntryExpr, Expr, Family};
 use sgb_gen::{Board, BoardParams, Simplex, Subsets};
@@ -24,13 +25,13 @@ pub(crate) enum Local {
     Subsets(Subsets),
 }
 
-/// The graph of an expression. Operands come before their operation, from left to right; each is dropped when the
-/// operation is made.
+/// The graph of an expression, where `input` is what was kept of standard input. Operands come before their operation,
+/// from left to right; each is dropped when the operation is made.
 ///
 /// The first refusal, or `NoRoom` when out of memory.
 #[cycle(graphs)]
-pub(crate) fn graph_of(alloc: Global, expression: &Expr) -> Result<Graph, Panic>
-    ensures { IsValue (value_of (expression_of expression.now)) result }
+pub(crate) fn graph_of(alloc: Global, expression: &Expr, input: &[u8]) -> Result<Graph, Panic>
+    ensures { IsValue (value_of input.now (expression_of expression.now)) result }
 {
     match expression {
         Expr::Family(family) => family_graph(alloc, family),
@@ -40,7 +41,7 @@ pub(crate) fn graph_of(alloc: Global, expression: &Expr) -> Result<Graph, Panic>
             self_loops,
             directed,
         } => {
-            let operand = graph_of(alloc, graph)?;
+            let operand = graph_of(alloc, graph, input)?;
             complement(alloc, &operand, *copy, *self_loops, *directed)
         }
         Expr::Gunion {
@@ -49,7 +50,7 @@ pub(crate) fn graph_of(alloc: Global, expression: &Expr) -> Result<Graph, Panic>
             multi,
             directed,
         } => {
-            let (left, right) = operands(alloc, first, second)?;
+            let (left, right) = operands(alloc, first, second, input)?;
             gunion(alloc, &left, &right, *multi, *directed)
         }
         Expr::Intersection {
@@ -58,11 +59,11 @@ pub(crate) fn graph_of(alloc: Global, expression: &Expr) -> Result<Graph, Panic>
             multi,
             directed,
         } => {
-            let (left, right) = operands(alloc, first, second)?;
+            let (left, right) = operands(alloc, first, second, input)?;
             intersection(alloc, &left, &right, *multi, *directed)
         }
         Expr::Lines { graph, directed } => {
-            let operand = graph_of(alloc, graph)?;
+            let operand = graph_of(alloc, graph, input)?;
             lines(alloc, &operand, *directed)
         }
         Expr::Product {
@@ -71,7 +72,7 @@ pub(crate) fn graph_of(alloc: Global, expression: &Expr) -> Result<Graph, Panic>
             kind,
             directed,
         } => {
-            let (left, right) = operands(alloc, first, second)?;
+            let (left, right) = operands(alloc, first, second, input)?;
             product(alloc, &left, &right, *kind, *directed)
         }
         Expr::Induced {
@@ -81,35 +82,41 @@ pub(crate) fn graph_of(alloc: Global, expression: &Expr) -> Result<Graph, Panic>
             multi,
             directed,
         } => {
-            let operand = graph_of(alloc, graph)?;
-            let values = values_of(alloc, entries.as_slice())?;
+            let operand = graph_of(alloc, graph, input)?;
+            let values = values_of(alloc, entries.as_slice(), input)?;
             let list = handed_entries(alloc, values)?;
             induced(alloc, &operand, &list, *self_loops, *multi, *directed)
         }
         Expr::BiComplete { n1, n2, directed } => bi_complete(alloc, *n1, *n2, *directed),
         Expr::Wheel { n, n1, directed } => wheel(alloc, *n, *n1, *directed),
+        Expr::Stdin => stdin_graph(alloc, input),
     }
 }
 
 // The graphs of two expressions; the first one's refusal before the second's.
 #[cycle(graphs)]
-fn operands(alloc: Global, first: &Expr, second: &Expr) -> Result<(Graph, Graph), Panic>
-    ensures { IsValue (both (value_of (expression_of first.now)) (value_of (expression_of second.now))) result }
+fn operands(
+    alloc: Global,
+    first: &Expr,
+    second: &Expr,
+    input: &[u8],
+) -> Result<(Graph, Graph), Panic>
+    ensures { IsValue (both (value_of input.now (expression_of first.now)) (value_of input.now (expression_of second.now))) result }
 {
-    let left = graph_of(alloc, first)?;
-    let right = graph_of(alloc, second)?;
+    let left = graph_of(alloc, first, input)?;
+    let right = graph_of(alloc, second, input)?;
     Ok((left, right))
 }
 
 // The values of entries, in order.
 #[cycle(graphs)]
-fn values_of(alloc: Global, entries: &[EntryExpr]) -> Result<Vec<EntryValue>, Panic>
-    ensures ok { IfOk result (λ values. values_of (entries_of (listed entries.now)) ≡ Ok values.items) }
-    ensures refused { IfErr result (λ p. IsValue (values_of (entries_of (listed entries.now))) (Err p)) }
+fn values_of(alloc: Global, entries: &[EntryExpr], input: &[u8]) -> Result<Vec<EntryValue>, Panic>
+    ensures ok { IfOk result (λ values. values_of input.now (entries_of (listed entries.now)) ≡ Ok values.items) }
+    ensures refused { IfErr result (λ p. IsValue (values_of input.now (entries_of (listed entries.now))) (Err p)) }
 {
     let mut values = Vec::with_capacity(alloc, entries.len())?;
     for entry in entries {
-        let value = value_of_entry(alloc, entry)?;
+        let value = value_of_entry(alloc, entry, input)?;
         values.push(value)?;
     }
     Ok(values)
@@ -117,13 +124,13 @@ fn values_of(alloc: Global, entries: &[EntryExpr]) -> Result<Vec<EntryValue>, Pa
 
 // The value of an entry.
 #[cycle(graphs)]
-fn value_of_entry(alloc: Global, entry: &EntryExpr) -> Result<EntryValue, Panic>
-    ensures { IsValue (entry_value (entry_of entry.now)) result }
+fn value_of_entry(alloc: Global, entry: &EntryExpr, input: &[u8]) -> Result<EntryValue, Panic>
+    ensures { IsValue (entry_value input.now (entry_of entry.now)) result }
 {
     match entry {
         EntryExpr::Number(number) => Ok(EntryValue::Number(*number)),
         EntryExpr::Graph(expression) => {
-            let graph = graph_of(alloc, expression)?;
+            let graph = graph_of(alloc, expression, input)?;
             Ok(EntryValue::Graph(graph))
         }
     }
@@ -144,7 +151,7 @@ fn family_graph(alloc: Global, family: &Family) -> Result<Graph, Panic>
 ///
 /// `NoRoom` when out of memory.
 pub(crate) fn queen_moves(alloc: Global) -> Result<Graph, Panic>
-    ensures { IsValue (value_of queen_moves) result }
+    ensures { IsValue (value_of [] queen_moves) result }
 {
     let rooks = family_graph(alloc, &moves_of(-1))?;
     let bishops = family_graph(alloc, &moves_of(-2))?;

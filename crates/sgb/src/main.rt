@@ -3,6 +3,7 @@
 #![tactic(auto)]
 
 mod evaluation;
+mod input;
 pub mod program;
 pub mod runs;
 #[cfg(test)]

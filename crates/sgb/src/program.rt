@@ -1,10 +1,13 @@
 //! A call of the program, from its words to its bytes and its exit status.
 
-ghost use Rattle.std.specs.Prelude.{◌≡◌, Ok, Err, MatchResult, false, map};
+ghost use Rattle.std.specs.Prelude.{◌≡◌, ◌+◌, Ok, Err, MatchResult, false, map};
 ghost use Rattle.std.specs.IoError.{error_kind};
 ghost use Rattle.std.specs.String.{string_bytes};
-ghost use Rattle.sgb.specs.Program.{IsProgramRun, IsReported, unread_fault};
+ghost use Rattle.sgb.specs.Inputs.{LosesAtMost};
+ghost use Rattle.sgb.specs.Program.{AskForNoInput, IsProgramRun, unread_fault};
 ghost use Rattle.sgb_requests.specs.Requests.{IsCommandLineReadAs};
+ghost use Rattle.sgb.specs.Runs.{IsReported};
+ghost use Rattle.sgb.specs.Values.{most_input};
 
 use crate::runs::run;
 use sgb_file::{Sink, Source};
@@ -16,7 +19,8 @@ use std::io::{self, ErrorKind};
 /// Does what the words of a command line ask for, of which the first is the program's name, and returns the exit
 /// status: runs the request that they make, or writes the line of the fault that they are refused with to `errors`.
 ///
-/// Words that could not be read are an invalid command line (2), or out of memory (1). `source` is standard input.
+/// Words that could not be read are an invalid command line (2), or out of memory (1). `source` is standard input, left
+/// alone unless the request reads it.
 /// Where no request is run, `out` is left as it was, with no flush.
 pub fn run_program<R: Source, W: Sink, E: Sink>(
     alloc: Global,
@@ -28,6 +32,7 @@ pub fn run_program<R: Source, W: Sink, E: Sink>(
     requires { W.has_failed out.old ≡ false }
     ensures read { MatchResult words
         (λ words. IsProgramRun (map string_bytes words.items)
+        (record { bytes = R.remaining source.old; failed = R.has_failed source.new })
         (record { before = W.written out.old; after = W.written out.new; failed = W.has_failed out.new })
         (record { before = E.written errors.old; after = E.written errors.new; failed = E.has_failed errors.new })
         result)
@@ -35,7 +40,10 @@ pub fn run_program<R: Source, W: Sink, E: Sink>(
         (record { before = W.written out.old; after = W.written out.new; failed = W.has_failed out.new })
         (record { before = E.written errors.old; after = E.written errors.new; failed = E.has_failed errors.new })
         result) }
-    ensures unread { source.new ≡ source.old }
+    ensures unread { MatchResult words
+        (λ words. AskForNoInput (map string_bytes words.items) → source.new ≡ source.old)
+        (λ error. source.new ≡ source.old) }
+    ensures bounded { LosesAtMost (most_input + 1) (R.remaining source.old) (R.remaining source.new) }
 {
     match request_of(alloc, words) {
         Ok(request) => run(alloc, &request, source, out, errors),

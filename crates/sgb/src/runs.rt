@@ -1,17 +1,19 @@
 //! Requests answered: evaluation, output, the line of a fault and the exit status.
 
-ghost use Rattle.std.specs.Prelude.{◌≡◌, ◌≢◌, ◌++◌, Ok, Err, false};
+ghost use Rattle.std.specs.Prelude.{◌≡◌, ◌≢◌, ◌+◌, ◌++◌, ◌&&◌, ℕ, List, [], Ok, Err, true, false};
 ghost use Rattle.sgb_vec.specs.declared.panics.Panic.TheVariants.{NoRoom};
 ghost use Rattle.sgb_expr.specs.Expression.{expression_of};
 ghost use Rattle.sgb_file.specs.Saving.{text_of_graph};
 ghost use Rattle.sgb_ops.specs.Operands.{names_of};
-ghost use Rattle.sgb.specs.Outcomes.{answer_from, answer_of, list_answer, names_answer, outcome_of, queen_moves, queen_title};
-ghost use Rattle.sgb.specs.Runs.{IsRunOf};
+ghost use Rattle.sgb.specs.Outcomes.{answer_from, answer_of, list_answer, names_answer, queen_moves, queen_title, reads_input};
+ghost use Rattle.sgb.specs.Inputs.{IsKept, LosesAtMost};
+ghost use Rattle.sgb.specs.Runs.{IsRunOn};
 ghost use Rattle.sgb.specs.Texts.{blocks, head};
-ghost use Rattle.sgb.specs.Values.{family_value, made, value_of};
-ghost use Rattle.sgb.specs.Writing.{IsEnded};
+ghost use Rattle.sgb.specs.Values.{family_value, made, most_input, value_of};
+ghost use Rattle.sgb.specs.Writing.{IsEnded, IsEndedFrom};
 
 use crate::evaluation::{Local, graph_of, local_of, queen_moves};
+use crate::input::input_for;
 use crate::writing::files::write_file;
 use crate::writing::flips::write_flip;
 use crate::writing::listing::{write_listing, write_titled_listing};
@@ -26,7 +28,8 @@ use std::alloc::Global;
 /// answer is that of the definitions, unless `out` fails (3, a prefix of the output) or memory runs out (1, a prefix of
 /// the output). An answer that is given in full ends with one flush of `out`.
 ///
-/// `source` is standard input.
+/// `source` is standard input. It is read, once and whole, only if the request's expression has `stdin`, and before all
+/// else; where it fails nothing is written (3). Of more than 2^30 bytes only so many and one more are read.
 pub fn run<R: Source, W: Sink, E: Sink>(
     alloc: Global,
     request: &Request,
@@ -35,28 +38,51 @@ pub fn run<R: Source, W: Sink, E: Sink>(
     errors: &mut E,
 ) -> u8
     requires { W.has_failed out.old ≡ false }
-    ensures answers { IsRunOf (outcome_of (answer_of request.now))
+    ensures answers { IsRunOn request.now
+        (record { bytes = R.remaining source.old; failed = R.has_failed source.new })
         (record { before = W.written out.old; after = W.written out.new; failed = W.has_failed out.new })
         (record { before = E.written errors.old; after = E.written errors.new; failed = E.has_failed errors.new })
         result }
     // What the request asks for is never that memory runs out: code 1 is the machine's alone.
-    ensures apart { answer_of request.now ≢ Err (Fault.Panic NoRoom) }
-    // No form of expression reads standard input yet.
-    ensures unread { source.new ≡ source.old }
+    ensures apart { (input : List ℕ) → answer_of request.now input ≢ Err (Fault.Panic NoRoom) }
+    ensures unread { reads_input request.now ≡ false → source.new ≡ source.old }
+    ensures bounded { LosesAtMost (most_input + 1) (R.remaining source.old) (R.remaining source.new) }
 {
-    let _unread = source;
-    match answer(alloc, request, out) {
+    match answer(alloc, request, source, out) {
         Ok(()) => 0,
         Err(fault) => report(&fault, errors),
     }
 }
 
-// Answers a request, and passes the output on.
-fn answer<W: Sink>(alloc: Global, request: &Request, out: &mut W) -> Result<(), Fault>
+// Reads standard input where the request does, and answers it.
+fn answer<R: Source, W: Sink>(
+    alloc: Global,
+    request: &Request,
+    source: &mut R,
+    out: &mut W,
+) -> Result<(), Fault>
     requires { W.has_failed out.old ≡ false }
-    ensures { IsEnded (answer_of request.now) (record { before = W.written out.old; after = W.written out.new; failed = W.has_failed out.new }) result }
+    ensures ended { (kept : List ℕ) × (reads_input request.now ≡ true → IsKept (R.remaining source.old) kept)
+        × IsEndedFrom (reads_input request.now && R.has_failed source.new) (answer_of request.now kept)
+        (record { before = W.written out.old; after = W.written out.new; failed = W.has_failed out.new }) result }
+    ensures unread { reads_input request.now ≡ false → source.new ≡ source.old }
+    ensures bounded { LosesAtMost (most_input + 1) (R.remaining source.old) (R.remaining source.new) }
 {
-    write_answer(alloc, request, out)?;
+    let input = input_for(alloc, request, source)?;
+    answer_on(alloc, request, input.as_slice(), out)
+}
+
+// Answers a request on this standard input, and passes the output on.
+fn answer_on<W: Sink>(
+    alloc: Global,
+    request: &Request,
+    input: &[u8],
+    out: &mut W,
+) -> Result<(), Fault>
+    requires { W.has_failed out.old ≡ false }
+    ensures { IsEnded (answer_of request.now input.now) (record { before = W.written out.old; after = W.written out.new; failed = W.has_failed out.new }) result }
+{
+    write_answer(alloc, request, input, out)?;
     match out.flush() {
         Ok(()) => Ok(()),
         Err(_) => Err(Fault::Write),
@@ -64,14 +90,19 @@ fn answer<W: Sink>(alloc: Global, request: &Request, out: &mut W) -> Result<(), 
 }
 
 // Writes the output of a request.
-fn write_answer<W: Sink>(alloc: Global, request: &Request, out: &mut W) -> Result<(), Fault>
+fn write_answer<W: Sink>(
+    alloc: Global,
+    request: &Request,
+    input: &[u8],
+    out: &mut W,
+) -> Result<(), Fault>
     requires { W.has_failed out.old ≡ false }
-    ensures { IsEnded (answer_of request.now) (record { before = W.written out.old; after = W.written out.new; failed = W.has_failed out.new }) result }
+    ensures { IsEnded (answer_of request.now input.now) (record { before = W.written out.old; after = W.written out.new; failed = W.has_failed out.new }) result }
 {
     match request {
-        Request::Names(expression, resume) => answer_names(alloc, expression, resume, out),
-        Request::List(expression, resume) => answer_list(alloc, expression, resume, out),
-        Request::Save(expression) => answer_save(alloc, expression, out),
+        Request::Names(expression, resume) => answer_names(alloc, expression, input, resume, out),
+        Request::List(expression, resume) => answer_list(alloc, expression, input, resume, out),
+        Request::Save(expression) => answer_save(alloc, expression, input, out),
         Request::Queen => answer_queen(alloc, out),
         Request::Flip(params) => write_flip(params, out),
     }
@@ -81,16 +112,17 @@ fn write_answer<W: Sink>(alloc: Global, request: &Request, out: &mut W) -> Resul
 fn answer_names<W: Sink>(
     alloc: Global,
     expression: &Expr,
+    input: &[u8],
     resume: &Resume,
     out: &mut W,
 ) -> Result<(), Fault>
     requires { W.has_failed out.old ≡ false }
-    ensures { IsEnded (answer_from (value_of (expression_of expression.now)) (λ g. names_answer (names_of g) resume.now)) (record { before = W.written out.old; after = W.written out.new; failed = W.has_failed out.new }) result }
+    ensures { IsEnded (answer_from (value_of input.now (expression_of expression.now)) (λ g. names_answer (names_of g) resume.now)) (record { before = W.written out.old; after = W.written out.new; failed = W.has_failed out.new }) result }
 {
     if let Expr::Family(family) = expression {
         return answer_family_names(alloc, family, resume, out);
     }
-    let graph = graph_of(alloc, expression)?;
+    let graph = graph_of(alloc, expression, input)?;
     write_vertex_names(&graph, resume, out)
 }
 
@@ -115,29 +147,35 @@ fn answer_family_names<W: Sink>(
 fn answer_list<W: Sink>(
     alloc: Global,
     expression: &Expr,
+    input: &[u8],
     resume: &Resume,
     out: &mut W,
 ) -> Result<(), Fault>
     requires { W.has_failed out.old ≡ false }
-    ensures { IsEnded (answer_from (value_of (expression_of expression.now)) (λ g. list_answer g resume.now)) (record { before = W.written out.old; after = W.written out.new; failed = W.has_failed out.new }) result }
+    ensures { IsEnded (answer_from (value_of input.now (expression_of expression.now)) (λ g. list_answer g resume.now)) (record { before = W.written out.old; after = W.written out.new; failed = W.has_failed out.new }) result }
 {
-    let graph = graph_of(alloc, expression)?;
+    let graph = graph_of(alloc, expression, input)?;
     write_listing(&graph, resume, out)
 }
 
 // Writes the `.gb` file of an expression's graph.
-fn answer_save<W: Sink>(alloc: Global, expression: &Expr, out: &mut W) -> Result<(), Fault>
+fn answer_save<W: Sink>(
+    alloc: Global,
+    expression: &Expr,
+    input: &[u8],
+    out: &mut W,
+) -> Result<(), Fault>
     requires { W.has_failed out.old ≡ false }
-    ensures { IsEnded (answer_from (value_of (expression_of expression.now)) (λ g. Ok (text_of_graph g))) (record { before = W.written out.old; after = W.written out.new; failed = W.has_failed out.new }) result }
+    ensures { IsEnded (answer_from (value_of input.now (expression_of expression.now)) (λ g. Ok (text_of_graph g))) (record { before = W.written out.old; after = W.written out.new; failed = W.has_failed out.new }) result }
 {
-    let graph = graph_of(alloc, expression)?;
+    let graph = graph_of(alloc, expression, input)?;
     write_file(&graph, out)
 }
 
 // Writes the moves of queens on a board of three rows and four columns, under their title.
 fn answer_queen<W: Sink>(alloc: Global, out: &mut W) -> Result<(), Fault>
     requires { W.has_failed out.old ≡ false }
-    ensures { IsEnded (answer_from (value_of queen_moves) (λ g. Ok (queen_title ++ (head g ++ blocks g 0)))) (record { before = W.written out.old; after = W.written out.new; failed = W.has_failed out.new }) result }
+    ensures { IsEnded (answer_from (value_of [] queen_moves) (λ g. Ok (queen_title ++ (head g ++ blocks g 0)))) (record { before = W.written out.old; after = W.written out.new; failed = W.has_failed out.new }) result }
 {
     let graph = queen_moves(alloc)?;
     write_titled_listing(b"Queen Moves on a 3x4 Board\n\n", &graph, out)

@@ -4,7 +4,7 @@ ghost use Rattle.std.specs.Prelude.{◌≡◌, false};
 
 use crate::program::run_program;
 use devices::Counted;
-use sgb_file::{CutSource, Sink};
+use sgb_file::{CutSource, Sink, Source};
 use std::alloc::Global;
 use std::process::Abort;
 use std::test::Fail;
@@ -13,6 +13,7 @@ mod derived;
 mod devices;
 mod endings;
 mod flips;
+mod inputs;
 mod listings;
 mod names;
 mod operations;
@@ -34,7 +35,7 @@ fn words_of(alloc: Global, words: &[&str]) -> Result<Vec<String>, Fail> {
     Ok(all)
 }
 
-// Makes a call, and returns its exit status. Standard input would fail: no call reads it.
+// Makes a call, and returns its exit status. Standard input would fail: no such call reads it.
 fn call<W: Sink, E: Sink>(
     alloc: Global,
     words: &[&str],
@@ -44,8 +45,21 @@ fn call<W: Sink, E: Sink>(
     requires { W.has_failed out.old ≡ false }
 {
     let mut source = CutSource::new(b"", 1, 0);
+    call_on(alloc, words, &mut source, out, errors)
+}
+
+// Makes a call on this standard input, and returns its exit status.
+fn call_on<R: Source, W: Sink, E: Sink>(
+    alloc: Global,
+    words: &[&str],
+    source: &mut R,
+    out: &mut W,
+    errors: &mut E,
+) -> Result<u8, Fail>
+    requires { W.has_failed out.old ≡ false }
+{
     let words = words_of(alloc, words)?;
-    Ok(run_program(alloc, Ok(words), &mut source, out, errors))
+    Ok(run_program(alloc, Ok(words), source, out, errors))
 }
 
 // Makes a call that is to be answered in full, and returns its output.

@@ -7,9 +7,16 @@ pub mod FieldsAndTexts
 pub mod RecordsAndTexts
 pub mod FilesAndTexts
 pub mod LayoutLemmas
+pub mod LinesLeftLemmas
+pub mod Sections
+pub mod Endings
 pub mod LineLemmas
 pub mod LaidOutText
 pub mod FieldReading
+pub mod NumberReading
+pub mod LeftTexts
+pub mod FoundSteps
+pub mod StringReading
 pub mod RecordReading
 pub mod WrittenLines
 pub mod FileReading

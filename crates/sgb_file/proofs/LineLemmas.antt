@@ -40,21 +40,21 @@ cut_line (b ∷ line) rest h =
     rw (not_true (b == 10) parts.0) (ap (onto_first b) (cut_line line rest parts.1))
 
 -- a text has at least one part
-record HasPart (parts : List (List ℕ)) : Type 0 where
-  first : List ℕ
-  others : List (List ℕ)
-  whole : parts ≡ first ∷ others
+pub record HasPart (parts : List (List ℕ)) : Type 0 where
+  pub first : List ℕ
+  pub others : List (List ℕ)
+  pub whole : parts ≡ first ∷ others
 
 put_before : (t : Bool) (b : ℕ) (parts : List (List ℕ)) → HasPart parts → HasPart (cond t ([] ∷ parts) (onto_first b parts))
 put_before true b parts h = record { first = []; others = parts; whole = refl }
 put_before false b parts h = record { first = b ∷ h.first; others = h.others; whole = ap (onto_first b) h.whole }
 
-some_part : (text : List ℕ) → HasPart (slice_split (λ b. b == 10) text)
+pub some_part : (text : List ℕ) → HasPart (slice_split (λ b. b == 10) text)
 some_part [] = record { first = []; others = []; whole = refl }
 some_part (b ∷ text) = put_before (b == 10) b (slice_split (λ c. c == 10) text) (some_part text)
 
 -- a part that others follow is a line
-first_line : (line : List ℕ) (parts : List (List ℕ)) → HasPart parts → lines_among (line ∷ parts) ≡ line ∷ lines_among parts
+pub first_line : (line : List ℕ) (parts : List (List ℕ)) → HasPart parts → lines_among (line ∷ parts) ≡ line ∷ lines_among parts
 unfolding lines_among
 first_line line parts h = rw h.whole refl
 

@@ -9,3 +9,6 @@ pub mod Saving
 pub mod Files
 pub mod Saved
 pub mod Layouts
+pub mod LinesLeft
+pub mod Found
+pub mod Reading

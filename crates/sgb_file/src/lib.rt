@@ -2,8 +2,10 @@
 //! stands for, and the text of a graph.
 #![tactic(auto)]
 
+mod checksums;
 mod devices;
 mod laws;
+mod reading;
 mod saving;
 
 pub use devices::{
@@ -14,4 +16,5 @@ pub use laws::{
     checksum_order_law, file_parts_law, graphs_can_be_saved, line_bytes_law, read_text_law,
     running_checksum_law, written_is_read_law,
 };
+pub use reading::read_gb;
 pub use saving::write_gb;

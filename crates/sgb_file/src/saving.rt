@@ -5,7 +5,6 @@ ghost use Rattle.sgb_file.specs.Devices.{IsPut};
 ghost use Rattle.sgb_file.specs.Layouts.{IsLaid, arc_lines, checksum_text, head_text, stage, vertex_lines};
 ghost use Rattle.sgb_file.specs.Saving.{letter_of, middle_lines, text_of_graph};
 
-mod checksums;
 mod fields;
 mod layouts;
 mod lines;

@@ -2,11 +2,13 @@
 use Rattle.std.specs.Prelude.{◌≡◌, ℕ, pos, List, [], ◌∷◌, ◌++◌, codes, replicate, Some, None, Ok, Err, refl}
 use Rattle.sgb_vec.specs.declared.panics.Panic.TheVariants.{Early, Syntax}
 use Rattle.sgb_graph.specs.Graphs.{ends_from, numbers_from}
-use Rattle.sgb_graph.specs.Made.{no_fields, no_kinds}
+use Rattle.sgb_graph.specs.Made.{no_kinds}
+use Rattle.sgb_graph.specs.declared.fields.Kind.TheVariants.{V, A}
+use Rattle.sgb_graph.specs.declared.fields.Util.TheVariants.{Vertex as VertexField, Chain}
 use Rattle.sgb_graph.specs.declared.fields.Ref.TheVariants.{One, At}
 use Rattle.sgb_file.specs.FileLines.{lines_among, without_end_spaces, text_of_lines}
 use Rattle.sgb_file.specs.Checksum.{weighted_sum}
-use Rattle.sgb_file.specs.Fields.{unbroken, ref_of, record_number_of, string_of}
+use Rattle.sgb_file.specs.Fields.{unbroken, number_of, integer_of, ref_of, record_number_of, string_of, string_at, field_at}
 use Rattle.sgb_file.specs.Records.{more_fields_at, all_at}
 use Rattle.sgb_file.specs.Restoring.{head_of_line, checksum_in_line, opening_of, graph_of_text}
 use Rattle.sgb_file.specs.Saving.{quoted}
@@ -161,3 +163,46 @@ two_slashes = refl
 pub only_a_break : string_of 0 (codes "\\\n") ≡ Some []
 unfolding unbroken
 only_a_break = refl
+
+-- a string has both its quotes, and none within
+pub quote_within : string_of 3 (codes "a\"b") ≡ None
+unfolding unbroken
+quote_within = refl
+
+pub first_quote_only : string_at 3 (codes "\"ab") ≡ None
+unfolding unbroken
+first_quote_only = refl
+
+pub last_quote_only : string_at 3 (codes "xab\"") ≡ None
+unfolding unbroken
+last_quote_only = refl
+
+-- digits, and the bytes next to them
+pub all_digits : number_of 10 (codes "0123456789") ≡ Some 123456789
+all_digits = refl
+
+pub byte_before_digits : number_of 18 (codes "/") ≡ None
+byte_before_digits = refl
+
+pub byte_after_digits : number_of 18 (codes ":") ≡ None
+byte_after_digits = refl
+
+pub digit_and_letter : number_of 18 (codes "1x") ≡ None
+digit_and_letter = refl
+
+pub no_integer_below : integer_of (codes "-9223372036854775809") ≡ None
+no_integer_below = refl
+
+-- `0` and `1` stand alone
+pub ref_one_and_more : ref_of 4 (codes "10") ≡ None
+ref_one_and_more = refl
+
+pub record_none_twice : record_number_of 2 (codes "00") ≡ None
+record_none_twice = refl
+
+-- a vertex is below the number of vertices, an arc record below that of arc records
+pub third_of_three : field_at (record { vertices = 3; arcs = 1 }) V (codes "V2,") ≡ Some (record { value = VertexField (At 2); rest = codes "," })
+third_of_three = refl
+
+pub third_of_three_records : field_at (record { vertices = 1; arcs = 3 }) A (codes "A2\n") ≡ Some (record { value = Chain (Some 2); rest = codes "\n" })
+third_of_three_records = refl

@@ -1,11 +1,10 @@
 //! The line under way.
 ghost use Rattle.std.specs.Prelude.{◌≡◌, ◌+◌, ◌≤◌, ◌++◌, ◌∷◌, [], length, take, drop, OnOk};
 ghost use Rattle.sgb_file.specs.Devices.{IsPut};
-ghost use Rattle.sgb_file.specs.Checksum.{has_star};
 ghost use Rattle.sgb_file.specs.Layouts.{checksum_from, counted_bytes};
 ghost use Rattle.sgb_file.specs.Saving.{broken_line_bytes, most_line_bytes};
 
-use super::checksums::checksum_from;
+use crate::checksums::checksum_after_line;
 use crate::devices::{Failed, Sink, put_all};
 use arrayvec::ArrayVec;
 use std::marker::Model;
@@ -72,10 +71,7 @@ impl Line {
     pub(super) fn checksum_after(&self, sum: u32) -> u32
         ensures { result ≡ checksum_from sum (counted_bytes (self.now ∷ [])) }
     {
-        if has_star(&self.bytes) {
-            return sum;
-        }
-        checksum_from(checksum_from(sum, &self.bytes), b"\n")
+        checksum_after_line(sum, &self.bytes)
     }
 
     // Writes the line and its newline; it is then empty.
@@ -89,11 +85,4 @@ impl Line {
         self.bytes.clear();
         put
     }
-}
-
-// Whether the line begins with a star.
-fn has_star(line: &[u8]) -> bool
-    ensures { result ≡ has_star line.now }
-{
-    !line.is_empty() && line[0] == b'*'
 }

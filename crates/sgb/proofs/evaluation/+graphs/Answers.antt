@@ -1,4 +1,4 @@
-use Rattle.std.proofs.Common.{◌≡◌, ◌<◌, ◌+◌, length, ℤ, Bool, List, Result, Ok, Err, ap, sym, subst, w64, rules, arith}
+use Rattle.std.proofs.Common.{◌≡◌, ◌<◌, length, ℕ, ℤ, List, Result, Ok, Err, ap, sym, subst, w64, rules, arith}
 use Rattle.std.proofs.lemmas.Result.{err_from_is_err_and}
 use Rattle.std.proofs.lemmas.Int.{to_z-of_z}
 use Rattle.sgb_vec.specs.declared.panics.Panic.{Panic}
@@ -23,61 +23,61 @@ use Rattle.sgb.proofs.Values.{size_of_entries, size_of_entry, value_made, value_
 use Rattle.sgb.proofs.evaluation.+graphs.Goals as goal
 
 -- the value of an operand that stands in a box
-at_value : (e f : Expr) (g : GraphData) → e ≡ f → value_of (expression_of e) ≡ Ok g → value_of (expression_of f) ≡ Ok g
-at_value e f g same is = subst (λ (x : Expr). value_of (expression_of x) ≡ Ok g) same is
+at_value : (input : List ℕ) (e f : Expr) (g : GraphData) → e ≡ f → value_of input (expression_of e) ≡ Ok g → value_of input (expression_of f) ≡ Ok g
+at_value input e f g same is = subst (λ (x : Expr). value_of input (expression_of x) ≡ Ok g) same is
 
 -- the values of two operands that stand in boxes
-at_values : (e f e' f' : Expr) (operands : GraphData × GraphData) → e ≡ e' → f ≡ f' → both (value_of (expression_of e)) (value_of (expression_of f)) ≡ Ok operands
-    → both (value_of (expression_of e')) (value_of (expression_of f')) ≡ Ok operands
-at_values e f e' f' operands same alike is =
-    subst (λ (x : Expr). both (value_of (expression_of x)) (value_of (expression_of f')) ≡ Ok operands) same
-    (subst (λ (y : Expr). both (value_of (expression_of e)) (value_of (expression_of y)) ≡ Ok operands) alike is)
+at_values : (input : List ℕ) (e f e' f' : Expr) (operands : GraphData × GraphData) → e ≡ e' → f ≡ f' → both (value_of input (expression_of e)) (value_of input (expression_of f)) ≡ Ok operands
+    → both (value_of input (expression_of e')) (value_of input (expression_of f')) ≡ Ok operands
+at_values input e f e' f' operands same alike is =
+    subst (λ (x : Expr). both (value_of input (expression_of x)) (value_of input (expression_of f')) ≡ Ok operands) same
+    (subst (λ (y : Expr). both (value_of input (expression_of e)) (value_of input (expression_of y)) ≡ Ok operands) alike is)
 
 pub graph_of-returns-in-Family : goal.graph_of-returns-in-Family
 graph_of-returns-in-Family t c =
-    subst (λ (e : Expr). IsValue (value_of (expression_of e)) c.family_graph.result) (sym c.in-Family.is) (value_made _ _ c.family_graph.ensures)
+    subst (λ (e : Expr). IsValue (value_of c.args.input.now (expression_of e)) c.family_graph.result) (sym c.in-Family.is) (value_made _ _ c.family_graph.ensures)
 
 pub graph_of-returns-in_ok-operand-in-Complement : goal.graph_of-returns-in_ok-operand-in-Complement
 graph_of-returns-in_ok-operand-in-Complement t c =
     let a = c.in-Complement in
-    subst (λ (e : Expr). IsValue (value_of (expression_of e)) c.complement.result) (sym a.is)
-    (value_then (value_of (expression_of a.graph.value)) c.in_ok-operand-in-Complement.operand (λ g. made (complement_of g a.copy a.self_loops a.directed)) c.complement.result
-    (at_value c.deref.result.now a.graph.value c.in_ok-operand-in-Complement.operand c.deref.ensures c.in_ok-operand-in-Complement.ensures)
+    subst (λ (e : Expr). IsValue (value_of c.args.input.now (expression_of e)) c.complement.result) (sym a.is)
+    (value_then (value_of c.args.input.now (expression_of a.graph.value)) c.in_ok-operand-in-Complement.operand (λ g. made (complement_of g a.copy a.self_loops a.directed)) c.complement.result
+    (at_value c.args.input.now c.deref.result.now a.graph.value c.in_ok-operand-in-Complement.operand c.deref.ensures c.in_ok-operand-in-Complement.ensures)
     (value_made (complement_of c.in_ok-operand-in-Complement.operand a.copy a.self_loops a.directed) c.complement.result c.complement.ensures))
 
 pub graph_of-returns-in_ok-left-in-Gunion : goal.graph_of-returns-in_ok-left-in-Gunion
 graph_of-returns-in_ok-left-in-Gunion t c =
     let a = c.in-Gunion in
-    subst (λ (e : Expr). IsValue (value_of (expression_of e)) c.gunion.result) (sym a.is)
-    (value_then (both (value_of (expression_of a.first.value)) (value_of (expression_of a.second.value))) (c.in_ok-left-in-Gunion.left, c.in_ok-left-in-Gunion.right)
+    subst (λ (e : Expr). IsValue (value_of c.args.input.now (expression_of e)) c.gunion.result) (sym a.is)
+    (value_then (both (value_of c.args.input.now (expression_of a.first.value)) (value_of c.args.input.now (expression_of a.second.value))) (c.in_ok-left-in-Gunion.left, c.in_ok-left-in-Gunion.right)
     (λ operands. made (gunion_of operands.0 operands.1 a.multi a.directed)) c.gunion.result
-    (at_values _ _ a.first.value a.second.value _ c.deref-in-Gunion.ensures c.deref-in-Gunion-2.ensures c.in_ok-left-in-Gunion.ensures)
+    (at_values c.args.input.now _ _ a.first.value a.second.value _ c.deref-in-Gunion.ensures c.deref-in-Gunion-2.ensures c.in_ok-left-in-Gunion.ensures)
     (value_made (gunion_of c.in_ok-left-in-Gunion.left c.in_ok-left-in-Gunion.right a.multi a.directed) c.gunion.result c.gunion.ensures))
 
 pub graph_of-returns-in_ok-left-in-Intersection : goal.graph_of-returns-in_ok-left-in-Intersection
 graph_of-returns-in_ok-left-in-Intersection t c =
     let a = c.in-Intersection in
-    subst (λ (e : Expr). IsValue (value_of (expression_of e)) c.intersection.result) (sym a.is)
-    (value_then (both (value_of (expression_of a.first.value)) (value_of (expression_of a.second.value))) (c.in_ok-left-in-Intersection.left, c.in_ok-left-in-Intersection.right)
+    subst (λ (e : Expr). IsValue (value_of c.args.input.now (expression_of e)) c.intersection.result) (sym a.is)
+    (value_then (both (value_of c.args.input.now (expression_of a.first.value)) (value_of c.args.input.now (expression_of a.second.value))) (c.in_ok-left-in-Intersection.left, c.in_ok-left-in-Intersection.right)
     (λ operands. made (intersection_of operands.0 operands.1 a.multi a.directed)) c.intersection.result
-    (at_values _ _ a.first.value a.second.value _ c.deref-in-Intersection.ensures c.deref-in-Intersection-2.ensures c.in_ok-left-in-Intersection.ensures)
+    (at_values c.args.input.now _ _ a.first.value a.second.value _ c.deref-in-Intersection.ensures c.deref-in-Intersection-2.ensures c.in_ok-left-in-Intersection.ensures)
     (value_made (intersection_of c.in_ok-left-in-Intersection.left c.in_ok-left-in-Intersection.right a.multi a.directed) c.intersection.result c.intersection.ensures))
 
 pub graph_of-returns-in_ok-operand-in-Lines : goal.graph_of-returns-in_ok-operand-in-Lines
 graph_of-returns-in_ok-operand-in-Lines t c =
     let a = c.in-Lines in
-    subst (λ (e : Expr). IsValue (value_of (expression_of e)) c.lines.result) (sym a.is)
-    (value_then (value_of (expression_of a.graph.value)) c.in_ok-operand-in-Lines.operand (λ g. made (line_graph_of g a.directed)) c.lines.result
-    (at_value _ a.graph.value c.in_ok-operand-in-Lines.operand c.deref-in-Lines.ensures c.in_ok-operand-in-Lines.ensures)
+    subst (λ (e : Expr). IsValue (value_of c.args.input.now (expression_of e)) c.lines.result) (sym a.is)
+    (value_then (value_of c.args.input.now (expression_of a.graph.value)) c.in_ok-operand-in-Lines.operand (λ g. made (line_graph_of g a.directed)) c.lines.result
+    (at_value c.args.input.now _ a.graph.value c.in_ok-operand-in-Lines.operand c.deref-in-Lines.ensures c.in_ok-operand-in-Lines.ensures)
     (value_made (line_graph_of c.in_ok-operand-in-Lines.operand a.directed) c.lines.result c.lines.ensures))
 
 pub graph_of-returns-in_ok-left-in-Product : goal.graph_of-returns-in_ok-left-in-Product
 graph_of-returns-in_ok-left-in-Product t c =
     let a = c.in-Product in
-    subst (λ (e : Expr). IsValue (value_of (expression_of e)) c.product.result) (sym a.is)
-    (value_then (both (value_of (expression_of a.first.value)) (value_of (expression_of a.second.value))) (c.in_ok-left-in-Product.left, c.in_ok-left-in-Product.right)
+    subst (λ (e : Expr). IsValue (value_of c.args.input.now (expression_of e)) c.product.result) (sym a.is)
+    (value_then (both (value_of c.args.input.now (expression_of a.first.value)) (value_of c.args.input.now (expression_of a.second.value))) (c.in_ok-left-in-Product.left, c.in_ok-left-in-Product.right)
     (λ operands. made (product_graph_of operands.0 operands.1 a.kind a.directed)) c.product.result
-    (at_values _ _ a.first.value a.second.value _ c.deref-in-Product.ensures c.deref-in-Product-2.ensures c.in_ok-left-in-Product.ensures)
+    (at_values c.args.input.now _ _ a.first.value a.second.value _ c.deref-in-Product.ensures c.deref-in-Product-2.ensures c.in_ok-left-in-Product.ensures)
     (value_made (product_graph_of c.in_ok-left-in-Product.left c.in_ok-left-in-Product.right a.kind a.directed) c.product.result
     (subst (λ kind. IsAnswerOf (product_graph_of c.in_ok-left-in-Product.left c.in_ok-left-in-Product.right kind a.directed) c.product.result)
     (to_z-of_z w64 a.kind (search rules)) c.product.ensures)))
@@ -89,16 +89,20 @@ at_numbers make m n m' n' r e f is = subst (λ k. IsAnswerOf (make m k) r) f (su
 pub graph_of-returns-in-BiComplete : goal.graph_of-returns-in-BiComplete
 graph_of-returns-in-BiComplete t c =
     let a = c.in-BiComplete in
-    subst (λ (e : Expr). IsValue (value_of (expression_of e)) c.bi_complete.result) (sym a.is)
+    subst (λ (e : Expr). IsValue (value_of c.args.input.now (expression_of e)) c.bi_complete.result) (sym a.is)
     (value_made (bi_complete_of a.n1 a.n2 a.directed) c.bi_complete.result
     (at_numbers (λ n1 n2. bi_complete_of n1 n2 a.directed) a.n1 a.n2 _ _ c.bi_complete.result (to_z-of_z w64 a.n1 (search rules)) (to_z-of_z w64 a.n2 (search rules)) c.bi_complete.ensures))
 
 pub graph_of-returns-in-Wheel : goal.graph_of-returns-in-Wheel
 graph_of-returns-in-Wheel t c =
     let a = c.in-Wheel in
-    subst (λ (e : Expr). IsValue (value_of (expression_of e)) c.wheel.result) (sym a.is)
+    subst (λ (e : Expr). IsValue (value_of c.args.input.now (expression_of e)) c.wheel.result) (sym a.is)
     (value_made (wheel_of a.n a.n1 a.directed) c.wheel.result
     (at_numbers (λ n n1. wheel_of n n1 a.directed) a.n a.n1 _ _ c.wheel.result (to_z-of_z w64 a.n (search rules)) (to_z-of_z w64 a.n1 (search rules)) c.wheel.ensures))
+
+pub graph_of-returns-in-Stdin : goal.graph_of-returns-in-Stdin
+graph_of-returns-in-Stdin t c =
+    subst (λ (e : Expr). IsValue (value_of c.args.input.now (expression_of e)) c.stdin_graph.result) (sym c.in-Stdin.is) c.stdin_graph.ensures
 
 pub graph_of-values_of-requires : goal.graph_of-values_of-requires
 graph_of-values_of-requires t c =
@@ -111,22 +115,22 @@ pub graph_of-returns-in_err-values-in-Induced : goal.graph_of-returns-in_err-val
 graph_of-returns-in_err-values-in-Induced t c =
     let a = c.in-Induced in
     let p = err_from_is_err_and c.from_residual-in_err-values-in-Induced.result c.from_residual-in_err-values-in-Induced.ensures.1 in
-    let refused = subst (λ (es : List EntryExpr). IsValue (values_of (entries_of (listed es))) (Err c.in_err-values-in-Induced.field-0.0)) c.as_slice.ensures c.in_err-values-in-Induced.ensures.refused in
+    let refused = subst (λ (es : List EntryExpr). IsValue (values_of c.args.input.now (entries_of (listed es))) (Err c.in_err-values-in-Induced.field-0.0)) c.as_slice.ensures c.in_err-values-in-Induced.ensures.refused in
     rw (p.1, p.2)
-    (subst (λ (v : Result GraphData Panic). IsValue v (Err c.in_err-values-in-Induced.field-0.0)) (sym (induced_value c.args.expression.now a.graph a.entries a.self_loops a.multi a.directed a.is))
+    (subst (λ (v : Result GraphData Panic). IsValue v (Err c.in_err-values-in-Induced.field-0.0)) (sym (induced_value c.args.input.now c.args.expression.now a.graph a.entries a.self_loops a.multi a.directed a.is))
     (entries_refused _ _ c.in_ok-operand-in-Induced.operand a.self_loops a.multi a.directed c.in_err-values-in-Induced.field-0.0
-    (at_value _ a.graph.value c.in_ok-operand-in-Induced.operand c.deref-in-Induced.ensures c.in_ok-operand-in-Induced.ensures) refused))
+    (at_value c.args.input.now _ a.graph.value c.in_ok-operand-in-Induced.operand c.deref-in-Induced.ensures c.in_ok-operand-in-Induced.ensures) refused))
 
 pub graph_of-returns-in_err-list-in-Induced : goal.graph_of-returns-in_err-list-in-Induced
 graph_of-returns-in_err-list-in-Induced t c =
     let a = c.in-Induced in
     let p = err_from_is_err_and c.from_residual-in_err-list-in-Induced.result c.from_residual-in_err-list-in-Induced.ensures.1 in
     let values = c.in_ok-values-in-Induced.values.items in
-    let is = subst (λ (es : List EntryExpr). values_of (entries_of (listed es)) ≡ Ok values) c.as_slice.ensures c.in_ok-values-in-Induced.ensures.ok in
+    let is = subst (λ (es : List EntryExpr). values_of c.args.input.now (entries_of (listed es)) ≡ Ok values) c.as_slice.ensures c.in_ok-values-in-Induced.ensures.ok in
     rw (p.1, p.2)
-    (subst (λ (v : Result GraphData Panic). IsValue v (Err c.in_err-list-in-Induced.field-0.0)) (sym (induced_value c.args.expression.now a.graph a.entries a.self_loops a.multi a.directed a.is))
+    (subst (λ (v : Result GraphData Panic). IsValue v (Err c.in_err-list-in-Induced.field-0.0)) (sym (induced_value c.args.input.now c.args.expression.now a.graph a.entries a.self_loops a.multi a.directed a.is))
     (entries_handed _ _ c.in_ok-operand-in-Induced.operand values a.self_loops a.multi a.directed (Err c.in_err-list-in-Induced.field-0.0)
-    (at_value _ a.graph.value c.in_ok-operand-in-Induced.operand c.deref-in-Induced.ensures c.in_ok-operand-in-Induced.ensures) is
+    (at_value c.args.input.now _ a.graph.value c.in_ok-operand-in-Induced.operand c.deref-in-Induced.ensures c.in_ok-operand-in-Induced.ensures) is
     (value_refused (handed_entries values) (λ list. made (induced_of c.in_ok-operand-in-Induced.operand list a.self_loops a.multi a.directed)) c.in_err-list-in-Induced.field-0.0
     c.in_err-list-in-Induced.ensures.refused)))
 
@@ -136,11 +140,11 @@ graph_of-returns-in_ok-list-in-Induced t c =
     let values = c.in_ok-values-in-Induced.values.items in
     let list = c.in_ok-list-in-Induced.list.items in
     let operand = c.in_ok-operand-in-Induced.operand in
-    let is = subst (λ (es : List EntryExpr). values_of (entries_of (listed es)) ≡ Ok values) c.as_slice.ensures c.in_ok-values-in-Induced.ensures.ok in
+    let is = subst (λ (es : List EntryExpr). values_of c.args.input.now (entries_of (listed es)) ≡ Ok values) c.as_slice.ensures c.in_ok-values-in-Induced.ensures.ok in
     let answer = subst (λ (es : List Handed). IsAnswerOf (induced_of operand es a.self_loops a.multi a.directed) c.induced.result) c.deref-in-Induced-2.ensures.value c.induced.ensures in
-    subst (λ (v : Result GraphData Panic). IsValue v c.induced.result) (sym (induced_value c.args.expression.now a.graph a.entries a.self_loops a.multi a.directed a.is))
+    subst (λ (v : Result GraphData Panic). IsValue v c.induced.result) (sym (induced_value c.args.input.now c.args.expression.now a.graph a.entries a.self_loops a.multi a.directed a.is))
     (entries_handed _ _ operand values a.self_loops a.multi a.directed c.induced.result
-    (at_value _ a.graph.value operand c.deref-in-Induced.ensures c.in_ok-operand-in-Induced.ensures) is
+    (at_value c.args.input.now _ a.graph.value operand c.deref-in-Induced.ensures c.in_ok-operand-in-Induced.ensures) is
     (value_then (handed_entries values) list (λ es. made (induced_of operand es a.self_loops a.multi a.directed)) c.induced.result c.in_ok-list-in-Induced.ensures.ok
     (value_made (induced_of operand list a.self_loops a.multi a.directed) c.induced.result answer)))
 

@@ -22,4 +22,4 @@ decreases-value_of_entry l = size_of_entry (entry_of l.entry.now)
 -- with the values of the entries that are left, they are all
 abbrev pub invariant-values_of-loop-entry : goal.invariant-values_of-loop-entry
 invariant-values_of-loop-entry l =
-    and_values l.values.items (values_of (entries_of (listed (drop l.entry-index l.entries)))) ≡ values_of (entries_of (listed l.entries))
+    and_values l.values.items (values_of l.input (entries_of (listed (drop l.entry-index l.entries)))) ≡ values_of l.input (entries_of (listed l.entries))

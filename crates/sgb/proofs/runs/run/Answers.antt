@@ -1,13 +1,20 @@
-use Rattle.sgb.proofs.Endings.{answers_ok, answers_err}
+use Rattle.sgb.proofs.InputEndings.{answers_from_ok, answers_from_err}
 use Rattle.sgb.proofs.Refusals.{answer_own}
+use Rattle.sgb.proofs.StdinValues.{run_on}
 use Rattle.sgb.proofs.runs.run.Goals as goal
-use Rattle.sgb.proofs.runs.run.Goals.{in-Ok, in-Err}
 
-pub returns-clause-answers : goal.returns-clause-answers
-returns-clause-answers g c = elim c.match-answer.branch [
-  | in-Ok w ↦ rw (w.errors-is, w.result-is) (answers_ok _ _ _ _ _ _ _ w.in-Ok.ensures)
-  | in-Err w ↦ rw (w.errors-is, w.result-is, w.report.ensures.status) (answers_err _ _ _ _ _ _ _ _ _ w.in-Err.ensures w.report.ensures.line)
-]
+pub returns-in-Ok-clause-answers : goal.returns-in-Ok-clause-answers
+returns-in-Ok-clause-answers g c =
+    let (kept, is, ended) = c.in-Ok.ensures.ended in
+    run_on c.args.request.now _ kept _ _ _ is (answers_from_ok _ _ _ _ _ _ _ _ ended)
 
-pub returns-clause-apart : goal.returns-clause-apart
-returns-clause-apart g c = answer_own c.args.request.now
+pub returns-in-Err-clause-answers : goal.returns-in-Err-clause-answers
+returns-in-Err-clause-answers g c =
+    let (kept, is, ended) = c.in-Err.ensures.ended in
+    rw c.report.ensures.status (run_on c.args.request.now _ kept _ _ _ is (answers_from_err _ _ _ _ _ _ _ _ _ _ ended c.report.ensures.line))
+
+pub returns-in-Ok-clause-apart : goal.returns-in-Ok-clause-apart
+returns-in-Ok-clause-apart g c = answer_own c.args.request.now
+
+pub returns-in-Err-clause-apart : goal.returns-in-Err-clause-apart
+returns-in-Err-clause-apart g c = answer_own c.args.request.now

@@ -1,4 +1,4 @@
-use Rattle.std.proofs.Common.{◌≡◌, ◌∙◌, List, [], length, ℕ, Err, Ok, Result, ap, sym, subst, inl, rules, arith}
+use Rattle.std.proofs.Common.{◌≡◌, ◌∙◌, List, [], length, Err, Result, ap, sym, subst, inl, arith}
 use Rattle.std.proofs.lemmas.Result.{err_from_is_err_and}
 use Rattle.std.specs.Vec.Iter.{into_iter_items}
 use Rattle.sgb_vec.specs.declared.panics.Panic.{Panic}

@@ -1,0 +1,129 @@
+-- What standard input is read for: answers depend on it only through the graph that it is a file of, and only where a request
+-- reads it.
+use Rattle.std.proofs.Common.{◌≡◌, ◌<◌, ◌+◌, ℕ, true, false, cond, inl, inr, nat_le, List, ◌∷◌, length, take, Option, Some, None, IfSome, Result, Ok, Err, refl, sym, ap, ap₂, subst, ◌∙◌, arith}
+use Rattle.std.proofs.lemmas.Bool.{cases_Bool, cond-false, cond-true, leb-true, leb-false, lt-leb, or_left, or_right}
+use Rattle.std.proofs.lemmas.List.{length-take-le, take_all}
+use Rattle.sgb_vec.specs.Results.{and_then}
+use Rattle.sgb_vec.specs.declared.panics.Panic.{Panic}
+use Rattle.sgb_vec.specs.declared.panics.Panic.TheVariants.{Syntax}
+use Rattle.sgb_graph.specs.Graphs.{GraphData}
+use Rattle.sgb_file.specs.Restoring.{graph_of_text}
+use Rattle.sgb_ops.specs.Complement.{complement_of}
+use Rattle.sgb_ops.specs.Gunion.{gunion_of}
+use Rattle.sgb_ops.specs.Intersection.{intersection_of}
+use Rattle.sgb_ops.specs.Lines.{line_graph_of}
+use Rattle.sgb_ops.specs.Product.{product_graph_of}
+use Rattle.sgb_ops.specs.Induced.{induced_of}
+use Rattle.sgb_ops.specs.Operands.{names_of}
+use Rattle.sgb_expr.specs.Expression.{Expression, Family, Complement, Gunion, Intersection, Lines, Product, Induced, BiComplete, Wheel, Stdin, Entry, Number, Graph, Entries, NoEntries, EntryThen, expression_of}
+use Rattle.sgb_expr.specs.StdinUses.{entries_have_stdin, entry_has_stdin, has_stdin}
+use Rattle.sgb_file.specs.Reading.{IsReadOf}
+use Rattle.sgb_file.specs.Saving.{text_of_graph}
+use Rattle.sgb.specs.Inputs.{IsKept}
+use Rattle.sgb.specs.Outcomes.{answer_from, answer_of, list_answer, names_answer, outcome_of, reads_input}
+use Rattle.sgb.specs.Runs.{Change, Input, IsRunFrom, IsRunOn, fails_to_read}
+use Rattle.sgb.specs.Values.{IsValue, both, entry_value, handed_entries, made, most_input, stdin_value, value_of, values_of}
+use Rattle.sgb.specs.declared.evaluation.entries.EntryValue.TheVariants as value
+use Rattle.sgb_requests.specs.declared.requests.Request.{Request}
+use Rattle.sgb_requests.specs.declared.requests.Request.TheVariants as request
+
+-- the graph of a text of at most so many bytes
+abbrev value_within : ℕ → List ℕ → Result GraphData Panic
+value_within most text = cond (nat_le (length text) most) (graph_of_text text) (Err Syntax)
+
+-- a longer text
+too_long : (most : ℕ) (text : List ℕ) → most < length text → value_within most text ≡ Err Syntax
+too_long most text h = cond-false (nat_le (length text) most) (graph_of_text text) (Err Syntax) (lt-leb (length text) most h)
+
+-- a text and what is kept of it
+cut_alike : (most : ℕ) (text : List ℕ) → value_within most (take (most + 1) text) ≡ value_within most text
+cut_alike most text = elim (cases_Bool (nat_le (length text) most)) [
+  | inl fits ↦
+      let within = leb-true (length text) most fits in
+      ap (value_within most) (take_all (most + 1) text (omega (arith, within)))
+  | inr more ↦
+      let beyond = leb-false (length text) most more in
+      let all = length-take-le (most + 1) text (omega (arith, beyond)) in
+      too_long most (take (most + 1) text) (omega (arith, all)) ∙ sym (too_long most text beyond)
+]
+
+-- standard input and what is kept of it
+pub stdin_cut : (input : List ℕ) → stdin_value (take (most_input + 1) input) ≡ stdin_value input
+unfolding stdin_value
+stdin_cut input = cut_alike most_input input
+
+-- a text that is too long
+pub stdin_long : (input : List ℕ) → nat_le (length input) most_input ≡ false → stdin_value input ≡ Err Syntax
+unfolding stdin_value
+stdin_long input more = cond-false (nat_le (length input) most_input) (graph_of_text input) (Err Syntax) more
+
+-- a text that is read
+pub stdin_read : (input : List ℕ) (r : Result GraphData Panic) → nat_le (length input) most_input ≡ true → IsReadOf (graph_of_text input) r → IsValue (stdin_value input) r
+unfolding stdin_value
+stdin_read input r fits is =
+    let same : stdin_value input ≡ graph_of_text input = cond-true (nat_le (length input) most_input) (graph_of_text input) (Err Syntax) fits in
+    of_result r (sym same) is
+  where
+    of_result : (r : Result GraphData Panic) → graph_of_text input ≡ stdin_value input → IsReadOf (graph_of_text input) r → IsValue (stdin_value input) r
+    of_result (Ok g) e is = sym e ∙ is
+    of_result (Err p) e (inl is) = inl (sym e ∙ is)
+    of_result (Err p) e (inr is) = inr is
+
+-- two values that are the same, one after the other
+both_same : {T U : Type 0} (p p' : Result T Panic) (q q' : Result U Panic) → p ≡ p' → q ≡ q' → both p q ≡ both p' q'
+both_same p p' q q' e f = ap₂ (λ x y. both x y) e f
+
+mutual
+  -- the graph of an expression, on two texts that are files of the same graph, or where it does not read
+  value_same : (a b : List ℕ) (e : Expression) → (has_stdin e ≡ true → stdin_value a ≡ stdin_value b) → value_of a e ≡ value_of b e
+  value_same a b (Family f) same = refl
+  value_same a b (Complement e copy self_loops directed) same =
+      ap (λ v. and_then v (λ g. made (complement_of g copy self_loops directed))) (value_same a b e same)
+  value_same a b (Gunion e f multi directed) same =
+      ap (λ v. and_then v (λ operands. made (gunion_of operands.0 operands.1 multi directed))) (both_same _ _ _ _ (value_same a b e (λ h. same (or_left _ _ h))) (value_same a b f (λ h. same (or_right _ _ h))))
+  value_same a b (Intersection e f multi directed) same =
+      ap (λ v. and_then v (λ operands. made (intersection_of operands.0 operands.1 multi directed))) (both_same _ _ _ _ (value_same a b e (λ h. same (or_left _ _ h))) (value_same a b f (λ h. same (or_right _ _ h))))
+  value_same a b (Lines e directed) same = ap (λ v. and_then v (λ g. made (line_graph_of g directed))) (value_same a b e same)
+  value_same a b (Product e f kind directed) same =
+      ap (λ v. and_then v (λ operands. made (product_graph_of operands.0 operands.1 kind directed))) (both_same _ _ _ _ (value_same a b e (λ h. same (or_left _ _ h))) (value_same a b f (λ h. same (or_right _ _ h))))
+  value_same a b (Induced e entries self_loops multi directed) same =
+      ap (λ v. and_then v (λ operands. and_then (handed_entries operands.1) (λ list. made (induced_of operands.0 list self_loops multi directed))))
+      (both_same _ _ _ _ (value_same a b e (λ h. same (or_left _ _ h))) (values_same a b entries (λ h. same (or_right _ _ h))))
+  value_same a b (BiComplete n1 n2 directed) same = refl
+  value_same a b (Wheel n n1 directed) same = refl
+  value_same a b Stdin same = same refl
+
+  entry_same : (a b : List ℕ) (entry : Entry) → (entry_has_stdin entry ≡ true → stdin_value a ≡ stdin_value b) → entry_value a entry ≡ entry_value b entry
+  entry_same a b (Number n) same = refl
+  entry_same a b (Graph e) same = ap (λ v. and_then v (λ g. Ok (value.Graph g))) (value_same a b e same)
+
+  values_same : (a b : List ℕ) (entries : Entries) → (entries_have_stdin entries ≡ true → stdin_value a ≡ stdin_value b) → values_of a entries ≡ values_of b entries
+  values_same a b NoEntries same = refl
+  values_same a b (EntryThen first others) same =
+      ap (λ v. and_then v (λ p. Ok (p.0 ∷ p.1)))
+      (both_same _ _ _ _ (entry_same a b first (λ h. same (or_left _ _ h))) (values_same a b others (λ h. same (or_right _ _ h))))
+
+-- the answer of a request
+answer_same : (r : Request) (a b : List ℕ) → (reads_input r ≡ true → stdin_value a ≡ stdin_value b) → answer_of r a ≡ answer_of r b
+answer_same (request.Names e resume) a b same =
+    ap (λ v. answer_from v (λ g. names_answer (names_of g) resume)) (value_same a b (expression_of e) same)
+answer_same (request.List e resume) a b same = ap (λ v. answer_from v (λ g. list_answer g resume)) (value_same a b (expression_of e) same)
+answer_same (request.Save e) a b same = ap (λ v. answer_from v (λ g. Ok (text_of_graph g))) (value_same a b (expression_of e) same)
+answer_same request.Queen a b same = refl
+
+-- what is kept of standard input is as good as all of it
+pub run_on : (r : Request) (source : Input) (kept : List ℕ) (out err : Change) (status : ℕ) → (reads_input r ≡ true → IsKept source.bytes kept)
+    → IsRunFrom (fails_to_read r source) (outcome_of (answer_of r kept)) out err status → IsRunOn r source out err status
+run_on r source kept out err status is run = by_told source.bytes is
+  where
+    on : (input : List ℕ) → (reads_input r ≡ true → stdin_value kept ≡ stdin_value input)
+        → IsRunFrom (fails_to_read r source) (outcome_of (answer_of r input)) out err status
+    on input same = subst (λ a. IsRunFrom (fails_to_read r source) (outcome_of a) out err status) (answer_same r kept input same) run
+
+    by_told : (told : Option (List ℕ)) → (reads_input r ≡ true → IsKept told kept)
+        → (held : List ℕ) × IfSome told (λ bytes. held ≡ bytes)
+        × ((input : List ℕ) → (reads_input r ≡ true → input ≡ held)
+        → IsRunFrom (fails_to_read r source) (outcome_of (answer_of r input)) out err status)
+    by_told None is = (kept, tt, λ input same. on input (λ reads. ap stdin_value (sym (same reads))))
+    by_told (Some bytes) is =
+        (bytes, refl, λ input same. on input (λ reads. ap stdin_value (is reads) ∙ stdin_cut bytes ∙ ap stdin_value (sym (same reads))))

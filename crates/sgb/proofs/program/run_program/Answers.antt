@@ -1,0 +1,11 @@
+use Rattle.std.proofs.Common.{refl}
+use Rattle.sgb.proofs.ProgramRuns.{program_ran, program_refused}
+use Rattle.sgb.proofs.program.run_program.Goals as goal
+
+pub returns-in-Ok-clause-read : goal.returns-in-Ok-clause-read
+returns-in-Ok-clause-read g c = program_ran c.args.words _ _ c.in-Ok.request _ _ _ c.run.result c.in-Ok.ensures c.run.ensures.answers
+
+pub returns-in-Err-clause-read : goal.returns-in-Err-clause-read
+returns-in-Err-clause-read g c =
+    program_refused c.args.words _ _ c.in-Err.fault _ _ _ c.report.result c.in-Err.ensures
+    (record { untouched = refl; sound = c.requires; line = c.report.ensures.line; exit = c.report.ensures.status })

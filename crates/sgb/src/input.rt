@@ -1,0 +1,112 @@
+//! Standard input: who reads it, reading it whole, and the graph that it is a file of.
+
+ghost use Rattle.std.specs.Prelude.{◌≡◌, ◌≤◌, ◌<◌, ◌+◌, ◌-◌, ◌++◌, ◌&&◌, ℕ, List, false, true, length, nat_le, IfOk};
+ghost use Rattle.std.specs.Io.KnownBytes.{Consumes, IsAtEnd};
+ghost use Rattle.sgb.specs.Inputs.{IsKept, IsReadFrom, LosesAtMost};
+ghost use Rattle.sgb.specs.Outcomes.{reads_input};
+ghost use Rattle.sgb.specs.Values.{IsValue, most_input, stdin_value};
+
+use sgb_file::{Source, read_gb};
+use sgb_graph::Graph;
+use sgb_requests::{Fault, Request};
+use sgb_vec::Panic;
+use std::alloc::Global;
+
+// A file on standard input has at most this many bytes.
+const MOST_INPUT: usize = 1 << 30;
+
+// At most this many bytes are read at once.
+const MOST_AT_ONCE: usize = 65_536;
+
+// Whether a request reads standard input.
+fn reads_input(request: &Request) -> bool
+    ensures { result ≡ reads_input request.now }
+{
+    match request {
+        Request::Names(expression, _) => expression.has_stdin(),
+        Request::List(expression, _) => expression.has_stdin(),
+        Request::Save(expression) => expression.has_stdin(),
+        Request::Queen | Request::Flip(_) => false,
+    }
+}
+
+/// The bytes of standard input that are kept for a request: none where it does not read them, and then `source` is left
+/// alone.
+///
+/// `Read` where the source fails, `Panic(NoRoom)` when out of memory.
+pub(crate) fn input_for<R: Source>(
+    alloc: Global,
+    request: &Request,
+    source: &mut R,
+) -> Result<Vec<u8>, Fault>
+    ensures kept { IfOk result (λ bytes. reads_input request.now ≡ true → IsKept (R.remaining source.old) bytes.items) }
+    ensures ended { IsReadFrom (reads_input request.now && R.has_failed source.new) result }
+    ensures unread { reads_input request.now ≡ false → source.new ≡ source.old }
+    ensures bounded { LosesAtMost (most_input + 1) (R.remaining source.old) (R.remaining source.new) }
+{
+    if !reads_input(request) {
+        return Ok(Vec::new(alloc));
+    }
+    read_input(alloc, source)
+}
+
+// The bytes of a source to its end, or up to the first that is too many.
+fn read_input<R: Source>(alloc: Global, source: &mut R) -> Result<Vec<u8>, Fault>
+    ensures kept { IfOk result (λ bytes. IsKept (R.remaining source.old) bytes.items) }
+    ensures ended { IsReadFrom (R.has_failed source.new) result }
+    ensures bounded { LosesAtMost (most_input + 1) (R.remaining source.old) (R.remaining source.new) }
+{
+    let mut kept = Vec::new(alloc);
+    let mut buffer = [0; MOST_AT_ONCE];
+    while kept.len() <= MOST_INPUT {
+        let count = read_more(source, &mut buffer, &mut kept)?;
+        if count == 0 {
+            return Ok(kept);
+        }
+    }
+    Ok(kept)
+}
+
+// Reads once into the buffer, keeps what was read, and returns how many bytes: 0 is the end. Never more are kept than up
+// to the first that is too many.
+fn read_more<R: Source>(
+    source: &mut R,
+    buffer: &mut [u8],
+    kept: &mut Vec<u8>,
+) -> Result<usize, Fault>
+    requires room { length kept.old.items ≤ most_input }
+    requires buffer { 0 < length buffer.old }
+    ensures kept { IfOk result (λ count. (bs : List ℕ) × (kept.new.items ≡ kept.old.items ++ bs) × (length bs ≡ count)
+        × Consumes (R.remaining source.old) (R.remaining source.new) bs) }
+    ensures end { IfOk result (λ count. count ≡ 0 → IsAtEnd (R.remaining source.new)) }
+    ensures most { IfOk result (λ count. length kept.old.items + count ≤ most_input + 1) }
+    ensures ended { IsReadFrom (R.has_failed source.new) result }
+    ensures bounded { LosesAtMost (most_input + 1 - length kept.old.items) (R.remaining source.old) (R.remaining source.new) }
+{
+    let most = (MOST_INPUT + 1 - kept.len()).min(buffer.len());
+    let room = &mut buffer[..most];
+    let count = source.take(room).map_err(|_| Fault::Read)?;
+    match kept.extend_from_slice(&room[..count]) {
+        Ok(()) => Ok(count),
+        Err(_) => Err(Fault::Panic(Panic::NoRoom)),
+    }
+}
+
+/// The graph that standard input is a file of, from its bytes (GB_SAVE, restore_graph).
+///
+/// The code of a text that is a file of none; `Syntax` where it has more than 2^30 bytes; `NoRoom` when out of memory.
+pub(crate) fn stdin_graph(alloc: Global, input: &[u8]) -> Result<Graph, Panic>
+    ensures { IsValue (stdin_value input.now) result }
+{
+    if !is_read(input) {
+        return Err(Panic::Syntax);
+    }
+    read_gb(alloc, input)
+}
+
+// Whether standard input is read as a file: it has not too many bytes.
+fn is_read(input: &[u8]) -> bool
+    ensures { result ≡ nat_le (length input.now) most_input }
+{
+    input.len() <= MOST_INPUT
+}

@@ -1,0 +1,131 @@
+-- Lemmas on the opening and the end of a file, in the words of the code.
+use Rattle.std.specs.Prelude.{if◌then◌else◌}
+use Rattle.std.proofs.Common.{◌≡◌, ◌<◌, ◌≤◌, ◌∙◌, ℕ, Bool, true, false, List, [], ◌∷◌, Option, Some, None, length, take, drop, set, slice_index, ◌+◌, zero, suc, filter_map, refl, sym, ap, arith, cond, ◌==◌, ◌&&◌, ◌++◌, Result, Ok, Err, nat_le, subst}
+use Rattle.std.proofs.lemmas.Bool.Decides.{nat_tests}
+use Rattle.std.proofs.lemmas.List.{length-take, get_or-take, take_more, take_more_set, take_all}
+use Rattle.std.proofs.lemmas.List.Elements.{filter_map-append}
+use Rattle.std.specs.List.{cons_option}
+use Rattle.sgb_graph.specs.declared.fields.Kind.{Kind}
+use Rattle.sgb_file.specs.FileLines.{lines_among, lines_of_text, clean_lines, text_of_lines}
+use Rattle.sgb_file.specs.LinesLeft.{LinesLeft, text_left, next_begun, none_begun, lines_still, lines_passed}
+use Rattle.sgb_vec.specs.declared.panics.Panic.{Panic}
+use Rattle.sgb_vec.specs.declared.panics.Panic.TheVariants.{Late, Syntax}
+use Rattle.sgb_vec.specs.Limits.{most_vertices}
+use Rattle.sgb_graph.specs.Graphs.{GraphData}
+use Rattle.sgb_graph.specs.Parts.{IsCheckOf, checked}
+use Rattle.sgb_graph.specs.Sound.{fields_fit, is_sound}
+use Rattle.sgb_file.specs.Checksum.{has_star}
+use Rattle.sgb_file.specs.Fields.{Found}
+use Rattle.sgb_file.specs.Reading.{IsReadOf}
+use Rattle.sgb_file.specs.Records.{Head, records_at}
+use Rattle.sgb_file.proofs.LinesLeftLemmas.{begun_text}
+use Rattle.sgb_file.proofs.ReadParts.{read_is_checked}
+use Rattle.sgb_file.specs.Restoring.{Opening, opening_of, head_of_line, graph_of_text, graph_of_opening, graph_of_records, graph_after, graph_at_end, closes, line_closes, lines_before, kind_of_letter, kinds_at}
+
+-- a text of fewer letters has not the kinds
+kept_short : {Y : Type 0} (y : Option Y) (ys : List Y) (n : ℕ) → length ys ≤ n → length (cons_option y ys) ≤ suc n
+kept_short None ys n h = omega (arith, h)
+kept_short (Some y) ys n h = omega (arith, h)
+
+filtered_short : (xs : List ℕ) → length (filter_map kind_of_letter xs) ≤ length xs
+filtered_short [] = omega arith
+filtered_short (x ∷ xs) = kept_short (kind_of_letter x) (filter_map kind_of_letter xs) (length xs) (filtered_short xs)
+
+kept_fewer : {Y : Type 0} (y : Option Y) (ys : List Y) (n : ℕ) → length ys < n → length (cons_option y ys) < suc n
+kept_fewer None ys n h = omega (arith, h)
+kept_fewer (Some y) ys n h = omega (arith, h)
+
+kept_none : (y : Option Kind) (ys : List Kind) (n : ℕ) → y ≡ None → length ys ≤ n → length (cons_option y ys) < suc n
+kept_none None ys n e h = omega (arith, h)
+kept_none (Some y) ys n e h = absurd cc
+
+filtered_fewer : (xs : List ℕ) (i : ℕ) → i < length xs → kind_of_letter (slice_index xs i) ≡ None → length (filter_map kind_of_letter xs) < length xs
+filtered_fewer [] i h e = absurd (omega (arith, h))
+filtered_fewer (x ∷ xs) zero h e = kept_none (kind_of_letter x) (filter_map kind_of_letter xs) (length xs) e (filtered_short xs)
+filtered_fewer (x ∷ xs) (suc i) h e = kept_fewer (kind_of_letter x) (filter_map kind_of_letter xs) (length xs) (filtered_fewer xs i (omega (arith, h)) e)
+
+-- where a byte is no letter of a kind, the text has not the kinds
+pub kinds_missed : (text : List ℕ) (i : ℕ) → i < 14 → i < length text → kind_of_letter (slice_index text i) ≡ None → kinds_at text ≡ None
+kinds_missed text i low within e =
+    let few = filtered_fewer (take 14 text) i (omega (arith, length-take 14 text, low, within)) (ap kind_of_letter (get_or-take 14 text i 0 low) ∙ e) in
+    let other : (length (filter_map kind_of_letter (take 14 text)) == 14) ≡ false = grind (arith, nat_tests, few, length-take 14 text) in
+    rw other refl
+
+-- one kind more, and all
+pub kinds_more : (text : List ℕ) (kinds : List Kind) (i : ℕ) (k : Kind) → i < length text → i < length kinds → kind_of_letter (slice_index text i) ≡ Some k
+    → filter_map kind_of_letter (take i text) ≡ take i kinds → filter_map kind_of_letter (take (i + 1) text) ≡ take (i + 1) (set kinds i k)
+kinds_more text kinds i k within room e so_far =
+    ap (filter_map kind_of_letter) (take_more text i 0 within) ∙ (filter_map-append kind_of_letter (take i text) (slice_index text i ∷ [])
+    ∙ (ap (λ xs. xs ++ cons_option (kind_of_letter (slice_index text i)) []) so_far ∙ (ap (λ y. take i kinds ++ cons_option y []) e ∙ sym (take_more_set kinds i k room))))
+
+pub kinds_read : (text : List ℕ) (kinds : List Kind) → filter_map kind_of_letter (take 14 text) ≡ take 14 kinds → length kinds ≡ 14 → kinds_at text ≡ Some (record { value = kinds; rest = drop 14 text })
+kinds_read text kinds e size = rw (e ∙ take_all 14 kinds (omega (arith, size))) (rw size refl)
+
+pub short_kinds : (text : List ℕ) → length text < 14 → None ≡ kinds_at text
+short_kinds text h =
+    let few = filtered_short (take 14 text) in
+    let other : (length (filter_map kind_of_letter (take 14 text)) == 14) ≡ false = grind (arith, nat_tests, few, length-take 14 text) in
+    rw other refl
+
+-- at the end of the lines nothing closes the file
+pub closes_none : (s : LinesLeft) → lines_of_text (text_left s) ≡ lines_still s → s.line ≡ None → (head : Head)
+    → false ≡ closes (record { head = head; lines = s.all }) (text_left s)
+closes_none s e none head = rw (e, none) refl
+
+-- the line under way closes the file
+pub closes_by : (s : LinesLeft) (line : List ℕ) (r : Bool) → lines_of_text (text_left s) ≡ lines_still s → s.line ≡ Some line
+    → r ≡ line_closes (lines_passed s) (line ∷ []) → (head : Head) → r ≡ closes (record { head = head; lines = s.all }) (text_left s)
+closes_by s line r e some is head = rw (e, some) is
+
+-- the opening of lines: at the first of them, or at a later one, or there is none
+pub opens_here : (text line : List ℕ) (others : List (List ℕ)) (head : Head) → clean_lines text ≡ line ∷ others → head_of_line line ≡ Some head → opening_of (clean_lines text) ≡ Some (record { head = head; lines = others })
+unfolding opening_of
+opens_here text line others head e h = rw (e, h) refl
+
+pub opens_later : (text line : List ℕ) (others : List (List ℕ)) → clean_lines text ≡ line ∷ others → head_of_line line ≡ None → has_star line ≡ true → opening_of (clean_lines text) ≡ opening_of others
+unfolding opening_of
+opens_later text line others e h star = rw (e, h, star) refl
+
+pub opens_not : (text line : List ℕ) (others : List (List ℕ)) → clean_lines text ≡ line ∷ others → head_of_line line ≡ None → has_star line ≡ false → opening_of (clean_lines text) ≡ None
+unfolding opening_of
+opens_not text line others e h star = rw (e, h, star) refl
+
+pub opens_nothing : (text : List ℕ) → text ≡ [] → opening_of (clean_lines text) ≡ None
+unfolding opening_of lines_among
+opens_nothing text e = rw e refl
+
+-- the graph of a text that opens here is that of the records in the lines that are left
+pub graph_opened : (text : List ℕ) (head : Head) (s : LinesLeft) → Some (record { head = head; lines = s.all }) ≡ opening_of (clean_lines text) → s ≡ next_begun (none_begun s.all)
+    → graph_of_text text ≡ graph_after (record { head = head; lines = s.all }) (records_at head (text_left s))
+graph_opened text head s e begun =
+    let whole : text_left s ≡ text_of_lines s.all = ap text_left begun ∙ begun_text s.all s.all in
+    ap graph_of_opening (sym e) ∙ ap (λ t. graph_after (record { head = head; lines = s.all }) (records_at head t)) (sym whole)
+
+-- what the graph of a text is where its records end in these lines
+pub graph_ended : (text : List ℕ) (head : Head) (s t : LinesLeft) (g : GraphData) (closed : Bool) → Some (record { head = head; lines = s.all }) ≡ opening_of (clean_lines text)
+    → s ≡ next_begun (none_begun s.all) → records_at head (text_left s) ≡ Some (record { value = g; rest = text_left t }) → t.all ≡ s.all
+    → closed ≡ closes (record { head = head; lines = t.all }) (text_left t) → graph_of_text text ≡ graph_at_end closed (is_sound g) g
+graph_ended text head s t g closed e begun found all closing =
+    graph_opened text head s e begun ∙ ap (graph_after (record { head = head; lines = s.all })) found
+    ∙ ap (λ lines. graph_at_end (closes (record { head = head; lines = lines }) (text_left t)) (is_sound g) g) (sym all)
+    ∙ ap (λ c. graph_at_end c (is_sound g) g) (sym closing)
+
+-- the graph of a text is that of the check of its parts
+pub graph_checked : (text : List ℕ) (head : Head) (s : LinesLeft) (rest : List ℕ) (g : GraphData) (r : Result GraphData Panic) → Some (record { head = head; lines = s.all }) ≡ opening_of (clean_lines text)
+    → s ≡ next_begun (none_begun s.all) → records_at head (text_left s) ≡ Some (record { value = g; rest = rest }) → graph_of_text text ≡ graph_at_end true (is_sound g) g → IsCheckOf (checked g) r
+    → IsReadOf (graph_of_text text) r
+graph_checked text head s rest g r e begun found is h =
+    let whole : text_left s ≡ text_of_lines s.all = ap text_left begun ∙ begun_text s.all s.all in
+    let says : records_at head (text_of_lines s.all) ≡ Some (record { value = g; rest = rest }) = ap (records_at head) (sym whole) ∙ found in
+    let fit : checked g ≡ (if is_sound g then Ok g else Err Syntax) =
+    read_is_checked (clean_lines text) (record { head = head; lines = s.all }) (record { value = g; rest = rest }) (sym e) says in
+    let same : graph_of_text text ≡ checked g = is ∙ (at_end (is_sound g) ∙ sym fit) in
+    subst (λ value. IsReadOf value r) (sym same) (as_read (checked g) r h)
+  where
+    at_end : (sound : Bool) → graph_at_end true sound g ≡ (if sound then Ok g else Err Syntax)
+    at_end true = refl
+    at_end false = refl
+
+    as_read : (value r : Result GraphData Panic) → IsCheckOf value r → IsReadOf value r
+    as_read value (Ok x) h = h
+    as_read value (Err p) h = h

@@ -1,0 +1,209 @@
+-- Lemmas on readers one after another: a record is read field by field.
+use Rattle.std.specs.Prelude.{◌≡◌, ℕ, ◌+◌, ◌<◌, ◌≤◌, Bool, true, false, List, [], ◌∷◌, ◌++◌, length, take, drop, codes, Option, Some, None, Result, Ok, Err, option_map, ◌==◌, refl}
+use Rattle.std.proofs.Common.{ap, sym, subst, suc, ◌∙◌, append_assoc, append-nil, arith, get_or}
+use Rattle.std.proofs.Common.{set}
+use Rattle.std.proofs.Math.Seq.{drop-cons}
+use Rattle.std.proofs.lemmas.List.{take_more_set, take_all, drop_all}
+use Rattle.sgb_vec.specs.Limits.{most_bytes}
+use Rattle.sgb_vec.specs.declared.panics.Panic.{Panic}
+use Rattle.sgb_vec.specs.declared.panics.Panic.TheVariants.{NoRoom, Early, Late, Syntax, Bad, VeryBad, Invalid}
+use Rattle.std.proofs.lemmas.Bool.Decides.{nat_tests}
+use Rattle.sgb_graph.specs.Graphs.{GraphData}
+use Rattle.sgb_graph.specs.Growth.{graph_data}
+use Rattle.sgb_graph.specs.Ids.{most_id_bytes}
+use Rattle.sgb_graph.specs.Sound.{vertex_kinds, arc_kinds, graph_kinds}
+use Rattle.sgb_graph.specs.declared.fields.Kind.{Kind}
+use Rattle.sgb_graph.specs.declared.fields.Kind.TheVariants.{Z, I, V, S, A}
+use Rattle.sgb_graph.specs.declared.fields.Util.{Util}
+use Rattle.sgb_graph.specs.declared.fields.Util.TheVariants.{Nothing, Int, Vertex as VertexField, Str, Chain}
+use Rattle.sgb_graph.specs.declared.fields.Vertex.{Vertex}
+use Rattle.sgb_graph.specs.declared.fields.ArcRec.{ArcRec}
+use Rattle.sgb_file.specs.Fields.{Counts, Found, given, found_as, field_at, most_number_digits, number_of, plain_at, string_at, after_prefix}
+use Rattle.sgb_file.specs.Records.{Head, after_comma, graph_record_at, more_fields_at, record_at, vertex_record_at, vertex_of_fields, arc_record_at, arc_of_fields}
+use Rattle.sgb_file.specs.Found.{IsFoundBy, IsPassedBy, next_field_at}
+
+-- one finding after another
+given-given : {X Y W : Type 0} (o : Option X) (f : X → Option Y) (g : Y → Option W) → given (given o f) g ≡ given o (λ x. given (f x) g)
+given-given None f g = refl
+given-given (Some x) f g = refl
+
+given-as : {X Y W : Type 0} (f : X → Y) (o : Option (Found X)) (g : Found Y → Option W) → given (found_as f o) g ≡ given o (λ x. g (record { value = f x.value; rest = x.rest }))
+given-as f None g = refl
+given-as f (Some x) g = refl
+
+given-same : {X Y : Type 0} (o : Option X) (f g : X → Option Y) → ((x : X) → f x ≡ g x) → given o f ≡ given o g
+given-same None f g h = refl
+given-same (Some x) f g h = h x
+
+-- the first of the fields that are left, and then the others
+pub first_field : (counts : Counts) (kind : Kind) (kinds : List Kind) (text : List ℕ)
+    → more_fields_at counts (kind ∷ kinds) text ≡ given (next_field_at counts kind text) (λ field. found_as (λ fields. field.value ∷ fields) (more_fields_at counts kinds field.rest))
+unfolding more_fields_at
+first_field counts Z kinds text = refl
+first_field counts I kinds text = sym (given-given (after_comma text) (field_at counts I) (λ field. found_as (λ fields. field.value ∷ fields) (more_fields_at counts kinds field.rest)))
+first_field counts V kinds text = sym (given-given (after_comma text) (field_at counts V) (λ field. found_as (λ fields. field.value ∷ fields) (more_fields_at counts kinds field.rest)))
+first_field counts S kinds text = sym (given-given (after_comma text) (field_at counts S) (λ field. found_as (λ fields. field.value ∷ fields) (more_fields_at counts kinds field.rest)))
+first_field counts A kinds text = sym (given-given (after_comma text) (field_at counts A) (λ field. found_as (λ fields. field.value ∷ fields) (more_fields_at counts kinds field.rest)))
+
+-- what is made of the fields that were found
+abbrev made_of : {Y : Type 0} → (List Util → Option Y) → Found (List Util) → Option (Found Y)
+made_of make fields = option_map (λ y. record { value = y; rest = fields.rest }) (make fields.value)
+
+one_field : {Y : Type 0} (counts : Counts) (kind : Kind) (kinds : List Kind) (text : List ℕ) (make : List Util → Option Y)
+    → given (more_fields_at counts (kind ∷ kinds) text) (made_of make)
+    ≡ given (next_field_at counts kind text) (λ field. given (more_fields_at counts kinds field.rest) (made_of (λ fields. make (field.value ∷ fields))))
+one_field counts kind kinds text make =
+    ap (λ o. given o (made_of make)) (first_field counts kind kinds text)
+    ∙ given-given (next_field_at counts kind text) (λ field. found_as (λ fields. field.value ∷ fields) (more_fields_at counts kinds field.rest)) (made_of make)
+    ∙ given-same (next_field_at counts kind text) (λ field. given (found_as (λ fields. field.value ∷ fields) (more_fields_at counts kinds field.rest)) (made_of make))
+    (λ field. given (more_fields_at counts kinds field.rest) (made_of (λ fields. make (field.value ∷ fields))))
+    (λ field. given-as (λ fields. field.value ∷ fields) (more_fields_at counts kinds field.rest) (made_of make))
+
+no_field : {Y : Type 0} (counts : Counts) (text : List ℕ) (make : List Util → Option Y)
+    → given (more_fields_at counts [] text) (made_of make) ≡ given (after_prefix (codes "\n") text) (λ rest. option_map (λ y. record { value = y; rest = rest }) (make []))
+unfolding more_fields_at
+no_field counts text make = by_end (after_prefix (codes "\n") text) where
+  by_end : (o : Option (List ℕ)) → given (option_map (λ rest. record { value = []; rest = rest }) o) (made_of make) ≡ given o (λ rest. option_map (λ y. record { value = y; rest = rest }) (make []))
+  by_end None = refl
+  by_end (Some rest) = refl
+
+whole_record : {Y : Type 0} (counts : Counts) (kind : Kind) (kinds : List Kind) (text : List ℕ) (make : List Util → Option Y)
+    → given (record_at counts kind kinds text) (made_of make)
+    ≡ given (field_at counts kind text) (λ field. given (more_fields_at counts kinds field.rest) (made_of (λ fields. make (field.value ∷ fields))))
+whole_record counts kind kinds text make =
+    given-given (field_at counts kind text) (λ field. found_as (λ fields. field.value ∷ fields) (more_fields_at counts kinds field.rest)) (made_of make)
+    ∙ given-same (field_at counts kind text) (λ field. given (found_as (λ fields. field.value ∷ fields) (more_fields_at counts kinds field.rest)) (made_of make))
+    (λ field. given (more_fields_at counts kinds field.rest) (made_of (λ fields. make (field.value ∷ fields))))
+    (λ field. given-as (λ fields. field.value ∷ fields) (more_fields_at counts kinds field.rest) (made_of make))
+
+-- a vertex's record: its name, its first arc record, and its utility fields
+pub vertex_steps : (head : Head) (text : List ℕ)
+    → vertex_record_at head text
+    ≡ given (field_at head.counts S text) (λ name.
+    given (next_field_at head.counts A name.rest) (λ first.
+    given (more_fields_at head.counts (vertex_kinds head.kinds) first.rest) (made_of (λ fields. vertex_of_fields (name.value ∷ first.value ∷ fields)))))
+vertex_steps head text =
+    whole_record head.counts S (A ∷ vertex_kinds head.kinds) text vertex_of_fields
+    ∙ given-same (field_at head.counts S text) _ _ (λ name. one_field head.counts A (vertex_kinds head.kinds) name.rest (λ fields. vertex_of_fields (name.value ∷ fields)))
+
+-- an arc's record: its tip, the next one, its length, and its two utility fields
+pub arc_steps : (head : Head) (a b : Kind) (text : List ℕ) → arc_kinds head.kinds ≡ a ∷ b ∷ []
+    → arc_record_at head text
+    ≡ given (field_at head.counts V text) (λ tip.
+    given (next_field_at head.counts A tip.rest) (λ next.
+    given (next_field_at head.counts I next.rest) (λ len.
+    given (next_field_at head.counts a len.rest) (λ first.
+    given (next_field_at head.counts b first.rest) (λ second.
+    given (after_prefix (codes "\n") second.rest) (λ rest.
+    option_map (λ r. record { value = r; rest = rest }) (arc_of_fields (tip.value ∷ next.value ∷ len.value ∷ first.value ∷ second.value ∷ []))))))))
+arc_steps head a b text e =
+    ap (λ kinds. given (record_at head.counts V (A ∷ I ∷ kinds) text) (made_of arc_of_fields)) e
+    ∙ whole_record head.counts V (A ∷ I ∷ a ∷ b ∷ []) text arc_of_fields
+    ∙ given-same (field_at head.counts V text) _ _ (λ tip. one_field head.counts A (I ∷ a ∷ b ∷ []) tip.rest (λ fields. arc_of_fields (tip.value ∷ fields))
+    ∙ given-same (next_field_at head.counts A tip.rest) _ _ (λ next. one_field head.counts I (a ∷ b ∷ []) next.rest (λ fields. arc_of_fields (tip.value ∷ next.value ∷ fields))
+    ∙ given-same (next_field_at head.counts I next.rest) _ _ (λ len. one_field head.counts a (b ∷ []) len.rest (λ fields. arc_of_fields (tip.value ∷ next.value ∷ len.value ∷ fields))
+    ∙ given-same (next_field_at head.counts a len.rest) _ _ (λ first. one_field head.counts b [] first.rest (λ fields. arc_of_fields (tip.value ∷ next.value ∷ len.value ∷ first.value ∷ fields))
+    ∙ given-same (next_field_at head.counts b first.rest) _ _ (λ second. no_field head.counts second.rest (λ fields. arc_of_fields (tip.value ∷ next.value ∷ len.value ∷ first.value ∷ second.value ∷ fields)))))))
+
+-- the fields so far, of those that end a record
+abbrev pub with_first : List Util → Option (Found (List Util)) → Option (Found (List Util))
+with_first first found = found_as (λ fields. first ++ fields) found
+
+pub none_first : (found : Option (Found (List Util))) → found ≡ with_first [] found
+none_first None = refl
+none_first (Some x) = refl
+
+first_again : (first : List Util) (u : Util) (found : Option (Found (List Util))) → with_first first (found_as (λ fields. u ∷ fields) found) ≡ with_first (first ++ u ∷ []) found
+first_again first u None = refl
+first_again first u (Some x) = ap (λ (fields : List Util). Some (record { value = fields; rest = x.rest })) (sym (append_assoc first (u ∷ []) x.value))
+
+this_field : (counts : Counts) (kinds : List Kind) (i : ℕ) (kind d : Kind) (text : List ℕ) → i < length kinds → kind ≡ get_or kinds i d
+    → more_fields_at counts (drop i kinds) text ≡ given (next_field_at counts kind text) (λ field. found_as (λ fields. field.value ∷ fields) (more_fields_at counts (drop (i + 1) kinds) field.rest))
+this_field counts kinds i kind d text h e =
+    let next : suc i ≡ i + 1 = omega arith in
+    let tail : drop (suc i) kinds ≡ drop (i + 1) kinds = ap (λ (k : ℕ). drop k kinds) next in
+    let parts : drop i kinds ≡ kind ∷ drop (i + 1) kinds =
+    drop-cons kinds i d h ∙ ap (λ (k : Kind). k ∷ drop (suc i) kinds) (sym e) ∙ ap (λ (ks : List Kind). kind ∷ ks) tail in
+    ap (λ (ks : List Kind). more_fields_at counts ks text) parts ∙ first_field counts kind (drop (i + 1) kinds) text
+
+pub field_stops : (counts : Counts) (kinds : List Kind) (i : ℕ) (kind d : Kind) (first : List Util) (whole : Option (Found (List Util))) (text left after : List ℕ) (e : Panic)
+    → i < length kinds → kind ≡ get_or kinds i d → whole ≡ with_first first (more_fields_at counts (drop i kinds) text)
+    → IsFoundBy (next_field_at counts kind text) (Err e) left → IsFoundBy whole (Err e) after
+field_stops counts kinds i kind d first whole text left after e h is so p =
+    subst (λ (o : Option (Found (List Util))). IsFoundBy o (Err e) after) (sym (so ∙ ap (with_first first) (this_field counts kinds i kind d text h is))) (stops e p) where
+      stops : (e : Panic) → IsFoundBy (next_field_at counts kind text) (Err e) left
+          → IsFoundBy (with_first first (given (next_field_at counts kind text) (λ field. found_as (λ fields. field.value ∷ fields) (more_fields_at counts (drop (i + 1) kinds) field.rest)))) (Err e) after
+      stops Syntax p = rw p refl
+      stops NoRoom p = tt
+      stops Early p = absurd p
+      stops Late p = absurd p
+      stops Bad p = absurd p
+      stops VeryBad p = absurd p
+      stops Invalid p = absurd p
+
+pub field_read : (counts : Counts) (kinds : List Kind) (i : ℕ) (kind d : Kind) (fields : List Util) (u : Util) (whole : Option (Found (List Util))) (text left : List ℕ)
+    → i < length kinds → i < length fields → kind ≡ get_or kinds i d → whole ≡ with_first (take i fields) (more_fields_at counts (drop i kinds) text)
+    → next_field_at counts kind text ≡ Some (record { value = u; rest = left })
+    → whole ≡ with_first (take (i + 1) (set fields i u)) (more_fields_at counts (drop (i + 1) kinds) left)
+field_read counts kinds i kind d fields u whole text left h within is so p =
+    so ∙ ap (with_first (take i fields)) (this_field counts kinds i kind d text h is ∙ ap (λ o. given o (λ field. found_as (λ fs. field.value ∷ fs) (more_fields_at counts (drop (i + 1) kinds) field.rest))) p)
+    ∙ first_again (take i fields) u (more_fields_at counts (drop (i + 1) kinds) left)
+    ∙ ap (λ first. with_first first (more_fields_at counts (drop (i + 1) kinds) left)) (sym (take_more_set fields i u within))
+
+-- the end of a record, which its fields are read before
+pub fields_end : (counts : Counts) (text : List ℕ) (first : List Util) → with_first first (more_fields_at counts [] text) ≡ option_map (λ rest. record { value = first; rest = rest }) (after_prefix (codes "\n") text)
+unfolding more_fields_at
+fields_end counts text first = by_end (after_prefix (codes "\n") text) where
+  by_end : (o : Option (List ℕ)) → with_first first (option_map (λ rest. record { value = []; rest = rest }) o) ≡ option_map (λ rest. record { value = first; rest = rest }) o
+  by_end None = refl
+  by_end (Some rest) = ap (λ (fields : List Util). Some (record { value = fields; rest = rest })) (append-nil first)
+
+at_end : (counts : Counts) (kinds : List Kind) (i : ℕ) (first : List Util) (whole : Option (Found (List Util))) (text : List ℕ)
+    → length kinds ≤ i → whole ≡ with_first first (more_fields_at counts (drop i kinds) text) → whole ≡ option_map (λ rest. record { value = first; rest = rest }) (after_prefix (codes "\n") text)
+at_end counts kinds i first whole text h so =
+    so ∙ ap (λ (ks : List Kind). with_first first (more_fields_at counts ks text)) (drop_all i kinds h) ∙ fields_end counts text first
+
+pub end_stops : (counts : Counts) (kinds : List Kind) (i : ℕ) (first : List Util) (whole : Option (Found (List Util))) (text left after : List ℕ) (e : Panic)
+    → length kinds ≤ i → whole ≡ with_first first (more_fields_at counts (drop i kinds) text) → IsPassedBy (after_prefix (codes "\n") text) (Err e) left → IsFoundBy whole (Err e) after
+end_stops counts kinds i first whole text left after e h so p =
+    subst (λ (o : Option (Found (List Util))). IsFoundBy o (Err e) after) (sym (at_end counts kinds i first whole text h so)) (stops e p) where
+      stops : (e : Panic) → IsPassedBy (after_prefix (codes "\n") text) (Err e) left → IsFoundBy (option_map (λ rest. record { value = first; rest = rest }) (after_prefix (codes "\n") text)) (Err e) after
+      stops Syntax p = rw p refl
+      stops NoRoom p = tt
+      stops Early p = absurd p
+      stops Late p = absurd p
+      stops Bad p = absurd p
+      stops VeryBad p = absurd p
+      stops Invalid p = absurd p
+
+pub end_read : (counts : Counts) (kinds : List Kind) (i : ℕ) (fields : List Util) (whole : Option (Found (List Util))) (text left : List ℕ)
+    → length kinds ≤ i → length fields ≤ i → whole ≡ with_first (take i fields) (more_fields_at counts (drop i kinds) text) → after_prefix (codes "\n") text ≡ Some left
+    → whole ≡ Some (record { value = fields; rest = left })
+end_read counts kinds i fields whole text left h all so p =
+    at_end counts kinds i (take i fields) whole text h so
+    ∙ ap (λ (o : Option (List ℕ)). option_map (λ rest. record { value = take i fields; rest = rest }) o) p
+    ∙ ap (λ (us : List Util). Some (record { value = us; rest = left })) (take_all i fields all)
+
+-- the kinds of an arc's fields, of fourteen
+pub two_kinds : (kinds : List Kind) (d : Kind) → length kinds ≡ 14 → arc_kinds kinds ≡ get_or kinds 6 d ∷ get_or kinds 7 d ∷ []
+two_kinds [] d h = absurd (omega (arith, h))
+two_kinds (a ∷ []) d h = absurd (omega (arith, h))
+two_kinds (a ∷ b ∷ []) d h = absurd (omega (arith, h))
+two_kinds (a ∷ b ∷ c ∷ []) d h = absurd (omega (arith, h))
+two_kinds (a ∷ b ∷ c ∷ e ∷ []) d h = absurd (omega (arith, h))
+two_kinds (a ∷ b ∷ c ∷ e ∷ f ∷ []) d h = absurd (omega (arith, h))
+two_kinds (a ∷ b ∷ c ∷ e ∷ f ∷ g ∷ []) d h = absurd (omega (arith, h))
+two_kinds (a ∷ b ∷ c ∷ e ∷ f ∷ g ∷ k ∷ []) d h = absurd (omega (arith, h))
+two_kinds (a ∷ b ∷ c ∷ e ∷ f ∷ g ∷ k ∷ l ∷ kinds) d h = refl
+
+-- the graph's record, of what is found one after another
+pub graph_found : (head : Head) (text r1 r2 r3 r4 r5 left : List ℕ) (id : List ℕ) (n m : ℕ) (util : List Util) (g : GraphData)
+    → string_at most_id_bytes text ≡ Some (record { value = id; rest = r1 }) → after_comma r1 ≡ Some r2
+    → plain_at (number_of most_number_digits) r2 ≡ Some (record { value = n; rest = r3 }) → after_comma r3 ≡ Some r4
+    → plain_at (number_of most_number_digits) r4 ≡ Some (record { value = m; rest = r5 })
+    → more_fields_at head.counts (graph_kinds head.kinds) r5 ≡ Some (record { value = util; rest = left })
+    → n ≡ head.counts.vertices → g ≡ graph_data id m head.kinds util [] []
+    → graph_record_at head text ≡ Some (record { value = g; rest = left })
+graph_found head text r1 r2 r3 r4 r5 left id n m util g a b c d e f same made =
+    let test : (n == head.counts.vertices) ≡ true = grind (arith, nat_tests) in
+    rw a (rw b (rw c (rw d (rw e (rw f (rw test (rw made refl)))))))

@@ -1,0 +1,92 @@
+-- Lemmas on the text that is left of a file's lines.
+use Rattle.std.specs.Prelude.{◌≡◌, ℕ, zero, suc, ◌+◌, ◌<◌, ◌≤◌, Bool, true, false, cond, not, ◌||◌, ◌&&◌, List, [], ◌∷◌, ◌++◌, length, take, drop, codes, Option, Some, None, ◌==◌, slice_get, is_some, unwrap_or, refl}
+use Rattle.std.specs.List.{list_any, list_all, position_or_len, before_first, after_first}
+use Rattle.std.specs.Option.{option_map_or}
+use Rattle.std.proofs.Common.{ap, sym, ◌∙◌, append_assoc, arith}
+use Rattle.std.proofs.lemmas.Bool.{and_parts}
+use Rattle.std.proofs.lemmas.Bool.Decides.{nat_tests}
+use Rattle.std.proofs.lemmas.List.{drop-append-le, take-append-le, length-take}
+use Rattle.std.proofs.lemmas.List.Sums.{prefix_len-le-length}
+use Rattle.sgb_file.specs.FileLines.{text_of_lines}
+use Rattle.sgb_file.specs.Fields.{plain_text, after_prefix}
+use Rattle.sgb_file.specs.LinesLeft.{LinesLeft, text_left, skipped, next_begun, has_no_newline}
+use Rattle.sgb_file.proofs.LineLemmas.{not_true}
+
+-- the text of a line under way, and of those after it
+pub under_way : (s : LinesLeft) (line : List ℕ) → Some line ≡ s.line → text_left s ≡ line ++ 10 ∷ text_of_lines s.others
+under_way s line e = rw (← e) refl
+
+pub skipped_left : (s : LinesLeft) (line : List ℕ) (k : ℕ) → Some line ≡ s.line → k ≤ length line → text_left (skipped k s) ≡ drop k (text_left s)
+skipped_left s line k e h = rw (← e) (sym (drop-append-le k line (10 ∷ text_of_lines s.others) h))
+
+pub begun_text : (others : List (List ℕ)) → option_map_or (λ line. line ++ 10 ∷ text_of_lines (drop 1 others)) (slice_get others 0) [] ≡ text_of_lines others
+begun_text [] = refl
+begun_text (line ∷ lines) = sym (append_assoc line (10 ∷ []) (text_of_lines lines))
+
+pub next_left : (s : LinesLeft) → text_left (next_begun s) ≡ text_of_lines s.others
+next_left s = begun_text s.others
+
+-- a text that begins with a line that is not empty does not begin with a newline
+pub no_line_end : (line more : List ℕ) → has_no_newline line ≡ true → 0 < length line → after_prefix (codes "\n") (line ++ more) ≡ None
+no_line_end [] more h some = absurd (omega (arith, some))
+no_line_end (b ∷ line) more h some =
+    let byte = and_parts (not (b == 10)) (has_no_newline line) h in
+    let same = not_true (b == 10) byte.0 in
+    let e : (10 == b) ≡ false = grind (arith, nat_tests) in rw e refl
+
+-- a list none of whose elements passes before its end
+none_step : (t u : Bool) (n k : ℕ) → suc n ≤ cond t (1 + k) 0 → (n ≤ k → u ≡ true) → (t && u) ≡ true
+none_step true u n k h f = f (omega (arith, h))
+none_step false u n k h f = absurd (omega (arith, h))
+
+pub none_before : (p : ℕ → Bool) (x : List ℕ) → length x ≤ position_or_len p x → list_all (λ c. not (p c)) x ≡ true
+none_before p [] h = refl
+none_before p (b ∷ x) h = none_step (not (p b)) (list_all (λ c. not (p c)) x) (length x) (position_or_len p x) h (none_before p x)
+
+-- the first place that passes, after such a list
+pub first_beyond : (p : ℕ → Bool) (x y : List ℕ) → list_all (λ c. not (p c)) x ≡ true → position_or_len p (x ++ y) ≡ length x + position_or_len p y
+first_beyond p [] y h = omega arith
+first_beyond p (b ∷ x) y h =
+    let parts = and_parts (not (p b)) (list_all (λ c. not (p c)) x) h in
+    rw parts.0 (ap (λ k. 1 + k) (first_beyond p x y parts.1) ∙ omega arith)
+
+pub any_beyond : (p : ℕ → Bool) (x y : List ℕ) → list_all (λ c. not (p c)) x ≡ true → list_any p (x ++ y) ≡ list_any p y
+any_beyond p [] y h = refl
+any_beyond p (b ∷ x) y h =
+    let parts = and_parts (not (p b)) (list_all (λ c. not (p c)) x) h in
+    rw (not_true (p b) parts.0) (any_beyond p x y parts.1)
+
+-- the first place that passes, where it is in the first of two lists
+within_step : (t : Bool) (n k m : ℕ) → (k < n → m ≡ k) → cond t (1 + k) 0 < suc n → cond t (1 + m) 0 ≡ cond t (1 + k) 0
+within_step true n k m f h = ap (λ j. 1 + j) (f (omega (arith, h)))
+within_step false n k m f h = refl
+
+pub first_within : (p : ℕ → Bool) (x y : List ℕ) → position_or_len p x < length x → position_or_len p (x ++ y) ≡ position_or_len p x
+first_within p [] y h = absurd (omega (arith, h))
+first_within p (b ∷ x) y h = within_step (not (p b)) (length x) (position_or_len p x) (position_or_len p (x ++ y)) (first_within p x y) h
+
+any_step : (t u : Bool) (n k : ℕ) → (k < n → u ≡ true) → cond (not t) (1 + k) 0 < suc n → (t || u) ≡ true
+any_step true u n k f h = refl
+any_step false u n k f h = f (omega (arith, h))
+
+pub any_within : (p : ℕ → Bool) (x y : List ℕ) → position_or_len p x < length x → list_any p (x ++ y) ≡ true
+any_within p [] y h = absurd (omega (arith, h))
+any_within p (b ∷ x) y h = any_step (p b) (list_any p (x ++ y)) (length x) (position_or_len p x) (any_within p x y) h
+
+-- the bytes of a line before its first comma are the plain text of what is left
+plain_step : (t : Bool) (m k : ℕ) → m ≡ k → cond (not (t || false)) (1 + m) 0 ≡ cond (not t) (1 + k) 0
+plain_step true m k e = refl
+plain_step false m k e = ap (λ j. 1 + j) e
+
+plain_length : (line more : List ℕ) → has_no_newline line ≡ true → position_or_len (λ b. b == 44 || b == 10) (line ++ 10 ∷ more) ≡ position_or_len (λ b. b == 44) line
+plain_length [] more h = refl
+plain_length (b ∷ line) more h =
+    let parts = and_parts (not (b == 10)) (has_no_newline line) h in
+    rw (not_true (b == 10) parts.0) (plain_step (b == 44) (position_or_len (λ c. c == 44 || c == 10) (line ++ 10 ∷ more)) (position_or_len (λ c. c == 44) line) (plain_length line more parts.1))
+
+pub plain_of_line : (line more : List ℕ) → has_no_newline line ≡ true → before_first (λ b. b == 44) line ≡ plain_text (line ++ 10 ∷ more)
+plain_of_line line more h =
+    sym (ap (λ k. take k (line ++ 10 ∷ more)) (plain_length line more h) ∙ take-append-le (position_or_len (λ b. b == 44) line) line (10 ∷ more) (prefix_len-le-length (λ b. not (b == 44)) line))
+
+pub before_comma_short : (line : List ℕ) → length (before_first (λ b. b == 44) line) ≤ length line
+before_comma_short line = let e = length-take (position_or_len (λ b. b == 44) line) line in omega (arith, e)

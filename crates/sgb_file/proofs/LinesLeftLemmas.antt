@@ -1,0 +1,167 @@
+-- Lemmas on the lines that are left of a file: their text after a step, their checksum, and that a line has no newlines.
+use Rattle.std.proofs.Common.{◌≡◌, ◌<◌, ◌≤◌, ◌++◌, ◌∙◌, ℕ, Bool, true, false, Bor, List, [], ◌∷◌, Option, Some, None, length, take, drop, map, slice_index, not, ◌&&◌, ◌+◌, ◌-◌, ◌≢◌, All, unwrap_or, cond, ◌==◌, refl, sym, ap, subst, append_assoc, append-nil, zero, suc, arith, nat_lt, IsTrue, IfSome, option_map}
+use Rattle.std.specs.List.{list_all, slice_split, position_or_len, position, before_first, after_first}
+use Rattle.std.proofs.lemmas.List.{drop-append-le, drop_more, drop_all, take-append-drop, take_all, length-drop}
+use Rattle.std.proofs.lemmas.List.Folds.{list_all-append}
+use Rattle.std.proofs.lemmas.List.Splits.{slice_split_first, slice_split_none}
+use Rattle.std.proofs.lemmas.List.Sums.{fails_before_first, prefix_len-le-length}
+use Rattle.std.proofs.lemmas.List.Elements.{All-from_get_or}
+use Rattle.std.proofs.lemmas.Bool.{and_parts}
+use Rattle.std.proofs.lemmas.Bool.Decides.{nat_tests, Decides-eqb}
+use Rattle.sgb_file.specs.FileLines.{lines_among, lines_of_text, clean_lines, text_of_lines, without_end_spaces}
+use Rattle.sgb_file.specs.Checksum.{checksum_of_lines}
+use Rattle.sgb_file.specs.Layouts.{checksum_from, counted_bytes}
+use Rattle.sgb_file.specs.LinesLeft.{LinesLeft, text_left, skipped, next_begun, has_no_newline, HasPassed, AreLinesLeft, lines_left, lines_still}
+use Rattle.sgb_file.proofs.LineLemmas.{clean_are_one_line, is_one_line, is_within_line, ends_well, ends_well-last, list_all-drop, first_line, some_part, line_read, lines_read}
+use Rattle.sgb_file.proofs.LaidLines.{checksum_from-append, counted-append}
+use Rattle.sgb_file.proofs.WholeText.{checksum-whole}
+
+-- what is skipped in the line under way is skipped in the text
+pub text_left-skipped : (count : ℕ) (s : LinesLeft) (line : List ℕ) → s.line ≡ Some line → count ≤ length line → text_left (skipped count s) ≡ drop count (text_left s)
+text_left-skipped count s line e h = rw e (sym (drop-append-le count line (10 ∷ text_of_lines s.others) h))
+
+-- the next line begins after the newline
+pub text_left-next_begun : (s : LinesLeft) → s.line ≡ Some [] → text_left (next_begun s) ≡ drop 1 (text_left s)
+text_left-next_begun s e = rw e (first s.others)
+  where
+    first : (others : List (List ℕ)) → text_left (next_begun (record { all = s.all; line = s.line; others = others })) ≡ text_of_lines others
+    first [] = refl
+    first (line ∷ others) = sym (append_assoc line (10 ∷ []) (text_of_lines others))
+
+-- the checksum after one more line that was passed
+pub passes_line : (all : List (List ℕ)) (line : List ℕ) (left : List (List ℕ)) (before after : ℕ) → HasPassed all (line ∷ left) before
+    → after ≡ checksum_from before (counted_bytes (line ∷ [])) → HasPassed all left after
+passes_line all line left before after h e =
+    let start : checksum_from 0 (counted_bytes h.passed) ≡ before = checksum-whole h.passed ∙ sym h.checksum in
+    let joined = ap (checksum_from 0) (counted-append h.passed (line ∷ [])) ∙ checksum_from-append 0 (counted_bytes h.passed) (counted_bytes (line ∷ [])) in
+    record {
+      passed = h.passed ++ line ∷ [];
+      made = h.made ∙ sym (append_assoc h.passed (line ∷ []) left);
+      checksum = e ∙ ap (λ (sum : ℕ). checksum_from sum (counted_bytes (line ∷ []))) (sym start) ∙ sym joined ∙ checksum-whole (h.passed ++ line ∷ []);
+    }
+
+-- a line is under way
+pub passed_line : (all : List ℕ) (line : Option (List ℕ)) (begun rest : List ℕ) (sum : ℕ) (l : List ℕ)
+    → AreLinesLeft all line begun rest sum → line ≡ Some l → HasPassed (clean_lines all) (begun ∷ clean_lines rest) sum
+passed_line all None begun rest sum l h e = absurd cc
+passed_line all (Some line) begun rest sum l h e = h.0
+
+-- what is left of a line has no newlines
+pub left_in_line : (all : List ℕ) (line : Option (Bor (List ℕ))) (begun rest : List ℕ) (sum : ℕ)
+    → AreLinesLeft all (option_map (λ l. l.now) line) begun rest sum → IfSome line (λ l. IsTrue (has_no_newline l.now))
+left_in_line all None begun rest sum h = tt
+left_in_line all (Some line) begun rest sum h =
+    let lines : list_all is_one_line (h.0.passed ++ begun ∷ clean_lines rest) ≡ true = subst (λ ls. list_all is_one_line ls ≡ true) h.0.made (clean_are_one_line all) in
+    let last = and_parts (list_all is_one_line h.0.passed) (list_all is_one_line (begun ∷ clean_lines rest)) (sym (list_all-append is_one_line h.0.passed (begun ∷ clean_lines rest)) ∙ lines) in
+    let first = and_parts (is_one_line begun) (list_all is_one_line (clean_lines rest)) last.1 in
+    subst (λ l. is_one_line l ≡ true) (sym h.2) (list_all-drop is_within_line h.1 begun first.0)
+
+-- the place of the first that passes, or the length
+pub position-unwrapped : {X : Type 0} (p : X → Bool) (xs : List X) → unwrap_or (position p xs) (length xs) ≡ position_or_len p xs
+position-unwrapped p xs = chosen (nat_lt (position_or_len p xs) (length xs)) refl
+  where
+    chosen : (t : Bool) → nat_lt (position_or_len p xs) (length xs) ≡ t → unwrap_or (cond t (Some (position_or_len p xs)) None) (length xs) ≡ position_or_len p xs
+    chosen true e = refl
+    chosen false e =
+        let most = prefix_len-le-length (λ x. not (p x)) xs in
+        grind (arith, nat_tests, most)
+
+-- a text that is not empty has a first line, up to its first newline
+pub first_line_of : (text : List ℕ) → position_or_len (λ b. b == 10) text < length text → clean_lines text ≡ without_end_spaces (before_first (λ b. b == 10) text) ∷ clean_lines (after_first (λ b. b == 10) text)
+first_line_of text h =
+    ap (λ parts. map without_end_spaces (lines_among parts)) (slice_split_first (λ b. b == 10) text 0 h)
+    ∙ ap (λ lines. map without_end_spaces lines)
+    (first_line (before_first (λ b. b == 10) text) (slice_split (λ b. b == 10) (after_first (λ b. b == 10) text)) (some_part (after_first (λ b. b == 10) text)))
+
+-- no bytes have no lines
+pub no_lines : clean_lines [] ≡ []
+unfolding lines_among
+no_lines = refl
+
+-- a text without newlines that is not empty is one line
+pub only_line_of : (text : List ℕ) → position_or_len (λ b. b == 10) text ≡ length text → length text ≢ 0 → clean_lines text ≡ without_end_spaces text ∷ clean_lines []
+unfolding lines_among
+only_line_of text e some =
+    let none : All (λ b. (b == 10) ≡ false) text = All-from_get_or (λ b. (b == 10) ≡ false) text 0 (λ k h. fails_before_first (λ b. b == 10) text k 0 (omega (arith, e, h))) in
+    ap (λ parts. map without_end_spaces (lines_among parts)) (slice_split_none (λ b. b == 10) text none) ∙ alone (length text == 0) (grind (arith, nat_tests, some))
+  where
+    alone : (t : Bool) → t ≡ false → map without_end_spaces (cond t [] (text ∷ [])) ≡ without_end_spaces text ∷ []
+    alone true e = absurd cc
+    alone false e = refl
+
+-- a space at the end is left out
+clean-snoc : (line : List ℕ) → without_end_spaces (line ++ 32 ∷ []) ≡ without_end_spaces line
+unfolding without_end_spaces
+clean-snoc [] = refl
+clean-snoc (b ∷ line) = ap (λ w. cond (b == 32 && length w == 0) [] (b ∷ w)) (clean-snoc line)
+
+-- the last byte of a line, and those before it
+last_apart : (line : List ℕ) (k : ℕ) → length line ≡ suc k → take k line ++ slice_index line k ∷ [] ≡ line
+last_apart line k e =
+    ap (λ last. take k line ++ last) (sym (drop_more line k 0 (omega (arith, e)) ∙ ap (λ others. slice_index line k ∷ others) (drop_all (k + 1) line (omega (arith, e)))))
+    ∙ take-append-drop k line
+
+pub clean-last : (line : List ℕ) (k : ℕ) → length line ≡ suc k → slice_index line k ≡ 32 → without_end_spaces (take k line) ≡ without_end_spaces line
+clean-last line k e space =
+    sym (clean-snoc (take k line)) ∙ ap without_end_spaces (ap (λ (b : ℕ). take k line ++ b ∷ []) (sym space) ∙ last_apart line k e)
+
+-- a line that does not end with a space stays as it is
+pub ends_well-at : (line : List ℕ) (k : ℕ) → length line ≡ suc k → (slice_index line k == 32) ≡ false → ends_well line ≡ true
+ends_well-at line k e other = subst (λ l. ends_well l ≡ true) (last_apart line k e) (ends_well-last (take k line) (slice_index line k) other)
+
+-- a text of no bytes has no line to begin
+pub none_left : (all text : List ℕ) → text ≡ [] → lines_left all None text ≡ next_begun (lines_left all None text)
+none_left all text e = rw (e, no_lines) refl
+
+-- the checksum of the lines before the one under way
+pub start_passed : (lines : List (List ℕ)) → HasPassed lines lines 0
+unfolding checksum_from counted_bytes
+start_passed lines = record { passed = []; made = refl; checksum = checksum-whole [] }
+
+-- the first line of bytes with no newline, in the words of the code
+pub whole_is_line : (bytes line : List ℕ) (end : ℕ) → length bytes ≢ 0 → end ≡ position_or_len (λ b. b == 10) bytes → end ≡ length bytes → line ≡ without_end_spaces bytes
+    → clean_lines bytes ≡ line ∷ clean_lines (take (length bytes - end) (drop end bytes))
+whole_is_line bytes line end some e whole l =
+    only_line_of bytes (sym e ∙ whole) some
+    ∙ (ap (λ first. first ∷ clean_lines []) (sym l) ∙ ap (λ rest. line ∷ clean_lines rest) (sym (take_all (length bytes - end) [] (omega arith)) ∙ ap (take (length bytes - end)) (sym (drop_all end bytes (omega (arith, whole))))))
+
+-- the first line of bytes, in the words of the code
+pub part_is_line : (bytes line : List ℕ) (end : ℕ) → end ≡ position_or_len (λ b. b == 10) bytes → end ≢ length bytes → line ≡ without_end_spaces (take end bytes)
+    → clean_lines bytes ≡ line ∷ clean_lines (take (length bytes - (end + 1)) (drop (end + 1) bytes))
+part_is_line bytes line end e part l =
+    let most : position_or_len (λ b. b == 10) bytes ≤ length bytes = prefix_len-le-length (λ b. not (b == 10)) bytes in
+    let rest : take (length bytes - (end + 1)) (drop (end + 1) bytes) ≡ drop (end + 1) bytes =
+    take_all (length bytes - (end + 1)) (drop (end + 1) bytes) (omega (arith, length-drop (end + 1) bytes)) in
+    rw rest (first_line_of bytes (omega (arith, e, most, part)) ∙ (ap (λ (k : ℕ). without_end_spaces (take k bytes) ∷ clean_lines (drop (k + 1) bytes)) (sym e)
+    ∙ ap (λ first. first ∷ clean_lines (drop (end + 1) bytes)) (sym l)))
+
+-- no bytes have no spaces at their end
+pub clean_nothing : (line : List ℕ) → line ≡ [] → line ≡ without_end_spaces line
+unfolding without_end_spaces
+clean_nothing line e = rw e refl
+
+-- what the test for no bytes says
+pub no_bytes : (bytes : List ℕ) → (length bytes == 0) ≡ true → bytes ≡ []
+no_bytes [] e = refl
+no_bytes (b ∷ bytes) e = absurd (omega (arith, (Decides-eqb (length (b ∷ bytes)) 0).0 e))
+
+pub some_bytes : (bytes : List ℕ) → (length bytes == 0) ≡ false → length bytes ≡ suc (length bytes - 1)
+some_bytes bytes e = grind (arith, nat_tests, e)
+
+-- the lines of the text that is left are those that are left
+pub left_lines : (all : List ℕ) (line : Option (List ℕ)) (begun rest : List ℕ) (sum : ℕ) → AreLinesLeft all line begun rest sum
+    → lines_of_text (text_left (lines_left all line rest)) ≡ lines_still (lines_left all line rest)
+unfolding lines_among
+left_lines all None begun rest sum h = refl
+left_lines all (Some line) begun rest sum h =
+    let lines : list_all is_one_line (h.0.passed ++ begun ∷ clean_lines rest) ≡ true = subst (λ ls. list_all is_one_line ls ≡ true) h.0.made (clean_are_one_line all) in
+    let last = and_parts (list_all is_one_line h.0.passed) (list_all is_one_line (begun ∷ clean_lines rest)) (sym (list_all-append is_one_line h.0.passed (begun ∷ clean_lines rest)) ∙ lines) in
+    let first = and_parts (is_one_line begun) (list_all is_one_line (clean_lines rest)) last.1 in
+    let one : is_one_line line ≡ true = subst (λ l. is_one_line l ≡ true) (sym h.2) (list_all-drop is_within_line h.1 begun first.0) in
+    line_read line (text_of_lines (clean_lines rest)) one
+    ∙ ap (λ ls. line ∷ ls) (ap lines_of_text (sym (append-nil (text_of_lines (clean_lines rest)))) ∙ lines_read (clean_lines rest) [] first.1 ∙ append-nil (clean_lines rest))
+
+-- the text of lines of which the first one is begun
+pub begun_text : (all others : List (List ℕ)) → text_left (next_begun (record { all = all; line = None; others = others })) ≡ text_of_lines others
+begun_text all [] = refl
+begun_text all (line ∷ others) = sym (append_assoc line (10 ∷ []) (text_of_lines others))

@@ -1,0 +1,65 @@
+-- Lemmas on numbers that are read digit by digit.
+use Rattle.std.specs.Prelude.{◌≡◌, ℕ, zero, suc, ◌+◌, ◌-◌, ◌*◌, ◌^◌, ◌<◌, ◌≤◌, true, false, ◌&&◌, List, [], ◌∷◌, length, take, nat_le, nat_lt, refl}
+use Rattle.std.specs.Char.{digit_value}
+use Rattle.std.specs.List.{list_all}
+use Rattle.std.specs.Str.Parse.{AllDigits, digits_value}
+use Rattle.std.proofs.Common.{get_or, arith, ap, ◌∙◌}
+use Rattle.std.proofs.lemmas.Bool.{and_parts}
+use Rattle.std.proofs.lemmas.Bool.Decides.{nat_tests}
+use Rattle.std.proofs.lemmas.Int.Digits.{digits_value_more, digits_value-lt}
+use Rattle.std.proofs.lemmas.Str.Parse.{digits_value-take-le}
+use native.Mathlib.Nat.{pow-le-pow_right}
+use Rattle.std.proofs.Common.{lt_of_lt_of_le}
+use Rattle.sgb_file.specs.Fields.{is_decimal_digit}
+
+-- a decimal digit, and its value
+record IsDigit (b : ℕ) : Type 0 where
+  low : 48 ≤ b
+  high : b ≤ 57
+
+digit_is : (b : ℕ) → is_decimal_digit b ≡ true → IsDigit b
+digit_is b h =
+    let parts = and_parts (nat_le 48 b) (nat_le b 57) h in
+    let first = parts.0 in
+    let second = parts.1 in
+    record { low = grind (arith, nat_tests); high = grind (arith, nat_tests) }
+
+value_is : (b : ℕ) → IsDigit b → digit_value b + 48 ≡ b
+value_is b h =
+    let low : nat_lt b 48 ≡ false = let e = h.low in grind (arith, nat_tests) in
+    let high : nat_lt b 58 ≡ true = let e = h.high in grind (arith, nat_tests) in
+    rw low (rw high (omega (arith, h.low)))
+
+pub all_digits : (text : List ℕ) → list_all is_decimal_digit text ≡ true → AllDigits 10 text
+all_digits [] h = tt
+all_digits (b ∷ text) h =
+    let parts = and_parts (is_decimal_digit b) (list_all is_decimal_digit text) h in
+    let digit = digit_is b parts.0 in
+    (omega (arith, value_is b digit, digit.high), all_digits text parts.1)
+
+digit_at : (text : List ℕ) (i : ℕ) → list_all is_decimal_digit text ≡ true → i < length text → IsDigit (get_or text i 0)
+digit_at [] i h within = absurd (omega (arith, within))
+digit_at (b ∷ text) zero h within = digit_is b (and_parts (is_decimal_digit b) (list_all is_decimal_digit text) h).0
+digit_at (b ∷ text) (suc i) h within =
+    digit_at text i (and_parts (is_decimal_digit b) (list_all is_decimal_digit text) h).1 (omega (arith, within))
+
+-- at most so many digits write a number below this power
+pub value_below : (text : List ℕ) (most : ℕ) → list_all is_decimal_digit text ≡ true → length text ≤ most → digits_value 10 text < 10 ^ most
+value_below text most h short =
+    lt_of_lt_of_le (digits_value-lt 10 text (all_digits text h)) (pow-le-pow_right (omega arith) short)
+
+-- one more digit of at most 20
+pub record NextDigit (digits : List ℕ) (i : ℕ) : Type 0 where
+  pub low : 48 ≤ get_or digits i 0
+  pub more : digits_value 10 (take (i + 1) digits) ≡ 10 * digits_value 10 (take i digits) + (get_or digits i 0 - 48)
+  pub fits : digits_value 10 (take (i + 1) digits) < 10 ^ 20
+
+pub next_digit : (digits : List ℕ) (i : ℕ) → list_all is_decimal_digit digits ≡ true → length digits ≤ 20 → i < length digits → NextDigit digits i
+next_digit digits i h short within =
+    let digit = digit_at digits i h within in
+    let value = value_is (get_or digits i 0) digit in
+    let more = digits_value_more 10 digits i within in record {
+      low = digit.low;
+      more = omega (arith, more, value);
+      fits = omega (arith, digits_value-take-le 10 digits (i + 1) (omega arith), value_below digits 20 h short);
+    }

@@ -1,0 +1,186 @@
+-- Lemmas on the sections of a file, in the words of the code.
+use Rattle.std.proofs.Common.{◌≡◌, ◌∙◌, ◌++◌, ◌<◌, ◌-◌, ◌+◌, ℕ, zero, suc, Bool, true, false, List, [], ◌∷◌, Option, Some, None, Err, option_map, length, refl, sym, ap, subst, append_assoc, append-nil, arith, codes, cond, not, ◌==◌, ◌≢◌}
+use Rattle.std.specs.List.{starts_with}
+use Rattle.std.proofs.Math.Seq.{drop-append_seam}
+use Rattle.std.proofs.lemmas.Bool.{and_parts, and_from}
+use Rattle.std.proofs.lemmas.Bool.Decides.{nat_tests, Decides-eqb}
+use Rattle.sgb_vec.specs.declared.panics.Panic.{Panic}
+use Rattle.sgb_vec.specs.declared.panics.Panic.TheVariants.{NoRoom, Early, Late, Syntax, Bad, VeryBad, Invalid}
+use Rattle.sgb_graph.specs.Graphs.{GraphData}
+use Rattle.sgb_graph.specs.Parts.{with_vertex, with_record}
+use Rattle.sgb_graph.specs.declared.fields.Vertex.{Vertex}
+use Rattle.sgb_graph.specs.declared.fields.ArcRec.{ArcRec}
+use Rattle.sgb_graph.specs.Ids.{most_id_bytes}
+use Rattle.sgb_graph.specs.Sound.{graph_kinds}
+use Rattle.sgb_file.specs.Fields.{Found, given, found_as, after_prefix, string_at, plain_at, number_of, most_number_digits}
+use Rattle.sgb_file.specs.Found.{IsFoundBy}
+use Rattle.sgb_file.specs.Records.{Head, after_comma, more_fields_at, all_at, arc_record_at, graph_record_at, records_at, vertex_record_at}
+use Rattle.sgb_file.proofs.FoundParts.{was_given, was_let_through, was_mapped}
+use Rattle.sgb_file.specs.Reading.{vertices_at, arcs_at}
+use Rattle.sgb_file.specs.LinesLeft.{LinesLeft, text_left, has_no_newline}
+use Rattle.sgb_file.specs.FileLines.{text_of_lines}
+use Rattle.sgb_file.proofs.LineLemmas.{not_true}
+
+-- a reader that stops because another one stopped
+pub stops : {X Y : Type 0} (first : Option (Found X)) (all : Option (Found Y)) (p : Panic) (left later : List ℕ) → IsFoundBy first (Err p) left → (first ≡ None → all ≡ None) → IsFoundBy all (Err p) later
+stops first all Syntax left later h f = f h
+stops first all NoRoom left later h f = tt
+stops first all Early left later h f = absurd h
+stops first all Late left later h f = absurd h
+stops first all Bad left later h f = absurd h
+stops first all VeryBad left later h f = absurd h
+stops first all Invalid left later h f = absurd h
+
+-- one more record, and then the others
+pub one_more : {X Y : Type 0} (one_at : List ℕ → Option (Found X)) (f : List X → Y) (g : List X → Y) (n : ℕ) (x : X) (text rest : List ℕ) → one_at text ≡ Some (record { value = x; rest = rest })
+    → ((xs : List X) → f (x ∷ xs) ≡ g xs) → found_as f (all_at one_at (suc n) text) ≡ found_as g (all_at one_at n rest)
+unfolding all_at
+one_more {X = X} {Y = Y} one_at f g n x text rest e same = rw e (under (all_at one_at n rest))
+  where
+    under : (r : Option (Found (List X))) → found_as f (found_as (λ others. x ∷ others) r) ≡ found_as g r
+    under None = refl
+    under (Some r) = ap (λ y. Some (record { value = y; rest = r.rest })) (same r.value)
+
+-- no record, where one has to come
+pub no_more : {X Y : Type 0} (one_at : List ℕ → Option (Found X)) (f : List X → Y) (n : ℕ) (text : List ℕ) → one_at text ≡ None → found_as f (all_at one_at (suc n) text) ≡ None
+unfolding all_at
+no_more one_at f n text e = rw e refl
+
+-- one vertex more
+pub next_vertex : (head : Head) (parts more : GraphData) (n v : ℕ) (x : Vertex) (text rest : List ℕ) → v < n → vertex_record_at head text ≡ Some (record { value = x; rest = rest })
+    → more ≡ with_vertex x parts → vertices_at head more (n - (v + 1)) rest ≡ vertices_at head parts (n - v) text
+next_vertex head parts more n v x text rest within e is =
+    let count : suc (n - (v + 1)) ≡ n - v = omega (arith, within) in
+    rw is (sym (one_more (vertex_record_at head) (λ vs. record parts { vertices = parts.vertices ++ vs }) (λ vs. record parts { vertices = (parts.vertices ++ x ∷ []) ++ vs }) (n - (v + 1)) x text rest e
+    (λ xs. ap (λ vs. record parts { vertices = vs }) (sym (append_assoc parts.vertices (x ∷ []) xs))))
+    ∙ ap (λ (k : ℕ). vertices_at head parts k text) count)
+
+pub no_vertex : (head : Head) (parts : GraphData) (n v : ℕ) (text : List ℕ) → v < n → vertex_record_at head text ≡ None → vertices_at head parts (n - v) text ≡ None
+no_vertex head parts n v text within e =
+    let count : suc (n - (v + 1)) ≡ n - v = omega (arith, within) in
+    ap (λ (k : ℕ). vertices_at head parts k text) (sym count) ∙ no_more (vertex_record_at head) (λ vs. record parts { vertices = parts.vertices ++ vs }) (n - (v + 1)) text e
+
+-- all vertices
+pub vertices_read : (head : Head) (parts : GraphData) (k : ℕ) (text : List ℕ) → k ≡ 0 → vertices_at head parts k text ≡ Some (record { value = parts; rest = text })
+unfolding all_at
+vertices_read head parts k text e = rw e (ap (λ vs. Some (record { value = record parts { vertices = vs }; rest = text })) (append-nil parts.vertices))
+
+-- one arc record more
+pub next_arc : (head : Head) (parts more : GraphData) (n k : ℕ) (r : ArcRec) (text rest : List ℕ) → k < n → arc_record_at head text ≡ Some (record { value = r; rest = rest })
+    → more ≡ with_record r parts → arcs_at head more (n - (k + 1)) rest ≡ arcs_at head parts (n - k) text
+next_arc head parts more n k r text rest within e is =
+    let count : suc (n - (k + 1)) ≡ n - k = omega (arith, within) in
+    rw is (sym (one_more (arc_record_at head) (λ rs. record parts { records = parts.records ++ rs }) (λ rs. record parts { records = (parts.records ++ r ∷ []) ++ rs }) (n - (k + 1)) r text rest e
+    (λ xs. ap (λ rs. record parts { records = rs }) (sym (append_assoc parts.records (r ∷ []) xs))))
+    ∙ ap (λ (j : ℕ). arcs_at head parts j text) count)
+
+pub no_arc : (head : Head) (parts : GraphData) (n k : ℕ) (text : List ℕ) → k < n → arc_record_at head text ≡ None → arcs_at head parts (n - k) text ≡ None
+no_arc head parts n k text within e =
+    let count : suc (n - (k + 1)) ≡ n - k = omega (arith, within) in
+    ap (λ (j : ℕ). arcs_at head parts j text) (sym count) ∙ no_more (arc_record_at head) (λ rs. record parts { records = parts.records ++ rs }) (n - (k + 1)) text e
+
+-- all arc records
+pub arcs_read : (head : Head) (parts : GraphData) (k : ℕ) (text : List ℕ) → k ≡ 0 → arcs_at head parts k text ≡ Some (record { value = parts; rest = text })
+unfolding all_at
+arcs_read head parts k text e = rw e (ap (λ rs. Some (record { value = record parts { records = rs }; rest = text })) (append-nil parts.records))
+
+-- what follows a prefix
+starts_so : (p more : List ℕ) → starts_with (λ b c. b == c) (p ++ more) p ≡ true
+starts_so [] more = refl
+starts_so (b ∷ p) more = and_from (b == b) (starts_with (λ b c. b == c) (p ++ more) p) ((Decides-eqb b b).1 refl) (starts_so p more)
+
+pub prefix_read : (p more : List ℕ) → after_prefix p (p ++ more) ≡ Some more
+prefix_read p more = rw (starts_so p more) (ap Some (drop-append_seam p more))
+
+-- the line that follows is this title, or another one
+pub same_title : (title more : List ℕ) → after_prefix (title ++ 10 ∷ []) (title ++ 10 ∷ more) ≡ Some more
+same_title title more = ap (after_prefix (title ++ 10 ∷ [])) (sym (append_assoc title (10 ∷ []) more)) ∙ prefix_read (title ++ 10 ∷ []) more
+
+titled : (title line more : List ℕ) → has_no_newline title ≡ true → has_no_newline line ≡ true → starts_with (λ b c. b == c) (line ++ 10 ∷ more) (title ++ 10 ∷ []) ≡ true → title ≡ line
+titled [] [] more h l e = refl
+titled [] (b ∷ line) more h l e =
+    let byte = not_true (b == 10) (and_parts (not (b == 10)) (has_no_newline line) l).0 in
+    let same = (and_parts (10 == b) _ e).0 in
+    absurd (grind (arith, nat_tests))
+titled (t ∷ title) [] more h l e =
+    let byte = not_true (t == 10) (and_parts (not (t == 10)) (has_no_newline title) h).0 in
+    let same = (and_parts (t == 10) _ e).0 in
+    absurd cc
+titled (t ∷ title) (b ∷ line) more h l e =
+    let both = and_parts (t == b) _ e in
+    let first : t ≡ b = (Decides-eqb t b).0 both.0 in
+    ap (λ (x : ℕ). x ∷ title) first ∙ ap (λ xs. b ∷ xs) (titled title line more (and_parts (not (t == 10)) (has_no_newline title) h).1 (and_parts (not (b == 10)) (has_no_newline line) l).1 both.1)
+
+none_else : (t : Bool) (rest : List ℕ) → (t ≡ true → ⊥) → cond t (Some rest) None ≡ None
+none_else true rest h = absurd (h refl)
+none_else false rest h = refl
+
+pub other_title : (title line more : List ℕ) → has_no_newline title ≡ true → has_no_newline line ≡ true → (line ≡ title → ⊥) → after_prefix (title ++ 10 ∷ []) (line ++ 10 ∷ more) ≡ None
+other_title title line more h l other =
+    none_else (starts_with (λ b c. b == c) (line ++ 10 ∷ more) (title ++ 10 ∷ [])) _ (λ e. other (sym (titled title line more h l e)))
+
+-- a title that was passed, and one that was not
+pub title_passed : (title line : List ℕ) (s t : LinesLeft) → s.line ≡ Some line → line ≡ title → text_left t ≡ text_of_lines s.others → after_prefix (title ++ 10 ∷ []) (text_left s) ≡ Some (text_left t)
+title_passed title line s t e same left = rw (e, same, left) (same_title title (text_of_lines s.others))
+
+pub title_missed : (title line : List ℕ) (s : LinesLeft) → s.line ≡ Some line → has_no_newline title ≡ true → has_no_newline line ≡ true → (line ≡ title → ⊥) → after_prefix (title ++ 10 ∷ []) (text_left s) ≡ None
+title_missed title line s e h l other = rw e (other_title title line (text_of_lines s.others) h l other)
+
+-- what the records of a file say, section by section
+abbrev arcs_after : Head → GraphData → Found (List Vertex) → Option (Found GraphData)
+arcs_after head g vertices =
+    given (after_prefix (codes "* Arcs\n") vertices.rest) (λ third.
+    found_as (λ records. record g { vertices = vertices.value; records = records }) (all_at (arc_record_at head) head.counts.arcs third))
+
+abbrev vertices_after : Head → GraphData → List ℕ → Option (Found GraphData)
+vertices_after head g second = given (all_at (vertex_record_at head) head.counts.vertices second) (arcs_after head g)
+
+abbrev titles_after : Head → Found GraphData → Option (Found GraphData)
+titles_after head graph = given (after_prefix (codes "* Vertices\n") graph.rest) (vertices_after head graph.value)
+
+-- a graph's record brings no vertices and no arc records
+record StartsEmpty (g : GraphData) : Type 0 where
+  vertices : g.vertices ≡ []
+  records : g.records ≡ []
+
+start_found : (head : Head) (text : List ℕ) (found : Found GraphData) → graph_record_at head text ≡ Some found → StartsEmpty found.value
+start_found head text found e =
+    let number = plain_at (number_of most_number_digits) in
+    let id = was_given (string_at most_id_bytes text) e in
+    let second = was_given (after_comma id.first.rest) id.made in
+    let n = was_given (number second.first) second.made in
+    let third = was_given (after_comma n.first.rest) n.made in
+    let m = was_given (number third.first) third.made in
+    let util = was_given (more_fields_at head.counts (graph_kinds head.kinds) m.first.rest) m.made in
+    let g : GraphData = record { id = id.first.value; m = m.first.value; kinds = head.kinds; util = util.first.value; vertices = []; records = [] } in
+    let through = was_let_through (n.first.value == head.counts.vertices) (record { value = g; rest = util.first.rest }) found util.made in
+    subst (λ (f : Found GraphData). StartsEmpty f.value) through.1 (record { vertices = refl; records = refl })
+
+-- the records where those of the graph and of the vertices are read
+pub records_whole : (head : Head) (parts more : GraphData) (t0 t1 t2 t3 t4 : List ℕ) → graph_record_at head t0 ≡ Some (record { value = parts; rest = t1 })
+    → after_prefix (codes "* Vertices\n") t1 ≡ Some t2 → vertices_at head parts head.counts.vertices t2 ≡ Some (record { value = more; rest = t3 })
+    → after_prefix (codes "* Arcs\n") t3 ≡ Some t4 → records_at head t0 ≡ arcs_at head more head.counts.arcs t4
+records_whole head parts more t0 t1 t2 t3 t4 g a v b =
+    let start = start_found head t0 (record { value = parts; rest = t1 }) g in
+    let p = was_mapped (all_at (vertex_record_at head) head.counts.vertices t2) {f = λ x. record { value = record parts { vertices = parts.vertices ++ x.value }; rest = x.rest }} v in
+    let vs = p.first.value in
+    let arcs = all_at (arc_record_at head) head.counts.arcs t4 in
+    ap (λ o. given o (titles_after head)) g
+    ∙ (ap (λ o. given o (vertices_after head parts)) a
+    ∙ (ap (λ o. given o (arcs_after head parts)) p.here
+    ∙ (ap (λ o. given o (λ third. found_as (λ records. record parts { vertices = vs; records = records }) (all_at (arc_record_at head) head.counts.arcs third))) (ap (λ x. after_prefix (codes "* Arcs\n") x.rest) p.same ∙ b)
+    ∙ (ap (λ (xs : List Vertex). found_as (λ rs. record parts { vertices = xs ++ vs; records = rs }) arcs) (sym start.vertices)
+    ∙ (ap (λ (xs : List ArcRec). found_as (λ rs. record parts { vertices = parts.vertices ++ vs; records = xs ++ rs }) arcs) (sym start.records)
+    ∙ ap (λ x. arcs_at head x.value head.counts.arcs t4) p.same)))))
+
+-- the records where those of a vertex are not
+as_none : {X Y : Type 0} (f : X → Y) (o : Option (Found X)) → found_as f o ≡ None → o ≡ None
+as_none f None e = refl
+as_none f (Some x) e = absurd cc
+
+pub records_broken : (head : Head) (parts : GraphData) (t0 t1 t2 : List ℕ) → graph_record_at head t0 ≡ Some (record { value = parts; rest = t1 })
+    → after_prefix (codes "* Vertices\n") t1 ≡ Some t2 → vertices_at head parts head.counts.vertices t2 ≡ None → records_at head t0 ≡ None
+records_broken head parts t0 t1 t2 g a v =
+    ap (λ o. given o (titles_after head)) g
+    ∙ (ap (λ o. given o (vertices_after head parts)) a
+    ∙ ap (λ o. given o (arcs_after head parts)) (as_none (λ vs. record parts { vertices = parts.vertices ++ vs }) (all_at (vertex_record_at head) head.counts.vertices t2) v))

@@ -1,0 +1,33 @@
+use Rattle.std.proofs.Common.{◌≡◌, ◌-◌, ◌∙◌, ℕ, None, Some, drop, length, take, filter_map, rules, arith, sym, ap, subst, length-set, length-drop}
+use Rattle.std.proofs.lemmas.List.{take_all}
+use Rattle.sgb_file.specs.Restoring.{kind_of_letter}
+use Rattle.sgb_file.proofs.Endings.{short_kinds, kinds_missed, kinds_more, kinds_read}
+use Rattle.sgb_file.proofs.reading.openings.kinds_at.Goals as goal
+
+pub returns-then-text-lt14 : goal.returns-then-text-lt14
+returns-then-text-lt14 c = short_kinds c.args.text.now c.if-text-lt14.true
+
+pub returns-in_err-kinds : goal.returns-in_err-kinds
+returns-in_err-kinds c =
+    let none : c.from_residual.result ≡ None = search rules in
+    let low = c.loop-place-test.true in
+    rw none (sym (kinds_missed c.args.text.now c.loop-place.place low (omega (arith, low, c.if-text-lt14.false)) (sym c.in_err-kinds.ensures)))
+
+pub loop-place-preserved : goal.loop-place-preserved
+loop-place-preserved c =
+    let low = c.loop-place-test.true in
+    let size = c.loop-place.invariant.1 in (
+      kinds_more c.args.text.now c.loop-place.kinds c.loop-place.place c.in_ok-kinds.field-0 (omega (arith, low, c.if-text-lt14.false)) (omega (arith, low, size)) (sym c.in_ok-kinds.ensures)
+          c.loop-place.invariant.0,
+      length-set _ _ _ ∙ size,
+      omega (arith, low),
+    )
+
+pub returns : goal.returns
+returns c =
+    let text = c.args.text.now in
+    let kinds = c.loop-place.kinds in
+    let most = c.loop-place.invariant.2 in
+    let all : c.loop-place.place ≡ 14 = omega (arith, most, c.loop-place-test.false) in
+    let read = kinds_read text kinds (subst (λ (i : ℕ). filter_map kind_of_letter (take i text) ≡ take i kinds) all c.loop-place.invariant.0) c.loop-place.invariant.1 in
+    ap (λ rest. Some (record { value = kinds; rest = rest })) (take_all (length text - 14) (drop 14 text) (omega (arith, length-drop 14 text))) ∙ sym read

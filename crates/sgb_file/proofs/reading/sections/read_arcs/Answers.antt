@@ -1,0 +1,37 @@
+use Rattle.std.proofs.Common.{sym, ap, ◌∙◌, ◌-◌, ◌<◌, arith}
+use Rattle.std.proofs.lemmas.Result.{err_from_is_err_and}
+use Rattle.sgb_file.specs.LinesLeft.{text_left}
+use Rattle.sgb_file.specs.Reading.{arcs_at}
+use Rattle.sgb_file.specs.Records.{arc_record_at}
+use Rattle.sgb_file.proofs.Sections.{stops, next_arc, no_arc, arcs_read}
+use Rattle.sgb_file.proofs.reading.sections.read_arcs.Goals as goal
+
+pub returns-in_err-arc-clause-found : goal.returns-in_err-arc-clause-found
+returns-in_err-arc-clause-found c =
+    let p = err_from_is_err_and c.from_residual.result c.from_residual.ensures.1 in
+    let head = c.args.head.now in
+    let text = text_left c.loop-k.lines in
+    let count = ap (λ h. h.counts.arcs) c.head-inside.view_is ∙ ap (λ h. h.counts.arcs) c.head.view_is in
+    rw (p.1, p.2)
+    (stops (arc_record_at head text) (arcs_at head c.args.parts head.counts.arcs (text_left c.args.lines.now)) c.in_err-arc.field-0.0 (text_left c.read_arc.new.lines) (text_left c.read_arc.new.lines)
+    c.in_err-arc.ensures.found (λ none. sym c.loop-k.invariant.0 ∙ no_arc head c.loop-k.parts head.counts.arcs c.loop-k._k text (omega (arith, count, c.loop-k-test.true)) none))
+
+pub loop-k-preserved : goal.loop-k-preserved
+loop-k-preserved c =
+    let head = c.args.head.now in
+    let count = ap (λ h. h.counts.arcs) c.head-inside.view_is ∙ ap (λ h. h.counts.arcs) c.head.view_is in
+    let within : c.loop-k._k < head.counts.arcs = omega (arith, count, c.loop-k-test.true) in (
+      next_arc head c.loop-k.parts c.add_arc.new.self head.counts.arcs c.loop-k._k c.in_ok-arc.arc (text_left c.loop-k.lines) (text_left c.read_arc.new.lines)
+          within c.in_ok-arc.ensures.found c.in_ok-add_arc.ensures.ok ∙ c.loop-k.invariant.0,
+      c.in_ok-arc.ensures.all ∙ c.loop-k.invariant.1,
+      omega (arith, within),
+    )
+
+pub returns-clause-found : goal.returns-clause-found
+returns-clause-found c =
+    let head = c.args.head.now in
+    let count = ap (λ h. h.counts.arcs) c.head-inside.view_is ∙ ap (λ h. h.counts.arcs) c.head.view_is in
+    let most = c.loop-k.invariant.2 in
+    let end = c.loop-k-test.false in
+    sym c.loop-k.invariant.0
+    ∙ arcs_read head c.loop-k.parts (head.counts.arcs - c.loop-k._k) (text_left c.loop-k.lines) (omega (arith, count, most, end))

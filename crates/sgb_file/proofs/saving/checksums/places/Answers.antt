@@ -1,7 +1,0 @@
-use Rattle.std.proofs.Common.{refl}
-use Rattle.sgb_file.specs.Layouts.{place_of, places}
-use Rattle.sgb_file.proofs.saving.checksums.places.Goals as goal
-
-pub returns : goal.returns
-unfolding place_of places
-returns c = refl

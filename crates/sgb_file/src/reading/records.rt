@@ -1,0 +1,109 @@
+//! The records of a `.gb` file (GB_SAVE, restore_graph).
+ghost use Rattle.std.specs.Prelude.{◌≡◌, length};
+ghost use Rattle.sgb_graph.specs.Sound.{graph_kinds};
+ghost use Rattle.sgb_file.specs.Found.{IsFoundBy};
+ghost use Rattle.sgb_file.specs.LinesLeft.{text_left};
+ghost use Rattle.sgb_file.specs.Records.{arc_record_at, graph_record_at, more_fields_at, vertex_record_at};
+
+use super::fields::{read_integer, read_next_field, read_number, read_record_number, read_ref};
+use super::heads::{Counts, Head};
+use super::lines::Lines;
+use super::separators::{end_record, pass_comma};
+use super::strings::{read_id, read_text};
+use sgb_graph::{ArcRec, Kind, Parts, Util, Vertex};
+use sgb_vec::Panic;
+use std::alloc::Global;
+
+// The record of the graph: its parts, with no vertices and no arc records yet. The number of its vertices has to be that of
+// the file's first line.
+pub(super) fn read_graph_record(
+    alloc: Global,
+    head: &Head,
+    lines: &mut Lines<'_>,
+) -> Result<Parts, Panic>
+    ensures found { IsFoundBy (graph_record_at head.now (text_left lines.old)) result (text_left lines.new) }
+    ensures all { lines.new.all ≡ lines.old.all }
+{
+    let id = read_id(lines)?;
+    pass_comma(lines)?;
+    let n = read_number(lines)?;
+    pass_comma(lines)?;
+    let m = read_number(lines)?;
+    let util = read_graph_fields(alloc, head, lines)?;
+    if n != head.counts.vertices {
+        return Err(Panic::Syntax);
+    }
+    Ok(Parts::new(alloc, id, m, head.kinds, util))
+}
+
+// The graph's own fields, which end its record.
+fn read_graph_fields(alloc: Global, head: &Head, lines: &mut Lines<'_>) -> Result<[Util; 6], Panic>
+    ensures found { IsFoundBy (more_fields_at head.now.counts (graph_kinds head.now.kinds) (text_left lines.old)) result (text_left lines.new) }
+    ensures all { lines.new.all ≡ lines.old.all }
+{
+    read_fields(alloc, &head.counts, &head.kinds[8..], lines)
+}
+
+// The record of a vertex.
+pub(super) fn read_vertex(
+    alloc: Global,
+    head: &Head,
+    lines: &mut Lines<'_>,
+) -> Result<Vertex, Panic>
+    ensures found { IsFoundBy (vertex_record_at head.now (text_left lines.old)) result (text_left lines.new) }
+    ensures all { lines.new.all ≡ lines.old.all }
+{
+    let name = read_text(alloc, lines)?;
+    pass_comma(lines)?;
+    let arcs = read_record_number(&head.counts, lines)?;
+    let util = read_fields(alloc, &head.counts, &head.kinds[..6], lines)?;
+    Ok(Vertex { name, arcs, util })
+}
+
+// An arc record. Without strings in it, it takes no memory.
+pub(super) fn read_arc(alloc: Global, head: &Head, lines: &mut Lines<'_>) -> Result<ArcRec, Panic>
+    ensures found { IsFoundBy (arc_record_at head.now (text_left lines.old)) result (text_left lines.new) }
+    ensures all { lines.new.all ≡ lines.old.all }
+{
+    let tip = read_ref(&head.counts, lines)?;
+    pass_comma(lines)?;
+    let next = read_record_number(&head.counts, lines)?;
+    pass_comma(lines)?;
+    let len = read_integer(lines)?;
+    let a = read_next_field(alloc, &head.counts, head.kinds[6], lines)?;
+    let b = read_next_field(alloc, &head.counts, head.kinds[7], lines)?;
+    end_record(lines)?;
+    Ok(ArcRec {
+        tip,
+        next,
+        len,
+        a,
+        b,
+    })
+}
+
+// The six fields of these kinds that end a record.
+fn read_fields(
+    alloc: Global,
+    counts: &Counts,
+    kinds: &[Kind],
+    lines: &mut Lines<'_>,
+) -> Result<[Util; 6], Panic>
+    requires { length kinds.now ≡ 6 }
+    ensures found { IsFoundBy (more_fields_at counts.now kinds.now (text_left lines.old)) result (text_left lines.new) }
+    ensures all { lines.new.all ≡ lines.old.all }
+{
+    let mut fields = [
+        Util::Nothing,
+        Util::Nothing,
+        Util::Nothing,
+        Util::Nothing,
+        Util::Nothing,
+        Util::Nothing,
+    ];
+    for place in 0..6 {
+        fields[place] = read_next_field(alloc, counts, kinds[place], lines)?;
+    }
+    end_record(lines)?;
+    Ok(fields)
+}
