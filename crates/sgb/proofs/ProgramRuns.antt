@@ -1,7 +1,6 @@
 -- What a call of the program leaves, by what its words are read as.
 use Rattle.std.proofs.Common.{◌≡◌, ℕ, List, MatchResult, Result, Ok, Err, inl, inr, subst}
 use Rattle.std.specs.declared.io.ErrorKind.{ErrorKind}
-use Rattle.clap.specs.Words.{Text}
 use Rattle.sgb.specs.Program.{IsProgramRun, unread_fault}
 use Rattle.sgb_requests.specs.Requests.{IsCommandLineReadAs}
 use Rattle.sgb.specs.Runs.{Change, Input, IsReported, IsRunOn}
@@ -9,7 +8,7 @@ use Rattle.sgb_requests.specs.declared.faults.Fault.{Fault}
 use Rattle.sgb_requests.specs.declared.requests.Request.{Request}
 
 -- the words make a request, and it was run
-pub program_ran : {W E : Type 0} (words : Result W E) (texts : W → List Text) (kind : E → ErrorKind) (r : Request) (source : Input) (out err : Change) (status : ℕ)
+pub program_ran : {W E : Type 0} (words : Result W E) (texts : W → List (List ℕ)) (kind : E → ErrorKind) (r : Request) (source : Input) (out err : Change) (status : ℕ)
     → MatchResult words (λ w. IsCommandLineReadAs (texts w) (Ok r)) (λ e. ◌≡◌ {A = Result Request Fault} (Ok r) (Err (unread_fault (kind e))))
     → IsRunOn r source out err status
     → MatchResult words (λ w. IsProgramRun (texts w) source out err status) (λ e. IsReported (unread_fault (kind e)) out err status)
@@ -17,7 +16,7 @@ program_ran (Ok w) texts kind r source out err status is run = inl (r, is, run)
 program_ran (Err e) texts kind r source out err status is run = absurd cc
 
 -- they are refused, and that was reported
-pub program_refused : {W E : Type 0} (words : Result W E) (texts : W → List Text) (kind : E → ErrorKind) (f : Fault) (source : Input) (out err : Change) (status : ℕ)
+pub program_refused : {W E : Type 0} (words : Result W E) (texts : W → List (List ℕ)) (kind : E → ErrorKind) (f : Fault) (source : Input) (out err : Change) (status : ℕ)
     → MatchResult words (λ w. IsCommandLineReadAs (texts w) (Err f)) (λ e. ◌≡◌ {A = Result Request Fault} (Err f) (Err (unread_fault (kind e))))
     → IsReported f out err status
     → MatchResult words (λ w. IsProgramRun (texts w) source out err status) (λ e. IsReported (unread_fault (kind e)) out err status)

@@ -110,6 +110,7 @@ answer_same (request.Names e resume) a b same =
 answer_same (request.List e resume) a b same = ap (λ v. answer_from v (λ g. list_answer g resume)) (value_same a b (expression_of e) same)
 answer_same (request.Save e) a b same = ap (λ v. answer_from v (λ g. Ok (text_of_graph g))) (value_same a b (expression_of e) same)
 answer_same request.Queen a b same = refl
+answer_same (request.Flip p) a b same = refl
 
 -- what is kept of standard input is as good as all of it
 pub run_on : (r : Request) (source : Input) (kept : List ℕ) (out err : Change) (status : ℕ) → (reads_input r ≡ true → IsKept source.bytes kept)
