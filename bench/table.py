@@ -4,12 +4,13 @@
     make && bench/table.py [WORD ..]
 
 Each request is a run of ./sgb with its output read and counted; with words, only the requests that hold one of
-them are made. It is no part of the gate.
+them are made. Where a request reads a file, another one writes it first, which is not counted. It is no part of the gate.
 """
 
 import os
 import subprocess
 import sys
+import tempfile
 
 PROGRAM = os.path.join(os.path.dirname(os.path.abspath(__file__)), "..", "sgb")
 
@@ -53,12 +54,23 @@ REQUESTS = [
     ["save", "board(600,600,0,0,1,0,0)"],
     ["save", "board(100,100,0,0,-1,0,0)"],
     ["save", "simplex(25,-5,0,0,0,0,0)"],
+    # random numbers; a sum that is refused by its counts
+    ["flip", "flip(1,100000000,1,0)"],
+    ["flip", "flip(1,0,1000000,6)"],
+    ["names", "simplex(1000000000,-1,0,0,0,0,0)"],
+]
+
+# requests that read a file, each with the one that writes it
+READERS = [
+    (["list", "stdin"], ["save", "board(600,600,0,0,1,0,0)"]),
+    (["save", "stdin"], ["save", "board(600,600,0,0,1,0,0)"]),
+    (["list", "gunion(stdin,stdin,0,0)"], ["save", "board(100,100,0,0,-1,0,0)"]),
 ]
 
 
-def cost(words):
+def cost(words, source=subprocess.DEVNULL):
     """Runs the program; its exit status, processor seconds, peak memory in kilobytes, bytes of output."""
-    run = subprocess.Popen([PROGRAM, *words], stdout=subprocess.PIPE)
+    run = subprocess.Popen([PROGRAM, *words], stdin=source, stdout=subprocess.PIPE)
     count = 0
     while chunk := run.stdout.read(1 << 20):
         count += len(chunk)
@@ -67,16 +79,26 @@ def cost(words):
     return run.returncode, usage.ru_utime + usage.ru_stime, usage.ru_maxrss, count
 
 
+def show(text, status, seconds, peak, count):
+    """Prints a row of the table."""
+    note = "" if status == 0 else f"  status {status}"
+    print(f"{text:<66} {seconds:>8.2f} {peak / 1024:>8.0f} {count:>12}{note}", flush=True)
+
+
 def main():
     wanted = sys.argv[1:]
     print(f"{'request':<66} {'seconds':>8} {'peak MB':>8} {'bytes out':>12}")
     for words in REQUESTS:
         text = " ".join(words)
-        if wanted and not any(word in text for word in wanted):
-            continue
-        status, seconds, peak, count = cost(words)
-        note = "" if status == 0 else f"  status {status}"
-        print(f"{text:<66} {seconds:>8.2f} {peak / 1024:>8.0f} {count:>12}{note}", flush=True)
+        if not wanted or any(word in text for word in wanted):
+            show(text, *cost(words))
+    for words, writer in READERS:
+        text = f"{' '.join(words)} < {' '.join(writer)}"
+        if not wanted or any(word in text for word in wanted):
+            with tempfile.TemporaryFile() as file:
+                subprocess.run([PROGRAM, *writer], stdout=file, check=True)
+                file.seek(0)
+                show(text, *cost(words, file))
 
 
 if __name__ == "__main__":
