@@ -1,4 +1,5 @@
 -- What the contracts of sgb_graph speak of.
+pub mod Columns
 pub mod Descriptions
 pub mod Draws
 pub mod Events

@@ -41,6 +41,21 @@ pub enum Util {
     Chain(Option<usize>),
 }
 
+/// The value of a utility field of a graph, seen where the graph keeps it.
+#[derive(Clone, Copy)]
+pub enum UtilRef<'a> {
+    /// The field is not used.
+    Nothing,
+    /// An integer.
+    Int(i64),
+    /// A vertex, or none.
+    Vertex(Ref),
+    /// A string.
+    Str(&'a Text),
+    /// An arc record by its number, or none.
+    Chain(Option<usize>),
+}
+
 /// A vertex: its name, the first record of its list of arcs, and its utility fields u, v, w, x, y, z.
 #[derive(Drop)]
 pub struct Vertex {
@@ -58,6 +73,26 @@ pub struct ArcRec {
     pub len: i64,
     pub a: Util,
     pub b: Util,
+}
+
+/// A vertex, seen where its graph keeps it: its name, the first record of its list of arcs, and its utility fields
+/// u, v, w, x, y, z.
+#[derive(Clone, Copy)]
+pub struct VertexRef<'a> {
+    pub name: &'a Text,
+    pub arcs: Option<usize>,
+    pub util: [UtilRef<'a>; 6],
+}
+
+/// An arc record, seen where its graph keeps it: where it leads, the next record of the list that it is on, its
+/// length, and its utility fields a and b.
+#[derive(Clone, Copy)]
+pub struct ArcRef<'a> {
+    pub tip: Ref,
+    pub next: Option<usize>,
+    pub len: i64,
+    pub a: UtilRef<'a>,
+    pub b: UtilRef<'a>,
 }
 
 /// An arc of a vertex's list: the number of its record, the vertex where it leads, and its length.

@@ -1,6 +1,7 @@
 //! Graphs as GB_GRAPH keeps them: vertices with lists of arc records, utility fields and an id.
 #![tactic(auto)]
 
+mod columns;
 mod fields;
 mod flips;
 mod graphs;
@@ -9,7 +10,7 @@ mod laws;
 mod names;
 mod parts;
 
-pub use fields::{ArcRec, Kind, Link, Ref, Util, Vertex};
+pub use fields::{ArcRec, ArcRef, Kind, Link, Ref, Util, UtilRef, Vertex, VertexRef};
 pub use flips::Flip;
 pub use graphs::{Arcs, Graph};
 pub use ids::{Id, IdWriter, compound_id, double_compound_id};
