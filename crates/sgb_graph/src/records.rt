@@ -1,0 +1,120 @@
+//! The arc records of a graph, in little memory: 24 bytes for one without utility fields.
+ghost use Rattle.std.specs.Prelude.{◌≡◌, ◌<◌, ◌++◌, ◌^◌, [], ◌∷◌, length, slice_get, All, Some, IfOk, IfSome, OnOk, OnErr};
+ghost use Rattle.sgb_graph.specs.Columns.{arc_seen, util_kind};
+ghost use Rattle.sgb_graph.specs.Growth.{arc_record};
+ghost use Rattle.sgb_graph.specs.Made.{no_kinds};
+ghost use Rattle.sgb_graph.specs.declared.fields.Kind.TheVariants.{Z};
+
+use crate::columns::Column;
+use crate::fields::{ArcRec, ArcRef, Kind, Ref};
+use std::alloc::{AllocError, Global};
+use std::marker::Model;
+
+// Where a record leads, the number of the next one, and its length.
+#[derive(Clone, Copy)]
+struct PlainRecord {
+    len: i64,
+    next: usize,
+    tip: Ref,
+}
+
+// The number that stands for no record. No list of records is that long.
+const NONE: usize = usize::MAX;
+
+// The arc records of a graph, one after another, and their utility fields a and b beside them.
+#[derive(Drop)]
+pub(crate) struct Records {
+    plain: Vec<PlainRecord>,
+    a: Column,
+    b: Column,
+}
+
+impl Model for Records {
+    ghost use Rattle.std.specs.Prelude.{length};
+    ghost use Rattle.sgb_graph.specs.Columns.{HoldsMany};
+    ghost use Rattle.sgb_graph.specs.Kept.{KeptRecords, kept_records};
+
+    ghost Value = { KeptRecords };
+
+    ghost view = { λ r. kept_records r.plain.items r.a r.b };
+
+    ghost invariant = { λ r. HoldsMany (length r.plain.items) r.a × HoldsMany (length r.plain.items) r.b };
+}
+
+impl Records {
+    // No records, whose utility fields are not used. It takes no memory.
+    pub fn new(alloc: Global) -> Records
+        ensures { result ≡ record { kinds = Z ∷ Z ∷ []; items = [] } }
+    {
+        Records {
+            plain: Vec::new(alloc),
+            a: Column::new(alloc, Kind::Z),
+            b: Column::new(alloc, Kind::Z),
+        }
+    }
+
+    // These records, whose utility fields a and b are of these kinds.
+    pub fn of(alloc: Global, a: Kind, b: Kind, arcs: Vec<ArcRec>) -> Result<Records, AllocError>
+        requires kinds { All (λ r. (util_kind r.a ≡ a) × (util_kind r.b ≡ b)) arcs.items }
+        requires next { All (λ r. IfSome r.next (λ k. k < 2 ^ 63)) arcs.items }
+        ensures { IfOk result (λ records. records ≡ record { kinds = a ∷ b ∷ []; items = arcs.items }) }
+    {
+        let mut records = Records {
+            plain: Vec::with_capacity(alloc, arcs.len())?,
+            a: Column::new(alloc, a),
+            b: Column::new(alloc, b),
+        };
+        for arc in arcs {
+            records.push(arc)?;
+        }
+        Ok(records)
+    }
+
+    // The number of records.
+    pub fn len(&self) -> usize
+        ensures count { result ≡ length self.now.items }
+        ensures small { result < 2 ^ 63 }
+    {
+        self.plain.len()
+    }
+
+    // What the utility fields a and b hold.
+    pub fn kinds(&self) -> [Kind; 2]
+        ensures { result ≡ self.now.kinds }
+    {
+        [self.a.kind(), self.b.kind()]
+    }
+
+    // Record k, below the number of records.
+    pub fn get(&self, k: usize) -> ArcRef<'_>
+        requires { k < length self.now.items }
+        ensures { slice_get self.now.items k ≡ Some (arc_seen result) }
+    {
+        let plain = self.plain[k];
+        ArcRef {
+            tip: plain.tip,
+            next: plain.after(),
+            len: plain.len,
+            a: self.a.get(k),
+            b: self.b.get(k),
+        }
+    }
+
+    // Puts a record that leads to v, before the one given, after the others; the utility fields of records are not used.
+    pub fn push_plain(&mut self, v: u32, after: Option<usize>, len: i64) -> Result<(), AllocError>
+        requires plain { self.old.kinds ≡ Z ∷ Z ∷ [] }
+        requires small { IfSome after (λ k. k < 2 ^ 64 - 1) }
+        ensures ok { OnOk result (self.new ≡ record self.old { items = self.old.items ++ arc_record v after len ∷ [] }) }
+        ensures err { OnErr result (self.new ≡ self.old) }
+    {
+        self.plain.push(PlainRecord::new(Ref::At(v), after, len))?;
+        Ok(())
+    }
+
+    // Takes room for so many records more. They are as before.
+    pub fn reserve(&mut self, more: usize) -> Result<(), AllocError>
+        ensures { self.new ≡ self.old }
+    {
+        self.plain.reserve(more)
+    }
+}
