@@ -181,9 +181,3 @@ arc_added g u v far kept plain u_in v_in = (adds, still)
       ends = lists_end (with_arc g u v far) (parts_of (with_arc g u v far) still.graph);
       rest = keeps_all g (g.m + 1) (Some m) u (new ∷ []);
     }
-
--- the same, where the parts are known to be those
-pub arc_put : (g : GraphData) (u v : ℕ) (far : ℤ) (vertices : List Vertex) (records : List ArcRec) → IsKept g → HasPlainArcs g → u < length g.vertices → v < length g.vertices
-    → vertices ≡ at_place (with_arcs (Some (length g.records))) u g.vertices → records ≡ g.records ++ arc_record v (first_arc g.vertices u) far ∷ []
-    → AddsArc g (graph_data g.id (g.m + 1) g.kinds g.util vertices records) u v far × IsKept (graph_data g.id (g.m + 1) g.kinds g.util vertices records)
-arc_put g u v far vertices records kept plain u_in v_in nodes arcs = rw (nodes, arcs) (arc_added g u v far kept plain u_in v_in)

@@ -277,10 +277,3 @@ edge_added g u v far kept plain u_in v_in = by_cases (cases_eq u v)
     by_cases : (u ≡ v) ⊎ (u ≡ v → ⊥) → AddsEdge g (with_edge g u v far) u v far × IsKept (with_edge g u v far)
     by_cases (inl same) = rw (← same) (loop_added g u far kept plain u_in)
     by_cases (inr other) = two_joined g u v far kept plain u_in v_in other
-
--- the same, where the parts are known to be those
-pub edge_put : (g : GraphData) (u v : ℕ) (far : ℤ) (vertices : List Vertex) (records : List ArcRec) → IsKept g → HasPlainArcs g → u < length g.vertices → v < length g.vertices
-    → vertices ≡ with_ends (length g.records) (min u v) (max u v) g.vertices
-    → records ≡ g.records ++ arc_record (max u v) (after_lower (length g.records) g.vertices u v) far ∷ arc_record (min u v) (first_arc g.vertices (max u v)) far ∷ []
-    → AddsEdge g (graph_data g.id (g.m + 2) g.kinds g.util vertices records) u v far × IsKept (graph_data g.id (g.m + 2) g.kinds g.util vertices records)
-edge_put g u v far vertices records kept plain u_in v_in nodes arcs = rw (nodes, arcs) (edge_added g u v far kept plain u_in v_in)

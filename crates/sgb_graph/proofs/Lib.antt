@@ -14,6 +14,10 @@ pub mod Fitting
 pub mod Growing
 pub mod HexadecimalDigits
 pub mod IdLemmas
+pub mod ColumnValues
+pub mod KeptGraphs
+pub mod KeptParts
+pub mod KeptRecords
 pub mod ListMembers
 pub mod Lists
 pub mod MarkedWays

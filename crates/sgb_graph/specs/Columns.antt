@@ -1,5 +1,5 @@
 -- The values of the utility fields of vertices and arc records, as a graph keeps them: each field by its kind.
-use Rattle.std.specs.Prelude.{◌≡◌, ◌<◌, ℕ, suc, List, [], ◌∷◌, length, map, replicate, Option, Some, None}
+use Rattle.std.specs.Prelude.{◌≡◌, ◌<◌, ℕ, suc, List, length, map, replicate}
 use Rattle.sgb_graph.specs.declared.columns.Column.{Column}
 use Rattle.sgb_graph.specs.declared.columns.Column.TheVariants.{Unused, Ints, Vertices, Texts, Chains}
 use Rattle.sgb_graph.specs.declared.fields.Kind.{Kind}

@@ -7,6 +7,9 @@ pub mod Graphs
 pub mod Growth
 pub mod IdTexts
 pub mod Ids
+pub mod Kept
+pub mod KeptRecords
+pub mod KeptVertices
 pub mod Made
 pub mod Parts
 pub mod Sound

@@ -1,3 +1,6 @@
+ghost use Rattle.std.specs.Prelude.{◌≡◌};
+ghost use Rattle.sgb_graph.specs.Columns.{util_kind};
+
 use sgb_vec::Text;
 
 /// What a utility field holds: nothing, an integer, a vertex, a string or an arc (GB_GRAPH, util_types).
@@ -39,6 +42,21 @@ pub enum Util {
     Str(Text),
     /// An arc record by its number, or none.
     Chain(Option<usize>),
+}
+
+impl Util {
+    // The kind of the value.
+    pub(crate) fn kind(&self) -> Kind
+        ensures { result ≡ util_kind self.now }
+    {
+        match self {
+            Util::Nothing => Kind::Z,
+            Util::Int(_) => Kind::I,
+            Util::Vertex(_) => Kind::V,
+            Util::Str(_) => Kind::S,
+            Util::Chain(_) => Kind::A,
+        }
+    }
 }
 
 /// The value of a utility field of a graph, seen where the graph keeps it.

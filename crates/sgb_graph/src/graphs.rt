@@ -1,19 +1,23 @@
 ghost use Rattle.std.specs.Prelude.{◌≡◌, ◌<◌, ◌≤◌, length, map, ◌↔◌, slice_get, Some, IfOk, IsErrOf, IsOkUnless};
 ghost use Rattle.sgb_vec.specs.Limits.{most_vertices};
 ghost use Rattle.sgb_graph.specs.Made.{no_fields};
-ghost use Rattle.sgb_graph.specs.Growth.{IsKept, graph_data, new_id, new_graph, new_vertex, with_id};
+ghost use Rattle.sgb_graph.specs.Columns.{arc_seen, util_kind, vertex_seen};
+ghost use Rattle.sgb_graph.specs.Growth.{IsKept, new_id, new_graph, with_id};
+ghost use Rattle.sgb_graph.specs.Kept.{kept_graph};
 
 mod adding;
 mod arcs;
 mod events;
 mod numbers;
 
-use crate::fields::{ArcRec, Kind, Util, Vertex};
+use crate::fields::{ArcRef, Kind, Util, VertexRef};
 use crate::ids::{Id, IdWriter};
 use crate::names::Names;
+use crate::records::Records;
+use crate::vertices::Vertices;
 pub use arcs::Arcs;
 use sgb_vec::{MOST_VERTICES, Panic, Text};
-use std::alloc::{AllocError, Global};
+use std::alloc::Global;
 use std::marker::Model;
 
 /// A graph (GB_GRAPH): vertices 0 to n-1, each with a list of arc records, which are numbered and all stand in
@@ -22,10 +26,9 @@ use std::marker::Model;
 pub struct Graph {
     id: Id,
     m: u64,
-    kinds: [Kind; 14],
     util: [Util; 6],
-    vertices: Vec<Vertex>,
-    records: Vec<ArcRec>,
+    vertices: Vertices,
+    records: Records,
 }
 
 impl Model for Graph {
@@ -33,11 +36,12 @@ impl Model for Graph {
 
     ghost Value = { GraphData };
 
-    ghost use Rattle.sgb_graph.specs.Growth.{graph_data, IsKept};
+    ghost use Rattle.sgb_graph.specs.Growth.{IsKept};
+    ghost use Rattle.sgb_graph.specs.Kept.{kept_graph};
 
-    ghost view = { λ g. graph_data g.id g.m g.kinds g.util g.vertices.items g.records.items };
+    ghost view = { λ g. kept_graph g.id g.m g.util g.vertices g.records };
 
-    ghost invariant = { λ g. IsKept (graph_data g.id g.m g.kinds g.util g.vertices.items g.records.items) };
+    ghost invariant = { λ g. IsKept (kept_graph g.id g.m g.util g.vertices g.records) };
 }
 
 impl Graph {
@@ -55,14 +59,13 @@ impl Graph {
             return Err(Panic::VeryBad);
         }
         let id = new_id(names.len());
-        let vertices = new_vertices(alloc, names)?;
+        let vertices = Vertices::named(alloc, names)?;
         Ok(Graph {
             id,
             m: 0,
-            kinds: [Kind::Z; 14],
             util: no_fields(),
             vertices,
-            records: Vec::new(alloc),
+            records: Records::new(alloc),
         })
     }
 
@@ -70,18 +73,16 @@ impl Graph {
     pub(crate) fn from_parts(
         id: Id,
         m: u64,
-        kinds: [Kind; 14],
         util: [Util; 6],
-        vertices: Vec<Vertex>,
-        records: Vec<ArcRec>,
+        vertices: Vertices,
+        records: Records,
     ) -> Graph
-        requires { IsKept (graph_data id m kinds util vertices.items records.items) }
-        ensures { result ≡ graph_data id m kinds util vertices.items records.items }
+        requires { IsKept (kept_graph id m util vertices records) }
+        ensures { result ≡ kept_graph id m util vertices records }
     {
         Graph {
             id,
             m,
-            kinds,
             util,
             vertices,
             records,
@@ -122,22 +123,25 @@ impl Graph {
         requires { v < length self.now.vertices }
         ensures { slice_get (map (λ x. x.name) self.now.vertices) v ≡ Some result.now }
     {
-        &self.vertex(v).name
+        self.vertices.name(v)
     }
 
     /// What the utility fields hold: those of vertices u v w x y z, of arcs a b, of the graph uu vv ww xx yy zz.
-    pub fn kinds(&self) -> &[Kind; 14]
-        ensures { result.now ≡ self.now.kinds }
+    pub fn kinds(&self) -> [Kind; 14]
+        ensures { result ≡ self.now.kinds }
     {
-        &self.kinds
+        let [u, v, w, x, y, z] = self.vertices.kinds();
+        let [a, b] = self.records.kinds();
+        let [uu, vv, ww, xx, yy, zz] = kinds_of(&self.util);
+        [u, v, w, x, y, z, a, b, uu, vv, ww, xx, yy, zz]
     }
 
     /// Vertex `v < n`.
-    pub fn vertex(&self, v: u32) -> &Vertex
+    pub fn vertex(&self, v: u32) -> VertexRef<'_>
         requires { v < length self.now.vertices }
-        ensures { slice_get self.now.vertices v ≡ Some result.now }
+        ensures { slice_get self.now.vertices v ≡ Some (vertex_seen result) }
     {
-        &self.vertices[v as usize]
+        self.vertices.get(v)
     }
 
     /// The number of arc records, on lists or not.
@@ -148,11 +152,11 @@ impl Graph {
     }
 
     /// Arc record `k`, below `records_len()`.
-    pub fn arc_rec(&self, k: usize) -> &ArcRec
+    pub fn arc_rec(&self, k: usize) -> ArcRef<'_>
         requires { k < length self.now.records }
-        ensures { slice_get self.now.records k ≡ Some result.now }
+        ensures { slice_get self.now.records k ≡ Some (arc_seen result) }
     {
-        &self.records[k]
+        self.records.get(k)
     }
 
     /// The graph's own utility field number `k`, of uu vv ww xx yy zz from 0.
@@ -190,19 +194,19 @@ fn no_fields() -> [Util; 6]
     ]
 }
 
-// The vertices of these names, with no arcs and no utility fields.
-fn new_vertices(alloc: Global, names: Names) -> Result<Vec<Vertex>, AllocError>
-    ensures { IfOk result (λ vertices. vertices.items ≡ map new_vertex names) }
+// What these utility fields hold.
+fn kinds_of(fields: &[Util; 6]) -> [Kind; 6]
+    ensures { result ≡ map util_kind fields.now }
 {
-    let mut vertices = Vec::with_capacity(alloc, names.len())?;
-    for name in names.into_texts() {
-        vertices.push(Vertex {
-            name,
-            arcs: None,
-            util: no_fields(),
-        })?;
-    }
-    Ok(vertices)
+    let [uu, vv, ww, xx, yy, zz] = fields;
+    [
+        uu.kind(),
+        vv.kind(),
+        ww.kind(),
+        xx.kind(),
+        yy.kind(),
+        zz.kind(),
+    ]
 }
 
 #[cfg(test)]

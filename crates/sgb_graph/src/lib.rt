@@ -9,6 +9,8 @@ mod ids;
 mod laws;
 mod names;
 mod parts;
+mod records;
+mod vertices;
 
 pub use fields::{ArcRec, ArcRef, Kind, Link, Ref, Util, UtilRef, Vertex, VertexRef};
 pub use flips::Flip;

@@ -2,7 +2,7 @@ ghost use Rattle.std.specs.Prelude.{◌≡◌, ◌≤◌, ◌^◌, ◌&&◌, [],
 ghost use Rattle.sgb_vec.specs.Limits.{most_vertices};
 ghost use Rattle.sgb_graph.specs.Growth.{graph_data};
 ghost use Rattle.sgb_graph.specs.Parts.{IsCheckOf, checked, with_record, with_vertex};
-ghost use Rattle.sgb_graph.specs.Sound.{IsGraph, fields_fit, is_sound};
+ghost use Rattle.sgb_graph.specs.Sound.{IsGraph, fields_fit, is_sound, vertex_kinds};
 
 mod fitting;
 mod walks;
@@ -10,6 +10,8 @@ mod walks;
 use crate::fields::{ArcRec, Kind, Util, Vertex};
 use crate::graphs::Graph;
 use crate::ids::Id;
+use crate::records::Records;
+use crate::vertices::Vertices;
 use sgb_vec::{MOST_VERTICES, Panic};
 use std::alloc::{AllocError, Global};
 use std::marker::Model;
@@ -97,8 +99,16 @@ impl Parts {
         if !self.fit() || !self.are_sound()? {
             return Err(Panic::Syntax);
         }
+        Ok(self.kept()?)
+    }
+
+    // The graph of these parts, which make up one.
+    fn kept(self) -> Result<Graph, AllocError>
+        requires { IsGraph self }
+        ensures { IfOk result (λ graph. graph ≡ self) }
+    {
         let Parts {
-            alloc: _,
+            alloc,
             id,
             m,
             kinds,
@@ -106,7 +116,9 @@ impl Parts {
             vertices,
             records,
         } = self;
-        Ok(Graph::from_parts(id, m, kinds, util, vertices, records))
+        let vertices = Vertices::of(alloc, kinds_of_vertices(&kinds), vertices)?;
+        let records = Records::of(alloc, kinds[6], kinds[7], records)?;
+        Ok(Graph::from_parts(id, m, util, vertices, records))
     }
 
     // Whether there are not too many vertices, and all fields fit their kinds.
@@ -126,6 +138,14 @@ impl Parts {
         }
         lists_lead_to_vertices(self.alloc, &self.vertices, &self.records)
     }
+}
+
+// Of the fourteen kinds those of a vertex's fields.
+fn kinds_of_vertices(kinds: &[Kind; 14]) -> [Kind; 6]
+    ensures { result ≡ vertex_kinds kinds.now }
+{
+    let [u, v, w, x, y, z, ..] = *kinds;
+    [u, v, w, x, y, z]
 }
 
 #[cfg(test)]

@@ -1,8 +1,8 @@
 //! The arc records of a graph, in little memory: 24 bytes for one without utility fields.
-ghost use Rattle.std.specs.Prelude.{◌≡◌, ◌<◌, ◌++◌, ◌^◌, [], ◌∷◌, length, slice_get, All, Some, IfOk, IfSome, OnOk, OnErr};
+ghost use Rattle.std.specs.Prelude.{◌≡◌, ◌<◌, ◌+◌, ◌++◌, ◌^◌, [], ◌∷◌, length, slice_get, All, Some, IfOk, IfSome, OnOk, OnErr};
 ghost use Rattle.sgb_graph.specs.Columns.{arc_seen, util_kind};
 ghost use Rattle.sgb_graph.specs.Growth.{arc_record};
-ghost use Rattle.sgb_graph.specs.Made.{no_kinds};
+ghost use Rattle.sgb_graph.specs.KeptRecords.{kept_number};
 ghost use Rattle.sgb_graph.specs.declared.fields.Kind.TheVariants.{Z};
 
 use crate::columns::Column;
@@ -18,6 +18,8 @@ struct PlainRecord {
     tip: Ref,
 }
 
+const _: () = prove!(size_of::<PlainRecord>() == 24);
+
 // The number that stands for no record. No list of records is that long.
 const NONE: usize = usize::MAX;
 
@@ -32,7 +34,7 @@ pub(crate) struct Records {
 impl Model for Records {
     ghost use Rattle.std.specs.Prelude.{length};
     ghost use Rattle.sgb_graph.specs.Columns.{HoldsMany};
-    ghost use Rattle.sgb_graph.specs.Kept.{KeptRecords, kept_records};
+    ghost use Rattle.sgb_graph.specs.KeptRecords.{KeptRecords, kept_records};
 
     ghost Value = { KeptRecords };
 
@@ -41,10 +43,37 @@ impl Model for Records {
     ghost invariant = { λ r. HoldsMany (length r.plain.items) r.a × HoldsMany (length r.plain.items) r.b };
 }
 
+impl PlainRecord {
+    // A record that leads to this tip, before the one given.
+    fn new(tip: Ref, after: Option<usize>, len: i64) -> PlainRecord
+        requires { IfSome after (λ k. k + 1 < 2 ^ 64) }
+        ensures tip { result.tip ≡ tip }
+        ensures next { kept_number result.next ≡ after }
+        ensures len { result.len ≡ len }
+    {
+        PlainRecord {
+            len,
+            next: after.unwrap_or(NONE),
+            tip,
+        }
+    }
+
+    // The record after this one.
+    fn after(&self) -> Option<usize>
+        ensures { result ≡ kept_number self.now.next }
+    {
+        if self.next == NONE {
+            None
+        } else {
+            Some(self.next)
+        }
+    }
+}
+
 impl Records {
     // No records, whose utility fields are not used. It takes no memory.
     pub fn new(alloc: Global) -> Records
-        ensures { result ≡ record { kinds = Z ∷ Z ∷ []; items = [] } }
+        ensures { result ≡ record { a = Z; b = Z; items = [] } }
     {
         Records {
             plain: Vec::new(alloc),
@@ -57,17 +86,21 @@ impl Records {
     pub fn of(alloc: Global, a: Kind, b: Kind, arcs: Vec<ArcRec>) -> Result<Records, AllocError>
         requires kinds { All (λ r. (util_kind r.a ≡ a) × (util_kind r.b ≡ b)) arcs.items }
         requires next { All (λ r. IfSome r.next (λ k. k < 2 ^ 63)) arcs.items }
-        ensures { IfOk result (λ records. records ≡ record { kinds = a ∷ b ∷ []; items = arcs.items }) }
+        ensures { IfOk result (λ records. records ≡ record { a = a; b = b; items = arcs.items }) }
     {
-        let mut records = Records {
-            plain: Vec::with_capacity(alloc, arcs.len())?,
-            a: Column::new(alloc, a),
-            b: Column::new(alloc, b),
-        };
+        let mut plain = Vec::with_capacity(alloc, arcs.len())?;
+        let mut first = Column::new(alloc, a);
+        let mut second = Column::new(alloc, b);
         for arc in arcs {
-            records.push(arc)?;
+            plain.push(PlainRecord::new(arc.tip, arc.next, arc.len))?;
+            first.push(arc.a)?;
+            second.push(arc.b)?;
         }
-        Ok(records)
+        Ok(Records {
+            plain,
+            a: first,
+            b: second,
+        })
     }
 
     // The number of records.
@@ -80,7 +113,7 @@ impl Records {
 
     // What the utility fields a and b hold.
     pub fn kinds(&self) -> [Kind; 2]
-        ensures { result ≡ self.now.kinds }
+        ensures { result ≡ self.now.a ∷ self.now.b ∷ [] }
     {
         [self.a.kind(), self.b.kind()]
     }
@@ -102,8 +135,8 @@ impl Records {
 
     // Puts a record that leads to v, before the one given, after the others; the utility fields of records are not used.
     pub fn push_plain(&mut self, v: u32, after: Option<usize>, len: i64) -> Result<(), AllocError>
-        requires plain { self.old.kinds ≡ Z ∷ Z ∷ [] }
-        requires small { IfSome after (λ k. k < 2 ^ 64 - 1) }
+        requires plain { (self.old.a ≡ Z) × (self.old.b ≡ Z) }
+        requires small { IfSome after (λ k. k + 1 < 2 ^ 64) }
         ensures ok { OnOk result (self.new ≡ record self.old { items = self.old.items ++ arc_record v after len ∷ [] }) }
         ensures err { OnErr result (self.new ≡ self.old) }
     {
@@ -111,10 +144,29 @@ impl Records {
         Ok(())
     }
 
-    // Takes room for so many records more. They are as before.
-    pub fn reserve(&mut self, more: usize) -> Result<(), AllocError>
-        ensures { self.new ≡ self.old }
+    // Puts two records of this length after the others, or neither: each leads to a vertex, before the record given.
+    pub fn push_pair(
+        &mut self,
+        len: i64,
+        high: u32,
+        after_lower: Option<usize>,
+        low: u32,
+        after_higher: Option<usize>,
+    ) -> Result<(), AllocError>
+        requires plain { (self.old.a ≡ Z) × (self.old.b ≡ Z) }
+        requires lower { IfSome after_lower (λ k. k + 1 < 2 ^ 64) }
+        requires higher { IfSome after_higher (λ k. k + 1 < 2 ^ 64) }
+        ensures ok { OnOk result (self.new ≡ record self.old {
+          items = self.old.items
+              ++ arc_record high after_lower len ∷ arc_record low after_higher len ∷ [];
+        }) }
+        ensures err { OnErr result (self.new ≡ self.old) }
     {
-        self.plain.reserve(more)
+        self.plain.reserve(2)?;
+        self.plain
+            .push(PlainRecord::new(Ref::At(high), after_lower, len))?;
+        self.plain
+            .push(PlainRecord::new(Ref::At(low), after_higher, len))?;
+        Ok(())
     }
 }

@@ -1,9 +1,11 @@
 //! New arcs and edges (GB_GRAPH, gb_new_arc and gb_new_edge).
-ghost use Rattle.std.specs.Prelude.{◌≡◌, ◌<◌, ◌+◌, ◌++◌, [], ◌∷◌, length, min, max, ◌^◌, Some, OnOk, OnErr, IsOkUnless};
+ghost use Rattle.std.specs.Prelude.{◌≡◌, ◌<◌, ◌+◌, ◌++◌, [], ◌∷◌, length, min, max, ◌^◌, Some, IfSome, OnOk, OnErr, IsOkUnless};
 ghost use Rattle.sgb_graph.specs.Growth.{AddsArc, AddsEdge, HasPlainArcs, after_lower, arc_record, at_place, first_arc, with_arcs, with_ends};
+ghost use Rattle.sgb_graph.specs.declared.fields.Kind.TheVariants.{Z};
 
 use super::Graph;
-use crate::fields::{ArcRec, Ref, Util, Vertex};
+use crate::records::Records;
+use crate::vertices::Vertices;
 use sgb_vec::Panic;
 use std::alloc::AllocError;
 
@@ -46,108 +48,73 @@ impl Graph {
 
 // Puts a new record in front of the list of u.
 fn put_arc(
-    vertices: &mut Vec<Vertex>,
-    records: &mut Vec<ArcRec>,
+    vertices: &mut Vertices,
+    records: &mut Records,
     u: u32,
     v: u32,
     len: i64,
 ) -> Result<(), AllocError>
-    requires { u < length vertices.old.items }
-    ensures nodes { OnOk result
-        (vertices.new.items ≡ at_place (with_arcs (Some (length records.old.items))) u vertices.old.items) }
-    ensures arcs { OnOk result
-        (records.new.items ≡ records.old.items ++ arc_record v (first_arc vertices.old.items u) len ∷ []) }
-    ensures nodes_stay { OnErr result (vertices.new.items ≡ vertices.old.items) }
-    ensures arcs_stay { OnErr result (records.new.items ≡ records.old.items) }
+    requires from { u < length vertices.old.items }
+    requires plain { (records.old.a ≡ Z) × (records.old.b ≡ Z) }
+    ensures nodes { OnOk result (vertices.new
+        ≡ record vertices.old { items = at_place (with_arcs (Some (length records.old.items))) u vertices.old.items }) }
+    ensures arcs { OnOk result (records.new
+        ≡ record records.old { items = records.old.items ++ arc_record v (first_arc vertices.old.items u) len ∷ [] }) }
+    ensures room { length records.old.items < 2 ^ 63 }
+    ensures nodes_stay { OnErr result (vertices.new ≡ vertices.old) }
+    ensures arcs_stay { OnErr result (records.new ≡ records.old) }
 {
     let number = records.len();
-    let after = first_of(vertices, u);
-    records.push(record_to(v, after, len))?;
-    set_first(vertices, u, number);
+    let after = vertices.first(u);
+    records.push_plain(v, after, len)?;
+    vertices.set_first(u, number);
     Ok(())
 }
 
 // Puts the two new records of an edge in front of the lists of its ends.
 fn put_edge(
-    vertices: &mut Vec<Vertex>,
-    records: &mut Vec<ArcRec>,
+    vertices: &mut Vertices,
+    records: &mut Records,
     u: u32,
     v: u32,
     len: i64,
 ) -> Result<(), AllocError>
     requires from { u < length vertices.old.items }
     requires to { v < length vertices.old.items }
-    ensures nodes { OnOk result
-        (vertices.new.items
-        ≡ with_ends (length records.old.items) (min u v) (max u v) vertices.old.items) }
-    ensures arcs { OnOk result
-        (records.new.items
-        ≡ records.old.items
-        ++ arc_record (max u v) (after_lower (length records.old.items) vertices.old.items u v) len
-        ∷ arc_record (min u v) (first_arc vertices.old.items (max u v)) len ∷ []) }
-    ensures nodes_stay { OnErr result (vertices.new.items ≡ vertices.old.items) }
-    ensures arcs_stay { OnErr result (records.new.items ≡ records.old.items) }
+    requires plain { (records.old.a ≡ Z) × (records.old.b ≡ Z) }
+    ensures nodes { OnOk result (vertices.new
+        ≡ record vertices.old { items = with_ends (length records.old.items) (min u v) (max u v) vertices.old.items }) }
+    ensures arcs { OnOk result (records.new
+        ≡ record records.old {
+          items = records.old.items
+              ++ arc_record (max u v) (after_lower (length records.old.items) vertices.old.items u v) len
+              ∷ arc_record (min u v) (first_arc vertices.old.items (max u v)) len ∷ [];
+        }) }
+    ensures room { length records.old.items < 2 ^ 63 }
+    ensures nodes_stay { OnErr result (vertices.new ≡ vertices.old) }
+    ensures arcs_stay { OnErr result (records.new ≡ records.old) }
 {
     let low = u.min(v);
     let high = u.max(v);
     let number = records.len();
-    let lower = record_to(high, after_lower(vertices, number, u, v), len);
-    let higher = record_to(low, first_of(vertices, high), len);
-    push_pair(records, lower, higher)?;
-    set_first(vertices, high, number + 1);
-    set_first(vertices, low, number);
+    let after_lower = after_lower(vertices, number, u, v);
+    let after_higher = vertices.first(high);
+    records.push_pair(len, high, after_lower, low, after_higher)?;
+    vertices.set_first(high, number + 1);
+    vertices.set_first(low, number);
     Ok(())
 }
 
 // What follows the lower record of a new edge: where it is a loop, the higher one.
-fn after_lower(vertices: &[Vertex], number: usize, u: u32, v: u32) -> Option<usize>
-    requires from { u < length vertices.now }
-    requires to { v < length vertices.now }
+fn after_lower(vertices: &Vertices, number: usize, u: u32, v: u32) -> Option<usize>
+    requires from { u < length vertices.now.items }
+    requires to { v < length vertices.now.items }
     requires room { number < 2 ^ 63 }
-    ensures { result ≡ after_lower number vertices.now u v }
+    ensures value { result ≡ after_lower number vertices.now.items u v }
+    ensures small { IfSome result (λ k. k + 1 < 2 ^ 64) }
 {
     if u == v {
         return Some(number + 1);
     }
-    first_of(vertices, u.min(v))
-}
-
-// The first record of the list of v.
-fn first_of(vertices: &[Vertex], v: u32) -> Option<usize>
-    requires { v < length vertices.now }
-    ensures { result ≡ first_arc vertices.now v }
-{
-    vertices[v as usize].arcs
-}
-
-// Makes this the first record of the list of v.
-fn set_first(vertices: &mut Vec<Vertex>, v: u32, number: usize)
-    requires { v < length vertices.old.items }
-    ensures { vertices.new.items ≡ at_place (with_arcs (Some number)) v vertices.old.items }
-{
-    vertices[v as usize].arcs = Some(number);
-}
-
-// A record that leads to v, before the one given.
-fn record_to(v: u32, after: Option<usize>, len: i64) -> ArcRec
-    ensures { result ≡ arc_record v after len }
-{
-    ArcRec {
-        tip: Ref::At(v),
-        next: after,
-        len,
-        a: Util::Nothing,
-        b: Util::Nothing,
-    }
-}
-
-// Puts two records after the others, or neither.
-fn push_pair(records: &mut Vec<ArcRec>, lower: ArcRec, higher: ArcRec) -> Result<(), AllocError>
-    ensures ok { OnOk result (records.new.items ≡ records.old.items ++ lower ∷ higher ∷ []) }
-    ensures err { OnErr result (records.new.items ≡ records.old.items) }
-{
-    records.reserve(2)?;
-    records.push(lower)?;
-    records.push(higher)?;
-    Ok(())
+    vertices.first(u.min(v))
 }

@@ -4,14 +4,15 @@ ghost use Rattle.std.specs.Iterator.{YieldsFirst, item_count};
 ghost use Rattle.sgb_graph.specs.Graphs.{chain_of, ends_of, links_of, vertex_of};
 
 use super::Graph;
-use crate::fields::{ArcRec, Link, Ref};
+use crate::fields::{Link, Ref};
+use crate::records::Records;
 use std::marker::Model;
 
 /// The arcs of a vertex, in the order of its list. Contracts see it as the list of the arcs that are still to
 /// come.
 #[derive(Drop)]
 pub struct Arcs<'a> {
-    records: &'a [ArcRec],
+    records: &'a Records,
     next: Option<usize>,
 }
 
@@ -22,9 +23,9 @@ impl<'a> Model for Arcs<'a> {
 
     ghost Value = { List Link };
 
-    ghost view = { λ arcs. links_of arcs.records.now arcs.next };
+    ghost view = { λ arcs. links_of arcs.records.now.items arcs.next };
 
-    ghost invariant = { λ arcs. IsTrue (ends_of arcs.records.now arcs.next) };
+    ghost invariant = { λ arcs. IsTrue (ends_of arcs.records.now.items arcs.next) };
 }
 
 impl Graph {
@@ -38,7 +39,7 @@ impl Graph {
     {
         Arcs {
             records: &self.records,
-            next: self.vertices[v as usize].arcs,
+            next: self.vertices.first(v),
         }
     }
 }
@@ -59,12 +60,12 @@ impl<'a> Iterator for Arcs<'a> {
 }
 
 // The arc of this record, from which the way ends, and the record that follows it.
-fn link_and_next(records: &[ArcRec], number: usize) -> (Link, Option<usize>)
-    requires { IsTrue (ends_of records.now (Some number)) }
-    ensures links { links_of records.now (Some number) ≡ result.0 ∷ links_of records.now result.1 }
-    ensures ends { IsTrue (ends_of records.now result.1) }
+fn link_and_next(records: &Records, number: usize) -> (Link, Option<usize>)
+    requires { IsTrue (ends_of records.now.items (Some number)) }
+    ensures links { links_of records.now.items (Some number) ≡ result.0 ∷ links_of records.now.items result.1 }
+    ensures ends { IsTrue (ends_of records.now.items result.1) }
 {
-    let record = &records[number];
+    let record = records.get(number);
     let link = Link {
         number,
         tip: vertex_of(record.tip),

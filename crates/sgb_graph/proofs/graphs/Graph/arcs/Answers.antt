@@ -1,27 +1,29 @@
 use Rattle.std.proofs.Common.{◌<◌, length, sym, arith}
+use Rattle.sgb_graph.specs.Kept.{kept_graph}
 use Rattle.sgb_graph.proofs.Chains.{length-links}
 use Rattle.sgb_graph.proofs.Tips.{tips_below}
 use Rattle.sgb_graph.proofs.Growing.{parts_of}
-use Rattle.sgb_graph.proofs.AddingArcs.{chain_of_read}
+use Rattle.sgb_graph.proofs.AddingArcs.{chain_of_vertex}
 use Rattle.sgb_graph.proofs.graphs.Graph.arcs.Goals as goal
 
 pub invariant_of-result : goal.invariant_of-result
 invariant_of-result c =
-    rw c.deref.ensures.value
-    (chain_of_read _ c.args.v c.index.result.now (parts_of _ c.self.invariant.graph) (rw (← c.self.view_is) at c.requires) c.index.ensures).ends
+    rw c.first.ensures.value
+    (chain_of_vertex _ c.args.v (parts_of _ c.self.invariant.graph) (rw (← c.self.view_is) at c.requires)).ends
 
 pub returns-clause-chain : goal.returns-clause-chain
 returns-clause-chain c =
-    rw (c.deref.ensures.value, ← c.self.view_is)
-    (sym (chain_of_read _ c.args.v c.index.result.now (parts_of _ c.self.invariant.graph) (rw (← c.self.view_is) at c.requires) c.index.ensures).chain)
+    rw (c.first.ensures.value, ← c.self.view_is)
+    (sym (chain_of_vertex _ c.args.v (parts_of _ c.self.invariant.graph) (rw (← c.self.view_is) at c.requires)).chain)
 
 pub returns-clause-short : goal.returns-clause-short
 returns-clause-short c =
-    rw (c.deref.ensures.value, ← c.self.view_is) (length-links (length c.self.inside.records.items) c.self.inside.records.items c.index.result.now.arcs)
+    rw (← c.self.view_is) (length-links (length c.self.inside.records.items) c.self.inside.records.items c.first.result)
 
 pub returns-clause-tips : goal.returns-clause-tips
 returns-clause-tips c =
     let some : 0 < length c.self.inside.vertices.items = omega (arith, rw (← c.self.view_is) at c.requires) in
     let records = c.self.inside.records.items in
-    rw (c.deref.ensures.value, ← c.self.view_is)
-    (tips_below (length records) (length c.self.inside.vertices.items) (length records) c.self.inside.kinds records c.index.result.now.arcs some (parts_of _ c.self.invariant.graph).records)
+    let kept = kept_graph c.self.inside.id c.self.inside.m c.self.inside.util c.self.inside.vertices c.self.inside.records in
+    rw (← c.self.view_is)
+    (tips_below (length records) (length c.self.inside.vertices.items) (length records) kept.kinds records c.first.result some (parts_of _ c.self.invariant.graph).records)

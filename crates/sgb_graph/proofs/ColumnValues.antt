@@ -1,0 +1,37 @@
+-- Columns: those that are not used, their places, one value more.
+use Rattle.std.proofs.Common.{◌≡◌, ◌<◌, ◌+◌, ℕ, [], ◌∷◌, ◌++◌, length, refl, ap, sym, ◌∙◌, arith, replicate}
+use Rattle.std.proofs.lemmas.List.{length-map, length-replicate, length_push, replicate_more}
+use Rattle.std.proofs.Math.Nat.{add_comm}
+use Rattle.sgb_graph.specs.Columns.{HasPlace, HoldsMany, column_kind, values}
+use Rattle.sgb_graph.specs.declared.columns.Column.{Column}
+use Rattle.sgb_graph.specs.declared.columns.Column.TheVariants.{Unused, Ints, Vertices, Texts, Chains}
+use Rattle.sgb_graph.specs.declared.fields.Kind.TheVariants.{Z}
+use Rattle.sgb_graph.specs.declared.fields.Util.{Util}
+use Rattle.sgb_graph.specs.declared.fields.Util.TheVariants.{Nothing}
+
+-- a column that is not used
+pub unused : (c : Column) → column_kind c ≡ Z → c ≡ Unused
+unused Unused h = refl
+unused (Ints xs) h = cc
+unused (Vertices xs) h = cc
+unused (Texts xs) h = cc
+unused (Chains xs) h = cc
+
+pub HoldsMany-unused : (n : ℕ) (c : Column) → column_kind c ≡ Z → HoldsMany n c
+HoldsMany-unused n c h = rw (unused c h) (length-replicate n Nothing)
+
+-- a column that is not used has any number of values
+pub values-unused : (n : ℕ) (c : Column) → column_kind c ≡ Z → values (1 + n) c ≡ values n c ++ Nothing ∷ []
+values-unused n c h = rw (unused c h) (ap (λ k. replicate k Nothing) (add_comm 1 n) ∙ sym (replicate_more n Nothing))
+
+-- a column of n has each place below n
+pub HasPlace-below : (c : Column) (n k : ℕ) → HoldsMany n c → k < n → HasPlace k c
+HasPlace-below Unused n k h l = omega arith
+HasPlace-below (Ints xs) n k h l = omega (arith, simp length-map at h)
+HasPlace-below (Vertices xs) n k h l = omega (arith, simp length-map at h)
+HasPlace-below (Texts xs) n k h l = omega (arith, simp length-map at h)
+HasPlace-below (Chains xs) n k h l = omega (arith, simp length-map at h)
+
+-- a column of one value more
+pub HoldsMany-push : (n : ℕ) (c c' : Column) (x : Util) → HoldsMany n c → values (1 + n) c' ≡ values n c ++ x ∷ [] → HoldsMany (1 + n) c'
+HoldsMany-push n c c' x h e = omega (arith, ap length e, length_push (values n c) x)

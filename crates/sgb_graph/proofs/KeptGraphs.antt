@@ -1,0 +1,71 @@
+-- Graphs made of vertices and records that are kept: how one with more arcs or with more numbers is made.
+use Rattle.std.proofs.Common.{◌≡◌, ◌<◌, ◌+◌, ◌++◌, ℕ, ℤ, true, List, [], ◌∷◌, length, map, min, max, set, slice_get, slice_index_or, Some, refl, arith}
+use Rattle.sgb_graph.specs.Columns.{util_kind}
+use Rattle.sgb_graph.specs.Graphs.{ends_of, links_of, vertex_of}
+use Rattle.sgb_graph.specs.Growth.{AddsArc, AddsEdge, HasPlainArcs, IsKept, after_lower, arc_record, at_place, first_arc, link, with_arcs, with_ends}
+use Rattle.sgb_graph.specs.Kept.{kept_graph}
+use Rattle.sgb_graph.specs.KeptRecords.{KeptRecords}
+use Rattle.sgb_graph.specs.KeptVertices.{KeptVertices}
+use Rattle.sgb_graph.specs.declared.fields.ArcRec.{ArcRec}
+use Rattle.sgb_graph.specs.declared.fields.Kind.{Kind}
+use Rattle.sgb_graph.specs.declared.fields.Kind.TheVariants.{I, Z}
+use Rattle.sgb_graph.specs.declared.fields.Util.{Util}
+use Rattle.sgb_graph.specs.declared.fields.Util.TheVariants.{Int}
+use Rattle.sgb_graph.proofs.Chains.{step_of}
+use Rattle.sgb_graph.proofs.AddingArcs.{arc_added}
+use Rattle.sgb_graph.proofs.AddingEdges.{edge_added}
+
+-- one arc more, where vertices and records are known to be those
+pub arc_kept : (text : List ℕ) (count : ℕ) (own : List Util) (vertices nodes : KeptVertices) (records arcs : KeptRecords) (u v : ℕ) (far : ℤ)
+    → IsKept (kept_graph text count own vertices records) → HasPlainArcs (kept_graph text count own vertices records) → u < length vertices.items → v < length vertices.items
+    → nodes ≡ record vertices { items = at_place (with_arcs (Some (length records.items))) u vertices.items }
+    → arcs ≡ record records { items = records.items ++ arc_record v (first_arc vertices.items u) far ∷ [] }
+    → AddsArc (kept_graph text count own vertices records) (kept_graph text (count + 1) own nodes arcs) u v far × IsKept (kept_graph text (count + 1) own nodes arcs)
+arc_kept text count own vertices nodes records arcs u v far kept plain u_in v_in are_nodes are_arcs =
+    rw (are_nodes, are_arcs) (arc_added (kept_graph text count own vertices records) u v far kept plain u_in v_in)
+
+-- one edge more, where vertices and records are known to be those
+pub edge_kept : (text : List ℕ) (count : ℕ) (own : List Util) (vertices nodes : KeptVertices) (records arcs : KeptRecords) (u v : ℕ) (far : ℤ)
+    → IsKept (kept_graph text count own vertices records) → HasPlainArcs (kept_graph text count own vertices records) → u < length vertices.items → v < length vertices.items
+    → nodes ≡ record vertices { items = with_ends (length records.items) (min u v) (max u v) vertices.items }
+    → arcs ≡ record records { items = records.items ++ arc_record (max u v) (after_lower (length records.items) vertices.items u v) far ∷ arc_record (min u v) (first_arc vertices.items (max u v)) far ∷ [] }
+    → AddsEdge (kept_graph text count own vertices records) (kept_graph text (count + 2) own nodes arcs) u v far × IsKept (kept_graph text (count + 2) own nodes arcs)
+edge_kept text count own vertices nodes records arcs u v far kept plain u_in v_in are_nodes are_arcs =
+    rw (are_nodes, are_arcs) (edge_added (kept_graph text count own vertices records) u v far kept plain u_in v_in)
+
+-- the kinds of own fields, of which the first becomes a number
+pub uu_kinds_of : (value : ℤ) (own : List Util) → map util_kind (set own 0 (Int value)) ≡ set (map util_kind own) 0 I
+uu_kinds_of value [] = refl
+uu_kinds_of value (u ∷ own) = refl
+
+-- where the fields of records are not used, neither is
+pub plain_kinds : (a b : Kind) → a ∷ b ∷ [] ≡ Z ∷ Z ∷ [] → (a ≡ Z) × (b ≡ Z)
+plain_kinds a b e = (cc, cc)
+
+-- a chain that ends, from the record that is read there
+pub record IsStepTo (records : List ArcRec) (k : ℕ) (r : ArcRec) : Type 0 where
+  pub links : links_of records (Some k) ≡ link k (vertex_of r.tip) r.len ∷ links_of records r.next
+  pub ends : ends_of records r.next ≡ true
+
+pub step_to : (records : List ArcRec) (k : ℕ) (r : ArcRec) → ends_of records (Some k) ≡ true → slice_get records k ≡ Some r → IsStepTo records k r
+step_to records k r ends is =
+    let step = step_of records k ends in
+    let same : step.here ≡ r = cc in
+    let both : IsStepTo records k step.here = record { links = step.links; ends = step.ends } in
+    rw same at both
+
+-- the first six of a list of kinds
+abbrev pub six_kinds : List Kind → List Kind
+six_kinds ks =
+    slice_index_or ks 0 Z ∷ slice_index_or ks 1 Z ∷ slice_index_or ks 2 Z ∷ slice_index_or ks 3 Z ∷ slice_index_or ks 4 Z ∷ slice_index_or ks 5 Z ∷ []
+
+-- six kinds are the first six of them
+pub six_again : (ks : List Kind) → length ks ≡ 6 → six_kinds ks ≡ ks
+six_again [] long = absurd (omega arith)
+six_again (a ∷ []) long = absurd (omega arith)
+six_again (a ∷ b ∷ []) long = absurd (omega arith)
+six_again (a ∷ b ∷ c ∷ []) long = absurd (omega arith)
+six_again (a ∷ b ∷ c ∷ d ∷ []) long = absurd (omega arith)
+six_again (a ∷ b ∷ c ∷ d ∷ e ∷ []) long = absurd (omega arith)
+six_again (a ∷ b ∷ c ∷ d ∷ e ∷ f ∷ []) long = refl
+six_again (a ∷ b ∷ c ∷ d ∷ e ∷ f ∷ g ∷ ks) long = absurd (omega arith)

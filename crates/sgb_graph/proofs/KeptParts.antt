@@ -1,0 +1,92 @@
+-- Parts that make up a graph, as the graph keeps them.
+use Rattle.std.proofs.Common.{◌≡◌, ◌<◌, ◌^◌, ◌∙◌, ◌&&◌, ◌++◌, ℕ, true, List, [], ◌∷◌, length, map, All, get_or, slice_get, slice_index_or, Option, Some, None, IfSome, refl, ap, sym, arith}
+use Rattle.std.proofs.lemmas.Bool.{and_parts}
+use Rattle.std.proofs.lemmas.Option.{slice_get-get_or}
+use Rattle.sgb_graph.specs.Columns.{util_kind}
+use Rattle.sgb_graph.specs.Graphs.{GraphData}
+use Rattle.sgb_graph.specs.Kept.{kept_graph, kinds_kept}
+use Rattle.sgb_graph.specs.KeptRecords.{KeptRecords}
+use Rattle.sgb_graph.specs.KeptVertices.{KeptVertices, kinds_of_vertices}
+use Rattle.sgb_graph.specs.Sound.{IsGraph, arc_kinds, chain_fits, graph_kinds, ref_fits, util_fits, utils_fit, vertex_kinds}
+use Rattle.sgb_graph.specs.declared.fields.ArcRec.{ArcRec}
+use Rattle.sgb_graph.specs.declared.fields.Kind.{Kind}
+use Rattle.sgb_graph.specs.declared.fields.Kind.TheVariants.{Z, I, V, S, A}
+use Rattle.sgb_graph.specs.declared.fields.Util.{Util}
+use Rattle.sgb_graph.specs.declared.fields.Util.TheVariants.{Nothing, Int, Vertex as VertexField, Str, Chain}
+use Rattle.sgb_graph.specs.declared.fields.Vertex.{Vertex}
+use Rattle.sgb_graph.proofs.Fitting.{vertex_fits_in, record_fits_in}
+use Rattle.sgb_graph.proofs.Growing.{HasParts, parts_of}
+use Rattle.sgb_graph.proofs.Lists.{list_all-get}
+
+-- a value that fits a kind is of that kind
+fits_kind : (n m : ℕ) (kind : Kind) (util : Util) → util_fits n m kind util ≡ true → util_kind util ≡ kind
+fits_kind n m Z Nothing e = refl
+fits_kind n m Z (Int i) e = absurd cc
+fits_kind n m Z (VertexField r) e = absurd cc
+fits_kind n m Z (Str s) e = absurd cc
+fits_kind n m Z (Chain first) e = absurd cc
+fits_kind n m I Nothing e = absurd cc
+fits_kind n m I (Int i) e = refl
+fits_kind n m I (VertexField r) e = absurd cc
+fits_kind n m I (Str s) e = absurd cc
+fits_kind n m I (Chain first) e = absurd cc
+fits_kind n m V Nothing e = absurd cc
+fits_kind n m V (Int i) e = absurd cc
+fits_kind n m V (VertexField r) e = refl
+fits_kind n m V (Str s) e = absurd cc
+fits_kind n m V (Chain first) e = absurd cc
+fits_kind n m S Nothing e = absurd cc
+fits_kind n m S (Int i) e = absurd cc
+fits_kind n m S (VertexField r) e = absurd cc
+fits_kind n m S (Str s) e = refl
+fits_kind n m S (Chain first) e = absurd cc
+fits_kind n m A Nothing e = absurd cc
+fits_kind n m A (Int i) e = absurd cc
+fits_kind n m A (VertexField r) e = absurd cc
+fits_kind n m A (Str s) e = absurd cc
+fits_kind n m A (Chain first) e = refl
+
+-- values that fit kinds are of those kinds
+fits_kinds : (n m : ℕ) (kinds : List Kind) (utils : List Util) → utils_fit n m kinds utils ≡ true → map util_kind utils ≡ kinds
+fits_kinds n m [] [] e = refl
+fits_kinds n m [] (u ∷ utils) e = absurd cc
+fits_kinds n m (a ∷ kinds) [] e = absurd cc
+fits_kinds n m (a ∷ kinds) (u ∷ utils) e =
+    let parts = and_parts (util_fits n m a u) (utils_fit n m kinds utils) e in
+    ap (λ k. k ∷ map util_kind utils) (fits_kind n m a u parts.0) ∙ ap (λ ks. a ∷ ks) (fits_kinds n m kinds utils parts.1)
+
+-- a number that fits is small
+fits_small : (m : ℕ) (first : Option ℕ) → m < 2 ^ 63 → chain_fits m first ≡ true → IfSome first (λ k. k < 2 ^ 63)
+fits_small m None few e = tt
+fits_small m (Some k) few e = omega (arith, e)
+
+-- so are the fields of the vertices of a graph, and their first records are small
+pub vertices_of_kinds : (g : GraphData) → IsGraph g → All (λ x. map util_kind x.util ≡ vertex_kinds g.kinds) g.vertices
+vertices_of_kinds g is = λ k d below.
+    let x = get_or g.vertices k d in
+    let fits = list_all-get (vertex_fits_in (length g.vertices) (length g.records) g.kinds) g.vertices k x (parts_of g is).vertices (slice_get-get_or g.vertices k d below) in
+    let parts = and_parts (chain_fits (length g.records) x.arcs) (utils_fit (length g.vertices) (length g.records) (vertex_kinds g.kinds) x.util) fits in
+    fits_kinds (length g.vertices) (length g.records) (vertex_kinds g.kinds) x.util parts.1
+
+pub vertices_of_small : (g : GraphData) → IsGraph g → length g.records < 2 ^ 63 → All (λ x. IfSome x.arcs (λ k. k < 2 ^ 63)) g.vertices
+vertices_of_small g is few = λ k d below.
+    let x = get_or g.vertices k d in
+    let fits = list_all-get (vertex_fits_in (length g.vertices) (length g.records) g.kinds) g.vertices k x (parts_of g is).vertices (slice_get-get_or g.vertices k d below) in
+    let parts = and_parts (chain_fits (length g.records) x.arcs) (utils_fit (length g.vertices) (length g.records) (vertex_kinds g.kinds) x.util) fits in
+    fits_small (length g.records) x.arcs few parts.0
+
+-- a record that fits
+record IsFit (kinds : List Kind) (r : ArcRec) : Type 0 where
+  kinds : util_kind r.a ∷ util_kind r.b ∷ [] ≡ arc_kinds kinds
+  next : IfSome r.next (λ k. k < 2 ^ 63)
+
+record_fit : (g : GraphData) → IsGraph g → length g.records < 2 ^ 63 → (k : ℕ) (d : ArcRec) → k < length g.records → IsFit g.kinds (get_or g.records k d)
+record_fit g is few k d below =
+    let r = get_or g.records k d in
+    let fits = list_all-get (record_fits_in (length g.vertices) (length g.records) g.kinds) g.records k r (parts_of g is).records (slice_get-get_or g.records k d below) in
+    let parts = and_parts (ref_fits (length g.vertices) r.tip && chain_fits (length g.records) r.next) (utils_fit (length g.vertices) (length g.records) (arc_kinds g.kinds) (r.a ∷ r.b ∷ [])) fits in
+    let first = and_parts (ref_fits (length g.vertices) r.tip) (chain_fits (length g.records) r.next) parts.0 in
+    record {
+      kinds = fits_kinds (length g.vertices) (length g.records) (arc_kinds g.kinds) (r.a ∷ r.b ∷ []) parts.1;
+      next = fits_small (length g.records) r.next few first.1;
+    }

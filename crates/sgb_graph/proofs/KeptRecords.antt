@@ -1,0 +1,86 @@
+-- Records as they are kept: how many, each by its place, one more.
+use Rattle.std.proofs.Common.{◌≡◌, ◌<◌, ◌+◌, ℕ, suc, zero, List, [], ◌∷◌, ◌++◌, length, get_or, slice_get, Some, refl, ap, ◌∙◌, arith, append_assoc}
+use Rattle.std.proofs.lemmas.List.{length_push}
+use Rattle.sgb_graph.specs.Columns.{HoldsMany, column_kind, values}
+use Rattle.sgb_graph.specs.KeptRecords.{KeptRecords, kept_number, kept_records, records_with}
+use Rattle.sgb_graph.specs.declared.columns.Column.{Column}
+use Rattle.sgb_graph.specs.declared.fields.ArcRec.{ArcRec}
+use Rattle.sgb_graph.specs.declared.fields.Kind.TheVariants.{Z}
+use Rattle.sgb_graph.specs.declared.fields.Util.{Util}
+use Rattle.sgb_graph.specs.declared.fields.Util.TheVariants.{Nothing}
+use Rattle.sgb_graph.specs.declared.records.PlainRecord.{PlainRecord}
+use Rattle.sgb_graph.proofs.ColumnValues.{HoldsMany-unused, values-unused}
+
+-- a record with its utility fields
+abbrev pub record_with : PlainRecord → Util → Util → ArcRec
+record_with p x y = record { tip = p.tip; next = kept_number p.next; len = p.len; a = x; b = y }
+
+-- so many records as there are values
+pub length-records_with :
+    (ps : List PlainRecord) (xs ys : List Util) → length xs ≡ length ps → length ys ≡ length ps → length (records_with ps xs ys) ≡ length ps
+length-records_with [] xs ys hx hy = refl
+length-records_with (p ∷ ps) [] ys hx hy = absurd (omega arith)
+length-records_with (p ∷ ps) (x ∷ xs) [] hx hy = absurd (omega arith)
+length-records_with (p ∷ ps) (x ∷ xs) (y ∷ ys) hx hy = ap suc (length-records_with ps xs ys (omega arith) (omega arith))
+
+pub length-kept_records :
+    (ps : List PlainRecord) (a b : Column) → HoldsMany (length ps) a → HoldsMany (length ps) b → length (kept_records ps a b).items ≡ length ps
+length-kept_records ps a b ha hb = length-records_with ps (values (length ps) a) (values (length ps) b) ha hb
+
+-- each record by its place
+pub slice_get-records_with :
+    (ps : List PlainRecord) (xs ys : List Util) (k : ℕ) (p : PlainRecord) (x y : Util) → k < length ps → p ≡ get_or ps k p →
+    slice_get xs k ≡ Some x → slice_get ys k ≡ Some y → slice_get (records_with ps xs ys) k ≡ Some (record_with p x y)
+slice_get-records_with [] xs ys k p x y l hp hx hy = absurd (omega arith)
+slice_get-records_with (q ∷ qs) [] ys k p x y l hp hx hy = cc
+slice_get-records_with (q ∷ qs) (u ∷ us) [] k p x y l hp hx hy = cc
+slice_get-records_with (q ∷ qs) (u ∷ us) (v ∷ vs) zero p x y l hp hx hy = cc
+slice_get-records_with (q ∷ qs) (u ∷ us) (v ∷ vs) (suc k) p x y l hp hx hy =
+    slice_get-records_with qs us vs k p x y (omega arith) hp hx hy
+
+-- one record more
+pub records_with-push :
+    (ps : List PlainRecord) (xs ys : List Util) (p : PlainRecord) (x y : Util) → length xs ≡ length ps → length ys ≡ length ps →
+    records_with (ps ++ p ∷ []) (xs ++ x ∷ []) (ys ++ y ∷ []) ≡ records_with ps xs ys ++ record_with p x y ∷ []
+records_with-push [] [] [] p x y hx hy = refl
+records_with-push [] (u ∷ us) ys p x y hx hy = absurd (omega arith)
+records_with-push [] [] (v ∷ vs) p x y hx hy = absurd (omega arith)
+records_with-push (q ∷ qs) [] ys p x y hx hy = absurd (omega arith)
+records_with-push (q ∷ qs) (u ∷ us) [] p x y hx hy = absurd (omega arith)
+records_with-push (q ∷ qs) (u ∷ us) (v ∷ vs) p x y hx hy =
+    ap (λ rs. record_with q u v ∷ rs) (records_with-push qs us vs p x y (omega arith) (omega arith))
+
+pub kept_records-push :
+    (ps : List PlainRecord) (a b a' b' : Column) (p : PlainRecord) (x y : Util) → HoldsMany (length ps) a → HoldsMany (length ps) b →
+    values (1 + length ps) a' ≡ values (length ps) a ++ x ∷ [] → values (1 + length ps) b' ≡ values (length ps) b ++ y ∷ [] →
+    (kept_records (ps ++ p ∷ []) a' b').items ≡ (kept_records ps a b).items ++ record_with p x y ∷ []
+kept_records-push ps a b a' b' p x y ha hb ea eb =
+    let n : length (ps ++ p ∷ []) ≡ 1 + length ps = omega (arith, length_push ps p) in
+    ap (λ n. records_with (ps ++ p ∷ []) (values n a') (values n b')) n
+    ∙ ap (λ xs. records_with (ps ++ p ∷ []) xs (values (1 + length ps) b')) ea
+    ∙ ap (λ ys. records_with (ps ++ p ∷ []) (values (length ps) a ++ x ∷ []) ys) eb
+    ∙ records_with-push ps (values (length ps) a) (values (length ps) b) p x y ha hb
+
+-- a kept record is the one it was made of
+pub record_with-is :
+    (p : PlainRecord) (r : ArcRec) → p.tip ≡ r.tip → kept_number p.next ≡ r.next → p.len ≡ r.len → record_with p r.a r.b ≡ r
+record_with-is p r t n l =
+    ap (λ v. record (record_with p r.a r.b) { tip = v }) t ∙ ap (λ v. record r { next = v; len = p.len }) n ∙ ap (λ v. record r { len = v }) l
+
+-- one record more, and two, where no utility fields are used
+pub kept_records-push_plain :
+    (ps : List PlainRecord) (a b : Column) (p : PlainRecord) (r : ArcRec) → column_kind a ≡ Z → column_kind b ≡ Z → record_with p Nothing Nothing ≡ r →
+    kept_records (ps ++ p ∷ []) a b ≡ record (kept_records ps a b) { items = (kept_records ps a b).items ++ r ∷ [] }
+kept_records-push_plain ps a b p r ha hb e =
+    let n = length ps in
+    let more = kept_records-push ps a b a b p Nothing Nothing (HoldsMany-unused n a ha) (HoldsMany-unused n b hb) (values-unused n a ha) (values-unused n b hb) in
+    ap (λ rs. record (kept_records ps a b) { items = rs }) (more ∙ ap (λ (x : ArcRec). (kept_records ps a b).items ++ x ∷ []) e)
+
+pub kept_records-push_pair :
+    (ps : List PlainRecord) (a b : Column) (p q : PlainRecord) (r s : ArcRec) → column_kind a ≡ Z → column_kind b ≡ Z →
+    record_with p Nothing Nothing ≡ r → record_with q Nothing Nothing ≡ s →
+    kept_records (ps ++ p ∷ [] ++ q ∷ []) a b ≡ record (kept_records ps a b) { items = (kept_records ps a b).items ++ r ∷ s ∷ [] }
+kept_records-push_pair ps a b p q r s ha hb e f =
+    kept_records-push_plain (ps ++ p ∷ []) a b q s ha hb f
+    ∙ ap (λ (d : KeptRecords). record d { items = d.items ++ s ∷ [] }) (kept_records-push_plain ps a b p r ha hb e)
+    ∙ ap (λ rs. record (kept_records ps a b) { items = rs }) (append_assoc (kept_records ps a b).items (r ∷ []) (s ∷ []))
