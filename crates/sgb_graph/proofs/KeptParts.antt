@@ -1,12 +1,13 @@
 -- Parts that make up a graph, as the graph keeps them.
-use Rattle.std.proofs.Common.{◌≡◌, ◌<◌, ◌^◌, ◌∙◌, ◌&&◌, ◌++◌, ℕ, true, List, [], ◌∷◌, length, map, All, get_or, slice_get, slice_index_or, Option, Some, None, IfSome, refl, ap, sym, arith}
-use Rattle.std.proofs.lemmas.Bool.{and_parts}
+use Rattle.std.proofs.Common.{◌≡◌, ◌<◌, ◌≤◌, ◌^◌, ◌∙◌, ◌&&◌, ◌++◌, ℕ, true, List, [], ◌∷◌, length, map, All, get_or, slice_get, slice_index_or, Option, Some, None, IfSome, refl, ap, sym, arith}
+use Rattle.std.proofs.lemmas.Bool.{and_parts, ltb-true}
 use Rattle.std.proofs.lemmas.Option.{slice_get-get_or}
 use Rattle.sgb_graph.specs.Columns.{util_kind}
 use Rattle.sgb_graph.specs.Graphs.{GraphData}
 use Rattle.sgb_graph.specs.Kept.{kept_graph, kinds_kept}
 use Rattle.sgb_graph.specs.KeptRecords.{KeptRecords}
 use Rattle.sgb_graph.specs.KeptVertices.{KeptVertices, kinds_of_vertices}
+use Rattle.sgb_graph.specs.Growth.{graph_data}
 use Rattle.sgb_graph.specs.Sound.{IsGraph, arc_kinds, chain_fits, graph_kinds, ref_fits, util_fits, utils_fit, vertex_kinds}
 use Rattle.sgb_graph.specs.declared.fields.ArcRec.{ArcRec}
 use Rattle.sgb_graph.specs.declared.fields.Kind.{Kind}
@@ -58,7 +59,7 @@ fits_kinds n m (a ∷ kinds) (u ∷ utils) e =
 -- a number that fits is small
 fits_small : (m : ℕ) (first : Option ℕ) → m < 2 ^ 63 → chain_fits m first ≡ true → IfSome first (λ k. k < 2 ^ 63)
 fits_small m None few e = tt
-fits_small m (Some k) few e = omega (arith, e)
+fits_small m (Some k) few e = omega (arith, ltb-true k m e)
 
 -- so are the fields of the vertices of a graph, and their first records are small
 pub vertices_of_kinds : (g : GraphData) → IsGraph g → All (λ x. map util_kind x.util ≡ vertex_kinds g.kinds) g.vertices
@@ -76,8 +77,8 @@ vertices_of_small g is few = λ k d below.
     fits_small (length g.records) x.arcs few parts.0
 
 -- a record that fits
-record IsFit (kinds : List Kind) (r : ArcRec) : Type 0 where
-  kinds : util_kind r.a ∷ util_kind r.b ∷ [] ≡ arc_kinds kinds
+record IsFit (all : List Kind) (r : ArcRec) : Type 0 where
+  kinds : util_kind r.a ∷ util_kind r.b ∷ [] ≡ arc_kinds all
   next : IfSome r.next (λ k. k < 2 ^ 63)
 
 record_fit : (g : GraphData) → IsGraph g → length g.records < 2 ^ 63 → (k : ℕ) (d : ArcRec) → k < length g.records → IsFit g.kinds (get_or g.records k d)
@@ -90,3 +91,49 @@ record_fit g is few k d below =
       kinds = fits_kinds (length g.vertices) (length g.records) (arc_kinds g.kinds) (r.a ∷ r.b ∷ []) parts.1;
       next = fits_small (length g.records) r.next few first.1;
     }
+
+-- fourteen kinds are those of vertices, of arcs and of the graph
+kinds_parted : (kinds : List Kind) → 8 ≤ length kinds → vertex_kinds kinds ++ slice_index_or kinds 6 Z ∷ slice_index_or kinds 7 Z ∷ graph_kinds kinds ≡ kinds
+kinds_parted [] long = absurd (omega arith)
+kinds_parted (a ∷ []) long = absurd (omega arith)
+kinds_parted (a ∷ b ∷ []) long = absurd (omega arith)
+kinds_parted (a ∷ b ∷ c ∷ []) long = absurd (omega arith)
+kinds_parted (a ∷ b ∷ c ∷ d ∷ []) long = absurd (omega arith)
+kinds_parted (a ∷ b ∷ c ∷ d ∷ e ∷ []) long = absurd (omega arith)
+kinds_parted (a ∷ b ∷ c ∷ d ∷ e ∷ f ∷ []) long = absurd (omega arith)
+kinds_parted (a ∷ b ∷ c ∷ d ∷ e ∷ f ∷ g ∷ []) long = absurd (omega arith)
+kinds_parted (a ∷ b ∷ c ∷ d ∷ e ∷ f ∷ g ∷ h ∷ kinds) long = refl
+
+-- those of arcs
+arcs_parted : (kinds : List Kind) → 8 ≤ length kinds → arc_kinds kinds ≡ slice_index_or kinds 6 Z ∷ slice_index_or kinds 7 Z ∷ []
+arcs_parted [] long = absurd (omega arith)
+arcs_parted (a ∷ []) long = absurd (omega arith)
+arcs_parted (a ∷ b ∷ []) long = absurd (omega arith)
+arcs_parted (a ∷ b ∷ c ∷ []) long = absurd (omega arith)
+arcs_parted (a ∷ b ∷ c ∷ d ∷ []) long = absurd (omega arith)
+arcs_parted (a ∷ b ∷ c ∷ d ∷ e ∷ []) long = absurd (omega arith)
+arcs_parted (a ∷ b ∷ c ∷ d ∷ e ∷ f ∷ []) long = absurd (omega arith)
+arcs_parted (a ∷ b ∷ c ∷ d ∷ e ∷ f ∷ g ∷ []) long = absurd (omega arith)
+arcs_parted (a ∷ b ∷ c ∷ d ∷ e ∷ f ∷ g ∷ h ∷ kinds) long = refl
+
+-- so the fields of a record are of the kinds at places 6 and 7, and its next record's number is small
+pub record_of_kinds : (g : GraphData) → IsGraph g → 8 ≤ length g.kinds → length g.records < 2 ^ 63
+    → All (λ r. (util_kind r.a ≡ slice_index_or g.kinds 6 Z) × (util_kind r.b ≡ slice_index_or g.kinds 7 Z)) g.records
+record_of_kinds g is long few = λ k d below.
+    let same = (record_fit g is few k d below).kinds ∙ arcs_parted g.kinds long in
+    (cc, cc)
+
+pub record_of_small : (g : GraphData) → IsGraph g → length g.records < 2 ^ 63 → All (λ r. IfSome r.next (λ k. k < 2 ^ 63)) g.records
+record_of_small g is few = λ k d below. (record_fit g is few k d below).next
+
+-- the graph that keeps the vertices and records of these parts is the graph that they make up
+pub kept_same : (g : GraphData) (vertices : KeptVertices) (records : KeptRecords) → IsGraph g → 8 ≤ length g.kinds
+    → kinds_of_vertices vertices ≡ vertex_kinds g.kinds → vertices.items ≡ g.vertices
+    → records ≡ record { a = slice_index_or g.kinds 6 Z; b = slice_index_or g.kinds 7 Z; items = g.records }
+    → kept_graph g.id g.m g.util vertices records ≡ g
+kept_same g vertices records is long of_kinds nodes arcs =
+    let own = fits_kinds (length g.vertices) (length g.records) (graph_kinds g.kinds) g.util (parts_of g is).util in
+    let first = ap (λ ks. ks ++ slice_index_or g.kinds 6 Z ∷ slice_index_or g.kinds 7 Z ∷ map util_kind g.util) of_kinds in
+    let last = ap (λ ks. vertex_kinds g.kinds ++ slice_index_or g.kinds 6 Z ∷ slice_index_or g.kinds 7 Z ∷ ks) own in
+    rw (arcs, nodes)
+    (ap (λ ks. graph_data g.id g.m ks g.util g.vertices g.records) (first ∙ last ∙ kinds_parted g.kinds long))

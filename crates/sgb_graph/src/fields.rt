@@ -1,5 +1,5 @@
 ghost use Rattle.std.specs.Prelude.{◌≡◌};
-ghost use Rattle.sgb_graph.specs.Columns.{util_kind};
+ghost use Rattle.sgb_graph.specs.Columns.{util_kind, util_seen};
 
 use sgb_vec::Text;
 
@@ -45,6 +45,19 @@ pub enum Util {
 }
 
 impl Util {
+    /// The value, seen where it stands.
+    pub fn seen(&self) -> UtilRef<'_>
+        ensures { util_seen result ≡ self.now }
+    {
+        match self {
+            Util::Nothing => UtilRef::Nothing,
+            Util::Int(number) => UtilRef::Int(*number),
+            Util::Vertex(vertex) => UtilRef::Vertex(*vertex),
+            Util::Str(text) => UtilRef::Str(text),
+            Util::Chain(first) => UtilRef::Chain(*first),
+        }
+    }
+
     // The kind of the value.
     pub(crate) fn kind(&self) -> Kind
         ensures { result ≡ util_kind self.now }

@@ -142,7 +142,8 @@ impl Parts {
 
 // Of the fourteen kinds those of a vertex's fields.
 fn kinds_of_vertices(kinds: &[Kind; 14]) -> [Kind; 6]
-    ensures { result ≡ vertex_kinds kinds.now }
+    ensures kinds { result ≡ vertex_kinds kinds.now }
+    ensures long { length kinds.now ≡ 14 }
 {
     let [u, v, w, x, y, z, ..] = *kinds;
     [u, v, w, x, y, z]

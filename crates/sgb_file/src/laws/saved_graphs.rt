@@ -1,7 +1,8 @@
-ghost use Rattle.std.specs.Prelude.{◌≡◌, ◌<◌, All, length};
+ghost use Rattle.std.specs.Prelude.{◌≡◌, ◌<◌, All, length, map};
+ghost use Rattle.sgb_graph.specs.Columns.{arc_seen, util_seen, vertex_seen};
 ghost use Rattle.sgb_file.specs.Saved.{ArcCanBeSaved, CanBeSaved, ValueCanBeSaved, VertexCanBeSaved, number_limit};
 
-use sgb_graph::{ArcRec, Graph, Kind, Util, Vertex};
+use sgb_graph::{ArcRef, Graph, Kind, UtilRef, VertexRef};
 
 /// Every graph can be saved whose numbers of arcs and of arc records have at most 18 digits (GB_SAVE,
 /// save_graph).
@@ -13,7 +14,7 @@ pub fn graphs_can_be_saved(graph: &Graph)
     // What a type keeps, as that a name is a text, is known of a value that is read. So each part is read once.
     let _n = graph.n();
     let _id = graph.id().bytes();
-    are_fourteen(graph.kinds());
+    are_fourteen(&graph.kinds());
     own_fields_can_be_saved(graph);
     vertices_can_be_saved(graph);
     records_can_be_saved(graph);
@@ -30,7 +31,7 @@ fn own_fields_can_be_saved(graph: &Graph)
     ensures { All ValueCanBeSaved graph.now.util }
 {
     for k in 0..6 {
-        value_can_be_saved(graph.graph_util(k));
+        value_can_be_saved(graph.graph_util(k).seen());
     }
 }
 
@@ -53,42 +54,42 @@ fn records_can_be_saved(graph: &Graph)
 }
 
 // The name and the fields of a vertex can be saved.
-fn vertex_can_be_saved(vertex: &Vertex)
-    ensures { VertexCanBeSaved vertex.now }
+fn vertex_can_be_saved(vertex: VertexRef<'_>)
+    ensures { VertexCanBeSaved (vertex_seen vertex) }
 {
     let _name = vertex.name.bytes();
     values_can_be_saved(&vertex.util);
 }
 
 // The values of a vertex's fields can be saved.
-fn values_can_be_saved(values: &[Util; 6])
-    ensures { All ValueCanBeSaved values.now }
+fn values_can_be_saved(values: &[UtilRef<'_>; 6])
+    ensures { All ValueCanBeSaved (map util_seen values.now) }
 {
     for value in values {
-        value_can_be_saved(value);
+        value_can_be_saved(*value);
     }
 }
 
 // The length and the fields of an arc record can be saved.
-fn arc_can_be_saved(arc: &ArcRec)
-    ensures { ArcCanBeSaved arc.now }
+fn arc_can_be_saved(arc: ArcRef<'_>)
+    ensures { ArcCanBeSaved (arc_seen arc) }
 {
     let _len = arc.len;
-    value_can_be_saved(&arc.a);
-    value_can_be_saved(&arc.b);
+    value_can_be_saved(arc.a);
+    value_can_be_saved(arc.b);
 }
 
 // The value of a field can be saved.
-fn value_can_be_saved(value: &Util)
-    ensures { ValueCanBeSaved value.now }
+fn value_can_be_saved(value: UtilRef<'_>)
+    ensures { ValueCanBeSaved (util_seen value) }
 {
     match value {
-        Util::Int(number) => {
-            let _number = *number;
+        UtilRef::Int(number) => {
+            let _number = number;
         }
-        Util::Str(text) => {
+        UtilRef::Str(text) => {
             let _bytes = text.bytes();
         }
-        Util::Nothing | Util::Vertex(_) | Util::Chain(_) => {}
+        UtilRef::Nothing | UtilRef::Vertex(_) | UtilRef::Chain(_) => {}
     }
 }

@@ -2,21 +2,22 @@
 ghost use Rattle.std.specs.Prelude.{◌≡◌, ◌≤◌, ◌++◌, length, map, codes, decimal, true, false};
 ghost use Rattle.std.specs.Fmt.{signed_decimal};
 ghost use Rattle.std.specs.List.{flat_map};
+ghost use Rattle.sgb_graph.specs.Columns.{util_seen};
 ghost use Rattle.sgb_file.specs.Layouts.{AreLaidOut, IsNextPlaced, IsPlaced, comma_of, has_any, piece_of, stage};
 ghost use Rattle.sgb_file.specs.Saving.{field_texts, pieces_of, quoted, record_number_text, ref_text};
 
 use super::layouts::Layout;
 use crate::devices::{Failed, Sink};
 use itoa::Buffer;
-use sgb_graph::{Ref, Util};
+use sgb_graph::{Ref, UtilRef};
 
 // Lays out the fields that are used, which end the record.
 pub(super) fn put_fields<W: Sink>(
     layout: &mut Layout,
     sink: &mut W,
-    fields: &[&Util],
+    fields: &[UtilRef<'_>],
 ) -> Result<(), Failed>
-    ensures { AreLaidOut (flat_map field_texts (map (λ field. field.now) fields.now)) (stage (W.written sink.old) (W.has_failed sink.old) layout.old) (stage (W.written sink.new) (W.has_failed sink.new) layout.new) result }
+    ensures { AreLaidOut (flat_map field_texts (map util_seen fields.now)) (stage (W.written sink.old) (W.has_failed sink.old) layout.old) (stage (W.written sink.new) (W.has_failed sink.new) layout.new) result }
 {
     for place in 0..fields.len() {
         let more = any_used(&fields[place + 1..]);
@@ -26,11 +27,11 @@ pub(super) fn put_fields<W: Sink>(
 }
 
 // Whether any of the fields is used.
-pub(super) fn any_used(fields: &[&Util]) -> bool
-    ensures { result ≡ has_any (flat_map field_texts (map (λ field. field.now) fields.now)) }
+pub(super) fn any_used(fields: &[UtilRef<'_>]) -> bool
+    ensures { result ≡ has_any (flat_map field_texts (map util_seen fields.now)) }
 {
     for field in fields {
-        if is_used(field) {
+        if is_used(*field) {
             return true;
         }
     }
@@ -38,27 +39,27 @@ pub(super) fn any_used(fields: &[&Util]) -> bool
 }
 
 // Whether the field is used.
-fn is_used(field: &Util) -> bool
-    ensures { result ≡ has_any (field_texts field.now) }
+fn is_used(field: UtilRef<'_>) -> bool
+    ensures { result ≡ has_any (field_texts (util_seen field)) }
 {
-    !matches!(field, Util::Nothing)
+    !matches!(field, UtilRef::Nothing)
 }
 
 // Lays out a field, if it is used; `more` says whether others follow.
 fn put_field<W: Sink>(
     layout: &mut Layout,
     sink: &mut W,
-    field: &Util,
+    field: UtilRef<'_>,
     more: bool,
 ) -> Result<(), Failed>
-    ensures { IsNextPlaced more (field_texts field.now) (stage (W.written sink.old) (W.has_failed sink.old) layout.old) (stage (W.written sink.new) (W.has_failed sink.new) layout.new) result }
+    ensures { IsNextPlaced more (field_texts (util_seen field)) (stage (W.written sink.old) (W.has_failed sink.old) layout.old) (stage (W.written sink.new) (W.has_failed sink.new) layout.new) result }
 {
     match field {
-        Util::Nothing => Ok(()),
-        Util::Int(number) => put_integer(layout, sink, *number, more),
-        Util::Vertex(vertex) => put_ref(layout, sink, *vertex, more),
-        Util::Str(text) => put_string(layout, sink, text.bytes(), more),
-        Util::Chain(first) => put_record_number(layout, sink, *first, more),
+        UtilRef::Nothing => Ok(()),
+        UtilRef::Int(number) => put_integer(layout, sink, number, more),
+        UtilRef::Vertex(vertex) => put_ref(layout, sink, vertex, more),
+        UtilRef::Str(text) => put_string(layout, sink, text.bytes(), more),
+        UtilRef::Chain(first) => put_record_number(layout, sink, first, more),
     }
 }
 

@@ -1,5 +1,6 @@
 //! The records of a file (GB_SAVE, save_graph).
 ghost use Rattle.std.specs.Prelude.{◌≡◌, length, map};
+ghost use Rattle.sgb_graph.specs.Columns.{arc_seen, util_seen, vertex_seen};
 ghost use Rattle.sgb_file.specs.Layouts.{AreLaidOut, stage};
 ghost use Rattle.sgb_file.specs.Saving.{arc_texts, graph_texts, vertex_texts};
 
@@ -8,7 +9,7 @@ use super::fields::{
 };
 use super::layouts::Layout;
 use crate::devices::{Failed, Sink};
-use sgb_graph::{ArcRec, Graph, Util, Vertex};
+use sgb_graph::{ArcRef, Graph, UtilRef, VertexRef};
 
 // Writes the record of the graph.
 pub(super) fn put_graph<W: Sink>(
@@ -27,17 +28,17 @@ pub(super) fn put_graph<W: Sink>(
 }
 
 // The graph's own fields.
-fn graph_fields(graph: &Graph) -> [&Util; 6]
+fn graph_fields(graph: &Graph) -> [UtilRef<'_>; 6]
     requires { length graph.now.util ≡ 6 }
-    ensures { map (λ field. field.now) result ≡ graph.now.util }
+    ensures { map util_seen result ≡ graph.now.util }
 {
     [
-        graph.graph_util(0),
-        graph.graph_util(1),
-        graph.graph_util(2),
-        graph.graph_util(3),
-        graph.graph_util(4),
-        graph.graph_util(5),
+        graph.graph_util(0).seen(),
+        graph.graph_util(1).seen(),
+        graph.graph_util(2).seen(),
+        graph.graph_util(3).seen(),
+        graph.graph_util(4).seen(),
+        graph.graph_util(5).seen(),
     ]
 }
 
@@ -45,25 +46,24 @@ fn graph_fields(graph: &Graph) -> [&Util; 6]
 pub(super) fn put_vertex<W: Sink>(
     layout: &mut Layout,
     sink: &mut W,
-    vertex: &Vertex,
+    vertex: VertexRef<'_>,
 ) -> Result<(), Failed>
-    ensures { AreLaidOut (vertex_texts vertex.now) (stage (W.written sink.old) (W.has_failed sink.old) layout.old) (stage (W.written sink.new) (W.has_failed sink.new) layout.new) result }
+    ensures { AreLaidOut (vertex_texts (vertex_seen vertex)) (stage (W.written sink.old) (W.has_failed sink.old) layout.old) (stage (W.written sink.new) (W.has_failed sink.new) layout.new) result }
 {
-    let fields = vertex.util.each_ref();
     put_string(layout, sink, vertex.name.bytes(), true)?;
-    put_record_number(layout, sink, vertex.arcs, any_used(&fields))?;
-    put_fields(layout, sink, &fields)
+    put_record_number(layout, sink, vertex.arcs, any_used(&vertex.util))?;
+    put_fields(layout, sink, &vertex.util)
 }
 
 // Writes an arc record.
 pub(super) fn put_arc<W: Sink>(
     layout: &mut Layout,
     sink: &mut W,
-    arc: &ArcRec,
+    arc: ArcRef<'_>,
 ) -> Result<(), Failed>
-    ensures { AreLaidOut (arc_texts arc.now) (stage (W.written sink.old) (W.has_failed sink.old) layout.old) (stage (W.written sink.new) (W.has_failed sink.new) layout.new) result }
+    ensures { AreLaidOut (arc_texts (arc_seen arc)) (stage (W.written sink.old) (W.has_failed sink.old) layout.old) (stage (W.written sink.new) (W.has_failed sink.new) layout.new) result }
 {
-    let fields = [&arc.a, &arc.b];
+    let fields = [arc.a, arc.b];
     put_ref(layout, sink, arc.tip, true)?;
     put_record_number(layout, sink, arc.next, true)?;
     put_integer(layout, sink, arc.len, any_used(&fields))?;

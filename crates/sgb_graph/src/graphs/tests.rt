@@ -2,7 +2,7 @@ ghost use Rattle.std.specs.Prelude.{IfOk};
 ghost use Rattle.sgb_graph.specs.Growth.{HasPlainArcs};
 
 use super::Graph;
-use crate::fields::{Kind, Ref, Util};
+use crate::fields::{Kind, Ref, Util, UtilRef};
 use crate::ids::Id;
 use crate::names::Names;
 use sgb_vec::{Panic, Text};
@@ -186,8 +186,8 @@ fn numbered(alloc: Global) -> Result<Graph, Panic> {
 }
 
 // Whether the utility field holds this number.
-fn holds(util: &Util, number: i64) -> bool {
-    matches!(util, Util::Int(held) if *held == number)
+fn holds(util: UtilRef<'_>, number: i64) -> bool {
+    matches!(util, UtilRef::Int(held) if held == number)
 }
 
 // Whether the vertex has these numbers in its fields x, y, z, and nothing in the others.
@@ -195,13 +195,13 @@ fn has_numbers(graph: &Graph, v: u32, numbers: &[i64; 3]) -> bool {
     if v >= graph.n() {
         return false;
     }
-    let fields = &graph.vertex(v).util;
+    let fields = graph.vertex(v).util;
     fields[..3]
         .iter()
-        .all(|field| matches!(field, Util::Nothing))
-        && holds(&fields[3], numbers[0])
-        && holds(&fields[4], numbers[1])
-        && holds(&fields[5], numbers[2])
+        .all(|field| matches!(field, UtilRef::Nothing))
+        && holds(fields[3], numbers[0])
+        && holds(fields[4], numbers[1])
+        && holds(fields[5], numbers[2])
 }
 
 #[test]
@@ -231,7 +231,7 @@ fn the_graph_has_a_number_of_its_own(rt: HostRuntime) {
                 && graph.kinds()[..8].iter().all(|kind| *kind == Kind::Z)
                 && graph.kinds()[8] == Kind::I
                 && graph.kinds()[9..].iter().all(|kind| *kind == Kind::Z)
-                && holds(graph.graph_util(0), -5)
+                && matches!(graph.graph_util(0), Util::Int(-5))
                 && matches!(graph.graph_util(1), Util::Nothing)
         })
     );
