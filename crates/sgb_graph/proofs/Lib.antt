@@ -18,12 +18,14 @@ pub mod ColumnValues
 pub mod KeptGraphs
 pub mod KeptParts
 pub mod KeptRecords
+pub mod KeptVertices
 pub mod ListMembers
 pub mod Lists
 pub mod MarkedWays
 pub mod NewGraphs
 pub mod Numbers
 pub mod OwnNumbers
+pub mod Tables
 pub mod TestLemmas
 pub mod Tips
 pub mod UniformDraws

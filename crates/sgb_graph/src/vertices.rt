@@ -1,10 +1,14 @@
 //! The vertices of a graph, in little memory: integers in the utility fields x, y, z stand in the vertex itself, all
 //! other utility fields beside.
-ghost use Rattle.std.specs.Prelude.{◌≡◌, ◌<◌, ◌+◌, ◌^◌, length, map, slice_get, All, Some, IfOk, IfSome};
-ghost use Rattle.sgb_graph.specs.Columns.{util_kind, vertex_seen};
-ghost use Rattle.sgb_graph.specs.Growth.{at_place, first_arc, new_vertex, with_arcs, with_numbers, with_some_numbers};
-ghost use Rattle.sgb_graph.specs.KeptVertices.{kinds_of_vertices};
+ghost use Rattle.std.specs.Prelude.{◌≡◌, ◌<◌, ◌+◌, ◌^◌, ◌++◌, ℕ, List, [], ◌∷◌, length, map, slice_get, slice_set, All, Some, IfOk, IfSome, OnOk};
+ghost use Rattle.sgb_graph.specs.Columns.{HoldsMany, util_kind, util_seen, values, vertex_seen};
+ghost use Rattle.sgb_graph.specs.Growth.{at_place, first_arc, new_vertex, number_or_zero, with_arcs, with_numbers, with_some_numbers};
+ghost use Rattle.sgb_graph.specs.KeptVertices.{AreKept, HoldNumbers, Keep, TakeNumbers, bare_named, bare_vertex, field_kinds, kinds_of_vertices, numbers_values};
+ghost use Rattle.sgb_graph.specs.declared.fields.Kind.{Kind};
 ghost use Rattle.sgb_graph.specs.declared.fields.Kind.TheVariants.{Z, I};
+ghost use Rattle.sgb_graph.specs.declared.fields.Util.TheVariants.{Int};
+ghost use Rattle.sgb_graph.specs.declared.fields.Vertex.{Vertex};
+ghost use Rattle.sgb_graph.specs.declared.vertices.Numbers.TheVariants.{Inside};
 
 use crate::columns::Column;
 use crate::fields::{Kind, Util, UtilRef, Vertex, VertexRef};
@@ -29,13 +33,9 @@ enum Numbers {
     Beside(Column),
 }
 
-// The number that stands for no record. No list of records is that long.
-const NONE: usize = usize::MAX;
-
-// The vertices of a graph, one after another, and their utility fields beside them.
+// The utility fields of all vertices, each by its kind.
 #[derive(Drop)]
-pub(crate) struct Vertices {
-    plain: Vec<PlainVertex>,
+struct Fields {
     u: Column,
     v: Column,
     w: Column,
@@ -44,15 +44,24 @@ pub(crate) struct Vertices {
     z: Numbers,
 }
 
+// The number that stands for no record. No list of records is that long.
+const NONE: usize = usize::MAX;
+
+// The vertices of a graph, one after another, and their utility fields beside them.
+#[derive(Drop)]
+pub(crate) struct Vertices {
+    plain: Vec<PlainVertex>,
+    fields: Fields,
+}
+
 impl Model for Vertices {
-    ghost use Rattle.std.specs.Prelude.{length};
     ghost use Rattle.sgb_graph.specs.KeptVertices.{AreKept, KeptVertices, kept_vertices};
 
     ghost Value = { KeptVertices };
 
-    ghost view = { λ g. kept_vertices g.plain.items g.u g.v g.w g.x g.y g.z };
+    ghost view = { λ g. kept_vertices g.plain.items g.fields };
 
-    ghost invariant = { λ g. AreKept (length g.plain.items) g.u g.v g.w g.x g.y g.z };
+    ghost invariant = { λ g. AreKept g.plain.items g.fields };
 }
 
 impl Vertices {
@@ -60,9 +69,11 @@ impl Vertices {
     pub fn named(alloc: Global, names: Names) -> Result<Vertices, AllocError>
         ensures { IfOk result (λ vertices. vertices ≡ record { u = Z; v = Z; w = Z; x = Z; y = Z; z = Z; items = map new_vertex names }) }
     {
-        let _gone = names;
-        let _a = alloc;
-        Err(AllocError)
+        let plain = new_vertices(alloc, names)?;
+        Ok(Vertices {
+            plain,
+            fields: Fields::new(alloc, [Kind::Z; 6]),
+        })
     }
 
     // These vertices, whose utility fields u, v, w, x, y, z are of these kinds.
@@ -76,10 +87,12 @@ impl Vertices {
         ensures kinds { IfOk result (λ kept. kinds_of_vertices kept ≡ kinds) }
         ensures items { IfOk result (λ kept. kept.items ≡ vertices.items) }
     {
-        let _gone = vertices;
-        let _a = alloc;
-        let _k = kinds;
-        Err(AllocError)
+        let mut plain = Vec::with_capacity(alloc, vertices.len())?;
+        let mut fields = Fields::new(alloc, kinds);
+        for vertex in vertices {
+            keep(&mut plain, &mut fields, vertex)?;
+        }
+        Ok(Vertices { plain, fields })
     }
 
     // The number of vertices.
@@ -94,14 +107,7 @@ impl Vertices {
     pub fn kinds(&self) -> [Kind; 6]
         ensures { result ≡ kinds_of_vertices self.now }
     {
-        [
-            self.u.kind(),
-            self.v.kind(),
-            self.w.kind(),
-            Kind::Z,
-            Kind::Z,
-            Kind::Z,
-        ]
+        self.fields.kinds()
     }
 
     // The name of vertex `v < n`.
@@ -118,8 +124,7 @@ impl Vertices {
         ensures value { result ≡ first_arc self.now.items v }
         ensures small { IfSome result (λ k. k + 1 < 2 ^ 64) }
     {
-        let k = self.plain[v as usize].arcs;
-        if k == NONE { None } else { Some(k) }
+        self.plain[v as usize].first()
     }
 
     // Makes this the first record of the list of vertex `v < n`.
@@ -136,18 +141,11 @@ impl Vertices {
         requires { v < length self.now.items }
         ensures { slice_get self.now.items v ≡ Some (vertex_seen result) }
     {
-        let k = v as usize;
+        let plain = &self.plain[v as usize];
         VertexRef {
-            name: &self.plain[k].name,
-            arcs: self.first(v),
-            util: [
-                self.u.get(k),
-                self.v.get(k),
-                self.w.get(k),
-                UtilRef::Nothing,
-                UtilRef::Nothing,
-                UtilRef::Nothing,
-            ],
+            name: &plain.name,
+            arcs: plain.first(),
+            util: self.fields.get(&plain.ints, v as usize),
         }
     }
 
@@ -162,6 +160,247 @@ impl Vertices {
           items = at_place (with_numbers x y z) v (map with_some_numbers self.old.items);
         } }
     {
+        use_numbers(&mut self.plain, &mut self.fields);
         self.plain[v as usize].ints = [x, y, z];
+    }
+}
+
+impl PlainVertex {
+    ghost use Rattle.sgb_graph.specs.KeptRecords.{kept_number};
+    ghost use Rattle.sgb_graph.specs.KeptVertices.{number_at};
+
+    // The vertex with this name, first record of its list of arcs, and integers in the fields x, y, z.
+    fn new(name: Text, arcs: Option<usize>, ints: [i64; 3]) -> PlainVertex
+        requires { IfSome arcs (λ k. k + 1 < 2 ^ 64) }
+        ensures name { result.name ≡ name }
+        ensures arcs { kept_number result.arcs ≡ arcs }
+        ensures ints { result.ints ≡ ints }
+    {
+        PlainVertex {
+            name,
+            arcs: arcs.unwrap_or(NONE),
+            ints,
+        }
+    }
+
+    // The first record of its list of arcs.
+    fn first(&self) -> Option<usize>
+        ensures value { result ≡ kept_number self.now.arcs }
+        ensures small { IfSome result (λ k. k + 1 < 2 ^ 64) }
+    {
+        (self.arcs != NONE).then_some(self.arcs)
+    }
+
+    // Puts an integer into the field of this place.
+    fn put(&mut self, place: usize, value: i64)
+        requires { place < 3 }
+        ensures all { self.new ≡ record self.old { ints = slice_set self.old.ints place value } }
+        ensures here { number_at place self.new ≡ value }
+    {
+        self.ints[place] = value;
+    }
+}
+
+impl Numbers {
+    ghost use Rattle.sgb_graph.specs.KeptVertices.{HasNumber, number_at, numbers_kind, numbers_values};
+    ghost use Rattle.sgb_graph.specs.declared.vertices.PlainVertex.{PlainVertex};
+
+    // A field of this kind, with no values yet. It takes no memory.
+    fn new(alloc: Global, kind: Kind) -> Numbers
+        ensures kind { numbers_kind result ≡ kind }
+        ensures none { (place : ℕ) → length (numbers_values place [] result) ≡ 0 }
+    {
+        if kind == Kind::I {
+            Numbers::Inside
+        } else {
+            Numbers::Beside(Column::new(alloc, kind))
+        }
+    }
+
+    // What the field holds.
+    fn kind(&self) -> Kind
+        ensures { result ≡ numbers_kind self.now }
+    {
+        match self {
+            Numbers::Inside => Kind::I,
+            Numbers::Beside(column) => column.kind(),
+        }
+    }
+
+    // Puts a value of the field's kind after the others, or hands out the integer that the vertex is to have.
+    fn push(&mut self, value: Util) -> Result<i64, AllocError>
+        requires { util_kind value ≡ numbers_kind self.old }
+        ensures kind { OnOk result (numbers_kind self.new ≡ numbers_kind self.old) }
+        ensures values { IfOk result (λ i. (place : ℕ) (ps : List PlainVertex) (p : PlainVertex) → number_at place p ≡ i
+            → length (numbers_values place ps self.old) ≡ length ps
+            → numbers_values place (ps ++ p ∷ []) self.new ≡ numbers_values place ps self.old ++ value ∷ []) }
+    {
+        match (self, value) {
+            (Numbers::Beside(column), value) => {
+                column.push(value)?;
+                Ok(0)
+            }
+            (Numbers::Inside, Util::Int(number)) => Ok(number),
+            _ => Ok(0),
+        }
+    }
+
+    // The value of vertex k, which has this integer.
+    fn get(&self, own: i64, k: usize) -> UtilRef<'_>
+        requires { HasNumber k self.now }
+        ensures { (place : ℕ) (ps : List PlainVertex) (p : PlainVertex) → slice_get ps k ≡ Some p → number_at place p ≡ own
+            → length (numbers_values place ps self.now) ≡ length ps
+            → slice_get (numbers_values place ps self.now) k ≡ Some (util_seen result) }
+    {
+        match self {
+            Numbers::Inside => UtilRef::Int(own),
+            Numbers::Beside(column) => column.get(k),
+        }
+    }
+}
+
+impl Fields {
+    ghost use Rattle.sgb_graph.specs.KeptVertices.{AreKept, HaveValues, field_columns, rows, with_row};
+    ghost use Rattle.sgb_graph.specs.declared.vertices.PlainVertex.{PlainVertex};
+
+    // Fields of these kinds, with no values yet. They take no memory.
+    fn new(alloc: Global, kinds: [Kind; 6]) -> Fields
+        ensures kinds { field_kinds result ≡ kinds }
+        ensures none { AreKept [] result }
+    {
+        let [u, v, w, x, y, z] = kinds;
+        Fields {
+            u: Column::new(alloc, u),
+            v: Column::new(alloc, v),
+            w: Column::new(alloc, w),
+            x: Numbers::new(alloc, x),
+            y: Numbers::new(alloc, y),
+            z: Numbers::new(alloc, z),
+        }
+    }
+
+    // What the fields hold.
+    fn kinds(&self) -> [Kind; 6]
+        ensures { result ≡ field_kinds self.now }
+    {
+        [
+            self.u.kind(),
+            self.v.kind(),
+            self.w.kind(),
+            self.x.kind(),
+            self.y.kind(),
+            self.z.kind(),
+        ]
+    }
+
+    // Puts the values of a vertex after the others, and hands out the integers that the vertex is to have.
+    fn push(&mut self, values: [Util; 6]) -> Result<[i64; 3], AllocError>
+        requires { map util_kind values ≡ field_kinds self.old }
+        ensures kinds { OnOk result (field_kinds self.new ≡ field_kinds self.old) }
+        ensures values { IfOk result (λ ints. (ps : List PlainVertex) (p : PlainVertex) → p.ints ≡ ints → AreKept ps self.old
+            → field_columns (ps ++ p ∷ []) self.new ≡ with_row (field_columns ps self.old) values) }
+    {
+        let (u, v, w, x, y, z) = each(values);
+        self.u.push(u)?;
+        self.v.push(v)?;
+        self.w.push(w)?;
+        let first = self.x.push(x)?;
+        let second = self.y.push(y)?;
+        let third = self.z.push(z)?;
+        Ok([first, second, third])
+    }
+
+    // The values of vertex k, which has these integers.
+    fn get(&self, ints: &[i64; 3], k: usize) -> [UtilRef<'_>; 6]
+        requires { HaveValues k self.now }
+        ensures { (ps : List PlainVertex) (p : PlainVertex) → slice_get ps k ≡ Some p → p.ints ≡ ints.now → AreKept ps self.now
+            → slice_get (rows (length ps) (field_columns ps self.now)) k ≡ Some (map util_seen result) }
+    {
+        [
+            self.u.get(k),
+            self.v.get(k),
+            self.w.get(k),
+            self.x.get(ints[0], k),
+            self.y.get(ints[1], k),
+            self.z.get(ints[2], k),
+        ]
+    }
+}
+
+// The six values, each by itself.
+fn each(values: [Util; 6]) -> (Util, Util, Util, Util, Util, Util)
+    ensures { values ≡ result.0 ∷ result.1 ∷ result.2 ∷ result.3 ∷ result.4 ∷ result.5 ∷ [] }
+{
+    let [u, v, w, x, y, z] = values;
+    (u, v, w, x, y, z)
+}
+
+// The vertices of these names, with no arcs.
+fn new_vertices(alloc: Global, names: Names) -> Result<Vec<PlainVertex>, AllocError>
+    ensures { IfOk result (λ plain. map bare_vertex plain.items ≡ map bare_named names) }
+{
+    let mut plain = Vec::with_capacity(alloc, names.len())?;
+    for name in names.into_texts() {
+        plain.push(PlainVertex::new(name, None, [0; 3]))?;
+    }
+    Ok(plain)
+}
+
+// Puts a vertex after the others.
+fn keep(plain: &mut Vec<PlainVertex>, fields: &mut Fields, vertex: Vertex) -> Result<(), AllocError>
+    requires kinds { map util_kind vertex.util ≡ field_kinds fields.old }
+    requires arcs { IfSome vertex.arcs (λ k. k + 1 < 2 ^ 64) }
+    ensures { OnOk result ((kinds : List Kind) (items : List Vertex) → Keep plain.old.items fields.old kinds items
+        → Keep plain.new.items fields.new kinds (items ++ vertex ∷ [])) }
+{
+    let Vertex { name, arcs, util } = vertex;
+    let ints = fields.push(util)?;
+    plain.push(PlainVertex::new(name, arcs, ints))?;
+    Ok(())
+}
+
+// Makes the fields x, y, z hold integers, which stand in the vertices: 0 where a vertex had none.
+fn use_numbers(plain: &mut [PlainVertex], fields: &mut Fields)
+    requires { AreKept plain.old fields.old }
+    ensures { HoldNumbers plain.old fields.old plain.new fields.new }
+{
+    take_numbers(plain, 0, &mut fields.x);
+    take_numbers(plain, 1, &mut fields.y);
+    take_numbers(plain, 2, &mut fields.z);
+}
+
+// Makes the field of this place hold integers, which stand in the vertices: 0 where a vertex had none. Where it holds
+// integers already, nothing changes.
+fn take_numbers(plain: &mut [PlainVertex], place: usize, field: &mut Numbers)
+    requires place { place < 3 }
+    requires whole { length (numbers_values place plain.old field.old) ≡ length plain.old }
+    ensures field { field.new ≡ Inside }
+    ensures plain { TakeNumbers place plain.old plain.new (numbers_values place plain.old field.old) }
+{
+    let Numbers::Beside(column) = field else {
+        return;
+    };
+    copy_numbers(plain, place, column);
+    *field = Numbers::Inside;
+}
+
+// Puts the integers of a column into the field of this place: 0 where it has none.
+fn copy_numbers(plain: &mut [PlainVertex], place: usize, column: &Column)
+    requires place { place < 3 }
+    requires whole { HoldsMany (length plain.old) column.now }
+    ensures { TakeNumbers place plain.old plain.new (values (length plain.old) column.now) }
+{
+    for k in 0..plain.len() {
+        plain[k].put(place, own_number(column.get(k)));
+    }
+}
+
+// The integer that the value is, or 0.
+fn own_number(value: UtilRef<'_>) -> i64
+    ensures { number_or_zero (util_seen value.entry) ≡ Int result }
+{
+    match value {
+        UtilRef::Int(number) => number,
+        _ => 0,
     }
 }

@@ -1,0 +1,544 @@
+-- What is kept of vertices, and what is seen of it.
+use Rattle.std.proofs.Common.{◌≡◌, ◌≢◌, ◌<◌, ◌≤◌, ◌+◌, ◌-◌, ◌^◌, ℕ, zero, suc, ℤ, pos, Option, Some, None, List, [], ◌∷◌, ◌++◌, length, map, replicate, get_or, set, take, refl, ap, sym, subst, ◌∙◌, arith}
+use Rattle.std.specs.Prelude.{slice_get, option_map}
+use Rattle.std.specs.Option.{option_and_then}
+use Rattle.std.proofs.Math.Seq.{map-set_same}
+use Rattle.std.proofs.Math.ListN.{get_or-map}
+use Rattle.std.proofs.lemmas.Bool.Decides.{nat_tests}
+use Rattle.std.proofs.lemmas.List.{length-append, length-map, length_push, length-replicate, length-set, map-append, map-set, get_or-set_other, take_all, take_more, take_more_set}
+use Rattle.std.proofs.lemmas.Option.{get_or_from_slice_get, slice_get-map, slice_get_within}
+use Rattle.sgb_graph.specs.Columns.{HasPlace, HoldsMany, column_kind, util_kind, values}
+use Rattle.sgb_graph.specs.Growth.{at_place, first_arc, new_vertex, number_or_zero, put_numbers, some_numbers, with_arcs, with_number_kinds, with_numbers, with_some_numbers}
+use Rattle.sgb_graph.specs.KeptRecords.{kept_number}
+use Rattle.sgb_graph.specs.KeptVertices.{AreColumns, AreKept, HasNumber, HaveValues, HoldNumbers, Keep, TakeNumbers, bare_named, bare_vertex, field_columns, field_kinds, kept_items, kept_vertices, number_at, numbers_kind, numbers_values, rows, with_fields, with_row}
+use Rattle.sgb_graph.specs.Made.{no_fields}
+use Rattle.sgb_graph.specs.declared.columns.Column.{Column}
+use Rattle.sgb_graph.specs.declared.columns.Column.TheVariants.{Unused, Ints, Vertices, Texts, Chains}
+use Rattle.sgb_graph.specs.declared.fields.Kind.{Kind}
+use Rattle.sgb_graph.specs.declared.fields.Kind.TheVariants.{Z, I, V, S, A}
+use Rattle.sgb_graph.specs.declared.fields.Util.{Util}
+use Rattle.sgb_graph.specs.declared.fields.Util.TheVariants.{Nothing, Int, Vertex as VertexField, Str, Chain}
+use Rattle.sgb_graph.specs.declared.fields.Vertex.{Vertex}
+use Rattle.sgb_graph.specs.declared.vertices.Fields.{Fields}
+use Rattle.sgb_graph.specs.declared.vertices.Numbers.{Numbers}
+use Rattle.sgb_graph.specs.declared.vertices.Numbers.TheVariants.{Inside, Beside}
+use Rattle.sgb_graph.specs.declared.vertices.PlainVertex.{PlainVertex}
+use Rattle.sgb_graph.proofs.Lists.{at_place-is_set, length-at_place, map-map}
+use Rattle.sgb_graph.proofs.Tables.{IsRow, at_place-at_place, at_place-same, at_place-set, length-rows, row_at, rows-at, rows-map, rows-push, rows-replicate}
+
+-- as many vertices as before
+length-with_fields : (xs : List Vertex) (rs : List (List Util)) → length xs ≡ length rs → length (with_fields xs rs) ≡ length xs
+length-with_fields [] [] e = refl
+length-with_fields [] (r ∷ rs) e = refl
+length-with_fields (x ∷ xs) [] e = absurd (omega (arith, e))
+length-with_fields (x ∷ xs) (r ∷ rs) e = ap suc (length-with_fields xs rs (omega (arith, e)))
+
+-- as many rows as vertices
+same_length : (ps : List PlainVertex) (f : Fields) → AreKept ps f → length (map bare_vertex ps) ≡ length (rows (length ps) (field_columns ps f))
+same_length ps f kept = length-map ps bare_vertex ∙ sym (length-rows (length ps) (field_columns ps f) kept)
+
+-- the number of vertices that are seen
+pub length-kept : (ps : List PlainVertex) (f : Fields) → AreKept ps f → length (kept_items ps f) ≡ length ps
+length-kept ps f kept =
+    length-with_fields (map bare_vertex ps) (rows (length ps) (field_columns ps f)) (same_length ps f kept) ∙ length-map ps bare_vertex
+
+-- a vertex with its fields
+with_fields_at : (xs : List Vertex) (rs : List (List Util)) (k : ℕ) (x : Vertex) (r : List Util) → slice_get xs k ≡ Some x → slice_get rs k ≡ Some r → slice_get (with_fields xs rs) k ≡ Some (record x { util = r })
+with_fields_at [] rs k x r one other = absurd cc
+with_fields_at (a ∷ xs) [] k x r one other = absurd cc
+with_fields_at (a ∷ xs) (b ∷ rs) zero x r one other =
+    let same : a ≡ x = cc in
+    let also : b ≡ r = cc in
+    rw (same, also) refl
+with_fields_at (a ∷ xs) (b ∷ rs) (suc k) x r one other = with_fields_at xs rs k x r one other
+
+-- a vertex that is seen
+pub kept_at : (ps : List PlainVertex) (f : Fields) (k : ℕ) (p : PlainVertex) (r : List Util) → slice_get ps k ≡ Some p → slice_get (rows (length ps) (field_columns ps f)) k ≡ Some r → slice_get (kept_items ps f) k ≡ Some (record (bare_vertex p) { util = r })
+kept_at ps f k p r one other =
+    with_fields_at (map bare_vertex ps) (rows (length ps) (field_columns ps f)) k (bare_vertex p) r (slice_get-map bare_vertex ps k ∙ ap (option_map bare_vertex) one) other
+
+-- what does not depend on the fields
+with_fields-other : {Y : Type 0} (h : Vertex → Y) (xs : List Vertex) (rs : List (List Util)) → ((x : Vertex) (r : List Util) → h (record x { util = r }) ≡ h x) → length xs ≡ length rs → map h (with_fields xs rs) ≡ map h xs
+with_fields-other h [] rs other e = refl
+with_fields-other h (x ∷ xs) [] other e = absurd (omega (arith, e))
+with_fields-other h (x ∷ xs) (r ∷ rs) other e =
+    ap (λ y. y ∷ map h (with_fields xs rs)) (other x r) ∙ ap (λ ys. h x ∷ ys) (with_fields-other h xs rs other (omega (arith, e)))
+
+-- the names
+pub kept_names : (ps : List PlainVertex) (f : Fields) → AreKept ps f → map (λ x. x.name) (kept_items ps f) ≡ map (λ p. p.name) ps
+kept_names ps f kept =
+    with_fields-other (λ x. x.name) (map bare_vertex ps) (rows (length ps) (field_columns ps f)) (λ x r. refl) (same_length ps f kept)
+    ∙ map-map (λ x. x.name) bare_vertex ps
+
+-- the first records
+kept_firsts : (ps : List PlainVertex) (f : Fields) → AreKept ps f → map (λ x. x.arcs) (kept_items ps f) ≡ map (λ p. kept_number p.arcs) ps
+kept_firsts ps f kept =
+    with_fields-other (λ x. x.arcs) (map bare_vertex ps) (rows (length ps) (field_columns ps f)) (λ x r. refl) (same_length ps f kept)
+    ∙ map-map (λ x. x.arcs) bare_vertex ps
+
+-- the first record of a vertex, out of the list of all
+first_of : (vertices : List Vertex) (v : ℕ) (first : Option ℕ) → slice_get (map (λ x. x.arcs) vertices) v ≡ Some first → first_arc vertices v ≡ first
+first_of vertices v first is = by_vertex (slice_get vertices v) (sym (slice_get-map (λ x. x.arcs) vertices v) ∙ is)
+  where
+    by_vertex : (o : Option Vertex) → option_map (λ (x : Vertex). x.arcs) o ≡ Some first → option_and_then (λ (x : Vertex). x.arcs) o ≡ first
+    by_vertex None e = absurd cc
+    by_vertex (Some x) e = cc
+
+-- that of a vertex that is kept
+pub kept_first : (ps : List PlainVertex) (f : Fields) (v : ℕ) (p : PlainVertex) → AreKept ps f → slice_get ps v ≡ Some p → first_arc (kept_items ps f) v ≡ kept_number p.arcs
+kept_first ps f v p kept is =
+    first_of (kept_items ps f) v (kept_number p.arcs)
+    (ap (λ fs. slice_get fs v) (kept_firsts ps f kept) ∙ (slice_get-map (λ (q : PlainVertex). kept_number q.arcs) ps v ∙ ap (option_map (λ (q : PlainVertex). kept_number q.arcs)) is))
+
+-- its name
+pub kept_name : (ps : List PlainVertex) (f : Fields) (v : ℕ) (p : PlainVertex) → AreKept ps f → slice_get ps v ≡ Some p → slice_get (map (λ x. x.name) (kept_items ps f)) v ≡ Some p.name
+kept_name ps f v p kept is =
+    ap (λ names. slice_get names v) (kept_names ps f kept) ∙ (slice_get-map (λ (q : PlainVertex). q.name) ps v ∙ ap (option_map (λ (q : PlainVertex). q.name)) is)
+
+-- a column has each place
+has_place : (n k : ℕ) (c : Column) → length (values n c) ≡ n → k < n → HasPlace k c
+has_place n k Unused whole below = omega arith
+has_place n k (Ints xs) whole below = omega (arith, length-map xs.items (λ i. Int i))
+has_place n k (Vertices xs) whole below = omega (arith, length-map xs.items (λ r. VertexField r))
+has_place n k (Texts xs) whole below = omega (arith, length-map xs.items (λ text. Str text))
+has_place n k (Chains xs) whole below = omega (arith, length-map xs.items (λ first. Chain first))
+
+-- so has a field x, y or z
+has_number : (place : ℕ) (ps : List PlainVertex) (k : ℕ) (f : Numbers) → length (numbers_values place ps f) ≡ length ps → k < length ps → HasNumber k f
+has_number place ps k Inside whole below = omega arith
+has_number place ps k (Beside column) whole below = has_place (length ps) k column whole below
+
+-- and all fields
+pub have_values : (ps : List PlainVertex) (k : ℕ) (f : Fields) → AreKept ps f → k < length ps → HaveValues k f
+have_values ps k f kept below = record {
+  u = has_place (length ps) k f.u kept.0 below;
+  v = has_place (length ps) k f.v kept.1.0 below;
+  w = has_place (length ps) k f.w kept.1.1.0 below;
+  x = has_number 0 ps k f.x kept.1.1.1.0 below;
+  y = has_number 1 ps k f.y kept.1.1.1.1.0 below;
+  z = has_number 2 ps k f.z kept.1.1.1.1.1.0 below;
+}
+
+-- a column that is not used
+unused_values : (n : ℕ) (c : Column) → column_kind c ≡ Z → values n c ≡ replicate n Nothing
+unused_values n Unused e = refl
+unused_values n (Ints xs) e = absurd cc
+unused_values n (Vertices xs) e = absurd cc
+unused_values n (Texts xs) e = absurd cc
+unused_values n (Chains xs) e = absurd cc
+
+-- a field x, y or z that is not used
+unused_numbers : (place : ℕ) (ps : List PlainVertex) (f : Numbers) → numbers_kind f ≡ Z → numbers_values place ps f ≡ replicate (length ps) Nothing
+unused_numbers place ps Inside e = absurd cc
+unused_numbers place ps (Beside column) e = unused_values (length ps) column e
+
+-- vertices without fields
+with_no_fields : (names : List (List ℕ)) → with_fields (map bare_named names) (replicate (length names) no_fields) ≡ map new_vertex names
+with_no_fields [] = refl
+with_no_fields (x ∷ names) = ap (λ vertices. new_vertex x ∷ vertices) (with_no_fields names)
+
+-- columns of one element
+replicate_whole : {X : Type 0} (n k : ℕ) (x : X) → AreColumns n (replicate k (replicate n x))
+replicate_whole n zero x = tt
+replicate_whole n (suc k) x = (length-replicate n x, replicate_whole n k x)
+
+-- fields that are not used
+pub unused_columns : (ps : List PlainVertex) (f : Fields) → field_kinds f ≡ replicate 6 Z → field_columns ps f ≡ replicate 6 (replicate (length ps) Nothing)
+unused_columns ps f e =
+    let n = length ps in
+    let u : column_kind f.u ≡ Z = cc in
+    let v : column_kind f.v ≡ Z = cc in
+    let w : column_kind f.w ≡ Z = cc in
+    let x : numbers_kind f.x ≡ Z = cc in
+    let y : numbers_kind f.y ≡ Z = cc in
+    let z : numbers_kind f.z ≡ Z = cc in
+    rw (unused_values n f.u u, unused_values n f.v v, unused_values n f.w w, unused_numbers 0 ps f.x x, unused_numbers 1 ps f.y y, unused_numbers 2 ps f.z z) refl
+
+-- they are kept
+pub unused_kept : (ps : List PlainVertex) (f : Fields) → field_kinds f ≡ replicate 6 Z → AreKept ps f
+unused_kept ps f e = subst (AreColumns (length ps)) (sym (unused_columns ps f e)) (replicate_whole (length ps) 6 Nothing)
+
+-- and vertices of names are seen
+pub unused_items : (ps : List PlainVertex) (f : Fields) (names : List (List ℕ)) → field_kinds f ≡ replicate 6 Z → map bare_vertex ps ≡ map bare_named names → kept_items ps f ≡ map new_vertex names
+unused_items ps f names e bare =
+    let count : length ps ≡ length names = sym (length-map ps bare_vertex) ∙ (ap length bare ∙ length-map names bare_named) in
+    ap (λ columns. with_fields (map bare_vertex ps) (rows (length ps) columns)) (unused_columns ps f e)
+    ∙ (ap (with_fields (map bare_vertex ps)) (rows-replicate (length ps) 6 Nothing)
+    ∙ (rw (bare, count) (with_no_fields names)))
+
+-- columns that are the same
+pub columns_kept : (n m : ℕ) (columns others : List (List Util)) → m ≡ n → others ≡ columns → AreColumns n columns → AreColumns m others
+columns_kept n m columns others count same kept =
+    subst (λ k. AreColumns k others) (sym count) (subst (AreColumns n) (sym same) kept)
+
+-- and what is seen of them
+pub same_table : (xs ys : List Vertex) (m n : ℕ) (columns others : List (List Util)) → xs ≡ ys → m ≡ n → columns ≡ others → with_fields xs (rows m columns) ≡ with_fields ys (rows n others)
+same_table xs ys m n columns others bare count same =
+    ap (λ zs. with_fields zs (rows m columns)) bare ∙ (ap (λ k. with_fields ys (rows k columns)) count ∙ ap (λ cs. with_fields ys (rows n cs)) same)
+
+-- another first record of a vertex
+with_fields-arcs : (first : Option ℕ) (v : ℕ) (xs : List Vertex) (rs : List (List Util)) → with_fields (at_place (with_arcs first) v xs) rs ≡ at_place (with_arcs first) v (with_fields xs rs)
+with_fields-arcs first v [] rs = refl
+with_fields-arcs first zero (x ∷ xs) [] = refl
+with_fields-arcs first zero (x ∷ xs) (r ∷ rs) = refl
+with_fields-arcs first (suc v) (x ∷ xs) [] = refl
+with_fields-arcs first (suc v) (x ∷ xs) (r ∷ rs) = ap (λ ys. record x { util = r } ∷ ys) (with_fields-arcs first v xs rs)
+
+-- the numbers of vertices of which one is exchanged for one with the same numbers
+same_numbers : (place v : ℕ) (ps : List PlainVertex) (p q : PlainVertex) (f : Numbers) → p ≡ get_or ps v p → q.ints ≡ p.ints → numbers_values place (set ps v q) f ≡ numbers_values place ps f
+same_numbers place v ps p q Inside here ints =
+    map-set_same (λ (x : PlainVertex). Int (number_at place x)) ps v q p (rw (ints, ← here) refl)
+same_numbers place v ps p q (Beside column) here ints = ap (λ n. values n column) (length-set ps v q)
+
+-- the fields then stay
+same_columns : (v : ℕ) (ps : List PlainVertex) (p q : PlainVertex) (f : Fields) → p ≡ get_or ps v p → q.ints ≡ p.ints → field_columns (set ps v q) f ≡ field_columns ps f
+same_columns v ps p q f here ints =
+    rw (length-set ps v q, same_numbers 0 v ps p q f.x here ints, same_numbers 1 v ps p q f.y here ints, same_numbers 2 v ps p q f.z here ints) refl
+
+-- a number that stands for a record
+pub kept_number_is : (k : ℕ) → k + 1 < 2 ^ 64 → kept_number k ≡ Some k
+kept_number_is k small = grind (arith, nat_tests)
+
+-- another first record
+pub first_kept : (v k : ℕ) (ps : List PlainVertex) (p : PlainVertex) (f : Fields) → p ≡ get_or ps v p → AreKept ps f → AreKept (set ps v (record p { arcs = k })) f
+first_kept v k ps p f here kept =
+    let q : PlainVertex = record p { arcs = k } in
+    columns_kept (length ps) (length (set ps v q)) (field_columns ps f) (field_columns (set ps v q) f)
+    (length-set ps v q) (same_columns v ps p q f here refl) kept
+
+-- is what is seen
+pub first_put : (v k : ℕ) (ps : List PlainVertex) (p : PlainVertex) (f : Fields) → v < length ps → p ≡ get_or ps v p → k + 1 < 2 ^ 64 → kept_items (set ps v (record p { arcs = k })) f ≡ at_place (with_arcs (Some k)) v (kept_items ps f)
+first_put v k ps p f below here small =
+    let q : PlainVertex = record p { arcs = k } in
+    let same : bare_vertex q ≡ with_arcs (Some k) (bare_vertex p) = ap (λ first. with_arcs first (bare_vertex p)) (kept_number_is k small) in
+    let within : v < length (map bare_vertex ps) = omega (arith, length-map ps bare_vertex) in
+    let there : bare_vertex p ≡ get_or (map bare_vertex ps) v (bare_vertex p) = ap bare_vertex here ∙ sym (get_or-map bare_vertex ps v p) in
+    let bare : map bare_vertex (set ps v q) ≡ at_place (with_arcs (Some k)) v (map bare_vertex ps) =
+    map-set bare_vertex ps v q ∙ (ap (set (map bare_vertex ps) v) same ∙ at_place-is_set (with_arcs (Some k)) v (map bare_vertex ps) (bare_vertex p) within there) in
+    same_table (map bare_vertex (set ps v q)) (at_place (with_arcs (Some k)) v (map bare_vertex ps)) (length (set ps v q)) (length ps)
+    (field_columns (set ps v q) f) (field_columns ps f) bare (length-set ps v q) (same_columns v ps p q f here refl)
+    ∙ (with_fields-arcs (Some k) v (map bare_vertex ps) (rows (length ps) (field_columns ps f)))
+
+-- the numbers of the first k vertices are taken, all else stays
+pub record TakenSoFar (place k : ℕ) (old new : List PlainVertex) (found : List Util) : Type 0 where
+  pub bare : map bare_vertex new ≡ map bare_vertex old
+  pub here : take k (map (λ p. Int (number_at place p)) new) ≡ take k (map number_or_zero found)
+  pub others : (q : ℕ) → q ≢ place → map (number_at q) new ≡ map (number_at q) old
+
+-- none are
+pub taken_none : (place : ℕ) (ps : List PlainVertex) (found : List Util) → TakenSoFar place 0 ps ps found
+taken_none place ps found = record { bare = refl; here = refl; others = λ q other. refl }
+
+-- one more is
+pub taken_more : (place k : ℕ) (value : ℤ) (old new : List PlainVertex) (p q : PlainVertex) (found : List Util) (u : Util) → k < length new → q ≡ record (get_or new k p) { ints = set (get_or new k p).ints place value } → number_at place q ≡ value
+    → slice_get found k ≡ Some u → number_or_zero u ≡ Int value → TakenSoFar place k old new found → TakenSoFar place (k + 1) old (set new k q) found
+taken_more place k value old new p q found u below is at given some so_far = record {
+  bare = map-set_same bare_vertex new k q p (rw is refl) ∙ so_far.bare;
+  here = taken;
+  others = λ j other. map-set_same (number_at j) new k q p (kept j other) ∙ so_far.others j other;
+}
+  where
+    kept : (j : ℕ) → j ≢ place → number_at j q ≡ number_at j (get_or new k p)
+    kept j other = rw is (get_or-set_other (get_or new k p).ints place j value (pos 0) other)
+
+    f : PlainVertex → Util
+    f x = Int (number_at place x)
+
+    now : take (k + 1) (map f (set new k q)) ≡ take k (map f new) ++ Int value ∷ []
+    now =
+        ap (take (k + 1)) (map-set f new k q)
+        ∙ (take_more_set (map f new) k (f q) (omega (arith, below, length-map new f))
+        ∙ ap (λ i. take k (map f new) ++ Int i ∷ []) at)
+
+    within : k < length (map number_or_zero found)
+    within = omega (arith, slice_get_within found k u given, length-map found number_or_zero)
+
+    found_here : get_or (map number_or_zero found) k (number_or_zero u) ≡ Int value
+    found_here =
+        get_or-map number_or_zero found k u ∙ (ap number_or_zero (get_or_from_slice_get found k u u given) ∙ some)
+
+    taken : take (k + 1) (map f (set new k q)) ≡ take (k + 1) (map number_or_zero found)
+    taken =
+        now
+        ∙ (ap (λ us. us ++ Int value ∷ []) so_far.here
+        ∙ (ap (λ w. take k (map number_or_zero found) ++ w ∷ []) (sym found_here) ∙ sym (take_more (map number_or_zero found) k (number_or_zero u) within)))
+
+-- all are
+pub taken_all : (place k : ℕ) (old new : List PlainVertex) (found : List Util) → k ≡ length new → k ≡ length found → TakenSoFar place k old new found → TakeNumbers place old new found
+taken_all place k old new found all also so_far =
+    let f : PlainVertex → Util = λ p. Int (number_at place p) in
+    let one : length (map f new) ≤ k = omega (arith, all, length-map new f) in
+    let other : length (map number_or_zero found) ≤ k = omega (arith, also, length-map found number_or_zero) in
+    record {
+      bare = so_far.bare;
+      here = sym (take_all k (map f new) one) ∙ (so_far.here ∙ take_all k (map number_or_zero found) other);
+      others = so_far.others;
+    }
+
+-- numbers that stand in the vertices already
+pub numbers_inside : (place : ℕ) (ps : List PlainVertex) → TakeNumbers place ps ps (numbers_values place ps Inside)
+numbers_inside place ps = record {
+  bare = refl;
+  here = sym (map-map number_or_zero (λ (p : PlainVertex). Int (number_at place p)) ps);
+  others = λ q other. refl;
+}
+
+-- numbers of another place stay
+pub other_numbers : (place q : ℕ) (old new : List PlainVertex) (found : List Util) (f : Numbers) → TakeNumbers place old new found → q ≢ place → numbers_values q new f ≡ numbers_values q old f
+other_numbers place q old new found Inside taken other =
+    sym (map-map (λ i. Int i) (number_at q) new) ∙ (ap (map (λ i. Int i)) (taken.others q other) ∙ map-map (λ i. Int i) (number_at q) old)
+other_numbers place q old new found (Beside column) taken other =
+    ap (λ n. values n column) (sym (length-map new bare_vertex) ∙ (ap length taken.bare ∙ length-map old bare_vertex))
+
+-- the vertices after the numbers of x, y and z are taken
+pub all_taken : (f : Fields) (old one two new : List PlainVertex) → TakeNumbers 0 old one (numbers_values 0 old f.x) → TakeNumbers 1 one two (numbers_values 1 one f.y) → TakeNumbers 2 two new (numbers_values 2 two f.z)
+    → HoldNumbers old f new (record f { x = Inside; y = Inside; z = Inside })
+all_taken f old one two new x y z = record {
+  fields = refl;
+  bare = z.bare ∙ (y.bare ∙ x.bare);
+  x =
+      other_numbers 2 0 two new (numbers_values 2 two f.z) Inside z (λ e. absurd (omega (arith, e)))
+      ∙ (other_numbers 1 0 one two (numbers_values 1 one f.y) Inside y (λ e. absurd (omega (arith, e))) ∙ x.here);
+  y =
+      other_numbers 2 1 two new (numbers_values 2 two f.z) Inside z (λ e. absurd (omega (arith, e)))
+      ∙ (y.here ∙ ap (map number_or_zero) (other_numbers 0 1 old one (numbers_values 0 old f.x) f.y x (λ e. absurd (omega (arith, e)))));
+  z =
+      z.here
+      ∙ ap (map number_or_zero)
+      (other_numbers 1 2 one two (numbers_values 1 one f.y) f.z y (λ e. absurd (omega (arith, e)))
+      ∙ other_numbers 0 2 old one (numbers_values 0 old f.x) f.z x (λ e. absurd (omega (arith, e))));
+}
+
+-- the vertex with its fields changed
+abbrev with_util : (List Util → List Util) → Vertex → Vertex
+with_util h x = record x { util = h x.util }
+
+-- a change of each row is one of each vertex
+with_fields-map : (h : List Util → List Util) (xs : List Vertex) (rs : List (List Util)) → with_fields xs (map h rs) ≡ map (λ (x : Vertex). with_util h x) (with_fields xs rs)
+with_fields-map h [] rs = refl
+with_fields-map h (x ∷ xs) [] = refl
+with_fields-map h (x ∷ xs) (r ∷ rs) = ap (λ ys. record x { util = h r } ∷ ys) (with_fields-map h xs rs)
+
+-- a change of one row is one of that vertex
+with_fields-at : (h : List Util → List Util) (v : ℕ) (xs : List Vertex) (rs : List (List Util)) → with_fields xs (at_place h v rs) ≡ at_place (with_util h) v (with_fields xs rs)
+with_fields-at h v [] rs = refl
+with_fields-at h v (x ∷ xs) [] = refl
+with_fields-at h zero (x ∷ xs) (r ∷ rs) = refl
+with_fields-at h (suc v) (x ∷ xs) (r ∷ rs) = ap (λ ys. record x { util = r } ∷ ys) (with_fields-at h v xs rs)
+
+-- columns with a number in each place of x, y, z
+abbrev number_columns : List (List Util) → List (List Util)
+number_columns columns = at_place (map number_or_zero) 5 (at_place (map number_or_zero) 4 (at_place (map number_or_zero) 3 columns))
+
+-- and with these numbers in those of v
+abbrev put_columns : ℕ → ℤ → ℤ → ℤ → List (List Util) → List (List Util)
+put_columns v x y z columns =
+    at_place (at_place (λ _. Int z) v) 5 (at_place (at_place (λ _. Int y) v) 4 (at_place (at_place (λ _. Int x) v) 3 columns))
+
+-- their rows have numbers
+number_rows : (n : ℕ) (columns : List (List Util)) → rows n (number_columns columns) ≡ map some_numbers (rows n columns)
+number_rows n columns =
+    let third = at_place (map number_or_zero) 3 columns in
+    rows-map number_or_zero n 5 (at_place (map number_or_zero) 4 third)
+    ∙ (ap (map (at_place number_or_zero 5)) (rows-map number_or_zero n 4 third ∙ ap (map (at_place number_or_zero 4)) (rows-map number_or_zero n 3 columns))
+    ∙ (map-map (at_place number_or_zero 5) (at_place number_or_zero 4) (map (at_place number_or_zero 3) (rows n columns))
+    ∙ map-map (λ r. at_place number_or_zero 5 (at_place number_or_zero 4 r)) (at_place number_or_zero 3) (rows n columns)))
+
+-- and these
+put_rows : (n v : ℕ) (x y z : ℤ) (columns : List (List Util)) → rows n (put_columns v x y z columns) ≡ at_place (put_numbers x y z) v (rows n columns)
+put_rows n v x y z columns =
+    rows-at cz n v 5 (at_place (at_place cy v) 4 (at_place (at_place cx v) 3 columns))
+    ∙ (ap (at_place (at_place cz 5) v) (rows-at cy n v 4 (at_place (at_place cx v) 3 columns) ∙ ap (at_place (at_place cy 4) v) (rows-at cx n v 3 columns))
+    ∙ (ap (at_place (at_place cz 5) v) (at_place-at_place (at_place cy 4) (at_place cx 3) v (rows n columns))
+    ∙ (at_place-at_place (at_place cz 5) (λ r. at_place cy 4 (at_place cx 3 r)) v (rows n columns)
+    ∙ at_place-same (λ r. at_place cz 5 (at_place cy 4 (at_place cx 3 r))) (put_numbers x y z) v (rows n columns) written)))
+  where
+    cx : Util → Util
+    cx u = Int x
+
+    cy : Util → Util
+    cy u = Int y
+
+    cz : Util → Util
+    cz u = Int z
+
+    written : (r : List Util) → at_place cz 5 (at_place cy 4 (at_place cx 3 r)) ≡ put_numbers x y z r
+    written r =
+        at_place-set (Int z) 5 (at_place cy 4 (at_place cx 3 r))
+        ∙ ap (λ s. set s 5 (Int z)) (at_place-set (Int y) 4 (at_place cx 3 r) ∙ ap (λ s. set s 4 (Int y)) (at_place-set (Int x) 3 r))
+
+-- a number that is put into a vertex
+put_column : (place v : ℕ) (i : ℤ) (ps : List PlainVertex) (q : PlainVertex) (us : List Util) → number_at place q ≡ i → map (λ p. Int (number_at place p)) ps ≡ us → map (λ p. Int (number_at place p)) (set ps v q) ≡ at_place (λ _. Int i) v us
+put_column place v i ps q us is column =
+    let f : PlainVertex → Util = λ p. Int (number_at place p) in
+    map-set f ps v q
+    ∙ (ap (λ ws. set ws v (f q)) column ∙ (ap (λ (j : ℤ). set us v (Int j)) is ∙ sym (at_place-set (Int i) v us)))
+
+-- fields x, y, z after numbers are put into a vertex
+record PutNumbers (old : List PlainVertex) (f : Fields) (new : List PlainVertex) (g : Fields) (v : ℕ) (x y z : ℤ) : Type 0 where
+  bare : map bare_vertex new ≡ map bare_vertex old
+  count : length new ≡ length old
+  columns : field_columns new g ≡ put_columns v x y z (number_columns (field_columns old f))
+
+-- as they are put
+put_all : (old : List PlainVertex) (f : Fields) (new : List PlainVertex) (p : PlainVertex) (v : ℕ) (x y z : ℤ) → HoldNumbers old f new (record f { x = Inside; y = Inside; z = Inside }) → p ≡ get_or new v p
+    → PutNumbers old f (set new v (record p { ints = x ∷ y ∷ z ∷ [] })) (record f { x = Inside; y = Inside; z = Inside }) v x y z
+put_all old f new p v x y z hold here =
+    let q : PlainVertex = record p { ints = x ∷ y ∷ z ∷ [] } in
+    let bare : map bare_vertex (set new v q) ≡ map bare_vertex old = map-set_same bare_vertex new v q p (rw (← here) refl) ∙ hold.bare in
+    let count : length (set new v q) ≡ length old = sym (length-map (set new v q) bare_vertex) ∙ (ap length bare ∙ length-map old bare_vertex) in
+    record {
+      bare = bare;
+      count = count;
+      columns = rw (
+        count,
+        put_column 0 v x new q (map number_or_zero (numbers_values 0 old f.x)) refl hold.x,
+        put_column 1 v y new q (map number_or_zero (numbers_values 1 old f.y)) refl hold.y,
+        put_column 2 v z new q (map number_or_zero (numbers_values 2 old f.z)) refl hold.z,
+      ) refl;
+    }
+
+-- what is kept of vertices whose fields are of these kinds
+pub kinds_record : (ps : List PlainVertex) (f : Fields) (u v w x y z : Kind) → field_kinds f ≡ u ∷ v ∷ w ∷ x ∷ y ∷ z ∷ []
+    → kept_vertices ps f ≡ record { u = u; v = v; w = w; x = x; y = y; z = z; items = kept_items ps f }
+kinds_record ps f u v w x y z e =
+    let eu : column_kind f.u ≡ u = cc in
+    let ev : column_kind f.v ≡ v = cc in
+    let ew : column_kind f.w ≡ w = cc in
+    let ex : numbers_kind f.x ≡ x = cc in
+    let ey : numbers_kind f.y ≡ y = cc in
+    let ez : numbers_kind f.z ≡ z = cc in
+    rw (eu, ev, ew, ex, ey, ez) refl
+
+-- a value put after those of a column
+abbrev pub AddsValue : Column → Column → Util → Type 0
+AddsValue c d value = (n : ℕ) → HoldsMany n c → values (1 + n) d ≡ values n c ++ value ∷ []
+
+-- a value put after those of a field x, y or z, where the vertex has this integer
+abbrev pub AddsNumber : Numbers → Numbers → Util → ℤ → Type 0
+AddsNumber c d value i =
+    (place : ℕ) (ps : List PlainVertex) (p : PlainVertex) → number_at place p ≡ i → length (numbers_values place ps c) ≡ length ps
+    → numbers_values place (ps ++ p ∷ []) d ≡ numbers_values place ps c ++ value ∷ []
+
+-- a row put after those of the fields
+pub fields_pushed : (ps : List PlainVertex) (p : PlainVertex) (f g : Fields) (a b c d e h : Util) (i j k : ℤ) → p.ints ≡ i ∷ j ∷ k ∷ [] → AreKept ps f
+    → AddsValue f.u g.u a → AddsValue f.v g.v b → AddsValue f.w g.w c → AddsNumber f.x g.x d i → AddsNumber f.y g.y e j → AddsNumber f.z g.z h k
+    → field_columns (ps ++ p ∷ []) g ≡ with_row (field_columns ps f) (a ∷ b ∷ c ∷ d ∷ e ∷ h ∷ [])
+fields_pushed ps p f g a b c d e h i j k ints kept u v w x y z =
+    let n = length ps in
+    let long : length (ps ++ p ∷ []) ≡ 1 + n = omega (arith, length_push ps p) in
+    let at : (place : ℕ) → number_at place p ≡ get_or (i ∷ j ∷ k ∷ []) place (pos 0) = λ place. ap (λ is. get_or is place (pos 0)) ints in
+    rw (long, u n kept.0, v n kept.1.0, w n kept.1.1.0,
+        x 0 ps p (at 0) kept.1.1.1.0, y 1 ps p (at 1) kept.1.1.1.1.0, z 2 ps p (at 2) kept.1.1.1.1.1.0) refl
+
+-- vertices and their fields, one more of each
+with_fields-push : (xs : List Vertex) (rs : List (List Util)) (x : Vertex) (r : List Util) → length xs ≡ length rs → with_fields (xs ++ x ∷ []) (rs ++ r ∷ []) ≡ with_fields xs rs ++ record x { util = r } ∷ []
+with_fields-push [] [] x r long = refl
+with_fields-push [] (s ∷ rs) x r long = absurd (omega (arith, long))
+with_fields-push (y ∷ xs) [] x r long = absurd (omega (arith, long))
+with_fields-push (y ∷ xs) (s ∷ rs) x r long = ap (λ ys. record y { util = s } ∷ ys) (with_fields-push xs rs x r (omega (arith, long)))
+
+-- columns with one row more
+columns_row : (n : ℕ) (columns : List (List Util)) (row : List Util) → length columns ≡ length row → AreColumns n columns → AreColumns (suc n) (with_row columns row)
+columns_row n [] [] long are = tt
+columns_row n [] (x ∷ row) long are = tt
+columns_row n (column ∷ columns) [] long are = absurd (omega (arith, long))
+columns_row n (column ∷ columns) (x ∷ row) long are = (omega (arith, are.0, length_push column x), columns_row n columns row (omega (arith, long)) are.1)
+
+-- one vertex more
+pub kept_more : (ps : List PlainVertex) (p : PlainVertex) (f g : Fields) (kinds : List Kind) (items : List Vertex) (x : Vertex) → Keep ps f kinds items → field_kinds g ≡ field_kinds f
+    → field_columns (ps ++ p ∷ []) g ≡ with_row (field_columns ps f) x.util → length x.util ≡ 6 → p.name ≡ x.name → kept_number p.arcs ≡ x.arcs → Keep (ps ++ p ∷ []) g kinds (items ++ x ∷ [])
+kept_more ps p f g kinds items x keep same columns six name arcs = record { whole = whole; kinds = same ∙ keep.kinds; items = all }
+  where
+    n : ℕ
+    n = length ps
+
+    old : List (List Util)
+    old = field_columns ps f
+
+    long : length (ps ++ p ∷ []) ≡ suc n
+    long = omega (arith, length_push ps p)
+
+    rows_long : 6 ≡ length x.util
+    rows_long = sym six
+
+    whole : AreKept (ps ++ p ∷ []) g
+    whole =
+        columns_kept (suc n) (length (ps ++ p ∷ [])) (with_row old x.util) (field_columns (ps ++ p ∷ []) g) long columns
+        (columns_row n old x.util rows_long keep.whole)
+
+    table : rows (length (ps ++ p ∷ [])) (field_columns (ps ++ p ∷ []) g) ≡ rows n old ++ x.util ∷ []
+    table =
+        ap (λ m. rows m (field_columns (ps ++ p ∷ []) g)) long
+        ∙ (ap (rows (suc n)) columns ∙ rows-push n old x.util keep.whole rows_long)
+
+    count : length (map bare_vertex ps) ≡ length (rows n old)
+    count = length-map ps bare_vertex ∙ sym (length-rows n old keep.whole)
+
+    last : record (bare_vertex p) { util = x.util } ≡ x
+    last = rw (name, arcs) refl
+
+    all : kept_items (ps ++ p ∷ []) g ≡ items ++ x ∷ []
+    all =
+        ap (λ rs. with_fields (map bare_vertex (ps ++ p ∷ [])) rs) table
+        ∙ (ap (λ xs. with_fields xs (rows n old ++ x.util ∷ [])) (map-append bare_vertex ps (p ∷ []))
+        ∙ (with_fields-push (map bare_vertex ps) (rows n old) (bare_vertex p) x.util count
+        ∙ (ap (λ y. with_fields (map bare_vertex ps) (rows n old) ++ y ∷ []) last ∙ ap (λ ys. ys ++ x ∷ []) keep.items)))
+
+-- a column changed, which keeps its length
+columns_at : (f : List Util → List Util) (n k : ℕ) (columns : List (List Util)) → ((us : List Util) → length (f us) ≡ length us) → AreColumns n columns → AreColumns n (at_place f k columns)
+columns_at f n k [] same are = tt
+columns_at f n zero (column ∷ columns) same are = (same column ∙ are.0, are.1)
+columns_at f n (suc k) (column ∷ columns) same are = (are.0, columns_at f n k columns same are.1)
+
+-- numbers put into a vertex keep the columns
+put_whole : (n v : ℕ) (x y z : ℤ) (columns : List (List Util)) → AreColumns n columns → AreColumns n (put_columns v x y z (number_columns columns))
+put_whole n v x y z columns are =
+    columns_at (at_place (λ _. Int z) v) n 5 _ (λ us. length-at_place (λ _. Int z) v us)
+    (columns_at (at_place (λ _. Int y) v) n 4 _ (λ us. length-at_place (λ _. Int y) v us)
+    (columns_at (at_place (λ _. Int x) v) n 3 _ (λ us. length-at_place (λ _. Int x) v us)
+    (columns_at (map number_or_zero) n 5 _ (λ us. length-map us number_or_zero)
+    (columns_at (map number_or_zero) n 4 _ (λ us. length-map us number_or_zero)
+    (columns_at (map number_or_zero) n 3 columns (λ us. length-map us number_or_zero) are)))))
+
+-- the vertices with numbers put
+pub record ArePut (old : List PlainVertex) (f : Fields) (new : List PlainVertex) (g : Fields) (v : ℕ) (x y z : ℤ) : Type 0 where
+  pub whole : AreKept new g
+  pub items : kept_items new g ≡ at_place (with_numbers x y z) v (map with_some_numbers (kept_items old f))
+
+pub are_put : (old : List PlainVertex) (f : Fields) (new : List PlainVertex) (p : PlainVertex) (v : ℕ) (x y z : ℤ) → AreKept old f → HoldNumbers old f new (record f { x = Inside; y = Inside; z = Inside }) → p ≡ get_or new v p
+    → ArePut old f (set new v (record p { ints = x ∷ y ∷ z ∷ [] })) (record f { x = Inside; y = Inside; z = Inside }) v x y z
+are_put old f new p v x y z kept hold here = record { whole = whole; items = items }
+  where
+    last : List PlainVertex
+    last = set new v (record p { ints = x ∷ y ∷ z ∷ [] })
+
+    g : Fields
+    g = record f { x = Inside; y = Inside; z = Inside }
+
+    put : PutNumbers old f last g v x y z
+    put = put_all old f new p v x y z hold here
+
+    n : ℕ
+    n = length old
+
+    columns : List (List Util)
+    columns = field_columns old f
+
+    whole : AreKept last g
+    whole =
+        columns_kept n (length last) (put_columns v x y z (number_columns columns)) (field_columns last g) put.count put.columns
+        (put_whole n v x y z columns kept)
+
+    table : rows (length last) (field_columns last g) ≡ at_place (put_numbers x y z) v (map some_numbers (rows n columns))
+    table =
+        ap (λ m. rows m (field_columns last g)) put.count
+        ∙ (ap (rows n) put.columns
+        ∙ (put_rows n v x y z (number_columns columns) ∙ ap (at_place (put_numbers x y z) v) (number_rows n columns)))
+
+    items : kept_items last g ≡ at_place (with_numbers x y z) v (map with_some_numbers (kept_items old f))
+    items =
+        ap (λ rs. with_fields (map bare_vertex last) rs) table
+        ∙ (ap (λ xs. with_fields xs (at_place (put_numbers x y z) v (map some_numbers (rows n columns)))) put.bare
+        ∙ (with_fields-at (put_numbers x y z) v (map bare_vertex old) (map some_numbers (rows n columns))
+        ∙ ap (at_place (with_numbers x y z) v) (with_fields-map some_numbers (map bare_vertex old) (rows n columns))))

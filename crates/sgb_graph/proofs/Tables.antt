@@ -1,0 +1,171 @@
+-- The rows of a table, given by its columns.
+use Rattle.std.proofs.Common.{◌≡◌, ◌<◌, ◌+◌, ℕ, zero, suc, List, [], ◌∷◌, ◌++◌, length, get_or, map, replicate, set, Some, refl, ap, sym, ◌∙◌, arith}
+use Rattle.std.specs.Prelude.{slice_get}
+use Rattle.std.proofs.lemmas.List.{length-replicate}
+use Rattle.sgb_graph.specs.Growth.{at_place}
+use Rattle.sgb_graph.specs.KeptVertices.{AreColumns, in_front, rows, with_row}
+
+-- as many rows as before
+length-in_front : {X : Type 0} (column : List X) (below : List (List X)) → length column ≡ length below → length (in_front column below) ≡ length below
+length-in_front [] [] e = refl
+length-in_front [] (row ∷ below) e = absurd (omega (arith, e))
+length-in_front (x ∷ column) [] e = refl
+length-in_front (x ∷ column) (row ∷ below) e = ap suc (length-in_front column below (omega (arith, e)))
+
+-- the number of rows
+pub length-rows : {X : Type 0} (n : ℕ) (columns : List (List X)) → AreColumns n columns → length (rows n columns) ≡ n
+length-rows n [] whole = length-replicate n []
+length-rows n (column ∷ columns) whole =
+    let others = length-rows n columns whole.1 in
+    length-in_front column (rows n columns) (whole.0 ∙ sym others) ∙ others
+
+-- the row at place k has these elements
+abbrev pub IsRow : {X : Type 0} → ℕ → List (List X) → List X → Type 0
+IsRow k [] [] = Unit {0}
+IsRow k (column ∷ columns) (x ∷ row) = (slice_get column k ≡ Some x) × IsRow k columns row
+IsRow k _ _ = ⊥
+
+-- a list of one element, n times
+slice_get-replicate : {X : Type 0} (n k : ℕ) (x : X) → k < n → slice_get (replicate n x) k ≡ Some x
+slice_get-replicate zero k x below = absurd (omega arith)
+slice_get-replicate (suc n) zero x below = refl
+slice_get-replicate (suc n) (suc k) x below = slice_get-replicate n k x (omega arith)
+
+-- and once more
+replicate-push : {X : Type 0} (n : ℕ) (x : X) → replicate (suc n) x ≡ replicate n x ++ x ∷ []
+replicate-push zero x = refl
+replicate-push (suc n) x = ap (λ xs. x ∷ xs) (replicate-push n x)
+
+-- the first element of a row, and the others
+in_front_at : {X : Type 0} (column : List X) (below : List (List X)) (k : ℕ) (x : X) (row : List X) → slice_get column k ≡ Some x → slice_get below k ≡ Some row → slice_get (in_front column below) k ≡ Some (x ∷ row)
+in_front_at [] below k x row first rest = absurd cc
+in_front_at (a ∷ column) [] k x row first rest = absurd cc
+in_front_at (a ∷ column) (b ∷ below) zero x row first rest =
+    let same : a ≡ x = cc in
+    let also : b ≡ row = cc in
+    rw (same, also) refl
+in_front_at (a ∷ column) (b ∷ below) (suc k) x row first rest = in_front_at column below k x row first rest
+
+-- a row has the elements of the columns
+pub row_at : {X : Type 0} (n k : ℕ) (columns : List (List X)) (row : List X) → k < n → IsRow k columns row → slice_get (rows n columns) k ≡ Some row
+row_at n k [] [] below is = slice_get-replicate n k [] below
+row_at n k [] (x ∷ row) below is = absurd is
+row_at n k (column ∷ columns) [] below is = absurd is
+row_at n k (column ∷ columns) (x ∷ row) below is = in_front_at column (rows n columns) k x row is.0 (row_at n k columns row below is.1)
+
+-- an element more in front
+in_front-push : {X : Type 0} (column : List X) (below : List (List X)) (x : X) (row : List X) → length column ≡ length below → in_front (column ++ x ∷ []) (below ++ row ∷ []) ≡ in_front column below ++ (x ∷ row) ∷ []
+in_front-push [] [] x row e = refl
+in_front-push [] (b ∷ below) x row e = absurd (omega (arith, e))
+in_front-push (a ∷ column) [] x row e = absurd (omega (arith, e))
+in_front-push (a ∷ column) (b ∷ below) x row e = ap (λ rs. (a ∷ b) ∷ rs) (in_front-push column below x row (omega (arith, e)))
+
+-- one row more
+pub rows-push : {X : Type 0} (n : ℕ) (columns : List (List X)) (row : List X) → AreColumns n columns → length columns ≡ length row → rows (suc n) (with_row columns row) ≡ rows n columns ++ row ∷ []
+rows-push n [] [] whole e = replicate-push n []
+rows-push n [] (x ∷ row) whole e = absurd (omega (arith, e))
+rows-push n (column ∷ columns) [] whole e = absurd (omega (arith, e))
+rows-push n (column ∷ columns) (x ∷ row) whole e =
+    rw (rows-push n columns row whole.1 (omega (arith, e))) (in_front-push column (rows n columns) x row (whole.0 ∙ sym (length-rows n columns whole.1)))
+
+-- a first column that is changed
+in_front-map_first : {X : Type 0} (f : X → X) (column : List X) (below : List (List X)) → in_front (map f column) below ≡ map (at_place f zero) (in_front column below)
+in_front-map_first f [] below = refl
+in_front-map_first f (x ∷ column) [] = refl
+in_front-map_first f (x ∷ column) (row ∷ below) = ap (λ rs. (f x ∷ row) ∷ rs) (in_front-map_first f column below)
+
+-- a later one
+in_front-map_later : {X : Type 0} (f : X → X) (j : ℕ) (column : List X) (below : List (List X)) → in_front column (map (at_place f j) below) ≡ map (at_place f (suc j)) (in_front column below)
+in_front-map_later f j [] below = refl
+in_front-map_later f j (x ∷ column) [] = refl
+in_front-map_later f j (x ∷ column) (row ∷ below) = ap (λ rs. (x ∷ at_place f j row) ∷ rs) (in_front-map_later f j column below)
+
+-- rows of nothing
+empty-map : {X : Type 0} (f : X → X) (j n : ℕ) → replicate {A = List X} n [] ≡ map (at_place f j) (replicate n [])
+empty-map f j zero = refl
+empty-map f j (suc n) = ap (λ rs. [] ∷ rs) (empty-map f j n)
+
+-- a change of a column is one of each row
+pub rows-map : {X : Type 0} (f : X → X) (n j : ℕ) (columns : List (List X)) → rows n (at_place (map f) j columns) ≡ map (at_place f j) (rows n columns)
+rows-map f n j [] = empty-map f j n
+rows-map f n zero (column ∷ columns) = in_front-map_first f column (rows n columns)
+rows-map f n (suc j) (column ∷ columns) =
+    ap (in_front column) (rows-map f n j columns) ∙ in_front-map_later f j column (rows n columns)
+
+-- a place of the first column that is changed
+in_front-at_first : {X : Type 0} (f : X → X) (v : ℕ) (column : List X) (below : List (List X)) → in_front (at_place f v column) below ≡ at_place (at_place f zero) v (in_front column below)
+in_front-at_first f v [] below = refl
+in_front-at_first f zero (x ∷ column) [] = refl
+in_front-at_first f zero (x ∷ column) (row ∷ below) = refl
+in_front-at_first f (suc v) (x ∷ column) [] = refl
+in_front-at_first f (suc v) (x ∷ column) (row ∷ below) = ap (λ rs. (x ∷ row) ∷ rs) (in_front-at_first f v column below)
+
+-- of a later one
+in_front-at_later : {X : Type 0} (f : X → X) (v j : ℕ) (column : List X) (below : List (List X)) → in_front column (at_place (at_place f j) v below) ≡ at_place (at_place f (suc j)) v (in_front column below)
+in_front-at_later f v j [] below = refl
+in_front-at_later f v j (x ∷ column) [] = refl
+in_front-at_later f zero j (x ∷ column) (row ∷ below) = refl
+in_front-at_later f (suc v) j (x ∷ column) (row ∷ below) = ap (λ rs. (x ∷ row) ∷ rs) (in_front-at_later f v j column below)
+
+-- rows of nothing
+empty-at : {X : Type 0} (f : X → X) (v j n : ℕ) → replicate {A = List X} n [] ≡ at_place (at_place f j) v (replicate n [])
+empty-at f v j zero = refl
+empty-at f zero j (suc n) = refl
+empty-at f (suc v) j (suc n) = ap (λ rs. [] ∷ rs) (empty-at f v j n)
+
+-- a change at a place of a column is one of that row
+pub rows-at : {X : Type 0} (f : X → X) (n v j : ℕ) (columns : List (List X)) → rows n (at_place (at_place f v) j columns) ≡ at_place (at_place f j) v (rows n columns)
+rows-at f n v j [] = empty-at f v j n
+rows-at f n v zero (column ∷ columns) = in_front-at_first f v column (rows n columns)
+rows-at f n v (suc j) (column ∷ columns) =
+    ap (in_front column) (rows-at f n v j columns) ∙ in_front-at_later f v j column (rows n columns)
+
+-- a first column of one element
+in_front-replicate : {X : Type 0} (n : ℕ) (x : X) (row : List X) → in_front (replicate n x) (replicate n row) ≡ replicate n (x ∷ row)
+in_front-replicate zero x row = refl
+in_front-replicate (suc n) x row = ap (λ rs. (x ∷ row) ∷ rs) (in_front-replicate n x row)
+
+-- rows of one element
+pub rows-replicate : {X : Type 0} (n k : ℕ) (x : X) → rows n (replicate k (replicate n x)) ≡ replicate n (replicate k x)
+rows-replicate n zero x = refl
+rows-replicate n (suc k) x = ap (in_front (replicate n x)) (rows-replicate n k x) ∙ in_front-replicate n x (replicate k x)
+
+-- a change of a change
+pub at_place-at_place : {X : Type 0} (f g : X → X) (k : ℕ) (xs : List X) → at_place f k (at_place g k xs) ≡ at_place (λ x. f (g x)) k xs
+at_place-at_place f g k [] = refl
+at_place-at_place f g zero (x ∷ xs) = refl
+at_place-at_place f g (suc k) (x ∷ xs) = ap (λ ys. x ∷ ys) (at_place-at_place f g k xs)
+
+-- the same change
+pub at_place-same : {X : Type 0} (f g : X → X) (k : ℕ) (xs : List X) → ((x : X) → f x ≡ g x) → at_place f k xs ≡ at_place g k xs
+at_place-same f g k [] same = refl
+at_place-same f g zero (x ∷ xs) same = ap (λ y. y ∷ xs) (same x)
+at_place-same f g (suc k) (x ∷ xs) same = ap (λ ys. x ∷ ys) (at_place-same f g k xs same)
+
+-- a change that puts an element is a write
+pub at_place-set : {X : Type 0} (y : X) (k : ℕ) (xs : List X) → at_place (λ _. y) k xs ≡ set xs k y
+at_place-set y k [] = refl
+at_place-set y zero (x ∷ xs) = refl
+at_place-set y (suc k) (x ∷ xs) = ap (λ ys. x ∷ ys) (at_place-set y k xs)
+
+-- a list of six elements is their list
+pub six_of : {X : Type 0} (xs : List X) (u v w x y z : X) → length xs ≡ 6 → u ≡ get_or xs 0 u → v ≡ get_or xs 1 v → w ≡ get_or xs 2 w → x ≡ get_or xs 3 x → y ≡ get_or xs 4 y → z ≡ get_or xs 5 z → xs ≡ u ∷ v ∷ w ∷ x ∷ y ∷ z ∷ []
+six_of [] u v w x y z six e0 e1 e2 e3 e4 e5 = absurd (omega (arith, six))
+six_of (a ∷ []) u v w x y z six e0 e1 e2 e3 e4 e5 = absurd (omega (arith, six))
+six_of (a ∷ b ∷ []) u v w x y z six e0 e1 e2 e3 e4 e5 = absurd (omega (arith, six))
+six_of (a ∷ b ∷ c ∷ []) u v w x y z six e0 e1 e2 e3 e4 e5 = absurd (omega (arith, six))
+six_of (a ∷ b ∷ c ∷ d ∷ []) u v w x y z six e0 e1 e2 e3 e4 e5 = absurd (omega (arith, six))
+six_of (a ∷ b ∷ c ∷ d ∷ e ∷ []) u v w x y z six e0 e1 e2 e3 e4 e5 = absurd (omega (arith, six))
+six_of (a ∷ b ∷ c ∷ d ∷ e ∷ f ∷ g ∷ xs) u v w x y z six e0 e1 e2 e3 e4 e5 = absurd (omega (arith, six))
+six_of (a ∷ b ∷ c ∷ d ∷ e ∷ f ∷ []) u v w x y z six e0 e1 e2 e3 e4 e5 = rw (← e0, ← e1, ← e2, ← e3, ← e4, ← e5) refl
+
+-- read with a default
+pub six_read : {X : Type 0} (xs : List X) (d : X) → length xs ≡ 6 → get_or xs 0 d ∷ get_or xs 1 d ∷ get_or xs 2 d ∷ get_or xs 3 d ∷ get_or xs 4 d ∷ get_or xs 5 d ∷ [] ≡ xs
+six_read [] d six = absurd (omega (arith, six))
+six_read (a ∷ []) d six = absurd (omega (arith, six))
+six_read (a ∷ b ∷ []) d six = absurd (omega (arith, six))
+six_read (a ∷ b ∷ c ∷ []) d six = absurd (omega (arith, six))
+six_read (a ∷ b ∷ c ∷ d' ∷ []) d six = absurd (omega (arith, six))
+six_read (a ∷ b ∷ c ∷ d' ∷ e ∷ []) d six = absurd (omega (arith, six))
+six_read (a ∷ b ∷ c ∷ d' ∷ e ∷ f ∷ g ∷ xs) d six = absurd (omega (arith, six))
+six_read (a ∷ b ∷ c ∷ d' ∷ e ∷ f ∷ []) d six = refl
