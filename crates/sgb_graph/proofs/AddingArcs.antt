@@ -8,7 +8,7 @@ use Rattle.std.proofs.lemmas.List.{length-append}
 use Rattle.std.proofs.lemmas.Option.{slice_get_read}
 use Rattle.sgb_graph.specs.Graphs.{GraphData, chain_of, ends_of, ends_from, links_of}
 use Rattle.sgb_graph.specs.Sound.{arc_kinds, chain_fits, utils_fit, vertex_kinds}
-use Rattle.sgb_graph.specs.Growth.{IsKept, graph_data, HasPlainArcs, AddsArc, KeepsAllButArcs, arc_record, at_place, first_arc, link, with_arcs}
+use Rattle.sgb_graph.specs.Growth.{IsKept, HasPlainArcs, AddsArc, KeepsAllButArcs, arc_record, at_place, first_arc, link, with_arcs}
 use Rattle.sgb_graph.specs.declared.fields.Kind.{Kind}
 use Rattle.sgb_graph.specs.declared.fields.Kind.TheVariants.{Z}
 use Rattle.sgb_graph.specs.declared.fields.Util.TheVariants.{Nothing}

@@ -6,8 +6,7 @@ use Rattle.std.proofs.lemmas.Bool.{and_from, lt-ltb, eq-eqb, ne_eqb, cases_eq}
 use Rattle.std.proofs.lemmas.List.{length-append}
 use Rattle.sgb_graph.specs.Graphs.{GraphData, chain_of, ends_of, ends_from}
 use Rattle.sgb_graph.specs.Sound.{chain_fits}
-use Rattle.sgb_graph.specs.Growth.{IsKept, graph_data, HasPlainArcs, AddsEdge, KeepsAllButArcs, arc_record, after_lower, at_place, first_arc, link, with_arcs, with_ends}
-use Rattle.sgb_graph.specs.declared.fields.Vertex.{Vertex}
+use Rattle.sgb_graph.specs.Growth.{IsKept, HasPlainArcs, AddsEdge, KeepsAllButArcs, arc_record, after_lower, at_place, first_arc, link, with_arcs, with_ends}
 use Rattle.sgb_graph.specs.declared.fields.ArcRec.{ArcRec}
 use Rattle.sgb_graph.specs.declared.fields.Link.{Link}
 use Rattle.sgb_graph.proofs.Lists.{slice_get-at_place_same, slice_get-at_place_other, slice_get-after, length-at_place, map-at_place, list_all-at_place}

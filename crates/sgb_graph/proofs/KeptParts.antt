@@ -1,10 +1,10 @@
 -- Parts that make up a graph, as the graph keeps them.
-use Rattle.std.proofs.Common.{◌≡◌, ◌<◌, ◌≤◌, ◌^◌, ◌∙◌, ◌&&◌, ◌++◌, ℕ, true, List, [], ◌∷◌, length, map, All, get_or, slice_get, slice_index_or, Option, Some, None, IfSome, refl, ap, sym, arith}
+use Rattle.std.proofs.Common.{◌≡◌, ◌<◌, ◌≤◌, ◌+◌, ◌^◌, ◌∙◌, ◌&&◌, ◌++◌, ℕ, true, List, [], ◌∷◌, length, map, All, get_or, slice_index_or, Option, Some, None, IfSome, refl, ap, arith}
 use Rattle.std.proofs.lemmas.Bool.{and_parts, ltb-true}
 use Rattle.std.proofs.lemmas.Option.{slice_get-get_or}
 use Rattle.sgb_graph.specs.Columns.{util_kind}
 use Rattle.sgb_graph.specs.Graphs.{GraphData}
-use Rattle.sgb_graph.specs.Kept.{kept_graph, kinds_kept}
+use Rattle.sgb_graph.specs.Kept.{kept_graph}
 use Rattle.sgb_graph.specs.KeptRecords.{KeptRecords}
 use Rattle.sgb_graph.specs.KeptVertices.{KeptVertices, kinds_of_vertices}
 use Rattle.sgb_graph.specs.Growth.{graph_data}
@@ -14,9 +14,8 @@ use Rattle.sgb_graph.specs.declared.fields.Kind.{Kind}
 use Rattle.sgb_graph.specs.declared.fields.Kind.TheVariants.{Z, I, V, S, A}
 use Rattle.sgb_graph.specs.declared.fields.Util.{Util}
 use Rattle.sgb_graph.specs.declared.fields.Util.TheVariants.{Nothing, Int, Vertex as VertexField, Str, Chain}
-use Rattle.sgb_graph.specs.declared.fields.Vertex.{Vertex}
 use Rattle.sgb_graph.proofs.Fitting.{vertex_fits_in, record_fits_in}
-use Rattle.sgb_graph.proofs.Growing.{HasParts, parts_of}
+use Rattle.sgb_graph.proofs.Growing.{parts_of}
 use Rattle.sgb_graph.proofs.Lists.{list_all-get}
 
 -- a value that fits a kind is of that kind
@@ -61,6 +60,10 @@ fits_small : (m : ℕ) (first : Option ℕ) → m < 2 ^ 63 → chain_fits m firs
 fits_small m None few e = tt
 fits_small m (Some k) few e = omega (arith, ltb-true k m e)
 
+fits_smaller : (m : ℕ) (first : Option ℕ) → m < 2 ^ 63 → chain_fits m first ≡ true → IfSome first (λ k. k + 1 < 2 ^ 64)
+fits_smaller m None few e = tt
+fits_smaller m (Some k) few e = omega (arith, ltb-true k m e)
+
 -- so are the fields of the vertices of a graph, and their first records are small
 pub vertices_of_kinds : (g : GraphData) → IsGraph g → All (λ x. map util_kind x.util ≡ vertex_kinds g.kinds) g.vertices
 vertices_of_kinds g is = λ k d below.
@@ -69,12 +72,12 @@ vertices_of_kinds g is = λ k d below.
     let parts = and_parts (chain_fits (length g.records) x.arcs) (utils_fit (length g.vertices) (length g.records) (vertex_kinds g.kinds) x.util) fits in
     fits_kinds (length g.vertices) (length g.records) (vertex_kinds g.kinds) x.util parts.1
 
-pub vertices_of_small : (g : GraphData) → IsGraph g → length g.records < 2 ^ 63 → All (λ x. IfSome x.arcs (λ k. k < 2 ^ 63)) g.vertices
+pub vertices_of_small : (g : GraphData) → IsGraph g → length g.records < 2 ^ 63 → All (λ x. IfSome x.arcs (λ k. k + 1 < 2 ^ 64)) g.vertices
 vertices_of_small g is few = λ k d below.
     let x = get_or g.vertices k d in
     let fits = list_all-get (vertex_fits_in (length g.vertices) (length g.records) g.kinds) g.vertices k x (parts_of g is).vertices (slice_get-get_or g.vertices k d below) in
     let parts = and_parts (chain_fits (length g.records) x.arcs) (utils_fit (length g.vertices) (length g.records) (vertex_kinds g.kinds) x.util) fits in
-    fits_small (length g.records) x.arcs few parts.0
+    fits_smaller (length g.records) x.arcs few parts.0
 
 -- a record that fits
 record IsFit (all : List Kind) (r : ArcRec) : Type 0 where

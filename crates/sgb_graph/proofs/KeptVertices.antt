@@ -1,21 +1,21 @@
 -- What is kept of vertices, and what is seen of it.
-use Rattle.std.proofs.Common.{◌≡◌, ◌≢◌, ◌<◌, ◌≤◌, ◌+◌, ◌-◌, ◌^◌, ℕ, zero, suc, ℤ, pos, Option, Some, None, List, [], ◌∷◌, ◌++◌, length, map, replicate, get_or, set, take, refl, ap, sym, subst, ◌∙◌, arith}
+use Rattle.std.proofs.Common.{◌≡◌, ◌≢◌, ◌<◌, ◌≤◌, ◌+◌, ◌^◌, ℕ, zero, suc, ℤ, pos, Option, Some, None, List, [], ◌∷◌, ◌++◌, length, map, replicate, get_or, set, drop, take, refl, ap, sym, subst, ◌∙◌, arith}
 use Rattle.std.specs.Prelude.{slice_get, option_map}
 use Rattle.std.specs.Option.{option_and_then}
-use Rattle.std.proofs.Math.Seq.{map-set_same}
+use Rattle.std.proofs.Math.Seq.{map-set_same, take-append_seam}
 use Rattle.std.proofs.Math.ListN.{get_or-map}
 use Rattle.std.proofs.lemmas.Bool.Decides.{nat_tests}
-use Rattle.std.proofs.lemmas.List.{length-append, length-map, length_push, length-replicate, length-set, map-append, map-set, get_or-set_other, take_all, take_more, take_more_set}
+use Rattle.std.proofs.lemmas.List.{length-map, length_push, length-replicate, length-set, map-append, map-set, get_or-set_other, take_all, take_more, take_more_set}
 use Rattle.std.proofs.lemmas.Option.{get_or_from_slice_get, slice_get-map, slice_get_within}
-use Rattle.sgb_graph.specs.Columns.{HasPlace, HoldsMany, column_kind, util_kind, values}
-use Rattle.sgb_graph.specs.Growth.{at_place, first_arc, new_vertex, number_or_zero, put_numbers, some_numbers, with_arcs, with_number_kinds, with_numbers, with_some_numbers}
+use Rattle.sgb_graph.specs.Columns.{HasPlace, HoldsMany, column_kind, values}
+use Rattle.sgb_graph.specs.Growth.{at_place, first_arc, new_vertex, number_or_zero, put_numbers, some_numbers, with_arcs, with_numbers, with_some_numbers}
 use Rattle.sgb_graph.specs.KeptRecords.{kept_number}
 use Rattle.sgb_graph.specs.KeptVertices.{AreColumns, AreKept, HasNumber, HaveValues, HoldNumbers, Keep, TakeNumbers, bare_named, bare_vertex, field_columns, field_kinds, kept_items, kept_vertices, number_at, numbers_kind, numbers_values, rows, with_fields, with_row}
 use Rattle.sgb_graph.specs.Made.{no_fields}
 use Rattle.sgb_graph.specs.declared.columns.Column.{Column}
 use Rattle.sgb_graph.specs.declared.columns.Column.TheVariants.{Unused, Ints, Vertices, Texts, Chains}
 use Rattle.sgb_graph.specs.declared.fields.Kind.{Kind}
-use Rattle.sgb_graph.specs.declared.fields.Kind.TheVariants.{Z, I, V, S, A}
+use Rattle.sgb_graph.specs.declared.fields.Kind.TheVariants.{Z, I}
 use Rattle.sgb_graph.specs.declared.fields.Util.{Util}
 use Rattle.sgb_graph.specs.declared.fields.Util.TheVariants.{Nothing, Int, Vertex as VertexField, Str, Chain}
 use Rattle.sgb_graph.specs.declared.fields.Vertex.{Vertex}
@@ -24,7 +24,7 @@ use Rattle.sgb_graph.specs.declared.vertices.Numbers.{Numbers}
 use Rattle.sgb_graph.specs.declared.vertices.Numbers.TheVariants.{Inside, Beside}
 use Rattle.sgb_graph.specs.declared.vertices.PlainVertex.{PlainVertex}
 use Rattle.sgb_graph.proofs.Lists.{at_place-is_set, length-at_place, map-map}
-use Rattle.sgb_graph.proofs.Tables.{IsRow, at_place-at_place, at_place-same, at_place-set, length-rows, row_at, rows-at, rows-map, rows-push, rows-replicate}
+use Rattle.sgb_graph.proofs.Tables.{at_place-at_place, at_place-same, at_place-set, length-rows, rows-at, rows-map, rows-push, rows-replicate}
 
 -- as many vertices as before
 length-with_fields : (xs : List Vertex) (rs : List (List Util)) → length xs ≡ length rs → length (with_fields xs rs) ≡ length xs
@@ -428,8 +428,15 @@ fields_pushed ps p f g a b c d e h i j k ints kept u v w x y z =
     let n = length ps in
     let long : length (ps ++ p ∷ []) ≡ 1 + n = omega (arith, length_push ps p) in
     let at : (place : ℕ) → number_at place p ≡ get_or (i ∷ j ∷ k ∷ []) place (pos 0) = λ place. ap (λ is. get_or is place (pos 0)) ints in
-    rw (long, u n kept.0, v n kept.1.0, w n kept.1.1.0,
-        x 0 ps p (at 0) kept.1.1.1.0, y 1 ps p (at 1) kept.1.1.1.1.0, z 2 ps p (at 2) kept.1.1.1.1.1.0) refl
+    rw (
+      long,
+      u n kept.0,
+      v n kept.1.0,
+      w n kept.1.1.0,
+      x 0 ps p (at 0) kept.1.1.1.0,
+      y 1 ps p (at 1) kept.1.1.1.1.0,
+      z 2 ps p (at 2) kept.1.1.1.1.1.0,
+    ) refl
 
 -- vertices and their fields, one more of each
 with_fields-push : (xs : List Vertex) (rs : List (List Util)) (x : Vertex) (r : List Util) → length xs ≡ length rs → with_fields (xs ++ x ∷ []) (rs ++ r ∷ []) ≡ with_fields xs rs ++ record x { util = r } ∷ []
@@ -542,3 +549,46 @@ are_put old f new p v x y z kept hold here = record { whole = whole; items = ite
         ∙ (ap (λ xs. with_fields xs (at_place (put_numbers x y z) v (map some_numbers (rows n columns)))) put.bare
         ∙ (with_fields-at (put_numbers x y z) v (map bare_vertex old) (map some_numbers (rows n columns))
         ∙ ap (at_place (with_numbers x y z) v) (with_fields-map some_numbers (map bare_vertex old) (rows n columns))))
+
+-- as many elements written over all are those elements
+pub refill_same : (n : ℕ) (xs ys : List PlainVertex) → length xs ≡ n → take n (xs ++ drop (length xs) ys) ≡ xs
+refill_same n xs ys long = rw (← long) (take-append_seam xs (drop (length xs) ys))
+
+-- numbers taken, read off their clauses
+pub taken_from : (old : List PlainVertex) (f : Fields) (new : List PlainVertex) (g : Fields) → HoldNumbers old f new g → HoldNumbers old f new (record f { x = Inside; y = Inside; z = Inside })
+taken_from old f new g held = record { fields = refl; bare = held.bare; x = held.x; y = held.y; z = held.z }
+
+-- as many vertices as before
+pub taken_long : (old : List PlainVertex) (f : Fields) (new : List PlainVertex) (g : Fields) → HoldNumbers old f new g → length new ≡ length old
+taken_long old f new g held = sym (length-map new bare_vertex) ∙ (ap length held.bare ∙ length-map old bare_vertex)
+
+-- the vertices with numbers written
+pub record AreWritten (old : List PlainVertex) (f : Fields) (new : List PlainVertex) (g : Fields) (v : ℕ) (x y z : ℤ) : Type 0 where
+  pub whole : AreKept new g
+  pub same : kept_vertices new g ≡ record (kept_vertices old f) { x = I; y = I; z = I; items = at_place (with_numbers x y z) v (map with_some_numbers (kept_items old f)) }
+
+pub are_written : (n : ℕ) (old : List PlainVertex) (f : Fields) (new : List PlainVertex) (g : Fields) (p : PlainVertex) (v : ℕ) (x y z : ℤ) → length old ≡ n → AreKept old f → HoldNumbers old f new g
+    → p ≡ get_or (take n (new ++ drop (length new) old)) v p
+    → AreWritten old f (set (take n (new ++ drop (length new) old)) v (record p { ints = x ∷ y ∷ z ∷ [] })) g v x y z
+are_written n old f new g p v x y z count kept held =
+    subst (λ (ps : List PlainVertex). p ≡ get_or ps v p → AreWritten old f (set ps v q) g v x y z) (sym same) of_new
+  where
+    q : PlainVertex
+    q = record p { ints = x ∷ y ∷ z ∷ [] }
+
+    inside : Fields
+    inside = record f { x = Inside; y = Inside; z = Inside }
+
+    same : take n (new ++ drop (length new) old) ≡ new
+    same = refill_same n new old (taken_long old f new g held ∙ count)
+
+    of_inside : p ≡ get_or new v p → AreWritten old f (set new v q) inside v x y z
+    of_inside here =
+        let put = are_put old f new p v x y z kept (taken_from old f new g held) here in
+        record {
+          whole = put.whole;
+          same = ap (λ (xs : List Vertex). record (kept_vertices old f) { x = I; y = I; z = I; items = xs }) put.items;
+        }
+
+    of_new : p ≡ get_or new v p → AreWritten old f (set new v q) g v x y z
+    of_new here = subst (λ (h : Fields). AreWritten old f (set new v q) h v x y z) (sym held.fields) (of_inside here)

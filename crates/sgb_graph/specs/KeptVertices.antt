@@ -3,7 +3,6 @@ use Rattle.std.specs.Prelude.{◌≡◌, ◌≢◌, ◌<◌, ℕ, suc, ℤ, pos,
 use Rattle.sgb_graph.specs.Columns.{HasPlace, column_kind, values}
 use Rattle.sgb_graph.specs.Growth.{number_or_zero}
 use Rattle.sgb_graph.specs.KeptRecords.{kept_number}
-use Rattle.sgb_graph.specs.declared.columns.Column.{Column}
 use Rattle.sgb_graph.specs.declared.fields.Kind.{Kind}
 use Rattle.sgb_graph.specs.declared.fields.Kind.TheVariants.{I}
 use Rattle.sgb_graph.specs.declared.fields.Util.{Util}

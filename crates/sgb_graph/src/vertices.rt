@@ -83,7 +83,7 @@ impl Vertices {
         vertices: Vec<Vertex>,
     ) -> Result<Vertices, AllocError>
         requires kinds { All (λ x. map util_kind x.util ≡ kinds) vertices.items }
-        requires arcs { All (λ x. IfSome x.arcs (λ k. k < 2 ^ 63)) vertices.items }
+        requires arcs { All (λ x. IfSome x.arcs (λ k. k + 1 < 2 ^ 64)) vertices.items }
         ensures kinds { IfOk result (λ kept. kinds_of_vertices kept ≡ kinds) }
         ensures items { IfOk result (λ kept. kept.items ≡ vertices.items) }
     {

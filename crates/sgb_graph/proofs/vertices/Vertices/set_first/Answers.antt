@@ -1,4 +1,4 @@
-use Rattle.std.proofs.Common.{◌∙◌, ◌<◌, ap, sym, length, Some, arith}
+use Rattle.std.proofs.Common.{◌<◌, ap, length, Some, arith}
 use Rattle.sgb_graph.specs.Growth.{at_place, with_arcs}
 use Rattle.sgb_graph.specs.KeptVertices.{KeptVertices}
 use Rattle.sgb_graph.proofs.KeptVertices.{first_kept, first_put, length-kept}
