@@ -13,6 +13,7 @@ pub mod ShiftLemmas
 pub mod AcceptedBoards
 pub mod Reaches
 pub mod BoardEvents
+pub mod BoundedMoves
 pub mod FamilyWalks
 pub mod DisplacementLengths
 pub mod Coordinates
