@@ -14,6 +14,7 @@ pub mod AcceptedBoards
 pub mod Reaches
 pub mod BoardEvents
 pub mod BoundedMoves
+pub mod SumsOfSquares
 pub mod FamilyWalks
 pub mod DisplacementLengths
 pub mod Coordinates
