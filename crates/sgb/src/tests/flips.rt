@@ -1,8 +1,7 @@
 //! Random numbers, with values from GB_FLIP's own test and from a program of its rules by itself.
 
-use super::devices::Counted;
-use super::{WRITE_FAULT, answers_are, call};
-use sgb_file::CutSink;
+use super::answers_are;
+use super::refusals::check_refusals;
 use std::test::Fail;
 
 static NUMBERS: [(&[&str], &str); 13] = [
@@ -101,38 +100,5 @@ static REFUSED: [(&[&str], &str, u8); 16] = [
 
 #[test]
 fn refused_flips(rt: HostRuntime) -> Result<(), Fail> {
-    for (words, line, status) in REFUSED {
-        let mut out = Counted::new(rt.alloc(), false, true);
-        let mut errors = Counted::new(rt.alloc(), false, false);
-        let found = call(rt.alloc(), words, &mut out, &mut errors)?;
-        assert!(rt; found == status, "{words:?}");
-        assert!(rt; errors.bytes() == line.as_bytes(), "{words:?}");
-        assert!(rt; out.puts() == 0 && out.flushes() == 0, "{words:?}");
-    }
-    Ok(())
-}
-
-// A sink that takes so many bytes and then fails has exactly the first bytes of the numbers.
-#[test]
-fn numbers_cut_off(rt: HostRuntime) -> Result<(), Fail> {
-    let whole = "529181769\n719591340\n1610774012\n194604418\n";
-    for limit in 0..=whole.len() {
-        let mut out: CutSink<64> = CutSink::new(3, limit, false);
-        let mut errors: CutSink<64> = CutSink::new(3, 64, false);
-        let status = call(
-            rt.alloc(),
-            &["flip", "flip(7,0,4,0)"],
-            &mut out,
-            &mut errors,
-        )?;
-        let (line, wanted) = if limit < whole.len() {
-            (WRITE_FAULT, 3)
-        } else {
-            ("", 0)
-        };
-        assert!(rt; status == wanted, "{limit}");
-        assert!(rt; out.bytes() == &whole.as_bytes()[..limit], "{limit}");
-        assert!(rt; errors.bytes() == line.as_bytes(), "{limit}");
-    }
-    Ok(())
+    check_refusals(&rt, rt.alloc(), &REFUSED, false)
 }

@@ -1,7 +1,7 @@
 //! Calls that are refused: the line and the exit status of each.
 
 use super::devices::Counted;
-use super::{USAGE, call};
+use super::{Faults, Left, USAGE, check_call, left_by};
 use crate::program::run_program;
 use sgb_file::CutSource;
 use sgb_requests::{Fault, report};
@@ -219,19 +219,15 @@ pub(super) fn check_refusals(
     calls: &[(&[&str], &str, u8)],
     deaf: bool,
 ) -> Result<(), Fail> {
+    let faults = Faults {
+        put: true,
+        flush: true,
+        deaf,
+    };
     for (words, line, status) in calls {
-        let mut out = Counted::new(alloc, true, true);
-        let mut errors = Counted::new(alloc, deaf, true);
-        let found = call(alloc, words, &mut out, &mut errors)?;
-        assert_eq!(rt; found, *status, "{words:?}");
-        assert_eq!(rt;
-            errors.bytes(),
-            if deaf { b"" } else { line.as_bytes() },
-            "{words:?}"
-        );
-        assert_eq!(rt; errors.puts(), 1, "{words:?}");
-        assert_eq!(rt; errors.flushes(), 0, "{words:?}");
-        assert!(rt; out.puts() == 0 && out.flushes() == 0, "{words:?}");
+        let left = left_by(alloc, words, faults)?;
+        let line = if deaf { "" } else { line };
+        check_call(rt, words, left.is_refusal(line, *status));
     }
     Ok(())
 }
@@ -257,32 +253,46 @@ fn a_line_is_one_put(rt: HostRuntime) {
         Fault::Write,
     ];
     for fault in faults {
-        let mut errors = Counted::new(rt.alloc(), false, false);
-        let _status = report(&fault, &mut errors);
-        assert_eq!(rt; errors.puts(), 1, "{fault}");
+        let puts = puts_of_line(rt.alloc(), &fault);
+        assert!(rt; puts == 1, "{fault}");
     }
 }
+
+// How many puts the line of a fault is.
+fn puts_of_line(alloc: Global, fault: &Fault) -> u32 {
+    let mut errors = Counted::new(alloc, false, false);
+    let _status = report(fault, &mut errors);
+    errors.puts()
+}
+
+// What a call leaves whose words could not be read.
+fn left_unread(alloc: Global, error: Error) -> Left {
+    let mut source = CutSource::new(b"", 1, 0);
+    let mut out = Counted::new(alloc, false, true);
+    let mut errors = Counted::new(alloc, false, false);
+    let status = run_program(alloc, Err(error), &mut source, &mut out, &mut errors);
+    Left {
+        status,
+        out,
+        errors,
+    }
+}
+
+const UNREAD: [(ErrorKind, &str, u8); 3] = [
+    (ErrorKind::InvalidData, USAGE, 2),
+    (ErrorKind::Other, USAGE, 2),
+    (
+        ErrorKind::OutOfMemory,
+        "Something went wrong (panic code 1)!\n",
+        1,
+    ),
+];
 
 // Words that could not be read are an invalid command line, unless memory ran out.
 #[test]
 fn words_that_could_not_be_read(rt: HostRuntime) {
-    let cases = [
-        (ErrorKind::InvalidData, USAGE, 2),
-        (ErrorKind::Other, USAGE, 2),
-        (
-            ErrorKind::OutOfMemory,
-            "Something went wrong (panic code 1)!\n",
-            1,
-        ),
-    ];
-    for (kind, line, status) in cases {
-        let mut source = CutSource::new(b"", 1, 0);
-        let mut out = Counted::new(rt.alloc(), false, true);
-        let mut errors = Counted::new(rt.alloc(), false, false);
-        let words = Err(Error::from(kind));
-        let answered = run_program(rt.alloc(), words, &mut source, &mut out, &mut errors);
-        assert_eq!(rt; answered, status);
-        assert_eq!(rt; errors.bytes(), line.as_bytes());
-        assert_eq!(rt; out.flushes(), 0);
+    for (kind, line, status) in UNREAD {
+        let left = left_unread(rt.alloc(), Error::from(kind));
+        assert!(rt; left.is_refusal(line, status), "{line}");
     }
 }
