@@ -23,16 +23,42 @@ mod saving;
 const USAGE: &str =
     "usage: sgb (names|list) EXPR [--after NAME|--skip K], sgb save EXPR, sgb queen, sgb flip EXPR\n";
 
+const TOO_LARGE: &str = "sgb: expression too large\n";
+
+const NO_VERTEX: &str = "sgb: no such vertex\n";
+
+const READ_FAULT: &str = "sgb: read fault\n";
+
 const WRITE_FAULT: &str = "sgb: write fault\n";
+
+const CODE_1: &str = "Something went wrong (panic code 1)!\n";
+
+const CODE_10: &str = "Something went wrong (panic code 10)!\n";
+
+const CODE_11: &str = "Something went wrong (panic code 11)!\n";
+
+const CODE_20: &str = "Something went wrong (panic code 20)!\n";
+
+const CODE_30: &str = "Something went wrong (panic code 30)!\n";
+
+const CODE_40: &str = "Something went wrong (panic code 40)!\n";
+
+const CODE_60: &str = "Something went wrong (panic code 60)!\n";
 
 // The words of a call after the program's name.
 fn words_of(alloc: Global, words: &[&str]) -> Result<Vec<String>, Fail> {
     let mut all = Vec::new(alloc);
-    all.push(String::from_str(alloc, "sgb")?)?;
+    push_word(alloc, &mut all, "sgb")?;
     for word in words {
-        all.push(String::from_str(alloc, word)?)?;
+        push_word(alloc, &mut all, word)?;
     }
     Ok(all)
+}
+
+fn push_word(alloc: Global, all: &mut Vec<String>, word: &str) -> Result<(), Fail> {
+    let owned = String::from_str(alloc, word)?;
+    all.push(owned)?;
+    Ok(())
 }
 
 // Makes a call, and returns its exit status. Standard input would fail: no such call reads it.

@@ -26,12 +26,9 @@ static ANSWERED: [(&[&str], bool); 8] = [
 
 // Whether a call ended with a write fault, at the first put or at the flush.
 fn is_write_fault(left: &Left, by_put: bool, line: &str) -> bool {
-    let calls = if by_put {
-        [1, 0, 1, 0]
-    } else {
-        [left.out.puts(), 1, 1, 0]
-    };
-    left.has(line, 3) && left.calls() == calls
+    let puts = if by_put { 1 } else { left.out.puts() };
+    let flushes = if by_put { 0 } else { 1 };
+    left.has(line, 3) && left.calls() == [puts, flushes, 1, 0]
 }
 
 // A flush that fails is a write fault, also after an empty answer. The first put that fails ends the request: the
@@ -133,12 +130,17 @@ fn nothing_is_written_after_a_write_fault(rt: HostRuntime) -> Result<(), Fail> {
     Ok(())
 }
 
+// The line and the status of a call whose output was cut off, or was not.
+fn ending(is_cut: bool) -> (&'static str, u8) {
+    if is_cut { (WRITE_FAULT, 3) } else { ("", 0) }
+}
+
 // Whether a call whose sinks take so many bytes at once, and the output only this many in all, leaves there exactly the
 // first bytes of the whole output, and the line and the status that go with them.
 fn is_cut_off(
     alloc: Global,
     words: &[&str],
-    whole: &str,
+    whole: &[u8],
     each: usize,
     limit: usize,
 ) -> Result<bool, Fail>
@@ -147,16 +149,9 @@ fn is_cut_off(
     let mut out: CutSink<160> = CutSink::new(each, limit, false);
     let mut errors: CutSink<160> = CutSink::new(each, 128, false);
     let status = call(alloc, words, &mut out, &mut errors)?;
-    let (line, wanted) = if limit < whole.len() {
-        (WRITE_FAULT, 3)
-    } else {
-        ("", 0)
-    };
-    Ok(
-        status == wanted
-            && whole.as_bytes().get(..limit) == Some(out.bytes())
-            && errors.bytes() == line.as_bytes(),
-    )
+    let (line, wanted) = ending(limit < whole.len());
+    let is_prefix = out.bytes().len() == limit && whole.starts_with(out.bytes());
+    Ok(status == wanted && is_prefix && errors.bytes() == line.as_bytes())
 }
 
 // A sink that takes so many bytes and then fails has exactly the first bytes of the output, however many it takes at
@@ -166,7 +161,11 @@ fn check_short_sinks(rt: &impl Abort, alloc: Global, each: usize) -> Result<(), 
 {
     for (words, whole) in &SHORT_ANSWERS {
         for limit in 0..=whole.len() {
-            check_call(rt, words, is_cut_off(alloc, words, whole, each, limit)?);
+            check_call(
+                rt,
+                words,
+                is_cut_off(alloc, words, whole.as_bytes(), each, limit)?,
+            );
         }
     }
     Ok(())

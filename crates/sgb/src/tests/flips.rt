@@ -1,7 +1,7 @@
 //! Random numbers, with values from GB_FLIP's own test and from a program of its rules by itself.
 
-use super::answers_are;
 use super::refusals::check_refusals;
+use super::{CODE_30, TOO_LARGE, answers_are};
 use std::test::Fail;
 
 static NUMBERS: [(&[&str], &str); 13] = [
@@ -48,21 +48,19 @@ fn numbers_drawn(rt: HostRuntime) -> Result<(), Fail> {
     answers_are(&rt, rt.alloc(), &NUMBERS)
 }
 
-const BAD: &str = "Something went wrong (panic code 30)!\n";
-
 // Calls that are refused, with the line and the status.
 static REFUSED: [(&[&str], &str, u8); 16] = [
-    (&["flip", "flip(1,-1,1,0)"], BAD, 1),
-    (&["flip", "flip(1,0,-1,0)"], BAD, 1),
-    (&["flip", "flip(1,0,1,-1)"], BAD, 1),
-    (&["flip", "flip(1,0,1,2147483649)"], BAD, 1),
-    (&["flip", "flip(1,0,0,2147483649)"], BAD, 1),
-    (&["flip", "flip(1,1000000001,0,0)"], BAD, 1),
-    (&["flip", "flip(1,0,1000000001,0)"], BAD, 1),
+    (&["flip", "flip(1,-1,1,0)"], CODE_30, 1),
+    (&["flip", "flip(1,0,-1,0)"], CODE_30, 1),
+    (&["flip", "flip(1,0,1,-1)"], CODE_30, 1),
+    (&["flip", "flip(1,0,1,2147483649)"], CODE_30, 1),
+    (&["flip", "flip(1,0,0,2147483649)"], CODE_30, 1),
+    (&["flip", "flip(1,1000000001,0,0)"], CODE_30, 1),
+    (&["flip", "flip(1,0,1000000001,0)"], CODE_30, 1),
     // 2^32 and 2^32 + 1 do not count as 0 and 1
-    (&["flip", "flip(1,4294967296,1,0)"], BAD, 1),
-    (&["flip", "flip(1,0,4294967297,0)"], BAD, 1),
-    (&["flip", "flip(1,0,1,4294967296)"], BAD, 1),
+    (&["flip", "flip(1,4294967296,1,0)"], CODE_30, 1),
+    (&["flip", "flip(1,0,4294967297,0)"], CODE_30, 1),
+    (&["flip", "flip(1,0,1,4294967296)"], CODE_30, 1),
     (
         &["flip", "board(1,2,3,4,5,6,7)"],
         "sgb: bad expression at byte 0\n",
@@ -93,12 +91,12 @@ static REFUSED: [(&[&str], &str, u8); 16] = [
             "flip",
             "(((((((((((((((((((((((((((((((((((((((((((((((((((((((((((((((((",
         ],
-        "sgb: expression too large\n",
+        TOO_LARGE,
         2,
     ),
 ];
 
 #[test]
 fn refused_flips(rt: HostRuntime) -> Result<(), Fail> {
-    check_refusals(&rt, rt.alloc(), &REFUSED, false)
+    check_refusals(&rt, rt.alloc(), &REFUSED)
 }

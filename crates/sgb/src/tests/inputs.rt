@@ -2,23 +2,14 @@
 
 ghost use Rattle.std.specs.Prelude.{◌<◌};
 
-use super::{NONE, USAGE, check_call, left_on};
+use super::{
+    CODE_10, CODE_11, CODE_20, CODE_30, CODE_60, NO_VERTEX, NONE, READ_FAULT, USAGE, check_call,
+    left_on,
+};
 use sgb_file::{CutSource, MemSource, Source};
 use std::alloc::Global;
 use std::process::Abort;
 use std::test::Fail;
-
-const CODE_10: &str = "Something went wrong (panic code 10)!\n";
-
-const CODE_11: &str = "Something went wrong (panic code 11)!\n";
-
-const CODE_20: &str = "Something went wrong (panic code 20)!\n";
-
-const CODE_30: &str = "Something went wrong (panic code 30)!\n";
-
-const CODE_60: &str = "Something went wrong (panic code 60)!\n";
-
-const READ_FAULT: &str = "sgb: read fault\n";
 
 // Makes a call on this standard input, and compares its output, its line and its status with these.
 fn check<R: Source>(
@@ -173,11 +164,7 @@ static REFUSED: [(&[&str], &str, &str); 15] = [
         CODE_10,
     ),
     (&["save", "stdin"], "", CODE_10),
-    (
-        &["names", "stdin", "--after", "2"],
-        COMPLETE,
-        "sgb: no such vertex\n",
-    ),
+    (&["names", "stdin", "--after", "2"], COMPLETE, NO_VERTEX),
 ];
 
 // Makes each call, which is answered with this text, or refused with this line.

@@ -1,7 +1,7 @@
 //! Nested expressions, and the graph of the queens.
 
 use super::refusals::check_refusals;
-use super::{Parts, answers_are, answers_have};
+use super::{Parts, TOO_LARGE, answers_are, answers_have};
 use std::test::Fail;
 
 static ANSWERS: [(&[&str], &str); 13] = [
@@ -163,12 +163,12 @@ static DEEP: [(&[&str], &str); 1] = [(
 // One with 65 is too large.
 static TOO_DEEP: [(&[&str], &str, u8); 1] = [(
     &["names", complements!("complement(petersen(),0,0,0)")],
-    "sgb: expression too large\n",
+    TOO_LARGE,
     2,
 )];
 
 #[test]
 fn as_many_parentheses_as_are_read(rt: HostRuntime) -> Result<(), Fail> {
     answers_are(&rt, rt.alloc(), &DEEP)?;
-    check_refusals(&rt, rt.alloc(), &TOO_DEEP, false)
+    check_refusals(&rt, rt.alloc(), &TOO_DEEP)
 }
