@@ -97,7 +97,7 @@ fn answers_to_derived_graphs(rt: HostRuntime) -> Result<(), Fail> {
 }
 
 // Operands and entries are evaluated in order before the operation's own refusals, and then a negative entry is refused.
-static REFUSED: [(&[&str], &str, u8); 15] = [
+static REFUSED: [(&[&str], &str, u8); 16] = [
     (&["list", "lines(cycle(3),0)"], CODE_60, 1),
     (
         &["list", "product(empty(40000),empty(40000),0,0)"],
@@ -119,6 +119,12 @@ static REFUSED: [(&[&str], &str, u8); 15] = [
     ),
     (
         &["names", "induced(complete(2),[1,999999999999999999],0,0,0)"],
+        CODE_40,
+        1,
+    ),
+    // 2^32 + 1 does not count as 1
+    (
+        &["names", "induced(complete(2),[1,4294967297],0,0,0)"],
         CODE_40,
         1,
     ),

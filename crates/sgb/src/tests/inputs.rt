@@ -196,8 +196,8 @@ fn refusals_on_standard_input(rt: HostRuntime) -> Result<(), Fail> {
     check_all(&rt, rt.alloc(), &REFUSED, true)
 }
 
-// What a file's first bytes are a file of, by how many they are.
-fn left_by(len: usize) -> (&'static str, &'static str, u8) {
+// What is to be left where the input is this many first bytes of the file.
+fn wanted_of_first(len: usize) -> (&'static str, &'static str, u8) {
     if len <= 50 {
         ("", CODE_10, 1)
     } else if len <= 136 {
@@ -216,7 +216,13 @@ fn check_short_inputs(rt: &impl Abort, alloc: Global, each: usize) -> Result<(),
     for len in 0..=COMPLETE.len() {
         let bytes = &COMPLETE.as_bytes()[..len];
         let mut source = CutSource::new(bytes, each, 1000);
-        check(rt, alloc, &["list", "stdin"], &mut source, left_by(len))?;
+        check(
+            rt,
+            alloc,
+            &["list", "stdin"],
+            &mut source,
+            wanted_of_first(len),
+        )?;
     }
     Ok(())
 }
