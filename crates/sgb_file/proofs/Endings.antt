@@ -18,7 +18,7 @@ use Rattle.sgb_file.specs.Checksum.{has_star}
 use Rattle.sgb_file.specs.Fields.{Found}
 use Rattle.sgb_file.specs.Reading.{IsReadOf}
 use Rattle.sgb_file.specs.Records.{Head, records_at}
-use Rattle.sgb_file.proofs.LinesLeftLemmas.{begun_text}
+use Rattle.sgb_file.proofs.LeftTexts.{next_left}
 use Rattle.sgb_file.proofs.ReadParts.{read_is_checked}
 use Rattle.sgb_file.specs.Restoring.{Opening, opening_of, head_of_line, graph_of_text, graph_of_opening, graph_of_records, graph_after, graph_at_end, closes, line_closes, lines_before, kind_of_letter, kinds_at}
 
@@ -94,12 +94,15 @@ pub opens_nothing : (text : List ℕ) → text ≡ [] → opening_of (clean_line
 unfolding opening_of lines_among
 opens_nothing text e = rw e refl
 
+-- where the first line is just begun the text that is left is that of all lines
+text_whole : (s : LinesLeft) → s ≡ next_begun (none_begun s.all) → text_left s ≡ text_of_lines s.all
+text_whole s begun = ap text_left begun ∙ next_left (none_begun s.all)
+
 -- the graph of a text that opens here is that of the records in the lines that are left
 pub graph_opened : (text : List ℕ) (head : Head) (s : LinesLeft) → Some (record { head = head; lines = s.all }) ≡ opening_of (clean_lines text) → s ≡ next_begun (none_begun s.all)
     → graph_of_text text ≡ graph_after (record { head = head; lines = s.all }) (records_at head (text_left s))
 graph_opened text head s e begun =
-    let whole : text_left s ≡ text_of_lines s.all = ap text_left begun ∙ begun_text s.all s.all in
-    ap graph_of_opening (sym e) ∙ ap (λ t. graph_after (record { head = head; lines = s.all }) (records_at head t)) (sym whole)
+    ap graph_of_opening (sym e) ∙ ap (λ t. graph_after (record { head = head; lines = s.all }) (records_at head t)) (sym (text_whole s begun))
 
 -- what the graph of a text is where its records end in these lines
 pub graph_ended : (text : List ℕ) (head : Head) (s t : LinesLeft) (g : GraphData) (closed : Bool) → Some (record { head = head; lines = s.all }) ≡ opening_of (clean_lines text)
@@ -115,8 +118,7 @@ pub graph_checked : (text : List ℕ) (head : Head) (s : LinesLeft) (rest : List
     → s ≡ next_begun (none_begun s.all) → records_at head (text_left s) ≡ Some (record { value = g; rest = rest }) → graph_of_text text ≡ graph_at_end true (is_sound g) g → IsCheckOf (checked g) r
     → IsReadOf (graph_of_text text) r
 graph_checked text head s rest g r e begun found is h =
-    let whole : text_left s ≡ text_of_lines s.all = ap text_left begun ∙ begun_text s.all s.all in
-    let says : records_at head (text_of_lines s.all) ≡ Some (record { value = g; rest = rest }) = ap (records_at head) (sym whole) ∙ found in
+    let says : records_at head (text_of_lines s.all) ≡ Some (record { value = g; rest = rest }) = ap (records_at head) (sym (text_whole s begun)) ∙ found in
     let fit : checked g ≡ (if is_sound g then Ok g else Err Syntax) =
     read_is_checked (clean_lines text) (record { head = head; lines = s.all }) (record { value = g; rest = rest }) (sym e) says in
     let same : graph_of_text text ≡ checked g = is ∙ (at_end (is_sound g) ∙ sym fit) in

@@ -34,6 +34,9 @@ no_line_end (b ∷ line) more h some =
     let same = not_true (b == 10) byte.0 in
     let e : (10 == b) ≡ false = grind (arith, nat_tests) in rw e refl
 
+pub line_goes_on : (s : LinesLeft) (line : List ℕ) → Some line ≡ s.line → has_no_newline line ≡ true → 0 < length line → after_prefix (codes "\n") (text_left s) ≡ None
+line_goes_on s line e h some = ap (after_prefix (codes "\n")) (under_way s line e) ∙ no_line_end line (10 ∷ text_of_lines s.others) h some
+
 -- a list none of whose elements passes before its end
 none_step : (t u : Bool) (n k : ℕ) → suc n ≤ cond t (1 + k) 0 → (n ≤ k → u ≡ true) → (t && u) ≡ true
 none_step true u n k h f = f (omega (arith, h))

@@ -16,23 +16,13 @@ use Rattle.sgb_file.specs.Fields.{Found, given, found_as, after_prefix, string_a
 use Rattle.sgb_file.specs.Found.{IsFoundBy}
 use Rattle.sgb_file.specs.Records.{Head, after_comma, more_fields_at, all_at, arc_record_at, graph_record_at, records_at, vertex_record_at}
 use Rattle.sgb_file.proofs.FoundParts.{was_given, was_let_through, was_mapped}
-use Rattle.sgb_file.specs.Reading.{vertices_at, arcs_at}
+use Rattle.sgb_file.specs.Reading.{vertices_at, arcs_at, with_vertices, with_records}
 use Rattle.sgb_file.specs.LinesLeft.{LinesLeft, text_left, has_no_newline}
 use Rattle.sgb_file.specs.FileLines.{text_of_lines}
 use Rattle.sgb_file.proofs.LineLemmas.{not_true}
 
--- a reader that stops because another one stopped
-pub stops : {X Y : Type 0} (first : Option (Found X)) (all : Option (Found Y)) (p : Panic) (left later : List ℕ) → IsFoundBy first (Err p) left → (first ≡ None → all ≡ None) → IsFoundBy all (Err p) later
-stops first all Syntax left later h f = f h
-stops first all NoRoom left later h f = tt
-stops first all Early left later h f = absurd h
-stops first all Late left later h f = absurd h
-stops first all Bad left later h f = absurd h
-stops first all VeryBad left later h f = absurd h
-stops first all Invalid left later h f = absurd h
-
 -- one more record, and then the others
-pub one_more : {X Y : Type 0} (one_at : List ℕ → Option (Found X)) (f : List X → Y) (g : List X → Y) (n : ℕ) (x : X) (text rest : List ℕ) → one_at text ≡ Some (record { value = x; rest = rest })
+one_more : {X Y : Type 0} (one_at : List ℕ → Option (Found X)) (f : List X → Y) (g : List X → Y) (n : ℕ) (x : X) (text rest : List ℕ) → one_at text ≡ Some (record { value = x; rest = rest })
     → ((xs : List X) → f (x ∷ xs) ≡ g xs) → found_as f (all_at one_at (suc n) text) ≡ found_as g (all_at one_at n rest)
 unfolding all_at
 one_more {X = X} {Y = Y} one_at f g n x text rest e same = rw e (under (all_at one_at n rest))
@@ -41,48 +31,47 @@ one_more {X = X} {Y = Y} one_at f g n x text rest e same = rw e (under (all_at o
     under None = refl
     under (Some r) = ap (λ y. Some (record { value = y; rest = r.rest })) (same r.value)
 
--- no record, where one has to come
-pub no_more : {X Y : Type 0} (one_at : List ℕ → Option (Found X)) (f : List X → Y) (n : ℕ) (text : List ℕ) → one_at text ≡ None → found_as f (all_at one_at (suc n) text) ≡ None
-unfolding all_at
-no_more one_at f n text e = rw e refl
+-- with k of n records behind, one more is to come
+one_to_come : (n k : ℕ) → k < n → n - k ≡ suc (n - (k + 1))
+one_to_come n k within = omega (arith, within)
 
--- one vertex more
+-- it comes
+next_read : {X Y : Type 0} (one_at : List ℕ → Option (Found X)) (f g : List X → Y) (n k : ℕ) (x : X) (text rest : List ℕ) → k < n → one_at text ≡ Some (record { value = x; rest = rest })
+    → ((xs : List X) → f (x ∷ xs) ≡ g xs) → found_as g (all_at one_at (n - (k + 1)) rest) ≡ found_as f (all_at one_at (n - k) text)
+next_read one_at f g n k x text rest within e same =
+    sym (ap (λ (j : ℕ). found_as f (all_at one_at j text)) (one_to_come n k within) ∙ one_more one_at f g (n - (k + 1)) x text rest e same)
+
+-- it does not come
+pub next_missing : {X Y : Type 0} (one_at : List ℕ → Option (Found X)) (f : List X → Y) (n k : ℕ) (text : List ℕ) → k < n → one_at text ≡ None → found_as f (all_at one_at (n - k) text) ≡ None
+unfolding all_at
+next_missing one_at f n k text within e = ap (λ (j : ℕ). found_as f (all_at one_at j text)) (one_to_come n k within) ∙ rw e refl
+
+-- none is to come
+all_read : {X Y : Type 0} (one_at : List ℕ → Option (Found X)) (f : List X → Y) (k : ℕ) (text : List ℕ) → k ≡ 0 → found_as f (all_at one_at k text) ≡ Some (record { value = f []; rest = text })
+unfolding all_at
+all_read one_at f k text e = rw e refl
+
+-- the same of vertices
 pub next_vertex : (head : Head) (parts more : GraphData) (n v : ℕ) (x : Vertex) (text rest : List ℕ) → v < n → vertex_record_at head text ≡ Some (record { value = x; rest = rest })
     → more ≡ with_vertex x parts → vertices_at head more (n - (v + 1)) rest ≡ vertices_at head parts (n - v) text
 next_vertex head parts more n v x text rest within e is =
-    let count : suc (n - (v + 1)) ≡ n - v = omega (arith, within) in
-    rw is (sym (one_more (vertex_record_at head) (λ vs. record parts { vertices = parts.vertices ++ vs }) (λ vs. record parts { vertices = (parts.vertices ++ x ∷ []) ++ vs }) (n - (v + 1)) x text rest e
+    rw is (next_read (vertex_record_at head) (with_vertices parts) (with_vertices (with_vertex x parts)) n v x text rest within e
     (λ xs. ap (λ vs. record parts { vertices = vs }) (sym (append_assoc parts.vertices (x ∷ []) xs))))
-    ∙ ap (λ (k : ℕ). vertices_at head parts k text) count)
 
-pub no_vertex : (head : Head) (parts : GraphData) (n v : ℕ) (text : List ℕ) → v < n → vertex_record_at head text ≡ None → vertices_at head parts (n - v) text ≡ None
-no_vertex head parts n v text within e =
-    let count : suc (n - (v + 1)) ≡ n - v = omega (arith, within) in
-    ap (λ (k : ℕ). vertices_at head parts k text) (sym count) ∙ no_more (vertex_record_at head) (λ vs. record parts { vertices = parts.vertices ++ vs }) (n - (v + 1)) text e
-
--- all vertices
 pub vertices_read : (head : Head) (parts : GraphData) (k : ℕ) (text : List ℕ) → k ≡ 0 → vertices_at head parts k text ≡ Some (record { value = parts; rest = text })
-unfolding all_at
-vertices_read head parts k text e = rw e (ap (λ vs. Some (record { value = record parts { vertices = vs }; rest = text })) (append-nil parts.vertices))
+vertices_read head parts k text e =
+    all_read (vertex_record_at head) (with_vertices parts) k text e ∙ ap (λ vs. Some (record { value = record parts { vertices = vs }; rest = text })) (append-nil parts.vertices)
 
--- one arc record more
+-- and of arc records
 pub next_arc : (head : Head) (parts more : GraphData) (n k : ℕ) (r : ArcRec) (text rest : List ℕ) → k < n → arc_record_at head text ≡ Some (record { value = r; rest = rest })
     → more ≡ with_record r parts → arcs_at head more (n - (k + 1)) rest ≡ arcs_at head parts (n - k) text
 next_arc head parts more n k r text rest within e is =
-    let count : suc (n - (k + 1)) ≡ n - k = omega (arith, within) in
-    rw is (sym (one_more (arc_record_at head) (λ rs. record parts { records = parts.records ++ rs }) (λ rs. record parts { records = (parts.records ++ r ∷ []) ++ rs }) (n - (k + 1)) r text rest e
+    rw is (next_read (arc_record_at head) (with_records parts) (with_records (with_record r parts)) n k r text rest within e
     (λ xs. ap (λ rs. record parts { records = rs }) (sym (append_assoc parts.records (r ∷ []) xs))))
-    ∙ ap (λ (j : ℕ). arcs_at head parts j text) count)
 
-pub no_arc : (head : Head) (parts : GraphData) (n k : ℕ) (text : List ℕ) → k < n → arc_record_at head text ≡ None → arcs_at head parts (n - k) text ≡ None
-no_arc head parts n k text within e =
-    let count : suc (n - (k + 1)) ≡ n - k = omega (arith, within) in
-    ap (λ (j : ℕ). arcs_at head parts j text) (sym count) ∙ no_more (arc_record_at head) (λ rs. record parts { records = parts.records ++ rs }) (n - (k + 1)) text e
-
--- all arc records
 pub arcs_read : (head : Head) (parts : GraphData) (k : ℕ) (text : List ℕ) → k ≡ 0 → arcs_at head parts k text ≡ Some (record { value = parts; rest = text })
-unfolding all_at
-arcs_read head parts k text e = rw e (ap (λ rs. Some (record { value = record parts { records = rs }; rest = text })) (append-nil parts.records))
+arcs_read head parts k text e =
+    all_read (arc_record_at head) (with_records parts) k text e ∙ ap (λ rs. Some (record { value = record parts { records = rs }; rest = text })) (append-nil parts.records)
 
 -- what follows a prefix
 starts_so : (p more : List ℕ) → starts_with (λ b c. b == c) (p ++ more) p ≡ true
