@@ -1,6 +1,6 @@
 -- Lemmas on the opening and the end of a file, in the words of the code.
 use Rattle.std.specs.Prelude.{if◌then◌else◌}
-use Rattle.std.proofs.Common.{◌≡◌, ◌<◌, ◌≤◌, ◌∙◌, ℕ, Bool, true, false, List, [], ◌∷◌, Option, Some, None, length, take, drop, set, slice_index, ◌+◌, zero, suc, filter_map, refl, sym, ap, arith, cond, ◌==◌, ◌&&◌, ◌++◌, Result, Ok, Err, nat_le, subst}
+use Rattle.std.proofs.Common.{◌≡◌, ◌<◌, ◌≤◌, ◌∙◌, ℕ, Bool, true, false, List, [], ◌∷◌, Option, Some, None, length, take, drop, set, slice_index, ◌+◌, zero, suc, filter_map, refl, sym, ap, arith, ◌==◌, ◌++◌, Result, Ok, Err, subst}
 use Rattle.std.proofs.lemmas.Bool.Decides.{nat_tests}
 use Rattle.std.proofs.lemmas.List.{length-take, get_or-take, take_more, take_more_set, take_all}
 use Rattle.std.proofs.lemmas.List.Elements.{filter_map-append}
@@ -9,28 +9,19 @@ use Rattle.sgb_graph.specs.declared.fields.Kind.{Kind}
 use Rattle.sgb_file.specs.FileLines.{lines_among, lines_of_text, clean_lines, text_of_lines}
 use Rattle.sgb_file.specs.LinesLeft.{LinesLeft, text_left, next_begun, none_begun, lines_still, lines_passed}
 use Rattle.sgb_vec.specs.declared.panics.Panic.{Panic}
-use Rattle.sgb_vec.specs.declared.panics.Panic.TheVariants.{Late, Syntax}
-use Rattle.sgb_vec.specs.Limits.{most_vertices}
+use Rattle.sgb_vec.specs.declared.panics.Panic.TheVariants.{Syntax}
 use Rattle.sgb_graph.specs.Graphs.{GraphData}
 use Rattle.sgb_graph.specs.Parts.{IsCheckOf, checked}
-use Rattle.sgb_graph.specs.Sound.{fields_fit, is_sound}
+use Rattle.sgb_graph.specs.Sound.{is_sound}
 use Rattle.sgb_file.specs.Checksum.{has_star}
-use Rattle.sgb_file.specs.Fields.{Found}
 use Rattle.sgb_file.specs.Reading.{IsReadOf}
 use Rattle.sgb_file.specs.Records.{Head, records_at}
+use Rattle.sgb_file.proofs.FirstLines.{no_more_kinds}
 use Rattle.sgb_file.proofs.LeftTexts.{next_left}
 use Rattle.sgb_file.proofs.ReadParts.{read_is_checked}
-use Rattle.sgb_file.specs.Restoring.{Opening, opening_of, head_of_line, graph_of_text, graph_of_opening, graph_of_records, graph_after, graph_at_end, closes, line_closes, lines_before, kind_of_letter, kinds_at}
+use Rattle.sgb_file.specs.Restoring.{opening_of, head_of_line, graph_of_text, graph_of_opening, graph_after, graph_at_end, closes, line_closes, kind_of_letter, kinds_at}
 
 -- a text of fewer letters has not the kinds
-kept_short : {Y : Type 0} (y : Option Y) (ys : List Y) (n : ℕ) → length ys ≤ n → length (cons_option y ys) ≤ suc n
-kept_short None ys n h = omega (arith, h)
-kept_short (Some y) ys n h = omega (arith, h)
-
-filtered_short : (xs : List ℕ) → length (filter_map kind_of_letter xs) ≤ length xs
-filtered_short [] = omega arith
-filtered_short (x ∷ xs) = kept_short (kind_of_letter x) (filter_map kind_of_letter xs) (length xs) (filtered_short xs)
-
 kept_fewer : {Y : Type 0} (y : Option Y) (ys : List Y) (n : ℕ) → length ys < n → length (cons_option y ys) < suc n
 kept_fewer None ys n h = omega (arith, h)
 kept_fewer (Some y) ys n h = omega (arith, h)
@@ -41,7 +32,7 @@ kept_none (Some y) ys n e h = absurd cc
 
 filtered_fewer : (xs : List ℕ) (i : ℕ) → i < length xs → kind_of_letter (slice_index xs i) ≡ None → length (filter_map kind_of_letter xs) < length xs
 filtered_fewer [] i h e = absurd (omega (arith, h))
-filtered_fewer (x ∷ xs) zero h e = kept_none (kind_of_letter x) (filter_map kind_of_letter xs) (length xs) e (filtered_short xs)
+filtered_fewer (x ∷ xs) zero h e = kept_none (kind_of_letter x) (filter_map kind_of_letter xs) (length xs) e (no_more_kinds xs)
 filtered_fewer (x ∷ xs) (suc i) h e = kept_fewer (kind_of_letter x) (filter_map kind_of_letter xs) (length xs) (filtered_fewer xs i (omega (arith, h)) e)
 
 -- where a byte is no letter of a kind, the text has not the kinds
@@ -63,7 +54,7 @@ kinds_read text kinds e size = rw (e ∙ take_all 14 kinds (omega (arith, size))
 
 pub short_kinds : (text : List ℕ) → length text < 14 → None ≡ kinds_at text
 short_kinds text h =
-    let few = filtered_short (take 14 text) in
+    let few = no_more_kinds (take 14 text) in
     let other : (length (filter_map kind_of_letter (take 14 text)) == 14) ≡ false = grind (arith, nat_tests, few, length-take 14 text) in
     rw other refl
 

@@ -26,7 +26,7 @@ use Rattle.sgb_file.specs.Saved.{CanBeSaved}
 use Rattle.sgb_file.proofs.LineLemmas.{is_line, is_one_line, list_all-join, lines_read, clean_lines_read, clean_are_one_line, ends_well}
 use Rattle.sgb_file.proofs.FieldReading.{decimal_digits, number_read}
 use Rattle.sgb_file.proofs.RecordReading.{AreSmall, vertex_read, arc_read, graph_read, all_read}
-use Rattle.sgb_file.proofs.ReadParts.{number_digits}
+use Rattle.sgb_file.proofs.NumberReading.{at_most, number_digits}
 use Rattle.sgb_file.proofs.RestoringLemmas.{read_by_parts}
 use Rattle.sgb_file.proofs.WrittenLines.{IsWrittenVertex, IsWrittenRecord, vertices_written, records_written, middle_are_lines, head_is_line, checksum_is_line}
 
@@ -156,9 +156,6 @@ record IsReady (g : GraphData) : Type 0 where
   fields : utils_fit (length g.vertices) (length g.records) (graph_kinds g.kinds) g.util ≡ true
   vertices : All (IsWrittenVertex g) g.vertices
   records : All (IsWrittenRecord g) g.records
-
-at_most : (n k : ℕ) → nat_le n k ≡ true → n ≤ k
-at_most n k h = grind (arith, nat_tests)
 
 ready : (g : GraphData) → CanBeSaved g → IsReady g
 ready g h =

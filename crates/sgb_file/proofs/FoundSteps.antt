@@ -1,10 +1,9 @@
 -- Lemmas on readers one after another: a record is read field by field.
-use Rattle.std.specs.Prelude.{◌≡◌, ℕ, ◌+◌, ◌<◌, ◌≤◌, Bool, true, false, List, [], ◌∷◌, ◌++◌, length, take, drop, codes, Option, Some, None, Result, Ok, Err, option_map, ◌==◌, refl}
-use Rattle.std.proofs.Common.{ap, sym, subst, suc, ◌∙◌, append_assoc, append-nil, arith, get_or}
+use Rattle.std.specs.Prelude.{◌≡◌, ℕ, ◌+◌, ◌<◌, ◌≤◌, true, List, [], ◌∷◌, ◌++◌, length, take, drop, codes, Option, Some, None, Err, option_map, ◌==◌, refl}
+use Rattle.std.proofs.Common.{ap, sym, suc, ◌∙◌, append_assoc, append-nil, arith, get_or}
 use Rattle.std.proofs.Common.{set}
 use Rattle.std.proofs.Math.Seq.{drop-cons}
 use Rattle.std.proofs.lemmas.List.{take_more_set, take_all, drop_all}
-use Rattle.sgb_vec.specs.Limits.{most_bytes}
 use Rattle.sgb_vec.specs.declared.panics.Panic.{Panic}
 use Rattle.sgb_vec.specs.declared.panics.Panic.TheVariants.{NoRoom, Early, Late, Syntax, Bad, VeryBad, Invalid}
 use Rattle.std.proofs.lemmas.Bool.Decides.{nat_tests}
@@ -15,9 +14,6 @@ use Rattle.sgb_graph.specs.Sound.{vertex_kinds, arc_kinds, graph_kinds}
 use Rattle.sgb_graph.specs.declared.fields.Kind.{Kind}
 use Rattle.sgb_graph.specs.declared.fields.Kind.TheVariants.{Z, I, V, S, A}
 use Rattle.sgb_graph.specs.declared.fields.Util.{Util}
-use Rattle.sgb_graph.specs.declared.fields.Util.TheVariants.{Nothing, Int, Vertex as VertexField, Str, Chain}
-use Rattle.sgb_graph.specs.declared.fields.Vertex.{Vertex}
-use Rattle.sgb_graph.specs.declared.fields.ArcRec.{ArcRec}
 use Rattle.sgb_file.specs.Fields.{Counts, Found, given, found_as, field_at, most_number_digits, number_of, plain_at, string_at, after_prefix}
 use Rattle.sgb_file.specs.Records.{Head, after_comma, graph_record_at, more_fields_at, record_at, vertex_record_at, vertex_of_fields, arc_record_at, arc_of_fields}
 use Rattle.sgb_file.specs.Found.{IsFoundBy, IsPassedBy, next_field_at}

@@ -1,7 +1,7 @@
 -- Lemmas on the lines that are left of a file: their checksum, and that a line has no newlines.
-use Rattle.std.proofs.Common.{◌≡◌, ◌<◌, ◌≤◌, ◌++◌, ◌∙◌, ℕ, Bool, true, false, Bor, List, [], ◌∷◌, Option, Some, None, length, take, drop, map, slice_index, not, ◌&&◌, ◌+◌, ◌-◌, ◌≢◌, All, unwrap_or, cond, ◌==◌, refl, sym, ap, subst, append_assoc, append-nil, zero, suc, arith, nat_lt, IsTrue, IfSome, option_map}
+use Rattle.std.proofs.Common.{◌≡◌, ◌<◌, ◌≤◌, ◌++◌, ◌∙◌, ℕ, Bool, true, false, Bor, List, [], ◌∷◌, Option, Some, None, length, take, drop, map, slice_index, not, ◌&&◌, ◌+◌, ◌-◌, ◌≢◌, All, unwrap_or, cond, ◌==◌, refl, sym, ap, subst, append_assoc, append-nil, suc, arith, nat_lt, IsTrue, IfSome, option_map}
 use Rattle.std.specs.List.{list_all, slice_split, position_or_len, position, before_first, after_first}
-use Rattle.std.proofs.lemmas.List.{drop-append-le, drop_more, drop_all, take-append-drop, take_all, length-drop}
+use Rattle.std.proofs.lemmas.List.{drop_more, drop_all, take-append-drop, take_all, length-drop}
 use Rattle.std.proofs.lemmas.List.Folds.{list_all-append}
 use Rattle.std.proofs.lemmas.List.Splits.{slice_split_first, slice_split_none}
 use Rattle.std.proofs.lemmas.List.Sums.{fails_before_first, prefix_len-le-length}
@@ -9,9 +9,8 @@ use Rattle.std.proofs.lemmas.List.Elements.{All-from_get_or}
 use Rattle.std.proofs.lemmas.Bool.{and_parts}
 use Rattle.std.proofs.lemmas.Bool.Decides.{nat_tests, Decides-eqb}
 use Rattle.sgb_file.specs.FileLines.{lines_among, lines_of_text, clean_lines, text_of_lines, without_end_spaces}
-use Rattle.sgb_file.specs.Checksum.{checksum_of_lines}
 use Rattle.sgb_file.specs.Layouts.{checksum_from, counted_bytes}
-use Rattle.sgb_file.specs.LinesLeft.{LinesLeft, text_left, skipped, next_begun, has_no_newline, HasPassed, AreLinesLeft, lines_left, lines_still}
+use Rattle.sgb_file.specs.LinesLeft.{text_left, next_begun, has_no_newline, HasPassed, AreLinesLeft, lines_left, lines_still}
 use Rattle.sgb_file.proofs.LineLemmas.{clean_are_one_line, is_one_line, is_within_line, ends_well, ends_well-last, list_all-drop, first_line, some_part, line_read, lines_read}
 use Rattle.sgb_file.proofs.LaidLines.{checksum_from-append, counted-append}
 use Rattle.sgb_file.proofs.WholeText.{checksum-whole}

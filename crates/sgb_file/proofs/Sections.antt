@@ -1,21 +1,16 @@
 -- Lemmas on the sections of a file, in the words of the code.
-use Rattle.std.proofs.Common.{◌≡◌, ◌∙◌, ◌++◌, ◌<◌, ◌-◌, ◌+◌, ℕ, zero, suc, Bool, true, false, List, [], ◌∷◌, Option, Some, None, Err, option_map, length, refl, sym, ap, subst, append_assoc, append-nil, arith, codes, cond, not, ◌==◌, ◌≢◌}
+use Rattle.std.proofs.Common.{◌≡◌, ◌∙◌, ◌++◌, ◌<◌, ◌-◌, ◌+◌, ℕ, suc, Bool, true, false, List, [], ◌∷◌, Option, Some, None, refl, sym, ap, subst, append_assoc, append-nil, arith, codes, cond, not, ◌==◌}
 use Rattle.std.specs.List.{starts_with}
 use Rattle.std.proofs.Math.Seq.{drop-append_seam}
 use Rattle.std.proofs.lemmas.Bool.{and_parts, and_from}
 use Rattle.std.proofs.lemmas.Bool.Decides.{nat_tests, Decides-eqb}
-use Rattle.sgb_vec.specs.declared.panics.Panic.{Panic}
-use Rattle.sgb_vec.specs.declared.panics.Panic.TheVariants.{NoRoom, Early, Late, Syntax, Bad, VeryBad, Invalid}
 use Rattle.sgb_graph.specs.Graphs.{GraphData}
 use Rattle.sgb_graph.specs.Parts.{with_vertex, with_record}
 use Rattle.sgb_graph.specs.declared.fields.Vertex.{Vertex}
 use Rattle.sgb_graph.specs.declared.fields.ArcRec.{ArcRec}
-use Rattle.sgb_graph.specs.Ids.{most_id_bytes}
-use Rattle.sgb_graph.specs.Sound.{graph_kinds}
-use Rattle.sgb_file.specs.Fields.{Found, given, found_as, after_prefix, string_at, plain_at, number_of, most_number_digits}
-use Rattle.sgb_file.specs.Found.{IsFoundBy}
-use Rattle.sgb_file.specs.Records.{Head, after_comma, more_fields_at, all_at, arc_record_at, graph_record_at, records_at, vertex_record_at}
-use Rattle.sgb_file.proofs.FoundParts.{was_given, was_let_through, was_mapped}
+use Rattle.sgb_file.specs.Fields.{Found, given, found_as, after_prefix}
+use Rattle.sgb_file.specs.Records.{Head, all_at, arc_record_at, graph_record_at, records_at, vertex_record_at}
+use Rattle.sgb_file.proofs.FoundParts.{was_mapped, own_parts}
 use Rattle.sgb_file.specs.Reading.{vertices_at, arcs_at, with_vertices, with_records}
 use Rattle.sgb_file.specs.LinesLeft.{LinesLeft, text_left, has_no_newline}
 use Rattle.sgb_file.specs.FileLines.{text_of_lines}
@@ -134,16 +129,7 @@ record StartsEmpty (g : GraphData) : Type 0 where
 
 start_found : (head : Head) (text : List ℕ) (found : Found GraphData) → graph_record_at head text ≡ Some found → StartsEmpty found.value
 start_found head text found e =
-    let number = plain_at (number_of most_number_digits) in
-    let id = was_given (string_at most_id_bytes text) e in
-    let second = was_given (after_comma id.first.rest) id.made in
-    let n = was_given (number second.first) second.made in
-    let third = was_given (after_comma n.first.rest) n.made in
-    let m = was_given (number third.first) third.made in
-    let util = was_given (more_fields_at head.counts (graph_kinds head.kinds) m.first.rest) m.made in
-    let g : GraphData = record { id = id.first.value; m = m.first.value; kinds = head.kinds; util = util.first.value; vertices = []; records = [] } in
-    let through = was_let_through (n.first.value == head.counts.vertices) (record { value = g; rest = util.first.rest }) found util.made in
-    subst (λ (f : Found GraphData). StartsEmpty f.value) through.1 (record { vertices = refl; records = refl })
+    subst (λ (f : Found GraphData). StartsEmpty f.value) (own_parts head text found e).same (record { vertices = refl; records = refl })
 
 -- the records where those of the graph and of the vertices are read
 pub records_whole : (head : Head) (parts more : GraphData) (t0 t1 t2 t3 t4 : List ℕ) → graph_record_at head t0 ≡ Some (record { value = parts; rest = t1 })
