@@ -20,7 +20,7 @@ use Rattle.sgb_file.specs.Files.{IsFirstLine, IsComment, IsChecksumLine, IsRecor
 use Rattle.sgb_file.proofs.LineLemmas.{is_one_line, is_within_line, lines_read, clean_are_one_line}
 use Rattle.sgb_file.proofs.FoundParts.{prefix_is, was_given, was_mapped, was_chosen}
 use Rattle.sgb_file.proofs.NumberReading.{number_digits}
-use Rattle.sgb_file.proofs.FirstLines.{leading_found, first_line_found}
+use Rattle.sgb_file.proofs.FirstLines.{IsLeading, leading_found, first_line_found}
 use Rattle.sgb_file.proofs.FileReading.{leading_says, kinds_read, opened_by, lines_again}
 use Rattle.sgb_file.proofs.RestoringLemmas.{parts_of_opening, read_by_parts}
 use Rattle.sgb_file.proofs.RecordsAndTexts.{head_found, records_found, records_are_read}
@@ -105,6 +105,18 @@ minus_first : (text : List ℕ) → (slice_index text 0 == 45) ≡ true → text
 minus_first [] h = absurd cc
 minus_first (b ∷ text) h = ap (λ c. c ∷ text) ((Decides-eqb b 45).0 h)
 
+-- a line with a number that agrees is a checksum's
+agreeing_line : (sum : ℕ) (line text : List ℕ) (found : Found ℕ) → IsLeading text found
+    → ((found.value ≡ sum) × (line ≡ codes "* Checksum " ++ text)) ⊎ (((0 < found.value) ⊎ (found.value ≡ sum)) × (line ≡ codes "* Checksum -" ++ text)) → IsChecksumLine sum line
+agreeing_line sum line text found l h = record {
+  digits = l.digits;
+  anything = found.rest;
+  k = found.value;
+  says = l.says;
+  ends = l.ends;
+  form = subst (λ (t : List ℕ). ((found.value ≡ sum) × (line ≡ codes "* Checksum " ++ t)) ⊎ (((0 < found.value) ⊎ (found.value ≡ sum)) × (line ≡ codes "* Checksum -" ++ t))) l.parts h;
+}
+
 -- a line that is read as an agreeing checksum's is one
 checksum_found : (line : List ℕ) (c : ℤ) (lines : List (List ℕ)) → checksum_in_line line ≡ Some c → checksum_agrees c lines ≡ true → IsChecksumLine (checksum_of_lines lines) line
 checksum_found line c lines e agrees =
@@ -116,26 +128,12 @@ checksum_found line c lines e agrees =
         → IsChecksumLine (checksum_of_lines lines) line
     by_sign text true is parts e =
         let m = was_mapped (leading_number (drop 1 text)) e in
-        let l = leading_found (drop 1 text) m.first m.here in
-        record {
-          digits = l.digits;
-          anything = m.first.rest;
-          k = m.first.value;
-          says = l.says;
-          ends = l.ends;
-          form = inr (minus_agrees m.first.value lines (ap (λ i. checksum_agrees i lines) m.same ∙ agrees), parts ∙ ap (λ x. codes "* Checksum " ++ x) (minus_first text is ∙ ap (λ x. 45 ∷ x) l.parts));
-        }
+        agreeing_line (checksum_of_lines lines) line (drop 1 text) m.first (leading_found (drop 1 text) m.first m.here)
+        (inr (minus_agrees m.first.value lines (ap (λ i. checksum_agrees i lines) m.same ∙ agrees), parts ∙ ap (λ x. codes "* Checksum " ++ x) (minus_first text is)))
     by_sign text false is parts e =
         let m = was_mapped (leading_number text) e in
-        let l = leading_found text m.first m.here in
-        record {
-          digits = l.digits;
-          anything = m.first.rest;
-          k = m.first.value;
-          says = l.says;
-          ends = l.ends;
-          form = inl ((Decides-eqb m.first.value (checksum_of_lines lines)).0 (ap (λ i. checksum_agrees i lines) m.same ∙ agrees), parts ∙ ap (λ x. codes "* Checksum " ++ x) l.parts);
-        }
+        agreeing_line (checksum_of_lines lines) line text m.first (leading_found text m.first m.here)
+        (inl ((Decides-eqb m.first.value (checksum_of_lines lines)).0 (ap (λ i. checksum_agrees i lines) m.same ∙ agrees), parts))
 
 -- digits do not begin with a minus
 digits_no_minus : (digits more : List ℕ) (k : ℕ) → number_of most_number_digits digits ≡ Some k → (slice_index (digits ++ more) 0 == 45) ≡ false

@@ -357,13 +357,15 @@ parts_can_be_checked g good own vertices records =
       vertices_fit = few (length g.vertices) good.vertices;
       fields = and_from (utils && list_all (vertex_fits g) g.vertices) (list_all (record_fits g) g.records)
           (and_from utils (list_all (vertex_fits g) g.vertices) own.fields.fits nodes) arcs;
-      kinds = good.kinds;
-      id = own.id;
-      arcs_counted = own.arcs_counted;
-      records_counted = good.arcs;
-      util = own.fields.values;
-      vertices = all_follow IsVertex VertexCanBeSaved (λ v h. h.saved) g.vertices vertices;
-      records = all_follow IsArc ArcCanBeSaved (λ r h. h.saved) g.records records;
+      writable = record {
+        kinds = good.kinds;
+        id = own.id;
+        arcs_counted = own.arcs_counted;
+        records_counted = good.arcs;
+        util = own.fields.values;
+        vertices = all_follow IsVertex VertexCanBeSaved (λ v h. h.saved) g.vertices vertices;
+        records = all_follow IsArc ArcCanBeSaved (λ r h. h.saved) g.records records;
+      };
     }
   where
     few : (n : ℕ) → n ≤ most_vertices → nat_le n most_vertices ≡ true
@@ -454,13 +456,7 @@ read_is_checked lines opening found opens says = fit_is_checked found.value (ope
 pub sound_can_be_saved : (g : GraphData) → CanBeChecked g → is_sound g ≡ true → CanBeSaved g
 sound_can_be_saved g h sound = record {
   graph = record { vertices_fit = h.vertices_fit; fields = h.fields; lists = sound };
-  kinds = h.kinds;
-  id = h.id;
-  arcs_counted = h.arcs_counted;
-  records_counted = h.records_counted;
-  util = h.util;
-  vertices = h.vertices;
-  records = h.records;
+  writable = h.writable;
 }
 
 pub read_can_be_saved : (g : GraphData) (text : List ℕ) → graph_of_text text ≡ Ok g → CanBeSaved g

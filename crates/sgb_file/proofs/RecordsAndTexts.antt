@@ -205,17 +205,22 @@ record_read counts kind kinds u us text texts whole rest h more r =
 abbrev ReadsTexts : {X : Type 0} → (List ℕ → Option (Found X)) → (X → List ℕ → Type 0) → Type 0
 ReadsTexts {X = X} read IsTextOf = (value : X) (whole rest : List ℕ) → IsTextOf value whole → read (whole ++ rest) ≡ Some (record { value = value; rest = rest })
 
--- vertices
-vertex_texts_found : (head : Head) → FindsTexts (vertex_record_at head) (IsVertexRecord head)
-vertex_texts_found head text found e =
-    let g = was_given (record_at head.counts S (A ∷ vertex_kinds head.kinds) text) e in
-    let m = was_mapped (vertex_of_fields g.first.value) g.made in
-    let r = record_found head.counts S (A ∷ vertex_kinds head.kinds) (λ z. absurd cc) text g.first g.here in
-    subst (λ (f : Found Vertex). StandsIn (IsVertexRecord head) text f) m.same (record {
+-- a value that is made of a record's fields
+made_texts_found : {X : Type 0} (counts : Counts) (kind : Kind) (kinds : List Kind) → (kind ≡ Z → ⊥) → (make : List Util → Option X) (fields_of : X → List Util) → ((us : List Util) (x : X) → make us ≡ Some x → us ≡ fields_of x)
+    → FindsTexts (λ text. given (record_at counts kind kinds text) (λ fields. option_map (λ x. record { value = x; rest = fields.rest }) (make fields.value))) (λ x whole. IsRecordOf counts (kind ∷ kinds) (fields_of x) whole)
+made_texts_found {X = X} counts kind kinds used make fields_of are text found e =
+    let g = was_given (record_at counts kind kinds text) e in
+    let m = was_mapped (make g.first.value) g.made in
+    let r = record_found counts kind kinds used text g.first g.here in
+    subst (λ (f : Found X). StandsIn (λ x whole. IsRecordOf counts (kind ∷ kinds) (fields_of x) whole) text f) m.same (record {
       whole = r.whole;
-      says = subst (λ us. IsRecordOf head.counts (S ∷ A ∷ vertex_kinds head.kinds) us r.whole) (are_of_vertex g.first.value m.first m.here) r.says;
+      says = subst (λ us. IsRecordOf counts (kind ∷ kinds) us r.whole) (are g.first.value m.first m.here) r.says;
       parts = r.parts;
     })
+
+-- vertices
+vertex_texts_found : (head : Head) → FindsTexts (vertex_record_at head) (IsVertexRecord head)
+vertex_texts_found head = made_texts_found head.counts S (A ∷ vertex_kinds head.kinds) (λ z. absurd cc) vertex_of_fields fields_of_vertex are_of_vertex
 
 vertex_is_read : (head : Head) → ReadsTexts (vertex_record_at head) (IsVertexRecord head)
 vertex_is_read head v whole rest h =
@@ -229,15 +234,7 @@ vertex_is_read head v whole rest h =
 
 -- arcs
 arc_texts_found : (head : Head) → FindsTexts (arc_record_at head) (IsArcRecord head)
-arc_texts_found head text found e =
-    let g = was_given (record_at head.counts V (A ∷ I ∷ arc_kinds head.kinds) text) e in
-    let m = was_mapped (arc_of_fields g.first.value) g.made in
-    let r = record_found head.counts V (A ∷ I ∷ arc_kinds head.kinds) (λ z. absurd cc) text g.first g.here in
-    subst (λ (f : Found ArcRec). StandsIn (IsArcRecord head) text f) m.same (record {
-      whole = r.whole;
-      says = subst (λ us. IsRecordOf head.counts (V ∷ A ∷ I ∷ arc_kinds head.kinds) us r.whole) (are_of_arc g.first.value m.first m.here) r.says;
-      parts = r.parts;
-    })
+arc_texts_found head = made_texts_found head.counts V (A ∷ I ∷ arc_kinds head.kinds) (λ z. absurd cc) arc_of_fields fields_of_arc are_of_arc
 
 arc_is_read : (head : Head) → ReadsTexts (arc_record_at head) (IsArcRecord head)
 arc_is_read head v whole rest h =

@@ -1,5 +1,5 @@
 -- Lemmas on the sections of a file, in the words of the code.
-use Rattle.std.proofs.Common.{◌≡◌, ◌∙◌, ◌++◌, ◌<◌, ◌-◌, ◌+◌, ℕ, suc, Bool, true, false, List, [], ◌∷◌, Option, Some, None, refl, sym, ap, subst, append_assoc, append-nil, arith, codes, cond, not, ◌==◌}
+use Rattle.std.proofs.Common.{◌≡◌, ◌∙◌, ◌++◌, ◌<◌, ◌-◌, ◌+◌, ℕ, suc, Bool, true, false, List, [], ◌∷◌, Option, Some, None, Err, refl, sym, ap, subst, append_assoc, append-nil, arith, codes, cond, not, ◌==◌}
 use Rattle.std.specs.List.{starts_with}
 use Rattle.std.proofs.Math.Seq.{drop-append_seam}
 use Rattle.std.proofs.lemmas.Bool.{and_parts, and_from}
@@ -11,6 +11,9 @@ use Rattle.sgb_graph.specs.declared.fields.ArcRec.{ArcRec}
 use Rattle.sgb_file.specs.Fields.{Found, given, found_as, after_prefix}
 use Rattle.sgb_file.specs.Records.{Head, all_at, arc_record_at, graph_record_at, records_at, vertex_record_at}
 use Rattle.sgb_file.proofs.FoundParts.{was_mapped, own_parts}
+use Rattle.sgb_file.proofs.FoundSteps.{stops}
+use Rattle.sgb_file.specs.Found.{IsFoundBy}
+use Rattle.sgb_vec.specs.declared.panics.Panic.{Panic}
 use Rattle.sgb_file.specs.Reading.{vertices_at, arcs_at, with_vertices, with_records}
 use Rattle.sgb_file.specs.LinesLeft.{LinesLeft, text_left, has_no_newline}
 use Rattle.sgb_file.specs.FileLines.{text_of_lines}
@@ -37,9 +40,11 @@ next_read one_at f g n k x text rest within e same =
     sym (ap (λ (j : ℕ). found_as f (all_at one_at j text)) (one_to_come n k within) ∙ one_more one_at f g (n - (k + 1)) x text rest e same)
 
 -- it does not come
-pub next_missing : {X Y : Type 0} (one_at : List ℕ → Option (Found X)) (f : List X → Y) (n k : ℕ) (text : List ℕ) → k < n → one_at text ≡ None → found_as f (all_at one_at (n - k) text) ≡ None
+pub next_stops : {X Y : Type 0} (one_at : List ℕ → Option (Found X)) (f : List X → Y) (n k : ℕ) (whole : Option (Found Y)) (p : Panic) (text left after : List ℕ) → k < n
+    → found_as f (all_at one_at (n - k) text) ≡ whole → IsFoundBy (one_at text) (Err p) left → IsFoundBy whole (Err p) after
 unfolding all_at
-next_missing one_at f n k text within e = ap (λ (j : ℕ). found_as f (all_at one_at j text)) (one_to_come n k within) ∙ rw e refl
+next_stops one_at f n k whole p text left after within so h =
+    stops (one_at text) whole p left after h (λ none. sym so ∙ ap (λ (j : ℕ). found_as f (all_at one_at j text)) (one_to_come n k within) ∙ rw none refl)
 
 -- none is to come
 all_read : {X Y : Type 0} (one_at : List ℕ → Option (Found X)) (f : List X → Y) (k : ℕ) (text : List ℕ) → k ≡ 0 → found_as f (all_at one_at k text) ≡ Some (record { value = f []; rest = text })
