@@ -29,7 +29,7 @@ pub(super) fn read_text(alloc: Global, lines: &mut Lines<'_>) -> Result<Text, Pa
     ensures found { IsFoundBy (string_at most_bytes (text_left lines.old)) result (text_left lines.new) }
     ensures all { lines.new.all ≡ lines.old.all }
 {
-    let mut gathered = ArrayVec::new();
+    let mut gathered = None;
     let bytes = read_bytes(lines, &mut gathered)?;
     Text::new(alloc, bytes)
 }
@@ -39,7 +39,7 @@ pub(super) fn read_id(lines: &mut Lines<'_>) -> Result<Id, Panic>
     ensures found { IsFoundBy (string_at most_id_bytes (text_left lines.old)) result (text_left lines.new) }
     ensures all { lines.new.all ≡ lines.old.all }
 {
-    let mut gathered = ArrayVec::new();
+    let mut gathered = None;
     let bytes = read_bytes(lines, &mut gathered)?;
     Id::new(bytes)
 }
@@ -47,7 +47,7 @@ pub(super) fn read_id(lines: &mut Lines<'_>) -> Result<Id, Panic>
 // The bytes of the string that stands next: in their place where they are on one line, else gathered from several.
 fn read_bytes<'a: 'b, 'b>(
     lines: &mut Lines<'a>,
-    gathered: &'b mut ArrayVec<u8, MOST_BYTES>,
+    gathered: &'b mut Option<ArrayVec<u8, MOST_BYTES>>,
 ) -> Result<&'b [u8], Panic>
     ensures string { IfOk result (λ bytes. IsStringAt (text_left lines.old) bytes.now (text_left lines.new)) }
     ensures none { IfErr result (λ error. (error ≡ Panic.Syntax) × IsNoStringAt (text_left lines.old)) }
@@ -58,8 +58,8 @@ fn read_bytes<'a: 'b, 'b>(
     if part.closed {
         return Ok(part.bytes);
     }
-    *gathered = gather(part.bytes, lines)?;
-    Ok(gathered.as_slice())
+    let bytes = gather(part.bytes, lines)?;
+    Ok(gathered.insert(bytes).as_slice())
 }
 
 // The next part of a string: up to its closing quote, or to a `\` at the end of its line.

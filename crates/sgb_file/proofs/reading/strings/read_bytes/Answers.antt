@@ -24,10 +24,10 @@ returns-then-part-clause-string c most =
     opened most (text_left c.args.lines.now) (text_left c.pass_byte.new.lines) c.in_ok-pass_byte.ensures.passed
     ∙ one_part most (text_left c.pass_byte.new.lines) c.in_ok-part.part.bytes.now (text_left c.take_part.new.lines) c.in_ok-part.part.closed c.in_ok-part.ensures.part c.if-part.true
 
-pub returns-in_err-gathered-clause-none : goal.returns-in_err-gathered-clause-none
-returns-in_err-gathered-clause-none c =
-    let p = err_from_is_err_and c.from_residual-in_err-gathered.result c.from_residual-in_err-gathered.ensures.1 in
-    let none = c.in_err-gathered.ensures.none in
+pub returns-in_err-bytes-clause-none : goal.returns-in_err-bytes-clause-none
+returns-in_err-bytes-clause-none c =
+    let p = err_from_is_err_and c.from_residual-in_err-bytes.result c.from_residual-in_err-bytes.ensures.1 in
+    let none = c.in_err-bytes.ensures.none in
     rw (p.1, p.2, none.0) (
       refl,
       λ most h. opened most (text_left c.args.lines.now) (text_left c.pass_byte.new.lines) c.in_ok-pass_byte.ensures.passed
@@ -36,7 +36,7 @@ returns-in_err-gathered-clause-none c =
 
 pub returns-clause-string : goal.returns-clause-string
 returns-clause-string c most =
-    let same : c.as_slice.result.now ≡ c.in_ok-gathered.field-0.items = search rules in
+    let same : c.as_slice.result.now ≡ c.in_ok-bytes.bytes.items = search rules in
     opened most (text_left c.args.lines.now) (text_left c.pass_byte.new.lines) c.in_ok-pass_byte.ensures.passed
-    ∙ several_parts most (text_left c.pass_byte.new.lines) c.in_ok-part.part.bytes.now (text_left c.take_part.new.lines) c.in_ok-gathered.field-0.items (text_left c.gather.new.lines) c.in_ok-part.part.closed c.in_ok-part.ensures.part c.if-part.false c.in_ok-gathered.ensures.whole
+    ∙ several_parts most (text_left c.pass_byte.new.lines) c.in_ok-part.part.bytes.now (text_left c.take_part.new.lines) c.in_ok-bytes.bytes.items (text_left c.gather.new.lines) c.in_ok-part.part.closed c.in_ok-part.ensures.part c.if-part.false c.in_ok-bytes.ensures.whole
     ∙ ap (λ (bytes : List ℕ). string_before most bytes (text_left c.gather.new.lines)) (sym same)
