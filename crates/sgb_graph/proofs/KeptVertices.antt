@@ -7,22 +7,22 @@ use Rattle.std.proofs.Math.ListN.{get_or-map}
 use Rattle.std.proofs.lemmas.Bool.Decides.{nat_tests}
 use Rattle.std.proofs.lemmas.List.{length-map, length_push, length-replicate, length-set, map-append, map-set, get_or-set_other, take_all, take_more, take_more_set}
 use Rattle.std.proofs.lemmas.Option.{get_or_from_slice_get, slice_get-map, slice_get_within}
-use Rattle.sgb_graph.specs.Columns.{HasPlace, HoldsMany, column_kind, values}
+use Rattle.sgb_graph.specs.Columns.{HoldsMany, column_kind, values}
 use Rattle.sgb_graph.specs.Growth.{at_place, first_arc, new_vertex, number_or_zero, put_numbers, some_numbers, with_arcs, with_numbers, with_some_numbers}
 use Rattle.sgb_graph.specs.KeptRecords.{kept_number}
 use Rattle.sgb_graph.specs.KeptVertices.{AreColumns, AreKept, HasNumber, HaveValues, HoldNumbers, Keep, TakeNumbers, bare_named, bare_vertex, field_columns, field_kinds, kept_items, kept_vertices, number_at, numbers_kind, numbers_values, rows, with_fields, with_row}
 use Rattle.sgb_graph.specs.Made.{no_fields}
 use Rattle.sgb_graph.specs.declared.columns.Column.{Column}
-use Rattle.sgb_graph.specs.declared.columns.Column.TheVariants.{Unused, Ints, Vertices, Texts, Chains}
 use Rattle.sgb_graph.specs.declared.fields.Kind.{Kind}
 use Rattle.sgb_graph.specs.declared.fields.Kind.TheVariants.{Z, I}
 use Rattle.sgb_graph.specs.declared.fields.Util.{Util}
-use Rattle.sgb_graph.specs.declared.fields.Util.TheVariants.{Nothing, Int, Vertex as VertexField, Str, Chain}
+use Rattle.sgb_graph.specs.declared.fields.Util.TheVariants.{Nothing, Int}
 use Rattle.sgb_graph.specs.declared.fields.Vertex.{Vertex}
 use Rattle.sgb_graph.specs.declared.vertices.Fields.{Fields}
 use Rattle.sgb_graph.specs.declared.vertices.Numbers.{Numbers}
 use Rattle.sgb_graph.specs.declared.vertices.Numbers.TheVariants.{Inside, Beside}
 use Rattle.sgb_graph.specs.declared.vertices.PlainVertex.{PlainVertex}
+use Rattle.sgb_graph.proofs.ColumnValues.{HasPlace-below, unused}
 use Rattle.sgb_graph.proofs.Lists.{at_place-is_set, length-at_place, map-map}
 use Rattle.sgb_graph.proofs.Tables.{at_place-at_place, at_place-same, at_place-set, length-rows, rows-at, rows-map, rows-push, rows-replicate}
 
@@ -95,25 +95,17 @@ pub kept_name : (ps : List PlainVertex) (f : Fields) (v : ℕ) (p : PlainVertex)
 kept_name ps f v p kept is =
     ap (λ names. slice_get names v) (kept_names ps f kept) ∙ (slice_get-map (λ (q : PlainVertex). q.name) ps v ∙ ap (option_map (λ (q : PlainVertex). q.name)) is)
 
--- a column has each place
-has_place : (n k : ℕ) (c : Column) → length (values n c) ≡ n → k < n → HasPlace k c
-has_place n k Unused whole below = omega arith
-has_place n k (Ints xs) whole below = omega (arith, length-map xs.items (λ i. Int i))
-has_place n k (Vertices xs) whole below = omega (arith, length-map xs.items (λ r. VertexField r))
-has_place n k (Texts xs) whole below = omega (arith, length-map xs.items (λ text. Str text))
-has_place n k (Chains xs) whole below = omega (arith, length-map xs.items (λ first. Chain first))
-
--- so has a field x, y or z
+-- a field x, y or z has each place
 has_number : (place : ℕ) (ps : List PlainVertex) (k : ℕ) (f : Numbers) → length (numbers_values place ps f) ≡ length ps → k < length ps → HasNumber k f
 has_number place ps k Inside whole below = omega arith
-has_number place ps k (Beside column) whole below = has_place (length ps) k column whole below
+has_number place ps k (Beside column) whole below = HasPlace-below column (length ps) k whole below
 
 -- and all fields
 pub have_values : (ps : List PlainVertex) (k : ℕ) (f : Fields) → AreKept ps f → k < length ps → HaveValues k f
 have_values ps k f kept below = record {
-  u = has_place (length ps) k f.u kept.0 below;
-  v = has_place (length ps) k f.v kept.1.0 below;
-  w = has_place (length ps) k f.w kept.1.1.0 below;
+  u = HasPlace-below f.u (length ps) k kept.0 below;
+  v = HasPlace-below f.v (length ps) k kept.1.0 below;
+  w = HasPlace-below f.w (length ps) k kept.1.1.0 below;
   x = has_number 0 ps k f.x kept.1.1.1.0 below;
   y = has_number 1 ps k f.y kept.1.1.1.1.0 below;
   z = has_number 2 ps k f.z kept.1.1.1.1.1.0 below;
@@ -121,11 +113,7 @@ have_values ps k f kept below = record {
 
 -- a column that is not used
 unused_values : (n : ℕ) (c : Column) → column_kind c ≡ Z → values n c ≡ replicate n Nothing
-unused_values n Unused e = refl
-unused_values n (Ints xs) e = absurd cc
-unused_values n (Vertices xs) e = absurd cc
-unused_values n (Texts xs) e = absurd cc
-unused_values n (Chains xs) e = absurd cc
+unused_values n c e = ap (values n) (unused c e)
 
 -- a field x, y or z that is not used
 unused_numbers : (place : ℕ) (ps : List PlainVertex) (f : Numbers) → numbers_kind f ≡ Z → numbers_values place ps f ≡ replicate (length ps) Nothing
