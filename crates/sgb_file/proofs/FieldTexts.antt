@@ -1,5 +1,7 @@
 -- The texts of fields, laid out as pieces one after another.
-use Rattle.std.proofs.Common.{◌≡◌, ◌<◌, ◌≤◌, ◌+◌, ◌++◌, ◌∙◌, ℕ, Bool, true, false, Bor, List, [], ◌∷◌, Result, Ok, Err, length, drop, map, slice_index_or, refl, sym, ap, subst, append-nil, suc, Some, arith, slice_get}
+use Rattle.std.proofs.Common.{◌≡◌, ◌<◌, ◌≤◌, ◌+◌, ◌++◌, ◌∙◌, ℕ, Bool, true, false, List, [], ◌∷◌, Result, Ok, Err, length, drop, map, slice_index_or, refl, sym, ap, subst, append-nil, suc, Some, arith, slice_get}
+use Rattle.sgb_graph.specs.Columns.{util_seen}
+use Rattle.sgb_graph.specs.declared.fields.UtilRef.{UtilRef}
 use Rattle.sgb_graph.specs.Sound.{utils_fit}
 use Rattle.sgb_graph.specs.declared.fields.Kind.{Kind}
 use Rattle.sgb_graph.proofs.TestLemmas.{both_second}
@@ -12,8 +14,8 @@ use Rattle.sgb_file.specs.Layouts.{Stage, HasLaid, IsStopped, IsLaid, IsPlaced, 
 use Rattle.sgb_file.proofs.LaidLines.{LinesSoFar, lines-more, lines-cut, lines-last, stopped-first, laid-after}
 
 -- the texts of fields
-abbrev pub texts_of : List (Bor Util) → List (List ℕ)
-texts_of fields = flat_map field_texts (map (λ field. field.now) fields)
+abbrev pub texts_of : List UtilRef → List (List ℕ)
+texts_of fields = flat_map field_texts (map util_seen fields)
 
 -- of texts after texts
 pub any-here : (xs ys : List (List ℕ)) → has_any xs ≡ true → has_any (xs ++ ys) ≡ true
@@ -25,10 +27,10 @@ any-later [] ys e = refl
 any-later (x ∷ xs) ys e = absurd cc
 
 -- the texts from the i-th field on
-pub texts-from : (fields : List (Bor Util)) (i : ℕ) (field : Bor Util) → i < length fields → field ≡ slice_index_or fields i field
-    → texts_of (drop i fields) ≡ field_texts field.now ++ texts_of (drop (i + 1) fields)
+pub texts-from : (fields : List UtilRef) (i : ℕ) (field : UtilRef) → i < length fields → field ≡ slice_index_or fields i field
+    → texts_of (drop i fields) ≡ field_texts (util_seen field) ++ texts_of (drop (i + 1) fields)
 texts-from fields i field h e =
-    at_drop_more texts_of fields i field h ∙ ap (λ (f : Bor Util). field_texts f.now ++ texts_of (drop (i + 1) fields)) (sym e)
+    at_drop_more texts_of fields i field h ∙ ap (λ (f : UtilRef). field_texts (util_seen f) ++ texts_of (drop (i + 1) fields)) (sym e)
 
 -- the first text as a piece, and the others after it
 pub first_piece : (line text : List ℕ) (rest : List (List ℕ)) → laid_out line (pieces_of (text ∷ rest))
@@ -68,31 +70,31 @@ field-cut T E x (Str s) rest all a b c p q = text-cut _ rest all a b c p q
 field-cut T E x (Chain first) rest all a b c p q = text-cut _ rest all a b c p q
 
 -- fields one by one: the next one was laid out, or the writing stopped there
-pub fields-more : (T E : Type 0) (x : T) (fields : List (Bor Util)) (i : ℕ) (field : Bor Util) (more : Bool) (all : List (List ℕ)) (a b c : Stage)
+pub fields-more : (T E : Type 0) (x : T) (fields : List UtilRef) (i : ℕ) (field : UtilRef) (more : Bool) (all : List (List ℕ)) (a b c : Stage)
     → i < length fields → field ≡ slice_index_or fields i field → more ≡ has_any (texts_of (drop (i + 1) fields))
     → LinesSoFar all (laid_out b.layout.line (pieces_of (texts_of (drop i fields)))) a b
-    → IsNextPlaced {T = T} {E = E} more (field_texts field.now) b c (Ok x)
+    → IsNextPlaced {T = T} {E = E} more (field_texts (util_seen field)) b c (Ok x)
     → LinesSoFar all (laid_out c.layout.line (pieces_of (texts_of (drop (i + 1) fields)))) a c
 fields-more T E x fields i field more all a b c h e m p q =
-    field-more T E x field.now (texts_of (drop (i + 1) fields)) all a b c
+    field-more T E x (util_seen field) (texts_of (drop (i + 1) fields)) all a b c
     (subst (λ texts. LinesSoFar all (laid_out b.layout.line (pieces_of texts)) a b) (texts-from fields i field h e) p)
-    (subst (λ (w : Bool). IsNextPlaced {T = T} {E = E} w (field_texts field.now) b c (Ok x)) m q)
+    (subst (λ (w : Bool). IsNextPlaced {T = T} {E = E} w (field_texts (util_seen field)) b c (Ok x)) m q)
 
-pub fields-cut : (T E : Type 0) (x : E) (fields : List (Bor Util)) (i : ℕ) (field : Bor Util) (more : Bool) (all : List (List ℕ)) (a b c : Stage)
+pub fields-cut : (T E : Type 0) (x : E) (fields : List UtilRef) (i : ℕ) (field : UtilRef) (more : Bool) (all : List (List ℕ)) (a b c : Stage)
     → i < length fields → field ≡ slice_index_or fields i field → more ≡ has_any (texts_of (drop (i + 1) fields))
     → LinesSoFar all (laid_out b.layout.line (pieces_of (texts_of (drop i fields)))) a b
-    → IsNextPlaced {T = T} {E = E} more (field_texts field.now) b c (Err x) → IsStopped all a c
+    → IsNextPlaced {T = T} {E = E} more (field_texts (util_seen field)) b c (Err x) → IsStopped all a c
 fields-cut T E x fields i field more all a b c h e m p q =
-    field-cut T E x field.now (texts_of (drop (i + 1) fields)) all a b c
+    field-cut T E x (util_seen field) (texts_of (drop (i + 1) fields)) all a b c
     (subst (λ texts. LinesSoFar all (laid_out b.layout.line (pieces_of texts)) a b) (texts-from fields i field h e) p)
-    (subst (λ (w : Bool). IsNextPlaced {T = T} {E = E} w (field_texts field.now) b c (Err x)) m q)
+    (subst (λ (w : Bool). IsNextPlaced {T = T} {E = E} w (field_texts (util_seen field)) b c (Err x)) m q)
 
 -- no field is left: the line ends
 no_texts : (line : List ℕ) → laid_out line (pieces_of []) ≡ line ∷ []
 unfolding laid_out pieces_of
 no_texts line = refl
 
-pub fields-end : {T E : Type 0} (fields : List (Bor Util)) (i : ℕ) (all : List (List ℕ)) (a b c : Stage) (r : Result T E) → length fields ≤ i
+pub fields-end : {T E : Type 0} (fields : List UtilRef) (i : ℕ) (all : List (List ℕ)) (a b c : Stage) (r : Result T E) → length fields ≤ i
     → LinesSoFar all (laid_out b.layout.line (pieces_of (texts_of (drop i fields)))) a b → IsLaid (b.layout.line ∷ []) [] b c r → IsLaid all [] a c r
 fields-end fields i all a b c r h p q =
     let none = ap (λ fs. laid_out b.layout.line (pieces_of (texts_of fs))) (drop_all i fields h) ∙ no_texts b.layout.line in

@@ -28,7 +28,7 @@ pub fn write_gb<W: Sink>(graph: &Graph, sink: &mut W) -> Result<(), Failed>
 {
     let n = graph.n();
     let kinds = graph.kinds();
-    put_head(sink, kinds, n, graph.records_len())?;
+    put_head(sink, &kinds, n, graph.records_len())?;
     let mut layout = Layout::new();
     put_records(&mut layout, sink, graph, n)?;
     put_checksum(sink, layout.checksum())

@@ -55,7 +55,7 @@ fn records_can_be_saved(graph: &Graph)
 
 // The name and the fields of a vertex can be saved.
 fn vertex_can_be_saved(vertex: VertexRef<'_>)
-    ensures { VertexCanBeSaved (vertex_seen vertex) }
+    ensures { VertexCanBeSaved (vertex_seen vertex.entry) }
 {
     let _name = vertex.name.bytes();
     values_can_be_saved(&vertex.util);
@@ -72,7 +72,7 @@ fn values_can_be_saved(values: &[UtilRef<'_>; 6])
 
 // The length and the fields of an arc record can be saved.
 fn arc_can_be_saved(arc: ArcRef<'_>)
-    ensures { ArcCanBeSaved (arc_seen arc) }
+    ensures { ArcCanBeSaved (arc_seen arc.entry) }
 {
     let _len = arc.len;
     value_can_be_saved(arc.a);
@@ -81,7 +81,7 @@ fn arc_can_be_saved(arc: ArcRef<'_>)
 
 // The value of a field can be saved.
 fn value_can_be_saved(value: UtilRef<'_>)
-    ensures { ValueCanBeSaved (util_seen value) }
+    ensures { ValueCanBeSaved (util_seen value.entry) }
 {
     match value {
         UtilRef::Int(number) => {

@@ -40,7 +40,7 @@ pub(super) fn any_used(fields: &[UtilRef<'_>]) -> bool
 
 // Whether the field is used.
 fn is_used(field: UtilRef<'_>) -> bool
-    ensures { result ≡ has_any (field_texts (util_seen field)) }
+    ensures { result ≡ has_any (field_texts (util_seen field.entry)) }
 {
     !matches!(field, UtilRef::Nothing)
 }
@@ -52,7 +52,7 @@ fn put_field<W: Sink>(
     field: UtilRef<'_>,
     more: bool,
 ) -> Result<(), Failed>
-    ensures { IsNextPlaced more (field_texts (util_seen field)) (stage (W.written sink.old) (W.has_failed sink.old) layout.old) (stage (W.written sink.new) (W.has_failed sink.new) layout.new) result }
+    ensures { IsNextPlaced more (field_texts (util_seen field.entry)) (stage (W.written sink.old) (W.has_failed sink.old) layout.old) (stage (W.written sink.new) (W.has_failed sink.new) layout.new) result }
 {
     match field {
         UtilRef::Nothing => Ok(()),

@@ -48,7 +48,7 @@ pub(super) fn put_vertex<W: Sink>(
     sink: &mut W,
     vertex: VertexRef<'_>,
 ) -> Result<(), Failed>
-    ensures { AreLaidOut (vertex_texts (vertex_seen vertex)) (stage (W.written sink.old) (W.has_failed sink.old) layout.old) (stage (W.written sink.new) (W.has_failed sink.new) layout.new) result }
+    ensures { AreLaidOut (vertex_texts (vertex_seen vertex.entry)) (stage (W.written sink.old) (W.has_failed sink.old) layout.old) (stage (W.written sink.new) (W.has_failed sink.new) layout.new) result }
 {
     put_string(layout, sink, vertex.name.bytes(), true)?;
     put_record_number(layout, sink, vertex.arcs, any_used(&vertex.util))?;
@@ -61,7 +61,7 @@ pub(super) fn put_arc<W: Sink>(
     sink: &mut W,
     arc: ArcRef<'_>,
 ) -> Result<(), Failed>
-    ensures { AreLaidOut (arc_texts (arc_seen arc)) (stage (W.written sink.old) (W.has_failed sink.old) layout.old) (stage (W.written sink.new) (W.has_failed sink.new) layout.new) result }
+    ensures { AreLaidOut (arc_texts (arc_seen arc.entry)) (stage (W.written sink.old) (W.has_failed sink.old) layout.old) (stage (W.written sink.new) (W.has_failed sink.new) layout.new) result }
 {
     let fields = [arc.a, arc.b];
     put_ref(layout, sink, arc.tip, true)?;

@@ -1,4 +1,5 @@
 use Rattle.std.proofs.Common.{arith}
+use Rattle.sgb_graph.specs.Columns.{vertex_seen}
 use Rattle.sgb_file.specs.Saved.{VertexCanBeSaved}
 use Rattle.sgb_file.proofs.SavedGraphs.{none_hold, more_hold, all_hold}
 use Rattle.sgb_file.proofs.laws.saved_graphs.vertices_can_be_saved.Goals as goal
@@ -8,7 +9,7 @@ loop-v-init c = none_hold VertexCanBeSaved c.args.graph.now.vertices
 
 pub loop-v-preserved : goal.loop-v-preserved
 loop-v-preserved c =
-    more_hold VertexCanBeSaved c.args.graph.now.vertices c.loop-v.v c.vertex.result.now c.loop-v.invariant c.vertex.ensures c.vertex_can_be_saved.ensures
+    more_hold VertexCanBeSaved c.args.graph.now.vertices c.loop-v.v (vertex_seen c.vertex.result) c.loop-v.invariant c.vertex.ensures c.vertex_can_be_saved.ensures
 
 pub returns : goal.returns
 returns c = all_hold VertexCanBeSaved c.args.graph.now.vertices _ (omega arith) c.loop-v.invariant
