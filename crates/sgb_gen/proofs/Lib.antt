@@ -13,6 +13,8 @@ pub mod ShiftLemmas
 pub mod AcceptedBoards
 pub mod Reaches
 pub mod BoardEvents
+pub mod BoundedMoves
+pub mod SumsOfSquares
 pub mod FamilyWalks
 pub mod DisplacementLengths
 pub mod Coordinates

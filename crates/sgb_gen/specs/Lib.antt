@@ -4,6 +4,7 @@ pub mod VectorGraphs
 pub mod Displacements
 pub mod LaterDisplacements
 pub mod Moves
+pub mod EntryBounds
 pub mod Boards
 pub mod Simplexes
 pub mod Subsets

@@ -3,7 +3,10 @@ ghost use Rattle.sgb_vec.specs.Limits.{most_dimensions};
 ghost use Rattle.sgb_vec.specs.Lexicographic.{IsBelow};
 ghost use Rattle.sgb_gen.specs.Moves.{destination};
 ghost use Rattle.sgb_gen.specs.Moves.{is_bit_set, coordinate_on, sides_of, place};
+ghost use Rattle.sgb_gen.specs.EntryBounds.{entry_bound, entry_bounds};
 
+use crate::displacements::EntrySizes;
+use arrayvec::ArrayVec;
 use sgb_vec::Vector;
 
 // Whether coordinate k, counted from 0, wraps around: its bit of `wrap`, with the sign carried on.
@@ -67,4 +70,27 @@ pub(crate) fn destination(
         return None;
     }
     Some(there)
+}
+
+// The greatest entry of a displacement on a side that leads to a place: less than its size where it does not wrap
+// around. Where it does any entry leads to one, and none is greater than the piece.
+fn entry_bound(size: u32, wraps: bool, piece: u32) -> u32
+    ensures { result ≡ entry_bound piece (record { size = size; wraps = wraps }) }
+{
+    if wraps {
+        return piece;
+    }
+    size.saturating_sub(1)
+}
+
+/// The greatest entries of the displacements by which a piece can move (GB_BASIC, board).
+pub(crate) fn entry_bounds(sizes: &[u32], wrap: i64, piece: u32) -> EntrySizes
+    requires few { length sizes.now ≤ most_dimensions }
+    ensures { result.items ≡ entry_bounds piece (sides_of sizes.now wrap) }
+{
+    let mut bounds = ArrayVec::new();
+    for (k, size) in sizes.iter().enumerate() {
+        bounds.push(entry_bound(*size, wraps(wrap, k), piece));
+    }
+    bounds
 }

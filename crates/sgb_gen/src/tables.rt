@@ -34,19 +34,19 @@ impl VectorTable {
         ensures ok { IfOk result (λ t. t ≡ F.members family.now) }
         ensures memory { IsOkUnless result Panic.NoRoom }
     {
-        let mut entries = Vec::new(alloc);
+        let width = family.dims();
+        let count = family.size();
+        let mut entries = Vec::with_capacity(alloc, width.saturating_mul(count as usize))?;
         let mut vector = Vector::new();
         let _some = family.first(&mut vector);
-        for _u in 0..family.size() {
-            let Ok(()) = entries.extend_from_slice(vector.as_slice()) else {
-                return Err(Panic::NoRoom);
-            };
+        for _u in 0..count {
+            entries.extend_from_slice(vector.as_slice())?;
             let _more = family.next(&mut vector);
         }
         Ok(VectorTable {
             entries,
-            width: family.dims(),
-            count: family.size(),
+            width,
+            count,
         })
     }
 

@@ -12,6 +12,7 @@ use Rattle.sgb_graph.specs.declared.fields.Kind.TheVariants.{Z, I}
 use Rattle.sgb_graph.specs.declared.fields.Util.TheVariants.{Nothing, Int}
 use Rattle.sgb_gen.specs.VectorGraphs.{family_graph}
 use Rattle.sgb_gen.specs.Displacements.{displacements, vectors_of_norm, signings}
+use Rattle.sgb_gen.specs.EntryBounds.{entry_bounds, vectors_within, displacements_within}
 use Rattle.sgb_gen.specs.Moves.{is_bit_set, sides_of, place, reach, board_moves}
 use Rattle.sgb_gen.specs.declared.params.BoardParams.{BoardParams}
 use Rattle.sgb_gen.specs.Boards.{BoardData, accepted_board, board, board_id}
@@ -45,6 +46,22 @@ signings_of_0102 = refl
 pub displacements_of_3 : displacements 3 2 ≡ []
 unfolding displacements vectors_of_norm box
 displacements_of_3 = refl
+
+-- on a board of 2 by 3 no piece goes further than 1 and 2; where the first side wraps around, one of 5 goes up to 5 on it
+pub bounds_of_2_by_3 : entry_bounds 5 (sides_of (2 ∷ 3 ∷ []) (pos 0)) ≡ 1 ∷ 2 ∷ []
+bounds_of_2_by_3 = refl
+
+pub bounds_of_wrapped : entry_bounds 5 (sides_of (2 ∷ 3 ∷ []) (pos 1)) ≡ 5 ∷ 2 ∷ []
+bounds_of_wrapped = refl
+
+-- a piece of 5 with a first entry of 1 at most, and with a second one
+pub within_2_by_3 : displacements_within 5 (1 ∷ 2 ∷ []) ≡ (pos 1 ∷ pos 2 ∷ []) ∷ (pos 1 ∷ negsuc 1 ∷ []) ∷ []
+unfolding displacements_within vectors_within box
+within_2_by_3 = refl
+
+pub within_wrapped : displacements_within 5 (5 ∷ 1 ∷ []) ≡ (pos 2 ∷ pos 1 ∷ []) ∷ (pos 2 ∷ negsuc 0 ∷ []) ∷ []
+unfolding displacements_within vectors_within box
+within_wrapped = refl
 
 -- bits of wrap: of 2 the second is set alone; of -1 all are, also after the 64th; of -2 all but the first
 pub bits_of_wrap :

@@ -10,7 +10,7 @@ ghost use Rattle.sgb_gen.specs.VectorGraphs.{event_among, vertex_among};
 ghost use Rattle.sgb_gen.specs.Moves.{destination, longest_move, sides_of, moves_from};
 
 use crate::displacements::Displacements;
-use crate::moves::destination;
+use crate::moves::{destination, entry_bounds};
 use crate::params::BoardParams;
 use crate::vector_graphs::{put_coordinates, vector_names};
 use sgb_graph::{Graph, Id, IdWriter};
@@ -197,7 +197,8 @@ impl Board {
         ensures memory { IsOkUnless result Panic.NoRoom }
     {
         let piece = self.piece.unsigned_abs() as u32;
-        for t in Displacements::new(piece, self.family.dims()) {
+        let bounds = entry_bounds(self.shape.sizes(), self.wrap, piece);
+        for t in Displacements::new(piece, bounds) {
             self.add_moves_by(graph, t.as_slice())?;
         }
         Ok(())

@@ -43,7 +43,7 @@ const BOARDS: [(
     u32,
     u64,
     &'static [Block<'static>],
-); 11] = [
+); 15] = [
     (
         [2, 2, 0, 0, 1, 0],
         false,
@@ -86,6 +86,46 @@ const BOARDS: [(
         1,
         0,
         &[],
+    ),
+    // no displacement is within the board
+    (
+        [2, -5, 0, 0, 400, 0],
+        false,
+        b"board(2,-5,0,0,400,0,0)",
+        32,
+        0,
+        &[],
+    ),
+    (
+        [3, 3, 3, 0, 2_147_483_647, 0],
+        false,
+        b"board(3,3,3,0,2147483647,0,0)",
+        27,
+        0,
+        &[],
+    ),
+    // the knight's moves on 2 by 3, and where the first side wraps around
+    (
+        [2, 3, 0, 0, 5, 0],
+        false,
+        b"board(2,3,0,0,5,0,0)",
+        6,
+        4,
+        &[
+            (0, b"0.0", &[(5, 1)]),
+            (1, b"0.1", &[]),
+            (2, b"0.2", &[(3, 1)]),
+            (3, b"1.0", &[(2, 1)]),
+            (5, b"1.2", &[(0, 1)]),
+        ],
+    ),
+    (
+        [2, 3, 0, 0, 5, 1],
+        false,
+        b"board(2,3,0,0,5,1,0)",
+        6,
+        24,
+        &[(0, b"0.0", &[(1, 1), (1, 1), (5, 1), (5, 1)])],
     ),
     // the rook's, the king's diagonal, the knight's and the queen's diagonal moves on 8 by 8
     (

@@ -11,9 +11,9 @@ loop-u-preserved g c =
     let vectors = g.F.Family.members c.args.family.now in
     let v = c.loop-u.vector.items in
     let u = c.loop-u._u in
-    let here : slice_get vectors u ≡ Some v = c.loop-u.invariant.0 (omega (arith, c.size-u-end.ensures)) in (
+    let here : slice_get vectors u ≡ Some v = c.loop-u.invariant.0 (omega (arith, c.size-count.ensures)) in (
       at_next vectors u v c.next-more.new.vector.items c.next-more.result here c.next-more.ensures.found c.next-more.ensures.last,
-      c.in-Ok.ensures.items ∙ ap (λ w. c.loop-u.entries.items ++ w) c.as_slice.ensures.value ∙ ap (λ es. es ++ v) c.loop-u.invariant.1 ∙ sym (joined_at_vector vectors u v here),
+      c.in_ok-extend_from_slice.ensures.items ∙ ap (λ w. c.loop-u.entries.items ++ w) c.as_slice.ensures.value ∙ ap (λ es. es ++ v) c.loop-u.invariant.1 ∙ sym (joined_at_vector vectors u v here),
     )
 
 -- the entries are those of all vectors
@@ -21,19 +21,19 @@ pub invariant_of-result : goal.invariant_of-result
 invariant_of-result g c =
     let vectors = g.F.Family.members c.args.family.now in
     let wide = HasWidth-from_members vectors (g.F.Family.width c.args.family.now) (g.met.F.Family.each_width c.args.family.now) in
-    let all : take c.loop-u._u vectors ≡ vectors = take_all c.loop-u._u vectors (omega (arith, c.size-u-end.ensures)) in
+    let all : take c.loop-u._u vectors ≡ vectors = take_all c.loop-u._u vectors (omega (arith, c.size-count.ensures)) in
     let entries : c.loop-u.entries.items ≡ joined vectors = c.loop-u.invariant.1 ∙ ap joined all in
     ap length entries ∙ length-joined (g.F.Family.width c.args.family.now) vectors wide
-    ∙ ap (λ n. n * g.F.Family.width c.args.family.now) (sym c.size.ensures)
-    ∙ ap (λ w. c.size.result * w) (sym c.dims.ensures)
+    ∙ ap (λ n. n * g.F.Family.width c.args.family.now) (sym c.size-count.ensures)
+    ∙ ap (λ w. c.size-count.result * w) (sym c.dims-width.ensures)
 
 pub returns-clause-ok : goal.returns-clause-ok
 returns-clause-ok g c =
     let vectors = g.F.Family.members c.args.family.now in
     let wide = HasWidth-from_members vectors (g.F.Family.width c.args.family.now) (g.met.F.Family.each_width c.args.family.now) in
-    let all : take c.loop-u._u vectors ≡ vectors = take_all c.loop-u._u vectors (omega (arith, c.size-u-end.ensures)) in
+    let all : take c.loop-u._u vectors ≡ vectors = take_all c.loop-u._u vectors (omega (arith, c.size-count.ensures)) in
     let entries : c.loop-u.entries.items ≡ joined vectors = c.loop-u.invariant.1 ∙ ap joined all in
-    ap (rows c.dims.result c.size.result) entries
-    ∙ ap (λ w. rows w c.size.result (joined vectors)) c.dims.ensures
-    ∙ ap (λ n. rows (g.F.Family.width c.args.family.now) n (joined vectors)) c.size.ensures
+    ap (rows c.dims-width.result c.size-count.result) entries
+    ∙ ap (λ w. rows w c.size-count.result (joined vectors)) c.dims-width.ensures
+    ∙ ap (λ n. rows (g.F.Family.width c.args.family.now) n (joined vectors)) c.size-count.ensures
     ∙ rows-joined (g.F.Family.width c.args.family.now) vectors wide

@@ -1,13 +1,15 @@
-use Rattle.std.proofs.Common.{◌≡◌, List, ℤ, Option, Some, None, nat_abs, w64, [], ◌∷◌, length, sym, ap, subst, ◌∙◌, rules}
+use Rattle.std.proofs.Common.{◌≡◌, List, ℤ, Option, Some, None, nat_abs, to_z, of_z, w64, [], ◌∷◌, length, sym, ap, subst, ◌∙◌, rules}
 use Rattle.std.specs.Iterator.{YieldsFirstBy}
 use Rattle.std.specs.List.{All, flat_map}
 use Rattle.std.proofs.lemmas.Int.{to_z-of_z}
 use Rattle.std.proofs.lemmas.List.Elements.{All-tail}
 use Rattle.arrayvec.specs.ArrayVec.{ArrayVec}
 use Rattle.sgb_graph.specs.Growth.{AddsEvents}
-use Rattle.sgb_gen.specs.Displacements.{displacements}
+use Rattle.sgb_gen.specs.EntryBounds.{entry_bounds, displacements_within}
+use Rattle.sgb_gen.specs.Moves.{sides_of}
 use Rattle.sgb_graph.proofs.AddedEvents.{AddsUpTo, up_to-none, up_to-more, up_to-all}
 use Rattle.sgb_gen.proofs.BoardEvents.{events_by, events_of, events_by-moves, events_of-moves}
+use Rattle.sgb_gen.proofs.BoundedMoves.{bounds_of, length-entry_bounds, events_within}
 use Rattle.sgb_gen.proofs.DisplacementLengths.{displacement_lengths}
 use Rattle.sgb_gen.proofs.accepted.boards.Board.add_arcs.Goals as goal
 
@@ -22,12 +24,19 @@ pub loop-t-init : goal.loop-t-init
 loop-t-init c =
     let b = c.args.self.now in
     let g = c.args.graph.now in
-    let ts = displacements (nat_abs b.piece) (length b.sizes) in
+    let bounds = bounds_of b in
+    let ts = displacements_within (nat_abs b.piece) bounds in
     let piece : c.unsigned_abs-piece.result ≡ nat_abs b.piece = c.unsigned_abs-piece.ensures.value ∙ ap nat_abs (to_z-of_z w64 c.self.inside.piece (search rules)) ∙ ap (λ d. nat_abs d.piece) c.self.view_is in
-    let dims : c.dims.result ≡ length b.sizes = c.dims.ensures ∙ ap (λ d. length d.sizes) c.self.view_is in
-    let all : ts ≡ c.into_iter-t-iterator.result = sym (c.into_iter-t-iterator.ensures.into_iter_gives ∙ c.new-t-items.ensures ∙ ap (λ p. displacements p c.dims.result) piece ∙ ap (displacements (nat_abs b.piece)) dims) in (
-      subst (All (λ t. length t ≡ length b.sizes)) all (displacement_lengths (nat_abs b.piece) (length b.sizes)),
-      subst (λ us. AddsUpTo b.directed g g (flat_map (events_by b) us) (events_of b)) all (up_to-none b.directed g (events_of b)),
+    let wrap : to_z w64 (of_z w64 c.self.inside.wrap) ≡ b.wrap = to_z-of_z w64 c.self.inside.wrap (search rules) ∙ ap (λ d. d.wrap) c.self.view_is in
+    let sizes : c.sizes.result.now ≡ b.sizes = c.sizes.ensures ∙ c.self.invariant.0 ∙ ap (λ d. d.sizes) c.self.view_is in
+    let bounded : c.entry_bounds-bounds.result.items ≡ bounds =
+    c.entry_bounds-bounds.ensures ∙ ap (λ p. entry_bounds p (sides_of c.sizes.result.now (to_z w64 (of_z w64 c.self.inside.wrap)))) piece
+    ∙ ap (λ w. entry_bounds (nat_abs b.piece) (sides_of c.sizes.result.now w)) wrap ∙ ap (λ s. entry_bounds (nat_abs b.piece) (sides_of s b.wrap)) sizes in
+    let all : ts ≡ c.into_iter-t-iterator.result = sym (c.into_iter-t-iterator.ensures.into_iter_gives ∙ c.new-t-items.ensures ∙ ap (λ p. displacements_within p c.entry_bounds-bounds.result.items) piece ∙ ap (displacements_within (nat_abs b.piece)) bounded) in
+    let lengths = subst (λ n. All (λ t. length t ≡ n) ts) (length-entry_bounds (nat_abs b.piece) b.sizes b.wrap) (displacement_lengths (nat_abs b.piece) bounds) in
+    let none = subst (λ es. AddsUpTo b.directed g g es (events_of b)) (sym (events_within b)) (up_to-none b.directed g (events_of b)) in (
+      subst (All (λ t. length t ≡ length b.sizes)) all lengths,
+      subst (λ us. AddsUpTo b.directed g g (flat_map (events_by b) us) (events_of b)) all none,
     )
 
 pub loop-t-preserved : goal.loop-t-preserved

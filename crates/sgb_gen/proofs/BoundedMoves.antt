@@ -1,0 +1,241 @@
+-- A displacement with an entry above its bound leads to no place of a board, so the moves of a board are those by the
+-- displacements within the bounds.
+use Rattle.std.proofs.Common.{◌≡◌, ℕ, zero, suc, ◌+◌, ◌-◌, ◌<◌, ◌≤◌, min, ℤ, pos, negsuc, ◌+ℤ◌, ◌*ℤ◌, nat_abs, Bool, true, false, cond, eqb, ltb, List, [], ◌∷◌, ◌++◌, length, map, replicate, get_or, drop, Option, Some, None, refl, sym, ap, subst, ◌∙◌, inl, inr, arith, append_assoc, append-nil, length-append}
+use Rattle.std.specs.Int.{int_rem_euclid}
+use Rattle.std.specs.List.{All, filter, flat_map, range_with_len}
+use Rattle.std.specs.Option.{option_map_or}
+use Rattle.std.proofs.lemmas.Bool.{cases_Bool, cases_lt, cond-false, le-ltb, eqb-true}
+use Rattle.std.proofs.lemmas.Bool.Decides.{nat_tests}
+use Rattle.std.proofs.lemmas.Grind.{flat_map-append}
+use Rattle.std.proofs.lemmas.Int.{ints}
+use Rattle.std.proofs.lemmas.List.{at_drop_more, drop_all, get_or-map, get_or-replicate, length-map, length-replicate}
+use Rattle.std.proofs.lemmas.List.Elements.{All-head, All-tail, All-weaker, Contains-get_or}
+use Rattle.std.proofs.lemmas.List.Folds.{flat_map-map}
+use Rattle.sgb_vec.specs.Boxes.{box}
+use Rattle.sgb_vec.specs.Lexicographic.{IsBelow}
+use Rattle.sgb_vec.proofs.BoxPlaces.{IsBelow-from_Contains}
+use Rattle.sgb_graph.specs.Events.{Event}
+use Rattle.sgb_gen.specs.Boards.{BoardData}
+use Rattle.sgb_gen.specs.Displacements.{signings, sum_of_squares, vectors_of_norm, displacements}
+use Rattle.sgb_gen.specs.EntryBounds.{entry_bound, entry_bounds, vectors_within, displacements_within}
+use Rattle.sgb_gen.specs.Moves.{Side, is_bit_set, sides_from_bit, sides_of, within_size, coordinate_on, in_front, place, is_elsewhere, destination, longest_move, moves_from}
+use Rattle.sgb_gen.specs.VectorGraphs.{event_among}
+use Rattle.sgb_gen.proofs.AllVectors.{flat_map-same, rows-cut}
+use Rattle.sgb_gen.proofs.BoardEvents.{events_from, events_by, events_of}
+use Rattle.sgb_gen.proofs.Completions.{square-ge, squares-cons}
+use Rattle.sgb_gen.proofs.DisplacementLengths.{HasSizes, signings-sizes}
+use Rattle.sgb_gen.proofs.NextSignings.{sizes_of}
+use Rattle.sgb_gen.proofs.Reaches.{sizes_of_sides, move, moves_until, moves_from-until}
+
+-- ---- the bounds, side by side
+
+-- the bounds that are known, one for each of the first k sides, and those of the other sides are all
+pub record AreBoundsSoFar (p : ℕ) (sizes : List ℕ) (wrap : ℤ) (k : ℕ) (known : List ℕ) : Type 0 where
+  pub count : length known ≡ k
+  pub whole : known ++ entry_bounds p (sides_from_bit k (drop k sizes) wrap) ≡ entry_bounds p (sides_of sizes wrap)
+
+-- one more is known
+pub bounds-more : (p : ℕ) (sizes : List ℕ) (wrap : ℤ) (k : ℕ) (known : List ℕ) (wraps : Bool) → k < length sizes → AreBoundsSoFar p sizes wrap k known → wraps ≡ is_bit_set wrap k → AreBoundsSoFar p sizes wrap (k + 1) (known ++ entry_bound p (record { size = get_or sizes k 0; wraps = wraps }) ∷ [])
+bounds-more p sizes wrap k known wraps h so e =
+    let bound = entry_bound p (record { size = get_or sizes k 0; wraps = wraps }) in
+    let rest = entry_bounds p (sides_from_bit (k + 1) (drop (k + 1) sizes) wrap) in
+    record {
+      count = length-append known (bound ∷ []) ∙ omega (arith, so.count);
+      whole = append_assoc known (bound ∷ []) rest
+          ∙ ap (λ b. known ++ entry_bound p (record { size = get_or sizes k 0; wraps = b }) ∷ rest) e
+          ∙ ap (λ bs. known ++ bs) (sym (at_drop_more (λ s. entry_bounds p (sides_from_bit k s wrap)) sizes k 0 h))
+          ∙ so.whole;
+    }
+
+-- all are known
+pub bounds-all : (p : ℕ) (sizes : List ℕ) (wrap : ℤ) (k : ℕ) (known : List ℕ) → length sizes ≤ k → AreBoundsSoFar p sizes wrap k known → known ≡ entry_bounds p (sides_of sizes wrap)
+bounds-all p sizes wrap k known h so =
+    sym (ap (λ s. known ++ entry_bounds p (sides_from_bit k s wrap)) (drop_all k sizes h) ∙ append-nil known) ∙ so.whole
+
+-- a bound for each size
+pub length-entry_bounds : (p : ℕ) (sizes : List ℕ) (wrap : ℤ) → length (entry_bounds p (sides_of sizes wrap)) ≡ length sizes
+length-entry_bounds p sizes wrap =
+    length-map (sides_of sizes wrap) (entry_bound p) ∙ sym (length-map (sides_of sizes wrap) (λ s. s.size))
+    ∙ ap length (sizes_of_sides 0 sizes wrap)
+
+-- ---- off the board
+
+-- a coordinate that is not below the size
+past_size : (n : ℕ) (y : ℤ) → ((c : ℕ) → y ≡ pos c → n ≤ c) → within_size n y ≡ None
+past_size n (pos c) h = cond-false (ltb c n) (Some c) None (le-ltb c n (h c refl))
+past_size n (negsuc c) h = refl
+
+-- a step as long as the side leads off it
+off_side : (n z : ℕ) (u : ℤ) → z < n → n - 1 < nat_abs u → within_size n (pos z +ℤ pos 1 *ℤ u) ≡ None
+off_side n z (pos a) h far = past_size n (pos z +ℤ pos 1 *ℤ pos a) (λ c e. omega (arith, ints, e))
+off_side n z (negsuc a) h far = past_size n (pos z +ℤ pos 1 *ℤ negsuc a) (λ c e. absurd (omega (arith, ints, e)))
+
+-- so does one above the bound, and none of a piece is above that of a side that wraps around
+off_wrapped : (wraps : Bool) (n p z : ℕ) (u : ℤ) → z < n → cond wraps p (n - 1) < nat_abs u → nat_abs u ≤ p → cond wraps (Some (nat_abs (int_rem_euclid (pos z +ℤ pos 1 *ℤ u) (pos n)))) (within_size n (pos z +ℤ pos 1 *ℤ u)) ≡ None
+off_wrapped true n p z u h far small = absurd (omega arith)
+off_wrapped false n p z u h far small = off_side n z u h far
+
+in_front-none : (o : Option ℕ) → in_front o None ≡ None
+in_front-none (Some x) = refl
+in_front-none None = refl
+
+-- an entry above its bound leads to no place
+place-off : (p : ℕ) (sides : List Side) (x : List ℕ) (t : List ℤ) (k : ℕ) → IsBelow x (map (λ s. s.size) sides) → k < length sides → get_or (entry_bounds p sides) k 0 < nat_abs (get_or t k (pos 0)) → nat_abs (get_or t k (pos 0)) ≤ p → place sides x t 1 ≡ None
+place-off p [] x t k b h far small = absurd (omega arith)
+place-off p (s ∷ sides) [] t k b h far small = absurd b
+place-off p (s ∷ sides) (z ∷ x) [] k b h far small = refl
+place-off p (s ∷ sides) (z ∷ x) (u ∷ t) zero b h far small =
+    ap (λ o. in_front o (place sides x t 1)) (off_wrapped s.wraps s.size p z u b.0 far small)
+place-off p (s ∷ sides) (z ∷ x) (u ∷ t) (suc k) b h far small =
+    ap (in_front (coordinate_on s (pos z +ℤ pos 1 *ℤ u))) (place-off p sides x t k b.1 (omega arith) far small)
+    ∙ in_front-none (coordinate_on s (pos z +ℤ pos 1 *ℤ u))
+
+-- a piece with no place at length 1 makes no move
+destination-none : (sides : List Side) (piece : ℤ) (x : List ℕ) (t : List ℤ) (l : ℕ) → place sides x t l ≡ None → destination sides piece x t l ≡ None
+destination-none sides (pos p) x t l h = h
+destination-none sides (negsuc p) x t l h = ap (λ o. cond (is_elsewhere x o) o None) h
+
+until-none : (x : List ℕ) (g : ℕ → Option (List ℕ)) (n : ℕ) → g 1 ≡ None → moves_until x g (range_with_len 1 n) ≡ []
+until-none x g zero h = refl
+until-none x g (suc n) h = ap (λ o. option_map_or (λ y. move x 1 y ∷ moves_until x g (range_with_len 2 n)) o []) h
+
+moves-none : (sides : List Side) (piece : ℤ) (x : List ℕ) (t : List ℤ) → place sides x t 1 ≡ None → moves_from sides piece x t ≡ []
+moves-none sides piece x t h =
+    moves_from-until sides piece x t ∙ until-none x (destination sides piece x t) (longest_move sides piece) (destination-none sides piece x t 1 h)
+
+-- nothing of each makes nothing of all
+flat_map-none : {X Y : Type 0} (f : X → List Y) (xs : List X) → All (λ x. f x ≡ []) xs → flat_map f xs ≡ []
+flat_map-none f [] h = refl
+flat_map-none f (x ∷ xs) h = rw (All-head (λ y. f y ≡ []) x xs h, flat_map-none f xs (All-tail (λ y. f y ≡ []) x xs h)) refl
+
+-- the bounds of a board's entries
+abbrev pub bounds_of : BoardData → List ℕ
+bounds_of b = entry_bounds (nat_abs b.piece) (sides_of b.sizes b.wrap)
+
+-- a displacement with an entry above its bound makes no event
+events-off : (b : BoardData) (t : List ℤ) (k : ℕ) → k < length b.sizes → get_or (bounds_of b) k 0 < nat_abs (get_or t k (pos 0)) → nat_abs (get_or t k (pos 0)) ≤ nat_abs b.piece → events_by b t ≡ []
+events-off b t k h far small =
+    let sides = sides_of b.sizes b.wrap in
+    let same = sizes_of_sides 0 b.sizes b.wrap in
+    let count : length sides ≡ length b.sizes = sym (length-map sides (λ s. s.size)) ∙ ap length same in
+    flat_map-none (events_from b t) (box b.sizes)
+    (λ j w l.
+    let x = get_or (box b.sizes) j w in
+    let below : IsBelow x (map (λ s. s.size) sides) = subst (IsBelow x) (sym same) (IsBelow-from_Contains b.sizes x (Contains-get_or (box b.sizes) j w l)) in
+    let off = place-off (nat_abs b.piece) sides x t k below (omega arith) far small in
+    ap (map (event_among (box b.sizes))) (moves-none sides b.piece x t off))
+
+-- ---- all vectors, and those within the bounds
+
+-- the events of a vector's signings
+abbrev events_of_vector : BoardData → List ℕ → List Event
+events_of_vector b v = flat_map (events_by b) (signings v)
+
+size_at : (t : List ℤ) (k : ℕ) → get_or (sizes_of t) k 0 ≡ nat_abs (get_or t k (pos 0))
+size_at [] k = refl
+size_at (x ∷ t) zero = refl
+size_at (x ∷ t) (suc k) = size_at t k
+
+-- of a vector with an entry above its bound there are none
+vector-off : (b : BoardData) (v : List ℕ) (k : ℕ) → k < length b.sizes → get_or (bounds_of b) k 0 < get_or v k 0 → get_or v k 0 ≤ nat_abs b.piece → events_of_vector b v ≡ []
+vector-off b v k h far small =
+    flat_map-none (events_by b) (signings v)
+    (All-weaker (HasSizes v) (λ t. events_by b t ≡ [])
+    (λ t e.
+    let size : nat_abs (get_or t k (pos 0)) ≡ get_or v k 0 = sym (size_at t k) ∙ ap (λ w. get_or w k 0) e in
+    events-off b t k h (omega arith) (omega arith)) (signings v) (signings-sizes v))
+
+-- no entry is above the sum of the squares
+entry-le : (v : List ℕ) (k : ℕ) → get_or v k 0 ≤ sum_of_squares v
+entry-le [] k = omega arith
+entry-le (x ∷ v) zero = omega (arith, squares-cons x v, square-ge x)
+entry-le (x ∷ v) (suc k) = omega (arith, squares-cons x v, entry-le v k)
+
+-- what the vectors that pass a test make
+abbrev by_test : {X : Type 0} → (List ℤ → List X) → (List ℕ → Bool) → List ℕ → List X
+by_test f q v = cond (q v) (flat_map f (signings v)) []
+
+by_vectors : {X : Type 0} (f : List ℤ → List X) (q : List ℕ → Bool) (vs : List (List ℕ)) → flat_map f (flat_map signings (filter q vs)) ≡ flat_map (by_test f q) vs
+by_vectors f q [] = refl
+by_vectors f q (v ∷ vs) =
+    elim (q v) as (λ b. flat_map f (flat_map signings (cond b (v ∷ filter q vs) (filter q vs))) ≡ cond b (flat_map f (signings v)) [] ++ flat_map (by_test f q) vs) [
+      | true ↦ flat_map-append f (signings v) (flat_map signings (filter q vs)) ∙ ap (λ ys. flat_map f (signings v) ++ ys) (by_vectors f q vs)
+      | false ↦ by_vectors f q vs
+    ]
+
+-- a map of lists joined, joined
+flat_map-flat_map : {X Y Z : Type 0} (f : Y → List Z) (g : X → List Y) (xs : List X) → flat_map f (flat_map g xs) ≡ flat_map (λ x. flat_map f (g x)) xs
+flat_map-flat_map f g [] = refl
+flat_map-flat_map f g (x ∷ xs) = flat_map-append f (g x) (flat_map g xs) ∙ ap (λ ys. flat_map f (g x) ++ ys) (flat_map-flat_map f g xs)
+
+-- g makes nothing of a vector with an entry of the size or more
+abbrev EndsAt : {X : Type 0} → (List ℕ → List X) → List ℕ → Type 0
+EndsAt g ns = (v : List ℕ) (k : ℕ) → k < length ns → get_or ns k 0 ≤ get_or v k 0 → g v ≡ []
+
+-- what g makes of the vectors of a box, by their first entry
+box-rows : {X : Type 0} (g : List ℕ → List X) (n : ℕ) (ns : List ℕ) → flat_map g (box (n ∷ ns)) ≡ flat_map (λ x. flat_map (λ v. g (x ∷ v)) (box ns)) (range_with_len 0 n)
+unfolding box
+box-rows g n ns =
+    flat_map-flat_map g (λ x. map (λ v. x ∷ v) (box ns)) (range_with_len 0 n)
+    ∙ flat_map-same (λ x. flat_map g (map (λ v. x ∷ v) (box ns))) (λ x. flat_map (λ v. g (x ∷ v)) (box ns)) (λ x. flat_map-map g (λ v. x ∷ v) (box ns)) (range_with_len 0 n)
+
+-- boxes at whose ends it makes nothing give the same
+box-same : {X : Type 0} (g : List ℕ → List X) (ns ms : List ℕ) → length ns ≡ length ms → EndsAt g ns → EndsAt g ms → flat_map g (box ns) ≡ flat_map g (box ms)
+box-same g [] [] e h i = refl
+box-same g [] (m ∷ ms) e h i = absurd (omega arith)
+box-same g (n ∷ ns) [] e h i = absurd (omega arith)
+box-same {X} g (n ∷ ns) (m ∷ ms) e h i =
+    let row : List ℕ → ℕ → List X = λ ls x. flat_map (λ v. g (x ∷ v)) (box ls) in
+    let same : (x : ℕ) → row ns x ≡ row ms x = λ x. box-same (λ v. g (x ∷ v)) ns ms (omega arith) (λ v k l far. h (x ∷ v) (suc k) (omega arith) far) (λ v k l far. i (x ∷ v) (suc k) (omega arith) far) in
+    let past : (ls : List ℕ) (x : ℕ) → 0 + min n m ≤ x → row ls x ≡ [] = λ ls x far.
+    flat_map-none (λ v. g (x ∷ v)) (box ls)
+    (λ j w l. elim (cases_lt x n) [
+      | inl less ↦ i (x ∷ get_or (box ls) j w) 0 (omega arith) (omega arith)
+      | inr more ↦ h (x ∷ get_or (box ls) j w) 0 (omega arith) more
+    ]) in
+    box-rows g n ns
+    ∙ rows-cut (row ns) 0 (min n m) n (omega arith) (past ns)
+    ∙ flat_map-same (row ns) (row ms) same (range_with_len 0 (min n m))
+    ∙ sym (rows-cut (row ms) 0 (min n m) m (omega arith) (past ms))
+    ∙ sym (box-rows g m ms)
+
+-- the events of a vector of the piece's norm
+abbrev events_of_norm : BoardData → List ℕ → List Event
+events_of_norm b v = by_test (events_by b) (λ w. eqb (sum_of_squares w) (nat_abs b.piece)) v
+
+-- another sum of squares makes none
+norm-other : (b : BoardData) (v : List ℕ) → nat_abs b.piece < sum_of_squares v → events_of_norm b v ≡ []
+norm-other b v h =
+    let other : eqb (sum_of_squares v) (nat_abs b.piece) ≡ false = grind (arith, nat_tests) in
+    ap (λ c. cond c (events_of_vector b v) []) other
+
+-- nor does an entry above the piece, or one above its bound
+ends-all : (b : BoardData) (d : ℕ) → EndsAt (events_of_norm b) (replicate d (nat_abs b.piece + 1))
+ends-all b d v k l far =
+    let within : k < d = omega (arith, l, length-replicate d (nat_abs b.piece + 1)) in
+    norm-other b v (omega (arith, far, entry-le v k, get_or-replicate d k (nat_abs b.piece + 1) 0 within))
+
+ends-within : (b : BoardData) → EndsAt (events_of_norm b) (map (λ n. n + 1) (bounds_of b))
+ends-within b v k l far =
+    let count = length-entry_bounds (nat_abs b.piece) b.sizes b.wrap in
+    let place : k < length (bounds_of b) = omega (arith, l, length-map (bounds_of b) (λ n. n + 1)) in
+    let bound : get_or (map (λ n. n + 1) (bounds_of b)) k 0 ≡ get_or (bounds_of b) k 0 + 1 = get_or-map (λ n. n + 1) (bounds_of b) k 0 0 place in
+    elim (cases_Bool (eqb (sum_of_squares v) (nat_abs b.piece))) [
+      | inl exact ↦
+          let norm : sum_of_squares v ≡ nat_abs b.piece = eqb-true (sum_of_squares v) (nat_abs b.piece) exact in
+          ap (λ c. cond c (events_of_vector b v) []) exact ∙ vector-off b v k (omega arith) (omega arith) (omega (arith, entry-le v k))
+      | inr other ↦ ap (λ c. cond c (events_of_vector b v) []) other
+    ]
+
+-- the events of a board are those by the displacements within the bounds
+pub events_within : (b : BoardData) → flat_map (events_by b) (displacements_within (nat_abs b.piece) (bounds_of b)) ≡ events_of b
+unfolding displacements vectors_of_norm displacements_within vectors_within
+events_within b =
+    let p = nat_abs b.piece in
+    let d = length b.sizes in
+    let q : List ℕ → Bool = λ w. eqb (sum_of_squares w) p in
+    let ns = map (λ n. n + 1) (bounds_of b) in
+    let ms = replicate d (p + 1) in
+    let count : length ns ≡ length ms = length-map (bounds_of b) (λ n. n + 1) ∙ length-entry_bounds p b.sizes b.wrap ∙ sym (length-replicate d (p + 1)) in
+    by_vectors (events_by b) q (box ns) ∙ box-same (events_of_norm b) ns ms count (ends-within b) (ends-all b d)
+    ∙ sym (by_vectors (events_by b) q (box ms))
