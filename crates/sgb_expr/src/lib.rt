@@ -3,6 +3,8 @@
 #![tactic(auto)]
 
 mod arguments;
+#[cfg(test)]
+mod cases;
 pub mod entries;
 pub mod expressions;
 pub mod flips;

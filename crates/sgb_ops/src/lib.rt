@@ -2,9 +2,9 @@
 #![tactic(auto)]
 
 mod bipartite_graphs;
-#[cfg(test)]
-mod blocks;
 mod boards;
+#[cfg(test)]
+mod cases;
 mod complements;
 mod copied_names;
 mod entries;

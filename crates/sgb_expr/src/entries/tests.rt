@@ -1,134 +1,154 @@
 use super::*;
-use crate::expressions::{Family, Unread, read_expr};
-use sgb_gen::{circuit, petersen};
-use std::alloc::Global;
-use std::test::Fail;
+use crate::cases::{PETERSEN, RING, first_unmet, is_family, read};
+use crate::expressions::Family;
+use std::alloc::{AllocError, Global};
 
-/// The petersen graph.
-fn famous() -> Expr {
-    Expr::Family(Family::Subsets(petersen()))
+// Whether the expression is the graph that entries induce on this one, with the flags self_loops, multi and directed.
+fn is_induced(expression: &Expr, of: Family, list: &[EntryExpr], flags: [bool; 3]) -> bool {
+    match expression {
+        Expr::Induced {
+            graph,
+            entries,
+            self_loops,
+            multi,
+            directed,
+        } => {
+            is_family(graph, of)
+                && entries.as_slice() == list
+                && [*self_loops, *multi, *directed] == flags
+        }
+        _ => false,
+    }
 }
 
-/// A circuit of five vertices.
-fn ring() -> Expr {
-    Expr::Family(Family::Board(circuit(5)))
+// Whether the text is read as the graph that these entries induce on the petersen graph.
+fn is_read_as(alloc: Global, text: &str, list: &[EntryExpr], flags: [bool; 3]) -> bool {
+    match read(alloc, text) {
+        Some(expression) => is_induced(&expression, PETERSEN, list, flags),
+        None => false,
+    }
 }
 
-/// The induced graph with these flags.
-fn induced(
-    alloc: Global,
-    graph: Expr,
-    list: Vec<EntryExpr>,
-    flags: [bool; 3],
-) -> Result<Expr, Fail> {
-    let [self_loops, multi, directed] = flags;
-    Ok(Expr::Induced {
-        graph: Box::new(alloc, graph)?,
-        entries: Entries::new(list),
-        self_loops,
-        multi,
-        directed,
-    })
+// The entry of this graph.
+fn graph(family: Family) -> EntryExpr {
+    EntryExpr::Graph(Expr::Family(family))
 }
 
 #[test]
-fn entries_are_read_in_order(rt: HostRuntime) -> Result<(), Fail> {
-    let alloc = rt.alloc();
+fn no_entries_are_read(rt: HostRuntime) {
+    let text = "induced(petersen(),[],0,0,0)";
+    assert!(rt; is_read_as(rt.alloc(), text, &[], [false, false, false]));
+}
+
+#[test]
+fn entries_are_read_in_order(rt: HostRuntime) {
     let longest = 999_999_999_999_999_999;
-    let some = Vec::from_array(
-        alloc,
-        [
-            EntryExpr::Number(1),
-            EntryExpr::Number(-2),
-            EntryExpr::Graph(famous()),
-        ],
-    )?;
-    let others = Vec::from_array(
-        alloc,
-        [
-            EntryExpr::Graph(ring()),
-            EntryExpr::Number(7),
-            EntryExpr::Number(-longest),
-        ],
-    )?;
-    let inner = Vec::from_array(alloc, [EntryExpr::Number(3)])?;
-    let inside = induced(alloc, ring(), inner, [false, true, false])?;
-    let outer = Vec::from_array(alloc, [EntryExpr::Graph(inside), EntryExpr::Number(-4)])?;
-    for (text, want) in [
-        (
-            "induced(petersen(),[],0,0,0)",
-            induced(alloc, famous(), Vec::new(alloc), [false, false, false])?,
-        ),
-        (
-            "induced(petersen(),[1,-2,petersen()],0,0,1)",
-            induced(alloc, famous(), some, [false, false, true])?,
-        ),
-        (
-            "induced(petersen(),[circuit(5),007,-999999999999999999],-1,0,0)",
-            induced(alloc, famous(), others, [true, false, false])?,
-        ),
-        (
-            "induced(petersen(),[induced(circuit(5),[3],0,1,0),-4],0,9,0)",
-            induced(alloc, famous(), outer, [false, true, false])?,
-        ),
-    ] {
-        assert!(rt; read_expr(alloc, text.as_bytes()) == Ok(want), "at {text}");
+    let some = [EntryExpr::Number(1), EntryExpr::Number(-2), graph(PETERSEN)];
+    let text = "induced(petersen(),[1,-2,petersen()],0,0,1)";
+    assert!(rt; is_read_as(rt.alloc(), text, &some, [false, false, true]));
+    let others = [
+        graph(RING),
+        EntryExpr::Number(7),
+        EntryExpr::Number(-longest),
+    ];
+    let text = "induced(petersen(),[circuit(5),007,-999999999999999999],-1,0,0)";
+    assert!(rt; is_read_as(rt.alloc(), text, &others, [true, false, false]));
+}
+
+// Whether the first of two entries is the graph that the number 3 induces on the circuit, and the second is -4.
+fn is_outer(list: &[EntryExpr]) -> bool {
+    match list {
+        [EntryExpr::Graph(inside), EntryExpr::Number(-4)] => {
+            is_induced(inside, RING, &[EntryExpr::Number(3)], [false, true, false])
+        }
+        _ => false,
     }
+}
+
+// Whether the text is read as the graph that those entries induce on the petersen graph.
+fn is_read_as_outer(alloc: Global, text: &str) -> bool {
+    match read(alloc, text) {
+        Some(
+            Expr::Induced {
+                graph,
+                entries,
+                self_loops,
+                multi,
+                directed,
+            },
+        ) => {
+            is_family(&graph, PETERSEN)
+                && is_outer(entries.as_slice())
+                && [self_loops, multi, directed] == [false, true, false]
+        }
+        _ => false,
+    }
+}
+
+#[test]
+fn entries_of_entries_are_read(rt: HostRuntime) {
+    let text = "induced(petersen(),[induced(circuit(5),[3],0,1,0),-4],0,9,0)";
+    assert!(rt; is_read_as_outer(rt.alloc(), text));
+}
+
+/// Texts that are no expressions, each with a `|` after its longest prefix that begins one.
+const CUT: &str = "\
+ind|
+in|x
+induced(petersen()|)
+induced(petersen(),|1,0,0,0)
+induced(petersen(),[|
+induced(petersen(),[|,1],0,0,0)
+induced(petersen(),[| 1],0,0,0)
+induced(petersen(),[1|
+induced(petersen(),[1|;2],0,0,0)
+induced(petersen(),[1,|],0,0,0)
+induced(petersen(),[1]|],0,0,0)
+induced(petersen(),[-|-1],0,0,0)
+induced(petersen(),[-|x],0,0,0)
+induced(petersen(),[1,2,-|
+induced(petersen(),[123456789012345678|9],0,0,0)
+induced(petersen(),[0|x1],0,0,0)
+induced(petersen(),[pet|],0,0,0)
+induced(petersen(),[petersen()|
+induced(petersen(),[petersen()|1],0,0,0)
+induced(petersen(),[petersen(),circuit(|]
+induced(petersen(),[induced(petersen(),[2,|
+induced(petersen(),[],0,0|)
+induced(petersen(),[],0,0,0|";
+
+#[test]
+fn entries_go_wrong_somewhere(rt: HostRuntime) -> Result<(), AllocError> {
+    let unmet = first_unmet(rt.alloc(), CUT)?;
+    assert!(rt; unmet.is_none(), "at {}", unmet.unwrap_or(""));
     Ok(())
 }
 
-/// Texts that are no expressions, each with the length of its longest prefix that begins one.
-const CUT: [(&str, u32); 23] = [
-    ("ind", 3),
-    ("inx", 2),
-    ("induced(petersen())", 18),
-    ("induced(petersen(),1,0,0,0)", 19),
-    ("induced(petersen(),[", 20),
-    ("induced(petersen(),[,1],0,0,0)", 20),
-    ("induced(petersen(),[ 1],0,0,0)", 20),
-    ("induced(petersen(),[1", 21),
-    ("induced(petersen(),[1;2],0,0,0)", 21),
-    ("induced(petersen(),[1,],0,0,0)", 22),
-    ("induced(petersen(),[1]],0,0,0)", 22),
-    ("induced(petersen(),[--1],0,0,0)", 21),
-    ("induced(petersen(),[-x],0,0,0)", 21),
-    ("induced(petersen(),[1,2,-", 25),
-    ("induced(petersen(),[1234567890123456789],0,0,0)", 38),
-    ("induced(petersen(),[0x1],0,0,0)", 21),
-    ("induced(petersen(),[pet],0,0,0)", 23),
-    ("induced(petersen(),[petersen()", 30),
-    ("induced(petersen(),[petersen()1],0,0,0)", 30),
-    ("induced(petersen(),[petersen(),circuit(]", 39),
-    ("induced(petersen(),[induced(petersen(),[2,", 42),
-    ("induced(petersen(),[],0,0)", 25),
-    ("induced(petersen(),[],0,0,0", 27),
-];
+// An induced graph of so many entries 1, and then -2.
+fn many_entries(alloc: Global, count: usize) -> Result<String, AllocError> {
+    let mut text = String::from_str(alloc, "induced(petersen(),[")?;
+    for _ in 0..count {
+        text.push_str("1,")?;
+    }
+    text.push_str("-2],0,0,0)")?;
+    Ok(text)
+}
 
-#[test]
-fn entries_go_wrong_somewhere(rt: HostRuntime) {
-    for (text, want) in CUT {
-        assert!(rt;
-            read_expr(rt.alloc(), text.as_bytes()) == Err(Unread::At(want)),
-            "at {text}"
-        );
+// Whether the text is read with so many entries, of which the last is -2.
+fn has_entries(alloc: Global, text: &str, count: usize) -> bool {
+    match read(alloc, text) {
+        Some(Expr::Induced { entries, .. }) => {
+            entries.len() == count
+                && !entries.is_empty()
+                && matches!(entries.as_slice().last(), Some(EntryExpr::Number(-2)))
+        }
+        _ => false,
     }
 }
 
 #[test]
-fn thirty_thousand_entries_are_read(rt: HostRuntime) -> Result<(), Fail> {
-    let alloc = rt.alloc();
-    let mut text = String::from_str(alloc, "induced(petersen(),[")?;
-    for _ in 0..30_000 {
-        text.push_str("1,")?;
-    }
-    text.push_str("-2],0,0,0)")?;
-    let read = read_expr(alloc, text.as_bytes());
-    let Ok(Expr::Induced { entries, .. }) = &read else {
-        assert!(rt; false);
-        return Ok(());
-    };
-    assert!(rt; entries.len() == 30_001);
-    assert!(rt; !entries.is_empty());
-    assert!(rt; entries.as_slice().last() == Some(&EntryExpr::Number(-2)));
+fn thirty_thousand_entries_are_read(rt: HostRuntime) -> Result<(), AllocError> {
+    let text = many_entries(rt.alloc(), 30_000)?;
+    assert!(rt; has_entries(rt.alloc(), text.as_str(), 30_001));
     Ok(())
 }

@@ -1,11 +1,12 @@
 use super::*;
-use std::test::Fail;
+use crate::cases::joined;
+use std::alloc::{AllocError, Global};
 
 /// The largest integer of 18 digits.
 const LONGEST: i64 = 999_999_999_999_999_999;
 
 /// Texts, each with the integers that it asks for.
-const GOOD: [(&str, [i64; 4]); 6] = [
+static GOOD: [(&str, [i64; 4]); 6] = [
     ("flip(1,2,3,4)", [1, 2, 3, 4]),
     ("flip(-314159,0,10,0)", [-314_159, 0, 10, 0]),
     ("flip(0,-1,-2,-3)", [0, -1, -2, -3]),
@@ -20,74 +21,97 @@ const GOOD: [(&str, [i64; 4]); 6] = [
     ),
 ];
 
-#[test]
-fn four_integers_are_read(rt: HostRuntime) {
-    for (text, [start, skip, count, m]) in GOOD {
-        let want = FlipParams {
+// Whether the text asks for these integers.
+fn is_read_as(text: &str, numbers: [i64; 4]) -> bool {
+    let [start, skip, count, m] = numbers;
+    read_flip(text.as_bytes()).is_ok_and(|read| {
+        read == FlipParams {
             start,
             skip,
             count,
             m,
-        };
-        assert!(rt; read_flip(text.as_bytes()) == Ok(want), "at {text}");
-    }
+        }
+    })
 }
 
-/// Texts that ask for nothing, each with the length of its longest prefix that begins one that does.
-const CUT: [(&str, u32); 32] = [
-    ("", 0),
-    ("x", 0),
-    ("f", 1),
-    ("flop(1,2,3,4)", 2),
-    ("flip", 4),
-    ("flips(1,2,3,4)", 4),
-    ("flip (1,2,3,4)", 4),
-    (" flip(1,2,3,4)", 0),
-    ("Flip(1,2,3,4)", 0),
-    ("flip(", 5),
-    ("flip()", 5),
-    ("flip(,", 5),
-    ("flip(-", 6),
-    ("flip(-,", 6),
-    ("flip(--1,", 6),
-    ("flip(+1,", 5),
-    ("flip(0x1,", 6),
-    ("flip(1, 2,3,4)", 7),
-    ("flip(1,2", 8),
-    ("flip(1,2)", 8),
-    ("flip(1,2,3)", 10),
-    ("flip(1,2,3,", 11),
-    ("flip(1,2,3,)", 11),
-    ("flip(1,2,3,4", 12),
-    ("flip(1,2,3,4,5)", 12),
-    ("flip(1,2,3,4)x", 13),
-    ("flip(1,2,3,4))", 13),
-    ("flip(1234567890123456789,0,0,0)", 23),
-    ("flip(-1234567890123456789,0,0,0)", 24),
-    ("flip(1,2,3,0000000000000000000)", 29),
-    ("petersen()", 0),
-    ("board(2,2,0,0,1,0,0)", 0),
-];
-
-#[test]
-fn other_texts_go_wrong_somewhere(rt: HostRuntime) {
-    for (text, want) in CUT {
-        assert!(rt;
-            read_flip(text.as_bytes()) == Err(Unread::At(want)),
-            "at {text}"
-        );
-    }
+// Whether the text is not read, for this reason.
+fn is_refused(text: &[u8], why: Unread) -> bool {
+    read_flip(text).is_err_and(|unread| unread == why)
 }
 
 #[test]
-fn large_texts_are_not_read(rt: HostRuntime) -> Result<(), Fail> {
+fn four_integers_are_read(rt: HostRuntime) {
+    for row in &GOOD {
+        let (text, numbers) = *row;
+        assert!(rt; is_read_as(text, numbers), "at {text}");
+    }
+}
+
+/// Texts that ask for nothing, each with a `|` after its longest prefix that begins one that does.
+const CUT: &str = "\
+|
+|x
+f|
+fl|op(1,2,3,4)
+flip|
+flip|s(1,2,3,4)
+flip| (1,2,3,4)
+| flip(1,2,3,4)
+|Flip(1,2,3,4)
+flip(|
+flip(|)
+flip(|,
+flip(-|
+flip(-|,
+flip(-|-1,
+flip(|+1,
+flip(0|x1,
+flip(1,| 2,3,4)
+flip(1,2|
+flip(1,2|)
+flip(1,2,3|)
+flip(1,2,3,|
+flip(1,2,3,|)
+flip(1,2,3,4|
+flip(1,2,3,4|,5)
+flip(1,2,3,4)|x
+flip(1,2,3,4)|)
+flip(123456789012345678|9,0,0,0)
+flip(-123456789012345678|9,0,0,0)
+flip(1,2,3,000000000000000000|0)
+|petersen()
+|board(2,2,0,0,1,0,0)";
+
+// Whether the text asks for nothing, and its longest prefix that begins one that does has so many bytes.
+fn goes_wrong_at(text: &[u8], at: usize) -> bool {
+    matches!(read_flip(text), Err(Unread::At(found)) if found as usize == at)
+}
+
+// Whether the text of the line asks for nothing, with the mark after its longest prefix that begins one that does.
+fn goes_wrong_at_mark(alloc: Global, line: &str) -> Result<bool, AllocError> {
+    let Some((begun, rest)) = line.split_once('|') else {
+        return Ok(false);
+    };
+    let text = joined(alloc, begun, rest)?;
+    Ok(goes_wrong_at(text.as_bytes(), begun.len()))
+}
+
+#[test]
+fn other_texts_go_wrong_somewhere(rt: HostRuntime) -> Result<(), AllocError> {
+    for line in CUT.lines() {
+        assert!(rt; goes_wrong_at_mark(rt.alloc(), line)?, "at {line}");
+    }
+    Ok(())
+}
+
+#[test]
+fn large_texts_are_not_read(rt: HostRuntime) -> Result<(), AllocError> {
     let deep = [b'('; 65];
-    assert!(rt; read_flip(&deep[..64]) == Err(Unread::At(0)));
-    assert!(rt; read_flip(&deep) == Err(Unread::TooLarge));
-
-    let mut long = vec![in rt.alloc(); b'f'; 65_536]?;
-    assert!(rt; read_flip(&long) == Err(Unread::At(1)));
-    long.push(b'f')?;
-    assert!(rt; read_flip(&long) == Err(Unread::TooLarge));
+    assert!(rt; is_refused(&deep[..64], Unread::At(0)));
+    assert!(rt; is_refused(&deep, Unread::TooLarge));
+    for (length, why) in [(65_536, Unread::At(1)), (65_537, Unread::TooLarge)] {
+        let text = vec![in rt.alloc(); b'f'; length]?;
+        assert!(rt; is_refused(&text, why));
+    }
     Ok(())
 }

@@ -1,8 +1,9 @@
 use super::*;
-use crate::expressions::{Unread, read_expr};
+use crate::cases::{first_unmet, read};
+use std::alloc::{AllocError, Global};
 
 /// Expressions, each with whether `stdin` stands in it.
-const USES: [(&str, bool); 22] = [
+static USES: [(&str, bool); 22] = [
     ("stdin", true),
     ("petersen()", false),
     ("complement(stdin,0,0,0)", true),
@@ -30,49 +31,54 @@ const USES: [(&str, bool); 22] = [
     ("wheel(5,1,0)", false),
 ];
 
+// Whether the text is an expression, with `stdin` in it or not.
+fn has_stdin(alloc: Global, text: &str, want: bool) -> bool {
+    match read(alloc, text) {
+        Some(expression) => expression.has_stdin() == want,
+        None => false,
+    }
+}
+
 #[test]
 fn stdin_is_found_wherever_it_stands(rt: HostRuntime) {
-    for (text, want) in USES {
-        let read = read_expr(rt.alloc(), text.as_bytes());
-        let has = read.map(|expression| expression.has_stdin());
-        assert!(rt; has == Ok(want), "at {text}");
+    for row in &USES {
+        let (text, want) = *row;
+        assert!(rt; has_stdin(rt.alloc(), text, want), "at {text}");
+    }
+}
+
+// Whether the text is read as the line graph of `stdin`, directed.
+fn is_lines_of_stdin(alloc: Global, text: &str) -> bool {
+    match read(alloc, text) {
+        Some(Expr::Lines { graph, directed }) => matches!(*graph, Expr::Stdin) && directed,
+        _ => false,
     }
 }
 
 #[test]
-fn stdin_is_read(rt: HostRuntime) -> Result<(), std::test::Fail> {
-    let alloc = rt.alloc();
-    assert!(rt; read_expr(alloc, b"stdin") == Ok(Expr::Stdin));
-    let lines = Expr::Lines {
-        graph: Box::new(alloc, Expr::Stdin)?,
-        directed: true,
-    };
-    assert!(rt; read_expr(alloc, b"lines(stdin,1)") == Ok(lines));
+fn stdin_is_read(rt: HostRuntime) {
+    assert!(rt; matches!(read(rt.alloc(), "stdin"), Some(Expr::Stdin)));
+    assert!(rt; is_lines_of_stdin(rt.alloc(), "lines(stdin,1)"));
+}
+
+/// Texts that are no expressions, each with a `|` after its longest prefix that begins one.
+const CUT: &str = "\
+st|
+stdi|
+std|out
+|Stdin
+stdin| 
+stdin|x
+stdin|()
+stdin|,
+complement(stdin|
+complement(stdin|()
+complement(stdin,0,0,0)|x
+induced(stdin,[stdin|1],0,0,0)";
+
+#[test]
+fn stdin_is_the_whole_word(rt: HostRuntime) -> Result<(), AllocError> {
+    let unmet = first_unmet(rt.alloc(), CUT)?;
+    assert!(rt; unmet.is_none(), "at {}", unmet.unwrap_or(""));
     Ok(())
-}
-
-/// Texts that are no expressions, each with the length of its longest prefix that begins one.
-const CUT: [(&str, u32); 12] = [
-    ("st", 2),
-    ("stdi", 4),
-    ("stdout", 3),
-    ("Stdin", 0),
-    ("stdin ", 5),
-    ("stdinx", 5),
-    ("stdin()", 5),
-    ("stdin,", 5),
-    ("complement(stdin", 16),
-    ("complement(stdin()", 16),
-    ("complement(stdin,0,0,0)x", 23),
-    ("induced(stdin,[stdin1],0,0,0)", 20),
-];
-
-#[test]
-fn stdin_is_the_whole_word(rt: HostRuntime) {
-    for (text, want) in CUT {
-        assert!(rt;
-            read_expr(rt.alloc(), text.as_bytes()) == Err(Unread::At(want)),
-            "at {text}"
-        );
-    }
 }

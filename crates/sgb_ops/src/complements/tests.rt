@@ -1,103 +1,177 @@
 use super::complement;
-use crate::blocks::has_block;
-use sgb_gen::{board, petersen, simplex};
-use std::test::Fail;
+use crate::cases::{CYCLE, Known, LOOP, Operand, PATH, RIDERS, is_known};
+use sgb_gen::petersen;
+use sgb_graph::Graph;
+use sgb_vec::Panic;
+use std::alloc::Global;
 
-#[test]
-fn complement_of_a_path(rt: HostRuntime) -> Result<(), Fail> {
-    let path = board(rt.alloc(), 3, 0, 0, 0, 1, 0, false)?;
-    let graph = complement(rt.alloc(), &path, false, false, false)?;
-    assert!(rt; graph.id().bytes() == b"complement(board(3,0,0,0,1,0,0),0,0,0)".as_slice());
-    assert!(rt; graph.n() == 3);
-    assert!(rt; graph.m() == 2);
-    assert!(rt; has_block(&graph, 0, b"0", &[(2, 1)]));
-    assert!(rt; has_block(&graph, 1, b"1", &[]));
-    assert!(rt; has_block(&graph, 2, b"2", &[(0, 1)]));
-    Ok(())
+// The complement with the flags copy, self_loops and directed.
+fn with_flags(alloc: Global, graph: &Graph, flags: [bool; 3]) -> Result<Graph, Panic> {
+    let [copy, self_loops, directed] = flags;
+    complement(alloc, graph, copy, self_loops, directed)
 }
 
-#[test]
-fn loops_and_arcs_both_ways(rt: HostRuntime) -> Result<(), Fail> {
-    let path = board(rt.alloc(), 3, 0, 0, 0, 1, 0, false)?;
-    let graph = complement(rt.alloc(), &path, false, true, true)?;
-    assert!(rt; graph.id().bytes() == b"complement(board(3,0,0,0,1,0,0),0,1,1)".as_slice());
-    assert!(rt; graph.m() == 5);
-    assert!(rt; has_block(&graph, 0, b"0", &[(2, 1), (0, 1)]));
-    assert!(rt; has_block(&graph, 1, b"1", &[(1, 1)]));
-    assert!(rt; has_block(&graph, 2, b"2", &[(2, 1), (0, 1)]));
-    Ok(())
+// Whether the complement has this id, and what is known.
+fn is_complement(
+    alloc: Global,
+    operand: Operand,
+    flags: [bool; 3],
+    id: &str,
+    known: Known,
+) -> Result<bool, Panic> {
+    let graph = with_flags(alloc, &operand.graph(alloc)?, flags)?;
+    Ok(is_known(&graph, id, known))
 }
 
-#[test]
-fn copy_without_parallel_edges(rt: HostRuntime) -> Result<(), Fail> {
-    // two edges, of lengths 1 and 2, between each two vertices
-    let riders = board(rt.alloc(), 3, 0, 0, 0, -1, 1, false)?;
-    let graph = complement(rt.alloc(), &riders, true, false, false)?;
-    assert!(rt; riders.m() == 12);
-    assert!(rt; graph.m() == 6);
-    assert!(rt; has_block(&graph, 0, b"0", &[(2, 1), (1, 1)]));
-    assert!(rt; has_block(&graph, 1, b"1", &[(2, 1), (0, 1)]));
-    assert!(rt; has_block(&graph, 2, b"2", &[(1, 1), (0, 1)]));
-    Ok(())
-}
+/// Operands with the flags copy, self_loops and directed, each with the id of the complement and what is known of it.
+static COMPLEMENTS: [(Operand, [bool; 3], &str, Known); 10] = [
+    (
+        PATH,
+        [false, false, false],
+        "complement(board(3,0,0,0,1,0,0),0,0,0)",
+        (
+            3,
+            2,
+            &[(0, "0", &[(2, 1)]), (1, "1", &[]), (2, "2", &[(0, 1)])],
+        ),
+    ),
+    // loops, and arcs both ways
+    (
+        PATH,
+        [false, true, true],
+        "complement(board(3,0,0,0,1,0,0),0,1,1)",
+        (
+            3,
+            5,
+            &[
+                (0, "0", &[(2, 1), (0, 1)]),
+                (1, "1", &[(1, 1)]),
+                (2, "2", &[(2, 1), (0, 1)]),
+            ],
+        ),
+    ),
+    // a copy without parallel edges
+    (
+        RIDERS,
+        [true, false, false],
+        "complement(board(3,0,0,0,-1,1,0),1,0,0)",
+        (
+            3,
+            6,
+            &[
+                (0, "0", &[(2, 1), (1, 1)]),
+                (1, "1", &[(2, 1), (0, 1)]),
+                (2, "2", &[(1, 1), (0, 1)]),
+            ],
+        ),
+    ),
+    // the loop of one vertex
+    (
+        LOOP,
+        [true, true, false],
+        "complement(board(1,0,0,0,1,1,0),1,1,0)",
+        (1, 2, &[(0, "0", &[(0, 1), (0, 1)])]),
+    ),
+    (
+        LOOP,
+        [true, true, true],
+        "complement(board(1,0,0,0,1,1,0),1,1,1)",
+        (1, 1, &[(0, "0", &[(0, 1)])]),
+    ),
+    (
+        LOOP,
+        [true, false, false],
+        "complement(board(1,0,0,0,1,1,0),1,0,0)",
+        (1, 0, &[]),
+    ),
+    (
+        LOOP,
+        [false, true, false],
+        "complement(board(1,0,0,0,1,1,0),0,1,0)",
+        (1, 0, &[]),
+    ),
+    // a directed cycle, whose complement has an edge where the smaller end has no arc to the greater one
+    (
+        CYCLE,
+        [false, false, true],
+        "complement(board(3,0,0,0,1,1,1),0,0,1)",
+        (
+            3,
+            3,
+            &[
+                (0, "0", &[(2, 1)]),
+                (1, "1", &[(0, 1)]),
+                (2, "2", &[(1, 1)]),
+            ],
+        ),
+    ),
+    (
+        CYCLE,
+        [false, false, false],
+        "complement(board(3,0,0,0,1,1,1),0,0,0)",
+        (
+            3,
+            2,
+            &[(0, "0", &[(2, 1)]), (1, "1", &[]), (2, "2", &[(0, 1)])],
+        ),
+    ),
+    (
+        Operand::Nothing,
+        [false, true, false],
+        "complement(simplex(5,2,2,0,0,0,0),0,1,0)",
+        (0, 0, &[]),
+    ),
+];
 
 #[test]
-fn loop_of_one_vertex(rt: HostRuntime) -> Result<(), Fail> {
-    let one = board(rt.alloc(), 1, 0, 0, 0, 1, 1, false)?;
-    let edge = complement(rt.alloc(), &one, true, true, false)?;
-    assert!(rt; edge.m() == 2);
-    assert!(rt; has_block(&edge, 0, b"0", &[(0, 1), (0, 1)]));
-    let arc = complement(rt.alloc(), &one, true, true, true)?;
-    assert!(rt; arc.m() == 1);
-    assert!(rt; has_block(&arc, 0, b"0", &[(0, 1)]));
-    assert!(rt; complement(rt.alloc(), &one, true, false, false)?.m() == 0);
-    assert!(rt; complement(rt.alloc(), &one, false, true, false)?.m() == 0);
-    Ok(())
-}
-
-#[test]
-fn complements_of_a_directed_cycle(rt: HostRuntime) -> Result<(), Fail> {
-    // arcs from 0 to 1, from 1 to 2 and from 2 to 0
-    let cycle = board(rt.alloc(), 3, 0, 0, 0, 1, 1, true)?;
-    let arcs = complement(rt.alloc(), &cycle, false, false, true)?;
-    assert!(rt; arcs.m() == 3);
-    assert!(rt; has_block(&arcs, 0, b"0", &[(2, 1)]));
-    assert!(rt; has_block(&arcs, 1, b"1", &[(0, 1)]));
-    assert!(rt; has_block(&arcs, 2, b"2", &[(1, 1)]));
-    // an edge where the smaller end has no arc to the greater one
-    let edges = complement(rt.alloc(), &cycle, false, false, false)?;
-    assert!(rt; edges.m() == 2);
-    assert!(rt; has_block(&edges, 0, b"0", &[(2, 1)]));
-    assert!(rt; has_block(&edges, 1, b"1", &[]));
-    assert!(rt; has_block(&edges, 2, b"2", &[(0, 1)]));
-    Ok(())
-}
-
-#[test]
-fn complement_of_nothing(rt: HostRuntime) -> Result<(), Fail> {
-    let nothing = simplex(rt.alloc(), 5, 2, 2, 0, 0, 0, false)?;
-    let graph = complement(rt.alloc(), &nothing, false, true, false)?;
-    assert!(rt; graph.id().bytes() == b"complement(simplex(5,2,2,0,0,0,0),0,1,0)".as_slice());
-    assert!(rt; graph.n() == 0);
-    assert!(rt; graph.m() == 0);
-    Ok(())
-}
-
-#[test]
-fn eight_complements(rt: HostRuntime) -> Result<(), Fail> {
-    let mut graph = petersen().graph(rt.alloc())?;
-    assert!(rt; graph.m() == 30);
-    for _k in 0..7 {
-        graph = complement(rt.alloc(), &graph, false, false, false)?;
+fn complements_of_small_graphs(rt: HostRuntime) -> Result<(), Panic> {
+    for row in &COMPLEMENTS {
+        let (operand, flags, id, known) = *row;
+        assert!(rt;
+            is_complement(rt.alloc(), operand, flags, id, known)?,
+            "at {id}"
+        );
     }
-    assert!(rt; graph.m() == 60);
-    graph = complement(rt.alloc(), &graph, false, false, false)?;
-    assert!(rt; graph.m() == 30);
-    assert!(rt; graph.id().bytes() == EIGHT_COMPLEMENTS.as_slice());
-    assert!(rt; has_block(&graph, 9, b"1.1.0.0.0", &[(2, 1), (1, 1), (0, 1)]));
     Ok(())
 }
+
+#[test]
+fn riders_have_parallel_edges(rt: HostRuntime) -> Result<(), Panic> {
+    assert!(rt; RIDERS.graph(rt.alloc())?.m() == 12);
+    Ok(())
+}
+
+// So many complements, of the petersen graph first.
+fn complements(alloc: Global, count: usize) -> Result<Graph, Panic> {
+    let mut graph = petersen().graph(alloc)?;
+    for _k in 0..count {
+        graph = with_flags(alloc, &graph, [false, false, false])?;
+    }
+    Ok(graph)
+}
+
+// How many arcs the last of them has.
+fn arcs_of_last(alloc: Global, count: usize) -> Result<u64, Panic> {
+    Ok(complements(alloc, count)?.m())
+}
+
+// Whether the last of eight has the arcs of the petersen graph.
+fn is_last_of_eight(alloc: Global) -> Result<bool, Panic> {
+    Ok(is_known(&complements(alloc, 8)?, EIGHT_COMPLEMENTS, PETERSEN))
+}
+
+#[test]
+fn eight_complements(rt: HostRuntime) -> Result<(), Panic> {
+    for (count, m) in [(0, 30), (7, 60), (8, 30)] {
+        assert!(rt; arcs_of_last(rt.alloc(), count)? == m);
+    }
+    assert!(rt; is_last_of_eight(rt.alloc())?);
+    Ok(())
+}
+
+/// What is known of the petersen graph.
+const PETERSEN: Known = (10, 30, &[(9, "1.1.0.0.0", &[(2, 1), (1, 1), (0, 1)])]);
 
 // The operand's id does not fit.
-const EIGHT_COMPLEMENTS: &[u8; 160] =
-    b"complement(complement(complement(complement(complement(complement(complement(complement(subsets(2,1,-4,0,0,0,0x1,0),0,0,0),0,0,0),0,0,0),0,0,0),0,0,0...),0,0,0)";
+const EIGHT_COMPLEMENTS: &str =
+    "complement(complement(complement(complement(complement(complement(complement(complement(subsets(2,1,-4,0,0,0,0x1,0),0,0,0),0,0,0),0,0,0),0,0,0),0,0,0...),0,0,0)";

@@ -1,91 +1,165 @@
 use super::gunion;
-use crate::blocks::has_block;
-use sgb_gen::{board, circuit, complete, simplex};
-use std::test::Fail;
+use crate::cases::{CYCLE, Known, LOOP, Operand, SQUARE, TRIANGLE, is_known};
+use sgb_graph::Graph;
+use sgb_vec::Panic;
+use std::alloc::Global;
 
-#[test]
-fn edges_of_both_graphs(rt: HostRuntime) -> Result<(), Fail> {
-    let triangle = complete(3).graph(rt.alloc())?;
-    let cycle = circuit(3).graph(rt.alloc())?;
-    let graph = gunion(rt.alloc(), &triangle, &cycle, false, false)?;
-    assert!(rt;
-        graph.id().bytes() == b"gunion(board(3,0,0,0,-1,0,0),board(3,0,0,0,1,1,0),0,0)".as_slice()
-    );
-    assert!(rt; graph.m() == 6);
-    assert!(rt; has_block(&graph, 0, b"0", &[(1, 1), (2, 1)]));
-    let parallel = gunion(rt.alloc(), &triangle, &cycle, true, false)?;
-    assert!(rt; parallel.m() == 12);
-    Ok(())
+// The undirected cycle of three vertices.
+const RING: Operand = Operand::Board([3, 0, 0, 0, 1, 1], false);
+
+// The moves of a rook and of a bishop on a board of 3 by 4.
+const ROOK: Operand = Operand::Board([3, 4, 0, 0, -1, 0], false);
+
+const BISHOP: Operand = Operand::Board([3, 4, 0, 0, -2, 0], false);
+
+// Whether the union with the flags multi and directed has this id, and what is known.
+fn is_union(
+    alloc: Global,
+    operands: [Operand; 2],
+    flags: [bool; 2],
+    id: &str,
+    known: Known,
+) -> Result<bool, Panic> {
+    let [first, second] = operands;
+    let [multi, directed] = flags;
+    let graph = gunion(
+        alloc,
+        &first.graph(alloc)?,
+        &second.graph(alloc)?,
+        multi,
+        directed,
+    )?;
+    Ok(is_known(&graph, id, known))
 }
 
-#[test]
-fn moves_of_a_queen(rt: HostRuntime) -> Result<(), Fail> {
-    let rook = board(rt.alloc(), 3, 4, 0, 0, -1, 0, false)?;
-    let bishop = board(rt.alloc(), 3, 4, 0, 0, -2, 0, false)?;
-    let queen = gunion(rt.alloc(), &rook, &bishop, false, false)?;
-    assert!(rt; queen.n() == 12);
-    assert!(rt; queen.m() == 92);
-    let first = [(5, 1), (10, 2), (1, 1), (2, 2), (3, 3), (4, 1), (8, 2)];
-    assert!(rt; has_block(&queen, 0, b"0.0", &first));
-    let last = [(10, 1), (9, 2), (8, 3), (7, 1), (6, 1), (3, 2), (1, 2)];
-    assert!(rt; has_block(&queen, 11, b"2.3", &last));
-    Ok(())
-}
-
-#[test]
-fn graphs_of_different_sizes(rt: HostRuntime) -> Result<(), Fail> {
-    let nothing = simplex(rt.alloc(), 5, 2, 2, 0, 0, 0, false)?;
-    let triangle = complete(3).graph(rt.alloc())?;
-    let square = circuit(4).graph(rt.alloc())?;
-    let large = gunion(rt.alloc(), &square, &triangle, false, false)?;
-    assert!(rt; large.m() == 10);
-    assert!(rt; has_block(&large, 0, b"0", &[(2, 2), (1, 1), (3, 1)]));
-    assert!(rt; has_block(&large, 3, b"3", &[(2, 1), (0, 1)]));
-    let small = gunion(rt.alloc(), &triangle, &square, false, false)?;
-    assert!(rt; small.m() == 6);
-    assert!(rt; has_block(&small, 2, b"2", &[(1, 1), (0, 2)]));
-    let alone = gunion(rt.alloc(), &triangle, &nothing, false, false)?;
-    assert!(rt; alone.m() == 6);
-    assert!(rt; has_block(&alone, 0, b"0", &[(1, 1), (2, 2)]));
-    let none = gunion(rt.alloc(), &nothing, &triangle, false, false)?;
-    assert!(rt; none.n() == 0);
-    assert!(rt; none.m() == 0);
-    Ok(())
-}
-
-#[test]
-fn loops_and_arcs(rt: HostRuntime) -> Result<(), Fail> {
-    let one = board(rt.alloc(), 1, 0, 0, 0, 1, 1, false)?;
+/// Operands with the flags multi and directed, each with the id of the union and what is known of it.
+static UNIONS: [([Operand; 2], [bool; 2], &str, Known); 12] = [
+    (
+        [TRIANGLE, RING],
+        [false, false],
+        "gunion(board(3,0,0,0,-1,0,0),board(3,0,0,0,1,1,0),0,0)",
+        (3, 6, &[(0, "0", &[(1, 1), (2, 1)])]),
+    ),
+    (
+        [TRIANGLE, RING],
+        [true, false],
+        "gunion(board(3,0,0,0,-1,0,0),board(3,0,0,0,1,1,0),1,0)",
+        (3, 12, &[]),
+    ),
+    // the moves of a queen
+    (
+        [ROOK, BISHOP],
+        [false, false],
+        "gunion(board(3,4,0,0,-1,0,0),board(3,4,0,0,-2,0,0),0,0)",
+        (
+            12,
+            92,
+            &[
+                (
+                    0,
+                    "0.0",
+                    &[(5, 1), (10, 2), (1, 1), (2, 2), (3, 3), (4, 1), (8, 2)],
+                ),
+                (
+                    11,
+                    "2.3",
+                    &[(10, 1), (9, 2), (8, 3), (7, 1), (6, 1), (3, 2), (1, 2)],
+                ),
+            ],
+        ),
+    ),
+    // graphs of different sizes
+    (
+        [SQUARE, TRIANGLE],
+        [false, false],
+        "gunion(board(4,0,0,0,1,1,0),board(3,0,0,0,-1,0,0),0,0)",
+        (
+            4,
+            10,
+            &[
+                (0, "0", &[(2, 2), (1, 1), (3, 1)]),
+                (3, "3", &[(2, 1), (0, 1)]),
+            ],
+        ),
+    ),
+    (
+        [TRIANGLE, SQUARE],
+        [false, false],
+        "gunion(board(3,0,0,0,-1,0,0),board(4,0,0,0,1,1,0),0,0)",
+        (3, 6, &[(2, "2", &[(1, 1), (0, 2)])]),
+    ),
+    (
+        [TRIANGLE, Operand::Nothing],
+        [false, false],
+        "gunion(board(3,0,0,0,-1,0,0),simplex(5,2,2,0,0,0,0),0,0)",
+        (3, 6, &[(0, "0", &[(1, 1), (2, 2)])]),
+    ),
+    (
+        [Operand::Nothing, TRIANGLE],
+        [false, false],
+        "gunion(simplex(5,2,2,0,0,0,0),board(3,0,0,0,-1,0,0),0,0)",
+        (0, 0, &[]),
+    ),
     // an edge that is a loop counts as two arcs, and for arcs both of its records are taken
-    let counts = [
-        (false, false, 2),
-        (true, false, 4),
-        (false, true, 1),
-        (true, true, 4),
-    ];
-    for (multi, directed, count) in &counts {
-        let graph = gunion(rt.alloc(), &one, &one, *multi, *directed)?;
-        assert!(rt; graph.m() == *count);
+    (
+        [LOOP, LOOP],
+        [false, false],
+        "gunion(board(1,0,0,0,1,1,0),board(1,0,0,0,1,1,0),0,0)",
+        (1, 2, &[]),
+    ),
+    (
+        [LOOP, LOOP],
+        [true, false],
+        "gunion(board(1,0,0,0,1,1,0),board(1,0,0,0,1,1,0),1,0)",
+        (1, 4, &[]),
+    ),
+    (
+        [LOOP, LOOP],
+        [false, true],
+        "gunion(board(1,0,0,0,1,1,0),board(1,0,0,0,1,1,0),0,1)",
+        (1, 1, &[]),
+    ),
+    (
+        [LOOP, LOOP],
+        [true, true],
+        "gunion(board(1,0,0,0,1,1,0),board(1,0,0,0,1,1,0),1,1)",
+        (1, 4, &[]),
+    ),
+    (
+        [CYCLE, TRIANGLE],
+        [false, true],
+        "gunion(board(3,0,0,0,1,1,1),board(3,0,0,0,-1,0,0),0,1)",
+        (3, 6, &[(2, "2", &[(1, 1), (0, 1)])]),
+    ),
+];
+
+#[test]
+fn unions_of_small_graphs(rt: HostRuntime) -> Result<(), Panic> {
+    for row in &UNIONS {
+        let (operands, flags, id, known) = *row;
+        assert!(rt;
+            is_union(rt.alloc(), operands, flags, id, known)?,
+            "at {id}"
+        );
     }
-    let cycle = board(rt.alloc(), 3, 0, 0, 0, 1, 1, true)?;
-    let triangle = complete(3).graph(rt.alloc())?;
-    let arcs = gunion(rt.alloc(), &cycle, &triangle, false, true)?;
-    assert!(rt; arcs.m() == 6);
-    assert!(rt; has_block(&arcs, 2, b"2", &[(1, 1), (0, 1)]));
     Ok(())
 }
 
-#[test]
-fn unions_of_unions(rt: HostRuntime) -> Result<(), Fail> {
-    let mut graph = complete(3).graph(rt.alloc())?;
+// Three unions of a graph with itself, one of the other, of the triangle first.
+fn three_unions(alloc: Global) -> Result<Graph, Panic> {
+    let mut graph = TRIANGLE.graph(alloc)?;
     for _k in 0..3 {
-        graph = gunion(rt.alloc(), &graph, &graph, false, false)?;
+        graph = gunion(alloc, &graph, &graph, false, false)?;
     }
-    assert!(rt; graph.m() == 6);
-    assert!(rt; graph.id().bytes() == THREE_UNIONS.as_slice());
+    Ok(graph)
+}
+
+#[test]
+fn unions_of_unions(rt: HostRuntime) -> Result<(), Panic> {
+    assert!(rt; is_known(&three_unions(rt.alloc())?, THREE_UNIONS, (3, 6, &[])));
     Ok(())
 }
 
 // The operands' ids do not fit.
-const THREE_UNIONS: &[u8; 159] =
-    b"gunion(gunion(gunion(board(3,0,0,0,-1,0,0),board(3,0,0,0,-1,0,0),0,0),gunion...),gunion(gunion(board(3,0,0,0,-1,0,0),board(3,0,0,0,-1,0,0),0,0),gunion...),0,0)";
+const THREE_UNIONS: &str =
+    "gunion(gunion(gunion(board(3,0,0,0,-1,0,0),board(3,0,0,0,-1,0,0),0,0),gunion...),gunion(gunion(board(3,0,0,0,-1,0,0),board(3,0,0,0,-1,0,0),0,0),gunion...),0,0)";

@@ -1,66 +1,137 @@
 use super::induced;
-use crate::blocks::has_block;
+use crate::cases::{EDGE, Known, LOOP, Operand, is_known, is_refused};
 use crate::entries::Entry;
-use sgb_gen::{board, circuit, complete, simplex};
+use sgb_graph::Graph;
 use sgb_vec::Panic;
-use std::test::Fail;
+use std::alloc::Global;
+
+// The entries of so many copies each.
+fn copies(alloc: Global, counts: &[u32]) -> Result<Vec<Entry>, Panic> {
+    let mut entries = Vec::new(alloc);
+    for count in counts {
+        entries.push(Entry::Copies(*count))?;
+    }
+    Ok(entries)
+}
+
+// The graph that so many copies induce, with the flags self_loops, multi and directed.
+fn induced_by_copies(
+    alloc: Global,
+    operand: Operand,
+    counts: &[u32],
+    flags: [bool; 3],
+) -> Result<Graph, Panic> {
+    let [self_loops, multi, directed] = flags;
+    let entries = copies(alloc, counts)?;
+    let graph = operand.graph(alloc)?;
+    induced(alloc, &graph, &entries, self_loops, multi, directed)
+}
+
+/// Operands with the counts of copies and the flags self_loops, multi and directed, each with the id of the graph
+/// that they induce and what is known of it.
+static COPIES: [(Operand, &[u32], [bool; 3], &str, Known); 5] = [
+    // the ends of an edge
+    (
+        EDGE,
+        &[0, 3],
+        [false, false, false],
+        "induced(board(2,0,0,0,-1,0,0),,0,0,0)",
+        (3, 0, &[(0, "1:0", &[]), (2, "1:2", &[])]),
+    ),
+    (
+        EDGE,
+        &[2, 1],
+        [false, false, false],
+        "induced(board(2,0,0,0,-1,0,0),,0,0,0)",
+        (
+            3,
+            4,
+            &[
+                (0, "0", &[(2, 1)]),
+                (1, "0'", &[(2, 1)]),
+                (2, "1", &[(1, 1), (0, 1)]),
+            ],
+        ),
+    ),
+    // the vertex of a loop
+    (
+        LOOP,
+        &[2],
+        [true, true, false],
+        "induced(board(1,0,0,0,1,1,0),,1,1,0)",
+        (
+            2,
+            6,
+            &[
+                (0, "0", &[(1, 1), (0, 1), (0, 1)]),
+                (1, "0'", &[(1, 1), (1, 1), (0, 1)]),
+            ],
+        ),
+    ),
+    (
+        LOOP,
+        &[2],
+        [false, true, false],
+        "induced(board(1,0,0,0,1,1,0),,0,1,0)",
+        (2, 2, &[]),
+    ),
+    (
+        Operand::Nothing,
+        &[],
+        [true, true, true],
+        "induced(simplex(5,2,2,0,0,0,0),,1,1,1)",
+        (0, 0, &[]),
+    ),
+];
 
 #[test]
-fn copies_of_the_ends_of_an_edge(rt: HostRuntime) -> Result<(), Fail> {
-    let edge = complete(2).graph(rt.alloc())?;
-    let entries = [Entry::Copies(0), Entry::Copies(3)];
-    let three = induced(rt.alloc(), &edge, &entries, false, false, false)?;
-    assert!(rt; three.id().bytes() == b"induced(board(2,0,0,0,-1,0,0),,0,0,0)".as_slice());
-    assert!(rt; three.n() == 3);
-    assert!(rt; has_block(&three, 0, b"1:0", &[]));
-    assert!(rt; has_block(&three, 2, b"1:2", &[]));
-    let entries = [Entry::Copies(2), Entry::Copies(1)];
-    let path = induced(rt.alloc(), &edge, &entries, false, false, false)?;
-    assert!(rt; has_block(&path, 0, b"0", &[(2, 1)]));
-    assert!(rt; has_block(&path, 1, b"0'", &[(2, 1)]));
-    assert!(rt; has_block(&path, 2, b"1", &[(1, 1), (0, 1)]));
+fn copies_of_vertices(rt: HostRuntime) -> Result<(), Panic> {
+    for row in &COPIES {
+        let (operand, counts, flags, id, known) = *row;
+        let graph = induced_by_copies(rt.alloc(), operand, counts, flags)?;
+        assert!(rt; is_known(&graph, id, known), "at {id}");
+    }
     Ok(())
 }
 
+/// Counts of copies that the ends of an edge are refused.
+static REFUSED: [(&[u32], Panic); 3] = [
+    (&[1], Panic::Bad),
+    (&[1, 2_000_000_000], Panic::VeryBad),
+    (&[], Panic::Bad),
+];
+
 #[test]
-fn copies_of_a_loop(rt: HostRuntime) -> Result<(), Fail> {
-    let vertex = board(rt.alloc(), 1, 0, 0, 0, 1, 1, false)?;
-    let entries = [Entry::Copies(2)];
-    let loops = induced(rt.alloc(), &vertex, &entries, true, true, false)?;
-    assert!(rt; loops.m() == 6);
-    assert!(rt; has_block(&loops, 0, b"0", &[(1, 1), (0, 1), (0, 1)]));
-    assert!(rt; has_block(&loops, 1, b"0'", &[(1, 1), (1, 1), (0, 1)]));
-    let edge = induced(rt.alloc(), &vertex, &entries, false, true, false)?;
-    assert!(rt; edge.m() == 2);
-    Ok(())
+fn entries_that_are_refused(rt: HostRuntime) {
+    for row in &REFUSED {
+        let (counts, why) = *row;
+        let answer = induced_by_copies(rt.alloc(), EDGE, counts, [false, false, false]);
+        assert!(rt; is_refused(answer, why));
+    }
+}
+
+// The ends of an edge replaced by these graphs, with arcs.
+fn induced_by_graphs(alloc: Global, graphs: [Operand; 2]) -> Result<Graph, Panic> {
+    let [first, second] = graphs;
+    let entries = [
+        Entry::Graph(first.graph(alloc)?),
+        Entry::Graph(second.graph(alloc)?),
+    ];
+    induced(alloc, &EDGE.graph(alloc)?, &entries, false, false, true)
 }
 
 #[test]
-fn graphs_in_the_places_of_vertices(rt: HostRuntime) -> Result<(), Fail> {
-    let edge = complete(2).graph(rt.alloc())?;
-    let triangle = Entry::Graph(circuit(3).graph(rt.alloc())?);
-    let nothing = Entry::Graph(simplex(rt.alloc(), 5, 2, 2, 0, 0, 0, false)?);
-    let entries = [nothing, triangle];
-    let graph = induced(rt.alloc(), &edge, &entries, false, false, true)?;
-    assert!(rt; graph.n() == 3);
-    assert!(rt; graph.m() == 6);
-    assert!(rt; has_block(&graph, 0, b"1:0", &[(1, 1), (2, 1)]));
+fn graphs_in_the_places_of_vertices(rt: HostRuntime) -> Result<(), Panic> {
+    let triangle = Operand::Board([3, 0, 0, 0, 1, 1], false);
+    let graph = induced_by_graphs(rt.alloc(), [Operand::Nothing, triangle])?;
+    assert!(rt;
+        is_known(
+            &graph,
+            "induced(board(2,0,0,0,-1,0,0),,0,0,1)",
+            FIRST_OF_THREE
+        )
+    );
     Ok(())
 }
 
-#[test]
-fn entries_that_are_refused(rt: HostRuntime) -> Result<(), Fail> {
-    let edge = complete(2).graph(rt.alloc())?;
-    let one = [Entry::Copies(1)];
-    let few = induced(rt.alloc(), &edge, &one, false, false, false);
-    assert!(rt; few.is_err_and(|error| error == Panic::Bad));
-    let great = [Entry::Copies(1), Entry::Copies(2_000_000_000)];
-    let many = induced(rt.alloc(), &edge, &great, false, false, false);
-    assert!(rt; many.is_err_and(|error| error == Panic::VeryBad));
-    let none: [Entry; 0] = [];
-    let bad = induced(rt.alloc(), &edge, &none, false, false, false);
-    assert!(rt; bad.is_err_and(|error| error == Panic::Bad));
-    let nothing = simplex(rt.alloc(), 5, 2, 2, 0, 0, 0, false)?;
-    assert!(rt; induced(rt.alloc(), &nothing, &none, true, true, true)?.n() == 0);
-    Ok(())
-}
+const FIRST_OF_THREE: Known = (3, 6, &[(0, "1:0", &[(1, 1), (2, 1)])]);

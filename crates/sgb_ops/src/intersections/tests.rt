@@ -1,76 +1,130 @@
 use super::intersection;
-use crate::blocks::has_block;
-use sgb_gen::{board, circuit, complete, simplex};
-use std::test::Fail;
+use crate::cases::{CYCLE, Known, LOOP, Operand, RIDERS, SQUARE, TRIANGLE, is_known};
+use sgb_vec::Panic;
+use std::alloc::Global;
 
-#[test]
-fn edges_of_a_circuit(rt: HostRuntime) -> Result<(), Fail> {
-    let square = circuit(4).graph(rt.alloc())?;
-    let all = complete(4).graph(rt.alloc())?;
-    let graph = intersection(rt.alloc(), &square, &all, false, false)?;
-    assert!(rt;
-        graph.id().bytes()
-            == b"intersection(board(4,0,0,0,1,1,0),board(4,0,0,0,-1,0,0),0,0)".as_slice()
-    );
-    assert!(rt; graph.m() == 8);
-    assert!(rt; has_block(&graph, 0, b"0", &[(1, 1), (3, 3)]));
-    Ok(())
+// The complete graph of four vertices.
+const ALL: Operand = Operand::Board([4, 0, 0, 0, -1, 0], false);
+
+// Whether the intersection with the flags multi and directed has this id, and what is known.
+fn is_intersection(
+    alloc: Global,
+    operands: [Operand; 2],
+    flags: [bool; 2],
+    id: &str,
+    known: Known,
+) -> Result<bool, Panic> {
+    let [first, second] = operands;
+    let [multi, directed] = flags;
+    let graph = intersection(
+        alloc,
+        &first.graph(alloc)?,
+        &second.graph(alloc)?,
+        multi,
+        directed,
+    )?;
+    Ok(is_known(&graph, id, known))
 }
 
-#[test]
-fn parallel_edges(rt: HostRuntime) -> Result<(), Fail> {
-    // two edges, of lengths 1 and 2, between each two vertices, and one of length 1, 2 and 1
-    let riders = board(rt.alloc(), 3, 0, 0, 0, -1, 1, false)?;
-    let triangle = complete(3).graph(rt.alloc())?;
-    let merged = intersection(rt.alloc(), &riders, &riders, false, false)?;
-    assert!(rt; merged.m() == 6);
-    assert!(rt; has_block(&merged, 0, b"0", &[(1, 1), (2, 1)]));
-    let parallel = intersection(rt.alloc(), &riders, &riders, true, false)?;
-    assert!(rt; parallel.m() == 12);
-    assert!(rt; has_block(&parallel, 0, b"0", &[(1, 1), (2, 2), (1, 2), (2, 1)]));
-    let fewer = intersection(rt.alloc(), &riders, &triangle, true, false)?;
-    assert!(rt; fewer.m() == 6);
-    assert!(rt; has_block(&fewer, 0, b"0", &[(1, 1), (2, 2)]));
-    let others = intersection(rt.alloc(), &triangle, &riders, true, false)?;
-    assert!(rt; others.m() == 6);
-    assert!(rt; has_block(&others, 0, b"0", &[(1, 2), (2, 2)]));
-    Ok(())
-}
+/// Operands with the flags multi and directed, each with the id of the intersection and what is known of it.
+static INTERSECTIONS: [([Operand; 2], [bool; 2], &str, Known); 14] = [
+    (
+        [SQUARE, ALL],
+        [false, false],
+        "intersection(board(4,0,0,0,1,1,0),board(4,0,0,0,-1,0,0),0,0)",
+        (4, 8, &[(0, "0", &[(1, 1), (3, 3)])]),
+    ),
+    // parallel edges, and one of length 1, 2 and 1 between each two vertices
+    (
+        [RIDERS, RIDERS],
+        [false, false],
+        "intersection(board(3,0,0,0,-1,1,0),board(3,0,0,0,-1,1,0),0,0)",
+        (3, 6, &[(0, "0", &[(1, 1), (2, 1)])]),
+    ),
+    (
+        [RIDERS, RIDERS],
+        [true, false],
+        "intersection(board(3,0,0,0,-1,1,0),board(3,0,0,0,-1,1,0),1,0)",
+        (3, 12, &[(0, "0", &[(1, 1), (2, 2), (1, 2), (2, 1)])]),
+    ),
+    (
+        [RIDERS, TRIANGLE],
+        [true, false],
+        "intersection(board(3,0,0,0,-1,1,0),board(3,0,0,0,-1,0,0),1,0)",
+        (3, 6, &[(0, "0", &[(1, 1), (2, 2)])]),
+    ),
+    (
+        [TRIANGLE, RIDERS],
+        [true, false],
+        "intersection(board(3,0,0,0,-1,0,0),board(3,0,0,0,-1,1,0),1,0)",
+        (3, 6, &[(0, "0", &[(1, 2), (2, 2)])]),
+    ),
+    // graphs of different sizes
+    (
+        [SQUARE, TRIANGLE],
+        [false, false],
+        "intersection(board(4,0,0,0,1,1,0),board(3,0,0,0,-1,0,0),0,0)",
+        (4, 4, &[(1, "1", &[(2, 1), (0, 1)])]),
+    ),
+    (
+        [TRIANGLE, SQUARE],
+        [false, false],
+        "intersection(board(3,0,0,0,-1,0,0),board(4,0,0,0,1,1,0),0,0)",
+        (3, 4, &[]),
+    ),
+    (
+        [TRIANGLE, Operand::Nothing],
+        [true, true],
+        "intersection(board(3,0,0,0,-1,0,0),simplex(5,2,2,0,0,0,0),1,1)",
+        (3, 0, &[]),
+    ),
+    (
+        [Operand::Nothing, TRIANGLE],
+        [true, true],
+        "intersection(simplex(5,2,2,0,0,0,0),board(3,0,0,0,-1,0,0),1,1)",
+        (0, 0, &[]),
+    ),
+    // loops and arcs
+    (
+        [LOOP, LOOP],
+        [false, false],
+        "intersection(board(1,0,0,0,1,1,0),board(1,0,0,0,1,1,0),0,0)",
+        (1, 2, &[]),
+    ),
+    (
+        [LOOP, LOOP],
+        [true, false],
+        "intersection(board(1,0,0,0,1,1,0),board(1,0,0,0,1,1,0),1,0)",
+        (1, 2, &[]),
+    ),
+    (
+        [LOOP, LOOP],
+        [false, true],
+        "intersection(board(1,0,0,0,1,1,0),board(1,0,0,0,1,1,0),0,1)",
+        (1, 1, &[]),
+    ),
+    (
+        [LOOP, LOOP],
+        [true, true],
+        "intersection(board(1,0,0,0,1,1,0),board(1,0,0,0,1,1,0),1,1)",
+        (1, 2, &[]),
+    ),
+    (
+        [CYCLE, TRIANGLE],
+        [false, true],
+        "intersection(board(3,0,0,0,1,1,1),board(3,0,0,0,-1,0,0),0,1)",
+        (3, 3, &[(2, "2", &[(0, 2)])]),
+    ),
+];
 
 #[test]
-fn graphs_of_different_sizes(rt: HostRuntime) -> Result<(), Fail> {
-    let nothing = simplex(rt.alloc(), 5, 2, 2, 0, 0, 0, false)?;
-    let triangle = complete(3).graph(rt.alloc())?;
-    let square = circuit(4).graph(rt.alloc())?;
-    let large = intersection(rt.alloc(), &square, &triangle, false, false)?;
-    assert!(rt; large.n() == 4);
-    assert!(rt; large.m() == 4);
-    assert!(rt; has_block(&large, 1, b"1", &[(2, 1), (0, 1)]));
-    let small = intersection(rt.alloc(), &triangle, &square, false, false)?;
-    assert!(rt; small.n() == 3);
-    assert!(rt; small.m() == 4);
-    assert!(rt; intersection(rt.alloc(), &triangle, &nothing, true, true)?.m() == 0);
-    assert!(rt; intersection(rt.alloc(), &nothing, &triangle, true, true)?.n() == 0);
-    Ok(())
-}
-
-#[test]
-fn loops_and_arcs(rt: HostRuntime) -> Result<(), Fail> {
-    let one = board(rt.alloc(), 1, 0, 0, 0, 1, 1, false)?;
-    let counts = [
-        (false, false, 2),
-        (true, false, 2),
-        (false, true, 1),
-        (true, true, 2),
-    ];
-    for (multi, directed, count) in &counts {
-        let graph = intersection(rt.alloc(), &one, &one, *multi, *directed)?;
-        assert!(rt; graph.m() == *count);
+fn intersections_of_small_graphs(rt: HostRuntime) -> Result<(), Panic> {
+    for row in &INTERSECTIONS {
+        let (operands, flags, id, known) = *row;
+        assert!(rt;
+            is_intersection(rt.alloc(), operands, flags, id, known)?,
+            "at {id}"
+        );
     }
-    let cycle = board(rt.alloc(), 3, 0, 0, 0, 1, 1, true)?;
-    let triangle = complete(3).graph(rt.alloc())?;
-    let arcs = intersection(rt.alloc(), &cycle, &triangle, false, true)?;
-    assert!(rt; arcs.m() == 3);
-    assert!(rt; has_block(&arcs, 2, b"2", &[(0, 2)]));
     Ok(())
 }

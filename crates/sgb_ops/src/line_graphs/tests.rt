@@ -1,57 +1,104 @@
 use super::lines;
-use crate::blocks::has_block;
-use sgb_gen::{board, complete, simplex};
+use crate::cases::{CYCLE, Known, Operand, RIDERS, TRIANGLE, is_known, is_refused};
+use sgb_graph::Graph;
 use sgb_vec::Panic;
-use std::test::Fail;
+use std::alloc::Global;
 
-#[test]
-fn lines_of_a_triangle(rt: HostRuntime) -> Result<(), Fail> {
-    let triangle = complete(3).graph(rt.alloc())?;
-    let graph = lines(rt.alloc(), &triangle, false)?;
-    assert!(rt; graph.id().bytes() == b"lines(board(3,0,0,0,-1,0,0),0)".as_slice());
-    assert!(rt; graph.n() == 3);
-    assert!(rt; graph.m() == 6);
-    assert!(rt; has_block(&graph, 0, b"1--2", &[(2, 1), (1, 1)]));
-    assert!(rt; has_block(&graph, 1, b"0--2", &[(2, 1), (0, 1)]));
-    assert!(rt; has_block(&graph, 2, b"0--1", &[(1, 1), (0, 1)]));
-    Ok(())
+// The line graph.
+fn lines_of(alloc: Global, operand: Operand, directed: bool) -> Result<Graph, Panic> {
+    lines(alloc, &operand.graph(alloc)?, directed)
 }
 
-#[test]
-fn lines_of_a_cycle(rt: HostRuntime) -> Result<(), Fail> {
-    // arcs from 0 to 1, from 1 to 2 and from 2 to 0
-    let cycle = board(rt.alloc(), 3, 0, 0, 0, 1, 1, true)?;
-    assert!(rt; matches!(lines(rt.alloc(), &cycle, false), Err(Panic::Invalid)));
-    let graph = lines(rt.alloc(), &cycle, true)?;
-    assert!(rt; graph.id().bytes() == b"lines(board(3,0,0,0,1,1,1),1)".as_slice());
-    assert!(rt; graph.m() == 3);
-    assert!(rt; has_block(&graph, 0, b"2->0", &[(2, 1)]));
-    assert!(rt; has_block(&graph, 1, b"1->2", &[(0, 1)]));
-    assert!(rt; has_block(&graph, 2, b"0->1", &[(1, 1)]));
-    Ok(())
+// Whether the line graph has this id, and what is known.
+fn is_line_graph(
+    alloc: Global,
+    operand: Operand,
+    directed: bool,
+    id: &str,
+    known: Known,
+) -> Result<bool, Panic> {
+    let graph = lines_of(alloc, operand, directed)?;
+    Ok(is_known(&graph, id, known))
 }
 
-#[test]
-fn names_that_repeat(rt: HostRuntime) -> Result<(), Fail> {
-    let rider = board(rt.alloc(), 3, 0, 0, 0, -1, 1, false)?;
-    let graph = lines(rt.alloc(), &rider, false)?;
-    assert!(rt; graph.n() == 6);
-    assert!(rt; graph.name(0).bytes() == b"1--2".as_slice());
-    assert!(rt; graph.name(1).bytes() == b"1--2".as_slice());
-    assert!(rt; graph.name(2).bytes() == b"0--2".as_slice());
-    assert!(rt; graph.name(3).bytes() == b"0--1".as_slice());
-    assert!(rt; graph.name(4).bytes() == b"0--2".as_slice());
-    assert!(rt; graph.name(5).bytes() == b"0--1".as_slice());
-    Ok(())
-}
+/// Operands with the flag directed, each with the id of the line graph and what is known of it.
+static LINES: [(Operand, bool, &str, Known); 4] = [
+    (
+        TRIANGLE,
+        false,
+        "lines(board(3,0,0,0,-1,0,0),0)",
+        (
+            3,
+            6,
+            &[
+                (0, "1--2", &[(2, 1), (1, 1)]),
+                (1, "0--2", &[(2, 1), (0, 1)]),
+                (2, "0--1", &[(1, 1), (0, 1)]),
+            ],
+        ),
+    ),
+    (
+        CYCLE,
+        true,
+        "lines(board(3,0,0,0,1,1,1),1)",
+        (
+            3,
+            3,
+            &[
+                (0, "2->0", &[(2, 1)]),
+                (1, "1->2", &[(0, 1)]),
+                (2, "0->1", &[(1, 1)]),
+            ],
+        ),
+    ),
+    (
+        Operand::Nothing,
+        false,
+        "lines(simplex(5,2,2,0,0,0,0),0)",
+        (0, 0, &[]),
+    ),
+    (
+        Operand::Nothing,
+        true,
+        "lines(simplex(5,2,2,0,0,0,0),1)",
+        (0, 0, &[]),
+    ),
+];
 
 #[test]
-fn lines_of_nothing(rt: HostRuntime) -> Result<(), Fail> {
-    let nothing = simplex(rt.alloc(), 5, 2, 2, 0, 0, 0, false)?;
-    for directed in &[false, true] {
-        let graph = lines(rt.alloc(), &nothing, *directed)?;
-        assert!(rt; graph.n() == 0);
-        assert!(rt; graph.m() == 0);
+fn line_graphs_of_small_graphs(rt: HostRuntime) -> Result<(), Panic> {
+    for row in &LINES {
+        let (operand, directed, id, known) = *row;
+        assert!(rt;
+            is_line_graph(rt.alloc(), operand, directed, id, known)?,
+            "at {id}"
+        );
     }
+    Ok(())
+}
+
+#[test]
+fn arcs_are_no_edges(rt: HostRuntime) {
+    assert!(rt; is_refused(lines_of(rt.alloc(), CYCLE, false), Panic::Invalid));
+}
+
+// Whether these are the names of all vertices.
+fn has_names(graph: &Graph, names: &[&str]) -> bool {
+    let mut expected = names.iter();
+    for v in 0..graph.n() {
+        let same = expected
+            .next()
+            .is_some_and(|name| graph.name(v).bytes() == name.as_bytes());
+        if !same {
+            return false;
+        }
+    }
+    expected.next().is_none()
+}
+
+#[test]
+fn names_that_repeat(rt: HostRuntime) -> Result<(), Panic> {
+    let names = ["1--2", "1--2", "0--2", "0--1", "0--2", "0--1"];
+    assert!(rt; has_names(&lines_of(rt.alloc(), RIDERS, false)?, &names));
     Ok(())
 }

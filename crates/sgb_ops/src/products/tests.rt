@@ -1,50 +1,126 @@
 use super::product;
-use crate::blocks::has_block;
-use sgb_gen::{board, complete, empty, simplex};
+use crate::cases::{EDGE, Known, Operand, PATH, is_known, is_refused};
+use sgb_graph::Graph;
 use sgb_vec::Panic;
-use std::test::Fail;
+use std::alloc::Global;
+
+// 40,000 vertices with no arcs.
+const MANY: Operand = Operand::Board([40_000, 0, 0, 0, 2, 0], false);
+
+// Two vertices in a row.
+const SHORT_PATH: Operand = Operand::Board([2, 0, 0, 0, 1, 0], false);
+
+// The product of this kind.
+fn product_of(
+    alloc: Global,
+    operands: [Operand; 2],
+    kind: i64,
+    directed: bool,
+) -> Result<Graph, Panic> {
+    let [first, second] = operands;
+    product(
+        alloc,
+        &first.graph(alloc)?,
+        &second.graph(alloc)?,
+        kind,
+        directed,
+    )
+}
+
+// Whether the product has this id, and what is known.
+fn is_product(
+    alloc: Global,
+    operands: [Operand; 2],
+    kind: i64,
+    directed: bool,
+    id: &str,
+    known: Known,
+) -> Result<bool, Panic> {
+    let graph = product_of(alloc, operands, kind, directed)?;
+    Ok(is_known(&graph, id, known))
+}
+
+/// Operands with the kind and the flag directed, each with the id of the product and what is known of it.
+static PRODUCTS: [([Operand; 2], i64, bool, &str, Known); 7] = [
+    // the cartesian, the direct and the strong product of two edges
+    (
+        [EDGE, EDGE],
+        0,
+        false,
+        "product(board(2,0,0,0,-1,0,0),board(2,0,0,0,-1,0,0),0,0)",
+        (
+            4,
+            8,
+            &[(0, "0,0", &[(2, 1), (1, 1)]), (3, "1,1", &[(1, 1), (2, 1)])],
+        ),
+    ),
+    (
+        [EDGE, EDGE],
+        3,
+        false,
+        "product(board(2,0,0,0,-1,0,0),board(2,0,0,0,-1,0,0),1,0)",
+        (4, 4, &[(0, "0,0", &[(3, 1)])]),
+    ),
+    (
+        [EDGE, EDGE],
+        -2,
+        false,
+        "product(board(2,0,0,0,-1,0,0),board(2,0,0,0,-1,0,0),2,0)",
+        (4, 12, &[]),
+    ),
+    // the strong product of paths
+    (
+        [SHORT_PATH, PATH],
+        2,
+        false,
+        "product(board(2,0,0,0,1,0,0),board(3,0,0,0,1,0,0),2,0)",
+        (
+            6,
+            22,
+            &[
+                (0, "0,0", &[(4, 1), (3, 1), (1, 1)]),
+                (1, "0,1", &[(3, 1), (5, 1), (4, 1), (2, 1), (0, 1)]),
+            ],
+        ),
+    ),
+    // many pairs, and none
+    (
+        [MANY, EDGE],
+        1,
+        false,
+        "product(board(40000,0,0,0,2,0,0),board(2,0,0,0,-1,0,0),1,0)",
+        (80_000, 0, &[]),
+    ),
+    (
+        [EDGE, MANY],
+        1,
+        false,
+        "product(board(2,0,0,0,-1,0,0),board(40000,0,0,0,2,0,0),1,0)",
+        (80_000, 0, &[]),
+    ),
+    (
+        [EDGE, Operand::Nothing],
+        2,
+        true,
+        "product(board(2,0,0,0,-1,0,0),simplex(5,2,2,0,0,0,0),2,1)",
+        (0, 0, &[]),
+    ),
+];
 
 #[test]
-fn products_of_two_edges(rt: HostRuntime) -> Result<(), Fail> {
-    let edge = complete(2).graph(rt.alloc())?;
-    let cartesian = product(rt.alloc(), &edge, &edge, 0, false)?;
-    assert!(rt; cartesian.m() == 8);
-    assert!(rt; has_block(&cartesian, 0, b"0,0", &[(2, 1), (1, 1)]));
-    assert!(rt; has_block(&cartesian, 3, b"1,1", &[(1, 1), (2, 1)]));
-    let direct = product(rt.alloc(), &edge, &edge, 3, false)?;
-    assert!(rt; direct.m() == 4);
-    assert!(rt; has_block(&direct, 0, b"0,0", &[(3, 1)]));
-    assert!(rt; direct.id().bytes() == DIRECT.as_slice());
-    assert!(rt; product(rt.alloc(), &edge, &edge, -2, false)?.m() == 12);
+fn products_of_small_graphs(rt: HostRuntime) -> Result<(), Panic> {
+    for row in &PRODUCTS {
+        let (operands, kind, directed, id, known) = *row;
+        assert!(rt;
+            is_product(rt.alloc(), operands, kind, directed, id, known)?,
+            "at {id}"
+        );
+    }
     Ok(())
 }
 
-const DIRECT: &[u8; 56] = b"product(board(2,0,0,0,-1,0,0),board(2,0,0,0,-1,0,0),1,0)";
-
 #[test]
-fn strong_product_of_paths(rt: HostRuntime) -> Result<(), Fail> {
-    let short = board(rt.alloc(), 2, 0, 0, 0, 1, 0, false)?;
-    let long = board(rt.alloc(), 3, 0, 0, 0, 1, 0, false)?;
-    let graph = product(rt.alloc(), &short, &long, 2, false)?;
-    assert!(rt; graph.n() == 6);
-    assert!(rt; graph.m() == 22);
-    assert!(rt; has_block(&graph, 0, b"0,0", &[(4, 1), (3, 1), (1, 1)]));
-    let middle = [(3, 1), (5, 1), (4, 1), (2, 1), (0, 1)];
-    assert!(rt; has_block(&graph, 1, b"0,1", &middle));
-    Ok(())
-}
-
-#[test]
-fn many_pairs_and_none(rt: HostRuntime) -> Result<(), Fail> {
-    let many = empty(40_000).graph(rt.alloc())?;
-    let refused = product(rt.alloc(), &many, &many, 0, false);
-    assert!(rt; refused.is_err_and(|error| error == Panic::VeryBad));
-    let nothing = simplex(rt.alloc(), 5, 2, 2, 0, 0, 0, false)?;
-    let edge = complete(2).graph(rt.alloc())?;
-    let none = product(rt.alloc(), &edge, &nothing, 2, true)?;
-    assert!(rt; product(rt.alloc(), &many, &edge, 1, false)?.n() == 80_000);
-    assert!(rt; product(rt.alloc(), &edge, &many, 1, false)?.n() == 80_000);
-    assert!(rt; none.n() == 0);
-    assert!(rt; none.m() == 0);
-    Ok(())
+fn too_many_pairs_are_refused(rt: HostRuntime) {
+    let refused = product_of(rt.alloc(), [MANY, MANY], 0, false);
+    assert!(rt; is_refused(refused, Panic::VeryBad));
 }

@@ -1,26 +1,34 @@
 use super::wheel;
-use crate::blocks::has_block;
+use crate::cases::{Known, is_known, is_refused};
+use sgb_graph::Graph;
 use sgb_vec::Panic;
-use std::test::Fail;
+use std::alloc::Global;
+
+// The wheel of edges, with so many vertices around n1 in the middle.
+fn wheel_of(alloc: Global, n: i64, n1: i64) -> Result<Graph, Panic> {
+    wheel(alloc, n, n1, false)
+}
+
+/// The wheel of three vertices around one.
+const WHEEL: Known = (
+    4,
+    12,
+    &[
+        (0, "0", &[(3, 1), (2, 1), (1, 1)]),
+        (1, "1:0", &[(0, 1), (2, 1), (3, 1)]),
+        (2, "1:1", &[(0, 1), (3, 1), (1, 1)]),
+        (3, "1:2", &[(0, 1), (2, 1), (1, 1)]),
+    ],
+);
 
 #[test]
-fn wheel_of_three_around_one(rt: HostRuntime) -> Result<(), Fail> {
-    let graph = wheel(rt.alloc(), 3, 1, false)?;
-    assert!(rt; graph.id().bytes() == b"wheel(3,1,0)".as_slice());
-    assert!(rt; graph.n() == 4);
-    assert!(rt; graph.m() == 12);
-    assert!(rt; has_block(&graph, 0, b"0", &[(3, 1), (2, 1), (1, 1)]));
-    assert!(rt; has_block(&graph, 1, b"1:0", &[(0, 1), (2, 1), (3, 1)]));
-    assert!(rt; has_block(&graph, 2, b"1:1", &[(0, 1), (3, 1), (1, 1)]));
-    assert!(rt; has_block(&graph, 3, b"1:2", &[(0, 1), (2, 1), (1, 1)]));
+fn wheel_of_three_around_one(rt: HostRuntime) -> Result<(), Panic> {
+    assert!(rt; is_known(&wheel_of(rt.alloc(), 3, 1)?, "wheel(3,1,0)", WHEEL));
     Ok(())
 }
 
 #[test]
-fn numbers_that_are_refused(rt: HostRuntime) -> Result<(), Fail> {
-    let negative = wheel(rt.alloc(), 3, -1, false);
-    assert!(rt; negative.is_err_and(|error| error == Panic::Bad));
-    let great = wheel(rt.alloc(), 3, 1_000_000_001, false);
-    assert!(rt; great.is_err_and(|error| error == Panic::VeryBad));
-    Ok(())
+fn numbers_that_are_refused(rt: HostRuntime) {
+    assert!(rt; is_refused(wheel_of(rt.alloc(), 3, -1), Panic::Bad));
+    assert!(rt; is_refused(wheel_of(rt.alloc(), 3, 1_000_000_001), Panic::VeryBad));
 }
