@@ -23,16 +23,42 @@ mod saving;
 const USAGE: &str =
     "usage: sgb (names|list) EXPR [--after NAME|--skip K], sgb save EXPR, sgb queen, sgb flip EXPR\n";
 
+const TOO_LARGE: &str = "sgb: expression too large\n";
+
+const NO_VERTEX: &str = "sgb: no such vertex\n";
+
+const READ_FAULT: &str = "sgb: read fault\n";
+
 const WRITE_FAULT: &str = "sgb: write fault\n";
+
+const CODE_1: &str = "Something went wrong (panic code 1)!\n";
+
+const CODE_10: &str = "Something went wrong (panic code 10)!\n";
+
+const CODE_11: &str = "Something went wrong (panic code 11)!\n";
+
+const CODE_20: &str = "Something went wrong (panic code 20)!\n";
+
+const CODE_30: &str = "Something went wrong (panic code 30)!\n";
+
+const CODE_40: &str = "Something went wrong (panic code 40)!\n";
+
+const CODE_60: &str = "Something went wrong (panic code 60)!\n";
 
 // The words of a call after the program's name.
 fn words_of(alloc: Global, words: &[&str]) -> Result<Vec<String>, Fail> {
     let mut all = Vec::new(alloc);
-    all.push(String::from_str(alloc, "sgb")?)?;
+    push_word(alloc, &mut all, "sgb")?;
     for word in words {
-        all.push(String::from_str(alloc, word)?)?;
+        push_word(alloc, &mut all, word)?;
     }
     Ok(all)
+}
+
+fn push_word(alloc: Global, all: &mut Vec<String>, word: &str) -> Result<(), Fail> {
+    let owned = String::from_str(alloc, word)?;
+    all.push(owned)?;
+    Ok(())
 }
 
 // Makes a call, and returns its exit status. Standard input would fail: no such call reads it.
@@ -62,24 +88,103 @@ fn call_on<R: Source, W: Sink, E: Sink>(
     Ok(run_program(alloc, Ok(words), source, out, errors))
 }
 
+// What a call leaves: its exit status, and what came to its sinks.
+#[derive(Drop)]
+struct Left {
+    status: u8,
+    out: Counted,
+    errors: Counted,
+}
+
+impl Left {
+    // Whether these are the line and the status.
+    fn has(&self, line: &str, status: u8) -> bool {
+        self.status == status && self.errors.bytes() == line.as_bytes()
+    }
+
+    // Whether these are the output, the line and the status.
+    fn is(&self, output: &str, line: &str, status: u8) -> bool {
+        self.has(line, status) && self.out.bytes() == output.as_bytes()
+    }
+
+    // How often the sinks were called: the output's puts and flushes, and those of standard error.
+    fn calls(&self) -> [u32; 4] {
+        [
+            self.out.puts(),
+            self.out.flushes(),
+            self.errors.puts(),
+            self.errors.flushes(),
+        ]
+    }
+
+    // Whether the call was refused: the output was not called, and standard error was, once and with no flush.
+    fn is_refusal(&self, line: &str, status: u8) -> bool {
+        self.is("", line, status) && self.calls() == [0, 0, 1, 0]
+    }
+
+    // Whether the call was answered in full: also the empty answer ends with exactly one flush.
+    fn is_answer(&self) -> bool {
+        let puts = self.out.puts();
+        self.has("", 0)
+            && (puts == 0) == self.out.bytes().is_empty()
+            && self.calls() == [puts, 1, 0, 0]
+    }
+}
+
+// Says which call it is where something is not as it is to be.
+fn check_call(rt: &impl Abort, words: &[&str], is_well: bool) {
+    assert!(rt; is_well, "{words:?}");
+}
+
+// Which sinks fail: the output at its first put, or at its first flush; standard error at its first put.
+#[derive(Clone, Copy)]
+struct Faults {
+    put: bool,
+    flush: bool,
+    deaf: bool,
+}
+
+const NONE: Faults = Faults {
+    put: false,
+    flush: false,
+    deaf: false,
+};
+
+// Makes a call on this standard input, into sinks that fail there. A flush of standard error always fails.
+fn left_on<R: Source>(
+    alloc: Global,
+    words: &[&str],
+    source: &mut R,
+    faults: Faults,
+) -> Result<Left, Fail> {
+    let mut out = Counted::new(alloc, faults.put, faults.flush);
+    let mut errors = Counted::new(alloc, faults.deaf, true);
+    let status = call_on(alloc, words, source, &mut out, &mut errors)?;
+    Ok(Left {
+        status,
+        out,
+        errors,
+    })
+}
+
+// Makes a call into sinks that fail there. Standard input would fail: no such call reads it.
+fn left_by(alloc: Global, words: &[&str], faults: Faults) -> Result<Left, Fail> {
+    let mut source = CutSource::new(b"", 1, 0);
+    left_on(alloc, words, &mut source, faults)
+}
+
 // Makes a call that is to be answered in full, and returns its output.
 fn answered(rt: &impl Abort, alloc: Global, words: &[&str]) -> Result<Counted, Fail> {
-    let mut out = Counted::new(alloc, false, false);
-    let mut errors = Counted::new(alloc, false, false);
-    let status = call(alloc, words, &mut out, &mut errors)?;
-    assert_eq!(rt; status, 0, "{words:?}");
-    // also the empty answer ends with exactly one flush
-    assert_eq!(rt; out.flushes(), 1, "{words:?}");
-    assert_eq!(rt; out.puts() == 0, out.bytes().is_empty(), "{words:?}");
-    assert_eq!(rt; errors.puts(), 0, "{words:?}");
-    Ok(out)
+    let left = left_by(alloc, words, NONE)?;
+    check_call(rt, words, left.is_answer());
+    Ok(left.out)
 }
 
 // Makes each call, and compares its output with the text beside it.
 fn answers_are(rt: &impl Abort, alloc: Global, calls: &[(&[&str], &str)]) -> Result<(), Fail> {
     for (words, output) in calls {
         let out = answered(rt, alloc, words)?;
-        assert_eq!(rt; out.bytes(), output.as_bytes(), "{words:?}");
+        check_call(rt, words, out.bytes() == output.as_bytes());
     }
     Ok(())
 }
@@ -92,19 +197,21 @@ struct Parts {
     lines: usize,
 }
 
+impl Parts {
+    // Whether these are parts of an output.
+    fn are_of(&self, output: &[u8]) -> bool {
+        let ends = output.iter().filter(|byte| **byte == b'\n');
+        output.starts_with(self.start.as_bytes())
+            && output.ends_with(self.end.as_bytes())
+            && ends.count() == self.lines
+    }
+}
+
 // Makes each call, and compares its output with these parts of it.
 fn answers_have(rt: &impl Abort, alloc: Global, calls: &[Parts]) -> Result<(), Fail> {
-    for Parts {
-        words,
-        start,
-        end,
-        lines,
-    } in calls {
-        let out = answered(rt, alloc, words)?;
-        assert!(rt; out.bytes().starts_with(start.as_bytes()), "{words:?}");
-        assert!(rt; out.bytes().ends_with(end.as_bytes()), "{words:?}");
-        let ends = out.bytes().iter().filter(|byte| **byte == b'\n');
-        assert_eq!(rt; ends.count(), *lines, "{words:?}");
+    for parts in calls {
+        let out = answered(rt, alloc, parts.words)?;
+        check_call(rt, parts.words, parts.are_of(out.bytes()));
     }
     Ok(())
 }

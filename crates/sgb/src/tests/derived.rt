@@ -1,7 +1,7 @@
 //! Line graphs, products, induced graphs, complete bipartite graphs and wheels.
 
-use super::answers_are;
 use super::refusals::check_refusals;
+use super::{CODE_30, CODE_40, CODE_60, answers_are};
 use std::test::Fail;
 
 static ANSWERS: [(&[&str], &str); 15] = [
@@ -96,14 +96,8 @@ fn answers_to_derived_graphs(rt: HostRuntime) -> Result<(), Fail> {
     answers_are(&rt, rt.alloc(), &ANSWERS)
 }
 
-const CODE_30: &str = "Something went wrong (panic code 30)!\n";
-
-const CODE_40: &str = "Something went wrong (panic code 40)!\n";
-
-const CODE_60: &str = "Something went wrong (panic code 60)!\n";
-
 // Operands and entries are evaluated in order before the operation's own refusals, and then a negative entry is refused.
-static REFUSED: [(&[&str], &str, u8); 15] = [
+static REFUSED: [(&[&str], &str, u8); 16] = [
     (&["list", "lines(cycle(3),0)"], CODE_60, 1),
     (
         &["list", "product(empty(40000),empty(40000),0,0)"],
@@ -125,6 +119,12 @@ static REFUSED: [(&[&str], &str, u8); 15] = [
     ),
     (
         &["names", "induced(complete(2),[1,999999999999999999],0,0,0)"],
+        CODE_40,
+        1,
+    ),
+    // 2^32 + 1 does not count as 1
+    (
+        &["names", "induced(complete(2),[1,4294967297],0,0,0)"],
         CODE_40,
         1,
     ),
@@ -153,5 +153,5 @@ static REFUSED: [(&[&str], &str, u8); 15] = [
 
 #[test]
 fn refusals_of_derived_graphs(rt: HostRuntime) -> Result<(), Fail> {
-    check_refusals(&rt, rt.alloc(), &REFUSED, false)
+    check_refusals(&rt, rt.alloc(), &REFUSED)
 }

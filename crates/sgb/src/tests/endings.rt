@@ -3,7 +3,7 @@
 ghost use Rattle.std.specs.Prelude.{◌<◌};
 
 use super::devices::Counted;
-use super::{WRITE_FAULT, call};
+use super::{Faults, Left, WRITE_FAULT, call, check_call, left_by};
 use sgb_file::{Buffered, CutSink};
 use std::alloc::Global;
 use std::io::{self, Error, ErrorKind, Write};
@@ -24,29 +24,25 @@ static ANSWERED: [(&[&str], bool); 8] = [
     (&["list", SMALL, "--after", "1"], true),
 ];
 
+// Whether a call ended with a write fault, at the first put or at the flush.
+fn is_write_fault(left: &Left, by_put: bool, line: &str) -> bool {
+    let puts = if by_put { 1 } else { left.out.puts() };
+    let flushes = if by_put { 0 } else { 1 };
+    left.has(line, 3) && left.calls() == [puts, flushes, 1, 0]
+}
+
 // A flush that fails is a write fault, also after an empty answer. The first put that fails ends the request: the
 // output is called no more. A standard error that fails too changes no status.
-fn check_write_faults(
-    rt: &impl Abort,
-    alloc: Global,
-    fails_put: bool,
-    deaf: bool,
-) -> Result<(), Fail> {
-    for (words, empty) in ANSWERED {
-        let mut out = Counted::new(alloc, fails_put, true);
-        let mut errors = Counted::new(alloc, deaf, false);
-        let status = call(alloc, words, &mut out, &mut errors)?;
-        assert_eq!(rt; status, 3, "{words:?}");
-        let ended_by_put = fails_put && !empty;
-        assert_eq!(rt;
-            out.flushes(),
-            if ended_by_put { 0 } else { 1 },
-            "{words:?}"
-        );
-        assert!(rt; !ended_by_put || out.puts() == 1, "{words:?}");
-        assert_eq!(rt; errors.puts(), 1, "{words:?}");
-        let line = if deaf { "" } else { WRITE_FAULT };
-        assert_eq!(rt; errors.bytes(), line.as_bytes(), "{words:?}");
+fn check_write_faults(rt: &impl Abort, alloc: Global, put: bool, deaf: bool) -> Result<(), Fail> {
+    let faults = Faults {
+        put,
+        flush: true,
+        deaf,
+    };
+    let line = if deaf { "" } else { WRITE_FAULT };
+    for (words, empty) in &ANSWERED {
+        let left = left_by(alloc, words, faults)?;
+        check_call(rt, words, is_write_fault(&left, put && !*empty, line));
     }
     Ok(())
 }
@@ -86,82 +82,121 @@ impl Write for CountedWriter {
     }
 }
 
-// As the program writes, with a buffer: after the first fault the writer is called no more.
+// What a call leaves whose output is written with a buffer, as the program's is: its exit status, the numbers of the
+// writer's calls, and what came to standard error.
+#[derive(Drop)]
+struct LeftWriter {
+    status: u8,
+    writes: u32,
+    flushes: u32,
+    errors: Counted,
+}
+
+fn left_writer(
+    alloc: Global,
+    words: &[&str],
+    failing_write: u32,
+    failing_flush: u32,
+) -> Result<LeftWriter, Fail> {
+    let mut writer = CountedWriter {
+        failing_write,
+        failing_flush,
+        writes: 0,
+        flushes: 0,
+    };
+    let mut out = Buffered::new(alloc, &mut writer)?;
+    let mut errors = Counted::new(alloc, false, false);
+    let status = call(alloc, words, &mut out, &mut errors)?;
+    drop(out);
+    Ok(LeftWriter {
+        status,
+        writes: writer.writes,
+        flushes: writer.flushes,
+        errors,
+    })
+}
+
+// After the first fault the writer is called no more.
 #[test]
 fn nothing_is_written_after_a_write_fault(rt: HostRuntime) -> Result<(), Fail> {
     // 1800 names of 14 bytes: several writes
     let words = ["names", "board(2,3,5,-7,1,0,0)"];
     for (failing_write, failing_flush) in [(1, 0), (2, 0), (3, 0), (0, 1)] {
-        let mut writer = CountedWriter {
-            failing_write,
-            failing_flush,
-            writes: 0,
-            flushes: 0,
-        };
-        let mut out = Buffered::new(rt.alloc(), &mut writer)?;
-        let mut errors = Counted::new(rt.alloc(), false, false);
-        assert_eq!(rt; call(rt.alloc(), &words, &mut out, &mut errors)?, 3);
-        assert_eq!(rt; errors.bytes(), WRITE_FAULT.as_bytes());
-        drop(out);
-        if failing_write > 0 {
-            assert_eq!(rt; writer.writes, failing_write);
-        }
-        assert_eq!(rt; writer.flushes, failing_flush);
+        let left = left_writer(rt.alloc(), &words, failing_write, failing_flush)?;
+        assert!(rt; left.status == 3 && left.errors.bytes() == WRITE_FAULT.as_bytes());
+        assert!(rt; failing_write == 0 || left.writes == failing_write);
+        assert!(rt; left.flushes == failing_flush);
     }
     Ok(())
+}
+
+// The line and the status of a call whose output was cut off, or was not.
+fn ending(is_cut: bool) -> (&'static str, u8) {
+    if is_cut { (WRITE_FAULT, 3) } else { ("", 0) }
+}
+
+// Whether a call whose sinks take so many bytes at once, and the output only this many in all, leaves there exactly the
+// first bytes of the whole output, and the line and the status that go with them.
+fn is_cut_off(
+    alloc: Global,
+    words: &[&str],
+    whole: &[u8],
+    each: usize,
+    limit: usize,
+) -> Result<bool, Fail>
+    requires { 0 < each }
+{
+    let mut out: CutSink<160> = CutSink::new(each, limit, false);
+    let mut errors: CutSink<160> = CutSink::new(each, 128, false);
+    let status = call(alloc, words, &mut out, &mut errors)?;
+    let (line, wanted) = ending(limit < whole.len());
+    let is_prefix = out.bytes().len() == limit && whole.starts_with(out.bytes());
+    Ok(status == wanted && is_prefix && errors.bytes() == line.as_bytes())
 }
 
 // A sink that takes so many bytes and then fails has exactly the first bytes of the output, however many it takes at
 // once; one with room for the whole output has that.
-fn check_short_sinks(
-    rt: &impl Abort,
-    alloc: Global,
-    words: &[&str],
-    whole: &str,
-    each: usize,
-) -> Result<(), Fail>
+fn check_short_sinks(rt: &impl Abort, alloc: Global, each: usize) -> Result<(), Fail>
     requires { 0 < each }
 {
-    for limit in 0..=whole.len() {
-        let mut out: CutSink<160> = CutSink::new(each, limit, false);
-        let mut errors: CutSink<160> = CutSink::new(each, 128, false);
-        let status = call(alloc, words, &mut out, &mut errors)?;
-        let (line, wanted) = if limit < whole.len() {
-            (WRITE_FAULT, 3)
-        } else {
-            ("", 0)
-        };
-        assert_eq!(rt; status, wanted);
-        assert_eq!(rt; out.bytes(), &whole.as_bytes()[..limit]);
-        assert_eq!(rt; errors.bytes(), line.as_bytes());
+    for (words, whole) in &SHORT_ANSWERS {
+        for limit in 0..=whole.len() {
+            check_call(
+                rt,
+                words,
+                is_cut_off(alloc, words, whole.as_bytes(), each, limit)?,
+            );
+        }
     }
     Ok(())
 }
 
+// Words, output.
+static SHORT_ANSWERS: [(&[&str], &str); 4] = [
+    (
+        &["save", "board(1,0,0,0,1,0,0)"],
+        "* GraphBase graph (util_types ZZZIIIZZZZZZZZ,1V,0A)\n\"board(1,0,0,0,1,0,0)\",1,0\n\
+        * Vertices\n\"0\",0,0,0,0\n* Arcs\n* Checksum 386652336\n",
+    ),
+    (
+        &["names", "board(2,3,0,0,1,0,0)"],
+        "0.0\n0.1\n0.2\n1.0\n1.1\n1.2\n",
+    ),
+    (
+        &["list", SMALL],
+        "  The graph whose official name is\nboard(2,0,0,0,1,0,0)\n  has 2 vertices and 2 arcs:\n\n\
+        0\n  -> 1, length 1\n1\n  -> 0, length 1\n",
+    ),
+    (
+        &["flip", "flip(7,0,4,0)"],
+        "529181769\n719591340\n1610774012\n194604418\n",
+    ),
+];
+
 #[test]
 fn short_sinks(rt: HostRuntime) -> Result<(), Fail> {
-    let names = "0.0\n0.1\n0.2\n1.0\n1.1\n1.2\n";
-    let listing =
-        "  The graph whose official name is\nboard(2,0,0,0,1,0,0)\n  has 2 vertices and 2 arcs:\n\n\
-        0\n  -> 1, length 1\n1\n  -> 0, length 1\n";
-    let file = "* GraphBase graph (util_types ZZZIIIZZZZZZZZ,1V,0A)\n\"board(1,0,0,0,1,0,0)\",1,0\n\
-        * Vertices\n\"0\",0,0,0,0\n* Arcs\n* Checksum 386652336\n";
-    for each in [1usize, 3, 7, 1000] {
-        check_short_sinks(
-            &rt,
-            rt.alloc(),
-            &["save", "board(1,0,0,0,1,0,0)"],
-            file,
-            each,
-        )?;
-        check_short_sinks(
-            &rt,
-            rt.alloc(),
-            &["names", "board(2,3,0,0,1,0,0)"],
-            names,
-            each,
-        )?;
-        check_short_sinks(&rt, rt.alloc(), &["list", SMALL], listing, each)?;
-    }
-    Ok(())
+    check_short_sinks(&rt, rt.alloc(), 1)?;
+    check_short_sinks(&rt, rt.alloc(), 3)?;
+    check_short_sinks(&rt, rt.alloc(), 7)?;
+    check_short_sinks(&rt, rt.alloc(), 1000)
 }

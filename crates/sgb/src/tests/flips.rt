@@ -1,8 +1,7 @@
 //! Random numbers, with values from GB_FLIP's own test and from a program of its rules by itself.
 
-use super::devices::Counted;
-use super::{WRITE_FAULT, answers_are, call};
-use sgb_file::CutSink;
+use super::refusals::check_refusals;
+use super::{CODE_30, TOO_LARGE, answers_are};
 use std::test::Fail;
 
 static NUMBERS: [(&[&str], &str); 13] = [
@@ -49,21 +48,19 @@ fn numbers_drawn(rt: HostRuntime) -> Result<(), Fail> {
     answers_are(&rt, rt.alloc(), &NUMBERS)
 }
 
-const BAD: &str = "Something went wrong (panic code 30)!\n";
-
 // Calls that are refused, with the line and the status.
 static REFUSED: [(&[&str], &str, u8); 16] = [
-    (&["flip", "flip(1,-1,1,0)"], BAD, 1),
-    (&["flip", "flip(1,0,-1,0)"], BAD, 1),
-    (&["flip", "flip(1,0,1,-1)"], BAD, 1),
-    (&["flip", "flip(1,0,1,2147483649)"], BAD, 1),
-    (&["flip", "flip(1,0,0,2147483649)"], BAD, 1),
-    (&["flip", "flip(1,1000000001,0,0)"], BAD, 1),
-    (&["flip", "flip(1,0,1000000001,0)"], BAD, 1),
+    (&["flip", "flip(1,-1,1,0)"], CODE_30, 1),
+    (&["flip", "flip(1,0,-1,0)"], CODE_30, 1),
+    (&["flip", "flip(1,0,1,-1)"], CODE_30, 1),
+    (&["flip", "flip(1,0,1,2147483649)"], CODE_30, 1),
+    (&["flip", "flip(1,0,0,2147483649)"], CODE_30, 1),
+    (&["flip", "flip(1,1000000001,0,0)"], CODE_30, 1),
+    (&["flip", "flip(1,0,1000000001,0)"], CODE_30, 1),
     // 2^32 and 2^32 + 1 do not count as 0 and 1
-    (&["flip", "flip(1,4294967296,1,0)"], BAD, 1),
-    (&["flip", "flip(1,0,4294967297,0)"], BAD, 1),
-    (&["flip", "flip(1,0,1,4294967296)"], BAD, 1),
+    (&["flip", "flip(1,4294967296,1,0)"], CODE_30, 1),
+    (&["flip", "flip(1,0,4294967297,0)"], CODE_30, 1),
+    (&["flip", "flip(1,0,1,4294967296)"], CODE_30, 1),
     (
         &["flip", "board(1,2,3,4,5,6,7)"],
         "sgb: bad expression at byte 0\n",
@@ -94,45 +91,12 @@ static REFUSED: [(&[&str], &str, u8); 16] = [
             "flip",
             "(((((((((((((((((((((((((((((((((((((((((((((((((((((((((((((((((",
         ],
-        "sgb: expression too large\n",
+        TOO_LARGE,
         2,
     ),
 ];
 
 #[test]
 fn refused_flips(rt: HostRuntime) -> Result<(), Fail> {
-    for (words, line, status) in REFUSED {
-        let mut out = Counted::new(rt.alloc(), false, true);
-        let mut errors = Counted::new(rt.alloc(), false, false);
-        let found = call(rt.alloc(), words, &mut out, &mut errors)?;
-        assert!(rt; found == status, "{words:?}");
-        assert!(rt; errors.bytes() == line.as_bytes(), "{words:?}");
-        assert!(rt; out.puts() == 0 && out.flushes() == 0, "{words:?}");
-    }
-    Ok(())
-}
-
-// A sink that takes so many bytes and then fails has exactly the first bytes of the numbers.
-#[test]
-fn numbers_cut_off(rt: HostRuntime) -> Result<(), Fail> {
-    let whole = "529181769\n719591340\n1610774012\n194604418\n";
-    for limit in 0..=whole.len() {
-        let mut out: CutSink<64> = CutSink::new(3, limit, false);
-        let mut errors: CutSink<64> = CutSink::new(3, 64, false);
-        let status = call(
-            rt.alloc(),
-            &["flip", "flip(7,0,4,0)"],
-            &mut out,
-            &mut errors,
-        )?;
-        let (line, wanted) = if limit < whole.len() {
-            (WRITE_FAULT, 3)
-        } else {
-            ("", 0)
-        };
-        assert!(rt; status == wanted, "{limit}");
-        assert!(rt; out.bytes() == &whole.as_bytes()[..limit], "{limit}");
-        assert!(rt; errors.bytes() == line.as_bytes(), "{limit}");
-    }
-    Ok(())
+    check_refusals(&rt, rt.alloc(), &REFUSED)
 }

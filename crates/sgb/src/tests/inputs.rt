@@ -2,24 +2,14 @@
 
 ghost use Rattle.std.specs.Prelude.{◌<◌};
 
-use super::devices::Counted;
-use super::{USAGE, call_on};
+use super::{
+    CODE_10, CODE_11, CODE_20, CODE_30, CODE_60, NO_VERTEX, NONE, READ_FAULT, USAGE, check_call,
+    left_on,
+};
 use sgb_file::{CutSource, MemSource, Source};
 use std::alloc::Global;
 use std::process::Abort;
 use std::test::Fail;
-
-const CODE_10: &str = "Something went wrong (panic code 10)!\n";
-
-const CODE_11: &str = "Something went wrong (panic code 11)!\n";
-
-const CODE_20: &str = "Something went wrong (panic code 20)!\n";
-
-const CODE_30: &str = "Something went wrong (panic code 30)!\n";
-
-const CODE_60: &str = "Something went wrong (panic code 60)!\n";
-
-const READ_FAULT: &str = "sgb: read fault\n";
 
 // Makes a call on this standard input, and compares its output, its line and its status with these.
 fn check<R: Source>(
@@ -27,15 +17,11 @@ fn check<R: Source>(
     alloc: Global,
     words: &[&str],
     source: &mut R,
-    left: (&str, &str, u8),
+    wanted: (&str, &str, u8),
 ) -> Result<(), Fail> {
-    let (output, line, status) = left;
-    let mut out = Counted::new(alloc, false, false);
-    let mut errors = Counted::new(alloc, false, false);
-    let found = call_on(alloc, words, source, &mut out, &mut errors)?;
-    assert!(rt; found == status, "{words:?}");
-    assert!(rt; out.bytes() == output.as_bytes(), "{words:?}");
-    assert!(rt; errors.bytes() == line.as_bytes(), "{words:?}");
+    let (output, line, status) = wanted;
+    let left = left_on(alloc, words, source, NONE)?;
+    check_call(rt, words, left.is(output, line, status));
     Ok(())
 }
 
@@ -55,9 +41,17 @@ const EMPTY: &str =
 const EMPTY_LISTING: &str =
     "  The graph whose official name is\na\n  has 0 vertices and 0 arcs:\n\n";
 
-// One vertex with an arc to itself.
-const RING: &str = "* GraphBase graph (util_types ZZZZZZZZZZZZZZ,1V,1A)\n\"ring\",1,1\n\
-    * Vertices\n\"x\",A0\n* Arcs\nV0,0,1\n* Checksum -1\n";
+// The file of one vertex, with an arc whose line this is.
+macro_rules! ring {
+    ($arc:literal) => {
+        concat!(
+            "* GraphBase graph (util_types ZZZZZZZZZZZZZZ,1V,1A)\n\"ring\",1,1\n\
+            * Vertices\n\"x\",A0\n* Arcs\n",
+            $arc,
+            "\n* Checksum -1\n"
+        )
+    };
+}
 
 // Two vertices whose lists are one: of more arcs than there are records.
 const SHARED: &str = "* GraphBase graph (util_types ZZZZZZZZZZZZZZ,2V,1A)\n\"s\",2,2\n\
@@ -74,21 +68,20 @@ static ANSWERS: [(&[&str], &str, &str); 13] = [
     ),
     (
         &["list", "stdin"],
-        RING,
+        ring!("V0,0,1"),
         "  The graph whose official name is\nring\n  has 1 vertices and 1 arcs:\n\nx\n  -> x, length 1\n",
     ),
     // each `stdin` is the same graph
     (
         &["list", "gunion(stdin,stdin,1,1)"],
-        RING,
+        ring!("V0,0,1"),
         "  The graph whose official name is\ngunion(ring,ring,1,1)\n  has 1 vertices and 2 arcs:\n\n\
         x\n  -> x, length 1\n  -> x, length 1\n",
     ),
     // the least length
     (
         &["list", "stdin"],
-        "* GraphBase graph (util_types ZZZZZZZZZZZZZZ,1V,1A)\n\"ring\",1,1\n\
-        * Vertices\n\"x\",A0\n* Arcs\nV0,0,-9223372036854775808\n* Checksum -1\n",
+        ring!("V0,0,-9223372036854775808"),
         "  The graph whose official name is\nring\n  has 1 vertices and 1 arcs:\n\nx\n  -> x, length -9223372036854775808\n",
     ),
     (
@@ -132,39 +125,18 @@ static REFUSED: [(&[&str], &str, &str); 15] = [
         CODE_11,
     ),
     // a list with no end
-    (
-        &["list", "stdin"],
-        "* GraphBase graph (util_types ZZZZZZZZZZZZZZ,1V,1A)\n\"ring\",1,1\n\
-        * Vertices\n\"x\",A0\n* Arcs\nV0,A0,1\n* Checksum -1\n",
-        CODE_20,
-    ),
+    (&["list", "stdin"], ring!("V0,A0,1"), CODE_20),
     // a vertex that is not there, and none
-    (
-        &["list", "stdin"],
-        "* GraphBase graph (util_types ZZZZZZZZZZZZZZ,1V,1A)\n\"ring\",1,1\n\
-        * Vertices\n\"x\",A0\n* Arcs\nV1,0,1\n* Checksum -1\n",
-        CODE_20,
-    ),
-    (
-        &["list", "stdin"],
-        "* GraphBase graph (util_types ZZZZZZZZZZZZZZ,1V,1A)\n\"ring\",1,1\n\
-        * Vertices\n\"x\",A0\n* Arcs\n0,0,1\n* Checksum -1\n",
-        CODE_20,
-    ),
+    (&["list", "stdin"], ring!("V1,0,1"), CODE_20),
+    (&["list", "stdin"], ring!("0,0,1"), CODE_20),
     // a length past 64 bits
     (
         &["list", "stdin"],
-        "* GraphBase graph (util_types ZZZZZZZZZZZZZZ,1V,1A)\n\"ring\",1,1\n\
-        * Vertices\n\"x\",A0\n* Arcs\nV0,0,9223372036854775808\n* Checksum -1\n",
+        ring!("V0,0,9223372036854775808"),
         CODE_20,
     ),
     // an arc that is not there
-    (
-        &["list", "stdin"],
-        "* GraphBase graph (util_types ZZZZZZZZZZZZZZ,1V,1A)\n\"ring\",1,1\n\
-        * Vertices\n\"x\",A0\n* Arcs\nV0,A1,1\n* Checksum -1\n",
-        CODE_20,
-    ),
+    (&["list", "stdin"], ring!("V0,A1,1"), CODE_20),
     // arcs on no list that lead to one another
     (
         &["list", "stdin"],
@@ -192,33 +164,40 @@ static REFUSED: [(&[&str], &str, &str); 15] = [
         CODE_10,
     ),
     (&["save", "stdin"], "", CODE_10),
-    (
-        &["names", "stdin", "--after", "2"],
-        COMPLETE,
-        "sgb: no such vertex\n",
-    ),
+    (&["names", "stdin", "--after", "2"], COMPLETE, NO_VERTEX),
 ];
+
+// Makes each call, which is answered with this text, or refused with this line.
+fn check_all(
+    rt: &impl Abort,
+    alloc: Global,
+    calls: &[(&[&str], &str, &str)],
+    refused: bool,
+) -> Result<(), Fail> {
+    for (words, input, text) in calls {
+        let mut source = MemSource::new(input.as_bytes());
+        let wanted = if refused {
+            ("", *text, 1)
+        } else {
+            (*text, "", 0)
+        };
+        check(rt, alloc, words, &mut source, wanted)?;
+    }
+    Ok(())
+}
 
 #[test]
 fn answers_on_standard_input(rt: HostRuntime) -> Result<(), Fail> {
-    for (words, input, output) in ANSWERS {
-        let mut source = MemSource::new(input.as_bytes());
-        check(&rt, rt.alloc(), words, &mut source, (output, "", 0))?;
-    }
-    Ok(())
+    check_all(&rt, rt.alloc(), &ANSWERS, false)
 }
 
 #[test]
 fn refusals_on_standard_input(rt: HostRuntime) -> Result<(), Fail> {
-    for (words, input, line) in REFUSED {
-        let mut source = MemSource::new(input.as_bytes());
-        check(&rt, rt.alloc(), words, &mut source, ("", line, 1))?;
-    }
-    Ok(())
+    check_all(&rt, rt.alloc(), &REFUSED, true)
 }
 
-// What a file's first bytes are a file of, by how many they are.
-fn left_by(len: usize) -> (&'static str, &'static str, u8) {
+// What is to be left where the input is this many first bytes of the file.
+fn wanted_of_first(len: usize) -> (&'static str, &'static str, u8) {
     if len <= 50 {
         ("", CODE_10, 1)
     } else if len <= 136 {
@@ -237,7 +216,13 @@ fn check_short_inputs(rt: &impl Abort, alloc: Global, each: usize) -> Result<(),
     for len in 0..=COMPLETE.len() {
         let bytes = &COMPLETE.as_bytes()[..len];
         let mut source = CutSource::new(bytes, each, 1000);
-        check(rt, alloc, &["list", "stdin"], &mut source, left_by(len))?;
+        check(
+            rt,
+            alloc,
+            &["list", "stdin"],
+            &mut source,
+            wanted_of_first(len),
+        )?;
     }
     Ok(())
 }
@@ -283,10 +268,11 @@ static LEFT_ALONE: [(&[&str], &str, &str, u8); 4] = [
 
 #[test]
 fn standard_input_is_left_alone(rt: HostRuntime) -> Result<(), Fail> {
-    for (words, output, line, status) in LEFT_ALONE {
+    for (words, output, line, status) in &LEFT_ALONE {
         let mut source = CutSource::new(b"", 1, 0);
-        check(&rt, rt.alloc(), words, &mut source, (output, line, status))?;
-        assert!(rt; !source.failed(), "{words:?}");
+        let wanted = (*output, *line, *status);
+        check(&rt, rt.alloc(), words, &mut source, wanted)?;
+        check_call(&rt, words, !source.failed());
     }
     Ok(())
 }

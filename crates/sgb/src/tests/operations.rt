@@ -1,8 +1,7 @@
 //! Nested expressions, and the graph of the queens.
 
-use super::devices::Counted;
-use super::{Parts, answered, answers_are, answers_have, call};
-use std::alloc::Global;
+use super::refusals::check_refusals;
+use super::{Parts, TOO_LARGE, answers_are, answers_have};
 use std::test::Fail;
 
 static ANSWERS: [(&[&str], &str); 13] = [
@@ -137,26 +136,39 @@ fn queens_and_ids_that_are_cut(rt: HostRuntime) -> Result<(), Fail> {
     answers_have(&rt, rt.alloc(), &PARTS_OF_ANSWERS)
 }
 
-// So many complements, one in the other, of Petersen's graph.
-fn complements(alloc: Global, depth: u32) -> Result<String, Fail> {
-    let mut text = String::from_str(alloc, "petersen()")?;
-    for _ in 0..depth {
-        text = format!(in alloc; "complement({text},0,0,0)")?;
-    }
-    Ok(text)
+// 63 complements, one in the other, of an expression: seven times nine.
+macro_rules! complements {
+    ($expression:literal) => {
+        complements!(
+            "complement(complement(complement(complement(complement(complement(complement(complement(complement(",
+            $expression,
+            ",0,0,0),0,0,0),0,0,0),0,0,0),0,0,0),0,0,0),0,0,0),0,0,0),0,0,0)"
+        )
+    };
+    ($open:literal, $expression:literal, $closed:literal) => {
+        concat!(
+            $open, $open, $open, $open, $open, $open, $open,
+            $expression,
+            $closed, $closed, $closed, $closed, $closed, $closed, $closed
+        )
+    };
 }
 
-// An expression with 64 open parentheses is read, and one with 65 is too large.
+// An expression with 64 open parentheses is read.
+static DEEP: [(&[&str], &str); 1] = [(
+    &["names", complements!("petersen()"), "--skip", "9"],
+    "1.1.0.0.0\n",
+)];
+
+// One with 65 is too large.
+static TOO_DEEP: [(&[&str], &str, u8); 1] = [(
+    &["names", complements!("complement(petersen(),0,0,0)")],
+    TOO_LARGE,
+    2,
+)];
+
 #[test]
 fn as_many_parentheses_as_are_read(rt: HostRuntime) -> Result<(), Fail> {
-    let text = complements(rt.alloc(), 63)?;
-    let out = answered(&rt, rt.alloc(), &["names", text.as_str(), "--skip", "9"])?;
-    assert_eq!(rt; out.bytes(), b"1.1.0.0.0\n".as_slice());
-    let text = complements(rt.alloc(), 64)?;
-    let mut out = Counted::new(rt.alloc(), false, false);
-    let mut errors = Counted::new(rt.alloc(), false, false);
-    let status = call(rt.alloc(), &["names", text.as_str()], &mut out, &mut errors)?;
-    assert_eq!(rt; status, 2);
-    assert_eq!(rt; errors.bytes(), b"sgb: expression too large\n".as_slice());
-    Ok(())
+    answers_are(&rt, rt.alloc(), &DEEP)?;
+    check_refusals(&rt, rt.alloc(), &TOO_DEEP)
 }

@@ -1,7 +1,9 @@
 //! Calls that are refused: the line and the exit status of each.
 
 use super::devices::Counted;
-use super::{USAGE, call};
+use super::{
+    CODE_1, CODE_30, CODE_40, Faults, Left, NO_VERTEX, TOO_LARGE, USAGE, check_call, left_by,
+};
 use crate::program::run_program;
 use sgb_file::CutSource;
 use sgb_requests::{Fault, report};
@@ -15,34 +17,18 @@ const SMALL: &str = "board(2,0,0,0,1,0,0)";
 
 // Words that are refused or make a request that is, with the line and the status.
 static REFUSED: [(&[&str], &str, u8); 44] = [
-    (
-        &["names", "board(2,-92,0,0,1,0,0)"],
-        "Something went wrong (panic code 30)!\n",
-        1,
-    ),
-    (
-        &["names", "board(2,-30,0,0,1,0,0)"],
-        "Something went wrong (panic code 40)!\n",
-        1,
-    ),
-    (
-        &["names", "board(2,0,0,0,2147483648,0,0)"],
-        "Something went wrong (panic code 40)!\n",
-        1,
-    ),
-    (
-        &["names", "board(65536,65536,0,0,1,0,0)"],
-        "Something went wrong (panic code 40)!\n",
-        1,
-    ),
+    (&["names", "board(2,-92,0,0,1,0,0)"], CODE_30, 1),
+    (&["names", "board(2,-30,0,0,1,0,0)"], CODE_40, 1),
+    (&["names", "board(2,0,0,0,2147483648,0,0)"], CODE_40, 1),
+    (&["names", "board(65536,65536,0,0,1,0,0)"], CODE_40, 1),
     (
         &["names", "board(2,3,0,0,1,0,0)", "--after", "01.1"],
-        "sgb: no such vertex\n",
+        NO_VERTEX,
         1,
     ),
     (
         &["names", "board(2,3,0,0,1,0,0)", "--after", ""],
-        "sgb: no such vertex\n",
+        NO_VERTEX,
         1,
     ),
     (
@@ -73,26 +59,18 @@ static REFUSED: [(&[&str], &str, u8); 44] = [
             "names",
             "(((((((((((((((((((((((((((((((((((((((((((((((((((((((((((((((((",
         ],
-        "sgb: expression too large\n",
+        TOO_LARGE,
         2,
     ),
     (&["names", "x", "--skip", "x"], USAGE, 2),
     (&[], USAGE, 2),
     (
         &["list", "board(3,0,0,0,-1,0,0)", "--after", "3"],
-        "sgb: no such vertex\n",
+        NO_VERTEX,
         1,
     ),
-    (
-        &["list", "board(2,-92,0,0,1,0,0)"],
-        "Something went wrong (panic code 30)!\n",
-        1,
-    ),
-    (
-        &["list", "board(2,-30,0,0,1,0,0)"],
-        "Something went wrong (panic code 40)!\n",
-        1,
-    ),
+    (&["list", "board(2,-92,0,0,1,0,0)"], CODE_30, 1),
+    (&["list", "board(2,-30,0,0,1,0,0)"], CODE_40, 1),
     (
         &[
             "list",
@@ -100,68 +78,40 @@ static REFUSED: [(&[&str], &str, u8); 44] = [
             "--after",
             "no vertex",
         ],
-        "Something went wrong (panic code 40)!\n",
+        CODE_40,
         1,
     ),
     (
         &["names", "simplex(2,0,0,0,0,0,0)", "--after", "01.0.1"],
-        "sgb: no such vertex\n",
+        NO_VERTEX,
         1,
     ),
-    (
-        &["list", "simplex(-1,0,0,0,0,0,0)"],
-        "Something went wrong (panic code 30)!\n",
-        1,
-    ),
-    (
-        &["list", "simplex(1000000001,1,0,0,0,0,0)"],
-        "Something went wrong (panic code 40)!\n",
-        1,
-    ),
-    (
-        &["names", "simplex(30,-30,0,0,0,0,0)"],
-        "Something went wrong (panic code 40)!\n",
-        1,
-    ),
-    (
-        &["names", "subsets(30,-92,0,0,0,0,1,0)"],
-        "Something went wrong (panic code 30)!\n",
-        1,
-    ),
+    (&["list", "simplex(-1,0,0,0,0,0,0)"], CODE_30, 1),
+    (&["list", "simplex(1000000001,1,0,0,0,0,0)"], CODE_40, 1),
+    (&["names", "simplex(30,-30,0,0,0,0,0)"], CODE_40, 1),
+    (&["names", "subsets(30,-92,0,0,0,0,1,0)"], CODE_30, 1),
     (
         &["list", "subsets(64,64,64,0,0,0,0x10000000000000000,0)"],
         "sgb: bad expression at byte 41\n",
         2,
     ),
-    (&["list", SMALL, "--after", "2"], "sgb: no such vertex\n", 1),
-    (
-        &["names", SMALL, "--after", "2"],
-        "sgb: no such vertex\n",
-        1,
-    ),
+    (&["list", SMALL, "--after", "2"], NO_VERTEX, 1),
+    (&["names", SMALL, "--after", "2"], NO_VERTEX, 1),
     (&["names", SMALL, "--skip", "x"], USAGE, 2),
     (
         &[
             "list",
             "(((((((((((((((((((((((((((((((((((((((((((((((((((((((((((((((((",
         ],
-        "sgb: expression too large\n",
+        TOO_LARGE,
         2,
     ),
-    (
-        &["list", "board(65536,65536,0,0,1,0,0)"],
-        "Something went wrong (panic code 40)!\n",
-        1,
-    ),
+    (&["list", "board(65536,65536,0,0,1,0,0)"], CODE_40, 1),
     (&["save"], USAGE, 2),
     (&["save", "petersen()", "--after", "1"], USAGE, 2),
     (&["save", "petersen()", "--skip", "1"], USAGE, 2),
     (&["save", "board(3,"], "sgb: bad expression at byte 8\n", 2),
-    (
-        &["save", "board(2,-92,0,0,1,0,0)"],
-        "Something went wrong (panic code 30)!\n",
-        1,
-    ),
+    (&["save", "board(2,-92,0,0,1,0,0)"], CODE_30, 1),
     (&["queen", "petersen()"], USAGE, 2),
     (&["queen", "--skip", "1"], USAGE, 2),
     (
@@ -181,7 +131,7 @@ static REFUSED: [(&[&str], &str, u8); 44] = [
             "--after",
             "0.0.0.0.0",
         ],
-        "sgb: no such vertex\n",
+        NO_VERTEX,
         1,
     ),
     // operands come from left to right
@@ -190,7 +140,7 @@ static REFUSED: [(&[&str], &str, u8); 44] = [
             "list",
             "gunion(board(2,-251,0,0,1,0,0),board(2,-30,0,0,1,0,0),0,0)",
         ],
-        "Something went wrong (panic code 30)!\n",
+        CODE_30,
         1,
     ),
     (
@@ -198,7 +148,7 @@ static REFUSED: [(&[&str], &str, u8); 44] = [
             "list",
             "gunion(board(2,-30,0,0,1,0,0),board(2,-251,0,0,1,0,0),0,0)",
         ],
-        "Something went wrong (panic code 40)!\n",
+        CODE_40,
         1,
     ),
     (
@@ -206,7 +156,7 @@ static REFUSED: [(&[&str], &str, u8); 44] = [
             "names",
             "complement(intersection(petersen(),board(2,-30,0,0,1,0,0),0,0),0,0,0)",
         ],
-        "Something went wrong (panic code 40)!\n",
+        CODE_40,
         1,
     ),
 ];
@@ -217,29 +167,31 @@ pub(super) fn check_refusals(
     rt: &impl Abort,
     alloc: Global,
     calls: &[(&[&str], &str, u8)],
-    deaf: bool,
 ) -> Result<(), Fail> {
     for (words, line, status) in calls {
-        let mut out = Counted::new(alloc, true, true);
-        let mut errors = Counted::new(alloc, deaf, true);
-        let found = call(alloc, words, &mut out, &mut errors)?;
-        assert_eq!(rt; found, *status, "{words:?}");
-        assert_eq!(rt;
-            errors.bytes(),
-            if deaf { b"" } else { line.as_bytes() },
-            "{words:?}"
-        );
-        assert_eq!(rt; errors.puts(), 1, "{words:?}");
-        assert_eq!(rt; errors.flushes(), 0, "{words:?}");
-        assert!(rt; out.puts() == 0 && out.flushes() == 0, "{words:?}");
+        let heard = left_by(alloc, words, OUTPUT_FAILS)?;
+        check_call(rt, words, heard.is_refusal(line, *status));
+        let unheard = left_by(alloc, words, BOTH_FAIL)?;
+        check_call(rt, words, unheard.is_refusal("", *status));
     }
     Ok(())
 }
 
+const OUTPUT_FAILS: Faults = Faults {
+    put: true,
+    flush: true,
+    deaf: false,
+};
+
+const BOTH_FAIL: Faults = Faults {
+    put: true,
+    flush: true,
+    deaf: true,
+};
+
 #[test]
 fn a_refused_call_is_one_line(rt: HostRuntime) -> Result<(), Fail> {
-    check_refusals(&rt, rt.alloc(), &REFUSED, false)?;
-    check_refusals(&rt, rt.alloc(), &REFUSED, true)
+    check_refusals(&rt, rt.alloc(), &REFUSED)
 }
 
 // Each fault's line is one put.
@@ -257,32 +209,42 @@ fn a_line_is_one_put(rt: HostRuntime) {
         Fault::Write,
     ];
     for fault in faults {
-        let mut errors = Counted::new(rt.alloc(), false, false);
-        let _status = report(&fault, &mut errors);
-        assert_eq!(rt; errors.puts(), 1, "{fault}");
+        let puts = puts_of_line(rt.alloc(), &fault);
+        assert!(rt; puts == 1, "{fault}");
     }
 }
+
+// How many puts the line of a fault is.
+fn puts_of_line(alloc: Global, fault: &Fault) -> u32 {
+    let mut errors = Counted::new(alloc, false, false);
+    let _status = report(fault, &mut errors);
+    errors.puts()
+}
+
+// What a call leaves whose words could not be read.
+fn left_unread(alloc: Global, error: Error) -> Left {
+    let mut source = CutSource::new(b"", 1, 0);
+    let mut out = Counted::new(alloc, false, true);
+    let mut errors = Counted::new(alloc, false, false);
+    let status = run_program(alloc, Err(error), &mut source, &mut out, &mut errors);
+    Left {
+        status,
+        out,
+        errors,
+    }
+}
+
+const UNREAD: [(ErrorKind, &str, u8); 3] = [
+    (ErrorKind::InvalidData, USAGE, 2),
+    (ErrorKind::Other, USAGE, 2),
+    (ErrorKind::OutOfMemory, CODE_1, 1),
+];
 
 // Words that could not be read are an invalid command line, unless memory ran out.
 #[test]
 fn words_that_could_not_be_read(rt: HostRuntime) {
-    let cases = [
-        (ErrorKind::InvalidData, USAGE, 2),
-        (ErrorKind::Other, USAGE, 2),
-        (
-            ErrorKind::OutOfMemory,
-            "Something went wrong (panic code 1)!\n",
-            1,
-        ),
-    ];
-    for (kind, line, status) in cases {
-        let mut source = CutSource::new(b"", 1, 0);
-        let mut out = Counted::new(rt.alloc(), false, true);
-        let mut errors = Counted::new(rt.alloc(), false, false);
-        let words = Err(Error::from(kind));
-        let answered = run_program(rt.alloc(), words, &mut source, &mut out, &mut errors);
-        assert_eq!(rt; answered, status);
-        assert_eq!(rt; errors.bytes(), line.as_bytes());
-        assert_eq!(rt; out.flushes(), 0);
+    for (kind, line, status) in UNREAD {
+        let left = left_unread(rt.alloc(), Error::from(kind));
+        assert!(rt; left.is_refusal(line, status), "{line}");
     }
 }
