@@ -1,6 +1,6 @@
 -- Lemmas on the opening and the end of a file, in the words of the code.
 use Rattle.std.specs.Prelude.{if◌then◌else◌}
-use Rattle.std.proofs.Common.{◌≡◌, ◌<◌, ◌≤◌, ◌∙◌, ℕ, Bool, true, false, List, [], ◌∷◌, Option, Some, None, length, take, drop, set, slice_index, ◌+◌, zero, suc, filter_map, refl, sym, ap, arith, cond, ◌==◌, ◌&&◌, ◌++◌, Result, Ok, Err, nat_le, subst}
+use Rattle.std.proofs.Common.{◌≡◌, ◌<◌, ◌≤◌, ◌∙◌, ℕ, Bool, true, false, List, [], ◌∷◌, Option, Some, None, length, take, drop, set, slice_index, ◌+◌, zero, suc, filter_map, refl, sym, ap, arith, ◌==◌, ◌++◌, Result, Ok, Err, subst}
 use Rattle.std.proofs.lemmas.Bool.Decides.{nat_tests}
 use Rattle.std.proofs.lemmas.List.{length-take, get_or-take, take_more, take_more_set, take_all}
 use Rattle.std.proofs.lemmas.List.Elements.{filter_map-append}
@@ -9,28 +9,19 @@ use Rattle.sgb_graph.specs.declared.fields.Kind.{Kind}
 use Rattle.sgb_file.specs.FileLines.{lines_among, lines_of_text, clean_lines, text_of_lines}
 use Rattle.sgb_file.specs.LinesLeft.{LinesLeft, text_left, next_begun, none_begun, lines_still, lines_passed}
 use Rattle.sgb_vec.specs.declared.panics.Panic.{Panic}
-use Rattle.sgb_vec.specs.declared.panics.Panic.TheVariants.{Late, Syntax}
-use Rattle.sgb_vec.specs.Limits.{most_vertices}
+use Rattle.sgb_vec.specs.declared.panics.Panic.TheVariants.{Syntax}
 use Rattle.sgb_graph.specs.Graphs.{GraphData}
 use Rattle.sgb_graph.specs.Parts.{IsCheckOf, checked}
-use Rattle.sgb_graph.specs.Sound.{fields_fit, is_sound}
+use Rattle.sgb_graph.specs.Sound.{is_sound}
 use Rattle.sgb_file.specs.Checksum.{has_star}
-use Rattle.sgb_file.specs.Fields.{Found}
 use Rattle.sgb_file.specs.Reading.{IsReadOf}
 use Rattle.sgb_file.specs.Records.{Head, records_at}
-use Rattle.sgb_file.proofs.LinesLeftLemmas.{begun_text}
+use Rattle.sgb_file.proofs.FirstLines.{no_more_kinds}
+use Rattle.sgb_file.proofs.LeftTexts.{next_left}
 use Rattle.sgb_file.proofs.ReadParts.{read_is_checked}
-use Rattle.sgb_file.specs.Restoring.{Opening, opening_of, head_of_line, graph_of_text, graph_of_opening, graph_of_records, graph_after, graph_at_end, closes, line_closes, lines_before, kind_of_letter, kinds_at}
+use Rattle.sgb_file.specs.Restoring.{opening_of, head_of_line, graph_of_text, graph_of_opening, graph_after, graph_at_end, closes, line_closes, kind_of_letter, kinds_at}
 
 -- a text of fewer letters has not the kinds
-kept_short : {Y : Type 0} (y : Option Y) (ys : List Y) (n : ℕ) → length ys ≤ n → length (cons_option y ys) ≤ suc n
-kept_short None ys n h = omega (arith, h)
-kept_short (Some y) ys n h = omega (arith, h)
-
-filtered_short : (xs : List ℕ) → length (filter_map kind_of_letter xs) ≤ length xs
-filtered_short [] = omega arith
-filtered_short (x ∷ xs) = kept_short (kind_of_letter x) (filter_map kind_of_letter xs) (length xs) (filtered_short xs)
-
 kept_fewer : {Y : Type 0} (y : Option Y) (ys : List Y) (n : ℕ) → length ys < n → length (cons_option y ys) < suc n
 kept_fewer None ys n h = omega (arith, h)
 kept_fewer (Some y) ys n h = omega (arith, h)
@@ -41,7 +32,7 @@ kept_none (Some y) ys n e h = absurd cc
 
 filtered_fewer : (xs : List ℕ) (i : ℕ) → i < length xs → kind_of_letter (slice_index xs i) ≡ None → length (filter_map kind_of_letter xs) < length xs
 filtered_fewer [] i h e = absurd (omega (arith, h))
-filtered_fewer (x ∷ xs) zero h e = kept_none (kind_of_letter x) (filter_map kind_of_letter xs) (length xs) e (filtered_short xs)
+filtered_fewer (x ∷ xs) zero h e = kept_none (kind_of_letter x) (filter_map kind_of_letter xs) (length xs) e (no_more_kinds xs)
 filtered_fewer (x ∷ xs) (suc i) h e = kept_fewer (kind_of_letter x) (filter_map kind_of_letter xs) (length xs) (filtered_fewer xs i (omega (arith, h)) e)
 
 -- where a byte is no letter of a kind, the text has not the kinds
@@ -63,7 +54,7 @@ kinds_read text kinds e size = rw (e ∙ take_all 14 kinds (omega (arith, size))
 
 pub short_kinds : (text : List ℕ) → length text < 14 → None ≡ kinds_at text
 short_kinds text h =
-    let few = filtered_short (take 14 text) in
+    let few = no_more_kinds (take 14 text) in
     let other : (length (filter_map kind_of_letter (take 14 text)) == 14) ≡ false = grind (arith, nat_tests, few, length-take 14 text) in
     rw other refl
 
@@ -94,12 +85,15 @@ pub opens_nothing : (text : List ℕ) → text ≡ [] → opening_of (clean_line
 unfolding opening_of lines_among
 opens_nothing text e = rw e refl
 
+-- where the first line is just begun the text that is left is that of all lines
+text_whole : (s : LinesLeft) → s ≡ next_begun (none_begun s.all) → text_left s ≡ text_of_lines s.all
+text_whole s begun = ap text_left begun ∙ next_left (none_begun s.all)
+
 -- the graph of a text that opens here is that of the records in the lines that are left
 pub graph_opened : (text : List ℕ) (head : Head) (s : LinesLeft) → Some (record { head = head; lines = s.all }) ≡ opening_of (clean_lines text) → s ≡ next_begun (none_begun s.all)
     → graph_of_text text ≡ graph_after (record { head = head; lines = s.all }) (records_at head (text_left s))
 graph_opened text head s e begun =
-    let whole : text_left s ≡ text_of_lines s.all = ap text_left begun ∙ begun_text s.all s.all in
-    ap graph_of_opening (sym e) ∙ ap (λ t. graph_after (record { head = head; lines = s.all }) (records_at head t)) (sym whole)
+    ap graph_of_opening (sym e) ∙ ap (λ t. graph_after (record { head = head; lines = s.all }) (records_at head t)) (sym (text_whole s begun))
 
 -- what the graph of a text is where its records end in these lines
 pub graph_ended : (text : List ℕ) (head : Head) (s t : LinesLeft) (g : GraphData) (closed : Bool) → Some (record { head = head; lines = s.all }) ≡ opening_of (clean_lines text)
@@ -115,8 +109,7 @@ pub graph_checked : (text : List ℕ) (head : Head) (s : LinesLeft) (rest : List
     → s ≡ next_begun (none_begun s.all) → records_at head (text_left s) ≡ Some (record { value = g; rest = rest }) → graph_of_text text ≡ graph_at_end true (is_sound g) g → IsCheckOf (checked g) r
     → IsReadOf (graph_of_text text) r
 graph_checked text head s rest g r e begun found is h =
-    let whole : text_left s ≡ text_of_lines s.all = ap text_left begun ∙ begun_text s.all s.all in
-    let says : records_at head (text_of_lines s.all) ≡ Some (record { value = g; rest = rest }) = ap (records_at head) (sym whole) ∙ found in
+    let says : records_at head (text_of_lines s.all) ≡ Some (record { value = g; rest = rest }) = ap (records_at head) (sym (text_whole s begun)) ∙ found in
     let fit : checked g ≡ (if is_sound g then Ok g else Err Syntax) =
     read_is_checked (clean_lines text) (record { head = head; lines = s.all }) (record { value = g; rest = rest }) (sym e) says in
     let same : graph_of_text text ≡ checked g = is ∙ (at_end (is_sound g) ∙ sym fit) in

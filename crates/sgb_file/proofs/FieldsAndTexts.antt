@@ -1,12 +1,11 @@
 -- Fields and their texts: a field's reader finds exactly a text that stands for its value.
-use Rattle.std.specs.Prelude.{◌≡◌, ◌≢◌, ℕ, zero, suc, ℤ, pos, neg_ℤ, ◌^◌, ◌<◌, Bool, true, false, not, ◌+◌, ◌&&◌, ◌||◌, List, [], ◌∷◌, ◌++◌, length, take, drop, codes, Option, Some, None, option_map, All, nat_lt, nat_le, ◌==◌, if◌then◌else◌, refl}
-use Rattle.std.specs.List.{list_all, list_any, before_first, after_first, starts_with, position_or_len}
+use Rattle.std.specs.Prelude.{◌≡◌, ◌≢◌, ℕ, suc, ℤ, pos, neg_ℤ, ◌^◌, ◌<◌, Bool, true, false, not, ◌+◌, ◌&&◌, ◌||◌, List, [], ◌∷◌, ◌++◌, length, take, codes, Option, Some, None, option_map, All, nat_lt, nat_le, ◌==◌, if◌then◌else◌, refl}
+use Rattle.std.specs.List.{list_all, list_any, before_first, after_first, position_or_len}
 use Rattle.std.specs.Str.{bytes_eq}
 use Rattle.std.specs.Str.Parse.{digits_value}
 use Rattle.std.proofs.Common.{ap, sym, subst, ◌∙◌, arith, append_assoc}
 use Rattle.std.proofs.lemmas.Bool.{and_parts, and_from}
 use Rattle.std.proofs.lemmas.Bool.Decides.{nat_tests}
-use Rattle.std.proofs.lemmas.List.{take-append-drop}
 use Rattle.std.proofs.lemmas.List.Elements.{All-cons, All-nil}
 use Rattle.std.proofs.lemmas.Slice.Eq.{bytes_eq-Decides}
 use Rattle.sgb_vec.specs.Limits.{most_bytes}
@@ -19,22 +18,10 @@ use Rattle.sgb_graph.specs.declared.fields.Util.TheVariants.{Int, Vertex as Vert
 use Rattle.sgb_file.specs.Fields.{Counts, Found, given, found_as, is_decimal_digit, number_of, number_below, most_number_digits, most_integer_digits, integer_of, ref_of, record_number_of, is_string_byte, unbroken, string_of, string_at, plain_text, plain_at, field_at, after_prefix}
 use Rattle.sgb_file.specs.Files.{IsStringText, IsFieldText}
 use Rattle.sgb_file.specs.Saving.{quoted}
-use Rattle.sgb_file.proofs.FoundParts.{was_given, was_mapped, was_found_as, was_let_through, was_chosen}
+use Rattle.sgb_file.proofs.FoundParts.{taken_and_left, was_given, was_mapped, was_found_as, was_let_through, was_chosen}
 use Rattle.sgb_file.proofs.FieldReading.{Ends, is_plain_byte, plain_read, plain_begins, digits_are_plain, no_quotes, string_says}
-use Rattle.sgb_file.proofs.ReadParts.{at_most, all_pass, plain_said}
-
--- a text with a prefix is the prefix and what follows it
-pub prefix_is : (prefix text rest : List ℕ) → after_prefix prefix text ≡ Some rest → text ≡ prefix ++ rest
-prefix_is prefix text rest e =
-    let t = was_let_through (starts_with (λ b c. b == c) text prefix) (drop (length prefix) text) rest e in
-    let front : prefix ≡ take (length prefix) text = (bytes_eq-Decides prefix (take (length prefix) text)).0 t.0 in
-    sym (take-append-drop (length prefix) text) ∙ ap (λ x. x ++ drop (length prefix) text) (sym front) ∙ ap (λ x. prefix ++ x) t.1
-
--- what was taken of a list, and what is left after so many elements
-pub taken_and_left : {X : Type 0} (k : ℕ) (xs : List X) → take k xs ++ drop (length (take k xs)) xs ≡ xs
-taken_and_left zero xs = refl
-taken_and_left (suc k) [] = refl
-taken_and_left (suc k) (x ∷ xs) = ap (λ ys. x ∷ ys) (taken_and_left k xs)
+use Rattle.sgb_file.proofs.NumberReading.{at_most}
+use Rattle.sgb_file.proofs.ReadParts.{all_pass, plain_said}
 
 -- a text that stands at the front for what was found
 pub record StandsIn {X : Type 0} (IsTextOf : X → List ℕ → Type 0) (text : List ℕ) (found : Found X) : Type 0 where
@@ -111,25 +98,27 @@ string_finds most (b ∷ text) found e =
       parts = ap (λ c. c ∷ text) first ∙ ap (λ x. 34 ∷ x) (split.parts ∙ sym (append_assoc inside (34 ∷ []) (after_first (λ c. c == 34) text)));
     })
 
+-- what is found as a field is said by the same text
+found_text : {X : Type 0} (read : List ℕ → Option (Found X)) (make : X → Util) (IsOne : X → List ℕ → Type 0) (IsField : Util → List ℕ → Type 0)
+    → FindsTexts read IsOne → ((x : X) (whole : List ℕ) → IsOne x whole → IsField (make x) whole) → FindsTexts (λ text. found_as make (read text)) IsField
+found_text read make IsOne IsField finds same text found e =
+    let m = was_found_as make (read text) e in
+    let h = finds text m.first m.here in
+    subst (λ (f : Found Util). StandsIn IsField text f) m.same (record { whole = h.whole; says = same m.first.value h.whole h.says; parts = h.parts })
+
 -- a field's reader finds the text of the field
 pub field_finds : (counts : Counts) (kind : Kind) → (kind ≡ Z → ⊥) → FindsTexts (field_at counts kind) (IsFieldText counts kind)
 field_finds counts Z used text found e = absurd (used refl)
 field_finds counts I used text found e =
-    let m = was_found_as Int (plain_at integer_of text) e in
-    let h = plain_finds integer_of text m.first m.here in
-    subst (λ (f : Found Util). StandsIn (IsFieldText counts I) text f) m.same (record { whole = h.whole; says = h.says; parts = h.parts })
+    found_text (plain_at integer_of) Int (λ x whole. integer_of whole ≡ Some x) (IsFieldText counts I) (plain_finds integer_of) (λ x whole h. h) text found e
 field_finds counts V used text found e =
-    let m = was_found_as VertexField (plain_at (ref_of counts.vertices) text) e in
-    let h = plain_finds (ref_of counts.vertices) text m.first m.here in
-    subst (λ (f : Found Util). StandsIn (IsFieldText counts V) text f) m.same (record { whole = h.whole; says = h.says; parts = h.parts })
+    let says = ref_of counts.vertices in
+    found_text (plain_at says) VertexField (λ x whole. says whole ≡ Some x) (IsFieldText counts V) (plain_finds says) (λ x whole h. h) text found e
 field_finds counts S used text found e =
-    let m = was_found_as Str (string_at most_bytes text) e in
-    let h = string_finds most_bytes text m.first m.here in
-    subst (λ (f : Found Util). StandsIn (IsFieldText counts S) text f) m.same (record { whole = h.whole; says = h.says; parts = h.parts })
+    found_text (string_at most_bytes) Str (IsStringText most_bytes) (IsFieldText counts S) (string_finds most_bytes) (λ x whole h. h) text found e
 field_finds counts A used text found e =
-    let m = was_found_as Chain (plain_at (record_number_of counts.arcs) text) e in
-    let h = plain_finds (record_number_of counts.arcs) text m.first m.here in
-    subst (λ (f : Found Util). StandsIn (IsFieldText counts A) text f) m.same (record { whole = h.whole; says = h.says; parts = h.parts })
+    let says = record_number_of counts.arcs in
+    found_text (plain_at says) Chain (λ x whole. says whole ≡ Some x) (IsFieldText counts A) (plain_finds says) (λ x whole h. h) text found e
 
 -- a text that says a number, a vertex or an arc record has no comma and no newline in it
 pub record IsPlainText (text : List ℕ) : Type 0 where

@@ -26,7 +26,7 @@ use Rattle.sgb_file.specs.Saved.{CanBeSaved}
 use Rattle.sgb_file.proofs.LineLemmas.{is_line, is_one_line, list_all-join, lines_read, clean_lines_read, clean_are_one_line, ends_well}
 use Rattle.sgb_file.proofs.FieldReading.{decimal_digits, number_read}
 use Rattle.sgb_file.proofs.RecordReading.{AreSmall, vertex_read, arc_read, graph_read, all_read}
-use Rattle.sgb_file.proofs.ReadParts.{number_digits}
+use Rattle.sgb_file.proofs.NumberReading.{at_most, number_digits}
 use Rattle.sgb_file.proofs.RestoringLemmas.{read_by_parts}
 use Rattle.sgb_file.proofs.WrittenLines.{IsWrittenVertex, IsWrittenRecord, vertices_written, records_written, middle_are_lines, head_is_line, checksum_is_line}
 
@@ -157,9 +157,6 @@ record IsReady (g : GraphData) : Type 0 where
   vertices : All (IsWrittenVertex g) g.vertices
   records : All (IsWrittenRecord g) g.records
 
-at_most : (n k : ℕ) → nat_le n k ≡ true → n ≤ k
-at_most n k h = grind (arith, nat_tests)
-
 ready : (g : GraphData) → CanBeSaved g → IsReady g
 ready g h =
     let n = length g.vertices in
@@ -170,11 +167,11 @@ ready g h =
     let parts = and_parts (own && nodes) arcs h.graph.fields in
     let first = and_parts own nodes parts.0 in
     record {
-      small = record { vertices = omega (arith, most); arcs = omega (arith, h.records_counted) };
+      small = record { vertices = omega (arith, most); arcs = omega (arith, h.writable.records_counted) };
       vertices_few = most;
       fields = first.0;
-      vertices = vertices_written g g.vertices first.1 h.vertices;
-      records = records_written g g.records parts.1 h.records;
+      vertices = vertices_written g g.vertices first.1 h.writable.vertices;
+      records = records_written g g.records parts.1 h.writable.records;
     }
 
 -- the records are read
@@ -184,7 +181,7 @@ records_read g rest h =
     let third = flat_map arc_text g.records ++ rest in
     let second = flat_map vertex_text g.vertices ++ (codes "* Arcs\n" ++ third) in
     ap (records_at (head_of g)) (middle_text g rest)
-    ∙ rw (graph_read g (codes "* Vertices\n" ++ second) good.small (omega (arith, good.vertices_few)) h.arcs_counted h.id good.fields h.util)
+    ∙ rw (graph_read g (codes "* Vertices\n" ++ second) good.small (omega (arith, good.vertices_few)) h.writable.arcs_counted h.writable.id good.fields h.writable.util)
     (rw (all_read (vertex_record_at (head_of g)) vertex_text (IsWrittenVertex g) (λ v more w. vertex_read g v more good.small w.fits w.values) g.vertices good.vertices (codes "* Arcs\n" ++ third))
     (rw (all_read (arc_record_at (head_of g)) arc_text (IsWrittenRecord g) (λ r more w. arc_read g r more good.small w.fits w.values) g.records good.records rest) refl))
 
@@ -204,8 +201,8 @@ are_lines g h =
     let n_few : length g.vertices < 2 ^ 64 = omega (arith, good.vertices_few) in
     let sum = checksum_small g in
     record {
-      head = head_is_line g n_few (omega (arith, h.records_counted));
-      middle = middle_are_lines g good.small n_few (omega (arith, h.arcs_counted)) h.id good.fields h.util good.vertices good.records;
+      head = head_is_line g n_few (omega (arith, h.writable.records_counted));
+      middle = middle_are_lines g good.small n_few (omega (arith, h.writable.arcs_counted)) h.writable.id good.fields h.writable.util good.vertices good.records;
       last = checksum_is_line (checksum_of_lines (middle_lines g)) (omega (arith, sum));
     }
 
@@ -230,7 +227,7 @@ written_is_read g more h =
     let rest = text_of_lines (line ∷ others) in
     let opening : Opening = record { head = head_of g; lines = records ++ line ∷ others } in
     read_by_parts (opening_of (clean_lines (text_of_graph g ++ more))) opening g rest
-    (ap opening_of whole ∙ opened_by (head_line g) (head_of g) (records ++ line ∷ others) (head_read g h.kinds good.vertices_few h.records_counted))
+    (ap opening_of whole ∙ opened_by (head_line g) (head_of g) (records ++ line ∷ others) (head_read g h.writable.kinds good.vertices_few h.writable.records_counted))
     (ap (records_at (head_of g)) (flat_map-append (λ l. l ++ 10 ∷ []) records (line ∷ others)) ∙ records_read g rest h)
     (closed_by (head_of g) records line others one_line (checksum_read (checksum_of_lines records) (checksum_small g)))
     h.graph.lists

@@ -1,142 +1,29 @@
 -- Files and their texts: a text is read as a graph exactly where it is a file of it.
-use Rattle.std.specs.Prelude.{◌≡◌, ◌⊎◌, ℕ, zero, suc, ℤ, pos, neg_ℤ, ◌+◌, ◌-◌, ◌<◌, ◌≤◌, Bool, true, false, cond, not, ◌&&◌, List, [], ◌∷◌, ◌++◌, map, length, take, drop, codes, Option, Some, None, Ok, option_map, filter_map, take_while, All, slice_index, nat_le, ◌==◌, if◌then◌else◌, refl}
-use Rattle.std.specs.List.{list_all, prefix_len, cons_option}
+use Rattle.std.specs.Prelude.{◌≡◌, ◌⊎◌, ℕ, zero, suc, ℤ, pos, neg_ℤ, ◌-◌, ◌<◌, ◌≤◌, Bool, true, false, not, ◌&&◌, List, [], ◌∷◌, ◌++◌, length, take, drop, codes, Option, Some, None, Ok, option_map, All, slice_index, nat_le, ◌==◌, if◌then◌else◌, refl}
+use Rattle.std.specs.List.{list_all}
 use Rattle.std.specs.Option.{option_map_or}
 use Rattle.std.proofs.Common.{ap, sym, subst, ◌∙◌, append_assoc, arith, length-append, inl, inr}
 use Rattle.std.proofs.Math.Seq.{take-append_seam}
 use Rattle.std.proofs.lemmas.Bool.{and_parts, and_from}
 use Rattle.std.proofs.lemmas.Bool.Decides.{nat_tests, Decides-eqb}
 use Rattle.std.proofs.lemmas.Grind.{flat_map-append}
-use Rattle.std.proofs.lemmas.List.{take-append-drop, length-take}
 use Rattle.std.proofs.lemmas.List.Folds.{list_all-append}
 use Rattle.std.proofs.lemmas.List.Elements.{All-head, All-tail, All-cons, All-nil}
 use Rattle.sgb_vec.specs.Limits.{most_vertices}
 use Rattle.sgb_graph.specs.Graphs.{GraphData}
-use Rattle.sgb_graph.specs.declared.fields.Kind.{Kind}
-use Rattle.sgb_graph.specs.declared.fields.Kind.TheVariants.{Z, I, V, S, A}
 use Rattle.sgb_file.specs.FileLines.{lines_of_text, clean_lines, text_of_lines}
 use Rattle.sgb_file.specs.Checksum.{has_star, checksum_of_lines}
 use Rattle.sgb_file.specs.Fields.{Found, is_decimal_digit, number_of, most_number_digits, after_prefix}
 use Rattle.sgb_file.specs.Records.{Head, records_at}
-use Rattle.sgb_file.specs.Restoring.{Opening, kind_of_letter, kinds_at, leading_number, head_of_line, opening_of, checksum_in_line, checksum_agrees, line_closes, closes, graph_of_text}
-use Rattle.sgb_file.specs.Saving.{letter_of}
-use Rattle.sgb_file.specs.Files.{IsFirstLine, IsComment, BeginsWithNoDigit, IsChecksumLine, IsRecord, IsArcRecord, AreRecords, AreRecordsOf, IsFileOf, head_of}
+use Rattle.sgb_file.specs.Restoring.{Opening, leading_number, head_of_line, opening_of, checksum_in_line, checksum_agrees, line_closes, closes, graph_of_text}
+use Rattle.sgb_file.specs.Files.{IsFirstLine, IsComment, IsChecksumLine, IsRecord, IsArcRecord, AreRecords, AreRecordsOf, IsFileOf, head_of}
 use Rattle.sgb_file.proofs.LineLemmas.{is_one_line, is_within_line, lines_read, clean_are_one_line}
-use Rattle.sgb_file.proofs.FoundParts.{was_given, was_mapped, was_let_through, was_chosen}
-use Rattle.sgb_file.proofs.ReadParts.{at_most, number_digits}
+use Rattle.sgb_file.proofs.FoundParts.{prefix_is, was_given, was_mapped, was_chosen}
+use Rattle.sgb_file.proofs.NumberReading.{number_digits}
+use Rattle.sgb_file.proofs.FirstLines.{IsLeading, leading_found, first_line_found}
 use Rattle.sgb_file.proofs.FileReading.{leading_says, kinds_read, opened_by, lines_again}
 use Rattle.sgb_file.proofs.RestoringLemmas.{parts_of_opening, read_by_parts}
-use Rattle.sgb_file.proofs.FieldsAndTexts.{prefix_is, taken_and_left}
 use Rattle.sgb_file.proofs.RecordsAndTexts.{head_found, records_found, records_are_read}
-
--- the kind of a letter is written by it
-letter_is : (c : ℕ) (k : Kind) → kind_of_letter c ≡ Some k → c ≡ letter_of k
-letter_is c k e = by_tests (c == 90) (c == 73) (c == 86) (c == 83) (c == 65) (Decides-eqb c 90).0 (Decides-eqb c 73).0 (Decides-eqb c 86).0 (Decides-eqb c 83).0 (Decides-eqb c 65).0 e
-  where
-    by_tests : (z i v s a : Bool) → (z ≡ true → c ≡ 90) → (i ≡ true → c ≡ 73) → (v ≡ true → c ≡ 86) → (s ≡ true → c ≡ 83) → (a ≡ true → c ≡ 65)
-        → (if z then Some Z else (if i then Some I else (if v then Some V else (if s then Some S else (if a then Some A else None))))) ≡ Some k → c ≡ letter_of k
-    by_tests true i v s a is_z is_i is_v is_s is_a e = let same : Z ≡ k = cc in is_z refl ∙ ap letter_of same
-    by_tests false true v s a is_z is_i is_v is_s is_a e = let same : I ≡ k = cc in is_i refl ∙ ap letter_of same
-    by_tests false false true s a is_z is_i is_v is_s is_a e = let same : V ≡ k = cc in is_v refl ∙ ap letter_of same
-    by_tests false false false true a is_z is_i is_v is_s is_a e = let same : S ≡ k = cc in is_s refl ∙ ap letter_of same
-    by_tests false false false false true is_z is_i is_v is_s is_a e = let same : A ≡ k = cc in is_a refl ∙ ap letter_of same
-    by_tests false false false false false is_z is_i is_v is_s is_a e = absurd cc
-
-no_more_kinds : (letters : List ℕ) → length (filter_map kind_of_letter letters) ≤ length letters
-no_more_kinds [] = omega arith
-no_more_kinds (c ∷ letters) = by_kind (kind_of_letter c) (no_more_kinds letters)
-  where
-    by_kind : (o : Option Kind) → length (filter_map kind_of_letter letters) ≤ length letters → length (cons_option o (filter_map kind_of_letter letters)) ≤ suc (length letters)
-    by_kind None h = omega (arith, h)
-    by_kind (Some k) h = omega (arith, h)
-
--- letters that all stand for kinds are those of the kinds
-all_letters : (letters : List ℕ) → length letters ≤ length (filter_map kind_of_letter letters) → letters ≡ map letter_of (filter_map kind_of_letter letters)
-all_letters [] h = refl
-all_letters (c ∷ letters) h = by_kind (kind_of_letter c) refl h (all_letters letters)
-  where
-    by_kind : (o : Option Kind) → kind_of_letter c ≡ o → suc (length letters) ≤ length (cons_option o (filter_map kind_of_letter letters))
-        → (length letters ≤ length (filter_map kind_of_letter letters) → letters ≡ map letter_of (filter_map kind_of_letter letters))
-        → c ∷ letters ≡ map letter_of (cons_option o (filter_map kind_of_letter letters))
-    by_kind None e h others = absurd (omega (arith, h, no_more_kinds letters))
-    by_kind (Some k) e h others = ap (λ d. d ∷ letters) (letter_is c k e) ∙ ap (λ ls. letter_of k ∷ ls) (others (omega (arith, h)))
-
--- fourteen kinds are those of the letters
-record IsKinds (text : List ℕ) (found : Found (List Kind)) : Type 0 where
-  fourteen : length found.value ≡ 14
-  parts : text ≡ map letter_of found.value ++ found.rest
-
-kinds_found : (text : List ℕ) (found : Found (List Kind)) → kinds_at text ≡ Some found → IsKinds text found
-kinds_found text found e =
-    let letters = take 14 text in
-    let kinds = filter_map kind_of_letter letters in
-    let t = was_let_through (length kinds == 14) (record { value = kinds; rest = drop 14 text }) found e in
-    let fourteen : length kinds ≡ 14 = (Decides-eqb (length kinds) 14).0 t.0 in
-    let short : length letters ≤ 14 = omega (arith, length-take 14 text) in
-    let all : letters ≡ map letter_of kinds = all_letters letters (omega (arith, fourteen, short)) in
-    subst (λ (f : Found (List Kind)). IsKinds text f) t.1 (record {
-      fourteen = fourteen;
-      parts = sym (take-append-drop 14 text) ∙ ap (λ x. x ++ drop 14 text) all;
-    })
-
--- the digits that a text begins with, and what follows them
-record IsLeading (text : List ℕ) (found : Found ℕ) : Type 0 where
-  digits : List ℕ
-  says : number_of most_number_digits digits ≡ Some found.value
-  parts : text ≡ digits ++ found.rest
-  ends : BeginsWithNoDigit found.rest
-
-no_digit_left : (text : List ℕ) → BeginsWithNoDigit (drop (length (take (prefix_len is_decimal_digit text) text)) text)
-no_digit_left [] = tt
-no_digit_left (b ∷ text) = by_test (is_decimal_digit b) refl (no_digit_left text)
-  where
-    by_test : (t : Bool) → is_decimal_digit b ≡ t → BeginsWithNoDigit (drop (length (take (prefix_len is_decimal_digit text) text)) text)
-        → BeginsWithNoDigit (drop (length (take (cond t (1 + prefix_len is_decimal_digit text) 0) (b ∷ text))) (b ∷ text))
-    by_test true e h =
-        let place = prefix_len is_decimal_digit text in
-        let further : suc place ≡ 1 + place = omega arith in
-        subst (λ k. BeginsWithNoDigit (drop (length (take k (b ∷ text))) (b ∷ text))) further h
-    by_test false e h = e
-
-leading_found : (text : List ℕ) (found : Found ℕ) → leading_number text ≡ Some found → IsLeading text found
-leading_found text found e =
-    let digits = take_while is_decimal_digit text in
-    let m = was_mapped (number_of most_number_digits digits) e in
-    subst (λ (f : Found ℕ). IsLeading text f) m.same (record {
-      digits = digits;
-      says = m.here;
-      parts = sym (taken_and_left (prefix_len is_decimal_digit text) text);
-      ends = no_digit_left text;
-    })
-
--- a line that is read as a first line is one
-first_line_found : (line : List ℕ) (head : Head) → head_of_line line ≡ Some head → IsFirstLine head line
-first_line_found line head e =
-    let letters = was_given (after_prefix (codes "* GraphBase graph (util_types ") line) e in
-    let kinds = was_given (kinds_at letters.first) letters.made in
-    let second = was_given (after_prefix (codes ",") kinds.first.rest) kinds.made in
-    let n = was_given (leading_number second.first) second.made in
-    let third = was_given (after_prefix (codes "V,") n.first.rest) n.made in
-    let m = was_given (leading_number third.first) third.made in
-    let anything = was_given (after_prefix (codes "A)") m.first.rest) m.made in
-    let says : Head = record { kinds = kinds.first.value; counts = record { vertices = n.first.value; arcs = m.first.value } } in
-    let through = was_let_through (nat_le n.first.value most_vertices) says head anything.made in
-    let k = kinds_found letters.first kinds.first kinds.here in
-    let n_is = leading_found second.first n.first n.here in
-    let m_is = leading_found third.first m.first m.here in
-    let after_letters = ap (λ x. codes "," ++ x) (n_is.parts ∙ ap (λ x. n_is.digits ++ x) (prefix_is (codes "V,") n.first.rest third.first third.here
-    ∙ ap (λ x. codes "V," ++ x) (m_is.parts ∙ ap (λ x. m_is.digits ++ x) (prefix_is (codes "A)") m.first.rest anything.first anything.here)))) in
-    subst (λ (h : Head). IsFirstLine h line) through.1 (record {
-      n = n_is.digits;
-      m = m_is.digits;
-      anything = anything.first;
-      form = prefix_is (codes "* GraphBase graph (util_types ") line letters.first letters.here
-          ∙ ap (λ x. codes "* GraphBase graph (util_types " ++ x) (k.parts ∙ ap (λ x. map letter_of kinds.first.value ++ x) (prefix_is (codes ",") kinds.first.rest second.first second.here ∙ after_letters));
-      fourteen = k.fourteen;
-      n_says = n_is.says;
-      m_says = m_is.says;
-      few = at_most n.first.value most_vertices through.0;
-    })
 
 -- and a first line is read as one
 first_line_read : (head : Head) (line : List ℕ) → IsFirstLine head line → head_of_line line ≡ Some head
@@ -218,6 +105,18 @@ minus_first : (text : List ℕ) → (slice_index text 0 == 45) ≡ true → text
 minus_first [] h = absurd cc
 minus_first (b ∷ text) h = ap (λ c. c ∷ text) ((Decides-eqb b 45).0 h)
 
+-- a line with a number that agrees is a checksum's
+agreeing_line : (sum : ℕ) (line text : List ℕ) (found : Found ℕ) → IsLeading text found
+    → ((found.value ≡ sum) × (line ≡ codes "* Checksum " ++ text)) ⊎ (((0 < found.value) ⊎ (found.value ≡ sum)) × (line ≡ codes "* Checksum -" ++ text)) → IsChecksumLine sum line
+agreeing_line sum line text found l h = record {
+  digits = l.digits;
+  anything = found.rest;
+  k = found.value;
+  says = l.says;
+  ends = l.ends;
+  form = subst (λ (t : List ℕ). ((found.value ≡ sum) × (line ≡ codes "* Checksum " ++ t)) ⊎ (((0 < found.value) ⊎ (found.value ≡ sum)) × (line ≡ codes "* Checksum -" ++ t))) l.parts h;
+}
+
 -- a line that is read as an agreeing checksum's is one
 checksum_found : (line : List ℕ) (c : ℤ) (lines : List (List ℕ)) → checksum_in_line line ≡ Some c → checksum_agrees c lines ≡ true → IsChecksumLine (checksum_of_lines lines) line
 checksum_found line c lines e agrees =
@@ -229,26 +128,12 @@ checksum_found line c lines e agrees =
         → IsChecksumLine (checksum_of_lines lines) line
     by_sign text true is parts e =
         let m = was_mapped (leading_number (drop 1 text)) e in
-        let l = leading_found (drop 1 text) m.first m.here in
-        record {
-          digits = l.digits;
-          anything = m.first.rest;
-          k = m.first.value;
-          says = l.says;
-          ends = l.ends;
-          form = inr (minus_agrees m.first.value lines (ap (λ i. checksum_agrees i lines) m.same ∙ agrees), parts ∙ ap (λ x. codes "* Checksum " ++ x) (minus_first text is ∙ ap (λ x. 45 ∷ x) l.parts));
-        }
+        agreeing_line (checksum_of_lines lines) line (drop 1 text) m.first (leading_found (drop 1 text) m.first m.here)
+        (inr (minus_agrees m.first.value lines (ap (λ i. checksum_agrees i lines) m.same ∙ agrees), parts ∙ ap (λ x. codes "* Checksum " ++ x) (minus_first text is)))
     by_sign text false is parts e =
         let m = was_mapped (leading_number text) e in
-        let l = leading_found text m.first m.here in
-        record {
-          digits = l.digits;
-          anything = m.first.rest;
-          k = m.first.value;
-          says = l.says;
-          ends = l.ends;
-          form = inl ((Decides-eqb m.first.value (checksum_of_lines lines)).0 (ap (λ i. checksum_agrees i lines) m.same ∙ agrees), parts ∙ ap (λ x. codes "* Checksum " ++ x) l.parts);
-        }
+        agreeing_line (checksum_of_lines lines) line text m.first (leading_found text m.first m.here)
+        (inl ((Decides-eqb m.first.value (checksum_of_lines lines)).0 (ap (λ i. checksum_agrees i lines) m.same ∙ agrees), parts))
 
 -- digits do not begin with a minus
 digits_no_minus : (digits more : List ℕ) (k : ℕ) → number_of most_number_digits digits ≡ Some k → (slice_index (digits ++ more) 0 == 45) ≡ false

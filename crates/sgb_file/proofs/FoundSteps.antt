@@ -1,10 +1,9 @@
 -- Lemmas on readers one after another: a record is read field by field.
-use Rattle.std.specs.Prelude.{◌≡◌, ℕ, ◌+◌, ◌<◌, ◌≤◌, Bool, true, false, List, [], ◌∷◌, ◌++◌, length, take, drop, codes, Option, Some, None, Result, Ok, Err, option_map, ◌==◌, refl}
-use Rattle.std.proofs.Common.{ap, sym, subst, suc, ◌∙◌, append_assoc, append-nil, arith, get_or}
+use Rattle.std.specs.Prelude.{◌≡◌, ℕ, ◌+◌, ◌<◌, ◌≤◌, true, List, [], ◌∷◌, ◌++◌, length, take, drop, codes, Option, Some, None, Err, option_map, ◌==◌, refl}
+use Rattle.std.proofs.Common.{ap, sym, suc, ◌∙◌, append_assoc, append-nil, arith, get_or}
 use Rattle.std.proofs.Common.{set}
 use Rattle.std.proofs.Math.Seq.{drop-cons}
 use Rattle.std.proofs.lemmas.List.{take_more_set, take_all, drop_all}
-use Rattle.sgb_vec.specs.Limits.{most_bytes}
 use Rattle.sgb_vec.specs.declared.panics.Panic.{Panic}
 use Rattle.sgb_vec.specs.declared.panics.Panic.TheVariants.{NoRoom, Early, Late, Syntax, Bad, VeryBad, Invalid}
 use Rattle.std.proofs.lemmas.Bool.Decides.{nat_tests}
@@ -15,12 +14,29 @@ use Rattle.sgb_graph.specs.Sound.{vertex_kinds, arc_kinds, graph_kinds}
 use Rattle.sgb_graph.specs.declared.fields.Kind.{Kind}
 use Rattle.sgb_graph.specs.declared.fields.Kind.TheVariants.{Z, I, V, S, A}
 use Rattle.sgb_graph.specs.declared.fields.Util.{Util}
-use Rattle.sgb_graph.specs.declared.fields.Util.TheVariants.{Nothing, Int, Vertex as VertexField, Str, Chain}
-use Rattle.sgb_graph.specs.declared.fields.Vertex.{Vertex}
-use Rattle.sgb_graph.specs.declared.fields.ArcRec.{ArcRec}
 use Rattle.sgb_file.specs.Fields.{Counts, Found, given, found_as, field_at, most_number_digits, number_of, plain_at, string_at, after_prefix}
 use Rattle.sgb_file.specs.Records.{Head, after_comma, graph_record_at, more_fields_at, record_at, vertex_record_at, vertex_of_fields, arc_record_at, arc_of_fields}
 use Rattle.sgb_file.specs.Found.{IsFoundBy, IsPassedBy, next_field_at}
+
+-- a reader that stops because another one stopped
+pub stops : {X Y : Type 0} (first : Option (Found X)) (all : Option (Found Y)) (p : Panic) (left later : List ℕ) → IsFoundBy first (Err p) left → (first ≡ None → all ≡ None) → IsFoundBy all (Err p) later
+stops first all Syntax left later h f = f h
+stops first all NoRoom left later h f = tt
+stops first all Early left later h f = absurd h
+stops first all Late left later h f = absurd h
+stops first all Bad left later h f = absurd h
+stops first all VeryBad left later h f = absurd h
+stops first all Invalid left later h f = absurd h
+
+-- what is not passed is refused as `Syntax`
+pub passing_stopped : (after : Option (List ℕ)) (p : Panic) (left : List ℕ) → IsPassedBy after (Err p) left → (p ≡ Syntax) × (after ≡ None)
+passing_stopped after Syntax left h = (refl, h)
+passing_stopped after NoRoom left h = absurd h
+passing_stopped after Early left h = absurd h
+passing_stopped after Late left h = absurd h
+passing_stopped after Bad left h = absurd h
+passing_stopped after VeryBad left h = absurd h
+passing_stopped after Invalid left h = absurd h
 
 -- one finding after another
 given-given : {X Y W : Type 0} (o : Option X) (f : X → Option Y) (g : Y → Option W) → given (given o f) g ≡ given o (λ x. given (f x) g)
@@ -130,16 +146,8 @@ pub field_stops : (counts : Counts) (kinds : List Kind) (i : ℕ) (kind d : Kind
     → i < length kinds → kind ≡ get_or kinds i d → whole ≡ with_first first (more_fields_at counts (drop i kinds) text)
     → IsFoundBy (next_field_at counts kind text) (Err e) left → IsFoundBy whole (Err e) after
 field_stops counts kinds i kind d first whole text left after e h is so p =
-    subst (λ (o : Option (Found (List Util))). IsFoundBy o (Err e) after) (sym (so ∙ ap (with_first first) (this_field counts kinds i kind d text h is))) (stops e p) where
-      stops : (e : Panic) → IsFoundBy (next_field_at counts kind text) (Err e) left
-          → IsFoundBy (with_first first (given (next_field_at counts kind text) (λ field. found_as (λ fields. field.value ∷ fields) (more_fields_at counts (drop (i + 1) kinds) field.rest)))) (Err e) after
-      stops Syntax p = rw p refl
-      stops NoRoom p = tt
-      stops Early p = absurd p
-      stops Late p = absurd p
-      stops Bad p = absurd p
-      stops VeryBad p = absurd p
-      stops Invalid p = absurd p
+    stops (next_field_at counts kind text) whole e left after p
+    (λ none. so ∙ ap (with_first first) (this_field counts kinds i kind d text h is ∙ ap (λ o. given o (λ field. found_as (λ fields. field.value ∷ fields) (more_fields_at counts (drop (i + 1) kinds) field.rest))) none))
 
 pub field_read : (counts : Counts) (kinds : List Kind) (i : ℕ) (kind d : Kind) (fields : List Util) (u : Util) (whole : Option (Found (List Util))) (text left : List ℕ)
     → i < length kinds → i < length fields → kind ≡ get_or kinds i d → whole ≡ with_first (take i fields) (more_fields_at counts (drop i kinds) text)
@@ -166,15 +174,8 @@ at_end counts kinds i first whole text h so =
 pub end_stops : (counts : Counts) (kinds : List Kind) (i : ℕ) (first : List Util) (whole : Option (Found (List Util))) (text left after : List ℕ) (e : Panic)
     → length kinds ≤ i → whole ≡ with_first first (more_fields_at counts (drop i kinds) text) → IsPassedBy (after_prefix (codes "\n") text) (Err e) left → IsFoundBy whole (Err e) after
 end_stops counts kinds i first whole text left after e h so p =
-    subst (λ (o : Option (Found (List Util))). IsFoundBy o (Err e) after) (sym (at_end counts kinds i first whole text h so)) (stops e p) where
-      stops : (e : Panic) → IsPassedBy (after_prefix (codes "\n") text) (Err e) left → IsFoundBy (option_map (λ rest. record { value = first; rest = rest }) (after_prefix (codes "\n") text)) (Err e) after
-      stops Syntax p = rw p refl
-      stops NoRoom p = tt
-      stops Early p = absurd p
-      stops Late p = absurd p
-      stops Bad p = absurd p
-      stops VeryBad p = absurd p
-      stops Invalid p = absurd p
+    let stopped = passing_stopped (after_prefix (codes "\n") text) e left p in
+    rw stopped.0 (at_end counts kinds i first whole text h so ∙ ap (λ (o : Option (List ℕ)). option_map (λ rest. record { value = first; rest = rest }) o) stopped.1)
 
 pub end_read : (counts : Counts) (kinds : List Kind) (i : ℕ) (fields : List Util) (whole : Option (Found (List Util))) (text left : List ℕ)
     → length kinds ≤ i → length fields ≤ i → whole ≡ with_first (take i fields) (more_fields_at counts (drop i kinds) text) → after_prefix (codes "\n") text ≡ Some left

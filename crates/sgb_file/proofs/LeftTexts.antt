@@ -1,6 +1,6 @@
 -- Lemmas on the text that is left of a file's lines.
-use Rattle.std.specs.Prelude.{◌≡◌, ℕ, zero, suc, ◌+◌, ◌<◌, ◌≤◌, Bool, true, false, cond, not, ◌||◌, ◌&&◌, List, [], ◌∷◌, ◌++◌, length, take, drop, codes, Option, Some, None, ◌==◌, slice_get, is_some, unwrap_or, refl}
-use Rattle.std.specs.List.{list_any, list_all, position_or_len, before_first, after_first}
+use Rattle.std.specs.Prelude.{◌≡◌, ℕ, suc, ◌+◌, ◌<◌, ◌≤◌, Bool, true, false, cond, not, ◌||◌, ◌&&◌, List, [], ◌∷◌, ◌++◌, length, take, drop, codes, Some, None, ◌==◌, slice_get, refl}
+use Rattle.std.specs.List.{list_any, list_all, position_or_len, before_first}
 use Rattle.std.specs.Option.{option_map_or}
 use Rattle.std.proofs.Common.{ap, sym, ◌∙◌, append_assoc, arith}
 use Rattle.std.proofs.lemmas.Bool.{and_parts}
@@ -33,6 +33,9 @@ no_line_end (b ∷ line) more h some =
     let byte = and_parts (not (b == 10)) (has_no_newline line) h in
     let same = not_true (b == 10) byte.0 in
     let e : (10 == b) ≡ false = grind (arith, nat_tests) in rw e refl
+
+pub line_goes_on : (s : LinesLeft) (line : List ℕ) → Some line ≡ s.line → has_no_newline line ≡ true → 0 < length line → after_prefix (codes "\n") (text_left s) ≡ None
+line_goes_on s line e h some = ap (after_prefix (codes "\n")) (under_way s line e) ∙ no_line_end line (10 ∷ text_of_lines s.others) h some
 
 -- a list none of whose elements passes before its end
 none_step : (t u : Bool) (n k : ℕ) → suc n ≤ cond t (1 + k) 0 → (n ≤ k → u ≡ true) → (t && u) ≡ true

@@ -2,6 +2,7 @@
 pub mod ChecksumLemmas
 pub mod RestoringLemmas
 pub mod FoundParts
+pub mod FirstLines
 pub mod ReadParts
 pub mod FieldsAndTexts
 pub mod RecordsAndTexts

@@ -1,7 +1,7 @@
--- Lemmas on the lines that are left of a file: their text after a step, their checksum, and that a line has no newlines.
-use Rattle.std.proofs.Common.{◌≡◌, ◌<◌, ◌≤◌, ◌++◌, ◌∙◌, ℕ, Bool, true, false, Bor, List, [], ◌∷◌, Option, Some, None, length, take, drop, map, slice_index, not, ◌&&◌, ◌+◌, ◌-◌, ◌≢◌, All, unwrap_or, cond, ◌==◌, refl, sym, ap, subst, append_assoc, append-nil, zero, suc, arith, nat_lt, IsTrue, IfSome, option_map}
+-- Lemmas on the lines that are left of a file: their checksum, and that a line has no newlines.
+use Rattle.std.proofs.Common.{◌≡◌, ◌<◌, ◌≤◌, ◌++◌, ◌∙◌, ℕ, Bool, true, false, Bor, List, [], ◌∷◌, Option, Some, None, length, take, drop, map, slice_index, not, ◌&&◌, ◌+◌, ◌-◌, ◌≢◌, All, unwrap_or, cond, ◌==◌, refl, sym, ap, subst, append_assoc, append-nil, suc, arith, nat_lt, IsTrue, IfSome, option_map}
 use Rattle.std.specs.List.{list_all, slice_split, position_or_len, position, before_first, after_first}
-use Rattle.std.proofs.lemmas.List.{drop-append-le, drop_more, drop_all, take-append-drop, take_all, length-drop}
+use Rattle.std.proofs.lemmas.List.{drop_more, drop_all, take-append-drop, take_all, length-drop}
 use Rattle.std.proofs.lemmas.List.Folds.{list_all-append}
 use Rattle.std.proofs.lemmas.List.Splits.{slice_split_first, slice_split_none}
 use Rattle.std.proofs.lemmas.List.Sums.{fails_before_first, prefix_len-le-length}
@@ -9,24 +9,11 @@ use Rattle.std.proofs.lemmas.List.Elements.{All-from_get_or}
 use Rattle.std.proofs.lemmas.Bool.{and_parts}
 use Rattle.std.proofs.lemmas.Bool.Decides.{nat_tests, Decides-eqb}
 use Rattle.sgb_file.specs.FileLines.{lines_among, lines_of_text, clean_lines, text_of_lines, without_end_spaces}
-use Rattle.sgb_file.specs.Checksum.{checksum_of_lines}
 use Rattle.sgb_file.specs.Layouts.{checksum_from, counted_bytes}
-use Rattle.sgb_file.specs.LinesLeft.{LinesLeft, text_left, skipped, next_begun, has_no_newline, HasPassed, AreLinesLeft, lines_left, lines_still}
+use Rattle.sgb_file.specs.LinesLeft.{text_left, next_begun, has_no_newline, HasPassed, AreLinesLeft, lines_left, lines_still}
 use Rattle.sgb_file.proofs.LineLemmas.{clean_are_one_line, is_one_line, is_within_line, ends_well, ends_well-last, list_all-drop, first_line, some_part, line_read, lines_read}
 use Rattle.sgb_file.proofs.LaidLines.{checksum_from-append, counted-append}
 use Rattle.sgb_file.proofs.WholeText.{checksum-whole}
-
--- what is skipped in the line under way is skipped in the text
-pub text_left-skipped : (count : ℕ) (s : LinesLeft) (line : List ℕ) → s.line ≡ Some line → count ≤ length line → text_left (skipped count s) ≡ drop count (text_left s)
-text_left-skipped count s line e h = rw e (sym (drop-append-le count line (10 ∷ text_of_lines s.others) h))
-
--- the next line begins after the newline
-pub text_left-next_begun : (s : LinesLeft) → s.line ≡ Some [] → text_left (next_begun s) ≡ drop 1 (text_left s)
-text_left-next_begun s e = rw e (first s.others)
-  where
-    first : (others : List (List ℕ)) → text_left (next_begun (record { all = s.all; line = s.line; others = others })) ≡ text_of_lines others
-    first [] = refl
-    first (line ∷ others) = sym (append_assoc line (10 ∷ []) (text_of_lines others))
 
 -- the checksum after one more line that was passed
 pub passes_line : (all : List (List ℕ)) (line : List ℕ) (left : List (List ℕ)) (before after : ℕ) → HasPassed all (line ∷ left) before
@@ -46,15 +33,22 @@ pub passed_line : (all : List ℕ) (line : Option (List ℕ)) (begun rest : List
 passed_line all None begun rest sum l h e = absurd cc
 passed_line all (Some line) begun rest sum l h e = h.0
 
+-- the line that was begun is one, and so are those after it
+begun_lines : (all begun rest : List ℕ) (sum : ℕ) → HasPassed (clean_lines all) (begun ∷ clean_lines rest) sum → (is_one_line begun ≡ true) × (list_all is_one_line (clean_lines rest) ≡ true)
+begun_lines all begun rest sum h =
+    let lines : list_all is_one_line (h.passed ++ begun ∷ clean_lines rest) ≡ true = subst (λ ls. list_all is_one_line ls ≡ true) h.made (clean_are_one_line all) in
+    let last = and_parts (list_all is_one_line h.passed) (list_all is_one_line (begun ∷ clean_lines rest)) (sym (list_all-append is_one_line h.passed (begun ∷ clean_lines rest)) ∙ lines) in
+    and_parts (is_one_line begun) (list_all is_one_line (clean_lines rest)) last.1
+
 -- what is left of a line has no newlines
+left_is_line : (all line begun rest : List ℕ) (sum : ℕ) → AreLinesLeft all (Some line) begun rest sum → is_one_line line ≡ true
+left_is_line all line begun rest sum h =
+    subst (λ l. is_one_line l ≡ true) (sym h.2) (list_all-drop is_within_line h.1 begun (begun_lines all begun rest sum h.0).0)
+
 pub left_in_line : (all : List ℕ) (line : Option (Bor (List ℕ))) (begun rest : List ℕ) (sum : ℕ)
     → AreLinesLeft all (option_map (λ l. l.now) line) begun rest sum → IfSome line (λ l. IsTrue (has_no_newline l.now))
 left_in_line all None begun rest sum h = tt
-left_in_line all (Some line) begun rest sum h =
-    let lines : list_all is_one_line (h.0.passed ++ begun ∷ clean_lines rest) ≡ true = subst (λ ls. list_all is_one_line ls ≡ true) h.0.made (clean_are_one_line all) in
-    let last = and_parts (list_all is_one_line h.0.passed) (list_all is_one_line (begun ∷ clean_lines rest)) (sym (list_all-append is_one_line h.0.passed (begun ∷ clean_lines rest)) ∙ lines) in
-    let first = and_parts (is_one_line begun) (list_all is_one_line (clean_lines rest)) last.1 in
-    subst (λ l. is_one_line l ≡ true) (sym h.2) (list_all-drop is_within_line h.1 begun first.0)
+left_in_line all (Some line) begun rest sum h = left_is_line all line.now begun rest sum h
 
 -- the place of the first that passes, or the length
 pub position-unwrapped : {X : Type 0} (p : X → Bool) (xs : List X) → unwrap_or (position p xs) (length xs) ≡ position_or_len p xs
@@ -154,14 +148,6 @@ pub left_lines : (all : List ℕ) (line : Option (List ℕ)) (begun rest : List 
 unfolding lines_among
 left_lines all None begun rest sum h = refl
 left_lines all (Some line) begun rest sum h =
-    let lines : list_all is_one_line (h.0.passed ++ begun ∷ clean_lines rest) ≡ true = subst (λ ls. list_all is_one_line ls ≡ true) h.0.made (clean_are_one_line all) in
-    let last = and_parts (list_all is_one_line h.0.passed) (list_all is_one_line (begun ∷ clean_lines rest)) (sym (list_all-append is_one_line h.0.passed (begun ∷ clean_lines rest)) ∙ lines) in
-    let first = and_parts (is_one_line begun) (list_all is_one_line (clean_lines rest)) last.1 in
-    let one : is_one_line line ≡ true = subst (λ l. is_one_line l ≡ true) (sym h.2) (list_all-drop is_within_line h.1 begun first.0) in
-    line_read line (text_of_lines (clean_lines rest)) one
-    ∙ ap (λ ls. line ∷ ls) (ap lines_of_text (sym (append-nil (text_of_lines (clean_lines rest)))) ∙ lines_read (clean_lines rest) [] first.1 ∙ append-nil (clean_lines rest))
-
--- the text of lines of which the first one is begun
-pub begun_text : (all others : List (List ℕ)) → text_left (next_begun (record { all = all; line = None; others = others })) ≡ text_of_lines others
-begun_text all [] = refl
-begun_text all (line ∷ others) = sym (append_assoc line (10 ∷ []) (text_of_lines others))
+    let after = (begun_lines all begun rest sum h.0).1 in
+    line_read line (text_of_lines (clean_lines rest)) (left_is_line all line begun rest sum h)
+    ∙ ap (λ ls. line ∷ ls) (ap lines_of_text (sym (append-nil (text_of_lines (clean_lines rest)))) ∙ lines_read (clean_lines rest) [] after ∙ append-nil (clean_lines rest))

@@ -1,16 +1,17 @@
 -- Lemmas on numbers that are read digit by digit.
-use Rattle.std.specs.Prelude.{◌≡◌, ℕ, zero, suc, ◌+◌, ◌-◌, ◌*◌, ◌^◌, ◌<◌, ◌≤◌, true, false, ◌&&◌, List, [], ◌∷◌, length, take, nat_le, nat_lt, refl}
+use Rattle.std.specs.Prelude.{◌≡◌, ℕ, zero, suc, ◌+◌, ◌-◌, ◌*◌, ◌^◌, ◌<◌, ◌≤◌, true, false, ◌&&◌, List, [], ◌∷◌, Some, length, take, nat_le, nat_lt}
 use Rattle.std.specs.Char.{digit_value}
 use Rattle.std.specs.List.{list_all}
 use Rattle.std.specs.Str.Parse.{AllDigits, digits_value}
-use Rattle.std.proofs.Common.{get_or, arith, ap, ◌∙◌}
+use Rattle.std.proofs.Common.{get_or, arith, subst}
 use Rattle.std.proofs.lemmas.Bool.{and_parts}
 use Rattle.std.proofs.lemmas.Bool.Decides.{nat_tests}
 use Rattle.std.proofs.lemmas.Int.Digits.{digits_value_more, digits_value-lt}
 use Rattle.std.proofs.lemmas.Str.Parse.{digits_value-take-le}
 use native.Mathlib.Nat.{pow-le-pow_right}
 use Rattle.std.proofs.Common.{lt_of_lt_of_le}
-use Rattle.sgb_file.specs.Fields.{is_decimal_digit}
+use Rattle.sgb_file.specs.Fields.{is_decimal_digit, number_of}
+use Rattle.sgb_file.proofs.FoundParts.{was_let_through}
 
 -- a decimal digit, and its value
 record IsDigit (b : ℕ) : Type 0 where
@@ -47,6 +48,23 @@ digit_at (b ∷ text) (suc i) h within =
 pub value_below : (text : List ℕ) (most : ℕ) → list_all is_decimal_digit text ≡ true → length text ≤ most → digits_value 10 text < 10 ^ most
 value_below text most h short =
     lt_of_lt_of_le (digits_value-lt 10 text (all_digits text h)) (pow-le-pow_right (omega arith) short)
+
+pub at_most : (n k : ℕ) → nat_le n k ≡ true → n ≤ k
+at_most n k h = grind (arith, nat_tests)
+
+-- a number's text is digits
+pub number_digits : (most : ℕ) (text : List ℕ) (n : ℕ) → number_of most text ≡ Some n → list_all is_decimal_digit text ≡ true
+number_digits most text n e =
+    let p = was_let_through (nat_lt 0 (length text) && nat_le (length text) most && list_all is_decimal_digit text) (digits_value 10 text) n e in
+    (and_parts (nat_lt 0 (length text) && nat_le (length text) most) (list_all is_decimal_digit text) p.0).1
+
+-- a number of so many digits
+pub number_is_small : (most : ℕ) (text : List ℕ) (n : ℕ) → number_of most text ≡ Some n → n < 10 ^ most
+number_is_small most text n e =
+    let p = was_let_through (nat_lt 0 (length text) && nat_le (length text) most && list_all is_decimal_digit text) (digits_value 10 text) n e in
+    let parts = and_parts (nat_lt 0 (length text) && nat_le (length text) most) (list_all is_decimal_digit text) p.0 in
+    let short = (and_parts (nat_lt 0 (length text)) (nat_le (length text) most) parts.0).1 in
+    subst (λ (k : ℕ). k < 10 ^ most) p.1 (value_below text most parts.1 (at_most (length text) most short))
 
 -- one more digit of at most 20
 pub record NextDigit (digits : List ℕ) (i : ℕ) : Type 0 where

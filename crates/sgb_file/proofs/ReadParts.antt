@@ -1,14 +1,12 @@
 -- What is read of a file's records: fields that fit their kinds, texts and numbers within their limits.
-use Rattle.std.specs.Prelude.{◌≡◌, ℕ, zero, suc, ℤ, pos, neg_ℤ, ◌^◌, ◌<◌, ◌≤◌, Bool, true, false, ◌&&◌, List, [], ◌∷◌, length, codes, filter_map, take, drop, take_while, Option, Some, None, Ok, Err, option_map, All, FitsSigned, nat_lt, nat_le, ◌==◌, if◌then◌else◌, refl}
+use Rattle.std.specs.Prelude.{◌≡◌, ℕ, zero, suc, ℤ, pos, neg_ℤ, ◌^◌, ◌<◌, ◌≤◌, Bool, true, false, ◌&&◌, List, [], ◌∷◌, length, codes, Option, Some, None, Ok, Err, option_map, All, FitsSigned, nat_lt, nat_le, ◌==◌, if◌then◌else◌, refl}
 use Rattle.std.specs.Int.{w64, IsInRange}
 use Rattle.std.specs.List.{list_all, list_any, before_first, after_first}
 use Rattle.std.specs.Str.{bytes_eq}
-use Rattle.std.specs.Str.Parse.{digits_value}
 use Rattle.std.proofs.Common.{ap, sym, subst, ◌∙◌, arith}
 use Rattle.std.proofs.lemmas.Bool.{and_parts, and_from}
-use Rattle.std.proofs.lemmas.Bool.Decides.{nat_tests, Decides-eqb}
+use Rattle.std.proofs.lemmas.Bool.Decides.{nat_tests}
 use Rattle.std.proofs.lemmas.List.Elements.{All-head, All-tail, All-cons, All-nil}
-use Rattle.std.proofs.lemmas.Str.Parse.{IsDigitsTest, numerals_by_value, digits_value_short}
 use Rattle.sgb_vec.specs.Limits.{most_vertices, most_bytes}
 use Rattle.sgb_vec.specs.Names.{IsTextByte}
 use Rattle.sgb_vec.specs.declared.panics.Panic.TheVariants.{Syntax}
@@ -26,48 +24,15 @@ use Rattle.sgb_graph.specs.declared.fields.Vertex.{Vertex}
 use Rattle.sgb_graph.specs.declared.fields.ArcRec.{ArcRec}
 use Rattle.sgb_file.specs.FileLines.{clean_lines, text_of_lines}
 use Rattle.sgb_file.specs.Checksum.{has_star}
-use Rattle.sgb_file.specs.Fields.{Counts, Found, given, is_decimal_digit, number_of, number_below, most_number_digits, integer_of, ref_of, record_number_of, is_string_byte, unbroken, string_of, string_at, plain_text, plain_at, field_at, after_prefix}
+use Rattle.sgb_file.specs.Fields.{Counts, Found, given, number_of, number_below, most_number_digits, integer_of, ref_of, record_number_of, is_string_byte, unbroken, string_of, string_at, plain_text, plain_at, field_at, after_prefix}
 use Rattle.sgb_file.specs.Records.{Head, after_comma, more_fields_at, record_at, graph_record_at, vertex_of_fields, vertex_record_at, arc_of_fields, arc_record_at, all_at, records_at}
-use Rattle.sgb_file.specs.Restoring.{Opening, kinds_at, kind_of_letter, leading_number, head_of_line, opening_of, graph_of_records, graph_of_text}
+use Rattle.sgb_file.specs.Restoring.{Opening, head_of_line, opening_of, graph_of_records, graph_of_text}
 use Rattle.sgb_file.specs.Saved.{number_limit, ValueCanBeSaved, VertexCanBeSaved, ArcCanBeSaved, CanBeChecked, CanBeSaved}
 use Rattle.sgb_file.specs.Files.{head_of}
-use Rattle.sgb_file.proofs.FoundParts.{was_given, was_mapped, was_found_as, was_let_through, was_chosen}
+use Rattle.sgb_file.proofs.FoundParts.{own_parts, was_given, was_mapped, was_found_as, was_let_through, was_chosen}
 use Rattle.sgb_file.proofs.RestoringLemmas.{parts_of_opening}
-
--- digits as std has them
-digit_in_range : (b : ℕ) → is_decimal_digit b ≡ true → IsInRange 48 57 b
-digit_in_range b h =
-    let low : 48 ≤ b = grind (arith, nat_tests) in
-    let high : b ≤ 57 = grind (arith, nat_tests) in
-    (low, high)
-
-digit_from_range : (b : ℕ) → IsInRange 48 57 b → is_decimal_digit b ≡ true
-digit_from_range b h = let low = h.0 in let high = h.1 in grind (arith, nat_tests)
-
-pub tells_decimal_digits : IsDigitsTest (λ ds. list_all is_decimal_digit ds ≡ true)
-tells_decimal_digits = record {
-  empty = refl;
-  parts = λ c cs e. let p = and_parts (is_decimal_digit c) (list_all is_decimal_digit cs) e in (digit_in_range c p.0, p.1);
-  more = λ c cs k e. and_from (is_decimal_digit c) (list_all is_decimal_digit cs) (digit_from_range c k) e;
-}
-
-pub at_most : (n k : ℕ) → nat_le n k ≡ true → n ≤ k
-at_most n k h = grind (arith, nat_tests)
-
--- a number's text is digits
-pub number_digits : (most : ℕ) (text : List ℕ) (n : ℕ) → number_of most text ≡ Some n → list_all is_decimal_digit text ≡ true
-number_digits most text n e =
-    let p = was_let_through (nat_lt 0 (length text) && nat_le (length text) most && list_all is_decimal_digit text) (digits_value 10 text) n e in
-    (and_parts (nat_lt 0 (length text) && nat_le (length text) most) (list_all is_decimal_digit text) p.0).1
-
--- a number of so many digits
-pub number_is_small : (most : ℕ) (text : List ℕ) (n : ℕ) → number_of most text ≡ Some n → n < 10 ^ most
-number_is_small most text n e =
-    let p = was_let_through (nat_lt 0 (length text) && nat_le (length text) most && list_all is_decimal_digit text) (digits_value 10 text) n e in
-    let parts = and_parts (nat_lt 0 (length text) && nat_le (length text) most) (list_all is_decimal_digit text) p.0 in
-    let short = (and_parts (nat_lt 0 (length text)) (nat_le (length text) most) parts.0).1 in
-    subst (λ (k : ℕ). k < 10 ^ most) p.1
-    (digits_value_short (numerals_by_value (λ ds. list_all is_decimal_digit ds ≡ true) tells_decimal_digits) text most parts.1 (at_most (length text) most short))
+use Rattle.sgb_file.proofs.NumberReading.{at_most, number_is_small}
+use Rattle.sgb_file.proofs.FirstLines.{first_line_found}
 
 -- a number below a limit
 below_passes : (limit : ℕ) (text : List ℕ) (k : ℕ) → number_below limit text ≡ Some k → nat_lt k limit ≡ true
@@ -335,21 +300,13 @@ pub record OwnFits (head : Head) (g : GraphData) : Type 0 where
 
 pub own_found : (head : Head) (text : List ℕ) (found : Found GraphData) → graph_record_at head text ≡ Some found → OwnFits head found.value
 own_found head text found e =
-    let number = plain_at (number_of most_number_digits) in
-    let id = was_given (string_at most_id_bytes text) e in
-    let second = was_given (after_comma id.first.rest) id.made in
-    let n = was_given (number second.first) second.made in
-    let third = was_given (after_comma n.first.rest) n.made in
-    let m = was_given (number third.first) third.made in
-    let util = was_given (more_fields_at head.counts (graph_kinds head.kinds) m.first.rest) m.made in
-    let g : GraphData = record { id = id.first.value; m = m.first.value; kinds = head.kinds; util = util.first.value; vertices = []; records = [] } in
-    let through = was_let_through (n.first.value == head.counts.vertices) (record { value = g; rest = util.first.rest }) found util.made in
-    let text_is = string_found most_id_bytes text id.first id.here in
-    subst (λ (f : Found GraphData). OwnFits head f.value) through.1 (record {
+    let p = own_parts head text found e in
+    let id = string_found most_id_bytes text p.id p.id_here in
+    subst (λ (f : Found GraphData). OwnFits head f.value) p.same (record {
       kinds = refl;
-      id = record { short = text_is.0; printable = text_is.1 };
-      arcs_counted = number_is_small most_number_digits (plain_text third.first) m.first.value (plain_said (number_of most_number_digits) third.first m.first m.here);
-      fields = more_found head.counts (graph_kinds head.kinds) m.first.rest util.first util.here;
+      id = record { short = id.0; printable = id.1 };
+      arcs_counted = number_is_small most_number_digits (plain_text p.third) p.m.value (plain_said (number_of most_number_digits) p.third p.m p.m_here);
+      fields = more_found head.counts (graph_kinds head.kinds) p.m.rest p.util p.util_here;
     })
 
 -- all that the records of a file say
@@ -361,23 +318,8 @@ pub record IsGoodHead (head : Head) : Type 0 where
 -- a first line within the limits
 pub head_is_good : (line : List ℕ) (head : Head) → head_of_line line ≡ Some head → IsGoodHead head
 head_is_good line head e =
-    let letters = was_given (after_prefix (codes "* GraphBase graph (util_types ") line) e in
-    let kinds = was_given (kinds_at letters.first) letters.made in
-    let second = was_given (after_prefix (codes ",") kinds.first.rest) kinds.made in
-    let n = was_given (leading_number second.first) second.made in
-    let third = was_given (after_prefix (codes "V,") n.first.rest) n.made in
-    let m = was_given (leading_number third.first) third.made in
-    let anything = was_given (after_prefix (codes "A)") m.first.rest) m.made in
-    let counts : Counts = record { vertices = n.first.value; arcs = m.first.value } in
-    let through = was_let_through (nat_le n.first.value most_vertices) (record { kinds = kinds.first.value; counts = counts }) head anything.made in
-    let letter_kinds = filter_map kind_of_letter (take 14 letters.first) in
-    let fourteen = was_let_through (length letter_kinds == 14) (record { value = letter_kinds; rest = drop 14 letters.first }) kinds.first kinds.here in
-    let number = was_mapped (number_of most_number_digits (take_while is_decimal_digit third.first)) m.here in
-    subst IsGoodHead through.1 (record {
-      vertices = at_most n.first.value most_vertices through.0;
-      kinds = ap (λ f. length f.value) (sym fourteen.1) ∙ (Decides-eqb (length letter_kinds) 14).0 fourteen.0;
-      arcs = subst (λ (f : Found ℕ). f.value < number_limit) number.same (number_is_small most_number_digits (take_while is_decimal_digit third.first) number.first number.here);
-    })
+    let says = first_line_found line head e in
+    record { vertices = says.few; kinds = says.fourteen; arcs = number_is_small most_number_digits says.m head.counts.arcs says.m_says }
 
 pub opening_is_good : (lines : List (List ℕ)) (opening : Opening) → opening_of lines ≡ Some opening → IsGoodHead opening.head
 unfolding opening_of
@@ -415,28 +357,47 @@ parts_can_be_checked g good own vertices records =
       vertices_fit = few (length g.vertices) good.vertices;
       fields = and_from (utils && list_all (vertex_fits g) g.vertices) (list_all (record_fits g) g.records)
           (and_from utils (list_all (vertex_fits g) g.vertices) own.fields.fits nodes) arcs;
-      kinds = good.kinds;
-      id = own.id;
-      arcs_counted = own.arcs_counted;
-      records_counted = good.arcs;
-      util = own.fields.values;
-      vertices = all_follow IsVertex VertexCanBeSaved (λ v h. h.saved) g.vertices vertices;
-      records = all_follow IsArc ArcCanBeSaved (λ r h. h.saved) g.records records;
+      writable = record {
+        kinds = good.kinds;
+        id = own.id;
+        arcs_counted = own.arcs_counted;
+        records_counted = good.arcs;
+        util = own.fields.values;
+        vertices = all_follow IsVertex VertexCanBeSaved (λ v h. h.saved) g.vertices vertices;
+        records = all_follow IsArc ArcCanBeSaved (λ r h. h.saved) g.records records;
+      };
     }
   where
     few : (n : ℕ) → n ≤ most_vertices → nat_le n most_vertices ≡ true
     few n h = grind (arith, nat_tests)
 
 -- the counts of a first line are those of the records after it
-pub head_again : (head : Head) (g : GraphData) → g.kinds ≡ head.kinds → length g.vertices ≡ head.counts.vertices → length g.records ≡ head.counts.arcs → head ≡ head_of g
+head_again : (head : Head) (g : GraphData) → g.kinds ≡ head.kinds → length g.vertices ≡ head.counts.vertices → length g.records ≡ head.counts.arcs → head ≡ head_of g
 head_again head g kinds vertices arcs =
     sym (ap (λ ks. record { kinds = ks; counts = record { vertices = length g.vertices; arcs = length g.records } }) kinds
     ∙ ap (λ n. record { kinds = head.kinds; counts = record { vertices = n; arcs = length g.records } }) vertices
     ∙ ap (λ m. record { kinds = head.kinds; counts = record { vertices = head.counts.vertices; arcs = m } }) arcs)
 
--- so can what the records of a file say
-pub records_can_be_checked : (head : Head) (text : List ℕ) (found : Found GraphData) → IsGoodHead head → records_at head text ≡ Some found → CanBeChecked found.value
-records_can_be_checked head text found good e =
+-- what each part of a file's records says; the first line that they are read with says what the graph has
+pub record RecordParts (head : Head) (text : List ℕ) (found : Found GraphData) : Type 0 where
+  pub own : Found GraphData
+  pub second : List ℕ
+  pub vertices : Found (List Vertex)
+  pub third : List ℕ
+  pub arcs : Found (List ArcRec)
+  pub own_here : graph_record_at head text ≡ Some own
+  pub second_here : after_prefix (codes "* Vertices\n") own.rest ≡ Some second
+  pub vertices_here : all_at (vertex_record_at head) head.counts.vertices second ≡ Some vertices
+  pub third_here : after_prefix (codes "* Arcs\n") vertices.rest ≡ Some third
+  pub arcs_here : all_at (arc_record_at head) head.counts.arcs third ≡ Some arcs
+  pub own_fits : OwnFits head own.value
+  pub vertices_fit : AllFit (VertexFits head.counts head.kinds) head.counts.vertices vertices.value
+  pub arcs_fit : AllFit (ArcFits head.counts head.kinds) head.counts.arcs arcs.value
+  pub counted : head ≡ head_of (record own.value { vertices = vertices.value; records = arcs.value })
+  pub same : record { value = record own.value { vertices = vertices.value; records = arcs.value }; rest = arcs.rest } ≡ found
+
+pub record_parts : (head : Head) (text : List ℕ) (found : Found GraphData) → records_at head text ≡ Some found → RecordParts head text found
+record_parts head text found e =
     let own = was_given (graph_record_at head text) e in
     let second = was_given (after_prefix (codes "* Vertices\n") own.first.rest) own.made in
     let nodes = was_given (all_at (vertex_record_at head) head.counts.vertices second.first) second.made in
@@ -445,14 +406,36 @@ records_can_be_checked head text found good e =
     let o = own_found head text own.first own.here in
     let vs = all_found (vertex_record_at head) (VertexFits head.counts head.kinds) (vertex_found head) head.counts.vertices second.first nodes.first nodes.here in
     let rs = all_found (arc_record_at head) (ArcFits head.counts head.kinds) (arc_found head) head.counts.arcs third.first arcs.first arcs.here in
-    let g = record own.first.value { vertices = nodes.first.value; records = arcs.first.value } in
-    let same = head_again head g o.kinds vs.count rs.count in
-    subst (λ (f : Found GraphData). CanBeChecked f.value) arcs.same
+    record {
+      own = own.first;
+      second = second.first;
+      vertices = nodes.first;
+      third = third.first;
+      arcs = arcs.first;
+      own_here = own.here;
+      second_here = second.here;
+      vertices_here = nodes.here;
+      third_here = third.here;
+      arcs_here = arcs.here;
+      own_fits = o;
+      vertices_fit = vs;
+      arcs_fit = rs;
+      counted = head_again head (record own.first.value { vertices = nodes.first.value; records = arcs.first.value }) o.kinds vs.count rs.count;
+      same = arcs.same;
+    }
+
+-- what the records of a file say can be checked
+pub records_can_be_checked : (head : Head) (text : List ℕ) (found : Found GraphData) → IsGoodHead head → records_at head text ≡ Some found → CanBeChecked found.value
+records_can_be_checked head text found good e =
+    let p = record_parts head text found e in
+    let o = p.own_fits in
+    let g = record p.own.value { vertices = p.vertices.value; records = p.arcs.value } in
+    subst (λ (f : Found GraphData). CanBeChecked f.value) p.same
     (parts_can_be_checked g
-    (subst IsGoodHead same good)
-    (subst (λ h. OwnFits h g) same (record { kinds = o.kinds; id = o.id; arcs_counted = o.arcs_counted; fields = o.fields }))
-    (subst (λ (h : Head). All (VertexFits h.counts h.kinds) g.vertices) same vs.each)
-    (subst (λ (h : Head). All (ArcFits h.counts h.kinds) g.records) same rs.each))
+    (subst IsGoodHead p.counted good)
+    (subst (λ h. OwnFits h g) p.counted (record { kinds = o.kinds; id = o.id; arcs_counted = o.arcs_counted; fields = o.fields }))
+    (subst (λ (h : Head). All (VertexFits h.counts h.kinds) g.vertices) p.counted p.vertices_fit.each)
+    (subst (λ (h : Head). All (ArcFits h.counts h.kinds) g.records) p.counted p.arcs_fit.each))
 
 -- so what is read of records passes the check where its lists are sound, and is refused for nothing else
 pub opened_can_be_checked : (lines : List (List ℕ)) (opening : Opening) (found : Found GraphData) → opening_of lines ≡ Some opening → graph_of_records opening ≡ Some found → CanBeChecked found.value
@@ -473,13 +456,7 @@ read_is_checked lines opening found opens says = fit_is_checked found.value (ope
 pub sound_can_be_saved : (g : GraphData) → CanBeChecked g → is_sound g ≡ true → CanBeSaved g
 sound_can_be_saved g h sound = record {
   graph = record { vertices_fit = h.vertices_fit; fields = h.fields; lists = sound };
-  kinds = h.kinds;
-  id = h.id;
-  arcs_counted = h.arcs_counted;
-  records_counted = h.records_counted;
-  util = h.util;
-  vertices = h.vertices;
-  records = h.records;
+  writable = h.writable;
 }
 
 pub read_can_be_saved : (g : GraphData) (text : List ℕ) → graph_of_text text ≡ Ok g → CanBeSaved g

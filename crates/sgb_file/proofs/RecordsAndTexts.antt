@@ -11,13 +11,13 @@ use Rattle.sgb_graph.specs.declared.fields.Util.{Util}
 use Rattle.sgb_graph.specs.declared.fields.Util.TheVariants.{Nothing}
 use Rattle.sgb_graph.specs.declared.fields.Vertex.{Vertex}
 use Rattle.sgb_graph.specs.declared.fields.ArcRec.{ArcRec}
-use Rattle.sgb_file.specs.Fields.{Counts, Found, given, found_as, number_of, most_number_digits, string_at, plain_at, field_at, after_prefix}
+use Rattle.sgb_file.specs.Fields.{Counts, Found, given, found_as, number_of, most_number_digits, plain_at, field_at, after_prefix}
 use Rattle.sgb_file.specs.Records.{Head, after_comma, more_fields_at, record_at, graph_record_at, vertex_of_fields, vertex_record_at, arc_of_fields, arc_record_at, all_at, records_at}
 use Rattle.sgb_file.specs.Files.{IsStringText, IsFieldText, AreFieldTexts, IsComma, IsRecord, IsRecordOf, IsVertexRecord, IsArcRecord, IsGraphRecord, AreRecords, AreRecordsOf, head_of}
-use Rattle.sgb_file.proofs.FoundParts.{was_given, was_mapped, was_found_as, was_let_through}
+use Rattle.sgb_file.proofs.FoundParts.{own_parts, prefix_is, was_given, was_mapped, was_found_as}
 use Rattle.sgb_file.proofs.FieldReading.{Ends}
-use Rattle.sgb_file.proofs.ReadParts.{VertexFits, ArcFits, are_of_vertex, are_of_arc, fields_of_vertex, fields_of_arc, head_again, all_found, own_found, vertex_found, arc_found}
-use Rattle.sgb_file.proofs.FieldsAndTexts.{StandsIn, FindsTexts, IsFoundAs, prefix_is, plain_finds, string_finds, field_finds, plain_is_found, number_is_plain, string_is_found, field_is_found}
+use Rattle.sgb_file.proofs.ReadParts.{record_parts, are_of_vertex, are_of_arc, fields_of_vertex, fields_of_arc}
+use Rattle.sgb_file.proofs.FieldsAndTexts.{StandsIn, FindsTexts, IsFoundAs, plain_finds, string_finds, field_finds, plain_is_found, number_is_plain, string_is_found, field_is_found}
 
 -- what follows the first field of a record
 abbrev IsTail : List (List ℕ) → List ℕ → Type 0
@@ -205,17 +205,22 @@ record_read counts kind kinds u us text texts whole rest h more r =
 abbrev ReadsTexts : {X : Type 0} → (List ℕ → Option (Found X)) → (X → List ℕ → Type 0) → Type 0
 ReadsTexts {X = X} read IsTextOf = (value : X) (whole rest : List ℕ) → IsTextOf value whole → read (whole ++ rest) ≡ Some (record { value = value; rest = rest })
 
--- vertices
-vertex_texts_found : (head : Head) → FindsTexts (vertex_record_at head) (IsVertexRecord head)
-vertex_texts_found head text found e =
-    let g = was_given (record_at head.counts S (A ∷ vertex_kinds head.kinds) text) e in
-    let m = was_mapped (vertex_of_fields g.first.value) g.made in
-    let r = record_found head.counts S (A ∷ vertex_kinds head.kinds) (λ z. absurd cc) text g.first g.here in
-    subst (λ (f : Found Vertex). StandsIn (IsVertexRecord head) text f) m.same (record {
+-- a value that is made of a record's fields
+made_texts_found : {X : Type 0} (counts : Counts) (kind : Kind) (kinds : List Kind) → (kind ≡ Z → ⊥) → (make : List Util → Option X) (fields_of : X → List Util) → ((us : List Util) (x : X) → make us ≡ Some x → us ≡ fields_of x)
+    → FindsTexts (λ text. given (record_at counts kind kinds text) (λ fields. option_map (λ x. record { value = x; rest = fields.rest }) (make fields.value))) (λ x whole. IsRecordOf counts (kind ∷ kinds) (fields_of x) whole)
+made_texts_found {X = X} counts kind kinds used make fields_of are text found e =
+    let g = was_given (record_at counts kind kinds text) e in
+    let m = was_mapped (make g.first.value) g.made in
+    let r = record_found counts kind kinds used text g.first g.here in
+    subst (λ (f : Found X). StandsIn (λ x whole. IsRecordOf counts (kind ∷ kinds) (fields_of x) whole) text f) m.same (record {
       whole = r.whole;
-      says = subst (λ us. IsRecordOf head.counts (S ∷ A ∷ vertex_kinds head.kinds) us r.whole) (are_of_vertex g.first.value m.first m.here) r.says;
+      says = subst (λ us. IsRecordOf counts (kind ∷ kinds) us r.whole) (are g.first.value m.first m.here) r.says;
       parts = r.parts;
     })
+
+-- vertices
+vertex_texts_found : (head : Head) → FindsTexts (vertex_record_at head) (IsVertexRecord head)
+vertex_texts_found head = made_texts_found head.counts S (A ∷ vertex_kinds head.kinds) (λ z. absurd cc) vertex_of_fields fields_of_vertex are_of_vertex
 
 vertex_is_read : (head : Head) → ReadsTexts (vertex_record_at head) (IsVertexRecord head)
 vertex_is_read head v whole rest h =
@@ -229,15 +234,7 @@ vertex_is_read head v whole rest h =
 
 -- arcs
 arc_texts_found : (head : Head) → FindsTexts (arc_record_at head) (IsArcRecord head)
-arc_texts_found head text found e =
-    let g = was_given (record_at head.counts V (A ∷ I ∷ arc_kinds head.kinds) text) e in
-    let m = was_mapped (arc_of_fields g.first.value) g.made in
-    let r = record_found head.counts V (A ∷ I ∷ arc_kinds head.kinds) (λ z. absurd cc) text g.first g.here in
-    subst (λ (f : Found ArcRec). StandsIn (IsArcRecord head) text f) m.same (record {
-      whole = r.whole;
-      says = subst (λ us. IsRecordOf head.counts (V ∷ A ∷ I ∷ arc_kinds head.kinds) us r.whole) (are_of_arc g.first.value m.first m.here) r.says;
-      parts = r.parts;
-    })
+arc_texts_found head = made_texts_found head.counts V (A ∷ I ∷ arc_kinds head.kinds) (λ z. absurd cc) arc_of_fields fields_of_arc are_of_arc
 
 arc_is_read : (head : Head) → ReadsTexts (arc_record_at head) (IsArcRecord head)
 arc_is_read head v whole rest h =
@@ -294,26 +291,17 @@ onto rest a b e f = e ∙ ap (λ z. a ++ z) f ∙ sym (append_assoc a b rest)
 
 own_texts_found : (head : Head) → FindsTexts (graph_record_at head) (IsOwnRecord head)
 own_texts_found head text found e =
-    let number = plain_at (number_of most_number_digits) in
-    let id = was_given (string_at most_id_bytes text) e in
-    let second = was_given (after_comma id.first.rest) id.made in
-    let n = was_given (number second.first) second.made in
-    let third = was_given (after_comma n.first.rest) n.made in
-    let m = was_given (number third.first) third.made in
-    let util = was_given (more_fields_at head.counts (graph_kinds head.kinds) m.first.rest) m.made in
-    let g : GraphData = record { id = id.first.value; m = m.first.value; kinds = head.kinds; util = util.first.value; vertices = []; records = [] } in
-    let through = was_let_through (n.first.value == head.counts.vertices) (record { value = g; rest = util.first.rest }) found util.made in
-    let count = (Decides-eqb n.first.value head.counts.vertices).0 through.0 in
-    let id_text = string_finds most_id_bytes text id.first id.here in
-    let c = comma_found id.first.rest second.first second.here in
-    let n_text = plain_finds (number_of most_number_digits) second.first n.first n.here in
-    let d = comma_found n.first.rest third.first third.here in
-    let m_text = plain_finds (number_of most_number_digits) third.first m.first m.here in
-    let fields = more_found head.counts (graph_kinds head.kinds) m.first.rest util.first util.here in
+    let p = own_parts head text found e in
+    let id_text = string_finds most_id_bytes text p.id p.id_here in
+    let c = comma_found p.id.rest p.second p.second_here in
+    let n_text = plain_finds (number_of most_number_digits) p.second p.n p.n_here in
+    let d = comma_found p.n.rest p.third p.third_here in
+    let m_text = plain_finds (number_of most_number_digits) p.third p.m p.m_here in
+    let fields = more_found head.counts (graph_kinds head.kinds) p.m.rest p.util p.util_here in
     let texts = fields.says.texts in
     let n_tail = d.comma ++ (m_text.whole ++ fields.whole) in
     let id_tail = c.comma ++ (n_text.whole ++ n_tail) in
-    subst (λ (f : Found GraphData). StandsIn (IsOwnRecord head) text f) through.1 (record {
+    subst (λ (f : Found GraphData). StandsIn (IsOwnRecord head) text f) p.same (record {
       whole = id_text.whole ++ id_tail;
       says = record {
         id = id_text.whole;
@@ -321,14 +309,14 @@ own_texts_found head text found e =
         m = m_text.whole;
         fields = texts;
         id_says = id_text.says;
-        n_says = n_text.says ∙ ap (λ k. Some k) count;
+        n_says = n_text.says ∙ ap (λ k. Some k) p.count;
         m_says = m_text.says;
         fields_say = fields.says.say;
         is_record = record_from_tail id_text.whole (n_text.whole ∷ m_text.whole ∷ texts) id_tail
             (c.comma, n_tail, c.is_comma, (d.comma, fields.whole, d.is_comma, fields.says.is_tail, refl), refl);
       };
-      parts = onto util.first.rest id_text.whole id_tail id_text.parts (onto util.first.rest c.comma (n_text.whole ++ n_tail) c.parts
-          (onto util.first.rest n_text.whole n_tail n_text.parts (onto util.first.rest d.comma (m_text.whole ++ fields.whole) d.parts (onto util.first.rest m_text.whole fields.whole m_text.parts fields.parts))));
+      parts = onto p.util.rest id_text.whole id_tail id_text.parts (onto p.util.rest c.comma (n_text.whole ++ n_tail) c.parts
+          (onto p.util.rest n_text.whole n_tail n_text.parts (onto p.util.rest d.comma (m_text.whole ++ fields.whole) d.parts (onto p.util.rest m_text.whole fields.whole m_text.parts fields.parts))));
     })
 
 -- a number counts as itself
@@ -356,58 +344,42 @@ graph_is_read g whole rest h =
 -- the first line that a file's records are read with says what the graph has
 pub head_found : (head : Head) (text : List ℕ) (found : Found GraphData) → records_at head text ≡ Some found → head ≡ head_of found.value
 head_found head text found e =
-    let own = was_given (graph_record_at head text) e in
-    let second = was_given (after_prefix (codes "* Vertices\n") own.first.rest) own.made in
-    let nodes = was_given (all_at (vertex_record_at head) head.counts.vertices second.first) second.made in
-    let third = was_given (after_prefix (codes "* Arcs\n") nodes.first.rest) nodes.made in
-    let arcs = was_found_as (λ records. record own.first.value { vertices = nodes.first.value; records = records }) (all_at (arc_record_at head) head.counts.arcs third.first) third.made in
-    let fit = own_found head text own.first own.here in
-    let vs = all_found (vertex_record_at head) (VertexFits head.counts head.kinds) (vertex_found head) head.counts.vertices second.first nodes.first nodes.here in
-    let rs = all_found (arc_record_at head) (ArcFits head.counts head.kinds) (arc_found head) head.counts.arcs third.first arcs.first arcs.here in
-    let g = record own.first.value { vertices = nodes.first.value; records = arcs.first.value } in
-    head_again head g fit.kinds vs.count rs.count ∙ ap (λ f. head_of f.value) arcs.same
+    let p = record_parts head text found e in
+    p.counted ∙ ap (λ f. head_of f.value) p.same
 
 -- all records of a file
 pub records_found : (head : Head) → FindsTexts (records_at head) AreRecordsOf
 records_found head text found e =
-    let own = was_given (graph_record_at head text) e in
-    let second = was_given (after_prefix (codes "* Vertices\n") own.first.rest) own.made in
-    let nodes = was_given (all_at (vertex_record_at head) head.counts.vertices second.first) second.made in
-    let third = was_given (after_prefix (codes "* Arcs\n") nodes.first.rest) nodes.made in
-    let arcs = was_found_as (λ records. record own.first.value { vertices = nodes.first.value; records = records }) (all_at (arc_record_at head) head.counts.arcs third.first) third.made in
-    let fit = own_found head text own.first own.here in
-    let vs = all_found (vertex_record_at head) (VertexFits head.counts head.kinds) (vertex_found head) head.counts.vertices second.first nodes.first nodes.here in
-    let rs = all_found (arc_record_at head) (ArcFits head.counts head.kinds) (arc_found head) head.counts.arcs third.first arcs.first arcs.here in
-    let g = record own.first.value { vertices = nodes.first.value; records = arcs.first.value } in
-    let same = head_again head g fit.kinds vs.count rs.count in
-    let o = own_texts_found head text own.first own.here in
-    let v = all_texts_found (vertex_record_at head) (IsVertexRecord head) (vertex_texts_found head) head.counts.vertices second.first nodes.first nodes.here in
-    let a = all_texts_found (arc_record_at head) (IsArcRecord head) (arc_texts_found head) head.counts.arcs third.first arcs.first arcs.here in
+    let p = record_parts head text found e in
+    let g = record p.own.value { vertices = p.vertices.value; records = p.arcs.value } in
+    let o = own_texts_found head text p.own p.own_here in
+    let v = all_texts_found (vertex_record_at head) (IsVertexRecord head) (vertex_texts_found head) head.counts.vertices p.second p.vertices p.vertices_here in
+    let a = all_texts_found (arc_record_at head) (IsArcRecord head) (arc_texts_found head) head.counts.arcs p.third p.arcs p.arcs_here in
     let after_arcs = codes "* Arcs\n" ++ a.whole in
     let after_own = codes "* Vertices\n" ++ (v.whole ++ after_arcs) in
-    subst (λ (f : Found GraphData). StandsIn AreRecordsOf text f) arcs.same (record {
+    subst (λ (f : Found GraphData). StandsIn AreRecordsOf text f) p.same (record {
       whole = o.whole ++ after_own;
       says = record {
         own = o.whole;
         vertices = v.whole;
         arcs = a.whole;
-        graph_record = subst (λ (h : Head). IsGraphRecord h g o.whole) same (record {
+        graph_record = subst (λ (h : Head). IsGraphRecord h g o.whole) p.counted (record {
           id = o.says.id;
           n = o.says.n;
           m = o.says.m;
           fields = o.says.fields;
           id_says = o.says.id_says;
-          n_says = o.says.n_says ∙ ap (λ k. Some k) (sym vs.count);
+          n_says = o.says.n_says ∙ ap (λ k. Some k) (sym p.vertices_fit.count);
           m_says = o.says.m_says;
           fields_say = o.says.fields_say;
           is_record = o.says.is_record;
         });
-        vertex_records = subst (λ (h : Head). AreRecords (IsVertexRecord h) g.vertices v.whole) same v.says;
-        arc_records = subst (λ (h : Head). AreRecords (IsArcRecord h) g.records a.whole) same a.says;
+        vertex_records = subst (λ (h : Head). AreRecords (IsVertexRecord h) g.vertices v.whole) p.counted v.says;
+        arc_records = subst (λ (h : Head). AreRecords (IsArcRecord h) g.records a.whole) p.counted a.says;
         parts = refl;
       };
-      parts = onto arcs.first.rest o.whole after_own o.parts (onto arcs.first.rest (codes "* Vertices\n") (v.whole ++ after_arcs) (prefix_is (codes "* Vertices\n") own.first.rest second.first second.here)
-          (onto arcs.first.rest v.whole after_arcs v.parts (onto arcs.first.rest (codes "* Arcs\n") a.whole (prefix_is (codes "* Arcs\n") nodes.first.rest third.first third.here) a.parts)));
+      parts = onto p.arcs.rest o.whole after_own o.parts (onto p.arcs.rest (codes "* Vertices\n") (v.whole ++ after_arcs) (prefix_is (codes "* Vertices\n") p.own.rest p.second p.second_here)
+          (onto p.arcs.rest v.whole after_arcs v.parts (onto p.arcs.rest (codes "* Arcs\n") a.whole (prefix_is (codes "* Arcs\n") p.vertices.rest p.third p.third_here) a.parts)));
     })
 
 pub records_are_read : (g : GraphData) (whole rest : List ℕ) → AreRecordsOf g whole → records_at (head_of g) (whole ++ rest) ≡ Some (record { value = g; rest = rest })

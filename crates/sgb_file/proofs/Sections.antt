@@ -1,38 +1,26 @@
 -- Lemmas on the sections of a file, in the words of the code.
-use Rattle.std.proofs.Common.{◌≡◌, ◌∙◌, ◌++◌, ◌<◌, ◌-◌, ◌+◌, ℕ, zero, suc, Bool, true, false, List, [], ◌∷◌, Option, Some, None, Err, option_map, length, refl, sym, ap, subst, append_assoc, append-nil, arith, codes, cond, not, ◌==◌, ◌≢◌}
+use Rattle.std.proofs.Common.{◌≡◌, ◌∙◌, ◌++◌, ◌<◌, ◌-◌, ◌+◌, ℕ, suc, Bool, true, false, List, [], ◌∷◌, Option, Some, None, Err, refl, sym, ap, subst, append_assoc, append-nil, arith, codes, cond, not, ◌==◌}
 use Rattle.std.specs.List.{starts_with}
 use Rattle.std.proofs.Math.Seq.{drop-append_seam}
 use Rattle.std.proofs.lemmas.Bool.{and_parts, and_from}
 use Rattle.std.proofs.lemmas.Bool.Decides.{nat_tests, Decides-eqb}
-use Rattle.sgb_vec.specs.declared.panics.Panic.{Panic}
-use Rattle.sgb_vec.specs.declared.panics.Panic.TheVariants.{NoRoom, Early, Late, Syntax, Bad, VeryBad, Invalid}
 use Rattle.sgb_graph.specs.Graphs.{GraphData}
 use Rattle.sgb_graph.specs.Parts.{with_vertex, with_record}
 use Rattle.sgb_graph.specs.declared.fields.Vertex.{Vertex}
 use Rattle.sgb_graph.specs.declared.fields.ArcRec.{ArcRec}
-use Rattle.sgb_graph.specs.Ids.{most_id_bytes}
-use Rattle.sgb_graph.specs.Sound.{graph_kinds}
-use Rattle.sgb_file.specs.Fields.{Found, given, found_as, after_prefix, string_at, plain_at, number_of, most_number_digits}
+use Rattle.sgb_file.specs.Fields.{Found, given, found_as, after_prefix}
+use Rattle.sgb_file.specs.Records.{Head, all_at, arc_record_at, graph_record_at, records_at, vertex_record_at}
+use Rattle.sgb_file.proofs.FoundParts.{was_mapped, own_parts}
+use Rattle.sgb_file.proofs.FoundSteps.{stops}
 use Rattle.sgb_file.specs.Found.{IsFoundBy}
-use Rattle.sgb_file.specs.Records.{Head, after_comma, more_fields_at, all_at, arc_record_at, graph_record_at, records_at, vertex_record_at}
-use Rattle.sgb_file.proofs.FoundParts.{was_given, was_let_through, was_mapped}
-use Rattle.sgb_file.specs.Reading.{vertices_at, arcs_at}
+use Rattle.sgb_vec.specs.declared.panics.Panic.{Panic}
+use Rattle.sgb_file.specs.Reading.{vertices_at, arcs_at, with_vertices, with_records}
 use Rattle.sgb_file.specs.LinesLeft.{LinesLeft, text_left, has_no_newline}
 use Rattle.sgb_file.specs.FileLines.{text_of_lines}
 use Rattle.sgb_file.proofs.LineLemmas.{not_true}
 
--- a reader that stops because another one stopped
-pub stops : {X Y : Type 0} (first : Option (Found X)) (all : Option (Found Y)) (p : Panic) (left later : List ℕ) → IsFoundBy first (Err p) left → (first ≡ None → all ≡ None) → IsFoundBy all (Err p) later
-stops first all Syntax left later h f = f h
-stops first all NoRoom left later h f = tt
-stops first all Early left later h f = absurd h
-stops first all Late left later h f = absurd h
-stops first all Bad left later h f = absurd h
-stops first all VeryBad left later h f = absurd h
-stops first all Invalid left later h f = absurd h
-
 -- one more record, and then the others
-pub one_more : {X Y : Type 0} (one_at : List ℕ → Option (Found X)) (f : List X → Y) (g : List X → Y) (n : ℕ) (x : X) (text rest : List ℕ) → one_at text ≡ Some (record { value = x; rest = rest })
+one_more : {X Y : Type 0} (one_at : List ℕ → Option (Found X)) (f : List X → Y) (g : List X → Y) (n : ℕ) (x : X) (text rest : List ℕ) → one_at text ≡ Some (record { value = x; rest = rest })
     → ((xs : List X) → f (x ∷ xs) ≡ g xs) → found_as f (all_at one_at (suc n) text) ≡ found_as g (all_at one_at n rest)
 unfolding all_at
 one_more {X = X} {Y = Y} one_at f g n x text rest e same = rw e (under (all_at one_at n rest))
@@ -41,48 +29,49 @@ one_more {X = X} {Y = Y} one_at f g n x text rest e same = rw e (under (all_at o
     under None = refl
     under (Some r) = ap (λ y. Some (record { value = y; rest = r.rest })) (same r.value)
 
--- no record, where one has to come
-pub no_more : {X Y : Type 0} (one_at : List ℕ → Option (Found X)) (f : List X → Y) (n : ℕ) (text : List ℕ) → one_at text ≡ None → found_as f (all_at one_at (suc n) text) ≡ None
-unfolding all_at
-no_more one_at f n text e = rw e refl
+-- with k of n records behind, one more is to come
+one_to_come : (n k : ℕ) → k < n → n - k ≡ suc (n - (k + 1))
+one_to_come n k within = omega (arith, within)
 
--- one vertex more
+-- it comes
+next_read : {X Y : Type 0} (one_at : List ℕ → Option (Found X)) (f g : List X → Y) (n k : ℕ) (x : X) (text rest : List ℕ) → k < n → one_at text ≡ Some (record { value = x; rest = rest })
+    → ((xs : List X) → f (x ∷ xs) ≡ g xs) → found_as g (all_at one_at (n - (k + 1)) rest) ≡ found_as f (all_at one_at (n - k) text)
+next_read one_at f g n k x text rest within e same =
+    sym (ap (λ (j : ℕ). found_as f (all_at one_at j text)) (one_to_come n k within) ∙ one_more one_at f g (n - (k + 1)) x text rest e same)
+
+-- it does not come
+pub next_stops : {X Y : Type 0} (one_at : List ℕ → Option (Found X)) (f : List X → Y) (n k : ℕ) (whole : Option (Found Y)) (p : Panic) (text left after : List ℕ) → k < n
+    → found_as f (all_at one_at (n - k) text) ≡ whole → IsFoundBy (one_at text) (Err p) left → IsFoundBy whole (Err p) after
+unfolding all_at
+next_stops one_at f n k whole p text left after within so h =
+    stops (one_at text) whole p left after h (λ none. sym so ∙ ap (λ (j : ℕ). found_as f (all_at one_at j text)) (one_to_come n k within) ∙ rw none refl)
+
+-- none is to come
+all_read : {X Y : Type 0} (one_at : List ℕ → Option (Found X)) (f : List X → Y) (k : ℕ) (text : List ℕ) → k ≡ 0 → found_as f (all_at one_at k text) ≡ Some (record { value = f []; rest = text })
+unfolding all_at
+all_read one_at f k text e = rw e refl
+
+-- the same of vertices
 pub next_vertex : (head : Head) (parts more : GraphData) (n v : ℕ) (x : Vertex) (text rest : List ℕ) → v < n → vertex_record_at head text ≡ Some (record { value = x; rest = rest })
     → more ≡ with_vertex x parts → vertices_at head more (n - (v + 1)) rest ≡ vertices_at head parts (n - v) text
 next_vertex head parts more n v x text rest within e is =
-    let count : suc (n - (v + 1)) ≡ n - v = omega (arith, within) in
-    rw is (sym (one_more (vertex_record_at head) (λ vs. record parts { vertices = parts.vertices ++ vs }) (λ vs. record parts { vertices = (parts.vertices ++ x ∷ []) ++ vs }) (n - (v + 1)) x text rest e
+    rw is (next_read (vertex_record_at head) (with_vertices parts) (with_vertices (with_vertex x parts)) n v x text rest within e
     (λ xs. ap (λ vs. record parts { vertices = vs }) (sym (append_assoc parts.vertices (x ∷ []) xs))))
-    ∙ ap (λ (k : ℕ). vertices_at head parts k text) count)
 
-pub no_vertex : (head : Head) (parts : GraphData) (n v : ℕ) (text : List ℕ) → v < n → vertex_record_at head text ≡ None → vertices_at head parts (n - v) text ≡ None
-no_vertex head parts n v text within e =
-    let count : suc (n - (v + 1)) ≡ n - v = omega (arith, within) in
-    ap (λ (k : ℕ). vertices_at head parts k text) (sym count) ∙ no_more (vertex_record_at head) (λ vs. record parts { vertices = parts.vertices ++ vs }) (n - (v + 1)) text e
-
--- all vertices
 pub vertices_read : (head : Head) (parts : GraphData) (k : ℕ) (text : List ℕ) → k ≡ 0 → vertices_at head parts k text ≡ Some (record { value = parts; rest = text })
-unfolding all_at
-vertices_read head parts k text e = rw e (ap (λ vs. Some (record { value = record parts { vertices = vs }; rest = text })) (append-nil parts.vertices))
+vertices_read head parts k text e =
+    all_read (vertex_record_at head) (with_vertices parts) k text e ∙ ap (λ vs. Some (record { value = record parts { vertices = vs }; rest = text })) (append-nil parts.vertices)
 
--- one arc record more
+-- and of arc records
 pub next_arc : (head : Head) (parts more : GraphData) (n k : ℕ) (r : ArcRec) (text rest : List ℕ) → k < n → arc_record_at head text ≡ Some (record { value = r; rest = rest })
     → more ≡ with_record r parts → arcs_at head more (n - (k + 1)) rest ≡ arcs_at head parts (n - k) text
 next_arc head parts more n k r text rest within e is =
-    let count : suc (n - (k + 1)) ≡ n - k = omega (arith, within) in
-    rw is (sym (one_more (arc_record_at head) (λ rs. record parts { records = parts.records ++ rs }) (λ rs. record parts { records = (parts.records ++ r ∷ []) ++ rs }) (n - (k + 1)) r text rest e
+    rw is (next_read (arc_record_at head) (with_records parts) (with_records (with_record r parts)) n k r text rest within e
     (λ xs. ap (λ rs. record parts { records = rs }) (sym (append_assoc parts.records (r ∷ []) xs))))
-    ∙ ap (λ (j : ℕ). arcs_at head parts j text) count)
 
-pub no_arc : (head : Head) (parts : GraphData) (n k : ℕ) (text : List ℕ) → k < n → arc_record_at head text ≡ None → arcs_at head parts (n - k) text ≡ None
-no_arc head parts n k text within e =
-    let count : suc (n - (k + 1)) ≡ n - k = omega (arith, within) in
-    ap (λ (j : ℕ). arcs_at head parts j text) (sym count) ∙ no_more (arc_record_at head) (λ rs. record parts { records = parts.records ++ rs }) (n - (k + 1)) text e
-
--- all arc records
 pub arcs_read : (head : Head) (parts : GraphData) (k : ℕ) (text : List ℕ) → k ≡ 0 → arcs_at head parts k text ≡ Some (record { value = parts; rest = text })
-unfolding all_at
-arcs_read head parts k text e = rw e (ap (λ rs. Some (record { value = record parts { records = rs }; rest = text })) (append-nil parts.records))
+arcs_read head parts k text e =
+    all_read (arc_record_at head) (with_records parts) k text e ∙ ap (λ rs. Some (record { value = record parts { records = rs }; rest = text })) (append-nil parts.records)
 
 -- what follows a prefix
 starts_so : (p more : List ℕ) → starts_with (λ b c. b == c) (p ++ more) p ≡ true
@@ -145,16 +134,7 @@ record StartsEmpty (g : GraphData) : Type 0 where
 
 start_found : (head : Head) (text : List ℕ) (found : Found GraphData) → graph_record_at head text ≡ Some found → StartsEmpty found.value
 start_found head text found e =
-    let number = plain_at (number_of most_number_digits) in
-    let id = was_given (string_at most_id_bytes text) e in
-    let second = was_given (after_comma id.first.rest) id.made in
-    let n = was_given (number second.first) second.made in
-    let third = was_given (after_comma n.first.rest) n.made in
-    let m = was_given (number third.first) third.made in
-    let util = was_given (more_fields_at head.counts (graph_kinds head.kinds) m.first.rest) m.made in
-    let g : GraphData = record { id = id.first.value; m = m.first.value; kinds = head.kinds; util = util.first.value; vertices = []; records = [] } in
-    let through = was_let_through (n.first.value == head.counts.vertices) (record { value = g; rest = util.first.rest }) found util.made in
-    subst (λ (f : Found GraphData). StartsEmpty f.value) through.1 (record { vertices = refl; records = refl })
+    subst (λ (f : Found GraphData). StartsEmpty f.value) (own_parts head text found e).same (record { vertices = refl; records = refl })
 
 -- the records where those of the graph and of the vertices are read
 pub records_whole : (head : Head) (parts more : GraphData) (t0 t1 t2 t3 t4 : List ℕ) → graph_record_at head t0 ≡ Some (record { value = parts; rest = t1 })

@@ -1,7 +1,7 @@
 -- Lemmas on strings that are read part by part, each on a line.
-use Rattle.std.specs.Prelude.{◌≡◌, ℕ, zero, suc, ◌+◌, ◌-◌, ◌<◌, ◌≤◌, Bool, true, false, cond, not, ◌||◌, ◌&&◌, List, [], ◌∷◌, ◌++◌, length, take, drop, codes, Option, Some, None, option_map, nat_lt, nat_le, ◌==◌, ◌↔◌, All, Result, Ok, Err, IfOk, IsErrOf, IsOkUnless, slice_index_or, refl}
+use Rattle.std.specs.Prelude.{◌≡◌, ℕ, zero, suc, ◌+◌, ◌-◌, ◌<◌, ◌≤◌, Bool, true, false, cond, not, ◌&&◌, List, [], ◌∷◌, ◌++◌, length, take, drop, Option, Some, None, nat_lt, nat_le, ◌==◌, ◌↔◌, All, Result, Ok, Err, IfOk, IsErrOf, IsOkUnless, slice_index_or, refl}
 use Rattle.std.specs.List.{list_any, list_all, position, position_or_len, before_first, after_first}
-use Rattle.std.proofs.Common.{ap, sym, ◌∙◌, append_assoc, arith, length-append, drop-drop}
+use Rattle.std.proofs.Common.{ap, sym, ◌∙◌, append_assoc, arith, length-append}
 use Rattle.std.proofs.Math.Seq.{take-append-add, drop-append-add}
 use Rattle.std.proofs.lemmas.Bool.{and_parts}
 use Rattle.std.proofs.lemmas.Bool.Decides.{nat_tests}
@@ -12,7 +12,7 @@ use Rattle.sgb_vec.specs.Names.{IsText, IsTextByte}
 use Rattle.sgb_vec.specs.declared.panics.Panic.{Panic}
 use Rattle.sgb_vec.specs.declared.panics.Panic.TheVariants.{NoRoom, Syntax}
 use Rattle.sgb_graph.specs.Ids.{most_id_bytes, IsId}
-use Rattle.sgb_file.specs.Fields.{Found, after_prefix, is_string_byte, string_at, unbroken}
+use Rattle.sgb_file.specs.Fields.{after_prefix, is_string_byte, string_at, unbroken}
 use Rattle.sgb_file.specs.Found.{IsFoundBy, IsPartOf, IsNoString, IsWholeOf, IsNoWhole, checked_text, goes_on, is_broken, string_before, string_from}
 use Rattle.sgb_file.specs.LinesLeft.{has_no_newline}
 use Rattle.sgb_file.proofs.LineLemmas.{not_true, list_all-take}

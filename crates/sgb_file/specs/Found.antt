@@ -8,7 +8,7 @@ use Rattle.sgb_graph.specs.declared.fields.Kind.{Kind}
 use Rattle.sgb_graph.specs.declared.fields.Kind.TheVariants.{Z, I, V, S, A}
 use Rattle.sgb_graph.specs.declared.fields.Util.{Util}
 use Rattle.sgb_graph.specs.declared.fields.Util.TheVariants.{Nothing}
-use Rattle.sgb_file.specs.Fields.{Counts, Found, given, field_at, is_string_byte, unbroken}
+use Rattle.sgb_file.specs.Fields.{Counts, Found, given, field_at, is_string_byte, string_at, unbroken}
 use Rattle.sgb_file.specs.Records.{after_comma}
 
 -- the result is what was found, with this text after it; `Syntax` where nothing was found; or it is out of memory
@@ -94,6 +94,15 @@ IsWholeOf first text bytes left = (most : ℕ) → string_from most first text �
 -- no string that a file may hold has this first part and goes on with this text
 abbrev pub IsNoWhole : List ℕ → List ℕ → Type 0
 IsNoWhole first text = (most : ℕ) → most ≤ most_bytes → string_from most first text ≡ None
+
+-- a text begins with a string of these bytes, and this text is left; a string of at most so many bytes is refused where they
+-- are too many
+abbrev pub IsStringAt : List ℕ → List ℕ → List ℕ → Type 0
+IsStringAt text bytes left = (most : ℕ) → string_at most text ≡ string_before most bytes left
+
+-- the text begins with no string that a file may hold
+abbrev pub IsNoStringAt : List ℕ → Type 0
+IsNoStringAt text = (most : ℕ) → most ≤ most_bytes → string_at most text ≡ None
 
 -- the line ends with a `\` (92)
 abbrev pub is_broken : List ℕ → Bool

@@ -1,5 +1,5 @@
 -- What is left of the lines of a file while they are read [GB_IO].
-use Rattle.std.specs.Prelude.{◌≡◌, ℕ, suc, ◌-◌, Bool, not, List, [], ◌∷◌, ◌++◌, length, take, drop, Option, Some, None, option_map, ◌==◌, IsTrue, slice_get}
+use Rattle.std.specs.Prelude.{◌≡◌, ℕ, suc, ◌-◌, Bool, not, List, [], ◌∷◌, ◌++◌, length, take, drop, Option, Some, None, option_map, ◌==◌, slice_get}
 use Rattle.std.specs.List.{list_all}
 use Rattle.std.specs.Option.{option_map_or}
 use Rattle.sgb_file.specs.FileLines.{clean_lines, text_of_lines}

@@ -35,10 +35,8 @@ pub record ArcCanBeSaved (r : ArcRec) : Type 0 where
   pub a : ValueCanBeSaved r.a
   pub b : ValueCanBeSaved r.b
 
--- parts whose fields fit fourteen kinds, and whose texts, integers and numbers a file can hold; their lists need not be sound
-pub record CanBeChecked (g : GraphData) : Type 0 where
-  pub vertices_fit : IsTrue (nat_le (length g.vertices) most_vertices)
-  pub fields : IsTrue (fields_fit g)
+-- parts of fourteen kinds, whose texts, integers and numbers a file can hold
+pub record IsWritable (g : GraphData) : Type 0 where
   pub kinds : length g.kinds ≡ 14
   pub id : IsId g.id
   pub arcs_counted : g.m < number_limit
@@ -47,13 +45,13 @@ pub record CanBeChecked (g : GraphData) : Type 0 where
   pub vertices : All VertexCanBeSaved g.vertices
   pub records : All ArcCanBeSaved g.records
 
--- parts that make up a graph of fourteen kinds, whose texts, integers and numbers a file can hold
+-- such parts whose fields fit their kinds; their lists need not be sound
+pub record CanBeChecked (g : GraphData) : Type 0 where
+  pub vertices_fit : IsTrue (nat_le (length g.vertices) most_vertices)
+  pub fields : IsTrue (fields_fit g)
+  pub writable : IsWritable g
+
+-- such parts that make up a graph
 pub record CanBeSaved (g : GraphData) : Type 0 where
   pub graph : IsGraph g
-  pub kinds : length g.kinds ≡ 14
-  pub id : IsId g.id
-  pub arcs_counted : g.m < number_limit
-  pub records_counted : length g.records < number_limit
-  pub util : All ValueCanBeSaved g.util
-  pub vertices : All VertexCanBeSaved g.vertices
-  pub records : All ArcCanBeSaved g.records
+  pub writable : IsWritable g

@@ -6,6 +6,8 @@ mod checksums;
 mod devices;
 mod laws;
 mod reading;
+#[cfg(test)]
+mod sample_files;
 mod saving;
 
 pub use devices::{

@@ -1,5 +1,5 @@
 -- Texts that are files of a graph.
-use Rattle.std.specs.Prelude.{◌≡◌, ◌-◌, ◌^◌, pos, neg_ℤ, [], ◌∷◌, ◌++◌, codes, replicate, take, Some, None, Ok, refl}
+use Rattle.std.specs.Prelude.{◌≡◌, ◌^◌, pos, neg_ℤ, [], ◌∷◌, ◌++◌, codes, take, Some, None, Ok, refl}
 use Rattle.sgb_graph.specs.Graphs.{ends_from, numbers_from}
 use Rattle.sgb_graph.specs.Made.{no_fields, no_kinds}
 use Rattle.sgb_graph.specs.declared.fields.Ref.TheVariants.{Null, One, At}
@@ -7,7 +7,7 @@ use Rattle.sgb_graph.specs.declared.fields.Util.TheVariants.{Nothing, Vertex as 
 use Rattle.sgb_graph.specs.declared.fields.Kind.TheVariants.{Z, V, S, A}
 use Rattle.sgb_file.specs.FileLines.{lines_among, lines_of_text, without_end_spaces, clean_lines, text_of_lines}
 use Rattle.sgb_file.specs.Checksum.{weighted_sum}
-use Rattle.sgb_file.specs.Fields.{unbroken, integer_of, ref_of, record_number_of, string_at}
+use Rattle.sgb_file.specs.Fields.{unbroken}
 use Rattle.sgb_file.specs.Records.{more_fields_at, all_at}
 use Rattle.sgb_file.specs.Restoring.{opening_of, graph_of_text}
 use Rattle.sgb_file.proofs.Examples.GraphFiles.{plain_vertex, plain_arc, one_cell, one_cell_lines, two_joined, two_joined_lines, nothing, nothing_lines, ring, ring_text}
@@ -114,63 +114,3 @@ pub of_other_forms : graph_of_text (text_of_lines (
     })
 unfolding lines_among without_end_spaces weighted_sum unbroken more_fields_at all_at opening_of ends_from numbers_from
 of_other_forms = refl
-
--- integers: leading zeros and a minus before 0, at most 20 digits, 64 bits
-pub integer_forms : integer_of (codes "-00000000000000000012") ≡ Some (neg_ℤ (pos 12))
-integer_forms = refl
-
-pub greatest_integer : integer_of (codes "09223372036854775807") ≡ Some (pos (2 ^ 63 - 1))
-greatest_integer = refl
-
-pub no_integer_above : integer_of (codes "9223372036854775808") ≡ None
-no_integer_above = refl
-
-pub too_many_digits : integer_of (replicate 21 48) ≡ None
-too_many_digits = refl
-
-pub minus_without_digits : integer_of (codes "-") ≡ None
-minus_without_digits = refl
-
--- vertices: `0` and `1` are texts and not numbers
-pub ref_forms : ref_of 4 (codes "V003") ≡ Some (At 3)
-ref_forms = refl
-
-pub ref_past_the_last : ref_of 4 (codes "V4") ≡ None
-ref_past_the_last = refl
-
-pub ref_null : ref_of 0 (codes "0") ≡ Some Null
-ref_null = refl
-
-pub ref_no_null : ref_of 4 (codes "00") ≡ None
-ref_no_null = refl
-
--- arc records
-pub record_number_forms : record_number_of 2 (codes "A01") ≡ Some (Some 1)
-record_number_forms = refl
-
-pub no_record_one : record_number_of 2 (codes "1") ≡ None
-no_record_one = refl
-
-pub too_long_number : record_number_of 2 (codes "A" ++ replicate 19 48) ≡ None
-too_long_number = refl
-
--- strings
-pub string_form : string_at 3 (codes "\"a\\\nbc\",x") ≡ Some (record { value = codes "abc"; rest = codes ",x" })
-unfolding unbroken
-string_form = refl
-
-pub string_too_long : string_at 3 (codes "\"abcd\"") ≡ None
-unfolding unbroken
-string_too_long = refl
-
-pub string_over_lines : string_at 3 (codes "\"a\nb\"") ≡ None
-unfolding unbroken
-string_over_lines = refl
-
-pub string_unfinished : string_at 3 (codes "\"ab\n") ≡ None
-unfolding unbroken
-string_unfinished = refl
-
-pub string_with_backslash : string_at 3 (codes "\"a\\b\"") ≡ None
-unfolding unbroken
-string_with_backslash = refl

@@ -84,16 +84,18 @@ pub limits_can_be_saved : CanBeSaved at_limits
 unfolding ends_from numbers_from
 limits_can_be_saved = record {
   graph = record { vertices_fit = refl; fields = refl; lists = refl };
-  kinds = refl;
-  id = record { short = omega arith; printable = text_bytes longest_id refl };
-  arcs_counted = omega arith;
-  records_counted = omega arith;
-  util = all_values (Int (pos 9223372036854775807)) Nothing Nothing Nothing Nothing Nothing (omega arith) tt tt tt tt tt;
-  vertices = All-cons VertexCanBeSaved last_vertex [] (record {
-    name = name_is_text;
-    util = all_values Nothing (Int (negsuc 9223372036854775807)) (VertexField One) (Str longest_name) (Chain None) Nothing tt (omega arith) tt name_is_text tt tt;
-  }) (All-nil VertexCanBeSaved);
-  records = All-cons ArcCanBeSaved last_arc [] (record { len = omega arith; a = omega arith; b = tt }) (All-nil ArcCanBeSaved);
+  writable = record {
+    kinds = refl;
+    id = record { short = omega arith; printable = text_bytes longest_id refl };
+    arcs_counted = omega arith;
+    records_counted = omega arith;
+    util = all_values (Int (pos 9223372036854775807)) Nothing Nothing Nothing Nothing Nothing (omega arith) tt tt tt tt tt;
+    vertices = All-cons VertexCanBeSaved last_vertex [] (record {
+      name = name_is_text;
+      util = all_values Nothing (Int (negsuc 9223372036854775807)) (VertexField One) (Str longest_name) (Chain None) Nothing tt (omega arith) tt name_is_text tt tt;
+    }) (All-nil VertexCanBeSaved);
+    records = All-cons ArcCanBeSaved last_arc [] (record { len = omega arith; a = omega arith; b = tt }) (All-nil ArcCanBeSaved);
+  };
 }
 
 -- a graph of no vertices, with an integer

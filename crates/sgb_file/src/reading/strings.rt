@@ -4,7 +4,7 @@ ghost use Rattle.std.specs.List.{position};
 ghost use Rattle.sgb_vec.specs.Limits.{most_bytes};
 ghost use Rattle.sgb_graph.specs.Ids.{most_id_bytes};
 ghost use Rattle.sgb_file.specs.Fields.{string_at};
-ghost use Rattle.sgb_file.specs.Found.{IsFoundBy, IsNoString, IsNoWhole, IsPartOf, IsWholeOf, is_broken};
+ghost use Rattle.sgb_file.specs.Found.{IsFoundBy, IsNoString, IsNoStringAt, IsNoWhole, IsPartOf, IsStringAt, IsWholeOf, is_broken};
 ghost use Rattle.sgb_file.specs.LinesLeft.{text_left};
 
 use super::lines::Lines;
@@ -29,13 +29,9 @@ pub(super) fn read_text(alloc: Global, lines: &mut Lines<'_>) -> Result<Text, Pa
     ensures found { IsFoundBy (string_at most_bytes (text_left lines.old)) result (text_left lines.new) }
     ensures all { lines.new.all ≡ lines.old.all }
 {
-    pass_byte(lines, b'"')?;
-    let part = take_part(lines)?;
-    if part.closed {
-        return Text::new(alloc, part.bytes);
-    }
-    let bytes = gather(part.bytes, lines)?;
-    Text::new(alloc, &bytes)
+    let mut gathered = None;
+    let bytes = read_bytes(lines, &mut gathered)?;
+    Text::new(alloc, bytes)
 }
 
 // The string that stands next, as an id: of at most 160 bytes.
@@ -43,13 +39,27 @@ pub(super) fn read_id(lines: &mut Lines<'_>) -> Result<Id, Panic>
     ensures found { IsFoundBy (string_at most_id_bytes (text_left lines.old)) result (text_left lines.new) }
     ensures all { lines.new.all ≡ lines.old.all }
 {
+    let mut gathered = None;
+    let bytes = read_bytes(lines, &mut gathered)?;
+    Id::new(bytes)
+}
+
+// The bytes of the string that stands next: in their place where they are on one line, else gathered from several.
+fn read_bytes<'a: 'b, 'b>(
+    lines: &mut Lines<'a>,
+    gathered: &'b mut Option<ArrayVec<u8, MOST_BYTES>>,
+) -> Result<&'b [u8], Panic>
+    ensures string { IfOk result (λ bytes. IsStringAt (text_left lines.old) bytes.now (text_left lines.new)) }
+    ensures none { IfErr result (λ error. (error ≡ Panic.Syntax) × IsNoStringAt (text_left lines.old)) }
+    ensures all { lines.new.all ≡ lines.old.all }
+{
     pass_byte(lines, b'"')?;
     let part = take_part(lines)?;
     if part.closed {
-        return Id::new(part.bytes);
+        return Ok(part.bytes);
     }
     let bytes = gather(part.bytes, lines)?;
-    Id::new(&bytes)
+    Ok(gathered.insert(bytes).as_slice())
 }
 
 // The next part of a string: up to its closing quote, or to a `\` at the end of its line.

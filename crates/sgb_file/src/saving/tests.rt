@@ -4,6 +4,7 @@ ghost use Rattle.sgb_graph.specs.Growth.{HasPlainArcs};
 
 use super::write_gb;
 use crate::devices::{CutSink, MemSink, Sink};
+use crate::sample_files::TWO_JOINED;
 use sgb_graph::{Graph, Id, Names};
 use sgb_vec::{Panic, Text};
 use std::alloc::Global;
@@ -15,17 +16,6 @@ const ONE_CELL: &[u8] = b"* GraphBase graph (util_types ZZZIIIZZZZZZZZ,1V,0A)
 \"0\",0,0,0,0
 * Arcs
 * Checksum 386652336
-";
-
-const TWO_JOINED: &[u8] = b"* GraphBase graph (util_types ZZZIIIZZZZZZZZ,2V,2A)
-\"board(2,0,0,0,-1,0,0)\",2,2
-* Vertices
-\"0\",A0,0,0,0
-\"1\",A1,1,0,0
-* Arcs
-V1,0,1
-V0,0,1
-* Checksum 1066721325
 ";
 
 const NOTHING: &[u8] = b"* GraphBase graph (util_types ZZZZZZZZZZZZZZ,0V,0A)

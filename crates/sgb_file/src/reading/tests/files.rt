@@ -1,21 +1,11 @@
 //! Files read: what is refused with which code, what is accepted, and files that are cut.
 use super::super::read_gb;
 use crate::devices::MemSink;
+use crate::sample_files::TWO_JOINED;
 use crate::saving::write_gb;
 use sgb_vec::Panic;
 use std::alloc::Global;
 use std::test::Fail;
-
-const TWO_JOINED: &[u8] = b"* GraphBase graph (util_types ZZZIIIZZZZZZZZ,2V,2A)
-\"board(2,0,0,0,-1,0,0)\",2,2
-* Vertices
-\"0\",A0,0,0,0
-\"1\",A1,1,0,0
-* Arcs
-V1,0,1
-V0,0,1
-* Checksum 1066721325
-";
 
 // The letters ZZZZZZZZZZZZZZ, 0 vertices and no arcs: the files from the second line on.
 const ACCEPTED: [&[u8]; 7] = [

@@ -9,11 +9,13 @@ own_fields_can_be_saved-requires c =
 pub returns : goal.returns
 returns c = record {
   graph = c.n-n.ensures.kept.graph;
-  kinds = ap (λ kinds. length kinds) (sym c.kinds.ensures) ∙ c.are_fourteen.ensures;
-  id = rw (← c.id.ensures) c.bytes-id.ensures.id;
-  arcs_counted = c.requires.arcs;
-  records_counted = c.requires.records;
-  util = c.own_fields_can_be_saved.ensures;
-  vertices = c.vertices_can_be_saved.ensures;
-  records = c.records_can_be_saved.ensures;
+  writable = record {
+    kinds = ap (λ kinds. length kinds) (sym c.kinds.ensures) ∙ c.are_fourteen.ensures;
+    id = rw (← c.id.ensures) c.bytes-id.ensures.id;
+    arcs_counted = c.requires.arcs;
+    records_counted = c.requires.records;
+    util = c.own_fields_can_be_saved.ensures;
+    vertices = c.vertices_can_be_saved.ensures;
+    records = c.records_can_be_saved.ensures;
+  };
 }

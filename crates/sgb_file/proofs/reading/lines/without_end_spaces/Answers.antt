@@ -1,4 +1,4 @@
-use Rattle.std.proofs.Common.{ap, ◌∙◌, sym, [], ◌≡◌, length, suc, ◌-◌, ◌==◌, false, slice_index, arith}
+use Rattle.std.proofs.Common.{◌∙◌, sym, ◌≡◌, length, ◌-◌, ◌==◌, false, slice_index, arith}
 use Rattle.std.proofs.lemmas.Bool.Decides.{nat_tests}
 use Rattle.sgb_file.proofs.LineLemmas.{stays_clean}
 use Rattle.sgb_file.proofs.LinesLeftLemmas.{clean-last, ends_well-at, clean_nothing, no_bytes, some_bytes}

@@ -1,6 +1,5 @@
 use Rattle.std.proofs.Common.{sym, ap, ◌∙◌, Some}
 use Rattle.sgb_file.specs.FileLines.{clean_lines}
-use Rattle.sgb_file.specs.Restoring.{Opening}
 use Rattle.sgb_file.proofs.Endings.{opens_here, opens_later, opens_not, opens_nothing}
 use Rattle.sgb_file.proofs.LinesLeftLemmas.{no_bytes}
 use Rattle.sgb_file.proofs.reading.openings.opening.Goals as goal

@@ -1,4 +1,4 @@
-use Rattle.std.proofs.Common.{rules, refl}
+use Rattle.std.proofs.Common.{rules}
 use Rattle.sgb_graph.specs.declared.fields.Kind.TheVariants.{Z}
 use Rattle.sgb_file.proofs.FoundSteps.{arc_steps, two_kinds}
 use Rattle.sgb_file.specs.LinesLeft.{text_left}

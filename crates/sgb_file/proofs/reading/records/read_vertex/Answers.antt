@@ -1,4 +1,4 @@
-use Rattle.std.proofs.Common.{rules, refl}
+use Rattle.std.proofs.Common.{rules}
 use Rattle.sgb_file.proofs.FoundSteps.{vertex_steps}
 use Rattle.sgb_file.specs.LinesLeft.{text_left}
 use Rattle.sgb_file.proofs.reading.records.read_vertex.Goals as goal

@@ -1,6 +1,6 @@
 use Rattle.std.proofs.Common.{◌≡◌, ◌∙◌, sym, ap, option_map, rules}
 use Rattle.sgb_file.specs.LinesLeft.{text_left, next_begun}
-use Rattle.sgb_file.proofs.LinesLeftLemmas.{begun_text}
+use Rattle.sgb_file.proofs.LeftTexts.{next_left}
 use Rattle.sgb_file.proofs.Sections.{title_passed, title_missed}
 use Rattle.sgb_file.proofs.reading.sections.pass_title.Goals as goal
 
@@ -13,5 +13,5 @@ pub returns-clause-passed : goal.returns-clause-passed
 returns-clause-passed c =
     let left = sym c.line.ensures.left ∙ ap (λ line. option_map (λ l. l.now) line) c.in-Some.is in
     let same : c.in-Some.line.now ≡ c.args.title.now = search rules in
-    let rest = ap text_left c.next_line.ensures ∙ ap (λ s. text_left (next_begun s)) c.skip.ensures ∙ begun_text c.args.lines.now.all c.args.lines.now.others in
+    let rest = ap text_left c.next_line.ensures ∙ ap (λ s. text_left (next_begun s)) c.skip.ensures ∙ next_left c.args.lines.now in
     title_passed c.args.title.now c.in-Some.line.now c.args.lines.now c.next_line.new.self left same rest

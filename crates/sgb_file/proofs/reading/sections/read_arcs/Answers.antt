@@ -1,20 +1,18 @@
 use Rattle.std.proofs.Common.{sym, ap, ◌∙◌, ◌-◌, ◌<◌, arith}
 use Rattle.std.proofs.lemmas.Result.{err_from_is_err_and}
 use Rattle.sgb_file.specs.LinesLeft.{text_left}
-use Rattle.sgb_file.specs.Reading.{arcs_at}
+use Rattle.sgb_file.specs.Reading.{with_records}
 use Rattle.sgb_file.specs.Records.{arc_record_at}
-use Rattle.sgb_file.proofs.Sections.{stops, next_arc, no_arc, arcs_read}
+use Rattle.sgb_file.proofs.Sections.{next_arc, next_stops, arcs_read}
 use Rattle.sgb_file.proofs.reading.sections.read_arcs.Goals as goal
 
 pub returns-in_err-arc-clause-found : goal.returns-in_err-arc-clause-found
 returns-in_err-arc-clause-found c =
     let p = err_from_is_err_and c.from_residual.result c.from_residual.ensures.1 in
     let head = c.args.head.now in
-    let text = text_left c.loop-k.lines in
     let count = ap (λ h. h.counts.arcs) c.head-inside.view_is ∙ ap (λ h. h.counts.arcs) c.head.view_is in
-    rw (p.1, p.2)
-    (stops (arc_record_at head text) (arcs_at head c.args.parts head.counts.arcs (text_left c.args.lines.now)) c.in_err-arc.field-0.0 (text_left c.read_arc.new.lines) (text_left c.read_arc.new.lines)
-    c.in_err-arc.ensures.found (λ none. sym c.loop-k.invariant.0 ∙ no_arc head c.loop-k.parts head.counts.arcs c.loop-k._k text (omega (arith, count, c.loop-k-test.true)) none))
+    rw (p.1, p.2) (next_stops (arc_record_at head) (with_records c.loop-k.parts) head.counts.arcs c.loop-k._k _ c.in_err-arc.field-0.0 (text_left c.loop-k.lines) (text_left c.read_arc.new.lines) (text_left c.read_arc.new.lines)
+    (omega (arith, count, c.loop-k-test.true)) c.loop-k.invariant.0 c.in_err-arc.ensures.found)
 
 pub loop-k-preserved : goal.loop-k-preserved
 loop-k-preserved c =

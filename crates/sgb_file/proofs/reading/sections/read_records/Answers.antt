@@ -1,4 +1,4 @@
-use Rattle.std.proofs.Common.{sym, subst, ◌∙◌}
+use Rattle.std.proofs.Common.{sym, subst}
 use Rattle.sgb_file.specs.Found.{IsFoundBy}
 use Rattle.sgb_file.specs.LinesLeft.{text_left}
 use Rattle.sgb_file.proofs.Sections.{records_whole}

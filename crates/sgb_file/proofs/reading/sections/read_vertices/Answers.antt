@@ -1,20 +1,18 @@
 use Rattle.std.proofs.Common.{sym, ap, ◌∙◌, ◌-◌, ◌<◌, arith}
 use Rattle.std.proofs.lemmas.Result.{err_from_is_err_and}
 use Rattle.sgb_file.specs.LinesLeft.{text_left}
-use Rattle.sgb_file.specs.Reading.{vertices_at}
+use Rattle.sgb_file.specs.Reading.{with_vertices}
 use Rattle.sgb_file.specs.Records.{vertex_record_at}
-use Rattle.sgb_file.proofs.Sections.{stops, next_vertex, no_vertex, vertices_read}
+use Rattle.sgb_file.proofs.Sections.{next_vertex, next_stops, vertices_read}
 use Rattle.sgb_file.proofs.reading.sections.read_vertices.Goals as goal
 
 pub returns-in_err-vertex-clause-found : goal.returns-in_err-vertex-clause-found
 returns-in_err-vertex-clause-found c =
     let p = err_from_is_err_and c.from_residual.result c.from_residual.ensures.1 in
     let head = c.args.head.now in
-    let text = text_left c.loop-v.lines in
     let count = ap (λ h. h.counts.vertices) c.head-inside.view_is ∙ ap (λ h. h.counts.vertices) c.head.view_is in
-    rw (p.1, p.2)
-    (stops (vertex_record_at head text) (vertices_at head c.args.parts head.counts.vertices (text_left c.args.lines.now)) c.in_err-vertex.field-0.0 (text_left c.read_vertex.new.lines) (text_left c.read_vertex.new.lines)
-    c.in_err-vertex.ensures.found (λ none. sym c.loop-v.invariant.0 ∙ no_vertex head c.loop-v.parts head.counts.vertices c.loop-v._v text (omega (arith, count, c.loop-v-test.true)) none))
+    rw (p.1, p.2) (next_stops (vertex_record_at head) (with_vertices c.loop-v.parts) head.counts.vertices c.loop-v._v _ c.in_err-vertex.field-0.0 (text_left c.loop-v.lines) (text_left c.read_vertex.new.lines) (text_left c.read_vertex.new.lines)
+    (omega (arith, count, c.loop-v-test.true)) c.loop-v.invariant.0 c.in_err-vertex.ensures.found)
 
 pub loop-v-preserved : goal.loop-v-preserved
 loop-v-preserved c =

@@ -1,4 +1,4 @@
-use Rattle.std.proofs.Common.{ap, sym, ◌∙◌, ◌+◌, arith, refl, length}
+use Rattle.std.proofs.Common.{sym, ◌∙◌, ◌+◌, arith, refl}
 use Rattle.sgb_file.specs.FileLines.{text_of_lines}
 use Rattle.sgb_file.proofs.LeftTexts.{under_way, skipped_left, begun_text}
 use Rattle.sgb_file.proofs.StringReading.{has_quote, no_quote, last_part, broken_part, ended_line}

@@ -1,0 +1,126 @@
+-- First lines that are read: what they say.
+use Rattle.std.specs.Prelude.{◌≡◌, ℕ, suc, ◌+◌, ◌≤◌, Bool, true, false, cond, List, [], ◌∷◌, ◌++◌, map, length, take, drop, codes, Option, Some, None, filter_map, take_while, nat_le, ◌==◌, if◌then◌else◌, refl}
+use Rattle.std.specs.List.{prefix_len, cons_option}
+use Rattle.std.proofs.Common.{ap, sym, subst, ◌∙◌, arith}
+use Rattle.std.proofs.lemmas.Bool.Decides.{Decides-eqb}
+use Rattle.std.proofs.lemmas.List.{take-append-drop, length-take}
+use Rattle.sgb_vec.specs.Limits.{most_vertices}
+use Rattle.sgb_graph.specs.declared.fields.Kind.{Kind}
+use Rattle.sgb_graph.specs.declared.fields.Kind.TheVariants.{Z, I, V, S, A}
+use Rattle.sgb_file.specs.Fields.{Found, is_decimal_digit, number_of, most_number_digits, after_prefix}
+use Rattle.sgb_file.specs.Records.{Head}
+use Rattle.sgb_file.specs.Restoring.{kind_of_letter, kinds_at, leading_number, head_of_line}
+use Rattle.sgb_file.specs.Saving.{letter_of}
+use Rattle.sgb_file.specs.Files.{IsFirstLine, BeginsWithNoDigit}
+use Rattle.sgb_file.proofs.FoundParts.{prefix_is, taken_and_left, was_given, was_mapped, was_let_through}
+use Rattle.sgb_file.proofs.NumberReading.{at_most}
+
+-- the kind of a letter is written by it
+letter_is : (c : ℕ) (k : Kind) → kind_of_letter c ≡ Some k → c ≡ letter_of k
+letter_is c k e = by_tests (c == 90) (c == 73) (c == 86) (c == 83) (c == 65) (Decides-eqb c 90).0 (Decides-eqb c 73).0 (Decides-eqb c 86).0 (Decides-eqb c 83).0 (Decides-eqb c 65).0 e
+  where
+    by_tests : (z i v s a : Bool) → (z ≡ true → c ≡ 90) → (i ≡ true → c ≡ 73) → (v ≡ true → c ≡ 86) → (s ≡ true → c ≡ 83) → (a ≡ true → c ≡ 65)
+        → (if z then Some Z else (if i then Some I else (if v then Some V else (if s then Some S else (if a then Some A else None))))) ≡ Some k → c ≡ letter_of k
+    by_tests true i v s a is_z is_i is_v is_s is_a e = let same : Z ≡ k = cc in is_z refl ∙ ap letter_of same
+    by_tests false true v s a is_z is_i is_v is_s is_a e = let same : I ≡ k = cc in is_i refl ∙ ap letter_of same
+    by_tests false false true s a is_z is_i is_v is_s is_a e = let same : V ≡ k = cc in is_v refl ∙ ap letter_of same
+    by_tests false false false true a is_z is_i is_v is_s is_a e = let same : S ≡ k = cc in is_s refl ∙ ap letter_of same
+    by_tests false false false false true is_z is_i is_v is_s is_a e = let same : A ≡ k = cc in is_a refl ∙ ap letter_of same
+    by_tests false false false false false is_z is_i is_v is_s is_a e = absurd cc
+
+-- a text has no more kinds than letters
+kept_short : {Y : Type 0} (y : Option Y) (ys : List Y) (n : ℕ) → length ys ≤ n → length (cons_option y ys) ≤ suc n
+kept_short None ys n h = omega (arith, h)
+kept_short (Some y) ys n h = omega (arith, h)
+
+pub no_more_kinds : (xs : List ℕ) → length (filter_map kind_of_letter xs) ≤ length xs
+no_more_kinds [] = omega arith
+no_more_kinds (x ∷ xs) = kept_short (kind_of_letter x) (filter_map kind_of_letter xs) (length xs) (no_more_kinds xs)
+
+-- letters that all stand for kinds are those of the kinds
+all_letters : (letters : List ℕ) → length letters ≤ length (filter_map kind_of_letter letters) → letters ≡ map letter_of (filter_map kind_of_letter letters)
+all_letters [] h = refl
+all_letters (c ∷ letters) h = by_kind (kind_of_letter c) refl h (all_letters letters)
+  where
+    by_kind : (o : Option Kind) → kind_of_letter c ≡ o → suc (length letters) ≤ length (cons_option o (filter_map kind_of_letter letters))
+        → (length letters ≤ length (filter_map kind_of_letter letters) → letters ≡ map letter_of (filter_map kind_of_letter letters))
+        → c ∷ letters ≡ map letter_of (cons_option o (filter_map kind_of_letter letters))
+    by_kind None e h others = absurd (omega (arith, h, no_more_kinds letters))
+    by_kind (Some k) e h others = ap (λ d. d ∷ letters) (letter_is c k e) ∙ ap (λ ls. letter_of k ∷ ls) (others (omega (arith, h)))
+
+-- fourteen kinds are those of the letters
+record IsKinds (text : List ℕ) (found : Found (List Kind)) : Type 0 where
+  fourteen : length found.value ≡ 14
+  parts : text ≡ map letter_of found.value ++ found.rest
+
+kinds_found : (text : List ℕ) (found : Found (List Kind)) → kinds_at text ≡ Some found → IsKinds text found
+kinds_found text found e =
+    let letters = take 14 text in
+    let kinds = filter_map kind_of_letter letters in
+    let t = was_let_through (length kinds == 14) (record { value = kinds; rest = drop 14 text }) found e in
+    let fourteen : length kinds ≡ 14 = (Decides-eqb (length kinds) 14).0 t.0 in
+    let short : length letters ≤ 14 = omega (arith, length-take 14 text) in
+    let all : letters ≡ map letter_of kinds = all_letters letters (omega (arith, fourteen, short)) in
+    subst (λ (f : Found (List Kind)). IsKinds text f) t.1 (record {
+      fourteen = fourteen;
+      parts = sym (take-append-drop 14 text) ∙ ap (λ x. x ++ drop 14 text) all;
+    })
+
+-- the digits that a text begins with, and what follows them
+pub record IsLeading (text : List ℕ) (found : Found ℕ) : Type 0 where
+  pub digits : List ℕ
+  pub says : number_of most_number_digits digits ≡ Some found.value
+  pub parts : text ≡ digits ++ found.rest
+  pub ends : BeginsWithNoDigit found.rest
+
+no_digit_left : (text : List ℕ) → BeginsWithNoDigit (drop (length (take (prefix_len is_decimal_digit text) text)) text)
+no_digit_left [] = tt
+no_digit_left (b ∷ text) = by_test (is_decimal_digit b) refl (no_digit_left text)
+  where
+    by_test : (t : Bool) → is_decimal_digit b ≡ t → BeginsWithNoDigit (drop (length (take (prefix_len is_decimal_digit text) text)) text)
+        → BeginsWithNoDigit (drop (length (take (cond t (1 + prefix_len is_decimal_digit text) 0) (b ∷ text))) (b ∷ text))
+    by_test true e h =
+        let place = prefix_len is_decimal_digit text in
+        let further : suc place ≡ 1 + place = omega arith in
+        subst (λ k. BeginsWithNoDigit (drop (length (take k (b ∷ text))) (b ∷ text))) further h
+    by_test false e h = e
+
+pub leading_found : (text : List ℕ) (found : Found ℕ) → leading_number text ≡ Some found → IsLeading text found
+leading_found text found e =
+    let digits = take_while is_decimal_digit text in
+    let m = was_mapped (number_of most_number_digits digits) e in
+    subst (λ (f : Found ℕ). IsLeading text f) m.same (record {
+      digits = digits;
+      says = m.here;
+      parts = sym (taken_and_left (prefix_len is_decimal_digit text) text);
+      ends = no_digit_left text;
+    })
+
+-- a line that is read as a first line is one
+pub first_line_found : (line : List ℕ) (head : Head) → head_of_line line ≡ Some head → IsFirstLine head line
+first_line_found line head e =
+    let letters = was_given (after_prefix (codes "* GraphBase graph (util_types ") line) e in
+    let kinds = was_given (kinds_at letters.first) letters.made in
+    let second = was_given (after_prefix (codes ",") kinds.first.rest) kinds.made in
+    let n = was_given (leading_number second.first) second.made in
+    let third = was_given (after_prefix (codes "V,") n.first.rest) n.made in
+    let m = was_given (leading_number third.first) third.made in
+    let anything = was_given (after_prefix (codes "A)") m.first.rest) m.made in
+    let says : Head = record { kinds = kinds.first.value; counts = record { vertices = n.first.value; arcs = m.first.value } } in
+    let through = was_let_through (nat_le n.first.value most_vertices) says head anything.made in
+    let k = kinds_found letters.first kinds.first kinds.here in
+    let n_is = leading_found second.first n.first n.here in
+    let m_is = leading_found third.first m.first m.here in
+    let after_letters = ap (λ x. codes "," ++ x) (n_is.parts ∙ ap (λ x. n_is.digits ++ x) (prefix_is (codes "V,") n.first.rest third.first third.here
+    ∙ ap (λ x. codes "V," ++ x) (m_is.parts ∙ ap (λ x. m_is.digits ++ x) (prefix_is (codes "A)") m.first.rest anything.first anything.here)))) in
+    subst (λ (h : Head). IsFirstLine h line) through.1 (record {
+      n = n_is.digits;
+      m = m_is.digits;
+      anything = anything.first;
+      form = prefix_is (codes "* GraphBase graph (util_types ") line letters.first letters.here
+          ∙ ap (λ x. codes "* GraphBase graph (util_types " ++ x) (k.parts ∙ ap (λ x. map letter_of kinds.first.value ++ x) (prefix_is (codes ",") kinds.first.rest second.first second.here ∙ after_letters));
+      fourteen = k.fourteen;
+      n_says = n_is.says;
+      m_says = m_is.says;
+      few = at_most n.first.value most_vertices through.0;
+    })
