@@ -43,6 +43,10 @@ REQUESTS = [
     ["list", "gunion(board(80,80,0,0,-1,0,0),board(80,80,0,0,-2,0,0),0,0)"],
     ["list", "complement(board(1500,0,0,0,1,0,0),0,0,0)"],
     ["list", "intersection(board(80,80,0,0,-1,0,0),board(80,80,0,0,-2,0,0),1,0)"],
+    # a union that keeps all arcs of one operand; boards with no moves, at once
+    ["list", "gunion(board(600,600,0,0,1,0,0),empty(1),1,0)"],
+    ["list", "board(2,-19,0,0,400,0,0)"],
+    ["list", "board(3,3,3,0,2147483647,0,0)"],
     # line graphs, products, complete bipartite graphs, wheels
     ["list", "lines(complete(120),0)"],
     ["list", "lines(board(400,400,0,0,1,0,1),1)"],
