@@ -3,6 +3,7 @@ pub mod Taking
 pub mod Ends
 pub mod Merging
 pub mod MergeSteps
+pub mod MergedParts
 pub mod EntryTotals
 pub mod EventsWithin
 pub mod WantedEvents

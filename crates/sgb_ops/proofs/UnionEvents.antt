@@ -1,11 +1,11 @@
--- The events of a union, as they are found vertex by vertex.
-use Rattle.std.proofs.Common.{◌≡◌, ◌<◌, ◌≤◌, ◌+◌, ◌-◌, ℕ, suc, Bool, true, false, List, [], ◌∷◌, ◌++◌, map, refl, sym, ap, ◌∙◌, append_assoc, append-nil, arith}
+-- The events of a union, as they are found and merged vertex by vertex.
+use Rattle.std.proofs.Common.{◌≡◌, ◌<◌, ◌≤◌, ◌+◌, ◌-◌, ◌==◌, ℕ, suc, Bool, true, false, List, [], ◌∷◌, ◌++◌, map, get_or, refl, sym, ap, ◌∙◌, append-nil, arith}
 use Rattle.std.specs.Prelude.{All, filter, flat_map, nat_lt, if◌then◌else◌}
 use Rattle.std.specs.List.{range_with_len}
-use Rattle.std.proofs.lemmas.Bool.{lt-ltb, le-ltb, ltb-true}
+use Rattle.std.proofs.lemmas.Bool.{lt-ltb, le-ltb, ltb-true, ne_eqb, and_right}
 use Rattle.std.proofs.lemmas.List.{map-append}
-use Rattle.std.proofs.lemmas.List.Elements.{All-head, All-tail, All-append, All-nil, filter_passes}
-use Rattle.sgb_graph.specs.Graphs.{GraphData}
+use Rattle.std.proofs.lemmas.List.Elements.{All-head, All-tail, All-append, All-filter, All-map, All-nil, filter_passes}
+use Rattle.sgb_graph.specs.Graphs.{GraphData, chain_of}
 use Rattle.sgb_graph.specs.Events.{Event}
 use Rattle.sgb_graph.specs.Growth.{IsKept}
 use Rattle.sgb_graph.specs.declared.fields.Link.{Link}
@@ -13,7 +13,10 @@ use Rattle.sgb_ops.specs.Ends.{AllWithin, event_of}
 use Rattle.sgb_ops.specs.Gunion.{union_arcs, union_events}
 use Rattle.sgb_ops.specs.Operands.{order_of}
 use Rattle.sgb_ops.specs.Taken.{taken}
-use Rattle.sgb_ops.proofs.EventsWithin.{TipBelow, taken_tips, events_of_within, events_after_within}
+use Rattle.sgb_ops.specs.Merged.{has_ends_of, merged_unless}
+use Rattle.sgb_ops.proofs.EventsWithin.{TipBelow, taken_tips, events_of_within, merged_unless_within}
+use Rattle.sgb_ops.proofs.MergedParts.{AreApart, merged_parts}
+use Rattle.sgb_ops.proofs.Taking.{each_edge_once_leads_up}
 
 -- the arcs that lead to vertices below n
 abbrev pub leading_below : ℕ → List Link → List Link
@@ -29,33 +32,36 @@ all_lead_below n (l ∷ links) all =
 lead_below : (n : ℕ) (links : List Link) → All (TipBelow n) (leading_below n links)
 lead_below n links = λ k d h. ltb-true _ n (filter_passes (λ l. nat_lt l.tip n) links k d h)
 
+-- the events of v, with parallel ones
+abbrev pub events_of : GraphData → GraphData → Bool → ℕ → List Event
+events_of g h directed v = map (event_of v) (union_arcs g h directed v)
+
 module _ (g h : GraphData) (directed : Bool) (v : ℕ) (kept : IsKept g) (below : v < order_of g) where
   -- a vertex that both have
-  pub of_both : (old mid new : List Event) → v < order_of h
-      → mid ≡ old ++ map (event_of v) (leading_below (order_of g) (taken directed g v))
-      → new ≡ mid ++ map (event_of v) (leading_below (order_of g) (taken directed h v))
-      → new ≡ old ++ map (event_of v) (union_arcs g h directed v)
-  of_both old mid new has first second =
+  pub of_both : (none old new : List Event) → v < order_of h → none ≡ []
+      → old ≡ none ++ map (event_of v) (leading_below (order_of g) (taken directed g v))
+      → new ≡ old ++ map (event_of v) (leading_below (order_of g) (taken directed h v))
+      → new ≡ events_of g h directed v
+  of_both none old new has empty first second =
       let own = all_lead_below (order_of g) (taken directed g v) (taken_tips directed g v kept below) in
       let there = lt-ltb v (order_of h) has in
-      let firsts = map (event_of v) (taken directed g v) in
-      let seconds = map (event_of v) (leading_below (order_of g) (taken directed h v)) in
+      let seconds = leading_below (order_of g) (taken directed h v) in
       second
-      ∙ (ap (λ es. es ++ seconds) (first ∙ ap (λ ls. old ++ map (event_of v) ls) own)
-      ∙ (append_assoc old firsts seconds
-      ∙ ap (λ es. old ++ es) (sym (map-append (event_of v) (taken directed g v) (leading_below (order_of g) (taken directed h v)))
-      ∙ ap (λ b. map (event_of v) (taken directed g v ++ (if b then leading_below (order_of g) (taken directed h v) else []))) (sym there))))
+      ∙ (ap (λ es. es ++ map (event_of v) seconds) (first ∙ (ap (λ es. es ++ map (event_of v) (leading_below (order_of g) (taken directed g v))) empty ∙ ap (map (event_of v)) own))
+      ∙ (sym (map-append (event_of v) (taken directed g v) seconds)
+      ∙ ap (λ b. map (event_of v) (taken directed g v ++ (if b then seconds else []))) (sym there)))
 
   -- one that the second graph has not
-  pub of_first : (old new : List Event) → order_of h ≤ v
-      → new ≡ old ++ map (event_of v) (leading_below (order_of g) (taken directed g v))
-      → new ≡ old ++ map (event_of v) (union_arcs g h directed v)
-  of_first old new none first =
+  pub of_first : (none new : List Event) → order_of h ≤ v → none ≡ []
+      → new ≡ none ++ map (event_of v) (leading_below (order_of g) (taken directed g v))
+      → new ≡ events_of g h directed v
+  of_first none new past empty first =
       let own = all_lead_below (order_of g) (taken directed g v) (taken_tips directed g v kept below) in
-      let not_there = le-ltb v (order_of h) none in
+      let not_there = le-ltb v (order_of h) past in
       first
-      ∙ (ap (λ ls. old ++ map (event_of v) ls) (own ∙ sym (append-nil (taken directed g v)))
-      ∙ ap (λ b. old ++ map (event_of v) (taken directed g v ++ (if b then leading_below (order_of g) (taken directed h v) else []))) (sym not_there))
+      ∙ (ap (λ es. es ++ map (event_of v) (leading_below (order_of g) (taken directed g v))) empty
+      ∙ (ap (map (event_of v)) (own ∙ sym (append-nil (taken directed g v)))
+      ∙ ap (λ b. map (event_of v) (taken directed g v ++ (if b then leading_below (order_of g) (taken directed h v) else []))) (sym not_there)))
 
   -- its arcs lead to vertices of the first graph
   arcs_lead_below : All (TipBelow (order_of g)) (union_arcs g h directed v)
@@ -67,29 +73,65 @@ module _ (g h : GraphData) (directed : Bool) (v : ℕ) (kept : IsKept g) (below 
       by_test true = lead_below (order_of g) (taken directed h v)
       by_test false = All-nil (TipBelow (order_of g))
 
-  pub arcs_within : AllWithin (order_of g) (map (event_of v) (union_arcs g h directed v))
-  arcs_within = events_of_within (order_of g) v (union_arcs g h directed v) below arcs_lead_below
+  -- so the ends of its events that are left are vertices of the first graph
+  pub left_within : (multi : Bool) → AllWithin (order_of g) (merged_unless multi directed (events_of g h directed v))
+  left_within multi =
+      merged_unless_within (order_of g) multi directed (events_of g h directed v) (events_of_within (order_of g) v (union_arcs g h directed v) below arcs_lead_below)
 
--- the ends of all events are vertices of the first graph
-pub union_within : (g h : GraphData) (directed : Bool) → IsKept g → AllWithin (order_of g) (union_events g h directed)
-union_within g h directed kept =
-    events_after_within (order_of g) (λ v. map (event_of v) (union_arcs g h directed v)) 0 (order_of g)
-    (λ v low high. arcs_within g h directed v kept (omega (arith, high)))
+-- an arc that is taken of a vertex for an undirected result leads up
+abbrev LeadsUp : Bool → ℕ → Link → Type 0
+LeadsUp directed v l = directed ≡ false → v ≤ l.tip
 
--- the events of the vertices from v on
-abbrev pub events_after : GraphData → GraphData → Bool → ℕ → List Event
-events_after g h directed v =
-    flat_map (λ u. map (event_of u) (union_arcs g h directed u)) (range_with_len v (order_of g - v))
+arcs_lead_up : (g h : GraphData) (directed : Bool) (v : ℕ) → All (LeadsUp directed v) (union_arcs g h directed v)
+arcs_lead_up g h true v = λ k d below same. absurd cc
+arcs_lead_up g h false v =
+    All-append (LeadsUp false v) (taken false g v) _ (up g)
+    (by_test (nat_lt v (order_of h)))
+  where
+    up : (x : GraphData) → All (LeadsUp false v) (taken false x v)
+    up x = λ k d below same. each_edge_once_leads_up v (chain_of x v) k d below
+
+    by_test : (b : Bool) → All (LeadsUp false v) (if b then leading_below (order_of g) (taken false h v) else [])
+    by_test true = All-filter (λ l. nat_lt l.tip (order_of g)) (LeadsUp false v) (taken false h v) (up h)
+    by_test false = All-nil (LeadsUp false v)
+
+-- the events of two arcs of different vertices do not have the same ends
+arcs_apart : (directed : Bool) (u w : ℕ) (l k : Link) → u < w → LeadsUp directed w k → has_ends_of directed (event_of u l) (event_of w k) ≡ false
+arcs_apart true u w l k after up = let other : (w == u) ≡ false = ne_eqb w u (λ same. absurd (omega (arith, after, same))) in rw other refl
+arcs_apart false u w l k after up =
+    let leads = up refl in
+    let other : (w == u) ≡ false = ne_eqb w u (λ same. absurd (omega (arith, after, same))) in
+    let turned : (k.tip == u) ≡ false = ne_eqb k.tip u (λ same. absurd (omega (arith, after, same, leads))) in
+    rw (other, turned) (and_right (w == l.tip) false refl)
+
+-- nor do any two events of different vertices
+vertices_apart : (g h : GraphData) (directed : Bool) (u w : ℕ) → u < w → AreApart directed (events_of g h directed u) (events_of g h directed w)
+vertices_apart g h directed u w after =
+    All-map (λ e. All (λ f. has_ends_of directed e f ≡ false) (events_of g h directed w)) (event_of u) (union_arcs g h directed u)
+    (λ i d below. All-map (λ f. has_ends_of directed (event_of u (get_or (union_arcs g h directed u) i d)) f ≡ false) (event_of w) (union_arcs g h directed w)
+    (λ j x there. arcs_apart directed u w (get_or (union_arcs g h directed u) i d) (get_or (union_arcs g h directed w) j x) after (arcs_lead_up g h directed w j x there)))
+
+-- the events of the vertices from v on that are left, merged vertex by vertex
+abbrev pub events_after : GraphData → GraphData → Bool → Bool → ℕ → List Event
+events_after g h multi directed v =
+    flat_map (λ u. merged_unless multi directed (events_of g h directed u)) (range_with_len v (order_of g - v))
+
+-- from the first on they are those of the union
+pub events_after-first : (g h : GraphData) (multi directed : Bool) → events_after g h multi directed 0 ≡ merged_unless multi directed (union_events g h directed)
+events_after-first g h multi directed =
+    let count : order_of g - 0 ≡ order_of g = omega arith in
+    ap (λ n. flat_map (λ u. merged_unless multi directed (events_of g h directed u)) (range_with_len 0 n)) count
+    ∙ sym (merged_parts multi directed (events_of g h directed) (vertices_apart g h directed) 0 (order_of g))
 
 -- those of v come first
-pub events_after-next : (g h : GraphData) (directed : Bool) (v : ℕ) → v < order_of g
-    → events_after g h directed v ≡ map (event_of v) (union_arcs g h directed v) ++ events_after g h directed (v + 1)
-events_after-next g h directed v below =
+pub events_after-next : (g h : GraphData) (multi directed : Bool) (v : ℕ) → v < order_of g
+    → events_after g h multi directed v ≡ merged_unless multi directed (events_of g h directed v) ++ events_after g h multi directed (v + 1)
+events_after-next g h multi directed v below =
     let count : order_of g - v ≡ suc (order_of g - (v + 1)) = omega arith in
-    ap (λ n. flat_map (λ u. map (event_of u) (union_arcs g h directed u)) (range_with_len v n)) count
+    ap (λ n. flat_map (λ u. merged_unless multi directed (events_of g h directed u)) (range_with_len v n)) count
 
 -- past the last vertex there are none
-pub events_after-none : (g h : GraphData) (directed : Bool) (v : ℕ) → order_of g ≤ v → events_after g h directed v ≡ []
-events_after-none g h directed v past =
+pub events_after-none : (g h : GraphData) (multi directed : Bool) (v : ℕ) → order_of g ≤ v → events_after g h multi directed v ≡ []
+events_after-none g h multi directed v past =
     let count : order_of g - v ≡ 0 = omega arith in
-    ap (λ n. flat_map (λ u. map (event_of u) (union_arcs g h directed u)) (range_with_len v n)) count
+    ap (λ n. flat_map (λ u. merged_unless multi directed (events_of g h directed u)) (range_with_len v n)) count

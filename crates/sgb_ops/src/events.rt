@@ -89,8 +89,11 @@ pub(crate) fn graph_of(
     Ok(built)
 }
 
-// Adds the arcs, or edges, of `events` in their order.
-fn add_events(built: &mut Graph, directed: bool, events: &[Event]) -> Result<(), Panic>
+/// Adds the arcs of `events`, or edges unless `directed`, in their order. Their ends are vertices of the graph, whose records
+/// have no utility fields yet.
+///
+/// `NoRoom` when out of memory, and nothing else.
+pub(crate) fn add_events(built: &mut Graph, directed: bool, events: &[Event]) -> Result<(), Panic>
     requires within { AllWithin (length built.old.vertices) events.now }
     requires plain { HasPlainArcs built.old }
     ensures ok { OnOk result (AddsEvents directed built.old built.new events.now) }

@@ -2,11 +2,13 @@
 ghost use Rattle.std.specs.Prelude.{◌≡◌, ◌<◌, ◌++◌, [], ◌∷◌, length, map, filter, nat_lt, OnOk, IfOk, IsOkUnless, if◌then◌else◌};
 ghost use Rattle.sgb_graph.specs.Descriptions.{IsAnswerOf};
 ghost use Rattle.sgb_graph.specs.declared.fields.Link.{Link};
-ghost use Rattle.sgb_ops.specs.Ends.{AllWithin, event_of};
+ghost use Rattle.sgb_graph.specs.Growth.{AddsEvents, HasPlainArcs};
+ghost use Rattle.sgb_ops.specs.Ends.{event_of};
 ghost use Rattle.sgb_ops.specs.Gunion.{gunion_id, gunion_of, union_arcs, union_events};
+ghost use Rattle.sgb_ops.specs.Merged.{merged_unless};
 ghost use Rattle.sgb_ops.specs.Taken.{taken};
 
-use crate::events::{Event, graph_of};
+use crate::events::{Event, add_events};
 use crate::merged::merged_unless;
 use crate::operands::names_of;
 use crate::taken::taken;
@@ -31,11 +33,11 @@ pub fn gunion(
 ) -> Result<Graph, Panic>
     ensures { IsAnswerOf (gunion_of first.now second.now multi directed) result }
 {
-    let all = union_events(alloc, first, second, directed)?;
-    let events = merged_unless(alloc, multi, directed, all)?;
     let names = names_of(alloc, first)?;
-    let id = union_id(first.id(), second.id(), multi, directed);
-    graph_of(alloc, directed, &events, names, id)
+    let mut union = Graph::new(alloc, names)?;
+    add_union_events(&mut union, alloc, first, second, multi, directed)?;
+    union.set_id(union_id(first.id(), second.id(), multi, directed));
+    Ok(union)
 }
 
 // The id of the result, made from the operands'.
@@ -46,41 +48,48 @@ fn union_id(id1: &Id, id2: &Id, multi: bool, directed: bool) -> Id
     double_compound_id(b"gunion(", id1, b",", id2, &end)
 }
 
-// The events of both graphs, with parallel ones.
-fn union_events(
+// Adds the events of both graphs to that of the names of `first`. Events of different vertices never have the same ends:
+// so they are merged vertex by vertex.
+fn add_union_events(
+    union: &mut Graph,
+    alloc: Global,
+    first: &Graph,
+    second: &Graph,
+    multi: bool,
+    directed: bool,
+) -> Result<(), Panic>
+    requires size { length union.old.vertices ≡ length first.now.vertices }
+    requires plain { HasPlainArcs union.old }
+    ensures ok { OnOk result (AddsEvents directed union.old union.new (merged_unless multi directed (union_events first.now second.now directed))) }
+    ensures memory { IsOkUnless result Panic.NoRoom }
+{
+    for v in 0..first.n() {
+        let all = events_from(alloc, first, second, directed, v)?;
+        let events = merged_unless(alloc, multi, directed, all)?;
+        add_events(union, directed, &events)?;
+    }
+    Ok(())
+}
+
+// The events of vertex `v`, with parallel ones.
+fn events_from(
     alloc: Global,
     first: &Graph,
     second: &Graph,
     directed: bool,
+    v: u32,
 ) -> Result<Vec<Event>, Panic>
-    ensures ok { IfOk result (λ events. events.items ≡ union_events first.now second.now directed) }
-    ensures within { IfOk result (λ events. AllWithin (length first.now.vertices) events.items) }
+    requires vertex { v < length first.now.vertices }
+    ensures ok { IfOk result (λ events. events.items ≡ map (event_of v) (union_arcs first.now second.now directed v)) }
     ensures memory { IsOkUnless result Panic.NoRoom }
 {
     let mut events = Vec::new(alloc);
-    for v in 0..first.n() {
-        push_union_arcs(&mut events, first, second, directed, v)?;
+    push_taken(&mut events, first, directed, v, first.n())?;
+    if v >= second.n() {
+        return Ok(events);
     }
+    push_taken(&mut events, second, directed, v, first.n())?;
     Ok(events)
-}
-
-// Appends the events of vertex `v`.
-fn push_union_arcs(
-    events: &mut Vec<Event>,
-    first: &Graph,
-    second: &Graph,
-    directed: bool,
-    v: u32,
-) -> Result<(), Panic>
-    requires vertex { v < length first.now.vertices }
-    ensures ok { OnOk result (events.new.items ≡ events.old.items ++ map (event_of v) (union_arcs first.now second.now directed v)) }
-    ensures memory { IsOkUnless result Panic.NoRoom }
-{
-    push_taken(events, first, directed, v, first.n())?;
-    if v < second.n() {
-        push_taken(events, second, directed, v, first.n())?;
-    }
-    Ok(())
 }
 
 // Appends the events of the arcs taken of `v` in `graph` whose tip is below `n`.

@@ -32,9 +32,9 @@ fn merged(alloc: Global, directed: bool, events: &[Event]) -> Result<Vec<Event>,
     ensures ok { IfOk result (λ left. left.items ≡ merged directed events.now) }
     ensures memory { IsOkUnless result Panic.NoRoom }
 {
-    let mut left = Vec::new(alloc);
+    let mut left = Vec::with_capacity(alloc, events.len())?;
     // The ends of the events that are left, in the same order.
-    let mut ends = IndexSet::new(alloc);
+    let mut ends = IndexSet::with_capacity(alloc, events.len())?;
     for event in events {
         merge_event(&mut left, &mut ends, directed, *event)?;
     }

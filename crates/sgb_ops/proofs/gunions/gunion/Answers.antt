@@ -1,14 +1,14 @@
-use Rattle.std.proofs.Common.{◌≡◌, ◌∙◌, sym, subst, ap, length}
-use Rattle.std.proofs.lemmas.List.{length-map}
-use Rattle.sgb_ops.specs.Ends.{AllWithin}
-use Rattle.sgb_ops.proofs.EventsWithin.{merged_unless_within}
+use Rattle.std.proofs.Common.{◌∙◌, ap}
+use Rattle.sgb_ops.specs.Gunion.{gunion_id, union_events}
+use Rattle.sgb_ops.specs.Merged.{merged_unless}
+use Rattle.sgb_ops.specs.Operands.{names_of}
+use Rattle.sgb_ops.proofs.Results.{made}
 use Rattle.sgb_ops.proofs.gunions.gunion.Goals as goal
 
-pub graph_of-requires-clause-within : goal.graph_of-requires-clause-within
-graph_of-requires-clause-within c =
+pub returns : goal.returns
+returns c =
     let g = c.args.first.now in
-    let n = length g.vertices in
-    let size : n ≡ length c.in_ok-names.names = sym (ap length c.in_ok-names.ensures.ok ∙ length-map g.vertices (λ x. x.name)) in
-    let same = c.deref.ensures.value ∙ c.in_ok-events.ensures.ok in
-    let all = merged_unless_within n c.args.multi c.args.directed c.in_ok-all.all.items c.in_ok-all.ensures.within in
-    subst (λ k. AllWithin k c.deref.result.now) size (subst (AllWithin n) (sym same) all)
+    let h = c.args.second.now in
+    made c.args.directed (merged_unless c.args.multi c.args.directed (union_events g h c.args.directed)) (names_of g) c.in_ok-names.names (gunion_id g.id h.id c.args.multi c.args.directed) _ c.in_ok-union.union c.add_union_events.new.union c.set_id.new.self
+    c.in_ok-names.ensures.ok c.in_ok-union.ensures.ok c.in_ok-add_union_events.ensures.ok
+    (c.union_id.ensures ∙ (ap (λ i. gunion_id i c.id-2.result.now c.args.multi c.args.directed) c.id.ensures ∙ ap (λ i. gunion_id g.id i c.args.multi c.args.directed) c.id-2.ensures)) c.set_id.ensures

@@ -9,8 +9,8 @@ use Rattle.sgb_ops.proofs.merged.merged.Goals as goal
 pub loop-event-init : goal.loop-event-init
 unfolding merged
 loop-event-init c =
-    let nothing : c.new-left.result.items ≡ [] = c.new-left.ensures.items in
-    (nothing, c.new-ends.ensures.empty ∙ ap (map (ends_key c.args.directed)) (sym nothing))
+    let nothing : c.in_ok-left.left.items ≡ [] = c.in_ok-left.ensures.items in
+    (nothing, c.in_ok-ends.ensures.empty ∙ ap (map (ends_key c.args.directed)) (sym nothing))
 
 pub loop-event-preserved : goal.loop-event-preserved
 loop-event-preserved c =

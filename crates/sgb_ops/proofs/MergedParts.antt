@@ -1,0 +1,72 @@
+-- Events in parts that share no ends are merged part by part.
+use Rattle.std.proofs.Common.{◌≡◌, ◌<◌, ◌+◌, ℕ, zero, suc, Bool, true, false, not, List, [], ◌∷◌, ◌++◌, get_or, refl, ap, ◌∙◌, append-nil, arith}
+use Rattle.std.specs.Prelude.{All, filter, flat_map}
+use Rattle.std.specs.List.{range_with_len}
+use Rattle.std.proofs.lemmas.List.Elements.{All-nil, All-cons, All-head, All-tail, All-append, All-filter, filter-append}
+use Rattle.sgb_graph.specs.Events.{Event}
+use Rattle.sgb_ops.specs.Merged.{has_ends_of, with_least_length, merged, merged_unless}
+
+-- the events do not have the same ends
+abbrev apart : Bool → Event → Event → Type 0
+apart directed e f = has_ends_of directed e f ≡ false
+
+-- no event of the first list has the ends of one of the second
+abbrev pub AreApart : Bool → List Event → List Event → Type 0
+AreApart directed xs ys = All (λ e. All (apart directed e) ys) xs
+
+-- none has the ends of e
+none_like : (directed : Bool) (e : Event) (ys : List Event) → All (apart directed e) ys → filter (has_ends_of directed e) ys ≡ []
+none_like directed e [] all = refl
+none_like directed e (f ∷ ys) all =
+    let first = All-head (apart directed e) f ys all in
+    rw (first, none_like directed e ys (All-tail (apart directed e) f ys all)) refl
+
+-- so all stay
+all_stay : (directed : Bool) (e : Event) (ys : List Event) → All (apart directed e) ys → filter (λ f. not (has_ends_of directed e f)) ys ≡ ys
+all_stay directed e [] all = refl
+all_stay directed e (f ∷ ys) all =
+    let first = All-head (apart directed e) f ys all in
+    rw (first, all_stay directed e ys (All-tail (apart directed e) f ys all)) refl
+
+-- merged events keep their ends
+merged_apart_from : (directed : Bool) (e : Event) (ys : List Event) → All (apart directed e) ys → All (apart directed e) (merged directed ys)
+unfolding merged
+merged_apart_from directed e [] all = All-nil (apart directed e)
+merged_apart_from directed e (f ∷ ys) all =
+    let rest = merged_apart_from directed e ys (All-tail (apart directed e) f ys all) in
+    All-cons (apart directed e) (with_least_length directed f ys) (filter (λ x. not (has_ends_of directed f x)) (merged directed ys)) (All-head (apart directed e) f ys all)
+    (All-filter (λ x. not (has_ends_of directed f x)) (apart directed e) (merged directed ys) rest)
+
+-- two parts
+merged_of_both : (directed : Bool) (xs ys : List Event) → AreApart directed xs ys → merged directed (xs ++ ys) ≡ merged directed xs ++ merged directed ys
+unfolding merged
+merged_of_both directed [] ys all = refl
+merged_of_both directed (e ∷ xs) ys all =
+    let from_e = All-head (λ x. All (apart directed x) ys) e xs all in
+    let others = λ (f : Event). not (has_ends_of directed e f) in
+    let like = filter-append (has_ends_of directed e) xs ys
+    ∙ (ap (λ fs. filter (has_ends_of directed e) xs ++ fs) (none_like directed e ys from_e) ∙ append-nil (filter (has_ends_of directed e) xs)) in
+    let rest = ap (filter others) (merged_of_both directed xs ys (All-tail (λ x. All (apart directed x) ys) e xs all))
+    ∙ (filter-append others (merged directed xs) (merged directed ys)
+    ∙ ap (λ fs. filter others (merged directed xs) ++ fs) (all_stay directed e (merged directed ys) (merged_apart_from directed e ys from_e))) in
+    rw (like, rest) refl
+
+module _ (directed : Bool) (f : ℕ → List Event) (each : (u w : ℕ) → u < w → AreApart directed (f u) (f w)) where
+  -- a part and all that come after it
+  apart_from_later : (u v count : ℕ) → u < v → AreApart directed (f u) (flat_map f (range_with_len v count))
+  apart_from_later u v zero after = λ k d h. All-nil (apart directed (get_or (f u) k d))
+  apart_from_later u v (suc count) after =
+      λ k d h. All-append (apart directed (get_or (f u) k d)) (f v) (flat_map f (range_with_len (v + 1) count)) (each u v after k d h) (apart_from_later u (v + 1) count (omega (arith, after)) k d h)
+
+  merged_of_all : (v count : ℕ) → merged directed (flat_map f (range_with_len v count)) ≡ flat_map (λ u. merged directed (f u)) (range_with_len v count)
+  unfolding merged
+  merged_of_all v zero = refl
+  merged_of_all v (suc count) =
+      merged_of_both directed (f v) (flat_map f (range_with_len (v + 1) count)) (apart_from_later v (v + 1) count (omega arith))
+      ∙ ap (λ es. merged directed (f v) ++ es) (merged_of_all (v + 1) count)
+
+-- all parts, one for each number
+pub merged_parts : (multi directed : Bool) (f : ℕ → List Event) → ((u w : ℕ) → u < w → AreApart directed (f u) (f w)) → (v count : ℕ)
+    → merged_unless multi directed (flat_map f (range_with_len v count)) ≡ flat_map (λ u. merged_unless multi directed (f u)) (range_with_len v count)
+merged_parts true directed f each v count = refl
+merged_parts false directed f each v count = merged_of_all directed f each v count
