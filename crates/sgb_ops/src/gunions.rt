@@ -34,10 +34,10 @@ pub fn gunion(
     ensures { IsAnswerOf (gunion_of first.now second.now multi directed) result }
 {
     let names = names_of(alloc, first)?;
-    let mut union = Graph::new(alloc, names)?;
-    add_union_events(&mut union, alloc, first, second, multi, directed)?;
-    union.set_id(union_id(first.id(), second.id(), multi, directed));
-    Ok(union)
+    let mut built = Graph::new(alloc, names)?;
+    add_union_events(&mut built, alloc, first, second, multi, directed)?;
+    built.set_id(union_id(first.id(), second.id(), multi, directed));
+    Ok(built)
 }
 
 // The id of the result, made from the operands'.
@@ -51,22 +51,22 @@ fn union_id(id1: &Id, id2: &Id, multi: bool, directed: bool) -> Id
 // Adds the events of both graphs to that of the names of `first`. Events of different vertices never have the same ends:
 // so they are merged vertex by vertex.
 fn add_union_events(
-    union: &mut Graph,
+    built: &mut Graph,
     alloc: Global,
     first: &Graph,
     second: &Graph,
     multi: bool,
     directed: bool,
 ) -> Result<(), Panic>
-    requires size { length union.old.vertices ≡ length first.now.vertices }
-    requires plain { HasPlainArcs union.old }
-    ensures ok { OnOk result (AddsEvents directed union.old union.new (merged_unless multi directed (union_events first.now second.now directed))) }
+    requires size { length built.old.vertices ≡ length first.now.vertices }
+    requires plain { HasPlainArcs built.old }
+    ensures ok { OnOk result (AddsEvents directed built.old built.new (merged_unless multi directed (union_events first.now second.now directed))) }
     ensures memory { IsOkUnless result Panic.NoRoom }
 {
     for v in 0..first.n() {
         let all = events_from(alloc, first, second, directed, v)?;
         let events = merged_unless(alloc, multi, directed, all)?;
-        add_events(union, directed, &events)?;
+        add_events(built, directed, &events)?;
     }
     Ok(())
 }

@@ -25,8 +25,8 @@ loop-v-preserved c =
     let v = c.loop-v.v in
     let now = c.add_events.new.built in
     let same = c.deref.ensures.value ∙ (c.in_ok-events.ensures.ok ∙ ap (merged_unless multi directed) c.in_ok-all.ensures.ok) in
-    up_to-more directed c.args.union.now c.loop-v.union now (merged_unless multi directed (events_of g h directed v)) (events_after g h multi directed (v + 1)) (events_after g h multi directed 0) _
-    c.loop-v.invariant (events_after-next g h multi directed v (omega arith)) (subst (AddsEvents directed c.loop-v.union now) same c.in_ok-add_events.ensures.ok)
+    up_to-more directed c.args.built.now c.loop-v.built now (merged_unless multi directed (events_of g h directed v)) (events_after g h multi directed (v + 1)) (events_after g h multi directed 0) _
+    c.loop-v.invariant (events_after-next g h multi directed v (omega arith)) (subst (AddsEvents directed c.loop-v.built now) same c.in_ok-add_events.ensures.ok)
 
 pub returns-clause-ok : goal.returns-clause-ok
 returns-clause-ok c =
@@ -34,5 +34,5 @@ returns-clause-ok c =
     let h = c.args.second.now in
     let multi = c.args.multi in
     let directed = c.args.directed in
-    subst (AddsEvents directed c.args.union.now c.loop-v.union) (events_after-first g h multi directed)
-    (up_to-all directed c.args.union.now c.loop-v.union (events_after g h multi directed c.loop-v.v) (events_after g h multi directed 0) c.loop-v.invariant (events_after-none g h multi directed c.loop-v.v (omega arith)))
+    subst (AddsEvents directed c.args.built.now c.loop-v.built) (events_after-first g h multi directed)
+    (up_to-all directed c.args.built.now c.loop-v.built (events_after g h multi directed c.loop-v.v) (events_after g h multi directed 0) c.loop-v.invariant (events_after-none g h multi directed c.loop-v.v (omega arith)))
