@@ -1,5 +1,5 @@
 -- The events of a union, as they are found and merged vertex by vertex.
-use Rattle.std.proofs.Common.{◌≡◌, ◌<◌, ◌≤◌, ◌+◌, ◌-◌, ◌==◌, ℕ, suc, Bool, true, false, List, [], ◌∷◌, ◌++◌, map, get_or, refl, sym, ap, ◌∙◌, append-nil, arith}
+use Rattle.std.proofs.Common.{◌≡◌, ◌<◌, ◌≤◌, ◌+◌, ◌-◌, ◌==◌, ℕ, suc, Bool, true, false, List, [], ◌∷◌, ◌++◌, map, get_or, refl, sym, ap, subst, ◌∙◌, append-nil, arith}
 use Rattle.std.specs.Prelude.{All, filter, flat_map, nat_lt, if◌then◌else◌}
 use Rattle.std.specs.List.{range_with_len}
 use Rattle.std.proofs.lemmas.Bool.{lt-ltb, le-ltb, ltb-true, ne_eqb, and_right}
@@ -7,8 +7,9 @@ use Rattle.std.proofs.lemmas.List.{map-append}
 use Rattle.std.proofs.lemmas.List.Elements.{All-head, All-tail, All-append, All-filter, All-map, All-nil, filter_passes}
 use Rattle.sgb_graph.specs.Graphs.{GraphData, chain_of}
 use Rattle.sgb_graph.specs.Events.{Event}
-use Rattle.sgb_graph.specs.Growth.{IsKept}
+use Rattle.sgb_graph.specs.Growth.{AddsEvents, IsKept}
 use Rattle.sgb_graph.specs.declared.fields.Link.{Link}
+use Rattle.sgb_graph.proofs.AddedEvents.{AddsUpTo, up_to-all, up_to-more}
 use Rattle.sgb_ops.specs.Ends.{AllWithin, event_of}
 use Rattle.sgb_ops.specs.Gunion.{union_arcs, union_events}
 use Rattle.sgb_ops.specs.Operands.{order_of}
@@ -73,10 +74,12 @@ module _ (g h : GraphData) (directed : Bool) (v : ℕ) (kept : IsKept g) (below 
       by_test true = lead_below (order_of g) (taken directed h v)
       by_test false = All-nil (TipBelow (order_of g))
 
-  -- so the ends of its events that are left are vertices of the first graph
-  pub left_within : (multi : Bool) → AllWithin (order_of g) (merged_unless multi directed (events_of g h directed v))
-  left_within multi =
-      merged_unless_within (order_of g) multi directed (events_of g h directed v) (events_of_within (order_of g) v (union_arcs g h directed v) below arcs_lead_below)
+  -- so the ends of its events that are left are vertices of a graph of that size
+  pub left_within : (multi : Bool) (n : ℕ) (found left : List Event) → n ≡ order_of g
+      → left ≡ merged_unless multi directed found → found ≡ events_of g h directed v → AllWithin n left
+  left_within multi n found left size merges all =
+      let within = merged_unless_within (order_of g) multi directed (events_of g h directed v) (events_of_within (order_of g) v (union_arcs g h directed v) below arcs_lead_below) in
+      rw (size, merges, all) within
 
 -- an arc that is taken of a vertex for an undirected result leads up
 abbrev LeadsUp : Bool → ℕ → Link → Type 0
@@ -117,21 +120,38 @@ events_after g h multi directed v =
     flat_map (λ u. merged_unless multi directed (events_of g h directed u)) (range_with_len v (order_of g - v))
 
 -- from the first on they are those of the union
-pub events_after-first : (g h : GraphData) (multi directed : Bool) → events_after g h multi directed 0 ≡ merged_unless multi directed (union_events g h directed)
+events_after-first : (g h : GraphData) (multi directed : Bool) → events_after g h multi directed 0 ≡ merged_unless multi directed (union_events g h directed)
 events_after-first g h multi directed =
     let count : order_of g - 0 ≡ order_of g = omega arith in
     ap (λ n. flat_map (λ u. merged_unless multi directed (events_of g h directed u)) (range_with_len 0 n)) count
     ∙ sym (merged_parts multi directed (events_of g h directed) (vertices_apart g h directed) 0 (order_of g))
 
 -- those of v come first
-pub events_after-next : (g h : GraphData) (multi directed : Bool) (v : ℕ) → v < order_of g
+events_after-next : (g h : GraphData) (multi directed : Bool) (v : ℕ) → v < order_of g
     → events_after g h multi directed v ≡ merged_unless multi directed (events_of g h directed v) ++ events_after g h multi directed (v + 1)
 events_after-next g h multi directed v below =
     let count : order_of g - v ≡ suc (order_of g - (v + 1)) = omega arith in
     ap (λ n. flat_map (λ u. merged_unless multi directed (events_of g h directed u)) (range_with_len v n)) count
 
+-- those of v are added
+pub added_more : (g h : GraphData) (multi directed : Bool) (v : ℕ) (old now new : GraphData) (found left : List Event) → v < order_of g
+    → AddsUpTo directed old now (events_after g h multi directed v) (events_after g h multi directed 0)
+    → left ≡ merged_unless multi directed found → found ≡ events_of g h directed v → AddsEvents directed now new left
+    → AddsUpTo directed old new (events_after g h multi directed (v + 1)) (events_after g h multi directed 0)
+added_more g h multi directed v old now new found left below so_far merges all added =
+    up_to-more directed old now new (merged_unless multi directed (events_of g h directed v)) (events_after g h multi directed (v + 1)) (events_after g h multi directed 0) _
+    so_far (events_after-next g h multi directed v below) (subst (AddsEvents directed now new) (merges ∙ ap (merged_unless multi directed) all) added)
+
 -- past the last vertex there are none
-pub events_after-none : (g h : GraphData) (multi directed : Bool) (v : ℕ) → order_of g ≤ v → events_after g h multi directed v ≡ []
+events_after-none : (g h : GraphData) (multi directed : Bool) (v : ℕ) → order_of g ≤ v → events_after g h multi directed v ≡ []
 events_after-none g h multi directed v past =
     let count : order_of g - v ≡ 0 = omega arith in
     ap (λ n. flat_map (λ u. merged_unless multi directed (events_of g h directed u)) (range_with_len v n)) count
+
+-- so all are added
+pub added_all : (g h : GraphData) (multi directed : Bool) (v : ℕ) (old now : GraphData) → order_of g ≤ v
+    → AddsUpTo directed old now (events_after g h multi directed v) (events_after g h multi directed 0)
+    → AddsEvents directed old now (merged_unless multi directed (union_events g h directed))
+added_all g h multi directed v old now past so_far =
+    subst (AddsEvents directed old now) (events_after-first g h multi directed)
+    (up_to-all directed old now (events_after g h multi directed v) (events_after g h multi directed 0) so_far (events_after-none g h multi directed v past))
