@@ -1,4 +1,4 @@
-use Rattle.std.proofs.Common.{◌∙◌, ap, length, map, sym, arith}
+use Rattle.std.proofs.Common.{◌∙◌, ap, map, sym, arith}
 use Rattle.std.proofs.lemmas.Int.{to_z-of_z}
 use mir.Syntax.{w64}
 use mir.Val.{SFits}
@@ -10,13 +10,7 @@ use Rattle.sgb_graph.proofs.vertices.Vertices.put_numbers.Goals as goal
 
 pub index_mut-requires : goal.index_mut-requires
 index_mut-requires c =
-    omega (
-      arith,
-      c.requires,
-      c.self.inside.plain.ok.0,
-      length-kept c.self.inside.plain.items c.self.inside.fields c.self.invariant,
-      ap (λ (g : KeptVertices). length g.items) c.self.view_is,
-    )
+    omega (arith, c.requires, c.self.inside.plain.ok.0, length-kept c.self.inside.plain.items c.self.inside.fields c.args.self.now c.self.invariant c.self.view_is)
 
 pub invariant_of-self : goal.invariant_of-self
 invariant_of-self c =
