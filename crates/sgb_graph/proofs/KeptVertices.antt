@@ -4,6 +4,9 @@ use Rattle.std.specs.Prelude.{slice_get, option_map}
 use Rattle.std.specs.Option.{option_and_then}
 use Rattle.std.proofs.Math.Seq.{map-set_same, take-append_seam}
 use Rattle.std.proofs.Math.ListN.{get_or-map}
+use Rattle.std.proofs.lemmas.Int.{to_z-of_z}
+use mir.Syntax.{w64}
+use mir.Val.{SFits, to_z, of_z}
 use Rattle.std.proofs.lemmas.List.{length-map, length_push, length-replicate, length-set, map-append, map-set, get_or-set_other, take_all, take_more, take_more_set}
 use Rattle.std.proofs.lemmas.Option.{get_or_from_slice_get, slice_get-map, slice_get_within}
 use Rattle.sgb_graph.specs.Columns.{HoldsMany, column_kind, values}
@@ -552,7 +555,7 @@ pub record AreWritten (old : List PlainVertex) (f : Fields) (new : List PlainVer
   pub whole : AreKept new g
   pub same : kept_vertices new g ≡ record (kept_vertices old f) { x = I; y = I; z = I; items = at_place (with_numbers x y z) v (map with_some_numbers (kept_items old f)) }
 
-pub are_written : (n : ℕ) (old : List PlainVertex) (f : Fields) (new : List PlainVertex) (g : Fields) (p : PlainVertex) (v : ℕ) (x y z : ℤ) → length old ≡ n → AreKept old f → HoldNumbers old f new g
+are_written : (n : ℕ) (old : List PlainVertex) (f : Fields) (new : List PlainVertex) (g : Fields) (p : PlainVertex) (v : ℕ) (x y z : ℤ) → length old ≡ n → AreKept old f → HoldNumbers old f new g
     → p ≡ get_or (take n (new ++ drop (length new) old)) v p
     → AreWritten old f (set (take n (new ++ drop (length new) old)) v (record p { ints = x ∷ y ∷ z ∷ [] })) g v x y z
 are_written n old f new g p v x y z count kept held =
@@ -577,3 +580,11 @@ are_written n old f new g p v x y z count kept held =
 
     of_new : p ≡ get_or new v p → AreWritten old f (set new v q) g v x y z
     of_new here = subst (λ (h : Fields). AreWritten old f (set new v q) h v x y z) (sym held.fields) (of_inside here)
+
+-- the same of numbers that pass through words of 64 bits
+pub written_in_words : (n : ℕ) (lent old : List PlainVertex) (f : Fields) (new : List PlainVertex) (g : Fields) (p : PlainVertex) (v : ℕ) (x y z : ℤ) → SFits w64 x → SFits w64 y → SFits w64 z
+    → length old ≡ n → AreKept old f → lent ≡ old → HoldNumbers lent f new g → p ≡ get_or (take n (new ++ drop (length new) old)) v p
+    → AreWritten old f (set (take n (new ++ drop (length new) old)) v (record p { ints = to_z w64 (of_z w64 x) ∷ to_z w64 (of_z w64 y) ∷ to_z w64 (of_z w64 z) ∷ [] })) g v x y z
+written_in_words n lent old f new g p v x y z i j k count kept same held here =
+    rw (to_z-of_z w64 x i, to_z-of_z w64 y j, to_z-of_z w64 z k)
+    (are_written n old f new g p v x y z count kept (subst (λ ps. HoldNumbers ps f new g) same held) here)
