@@ -1,5 +1,5 @@
 -- Graphs made of vertices and records that are kept: how one with more arcs or with more numbers is made.
-use Rattle.std.proofs.Common.{◌≡◌, ◌<◌, ◌+◌, ◌++◌, ℕ, ℤ, true, List, [], ◌∷◌, length, map, min, max, set, slice_get, slice_index_or, Some, refl, arith}
+use Rattle.std.proofs.Common.{◌≡◌, ◌<◌, ◌+◌, ◌++◌, ℕ, ℤ, true, List, [], ◌∷◌, length, map, min, max, set, slice_get, Some, refl}
 use Rattle.sgb_graph.specs.Columns.{util_kind}
 use Rattle.sgb_graph.specs.Graphs.{ends_of, links_of, vertex_of}
 use Rattle.sgb_graph.specs.Growth.{AddsArc, AddsEdge, HasPlainArcs, IsKept, after_lower, arc_record, at_place, first_arc, link, with_arcs, with_ends}
@@ -53,19 +53,3 @@ step_to records k r ends is =
     let same : step.here ≡ r = cc in
     let both : IsStepTo records k step.here = record { links = step.links; ends = step.ends } in
     rw same at both
-
--- the first six of a list of kinds
-abbrev pub six_kinds : List Kind → List Kind
-six_kinds ks =
-    slice_index_or ks 0 Z ∷ slice_index_or ks 1 Z ∷ slice_index_or ks 2 Z ∷ slice_index_or ks 3 Z ∷ slice_index_or ks 4 Z ∷ slice_index_or ks 5 Z ∷ []
-
--- six kinds are the first six of them
-pub six_again : (ks : List Kind) → length ks ≡ 6 → six_kinds ks ≡ ks
-six_again [] long = absurd (omega arith)
-six_again (a ∷ []) long = absurd (omega arith)
-six_again (a ∷ b ∷ []) long = absurd (omega arith)
-six_again (a ∷ b ∷ c ∷ []) long = absurd (omega arith)
-six_again (a ∷ b ∷ c ∷ d ∷ []) long = absurd (omega arith)
-six_again (a ∷ b ∷ c ∷ d ∷ e ∷ []) long = absurd (omega arith)
-six_again (a ∷ b ∷ c ∷ d ∷ e ∷ f ∷ []) long = refl
-six_again (a ∷ b ∷ c ∷ d ∷ e ∷ f ∷ g ∷ ks) long = absurd (omega arith)

@@ -95,8 +95,9 @@ record_fit g is few k d below =
       next = fits_small (length g.records) r.next few first.1;
     }
 
--- fourteen kinds are those of vertices, of arcs and of the graph
-kinds_parted : (kinds : List Kind) → 8 ≤ length kinds → vertex_kinds kinds ++ slice_index_or kinds 6 Z ∷ slice_index_or kinds 7 Z ∷ graph_kinds kinds ≡ kinds
+-- kinds are those of vertices, the two of arcs, and those of the graph
+kinds_parted : (kinds : List Kind) → 8 ≤ length kinds
+    → (vertex_kinds kinds ++ slice_index_or kinds 6 Z ∷ slice_index_or kinds 7 Z ∷ graph_kinds kinds ≡ kinds) × (arc_kinds kinds ≡ slice_index_or kinds 6 Z ∷ slice_index_or kinds 7 Z ∷ [])
 kinds_parted [] long = absurd (omega arith)
 kinds_parted (a ∷ []) long = absurd (omega arith)
 kinds_parted (a ∷ b ∷ []) long = absurd (omega arith)
@@ -105,25 +106,13 @@ kinds_parted (a ∷ b ∷ c ∷ d ∷ []) long = absurd (omega arith)
 kinds_parted (a ∷ b ∷ c ∷ d ∷ e ∷ []) long = absurd (omega arith)
 kinds_parted (a ∷ b ∷ c ∷ d ∷ e ∷ f ∷ []) long = absurd (omega arith)
 kinds_parted (a ∷ b ∷ c ∷ d ∷ e ∷ f ∷ g ∷ []) long = absurd (omega arith)
-kinds_parted (a ∷ b ∷ c ∷ d ∷ e ∷ f ∷ g ∷ h ∷ kinds) long = refl
-
--- those of arcs
-arcs_parted : (kinds : List Kind) → 8 ≤ length kinds → arc_kinds kinds ≡ slice_index_or kinds 6 Z ∷ slice_index_or kinds 7 Z ∷ []
-arcs_parted [] long = absurd (omega arith)
-arcs_parted (a ∷ []) long = absurd (omega arith)
-arcs_parted (a ∷ b ∷ []) long = absurd (omega arith)
-arcs_parted (a ∷ b ∷ c ∷ []) long = absurd (omega arith)
-arcs_parted (a ∷ b ∷ c ∷ d ∷ []) long = absurd (omega arith)
-arcs_parted (a ∷ b ∷ c ∷ d ∷ e ∷ []) long = absurd (omega arith)
-arcs_parted (a ∷ b ∷ c ∷ d ∷ e ∷ f ∷ []) long = absurd (omega arith)
-arcs_parted (a ∷ b ∷ c ∷ d ∷ e ∷ f ∷ g ∷ []) long = absurd (omega arith)
-arcs_parted (a ∷ b ∷ c ∷ d ∷ e ∷ f ∷ g ∷ h ∷ kinds) long = refl
+kinds_parted (a ∷ b ∷ c ∷ d ∷ e ∷ f ∷ g ∷ h ∷ kinds) long = (refl, refl)
 
 -- so the fields of a record are of the kinds at places 6 and 7, and its next record's number is small
 pub record_of_kinds : (g : GraphData) → IsGraph g → 8 ≤ length g.kinds → length g.records < 2 ^ 63
     → All (λ r. (util_kind r.a ≡ slice_index_or g.kinds 6 Z) × (util_kind r.b ≡ slice_index_or g.kinds 7 Z)) g.records
 record_of_kinds g is long few = λ k d below.
-    let same = (record_fit g is few k d below).kinds ∙ arcs_parted g.kinds long in
+    let same = (record_fit g is few k d below).kinds ∙ (kinds_parted g.kinds long).1 in
     (cc, cc)
 
 pub record_of_small : (g : GraphData) → IsGraph g → length g.records < 2 ^ 63 → All (λ r. IfSome r.next (λ k. k < 2 ^ 63)) g.records
@@ -139,4 +128,4 @@ kept_same g vertices records is long of_kinds nodes arcs =
     let first = ap (λ ks. ks ++ slice_index_or g.kinds 6 Z ∷ slice_index_or g.kinds 7 Z ∷ map util_kind g.util) of_kinds in
     let last = ap (λ ks. vertex_kinds g.kinds ++ slice_index_or g.kinds 6 Z ∷ slice_index_or g.kinds 7 Z ∷ ks) own in
     rw (arcs, nodes)
-    (ap (λ ks. graph_data g.id g.m ks g.util g.vertices g.records) (first ∙ last ∙ kinds_parted g.kinds long))
+    (ap (λ ks. graph_data g.id g.m ks g.util g.vertices g.records) (first ∙ last ∙ (kinds_parted g.kinds long).0))

@@ -1,16 +1,18 @@
 -- What is kept of vertices, and what is seen of it.
-use Rattle.std.proofs.Common.{◌≡◌, ◌≢◌, ◌<◌, ◌≤◌, ◌+◌, ◌^◌, ℕ, zero, suc, ℤ, pos, Option, Some, None, List, [], ◌∷◌, ◌++◌, length, map, replicate, get_or, set, drop, take, refl, ap, sym, subst, ◌∙◌, arith}
+use Rattle.std.proofs.Common.{◌≡◌, ◌≢◌, ◌<◌, ◌≤◌, ◌+◌, ℕ, zero, suc, ℤ, pos, Option, Some, None, List, [], ◌∷◌, ◌++◌, length, map, replicate, get_or, set, drop, take, refl, ap, sym, subst, ◌∙◌, arith}
 use Rattle.std.specs.Prelude.{slice_get, option_map}
 use Rattle.std.specs.Option.{option_and_then}
 use Rattle.std.proofs.Math.Seq.{map-set_same, take-append_seam}
 use Rattle.std.proofs.Math.ListN.{get_or-map}
-use Rattle.std.proofs.lemmas.Bool.Decides.{nat_tests}
+use Rattle.std.proofs.lemmas.Int.{to_z-of_z}
+use mir.Syntax.{w64}
+use mir.Val.{SFits, to_z, of_z}
 use Rattle.std.proofs.lemmas.List.{length-map, length_push, length-replicate, length-set, map-append, map-set, get_or-set_other, take_all, take_more, take_more_set}
 use Rattle.std.proofs.lemmas.Option.{get_or_from_slice_get, slice_get-map, slice_get_within}
 use Rattle.sgb_graph.specs.Columns.{HoldsMany, column_kind, values}
 use Rattle.sgb_graph.specs.Growth.{at_place, first_arc, new_vertex, number_or_zero, put_numbers, some_numbers, with_arcs, with_numbers, with_some_numbers}
 use Rattle.sgb_graph.specs.KeptRecords.{kept_number}
-use Rattle.sgb_graph.specs.KeptVertices.{AreColumns, AreKept, HasNumber, HaveValues, HoldNumbers, Keep, TakeNumbers, bare_named, bare_vertex, field_columns, field_kinds, kept_items, kept_vertices, number_at, numbers_kind, numbers_values, rows, with_fields, with_row}
+use Rattle.sgb_graph.specs.KeptVertices.{AreColumns, AreKept, KeptVertices, HasNumber, HaveValues, HoldNumbers, Keep, TakeNumbers, bare_named, bare_vertex, field_columns, field_kinds, kept_items, kept_vertices, number_at, numbers_kind, numbers_values, rows, with_fields, with_row}
 use Rattle.sgb_graph.specs.Made.{no_fields}
 use Rattle.sgb_graph.specs.declared.columns.Column.{Column}
 use Rattle.sgb_graph.specs.declared.fields.Kind.{Kind}
@@ -38,9 +40,11 @@ same_length : (ps : List PlainVertex) (f : Fields) → AreKept ps f → length (
 same_length ps f kept = length-map ps bare_vertex ∙ sym (length-rows (length ps) (field_columns ps f) kept)
 
 -- the number of vertices that are seen
-pub length-kept : (ps : List PlainVertex) (f : Fields) → AreKept ps f → length (kept_items ps f) ≡ length ps
-length-kept ps f kept =
-    length-with_fields (map bare_vertex ps) (rows (length ps) (field_columns ps f)) (same_length ps f kept) ∙ length-map ps bare_vertex
+pub length-kept : (ps : List PlainVertex) (f : Fields) (seen : KeptVertices) → AreKept ps f → kept_vertices ps f ≡ seen → length seen.items ≡ length ps
+length-kept ps f seen kept view =
+    ap (λ (g : KeptVertices). length g.items) (sym view)
+    ∙ length-with_fields (map bare_vertex ps) (rows (length ps) (field_columns ps f)) (same_length ps f kept)
+    ∙ length-map ps bare_vertex
 
 -- a vertex with its fields
 with_fields_at : (xs : List Vertex) (rs : List (List Util)) (k : ℕ) (x : Vertex) (r : List Util) → slice_get xs k ≡ Some x → slice_get rs k ≡ Some r → slice_get (with_fields xs rs) k ≡ Some (record x { util = r })
@@ -183,10 +187,6 @@ same_columns : (v : ℕ) (ps : List PlainVertex) (p q : PlainVertex) (f : Fields
 same_columns v ps p q f here ints =
     rw (length-set ps v q, same_numbers 0 v ps p q f.x here ints, same_numbers 1 v ps p q f.y here ints, same_numbers 2 v ps p q f.z here ints) refl
 
--- a number that stands for a record
-pub kept_number_is : (k : ℕ) → k + 1 < 2 ^ 64 → kept_number k ≡ Some k
-kept_number_is k small = grind (arith, nat_tests)
-
 -- another first record
 pub first_kept : (v k : ℕ) (ps : List PlainVertex) (p : PlainVertex) (f : Fields) → p ≡ get_or ps v p → AreKept ps f → AreKept (set ps v (record p { arcs = k })) f
 first_kept v k ps p f here kept =
@@ -195,17 +195,17 @@ first_kept v k ps p f here kept =
     (length-set ps v q) (same_columns v ps p q f here refl) kept
 
 -- is what is seen
-pub first_put : (v k : ℕ) (ps : List PlainVertex) (p : PlainVertex) (f : Fields) → v < length ps → p ≡ get_or ps v p → k + 1 < 2 ^ 64 → kept_items (set ps v (record p { arcs = k })) f ≡ at_place (with_arcs (Some k)) v (kept_items ps f)
-first_put v k ps p f below here small =
+pub first_put : (v k : ℕ) (first : Option ℕ) (ps : List PlainVertex) (p : PlainVertex) (f : Fields) → v < length ps → p ≡ get_or ps v p → kept_number k ≡ first → kept_items (set ps v (record p { arcs = k })) f ≡ at_place (with_arcs first) v (kept_items ps f)
+first_put v k first ps p f below here is =
     let q : PlainVertex = record p { arcs = k } in
-    let same : bare_vertex q ≡ with_arcs (Some k) (bare_vertex p) = ap (λ first. with_arcs first (bare_vertex p)) (kept_number_is k small) in
+    let same : bare_vertex q ≡ with_arcs first (bare_vertex p) = ap (λ o. with_arcs o (bare_vertex p)) is in
     let within : v < length (map bare_vertex ps) = omega (arith, length-map ps bare_vertex) in
     let there : bare_vertex p ≡ get_or (map bare_vertex ps) v (bare_vertex p) = ap bare_vertex here ∙ sym (get_or-map bare_vertex ps v p) in
-    let bare : map bare_vertex (set ps v q) ≡ at_place (with_arcs (Some k)) v (map bare_vertex ps) =
-    map-set bare_vertex ps v q ∙ (ap (set (map bare_vertex ps) v) same ∙ at_place-is_set (with_arcs (Some k)) v (map bare_vertex ps) (bare_vertex p) within there) in
-    same_table (map bare_vertex (set ps v q)) (at_place (with_arcs (Some k)) v (map bare_vertex ps)) (length (set ps v q)) (length ps)
+    let bare : map bare_vertex (set ps v q) ≡ at_place (with_arcs first) v (map bare_vertex ps) =
+    map-set bare_vertex ps v q ∙ (ap (set (map bare_vertex ps) v) same ∙ at_place-is_set (with_arcs first) v (map bare_vertex ps) (bare_vertex p) within there) in
+    same_table (map bare_vertex (set ps v q)) (at_place (with_arcs first) v (map bare_vertex ps)) (length (set ps v q)) (length ps)
     (field_columns (set ps v q) f) (field_columns ps f) bare (length-set ps v q) (same_columns v ps p q f here refl)
-    ∙ (with_fields-arcs (Some k) v (map bare_vertex ps) (rows (length ps) (field_columns ps f)))
+    ∙ (with_fields-arcs first v (map bare_vertex ps) (rows (length ps) (field_columns ps f)))
 
 -- the numbers of the first k vertices are taken, all else stays
 pub record TakenSoFar (place k : ℕ) (old new : List PlainVertex) (found : List Util) : Type 0 where
@@ -555,7 +555,7 @@ pub record AreWritten (old : List PlainVertex) (f : Fields) (new : List PlainVer
   pub whole : AreKept new g
   pub same : kept_vertices new g ≡ record (kept_vertices old f) { x = I; y = I; z = I; items = at_place (with_numbers x y z) v (map with_some_numbers (kept_items old f)) }
 
-pub are_written : (n : ℕ) (old : List PlainVertex) (f : Fields) (new : List PlainVertex) (g : Fields) (p : PlainVertex) (v : ℕ) (x y z : ℤ) → length old ≡ n → AreKept old f → HoldNumbers old f new g
+are_written : (n : ℕ) (old : List PlainVertex) (f : Fields) (new : List PlainVertex) (g : Fields) (p : PlainVertex) (v : ℕ) (x y z : ℤ) → length old ≡ n → AreKept old f → HoldNumbers old f new g
     → p ≡ get_or (take n (new ++ drop (length new) old)) v p
     → AreWritten old f (set (take n (new ++ drop (length new) old)) v (record p { ints = x ∷ y ∷ z ∷ [] })) g v x y z
 are_written n old f new g p v x y z count kept held =
@@ -580,3 +580,11 @@ are_written n old f new g p v x y z count kept held =
 
     of_new : p ≡ get_or new v p → AreWritten old f (set new v q) g v x y z
     of_new here = subst (λ (h : Fields). AreWritten old f (set new v q) h v x y z) (sym held.fields) (of_inside here)
+
+-- the same of numbers that pass through words of 64 bits
+pub written_in_words : (n : ℕ) (lent old : List PlainVertex) (f : Fields) (new : List PlainVertex) (g : Fields) (p : PlainVertex) (v : ℕ) (x y z : ℤ) → SFits w64 x → SFits w64 y → SFits w64 z
+    → length old ≡ n → AreKept old f → lent ≡ old → HoldNumbers lent f new g → p ≡ get_or (take n (new ++ drop (length new) old)) v p
+    → AreWritten old f (set (take n (new ++ drop (length new) old)) v (record p { ints = to_z w64 (of_z w64 x) ∷ to_z w64 (of_z w64 y) ∷ to_z w64 (of_z w64 z) ∷ [] })) g v x y z
+written_in_words n lent old f new g p v x y z i j k count kept same held here =
+    rw (to_z-of_z w64 x i, to_z-of_z w64 y j, to_z-of_z w64 z k)
+    (are_written n old f new g p v x y z count kept (subst (λ ps. HoldNumbers ps f new g) same held) here)

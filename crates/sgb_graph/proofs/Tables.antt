@@ -148,24 +148,27 @@ at_place-set y k [] = refl
 at_place-set y zero (x ∷ xs) = refl
 at_place-set y (suc k) (x ∷ xs) = ap (λ ys. x ∷ ys) (at_place-set y k xs)
 
+-- what holds of each list of six elements written out holds of a list of length 6
+pub each_six : {X : Type 0} (P : List X → Type 0) (xs : List X) → length xs ≡ 6 → ((u v w x y z : X) → P (u ∷ v ∷ w ∷ x ∷ y ∷ z ∷ [])) → P xs
+each_six P [] six all = absurd (omega (arith, six))
+each_six P (a ∷ []) six all = absurd (omega (arith, six))
+each_six P (a ∷ b ∷ []) six all = absurd (omega (arith, six))
+each_six P (a ∷ b ∷ c ∷ []) six all = absurd (omega (arith, six))
+each_six P (a ∷ b ∷ c ∷ d ∷ []) six all = absurd (omega (arith, six))
+each_six P (a ∷ b ∷ c ∷ d ∷ e ∷ []) six all = absurd (omega (arith, six))
+each_six P (a ∷ b ∷ c ∷ d ∷ e ∷ f ∷ []) six all = all a b c d e f
+each_six P (a ∷ b ∷ c ∷ d ∷ e ∷ f ∷ g ∷ xs) six all = absurd (omega (arith, six))
+
 -- a list of six elements is their list
 pub six_of : {X : Type 0} (xs : List X) (u v w x y z : X) → length xs ≡ 6 → u ≡ get_or xs 0 u → v ≡ get_or xs 1 v → w ≡ get_or xs 2 w → x ≡ get_or xs 3 x → y ≡ get_or xs 4 y → z ≡ get_or xs 5 z → xs ≡ u ∷ v ∷ w ∷ x ∷ y ∷ z ∷ []
-six_of [] u v w x y z six e0 e1 e2 e3 e4 e5 = absurd (omega (arith, six))
-six_of (a ∷ []) u v w x y z six e0 e1 e2 e3 e4 e5 = absurd (omega (arith, six))
-six_of (a ∷ b ∷ []) u v w x y z six e0 e1 e2 e3 e4 e5 = absurd (omega (arith, six))
-six_of (a ∷ b ∷ c ∷ []) u v w x y z six e0 e1 e2 e3 e4 e5 = absurd (omega (arith, six))
-six_of (a ∷ b ∷ c ∷ d ∷ []) u v w x y z six e0 e1 e2 e3 e4 e5 = absurd (omega (arith, six))
-six_of (a ∷ b ∷ c ∷ d ∷ e ∷ []) u v w x y z six e0 e1 e2 e3 e4 e5 = absurd (omega (arith, six))
-six_of (a ∷ b ∷ c ∷ d ∷ e ∷ f ∷ g ∷ xs) u v w x y z six e0 e1 e2 e3 e4 e5 = absurd (omega (arith, six))
-six_of (a ∷ b ∷ c ∷ d ∷ e ∷ f ∷ []) u v w x y z six e0 e1 e2 e3 e4 e5 = rw (← e0, ← e1, ← e2, ← e3, ← e4, ← e5) refl
+six_of {X} xs u v w x y z six =
+    each_six
+    (λ (ys : List X). u ≡ get_or ys 0 u → v ≡ get_or ys 1 v → w ≡ get_or ys 2 w → x ≡ get_or ys 3 x → y ≡ get_or ys 4 y → z ≡ get_or ys 5 z → ys ≡ u ∷ v ∷ w ∷ x ∷ y ∷ z ∷ [])
+    xs six (λ a b c d e f e0 e1 e2 e3 e4 e5. rw (← e0, ← e1, ← e2, ← e3, ← e4, ← e5) refl)
 
 -- read with a default
 pub six_read : {X : Type 0} (xs : List X) (d : X) → length xs ≡ 6 → get_or xs 0 d ∷ get_or xs 1 d ∷ get_or xs 2 d ∷ get_or xs 3 d ∷ get_or xs 4 d ∷ get_or xs 5 d ∷ [] ≡ xs
-six_read [] d six = absurd (omega (arith, six))
-six_read (a ∷ []) d six = absurd (omega (arith, six))
-six_read (a ∷ b ∷ []) d six = absurd (omega (arith, six))
-six_read (a ∷ b ∷ c ∷ []) d six = absurd (omega (arith, six))
-six_read (a ∷ b ∷ c ∷ d' ∷ []) d six = absurd (omega (arith, six))
-six_read (a ∷ b ∷ c ∷ d' ∷ e ∷ []) d six = absurd (omega (arith, six))
-six_read (a ∷ b ∷ c ∷ d' ∷ e ∷ f ∷ g ∷ xs) d six = absurd (omega (arith, six))
-six_read (a ∷ b ∷ c ∷ d' ∷ e ∷ f ∷ []) d six = refl
+six_read {X} xs d six =
+    each_six
+    (λ (ys : List X). get_or ys 0 d ∷ get_or ys 1 d ∷ get_or ys 2 d ∷ get_or ys 3 d ∷ get_or ys 4 d ∷ get_or ys 5 d ∷ [] ≡ ys)
+    xs six (λ u v w x y z. refl)

@@ -6,6 +6,7 @@ mod fields;
 mod flips;
 mod graphs;
 mod ids;
+mod kept_numbers;
 mod laws;
 mod names;
 mod parts;

@@ -7,6 +7,7 @@ ghost use Rattle.sgb_graph.specs.declared.fields.Kind.TheVariants.{Z};
 
 use crate::columns::Column;
 use crate::fields::{ArcRec, ArcRef, Kind, Ref};
+use crate::kept_numbers::{keep_number, read_number};
 use std::alloc::{AllocError, Global};
 use std::marker::Model;
 
@@ -19,9 +20,6 @@ struct PlainRecord {
 }
 
 const _: () = prove!(size_of::<PlainRecord>() == 24);
-
-// The number that stands for no record. No list of records is that long.
-const NONE: usize = usize::MAX;
 
 // The arc records of a graph, one after another, and their utility fields a and b beside them.
 #[derive(Drop)]
@@ -53,19 +51,8 @@ impl PlainRecord {
     {
         PlainRecord {
             len,
-            next: after.unwrap_or(NONE),
+            next: keep_number(after),
             tip,
-        }
-    }
-
-    // The record after this one.
-    fn after(&self) -> Option<usize>
-        ensures { result ≡ kept_number self.now.next }
-    {
-        if self.next == NONE {
-            None
-        } else {
-            Some(self.next)
         }
     }
 }
@@ -126,7 +113,7 @@ impl Records {
         let plain = self.plain[k];
         ArcRef {
             tip: plain.tip,
-            next: plain.after(),
+            next: read_number(plain.next),
             len: plain.len,
             a: self.a.get(k),
             b: self.b.get(k),

@@ -12,6 +12,7 @@ ghost use Rattle.sgb_graph.specs.declared.vertices.Numbers.TheVariants.{Inside};
 
 use crate::columns::Column;
 use crate::fields::{Kind, Util, UtilRef, Vertex, VertexRef};
+use crate::kept_numbers::{keep_number, read_number};
 use crate::names::Names;
 use sgb_vec::Text;
 use std::alloc::{AllocError, Global};
@@ -43,9 +44,6 @@ struct Fields {
     y: Numbers,
     z: Numbers,
 }
-
-// The number that stands for no record. No list of records is that long.
-const NONE: usize = usize::MAX;
 
 // The vertices of a graph, one after another, and their utility fields beside them.
 #[derive(Drop)]
@@ -124,7 +122,7 @@ impl Vertices {
         ensures value { result ≡ first_arc self.now.items v }
         ensures small { IfSome result (λ k. k + 1 < 2 ^ 64) }
     {
-        self.plain[v as usize].first()
+        read_number(self.plain[v as usize].arcs)
     }
 
     // Makes this the first record of the list of vertex `v < n`.
@@ -133,7 +131,7 @@ impl Vertices {
         requires small { number + 1 < 2 ^ 64 }
         ensures { self.new ≡ record self.old { items = at_place (with_arcs (Some number)) v self.old.items } }
     {
-        self.plain[v as usize].arcs = number;
+        self.plain[v as usize].arcs = keep_number(Some(number));
     }
 
     // Vertex `v < n`.
@@ -144,7 +142,7 @@ impl Vertices {
         let plain = &self.plain[v as usize];
         VertexRef {
             name: &plain.name,
-            arcs: plain.first(),
+            arcs: read_number(plain.arcs),
             util: self.fields.get(&plain.ints, v as usize),
         }
     }
@@ -178,17 +176,9 @@ impl PlainVertex {
     {
         PlainVertex {
             name,
-            arcs: arcs.unwrap_or(NONE),
+            arcs: keep_number(arcs),
             ints,
         }
-    }
-
-    // The first record of its list of arcs.
-    fn first(&self) -> Option<usize>
-        ensures value { result ≡ kept_number self.now.arcs }
-        ensures small { IfSome result (λ k. k + 1 < 2 ^ 64) }
-    {
-        (self.arcs != NONE).then_some(self.arcs)
     }
 
     // Puts an integer into the field of this place.

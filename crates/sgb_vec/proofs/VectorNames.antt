@@ -1,7 +1,9 @@
 -- The name of a vector, one entry at a time, and that it is a text.
-use Rattle.std.proofs.Common.{◌≡◌, ℕ, zero, suc, ◌+◌, ◌*◌, ◌%◌, ◌^◌, ◌<◌, ◌≤◌, List, [], ◌∷◌, ◌++◌, length, get_or, take, decimal, refl, ap, ◌∙◌, arith, append_assoc, length-append}
+use Rattle.std.proofs.Common.{◌≡◌, ◌/◌, inl, inr, ℕ, zero, suc, ◌+◌, ◌*◌, ◌%◌, ◌^◌, ◌<◌, ◌≤◌, List, [], ◌∷◌, ◌++◌, length, get_or, take, decimal, refl, ap, ◌∙◌, arith, append_assoc, length-append}
 use Rattle.std.specs.List.{All}
+use Rattle.std.proofs.lemmas.Bool.{cases_lt}
 use Rattle.std.proofs.lemmas.Fmt.{decimal_by_steps, length-decimal-le}
+use Rattle.itoa.proofs.Decimal.{length_one, length_step_wide}
 use Rattle.std.proofs.lemmas.List.{take_more, length-take-le}
 use Rattle.std.proofs.lemmas.List.Elements.{All-nil, All-cons, All-tail, All-append, All-push}
 use Rattle.sgb_vec.specs.Names.{name_of_vector, IsTextByte, IsText}
@@ -17,6 +19,12 @@ decimal_is_text n h =
     (λ d low. All-cons IsTextByte (48 + d) [] (digit_is_text d low) (All-nil IsTextByte))
     (λ m ds high rest. All-push IsTextByte ds (48 + m % 10) rest (digit_is_text (m % 10) (omega arith)))
     n h
+
+-- the digits of a number are one more than the highest power of ten in it
+pub length-decimal-power : (k n : ℕ) → 10 ^ k ≤ n → n < 10 * 10 ^ k → n < 2 ^ 64 → length (decimal n) ≡ k + 1
+length-decimal-power zero n low high fits = length_one n (omega arith)
+length-decimal-power (suc k) n low high fits =
+    omega (arith, length_step_wide n (omega arith) (omega arith), length-decimal-power k (n / 10) (omega arith) (omega arith) (omega arith))
 
 -- the name of no entry
 pub name_of_none : name_of_vector [] ≡ []
@@ -74,3 +82,11 @@ name_of_vector-first (x ∷ rest) (suc i) none h = absurd (omega arith)
 pub name_of_vector-more : (v : List ℕ) (i : ℕ) → 0 < i → i < length v → name_of_vector (take (i + 1) v) ≡ (name_of_vector (take i v) ++ 46 ∷ []) ++ decimal (get_or v i 0)
 name_of_vector-more v i some h =
     ap name_of_vector (take_more v i 0 h) ∙ name_of_vector-push (take i v) (get_or v i 0) (omega (arith, length-take-le i v))
+
+-- the length of the name with one more entry, before which there is a dot unless it is the first
+pub length-name_of_vector-next : (v : List ℕ) (i dots : ℕ) → (0 < i → dots ≡ 1) → (i ≤ 0 → dots ≡ 0) → i < length v → length (name_of_vector (take (i + 1) v)) ≡ length (name_of_vector (take i v)) + (dots + length (decimal (get_or v i 0)))
+length-name_of_vector-next v i dots one none h =
+    elim (cases_lt 0 i) [
+      | inl some ↦ rw (name_of_vector-more v i some h, length-append, length-append) (omega (arith, one some))
+      | inr first ↦ rw (name_of_vector-first v i first h, length-append) (omega (arith, none first))
+    ]

@@ -86,7 +86,7 @@ pub fn name_of(alloc: Global, vector: &[u32]) -> Result<Text, Panic>
     ensures ok { IfOk result (λ name. name ≡ name_of_vector vector.now) }
     ensures err { OnErr result (IsErrOf result Panic.NoRoom) }
 {
-    let mut bytes = Vec::with_capacity(alloc, vector.len() * MOST_ENTRY_BYTES)?;
+    let mut bytes = Vec::with_capacity(alloc, name_length(vector))?;
     for (place, entry) in vector.iter().enumerate() {
         if place > 0 {
             bytes.push(b'.')?;
@@ -96,8 +96,28 @@ pub fn name_of(alloc: Global, vector: &[u32]) -> Result<Text, Panic>
     Ok(Text { bytes })
 }
 
-// An entry has at most ten digits, and a dot before it.
-const MOST_ENTRY_BYTES: usize = 11;
+// How many bytes the name of the vector has.
+fn name_length(vector: &[u32]) -> usize
+    requires { length vector.now ≤ most_dimensions + 1 }
+    ensures { result ≡ length (name_of_vector vector.now) }
+{
+    let mut count = 0;
+    for (place, entry) in vector.iter().enumerate() {
+        count += usize::from(place > 0) + digit_count(*entry);
+    }
+    count
+}
+
+// How many digits the number has in decimal.
+fn digit_count(number: u32) -> usize
+    ensures value { result ≡ length (decimal number) }
+    ensures bound { result ≤ 10 }
+{
+    match number.checked_ilog10() {
+        Some(power) => power as usize + 1,
+        None => 1,
+    }
+}
 
 // Appends the number in decimal.
 fn push_decimal(bytes: &mut Vec<u8>, number: u32) -> Result<(), AllocError>

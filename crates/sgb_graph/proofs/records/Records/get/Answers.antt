@@ -5,8 +5,8 @@ use Rattle.sgb_graph.proofs.KeptRecords.{length-kept_records, slice_get-records_
 use Rattle.sgb_graph.specs.Columns.{util_seen, values}
 use Rattle.sgb_graph.proofs.records.Records.get.Goals as goal
 
-pub index-requires : goal.index-requires
-index-requires c =
+pub index-plain-requires : goal.index-plain-requires
+index-plain-requires c =
     let r = c.self.inside in
     let n = length-kept_records r.plain.items r.a r.b c.self.invariant.0 c.self.invariant.1 in
     omega (arith, ap (λ d. length d.items) c.self.view_is)
@@ -30,7 +30,7 @@ returns c =
     let n = length r.plain.items in
     let m = length-kept_records r.plain.items r.a r.b c.self.invariant.0 c.self.invariant.1 in
     let l : k < length r.plain.items = omega (arith, ap (λ d. length d.items) c.self.view_is) in
-    let h = slice_get-records_with r.plain.items (values n r.a) (values n r.b) k c.index.result.now (util_seen c.get.result) (util_seen c.get-2.result) l c.index.ensures
+    let h = slice_get-records_with r.plain.items (values n r.a) (values n r.b) k c.index-plain.result.now (util_seen c.get.result) (util_seen c.get-2.result) l c.index-plain.ensures
     (c.get.ensures n l c.self.invariant.0) (c.get-2.ensures n l c.self.invariant.1) in
-    let z = to_z-of_z w64 c.index.result.now.len (search rules) in
+    let z = to_z-of_z w64 c.index-plain.result.now.len (search rules) in
     sym (ap (λ d. slice_get d.items k) c.self.view_is) ∙ h ∙ cc
