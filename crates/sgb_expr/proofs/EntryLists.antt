@@ -4,7 +4,7 @@ use Rattle.sgb_expr.specs.CodeEntries.{listed}
 use Rattle.sgb_expr.specs.Expression.{Entry, entry_of}
 use Rattle.sgb_expr.specs.Gives.{Fails}
 use Rattle.sgb_expr.specs.Readings.{◌>>=◌, or_else, then_read, read_after, read_as, fixed_at, fixed_as, separator_before}
-use Rattle.sgb_expr.specs.Reading.{entry_at, entries_at, entry_list_at, expression_at}
+use Rattle.sgb_expr.specs.Reading.{entry_at, entries_at, expression_at}
 use Rattle.sgb_expr.specs.declared.entries.EntryExpr.{EntryExpr}
 use Rattle.sgb_expr.specs.declared.wrong.Wrong.{Wrong}
 use Rattle.sgb_expr.specs.declared.wrong.Wrong.TheVariants.{Left, NoRoom}
@@ -21,20 +21,6 @@ with_entries first read = read >>= λ x. Ok (first ++ x.0, x.1)
 abbrev pub and_entries : List Entry → List ℕ → List ℕ → Result (List Entry × List ℕ) ℕ
 and_entries first separator rest = with_entries first (entries_at expression_at separator rest)
 
-with_none : (read : Result (List Entry × List ℕ) ℕ) → with_entries [] read ≡ read
-with_none (Ok x) = refl
-with_none (Err left) = refl
-
--- the bracket is read
-pub entries_begin : (text rest : List ℕ) → fixed_at (codes "[") text ≡ Ok rest → and_entries [] [] rest ≡ entry_list_at expression_at text
-entries_begin text rest e =
-    with_none (entries_at expression_at [] rest) ∙ sym (bind_of (fixed_at (codes "[") text) (entries_at expression_at []) rest e)
-
--- the bracket is not there
-pub entries_begin_wrong : (w : Wrong) (text : List ℕ) → Fails w (fixed_at (codes "[") text) → Fails w (entry_list_at expression_at text)
-entries_begin_wrong (Left left) text e = bind_stops (fixed_at (codes "[") text) (entries_at expression_at []) left e
-entries_begin_wrong NoRoom text e = tt
-
 -- an entry, and what is read after it
 abbrev next_entry : List ℕ → Result (List Entry × List ℕ) ℕ
 next_entry = then_read (entry_at expression_at) (λ entry. read_as (λ more. entry ∷ more) (entries_at expression_at (codes ",")))
@@ -49,11 +35,10 @@ entry_comes separator rest h = elim (fixed_cases (codes "]") rest) [
 ]
 
 -- the separator is not there
-pub separator_wrong : (w : Wrong) (first : List Entry) (separator rest : List ℕ) (whole : Result (List Entry × List ℕ) ℕ) → ((after : List ℕ) → rest ≢ codes "]" ++ after)
-    → Fails w (fixed_at separator rest) → and_entries first separator rest ≡ whole → Fails w whole
-separator_wrong (Left left) first separator rest whole h e inv =
+pub separator_wrong : (left : ℕ) (first : List Entry) (separator rest : List ℕ) (whole : Result (List Entry × List ℕ) ℕ) → ((after : List ℕ) → rest ≢ codes "]" ++ after)
+    → fixed_at separator rest ≡ Err left → and_entries first separator rest ≡ whole → whole ≡ Err left
+separator_wrong left first separator rest whole h e inv =
     sym inv ∙ ap (with_entries first) (entry_comes separator rest h ∙ bind_stops (fixed_at separator rest) next_entry left e)
-separator_wrong NoRoom first separator rest whole h e inv = tt
 
 -- the entry is not there
 pub entry_wrong : (w : Wrong) (first : List Entry) (separator rest begun : List ℕ) (whole : Result (List Entry × List ℕ) ℕ) → ((after : List ℕ) → rest ≢ codes "]" ++ after)

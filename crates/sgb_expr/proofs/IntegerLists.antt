@@ -2,9 +2,6 @@
 use Rattle.std.proofs.Common.{◌<◌, ◌≤◌, ◌+◌, inl, inr, pos, nat_abs, length, take, set, get_or, append-nil, arith, subst, ◌≡◌, ℕ, ℤ, suc, ◌-◌, List, [], ◌∷◌, ◌++◌, Result, Ok, Err, codes, refl, sym, ◌∙◌, ap, append_assoc}
 use Rattle.std.proofs.lemmas.Bool.{cases_eq}
 use Rattle.std.proofs.lemmas.List.{take_all, take_more_set, get_or-set_same, get_or-set_other}
-use Rattle.sgb_expr.specs.Gives.{Fails}
-use Rattle.sgb_expr.specs.declared.wrong.Wrong.{Wrong}
-use Rattle.sgb_expr.specs.declared.wrong.Wrong.TheVariants.{Left, NoRoom}
 use Rattle.sgb_expr.specs.Readings.{◌>>=◌, fixed_at, integer_at, integers_at, separator_before}
 use Rattle.sgb_expr.proofs.Readers.{bind_of, bind_stops}
 
@@ -49,20 +46,18 @@ one_left : (place n : ℕ) → place < n → n - place ≡ suc (n - (place + 1))
 one_left place n h = omega (arith, h)
 
 -- where the separator before an integer is not there
-pub place_begins_wrong : (numbers : List ℤ) (place n : ℕ) (w : Wrong) (first separator end rest : List ℕ) (whole : Result (List ℤ × List ℕ) ℕ) → place < n → separator ≡ separator_before place first
-    → Fails w (fixed_at separator rest) → with_first (take place numbers) (integers_at (separator_before place first) (n - place) end rest) ≡ whole → Fails w whole
-place_begins_wrong numbers place n (Left left) first separator end rest whole h is e inv =
+pub place_begins_wrong : (numbers : List ℤ) (place n left : ℕ) (first separator end rest : List ℕ) (whole : Result (List ℤ × List ℕ) ℕ) → place < n → separator ≡ separator_before place first
+    → fixed_at separator rest ≡ Err left → with_first (take place numbers) (integers_at (separator_before place first) (n - place) end rest) ≡ whole → whole ≡ Err left
+place_begins_wrong numbers place n left first separator end rest whole h is e inv =
     sym inv ∙ ap (λ m. with_first (take place numbers) (integers_at (separator_before place first) m end rest)) (one_left place n h)
     ∙ integer_begins_wrong (take place numbers) (n - (place + 1)) left (separator_before place first) end rest (ap (λ b. fixed_at b rest) (sym is) ∙ e)
-place_begins_wrong numbers place n NoRoom first separator end rest whole h is e inv = tt
 
 -- where the integer is not there
-pub place_wrong : (numbers : List ℤ) (place n : ℕ) (w : Wrong) (first separator end rest begun : List ℕ) (whole : Result (List ℤ × List ℕ) ℕ) → place < n → separator ≡ separator_before place first
-    → fixed_at separator rest ≡ Ok begun → Fails w (integer_at begun) → with_first (take place numbers) (integers_at (separator_before place first) (n - place) end rest) ≡ whole → Fails w whole
-place_wrong numbers place n (Left left) first separator end rest begun whole h is e f inv =
+pub place_wrong : (numbers : List ℤ) (place n left : ℕ) (first separator end rest begun : List ℕ) (whole : Result (List ℤ × List ℕ) ℕ) → place < n → separator ≡ separator_before place first
+    → fixed_at separator rest ≡ Ok begun → integer_at begun ≡ Err left → with_first (take place numbers) (integers_at (separator_before place first) (n - place) end rest) ≡ whole → whole ≡ Err left
+place_wrong numbers place n left first separator end rest begun whole h is e f inv =
     sym inv ∙ ap (λ m. with_first (take place numbers) (integers_at (separator_before place first) m end rest)) (one_left place n h)
     ∙ integer_wrong (take place numbers) (n - (place + 1)) left (separator_before place first) end rest begun (ap (λ b. fixed_at b rest) (sym is) ∙ e) f
-place_wrong numbers place n NoRoom first separator end rest begun whole h is e f inv = tt
 
 -- an integer read and kept at its place
 pub place_read : (numbers : List ℤ) (place n : ℕ) (number kept : ℤ) (first separator end rest begun after : List ℕ) (whole : Result (List ℤ × List ℕ) ℕ) → place < n → length numbers ≡ n → kept ≡ number → separator ≡ separator_before place first
@@ -107,8 +102,7 @@ all_read numbers place n first end rest after whole h count e inv =
     sym (all_left numbers place n first end rest whole h count inv) ∙ end_read numbers (separator_before place first) end rest after e
     ∙ ap (λ (ns : List ℤ). Ok (ns, after)) (append-nil numbers)
 
-pub all_wrong : (numbers : List ℤ) (place n : ℕ) (w : Wrong) (first end rest : List ℕ) (whole : Result (List ℤ × List ℕ) ℕ) → n ≤ place → length numbers ≡ n → Fails w (fixed_at end rest)
-    → with_first (take place numbers) (integers_at (separator_before place first) (n - place) end rest) ≡ whole → Fails w whole
-all_wrong numbers place n (Left left) first end rest whole h count e inv =
+pub all_wrong : (numbers : List ℤ) (place n left : ℕ) (first end rest : List ℕ) (whole : Result (List ℤ × List ℕ) ℕ) → n ≤ place → length numbers ≡ n → fixed_at end rest ≡ Err left
+    → with_first (take place numbers) (integers_at (separator_before place first) (n - place) end rest) ≡ whole → whole ≡ Err left
+all_wrong numbers place n left first end rest whole h count e inv =
     sym (all_left numbers place n first end rest whole h count inv) ∙ end_wrong numbers left (separator_before place first) end rest e
-all_wrong numbers place n NoRoom first end rest whole h count e inv = tt

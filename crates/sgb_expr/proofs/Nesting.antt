@@ -3,7 +3,6 @@ use Rattle.std.proofs.Common.{◌≡◌, ◌≤◌, ◌<◌, ◌&&◌, ℕ, zero
 use Rattle.std.proofs.lemmas.Bool.{cases_lt}
 use Rattle.sgb_expr.specs.Expression.{Expression}
 use Rattle.sgb_expr.specs.Expressions.{IsNested}
-use Rattle.sgb_expr.specs.Gives.{Fails}
 use Rattle.sgb_expr.specs.Languages.{Then}
 use Rattle.sgb_expr.specs.Names.{all_names, all_family_names, family_openings, openings, opening_of}
 use Rattle.sgb_expr.specs.Operations.{IsCallOf, IsGenerator}
@@ -13,8 +12,6 @@ use Rattle.sgb_expr.specs.declared.names.FamilyName.{FamilyName}
 use Rattle.sgb_expr.specs.declared.names.FamilyName.TheVariants.{Board, Simplex, Subsets, Complete, Transitive, Empty, Circuit, Cycle, DisjointSubsets, Petersen}
 use Rattle.sgb_expr.specs.declared.names.Name.{Name}
 use Rattle.sgb_expr.specs.declared.names.Name.TheVariants.{Family, Complement, Gunion, Intersection, Lines, Product, Induced, BiComplete, Wheel, Stdin}
-use Rattle.sgb_expr.specs.declared.wrong.Wrong.{Wrong}
-use Rattle.sgb_expr.specs.declared.wrong.Wrong.TheVariants.{Left, NoRoom}
 use Rattle.sgb_expr.proofs.Readers.{Reads, bind_of, bind_stops, reads_then, reads_as, reads_is}
 use Rattle.sgb_expr.proofs.Words.{Anything, IsWord, both_true, reads_words}
 use Rattle.sgb_expr.proofs.FamilyReaders.{reads_family}
@@ -234,6 +231,5 @@ pub name_read : (text : List ℕ) (name : Name) (rest : List ℕ) → word_at op
 name_read text name rest e = expression_read text ∙ bind_of (word_at openings text) (λ x. arguments_with expression_at x.0 x.1) (name, rest) e
 
 -- where no name begins, no expression does
-pub name_wrong : (w : Wrong) (text : List ℕ) → Fails w (word_at openings text) → Fails w (expression_at text)
-name_wrong (Left left) text e = expression_read text ∙ bind_stops (word_at openings text) (λ x. arguments_with expression_at x.0 x.1) left e
-name_wrong NoRoom text e = tt
+pub name_wrong : (left : ℕ) (text : List ℕ) → word_at openings text ≡ Err left → expression_at text ≡ Err left
+name_wrong left text e = expression_read text ∙ bind_stops (word_at openings text) (λ x. arguments_with expression_at x.0 x.1) left e

@@ -2,22 +2,22 @@
 ghost use Rattle.std.specs.Prelude.{◌≡◌, ◌<◌, ◌^◌, IfOk, [], ◌∷◌, codes, length, nat_abs};
 ghost use Rattle.sgb_gen.specs.Shorthands.{complete, transitive, empty, circuit, cycle, disjoint_subsets, petersen};
 ghost use Rattle.sgb_expr.specs.Forms.{board_of, simplex_of, subsets_of, number_of};
-ghost use Rattle.sgb_expr.specs.Gives.{Gives};
+ghost use Rattle.sgb_expr.specs.Gives.{Finds};
 ghost use Rattle.sgb_expr.specs.Reading.{family_at, subsets_at};
 ghost use Rattle.sgb_expr.specs.Readings.{integers_at};
 
 use crate::expressions::Family;
 use crate::names::FamilyName;
 use crate::numbers::{bits, integers};
-use crate::wrong::Wrong;
+use crate::wrong::Mismatch;
 use sgb_gen::{
     BoardParams, SimplexParams, SubsetsParams, circuit, complete, cycle, disjoint_subsets, empty,
     petersen, transitive,
 };
 
 /// The graph of the generator whose name has been read, and the text after its `)`; or where the text goes wrong.
-pub(crate) fn family(name: FamilyName, text: &[u8]) -> Result<(Family, &[u8]), Wrong>
-    ensures { Gives (λ x. (x.0, x.1.now)) result (family_at name text.now) }
+pub(crate) fn family(name: FamilyName, text: &[u8]) -> Result<(Family, &[u8]), Mismatch>
+    ensures { Finds (λ x. (x.0, x.1.now)) result (family_at name text.now) }
 {
     match name {
         FamilyName::Board => {
@@ -46,8 +46,8 @@ pub(crate) fn family(name: FamilyName, text: &[u8]) -> Result<(Family, &[u8]), W
 }
 
 // The integer of a form that has one, and the text after its `)`.
-fn one(text: &[u8]) -> Result<(i64, &[u8]), Wrong>
-    ensures read { Gives (λ x. (x.0 ∷ [], x.1.now)) result (integers_at [] 1 (codes ")") text.now) }
+fn one(text: &[u8]) -> Result<(i64, &[u8]), Mismatch>
+    ensures read { Finds (λ x. (x.0 ∷ [], x.1.now)) result (integers_at [] 1 (codes ")") text.now) }
     ensures bound { IfOk result (λ x. nat_abs x.0 < 10 ^ 18) }
 {
     let ([n], rest) = integers::<1>(b"", text, b")")?;
@@ -55,8 +55,8 @@ fn one(text: &[u8]) -> Result<(i64, &[u8]), Wrong>
 }
 
 // The arguments of subsets, of which the seventh is bits.
-fn subsets_arguments(text: &[u8]) -> Result<(Family, &[u8]), Wrong>
-    ensures { Gives (λ x. (x.0, x.1.now)) result (subsets_at text.now) }
+fn subsets_arguments(text: &[u8]) -> Result<(Family, &[u8]), Mismatch>
+    ensures { Finds (λ x. (x.0, x.1.now)) result (subsets_at text.now) }
 {
     let (numbers, rest) = integers(b"", text, b",")?;
     let (size_bits, rest) = bits(rest)?;

@@ -1,12 +1,12 @@
 //! What is asked of the random generator, and reading it.
-ghost use Rattle.std.specs.Prelude.{◌≡◌, IfErr, IfOk};
+ghost use Rattle.std.specs.Prelude.{◌≡◌, IfOk};
 ghost use Rattle.sgb_expr.specs.FlipTexts.{IsFlip, IsFlipReadAs, flip_of, whole_flip_at};
-ghost use Rattle.sgb_expr.specs.Gives.{Gives, IsPlace};
+ghost use Rattle.sgb_expr.specs.Gives.{Finds};
 
 use crate::expressions::Unread;
 use crate::measure::is_too_large;
 use crate::numbers::{fixed, integers};
-use crate::wrong::Wrong;
+use crate::wrong::Mismatch;
 
 /// Which numbers of the random generator are asked for (GB_FLIP, gb_init_rand, gb_next_rand and gb_unif_rand). Any
 /// values are parameters.
@@ -37,22 +37,20 @@ pub fn read_flip(text: &[u8]) -> Result<FlipParams, Unread>
     }
     match whole(text) {
         Ok(params) => Ok(params),
-        Err(Wrong::Left(left)) => Err(Unread::At((text.len() - left) as u32)),
-        Err(Wrong::NoRoom) => Err(Unread::NoRoom),
+        Err(Mismatch { left }) => Err(Unread::At((text.len() - left) as u32)),
     }
 }
 
 // The parameters that the whole text asks for, or where it goes wrong.
-fn whole(text: &[u8]) -> Result<FlipParams, Wrong>
-    ensures read { Gives (λ params. params) result (whole_flip_at text.now) }
-    ensures place { IfErr result IsPlace }
+fn whole(text: &[u8]) -> Result<FlipParams, Mismatch>
+    ensures { Finds (λ params. params) result (whole_flip_at text.now) }
 {
     let begun = fixed(b"flip(", text)?;
     let (numbers, rest) = integers(b"", begun, b")")?;
     if rest.is_empty() {
         Ok(flip(numbers))
     } else {
-        Err(Wrong::Left(rest.len()))
+        Err(Mismatch { left: rest.len() })
     }
 }
 

@@ -1,11 +1,11 @@
 //! The names of the forms of expressions.
 ghost use Rattle.std.specs.Prelude.{◌≡◌};
-ghost use Rattle.sgb_expr.specs.Gives.{Gives};
+ghost use Rattle.sgb_expr.specs.Gives.{Finds};
 ghost use Rattle.sgb_expr.specs.Names.{opening_of, openings};
 ghost use Rattle.sgb_expr.specs.Readings.{word_at};
 
 use crate::numbers::fixed;
-use crate::wrong::Wrong;
+use crate::wrong::Mismatch;
 
 /// The name of a generator, or a short name of some of its graphs.
 #[derive(Clone, Copy, Debug, PartialEq, Eq)]
@@ -62,18 +62,17 @@ const ALL: [Name; 19] = [
 
 /// The name with which the text begins, and the text after it and its parenthesis, if its form has one; or where the
 /// text begins no name.
-pub(crate) fn opening(text: &[u8]) -> Result<(Name, &[u8]), Wrong>
-    ensures { Gives (λ x. (x.0, x.1.now)) result (word_at openings text.now) }
+pub(crate) fn opening(text: &[u8]) -> Result<(Name, &[u8]), Mismatch>
+    ensures { Finds (λ x. (x.0, x.1.now)) result (word_at openings text.now) }
 {
     let mut left = text.len();
     for name in ALL {
         match fixed(text_of(name), text) {
             Ok(rest) => return Ok((name, rest)),
-            Err(Wrong::Left(other)) => left = left.min(other),
-            Err(Wrong::NoRoom) => return Err(Wrong::NoRoom),
+            Err(Mismatch { left: other }) => left = left.min(other),
         }
     }
-    Err(Wrong::Left(left))
+    Err(Mismatch { left })
 }
 
 // The name, and the parenthesis after it where the form has one.

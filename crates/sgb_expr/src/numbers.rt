@@ -1,10 +1,10 @@
 //! Fixed texts, integers and bits at the beginning of a text.
-ghost use Rattle.std.specs.Prelude.{◌≡◌, ◌≤◌, ◌<◌, ◌^◌, EachIndex, IfErr, IfOk, length, nat_abs, nat_eq, pos, slice_index_or};
+ghost use Rattle.std.specs.Prelude.{◌≡◌, ◌≤◌, ◌<◌, ◌^◌, EachIndex, IfOk, length, nat_abs, nat_eq, pos, slice_index_or};
 ghost use Rattle.std.specs.List.{common_prefix_len};
-ghost use Rattle.sgb_expr.specs.Gives.{Gives, IsPlace};
+ghost use Rattle.sgb_expr.specs.Gives.{Finds};
 ghost use Rattle.sgb_expr.specs.Readings.{bits_at, fixed_at, integer_at, number_at, integers_at, separator_before};
 
-use crate::wrong::Wrong;
+use crate::wrong::Mismatch;
 use sgb_vec::{digits_value, leading_digits};
 
 // A number has at most this many digits.
@@ -14,13 +14,14 @@ const MOST_DIGITS: usize = 18;
 const MOST_HEX_DIGITS: usize = 16;
 
 /// The text after these bytes, with which it begins, or where the two part.
-pub(crate) fn fixed<'a>(bytes: &[u8], text: &'a [u8]) -> Result<&'a [u8], Wrong>
-    ensures read { Gives (λ rest. rest.now) result (fixed_at bytes.now text.entry.now) }
-    ensures place { IfErr result IsPlace }
+pub(crate) fn fixed<'a>(bytes: &[u8], text: &'a [u8]) -> Result<&'a [u8], Mismatch>
+    ensures { Finds (λ rest. rest.now) result (fixed_at bytes.now text.entry.now) }
 {
     let same = common_prefix(bytes, text);
     if same < bytes.len() {
-        return Err(Wrong::Left(text.len() - same));
+        return Err(Mismatch {
+            left: text.len() - same,
+        });
     }
     Ok(&text[same..])
 }
@@ -42,26 +43,24 @@ fn common_prefix(left: &[u8], right: &[u8]) -> usize
 }
 
 // The number in the radix with which the text begins, of so many digits at most, or that there is none.
-fn number(text: &[u8], radix: u32, most: usize) -> Result<(u64, &[u8]), Wrong>
+fn number(text: &[u8], radix: u32, most: usize) -> Result<(u64, &[u8]), Mismatch>
     requires low { 2 ≤ radix }
     requires high { radix ≤ 16 }
     requires most { radix ^ most ≤ 2 ^ 64 }
-    ensures read { Gives (λ x. (x.0, x.1.now)) result (number_at radix most text.now) }
+    ensures read { Finds (λ x. (x.0, x.1.now)) result (number_at radix most text.now) }
     ensures bound { IfOk result (λ x. x.0 < radix ^ most) }
-    ensures place { IfErr result IsPlace }
 {
     let digits = leading_digits(text, radix, most);
     if digits.is_empty() {
-        return Err(Wrong::Left(text.len()));
+        return Err(Mismatch { left: text.len() });
     }
     Ok((digits_value(digits, radix), &text[digits.len()..]))
 }
 
 /// The integer with which the text begins, of 1 to 18 digits, or where it begins none.
-pub(crate) fn integer(text: &[u8]) -> Result<(i64, &[u8]), Wrong>
-    ensures read { Gives (λ x. (x.0, x.1.now)) result (integer_at text.now) }
+pub(crate) fn integer(text: &[u8]) -> Result<(i64, &[u8]), Mismatch>
+    ensures read { Finds (λ x. (x.0, x.1.now)) result (integer_at text.now) }
     ensures bound { IfOk result (λ x. nat_abs x.0 < 10 ^ 18) }
-    ensures place { IfErr result IsPlace }
 {
     match text.strip_prefix(b"-") {
         Some(digits) => {
@@ -77,8 +76,8 @@ pub(crate) fn integer(text: &[u8]) -> Result<(i64, &[u8]), Wrong>
 
 /// The bits with which the text begins, in 1 to 18 decimal digits, or `0x` and 1 to 16 hexadecimal ones; or where
 /// it begins none.
-pub(crate) fn bits(text: &[u8]) -> Result<(u64, &[u8]), Wrong>
-    ensures { Gives (λ x. (x.0, x.1.now)) result (bits_at text.now) }
+pub(crate) fn bits(text: &[u8]) -> Result<(u64, &[u8]), Mismatch>
+    ensures { Finds (λ x. (x.0, x.1.now)) result (bits_at text.now) }
 {
     match text.strip_prefix(b"0x") {
         Some(digits) => number(digits, 16, MOST_HEX_DIGITS),
@@ -92,10 +91,9 @@ pub(crate) fn integers<'a, const N: usize>(
     separator: &[u8],
     text: &'a [u8],
     end: &[u8],
-) -> Result<([i64; N], &'a [u8]), Wrong>
-    ensures read { Gives (λ x. (x.0, x.1.now)) result (integers_at separator.now N end.now text.entry.now) }
+) -> Result<([i64; N], &'a [u8]), Mismatch>
+    ensures read { Finds (λ x. (x.0, x.1.now)) result (integers_at separator.now N end.now text.entry.now) }
     ensures bound { IfOk result (λ x. EachIndex x.0 (λ k. nat_abs (slice_index_or x.0 k (pos 0)) < 10 ^ 18)) }
-    ensures place { IfErr result IsPlace }
 {
     let mut numbers = [0; N];
     let mut rest = text;

@@ -2,7 +2,7 @@
 ghost use Rattle.std.specs.Prelude.{◌≡◌, IfErr, IfOk, OnOk, [], ◌∷◌, ◌++◌, codes};
 ghost use Rattle.sgb_expr.specs.CodeEntries.{list_of};
 ghost use Rattle.sgb_expr.specs.Expression.{entry_of, expression_of};
-ghost use Rattle.sgb_expr.specs.Gives.{Gives};
+ghost use Rattle.sgb_expr.specs.Gives.{Finds, Gives};
 ghost use Rattle.sgb_expr.specs.TwoGraphs.{operands_of};
 ghost use Rattle.sgb_expr.specs.declared.wrong.Wrong.TheVariants.{NoRoom};
 ghost use Rattle.sgb_expr.specs.Operations.{bi_complete_of, gunion_of, induced_of, intersection_of, product_of, wheel_of};
@@ -14,7 +14,7 @@ use crate::entries::{Entries, EntryExpr};
 use crate::expressions::Expr;
 use crate::names::{Name, opening};
 use crate::numbers::{fixed, integer, integers, separator_before};
-use crate::wrong::Wrong;
+use crate::wrong::{Mismatch, Wrong};
 use std::alloc::Global;
 
 /// The expression with which the text begins, and the text after it; or where the text goes wrong.
@@ -52,8 +52,8 @@ fn arguments(alloc: Global, name: Name, text: &[u8]) -> Result<(Expr, &[u8]), Wr
             Ok((product(graphs), rest))
         }
         Name::Induced => induced(alloc, text),
-        Name::BiComplete => bi_complete(text),
-        Name::Wheel => wheel(text),
+        Name::BiComplete => Ok(bi_complete(text)?),
+        Name::Wheel => Ok(wheel(text)?),
         Name::Stdin => Ok((Expr::Stdin, text)),
     }
 }
@@ -172,8 +172,7 @@ fn entry(alloc: Global, text: &[u8]) -> Result<(EntryExpr, &[u8]), Wrong>
 {
     let left = match integer(text) {
         Ok((number, rest)) => return Ok((EntryExpr::Number(number), rest)),
-        Err(Wrong::Left(left)) => left,
-        Err(Wrong::NoRoom) => return Err(Wrong::NoRoom),
+        Err(Mismatch { left }) => left,
     };
     match expression(alloc, text) {
         Ok((graph, rest)) => Ok((EntryExpr::Graph(graph), rest)),
@@ -222,8 +221,8 @@ fn product(graphs: TwoGraphs) -> Expr
 }
 
 // The arguments of a complete bipartite graph.
-fn bi_complete(text: &[u8]) -> Result<(Expr, &[u8]), Wrong>
-    ensures { Gives (λ x. (expression_of x.0, x.1.now)) result (read_as bi_complete_of (integers_at [] 3 (codes ")")) text.now) }
+fn bi_complete(text: &[u8]) -> Result<(Expr, &[u8]), Mismatch>
+    ensures { Finds (λ x. (expression_of x.0, x.1.now)) result (read_as bi_complete_of (integers_at [] 3 (codes ")")) text.now) }
 {
     let ([n1, n2, directed], rest) = integers::<3>(b"", text, b")")?;
     let graph = Expr::BiComplete {
@@ -235,8 +234,8 @@ fn bi_complete(text: &[u8]) -> Result<(Expr, &[u8]), Wrong>
 }
 
 // The arguments of a wheel.
-fn wheel(text: &[u8]) -> Result<(Expr, &[u8]), Wrong>
-    ensures { Gives (λ x. (expression_of x.0, x.1.now)) result (read_as wheel_of (integers_at [] 3 (codes ")")) text.now) }
+fn wheel(text: &[u8]) -> Result<(Expr, &[u8]), Mismatch>
+    ensures { Finds (λ x. (expression_of x.0, x.1.now)) result (read_as wheel_of (integers_at [] 3 (codes ")")) text.now) }
 {
     let ([n, n1, directed], rest) = integers::<3>(b"", text, b")")?;
     let graph = Expr::Wheel {

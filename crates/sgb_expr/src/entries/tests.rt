@@ -3,8 +3,8 @@ use crate::cases::{PETERSEN, RING, first_unmet, is_family, read};
 use crate::expressions::Family;
 use std::alloc::{AllocError, Global};
 
-// Whether the expression is the graph that entries induce on this one, with the flags self_loops, multi and directed.
-fn is_induced(expression: &Expr, of: Family, list: &[EntryExpr], flags: [bool; 3]) -> bool {
+// The entries that induce the expression's graph on this one, with the flags self_loops, multi and directed.
+fn entries_on(expression: &Expr, of: Family, flags: [bool; 3]) -> Option<&[EntryExpr]> {
     match expression {
         Expr::Induced {
             graph,
@@ -13,12 +13,19 @@ fn is_induced(expression: &Expr, of: Family, list: &[EntryExpr], flags: [bool; 3
             multi,
             directed,
         } => {
-            is_family(graph, of)
-                && entries.as_slice() == list
-                && [*self_loops, *multi, *directed] == flags
+            if is_family(graph, of) && [*self_loops, *multi, *directed] == flags {
+                Some(entries.as_slice())
+            } else {
+                None
+            }
         }
-        _ => false,
+        _ => None,
     }
+}
+
+// Whether the expression is the graph that these entries induce on this one, with these flags.
+fn is_induced(expression: &Expr, of: Family, list: &[EntryExpr], flags: [bool; 3]) -> bool {
+    entries_on(expression, of, flags).is_some_and(|entries| entries == list)
 }
 
 // Whether the text is read as the graph that these entries induce on the petersen graph.
@@ -68,20 +75,10 @@ fn is_outer(list: &[EntryExpr]) -> bool {
 // Whether the text is read as the graph that those entries induce on the petersen graph.
 fn is_read_as_outer(alloc: Global, text: &str) -> bool {
     match read(alloc, text) {
-        Some(
-            Expr::Induced {
-                graph,
-                entries,
-                self_loops,
-                multi,
-                directed,
-            },
-        ) => {
-            is_family(&graph, PETERSEN)
-                && is_outer(entries.as_slice())
-                && [self_loops, multi, directed] == [false, true, false]
+        Some(expression) => {
+            entries_on(&expression, PETERSEN, [false, true, false]).is_some_and(is_outer)
         }
-        _ => false,
+        None => false,
     }
 }
 

@@ -281,30 +281,34 @@ fn is_complement(expression: &Expr, of: Family, flags: [bool; 3]) -> bool {
     }
 }
 
+// Whether the expressions are these graphs of generators.
+fn are_families(first: &Expr, second: &Expr, of: [Family; 2]) -> bool {
+    let [one, other] = of;
+    is_family(first, one) && is_family(second, other)
+}
+
 // Whether the expression is the union of these graphs with these flags.
 fn is_union(expression: &Expr, of: [Family; 2], flags: [bool; 2]) -> bool {
-    let [one, other] = of;
     match expression {
         Expr::Gunion {
             first,
             second,
             multi,
             directed,
-        } => is_family(first, one) && is_family(second, other) && [*multi, *directed] == flags,
+        } => are_families(first, second, of) && [*multi, *directed] == flags,
         _ => false,
     }
 }
 
 // Whether the expression is the intersection of these graphs with these flags.
 fn is_intersection(expression: &Expr, of: [Family; 2], flags: [bool; 2]) -> bool {
-    let [one, other] = of;
     match expression {
         Expr::Intersection {
             first,
             second,
             multi,
             directed,
-        } => is_family(first, one) && is_family(second, other) && [*multi, *directed] == flags,
+        } => are_families(first, second, of) && [*multi, *directed] == flags,
         _ => false,
     }
 }
@@ -322,16 +326,13 @@ fn is_line_graph(expression: &Expr, of: Family, directed: bool) -> bool {
 
 // Whether the expression is the product of these graphs, of this kind.
 fn is_product(expression: &Expr, of: [Family; 2], kind: i64, directed: bool) -> bool {
-    let [one, other] = of;
     match expression {
         Expr::Product {
             first,
             second,
             kind: found,
             directed: flag,
-        } => {
-            is_family(first, one) && is_family(second, other) && *found == kind && *flag == directed
-        }
+        } => { are_families(first, second, of) && *found == kind && *flag == directed }
         _ => false,
     }
 }

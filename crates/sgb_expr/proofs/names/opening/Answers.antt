@@ -1,7 +1,5 @@
-use Rattle.std.proofs.Common.{◌≡◌, ℕ, arith, min, subst, ap, ◌∙◌, ◌+◌, Err}
-use Rattle.sgb_expr.specs.Gives.{Fails}
-use Rattle.sgb_expr.specs.Readings.{fixed_at, word_at, either}
-use Rattle.sgb_expr.specs.declared.wrong.Wrong.{Wrong}
+use Rattle.std.proofs.Common.{◌≡◌, ℕ, arith, min, ap, ◌∙◌, ◌+◌, Err}
+use Rattle.sgb_expr.specs.Readings.{word_at, either}
 use Rattle.sgb_expr.proofs.NameOpenings.{openings_all, openings_from, name_passed, name_found, names_end}
 use Rattle.sgb_expr.proofs.names.opening.Goals as goal
 
@@ -11,9 +9,8 @@ loop-name-init c = (omega arith, openings_all c.args.text.now)
 pub loop-name-preserved : goal.loop-name-preserved
 loop-name-preserved c =
     let text = c.args.text.now in
-    let stops = subst (λ (w : Wrong). Fails w (fixed_at c.text_of.result.now text)) c.in-Err-Left.field-0-is c.in-Err-Left.ensures.read in
-    let least : c.min-left.result ≡ min c.loop-name.left c.in-Err-Left.other = c.min-left.ensures ∙ ap (λ (n : ℕ). min c.loop-name.left n) c.in-Err-Left.other-is in
-    let passed = name_passed c.loop-name.name-index c.loop-name.left c.in-Err-Left.other c.text_of.result.now text c.loop-name-test.true c.text_of.ensures stops c.loop-name.invariant.1 in (
+    let least : c.min-left.result ≡ min c.loop-name.left c.in-Err.field-0.left = c.min-left.ensures in
+    let passed = name_passed c.loop-name.name-index c.loop-name.left c.in-Err.field-0.left c.text_of.result.now text c.loop-name-test.true c.text_of.ensures c.in-Err.ensures c.loop-name.invariant.1 in (
       omega (arith, least, c.loop-name.invariant.0),
       ap (λ (n : ℕ). either (Err n) (word_at (openings_from (c.loop-name.name-index + 1)) text)) least ∙ passed,
     )
@@ -24,4 +21,4 @@ returns c =
 
 pub returns-in-Ok : goal.returns-in-Ok
 returns-in-Ok c =
-    name_found c.loop-name.name-index c.loop-name.left c.text_of.result.now c.args.text.now c.in-Ok.rest.now c.loop-name-test.true c.text_of.ensures c.in-Ok.ensures.read c.loop-name.invariant.1
+    name_found c.loop-name.name-index c.loop-name.left c.text_of.result.now c.args.text.now c.in-Ok.rest.now c.loop-name-test.true c.text_of.ensures c.in-Ok.ensures c.loop-name.invariant.1

@@ -3,14 +3,14 @@ use Rattle.std.proofs.lemmas.List.{take_all}
 use Rattle.sgb_expr.proofs.Words.{fixed_parts, fixed_reads}
 use Rattle.sgb_expr.proofs.numbers.fixed.Goals as goal
 
-pub returns-then-same-bytes-clause-read : goal.returns-then-same-bytes-clause-read
-returns-then-same-bytes-clause-read c =
+pub returns-then-same-bytes : goal.returns-then-same-bytes
+returns-then-same-bytes c =
     let is = c.common_prefix-same.ensures.value in
     fixed_parts c.args.bytes.now c.args.text.now (omega (arith, is, c.if-same-bytes.true))
     ∙ ap (λ (n : ℕ). Err (length c.args.text.now - n)) (sym is)
 
-pub returns-clause-read : goal.returns-clause-read
-returns-clause-read c =
+pub returns : goal.returns
+returns c =
     let is = c.common_prefix-same.ensures.value in
     let all : c.common_prefix-same.result ≡ length c.args.bytes.now = omega (arith, c.common_prefix-same.ensures.within_left, c.if-same-bytes.false) in
     let rest = drop c.common_prefix-same.result c.args.text.now in

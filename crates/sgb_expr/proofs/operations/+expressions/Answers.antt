@@ -29,13 +29,13 @@ expression-returns t c =
 pub two_graphs-expression-requires-2 : goal.two_graphs-expression-requires-2
 two_graphs-expression-requires-2 t c =
     let first = expression_no_longer c.args.text.now (expression_of c.in_ok-first.first) c.in_ok-first.rest.now c.in_ok-first.ensures in
-    let comma = fixed_no_longer (codes ",") c.in_ok-first.rest.now c.in_ok-begun.begun.now c.in_ok-begun.ensures.read in
+    let comma = fixed_no_longer (codes ",") c.in_ok-first.rest.now c.in_ok-begun.begun.now c.in_ok-begun.ensures in
     (omega (arith, first, comma, c.decreases), tt)
 
 pub induced-entry_list-requires : goal.induced-entry_list-requires
 induced-entry_list-requires t c =
     let first = expression_no_longer c.args.text.now (expression_of c.in_ok-graph.graph) c.in_ok-graph.rest.now c.in_ok-graph.ensures in
-    let comma = fixed_takes (codes ",") c.in_ok-graph.rest.now c.in_ok-begun.begun.now c.in_ok-begun.ensures.read in
+    let comma = fixed_takes (codes ",") c.in_ok-graph.rest.now c.in_ok-begun.begun.now c.in_ok-begun.ensures in
     (omega (arith, first, comma, c.decreases), tt)
 
 pub entry_list-returns-in-Some : goal.entry_list-returns-in-Some
@@ -50,7 +50,7 @@ entry_list-returns-in_err-begun t c =
     let none = strip_prefix_is Decides-eqb c.entries.rest.now (codes "]") None c.in_default.ensures.cases in
     let same = next_separator c.entries.list.items _ c.separator_before.result.now (search rules) c.separator_before.ensures in
     let read = subst (λ (s : List ℕ). and_entries (listed c.entries.list.items) s c.entries.rest.now ≡ entry_list_at expression_at c.args.text.now) same c.entries.invariant.read in
-    rw (p.1, p.2) (separator_wrong _ (listed c.entries.list.items) c.separator_before.result.now c.entries.rest.now _ none c.in_err-begun.ensures.read read)
+    rw (p.1, p.2) (separator_wrong _ (listed c.entries.list.items) c.separator_before.result.now c.entries.rest.now _ none c.in_err-begun.ensures read)
 
 pub entry_list-returns-in_err-one : goal.entry_list-returns-in_err-one
 entry_list-returns-in_err-one t c =
@@ -58,11 +58,11 @@ entry_list-returns-in_err-one t c =
     let none = strip_prefix_is Decides-eqb c.entries.rest.now (codes "]") None c.in_default.ensures.cases in
     let same = next_separator c.entries.list.items _ c.separator_before.result.now (search rules) c.separator_before.ensures in
     let read = subst (λ (s : List ℕ). and_entries (listed c.entries.list.items) s c.entries.rest.now ≡ entry_list_at expression_at c.args.text.now) same c.entries.invariant.read in
-    rw (p.1, p.2) (entry_wrong _ (listed c.entries.list.items) c.separator_before.result.now c.entries.rest.now c.in_ok-begun.begun.now _ none c.in_ok-begun.ensures.read c.in_err-one.ensures read)
+    rw (p.1, p.2) (entry_wrong _ (listed c.entries.list.items) c.separator_before.result.now c.entries.rest.now c.in_ok-begun.begun.now _ none c.in_ok-begun.ensures c.in_err-one.ensures read)
 
 pub entry_list-entries-smaller : goal.entry_list-entries-smaller
 entry_list-entries-smaller t c =
-    let takes = fixed_takes c.separator_before.result.now c.entries.rest.now c.in_ok-begun.begun.now c.in_ok-begun.ensures.read in
+    let takes = fixed_takes c.separator_before.result.now c.entries.rest.now c.in_ok-begun.begun.now c.in_ok-begun.ensures in
     let within = entry_no_longer expression_at expression_no_longer c.in_ok-begun.begun.now (entry_of c.in_ok-one.one) c.in_ok-one.after.now c.in_ok-one.ensures in
     let place : c.len.result ≡ length c.entries.list.items = search rules in
     let counts = separator_counts c.len.result c.separator_before.result.now c.separator_before.ensures in
@@ -71,11 +71,11 @@ entry_list-entries-smaller t c =
 
 pub entry_list-entries-preserved : goal.entry_list-entries-preserved
 entry_list-entries-preserved t c =
-    let takes = fixed_takes c.separator_before.result.now c.entries.rest.now c.in_ok-begun.begun.now c.in_ok-begun.ensures.read in
+    let takes = fixed_takes c.separator_before.result.now c.entries.rest.now c.in_ok-begun.begun.now c.in_ok-begun.ensures in
     let within = entry_no_longer expression_at expression_no_longer c.in_ok-begun.begun.now (entry_of c.in_ok-one.one) c.in_ok-one.after.now c.in_ok-one.ensures in
     let none = strip_prefix_is Decides-eqb c.entries.rest.now (codes "]") None c.in_default.ensures.cases in
     record {
       read = entry_kept c.entries.list.items c.keep.new.list.items c.in_ok-one.one c.len.result c.separator_before.result.now c.entries.rest.now c.in_ok-begun.begun.now c.in_ok-one.after.now _ none
-          (search rules) c.in_ok-keep.ensures.kept c.separator_before.ensures c.in_ok-begun.ensures.read c.in_ok-one.ensures c.entries.invariant.read;
+          (search rules) c.in_ok-keep.ensures.kept c.separator_before.ensures c.in_ok-begun.ensures c.in_ok-one.ensures c.entries.invariant.read;
       shorter = omega (arith, takes, within, c.entries.invariant.shorter);
     }
