@@ -52,11 +52,20 @@ fn board_of(alloc: Global, numbers: [i64; 6], directed: bool) -> Result<Graph, P
     board(alloc, n1, n2, n3, n4, piece, wrap, directed)
 }
 
+/// Both graphs.
+pub(crate) fn two_graphs(alloc: Global, operands: [Operand; 2]) -> Result<(Graph, Graph), Panic> {
+    let [first, second] = operands;
+    Ok((first.graph(alloc)?, second.graph(alloc)?))
+}
+
 /// The list of a vertex: its number, its name, and the tip and length of each arc.
 pub(crate) type Block = (u32, &'static str, &'static [(u32, i64)]);
 
 /// What is known of a graph: how many vertices and arcs it has, and the lists of some vertices.
 pub(crate) type Known = (u32, u64, &'static [Block]);
+
+/// Operands with the flags multi and directed, the id of what an operation makes of them, and what is known of it.
+pub(crate) type Row = ([Operand; 2], [bool; 2], &'static str, Known);
 
 /// Whether the graph has this id, and what is known.
 pub(crate) fn is_known(graph: &Graph, id: &str, known: Known) -> bool {

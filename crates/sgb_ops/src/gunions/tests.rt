@@ -1,5 +1,5 @@
 use super::gunion;
-use crate::cases::{CYCLE, Known, LOOP, Operand, SQUARE, TRIANGLE, is_known};
+use crate::cases::{CYCLE, LOOP, Operand, Row, SQUARE, TRIANGLE, is_known, two_graphs};
 use sgb_graph::Graph;
 use sgb_vec::Panic;
 use std::alloc::Global;
@@ -12,28 +12,17 @@ const ROOK: Operand = Operand::Board([3, 4, 0, 0, -1, 0], false);
 
 const BISHOP: Operand = Operand::Board([3, 4, 0, 0, -2, 0], false);
 
-// Whether the union with the flags multi and directed has this id, and what is known.
-fn is_union(
-    alloc: Global,
-    operands: [Operand; 2],
-    flags: [bool; 2],
-    id: &str,
-    known: Known,
-) -> Result<bool, Panic> {
-    let [first, second] = operands;
+// Whether the union of the row's operands has this id, and what is known.
+fn is_union(alloc: Global, row: Row) -> Result<bool, Panic> {
+    let (operands, flags, id, known) = row;
+    let (first, second) = two_graphs(alloc, operands)?;
     let [multi, directed] = flags;
-    let graph = gunion(
-        alloc,
-        &first.graph(alloc)?,
-        &second.graph(alloc)?,
-        multi,
-        directed,
-    )?;
+    let graph = gunion(alloc, &first, &second, multi, directed)?;
     Ok(is_known(&graph, id, known))
 }
 
-/// Operands with the flags multi and directed, each with the id of the union and what is known of it.
-static UNIONS: [([Operand; 2], [bool; 2], &str, Known); 12] = [
+/// Unions of small graphs.
+static UNIONS: [Row; 12] = [
     (
         [TRIANGLE, RING],
         [false, false],
@@ -136,11 +125,8 @@ static UNIONS: [([Operand; 2], [bool; 2], &str, Known); 12] = [
 #[test]
 fn unions_of_small_graphs(rt: HostRuntime) -> Result<(), Panic> {
     for row in &UNIONS {
-        let (operands, flags, id, known) = *row;
-        assert!(rt;
-            is_union(rt.alloc(), operands, flags, id, known)?,
-            "at {id}"
-        );
+        let id = row.2;
+        assert!(rt; is_union(rt.alloc(), *row)?, "at {id}");
     }
     Ok(())
 }

@@ -1,33 +1,22 @@
 use super::intersection;
-use crate::cases::{CYCLE, Known, LOOP, Operand, RIDERS, SQUARE, TRIANGLE, is_known};
+use crate::cases::{CYCLE, LOOP, Operand, RIDERS, Row, SQUARE, TRIANGLE, is_known, two_graphs};
 use sgb_vec::Panic;
 use std::alloc::Global;
 
 // The complete graph of four vertices.
 const ALL: Operand = Operand::Board([4, 0, 0, 0, -1, 0], false);
 
-// Whether the intersection with the flags multi and directed has this id, and what is known.
-fn is_intersection(
-    alloc: Global,
-    operands: [Operand; 2],
-    flags: [bool; 2],
-    id: &str,
-    known: Known,
-) -> Result<bool, Panic> {
-    let [first, second] = operands;
+// Whether the intersection of the row's operands has this id, and what is known.
+fn is_intersection(alloc: Global, row: Row) -> Result<bool, Panic> {
+    let (operands, flags, id, known) = row;
+    let (first, second) = two_graphs(alloc, operands)?;
     let [multi, directed] = flags;
-    let graph = intersection(
-        alloc,
-        &first.graph(alloc)?,
-        &second.graph(alloc)?,
-        multi,
-        directed,
-    )?;
+    let graph = intersection(alloc, &first, &second, multi, directed)?;
     Ok(is_known(&graph, id, known))
 }
 
-/// Operands with the flags multi and directed, each with the id of the intersection and what is known of it.
-static INTERSECTIONS: [([Operand; 2], [bool; 2], &str, Known); 14] = [
+/// Intersections of small graphs.
+static INTERSECTIONS: [Row; 14] = [
     (
         [SQUARE, ALL],
         [false, false],
@@ -120,11 +109,8 @@ static INTERSECTIONS: [([Operand; 2], [bool; 2], &str, Known); 14] = [
 #[test]
 fn intersections_of_small_graphs(rt: HostRuntime) -> Result<(), Panic> {
     for row in &INTERSECTIONS {
-        let (operands, flags, id, known) = *row;
-        assert!(rt;
-            is_intersection(rt.alloc(), operands, flags, id, known)?,
-            "at {id}"
-        );
+        let id = row.2;
+        assert!(rt; is_intersection(rt.alloc(), *row)?, "at {id}");
     }
     Ok(())
 }

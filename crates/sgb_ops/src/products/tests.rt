@@ -1,5 +1,5 @@
 use super::product;
-use crate::cases::{EDGE, Known, Operand, PATH, is_known, is_refused};
+use crate::cases::{EDGE, Known, Operand, PATH, is_known, is_refused, two_graphs};
 use sgb_graph::Graph;
 use sgb_vec::Panic;
 use std::alloc::Global;
@@ -17,14 +17,8 @@ fn product_of(
     kind: i64,
     directed: bool,
 ) -> Result<Graph, Panic> {
-    let [first, second] = operands;
-    product(
-        alloc,
-        &first.graph(alloc)?,
-        &second.graph(alloc)?,
-        kind,
-        directed,
-    )
+    let (first, second) = two_graphs(alloc, operands)?;
+    product(alloc, &first, &second, kind, directed)
 }
 
 // Whether the product has this id, and what is known.
