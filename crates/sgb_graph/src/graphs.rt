@@ -7,6 +7,7 @@ ghost use Rattle.sgb_graph.specs.Kept.{kept_graph};
 
 mod adding;
 mod arcs;
+mod degrees;
 mod events;
 mod numbers;
 

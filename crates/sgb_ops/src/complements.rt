@@ -72,6 +72,7 @@ impl Wanted {
         // For each vertex w the last u + 1 so far where u has an arc to w, or 0.
         let mut marks = vec![in alloc; 0; graph.n() as usize]?;
         for u in 0..graph.n() {
+            graph.read_ahead(u);
             mark_tips(&mut marks, graph, u, u + 1);
             self.add_arcs_from(graph, u, &marks, built)?;
         }

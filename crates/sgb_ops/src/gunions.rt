@@ -64,6 +64,8 @@ fn add_union_events(
     ensures memory { IsOkUnless result Panic.NoRoom }
 {
     for v in 0..first.n() {
+        first.read_ahead(v);
+        second.read_ahead(v);
         let all = events_from(alloc, first, second, directed, v)?;
         let events = merged_unless(alloc, multi, directed, all)?;
         add_events(built, directed, &events)?;

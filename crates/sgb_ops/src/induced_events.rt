@@ -84,6 +84,7 @@ fn push_graph(events: &mut Vec<Event>, inner: &Graph, start: u32, flags: Flags) 
     ensures memory { IsOkUnless result Panic.NoRoom }
 {
     for w in 0..inner.n() {
+        inner.read_ahead(w);
         push_inner_arcs(events, inner, start, flags, w)?;
     }
     Ok(())
@@ -134,6 +135,7 @@ fn push_events_between(
     ensures memory { IsOkUnless result Panic.NoRoom }
 {
     for v in 0..graph.n() {
+        graph.read_ahead(v);
         push_from_copies(alloc, events, graph, copies, flags, v)?;
     }
     Ok(())

@@ -61,6 +61,8 @@ fn common_arcs(
 {
     let mut events = Vec::new(alloc);
     for v in 0..first.n().min(second.n()) {
+        first.read_ahead(v);
+        second.read_ahead(v);
         let ours = taken_arcs(alloc, first, directed, v)?;
         let theirs = taken_arcs(alloc, second, directed, v)?;
         push_common(&mut events, alloc, multi, v, &ours, &theirs)?;

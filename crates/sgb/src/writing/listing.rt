@@ -84,6 +84,7 @@ fn write_blocks<W: Sink>(graph: &Graph, from: u64, out: &mut W) -> Result<(), Fa
     let end = graph.n();
     let start = from.min(u64::from(end)) as u32;
     for v in start..end {
+        graph.read_ahead(v);
         write_block(graph, v, out)?;
     }
     Ok(())
