@@ -1,8 +1,95 @@
 -- What two multisets have in common, counted from the first entry on.
-use Rattle.std.proofs.Common.{◌≡◌, ℕ, ◌+◌, ◌*◌, ◌≤◌, List, drop}
+use Rattle.std.proofs.Common.{◌≡◌, ℕ, ◌+◌, ◌*◌, ◌≤◌, ◌<◌, ◌⊎◌, inl, inr, List, [], ◌∷◌, take, drop, get_or, length, zero, suc, min, cond, ltb, Bool, true, false, refl, ap, arith}
+use Rattle.std.proofs.lemmas.Bool.{ltb-true, ltb-false}
+use Rattle.std.proofs.lemmas.List.{drop-drop}
+use lib.Lanes.{zip2, sel_l, sum_l}
+use Rattle.std.specs.Simd.{first_chunks}
 use Rattle.sgb_gen.specs.Subsets.{common_size}
 
 -- so many entries are counted
 pub record IsCommonSoFar (u v : List ℕ) (n total : ℕ) : Type 0 where
   pub whole : total + common_size (drop n u) (drop n v) ≡ common_size u v
   pub small : total ≤ n * 4_294_967_295
+
+-- of two entries the first is chosen where it is below the second
+lesser_where : (b : Bool) (x y : ℕ) → ltb x y ≡ b → cond b x y ≡ min x y
+lesser_where true x y is = omega (arith, ltb-true x y is)
+lesser_where false x y is = omega (arith, ltb-false x y is)
+
+lesser_is_min : (x y : ℕ) → cond (ltb x y) x y ≡ min x y
+lesser_is_min x y = lesser_where (ltb x y) x y refl
+
+-- so the lesser of each two are chosen
+pub lesser_are_minima : (u v : List ℕ) → sel_l (zip2 ltb u v) u v ≡ zip2 min u v
+lesser_are_minima [] v = refl
+lesser_are_minima (x ∷ u) [] = refl
+lesser_are_minima (x ∷ u) (y ∷ v) = rw (lesser_is_min x y, lesser_are_minima u v) refl
+
+-- what two multisets have in common are the minima of their entries, added
+pub common_of_minima : (u v : List ℕ) → sum_l (zip2 min u v) ≡ common_size u v
+common_of_minima [] v = refl
+common_of_minima (x ∷ u) [] = refl
+common_of_minima (x ∷ u) (y ∷ v) = ap (λ n. min x y + n) (common_of_minima u v)
+
+-- the minima of so many entries of 32 bits
+pub minima_small : (u v : List ℕ) → ((i : ℕ) → get_or u i 0 < 4_294_967_296) → sum_l (zip2 min u v) ≤ length u * 4_294_967_295
+minima_small [] v small = omega arith
+minima_small (x ∷ u) [] small = omega arith
+minima_small (x ∷ u) (y ∷ v) small = omega (arith, small 0, minima_small u v (λ i. small (suc i)))
+
+none_in_common : (u : List ℕ) → common_size u [] ≡ 0
+none_in_common [] = refl
+none_in_common (x ∷ u) = refl
+
+-- what is in common in the first n entries, and in those after them
+common_split : (n : ℕ) (u v : List ℕ) → common_size (take n u) (take n v) + common_size (drop n u) (drop n v) ≡ common_size u v
+common_split zero u v = omega arith
+common_split (suc n) [] v = refl
+common_split (suc n) (x ∷ u) [] = omega (arith, none_in_common (drop n u))
+common_split (suc n) (x ∷ u) (y ∷ v) = omega (arith, common_split n u v)
+
+-- what is in common in each two chunks, added
+unfoldable pub common_of_chunks : List (List ℕ) → List (List ℕ) → ℕ
+common_of_chunks [] b = 0
+common_of_chunks (x ∷ a) [] = 0
+common_of_chunks (x ∷ a) (y ∷ b) = common_size x y + common_of_chunks a b
+
+-- what is in common in the first k chunks of n entries, and in what is after them
+chunks_then : (n k m : ℕ) (u v : List ℕ) → m ≡ k * n
+    → common_of_chunks (first_chunks n k u) (first_chunks n k v) + common_size (drop m u) (drop m v) ≡ common_size u v
+unfolding common_of_chunks
+chunks_then n zero m u v is =
+    let none : m ≡ 0 = omega (arith, is) in
+    rw none (omega arith)
+chunks_then n (suc k) m u v is =
+    let more : m ≡ n + k * n = omega (arith, is) in
+    rw (more, ← drop-drop (k * n) n u, ← drop-drop (k * n) n v)
+    (omega (arith, common_split n u v, chunks_then n k (k * n) (drop n u) (drop n v) refl))
+
+pub chunks_and_rest : (n k : ℕ) (u v : List ℕ)
+    → common_of_chunks (first_chunks n k u) (first_chunks n k v) + common_size (drop (k * n) u) (drop (k * n) v) ≡ common_size u v
+chunks_and_rest n k u v = chunks_then n k (k * n) u v refl
+
+-- what so many entries of 32 bits have in common
+pub common_small : (u v : List ℕ) → ((i : ℕ) → get_or u i 0 < 4_294_967_296) → common_size u v ≤ length u * 4_294_967_295
+common_small u v small = omega (arith, common_of_minima u v, minima_small u v small)
+
+-- nothing is in common where no chunk is left
+pub no_chunks : (a b : List (List ℕ)) → (length a ≡ 0) ⊎ (length b ≡ 0) → common_of_chunks a b ≡ 0
+unfolding common_of_chunks
+no_chunks [] b none = refl
+no_chunks (x ∷ a) [] none = refl
+no_chunks (x ∷ a) (y ∷ b) (inl none) = omega (arith, none)
+no_chunks (x ∷ a) (y ∷ b) (inr none) = omega (arith, none)
+
+-- where so much is counted before the chunks a and b, it is the whole with the first of them and before the others
+pub next_counted : (total rest whole : ℕ) (a b : List (List ℕ)) (x y : List ℕ) (c d : List (List ℕ)) → a ≡ x ∷ c → b ≡ y ∷ d
+    → total + (common_of_chunks a b + rest) ≡ whole
+    → total + common_size x y + (common_of_chunks c d + rest) ≡ whole
+unfolding common_of_chunks
+next_counted total rest whole a b x y c d first second counted = omega (arith, rw (first, second) at counted)
+
+-- of two lists that are walked side by side one has come to its end
+pub one_ends : {X Y P Q : Type 0} {R : X → Type 0} {S : Y → Type 0} → ((x : X) × (P × R x)) ⊎ ((y : Y) × (Q × S y)) → P ⊎ Q
+one_ends (inl (x, (ended, is))) = inl ended
+one_ends (inr (y, (ended, is))) = inr ended

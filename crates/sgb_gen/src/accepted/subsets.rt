@@ -1,8 +1,9 @@
-ghost use Rattle.std.specs.Prelude.{◌≡◌, ◌⊎◌, Err, ◌<◌, [], ◌∷◌, pos, length, map, slice_get, Some, Ok, OnOk, IsOkUnless, if◌then◌else◌, ◌≤◌, ◌^◌};
+ghost use Rattle.std.specs.Prelude.{◌≡◌, ◌⊎◌, Err, ◌<◌, [], ◌∷◌, pos, length, map, min, slice_get, Some, Ok, OnOk, IsOkUnless, if◌then◌else◌, ◌≤◌, ◌^◌};
 ghost use Rattle.sgb_gen.specs.Subsets.{accepted_subsets, subsets_id, is_wanted_size, moves_to_place, subsets_vectors, moves_of_subsets, subsets_graph, common_size};
 ghost use Rattle.sgb_graph.specs.Descriptions.{IsAnswerOf};
 ghost use Rattle.sgb_graph.specs.Growth.{AddsEvents, HasPlainArcs};
 ghost use Rattle.sgb_gen.specs.VectorGraphs.{event_among};
+ghost use Rattle.std.specs.Simd.Lanes.{sum_l, zip2};
 
 use crate::params::SubsetsParams;
 use crate::vector_graphs::{put_coordinates, vector_names};
@@ -10,6 +11,7 @@ use sgb_graph::{Graph, Id, IdWriter};
 use sgb_vec::{Family, Panic, Shape, SumFamily, Vector, simplex_bounds};
 use std::alloc::Global;
 use std::marker::Model;
+use std::simd::prelude::*;
 
 /// The parameters of subsets that are accepted (GB_BASIC, subsets): their sum and its bounds, how many elements
 /// two of them may have in common where they are joined, and whether their graph is directed.
@@ -191,11 +193,56 @@ pub fn common(u: &[u32], v: &[u32]) -> u64
     requires fits { length u.now ≤ 2 ^ 31 }
     ensures { result ≡ common_size u.now v.now }
 {
+    let (ours, our_rest) = u.as_chunks::<8>();
+    let (theirs, their_rest) = v.as_chunks::<8>();
+    let mut total = 0;
+    for (x, y) in ours.iter().zip(theirs) {
+        total += common_in_chunk(x, y);
+    }
+    total + common_one_by_one(our_rest, their_rest)
+}
+
+// The same, entry by entry.
+fn common_one_by_one(u: &[u32], v: &[u32]) -> u64
+    requires widths { length u.now ≡ length v.now }
+    requires fits { length u.now ≤ 2 ^ 31 }
+    ensures { result ≡ common_size u.now v.now }
+{
     let mut total = 0;
     for (x, y) in u.iter().zip(v) {
         total += u64::from((*x).min(*y));
     }
     total
+}
+
+// The same of eight entries.
+fn common_in_chunk(u: &[u32; 8], v: &[u32; 8]) -> u64
+    ensures { result ≡ common_size u.now v.now }
+{
+    sum_of(widened(lesser(u32x8::from_array(*u), u32x8::from_array(*v))))
+}
+
+// The lesser of the two entries in each lane.
+fn lesser(u: u32x8, v: u32x8) -> u32x8
+    requires lanes { (length u ≡ 8) × (length v ≡ 8) }
+    ensures { result ≡ zip2 min u v }
+{
+    u.simd_min(v)
+}
+
+// The entries, each widened to 64 bits.
+fn widened(entries: u32x8) -> u64x8
+    ensures { result ≡ entries }
+{
+    entries.cast::<u64>()
+}
+
+// What the lanes add to.
+fn sum_of(entries: u64x8) -> u64
+    requires { sum_l entries < 2 ^ 64 }
+    ensures { result ≡ sum_l entries }
+{
+    entries.strict_reduce_sum()
 }
 
 #[cfg(test)]
