@@ -5,7 +5,11 @@
 
      cc -O2 -DLISTS=1 -o union bench/union.c
      time ./union rooks > /dev/null; time ./union bishops > /dev/null; time ./union queens > /dev/null
+     time ./union unbuilt > /dev/null
      ./union rooks | cmp - <(./sgb list "board(80,80,0,0,-1,0,0)" | tail -n +5)
+
+   With `unbuilt` the queens' graph is made from the moves alone, without the graphs of rooks and bishops: what a union would
+   take if its operands were not built.
 
    LISTS is how many lists are followed side by side, each by a step in turn: with 1 each is followed to its end before
    the next, with 4 the processor waits for four records at once. */
@@ -90,29 +94,62 @@ static void follow(const Graph *g, uint32_t v, List *lists) {
   }
 }
 
-static Graph *merged_union(const Graph *g, const Graph *h) {
-  static List of_g[LISTS], of_h[LISTS], left;
+/* adds the edges from v to the tips of these two lists, one for each tip, with the least length */
+static void add_merged(Graph *made, uint32_t v, const List *of_g, const List *of_h) {
+  static List left;
   static uint32_t mark[VERTICES], place[VERTICES];
+  left.count = 0;
+  for (int second = 0; second < 2; second++) {
+    const List *list = second ? of_h : of_g;
+    for (size_t i = 0; i < list->count; i++) {
+      uint32_t tip = list->tip[i];
+      if (tip < v) continue;
+      if (mark[tip] != v + 1) {
+        mark[tip] = v + 1;
+        place[tip] = left.count;
+        left.tip[left.count] = tip;
+        left.len[left.count++] = list->len[i];
+      } else if (list->len[i] < left.len[place[tip]]) {
+        left.len[place[tip]] = list->len[i];
+      }
+    }
+  }
+  for (size_t i = 0; i < left.count; i++) add_edge(made, v, left.tip[i], left.len[i]);
+}
+
+static Graph *merged_union(const Graph *g, const Graph *h) {
+  static List of_g[LISTS], of_h[LISTS];
   Graph *made = new_graph();
   for (uint32_t v = 0; v < VERTICES; v++) {
     if (v % LISTS == 0) follow(g, v, of_g), follow(h, v, of_h);
-    left.count = 0;
-    for (int second = 0; second < 2; second++) {
-      const List *list = second ? &of_h[v % LISTS] : &of_g[v % LISTS];
-      for (size_t i = 0; i < list->count; i++) {
-        uint32_t tip = list->tip[i];
-        if (tip < v) continue;
-        if (mark[tip] != v + 1) {
-          mark[tip] = v + 1;
-          place[tip] = left.count;
-          left.tip[left.count] = tip;
-          left.len[left.count++] = list->len[i];
-        } else if (list->len[i] < left.len[place[tip]]) {
-          left.len[place[tip]] = list->len[i];
-        }
-      }
+    add_merged(made, v, &of_g[v % LISTS], &of_h[v % LISTS]);
+  }
+  return made;
+}
+
+/* the moves from v by these steps, as they stand on the list of the board's graph */
+static void moves_from(uint32_t v, int steps[2][2], List *list) {
+  list->count = 0;
+  for (int s = 1; s >= 0; s--) {
+    int most = 0;
+    for (;; most++) {
+      int a = (int)v / SIDE + (most + 1) * steps[s][0], b = (int)v % SIDE + (most + 1) * steps[s][1];
+      if (a < 0 || b < 0 || a >= SIDE || b >= SIDE) break;
     }
-    for (size_t i = 0; i < left.count; i++) add_edge(made, v, left.tip[i], left.len[i]);
+    for (int times = most; times > 0; times--) {
+      list->tip[list->count] = ((int)v / SIDE + times * steps[s][0]) * SIDE + (int)v % SIDE + times * steps[s][1];
+      list->len[list->count++] = times;
+    }
+  }
+}
+
+static Graph *union_of_moves(int straight[2][2], int slanted[2][2]) {
+  static List of_g, of_h;
+  Graph *made = new_graph();
+  for (uint32_t v = 0; v < VERTICES; v++) {
+    moves_from(v, straight, &of_g);
+    moves_from(v, slanted, &of_h);
+    add_merged(made, v, &of_g, &of_h);
   }
   return made;
 }
@@ -158,6 +195,8 @@ int main(int words, char **word) {
     list(board(straight));
   } else if (strcmp(word[1], "bishops") == 0) {
     list(board(slanted));
+  } else if (strcmp(word[1], "unbuilt") == 0) {
+    list(union_of_moves(straight, slanted));
   } else {
     Graph *g = board(straight), *h = board(slanted), *both = merged_union(g, h);
     free(g->records);

@@ -5,10 +5,7 @@ use Rattle.std.specs.List.{range_with_len}
 use Rattle.std.proofs.lemmas.List.Elements.{All-nil, All-cons, All-head, All-tail, All-append, All-filter, filter-append}
 use Rattle.sgb_graph.specs.Events.{Event}
 use Rattle.sgb_ops.specs.Merged.{has_ends_of, with_least_length, merged, merged_unless}
-
--- the events do not have the same ends
-abbrev apart : Bool → Event → Event → Type 0
-apart directed e f = has_ends_of directed e f ≡ false
+use Rattle.sgb_ops.proofs.Merging.{apart}
 
 -- no event of the first list has the ends of one of the second
 abbrev pub AreApart : Bool → List Event → List Event → Type 0

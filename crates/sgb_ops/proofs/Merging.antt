@@ -13,7 +13,7 @@ use Rattle.sgb_ops.specs.Merged.{has_ends_of, with_least_length, merged, ends_of
 use Rattle.sgb_ops.proofs.Ends.{own_ends, ends_turned, ends_joined, ends_either_way}
 
 -- the events do not have the same ends
-abbrev apart : Bool → Event → Event → Type 0
+abbrev pub apart : Bool → Event → Event → Type 0
 apart directed e f = has_ends_of directed e f ≡ false
 
 -- events without those that have the ends of e
