@@ -14,3 +14,4 @@ pub mod Sizes
 pub mod SumRows
 pub mod SumWidth
 pub mod Sums
+pub mod Visits

@@ -1,14 +1,17 @@
-ghost use Rattle.std.specs.Prelude.{◌≡◌, ◌+◌, ◌<◌, ◌≤◌, ◌↔◌, ℕ, length, replicate, Contains, IsTrue, IfSome, IfNone, Some, slice_index, slice_get, nat_lt, if◌then◌else◌};
+ghost use Rattle.std.specs.Prelude.{◌≡◌, ◌+◌, ◌-◌, ◌<◌, ◌≤◌, ◌^◌, ◌↔◌, ℕ, length, map, replicate, All, Contains, IsTrue, IfSome, IfNone, Some, slice_index, slice_get, nat_lt, if◌then◌else◌};
 ghost use Rattle.std.specs.Bool.{OnTrue, OnFalse};
 ghost use Rattle.std.specs.List.{AllZip, list_all, zip};
 ghost use Rattle.sgb_vec.specs.Limits.{most_vertices};
 ghost use Rattle.sgb_vec.specs.Boxes.{box, product_of};
 ghost use Rattle.sgb_vec.specs.Lexicographic.{IsBelow};
-ghost use Rattle.sgb_vec.specs.Order.{IsNext, IsLast};
+ghost use Rattle.sgb_vec.specs.Order.{HasNoneBefore, IsLast, IsNext, IsPrevious};
+ghost use Rattle.sgb_vec.specs.Visits.{HasVisited, changed_entries};
 
 use crate::families::{Family, Vector};
 use crate::limits::MOST_VERTICES;
 use crate::panics::Panic;
+use crate::steps::Steps;
+use crate::zeros::put_zeros;
 use arrayvec::ArrayVec;
 use std::marker::Model;
 
@@ -74,16 +77,29 @@ impl Family for BoxFamily {
         each_below(vector, self.sizes.as_slice())
     }
 
-    fn first(&self, vector: &mut Vector) -> bool {
+    fn first(&self, vector: &mut Vector, steps: &mut Steps) -> bool {
         if self.size() == 0 {
             return false;
         }
-        put_zeros(vector, self.sizes.len());
+        put_zeros(vector, self.sizes.len(), steps);
         true
     }
 
-    fn next(&self, vector: &mut Vector) -> bool {
-        advance(self.sizes.as_slice(), vector.as_mut_slice())
+    fn last(&self, vector: &mut Vector, steps: &mut Steps) -> bool {
+        if self.size() == 0 {
+            return false;
+        }
+        put_zeros(vector, self.sizes.len(), steps);
+        put_tops(self.sizes.as_slice(), vector.as_mut_slice(), steps);
+        true
+    }
+
+    fn next(&self, vector: &mut Vector, steps: &mut Steps) -> bool {
+        advance(self.sizes.as_slice(), vector.as_mut_slice(), steps)
+    }
+
+    fn prev(&self, vector: &mut Vector, steps: &mut Steps) -> bool {
+        retreat(self.sizes.as_slice(), vector.as_mut_slice(), steps)
     }
 
     ghost use Rattle.sgb_vec.specs.BoxWidth.{length-box_member};
@@ -136,26 +152,63 @@ fn place_among(sizes: &[u32], vector: &[u32]) -> u32
     place
 }
 
-// Makes `vector` one of `count` zeros.
-fn put_zeros(vector: &mut Vector, count: usize)
-    requires { count ≤ 92 }
-    ensures { vector.new.items ≡ replicate count 0 }
+// Makes all entries zeros.
+fn clear(entries: &mut [u32], steps: &mut Steps)
+    requires { steps.old + length entries.old < 2 ^ 64 }
+    ensures zeros { entries.new ≡ replicate (length entries.old) 0 }
+    ensures visits { steps.new ≡ steps.old + length entries.old }
 {
-    vector.clear();
-    for _i in 0..count {
-        vector.push(0);
+    for place in 0..entries.len() {
+        steps.visit();
+        entries[place] = 0;
+    }
+}
+
+// Makes each entry as great as the size beside it lets it be.
+fn put_tops(sizes: &[u32], entries: &mut [u32], steps: &mut Steps)
+    requires same_length { length entries.old ≡ length sizes.now }
+    requires some { All (λ s. 0 < s) sizes.now }
+    requires count { steps.old + length entries.old < 2 ^ 64 }
+    ensures tops { entries.new ≡ map (λ s. s - 1) sizes.now }
+    ensures visits { steps.new ≡ steps.old + length entries.old }
+{
+    for place in 0..entries.len() {
+        steps.visit();
+        entries[place] = sizes[place] - 1;
     }
 }
 
 // The last place whose entry can grow by 1.
-fn last_below_top(sizes: &[u32], entries: &[u32]) -> Option<usize>
-    requires { AllZip (λ x s. x < s) entries.now sizes.now }
+fn last_below_top(sizes: &[u32], entries: &[u32], steps: &mut Steps) -> Option<usize>
+    requires below { AllZip (λ x s. x < s) entries.now sizes.now }
+    requires count { steps.old + length entries.now < 2 ^ 64 }
     ensures below { IfSome result (λ p. (p < length entries.now) × (slice_index entries.now p + 1 < slice_index sizes.now p)) }
     ensures top_after { IfSome result (λ p. (k : ℕ) → p < k → k < length entries.now → slice_index entries.now k + 1 ≡ slice_index sizes.now k) }
     ensures all_top { IfNone result ((k : ℕ) → k < length entries.now → slice_index entries.now k + 1 ≡ slice_index sizes.now k) }
+    ensures visits { IfSome result (λ p. steps.new + p ≡ steps.old + length entries.now) }
+    ensures all_visited { IfNone result (steps.new ≡ steps.old + length entries.now) }
 {
     for place in (0..sizes.len()).rev() {
+        steps.visit();
         if entries[place] + 1 < sizes[place] {
+            return Some(place);
+        }
+    }
+    None
+}
+
+// The last place whose entry is not 0.
+fn last_above_zero(entries: &[u32], steps: &mut Steps) -> Option<usize>
+    requires { steps.old + length entries.now < 2 ^ 64 }
+    ensures above { IfSome result (λ p. (p < length entries.now) × (0 < slice_index entries.now p)) }
+    ensures zero_after { IfSome result (λ p. (k : ℕ) → p < k → k < length entries.now → slice_index entries.now k ≡ 0) }
+    ensures all_zero { IfNone result ((k : ℕ) → k < length entries.now → slice_index entries.now k ≡ 0) }
+    ensures visits { IfSome result (λ p. steps.new + p ≡ steps.old + length entries.now) }
+    ensures all_visited { IfNone result (steps.new ≡ steps.old + length entries.now) }
+{
+    for place in (0..entries.len()).rev() {
+        steps.visit();
+        if entries[place] > 0 {
             return Some(place);
         }
     }
@@ -164,17 +217,39 @@ fn last_below_top(sizes: &[u32], entries: &[u32]) -> Option<usize>
 
 // Puts the member after `entries` into it: the last entry that can grow grows, and 0 stands after it.
 // `false` where none can, and `entries` is then as before.
-fn advance(sizes: &[u32], entries: &mut [u32]) -> bool
-    requires { Contains (box sizes.now) entries.old }
+fn advance(sizes: &[u32], entries: &mut [u32], steps: &mut Steps) -> bool
+    requires member { Contains (box sizes.now) entries.old }
+    requires few { length entries.old ≤ 92 }
+    requires count { steps.old ≤ 2 ^ 63 }
     ensures found { OnTrue result (IsNext (box sizes.now) entries.old entries.new) }
     ensures last { OnFalse result (IsLast (box sizes.now) entries.old) }
     ensures unchanged { OnFalse result (entries.new ≡ entries.old) }
+    ensures visits { HasVisited (length sizes.now) (changed_entries entries.old entries.new) steps.old steps.new }
 {
-    let Some(place) = last_below_top(sizes, entries) else {
+    let Some(place) = last_below_top(sizes, entries, steps) else {
         return false;
     };
     entries[place] += 1;
-    entries[place + 1..].fill(0);
+    clear(&mut entries[place + 1..], steps);
+    true
+}
+
+// Puts the member before `entries` into it: the last entry that is not 0 falls, and those after it become as great as they
+// can be. `false` where all are 0, and `entries` is then as before.
+fn retreat(sizes: &[u32], entries: &mut [u32], steps: &mut Steps) -> bool
+    requires member { Contains (box sizes.now) entries.old }
+    requires few { length entries.old ≤ 92 }
+    requires count { steps.old ≤ 2 ^ 63 }
+    ensures found { OnTrue result (IsPrevious (box sizes.now) entries.old entries.new) }
+    ensures first { OnFalse result (HasNoneBefore (box sizes.now) entries.old) }
+    ensures unchanged { OnFalse result (entries.new ≡ entries.old) }
+    ensures visits { HasVisited (length sizes.now) (changed_entries entries.old entries.new) steps.old steps.new }
+{
+    let Some(place) = last_above_zero(entries, steps) else {
+        return false;
+    };
+    entries[place] -= 1;
+    put_tops(&sizes[place + 1..], &mut entries[place + 1..], steps);
     true
 }
 

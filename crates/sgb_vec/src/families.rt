@@ -1,13 +1,17 @@
-ghost use Rattle.std.specs.Prelude.{◌≡◌, ℕ, ◌<◌, ◌↔◌, List, [], IsTrue, Contains, length, Option, Some};
+ghost use Rattle.std.specs.Prelude.{◌≡◌, ◌≤◌, ◌^◌, ℕ, ◌↔◌, List, [], IsTrue, Contains, length};
 ghost use Rattle.std.specs.Bool.{OnTrue, OnFalse};
-ghost use Rattle.sgb_vec.specs.Order.{IsFirst, IsNext, IsLast};
+ghost use Rattle.sgb_vec.specs.Order.{HasNoneBefore, IsFinal, IsFirst, IsLast, IsNext, IsPrevious};
+ghost use Rattle.sgb_vec.specs.Visits.{HasVisited, changed_entries};
 
+use crate::steps::Steps;
 use arrayvec::ArrayVec;
 
 /// A vector of at most 92 entries, kept in place.
 pub type Vector = ArrayVec<u32, 92>;
 
-/// A finite list of vectors of one length, walked one vector at a time.
+/// A finite list of vectors of one length, walked one vector at a time, from either end.
+///
+/// Each step counts the entries that it visits: at least as many as it changes, and at most two for each entry.
 pub trait Family {
     // The members, in order.
     ghost members: { Self → List (List ℕ) };
@@ -28,17 +32,38 @@ pub trait Family {
         ensures { IsTrue result ↔ Contains (members self.now) vector.now };
 
     /// Puts the first member into `vector`. `false` where there is none, and `vector` is then as before.
-    fn first(&self, vector: &mut Vector) -> bool
+    fn first(&self, vector: &mut Vector, steps: &mut Steps) -> bool
+        requires { steps.old ≤ 2 ^ 63 }
         ensures found { OnTrue result (IsFirst (members self.now) vector.new.items) }
         ensures empty { OnFalse result (members self.now ≡ []) }
-        ensures unchanged { OnFalse result (vector.new.items ≡ vector.old.items) };
+        ensures unchanged { OnFalse result (vector.new.items ≡ vector.old.items) }
+        ensures visits { HasVisited (width self.now) 0 steps.old steps.new };
+
+    /// Puts the last member into `vector`. `false` where there is none, and `vector` is then as before.
+    fn last(&self, vector: &mut Vector, steps: &mut Steps) -> bool
+        requires { steps.old ≤ 2 ^ 63 }
+        ensures found { OnTrue result (IsFinal (members self.now) vector.new.items) }
+        ensures empty { OnFalse result (members self.now ≡ []) }
+        ensures unchanged { OnFalse result (vector.new.items ≡ vector.old.items) }
+        ensures visits { HasVisited (width self.now) 0 steps.old steps.new };
 
     /// Puts the member after `vector` into it. `false` at the last, and `vector` is then as before.
-    fn next(&self, vector: &mut Vector) -> bool
-        requires { Contains (members self.now) vector.old.items }
+    fn next(&self, vector: &mut Vector, steps: &mut Steps) -> bool
+        requires member { Contains (members self.now) vector.old.items }
+        requires count { steps.old ≤ 2 ^ 63 }
         ensures found { OnTrue result (IsNext (members self.now) vector.old.items vector.new.items) }
         ensures last { OnFalse result (IsLast (members self.now) vector.old.items) }
-        ensures unchanged { OnFalse result (vector.new.items ≡ vector.old.items) };
+        ensures unchanged { OnFalse result (vector.new.items ≡ vector.old.items) }
+        ensures visits { HasVisited (width self.now) (changed_entries vector.old.items vector.new.items) steps.old steps.new };
+
+    /// Puts the member before `vector` into it. `false` at the first, and `vector` is then as before.
+    fn prev(&self, vector: &mut Vector, steps: &mut Steps) -> bool
+        requires member { Contains (members self.now) vector.old.items }
+        requires count { steps.old ≤ 2 ^ 63 }
+        ensures found { OnTrue result (IsPrevious (members self.now) vector.old.items vector.new.items) }
+        ensures first { OnFalse result (HasNoneBefore (members self.now) vector.old.items) }
+        ensures unchanged { OnFalse result (vector.new.items ≡ vector.old.items) }
+        ensures visits { HasVisited (width self.now) (changed_entries vector.old.items vector.new.items) steps.old steps.new };
 
     // Each member has that many entries.
     ghost each_width: { (f : Self) (v : List ℕ) → Contains (members f) v → length v ≡ width f };

@@ -8,8 +8,10 @@ mod laws;
 mod limits;
 mod panics;
 mod shapes;
+mod steps;
 mod sums;
 mod texts;
+mod zeros;
 
 pub use boxes::BoxFamily;
 pub use digits::{digits_value, leading_digits};
@@ -18,5 +20,6 @@ pub use laws::{boxes_are_families, names_read_back, sums_are_families};
 pub use limits::MOST_VERTICES;
 pub use panics::Panic;
 pub use shapes::{Shape, board_sizes, simplex_bounds};
+pub use steps::Steps;
 pub use sums::SumFamily;
 pub use texts::{Text, is_text_byte, name_of};

@@ -1,14 +1,17 @@
-ghost use Rattle.std.specs.Prelude.{◌≡◌, ◌+◌, ◌<◌, ◌≤◌, ◌⊎◌, ◌↔◌, length, drop, sum, IsTrue, IfSome, IfNone, slice_index, nat_le};
+ghost use Rattle.std.specs.Prelude.{◌≡◌, ◌+◌, ◌<◌, ◌≤◌, ◌^◌, ◌⊎◌, ◌↔◌, length, drop, sum, IsTrue, IfSome, IfNone, slice_index, nat_le};
 ghost use Rattle.std.specs.Bool.{OnTrue, OnFalse};
 ghost use Rattle.std.specs.List.{list_all, zip};
 ghost use Rattle.sgb_vec.specs.Lexicographic.{IsWithin};
 ghost use Rattle.sgb_vec.specs.Limits.{most_dimensions, most_vertices};
-ghost use Rattle.sgb_vec.specs.Order.{IsFirst, IsNext, IsLast};
+ghost use Rattle.sgb_vec.specs.Order.{HasNoneBefore, IsFinal, IsFirst, IsLast, IsNext, IsPrevious};
+ghost use Rattle.sgb_vec.specs.Visits.{HasVisited, changed_entries};
 ghost use Rattle.sgb_vec.specs.Sums.{bounded_sums};
 
 use crate::families::{Family, Vector};
 use crate::limits::MOST_VERTICES;
 use crate::panics::Panic;
+use crate::steps::Steps;
+use crate::zeros::put_zeros;
 use arrayvec::ArrayVec;
 use counts::count_vectors;
 use std::alloc::Global;
@@ -86,16 +89,40 @@ impl Family for SumFamily {
         each_within(vector, self.bounds.as_slice()) && total_of(vector) == u64::from(self.total)
     }
 
-    fn first(&self, vector: &mut Vector) -> bool {
+    fn first(&self, vector: &mut Vector, steps: &mut Steps) -> bool {
         if self.size() == 0 {
             return false;
         }
-        put_first(self.bounds.as_slice(), vector, self.total);
+        put_zeros(vector, self.bounds.len(), steps);
+        put_least(
+            self.bounds.as_slice(),
+            vector.as_mut_slice(),
+            self.total,
+            steps,
+        );
         true
     }
 
-    fn next(&self, vector: &mut Vector) -> bool {
-        advance(self.bounds.as_slice(), vector.as_mut_slice())
+    fn last(&self, vector: &mut Vector, steps: &mut Steps) -> bool {
+        if self.size() == 0 {
+            return false;
+        }
+        put_zeros(vector, self.bounds.len(), steps);
+        put_greatest(
+            self.bounds.as_slice(),
+            vector.as_mut_slice(),
+            self.total,
+            steps,
+        );
+        true
+    }
+
+    fn next(&self, vector: &mut Vector, steps: &mut Steps) -> bool {
+        advance(self.bounds.as_slice(), vector.as_mut_slice(), steps)
+    }
+
+    fn prev(&self, vector: &mut Vector, steps: &mut Steps) -> bool {
+        retreat(self.bounds.as_slice(), vector.as_mut_slice(), steps)
     }
 
     ghost use Rattle.sgb_vec.specs.SumWidth.{length-sum_member};
@@ -125,28 +152,36 @@ fn total_of(entries: &[u32]) -> u64
     entries.iter().map(|entry| u64::from(*entry)).sum()
 }
 
-// Makes `vector` the first of those within the bounds that add to `total`.
-fn put_first(bounds: &[u32], vector: &mut Vector, total: u32)
-    requires few { length bounds.now ≤ most_dimensions + 1 }
-    requires room { total ≤ sum bounds.now }
-    ensures { IsFirst (bounded_sums total bounds.now) vector.new.items }
-{
-    vector.clear();
-    for _bound in bounds {
-        vector.push(0);
-    }
-    put_least(bounds, vector.as_mut_slice(), total);
-}
-
 // Makes `entries` the first of the vectors within the bounds that add to `total`. From the right, each
 // entry takes as much of it as its bound lets.
-fn put_least(bounds: &[u32], entries: &mut [u32], total: u32)
+fn put_least(bounds: &[u32], entries: &mut [u32], total: u32, steps: &mut Steps)
     requires same_length { length entries.old ≡ length bounds.now }
     requires room { total ≤ sum bounds.now }
-    ensures { IsFirst (bounded_sums total bounds.now) entries.new }
+    requires count { steps.old + length entries.old < 2 ^ 64 }
+    ensures first { IsFirst (bounded_sums total bounds.now) entries.new }
+    ensures visits { steps.new ≡ steps.old + length entries.old }
 {
     let mut rest = total;
     for place in (0..bounds.len()).rev() {
+        steps.visit();
+        let entry = rest.min(bounds[place]);
+        entries[place] = entry;
+        rest -= entry;
+    }
+}
+
+// Makes `entries` the last of the vectors within the bounds that add to `total`. From the left, each entry takes as
+// much of it as its bound lets.
+fn put_greatest(bounds: &[u32], entries: &mut [u32], total: u32, steps: &mut Steps)
+    requires same_length { length entries.old ≡ length bounds.now }
+    requires room { total ≤ sum bounds.now }
+    requires count { steps.old + length entries.old < 2 ^ 64 }
+    ensures last { IsFinal (bounded_sums total bounds.now) entries.new }
+    ensures visits { steps.new ≡ steps.old + length entries.old }
+{
+    let mut rest = total;
+    for place in 0..bounds.len() {
+        steps.visit();
         let entry = rest.min(bounds[place]);
         entries[place] = entry;
         rest -= entry;
@@ -154,16 +189,20 @@ fn put_least(bounds: &[u32], entries: &mut [u32], total: u32)
 }
 
 // The last place whose entry can grow by 1 at the cost of the entries after it, with what these add to.
-fn last_growing(bounds: &[u32], entries: &[u32]) -> Option<(usize, u32)>
+fn last_growing(bounds: &[u32], entries: &[u32], steps: &mut Steps) -> Option<(usize, u32)>
     requires within { IsWithin entries.now bounds.now }
     requires small { sum entries.now ≤ most_vertices }
+    requires count { steps.old + length entries.now < 2 ^ 64 }
     ensures below { IfSome result (λ p. (p.0 < length entries.now) × (slice_index entries.now p.0 < slice_index bounds.now p.0)) }
     ensures after { IfSome result (λ p. (0 < p.1) × (p.1 ≡ sum (drop (p.0 + 1) entries.now))) }
     ensures last_after { IfSome result (λ p. IsLast (bounded_sums p.1 (drop (p.0 + 1) bounds.now)) (drop (p.0 + 1) entries.now)) }
     ensures last { IfNone result (IsLast (bounded_sums (sum entries.now) bounds.now) entries.now) }
+    ensures visits { IfSome result (λ p. steps.new + p.0 ≡ steps.old + length entries.now) }
+    ensures all_visited { IfNone result (steps.new ≡ steps.old + length entries.now) }
 {
     let mut after: u32 = 0;
     for place in (0..entries.len()).rev() {
+        steps.visit();
         if after > 0 && entries[place] < bounds[place] {
             return Some((place, after));
         }
@@ -172,21 +211,80 @@ fn last_growing(bounds: &[u32], entries: &[u32]) -> Option<(usize, u32)>
     None
 }
 
+// The last place whose entry can fall by 1 to the benefit of the entries after it, with what these add to.
+fn last_falling(bounds: &[u32], entries: &[u32], steps: &mut Steps) -> Option<(usize, u32)>
+    requires within { IsWithin entries.now bounds.now }
+    requires small { sum entries.now ≤ most_vertices }
+    requires count { steps.old + length entries.now < 2 ^ 64 }
+    ensures above { IfSome result (λ p. (p.0 < length entries.now) × (0 < slice_index entries.now p.0)) }
+    ensures after { IfSome result (λ p. (p.1 ≡ sum (drop (p.0 + 1) entries.now)) × (p.1 < sum (drop (p.0 + 1) bounds.now))) }
+    ensures first_after { IfSome result (λ p. IsFirst (bounded_sums p.1 (drop (p.0 + 1) bounds.now)) (drop (p.0 + 1) entries.now)) }
+    ensures first { IfNone result (IsFirst (bounded_sums (sum entries.now) bounds.now) entries.now) }
+    ensures visits { IfSome result (λ p. steps.new + p.0 ≡ steps.old + length entries.now) }
+    ensures all_visited { IfNone result (steps.new ≡ steps.old + length entries.now) }
+{
+    let mut after: u32 = 0;
+    let mut has_room = false;
+    for place in (0..entries.len()).rev() {
+        steps.visit();
+        if has_room && entries[place] > 0 {
+            return Some((place, after));
+        }
+        has_room = has_room || entries[place] < bounds[place];
+        after += entries[place];
+    }
+    None
+}
+
 // Puts the vector after `entries` into it, among those within the bounds that add to the same: the last entry that
 // can grow at the cost of those after it grows by 1, and these become the first vector of what is left to them.
 // `false` where none can, and `entries` is then as before.
-fn advance(bounds: &[u32], entries: &mut [u32]) -> bool
+fn advance(bounds: &[u32], entries: &mut [u32], steps: &mut Steps) -> bool
     requires within { IsWithin entries.old bounds.now }
     requires small { sum entries.old ≤ most_vertices }
+    requires few { length entries.old ≤ 92 }
+    requires count { steps.old ≤ 2 ^ 63 }
     ensures found { OnTrue result (IsNext (bounded_sums (sum entries.old) bounds.now) entries.old entries.new) }
     ensures last { OnFalse result (IsLast (bounded_sums (sum entries.old) bounds.now) entries.old) }
     ensures unchanged { OnFalse result (entries.new ≡ entries.old) }
+    ensures visits { HasVisited (length bounds.now) (changed_entries entries.old entries.new) steps.old steps.new }
 {
-    let Some((place, after)) = last_growing(bounds, entries) else {
+    let Some((place, after)) = last_growing(bounds, entries, steps) else {
         return false;
     };
     entries[place] += 1;
-    put_least(&bounds[place + 1..], &mut entries[place + 1..], after - 1);
+    put_least(
+        &bounds[place + 1..],
+        &mut entries[place + 1..],
+        after - 1,
+        steps,
+    );
+    true
+}
+
+// Puts the vector before `entries` into it, among those within the bounds that add to the same: the last entry that
+// can fall to the benefit of those after it falls by 1, and these become the last vector of what they then have.
+// `false` where none can, and `entries` is then as before.
+fn retreat(bounds: &[u32], entries: &mut [u32], steps: &mut Steps) -> bool
+    requires within { IsWithin entries.old bounds.now }
+    requires small { sum entries.old ≤ most_vertices }
+    requires few { length entries.old ≤ 92 }
+    requires count { steps.old ≤ 2 ^ 63 }
+    ensures found { OnTrue result (IsPrevious (bounded_sums (sum entries.old) bounds.now) entries.old entries.new) }
+    ensures first { OnFalse result (HasNoneBefore (bounded_sums (sum entries.old) bounds.now) entries.old) }
+    ensures unchanged { OnFalse result (entries.new ≡ entries.old) }
+    ensures visits { HasVisited (length bounds.now) (changed_entries entries.old entries.new) steps.old steps.new }
+{
+    let Some((place, after)) = last_falling(bounds, entries, steps) else {
+        return false;
+    };
+    entries[place] -= 1;
+    put_greatest(
+        &bounds[place + 1..],
+        &mut entries[place + 1..],
+        after + 1,
+        steps,
+    );
     true
 }
 

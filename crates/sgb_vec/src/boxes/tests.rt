@@ -5,12 +5,12 @@ use std::test::Fail;
 // Walks the family from its first vector, and compares each vector with the list's.
 fn walk<A: Abort>(rt: &A, family: &BoxFamily, expected: &[[u32; 2]]) {
     let mut vector = Vector::new();
-    let mut more = family.first(&mut vector);
+    let mut more = family.first(&mut vector, &mut Steps::new());
     for entries in expected {
         assert!(rt; more);
         assert!(rt; vector.as_slice() == entries.as_slice());
         assert!(rt; family.holds(vector.as_slice()));
-        more = family.next(&mut vector);
+        more = family.next(&mut vector, &mut Steps::new());
     }
     assert!(rt; !more);
 }
@@ -42,7 +42,7 @@ fn empty_boxes(rt: HostRuntime) -> Result<(), Fail> {
         assert!(rt; family.size() == 0);
         let mut vector = Vector::new();
         vector.push(7);
-        assert!(rt; !family.first(&mut vector));
+        assert!(rt; !family.first(&mut vector, &mut Steps::new()));
         assert!(rt; vector.as_slice() == [7].as_slice());
     }
     Ok(())
@@ -55,10 +55,10 @@ fn no_sizes(rt: HostRuntime) -> Result<(), Fail> {
     assert!(rt; family.size() == 1);
     let mut vector = Vector::new();
     vector.push(7);
-    assert!(rt; family.first(&mut vector));
+    assert!(rt; family.first(&mut vector, &mut Steps::new()));
     assert!(rt; vector.is_empty());
     assert!(rt; family.holds(vector.as_slice()));
-    assert!(rt; !family.next(&mut vector));
+    assert!(rt; !family.next(&mut vector, &mut Steps::new()));
     Ok(())
 }
 

@@ -19,12 +19,12 @@ fn family_of(alloc: Global, total: i64, bounds: &[u32]) -> Result<SumFamily, Fai
 // leaves it as it is.
 fn walk<A: Abort>(rt: &A, family: &SumFamily, expected: &[&[u32]]) {
     let mut vector = Vector::new();
-    let mut more = family.first(&mut vector);
+    let mut more = family.first(&mut vector, &mut Steps::new());
     for entries in expected {
         assert!(rt; more);
         assert!(rt; vector.as_slice() == *entries);
         assert!(rt; family.holds(vector.as_slice()));
-        more = family.next(&mut vector);
+        more = family.next(&mut vector, &mut Steps::new());
     }
     assert!(rt; !more);
     assert!(rt; Some(vector.as_slice()) == expected.last().copied());
@@ -80,7 +80,7 @@ fn no_vector(rt: HostRuntime) -> Result<(), Fail> {
     assert!(rt; family.size() == 0);
     let mut vector = Vector::new();
     vector.push(7);
-    assert!(rt; !family.first(&mut vector));
+    assert!(rt; !family.first(&mut vector, &mut Steps::new()));
     assert!(rt; vector.as_slice() == [7].as_slice());
     Ok(())
 }

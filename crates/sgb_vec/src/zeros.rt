@@ -1,0 +1,19 @@
+//! Vectors of zeros.
+ghost use Rattle.std.specs.Prelude.{◌≡◌, ◌+◌, ◌≤◌, ◌^◌, replicate};
+
+use crate::families::Vector;
+use crate::steps::Steps;
+
+// Makes `vector` one of `count` zeros.
+pub(crate) fn put_zeros(vector: &mut Vector, count: usize, steps: &mut Steps)
+    requires few { count ≤ 92 }
+    requires count { steps.old ≤ 2 ^ 63 }
+    ensures zeros { vector.new.items ≡ replicate count 0 }
+    ensures visits { steps.new ≡ steps.old + count }
+{
+    vector.clear();
+    for _i in 0..count {
+        steps.visit();
+        vector.push(0);
+    }
+}
