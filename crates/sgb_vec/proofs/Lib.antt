@@ -9,6 +9,7 @@ pub mod Examples
 pub mod GreatCounts
 pub mod Hills
 pub mod NameReading
+pub mod NamedNumbers
 pub mod Numerals
 pub mod Products
 pub mod RisingLists

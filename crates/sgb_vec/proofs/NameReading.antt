@@ -1,12 +1,13 @@
 -- The name of a vector read back: cut at its dots, each part is the decimal of an entry.
-use Rattle.std.proofs.Common.{◌≡◌, ℕ, ◌<◌, ◌≤◌, Bool, true, false, cond, eqb, leb, ◌&&◌, List, [], ◌∷◌, length, get_or, map, refl, ap, ap₂, subst, ◌∙◌, arith, decimal, Some, None, nat_eq, length-append}
+use Rattle.std.proofs.Common.{◌≡◌, ℕ, ◌<◌, ◌≤◌, ◌^◌, sym, Bool, true, false, cond, eqb, leb, ◌&&◌, List, [], ◌∷◌, length, get_or, map, refl, ap, ap₂, subst, ◌∙◌, arith, decimal, Some, None, nat_eq, length-append}
 use Rattle.std.specs.List.{All, join_with_byte, slice_split}
 use Rattle.std.specs.Cmp.Lexicographic.{pointwise, bytes_decides}
 use Rattle.std.specs.Str.Parse.{digits_value}
 use Rattle.std.proofs.lemmas.Bool.{leb-true, le-leb, ne_eqb, and_parts, and_from, cond-true}
 use Rattle.std.proofs.lemmas.Fmt.{decimal_is_IsNumeral}
 use Rattle.std.proofs.lemmas.List.Elements.{All-from_get_or, All-head, All-tail, All-weaker}
-use Rattle.std.proofs.lemmas.List.Splits.{slice_split_none, slice_split_at}
+use Rattle.std.proofs.lemmas.List.{get_or-map, length-map}
+use Rattle.std.proofs.lemmas.List.Splits.{slice_split_none, slice_split_at, join_with_byte-slice_split}
 use Rattle.std.proofs.lemmas.List.Sums.{AllPass-from_list_all, list_all-from_AllPass}
 use Rattle.std.proofs.lemmas.Str.Parse.{digit_at}
 use Rattle.sgb_vec.specs.Limits.{most_entry}
@@ -14,7 +15,7 @@ use Rattle.sgb_vec.specs.Names.{name_of_vector}
 use Rattle.sgb_vec.specs.NamedVectors.{IsVector, is_vector, numbers_between_dots, if_named, vector_of}
 
 -- a byte that is a dot
-abbrev is_dot : ℕ → Bool
+abbrev pub is_dot : ℕ → Bool
 is_dot c = eqb c 46
 
 -- the entries of a vector that a name may stand for
@@ -101,3 +102,29 @@ vector_of-name x h =
     let named = (bytes_decides (name_of_vector x) (name_of_vector x)).1 refl in
     ap (λ y. if_named (name_of_vector x) y) (numbers-name x h.small)
     ∙ cond-true _ (Some x) None (and_from _ _ (test-from_IsVector x h) named)
+
+-- entries whose decimals are the parts of a text make up its name
+pub name_of_parts : (x text : List ℕ) → map decimal x ≡ slice_split is_dot text → name_of_vector x ≡ text
+unfolding name_of_vector
+name_of_parts x text same = ap (join_with_byte 46) same ∙ join_with_byte-slice_split 46 text
+
+-- the parts of a name are the decimals of the entries
+pub parts_of_name : (x text : List ℕ) → IsVector x → name_of_vector x ≡ text → 0 < length text → slice_split is_dot text ≡ map decimal x
+unfolding name_of_vector
+parts_of_name [] text is same some = absurd (omega (arith, ap length same))
+parts_of_name (entry ∷ x) text is same some = subst (λ t. slice_split is_dot t ≡ map decimal (entry ∷ x)) same (slice_split-name entry x is.small)
+
+-- a part of a name is the decimal of a number below 2 ^ 32
+pub part_is_decimal : (x text part : List ℕ) (k : ℕ) → IsVector x → name_of_vector x ≡ text → 0 < length text → k < length (slice_split is_dot text)
+    → part ≡ get_or (slice_split is_dot text) k part → (get_or x k 0 < 2 ^ 32) × (decimal (get_or x k 0) ≡ part)
+part_is_decimal x text part k is same some within at =
+    let parts = parts_of_name x text is same some in
+    let inside : k < length x = omega (arith, within, ap length parts, length-map x decimal) in
+    let small : get_or x k 0 ≤ most_entry = is.small k 0 inside in
+    (omega (arith, small), sym (at ∙ (ap (λ ps. get_or ps k part) parts ∙ get_or-map decimal x k 0 part inside)))
+
+-- a name has no more parts than a vector has entries
+pub few_parts : (x text : List ℕ) → IsVector x → name_of_vector x ≡ text → 0 < length text → length (slice_split is_dot text) ≤ 92
+few_parts x text is same some =
+    let parts = parts_of_name x text is same some in
+    omega (arith, is.short, ap length parts, length-map x decimal)

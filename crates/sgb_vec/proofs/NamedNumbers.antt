@@ -1,0 +1,70 @@
+-- Numbers read back from their decimals.
+use native.Mathlib.Nat.{pow-le-pow_right}
+use Rattle.std.proofs.Common.{◌≡◌, ℕ, zero, suc, ◌^◌, ◌<◌, ◌≤◌, ◌⊎◌, Bool, true, false, cond, List, [], ◌∷◌, length, take, decimal, refl, ap, ◌∙◌, inl, inr, arith}
+use Rattle.std.specs.Char.{digit_value, is_digit}
+use Rattle.std.specs.List.{take_while}
+use Rattle.std.specs.Str.Parse.{AllDigits, digits_value}
+use Rattle.std.proofs.lemmas.Bool.{cases_lt, lt-ltb, le-ltb}
+use Rattle.std.proofs.lemmas.Fmt.{decimal_is_IsNumeral, length-decimal-le}
+use Rattle.std.proofs.lemmas.Int.Digits.{digits_value-lt}
+use Rattle.std.proofs.lemmas.List.Sums.{take_while-cons}
+use Rattle.sgb_vec.specs.Digits.{leading_digits}
+
+-- some digits in the radix, so many at most
+pub record AreDigits (radix most : ℕ) (digits : List ℕ) : Type 0 where
+  pub all : AllDigits radix digits
+  pub short : length digits ≤ most
+
+-- a byte is a digit or none
+digit_cases : (radix byte : ℕ) → ((is_digit byte radix ≡ true) × (digit_value byte < radix)) ⊎ (is_digit byte radix ≡ false)
+digit_cases radix byte = elim (cases_lt (digit_value byte) radix) [
+  | inl h ↦ inl (lt-ltb (digit_value byte) radix h, h)
+  | inr h ↦ inr (le-ltb (digit_value byte) radix h)
+]
+
+-- one byte more
+first_byte : (radix most byte : ℕ) (text : List ℕ) → leading_digits radix (suc most) (byte ∷ text) ≡ cond (is_digit byte radix) (byte ∷ leading_digits radix most text) []
+first_byte radix most byte text = take_while-cons (λ b. is_digit b radix) byte (take most text)
+
+-- what a text begins with are digits
+pub leading_are_digits : (radix most : ℕ) (text : List ℕ) → AreDigits radix most (leading_digits radix most text)
+leading_are_digits radix zero text = record { all = tt; short = omega arith }
+leading_are_digits radix (suc most) [] = record { all = tt; short = omega arith }
+leading_are_digits radix (suc most) (byte ∷ text) =
+    let rest = leading_are_digits radix most text in
+    elim (digit_cases radix byte) [
+      | inl h ↦ rw (first_byte radix most byte text, h.0) (record { all = (h.1, rest.all); short = omega (arith, rest.short) })
+      | inr h ↦ rw (first_byte radix most byte text, h) (record { all = tt; short = omega arith })
+    ]
+
+-- digits begin with all of them
+pub leading_of_digits : (radix most : ℕ) (digits : List ℕ) → AreDigits radix most digits → leading_digits radix most digits ≡ digits
+leading_of_digits radix zero [] are = refl
+leading_of_digits radix zero (byte ∷ digits) are = absurd (omega (arith, are.short))
+leading_of_digits radix (suc most) [] are = refl
+leading_of_digits radix (suc most) (byte ∷ digits) are =
+    let rest = leading_of_digits radix most digits (record { all = are.all.1; short = omega (arith, are.short) }) in
+    first_byte radix most byte digits ∙ rw (lt-ltb (digit_value byte) radix are.all.0, rest) refl
+
+-- ten digits at most write a number below 2 ^ 64
+pub ten_digits_fit : (digits : List ℕ) → AreDigits 10 10 digits → digits_value 10 digits < 2 ^ 64
+ten_digits_fit digits are =
+    let positive : 1 ≤ 10 = omega arith in
+    let most : 10 ^ length digits ≤ 10 ^ 10 = pow-le-pow_right positive are.short in
+    omega (arith, digits_value-lt 10 digits are.all, most)
+
+-- of a number below 2 ^ 32: its decimal is digits, and reads as the number
+pub record IsReadBack (entry : ℕ) : Type 0 where
+  pub leading : leading_digits 10 10 (decimal entry) ≡ decimal entry
+  pub some : 0 < length (decimal entry)
+  pub value : digits_value 10 (decimal entry) ≡ entry
+
+pub decimal_is_read_back : (entry : ℕ) → entry < 2 ^ 32 → IsReadBack entry
+decimal_is_read_back entry h =
+    let numeral = decimal_is_IsNumeral entry (omega arith) in
+    let short : length (decimal entry) ≤ 10 = length-decimal-le 10 entry (omega arith) (omega arith) (omega arith) in
+    record {
+      leading = leading_of_digits 10 10 (decimal entry) (record { all = numeral.0.1; short = short });
+      some = numeral.0.0;
+      value = numeral.1;
+    }
