@@ -9,7 +9,9 @@ pub mod Limits
 pub mod NamedVectors
 pub mod Names
 pub mod Order
+pub mod Ranges
 pub mod Results
+pub mod Rising
 pub mod Sizes
 pub mod SumRows
 pub mod SumWidth

@@ -105,6 +105,10 @@ impl Family for BoxFamily {
     ghost use Rattle.sgb_vec.specs.BoxWidth.{length-box_member};
 
     ghost each_width = { length-box_member };
+
+    ghost use Rattle.sgb_vec.specs.Rising.{box_vectors_rise};
+
+    ghost rising = { box_vectors_rise };
 }
 
 // The product of the sizes, where it is at most the number of vertices that a graph may have. A size of

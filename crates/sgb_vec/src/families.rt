@@ -1,5 +1,6 @@
 ghost use Rattle.std.specs.Prelude.{◌≡◌, ◌≤◌, ◌^◌, ℕ, ◌↔◌, List, [], IsTrue, Contains, length};
 ghost use Rattle.std.specs.Bool.{OnTrue, OnFalse};
+ghost use Rattle.sgb_vec.specs.Lexicographic.{IsRising};
 ghost use Rattle.sgb_vec.specs.Order.{HasNoneBefore, IsFinal, IsFirst, IsLast, IsNext, IsPrevious};
 ghost use Rattle.sgb_vec.specs.Visits.{HasVisited, changed_entries};
 
@@ -67,4 +68,7 @@ pub trait Family {
 
     // Each member has that many entries.
     ghost each_width: { (f : Self) (v : List ℕ) → Contains (members f) v → length v ≡ width f };
+
+    // The members rise in lexicographic order, so that each stands once.
+    ghost rising: { (f : Self) → IsRising (members f) };
 }

@@ -12,6 +12,7 @@ mod shapes;
 mod steps;
 mod sums;
 mod texts;
+mod vectors;
 mod zeros;
 
 pub use boxes::BoxFamily;
@@ -25,3 +26,4 @@ pub use shapes::{Shape, board_sizes, simplex_bounds};
 pub use steps::Steps;
 pub use sums::SumFamily;
 pub use texts::{Text, is_text_byte, name_of};
+pub use vectors::Vectors;

@@ -128,6 +128,10 @@ impl Family for SumFamily {
     ghost use Rattle.sgb_vec.specs.SumWidth.{length-sum_member};
 
     ghost each_width = { length-sum_member };
+
+    ghost use Rattle.sgb_vec.specs.Rising.{sum_vectors_rise};
+
+    ghost rising = { sum_vectors_rise };
 }
 
 // Whether there are as many entries as bounds, each at most its bound.
