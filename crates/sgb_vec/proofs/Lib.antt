@@ -2,6 +2,7 @@
 pub mod BoardSizes
 pub mod BoxOrder
 pub mod BoxPlaces
+pub mod BoxPredecessors
 pub mod BoxRanks
 pub mod BoxSuccessors
 pub mod Convolutions
@@ -21,4 +22,5 @@ pub mod SumSuccessors
 pub mod SumTails
 pub mod SumWalks
 pub mod VectorNames
+pub mod VisitLemmas
 pub mod Windows

@@ -1,19 +1,32 @@
 use Rattle.std.proofs.Common.{rules, arith}
-use Rattle.sgb_vec.proofs.BoxPlaces.{IsBelow-from_Contains}
+use Rattle.sgb_vec.proofs.BoxPlaces.{IsBelow-from_Contains, IsBelow-length}
 use Rattle.sgb_vec.proofs.BoxSuccessors.{GrownAt-put_mid, IsNext-grown, IsLast-top}
+use Rattle.sgb_vec.proofs.VisitLemmas.{HasVisited-from, HasVisited-all}
 use Rattle.sgb_vec.proofs.boxes.advance.Goals as goal
 
-pub last_below_top-requires : goal.last_below_top-requires
-last_below_top-requires c = IsBelow-from_Contains c.args.sizes.now c.args.entries.now c.requires
+pub last_below_top-requires-clause-below : goal.last_below_top-requires-clause-below
+last_below_top-requires-clause-below c = IsBelow-from_Contains c.args.sizes.now c.args.entries.now c.requires.member
 
 pub returns-in_default-clause-last : goal.returns-in_default-clause-last
 returns-in_default-clause-last c =
-    let below = IsBelow-from_Contains c.args.sizes.now c.args.entries.now c.requires in
+    let below = IsBelow-from_Contains c.args.sizes.now c.args.entries.now c.requires.member in
     IsLast-top c.args.sizes.now c.args.entries.now below (λ k _ h. c.in_default.ensures.all_top k h)
+
+pub returns-in_default-clause-visits : goal.returns-in_default-clause-visits
+returns-in_default-clause-visits c =
+    let below = IsBelow-from_Contains c.args.sizes.now c.args.entries.now c.requires.member in
+    HasVisited-all c.args.entries.now _ _ _ (IsBelow-length _ _ below) c.in_default.ensures.all_visited
 
 pub returns-clause-found : goal.returns-clause-found
 returns-clause-found c =
-    let below = IsBelow-from_Contains c.args.sizes.now c.args.entries.now c.requires in
+    let below = IsBelow-from_Contains c.args.sizes.now c.args.entries.now c.requires.member in
     let here = c.in-Some.ensures.below in
-    let grown = GrownAt-put_mid c.args.entries.now c.fill.new.self c.in-Some.place here.0 (search rules) in
+    let grown = GrownAt-put_mid c.args.entries.now c.clear.new.entries c.in-Some.place here.0 (search rules) in
     IsNext-grown c.args.sizes.now c.args.entries.now _ c.in-Some.place below here.0 here.1 (λ k low high. c.in-Some.ensures.top_after k (omega arith) high) grown
+
+pub returns-clause-visits : goal.returns-clause-visits
+returns-clause-visits c =
+    let below = IsBelow-from_Contains c.args.sizes.now c.args.entries.now c.requires.member in
+    let here = c.in-Some.ensures.below in
+    let grown = GrownAt-put_mid c.args.entries.now c.clear.new.entries c.in-Some.place here.0 (search rules) in
+    HasVisited-from c.args.entries.now _ c.in-Some.place _ _ c.last_below_top.new.steps _ (IsBelow-length _ _ below) here.0 grown.same_length grown.before c.in-Some.ensures.visits (search rules)

@@ -1,0 +1,51 @@
+-- How many entries differ between two vectors that agree before some place.
+use Rattle.std.proofs.Common.{◌≡◌, ℕ, zero, suc, ◌+◌, ◌-◌, ◌<◌, ◌≤◌, Bool, true, not, List, [], ◌∷◌, length, get_or, eqb, cond, refl, ◌∙◌, inl, inr, arith}
+use Rattle.std.specs.List.{filter, zip}
+use Rattle.std.proofs.lemmas.Bool.{cases_Bool, eq-eqb}
+use Rattle.sgb_vec.specs.Visits.{HasVisited, changed_entries}
+
+-- a kept or left out element makes the count at most one greater
+length-cond : {X : Type 0} (b : Bool) (x : X) (xs : List X) → length (cond b (x ∷ xs) xs) ≤ length xs + 1
+length-cond b x xs = elim (cases_Bool b) [
+  | inl e ↦ rw e (omega arith)
+  | inr e ↦ rw e (omega arith)
+]
+
+-- one entry more is at most one change more
+changed-more : (x y : ℕ) (v w : List ℕ) → changed_entries (x ∷ v) (y ∷ w) ≤ changed_entries v w + 1
+changed-more x y v w = length-cond (not (eqb x y)) (x, y) (filter (λ p. not (eqb p.0 p.1)) (zip v w))
+
+-- one entry more that is the same is no change more
+changed-same : (x y : ℕ) (v w : List ℕ) → x ≡ y → changed_entries (x ∷ v) (y ∷ w) ≡ changed_entries v w
+changed-same x y v w e = let same : eqb x y ≡ true = eq-eqb x y e in rw same refl
+
+-- nothing differs between a vector and itself
+pub changed-none : (v : List ℕ) → changed_entries v v ≡ 0
+changed-none [] = refl
+changed-none (x ∷ v) = changed-same x x v v refl ∙ changed-none v
+
+-- no more entries differ than there are
+changed-length : (v w : List ℕ) → changed_entries v w ≤ length v
+changed-length [] w = omega arith
+changed-length (x ∷ v) [] = omega arith
+changed-length (x ∷ v) (y ∷ w) = omega (arith, changed-more x y v w, changed-length v w)
+
+-- what agrees before place p differs at most from p on
+pub changed-from : (v w : List ℕ) (p : ℕ) → p ≤ length v → length w ≡ length v → ((k : ℕ) → k < p → get_or w k 0 ≡ get_or v k 0) → changed_entries v w + p ≤ length v
+changed-from v w zero h e same = omega (arith, changed-length v w)
+changed-from [] w (suc p) h e same = absurd (omega arith)
+changed-from (x ∷ v) [] (suc p) h e same = absurd (omega arith)
+changed-from (x ∷ v) (y ∷ w) (suc p) h e same =
+    let here : y ≡ x = same 0 (omega arith) in
+    let rest = changed-from v w p (omega arith) (omega arith) (λ k m. same (suc k) (omega arith)) in
+    omega (arith, changed-same x y v w (omega arith), rest)
+
+-- a walk that looks from the end back to place p, and then writes what stands after it, has visited enough and not too much
+pub HasVisited-from : (v w : List ℕ) (p entries before middle after : ℕ) → length v ≡ entries → p < length v → length w ≡ length v → ((k : ℕ) → k < p → get_or w k 0 ≡ get_or v k 0) → middle + p ≡ before + length v → after ≡ middle + (length v - (p + 1)) → HasVisited entries (changed_entries v w) before after
+HasVisited-from v w p entries before middle after e h long same looked written =
+    let few = changed-from v w p (omega arith) long same in
+    (omega (arith, few), omega arith)
+
+-- and so has one that looks at all entries and changes none
+pub HasVisited-all : (v : List ℕ) (entries before after : ℕ) → length v ≡ entries → after ≡ before + length v → HasVisited entries (changed_entries v v) before after
+HasVisited-all v entries before after e looked = (omega (arith, changed-none v), omega arith)
