@@ -13,6 +13,7 @@ pub mod NameReading
 pub mod NamedNumbers
 pub mod Numerals
 pub mod Products
+pub mod RangeSteps
 pub mod RisingLists
 pub mod SimplexBounds
 pub mod SumCounts

@@ -5,27 +5,29 @@ ghost use Rattle.sgb_vec.specs.Ranges.{ComeAfter};
 
 use crate::families::{Family, Vector};
 use crate::steps::Steps;
+use arrayvec::ArrayVec;
 use std::marker::Model;
 
-/// Vectors of a family that are still to come, from either end. Each step goes by `next` or `prev` of the family and
-/// counts its visits anew. Contracts see it as the list of the vectors that are still to come.
+/// Vectors of a family, from either end. Each step goes by `next` or `prev` of the family and counts its visits anew.
+/// Contracts see it as the list of the vectors that are still to come.
 #[derive(Drop)]
 pub struct Vectors<'a, F: Family> {
     family: &'a F,
-    // The first and the last of them, where there are some.
-    ends: Option<(Vector, Vector)>,
+    // Whether some are still to come: then `front` is the first of them, and `back` the last.
+    more: bool,
+    front: Vector,
+    back: Vector,
 }
 
 impl<'a, F: Family> Model for Vectors<'a, F> {
-    ghost use Rattle.std.specs.Prelude.{List, ℕ};
-    ghost use Rattle.std.specs.Prelude.{option_map};
-    ghost use Rattle.sgb_vec.specs.Ranges.{AreEnds, from_to};
+    ghost use Rattle.std.specs.Prelude.{List, ℕ, IsTrue};
+    ghost use Rattle.sgb_vec.specs.Ranges.{AreEnds, from_to_if};
 
     ghost Value = { List (List ℕ) };
 
-    ghost view = { λ v. from_to (F.members v.family.now) (option_map (λ e. (e.0.items, e.1.items)) v.ends) };
+    ghost view = { λ v. from_to_if v.more (F.members v.family.now) v.front.items v.back.items };
 
-    ghost invariant = { λ v. AreEnds (F.members v.family.now) (option_map (λ e. (e.0.items, e.1.items)) v.ends) };
+    ghost invariant = { λ v. IsTrue v.more → AreEnds (F.members v.family.now) v.front.items v.back.items };
 }
 
 impl<'a, F: Family> Vectors<'a, F> {
@@ -33,15 +35,76 @@ impl<'a, F: Family> Vectors<'a, F> {
     pub fn all(family: &'a F) -> Vectors<'a, F>
         ensures { result ≡ F.members family.now }
     {
-        let mut first = Vector::new();
-        if !family.first(&mut first, &mut Steps::new()) {
-            return Vectors { family, ends: None };
-        }
-        let mut last = Vector::new();
-        family.last(&mut last, &mut Steps::new());
+        let mut front = Vector::new();
+        let mut back = Vector::new();
+        let more = family.first(&mut front, &mut Steps::new());
+        let _some = family.last(&mut back, &mut Steps::new());
         Vectors {
             family,
-            ends: Some((first, last)),
+            more,
+            front,
+            back,
         }
     }
+
+    /// The vectors of the family after this one, in order. `None` where it is no vector of the family.
+    pub fn after(family: &'a F, vector: &[u32]) -> Option<Vectors<'a, F>>
+        ensures after { IfSome result (λ vectors. ComeAfter (F.members family.now) vector.now vectors) }
+        ensures none { IfNone result (¬ Contains (F.members family.now) vector.now) }
+    {
+        if vector.len() != family.dims() || !family.holds(vector) {
+            return None;
+        }
+        let mut front = ArrayVec::try_from(vector).unwrap();
+        let mut back = Vector::new();
+        let more = family.next(&mut front, &mut Steps::new());
+        let _some = family.last(&mut back, &mut Steps::new());
+        Some(Vectors {
+            family,
+            more,
+            front,
+            back,
+        })
+    }
 }
+
+impl<'a, F: Family> Iterator for Vectors<'a, F> {
+    type Item = Vector;
+
+    ghost next_gives = { YieldsFirstBy (λ v. v.items) (λ rest. rest) };
+
+    ghost remaining = { item_count (λ rest. rest) };
+
+    fn next(&mut self) -> Option<Vector> {
+        if !self.more {
+            return None;
+        }
+        let vector = ArrayVec::try_from(self.front.as_slice()).unwrap();
+        if self.front.as_slice() == self.back.as_slice() {
+            self.more = false;
+            return Some(vector);
+        }
+        let _more = self.family.next(&mut self.front, &mut Steps::new());
+        Some(vector)
+    }
+}
+
+impl<'a, F: Family> DoubleEndedIterator for Vectors<'a, F> {
+    ghost next_back_gives = { YieldsLastBy (λ v. v.items) (λ rest. rest) };
+
+    fn next_back(&mut self) -> Option<Vector> {
+        if !self.more {
+            return None;
+        }
+        let vector = ArrayVec::try_from(self.back.as_slice()).unwrap();
+        if self.front.as_slice() == self.back.as_slice() {
+            self.more = false;
+            return Some(vector);
+        }
+        let _more = self.family.prev(&mut self.back, &mut Steps::new());
+        Some(vector)
+    }
+}
+
+#[cfg(test)]
+mod tests;

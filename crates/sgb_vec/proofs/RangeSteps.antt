@@ -1,0 +1,151 @@
+-- The vectors from one to another of a rising list: with one more or one less at either end.
+use Rattle.std.proofs.Common.{◌≡◌, ◌≢◌, ℕ, ◌+◌, ◌-◌, ◌<◌, ◌≤◌, Bool, true, false, List, [], ◌∷◌, ◌++◌, length, get_or, take, drop, nat_eq, Some, refl, sym, ap, ◌∙◌, inl, inr, arith}
+use Rattle.std.specs.Bool.{IsTrue, OnTrue, OnFalse}
+use Rattle.std.specs.List.{Contains, position_or_len, slice_get}
+use Rattle.std.specs.Cmp.Lexicographic.{pointwise, bytes_decides}
+use Rattle.std.proofs.lemmas.Bool.{cases_Bool, cases_order}
+use Rattle.std.proofs.lemmas.List.{drop_more, take_more, drop_all, drop-append-le, drop-take, take-append-drop, take_all, length-take-le, get_or-take}
+use Rattle.std.proofs.lemmas.List.Sums.{position_or_len_is, passes_at_first}
+use Rattle.std.proofs.lemmas.Option.{slice_get_within, slice_get_read, get_or_from_slice_get}
+use Rattle.sgb_vec.specs.Lexicographic.{IsBefore, IsRising}
+use Rattle.sgb_vec.specs.Order.{IsFirst, IsFinal, IsNext, IsLast, IsPrevious, HasNoneBefore}
+use Rattle.sgb_vec.specs.Ranges.{place_among, from_to, from_to_if, AreEnds, ComeAfter}
+use Rattle.sgb_vec.proofs.RisingLists.{place-once}
+use Rattle.sgb_vec.proofs.SumSuccessors.{IsBefore-asymmetric}
+
+-- the same vector
+abbrev is_same : List ℕ → List ℕ → Bool
+is_same v w = pointwise nat_eq v w
+
+module _ (vs : List (List ℕ)) (rise : IsRising vs) where
+  -- a vector that stands at a place has that place
+  place_at : (v : List ℕ) (i : ℕ) → slice_get vs i ≡ Some v → place_among vs v ≡ i
+  place_at v i at =
+      let within = slice_get_within vs i v at in
+      position_or_len_is (is_same v) vs i v (omega arith) others
+      (λ _. (bytes_decides v (get_or vs i v)).1 (sym (get_or_from_slice_get vs i v v at)))
+    where
+      others : (k : ℕ) → k < i → is_same v (get_or vs k v) ≡ false
+      others k less = elim (cases_Bool (is_same v (get_or vs k v))) [
+        | inl same ↦
+            let within = slice_get_within vs i v at in
+            let there : slice_get vs k ≡ Some v = slice_get_read vs (length vs) k v refl (omega arith) ((bytes_decides v (get_or vs k v)).0 same) in
+            absurd (omega (arith, place-once IsBefore vs v k i IsBefore-asymmetric rise there at))
+        | inr other ↦ other
+      ]
+
+  -- a vector that has a place stands there
+  stands_there : (v : List ℕ) → place_among vs v < length vs → slice_get vs (place_among vs v) ≡ Some v
+  stands_there v within =
+      slice_get_read vs (length vs) (place_among vs v) v refl within
+      ((bytes_decides v (get_or vs (place_among vs v) v)).0 (passes_at_first (is_same v) vs v within))
+
+  -- the first and the last are the ends of all
+  pub ends_of_all : (v w : List ℕ) → IsFirst vs v → IsFinal vs w → AreEnds vs v w × (from_to vs v w ≡ vs)
+  ends_of_all v w first final =
+      let at_first = place_at v 0 first in
+      let at_last = place_at w (length vs - 1) final in
+      let some = slice_get_within vs 0 v first in
+      let all : place_among vs w + 1 ≡ length vs = omega arith in
+      ((omega arith, omega arith), rw (at_first, all) (take_all (length vs) vs (omega arith)))
+
+  -- the same, where it is not known yet whether there are some
+  pub all_ends : (some also : Bool) (v w : List ℕ) → OnTrue some (IsFirst vs v) → OnTrue also (IsFinal vs w) → OnFalse also (vs ≡ []) → IsTrue some → AreEnds vs v w
+  all_ends true true v w first final none h = (ends_of_all v w first final).0
+  all_ends true false v w first final none h = let within = slice_get_within vs 0 v first in absurd (omega (arith, ap length none))
+  all_ends false also v w first final none h = absurd cc
+
+  pub all_of_them : (some also : Bool) (v w : List ℕ) → OnTrue some (IsFirst vs v) → OnFalse some (vs ≡ []) → OnTrue also (IsFinal vs w) → OnFalse also (vs ≡ [])
+      → from_to_if some vs v w ≡ vs
+  all_of_them true true v w first empty final none = (ends_of_all v w first final).1
+  all_of_them true false v w first empty final none = let within = slice_get_within vs 0 v first in absurd (omega (arith, ap length none))
+  all_of_them false also v w first empty final none = sym empty
+
+  -- from a vector to itself there is that one alone
+  pub from_itself : (v w : List ℕ) → AreEnds vs v w → v ≡ w → from_to vs v w ≡ v ∷ []
+  from_itself v w ends same =
+      let place : place_among vs v ≡ place_among vs w = ap (place_among vs) same in
+      let within : place_among vs v < length vs = omega (arith, ends.1) in
+      let there = get_or_from_slice_get vs (place_among vs v) v v (stands_there v within) in
+      rw (← place) (one (place_among vs v) v within there)
+    where
+      one : (i : ℕ) (x : List ℕ) → i < length vs → get_or vs i x ≡ x → drop i (take (i + 1) vs) ≡ x ∷ []
+      one i x within at =
+          drop-take i 1 vs ∙ (ap (take 1) (drop_more vs i x within) ∙ ap (λ y. y ∷ []) at)
+
+  -- other ends stand at other places
+  apart_ends : (v w : List ℕ) → AreEnds vs v w → v ≢ w → place_among vs v < place_among vs w
+  apart_ends v w ends other =
+      elim (cases_order (place_among vs v) (place_among vs w)) [
+        | inl same ↦
+            let at_v = stands_there v (omega (arith, ends.1)) in
+            let at_w = stands_there w ends.1 in
+            let equal : v ≡ w = sym (get_or_from_slice_get vs (place_among vs v) v v at_v) ∙ get_or_from_slice_get vs (place_among vs v) w v (rw same at_w) in
+            absurd (other equal)
+        | inr (inl less) ↦ less
+        | inr (inr more) ↦ absurd (omega (arith, ends.0))
+      ]
+
+  -- the vector after a place, where it is not the last
+  next_at : (found : Bool) (v w : List ℕ) (i : ℕ) → OnTrue found (IsNext vs v w) → OnFalse found (IsLast vs v) → slice_get vs i ≡ Some v → i + 1 < length vs → slice_get vs (i + 1) ≡ Some w
+  next_at true v w i next last at h = next i at
+  next_at false v w i next last at h = let end = last i at in absurd (omega arith)
+
+  -- the vector before a place, where it is not the first
+  previous_at : (found : Bool) (v w : List ℕ) (i : ℕ) → OnTrue found (IsPrevious vs v w) → OnFalse found (HasNoneBefore vs v) → slice_get vs i ≡ Some v → 0 < i → slice_get vs (i - 1) ≡ Some w
+  previous_at true v w i before first at h = (before i at).1
+  previous_at false v w i before first at h = let start = first i at in absurd (omega arith)
+
+  -- the first one taken off
+  pub front_taken : (found : Bool) (v w next : List ℕ) → OnTrue found (IsNext vs v next) → OnFalse found (IsLast vs v) → AreEnds vs v w → v ≢ w
+      → AreEnds vs next w × (from_to vs v w ≡ v ∷ from_to vs next w)
+  front_taken found v w next after last ends other =
+      let i = place_among vs v in
+      let less = apart_ends v w ends other in
+      let at_v = stands_there v (omega (arith, ends.1)) in
+      let at_next = next_at found v next i after last at_v (omega (arith, ends.1)) in
+      let place = place_at next (i + 1) at_next in
+      let within : i < length (take (place_among vs w + 1) vs) = omega (arith, length-take-le (place_among vs w + 1) vs (omega (arith, ends.1))) in
+      let here : get_or (take (place_among vs w + 1) vs) i v ≡ v = get_or-take (place_among vs w + 1) vs i v (omega arith) ∙ get_or_from_slice_get vs i v v at_v in
+      ((omega (arith, place), ends.1), rw (place, ← ap (λ x. x ∷ drop (i + 1) (take (place_among vs w + 1) vs)) here) (drop_more (take (place_among vs w + 1) vs) i v within))
+
+  -- the last one taken off
+  pub back_taken : (found : Bool) (v w before : List ℕ) → OnTrue found (IsPrevious vs w before) → OnFalse found (HasNoneBefore vs w) → AreEnds vs v w → v ≢ w
+      → AreEnds vs v before × (from_to vs v w ≡ from_to vs v before ++ w ∷ [])
+  back_taken found v w before previous first ends other =
+      let j = place_among vs w in
+      let less = apart_ends v w ends other in
+      let at_w = stands_there w ends.1 in
+      let at_before = previous_at found w before j previous first at_w (omega arith) in
+      let place = place_at before (j - 1) at_before in
+      let short : place_among vs before + 1 ≡ j = omega (arith, place) in
+      let here : get_or vs j w ≡ w = get_or_from_slice_get vs j w w at_w in
+      ((omega (arith, place), omega (arith, place, ends.1)), more (place_among vs v) j w less ends.1 here ∙ ap (λ k. drop (place_among vs v) (take k vs) ++ w ∷ []) (sym short))
+    where
+      more : (i j : ℕ) (x : List ℕ) → i < j → j < length vs → get_or vs j x ≡ x → drop i (take (j + 1) vs) ≡ drop i (take j vs) ++ x ∷ []
+      more i j x less within at =
+          let longer : take (j + 1) vs ≡ take j vs ++ x ∷ [] = take_more vs j x within ∙ ap (λ y. take j vs ++ y ∷ []) at in
+          ap (drop i) longer ∙ drop-append-le i (take j vs) (x ∷ []) (omega (arith, length-take-le j vs (omega arith)))
+
+  -- a vector of the list, what stands before it and what comes after it
+  around : (v : List ℕ) (i : ℕ) → i < length vs → get_or vs i v ≡ v → vs ≡ take i vs ++ v ∷ drop (i + 1) vs
+  around v i within at = sym (take-append-drop i vs) ∙ ap (λ ys. take i vs ++ ys) (drop_more vs i v within ∙ ap (λ y. y ∷ drop (i + 1) vs) at)
+
+  -- what comes after a vector, from the next one on
+  pub next_ones : (v next last : List ℕ) → Contains vs v → IsNext vs v next → IsFinal vs last → AreEnds vs next last × ComeAfter vs v (from_to vs next last)
+  next_ones v next last (i, within, at) after final =
+      let at_v : slice_get vs i ≡ Some v = slice_get_read vs (length vs) i v refl within (sym at) in
+      let at_next = after i at_v in
+      let first = place_at next (i + 1) at_next in
+      let end = place_at last (length vs - 1) final in
+      let inside = slice_get_within vs (i + 1) next at_next in
+      let all : place_among vs last + 1 ≡ length vs = omega arith in
+      let rest : from_to vs next last ≡ drop (i + 1) vs = rw (first, all) (ap (drop (i + 1)) (take_all (length vs) vs (omega arith))) in
+      ((omega arith, omega arith), (take i vs, around v i within at ∙ ap (λ ys. take i vs ++ v ∷ ys) (sym rest)))
+
+  -- nothing comes after the last
+  pub none_after : (v : List ℕ) → Contains vs v → IsLast vs v → ComeAfter vs v []
+  none_after v (i, within, at) last =
+      let at_v : slice_get vs i ≡ Some v = slice_get_read vs (length vs) i v refl within (sym at) in
+      let end = last i at_v in
+      (take i vs, around v i within at ∙ ap (λ ys. take i vs ++ v ∷ ys) (drop_all vs (i + 1) (omega arith)))
