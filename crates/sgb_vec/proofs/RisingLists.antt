@@ -1,6 +1,6 @@
 -- Neighbours in a list that rises strictly: the least element is the first, the least above one comes right after it,
--- and one that nothing is above is the last.
-use Rattle.std.proofs.Common.{◌≡◌, ℕ, zero, suc, ◌+◌, ◌<◌, List, length, get_or, refl, sym, subst, inl, inr, arith}
+-- and one that nothing is above is the last. No element stands at two places.
+use Rattle.std.proofs.Common.{◌≡◌, ℕ, zero, suc, ◌+◌, ◌-◌, ◌<◌, List, length, get_or, refl, sym, subst, inl, inr, arith}
 use Rattle.std.specs.List.{AllPairs, Contains, slice_get}
 use Rattle.std.specs.Prelude.{Some}
 use Rattle.std.proofs.lemmas.Bool.{cases_order}
@@ -70,3 +70,38 @@ none_above_last R xs v u asym rises (i, i_within, at_i) last (j, j_within, at_j)
     let less : i < j = place-rises R xs i j u asym rises i_within (rw (here, at_j) before) in
     let top = last i (slice_get_read xs (length xs) i v refl i_within (sym at_i)) in
     omega arith
+
+-- no element stands at two places
+pub place-once : {X : Type 0} (R : X → X → Type 0) (xs : List X) (v : X) (i j : ℕ) → IsAsymmetric R → AllPairs R xs → slice_get xs i ≡ Some v → slice_get xs j ≡ Some v → i ≡ j
+place-once R xs v i j asym rises at_i at_j =
+    let here : get_or xs i v ≡ v = get_or_from_slice_get xs i v v at_i in
+    let there : get_or xs j v ≡ v = get_or_from_slice_get xs j v v at_j in
+    elim (cases_order i j) [
+      | inl same ↦ same
+      | inr (inl less) ↦
+          let before : R v v = rw (here, there) at (rises i j v less (slice_get_within xs j v at_j)) in
+          absurd (asym v v before before)
+      | inr (inr more) ↦
+          let before : R v v = rw (here, there) at (rises j i v more (slice_get_within xs i v at_i)) in
+          absurd (asym v v before before)
+    ]
+
+-- where v comes right after w, w comes right before v
+pub slice_get-previous : {X : Type 0} (R : X → X → Type 0) (xs : List X) (v w : X) (i : ℕ) → IsAsymmetric R → AllPairs R xs → Contains xs w → ((j : ℕ) → slice_get xs j ≡ Some w → slice_get xs (j + 1) ≡ Some v) → slice_get xs i ≡ Some v → (0 < i) × (slice_get xs (i - 1) ≡ Some w)
+slice_get-previous R xs v w i asym rises (j, within, at) next here =
+    let at_j : slice_get xs j ≡ Some w = slice_get_read xs (length xs) j w refl within (sym at) in
+    let same : i ≡ j + 1 = place-once R xs v i (j + 1) asym rises here (next j at_j) in
+    let back : i - 1 ≡ j = omega arith in
+    (omega arith, rw back at_j)
+
+-- the element that ends the list at each of its places is the one at the end
+pub slice_get-end : {X : Type 0} (xs : List X) (v : X) → Contains xs v → ((i : ℕ) → slice_get xs i ≡ Some v → length xs ≡ i + 1) → slice_get xs (length xs - 1) ≡ Some v
+slice_get-end xs v (i, within, at) last =
+    let at_i : slice_get xs i ≡ Some v = slice_get_read xs (length xs) i v refl within (sym at) in
+    let top : length xs - 1 ≡ i = omega (arith, last i at_i) in
+    rw top at_i
+
+-- and the one at the end ends the list at each of its places
+pub length-end : {X : Type 0} (R : X → X → Type 0) (xs : List X) (v : X) (i : ℕ) → IsAsymmetric R → AllPairs R xs → slice_get xs (length xs - 1) ≡ Some v → slice_get xs i ≡ Some v → length xs ≡ i + 1
+length-end R xs v i asym rises end here =
+    omega (arith, place-once R xs v i (length xs - 1) asym rises here end, slice_get_within xs i v here)
