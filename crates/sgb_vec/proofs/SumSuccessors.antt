@@ -1,5 +1,6 @@
--- The vectors within bounds that add to the same: the least, the greatest, and the step from one to the next.
-use Rattle.std.proofs.Common.{◌≡◌, ℕ, zero, suc, ◌+◌, ◌<◌, ◌≤◌, ◌⊎◌, List, [], ◌∷◌, ◌++◌, length, get_or, drop, take, refl, ap, inl, inr, arith, sum}
+-- The vectors within bounds that add to the same: the least, the greatest, and the steps from one to the
+-- next and back.
+use Rattle.std.proofs.Common.{◌≡◌, ℕ, zero, suc, ◌+◌, ◌-◌, ◌<◌, ◌≤◌, ◌⊎◌, List, [], ◌∷◌, ◌++◌, length, get_or, drop, take, refl, ap, inl, inr, arith, sum}
 use Rattle.std.specs.Ordering.{ordering_reverse}
 use Rattle.std.specs.Cmp.{nat_cmp_is}
 use Rattle.std.specs.declared.cmp.Ordering.TheVariants.{Less, Equal, Greater}
@@ -156,3 +157,23 @@ IsNearest-at (b ∷ bounds) [] w p h within low greatest least one = absurd h
 IsNearest-at (b ∷ bounds) (x ∷ v) w zero h within low greatest least one = IsNearest-grown b x bounds v w low greatest least one
 IsNearest-at (b ∷ bounds) (x ∷ v) w (suc p) h within low greatest least one =
     IsNearest-cons b x bounds v _ h.0 (IsNearest-at bounds v w p h.1 (omega arith) low greatest least one)
+
+-- the entry at p falls, where those after it are the least, and they become the greatest: the vector is the nearest above
+-- what comes of it
+pub IsNearest-fallen : (bounds v w : List ℕ) (p : ℕ) → IsWithin v bounds → p < length v → 0 < get_or v p 0 → IsLeast (drop (suc p) bounds) (drop (suc p) v) → IsGreatest (drop (suc p) bounds) w → sum w ≡ sum (drop (suc p) v) + 1 → IsNearest bounds (take p v ++ (get_or v p 0 - 1) ∷ w) v
+IsNearest-fallen [] [] w p h within some least greatest one = absurd (omega arith)
+IsNearest-fallen [] (x ∷ v) w p h within some least greatest one = absurd h
+IsNearest-fallen (b ∷ bounds) [] w p h within some least greatest one = absurd h
+IsNearest-fallen (b ∷ bounds) (x ∷ v) w zero h within some least greatest one =
+    let back : x - 1 + 1 ≡ x = omega arith in
+    rw back at (IsNearest-grown b (x - 1) bounds w v (omega (arith, h.0)) greatest least one)
+IsNearest-fallen (b ∷ bounds) (x ∷ v) w (suc p) h within some least greatest one =
+    IsNearest-cons b x bounds _ v h.0 (IsNearest-fallen bounds v w p h.1 (omega arith) some least greatest one)
+
+-- and that is within the bounds
+pub IsWithin-fallen : (bounds v w : List ℕ) (p : ℕ) → IsWithin v bounds → p < length v → IsWithin w (drop (suc p) bounds) → IsWithin (take p v ++ (get_or v p 0 - 1) ∷ w) bounds
+IsWithin-fallen [] [] w p h within after = absurd (omega arith)
+IsWithin-fallen [] (x ∷ v) w p h within after = absurd h
+IsWithin-fallen (b ∷ bounds) [] w p h within after = absurd h
+IsWithin-fallen (b ∷ bounds) (x ∷ v) w zero h within after = (omega (arith, h.0), after)
+IsWithin-fallen (b ∷ bounds) (x ∷ v) w (suc p) h within after = (h.0, IsWithin-fallen bounds v w p h.1 (omega arith) after)

@@ -1,16 +1,16 @@
--- The vectors of a bounded sum built, and looked through, from the right: what holds of the entries from a place on.
+-- The vectors of a bounded sum built, and looked through: what holds of the entries from a place on, or before it.
 use borrow.Rule.Slice.PartMut.{put_mid}
-use Rattle.std.proofs.Common.{◌≡◌, ℕ, zero, suc, ◌+◌, ◌-◌, ◌<◌, ◌≤◌, min, List, [], ◌∷◌, ◌++◌, length, get_or, set, drop, take, refl, sym, inl, inr, arith, sum, add-one}
-use Rattle.std.proofs.lemmas.Bool.{cases_lt}
-use Rattle.std.proofs.lemmas.List.{append-nil, append_assoc, drop_more, drop_all, drop-set, take_more_set, length-drop}
+use Rattle.std.proofs.Common.{◌≡◌, ℕ, zero, suc, ◌+◌, ◌-◌, ◌<◌, ◌≤◌, ◌⊎◌, Bool, true, false, min, List, [], ◌∷◌, ◌++◌, length, get_or, set, drop, take, refl, sym, inl, inr, arith, sum, add-one}
+use Rattle.std.proofs.lemmas.Bool.{cases_lt, cases_Bool}
+use Rattle.std.proofs.lemmas.List.{append-nil, append_assoc, drop_more, drop_all, drop-set, take_all, take_more_set, length-drop}
 use Rattle.std.proofs.lemmas.List.Elements.{AllZip-get_or}
 use Rattle.std.proofs.lemmas.List.Sums.{sum_by-take-drop, sum_by-drop_more}
 use Rattle.sgb_vec.specs.Sums.{bounded_sums}
 use Rattle.sgb_vec.specs.Lexicographic.{IsWithin}
-use Rattle.sgb_vec.specs.Order.{IsFirst, IsNext, IsLast}
+use Rattle.sgb_vec.specs.Order.{IsFinal, IsFirst, IsNext, IsLast, IsPrevious}
 use Rattle.sgb_vec.proofs.SumMembers.{IsWithin-length}
-use Rattle.sgb_vec.proofs.SumSuccessors.{sum-cons, IsLeast, IsGreatest, IsLeast-nil, IsGreatest-nil, IsLeast-cons, IsGreatest-cons, IsNearest-at}
-use Rattle.sgb_vec.proofs.SumWalks.{IsFirst-least, IsLeast-first, first-within, IsLast-greatest, IsGreatest-last, IsNext-nearest}
+use Rattle.sgb_vec.proofs.SumSuccessors.{sum-cons, sum-within, IsLeast, IsGreatest, IsLeast-nil, IsGreatest-nil, IsLeast-cons, IsGreatest-cons, IsNearest-at, IsNearest-fallen, IsWithin-fallen}
+use Rattle.sgb_vec.proofs.SumWalks.{IsFirst-least, IsLeast-first, first-within, IsLast-greatest, IsGreatest-last, IsNext-nearest, IsPrevious-nearest, IsFinal-greatest, IsGreatest-final, final-within}
 
 -- the entries from a place on are the least of their sum, and `rest` of the total has found no room there
 pub record IsFilledFrom (bounds entries : List ℕ) (place rest total : ℕ) : Type 0 where
@@ -48,6 +48,41 @@ filled-all bounds entries rest total room so =
     let no_rest : rest ≡ 0 = elim (cases_lt 0 rest) [ inl some ↦ absurd (omega (arith, so.adds, so.full some)) | inr none ↦ omega arith ] in
     IsFirst-least total bounds entries so.least (omega (arith, so.adds))
 
+-- the entries before a place are such that, with the greatest vector of what is left for the others, all are the
+-- greatest of the total
+pub record IsFilledUpTo (bounds entries : List ℕ) (place rest total : ℕ) : Type 0 where
+  pub room : rest ≤ sum (drop place bounds)
+  pub greatest : (w : List ℕ) → IsGreatest (drop place bounds) w → sum w ≡ rest → IsGreatest bounds (take place entries ++ w) × (sum (take place entries ++ w) ≡ total)
+
+-- no entry yet
+pub filled_up-none : (bounds entries : List ℕ) (total : ℕ) → total ≤ sum bounds → IsFilledUpTo bounds entries 0 total total
+filled_up-none bounds entries total room = record { room = room; greatest = λ w greatest adds. (greatest, adds) }
+
+-- one entry more
+pub filled_up-more : (bounds entries : List ℕ) (p rest total : ℕ) → p < length bounds → p < length entries → IsFilledUpTo bounds entries p rest total → IsFilledUpTo bounds (set entries p (min rest (get_or bounds p 0))) (p + 1) (rest - min rest (get_or bounds p 0)) total
+filled_up-more bounds entries p rest total h k so =
+    let b = get_or bounds p 0 in
+    let x = min rest b in
+    let bounds_from : drop p bounds ≡ b ∷ drop (p + 1) bounds = drop_more bounds p 0 h in
+    let written : take (p + 1) (set entries p x) ≡ take p entries ++ (x ∷ []) = take_more_set entries p x k in
+    let room_here : rest ≤ sum (b ∷ drop (p + 1) bounds) = rw bounds_from at so.room in
+    record {
+      room = omega (arith, room_here, sum-cons b (drop (p + 1) bounds));
+      greatest = λ w greatest adds.
+          let whole = IsGreatest-cons b x (drop (p + 1) bounds) w greatest (omega arith) (λ some. omega arith) in
+          let regrouped : take (p + 1) (set entries p x) ++ w ≡ take p entries ++ (x ∷ w) = rw written (simp append_assoc) in
+          rw regrouped (so.greatest (x ∷ w) (rw bounds_from whole) (omega (arith, sum-cons x w)));
+    }
+
+-- all entries are the last vector
+pub filled_up-all : (bounds entries : List ℕ) (place rest total : ℕ) → length bounds ≤ place → length entries ≤ place → IsFilledUpTo bounds entries place rest total → IsFinal (bounded_sums total bounds) entries
+filled_up-all bounds entries place rest total high all so =
+    let no_bounds : drop place bounds ≡ [] = drop_all place bounds high in
+    let none_left : rest ≤ 0 = rw no_bounds at so.room in
+    let whole : take place entries ++ [] ≡ entries = rw (take_all place entries all) (append-nil entries) in
+    let parts = rw whole at (so.greatest [] (rw no_bounds IsGreatest-nil) (omega arith)) in
+    IsFinal-greatest total bounds entries parts.0 parts.1
+
 -- the entries from a place on are the greatest of their sum, which is `after`
 pub record IsGreatestFrom (bounds entries : List ℕ) (place after : ℕ) : Type 0 where
   pub greatest : IsGreatest (drop place bounds) (drop place entries)
@@ -83,6 +118,51 @@ after-more_le bounds entries p q after next k so =
 pub greatest-all : (bounds entries : List ℕ) (after : ℕ) → IsGreatestFrom bounds entries 0 after → IsLast (bounded_sums (sum entries) bounds) entries
 greatest-all bounds entries after so = IsLast-greatest (sum entries) bounds entries so.greatest refl
 
+-- the entries from a place on are the least of their sum, which is `after`, and there is room for more or not
+pub record IsLeastFrom (bounds entries : List ℕ) (place after : ℕ) (has_room : Bool) : Type 0 where
+  pub least : IsLeast (drop place bounds) (drop place entries)
+  pub adds : after ≡ sum (drop place entries)
+  pub room : has_room ≡ true → sum (drop place entries) < sum (drop place bounds)
+  pub full : has_room ≡ false → sum (drop place entries) ≡ sum (drop place bounds)
+
+-- no entry yet
+pub least-none : (bounds entries : List ℕ) → IsWithin entries bounds → IsLeastFrom bounds entries (length entries) 0 false
+least-none bounds entries within =
+    let no_bounds : drop (length entries) bounds ≡ [] = drop_all (length entries) bounds (omega (arith, IsWithin-length bounds entries within)) in
+    let no_entries : drop (length entries) entries ≡ [] = drop_all (length entries) entries (omega arith) in
+    record { least = rw (no_bounds, no_entries) IsLeast-nil; adds = rw no_entries refl; room = λ some. absurd (cc some); full = λ _. rw (no_bounds, no_entries) refl }
+
+-- one entry more, which is 0 or has no room after it
+pub least-more : (bounds entries : List ℕ) (p q after : ℕ) (has_room now : Bool) → q ≡ p + 1 → IsWithin entries bounds → p < length entries → (has_room ≡ true → get_or entries p 0 ≡ 0) → (now ≡ true → (has_room ≡ true) ⊎ (get_or entries p 0 < get_or bounds p 0)) → (now ≡ false → (has_room ≡ false) × (get_or bounds p 0 ≤ get_or entries p 0)) → IsLeastFrom bounds entries q after has_room → IsLeastFrom bounds entries p (after + get_or entries p 0) now
+least-more bounds entries p q after has_room now next within k zero_entry some_room no_room so =
+    let b = get_or bounds p 0 in
+    let x = get_or entries p 0 in
+    let h : p < length bounds = omega (arith, IsWithin-length bounds entries within) in
+    let bounds_from : drop p bounds ≡ b ∷ drop q bounds = rw next (drop_more bounds p 0 h) in
+    let entries_from : drop p entries ≡ x ∷ drop q entries = rw next (drop_more entries p 0 k) in
+    let low : x ≤ b = AllZip-get_or (λ x b. x ≤ b) entries bounds p 0 0 within k in
+    let after_low : sum (drop q entries) ≤ sum (drop q bounds) = sum-within (drop q bounds) (drop q entries) so.least.within in
+    let full_where_some : 0 < x → sum (drop q entries) ≡ sum (drop q bounds) = λ above. elim (cases_Bool has_room) [ inl some ↦ absurd (omega (arith, zero_entry some)) | inr none ↦ so.full none ] in
+    record {
+      least = rw (bounds_from, entries_from) (IsLeast-cons b x (drop q bounds) (drop q entries) so.least low full_where_some);
+      adds = rw entries_from (omega (arith, so.adds, sum-cons x (drop q entries)));
+      room = λ some. rw (bounds_from, entries_from) (elim (some_room some) [
+        | inl before ↦ omega (arith, low, so.room before, sum-cons x (drop q entries), sum-cons b (drop q bounds))
+        | inr here ↦ omega (arith, here, after_low, sum-cons x (drop q entries), sum-cons b (drop q bounds))
+      ]);
+      full = λ none. let parts = no_room none in rw (bounds_from, entries_from) (omega (arith, low, parts.1, so.full parts.0, sum-cons x (drop q entries), sum-cons b (drop q bounds)));
+    }
+
+-- what one entry more makes of it is at most what all entries add to
+pub fallen-more_le : (bounds entries : List ℕ) (p q after : ℕ) (has_room : Bool) → q ≡ p + 1 → p < length entries → IsLeastFrom bounds entries q after has_room → after + get_or entries p 0 ≤ sum entries
+fallen-more_le bounds entries p q after has_room next k so =
+    let entries_from : sum (drop p entries) ≡ get_or entries p 0 + sum (drop q entries) = rw next (sum_by-drop_more (λ x. x) entries p 0 k) in
+    omega (arith, so.adds, sum_by-take-drop (λ x. x) entries p)
+
+-- all entries are the first vector
+pub least-all : (bounds entries : List ℕ) (after : ℕ) (has_room : Bool) → IsLeastFrom bounds entries 0 after has_room → IsFirst (bounded_sums (sum entries) bounds) entries
+least-all bounds entries after has_room so = IsFirst-least (sum entries) bounds entries so.least refl
+
 -- the entries from a place on are within the bounds from there on
 pub IsWithin-drop : (bounds v : List ℕ) (p : ℕ) → IsWithin v bounds → IsWithin (drop p v) (drop p bounds)
 IsWithin-drop bounds v zero h = h
@@ -111,3 +191,15 @@ IsNext-step bounds v w p after less within h low adds one last first =
     let parts = first-within less (drop (suc p) bounds) w first_after in
     let least = IsLeast-first less (drop (suc p) bounds) w first_after in
     IsNext-nearest (sum v) bounds v _ (IsNearest-at bounds v w p within h low greatest least (omega (arith, parts.1))) refl
+
+-- the step to the vector before: the entry at p falls, and the others after it become the last of their sum
+pub IsPrevious-step : (bounds v w : List ℕ) (p after more : ℕ) → IsWithin v bounds → p < length v → 0 < get_or v p 0 → after ≡ sum (drop (p + 1) v) → more ≡ after + 1 → IsFirst (bounded_sums after (drop (p + 1) bounds)) (drop (p + 1) v) → IsFinal (bounded_sums more (drop (p + 1) bounds)) w → IsPrevious (bounded_sums (sum v) bounds) v (take p v ++ ((get_or v p 0 - 1) ∷ w))
+IsPrevious-step bounds v w p after more within h some adds one first last =
+    let q : p + 1 ≡ suc p = add-one p in
+    let first_after : IsFirst (bounded_sums after (drop (suc p) bounds)) (drop (suc p) v) = rw q at first in
+    let last_after : IsFinal (bounded_sums more (drop (suc p) bounds)) w = rw q at last in
+    let adds_after : after ≡ sum (drop (suc p) v) = rw q at adds in
+    let least = IsLeast-first after (drop (suc p) bounds) (drop (suc p) v) first_after in
+    let parts = final-within more (drop (suc p) bounds) w last_after in
+    let greatest = IsGreatest-final more (drop (suc p) bounds) w last_after in
+    IsPrevious-nearest (sum v) bounds v _ (IsWithin-fallen bounds v w p within h parts.0) (IsNearest-fallen bounds v w p within h some least greatest (omega (arith, parts.1))) refl

@@ -1,13 +1,13 @@
--- The first vector of a bounded sum, the next and the last, by the order of its vectors.
-use Rattle.std.proofs.Common.{◌≡◌, ℕ, ◌<◌, ◌≤◌, List, [], length, get_or, arith, sum}
+-- The first vector of a bounded sum, the next, the previous and the last, by the order of its vectors.
+use Rattle.std.proofs.Common.{◌≡◌, ℕ, ◌-◌, ◌<◌, ◌≤◌, List, [], length, get_or, arith, sum}
 use Rattle.std.specs.List.{Contains}
 use Rattle.std.proofs.lemmas.Option.{slice_get_within, get_or_from_slice_get}
 use Rattle.std.proofs.lemmas.List.Elements.{Contains-get_or}
 use Rattle.sgb_vec.specs.Sums.{bounded_sums}
 use Rattle.sgb_vec.specs.Lexicographic.{IsBefore, IsWithin}
-use Rattle.sgb_vec.specs.Order.{IsFirst, IsNext, IsLast}
+use Rattle.sgb_vec.specs.Order.{HasNoneBefore, IsFinal, IsFirst, IsNext, IsLast, IsPrevious}
 use Rattle.sgb_vec.proofs.SumMembers.{Contains-bounded_sums, bounded_sums-rise}
-use Rattle.sgb_vec.proofs.RisingLists.{slice_get-least, slice_get-nearest, length-greatest, none_before_first, none_above_last}
+use Rattle.sgb_vec.proofs.RisingLists.{slice_get-least, slice_get-nearest, length-greatest, length-end, none_before_first, none_above_last, place-once, slice_get-end, slice_get-previous}
 use Rattle.sgb_vec.proofs.SumSuccessors.{IsBefore-asymmetric, sum-within, IsLeast, IsGreatest, IsNearest}
 
 -- a vector within the bounds that adds to n is a member
@@ -62,3 +62,32 @@ room_from_member n bounds some =
     let both = Contains-bounded_sums n bounds v in
     let parts = both.0 (Contains-get_or (bounded_sums n bounds) 0 [] some) in
     omega (arith, parts.1, sum-within bounds v parts.0)
+
+-- none comes before the first vector
+pub HasNoneBefore-first : (n : ℕ) (bounds v : List ℕ) → IsFirst (bounded_sums n bounds) v → HasNoneBefore (bounded_sums n bounds) v
+HasNoneBefore-first n bounds v first i here =
+    place-once IsBefore (bounded_sums n bounds) v i 0 IsBefore-asymmetric (bounded_sums-rise n bounds) here first
+
+-- a vector comes right before the nearest above it
+pub IsPrevious-nearest : (n : ℕ) (bounds v w : List ℕ) → IsWithin w bounds → IsNearest bounds w v → sum v ≡ n → IsPrevious (bounded_sums n bounds) v w
+IsPrevious-nearest n bounds v w within near adds i here =
+    let same : sum w ≡ n = omega (arith, near.same_sum) in
+    slice_get-previous IsBefore (bounded_sums n bounds) v w i IsBefore-asymmetric (bounded_sums-rise n bounds)
+    (member n bounds w within same) (IsNext-nearest n bounds w v near same) here
+
+-- the greatest vector is at the end
+pub IsFinal-greatest : (n : ℕ) (bounds v : List ℕ) → IsGreatest bounds v → sum v ≡ n → IsFinal (bounded_sums n bounds) v
+IsFinal-greatest n bounds v greatest adds =
+    slice_get-end (bounded_sums n bounds) v (member n bounds v greatest.within adds) (IsLast-greatest n bounds v greatest adds)
+
+-- and the vector at the end is the greatest
+pub final-within : (n : ℕ) (bounds v : List ℕ) → IsFinal (bounded_sums n bounds) v → IsWithin v bounds × (sum v ≡ n)
+final-within n bounds v end =
+    let both = Contains-bounded_sums n bounds v in
+    let vectors = bounded_sums n bounds in
+    both.0 (length vectors - 1, slice_get_within vectors (length vectors - 1) v end, get_or_from_slice_get vectors (length vectors - 1) v v end)
+
+pub IsGreatest-final : (n : ℕ) (bounds v : List ℕ) → IsFinal (bounded_sums n bounds) v → IsGreatest bounds v
+IsGreatest-final n bounds v end =
+    let parts = final-within n bounds v end in
+    IsGreatest-last n bounds v parts.0 parts.1 (λ i here. length-end IsBefore (bounded_sums n bounds) v i IsBefore-asymmetric (bounded_sums-rise n bounds) end here)

@@ -5,18 +5,18 @@ use Rattle.sgb_vec.proofs.sums.last_growing.Goals as goal
 use Rattle.sgb_vec.proofs.sums.last_growing.Goals.{else-after-gt0-via-then-after-gt0+else-entries-place, else-after-gt0-via-else-after-gt0}
 
 pub loop-place-init : goal.loop-place-init
-loop-place-init c = greatest-none c.args.bounds.now c.args.entries.now c.requires.within
+loop-place-init c = (greatest-none c.args.bounds.now c.args.entries.now c.requires.within, omega arith)
 
 pub returns-then-entries-place-clause-last_after : goal.returns-then-entries-place-clause-last_after
 returns-then-entries-place-clause-last_after c =
     let here : c.loop-place.place - 1 + 1 ≡ c.loop-place.place = omega arith in
-    rw here (IsLast-greatest _ _ _ c.loop-place.invariant.greatest (sym c.loop-place.invariant.adds))
+    rw here (IsLast-greatest _ _ _ c.loop-place.invariant.0.greatest (sym c.loop-place.invariant.0.adds))
 
 pub overflow_add-after : goal.overflow_add-after
 overflow_add-after c =
     let place = c.loop-place.place - 1 in
     let within : place < length c.args.entries.now = omega arith in
-    omega (arith, c.requires.small, after-more_le c.args.bounds.now c.args.entries.now place c.loop-place.place c.loop-place.after (omega arith) within c.loop-place.invariant)
+    omega (arith, c.requires.small, after-more_le c.args.bounds.now c.args.entries.now place c.loop-place.place c.loop-place.after (omega arith) within c.loop-place.invariant.0)
 
 pub loop-place-preserved : goal.loop-place-preserved
 loop-place-preserved c =
@@ -26,9 +26,12 @@ loop-place-preserved c =
       | else-after-gt0-via-then-after-gt0+else-entries-place w ↦ λ _. w.if-entries-place.false
       | else-after-gt0-via-else-after-gt0 w ↦ λ some. absurd (omega arith)
     ] in
-    greatest-more c.args.bounds.now c.args.entries.now place c.loop-place.place c.loop-place.after (omega arith) c.requires.within (omega arith) top c.loop-place.invariant
+    (
+      greatest-more c.args.bounds.now c.args.entries.now place c.loop-place.place c.loop-place.after (omega arith) c.requires.within (omega arith) top c.loop-place.invariant.0,
+      omega (arith, c.visit.ensures, c.loop-place.invariant.1),
+    )
 
 pub returns-clause-last : goal.returns-clause-last
 returns-clause-last c =
     let none : c.loop-place.place ≡ 0 = omega arith in
-    greatest-all c.args.bounds.now c.args.entries.now c.loop-place.after (rw none at c.loop-place.invariant)
+    greatest-all c.args.bounds.now c.args.entries.now c.loop-place.after (rw none at c.loop-place.invariant.0)

@@ -3,8 +3,8 @@ use Rattle.sgb_vec.specs.Sums.{BoundedSum, bounded_sums}
 use Rattle.sgb_vec.proofs.SumWalks.{room_from_member}
 use Rattle.sgb_vec.proofs.sums.SumFamilyFamily.first.Goals as goal
 
-pub put_first-requires-clause-room : goal.put_first-requires-clause-room
-put_first-requires-clause-room c =
+pub put_least-requires-clause-room : goal.put_least-requires-clause-room
+put_least-requires-clause-room c =
     let bounds : c.as_slice.result.now ≡ c.args.self.now.bounds = c.as_slice.ensures.value ∙ ap (λ (s : BoundedSum). s.bounds) c.self.view_is in
     let total : c.self.inside.total ≡ c.args.self.now.total = ap (λ (s : BoundedSum). s.total) c.self.view_is in
     let some : 0 < length (bounded_sums c.args.self.now.total c.args.self.now.bounds) = omega arith in
