@@ -176,7 +176,7 @@ fn put_tops(sizes: &[u32], entries: &mut [u32], steps: &mut Steps)
     ensures tops { entries.new ≡ map (λ s. s - 1) sizes.now }
     ensures visits { steps.new ≡ steps.old + length entries.old }
 {
-    for place in 0..entries.len() {
+    for place in 0..sizes.len() {
         steps.visit();
         entries[place] = sizes[place] - 1;
     }

@@ -2,6 +2,12 @@ use super::*;
 use std::process::Abort;
 use std::test::Fail;
 
+// Whether a call visited at least as many entries as it changed, and at most two for each entry.
+fn has_visited(before: &[u32], after: &[u32], steps: &Steps) -> bool {
+    let changed = before.iter().zip(after).filter(|(x, y)| *x != *y).count();
+    changed as u64 <= steps.count() && steps.count().div_ceil(2) <= after.len() as u64
+}
+
 // Walks the family from its first vector, and compares each vector with the list's.
 fn walk<A: Abort>(rt: &A, family: &BoxFamily, expected: &[[u32; 2]]) {
     let mut vector = Vector::new();
@@ -10,9 +16,27 @@ fn walk<A: Abort>(rt: &A, family: &BoxFamily, expected: &[[u32; 2]]) {
         assert!(rt; more);
         assert!(rt; vector.as_slice() == entries.as_slice());
         assert!(rt; family.holds(vector.as_slice()));
-        more = family.next(&mut vector, &mut Steps::new());
+        let mut steps = Steps::new();
+        more = family.next(&mut vector, &mut steps);
+        assert!(rt; has_visited(entries.as_slice(), vector.as_slice(), &steps));
     }
     assert!(rt; !more);
+}
+
+// Walks the family from its last vector back, and compares each vector with the list's, from its end on.
+fn walk_back<A: Abort>(rt: &A, family: &BoxFamily, expected: &[[u32; 2]]) {
+    let mut vector = Vector::new();
+    let mut more = family.last(&mut vector, &mut Steps::new());
+    for entries in expected.iter().rev() {
+        assert!(rt; more);
+        assert!(rt; vector.as_slice() == entries.as_slice());
+        assert!(rt; family.holds(vector.as_slice()));
+        let mut steps = Steps::new();
+        more = family.prev(&mut vector, &mut steps);
+        assert!(rt; has_visited(entries.as_slice(), vector.as_slice(), &steps));
+    }
+    assert!(rt; !more);
+    assert!(rt; vector.as_slice() == [0, 0].as_slice());
 }
 
 #[test]
@@ -20,11 +44,9 @@ fn two_by_three(rt: HostRuntime) -> Result<(), Fail> {
     let family = BoxFamily::new(&[2, 3])?;
     assert!(rt; family.dims() == 2);
     assert!(rt; family.size() == 6);
-    walk(
-        &rt,
-        &family,
-        &[[0, 0], [0, 1], [0, 2], [1, 0], [1, 1], [1, 2]],
-    );
+    let vectors = [[0, 0], [0, 1], [0, 2], [1, 0], [1, 1], [1, 2]];
+    walk(&rt, &family, &vectors);
+    walk_back(&rt, &family, &vectors);
     for stranger in [[2, 0], [0, 3]] {
         assert!(rt; !family.holds(&stranger));
     }
@@ -43,6 +65,7 @@ fn empty_boxes(rt: HostRuntime) -> Result<(), Fail> {
         let mut vector = Vector::new();
         vector.push(7);
         assert!(rt; !family.first(&mut vector, &mut Steps::new()));
+        assert!(rt; !family.last(&mut vector, &mut Steps::new()));
         assert!(rt; vector.as_slice() == [7].as_slice());
     }
     Ok(())
@@ -59,6 +82,10 @@ fn no_sizes(rt: HostRuntime) -> Result<(), Fail> {
     assert!(rt; vector.is_empty());
     assert!(rt; family.holds(vector.as_slice()));
     assert!(rt; !family.next(&mut vector, &mut Steps::new()));
+    assert!(rt; !family.prev(&mut vector, &mut Steps::new()));
+    vector.push(7);
+    assert!(rt; family.last(&mut vector, &mut Steps::new()));
+    assert!(rt; vector.is_empty());
     Ok(())
 }
 

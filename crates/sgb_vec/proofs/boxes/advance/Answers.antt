@@ -1,4 +1,5 @@
 use Rattle.std.proofs.Common.{rules, arith}
+use Rattle.std.proofs.lemmas.List.{places}
 use Rattle.sgb_vec.proofs.BoxPlaces.{IsBelow-from_Contains, IsBelow-length}
 use Rattle.sgb_vec.proofs.BoxSuccessors.{GrownAt-put_mid, IsNext-grown, IsLast-top}
 use Rattle.sgb_vec.proofs.VisitLemmas.{HasVisited-from, HasVisited-all}
@@ -28,5 +29,4 @@ pub returns-clause-visits : goal.returns-clause-visits
 returns-clause-visits c =
     let below = IsBelow-from_Contains c.args.sizes.now c.args.entries.now c.requires.member in
     let here = c.in-Some.ensures.below in
-    let grown = GrownAt-put_mid c.args.entries.now c.clear.new.entries c.in-Some.place here.0 (search rules) in
-    HasVisited-from c.args.entries.now _ c.in-Some.place _ _ c.last_below_top.new.steps _ (IsBelow-length _ _ below) here.0 grown.same_length grown.before c.in-Some.ensures.visits (search rules)
+    HasVisited-from c.args.entries.now _ c.in-Some.place _ _ c.last_below_top.new.steps _ (IsBelow-length _ _ below) here.0 (search (rules, places)) (λ k m. search (rules, places)) c.in-Some.ensures.visits (search rules)

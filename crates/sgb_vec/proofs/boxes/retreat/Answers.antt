@@ -1,6 +1,6 @@
 use Rattle.std.proofs.Common.{◌<◌, ◌+◌, ◌-◌, map, ◌∙◌, ap, rules, arith}
 use Rattle.std.proofs.lemmas.List.{places, take_rest}
-use Rattle.std.proofs.lemmas.List.Elements.{All-drop}
+use Rattle.std.proofs.lemmas.List.Elements.{All-drop, All-take}
 use Rattle.sgb_vec.proofs.BoxPlaces.{IsBelow-from_Contains, IsBelow-length}
 use Rattle.sgb_vec.proofs.BoxPredecessors.{FallenAt-put_mid, IsPrevious-fallen, HasNoneBefore-zeros, sizes_some-below}
 use Rattle.sgb_vec.proofs.VisitLemmas.{HasVisited-from, HasVisited-all}
@@ -32,7 +32,7 @@ put_tops-requires-clause-same_length c =
 pub put_tops-requires-clause-some : goal.put_tops-requires-clause-some
 put_tops-requires-clause-some c =
     let below = IsBelow-from_Contains c.args.sizes.now c.args.entries.now c.requires.member in
-    rw (take_rest c.args.sizes.now (c.in-Some.place + 1)) (All-drop (λ s. 0 < s) (c.in-Some.place + 1) c.args.sizes.now (sizes_some-below c.args.sizes.now c.args.entries.now below))
+    All-take (λ s. 0 < s) _ _ (All-drop (λ s. 0 < s) _ c.args.sizes.now (sizes_some-below c.args.sizes.now c.args.entries.now below))
 
 pub returns-clause-found : goal.returns-clause-found
 returns-clause-found c =
@@ -46,6 +46,4 @@ pub returns-clause-visits : goal.returns-clause-visits
 returns-clause-visits c =
     let below = IsBelow-from_Contains c.args.sizes.now c.args.entries.now c.requires.member in
     let here = c.in-Some.ensures.above in
-    let tops = c.put_tops.ensures.tops ∙ ap (map (λ s. s - 1)) (take_rest c.args.sizes.now (c.in-Some.place + 1)) in
-    let fallen = FallenAt-put_mid c.args.sizes.now c.args.entries.now c.put_tops.new.entries c.in-Some.place below here.0 here.1 tops in
-    HasVisited-from c.args.entries.now _ c.in-Some.place _ _ c.last_above_zero.new.steps _ (IsBelow-length _ _ below) here.0 fallen.same_length fallen.before c.in-Some.ensures.visits (search rules)
+    HasVisited-from c.args.entries.now _ c.in-Some.place _ _ c.last_above_zero.new.steps _ (IsBelow-length _ _ below) here.0 (search (rules, places)) (λ k m. search (rules, places)) c.in-Some.ensures.visits (search rules)
