@@ -148,4 +148,54 @@ module _ (vs : List (List ℕ)) (rise : IsRising vs) where
   none_after v (i, within, at) last =
       let at_v : slice_get vs i ≡ Some v = slice_get_read vs (length vs) i v refl within (sym at) in
       let end = last i at_v in
-      (take i vs, around v i within at ∙ ap (λ ys. take i vs ++ v ∷ ys) (drop_all vs (i + 1) (omega arith)))
+      (take i vs, around v i within at ∙ ap (λ ys. take i vs ++ v ∷ ys) (drop_all (i + 1) vs (omega arith)))
+
+  -- the same by what is known of an iterator over them: whether there are more, and which are its ends
+
+  -- each end is among the vectors
+  pub front_among : (more : Bool) (v w : List ℕ) → more ≡ true → (IsTrue more → AreEnds vs v w) → Contains vs v
+  front_among more v w is ends =
+      let both = ends is in
+      let within : place_among vs v < length vs = omega (arith, both.0, both.1) in
+      (place_among vs v, within, get_or_from_slice_get vs (place_among vs v) v v (stands_there v within))
+
+  pub back_among : (more : Bool) (v w : List ℕ) → more ≡ true → (IsTrue more → AreEnds vs v w) → Contains vs w
+  back_among more v w is ends =
+      let both = ends is in
+      (place_among vs w, both.1, get_or_from_slice_get vs (place_among vs w) w w (stands_there w both.1))
+
+  -- one is left
+  pub one_left : (more : Bool) (v w : List ℕ) → more ≡ true → (IsTrue more → AreEnds vs v w) → pointwise nat_eq v w ≡ true → from_to_if more vs v w ≡ v ∷ []
+  one_left more v w is ends same = rw is (from_itself v w (ends is) ((bytes_decides v w).0 same))
+
+  -- and the back one is that one
+  pub back_left : (more : Bool) (v w : List ℕ) → more ≡ true → (IsTrue more → AreEnds vs v w) → pointwise nat_eq v w ≡ true → from_to_if more vs v w ≡ w ∷ []
+  back_left more v w is ends same = one_left more v w is ends same ∙ ap (λ x. x ∷ []) ((bytes_decides v w).0 same)
+
+  -- two vectors that a test tells apart
+  told_apart : (v w : List ℕ) → pointwise nat_eq v w ≡ false → v ≢ w
+  told_apart v w other same = let equal : true ≡ false = sym ((bytes_decides v w).1 same) ∙ other in absurd cc
+
+  -- more are left: the front one goes on
+  pub front_goes : (more found : Bool) (v w next : List ℕ) → more ≡ true → (IsTrue more → AreEnds vs v w) → pointwise nat_eq v w ≡ false
+      → OnTrue found (IsNext vs v next) → OnFalse found (IsLast vs v)
+      → (IsTrue more → AreEnds vs next w) × (from_to_if more vs v w ≡ v ∷ from_to_if more vs next w)
+  front_goes more found v w next is ends other after last =
+      let step = front_taken found v w next after last (ends is) (told_apart v w other) in
+      (λ _. step.0, rw is step.1)
+
+  -- or the back one
+  pub back_goes : (more found : Bool) (v w before : List ℕ) → more ≡ true → (IsTrue more → AreEnds vs v w) → pointwise nat_eq v w ≡ false
+      → OnTrue found (IsPrevious vs w before) → OnFalse found (HasNoneBefore vs w)
+      → (IsTrue more → AreEnds vs v before) × (from_to_if more vs v w ≡ from_to_if more vs v before ++ w ∷ [])
+  back_goes more found v w before is ends other previous first =
+      let step = back_taken found v w before previous first (ends is) (told_apart v w other) in
+      (λ _. step.0, rw is step.1)
+
+  -- what comes after a vector, seen as an iterator
+  pub after_it : (more some : Bool) (v next last : List ℕ) → Contains vs v → OnTrue more (IsNext vs v next) → OnFalse more (IsLast vs v)
+      → OnTrue some (IsFinal vs last) → OnFalse some (vs ≡ []) → (IsTrue more → AreEnds vs next last) × ComeAfter vs v (from_to_if more vs next last)
+  after_it true true v next last member after end final none =
+      let both = next_ones v next last member after final in (λ _. both.0, both.1)
+  after_it true false v next last (i, within, at) after end final none = absurd (omega (arith, ap length none))
+  after_it false some v next last member after end final none = (λ h. absurd cc, none_after v member end)
