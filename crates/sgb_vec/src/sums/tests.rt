@@ -4,6 +4,7 @@ ghost use Rattle.sgb_vec.specs.Limits.{most_dimensions};
 use super::SumFamily;
 use crate::families::{Family, Vector};
 use crate::panics::Panic;
+use crate::steps::Steps;
 use std::alloc::Global;
 use std::process::Abort;
 use std::test::Fail;
@@ -15,19 +16,65 @@ fn family_of(alloc: Global, total: i64, bounds: &[u32]) -> Result<SumFamily, Fai
     Ok(SumFamily::new(alloc, total, bounds)?)
 }
 
-// Walks the family from its first vector, and compares each vector with the list's. A step from the last vector
-// leaves it as it is.
+// Walks the family from its first vector on and from its last vector back, and compares each vector with the list's. A
+// step beyond an end leaves the vector as it is. No call visits fewer entries than it changes, or more than two for each.
 fn walk<A: Abort>(rt: &A, family: &SumFamily, expected: &[&[u32]]) {
+    let most = most_visits(rt, family);
     let mut vector = Vector::new();
-    let mut more = family.first(&mut vector, &mut Steps::new());
+    let mut before: &[u32] = &[];
+    let mut steps = Steps::new();
+    let mut more = family.first(&mut vector, &mut steps);
     for entries in expected {
         assert!(rt; more);
         assert!(rt; vector.as_slice() == *entries);
         assert!(rt; family.holds(vector.as_slice()));
-        more = family.next(&mut vector, &mut Steps::new());
+        assert!(rt; is_counted(&steps, changed(before, entries), most));
+        before = entries;
+        steps = Steps::new();
+        more = family.next(&mut vector, &mut steps);
     }
     assert!(rt; !more);
     assert!(rt; Some(vector.as_slice()) == expected.last().copied());
+    assert!(rt; is_counted(&steps, 0, most));
+    walk_back(rt, family, expected);
+}
+
+// The way back.
+fn walk_back<A: Abort>(rt: &A, family: &SumFamily, expected: &[&[u32]]) {
+    let most = most_visits(rt, family);
+    let mut vector = Vector::new();
+    let mut before: &[u32] = &[];
+    let mut steps = Steps::new();
+    let mut more = family.last(&mut vector, &mut steps);
+    for entries in expected.iter().rev() {
+        assert!(rt; more);
+        assert!(rt; vector.as_slice() == *entries);
+        assert!(rt; family.holds(vector.as_slice()));
+        assert!(rt; is_counted(&steps, changed(before, entries), most));
+        before = entries;
+        steps = Steps::new();
+        more = family.prev(&mut vector, &mut steps);
+    }
+    assert!(rt; !more);
+    assert!(rt; Some(vector.as_slice()) == expected.first().copied());
+    assert!(rt; is_counted(&steps, 0, most));
+}
+
+// Two visits for each entry.
+fn most_visits<A: Abort>(rt: &A, family: &SumFamily) -> usize {
+    let entries = family.dims();
+    assert!(rt; entries <= 92);
+    entries * 2
+}
+
+// At how many places the two vectors have different entries.
+fn changed(v: &[u32], w: &[u32]) -> usize {
+    v.iter().zip(w).filter(|(x, y)| x != y).count()
+}
+
+// Whether there were at least so many visits, and at most so many.
+fn is_counted(steps: &Steps, least: usize, most: usize) -> bool {
+    least as u64 <= steps.count() && steps.count() <= most as u64
 }
 
 #[test]
@@ -81,6 +128,8 @@ fn no_vector(rt: HostRuntime) -> Result<(), Fail> {
     let mut vector = Vector::new();
     vector.push(7);
     assert!(rt; !family.first(&mut vector, &mut Steps::new()));
+    assert!(rt; vector.as_slice() == [7].as_slice());
+    assert!(rt; !family.last(&mut vector, &mut Steps::new()));
     assert!(rt; vector.as_slice() == [7].as_slice());
     Ok(())
 }

@@ -1,4 +1,4 @@
-use Rattle.std.proofs.Common.{◌≡◌, arith}
+use Rattle.std.proofs.Common.{arith}
 use Rattle.sgb_vec.proofs.SumTails.{filled_up-none, filled_up-more, filled_up-all}
 use Rattle.sgb_vec.proofs.sums.put_greatest.Goals as goal
 
