@@ -1,7 +1,7 @@
 ghost use Rattle.std.specs.Prelude.{◌≡◌, ◌<◌, length, slice_get, Some, Contains, IfOk, IsOkUnless};
 ghost use Rattle.sgb_vec.specs.Lexicographic.{IsRising};
 
-use sgb_vec::{Family, Panic, Vector};
+use sgb_vec::{Family, Panic, Steps, Vector};
 use std::alloc::Global;
 use std::marker::Model;
 
@@ -38,10 +38,10 @@ impl VectorTable {
         let count = family.size();
         let mut entries = Vec::with_capacity(alloc, width.saturating_mul(count as usize))?;
         let mut vector = Vector::new();
-        let _some = family.first(&mut vector);
+        let _some = family.first(&mut vector, &mut Steps::new());
         for _u in 0..count {
             entries.extend_from_slice(vector.as_slice())?;
-            let _more = family.next(&mut vector);
+            let _more = family.next(&mut vector, &mut Steps::new());
         }
         Ok(VectorTable {
             entries,

@@ -5,7 +5,7 @@ ghost use Rattle.sgb_graph.specs.Made.{no_kinds, no_fields};
 ghost use Rattle.sgb_gen.specs.VectorGraphs.{HasCoordinates};
 
 use sgb_graph::{Graph, Names};
-use sgb_vec::{Family, Panic, Vector, name_of};
+use sgb_vec::{Family, Panic, Steps, Vector, name_of};
 use std::alloc::Global;
 
 /// The names of the vectors of a family, in order (GB_BASIC, board).
@@ -17,13 +17,13 @@ pub(crate) fn vector_names<F: Family>(alloc: Global, family: &F) -> Result<Names
 {
     let mut names = Names::new(alloc);
     let mut vector = Vector::new();
-    let _some = family.first(&mut vector);
+    let _some = family.first(&mut vector, &mut Steps::new());
     for _u in 0..family.size() {
         let name = name_of(alloc, vector.as_slice())?;
         let Ok(()) = names.push(name) else {
             return Err(Panic::NoRoom);
         };
-        let _more = family.next(&mut vector);
+        let _more = family.next(&mut vector, &mut Steps::new());
     }
     Ok(names)
 }
@@ -37,13 +37,13 @@ pub(crate) fn put_coordinates<F: Family>(graph: &mut Graph, family: &F)
     ensures { HasCoordinates (F.members family.now) graph.old graph.new }
 {
     let mut vector = Vector::new();
-    let _some = family.first(&mut vector);
+    let _some = family.first(&mut vector, &mut Steps::new());
     for u in 0..family.size() {
         let x = entry(vector.as_slice(), 0);
         let y = entry(vector.as_slice(), 1);
         let z = entry(vector.as_slice(), 2);
         graph.set_vertex_ints(u, x, y, z);
-        let _more = family.next(&mut vector);
+        let _more = family.next(&mut vector, &mut Steps::new());
     }
 }
 

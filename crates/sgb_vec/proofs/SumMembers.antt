@@ -9,7 +9,7 @@ use Rattle.sgb_vec.specs.Boxes.{box}
 use Rattle.sgb_vec.specs.Sums.{bounded_sums}
 use Rattle.sgb_vec.specs.Lexicographic.{IsBefore, IsRising, IsBelow, IsWithin}
 use Rattle.sgb_vec.proofs.BoxPlaces.{IsBelow-from_Contains, Contains-from_IsBelow}
-use Rattle.sgb_vec.proofs.BoxOrder.{box-rises}
+use Rattle.sgb_vec.specs.Rising.{box_vectors_rise}
 
 -- what a filter keeps is an element that passes
 Contains-from_filter : {X : Type 0} (p : X → Bool) (xs : List X) (x : X) → Contains (filter p xs) x → Contains xs x × (p x ≡ true)
@@ -58,7 +58,7 @@ Contains-bounded_sums n bounds v =
 -- they rise lexicographically
 pub bounded_sums-rise : (n : ℕ) (bounds : List ℕ) → IsRising (bounded_sums n bounds)
 unfolding bounded_sums
-bounded_sums-rise n bounds = AllPairs-filter IsBefore (λ v. eqb (sum v) n) (box (map (λ b. b + 1) bounds)) (box-rises (map (λ b. b + 1) bounds))
+bounded_sums-rise n bounds = AllPairs-filter IsBefore (λ v. eqb (sum v) n) (box (map (λ b. b + 1) bounds)) (box_vectors_rise (map (λ b. b + 1) bounds))
 
 -- as many entries as bounds
 pub IsWithin-length : (bounds v : List ℕ) → IsWithin v bounds → length v ≡ length bounds

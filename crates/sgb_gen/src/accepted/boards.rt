@@ -14,7 +14,7 @@ use crate::moves::{destination, entry_bounds};
 use crate::params::BoardParams;
 use crate::vector_graphs::{put_coordinates, vector_names};
 use sgb_graph::{Graph, Id, IdWriter};
-use sgb_vec::{BoxFamily, Family, Panic, Shape, Vector, board_sizes};
+use sgb_vec::{BoxFamily, Family, Panic, Shape, Steps, Vector, board_sizes};
 use std::alloc::Global;
 use std::marker::Model;
 
@@ -181,10 +181,10 @@ impl Board {
         ensures memory { IsOkUnless result Panic.NoRoom }
     {
         let mut x = Vector::new();
-        let _some = self.family.first(&mut x);
+        let _some = self.family.first(&mut x, &mut Steps::new());
         for u in 0..self.family.size() {
             self.add_moves(graph, u, x.as_slice(), t)?;
-            let _more = self.family.next(&mut x);
+            let _more = self.family.next(&mut x, &mut Steps::new());
         }
         Ok(())
     }

@@ -8,7 +8,7 @@ ghost use Rattle.std.specs.Simd.Lanes.{sum_l, zip2};
 use crate::params::SubsetsParams;
 use crate::vector_graphs::{put_coordinates, vector_names};
 use sgb_graph::{Graph, Id, IdWriter};
-use sgb_vec::{Family, Panic, Shape, SumFamily, Vector, simplex_bounds};
+use sgb_vec::{Family, Panic, Shape, Steps, SumFamily, Vector, simplex_bounds};
 use std::alloc::Global;
 use std::marker::Model;
 use std::simd::prelude::*;
@@ -137,10 +137,10 @@ impl Subsets {
         ensures memory { IsOkUnless result Panic.NoRoom }
     {
         let mut vector = Vector::new();
-        let _some = self.family.first(&mut vector);
+        let _some = self.family.first(&mut vector, &mut Steps::new());
         for v in 0..self.family.size() {
             self.add_moves_to(graph, v, vector.as_slice())?;
-            let _more = self.family.next(&mut vector);
+            let _more = self.family.next(&mut vector, &mut Steps::new());
         }
         Ok(())
     }
@@ -155,10 +155,10 @@ impl Subsets {
         ensures memory { IsOkUnless result Panic.NoRoom }
     {
         let mut from = Vector::new();
-        let _some = self.family.first(&mut from);
+        let _some = self.family.first(&mut from, &mut Steps::new());
         for u in 0..=v {
             self.add_move(graph, u, v, common(from.as_slice(), to))?;
-            let _more = self.family.next(&mut from);
+            let _more = self.family.next(&mut from, &mut Steps::new());
         }
         Ok(())
     }

@@ -1,4 +1,4 @@
-use Rattle.std.proofs.Common.{◌≡◌, ◌≢◌, ℕ, length, decimal, sym, ap, ◌∙◌, true, false, not, nat_eq, eqb-true, arith, rules}
+use Rattle.std.proofs.Common.{◌≡◌, ◌≢◌, length, decimal, sym, ap, ◌∙◌, true, false, not, nat_eq, eqb-true, arith}
 use Rattle.std.specs.Cmp.Lexicographic.{pointwise, bytes_decides}
 use Rattle.std.proofs.lemmas.Bool.{eqb-false}
 use Rattle.std.specs.Str.Parse.{digits_value}

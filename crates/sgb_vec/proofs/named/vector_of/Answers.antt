@@ -1,4 +1,4 @@
-use Rattle.std.proofs.Common.{◌≡◌, ℕ, ◌<◌, ◌≢◌, List, [], length, decimal, sym, ap, ◌∙◌, eqb-true, arith, rules, tests}
+use Rattle.std.proofs.Common.{◌≡◌, ◌≢◌, [], length, decimal, sym, ap, ◌∙◌, eqb-true, arith, rules, tests}
 use Rattle.std.proofs.lemmas.Bool.{eqb-false}
 use Rattle.std.proofs.lemmas.List.{length-map, nil_from_length}
 use Rattle.std.proofs.lemmas.Iterator.Consumers.{YieldsList-at, YieldsList-turn, YieldsList-end}
@@ -19,8 +19,8 @@ returns-in_err-entry-clause-none c =
     (YieldsList-from_slice_split _ is_dot c.args.name.now c.split-part-items.ensures.rest c.split-part-items.ensures.done c.split-part-items.ensures.closure (λ x r q k. search (rules, tests))))
     c.loop-part.yielded _ c.loop-part.yielded_by _ _ c.in-Some.part c.in-Some.is c.next.ensures.steps in
     rw c.from_residual.ensures (λ vector is same.
-        let part = part_is_decimal vector c.args.name.now c.in-Some.part.now (length c.loop-part.yielded) is same (omega (arith, some)) turn.0 turn.1 in
-        c.in_err-entry.ensures.none _ part.0 part.1)
+    let part = part_is_decimal vector c.args.name.now c.in-Some.part.now (length c.loop-part.yielded) is same (omega (arith, some)) turn.0 turn.1 in
+    c.in_err-entry.ensures.none _ part.0 part.1)
 
 pub returns-then-is_full-clause-none : goal.returns-then-is_full-clause-none
 returns-then-is_full-clause-none c = λ vector is same.

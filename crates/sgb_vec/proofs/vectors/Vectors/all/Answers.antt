@@ -1,5 +1,3 @@
-use Rattle.std.proofs.Common.{◌≡◌, Bool, true, false, List, [], ℕ, refl, sym}
-use Rattle.sgb_vec.specs.Lexicographic.{IsRising}
 use Rattle.sgb_vec.proofs.RangeSteps.{all_of_them, all_ends}
 use Rattle.sgb_vec.proofs.vectors.Vectors.all.Goals as goal
 
