@@ -25,8 +25,7 @@ loop-place-preserved c =
     elim c.else-after-gt0.branch [
       | else-after-gt0-via-then-after-gt0+else-entries-place w ↦ λ _. w.if-entries-place.false
       | else-after-gt0-via-else-after-gt0 w ↦ λ some. absurd (omega arith)
-    ] in
-    (
+    ] in (
       greatest-more c.args.bounds.now c.args.entries.now place c.loop-place.place c.loop-place.after (omega arith) c.requires.within (omega arith) top c.loop-place.invariant.0,
       omega (arith, c.visit.ensures, c.loop-place.invariant.1),
     )
