@@ -186,9 +186,9 @@ fn put_greatest(bounds: &[u32], entries: &mut [u32], total: u32, steps: &mut Ste
     let mut rest = total;
     for place in 0..bounds.len() {
         steps.visit();
-        let entry = rest.min(bounds[place]);
-        entries[place] = entry;
-        rest -= entry;
+        let taken = rest.min(bounds[place]);
+        entries[place] = taken;
+        rest -= taken;
     }
 }
 

@@ -17,7 +17,8 @@ fn family_of(alloc: Global, total: i64, bounds: &[u32]) -> Result<SumFamily, Fai
 }
 
 // Walks the family from its first vector on and from its last vector back, and compares each vector with the list's. A
-// step beyond an end leaves the vector as it is. No call visits fewer entries than it changes, or more than two for each.
+// step beyond an end leaves the vector as it is. No call visits fewer entries than it changes, or more than two for
+// each.
 fn walk<A: Abort>(rt: &A, family: &SumFamily, expected: &[&[u32]]) {
     let most = most_visits(rt, family);
     let mut vector = Vector::new();

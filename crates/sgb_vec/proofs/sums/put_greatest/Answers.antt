@@ -7,7 +7,7 @@ loop-place-init c = (filled_up-none c.args.bounds.now c.args.entries.now c.args.
 
 pub loop-place-preserved : goal.loop-place-preserved
 loop-place-preserved c = (
-  rw c.min-entry.ensures (filled_up-more c.args.bounds.now c.loop-place.entries c.loop-place.place c.loop-place.rest c.args.total (omega arith) (omega arith) c.loop-place.invariant.0),
+  rw c.min-taken.ensures (filled_up-more c.args.bounds.now c.loop-place.entries c.loop-place.place c.loop-place.rest c.args.total (omega arith) (omega arith) c.loop-place.invariant.0),
   omega (arith, c.visit.ensures, c.loop-place.invariant.1),
 )
 

@@ -1,4 +1,4 @@
-use Rattle.std.proofs.Common.{◌≡◌, ◌+◌, ◌-◌, ◌<◌, length, get_or, arith}
+use Rattle.std.proofs.Common.{◌≡◌, ◌+◌, ◌<◌, length, arith}
 use Rattle.std.proofs.lemmas.List.{take_rest, length-drop, length-set}
 use Rattle.std.proofs.lemmas.List.Sums.{sum_by-take-drop}
 use Rattle.sgb_vec.proofs.SumWalks.{HasNoneBefore-first}
@@ -22,9 +22,7 @@ returns-in_default-clause-visits c =
 pub put_greatest-requires-clause-same_length : goal.put_greatest-requires-clause-same_length
 put_greatest-requires-clause-same_length c =
     let same_length = IsWithin-length c.args.bounds.now c.args.entries.now c.requires.within in
-    let v = c.args.entries.now in
-    let p = c.in-Some.place in
-    simp (take_rest, length-drop) (omega (arith, same_length, length-set v p (get_or v p 0 - 1)))
+    simp (take_rest, length-drop) (simp length-set (omega (arith, same_length)))
 
 pub returns-clause-visits : goal.returns-clause-visits
 returns-clause-visits c =
@@ -32,8 +30,8 @@ returns-clause-visits c =
     let p = c.in-Some.place in
     let here : p < length v = c.in-Some.ensures.above.0 in
     let same_length : length v ≡ length c.args.bounds.now = IsWithin-length c.args.bounds.now v c.requires.within in
-    let walk = rw (take_rest, length-drop) at c.put_greatest.ensures.visits in
-    rw put_mid-tail (visits-step v c.put_greatest.new.entries p _ _ _ c.last_falling.new.steps _ here same_length c.in-Some.ensures.visits (omega (arith, walk, length-set v p (get_or v p 0 - 1))))
+    let walk = simp length-set at (rw (take_rest, length-drop) at c.put_greatest.ensures.visits) in
+    rw put_mid-tail (visits-step v c.put_greatest.new.entries p _ _ _ c.last_falling.new.steps _ here same_length c.in-Some.ensures.visits (omega (arith, walk)))
 
 pub returns-clause-found : goal.returns-clause-found
 returns-clause-found c =
