@@ -25,7 +25,7 @@ invariant_of-result g c =
     let entries : c.loop-u.entries.items ≡ joined vectors = c.loop-u.invariant.1 ∙ ap joined all in
     ap length entries ∙ length-joined (g.F.Family.width c.args.family.now) vectors wide
     ∙ ap (λ n. n * g.F.Family.width c.args.family.now) (sym c.size-count.ensures)
-    ∙ ap (λ w. c.size-count.result * w) (sym c.dims-width.ensures)
+    ∙ ap (λ w. c.size-count.result * w) (sym c.dims-width.ensures.width)
 
 pub returns-clause-ok : goal.returns-clause-ok
 returns-clause-ok g c =
@@ -34,6 +34,6 @@ returns-clause-ok g c =
     let all : take c.loop-u._u vectors ≡ vectors = take_all c.loop-u._u vectors (omega (arith, c.size-count.ensures)) in
     let entries : c.loop-u.entries.items ≡ joined vectors = c.loop-u.invariant.1 ∙ ap joined all in
     ap (rows c.dims-width.result c.size-count.result) entries
-    ∙ ap (λ w. rows w c.size-count.result (joined vectors)) c.dims-width.ensures
+    ∙ ap (λ w. rows w c.size-count.result (joined vectors)) c.dims-width.ensures.width
     ∙ ap (λ n. rows (g.F.Family.width c.args.family.now) n (joined vectors)) c.size-count.ensures
     ∙ rows-joined (g.F.Family.width c.args.family.now) vectors wide

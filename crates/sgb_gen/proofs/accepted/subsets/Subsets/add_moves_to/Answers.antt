@@ -38,8 +38,8 @@ pub add_move-requires-clause-to : goal.add_move-requires-clause-to
 add_move-requires-clause-to c =
     omega (arith, slice_get_within (subsets_vectors c.args.self.now) c.args.v c.args.to.now c.requires.vertex, c.loop-u.invariant.1.added.rest.size, c.requires.vertices)
 
-pub next-more-requires : goal.next-more-requires
-next-more-requires c =
+pub next-more-requires-clause-member : goal.next-more-requires-clause-member
+next-more-requires-clause-member c =
     let s = c.args.self.now in
     let from = c.loop-u.from.items in
     let family : c.self.inside.family ≡ s.sum = ap (λ d. d.sum) c.self.view_is in
