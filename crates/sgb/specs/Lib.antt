@@ -3,6 +3,7 @@ pub mod FlipAnswers
 pub mod Inputs
 pub mod Outcomes
 pub mod Program
+pub mod Remaining
 pub mod Runs
 pub mod Texts
 pub mod Values

@@ -7,6 +7,7 @@ pub mod BoxRanks
 pub mod BoxSuccessors
 pub mod Convolutions
 pub mod Examples
+pub mod FamilyVectors
 pub mod GreatCounts
 pub mod Hills
 pub mod NameReading

@@ -11,7 +11,7 @@ use crate::families::{Family, Vector};
 use crate::limits::MOST_VERTICES;
 use crate::panics::Panic;
 use crate::steps::Steps;
-use crate::zeros::put_zeros;
+use crate::shared::{count_of, put_zeros};
 use arrayvec::ArrayVec;
 use std::marker::Model;
 
@@ -66,7 +66,7 @@ impl Family for BoxFamily {
     ghost width = { length };
 
     fn dims(&self) -> usize {
-        self.sizes.len()
+        count_of(self.sizes.as_slice())
     }
 
     fn size(&self) -> u32 {

@@ -1,7 +1,7 @@
-ghost use Rattle.std.specs.Prelude.{◌≡◌, ◌≤◌, ◌+◌, ◌^◌, ℕ, ◌↔◌, List, [], IsTrue, Contains, length};
+ghost use Rattle.std.specs.Prelude.{◌≡◌, ◌≤◌, ◌^◌, ℕ, ◌↔◌, List, [], IsTrue, Contains, length};
 ghost use Rattle.std.specs.Bool.{OnTrue, OnFalse};
 ghost use Rattle.sgb_vec.specs.Lexicographic.{IsRising};
-ghost use Rattle.sgb_vec.specs.Limits.{most_dimensions};
+ghost use Rattle.sgb_vec.specs.NamedVectors.{IsVector};
 ghost use Rattle.sgb_vec.specs.Order.{HasNoneBefore, IsFinal, IsFirst, IsLast, IsNext, IsPrevious};
 ghost use Rattle.sgb_vec.specs.Visits.{HasVisited, changed_entries};
 
@@ -21,10 +21,10 @@ pub trait Family {
     // How many entries each member has.
     ghost width: { Self → ℕ };
 
-    /// How many entries each member has: at most 92.
+    /// How many entries each member has: at most 92, each below 2^32.
     fn dims(&self) -> usize
         ensures width { result ≡ width self.now }
-        ensures few { result ≤ most_dimensions + 1 };
+        ensures vectors { (v : List ℕ) → Contains (members self.now) v → IsVector v };
 
     /// How many members there are.
     fn size(&self) -> u32

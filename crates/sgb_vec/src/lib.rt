@@ -9,11 +9,11 @@ mod limits;
 mod named;
 mod panics;
 mod shapes;
+mod shared;
 mod steps;
 mod sums;
 mod texts;
 mod vectors;
-mod zeros;
 
 pub use boxes::BoxFamily;
 pub use digits::{digits_value, leading_digits};

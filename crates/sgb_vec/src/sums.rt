@@ -11,7 +11,7 @@ use crate::families::{Family, Vector};
 use crate::limits::MOST_VERTICES;
 use crate::panics::Panic;
 use crate::steps::Steps;
-use crate::zeros::put_zeros;
+use crate::shared::{count_of, put_zeros};
 use arrayvec::ArrayVec;
 use counts::count_vectors;
 use std::alloc::Global;
@@ -78,7 +78,7 @@ impl Family for SumFamily {
     ghost width = { λ s. length s.bounds };
 
     fn dims(&self) -> usize {
-        self.bounds.len()
+        count_of(self.bounds.as_slice())
     }
 
     fn size(&self) -> u32 {

@@ -1,15 +1,17 @@
 //! The names of a family's vectors, written one a line.
-ghost use Rattle.std.specs.Prelude.{◌≡◌, ◌⊎◌, ◌≤◌, ◌+◌, Ok, Err, false, length, map};
+ghost use Rattle.std.specs.Prelude.{◌≡◌, ◌≤◌, ◌+◌, false, drop, length, map};
+ghost use Rattle.std.specs.List.{flat_map};
 ghost use Rattle.sgb_vec.specs.Limits.{most_dimensions};
 ghost use Rattle.sgb_vec.specs.Names.{name_of_vector};
-ghost use Rattle.sgb.specs.Outcomes.{left_out, names_answer, vertex_named};
-ghost use Rattle.sgb.specs.Texts.{name_line, name_lines};
+ghost use Rattle.sgb.specs.Outcomes.{names_answer};
+ghost use Rattle.sgb.specs.Remaining.{IsNameAfter, Remain};
+ghost use Rattle.sgb.specs.Texts.{name_line};
 ghost use Rattle.sgb.specs.Writing.{IsEnded, IsWritten};
 
 use super::write_texts;
 use sgb_file::Sink;
 use sgb_requests::{Fault, Resume};
-use sgb_vec::{Family, Panic, Vector, name_of};
+use sgb_vec::{Family, Vectors, name_of, vector_of};
 use std::alloc::Global;
 
 /// Writes the name lines of a family's vectors, from where the answer begins.
@@ -24,56 +26,59 @@ pub(crate) fn write_names<F: Family, W: Sink>(
     requires { W.has_failed out.old ≡ false }
     ensures { IsEnded (names_answer (map name_of_vector (F.members family.now)) resume.now) (record { before = W.written out.old; after = W.written out.new; failed = W.has_failed out.new }) result }
 {
-    let skip = vectors_left_out(alloc, family, resume)?;
-    write_names_after(alloc, family, skip, out)
+    let vectors = remaining(family, resume)?;
+    write_all(alloc, vectors, out)
 }
 
-// How many first vectors are left out.
-fn vectors_left_out<F: Family>(alloc: Global, family: &F, resume: &Resume) -> Result<u64, Fault>
-    ensures { (result ≡ left_out (map name_of_vector (F.members family.now)) resume.now) ⊎ (result ≡ Err (Fault.Panic Panic.NoRoom)) }
+// The vectors from which the answer is made: all, or those after the first ones, or those after the one named.
+fn remaining<'a, F: Family>(family: &'a F, resume: &Resume) -> Result<Vectors<'a, F>, Fault>
+    ensures { Remain (F.members family.now) resume.now result }
 {
     match resume {
-        Resume::Whole => Ok(0),
-        Resume::Skip(count) => Ok(*count),
-        Resume::After(name) => match vector_named(alloc, family, name.bytes())? {
-            Some(place) => Ok(u64::from(place) + 1),
+        Resume::Whole => Ok(Vectors::all(family)),
+        Resume::Skip(count) => Ok(without_first(family, *count)),
+        Resume::After(name) => match after_name(family, name.bytes()) {
+            Some(vectors) => Ok(vectors),
             None => Err(Fault::NoVertex),
         },
     }
 }
 
-// The place of the first vector of this name.
-fn vector_named<F: Family>(alloc: Global, family: &F, name: &[u8]) -> Result<Option<u32>, Panic>
-    ensures { (result ≡ Ok (vertex_named name.now (map name_of_vector (F.members family.now)))) ⊎ (result ≡ Err Panic.NoRoom) }
+// The vectors of the family without the first `count`.
+fn without_first<F: Family>(family: &F, count: u64) -> Vectors<'_, F>
+    ensures { result ≡ drop count (F.members family.now) }
 {
-    let mut vector = Vector::new();
-    family.first(&mut vector);
-    for place in 0..family.size() {
-        if name_of(alloc, vector.as_slice())?.bytes() == name {
-            return Ok(Some(place));
+    let mut vectors = Vectors::all(family);
+    for _place in 0..count {
+        if vectors.next().is_none() {
+            return vectors;
         }
-        family.next(&mut vector);
     }
-    Ok(None)
+    vectors
 }
 
-// Writes the name lines of a family's vectors after the first `skip`.
-fn write_names_after<F: Family, W: Sink>(
+// The vectors of the family after the one of this name. The name tells which vector that is, so none is searched for.
+fn after_name<'a, F: Family>(family: &'a F, name: &[u8]) -> Option<Vectors<'a, F>>
+    ensures { IsNameAfter (F.members family.now) name.now result }
+{
+    let vector = vector_of(name)?;
+    if vector.len() != family.dims() {
+        return None;
+    }
+    Vectors::after(family, vector.as_slice())
+}
+
+// Writes the lines of these vectors.
+fn write_all<F: Family, W: Sink>(
     alloc: Global,
-    family: &F,
-    skip: u64,
+    vectors: Vectors<'_, F>,
     out: &mut W,
 ) -> Result<(), Fault>
     requires { W.has_failed out.old ≡ false }
-    ensures { IsWritten (name_lines (map name_of_vector (F.members family.now)) skip) (record { before = W.written out.old; after = W.written out.new; failed = W.has_failed out.new }) result }
+    ensures { IsWritten (flat_map name_line (map name_of_vector vectors.entry)) (record { before = W.written out.old; after = W.written out.new; failed = W.has_failed out.new }) result }
 {
-    let mut vector = Vector::new();
-    family.first(&mut vector);
-    for place in 0..family.size() {
-        if u64::from(place) >= skip {
-            write_name(alloc, vector.as_slice(), out)?;
-        }
-        family.next(&mut vector);
+    for vector in vectors {
+        write_name(alloc, vector.as_slice(), out)?;
     }
     Ok(())
 }

@@ -1,10 +1,18 @@
 use Rattle.std.proofs.Common.{◌≡◌, ◌*◌, ◌++◌, length, take, Some, sym, ap, ◌∙◌, arith}
 use Rattle.std.specs.List.{slice_get}
 use Rattle.std.proofs.lemmas.List.{take_all}
+use Rattle.std.proofs.lemmas.Option.{get_or_from_slice_get, slice_get_within}
 use Rattle.sgb_gen.specs.Tables.{rows}
 use Rattle.sgb_gen.proofs.FamilyWalks.{at_next}
 use Rattle.sgb_gen.proofs.TableRows.{joined, HasWidth-from_members, joined_at_vector, length-joined, rows-joined}
 use Rattle.sgb_gen.proofs.tables.VectorTable.new.Goals as goal
+
+pub next-more-requires-clause-member : goal.next-more-requires-clause-member
+next-more-requires-clause-member g c =
+    let vectors = g.F.Family.members c.args.family.now in
+    let v = c.loop-u.vector.items in
+    let here : slice_get vectors c.loop-u._u ≡ Some v = c.loop-u.invariant.0 (omega (arith, c.size-count.ensures)) in
+    (c.loop-u._u, slice_get_within vectors c.loop-u._u v here, get_or_from_slice_get vectors c.loop-u._u v v here)
 
 pub loop-u-preserved : goal.loop-u-preserved
 loop-u-preserved g c =

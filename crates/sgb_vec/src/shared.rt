@@ -1,5 +1,5 @@
-//! Vectors of zeros.
-ghost use Rattle.std.specs.Prelude.{◌≡◌, ◌+◌, ◌≤◌, ◌^◌, replicate};
+//! Small things that the families share.
+ghost use Rattle.std.specs.Prelude.{◌≡◌, ◌+◌, ◌<◌, ◌≤◌, ◌^◌, ℕ, length, replicate, slice_index};
 
 use crate::families::Vector;
 use crate::steps::Steps;
@@ -16,4 +16,12 @@ pub(crate) fn put_zeros(vector: &mut Vector, count: usize, steps: &mut Steps)
         steps.visit();
         vector.push(0);
     }
+}
+
+// How many numbers there are, each below 2^32.
+pub(crate) fn count_of(numbers: &[u32]) -> usize
+    ensures count { result ≡ length numbers.now }
+    ensures small { (k : ℕ) → slice_index numbers.now k < 2 ^ 32 }
+{
+    numbers.len()
 }

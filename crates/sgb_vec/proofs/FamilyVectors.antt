@@ -1,0 +1,37 @@
+-- The members of the families are vectors that have names.
+use Rattle.std.proofs.Common.{◌≡◌, ℕ, zero, suc, ◌+◌, ◌<◌, ◌≤◌, ◌^◌, List, [], ◌∷◌, length, get_or, arith, sum}
+use Rattle.std.specs.List.{Contains}
+use Rattle.std.proofs.lemmas.Grind.{get_or_default_zero}
+use Rattle.sgb_vec.specs.Boxes.{box}
+use Rattle.sgb_vec.specs.Sums.{bounded_sums}
+use Rattle.sgb_vec.specs.Lexicographic.{IsBelow, IsWithin}
+use Rattle.sgb_vec.specs.Limits.{most_entry}
+use Rattle.sgb_vec.specs.NamedVectors.{IsVector}
+use Rattle.sgb_vec.proofs.BoxPlaces.{IsBelow-from_Contains, IsBelow-length, IsBelow-at}
+use Rattle.sgb_vec.proofs.SumMembers.{Contains-bounded_sums, IsWithin-length}
+
+-- each entry is at most the bound beside it
+within-at : (bounds v : List ℕ) (k : ℕ) → IsWithin v bounds → k < length v → get_or v k 0 ≤ get_or bounds k 0
+within-at bounds [] k h within = absurd (omega arith)
+within-at [] (x ∷ v) k h within = absurd h
+within-at (b ∷ bounds) (x ∷ v) zero h within = h.0
+within-at (b ∷ bounds) (x ∷ v) (suc k) h within = within-at bounds v k h.1 (omega arith)
+
+-- those of a box
+pub box_members_are_vectors : (sizes v : List ℕ) → length sizes ≤ 92 → ((k : ℕ) → get_or sizes k 0 < 2 ^ 32) → Contains (box sizes) v → IsVector v
+box_members_are_vectors sizes v few small member =
+    let below = IsBelow-from_Contains sizes v member in
+    record {
+      short = omega (arith, IsBelow-length sizes v below);
+      small = λ k d within. omega (arith, get_or_default_zero v k d within, IsBelow-at sizes v k below within, small k);
+    }
+
+-- those of a bounded sum
+pub sum_members_are_vectors : (n : ℕ) (bounds v : List ℕ) → length bounds ≤ 92 → ((k : ℕ) → get_or bounds k 0 < 2 ^ 32) → Contains (bounded_sums n bounds) v → IsVector v
+sum_members_are_vectors n bounds v few small member =
+    let both = Contains-bounded_sums n bounds v in
+    let within = (both.0 member).0 in
+    record {
+      short = omega (arith, IsWithin-length bounds v within);
+      small = λ k d inside. omega (arith, get_or_default_zero v k d inside, within-at bounds v k within inside, small k);
+    }
