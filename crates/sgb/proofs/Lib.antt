@@ -9,6 +9,7 @@ pub mod KeptInput
 pub mod Lines
 pub mod Listings
 pub mod Named
+pub mod NamedMembers
 pub mod ProgramRuns
 pub mod Refusals
 pub mod StdinValues

@@ -50,9 +50,9 @@ fn without_first<F: Family>(family: &F, count: u64) -> Vectors<'_, F>
 {
     let mut vectors = Vectors::all(family);
     for _place in 0..count {
-        if vectors.next().is_none() {
+        let Some(_vector) = vectors.next() else {
             return vectors;
-        }
+        };
     }
     vectors
 }
@@ -61,8 +61,9 @@ fn without_first<F: Family>(family: &F, count: u64) -> Vectors<'_, F>
 fn after_name<'a, F: Family>(family: &'a F, name: &[u8]) -> Option<Vectors<'a, F>>
     ensures { IsNameAfter (F.members family.now) name.now result }
 {
+    let dims = family.dims();
     let vector = vector_of(name)?;
-    if vector.len() != family.dims() {
+    if vector.len() != dims {
         return None;
     }
     Vectors::after(family, vector.as_slice())

@@ -10,7 +10,7 @@ use Rattle.sgb_vec.proofs.named.vector_of.Goals as goal
 pub returns-then-is_empty-clause-named : goal.returns-then-is_empty-clause-named
 returns-then-is_empty-clause-named c =
     let none : c.args.name.now ≡ [] = nil_from_length c.args.name.now (eqb-true _ _ (sym c.is_empty.ensures ∙ c.if-is_empty.true)) in
-    rw (c.new-vector.ensures, none) name_of_none
+    rw (c.new-vector.ensures, none) (record { short = omega arith; small = λ k d within. absurd (omega arith) }, name_of_none)
 
 pub returns-in_err-entry-clause-none : goal.returns-in_err-entry-clause-none
 returns-in_err-entry-clause-none c =
@@ -30,7 +30,7 @@ returns-then-is_full-clause-none c = λ vector is same.
     c.loop-part.yielded _ c.loop-part.yielded_by _ _ c.in-Some.part c.in-Some.is c.next.ensures.steps in
     let full : length c.loop-part.vector.items ≡ 92 = eqb-true _ _ (sym c.is_full.ensures.value ∙ c.if-is_full.true) in
     let few = few_parts vector c.args.name.now is same (omega (arith, some)) in
-    let as_many = ap length c.loop-part.invariant in
+    let as_many = ap length c.loop-part.invariant.0 in
     omega (arith, full, few, turn.0, as_many, length-map c.loop-part.vector.items decimal, length-map c.loop-part.yielded (λ x. x.now))
 
 pub returns-clause-named : goal.returns-clause-named
@@ -38,4 +38,4 @@ returns-clause-named c =
     let end = YieldsList-end (YieldsList-at c.into_iter-part-iterator.ensures.into_iter_gives
     (YieldsList-from_slice_split _ is_dot c.args.name.now c.split-part-items.ensures.rest c.split-part-items.ensures.done c.split-part-items.ensures.closure (λ x r q k. search (rules, tests))))
     c.loop-part.yielded _ c.loop-part.yielded_by _ _ c.in-None.is c.next.ensures.steps in
-    name_of_parts c.loop-part.vector.items c.args.name.now (c.loop-part.invariant ∙ end.0)
+    (c.loop-part.invariant.1, name_of_parts c.loop-part.vector.items c.args.name.now (c.loop-part.invariant.0 ∙ end.0))

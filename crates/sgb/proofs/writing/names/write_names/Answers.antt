@@ -1,21 +1,24 @@
-use Rattle.std.proofs.Common.{map, inl, inr}
+use Rattle.std.proofs.Common.{◌≡◌, ◌∙◌, List, ℕ, map, drop, inl, sym, ap, subst}
+use Rattle.std.specs.List.{flat_map}
+use Rattle.std.proofs.lemmas.List.{drop-map}
 use Rattle.std.proofs.lemmas.Result.{err_from_is_err_and}
 use Rattle.sgb_vec.specs.Names.{name_of_vector}
 use Rattle.sgb.specs.Outcomes.{left_out}
-use Rattle.sgb.specs.Texts.{name_lines}
+use Rattle.sgb.specs.Texts.{name_line, name_lines}
 use Rattle.sgb.proofs.Endings.{ended_after, refused_after}
+use Rattle.sgb.proofs.NamedMembers.{lines_of_rest}
 use Rattle.sgb.proofs.writing.names.write_names.Goals as goal
 
-pub returns-in_err-skip : goal.returns-in_err-skip
-returns-in_err-skip g c =
+pub returns-in_err-vectors : goal.returns-in_err-vectors
+returns-in_err-vectors g c =
     let p = err_from_is_err_and c.from_residual.result c.from_residual.ensures.1 in
     let names = map name_of_vector (g.F.Family.members c.args.family.now) in
-    rw (p.1, p.2) (refused_after _ (left_out names c.args.resume.now) (name_lines names) _ _ _ c.in_err-skip.ensures c.requires)
+    rw (p.1, p.2) (refused_after _ (left_out names c.args.resume.now) (name_lines names) _ _ _ (inl (sym c.in_err-vectors.ensures)) c.requires)
 
 pub returns : goal.returns
 returns g c =
-    let names = map name_of_vector (g.F.Family.members c.args.family.now) in
-    elim c.in_ok-skip.ensures [
-      | inl known ↦ ended_after (left_out names c.args.resume.now) c.in_ok-skip.skip (name_lines names) _ _ known c.write_names_after.ensures
-      | inr memory ↦ cc
-    ]
+    let members = g.F.Family.members c.args.family.now in
+    let names = map name_of_vector members in
+    let left = c.in_ok-vectors.ensures in
+    ended_after (left_out names c.args.resume.now) left.0 (name_lines names) _ _ (sym left.1)
+    (rw (lines_of_rest members c.in_ok-vectors.vectors left.0 left.2) c.write_all.ensures)

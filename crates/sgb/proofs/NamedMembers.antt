@@ -1,0 +1,126 @@
+-- The members of a family by their names: no two have the same one.
+use Rattle.std.proofs.Common.{◌≡◌, ◌≢◌, ◌∙◌, ℕ, suc, ◌+◌, ◌<◌, ◌≤◌, Bool, true, false, nat_eq, List, [], ◌∷◌, ◌++◌, length, drop, get_or, map, Option, Some, None, option_map, refl, sym, ap, subst, inl, inr, arith}
+use Rattle.std.specs.List.{Contains, flat_map, slice_get}
+use Rattle.std.specs.Option.{IfSome, IfNone}
+use Rattle.std.specs.Cmp.Lexicographic.{pointwise, bytes_decides}
+use Rattle.std.proofs.lemmas.Bool.{cases_Bool}
+use Rattle.std.proofs.lemmas.List.{drop_all, drop_more, drop-map, length-drop, get_or-map, get_or_at, get_or_default, length-map, length-append}
+use Rattle.std.proofs.lemmas.Option.{slice_get-map, slice_get_within, slice_get_read, get_or_from_slice_get}
+use Rattle.sgb_vec.specs.Lexicographic.{IsBefore, IsRising}
+use Rattle.sgb_vec.specs.Ranges.{ComeAfter}
+use Rattle.sgb_vec.specs.Names.{name_of_vector}
+use Rattle.sgb_vec.specs.NamedVectors.{IsVector, vector_of}
+use Rattle.sgb_vec.proofs.NameReading.{vector_of-name}
+use Rattle.sgb_vec.proofs.RisingLists.{place-once}
+use Rattle.sgb_vec.proofs.SumSuccessors.{IsBefore-asymmetric}
+use Rattle.sgb.specs.Outcomes.{vertex_named}
+use Rattle.sgb.specs.Texts.{name_line, name_lines}
+use Rattle.sgb.specs.Remaining.{IsNameAfter}
+use Rattle.sgb.proofs.Named.{NoneBefore, has_name, named_here, named_nowhere}
+
+-- vectors of the same name are the same
+one_name : (x y : List ℕ) → IsVector x → IsVector y → name_of_vector x ≡ name_of_vector y → x ≡ y
+one_name x y is also same =
+    let both : ◌≡◌ {A = Option (List ℕ)} (Some x) (Some y) = sym (vector_of-name x is) ∙ (ap vector_of same ∙ vector_of-name y also) in
+    cc
+
+-- nothing is left after the first place where nothing is left
+pub none_left : (members : List (List ℕ)) (place count : ℕ) → drop place members ≡ [] → place ≤ count → drop count members ≡ []
+none_left members place count none more =
+    drop_all count members (omega (arith, ap length none, length-drop place members))
+
+-- after the first of those that are left
+pub rest_left : (members rest : List (List ℕ)) (v : List ℕ) (place : ℕ) → drop place members ≡ v ∷ rest → rest ≡ drop (place + 1) members
+rest_left members rest v place some =
+    let within : place < length members = omega (arith, ap length some, length-drop place members) in
+    let split : v ∷ rest ≡ get_or members place v ∷ drop (place + 1) members = sym some ∙ drop_more members place v within in
+    ap (drop 1) split
+
+-- the lines of the names from a place on are those of the vectors from there on
+pub lines_of_rest : (members rest : List (List ℕ)) (k : ℕ) → rest ≡ drop k members → name_lines (map name_of_vector members) k ≡ flat_map name_line (map name_of_vector rest)
+unfolding name_lines
+lines_of_rest members rest k same = ap (flat_map name_line) (drop-map name_of_vector k members ∙ ap (map name_of_vector) (sym same))
+
+module _ (members : List (List ℕ)) (vectors : (v : List ℕ) → Contains members v → IsVector v) where
+  -- the name at a place
+  name_at : (k : ℕ) → k < length members → get_or (map name_of_vector members) k [] ≡ name_of_vector (get_or members k [])
+  name_at k within = get_or-map name_of_vector members k [] [] within
+
+  member_at : (k : ℕ) → k < length members → Contains members (get_or members k [])
+  member_at k within = (k, within, get_or_default members k (get_or members k []) [] within)
+
+  -- where no vector at all has the name, no member has it
+  pub no_vector_named : (name : List ℕ) → ((v : List ℕ) → IsVector v → name_of_vector v ≢ name) → vertex_named name (map name_of_vector members) ≡ None
+  no_vector_named name none = named_nowhere (map name_of_vector members) name (length (map name_of_vector members)) refl other
+    where
+      other : NoneBefore (map name_of_vector members) name (length (map name_of_vector members))
+      other k h = elim (cases_Bool (has_name name (get_or (map name_of_vector members) k []))) [
+        | inl same ↦
+            let within : k < length members = omega (arith, length-map members name_of_vector) in
+            let equal : get_or (map name_of_vector members) k [] ≡ name = (bytes_decides (get_or (map name_of_vector members) k []) name).0 same in
+            absurd (none (get_or members k []) (vectors (get_or members k []) (member_at k within)) (sym (name_at k within) ∙ equal))
+        | inr differs ↦ differs
+      ]
+
+  -- the name of a vector that is no member is that of no member
+  pub no_member_named : (x name : List ℕ) → IsVector x → name_of_vector x ≡ name → (Contains members x → ⊥) → vertex_named name (map name_of_vector members) ≡ None
+  no_member_named x name is named stranger = named_nowhere (map name_of_vector members) name (length (map name_of_vector members)) refl other
+    where
+      other : NoneBefore (map name_of_vector members) name (length (map name_of_vector members))
+      other k h = elim (cases_Bool (has_name name (get_or (map name_of_vector members) k []))) [
+        | inl same ↦
+            let within : k < length members = omega (arith, length-map members name_of_vector) in
+            let equal : get_or (map name_of_vector members) k [] ≡ name = (bytes_decides (get_or (map name_of_vector members) k []) name).0 same in
+            let y = get_or members k [] in
+            let there = member_at k within in
+            let alike : y ≡ x = one_name y x (vectors y there) is (sym (name_at k within) ∙ (equal ∙ sym named)) in
+            absurd (stranger (subst (Contains members) alike there))
+        | inr differs ↦ differs
+      ]
+
+  -- the name of a member is that of its place first, and what comes after it is the rest
+  pub member_named : IsRising members → (x name : List ℕ) → (before after : List (List ℕ)) → IsVector x → name_of_vector x ≡ name → members ≡ before ++ x ∷ after
+      → (vertex_named name (map name_of_vector members) ≡ Some (length before)) × (after ≡ drop (suc (length before)) members)
+  member_named rising x name before after is named whole =
+      (named_here (map name_of_vector members) name (name_of_vector x) i here own earlier, rest)
+    where
+      i : ℕ
+      i = length before
+
+      within : i < length members
+      within = omega (arith, ap length whole, length-append before (x ∷ after))
+
+      there : slice_get members i ≡ Some x
+      there = slice_get_read members (length members) i x refl within (sym (ap (λ ys. get_or ys i x) whole ∙ get_or_at before x after x i refl))
+
+      here : slice_get (map name_of_vector members) i ≡ Some (name_of_vector x)
+      here = slice_get-map name_of_vector members i ∙ ap (option_map name_of_vector) there
+
+      own : has_name name (name_of_vector x) ≡ true
+      own = (bytes_decides (name_of_vector x) name).1 named
+
+      earlier : NoneBefore (map name_of_vector members) name i
+      earlier k h = elim (cases_Bool (has_name name (get_or (map name_of_vector members) k []))) [
+        | inl same ↦
+            let inside : k < length members = omega (arith, within) in
+            let equal : get_or (map name_of_vector members) k [] ≡ name = (bytes_decides (get_or (map name_of_vector members) k []) name).0 same in
+            let y = get_or members k [] in
+            let alike : y ≡ x = one_name y x (vectors y (member_at k inside)) is (sym (name_at k inside) ∙ (equal ∙ sym named)) in
+            let at_k : slice_get members k ≡ Some x = slice_get_read members (length members) k x refl inside (sym alike ∙ get_or_default members k [] x inside) in
+            absurd (omega (arith, h, place-once IsBefore members x k i IsBefore-asymmetric rising at_k there))
+        | inr differs ↦ differs
+      ]
+
+      rest : after ≡ drop (suc i) members
+      rest = sym (ap (drop (suc i)) whole ∙ after_both before)
+        where
+          after_both : (ys : List (List ℕ)) → drop (suc (length ys)) (ys ++ x ∷ after) ≡ after
+          after_both [] = refl
+          after_both (y ∷ ys) = after_both ys
+
+  -- what comes after a member, or none of them, by its name
+  pub after_named : IsRising members → (x name : List ℕ) (r : Option (List (List ℕ))) → IsVector x → name_of_vector x ≡ name
+      → IfSome r (λ after. ComeAfter members x after) → IfNone r (Contains members x → ⊥) → IsNameAfter members name r
+  after_named rising x name (Some after) is named (before, whole) none =
+      let both = member_named rising x name before after is named whole in (length before, both.0, both.1)
+  after_named rising x name None is named some none = no_member_named x name is named none
