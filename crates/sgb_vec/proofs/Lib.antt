@@ -22,7 +22,6 @@ pub mod SumMembers
 pub mod SumRowLemmas
 pub mod SumSuccessors
 pub mod SumTails
-pub mod SumVisits
 pub mod SumWalks
 pub mod VectorNames
 pub mod VisitLemmas

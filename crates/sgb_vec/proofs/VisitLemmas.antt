@@ -20,7 +20,7 @@ changed-same : (x y : ℕ) (v w : List ℕ) → x ≡ y → changed_entries (x �
 changed-same x y v w e = let same : eqb x y ≡ true = eq-eqb x y e in rw same refl
 
 -- nothing differs between a vector and itself
-pub changed-none : (v : List ℕ) → changed_entries v v ≡ 0
+changed-none : (v : List ℕ) → changed_entries v v ≡ 0
 changed-none [] = refl
 changed-none (x ∷ v) = changed-same x x v v refl ∙ changed-none v
 
@@ -31,19 +31,19 @@ changed-length (x ∷ v) [] = omega arith
 changed-length (x ∷ v) (y ∷ w) = omega (arith, changed-more x y v w, changed-length v w)
 
 -- what agrees before place p differs at most from p on
-pub changed-from : (v w : List ℕ) (p : ℕ) → p ≤ length v → length w ≡ length v → ((k : ℕ) → k < p → get_or w k 0 ≡ get_or v k 0) → changed_entries v w + p ≤ length v
-changed-from v w zero h e same = omega (arith, changed-length v w)
-changed-from [] w (suc p) h e same = absurd (omega arith)
-changed-from (x ∷ v) [] (suc p) h e same = absurd (omega arith)
-changed-from (x ∷ v) (y ∷ w) (suc p) h e same =
+changed-from : (v w : List ℕ) (p : ℕ) → p ≤ length v → ((k : ℕ) → k < p → get_or w k 0 ≡ get_or v k 0) → changed_entries v w + p ≤ length v
+changed-from v w zero h same = omega (arith, changed-length v w)
+changed-from [] w (suc p) h same = absurd (omega arith)
+changed-from (x ∷ v) [] (suc p) h same = omega arith
+changed-from (x ∷ v) (y ∷ w) (suc p) h same =
     let here : y ≡ x = same 0 (omega arith) in
-    let rest = changed-from v w p (omega arith) (omega arith) (λ k m. same (suc k) (omega arith)) in
+    let rest = changed-from v w p (omega arith) (λ k m. same (suc k) (omega arith)) in
     omega (arith, changed-same x y v w (omega arith), rest)
 
 -- a walk that looks from the end back to place p, and then writes what stands after it, has visited enough and not too much
-pub HasVisited-from : (v w : List ℕ) (p entries before middle after : ℕ) → length v ≡ entries → p < length v → length w ≡ length v → ((k : ℕ) → k < p → get_or w k 0 ≡ get_or v k 0) → middle + p ≡ before + length v → after ≡ middle + (length v - (p + 1)) → HasVisited entries (changed_entries v w) before after
-HasVisited-from v w p entries before middle after e h long same looked written =
-    let few = changed-from v w p (omega arith) long same in
+pub HasVisited-from : (v w : List ℕ) (p entries before middle after : ℕ) → length v ≡ entries → p < length v → ((k : ℕ) → k < p → get_or w k 0 ≡ get_or v k 0) → middle + p ≡ before + length v → after ≡ middle + (length v - (p + 1)) → HasVisited entries (changed_entries v w) before after
+HasVisited-from v w p entries before middle after e h same looked written =
+    let few = changed-from v w p (omega arith) same in
     (omega (arith, few), omega arith)
 
 -- and so has one that looks at all entries and changes none

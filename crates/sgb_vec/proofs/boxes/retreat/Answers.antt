@@ -46,4 +46,4 @@ pub returns-clause-visits : goal.returns-clause-visits
 returns-clause-visits c =
     let below = IsBelow-from_Contains c.args.sizes.now c.args.entries.now c.requires.member in
     let here = c.in-Some.ensures.above in
-    HasVisited-from c.args.entries.now _ c.in-Some.place _ _ c.last_above_zero.new.steps _ (IsBelow-length _ _ below) here.0 (search (rules, places)) (λ k m. search (rules, places)) c.in-Some.ensures.visits (search rules)
+    HasVisited-from c.args.entries.now _ c.in-Some.place _ _ c.last_above_zero.new.steps _ (IsBelow-length _ _ below) here.0 (λ k m. search (rules, places)) c.in-Some.ensures.visits (search rules)

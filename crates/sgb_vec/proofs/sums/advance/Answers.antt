@@ -1,8 +1,8 @@
-use Rattle.std.proofs.Common.{◌≡◌, ◌+◌, ◌-◌, ◌<◌, length, drop, arith}
-use Rattle.std.proofs.lemmas.List.{take_rest, length-drop, length-set}
+use Rattle.std.proofs.Common.{◌≡◌, ◌+◌, ◌-◌, ◌<◌, length, drop, rules, arith}
+use Rattle.std.proofs.lemmas.List.{take_rest, length-drop, length-set, places}
 use Rattle.sgb_vec.proofs.SumSuccessors.{sum-within}
 use Rattle.sgb_vec.proofs.SumTails.{IsWithin-drop, put_mid-tail, IsNext-step}
-use Rattle.sgb_vec.proofs.SumVisits.{changed-none, visits-step}
+use Rattle.sgb_vec.proofs.VisitLemmas.{HasVisited-from, HasVisited-all}
 use Rattle.sgb_vec.proofs.SumMembers.{IsWithin-length}
 use Rattle.sgb_vec.proofs.sums.advance.Goals as goal
 
@@ -15,7 +15,7 @@ put_least-requires-clause-room c =
 pub returns-in_default-clause-visits : goal.returns-in_default-clause-visits
 returns-in_default-clause-visits c =
     let same_length = IsWithin-length c.args.bounds.now c.args.entries.now c.requires.within in
-    (omega (arith, changed-none c.args.entries.now, c.in_default.ensures.all_visited), omega (arith, c.in_default.ensures.all_visited))
+    HasVisited-all c.args.entries.now _ _ _ same_length c.in_default.ensures.all_visited
 
 pub put_least-requires-clause-same_length : goal.put_least-requires-clause-same_length
 put_least-requires-clause-same_length c =
@@ -29,7 +29,7 @@ returns-clause-visits c =
     let here : p < length v = c.in-Some.ensures.below.0 in
     let same_length : length v ≡ length c.args.bounds.now = IsWithin-length c.args.bounds.now v c.requires.within in
     let walk = simp length-set at (rw (take_rest, length-drop) at c.put_least.ensures.visits) in
-    rw put_mid-tail (visits-step v c.put_least.new.entries p _ _ _ c.last_growing.new.steps _ here same_length c.in-Some.ensures.visits (omega (arith, walk)))
+    HasVisited-from v _ p _ _ c.last_growing.new.steps _ same_length here (λ k m. search (rules, places)) c.in-Some.ensures.visits (omega (arith, walk))
 
 pub returns-clause-found : goal.returns-clause-found
 returns-clause-found c =

@@ -1,9 +1,9 @@
-use Rattle.std.proofs.Common.{◌≡◌, ◌+◌, ◌<◌, length, arith}
-use Rattle.std.proofs.lemmas.List.{take_rest, length-drop, length-set}
+use Rattle.std.proofs.Common.{◌≡◌, ◌+◌, ◌<◌, length, rules, arith}
+use Rattle.std.proofs.lemmas.List.{take_rest, length-drop, length-set, places}
 use Rattle.std.proofs.lemmas.List.Sums.{sum_by-take-drop}
 use Rattle.sgb_vec.proofs.SumWalks.{HasNoneBefore-first}
 use Rattle.sgb_vec.proofs.SumTails.{put_mid-tail, IsPrevious-step}
-use Rattle.sgb_vec.proofs.SumVisits.{changed-none, visits-step}
+use Rattle.sgb_vec.proofs.VisitLemmas.{HasVisited-from, HasVisited-all}
 use Rattle.sgb_vec.proofs.SumMembers.{IsWithin-length}
 use Rattle.sgb_vec.proofs.sums.retreat.Goals as goal
 
@@ -17,7 +17,7 @@ put_greatest-requires-clause-room c = rw take_rest (omega (arith, c.in-Some.ensu
 pub returns-in_default-clause-visits : goal.returns-in_default-clause-visits
 returns-in_default-clause-visits c =
     let same_length = IsWithin-length c.args.bounds.now c.args.entries.now c.requires.within in
-    (omega (arith, changed-none c.args.entries.now, c.in_default.ensures.all_visited), omega (arith, c.in_default.ensures.all_visited))
+    HasVisited-all c.args.entries.now _ _ _ same_length c.in_default.ensures.all_visited
 
 pub put_greatest-requires-clause-same_length : goal.put_greatest-requires-clause-same_length
 put_greatest-requires-clause-same_length c =
@@ -31,7 +31,7 @@ returns-clause-visits c =
     let here : p < length v = c.in-Some.ensures.above.0 in
     let same_length : length v ≡ length c.args.bounds.now = IsWithin-length c.args.bounds.now v c.requires.within in
     let walk = simp length-set at (rw (take_rest, length-drop) at c.put_greatest.ensures.visits) in
-    rw put_mid-tail (visits-step v c.put_greatest.new.entries p _ _ _ c.last_falling.new.steps _ here same_length c.in-Some.ensures.visits (omega (arith, walk)))
+    HasVisited-from v _ p _ _ c.last_falling.new.steps _ same_length here (λ k m. search (rules, places)) c.in-Some.ensures.visits (omega (arith, walk))
 
 pub returns-clause-found : goal.returns-clause-found
 returns-clause-found c =
