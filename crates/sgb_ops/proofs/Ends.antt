@@ -1,5 +1,5 @@
 -- What it means that two events have the same ends.
-use Rattle.std.proofs.Common.{◌≡◌, ◌⊎◌, ◌==◌, ◌&&◌, ◌||◌, ℕ, min, max, Bool, true, false, refl, sym, ◌∙◌, inl, inr, arith}
+use Rattle.std.proofs.Common.{◌≡◌, ◌⊎◌, ◌==◌, ◌&&◌, ◌||◌, ◌+◌, ℕ, min, max, Bool, true, false, refl, sym, ◌∙◌, inl, inr, arith}
 use Rattle.std.proofs.lemmas.Bool.{and_parts, and_from, or_cases, or_right, eqb-true, eq-eqb, cases_eq}
 use Rattle.sgb_graph.specs.Events.{Event}
 use Rattle.sgb_ops.specs.Ends.{ends_key}
@@ -102,3 +102,11 @@ key_tells false e f =
     by_way : SameWay e f ⊎ OtherWay false e f → (min f.from f.to ≡ min e.from e.to) × (max f.from f.to ≡ max e.from e.to)
     by_way (inl w) = keys_of_ways e f (inl (w.from, w.to))
     by_way (inr w) = keys_of_ways e f (inr (w.from, w.to))
+
+-- and so are the sums of their ends
+pub same_sums : (directed : Bool) (e f : Event) → has_ends_of directed e f ≡ true → e.from + e.to ≡ f.from + f.to
+same_sums directed e f h = by_way (ends directed e f h)
+  where
+    by_way : SameWay e f ⊎ OtherWay directed e f → e.from + e.to ≡ f.from + f.to
+    by_way (inl w) = omega (arith, w.from, w.to)
+    by_way (inr w) = omega (arith, w.from, w.to)

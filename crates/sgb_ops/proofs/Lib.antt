@@ -4,6 +4,7 @@ pub mod Ends
 pub mod Merging
 pub mod MergeSteps
 pub mod MergedParts
+pub mod Apart
 pub mod EntryTotals
 pub mod EventsWithin
 pub mod WantedEvents

@@ -12,14 +12,14 @@ abbrev pub AreApart : Bool → List Event → List Event → Type 0
 AreApart directed xs ys = All (λ e. All (apart directed e) ys) xs
 
 -- none has the ends of e
-none_like : (directed : Bool) (e : Event) (ys : List Event) → All (apart directed e) ys → filter (has_ends_of directed e) ys ≡ []
+pub none_like : (directed : Bool) (e : Event) (ys : List Event) → All (apart directed e) ys → filter (has_ends_of directed e) ys ≡ []
 none_like directed e [] all = refl
 none_like directed e (f ∷ ys) all =
     let first = All-head (apart directed e) f ys all in
     rw (first, none_like directed e ys (All-tail (apart directed e) f ys all)) refl
 
 -- so all stay
-all_stay : (directed : Bool) (e : Event) (ys : List Event) → All (apart directed e) ys → filter (λ f. not (has_ends_of directed e f)) ys ≡ ys
+pub all_stay : (directed : Bool) (e : Event) (ys : List Event) → All (apart directed e) ys → filter (λ f. not (has_ends_of directed e f)) ys ≡ ys
 all_stay directed e [] all = refl
 all_stay directed e (f ∷ ys) all =
     let first = All-head (apart directed e) f ys all in

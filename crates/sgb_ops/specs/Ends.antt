@@ -1,5 +1,5 @@
 -- The ends of events, and events that are merged one by one [GB_BASIC, gunion].
-use Rattle.std.specs.Prelude.{ℕ, min, max, All, Bool, true, false, List, [], ◌∷◌, if◌then◌else◌}
+use Rattle.std.specs.Prelude.{◌+◌, ◌%◌, ℕ, min, max, All, Bool, true, false, List, [], ◌∷◌, if◌then◌else◌}
 use Rattle.sgb_graph.specs.Events.{Event, IsWithin}
 use Rattle.sgb_graph.specs.declared.fields.Link.{Link}
 use Rattle.sgb_ops.specs.Lengths.{lesser}
@@ -17,6 +17,10 @@ AllWithin n events = All (IsWithin n) events
 abbrev pub ends_key : Bool → Event → ℕ × ℕ
 ends_key true e = (e.from, e.to)
 ends_key false e = (min e.from e.to, max e.from e.to)
+
+-- the place of the bit of an event in a table of 16384 bits: made of the sum of the ends, and so the same for both orders
+abbrev pub bit_place : Event → ℕ
+bit_place e = (e.from + e.to) % 16384
 
 -- an event with the lesser of its length and that of another
 abbrev pub shortened : Event → Event → Event

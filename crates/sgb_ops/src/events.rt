@@ -4,7 +4,7 @@ ghost use Rattle.sgb_vec.specs.Limits.{most_vertices};
 ghost use Rattle.sgb_graph.specs.Descriptions.{IsGraphOf};
 ghost use Rattle.sgb_graph.specs.Growth.{AddsEvents, HasPlainArcs};
 ghost use Rattle.sgb_graph.specs.Made.{plain};
-ghost use Rattle.sgb_ops.specs.Ends.{AllWithin, ends_key, shortened};
+ghost use Rattle.sgb_ops.specs.Ends.{AllWithin, bit_place, ends_key, shortened};
 
 use sgb_graph::{Graph, Id, Names};
 use sgb_vec::Panic;
@@ -47,6 +47,21 @@ impl Event {
         } else {
             (self.from.min(self.to), self.from.max(self.to))
         }
+    }
+
+    /// The place of its bit in a table of 16384 bits. Events with the same ends have the same place, for arcs and edges.
+    pub(crate) fn bit_place(self) -> usize
+        ensures { result ≡ bit_place self }
+    {
+        (self.from as usize + self.to as usize) % 16384
+    }
+
+    /// Its two ends, as it names them, and its length.
+    #[cfg(test)]
+    pub(crate) fn parts(self) -> (u32, u32, i64)
+        ensures { result ≡ (self.from, self.to, self.len) }
+    {
+        (self.from, self.to, self.len)
     }
 
     /// Whether it joins a vertex to itself.

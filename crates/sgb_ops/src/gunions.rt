@@ -63,19 +63,22 @@ fn add_union_events(
     ensures ok { OnOk result (AddsEvents directed built.old built.new (merged_unless multi directed (union_events first.now second.now directed))) }
     ensures memory { IsOkUnless result Panic.NoRoom }
 {
+    // The events of each vertex take the memory of those of the vertex before.
+    let mut room = Vec::new(alloc);
     for v in 0..first.n() {
         first.read_ahead(v);
         second.read_ahead(v);
-        let all = events_from(alloc, first, second, directed, v)?;
+        let all = events_from(room, first, second, directed, v)?;
         let events = merged_unless(alloc, multi, directed, all)?;
         add_events(built, directed, &events)?;
+        room = events;
     }
     Ok(())
 }
 
-// The events of vertex `v`, with parallel ones.
+// The events of vertex `v`, with parallel ones. They take the memory of those in `events`.
 fn events_from(
-    alloc: Global,
+    mut events: Vec<Event>,
     first: &Graph,
     second: &Graph,
     directed: bool,
@@ -85,7 +88,7 @@ fn events_from(
     ensures ok { IfOk result (λ events. events.items ≡ map (event_of v) (union_arcs first.now second.now directed v)) }
     ensures memory { IsOkUnless result Panic.NoRoom }
 {
-    let mut events = Vec::new(alloc);
+    events.clear();
     push_taken(&mut events, first, directed, v, first.n())?;
     if v >= second.n() {
         return Ok(events);

@@ -1,7 +1,8 @@
 //! Events with the same two ends made into one (GB_BASIC, gunion).
 ghost use Rattle.std.specs.Prelude.{◌≡◌, map, OnOk, IfOk, IsOkUnless};
+ghost use Rattle.std.specs.Bool.{OnTrue};
 ghost use Rattle.sgb_ops.specs.Ends.{ends_key, with_event};
-ghost use Rattle.sgb_ops.specs.Merged.{merged, merged_unless};
+ghost use Rattle.sgb_ops.specs.Merged.{HaveDifferentEnds, merged, merged_unless};
 
 use crate::events::Event;
 use indexmap::IndexSet;
@@ -21,10 +22,30 @@ pub(crate) fn merged_unless(
     ensures ok { IfOk result (λ left. left.items ≡ merged_unless multi directed events.items) }
     ensures memory { IsOkUnless result Panic.NoRoom }
 {
-    if multi {
+    if multi || are_apart(&events) {
         return Ok(events);
     }
     merged(alloc, directed, &events)
+}
+
+// Whether no two of the events have the same ends, as far as a table of bits tells. The answer is also `false` where two
+// events with different ends share a bit. It needs no hashing.
+fn are_apart(events: &[Event]) -> bool
+    ensures { OnTrue result (HaveDifferentEnds events.now) }
+{
+    // The bits at the places of the events so far.
+    let mut seen = [0_u64; 256];
+    for event in events {
+        let place = event.bit_place();
+        let word = place / 64;
+        let bit = place % 64;
+        let known = (seen[word] >> bit) & 1;
+        if known == 1 {
+            return false;
+        }
+        seen[word] |= 1 << bit;
+    }
+    true
 }
 
 // Of the events with the same two ends one, at the first one's place, with the least length.
@@ -61,3 +82,6 @@ fn merge_event(
     left[place] = left[place].shortened(event);
     Ok(())
 }
+
+#[cfg(test)]
+mod tests;
