@@ -10,8 +10,8 @@ ghost use Rattle.sgb_vec.specs.Visits.{HasVisited, changed_entries};
 use crate::families::{Family, Vector};
 use crate::limits::MOST_VERTICES;
 use crate::panics::Panic;
-use crate::steps::Steps;
 use crate::shared::{count_of, put_zeros};
+use crate::steps::Steps;
 use arrayvec::ArrayVec;
 use std::marker::Model;
 

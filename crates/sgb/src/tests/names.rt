@@ -51,14 +51,79 @@ fn names_of_vertices(rt: HostRuntime) -> Result<(), Fail> {
     answers_are(&rt, rt.alloc(), &NAMES)
 }
 
-static MANY_NAMES: [Parts; 1] = [Parts {
-    words: &["names", "board(2,3,5,-7,1,0,0)"],
-    start: "0.0.0.0.0.0.0\n0.0.0.0.0.0.1\n0.0.0.0.0.1.0\n",
-    end: "\n1.2.4.1.2.4.1\n",
-    lines: 1800,
-}];
+static MANY_NAMES: [Parts; 2] = [
+    Parts {
+        words: &["names", "board(2,3,5,-7,1,0,0)"],
+        start: "0.0.0.0.0.0.0\n0.0.0.0.0.0.1\n0.0.0.0.0.1.0\n",
+        end: "\n1.2.4.1.2.4.1\n",
+        lines: 1800,
+    },
+    Parts {
+        words: &["names", "simplex(2,-60,0,0,0,0,0)"],
+        start: "0.0.0.0.0.0.0.0.0.0.0.0.0.0.0.0.0.0.0.0.0.0.0.0.0.0.0.0.0.0.0.0.0.0.0.0.0.0.0.0.0.0.0.0.0.0.0.0.0.0.0.0.0.0.0.0.0.0.0.0.2\n",
+        end: "\n2.0.0.0.0.0.0.0.0.0.0.0.0.0.0.0.0.0.0.0.0.0.0.0.0.0.0.0.0.0.0.0.0.0.0.0.0.0.0.0.0.0.0.0.0.0.0.0.0.0.0.0.0.0.0.0.0.0.0.0.0\n",
+        lines: 1891,
+    },
+];
 
 #[test]
-fn eighteen_hundred_names(rt: HostRuntime) -> Result<(), Fail> {
+fn many_names(rt: HostRuntime) -> Result<(), Fail> {
     answers_have(&rt, rt.alloc(), &MANY_NAMES)
+}
+
+static LAST_OF_MANY: [(&[&str], &str); 2] = [
+    (
+        &[
+            "names",
+            "simplex(2,-60,0,0,0,0,0)",
+            "--after",
+            "2.0.0.0.0.0.0.0.0.0.0.0.0.0.0.0.0.0.0.0.0.0.0.0.0.0.0.0.0.0.0.0.0.0.0.0.0.0.0.0.0.0.0.0.0.0.0.0.0.0.0.0.0.0.0.0.0.0.0.0.0",
+        ],
+        "",
+    ),
+    (
+        &["names", "simplex(2,-60,0,0,0,0,0)", "--skip", "1890"],
+        "2.0.0.0.0.0.0.0.0.0.0.0.0.0.0.0.0.0.0.0.0.0.0.0.0.0.0.0.0.0.0.0.0.0.0.0.0.0.0.0.0.0.0.0.0.0.0.0.0.0.0.0.0.0.0.0.0.0.0.0.0\n",
+    ),
+];
+
+#[test]
+fn the_last_of_many(rt: HostRuntime) -> Result<(), Fail> {
+    answers_are(&rt, rt.alloc(), &LAST_OF_MANY)
+}
+
+// The vectors after a name are found without those before it, of which there may be a billion.
+static AFTER_MANY: [(&[&str], &str); 3] = [
+    (
+        &[
+            "names",
+            "board(1000000000,0,0,0,1,0,0)",
+            "--after",
+            "999999997",
+        ],
+        "999999998\n999999999\n",
+    ),
+    (
+        &[
+            "names",
+            "board(1000,1000,1000,0,1,0,0)",
+            "--after",
+            "999.999.998",
+        ],
+        "999.999.999\n",
+    ),
+    (
+        &[
+            "names",
+            "simplex(44719,0,0,0,0,0,0)",
+            "--after",
+            "44718.1.0",
+        ],
+        "44719.0.0\n",
+    ),
+];
+
+#[test]
+fn names_after_many(rt: HostRuntime) -> Result<(), Fail> {
+    answers_are(&rt, rt.alloc(), &AFTER_MANY)
 }

@@ -16,13 +16,38 @@ use std::test::Fail;
 const SMALL: &str = "board(2,0,0,0,1,0,0)";
 
 // Words that are refused or make a request that is, with the line and the status.
-static REFUSED: [(&[&str], &str, u8); 44] = [
+static REFUSED: [(&[&str], &str, u8); 49] = [
     (&["names", "board(2,-92,0,0,1,0,0)"], CODE_30, 1),
     (&["names", "board(2,-30,0,0,1,0,0)"], CODE_40, 1),
     (&["names", "board(2,0,0,0,2147483648,0,0)"], CODE_40, 1),
     (&["names", "board(65536,65536,0,0,1,0,0)"], CODE_40, 1),
     (
         &["names", "board(2,3,0,0,1,0,0)", "--after", "01.1"],
+        NO_VERTEX,
+        1,
+    ),
+    (
+        &["names", "board(2,3,0,0,1,0,0)", "--after", "0.3"],
+        NO_VERTEX,
+        1,
+    ),
+    (
+        &["names", "board(2,3,0,0,1,0,0)", "--after", "1"],
+        NO_VERTEX,
+        1,
+    ),
+    (
+        &["names", "board(2,3,0,0,1,0,0)", "--after", "0.0.0"],
+        NO_VERTEX,
+        1,
+    ),
+    (
+        &["names", "board(2,3,0,0,1,0,0)", "--after", "0.0."],
+        NO_VERTEX,
+        1,
+    ),
+    (
+        &["names", "board(2,3,0,0,1,0,0)", "--after", "4294967296.0"],
         NO_VERTEX,
         1,
     ),
