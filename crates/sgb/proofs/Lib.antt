@@ -6,7 +6,6 @@ pub mod EntryValues
 pub mod ExamplesFlips
 pub mod InputEndings
 pub mod KeptInput
-pub mod Lines
 pub mod Listings
 pub mod Named
 pub mod NamedMembers
