@@ -7,4 +7,4 @@ most_piece = 2_147_483_647
 
 -- the bits of size_bits
 abbrev pub size_bits_width : ℕ
-size_bits_width = 64
+size_bits_width = 128

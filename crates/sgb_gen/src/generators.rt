@@ -14,7 +14,7 @@ use std::alloc::Global;
 /// names and in the utility fields x, y, z; an arc, or an edge, for each move of the piece, whose length is the
 /// number of steps.
 ///
-/// `Bad` above 91 dimensions; else `VeryBad` above 1,000,000,000 vertices, or where `piece` is above
+/// `Bad` above 250 dimensions; else `VeryBad` above 1,000,000,000 vertices, or where `piece` is above
 /// 2,147,483,647 or below its negative. `NoRoom` when out of memory.
 pub fn board(
     alloc: Global,
@@ -44,7 +44,7 @@ pub fn board(
 /// their coordinates as names and in the utility fields x, y, z; an arc, or an edge, of length 1 to each vertex
 /// from each one that it becomes when a unit of a coordinate goes to a later one.
 ///
-/// `Bad` where `n` is negative, else above 91 dimensions; else `VeryBad` where `n` is above 1,000,000,000, or where
+/// `Bad` where `n` is negative, else above 250 dimensions; else `VeryBad` where `n` is above 1,000,000,000, or where
 /// for some j from 1 to the last dimension and some k up to `n` more than 1,000,000,000 vectors within the first
 /// j+1 bounds add to k. `NoRoom` when out of memory.
 pub fn simplex(
@@ -76,7 +76,7 @@ pub fn simplex(
 /// length 1, or an edge, from each vertex to each that is not before it, itself too, where bit c of `size_bits` is 1
 /// and c is how many elements the two have in common.
 ///
-/// `Bad` where `n` is negative, else above 91 dimensions; else `VeryBad` where `n` is above 1,000,000,000, or where
+/// `Bad` where `n` is negative, else above 250 dimensions; else `VeryBad` where `n` is above 1,000,000,000, or where
 /// for some j from 1 to the last dimension and some k up to `n` more than 1,000,000,000 vectors within the first
 /// j+1 bounds add to k. `NoRoom` when out of memory.
 pub fn subsets(
@@ -87,7 +87,7 @@ pub fn subsets(
     n2: i64,
     n3: i64,
     n4: i64,
-    size_bits: u64,
+    size_bits: u128,
     directed: bool,
 ) -> Result<Graph, Panic>
     ensures { IsAnswerOf (subsets (record { n = n; n0 = n0; n1 = n1; n2 = n2; n3 = n3; n4 = n4; size_bits = size_bits; directed = directed })) result }
@@ -108,7 +108,7 @@ pub fn subsets(
 impl BoardParams {
     /// The graph of the board of these parameters, as `board` returns it (GB_BASIC, board).
     ///
-    /// `Bad` above 91 dimensions; else `VeryBad` above 1,000,000,000 vertices, or where `piece` is above
+    /// `Bad` above 250 dimensions; else `VeryBad` above 1,000,000,000 vertices, or where `piece` is above
     /// 2,147,483,647 or below its negative. `NoRoom` when out of memory.
     pub fn graph(&self, alloc: Global) -> Result<Graph, Panic>
         ensures { IsAnswerOf (board self.now) result }
@@ -120,7 +120,7 @@ impl BoardParams {
 impl SimplexParams {
     /// The graph of the simplex of these parameters, as `simplex` returns it (GB_BASIC, simplex).
     ///
-    /// `Bad` where `n` is negative, else above 91 dimensions; else `VeryBad` where `n` is above 1,000,000,000, or
+    /// `Bad` where `n` is negative, else above 250 dimensions; else `VeryBad` where `n` is above 1,000,000,000, or
     /// where for some j from 1 to the last dimension and some k up to `n` more than 1,000,000,000 vectors within the
     /// first j+1 bounds add to k. `NoRoom` when out of memory.
     pub fn graph(&self, alloc: Global) -> Result<Graph, Panic>
@@ -133,7 +133,7 @@ impl SimplexParams {
 impl SubsetsParams {
     /// The graph of the subsets of these parameters, as `subsets` returns it (GB_BASIC, subsets).
     ///
-    /// `Bad` where `n` is negative, else above 91 dimensions; else `VeryBad` where `n` is above 1,000,000,000, or
+    /// `Bad` where `n` is negative, else above 250 dimensions; else `VeryBad` where `n` is above 1,000,000,000, or
     /// where for some j from 1 to the last dimension and some k up to `n` more than 1,000,000,000 vectors within the
     /// first j+1 bounds add to k. `NoRoom` when out of memory.
     pub fn graph(&self, alloc: Global) -> Result<Graph, Panic>

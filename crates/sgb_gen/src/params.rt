@@ -38,6 +38,6 @@ pub struct SubsetsParams {
     pub n2: i64,
     pub n3: i64,
     pub n4: i64,
-    pub size_bits: u64,
+    pub size_bits: u128,
     pub directed: bool,
 }

@@ -20,40 +20,40 @@ onto-more k j n acc e h = ap (λ m. digits_onto m 16 false n acc) e ∙ onto-eit
 
 -- the digits of the number stand in the text from this place on, but for those of the rest of it
 pub record HasDigitsFrom (number rest start : ℕ) (text : List ℕ) : Type 0 where
-  pub size : length text ≡ 16
-  pub some : start < 16 → 0 < rest
+  pub size : length text ≡ 32
+  pub some : start < 32 → 0 < rest
   pub small : rest < 16 ^ start
-  pub whole : digits_onto (48 + start) 16 false rest (drop start text) ≡ digits 16 false number
+  pub whole : digits_onto (32 + start) 16 false rest (drop start text) ≡ digits 16 false number
 
 -- at first those of the whole number are left
-pub digits-none : (number : ℕ) (text : List ℕ) → number < 2 ^ 64 → length text ≡ 16 → HasDigitsFrom number number 16 text
+pub digits-none : (number : ℕ) (text : List ℕ) → number < 2 ^ 128 → length text ≡ 32 → HasDigitsFrom number number 32 text
 unfolding digits
 digits-none number text h e = record {
   size = e;
   some = λ l. absurd (omega arith);
   small = h;
-  whole = ap (λ acc. digits_onto 64 16 false number acc) (drop_all 16 text (omega arith));
+  whole = ap (λ acc. digits_onto 64 16 false number acc) (drop_all 32 text (omega arith));
 }
 
 -- one digit more is put
-pub digits-more : (number rest start place : ℕ) (text : List ℕ) → HasDigitsFrom number rest start text → start ≡ place + 1 → place < 16 → 0 < rest / 16 → HasDigitsFrom number (rest / 16) place (set text place (digit_glyph false (rest % 16)))
+pub digits-more : (number rest start place : ℕ) (text : List ℕ) → HasDigitsFrom number rest start text → start ≡ place + 1 → place < 32 → 0 < rest / 16 → HasDigitsFrom number (rest / 16) place (set text place (digit_glyph false (rest % 16)))
 digits-more number rest start place text h e l some =
     let power : 16 ^ start ≡ 16 ^ place * 16 = ap (λ n. 16 ^ n) (omega arith) ∙ pow-suc 16 place in
     record {
       size = length-set text place (digit_glyph false (rest % 16)) ∙ h.size;
       some = λ below. some;
       small = omega (arith, h.small);
-      whole = ap (digits_onto (48 + place) 16 false (rest / 16)) (drop-set text place (digit_glyph false (rest % 16)) (omega (arith, h.size)) ∙ ap (λ n. digit_glyph false (rest % 16) ∷ drop n text) (sym e))
-          ∙ sym (onto-more (48 + start) (48 + place) rest (drop start text) (omega arith) some)
+      whole = ap (digits_onto (32 + place) 16 false (rest / 16)) (drop-set text place (digit_glyph false (rest % 16)) (omega (arith, h.size)) ∙ ap (λ n. digit_glyph false (rest % 16) ∷ drop n text) (sym e))
+          ∙ sym (onto-more (32 + start) (32 + place) rest (drop start text) (omega arith) some)
           ∙ h.whole;
     }
 
 -- the first digit is put
-pub digits-first : (number rest start place : ℕ) (text : List ℕ) → HasDigitsFrom number rest start text → start ≡ place + 1 → place < 16 → rest / 16 ≡ 0 → drop place (set text place (digit_glyph false (rest % 16))) ≡ digits 16 false number
+pub digits-first : (number rest start place : ℕ) (text : List ℕ) → HasDigitsFrom number rest start text → start ≡ place + 1 → place < 32 → rest / 16 ≡ 0 → drop place (set text place (digit_glyph false (rest % 16))) ≡ digits 16 false number
 digits-first number rest start place text h e l none =
     drop-set text place (digit_glyph false (rest % 16)) (omega (arith, h.size))
     ∙ ap (λ n. digit_glyph false (rest % 16) ∷ drop n text) (sym e)
-    ∙ sym (onto-last (48 + start) rest (drop start text) (omega arith) none)
+    ∙ sym (onto-last (32 + start) rest (drop start text) (omega arith) none)
     ∙ h.whole
 
 -- a digit may stand in an id

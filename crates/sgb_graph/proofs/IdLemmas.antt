@@ -1,17 +1,19 @@
 -- Texts and numbers that may stand in an id.
-use Rattle.std.proofs.Common.{◌≡◌, ℕ, ◌+◌, ◌^◌, ◌<◌, ◌≤◌, true, List, [], ◌∷◌, ◌++◌, length, decimal, ℤ, pos, negsuc, suc, arith}
+use Rattle.std.proofs.Common.{◌≡◌, ℕ, ◌+◌, ◌*◌, ◌^◌, ◌<◌, ◌≤◌, true, List, [], ◌∷◌, ◌++◌, length, decimal, ℤ, pos, negsuc, suc, arith}
 use Rattle.std.specs.Fmt.{signed_decimal}
 use Rattle.std.specs.List.{All}
 use Rattle.std.proofs.lemmas.Bool.{and_parts}
 use Rattle.std.proofs.lemmas.Bool.Decides.{nat_tests}
 use Rattle.std.proofs.lemmas.Fmt.{length_signed_le}
-use Rattle.std.proofs.lemmas.List.Elements.{All-nil, All-cons, All-append}
+use Rattle.std.proofs.lemmas.List.Elements.{All-nil, All-cons, All-head, All-tail, All-append}
 use Rattle.std.proofs.lemmas.List.{length-append}
 use lib.Signed.{mag}
 use Rattle.sgb_vec.specs.Names.{IsTextByte}
 use Rattle.sgb_vec.proofs.VectorNames.{decimal_is_text}
 use Rattle.sgb_graph.specs.Ids.{IsId}
-use Rattle.sgb_graph.specs.IdTexts.{is_id_byte, is_id_text}
+use Rattle.sgb_graph.specs.IdTexts.{is_id_byte, is_id_text, numbers_text}
+use Rattle.sgb_vec.specs.Limits.{most_vertices}
+use Rattle.std.specs.Prelude.{nat_abs}
 
 -- a byte that passes the test
 byte_passes : (b : ℕ) → is_id_byte b ≡ true → IsTextByte b
@@ -53,3 +55,16 @@ IsId-push_number bytes z id small room = record {
   short = omega (arith, length-append bytes (signed_decimal z), length-number z small);
   printable = All-append IsTextByte bytes (signed_decimal z) id.printable (number_passes z small);
 }
+
+-- a number of at most 1,000,000,000 takes at most 11 bytes
+length-small_number : (z : ℤ) → nat_abs z ≤ most_vertices → length (signed_decimal z) ≤ 11
+length-small_number (pos n) h = length_signed_le 10 (pos n) (omega arith) (omega (arith, h))
+length-small_number (negsuc n) h = length_signed_le 10 (negsuc n) (omega arith) (omega (arith, h))
+
+-- such numbers take at most 12 bytes each, with the comma after it
+pub length-small_numbers : (numbers : List ℤ) → All (λ z. nat_abs z ≤ most_vertices) numbers → length (numbers_text numbers) ≤ 12 * length numbers
+length-small_numbers [] h = omega arith
+length-small_numbers (z ∷ numbers) h =
+    let more = length-small_numbers numbers (All-tail (λ x. nat_abs x ≤ most_vertices) z numbers h) in
+    let first = length-small_number z (All-head (λ x. nat_abs x ≤ most_vertices) z numbers h) in
+    rw (length-append, length-append) (omega (arith, more, first))

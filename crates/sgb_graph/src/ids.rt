@@ -136,11 +136,11 @@ impl IdWriter {
         }
     }
 
-    /// Appends a number in hexadecimal, at most 18 bytes: `0x`, and its digits in lower case with no leading zeros.
-    pub fn push_hexadecimal(&mut self, number: u64)
-        requires { length self.old + 18 ≤ most_id_bytes }
+    /// Appends a number in hexadecimal, at most 34 bytes: `0x`, and its digits in lower case with no leading zeros.
+    pub fn push_hexadecimal(&mut self, number: u128)
+        requires { length self.old + 34 ≤ most_id_bytes }
         ensures bytes { self.new ≡ self.old ++ hexadecimal_text number }
-        ensures short { length self.new ≤ length self.old + 18 }
+        ensures short { length self.new ≤ length self.old + 34 }
     {
         let mut text = [b'0'; MOST_HEXADECIMAL_DIGITS];
         let start = put_hexadecimal_digits(&mut text, number);

@@ -49,10 +49,10 @@ pub vectors_of_2_by_0 : box (2 ∷ 0 ∷ []) ≡ []
 unfolding box
 vectors_of_2_by_0 = refl
 
--- board(2,-92,..) has too many dimensions, board(2,-30,..) too many vertices
-pub board_of_92_dimensions : board_of (pos 2) (negsuc 91) (pos 0) (pos 0) ≡ Err Bad
+-- board(2,-251,..) has too many dimensions, board(2,-30,..) too many vertices
+pub board_of_251_dimensions : board_of (pos 2) (negsuc 250) (pos 0) (pos 0) ≡ Err Bad
 unfolding repeated
-board_of_92_dimensions = refl
+board_of_251_dimensions = refl
 
 pub board_of_30_dimensions : and_then (board_of (pos 2) (negsuc 29) (pos 0) (pos 0)) (λ shape. box_of shape.sizes) ≡ Err VeryBad
 unfolding repeated
@@ -82,17 +82,17 @@ pub simplex_cut : simplex_of (pos 0) (pos 3) (pos 0) (pos 0) (pos 0) (pos 0)
     ≡ Ok (record { params = pos 0 ∷ pos 0 ∷ pos 0 ∷ pos 0 ∷ pos 0 ∷ pos 0 ∷ []; sizes = 0 ∷ [] })
 simplex_cut = refl
 
--- a negative n, more than 91 dimensions, n above 1,000,000,000
+-- a negative n, more than 250 dimensions, n above 1,000,000,000
 pub simplex_negative : simplex_of (negsuc 0) (pos 0) (pos 0) (pos 0) (pos 0) (pos 0) ≡ Err Bad
 simplex_negative = refl
 
-pub simplex_of_91_dimensions : sizes_count (simplex_of (pos 1) (negsuc 90) (pos 0) (pos 0) (pos 0) (pos 0)) ≡ 92
+pub simplex_of_250_dimensions : sizes_count (simplex_of (pos 1) (negsuc 249) (pos 0) (pos 0) (pos 0) (pos 0)) ≡ 251
 unfolding repeated
-simplex_of_91_dimensions = refl
+simplex_of_250_dimensions = refl
 
-pub simplex_of_92_dimensions : simplex_of (pos 1) (negsuc 91) (pos 0) (pos 0) (pos 0) (pos 0) ≡ Err Bad
+pub simplex_of_251_dimensions : simplex_of (pos 1) (negsuc 250) (pos 0) (pos 0) (pos 0) (pos 0) ≡ Err Bad
 unfolding repeated
-simplex_of_92_dimensions = refl
+simplex_of_251_dimensions = refl
 
 -- the entries after the stop become 0, and those before it that are above n become n
 pub simplex_name : simplex_of (pos 4) (pos 3) (pos 9) (negsuc 0) (pos 5) (negsuc 6)

@@ -18,7 +18,7 @@ within-at (b ∷ bounds) (x ∷ v) zero h within = h.0
 within-at (b ∷ bounds) (x ∷ v) (suc k) h within = within-at bounds v k h.1 (omega arith)
 
 -- those of a box
-pub box_members_are_vectors : (sizes v : List ℕ) → length sizes ≤ 92 → ((k : ℕ) → get_or sizes k 0 < 2 ^ 32) → Contains (box sizes) v → IsVector v
+pub box_members_are_vectors : (sizes v : List ℕ) → length sizes ≤ 251 → ((k : ℕ) → get_or sizes k 0 < 2 ^ 32) → Contains (box sizes) v → IsVector v
 box_members_are_vectors sizes v few small member =
     let below = IsBelow-from_Contains sizes v member in
     record {
@@ -27,7 +27,7 @@ box_members_are_vectors sizes v few small member =
     }
 
 -- those of a bounded sum
-pub sum_members_are_vectors : (n : ℕ) (bounds v : List ℕ) → length bounds ≤ 92 → ((k : ℕ) → get_or bounds k 0 < 2 ^ 32) → Contains (bounded_sums n bounds) v → IsVector v
+pub sum_members_are_vectors : (n : ℕ) (bounds v : List ℕ) → length bounds ≤ 251 → ((k : ℕ) → get_or bounds k 0 < 2 ^ 32) → Contains (bounded_sums n bounds) v → IsVector v
 sum_members_are_vectors n bounds v few small member =
     let both = Contains-bounded_sums n bounds v in
     let within = (both.0 member).0 in

@@ -124,7 +124,7 @@ part_is_decimal x text part k is same some within at =
     (omega (arith, small), sym (at ∙ (ap (λ ps. get_or ps k part) parts ∙ get_or-map decimal x k 0 part inside)))
 
 -- a name has no more parts than a vector has entries
-pub few_parts : (x text : List ℕ) → IsVector x → name_of_vector x ≡ text → 0 < length text → length (slice_split is_dot text) ≤ 92
+pub few_parts : (x text : List ℕ) → IsVector x → name_of_vector x ≡ text → 0 < length text → length (slice_split is_dot text) ≤ 251
 few_parts x text is same some =
     let parts = parts_of_name x text is same some in
     omega (arith, is.short, ap length parts, length-map x decimal)

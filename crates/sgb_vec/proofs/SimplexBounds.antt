@@ -1,8 +1,9 @@
 -- The bounds and parameters of a simplex, one bound or one entry at a time.
-use Rattle.std.proofs.Common.{◌≡◌, ℕ, zero, suc, ℤ, pos, negsuc, ◌+◌, ◌%◌, ◌≤◌, min, List, [], ◌∷◌, ◌++◌, true, false, get_or, length, map, Ok, Err, refl, sym, ap, arith, rules, ◌∙◌}
-use Rattle.std.specs.Prelude.{Bool, nat_lt, if◌then◌else◌}
+use Rattle.std.proofs.Common.{◌≡◌, ℕ, zero, suc, ℤ, pos, negsuc, ◌+◌, ◌%◌, ◌≤◌, min, List, [], ◌∷◌, ◌++◌, true, false, get_or, length, map, Ok, Err, refl, sym, ap, subst, arith, rules, ◌∙◌}
+use Rattle.std.specs.Prelude.{Bool, nat_lt, nat_abs, All, if◌then◌else◌}
 use Rattle.std.proofs.lemmas.Bool.Decides.{nat_tests}
 use Rattle.std.proofs.lemmas.List.{map-append, length-map}
+use Rattle.std.proofs.lemmas.List.Elements.{All-nil, All-cons}
 use Rattle.std.proofs.lemmas.List.FromFn.{length-map-range_with_len}
 use Rattle.sgb_vec.specs.Limits.{most_dimensions, most_vertices}
 use Rattle.sgb_vec.specs.Sizes.{Normalized, before_stop, stop_of, zero_after_stop, repeated}
@@ -43,12 +44,12 @@ simplex_by_stop-fits n entries s e few small =
     rw (t, u, bounds_by_stop-repeated s e) refl
 
 -- what is accepted where neither test refuses it
-accepted_of : (b c : Bool) (given shape : Normalized) → (if b then Err Bad else (if c then Err VeryBad else Ok given)) ≡ Ok shape → (b ≡ false) × (given ≡ shape)
+accepted_of : (b c : Bool) (given shape : Normalized) → (if b then Err Bad else (if c then Err VeryBad else Ok given)) ≡ Ok shape → (b ≡ false) × (c ≡ false) × (given ≡ shape)
 accepted_of true c given shape accepted = absurd (search (rules, accepted))
 accepted_of false true given shape accepted = absurd (search (rules, accepted))
-accepted_of false false given shape accepted = (refl, search (rules, accepted))
+accepted_of false false given shape accepted = (refl, refl, search (rules, accepted))
 
--- an accepted simplex has at most 92 bounds
+-- an accepted simplex has at most 251 bounds
 pub few_bounds : (n n0 n1 n2 n3 n4 : ℤ) (shape : Normalized) → simplex_of n n0 n1 n2 n3 n4 ≡ Ok shape → length shape.sizes ≤ most_dimensions + 1
 few_bounds (negsuc n) n0 n1 n2 n3 n4 shape accepted = absurd (search (rules, accepted))
 few_bounds (pos n) n0 n1 n2 n3 n4 shape accepted =
@@ -59,5 +60,30 @@ few_bounds (pos n) n0 n1 n2 n3 n4 shape accepted =
     let few : bounds_count s e ≤ most_dimensions + 1 = grind (arith, nat_tests, w.0) in
     let size = length-map (bounds_by_stop s e) (λ b. min b n) in
     let same = ap length (bounds_by_stop-repeated s e) ∙ length-repeated s (bounds_count s e) in
-    let sizes = ap (λ (r : Normalized). length r.sizes) w.1 in
+    let sizes = ap (λ (r : Normalized). length r.sizes) w.2 in
     omega (arith, few, size, same, sizes)
+
+-- zeros after the stop stay zeros
+zeros_small : (n most : ℕ) (rest : List ℤ) → All (λ p. nat_abs p ≤ most) (map (clamped_parameter n) (map (λ z. pos 0) rest))
+zeros_small n most [] = All-nil (λ p. nat_abs p ≤ most)
+zeros_small n most (z ∷ rest) = All-cons (λ p. nat_abs p ≤ most) (clamped_parameter n (pos 0)) _ (omega arith) (zeros_small n most rest)
+
+-- the entries as the official name has them are not above n, and not below the stop
+entries_small : (n most : ℕ) (entries : List ℤ) → n ≤ most → ((e : ℕ) → stop_of entries ≡ negsuc e → e + 1 ≤ most) → All (λ p. nat_abs p ≤ most) (map (clamped_parameter n) (zero_after_stop entries))
+entries_small n most [] h stop = All-nil (λ p. nat_abs p ≤ most)
+entries_small n most (pos zero ∷ rest) h stop = All-cons (λ p. nat_abs p ≤ most) (clamped_parameter n (pos 0)) _ (omega arith) (zeros_small n most rest)
+entries_small n most (pos (suc k) ∷ rest) h stop = All-cons (λ p. nat_abs p ≤ most) (pos (min (suc k) n)) _ (omega arith) (entries_small n most rest h stop)
+entries_small n most (negsuc e ∷ rest) h stop = All-cons (λ p. nat_abs p ≤ most) (negsuc e) _ (omega (arith, stop e refl)) (zeros_small n most rest)
+
+-- each parameter of an accepted simplex has a magnitude of at most 1,000,000,000
+pub small_parameters : (n n0 n1 n2 n3 n4 : ℤ) (shape : Normalized) → simplex_of n n0 n1 n2 n3 n4 ≡ Ok shape → All (λ p. nat_abs p ≤ most_vertices) shape.params
+small_parameters (negsuc n) n0 n1 n2 n3 n4 shape accepted = absurd (search (rules, accepted))
+small_parameters (pos n) n0 n1 n2 n3 n4 shape accepted =
+    let entries = first_parameter n0 ∷ n1 ∷ n2 ∷ n3 ∷ n4 ∷ [] in
+    let s = bounds_to_repeat n (before_stop entries) in
+    let w = accepted_of _ _ _ shape accepted in
+    let few : bounds_count s (stop_of entries) ≤ most_dimensions + 1 = grind (arith, nat_tests, w.0) in
+    let low : n ≤ most_vertices = grind (arith, nat_tests, w.1) in
+    let stop : (e : ℕ) → stop_of entries ≡ negsuc e → e + 1 ≤ most_vertices = λ e same. omega (arith, few, ap (bounds_count s) same) in
+    subst (λ (r : Normalized). All (λ p. nat_abs p ≤ most_vertices) r.params) w.2
+    (All-cons (λ p. nat_abs p ≤ most_vertices) (pos n) _ low (entries_small n most_vertices entries low stop))

@@ -67,8 +67,8 @@ length-name_of_vector-le (x ∷ y ∷ rest) h =
     let others = length-name_of_vector-le (y ∷ rest) (All-tail (λ n. n < 2 ^ 32) x (y ∷ rest) h) in
     rw (name_of_more, length-append) (omega arith)
 
--- the name of a vector of at most 92 entries is a text
-pub IsText-name_of_vector : (v : List ℕ) → length v ≤ 92 → All (λ n. n < 2 ^ 32) v → IsText (name_of_vector v)
+-- the name of a vector of at most 251 entries is a text
+pub IsText-name_of_vector : (v : List ℕ) → length v ≤ 251 → All (λ n. n < 2 ^ 32) v → IsText (name_of_vector v)
 IsText-name_of_vector v few fits =
     record { short = omega (arith, length-name_of_vector-le v fits); printable = name_of_vector_is_text v fits }
 

@@ -3,7 +3,7 @@ use Rattle.std.specs.Prelude.{ℕ}
 
 -- a board, and each other family, has at most this many dimensions
 abbrev pub most_dimensions : ℕ
-most_dimensions = 91
+most_dimensions = 250
 
 -- a graph has at most this many vertices
 abbrev pub most_vertices : ℕ

@@ -6,7 +6,7 @@ use Rattle.std.specs.Str.Parse.{digits_value}
 use Rattle.sgb_vec.specs.Limits.{most_dimensions, most_entry}
 use Rattle.sgb_vec.specs.Names.{name_of_vector}
 
--- a vector that a name may stand for: at most 92 entries, each below 2^32
+-- a vector that a name may stand for: at most 251 entries, each below 2^32
 pub record IsVector (x : List ℕ) : Type 0 where
   pub short : length x ≤ most_dimensions + 1
   pub small : All (λ entry. entry ≤ most_entry) x

@@ -16,10 +16,10 @@ use arrayvec::ArrayVec;
 use std::marker::Model;
 
 /// The vectors of a box: all `(x1, .., xd)` with `xk` below the k-th size, in lexicographic order
-/// (GB_BASIC, board). At most 91 sizes and 1,000,000,000 vectors. Contracts see it as its sizes.
+/// (GB_BASIC, board). At most 250 sizes and 1,000,000,000 vectors. Contracts see it as its sizes.
 #[derive(Drop)]
 pub struct BoxFamily {
-    sizes: ArrayVec<u32, 91>,
+    sizes: ArrayVec<u32, 250>,
     count: u32,
 }
 
@@ -40,7 +40,7 @@ impl BoxFamily {
 
     /// The box of these sizes; a size of 0 makes it empty.
     ///
-    /// `Bad` above 91 sizes; else `VeryBad` where the exact product of the sizes is above 1,000,000,000.
+    /// `Bad` above 250 sizes; else `VeryBad` where the exact product of the sizes is above 1,000,000,000.
     pub fn new(sizes: &[u32]) -> Result<BoxFamily, Panic>
         ensures { result ≡ box_of sizes.now }
     {
@@ -223,7 +223,7 @@ fn last_above_zero(entries: &[u32], steps: &mut Steps) -> Option<usize>
 // `false` where none can, and `entries` is then as before.
 fn advance(sizes: &[u32], entries: &mut [u32], steps: &mut Steps) -> bool
     requires member { Contains (box sizes.now) entries.old }
-    requires few { length entries.old ≤ 92 }
+    requires few { length entries.old ≤ 251 }
     requires count { steps.old ≤ 2 ^ 63 }
     ensures found { OnTrue result (IsNext (box sizes.now) entries.old entries.new) }
     ensures last { OnFalse result (IsLast (box sizes.now) entries.old) }
@@ -242,7 +242,7 @@ fn advance(sizes: &[u32], entries: &mut [u32], steps: &mut Steps) -> bool
 // can be. `false` where all are 0, and `entries` is then as before.
 fn retreat(sizes: &[u32], entries: &mut [u32], steps: &mut Steps) -> bool
     requires member { Contains (box sizes.now) entries.old }
-    requires few { length entries.old ≤ 92 }
+    requires few { length entries.old ≤ 251 }
     requires count { steps.old ≤ 2 ^ 63 }
     ensures found { OnTrue result (IsPrevious (box sizes.now) entries.old entries.new) }
     ensures first { OnFalse result (HasNoneBefore (box sizes.now) entries.old) }

@@ -8,8 +8,8 @@ ghost use Rattle.sgb_vec.specs.Visits.{HasVisited, changed_entries};
 use crate::steps::Steps;
 use arrayvec::ArrayVec;
 
-/// A vector of at most 92 entries, kept in place.
-pub type Vector = ArrayVec<u32, 92>;
+/// A vector of at most 251 entries, kept in place.
+pub type Vector = ArrayVec<u32, 251>;
 
 /// A finite list of vectors of one length, walked one vector at a time, from either end.
 ///
@@ -21,7 +21,7 @@ pub trait Family {
     // How many entries each member has.
     ghost width: { Self → ℕ };
 
-    /// How many entries each member has: at most 92, each below 2^32.
+    /// How many entries each member has: at most 251, each below 2^32.
     fn dims(&self) -> usize
         ensures width { result ≡ width self.now }
         ensures vectors { (v : List ℕ) → Contains (members self.now) v → IsVector v };

@@ -14,7 +14,7 @@ use std::marker::Model;
 #[derive(Drop)]
 pub struct Shape {
     params: ArrayVec<i64, 6>,
-    sizes: ArrayVec<u32, 92>,
+    sizes: ArrayVec<u32, 251>,
 }
 
 impl Model for Shape {
@@ -42,7 +42,7 @@ impl Shape {
 }
 
 // A board or a simplex has at most this many dimensions.
-const MOST_DIMENSIONS: u64 = 91;
+const MOST_DIMENSIONS: u64 = 250;
 
 #[cfg(test)]
 mod tests;

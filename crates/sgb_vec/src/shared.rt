@@ -6,7 +6,7 @@ use crate::steps::Steps;
 
 // Makes `vector` one of `count` zeros.
 pub(crate) fn put_zeros(vector: &mut Vector, count: usize, steps: &mut Steps)
-    requires few { count ≤ 92 }
+    requires few { count ≤ 251 }
     requires count { steps.old ≤ 2 ^ 63 }
     ensures zeros { vector.new.items ≡ replicate count 0 }
     ensures visits { steps.new ≡ steps.old + count }

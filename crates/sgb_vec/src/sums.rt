@@ -20,12 +20,12 @@ use std::marker::Model;
 mod counts;
 
 /// The vectors of a bounded sum: all `(x0, .., xd)` with `xk` at most the k-th bound that add to `n`, in
-/// lexicographic order (GB_BASIC, simplex). At most 92 bounds and 1,000,000,000 vectors. Contracts see it
+/// lexicographic order (GB_BASIC, simplex). at most 251 bounds and 1,000,000,000 vectors. Contracts see it
 /// as its sum and its bounds.
 #[derive(Drop)]
 pub struct SumFamily {
     total: u32,
-    bounds: ArrayVec<u32, 92>,
+    bounds: ArrayVec<u32, 251>,
     count: u32,
 }
 
@@ -246,7 +246,7 @@ fn last_falling(bounds: &[u32], entries: &[u32], steps: &mut Steps) -> Option<(u
 fn advance(bounds: &[u32], entries: &mut [u32], steps: &mut Steps) -> bool
     requires within { IsWithin entries.old bounds.now }
     requires small { sum entries.old ≤ most_vertices }
-    requires few { length entries.old ≤ 92 }
+    requires few { length entries.old ≤ 251 }
     requires count { steps.old ≤ 2 ^ 63 }
     ensures found { OnTrue result (IsNext (bounded_sums (sum entries.old) bounds.now) entries.old entries.new) }
     ensures last { OnFalse result (IsLast (bounded_sums (sum entries.old) bounds.now) entries.old) }
@@ -272,7 +272,7 @@ fn advance(bounds: &[u32], entries: &mut [u32], steps: &mut Steps) -> bool
 fn retreat(bounds: &[u32], entries: &mut [u32], steps: &mut Steps) -> bool
     requires within { IsWithin entries.old bounds.now }
     requires small { sum entries.old ≤ most_vertices }
-    requires few { length entries.old ≤ 92 }
+    requires few { length entries.old ≤ 251 }
     requires count { steps.old ≤ 2 ^ 63 }
     ensures found { OnTrue result (IsPrevious (bounded_sums (sum entries.old) bounds.now) entries.old entries.new) }
     ensures first { OnFalse result (HasNoneBefore (bounded_sums (sum entries.old) bounds.now) entries.old) }

@@ -78,7 +78,7 @@ pub fn is_text_byte(byte: u8) -> bool
     b' ' <= byte && byte <= b'~' && byte != b'"' && byte != b'\\'
 }
 
-/// The name of a vector of at most 92 entries (GB_BASIC, board): its entries in decimal, joined by dots.
+/// The name of a vector of at most 251 entries (GB_BASIC, board): its entries in decimal, joined by dots.
 ///
 /// `NoRoom` when out of memory, and nothing else.
 pub fn name_of(alloc: Global, vector: &[u32]) -> Result<Text, Panic>

@@ -154,12 +154,12 @@ static REFUSED: [(&[&str], &str, &str); 15] = [
     (&["list", "lines(stdin,0)"], SHARED, CODE_60),
     // operands from left to right
     (
-        &["list", "gunion(board(2,-92,0,0,1,0,0),stdin,0,0)"],
+        &["list", "gunion(board(2,-251,0,0,1,0,0),stdin,0,0)"],
         "",
         CODE_30,
     ),
     (
-        &["list", "gunion(stdin,board(2,-92,0,0,1,0,0),0,0)"],
+        &["list", "gunion(stdin,board(2,-251,0,0,1,0,0),0,0)"],
         "",
         CODE_10,
     ),
@@ -237,7 +237,7 @@ fn short_inputs(rt: HostRuntime) -> Result<(), Fail> {
 // Also where the bytes that came are a file, and where the expression would be refused.
 #[test]
 fn a_read_fault_comes_first(rt: HostRuntime) -> Result<(), Fail> {
-    let refused = ["list", "gunion(board(2,-92,0,0,1,0,0),stdin,0,0)"];
+    let refused = ["list", "gunion(board(2,-251,0,0,1,0,0),stdin,0,0)"];
     for limit in 0..=COMPLETE.len() {
         let mut source = CutSource::new(COMPLETE.as_bytes(), 100, limit);
         check(

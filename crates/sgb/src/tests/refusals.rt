@@ -17,7 +17,7 @@ const SMALL: &str = "board(2,0,0,0,1,0,0)";
 
 // Words that are refused or make a request that is, with the line and the status.
 static REFUSED: [(&[&str], &str, u8); 49] = [
-    (&["names", "board(2,-92,0,0,1,0,0)"], CODE_30, 1),
+    (&["names", "board(2,-251,0,0,1,0,0)"], CODE_30, 1),
     (&["names", "board(2,-30,0,0,1,0,0)"], CODE_40, 1),
     (&["names", "board(2,0,0,0,2147483648,0,0)"], CODE_40, 1),
     (&["names", "board(65536,65536,0,0,1,0,0)"], CODE_40, 1),
@@ -94,7 +94,7 @@ static REFUSED: [(&[&str], &str, u8); 49] = [
         NO_VERTEX,
         1,
     ),
-    (&["list", "board(2,-92,0,0,1,0,0)"], CODE_30, 1),
+    (&["list", "board(2,-251,0,0,1,0,0)"], CODE_30, 1),
     (&["list", "board(2,-30,0,0,1,0,0)"], CODE_40, 1),
     (
         &[
@@ -114,7 +114,7 @@ static REFUSED: [(&[&str], &str, u8); 49] = [
     (&["list", "simplex(-1,0,0,0,0,0,0)"], CODE_30, 1),
     (&["list", "simplex(1000000001,1,0,0,0,0,0)"], CODE_40, 1),
     (&["names", "simplex(30,-30,0,0,0,0,0)"], CODE_40, 1),
-    (&["names", "subsets(30,-92,0,0,0,0,1,0)"], CODE_30, 1),
+    (&["names", "subsets(30,-251,0,0,0,0,1,0)"], CODE_30, 1),
     (
         &["list", "subsets(64,64,64,0,0,0,0x10000000000000000,0)"],
         "sgb: bad expression at byte 41\n",
@@ -136,7 +136,7 @@ static REFUSED: [(&[&str], &str, u8); 49] = [
     (&["save", "petersen()", "--after", "1"], USAGE, 2),
     (&["save", "petersen()", "--skip", "1"], USAGE, 2),
     (&["save", "board(3,"], "sgb: bad expression at byte 8\n", 2),
-    (&["save", "board(2,-92,0,0,1,0,0)"], CODE_30, 1),
+    (&["save", "board(2,-251,0,0,1,0,0)"], CODE_30, 1),
     (&["queen", "petersen()"], USAGE, 2),
     (&["queen", "--skip", "1"], USAGE, 2),
     (

@@ -197,7 +197,7 @@ unfolding box repeated digits name_of_vector displacements vectors_of_norm board
 chessboard = refl
 
 -- too many dimensions, too many vertices, a piece too great on either side, and the greatest piece
-pub refused_dimensions : accepted_board (params (pos 2) (negsuc 91) (pos 0) (pos 0) (pos 1) (pos 0) false) ≡ Err Bad
+pub refused_dimensions : accepted_board (params (pos 2) (negsuc 250) (pos 0) (pos 0) (pos 1) (pos 0) false) ≡ Err Bad
 unfolding repeated
 refused_dimensions = refl
 

@@ -54,10 +54,10 @@ pub common_of_empty : common_size [] [] ≡ 0
 common_of_empty = refl
 
 -- the last bit counts, and no bit above it
-pub last_size : is_wanted_size (2 ^ 63) 63 ≡ true
+pub last_size : is_wanted_size (2 ^ 127) 127 ≡ true
 last_size = refl
 
-pub size_above_all_bits : is_wanted_size (2 ^ 64) 64 ≡ false
+pub size_above_all_bits : is_wanted_size (2 ^ 128) 128 ≡ false
 size_above_all_bits = refl
 
 -- size_bits of 0, and the greatest
@@ -65,6 +65,6 @@ pub no_size_bits : hexadecimal_text 0 ≡ codes "0x0"
 unfolding digits
 no_size_bits = refl
 
-pub all_size_bits : hexadecimal_text (2 ^ 64 - 1) ≡ codes "0xffffffffffffffff"
+pub all_size_bits : hexadecimal_text (2 ^ 128 - 1) ≡ codes "0xffffffffffffffffffffffffffffffff"
 unfolding digits
 all_size_bits = refl

@@ -53,7 +53,7 @@ impl Board {
     /// The board of these parameters (GB_BASIC, board). `n1` to `n4` tell the sizes, `piece` the moves, where 0
     /// stands for 1 and a negative piece rides, and bit k-1 of `wrap` whether coordinate k wraps around.
     ///
-    /// `Bad` above 91 dimensions; else `VeryBad` above 1,000,000,000 vertices, or where `piece` is above
+    /// `Bad` above 250 dimensions; else `VeryBad` above 1,000,000,000 vertices, or where `piece` is above
     /// 2,147,483,647 or below its negative.
     pub fn new(
         n1: i64,
@@ -79,7 +79,7 @@ impl Board {
 
     /// The board of these parameters (GB_BASIC, board).
     ///
-    /// `Bad` above 91 dimensions; else `VeryBad` above 1,000,000,000 vertices, or where `piece` is above
+    /// `Bad` above 250 dimensions; else `VeryBad` above 1,000,000,000 vertices, or where `piece` is above
     /// 2,147,483,647 or below its negative.
     pub fn from_params(params: &BoardParams) -> Result<Board, Panic>
         ensures { result ≡ accepted_board params.now }

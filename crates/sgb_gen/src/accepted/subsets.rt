@@ -19,14 +19,14 @@ use std::simd::prelude::*;
 pub struct Subsets {
     shape: Shape,
     family: SumFamily,
-    size_bits: u64,
+    size_bits: u128,
     directed: bool,
 }
 
 impl Model for Subsets {
     ghost use Rattle.std.specs.Prelude.{◌≡◌};
     ghost use Rattle.sgb_gen.specs.Simplexes.{IsAcceptedSum};
-    ghost use Rattle.sgb_gen.specs.Subsets.{SubsetsData};
+    ghost use Rattle.sgb_gen.specs.Subsets.{SubsetsData, AreSmall};
 
     ghost Value = { SubsetsData };
 
@@ -37,7 +37,7 @@ impl Model for Subsets {
       directed = s.directed;
     } };
 
-    ghost invariant = { λ s. (s.shape.sizes ≡ s.family.bounds) × IsAcceptedSum s.shape.params s.family };
+    ghost invariant = { λ s. (s.shape.sizes ≡ s.family.bounds) × IsAcceptedSum s.shape.params s.family × AreSmall s.shape.params };
 }
 
 impl Subsets {
@@ -45,7 +45,7 @@ impl Subsets {
     /// `n4` tell, as multisets of `n` elements. Two of them are joined where bit c of `size_bits` is 1, c being how many
     /// elements they have in common.
     ///
-    /// `Bad` where `n` is negative, else above 91 dimensions; else `VeryBad` where `n` is above 1,000,000,000, or
+    /// `Bad` where `n` is negative, else above 250 dimensions; else `VeryBad` where `n` is above 1,000,000,000, or
     /// where for some j from 1 to the last dimension and some k up to `n` more than 1,000,000,000 vectors within the
     /// first j+1 bounds add to k. `NoRoom` when out of memory.
     pub fn new(
@@ -56,7 +56,7 @@ impl Subsets {
         n2: i64,
         n3: i64,
         n4: i64,
-        size_bits: u64,
+        size_bits: u128,
         directed: bool,
     ) -> Result<Subsets, Panic>
         ensures { (result ≡ accepted_subsets (record { n = n; n0 = n0; n1 = n1; n2 = n2; n3 = n3; n4 = n4; size_bits = size_bits; directed = directed })) ⊎ (result ≡ Err Panic.NoRoom) }
@@ -76,7 +76,7 @@ impl Subsets {
 
     /// The subsets of these parameters (GB_BASIC, subsets).
     ///
-    /// `Bad` where `n` is negative, else above 91 dimensions; else `VeryBad` where `n` is above 1,000,000,000, or
+    /// `Bad` where `n` is negative, else above 250 dimensions; else `VeryBad` where `n` is above 1,000,000,000, or
     /// where for some j from 1 to the last dimension and some k up to `n` more than 1,000,000,000 vectors within the
     /// first j+1 bounds add to k. `NoRoom` when out of memory.
     pub fn from_params(alloc: Global, params: &SubsetsParams) -> Result<Subsets, Panic>
@@ -179,11 +179,11 @@ impl Subsets {
     }
 }
 
-// Whether `size_bits` has a bit of 1 for `c` elements in common; it has none for 64 and more.
-fn is_wanted(size_bits: u64, c: u64) -> bool
+// Whether `size_bits` has a bit of 1 for `c` elements in common; it has none for 128 and more.
+fn is_wanted(size_bits: u128, c: u64) -> bool
     ensures { result ≡ is_wanted_size size_bits c }
 {
-    c < 64 && (size_bits >> c) & 1 == 1
+    c < 128 && (size_bits >> c) & 1 == 1
 }
 
 /// How many elements two multisets have in common: the sum of the lesser entries (GB_BASIC, subsets). `u` and `v`

@@ -191,7 +191,7 @@ fn boards(rt: HostRuntime) -> Result<(), Fail> {
 #[test]
 fn refused_boards(rt: HostRuntime) {
     for ([n1, n2, piece], panic) in [
-        ([2, -92, 1], Panic::Bad),
+        ([2, -251, 1], Panic::Bad),
         ([2, -30, 1], Panic::VeryBad),
         ([2, 0, 2_147_483_648], Panic::VeryBad),
         ([2, 0, -2_147_483_648], Panic::VeryBad),

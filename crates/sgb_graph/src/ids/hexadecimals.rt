@@ -2,13 +2,13 @@
 ghost use Rattle.std.specs.Prelude.{◌≡◌, ◌≤◌, ◌%◌, false, drop};
 ghost use Rattle.std.specs.Fmt.{digit_glyph, digits};
 
-// A number of 64 bits has at most this many hexadecimal digits.
-pub(super) const MOST_HEXADECIMAL_DIGITS: usize = 16;
+// A number of 128 bits has at most this many hexadecimal digits.
+pub(super) const MOST_HEXADECIMAL_DIGITS: usize = 32;
 
 // Puts the hexadecimal digits of the number at the end of the text, in lower case and without leading zeros. Returns
 // where they start.
-pub(super) fn put_hexadecimal_digits(text: &mut [u8; MOST_HEXADECIMAL_DIGITS], number: u64) -> usize
-    ensures within { result ≤ 16 }
+pub(super) fn put_hexadecimal_digits(text: &mut [u8; MOST_HEXADECIMAL_DIGITS], number: u128) -> usize
+    ensures within { result ≤ 32 }
     ensures digits { drop result text.new ≡ digits 16 false number }
 {
     let mut rest = number;
@@ -23,7 +23,7 @@ pub(super) fn put_hexadecimal_digits(text: &mut [u8; MOST_HEXADECIMAL_DIGITS], n
 }
 
 // The last hexadecimal digit of the number.
-fn digit(number: u64) -> u8
+fn digit(number: u128) -> u8
     ensures { result ≡ digit_glyph false (number % 16) }
 {
     let value = (number % 16) as u8;

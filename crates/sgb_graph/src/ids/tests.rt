@@ -59,12 +59,14 @@ fn a_flag_is_1_or_0(rt: HostRuntime) {
 
 #[test]
 fn a_number_is_written_in_hexadecimal(rt: HostRuntime) {
-    let table: [(u64, &[u8]); 5] = [
+    let table: [(u128, &[u8]); 7] = [
         (0, b"0x0"),
         (9, b"0x9"),
         (0xabc, b"0xabc"),
         (0x1_0000_0000, b"0x100000000"),
-        (u64::MAX, b"0xffffffffffffffff"),
+        (0xffff_ffff_ffff_ffff, b"0xffffffffffffffff"),
+        (0x1_0000_0000_0000_0000, b"0x10000000000000000"),
+        (u128::MAX, b"0xffffffffffffffffffffffffffffffff"),
     ];
     for (number, text) in table {
         let mut writer = IdWriter::new();

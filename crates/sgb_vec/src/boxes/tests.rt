@@ -91,15 +91,15 @@ fn no_sizes(rt: HostRuntime) -> Result<(), Fail> {
 
 #[test]
 fn limits(rt: HostRuntime) -> Result<(), Fail> {
-    assert!(rt; BoxFamily::new(&[1; 91])?.size() == 1);
+    assert!(rt; BoxFamily::new(&[1; 250])?.size() == 1);
     assert!(rt; BoxFamily::new(&[1_000_000_000])?.size() == 1_000_000_000);
     assert!(rt; BoxFamily::new(&[1_000, 1_000, 1_000])?.dims() == 3);
     let refused: [(&[u32], Panic); 5] = [
-        (&[1; 92], Panic::Bad),
-        (&[65_536; 92], Panic::Bad),
+        (&[1; 251], Panic::Bad),
+        (&[65_536; 251], Panic::Bad),
         (&[1_000_000_001], Panic::VeryBad),
         (&[65_536, 65_536], Panic::VeryBad),
-        (&[4_294_967_295; 91], Panic::VeryBad),
+        (&[4_294_967_295; 250], Panic::VeryBad),
     ];
     for (sizes, panic) in refused {
         assert!(rt; BoxFamily::new(sizes).err() == Some(panic));

@@ -60,13 +60,13 @@ fn zeros(alloc: std::alloc::Global, count: usize) -> Result<Vec<u8>, Fail> {
 }
 
 #[test]
-fn at_most_92_entries(rt: HostRuntime) -> Result<(), Fail> {
-    let most = zeros(rt.alloc(), 92)?;
+fn at_most_251_entries(rt: HostRuntime) -> Result<(), Fail> {
+    let most = zeros(rt.alloc(), 251)?;
     match vector_of(most.as_slice()) {
-        Some(vector) => assert!(rt; vector.len() == 92),
+        Some(vector) => assert!(rt; vector.len() == 251),
         None => assert!(rt; false),
     }
-    let more = zeros(rt.alloc(), 93)?;
+    let more = zeros(rt.alloc(), 252)?;
     assert!(rt; vector_of(more.as_slice()).is_none());
     Ok(())
 }

@@ -10,7 +10,7 @@ use arrayvec::ArrayVec;
 /// The parameters n1 to n4 of a board normalised, and its sizes (GB_BASIC, board): the entries before
 /// the first that is not positive, repeated to d sizes where that one is -d; 8 by 8 where there are none.
 ///
-/// `Bad` above 91 dimensions; else `VeryBad` where a size is above 4,294,967,295. That there are at most
+/// `Bad` above 250 dimensions; else `VeryBad` where a size is above 4,294,967,295. That there are at most
 /// 1,000,000,000 vertices is left to `BoxFamily::new`.
 pub fn board_sizes(n1: i64, n2: i64, n3: i64, n4: i64) -> Result<Shape, Panic>
     ensures { result ≡ board_of n1 n2 n3 n4 }
@@ -47,7 +47,7 @@ fn dimension_count(before: &[u64], stop: i64) -> u64
 }
 
 // The first `count` sizes of `before` repeated in turn; `VeryBad` where one is above 4,294,967,295.
-fn repeated(before: &[u64], count: usize) -> Result<ArrayVec<u32, 92>, Panic>
+fn repeated(before: &[u64], count: usize) -> Result<ArrayVec<u32, 251>, Panic>
     requires some { 0 < length before.now }
     requires few { count ≤ most_dimensions }
     ensures { MatchResult result

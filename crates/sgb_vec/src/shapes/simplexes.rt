@@ -14,7 +14,7 @@ use arrayvec::ArrayVec;
 /// bounds of n where n0 itself is -d, and an n0 of 0 counts as -2. No bound is above n: one that is becomes
 /// n, among the parameters too.
 ///
-/// `Bad` where n is negative, or else above 91 dimensions, one less than bounds; else `VeryBad` where n is
+/// `Bad` where n is negative, or else above 250 dimensions, one less than bounds; else `VeryBad` where n is
 /// above 1,000,000,000. Whether there are too many vectors is left to `SumFamily::new`.
 pub fn simplex_bounds(n: i64, n0: i64, n1: i64, n2: i64, n3: i64, n4: i64) -> Result<Shape, Panic>
     ensures { result ≡ simplex_of n n0 n1 n2 n3 n4 }
@@ -70,7 +70,7 @@ fn bounds_count(to_repeat: &[u64], stop: i64) -> u64
 }
 
 // The first `count` bounds of `to_repeat` repeated in turn, n in the place of each above n.
-fn clamped_bounds(n: u32, to_repeat: &[u64], count: usize) -> ArrayVec<u32, 92>
+fn clamped_bounds(n: u32, to_repeat: &[u64], count: usize) -> ArrayVec<u32, 251>
     requires some { 0 < length to_repeat.now }
     requires few { count ≤ most_dimensions + 1 }
     ensures { result.items ≡ map (λ b. min b n) (repeated to_repeat.now count) }

@@ -6,7 +6,7 @@ use std::alloc::Global;
 
 // Whether the vector's name is this text.
 fn is_named(alloc: Global, vector: &[u32], name: &[u8]) -> bool
-    requires { length vector.now ≤ 92 }
+    requires { length vector.now ≤ 251 }
 {
     name_of(alloc, vector).is_ok_and(|text| text.bytes() == name)
 }
@@ -35,12 +35,12 @@ fn a_name_has_the_entries_joined_by_dots(rt: HostRuntime) {
 }
 
 #[test]
-fn a_vector_of_92_entries_has_a_name(rt: HostRuntime) {
-    let mut name = [b'.'; 183];
-    for place in 0..92 {
+fn a_vector_of_251_entries_has_a_name(rt: HostRuntime) {
+    let mut name = [b'.'; 501];
+    for place in 0..251 {
         name[2 * place] = b'7';
     }
-    assert!(rt; is_named(rt.alloc(), &[7; 92], &name));
+    assert!(rt; is_named(rt.alloc(), &[7; 251], &name));
 }
 
 #[test]

@@ -31,7 +31,7 @@ fn refusals(rt: HostRuntime) {
         (-1, 0, Panic::Bad),
         (1_000_000_001, 1, Panic::VeryBad),
         (30, -30, Panic::VeryBad),
-        (30, -92, Panic::Bad),
+        (30, -251, Panic::Bad),
     ] {
         let refusal = Simplex::new(rt.alloc(), n, n0, 0, 0, 0, 0, false).err();
         assert!(rt; refusal == Some(panic));

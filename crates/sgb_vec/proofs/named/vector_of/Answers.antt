@@ -28,7 +28,7 @@ returns-then-is_full-clause-none c = λ vector is same.
     let turn = YieldsList-turn (YieldsList-at c.into_iter-part-iterator.ensures.into_iter_gives
     (YieldsList-from_slice_split _ is_dot c.args.name.now c.split-part-items.ensures.rest c.split-part-items.ensures.done c.split-part-items.ensures.closure (λ x r q k. search (rules, tests))))
     c.loop-part.yielded _ c.loop-part.yielded_by _ _ c.in-Some.part c.in-Some.is c.next.ensures.steps in
-    let full : length c.loop-part.vector.items ≡ 92 = eqb-true _ _ (sym c.is_full.ensures.value ∙ c.if-is_full.true) in
+    let full : length c.loop-part.vector.items ≡ 251 = eqb-true _ _ (sym c.is_full.ensures.value ∙ c.if-is_full.true) in
     let few = few_parts vector c.args.name.now is same (omega (arith, some)) in
     let as_many = ap length c.loop-part.invariant.0 in
     omega (arith, full, few, turn.0, as_many, length-map c.loop-part.vector.items decimal, length-map c.loop-part.yielded (λ x. x.now))

@@ -1,8 +1,10 @@
-use Rattle.std.proofs.Common.{◌≡◌, ◌++◌, codes, ap, ◌∙◌}
+use Rattle.std.proofs.Common.{◌≡◌, ◌≤◌, ℕ, ℤ, Bool, true, false, List, [], ◌++◌, length, codes, refl, ap, ◌∙◌, arith}
+use Rattle.std.proofs.lemmas.List.{length-append}
+use Rattle.sgb_graph.proofs.IdLemmas.{length-small_numbers}
 use Rattle.sgb_graph.specs.IdTexts.{numbers_text}
 use Rattle.sgb_graph.specs.IdTexts.{flag_text}
 use Rattle.sgb_graph.specs.IdTexts.{hexadecimal_text}
-use Rattle.sgb_gen.specs.Subsets.{subsets_id}
+use Rattle.sgb_gen.specs.Subsets.{subsets_id, AreSmall}
 use Rattle.sgb_gen.proofs.WrittenIds.{subsets_id-written}
 use Rattle.sgb_gen.proofs.accepted.subsets.Subsets.id.Goals as goal
 
@@ -19,3 +21,43 @@ returns c =
     c.id.ensures ∙ c.push_text-3.ensures ∙ ap (λ t. t ++ codes ")") c.push_flag.ensures ∙ ap (λ t. (t ++ flag_text s.directed) ++ codes ")") comma
     ∙ subsets_id-written (record { params = s.shape.params; sum = s.family; size_bits = s.size_bits; directed = s.directed })
     ∙ ap subsets_id c.self.view_is
+
+-- a flag has one byte
+length-flag : (flag : Bool) → length (flag_text flag) ≡ 1
+length-flag true = refl
+length-flag false = refl
+
+-- after the name and the six numbers there are at most 80 bytes
+numbers_short : (start new : List ℕ) (params read : List ℤ) → start ≡ [] ++ codes "subsets(" → new ≡ start ++ numbers_text read → read ≡ params → length params ≡ 6 → AreSmall params → length new ≤ 80
+numbers_short start new params read begun put same six small =
+    let short = length-small_numbers params small in
+    omega (arith, ap length put, ap (λ ns. length (start ++ numbers_text ns)) same, length-append start (numbers_text params), short, six, ap length begun)
+
+pub push_hexadecimal-requires : goal.push_hexadecimal-requires
+push_hexadecimal-requires c =
+    let s = c.self.inside in
+    let start = c.push_text.ensures ∙ ap (λ t. t ++ codes "subsets(") c.new-id.ensures in
+    let short = numbers_short c.push_text.new.self c.push_numbers.new.self s.shape.params c.params.result.now start c.push_numbers.ensures.bytes c.params.ensures c.self.invariant.1.parameters c.self.invariant.2 in
+    omega (arith, short)
+
+pub push_text-requires-2-clause-room : goal.push_text-requires-2-clause-room
+push_text-requires-2-clause-room c =
+    let s = c.self.inside in
+    let start = c.push_text.ensures ∙ ap (λ t. t ++ codes "subsets(") c.new-id.ensures in
+    let short = numbers_short c.push_text.new.self c.push_numbers.new.self s.shape.params c.params.result.now start c.push_numbers.ensures.bytes c.params.ensures c.self.invariant.1.parameters c.self.invariant.2 in
+    omega (arith, short, c.push_hexadecimal.ensures.short)
+
+pub push_flag-requires : goal.push_flag-requires
+push_flag-requires c =
+    let s = c.self.inside in
+    let start = c.push_text.ensures ∙ ap (λ t. t ++ codes "subsets(") c.new-id.ensures in
+    let short = numbers_short c.push_text.new.self c.push_numbers.new.self s.shape.params c.params.result.now start c.push_numbers.ensures.bytes c.params.ensures c.self.invariant.1.parameters c.self.invariant.2 in
+    omega (arith, short, c.push_hexadecimal.ensures.short, ap length c.push_text-2.ensures, length-append c.push_hexadecimal.new.self (codes ","))
+
+pub push_text-requires-3-clause-room : goal.push_text-requires-3-clause-room
+push_text-requires-3-clause-room c =
+    let s = c.self.inside in
+    let start = c.push_text.ensures ∙ ap (λ t. t ++ codes "subsets(") c.new-id.ensures in
+    let short = numbers_short c.push_text.new.self c.push_numbers.new.self s.shape.params c.params.result.now start c.push_numbers.ensures.bytes c.params.ensures c.self.invariant.1.parameters c.self.invariant.2 in
+    let flag = length-flag c.self.inside.directed in
+    omega (arith, short, c.push_hexadecimal.ensures.short, ap length c.push_text-2.ensures, length-append c.push_hexadecimal.new.self (codes ","), ap length c.push_flag.ensures, length-append c.push_text-2.new.self (flag_text c.self.inside.directed), flag)
