@@ -8,7 +8,7 @@ most_digits = 18
 
 -- and at most this many hexadecimal digits
 abbrev pub most_hex_digits : ℕ
-most_hex_digits = 16
+most_hex_digits = 32
 
 -- digits in the radix, one or more and at most so many, leading zeros allowed, that write the number
 pub record IsNumber (radix most : ℕ) (text : List ℕ) (number : ℕ) : Type 0 where
@@ -22,7 +22,7 @@ IsInteger text number =
     ((digits : List ℕ) × (n : ℕ) × (text ≡ codes "-" ++ digits) × IsNumber 10 most_digits digits n × (number ≡ neg_ℤ (pos n)))
     ⊎ ((n : ℕ) × IsNumber 10 most_digits text n × (number ≡ pos n))
 
--- bits: 1 to 18 decimal digits, or `0x` and 1 to 16 hexadecimal digits of either case
+-- bits: 1 to 18 decimal digits, or `0x` and 1 to 32 hexadecimal digits of either case
 abbrev pub IsBits : List ℕ → ℕ → Type 0
 IsBits text number =
     ((digits : List ℕ) × (text ≡ codes "0x" ++ digits) × IsNumber 16 most_hex_digits digits number)

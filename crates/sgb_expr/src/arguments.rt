@@ -97,7 +97,7 @@ fn simplex(numbers: [i64; 7]) -> SimplexParams
 }
 
 // The subsets of these numbers, in the order of their name.
-fn subsets(numbers: [i64; 6], size_bits: u64, directed: i64) -> SubsetsParams
+fn subsets(numbers: [i64; 6], size_bits: u128, directed: i64) -> SubsetsParams
     ensures { result ≡ subsets_of numbers size_bits directed }
 {
     let [n, n0, n1, n2, n3, n4] = numbers;

@@ -100,7 +100,7 @@ pub enum Unread {
 /// with an expression and an integer, `product` with two expressions and two integers, `induced` with an expression,
 /// entries and three integers, `bi_complete` and `wheel` with three integers (GB_BASIC). Entries are a `[`, integers and
 /// expressions in any order with commas between them, and a `]`.
-/// `size_bits` is 1 to 18 digits, or `0x` and 1 to 16 hexadecimal ones; each other integer is an optional `-` and 1 to
+/// `size_bits` is 1 to 18 digits, or `0x` and 1 to 32 hexadecimal ones; each other integer is an optional `-` and 1 to
 /// 18 digits, and a flag is true where its integer is not zero. A short name is read as the parameters that it stands
 /// for.
 ///

@@ -11,7 +11,7 @@ use sgb_vec::{digits_value, leading_digits};
 const MOST_DIGITS: usize = 18;
 
 // A number has at most this many hexadecimal digits.
-const MOST_HEX_DIGITS: usize = 16;
+const MOST_HEX_DIGITS: usize = 32;
 
 /// The text after these bytes, with which it begins, or where the two part.
 pub(crate) fn fixed<'a>(bytes: &[u8], text: &'a [u8]) -> Result<&'a [u8], Mismatch>
@@ -43,10 +43,10 @@ fn common_prefix(left: &[u8], right: &[u8]) -> usize
 }
 
 // The number in the radix with which the text begins, of so many digits at most, or that there is none.
-fn number(text: &[u8], radix: u32, most: usize) -> Result<(u64, &[u8]), Mismatch>
+fn number(text: &[u8], radix: u32, most: usize) -> Result<(u128, &[u8]), Mismatch>
     requires low { 2 ≤ radix }
     requires high { radix ≤ 16 }
-    requires most { radix ^ most ≤ 2 ^ 64 }
+    requires most { radix ^ most ≤ 2 ^ 128 }
     ensures read { Finds (λ x. (x.0, x.1.now)) result (number_at radix most text.now) }
     ensures bound { IfOk result (λ x. x.0 < radix ^ most) }
 {
@@ -74,9 +74,9 @@ pub(crate) fn integer(text: &[u8]) -> Result<(i64, &[u8]), Mismatch>
     }
 }
 
-/// The bits with which the text begins, in 1 to 18 decimal digits, or `0x` and 1 to 16 hexadecimal ones; or where
+/// The bits with which the text begins, in 1 to 18 decimal digits, or `0x` and 1 to 32 hexadecimal ones; or where
 /// it begins none.
-pub(crate) fn bits(text: &[u8]) -> Result<(u64, &[u8]), Mismatch>
+pub(crate) fn bits(text: &[u8]) -> Result<(u128, &[u8]), Mismatch>
     ensures { Finds (λ x. (x.0, x.1.now)) result (bits_at text.now) }
 {
     match text.strip_prefix(b"0x") {

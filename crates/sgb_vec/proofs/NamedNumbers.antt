@@ -45,8 +45,8 @@ leading_of_digits radix (suc most) (byte ∷ digits) are =
     let rest = leading_of_digits radix most digits (record { all = are.all.1; short = omega (arith, are.short) }) in
     first_byte radix most byte digits ∙ rw (lt-ltb (digit_value byte) radix are.all.0, rest) refl
 
--- ten digits at most write a number below 2 ^ 64
-pub ten_digits_fit : (digits : List ℕ) → AreDigits 10 10 digits → digits_value 10 digits < 2 ^ 64
+-- ten digits at most write a number below 2 ^ 128
+pub ten_digits_fit : (digits : List ℕ) → AreDigits 10 10 digits → digits_value 10 digits < 2 ^ 128
 ten_digits_fit digits are =
     let positive : 1 ≤ 10 = omega arith in
     let most : 10 ^ length digits ≤ 10 ^ 10 = pow-le-pow_right positive are.short in

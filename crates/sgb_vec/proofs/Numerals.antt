@@ -15,10 +15,10 @@ digit_below radix (c ∷ digits) (suc i) all h = digit_below radix digits i all.
 pub record NextDigit (radix : ℕ) (digits : List ℕ) (i : ℕ) : Type 0 where
   pub below : digit_value (get_or digits i 0) < radix
   pub more : digits_value radix (take (i + 1) digits) ≡ digits_value radix (take i digits) * radix + digit_value (get_or digits i 0)
-  pub fits : digits_value radix (take (i + 1) digits) < 2 ^ 64
+  pub fits : digits_value radix (take (i + 1) digits) < 2 ^ 128
 
 -- the digit at a place goes on the number before it
-pub next_digit : (radix : ℕ) (digits : List ℕ) (i : ℕ) → 2 ≤ radix → IsNumeral radix digits → digits_value radix digits < 2 ^ 64 → i < length digits → NextDigit radix digits i
+pub next_digit : (radix : ℕ) (digits : List ℕ) (i : ℕ) → 2 ≤ radix → IsNumeral radix digits → digits_value radix digits < 2 ^ 128 → i < length digits → NextDigit radix digits i
 next_digit radix digits i least numeral fits h = record {
   below = digit_below radix digits i numeral.1 h;
   more = digits_value_more radix digits i h;

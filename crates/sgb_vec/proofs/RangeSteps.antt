@@ -159,6 +159,16 @@ module _ (vs : List (List ℕ)) (rise : IsRising vs) where
       let within : place_among vs v < length vs = omega (arith, both.0, both.1) in
       (place_among vs v, within, get_or_from_slice_get vs (place_among vs v) v v (stands_there v within))
 
+  -- the front one comes first
+  pub front_first : (more : Bool) (v w : List ℕ) → more ≡ true → (IsTrue more → AreEnds vs v w) → slice_get (from_to_if more vs v w) 0 ≡ Some v
+  front_first more v w is ends =
+      let both = ends is in
+      let i = place_among vs v in
+      let at_v = stands_there v (omega (arith, both.0, both.1)) in
+      let within : i < length (take (place_among vs w + 1) vs) = omega (arith, both.0, length-take-le (place_among vs w + 1) vs (omega (arith, both.1))) in
+      let here : get_or (take (place_among vs w + 1) vs) i v ≡ v = get_or-take (place_among vs w + 1) vs i v (omega (arith, both.0)) ∙ get_or_from_slice_get vs i v v at_v in
+      rw is (ap (λ (xs : List (List ℕ)). slice_get xs 0) (drop_more (take (place_among vs w + 1) vs) i v within) ∙ ap (λ (x : List ℕ). Some x) here)
+
   pub back_among : (more : Bool) (v w : List ℕ) → more ≡ true → (IsTrue more → AreEnds vs v w) → Contains vs w
   back_among more v w is ends =
       let both = ends is in
@@ -199,3 +209,9 @@ module _ (vs : List (List ℕ)) (rise : IsRising vs) where
       let both = next_ones v next last member after final in (λ _. both.0, both.1)
   after_it true false v next last (i, within, at) after end final none = absurd (omega (arith, ap length none))
   after_it false some v next last member after end final none = (λ h. absurd cc, none_after v member end)
+
+-- a list with a first element is that one and the others
+pub first_and_rest : (xs rest : List (List ℕ)) (v copy : List ℕ) → slice_get xs 0 ≡ Some v → copy ≡ v → rest ≡ drop 1 xs → xs ≡ copy ∷ rest
+first_and_rest [] rest v copy first same left = absurd (omega (arith, slice_get_within [] 0 v first))
+first_and_rest (x ∷ xs) rest v copy first same left =
+    ap (λ (y : List ℕ). y ∷ xs) (get_or_from_slice_get (x ∷ xs) 0 v v first ∙ sym same) ∙ ap (λ ys. copy ∷ ys) (sym left)

@@ -19,18 +19,18 @@ pub fn leading_digits(text: &[u8], radix: u32, most: usize) -> &[u8]
     longest
 }
 
-/// The number that these digits in the radix, 2 to 36, write. It has to be below 2^64; leading zeros are allowed.
-pub fn digits_value(digits: &[u8], radix: u32) -> u64
+/// The number that these digits in the radix, 2 to 36, write. It has to be below 2^128; leading zeros are allowed.
+pub fn digits_value(digits: &[u8], radix: u32) -> u128
     requires low { 2 ≤ radix }
     requires high { radix ≤ 36 }
     requires numeral { IsNumeral radix digits.now }
-    requires fits { digits_value radix digits.now < 2 ^ 64 }
+    requires fits { digits_value radix digits.now < 2 ^ 128 }
     ensures { result ≡ digits_value radix digits.now }
 {
-    let mut value: u64 = 0;
+    let mut value: u128 = 0;
     for byte in digits {
         let digit = char::from(*byte).to_digit(radix).unwrap();
-        value = u64::from(radix) * value + u64::from(digit);
+        value = u128::from(radix) * value + u128::from(digit);
     }
     value
 }

@@ -1,6 +1,7 @@
 //! The vectors of a family, from either end.
-ghost use Rattle.std.specs.Prelude.{◌≡◌, Contains, IfSome, IfNone};
+ghost use Rattle.std.specs.Prelude.{◌≡◌, ◌≤◌, ◌+◌, [], Some, Contains, IfSome, IfNone, drop, length, nat_lt, slice_get};
 ghost use Rattle.std.specs.Iterator.{YieldsFirstBy, YieldsLastBy, item_count};
+ghost use Rattle.sgb_vec.specs.Limits.{most_dimensions};
 ghost use Rattle.sgb_vec.specs.Ranges.{ComeAfter};
 
 use crate::families::{Family, Vector};
@@ -66,6 +67,34 @@ impl<'a, F: Family> Vectors<'a, F> {
             back,
         })
     }
+
+    /// The vector that comes next, where it stands; `None` where none is left.
+    pub fn front(&self) -> Option<&[u32]>
+        ensures first { IfSome result (λ vector. slice_get self.now 0 ≡ Some vector.now) }
+        ensures short { IfSome result (λ vector. length vector.now ≤ most_dimensions + 1) }
+        ensures none { IfNone result (self.now ≡ []) }
+    {
+        if !self.more {
+            return None;
+        }
+        Some(self.front.as_slice())
+    }
+
+    /// Leaves out the vector that comes next. Returns whether there was one.
+    pub fn advance(&mut self) -> bool
+        ensures rest { self.new ≡ drop 1 self.old }
+        ensures some { result ≡ nat_lt 0 (length self.old) }
+    {
+        if !self.more {
+            return false;
+        }
+        if self.front.as_slice() == self.back.as_slice() {
+            self.more = false;
+            return true;
+        }
+        let _more = self.family.next(&mut self.front, &mut Steps::new());
+        true
+    }
 }
 
 impl<'a, F: Family> Iterator for Vectors<'a, F> {
@@ -80,11 +109,7 @@ impl<'a, F: Family> Iterator for Vectors<'a, F> {
             return None;
         }
         let vector = ArrayVec::try_from(self.front.as_slice()).unwrap();
-        if self.front.as_slice() == self.back.as_slice() {
-            self.more = false;
-            return Some(vector);
-        }
-        let _more = self.family.next(&mut self.front, &mut Steps::new());
+        let _some = self.advance();
         Some(vector)
     }
 }

@@ -98,7 +98,7 @@ fn listings_of_graphs(rt: HostRuntime) -> Result<(), Fail> {
 
 // The head, and so the official name and the numbers of vertices and arcs; and the last block. A listing has four
 // lines before the first vertex, and one for each vertex and each arc.
-static PARTS_OF_LISTINGS: [Parts; 9] = [
+static PARTS_OF_LISTINGS: [Parts; 11] = [
     Parts {
         words: &["list", "complete(4)"],
         start: "  The graph whose official name is\nboard(4,0,0,0,-1,0,0)\n  has 4 vertices and 12 arcs:\n\n",
@@ -148,6 +148,20 @@ static PARTS_OF_LISTINGS: [Parts; 9] = [
         start: "  The graph whose official name is\nsubsets(2,1,2,0,0,0,0x1,0)\n  has 2 vertices and 0 arcs:\n\n",
         end: "\n0.2\n1.1\n",
         lines: 6,
+    },
+    // bit 64 of size_bits; a simplex of as many dimensions as there may be
+    Parts {
+        words: &["list", "subsets(64,64,64,0,0,0,0x10000000000000000,0)"],
+        start: "  The graph whose official name is\nsubsets(64,64,64,0,0,0,0x10000000000000000,0)\n  has 65 vertices and 130 arcs:\n\n\
+            0.64\n  -> 0.64, length 1\n  -> 0.64, length 1\n",
+        end: "\n64.0\n  -> 64.0, length 1\n  -> 64.0, length 1\n",
+        lines: 199,
+    },
+    Parts {
+        words: &["list", "simplex(1,-250,0,0,0,0,0)"],
+        start: "  The graph whose official name is\nsimplex(1,-250,0,0,0,0,0)\n  has 251 vertices and 62750 arcs:\n\n0.0.0",
+        end: ".0, length 1\n",
+        lines: 63_005,
     },
     // the default board
     Parts {

@@ -16,7 +16,7 @@ use std::test::Fail;
 const SMALL: &str = "board(2,0,0,0,1,0,0)";
 
 // Words that are refused or make a request that is, with the line and the status.
-static REFUSED: [(&[&str], &str, u8); 49] = [
+static REFUSED: [(&[&str], &str, u8); 51] = [
     (&["names", "board(2,-251,0,0,1,0,0)"], CODE_30, 1),
     (&["names", "board(2,-30,0,0,1,0,0)"], CODE_40, 1),
     (&["names", "board(2,0,0,0,2147483648,0,0)"], CODE_40, 1),
@@ -115,9 +115,11 @@ static REFUSED: [(&[&str], &str, u8); 49] = [
     (&["list", "simplex(1000000001,1,0,0,0,0,0)"], CODE_40, 1),
     (&["names", "simplex(30,-30,0,0,0,0,0)"], CODE_40, 1),
     (&["names", "subsets(30,-251,0,0,0,0,1,0)"], CODE_30, 1),
+    (&["names", "board(1,-251,0,0,1,0,0)"], CODE_30, 1),
+    (&["list", "simplex(1,-251,0,0,0,0,0)"], CODE_30, 1),
     (
-        &["list", "subsets(64,64,64,0,0,0,0x10000000000000000,0)"],
-        "sgb: bad expression at byte 41\n",
+        &["list", "subsets(64,64,64,0,0,0,0x100000000000000000000000000000000,0)"],
+        "sgb: bad expression at byte 57\n",
         2,
     ),
     (&["list", SMALL, "--after", "2"], NO_VERTEX, 1),

@@ -50,9 +50,9 @@ fn without_first<F: Family>(family: &F, count: u64) -> Vectors<'_, F>
 {
     let mut vectors = Vectors::all(family);
     for _place in 0..count {
-        let Some(_vector) = vectors.next() else {
+        if !vectors.advance() {
             return vectors;
-        };
+        }
     }
     vectors
 }
@@ -78,8 +78,10 @@ fn write_all<F: Family, W: Sink>(
     requires { W.has_failed out.old ≡ false }
     ensures { IsWritten (flat_map name_line (map name_of_vector vectors.entry)) (record { before = W.written out.old; after = W.written out.new; failed = W.has_failed out.new }) result }
 {
-    for vector in vectors {
-        write_name(alloc, vector.as_slice(), out)?;
+    let mut left = vectors;
+    while let Some(vector) = left.front() {
+        write_name(alloc, vector, out)?;
+        let _some = left.advance();
     }
     Ok(())
 }

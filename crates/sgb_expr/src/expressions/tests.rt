@@ -146,7 +146,7 @@ fn a_short_name_is_read_as_what_it_stands_for(rt: HostRuntime) {
 }
 
 // The subsets with these numbers and bits.
-fn subsets(numbers: [i64; 6], size_bits: u64, directed: bool) -> Family {
+fn subsets(numbers: [i64; 6], size_bits: u128, directed: bool) -> Family {
     let [n, n0, n1, n2, n3, n4] = numbers;
     Family::Subsets(SubsetsParams {
         n,
@@ -161,7 +161,7 @@ fn subsets(numbers: [i64; 6], size_bits: u64, directed: bool) -> Family {
 }
 
 /// Texts of subsets, each with its numbers and bits, and whether it is directed.
-static SUBSETS: [(&str, [i64; 6], u64, bool); 9] = [
+static SUBSETS: [(&str, [i64; 6], u128, bool); 9] = [
     ("subsets(3,2,2,2,0,0,3,0)", [3, 2, 2, 2, 0, 0], 3, false),
     ("subsets(3,2,2,2,0,0,0x3,0)", [3, 2, 2, 2, 0, 0], 3, false),
     ("subsets(3,2,2,2,0,0,0,1)", [3, 2, 2, 2, 0, 0], 0, true),
@@ -173,7 +173,7 @@ static SUBSETS: [(&str, [i64; 6], u64, bool); 9] = [
         false,
     ),
     (
-        "subsets(3,2,2,2,0,0,0x000000000000000a,0)",
+        "subsets(3,2,2,2,0,0,0x0000000000000000000000000000000a,0)",
         [3, 2, 2, 2, 0, 0],
         10,
         false,
@@ -185,9 +185,9 @@ static SUBSETS: [(&str, [i64; 6], u64, bool); 9] = [
         false,
     ),
     (
-        "subsets(3,2,2,2,0,0,0xffffffffffffffff,0)",
+        "subsets(3,2,2,2,0,0,0xffffffffffffffffffffffffffffffff,0)",
         [3, 2, 2, 2, 0, 0],
-        18_446_744_073_709_551_615,
+        340_282_366_920_938_463_463_374_607_431_768_211_455,
         false,
     ),
     (
@@ -226,8 +226,8 @@ subsets(3,2,2,2,0,0|x3,3,0)
 subsets(3,2,2,2,0,0,3,0|x1)
 subsets(3,2,2,2,0,0,3|)
 subsets(3,2,2,2,0,0,3,1|,
-subsets(64,64,64,0,0,0,0x1000000000000000|0,0)
-subsets(64,64,64,0,0,0,0x0000000000000000|1,0)";
+subsets(64,64,64,0,0,0,0x10000000000000000000000000000000|0,0)
+subsets(64,64,64,0,0,0,0x00000000000000000000000000000000|1,0)";
 
 #[test]
 fn bad_bits_go_wrong_somewhere(rt: HostRuntime) -> Result<(), AllocError> {

@@ -261,7 +261,7 @@ fn refused_simplexes_and_subsets(rt: HostRuntime) {
 
 const SUBSETS: [(
     [i64; 4],
-    u64,
+    u128,
     bool,
     &'static [u8],
     u32,
@@ -336,22 +336,22 @@ const SUBSETS: [(
     ),
     // the greatest size that has a bit, and one above it
     (
-        [63, 63, 0, 0],
-        1 << 63,
+        [127, 127, 0, 0],
+        1 << 127,
         false,
-        b"subsets(63,63,0,0,0,0,0x8000000000000000,0)",
+        b"subsets(127,127,0,0,0,0,0x80000000000000000000000000000000,0)",
         1,
         2,
-        &[(0, b"63", &[(0, 1), (0, 1)])],
+        &[(0, b"127", &[(0, 1), (0, 1)])],
     ),
     (
-        [64, 64, 0, 0],
-        u64::MAX,
+        [128, 128, 0, 0],
+        u128::MAX,
         false,
-        b"subsets(64,64,0,0,0,0,0xffffffffffffffff,0)",
+        b"subsets(128,128,0,0,0,0,0xffffffffffffffffffffffffffffffff,0)",
         1,
         0,
-        &[(0, b"64", &[])],
+        &[(0, b"128", &[])],
     ),
     (
         [5, 2, 2, 0],

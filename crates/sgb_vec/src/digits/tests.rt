@@ -22,8 +22,8 @@ fn digits_are_taken_up_to_a_byte_that_is_none(rt: HostRuntime) {
 fn digits_write_a_number(rt: HostRuntime) {
     assert!(rt; digits_value(b"0", 10) == 0);
     assert!(rt; digits_value(b"007", 10) == 7);
-    assert!(rt; digits_value(b"18446744073709551615", 10) == u64::MAX);
-    assert!(rt; digits_value(b"fFfFfFfFfFfFfFfF", 16) == u64::MAX);
+    assert!(rt; digits_value(b"340282366920938463463374607431768211455", 10) == u128::MAX);
+    assert!(rt; digits_value(b"fFfFfFfFfFfFfFfFfFfFfFfFfFfFfFfF", 16) == u128::MAX);
     assert!(rt; digits_value(b"1010", 2) == 10);
     assert!(rt; digits_value(b"Zz", 36) == 1295);
 }

@@ -97,3 +97,19 @@ fn families_without_vectors(rt: HostRuntime) -> Result<(), Fail> {
     from_back(&rt, Vectors::all(&none), &[]);
     Ok(())
 }
+
+#[test]
+fn the_front_one_where_it_stands(rt: HostRuntime) -> Result<(), Fail> {
+    let family = BoxFamily::new(&[2, 2])?;
+    let mut vectors = Vectors::all(&family);
+    let last = vectors.next_back();
+    assert!(rt; last.is_some_and(|vector| vector.as_slice() == [1, 1]));
+    let expected: [&[u32]; 3] = [&[0, 0], &[0, 1], &[1, 0]];
+    for vector in expected {
+        assert!(rt; vectors.front() == Some(vector));
+        assert!(rt; vectors.advance());
+    }
+    assert!(rt; vectors.front().is_none());
+    assert!(rt; !vectors.advance());
+    Ok(())
+}

@@ -1,0 +1,10 @@
+use Rattle.std.proofs.Common.{◌≡◌, ◌∙◌, ◌≤◌, length, slice_get, Some, List, ℕ, sym, ap, arith}
+use Rattle.sgb_vec.proofs.RangeSteps.{front_first}
+use Rattle.sgb_vec.proofs.vectors.Vectors.front.Goals as goal
+
+pub returns-clause-first : goal.returns-clause-first
+returns-clause-first g c =
+    let members = g.F.Family.members c.self.inside.family.now in
+    let rising = g.met.F.Family.rising c.self.inside.family.now in
+    ap (λ (xs : List (List ℕ)). slice_get xs 0) (sym c.self.view_is)
+    ∙ (front_first members rising _ _ _ c.if-not-self.false c.self.invariant ∙ ap (λ (v : List ℕ). Some v) (sym c.as_slice.ensures.value))
