@@ -103,7 +103,7 @@ fn the_front_one_where_it_stands(rt: HostRuntime) -> Result<(), Fail> {
     let family = BoxFamily::new(&[2, 2])?;
     let mut vectors = Vectors::all(&family);
     let last = vectors.next_back();
-    assert!(rt; last.is_some_and(|vector| vector.as_slice() == [1, 1]));
+    assert!(rt; last.is_some_and(|vector| vector.as_slice() == [1, 1].as_slice()));
     let expected: [&[u32]; 3] = [&[0, 0], &[0, 1], &[1, 0]];
     for vector in expected {
         assert!(rt; vectors.front() == Some(vector));
