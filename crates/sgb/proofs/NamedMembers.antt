@@ -1,11 +1,11 @@
 -- The members of a family by their names: no two have the same one.
-use Rattle.std.proofs.Common.{◌≡◌, ◌≢◌, ◌∙◌, ℕ, suc, ◌+◌, ◌<◌, ◌≤◌, Bool, true, false, nat_eq, List, [], ◌∷◌, ◌++◌, length, drop, get_or, map, Option, Some, None, option_map, refl, sym, ap, subst, inl, inr, arith}
+use Rattle.std.proofs.Common.{◌≡◌, ◌≢◌, ◌∙◌, ℕ, suc, ◌+◌, ◌<◌, Bool, true, List, [], ◌∷◌, ◌++◌, length, drop, get_or, map, Option, Some, None, option_map, refl, sym, ap, subst, inl, inr, arith}
 use Rattle.std.specs.List.{Contains, flat_map, slice_get}
 use Rattle.std.specs.Option.{IfSome, IfNone}
-use Rattle.std.specs.Cmp.Lexicographic.{pointwise, bytes_decides}
+use Rattle.std.specs.Cmp.Lexicographic.{bytes_decides}
 use Rattle.std.proofs.lemmas.Bool.{cases_Bool}
-use Rattle.std.proofs.lemmas.List.{drop_all, drop_more, drop-map, length-drop, get_or-map, get_or_at, get_or_default, length-map, length-append}
-use Rattle.std.proofs.lemmas.Option.{slice_get-map, slice_get_within, slice_get_read, get_or_from_slice_get}
+use Rattle.std.proofs.lemmas.List.{drop-map, get_or-map, get_or_at, get_or_default, length-map, length-append}
+use Rattle.std.proofs.lemmas.Option.{slice_get-map, slice_get_read}
 use Rattle.sgb_vec.specs.Lexicographic.{IsBefore, IsRising}
 use Rattle.sgb_vec.specs.Ranges.{ComeAfter}
 use Rattle.sgb_vec.specs.Names.{name_of_vector}
@@ -23,18 +23,6 @@ one_name : (x y : List ℕ) → IsVector x → IsVector y → name_of_vector x �
 one_name x y is also same =
     let both : ◌≡◌ {A = Option (List ℕ)} (Some x) (Some y) = sym (vector_of-name x is) ∙ (ap vector_of same ∙ vector_of-name y also) in
     cc
-
--- nothing is left after the first place where nothing is left
-pub none_left : (members : List (List ℕ)) (place count : ℕ) → drop place members ≡ [] → place ≤ count → drop count members ≡ []
-none_left members place count none more =
-    drop_all count members (omega (arith, ap length none, length-drop place members))
-
--- after the first of those that are left
-pub rest_left : (members rest : List (List ℕ)) (v : List ℕ) (place : ℕ) → drop place members ≡ v ∷ rest → rest ≡ drop (place + 1) members
-rest_left members rest v place some =
-    let within : place < length members = omega (arith, ap length some, length-drop place members) in
-    let split : v ∷ rest ≡ get_or members place v ∷ drop (place + 1) members = sym some ∙ drop_more members place v within in
-    ap (drop 1) split
 
 -- the lines of the names from a place on are those of the vectors from there on
 pub lines_of_rest : (members rest : List (List ℕ)) (k : ℕ) → rest ≡ drop k members → name_lines (map name_of_vector members) k ≡ flat_map name_line (map name_of_vector rest)

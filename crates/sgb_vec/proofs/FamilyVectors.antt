@@ -1,11 +1,10 @@
 -- The members of the families are vectors that have names.
-use Rattle.std.proofs.Common.{◌≡◌, ℕ, zero, suc, ◌+◌, ◌<◌, ◌≤◌, ◌^◌, List, [], ◌∷◌, length, get_or, arith, sum}
+use Rattle.std.proofs.Common.{ℕ, zero, suc, ◌<◌, ◌≤◌, ◌^◌, List, [], ◌∷◌, length, get_or, arith}
 use Rattle.std.specs.List.{Contains}
 use Rattle.std.proofs.lemmas.Grind.{get_or_default_zero}
 use Rattle.sgb_vec.specs.Boxes.{box}
 use Rattle.sgb_vec.specs.Sums.{bounded_sums}
-use Rattle.sgb_vec.specs.Lexicographic.{IsBelow, IsWithin}
-use Rattle.sgb_vec.specs.Limits.{most_entry}
+use Rattle.sgb_vec.specs.Lexicographic.{IsWithin}
 use Rattle.sgb_vec.specs.NamedVectors.{IsVector}
 use Rattle.sgb_vec.proofs.BoxPlaces.{IsBelow-from_Contains, IsBelow-length, IsBelow-at}
 use Rattle.sgb_vec.proofs.SumMembers.{Contains-bounded_sums, IsWithin-length}

@@ -7,7 +7,10 @@ pub(super) const MOST_HEXADECIMAL_DIGITS: usize = 32;
 
 // Puts the hexadecimal digits of the number at the end of the text, in lower case and without leading zeros. Returns
 // where they start.
-pub(super) fn put_hexadecimal_digits(text: &mut [u8; MOST_HEXADECIMAL_DIGITS], number: u128) -> usize
+pub(super) fn put_hexadecimal_digits(
+    text: &mut [u8; MOST_HEXADECIMAL_DIGITS],
+    number: u128,
+) -> usize
     ensures within { result ≤ 32 }
     ensures digits { drop result text.new ≡ digits 16 false number }
 {

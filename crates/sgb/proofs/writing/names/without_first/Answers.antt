@@ -1,4 +1,4 @@
-use Rattle.std.proofs.Common.{◌≡◌, ◌∙◌, List, ℕ, drop, ap}
+use Rattle.std.proofs.Common.{◌∙◌, List, ℕ, drop, ap}
 use Rattle.std.proofs.lemmas.List.{drop-drop}
 use Rattle.sgb.proofs.writing.names.without_first.Goals as goal
 

@@ -1,4 +1,4 @@
-use Rattle.std.proofs.Common.{◌≡◌, ◌≤◌, ◌∙◌, length, arith, ap}
+use Rattle.std.proofs.Common.{◌≡◌, ◌≤◌, ◌∙◌, length, arith}
 use Rattle.sgb_vec.proofs.FamilyVectors.{box_members_are_vectors}
 use Rattle.sgb_vec.proofs.boxes.BoxFamilyFamily.dims.Goals as goal
 

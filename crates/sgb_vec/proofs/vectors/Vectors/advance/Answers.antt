@@ -1,6 +1,5 @@
-use Rattle.std.proofs.Common.{◌≡◌, ◌∙◌, ◌∷◌, [], nat_eq, true, false, drop, length, List, ℕ, sym, ap, arith}
+use Rattle.std.proofs.Common.{◌≡◌, ◌∙◌, nat_eq, true, false, drop, List, ℕ, sym, ap}
 use Rattle.std.specs.Cmp.Lexicographic.{pointwise}
-use Rattle.sgb_vec.specs.Ranges.{from_to_if}
 use Rattle.sgb_vec.proofs.RangeSteps.{front_among, front_goes, one_left}
 use Rattle.sgb_vec.proofs.vectors.Vectors.advance.Goals as goal
 

@@ -1,4 +1,4 @@
-use Rattle.std.proofs.Common.{◌≡◌, ◌∙◌, ◌≤◌, length, slice_get, Some, List, ℕ, sym, ap, arith}
+use Rattle.std.proofs.Common.{◌∙◌, slice_get, Some, List, ℕ, sym, ap}
 use Rattle.sgb_vec.proofs.RangeSteps.{front_first}
 use Rattle.sgb_vec.proofs.vectors.Vectors.front.Goals as goal
 

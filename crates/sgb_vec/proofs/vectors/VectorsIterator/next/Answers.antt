@@ -1,4 +1,4 @@
-use Rattle.std.proofs.Common.{◌≡◌, ◌∙◌, ◌∷◌, List, ℕ, drop, slice_get, length, sym, ap, arith}
+use Rattle.std.proofs.Common.{◌≡◌, ◌∙◌, List, ℕ, slice_get, length, sym, ap, arith}
 use Rattle.sgb_vec.proofs.RangeSteps.{front_first, first_and_rest}
 use Rattle.sgb_vec.proofs.vectors.VectorsIterator.next.Goals as goal
 
