@@ -1,5 +1,5 @@
 -- The members of a family by their names: no two have the same one.
-use Rattle.std.proofs.Common.{◌≡◌, ◌≢◌, ◌∙◌, ℕ, suc, ◌+◌, ◌<◌, Bool, true, List, [], ◌∷◌, ◌++◌, length, drop, get_or, map, Option, Some, None, option_map, refl, sym, ap, subst, inl, inr, arith}
+use Rattle.std.proofs.Common.{◌≡◌, ◌≢◌, ◌∙◌, ℕ, suc, ◌<◌, true, List, [], ◌∷◌, ◌++◌, length, drop, get_or, map, Option, Some, None, option_map, refl, sym, ap, subst, inl, inr, arith}
 use Rattle.std.specs.List.{Contains, flat_map, slice_get}
 use Rattle.std.specs.Option.{IfSome, IfNone}
 use Rattle.std.specs.Cmp.Lexicographic.{bytes_decides}

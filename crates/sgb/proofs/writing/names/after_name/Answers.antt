@@ -1,4 +1,4 @@
-use Rattle.std.proofs.Common.{◌≡◌, ◌≢◌, ◌∙◌, ap, sym, length, arith}
+use Rattle.std.proofs.Common.{◌≡◌, arith}
 use Rattle.sgb.proofs.NamedMembers.{after_named, no_member_named, no_vector_named}
 use Rattle.sgb.proofs.writing.names.after_name.Goals as goal
 

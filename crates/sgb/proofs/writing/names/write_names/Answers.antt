@@ -1,10 +1,8 @@
-use Rattle.std.proofs.Common.{◌≡◌, ◌∙◌, List, ℕ, map, drop, inl, sym, ap, subst}
-use Rattle.std.specs.List.{flat_map}
-use Rattle.std.proofs.lemmas.List.{drop-map}
+use Rattle.std.proofs.Common.{map, inl, sym}
 use Rattle.std.proofs.lemmas.Result.{err_from_is_err_and}
 use Rattle.sgb_vec.specs.Names.{name_of_vector}
 use Rattle.sgb.specs.Outcomes.{left_out}
-use Rattle.sgb.specs.Texts.{name_line, name_lines}
+use Rattle.sgb.specs.Texts.{name_lines}
 use Rattle.sgb.proofs.Endings.{ended_after, refused_after}
 use Rattle.sgb.proofs.NamedMembers.{lines_of_rest}
 use Rattle.sgb.proofs.writing.names.write_names.Goals as goal
