@@ -33,6 +33,7 @@ REQUESTS = [
     (["list", "lines(complete(3),1)"], None),
     (["list", "product(circuit(3),circuit(3),0,0)"], None),
     (["list", "induced(complete(3),[1,2,circuit(3)],0,0,0)"], None),
+    (["list", "induced(circuit(4),[-1,1,-1,1],0,0,0)"], None),
     (["list", "bi_complete(2,3,0)"], None),
     (["list", "wheel(4,2,0)"], None),
     (["list", "gunion(stdin,stdin,1,1)"], ["save", "complete(3)"]),

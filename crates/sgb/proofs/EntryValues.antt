@@ -43,11 +43,6 @@ pub length_zero : {T : Type 0} (list : List T) → length list ≡ 0 → list �
 length_zero [] e = refl
 length_zero (x ∷ list) e = absurd (omega (arith, e))
 
--- no value is left
-pub handed_none : (done : List Handed) (values : List EntryValue) → values ≡ [] → and_values done (handed_entries values) ≡ Ok done
-unfolding handed_entries
-handed_none done values e = rw e (ap Ok (append-nil done))
-
 -- an entry is no larger than all of them together
 pub entry_smaller : (entries : List EntryExpr) (k : ℕ) (default : EntryExpr) → k < length entries → size_of_entry (entry_of (get_or entries k default)) ≤ size_of_entries (entries_of (listed entries))
 entry_smaller [] k default below = absurd (search (rules, arith))
@@ -59,7 +54,7 @@ entry_smaller (first ∷ others) (suc k) default below =
 -- the value of an induced graph, from those of its graph and its entries
 abbrev pub induced_from : Result GraphData Panic → Result (List EntryValue) Panic → Bool → Bool → Bool → Result GraphData Panic
 induced_from graph entries self_loops multi directed =
-    and_then (both graph entries) (λ operands. and_then (handed_entries operands.1) (λ list. made (induced_of operands.0 list self_loops multi directed)))
+    and_then (both graph entries) (λ operands. made (induced_of operands.0 (handed_entries operands.1) self_loops multi directed))
 
 -- of an expression of the code
 pub induced_value : (input : List ℕ) (e : Expr) (graph : Box Expr Global) (entries : Entries) (self_loops multi directed : Bool) → e ≡ expr.Induced graph entries self_loops multi directed
@@ -79,8 +74,8 @@ pub entries_refused : (graph : Result GraphData Panic) (entries : Result (List E
 entries_refused graph entries g self_loops multi directed p e (inl f) = inl (rw (e, f) refl)
 entries_refused graph entries g self_loops multi directed p e (inr f) = inr f
 
--- what is made of entries that are not refused
+-- what is made of entries
 pub entries_handed : (graph : Result GraphData Panic) (entries : Result (List EntryValue) Panic) (g : GraphData) (values : List EntryValue) (self_loops multi directed : Bool) (r : Result GraphData Panic)
-    → graph ≡ Ok g → entries ≡ Ok values → IsValue (and_then (handed_entries values) (λ list. made (induced_of g list self_loops multi directed))) r
+    → graph ≡ Ok g → entries ≡ Ok values → IsValue (made (induced_of g (handed_entries values) self_loops multi directed)) r
     → IsValue (induced_from graph entries self_loops multi directed) r
 entries_handed graph entries g values self_loops multi directed r e f is = rw (e, f) is

@@ -1,5 +1,7 @@
 -- Parameters are refused for what they are: never out of memory.
 use Rattle.std.proofs.Common.{◌≡◌, ◌≢◌, ◌&&◌, not, nat_lt, length, ℕ, ℤ, pos, negsuc, Bool, true, false, cond, List, [], ◌∷◌, Option, Some, None, Result, Ok, Err, ap}
+use Rattle.std.specs.Prelude.{◌==◌, ◌||◌}
+use Rattle.std.specs.List.{list_any}
 use Rattle.sgb_vec.specs.Bounds.{simplex_of}
 use Rattle.sgb_vec.specs.Boxes.{box_of}
 use Rattle.sgb_vec.specs.Limits.{most_vertices}
@@ -17,7 +19,7 @@ use Rattle.sgb_gen.specs.declared.params.SimplexParams.{SimplexParams}
 use Rattle.sgb_gen.specs.declared.params.SubsetsParams.{SubsetsParams}
 use Rattle.sgb_ops.specs.BiComplete.{accepted_parts, bi_complete_of, with_parts}
 use Rattle.sgb_ops.specs.Boards.{pair_of_vertices, rim_of_wheel}
-use Rattle.sgb_ops.specs.Entries.{accepted_entries}
+use Rattle.sgb_ops.specs.Entries.{accepted_entries, is_too_great, is_unnumbered, total_of}
 use Rattle.sgb_ops.specs.Induced.{induced_of}
 use Rattle.sgb_ops.specs.Lines.{accepted_lines, is_of_edges, line_graph_of, lines_of_graph}
 use Rattle.sgb_ops.specs.Operands.{order_of}
@@ -37,9 +39,7 @@ use Rattle.sgb_file.specs.Fields.{Found}
 use Rattle.sgb_file.specs.FileLines.{clean_lines}
 use Rattle.sgb_file.specs.Restoring.{Opening, closes, graph_after, graph_at_end, graph_of_opening, graph_of_records, graph_of_text, opening_of}
 use Rattle.sgb_graph.specs.Sound.{is_sound}
-use Rattle.sgb.specs.Values.{both, family_value, handed_entries, handed_entry, stdin_value, value_of, values_of}
-use Rattle.sgb.specs.declared.evaluation.entries.EntryValue.{EntryValue}
-use Rattle.sgb.specs.declared.evaluation.entries.EntryValue.TheVariants as value
+use Rattle.sgb.specs.Values.{both, family_value, handed_entries, stdin_value, value_of, values_of}
 use Rattle.sgb_requests.specs.declared.faults.Fault.{Fault}
 use Rattle.sgb_requests.specs.declared.faults.Fault.TheVariants as fault
 use Rattle.sgb_requests.specs.declared.requests.Request.{Request}
@@ -149,7 +149,10 @@ family_judged (family.Subsets p) = subsets_judged p
 
 -- the entries of an induced graph
 entries_judged : (n : ℕ) (entries : List Entry) → IsJudged (accepted_entries n entries)
-entries_judged n entries = either _ _ _ refused_bad (either _ _ _ refused_very_bad (accepted _))
+entries_judged n entries =
+    either (not (length entries == n)) _ _ refused_bad
+    (either (list_any is_unnumbered entries) _ _ refused_bad
+    (either (list_any is_too_great entries || nat_lt most_vertices (total_of entries)) _ _ refused_very_bad (accepted entries)))
 
 -- an induced graph
 induced_judged : (g : GraphData) (entries : List Entry) (self multi directed : Bool) → IsJudged (induced_of g entries self multi directed)
@@ -217,17 +220,6 @@ stdin_judged input = either _ _ _ (text_judged input) refused_syntax
 both_judged : {T U : Type 0} (r : Result T Panic) (s : Result U Panic) → IsJudged r → IsJudged s → IsJudged (both r s)
 both_judged r s p q = after r _ p (λ x. after s _ q (λ y. accepted _))
 
--- the entries that are handed on
-handed_judged : (values : List EntryValue) → IsJudged (handed_entries values)
-unfolding handed_entries
-handed_judged [] = accepted _
-handed_judged (first ∷ others) = after _ _ (both_judged _ _ (one first) (handed_judged others)) (λ p. accepted _)
-  where
-    one : (v : EntryValue) → IsJudged (handed_entry v)
-    one (value.Number (pos k)) = accepted _
-    one (value.Number (negsuc k)) = refused_bad
-    one (value.Graph g) = accepted _
-
 mutual
   -- an expression
   value_judged : (input : List ℕ) (e : Expression) → IsJudged (value_of input e)
@@ -240,7 +232,7 @@ mutual
       after _ _ (both_judged _ _ (value_judged input e) (value_judged input f)) (λ operands. after _ _ (product_judged operands.0 operands.1 kind directed) (λ d. accepted _))
   value_judged input (Induced e entries self_loops multi directed) =
       after _ _ (both_judged _ _ (value_judged input e) (values_judged input entries)) (λ operands.
-      after _ _ (handed_judged operands.1) (λ list. after _ _ (induced_judged operands.0 list self_loops multi directed) (λ d. accepted _)))
+      after _ _ (induced_judged operands.0 (handed_entries operands.1) self_loops multi directed) (λ d. accepted _))
   value_judged input (BiComplete n1 n2 directed) = after _ _ (bi_complete_judged n1 n2 directed) (λ d. accepted _)
   value_judged input (Wheel n n1 directed) = after _ _ (wheel_judged n n1 directed) (λ d. accepted _)
   value_judged input Stdin = stdin_judged input

@@ -87,7 +87,7 @@ mutual
   value_same a b (Product e f kind directed) same =
       ap (λ v. and_then v (λ operands. made (product_graph_of operands.0 operands.1 kind directed))) (both_same _ _ _ _ (value_same a b e (λ h. same (or_left _ _ h))) (value_same a b f (λ h. same (or_right _ _ h))))
   value_same a b (Induced e entries self_loops multi directed) same =
-      ap (λ v. and_then v (λ operands. and_then (handed_entries operands.1) (λ list. made (induced_of operands.0 list self_loops multi directed))))
+      ap (λ v. and_then v (λ operands. made (induced_of operands.0 (handed_entries operands.1) self_loops multi directed)))
       (both_same _ _ _ _ (value_same a b e (λ h. same (or_left _ _ h))) (values_same a b entries (λ h. same (or_right _ _ h))))
   value_same a b (BiComplete n1 n2 directed) same = refl
   value_same a b (Wheel n n1 directed) same = refl

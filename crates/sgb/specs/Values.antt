@@ -1,5 +1,5 @@
 -- The graphs that expressions name [GB_BASIC].
-use Rattle.std.specs.Prelude.{◌≡◌, ◌⊎◌, ℕ, ◌^◌, pos, negsuc, min, nat_le, List, [], ◌∷◌, length, Result, Ok, Err, if◌then◌else◌}
+use Rattle.std.specs.Prelude.{◌≡◌, ◌⊎◌, ℕ, ◌^◌, pos, negsuc, min, nat_le, List, [], ◌∷◌, length, Result, Ok, Err, if◌then◌else◌, ◌+◌, map}
 use Rattle.sgb_vec.specs.Limits.{most_entry}
 use Rattle.sgb_vec.specs.Results.{and_then}
 use Rattle.sgb_vec.specs.declared.panics.Panic.{Panic}
@@ -51,16 +51,15 @@ stdin_value input = if nat_le (length input) most_input then graph_of_text input
 abbrev pub both : {T U : Type 0} → Result T Panic → Result U Panic → Result (T × U) Panic
 both first second = and_then first (λ x. and_then second (λ y. Ok (x, y)))
 
--- the entry that is handed on: a number of copies, at most the greatest of 32 bits; a negative number is refused
-abbrev pub handed_entry : EntryValue → Result Entry Panic
-handed_entry (value.Number (pos k)) = Ok (entry.Copies (min k most_entry))
-handed_entry (value.Number (negsuc k)) = Err Bad
-handed_entry (value.Graph g) = Ok (entry.Graph g)
+-- the entry that is handed on: a number of copies, or -k for merged vertex k, each at most the greatest of 32 bits
+abbrev pub handed_entry : EntryValue → Entry
+handed_entry (value.Number (pos k)) = entry.Copies (min k most_entry)
+handed_entry (value.Number (negsuc k)) = entry.Merged (min (k + 1) most_entry)
+handed_entry (value.Graph g) = entry.Graph g
 
 -- the entries that are handed on
-unfoldable pub handed_entries : List EntryValue → Result (List Entry) Panic
-handed_entries [] = Ok []
-handed_entries (first ∷ others) = and_then (both (handed_entry first) (handed_entries others)) (λ p. Ok (p.0 ∷ p.1))
+abbrev pub handed_entries : List EntryValue → List Entry
+handed_entries values = map handed_entry values
 
 abbrev mutual
   -- the graph of an expression where this is standard input, or the first refusal: the operands' from left to right, then
@@ -76,8 +75,7 @@ abbrev mutual
   value_of input (Product e f kind directed) =
       and_then (both (value_of input e) (value_of input f)) (λ operands. made (product_graph_of operands.0 operands.1 kind directed))
   value_of input (Induced e entries self_loops multi directed) =
-      and_then (both (value_of input e) (values_of input entries)) (λ operands.
-      and_then (handed_entries operands.1) (λ list. made (induced_of operands.0 list self_loops multi directed)))
+      and_then (both (value_of input e) (values_of input entries)) (λ operands. made (induced_of operands.0 (handed_entries operands.1) self_loops multi directed))
   value_of input (BiComplete n1 n2 directed) = made (bi_complete_of n1 n2 directed)
   value_of input (Wheel n n1 directed) = made (wheel_of n n1 directed)
   value_of input Stdin = stdin_value input

@@ -1,16 +1,19 @@
 -- The copies of the vertices, one vertex after another.
-use Rattle.std.proofs.Common.{◌≡◌, ◌<◌, ◌≤◌, ◌+◌, ◌-◌, ℕ, zero, suc, List, [], ◌∷◌, ◌++◌, length, refl, sym, ap, ◌∙◌, inl, inr, append-nil, arith}
-use Rattle.std.specs.Prelude.{Contains, flat_map, slice_get}
-use Rattle.std.specs.List.{range_with_len}
+use Rattle.std.proofs.Common.{◌≡◌, ◌<◌, ◌≤◌, ◌+◌, ◌-◌, ℕ, zero, suc, List, [], ◌∷◌, ◌++◌, length, take, false, refl, sym, ap, ◌∙◌, inl, inr, append-nil, arith}
+use Rattle.std.specs.Prelude.{◌⊎◌, Contains, Option, Some, None, filter, flat_map, nat_le, slice_get}
+use Rattle.std.specs.List.{list_any, range_with_len}
 use Rattle.std.specs.Option.{option_map_or}
-use Rattle.std.proofs.lemmas.Bool.{cases_lt}
+use Rattle.std.proofs.lemmas.Bool.{cases_lt, le-leb, lt-leb}
+use Rattle.std.proofs.lemmas.Bool.Decides.{nat_tests}
 use Rattle.std.proofs.lemmas.Grind.{flat_map-append}
 use Rattle.std.proofs.lemmas.List.{take_all}
 use Rattle.std.proofs.lemmas.List.FromFn.{length-range_with_len, get_or-range_with_len}
 use Rattle.sgb_ops.specs.declared.entries.Entry.{Entry}
-use Rattle.sgb_ops.specs.Copies.{CopiesAreAll, CopiesAreApart}
-use Rattle.sgb_ops.specs.Entries.{copies_of, first_copy, size_of_entry, total_of}
-use Rattle.sgb_ops.proofs.EntryTotals.{next_first}
+use Rattle.sgb_ops.specs.Copies.{CopiesAreAll, CopiesAreApart, own_copies}
+use Rattle.sgb_ops.specs.Entries.{copies_by, copies_of, first_copy, is_unnumbered, merged_count, merged_number, own_total, size_of_entry}
+use Rattle.sgb_ops.specs.Operands.{order_of}
+use Rattle.sgb_ops.specs.declared.entries.Entry.TheVariants as entry
+use Rattle.sgb_ops.proofs.EntryTotals.{next_first, number_below, numbered_one}
 use Rattle.sgb_ops.proofs.LineEvents.{range_more}
 
 -- numbers, and those that come after them
@@ -24,34 +27,78 @@ range_on a (suc n) k =
     let start : a + 1 + n ≡ a + suc n = omega arith in
     ap (range_with_len a) count ∙ ap (λ ks. a ∷ ks) (range_on (a + 1) n k ∙ ap (λ i. range_with_len (a + 1) n ++ range_with_len i k) start)
 
--- how many copies a vertex has
-abbrev count_of : List Entry → ℕ → ℕ
-count_of entries v = option_map_or size_of_entry (slice_get entries v) 0
+-- a number of a range
+in_range : (start n u : ℕ) → Contains (range_with_len start n) u → (start ≤ u) × (u < start + n)
+in_range start n u (k, below, here) =
+    let few : k < n = omega (arith, below, length-range_with_len start n) in
+    let at = sym here ∙ get_or-range_with_len start n k u few in
+    (omega (arith, at), omega (arith, at, few))
+
+-- how many copies a vertex has alone
+abbrev size_at : List Entry → ℕ → ℕ
+size_at entries v = option_map_or size_of_entry (slice_get entries v) 0
+
+-- none of these numbers is below k, or all are
+kept_from : (k a n : ℕ) → k ≤ a → filter (nat_le k) (range_with_len a n) ≡ range_with_len a n
+kept_from k a zero low = refl
+kept_from k a (suc n) low = rw (le-leb k a low) (ap (λ ks. a ∷ ks) (kept_from k (a + 1) n (omega (arith, low))))
+
+-- of the copies by an entry those are kept that stand for its vertex alone
+own_by : (k start : ℕ) (e : Entry) → k ≤ start → merged_number e ≤ k → is_unnumbered e ≡ false → filter (nat_le k) (copies_by start e) ≡ range_with_len start (size_of_entry e)
+own_by k start (entry.Copies n) low few numbered = kept_from k start n low
+own_by k start (entry.Graph inner) low few numbered = kept_from k start (order_of inner) low
+own_by k start (entry.Merged n) low few numbered = rw (lt-leb k (n - 1) (grind (arith, nat_tests))) refl
+
+own_at : (entries : List Entry) (v : ℕ) (o : Option Entry) → slice_get entries v ≡ o → list_any is_unnumbered entries ≡ false
+    → filter (nat_le (merged_count entries)) (option_map_or (copies_by (first_copy entries v)) o []) ≡ range_with_len (first_copy entries v) (option_map_or size_of_entry o 0)
+own_at entries v None here numbered = refl
+own_at entries v (Some e) here numbered = own_by (merged_count entries) (first_copy entries v) e (omega arith) (number_below entries v e here) (numbered_one entries v e numbered here)
+
+own_range : (entries : List Entry) (v : ℕ) → list_any is_unnumbered entries ≡ false → own_copies entries v ≡ range_with_len (first_copy entries v) (size_at entries v)
+own_range entries v numbered = own_at entries v (slice_get entries v) refl numbered
 
 -- the copies of the vertices before v
-copies_before : (entries : List Entry) (v : ℕ) → flat_map (copies_of entries) (range_with_len 0 v) ≡ range_with_len 0 (first_copy entries v)
-copies_before entries zero = refl
-copies_before entries (suc v) =
-    let before = copies_before entries v in
+copies_before : (entries : List Entry) (v : ℕ) → list_any is_unnumbered entries ≡ false → flat_map (own_copies entries) (range_with_len 0 v) ≡ range_with_len (merged_count entries) (own_total (take v entries))
+copies_before entries zero numbered = refl
+copies_before entries (suc v) numbered =
+    let k = merged_count entries in
+    let before = copies_before entries v numbered in
     let place : 0 + v ≡ v = omega arith in
-    let start : 0 + first_copy entries v ≡ first_copy entries v = omega arith in
-    ap (flat_map (copies_of entries)) (range_more 0 v)
-    ∙ (flat_map-append (copies_of entries) (range_with_len 0 v) ((0 + v) ∷ [])
-    ∙ (ap (λ ks. ks ++ flat_map (copies_of entries) ((0 + v) ∷ [])) before
-    ∙ (ap (λ (k : ℕ). range_with_len 0 (first_copy entries v) ++ flat_map (copies_of entries) (k ∷ [])) place
-    ∙ (ap (λ ks. range_with_len 0 (first_copy entries v) ++ ks) (append-nil (copies_of entries v))
-    ∙ (ap (λ (k : ℕ). range_with_len 0 (first_copy entries v) ++ range_with_len k (count_of entries v)) (sym start)
-    ∙ (sym (range_on 0 (first_copy entries v) (count_of entries v)) ∙ ap (range_with_len 0) (sym (next_first entries v))))))))
+    let next : own_total (take v entries) + size_at entries v ≡ own_total (take (suc v) entries) = omega (arith, next_first entries v) in
+    ap (flat_map (own_copies entries)) (range_more 0 v)
+    ∙ (flat_map-append (own_copies entries) (range_with_len 0 v) ((0 + v) ∷ [])
+    ∙ (ap (λ ks. ks ++ flat_map (own_copies entries) ((0 + v) ∷ [])) before
+    ∙ (ap (λ (i : ℕ). range_with_len k (own_total (take v entries)) ++ flat_map (own_copies entries) (i ∷ [])) place
+    ∙ (ap (λ ks. range_with_len k (own_total (take v entries)) ++ ks) (append-nil (own_copies entries v) ∙ own_range entries v numbered)
+    ∙ (sym (range_on k (own_total (take v entries)) (size_at entries v)) ∙ ap (range_with_len k) next)))))
 
 pub copies_are_all : CopiesAreAll
-copies_are_all entries = copies_before entries (length entries) ∙ ap (λ es. range_with_len 0 (total_of es)) (take_all (length entries) entries (omega arith))
+copies_are_all entries numbered =
+    copies_before entries (length entries) numbered ∙ ap (λ es. range_with_len (merged_count entries) (own_total es)) (take_all (length entries) entries (omega arith))
 
--- a copy of v stands between the first one and that of the next vertex
-copy_between : (entries : List Entry) (v u : ℕ) → Contains (copies_of entries v) u → (first_copy entries v ≤ u) × (u < first_copy entries (suc v))
-copy_between entries v u (k, below, here) =
-    let few : k < count_of entries v = omega (arith, below, length-range_with_len (first_copy entries v) (count_of entries v)) in
-    let at = sym here ∙ get_or-range_with_len (first_copy entries v) (count_of entries v) k u few in
-    (omega (arith, at), omega (arith, at, few, next_first entries v))
+-- a copy by an entry stands for its vertex alone, between the first one and that of the next vertex; or it is its merged one
+by_entry : (start u : ℕ) (e : Entry) → is_unnumbered e ≡ false → Contains (copies_by start e) u → ((start ≤ u) × (u < start + size_of_entry e)) ⊎ (e ≡ entry.Merged (u + 1))
+by_entry start u (entry.Copies n) numbered (k, below, here) = inl (in_range start n u (k, below, here))
+by_entry start u (entry.Graph inner) numbered (k, below, here) = inl (in_range start (order_of inner) u (k, below, here))
+by_entry start u (entry.Merged n) numbered (zero, below, here) =
+    let number : n ≡ u + 1 = let same : n - 1 ≡ u = here in grind (arith, nat_tests) in
+    inr (ap entry.Merged number)
+by_entry start u (entry.Merged n) numbered (suc k, below, here) = absurd (omega (arith, below))
+
+-- the same for the copies of a vertex
+copy_between : (entries : List Entry) (v u : ℕ) → list_any is_unnumbered entries ≡ false → Contains (copies_of entries v) u
+    → ((first_copy entries v ≤ u) × (u < first_copy entries (suc v))) ⊎ (slice_get entries v ≡ Some (entry.Merged (u + 1)))
+copy_between entries v u numbered copy = by_option (slice_get entries v) refl copy
+  where
+    by_option : (o : Option Entry) → slice_get entries v ≡ o → Contains (option_map_or (copies_by (first_copy entries v)) o []) u
+        → ((first_copy entries v ≤ u) × (u < first_copy entries (suc v))) ⊎ (slice_get entries v ≡ Some (entry.Merged (u + 1)))
+    by_option None here (k, below, at) = absurd (omega (arith, below))
+    by_option (Some e) here inside = elim (by_entry (first_copy entries v) u e (numbered_one entries v e numbered here) inside) [
+      | inl between ↦
+          let size : size_at entries v ≡ size_of_entry e = ap (λ o. option_map_or size_of_entry o 0) here in
+          inl (between.0, omega (arith, between.1, size, next_first entries v))
+      | inr merged ↦ inr (here ∙ ap (λ (x : Entry). Some x) merged)
+    ]
 
 -- first copies rise
 firsts_rise : (entries : List Entry) (v d : ℕ) → first_copy entries v ≤ first_copy entries (d + v)
@@ -67,14 +114,25 @@ firsts_order entries v w less =
     let place : (w - suc v) + suc v ≡ w = omega (arith, less) in
     omega (arith, firsts_rise entries (suc v) (w - suc v), ap (first_copy entries) place)
 
+-- a merged copy stands before all that stand for one vertex alone
+merged_first : (entries : List Entry) (v w u : ℕ) → slice_get entries v ≡ Some (entry.Merged (u + 1)) → u < first_copy entries w
+merged_first entries v w u merged = omega (arith, number_below entries v (entry.Merged (u + 1)) merged)
+
 pub copies_are_apart : CopiesAreApart
-copies_are_apart entries u v w first second =
-    let a = copy_between entries v u first in
-    let b = copy_between entries w u second in
-    elim (cases_lt v w) [
-      | inl less ↦ absurd (omega (arith, a.1, b.0, firsts_order entries v w less))
-      | inr up ↦ elim (cases_lt w v) [
-        | inl less ↦ absurd (omega (arith, a.0, b.1, firsts_order entries w v less))
-        | inr down ↦ omega (arith, up, down)
+copies_are_apart entries u v w numbered first second =
+    elim (copy_between entries v u numbered first) [
+      | inl a ↦ elim (copy_between entries w u numbered second) [
+        | inl b ↦ inl (elim (cases_lt v w) [
+          | inl less ↦ absurd (omega (arith, a.1, b.0, firsts_order entries v w less))
+          | inr up ↦ elim (cases_lt w v) [
+            | inl less ↦ absurd (omega (arith, a.0, b.1, firsts_order entries w v less))
+            | inr down ↦ omega (arith, up, down)
+          ]
+        ])
+        | inr b ↦ absurd (omega (arith, a.0, merged_first entries w v u b))
+      ]
+      | inr a ↦ elim (copy_between entries w u numbered second) [
+        | inl b ↦ absurd (omega (arith, b.0, merged_first entries v w u a))
+        | inr b ↦ inr (a, b)
       ]
     ]

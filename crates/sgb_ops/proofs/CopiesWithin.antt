@@ -1,7 +1,7 @@
 -- The vertices that entries make: the names of all, and the events between them.
-use Rattle.std.proofs.Common.{◌≡◌, ◌<◌, ◌≤◌, ◌+◌, ℕ, zero, suc, Bool, List, [], ◌∷◌, length, get_or, refl, sym, ap, subst, ◌∙◌, arith}
+use Rattle.std.proofs.Common.{◌≡◌, ◌<◌, ◌≤◌, ◌+◌, ℕ, zero, suc, Bool, false, List, [], ◌∷◌, length, map, get_or, refl, sym, ap, subst, ◌∙◌, arith}
 use Rattle.std.specs.Prelude.{All, flat_map, slice_get}
-use Rattle.std.specs.List.{range_with_len, enumerate_from}
+use Rattle.std.specs.List.{list_any, range_with_len, enumerate_from}
 use Rattle.std.specs.Option.{option_map_or}
 use Rattle.std.proofs.lemmas.List.{length-append, length-map}
 use Rattle.std.proofs.lemmas.List.Elements.{All-nil, All-cons, All-head, All-tail, All-append, All-map, All-filter}
@@ -11,14 +11,14 @@ use Rattle.sgb_graph.specs.Graphs.{GraphData}
 use Rattle.sgb_graph.specs.declared.fields.Link.{Link}
 use Rattle.sgb_ops.specs.declared.entries.Entry.{Entry}
 use Rattle.sgb_ops.specs.declared.entries.Entry.TheVariants as entry
-use Rattle.sgb_ops.specs.Copies.{IsKeptEntry}
+use Rattle.sgb_ops.specs.Copies.{IsKeptEntry, copies_start, count_by}
 use Rattle.sgb_ops.specs.Ends.{AllWithin}
-use Rattle.sgb_ops.specs.Entries.{copies_of, events_within, first_copy, inner_event, inner_events, inner_events_from, names_by_entries, names_of_copies, size_of_entry, total_of}
+use Rattle.sgb_ops.specs.Entries.{copies_of, events_within, first_copy, inner_event, inner_events, inner_events_from, is_unnumbered, merged_count, merged_name, names_by_entries, names_of_copies, own_names, own_total, size_of_entry, total_of}
 use Rattle.sgb_ops.specs.Induced.{all_events, copies_met, event_between, events_between, events_of_arc, events_of_copies, events_of_copy, induced_events, is_met, is_wanted, wanted}
 use Rattle.sgb_ops.specs.Operands.{order_of, places_of, names_of}
 use Rattle.sgb_ops.specs.Taken.{taken}
 use Rattle.sgb_ops.specs.Titles.{numbered_name, substituted_name}
-use Rattle.sgb_ops.proofs.EntryTotals.{copies_within, total_at}
+use Rattle.sgb_ops.proofs.EntryTotals.{copies_within, copies-range, total_at}
 use Rattle.sgb_ops.proofs.EventsWithin.{Within, merged_unless_within, taken_tips, events_after_within}
 
 -- as many names as vertices
@@ -29,14 +29,20 @@ length-names_of_copies text (entry.Copies (suc (suc zero))) = refl
 length-names_of_copies text (entry.Copies (suc (suc (suc k)))) =
     length-map (range_with_len 0 (suc (suc (suc k)))) (numbered_name text) ∙ length-range_with_len 0 (suc (suc (suc k)))
 length-names_of_copies text (entry.Graph inner) = length-map (names_of inner) (substituted_name text) ∙ length-map inner.vertices (λ x. x.name)
+length-names_of_copies text (entry.Merged k) = refl
+
+length-own : (names : List (List ℕ)) (entries : List Entry) → length entries ≡ length names → length (own_names names entries) ≡ own_total entries
+length-own [] [] same = refl
+length-own [] (e ∷ entries) same = absurd (omega (arith, same))
+length-own (name ∷ names) [] same = absurd (omega (arith, same))
+length-own (name ∷ names) (e ∷ entries) same =
+    length-append (names_of_copies name e) (own_names names entries)
+    ∙ (omega (arith, length-names_of_copies name e, length-own names entries (omega (arith, same)), sum_by-cons size_of_entry e entries))
 
 pub length-names : (names : List (List ℕ)) (entries : List Entry) → length entries ≡ length names → length (names_by_entries names entries) ≡ total_of entries
-length-names [] [] same = refl
-length-names [] (e ∷ entries) same = absurd (omega (arith, same))
-length-names (name ∷ names) [] same = absurd (omega (arith, same))
-length-names (name ∷ names) (e ∷ entries) same =
-    length-append (names_of_copies name e) (names_by_entries names entries)
-    ∙ (omega (arith, length-names_of_copies name e, length-names names entries (omega (arith, same)), sum_by-cons size_of_entry e entries))
+length-names names entries same =
+    let merged = length-map (range_with_len 1 (merged_count entries)) merged_name ∙ length-range_with_len 1 (merged_count entries) in
+    length-append (map merged_name (range_with_len 1 (merged_count entries))) (own_names names entries) ∙ omega (arith, merged, length-own names entries same)
 
 -- what holds of what each element gives holds of what all give
 all_of_each : {X Y : Type 0} (Q : X → Type 0) (P : Y → Type 0) (f : X → List Y) (xs : List X) → All Q xs → ((x : X) → Q x → All P (f x)) → All P (flat_map f xs)
@@ -58,10 +64,12 @@ range_below : (n a k : ℕ) → a + k ≤ n → All (Below n) (range_with_len a 
 range_below n a zero few = All-nil (Below n)
 range_below n a (suc k) few = All-cons (Below n) a (range_with_len (a + 1) k) (omega (arith, few)) (range_below n (a + 1) k (omega (arith, few)))
 
-module _ (entries : List Entry) (directed : Bool) where
+module _ (entries : List Entry) (directed : Bool) (numbered : list_any is_unnumbered entries ≡ false) where
   -- the copies of a vertex are among those of all
   all_copies : (v : ℕ) → All (Below (total_of entries)) (copies_of entries v)
-  all_copies v = range_below (total_of entries) (first_copy entries v) (option_map_or size_of_entry (slice_get entries v) 0) (copies_within entries v)
+  all_copies v =
+      subst (All (Below (total_of entries))) (sym (copies-range entries v))
+      (range_below (total_of entries) (copies_start entries v) (option_map_or count_by (slice_get entries v) 0) (copies_within entries v numbered))
 
   of_arc : (v u : ℕ) (a : Link) → u < total_of entries → AllWithin (total_of entries) (events_of_arc entries directed v u a)
   of_arc v u a below =
@@ -81,6 +89,7 @@ module _ (entries : List Entry) (directed : Bool) where
   -- those inside an entry are between its vertices
   inner_within : (start : ℕ) (e : Entry) → start + size_of_entry e ≤ total_of entries → IsKeptEntry e → AllWithin (total_of entries) (inner_events directed start e)
   inner_within start (entry.Copies k) few kept = All-nil (Within (total_of entries))
+  inner_within start (entry.Merged k) few kept = All-nil (Within (total_of entries))
   inner_within start (entry.Graph inner) few kept =
       events_after_within (total_of entries) (inner_events_from directed start inner) 0 (order_of inner)
       (λ w low high.

@@ -1,10 +1,12 @@
 -- How many vertices entries make.
-use Rattle.std.proofs.Common.{◌≡◌, ◌<◌, ◌≤◌, ◌+◌, ◌-◌, ℕ, zero, suc, false, List, [], ◌∷◌, ◌++◌, take, length, get_or, refl, sym, ap, subst, ◌∙◌, arith}
-use Rattle.std.specs.Prelude.{All, slice_get}
+use Rattle.std.proofs.Common.{◌≡◌, ◌≢◌, ◌<◌, ◌≤◌, ◌+◌, ◌-◌, ℕ, zero, suc, Bool, true, false, List, [], ◌∷◌, ◌++◌, take, drop, max, length, get_or, Option, Some, None, refl, sym, ap, subst, ◌∙◌, arith, rules}
+use Rattle.std.specs.Prelude.{All, ◌||◌, slice_get}
 use Rattle.std.specs.List.{list_any, range_with_len}
 use Rattle.std.specs.Option.{option_map_or}
 use Rattle.std.proofs.lemmas.Bool.{le-ltb, eq-eqb}
-use Rattle.std.proofs.lemmas.List.{take_more}
+use Rattle.std.proofs.lemmas.Bool.Decides.{nat_tests}
+use Rattle.std.proofs.lemmas.List.{drop_more, take_more}
+use Rattle.std.proofs.lemmas.Option.{slice_get_read}
 use Rattle.std.proofs.lemmas.List.Elements.{All-nil, All-cons, All-append}
 use Rattle.std.proofs.lemmas.List.FromFn.{length-map-range_with_len, get_or-map-range_with_len}
 use Rattle.std.proofs.lemmas.List.Sums.{sum_by-cons, sum_by_push, sum_by-take-le}
@@ -12,19 +14,19 @@ use Rattle.sgb_vec.specs.Limits.{most_vertices}
 use Rattle.std.specs.Prelude.{Ok}
 use Rattle.sgb_ops.specs.declared.entries.Entry.{Entry}
 use Rattle.sgb_ops.specs.declared.entries.Entry.TheVariants as entry
-use Rattle.sgb_ops.specs.Copies.{IsKeptEntry, first_copies}
-use Rattle.sgb_ops.specs.Entries.{accepted_entries, copies_of, first_copy, is_too_great, size_of_entry, total_of}
+use Rattle.sgb_ops.specs.Copies.{IsKeptEntry, copies_end, copies_start, count_by, first_copies, start_by}
+use Rattle.sgb_ops.specs.Entries.{accepted_entries, copies_by, copies_of, first_copy, is_too_great, is_unnumbered, merged_count, merged_number, own_total, size_of_entry, total_of}
 
 -- the entries up to the one at this place
 entries_more : (entries : List Entry) (i : ℕ) (e : Entry) → i < length entries → e ≡ get_or entries i e → take (i + 1) entries ≡ take i entries ++ e ∷ []
 entries_more entries i e below is = take_more entries i e below ∙ ap (λ x. take i entries ++ x ∷ []) (sym is)
 
 -- it counts
-pub total_more : (entries : List Entry) (i : ℕ) (e : Entry) → i < length entries → e ≡ get_or entries i e → total_of (take (i + 1) entries) ≡ total_of (take i entries) + size_of_entry e
-total_more entries i e below is = ap total_of (entries_more entries i e below is) ∙ sum_by_push size_of_entry (take i entries) e
+pub total_more : (entries : List Entry) (i : ℕ) (e : Entry) → i < length entries → e ≡ get_or entries i e → own_total (take (i + 1) entries) ≡ own_total (take i entries) + size_of_entry e
+total_more entries i e below is = ap own_total (entries_more entries i e below is) ∙ sum_by_push size_of_entry (take i entries) e
 
-pub total_at : (entries : List Entry) (i : ℕ) (d : Entry) → i < length entries → total_of (take (i + 1) entries) ≡ total_of (take i entries) + size_of_entry (get_or entries i d)
-total_at entries i d below = ap total_of (take_more entries i d below) ∙ sum_by_push size_of_entry (take i entries) (get_or entries i d)
+pub total_at : (entries : List Entry) (i : ℕ) (d : Entry) → i < length entries → own_total (take (i + 1) entries) ≡ own_total (take i entries) + size_of_entry (get_or entries i d)
+total_at entries i d below = ap own_total (take_more entries i d below) ∙ sum_by_push size_of_entry (take i entries) (get_or entries i d)
 
 -- it is sound, as those before are
 pub kept_more : (entries : List Entry) (i : ℕ) (e : Entry) → i < length entries → e ≡ get_or entries i e → All IsKeptEntry (take i entries) → IsKeptEntry e → All IsKeptEntry (take (i + 1) entries)
@@ -33,20 +35,21 @@ kept_more entries i e below is before now =
     (All-append IsKeptEntry (take i entries) (e ∷ []) before (All-cons IsKeptEntry e [] now (All-nil IsKeptEntry)))
 
 -- where all entries make no more vertices than a graph can have, none is too great
-not_too_great : (e : Entry) → size_of_entry e ≤ most_vertices → is_too_great e ≡ false
-not_too_great (entry.Copies k) few = le-ltb most_vertices k few
-not_too_great (entry.Graph inner) few = refl
+not_too_great : (e : Entry) → size_of_entry e ≤ most_vertices → merged_number e ≤ most_vertices → is_too_great e ≡ false
+not_too_great (entry.Copies k) few low = le-ltb most_vertices k few
+not_too_great (entry.Graph inner) few low = refl
+not_too_great (entry.Merged k) few low = le-ltb most_vertices k low
 
 none_too_great : (entries : List Entry) → total_of entries ≤ most_vertices → list_any is_too_great entries ≡ false
 none_too_great [] few = refl
 none_too_great (e ∷ entries) few =
     let sum = sum_by-cons size_of_entry e entries in
-    rw (not_too_great e (omega (arith, few, sum))) (none_too_great entries (omega (arith, few, sum)))
+    rw (not_too_great e (omega (arith, few, sum)) (omega (arith, few, sum))) (none_too_great entries (omega (arith, few, sum)))
 
--- such entries, one for each vertex, are accepted
-pub few_accepted : (n : ℕ) (entries : List Entry) → length entries ≡ n → total_of entries ≤ most_vertices → accepted_entries n entries ≡ Ok entries
-few_accepted n entries count few =
-    rw (eq-eqb (length entries) n count, none_too_great entries few, le-ltb most_vertices (total_of entries) few) refl
+-- such entries, one for each vertex, are accepted where each merged vertex has a number
+pub few_accepted : (n : ℕ) (entries : List Entry) → length entries ≡ n → list_any is_unnumbered entries ≡ false → total_of entries ≤ most_vertices → accepted_entries n entries ≡ Ok entries
+few_accepted n entries count numbered few =
+    rw (eq-eqb (length entries) n count, numbered, none_too_great entries few, le-ltb most_vertices (total_of entries) few) refl
 
 -- the first copy of a vertex or of what comes after the last one, where it is looked up
 pub first_at : (entries : List Entry) (firsts : List ℕ) (v d : ℕ) → firsts ≡ first_copies entries → v ≤ length entries → get_or firsts v d ≡ first_copy entries v
@@ -56,26 +59,111 @@ first_at entries firsts v d is within =
 pub length-firsts : (entries : List Entry) (firsts : List ℕ) → firsts ≡ first_copies entries → length firsts ≡ length entries + 1
 length-firsts entries firsts is = ap length is ∙ length-map-range_with_len (first_copy entries) 0 (length entries + 1)
 
--- the copies of a vertex come between its first one and that of the next vertex
-pub next_first : (entries : List Entry) (v : ℕ) → first_copy entries (suc v) ≡ first_copy entries v + option_map_or size_of_entry (slice_get entries v) 0
-next_first [] zero = refl
-next_first [] (suc v) = refl
-next_first (e ∷ entries) zero = omega (arith, sum_by-cons size_of_entry e [])
-next_first (e ∷ entries) (suc v) =
+-- the copies of a vertex alone come between its first one and that of the next vertex
+next_own : (entries : List Entry) (v : ℕ) → own_total (take (suc v) entries) ≡ own_total (take v entries) + option_map_or size_of_entry (slice_get entries v) 0
+next_own [] zero = refl
+next_own [] (suc v) = refl
+next_own (e ∷ entries) zero = omega (arith, sum_by-cons size_of_entry e [])
+next_own (e ∷ entries) (suc v) =
     let more = sum_by-cons size_of_entry e (take (suc v) entries) in
     let some = sum_by-cons size_of_entry e (take v entries) in
-    omega (arith, more, some, next_first entries v)
+    omega (arith, more, some, next_own entries v)
+
+pub next_first : (entries : List Entry) (v : ℕ) → first_copy entries (suc v) ≡ first_copy entries v + option_map_or size_of_entry (slice_get entries v) 0
+next_first entries v = omega (arith, next_own entries v)
 
 pub next_copy : (entries : List Entry) (v : ℕ) → first_copy entries (v + 1) ≡ first_copy entries v + option_map_or size_of_entry (slice_get entries v) 0
 next_copy entries v =
     let next : v + 1 ≡ suc v = omega arith in
     ap (first_copy entries) next ∙ next_first entries v
 
-pub copies_between : (entries : List Entry) (v a b : ℕ) → a ≡ first_copy entries v → b ≡ first_copy entries (v + 1) → range_with_len a (b - a) ≡ copies_of entries v
+-- the copies of a vertex are those from their start on
+copies_by-range : (start : ℕ) (e : Entry) → copies_by start e ≡ range_with_len (start_by start e) (count_by e)
+copies_by-range start (entry.Copies k) = refl
+copies_by-range start (entry.Graph inner) = refl
+copies_by-range start (entry.Merged k) = refl
+
+pub copies-range : (entries : List Entry) (v : ℕ) → copies_of entries v ≡ range_with_len (copies_start entries v) (option_map_or count_by (slice_get entries v) 0)
+copies-range entries v =
+    elim (slice_get entries v) as (λ o. option_map_or (copies_by (first_copy entries v)) o [] ≡ range_with_len (option_map_or (start_by (first_copy entries v)) o 0) (option_map_or count_by o 0)) [
+      | None ↦ refl
+      | Some e ↦ copies_by-range (first_copy entries v) e
+    ]
+
+pub copies_between : (entries : List Entry) (v a b : ℕ) → a ≡ copies_start entries v → b ≡ copies_end entries v → range_with_len a (b - a) ≡ copies_of entries v
 copies_between entries v a b first last =
-    let size : b - a ≡ option_map_or size_of_entry (slice_get entries v) 0 = omega (arith, first, last, next_copy entries v) in
-    ap (λ k. range_with_len a k) size ∙ ap (λ k. range_with_len k (option_map_or size_of_entry (slice_get entries v) 0)) first
+    let count = option_map_or count_by (slice_get entries v) 0 in
+    let size : b - a ≡ count = omega (arith, first, last) in
+    ap (λ k. range_with_len a k) size ∙ (ap (λ k. range_with_len k count) first ∙ sym (copies-range entries v))
+
+-- the entry that is looked up
+entry_there : (entries : List Entry) (v : ℕ) (e : Entry) → v < length entries → e ≡ get_or entries v e → slice_get entries v ≡ Some e
+entry_there entries v e below is = slice_get_read entries (length entries) v e refl below is
+
+-- a merged vertex is a copy alone
+pub ends_merged : (entries : List Entry) (v k : ℕ) (e : Entry) → v < length entries → e ≡ get_or entries v e → e ≡ entry.Merged k
+    → (copies_start entries v ≡ k - 1) × (copies_end entries v ≡ k - 1 + 1)
+ends_merged entries v k e below is same =
+    let here : slice_get entries v ≡ Some (entry.Merged k) = entry_there entries v e below is ∙ ap (λ (x : Entry). Some x) same in
+    let start : copies_start entries v ≡ k - 1 = ap (λ o. option_map_or (start_by (first_copy entries v)) o 0) here in
+    (start, omega (arith, start, ap (λ o. option_map_or count_by o 0) here))
+
+-- other copies begin at the first one, and end where those of the next vertex begin
+own_by : (first : ℕ) (e : Entry) → ((k : ℕ) → e ≢ entry.Merged k) → (start_by first e ≡ first) × (count_by e ≡ size_of_entry e)
+own_by first (entry.Copies k) other = (refl, refl)
+own_by first (entry.Graph inner) other = (refl, refl)
+own_by first (entry.Merged k) other = absurd (other k refl)
+
+pub ends_own : (entries : List Entry) (v : ℕ) (e : Entry) → v < length entries → e ≡ get_or entries v e → ((k : ℕ) → e ≢ entry.Merged k)
+    → (copies_start entries v ≡ first_copy entries v) × (copies_end entries v ≡ first_copy entries (v + 1))
+ends_own entries v e below is other =
+    let here = entry_there entries v e below is in
+    let own = own_by (first_copy entries v) e other in
+    let start : copies_start entries v ≡ first_copy entries v = ap (λ o. option_map_or (start_by (first_copy entries v)) o 0) here ∙ own.0 in
+    let count : option_map_or count_by (slice_get entries v) 0 ≡ size_of_entry e = ap (λ o. option_map_or count_by o 0) here ∙ own.1 in
+    let size : option_map_or size_of_entry (slice_get entries v) 0 ≡ size_of_entry e = ap (λ o. option_map_or size_of_entry o 0) here in
+    (start, omega (arith, start, count, size, next_copy entries v))
+
+-- what is left of entries, one after another
+pub unnumbered_left : (entries : List Entry) (i : ℕ) (e : Entry) → i < length entries → e ≡ get_or entries i e
+    → list_any is_unnumbered (drop i entries) ≡ is_unnumbered e || list_any is_unnumbered (drop (i + 1) entries)
+unnumbered_left entries i e below is = ap (list_any is_unnumbered) (drop_more entries i e below ∙ ap (λ x. x ∷ drop (i + 1) entries) (sym is))
+
+pub merged_left : (entries : List Entry) (i : ℕ) (e : Entry) → i < length entries → e ≡ get_or entries i e
+    → merged_count (drop i entries) ≡ max (merged_number e) (merged_count (drop (i + 1) entries))
+merged_left entries i e below is = ap merged_count (drop_more entries i e below ∙ ap (λ x. x ∷ drop (i + 1) entries) (sym is))
+
+-- a merged number is among those that there are
+pub number_below : (entries : List Entry) (v : ℕ) (e : Entry) → slice_get entries v ≡ Some e → merged_number e ≤ merged_count entries
+number_below [] v e here = absurd (search (rules, here))
+number_below (x ∷ entries) zero e here = let same : x ≡ e = search (rules, here) in omega (arith, ap merged_number same)
+number_below (x ∷ entries) (suc v) e here = omega (arith, number_below entries v e here)
+
+or_none : (b c : Bool) → (b || c) ≡ false → (b ≡ false) × (c ≡ false)
+or_none false false h = (refl, refl)
+or_none false true h = absurd (search (rules, h))
+or_none true c h = absurd (search (rules, h))
+
+-- none of numbered entries has no number
+pub numbered_one : (entries : List Entry) (v : ℕ) (e : Entry) → list_any is_unnumbered entries ≡ false → slice_get entries v ≡ Some e → is_unnumbered e ≡ false
+numbered_one [] v e numbered here = absurd (search (rules, here))
+numbered_one (x ∷ entries) zero e numbered here = let same : x ≡ e = search (rules, here) in ap is_unnumbered (sym same) ∙ (or_none (is_unnumbered x) (list_any is_unnumbered entries) numbered).0
+numbered_one (x ∷ entries) (suc v) e numbered here = numbered_one entries v e (or_none (is_unnumbered x) (list_any is_unnumbered entries) numbered).1 here
 
 -- they are among those of all
-pub copies_within : (entries : List Entry) (v : ℕ) → first_copy entries v + option_map_or size_of_entry (slice_get entries v) 0 ≤ total_of entries
-copies_within entries v = omega (arith, next_copy entries v, sum_by-take-le size_of_entry entries (v + 1))
+fits_by : (total first : ℕ) (e : Entry) → first + size_of_entry e ≤ total → merged_number e ≤ total → is_unnumbered e ≡ false → start_by first e + count_by e ≤ total
+fits_by total first (entry.Copies k) own merged numbered = own
+fits_by total first (entry.Graph inner) own merged numbered = own
+fits_by total first (entry.Merged k) own merged numbered = grind (arith, nat_tests)
+
+within_by : (entries : List Entry) (v : ℕ) (o : Option Entry) → slice_get entries v ≡ o → list_any is_unnumbered entries ≡ false
+    → option_map_or (start_by (first_copy entries v)) o 0 + option_map_or count_by o 0 ≤ total_of entries
+within_by entries v None here numbered = omega arith
+within_by entries v (Some e) here numbered =
+    let size : option_map_or size_of_entry (slice_get entries v) 0 ≡ size_of_entry e = ap (λ o. option_map_or size_of_entry o 0) here in
+    let more = next_copy entries v in
+    let all = sum_by-take-le size_of_entry entries (v + 1) in
+    fits_by (total_of entries) (first_copy entries v) e (omega (arith, size, more, all)) (omega (arith, number_below entries v e here)) (numbered_one entries v e numbered here)
+
+pub copies_within : (entries : List Entry) (v : ℕ) → list_any is_unnumbered entries ≡ false → copies_start entries v + option_map_or count_by (slice_get entries v) 0 ≤ total_of entries
+copies_within entries v numbered = within_by entries v (slice_get entries v) refl numbered

@@ -8,7 +8,7 @@ use Rattle.std.proofs.lemmas.List.Elements.{filter-append}
 use Rattle.sgb_graph.specs.Events.{Event}
 use Rattle.sgb_graph.specs.declared.fields.Link.{Link}
 use Rattle.sgb_ops.specs.declared.entries.Entry.{Entry}
-use Rattle.sgb_ops.specs.Copies.{leads_to_copies}
+use Rattle.sgb_ops.specs.Copies.{copies_end, copies_start, leads_to_copies}
 use Rattle.sgb_ops.specs.Entries.{first_copy, inner_events}
 use Rattle.sgb_ops.specs.Induced.{event_between, events_of_arc, is_met, is_wanted, wanted}
 use Rattle.sgb_ops.proofs.EntryTotals.{copies_between}
@@ -61,8 +61,8 @@ met_none directed v u a stop t past =
 -- an arc that leads to no copies gives no events
 no_copies : (entries : List Entry) (directed : Bool) (v u : ℕ) (a : Link) → leads_to_copies entries a ≡ false → events_of_arc entries directed v u a ≡ []
 no_copies entries directed v u a none =
-    let first = first_copy entries a.tip in
-    let last = first_copy entries (a.tip + 1) in
+    let first = copies_start entries a.tip in
+    let last = copies_end entries a.tip in
     let less = ltb-false first last none in
     let count : last - first ≡ 0 = omega (arith, less) in
     ap (λ ts. map (event_between u a.len) (filter (is_met directed v u a.tip) ts)) (sym (copies_between entries a.tip first last refl refl) ∙ ap (range_with_len first) count)

@@ -1,4 +1,4 @@
--- Induced graphs: vertices dropped, kept, repeated, or with a graph put in their place [GB_BASIC, induced].
+-- Induced graphs: vertices dropped, kept, repeated, merged, or with a graph put in their place [GB_BASIC, induced].
 use Rattle.std.specs.Prelude.{ℕ, ℤ, ◌==◌, Bool, not, ◌||◌, List, [], ◌∷◌, ◌++◌, map, filter, flat_map, codes, nat_le, Result, Ok}
 use Rattle.sgb_vec.specs.Results.{and_then}
 use Rattle.sgb_vec.specs.declared.panics.Panic.{Panic}

@@ -3,11 +3,11 @@ ghost use Rattle.std.specs.Prelude.{◌≡◌, ◌<◌, ◌≤◌, ◌++◌, [],
 ghost use Rattle.std.specs.List.{range_with_len};
 ghost use Rattle.sgb_vec.specs.Limits.{most_vertices};
 ghost use Rattle.sgb_ops.specs.declared.entries.Entry.TheVariants as entry;
-ghost use Rattle.sgb_ops.specs.Entries.{names_by_entries, names_of_copies};
+ghost use Rattle.sgb_ops.specs.Entries.{merged_name, names_by_entries, names_of_copies, own_names};
 ghost use Rattle.sgb_ops.specs.Operands.{names_of};
 ghost use Rattle.sgb_ops.specs.Titles.{numbered_name, primed_name, substituted_name};
 
-use crate::entries::Entry;
+use crate::entries::{Entry, merged_count};
 use crate::titles::{ended_name, joined_name};
 use sgb_graph::{Graph, Names};
 use sgb_vec::{Panic, Text, name_of};
@@ -37,13 +37,49 @@ pub(crate) fn names_by_entries(
     ensures memory { IsOkUnless result Panic.NoRoom }
 {
     let mut names = Names::new(alloc);
-    for v in 0..graph.n() {
-        push_copies(alloc, &mut names, graph.name(v), &entries[v as usize])?;
-    }
+    push_merged(alloc, &mut names, merged_count(entries))?;
+    push_own(alloc, &mut names, graph, entries)?;
     Ok(names)
 }
 
-// Appends the names of the vertices in the place of the one of this name.
+// Appends the names of so many merged vertices.
+fn push_merged(alloc: Global, names: &mut Names, count: u32) -> Result<(), Panic>
+    ensures ok { OnOk result (names.new ≡ names.old ++ map merged_name (range_with_len 1 count)) }
+    ensures memory { IsOkUnless result Panic.NoRoom }
+{
+    for k in 0..count {
+        push_name(names, merged_name(alloc, k + 1)?)?;
+    }
+    Ok(())
+}
+
+// The name of merged vertex `k`.
+fn merged_name(alloc: Global, k: u32) -> Result<Text, Panic>
+    ensures ok { IfOk result (λ text. text ≡ merged_name k) }
+    ensures memory { IsOkUnless result Panic.NoRoom }
+{
+    let number = name_of(alloc, &[k])?;
+    joined_name(alloc, &number, 0, b"-", &number, MOST_NUMBER)
+}
+
+// Appends the names of the vertices that are not merged.
+fn push_own(
+    alloc: Global,
+    names: &mut Names,
+    graph: &Graph,
+    entries: &[Entry],
+) -> Result<(), Panic>
+    requires { length entries.now ≡ length graph.now.vertices }
+    ensures ok { OnOk result (names.new ≡ names.old ++ own_names (names_of graph.now) entries.now) }
+    ensures memory { IsOkUnless result Panic.NoRoom }
+{
+    for v in 0..graph.n() {
+        push_copies(alloc, names, graph.name(v), &entries[v as usize])?;
+    }
+    Ok(())
+}
+
+// Appends the names of the vertices in the place of the one of this name alone.
 fn push_copies(alloc: Global, names: &mut Names, name: &Text, entry: &Entry) -> Result<(), Panic>
     ensures ok { OnOk result (names.new ≡ names.old ++ names_of_copies name.now entry.now) }
     ensures memory { IsOkUnless result Panic.NoRoom }
@@ -51,6 +87,7 @@ fn push_copies(alloc: Global, names: &mut Names, name: &Text, entry: &Entry) -> 
     match entry {
         Entry::Copies(count) => push_counted(alloc, names, name, *count),
         Entry::Graph(inner) => push_substituted(alloc, names, name, inner),
+        Entry::Merged(_) => Ok(()),
     }
 }
 

@@ -1,8 +1,9 @@
 //! What is put in the place of each vertex of a graph (GB_BASIC, induced).
-ghost use Rattle.std.specs.Prelude.{◌≡◌, ◌≤◌, ◌<◌, ◌+◌, ◌^◌, Ok, Err, length, All, OnOk, IfOk, IfErr, IsOkUnless};
+ghost use Rattle.std.specs.Prelude.{◌≡◌, ◌≤◌, ◌<◌, ◌+◌, ◌*◌, ◌^◌, false, Ok, Err, length, All, OnOk, IfOk, IfErr, IsOkUnless};
 ghost use Rattle.sgb_vec.specs.Limits.{most_vertices};
-ghost use Rattle.sgb_ops.specs.Copies.{IsKeptEntry, first_copies};
-ghost use Rattle.sgb_ops.specs.Entries.{accepted_entries, first_copy, size_of_entry, total_of};
+ghost use Rattle.std.specs.List.{list_any};
+ghost use Rattle.sgb_ops.specs.Copies.{IsKeptEntry, copies_end, copies_start, first_copies};
+ghost use Rattle.sgb_ops.specs.Entries.{accepted_entries, first_copy, is_unnumbered, merged_count, merged_number, own_total, size_of_entry, total_of};
 
 use sgb_graph::Graph;
 use sgb_vec::{MOST_VERTICES, Panic};
@@ -16,10 +17,12 @@ pub enum Entry {
     Copies(u32),
     /// The vertices of this graph, with its arcs.
     Graph(Graph),
+    /// The merged vertex of this number, from 1 on, which stands in the place of all vertices with this entry.
+    Merged(u32),
 }
 
 impl Entry {
-    // How many vertices stand in the place of a vertex with this entry.
+    // How many vertices stand in the place of a vertex with this entry alone.
     fn size(&self) -> u32
         ensures value { result ≡ size_of_entry self.now }
         ensures kept { IsKeptEntry self.now }
@@ -27,32 +30,78 @@ impl Entry {
         match self {
             Entry::Copies(count) => *count,
             Entry::Graph(graph) => graph.n(),
+            Entry::Merged(_) => 0,
         }
+    }
+
+    // The number of its merged vertex, or 0.
+    fn number(&self) -> u32
+        ensures { result ≡ merged_number self.now }
+    {
+        match self {
+            Entry::Merged(number) => *number,
+            _ => 0,
+        }
+    }
+
+    // Whether its merged vertex has the number 0.
+    fn is_unnumbered(&self) -> bool
+        ensures { result ≡ is_unnumbered self.now }
+    {
+        matches!(self, Entry::Merged(0))
     }
 }
 
-/// Refuses the entries for a graph of `n` vertices that are not one for each of them (`Bad`), and then those that make
-/// more than 1,000,000,000 vertices (`VeryBad`).
+/// Refuses the entries for a graph of `n` vertices that are not one for each of them, and those with a merged vertex 0
+/// (`Bad`), and then those that make more than 1,000,000,000 vertices (`VeryBad`).
 pub(crate) fn accept_entries(n: u32, entries: &[Entry]) -> Result<(), Panic>
     ensures ok { OnOk result (accepted_entries n entries.now ≡ Ok entries.now) }
     ensures refused { IfErr result (λ e. accepted_entries n entries.now ≡ Err e) }
     ensures count { OnOk result (length entries.now ≡ n) }
+    ensures numbered { OnOk result (list_any is_unnumbered entries.now ≡ false) }
     ensures few { OnOk result (total_of entries.now ≤ most_vertices) }
     ensures kept { OnOk result (All IsKeptEntry entries.now) }
 {
     if entries.len() != n as usize {
         return Err(Panic::Bad);
     }
-    if total(entries) > u64::from(MOST_VERTICES) {
+    if has_unnumbered(entries) {
+        return Err(Panic::Bad);
+    }
+    if u64::from(merged_count(entries)) + own_total(entries) > u64::from(MOST_VERTICES) {
         return Err(Panic::VeryBad);
     }
     Ok(())
 }
 
-// How many vertices the entries make in all.
-fn total(entries: &[Entry]) -> u64
+// Whether some merged vertex has the number 0.
+fn has_unnumbered(entries: &[Entry]) -> bool
+    ensures { result ≡ list_any is_unnumbered entries.now }
+{
+    for entry in entries {
+        if entry.is_unnumbered() {
+            return true;
+        }
+    }
+    false
+}
+
+/// How many merged vertices the entries make: the greatest number of all.
+pub(crate) fn merged_count(entries: &[Entry]) -> u32
+    ensures { result ≡ merged_count entries.now }
+{
+    let mut greatest = 0;
+    for entry in entries {
+        greatest = entry.number().max(greatest);
+    }
+    greatest
+}
+
+// How many vertices the entries make that are not merged.
+fn own_total(entries: &[Entry]) -> u64
     requires { length entries.now < 2 ^ 32 }
-    ensures value { result ≡ total_of entries.now }
+    ensures value { result ≡ own_total entries.now }
+    ensures bound { result ≤ length entries.now * 4_294_967_295 }
     ensures kept { All IsKeptEntry entries.now }
 {
     let mut total = 0;
@@ -66,7 +115,7 @@ fn total(entries: &[Entry]) -> u64
 #[derive(Drop)]
 pub(crate) struct Copies<'a> {
     entries: &'a [Entry],
-    // The first copy of each vertex, and after them how many there are in all.
+    // Where the copies of each vertex begin that stand for it alone, and after them how many there are in all.
     firsts: Vec<u32>,
 }
 
@@ -105,7 +154,7 @@ impl<'a> Copies<'a> {
         self.entries
     }
 
-    /// The first copy of vertex `v`. Its copies end before `end(v)`.
+    /// Where the copies of vertex `v` begin that stand for it alone.
     pub(crate) fn first(&self, v: u32) -> u32
         requires { v < length self.now }
         ensures value { result ≡ first_copy self.now v }
@@ -113,12 +162,26 @@ impl<'a> Copies<'a> {
         self.firsts[v as usize]
     }
 
-    /// The first copy of what comes after vertex `v`.
+    /// The first of all copies of vertex `v`, its own or the merged one. They end before `end(v)`.
+    pub(crate) fn start(&self, v: u32) -> u32
+        requires { v < length self.now }
+        ensures value { result ≡ copies_start self.now v }
+    {
+        match &self.entries[v as usize] {
+            Entry::Merged(number) => number.saturating_sub(1),
+            _ => self.firsts[v as usize],
+        }
+    }
+
+    /// What comes after the last copy of vertex `v`.
     pub(crate) fn end(&self, v: u32) -> u32
         requires { v < length self.now }
-        ensures value { result ≡ first_copy self.now (v + 1) }
+        ensures value { result ≡ copies_end self.now v }
     {
-        self.firsts[v as usize + 1]
+        match &self.entries[v as usize] {
+            Entry::Merged(number) => number.saturating_sub(1) + 1,
+            _ => self.firsts[v as usize + 1],
+        }
     }
 }
 
@@ -129,7 +192,7 @@ fn first_copies(alloc: Global, entries: &[Entry]) -> Result<Vec<u32>, Panic>
     ensures memory { IsOkUnless result Panic.NoRoom }
 {
     let mut firsts = Vec::new(alloc);
-    let mut total = 0;
+    let mut total = merged_count(entries);
     for entry in entries {
         firsts.push(total)?;
         total += entry.size();

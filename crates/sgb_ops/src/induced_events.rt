@@ -72,8 +72,8 @@ fn push_inner_events(
     ensures memory { IsOkUnless result Panic.NoRoom }
 {
     match entry {
-        Entry::Copies(_) => Ok(()),
         Entry::Graph(inner) => push_graph(events, inner, start, flags),
+        Entry::Copies(_) | Entry::Merged(_) => Ok(()),
     }
 }
 
@@ -157,7 +157,7 @@ fn push_from_copies(
     ensures memory { IsOkUnless result Panic.NoRoom }
 {
     let arcs = arcs_to_copies(alloc, graph, copies, flags.directed, v)?;
-    for u in copies.first(v)..copies.end(v) {
+    for u in copies.start(v)..copies.end(v) {
         push_from_copy(events, copies, &arcs, flags, v, u)?;
     }
     Ok(())
@@ -191,7 +191,7 @@ fn push_arc_to_copies(arcs: &mut Vec<Link>, copies: &Copies<'_>, arc: Link) -> R
     ensures ok { OnOk result (arcs.new.items ≡ arcs.old.items ++ (if leads_to_copies copies.now arc then arc ∷ [] else [])) }
     ensures memory { IsOkUnless result Panic.NoRoom }
 {
-    if copies.first(arc.tip) < copies.end(arc.tip) {
+    if copies.start(arc.tip) < copies.end(arc.tip) {
         arcs.push(arc)?;
     }
     Ok(())
@@ -229,7 +229,7 @@ fn push_to_copies(
     ensures ok { OnOk result (events.new.items ≡ events.old.items ++ wanted flags.self_loops (events_of_arc copies.now flags.directed v u arc)) }
     ensures memory { IsOkUnless result Panic.NoRoom }
 {
-    for t in copies.first(arc.tip)..copies.end(arc.tip) {
+    for t in copies.start(arc.tip)..copies.end(arc.tip) {
         push_met(events, arc, flags, v, u, t)?;
     }
     Ok(())

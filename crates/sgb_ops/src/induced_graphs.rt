@@ -1,4 +1,4 @@
-//! Induced graphs: vertices dropped, kept, repeated, or with a graph put in their place (GB_BASIC, induced).
+//! Induced graphs: vertices dropped, kept, repeated, merged, or with a graph put in their place (GB_BASIC, induced).
 ghost use Rattle.std.specs.Prelude.{◌≡◌};
 ghost use Rattle.sgb_graph.specs.Descriptions.{IsAnswerOf};
 ghost use Rattle.sgb_ops.specs.Induced.{induced_id, induced_of};
@@ -14,9 +14,10 @@ use sgb_vec::Panic;
 use std::alloc::Global;
 
 /// An induced graph (GB_BASIC, induced): by the entries, one for each vertex of `graph`, each vertex is dropped, kept,
-/// repeated, or replaced by the vertices of a graph.
+/// repeated, replaced by the vertices of a graph, or merged with others into one vertex. The merged vertices come first, as
+/// many as the greatest of their numbers; the others follow in the order of `graph`.
 ///
-/// The one copy of a vertex has its name; the second of two has it with `'` (of which at most 4,094 bytes count); three
+/// Merged vertex k is called `-k`. The one copy of a vertex has its name; the second of two has it with `'` (of which at most 4,094 bytes count); three
 /// or more have it with `:0`, `:1` and so on (4,084); the vertices of a graph have it with `:` and their own names
 /// (2,047 each).
 ///
@@ -26,8 +27,8 @@ use std::alloc::Global;
 /// counts. Loops come only with `self_loops`. Of parallel arcs only the first stays, with the least length of them all,
 /// unless `multi`. The id is `induced(ID,,self_loops,multi,directed)`.
 ///
-/// `Bad` where the entries are not as many as the vertices of `graph`; else `VeryBad` where they make more than
-/// 1,000,000,000 vertices. `NoRoom` when out of memory.
+/// `Bad` where the entries are not as many as the vertices of `graph`, or one is `Merged(0)`; else `VeryBad` where they
+/// make more than 1,000,000,000 vertices. `NoRoom` when out of memory.
 pub fn induced(
     alloc: Global,
     graph: &Graph,

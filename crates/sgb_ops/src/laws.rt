@@ -27,8 +27,8 @@ pub fn merging_law()
     ensures least { MergedAreShortest }
 {}
 
-/// The copies of the vertices, one after another, are all vertices of the result in order, and each is a copy of one
-/// vertex only (GB_BASIC, induced).
+/// The copies of the vertices that are not merged, one after another, are all vertices of the result after the merged ones, in
+/// order; each is a copy of one vertex only, and a merged one of those that have its number (GB_BASIC, induced).
 pub fn copies_law()
     ensures all { CopiesAreAll }
     ensures apart { CopiesAreApart }

@@ -4,7 +4,7 @@ use super::refusals::check_refusals;
 use super::{CODE_30, CODE_40, CODE_60, answers_are};
 use std::test::Fail;
 
-static ANSWERS: [(&[&str], &str); 15] = [
+static ANSWERS: [(&[&str], &str); 21] = [
     (
         &["list", "wheel(3,1,0)"],
         "  The graph whose official name is\nwheel(3,1,0)\n  has 4 vertices and 12 arcs:\n\n\
@@ -75,6 +75,36 @@ static ANSWERS: [(&[&str], &str); 15] = [
         ],
         "0\n1:1\n1:1'\n",
     ),
+    // merged vertices come first, also one that no entry has
+    (&["names", "induced(complete(2),[1,-1],0,0,0)"], "-1\n0\n"),
+    (
+        &["names", "induced(complete(2),[1,-3],0,0,0)"],
+        "-1\n-2\n-3\n0\n",
+    ),
+    (
+        &["list", "induced(circuit(4),[-1,1,-1,1],0,0,0)"],
+        "  The graph whose official name is\ninduced(board(4,0,0,0,1,1,0),,0,0,0)\n  has 3 vertices and 4 arcs:\n\n\
+        -1\n  -> 1, length 1\n  -> 3, length 1\n\
+        1\n  -> -1, length 1\n\
+        3\n  -> -1, length 1\n",
+    ),
+    (
+        &["list", "induced(circuit(4),[-1,1,-1,1],0,1,0)"],
+        "  The graph whose official name is\ninduced(board(4,0,0,0,1,1,0),,0,1,0)\n  has 3 vertices and 8 arcs:\n\n\
+        -1\n  -> 3, length 1\n  -> 1, length 1\n  -> 1, length 1\n  -> 3, length 1\n\
+        1\n  -> -1, length 1\n  -> -1, length 1\n\
+        3\n  -> -1, length 1\n  -> -1, length 1\n",
+    ),
+    // an edge whose ends are merged is a loop
+    (
+        &["list", "induced(complete(2),[-1,-1],1,0,0)"],
+        "  The graph whose official name is\ninduced(board(2,0,0,0,-1,0,0),,1,0,0)\n  has 1 vertices and 2 arcs:\n\n\
+        -1\n  -> -1, length 1\n  -> -1, length 1\n",
+    ),
+    (
+        &["list", "induced(complete(2),[-1,-1],0,0,0)"],
+        "  The graph whose official name is\ninduced(board(2,0,0,0,-1,0,0),,0,0,0)\n  has 1 vertices and 0 arcs:\n\n-1\n",
+    ),
     // names that repeat
     (
         &["names", "lines(board(3,0,0,0,-1,1,0),0)"],
@@ -96,8 +126,8 @@ fn answers_to_derived_graphs(rt: HostRuntime) -> Result<(), Fail> {
     answers_are(&rt, rt.alloc(), &ANSWERS)
 }
 
-// Operands and entries are evaluated in order before the operation's own refusals, and then a negative entry is refused.
-static REFUSED: [(&[&str], &str, u8); 16] = [
+// Operands and entries are evaluated in order before the operation's own refusals.
+static REFUSED: [(&[&str], &str, u8); 19] = [
     (&["list", "lines(cycle(3),0)"], CODE_60, 1),
     (
         &["list", "product(empty(40000),empty(40000),0,0)"],
@@ -111,7 +141,23 @@ static REFUSED: [(&[&str], &str, u8); 16] = [
     (&["names", "wheel(2000000000,1,0)"], CODE_40, 1),
     (&["names", "induced(complete(2),[1],0,0,0)"], CODE_30, 1),
     (&["names", "induced(complete(2),[],0,0,0)"], CODE_30, 1),
-    (&["names", "induced(complete(2),[1,-1],0,0,0)"], CODE_30, 1),
+    (&["names", "induced(complete(2),[-1],0,0,0)"], CODE_30, 1),
+    (
+        &["names", "induced(complete(2),[1,-2000000000],0,0,0)"],
+        CODE_40,
+        1,
+    ),
+    // -2^32 does not count as 0, nor -2^32 - 1 as 1
+    (
+        &["names", "induced(complete(2),[1,-4294967296],0,0,0)"],
+        CODE_40,
+        1,
+    ),
+    (
+        &["names", "induced(complete(2),[1,-4294967297],0,0,0)"],
+        CODE_40,
+        1,
+    ),
     (
         &["names", "induced(complete(2),[1,2000000000],0,0,0)"],
         CODE_40,
@@ -130,7 +176,7 @@ static REFUSED: [(&[&str], &str, u8); 16] = [
     ),
     (
         &["names", "induced(complete(2),[2000000000,-1],0,0,0)"],
-        CODE_30,
+        CODE_40,
         1,
     ),
     (

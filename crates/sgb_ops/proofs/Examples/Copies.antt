@@ -15,11 +15,11 @@ use Rattle.sgb_graph.specs.Ids.{compound_id}
 use Rattle.sgb_ops.specs.Taken.{each_edge_once}
 use Rattle.sgb_ops.specs.Merged.{merged}
 use Rattle.sgb_ops.specs.declared.entries.Entry.TheVariants as entry
-use Rattle.sgb_ops.specs.Entries.{accepted_entries}
+use Rattle.sgb_ops.specs.Entries.{accepted_entries, names_by_entries}
 use Rattle.sgb_ops.specs.Induced.{induced_events, induced_of}
 use Rattle.sgb_ops.specs.BiComplete.{bi_complete_of}
 use Rattle.sgb_ops.specs.Wheel.{wheel_of}
-use Rattle.sgb_ops.proofs.Examples.Operands.{event, complete_2, complete_3, cycle_3, path_3, loop_1, blocks, arcs, title}
+use Rattle.sgb_ops.proofs.Examples.Operands.{event, complete_2, complete_3, circuit_4, cycle_3, path_3, loop_1, blocks, arcs, title}
 
 -- as many vertices as a graph can have, and one more; an entry too many
 pub most_copies : accepted_entries 1 (entry.Copies 1_000_000_000 ∷ []) ≡ Ok (entry.Copies 1_000_000_000 ∷ [])
@@ -33,6 +33,46 @@ vertices_of_a_graph_count = refl
 
 pub too_many_entries : induced_of complete_2 (entry.Copies 1 ∷ entry.Copies 1 ∷ entry.Copies 1 ∷ []) false false false ≡ Err Bad
 too_many_entries = refl
+
+-- merged vertices up to the greatest number count; 0 is none, and is refused before too many
+pub merged_to_the_greatest : accepted_entries 2 (entry.Merged 3 ∷ entry.Copies 1 ∷ []) ≡ Ok (entry.Merged 3 ∷ entry.Copies 1 ∷ [])
+merged_to_the_greatest = refl
+
+pub merged_count_with_copies : accepted_entries 2 (entry.Merged 999_999_999 ∷ entry.Copies 2 ∷ []) ≡ Err VeryBad
+merged_count_with_copies = refl
+
+pub most_merged : accepted_entries 2 (entry.Merged 1_000_000_000 ∷ entry.Merged 999_999_999 ∷ []) ≡ Ok (entry.Merged 1_000_000_000 ∷ entry.Merged 999_999_999 ∷ [])
+most_merged = refl
+
+pub merged_0 : accepted_entries 2 (entry.Copies 2_000_000_000 ∷ entry.Merged 0 ∷ []) ≡ Err Bad
+merged_0 = refl
+
+-- merged vertices come first, also those that no entry has
+pub merged_names : names_by_entries (codes "a" ∷ codes "b" ∷ codes "c" ∷ []) (entry.Copies 1 ∷ entry.Merged 3 ∷ entry.Copies 2 ∷ [])
+    ≡ codes "-1" ∷ codes "-2" ∷ codes "-3" ∷ codes "a" ∷ codes "c" ∷ codes "c'" ∷ []
+unfolding digits
+merged_names = refl
+
+-- a circuit whose vertices 0 and 2 are merged: their edges keep their order
+pub merged_in_a_circuit : induced_events circuit_4 (entry.Merged 1 ∷ entry.Copies 1 ∷ entry.Merged 1 ∷ entry.Copies 1 ∷ []) false true false
+    ≡ event 0 2 1 ∷ event 0 1 1 ∷ event 1 0 1 ∷ event 0 2 1 ∷ []
+unfolding numbers_from list_from each_edge_once
+merged_in_a_circuit = refl
+
+pub merged_once_in_a_circuit : induced_events circuit_4 (entry.Merged 1 ∷ entry.Copies 1 ∷ entry.Merged 1 ∷ entry.Copies 1 ∷ []) false false false
+    ≡ event 0 2 1 ∷ event 0 1 1 ∷ []
+unfolding numbers_from list_from each_edge_once merged
+merged_once_in_a_circuit = refl
+
+-- an edge whose ends are merged is a loop; the graph in a place comes after the merged vertices
+pub merged_ends : induced_events complete_2 (entry.Merged 2 ∷ entry.Merged 2 ∷ []) true false false ≡ event 1 1 1 ∷ []
+unfolding numbers_from list_from each_edge_once merged
+merged_ends = refl
+
+pub graph_after_merged : induced_events complete_2 (entry.Merged 1 ∷ entry.Graph complete_2 ∷ []) false true false
+    ≡ event 1 2 1 ∷ event 0 1 1 ∷ event 0 2 1 ∷ []
+unfolding numbers_from list_from each_edge_once
+graph_after_merged = refl
 
 -- two copies of 0 and of 2, one of 1: for each copy the edge of length 2 comes first
 pub copies_of_a_triangle : induced_events complete_3 (entry.Copies 2 ∷ entry.Copies 1 ∷ entry.Copies 2 ∷ []) true true false

@@ -110,6 +110,50 @@ fn entries_that_are_refused(rt: HostRuntime) {
     }
 }
 
+// The graph that merged vertices of these numbers induce, 0 standing for one copy.
+fn induced_by_merging(
+    alloc: Global,
+    operand: Operand,
+    numbers: &[u32],
+    multi: bool,
+) -> Result<Graph, Panic> {
+    let mut entries = Vec::new(alloc);
+    for number in numbers {
+        let entry = if *number == 0 { Entry::Copies(1) } else { Entry::Merged(*number) };
+        entries.push(entry)?;
+    }
+    let graph = operand.graph(alloc)?;
+    induced(alloc, &graph, &entries, false, multi, false)
+}
+
+/// What is known of a circuit of four whose vertices 0 and 2 are merged.
+static MERGED: Known = (
+    3,
+    8,
+    &[
+        (0, "-1", &[(2, 1), (1, 1), (1, 1), (2, 1)]),
+        (1, "1", &[(0, 1), (0, 1)]),
+        (2, "3", &[(0, 1), (0, 1)]),
+    ],
+);
+
+#[test]
+fn vertices_that_are_merged(rt: HostRuntime) -> Result<(), Panic> {
+    let circuit = Operand::Board([4, 0, 0, 0, 1, 1], false);
+    let graph = induced_by_merging(rt.alloc(), circuit, &[1, 0, 1, 0], true)?;
+    assert!(rt; is_known(&graph, "induced(board(4,0,0,0,1,1,0),,0,1,0)", MERGED));
+    Ok(())
+}
+
+#[test]
+fn merged_vertex_0_is_refused(rt: HostRuntime) -> Result<(), Panic> {
+    let edge = EDGE.graph(rt.alloc())?;
+    let entries = [Entry::Merged(0), Entry::Merged(0)];
+    let answer = induced(rt.alloc(), &edge, &entries, false, false, false);
+    assert!(rt; is_refused(answer, Panic::Bad));
+    Ok(())
+}
+
 // The ends of an edge replaced by these graphs, with arcs.
 fn induced_by_graphs(alloc: Global, graphs: [Operand; 2]) -> Result<Graph, Panic> {
     let [first, second] = graphs;

@@ -1,4 +1,4 @@
-use Rattle.std.proofs.Common.{◌≡◌, ◌<◌, length, ℕ, ℤ, List, Result, Ok, Err, ap, sym, subst, w64, rules, arith}
+use Rattle.std.proofs.Common.{◌≡◌, ◌<◌, length, ℕ, ℤ, List, Result, Ok, Err, ap, sym, subst, w64, rules, arith, inr}
 use Rattle.std.proofs.lemmas.Result.{err_from_is_err_and}
 use Rattle.std.proofs.lemmas.Int.{to_z-of_z}
 use Rattle.sgb_vec.specs.declared.panics.Panic.{Panic}
@@ -131,8 +131,7 @@ graph_of-returns-in_err-list-in-Induced t c =
     (subst (λ (v : Result GraphData Panic). IsValue v (Err c.in_err-list-in-Induced.field-0.0)) (sym (induced_value c.args.input.now c.args.expression.now a.graph a.entries a.self_loops a.multi a.directed a.is))
     (entries_handed _ _ c.in_ok-operand-in-Induced.operand values a.self_loops a.multi a.directed (Err c.in_err-list-in-Induced.field-0.0)
     (at_value c.args.input.now _ a.graph.value c.in_ok-operand-in-Induced.operand c.deref-in-Induced.ensures c.in_ok-operand-in-Induced.ensures) is
-    (value_refused (handed_entries values) (λ list. made (induced_of c.in_ok-operand-in-Induced.operand list a.self_loops a.multi a.directed)) c.in_err-list-in-Induced.field-0.0
-    c.in_err-list-in-Induced.ensures.refused)))
+    (inr c.in_err-list-in-Induced.ensures.memory)))
 
 pub graph_of-returns-in_ok-list-in-Induced : goal.graph_of-returns-in_ok-list-in-Induced
 graph_of-returns-in_ok-list-in-Induced t c =
@@ -145,7 +144,7 @@ graph_of-returns-in_ok-list-in-Induced t c =
     subst (λ (v : Result GraphData Panic). IsValue v c.induced.result) (sym (induced_value c.args.input.now c.args.expression.now a.graph a.entries a.self_loops a.multi a.directed a.is))
     (entries_handed _ _ operand values a.self_loops a.multi a.directed c.induced.result
     (at_value c.args.input.now _ a.graph.value operand c.deref-in-Induced.ensures c.in_ok-operand-in-Induced.ensures) is
-    (value_then (handed_entries values) list (λ es. made (induced_of operand es a.self_loops a.multi a.directed)) c.induced.result c.in_ok-list-in-Induced.ensures.ok
+    (subst (λ (es : List Handed). IsValue (made (induced_of operand es a.self_loops a.multi a.directed)) c.induced.result) c.in_ok-list-in-Induced.ensures.ok
     (value_made (induced_of operand list a.self_loops a.multi a.directed) c.induced.result answer)))
 
 pub values_of-value_of_entry-requires : goal.values_of-value_of_entry-requires

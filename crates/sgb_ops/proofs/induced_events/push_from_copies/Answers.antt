@@ -1,6 +1,6 @@
 use Rattle.std.proofs.Common.{◌++◌, ◌+◌, ◌∙◌, refl, ap, arith}
 use Rattle.std.specs.List.{flat_map}
-use Rattle.sgb_ops.specs.Entries.{first_copy}
+use Rattle.sgb_ops.specs.Copies.{copies_end}
 use Rattle.sgb_ops.specs.Induced.{events_of_arc, events_of_copies, events_of_copy, wanted}
 use Rattle.sgb_ops.specs.Taken.{taken}
 use Rattle.sgb_ops.proofs.EntryTotals.{copies_between}
@@ -11,9 +11,9 @@ pub loop-u-init : goal.loop-u-init
 loop-u-init c =
     let copies = c.args.copies.now in
     let v = c.args.v in
-    let last = first_copy copies (v + 1) in
+    let last = copies_end copies v in
     ap (λ us. c.args.events.now.items ++ wanted c.args.flags.self_loops (flat_map (events_of_copy c.args.graph.now copies c.args.flags.directed v) us))
-    (copies_between copies v c.first-u.result last c.first-u.ensures.value refl)
+    (copies_between copies v c.start-u.result last c.start-u.ensures.value refl)
 
 pub loop-u-preserved : goal.loop-u-preserved
 loop-u-preserved c =
@@ -23,7 +23,7 @@ loop-u-preserved c =
     let u = c.loop-u.u in
     let d = c.args.flags.directed in
     let self = c.args.flags.self_loops in
-    let last = first_copy copies (v + 1) in
+    let last = copies_end copies v in
     let events = events_of_copy g copies d v in
     let before = c.loop-u.events.items in
     let arcs = c.deref.ensures.value ∙ c.in_ok-arcs.ensures.ok in

@@ -1,5 +1,5 @@
 use Rattle.std.proofs.Common.{◌++◌, ◌+◌, ◌∷◌, [], map, filter, refl, ap, arith}
-use Rattle.sgb_ops.specs.Entries.{first_copy}
+use Rattle.sgb_ops.specs.Copies.{copies_end}
 use Rattle.sgb_ops.specs.Induced.{event_between, events_of_arc, is_met, wanted}
 use Rattle.sgb_ops.proofs.EntryTotals.{copies_between}
 use Rattle.sgb_ops.proofs.WantedEvents.{wanted_more, events_met, met_more}
@@ -9,9 +9,9 @@ pub loop-t-init : goal.loop-t-init
 loop-t-init c =
     let copies = c.args.copies.now in
     let a = c.args.arc in
-    let last = first_copy copies (a.tip + 1) in
+    let last = copies_end copies a.tip in
     ap (λ ts. c.args.events.now.items ++ wanted c.args.flags.self_loops (map (event_between c.args.u a.len) (filter (is_met c.args.flags.directed c.args.v c.args.u a.tip) ts)))
-    (copies_between copies a.tip c.first-t.result last c.first-t.ensures.value refl)
+    (copies_between copies a.tip c.start-t.result last c.start-t.ensures.value refl)
 
 pub loop-t-preserved : goal.loop-t-preserved
 loop-t-preserved c =
@@ -22,7 +22,7 @@ loop-t-preserved c =
     let self = c.args.flags.self_loops in
     let v = c.args.v in
     let u = c.args.u in
-    let last = first_copy copies (a.tip + 1) in
+    let last = copies_end copies a.tip in
     wanted_more self c.loop-t.events.items c.push_met.new.events.items (map (event_between u a.len) (filter (is_met d v u a.tip) (t ∷ []))) (events_met d v u a last (t + 1)) (events_met d v u a last t)
     (c.args.events.now.items ++ wanted self (events_of_arc copies d v u a))
     (met_more d v u a last t (omega (arith, c.end-t-end.ensures.value))) c.loop-t.invariant c.in_ok-push_met.ensures.ok

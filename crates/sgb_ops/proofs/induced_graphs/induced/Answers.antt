@@ -24,4 +24,4 @@ graph_of-requires-clause-within c =
     let size = ap length c.in_ok-names.ensures.ok ∙ length-names (names_of g) entries count in
     let all = c.in_ok-all.ensures.ok ∙ ap (λ es. wanted self (all_events g es d)) c.in_ok-copies.ensures.ok in
     let same = c.deref.ensures.value ∙ (c.in_ok-events.ensures.ok ∙ ap (merged_unless _ d) all) in
-    subst (λ k. AllWithin k c.deref.result.now) (sym size) (subst (AllWithin _) (sym same) (induced_within entries d g self _ c.in_ok-accept_entries.ensures.kept))
+    subst (λ k. AllWithin k c.deref.result.now) (sym size) (subst (AllWithin _) (sym same) (induced_within entries d c.in_ok-accept_entries.ensures.numbered g self _ c.in_ok-accept_entries.ensures.kept))

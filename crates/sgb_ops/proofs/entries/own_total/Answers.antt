@@ -1,6 +1,6 @@
 use Rattle.std.proofs.Common.{arith}
 use Rattle.sgb_ops.proofs.EntryTotals.{total_more, kept_more}
-use Rattle.sgb_ops.proofs.entries.total.Goals as goal
+use Rattle.sgb_ops.proofs.entries.own_total.Goals as goal
 
 pub loop-entry-preserved : goal.loop-entry-preserved
 loop-entry-preserved c =
