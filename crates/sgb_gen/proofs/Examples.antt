@@ -4,3 +4,4 @@ pub mod Boards
 pub mod Simplexes
 pub mod Subsets
 pub mod Graphs
+pub mod LocalLists

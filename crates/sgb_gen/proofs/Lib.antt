@@ -9,6 +9,7 @@ pub mod NextVectors
 pub mod Parts
 pub mod Riders
 pub mod Destinations
+pub mod TurnedMoves
 pub mod ShiftLemmas
 pub mod AcceptedBoards
 pub mod Reaches
@@ -29,4 +30,6 @@ pub mod CommonSizes
 pub mod RisingVectors
 pub mod SubsetsEvents
 pub mod TableRows
+pub mod LinkRows
+pub mod MoveLists
 pub mod SimplexEvents

@@ -9,4 +9,6 @@ pub mod Boards
 pub mod Simplexes
 pub mod Subsets
 pub mod Tables
+pub mod LocalLists
+pub mod LocalArcs
 pub mod Shorthands

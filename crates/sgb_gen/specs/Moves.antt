@@ -1,5 +1,5 @@
 -- The moves of a piece on a board [GB_BASIC, board].
-use Rattle.std.specs.Prelude.{◌≡◌, ◌≤◌, ◌↔◌, ℕ, ◌+◌, ◌/◌, ◌%◌, ◌^◌, ◌==◌, ℤ, pos, negsuc, ◌+ℤ◌, ◌*ℤ◌, nat_abs, nat_lt, Bool, true, false, not, List, [], ◌∷◌, map, filter, filter_map, take_while, Option, Some, None, option_map, is_some, Contains, if◌then◌else◌}
+use Rattle.std.specs.Prelude.{◌≡◌, ◌≤◌, ◌↔◌, ℕ, ◌+◌, ◌/◌, ◌%◌, ◌^◌, ◌==◌, ℤ, pos, negsuc, ◌+ℤ◌, ◌*ℤ◌, neg_ℤ, nat_abs, nat_lt, Bool, true, false, not, List, [], ◌∷◌, map, filter, filter_map, take_while, Option, Some, None, option_map, is_some, Contains, if◌then◌else◌}
 use Rattle.std.specs.Int.{int_rem_euclid}
 use Rattle.std.specs.List.{flat_map, range_with_len}
 use Rattle.sgb_vec.specs.Boxes.{product_of}
@@ -105,3 +105,18 @@ pub record RidersStop : Type 0 where
 abbrev pub MovesStayOnBoard : Type 0
 MovesStayOnBoard = (sides : List Side) (x : List ℕ) (t : List ℤ) (l : ℕ) (y : List ℕ)
     → IsBelow x (map (λ s. s.size) sides) → place sides x t l ≡ Some y → IsBelow y (map (λ s. s.size) sides)
+
+-- the displacement t with each step turned the other way
+abbrev pub opposite : List ℤ → List ℤ
+opposite t = map neg_ℤ t
+
+-- a move of length l leads from x to y by t
+abbrev pub LeadsTo : List Side → ℤ → List ℕ → List ℤ → ℕ → List ℕ → Type 0
+LeadsTo sides piece x t l y = Contains (reach sides piece x t) l × (place sides x t l ≡ Some y)
+
+-- for places x and y of the board: a move of length l leads from y to x by t exactly where one of that length leads
+-- from x to y by the opposite of t
+abbrev pub MovesTurnBack : Type 0
+MovesTurnBack = (sides : List Side) (piece : ℤ) (t : List ℤ) (x y : List ℕ) (l : ℕ)
+    → IsBelow x (map (λ s. s.size) sides) → IsBelow y (map (λ s. s.size) sides)
+    → LeadsTo sides piece y t l x ↔ LeadsTo sides piece x (opposite t) l y

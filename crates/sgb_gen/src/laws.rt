@@ -1,5 +1,5 @@
 ghost use Rattle.sgb_gen.specs.Displacements.{DisplacementsHaveTheirNorm};
-ghost use Rattle.sgb_gen.specs.Moves.{MovesStayOnBoard, RidersStop};
+ghost use Rattle.sgb_gen.specs.Moves.{MovesStayOnBoard, MovesTurnBack, RidersStop};
 ghost use Rattle.sgb_gen.specs.Simplexes.{ShiftsStayInSum};
 
 /// The squares of each displacement of a piece add to the piece (GB_BASIC, board).
@@ -15,6 +15,12 @@ pub fn riders_stop()
 /// Each move from a place of a board leads to a place of the board (GB_BASIC, board).
 pub fn moves_stay_on_board()
     ensures { MovesStayOnBoard }
+{}
+
+/// A move leads from one place of a board to another exactly where one of the same length leads back by the opposite
+/// displacement (GB_BASIC, board).
+pub fn moves_turn_back()
+    ensures { MovesTurnBack }
 {}
 
 /// A unit that goes to a higher place leaves a vector within its bounds and its sum as it is

@@ -13,7 +13,7 @@ use Rattle.sgb_graph.specs.declared.fields.Util.TheVariants.{Nothing, Int}
 use Rattle.sgb_gen.specs.VectorGraphs.{family_graph}
 use Rattle.sgb_gen.specs.Displacements.{displacements, vectors_of_norm, signings}
 use Rattle.sgb_gen.specs.EntryBounds.{entry_bounds, vectors_within, displacements_within}
-use Rattle.sgb_gen.specs.Moves.{is_bit_set, sides_of, place, reach, board_moves}
+use Rattle.sgb_gen.specs.Moves.{is_bit_set, sides_of, place, reach, board_moves, opposite}
 use Rattle.sgb_gen.specs.declared.params.BoardParams.{BoardParams}
 use Rattle.sgb_gen.specs.Boards.{BoardData, accepted_board, board, board_id}
 use Rattle.sgb_gen.specs.Shorthands.{complete, transitive, circuit, cycle, empty}
@@ -85,6 +85,23 @@ rider_at_home = refl
 
 pub leaper_at_home : reach (sides_of (1 ∷ []) (pos 1)) (pos 1) (0 ∷ []) (pos 1 ∷ []) ≡ 1 ∷ []
 leaper_at_home = refl
+
+-- the opposite of (1,-2,0); where (1,-1) leads from (0,0) to (1,3), it leads back around the wrapped side
+pub opposite_steps : opposite (pos 1 ∷ negsuc 1 ∷ pos 0 ∷ []) ≡ negsuc 0 ∷ pos 2 ∷ pos 0 ∷ []
+opposite_steps = refl
+
+pub place_turned_back : place (sides_of (3 ∷ 4 ∷ []) (pos 2)) (1 ∷ 3 ∷ []) (opposite (pos 1 ∷ negsuc 0 ∷ [])) 1 ≡ Some (0 ∷ 0 ∷ [])
+place_turned_back = refl
+
+-- a rider goes from 0 by 1 around a side of 3 to 2 in two steps, and by -1 from 2 to 0 in two
+pub rider_goes_two : place (sides_of (3 ∷ []) (pos 1)) (0 ∷ []) (pos 1 ∷ []) 2 ≡ Some (2 ∷ [])
+rider_goes_two = refl
+
+pub rider_turned_back : reach (sides_of (3 ∷ []) (pos 1)) (negsuc 0) (2 ∷ []) (opposite (pos 1 ∷ [])) ≡ 1 ∷ 2 ∷ []
+rider_turned_back = refl
+
+pub rider_home_in_two : place (sides_of (3 ∷ []) (pos 1)) (2 ∷ []) (opposite (pos 1 ∷ [])) 2 ≡ Some (0 ∷ [])
+rider_home_in_two = refl
 
 -- ---- graphs
 

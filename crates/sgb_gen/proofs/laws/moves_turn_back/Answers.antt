@@ -1,0 +1,5 @@
+use Rattle.sgb_gen.proofs.TurnedMoves.{moves_turned}
+use Rattle.sgb_gen.proofs.laws.moves_turn_back.Goals as goal
+
+pub returns : goal.returns
+returns c = moves_turned

@@ -1,0 +1,105 @@
+//! The arcs of one vertex, with the vectors where they lead.
+ghost use Rattle.std.specs.Prelude.{◌≡◌, ◌<◌, pos, [], ◌∷◌, ◌++◌, length, slice_get, Some, OnOk, OnErr, IsOkUnless};
+ghost use Rattle.sgb_gen.specs.LocalLists.{LinksData, LocalArc};
+
+use sgb_vec::Panic;
+use std::alloc::Global;
+use std::marker::Model;
+
+/// An arc of a vertex: the vector where it leads, and its length. Contracts see the vector as a list.
+#[derive(Drop)]
+pub struct LocalLink<'a> {
+    /// The vector where the arc leads.
+    pub tip: &'a [u32],
+    /// Its length.
+    pub len: u32,
+}
+
+impl<'a> Model for LocalLink<'a> {
+    ghost use Rattle.std.specs.Prelude.{pos};
+    ghost use Rattle.sgb_gen.specs.LocalLists.{LocalArc};
+
+    ghost Value = { LocalArc };
+
+    ghost view = { λ l. record { tip = l.tip.now; len = pos l.len } };
+}
+
+/// The arcs of one vertex, in the order of its list. All vectors where they lead have as many entries. One value
+/// serves for vertex after vertex. Contracts see a list of vectors with lengths, and the count of entries.
+#[derive(Drop)]
+pub struct Links {
+    // The entries of all vectors, how many each has, and the lengths of the arcs.
+    tips: Vec<u32>,
+    width: usize,
+    lens: Vec<u32>,
+}
+
+impl Model for Links {
+    ghost use Rattle.std.specs.Prelude.{◌≡◌, ◌*◌, length};
+    ghost use Rattle.sgb_gen.specs.LocalArcs.{arcs_in};
+    ghost use Rattle.sgb_gen.specs.LocalLists.{LinksData};
+
+    ghost Value = { LinksData };
+
+    ghost view = { λ l. record { width = l.width; arcs = arcs_in l.width l.tips.items l.lens.items } };
+
+    ghost invariant = { λ l. length l.tips.items ≡ length l.lens.items * l.width };
+}
+
+impl Links {
+    /// No arcs. They keep the allocator, and take no memory yet.
+    pub fn new(alloc: Global) -> Links
+        ensures { result.arcs ≡ [] }
+    {
+        Links {
+            tips: Vec::new(alloc),
+            width: 0,
+            lens: Vec::new(alloc),
+        }
+    }
+
+    /// The number of arcs.
+    pub fn len(&self) -> usize
+        ensures { result ≡ length self.now.arcs }
+    {
+        self.lens.len()
+    }
+
+    /// The arc at place `i`, counted from 0, of a list of more than `i` arcs.
+    pub fn get(&self, i: usize) -> LocalLink<'_>
+        requires { i < length self.now.arcs }
+        ensures { slice_get self.now.arcs i ≡ Some result }
+    {
+        let tips = self.tips.as_slice();
+        let start = i * self.width;
+        LocalLink {
+            tip: &tips[start..start + self.width],
+            len: self.lens[i],
+        }
+    }
+
+    // Drops all arcs; those that follow lead to vectors of this width.
+    pub(crate) fn clear(&mut self, width: usize)
+        ensures { self.new ≡ record { width = width; arcs = [] } }
+    {
+        self.tips.clear();
+        self.lens.clear();
+        self.width = width;
+    }
+
+    // Puts an arc behind the others. An error means out of memory: the arcs stay as they were.
+    pub(crate) fn push(&mut self, tip: &[u32], len: u32) -> Result<(), Panic>
+        requires width { length tip.now ≡ self.old.width }
+        ensures ok { OnOk result (self.new ≡ record self.old { arcs = self.old.arcs ++ record { tip = tip.now; len = pos len } ∷ [] }) }
+        ensures err { OnErr result (self.new ≡ self.old) }
+        ensures memory { IsOkUnless result Panic.NoRoom }
+    {
+        self.lens.reserve(1)?;
+        self.tips.extend_from_slice(tip)?;
+        self.lens.push(len)?;
+        Ok(())
+    }
+}
+
+#[cfg(test)]
+mod tests;
