@@ -5,3 +5,4 @@ pub mod Simplexes
 pub mod Subsets
 pub mod Graphs
 pub mod LocalLists
+pub mod LocalSimplexes

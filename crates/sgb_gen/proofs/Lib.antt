@@ -31,5 +31,9 @@ pub mod RisingVectors
 pub mod SubsetsEvents
 pub mod TableRows
 pub mod LinkRows
+pub mod OrderedLists
+pub mod ShiftedEntries
+pub mod SimplexLists
+pub mod PairWalks
 pub mod MoveLists
 pub mod SimplexEvents

@@ -1,5 +1,5 @@
 -- The list of a vector, as the moves that touch it make it.
-use Rattle.std.proofs.Common.{◌≡◌, ℕ, ◌+◌, ◌≤◌, ◌<◌, min, max, ℤ, pos, Bool, true, false, cond, List, [], ◌∷◌, ◌++◌, length, map, get_or, Some, refl, sym, ap, ap₂, ◌∙◌, inl, inr, arith, append-nil}
+use Rattle.std.proofs.Common.{◌≡◌, ℕ, ◌+◌, min, max, ℤ, pos, Bool, true, false, cond, List, [], ◌∷◌, ◌++◌, length, map, get_or, Some, refl, sym, ap, ap₂, ◌∙◌, inl, inr, arith, append-nil}
 use Rattle.std.specs.Prelude.{◌==◌}
 use Rattle.std.specs.Cmp.Lexicographic.{bytes_decides}
 use Rattle.std.specs.List.{All, Contains, slice_get}
@@ -70,6 +70,10 @@ same_tests true false f g = sym (f refl)
 same_tests false true f g = g refl
 same_tests false false f g = refl
 
+-- both ends of a move are vertices
+abbrev pub HasEnds : List (List ℕ) → Move → Type 0
+HasEnds vectors m = Contains vectors m.from × Contains vectors m.to
+
 module _ (vectors : List (List ℕ)) (rise : IsRising vectors) where
   -- a vector stands at the place that is its vertex
   stands_there : (a : List ℕ) → Contains vectors a → slice_get vectors (vertex_among vectors a) ≡ Some a
@@ -87,12 +91,8 @@ module _ (vectors : List (List ℕ)) (rise : IsRising vectors) where
       (λ e. (bytes_decides a b).1 (sym (vector_back a ha) ∙ ap (λ i. get_or vectors i []) ((Decides-eqb _ _).0 e) ∙ vector_back b hb))
       (λ e. (Decides-eqb _ _).1 (ap (vertex_among vectors) ((bytes_decides a b).0 e)))
 
-  -- both ends of a move are vertices
-  abbrev pub HasEnds : Move → Type 0
-  HasEnds m = Contains vectors m.from × Contains vectors m.to
-
   -- the arcs of x that one move makes
-  move_arcs : (directed : Bool) (x : List ℕ) (k : ℕ) (m : Move) → Contains vectors x → HasEnds m → map (local_arc vectors) (links_at (vertex_among vectors x) k (rows_of directed (event_among vectors m))) ≡ arcs_by directed x m
+  move_arcs : (directed : Bool) (x : List ℕ) (k : ℕ) (m : Move) → Contains vectors x → HasEnds vectors m → map (local_arc vectors) (links_at (vertex_among vectors x) k (rows_of directed (event_among vectors m))) ≡ arcs_by directed x m
   move_arcs true x k m hx ends =
       links_of_arc (λ t. get_or vectors t []) (vertex_among vectors x) k (vertex_among vectors m.from) (vertex_among vectors m.to) (pos m.len)
       ∙ ap₂ (λ c t. one c t (pos m.len)) (same_vertex m.from x ends.0 hx) (vector_back m.to ends.1)
@@ -102,15 +102,15 @@ module _ (vectors : List (List ℕ)) (rise : IsRising vectors) where
       (ap₂ (λ c t. one c t (pos m.len)) (same_vertex m.from x ends.0 hx) (vector_back m.to ends.1))
       (ap₂ (λ c t. one c t (pos m.len)) (same_vertex m.to x ends.1 hx) (vector_back m.from ends.0))
 
-  from_moves : (directed : Bool) (x : List ℕ) (k : ℕ) (moves : List Move) → Contains vectors x → All HasEnds moves → map (local_arc vectors) (list_from directed k (map (event_among vectors) moves) (vertex_among vectors x)) ≡ arcs_of_moves directed x moves
+  from_moves : (directed : Bool) (x : List ℕ) (k : ℕ) (moves : List Move) → Contains vectors x → All (HasEnds vectors) moves → map (local_arc vectors) (list_from directed k (map (event_among vectors) moves) (vertex_among vectors x)) ≡ arcs_of_moves directed x moves
   from_moves directed x k [] hx ends = ap (map (local_arc vectors)) (list_none directed k (vertex_among vectors x))
   from_moves directed x k (m ∷ moves) hx ends =
       let rows = rows_of directed (event_among vectors m) in
       ap (map (local_arc vectors)) (list_first directed k (event_among vectors m) (map (event_among vectors) moves) (vertex_among vectors x))
       ∙ map-append (local_arc vectors) (list_from directed (k + length rows) (map (event_among vectors) moves) (vertex_among vectors x)) (links_at (vertex_among vectors x) k rows)
-      ∙ ap₂ (λ ps qs. ps ++ qs) (from_moves directed x (k + length rows) moves hx (All-tail HasEnds m moves ends)) (move_arcs directed x k m hx (All-head HasEnds m moves ends))
+      ∙ ap₂ (λ ps qs. ps ++ qs) (from_moves directed x (k + length rows) moves hx (All-tail (HasEnds vectors) m moves ends)) (move_arcs directed x k m hx (All-head (HasEnds vectors) m moves ends))
 
   -- the list of x is what the moves make, those of later moves first
-  pub list_at-moves : (directed : Bool) (x : List ℕ) (moves : List Move) → Contains vectors x → All HasEnds moves → list_at directed vectors moves x ≡ arcs_of_moves directed x moves
+  pub list_at-moves : (directed : Bool) (x : List ℕ) (moves : List Move) → Contains vectors x → All (HasEnds vectors) moves → list_at directed vectors moves x ≡ arcs_of_moves directed x moves
   unfolding list_at
   list_at-moves directed x moves hx ends = from_moves directed x 0 moves hx ends

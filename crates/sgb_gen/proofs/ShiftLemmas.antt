@@ -6,14 +6,14 @@ use Rattle.sgb_vec.specs.Lexicographic.{IsWithin}
 use Rattle.sgb_gen.specs.Simplexes.{Places, can_shift, shifted}
 
 -- an entry within its bound in the place of another
-IsWithin-set : (v bounds : List ℕ) (i x : ℕ) → IsWithin v bounds → x ≤ get_or bounds i 0 → IsWithin (set v i x) bounds
+pub IsWithin-set : (v bounds : List ℕ) (i x : ℕ) → IsWithin v bounds → x ≤ get_or bounds i 0 → IsWithin (set v i x) bounds
 IsWithin-set [] bounds i x h le = h
 IsWithin-set (y ∷ v) [] i x h le = absurd h
 IsWithin-set (y ∷ v) (b ∷ bounds) zero x h le = (le, h.1)
 IsWithin-set (y ∷ v) (b ∷ bounds) (suc i) x h le = (h.0, IsWithin-set v bounds i x h.1 le)
 
 -- an entry is within its bound
-entry_within : (v bounds : List ℕ) (i : ℕ) → IsWithin v bounds → get_or v i 0 ≤ get_or bounds i 0
+pub entry_within : (v bounds : List ℕ) (i : ℕ) → IsWithin v bounds → get_or v i 0 ≤ get_or bounds i 0
 entry_within [] [] i h = omega arith
 entry_within [] (b ∷ bounds) i h = absurd h
 entry_within (y ∷ v) [] i h = absurd h

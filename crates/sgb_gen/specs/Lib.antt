@@ -11,4 +11,5 @@ pub mod Subsets
 pub mod Tables
 pub mod LocalLists
 pub mod LocalArcs
+pub mod LocalSimplexes
 pub mod Shorthands

@@ -46,15 +46,21 @@ pairs_from n j = map (λ k. record { lower = j; higher = k }) (range_with_len (j
 abbrev pub pairs_of_places : ℕ → List Places
 pairs_of_places n = flat_map (pairs_from n) (range_with_len 0 n)
 
--- a unit of v can go from the lower place to the higher one: there is one, and room for it below the bound
+-- a unit of v can go from one place to another: there is one, and room for it below the bound
+abbrev pub can_move_unit : List ℕ → List ℕ → ℕ → ℕ → Bool
+can_move_unit bounds v from to = nat_lt 0 (slice_index v from) && nat_lt (slice_index v to) (slice_index bounds to)
+
+-- v with a unit gone from one place to another
+abbrev pub unit_moved : List ℕ → ℕ → ℕ → List ℕ
+unit_moved v from to = slice_set (slice_set v from (slice_index v from - 1)) to (slice_index v to + 1)
+
+-- a unit of v can go from the lower place to the higher one
 abbrev pub can_shift : List ℕ → List ℕ → Places → Bool
-can_shift bounds v at =
-    nat_lt 0 (slice_index v at.lower) && nat_lt (slice_index v at.higher) (slice_index bounds at.higher)
+can_shift bounds v at = can_move_unit bounds v at.lower at.higher
 
 -- v with a unit gone from the lower place to the higher one
 abbrev pub shifted : List ℕ → Places → List ℕ
-shifted v at =
-    slice_set (slice_set v at.lower (slice_index v at.lower - 1)) at.higher (slice_index v at.higher + 1)
+shifted v at = unit_moved v at.lower at.higher
 
 -- the moves to v by these pairs of places: from each vector that v becomes when a unit goes to the higher place
 abbrev pub moves_by : List ℕ → List ℕ → List Places → List Move

@@ -1,34 +1,35 @@
-ghost use Rattle.std.specs.Prelude.{◌≡◌, ◌<◌, ◌≤◌, ◌+◌, length, true};
+ghost use Rattle.std.specs.Prelude.{◌≡◌, ◌≢◌, ◌<◌, ◌≤◌, ◌+◌, length, true};
 ghost use Rattle.sgb_vec.specs.Limits.{most_dimensions};
-ghost use Rattle.sgb_gen.specs.Simplexes.{can_shift, shifted};
+ghost use Rattle.sgb_gen.specs.Simplexes.{can_move_unit, unit_moved};
 
 use sgb_vec::Vector;
 
-/// Whether a unit of `v` can go from the lower place to the higher one: there is one, and room for it below the
-/// bound (GB_BASIC, simplex).
-pub(crate) fn can_shift(bounds: &[u32], v: &[u32], lower: usize, higher: usize) -> bool
-    requires order { lower < higher }
-    requires entry { higher < length v.now }
-    requires bound { higher < length bounds.now }
-    ensures { result ≡ can_shift bounds.now v.now (record { lower = lower; higher = higher }) }
+/// Whether a unit of `v` can go from one place to another: there is one, and room for it below the bound
+/// (GB_BASIC, simplex).
+pub(crate) fn can_move_unit(bounds: &[u32], v: &[u32], from: usize, to: usize) -> bool
+    requires from { from < length v.now }
+    requires to { to < length v.now }
+    requires bounds { length v.now ≡ length bounds.now }
+    ensures { result ≡ can_move_unit bounds.now v.now from to }
 {
-    v[lower] > 0 && v[higher] < bounds[higher]
+    v[from] > 0 && v[to] < bounds[to]
 }
 
-/// The vector `v` with a unit gone from the lower place to the higher one (GB_BASIC, simplex).
-pub(crate) fn shifted(bounds: &[u32], v: &[u32], lower: usize, higher: usize) -> Vector
+/// The vector `v` with a unit gone from one place to another (GB_BASIC, simplex).
+pub(crate) fn unit_moved(bounds: &[u32], v: &[u32], from: usize, to: usize) -> Vector
     requires few { length v.now ≤ most_dimensions + 1 }
-    requires order { lower < higher }
-    requires entry { higher < length v.now }
-    requires bound { higher < length bounds.now }
-    requires can { can_shift bounds.now v.now (record { lower = lower; higher = higher }) ≡ true }
-    ensures { result.items ≡ shifted v.now (record { lower = lower; higher = higher }) }
+    requires apart { from ≢ to }
+    requires from { from < length v.now }
+    requires to { to < length v.now }
+    requires bounds { length v.now ≡ length bounds.now }
+    requires can { can_move_unit bounds.now v.now from to ≡ true }
+    ensures { result.items ≡ unit_moved v.now from to }
 {
     let mut there = Vector::new();
     for entry in v {
         there.push(*entry);
     }
-    there[lower] -= 1;
-    there[higher] += 1;
+    there[from] -= 1;
+    there[to] += 1;
     there
 }

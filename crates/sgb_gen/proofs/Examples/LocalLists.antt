@@ -7,11 +7,11 @@ use Rattle.sgb_gen.specs.Simplexes.{SimplexData, simplex_vectors, moves_of_simpl
 use Rattle.sgb_gen.specs.LocalLists.{LocalArc, list_at}
 
 -- simplex(2,0,0,0,0,0,0)
-abbrev triangle : SimplexData
+abbrev pub triangle : SimplexData
 triangle = record { params = []; sum = record { total = 2; bounds = 2 ∷ 2 ∷ 2 ∷ [] }; directed = false }
 
 -- arcs of length 1 to these vectors
-abbrev unit_arcs : List (List ℕ) → List LocalArc
+abbrev pub unit_arcs : List (List ℕ) → List LocalArc
 unit_arcs tips = map (λ v. record { tip = v; len = pos 1 }) tips
 
 -- its vertex 0.1.1

@@ -4,8 +4,10 @@ ghost use Rattle.sgb_graph.specs.Descriptions.{IsAnswerOf};
 ghost use Rattle.sgb_graph.specs.Growth.{AddsEvents, HasPlainArcs};
 ghost use Rattle.sgb_gen.specs.VectorGraphs.{event_among, vertex_among};
 
+mod lists;
+
 use crate::params::SimplexParams;
-use crate::shifts::{can_shift, shifted};
+use crate::shifts::{can_move_unit, unit_moved};
 use crate::tables::VectorTable;
 use crate::vector_graphs::{put_coordinates, vector_names};
 use sgb_graph::{Graph, Id, IdWriter};
@@ -138,10 +140,10 @@ impl Simplex {
         ensures within { IfSome result (λ u. u < length (simplex_vectors self.now)) }
     {
         let bounds = self.shape.sizes();
-        if !can_shift(bounds, x, lower, higher) {
+        if !can_move_unit(bounds, x, lower, higher) {
             return None;
         }
-        let there = shifted(bounds, x, lower, higher);
+        let there = unit_moved(bounds, x, lower, higher);
         Some(vertices.place_of(there.as_slice()))
     }
 

@@ -1,4 +1,4 @@
-use Rattle.std.proofs.Common.{◌++◌, ◌∷◌, [], pos, length, sym, ap, ◌∙◌}
+use Rattle.std.proofs.Common.{◌++◌, ◌∷◌, [], pos, sym, ap, ◌∙◌}
 use Rattle.sgb_gen.specs.LocalArcs.{arcs_in}
 use Rattle.sgb_gen.proofs.LinkRows.{arcs_in-push}
 use Rattle.sgb_gen.proofs.links.Links.push.Goals as goal

@@ -1,5 +1,5 @@
 use Rattle.std.proofs.Common.{◌≡◌, take}
-use Rattle.sgb_gen.proofs.shifts.shifted.Given as goal
+use Rattle.sgb_gen.proofs.shifts.unit_moved.Given as goal
 
 -- the entries so far
 abbrev pub invariant-loop-entry : goal.invariant-loop-entry

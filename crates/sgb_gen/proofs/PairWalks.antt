@@ -1,0 +1,95 @@
+-- Arcs that are put behind others, pair of places by pair.
+use Rattle.std.proofs.Common.{◌≡◌, ℕ, zero, suc, pos, Bool, true, false, cond, if◌then◌else◌, ◌+◌, ◌<◌, ◌≤◌, List, [], ◌∷◌, ◌++◌, map, reverse, refl, sym, ap, ◌∙◌, arith, append-nil, append_assoc}
+use Rattle.std.specs.List.{flat_map, range_with_len}
+use Rattle.std.proofs.lemmas.List.{reverse-append}
+use Rattle.std.proofs.lemmas.List.Concat.{flat_map-append}
+use Rattle.sgb_gen.specs.LocalLists.{LocalArc, LinksData}
+use Rattle.sgb_gen.specs.LocalSimplexes.{arc_by_unit, can_return, returned, arcs_back, arcs_on, pairs_down, with_arcs}
+use Rattle.sgb_gen.specs.Simplexes.{Places, can_move_unit, unit_moved, can_shift, shifted, pairs_from, pairs_of_places}
+use Rattle.sgb_gen.proofs.OrderedLists.{made-append}
+use Rattle.sgb_gen.proofs.SimplexEvents.{pairs_left, pairs_left-next, pairs_left-none, pairs_after, pairs_after-all, pairs_after-next, pairs_after-none}
+
+-- no arcs
+pub with_none : (links : LinksData) → links ≡ with_arcs links []
+with_none links = ap (λ arcs. record links { arcs = arcs }) (sym (append-nil links.arcs))
+
+-- some arcs and then more
+pub with_more : (start links new : LinksData) (some more all : List LocalArc) → links ≡ with_arcs start some → new ≡ with_arcs links more → all ≡ some ++ more → new ≡ with_arcs start all
+with_more start links new some more all links_is new_is all_is =
+    new_is ∙ ap (λ l. with_arcs l more) links_is
+    ∙ ap (λ arcs. record { width = start.width; arcs = arcs }) (append_assoc start.arcs some more)
+    ∙ ap (with_arcs start) (sym all_is)
+
+-- the arc by one pair
+abbrev arc_back : List ℕ → Places → LocalArc
+arc_back x at = record { tip = returned x at; len = pos 1 }
+
+abbrev arc_on : List ℕ → Places → LocalArc
+arc_on x at = record { tip = shifted x at; len = pos 1 }
+
+-- by some pairs and then by others
+pub arcs_back-append : (bounds x : List ℕ) (ps qs : List Places) → arcs_back bounds x (ps ++ qs) ≡ arcs_back bounds x ps ++ arcs_back bounds x qs
+arcs_back-append bounds x ps qs = made-append (can_return bounds x) (arc_back x) ps qs
+
+pub arcs_on-append : (bounds x : List ℕ) (ps qs : List Places) → arcs_on bounds x (ps ++ qs) ≡ arcs_on bounds x ps ++ arcs_on bounds x qs
+arcs_on-append bounds x ps qs = made-append (can_shift bounds x) (arc_on x) ps qs
+
+-- the pairs of place j from the highest place down
+pub left-next : (n j k : ℕ) → k < n → reverse (pairs_left n j k) ≡ reverse (pairs_left n j (k + 1)) ++ record { lower = j; higher = k } ∷ []
+left-next n j k h = ap reverse (pairs_left-next n j k h) ∙ reverse-append (record { lower = j; higher = k } ∷ []) (pairs_left n j (k + 1))
+
+pub left-none : (n j k : ℕ) → n ≤ k → reverse (pairs_left n j k) ≡ []
+left-none n j k h = ap reverse (pairs_left-none n j k h)
+
+-- the pairs of all places, from the last place down
+pub after-next : (n j : ℕ) → j < n → reverse (pairs_after n j) ≡ reverse (pairs_after n (j + 1)) ++ pairs_down n j
+after-next n j h = ap reverse (pairs_after-next n j h) ∙ reverse-append (pairs_from n j) (pairs_after n (j + 1))
+
+pub after-none : (n j : ℕ) → n ≤ j → reverse (pairs_after n j) ≡ []
+after-none n j h = ap reverse (pairs_after-none n j h)
+
+pub after-all : (n : ℕ) → reverse (pairs_after n 0) ≡ reverse (pairs_of_places n)
+after-all n = ap reverse (pairs_after-all n)
+
+-- those of the places below j
+abbrev pub pairs_below : ℕ → ℕ → List Places
+pairs_below n j = flat_map (pairs_down n) (range_with_len 0 j)
+
+range-more : (start count : ℕ) → range_with_len start (count + 1) ≡ range_with_len start count ++ (start + count) ∷ []
+range-more start zero =
+    let end : start ≡ start + 0 = omega arith in
+    ap (λ k. k ∷ []) end
+range-more start (suc count) =
+    let longer : suc count + 1 ≡ suc (count + 1) = omega arith in
+    let end : start + 1 + count ≡ start + suc count = omega arith in
+    ap (range_with_len start) longer ∙ ap (λ l. start ∷ l) (range-more (start + 1) count)
+    ∙ ap (λ k. start ∷ range_with_len (start + 1) count ++ k ∷ []) end
+
+pub below-next : (n j : ℕ) → pairs_below n (j + 1) ≡ pairs_below n j ++ pairs_down n j
+below-next n j =
+    let place : 0 + j ≡ j = omega arith in
+    ap (flat_map (pairs_down n)) (range-more 0 j)
+    ∙ flat_map-append (pairs_down n) (range_with_len 0 j) ((0 + j) ∷ [])
+    ∙ ap (λ l. pairs_below n j ++ l) (append-nil (pairs_down n (0 + j)))
+    ∙ ap (λ k. pairs_below n j ++ pairs_down n k) place
+
+-- the arc by one pair, as the code makes it
+arc_in_list : (b : Bool) (arc : Places → LocalArc) (at : Places) → (if b then arc at ∷ [] else []) ≡ map arc (cond b (at ∷ []) [])
+arc_in_list true arc at = refl
+arc_in_list false arc at = refl
+
+pub back-one : (bounds x : List ℕ) (at : Places) → arc_by_unit bounds x at.higher at.lower ≡ arcs_back bounds x (at ∷ [])
+back-one bounds x at = arc_in_list (can_return bounds x at) (arc_back x) at
+
+pub on-one : (bounds x : List ℕ) (at : Places) → arc_by_unit bounds x at.lower at.higher ≡ arcs_on bounds x (at ∷ [])
+on-one bounds x at = arc_in_list (can_shift bounds x at) (arc_on x) at
+
+-- where no unit can go, and where one can
+pub unit-stays : (bounds x : List ℕ) (links : LinksData) (from to : ℕ) → can_move_unit bounds x from to ≡ false → links ≡ with_arcs links (arc_by_unit bounds x from to)
+unit-stays bounds x links from to cannot =
+    with_none links ∙ ap (λ b. with_arcs links (if b then record { tip = unit_moved x from to; len = pos 1 } ∷ [] else [])) (sym cannot)
+
+pub unit-goes : (bounds x : List ℕ) (links new : LinksData) (from to : ℕ) (v : List ℕ) → can_move_unit bounds x from to ≡ true → v ≡ unit_moved x from to → new ≡ with_arcs links (record { tip = v; len = pos 1 } ∷ []) → new ≡ with_arcs links (arc_by_unit bounds x from to)
+unit-goes bounds x links new from to v can is new_is =
+    new_is ∙ ap (λ w. with_arcs links (record { tip = w; len = pos 1 } ∷ [])) is
+    ∙ ap (λ b. with_arcs links (if b then record { tip = unit_moved x from to; len = pos 1 } ∷ [] else [])) (sym can)

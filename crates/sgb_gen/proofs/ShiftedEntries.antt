@@ -1,0 +1,192 @@
+-- The entries of a vector of which a unit has gone from one place to another, and where it stands among others.
+use Rattle.std.proofs.Common.{◌≡◌, ◌≢◌, ℕ, ◌+◌, ◌-◌, ◌<◌, ◌⊎◌, true, List, length, get_or, set, sum, sym, ap, ◌∙◌, inl, inr, arith, length-set}
+use Rattle.std.specs.Prelude.{nat_lt}
+use Rattle.std.proofs.lemmas.Bool.{and_parts, and_from, cases_eq, ltb-true}
+use Rattle.std.proofs.lemmas.Bool.Decides.{Decides-ltb}
+use Rattle.std.proofs.lemmas.List.{ext_get_or, get_or-set_same, get_or-set_other}
+use Rattle.sgb_vec.specs.Lexicographic.{IsBefore, IsWithin}
+use Rattle.sgb_gen.specs.Simplexes.{Places, unit_moved, can_shift, shifted}
+use Rattle.sgb_gen.specs.LocalSimplexes.{can_return, returned}
+use Rattle.sgb_gen.proofs.OrderedLists.{before_at}
+use Rattle.sgb_gen.proofs.ShiftLemmas.{IsWithin-set, entry_within, shifted-in_sum}
+
+-- two places of a vector of n entries, the lower one first
+abbrev pub IsPair : ℕ → Places → Type 0
+IsPair n at = (at.lower < at.higher) × (at.higher < n)
+
+-- p comes before q in lexicographic order
+abbrev pub RisesTo : Places → Places → Type 0
+RisesTo p q = (p.lower < q.lower) ⊎ ((p.lower ≡ q.lower) × (p.higher < q.higher))
+
+-- p comes before q where the lower places rise and the higher ones fall
+abbrev pub FallsTo : Places → Places → Type 0
+FallsTo p q = (p.lower < q.lower) ⊎ ((p.lower ≡ q.lower) × (q.higher < p.higher))
+
+-- the entries after two writes
+module _ (v : List ℕ) (i j a b : ℕ) (apart : i ≢ j) where
+  written-length : length (set (set v i a) j b) ≡ length v
+  written-length = length-set (set v i a) j b ∙ length-set v i a
+
+  written-first : i < length v → get_or (set (set v i a) j b) i 0 ≡ a
+  written-first within = get_or-set_other (set v i a) j i b 0 apart ∙ get_or-set_same v i a 0 within
+
+  written-second : j < length v → get_or (set (set v i a) j b) j 0 ≡ b
+  written-second within = get_or-set_same (set v i a) j b 0 (omega (arith, length-set v i a))
+
+  written-other : (k : ℕ) → k ≢ i → k ≢ j → get_or (set (set v i a) j b) k 0 ≡ get_or v k 0
+  written-other k from_i from_j = get_or-set_other (set v i a) j k b 0 from_j ∙ get_or-set_other v i k a 0 from_i
+
+  -- writes that put the old entries back
+  written-back : (c d : ℕ) → i < length v → j < length v → d ≡ get_or v j 0 → c ≡ get_or v i 0 → set (set (set (set v i a) j b) j d) i c ≡ v
+  written-back c d in_i in_j is_d is_c =
+      let u = set (set v i a) j b in
+      let w = set u j d in
+      let long_u : length u ≡ length v = written-length in
+      let long_w : length w ≡ length v = length-set u j d ∙ long_u in
+      ext_get_or 0 (set w i c) v (length-set w i c ∙ long_w)
+      (λ k within. elim (cases_eq k i) [
+        | inl same ↦
+            ap (λ m. get_or (set w i c) m 0) same ∙ get_or-set_same w i c 0 (omega (arith, long_w)) ∙ is_c ∙ ap (λ m. get_or v m 0) (sym same)
+        | inr from_i ↦
+            get_or-set_other w i k c 0 from_i
+            ∙ elim (cases_eq k j) [
+              | inl same ↦
+                  ap (λ m. get_or (set u j d) m 0) same ∙ get_or-set_same u j d 0 (omega (arith, long_u)) ∙ is_d ∙ ap (λ m. get_or v m 0) (sym same)
+              | inr from_j ↦ get_or-set_other u j k d 0 from_j ∙ written-other k from_i from_j
+            ]
+      ])
+
+-- a vector stays as long when a unit goes
+pub length-moved : (v : List ℕ) (from to : ℕ) → length (unit_moved v from to) ≡ length v
+length-moved v from to = length-set (set v from (get_or v from 0 - 1)) to (get_or v to 0 + 1) ∙ length-set v from (get_or v from 0 - 1)
+
+-- what a unit that can go says of the entries
+can_shift-says : (bounds v : List ℕ) (at : Places) → can_shift bounds v at ≡ true → (0 < get_or v at.lower 0) × (get_or v at.higher 0 < get_or bounds at.higher 0)
+can_shift-says bounds v at can =
+    let parts = and_parts _ _ can in
+    (ltb-true 0 (get_or v at.lower 0) parts.0, ltb-true (get_or v at.higher 0) (get_or bounds at.higher 0) parts.1)
+
+can_return-says : (bounds v : List ℕ) (at : Places) → can_return bounds v at ≡ true → (0 < get_or v at.higher 0) × (get_or v at.lower 0 < get_or bounds at.lower 0)
+can_return-says bounds v at can =
+    let parts = and_parts _ _ can in
+    (ltb-true 0 (get_or v at.higher 0) parts.0, ltb-true (get_or v at.lower 0) (get_or bounds at.lower 0) parts.1)
+
+-- a vector and a pair of its places
+module _ (bounds v : List ℕ) (at : Places) (pair : IsPair (length v) at) where
+  low_apart : at.lower ≢ at.higher
+  low_apart = omega (arith, pair.0)
+
+  high_apart : at.higher ≢ at.lower
+  high_apart = omega (arith, pair.0)
+
+  in_low : at.lower < length v
+  in_low = omega (arith, pair.0, pair.1)
+
+  pub length-shifted : length (shifted v at) ≡ length v
+  length-shifted = written-length v at.lower at.higher (get_or v at.lower 0 - 1) (get_or v at.higher 0 + 1) low_apart
+
+  pub length-returned : length (returned v at) ≡ length v
+  length-returned = written-length v at.higher at.lower (get_or v at.higher 0 - 1) (get_or v at.lower 0 + 1) high_apart
+
+  shifted-low : get_or (shifted v at) at.lower 0 ≡ get_or v at.lower 0 - 1
+  shifted-low = written-first v at.lower at.higher (get_or v at.lower 0 - 1) (get_or v at.higher 0 + 1) low_apart in_low
+
+  shifted-high : get_or (shifted v at) at.higher 0 ≡ get_or v at.higher 0 + 1
+  shifted-high = written-second v at.lower at.higher (get_or v at.lower 0 - 1) (get_or v at.higher 0 + 1) low_apart pair.1
+
+  shifted-other : (k : ℕ) → k ≢ at.lower → k ≢ at.higher → get_or (shifted v at) k 0 ≡ get_or v k 0
+  shifted-other = written-other v at.lower at.higher (get_or v at.lower 0 - 1) (get_or v at.higher 0 + 1) low_apart
+
+  returned-high : get_or (returned v at) at.higher 0 ≡ get_or v at.higher 0 - 1
+  returned-high = written-first v at.higher at.lower (get_or v at.higher 0 - 1) (get_or v at.lower 0 + 1) high_apart pair.1
+
+  returned-low : get_or (returned v at) at.lower 0 ≡ get_or v at.lower 0 + 1
+  returned-low = written-second v at.higher at.lower (get_or v at.higher 0 - 1) (get_or v at.lower 0 + 1) high_apart in_low
+
+  returned-other : (k : ℕ) → k ≢ at.higher → k ≢ at.lower → get_or (returned v at) k 0 ≡ get_or v k 0
+  returned-other = written-other v at.higher at.lower (get_or v at.higher 0 - 1) (get_or v at.lower 0 + 1) high_apart
+
+  -- a unit that went comes back
+  pub returned-shifted : can_shift bounds v at ≡ true → returned (shifted v at) at ≡ v
+  returned-shifted can =
+      let says = can_shift-says bounds v at can in
+      written-back v at.lower at.higher (get_or v at.lower 0 - 1) (get_or v at.higher 0 + 1) low_apart
+      (get_or (shifted v at) at.lower 0 + 1) (get_or (shifted v at) at.higher 0 - 1) in_low pair.1
+      (omega (arith, shifted-high)) (omega (arith, shifted-low, says.0))
+
+  pub shifted-returned : can_return bounds v at ≡ true → shifted (returned v at) at ≡ v
+  shifted-returned can =
+      let says = can_return-says bounds v at can in
+      written-back v at.higher at.lower (get_or v at.higher 0 - 1) (get_or v at.lower 0 + 1) high_apart
+      (get_or (returned v at) at.higher 0 + 1) (get_or (returned v at) at.lower 0 - 1) pair.1 in_low
+      (omega (arith, returned-low)) (omega (arith, returned-high, says.0))
+
+  -- and can go again
+  pub can_return-shifted : IsWithin v bounds → can_shift bounds v at ≡ true → can_return bounds (shifted v at) at ≡ true
+  can_return-shifted within can =
+      let says = can_shift-says bounds v at can in
+      and_from (nat_lt 0 (get_or (shifted v at) at.higher 0)) (nat_lt (get_or (shifted v at) at.lower 0) (get_or bounds at.lower 0))
+      ((Decides-ltb 0 (get_or (shifted v at) at.higher 0)).1 (omega (arith, shifted-high)))
+      ((Decides-ltb (get_or (shifted v at) at.lower 0) (get_or bounds at.lower 0)).1 (omega (arith, shifted-low, says.0, entry_within v bounds at.lower within)))
+
+  pub can_shift-returned : IsWithin v bounds → can_return bounds v at ≡ true → can_shift bounds (returned v at) at ≡ true
+  can_shift-returned within can =
+      let says = can_return-says bounds v at can in
+      and_from (nat_lt 0 (get_or (returned v at) at.lower 0)) (nat_lt (get_or (returned v at) at.higher 0) (get_or bounds at.higher 0))
+      ((Decides-ltb 0 (get_or (returned v at) at.lower 0)).1 (omega (arith, returned-low)))
+      ((Decides-ltb (get_or (returned v at) at.higher 0) (get_or bounds at.higher 0)).1 (omega (arith, returned-high, says.0, entry_within v bounds at.higher within)))
+
+  -- the vector that it came from comes later
+  pub shifted-before : can_shift bounds v at ≡ true → IsBefore (shifted v at) v
+  shifted-before can =
+      let says = can_shift-says bounds v at can in
+      before_at (shifted v at) v at.lower
+      (λ i less. shifted-other i (omega (arith, less)) (omega (arith, less, pair.0)))
+      (omega (arith, shifted-low, says.0)) (omega (arith, length-shifted, in_low)) in_low
+
+  -- a unit that goes to a lower place leaves the bounds and the sum as they are
+  pub returned-in_sum : IsWithin v bounds → can_return bounds v at ≡ true → IsWithin (returned v at) bounds × (sum (returned v at) ≡ sum v)
+  returned-in_sum within can =
+      let says = can_return-says bounds v at can in
+      let low : IsWithin (set v at.higher (get_or v at.higher 0 - 1)) bounds =
+      IsWithin-set v bounds at.higher (get_or v at.higher 0 - 1) within (omega (arith, entry_within v bounds at.higher within)) in
+      let there : IsWithin (returned v at) bounds =
+      IsWithin-set (set v at.higher (get_or v at.higher 0 - 1)) bounds at.lower (get_or v at.lower 0 + 1) low (omega (arith, says.1)) in
+      let same = shifted-in_sum bounds (returned v at) at pair.0 (omega (arith, length-returned, pair.1)) (can_shift-returned within can) there in
+      (there, sym same.1 ∙ ap sum (shifted-returned can))
+
+-- by different pairs a vector becomes different ones
+pub shifted-once : (bounds v : List ℕ) (p q : Places) → IsPair (length v) p → IsPair (length v) q → can_shift bounds v p ≡ true → RisesTo p q → shifted v p ≡ shifted v q → ⊥
+shifted-once bounds v p q in_p in_q can (inl less) same =
+    let says = can_shift-says bounds v p can in
+    let entry : get_or (shifted v p) p.lower 0 ≡ get_or (shifted v q) p.lower 0 = ap (λ w. get_or w p.lower 0) same in
+    let other : get_or (shifted v q) p.lower 0 ≡ get_or v p.lower 0 = shifted-other bounds v q in_q p.lower (omega (arith, less)) (omega (arith, less, in_q.0)) in
+    absurd (omega (arith, entry, other, shifted-low bounds v p in_p, says.0))
+shifted-once bounds v p q in_p in_q can (inr (level, less)) same =
+    let entry : get_or (shifted v p) p.higher 0 ≡ get_or (shifted v q) p.higher 0 = ap (λ w. get_or w p.higher 0) same in
+    let other : get_or (shifted v q) p.higher 0 ≡ get_or v p.higher 0 = shifted-other bounds v q in_q p.higher (omega (arith, level, in_p.0)) (omega (arith, less)) in
+    absurd (omega (arith, entry, other, shifted-high bounds v p in_p))
+
+-- a unit that goes to a lower place, or comes from a higher one, makes a greater vector
+pub returned-before : (bounds v : List ℕ) (p q : Places) → IsPair (length v) p → IsPair (length v) q → can_return bounds v q ≡ true → FallsTo p q → IsBefore (returned v q) (returned v p)
+returned-before bounds v p q in_p in_q can (inl less) =
+    before_at (returned v q) (returned v p) p.lower
+    (λ i low.
+    returned-other bounds v q in_q i (omega (arith, low, less, in_q.0)) (omega (arith, low, less))
+    ∙ sym (returned-other bounds v p in_p i (omega (arith, low, in_p.0)) (omega (arith, low))))
+    (omega (arith, returned-low bounds v p in_p, returned-other bounds v q in_q p.lower (omega (arith, less, in_q.0)) (omega (arith, less))))
+    (omega (arith, length-returned bounds v q in_q, in_p.0, in_p.1)) (omega (arith, length-returned bounds v p in_p, in_p.0, in_p.1))
+returned-before bounds v p q in_p in_q can (inr (level, less)) =
+    let says = can_return-says bounds v q can in
+    before_at (returned v q) (returned v p) q.higher
+    (λ i low. elim (cases_eq i q.lower) [
+      | inl same ↦
+          let at_p : i ≡ p.lower = omega (arith, same, level) in
+          ap (λ k. get_or (returned v q) k 0) same ∙ returned-low bounds v q in_q
+          ∙ ap (λ k. get_or v k 0 + 1) (sym level) ∙ sym (returned-low bounds v p in_p) ∙ ap (λ k. get_or (returned v p) k 0) (sym at_p)
+      | inr other ↦
+          returned-other bounds v q in_q i (omega (arith, low)) other
+          ∙ sym (returned-other bounds v p in_p i (omega (arith, low, less)) (λ e. other (e ∙ level)))
+    ])
+    (omega (arith, says.0, returned-high bounds v q in_q, returned-other bounds v p in_p q.higher (omega (arith, less)) (omega (arith, level, in_q.0))))
+    (omega (arith, length-returned bounds v q in_q, in_q.1)) (omega (arith, length-returned bounds v p in_p, in_q.1))

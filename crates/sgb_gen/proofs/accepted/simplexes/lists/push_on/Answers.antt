@@ -1,0 +1,35 @@
+use Rattle.std.proofs.Common.{◌≡◌, ◌+◌, ◌-◌, ◌++◌, length, reverse, sym, ap, ◌∙◌, arith}
+use Rattle.sgb_gen.specs.LocalSimplexes.{arcs_on, pairs_down, with_arcs}
+use Rattle.sgb_gen.proofs.PairWalks.{with_none, with_more, arcs_on-append, after-next, after-none, after-all}
+use Rattle.sgb_gen.proofs.SimplexEvents.{pairs_after}
+use Rattle.sgb_gen.proofs.accepted.simplexes.lists.push_on.Goals as goal
+
+pub loop-lower-init : goal.loop-lower-init
+loop-lower-init c =
+    let n = length c.args.x.now in
+    with_none c.args.links.now
+    ∙ ap (λ ps. with_arcs c.args.links.now (arcs_on c.args.bounds.now c.args.x.now ps)) (sym (after-none n n (omega arith)))
+
+pub push_on_from-requires-clause-width : goal.push_on_from-requires-clause-width
+push_on_from-requires-clause-width c = c.requires.width ∙ sym (ap (λ d. d.width) c.loop-lower.invariant)
+
+pub loop-lower-preserved : goal.loop-lower-preserved
+loop-lower-preserved c =
+    let x = c.args.x.now in
+    let n = length x in
+    let bounds = c.args.bounds.now in
+    let j = c.loop-lower.lower in
+    let count : j - 1 + 1 ≡ j = omega arith in
+    let next : reverse (pairs_after n (j - 1)) ≡ reverse (pairs_after n j) ++ pairs_down n (j - 1) =
+    after-next n (j - 1) (omega arith) ∙ ap (λ i. reverse (pairs_after n i) ++ pairs_down n (j - 1)) count in
+    with_more c.args.links.now c.loop-lower.links c.push_on_from.new.links (arcs_on bounds x (reverse (pairs_after n j))) (arcs_on bounds x (pairs_down n (j - 1))) (arcs_on bounds x (reverse (pairs_after n (j - 1))))
+    c.loop-lower.invariant c.in_ok-push_on_from.ensures.ok
+    (ap (arcs_on bounds x) next ∙ arcs_on-append bounds x (reverse (pairs_after n j)) (pairs_down n (j - 1)))
+
+pub returns-clause-ok : goal.returns-clause-ok
+returns-clause-ok c =
+    let n = length c.args.x.now in
+    let end : c.loop-lower.lower ≡ 0 = omega arith in
+    c.loop-lower.invariant
+    ∙ ap (λ k. with_arcs c.args.links.now (arcs_on c.args.bounds.now c.args.x.now (reverse (pairs_after n k)))) end
+    ∙ ap (λ ps. with_arcs c.args.links.now (arcs_on c.args.bounds.now c.args.x.now ps)) (after-all n)
