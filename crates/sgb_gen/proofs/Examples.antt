@@ -6,3 +6,4 @@ pub mod Subsets
 pub mod Graphs
 pub mod LocalLists
 pub mod LocalSimplexes
+pub mod LocalSubsets

@@ -35,5 +35,7 @@ pub mod OrderedLists
 pub mod ShiftedEntries
 pub mod SimplexLists
 pub mod PairWalks
+pub mod SubsetsLists
+pub mod SubsetsWalks
 pub mod MoveLists
 pub mod SimplexEvents

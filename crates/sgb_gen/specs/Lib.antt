@@ -12,4 +12,5 @@ pub mod Tables
 pub mod LocalLists
 pub mod LocalArcs
 pub mod LocalSimplexes
+pub mod LocalSubsets
 pub mod Shorthands

@@ -5,6 +5,8 @@ ghost use Rattle.sgb_graph.specs.Growth.{AddsEvents, HasPlainArcs};
 ghost use Rattle.sgb_gen.specs.VectorGraphs.{event_among};
 ghost use Rattle.std.specs.Simd.Lanes.{sum_l, zip2};
 
+mod lists;
+
 use crate::params::SubsetsParams;
 use crate::vector_graphs::{put_coordinates, vector_names};
 use sgb_graph::{Graph, Id, IdWriter};

@@ -1,0 +1,312 @@
+-- The list of a vector of subsets is made by a walk over the vectors, from the last one back.
+use Rattle.std.proofs.Common.{◌≡◌, ℕ, ◌+◌, ◌-◌, ◌*◌, ◌<◌, ◌≤◌, min, pos, Bool, true, false, cond, List, [], ◌∷◌, ◌++◌, length, map, filter, reverse, take, drop, get_or, Some, refl, sym, ap, ap₂, subst, ◌∙◌, arith, append-nil, append_assoc}
+use Rattle.std.specs.Cmp.Lexicographic.{bytes_decides}
+use Rattle.std.specs.List.{All, Contains, flat_map, range_with_len, slice_get}
+use Rattle.std.proofs.Math.Seq.{get_or-append_seam, take-append_seam, take-append-add}
+use Rattle.std.proofs.lemmas.List.{get_or-drop, get_or-take, length-append, length-drop, length-take, length-take-le, map-append, reverse-append, take-append-drop}
+use Rattle.std.proofs.lemmas.List.Elements.{All-append, All-cons, All-contains_itself, All-filter, All-head, All-map, All-nil, All-tail}
+use Rattle.std.proofs.lemmas.Option.{get_or_from_slice_get, slice_get_read, slice_get_within}
+use Rattle.sgb_vec.specs.Lexicographic.{IsBefore, IsRising}
+use Rattle.sgb_vec.proofs.SumMembers.{bounded_sums-rise}
+use Rattle.sgb_gen.specs.VectorGraphs.{Move, same_vector, vertex_among}
+use Rattle.sgb_gen.specs.Subsets.{SubsetsData, common_size, is_wanted_size, moves_to_place, subsets_vectors, moves_of_subsets}
+use Rattle.sgb_gen.specs.LocalArcs.{arc_if, arcs_by, arcs_of_moves}
+use Rattle.sgb_gen.specs.LocalLists.{LocalArc, list_at}
+use Rattle.sgb_gen.specs.LocalSubsets.{arcs_to, arcs_by_walk}
+use Rattle.sgb_gen.proofs.FamilyWalks.{drop_at_vector, take_at_vector}
+use Rattle.sgb_gen.proofs.MoveLists.{HasEnds, list_at-moves}
+use Rattle.sgb_gen.proofs.OrderedLists.{All-flat_map, before_none, made-append, range-within}
+use Rattle.sgb_gen.proofs.RisingVectors.{vertex_in_rising}
+
+-- either multiset may stand first
+common-turned : (u v : List ℕ) → common_size u v ≡ common_size v u
+common-turned [] [] = refl
+common-turned [] (y ∷ v) = refl
+common-turned (x ∷ u) [] = refl
+common-turned (x ∷ u) (y ∷ v) = omega (arith, common-turned u v)
+
+-- the arcs by some moves and then others
+arcs-append : (directed : Bool) (x : List ℕ) (ms ns : List Move) → arcs_of_moves directed x (ms ++ ns) ≡ arcs_of_moves directed x ns ++ arcs_of_moves directed x ms
+arcs-append directed x [] ns = sym (append-nil (arcs_of_moves directed x ns))
+arcs-append directed x (m ∷ ms) ns =
+    ap (λ l. l ++ arcs_by directed x m) (arcs-append directed x ms ns)
+    ∙ append_assoc (arcs_of_moves directed x ns) (arcs_of_moves directed x ms) (arcs_by directed x m)
+
+-- the other order of a list with a first element
+reverse-first : {X : Type 0} (x : X) (xs : List X) → reverse (x ∷ xs) ≡ reverse xs ++ x ∷ []
+reverse-first x xs = reverse-append (x ∷ []) xs
+
+-- a test that cannot pass
+fails : (b : Bool) → (b ≡ true → ⊥) → b ≡ false
+fails true h = absurd (h refl)
+fails false h = refl
+
+-- an element that is made where a test passes
+made_if : (b : Bool) (v : List ℕ) → map {B = LocalArc} (λ y. record { tip = y; len = pos 1 }) (cond b (v ∷ []) []) ≡ cond b (record { tip = v; len = pos 1 } ∷ []) []
+made_if true v = refl
+made_if false v = refl
+
+none_if : (b : Bool) → cond {A = List LocalArc} b [] [] ≡ []
+none_if true = refl
+none_if false = refl
+
+-- the vectors up to one
+abbrev and_one : List (List ℕ) → List ℕ → List (List ℕ)
+and_one vs v = vs ++ v ∷ []
+
+-- where sizes are wanted, the list of x
+module _ (size_bits : ℕ) (x : List ℕ) where
+  abbrev wanted : List ℕ → List ℕ → Bool
+  wanted u v = is_wanted_size size_bits (common_size u v)
+
+  wanted-turned : (u v : List ℕ) → wanted u v ≡ wanted v u
+  wanted-turned u v = ap (is_wanted_size size_bits) (common-turned u v)
+
+  abbrev unit_move : List ℕ → List ℕ → Move
+  unit_move v u = record { from = u; to = v; len = 1 }
+
+  -- the moves to v from these vectors
+  abbrev moves_onto : List ℕ → List (List ℕ) → List Move
+  moves_onto v us = map (λ u. record { from = u; to = v; len = 1 }) (filter (λ u. is_wanted_size size_bits (common_size u v)) us)
+
+  onto-append : (v : List ℕ) (us ws : List (List ℕ)) → moves_onto v (us ++ ws) ≡ moves_onto v us ++ moves_onto v ws
+  onto-append v us ws = made-append (λ u. wanted u v) (unit_move v) us ws
+
+  -- the arcs to some vectors and then others
+  pub to-append : (us ws : List (List ℕ)) → arcs_to size_bits x (us ++ ws) ≡ arcs_to size_bits x us ++ arcs_to size_bits x ws
+  to-append us ws = made-append (λ y. wanted x y) (λ y. record { tip = y; len = pos 1 }) us ws
+
+  to-one : (v : List ℕ) → arcs_to size_bits x (v ∷ []) ≡ cond (wanted x v) (record { tip = v; len = pos 1 } ∷ []) []
+  to-one v = made_if (wanted x v) v
+
+  -- to these vectors from the last one back
+  pub back-first : (v : List ℕ) (vs : List (List ℕ)) → arcs_to size_bits x (reverse (v ∷ vs)) ≡ arcs_to size_bits x (reverse vs) ++ arcs_to size_bits x (v ∷ [])
+  back-first v vs = ap (arcs_to size_bits x) (reverse-first v vs) ∙ to-append (reverse vs) (v ∷ [])
+
+  pub back-last : (vs : List (List ℕ)) (v : List ℕ) → arcs_to size_bits x (reverse (vs ++ v ∷ [])) ≡ arcs_to size_bits x (v ∷ []) ++ arcs_to size_bits x (reverse vs)
+  back-last vs v = ap (arcs_to size_bits x) (reverse-append vs (v ∷ [])) ∙ to-append (v ∷ []) (reverse vs)
+
+  -- a vector is another than x
+  abbrev Differs : List ℕ → Type 0
+  Differs v = same_vector v x ≡ false
+
+  -- the arcs by a move, by whether its start and its end are x
+  abbrev touching : Bool → Bool → Bool → List ℕ → List ℕ → List LocalArc
+  touching true a b u v = arc_if a v 1
+  touching false a b u v = arc_if a v 1 ++ arc_if b u 1
+
+  by_move : (directed a b : Bool) (u v : List ℕ) → same_vector u x ≡ a → same_vector v x ≡ b → arcs_by directed x (unit_move v u) ≡ touching directed a b u v
+  by_move true a b u v is_a is_b = ap (λ t. arc_if t v 1) is_a
+  by_move false a b u v is_a is_b = ap₂ (λ t s. arc_if t v 1 ++ arc_if s u 1) is_a is_b
+
+  one_move : (directed : Bool) (u v : List ℕ) (w : Bool) → w ≡ wanted u v → arcs_of_moves directed x (map (unit_move v) (cond w (u ∷ []) [])) ≡ cond w (arcs_by directed x (unit_move v u)) []
+  one_move directed u v true is = refl
+  one_move directed u v false is = refl
+
+  -- the moves to v from u and then from others
+  onto_first : (directed a b : Bool) (u v : List ℕ) (us : List (List ℕ)) → same_vector u x ≡ a → same_vector v x ≡ b
+      → arcs_of_moves directed x (moves_onto v (u ∷ us)) ≡ arcs_of_moves directed x (moves_onto v us) ++ cond (wanted u v) (touching directed a b u v) []
+  onto_first directed a b u v us is_a is_b =
+      ap (arcs_of_moves directed x) (onto-append v (u ∷ []) us)
+      ∙ arcs-append directed x (moves_onto v (u ∷ [])) (moves_onto v us)
+      ∙ ap (λ l. arcs_of_moves directed x (moves_onto v us) ++ l)
+      (one_move directed u v (wanted u v) refl ∙ ap (λ l. cond (wanted u v) l []) (by_move directed a b u v is_a is_b))
+
+  -- of moves between other vectors there are none
+  untouched : (directed : Bool) (u v : List ℕ) (w : Bool) → cond w (touching directed false false u v) [] ≡ []
+  untouched true u v w = none_if w
+  untouched false u v w = none_if w
+
+  others : (directed : Bool) (v : List ℕ) (us : List (List ℕ)) → Differs v → All Differs us → arcs_of_moves directed x (moves_onto v us) ≡ []
+  others directed v [] other differ = refl
+  others directed v (u ∷ us) other differ =
+      onto_first directed false false u v us (All-head Differs u us differ) other
+      ∙ ap₂ (λ a b. a ++ b) (others directed v us other (All-tail Differs u us differ)) (untouched directed u v (wanted u v))
+
+  x_itself : same_vector x x ≡ true
+  x_itself = (bytes_decides x x).1 refl
+
+  -- from x to another vector there is one
+  outward : (directed : Bool) (v : List ℕ) (w : Bool) → cond w (touching directed true false x v) [] ≡ cond w (record { tip = v; len = pos 1 } ∷ []) []
+  outward true v w = refl
+  outward false v w = refl
+
+  from_x : (directed : Bool) (v : List ℕ) (us ws : List (List ℕ)) → Differs v → All Differs us → All Differs ws → arcs_of_moves directed x (moves_onto v (us ++ x ∷ ws)) ≡ arcs_to size_bits x (v ∷ [])
+  from_x directed v us ws other before after =
+      ap (arcs_of_moves directed x) (onto-append v us (x ∷ ws))
+      ∙ arcs-append directed x (moves_onto v us) (moves_onto v (x ∷ ws))
+      ∙ ap₂ (λ a b. a ++ b)
+      (onto_first directed true false x v ws x_itself other
+      ∙ ap₂ (λ a b. a ++ b) (others directed v ws other after) (outward directed v (wanted x v)))
+      (others directed v us other before)
+      ∙ append-nil (cond (wanted x v) (record { tip = v; len = pos 1 } ∷ []) [])
+      ∙ sym (to-one v)
+
+  -- to x from other vectors there is one each in an undirected graph
+  abbrev inward : Bool → List (List ℕ) → List LocalArc
+  inward true us = []
+  inward false us = arcs_to size_bits x (reverse us)
+
+  inward_first : (directed : Bool) (u : List ℕ) (us : List (List ℕ)) → inward directed us ++ cond (wanted u x) (touching directed false true u x) [] ≡ inward directed (u ∷ us)
+  inward_first true u us = none_if (wanted u x)
+  inward_first false u us =
+      ap (λ w. arcs_to size_bits x (reverse us) ++ cond w (record { tip = u; len = pos 1 } ∷ []) []) (wanted-turned u x)
+      ∙ ap (λ l. arcs_to size_bits x (reverse us) ++ l) (sym (to-one u))
+      ∙ sym (back-first u us)
+
+  onto_x : (directed : Bool) (us : List (List ℕ)) → All Differs us → arcs_of_moves directed x (moves_onto x us) ≡ inward directed us
+  onto_x true [] differ = refl
+  onto_x false [] differ = refl
+  onto_x directed (u ∷ us) differ =
+      onto_first directed false true u x us (All-head Differs u us differ) x_itself
+      ∙ ap (λ l. l ++ cond (wanted u x) (touching directed false true u x) []) (onto_x directed us (All-tail Differs u us differ))
+      ∙ inward_first directed u us
+
+  -- at x: its loop once or twice, and the moves to it
+  abbrev own_arcs : Bool → List (List ℕ) → List LocalArc
+  own_arcs true us = arcs_to size_bits x (x ∷ [])
+  own_arcs false us = arcs_to size_bits x (x ∷ []) ++ (arcs_to size_bits x (x ∷ []) ++ arcs_to size_bits x (reverse us))
+
+  twice_if : (w : Bool) (l : List LocalArc) → cond w (l ++ l) [] ≡ cond w l [] ++ cond w l []
+  twice_if true l = refl
+  twice_if false l = refl
+
+  own_join : (directed : Bool) (us : List (List ℕ)) → cond (wanted x x) (touching directed true true x x) [] ++ inward directed us ≡ own_arcs directed us
+  own_join true us = append-nil (cond (wanted x x) (record { tip = x; len = pos 1 } ∷ []) []) ∙ sym (to-one x)
+  own_join false us =
+      ap (λ l. l ++ inward false us) (twice_if (wanted x x) (record { tip = x; len = pos 1 } ∷ []) ∙ ap₂ (λ a b. a ++ b) (sym (to-one x)) (sym (to-one x)))
+      ∙ append_assoc (arcs_to size_bits x (x ∷ [])) (arcs_to size_bits x (x ∷ [])) (inward false us)
+
+  at_x : (directed : Bool) (us : List (List ℕ)) → All Differs us → arcs_of_moves directed x (moves_onto x (us ++ x ∷ [])) ≡ own_arcs directed us
+  at_x directed us differ =
+      ap (arcs_of_moves directed x) (onto-append x us (x ∷ []))
+      ∙ arcs-append directed x (moves_onto x us) (moves_onto x (x ∷ []))
+      ∙ ap₂ (λ a b. a ++ b) (onto_first directed true true x x [] x_itself x_itself) (onto_x directed us differ)
+      ∙ own_join directed us
+
+  -- the moves to these vectors, each from those before it
+  abbrev moves_over : List (List ℕ) → List (List ℕ) → List Move
+  moves_over before [] = []
+  moves_over before (v ∷ vs) = moves_onto v (and_one before v) ++ moves_over (and_one before v) vs
+
+  -- to the vectors after x
+  after_x : (directed : Bool) (us ws vs : List (List ℕ)) → All Differs us → All Differs ws → All Differs vs → arcs_of_moves directed x (moves_over (us ++ x ∷ ws) vs) ≡ arcs_to size_bits x (reverse vs)
+  after_x directed us ws [] before between differ = refl
+  after_x directed us ws (v ∷ vs) before between differ =
+      let other = All-head Differs v vs differ in
+      let longer : and_one (us ++ x ∷ ws) v ≡ us ++ x ∷ and_one ws v = append_assoc us (x ∷ ws) (v ∷ []) in
+      let apart = All-append Differs ws (v ∷ []) between (All-cons Differs v [] other (All-nil Differs)) in
+      ap (λ l. arcs_of_moves directed x (moves_onto v l ++ moves_over l vs)) longer
+      ∙ arcs-append directed x (moves_onto v (us ++ x ∷ and_one ws v)) (moves_over (us ++ x ∷ and_one ws v) vs)
+      ∙ ap₂ (λ a b. a ++ b) (after_x directed us (and_one ws v) vs before apart (All-tail Differs v vs differ)) (from_x directed v us (and_one ws v) other before apart)
+      ∙ sym (back-first v vs)
+
+  -- to all vectors, with x among them
+  over_all : (directed : Bool) (before us after : List (List ℕ)) → All Differs before → All Differs us → All Differs after
+      → arcs_of_moves directed x (moves_over before (us ++ x ∷ after)) ≡ arcs_to size_bits x (reverse after) ++ own_arcs directed (before ++ us)
+  over_all directed before [] after h differ later =
+      arcs-append directed x (moves_onto x (and_one before x)) (moves_over (and_one before x) after)
+      ∙ ap₂ (λ a b. a ++ b) (after_x directed before [] after h (All-nil Differs) later) (at_x directed before h)
+      ∙ ap (λ l. arcs_to size_bits x (reverse after) ++ own_arcs directed l) (sym (append-nil before))
+  over_all directed before (u ∷ us) after h differ later =
+      let other = All-head Differs u us differ in
+      let apart = All-append Differs before (u ∷ []) h (All-cons Differs u [] other (All-nil Differs)) in
+      arcs-append directed x (moves_onto u (and_one before u)) (moves_over (and_one before u) (us ++ x ∷ after))
+      ∙ ap₂ (λ a b. a ++ b) (over_all directed (and_one before u) us after apart (All-tail Differs u us differ) later) (others directed u (and_one before u) other apart)
+      ∙ append-nil (arcs_to size_bits x (reverse after) ++ own_arcs directed (and_one before u ++ us))
+      ∙ ap (λ l. arcs_to size_bits x (reverse after) ++ own_arcs directed l) (append_assoc before (u ∷ []) us)
+
+  -- the moves of the definition are these
+  moves_are : (before vs : List (List ℕ)) → flat_map (moves_to_place size_bits (before ++ vs)) (range_with_len (length before) (length vs)) ≡ moves_over before vs
+  moves_are before [] = refl
+  moves_are before (v ∷ vs) =
+      let joined : and_one before v ++ vs ≡ before ++ v ∷ vs = append_assoc before (v ∷ []) vs in
+      let there : get_or (before ++ v ∷ vs) (length before) [] ≡ v = get_or-append_seam before v vs [] in
+      let front : take (length before + 1) (before ++ v ∷ vs) ≡ and_one before v = take-append-add before (v ∷ vs) 1 in
+      let count : length (and_one before v) ≡ length before + 1 = length-append before (v ∷ []) in
+      ap₂ (λ a b. a ++ b)
+      (ap₂ (λ w l. moves_onto w l) there front)
+      (ap₂ (λ l n. flat_map (moves_to_place size_bits l) (range_with_len n (length vs))) (sym joined) (sym count) ∙ moves_are (and_one before v) vs)
+
+  -- so the list is the walk's, with the vectors before x and after it
+  walked : (directed : Bool) (before after : List (List ℕ)) → arcs_to size_bits x (reverse after) ++ own_arcs directed before
+      ≡ cond directed (arcs_to size_bits x (reverse (x ∷ after))) (arcs_to size_bits x (reverse (x ∷ after)) ++ arcs_to size_bits x (reverse (and_one before x)))
+  walked true before after = sym (back-first x after)
+  walked false before after =
+      sym (append_assoc (arcs_to size_bits x (reverse after)) (arcs_to size_bits x (x ∷ [])) (arcs_to size_bits x (x ∷ []) ++ arcs_to size_bits x (reverse before)))
+      ∙ ap₂ (λ a b. a ++ b) (sym (back-first x after)) (sym (back-last before x))
+
+  by_walk : (directed : Bool) (vectors : List (List ℕ)) → arcs_by_walk directed size_bits vectors x
+      ≡ cond directed (arcs_to size_bits x (reverse (drop (vertex_among vectors x) vectors))) (arcs_to size_bits x (reverse (drop (vertex_among vectors x) vectors)) ++ arcs_to size_bits x (reverse (take (vertex_among vectors x + 1) vectors)))
+  by_walk true vectors = refl
+  by_walk false vectors = refl
+
+  pub moves-walked : (directed : Bool) (vectors : List (List ℕ)) (p : ℕ) → slice_get vectors p ≡ Some x → vertex_among vectors x ≡ p → All Differs (take p vectors) → All Differs (drop (p + 1) vectors)
+      → arcs_of_moves directed x (flat_map (moves_to_place size_bits vectors) (range_with_len 0 (length vectors))) ≡ arcs_by_walk directed size_bits vectors x
+  moves-walked directed vectors p at vertex earlier later =
+      let back : drop p vectors ≡ x ∷ drop (p + 1) vectors = drop_at_vector vectors p x at in
+      let front : take (p + 1) vectors ≡ and_one (take p vectors) x = take_at_vector vectors p x at in
+      let whole : vectors ≡ take p vectors ++ x ∷ drop (p + 1) vectors = sym (take-append-drop p vectors) ∙ ap (λ l. take p vectors ++ l) back in
+      ap (arcs_of_moves directed x) (moves_are [] vectors)
+      ∙ ap (λ l. arcs_of_moves directed x (moves_over [] l)) whole
+      ∙ over_all directed [] (take p vectors) (drop (p + 1) vectors) (All-nil Differs) earlier later
+      ∙ walked directed (take p vectors) (drop (p + 1) vectors)
+      ∙ ap₂ (λ b f. cond directed (arcs_to size_bits x (reverse b)) (arcs_to size_bits x (reverse b) ++ arcs_to size_bits x (reverse f))) (sym back) (sym front)
+      ∙ ap (λ k. cond directed (arcs_to size_bits x (reverse (drop k vectors))) (arcs_to size_bits x (reverse (drop k vectors)) ++ arcs_to size_bits x (reverse (take (k + 1) vectors)))) (sym vertex)
+      ∙ sym (by_walk directed vectors)
+
+-- in rising vectors those at other places are others
+module _ (vectors : List (List ℕ)) (p : ℕ) (x : List ℕ) (rise : IsRising vectors) (at : slice_get vectors p ≡ Some x) where
+  differs_at : (k : ℕ) (d : List ℕ) → k < p → same_vector (get_or vectors k d) x ≡ false
+  differs_at k d less =
+      let there : get_or vectors p d ≡ x = get_or_from_slice_get vectors p x d at in
+      let before : IsBefore (get_or vectors k d) x = subst (IsBefore (get_or vectors k d)) there (rise k p d less (slice_get_within vectors p x at)) in
+      fails (same_vector (get_or vectors k d) x) (λ e. before_none x (subst (λ y. IsBefore y x) ((bytes_decides (get_or vectors k d) x).0 e) before))
+
+  differs_after : (k : ℕ) (d : List ℕ) → p < k → k < length vectors → same_vector (get_or vectors k d) x ≡ false
+  differs_after k d more within =
+      let there : get_or vectors p d ≡ x = get_or_from_slice_get vectors p x d at in
+      let after : IsBefore x (get_or vectors k d) = subst (λ y. IsBefore y (get_or vectors k d)) there (rise p k d more within) in
+      fails (same_vector (get_or vectors k d) x) (λ e. before_none x (subst (IsBefore x) ((bytes_decides (get_or vectors k d) x).0 e) after))
+
+  earlier_differ : All (λ v. same_vector v x ≡ false) (take p vectors)
+  earlier_differ k d within =
+      let less : k < p = omega (arith, length-take p vectors, within) in
+      ap (λ v. same_vector v x) (get_or-take p vectors k d less) ∙ differs_at k d less
+
+  later_differ : All (λ v. same_vector v x ≡ false) (drop (p + 1) vectors)
+  later_differ k d within =
+      ap (λ v. same_vector v x) (get_or-drop (p + 1) vectors k d)
+      ∙ differs_after (p + 1 + k) d (omega arith) (omega (arith, length-drop (p + 1) vectors, within))
+
+-- the vectors up to a place are vectors
+taken : (n : ℕ) (vectors : List (List ℕ)) → All (Contains vectors) (take n vectors)
+taken n vectors k d within =
+    let less : k < min n (length vectors) = omega (arith, length-take n vectors, within) in
+    subst (Contains vectors) (sym (get_or-take n vectors k d (omega (arith, less)))) (All-contains_itself vectors k d (omega (arith, less)))
+
+-- so both ends of each move are vertices
+ends_at_place : (size_bits : ℕ) (vectors : List (List ℕ)) (i : ℕ) → i < length vectors → All (HasEnds vectors) (moves_to_place size_bits vectors i)
+ends_at_place size_bits vectors i within =
+    let v = get_or vectors i [] in
+    All-map (HasEnds vectors) (λ u. record { from = u; to = v; len = 1 }) (filter (λ u. is_wanted_size size_bits (common_size u v)) (take (i + 1) vectors))
+    (All-filter (λ u. is_wanted_size size_bits (common_size u v)) (λ u. HasEnds vectors (record { from = u; to = v; len = 1 })) (take (i + 1) vectors)
+    (λ k d inside. (taken (i + 1) vectors k d inside, All-contains_itself vectors i [] within)))
+
+moves_have_ends : (s : SubsetsData) → All (HasEnds (subsets_vectors s)) (moves_of_subsets s)
+unfolding moves_of_subsets
+moves_have_ends s =
+    let vectors = subsets_vectors s in
+    All-flat_map (HasEnds vectors) (moves_to_place s.size_bits vectors) (range_with_len 0 (length vectors))
+    (λ k d within. ends_at_place s.size_bits vectors (get_or (range_with_len 0 (length vectors)) k d) (omega (arith, (range-within 0 (length vectors) k d within).1)))
+
+-- the list of x is made by the walk
+pub list_by_walk : (s : SubsetsData) (x : List ℕ) → Contains (subsets_vectors s) x → list_at s.directed (subsets_vectors s) (moves_of_subsets s) x ≡ arcs_by_walk s.directed s.size_bits (subsets_vectors s) x
+unfolding moves_of_subsets
+list_by_walk s x (p, within, there) =
+    let vectors = subsets_vectors s in
+    let rise = bounded_sums-rise s.sum.total s.sum.bounds in
+    let at : slice_get vectors p ≡ Some x = slice_get_read vectors (length vectors) p x refl within (sym there) in
+    list_at-moves vectors rise s.directed x (moves_of_subsets s) (p, within, there) (moves_have_ends s)
+    ∙ moves-walked s.size_bits x s.directed vectors p at (vertex_in_rising vectors p x rise at)
+    (earlier_differ vectors p x rise at) (later_differ vectors p x rise at)

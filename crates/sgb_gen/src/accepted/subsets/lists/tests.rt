@@ -1,0 +1,81 @@
+use super::super::Subsets;
+use crate::links::Links;
+use sgb_graph::Graph;
+use sgb_vec::{Family, Vectors, name_of};
+use std::alloc::Global;
+use std::process::Abort;
+use std::test::Fail;
+
+// Parameters of subsets whose lists are compared with those of the built graphs, each with both directions.
+const SUBSETS: [([i64; 6], u128); 6] = [
+    ([2, 1, -4, 0, 0, 0], 0x1),
+    ([3, 2, 2, 2, 0, 0], 0xf),
+    ([4, 3, 9, -3, 7, 7], 0x1c),
+    ([3, 0, 0, 0, 0, 0], 0xa),
+    ([0, 3, 0, 0, 0, 0], 0x1),
+    ([5, 2, 2, 0, 0, 0], 0x7),
+];
+
+#[test]
+fn lists_of_the_built_graph(rt: HostRuntime) -> Result<(), Fail> {
+    for ([n, n0, n1, n2, n3, n4], size_bits) in SUBSETS {
+        for directed in [false, true] {
+            let subsets = Subsets::new(rt.alloc(), n, n0, n1, n2, n3, n4, size_bits, directed)?;
+            compare_all(&rt, rt.alloc(), &subsets)?;
+        }
+    }
+    Ok(())
+}
+
+// All lists of these subsets.
+fn compare_all<A: Abort>(rt: &A, alloc: Global, subsets: &Subsets) -> Result<(), Fail> {
+    let graph = subsets.graph(alloc)?;
+    let mut links = Links::new(alloc);
+    let mut v: u32 = 0;
+    for x in Vectors::all(subsets.family()) {
+        assert!(rt; v < graph.n());
+        compare(rt, alloc, subsets, &graph, v, x.as_slice(), &mut links)?;
+        v += 1;
+    }
+    assert!(rt; v == graph.n());
+    Ok(())
+}
+
+// The list of `x`, which is vertex `v`.
+fn compare<A: Abort>(
+    rt: &A,
+    alloc: Global,
+    subsets: &Subsets,
+    graph: &Graph,
+    v: u32,
+    x: &[u32],
+    links: &mut Links,
+) -> Result<(), Fail> {
+    assert!(rt; subsets.family().holds(x));
+    assert!(rt; v < graph.n());
+    subsets.arcs_at(x, links)?;
+    let mut i: usize = 0;
+    for link in graph.arcs(v) {
+        assert!(rt; i < links.len());
+        assert!(rt; link.tip < graph.n());
+        let found = links.get(i);
+        assert!(rt; i64::from(found.len) == link.len);
+        assert!(rt; found.tip.len() <= 251);
+        let name = name_of(alloc, found.tip)?;
+        assert!(rt; name.bytes() == graph.name(link.tip).bytes());
+        i += 1;
+    }
+    assert!(rt; i == links.len());
+    Ok(())
+}
+
+// The one vector has three elements in common with itself.
+#[test]
+fn no_size_wanted(rt: HostRuntime) -> Result<(), Fail> {
+    let subsets = Subsets::new(rt.alloc(), 3, 1, 1, 1, 0, 0, 0x1, false)?;
+    let mut links = Links::new(rt.alloc());
+    assert!(rt; subsets.family().holds(&[1, 1, 1]));
+    subsets.arcs_at(&[1, 1, 1], &mut links)?;
+    assert!(rt; links.len() == 0);
+    Ok(())
+}
