@@ -19,7 +19,7 @@ abbrev pub leads : BoardData → List ℕ → List ℤ → ℕ → Option (List 
 leads b x t l = destination (sides_of b.sizes b.wrap) b.piece x t l
 
 -- the greatest length
-abbrev longest : BoardData → ℕ
+abbrev pub longest : BoardData → ℕ
 longest b = longest_move (sides_of b.sizes b.wrap) b.piece
 
 -- the events of the moves from x by t

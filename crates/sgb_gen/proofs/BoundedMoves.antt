@@ -15,13 +15,14 @@ use Rattle.sgb_vec.specs.Boxes.{box}
 use Rattle.sgb_vec.specs.Lexicographic.{IsBelow}
 use Rattle.sgb_vec.proofs.BoxPlaces.{IsBelow-from_Contains}
 use Rattle.sgb_graph.specs.Events.{Event}
-use Rattle.sgb_gen.specs.Boards.{BoardData}
+use Rattle.sgb_gen.specs.Boards.{BoardData, moves_of_board}
 use Rattle.sgb_gen.specs.Displacements.{signings, sum_of_squares, vectors_of_norm, displacements}
 use Rattle.sgb_gen.specs.EntryBounds.{entry_bound, entry_bounds, vectors_within, displacements_within}
-use Rattle.sgb_gen.specs.Moves.{Side, is_bit_set, sides_from_bit, sides_of, within_size, coordinate_on, in_front, place, is_elsewhere, destination, longest_move, moves_from}
+use Rattle.sgb_gen.specs.Moves.{Side, is_bit_set, sides_from_bit, sides_of, within_size, coordinate_on, in_front, place, is_elsewhere, destination, longest_move, moves_from, board_moves}
+use Rattle.sgb_gen.specs.LocalBoards.{moves_by}
 use Rattle.sgb_gen.specs.VectorGraphs.{event_among}
 use Rattle.sgb_gen.proofs.AllVectors.{flat_map-same, rows-cut}
-use Rattle.sgb_gen.proofs.BoardEvents.{events_from, events_by, events_of}
+use Rattle.sgb_gen.proofs.BoardEvents.{events_by, events_by-moves, events_of}
 use Rattle.sgb_gen.proofs.Completions.{square-ge, squares-cons}
 use Rattle.sgb_gen.proofs.DisplacementLengths.{HasSizes, signings-sizes}
 use Rattle.sgb_gen.proofs.NextSignings.{sizes_of}
@@ -112,38 +113,46 @@ flat_map-none f (x ∷ xs) h = rw (All-head (λ y. f y ≡ []) x xs h, flat_map-
 abbrev pub bounds_of : BoardData → List ℕ
 bounds_of b = entry_bounds (nat_abs b.piece) (sides_of b.sizes b.wrap)
 
--- a displacement with an entry above its bound makes no event
-events-off : (b : BoardData) (t : List ℤ) (k : ℕ) → k < length b.sizes → get_or (bounds_of b) k 0 < nat_abs (get_or t k (pos 0)) → nat_abs (get_or t k (pos 0)) ≤ nat_abs b.piece → events_by b t ≡ []
-events-off b t k h far small =
+-- nothing is made by a displacement with an entry above its bound
+abbrev pub IsOff : {X : Type 0} → BoardData → (List ℤ → List X) → Type 0
+IsOff b f = (t : List ℤ) (k : ℕ) → k < length b.sizes → get_or (bounds_of b) k 0 < nat_abs (get_or t k (pos 0)) → nat_abs (get_or t k (pos 0)) ≤ nat_abs b.piece → f t ≡ []
+
+-- no move, and so no event
+pub moves-off : (b : BoardData) → IsOff b (moves_by (sides_of b.sizes b.wrap) b.piece (box b.sizes))
+moves-off b t k h far small =
     let sides = sides_of b.sizes b.wrap in
     let same = sizes_of_sides 0 b.sizes b.wrap in
     let count : length sides ≡ length b.sizes = sym (length-map sides (λ s. s.size)) ∙ ap length same in
-    flat_map-none (events_from b t) (box b.sizes)
+    flat_map-none (λ x. moves_from sides b.piece x t) (box b.sizes)
     (λ j w l.
     let x = get_or (box b.sizes) j w in
     let below : IsBelow x (map (λ s. s.size) sides) = subst (IsBelow x) (sym same) (IsBelow-from_Contains b.sizes x (Contains-get_or (box b.sizes) j w l)) in
     let off = place-off (nat_abs b.piece) sides x t k below (omega arith) far small in
-    ap (map (event_among (box b.sizes))) (moves-none sides b.piece x t off))
+    moves-none sides b.piece x t off)
+
+events-off : (b : BoardData) → IsOff b (events_by b)
+events-off b t k h far small =
+    events_by-moves b t ∙ ap (map (event_among (box b.sizes))) (moves-off b t k h far small)
 
 -- ---- all vectors, and those within the bounds
 
--- the events of a vector's signings
-abbrev events_of_vector : BoardData → List ℕ → List Event
-events_of_vector b v = flat_map (events_by b) (signings v)
+-- what a vector's signings make
+abbrev by_signings : {X : Type 0} → (List ℤ → List X) → List ℕ → List X
+by_signings f v = flat_map f (signings v)
 
 size_at : (t : List ℤ) (k : ℕ) → get_or (sizes_of t) k 0 ≡ nat_abs (get_or t k (pos 0))
 size_at [] k = refl
 size_at (x ∷ t) zero = refl
 size_at (x ∷ t) (suc k) = size_at t k
 
--- of a vector with an entry above its bound there are none
-vector-off : (b : BoardData) (v : List ℕ) (k : ℕ) → k < length b.sizes → get_or (bounds_of b) k 0 < get_or v k 0 → get_or v k 0 ≤ nat_abs b.piece → events_of_vector b v ≡ []
-vector-off b v k h far small =
-    flat_map-none (events_by b) (signings v)
-    (All-weaker (HasSizes v) (λ t. events_by b t ≡ [])
+-- those of a vector with an entry above its bound make nothing
+vector-off : {X : Type 0} (b : BoardData) (f : List ℤ → List X) → IsOff b f → (v : List ℕ) (k : ℕ) → k < length b.sizes → get_or (bounds_of b) k 0 < get_or v k 0 → get_or v k 0 ≤ nat_abs b.piece → by_signings f v ≡ []
+vector-off b f off v k h far small =
+    flat_map-none f (signings v)
+    (All-weaker (HasSizes v) (λ t. f t ≡ [])
     (λ t e.
     let size : nat_abs (get_or t k (pos 0)) ≡ get_or v k 0 = sym (size_at t k) ∙ ap (λ w. get_or w k 0) e in
-    events-off b t k h (omega arith) (omega arith)) (signings v) (signings-sizes v))
+    off t k h (omega arith) (omega arith)) (signings v) (signings-sizes v))
 
 -- no entry is above the sum of the squares
 entry-le : (v : List ℕ) (k : ℕ) → get_or v k 0 ≤ sum_of_squares v
@@ -199,43 +208,52 @@ box-same {X} g (n ∷ ns) (m ∷ ms) e h i =
     ∙ sym (rows-cut (row ms) 0 (min n m) m (omega arith) (past ms))
     ∙ sym (box-rows g m ms)
 
--- the events of a vector of the piece's norm
-abbrev events_of_norm : BoardData → List ℕ → List Event
-events_of_norm b v = by_test (events_by b) (λ w. eqb (sum_of_squares w) (nat_abs b.piece)) v
+-- what a vector of the piece's norm makes
+abbrev by_norm : {X : Type 0} → BoardData → (List ℤ → List X) → List ℕ → List X
+by_norm b f v = by_test f (λ w. eqb (sum_of_squares w) (nat_abs b.piece)) v
 
--- another sum of squares makes none
-norm-other : (b : BoardData) (v : List ℕ) → nat_abs b.piece < sum_of_squares v → events_of_norm b v ≡ []
-norm-other b v h =
+-- another sum of squares makes nothing
+norm-other : {X : Type 0} (b : BoardData) (f : List ℤ → List X) (v : List ℕ) → nat_abs b.piece < sum_of_squares v → by_norm b f v ≡ []
+norm-other b f v h =
     let other : eqb (sum_of_squares v) (nat_abs b.piece) ≡ false = grind (arith, nat_tests) in
-    ap (λ c. cond c (events_of_vector b v) []) other
+    ap (λ c. cond c (by_signings f v) []) other
 
 -- nor does an entry above the piece, or one above its bound
-ends-all : (b : BoardData) (d : ℕ) → EndsAt (events_of_norm b) (replicate d (nat_abs b.piece + 1))
-ends-all b d v k l far =
+ends-all : {X : Type 0} (b : BoardData) (f : List ℤ → List X) (d : ℕ) → EndsAt (by_norm b f) (replicate d (nat_abs b.piece + 1))
+ends-all b f d v k l far =
     let within : k < d = omega (arith, l, length-replicate d (nat_abs b.piece + 1)) in
-    norm-other b v (omega (arith, far, entry-le v k, get_or-replicate d k (nat_abs b.piece + 1) 0 within))
+    norm-other b f v (omega (arith, far, entry-le v k, get_or-replicate d k (nat_abs b.piece + 1) 0 within))
 
-ends-within : (b : BoardData) → EndsAt (events_of_norm b) (map (λ n. n + 1) (bounds_of b))
-ends-within b v k l far =
+ends-within : {X : Type 0} (b : BoardData) (f : List ℤ → List X) → IsOff b f → EndsAt (by_norm b f) (map (λ n. n + 1) (bounds_of b))
+ends-within b f off v k l far =
     let count = length-entry_bounds (nat_abs b.piece) b.sizes b.wrap in
     let place : k < length (bounds_of b) = omega (arith, l, length-map (bounds_of b) (λ n. n + 1)) in
     let bound : get_or (map (λ n. n + 1) (bounds_of b)) k 0 ≡ get_or (bounds_of b) k 0 + 1 = get_or-map (λ n. n + 1) (bounds_of b) k 0 0 place in
     elim (cases_Bool (eqb (sum_of_squares v) (nat_abs b.piece))) [
       | inl exact ↦
           let norm : sum_of_squares v ≡ nat_abs b.piece = eqb-true (sum_of_squares v) (nat_abs b.piece) exact in
-          ap (λ c. cond c (events_of_vector b v) []) exact ∙ vector-off b v k (omega arith) (omega arith) (omega (arith, entry-le v k))
-      | inr other ↦ ap (λ c. cond c (events_of_vector b v) []) other
+          ap (λ c. cond c (by_signings f v) []) exact ∙ vector-off b f off v k (omega arith) (omega arith) (omega (arith, entry-le v k))
+      | inr other ↦ ap (λ c. cond c (by_signings f v) []) other
     ]
 
--- the events of a board are those by the displacements within the bounds
-pub events_within : (b : BoardData) → flat_map (events_by b) (displacements_within (nat_abs b.piece) (bounds_of b)) ≡ events_of b
+-- all displacements make what those within the bounds do
+made_within : {X : Type 0} (b : BoardData) (f : List ℤ → List X) → IsOff b f → flat_map f (displacements_within (nat_abs b.piece) (bounds_of b)) ≡ flat_map f (displacements (nat_abs b.piece) (length b.sizes))
 unfolding displacements vectors_of_norm displacements_within vectors_within
-events_within b =
+made_within b f off =
     let p = nat_abs b.piece in
     let d = length b.sizes in
     let q : List ℕ → Bool = λ w. eqb (sum_of_squares w) p in
     let ns = map (λ n. n + 1) (bounds_of b) in
     let ms = replicate d (p + 1) in
     let count : length ns ≡ length ms = length-map (bounds_of b) (λ n. n + 1) ∙ length-entry_bounds p b.sizes b.wrap ∙ sym (length-replicate d (p + 1)) in
-    by_vectors (events_by b) q (box ns) ∙ box-same (events_of_norm b) ns ms count (ends-within b) (ends-all b d)
-    ∙ sym (by_vectors (events_by b) q (box ms))
+    by_vectors f q (box ns) ∙ box-same (by_norm b f) ns ms count (ends-within b f off) (ends-all b f d)
+    ∙ sym (by_vectors f q (box ms))
+
+-- the events of a board are those by the displacements within the bounds
+pub events_within : (b : BoardData) → flat_map (events_by b) (displacements_within (nat_abs b.piece) (bounds_of b)) ≡ events_of b
+events_within b = made_within b (events_by b) (events-off b)
+
+-- and so are its moves
+pub moves_within : (b : BoardData) → flat_map (moves_by (sides_of b.sizes b.wrap) b.piece (box b.sizes)) (displacements_within (nat_abs b.piece) (bounds_of b)) ≡ moves_of_board b
+unfolding board_moves
+moves_within b = made_within b (moves_by (sides_of b.sizes b.wrap) b.piece (box b.sizes)) (moves-off b)

@@ -37,5 +37,11 @@ pub mod SimplexLists
 pub mod PairWalks
 pub mod SubsetsLists
 pub mod SubsetsWalks
+pub mod TurnedLinks
+pub mod BoardWalks
 pub mod MoveLists
 pub mod SimplexEvents
+pub mod MovesInOrder
+pub mod TouchingMoves
+pub mod BoardLists
+pub mod SortedStarts

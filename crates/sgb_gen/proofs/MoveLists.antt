@@ -85,7 +85,7 @@ module _ (vectors : List (List ℕ)) (rise : IsRising vectors) where
   vector_back a h = get_or_from_slice_get vectors (vertex_among vectors a) a [] (stands_there a h)
 
   -- vectors are the same where their vertices are
-  same_vertex : (a b : List ℕ) → Contains vectors a → Contains vectors b → (vertex_among vectors a == vertex_among vectors b) ≡ same_vector a b
+  pub same_vertex : (a b : List ℕ) → Contains vectors a → Contains vectors b → (vertex_among vectors a == vertex_among vectors b) ≡ same_vector a b
   same_vertex a b ha hb =
       same_tests (vertex_among vectors a == vertex_among vectors b) (same_vector a b)
       (λ e. (bytes_decides a b).1 (sym (vector_back a ha) ∙ ap (λ i. get_or vectors i []) ((Decides-eqb _ _).0 e) ∙ vector_back b hb))

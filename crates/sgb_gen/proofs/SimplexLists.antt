@@ -404,7 +404,7 @@ arcs_in_sum directed total bounds x h =
     ])
 
 -- both ends of each move are vectors of the simplex
-ends_in_simplex : (s : SimplexData) → All (HasEnds (simplex_vectors s)) (flat_map (moves_to s.sum.bounds) (simplex_vectors s))
+pub ends_in_simplex : (s : SimplexData) → All (HasEnds (simplex_vectors s)) (flat_map (moves_to s.sum.bounds) (simplex_vectors s))
 ends_in_simplex s =
     let vectors = simplex_vectors s in
     let bounds = s.sum.bounds in

@@ -293,7 +293,7 @@ ends_at_place size_bits vectors i within =
     (All-filter (λ u. is_wanted_size size_bits (common_size u v)) (λ u. HasEnds vectors (record { from = u; to = v; len = 1 })) (take (i + 1) vectors)
     (λ k d inside. (taken (i + 1) vectors k d inside, All-contains_itself vectors i [] within)))
 
-moves_have_ends : (s : SubsetsData) → All (HasEnds (subsets_vectors s)) (moves_of_subsets s)
+pub moves_have_ends : (s : SubsetsData) → All (HasEnds (subsets_vectors s)) (moves_of_subsets s)
 unfolding moves_of_subsets
 moves_have_ends s =
     let vectors = subsets_vectors s in

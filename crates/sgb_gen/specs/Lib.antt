@@ -13,4 +13,5 @@ pub mod LocalLists
 pub mod LocalArcs
 pub mod LocalSimplexes
 pub mod LocalSubsets
+pub mod LocalBoards
 pub mod Shorthands

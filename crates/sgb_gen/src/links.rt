@@ -1,6 +1,7 @@
 //! The arcs of one vertex, with the vectors where they lead.
-ghost use Rattle.std.specs.Prelude.{◌≡◌, ◌<◌, pos, [], ◌∷◌, ◌++◌, length, slice_get, Some, OnOk, OnErr, IsOkUnless};
+ghost use Rattle.std.specs.Prelude.{◌≡◌, ◌<◌, pos, [], ◌∷◌, ◌++◌, ◌*◌, ◌≤◌, length, reverse, slice_get, Some, OnOk, OnErr, IsOkUnless};
 ghost use Rattle.sgb_gen.specs.LocalLists.{LinksData, LocalArc};
+ghost use Rattle.sgb_gen.specs.LocalArcs.{rows_turned};
 
 use sgb_vec::Panic;
 use std::alloc::Global;
@@ -98,6 +99,34 @@ impl Links {
         self.tips.extend_from_slice(tip)?;
         self.lens.push(len)?;
         Ok(())
+    }
+
+    // Turns the arcs round: the last comes first.
+    pub(crate) fn reverse(&mut self)
+        ensures { self.new ≡ record self.old { arcs = reverse self.old.arcs } }
+    {
+        self.lens.reverse();
+        self.tips.reverse();
+        let count = self.len();
+        turn_rows(self.tips.as_mut_slice(), self.width, count);
+    }
+
+    // No starts of moves; their memory comes from where that of the links does.
+    pub(crate) fn starts(&self) -> Vec<(u32, u32)>
+        ensures { result.items ≡ [] }
+    {
+        Vec::new(*self.lens.allocator())
+    }
+}
+
+// Turns each of the first rows round, which have this width.
+fn turn_rows(entries: &mut [u32], width: usize, count: usize)
+    requires { count * width ≤ length entries.old }
+    ensures { entries.new ≡ rows_turned width count entries.old }
+{
+    for i in 0..count {
+        let start = i * width;
+        entries[start..start + width].reverse();
     }
 }
 

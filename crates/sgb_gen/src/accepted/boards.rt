@@ -9,6 +9,8 @@ ghost use Rattle.sgb_graph.specs.Growth.{AddsEvents, HasPlainArcs};
 ghost use Rattle.sgb_gen.specs.VectorGraphs.{event_among, vertex_among};
 ghost use Rattle.sgb_gen.specs.Moves.{destination, longest_move, sides_of, moves_from};
 
+mod lists;
+
 use crate::displacements::Displacements;
 use crate::moves::{destination, entry_bounds};
 use crate::params::BoardParams;

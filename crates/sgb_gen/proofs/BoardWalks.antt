@@ -1,0 +1,82 @@
+-- Moves from a vector, one length after another, and what is made of them.
+use Rattle.std.proofs.Common.{◌≡◌, ℕ, suc, ◌+◌, ◌-◌, ◌<◌, ◌≤◌, ℤ, pos, Bool, true, false, cond, List, [], ◌∷◌, ◌++◌, length, map, Option, Some, None, refl, sym, ap, ap₂, subst, ◌∙◌, arith, append-nil, append_assoc}
+use Rattle.std.specs.List.{filter, flat_map, range_with_len}
+use Rattle.std.specs.Option.{option_map, option_map_or}
+use Rattle.std.proofs.lemmas.List.Elements.{length_all_zip}
+use Rattle.sgb_vec.specs.Lexicographic.{IsBelow}
+use Rattle.sgb_gen.specs.Boards.{BoardData}
+use Rattle.sgb_gen.specs.LocalLists.{LocalArc, LinksData}
+use Rattle.sgb_gen.specs.Moves.{sides_of, moves_from}
+use Rattle.sgb_gen.specs.VectorGraphs.{Move}
+use Rattle.sgb_gen.proofs.BoardEvents.{leads, longest}
+use Rattle.sgb_gen.proofs.Reaches.{destination-below, move, moves_until, moves_from-until}
+
+-- the moves of the lengths from l on
+abbrev pub moves_left : BoardData → List ℤ → List ℕ → ℕ → List Move
+moves_left b t x l = moves_until x (leads b x t) (range_with_len l (longest b + 1 - l))
+
+-- the moves from x by t
+abbrev pub moves_of : BoardData → List ℤ → List ℕ → List Move
+moves_of b t x = moves_from (sides_of b.sizes b.wrap) b.piece x t
+
+-- at length 1 all are left
+pub left-all : (b : BoardData) (t : List ℤ) (x : List ℕ) → moves_left b t x 1 ≡ moves_of b t x
+left-all b t x =
+    let count : longest b + 1 - 1 ≡ longest b = omega arith in
+    ap (λ n. moves_until x (leads b x t) (range_with_len 1 n)) count
+    ∙ sym (moves_from-until (sides_of b.sizes b.wrap) b.piece x t)
+
+-- past the greatest length none are left
+pub left-none : (b : BoardData) (t : List ℤ) (x : List ℕ) (l : ℕ) → longest b < l → moves_left b t x l ≡ []
+left-none b t x l h =
+    let count : longest b + 1 - l ≡ 0 = omega arith in
+    ap (λ n. moves_until x (leads b x t) (range_with_len l n)) count
+
+-- at a length up to it, that at the length itself comes first
+left-first : (b : BoardData) (t : List ℤ) (x : List ℕ) (l : ℕ) → l ≤ longest b → moves_left b t x l ≡ option_map_or (λ y. move x l y ∷ moves_left b t x (l + 1)) (leads b x t l) []
+left-first b t x l h =
+    let count : longest b + 1 - l ≡ suc (longest b + 1 - (l + 1)) = omega arith in
+    ap (λ n. moves_until x (leads b x t) (range_with_len l n)) count
+
+-- where the piece leads nowhere none are left
+pub left-out : (b : BoardData) (t : List ℤ) (x : List ℕ) (l : ℕ) → l ≤ longest b → leads b x t l ≡ None → moves_left b t x l ≡ []
+left-out b t x l h e =
+    left-first b t x l h ∙ ap (λ o. option_map_or (λ y. move x l y ∷ moves_left b t x (l + 1)) o []) e
+
+-- where it leads to y the move there is the next
+pub left-next : (b : BoardData) (t : List ℤ) (x : List ℕ) (l : ℕ) (y : List ℕ) → l ≤ longest b → leads b x t l ≡ Some y → moves_left b t x l ≡ move x l y ∷ moves_left b t x (l + 1)
+left-next b t x l y h e =
+    left-first b t x l h ∙ ap (λ o. option_map_or (λ y. move x l y ∷ moves_left b t x (l + 1)) o []) e
+
+-- ---- what is made
+
+-- one element more, of what is made of the moves that are left
+pub one_more : {X Y : Type 0} (f : X → Y) (done new whole : List Y) (m : X) (ms left : List X) → done ++ map f ms ≡ whole → ms ≡ m ∷ left → new ≡ done ++ f m ∷ [] → new ++ map f left ≡ whole
+one_more f done new whole m ms left h e added =
+    ap (λ ys. ys ++ map f left) added ∙ append_assoc done (f m ∷ []) (map f left) ∙ sym (ap (λ es. done ++ map f es) e) ∙ h
+
+-- none are left
+pub no_more : {X Y : Type 0} (f : X → Y) (done whole : List Y) (ms : List X) → done ++ map f ms ≡ whole → ms ≡ [] → done ≡ whole
+no_more f done whole ms h e = sym (append-nil done) ∙ sym (ap (λ es. done ++ map f es) e) ∙ h
+
+-- a move that does not count
+pub not_one : {X : Type 0} (p : X → Bool) (m : X) (ms left : List X) → ms ≡ m ∷ left → p m ≡ false → filter p ms ≡ filter p left
+not_one p m ms left e h = ap (filter p) e ∙ ap (λ c. cond c (m ∷ filter p left) (filter p left)) h
+
+-- and one that does
+pub one_that : {X : Type 0} (p : X → Bool) (m : X) (ms left : List X) → ms ≡ m ∷ left → p m ≡ true → filter p ms ≡ m ∷ filter p left
+one_that p m ms left e h = ap (filter p) e ∙ ap (λ c. cond c (m ∷ filter p left) (filter p left)) h
+
+-- a vertex where the piece leads is that of a vector
+pub led_to : (g : List ℕ → ℕ) (o : Option (List ℕ)) (v : ℕ) → option_map g o ≡ Some v → (y : List ℕ) × (o ≡ Some y) × (g y ≡ v)
+led_to g (Some y) v e = (y, refl, cc)
+led_to g None v e = absurd (cc)
+
+pub led_nowhere : (g : List ℕ → ℕ) (o : Option (List ℕ)) → option_map g o ≡ None → o ≡ None
+led_nowhere g (Some y) e = absurd (cc)
+led_nowhere g None e = refl
+
+-- where the piece leads to has as many entries
+pub lands_width : (b : BoardData) (t : List ℤ) (x y : List ℕ) (l : ℕ) → IsBelow x b.sizes → leads b x t l ≡ Some y → length y ≡ length x
+lands_width b t x y l below e =
+    length_all_zip (λ c n. c < n) y b.sizes (destination-below b.sizes b.wrap b.piece x t l y below e) ∙ sym (length_all_zip (λ c n. c < n) x b.sizes below)

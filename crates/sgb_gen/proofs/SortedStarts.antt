@@ -1,0 +1,153 @@
+-- The starts of the moves that touch a vector, sorted.
+use Rattle.std.proofs.Common.{◌≡◌, ℕ, zero, suc, ◌+◌, ◌<◌, ◌≤◌, ℤ, Bool, true, false, not, ◌&&◌, List, [], ◌∷◌, ◌++◌, length, map, get_or, refl, sym, ap, ap₂, subst, ◌∙◌, inl, inr, arith}
+use Rattle.std.specs.Prelude.{◌==◌}
+use Rattle.std.specs.Cmp.{nat_cmp_is}
+use Rattle.std.specs.List.{All, AllPairs, Contains, IsDistinct, filter}
+use Rattle.std.specs.List.Sorted.{IsPermutation, IsSorted}
+use Rattle.std.specs.Ordering.{is_lt, nat_cmp, ordering_then}
+use Rattle.std.specs.declared.cmp.Ordering.{Ordering}
+use Rattle.std.specs.declared.cmp.Ordering.TheVariants.{Less, Equal}
+use Rattle.std.proofs.lemmas.Bool.{cases_eq, cases_lt, eq-eqb, ne_eqb}
+use Rattle.std.proofs.lemmas.List.Elements.{All-contains_itself, All-from_recursion, All-head, All-map, All-nil, All-cons, All-weaker, All-filter, filter_passes, recursion_from_All}
+use Rattle.std.proofs.lemmas.List.Kept.{AllPairs-cons, AllPairs-filter}
+use Rattle.std.proofs.lemmas.List.Sorted.{All-permutation, Contains-permutation, IsPermutation-sym}
+use Rattle.std.proofs.lemmas.Map.Keys.{IsDistinct-IsPermutation}
+use Rattle.sgb_vec.specs.Boxes.{box}
+use Rattle.sgb_gen.specs.Boards.{BoardData}
+use Rattle.sgb_gen.specs.LocalBoards.{other_starts, own_starts, starts_of}
+use Rattle.sgb_gen.specs.Moves.{moves_from, opposite, sides_of}
+use Rattle.sgb_gen.specs.VectorGraphs.{Move, vertex_among}
+use Rattle.sgb_gen.proofs.MovesInOrder.{lengths_rise}
+use Rattle.sgb_gen.proofs.OrderedLists.{AllPairs-append, AllPairs-first, AllPairs-follows, AllPairs-map, AllPairs-none, AllPairs-others, before_trans}
+use Rattle.sgb_gen.proofs.TouchingMoves.{IsEarlier, first_less, in_order_same, pair, second_less, starts_touch, touching, touching_found}
+
+-- the order of pairs of numbers
+abbrev pub pair_cmp : ℕ × ℕ → ℕ × ℕ → Ordering
+pair_cmp p q = ordering_then (nat_cmp p.0 q.0) (nat_cmp p.1 q.1)
+
+-- two pairs are the same
+abbrev same_pair : ℕ × ℕ → ℕ × ℕ → Bool
+same_pair p q = (p.0 == q.0) && (p.1 == q.1)
+
+eqb_turned : (m n : ℕ) → (m == n) ≡ (n == m)
+eqb_turned m n = elim (cases_eq m n) [
+  | inl same ↦ eq-eqb m n same ∙ sym (eq-eqb n m (sym same))
+  | inr other ↦ ne_eqb m n other ∙ sym (ne_eqb n m (λ e. other (sym e)))
+]
+
+same_turned : (p q : ℕ × ℕ) → same_pair p q ≡ same_pair q p
+same_turned p q = ap₂ (λ c d. c && d) (eqb_turned p.0 q.0) (eqb_turned p.1 q.1)
+
+-- pairs of which no two are the same, by recursion and by places
+distinct_of : (ps : List (ℕ × ℕ)) → AllPairs (λ p q. same_pair p q ≡ false) ps → IsDistinct same_pair ps
+unfolding IsDistinct
+distinct_of [] h = tt
+distinct_of (p ∷ ps) h =
+    (recursion_from_All (λ q. same_pair p q ≡ false) ps (AllPairs-first (λ a b. same_pair a b ≡ false) p ps h), distinct_of ps (AllPairs-others (λ a b. same_pair a b ≡ false) p ps h))
+
+pairs_of_distinct : (ps : List (ℕ × ℕ)) → IsDistinct same_pair ps → AllPairs (λ p q. same_pair p q ≡ false) ps
+unfolding IsDistinct
+pairs_of_distinct [] h = AllPairs-none (λ p q. same_pair p q ≡ false)
+pairs_of_distinct (p ∷ ps) h =
+    AllPairs-cons (λ a b. same_pair a b ≡ false) p ps (All-from_recursion (λ q. same_pair p q ≡ false) ps h.0) (pairs_of_distinct ps h.1)
+
+-- ---- what rises from each to the next rises
+
+rise_by_next : (ps : List (ℕ × ℕ)) → ((k : ℕ) (d : ℕ × ℕ) → suc k < length ps → IsEarlier (get_or ps k d) (get_or ps (suc k) d)) → AllPairs IsEarlier ps
+rise_by_next [] next = AllPairs-none IsEarlier
+rise_by_next (p ∷ []) next = AllPairs-cons IsEarlier p [] (All-nil (IsEarlier p)) (AllPairs-none IsEarlier)
+rise_by_next (p ∷ q ∷ ps) next =
+    let rest : AllPairs IsEarlier (q ∷ ps) = rise_by_next (q ∷ ps) (λ k d h. next (suc k) d (omega (arith, h))) in
+    let first : IsEarlier p q = next 0 p (omega arith) in
+    let later : All (IsEarlier q) ps = AllPairs-first IsEarlier q ps rest in
+    AllPairs-cons IsEarlier p (q ∷ ps)
+    (All-cons (IsEarlier p) q ps first (All-weaker (IsEarlier q) (IsEarlier p) (λ r after. before_trans (pair p) (pair q) (pair r) first after) ps later))
+    rest
+
+-- a pair that is not less than another, nor the same, comes after it
+not_less : (p q : ℕ × ℕ) → is_lt (pair_cmp q p) ≡ false → same_pair p q ≡ false → IsEarlier p q
+not_less p q sorted other = elim (cases_lt p.0 q.0) [
+  | inl less ↦ first_less p q less
+  | inr more ↦
+      elim (cases_eq p.0 q.0) [
+        | inr differs ↦
+            let less : q.0 < p.0 = omega (arith, more, differs) in
+            let test : true ≡ is_lt (pair_cmp q p) = ap (λ o. is_lt (ordering_then o (nat_cmp q.1 p.1))) (nat_cmp_is q.0 p.0 Less less) in
+            absurd (true_false (test ∙ sorted))
+        | inl same ↦
+            elim (cases_lt p.1 q.1) [
+              | inl shorter ↦ second_less p q same shorter
+              | inr longer ↦
+                  elim (cases_eq p.1 q.1) [
+                    | inl alike ↦ absurd (true_false (sym (ap₂ (λ c d. c && d) (eq-eqb p.0 q.0 same) (eq-eqb p.1 q.1 alike)) ∙ other))
+                    | inr unlike ↦
+                        let less : q.1 < p.1 = omega (arith, longer, unlike) in
+                        let test : true ≡ is_lt (pair_cmp q p) = ap₂ (λ o r. is_lt (ordering_then o r)) (nat_cmp_is q.0 p.0 Equal (sym same)) (nat_cmp_is q.1 p.1 Less less) in
+                        absurd (true_false (test ∙ sorted))
+                  ]
+            ]
+      ]
+]
+  where
+    true_false : true ≡ false → ⊥
+    true_false e = cc
+
+-- pairs that are sorted, no two the same, rise
+sorted_rise : (ps : List (ℕ × ℕ)) → IsSorted pair_cmp ps → AllPairs (λ p q. same_pair p q ≡ false) ps → AllPairs IsEarlier ps
+sorted_rise ps sorted distinct =
+    rise_by_next ps
+    (λ k d h.
+    let step : k + 1 ≡ suc k = omega arith in
+    let within : k + 1 < length ps = omega (arith, h) in
+    subst (λ j. IsEarlier (get_or ps k d) (get_or ps j d)) step
+    (not_less (get_or ps k d) (get_or ps (k + 1) d) (sorted k d (omega arith) within) (distinct k (k + 1) d (omega arith) within)))
+
+-- ---- the starts
+
+module _ (b : BoardData) (t : List ℤ) (x : List ℕ) (there : Contains (box b.sizes) x) where
+  -- no two starts are the same
+  starts_distinct : AllPairs (λ p q. same_pair p q ≡ false) (starts_of (sides_of b.sizes b.wrap) b.piece (box b.sizes) x t)
+  starts_distinct =
+      let sides = sides_of b.sizes b.wrap in
+      let vectors = box b.sizes in
+      let u = vertex_among vectors x in
+      let Differ : ℕ × ℕ → ℕ × ℕ → Type 0 = λ p q. same_pair p q ≡ false in
+      let moves = moves_from sides b.piece x t in
+      let back = moves_from sides b.piece x (opposite t) in
+      let far : Move → Bool = λ m. not (vertex_among vectors m.to == u) in
+      let own : AllPairs Differ (own_starts u moves) =
+      AllPairs-map Differ (λ m. (u, m.len)) moves
+      (AllPairs-follows (λ m. m.len ≡ m.len) (λ m n. m.len < n.len) (λ m n. Differ (u, m.len) (u, n.len)) moves (λ m n p q less. lens_differ u u m.len n.len less) (λ k d h. refl) (lengths_rise sides b.piece t x)) in
+      let others : AllPairs Differ (other_starts vectors u back) =
+      AllPairs-map Differ (λ m. (vertex_among vectors m.to, m.len)) (filter far back)
+      (AllPairs-filter (λ m n. Differ (vertex_among vectors m.to, m.len) (vertex_among vectors n.to, n.len)) far back
+      (AllPairs-follows (λ m. m.len ≡ m.len) (λ m n. m.len < n.len) (λ m n. Differ (vertex_among vectors m.to, m.len) (vertex_among vectors n.to, n.len)) back
+      (λ m n p q less. lens_differ (vertex_among vectors m.to) (vertex_among vectors n.to) m.len n.len less) (λ k d h. refl) (lengths_rise sides b.piece (opposite t) x))) in
+      AllPairs-append Differ (own_starts u moves) (other_starts vectors u back) own others
+      (All-map (λ p. All (Differ p) (other_starts vectors u back)) (λ m. (u, m.len)) moves
+      (λ k d h.
+      All-map (Differ (u, (get_or moves k d).len)) (λ n. (vertex_among vectors n.to, n.len)) (filter far back)
+      (λ i e inside. starts_differ u (vertex_among vectors (get_or (filter far back) i e).to) (get_or moves k d).len (get_or (filter far back) i e).len (filter_passes far back i e inside))))
+    where
+      and_false : (c : Bool) → (c && false) ≡ false
+      and_false true = refl
+      and_false false = refl
+
+      lens_differ : (v w l m : ℕ) → l < m → same_pair (v, l) (w, m) ≡ false
+      lens_differ v w l m less = ap (λ c. (v == w) && c) (ne_eqb l m (λ e. omega (arith, less, e))) ∙ and_false (v == w)
+
+      starts_differ : (u v l m : ℕ) → not (v == u) ≡ true → same_pair (u, l) (v, m) ≡ false
+      starts_differ u v l m passes = ap (λ c. c && (l == m)) (eqb_turned u v ∙ not_true (v == u) passes)
+        where
+          not_true : (c : Bool) → not c ≡ true → c ≡ false
+          not_true true e = sym e
+          not_true false e = refl
+
+  -- sorted, they are those of the touching moves in order
+  pub sorted_starts : (ps : List (ℕ × ℕ)) → IsPermutation (starts_of (sides_of b.sizes b.wrap) b.piece (box b.sizes) x t) ps → IsSorted pair_cmp ps → ps ≡ touching b t x there
+  sorted_starts ps changed sorted =
+      let starts = starts_of (sides_of b.sizes b.wrap) b.piece (box b.sizes) x t in
+      let distinct = pairs_of_distinct ps (IsDistinct-IsPermutation same_pair same_turned starts ps changed (distinct_of starts starts_distinct)) in
+      in_order_same b t x there ps (sorted_rise ps sorted distinct)
+      (All-permutation (Contains (touching b t x there)) starts ps changed (starts_touch b t x there))
+      (All-weaker (Contains starts) (Contains ps) (λ s found. Contains-permutation starts ps s changed found) (touching b t x there) (touching_found b t x there))

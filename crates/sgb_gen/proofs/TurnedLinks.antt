@@ -1,0 +1,77 @@
+-- Arcs that are turned round: their entries as a whole, and then each row by itself.
+use Rattle.std.proofs.Common.{◌≡◌, ℕ, zero, suc, ◌+◌, ◌-◌, ◌*◌, ◌<◌, ◌≤◌, pos, List, [], ◌∷◌, ◌++◌, length, reverse, take, drop, refl, sym, ap, ap₂, subst, ◌∙◌, arith, append-nil, length-append, length-drop}
+use Rattle.std.proofs.Math.Seq.{take-append-add, drop-append-add, take-append_seam, drop-append_seam}
+use Rattle.std.proofs.lemmas.List.{append_assoc, take_all, take-append-le, drop-append-le, length-take-le, take-append-drop, length-reverse, reverse-append, reverse-reverse}
+use Rattle.sgb_gen.specs.LocalArcs.{arcs_in, rows_turned}
+use Rattle.sgb_gen.specs.LocalLists.{LocalArc}
+use Rattle.sgb_gen.proofs.LinkRows.{arcs_in-push}
+
+-- entries keep their number
+row_long : (w n : ℕ) (xs : List ℕ) → suc n * w ≤ length xs → length (reverse (take w xs)) ≡ w
+row_long w n xs h = length-reverse (take w xs) ∙ length-take-le w xs (omega arith)
+
+-- entries with one row more turned round, which is the next
+abbrev row_next : ℕ → ℕ → List ℕ → List ℕ
+row_next w start es = take start es ++ (reverse (take w (drop start es)) ++ drop w (drop start es))
+
+pub rows_turned-next : (w i : ℕ) (xs : List ℕ) → suc i * w ≤ length xs → rows_turned w (suc i) xs ≡ row_next w (i * w) (rows_turned w i xs)
+rows_turned-next w zero xs h =
+    let start : 0 ≡ 0 * w = omega arith in
+    ap (λ k. row_next w k xs) start
+rows_turned-next w (suc i) xs h =
+    let front = reverse (take w xs) in
+    let back = rows_turned w i (drop w xs) in
+    let wide : length front ≡ w = row_long w (suc i) xs h in
+    let start : length front + i * w ≡ suc i * w = omega arith in
+    let room : suc i * w ≤ length (drop w xs) = omega (arith, length-drop w xs) in
+    let place = i * w in
+    let before : take (suc i * w) (front ++ back) ≡ front ++ take place back = ap (λ k. take k (front ++ back)) (sym start) ∙ take-append-add front back place in
+    let after : drop (suc i * w) (front ++ back) ≡ drop place back = ap (λ k. drop k (front ++ back)) (sym start) ∙ drop-append-add front back place in
+    ap (λ es. front ++ es) (rows_turned-next w i (drop w xs) room)
+    ∙ sym (append_assoc front (take place back) (reverse (take w (drop place back)) ++ drop w (drop place back)))
+    ∙ ap₂ (λ es fs. es ++ (reverse (take w fs) ++ drop w fs)) (sym before) (sym after)
+
+-- all rows but the last, and the last
+rows_turned-last : (w n : ℕ) (xs row : List ℕ) → length xs ≡ n * w → length row ≡ w → rows_turned w (suc n) (xs ++ row) ≡ rows_turned w n xs ++ reverse row
+rows_turned-last w zero [] row long wide =
+    let all : take w row ≡ row = take_all w row (omega arith) in
+    let none : drop w row ≡ [] = ap (λ k. drop k row) (sym wide) ∙ drop_whole row in
+    ap₂ (λ es fs. reverse es ++ fs) all none ∙ append-nil (reverse row)
+  where
+    drop_whole : (es : List ℕ) → drop (length es) es ≡ []
+    drop_whole [] = refl
+    drop_whole (e ∷ es) = drop_whole es
+rows_turned-last w zero (x ∷ xs) row long wide = absurd (omega arith)
+rows_turned-last w (suc n) xs row long wide =
+    let room : w ≤ length xs = omega arith in
+    let left : length (drop w xs) ≡ n * w = omega (arith, length-drop w xs) in
+    ap₂ (λ es fs. reverse es ++ rows_turned w (suc n) fs) (take-append-le w xs row room) (drop-append-le w xs row room)
+    ∙ ap (λ es. reverse (take w xs) ++ es) (rows_turned-last w n (drop w xs) row left wide)
+    ∙ sym (append_assoc (reverse (take w xs)) (rows_turned w n (drop w xs)) (reverse row))
+
+-- as many entries as before
+pub length-rows_turned : (w n : ℕ) (xs : List ℕ) → n * w ≤ length xs → length (rows_turned w n xs) ≡ length xs
+length-rows_turned w zero xs h = refl
+length-rows_turned w (suc n) xs h =
+    omega (arith, length-append (reverse (take w xs)) (rows_turned w n (drop w xs)), row_long w n xs h, length-rows_turned w n (drop w xs) (omega (arith, length-drop w xs)), length-drop w xs)
+
+-- the arcs of entries that are turned round as a whole and then row by row, in the other order
+pub arcs_in-reverse : (w : ℕ) (tips lens : List ℕ) → length tips ≡ length lens * w → arcs_in w (rows_turned w (length lens) (reverse tips)) (reverse lens) ≡ reverse (arcs_in w tips lens)
+arcs_in-reverse w tips [] long = refl
+arcs_in-reverse w tips (n ∷ lens) long =
+    let row = take w tips in
+    let rest = drop w tips in
+    let left : length rest ≡ length lens * w = omega (arith, length-drop w tips) in
+    let wide : length row ≡ w = length-take-le w tips (omega arith) in
+    let rows : length (reverse rest) ≡ length lens * w = length-reverse rest ∙ left in
+    let width : length (reverse row) ≡ w = length-reverse row ∙ wide in
+    let turned : reverse tips ≡ reverse rest ++ reverse row = ap reverse (sym (take-append-drop w tips)) ∙ reverse-append row rest in
+    let whole : rows_turned w (suc (length lens)) (reverse tips) ≡ rows_turned w (length lens) (reverse rest) ++ row =
+    ap (rows_turned w (suc (length lens))) turned ∙ rows_turned-last w (length lens) (reverse rest) (reverse row) rows width
+    ∙ ap (λ es. rows_turned w (length lens) (reverse rest) ++ es) (reverse-reverse row) in
+    let kept : length (rows_turned w (length lens) (reverse rest)) ≡ length (reverse lens) * w =
+    length-rows_turned w (length lens) (reverse rest) (omega (arith, rows)) ∙ rows ∙ ap (λ k. k * w) (sym (length-reverse lens)) in
+    ap₂ (λ es ns. arcs_in w es ns) whole (reverse-append (n ∷ []) lens)
+    ∙ arcs_in-push w (rows_turned w (length lens) (reverse rest)) (reverse lens) row n kept wide
+    ∙ ap (λ arcs. arcs ++ record { tip = row; len = pos n } ∷ []) (arcs_in-reverse w rest lens left)
+    ∙ sym (reverse-append (record { tip = row; len = pos n } ∷ []) (arcs_in w rest lens))

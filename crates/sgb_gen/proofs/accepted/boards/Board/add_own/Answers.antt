@@ -1,0 +1,29 @@
+use Rattle.std.proofs.Common.{◌≡◌, ◌++◌, ◌+◌, ◌∙◌, None, Some, refl, sym, ap, arith}
+use Rattle.std.specs.Option.{option_map}
+use Rattle.sgb_gen.specs.LocalBoards.{own_starts}
+use Rattle.sgb_gen.specs.VectorGraphs.{Move}
+use Rattle.sgb_gen.proofs.BoardEvents.{leads}
+use Rattle.sgb_gen.proofs.BoardWalks.{left-all, left-next, left-out, moves_left, no_more, one_more}
+use Rattle.sgb_gen.proofs.Reaches.{move}
+use Rattle.sgb_gen.proofs.accepted.boards.Board.add_own.Goals as goal
+
+pub loop-l-init : goal.loop-l-init
+loop-l-init c = ap (λ ms. c.args.starts.now.items ++ own_starts c.args.u ms) (left-all c.args.self.now c.args.t.now c.args.x.now)
+
+pub loop-l-preserved : goal.loop-l-preserved
+loop-l-preserved c =
+    let b = c.args.self.now in
+    let t = c.args.t.now in
+    let x = c.args.x.now in
+    let l = c.loop-l.l in
+    let y = c.in-Some._there.items in
+    let lands : leads b x t l ≡ Some y = sym c.in-Some.ensures in
+    let next = left-next b t x l y (omega (arith, c.longest_move-l-end.ensures)) lands in
+    one_more (λ (m : Move). (c.args.u, m.len)) c.loop-l.starts.items c.push.new.self.items _ (move x l y) (moves_left b t x l) (moves_left b t x (l + 1)) c.loop-l.invariant next c.in_ok-push.ensures.items
+
+pub returns-in_default-clause-ok : goal.returns-in_default-clause-ok
+returns-in_default-clause-ok c =
+    let b = c.args.self.now in
+    let out : leads b c.args.x.now c.args.t.now c.loop-l.l ≡ None = sym c.lands.ensures ∙ ap (option_map (λ y. y.items)) c.in_default.is in
+    no_more (λ (m : Move). (c.args.u, m.len)) c.loop-l.starts.items _ (moves_left b c.args.t.now c.args.x.now c.loop-l.l) c.loop-l.invariant
+    (left-out b c.args.t.now c.args.x.now c.loop-l.l (omega (arith, c.longest_move-l-end.ensures)) out)
