@@ -1,4 +1,5 @@
 -- The lemmas of sgb, by subject.
+pub mod ArcCounts
 pub mod CutOff
 pub mod DrawnNumbers
 pub mod Endings
@@ -7,6 +8,8 @@ pub mod ExamplesFlips
 pub mod InputEndings
 pub mod KeptInput
 pub mod Listings
+pub mod LocalListings
+pub mod NameEntries
 pub mod Named
 pub mod NamedMembers
 pub mod ProgramRuns

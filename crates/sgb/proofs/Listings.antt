@@ -8,7 +8,7 @@ use Rattle.std.proofs.lemmas.Option.{get_or_from_slice_get}
 use Rattle.sgb_graph.specs.declared.fields.Link.{Link}
 use Rattle.sgb_graph.specs.Graphs.{GraphData, chain_of}
 use Rattle.sgb_ops.specs.Operands.{names_of}
-use Rattle.sgb.specs.Texts.{name_line, name_lines, arc_line, block, blocks, head}
+use Rattle.sgb.specs.Texts.{name_line, name_lines, arc_line, block, blocks, head_text}
 
 -- the numbers from k to below n, k first
 pub range-first : (k n : ℕ) → k < n → range_with_len k (n - k) ≡ k ∷ range_with_len (k + 1) (n - (k + 1))
@@ -71,7 +71,7 @@ name_lines-min names k = elim (cases_lt k (length names)) [
 ]
 
 -- five texts, and seven, one after the other
-five : (a b c d e : List ℕ) → a ++ b ++ c ++ d ++ e ≡ a ++ (b ++ (c ++ (d ++ e)))
+pub five : (a b c d e : List ℕ) → a ++ b ++ c ++ d ++ e ≡ a ++ (b ++ (c ++ (d ++ e)))
 five a b c d e = append_assoc (a ++ b ++ c) d e ∙ append_assoc (a ++ b) c (d ++ e) ∙ append_assoc a b (c ++ (d ++ e))
 
 seven : (a b c d e f g : List ℕ) → a ++ b ++ c ++ d ++ e ++ f ++ g ≡ a ++ (b ++ (c ++ (d ++ (e ++ (f ++ g)))))
@@ -87,8 +87,8 @@ arc_line-parts names link name len named digits =
     ∙ five (codes "  -> ") name (codes ", length ") len (codes "\n")
 
 -- the head in parts
-pub head-parts : (g : GraphData) (id vertices arcs : List ℕ) → id ≡ g.id → vertices ≡ decimal (length (names_of g)) → arcs ≡ decimal g.m
-    → head g ≡ codes "  The graph whose official name is\n" ++ (id ++ (codes "\n  has " ++ (vertices ++ (codes " vertices and " ++ (arcs ++ codes " arcs:\n\n")))))
-unfolding head
-head-parts g id vertices arcs named n m =
-    rw (named, n, m) (seven (codes "  The graph whose official name is\n") g.id (codes "\n  has ") (decimal (length (names_of g))) (codes " vertices and ") (decimal g.m) (codes " arcs:\n\n"))
+pub head-parts : (id vertices arcs : List ℕ) (n m : ℕ) → vertices ≡ decimal n → arcs ≡ decimal m
+    → head_text id n m ≡ codes "  The graph whose official name is\n" ++ (id ++ (codes "\n  has " ++ (vertices ++ (codes " vertices and " ++ (arcs ++ codes " arcs:\n\n")))))
+unfolding head_text
+head-parts id vertices arcs n m count total =
+    rw (count, total) (seven (codes "  The graph whose official name is\n") id (codes "\n  has ") (decimal n) (codes " vertices and ") (decimal m) (codes " arcs:\n\n"))

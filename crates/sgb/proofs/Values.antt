@@ -15,8 +15,8 @@ use Rattle.sgb_gen.specs.VectorGraphs.{family_graph, fields_of_vector}
 use Rattle.sgb_ops.specs.Operands.{names_of}
 use Rattle.sgb_expr.specs.Expression.{Expression, Family, Complement, Gunion, Intersection, Lines, Product, Induced, BiComplete, Wheel, Stdin, Entry, Number, Graph, Entries, NoEntries, EntryThen}
 use Rattle.sgb.specs.Values.{IsValue, both, described, made}
-use Rattle.sgb.specs.declared.evaluation.Local.{Local}
-use Rattle.sgb.specs.declared.evaluation.Local.TheVariants as local
+use Rattle.sgb.specs.declared.locals.Local.{Local}
+use Rattle.sgb.specs.declared.locals.Local.TheVariants as local
 
 -- the vertices of accepted parameters have the names of their vectors
 pub local_names : (l : Local) → names_of (graph_described (described l)) ≡ (described l).names

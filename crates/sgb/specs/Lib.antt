@@ -7,4 +7,5 @@ pub mod Remaining
 pub mod Runs
 pub mod Texts
 pub mod Values
+pub mod Locals
 pub mod Writing

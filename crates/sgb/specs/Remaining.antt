@@ -19,3 +19,7 @@ abbrev pub IsNameAfter : List (List ℕ) → List ℕ → Option (List (List ℕ
 IsNameAfter members name r =
     MatchOption r (vertex_named name (map name_of_vector members) ≡ None)
     (λ vectors. (k : ℕ) × (vertex_named name (map name_of_vector members) ≡ Some k) × (vectors ≡ drop (suc k) members))
+
+-- these are the members from a place on
+abbrev pub IsRest : List (List ℕ) → List (List ℕ) → Type 0
+IsRest members rest = (k : ℕ) × (rest ≡ drop k members)

@@ -1,10 +1,15 @@
 -- The texts of graphs: the names of the vertices, and the listing, each vertex with its arcs.
-use Rattle.std.specs.Prelude.{ℕ, ◌-◌, List, [], ◌∷◌, ◌++◌, length, drop, codes, decimal}
+use Rattle.std.specs.Prelude.{ℕ, ◌-◌, Bool, true, false, List, [], ◌∷◌, ◌++◌, length, drop, codes, decimal}
 use Rattle.std.specs.Fmt.{signed_decimal}
 use Rattle.std.specs.List.{flat_map, range_with_len, slice_index_or}
 use Rattle.sgb_graph.specs.Graphs.{GraphData, chain_of}
 use Rattle.sgb_graph.specs.declared.fields.Link.{Link}
 use Rattle.sgb_ops.specs.Operands.{names_of}
+
+-- an entry of a vector in its name: after a dot (46) where it is not the first
+abbrev pub entry_text : Bool → ℕ → List ℕ
+entry_text true entry = 46 ∷ decimal entry
+entry_text false entry = decimal entry
 
 -- the line of a vertex: its name and a newline (10)
 abbrev pub name_line : List ℕ → List ℕ
@@ -24,10 +29,14 @@ unfoldable pub block : GraphData → ℕ → List ℕ
 block g v = name_line (slice_index_or (names_of g) v []) ++ flat_map (arc_line (names_of g)) (chain_of g v)
 
 -- what stands before the blocks: the official name, and how many vertices and arcs there are
-unfoldable pub head : GraphData → List ℕ
-head g =
-    codes "  The graph whose official name is\n" ++ g.id ++ codes "\n  has " ++ decimal (length (names_of g))
-    ++ codes " vertices and " ++ decimal g.m ++ codes " arcs:\n\n"
+unfoldable pub head_text : List ℕ → ℕ → ℕ → List ℕ
+head_text id n m =
+    codes "  The graph whose official name is\n" ++ id ++ codes "\n  has " ++ decimal n ++ codes " vertices and "
+    ++ decimal m ++ codes " arcs:\n\n"
+
+-- that of a graph
+abbrev pub head : GraphData → List ℕ
+head g = head_text g.id (length (names_of g)) g.m
 
 -- the blocks of the vertices from vertex k on
 unfoldable pub blocks : GraphData → ℕ → List ℕ

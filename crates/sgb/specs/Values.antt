@@ -26,8 +26,8 @@ use Rattle.sgb_expr.specs.declared.expressions.Family.{Family as Generator}
 use Rattle.sgb_expr.specs.declared.expressions.Family.TheVariants as family
 use Rattle.sgb.specs.declared.evaluation.entries.EntryValue.{EntryValue}
 use Rattle.sgb.specs.declared.evaluation.entries.EntryValue.TheVariants as value
-use Rattle.sgb.specs.declared.evaluation.Local.{Local}
-use Rattle.sgb.specs.declared.evaluation.Local.TheVariants as local
+use Rattle.sgb.specs.declared.locals.Local.{Local}
+use Rattle.sgb.specs.declared.locals.Local.TheVariants as local
 
 -- the graph of a generator with its parameters, or why it is refused
 abbrev pub family_value : Generator → Result Description Panic

@@ -4,26 +4,18 @@ ghost use Rattle.sgb_graph.specs.Descriptions.{IsAnswerOf};
 ghost use Rattle.sgb_expr.specs.CodeEntries.{listed};
 ghost use Rattle.sgb_expr.specs.Expression.{entries_of, entry_of, expression_of};
 ghost use Rattle.sgb.specs.Outcomes.{moves_of, queen_moves};
-ghost use Rattle.sgb.specs.Values.{IsLocalOf, IsValue, both, entry_value, family_value, value_of, values_of};
+ghost use Rattle.sgb.specs.Values.{IsValue, both, entry_value, family_value, value_of, values_of};
 
 mod entries;
 
 use crate::input::stdin_graph;
 use entries::{EntryValue, handed_entries};
 use sgb_expr::{EntryExpr, Expr, Family};
-use sgb_gen::{Board, BoardParams, Simplex, Subsets};
+use sgb_gen::BoardParams;
 use sgb_graph::Graph;
 use sgb_ops::{bi_complete, complement, gunion, induced, intersection, lines, product, wheel};
 use sgb_vec::Panic;
 use std::alloc::Global;
-
-/// The accepted parameters of a generator: its vertices are known without its graph.
-#[derive(Drop)]
-pub(crate) enum Local {
-    Board(Board),
-    Simplex(Simplex),
-    Subsets(Subsets),
-}
 
 /// The graph of an expression, where `input` is what was kept of standard input. Operands come before their operation,
 /// from left to right; each is dropped when the operation is made.
@@ -171,26 +163,4 @@ fn moves_of(piece: i64) -> Family
         wrap: 0,
         directed: false,
     })
-}
-
-/// The accepted parameters of a generator.
-///
-/// The generator's refusal, or `NoRoom` when out of memory.
-pub(crate) fn local_of(alloc: Global, family: &Family) -> Result<Local, Panic>
-    ensures { IsLocalOf (family_value family.now) result }
-{
-    match family {
-        Family::Board(params) => {
-            let board = Board::from_params(params)?;
-            Ok(Local::Board(board))
-        }
-        Family::Simplex(params) => {
-            let simplex = Simplex::from_params(alloc, params)?;
-            Ok(Local::Simplex(simplex))
-        }
-        Family::Subsets(params) => {
-            let subsets = Subsets::from_params(alloc, params)?;
-            Ok(Local::Subsets(subsets))
-        }
-    }
 }

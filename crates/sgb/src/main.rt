@@ -4,6 +4,7 @@
 
 mod evaluation;
 mod input;
+mod locals;
 pub mod program;
 pub mod runs;
 #[cfg(test)]

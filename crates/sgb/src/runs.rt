@@ -12,8 +12,10 @@ ghost use Rattle.sgb.specs.Texts.{blocks, head};
 ghost use Rattle.sgb.specs.Values.{family_value, made, most_input, value_of};
 ghost use Rattle.sgb.specs.Writing.{IsEnded, IsEndedFrom};
 
-use crate::evaluation::{Local, graph_of, local_of, queen_moves};
+use crate::evaluation::{graph_of, queen_moves};
 use crate::input::input_for;
+use crate::locals::{Local, local_of};
+use crate::writing::families::list_family;
 use crate::writing::files::write_file;
 use crate::writing::flips::write_flip;
 use crate::writing::listing::{write_listing, write_titled_listing};
@@ -21,6 +23,7 @@ use crate::writing::names::write_names;
 use crate::writing::vertices::write_vertex_names;
 use sgb_expr::{Expr, Family};
 use sgb_file::{Sink, Source};
+use sgb_gen::Links;
 use sgb_requests::{Fault, Request, Resume, report};
 use std::alloc::Global;
 
@@ -137,9 +140,9 @@ fn answer_family_names<W: Sink>(
     ensures { IsEnded (answer_from (made (family_value family.now)) (λ g. names_answer (names_of g) resume.now)) (record { before = W.written out.old; after = W.written out.new; failed = W.has_failed out.new }) result }
 {
     match local_of(alloc, family)? {
-        Local::Board(board) => write_names(alloc, board.family(), resume, out),
-        Local::Simplex(simplex) => write_names(alloc, simplex.family(), resume, out),
-        Local::Subsets(subsets) => write_names(alloc, subsets.family(), resume, out),
+        Local::Board(board) => write_names(board.family(), resume, out),
+        Local::Simplex(simplex) => write_names(simplex.family(), resume, out),
+        Local::Subsets(subsets) => write_names(subsets.family(), resume, out),
     }
 }
 
@@ -154,8 +157,30 @@ fn answer_list<W: Sink>(
     requires { W.has_failed out.old ≡ false }
     ensures { IsEnded (answer_from (value_of input.now (expression_of expression.now)) (λ g. list_answer g resume.now)) (record { before = W.written out.old; after = W.written out.new; failed = W.has_failed out.new }) result }
 {
+    if let Expr::Family(family) = expression {
+        return answer_family_list(alloc, family, resume, out);
+    }
     let graph = graph_of(alloc, expression, input)?;
     write_listing(&graph, resume, out)
+}
+
+// Writes the listing of a generator's graph. Its vectors are walked: no graph is built.
+fn answer_family_list<W: Sink>(
+    alloc: Global,
+    family: &Family,
+    resume: &Resume,
+    out: &mut W,
+) -> Result<(), Fault>
+    requires { W.has_failed out.old ≡ false }
+    ensures { IsEnded (answer_from (made (family_value family.now)) (λ g. list_answer g resume.now)) (record { before = W.written out.old; after = W.written out.new; failed = W.has_failed out.new }) result }
+{
+    let local = local_of(alloc, family)?;
+    let mut links = Links::new(alloc);
+    match &local {
+        Local::Board(board) => list_family(&local, board.family(), resume, &mut links, out),
+        Local::Simplex(simplex) => list_family(&local, simplex.family(), resume, &mut links, out),
+        Local::Subsets(subsets) => list_family(&local, subsets.family(), resume, &mut links, out),
+    }
 }
 
 // Writes the `.gb` file of an expression's graph.

@@ -3,6 +3,7 @@ ghost use Rattle.std.specs.Prelude.{◌≡◌, false};
 ghost use Rattle.std.specs.List.{flat_map};
 ghost use Rattle.sgb.specs.Writing.{IsWritten};
 
+pub(crate) mod families;
 pub(crate) mod files;
 pub(crate) mod flips;
 pub(crate) mod listing;

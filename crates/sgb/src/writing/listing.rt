@@ -3,14 +3,14 @@ ghost use Rattle.std.specs.Prelude.{◌≡◌, ◌<◌, ◌++◌, false, length}
 ghost use Rattle.std.specs.List.{flat_map};
 ghost use Rattle.sgb_ops.specs.Operands.{names_of};
 ghost use Rattle.sgb.specs.Outcomes.{head_for, list_answer};
-ghost use Rattle.sgb.specs.Texts.{arc_line, block, blocks, head};
+ghost use Rattle.sgb.specs.Texts.{arc_line, block, blocks, head, head_text};
 ghost use Rattle.sgb.specs.Writing.{IsEnded, IsWritten};
 
 use super::vertices::{vertices_left_out, write_name_line};
 use super::{write_bytes, write_texts};
 use itoa::Buffer;
 use sgb_file::Sink;
-use sgb_graph::{Graph, Link};
+use sgb_graph::{Graph, Id, Link};
 use sgb_requests::{Fault, Resume};
 
 /// Writes the listing of a graph: the head, and a block for each vertex; or, where the answer begins further on,
@@ -60,17 +60,26 @@ fn write_head<W: Sink>(graph: &Graph, out: &mut W) -> Result<(), Fault>
     requires { W.has_failed out.old ≡ false }
     ensures { IsWritten (head graph.now) (record { before = W.written out.old; after = W.written out.new; failed = W.has_failed out.new }) result }
 {
+    let m: u64 = graph.m();
+    write_head_of(graph.id(), graph.n(), u128::from(m), out)
+}
+
+/// Writes what stands before the blocks of a graph of this id with `n` vertices and `m` arcs.
+pub(super) fn write_head_of<W: Sink>(id: &Id, n: u32, m: u128, out: &mut W) -> Result<(), Fault>
+    requires { W.has_failed out.old ≡ false }
+    ensures { IsWritten (head_text id.now n m) (record { before = W.written out.old; after = W.written out.new; failed = W.has_failed out.new }) result }
+{
     let mut vertices = Buffer::new();
     let mut arcs = Buffer::new();
     write_texts(
         out,
         &[
             b"  The graph whose official name is\n",
-            graph.id().bytes(),
+            id.bytes(),
             b"\n  has ",
-            vertices.format(graph.n()).as_bytes(),
+            vertices.format(n).as_bytes(),
             b" vertices and ",
-            arcs.format(graph.m()).as_bytes(),
+            arcs.format(m).as_bytes(),
             b" arcs:\n\n",
         ],
     )

@@ -1,24 +1,22 @@
 //! The names of a family's vectors, written one a line.
-ghost use Rattle.std.specs.Prelude.{◌≡◌, ◌≤◌, ◌+◌, false, drop, length, map};
+ghost use Rattle.std.specs.Prelude.{◌≡◌, false, drop, map};
 ghost use Rattle.std.specs.List.{flat_map};
-ghost use Rattle.sgb_vec.specs.Limits.{most_dimensions};
 ghost use Rattle.sgb_vec.specs.Names.{name_of_vector};
 ghost use Rattle.sgb.specs.Outcomes.{names_answer};
 ghost use Rattle.sgb.specs.Remaining.{IsNameAfter, Remain};
-ghost use Rattle.sgb.specs.Texts.{name_line};
+ghost use Rattle.sgb.specs.Texts.{entry_text, name_line};
 ghost use Rattle.sgb.specs.Writing.{IsEnded, IsWritten};
 
-use super::write_texts;
+use super::write_bytes;
+use itoa::Buffer;
 use sgb_file::Sink;
 use sgb_requests::{Fault, Resume};
-use sgb_vec::{Family, Vectors, name_of, vector_of};
-use std::alloc::Global;
+use sgb_vec::{Family, Vectors, vector_of};
 
 /// Writes the name lines of a family's vectors, from where the answer begins.
 ///
 /// `NoVertex` where it is to begin after a name that no vector has.
 pub(crate) fn write_names<F: Family, W: Sink>(
-    alloc: Global,
     family: &F,
     resume: &Resume,
     out: &mut W,
@@ -27,11 +25,11 @@ pub(crate) fn write_names<F: Family, W: Sink>(
     ensures { IsEnded (names_answer (map name_of_vector (F.members family.now)) resume.now) (record { before = W.written out.old; after = W.written out.new; failed = W.has_failed out.new }) result }
 {
     let vectors = remaining(family, resume)?;
-    write_all(alloc, vectors, out)
+    write_all(vectors, out)
 }
 
-// The vectors from which the answer is made: all, or those after the first ones, or those after the one named.
-fn remaining<'a, F: Family>(family: &'a F, resume: &Resume) -> Result<Vectors<'a, F>, Fault>
+/// The vectors from which the answer is made: all, or those after the first ones, or those after the one named.
+pub(super) fn remaining<'a, F: Family>(family: &'a F, resume: &Resume) -> Result<Vectors<'a, F>, Fault>
     ensures { Remain (F.members family.now) resume.now result }
 {
     match resume {
@@ -70,28 +68,46 @@ fn after_name<'a, F: Family>(family: &'a F, name: &[u8]) -> Option<Vectors<'a, F
 }
 
 // Writes the lines of these vectors.
-fn write_all<F: Family, W: Sink>(
-    alloc: Global,
-    vectors: Vectors<'_, F>,
-    out: &mut W,
-) -> Result<(), Fault>
+fn write_all<F: Family, W: Sink>(vectors: Vectors<'_, F>, out: &mut W) -> Result<(), Fault>
     requires { W.has_failed out.old ≡ false }
     ensures { IsWritten (flat_map name_line (map name_of_vector vectors.entry)) (record { before = W.written out.old; after = W.written out.new; failed = W.has_failed out.new }) result }
 {
     let mut left = vectors;
     while let Some(vector) = left.front() {
-        write_name(alloc, vector, out)?;
+        write_name_line(vector, out)?;
         let _some = left.advance();
     }
     Ok(())
 }
 
-// Writes the line of a vector: its name and a newline.
-fn write_name<W: Sink>(alloc: Global, vector: &[u32], out: &mut W) -> Result<(), Fault>
-    requires fits { length vector.now ≤ most_dimensions + 1 }
-    requires sound { W.has_failed out.old ≡ false }
+/// Writes the line of a vector: its name and a newline.
+pub(super) fn write_name_line<W: Sink>(vector: &[u32], out: &mut W) -> Result<(), Fault>
+    requires { W.has_failed out.old ≡ false }
     ensures { IsWritten (name_line (name_of_vector vector.now)) (record { before = W.written out.old; after = W.written out.new; failed = W.has_failed out.new }) result }
 {
-    let name = name_of(alloc, vector)?;
-    write_texts(out, &[name.bytes(), b"\n"])
+    write_name(vector, out)?;
+    write_bytes(out, b"\n")
+}
+
+/// Writes the name of a vector, entry by entry.
+pub(super) fn write_name<W: Sink>(vector: &[u32], out: &mut W) -> Result<(), Fault>
+    requires { W.has_failed out.old ≡ false }
+    ensures { IsWritten (name_of_vector vector.now) (record { before = W.written out.old; after = W.written out.new; failed = W.has_failed out.new }) result }
+{
+    for (place, entry) in vector.iter().enumerate() {
+        write_entry(place > 0, *entry, out)?;
+    }
+    Ok(())
+}
+
+// Writes an entry in decimal, after a dot where it is not the first.
+fn write_entry<W: Sink>(dotted: bool, entry: u32, out: &mut W) -> Result<(), Fault>
+    requires { W.has_failed out.old ≡ false }
+    ensures { IsWritten (entry_text dotted entry) (record { before = W.written out.old; after = W.written out.new; failed = W.has_failed out.new }) result }
+{
+    let mut digits = Buffer::new();
+    if dotted {
+        write_bytes(out, b".")?;
+    }
+    write_bytes(out, digits.format(entry).as_bytes())
 }

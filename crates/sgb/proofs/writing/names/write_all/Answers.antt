@@ -14,14 +14,14 @@ loop-vector-preserved g c =
     let v = c.in-Some.vector.now in
     let first : lines c.loop-vector.left ≡ name_line (name_of_vector v) ++ lines c.advance-some.new.self =
     ap lines (first_and_rest c.loop-vector.left c.advance-some.new.self v v c.in-Some.ensures.first refl c.advance-some.ensures.rest) in
-    (so_far-more _ _ _ _ _ _ _ first c.loop-vector.invariant.0 c.in_ok-write_name.ensures.output, c.in_ok-write_name.ensures.sound)
+    (so_far-more _ _ _ _ _ _ _ first c.loop-vector.invariant.0 c.in_ok-write_name_line.ensures.output, c.in_ok-write_name_line.ensures.sound)
 
-pub returns-in_err-write_name : goal.returns-in_err-write_name
-returns-in_err-write_name g c =
+pub returns-in_err-write_name_line : goal.returns-in_err-write_name_line
+returns-in_err-write_name_line g c =
     let p = err_from_is_err_and c.from_residual.result c.from_residual.ensures.1 in
     let lines : List (List ℕ) → List ℕ = λ vectors. flat_map name_line (map name_of_vector vectors) in
     let v = c.in-Some.vector.now in
     let rest : List (List ℕ) = drop 1 c.loop-vector.left in
     let first : lines c.loop-vector.left ≡ name_line (name_of_vector v) ++ lines rest =
     ap lines (first_and_rest c.loop-vector.left rest v v c.in-Some.ensures.first refl refl) in
-    rw (p.1, p.2) (so_far-cut _ _ _ _ _ _ _ _ _ first c.loop-vector.invariant.0 c.in_err-write_name.ensures)
+    rw (p.1, p.2) (so_far-cut _ _ _ _ _ _ _ _ _ first c.loop-vector.invariant.0 c.in_err-write_name_line.ensures)

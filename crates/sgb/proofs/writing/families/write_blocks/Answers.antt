@@ -1,0 +1,33 @@
+use Rattle.std.proofs.Common.{◌≡◌, ◌++◌, drop, refl, ap, List, ℕ}
+use Rattle.std.specs.List.{flat_map}
+use Rattle.std.proofs.lemmas.Result.{err_from_is_err_and}
+use Rattle.sgb_vec.proofs.RangeSteps.{first_and_rest}
+use Rattle.sgb.specs.Locals.{local_block}
+use Rattle.sgb_file.proofs.SoFar.{so_far-more}
+use Rattle.sgb.proofs.CutOff.{so_far-cut}
+use Rattle.sgb.proofs.LocalListings.{first_of_rest, rest_of_rest}
+use Rattle.sgb.proofs.writing.families.write_blocks.Goals as goal
+
+pub write_block-requires-clause-member : goal.write_block-requires-clause-member
+write_block-requires-clause-member g c = first_of_rest _ c.loop-x.left c.in-Some.x.now c.loop-x.invariant.2 c.in-Some.ensures.first
+
+pub loop-x-preserved : goal.loop-x-preserved
+loop-x-preserved g c =
+    let texts : List (List ℕ) → List ℕ = flat_map (local_block c.args.local.now) in
+    let x = c.in-Some.x.now in
+    let first : texts c.loop-x.left ≡ local_block c.args.local.now x ++ texts c.advance-some.new.self =
+    ap texts (first_and_rest c.loop-x.left c.advance-some.new.self x x c.in-Some.ensures.first refl c.advance-some.ensures.rest) in (
+      so_far-more _ _ _ _ _ _ _ first c.loop-x.invariant.0 c.in_ok-write_block.ensures.output,
+      c.in_ok-write_block.ensures.sound,
+      rest_of_rest _ c.loop-x.left c.advance-some.new.self c.loop-x.invariant.2 c.advance-some.ensures.rest,
+    )
+
+pub returns-in_err-write_block : goal.returns-in_err-write_block
+returns-in_err-write_block g c =
+    let p = err_from_is_err_and c.from_residual.result c.from_residual.ensures.1 in
+    let texts : List (List ℕ) → List ℕ = flat_map (local_block c.args.local.now) in
+    let x = c.in-Some.x.now in
+    let rest : List (List ℕ) = drop 1 c.loop-x.left in
+    let first : texts c.loop-x.left ≡ local_block c.args.local.now x ++ texts rest =
+    ap texts (first_and_rest c.loop-x.left rest x x c.in-Some.ensures.first refl refl) in
+    rw (p.1, p.2) (so_far-cut _ _ _ _ _ _ _ _ _ first c.loop-x.invariant.0 c.in_err-write_block.ensures)

@@ -1,0 +1,17 @@
+use Rattle.std.proofs.Common.{◌≡◌, false, length}
+use Rattle.std.specs.List.{flat_map}
+use Rattle.sgb.specs.Locals.{local_block, vectors_of}
+use Rattle.sgb.specs.Remaining.{IsRest}
+use Rattle.sgb_file.proofs.SoFar.{SoFar}
+use Rattle.sgb.proofs.writing.families.write_blocks.Given as goal
+
+-- the blocks of the vectors that are still to come are left
+abbrev pub invariant-loop-x : goal.invariant-loop-x
+invariant-loop-x g l =
+    SoFar (flat_map (local_block l.local) l.fn.vectors) (flat_map (local_block l.local) l.left) (g.W.Sink.written l.initial.out) (g.W.Sink.written l.out)
+    × (g.W.Sink.has_failed l.out ≡ false)
+    × IsRest (vectors_of l.local) l.left
+
+-- each turn leaves out one vector
+abbrev pub decreases-loop-x : goal.decreases-loop-x
+decreases-loop-x g l = length l.left

@@ -1,0 +1,68 @@
+//! The accepted parameters of a generator: what is known of its graph without the graph.
+ghost use Rattle.std.specs.Prelude.{◌≡◌, Contains, OnOk, IsOkUnless};
+ghost use Rattle.sgb.specs.Locals.{links_of, vectors_of};
+ghost use Rattle.sgb.specs.Values.{IsLocalOf, described, family_value};
+
+use sgb_expr::Family;
+use sgb_gen::{Board, Links, Simplex, Subsets};
+use sgb_graph::Id;
+use sgb_vec::Panic;
+use std::alloc::Global;
+
+/// The accepted parameters of a generator: its vertices are known without its graph.
+#[derive(Drop)]
+pub(crate) enum Local {
+    Board(Board),
+    Simplex(Simplex),
+    Subsets(Subsets),
+}
+
+impl Local {
+    /// The id of the graph.
+    pub(crate) fn id(&self) -> Id
+        ensures { result ≡ (described self.now).id }
+    {
+        match self {
+            Local::Board(board) => board.id(),
+            Local::Simplex(simplex) => simplex.id(),
+            Local::Subsets(subsets) => subsets.id(),
+        }
+    }
+
+    /// Puts the arcs of the vertex of `x` into `links`, in the order of its list in the graph.
+    ///
+    /// `NoRoom` when out of memory, and nothing else.
+    pub(crate) fn arcs_at(&self, x: &[u32], links: &mut Links) -> Result<(), Panic>
+        requires { Contains (vectors_of self.now) x.now }
+        ensures ok { OnOk result (links.new.arcs ≡ links_of self.now x.now) }
+        ensures memory { IsOkUnless result Panic.NoRoom }
+    {
+        match self {
+            Local::Board(board) => board.arcs_at(x, links),
+            Local::Simplex(simplex) => simplex.arcs_at(x, links),
+            Local::Subsets(subsets) => subsets.arcs_at(x, links),
+        }
+    }
+}
+
+/// The accepted parameters of a generator.
+///
+/// The generator's refusal, or `NoRoom` when out of memory.
+pub(crate) fn local_of(alloc: Global, family: &Family) -> Result<Local, Panic>
+    ensures { IsLocalOf (family_value family.now) result }
+{
+    match family {
+        Family::Board(params) => {
+            let board = Board::from_params(params)?;
+            Ok(Local::Board(board))
+        }
+        Family::Simplex(params) => {
+            let simplex = Simplex::from_params(alloc, params)?;
+            Ok(Local::Simplex(simplex))
+        }
+        Family::Subsets(params) => {
+            let subsets = Subsets::from_params(alloc, params)?;
+            Ok(Local::Subsets(subsets))
+        }
+    }
+}
