@@ -83,8 +83,7 @@ module _ (b : BoardData) (t : List ℤ) (x : List ℕ) (there : Contains (box b.
       (λ k d within i e inside.
       let y = get_or vectors k d in
       let lead = all_lead sides b.piece t y i e inside in
-      let from : (get_or (moves_from sides b.piece y t) i e).from ≡ y = lead.0 in
-      (
+      let from : (get_or (moves_from sides b.piece y t) i e).from ≡ y = lead.0 in (
         subst (Contains vectors) (sym from) (All-contains_itself vectors k d within),
         subst (λ z. LeadsTo sides b.piece z t (get_or (moves_from sides b.piece y t) i e).len (get_or (moves_from sides b.piece y t) i e).to) (sym from) lead.1,
       ))

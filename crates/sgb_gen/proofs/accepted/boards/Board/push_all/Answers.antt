@@ -58,7 +58,7 @@ loop-t-preserved c =
       All-tail Small t left (subst (All Small) step c.loop-t.invariant.1),
       ap (λ d. d.width) c.in_ok-push_by.ensures.ok ∙ c.loop-t.invariant.2,
       ap (λ ls. ls ++ made left) added
-      ∙ append_assoc c.loop-t.links.arcs (own t) (made left)
-      ∙ ap (λ ls. c.loop-t.links.arcs ++ ls) (sym (onward-first b.directed x sides b.piece vectors t left) ∙ ap made (sym step))
-      ∙ c.loop-t.invariant.3,
+          ∙ append_assoc c.loop-t.links.arcs (own t) (made left)
+          ∙ ap (λ ls. c.loop-t.links.arcs ++ ls) (sym (onward-first b.directed x sides b.piece vectors t left) ∙ ap made (sym step))
+          ∙ c.loop-t.invariant.3,
     )

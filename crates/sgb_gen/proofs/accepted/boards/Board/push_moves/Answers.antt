@@ -24,8 +24,7 @@ loop-l-preserved c =
     let lands : leads b x t l ≡ Some y = sym c.in-Some.ensures in
     let next = left-next b t x l y (omega (arith, c.longest_move-l-end.ensures)) lands in
     let added : c.push.new.self.arcs ≡ c.loop-l.links.arcs ++ move_arc (move x l y) ∷ [] =
-    ap (λ d. d.arcs) c.in_ok-push.ensures.ok ∙ ap (λ v. c.loop-l.links.arcs ++ record { tip = v; len = pos l } ∷ []) c.as_slice.ensures.value in
-    (
+    ap (λ d. d.arcs) c.in_ok-push.ensures.ok ∙ ap (λ v. c.loop-l.links.arcs ++ record { tip = v; len = pos l } ∷ []) c.as_slice.ensures.value in (
       ap (λ d. d.width) c.in_ok-push.ensures.ok ∙ c.loop-l.invariant.0,
       one_more move_arc c.loop-l.links.arcs c.push.new.self.arcs _ (move x l y) (moves_left b t x l) (moves_left b t x (l + 1)) c.loop-l.invariant.1 next added,
     )
