@@ -3,7 +3,7 @@
 use super::{Parts, answers_are, answers_have};
 use std::test::Fail;
 
-static LISTINGS: [(&[&str], &str); 16] = [
+static LISTINGS: [(&[&str], &str); 18] = [
     (
         &["list", "board(2,2,0,0,1,0,0)"],
         "  The graph whose official name is\nboard(2,2,0,0,1,0,0)\n  has 4 vertices and 8 arcs:\n\n\
@@ -51,6 +51,26 @@ static LISTINGS: [(&[&str], &str); 16] = [
     ),
     (&["list", "board(1,0,0,0,-1,1,0)", "--skip", "0"], "0\n"),
     (&["list", "board(3,0,0,0,-1,0,0)", "--after", "2"], ""),
+    // of a graph that no memory would hold, its last lists
+    (
+        &[
+            "list",
+            "board(1000000000,0,0,0,1,0,0)",
+            "--after",
+            "999999997",
+        ],
+        "999999998\n  -> 999999999, length 1\n  -> 999999997, length 1\n\
+                999999999\n  -> 999999998, length 1\n",
+    ),
+    (
+        &[
+            "list",
+            "simplex(500000000,-1,0,0,0,0,0)",
+            "--after",
+            "499999999.1",
+        ],
+        "500000000.0\n  -> 499999999.1, length 1\n",
+    ),
     (
         &[
             "list",
