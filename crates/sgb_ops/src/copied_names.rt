@@ -63,12 +63,7 @@ fn merged_name(alloc: Global, k: u32) -> Result<Text, Panic>
 }
 
 // Appends the names of the vertices that are not merged.
-fn push_own(
-    alloc: Global,
-    names: &mut Names,
-    graph: &Graph,
-    entries: &[Entry],
-) -> Result<(), Panic>
+fn push_own(alloc: Global, names: &mut Names, graph: &Graph, entries: &[Entry]) -> Result<(), Panic>
     requires { length entries.now ≡ length graph.now.vertices }
     ensures ok { OnOk result (names.new ≡ names.old ++ own_names (names_of graph.now) entries.now) }
     ensures memory { IsOkUnless result Panic.NoRoom }

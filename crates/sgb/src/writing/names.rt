@@ -29,7 +29,10 @@ pub(crate) fn write_names<F: Family, W: Sink>(
 }
 
 /// The vectors from which the answer is made: all, or those after the first ones, or those after the one named.
-pub(super) fn remaining<'a, F: Family>(family: &'a F, resume: &Resume) -> Result<Vectors<'a, F>, Fault>
+pub(super) fn remaining<'a, F: Family>(
+    family: &'a F,
+    resume: &Resume,
+) -> Result<Vectors<'a, F>, Fault>
     ensures { Remain (F.members family.now) resume.now result }
 {
     match resume {

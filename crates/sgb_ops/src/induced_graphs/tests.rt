@@ -119,7 +119,11 @@ fn induced_by_merging(
 ) -> Result<Graph, Panic> {
     let mut entries = Vec::new(alloc);
     for number in numbers {
-        let entry = if *number == 0 { Entry::Copies(1) } else { Entry::Merged(*number) };
+        let entry = if *number == 0 {
+            Entry::Copies(1)
+        } else {
+            Entry::Merged(*number)
+        };
         entries.push(entry)?;
     }
     let graph = operand.graph(alloc)?;

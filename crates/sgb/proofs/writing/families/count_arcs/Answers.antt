@@ -10,8 +10,7 @@ loop-v-preserved g c =
     let x = c.in-Some.x.now in
     let rest = c.advance-some.new.self in
     let first : c.loop-v.left ≡ x ∷ rest = first_and_rest c.loop-v.left rest x x c.in-Some.ensures.first refl c.advance-some.ensures.rest in
-    let count : c.len.result ≡ length (links_of l x) = c.len.ensures ∙ ap length c.in_ok-arcs_at.ensures.ok in
-    (
+    let count : c.len.result ≡ length (links_of l x) = c.len.ensures ∙ ap length c.in_ok-arcs_at.ensures.ok in (
       c.advance-some.ensures.rest ∙ ap (drop 1) c.loop-v.invariant.0 ∙ drop-drop 1 c.loop-v._v (vectors_of l),
       omega (arith, c.loop-v.invariant.1, ap (arcs_among l) first, count),
       omega (arith, c.loop-v.invariant.2),
