@@ -1,5 +1,5 @@
 -- The list of a vector of a board, from the moves by one displacement after another.
-use Rattle.std.proofs.Common.{◌≡◌, ◌≤◌, ℕ, ◌+◌, ◌<◌, ℤ, pos, nat_abs, Bool, true, false, cond, List, [], ◌∷◌, ◌++◌, length, map, reverse, get_or, Option, Some, None, refl, sym, ap, ap₂, subst, ◌∙◌, inl, inr, arith, append-nil}
+use Rattle.std.proofs.Common.{◌≡◌, ◌≤◌, ℕ, ◌+◌, ℤ, pos, nat_abs, Bool, true, false, cond, List, [], ◌∷◌, ◌++◌, length, map, reverse, get_or, Option, Some, None, refl, sym, ap, ap₂, subst, ◌∙◌, inl, inr, arith, append-nil}
 use Rattle.std.specs.Prelude.{◌==◌}
 use Rattle.std.specs.Cmp.Lexicographic.{bytes_decides}
 use Rattle.std.specs.List.{All, Contains, filter, flat_map, range_with_len}
@@ -28,7 +28,6 @@ use Rattle.sgb_gen.proofs.MovesInOrder.{all_lead, all_start}
 use Rattle.sgb_gen.proofs.NextSignings.{sizes_of}
 use Rattle.sgb_gen.proofs.OrderedLists.{All-flat_map, AllPairs-first, AllPairs-others, Contains-cases, Contains-none, before_none}
 use Rattle.sgb_gen.proofs.Reaches.{destination-below, move, moves_from-until, moves_until}
-use Rattle.sgb_gen.proofs.Vertices.{same_is}
 
 -- ---- the order turned
 

@@ -14,7 +14,6 @@ use Rattle.std.proofs.lemmas.List.Folds.{flat_map-map}
 use Rattle.sgb_vec.specs.Boxes.{box}
 use Rattle.sgb_vec.specs.Lexicographic.{IsBelow}
 use Rattle.sgb_vec.proofs.BoxPlaces.{IsBelow-from_Contains}
-use Rattle.sgb_graph.specs.Events.{Event}
 use Rattle.sgb_gen.specs.Boards.{BoardData, moves_of_board}
 use Rattle.sgb_gen.specs.Displacements.{signings, sum_of_squares, vectors_of_norm, displacements}
 use Rattle.sgb_gen.specs.EntryBounds.{entry_bound, entry_bounds, vectors_within, displacements_within}

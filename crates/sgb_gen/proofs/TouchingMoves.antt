@@ -1,22 +1,22 @@
 -- The moves by one displacement that touch a vector, by the vertices where they start and their lengths: which they are,
 -- that they come in order, and what they put on the vector's list.
-use Rattle.std.proofs.Common.{◌≡◌, ◌≢◌, ℕ, ◌+◌, ◌<◌, ◌≤◌, ℤ, pos, negsuc, Bool, true, false, not, cond, List, [], ◌∷◌, ◌++◌, length, map, drop, get_or, Option, Some, None, refl, sym, ap, ap₂, subst, ◌∙◌, inl, inr, arith, append-nil}
+use Rattle.std.proofs.Common.{◌≡◌, ℕ, ◌<◌, ℤ, pos, negsuc, Bool, true, false, not, cond, List, [], ◌∷◌, ◌++◌, map, drop, get_or, Some, None, refl, sym, ap, ap₂, subst, ◌∙◌, inl, inr, arith, append-nil}
 use Rattle.std.specs.Prelude.{◌==◌, ◌||◌}
 use Rattle.std.specs.Cmp.Lexicographic.{bytes_decides}
 use Rattle.std.specs.List.{All, AllPairs, Contains, filter, flat_map}
-use Rattle.std.proofs.lemmas.Bool.{cases_Bool, eq-eqb, ne_eqb}
+use Rattle.std.proofs.lemmas.Bool.{cases_Bool, eq-eqb}
 use Rattle.std.proofs.lemmas.Grind.{flat_map-append}
 use Rattle.std.proofs.lemmas.List.Elements.{All-append, All-contains_itself, All-filter, All-head, All-map, All-tail, Contains-append_left, Contains-append_right, filter_passes}
 use Rattle.std.proofs.lemmas.List.Kept.{AllPairs-filter}
 use Rattle.sgb_vec.specs.Boxes.{box}
-use Rattle.sgb_vec.specs.Lexicographic.{IsBefore, IsBelow, IsRising}
+use Rattle.sgb_vec.specs.Lexicographic.{IsBefore, IsBelow}
 use Rattle.sgb_vec.specs.Rising.{box_vectors_rise}
 use Rattle.sgb_vec.proofs.BoxPlaces.{Contains-from_IsBelow, IsBelow-from_Contains}
 use Rattle.sgb_gen.specs.Boards.{BoardData}
 use Rattle.sgb_gen.specs.LocalArcs.{arc_if, arcs_by}
 use Rattle.sgb_gen.specs.LocalBoards.{arcs_of_starts, arcs_onward, edge_arcs, moves_by, other_starts, own_starts, starts_of}
 use Rattle.sgb_gen.specs.LocalLists.{LocalArc}
-use Rattle.sgb_gen.specs.Moves.{LeadsTo, Side, destination, is_elsewhere, moves_from, opposite, place, sides_of}
+use Rattle.sgb_gen.specs.Moves.{LeadsTo, Side, destination, moves_from, opposite, place, sides_of}
 use Rattle.sgb_gen.specs.VectorGraphs.{Move, same_vector, vertex_among}
 use Rattle.sgb_gen.proofs.Destinations.{place-below}
 use Rattle.sgb_gen.proofs.MoveLists.{same_vertex}

@@ -1,5 +1,5 @@
 -- The list of one vector of a board, by displacements.
-use Rattle.std.specs.Prelude.{ℕ, pos, ℤ, ◌==◌, Bool, true, false, not, List, [], ◌∷◌, ◌++◌, length, map, filter, Option, Some, None, if◌then◌else◌}
+use Rattle.std.specs.Prelude.{ℕ, pos, ℤ, ◌==◌, Bool, not, List, [], ◌∷◌, ◌++◌, map, filter, Option, Some, None, if◌then◌else◌}
 use Rattle.std.specs.List.{flat_map}
 use Rattle.sgb_gen.specs.Moves.{Side, destination, moves_from, opposite}
 use Rattle.sgb_gen.specs.VectorGraphs.{Move, same_vector, vertex_among}

@@ -6,6 +6,7 @@ ghost use Rattle.sgb_gen.specs.LocalArcs.{rows_turned};
 use sgb_vec::Panic;
 use std::alloc::Global;
 use std::marker::Model;
+use std::mem::replace;
 
 /// An arc of a vertex: the vector where it leads, and its length. Contracts see the vector as a list.
 #[derive(Drop)]
@@ -33,6 +34,8 @@ pub struct Links {
     tips: Vec<u32>,
     width: usize,
     lens: Vec<u32>,
+    // Room that is used again for the starts of moves: no part of the arcs.
+    starts: Vec<(u32, u32)>,
 }
 
 impl Model for Links {
@@ -56,6 +59,7 @@ impl Links {
             tips: Vec::new(alloc),
             width: 0,
             lens: Vec::new(alloc),
+            starts: Vec::new(alloc),
         }
     }
 
@@ -111,11 +115,22 @@ impl Links {
         turn_rows(self.tips.as_mut_slice(), self.width, count);
     }
 
-    // No starts of moves; their memory comes from where that of the links does.
-    pub(crate) fn starts(&self) -> Vec<(u32, u32)>
-        ensures { result.items ≡ [] }
+    // Hands out room for the starts of moves, which is empty; its memory comes from where that of the links does.
+    pub(crate) fn take_starts(&mut self) -> Vec<(u32, u32)>
+        ensures empty { result.items ≡ [] }
+        ensures same { self.new ≡ self.old }
     {
-        Vec::new(*self.lens.allocator())
+        let none = Vec::new(*self.lens.allocator());
+        let mut starts = replace(&mut self.starts, none);
+        starts.clear();
+        starts
+    }
+
+    // Takes that room back.
+    pub(crate) fn keep_starts(&mut self, starts: Vec<(u32, u32)>)
+        ensures { self.new ≡ self.old }
+    {
+        self.starts = starts;
     }
 }
 

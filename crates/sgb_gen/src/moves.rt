@@ -1,4 +1,5 @@
-ghost use Rattle.std.specs.Prelude.{◌≡◌, pos, ◌+ℤ◌, ◌*ℤ◌, ◌<◌, ◌≤◌, length, option_map};
+ghost use Rattle.std.specs.Prelude.{◌≡◌, pos, ◌+ℤ◌, ◌*ℤ◌, ◌<◌, ◌≤◌, length, None, Some};
+ghost use Rattle.std.specs.Bool.{OnTrue, OnFalse};
 ghost use Rattle.sgb_vec.specs.Limits.{most_dimensions};
 ghost use Rattle.sgb_vec.specs.Lexicographic.{IsBelow};
 ghost use Rattle.sgb_gen.specs.Moves.{destination};
@@ -34,24 +35,30 @@ fn moved(x: u32, t: i32, l: u32) -> i64
     i64::from(x) + i64::from(l) * i64::from(t)
 }
 
-// The place at length `l` from `x` by the displacement `t`, where it exists (GB_BASIC, board): each coordinate
-// is modulo its size where it wraps around, and has to be within it elsewhere.
-fn place(sizes: &[u32], wrap: i64, x: &[u32], t: &[i32], l: u32) -> Option<Vector>
+// Puts the place at length `l` from `x` by the displacement `t` into `there`, where it exists (GB_BASIC, board): each
+// coordinate is modulo its size where it wraps around, and has to be within it elsewhere. `false` where it does not
+// exist; what `there` holds is then open.
+fn place(sizes: &[u32], wrap: i64, x: &[u32], t: &[i32], l: u32, there: &mut Vector) -> bool
     requires few { length sizes.now ≤ most_dimensions }
     requires below { IsBelow x.now sizes.now }
     requires dimensions { length t.now ≡ length sizes.now }
-    ensures { option_map (λ y. y.items) result ≡ place (sides_of sizes.now wrap) x.now t.now l }
+    ensures leads { OnTrue result (place (sides_of sizes.now wrap) x.now t.now l ≡ Some there.new.items) }
+    ensures nowhere { OnFalse result (place (sides_of sizes.now wrap) x.now t.now l ≡ None) }
 {
-    let mut there = Vector::new();
+    there.clear();
     for (k, size) in sizes.iter().enumerate() {
         let y = moved(x[k], t[k], l);
-        there.push(coordinate_on(*size, wraps(wrap, k), y)?);
+        let Some(coordinate) = coordinate_on(*size, wraps(wrap, k), y) else {
+            return false;
+        };
+        there.push(coordinate);
     }
-    Some(there)
+    true
 }
 
-/// Where a piece moves from `x` by the displacement `t` at length `l`, if it does (GB_BASIC, board): a leaper to
-/// the place there, where it exists; a rider, which is a negative piece, only where that is not `x` again.
+/// Puts the vector where a piece moves from `x` by the displacement `t` at length `l` into `there`, if it moves there
+/// (GB_BASIC, board): a leaper to the place there, where it exists; a rider, which is a negative piece, only where that
+/// is not `x` again. `false` where it does not; what `there` holds is then open.
 pub(crate) fn destination(
     sizes: &[u32],
     wrap: i64,
@@ -59,17 +66,21 @@ pub(crate) fn destination(
     x: &[u32],
     t: &[i32],
     l: u32,
-) -> Option<Vector>
+    there: &mut Vector,
+) -> bool
     requires few { length sizes.now ≤ most_dimensions }
     requires below { IsBelow x.now sizes.now }
     requires dimensions { length t.now ≡ length sizes.now }
-    ensures { option_map (λ y. y.items) result ≡ destination (sides_of sizes.now wrap) piece x.now t.now l }
+    ensures leads { OnTrue result (destination (sides_of sizes.now wrap) piece x.now t.now l ≡ Some there.new.items) }
+    ensures nowhere { OnFalse result (destination (sides_of sizes.now wrap) piece x.now t.now l ≡ None) }
 {
-    let there = place(sizes, wrap, x, t, l)?;
-    if piece < 0 && there.as_slice() == x {
-        return None;
+    if !place(sizes, wrap, x, t, l, there) {
+        return false;
     }
-    Some(there)
+    if piece < 0 && there.as_slice() == x {
+        return false;
+    }
+    true
 }
 
 // The greatest entry of a displacement on a side that leads to a place: less than its size where it does not wrap

@@ -143,15 +143,18 @@ impl Board {
     }
 
     // The vertex where the piece moves from `x` by the displacement `t` at length `l`, if it does.
-    fn vertex_at(&self, x: &[u32], t: &[i32], l: u32) -> Option<u32>
+    // `there` is what it is found with: what it holds is open.
+    fn vertex_at(&self, x: &[u32], t: &[i32], l: u32, there: &mut Vector) -> Option<u32>
         requires below { IsBelow x.now self.now.sizes }
         requires dimensions { length t.now ≡ length self.now.sizes }
         ensures vertex { result ≡ option_map (vertex_among (box self.now.sizes))
             (destination (sides_of self.now.sizes self.now.wrap) self.now.piece x.now t.now l) }
         ensures within { IfSome result (λ v. v < length (box self.now.sizes)) }
     {
-        let y = destination(self.shape.sizes(), self.wrap, self.piece, x, t, l)?;
-        Some(self.family.place_of(y.as_slice()))
+        if !destination(self.shape.sizes(), self.wrap, self.piece, x, t, l, there) {
+            return None;
+        }
+        Some(self.family.place_of(there.as_slice()))
     }
 
     // Adds the moves from vertex `u`, which is the vector `x`, by the displacement `t`.
@@ -164,8 +167,9 @@ impl Board {
             (map (event_among (box self.now.sizes)) (moves_from (sides_of self.now.sizes self.now.wrap) self.now.piece x.now t.now))) }
         ensures memory { IsOkUnless result Panic.NoRoom }
     {
+        let mut there = Vector::new();
         for l in 1..=self.longest_move() {
-            let Some(v) = self.vertex_at(x, t, l) else {
+            let Some(v) = self.vertex_at(x, t, l, &mut there) else {
                 return Ok(());
             };
             graph.add_event(self.directed, u, v, i64::from(l))?;

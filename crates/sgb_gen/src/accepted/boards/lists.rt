@@ -1,5 +1,6 @@
 //! The list of one vector of a board.
-ghost use Rattle.std.specs.Prelude.{◌≡◌, ◌≤◌, ◌<◌, [], ◌++◌, ◌==◌, ℕ, length, map, nat_abs, option_map, if◌then◌else◌, All, Contains, IfOk, OnOk, OnErr, IsOkUnless};
+ghost use Rattle.std.specs.Prelude.{◌≡◌, ◌≤◌, ◌<◌, [], ◌++◌, ◌==◌, ℕ, length, map, nat_abs, None, Some, if◌then◌else◌, All, Contains, OnOk, OnErr, IsOkUnless};
+ghost use Rattle.std.specs.Bool.{OnTrue, OnFalse};
 ghost use Rattle.sgb_vec.specs.Boxes.{box};
 ghost use Rattle.sgb_vec.specs.Lexicographic.{IsBelow};
 ghost use Rattle.sgb_gen.specs.Limits.{most_piece};
@@ -10,7 +11,7 @@ ghost use Rattle.sgb_gen.specs.Moves.{destination, moves_from, sides_of, opposit
 ghost use Rattle.sgb_gen.specs.VectorGraphs.{vertex_among};
 
 use super::Board;
-use crate::displacements::{Displacement, Displacements, opposite};
+use crate::displacements::{Displacement, Displacements, put_opposite};
 use crate::links::Links;
 use crate::moves::{destination, entry_bounds};
 use sgb_vec::{Panic, Vector};
@@ -48,14 +49,26 @@ impl Board {
     {
         let piece = self.piece.unsigned_abs() as u32;
         let bounds = entry_bounds(self.shape.sizes(), self.wrap, piece);
-        for t in Displacements::new(piece, bounds) {
-            self.push_by(x, t.as_slice(), links)?;
+        let mut there = Vector::new();
+        let mut back = Displacement::new();
+        let mut left = Displacements::new(piece, bounds);
+        while let Some(t) = left.front() {
+            self.push_by(x, t, &mut back, &mut there, links)?;
+            let _some = left.advance();
         }
         Ok(())
     }
 
-    // Puts the arcs of `x` by the displacement `t` behind the others.
-    fn push_by(&self, x: &[u32], t: &[i32], links: &mut Links) -> Result<(), Panic>
+    // Puts the arcs of `x` by the displacement `t` behind the others. `back` and `there` are room for its opposite and, here
+    // and below, for a place: what they hold does not count.
+    fn push_by(
+        &self,
+        x: &[u32],
+        t: &[i32],
+        back: &mut Displacement,
+        there: &mut Vector,
+        links: &mut Links,
+    ) -> Result<(), Panic>
         requires below { IsBelow x.now self.now.sizes }
         requires dimensions { length t.now ≡ length self.now.sizes }
         requires small { All (λ e. nat_abs e ≤ most_piece) t.now }
@@ -64,16 +77,25 @@ impl Board {
         ensures memory { IsOkUnless result Panic.NoRoom }
     {
         if self.directed {
-            return self.push_moves(x, t, links);
+            return self.push_moves(x, t, there, links);
         }
-        let back = opposite(t);
-        let mut starts = self.starts(x, t, back.as_slice(), links)?;
+        put_opposite(t, back);
+        let mut starts = links.take_starts();
+        self.add_starts(x, t, back.as_slice(), there, &mut starts)?;
         starts.sort_unstable();
-        self.push_edges(x, t, back.as_slice(), starts.as_slice(), links)
+        self.push_edges(x, t, back.as_slice(), starts.as_slice(), there, links)?;
+        links.keep_starts(starts);
+        Ok(())
     }
 
     // Puts the arcs by the moves from `x` by `t` behind the others.
-    fn push_moves(&self, x: &[u32], t: &[i32], links: &mut Links) -> Result<(), Panic>
+    fn push_moves(
+        &self,
+        x: &[u32],
+        t: &[i32],
+        there: &mut Vector,
+        links: &mut Links,
+    ) -> Result<(), Panic>
         requires below { IsBelow x.now self.now.sizes }
         requires dimensions { length t.now ≡ length self.now.sizes }
         requires width { length x.now ≡ links.old.width }
@@ -81,34 +103,34 @@ impl Board {
         ensures memory { IsOkUnless result Panic.NoRoom }
     {
         for l in 1..=self.longest_move() {
-            let Some(y) = self.lands(x, t, l) else {
+            if !self.lands(x, t, l, there) {
                 return Ok(());
-            };
-            links.push(y.as_slice(), l)?;
+            }
+            links.push(there.as_slice(), l)?;
         }
         Ok(())
     }
 
-    // The vertices where the moves by `t` that touch `x` start, with their lengths: `x` itself, and those where the
+    // Adds the vertices where the moves by `t` that touch `x` start, with their lengths: `x` itself, and those where the
     // moves from `x` by the opposite of `t` lead.
-    fn starts(
+    fn add_starts(
         &self,
         x: &[u32],
         t: &[i32],
         back: &[i32],
-        links: &Links,
-    ) -> Result<Vec<(u32, u32)>, Panic>
+        there: &mut Vector,
+        starts: &mut Vec<(u32, u32)>,
+    ) -> Result<(), Panic>
         requires below { IsBelow x.now self.now.sizes }
         requires dimensions { length t.now ≡ length self.now.sizes }
         requires back { back.now ≡ opposite t.now }
-        ensures ok { IfOk result (λ s. s.items ≡ starts_of (sides_of self.now.sizes self.now.wrap) self.now.piece (box self.now.sizes) x.now t.now) }
+        ensures ok { OnOk result (starts.new.items ≡ starts.old.items ++ starts_of (sides_of self.now.sizes self.now.wrap) self.now.piece (box self.now.sizes) x.now t.now) }
         ensures memory { IsOkUnless result Panic.NoRoom }
     {
         let u = self.family.place_of(x);
-        let mut starts = links.starts();
-        self.add_own(u, x, t, &mut starts)?;
-        self.add_others(u, x, back, &mut starts)?;
-        Ok(starts)
+        self.add_own(u, x, t, there, starts)?;
+        self.add_others(u, x, back, there, starts)?;
+        Ok(())
     }
 
     // Adds the moves from `x`, which is vertex `u`, by `t`.
@@ -117,6 +139,7 @@ impl Board {
         u: u32,
         x: &[u32],
         t: &[i32],
+        there: &mut Vector,
         starts: &mut Vec<(u32, u32)>,
     ) -> Result<(), Panic>
         requires below { IsBelow x.now self.now.sizes }
@@ -125,9 +148,9 @@ impl Board {
         ensures memory { IsOkUnless result Panic.NoRoom }
     {
         for l in 1..=self.longest_move() {
-            let Some(_there) = self.lands(x, t, l) else {
+            if !self.lands(x, t, l, there) {
                 return Ok(());
-            };
+            }
             starts.push((u, l))?;
         }
         Ok(())
@@ -139,6 +162,7 @@ impl Board {
         u: u32,
         x: &[u32],
         back: &[i32],
+        there: &mut Vector,
         starts: &mut Vec<(u32, u32)>,
     ) -> Result<(), Panic>
         requires below { IsBelow x.now self.now.sizes }
@@ -147,7 +171,7 @@ impl Board {
         ensures memory { IsOkUnless result Panic.NoRoom }
     {
         for l in 1..=self.longest_move() {
-            let Some(v) = self.vertex_at(x, back, l) else {
+            let Some(v) = self.vertex_at(x, back, l, there) else {
                 return Ok(());
             };
             if v != u {
@@ -164,6 +188,7 @@ impl Board {
         t: &[i32],
         back: &[i32],
         starts: &[(u32, u32)],
+        there: &mut Vector,
         links: &mut Links,
     ) -> Result<(), Panic>
         requires below { IsBelow x.now self.now.sizes }
@@ -175,36 +200,44 @@ impl Board {
     {
         let u = self.family.place_of(x);
         for (v, l) in starts {
-            self.push_edge(x, if *v == u { t } else { back }, *l, links)?;
+            self.push_edge(x, if *v == u { t } else { back }, *l, there, links)?;
         }
         Ok(())
     }
 
     // Puts the arc of `x` by the edge of length `l` behind the others, both arcs where the edge leads to `x` itself.
-    fn push_edge(&self, x: &[u32], t: &[i32], l: u32, links: &mut Links) -> Result<(), Panic>
+    fn push_edge(
+        &self,
+        x: &[u32],
+        t: &[i32],
+        l: u32,
+        there: &mut Vector,
+        links: &mut Links,
+    ) -> Result<(), Panic>
         requires below { IsBelow x.now self.now.sizes }
         requires dimensions { length t.now ≡ length self.now.sizes }
         requires width { length x.now ≡ links.old.width }
         ensures ok { OnOk result (links.new ≡ record links.old { arcs = links.old.arcs ++ edge_arcs x.now l (destination (sides_of self.now.sizes self.now.wrap) self.now.piece x.now t.now l) }) }
         ensures memory { IsOkUnless result Panic.NoRoom }
     {
-        let Some(y) = self.lands(x, t, l) else {
+        if !self.lands(x, t, l, there) {
             return Ok(());
-        };
-        links.push(y.as_slice(), l)?;
-        if y.as_slice() == x {
+        }
+        links.push(there.as_slice(), l)?;
+        if there.as_slice() == x {
             links.push(x, l)?;
         }
         Ok(())
     }
 
-    // Where the piece moves from `x` by the displacement `t` at length `l`, if it does.
-    fn lands(&self, x: &[u32], t: &[i32], l: u32) -> Option<Vector>
+    // Puts the vector where the piece moves from `x` by the displacement `t` at length `l` into `there`, if it moves there.
+    fn lands(&self, x: &[u32], t: &[i32], l: u32, there: &mut Vector) -> bool
         requires below { IsBelow x.now self.now.sizes }
         requires dimensions { length t.now ≡ length self.now.sizes }
-        ensures { option_map (λ y. y.items) result ≡ destination (sides_of self.now.sizes self.now.wrap) self.now.piece x.now t.now l }
+        ensures leads { OnTrue result (destination (sides_of self.now.sizes self.now.wrap) self.now.piece x.now t.now l ≡ Some there.new.items) }
+        ensures nowhere { OnFalse result (destination (sides_of self.now.sizes self.now.wrap) self.now.piece x.now t.now l ≡ None) }
     {
-        destination(self.shape.sizes(), self.wrap, self.piece, x, t, l)
+        destination(self.shape.sizes(), self.wrap, self.piece, x, t, l, there)
     }
 }
 

@@ -1,4 +1,4 @@
-use Rattle.std.proofs.Common.{◌≡◌, ℕ, ◌*◌, ◌≤◌, List, length, reverse, sym, ap, ap₂, ◌∙◌, arith}
+use Rattle.std.proofs.Common.{◌≡◌, ℕ, ◌*◌, List, length, reverse, sym, ap, ap₂, ◌∙◌, arith}
 use Rattle.std.proofs.lemmas.List.{length-reverse, with_items_is}
 use Rattle.std.specs.Vec.{with_items}
 use Rattle.sgb_gen.specs.LocalArcs.{arcs_in, rows_turned}

@@ -1,5 +1,4 @@
-use Rattle.std.proofs.Common.{◌≡◌, ◌++◌, ◌+◌, ◌∙◌, None, Some, refl, sym, ap, arith}
-use Rattle.std.specs.Option.{option_map}
+use Rattle.std.proofs.Common.{◌≡◌, ◌++◌, ◌+◌, None, Some, ap, arith}
 use Rattle.sgb_gen.specs.LocalBoards.{own_starts}
 use Rattle.sgb_gen.specs.VectorGraphs.{Move}
 use Rattle.sgb_gen.proofs.BoardEvents.{leads}
@@ -16,14 +15,14 @@ loop-l-preserved c =
     let t = c.args.t.now in
     let x = c.args.x.now in
     let l = c.loop-l.l in
-    let y = c.in-Some._there.items in
-    let lands : leads b x t l ≡ Some y = sym c.in-Some.ensures in
+    let y = c.lands.new.there.items in
+    let lands : leads b x t l ≡ Some y = rw c.if-not-lands.false at c.lands.ensures.leads in
     let next = left-next b t x l y (omega (arith, c.longest_move-l-end.ensures)) lands in
     one_more (λ (m : Move). (c.args.u, m.len)) c.loop-l.starts.items c.push.new.self.items _ (move x l y) (moves_left b t x l) (moves_left b t x (l + 1)) c.loop-l.invariant next c.in_ok-push.ensures.items
 
-pub returns-in_default-clause-ok : goal.returns-in_default-clause-ok
-returns-in_default-clause-ok c =
+pub returns-then-not-lands-clause-ok : goal.returns-then-not-lands-clause-ok
+returns-then-not-lands-clause-ok c =
     let b = c.args.self.now in
-    let out : leads b c.args.x.now c.args.t.now c.loop-l.l ≡ None = sym c.lands.ensures ∙ ap (option_map (λ y. y.items)) c.in_default.is in
+    let out : leads b c.args.x.now c.args.t.now c.loop-l.l ≡ None = rw c.if-not-lands.true at c.lands.ensures.nowhere in
     no_more (λ (m : Move). (c.args.u, m.len)) c.loop-l.starts.items _ (moves_left b c.args.t.now c.args.x.now c.loop-l.l) c.loop-l.invariant
     (left-out b c.args.t.now c.args.x.now c.loop-l.l (omega (arith, c.longest_move-l-end.ensures)) out)

@@ -1,4 +1,4 @@
-use Rattle.std.proofs.Common.{◌≡◌, ◌++◌, ◌∙◌, reverse, sym, ap}
+use Rattle.std.proofs.Common.{◌++◌, ◌∙◌, reverse, sym, ap}
 use Rattle.sgb_vec.proofs.BoxPlaces.{IsBelow-from_Contains}
 use Rattle.sgb_gen.specs.Boards.{moves_of_board}
 use Rattle.sgb_gen.specs.LocalBoards.{arcs_onward}

@@ -10,8 +10,12 @@ use Rattle.sgb_gen.proofs.accepted.boards.Board.push_all.Given as goal
 -- the arcs by the displacements that are left are still to come
 abbrev pub invariant-loop-t : goal.invariant-loop-t
 invariant-loop-t l =
-    All (λ t. length t ≡ length l.self.sizes) l.t-iterator
-    × All (λ t. All (λ e. nat_abs e ≤ most_piece) t) l.t-iterator
+    All (λ t. length t ≡ length l.self.sizes) l.left
+    × All (λ t. All (λ e. nat_abs e ≤ most_piece) t) l.left
     × (l.links.width ≡ l.fn.links.width)
-    × (l.links.arcs ++ arcs_onward l.self.directed l.x (flat_map (moves_by (sides_of l.self.sizes l.self.wrap) l.self.piece (box l.self.sizes)) l.t-iterator)
+    × (l.links.arcs ++ arcs_onward l.self.directed l.x (flat_map (moves_by (sides_of l.self.sizes l.self.wrap) l.self.piece (box l.self.sizes)) l.left)
     ≡ l.fn.links.arcs ++ arcs_onward l.self.directed l.x (moves_of_board l.self))
+
+-- each turn leaves out one displacement
+abbrev pub decreases-loop-t : goal.decreases-loop-t
+decreases-loop-t l = length l.left

@@ -1,7 +1,7 @@
 use Rattle.std.proofs.Common.{◌≡◌, ◌++◌, ◌∷◌, ◌+◌, ◌∙◌, [], Some, length, map, pos, refl, sym, ap, arith}
 use Rattle.sgb_gen.specs.LocalBoards.{move_arc}
 use Rattle.sgb_gen.proofs.BoardEvents.{leads}
-use Rattle.sgb_gen.proofs.BoardWalks.{lands_width, left-all, left-next, moves_left, moves_of, one_more}
+use Rattle.sgb_gen.proofs.BoardWalks.{lands_width, left-all, left-next, moves_left, one_more}
 use Rattle.sgb_gen.proofs.Reaches.{move}
 use Rattle.sgb_gen.proofs.accepted.boards.Board.push_moves.Goals as goal
 
@@ -11,8 +11,8 @@ loop-l-init c = (refl, ap (λ ms. c.args.links.now.arcs ++ map move_arc ms) (lef
 pub push-requires : goal.push-requires
 push-requires c =
     let b = c.args.self.now in
-    let lands : leads b c.args.x.now c.args.t.now c.loop-l.l ≡ Some c.in-Some.y.items = sym c.in-Some.ensures in
-    record { width = ap length c.as_slice.ensures.value ∙ lands_width b c.args.t.now c.args.x.now c.in-Some.y.items c.loop-l.l c.requires.below lands ∙ c.requires.width ∙ sym c.loop-l.invariant.0 }
+    let lands : leads b c.args.x.now c.args.t.now c.loop-l.l ≡ Some c.lands.new.there.items = rw c.if-not-lands.false at c.lands.ensures.leads in
+    record { width = ap length c.as_slice.ensures.value ∙ lands_width b c.args.t.now c.args.x.now c.lands.new.there.items c.loop-l.l c.requires.below lands ∙ c.requires.width ∙ sym c.loop-l.invariant.0 }
 
 pub loop-l-preserved : goal.loop-l-preserved
 loop-l-preserved c =
@@ -20,8 +20,8 @@ loop-l-preserved c =
     let t = c.args.t.now in
     let x = c.args.x.now in
     let l = c.loop-l.l in
-    let y = c.in-Some.y.items in
-    let lands : leads b x t l ≡ Some y = sym c.in-Some.ensures in
+    let y = c.lands.new.there.items in
+    let lands : leads b x t l ≡ Some y = rw c.if-not-lands.false at c.lands.ensures.leads in
     let next = left-next b t x l y (omega (arith, c.longest_move-l-end.ensures)) lands in
     let added : c.push.new.self.arcs ≡ c.loop-l.links.arcs ++ move_arc (move x l y) ∷ [] =
     ap (λ d. d.arcs) c.in_ok-push.ensures.ok ∙ ap (λ v. c.loop-l.links.arcs ++ record { tip = v; len = pos l } ∷ []) c.as_slice.ensures.value in (

@@ -22,8 +22,10 @@ place_of-requires c =
     let read : ℤ → ℤ = λ n. to_z w64 (of_z w64 n) in
     let family : c.args.self.now.sizes ≡ b.family = sym (ap (λ d. d.sizes) c.self.view_is) in
     let sizes : c.sizes.result.now ≡ b.family = c.sizes.ensures ∙ c.self.invariant.0 in
-    let there = subst (λ s. Some c.in_ok-y.y.items ≡ destination (sides_of s (read b.wrap)) (read b.piece) c.args.x.now c.args.t.now c.args.l) sizes c.in_ok-y.ensures in
-    let below = destination-below b.family (read b.wrap) (read b.piece) c.args.x.now c.args.t.now c.args.l c.in_ok-y.y.items (subst (IsBelow c.args.x.now) family c.requires.below) (sym there) in
+    let y = c.destination.new.there.items in
+    let leads : destination (sides_of c.sizes.result.now (read b.wrap)) (read b.piece) c.args.x.now c.args.t.now c.args.l ≡ Some y = rw c.if-not-destination.false at c.destination.ensures.leads in
+    let there = subst (λ s. destination (sides_of s (read b.wrap)) (read b.piece) c.args.x.now c.args.t.now c.args.l ≡ Some y) sizes leads in
+    let below = destination-below b.family (read b.wrap) (read b.piece) c.args.x.now c.args.t.now c.args.l y (subst (IsBelow c.args.x.now) family c.requires.below) there in
     subst (λ y. IsBelow y b.family) (sym c.as_slice.ensures.value) below
 
 pub returns-clause-vertex : goal.returns-clause-vertex
@@ -34,11 +36,13 @@ returns-clause-vertex c =
     let l = c.args.l in
     let read : ℤ → ℤ = λ n. to_z w64 (of_z w64 n) in
     let sizes : c.sizes.result.now ≡ b.family = c.sizes.ensures ∙ c.self.invariant.0 in
-    let there = subst (λ s. Some c.in_ok-y.y.items ≡ destination (sides_of s (read b.wrap)) (read b.piece) x t l) sizes c.in_ok-y.ensures in
+    let y = c.destination.new.there.items in
+    let leads : destination (sides_of c.sizes.result.now (read b.wrap)) (read b.piece) x t l ≡ Some y = rw c.if-not-destination.false at c.destination.ensures.leads in
+    let there = subst (λ s. Some y ≡ destination (sides_of s (read b.wrap)) (read b.piece) x t l) sizes (sym leads) in
     let wrap : read b.wrap ≡ b.wrap = to_z-of_z w64 b.wrap (search rules) in
     let piece : read b.piece ≡ b.piece = to_z-of_z w64 b.piece (search rules) in
-    let read_there : Some c.in_ok-y.y.items ≡ destination (sides_of b.family b.wrap) b.piece x t l = there ∙ ap (λ w. destination (sides_of b.family w) (read b.piece) x t l) wrap ∙ ap (λ p. destination (sides_of b.family b.wrap) p x t l) piece in
-    let vertex : vertex_among (box b.family) c.in_ok-y.y.items ≡ c.place_of.result = vertex_in_box b.family c.in_ok-y.y.items c.place_of.result (c.place_of.ensures ∙ ap Some c.as_slice.ensures.value) in
+    let read_there : Some y ≡ destination (sides_of b.family b.wrap) b.piece x t l = there ∙ ap (λ w. destination (sides_of b.family w) (read b.piece) x t l) wrap ∙ ap (λ p. destination (sides_of b.family b.wrap) p x t l) piece in
+    let vertex : vertex_among (box b.family) y ≡ c.place_of.result = vertex_in_box b.family y c.place_of.result (c.place_of.ensures ∙ ap Some c.as_slice.ensures.value) in
     ap Some (sym vertex) ∙ ap (option_map (vertex_among (box b.family))) read_there
     ∙ ap (λ d. option_map (vertex_among (box d.sizes)) (destination (sides_of d.sizes d.wrap) d.piece x t l)) c.self.view_is
 
