@@ -18,7 +18,7 @@ pub(crate) enum Column {
 
 impl Column {
     // The column of a field of this kind, with no values yet. It takes no memory.
-    pub fn new(alloc: Global, kind: Kind) -> Column
+    pub(crate) fn new(alloc: Global, kind: Kind) -> Column
         ensures kind { column_kind result ≡ kind }
         ensures none { HoldsMany 0 result }
     {
@@ -32,7 +32,7 @@ impl Column {
     }
 
     // What the field holds.
-    pub fn kind(&self) -> Kind
+    pub(crate) fn kind(&self) -> Kind
         ensures { result ≡ column_kind self.now }
     {
         match self {
@@ -45,7 +45,7 @@ impl Column {
     }
 
     // Puts a value of the column's kind after the others.
-    pub fn push(&mut self, value: Util) -> Result<(), AllocError>
+    pub(crate) fn push(&mut self, value: Util) -> Result<(), AllocError>
         requires { util_kind value ≡ column_kind self.old }
         ensures kind { OnOk result (column_kind self.new ≡ column_kind self.old) }
         ensures values { OnOk result ((n : ℕ) → HoldsMany n self.old → values (1 + n) self.new ≡ values n self.old ++ value ∷ []) }
@@ -61,7 +61,7 @@ impl Column {
     }
 
     // The value of place k.
-    pub fn get(&self, k: usize) -> UtilRef<'_>
+    pub(crate) fn get(&self, k: usize) -> UtilRef<'_>
         requires { HasPlace k self.now }
         ensures { (n : ℕ) → k < n → HoldsMany n self.now → slice_get (values n self.now) k ≡ Some (util_seen result) }
     {

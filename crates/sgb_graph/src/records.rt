@@ -59,7 +59,7 @@ impl PlainRecord {
 
 impl Records {
     // No records, whose utility fields are not used. It takes no memory.
-    pub fn new(alloc: Global) -> Records
+    pub(crate) fn new(alloc: Global) -> Records
         ensures { result ≡ record { a = Z; b = Z; items = [] } }
     {
         Records {
@@ -70,7 +70,12 @@ impl Records {
     }
 
     // These records, whose utility fields a and b are of these kinds.
-    pub fn of(alloc: Global, a: Kind, b: Kind, arcs: Vec<ArcRec>) -> Result<Records, AllocError>
+    pub(crate) fn of(
+        alloc: Global,
+        a: Kind,
+        b: Kind,
+        arcs: Vec<ArcRec>,
+    ) -> Result<Records, AllocError>
         requires kinds { All (λ r. (util_kind r.a ≡ a) × (util_kind r.b ≡ b)) arcs.items }
         requires next { All (λ r. IfSome r.next (λ k. k < 2 ^ 63)) arcs.items }
         ensures { IfOk result (λ records. records ≡ record { a = a; b = b; items = arcs.items }) }
@@ -91,7 +96,7 @@ impl Records {
     }
 
     // The number of records.
-    pub fn len(&self) -> usize
+    pub(crate) fn len(&self) -> usize
         ensures count { result ≡ length self.now.items }
         ensures small { result < 2 ^ 63 }
     {
@@ -99,14 +104,14 @@ impl Records {
     }
 
     // What the utility fields a and b hold.
-    pub fn kinds(&self) -> [Kind; 2]
+    pub(crate) fn kinds(&self) -> [Kind; 2]
         ensures { result ≡ self.now.a ∷ self.now.b ∷ [] }
     {
         [self.a.kind(), self.b.kind()]
     }
 
     // Record k, below the number of records.
-    pub fn get(&self, k: usize) -> ArcRef<'_>
+    pub(crate) fn get(&self, k: usize) -> ArcRef<'_>
         requires { k < length self.now.items }
         ensures { slice_get self.now.items k ≡ Some (arc_seen result) }
     {
@@ -121,7 +126,12 @@ impl Records {
     }
 
     // Puts a record that leads to v, before the one given, after the others; the utility fields of records are not used.
-    pub fn push_plain(&mut self, v: u32, after: Option<usize>, len: i64) -> Result<(), AllocError>
+    pub(crate) fn push_plain(
+        &mut self,
+        v: u32,
+        after: Option<usize>,
+        len: i64,
+    ) -> Result<(), AllocError>
         requires plain { (self.old.a ≡ Z) × (self.old.b ≡ Z) }
         requires small { IfSome after (λ k. k + 1 < 2 ^ 64) }
         ensures ok { OnOk result (self.new ≡ record self.old { items = self.old.items ++ arc_record v after len ∷ [] }) }
@@ -132,7 +142,7 @@ impl Records {
     }
 
     // Puts two records of this length after the others, or neither: each leads to a vertex, before the record given.
-    pub fn push_pair(
+    pub(crate) fn push_pair(
         &mut self,
         len: i64,
         high: u32,

@@ -64,7 +64,7 @@ impl Model for Vertices {
 
 impl Vertices {
     // The vertices of these names, with no arcs and no utility fields.
-    pub fn named(alloc: Global, names: Names) -> Result<Vertices, AllocError>
+    pub(crate) fn named(alloc: Global, names: Names) -> Result<Vertices, AllocError>
         ensures { IfOk result (λ vertices. vertices ≡ record { u = Z; v = Z; w = Z; x = Z; y = Z; z = Z; items = map new_vertex names }) }
     {
         let plain = new_vertices(alloc, names)?;
@@ -75,7 +75,7 @@ impl Vertices {
     }
 
     // These vertices, whose utility fields u, v, w, x, y, z are of these kinds.
-    pub fn of(
+    pub(crate) fn of(
         alloc: Global,
         kinds: [Kind; 6],
         vertices: Vec<Vertex>,
@@ -94,7 +94,7 @@ impl Vertices {
     }
 
     // The number of vertices.
-    pub fn len(&self) -> usize
+    pub(crate) fn len(&self) -> usize
         ensures count { result ≡ length self.now.items }
         ensures small { result < 2 ^ 63 }
     {
@@ -102,14 +102,14 @@ impl Vertices {
     }
 
     // What the utility fields hold.
-    pub fn kinds(&self) -> [Kind; 6]
+    pub(crate) fn kinds(&self) -> [Kind; 6]
         ensures { result ≡ kinds_of_vertices self.now }
     {
         self.fields.kinds()
     }
 
     // The name of vertex `v < n`.
-    pub fn name(&self, v: u32) -> &Text
+    pub(crate) fn name(&self, v: u32) -> &Text
         requires { v < length self.now.items }
         ensures { slice_get (map (λ x. x.name) self.now.items) v ≡ Some result.now }
     {
@@ -117,7 +117,7 @@ impl Vertices {
     }
 
     // The first record of the list of vertex `v < n`.
-    pub fn first(&self, v: u32) -> Option<usize>
+    pub(crate) fn first(&self, v: u32) -> Option<usize>
         requires { v < length self.now.items }
         ensures value { result ≡ first_arc self.now.items v }
         ensures small { IfSome result (λ k. k + 1 < 2 ^ 64) }
@@ -126,7 +126,7 @@ impl Vertices {
     }
 
     // Makes this the first record of the list of vertex `v < n`.
-    pub fn set_first(&mut self, v: u32, number: usize)
+    pub(crate) fn set_first(&mut self, v: u32, number: usize)
         requires vertex { v < length self.old.items }
         requires small { number + 1 < 2 ^ 64 }
         ensures { self.new ≡ record self.old { items = at_place (with_arcs (Some number)) v self.old.items } }
@@ -135,7 +135,7 @@ impl Vertices {
     }
 
     // Vertex `v < n`.
-    pub fn get(&self, v: u32) -> VertexRef<'_>
+    pub(crate) fn get(&self, v: u32) -> VertexRef<'_>
         requires { v < length self.now.items }
         ensures { slice_get self.now.items v ≡ Some (vertex_seen result) }
     {
@@ -149,7 +149,7 @@ impl Vertices {
 
     // Puts three integers into the fields x, y, z of vertex `v < n`. These fields then hold integers in every vertex: 0
     // where there was none. It takes no memory.
-    pub fn put_numbers(&mut self, v: u32, x: i64, y: i64, z: i64)
+    pub(crate) fn put_numbers(&mut self, v: u32, x: i64, y: i64, z: i64)
         requires { v < length self.old.items }
         ensures { self.new ≡ record self.old {
           x = I;

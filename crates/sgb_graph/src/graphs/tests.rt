@@ -7,6 +7,7 @@ use crate::ids::Id;
 use crate::names::Names;
 use sgb_vec::{Panic, Text};
 use std::alloc::Global;
+use std::test::Fail;
 
 // A graph whose vertices have these names of one byte.
 fn graph_of(alloc: Global, digits: &[u8]) -> Result<Graph, Panic>
@@ -38,107 +39,69 @@ pub(crate) fn has_list(graph: &Graph, v: u32, list: &[(usize, u32, i64)]) -> boo
     expected.next().is_none()
 }
 
-// The arcs 0 to 1, 2 to 0, 1 to 1 and 1 to 0 on four vertices.
-fn directed(alloc: Global) -> Result<Graph, Panic> {
-    let mut graph = graph_of(alloc, b"abcd")?;
-    if graph.n() != 4 {
-        return Err(Panic::Bad);
+// Such a graph with an arc, or an edge, for each event.
+fn with_events(
+    alloc: Global,
+    digits: &[u8],
+    directed: bool,
+    events: &[(u32, u32, i64)],
+) -> Result<Graph, Panic> {
+    let mut graph = graph_of(alloc, digits)?;
+    for (u, v, len) in events {
+        if *u >= graph.n() || *v >= graph.n() {
+            return Err(Panic::Bad);
+        }
+        graph.add_event(directed, *u, *v, *len)?;
     }
-    graph.new_arc(0, 1, 4)?;
-    graph.new_arc(2, 0, 5)?;
-    graph.new_arc(1, 1, 6)?;
-    graph.new_arc(1, 0, 7)?;
     Ok(graph)
 }
 
-// The edges between 0 and 1, 2 and 0, 1 and 1, 1 and 0 on four vertices.
-fn undirected(alloc: Global) -> Result<Graph, Panic> {
-    let mut graph = graph_of(alloc, b"abcd")?;
-    if graph.n() != 4 {
-        return Err(Panic::Bad);
-    }
-    graph.new_edge(0, 1, 4)?;
-    graph.new_edge(2, 0, 5)?;
-    graph.new_edge(1, 1, 6)?;
-    graph.new_edge(1, 0, 7)?;
-    Ok(graph)
+// Events on four vertices: the third is a loop.
+const FOUR: [(u32, u32, i64); 4] = [(0, 1, 4), (2, 0, 5), (1, 1, 6), (1, 0, 7)];
+
+// Whether the lists are those of the four events as arcs, the later ones first.
+fn has_lists_of_arcs(graph: &Graph) -> bool {
+    graph.m() == 4
+        && graph.records_len() == 4
+        && has_list(graph, 0, &[(0, 1, 4)])
+        && has_list(graph, 1, &[(3, 0, 7), (2, 1, 6)])
+        && has_list(graph, 2, &[(1, 0, 5)])
+        && has_list(graph, 3, &[])
+}
+
+// Whether they are those of the four as edges, which have a record at each end.
+fn has_lists_of_edges(graph: &Graph) -> bool {
+    graph.m() == 8
+        && graph.records_len() == 8
+        && has_list(graph, 0, &[(6, 1, 7), (2, 2, 5), (0, 1, 4)])
+        && has_list(graph, 1, &[(7, 0, 7), (4, 1, 6), (5, 1, 6), (1, 0, 4)])
+        && has_list(graph, 2, &[(3, 0, 5)])
+        && has_list(graph, 3, &[])
 }
 
 #[test]
-fn later_arcs_come_first(rt: HostRuntime) {
-    assert!(rt;
-        directed(rt.alloc()).is_ok_and(|graph| {
-            graph.m() == 4
-                && graph.records_len() == 4
-                && has_list(&graph, 0, &[(0, 1, 4)])
-                && has_list(&graph, 1, &[(3, 0, 7), (2, 1, 6)])
-                && has_list(&graph, 2, &[(1, 0, 5)])
-                && has_list(&graph, 3, &[])
-        })
-    );
+fn later_arcs_come_first(rt: HostRuntime) -> Result<(), Fail> {
+    let graph = with_events(rt.alloc(), b"abcd", true, &FOUR)?;
+    assert!(rt; has_lists_of_arcs(&graph));
+    Ok(())
 }
 
 #[test]
-fn an_edge_has_a_record_at_each_end(rt: HostRuntime) {
-    assert!(rt;
-        undirected(rt.alloc()).is_ok_and(|graph| {
-            graph.m() == 8
-                && graph.records_len() == 8
-                && has_list(&graph, 0, &[(6, 1, 7), (2, 2, 5), (0, 1, 4)])
-                && has_list(&graph, 1, &[(7, 0, 7), (4, 1, 6), (5, 1, 6), (1, 0, 4)])
-                && has_list(&graph, 2, &[(3, 0, 5)])
-                && has_list(&graph, 3, &[])
-        })
-    );
-}
-
-// The events 0 to 1, 2 to 0, 1 to 1 and 1 to 0 on four vertices.
-fn with_events(alloc: Global, directed: bool) -> Result<Graph, Panic> {
-    let mut graph = graph_of(alloc, b"abcd")?;
-    if graph.n() != 4 {
-        return Err(Panic::Bad);
-    }
-    graph.add_event(directed, 0, 1, 4)?;
-    graph.add_event(directed, 2, 0, 5)?;
-    graph.add_event(directed, 1, 1, 6)?;
-    graph.add_event(directed, 1, 0, 7)?;
-    Ok(graph)
-}
-
-#[test]
-fn an_event_is_an_arc_or_an_edge(rt: HostRuntime) {
-    assert!(rt;
-        with_events(rt.alloc(), true).is_ok_and(|graph| {
-            graph.m() == 4
-                && has_list(&graph, 0, &[(0, 1, 4)])
-                && has_list(&graph, 1, &[(3, 0, 7), (2, 1, 6)])
-                && has_list(&graph, 2, &[(1, 0, 5)])
-        })
-    );
-    assert!(rt;
-        with_events(rt.alloc(), false).is_ok_and(|graph| {
-            graph.m() == 8
-                && has_list(&graph, 0, &[(6, 1, 7), (2, 2, 5), (0, 1, 4)])
-                && has_list(&graph, 1, &[(7, 0, 7), (4, 1, 6), (5, 1, 6), (1, 0, 4)])
-                && has_list(&graph, 2, &[(3, 0, 5)])
-        })
-    );
+fn an_edge_has_a_record_at_each_end(rt: HostRuntime) -> Result<(), Fail> {
+    let graph = with_events(rt.alloc(), b"abcd", false, &FOUR)?;
+    assert!(rt; has_lists_of_edges(&graph));
+    Ok(())
 }
 
 // The arcs from 1, 8, 4, 1, 1 and 0 to 0 on nine vertices.
-fn led_to_0(alloc: Global) -> Result<Graph, Panic> {
-    let mut graph = graph_of(alloc, b"abcdefghi")?;
-    if graph.n() != 9 {
-        return Err(Panic::Bad);
-    }
-    graph.new_arc(1, 0, 1)?;
-    graph.new_arc(8, 0, 1)?;
-    graph.new_arc(4, 0, 1)?;
-    graph.new_arc(1, 0, 1)?;
-    graph.new_arc(1, 0, 1)?;
-    graph.new_arc(0, 0, 1)?;
-    Ok(graph)
-}
+const TO_0: [(u32, u32, i64); 6] = [
+    (1, 0, 1),
+    (8, 0, 1),
+    (4, 0, 1),
+    (1, 0, 1),
+    (1, 0, 1),
+    (0, 0, 1),
+];
 
 // Whether the lists of vertices v to v + 7 of nine have these lengths, also where a hint was given before.
 fn has_degrees(graph: &Graph, v: u32, expected: &[usize; 8]) -> bool {
@@ -150,16 +113,11 @@ fn has_degrees(graph: &Graph, v: u32, expected: &[usize; 8]) -> bool {
 }
 
 #[test]
-fn lists_are_counted_side_by_side(rt: HostRuntime) {
-    assert!(rt;
-        led_to_0(rt.alloc()).is_ok_and(|graph| {
-            has_degrees(&graph, 0, &[1, 3, 0, 0, 1, 0, 0, 0])
-                && has_degrees(&graph, 1, &[3, 0, 0, 1, 0, 0, 0, 1])
-        })
-    );
-    assert!(rt;
-        graph_of(rt.alloc(), b"abcdefghi").is_ok_and(|graph| has_degrees(&graph, 1, &[0; 8]))
-    );
+fn lists_are_counted_side_by_side(rt: HostRuntime) -> Result<(), Fail> {
+    let graph = with_events(rt.alloc(), b"abcdefghi", true, &TO_0)?;
+    assert!(rt; has_degrees(&graph, 0, &[1, 3, 0, 0, 1, 0, 0, 0]));
+    assert!(rt; has_degrees(&graph, 1, &[3, 0, 0, 1, 0, 0, 0, 1]));
+    Ok(())
 }
 
 // A graph of one name with a loop, as an arc or as an edge.
@@ -177,15 +135,21 @@ fn looped(alloc: Global, directed: bool) -> Result<Graph, Panic> {
 }
 
 #[test]
-fn a_loop_has_one_record_or_two(rt: HostRuntime) {
-    assert!(rt;
-        looped(rt.alloc(), true).is_ok_and(|graph| graph.m() == 1
-            && has_list(&graph, 0, &[(0, 0, 5)]))
-    );
-    assert!(rt;
-        looped(rt.alloc(), false).is_ok_and(|graph| graph.m() == 2
-            && has_list(&graph, 0, &[(0, 0, 5), (1, 0, 5)]))
-    );
+fn a_loop_has_one_record_or_two(rt: HostRuntime) -> Result<(), Fail> {
+    let arc = looped(rt.alloc(), true)?;
+    assert!(rt; arc.m() == 1 && has_list(&arc, 0, &[(0, 0, 5)]));
+    let edge = looped(rt.alloc(), false)?;
+    assert!(rt; edge.m() == 2 && has_list(&edge, 0, &[(0, 0, 5), (1, 0, 5)]));
+    assert!(rt; leads_to_its_vertex(&edge));
+    Ok(())
+}
+
+// Whether both records of the loop lead to vertex 0, the second after the first.
+fn leads_to_its_vertex(graph: &Graph) -> bool {
+    graph.records_len() == 2
+        && graph.arc_rec(1).tip == Ref::At(0)
+        && graph.arc_rec(0).next == Some(1)
+        && graph.arc_rec(1).next.is_none()
 }
 
 // Whether the bytes are these.
@@ -206,9 +170,10 @@ fn is_new(graph: &Graph) -> bool {
 }
 
 #[test]
-fn a_new_graph_has_no_arcs(rt: HostRuntime) {
-    assert!(rt; graph_of(rt.alloc(), b"ab").is_ok_and(|graph| is_new(&graph)));
-    assert!(rt; graph_of(rt.alloc(), b"").is_ok_and(|graph| graph.n() == 0));
+fn a_new_graph_has_no_arcs(rt: HostRuntime) -> Result<(), Fail> {
+    let graph = graph_of(rt.alloc(), b"ab")?;
+    assert!(rt; is_new(&graph));
+    Ok(())
 }
 
 // Three numbers for vertex 1 of two, and another id.
@@ -241,16 +206,19 @@ fn has_numbers(graph: &Graph, v: u32, numbers: &[i64; 3]) -> bool {
         && holds(fields[5], numbers[2])
 }
 
+// Whether it has that id, three fields of integers, and zeros where no number was given.
+fn is_numbered(graph: &Graph) -> bool {
+    are(graph.id().bytes(), b"numbered")
+        && graph.kinds()[2..7] == [Kind::Z, Kind::I, Kind::I, Kind::I, Kind::Z]
+        && has_numbers(graph, 0, &[0, 0, 0])
+        && has_numbers(graph, 1, &[-3, 0, 907])
+}
+
 #[test]
-fn the_other_vertices_get_zeros(rt: HostRuntime) {
-    assert!(rt;
-        numbered(rt.alloc()).is_ok_and(|graph| {
-            are(graph.id().bytes(), b"numbered")
-                && graph.kinds()[2..7] == [Kind::Z, Kind::I, Kind::I, Kind::I, Kind::Z]
-                && has_numbers(&graph, 0, &[0, 0, 0])
-                && has_numbers(&graph, 1, &[-3, 0, 907])
-        })
-    );
+fn the_other_vertices_get_zeros(rt: HostRuntime) -> Result<(), Fail> {
+    let graph = numbered(rt.alloc())?;
+    assert!(rt; is_numbered(&graph));
+    Ok(())
 }
 
 // A number for the field uu of a graph of two vertices.
@@ -260,28 +228,19 @@ fn with_own_number(alloc: Global) -> Result<Graph, Panic> {
     Ok(graph)
 }
 
-#[test]
-fn the_graph_has_a_number_of_its_own(rt: HostRuntime) {
-    assert!(rt;
-        with_own_number(rt.alloc()).is_ok_and(|graph| {
-            graph.n() == 2
-                && graph.kinds()[..8].iter().all(|kind| *kind == Kind::Z)
-                && graph.kinds()[8] == Kind::I
-                && graph.kinds()[9..].iter().all(|kind| *kind == Kind::Z)
-                && matches!(graph.graph_util(0), Util::Int(-5))
-                && matches!(graph.graph_util(1), Util::Nothing)
-        })
-    );
+// Whether the number stands in the field uu alone.
+fn has_own_number(graph: &Graph) -> bool {
+    graph.n() == 2
+        && graph.kinds()[..8].iter().all(|kind| *kind == Kind::Z)
+        && graph.kinds()[8] == Kind::I
+        && graph.kinds()[9..].iter().all(|kind| *kind == Kind::Z)
+        && matches!(graph.graph_util(0), Util::Int(-5))
+        && matches!(graph.graph_util(1), Util::Nothing)
 }
 
 #[test]
-fn a_record_leads_to_a_vertex(rt: HostRuntime) {
-    assert!(rt;
-        looped(rt.alloc(), false).is_ok_and(|graph| {
-            graph.records_len() == 2
-                && graph.arc_rec(1).tip == Ref::At(0)
-                && graph.arc_rec(0).next == Some(1)
-                && graph.arc_rec(1).next.is_none()
-        })
-    );
+fn the_graph_has_a_number_of_its_own(rt: HostRuntime) -> Result<(), Fail> {
+    let graph = with_own_number(rt.alloc())?;
+    assert!(rt; has_own_number(&graph));
+    Ok(())
 }

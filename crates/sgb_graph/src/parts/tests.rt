@@ -5,6 +5,7 @@ use crate::graphs::tests::has_list;
 use crate::ids::Id;
 use sgb_vec::{Panic, Text};
 use std::alloc::Global;
+use std::test::Fail;
 
 // Six utility fields, of which the first has this value.
 fn fields(first: Util) -> [Util; 6] {
@@ -50,30 +51,29 @@ fn checked(
     parts.check()
 }
 
-#[test]
-fn the_parts_are_those_of_the_graph(rt: HostRuntime) {
-    assert!(rt;
-        checked(rt.alloc(), &[Some(0)], &[(Ref::At(0), None)]).is_ok_and(|graph| {
-            graph.n() == 1
-                && graph.m() == 3
-                && graph.records_len() == 1
-                && graph.id().bytes() == b"g".as_slice()
-                && has_list(&graph, 0, &[(0, 0, 1)])
-        })
-    );
+// Whether this is the graph of one vertex with a loop.
+fn is_looped(graph: &Graph) -> bool {
+    graph.n() == 1
+        && graph.m() == 3
+        && graph.records_len() == 1
+        && graph.id().bytes() == b"g".as_slice()
+        && has_list(graph, 0, &[(0, 0, 1)])
 }
 
 #[test]
-fn lists_may_share_records(rt: HostRuntime) {
-    assert!(rt;
-        checked(
-            rt.alloc(),
-            &[Some(0), Some(1)],
-            &[(Ref::At(1), None), (Ref::At(0), Some(0))],
-        )
-        .is_ok_and(|graph| has_list(&graph, 0, &[(0, 1, 1)])
-            && has_list(&graph, 1, &[(1, 0, 1), (0, 1, 1)]))
-    );
+fn the_parts_are_those_of_the_graph(rt: HostRuntime) -> Result<(), Fail> {
+    let graph = checked(rt.alloc(), &[Some(0)], &[(Ref::At(0), None)])?;
+    assert!(rt; is_looped(&graph));
+    Ok(())
+}
+
+#[test]
+fn lists_may_share_records(rt: HostRuntime) -> Result<(), Fail> {
+    let records = [(Ref::At(1), None), (Ref::At(0), Some(0))];
+    let graph = checked(rt.alloc(), &[Some(0), Some(1)], &records)?;
+    assert!(rt; has_list(&graph, 0, &[(0, 1, 1)]));
+    assert!(rt; has_list(&graph, 1, &[(1, 0, 1), (0, 1, 1)]));
+    Ok(())
 }
 
 // First arcs, and records with their tips and next ones, that make up no graph.
@@ -86,12 +86,21 @@ const REFUSED: [(&[Option<usize>], &[(Ref, Option<usize>)]); 6] = [
     (&[None], &[(Ref::At(1), None)]),
 ];
 
+// What the check says of such parts: the code of a refusal, or none.
+fn refusal(
+    alloc: Global,
+    firsts: &[Option<usize>],
+    records: &[(Ref, Option<usize>)],
+) -> Option<Panic> {
+    checked(alloc, firsts, records).err()
+}
+
 #[test]
 fn chains_end_and_lists_lead_to_vertices(rt: HostRuntime) {
     for (firsts, records) in &REFUSED {
-        assert!(rt; matches!(checked(rt.alloc(), firsts, records), Err(Panic::Syntax)));
+        assert!(rt; refusal(rt.alloc(), firsts, records) == Some(Panic::Syntax));
     }
-    assert!(rt; checked(rt.alloc(), &[None], &[(Ref::Null, None)]).is_ok());
+    assert!(rt; refusal(rt.alloc(), &[None], &[(Ref::Null, None)]).is_none());
 }
 
 // The graph of one vertex with this value in its field u, which is of this kind.
@@ -107,22 +116,22 @@ fn with_field(alloc: Global, kind: Kind, value: Util) -> Result<Graph, Panic> {
     parts.check()
 }
 
+// Whether the value is let through.
+fn fits(alloc: Global, kind: Kind, value: Util) -> bool {
+    with_field(alloc, kind, value).is_ok()
+}
+
+// Whether it is refused as a wrong record.
+fn is_unfit(alloc: Global, kind: Kind, value: Util) -> bool {
+    with_field(alloc, kind, value).err() == Some(Panic::Syntax)
+}
+
 #[test]
 fn fields_fit_their_kinds(rt: HostRuntime) {
     let alloc = rt.alloc();
-    assert!(rt; with_field(alloc, Kind::I, Util::Int(7)).is_ok());
-    assert!(rt; with_field(alloc, Kind::V, Util::Vertex(Ref::At(0))).is_ok());
-    assert!(rt;
-        matches!(
-            with_field(alloc, Kind::I, Util::Nothing),
-            Err(Panic::Syntax)
-        )
-    );
-    assert!(rt; matches!(with_field(alloc, Kind::Z, Util::Int(7)), Err(Panic::Syntax)));
-    assert!(rt;
-        matches!(
-            with_field(alloc, Kind::V, Util::Vertex(Ref::At(1))),
-            Err(Panic::Syntax)
-        )
-    );
+    assert!(rt; fits(alloc, Kind::I, Util::Int(7)));
+    assert!(rt; fits(alloc, Kind::V, Util::Vertex(Ref::At(0))));
+    assert!(rt; is_unfit(alloc, Kind::I, Util::Nothing));
+    assert!(rt; is_unfit(alloc, Kind::Z, Util::Int(7)));
+    assert!(rt; is_unfit(alloc, Kind::V, Util::Vertex(Ref::At(1))));
 }
