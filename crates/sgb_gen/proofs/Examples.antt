@@ -7,3 +7,4 @@ pub mod Graphs
 pub mod LocalLists
 pub mod LocalSimplexes
 pub mod LocalSubsets
+pub mod LocalBoards
