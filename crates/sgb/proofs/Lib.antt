@@ -14,5 +14,6 @@ pub mod Named
 pub mod NamedMembers
 pub mod ProgramRuns
 pub mod Refusals
+pub mod ResumedListings
 pub mod StdinValues
 pub mod Values

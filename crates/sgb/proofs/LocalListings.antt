@@ -1,7 +1,7 @@
 -- The listing of a generator's graph, from its vectors.
-use Rattle.std.proofs.Common.{◌≡◌, ◌∙◌, ◌+◌, ◌-◌, ◌<◌, ◌≤◌, ℕ, zero, suc, ℤ, nat_abs, Bool, List, [], ◌∷◌, ◌++◌, length, map, drop, drop-cons, add-one, get_or, Option, Some, None, refl, sym, ap, ap₂, subst, arith, codes}
+use Rattle.std.proofs.Common.{◌≡◌, ◌∙◌, ◌+◌, ◌<◌, ℕ, zero, suc, ℤ, Bool, List, [], ◌∷◌, ◌++◌, length, map, drop, drop-cons, add-one, get_or, Some, refl, sym, ap, ap₂, subst, arith, codes}
 use Rattle.std.specs.Fmt.{signed_decimal}
-use Rattle.std.specs.List.{All, Contains, flat_map, range_with_len, slice_get, slice_index_or}
+use Rattle.std.specs.List.{All, Contains, flat_map, slice_get, slice_index_or}
 use Rattle.std.proofs.lemmas.List.{drop-drop, length-drop, length-map}
 use Rattle.std.proofs.lemmas.List.Elements.{All-map}
 use Rattle.std.proofs.lemmas.Option.{get_or_from_slice_get, slice_get_read, slice_get_within}
@@ -14,7 +14,7 @@ use Rattle.sgb_graph.specs.Events.{IsWithin, all_rows, list_of}
 use Rattle.sgb_graph.specs.Graphs.{GraphData, chain_of}
 use Rattle.sgb_graph.specs.Made.{graph_described}
 use Rattle.sgb_graph.proofs.Described.{described_is}
-use Rattle.sgb_gen.specs.Boards.{BoardData, board_graph, board_id, board_vectors, moves_of_board}
+use Rattle.sgb_gen.specs.Boards.{board_graph, board_id, board_vectors, moves_of_board}
 use Rattle.sgb_gen.specs.LocalLists.{LocalArc, list_at, local_arc}
 use Rattle.sgb_gen.specs.Simplexes.{SimplexData, moves_of_simplex, simplex_graph, simplex_id, simplex_vectors}
 use Rattle.sgb_gen.specs.Subsets.{moves_of_subsets, subsets_graph, subsets_id, subsets_vectors}
@@ -42,13 +42,14 @@ name_there [] t = refl
 name_there (v ∷ vectors) zero = refl
 name_there (v ∷ vectors) (suc t) = name_there vectors t
 
-first_in_drop : (k : ℕ) (xs : List (List ℕ)) → slice_get (drop k xs) 0 ≡ slice_get xs k
+-- what stands first after others is at their number
+pub first_in_drop : (k : ℕ) (xs : List (List ℕ)) → slice_get (drop k xs) 0 ≡ slice_get xs k
 first_in_drop zero xs = refl
 first_in_drop (suc k) [] = refl
 first_in_drop (suc k) (x ∷ xs) = first_in_drop k xs
 
 -- what stands first after others is among them all
-contains_in_drop : (k : ℕ) (members : List (List ℕ)) (x : List ℕ) → slice_get (drop k members) 0 ≡ Some x → Contains members x
+pub contains_in_drop : (k : ℕ) (members : List (List ℕ)) (x : List ℕ) → slice_get (drop k members) 0 ≡ Some x → Contains members x
 contains_in_drop k members x first =
     let there : slice_get members k ≡ Some x = sym (first_in_drop k members) ∙ first in
     (k, slice_get_within members k x there, get_or_from_slice_get members k x x there)

@@ -13,6 +13,8 @@ use Rattle.sgb_vec.specs.NamedVectors.{IsVector, vector_of}
 use Rattle.sgb_vec.proofs.NameReading.{vector_of-name}
 use Rattle.sgb_vec.proofs.RisingLists.{place-once}
 use Rattle.sgb_vec.proofs.SumSuccessors.{IsBefore-asymmetric}
+use Rattle.sgb_gen.specs.VectorGraphs.{vertex_among}
+use Rattle.sgb_gen.proofs.RisingVectors.{vertex_in_rising}
 use Rattle.sgb.specs.Outcomes.{vertex_named}
 use Rattle.sgb.specs.Texts.{name_line, name_lines}
 use Rattle.sgb.specs.Remaining.{IsNameAfter}
@@ -66,20 +68,14 @@ module _ (members : List (List ℕ)) (vectors : (v : List ℕ) → Contains memb
         | inr differs ↦ differs
       ]
 
-  -- the name of a member is that of its place first, and what comes after it is the rest
-  pub member_named : IsRising members → (x name : List ℕ) → (before after : List (List ℕ)) → IsVector x → name_of_vector x ≡ name → members ≡ before ++ x ∷ after
-      → (vertex_named name (map name_of_vector members) ≡ Some (length before)) × (after ≡ drop (suc (length before)) members)
-  member_named rising x name before after is named whole =
-      (named_here (map name_of_vector members) name (name_of_vector x) i here own earlier, rest)
+  -- the name of a member is that of its vertex first
+  pub member_named : IsRising members → (x name : List ℕ) → IsVector x → name_of_vector x ≡ name → Contains members x
+      → vertex_named name (map name_of_vector members) ≡ Some (vertex_among members x)
+  member_named rising x name is named (i, within, at) =
+      named_here (map name_of_vector members) name (name_of_vector x) i here own earlier ∙ ap Some (sym (vertex_in_rising members i x rising there))
     where
-      i : ℕ
-      i = length before
-
-      within : i < length members
-      within = omega (arith, ap length whole, length-append before (x ∷ after))
-
       there : slice_get members i ≡ Some x
-      there = slice_get_read members (length members) i x refl within (sym (ap (λ ys. get_or ys i x) whole ∙ get_or_at before x after x i refl))
+      there = slice_get_read members (length members) i x refl within (sym at)
 
       here : slice_get (map name_of_vector members) i ≡ Some (name_of_vector x)
       here = slice_get-map name_of_vector members i ∙ ap (option_map name_of_vector) there
@@ -99,16 +95,29 @@ module _ (members : List (List ℕ)) (vectors : (v : List ℕ) → Contains memb
         | inr differs ↦ differs
       ]
 
-      rest : after ≡ drop (suc i) members
-      rest = sym (ap (drop (suc i)) whole ∙ after_both before)
-        where
-          after_both : (ys : List (List ℕ)) → drop (suc (length ys)) (ys ++ x ∷ after) ≡ after
-          after_both [] = refl
-          after_both (y ∷ ys) = after_both ys
+-- what comes after a vector of a list
+after_both : (x : List ℕ) (ys after : List (List ℕ)) → drop (suc (length ys)) (ys ++ x ∷ after) ≡ after
+after_both x [] after = refl
+after_both x (y ∷ ys) after = after_both x ys after
 
-  -- what comes after a member, or none of them, by its name
-  pub after_named : IsRising members → (x name : List ℕ) (r : Option (List (List ℕ))) → IsVector x → name_of_vector x ≡ name
-      → IfSome r (λ after. ComeAfter members x after) → IfNone r (Contains members x → ⊥) → IsNameAfter members name r
-  after_named rising x name (Some after) is named (before, whole) none =
-      let both = member_named rising x name before after is named whole in (length before, both.0, both.1)
-  after_named rising x name None is named some none = no_member_named x name is named none
+-- what comes after a member is the rest behind its vertex
+pub rest_after : (members : List (List ℕ)) → IsRising members → (x : List ℕ) (after : List (List ℕ)) → ComeAfter members x after → after ≡ drop (suc (vertex_among members x)) members
+rest_after members rising x after (before, whole) =
+    let i = length before in
+    let within : i < length members = omega (arith, ap length whole, length-append before (x ∷ after)) in
+    let there : slice_get members i ≡ Some x =
+    slice_get_read members (length members) i x refl within (sym (ap (λ ys. get_or ys i x) whole ∙ get_or_at before x after x i refl)) in
+    sym (ap (λ k. drop (suc k) members) (vertex_in_rising members i x rising there) ∙ ap (drop (suc i)) whole ∙ after_both x before after)
+
+-- what comes after a member, by its name
+pub after_named : (members : List (List ℕ)) → IsRising members → (x name : List ℕ) (r : Option (List (List ℕ))) → Contains members x
+    → vertex_named name (map name_of_vector members) ≡ Some (vertex_among members x)
+    → IfSome r (λ after. ComeAfter members x after) → IfNone r (Contains members x → ⊥) → IsNameAfter members name r
+after_named members rising x name (Some after) there named comes none = (vertex_among members x, named, rest_after members rising x after comes)
+after_named members rising x name None there named comes none = absurd (none there)
+
+-- what is left after the vector at which the listing begins
+pub rest_from : (members : List (List ℕ)) → IsRising members → (x : List ℕ) (r : Option (List (List ℕ))) (rest : List (List ℕ)) → r ≡ Some rest
+    → IfSome r (λ after. ComeAfter members x after) → rest ≡ drop (suc (vertex_among members x)) members
+rest_from members rising x r rest same comes =
+    rest_after members rising x rest (subst (λ (o : Option (List (List ℕ))). IfSome o (λ after. ComeAfter members x after)) same comes)

@@ -1,5 +1,5 @@
 -- The listing of a generator's graph from its vectors, one list of arcs at a time.
-use Rattle.std.specs.Prelude.{ℕ, ◌+◌, List, [], ◌∷◌, ◌++◌, length, codes}
+use Rattle.std.specs.Prelude.{ℕ, suc, ◌+◌, Bool, true, false, Option, Some, None, List, [], ◌∷◌, ◌++◌, length, codes}
 use Rattle.std.specs.Fmt.{signed_decimal}
 use Rattle.std.specs.List.{flat_map}
 use Rattle.sgb_vec.specs.Names.{name_of_vector}
@@ -7,7 +7,9 @@ use Rattle.sgb_gen.specs.Boards.{board_vectors, moves_of_board}
 use Rattle.sgb_gen.specs.LocalLists.{LocalArc, list_at}
 use Rattle.sgb_gen.specs.Simplexes.{moves_of_simplex, simplex_vectors}
 use Rattle.sgb_gen.specs.Subsets.{moves_of_subsets, subsets_vectors}
-use Rattle.sgb.specs.Texts.{name_line}
+use Rattle.sgb_gen.specs.VectorGraphs.{vertex_among}
+use Rattle.sgb_graph.specs.Graphs.{GraphData}
+use Rattle.sgb.specs.Texts.{blocks, head, name_line}
 use Rattle.sgb.specs.declared.locals.Local.{Local}
 use Rattle.sgb.specs.declared.locals.Local.TheVariants as local
 
@@ -36,3 +38,17 @@ local_line arc =
 -- the block of a vector: its line, and those of its arcs in the order of its list
 unfoldable pub local_block : Local → List ℕ → List ℕ
 local_block l x = name_line (name_of_vector x) ++ flat_map local_line (links_of l x)
+
+-- how many first vertices have no block: those up to the vector after which the listing begins, or none
+abbrev pub start_after : List (List ℕ) → Option (List ℕ) → ℕ
+start_after vectors None = 0
+start_after vectors (Some x) = suc (vertex_among vectors x)
+
+-- the head of a graph where it is asked for, else nothing
+abbrev pub head_if : Bool → GraphData → List ℕ
+head_if true g = head g
+head_if false g = []
+
+-- the listing of a graph from vertex k on, with its head where that is asked for
+abbrev pub family_text : GraphData → Bool → ℕ → List ℕ
+family_text g headed k = head_if headed g ++ blocks g k

@@ -11,7 +11,7 @@ use std::alloc::Global;
 
 /// The accepted parameters of a generator: its vertices are known without its graph.
 #[derive(Drop)]
-pub(crate) enum Local {
+pub enum Local {
     Board(Board),
     Simplex(Simplex),
     Subsets(Subsets),
@@ -19,7 +19,7 @@ pub(crate) enum Local {
 
 impl Local {
     /// The id of the graph.
-    pub(crate) fn id(&self) -> Id
+    pub fn id(&self) -> Id
         ensures { result ≡ (described self.now).id }
     {
         match self {
@@ -32,7 +32,7 @@ impl Local {
     /// Puts the arcs of the vertex of `x` into `links`, in the order of its list in the graph.
     ///
     /// `NoRoom` when out of memory, and nothing else.
-    pub(crate) fn arcs_at(&self, x: &[u32], links: &mut Links) -> Result<(), Panic>
+    pub fn arcs_at(&self, x: &[u32], links: &mut Links) -> Result<(), Panic>
         requires { Contains (vectors_of self.now) x.now }
         ensures ok { OnOk result (links.new.arcs ≡ links_of self.now x.now) }
         ensures memory { IsOkUnless result Panic.NoRoom }
@@ -48,7 +48,7 @@ impl Local {
 /// The accepted parameters of a generator.
 ///
 /// The generator's refusal, or `NoRoom` when out of memory.
-pub(crate) fn local_of(alloc: Global, family: &Family) -> Result<Local, Panic>
+pub fn local_of(alloc: Global, family: &Family) -> Result<Local, Panic>
     ensures { IsLocalOf (family_value family.now) result }
 {
     match family {

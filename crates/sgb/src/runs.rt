@@ -15,11 +15,11 @@ ghost use Rattle.sgb.specs.Writing.{IsEnded, IsEndedFrom};
 use crate::evaluation::{graph_of, queen_moves};
 use crate::input::input_for;
 use crate::locals::{Local, local_of};
-use crate::writing::families::list_family;
 use crate::writing::files::write_file;
 use crate::writing::flips::write_flip;
 use crate::writing::listing::{write_listing, write_titled_listing};
 use crate::writing::names::write_names;
+use crate::writing::resumed::list_resumed;
 use crate::writing::vertices::write_vertex_names;
 use sgb_expr::{Expr, Family};
 use sgb_file::{Sink, Source};
@@ -177,9 +177,9 @@ fn answer_family_list<W: Sink>(
     let local = local_of(alloc, family)?;
     let mut links = Links::new(alloc);
     match &local {
-        Local::Board(board) => list_family(&local, board.family(), resume, &mut links, out),
-        Local::Simplex(simplex) => list_family(&local, simplex.family(), resume, &mut links, out),
-        Local::Subsets(subsets) => list_family(&local, subsets.family(), resume, &mut links, out),
+        Local::Board(board) => list_resumed(&local, board.family(), resume, &mut links, out),
+        Local::Simplex(simplex) => list_resumed(&local, simplex.family(), resume, &mut links, out),
+        Local::Subsets(subsets) => list_resumed(&local, subsets.family(), resume, &mut links, out),
     }
 }
 

@@ -8,6 +8,7 @@ pub(crate) mod files;
 pub(crate) mod flips;
 pub(crate) mod listing;
 pub(crate) mod names;
+pub(crate) mod resumed;
 pub(crate) mod vertices;
 
 use sgb_file::{Sink, put_all};

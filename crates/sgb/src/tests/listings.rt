@@ -1,6 +1,12 @@
 //! The listings of the graphs that generators make.
 
 use super::{Parts, answers_are, answers_have};
+use crate::locals::Local;
+use crate::writing::families::list_family;
+use sgb_file::MemSink;
+use sgb_gen::{Board, BoardParams, Links};
+use sgb_vec::Family;
+use std::alloc::Global;
 use std::test::Fail;
 
 static LISTINGS: [(&[&str], &str); 18] = [
@@ -195,4 +201,43 @@ static PARTS_OF_LISTINGS: [Parts; 11] = [
 #[test]
 fn short_names(rt: HostRuntime) -> Result<(), Fail> {
     answers_have(&rt, rt.alloc(), &PARTS_OF_LISTINGS)
+}
+
+// What `list_family` writes of a line of `n1` squares: the blocks after this vector, or all with the head where it has no
+// such vector.
+fn listed(alloc: Global, n1: i64, x: &[u32]) -> MemSink {
+    let mut out = MemSink::new(alloc);
+    let params = BoardParams {
+        n1,
+        n2: 0,
+        n3: 0,
+        n4: 0,
+        piece: 1,
+        wrap: 0,
+        directed: false,
+    };
+    let Ok(board) = Board::from_params(&params) else {
+        return out;
+    };
+    let holds = board.family().holds(x);
+    let local = Local::Board(board);
+    let mut links = Links::new(alloc);
+    let _written = if holds {
+        list_family(&local, false, Some(x), &mut links, &mut out)
+    } else {
+        list_family(&local, true, None, &mut links, &mut out)
+    };
+    out
+}
+
+#[test]
+fn listings_by_themselves(rt: HostRuntime) -> Result<(), Fail> {
+    let last = "999999998\n  -> 999999999, length 1\n  -> 999999997, length 1\n\
+        999999999\n  -> 999999998, length 1\n";
+    let whole =
+        "  The graph whose official name is\nboard(2,0,0,0,1,0,0)\n  has 2 vertices and 2 arcs:\n\n\
+        0\n  -> 1, length 1\n1\n  -> 0, length 1\n";
+    assert!(rt; listed(rt.alloc(), 1_000_000_000, &[999_999_997]).bytes() == last.as_bytes());
+    assert!(rt; listed(rt.alloc(), 2, &[2]).bytes() == whole.as_bytes());
+    Ok(())
 }

@@ -1,64 +1,105 @@
 //! The listing of a generator's graph, written from its vectors: one list of arcs after another, and no graph is built.
-ghost use Rattle.std.specs.Prelude.{◌≡◌, false, pos, Contains, IfOk, IsOkUnless};
+ghost use Rattle.std.specs.Prelude.{◌≡◌, false, pos, drop, option_map, Contains, IfOk, IfSome, IsOkUnless};
 ghost use Rattle.std.specs.List.{flat_map};
 ghost use Rattle.sgb_graph.specs.Made.{graph_described};
-ghost use Rattle.sgb.specs.Locals.{arcs_among, local_block, local_line, vectors_of};
-ghost use Rattle.sgb.specs.Outcomes.{head_for, list_answer};
+ghost use Rattle.sgb.specs.Locals.{arcs_among, family_text, head_if, local_block, local_line, start_after, vectors_of};
 ghost use Rattle.sgb.specs.Remaining.{IsRest};
 ghost use Rattle.sgb.specs.Texts.{head};
 ghost use Rattle.sgb.specs.Values.{described};
-ghost use Rattle.sgb.specs.Writing.{IsEnded, IsWritten};
+ghost use Rattle.sgb.specs.Writing.{IsWritten};
 
 use super::listing::write_head_of;
-use super::names::{remaining, write_name, write_name_line};
+use super::names::{write_name, write_name_line};
 use super::{write_bytes, write_texts};
 use crate::locals::Local;
 use itoa::Buffer;
 use sgb_file::Sink;
 use sgb_gen::Links;
-use sgb_requests::{Fault, Resume};
+use sgb_requests::Fault;
 use sgb_vec::{Family, Panic, Vectors};
 
-/// Writes the listing of a generator's graph: the head, and a block for each vertex; or, where the answer begins
-/// further on, the blocks from there. All memory that it takes is that of `links`, which holds one list after another;
-/// what it holds afterwards is open.
-///
-/// `NoVertex` where it is to begin after a name that no vertex has.
-pub(crate) fn list_family<F: Family, W: Sink>(
+/// Writes the listing of a generator's graph, one arc list after another: the head where `head` asks for it, and a
+/// block for each vertex after that of the vector `after`, or for all. No flush. All memory that it takes is that of
+/// `links`, which holds one list after another; what it holds afterwards is open.
+pub fn list_family<W: Sink>(
+    local: &Local,
+    head: bool,
+    after: Option<&[u32]>,
+    links: &mut Links,
+    out: &mut W,
+) -> Result<(), Fault>
+    requires member { IfSome after (λ x. Contains (vectors_of local.now) x.now) }
+    requires sound { W.has_failed out.old ≡ false }
+    ensures { IsWritten (family_text (graph_described (described local.now)) head (start_after (vectors_of local.now) (option_map (λ x. x.now) after.entry))) (record { before = W.written out.old; after = W.written out.new; failed = W.has_failed out.new }) result }
+{
+    match local {
+        Local::Board(board) => list_vectors(local, board.family(), head, after, links, out),
+        Local::Simplex(simplex) => list_vectors(local, simplex.family(), head, after, links, out),
+        Local::Subsets(subsets) => list_vectors(local, subsets.family(), head, after, links, out),
+    }
+}
+
+// The same where the vectors are those of the family.
+fn list_vectors<F: Family, W: Sink>(
     local: &Local,
     family: &F,
-    resume: &Resume,
+    head: bool,
+    after: Option<&[u32]>,
     links: &mut Links,
     out: &mut W,
 ) -> Result<(), Fault>
     requires members { F.members family.now ≡ vectors_of local.now }
+    requires member { IfSome after (λ x. Contains (vectors_of local.now) x.now) }
     requires sound { W.has_failed out.old ≡ false }
-    ensures { IsEnded (list_answer (graph_described (described local.now)) resume.now) (record { before = W.written out.old; after = W.written out.new; failed = W.has_failed out.new }) result }
+    ensures { IsWritten (family_text (graph_described (described local.now)) head (start_after (vectors_of local.now) (option_map (λ x. x.now) after.entry))) (record { before = W.written out.old; after = W.written out.new; failed = W.has_failed out.new }) result }
 {
-    let vectors = remaining(family, resume)?;
-    write_head_for(local, family, resume, links, out)?;
+    let vectors = vectors_after(family, after);
+    write_head_if(head, local, family, links, out)?;
     write_blocks(local, vectors, links, out)
 }
 
-// Writes the head, but where the listing is resumed. The arcs are counted first.
-fn write_head_for<F: Family, W: Sink>(
+// The vectors of the family after this member, or all.
+fn vectors_after<'a, F: Family>(family: &'a F, after: Option<&[u32]>) -> Vectors<'a, F>
+    requires { IfSome after (λ x. Contains (F.members family.now) x.now) }
+    ensures { result ≡ drop (start_after (F.members family.now) (option_map (λ x. x.now) after.entry)) (F.members family.now) }
+{
+    match after {
+        None => Vectors::all(family),
+        Some(x) => Vectors::after(family, x).unwrap(),
+    }
+}
+
+// Writes the head where it is asked for.
+fn write_head_if<F: Family, W: Sink>(
+    asked: bool,
     local: &Local,
     family: &F,
-    resume: &Resume,
     links: &mut Links,
     out: &mut W,
 ) -> Result<(), Fault>
     requires members { F.members family.now ≡ vectors_of local.now }
     requires sound { W.has_failed out.old ≡ false }
-    ensures { IsWritten (head_for resume.now (head (graph_described (described local.now)))) (record { before = W.written out.old; after = W.written out.new; failed = W.has_failed out.new }) result }
+    ensures { IsWritten (head_if asked (graph_described (described local.now))) (record { before = W.written out.old; after = W.written out.new; failed = W.has_failed out.new }) result }
 {
-    match resume {
-        Resume::Whole => {
-            let m = count_arcs(local, family, links)?;
-            write_head_of(&local.id(), family.size(), m, out)
-        }
-        Resume::Skip(_) | Resume::After(_) => Ok(()),
+    if !asked {
+        return Ok(());
     }
+    write_head(local, family, links, out)
+}
+
+// Writes the head. The arcs are counted first.
+fn write_head<F: Family, W: Sink>(
+    local: &Local,
+    family: &F,
+    links: &mut Links,
+    out: &mut W,
+) -> Result<(), Fault>
+    requires members { F.members family.now ≡ vectors_of local.now }
+    requires sound { W.has_failed out.old ≡ false }
+    ensures { IsWritten (head (graph_described (described local.now))) (record { before = W.written out.old; after = W.written out.new; failed = W.has_failed out.new }) result }
+{
+    let m = count_arcs(local, family, links)?;
+    write_head_of(&local.id(), family.size(), m, out)
 }
 
 // How many arcs the graph has: those of all vectors.

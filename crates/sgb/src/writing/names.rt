@@ -1,9 +1,9 @@
 //! The names of a family's vectors, written one a line.
-ghost use Rattle.std.specs.Prelude.{◌≡◌, false, drop, map};
+ghost use Rattle.std.specs.Prelude.{◌≡◌, false, drop, map, option_map};
 ghost use Rattle.std.specs.List.{flat_map};
 ghost use Rattle.sgb_vec.specs.Names.{name_of_vector};
 ghost use Rattle.sgb.specs.Outcomes.{names_answer};
-ghost use Rattle.sgb.specs.Remaining.{IsNameAfter, Remain};
+ghost use Rattle.sgb.specs.Remaining.{IsMemberNamed, IsNameAfter, Remain};
 ghost use Rattle.sgb.specs.Texts.{entry_text, name_line};
 ghost use Rattle.sgb.specs.Writing.{IsEnded, IsWritten};
 
@@ -11,7 +11,7 @@ use super::write_bytes;
 use itoa::Buffer;
 use sgb_file::Sink;
 use sgb_requests::{Fault, Resume};
-use sgb_vec::{Family, Vectors, vector_of};
+use sgb_vec::{Family, Vector, Vectors, vector_of};
 
 /// Writes the name lines of a family's vectors, from where the answer begins.
 ///
@@ -45,8 +45,8 @@ pub(super) fn remaining<'a, F: Family>(
     }
 }
 
-// The vectors of the family without the first `count`.
-fn without_first<F: Family>(family: &F, count: u64) -> Vectors<'_, F>
+/// The vectors of the family without the first `count`.
+pub(super) fn without_first<F: Family>(family: &F, count: u64) -> Vectors<'_, F>
     ensures { result ≡ drop count (F.members family.now) }
 {
     let mut vectors = Vectors::all(family);
@@ -58,16 +58,27 @@ fn without_first<F: Family>(family: &F, count: u64) -> Vectors<'_, F>
     vectors
 }
 
-// The vectors of the family after the one of this name. The name tells which vector that is, so none is searched for.
+// The vectors of the family after the one of this name.
 fn after_name<'a, F: Family>(family: &'a F, name: &[u8]) -> Option<Vectors<'a, F>>
     ensures { IsNameAfter (F.members family.now) name.now result }
+{
+    let vector = member_named(family, name)?;
+    Vectors::after(family, vector.as_slice())
+}
+
+/// The vector of the family that has this name. The name tells which vector that is, so none is searched for.
+pub(super) fn member_named<F: Family>(family: &F, name: &[u8]) -> Option<Vector>
+    ensures { IsMemberNamed (F.members family.now) name.now (option_map (λ vector. vector.items) result) }
 {
     let dims = family.dims();
     let vector = vector_of(name)?;
     if vector.len() != dims {
         return None;
     }
-    Vectors::after(family, vector.as_slice())
+    if !family.holds(vector.as_slice()) {
+        return None;
+    }
+    Some(vector)
 }
 
 // Writes the lines of these vectors.

@@ -1,4 +1,4 @@
-use Rattle.std.proofs.Common.{◌≡◌, ◌∙◌, sym, ap}
+use Rattle.std.proofs.Common.{◌∙◌, sym, ap}
 use Rattle.sgb_gen.specs.VectorGraphs.{family_graph}
 use Rattle.sgb.specs.Values.{described}
 use Rattle.sgb.proofs.locals.Local.id.Goals as goal

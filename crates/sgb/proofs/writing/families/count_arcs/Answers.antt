@@ -1,4 +1,4 @@
-use Rattle.std.proofs.Common.{◌≡◌, ◌∙◌, ◌+◌, ◌≤◌, ◌*◌, ◌^◌, [], ◌∷◌, length, drop, refl, sym, ap, arith}
+use Rattle.std.proofs.Common.{◌≡◌, ◌∙◌, ◌∷◌, length, drop, refl, ap, arith}
 use Rattle.std.proofs.lemmas.List.{drop-drop}
 use Rattle.sgb_vec.proofs.RangeSteps.{first_and_rest}
 use Rattle.sgb.specs.Locals.{arcs_among, links_of, vectors_of}

@@ -1,7 +1,5 @@
-use Rattle.std.proofs.Common.{◌≡◌, ◌∙◌, ◌++◌, ap, codes, decimal, pos, sym}
-use Rattle.std.specs.Fmt.{signed_decimal}
+use Rattle.std.proofs.Common.{◌≡◌, ◌∙◌, decimal, pos, sym}
 use Rattle.std.proofs.lemmas.Result.{err_from_is_err_and}
-use Rattle.sgb_vec.specs.Names.{name_of_vector}
 use Rattle.sgb.proofs.CutOff.{cut_after, cut_more, written_after}
 use Rattle.sgb.proofs.LocalListings.{line-parts}
 use Rattle.sgb.proofs.writing.families.write_arc.Goals as goal

@@ -1,10 +1,9 @@
-use Rattle.std.proofs.Common.{◌≡◌, ◌<◌, ◌++◌, ◌∙◌, Some, length, drop, pos, refl, sym, ap, arith}
-use Rattle.std.specs.List.{flat_map, slice_get}
-use Rattle.std.proofs.lemmas.List.{drop_all}
+use Rattle.std.proofs.Common.{◌≡◌, ◌∙◌, Some, pos, sym, ap}
+use Rattle.std.specs.List.{slice_get}
 use Rattle.std.proofs.lemmas.Result.{err_from_is_err_and}
 use Rattle.sgb_gen.specs.LocalLists.{LocalArc}
 use Rattle.sgb.proofs.LocalListings.{lines-first, local_block-parts}
-use Rattle.sgb_file.proofs.SoFar.{so_far-all, so_far-more, so_far-none}
+use Rattle.sgb_file.proofs.SoFar.{so_far-more, so_far-none}
 use Rattle.sgb.proofs.CutOff.{cut_more, so_far-cut}
 use Rattle.sgb.proofs.writing.families.write_block.Goals as goal
 

@@ -1,4 +1,4 @@
-use Rattle.std.proofs.Common.{◌∙◌, ap, decimal, sym}
+use Rattle.std.proofs.Common.{◌∙◌, sym}
 use Rattle.sgb.proofs.Listings.{head-parts}
 use Rattle.sgb.proofs.writing.listing.write_head_of.Goals as goal
 

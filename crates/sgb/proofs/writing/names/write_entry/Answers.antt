@@ -1,7 +1,5 @@
-use Rattle.std.proofs.Common.{◌≡◌, ◌∙◌, ◌++◌, ◌∷◌, [], decimal, ap, true, false, sym}
+use Rattle.std.proofs.Common.{◌≡◌, ◌∙◌, ◌∷◌, [], decimal, sym}
 use Rattle.std.proofs.lemmas.Result.{err_from_is_err_and}
-use Rattle.sgb.specs.Texts.{entry_text}
-use Rattle.sgb.specs.Writing.{IsWritten}
 use Rattle.sgb.proofs.CutOff.{cut_more, written_after}
 use Rattle.sgb.proofs.writing.names.write_entry.Goals as goal
 use Rattle.sgb.proofs.writing.names.write_entry.Goals.{then-dotted+in_ok-write_bytes, else-dotted}

@@ -1,0 +1,19 @@
+use Rattle.std.proofs.Common.{◌≡◌, ◌∙◌, ap, drop, option_map}
+use Rattle.std.proofs.lemmas.Result.{err_from_is_err_and}
+use Rattle.sgb.specs.Locals.{start_after, vectors_of}
+use Rattle.sgb.proofs.CutOff.{cut_more, written_after}
+use Rattle.sgb.proofs.LocalListings.{blocks_of_rest}
+use Rattle.sgb.proofs.writing.families.list_vectors.Goals as goal
+
+pub returns-in_err-write_head_if : goal.returns-in_err-write_head_if
+returns-in_err-write_head_if g c =
+    let p = err_from_is_err_and c.from_residual.result c.from_residual.ensures.1 in
+    rw (p.1, p.2) (cut_more _ _ _ _ c.in_err-write_head_if.ensures)
+
+pub returns : goal.returns
+returns g c =
+    let l = c.args.local.now in
+    let after = option_map (λ x. x.now) c.args.after in
+    let rest : c.vectors_after-vectors.result ≡ drop (start_after (vectors_of l) after) (vectors_of l) =
+    c.vectors_after-vectors.ensures ∙ ap (λ ms. drop (start_after ms after) ms) c.requires.members in
+    written_after _ _ _ _ _ _ _ c.in_ok-write_head_if.ensures.output (rw (blocks_of_rest l (start_after (vectors_of l) after) c.vectors_after-vectors.result rest) c.write_blocks.ensures)
