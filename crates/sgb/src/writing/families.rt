@@ -21,6 +21,9 @@ use sgb_vec::{Family, Panic, Vectors};
 /// Writes the listing of a generator's graph, one arc list after another: the head where `head` asks for it, and a
 /// block for each vertex after that of the vector `after`, or for all. No flush. All memory that it takes is that of
 /// `links`, which holds one list after another; what it holds afterwards is open.
+///
+/// `after` is a vector of the family. `Write` where the sink failed, `Panic(NoRoom)` when out of memory; a prefix is then
+/// written, and nothing where memory runs out while the arcs are counted.
 pub fn list_family<W: Sink>(
     local: &Local,
     head: bool,
