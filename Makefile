@@ -1,17 +1,38 @@
-# make          proves and builds the program; leaves it as ./sgb
-# make demo     that, and three small graphs
-# make check    the gate: all proofs from nothing, the must-fail edits, the tests, the program
-# make examples  turns two listings into Graphviz's DOT and into edge lists, and compares them
-# make install  puts the program into $(PREFIX)/bin, and its manual page into $(PREFIX)/share/man
+# make try        a quick look: one answer from the sources, nothing proved, about a minute
+# make            proves every crate, builds the program, leaves it as ./sgb
+# make demo       that, and three small graphs
+# make examples   tries the examples: DOT and edge lists of listings, Python, a listing in parts
+# make outside    checks the built program from outside: refused memory, failing devices, broken files, the tour
+# make check      the gate: all proofs from nothing, the must-fail edits, the tests, the program
+# make install    puts the program into $(PREFIX)/bin as sgb, and its manual page into $(PREFIX)/share/man
+# make uninstall  takes both away again
+# make clean      removes what was built, and with it what is kept of proofs
 
 PREFIX ?= /usr/local
 
+PROGRAM = crates/sgb_cli/out/sgb_cli
+
+# the crates, lowest first
+CRATES = $(shell sed -n 's/^\([a-z_]*\):.*/\1/p' crates.txt)
+
 all: sgb
 
-# `rt run` proves what the program stands on, builds it and runs it once
+try:
+	@echo "Unproved: compiled from the sources as they stand, about a minute. make proves them."
+	cd crates/sgb_cli && rt try -- names "board(2,3,0,0,1,0,0)"
+
 sgb: FORCE
-	cd crates/sgb && rt run -- names "board(1,0,0,0,1,0,0)" > /dev/null
-	ln -sf crates/sgb/out/sgb sgb
+	@echo "Proving the crates, lowest first: 12 to 30 minutes on a fresh machine, less where proofs are kept."
+	@for crate in $(CRATES); do \
+	  printf '  %-14s' $$crate; start=$$(date +%s); log=$$(mktemp); \
+	  if (cd crates/$$crate && rt check) > $$log 2>&1; \
+	  then echo "proved, $$(( $$(date +%s) - start )) s"; rm -f $$log; \
+	  else echo "failed"; cat $$log; rm -f $$log; exit 1; fi; \
+	done
+	@echo "Building the program"
+	@cd crates/sgb_cli && rt run -- names "board(1,0,0,0,1,0,0)" > /dev/null
+	@ln -sf $(PROGRAM) sgb
+	@echo "Done: ./sgb"
 
 demo: sgb
 	./sgb names "board(2,3,0,0,1,0,0)"
@@ -23,14 +44,26 @@ examples: sgb
 	./sgb list "petersen()" | awk -f examples/edges.awk | cmp - examples/petersen.tsv
 	./sgb list "board(3,3,0,0,1,1,1)" | awk -v directed=1 -f examples/dot.awk | cmp - examples/cylinder.dot
 	./sgb list "board(3,3,0,0,1,1,1)" | awk -v directed=1 -f examples/edges.awk | cmp - examples/cylinder.tsv
+	python3 examples/sgb_graph_test.py
+	examples/shards_test.sh
+
+outside: sgb
+	bench/outside.py ./sgb
 
 check:
 	bash .ci/run
 
 install: sgb
-	install -D crates/sgb/out/sgb $(DESTDIR)$(PREFIX)/bin/sgb
+	install -D $(PROGRAM) $(DESTDIR)$(PREFIX)/bin/sgb
 	install -D -m 644 man/sgb.1 $(DESTDIR)$(PREFIX)/share/man/man1/sgb.1
+
+uninstall:
+	rm -f $(DESTDIR)$(PREFIX)/bin/sgb $(DESTDIR)$(PREFIX)/share/man/man1/sgb.1
+
+clean:
+	rm -rf crates/*/out
+	rm -f sgb
 
 FORCE:
 
-.PHONY: all demo examples check install FORCE
+.PHONY: all try demo examples outside check install uninstall clean FORCE

@@ -1,13 +1,13 @@
 -- The lists of all vertices have together as many arcs as the events make.
-use Rattle.std.proofs.Common.{◌≡◌, ◌∙◌, ◌+◌, ◌<◌, ◌≤◌, ℕ, zero, suc, min, max, Bool, true, false, cond, List, [], ◌∷◌, ◌++◌, length, refl, ap, inl, inr, arith}
+use Rattle.std.proofs.Common.{◌≡◌, ◌∙◌, ◌+◌, ◌<◌, ◌≤◌, ℕ, zero, suc, Bool, true, false, cond, List, [], ◌∷◌, ◌++◌, length, refl, ap, inl, inr, arith}
 use Rattle.std.specs.Prelude.{◌==◌}
 use Rattle.std.specs.List.{All}
 use Rattle.std.proofs.lemmas.Bool.{eq-eqb, ne_eqb, cases_eq}
 use Rattle.std.proofs.lemmas.List.{length-append}
-use Rattle.std.proofs.lemmas.List.Elements.{All-cons, All-head, All-nil, All-tail}
+use Rattle.std.proofs.lemmas.List.Elements.{All-head, All-tail}
 use Rattle.sgb_graph.specs.declared.fields.Link.{Link}
-use Rattle.sgb_graph.specs.Events.{Event, IsWithin, Row, all_rows, links_at, list_from, rows_of}
-use Rattle.sgb_graph.specs.Growth.{row}
+use Rattle.sgb_graph.specs.Events.{Event, IsWithin, Record, all_records, links_at, list_from, records_of}
+use Rattle.sgb_graph.proofs.Described.{records_within}
 use Rattle.sgb_graph.proofs.EventLemmas.{list_first, list_none}
 
 -- what f adds to over the m numbers from k on
@@ -46,43 +46,31 @@ once_within s k (suc m) low high = elim (cases_eq s k) [
       omega (arith, here, once_within s (suc k) m past (omega (arith, high)))
 ]
 
--- how many of a row's arcs are on the list of v
+-- how many of a record's arcs are on the list of v
 length_of_one : (c : Bool) (link : Link) (links : List Link) → length (cond c (link ∷ []) [] ++ links) ≡ cond c 1 0 + length links
 length_of_one true link links = omega arith
 length_of_one false link links = omega arith
 
--- each row is on one list
-rows_counted : (n j : ℕ) (rows : List Row) → All (λ r. r.start < n) rows → total (λ v. length (links_at v j rows)) 0 n ≡ length rows
-rows_counted n j [] within = total-zero (λ v. 0) 0 n (λ v. refl)
-rows_counted n j (r ∷ rows) within =
-    let Within = λ (x : Row). x.start < n in
-    let inside : r.start < n = All-head Within r rows within in
+-- each record is on one list
+records_counted : (n j : ℕ) (records : List Record) → All (λ r. r.start < n) records → total (λ v. length (links_at v j records)) 0 n ≡ length records
+records_counted n j [] within = total-zero (λ v. 0) 0 n (λ v. refl)
+records_counted n j (r ∷ records) within =
+    let Within = λ (x : Record). x.start < n in
+    let inside : r.start < n = All-head Within r records within in
     let own = once_within r.start 0 n (omega arith) (omega (arith, inside)) in
-    let others = rows_counted n (j + 1) rows (All-tail Within r rows within) in
-    let split = total-plus (λ v. length (links_at v j (r ∷ rows))) (one_at r.start) (λ v. length (links_at v (j + 1) rows)) 0 n
-    (λ v. length_of_one (r.start == v) (record { number = j; tip = r.tip; len = r.len }) (links_at v (j + 1) rows)) in
+    let others = records_counted n (j + 1) records (All-tail Within r records within) in
+    let split = total-plus (λ v. length (links_at v j (r ∷ records))) (one_at r.start) (λ v. length (links_at v (j + 1) records)) 0 n
+    (λ v. length_of_one (r.start == v) (record { number = j; tip = r.tip; len = r.len }) (links_at v (j + 1) records)) in
     omega (arith, split, own, others)
 
--- the rows of an event between vertices start at them
-rows_within : (n : ℕ) (directed : Bool) (e : Event) → IsWithin n e → All (λ r. r.start < n) (rows_of directed e)
-rows_within n true e within = All-cons (λ (r : Row). r.start < n) (row e.from e.to e.len) [] within.0 (All-nil (λ (r : Row). r.start < n))
-rows_within n false e within =
-    let from = within.0 in
-    let to = within.1 in
-    let smaller : min e.from e.to < n = omega arith in
-    let greater : max e.from e.to < n = omega arith in
-    let lower = row (min e.from e.to) (max e.from e.to) e.len in
-    let higher = row (max e.from e.to) (min e.from e.to) e.len in
-    All-cons (λ (r : Row). r.start < n) lower (higher ∷ []) smaller (All-cons (λ (r : Row). r.start < n) higher [] greater (All-nil (λ (r : Row). r.start < n)))
-
 -- all lists together have the arcs of all events
-pub lists_counted : (directed : Bool) (n j : ℕ) (events : List Event) → All (IsWithin n) events → total (λ v. length (list_from directed j events v)) 0 n ≡ length (all_rows directed events)
+pub lists_counted : (directed : Bool) (n j : ℕ) (events : List Event) → All (IsWithin n) events → total (λ v. length (list_from directed j events v)) 0 n ≡ length (all_records directed events)
 lists_counted directed n j [] within = total-zero (λ v. length (list_from directed j [] v)) 0 n (λ v. ap length (list_none directed j v))
 lists_counted directed n j (e ∷ events) within =
-    let rows = rows_of directed e in
-    let k = j + length rows in
-    let split = total-plus (λ v. length (list_from directed j (e ∷ events) v)) (λ v. length (list_from directed k events v)) (λ v. length (links_at v j rows)) 0 n
-    (λ v. ap length (list_first directed j e events v) ∙ length-append (list_from directed k events v) (links_at v j rows)) in
-    let own = rows_counted n j rows (rows_within n directed e (All-head (IsWithin n) e events within)) in
+    let records = records_of directed e in
+    let k = j + length records in
+    let split = total-plus (λ v. length (list_from directed j (e ∷ events) v)) (λ v. length (list_from directed k events v)) (λ v. length (links_at v j records)) 0 n
+    (λ v. ap length (list_first directed j e events v) ∙ length-append (list_from directed k events v) (links_at v j records)) in
+    let own = records_counted n j records (records_within n directed e (All-head (IsWithin n) e events within)) in
     let others = lists_counted directed n k events (All-tail (IsWithin n) e events within) in
-    omega (arith, split, own, others, length-append rows (all_rows directed events))
+    omega (arith, split, own, others, length-append records (all_records directed events))

@@ -1,12 +1,20 @@
 -- Texts written part by part, until a part is cut off.
 use Rattle.std.proofs.Common.{◌≡◌, ◌++◌, Bool, ℕ, List, Option, Result, Ok, Err}
+use Rattle.std.specs.Result.{IsErrAnd}
+use Rattle.std.proofs.lemmas.Result.{err_from_is_err_and}
 use Rattle.std.specs.Io.KnownBytes.{Appends}
 use Rattle.std.proofs.KnownBytes.{Appends-trans}
 use Rattle.sgb_file.proofs.SoFar.{SoFar, so_far-prefix}
 use Rattle.sgb_file.proofs.WrittenPrefixes.{prefix_more, prefix_after}
-use Rattle.sgb.specs.Runs.{Change}
+use Rattle.sgb_file.specs.Devices.{Change}
 use Rattle.sgb.specs.Writing.{IsWritten, IsCutOff}
 use Rattle.sgb_requests.specs.declared.faults.Fault.{Fault}
+
+-- the exit of a `?`, where its fault cut the text off
+pub exit_cut : {T : Type 0} (text : List ℕ) (out : Change) (r : Result T Fault) (f : Fault) → IsErrAnd r (λ g. g ≡ f) → IsCutOff text out f → IsWritten text out r
+exit_cut text out r f exit cut =
+    let p = err_from_is_err_and r exit in
+    rw (p.1, p.2) cut
 
 -- a text cut off is one with more after it cut off
 pub cut_more : (xs ys : List ℕ) (out : Change) (f : Fault) → IsCutOff xs out f → IsCutOff (xs ++ ys) out f

@@ -1,41 +1,24 @@
 -- The values of entries, one after another.
 use Rattle.std.proofs.Common.{◌≡◌, ◌≤◌, ◌<◌, ◌+◌, ◌++◌, ℕ, zero, suc, Bool, Box, Global, List, [], ◌∷◌, length, get_or, Result, Ok, Err, inl, inr, refl, sym, ap, ◌∙◌, rules, arith}
-use Rattle.std.proofs.lemmas.List.{append_assoc}
 use Rattle.sgb_vec.specs.Results.{and_then}
 use Rattle.sgb_vec.specs.declared.panics.Panic.{Panic}
 use Rattle.sgb_graph.specs.Graphs.{GraphData}
 use Rattle.sgb_ops.specs.Induced.{induced_of}
 use Rattle.sgb_expr.proofs.CodeExpressions.{induced_is}
-use Rattle.sgb_expr.specs.CodeEntries.{list_of, listed}
+use Rattle.sgb_expr.specs.inner.CodeEntries.{list_of, listed}
 use Rattle.sgb_expr.specs.Expression.{entries_of, entry_of, expression_of}
 use Rattle.sgb_expr.specs.declared.entries.Entries.{Entries}
 use Rattle.sgb_expr.specs.declared.expressions.Expr.{Expr}
 use Rattle.sgb_expr.specs.declared.expressions.Expr.TheVariants as expr
 use Rattle.sgb_expr.specs.declared.entries.EntryExpr.{EntryExpr}
-use Rattle.sgb.specs.Values.{IsValue, both, handed_entries, made, value_of, values_of}
+use Rattle.sgb.specs.Values.{both, handed_entries, made, value_of, values_of}
+use Rattle.sgb.specs.inner.Values.{IsValue}
 use Rattle.sgb.specs.declared.evaluation.entries.EntryValue.{EntryValue}
 use Rattle.sgb.proofs.Values.{size_of, size_of_entries, size_of_entry}
 
 -- these values and then others
 abbrev pub and_values : {T : Type 0} → List T → Result (List T) Panic → Result (List T) Panic
 and_values done rest = and_then rest (λ others. Ok (done ++ others))
-
--- none before
-pub and_none : {T : Type 0} (rest : Result (List T) Panic) → and_values [] rest ≡ rest
-and_none (Ok others) = refl
-and_none (Err p) = refl
-
--- one more
-pub and_one_more : {T : Type 0} (done : List T) (first : Result T Panic) (x : T) (rest : Result (List T) Panic) → first ≡ Ok x
-    → and_values done (and_then (both first rest) (λ p. Ok (p.0 ∷ p.1))) ≡ and_values (done ++ x ∷ []) rest
-and_one_more done first x (Ok others) e = rw e (ap Ok (sym (append_assoc done (x ∷ []) others)))
-and_one_more done first x (Err p) e = rw e refl
-
--- a refusal, or out of memory, of the next one
-pub and_refused : {T : Type 0} (done : List T) (first : Result T Panic) (rest : Result (List T) Panic) (p : Panic) → IsValue first (Err p)
-    → IsValue (and_values done (and_then (both first rest) (λ p. Ok (p.0 ∷ p.1)))) (Err p)
-and_refused done first rest p (inl e) = inl (rw e refl)
-and_refused done first rest p (inr e) = inr e
 
 -- a list of no length
 pub length_zero : {T : Type 0} (list : List T) → length list ≡ 0 → list ≡ []

@@ -1,19 +1,37 @@
 -- The lemmas of sgb, by subject.
+-- how many arcs the lists of all vertices have
 pub mod ArcCounts
+-- texts written part by part
 pub mod CutOff
+-- the numbers that a flip draws
 pub mod DrawnNumbers
+-- what a run leaves, by how the answer ended
 pub mod Endings
+-- values of entries
 pub mod EntryValues
+-- answers of flips
 pub mod ExamplesFlips
+-- what a run leaves that reads standard input first
 pub mod InputEndings
+-- what is kept of a source
 pub mod KeptInput
+-- parts of a listing
 pub mod Listings
+-- listings from a generator's vectors
 pub mod LocalListings
+-- names of vectors, entry by entry
 pub mod NameEntries
+-- the first vertex of a name
 pub mod Named
+-- members of a family by their names
 pub mod NamedMembers
+-- what a call of the program leaves
 pub mod ProgramRuns
+-- refusals are never out of memory
 pub mod Refusals
+-- where a listing from vectors begins
 pub mod ResumedListings
+-- what answers depend on of standard input
 pub mod StdinValues
+-- values of expressions
 pub mod Values

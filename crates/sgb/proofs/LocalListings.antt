@@ -1,5 +1,5 @@
 -- The listing of a generator's graph, from its vectors.
-use Rattle.std.proofs.Common.{◌≡◌, ◌∙◌, ◌+◌, ◌<◌, ℕ, zero, suc, ℤ, Bool, List, [], ◌∷◌, ◌++◌, length, map, drop, drop-cons, add-one, get_or, Some, refl, sym, ap, ap₂, subst, arith, codes}
+use Rattle.std.proofs.Common.{◌≡◌, ◌∙◌, ◌+◌, ◌<◌, ℕ, zero, suc, ℤ, Bool, List, [], ◌∷◌, ◌++◌, length, map, drop, drop-cons, add-one, get_or, Some, Result, Ok, refl, sym, ap, ap₂, subst, arith, codes}
 use Rattle.std.specs.Fmt.{signed_decimal}
 use Rattle.std.specs.List.{All, Contains, flat_map, slice_get, slice_index_or}
 use Rattle.std.proofs.lemmas.List.{drop-drop, length-drop, length-map}
@@ -7,16 +7,17 @@ use Rattle.std.proofs.lemmas.List.Elements.{All-map}
 use Rattle.std.proofs.lemmas.Option.{get_or_from_slice_get, slice_get_read, slice_get_within}
 use Rattle.sgb_vec.specs.Lexicographic.{IsRising}
 use Rattle.sgb_vec.specs.Names.{name_of_vector}
-use Rattle.sgb_vec.specs.Rising.{box_vectors_rise, sum_vectors_rise}
+use Rattle.sgb_vec.specs.inner.Rising.{box_vectors_rise, sum_vectors_rise}
 use Rattle.sgb_graph.specs.declared.fields.Link.{Link}
-use Rattle.sgb_graph.specs.Descriptions.{IsGraphOf}
-use Rattle.sgb_graph.specs.Events.{IsWithin, all_rows, list_of}
+use Rattle.sgb_vec.specs.declared.panics.Panic.{Panic}
+use Rattle.sgb_graph.specs.Descriptions.{Description, IsGraphOf}
+use Rattle.sgb_graph.specs.Events.{IsWithin, all_records, list_of}
 use Rattle.sgb_graph.specs.Graphs.{GraphData, chain_of}
 use Rattle.sgb_graph.specs.Made.{graph_described}
-use Rattle.sgb_graph.proofs.Described.{described_is}
+use Rattle.sgb_graph.proofs.Described.{described_is, described_names}
 use Rattle.sgb_gen.specs.Boards.{board_graph, board_id, board_vectors, moves_of_board}
 use Rattle.sgb_gen.specs.LocalLists.{LocalArc, list_at, local_arc}
-use Rattle.sgb_gen.specs.Simplexes.{SimplexData, moves_of_simplex, simplex_graph, simplex_id, simplex_vectors}
+use Rattle.sgb_gen.specs.Simplexes.{moves_of_simplex, simplex_graph, simplex_id, simplex_vectors}
 use Rattle.sgb_gen.specs.Subsets.{moves_of_subsets, subsets_graph, subsets_id, subsets_vectors}
 use Rattle.sgb_gen.specs.VectorGraphs.{Move, event_among, family_graph, fields_of_vector, vertex_among}
 use Rattle.sgb_gen.proofs.BoardLists.{ends_on_board}
@@ -25,15 +26,21 @@ use Rattle.sgb_gen.proofs.RisingVectors.{vertex_in_rising}
 use Rattle.sgb_gen.proofs.SimplexLists.{ends_in_simplex}
 use Rattle.sgb_gen.proofs.SubsetsLists.{moves_have_ends}
 use Rattle.sgb_ops.specs.Operands.{names_of}
-use Rattle.sgb.specs.Locals.{arcs_among, links_of, local_block, local_line, vectors_of}
-use Rattle.sgb.specs.Remaining.{IsRest}
+use Rattle.sgb.specs.Locals.{vectors_of}
+use Rattle.sgb.specs.inner.Locals.{links_of}
+use Rattle.sgb.specs.inner.Locals.{arcs_among, local_block, local_line}
+use Rattle.sgb.specs.inner.Remaining.{IsRest}
 use Rattle.sgb.specs.Texts.{arc_line, block, blocks, head, head_text, name_line}
-use Rattle.sgb.specs.Values.{described}
+use Rattle.sgb.specs.Outcomes.{answer_from, names_answer}
+use Rattle.sgb.specs.Values.{described, made}
+use Rattle.sgb.specs.inner.Writing.{IsEnded}
+use Rattle.sgb_file.specs.Devices.{Change}
+use Rattle.sgb_requests.specs.declared.faults.Fault.{Fault}
+use Rattle.sgb_requests.specs.declared.requests.Resume.{Resume}
 use Rattle.sgb.specs.declared.locals.Local.{Local}
 use Rattle.sgb.specs.declared.locals.Local.TheVariants as local
 use Rattle.sgb.proofs.ArcCounts.{lists_counted, total}
 use Rattle.sgb.proofs.Listings.{block-parts, blocks-first, blocks-none, five}
-use Rattle.sgb.proofs.Values.{local_names}
 
 -- the name at a place, or the empty one, is that of the vector there, or of the empty one
 name_there : (vectors : List (List ℕ)) (t : ℕ) → slice_index_or (map name_of_vector vectors) t [] ≡ name_of_vector (get_or vectors t [])
@@ -123,7 +130,7 @@ events_within vectors moves rise ends =
 
 -- the arcs of all vectors are those that the events make
 counted : (l : Local) (directed : Bool) (vectors : List (List ℕ)) (moves : List Move) → IsRising vectors → All (HasEnds vectors) moves → ((x : List ℕ) → links_of l x ≡ list_at directed vectors moves x)
-    → arcs_among l vectors ≡ length (all_rows directed (map (event_among vectors) moves))
+    → arcs_among l vectors ≡ length (all_records directed (map (event_among vectors) moves))
 counted l directed vectors moves rise ends lists =
     let events = map (event_among vectors) moves in
     let count : ℕ → ℕ = λ v. length (list_of directed events v) in
@@ -151,11 +158,6 @@ lists_of_family id directed vectors moves rise ends v within =
     let count : length g.vertices ≡ length vectors = sym (length-map g.vertices (λ x. x.name)) ∙ ap length is.names ∙ names in
     is.arcs.lists v (subst (λ n. v < n) (sym count) within)
 
--- the moves of a simplex have their ends among its vectors
-ends_on_simplex : (s : SimplexData) → All (HasEnds (simplex_vectors s)) (moves_of_simplex s)
-unfolding moves_of_simplex
-ends_on_simplex s = ends_in_simplex s
-
 -- a block in parts
 pub local_block-parts : (l : Local) (x : List ℕ) (arcs : List LocalArc) → arcs ≡ links_of l x → local_block l x ≡ name_line (name_of_vector x) ++ flat_map local_line arcs
 unfolding local_block
@@ -168,25 +170,33 @@ lines-first arcs i arc there =
 
 -- the number of arcs of the graph is that of all lists together
 pub count_of_arcs : (l : Local) → arcs_among l (vectors_of l) ≡ (graph_described (described l)).m
-unfolding family_graph
+unfolding family_graph moves_of_simplex
 count_of_arcs (local.Board b) = counted (local.Board b) b.directed (board_vectors b) (moves_of_board b) (box_vectors_rise b.sizes) (ends_on_board b) (λ x. refl)
-count_of_arcs (local.Simplex s) = counted (local.Simplex s) s.directed (simplex_vectors s) (moves_of_simplex s) (sum_vectors_rise s.sum) (ends_on_simplex s) (λ x. refl)
+count_of_arcs (local.Simplex s) = counted (local.Simplex s) s.directed (simplex_vectors s) (moves_of_simplex s) (sum_vectors_rise s.sum) (ends_in_simplex s) (λ x. refl)
 count_of_arcs (local.Subsets s) = counted (local.Subsets s) s.directed (subsets_vectors s) (moves_of_subsets s) (sum_vectors_rise s.sum) (moves_have_ends s) (λ x. refl)
 
 -- the vertices have the names of the vectors
 named_by_vectors : (l : Local) → names_of (graph_described (described l)) ≡ map name_of_vector (vectors_of l)
 unfolding family_graph
-named_by_vectors (local.Board b) = local_names (local.Board b)
-named_by_vectors (local.Simplex s) = local_names (local.Simplex s)
-named_by_vectors (local.Subsets s) = local_names (local.Subsets s)
+named_by_vectors (local.Board b) = described_names (board_graph b) (named_vectors (board_vectors b))
+named_by_vectors (local.Simplex s) = described_names (simplex_graph s) (named_vectors (simplex_vectors s))
+named_by_vectors (local.Subsets s) = described_names (subsets_graph s) (named_vectors (subsets_vectors s))
 
 -- or of the members of a family that has those vectors
 pub named_by_members : (l : Local) (members : List (List ℕ)) → members ≡ vectors_of l → names_of (graph_described (described l)) ≡ map name_of_vector members
 named_by_members l members same = named_by_vectors l ∙ ap (map name_of_vector) (sym same)
 
+-- the names of a generator's vertices, from the members of its family
+pub named_local : {T : Type 0} (v : Result Description Panic) (l : Local) (members : List (List ℕ)) (resume : Resume) (out : Change) (r : Result T Fault)
+    → v ≡ Ok (described l) → members ≡ vectors_of l → IsEnded (names_answer (map name_of_vector members) resume) out r
+    → IsEnded (answer_from (made v) (λ g. names_answer (names_of g) resume)) out r
+named_local {T = T} v l members resume out r e same p =
+    subst (λ (u : Result Description Panic). IsEnded {T = T} (answer_from (made u) (λ g. names_answer (names_of g) resume)) out r) (sym e)
+    (subst (λ (ns : List (List ℕ)). IsEnded {T = T} (names_answer ns resume) out r) (sym (named_by_members l members same)) p)
+
 -- the block of a vertex is that of its vector
 block_of_vector : (l : Local) (v : ℕ) (x : List ℕ) → slice_get (vectors_of l) v ≡ Some x → block (graph_described (described l)) v ≡ local_block l x
-unfolding local_block
+unfolding local_block moves_of_simplex
 block_of_vector (local.Board b) v x there =
     let rise = box_vectors_rise b.sizes in
     block_there b.directed (board_vectors b) (moves_of_board b) rise (graph_described (board_graph b)) (named_by_vectors (local.Board b))
@@ -194,17 +204,17 @@ block_of_vector (local.Board b) v x there =
 block_of_vector (local.Simplex s) v x there =
     let rise = sum_vectors_rise s.sum in
     block_there s.directed (simplex_vectors s) (moves_of_simplex s) rise (graph_described (simplex_graph s)) (named_by_vectors (local.Simplex s))
-    (lists_of_family (simplex_id s) s.directed (simplex_vectors s) (moves_of_simplex s) rise (ends_on_simplex s)) v x there
+    (lists_of_family (simplex_id s) s.directed (simplex_vectors s) (moves_of_simplex s) rise (ends_in_simplex s)) v x there
 block_of_vector (local.Subsets s) v x there =
     let rise = sum_vectors_rise s.sum in
     block_there s.directed (subsets_vectors s) (moves_of_subsets s) rise (graph_described (subsets_graph s)) (named_by_vectors (local.Subsets s))
     (lists_of_family (subsets_id s) s.directed (subsets_vectors s) (moves_of_subsets s) rise (moves_have_ends s)) v x there
 
 -- the head of the graph
-pub head_of_local : (l : Local) (n m : ℕ) → n ≡ length (vectors_of l) → m ≡ arcs_among l (vectors_of l) → head (graph_described (described l)) ≡ head_text (described l).id n m
+pub head_of_local : (l : Local) (n m : ℕ) → n ≡ length (vectors_of l) → m ≡ (graph_described (described l)).m → head (graph_described (described l)) ≡ head_text (described l).id n m
 head_of_local l n m size arcs =
     let names : length (names_of (graph_described (described l))) ≡ n = ap length (named_by_vectors l) ∙ length-map (vectors_of l) name_of_vector ∙ sym size in
-    ap₂ (λ i j. head_text (described l).id i j) names (sym (count_of_arcs l) ∙ sym arcs)
+    ap₂ (λ i j. head_text (described l).id i j) names (sym arcs)
 
 -- the blocks from a vertex on are those of the vectors that are left
 pub blocks_of_rest : (l : Local) (k : ℕ) (rest : List (List ℕ)) → rest ≡ drop k (vectors_of l) → blocks (graph_described (described l)) k ≡ flat_map (local_block l) rest

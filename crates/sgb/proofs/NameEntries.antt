@@ -3,7 +3,7 @@ use Rattle.std.proofs.Common.{◌≡◌, ◌∙◌, ◌+◌, ◌<◌, ◌≤◌,
 use Rattle.std.specs.List.{join_with_byte}
 use Rattle.std.proofs.lemmas.List.{drop_all}
 use Rattle.sgb_vec.specs.Names.{name_of_vector}
-use Rattle.sgb.specs.Texts.{entry_text}
+use Rattle.sgb.specs.inner.Texts.{entry_text}
 
 -- the texts of entries, the first after a dot or not, the others each after a dot
 abbrev pub entries_text : Bool → List ℕ → List ℕ

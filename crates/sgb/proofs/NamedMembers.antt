@@ -17,7 +17,7 @@ use Rattle.sgb_gen.specs.VectorGraphs.{vertex_among}
 use Rattle.sgb_gen.proofs.RisingVectors.{vertex_in_rising}
 use Rattle.sgb.specs.Outcomes.{vertex_named}
 use Rattle.sgb.specs.Texts.{name_line, name_lines}
-use Rattle.sgb.specs.Remaining.{IsNameAfter}
+use Rattle.sgb.specs.inner.Remaining.{IsNameAfter}
 use Rattle.sgb.proofs.Named.{NoneBefore, has_name, named_here, named_nowhere}
 
 -- vectors of the same name are the same
@@ -39,34 +39,27 @@ module _ (members : List (List ℕ)) (vectors : (v : List ℕ) → Contains memb
   member_at : (k : ℕ) → k < length members → Contains members (get_or members k [])
   member_at k within = (k, within, get_or_default members k (get_or members k []) [] within)
 
-  -- where no vector at all has the name, no member has it
-  pub no_vector_named : (name : List ℕ) → ((v : List ℕ) → IsVector v → name_of_vector v ≢ name) → vertex_named name (map name_of_vector members) ≡ None
-  no_vector_named name none = named_nowhere (map name_of_vector members) name (length (map name_of_vector members)) refl other
+  -- a name that no member has
+  none_named : (name : List ℕ) → ((y : List ℕ) → Contains members y → name_of_vector y ≢ name) → vertex_named name (map name_of_vector members) ≡ None
+  none_named name none = named_nowhere (map name_of_vector members) name (length (map name_of_vector members)) refl other
     where
       other : NoneBefore (map name_of_vector members) name (length (map name_of_vector members))
       other k h = elim (cases_Bool (has_name name (get_or (map name_of_vector members) k []))) [
         | inl same ↦
             let within : k < length members = omega (arith, length-map members name_of_vector) in
             let equal : get_or (map name_of_vector members) k [] ≡ name = (bytes_decides (get_or (map name_of_vector members) k []) name).0 same in
-            absurd (none (get_or members k []) (vectors (get_or members k []) (member_at k within)) (sym (name_at k within) ∙ equal))
+            absurd (none (get_or members k []) (member_at k within) (sym (name_at k within) ∙ equal))
         | inr differs ↦ differs
       ]
 
+  -- where no vector at all has the name, no member has it
+  pub no_vector_named : (name : List ℕ) → ((v : List ℕ) → IsVector v → name_of_vector v ≢ name) → vertex_named name (map name_of_vector members) ≡ None
+  no_vector_named name none = none_named name (λ y there. none y (vectors y there))
+
   -- the name of a vector that is no member is that of no member
   pub no_member_named : (x name : List ℕ) → IsVector x → name_of_vector x ≡ name → (Contains members x → ⊥) → vertex_named name (map name_of_vector members) ≡ None
-  no_member_named x name is named stranger = named_nowhere (map name_of_vector members) name (length (map name_of_vector members)) refl other
-    where
-      other : NoneBefore (map name_of_vector members) name (length (map name_of_vector members))
-      other k h = elim (cases_Bool (has_name name (get_or (map name_of_vector members) k []))) [
-        | inl same ↦
-            let within : k < length members = omega (arith, length-map members name_of_vector) in
-            let equal : get_or (map name_of_vector members) k [] ≡ name = (bytes_decides (get_or (map name_of_vector members) k []) name).0 same in
-            let y = get_or members k [] in
-            let there = member_at k within in
-            let alike : y ≡ x = one_name y x (vectors y there) is (sym (name_at k within) ∙ (equal ∙ sym named)) in
-            absurd (stranger (subst (Contains members) alike there))
-        | inr differs ↦ differs
-      ]
+  no_member_named x name is named stranger =
+      none_named name (λ y there same. stranger (subst (Contains members) (one_name y x (vectors y there) is (same ∙ sym named)) there))
 
   -- the name of a member is that of its vertex first
   pub member_named : IsRising members → (x name : List ℕ) → IsVector x → name_of_vector x ≡ name → Contains members x

@@ -1,9 +1,10 @@
 -- What a call of the program leaves, by what its words are read as.
 use Rattle.std.proofs.Common.{◌≡◌, ℕ, List, MatchResult, Result, Ok, Err, inl, inr, subst}
 use Rattle.std.specs.declared.io.ErrorKind.{ErrorKind}
+use Rattle.sgb_file.specs.Devices.{Change}
 use Rattle.sgb.specs.Program.{IsProgramRun, unread_fault}
 use Rattle.sgb_requests.specs.Requests.{IsCommandLineReadAs}
-use Rattle.sgb.specs.Runs.{Change, Input, IsReported, IsRunOn}
+use Rattle.sgb.specs.Runs.{Input, IsReported, IsRunOn}
 use Rattle.sgb_requests.specs.declared.faults.Fault.{Fault}
 use Rattle.sgb_requests.specs.declared.requests.Request.{Request}
 

@@ -9,7 +9,7 @@ use Rattle.sgb_vec.specs.Results.{and_then}
 use Rattle.sgb_vec.specs.Sizes.{before_stop, board_by_stop, board_of, stop_of}
 use Rattle.sgb_vec.specs.Sums.{sum_of}
 use Rattle.sgb_vec.specs.declared.panics.Panic.{Panic}
-use Rattle.sgb_vec.specs.declared.panics.Panic.TheVariants.{Bad, Early, Invalid, Late, NoRoom, Syntax, VeryBad}
+use Rattle.sgb_vec.specs.declared.panics.Panic.TheVariants.{Bad, Invalid, NoRoom, Syntax, VeryBad}
 use Rattle.sgb_graph.specs.Graphs.{GraphData}
 use Rattle.sgb_gen.specs.Boards.{accepted_board, board}
 use Rattle.sgb_gen.specs.Simplexes.{accepted_simplex, simplex}
@@ -28,9 +28,9 @@ use Rattle.sgb_ops.specs.Wheel.{accepted_middle, wheel_of, with_wheel_id}
 use Rattle.sgb_ops.specs.declared.entries.Entry.{Entry}
 use Rattle.sgb_ops.specs.declared.entries.Entry.TheVariants as entry
 use Rattle.sgb_graph.specs.Made.{graph_described}
-use Rattle.sgb_expr.specs.Expression.{Expression, Family, Complement, Gunion, Intersection, Lines, Product, Induced, BiComplete, Wheel, Stdin, Entries, NoEntries, EntryThen, Number, Graph, expression_of}
-use Rattle.sgb_expr.specs.declared.expressions.Family.{Family as Generator}
-use Rattle.sgb_expr.specs.declared.expressions.Family.TheVariants as family
+use Rattle.sgb_expr.specs.Expression.{Expression, Generated, Complement, Gunion, Intersection, Lines, Product, Induced, BiComplete, Wheel, Stdin, Entries, NoEntries, EntryThen, Number, Graph, expression_of}
+use Rattle.sgb_expr.specs.declared.expressions.Generator.{Generator}
+use Rattle.sgb_expr.specs.declared.expressions.Generator.TheVariants as generator
 use Rattle.sgb_expr.specs.declared.flips.FlipParams.{FlipParams}
 use Rattle.sgb_graph.specs.Draws.{modulus}
 use Rattle.sgb.specs.FlipAnswers.{accepted_draws, answer_of_draws, flip_answer, most_draws, number_within}
@@ -39,7 +39,7 @@ use Rattle.sgb_file.specs.Fields.{Found}
 use Rattle.sgb_file.specs.FileLines.{clean_lines}
 use Rattle.sgb_file.specs.Restoring.{Opening, closes, graph_after, graph_at_end, graph_of_opening, graph_of_records, graph_of_text, opening_of}
 use Rattle.sgb_graph.specs.Sound.{is_sound}
-use Rattle.sgb.specs.Values.{both, family_value, handed_entries, stdin_value, value_of, values_of}
+use Rattle.sgb.specs.Values.{both, generator_value, handed_entries, stdin_value, value_of, values_of}
 use Rattle.sgb_requests.specs.declared.faults.Fault.{Fault}
 use Rattle.sgb_requests.specs.declared.faults.Fault.TheVariants as fault
 use Rattle.sgb_requests.specs.declared.requests.Request.{Request}
@@ -58,29 +58,11 @@ IsJudged r = r ≢ Err NoRoom
 accepted : {T : Type 0} (x : T) → IsJudged (Ok x)
 accepted x e = cc
 
--- refused with code 10
-refused_early : {T : Type 0} → IsJudged {T = T} (Err Early)
-refused_early e = cc
-
--- refused with code 11
-refused_late : {T : Type 0} → IsJudged {T = T} (Err Late)
-refused_late e = cc
-
--- refused with code 20
-refused_syntax : {T : Type 0} → IsJudged {T = T} (Err Syntax)
-refused_syntax e = cc
-
--- refused with code 30
-refused_bad : {T : Type 0} → IsJudged {T = T} (Err Bad)
-refused_bad e = cc
-
--- refused with code 40
-refused_very_bad : {T : Type 0} → IsJudged {T = T} (Err VeryBad)
-refused_very_bad e = cc
-
--- refused with code 60
-refused_invalid : {T : Type 0} → IsJudged {T = T} (Err Invalid)
-refused_invalid e = cc
+-- refused with another code
+refused : {T : Type 0} (p : Panic) → p ≢ NoRoom → IsJudged {T = T} (Err p)
+refused p other e =
+    let same : p ≡ NoRoom = cc in
+    other same
 
 -- one or the other
 either : {T : Type 0} (b : Bool) (r s : Result T Panic) → IsJudged r → IsJudged s → IsJudged (cond b r s)
@@ -102,21 +84,21 @@ board_of_judged n1 n2 n3 n4 =
   where
     by_stop : (entries : List ℤ) (s : List ℕ) (e : ℤ) → IsJudged (board_by_stop entries s e)
     by_stop entries [] e = accepted _
-    by_stop entries (n ∷ s) e = either _ _ _ refused_bad (either _ _ _ refused_very_bad (accepted _))
+    by_stop entries (n ∷ s) e = either _ _ _ (refused Bad (λ e. cc)) (either _ _ _ (refused VeryBad (λ e. cc)) (accepted _))
 
 -- their box
 box_of_judged : (sizes : List ℕ) → IsJudged (box_of sizes)
-box_of_judged sizes = either _ _ _ refused_bad (either _ _ _ refused_very_bad (accepted _))
+box_of_judged sizes = either _ _ _ (refused Bad (λ e. cc)) (either _ _ _ (refused VeryBad (λ e. cc)) (accepted _))
 
 -- the bounds of a simplex
 simplex_of_judged : (n n0 n1 n2 n3 n4 : ℤ) → IsJudged (simplex_of n n0 n1 n2 n3 n4)
-simplex_of_judged (negsuc n) n0 n1 n2 n3 n4 = refused_bad
-simplex_of_judged (pos n) n0 n1 n2 n3 n4 = either _ _ _ refused_bad (either _ _ _ refused_very_bad (accepted _))
+simplex_of_judged (negsuc n) n0 n1 n2 n3 n4 = λ e. cc
+simplex_of_judged (pos n) n0 n1 n2 n3 n4 = either _ _ _ (refused Bad (λ e. cc)) (either _ _ _ (refused VeryBad (λ e. cc)) (accepted _))
 
 -- their sum
 sum_of_judged : (n : ℤ) (bounds : List ℕ) → IsJudged (sum_of n bounds)
-sum_of_judged (negsuc n) bounds = refused_bad
-sum_of_judged (pos n) bounds = either _ _ _ refused_very_bad (either _ _ _ refused_very_bad (accepted _))
+sum_of_judged (negsuc n) bounds = λ e. cc
+sum_of_judged (pos n) bounds = either _ _ _ (refused VeryBad (λ e. cc)) (either _ _ _ (refused VeryBad (λ e. cc)) (accepted _))
 
 -- a board
 board_judged : (p : BoardParams) → IsJudged (board p)
@@ -124,7 +106,7 @@ board_judged p =
     let accepted_judged : IsJudged (accepted_board p) =
     after _ _ (board_of_judged p.n1 p.n2 p.n3 p.n4) (λ shape.
     after _ _ (box_of_judged shape.sizes) (λ sizes.
-    after _ _ (either _ _ _ refused_very_bad (accepted _)) (λ piece. accepted _))) in
+    after _ _ (either _ _ _ (refused VeryBad (λ e. cc)) (accepted _)) (λ piece. accepted _))) in
     after _ _ accepted_judged (λ b. accepted _)
 
 -- a simplex
@@ -142,17 +124,17 @@ subsets_judged p =
     after _ _ accepted_judged (λ s. accepted _)
 
 -- a graph of a generator
-family_judged : (f : Generator) → IsJudged (family_value f)
-family_judged (family.Board p) = board_judged p
-family_judged (family.Simplex p) = simplex_judged p
-family_judged (family.Subsets p) = subsets_judged p
+generator_judged : (f : Generator) → IsJudged (generator_value f)
+generator_judged (generator.Board p) = board_judged p
+generator_judged (generator.Simplex p) = simplex_judged p
+generator_judged (generator.Subsets p) = subsets_judged p
 
 -- the entries of an induced graph
 entries_judged : (n : ℕ) (entries : List Entry) → IsJudged (accepted_entries n entries)
 entries_judged n entries =
-    either (not (length entries == n)) _ _ refused_bad
-    (either (list_any is_unnumbered entries) _ _ refused_bad
-    (either (list_any is_too_great entries || nat_lt most_vertices (total_of entries)) _ _ refused_very_bad (accepted entries)))
+    either (not (length entries == n)) _ _ (refused Bad (λ e. cc))
+    (either (list_any is_unnumbered entries) _ _ (refused Bad (λ e. cc))
+    (either (list_any is_too_great entries || nat_lt most_vertices (total_of entries)) _ _ (refused VeryBad (λ e. cc)) (accepted entries)))
 
 -- an induced graph
 induced_judged : (g : GraphData) (entries : List Entry) (self multi directed : Bool) → IsJudged (induced_of g entries self multi directed)
@@ -163,12 +145,12 @@ lines_judged : (g : GraphData) (directed : Bool) → IsJudged (line_graph_of g d
 lines_judged g directed =
     let lines = lines_of_graph g directed in
     after (accepted_lines g directed lines) _
-    (either (not directed && not (is_of_edges g lines)) _ _ refused_invalid (either (nat_lt most_vertices (length lines)) _ _ refused_very_bad (accepted lines)))
+    (either (not directed && not (is_of_edges g lines)) _ _ (refused Invalid (λ e. cc)) (either (nat_lt most_vertices (length lines)) _ _ (refused VeryBad (λ e. cc)) (accepted lines)))
     (λ ls. accepted _)
 
 -- a product
 product_judged : (g h : GraphData) (kind : ℤ) (directed : Bool) → IsJudged (product_graph_of g h kind directed)
-product_judged g h kind directed = either _ _ _ refused_very_bad (accepted _)
+product_judged g h kind directed = either _ _ _ (refused VeryBad (λ e. cc)) (accepted _)
 
 -- a complete bipartite graph
 bi_complete_judged : (n1 n2 : ℤ) (directed : Bool) → IsJudged (bi_complete_of n1 n2 directed)
@@ -178,9 +160,9 @@ bi_complete_judged n1 n2 directed =
     after _ _ (induced_judged (graph_described pair) entries false false directed) (λ d. accepted (with_parts n1 n2 directed d))))
   where
     parts : (n1 n2 : ℤ) → IsJudged (accepted_parts n1 n2)
-    parts (negsuc n1) n2 = refused_bad
-    parts (pos n1) (negsuc n2) = refused_bad
-    parts (pos n1) (pos n2) = either _ _ _ refused_very_bad (accepted _)
+    parts (negsuc n1) n2 = λ e. cc
+    parts (pos n1) (negsuc n2) = λ e. cc
+    parts (pos n1) (pos n2) = either _ _ _ (refused VeryBad (λ e. cc)) (accepted _)
 
 -- a wheel
 wheel_judged : (n n1 : ℤ) (directed : Bool) → IsJudged (wheel_of n n1 directed)
@@ -191,30 +173,30 @@ wheel_judged n n1 directed =
     after _ _ (induced_judged (graph_described pair) (centre ∷ entry.Graph (graph_described rim) ∷ []) false false directed) (λ d. accepted (with_wheel_id n n1 directed d)))))
   where
     middle : (n1 : ℤ) → IsJudged (accepted_middle n1)
-    middle (negsuc n1) = refused_bad
-    middle (pos n1) = either _ _ _ refused_very_bad (accepted _)
+    middle (negsuc n1) = λ e. cc
+    middle (pos n1) = either _ _ _ (refused VeryBad (λ e. cc)) (accepted _)
 
 -- a text of a file
 text_judged : (text : List ℕ) → IsJudged (graph_of_text text)
 text_judged text = of_opening (opening_of (clean_lines text))
   where
     at_end : (ends sound : Bool) (g : GraphData) → IsJudged (graph_at_end ends sound g)
-    at_end false sound g = refused_late
-    at_end true false g = refused_syntax
+    at_end false sound g = λ e. cc
+    at_end true false g = λ e. cc
     at_end true true g = accepted _
 
     of_records : (opening : Opening) (records : Option (Found GraphData)) → IsJudged (graph_after opening records)
-    of_records opening None = refused_syntax
+    of_records opening None = λ e. cc
     of_records opening (Some found) = at_end (closes opening found.rest) (is_sound found.value) found.value
 
     of_opening : (opening : Option Opening) → IsJudged (graph_of_opening opening)
-    of_opening None = refused_early
+    of_opening None = λ e. cc
     of_opening (Some opening) = of_records opening (graph_of_records opening)
 
 -- standard input
 stdin_judged : (input : List ℕ) → IsJudged (stdin_value input)
 unfolding stdin_value
-stdin_judged input = either _ _ _ (text_judged input) refused_syntax
+stdin_judged input = either _ _ _ (text_judged input) (refused Syntax (λ e. cc))
 
 -- two values
 both_judged : {T U : Type 0} (r : Result T Panic) (s : Result U Panic) → IsJudged r → IsJudged s → IsJudged (both r s)
@@ -223,7 +205,7 @@ both_judged r s p q = after r _ p (λ x. after s _ q (λ y. accepted _))
 mutual
   -- an expression
   value_judged : (input : List ℕ) (e : Expression) → IsJudged (value_of input e)
-  value_judged input (Family f) = after (family_value f) _ (family_judged f) (λ d. accepted _)
+  value_judged input (Generated f) = after (generator_value f) _ (generator_judged f) (λ d. accepted _)
   value_judged input (Complement e copy self_loops directed) = after _ _ (value_judged input e) (λ g. accepted _)
   value_judged input (Gunion e f multi directed) = after _ _ (both_judged _ _ (value_judged input e) (value_judged input f)) (λ operands. accepted _)
   value_judged input (Intersection e f multi directed) = after _ _ (both_judged _ _ (value_judged input e) (value_judged input f)) (λ operands. accepted _)
@@ -248,8 +230,8 @@ mutual
 
 -- an integer within its range
 within_judged : (greatest : ℕ) (i : ℤ) → IsJudged (number_within greatest i)
-within_judged greatest (pos n) = either _ _ _ (accepted _) refused_bad
-within_judged greatest (negsuc n) = refused_bad
+within_judged greatest (pos n) = either _ _ _ (accepted _) (refused Bad (λ e. cc))
+within_judged greatest (negsuc n) = λ e. cc
 
 -- the draws of a flip
 draws_judged : (p : FlipParams) → IsJudged (accepted_draws p)

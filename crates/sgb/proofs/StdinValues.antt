@@ -1,7 +1,7 @@
 -- What standard input is read for: answers depend on it only through the graph that it is a file of, and only where a request
 -- reads it.
 use Rattle.std.proofs.Common.{◌≡◌, ◌<◌, ◌+◌, ℕ, true, false, cond, inl, inr, nat_le, List, ◌∷◌, length, take, Option, Some, None, IfSome, Result, Ok, Err, refl, sym, ap, ap₂, subst, ◌∙◌, arith}
-use Rattle.std.proofs.lemmas.Bool.{cases_Bool, cond-false, cond-true, leb-true, leb-false, lt-leb, or_left, or_right}
+use Rattle.std.proofs.lemmas.Bool.{both_ways, cases_Bool, cond-false, cond-true, leb-true, leb-false, lt-leb, or_left, or_right}
 use Rattle.std.proofs.lemmas.List.{length-take-le, take_all}
 use Rattle.sgb_vec.specs.Results.{and_then}
 use Rattle.sgb_vec.specs.declared.panics.Panic.{Panic}
@@ -15,14 +15,16 @@ use Rattle.sgb_ops.specs.Lines.{line_graph_of}
 use Rattle.sgb_ops.specs.Product.{product_graph_of}
 use Rattle.sgb_ops.specs.Induced.{induced_of}
 use Rattle.sgb_ops.specs.Operands.{names_of}
-use Rattle.sgb_expr.specs.Expression.{Expression, Family, Complement, Gunion, Intersection, Lines, Product, Induced, BiComplete, Wheel, Stdin, Entry, Number, Graph, Entries, NoEntries, EntryThen, expression_of}
+use Rattle.sgb_expr.specs.Expression.{Expression, Generated, Complement, Gunion, Intersection, Lines, Product, Induced, BiComplete, Wheel, Stdin, Entry, Number, Graph, Entries, NoEntries, EntryThen, expression_of}
 use Rattle.sgb_expr.specs.StdinUses.{entries_have_stdin, entry_has_stdin, has_stdin}
 use Rattle.sgb_file.specs.Reading.{IsReadOf}
 use Rattle.sgb_file.specs.Saving.{text_of_graph}
-use Rattle.sgb.specs.Inputs.{IsKept}
+use Rattle.sgb_file.specs.Devices.{Change}
+use Rattle.sgb.specs.inner.Inputs.{IsKept}
 use Rattle.sgb.specs.Outcomes.{answer_from, answer_of, list_answer, names_answer, outcome_of, reads_input}
-use Rattle.sgb.specs.Runs.{Change, Input, IsRunFrom, IsRunOn, fails_to_read}
-use Rattle.sgb.specs.Values.{IsValue, both, entry_value, handed_entries, made, most_input, stdin_value, value_of, values_of}
+use Rattle.sgb.specs.Runs.{Input, IsRunFrom, IsRunOn, fails_to_read}
+use Rattle.sgb.specs.Values.{both, entry_value, handed_entries, made, most_input, stdin_value, value_of, values_of}
+use Rattle.sgb.specs.inner.Values.{IsValue}
 use Rattle.sgb.specs.declared.evaluation.entries.EntryValue.TheVariants as value
 use Rattle.sgb_requests.specs.declared.requests.Request.{Request}
 use Rattle.sgb_requests.specs.declared.requests.Request.TheVariants as request
@@ -76,7 +78,7 @@ both_same p p' q q' e f = ap₂ (λ x y. both x y) e f
 mutual
   -- the graph of an expression, on two texts that are files of the same graph, or where it does not read
   value_same : (a b : List ℕ) (e : Expression) → (has_stdin e ≡ true → stdin_value a ≡ stdin_value b) → value_of a e ≡ value_of b e
-  value_same a b (Family f) same = refl
+  value_same a b (Generated f) same = refl
   value_same a b (Complement e copy self_loops directed) same =
       ap (λ v. and_then v (λ g. made (complement_of g copy self_loops directed))) (value_same a b e same)
   value_same a b (Gunion e f multi directed) same =
@@ -112,19 +114,18 @@ answer_same (request.Save e) a b same = ap (λ v. answer_from v (λ g. Ok (text_
 answer_same request.Queen a b same = refl
 answer_same (request.Flip p) a b same = refl
 
+-- a request that reads no input has the same answer on every input
+pub answer_unread : (r : Request) (a b : List ℕ) → reads_input r ≡ false → answer_of r a ≡ answer_of r b
+answer_unread r a b unread = answer_same r a b (λ reads. absurd (both_ways (reads_input r) unread reads))
+
 -- what is kept of standard input is as good as all of it
 pub run_on : (r : Request) (source : Input) (kept : List ℕ) (out err : Change) (status : ℕ) → (reads_input r ≡ true → IsKept source.bytes kept)
     → IsRunFrom (fails_to_read r source) (outcome_of (answer_of r kept)) out err status → IsRunOn r source out err status
 run_on r source kept out err status is run = by_told source.bytes is
   where
-    on : (input : List ℕ) → (reads_input r ≡ true → stdin_value kept ≡ stdin_value input)
-        → IsRunFrom (fails_to_read r source) (outcome_of (answer_of r input)) out err status
-    on input same = subst (λ a. IsRunFrom (fails_to_read r source) (outcome_of a) out err status) (answer_same r kept input same) run
-
     by_told : (told : Option (List ℕ)) → (reads_input r ≡ true → IsKept told kept)
-        → (held : List ℕ) × IfSome told (λ bytes. held ≡ bytes)
-        × ((input : List ℕ) → (reads_input r ≡ true → input ≡ held)
-        → IsRunFrom (fails_to_read r source) (outcome_of (answer_of r input)) out err status)
-    by_told None is = (kept, tt, λ input same. on input (λ reads. ap stdin_value (sym (same reads))))
+        → (held : List ℕ) × IfSome told (λ bytes. held ≡ bytes) × IsRunFrom (fails_to_read r source) (outcome_of (answer_of r held)) out err status
+    by_told None is = (kept, tt, run)
     by_told (Some bytes) is =
-        (bytes, refl, λ input same. on input (λ reads. ap stdin_value (is reads) ∙ stdin_cut bytes ∙ ap stdin_value (sym (same reads))))
+        let same = answer_same r kept bytes (λ reads. ap stdin_value (is reads) ∙ stdin_cut bytes) in
+        (bytes, refl, subst (λ a. IsRunFrom (fails_to_read r source) (outcome_of a) out err status) same run)

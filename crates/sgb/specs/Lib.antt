@@ -1,11 +1,21 @@
 -- What the contracts of sgb speak of.
+-- random numbers
 pub mod FlipAnswers
+-- what is taken from standard input
 pub mod Inputs
+-- the answers of requests
 pub mod Outcomes
+-- calls of the program
 pub mod Program
-pub mod Remaining
+-- what a run leaves
 pub mod Runs
+-- names and listings of graphs
 pub mod Texts
+-- the graphs of expressions
 pub mod Values
+-- listings from a generator's vectors
 pub mod Locals
+-- what writing a text leaves
 pub mod Writing
+-- what no public contract needs
+pub mod inner

@@ -5,9 +5,9 @@ use Rattle.std.specs.Cmp.Lexicographic.{pointwise}
 use Rattle.sgb_vec.specs.declared.panics.Panic.{Panic}
 use Rattle.sgb_graph.specs.Graphs.{GraphData}
 use Rattle.sgb_ops.specs.Operands.{names_of}
-use Rattle.sgb_expr.specs.Expression.{Expression, Family, Gunion, expression_of}
-use Rattle.sgb_expr.specs.declared.expressions.Family.{Family as Generator}
-use Rattle.sgb_expr.specs.declared.expressions.Family.TheVariants as family
+use Rattle.sgb_expr.specs.Expression.{Expression, Generated, Gunion, expression_of}
+use Rattle.sgb_expr.specs.declared.expressions.Generator.{Generator}
+use Rattle.sgb_expr.specs.declared.expressions.Generator.TheVariants as generator
 use Rattle.sgb_expr.specs.StdinUses.{has_stdin}
 use Rattle.sgb_file.specs.Saving.{text_of_graph}
 use Rattle.sgb_requests.specs.Faults.{status_of, line_of}
@@ -63,11 +63,11 @@ answer_from (Err p) answer = Err (fault.Panic p)
 -- the moves of a piece on a board of three rows and four columns
 abbrev pub moves_of : ℤ → Generator
 moves_of step =
-    family.Board (record { n1 = pos 3; n2 = pos 4; n3 = pos 0; n4 = pos 0; piece = step; wrap = pos 0; directed = false })
+    generator.Board (record { n1 = pos 3; n2 = pos 4; n3 = pos 0; n4 = pos 0; piece = step; wrap = pos 0; directed = false })
 
 -- the moves of queens: those of rooks and those of bishops [QUEEN]
 unfoldable pub queen_moves : Expression
-queen_moves = Gunion (Family (moves_of (neg_ℤ (pos 1)))) (Family (moves_of (neg_ℤ (pos 2)))) false false
+queen_moves = Gunion (Generated (moves_of (neg_ℤ (pos 1)))) (Generated (moves_of (neg_ℤ (pos 2)))) false false
 
 -- what `queen` writes before the listing
 abbrev pub queen_title : List ℕ

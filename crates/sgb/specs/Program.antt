@@ -3,9 +3,10 @@ use Rattle.std.specs.Prelude.{◌≡◌, ◌⊎◌, ℕ, false, List}
 use Rattle.std.specs.declared.io.ErrorKind.{ErrorKind}
 use Rattle.std.specs.declared.io.ErrorKind.TheVariants.{OutOfMemory}
 use Rattle.sgb_vec.specs.declared.panics.Panic.TheVariants.{NoRoom}
+use Rattle.sgb_file.specs.Devices.{Change}
 use Rattle.sgb.specs.Outcomes.{reads_input}
 use Rattle.sgb_requests.specs.Requests.{IsRefusedCommandLine, IsRequest}
-use Rattle.sgb.specs.Runs.{Change, Input, IsReported, IsRunOn}
+use Rattle.sgb.specs.Runs.{Input, IsReported, IsRunOn}
 use Rattle.sgb_requests.specs.declared.faults.Fault.{Fault}
 use Rattle.sgb_requests.specs.declared.faults.Fault.TheVariants as fault
 use Rattle.sgb_requests.specs.declared.requests.Request.{Request}

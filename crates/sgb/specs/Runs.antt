@@ -1,31 +1,25 @@
 -- What a run leaves in its sinks, by what standard input gives.
-use Rattle.std.specs.Prelude.{◌≡◌, ◌⊎◌, ◌&&◌, ℕ, Bool, true, false, List, Option, IfSome}
+use Rattle.std.specs.Prelude.{◌≡◌, ◌⊎◌, ◌&&◌, ℕ, Bool, false, List, Option, IfSome}
 use Rattle.std.specs.Bool.{MatchBool}
 use Rattle.std.specs.Io.KnownBytes.{Appends}
 use Rattle.sgb_vec.specs.declared.panics.Panic.TheVariants.{NoRoom}
 use Rattle.sgb.specs.Outcomes.{Outcome, answer_of, outcome_of, reads_input}
-use Rattle.sgb_file.specs.Devices.{AppendsPrefix, AppendsUnlessFailed}
+use Rattle.sgb_file.specs.Devices.{AppendsPrefix, AppendsUnlessFailed, Change}
 use Rattle.sgb_requests.specs.Faults.{status_of, line_of}
 use Rattle.sgb_requests.specs.declared.faults.Fault.{Fault}
 use Rattle.sgb_requests.specs.declared.faults.Fault.TheVariants as fault
 use Rattle.sgb_requests.specs.declared.requests.Request.{Request}
 
--- the bytes that a sink tells, before and after, and whether it has failed afterwards
-pub record Change : Type 0 where
-  pub before : Option (List ℕ)
-  pub after : Option (List ℕ)
-  pub failed : Bool
-
 -- the answer was given in full: all of its output, its line unless standard error failed, its status
 pub record IsGiven (answer : Outcome) (out err : Change) (status : ℕ) : Type 0 where
   pub output : Appends out.before out.after answer.output
-  pub line : AppendsUnlessFailed err.failed err.before err.after answer.line
+  pub line : AppendsUnlessFailed err answer.line
   pub exit : status ≡ answer.status
 
 -- the run was stopped by this fault: a prefix of the answer's output, the fault's line and status
 pub record IsStopped (by : Fault) (answer : Outcome) (out err : Change) (status : ℕ) : Type 0 where
   pub output : AppendsPrefix out.before out.after answer.output
-  pub line : AppendsUnlessFailed err.failed err.before err.after (line_of by)
+  pub line : AppendsUnlessFailed err (line_of by)
   pub exit : status ≡ status_of by
 
 -- A run with this outcome leaves this. Where the output sink has failed, that stopped the run. Where it is sound, the
@@ -40,7 +34,7 @@ IsRunOf answer out err status = MatchBool out.failed
 pub record IsReported (f : Fault) (out err : Change) (status : ℕ) : Type 0 where
   pub untouched : out.after ≡ out.before
   pub sound : out.failed ≡ false
-  pub line : AppendsUnlessFailed err.failed err.before err.after (line_of f)
+  pub line : AppendsUnlessFailed err (line_of f)
   pub exit : status ≡ status_of f
 
 -- what a run leaves: where standard input was read and failed, this was reported and nothing else done
@@ -57,9 +51,8 @@ abbrev pub fails_to_read : Request → Input → Bool
 fails_to_read r source = reads_input r && source.failed
 
 -- a run that answers this request leaves this: standard input holds a text, the one that it tells, on which the request is
--- answered; one that does not read it is answered so for every text
+-- answered (one that does not read it is answered alike on every text: input_unread_law)
 abbrev pub IsRunOn : Request → Input → Change → Change → ℕ → Type 0
 IsRunOn r source out err status =
     (held : List ℕ) × IfSome source.bytes (λ bytes. held ≡ bytes)
-    × ((input : List ℕ) → (reads_input r ≡ true → input ≡ held)
-    → IsRunFrom (fails_to_read r source) (outcome_of (answer_of r input)) out err status)
+    × IsRunFrom (fails_to_read r source) (outcome_of (answer_of r held)) out err status

@@ -1,15 +1,10 @@
 -- The texts of graphs: the names of the vertices, and the listing, each vertex with its arcs.
-use Rattle.std.specs.Prelude.{ℕ, ◌-◌, Bool, true, false, List, [], ◌∷◌, ◌++◌, length, drop, codes, decimal}
+use Rattle.std.specs.Prelude.{ℕ, ◌-◌, List, [], ◌∷◌, ◌++◌, length, drop, codes, decimal}
 use Rattle.std.specs.Fmt.{signed_decimal}
 use Rattle.std.specs.List.{flat_map, range_with_len, slice_index_or}
 use Rattle.sgb_graph.specs.Graphs.{GraphData, chain_of}
 use Rattle.sgb_graph.specs.declared.fields.Link.{Link}
 use Rattle.sgb_ops.specs.Operands.{names_of}
-
--- an entry of a vector in its name: after a dot (46) where it is not the first
-abbrev pub entry_text : Bool → ℕ → List ℕ
-entry_text true entry = 46 ∷ decimal entry
-entry_text false entry = decimal entry
 
 -- the line of a vertex: its name and a newline (10)
 abbrev pub name_line : List ℕ → List ℕ

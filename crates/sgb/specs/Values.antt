@@ -1,9 +1,9 @@
 -- The graphs that expressions name [GB_BASIC].
-use Rattle.std.specs.Prelude.{◌≡◌, ◌⊎◌, ℕ, ◌^◌, pos, negsuc, min, nat_le, List, [], ◌∷◌, length, Result, Ok, Err, if◌then◌else◌, ◌+◌, map}
+use Rattle.std.specs.Prelude.{ℕ, ◌^◌, pos, negsuc, min, nat_le, List, [], ◌∷◌, length, Result, Ok, Err, if◌then◌else◌, ◌+◌, map}
 use Rattle.sgb_vec.specs.Limits.{most_entry}
 use Rattle.sgb_vec.specs.Results.{and_then}
 use Rattle.sgb_vec.specs.declared.panics.Panic.{Panic}
-use Rattle.sgb_vec.specs.declared.panics.Panic.TheVariants.{NoRoom, Syntax}
+use Rattle.sgb_vec.specs.declared.panics.Panic.TheVariants.{Syntax}
 use Rattle.sgb_graph.specs.Descriptions.{Description}
 use Rattle.sgb_graph.specs.Graphs.{GraphData}
 use Rattle.sgb_graph.specs.Made.{graph_described}
@@ -21,19 +21,19 @@ use Rattle.sgb_ops.specs.Wheel.{wheel_of}
 use Rattle.sgb_ops.specs.Induced.{induced_of}
 use Rattle.sgb_ops.specs.declared.entries.Entry.{Entry}
 use Rattle.sgb_ops.specs.declared.entries.Entry.TheVariants as entry
-use Rattle.sgb_expr.specs.Expression.{Expression, Family, Complement, Gunion, Intersection, Lines, Product, Induced, BiComplete, Wheel, Stdin, Entry as EntryExpression, Number, Graph, Entries, NoEntries, EntryThen}
-use Rattle.sgb_expr.specs.declared.expressions.Family.{Family as Generator}
-use Rattle.sgb_expr.specs.declared.expressions.Family.TheVariants as family
+use Rattle.sgb_expr.specs.Expression.{Expression, Generated, Complement, Gunion, Intersection, Lines, Product, Induced, BiComplete, Wheel, Stdin, Entry as EntryExpression, Number, Graph, Entries, NoEntries, EntryThen}
+use Rattle.sgb_expr.specs.declared.expressions.Generator.{Generator}
+use Rattle.sgb_expr.specs.declared.expressions.Generator.TheVariants as generator
 use Rattle.sgb.specs.declared.evaluation.entries.EntryValue.{EntryValue}
 use Rattle.sgb.specs.declared.evaluation.entries.EntryValue.TheVariants as value
 use Rattle.sgb.specs.declared.locals.Local.{Local}
 use Rattle.sgb.specs.declared.locals.Local.TheVariants as local
 
 -- the graph of a generator with its parameters, or why it is refused
-abbrev pub family_value : Generator → Result Description Panic
-family_value (family.Board p) = board p
-family_value (family.Simplex p) = simplex p
-family_value (family.Subsets p) = subsets p
+abbrev pub generator_value : Generator → Result Description Panic
+generator_value (generator.Board p) = board p
+generator_value (generator.Simplex p) = simplex p
+generator_value (generator.Subsets p) = subsets p
 
 -- the graph that is described, or why it is refused
 abbrev pub made : Result Description Panic → Result GraphData Panic
@@ -65,7 +65,7 @@ abbrev mutual
   -- the graph of an expression where this is standard input, or the first refusal: the operands' from left to right, then
   -- the operation's
   pub value_of : List ℕ → Expression → Result GraphData Panic
-  value_of input (Family f) = made (family_value f)
+  value_of input (Generated f) = made (generator_value f)
   value_of input (Complement e copy self_loops directed) = and_then (value_of input e) (λ g. made (complement_of g copy self_loops directed))
   value_of input (Gunion e f multi directed) =
       and_then (both (value_of input e) (value_of input f)) (λ operands. made (gunion_of operands.0 operands.1 multi directed))
@@ -90,18 +90,8 @@ abbrev mutual
   values_of input NoEntries = Ok []
   values_of input (EntryThen first others) = and_then (both (entry_value input first) (values_of input others)) (λ p. Ok (p.0 ∷ p.1))
 
--- the result is this value, or this refusal; or it is out of memory
-abbrev pub IsValue : {T : Type 0} → Result T Panic → Result T Panic → Type 0
-IsValue value (Ok x) = value ≡ Ok x
-IsValue value (Err p) = (value ≡ Err p) ⊎ (p ≡ NoRoom)
-
 -- the graph of accepted parameters
 abbrev pub described : Local → Description
 described (local.Board b) = board_graph b
 described (local.Simplex s) = simplex_graph s
 described (local.Subsets s) = subsets_graph s
-
--- the accepted parameters of a graph, or its refusal, or out of memory
-abbrev pub IsLocalOf : Result Description Panic → Result Local Panic → Type 0
-IsLocalOf value (Ok l) = value ≡ Ok (described l)
-IsLocalOf value (Err p) = (value ≡ Err p) ⊎ (p ≡ NoRoom)

@@ -1,10 +1,8 @@
 -- What writing a text leaves in a sink.
-use Rattle.std.specs.Prelude.{◌≡◌, ◌⊎◌, ℕ, Bool, true, false, List, [], Result, Ok, Err}
-use Rattle.std.specs.Bool.{MatchBool}
+use Rattle.std.specs.Prelude.{◌≡◌, ◌⊎◌, ℕ, true, false, List, Result, Ok, Err}
 use Rattle.std.specs.Io.KnownBytes.{Appends}
 use Rattle.sgb_vec.specs.declared.panics.Panic.TheVariants.{NoRoom}
-use Rattle.sgb_file.specs.Devices.{AppendsPrefix}
-use Rattle.sgb.specs.Runs.{Change}
+use Rattle.sgb_file.specs.Devices.{AppendsPrefix, Change}
 use Rattle.sgb_requests.specs.declared.faults.Fault.{Fault}
 use Rattle.sgb_requests.specs.declared.faults.Fault.TheVariants as fault
 
@@ -26,17 +24,3 @@ pub record IsCutOff (text : List ℕ) (out : Change) (f : Fault) : Type 0 where
 abbrev pub IsWritten : {T : Type 0} → List ℕ → Change → Result T Fault → Type 0
 IsWritten text out (Ok x) = IsWhole text out
 IsWritten text out (Err f) = IsCutOff text out f
-
--- nothing was written
-abbrev pub IsUnwritten : Change → Type 0
-IsUnwritten out = (out.after ≡ out.before) × (out.failed ≡ false)
-
--- the request was answered, or cut off, or refused with nothing written, by its own fault or out of memory
-abbrev pub IsEnded : {T : Type 0} → Result (List ℕ) Fault → Change → Result T Fault → Type 0
-IsEnded (Ok text) out r = IsWritten text out r
-IsEnded (Err g) out (Ok x) = ⊥
-IsEnded (Err g) out (Err f) = ((f ≡ g) ⊎ (f ≡ fault.Panic NoRoom)) × IsWhole [] out
-
--- so a request ended, where reading standard input failed with nothing written, or did not
-abbrev pub IsEndedFrom : {T : Type 0} → Bool → Result (List ℕ) Fault → Change → Result T Fault → Type 0
-IsEndedFrom failed answer out r = MatchBool failed (IsUnwritten out × (r ≡ Err fault.Read)) (IsEnded answer out r)

@@ -1,16 +1,17 @@
 //! The graphs that expressions name (GB_BASIC).
 ghost use Rattle.std.specs.Prelude.{◌≡◌, [], Err, Ok, IfErr, IfOk};
 ghost use Rattle.sgb_graph.specs.Descriptions.{IsAnswerOf};
-ghost use Rattle.sgb_expr.specs.CodeEntries.{listed};
+ghost use Rattle.sgb_expr.specs.inner.CodeEntries.{listed};
 ghost use Rattle.sgb_expr.specs.Expression.{entries_of, entry_of, expression_of};
 ghost use Rattle.sgb.specs.Outcomes.{moves_of, queen_moves};
-ghost use Rattle.sgb.specs.Values.{IsValue, both, entry_value, family_value, value_of, values_of};
+ghost use Rattle.sgb.specs.Values.{both, entry_value, generator_value, value_of, values_of};
+ghost use Rattle.sgb.specs.inner.Values.{IsValue};
 
 mod entries;
 
 use crate::input::stdin_graph;
 use entries::{EntryValue, handed_entries};
-use sgb_expr::{EntryExpr, Expr, Family};
+use sgb_expr::{EntryExpr, Expr, Generator};
 use sgb_gen::BoardParams;
 use sgb_graph::Graph;
 use sgb_ops::{bi_complete, complement, gunion, induced, intersection, lines, product, wheel};
@@ -26,7 +27,7 @@ pub(crate) fn graph_of(alloc: Global, expression: &Expr, input: &[u8]) -> Result
     ensures { IsValue (value_of input.now (expression_of expression.now)) result }
 {
     match expression {
-        Expr::Family(family) => family_graph(alloc, family),
+        Expr::Generator(generator) => generator_graph(alloc, generator),
         Expr::Complement {
             graph,
             copy,
@@ -93,7 +94,8 @@ fn operands(
     second: &Expr,
     input: &[u8],
 ) -> Result<(Graph, Graph), Panic>
-    ensures { IsValue (both (value_of input.now (expression_of first.now)) (value_of input.now (expression_of second.now))) result }
+    ensures { IsValue (both (value_of input.now (expression_of first.now))
+        (value_of input.now (expression_of second.now))) result }
 {
     let left = graph_of(alloc, first, input)?;
     let right = graph_of(alloc, second, input)?;
@@ -103,8 +105,10 @@ fn operands(
 // The values of entries, in order.
 #[cycle(graphs)]
 fn values_of(alloc: Global, entries: &[EntryExpr], input: &[u8]) -> Result<Vec<EntryValue>, Panic>
-    ensures ok { IfOk result (λ values. values_of input.now (entries_of (listed entries.now)) ≡ Ok values.items) }
-    ensures refused { IfErr result (λ p. IsValue (values_of input.now (entries_of (listed entries.now))) (Err p)) }
+    ensures ok { IfOk result (λ values. values_of input.now (entries_of (listed entries.now))
+        ≡ Ok values.items) }
+    ensures refused { IfErr result
+        (λ p. IsValue (values_of input.now (entries_of (listed entries.now))) (Err p)) }
 {
     let mut values = Vec::with_capacity(alloc, entries.len())?;
     for entry in entries {
@@ -129,13 +133,13 @@ fn value_of_entry(alloc: Global, entry: &EntryExpr, input: &[u8]) -> Result<Entr
 }
 
 // The graph of a generator.
-fn family_graph(alloc: Global, family: &Family) -> Result<Graph, Panic>
-    ensures { IsAnswerOf (family_value family.now) result }
+fn generator_graph(alloc: Global, generator: &Generator) -> Result<Graph, Panic>
+    ensures { IsAnswerOf (generator_value generator.now) result }
 {
-    match family {
-        Family::Board(params) => params.graph(alloc),
-        Family::Simplex(params) => params.graph(alloc),
-        Family::Subsets(params) => params.graph(alloc),
+    match generator {
+        Generator::Board(params) => params.graph(alloc),
+        Generator::Simplex(params) => params.graph(alloc),
+        Generator::Subsets(params) => params.graph(alloc),
     }
 }
 
@@ -145,16 +149,16 @@ fn family_graph(alloc: Global, family: &Family) -> Result<Graph, Panic>
 pub(crate) fn queen_moves(alloc: Global) -> Result<Graph, Panic>
     ensures { IsValue (value_of [] queen_moves) result }
 {
-    let rooks = family_graph(alloc, &moves_of(-1))?;
-    let bishops = family_graph(alloc, &moves_of(-2))?;
+    let rooks = generator_graph(alloc, &moves_of(-1))?;
+    let bishops = generator_graph(alloc, &moves_of(-2))?;
     gunion(alloc, &rooks, &bishops, false, false)
 }
 
 // The moves of a piece on that board.
-fn moves_of(piece: i64) -> Family
+fn moves_of(piece: i64) -> Generator
     ensures { result ≡ moves_of piece }
 {
-    Family::Board(BoardParams {
+    Generator::Board(BoardParams {
         n1: 3,
         n2: 4,
         n3: 0,

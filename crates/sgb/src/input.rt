@@ -1,10 +1,11 @@
 //! Standard input: who reads it, reading it whole, and the graph that it is a file of.
-
 ghost use Rattle.std.specs.Prelude.{◌≡◌, ◌≤◌, ◌<◌, ◌+◌, ◌-◌, ◌++◌, ◌&&◌, ℕ, List, false, true, length, nat_le, IfOk};
 ghost use Rattle.std.specs.Io.KnownBytes.{Consumes, IsAtEnd};
-ghost use Rattle.sgb.specs.Inputs.{IsKept, IsReadFrom, LosesAtMost};
+ghost use Rattle.sgb.specs.Inputs.{LosesAtMost};
+ghost use Rattle.sgb.specs.inner.Inputs.{IsKept, IsReadFrom};
 ghost use Rattle.sgb.specs.Outcomes.{reads_input};
-ghost use Rattle.sgb.specs.Values.{IsValue, most_input, stdin_value};
+ghost use Rattle.sgb.specs.Values.{most_input, stdin_value};
+ghost use Rattle.sgb.specs.inner.Values.{IsValue};
 
 use sgb_file::{Source, read_gb};
 use sgb_graph::Graph;
@@ -39,10 +40,12 @@ pub(crate) fn input_for<R: Source>(
     request: &Request,
     source: &mut R,
 ) -> Result<Vec<u8>, Fault>
-    ensures kept { IfOk result (λ bytes. reads_input request.now ≡ true → IsKept (R.remaining source.old) bytes.items) }
+    ensures kept { IfOk result (λ bytes. reads_input request.now ≡ true
+        → IsKept (R.remaining source.old) bytes.items) }
     ensures ended { IsReadFrom (reads_input request.now && R.has_failed source.new) result }
     ensures unread { reads_input request.now ≡ false → source.new ≡ source.old }
-    ensures bounded { LosesAtMost (most_input + 1) (R.remaining source.old) (R.remaining source.new) }
+    ensures bounded { LosesAtMost (most_input + 1) (R.remaining source.old)
+        (R.remaining source.new) }
 {
     if !reads_input(request) {
         return Ok(Vec::new(alloc));
@@ -54,7 +57,8 @@ pub(crate) fn input_for<R: Source>(
 fn read_input<R: Source>(alloc: Global, source: &mut R) -> Result<Vec<u8>, Fault>
     ensures kept { IfOk result (λ bytes. IsKept (R.remaining source.old) bytes.items) }
     ensures ended { IsReadFrom (R.has_failed source.new) result }
-    ensures bounded { LosesAtMost (most_input + 1) (R.remaining source.old) (R.remaining source.new) }
+    ensures bounded { LosesAtMost (most_input + 1) (R.remaining source.old)
+        (R.remaining source.new) }
 {
     let mut kept = Vec::new(alloc);
     let mut buffer = [0; MOST_AT_ONCE];
@@ -76,12 +80,14 @@ fn read_more<R: Source>(
 ) -> Result<usize, Fault>
     requires room { length kept.old.items ≤ most_input }
     requires buffer { 0 < length buffer.old }
-    ensures kept { IfOk result (λ count. (bs : List ℕ) × (kept.new.items ≡ kept.old.items ++ bs) × (length bs ≡ count)
+    ensures kept { IfOk result (λ count. (bs : List ℕ) × (kept.new.items ≡ kept.old.items ++ bs)
+        × (length bs ≡ count)
         × Consumes (R.remaining source.old) (R.remaining source.new) bs) }
     ensures end { IfOk result (λ count. count ≡ 0 → IsAtEnd (R.remaining source.new)) }
     ensures most { IfOk result (λ count. length kept.old.items + count ≤ most_input + 1) }
     ensures ended { IsReadFrom (R.has_failed source.new) result }
-    ensures bounded { LosesAtMost (most_input + 1 - length kept.old.items) (R.remaining source.old) (R.remaining source.new) }
+    ensures bounded { LosesAtMost (most_input + 1 - length kept.old.items) (R.remaining source.old)
+        (R.remaining source.new) }
 {
     let most = (MOST_INPUT + 1 - kept.len()).min(buffer.len());
     let room = &mut buffer[..most];

@@ -1,9 +1,11 @@
 //! The accepted parameters of a generator: what is known of its graph without the graph.
 ghost use Rattle.std.specs.Prelude.{◌≡◌, Contains, OnOk, IsOkUnless};
-ghost use Rattle.sgb.specs.Locals.{links_of, vectors_of};
-ghost use Rattle.sgb.specs.Values.{IsLocalOf, described, family_value};
+ghost use Rattle.sgb.specs.Locals.{vectors_of};
+ghost use Rattle.sgb.specs.inner.Locals.{links_of};
+ghost use Rattle.sgb.specs.Values.{described, generator_value};
+ghost use Rattle.sgb.specs.inner.Values.{IsLocalOf};
 
-use sgb_expr::Family;
+use sgb_expr::Generator;
 use sgb_gen::{Board, Links, Simplex, Subsets};
 use sgb_graph::Id;
 use sgb_vec::Panic;
@@ -19,7 +21,7 @@ pub enum Local {
 
 impl Local {
     /// The id of the graph.
-    pub fn id(&self) -> Id
+    pub(crate) fn id(&self) -> Id
         ensures { result ≡ (described self.now).id }
     {
         match self {
@@ -32,7 +34,7 @@ impl Local {
     /// Puts the arcs of the vertex of `x` into `links`, in the order of its list in the graph.
     ///
     /// `NoRoom` when out of memory, and nothing else.
-    pub fn arcs_at(&self, x: &[u32], links: &mut Links) -> Result<(), Panic>
+    pub(crate) fn arcs_at(&self, x: &[u32], links: &mut Links) -> Result<(), Panic>
         requires { Contains (vectors_of self.now) x.now }
         ensures ok { OnOk result (links.new.arcs ≡ links_of self.now x.now) }
         ensures memory { IsOkUnless result Panic.NoRoom }
@@ -48,19 +50,19 @@ impl Local {
 /// The accepted parameters of a generator.
 ///
 /// The generator's refusal, or `NoRoom` when out of memory.
-pub fn local_of(alloc: Global, family: &Family) -> Result<Local, Panic>
-    ensures { IsLocalOf (family_value family.now) result }
+pub(crate) fn local_of(alloc: Global, generator: &Generator) -> Result<Local, Panic>
+    ensures { IsLocalOf (generator_value generator.now) result }
 {
-    match family {
-        Family::Board(params) => {
+    match generator {
+        Generator::Board(params) => {
             let board = Board::from_params(params)?;
             Ok(Local::Board(board))
         }
-        Family::Simplex(params) => {
+        Generator::Simplex(params) => {
             let simplex = Simplex::from_params(alloc, params)?;
             Ok(Local::Simplex(simplex))
         }
-        Family::Subsets(params) => {
+        Generator::Subsets(params) => {
             let subsets = Subsets::from_params(alloc, params)?;
             Ok(Local::Subsets(subsets))
         }

@@ -1,8 +1,8 @@
 //! A call of the program, from its words to its bytes and its exit status.
-
 ghost use Rattle.std.specs.Prelude.{◌≡◌, ◌+◌, Ok, Err, MatchResult, false, map};
 ghost use Rattle.std.specs.IoError.{error_kind};
 ghost use Rattle.std.specs.String.{string_bytes};
+ghost use Rattle.sgb_file.specs.Devices.{change};
 ghost use Rattle.sgb.specs.Inputs.{LosesAtMost};
 ghost use Rattle.sgb.specs.Program.{AskForNoInput, IsProgramRun, unread_fault};
 ghost use Rattle.sgb_requests.specs.Requests.{IsCommandLineReadAs};
@@ -33,17 +33,18 @@ pub fn run_program<R: Source, W: Sink, E: Sink>(
     ensures read { MatchResult words
         (λ words. IsProgramRun (map string_bytes words.items)
         (record { bytes = R.remaining source.old; failed = R.has_failed source.new })
-        (record { before = W.written out.old; after = W.written out.new; failed = W.has_failed out.new })
-        (record { before = E.written errors.old; after = E.written errors.new; failed = E.has_failed errors.new })
+        (change W.written W.has_failed out.old out.new)
+        (change E.written E.has_failed errors.old errors.new)
         result)
         (λ error. IsReported (unread_fault (error_kind error))
-        (record { before = W.written out.old; after = W.written out.new; failed = W.has_failed out.new })
-        (record { before = E.written errors.old; after = E.written errors.new; failed = E.has_failed errors.new })
+        (change W.written W.has_failed out.old out.new)
+        (change E.written E.has_failed errors.old errors.new)
         result) }
     ensures unread { MatchResult words
         (λ words. AskForNoInput (map string_bytes words.items) → source.new ≡ source.old)
         (λ error. source.new ≡ source.old) }
-    ensures bounded { LosesAtMost (most_input + 1) (R.remaining source.old) (R.remaining source.new) }
+    ensures bounded { LosesAtMost (most_input + 1) (R.remaining source.old)
+        (R.remaining source.new) }
 {
     match request_of(alloc, words) {
         Ok(request) => run(alloc, &request, source, out, errors),

@@ -1,16 +1,17 @@
 //! Requests answered: evaluation, output, the line of a fault and the exit status.
-
 ghost use Rattle.std.specs.Prelude.{◌≡◌, ◌≢◌, ◌+◌, ◌++◌, ◌&&◌, ℕ, List, [], Ok, Err, true, false};
+ghost use Rattle.sgb_file.specs.Devices.{change};
 ghost use Rattle.sgb_vec.specs.declared.panics.Panic.TheVariants.{NoRoom};
 ghost use Rattle.sgb_expr.specs.Expression.{expression_of};
 ghost use Rattle.sgb_file.specs.Saving.{text_of_graph};
 ghost use Rattle.sgb_ops.specs.Operands.{names_of};
 ghost use Rattle.sgb.specs.Outcomes.{answer_from, answer_of, list_answer, names_answer, queen_moves, queen_title, reads_input};
-ghost use Rattle.sgb.specs.Inputs.{IsKept, LosesAtMost};
+ghost use Rattle.sgb.specs.Inputs.{LosesAtMost};
+ghost use Rattle.sgb.specs.inner.Inputs.{IsKept};
 ghost use Rattle.sgb.specs.Runs.{IsRunOn};
 ghost use Rattle.sgb.specs.Texts.{blocks, head};
-ghost use Rattle.sgb.specs.Values.{family_value, made, most_input, value_of};
-ghost use Rattle.sgb.specs.Writing.{IsEnded, IsEndedFrom};
+ghost use Rattle.sgb.specs.Values.{generator_value, made, most_input, value_of};
+ghost use Rattle.sgb.specs.inner.Writing.{IsEnded, IsEndedFrom};
 
 use crate::evaluation::{graph_of, queen_moves};
 use crate::input::input_for;
@@ -21,7 +22,7 @@ use crate::writing::listing::{write_listing, write_titled_listing};
 use crate::writing::names::write_names;
 use crate::writing::resumed::list_resumed;
 use crate::writing::vertices::write_vertex_names;
-use sgb_expr::{Expr, Family};
+use sgb_expr::{Expr, Generator};
 use sgb_file::{Sink, Source};
 use sgb_gen::Links;
 use sgb_requests::{Fault, Request, Resume, report};
@@ -43,13 +44,14 @@ pub fn run<R: Source, W: Sink, E: Sink>(
     requires { W.has_failed out.old ≡ false }
     ensures answers { IsRunOn request.now
         (record { bytes = R.remaining source.old; failed = R.has_failed source.new })
-        (record { before = W.written out.old; after = W.written out.new; failed = W.has_failed out.new })
-        (record { before = E.written errors.old; after = E.written errors.new; failed = E.has_failed errors.new })
+        (change W.written W.has_failed out.old out.new)
+        (change E.written E.has_failed errors.old errors.new)
         result }
     // What the request asks for is never that memory runs out: code 1 is the machine's alone.
     ensures apart { (input : List ℕ) → answer_of request.now input ≢ Err (Fault.Panic NoRoom) }
     ensures unread { reads_input request.now ≡ false → source.new ≡ source.old }
-    ensures bounded { LosesAtMost (most_input + 1) (R.remaining source.old) (R.remaining source.new) }
+    ensures bounded { LosesAtMost (most_input + 1) (R.remaining source.old)
+        (R.remaining source.new) }
 {
     match answer(alloc, request, source, out) {
         Ok(()) => 0,
@@ -57,7 +59,7 @@ pub fn run<R: Source, W: Sink, E: Sink>(
     }
 }
 
-// Reads standard input where the request does, and answers it.
+// Reads standard input where the request does, answers it, and passes the output on.
 fn answer<R: Source, W: Sink>(
     alloc: Global,
     request: &Request,
@@ -65,27 +67,17 @@ fn answer<R: Source, W: Sink>(
     out: &mut W,
 ) -> Result<(), Fault>
     requires { W.has_failed out.old ≡ false }
-    ensures ended { (kept : List ℕ) × (reads_input request.now ≡ true → IsKept (R.remaining source.old) kept)
-        × IsEndedFrom (reads_input request.now && R.has_failed source.new) (answer_of request.now kept)
-        (record { before = W.written out.old; after = W.written out.new; failed = W.has_failed out.new }) result }
+    ensures ended { (kept : List ℕ)
+        × (reads_input request.now ≡ true → IsKept (R.remaining source.old) kept)
+        × IsEndedFrom (reads_input request.now && R.has_failed source.new)
+        (answer_of request.now kept)
+        (change W.written W.has_failed out.old out.new) result }
     ensures unread { reads_input request.now ≡ false → source.new ≡ source.old }
-    ensures bounded { LosesAtMost (most_input + 1) (R.remaining source.old) (R.remaining source.new) }
+    ensures bounded { LosesAtMost (most_input + 1) (R.remaining source.old)
+        (R.remaining source.new) }
 {
     let input = input_for(alloc, request, source)?;
-    answer_on(alloc, request, input.as_slice(), out)
-}
-
-// Answers a request on this standard input, and passes the output on.
-fn answer_on<W: Sink>(
-    alloc: Global,
-    request: &Request,
-    input: &[u8],
-    out: &mut W,
-) -> Result<(), Fault>
-    requires { W.has_failed out.old ≡ false }
-    ensures { IsEnded (answer_of request.now input.now) (record { before = W.written out.old; after = W.written out.new; failed = W.has_failed out.new }) result }
-{
-    write_answer(alloc, request, input, out)?;
+    write_answer(alloc, request, input.as_slice(), out)?;
     match out.flush() {
         Ok(()) => Ok(()),
         Err(_) => Err(Fault::Write),
@@ -100,7 +92,8 @@ fn write_answer<W: Sink>(
     out: &mut W,
 ) -> Result<(), Fault>
     requires { W.has_failed out.old ≡ false }
-    ensures { IsEnded (answer_of request.now input.now) (record { before = W.written out.old; after = W.written out.new; failed = W.has_failed out.new }) result }
+    ensures { IsEnded (answer_of request.now input.now)
+        (change W.written W.has_failed out.old out.new) result }
 {
     match request {
         Request::Names(expression, resume) => answer_names(alloc, expression, input, resume, out),
@@ -120,26 +113,30 @@ fn answer_names<W: Sink>(
     out: &mut W,
 ) -> Result<(), Fault>
     requires { W.has_failed out.old ≡ false }
-    ensures { IsEnded (answer_from (value_of input.now (expression_of expression.now)) (λ g. names_answer (names_of g) resume.now)) (record { before = W.written out.old; after = W.written out.new; failed = W.has_failed out.new }) result }
+    ensures { IsEnded (answer_from (value_of input.now (expression_of expression.now))
+        (λ g. names_answer (names_of g) resume.now)) (change W.written W.has_failed out.old out.new)
+        result }
 {
-    if let Expr::Family(family) = expression {
-        return answer_family_names(alloc, family, resume, out);
+    if let Expr::Generator(generator) = expression {
+        return answer_generator_names(alloc, generator, resume, out);
     }
     let graph = graph_of(alloc, expression, input)?;
     write_vertex_names(&graph, resume, out)
 }
 
 // Writes the names of a generator's vertices. Its vectors are walked: no graph is built.
-fn answer_family_names<W: Sink>(
+fn answer_generator_names<W: Sink>(
     alloc: Global,
-    family: &Family,
+    generator: &Generator,
     resume: &Resume,
     out: &mut W,
 ) -> Result<(), Fault>
     requires { W.has_failed out.old ≡ false }
-    ensures { IsEnded (answer_from (made (family_value family.now)) (λ g. names_answer (names_of g) resume.now)) (record { before = W.written out.old; after = W.written out.new; failed = W.has_failed out.new }) result }
+    ensures { IsEnded (answer_from (made (generator_value generator.now))
+        (λ g. names_answer (names_of g) resume.now)) (change W.written W.has_failed out.old out.new)
+        result }
 {
-    match local_of(alloc, family)? {
+    match local_of(alloc, generator)? {
         Local::Board(board) => write_names(board.family(), resume, out),
         Local::Simplex(simplex) => write_names(simplex.family(), resume, out),
         Local::Subsets(subsets) => write_names(subsets.family(), resume, out),
@@ -155,26 +152,28 @@ fn answer_list<W: Sink>(
     out: &mut W,
 ) -> Result<(), Fault>
     requires { W.has_failed out.old ≡ false }
-    ensures { IsEnded (answer_from (value_of input.now (expression_of expression.now)) (λ g. list_answer g resume.now)) (record { before = W.written out.old; after = W.written out.new; failed = W.has_failed out.new }) result }
+    ensures { IsEnded (answer_from (value_of input.now (expression_of expression.now))
+        (λ g. list_answer g resume.now)) (change W.written W.has_failed out.old out.new) result }
 {
-    if let Expr::Family(family) = expression {
-        return answer_family_list(alloc, family, resume, out);
+    if let Expr::Generator(generator) = expression {
+        return answer_generator_list(alloc, generator, resume, out);
     }
     let graph = graph_of(alloc, expression, input)?;
     write_listing(&graph, resume, out)
 }
 
 // Writes the listing of a generator's graph. Its vectors are walked: no graph is built.
-fn answer_family_list<W: Sink>(
+fn answer_generator_list<W: Sink>(
     alloc: Global,
-    family: &Family,
+    generator: &Generator,
     resume: &Resume,
     out: &mut W,
 ) -> Result<(), Fault>
     requires { W.has_failed out.old ≡ false }
-    ensures { IsEnded (answer_from (made (family_value family.now)) (λ g. list_answer g resume.now)) (record { before = W.written out.old; after = W.written out.new; failed = W.has_failed out.new }) result }
+    ensures { IsEnded (answer_from (made (generator_value generator.now))
+        (λ g. list_answer g resume.now)) (change W.written W.has_failed out.old out.new) result }
 {
-    let local = local_of(alloc, family)?;
+    let local = local_of(alloc, generator)?;
     let mut links = Links::new(alloc);
     match &local {
         Local::Board(board) => list_resumed(&local, board.family(), resume, &mut links, out),
@@ -191,7 +190,8 @@ fn answer_save<W: Sink>(
     out: &mut W,
 ) -> Result<(), Fault>
     requires { W.has_failed out.old ≡ false }
-    ensures { IsEnded (answer_from (value_of input.now (expression_of expression.now)) (λ g. Ok (text_of_graph g))) (record { before = W.written out.old; after = W.written out.new; failed = W.has_failed out.new }) result }
+    ensures { IsEnded (answer_from (value_of input.now (expression_of expression.now))
+        (λ g. Ok (text_of_graph g))) (change W.written W.has_failed out.old out.new) result }
 {
     let graph = graph_of(alloc, expression, input)?;
     write_file(&graph, out)
@@ -200,7 +200,9 @@ fn answer_save<W: Sink>(
 // Writes the moves of queens on a board of three rows and four columns, under their title.
 fn answer_queen<W: Sink>(alloc: Global, out: &mut W) -> Result<(), Fault>
     requires { W.has_failed out.old ≡ false }
-    ensures { IsEnded (answer_from (value_of [] queen_moves) (λ g. Ok (queen_title ++ (head g ++ blocks g 0)))) (record { before = W.written out.old; after = W.written out.new; failed = W.has_failed out.new }) result }
+    ensures { IsEnded (answer_from (value_of [] queen_moves)
+        (λ g. Ok (queen_title ++ (head g ++ blocks g 0))))
+        (change W.written W.has_failed out.old out.new) result }
 {
     let graph = queen_moves(alloc)?;
     write_titled_listing(b"Queen Moves on a 3x4 Board\n\n", &graph, out)

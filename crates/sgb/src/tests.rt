@@ -1,5 +1,4 @@
 //! Whole calls, from the words to the bytes, with values from the published programs' rules.
-
 ghost use Rattle.std.specs.Prelude.{◌≡◌, false};
 
 use crate::program::run_program;

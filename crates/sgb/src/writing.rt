@@ -1,14 +1,22 @@
 //! Texts written to a sink.
 ghost use Rattle.std.specs.Prelude.{◌≡◌, false};
 ghost use Rattle.std.specs.List.{flat_map};
+ghost use Rattle.sgb_file.specs.Devices.{change};
 ghost use Rattle.sgb.specs.Writing.{IsWritten};
 
-pub(crate) mod families;
+// Listings from a generator's vectors.
+pub mod families;
+// `.gb` files.
 pub(crate) mod files;
+// Random numbers.
 pub(crate) mod flips;
+// Listings of graphs.
 pub(crate) mod listing;
+// Names of a generator's vectors.
 pub(crate) mod names;
+// Listings from a generator's vectors, from where they begin.
 pub(crate) mod resumed;
+// Names of a graph's vertices.
 pub(crate) mod vertices;
 
 use sgb_file::{Sink, put_all};
@@ -17,7 +25,7 @@ use sgb_requests::Fault;
 // Writes bytes.
 fn write_bytes<W: Sink>(out: &mut W, bytes: &[u8]) -> Result<(), Fault>
     requires { W.has_failed out.old ≡ false }
-    ensures { IsWritten bytes.now (record { before = W.written out.old; after = W.written out.new; failed = W.has_failed out.new }) result }
+    ensures { IsWritten bytes.now (change W.written W.has_failed out.old out.new) result }
 {
     put_all(out, bytes).map_err(|_| Fault::Write)
 }
@@ -25,7 +33,8 @@ fn write_bytes<W: Sink>(out: &mut W, bytes: &[u8]) -> Result<(), Fault>
 // Writes texts, one after the other.
 fn write_texts<W: Sink>(out: &mut W, texts: &[&[u8]]) -> Result<(), Fault>
     requires { W.has_failed out.old ≡ false }
-    ensures { IsWritten (flat_map (λ text. text.now) texts.now) (record { before = W.written out.old; after = W.written out.new; failed = W.has_failed out.new }) result }
+    ensures { IsWritten (flat_map (λ text. text.now) texts.now)
+        (change W.written W.has_failed out.old out.new) result }
 {
     for text in texts {
         write_bytes(out, text)?;

@@ -1,7 +1,7 @@
 -- What expressions of the code that hold entries are.
 use mathlib.Core.Former.{Count}
 use Rattle.std.proofs.Common.{◌≡◌, ℤ, Bool, List, Box, Global, refl, ◌∙◌, ap}
-use Rattle.sgb_expr.specs.CodeEntries.{listed, list_of}
+use Rattle.sgb_expr.specs.inner.CodeEntries.{listed, list_of}
 use Rattle.sgb_expr.specs.Expression.{Expression, entries_of, entry_of, expression_of, row_entries, EntryThen}
 use Rattle.sgb_expr.specs.Operations.{flag_at, induced_of}
 use Rattle.sgb_expr.specs.declared.entries.Entries.{Entries}
@@ -30,7 +30,4 @@ induced_is graph entries self_loops multi directed =
 pub induced_made : (graph : Box Expr Global) (entries : Entries) (numbers : List ℤ) (self_loops multi directed : Bool) → self_loops ≡ flag_at numbers 0 → multi ≡ flag_at numbers 1 → directed ≡ flag_at numbers 2
     → expression_of (expr.Induced graph entries self_loops multi directed) ≡ induced_of (expression_of graph.value) (list_of entries) numbers
 induced_made graph entries numbers self_loops multi directed e f g =
-    induced_is graph entries self_loops multi directed
-    ∙ ap (λ b. Expression.Induced (expression_of graph.value) (entries_of (list_of entries)) b multi directed) e
-    ∙ ap (λ b. Expression.Induced (expression_of graph.value) (entries_of (list_of entries)) (flag_at numbers 0) b directed) f
-    ∙ ap (λ b. Expression.Induced (expression_of graph.value) (entries_of (list_of entries)) (flag_at numbers 0) (flag_at numbers 1) b) g
+    rw (e, f, g) (induced_is graph entries (flag_at numbers 0) (flag_at numbers 1) (flag_at numbers 2))

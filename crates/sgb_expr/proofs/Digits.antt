@@ -6,12 +6,13 @@ use Rattle.std.specs.Char.{digit_value, is_digit}
 use Rattle.std.specs.Str.Parse.{AllDigits, digits_value}
 use Rattle.std.proofs.Math.Seq.{drop-append_seam}
 use Rattle.std.proofs.lemmas.Bool.{cases_lt, lt-ltb, le-ltb}
+use Rattle.std.proofs.lemmas.List.{nil_from_length}
 use Rattle.std.proofs.lemmas.List.Sums.{take_while-cons}
 use Rattle.sgb_expr.specs.Numbers.{IsNumber}
 use Rattle.sgb_vec.specs.Digits.{leading_digits}
-use Rattle.sgb_expr.specs.Readings.{number_of_digits, number_at}
-use Rattle.sgb_expr.proofs.Readers.{next, Found, Wrong, Reads, ok_same}
-use Rattle.sgb_expr.proofs.Words.{no_ok, err_same}
+use Rattle.sgb_expr.specs.inner.Readings.{number_of_digits, number_at}
+use Rattle.sgb_expr.proofs.Readers.{next, Found, Wrong, Reads, no_ok, ok_same}
+use Rattle.sgb_expr.proofs.Words.{err_same}
 
 -- the text does not begin with a digit in the radix
 abbrev pub NoDigit : ℕ → List ℕ → Type 0
@@ -43,7 +44,7 @@ leading_again radix (suc most) (byte ∷ digits) rest all short none = elim (dig
 ]
 
 -- a byte that is no digit is another than one that is
-other_digit : (radix byte other : ℕ) → radix ≤ digit_value byte → ◌≡◌ {A = Option ℕ} (Some byte) (Some other) → digit_value other < radix → ⊥
+pub other_digit : (radix byte other : ℕ) → radix ≤ digit_value byte → ◌≡◌ {A = Option ℕ} (Some byte) (Some other) → digit_value other < radix → ⊥
 other_digit radix byte other h e digit =
     let same : other ≡ byte = cc in
     let below : digit_value byte < radix = subst (λ (b : ℕ). digit_value b < radix) same digit in
@@ -102,11 +103,6 @@ no_digit_same radix text other e none byte h = none byte (sym e ∙ h)
 pub zero_is_number : (radix most : ℕ) → 0 < radix → 0 < most → IsNumber radix most (48 ∷ []) 0
 zero_is_number radix most some room = record { numeral = (omega arith, (some, tt)); short = omega (arith, room); writes = omega arith }
 
--- a list of no items
-pub no_items : {A : Type 0} (xs : List A) → length xs ≤ 0 → xs ≡ []
-no_items [] h = refl
-no_items (x ∷ xs) h = absurd (omega (arith, h))
-
 -- a number that was read
 number_found_at : (radix most : ℕ) (text : List ℕ) (value : ℕ) (rest : List ℕ) → number_at radix most text ≡ Ok (value, rest) → Leading radix most text → Found (IsNumber radix most) (number_at radix most) text value rest
 number_found_at radix most text value rest e l = elim (cases_lt 0 (length l.digits)) [
@@ -123,35 +119,40 @@ number_found_at radix most text value rest e l = elim (cases_lt 0 (length l.digi
             (leading_again radix most l.digits other l.all l.short (λ lt. no_digit_same radix l.rest other (e2 ∙ sym (ap next after)) (l.none lt))) refl some
             ∙ ap (λ (n : ℕ). Ok (n, other)) (sym is);
       }
-  | inr none ↦ absurd (no_ok (sym (number_stops radix most text (l.are ∙ no_items l.digits none)) ∙ e))
+  | inr none ↦ absurd (no_ok (sym (number_stops radix most text (l.are ∙ nil_from_length l.digits (omega (arith, none)))) ∙ e))
 ]
 
--- where there is no number
-number_wrong_at : (radix most : ℕ) → 0 < radix → 0 < most → (text : List ℕ) (left : ℕ) → number_at radix most text ≡ Err left → Leading radix most text → Wrong (IsNumber radix most) (number_at radix most) text left
-number_wrong_at radix most some room text left e l = elim (cases_lt 0 (length l.digits)) [
-  | inl h ↦ absurd (no_ok (sym e ∙ number_found radix most text l.digits l.rest l.are l.whole h))
-  | inr h ↦
-      let empty : l.digits ≡ [] = no_items l.digits h in
-      let stops = number_stops radix most text (l.are ∙ empty) in
-      let here : text ≡ l.rest = l.whole ∙ ap (λ u. u ++ l.rest) empty in record {
-        good = [];
-        bad = text;
-        whole = refl;
-        count = sym (err_same (length text) left (sym stops ∙ e));
-        more = 48 ∷ [];
-        value = 0;
-        begins = zero_is_number radix most some room;
-        same = λ other e2.
-            number_stops radix most other
-            (leading_again radix most [] other tt (omega arith) (λ lt. no_digit_same radix l.rest other (e2 ∙ ap next here) (l.none (omega (arith, lt, h)))));
-      }
-]
+-- where no digit stands, there is no number
+pub none_again : (radix most : ℕ) (text : List ℕ) → NoDigit radix text → number_at radix most text ≡ Err (length text)
+none_again radix most text none = number_stops radix most text (leading_again radix most [] text tt (omega arith) (λ lt. none))
+
+-- where there is no number, no digit stands
+pub none_there : (radix most : ℕ) → 0 < most → (text : List ℕ) (left : ℕ) → number_at radix most text ≡ Err left → (left ≡ length text) × NoDigit radix text
+none_there radix most room text left e =
+    let l = leading radix most text in
+    elim (cases_lt 0 (length l.digits)) [
+      | inl h ↦ absurd (no_ok (sym e ∙ number_found radix most text l.digits l.rest l.are l.whole h))
+      | inr h ↦
+          let empty : l.digits ≡ [] = nil_from_length l.digits (omega (arith, h)) in
+          let here : text ≡ l.rest = l.whole ∙ ap (λ u. u ++ l.rest) empty in (
+            err_same left (length text) (sym e ∙ number_stops radix most text (l.are ∙ empty)),
+            no_digit_same radix l.rest text (ap next here) (l.none (omega (arith, h, room))),
+          )
+    ]
+
+number_wrong_at : (radix most : ℕ) → 0 < radix → 0 < most → (text : List ℕ) (left : ℕ) → number_at radix most text ≡ Err left → Wrong (IsNumber radix most) (number_at radix most) text left
+number_wrong_at radix most some room text left e =
+    let none = none_there radix most room text left e in record {
+      cut = record { good = []; bad = text; whole = refl; count = none.0 };
+      begins = (48 ∷ [], 0, zero_is_number radix most some room);
+      same = λ other e2. none_again radix most other (no_digit_same radix text other e2 none.1);
+    }
 
 -- a reader of numbers in a radix, of so many digits at most
 pub reads_number : (radix most : ℕ) → 0 < radix → 0 < most → Reads (IsNumber radix most) (NoDigit radix) (number_at radix most)
 reads_number radix most some room = record {
   found = λ text value rest e. number_found_at radix most text value rest e (leading radix most text);
-  wrong = λ text left e. number_wrong_at radix most some room text left e (leading radix most text);
+  wrong = λ text left e. number_wrong_at radix most some room text left e;
   again = λ word tail value is none.
       number_found radix most (word ++ tail) word tail (leading_again radix most word tail is.numeral.1 is.short (λ lt. none)) refl is.numeral.0
       ∙ ap (λ (n : ℕ). Ok (n, tail)) (sym is.writes);

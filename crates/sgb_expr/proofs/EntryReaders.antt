@@ -1,19 +1,21 @@
 -- Readers of entries, integers and expressions, one after another to a `]`.
-use Rattle.std.proofs.Common.{◌≡◌, ◌≤◌, ◌+◌, ◌&&◌, ◌==◌, ℕ, ℤ, pos, neg_ℤ, zero, suc, Bool, true, false, not, List, [], ◌∷◌, ◌++◌, length, min, codes, Result, Ok, Err, refl, sym, ◌∙◌, ap, subst, inl, inr, append_assoc, append-nil, arith, length-append, lit≤}
+use Rattle.std.proofs.Common.{◌≡◌, ◌≤◌, ◌<◌, ◌+◌, ◌&&◌, ◌==◌, ℕ, ℤ, pos, neg_ℤ, zero, suc, Bool, true, false, not, List, [], ◌∷◌, ◌++◌, length, min, codes, Result, Ok, Err, refl, sym, ◌∙◌, ap, subst, inl, inr, append_assoc, append-nil, arith, length-append, lit≤}
 use Rattle.std.specs.Char.{is_digit}
+use Rattle.std.proofs.lemmas.Bool.{and_parts, not-true}
 use Rattle.std.proofs.lemmas.Bool.Decides.{eqb_tells}
+use Rattle.std.proofs.lemmas.List.{nil_from_length}
 use Rattle.sgb_expr.specs.Expression.{Expression, Entry}
 use Rattle.sgb_expr.specs.Languages.{Then, After, As, Or}
 use Rattle.sgb_expr.specs.Numbers.{IsInteger, most_digits}
 use Rattle.sgb_expr.specs.Operations.{IsEntry, AreEntries}
-use Rattle.sgb_expr.specs.Readings.{◌>>=◌, either, or_else, then_read, read_as, fixed_at, fixed_as, number_at, integer_at}
-use Rattle.sgb_expr.specs.Reading.{entry_at, entries_then, entries_for, entries_at}
-use Rattle.sgb_expr.proofs.Readers.{next, Reads, bind_ok, bind_stops, ok_same, either_found, either_stops, by_first, by_second, cut_in, reads_then, reads_as, reads_or, reads_before}
-use Rattle.sgb_expr.proofs.Words.{Anything, Fixed, both_true, fixed_other, reads_fixed, reads_same, no_ok, err_same}
+use Rattle.sgb_expr.specs.inner.Readings.{◌>>=◌, either, or_else, then_read, read_as, fixed_at, fixed_as, number_at, integer_at}
+use Rattle.sgb_expr.specs.inner.Reading.{entry_at, entries_then, entries_for, entries_at}
+use Rattle.sgb_expr.proofs.Readers.{next, Reads, bind_ok, bind_stops, ok_same, either_found, either_stops, by_first, by_second, cut_in, no_ok, reads_then, reads_as, reads_or, reads_before}
+use Rattle.sgb_expr.proofs.Words.{Anything, Fixed, fixed_other, reads_after, reads_fixed, reads_same, err_same}
 use Rattle.sgb_expr.proofs.Digits.{leading_more, number_stops}
 use Rattle.sgb_expr.proofs.NumberReaders.{Clear, reads_integer}
 use Rattle.sgb_expr.proofs.Lengths.{Language, Reader, Within, Agree, no_longer, fixed_takes, bind_agrees}
-use Rattle.sgb_expr.proofs.FamilyReaders.{clear_byte, reads_after}
+use Rattle.sgb_expr.proofs.GeneratorReaders.{clear_byte}
 
 -- the text begins with a byte that is no digit, no `-` and no `]`
 abbrev pub is_lettered : List ℕ → Bool
@@ -24,33 +26,33 @@ pub lettered_more : (a b : List ℕ) → is_lettered a ≡ true → is_lettered 
 lettered_more [] b e = absurd (cc)
 lettered_more (byte ∷ a) b e = e
 
+pub lettered_some : (text : List ℕ) → is_lettered text ≡ true → 0 < length text
+lettered_some [] e = absurd (cc)
+lettered_some (byte ∷ text) e = omega arith
+
 -- expressions that may stand inside others, and their reader
 pub record Inside (Inner : Language Expression) (inner : Reader Expression) : Type 0 where
   pub reads : Reads Inner Anything inner
   pub lettered : (word : List ℕ) (e : Expression) → Inner word e → is_lettered word ≡ true
 
-not_true : (b : Bool) → not b ≡ true → b ≡ false
-not_true false e = refl
-not_true true e = absurd (cc)
-
 -- such a text begins no integer
 lettered_no_integer : (text tail : List ℕ) → is_lettered text ≡ true → (left : ℕ) × (integer_at (text ++ tail) ≡ Err left)
 lettered_no_integer [] tail e = absurd (cc)
 lettered_no_integer (byte ∷ text) tail e =
-    let all = both_true (not (is_digit byte 10)) (not (45 == byte) && not (93 == byte)) e in
-    let sign = both_true (not (45 == byte)) (not (93 == byte)) all.1 in
-    let none = leading_more 10 17 byte (text ++ tail) ∙ rw (not_true (is_digit byte 10) all.0) refl in
+    let all = and_parts (not (is_digit byte 10)) (not (45 == byte) && not (93 == byte)) e in
+    let sign = and_parts (not (45 == byte)) (not (93 == byte)) all.1 in
+    let none = leading_more 10 17 byte (text ++ tail) ∙ rw (not-true (is_digit byte 10) all.0) refl in
     let number = bind_stops (number_at 10 most_digits (byte ∷ text ++ tail)) (λ x. Ok (pos x.0, x.1)) (length (byte ∷ text ++ tail)) (number_stops 10 most_digits (byte ∷ text ++ tail) none) in
-    let signed = bind_stops (fixed_at (codes "-") (byte ∷ text ++ tail)) (λ rest. number_at 10 most_digits rest >>= λ x. Ok (neg_ℤ (pos x.0), x.1)) (length (byte ∷ text ++ tail)) (fixed_other 45 byte [] (text ++ tail) (not_true (45 == byte) sign.0)) in
+    let signed = bind_stops (fixed_at (codes "-") (byte ∷ text ++ tail)) (λ rest. number_at 10 most_digits rest >>= λ x. Ok (neg_ℤ (pos x.0), x.1)) (length (byte ∷ text ++ tail)) (fixed_other 45 byte [] (text ++ tail) (not-true (45 == byte) sign.0)) in
     (min (length (byte ∷ text ++ tail)) (length (byte ∷ text ++ tail)), either_stops _ _ _ _ signed number)
 
 -- nor a `]`
 lettered_no_end : (text tail : List ℕ) → is_lettered text ≡ true → (left : ℕ) × (fixed_at (codes "]") (text ++ tail) ≡ Err left)
 lettered_no_end [] tail e = absurd (cc)
 lettered_no_end (byte ∷ text) tail e =
-    let all = both_true (not (is_digit byte 10)) (not (45 == byte) && not (93 == byte)) e in
-    let end = both_true (not (45 == byte)) (not (93 == byte)) all.1 in
-    (length (byte ∷ text ++ tail), fixed_other 93 byte [] (text ++ tail) (not_true (93 == byte) end.1))
+    let all = and_parts (not (is_digit byte 10)) (not (45 == byte) && not (93 == byte)) e in
+    let end = and_parts (not (45 == byte)) (not (93 == byte)) all.1 in
+    (length (byte ∷ text ++ tail), fixed_other 93 byte [] (text ++ tail) (not-true (93 == byte) end.1))
 
 -- nor does an integer begin one
 integer_no_end : (word tail : List ℕ) (value : ℤ) → IsInteger word value → (left : ℕ) × (fixed_at (codes "]") (word ++ tail) ≡ Err left)
@@ -104,7 +106,7 @@ reads_else {V} {Word} {read} value byte r apart =
     (λ a b e f.
     let w = r.wrong text b f in
     let all = byte_stops value byte text a e in
-    omega (arith, all, w.count, ap length w.whole, length-append w.good w.bad))))
+    omega (arith, all, w.cut.count, ap length w.cut.whole, length-append w.cut.good w.cut.bad))))
     (reads_or (reads_fixed value (byte ∷ [])) r
     (λ word tail v w.
     let stops = apart word tail v w in
@@ -224,12 +226,8 @@ entries_step inner shortens separator text =
 same_cut : (a u b v : List ℕ) → a ++ u ≡ b ++ v → length u ≡ length v → (b ≡ a) × (u ≡ v)
 same_cut a u b v e h =
     let t = cut_in a u b v e (omega (arith, h)) in
-    let none : t.0 ≡ [] = no_bytes t.0 (omega (arith, h, ap length t.2, length-append t.0 v)) in
+    let none : t.0 ≡ [] = nil_from_length t.0 (omega (arith, h, ap length t.2, length-append t.0 v)) in
     (t.1 ∙ ap (λ x. a ++ x) none ∙ append-nil a, t.2 ∙ ap (λ x. x ++ v) none)
-  where
-    no_bytes : (x : List ℕ) → length x ≡ 0 → x ≡ []
-    no_bytes [] h = refl
-    no_bytes (byte ∷ x) h = absurd (omega (arith, h))
 
 -- a reader that is each of some readers on texts to a length, where each word is one of a language's from some length on
 reads_all : {V : Type 0} {Word : Language V} {Tail : List ℕ → Type 0} {read : Reader V} (To : ℕ → Language V) (to : ℕ → Reader V) → ((n : ℕ) → Reads (To n) Tail (to n))
@@ -252,18 +250,13 @@ reads_all {V} {Word} {Tail} {read} To to r are from same = record {
   wrong = λ text left e.
       let at : (n : ℕ) → length text ≤ n → to n text ≡ Err left = λ n h. sym (same n text h) ∙ e in
       let f = (r (length text)).wrong text left (at (length text) (omega arith)) in record {
-        good = f.good;
-        bad = f.bad;
-        whole = f.whole;
-        count = f.count;
-        more = f.more;
-        value = f.value;
-        begins = are (length text) (f.good ++ f.more) f.value f.begins;
+        cut = f.cut;
+        begins = (f.begins.0, f.begins.1, are (length text) (f.cut.good ++ f.begins.0) f.begins.1 f.begins.2);
         same = λ other e2.
-            let n = length text + length (f.good ++ other) in
+            let n = length text + length (f.cut.good ++ other) in
             let g = (r n).wrong text left (at n (omega arith)) in
-            let one = same_cut f.good f.bad g.good g.bad (sym f.whole ∙ g.whole) (sym f.count ∙ g.count) in
-            same n (f.good ++ other) (omega arith) ∙ ap (λ u. to n (u ++ other)) (sym one.0) ∙ g.same other (e2 ∙ ap next one.1);
+            let one = same_cut f.cut.good f.cut.bad g.cut.good g.cut.bad (sym f.cut.whole ∙ g.cut.whole) (sym f.cut.count ∙ g.cut.count) in
+            same n (f.cut.good ++ other) (omega arith) ∙ ap (λ u. to n (u ++ other)) (sym one.0) ∙ g.same other (e2 ∙ ap next one.1);
       };
   again = λ word tail value is t.
       let m = from word value is in

@@ -3,102 +3,104 @@ use Rattle.std.proofs.Common.{◌≡◌, true, false, codes, Ok, Err, refl, pos,
 use Rattle.sgb_gen.specs.Shorthands.{complete, petersen}
 use Rattle.sgb_expr.specs.Expression.{Expression, Entry, Entries}
 use Rattle.sgb_expr.specs.Expressions.{IsExpression}
-use Rattle.sgb_expr.specs.FlipTexts.{IsFlip, whole_flip_at}
-use Rattle.sgb_expr.specs.Names.{family_openings, openings}
-use Rattle.sgb_expr.specs.Reading.{entries_at, expression_at, whole_at}
+use Rattle.sgb_expr.specs.FlipTexts.{IsFlip}
+use Rattle.sgb_expr.specs.inner.FlipTexts.{whole_flip_at}
+use Rattle.sgb_expr.specs.inner.Names.{generator_openings, openings}
+use Rattle.sgb_expr.specs.inner.Reading.{entries_at, expression_at, whole_at}
 use Rattle.sgb_expr.specs.StdinUses.{has_stdin}
-use Rattle.sgb_expr.specs.declared.expressions.Family.TheVariants.{Board, Subsets}
-use Rattle.sgb_expr.proofs.FlipReading.{flip_read}
+use Rattle.sgb_expr.specs.declared.expressions.Generator.TheVariants.{Board, Subsets}
+use Rattle.sgb_expr.proofs.FlipReading.{reads_flip}
 use Rattle.sgb_expr.proofs.WholeReading.{whole_read}
+use Rattle.sgb_expr.proofs.WholeWords.{word_whole}
 
 -- the complement of the petersen graph, with loops
-reads_complement : whole_at (codes "complement(petersen(),0,-7,00)") ≡ Ok (Expression.Complement (Expression.Family (Subsets petersen)) false true false)
-unfolding expression_at openings family_openings
+reads_complement : whole_at (codes "complement(petersen(),0,-7,00)") ≡ Ok (Expression.Complement (Expression.Generated (Subsets petersen)) false true false)
+unfolding expression_at openings generator_openings
 reads_complement = refl
 
-pub complement_is : IsExpression (codes "complement(petersen(),0,-7,00)") (Expression.Complement (Expression.Family (Subsets petersen)) false true false)
+pub complement_is : IsExpression (codes "complement(petersen(),0,-7,00)") (Expression.Complement (Expression.Generated (Subsets petersen)) false true false)
 complement_is = whole_read _ _ reads_complement
 
 -- a union of two graphs, of which the second is a complement
-reads_union : whole_at (codes "gunion(complete(2),complement(complete(3),1,0,0),0,1)") ≡ Ok (Expression.Gunion (Expression.Family (Board (complete (pos 2)))) (Expression.Complement (Expression.Family (Board (complete (pos 3)))) true false false) false true)
-unfolding expression_at openings family_openings
+reads_union : whole_at (codes "gunion(complete(2),complement(complete(3),1,0,0),0,1)") ≡ Ok (Expression.Gunion (Expression.Generated (Board (complete (pos 2)))) (Expression.Complement (Expression.Generated (Board (complete (pos 3)))) true false false) false true)
+unfolding expression_at openings generator_openings
 reads_union = refl
 
 -- 17 bytes are left, of which the first, a `)`, stands where the complement inside lacks its third integer
 wrong_inside : whole_at (codes "gunion(complement(petersen(),1,0),petersen(),0,0)") ≡ Err 17
-unfolding expression_at openings family_openings
+unfolding expression_at openings generator_openings
 wrong_inside = refl
 
 -- a line graph that is directed
-reads_lines : whole_at (codes "lines(petersen(),-7)") ≡ Ok (Expression.Lines (Expression.Family (Subsets petersen)) true)
-unfolding expression_at openings family_openings
+reads_lines : whole_at (codes "lines(petersen(),-7)") ≡ Ok (Expression.Lines (Expression.Generated (Subsets petersen)) true)
+unfolding expression_at openings generator_openings
 reads_lines = refl
 
 -- a product, whose kind is an integer as it stands
-reads_product : whole_at (codes "product(petersen(),complete(2),-3,1)") ≡ Ok (Expression.Product (Expression.Family (Subsets petersen)) (Expression.Family (Board (complete (pos 2)))) (negsuc 2) true)
-unfolding expression_at openings family_openings
+reads_product : whole_at (codes "product(petersen(),complete(2),-3,1)") ≡ Ok (Expression.Product (Expression.Generated (Subsets petersen)) (Expression.Generated (Board (complete (pos 2)))) (negsuc 2) true)
+unfolding expression_at openings generator_openings
 reads_product = refl
 
 -- a complete bipartite graph, and a wheel
 reads_bi_complete : whole_at (codes "bi_complete(2,-3,1)") ≡ Ok (Expression.BiComplete (pos 2) (negsuc 2) true)
-unfolding expression_at openings family_openings
+unfolding expression_at openings generator_openings
 reads_bi_complete = refl
 
 reads_wheel : whole_at (codes "wheel(5,1,0)") ≡ Ok (Expression.Wheel (pos 5) (pos 1) false)
-unfolding expression_at openings family_openings
+unfolding expression_at openings generator_openings
 reads_wheel = refl
 
 -- entries are integers and expressions, in order
 reads_induced : whole_at (codes "induced(complete(2),[3,petersen(),-4],0,9,0)")
-    ≡ Ok (Expression.Induced (Expression.Family (Board (complete (pos 2)))) (Entries.EntryThen (Entry.Number (pos 3)) (Entries.EntryThen (Entry.Graph (Expression.Family (Subsets petersen))) (Entries.EntryThen (Entry.Number (negsuc 3)) Entries.NoEntries))) false true false)
-unfolding expression_at entries_at openings family_openings
+    ≡ Ok (Expression.Induced (Expression.Generated (Board (complete (pos 2)))) (Entries.EntryThen (Entry.Number (pos 3)) (Entries.EntryThen (Entry.Graph (Expression.Generated (Subsets petersen))) (Entries.EntryThen (Entry.Number (negsuc 3)) Entries.NoEntries))) false true false)
+unfolding expression_at entries_at openings generator_openings
 reads_induced = refl
 
 -- there may be none
-reads_no_entries : whole_at (codes "induced(petersen(),[],1,0,1)") ≡ Ok (Expression.Induced (Expression.Family (Subsets petersen)) Entries.NoEntries true false true)
-unfolding expression_at entries_at openings family_openings
+reads_no_entries : whole_at (codes "induced(petersen(),[],1,0,1)") ≡ Ok (Expression.Induced (Expression.Generated (Subsets petersen)) Entries.NoEntries true false true)
+unfolding expression_at entries_at openings generator_openings
 reads_no_entries = refl
 
 -- 10 bytes are left: no entry begins with a `,`
 wrong_first_entry : whole_at (codes "induced(petersen(),[,1],0,0,0)") ≡ Err 10
-unfolding expression_at entries_at openings family_openings
+unfolding expression_at entries_at openings generator_openings
 wrong_first_entry = refl
 
 -- 8 bytes are left: an entry has to come after a `,`
 wrong_last_entry : whole_at (codes "induced(petersen(),[1,],0,0,0)") ≡ Err 8
-unfolding expression_at entries_at openings family_openings
+unfolding expression_at entries_at openings generator_openings
 wrong_last_entry = refl
 
 -- 10 bytes are left: a `,` has to come before the next entry
 wrong_comma : whole_at (codes "induced(petersen(),[1-2],0,0,0)") ≡ Err 10
-unfolding expression_at entries_at openings family_openings
+unfolding expression_at entries_at openings generator_openings
 wrong_comma = refl
 
 -- standard input, by its whole word
 reads_stdin : whole_at (codes "complement(stdin,0,0,1)") ≡ Ok (Expression.Complement Expression.Stdin false false true)
-unfolding expression_at openings family_openings
+unfolding expression_at openings generator_openings
 reads_stdin = refl
 
 -- 1 byte is left: nothing comes after the word
 wrong_after_stdin : whole_at (codes "stdinx") ≡ Err 1
-unfolding expression_at openings family_openings
+unfolding expression_at openings generator_openings
 wrong_after_stdin = refl
 
 -- no word begins with `stdi` and something else, so 2 bytes are left
 wrong_in_stdin : whole_at (codes "stdixx") ≡ Err 2
-unfolding expression_at openings family_openings
+unfolding expression_at openings generator_openings
 wrong_in_stdin = refl
 
 -- it stands in an entry of an entry's graph
-finds_stdin : has_stdin (Expression.Induced (Expression.Family (Subsets petersen)) (Entries.EntryThen (Entry.Number (pos 3)) (Entries.EntryThen (Entry.Graph (Expression.Lines Expression.Stdin true)) Entries.NoEntries)) false true false) ≡ true
+finds_stdin : has_stdin (Expression.Induced (Expression.Generated (Subsets petersen)) (Entries.EntryThen (Entry.Number (pos 3)) (Entries.EntryThen (Entry.Graph (Expression.Lines Expression.Stdin true)) Entries.NoEntries)) false true false) ≡ true
 finds_stdin = refl
 
 -- what is asked of the random generator: leading zeros and a sign
-reads_flip : whole_flip_at (codes "flip(-3,00,5,07)") ≡ Ok (record { start = negsuc 2; skip = pos 0; count = pos 5; m = pos 7 })
-reads_flip = refl
+flip_example : whole_flip_at (codes "flip(-3,00,5,07)") ≡ Ok (record { start = negsuc 2; skip = pos 0; count = pos 5; m = pos 7 })
+flip_example = refl
 
 pub flip_is : IsFlip (codes "flip(-3,00,5,07)") (record { start = negsuc 2; skip = pos 0; count = pos 5; m = pos 7 })
-flip_is = flip_read _ _ reads_flip
+flip_is = word_whole reads_flip _ _ flip_example
 
 -- 1 byte is left, a `)` where the fourth integer is missing
 wrong_flip : whole_flip_at (codes "flip(1,2,3)") ≡ Err 1

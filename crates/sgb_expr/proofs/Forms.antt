@@ -4,14 +4,14 @@ use Rattle.sgb_expr.specs.Expression.{Expression}
 use Rattle.sgb_expr.specs.Forms.{AreNumbers}
 use Rattle.sgb_expr.specs.Languages.{Then, After, As}
 use Rattle.sgb_expr.specs.Operations.{AreEntries, AreOperands, IsCallOf, IsEntryList, complement_of, gunion_of, intersection_of, product_of, lines_of, induced_of, bi_complete_of, wheel_of}
-use Rattle.sgb_expr.specs.Readings.{◌>>=◌, then_read, read_after, read_as, fixed_at, integers_at}
-use Rattle.sgb_expr.specs.Reading.{arguments_with, entries_at, entry_list_at, operands_with}
+use Rattle.sgb_expr.specs.inner.Readings.{◌>>=◌, then_read, read_after, read_as, fixed_at, integers_at}
+use Rattle.sgb_expr.specs.inner.Reading.{arguments_with, entries_at, entry_list_at, operands_with}
 use Rattle.sgb_expr.specs.declared.names.Name.{Name}
-use Rattle.sgb_expr.specs.declared.names.Name.TheVariants.{Family, Complement, Gunion, Intersection, Lines, Product, Induced, BiComplete, Wheel, Stdin}
+use Rattle.sgb_expr.specs.declared.names.Name.TheVariants.{Generator, Complement, Gunion, Intersection, Lines, Product, Induced, BiComplete, Wheel, Stdin}
 use Rattle.sgb_expr.proofs.Readers.{Reads, reads_then, reads_as}
-use Rattle.sgb_expr.proofs.Words.{Anything, reads_fixed}
-use Rattle.sgb_expr.proofs.Lengths.{Language, Reader, Within, Agree, no_longer, fixed_no_longer, bind_agrees}
-use Rattle.sgb_expr.proofs.FamilyReaders.{close_end, reads_after, reads_family, reads_integers}
+use Rattle.sgb_expr.proofs.Words.{Anything, reads_after, reads_fixed}
+use Rattle.sgb_expr.proofs.Lengths.{Language, Reader, Within, Agree, no_longer, fixed_takes, bind_agrees}
+use Rattle.sgb_expr.proofs.GeneratorReaders.{close_end, reads_generator, reads_integers}
 use Rattle.sgb_expr.proofs.EntryReaders.{Inside, none_before, reads_entries, entries_more, entries_agree}
 
 -- a form: its reader reads it if the expressions inside are read; with more expressions inside it has more words; and
@@ -57,7 +57,7 @@ form_after {V} {Word} {read} bytes f = record {
   more = λ Less More h word value w. (w.0, w.1, f.more Less More h w.0 value w.2);
   agrees = λ Inner inner other n r h text short.
       bind_agrees (fixed_at bytes text) (read inner) (read other)
-      (λ rest e. f.agrees Inner inner other n r h rest (omega (arith, short, fixed_no_longer bytes text rest e)));
+      (λ rest e. f.agrees Inner inner other n r h rest (omega (arith, short, fixed_takes bytes text rest e)));
 }
 
 -- under a function
@@ -90,7 +90,7 @@ induced_form graph =
 
 -- the form of each name
 pub form_of : (name : Name) → Form (λ Inner. IsCallOf Inner name) (λ inner. arguments_with inner name)
-form_of (Family name) = plain (reads_as Expression.Family (reads_family name))
+form_of (Generator name) = plain (reads_as Expression.Generated (reads_generator name))
 form_of Complement = form_then inside (λ graph. plain (reads_as (complement_of graph) (reads_integers (codes ",") 3 (codes ")") close_end)))
 form_of Gunion = form_as gunion_of operands_form
 form_of Intersection = form_as intersection_of operands_form

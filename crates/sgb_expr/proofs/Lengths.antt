@@ -1,8 +1,8 @@
 -- How much readers leave of a text.
 use Rattle.std.proofs.Common.{◌≡◌, ◌≤◌, ◌+◌, ℕ, List, length, inl, inr, Result, Ok, Err, refl, sym, ◌∙◌, ap, arith, length-append}
-use Rattle.sgb_expr.specs.Readings.{◌>>=◌, fixed_at}
-use Rattle.sgb_expr.proofs.Readers.{Reads, ok_same}
-use Rattle.sgb_expr.proofs.Words.{fixed_cases, no_ok}
+use Rattle.sgb_expr.specs.inner.Readings.{◌>>=◌, fixed_at}
+use Rattle.sgb_expr.proofs.Readers.{Reads, no_ok, ok_same}
+use Rattle.sgb_expr.proofs.Words.{fixed_cases}
 
 -- texts as words of values, and readers of values
 abbrev pub Language : Type 0 → Type 1
@@ -33,9 +33,6 @@ fixed_takes bytes text rest e = elim (fixed_cases bytes text) [
       omega (arith, ap length r.2, length-append bytes r.0, ap length same)
   | inr p ↦ absurd (no_ok (sym p.1 ∙ e))
 ]
-
-pub fixed_no_longer : (bytes text rest : List ℕ) → fixed_at bytes text ≡ Ok rest → length rest ≤ length text
-fixed_no_longer bytes text rest e = omega (arith, fixed_takes bytes text rest e)
 
 -- readings that go on alike
 pub bind_agrees : {A B : Type 0} (r : Result A ℕ) (f g : A → Result B ℕ) → ((x : A) → r ≡ Ok x → f x ≡ g x) → (r >>= f) ≡ (r >>= g)

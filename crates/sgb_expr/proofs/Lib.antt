@@ -1,18 +1,37 @@
+-- The lemmas of sgb_expr, by subject.
+-- readers of languages, one after another, and one or the other
 pub mod Readers
+-- readers of fixed texts, and of one among several words
 pub mod Words
+-- a reader of numbers in a radix
 pub mod Digits
+-- readers of integers and of bits
 pub mod NumberReaders
+-- integers read one after another by a loop
 pub mod IntegerLists
+-- the names of forms tried one after another by a loop
 pub mod NameOpenings
-pub mod FamilyReaders
+-- readers of argument lists, and of each generator's form
+pub mod GeneratorReaders
+-- how much readers leave of a text
 pub mod Lengths
+-- readers of entries to a `]`
 pub mod EntryReaders
+-- the form of each name: its words, and its reader
 pub mod Forms
+-- expressions inside expressions: depths of at least the length are alike
 pub mod Nesting
+-- entries read one after another by a loop
 pub mod EntryLists
+-- what expressions of the code that hold entries are
 pub mod CodeExpressions
+-- which expressions of the code read standard input
 pub mod StdinUses
+-- whole texts read as words, and where others go wrong
 pub mod WholeWords
+-- whole texts read as expressions
 pub mod WholeReading
+-- a reader of what is asked of the random generator
 pub mod FlipReading
+-- texts and what they are, by evaluation
 pub mod Examples

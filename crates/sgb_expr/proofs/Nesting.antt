@@ -1,48 +1,47 @@
 -- Expressions inside expressions: their readers, and that as many levels as the text has bytes are enough.
-use Rattle.std.proofs.Common.{◌≡◌, ◌≤◌, ◌<◌, ◌&&◌, ℕ, zero, suc, Bool, true, false, List, [], ◌∷◌, ◌++◌, map, length, get_or, Ok, Err, refl, sym, ◌∙◌, ap, subst, inl, inr, arith, length-append, lit<}
-use Rattle.std.proofs.lemmas.Bool.{cases_lt}
+use Rattle.std.proofs.Common.{◌≡◌, ◌≤◌, ◌<◌, ◌&&◌, ℕ, zero, suc, Bool, true, List, [], ◌∷◌, ◌++◌, map, length, get_or, Ok, Err, refl, sym, ◌∙◌, ap, subst, inl, inr, arith, length-append, lit<}
+use Rattle.std.proofs.lemmas.Bool.{and_parts, cases_lt}
 use Rattle.sgb_expr.specs.Expression.{Expression}
 use Rattle.sgb_expr.specs.Expressions.{IsNested}
 use Rattle.sgb_expr.specs.Languages.{Then}
-use Rattle.sgb_expr.specs.Names.{all_names, all_family_names, family_openings, openings, opening_of}
+use Rattle.sgb_expr.specs.Names.{opening_of}
+use Rattle.sgb_expr.specs.inner.Names.{all_names, all_generator_names, generator_openings, openings}
 use Rattle.sgb_expr.specs.Operations.{IsCallOf, IsGenerator}
-use Rattle.sgb_expr.specs.Readings.{then_read, word_at}
-use Rattle.sgb_expr.specs.Reading.{arguments_with, expression_at, nested_at}
-use Rattle.sgb_expr.specs.declared.names.FamilyName.{FamilyName}
-use Rattle.sgb_expr.specs.declared.names.FamilyName.TheVariants.{Board, Simplex, Subsets, Complete, Transitive, Empty, Circuit, Cycle, DisjointSubsets, Petersen}
+use Rattle.sgb_expr.specs.inner.Readings.{then_read, word_at}
+use Rattle.sgb_expr.specs.inner.Reading.{arguments_with, expression_at, nested_at}
+use Rattle.sgb_expr.specs.declared.names.GeneratorName.{GeneratorName}
+use Rattle.sgb_expr.specs.declared.names.GeneratorName.TheVariants.{Board, Simplex, Subsets, Complete, Transitive, Empty, Circuit, Cycle, DisjointSubsets, Petersen}
 use Rattle.sgb_expr.specs.declared.names.Name.{Name}
-use Rattle.sgb_expr.specs.declared.names.Name.TheVariants.{Family, Complement, Gunion, Intersection, Lines, Product, Induced, BiComplete, Wheel, Stdin}
+use Rattle.sgb_expr.specs.declared.names.Name.TheVariants.{Generator, Complement, Gunion, Intersection, Lines, Product, Induced, BiComplete, Wheel, Stdin}
 use Rattle.sgb_expr.proofs.Readers.{Reads, bind_of, bind_stops, reads_then, reads_as, reads_is}
-use Rattle.sgb_expr.proofs.Words.{Anything, IsWord, both_true, reads_words}
-use Rattle.sgb_expr.proofs.FamilyReaders.{reads_family}
+use Rattle.sgb_expr.proofs.Words.{Anything, IsWord, reads_words}
+use Rattle.sgb_expr.proofs.GeneratorReaders.{reads_generator}
 use Rattle.sgb_expr.proofs.Lengths.{Within, no_longer, bind_agrees}
-use Rattle.sgb_expr.proofs.EntryReaders.{Inside, is_lettered, lettered_more}
+use Rattle.sgb_expr.proofs.EntryReaders.{Inside, is_lettered, lettered_more, lettered_some}
 use Rattle.sgb_expr.proofs.Forms.{form_of}
 
 -- a word stands among those of its list
 word_there : {N : Type 0} (opening : N → List ℕ) (names : List N) (i : ℕ) (default : N) → i < length names → IsWord (map (λ n. (opening n, n)) names) (opening (get_or names i default)) (get_or names i default)
 word_there opening [] i default h = absurd (omega (arith, h))
-word_there opening (n ∷ []) zero default h = (refl, refl)
-word_there opening (n ∷ []) (suc i) default h = absurd (omega (arith, h))
-word_there opening (n ∷ m ∷ names) zero default h = inl (refl, refl)
-word_there opening (n ∷ m ∷ names) (suc i) default h = inr (word_there opening (m ∷ names) i default (omega (arith, h)))
+word_there opening (n ∷ names) zero default h = inl (refl, refl)
+word_there opening (n ∷ names) (suc i) default h = inr (word_there opening names i default (omega (arith, h)))
 
 -- the opening of generator i stands among theirs
-family_there : (i : ℕ) → i < 10 → IsWord family_openings (opening_of (Family (get_or all_family_names i Board))) (get_or all_family_names i Board)
-unfolding family_openings
-family_there i h = word_there (λ name. opening_of (Family name)) all_family_names i Board h
+generator_there : (i : ℕ) → i < 10 → IsWord generator_openings (opening_of (Generator (get_or all_generator_names i Board))) (get_or all_generator_names i Board)
+unfolding generator_openings
+generator_there i h = word_there (λ name. opening_of (Generator name)) all_generator_names i Board h
 
-family_is_there : (name : FamilyName) → IsWord family_openings (opening_of (Family name)) name
-family_is_there Board = family_there 0 (lit< tt)
-family_is_there Simplex = family_there 1 (lit< tt)
-family_is_there Subsets = family_there 2 (lit< tt)
-family_is_there Complete = family_there 3 (lit< tt)
-family_is_there Transitive = family_there 4 (lit< tt)
-family_is_there Empty = family_there 5 (lit< tt)
-family_is_there Circuit = family_there 6 (lit< tt)
-family_is_there Cycle = family_there 7 (lit< tt)
-family_is_there DisjointSubsets = family_there 8 (lit< tt)
-family_is_there Petersen = family_there 9 (lit< tt)
+generator_is_there : (name : GeneratorName) → IsWord generator_openings (opening_of (Generator name)) name
+generator_is_there Board = generator_there 0 (lit< tt)
+generator_is_there Simplex = generator_there 1 (lit< tt)
+generator_is_there Subsets = generator_there 2 (lit< tt)
+generator_is_there Complete = generator_there 3 (lit< tt)
+generator_is_there Transitive = generator_there 4 (lit< tt)
+generator_is_there Empty = generator_there 5 (lit< tt)
+generator_is_there Circuit = generator_there 6 (lit< tt)
+generator_is_there Cycle = generator_there 7 (lit< tt)
+generator_is_there DisjointSubsets = generator_there 8 (lit< tt)
+generator_is_there Petersen = generator_there 9 (lit< tt)
 
 -- the opening of form i stands among all
 there : (i : ℕ) → i < 19 → IsWord openings (opening_of (get_or all_names i Complement)) (get_or all_names i Complement)
@@ -50,16 +49,16 @@ unfolding openings
 there i h = word_there opening_of all_names i Complement h
 
 name_is_there : (name : Name) → IsWord openings (opening_of name) name
-name_is_there (Family Board) = there 0 (lit< tt)
-name_is_there (Family Simplex) = there 1 (lit< tt)
-name_is_there (Family Subsets) = there 2 (lit< tt)
-name_is_there (Family Complete) = there 3 (lit< tt)
-name_is_there (Family Transitive) = there 4 (lit< tt)
-name_is_there (Family Empty) = there 5 (lit< tt)
-name_is_there (Family Circuit) = there 6 (lit< tt)
-name_is_there (Family Cycle) = there 7 (lit< tt)
-name_is_there (Family DisjointSubsets) = there 8 (lit< tt)
-name_is_there (Family Petersen) = there 9 (lit< tt)
+name_is_there (Generator Board) = there 0 (lit< tt)
+name_is_there (Generator Simplex) = there 1 (lit< tt)
+name_is_there (Generator Subsets) = there 2 (lit< tt)
+name_is_there (Generator Complete) = there 3 (lit< tt)
+name_is_there (Generator Transitive) = there 4 (lit< tt)
+name_is_there (Generator Empty) = there 5 (lit< tt)
+name_is_there (Generator Circuit) = there 6 (lit< tt)
+name_is_there (Generator Cycle) = there 7 (lit< tt)
+name_is_there (Generator DisjointSubsets) = there 8 (lit< tt)
+name_is_there (Generator Petersen) = there 9 (lit< tt)
 name_is_there Complement = there 10 (lit< tt)
 name_is_there Gunion = there 11 (lit< tt)
 name_is_there Intersection = there 12 (lit< tt)
@@ -73,61 +72,51 @@ name_is_there Stdin = there 18 (lit< tt)
 -- an opening is that of its name
 opening_is : {N : Type 0} (opening : N → List ℕ) (names : List N) (text : List ℕ) (name : N) → IsWord (map (λ n. (opening n, n)) names) text name → text ≡ opening name
 opening_is opening [] text name w = absurd w
-opening_is opening (n ∷ []) text name w = w.0 ∙ ap opening (sym w.1)
-opening_is opening (n ∷ m ∷ names) text name (inl w) = w.0 ∙ ap opening (sym w.1)
-opening_is opening (n ∷ m ∷ names) text name (inr w) = opening_is opening (m ∷ names) text name w
-
--- each word has a first byte
-abbrev starts : List ℕ → Bool
-starts [] = false
-starts (byte ∷ bytes) = true
-
-abbrev all_start : {V : Type 0} → List (List ℕ × V) → Bool
-all_start [] = true
-all_start (word ∷ words) = starts word.0 && all_start words
-
-some_bytes : (bytes : List ℕ) → starts bytes ≡ true → 0 < length bytes
-some_bytes [] e = absurd (cc)
-some_bytes (byte ∷ bytes) e = omega arith
-
-word_starts : {V : Type 0} (words : List (List ℕ × V)) (text : List ℕ) (v : V) → all_start words ≡ true → IsWord words text v → 0 < length text
-word_starts [] text v e w = absurd w
-word_starts (word ∷ []) text v e w = some_bytes text (ap starts w.0 ∙ (both_true (starts word.0) true e).0)
-word_starts (word ∷ other ∷ words) text v e (inl w) = some_bytes text (ap starts w.0 ∙ (both_true (starts word.0) (all_start (other ∷ words)) e).0)
-word_starts (word ∷ other ∷ words) text v e (inr w) = word_starts (other ∷ words) text v (both_true (starts word.0) (all_start (other ∷ words)) e).1 w
+opening_is opening (n ∷ names) text name (inl w) = w.0 ∙ ap opening (sym w.1)
+opening_is opening (n ∷ names) text name (inr w) = opening_is opening names text name w
 
 -- readers of openings
-reads_family_openings : Reads (IsWord family_openings) Anything (word_at family_openings)
-unfolding family_openings
-reads_family_openings =
+reads_generator_openings : Reads (IsWord generator_openings) Anything (word_at generator_openings)
+unfolding generator_openings
+reads_generator_openings =
     let later = Simplex ∷ Subsets ∷ Complete ∷ Transitive ∷ Empty ∷ Circuit ∷ Cycle ∷ DisjointSubsets ∷ Petersen ∷ [] in
-    reads_words (opening_of (Family Board), Board) (map (λ name. (opening_of (Family name), name)) later) refl
+    reads_words (opening_of (Generator Board), Board) (map (λ name. (opening_of (Generator name), name)) later) refl
 
 reads_openings : Reads (IsWord openings) Anything (word_at openings)
 unfolding openings
 reads_openings =
-    let families = Simplex ∷ Subsets ∷ Complete ∷ Transitive ∷ Empty ∷ Circuit ∷ Cycle ∷ DisjointSubsets ∷ Petersen ∷ [] in
-    let later = map (λ name. Family name) families ++ Complement ∷ Gunion ∷ Intersection ∷ Lines ∷ Product ∷ Induced ∷ BiComplete ∷ Wheel ∷ Stdin ∷ [] in
-    reads_words (opening_of (Family Board), Family Board) (map (λ name. (opening_of name, name)) later) refl
+    let generators = Simplex ∷ Subsets ∷ Complete ∷ Transitive ∷ Empty ∷ Circuit ∷ Cycle ∷ DisjointSubsets ∷ Petersen ∷ [] in
+    let later = map (λ name. Generator name) generators ++ Complement ∷ Gunion ∷ Intersection ∷ Lines ∷ Product ∷ Induced ∷ BiComplete ∷ Wheel ∷ Stdin ∷ [] in
+    reads_words (opening_of (Generator Board), Generator Board) (map (λ name. (opening_of name, name)) later) refl
+
+-- each word begins with a letter
+abbrev all_lettered : {V : Type 0} → List (List ℕ × V) → Bool
+all_lettered [] = true
+all_lettered (word ∷ words) = is_lettered word.0 && all_lettered words
+
+word_lettered : {V : Type 0} (words : List (List ℕ × V)) (text : List ℕ) (v : V) → all_lettered words ≡ true → IsWord words text v → is_lettered text ≡ true
+word_lettered [] text v e w = absurd w
+word_lettered (word ∷ words) text v e (inl w) = ap is_lettered w.0 ∙ (and_parts (is_lettered word.0) (all_lettered words) e).0
+word_lettered (word ∷ words) text v e (inr w) = word_lettered words text v (and_parts (is_lettered word.0) (all_lettered words) e).1 w
+
+openings_lettered : all_lettered openings ≡ true
+unfolding openings
+openings_lettered = refl
 
 -- what is left after a name is shorter than the text
-openings_start : all_start openings ≡ true
-unfolding openings
-openings_start = refl
-
 pub opening_shorter : (text : List ℕ) (name : Name) (rest : List ℕ) → word_at openings text ≡ Ok (name, rest) → length rest < length text
 opening_shorter text name rest e =
     let f = reads_openings.found text name rest e in
-    let some = word_starts openings f.word name openings_start f.is in
+    let some = lettered_some f.word (word_lettered openings f.word name openings_lettered f.is) in
     omega (arith, some, ap length f.whole, length-append f.word rest)
 
 -- expressions in which no operation stands
-generator_is : (text : List ℕ) (e : Expression) → Then (IsWord family_openings) IsGenerator text e → IsNested 0 text e
-unfolding family_openings
-generator_is text e h = (h.2, h.1, h.3 ∙ ap (λ u. u ++ h.1) (opening_is (λ name. opening_of (Family name)) all_family_names h.0 h.2 h.4), h.5)
+generator_is : (text : List ℕ) (e : Expression) → Then (IsWord generator_openings) IsGenerator text e → IsNested 0 text e
+unfolding generator_openings
+generator_is text e h = (h.2, h.1, h.3 ∙ ap (λ u. u ++ h.1) (opening_is (λ name. opening_of (Generator name)) all_generator_names h.0 h.2 h.4), h.5)
 
-generator_from : (text : List ℕ) (e : Expression) → IsNested 0 text e → Then (IsWord family_openings) IsGenerator text e
-generator_from text e h = (opening_of (Family h.0), h.1, h.0, h.2, family_is_there h.0, h.3)
+generator_from : (text : List ℕ) (e : Expression) → IsNested 0 text e → Then (IsWord generator_openings) IsGenerator text e
+generator_from text e h = (opening_of (Generator h.0), h.1, h.0, h.2, generator_is_there h.0, h.3)
 
 -- expressions in which operations may stand
 call_is : (depth : ℕ) (text : List ℕ) (e : Expression) → Then (IsWord openings) (IsCallOf (IsNested depth)) text e → IsNested (suc depth) text e
@@ -137,35 +126,20 @@ call_is depth text e h = (h.2, h.1, h.3 ∙ ap (λ u. u ++ h.1) (opening_is open
 call_from : (depth : ℕ) (text : List ℕ) (e : Expression) → IsNested (suc depth) text e → Then (IsWord openings) (IsCallOf (IsNested depth)) text e
 call_from depth text e h = (opening_of h.0, h.1, h.0, h.2, name_is_there h.0, h.3)
 
--- each word begins with a letter
-abbrev all_lettered : {V : Type 0} → List (List ℕ × V) → Bool
-all_lettered [] = true
-all_lettered (word ∷ words) = is_lettered word.0 && all_lettered words
-
-word_lettered : {V : Type 0} (words : List (List ℕ × V)) (text : List ℕ) (v : V) → all_lettered words ≡ true → IsWord words text v → is_lettered text ≡ true
-word_lettered [] text v e w = absurd w
-word_lettered (word ∷ []) text v e w = ap is_lettered w.0 ∙ (both_true (is_lettered word.0) true e).0
-word_lettered (word ∷ other ∷ words) text v e (inl w) = ap is_lettered w.0 ∙ (both_true (is_lettered word.0) (all_lettered (other ∷ words)) e).0
-word_lettered (word ∷ other ∷ words) text v e (inr w) = word_lettered (other ∷ words) text v (both_true (is_lettered word.0) (all_lettered (other ∷ words)) e).1 w
-
-openings_lettered : all_lettered openings ≡ true
-unfolding openings
-openings_lettered = refl
-
 -- an expression begins with a letter
 opening_lettered : (name : Name) (arguments text : List ℕ) → text ≡ opening_of name ++ arguments → is_lettered text ≡ true
 opening_lettered name arguments text e =
     ap is_lettered e ∙ lettered_more (opening_of name) arguments (word_lettered openings (opening_of name) name openings_lettered (name_is_there name))
 
 nested_lettered : (depth : ℕ) (text : List ℕ) (e : Expression) → IsNested depth text e → is_lettered text ≡ true
-nested_lettered zero text e w = opening_lettered (Family w.0) w.1 text w.2
+nested_lettered zero text e w = opening_lettered (Generator w.0) w.1 text w.2
 nested_lettered (suc depth) text e w = opening_lettered w.0 w.1 text w.2
 
 -- a reader of expressions to each depth
 pub reads_nested : (depth : ℕ) → Reads (IsNested depth) Anything (nested_at depth)
 reads_nested zero =
     reads_is generator_is generator_from
-    (reads_then reads_family_openings (λ name. reads_as Expression.Family (reads_family name)) (λ v word tail value w t. tt))
+    (reads_then reads_generator_openings (λ name. reads_as Expression.Generated (reads_generator name)) (λ v word tail value w t. tt))
 reads_nested (suc depth) =
     reads_is (call_is depth) (call_from depth)
     (reads_then reads_openings (λ name. (form_of name).reads (IsNested depth) (nested_at depth) (record { reads = reads_nested depth; lettered = nested_lettered depth })) (λ v word tail value w t. tt))
@@ -176,7 +150,7 @@ inside_nested depth = record { reads = reads_nested depth; lettered = nested_let
 
 -- an expression stands at each greater depth
 deeper : (depth : ℕ) → Within (IsNested depth) (IsNested (suc depth))
-deeper zero text e w = (Family w.0, w.1, w.2, w.3)
+deeper zero text e w = (Generator w.0, w.1, w.2, w.3)
 deeper (suc depth) text e w = (w.0, w.1, w.2, (form_of w.0).more (IsNested depth) (IsNested (suc depth)) (deeper depth) w.1 e w.3)
 
 pub deep_enough : (more depth : ℕ) → depth ≤ more → Within (IsNested depth) (IsNested more)
@@ -192,7 +166,7 @@ deep_enough (suc more) depth h text e w = elim (cases_lt depth (suc more)) [
 
 -- nothing is read of nothing
 nothing_read : (depth : ℕ) → nested_at depth [] ≡ Err 0
-unfolding family_openings openings
+unfolding generator_openings openings
 nothing_read zero = refl
 nothing_read (suc depth) = refl
 

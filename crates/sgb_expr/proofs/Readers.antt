@@ -2,8 +2,8 @@
 -- another, and one or the other.
 use Rattle.std.proofs.Common.{◌≡◌, ℕ, ◌≤◌, ◌⊎◌, List, [], ◌∷◌, ◌++◌, length, min, Option, Some, None, Result, Ok, Err, refl, sym, ◌∙◌, ap, subst, inl, inr, append_assoc, append-nil, arith, length-append}
 use Rattle.std.proofs.lemmas.Bool.{cases_lt}
-use Rattle.sgb_expr.specs.Languages.{Then, As, Or}
-use Rattle.sgb_expr.specs.Readings.{◌>>=◌, then_read, read_as, either}
+use Rattle.sgb_expr.specs.Languages.{Begins, Then, As, Or}
+use Rattle.sgb_expr.specs.inner.Readings.{◌>>=◌, then_read, read_as, either}
 
 -- the first byte of a text
 abbrev pub next : List ℕ → Option ℕ
@@ -17,17 +17,18 @@ pub record Found {V : Type 0} (Word : List ℕ → V → Type 0) (read : List �
   pub is : Word word value
   pub same : (other : List ℕ) → next other ≡ next rest → read (word ++ other) ≡ Ok (value, other)
 
--- the text goes wrong where so many bytes are left: what stands before begins a word, and what comes next counts by
--- its first byte alone
-pub record Wrong {V : Type 0} (Word : List ℕ → V → Type 0) (read : List ℕ → Result (V × List ℕ) ℕ) (text : List ℕ) (left : ℕ) : Type 0 where
+-- a text cut where so many bytes are left
+pub record Cut (text : List ℕ) (left : ℕ) : Type 0 where
   pub good : List ℕ
   pub bad : List ℕ
   pub whole : text ≡ good ++ bad
   pub count : left ≡ length bad
-  pub more : List ℕ
-  pub value : V
-  pub begins : Word (good ++ more) value
-  pub same : (other : List ℕ) → next other ≡ next bad → read (good ++ other) ≡ Err (length other)
+
+-- the text goes wrong there: what stands before begins a word, and what comes next counts by its first byte alone
+pub record Wrong {V : Type 0} (Word : List ℕ → V → Type 0) (read : List ℕ → Result (V × List ℕ) ℕ) (text : List ℕ) (left : ℕ) : Type 0 where
+  pub cut : Cut text left
+  pub begins : Begins Word cut.good
+  pub same : (other : List ℕ) → next other ≡ next cut.bad → read (cut.good ++ other) ≡ Err (length other)
 
 -- a reader of the words, which finds each again before what may follow
 pub record Reads {V : Type 0} (Word : List ℕ → V → Type 0) (Tail : List ℕ → Type 0) (read : List ℕ → Result (V × List ℕ) ℕ) : Type 0 where
@@ -54,6 +55,24 @@ bind_of {A} {B} r f x e = ap (λ (s : Result A ℕ). s >>= f) e
 pub bind_stops : {A B : Type 0} (r : Result A ℕ) (f : A → Result B ℕ) (left : ℕ) → r ≡ Err left → (r >>= f) ≡ Err left
 bind_stops {A} {B} r f left e = ap (λ (s : Result A ℕ). s >>= f) e
 
+-- where a reading stops, at once or further on, it stops with more to be read
+pub then_stops : {A B C : Type 0} (r : Result A ℕ) (f : A → Result B ℕ) (g : B → Result C ℕ) (left : ℕ) → (r >>= f) ≡ Err left → (r >>= λ x. f x >>= g) ≡ Err left
+then_stops (Ok x) f g left e = bind_stops (f x) g left e
+then_stops (Err other) f g left e = cc
+
+-- a reading does not both stop and succeed
+pub no_ok : {A : Type 0} {x : A} {n : ℕ} → ◌≡◌ {A = Result A ℕ} (Err n) (Ok x) → ⊥
+no_ok e = cc
+
+-- what is read of a list after these
+abbrev pub with_first : {X : Type 0} → List X → Result (List X × List ℕ) ℕ → Result (List X × List ℕ) ℕ
+with_first first read = read >>= λ x. Ok (first ++ x.0, x.1)
+
+-- one and others
+pub one_more : {X : Type 0} (first : List X) (one : X) (read : Result (List X × List ℕ) ℕ) → with_first first (read >>= λ others. Ok (one ∷ others.0, others.1)) ≡ with_first (first ++ one ∷ []) read
+one_more {X} first one (Ok others) = ap (λ (xs : List X). Ok (xs, others.1)) (sym (append_assoc first (one ∷ []) others.0))
+one_more first one (Err left) = refl
+
 -- two readings of one value
 pub ok_same : {A : Type 0} (x y : A) → ◌≡◌ {A = Result A ℕ} (Ok x) (Ok y) → x ≡ y
 ok_same x y e = cc
@@ -63,10 +82,14 @@ pub next_after : (text a b : List ℕ) → next a ≡ next b → next (text ++ a
 next_after [] a b e = e
 next_after (byte ∷ text) a b e = refl
 
--- nothing comes next
-pub none_next : (text : List ℕ) → next text ≡ None → text ≡ []
-none_next [] e = refl
-none_next (byte ∷ text) e = absurd (cc)
+-- a text cut within what stands after a word
+abbrev pub cut_after : (word text rest : List ℕ) (left : ℕ) → text ≡ word ++ rest → Cut rest left → Cut text left
+cut_after word text rest left whole c = record {
+  good = word ++ c.good;
+  bad = c.bad;
+  whole = whole ∙ ap (λ u. word ++ u) c.whole ∙ sym (append_assoc word c.good c.bad);
+  count = c.count;
+}
 
 -- what the second finds after the first
 then_found : {V W : Type 0} (First : List ℕ → V → Type 0) (Second : V → List ℕ → W → Type 0) (first : List ℕ → Result (V × List ℕ) ℕ) (second : V → List ℕ → Result (W × List ℕ) ℕ)
@@ -88,17 +111,12 @@ then_wrong : {V W : Type 0} (First : List ℕ → V → Type 0) (Second : V → 
     (text rest : List ℕ) (left : ℕ) (v : V) → Found First first text v rest → Wrong (Second v) (second v) rest left
     → Wrong (Then First Second) (then_read first second) text left
 then_wrong First Second first second text rest left v f g = record {
-  good = f.word ++ g.good;
-  bad = g.bad;
-  whole = f.whole ∙ ap (λ u. f.word ++ u) g.whole ∙ sym (append_assoc f.word g.good g.bad);
-  count = g.count;
-  more = g.more;
-  value = g.value;
-  begins = (f.word, g.good ++ g.more, v, append_assoc f.word g.good g.more, f.is, g.begins);
+  cut = cut_after f.word text rest left f.whole g.cut;
+  begins = (g.begins.0, g.begins.1, (f.word, g.cut.good ++ g.begins.0, v, append_assoc f.word g.cut.good g.begins.0, f.is, g.begins.2));
   same = λ other e.
-      let comes : next (g.good ++ other) ≡ next rest = next_after g.good other g.bad e ∙ sym (ap next g.whole) in
-      ap (then_read first second) (append_assoc f.word g.good other)
-      ∙ bind_of (first (f.word ++ (g.good ++ other))) (λ x. second x.0 x.1) (v, g.good ++ other) (f.same (g.good ++ other) comes)
+      let comes : next (g.cut.good ++ other) ≡ next rest = next_after g.cut.good other g.cut.bad e ∙ sym (ap next g.cut.whole) in
+      ap (then_read first second) (append_assoc f.word g.cut.good other)
+      ∙ bind_of (first (f.word ++ (g.cut.good ++ other))) (λ x. second x.0 x.1) (v, g.cut.good ++ other) (f.same (g.cut.good ++ other) comes)
       ∙ g.same other e;
 }
 
@@ -107,15 +125,11 @@ first_wrong : {V W : Type 0} (First : List ℕ → V → Type 0) (Second : V →
     (text : List ℕ) (left : ℕ) → ((v : V) → (word : List ℕ) × (value : W) × Second v word value) → Wrong First first text left
     → Wrong (Then First Second) (then_read first second) text left
 first_wrong First Second first second text left some f =
-    let end = some f.value in record {
-      good = f.good;
-      bad = f.bad;
-      whole = f.whole;
-      count = f.count;
-      more = f.more ++ end.0;
-      value = end.1;
-      begins = (f.good ++ f.more, end.0, f.value, sym (append_assoc f.good f.more end.0), f.begins, end.2);
-      same = λ other e. bind_stops (first (f.good ++ other)) (λ x. second x.0 x.1) (length other) (f.same other e);
+    let b = f.begins in
+    let end = some b.1 in record {
+      cut = f.cut;
+      begins = (b.0 ++ end.0, end.1, (f.cut.good ++ b.0, end.0, b.1, sym (append_assoc f.cut.good b.0 end.0), b.2, end.2));
+      same = λ other e. bind_stops (first (f.cut.good ++ other)) (λ x. second x.0 x.1) (length other) (f.same other e);
     }
 
 -- one reader and then another, where each word of the second, and what may follow it, may follow the first
@@ -157,14 +171,9 @@ reads_as {V} {W} f {Word} {Tail} {read} r = record {
       };
   wrong = λ text left e. elim (bind_err (read text) (λ x. Ok (f x.0, x.1)) left e) [
     | inl h ↦ let b = r.wrong text left h in record {
-      good = b.good;
-      bad = b.bad;
-      whole = b.whole;
-      count = b.count;
-      more = b.more;
-      value = f b.value;
-      begins = (b.value, b.begins, refl);
-      same = λ other e2. bind_stops (read (b.good ++ other)) (λ x. Ok (f x.0, x.1)) (length other) (b.same other e2);
+      cut = b.cut;
+      begins = (b.begins.0, f b.begins.1, (b.begins.1, b.begins.2, refl));
+      same = λ other e2. bind_stops (read (b.cut.good ++ other)) (λ x. Ok (f x.0, x.1)) (length other) (b.same other e2);
     }
     | inr x ↦ absurd (cc (x.2))
   ];
@@ -222,18 +231,15 @@ wrong_by : {V : Type 0} (Word First Second : List ℕ → V → Type 0) (first s
     → ((u : List ℕ) (i j : ℕ) → i ≤ j → first u ≡ Err i → second u ≡ Err j → read u ≡ Err i)
     → Wrong Word read text a
 wrong_by {V} Word First Second first second read text a b f g le into both =
-    let cut = cut_in g.good g.bad f.good f.bad (sym g.whole ∙ f.whole) (omega (arith, le, f.count, g.count)) in record {
-      good = f.good;
-      bad = f.bad;
-      whole = f.whole;
-      count = f.count;
-      more = f.more;
-      value = f.value;
-      begins = into (f.good ++ f.more) f.value f.begins;
+    let x = f.cut in
+    let y = g.cut in
+    let cut = cut_in y.good y.bad x.good x.bad (sym y.whole ∙ x.whole) (omega (arith, le, x.count, y.count)) in record {
+      cut = x;
+      begins = (f.begins.0, f.begins.1, into (x.good ++ f.begins.0) f.begins.1 f.begins.2);
       same = λ other e.
-          let comes : next (cut.0 ++ other) ≡ next g.bad = next_after cut.0 other f.bad e ∙ sym (ap next cut.2) in
-          let apart : f.good ++ other ≡ g.good ++ (cut.0 ++ other) = ap (λ u. u ++ other) cut.1 ∙ append_assoc g.good cut.0 other in
-          both (f.good ++ other) (length other) (length (cut.0 ++ other)) (omega (arith, length-append cut.0 other))
+          let comes : next (cut.0 ++ other) ≡ next y.bad = next_after cut.0 other x.bad e ∙ sym (ap next cut.2) in
+          let apart : x.good ++ other ≡ y.good ++ (cut.0 ++ other) = ap (λ u. u ++ other) cut.1 ∙ append_assoc y.good cut.0 other in
+          both (x.good ++ other) (length other) (length (cut.0 ++ other)) (omega (arith, length-append cut.0 other))
           (f.same other e) (ap second apart ∙ g.same (cut.0 ++ other) comes);
     }
 
@@ -293,16 +299,9 @@ pub reads_is : {V : Type 0} {First Second : List ℕ → V → Type 0} {Tail : L
     → Reads First Tail read → Reads Second Tail read
 reads_is to from r = record {
   found = λ text value rest e. let f = r.found text value rest e in record { word = f.word; whole = f.whole; is = to f.word value f.is; same = f.same };
-  wrong = λ text left e. let f = r.wrong text left e in record {
-    good = f.good;
-    bad = f.bad;
-    whole = f.whole;
-    count = f.count;
-    more = f.more;
-    value = f.value;
-    begins = to (f.good ++ f.more) f.value f.begins;
-    same = f.same;
-  };
+  wrong = λ text left e.
+      let f = r.wrong text left e in
+      let b = f.begins in record { cut = f.cut; begins = (b.0, b.1, to (f.cut.good ++ b.0) b.1 b.2); same = f.same };
   again = λ word tail value is t. r.again word tail value (from word value is) t;
   some = let a = r.some in (a.0, a.1, to a.0 a.1 a.2);
 }
@@ -314,18 +313,9 @@ reads_before less r = record { found = r.found; wrong = r.wrong; again = λ word
 
 -- where a text goes wrong for whole words: what stands before begins a word, and no word goes on there as the text does
 pub record Stops {V : Type 0} (Word : List ℕ → V → Type 0) (text : List ℕ) (left : ℕ) : Type 0 where
-  pub good : List ℕ
-  pub bad : List ℕ
-  pub whole : text ≡ good ++ bad
-  pub count : left ≡ length bad
-  pub more : List ℕ
-  pub value : V
-  pub begins : Word (good ++ more) value
-  pub refused : (other : List ℕ) (v : V) → next other ≡ next bad → Word (good ++ other) v → ⊥
-
--- a reading does not both stop and succeed
-stops_or_reads : {A : Type 0} (r : Result A ℕ) (left : ℕ) (x : A) → r ≡ Err left → r ≡ Ok x → ⊥
-stops_or_reads r left x e f = cc
+  pub cut : Cut text left
+  pub begins : Begins Word cut.good
+  pub refused : (other : List ℕ) (v : V) → next other ≡ next cut.bad → Word (cut.good ++ other) v → ⊥
 
 -- two rests of one reading
 one_rest : {V : Type 0} (r : Result (V × List ℕ) ℕ) (v w : V) (a b : List ℕ) → r ≡ Ok (v, a) → r ≡ Ok (w, b) → a ≡ b
@@ -338,28 +328,15 @@ word_again {V} {Word} {Tail} {read} r end word value is = ap read (sym (append-n
 -- a reader that stops
 pub stops_within : {V : Type 0} {Word : List ℕ → V → Type 0} {Tail : List ℕ → Type 0} {read : List ℕ → Result (V × List ℕ) ℕ} → Reads Word Tail read → Tail [] → (text : List ℕ) (left : ℕ) → read text ≡ Err left → Stops Word text left
 stops_within {V} {Word} {Tail} {read} r end text left e =
-    let w = r.wrong text left e in record {
-      good = w.good;
-      bad = w.bad;
-      whole = w.whole;
-      count = w.count;
-      more = w.more;
-      value = w.value;
-      begins = w.begins;
-      refused = λ other v e2 is. stops_or_reads (read (w.good ++ other)) (length other) (v, []) (w.same other e2) (word_again r end (w.good ++ other) v is);
-    }
+    let w = r.wrong text left e in
+    record { cut = w.cut; begins = w.begins; refused = λ other v e2 is. no_ok (sym (w.same other e2) ∙ word_again r end (w.cut.good ++ other) v is) }
 
 -- a reader that leaves something
 pub stops_after : {V : Type 0} {Word : List ℕ → V → Type 0} {Tail : List ℕ → Type 0} {read : List ℕ → Result (V × List ℕ) ℕ} → Reads Word Tail read → Tail [] → (text : List ℕ) (value : V) (byte : ℕ) (rest : List ℕ) → read text ≡ Ok (value, byte ∷ rest) → Stops Word text (length (byte ∷ rest))
 stops_after {V} {Word} {Tail} {read} r end text value byte rest e =
     let f = r.found text value (byte ∷ rest) e in record {
-      good = f.word;
-      bad = byte ∷ rest;
-      whole = f.whole;
-      count = refl;
-      more = [];
-      value = value;
-      begins = subst (λ (u : List ℕ). Word u value) (sym (append-nil f.word)) f.is;
+      cut = record { good = f.word; bad = byte ∷ rest; whole = f.whole; count = refl };
+      begins = ([], value, subst (λ (u : List ℕ). Word u value) (sym (append-nil f.word)) f.is);
       refused = λ other v e2 is.
           let none = one_rest (read (f.word ++ other)) value v other [] (f.same other e2) (word_again r end (f.word ++ other) v is) in
           nothing_is_next byte (sym (ap next none) ∙ e2);

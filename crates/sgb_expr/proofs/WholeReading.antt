@@ -2,10 +2,10 @@
 use Rattle.std.proofs.Common.{◌≡◌, ◌≤◌, ◌+◌, ℕ, List, length, take, ◌++◌, Result, Ok, Err, sym, ◌∙◌, ap, arith}
 use Rattle.sgb_expr.specs.Expression.{Expression}
 use Rattle.sgb_expr.specs.Expressions.{IsExpression, IsNested}
-use Rattle.sgb_expr.specs.Reading.{nested_at, whole_at}
-use Rattle.sgb_expr.specs.Readings.{◌>>=◌, at_end, whole_by}
+use Rattle.sgb_expr.specs.inner.Reading.{nested_at, whole_at}
+use Rattle.sgb_expr.specs.inner.Readings.{◌>>=◌, at_end, whole_by}
 use Rattle.sgb_expr.proofs.Nesting.{reads_nested, deep_enough, expression_nested}
-use Rattle.sgb_expr.proofs.WholeWords.{GoesWrong, goes_wrong_there, whole_stops, whole_word, word_whole}
+use Rattle.sgb_expr.proofs.WholeWords.{GoesWrong, goes_wrong, whole_word, word_whole}
 
 -- to any depth of at least the text's length it is read alike
 whole_same : (depth : ℕ) (text : List ℕ) → length text ≤ depth → whole_at text ≡ whole_by (nested_at depth) text
@@ -24,10 +24,10 @@ whole_again text e is =
     whole_same depth text (omega arith) ∙ whole_word (reads_nested depth) tt text e (deep_enough depth is.0 (omega arith) text e is.1)
 
 -- the longest prefix that begins an expression: no expression of any depth begins with more, since none does to a greater depth
-pub goes_wrong : (text : List ℕ) (left : ℕ) → whole_at text ≡ Err left → GoesWrong IsExpression text left
-goes_wrong text left h =
+pub whole_wrong : (text : List ℕ) (left : ℕ) → whole_at text ≡ Err left → GoesWrong IsExpression text left
+whole_wrong text left h =
     let at : (depth : ℕ) → length text ≤ depth → GoesWrong (IsNested depth) text left =
-    λ depth enough. goes_wrong_there (IsNested depth) text left (whole_stops (reads_nested depth) tt text left (sym (whole_same depth text enough) ∙ h)) in
+    λ depth enough. goes_wrong (reads_nested depth) tt text left (sym (whole_same depth text enough) ∙ h) in
     let here = at (length text) (omega arith) in record {
       within = here.within;
       none = λ e is. (at (is.0 + length text) (omega arith)).none e (deep_enough (is.0 + length text) is.0 (omega arith) text e is.1);

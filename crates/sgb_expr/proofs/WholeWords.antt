@@ -1,11 +1,11 @@
 -- Whole texts read as words: what is read, and where a text goes wrong.
 use Rattle.std.proofs.Common.{◌≡◌, ◌≤◌, ◌<◌, ◌-◌, ◌+◌, ℕ, List, [], ◌∷◌, ◌++◌, length, take, Ok, Err, refl, sym, ◌∙◌, ap, subst, append_assoc, append-nil, arith, length-append, zero, suc, inl, inr}
 use Rattle.std.proofs.Math.Seq.{take-append_seam}
-use Rattle.sgb_expr.specs.Languages.{IsLongestPrefixOf, IsNoWord}
-use Rattle.sgb_expr.specs.Readings.{at_end, whole_by}
+use Rattle.sgb_expr.specs.Languages.{Begins, IsLongestPrefixOf, IsNoWord}
+use Rattle.sgb_expr.specs.inner.Readings.{at_end, whole_by}
 use Rattle.sgb_expr.proofs.Lengths.{Language, Reader}
-use Rattle.sgb_expr.proofs.Readers.{Reads, next, Stops, bind_ok, bind_err, bind_of, ok_same, stops_within, stops_after, word_again}
-use Rattle.sgb_expr.proofs.Words.{no_ok, err_same}
+use Rattle.sgb_expr.proofs.Readers.{Reads, next, Stops, bind_ok, bind_err, bind_of, no_ok, ok_same, stops_within, stops_after, word_again}
+use Rattle.sgb_expr.proofs.Words.{err_same}
 
 -- nothing is left after the word
 end_ok : {V : Type 0} (v w : V) (rest : List ℕ) → at_end v rest ≡ Ok w → (rest ≡ []) × (v ≡ w)
@@ -32,7 +32,7 @@ end_wrong {Word = Word} r end text value (byte ∷ rest) left h k =
     subst (λ (n : ℕ). Stops Word text n) (err_same (length (byte ∷ rest)) left k) (stops_after r end text value byte rest h)
 
 -- where a text goes wrong
-pub whole_stops : {V : Type 0} {Word : Language V} {Tail : List ℕ → Type 0} {read : Reader V} → Reads Word Tail read → Tail [] → (text : List ℕ) (left : ℕ) → whole_by read text ≡ Err left → Stops Word text left
+whole_stops : {V : Type 0} {Word : Language V} {Tail : List ℕ → Type 0} {read : Reader V} → Reads Word Tail read → Tail [] → (text : List ℕ) (left : ℕ) → whole_by read text ≡ Err left → Stops Word text left
 whole_stops {read = read} r end text left h = elim (bind_err (read text) (λ x. at_end x.0 x.1) left h) [
   | inl e ↦ stops_within r end text left e
   | inr x ↦ end_wrong r end text x.0.0 x.0.1 left x.1 x.2
@@ -54,19 +54,23 @@ pub record GoesWrong {V : Type 0} (Word : List ℕ → V → Type 0) (text : Lis
   pub none : IsNoWord Word text
   pub longest : IsLongestPrefixOf Word text (length text - left)
 
-pub goes_wrong_there : {V : Type 0} (Word : Language V) (text : List ℕ) (left : ℕ) → Stops Word text left → GoesWrong Word text left
+goes_wrong_there : {V : Type 0} (Word : Language V) (text : List ℕ) (left : ℕ) → Stops Word text left → GoesWrong Word text left
 goes_wrong_there {V} Word text left s =
-    let count : length text ≡ length s.good + length s.bad = ap length s.whole ∙ length-append s.good s.bad in
-    let k : length text - left ≡ length s.good = omega (arith, count, s.count) in
-    let prefix : take (length text - left) text ≡ s.good = ap (λ n. take n text) k ∙ ap (take (length s.good)) s.whole ∙ take-append_seam s.good s.bad in record {
-      within = omega (arith, count, s.count);
-      none = λ v is. s.refused s.bad v refl (subst (λ (u : List ℕ). Word u v) s.whole is);
+    let c = s.cut in
+    let count : length text ≡ length c.good + length c.bad = ap length c.whole ∙ length-append c.good c.bad in
+    let k : length text - left ≡ length c.good = omega (arith, count, c.count) in
+    let prefix : take (length text - left) text ≡ c.good = ap (λ n. take n text) k ∙ ap (take (length c.good)) c.whole ∙ take-append_seam c.good c.bad in record {
+      within = omega (arith, count, c.count);
+      none = λ v is. s.refused c.bad v refl (subst (λ (u : List ℕ). Word u v) c.whole is);
       longest = record {
         within = omega arith;
-        begins = (s.more, s.value, subst (λ (u : List ℕ). Word (u ++ s.more) s.value) (sym prefix) s.begins);
+        begins = subst (Begins Word) (sym prefix) s.begins;
         longest = λ j above within b.
-            let t = goes_on s.good s.bad j (omega (arith, above, k)) (omega (arith, within, ap length s.whole)) in
-            let here : take j text ++ b.0 ≡ s.good ++ (t.0 ++ b.0) = ap (λ u. take j u ++ b.0) s.whole ∙ ap (λ u. u ++ b.0) t.1 ∙ append_assoc s.good t.0 b.0 in
+            let t = goes_on c.good c.bad j (omega (arith, above, k)) (omega (arith, within, ap length c.whole)) in
+            let here : take j text ++ b.0 ≡ c.good ++ (t.0 ++ b.0) = ap (λ u. take j u ++ b.0) c.whole ∙ ap (λ u. u ++ b.0) t.1 ∙ append_assoc c.good t.0 b.0 in
             s.refused (t.0 ++ b.0) b.1 (t.2 b.0) (subst (λ (u : List ℕ). Word u b.1) here b.2);
       };
     }
+
+pub goes_wrong : {V : Type 0} {Word : Language V} {Tail : List ℕ → Type 0} {read : Reader V} → Reads Word Tail read → Tail [] → (text : List ℕ) (left : ℕ) → whole_by read text ≡ Err left → GoesWrong Word text left
+goes_wrong r end text left h = goes_wrong_there _ text left (whole_stops r end text left h)

@@ -3,9 +3,10 @@ use Rattle.std.proofs.Common.{◌≡◌, ◌≢◌, ℕ, ◌+◌, ◌-◌, ◌<�
 use Rattle.std.proofs.Math.Path.{fun_ext}
 use Rattle.std.specs.List.{common_prefix_len}
 use Rattle.std.proofs.lemmas.Bool.Decides.{eqb_tells}
-use Rattle.std.proofs.lemmas.Bool.{eq-eqb}
-use Rattle.sgb_expr.specs.Readings.{◌>>=◌, either, fixed_at, fixed_as, word_at}
-use Rattle.sgb_expr.proofs.Readers.{next, Reads, bind_of, bind_stops, ok_same, either_wrong, reads_or}
+use Rattle.std.proofs.lemmas.Bool.{and_parts, eq-eqb}
+use Rattle.sgb_expr.specs.Languages.{After}
+use Rattle.sgb_expr.specs.inner.Readings.{◌>>=◌, either, fixed_at, fixed_as, read_after, word_at}
+use Rattle.sgb_expr.proofs.Readers.{next, Cut, Reads, bind_of, bind_stops, cut_after, no_ok, ok_same, either_wrong, reads_is, reads_or, reads_then}
 
 -- a byte read again
 fixed_step : (byte : ℕ) (bytes text : List ℕ) → fixed_at (byte ∷ bytes) (byte ∷ text) ≡ fixed_at bytes text
@@ -22,32 +23,26 @@ fixed_again (byte ∷ bytes) tail = fixed_step byte bytes (bytes ++ tail) ∙ fi
 
 -- two texts part after the same bytes
 pub record Parts (bytes text : List ℕ) (left : ℕ) : Type 0 where
-  pub good : List ℕ
+  pub cut : Cut text left
   pub byte : ℕ
   pub more : List ℕ
-  pub bad : List ℕ
-  pub bytes_are : bytes ≡ good ++ byte ∷ more
-  pub whole : text ≡ good ++ bad
-  pub count : left ≡ length bad
-  pub other : next bad ≢ Some byte
+  pub bytes_are : bytes ≡ cut.good ++ byte ∷ more
+  pub other : next cut.bad ≢ Some byte
 
 -- one byte more before they part
 parts_later : (byte : ℕ) (bytes text : List ℕ) (left : ℕ) → Parts bytes text left → Parts (byte ∷ bytes) (byte ∷ text) left
 parts_later byte bytes text left p = record {
-  good = byte ∷ p.good;
+  cut = cut_after (byte ∷ []) (byte ∷ text) text left refl p.cut;
   byte = p.byte;
   more = p.more;
-  bad = p.bad;
   bytes_are = ap (λ u. byte ∷ u) p.bytes_are;
-  whole = ap (λ u. byte ∷ u) p.whole;
-  count = p.count;
   other = p.other;
 }
 
 -- what was read, or where the texts part
 pub fixed_cases : (bytes text : List ℕ) → ((rest : List ℕ) × (fixed_at bytes text ≡ Ok rest) × (text ≡ bytes ++ rest)) ⊎ ((left : ℕ) × (fixed_at bytes text ≡ Err left) × Parts bytes text left)
 fixed_cases [] text = inl (text, refl, refl)
-fixed_cases (byte ∷ bytes) [] = inr (0, refl, record { good = []; byte = byte; more = bytes; bad = []; bytes_are = refl; whole = refl; count = refl; other = λ e. cc })
+fixed_cases (byte ∷ bytes) [] = inr (0, refl, record { cut = record { good = []; bad = []; whole = refl; count = refl }; byte = byte; more = bytes; bytes_are = refl; other = λ e. cc })
 fixed_cases (byte ∷ bytes) (other ∷ text) = elim (eqb_tells byte other) [
   | inl h ↦ elim (fixed_cases bytes text) [
     | inl r ↦ inl (r.0, subst (λ (c : ℕ). fixed_at (byte ∷ bytes) (c ∷ text) ≡ Ok r.0) h.1 (fixed_step byte bytes text ∙ r.1), (cc (h.1, r.2)))
@@ -61,13 +56,10 @@ fixed_cases (byte ∷ bytes) (other ∷ text) = elim (eqb_tells byte other) [
     length (other ∷ text),
     fixed_other byte other bytes text h.0,
     record {
-      good = [];
+      cut = record { good = []; bad = other ∷ text; whole = refl; count = refl };
       byte = byte;
       more = bytes;
-      bad = other ∷ text;
       bytes_are = refl;
-      whole = refl;
-      count = refl;
       other = λ e. h.1 (cc (e));
     },
   )
@@ -89,10 +81,6 @@ Fixed value bytes word v = (word ≡ bytes) × (v ≡ value)
 -- anything
 abbrev pub Anything : List ℕ → Type 0
 Anything text = Unit {0}
-
--- a reading does not both stop and succeed
-pub no_ok : {A : Type 0} {x : A} {n : ℕ} → ◌≡◌ {A = Result A ℕ} (Err n) (Ok x) → ⊥
-no_ok e = cc
 
 -- two places of one reading
 pub err_same : {A : Type 0} (m n : ℕ) → ◌≡◌ {A = Result A ℕ} (Err m) (Err n) → m ≡ n
@@ -116,18 +104,14 @@ reads_fixed {V} value bytes = record {
   wrong = λ text left e. elim (fixed_cases bytes text) [
     | inl r ↦ absurd (no_ok (sym e ∙ bind_of (fixed_at bytes text) (λ u. Ok (value, u)) r.0 r.1))
     | inr p ↦
-        let same_left : p.0 ≡ left = err_same p.0 left (sym (bind_stops (fixed_at bytes text) (λ u. Ok (value, u)) p.0 p.1) ∙ e) in record {
-          good = p.2.good;
-          bad = p.2.bad;
-          whole = p.2.whole;
-          count = sym same_left ∙ p.2.count;
-          more = p.2.byte ∷ p.2.more;
-          value = value;
-          begins = (sym p.2.bytes_are, refl);
+        let same_left : p.0 ≡ left = err_same p.0 left (sym (bind_stops (fixed_at bytes text) (λ u. Ok (value, u)) p.0 p.1) ∙ e) in
+        let c = p.2.cut in record {
+          cut = record { good = c.good; bad = c.bad; whole = c.whole; count = sym same_left ∙ c.count };
+          begins = (p.2.byte ∷ p.2.more, value, (sym p.2.bytes_are, refl));
           same = λ other e2.
-              let stops : fixed_at bytes (p.2.good ++ other) ≡ Err (length other) =
-              ap (λ (b : List ℕ). fixed_at b (p.2.good ++ other)) p.2.bytes_are ∙ fixed_stops p.2.good p.2.more other p.2.byte (λ h. p.2.other (sym e2 ∙ h)) in
-              bind_stops (fixed_at bytes (p.2.good ++ other)) (λ u. Ok (value, u)) (length other) stops;
+              let stops : fixed_at bytes (c.good ++ other) ≡ Err (length other) =
+              ap (λ (b : List ℕ). fixed_at b (c.good ++ other)) p.2.bytes_are ∙ fixed_stops c.good p.2.more other p.2.byte (λ h. p.2.other (sym e2 ∙ h)) in
+              bind_stops (fixed_at bytes (c.good ++ other)) (λ u. Ok (value, u)) (length other) stops;
         }
   ];
   again = λ word tail v is t.
@@ -139,8 +123,7 @@ reads_fixed {V} value bytes = record {
 -- the text is the word of this value, among these
 abbrev pub IsWord : {V : Type 0} → List (List ℕ × V) → List ℕ → V → Type 0
 IsWord [] text v = ⊥
-IsWord (word ∷ []) text v = Fixed word.1 word.0 text v
-IsWord (word ∷ other ∷ words) text v = Fixed word.1 word.0 text v ⊎ IsWord (other ∷ words) text v
+IsWord (word ∷ words) text v = Fixed word.1 word.0 text v ⊎ IsWord words text v
 
 -- two words part before either ends
 abbrev pub do_part : List ℕ → List ℕ → Bool
@@ -163,6 +146,23 @@ pub reads_same : {V : Type 0} {Word : List ℕ → V → Type 0} {Tail : List �
     → ((text : List ℕ) → second text ≡ first text) → Reads Word Tail second → Reads Word Tail first
 reads_same {V} {Word} {Tail} {first} {second} e r = subst (λ (f : List ℕ → Result (V × List ℕ) ℕ). Reads Word Tail f) (fun_ext e) r
 
+-- no value of its own
+abbrev no_value : ℕ
+no_value = 0
+
+-- a fixed text, of no value, and what is read after it
+fixed_then : {B : Type 0} (r : Result (List ℕ) ℕ) (f : List ℕ → Result B ℕ) → ((r >>= λ rest. Ok (no_value, rest)) >>= λ (x : ℕ × List ℕ). f x.1) ≡ (r >>= f)
+fixed_then (Ok rest) f = refl
+fixed_then (Err left) f = refl
+
+-- these bytes and then a word
+pub reads_after : {V : Type 0} {Word : List ℕ → V → Type 0} {Tail : List ℕ → Type 0} {read : List ℕ → Result (V × List ℕ) ℕ} (bytes : List ℕ) → Reads Word Tail read → Reads (After bytes Word) Tail (read_after bytes read)
+reads_after {V} {Word} {Tail} {read} bytes r =
+    reads_is
+    (λ word value w. (w.1, w.3 ∙ ap (λ u. u ++ w.1) w.4.0, w.5))
+    (λ word value w. (bytes, w.0, 0, w.1, (refl, refl), w.2))
+    (reads_same (λ text. fixed_then (fixed_at bytes text) read) (reads_then (reads_fixed {V = ℕ} 0 bytes) (λ _. r) (λ v word tail value w t. tt)))
+
 -- the last of some words
 last_word : {V : Type 0} (word : List ℕ × V) (text : List ℕ) → fixed_as word.1 word.0 text ≡ word_at (word ∷ []) text
 last_word {V} word text = elim (fixed_cases word.0 text) [
@@ -171,14 +171,9 @@ last_word {V} word text = elim (fixed_cases word.0 text) [
       e ∙ sym (ap (λ (t : Result (V × List ℕ) ℕ). either t (Err (length text))) e)
   | inr p ↦
       let e = bind_stops (fixed_at word.0 text) (λ u. Ok (word.1, u)) p.0 p.1 in
-      let least : p.0 ≡ min p.0 (length text) = omega (arith, p.2.count, ap length p.2.whole, length-append p.2.good p.2.bad) in
+      let least : p.0 ≡ min p.0 (length text) = omega (arith, p.2.cut.count, ap length p.2.cut.whole, length-append p.2.cut.good p.2.cut.bad) in
       e ∙ ap Err least ∙ sym (ap (λ (t : Result (V × List ℕ) ℕ). either t (Err (length text))) e)
 ]
-
--- both tests hold
-pub both_true : (a b : Bool) → (a && b) ≡ true → (a ≡ true) × (b ≡ true)
-both_true true b e = (refl, e)
-both_true false b e = absurd (cc)
 
 -- a word that parts from another is not read where that stands
 parts_stops : {V : Type 0} (value : V) (a b tail : List ℕ) → do_part a b ≡ true → (left : ℕ) × (fixed_as value a (b ++ tail) ≡ Err left)
@@ -194,20 +189,18 @@ parts_stops {V} value (x ∷ a) (y ∷ b) tail e = elim (eqb_tells x y) [
 -- a word that parts from each of some words is not read where one of them stands
 parts_stops_all : {V : Type 0} (value v : V) (a word tail : List ℕ) (words : List (List ℕ × V)) → parts_from a words ≡ true → IsWord words word v → (left : ℕ) × (fixed_as value a (word ++ tail) ≡ Err left)
 parts_stops_all value v a word tail [] e w = absurd w
-parts_stops_all {V} value v a word tail (first ∷ []) e w =
-    let t = parts_stops value a first.0 tail (both_true (do_part a first.0) true e).0 in
+parts_stops_all {V} value v a word tail (first ∷ words) e (inl w) =
+    let t = parts_stops value a first.0 tail (and_parts (do_part a first.0) (parts_from a words) e).0 in
     (t.0, ap (λ u. fixed_as value a (u ++ tail)) w.0 ∙ t.1)
-parts_stops_all {V} value v a word tail (first ∷ other ∷ words) e (inl w) =
-    let t = parts_stops value a first.0 tail (both_true (do_part a first.0) (parts_from a (other ∷ words)) e).0 in
-    (t.0, ap (λ u. fixed_as value a (u ++ tail)) w.0 ∙ t.1)
-parts_stops_all {V} value v a word tail (first ∷ other ∷ words) e (inr w) =
-    parts_stops_all value v a word tail (other ∷ words) (both_true (do_part a first.0) (parts_from a (other ∷ words)) e).1 w
+parts_stops_all {V} value v a word tail (first ∷ words) e (inr w) =
+    parts_stops_all value v a word tail words (and_parts (do_part a first.0) (parts_from a words) e).1 w
 
 -- a reader of one of some words, any two of which part
 pub reads_words : {V : Type 0} (word : List ℕ × V) (words : List (List ℕ × V)) → are_apart (word ∷ words) ≡ true → Reads (IsWord (word ∷ words)) Anything (word_at (word ∷ words))
-reads_words word [] e = reads_same (last_word word) (reads_fixed word.1 word.0)
+reads_words word [] e =
+    reads_is (λ text v w. inl w) (λ text v w. elim w [ inl h ↦ h | inr h ↦ absurd h ]) (reads_same (last_word word) (reads_fixed word.1 word.0))
 reads_words word (other ∷ words) e =
-    let t = both_true (parts_from word.0 (other ∷ words)) (are_apart (other ∷ words)) e in
+    let t = and_parts (parts_from word.0 (other ∷ words)) (are_apart (other ∷ words)) e in
     reads_or (reads_fixed word.1 word.0) (reads_words other words t.1) (λ u tail v w. parts_stops_all word.1 v word.0 u tail (other ∷ words) t.0 w) (λ tail h. h)
 
 -- where the bytes and the text part, as a length
@@ -245,7 +238,7 @@ fixed_within {V} value bytes text left e = elim (fixed_cases bytes text) [
   | inl r ↦ absurd (no_ok (sym e ∙ bind_of (fixed_at bytes text) (λ u. Ok (value, u)) r.0 r.1))
   | inr p ↦
       let same : p.0 ≡ left = err_same p.0 left (sym (bind_stops (fixed_at bytes text) (λ u. Ok (value, u)) p.0 p.1) ∙ e) in
-      omega (arith, same, p.2.count, ap length p.2.whole, length-append p.2.good p.2.bad)
+      omega (arith, same, p.2.cut.count, ap length p.2.cut.whole, length-append p.2.cut.good p.2.cut.bad)
 ]
 
 -- words stop within the text

@@ -4,12 +4,12 @@ use Rattle.sgb_expr.specs.declared.expressions.Expr.{Expr, Row_of-EntryExpr, end
 use Rattle.sgb_expr.specs.declared.expressions.Expr.TheVariants as expr
 use Rattle.sgb_expr.specs.declared.entries.EntryExpr.{EntryExpr}
 use Rattle.sgb_expr.specs.declared.entries.EntryExpr.TheVariants as entry
-use Rattle.sgb_expr.specs.declared.expressions.Family.{Family as Generator}
+use Rattle.sgb_expr.specs.declared.expressions.Generator.{Generator}
 
 mutual
   -- an expression that names a graph: a generator with its parameters, an operation on expressions, or standard input
   pub data Expression : Type 0 where
-    Family : Generator → Expression
+    Generated : Generator → Expression
     Complement : (graph : Expression) → (copy self_loops directed : Bool) → Expression
     Gunion : (first second : Expression) → (multi directed : Bool) → Expression
     Intersection : (first second : Expression) → (multi directed : Bool) → Expression
@@ -38,7 +38,7 @@ entries_of (entry ∷ others) = EntryThen entry (entries_of others)
 abbrev mutual
   -- the expression that a value of the code holds
   pub expression_of : Expr → Expression
-  expression_of (expr.Family f) = Family f
+  expression_of (expr.Generator f) = Generated f
   expression_of (expr.Complement' p graph copy self_loops directed) = Complement (expression_of graph) copy self_loops directed
   expression_of (expr.Gunion' p first q second multi directed) = Gunion (expression_of first) (expression_of second) multi directed
   expression_of (expr.Intersection' p first q second multi directed) = Intersection (expression_of first) (expression_of second) multi directed

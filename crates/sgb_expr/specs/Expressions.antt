@@ -1,13 +1,13 @@
 -- The expressions that name a graph, in GraphBase's official names; which texts are too large to be read.
 use Rattle.std.specs.Prelude.{◌≡◌, ◌≤◌, ◌<◌, ◌+◌, ◌⊎◌, ◌==◌, ℕ, zero, suc, List, ◌++◌, length, take, count_by, Result, Ok, Err}
 use Rattle.sgb_expr.specs.Expression.{Expression, expression_of}
-use Rattle.sgb_expr.specs.Languages.{Begins, IsLongestPrefixOf, IsNoWord}
+use Rattle.sgb_expr.specs.Languages.{IsLongestPrefixOf, IsNoWord}
 use Rattle.sgb_expr.specs.Operations.{IsGenerator, IsCallOf}
 use Rattle.sgb_expr.specs.Names.{opening_of}
 use Rattle.sgb_expr.specs.declared.expressions.Expr.{Expr}
 use Rattle.sgb_expr.specs.declared.expressions.Unread.{Unread}
 use Rattle.sgb_expr.specs.declared.expressions.Unread.TheVariants as unread
-use Rattle.sgb_expr.specs.declared.names.FamilyName.{FamilyName}
+use Rattle.sgb_expr.specs.declared.names.GeneratorName.{GeneratorName}
 use Rattle.sgb_expr.specs.declared.names.Name.{Name}
 use Rattle.sgb_expr.specs.declared.names.Name.TheVariants as form
 
@@ -23,17 +23,13 @@ most_depth = 64
 -- arguments, and these with `)`
 abbrev pub IsNested : ℕ → List ℕ → Expression → Type 0
 IsNested zero text e =
-    (name : FamilyName) × (arguments : List ℕ) × (text ≡ opening_of (form.Family name) ++ arguments) × IsGenerator name arguments e
+    (name : GeneratorName) × (arguments : List ℕ) × (text ≡ opening_of (form.Generator name) ++ arguments) × IsGenerator name arguments e
 IsNested (suc depth) text e =
     (name : Name) × (arguments : List ℕ) × (text ≡ opening_of name ++ arguments) × IsCallOf (IsNested depth) name arguments e
 
 -- the text is this expression
 abbrev pub IsExpression : List ℕ → Expression → Type 0
 IsExpression text e = (depth : ℕ) × IsNested depth text e
-
--- the text begins an expression: something can follow that makes it one
-abbrev pub BeginsExpression : List ℕ → Type 0
-BeginsExpression = Begins IsExpression
 
 -- the first k bytes of the text are its longest prefix that begins some expression
 abbrev pub IsLongestPrefix : List ℕ → ℕ → Type 0

@@ -1,9 +1,8 @@
 -- The texts that ask for numbers of the random generator [GB_FLIP]: flip(START,SKIP,COUNT,M).
-use Rattle.std.specs.Prelude.{ℕ, ℤ, List, [], codes, Result, Ok, Err}
+use Rattle.std.specs.Prelude.{ℕ, ℤ, List, codes, Result, Ok, Err}
 use Rattle.sgb_expr.specs.Expressions.{IsTooLarge}
 use Rattle.sgb_expr.specs.Forms.{AreArguments, number_of}
 use Rattle.sgb_expr.specs.Languages.{After, As, IsLongestPrefixOf, IsNoWord}
-use Rattle.sgb_expr.specs.Readings.{integers_at, read_after, read_as, whole_by}
 use Rattle.sgb_expr.specs.declared.expressions.Unread.{Unread}
 use Rattle.sgb_expr.specs.declared.expressions.Unread.TheVariants as unread
 use Rattle.sgb_expr.specs.declared.flips.FlipParams.{FlipParams}
@@ -32,11 +31,3 @@ IsFlipUnread text unread.NoRoom = ⊥
 abbrev pub IsFlipReadAs : List ℕ → Result FlipParams Unread → Type 0
 IsFlipReadAs text (Ok params) = (IsTooLarge text → ⊥) × IsFlip text params
 IsFlipReadAs text (Err cause) = IsFlipUnread text cause
-
--- reading the parameters, from the beginning of a text
-abbrev pub flip_at : List ℕ → Result (FlipParams × List ℕ) ℕ
-flip_at = read_after (codes "flip(") (read_as flip_of (integers_at [] 4 (codes ")")))
-
--- the parameters that the whole text asks for
-abbrev pub whole_flip_at : List ℕ → Result FlipParams ℕ
-whole_flip_at = whole_by flip_at

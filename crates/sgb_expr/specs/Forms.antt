@@ -6,10 +6,10 @@ use Rattle.sgb_gen.specs.declared.params.BoardParams.{BoardParams}
 use Rattle.sgb_gen.specs.declared.params.SimplexParams.{SimplexParams}
 use Rattle.sgb_gen.specs.declared.params.SubsetsParams.{SubsetsParams}
 use Rattle.sgb_expr.specs.Numbers.{IsInteger, IsBits}
-use Rattle.sgb_expr.specs.declared.expressions.Family.{Family}
-use Rattle.sgb_expr.specs.declared.expressions.Family.TheVariants as family
-use Rattle.sgb_expr.specs.declared.names.FamilyName.{FamilyName}
-use Rattle.sgb_expr.specs.declared.names.FamilyName.TheVariants.{Board, Simplex, Subsets, Complete, Transitive, Empty, Circuit, Cycle, DisjointSubsets, Petersen}
+use Rattle.sgb_expr.specs.declared.expressions.Generator.{Generator}
+use Rattle.sgb_expr.specs.declared.expressions.Generator.TheVariants as generator
+use Rattle.sgb_expr.specs.declared.names.GeneratorName.{GeneratorName}
+use Rattle.sgb_expr.specs.declared.names.GeneratorName.TheVariants.{Board, Simplex, Subsets, Complete, Transitive, Empty, Circuit, Cycle, DisjointSubsets, Petersen}
 
 -- an integer taken as a flag: true where it is not zero
 abbrev pub flag_of : ℤ → Bool
@@ -71,19 +71,19 @@ abbrev pub AreArguments : ℕ → List ℕ → List ℤ → Type 0
 AreArguments n = AreNumbers [] n (codes ")")
 
 -- the text is the arguments of the generator's form of this name, to its `)`, and with them it names this graph
-abbrev pub IsFamilyCall : FamilyName → List ℕ → Family → Type 0
-IsFamilyCall Board text f = (numbers : List ℤ) × AreArguments 7 text numbers × (f ≡ family.Board (board_of numbers))
-IsFamilyCall Simplex text f = (numbers : List ℤ) × AreArguments 7 text numbers × (f ≡ family.Simplex (simplex_of numbers))
-IsFamilyCall Subsets text f =
+abbrev pub IsGeneratorCall : GeneratorName → List ℕ → Generator → Type 0
+IsGeneratorCall Board text f = (numbers : List ℤ) × AreArguments 7 text numbers × (f ≡ generator.Board (board_of numbers))
+IsGeneratorCall Simplex text f = (numbers : List ℤ) × AreArguments 7 text numbers × (f ≡ generator.Simplex (simplex_of numbers))
+IsGeneratorCall Subsets text f =
     (numbers : List ℤ) × (size_bits : ℕ) × (directed : List ℤ) × (first bits last : List ℕ)
     × (text ≡ first ++ bits ++ last) × AreNumbers [] 6 (codes ",") first numbers × IsBits bits size_bits
-    × AreNumbers (codes ",") 1 (codes ")") last directed × (f ≡ family.Subsets (subsets_of numbers size_bits (number_of directed 0)))
-IsFamilyCall Complete text f = (numbers : List ℤ) × AreArguments 1 text numbers × (f ≡ family.Board (complete (number_of numbers 0)))
-IsFamilyCall Transitive text f = (numbers : List ℤ) × AreArguments 1 text numbers × (f ≡ family.Board (transitive (number_of numbers 0)))
-IsFamilyCall Empty text f = (numbers : List ℤ) × AreArguments 1 text numbers × (f ≡ family.Board (empty (number_of numbers 0)))
-IsFamilyCall Circuit text f = (numbers : List ℤ) × AreArguments 1 text numbers × (f ≡ family.Board (circuit (number_of numbers 0)))
-IsFamilyCall Cycle text f = (numbers : List ℤ) × AreArguments 1 text numbers × (f ≡ family.Board (cycle (number_of numbers 0)))
-IsFamilyCall DisjointSubsets text f =
+    × AreNumbers (codes ",") 1 (codes ")") last directed × (f ≡ generator.Subsets (subsets_of numbers size_bits (number_of directed 0)))
+IsGeneratorCall Complete text f = (numbers : List ℤ) × AreArguments 1 text numbers × (f ≡ generator.Board (complete (number_of numbers 0)))
+IsGeneratorCall Transitive text f = (numbers : List ℤ) × AreArguments 1 text numbers × (f ≡ generator.Board (transitive (number_of numbers 0)))
+IsGeneratorCall Empty text f = (numbers : List ℤ) × AreArguments 1 text numbers × (f ≡ generator.Board (empty (number_of numbers 0)))
+IsGeneratorCall Circuit text f = (numbers : List ℤ) × AreArguments 1 text numbers × (f ≡ generator.Board (circuit (number_of numbers 0)))
+IsGeneratorCall Cycle text f = (numbers : List ℤ) × AreArguments 1 text numbers × (f ≡ generator.Board (cycle (number_of numbers 0)))
+IsGeneratorCall DisjointSubsets text f =
     (numbers : List ℤ) × AreArguments 2 text numbers
-    × (f ≡ family.Subsets (disjoint_subsets (number_of numbers 0) (number_of numbers 1)))
-IsFamilyCall Petersen text f = (numbers : List ℤ) × AreArguments 0 text numbers × (f ≡ family.Subsets petersen)
+    × (f ≡ generator.Subsets (disjoint_subsets (number_of numbers 0) (number_of numbers 1)))
+IsGeneratorCall Petersen text f = (numbers : List ℤ) × AreArguments 0 text numbers × (f ≡ generator.Subsets petersen)

@@ -1,12 +1,12 @@
 -- What the forms of all names mean: the arguments of each, where the expressions inside are words of a language.
 use Rattle.std.specs.Prelude.{◌≡◌, ℕ, ℤ, Bool, List, [], ◌∷◌, ◌++◌, codes}
 use Rattle.sgb_expr.specs.Expression.{Expression, Entry, entries_of}
-use Rattle.sgb_expr.specs.Forms.{AreArguments, AreNumbers, IsFamilyCall, flag_of, number_of}
+use Rattle.sgb_expr.specs.Forms.{AreArguments, AreNumbers, IsGeneratorCall, flag_of, number_of}
 use Rattle.sgb_expr.specs.Languages.{After, As, Or, Then}
 use Rattle.sgb_expr.specs.Numbers.{IsInteger}
-use Rattle.sgb_expr.specs.declared.names.FamilyName.{FamilyName}
+use Rattle.sgb_expr.specs.declared.names.GeneratorName.{GeneratorName}
 use Rattle.sgb_expr.specs.declared.names.Name.{Name}
-use Rattle.sgb_expr.specs.declared.names.Name.TheVariants.{Family, Complement, Gunion, Intersection, Lines, Product, Induced, BiComplete, Wheel, Stdin}
+use Rattle.sgb_expr.specs.declared.names.Name.TheVariants.{Generator, Complement, Gunion, Intersection, Lines, Product, Induced, BiComplete, Wheel, Stdin}
 
 -- integer number k of some, counted from 0, as a flag
 abbrev pub flag_at : List ℤ → ℕ → Bool
@@ -51,8 +51,8 @@ abbrev pub wheel_of : List ℤ → Expression
 wheel_of numbers = Expression.Wheel (number_of numbers 0) (number_of numbers 1) (flag_at numbers 2)
 
 -- the text is the arguments of the generator's form of this name, and with them it is this expression
-abbrev pub IsGenerator : FamilyName → List ℕ → Expression → Type 0
-IsGenerator name = As Expression.Family (IsFamilyCall name)
+abbrev pub IsGenerator : GeneratorName → List ℕ → Expression → Type 0
+IsGenerator name = As Expression.Generated (IsGeneratorCall name)
 
 -- two graphs and two integers, to a `)`, where Inner tells the texts of the expressions inside
 abbrev pub AreOperands : (List ℕ → Expression → Type 0) → List ℕ → Operands → Type 0
@@ -77,7 +77,7 @@ IsEntryList Inner = After (codes "[") (AreEntries Inner [])
 -- the text is what follows the name in the form of this name: its arguments to the `)`, where Inner tells the texts of the
 -- expressions inside; nothing after `stdin`
 abbrev pub IsCallOf : (List ℕ → Expression → Type 0) → Name → List ℕ → Expression → Type 0
-IsCallOf Inner (Family name) = IsGenerator name
+IsCallOf Inner (Generator name) = IsGenerator name
 IsCallOf Inner Complement = Then Inner (λ graph. As (complement_of graph) (AreNumbers (codes ",") 3 (codes ")")))
 IsCallOf Inner Gunion = As gunion_of (AreOperands Inner)
 IsCallOf Inner Intersection = As intersection_of (AreOperands Inner)

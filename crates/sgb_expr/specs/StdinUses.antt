@@ -1,11 +1,11 @@
 -- Which expressions read standard input.
 use Rattle.std.specs.Prelude.{Bool, true, false, ◌||◌}
-use Rattle.sgb_expr.specs.Expression.{Expression, Entry, Entries, Family, Complement, Gunion, Intersection, Lines, Product, Induced, BiComplete, Wheel, Stdin, Number, Graph, NoEntries, EntryThen}
+use Rattle.sgb_expr.specs.Expression.{Expression, Entry, Entries, Generated, Complement, Gunion, Intersection, Lines, Product, Induced, BiComplete, Wheel, Stdin, Number, Graph, NoEntries, EntryThen}
 
 abbrev mutual
   -- whether `stdin` stands anywhere in an expression
   pub has_stdin : Expression → Bool
-  has_stdin (Family f) = false
+  has_stdin (Generated f) = false
   has_stdin (Complement graph copy self_loops directed) = has_stdin graph
   has_stdin (Gunion first second multi directed) = has_stdin first || has_stdin second
   has_stdin (Intersection first second multi directed) = has_stdin first || has_stdin second

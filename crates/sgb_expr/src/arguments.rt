@@ -2,12 +2,12 @@
 ghost use Rattle.std.specs.Prelude.{◌≡◌, ◌<◌, ◌^◌, IfOk, [], ◌∷◌, codes, length, nat_abs};
 ghost use Rattle.sgb_gen.specs.Shorthands.{complete, transitive, empty, circuit, cycle, disjoint_subsets, petersen};
 ghost use Rattle.sgb_expr.specs.Forms.{board_of, simplex_of, subsets_of, number_of};
-ghost use Rattle.sgb_expr.specs.Gives.{Finds};
-ghost use Rattle.sgb_expr.specs.Reading.{family_at, subsets_at};
-ghost use Rattle.sgb_expr.specs.Readings.{integers_at};
+ghost use Rattle.sgb_expr.specs.inner.Gives.{Finds};
+ghost use Rattle.sgb_expr.specs.inner.Reading.{generator_at, subsets_at};
+ghost use Rattle.sgb_expr.specs.inner.Readings.{integers_at};
 
-use crate::expressions::Family;
-use crate::names::FamilyName;
+use crate::expressions::Generator;
+use crate::names::GeneratorName;
 use crate::numbers::{bits, integers};
 use crate::wrong::Mismatch;
 use sgb_gen::{
@@ -16,31 +16,34 @@ use sgb_gen::{
 };
 
 /// The graph of the generator whose name has been read, and the text after its `)`; or where the text goes wrong.
-pub(crate) fn family(name: FamilyName, text: &[u8]) -> Result<(Family, &[u8]), Mismatch>
-    ensures { Finds (λ x. (x.0, x.1.now)) result (family_at name text.now) }
+pub(crate) fn generator(name: GeneratorName, text: &[u8]) -> Result<(Generator, &[u8]), Mismatch>
+    ensures { Finds (λ x. (x.0, x.1.now)) result (generator_at name text.now) }
 {
     match name {
-        FamilyName::Board => {
+        GeneratorName::Board => {
             let (numbers, rest) = integers(b"", text, b")")?;
-            Ok((Family::Board(board(numbers)), rest))
+            Ok((Generator::Board(board(numbers)), rest))
         }
-        FamilyName::Simplex => {
+        GeneratorName::Simplex => {
             let (numbers, rest) = integers(b"", text, b")")?;
-            Ok((Family::Simplex(simplex(numbers)), rest))
+            Ok((Generator::Simplex(simplex(numbers)), rest))
         }
-        FamilyName::Subsets => subsets_arguments(text),
-        FamilyName::Complete => one(text).map(|(n, rest)| (Family::Board(complete(n)), rest)),
-        FamilyName::Transitive => one(text).map(|(n, rest)| (Family::Board(transitive(n)), rest)),
-        FamilyName::Empty => one(text).map(|(n, rest)| (Family::Board(empty(n)), rest)),
-        FamilyName::Circuit => one(text).map(|(n, rest)| (Family::Board(circuit(n)), rest)),
-        FamilyName::Cycle => one(text).map(|(n, rest)| (Family::Board(cycle(n)), rest)),
-        FamilyName::DisjointSubsets => {
+        GeneratorName::Subsets => subsets_arguments(text),
+        GeneratorName::Complete => one(text).map(|(n, rest)| (Generator::Board(complete(n)), rest)),
+        GeneratorName::Transitive => one(text).map(|(n, rest)| (
+            Generator::Board(transitive(n)),
+            rest,
+        )),
+        GeneratorName::Empty => one(text).map(|(n, rest)| (Generator::Board(empty(n)), rest)),
+        GeneratorName::Circuit => one(text).map(|(n, rest)| (Generator::Board(circuit(n)), rest)),
+        GeneratorName::Cycle => one(text).map(|(n, rest)| (Generator::Board(cycle(n)), rest)),
+        GeneratorName::DisjointSubsets => {
             let ([n, k], rest) = integers::<2>(b"", text, b")")?;
-            Ok((Family::Subsets(disjoint_subsets(n, k)), rest))
+            Ok((Generator::Subsets(disjoint_subsets(n, k)), rest))
         }
-        FamilyName::Petersen => {
+        GeneratorName::Petersen => {
             let ([], rest) = integers::<0>(b"", text, b")")?;
-            Ok((Family::Subsets(petersen()), rest))
+            Ok((Generator::Subsets(petersen()), rest))
         }
     }
 }
@@ -55,13 +58,16 @@ fn one(text: &[u8]) -> Result<(i64, &[u8]), Mismatch>
 }
 
 // The arguments of subsets, of which the seventh is bits.
-fn subsets_arguments(text: &[u8]) -> Result<(Family, &[u8]), Mismatch>
+fn subsets_arguments(text: &[u8]) -> Result<(Generator, &[u8]), Mismatch>
     ensures { Finds (λ x. (x.0, x.1.now)) result (subsets_at text.now) }
 {
     let (numbers, rest) = integers(b"", text, b",")?;
     let (size_bits, rest) = bits(rest)?;
     let ([directed], rest) = integers::<1>(b",", rest, b")")?;
-    Ok((Family::Subsets(subsets(numbers, size_bits, directed)), rest))
+    Ok((
+        Generator::Subsets(subsets(numbers, size_bits, directed)),
+        rest,
+    ))
 }
 
 // The board of these numbers, in the order of its name.

@@ -1,47 +1,38 @@
 //! What the tests ask of a text that is read.
 //!
 //! No function here has a contract, so that a test that calls one is proved with no more than what it does itself.
-use crate::expressions::{Expr, Family, Unread, read_expr};
-use sgb_gen::{BoardParams, SubsetsParams};
+use crate::expressions::{Expr, Unread, read_expr};
 use std::alloc::{AllocError, Global};
-
-/// The petersen graph.
-pub(crate) const PETERSEN: Family = Family::Subsets(SubsetsParams {
-    n: 2,
-    n0: 1,
-    n1: -4,
-    n2: 0,
-    n3: 0,
-    n4: 0,
-    size_bits: 1,
-    directed: false,
-});
-
-/// The complete graph of three vertices.
-pub(crate) const TRIANGLE: Family = Family::Board(BoardParams {
-    n1: 3,
-    n2: 0,
-    n3: 0,
-    n4: 0,
-    piece: -1,
-    wrap: 0,
-    directed: false,
-});
-
-/// The undirected cycle of five vertices.
-pub(crate) const RING: Family = Family::Board(BoardParams {
-    n1: 5,
-    n2: 0,
-    n3: 0,
-    n4: 0,
-    piece: 1,
-    wrap: 1,
-    directed: false,
-});
 
 /// The expression that the text is, if it is one.
 pub(crate) fn read(alloc: Global, text: &str) -> Option<Expr> {
     read_expr(alloc, text.as_bytes()).ok()
+}
+
+/// The first line whose text is not read as the expression that the line shows. Each line is a text, a space, and the
+/// expression as `{:?}` shows it.
+pub(crate) fn first_unread(
+    alloc: Global,
+    lines: &'static str,
+) -> Result<Option<&'static str>, AllocError> {
+    for line in lines.lines() {
+        if !is_read_as_shown(alloc, line)? {
+            return Ok(Some(line));
+        }
+    }
+    Ok(None)
+}
+
+// Whether the text of the line is read as the expression that it shows.
+fn is_read_as_shown(alloc: Global, line: &str) -> Result<bool, AllocError> {
+    let Some((text, shown)) = line.split_once(' ') else {
+        return Ok(false);
+    };
+    let Some(expression) = read(alloc, text) else {
+        return Ok(false);
+    };
+    let found = format!(in alloc; "{expression:?}")?;
+    Ok(found.as_str() == shown)
 }
 
 /// Whether the text is read, or refused for this reason.
@@ -82,9 +73,4 @@ pub(crate) fn joined(alloc: Global, begun: &str, rest: &str) -> Result<String, A
     let mut text = String::from_str(alloc, begun)?;
     text.push_str(rest)?;
     Ok(text)
-}
-
-/// Whether the expression is this graph of a generator.
-pub(crate) fn is_family(expression: &Expr, family: Family) -> bool {
-    matches!(expression, Expr::Family(found) if *found == family)
 }

@@ -2,8 +2,8 @@
 ghost use Rattle.std.specs.Prelude.{◌≡◌, IfOk};
 ghost use Rattle.sgb_expr.specs.Expression.{Expression, expression_of};
 ghost use Rattle.sgb_expr.specs.Expressions.{IsExpression, IsReadAs};
-ghost use Rattle.sgb_expr.specs.Gives.{Gives};
-ghost use Rattle.sgb_expr.specs.Reading.{whole_at};
+ghost use Rattle.sgb_expr.specs.inner.Gives.{Gives};
+ghost use Rattle.sgb_expr.specs.inner.Reading.{whole_at};
 
 use crate::entries::Entries;
 use crate::measure::is_too_large;
@@ -14,7 +14,7 @@ use std::alloc::Global;
 
 /// A graph of one of the three generators, by its parameters.
 #[derive(Clone, Copy, Debug, PartialEq, Eq)]
-pub enum Family {
+pub enum Generator {
     Board(BoardParams),
     Simplex(SimplexParams),
     Subsets(SubsetsParams),
@@ -25,7 +25,7 @@ pub enum Family {
 #[derive(Debug, Drop, PartialEq, Eq)]
 pub enum Expr {
     /// A graph of a generator.
-    Family(Family),
+    Generator(Generator),
     /// The complement of a graph, or a copy of it (GB_BASIC, complement).
     Complement {
         graph: Box<Expr>,
@@ -109,7 +109,8 @@ pub enum Unread {
 /// when out of memory.
 pub fn read_expr(alloc: Global, text: &[u8]) -> Result<Expr, Unread>
     ensures read { IsReadAs text.now result }
-    ensures only { (e : Expression) → IsExpression text.now e → IfOk result (λ read. expression_of read ≡ e) }
+    ensures only { (e : Expression) → IsExpression text.now e
+        → IfOk result (λ read. expression_of read ≡ e) }
 {
     if is_too_large(text) {
         return Err(Unread::TooLarge);

@@ -1,7 +1,8 @@
 //! What is asked of the random generator, and reading it.
 ghost use Rattle.std.specs.Prelude.{◌≡◌, IfOk};
-ghost use Rattle.sgb_expr.specs.FlipTexts.{IsFlip, IsFlipReadAs, flip_of, whole_flip_at};
-ghost use Rattle.sgb_expr.specs.Gives.{Finds};
+ghost use Rattle.sgb_expr.specs.FlipTexts.{IsFlip, IsFlipReadAs, flip_of};
+ghost use Rattle.sgb_expr.specs.inner.FlipTexts.{whole_flip_at};
+ghost use Rattle.sgb_expr.specs.inner.Gives.{Finds};
 
 use crate::expressions::Unread;
 use crate::measure::is_too_large;
@@ -30,7 +31,8 @@ pub struct FlipParams {
 /// never.
 pub fn read_flip(text: &[u8]) -> Result<FlipParams, Unread>
     ensures read { IsFlipReadAs text.now result }
-    ensures only { (params : FlipParams) → IsFlip text.now params → IfOk result (λ read. read ≡ params) }
+    ensures only { (params : FlipParams) → IsFlip text.now params
+        → IfOk result (λ read. read ≡ params) }
 {
     if is_too_large(text) {
         return Err(Unread::TooLarge);

@@ -2,19 +2,30 @@
 //! them from their texts.
 #![tactic(auto)]
 
+// The arguments of each generator's form.
 mod arguments;
+// What the tests ask of a text.
 #[cfg(test)]
 mod cases;
+// The entries of an induced graph.
 pub mod entries;
+// The expressions, and reading one.
 pub mod expressions;
+// What is asked of the random generator, and reading it.
 pub mod flips;
+// Which texts are too large to be read.
 mod measure;
+// The names of the forms.
 mod names;
+// Fixed texts, integers and bits at the beginning of a text.
 mod numbers;
+// Expressions at the beginning of a text, some inside others.
 mod operations;
+// Which expressions read standard input.
 mod stdin_uses;
+// Why reading stops.
 mod wrong;
 
 pub use entries::{Entries, EntryExpr};
-pub use expressions::{Expr, Family, Unread, read_expr};
+pub use expressions::{Expr, Generator, Unread, read_expr};
 pub use flips::{FlipParams, read_flip};

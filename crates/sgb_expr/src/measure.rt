@@ -1,5 +1,4 @@
 //! How large a text may be that is read: an expression, or what is asked of the random generator.
-
 ghost use Rattle.std.specs.Prelude.{◌≡◌, ◌↔◌, IsTrue};
 ghost use Rattle.sgb_expr.specs.Expressions.{IsDeep, IsTooLarge};
 

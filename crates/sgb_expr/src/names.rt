@@ -1,15 +1,16 @@
 //! The names of the forms of expressions.
 ghost use Rattle.std.specs.Prelude.{◌≡◌};
-ghost use Rattle.sgb_expr.specs.Gives.{Finds};
-ghost use Rattle.sgb_expr.specs.Names.{opening_of, openings};
-ghost use Rattle.sgb_expr.specs.Readings.{word_at};
+ghost use Rattle.sgb_expr.specs.inner.Gives.{Finds};
+ghost use Rattle.sgb_expr.specs.Names.{opening_of};
+ghost use Rattle.sgb_expr.specs.inner.Names.{openings};
+ghost use Rattle.sgb_expr.specs.inner.Readings.{word_at};
 
 use crate::numbers::fixed;
 use crate::wrong::Mismatch;
 
 /// The name of a generator, or a short name of some of its graphs.
 #[derive(Clone, Copy, Debug, PartialEq, Eq)]
-pub(crate) enum FamilyName {
+pub(crate) enum GeneratorName {
     Board,
     Simplex,
     Subsets,
@@ -25,7 +26,7 @@ pub(crate) enum FamilyName {
 /// The name of a form.
 #[derive(Clone, Copy, Debug, PartialEq, Eq)]
 pub(crate) enum Name {
-    Family(FamilyName),
+    Generator(GeneratorName),
     Complement,
     Gunion,
     Intersection,
@@ -39,16 +40,16 @@ pub(crate) enum Name {
 
 // Each name, once.
 const ALL: [Name; 19] = [
-    Name::Family(FamilyName::Board),
-    Name::Family(FamilyName::Simplex),
-    Name::Family(FamilyName::Subsets),
-    Name::Family(FamilyName::Complete),
-    Name::Family(FamilyName::Transitive),
-    Name::Family(FamilyName::Empty),
-    Name::Family(FamilyName::Circuit),
-    Name::Family(FamilyName::Cycle),
-    Name::Family(FamilyName::DisjointSubsets),
-    Name::Family(FamilyName::Petersen),
+    Name::Generator(GeneratorName::Board),
+    Name::Generator(GeneratorName::Simplex),
+    Name::Generator(GeneratorName::Subsets),
+    Name::Generator(GeneratorName::Complete),
+    Name::Generator(GeneratorName::Transitive),
+    Name::Generator(GeneratorName::Empty),
+    Name::Generator(GeneratorName::Circuit),
+    Name::Generator(GeneratorName::Cycle),
+    Name::Generator(GeneratorName::DisjointSubsets),
+    Name::Generator(GeneratorName::Petersen),
     Name::Complement,
     Name::Gunion,
     Name::Intersection,
@@ -80,16 +81,16 @@ fn text_of(name: Name) -> &'static [u8]
     ensures { result.now ≡ opening_of name }
 {
     match name {
-        Name::Family(FamilyName::Board) => b"board(",
-        Name::Family(FamilyName::Simplex) => b"simplex(",
-        Name::Family(FamilyName::Subsets) => b"subsets(",
-        Name::Family(FamilyName::Complete) => b"complete(",
-        Name::Family(FamilyName::Transitive) => b"transitive(",
-        Name::Family(FamilyName::Empty) => b"empty(",
-        Name::Family(FamilyName::Circuit) => b"circuit(",
-        Name::Family(FamilyName::Cycle) => b"cycle(",
-        Name::Family(FamilyName::DisjointSubsets) => b"disjoint_subsets(",
-        Name::Family(FamilyName::Petersen) => b"petersen(",
+        Name::Generator(GeneratorName::Board) => b"board(",
+        Name::Generator(GeneratorName::Simplex) => b"simplex(",
+        Name::Generator(GeneratorName::Subsets) => b"subsets(",
+        Name::Generator(GeneratorName::Complete) => b"complete(",
+        Name::Generator(GeneratorName::Transitive) => b"transitive(",
+        Name::Generator(GeneratorName::Empty) => b"empty(",
+        Name::Generator(GeneratorName::Circuit) => b"circuit(",
+        Name::Generator(GeneratorName::Cycle) => b"cycle(",
+        Name::Generator(GeneratorName::DisjointSubsets) => b"disjoint_subsets(",
+        Name::Generator(GeneratorName::Petersen) => b"petersen(",
         Name::Complement => b"complement(",
         Name::Gunion => b"gunion(",
         Name::Intersection => b"intersection(",

@@ -1,8 +1,8 @@
 //! Fixed texts, integers and bits at the beginning of a text.
 ghost use Rattle.std.specs.Prelude.{◌≡◌, ◌≤◌, ◌<◌, ◌^◌, EachIndex, IfOk, length, nat_abs, nat_eq, pos, slice_index_or};
 ghost use Rattle.std.specs.List.{common_prefix_len};
-ghost use Rattle.sgb_expr.specs.Gives.{Finds};
-ghost use Rattle.sgb_expr.specs.Readings.{bits_at, fixed_at, integer_at, number_at, integers_at, separator_before};
+ghost use Rattle.sgb_expr.specs.inner.Gives.{Finds};
+ghost use Rattle.sgb_expr.specs.inner.Readings.{bits_at, fixed_at, integer_at, number_at, integers_at, separator_before};
 
 use crate::wrong::Mismatch;
 use sgb_vec::{digits_value, leading_digits};
@@ -92,8 +92,10 @@ pub(crate) fn integers<'a, const N: usize>(
     text: &'a [u8],
     end: &[u8],
 ) -> Result<([i64; N], &'a [u8]), Mismatch>
-    ensures read { Finds (λ x. (x.0, x.1.now)) result (integers_at separator.now N end.now text.entry.now) }
-    ensures bound { IfOk result (λ x. EachIndex x.0 (λ k. nat_abs (slice_index_or x.0 k (pos 0)) < 10 ^ 18)) }
+    ensures read { Finds (λ x. (x.0, x.1.now)) result
+        (integers_at separator.now N end.now text.entry.now) }
+    ensures bound { IfOk result (λ x. EachIndex x.0
+        (λ k. nat_abs (slice_index_or x.0 k (pos 0)) < 10 ^ 18)) }
 {
     let mut numbers = [0; N];
     let mut rest = text;

@@ -1,15 +1,15 @@
 //! Expressions at the beginning of a text, of which some stand inside others.
 ghost use Rattle.std.specs.Prelude.{◌≡◌, IfErr, IfOk, OnOk, [], ◌∷◌, ◌++◌, codes};
-ghost use Rattle.sgb_expr.specs.CodeEntries.{list_of};
+ghost use Rattle.sgb_expr.specs.inner.CodeEntries.{list_of};
 ghost use Rattle.sgb_expr.specs.Expression.{entry_of, expression_of};
-ghost use Rattle.sgb_expr.specs.Gives.{Finds, Gives};
-ghost use Rattle.sgb_expr.specs.TwoGraphs.{operands_of};
+ghost use Rattle.sgb_expr.specs.inner.Gives.{Finds, Gives};
+ghost use Rattle.sgb_expr.specs.inner.TwoGraphs.{operands_of};
 ghost use Rattle.sgb_expr.specs.declared.wrong.Wrong.TheVariants.{NoRoom};
 ghost use Rattle.sgb_expr.specs.Operations.{bi_complete_of, gunion_of, induced_of, intersection_of, product_of, wheel_of};
-ghost use Rattle.sgb_expr.specs.Readings.{integers_at, read_as};
-ghost use Rattle.sgb_expr.specs.Reading.{arguments_with, complement_with, entry_at, entry_list_at, expression_at, induced_with, lines_with, operands_with};
+ghost use Rattle.sgb_expr.specs.inner.Readings.{integers_at, read_as};
+ghost use Rattle.sgb_expr.specs.inner.Reading.{arguments_with, complement_with, entry_at, entry_list_at, expression_at, induced_with, lines_with, operands_with};
 
-use crate::arguments::family;
+use crate::arguments::generator;
 use crate::entries::{Entries, EntryExpr};
 use crate::expressions::Expr;
 use crate::names::{Name, opening};
@@ -30,12 +30,13 @@ pub(crate) fn expression(alloc: Global, text: &[u8]) -> Result<(Expr, &[u8]), Wr
 // wrong.
 #[cycle(expressions)]
 fn arguments(alloc: Global, name: Name, text: &[u8]) -> Result<(Expr, &[u8]), Wrong>
-    ensures { Gives (λ x. (expression_of x.0, x.1.now)) result (arguments_with expression_at name text.now) }
+    ensures { Gives (λ x. (expression_of x.0, x.1.now)) result
+        (arguments_with expression_at name text.now) }
 {
     match name {
-        Name::Family(name) => {
-            let (family, rest) = family(name, text)?;
-            Ok((Expr::Family(family), rest))
+        Name::Generator(name) => {
+            let (generator, rest) = generator(name, text)?;
+            Ok((Expr::Generator(generator), rest))
         }
         Name::Complement => complement(alloc, text),
         Name::Gunion => {
@@ -61,7 +62,8 @@ fn arguments(alloc: Global, name: Name, text: &[u8]) -> Result<(Expr, &[u8]), Wr
 // The arguments of a complement.
 #[cycle(expressions)]
 fn complement(alloc: Global, text: &[u8]) -> Result<(Expr, &[u8]), Wrong>
-    ensures { Gives (λ x. (expression_of x.0, x.1.now)) result (complement_with expression_at text.now) }
+    ensures { Gives (λ x. (expression_of x.0, x.1.now)) result
+        (complement_with expression_at text.now) }
 {
     let (graph, rest) = expression(alloc, text)?;
     let ([copy, self_loops, directed], rest) = integers::<3>(b",", rest, b")")?;
@@ -99,7 +101,8 @@ struct TwoGraphs {
 // The two graphs and two integers with which the text begins, to a `)`.
 #[cycle(expressions)]
 fn two_graphs(alloc: Global, text: &[u8]) -> Result<(TwoGraphs, &[u8]), Wrong>
-    ensures { Gives (λ x. (operands_of x.0, x.1.now)) result (operands_with expression_at text.now) }
+    ensures { Gives (λ x. (operands_of x.0, x.1.now)) result
+        (operands_with expression_at text.now) }
 {
     let (first, rest) = expression(alloc, text)?;
     let begun = fixed(b",", rest)?;
@@ -116,7 +119,8 @@ fn two_graphs(alloc: Global, text: &[u8]) -> Result<(TwoGraphs, &[u8]), Wrong>
 // The arguments of an induced graph.
 #[cycle(expressions)]
 fn induced(alloc: Global, text: &[u8]) -> Result<(Expr, &[u8]), Wrong>
-    ensures { Gives (λ x. (expression_of x.0, x.1.now)) result (induced_with expression_at text.now) }
+    ensures { Gives (λ x. (expression_of x.0, x.1.now)) result
+        (induced_with expression_at text.now) }
 {
     let (graph, rest) = expression(alloc, text)?;
     let begun = fixed(b",", rest)?;
@@ -127,7 +131,8 @@ fn induced(alloc: Global, text: &[u8]) -> Result<(Expr, &[u8]), Wrong>
 
 // The graph that entries induce, by whether it keeps self-loops and parallel edges and is directed.
 fn induced_graph(graph: Box<Expr>, entries: Entries, numbers: [i64; 3]) -> Expr
-    ensures { expression_of result ≡ induced_of (expression_of graph.value) (list_of entries) numbers }
+    ensures { expression_of result
+        ≡ induced_of (expression_of graph.value) (list_of entries) numbers }
 {
     let [self_loops, multi, directed] = numbers;
     Expr::Induced {
@@ -222,7 +227,8 @@ fn product(graphs: TwoGraphs) -> Expr
 
 // The arguments of a complete bipartite graph.
 fn bi_complete(text: &[u8]) -> Result<(Expr, &[u8]), Mismatch>
-    ensures { Finds (λ x. (expression_of x.0, x.1.now)) result (read_as bi_complete_of (integers_at [] 3 (codes ")")) text.now) }
+    ensures { Finds (λ x. (expression_of x.0, x.1.now)) result
+        (read_as bi_complete_of (integers_at [] 3 (codes ")")) text.now) }
 {
     let ([n1, n2, directed], rest) = integers::<3>(b"", text, b")")?;
     let graph = Expr::BiComplete {
@@ -235,7 +241,8 @@ fn bi_complete(text: &[u8]) -> Result<(Expr, &[u8]), Mismatch>
 
 // The arguments of a wheel.
 fn wheel(text: &[u8]) -> Result<(Expr, &[u8]), Mismatch>
-    ensures { Finds (λ x. (expression_of x.0, x.1.now)) result (read_as wheel_of (integers_at [] 3 (codes ")")) text.now) }
+    ensures { Finds (λ x. (expression_of x.0, x.1.now)) result
+        (read_as wheel_of (integers_at [] 3 (codes ")")) text.now) }
 {
     let ([n, n1, directed], rest) = integers::<3>(b"", text, b")")?;
     let graph = Expr::Wheel {

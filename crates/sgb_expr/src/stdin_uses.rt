@@ -1,6 +1,6 @@
 //! Which expressions read standard input.
 ghost use Rattle.std.specs.Prelude.{◌≡◌};
-ghost use Rattle.sgb_expr.specs.CodeEntries.{listed};
+ghost use Rattle.sgb_expr.specs.inner.CodeEntries.{listed};
 ghost use Rattle.sgb_expr.specs.Expression.{entries_of, entry_of, expression_of};
 ghost use Rattle.sgb_expr.specs.StdinUses.{entries_have_stdin, entry_has_stdin, has_stdin};
 
@@ -15,7 +15,7 @@ impl Expr {
         ensures { result ≡ has_stdin (expression_of self.now) }
     {
         match self {
-            Expr::Family(_) => false,
+            Expr::Generator(_) => false,
             Expr::Complement { graph, .. } => graph.has_stdin(),
             Expr::Gunion { first, second, .. } => first.has_stdin() || second.has_stdin(),
             Expr::Intersection { first, second, .. } => first.has_stdin() || second.has_stdin(),

@@ -8,7 +8,7 @@ use Rattle.std.proofs.lemmas.Bool.Decides.{Decides-eqb, Decides-ltb, nat_tests}
 use Rattle.sgb_graph.proofs.TestLemmas.{at_each_below, both_first, both_second, where_passes}
 use Rattle.std.specs.Prelude.{slice_index_or as get_or}
 use Rattle.std.proofs.lemmas.Grind.{get_or_default_zero}
-use Rattle.sgb_file.specs.Layouts.{place_of, places}
+use Rattle.sgb_file.specs.inner.Layouts.{place_of, places}
 use Rattle.sgb_file.specs.Checksum.{characters, value_of_byte, is_character, weighted_sum}
 
 -- the byte has a place below 96, where it stands

@@ -1,24 +1,26 @@
--- Lemmas on the texts of fields: what is written is read again.
-use Rattle.std.specs.Prelude.{◌≡◌, ℕ, zero, suc, ℤ, pos, negsuc, ◌+◌, ◌*◌, ◌^◌, ◌<◌, ◌≤◌, Bool, true, false, not, ◌||◌, List, [], ◌∷◌, ◌++◌, length, take, drop, codes, decimal, Option, Some, None, option_map, All, FitsSigned, nat_le, nat_lt, ◌==◌, refl}
+-- The texts of fields: what they say as they are written, also with breaks, and where a plain text or a string ends.
+use Rattle.std.specs.Prelude.{◌≡◌, ◌≢◌, get_or, ℕ, zero, suc, ℤ, pos, negsuc, ◌+◌, ◌*◌, ◌^◌, ◌<◌, ◌≤◌, Bool, true, false, not, ◌||◌, List, [], ◌∷◌, ◌++◌, length, take, drop, codes, decimal, Option, Some, None, option_map, All, FitsSigned, nat_le, nat_lt, ◌==◌, refl}
 use Rattle.std.specs.Fmt.{signed_decimal}
 use Rattle.std.specs.Int.{w64}
-use Rattle.std.specs.List.{list_all, list_any, position_or_len}
+use Rattle.std.specs.List.{list_all, position_or_len}
 use Rattle.std.specs.Str.Parse.{AllDigits, digits_value}
 use Rattle.std.proofs.Common.{ap, ◌∙◌, append_assoc, arith, length-append, take-append-drop}
 use Rattle.std.proofs.Math.Seq.{take-append_seam, drop-append_seam}
 use Rattle.std.proofs.lemmas.Bool.{and_parts, and_from}
 use Rattle.std.proofs.lemmas.Bool.Decides.{nat_tests}
 use Rattle.std.proofs.lemmas.Fmt.{decimal_is_IsNumeral, length-decimal-le}
-use Rattle.std.proofs.lemmas.List.Elements.{All-head, All-tail}
 use Rattle.std.proofs.lemmas.Str.Parse.{digit_at}
 use Rattle.sgb_vec.specs.Names.{IsTextByte}
 use Rattle.sgb_graph.specs.declared.fields.Ref.{Ref}
 use Rattle.sgb_graph.specs.declared.fields.Ref.TheVariants.{Null, One, At}
 use Rattle.sgb_graph.proofs.Lists.{list_all-weaker}
 use Rattle.sgb_graph.specs.Sound.{ref_fits, chain_fits}
-use Rattle.sgb_file.specs.Fields.{Found, found_as, is_decimal_digit, number_of, number_below, most_number_digits, most_integer_digits, integer_of, ref_of, record_number_of, is_string_byte, unbroken, string_at, plain_text, plain_at, after_prefix}
+use Rattle.sgb_file.specs.Fields.{is_decimal_digit, number_of, number_below, most_number_digits, most_integer_digits, integer_of, ref_of, record_number_of, is_string_byte, unbroken, string_at, plain_text, plain_at, after_prefix}
 use Rattle.sgb_file.specs.Saving.{quoted, ref_text, record_number_text}
 use Rattle.sgb_file.proofs.LineLemmas.{not_true, is_line, is_one_line, is_within_line, ends_well, ends_well-last, list_all-drop, list_all-take, list_all-join}
+use Rattle.sgb_file.specs.Files.{IsStringText}
+use Rattle.std.proofs.lemmas.List.Sums.{AllPass-from_list_all, list_all-from_AllPass}
+use Rattle.sgb_file.proofs.LeftTexts.{first_beyond, any_beyond}
 use Rattle.sgb_file.proofs.LaidOutText.{with_breaks, breaks_within}
 
 -- a text that begins with a comma or a newline
@@ -30,39 +32,18 @@ Ends (b ∷ text) = (b == 44 || b == 10) ≡ true
 abbrev pub AreFew : ℕ → List ℕ → Type 0
 AreFew breaks text = 0 < breaks → 78 * breaks + 1 ≤ length text
 
--- the text of a field, as it stands with its breaks, is read as this value
-pub record IsRead {X : Type 0} (read : List ℕ → Option (Found X)) (text : List ℕ) (value : X) : Type 0 where
-  pub reads : (breaks : ℕ) (more : List ℕ) → AreFew breaks text → Ends more → read (with_breaks breaks 78 text ++ more) ≡ Some (record { value = value; rest = more })
-  pub begins : (breaks : ℕ) (more : List ℕ) → AreFew breaks text → after_prefix (codes "\n") (with_breaks breaks 78 text ++ more) ≡ None
-
--- the first element that passes stands after those that do not
-first_after : {X : Type 0} (p : X → Bool) (x : List X) (b : X) (y : List X) → list_all (λ c. not (p c)) x ≡ true → p b ≡ true → position_or_len p (x ++ b ∷ y) ≡ length x
-first_after p [] b y h e = rw e refl
-first_after p (c ∷ x) b y h e =
-    let parts = and_parts (not (p c)) (list_all (λ d. not (p d)) x) h in
-    rw parts.0 (ap (λ k. 1 + k) (first_after p x b y parts.1 e) ∙ omega arith)
-
-any_after : {X : Type 0} (p : X → Bool) (x : List X) (b : X) (y : List X) → p b ≡ true → list_any p (x ++ b ∷ y) ≡ true
-any_after p [] b y e = rw e refl
-any_after p (c ∷ x) b y e = or_true (p c) (list_any p (x ++ b ∷ y)) (any_after p x b y e) where
-  or_true : (s t : Bool) → t ≡ true → (s || t) ≡ true
-  or_true true t h = refl
-  or_true false t h = h
+-- a text as it stands with so many breaks
+abbrev pub IsBroken : List ℕ → List ℕ → Type 0
+IsBroken text broken = (breaks : ℕ) × AreFew breaks text × (broken ≡ with_breaks breaks 78 text)
 
 -- a byte of a plain text: no comma, no newline
 abbrev pub is_plain_byte : ℕ → Bool
 is_plain_byte b = not (b == 44 || b == 10)
 
--- a text that is no string's: it stands with no breaks, and ends before the next comma or newline
-pub record IsPlain (text : List ℕ) : Type 0 where
-  pub some : 0 < length text
-  pub short : length text ≤ 78
-  pub bytes : list_all is_plain_byte text ≡ true
-
 plain_text_is : (text more : List ℕ) → list_all is_plain_byte text ≡ true → Ends more → plain_text (text ++ more) ≡ text
 plain_text_is text [] h e = absurd e
 plain_text_is text (b ∷ more) h e =
-    ap (λ k. take k (text ++ b ∷ more)) (first_after (λ c. c == 44 || c == 10) text b more h e) ∙ take-append_seam text (b ∷ more)
+    ap (λ k. take k (text ++ b ∷ more)) (first_beyond (λ c. c == 44 || c == 10) text (b ∷ more) h ∙ rw e (omega arith)) ∙ take-append_seam text (b ∷ more)
 
 -- a plain text is read as what it says
 pub plain_read : {X : Type 0} (says : List ℕ → Option X) (text : List ℕ) (value : X) (more : List ℕ) → list_all is_plain_byte text ≡ true → says text ≡ Some value → Ends more
@@ -70,11 +51,15 @@ pub plain_read : {X : Type 0} (says : List ℕ → Option X) (text : List ℕ) (
 plain_read says text value more h said e =
     rw (plain_text_is text more h e) (rw said (ap (λ rest. Some (record { value = value; rest = rest })) (drop-append_seam text more)))
 
--- no breaks in a short text
-none_in_short : (breaks : ℕ) (text : List ℕ) → length text ≤ 78 → AreFew breaks text → with_breaks breaks 78 text ≡ text
+-- a short text that says a value: it stands with no breaks
+pub record IsSaid {X : Type 0} (says : List ℕ → Option X) (text : List ℕ) (value : X) : Type 0 where
+  pub short : length text ≤ 78
+  pub said : says text ≡ Some value
+
+pub said_broken : {X : Type 0} (says : List ℕ → Option X) (text : List ℕ) (value : X) → IsSaid says text value → (broken : List ℕ) → IsBroken text broken → says broken ≡ Some value
 unfolding with_breaks
-none_in_short zero text short few = refl
-none_in_short (suc n) text short few = absurd (omega (arith, few (omega arith)))
+said_broken says text value h broken (zero, few, e) = ap says e ∙ h.said
+said_broken says text value h broken (suc n, few, e) = absurd (omega (arith, few (omega arith), h.short))
 
 -- a text that begins with another byte than a newline
 no_newline : (b : ℕ) (text : List ℕ) → is_within_line b ≡ true → after_prefix (codes "\n") (b ∷ text) ≡ None
@@ -86,22 +71,7 @@ plain_begins (b ∷ text) more some h =
     let byte : is_plain_byte b ≡ true = (and_parts (is_plain_byte b) (list_all is_plain_byte text) h).0 in
     no_newline b (text ++ more) (grind (arith, nat_tests))
 
-pub plain_is_read : {X : Type 0} (says : List ℕ → Option X) (text : List ℕ) (value : X) → IsPlain text → says text ≡ Some value → IsRead (plain_at says) text value
-plain_is_read says text value plain said = record {
-  reads = λ breaks more few e.
-      ap (λ x. plain_at says (x ++ more)) (none_in_short breaks text plain.short few) ∙ plain_read says text value more plain.bytes said e;
-  begins = λ breaks more few.
-      ap (λ x. after_prefix (codes "\n") (x ++ more)) (none_in_short breaks text plain.short few) ∙ plain_begins text more plain.some plain.bytes;
-}
-
--- what is read, as another value
-pub is_read_as : {X Y : Type 0} (f : X → Y) (read : List ℕ → Option (Found X)) (text : List ℕ) (value : X) → IsRead read text value → IsRead (λ t. found_as f (read t)) text (f value)
-is_read_as f read text value h = record {
-  reads = λ breaks more few e. ap (found_as f) (h.reads breaks more few e);
-  begins = h.begins;
-}
-
--- digits are plain, and end a line well
+-- digits are plain
 digit_is_plain : (b : ℕ) → is_decimal_digit b ≡ true → is_plain_byte b ≡ true
 digit_is_plain b h = grind (arith, nat_tests)
 
@@ -121,12 +91,8 @@ digits_tested (b ∷ text) h =
 pub decimal_digits : (n : ℕ) → n < 2 ^ 64 → list_all is_decimal_digit (decimal n) ≡ true
 decimal_digits n h = digits_tested (decimal n) (decimal_is_IsNumeral n h).0.1
 
-pub decimal_is_plain : (n : ℕ) → n < 2 ^ 64 → IsPlain (decimal n)
-decimal_is_plain n h = record {
-  some = (decimal_is_IsNumeral n h).0.0;
-  short = let most : length (decimal n) ≤ 20 = length-decimal-le 20 n (omega arith) (omega arith) h in omega arith;
-  bytes = digits_are_plain (decimal n) (decimal_digits n h);
-}
+decimal_is_short : (n : ℕ) → n < 2 ^ 64 → length (decimal n) ≤ 20
+decimal_is_short n h = length-decimal-le 20 n (omega arith) (omega arith) h
 
 -- a number is read of its decimal
 number_tested : (most : ℕ) (text : List ℕ) → 0 < length text → length text ≤ most → list_all is_decimal_digit text ≡ true → number_of most text ≡ Some (digits_value 10 text)
@@ -141,17 +107,10 @@ number_read most n some below h =
     number_tested most (decimal n) numeral.0.0 (length-decimal-le most n some below h) (decimal_digits n h)
     ∙ ap (λ k. Some k) numeral.1
 
-pub number_is_read : (n : ℕ) → n < 10 ^ 18 → IsRead (plain_at (number_of most_number_digits)) (decimal n) n
-number_is_read n h =
-    plain_is_read (number_of most_number_digits) (decimal n) n (decimal_is_plain n (omega (arith, h)))
-    (number_read most_number_digits n (omega arith) h (omega (arith, h)))
-
--- a letter before a decimal
-letter_is_plain : (b n : ℕ) → is_plain_byte b ≡ true → n < 2 ^ 64 → IsPlain (b ∷ decimal n)
-letter_is_plain b n e h = record {
-  some = omega arith;
-  short = let most : length (decimal n) ≤ 20 = length-decimal-le 20 n (omega arith) (omega arith) h in omega (arith, most);
-  bytes = and_from (is_plain_byte b) (list_all is_plain_byte (decimal n)) e (digits_are_plain (decimal n) (decimal_digits n h));
+pub number_is_said : (n : ℕ) → n < 10 ^ 18 → IsSaid (number_of most_number_digits) (decimal n) n
+number_is_said n h = record {
+  short = omega (arith, decimal_is_short n (omega (arith, h)));
+  said = number_read most_number_digits n (omega arith) h (omega (arith, h));
 }
 
 -- an integer is read of its text
@@ -170,12 +129,9 @@ integer_read (negsuc n) h =
     let small : nat_le (suc n) (2 ^ 63) ≡ true = grind (arith, nat_tests) in
     rw (number_read most_integer_digits (suc n) (omega arith) (omega (arith, h)) (omega (arith, h))) (rw small refl)
 
-integer_is_plain : (i : ℤ) → FitsSigned w64 i → IsPlain (signed_decimal i)
-integer_is_plain (pos n) h = decimal_is_plain n (omega (arith, h))
-integer_is_plain (negsuc n) h = letter_is_plain 45 (suc n) refl (omega (arith, h))
-
-pub integer_is_read : (i : ℤ) → FitsSigned w64 i → IsRead (plain_at integer_of) (signed_decimal i) i
-integer_is_read i h = plain_is_read integer_of (signed_decimal i) i (integer_is_plain i h) (integer_read i h)
+pub integer_is_said : (i : ℤ) → FitsSigned w64 i → IsSaid integer_of (signed_decimal i) i
+integer_is_said (pos n) h = record { short = omega (arith, decimal_is_short n (omega (arith, h))); said = integer_read (pos n) h }
+integer_is_said (negsuc n) h = record { short = omega (arith, decimal_is_short (suc n) (omega (arith, h))); said = integer_read (negsuc n) h }
 
 -- a number below a limit
 below_read : (limit n : ℕ) → limit ≤ 10 ^ 18 → n < limit → number_below limit (decimal n) ≡ Some n
@@ -186,22 +142,19 @@ below_read limit n most h =
 pub test_below : (n limit : ℕ) → nat_lt n limit ≡ true → n < limit
 test_below n limit e = grind (arith, nat_tests)
 
--- a vertex is read of its text
-pub ref_is_read : (n : ℕ) (r : Ref) → n ≤ 10 ^ 18 → ref_fits n r ≡ true → IsRead (plain_at (ref_of n)) (ref_text r) r
-ref_is_read n Null most h = plain_is_read (ref_of n) (codes "0") Null (record { some = omega arith; short = omega arith; bytes = refl }) refl
-ref_is_read n One most h = plain_is_read (ref_of n) (codes "1") One (record { some = omega arith; short = omega arith; bytes = refl }) refl
-ref_is_read n (At v) most h =
+-- a vertex is said by its text, and an arc record's number
+pub ref_is_said : (n : ℕ) (r : Ref) → n ≤ 10 ^ 18 → ref_fits n r ≡ true → IsSaid (ref_of n) (ref_text r) r
+ref_is_said n Null most h = record { short = omega arith; said = refl }
+ref_is_said n One most h = record { short = omega arith; said = refl }
+ref_is_said n (At v) most h =
     let below = test_below v n h in
-    plain_is_read (ref_of n) (86 ∷ decimal v) (At v) (letter_is_plain 86 v refl (omega (arith, below, most)))
-    (ap (λ k. option_map At k) (below_read n v most below))
+    record { short = omega (arith, decimal_is_short v (omega (arith, below, most))); said = ap (option_map At) (below_read n v most below) }
 
--- an arc record's number is read of its text
-pub record_number_is_read : (m : ℕ) (k : Option ℕ) → m ≤ 10 ^ 18 → chain_fits m k ≡ true → IsRead (plain_at (record_number_of m)) (record_number_text k) k
-record_number_is_read m None most h = plain_is_read (record_number_of m) (codes "0") None (record { some = omega arith; short = omega arith; bytes = refl }) refl
-record_number_is_read m (Some k) most h =
+pub record_number_is_said : (m : ℕ) (k : Option ℕ) → m ≤ 10 ^ 18 → chain_fits m k ≡ true → IsSaid (record_number_of m) (record_number_text k) k
+record_number_is_said m None most h = record { short = omega arith; said = refl }
+record_number_is_said m (Some k) most h =
     let below = test_below k m h in
-    plain_is_read (record_number_of m) (65 ∷ decimal k) (Some k) (letter_is_plain 65 k refl (omega (arith, below, most)))
-    (ap (λ j. option_map Some j) (below_read m k most below))
+    record { short = omega (arith, decimal_is_short k (omega (arith, below, most))); said = ap (option_map Some) (below_read m k most below) }
 
 -- a byte of a string is no quote and no backslash
 string_byte : (b : ℕ) → IsTextByte b → is_string_byte b ≡ true
@@ -213,9 +166,18 @@ string_byte b h =
     rw low (rw high (rw quote (rw slash refl)))
 
 pub string_bytes : (text : List ℕ) → All IsTextByte text → list_all is_string_byte text ≡ true
-string_bytes [] h = refl
-string_bytes (b ∷ text) h =
-    and_from (is_string_byte b) (list_all is_string_byte text) (string_byte b (All-head IsTextByte b text h)) (string_bytes text (All-tail IsTextByte b text h))
+string_bytes text h = list_all-from_AllPass is_string_byte text (λ k d below. string_byte (get_or text k d) (h k d below))
+
+text_byte : (b : ℕ) → is_string_byte b ≡ true → IsTextByte b
+text_byte b h = record {
+  from_space = grind (arith, nat_tests);
+  to_tilde = grind (arith, nat_tests);
+  no_quote = grind (arith, nat_tests);
+  no_backslash = grind (arith, nat_tests);
+}
+
+pub text_bytes : (s : List ℕ) → list_all is_string_byte s ≡ true → All IsTextByte s
+text_bytes s h k d below = text_byte (get_or s k d) (AllPass-from_list_all is_string_byte s h k d below)
 
 -- no byte of a text is a quote, or a backslash
 abbrev pub no_quotes : List ℕ → Bool
@@ -223,6 +185,12 @@ no_quotes text = list_all (λ b. not (b == 34)) text
 
 abbrev no_slashes : List ℕ → Bool
 no_slashes text = list_all (λ b. not (b == 92)) text
+
+pub have_no_quote : (text : List ℕ) → no_quotes text ≡ true → All (λ b. b ≢ 34) text
+have_no_quote text h k d below = is_no_quote (get_or text k d) (AllPass-from_list_all (λ b. not (b == 34)) text h k d below)
+  where
+    is_no_quote : (b : ℕ) → not (b == 34) ≡ true → b ≢ 34
+    is_no_quote b h = grind (arith, nat_tests)
 
 -- breaks bring no quotes
 breaks_no_quotes : (n first : ℕ) (text : List ℕ) → no_quotes text ≡ true → no_quotes (with_breaks n first text) ≡ true
@@ -276,27 +244,29 @@ pub string_says : (most : ℕ) (inside s more : List ℕ) → no_quotes inside �
 string_says most inside s more quotes says short bytes =
     let after = inside ++ 34 ∷ more in
     let joined : (inside ++ 34 ∷ []) ++ more ≡ after = append_assoc inside (34 ∷ []) more in
-    let place : position_or_len (λ c. c == 34) after ≡ length inside = first_after (λ c. c == 34) inside 34 more quotes refl in
+    let place : position_or_len (λ c. c == 34) after ≡ length inside = first_beyond (λ c. c == 34) inside (34 ∷ more) quotes ∙ omega arith in
     let before : take (length inside) after ≡ inside = take-append_seam inside (34 ∷ more) in
     let rest : drop (length inside + 1) after ≡ more = next_after inside more in
     let fits : nat_le (length s) most ≡ true = grind (arith, nat_tests) in
-    rw joined (rw (any_after (λ c. c == 34) inside 34 more refl) (rw place (rw before (rw says (rw fits (rw bytes (rw rest refl)))))))
+    rw joined (rw (any_beyond (λ c. c == 34) inside (34 ∷ more) quotes) (rw place (rw before (rw says (rw fits (rw bytes (rw rest refl)))))))
   where
     next_after : (x y : List ℕ) → drop (length x + 1) (x ++ 34 ∷ y) ≡ y
     next_after [] y = refl
     next_after (c ∷ x) y = let same : suc (length x) + 1 ≡ suc (length x + 1) = omega arith in rw same (next_after x y)
 
-pub string_is_read : (most : ℕ) (s : List ℕ) → length s ≤ most → All IsTextByte s → IsRead (string_at most) (quoted s) s
-string_is_read most s short printable =
+-- a string is said by its quoted text, with any breaks
+pub string_is_said : (most : ℕ) (s : List ℕ) → length s ≤ most → All IsTextByte s → (broken : List ℕ) → IsBroken (quoted s) broken → IsStringText most s broken
+string_is_said most s short printable broken b =
     let bytes = string_bytes s printable in
-    let quotes = list_all-weaker is_string_byte (λ b. not (b == 34)) s (λ b h. grind (arith, nat_tests)) bytes in
-    let slashes = list_all-weaker is_string_byte (λ b. not (b == 92)) s (λ b h. grind (arith, nat_tests)) bytes in
+    let inside = with_breaks b.0 77 s in
+    let quotes = list_all-weaker is_string_byte (λ c. not (c == 34)) s (λ c h. grind (arith, nat_tests)) bytes in
+    let slashes = list_all-weaker is_string_byte (λ c. not (c == 92)) s (λ c h. grind (arith, nat_tests)) bytes in
+    let fits : nat_le (length s) most ≡ true = grind (arith, nat_tests) in
     record {
-      reads = λ breaks more few e.
-          ap (λ x. string_at most (x ++ more)) (quoted_breaks breaks s few)
-          ∙ string_says most (with_breaks breaks 77 s) s more (breaks_no_quotes breaks 77 s quotes) (unbroken_breaks breaks 77 s slashes) short bytes;
-      begins = λ breaks more few.
-          ap (λ x. after_prefix (codes "\n") (x ++ more)) (quoted_breaks breaks s few);
+      inside = inside;
+      whole = b.2 ∙ quoted_breaks b.0 s b.1;
+      no_quote = have_no_quote inside (breaks_no_quotes b.0 77 s quotes);
+      says = rw (unbroken_breaks b.0 77 s slashes) (rw fits (rw bytes refl));
     }
 
 -- a quoted text is a line as it is written

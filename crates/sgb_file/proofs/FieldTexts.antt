@@ -1,16 +1,13 @@
 -- The texts of fields, laid out as pieces one after another.
-use Rattle.std.proofs.Common.{◌≡◌, ◌<◌, ◌≤◌, ◌+◌, ◌++◌, ◌∙◌, ℕ, Bool, true, false, List, [], ◌∷◌, Result, Ok, Err, length, drop, map, slice_index_or, refl, sym, ap, subst, append-nil, suc, Some, arith, slice_get}
+use Rattle.std.proofs.Common.{◌≡◌, ◌<◌, ◌≤◌, ◌+◌, ◌++◌, ◌∙◌, ℕ, Bool, true, false, List, [], ◌∷◌, Result, Ok, Err, length, drop, map, slice_index_or, refl, sym, ap, subst, append-nil, Some, arith, slice_get}
 use Rattle.sgb_graph.specs.Columns.{util_seen}
 use Rattle.sgb_graph.specs.declared.fields.UtilRef.{UtilRef}
-use Rattle.sgb_graph.specs.Sound.{utils_fit}
-use Rattle.sgb_graph.specs.declared.fields.Kind.{Kind}
-use Rattle.sgb_graph.proofs.TestLemmas.{both_second}
 use Rattle.std.specs.List.{flat_map}
 use Rattle.std.proofs.lemmas.List.{at_drop_more, drop_all}
 use Rattle.sgb_graph.specs.declared.fields.Util.{Util}
-use Rattle.sgb_graph.specs.declared.fields.Util.TheVariants.{Nothing, Int, Vertex as VertexField, Str, Chain}
+use Rattle.sgb_graph.specs.declared.fields.Util.TheVariants.{Nothing}
 use Rattle.sgb_file.specs.Saving.{field_texts, pieces_of, laid_out, lines_ended, line_begun}
-use Rattle.sgb_file.specs.Layouts.{Stage, HasLaid, IsStopped, IsLaid, IsPlaced, IsNextPlaced, AreLaidOut, has_any, piece_of}
+use Rattle.sgb_file.specs.inner.Layouts.{Stage, HasLaid, IsStopped, IsLaid, IsPlaced, IsNextPlaced, AreLaidOut, has_any, piece_of}
 use Rattle.sgb_file.proofs.LaidLines.{LinesSoFar, lines-more, lines-cut, lines-last, stopped-first, laid-after}
 
 -- the texts of fields
@@ -56,18 +53,12 @@ pub field-more : (T E : Type 0) (x : T) (f : Util) (rest all : List (List ℕ)) 
     → IsNextPlaced {T = T} {E = E} (has_any rest) (field_texts f) b c (Ok x) → LinesSoFar all (laid_out c.layout.line (pieces_of rest)) a c
 field-more T E x Nothing rest all a b c p q =
     subst (λ line. LinesSoFar all (laid_out line (pieces_of rest)) a c) (sym q.1) (lines-more all _ [] _ a b c refl p q.0)
-field-more T E x (Int i) rest all a b c p q = text-more _ rest all a b c p q
-field-more T E x (VertexField r) rest all a b c p q = text-more _ rest all a b c p q
-field-more T E x (Str s) rest all a b c p q = text-more _ rest all a b c p q
-field-more T E x (Chain first) rest all a b c p q = text-more _ rest all a b c p q
+field-more T E x _ rest all a b c p q = text-more _ rest all a b c p q
 
 pub field-cut : (T E : Type 0) (x : E) (f : Util) (rest all : List (List ℕ)) (a b c : Stage) → LinesSoFar all (laid_out b.layout.line (pieces_of (field_texts f ++ rest))) a b
     → IsNextPlaced {T = T} {E = E} (has_any rest) (field_texts f) b c (Err x) → IsStopped all a c
 field-cut T E x Nothing rest all a b c p q = lines-cut all _ [] _ a b c refl p q
-field-cut T E x (Int i) rest all a b c p q = text-cut _ rest all a b c p q
-field-cut T E x (VertexField r) rest all a b c p q = text-cut _ rest all a b c p q
-field-cut T E x (Str s) rest all a b c p q = text-cut _ rest all a b c p q
-field-cut T E x (Chain first) rest all a b c p q = text-cut _ rest all a b c p q
+field-cut T E x _ rest all a b c p q = text-cut _ rest all a b c p q
 
 -- fields one by one: the next one was laid out, or the writing stopped there
 pub fields-more : (T E : Type 0) (x : T) (fields : List UtilRef) (i : ℕ) (field : UtilRef) (more : Bool) (all : List (List ℕ)) (a b c : Stage)
@@ -126,17 +117,4 @@ record-stopped text t rest more a b c w e p q = record-then {T = Bool} {E = Bool
 pub six_values : {X : Type 0} (xs : List X) (a b c d e f : X) → length xs ≡ 6 → slice_get xs 0 ≡ Some a → slice_get xs 1 ≡ Some b → slice_get xs 2 ≡ Some c
     → slice_get xs 3 ≡ Some d → slice_get xs 4 ≡ Some e → slice_get xs 5 ≡ Some f → a ∷ b ∷ c ∷ d ∷ e ∷ f ∷ [] ≡ xs
 six_values (x0 ∷ x1 ∷ x2 ∷ x3 ∷ x4 ∷ x5 ∷ []) a b c d e f n h0 h1 h2 h3 h4 h5 = cc
-six_values [] a b c d e f n h0 h1 h2 h3 h4 h5 = absurd (omega (arith, n))
-six_values (x0 ∷ []) a b c d e f n h0 h1 h2 h3 h4 h5 = absurd (omega (arith, n))
-six_values (x0 ∷ x1 ∷ []) a b c d e f n h0 h1 h2 h3 h4 h5 = absurd (omega (arith, n))
-six_values (x0 ∷ x1 ∷ x2 ∷ []) a b c d e f n h0 h1 h2 h3 h4 h5 = absurd (omega (arith, n))
-six_values (x0 ∷ x1 ∷ x2 ∷ x3 ∷ []) a b c d e f n h0 h1 h2 h3 h4 h5 = absurd (omega (arith, n))
-six_values (x0 ∷ x1 ∷ x2 ∷ x3 ∷ x4 ∷ []) a b c d e f n h0 h1 h2 h3 h4 h5 = absurd (omega (arith, n))
-six_values (x0 ∷ x1 ∷ x2 ∷ x3 ∷ x4 ∷ x5 ∷ x6 ∷ xs) a b c d e f n h0 h1 h2 h3 h4 h5 = absurd (omega (arith, n))
-
--- as many values as kinds
-pub as_many : (n m : ℕ) (kinds : List Kind) (utils : List Util) → utils_fit n m kinds utils ≡ true → length utils ≡ length kinds
-as_many n m [] [] e = refl
-as_many n m [] (u ∷ us) e = absurd cc
-as_many n m (k ∷ ks) [] e = absurd cc
-as_many n m (k ∷ ks) (u ∷ us) e = ap suc (as_many n m ks us (both_second _ _ e))
+six_values _ a b c d e f n h0 h1 h2 h3 h4 h5 = absurd (omega (arith, n))

@@ -1,12 +1,12 @@
 -- Fields and their texts: a field's reader finds exactly a text that stands for its value.
-use Rattle.std.specs.Prelude.{◌≡◌, ◌≢◌, ℕ, suc, ℤ, pos, neg_ℤ, ◌^◌, ◌<◌, Bool, true, false, not, ◌+◌, ◌&&◌, ◌||◌, List, [], ◌∷◌, ◌++◌, length, take, codes, Option, Some, None, option_map, All, nat_lt, nat_le, ◌==◌, if◌then◌else◌, refl}
+use Rattle.std.specs.Prelude.{◌≡◌, ◌≢◌, ℕ, suc, ℤ, pos, neg_ℤ, ◌^◌, ◌<◌, Bool, true, false, not, ◌+◌, ◌&&◌, ◌||◌, List, [], ◌∷◌, ◌++◌, length, take, codes, Option, Some, None, option_map, get_or, nat_lt, nat_le, ◌==◌, if◌then◌else◌, refl}
 use Rattle.std.specs.List.{list_all, list_any, before_first, after_first, position_or_len}
 use Rattle.std.specs.Str.{bytes_eq}
 use Rattle.std.specs.Str.Parse.{digits_value}
 use Rattle.std.proofs.Common.{ap, sym, subst, ◌∙◌, arith, append_assoc}
 use Rattle.std.proofs.lemmas.Bool.{and_parts, and_from}
 use Rattle.std.proofs.lemmas.Bool.Decides.{nat_tests}
-use Rattle.std.proofs.lemmas.List.Elements.{All-cons, All-nil}
+use Rattle.std.proofs.lemmas.List.Sums.{list_all-from_AllPass}
 use Rattle.std.proofs.lemmas.Slice.Eq.{bytes_eq-Decides}
 use Rattle.sgb_vec.specs.Limits.{most_bytes}
 use Rattle.sgb_graph.specs.declared.fields.Kind.{Kind}
@@ -19,9 +19,8 @@ use Rattle.sgb_file.specs.Fields.{Counts, Found, given, found_as, is_decimal_dig
 use Rattle.sgb_file.specs.Files.{IsStringText, IsFieldText}
 use Rattle.sgb_file.specs.Saving.{quoted}
 use Rattle.sgb_file.proofs.FoundParts.{taken_and_left, was_given, was_mapped, was_found_as, was_let_through, was_chosen}
-use Rattle.sgb_file.proofs.FieldReading.{Ends, is_plain_byte, plain_read, plain_begins, digits_are_plain, no_quotes, string_says}
+use Rattle.sgb_file.proofs.FieldReading.{Ends, is_plain_byte, plain_read, plain_begins, digits_are_plain, have_no_quote, no_quotes, string_says}
 use Rattle.sgb_file.proofs.NumberReading.{at_most}
-use Rattle.sgb_file.proofs.ReadParts.{all_pass, plain_said}
 
 -- a text that stands at the front for what was found
 pub record StandsIn {X : Type 0} (IsTextOf : X → List ℕ → Type 0) (text : List ℕ) (found : Found X) : Type 0 where
@@ -38,22 +37,9 @@ plain_finds says text found e =
     let m = was_mapped (says (plain_text text)) e in
     record {
       whole = plain_text text;
-      says = plain_said says text found e;
+      says = m.here ∙ ap (λ f. Some f.value) m.same;
       parts = sym (taken_and_left (position_or_len (λ b. b == 44 || b == 10) text) text) ∙ ap (λ f. plain_text text ++ f.rest) m.same;
     }
-
--- tests and facts of each element
-each_passes : {X : Type 0} (IsGood : X → Type 0) (p : X → Bool) → ((x : X) → p x ≡ true → IsGood x) → (xs : List X) → list_all p xs ≡ true → All IsGood xs
-each_passes IsGood p follows [] h = All-nil IsGood
-each_passes IsGood p follows (x ∷ xs) h =
-    let parts = and_parts (p x) (list_all p xs) h in
-    All-cons IsGood x xs (follows x parts.0) (each_passes IsGood p follows xs parts.1)
-
-is_no_quote : (b : ℕ) → not (b == 34) ≡ true → b ≢ 34
-is_no_quote b h = grind (arith, nat_tests)
-
-no_quote_is : (b : ℕ) → b ≢ 34 → not (b == 34) ≡ true
-no_quote_is b h = grind (arith, nat_tests)
 
 -- a text with a quote in it is what stands before the first one, the quote, and what stands after it
 pub record IsSplit (text : List ℕ) : Type 0 where
@@ -94,7 +80,7 @@ string_finds most (b ∷ text) found e =
     let first : b ≡ 34 = grind (arith, nat_tests, tests.0) in
     subst (λ (f : Found (List ℕ)). StandsIn (IsStringText most) (b ∷ text) f) m.same (record {
       whole = quoted inside;
-      says = record { inside = inside; whole = refl; no_quote = each_passes (λ c. c ≢ 34) (λ c. not (c == 34)) is_no_quote inside split.before; says = m.here };
+      says = record { inside = inside; whole = refl; no_quote = have_no_quote inside split.before; says = m.here };
       parts = ap (λ c. c ∷ text) first ∙ ap (λ x. 34 ∷ x) (split.parts ∙ sym (append_assoc inside (34 ∷ []) (after_first (λ c. c == 34) text)));
     })
 
@@ -214,9 +200,12 @@ string_again most inside s more quotes said =
     string_says most inside (unbroken inside) more quotes refl (at_most (length (unbroken inside)) most parts.0) parts.1
     ∙ ap (λ (t : List ℕ). Some (record { value = t; rest = more })) p.1
 
+no_quote_is : (b : ℕ) → b ≢ 34 → not (b == 34) ≡ true
+no_quote_is b h = grind (arith, nat_tests)
+
 pub string_is_found : (most : ℕ) (s text : List ℕ) → IsStringText most s text → IsFoundAs (string_at most) text s
 string_is_found most s text h =
-    let quotes = all_pass (λ b. b ≢ 34) (λ b. not (b == 34)) no_quote_is h.inside h.no_quote in
+    let quotes = list_all-from_AllPass (λ b. not (b == 34)) h.inside (λ k d below. no_quote_is (get_or h.inside k d) (h.no_quote k d below)) in
     record {
       reads = λ more e. ap (λ x. string_at most (x ++ more)) h.whole ∙ string_again most h.inside s more quotes h.says;
       begins = λ more. ap (λ x. after_prefix (codes "\n") (x ++ more)) h.whole;

@@ -17,13 +17,12 @@ use Rattle.sgb_file.specs.Fields.{Found, is_decimal_digit, number_of, most_numbe
 use Rattle.sgb_file.specs.Records.{Head, records_at}
 use Rattle.sgb_file.specs.Restoring.{Opening, leading_number, head_of_line, opening_of, checksum_in_line, checksum_agrees, line_closes, closes, graph_of_text}
 use Rattle.sgb_file.specs.Files.{IsFirstLine, IsComment, IsChecksumLine, IsRecord, IsArcRecord, AreRecords, AreRecordsOf, IsFileOf, head_of}
-use Rattle.sgb_file.proofs.LineLemmas.{is_one_line, is_within_line, lines_read, clean_are_one_line}
+use Rattle.sgb_file.proofs.LineLemmas.{is_one_line, is_within_line, lines_again, lines_read, clean_are_one_line}
 use Rattle.sgb_file.proofs.FoundParts.{prefix_is, was_given, was_mapped, was_chosen}
 use Rattle.sgb_file.proofs.NumberReading.{number_digits}
-use Rattle.sgb_file.proofs.FirstLines.{IsLeading, leading_found, first_line_found}
-use Rattle.sgb_file.proofs.FileReading.{leading_says, kinds_read, opened_by, lines_again}
+use Rattle.sgb_file.proofs.FirstLines.{IsLeading, leading_found, leading_says, first_line_found, kinds_read}
 use Rattle.sgb_file.proofs.RestoringLemmas.{parts_of_opening, read_by_parts}
-use Rattle.sgb_file.proofs.RecordsAndTexts.{head_found, records_found, records_are_read}
+use Rattle.sgb_file.proofs.RecordsAndTexts.{records_found, records_are_read}
 
 -- and a first line is read as one
 first_line_read : (head : Head) (line : List ℕ) → IsFirstLine head line → head_of_line line ≡ Some head
@@ -51,7 +50,7 @@ comment_is_passed line h = by_head (head_of_line line) refl
 opening_read : (head : Head) (comments : List (List ℕ)) (first : List ℕ) (lines : List (List ℕ)) → All IsComment comments → IsFirstLine head first
     → opening_of (comments ++ first ∷ lines) ≡ Some (record { head = head; lines = lines })
 unfolding opening_of
-opening_read head [] first lines h says = opened_by first head lines (first_line_read head first says)
+opening_read head [] first lines h says = rw (first_line_read head first says) refl
 opening_read head (line ∷ comments) first lines h says =
     let comment = All-head IsComment line comments h in
     rw (comment_is_passed line comment) (rw comment.star (opening_read head comments first lines (All-tail IsComment line comments h) says))
@@ -268,8 +267,8 @@ file_from_read g text e =
     let all_one_line : list_all is_one_line (o.comments ++ o.first ∷ lines) ≡ true = ap (list_all is_one_line) (sym o.parts) ∙ clean_are_one_line text in
     let one_line = (and_parts (is_one_line o.first) (list_all is_one_line lines) (last_lines o.comments (o.first ∷ lines) all_one_line)).1 in
     let found : Found GraphData = record { value = g; rest = rest } in
-    let r = records_found p.opening.head (text_of_lines lines) found p.after.says in
-    let head = head_found p.opening.head (text_of_lines lines) found p.after.says in
+    let counted = records_found p.opening.head (text_of_lines lines) found p.after.says in
+    let r = counted.stand in
     let cut = cut_lines lines r.whole rest one_line r.parts (all_records_end g r.whole r.says) in
     let closed = closed_found cut.records (lines_of_text rest) (sym (closes_by p.opening cut.records rest cut.parts) ∙ p.after.ends) in
     record {
@@ -280,7 +279,7 @@ file_from_read g text e =
       others = closed.others;
       lines = o.parts ∙ ap (λ ls. o.comments ++ o.first ∷ ls) (cut.parts ∙ ap (λ ls. cut.records ++ ls) closed.parts);
       comments_are = o.comments_are;
-      first_says = subst (λ (h : Head). IsFirstLine h o.first) head o.first_says;
+      first_says = subst (λ (h : Head). IsFirstLine h o.first) counted.counted o.first_says;
       records_say = subst (λ x. AreRecordsOf g x) (sym cut.text_is) r.says;
       last_says = closed.says;
       sound = p.after.sound;

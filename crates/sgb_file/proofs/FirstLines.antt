@@ -1,9 +1,12 @@
--- First lines that are read: what they say.
-use Rattle.std.specs.Prelude.{◌≡◌, ℕ, suc, ◌+◌, ◌≤◌, Bool, true, false, cond, List, [], ◌∷◌, ◌++◌, map, length, take, drop, codes, Option, Some, None, filter_map, take_while, nat_le, ◌==◌, if◌then◌else◌, refl}
+-- First lines: what one that is read says, and how its kinds and numbers are read.
+use Rattle.std.specs.Prelude.{◌≡◌, ℕ, suc, ◌+◌, ◌≤◌, Bool, true, false, cond, List, [], ◌∷◌, ◌++◌, map, length, take, drop, codes, option_map, Option, Some, None, filter_map, take_while, nat_le, ◌==◌, if◌then◌else◌, refl}
 use Rattle.std.specs.List.{prefix_len, cons_option}
+use Rattle.std.specs.List.{list_all}
 use Rattle.std.proofs.Common.{ap, sym, subst, ◌∙◌, arith}
+use Rattle.std.proofs.Math.Seq.{take-append_seam, drop-append_seam}
+use Rattle.std.proofs.lemmas.Bool.{and_parts}
 use Rattle.std.proofs.lemmas.Bool.Decides.{Decides-eqb}
-use Rattle.std.proofs.lemmas.List.{take-append-drop, length-take}
+use Rattle.std.proofs.lemmas.List.{take-append-drop, length-map, length-take}
 use Rattle.sgb_vec.specs.Limits.{most_vertices}
 use Rattle.sgb_graph.specs.declared.fields.Kind.{Kind}
 use Rattle.sgb_graph.specs.declared.fields.Kind.TheVariants.{Z, I, V, S, A}
@@ -13,7 +16,7 @@ use Rattle.sgb_file.specs.Restoring.{kind_of_letter, kinds_at, leading_number, h
 use Rattle.sgb_file.specs.Saving.{letter_of}
 use Rattle.sgb_file.specs.Files.{IsFirstLine, BeginsWithNoDigit}
 use Rattle.sgb_file.proofs.FoundParts.{prefix_is, taken_and_left, was_given, was_mapped, was_let_through}
-use Rattle.sgb_file.proofs.NumberReading.{at_most}
+use Rattle.sgb_file.proofs.NumberReading.{at_most, number_digits}
 
 -- the kind of a letter is written by it
 letter_is : (c : ℕ) (k : Kind) → kind_of_letter c ≡ Some k → c ≡ letter_of k
@@ -124,3 +127,34 @@ first_line_found line head e =
       m_says = m_is.says;
       few = at_most n.first.value most_vertices through.0;
     })
+
+-- digits end where they did
+digits_end : (text more : List ℕ) → list_all is_decimal_digit text ≡ true → BeginsWithNoDigit more → prefix_len is_decimal_digit (text ++ more) ≡ length text
+digits_end [] [] h e = refl
+digits_end [] (b ∷ more) h e = rw e refl
+digits_end (b ∷ text) more h e =
+    let parts = and_parts (is_decimal_digit b) (list_all is_decimal_digit text) h in
+    rw parts.0 (ap (λ k. 1 + k) (digits_end text more parts.1 e) ∙ omega arith)
+
+-- the number that a text begins with is read
+pub leading_says : (digits more : List ℕ) (k : ℕ) → number_of most_number_digits digits ≡ Some k → BeginsWithNoDigit more → leading_number (digits ++ more) ≡ Some (record { value = k; rest = more })
+leading_says digits more k says none =
+    let taken : take_while is_decimal_digit (digits ++ more) ≡ digits =
+    ap (λ n. take n (digits ++ more)) (digits_end digits more (number_digits most_number_digits digits k says) none) ∙ take-append_seam digits more in
+    ap (λ ds. option_map (λ (n : ℕ). record { value = n; rest = drop (length ds) (digits ++ more) }) (number_of most_number_digits ds)) taken
+    ∙ ap (option_map (λ n. record { value = n; rest = drop (length digits) (digits ++ more) })) says
+    ∙ ap (λ rest. Some (record { value = k; rest = rest })) (drop-append_seam digits more)
+
+-- the kinds are read of their letters
+letters_say : (kinds : List Kind) → filter_map kind_of_letter (map letter_of kinds) ≡ kinds
+letters_say [] = refl
+letters_say (Z ∷ kinds) = ap (λ ks. Z ∷ ks) (letters_say kinds)
+letters_say (kind ∷ kinds) = ap (λ ks. kind ∷ ks) (letters_say kinds)
+
+pub kinds_read : (kinds : List Kind) (more : List ℕ) → length kinds ≡ 14 → kinds_at (map letter_of kinds ++ more) ≡ Some (record { value = kinds; rest = more })
+kinds_read kinds more h =
+    let letters = map letter_of kinds in
+    let count : length letters ≡ 14 = length-map kinds letter_of ∙ h in
+    let first : take 14 (letters ++ more) ≡ letters = ap (λ k. take k (letters ++ more)) (sym count) ∙ take-append_seam letters more in
+    let rest : drop 14 (letters ++ more) ≡ more = ap (λ k. drop k (letters ++ more)) (sym count) ∙ drop-append_seam letters more in
+    rw first (rw (letters_say kinds) (rw h (rw rest refl)))

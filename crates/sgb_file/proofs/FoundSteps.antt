@@ -5,7 +5,7 @@ use Rattle.std.proofs.Common.{set}
 use Rattle.std.proofs.Math.Seq.{drop-cons}
 use Rattle.std.proofs.lemmas.List.{take_more_set, take_all, drop_all}
 use Rattle.sgb_vec.specs.declared.panics.Panic.{Panic}
-use Rattle.sgb_vec.specs.declared.panics.Panic.TheVariants.{NoRoom, Early, Late, Syntax, Bad, VeryBad, Invalid}
+use Rattle.sgb_vec.specs.declared.panics.Panic.TheVariants.{NoRoom, Syntax}
 use Rattle.std.proofs.lemmas.Bool.Decides.{nat_tests}
 use Rattle.sgb_graph.specs.Graphs.{GraphData}
 use Rattle.sgb_graph.specs.Growth.{graph_data}
@@ -16,27 +16,18 @@ use Rattle.sgb_graph.specs.declared.fields.Kind.TheVariants.{Z, I, V, S, A}
 use Rattle.sgb_graph.specs.declared.fields.Util.{Util}
 use Rattle.sgb_file.specs.Fields.{Counts, Found, given, found_as, field_at, most_number_digits, number_of, plain_at, string_at, after_prefix}
 use Rattle.sgb_file.specs.Records.{Head, after_comma, graph_record_at, more_fields_at, record_at, vertex_record_at, vertex_of_fields, arc_record_at, arc_of_fields}
-use Rattle.sgb_file.specs.Found.{IsFoundBy, IsPassedBy, next_field_at}
+use Rattle.sgb_file.specs.inner.Found.{IsFoundBy, IsPassedBy, next_field_at}
 
 -- a reader that stops because another one stopped
 pub stops : {X Y : Type 0} (first : Option (Found X)) (all : Option (Found Y)) (p : Panic) (left later : List ℕ) → IsFoundBy first (Err p) left → (first ≡ None → all ≡ None) → IsFoundBy all (Err p) later
 stops first all Syntax left later h f = f h
 stops first all NoRoom left later h f = tt
-stops first all Early left later h f = absurd h
-stops first all Late left later h f = absurd h
-stops first all Bad left later h f = absurd h
-stops first all VeryBad left later h f = absurd h
-stops first all Invalid left later h f = absurd h
+stops first all _ left later h f = absurd h
 
 -- what is not passed is refused as `Syntax`
 pub passing_stopped : (after : Option (List ℕ)) (p : Panic) (left : List ℕ) → IsPassedBy after (Err p) left → (p ≡ Syntax) × (after ≡ None)
 passing_stopped after Syntax left h = (refl, h)
-passing_stopped after NoRoom left h = absurd h
-passing_stopped after Early left h = absurd h
-passing_stopped after Late left h = absurd h
-passing_stopped after Bad left h = absurd h
-passing_stopped after VeryBad left h = absurd h
-passing_stopped after Invalid left h = absurd h
+passing_stopped after _ left h = absurd h
 
 -- one finding after another
 given-given : {X Y W : Type 0} (o : Option X) (f : X → Option Y) (g : Y → Option W) → given (given o f) g ≡ given o (λ x. given (f x) g)
@@ -56,10 +47,7 @@ pub first_field : (counts : Counts) (kind : Kind) (kinds : List Kind) (text : Li
     → more_fields_at counts (kind ∷ kinds) text ≡ given (next_field_at counts kind text) (λ field. found_as (λ fields. field.value ∷ fields) (more_fields_at counts kinds field.rest))
 unfolding more_fields_at
 first_field counts Z kinds text = refl
-first_field counts I kinds text = sym (given-given (after_comma text) (field_at counts I) (λ field. found_as (λ fields. field.value ∷ fields) (more_fields_at counts kinds field.rest)))
-first_field counts V kinds text = sym (given-given (after_comma text) (field_at counts V) (λ field. found_as (λ fields. field.value ∷ fields) (more_fields_at counts kinds field.rest)))
-first_field counts S kinds text = sym (given-given (after_comma text) (field_at counts S) (λ field. found_as (λ fields. field.value ∷ fields) (more_fields_at counts kinds field.rest)))
-first_field counts A kinds text = sym (given-given (after_comma text) (field_at counts A) (λ field. found_as (λ fields. field.value ∷ fields) (more_fields_at counts kinds field.rest)))
+first_field counts kind kinds text = sym (given-given (after_comma text) (field_at counts kind) (λ field. found_as (λ fields. field.value ∷ fields) (more_fields_at counts kinds field.rest)))
 
 -- what is made of the fields that were found
 abbrev made_of : {Y : Type 0} → (List Util → Option Y) → Found (List Util) → Option (Found Y)
@@ -187,15 +175,8 @@ end_read counts kinds i fields whole text left h all so p =
 
 -- the kinds of an arc's fields, of fourteen
 pub two_kinds : (kinds : List Kind) (d : Kind) → length kinds ≡ 14 → arc_kinds kinds ≡ get_or kinds 6 d ∷ get_or kinds 7 d ∷ []
-two_kinds [] d h = absurd (omega (arith, h))
-two_kinds (a ∷ []) d h = absurd (omega (arith, h))
-two_kinds (a ∷ b ∷ []) d h = absurd (omega (arith, h))
-two_kinds (a ∷ b ∷ c ∷ []) d h = absurd (omega (arith, h))
-two_kinds (a ∷ b ∷ c ∷ e ∷ []) d h = absurd (omega (arith, h))
-two_kinds (a ∷ b ∷ c ∷ e ∷ f ∷ []) d h = absurd (omega (arith, h))
-two_kinds (a ∷ b ∷ c ∷ e ∷ f ∷ g ∷ []) d h = absurd (omega (arith, h))
-two_kinds (a ∷ b ∷ c ∷ e ∷ f ∷ g ∷ k ∷ []) d h = absurd (omega (arith, h))
 two_kinds (a ∷ b ∷ c ∷ e ∷ f ∷ g ∷ k ∷ l ∷ kinds) d h = refl
+two_kinds _ d h = absurd (omega (arith, h))
 
 -- the graph's record, of what is found one after another
 pub graph_found : (head : Head) (text r1 r2 r3 r4 r5 left : List ℕ) (id : List ℕ) (n m : ℕ) (util : List Util) (g : GraphData)

@@ -7,7 +7,7 @@ use Rattle.std.proofs.lemmas.List.Elements.{filter-append}
 use Rattle.std.proofs.lemmas.List.Sums.{fold-append}
 use Rattle.sgb_file.specs.FileLines.{text_of_lines}
 use Rattle.sgb_file.specs.Checksum.{has_star}
-use Rattle.sgb_file.specs.Layouts.{checksum_after, checksum_from, counted_bytes, Stage, HasLaid, IsStopped, IsLaid}
+use Rattle.sgb_file.specs.inner.Layouts.{checksum_after, checksum_from, counted_bytes, Stage, HasLaid, IsStopped, IsLaid}
 use Rattle.sgb_file.proofs.WrittenPrefixes.{prefix_more, prefix_after}
 
 -- the checksum after two texts

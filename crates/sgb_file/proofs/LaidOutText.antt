@@ -3,13 +3,12 @@ use Rattle.std.specs.Prelude.{◌≡◌, ℕ, zero, suc, ◌+◌, ◌-◌, ◌*�
 use Rattle.std.specs.List.{list_all, range_with_len}
 use Rattle.std.proofs.Common.{ap, sym, ◌∙◌, append_assoc, append-nil, arith, length-append}
 use Rattle.std.proofs.lemmas.Bool.{and_parts, and_from}
-use Rattle.std.proofs.lemmas.Bool.Decides.{nat_tests}
 use Rattle.std.proofs.lemmas.Grind.{flat_map-append}
 use Rattle.std.proofs.lemmas.List.{take-append-le, drop-drop}
 use Rattle.sgb_graph.proofs.Lists.{list_all-made}
 use Rattle.sgb_file.specs.FileLines.{text_of_lines}
 use Rattle.sgb_file.specs.Saving.{breaks_of, broken_lines, last_part, fits_on, lines_ended, line_begun, laid_out, pieces_of, record_lines}
-use Rattle.sgb_file.proofs.LineLemmas.{is_line, is_one_line, is_within_line, ends_well, ends_well-last, line-append, line-drop, list_all-take, list_all-join}
+use Rattle.sgb_file.proofs.LineLemmas.{no_bytes, is_line, is_one_line, is_within_line, ends_well, ends_well-last, line-append, line-drop, list_all-take, list_all-join}
 
 -- the text with so many breaks in it, each a `\` (92) and a newline (10): after its first bytes, and then after
 -- each 78
@@ -55,17 +54,12 @@ after_line line [] = 10 ∷ []
 after_line line (piece ∷ pieces) =
     cond (fits_on line piece) piece (line_end line ++ broken_piece piece) ++ after_line (line_begun line piece) pieces
 
--- a line of no bytes is empty
-empty_line : (line : List ℕ) → (length line == 0) ≡ true → line ≡ []
-empty_line [] e = refl
-empty_line (b ∷ line) e = let none : suc (length line) ≡ 0 = grind (arith, nat_tests) in absurd (omega (arith, none))
-
 -- the lines that end and the line begun are the line that stood, and what is laid out after it
 ended_and_begun : (fits empty : Bool) (line piece : List ℕ) → (length line == 0) ≡ empty
     → text_of_lines (cond fits [] (cond empty [] (line ∷ []) ++ broken_lines piece)) ++ cond fits (line ++ piece) (last_part piece)
     ≡ line ++ cond fits piece (cond empty [] (10 ∷ []) ++ broken_piece piece)
 ended_and_begun true empty line piece e = refl
-ended_and_begun false true line piece e = rw (empty_line line e) refl
+ended_and_begun false true line piece e = rw (no_bytes line e) refl
 ended_and_begun false false line piece e =
     append_assoc (line ++ 10 ∷ []) (text_of_lines (broken_lines piece)) (last_part piece)
     ∙ append_assoc line (10 ∷ []) (text_of_lines (broken_lines piece) ++ last_part piece)

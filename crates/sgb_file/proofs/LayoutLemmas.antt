@@ -5,7 +5,8 @@ use Rattle.std.proofs.Common.{arith, length-append}
 use Rattle.std.proofs.lemmas.List.{length-take}
 use Rattle.std.proofs.Math.ListN.{length-drop}
 use Rattle.std.proofs.lemmas.List.Sums.{AllPass-from_list_all}
-use Rattle.std.proofs.lemmas.List.Folds.{list_all-append, list_all-map}
+use Rattle.std.proofs.lemmas.List.Folds.{list_all-append}
+use Rattle.sgb_graph.proofs.Lists.{list_all-made}
 use Rattle.std.proofs.lemmas.Bool.Decides.{nat_tests}
 use Rattle.sgb_file.specs.Saving.{most_line_bytes, breaks_of, broken_lines, last_part, fits_on, part_from_break, lines_ended, line_begun, laid_out}
 
@@ -20,11 +21,6 @@ short_by_length line h = grind (arith, nat_tests)
 length_by_short : (line : List ℕ) → is_short line ≡ true → length line ≤ 79
 length_by_short line h = grind (arith, nat_tests)
 
--- a test that passes of everything
-passes_all : {X : Type 0} (test : X → Bool) → ((x : X) → test x ≡ true) → (xs : List X) → list_all test xs ≡ true
-passes_all test each [] = refl
-passes_all test each (x ∷ xs) = rw (each x) (passes_all test each xs)
-
 -- a broken line is short
 broken_is_short : (piece : List ℕ) (i : ℕ) → is_short (take 78 (drop (78 * i) piece) ++ 92 ∷ []) ≡ true
 broken_is_short piece i =
@@ -32,7 +28,7 @@ broken_is_short piece i =
 
 broken_are_short : (piece : List ℕ) → list_all is_short (broken_lines piece) ≡ true
 broken_are_short piece =
-    rw list_all-map (passes_all _ (broken_is_short piece) (range_with_len 0 (breaks_of piece)))
+    list_all-made is_short (λ i. take 78 (drop (78 * i) piece) ++ 92 ∷ []) (range_with_len 0 (breaks_of piece)) (broken_is_short piece)
 
 -- what is left after the broken lines is short
 last_is_short : (piece : List ℕ) → is_short (last_part piece) ≡ true

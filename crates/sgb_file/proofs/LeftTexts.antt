@@ -9,7 +9,7 @@ use Rattle.std.proofs.lemmas.List.{drop-append-le, take-append-le, length-take}
 use Rattle.std.proofs.lemmas.List.Sums.{prefix_len-le-length}
 use Rattle.sgb_file.specs.FileLines.{text_of_lines}
 use Rattle.sgb_file.specs.Fields.{plain_text, after_prefix}
-use Rattle.sgb_file.specs.LinesLeft.{LinesLeft, text_left, skipped, next_begun, has_no_newline}
+use Rattle.sgb_file.specs.inner.LinesLeft.{LinesLeft, text_left, skipped, next_begun, has_no_newline}
 use Rattle.sgb_file.proofs.LineLemmas.{not_true}
 
 -- the text of a line under way, and of those after it

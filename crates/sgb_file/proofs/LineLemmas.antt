@@ -1,11 +1,11 @@
 -- Lemmas on lines that are written one after another: they are the lines that are read.
 use Rattle.std.specs.Prelude.{◌≡◌, ℕ, Bool, true, false, cond, not, ◌&&◌, List, [], ◌∷◌, ◌++◌, map, length, take, drop, ◌==◌, refl, zero, suc}
 use Rattle.std.specs.List.{list_all, slice_split, onto_first}
-use Rattle.std.proofs.Common.{ap, ◌∙◌, append_assoc, arith}
+use Rattle.std.proofs.Common.{ap, sym, ◌∙◌, append_assoc, append-nil, arith}
 use Rattle.std.proofs.lemmas.Bool.{and_parts, and_from}
 use Rattle.std.proofs.lemmas.List.{map-append}
 use Rattle.std.proofs.lemmas.List.Folds.{list_all-append}
-use Rattle.std.proofs.lemmas.Bool.Decides.{nat_tests}
+use Rattle.std.proofs.lemmas.Bool.Decides.{nat_tests, Decides-eqb}
 use Rattle.sgb_graph.proofs.Lists.{list_all-weaker, list_all-mapped, map-stays}
 use Rattle.sgb_file.specs.FileLines.{lines_among, lines_of_text, without_end_spaces, clean_lines, text_of_lines}
 
@@ -31,6 +31,11 @@ is_line line = is_one_line line && ends_well line
 pub not_true : (t : Bool) → not t ≡ true → t ≡ false
 not_true true h = absurd cc
 not_true false h = refl
+
+-- what the test for no bytes says
+pub no_bytes : (bytes : List ℕ) → (length bytes == 0) ≡ true → bytes ≡ []
+no_bytes [] e = refl
+no_bytes (b ∷ bytes) e = absurd (omega (arith, (Decides-eqb (length (b ∷ bytes)) 0).0 e))
 
 -- a line is the first part of its text
 cut_line : (line rest : List ℕ) → is_one_line line ≡ true → slice_split (λ b. b == 10) (line ++ 10 ∷ rest) ≡ line ∷ slice_split (λ b. b == 10) rest
@@ -71,6 +76,11 @@ lines_read (line ∷ lines) more h =
     let split : text_of_lines (line ∷ lines) ++ more ≡ line ++ 10 ∷ (text_of_lines lines ++ more) =
     append_assoc (line ++ 10 ∷ []) (text_of_lines lines) more ∙ append_assoc line (10 ∷ []) (text_of_lines lines ++ more) in
     ap lines_of_text split ∙ line_read line (text_of_lines lines ++ more) parts.0 ∙ ap (λ others. line ∷ others) (lines_read lines more parts.1)
+
+-- the lines of a text whose lines these are
+pub lines_again : (lines : List (List ℕ)) → list_all is_one_line lines ≡ true → lines_of_text (text_of_lines lines) ≡ lines
+unfolding lines_among
+lines_again lines h = ap lines_of_text (sym (append-nil (text_of_lines lines))) ∙ lines_read lines [] h ∙ append-nil lines
 
 -- a list of some elements is not empty
 nonzero : (n : ℕ) → (suc n == 0) ≡ false

@@ -7,10 +7,10 @@ use Rattle.std.proofs.lemmas.List.Splits.{slice_split_first, slice_split_none}
 use Rattle.std.proofs.lemmas.List.Sums.{fails_before_first, prefix_len-le-length}
 use Rattle.std.proofs.lemmas.List.Elements.{All-from_get_or}
 use Rattle.std.proofs.lemmas.Bool.{and_parts}
-use Rattle.std.proofs.lemmas.Bool.Decides.{nat_tests, Decides-eqb}
+use Rattle.std.proofs.lemmas.Bool.Decides.{nat_tests}
 use Rattle.sgb_file.specs.FileLines.{lines_among, lines_of_text, clean_lines, text_of_lines, without_end_spaces}
-use Rattle.sgb_file.specs.Layouts.{checksum_from, counted_bytes}
-use Rattle.sgb_file.specs.LinesLeft.{text_left, next_begun, has_no_newline, HasPassed, AreLinesLeft, lines_left, lines_still}
+use Rattle.sgb_file.specs.inner.Layouts.{checksum_from, counted_bytes}
+use Rattle.sgb_file.specs.inner.LinesLeft.{text_left, next_begun, has_no_newline, HasPassed, AreLinesLeft, lines_left, lines_still}
 use Rattle.sgb_file.proofs.LineLemmas.{clean_are_one_line, is_one_line, is_within_line, ends_well, ends_well-last, list_all-drop, first_line, some_part, line_read, lines_read}
 use Rattle.sgb_file.proofs.LaidLines.{checksum_from-append, counted-append}
 use Rattle.sgb_file.proofs.WholeText.{checksum-whole}
@@ -134,11 +134,7 @@ pub clean_nothing : (line : List ℕ) → line ≡ [] → line ≡ without_end_s
 unfolding without_end_spaces
 clean_nothing line e = rw e refl
 
--- what the test for no bytes says
-pub no_bytes : (bytes : List ℕ) → (length bytes == 0) ≡ true → bytes ≡ []
-no_bytes [] e = refl
-no_bytes (b ∷ bytes) e = absurd (omega (arith, (Decides-eqb (length (b ∷ bytes)) 0).0 e))
-
+-- where there are bytes there is a last one
 pub some_bytes : (bytes : List ℕ) → (length bytes == 0) ≡ false → length bytes ≡ suc (length bytes - 1)
 some_bytes bytes e = grind (arith, nat_tests, e)
 

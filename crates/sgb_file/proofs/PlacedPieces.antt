@@ -3,7 +3,7 @@ use Rattle.std.proofs.Common.{◌≡◌, ◌≤◌, ◌++◌, ◌∙◌, ℕ, Bo
 use Rattle.std.proofs.lemmas.List.{take-append-drop, take_more}
 use Rattle.std.proofs.lemmas.Bool.Decides.{nat_tests}
 use Rattle.sgb_file.specs.Saving.{broken_lines, last_part, fits_on, lines_ended, line_begun}
-use Rattle.sgb_file.specs.Layouts.{Stage, HasLaid, IsStopped, IsFilled, IsPlaced, lines_before, line_before}
+use Rattle.sgb_file.specs.inner.Layouts.{Stage, HasLaid, IsStopped, IsFilled, IsPlaced, lines_before, line_before}
 use Rattle.sgb_file.proofs.BrokenLines.{broken-short, last-short, broken-once, last-once, broken-append, last-append}
 use Rattle.sgb_file.proofs.LaidLines.{laid-none, laid-append, laid-after, stopped-first, stopped-after}
 

@@ -1,16 +1,27 @@
--- Records that are written one after another.
-use Rattle.std.proofs.Common.{◌≡◌, ◌<◌, ◌≤◌, ◌+◌, ◌++◌, ◌∙◌, ℕ, List, [], Some, length, drop, ap, subst, slice_get}
+-- A section of a file: its title, and records that are written one after another.
+use Rattle.std.proofs.Common.{◌≡◌, ◌<◌, ◌≤◌, ◌+◌, ◌++◌, ◌∙◌, ℕ, List, [], ◌∷◌, Some, refl, length, drop, ap, subst, slice_get}
 use Rattle.std.specs.List.{flat_map}
 use Rattle.std.proofs.lemmas.List.{at_drop_more, drop_all}
 use Rattle.std.proofs.lemmas.Option.{get_or_from_slice_get}
 use Rattle.sgb_file.specs.Saving.{record_lines, laid_out, pieces_of}
-use Rattle.sgb_file.specs.Layouts.{Stage, HasLaid, IsStopped}
-use Rattle.sgb_file.proofs.LaidLines.{LinesSoFar, lines-more, lines-cut, lines-all}
+use Rattle.sgb_file.specs.inner.Layouts.{Stage, HasLaid, IsStopped}
+use Rattle.sgb_file.proofs.LaidLines.{LinesSoFar, lines-more, lines-cut, lines-all, stopped-first}
+
+-- the lines of a section
+abbrev pub section : {X : Type 0} → List ℕ → (X → List (List ℕ)) → List X → List (List ℕ)
+section title texts xs = title ∷ flat_map (λ x. record_lines (texts x)) xs
 
 -- the records from this place on are left, and no line was begun
-abbrev pub RecordsSoFar : {X : Type 0} → (X → List (List ℕ)) → List X → ℕ → Stage → Stage → Type 0
-RecordsSoFar texts xs i a b =
-    LinesSoFar (flat_map (λ x. record_lines (texts x)) xs) (flat_map (λ x. record_lines (texts x)) (drop i xs)) a b × (b.layout.line ≡ [])
+abbrev pub RecordsSoFar : {X : Type 0} → List ℕ → (X → List (List ℕ)) → List X → ℕ → Stage → Stage → Type 0
+RecordsSoFar title texts xs i a b =
+    LinesSoFar (section title texts xs) (flat_map (λ x. record_lines (texts x)) (drop i xs)) a b × (b.layout.line ≡ [])
+
+-- the title was written, or the writing stopped there
+pub title-written : {X : Type 0} (title : List ℕ) (texts : X → List (List ℕ)) (xs : List X) (a b : Stage) → HasLaid (title ∷ []) a b → b.layout.line ≡ [] → RecordsSoFar title texts xs 0 a b
+title-written title texts xs a b p line = ((title ∷ [], refl, p), line)
+
+pub title-cut : {X : Type 0} (title : List ℕ) (texts : X → List (List ℕ)) (xs : List X) (a b : Stage) → IsStopped (title ∷ []) a b → IsStopped (section title texts xs) a b
+title-cut title texts xs a b p = stopped-first _ (title ∷ []) (flat_map (λ x. record_lines (texts x)) xs) a b refl p
 
 -- the first of the records that are left
 first_record : {X : Type 0} (texts : X → List (List ℕ)) (xs : List X) (i : ℕ) (x : X) → i < length xs → slice_get xs i ≡ Some x
@@ -20,17 +31,17 @@ first_record texts xs i x h e =
     ∙ ap (λ y. record_lines (texts y) ++ flat_map (λ y. record_lines (texts y)) (drop (i + 1) xs)) (get_or_from_slice_get xs i x x e)
 
 -- the next record was written, or the writing stopped there
-pub records-more : {X : Type 0} (texts : X → List (List ℕ)) (xs : List X) (i : ℕ) (x : X) (a b c : Stage) → i < length xs → slice_get xs i ≡ Some x
-    → RecordsSoFar texts xs i a b → HasLaid (laid_out b.layout.line (pieces_of (texts x))) b c × (c.layout.line ≡ []) → RecordsSoFar texts xs (i + 1) a c
-records-more texts xs i x a b c h e p q =
+pub records-more : {X : Type 0} (title : List ℕ) (texts : X → List (List ℕ)) (xs : List X) (i : ℕ) (x : X) (a b c : Stage) → i < length xs → slice_get xs i ≡ Some x
+    → RecordsSoFar title texts xs i a b → HasLaid (laid_out b.layout.line (pieces_of (texts x))) b c × (c.layout.line ≡ []) → RecordsSoFar title texts xs (i + 1) a c
+records-more title texts xs i x a b c h e p q =
     (lines-more _ _ _ _ a b c (first_record texts xs i x h e) p.0 (subst (λ line. HasLaid (laid_out line (pieces_of (texts x))) b c) p.1 q.0), q.1)
 
-pub records-cut : {X : Type 0} (texts : X → List (List ℕ)) (xs : List X) (i : ℕ) (x : X) (a b c : Stage) → i < length xs → slice_get xs i ≡ Some x
-    → RecordsSoFar texts xs i a b → IsStopped (laid_out b.layout.line (pieces_of (texts x))) b c → IsStopped (flat_map (λ x. record_lines (texts x)) xs) a c
-records-cut texts xs i x a b c h e p q =
+pub records-cut : {X : Type 0} (title : List ℕ) (texts : X → List (List ℕ)) (xs : List X) (i : ℕ) (x : X) (a b c : Stage) → i < length xs → slice_get xs i ≡ Some x
+    → RecordsSoFar title texts xs i a b → IsStopped (laid_out b.layout.line (pieces_of (texts x))) b c → IsStopped (section title texts xs) a c
+records-cut title texts xs i x a b c h e p q =
     lines-cut _ _ _ _ a b c (first_record texts xs i x h e) p.0 (subst (λ line. IsStopped (laid_out line (pieces_of (texts x))) b c) p.1 q)
 
 -- all records were written
-pub records-all : {X : Type 0} (texts : X → List (List ℕ)) (xs : List X) (i : ℕ) (a b : Stage) → length xs ≤ i → RecordsSoFar texts xs i a b
-    → HasLaid (flat_map (λ x. record_lines (texts x)) xs) a b × (b.layout.line ≡ [])
-records-all texts xs i a b h p = (lines-all _ _ a b (ap (flat_map (λ x. record_lines (texts x))) (drop_all i xs h)) p.0, p.1)
+pub records-all : {X : Type 0} (title : List ℕ) (texts : X → List (List ℕ)) (xs : List X) (i : ℕ) (a b : Stage) → length xs ≤ i → RecordsSoFar title texts xs i a b
+    → HasLaid (section title texts xs) a b × (b.layout.line ≡ [])
+records-all title texts xs i a b h p = (lines-all _ _ a b (ap (flat_map (λ x. record_lines (texts x))) (drop_all i xs h)) p.0, p.1)

@@ -1,5 +1,5 @@
 -- Records and their texts: a record's reader finds exactly a record of these values.
-use Rattle.std.specs.Prelude.{◌≡◌, ℕ, zero, suc, true, List, [], ◌∷◌, ◌++◌, length, codes, Option, Some, None, option_map, unwrap_or, ◌==◌, refl}
+use Rattle.std.specs.Prelude.{◌≡◌, ℕ, zero, suc, List, [], ◌∷◌, ◌++◌, length, codes, Option, Some, None, option_map, unwrap_or, refl}
 use Rattle.std.proofs.Common.{ap, sym, subst, ◌∙◌, append_assoc, inl, inr}
 use Rattle.std.proofs.lemmas.Bool.Decides.{Decides-eqb}
 use Rattle.sgb_graph.specs.Graphs.{GraphData}
@@ -8,7 +8,7 @@ use Rattle.sgb_graph.specs.Sound.{vertex_kinds, arc_kinds, graph_kinds}
 use Rattle.sgb_graph.specs.declared.fields.Kind.{Kind}
 use Rattle.sgb_graph.specs.declared.fields.Kind.TheVariants.{Z, I, V, S, A}
 use Rattle.sgb_graph.specs.declared.fields.Util.{Util}
-use Rattle.sgb_graph.specs.declared.fields.Util.TheVariants.{Nothing}
+use Rattle.sgb_graph.specs.declared.fields.Util.TheVariants.{Nothing, Int, Vertex as VertexField, Str, Chain}
 use Rattle.sgb_graph.specs.declared.fields.Vertex.{Vertex}
 use Rattle.sgb_graph.specs.declared.fields.ArcRec.{ArcRec}
 use Rattle.sgb_file.specs.Fields.{Counts, Found, given, found_as, number_of, most_number_digits, plain_at, field_at, after_prefix}
@@ -16,15 +16,15 @@ use Rattle.sgb_file.specs.Records.{Head, after_comma, more_fields_at, record_at,
 use Rattle.sgb_file.specs.Files.{IsStringText, IsFieldText, AreFieldTexts, IsComma, IsRecord, IsRecordOf, IsVertexRecord, IsArcRecord, IsGraphRecord, AreRecords, AreRecordsOf, head_of}
 use Rattle.sgb_file.proofs.FoundParts.{own_parts, prefix_is, was_given, was_mapped, was_found_as}
 use Rattle.sgb_file.proofs.FieldReading.{Ends}
-use Rattle.sgb_file.proofs.ReadParts.{record_parts, are_of_vertex, are_of_arc, fields_of_vertex, fields_of_arc}
+use Rattle.sgb_file.proofs.SavedGraphs.{fields_of_vertex, fields_of_arc}
 use Rattle.sgb_file.proofs.FieldsAndTexts.{StandsIn, FindsTexts, IsFoundAs, plain_finds, string_finds, field_finds, plain_is_found, number_is_plain, string_is_found, field_is_found}
 
 -- what follows the first field of a record
-abbrev IsTail : List (List ℕ) → List ℕ → Type 0
+abbrev pub IsTail : List (List ℕ) → List ℕ → Type 0
 IsTail [] tail = tail ≡ codes "\n"
 IsTail (text ∷ texts) tail = (comma others : List ℕ) × IsComma comma × IsTail texts others × (tail ≡ comma ++ (text ++ others))
 
-record_from_tail : (text : List ℕ) (texts : List (List ℕ)) (tail : List ℕ) → IsTail texts tail → IsRecord (text ∷ texts) (text ++ tail)
+pub record_from_tail : (text : List ℕ) (texts : List (List ℕ)) (tail : List ℕ) → IsTail texts tail → IsRecord (text ∷ texts) (text ++ tail)
 record_from_tail text [] tail h = ap (λ x. text ++ x) h
 record_from_tail text (next ∷ texts) tail h = (h.0, next ++ h.1, h.2, record_from_tail next texts h.1 h.3, ap (λ x. text ++ x) h.4)
 
@@ -59,12 +59,9 @@ comma_passed comma text (inl e) none = rw e (rw none refl)
 comma_passed comma text (inr e) none = rw e refl
 
 -- each further field and the texts of all
-and_others : (counts : Counts) (kind : Kind) (kinds : List Kind) (u : Util) (us : List Util) (text : List ℕ) (texts : List (List ℕ)) → IsFieldText counts kind u text → AreFieldTexts counts kinds us texts → AreFieldTexts counts (kind ∷ kinds) (u ∷ us) (text ∷ texts)
+pub and_others : (counts : Counts) (kind : Kind) (kinds : List Kind) (u : Util) (us : List Util) (text : List ℕ) (texts : List (List ℕ)) → IsFieldText counts kind u text → AreFieldTexts counts kinds us texts → AreFieldTexts counts (kind ∷ kinds) (u ∷ us) (text ∷ texts)
 and_others counts Z kinds u us text texts h more = absurd h
-and_others counts I kinds u us text texts h more = (h, more)
-and_others counts V kinds u us text texts h more = (h, more)
-and_others counts S kinds u us text texts h more = (h, more)
-and_others counts A kinds u us text texts h more = (h, more)
+and_others counts kind kinds u us text texts h more = (h, more)
 
 -- the text of the fields after the first
 record IsMore (counts : Counts) (kinds : List Kind) (us : List Util) (whole : List ℕ) : Type 0 where
@@ -111,10 +108,7 @@ more_found counts (Z ∷ kinds) text found e =
       says = record { texts = others.says.texts; say = (refl, others.says.say); is_tail = others.says.is_tail };
       parts = others.parts;
     })
-more_found counts (I ∷ kinds) text found e = next_found counts I kinds (λ z. absurd cc) (more_found counts kinds) text found e
-more_found counts (V ∷ kinds) text found e = next_found counts V kinds (λ z. absurd cc) (more_found counts kinds) text found e
-more_found counts (S ∷ kinds) text found e = next_found counts S kinds (λ z. absurd cc) (more_found counts kinds) text found e
-more_found counts (A ∷ kinds) text found e = next_found counts A kinds (λ z. absurd cc) (more_found counts kinds) text found e
+more_found counts (kind ∷ kinds) text found e = next_found counts kind kinds (λ z. absurd cc) (more_found counts kinds) text found e
 
 -- a record's reader finds a record
 record_found : (counts : Counts) (kind : Kind) (kinds : List Kind) → (kind ≡ Z → ⊥) → FindsTexts (record_at counts kind kinds) (IsRecordOf counts (kind ∷ kinds))
@@ -166,40 +160,25 @@ next_read counts kind kinds u us text texts comma others tail rest h c t e more 
 more_read : (counts : Counts) (kinds : List Kind) (us : List Util) (texts : List (List ℕ)) (tail : List ℕ) → AreFieldTexts counts kinds us texts → IsTail texts tail → AreReadAs counts kinds us tail
 unfolding more_fields_at
 more_read counts [] [] [] tail h t rest = ap (λ x. more_fields_at counts [] (x ++ rest)) t
-more_read counts [] [] (text ∷ texts) tail h t rest = absurd h
-more_read counts [] (u ∷ us) texts tail h t rest = absurd h
-more_read counts (Z ∷ kinds) [] texts tail h t rest = absurd h
-more_read counts (I ∷ kinds) [] texts tail h t rest = absurd h
-more_read counts (V ∷ kinds) [] texts tail h t rest = absurd h
-more_read counts (S ∷ kinds) [] texts tail h t rest = absurd h
-more_read counts (A ∷ kinds) [] texts tail h t rest = absurd h
 more_read counts (Z ∷ kinds) (u ∷ us) texts tail h t rest =
     ap (found_as (λ fields. Nothing ∷ fields)) (more_read counts kinds us texts tail h.1 t rest)
     ∙ ap (λ (v : Util). Some (record { value = v ∷ us; rest = rest })) (sym h.0)
-more_read counts (I ∷ kinds) (u ∷ us) [] tail h t rest = absurd h
-more_read counts (V ∷ kinds) (u ∷ us) [] tail h t rest = absurd h
-more_read counts (S ∷ kinds) (u ∷ us) [] tail h t rest = absurd h
-more_read counts (A ∷ kinds) (u ∷ us) [] tail h t rest = absurd h
-more_read counts (I ∷ kinds) (u ∷ us) (text ∷ texts) tail h t rest =
-    next_read counts I kinds u us text texts t.0 t.1 tail rest h.0 t.2 t.3 t.4 (more_read counts kinds us texts t.1 h.1 t.3)
-more_read counts (V ∷ kinds) (u ∷ us) (text ∷ texts) tail h t rest =
-    next_read counts V kinds u us text texts t.0 t.1 tail rest h.0 t.2 t.3 t.4 (more_read counts kinds us texts t.1 h.1 t.3)
-more_read counts (S ∷ kinds) (u ∷ us) (text ∷ texts) tail h t rest =
-    next_read counts S kinds u us text texts t.0 t.1 tail rest h.0 t.2 t.3 t.4 (more_read counts kinds us texts t.1 h.1 t.3)
-more_read counts (A ∷ kinds) (u ∷ us) (text ∷ texts) tail h t rest =
-    next_read counts A kinds u us text texts t.0 t.1 tail rest h.0 t.2 t.3 t.4 (more_read counts kinds us texts t.1 h.1 t.3)
+more_read counts (kind ∷ kinds) (u ∷ us) (text ∷ texts) tail h t rest =
+    next_read counts kind kinds u us text texts t.0 t.1 tail rest h.0 t.2 t.3 t.4 (more_read counts kinds us texts t.1 h.1 t.3)
+more_read counts _ _ _ tail h t rest = absurd h
 
 -- a record is read as its values
-record_read : (counts : Counts) (kind : Kind) (kinds : List Kind) (u : Util) (us : List Util) (text : List ℕ) (texts : List (List ℕ)) (whole rest : List ℕ)
-    → IsFieldText counts kind u text → AreFieldTexts counts kinds us texts → IsRecord (text ∷ texts) whole
-    → record_at counts kind kinds (whole ++ rest) ≡ Some (record { value = u ∷ us; rest = rest })
-record_read counts kind kinds u us text texts whole rest h more r =
+record_read : (counts : Counts) (kind : Kind) (kinds : List Kind) (us : List Util) (texts : List (List ℕ)) (whole rest : List ℕ)
+    → AreFieldTexts counts (kind ∷ kinds) us texts → IsRecord texts whole → (kind ≡ Z → ⊥) → record_at counts kind kinds (whole ++ rest) ≡ Some (record { value = us; rest = rest })
+record_read counts Z kinds us texts whole rest say r used = absurd (used refl)
+record_read counts kind kinds (u ∷ us) (text ∷ texts) whole rest say r used =
     let t = tail_from_record text texts whole r in
-    let field = field_is_found counts kind u text h in
+    let field = field_is_found counts kind u text say.0 in
     let split : whole ++ rest ≡ text ++ (t.0 ++ rest) = ap (λ x. x ++ rest) t.2 ∙ append_assoc text t.0 rest in
     ap (record_at counts kind kinds) split
     ∙ ap (λ x. given x (λ f. found_as (λ fields. f.value ∷ fields) (more_fields_at counts kinds f.rest))) (field.reads (t.0 ++ rest) (ends_after texts t.0 rest t.1))
-    ∙ ap (found_as (λ fields. u ∷ fields)) (more_read counts kinds us texts t.0 more t.1 rest)
+    ∙ ap (found_as (λ fields. u ∷ fields)) (more_read counts kinds us texts t.0 say.1 t.1 rest)
+record_read counts _ kinds _ _ whole rest say r used = absurd say
 
 -- what is said by a text is read of it, whatever follows
 abbrev ReadsTexts : {X : Type 0} → (List ℕ → Option (Found X)) → (X → List ℕ → Type 0) → Type 0
@@ -218,48 +197,56 @@ made_texts_found {X = X} counts kind kinds used make fields_of are text found e 
       parts = r.parts;
     })
 
+made_texts_read : {X : Type 0} (counts : Counts) (kind : Kind) (kinds : List Kind) → (kind ≡ Z → ⊥) → (make : List Util → Option X) (fields_of : X → List Util) → ((x : X) → make (fields_of x) ≡ Some x)
+    → ReadsTexts (λ text. given (record_at counts kind kinds text) (λ fields. option_map (λ x. record { value = x; rest = fields.rest }) (make fields.value))) (λ x whole. IsRecordOf counts (kind ∷ kinds) (fields_of x) whole)
+made_texts_read counts kind kinds used make fields_of made x whole rest h =
+    ap (λ o. given o (λ fields. option_map (λ y. record { value = y; rest = fields.rest }) (make fields.value))) (record_read counts kind kinds (fields_of x) h.0 whole rest h.1 h.2 used)
+    ∙ ap (option_map (λ y. record { value = y; rest = rest })) (made x)
+
 -- vertices
+are_of_vertex : (us : List Util) (v : Vertex) → vertex_of_fields us ≡ Some v → us ≡ fields_of_vertex v
+are_of_vertex (Str name ∷ Chain arcs ∷ util) v e =
+    let same : record { name = name; arcs = arcs; util = util } ≡ v = cc in
+    ap fields_of_vertex same
+are_of_vertex _ v e = absurd cc
+
 vertex_texts_found : (head : Head) → FindsTexts (vertex_record_at head) (IsVertexRecord head)
 vertex_texts_found head = made_texts_found head.counts S (A ∷ vertex_kinds head.kinds) (λ z. absurd cc) vertex_of_fields fields_of_vertex are_of_vertex
 
 vertex_is_read : (head : Head) → ReadsTexts (vertex_record_at head) (IsVertexRecord head)
-vertex_is_read head v whole rest h =
-    ap (λ x. given x (λ fields. option_map (λ (w : Vertex). record { value = w; rest = fields.rest }) (vertex_of_fields fields.value)))
-    (by_texts h.0 h.1 h.2)
-  where
-    by_texts : (texts : List (List ℕ)) → AreFieldTexts head.counts (S ∷ A ∷ vertex_kinds head.kinds) (fields_of_vertex v) texts → IsRecord texts whole
-        → record_at head.counts S (A ∷ vertex_kinds head.kinds) (whole ++ rest) ≡ Some (record { value = fields_of_vertex v; rest = rest })
-    by_texts [] say r = absurd r
-    by_texts (text ∷ texts) say r = record_read head.counts S (A ∷ vertex_kinds head.kinds) _ _ text texts whole rest say.0 say.1 r
+vertex_is_read head v = made_texts_read head.counts S (A ∷ vertex_kinds head.kinds) (λ z. absurd cc) vertex_of_fields fields_of_vertex (λ w. refl) v
 
 -- arcs
+are_of_arc : (us : List Util) (r : ArcRec) → arc_of_fields us ≡ Some r → us ≡ fields_of_arc r
+are_of_arc (VertexField tip ∷ Chain next ∷ Int len ∷ a ∷ b ∷ []) r e =
+    let same : record { tip = tip; next = next; len = len; a = a; b = b } ≡ r = cc in
+    ap fields_of_arc same
+are_of_arc _ r e = absurd cc
+
 arc_texts_found : (head : Head) → FindsTexts (arc_record_at head) (IsArcRecord head)
 arc_texts_found head = made_texts_found head.counts V (A ∷ I ∷ arc_kinds head.kinds) (λ z. absurd cc) arc_of_fields fields_of_arc are_of_arc
 
 arc_is_read : (head : Head) → ReadsTexts (arc_record_at head) (IsArcRecord head)
-arc_is_read head v whole rest h =
-    ap (λ x. given x (λ fields. option_map (λ (w : ArcRec). record { value = w; rest = fields.rest }) (arc_of_fields fields.value)))
-    (by_texts h.0 h.1 h.2)
-  where
-    by_texts : (texts : List (List ℕ)) → AreFieldTexts head.counts (V ∷ A ∷ I ∷ arc_kinds head.kinds) (fields_of_arc v) texts → IsRecord texts whole
-        → record_at head.counts V (A ∷ I ∷ arc_kinds head.kinds) (whole ++ rest) ≡ Some (record { value = fields_of_arc v; rest = rest })
-    by_texts [] say r = absurd r
-    by_texts (text ∷ texts) say r = record_read head.counts V (A ∷ I ∷ arc_kinds head.kinds) _ _ text texts whole rest say.0 say.1 r
+arc_is_read head r = made_texts_read head.counts V (A ∷ I ∷ arc_kinds head.kinds) (λ z. absurd cc) arc_of_fields fields_of_arc (λ w. refl) r
 
--- records one after another
-all_texts_found : {X : Type 0} (one_at : List ℕ → Option (Found X)) (IsOne : X → List ℕ → Type 0) → FindsTexts one_at IsOne → (n : ℕ) → FindsTexts (all_at one_at n) (AreRecords IsOne)
+-- records one after another, so many
+record AreSoMany {X : Type 0} (IsOne : X → List ℕ → Type 0) (n : ℕ) (xs : List X) (whole : List ℕ) : Type 0 where
+  count : length xs ≡ n
+  are : AreRecords IsOne xs whole
+
+all_texts_found : {X : Type 0} (one_at : List ℕ → Option (Found X)) (IsOne : X → List ℕ → Type 0) → FindsTexts one_at IsOne → (n : ℕ) → FindsTexts (all_at one_at n) (AreSoMany IsOne n)
 unfolding all_at
 all_texts_found {X = X} one_at IsOne finds zero text found e =
     let same : record { value = []; rest = text } ≡ found = cc in
-    subst (λ (f : Found (List X)). StandsIn (AreRecords IsOne) text f) same (record { whole = []; says = refl; parts = refl })
+    subst (λ (f : Found (List X)). StandsIn (AreSoMany IsOne zero) text f) same (record { whole = []; says = record { count = refl; are = refl }; parts = refl })
 all_texts_found {X = X} one_at IsOne finds (suc n) text found e =
     let g = was_given (one_at text) e in
     let m = was_found_as (λ others. g.first.value ∷ others) (all_at one_at n g.first.rest) g.made in
     let one = finds text g.first g.here in
     let others = all_texts_found one_at IsOne finds n g.first.rest m.first m.here in
-    subst (λ (f : Found (List X)). StandsIn (AreRecords IsOne) text f) m.same (record {
+    subst (λ (f : Found (List X)). StandsIn (AreSoMany IsOne (suc n)) text f) m.same (record {
       whole = one.whole ++ others.whole;
-      says = (one.whole, others.whole, one.says, others.says, refl);
+      says = record { count = ap suc others.says.count; are = (one.whole, others.whole, one.says, others.says.are, refl) };
       parts = one.parts ∙ ap (λ x. one.whole ++ x) others.parts ∙ sym (append_assoc one.whole others.whole m.first.rest);
     })
 
@@ -275,6 +262,7 @@ all_are_read one_at IsOne reads (x ∷ xs) whole rest h =
 
 -- the graph's record, in a file with such a first line
 record IsOwnRecord (head : Head) (g : GraphData) (whole : List ℕ) : Type 0 where
+  kinds : g.kinds ≡ head.kinds
   id : List ℕ
   n : List ℕ
   m : List ℕ
@@ -304,6 +292,7 @@ own_texts_found head text found e =
     subst (λ (f : Found GraphData). StandsIn (IsOwnRecord head) text f) p.same (record {
       whole = id_text.whole ++ id_tail;
       says = record {
+        kinds = refl;
         id = id_text.whole;
         n = n_text.whole;
         m = m_text.whole;
@@ -318,10 +307,6 @@ own_texts_found head text found e =
       parts = onto p.util.rest id_text.whole id_tail id_text.parts (onto p.util.rest c.comma (n_text.whole ++ n_tail) c.parts
           (onto p.util.rest n_text.whole n_tail n_text.parts (onto p.util.rest d.comma (m_text.whole ++ fields.whole) d.parts (onto p.util.rest m_text.whole fields.whole m_text.parts fields.parts))));
     })
-
--- a number counts as itself
-same_count : (n : ℕ) → (n == n) ≡ true
-same_count n = (Decides-eqb n n).1 refl
 
 number_is_found : (text : List ℕ) (n : ℕ) → number_of most_number_digits text ≡ Some n → IsFoundAs (plain_at (number_of most_number_digits)) text n
 number_is_found text n says = plain_is_found (number_of most_number_digits) text n (number_is_plain most_number_digits text n says) says
@@ -339,47 +324,61 @@ graph_is_read g whole rest h =
     ∙ rw (id.reads (t.0 ++ rest) (ends_after (h.n ∷ h.m ∷ h.fields) t.0 rest t.1))
     (next_field number h.n (length g.vertices) (number_is_found h.n (length g.vertices) h.n_says) (h.m ∷ h.fields) n_at.0 n_at.1 t.0 rest n_at.2 n_at.3 n_at.4 _
     ∙ next_field number h.m g.m (number_is_found h.m g.m h.m_says) h.fields m_at.0 m_at.1 n_at.1 rest m_at.2 m_at.3 m_at.4 _
-    ∙ rw (more_read (head_of g).counts (graph_kinds g.kinds) g.util h.fields m_at.1 h.fields_say m_at.3 rest) (rw (same_count (length g.vertices)) refl))
+    ∙ rw (more_read (head_of g).counts (graph_kinds g.kinds) g.util h.fields m_at.1 h.fields_say m_at.3 rest) (rw ((Decides-eqb (length g.vertices) (length g.vertices)).1 refl) refl))
 
--- the first line that a file's records are read with says what the graph has
-pub head_found : (head : Head) (text : List ℕ) (found : Found GraphData) → records_at head text ≡ Some found → head ≡ head_of found.value
-head_found head text found e =
-    let p = record_parts head text found e in
-    p.counted ∙ ap (λ f. head_of f.value) p.same
+-- the counts of a first line are those of the records after it
+head_again : (head : Head) (g : GraphData) → g.kinds ≡ head.kinds → length g.vertices ≡ head.counts.vertices → length g.records ≡ head.counts.arcs → head ≡ head_of g
+head_again head g kinds vertices arcs =
+    sym (ap (λ ks. record { kinds = ks; counts = record { vertices = length g.vertices; arcs = length g.records } }) kinds
+    ∙ ap (λ n. record { kinds = head.kinds; counts = record { vertices = n; arcs = length g.records } }) vertices
+    ∙ ap (λ m. record { kinds = head.kinds; counts = record { vertices = head.counts.vertices; arcs = m } }) arcs)
 
--- all records of a file
-pub records_found : (head : Head) → FindsTexts (records_at head) AreRecordsOf
+-- the records of a graph that a text begins with; the first line that they are read with says what the graph has
+pub record RecordsFound (head : Head) (text : List ℕ) (found : Found GraphData) : Type 0 where
+  pub counted : head ≡ head_of found.value
+  pub stand : StandsIn AreRecordsOf text found
+
+pub records_found : (head : Head) (text : List ℕ) (found : Found GraphData) → records_at head text ≡ Some found → RecordsFound head text found
 records_found head text found e =
-    let p = record_parts head text found e in
-    let g = record p.own.value { vertices = p.vertices.value; records = p.arcs.value } in
-    let o = own_texts_found head text p.own p.own_here in
-    let v = all_texts_found (vertex_record_at head) (IsVertexRecord head) (vertex_texts_found head) head.counts.vertices p.second p.vertices p.vertices_here in
-    let a = all_texts_found (arc_record_at head) (IsArcRecord head) (arc_texts_found head) head.counts.arcs p.third p.arcs p.arcs_here in
+    let own = was_given (graph_record_at head text) e in
+    let second = was_given (after_prefix (codes "* Vertices\n") own.first.rest) own.made in
+    let nodes = was_given (all_at (vertex_record_at head) head.counts.vertices second.first) second.made in
+    let third = was_given (after_prefix (codes "* Arcs\n") nodes.first.rest) nodes.made in
+    let arcs = was_found_as (λ records. record own.first.value { vertices = nodes.first.value; records = records }) (all_at (arc_record_at head) head.counts.arcs third.first) third.made in
+    let g = record own.first.value { vertices = nodes.first.value; records = arcs.first.value } in
+    let o = own_texts_found head text own.first own.here in
+    let v = all_texts_found (vertex_record_at head) (IsVertexRecord head) (vertex_texts_found head) head.counts.vertices second.first nodes.first nodes.here in
+    let a = all_texts_found (arc_record_at head) (IsArcRecord head) (arc_texts_found head) head.counts.arcs third.first arcs.first arcs.here in
+    let counted = head_again head g o.says.kinds v.says.count a.says.count in
+    let rest = arcs.first.rest in
     let after_arcs = codes "* Arcs\n" ++ a.whole in
     let after_own = codes "* Vertices\n" ++ (v.whole ++ after_arcs) in
-    subst (λ (f : Found GraphData). StandsIn AreRecordsOf text f) p.same (record {
-      whole = o.whole ++ after_own;
-      says = record {
-        own = o.whole;
-        vertices = v.whole;
-        arcs = a.whole;
-        graph_record = subst (λ (h : Head). IsGraphRecord h g o.whole) p.counted (record {
-          id = o.says.id;
-          n = o.says.n;
-          m = o.says.m;
-          fields = o.says.fields;
-          id_says = o.says.id_says;
-          n_says = o.says.n_says ∙ ap (λ k. Some k) (sym p.vertices_fit.count);
-          m_says = o.says.m_says;
-          fields_say = o.says.fields_say;
-          is_record = o.says.is_record;
-        });
-        vertex_records = subst (λ (h : Head). AreRecords (IsVertexRecord h) g.vertices v.whole) p.counted v.says;
-        arc_records = subst (λ (h : Head). AreRecords (IsArcRecord h) g.records a.whole) p.counted a.says;
-        parts = refl;
+    subst (λ (f : Found GraphData). RecordsFound head text f) arcs.same (record {
+      counted = counted;
+      stand = record {
+        whole = o.whole ++ after_own;
+        says = record {
+          own = o.whole;
+          vertices = v.whole;
+          arcs = a.whole;
+          graph_record = subst (λ (h : Head). IsGraphRecord h g o.whole) counted (record {
+            id = o.says.id;
+            n = o.says.n;
+            m = o.says.m;
+            fields = o.says.fields;
+            id_says = o.says.id_says;
+            n_says = o.says.n_says ∙ ap (λ k. Some k) (sym v.says.count);
+            m_says = o.says.m_says;
+            fields_say = o.says.fields_say;
+            is_record = o.says.is_record;
+          });
+          vertex_records = subst (λ (h : Head). AreRecords (IsVertexRecord h) g.vertices v.whole) counted v.says.are;
+          arc_records = subst (λ (h : Head). AreRecords (IsArcRecord h) g.records a.whole) counted a.says.are;
+          parts = refl;
+        };
+        parts = onto rest o.whole after_own o.parts (onto rest (codes "* Vertices\n") (v.whole ++ after_arcs) (prefix_is (codes "* Vertices\n") own.first.rest second.first second.here)
+            (onto rest v.whole after_arcs v.parts (onto rest (codes "* Arcs\n") a.whole (prefix_is (codes "* Arcs\n") nodes.first.rest third.first third.here) a.parts)));
       };
-      parts = onto p.arcs.rest o.whole after_own o.parts (onto p.arcs.rest (codes "* Vertices\n") (v.whole ++ after_arcs) (prefix_is (codes "* Vertices\n") p.own.rest p.second p.second_here)
-          (onto p.arcs.rest v.whole after_arcs v.parts (onto p.arcs.rest (codes "* Arcs\n") a.whole (prefix_is (codes "* Arcs\n") p.vertices.rest p.third p.third_here) a.parts)));
     })
 
 pub records_are_read : (g : GraphData) (whole rest : List ℕ) → AreRecordsOf g whole → records_at (head_of g) (whole ++ rest) ≡ Some (record { value = g; rest = rest })

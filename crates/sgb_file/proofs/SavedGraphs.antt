@@ -1,13 +1,26 @@
--- Lemmas on the graphs that can be saved, found so an element at a time.
-use Rattle.std.specs.Prelude.{◌≡◌, ℕ, suc, ◌+◌, ◌<◌, ◌≤◌, true, ◌&&◌, List, [], ◌∷◌, length, get_or, Some, slice_get, All, refl}
+-- Graphs that can be saved: the fields of their records, and what is found so an element at a time.
+use Rattle.std.specs.Prelude.{◌^◌, ◌≡◌, ℕ, suc, ◌+◌, ◌<◌, ◌≤◌, true, ◌&&◌, List, [], ◌∷◌, length, get_or, Some, slice_get, All, refl}
 use Rattle.std.specs.List.{list_all}
 use Rattle.std.proofs.Common.{ap, sym, ◌∙◌, arith, inl, inr, subst, length-drop}
+use Rattle.std.proofs.Math.Bool.{and_assoc}
 use Rattle.std.proofs.lemmas.Bool.{and_parts, cases_lt}
+use Rattle.std.proofs.lemmas.List.Elements.{All-cons, All-nil}
 use Rattle.std.proofs.lemmas.Option.{slice_get-get_or}
+use Rattle.std.proofs.lemmas.List.Sums.{AllPass-from_list_all}
+use Rattle.sgb_vec.specs.Limits.{most_vertices}
 use Rattle.sgb_graph.specs.Graphs.{GraphData}
-use Rattle.sgb_graph.specs.Sound.{IsGraph, util_fits, utils_fit, graph_kinds, vertex_fits, record_fits}
+use Rattle.sgb_graph.specs.Ids.{IsId}
+use Rattle.sgb_graph.specs.Sound.{IsGraph, ref_fits, chain_fits, util_fits, utils_fit, graph_kinds, vertex_kinds, arc_kinds, vertex_fits, record_fits}
 use Rattle.sgb_graph.specs.declared.fields.Kind.{Kind}
+use Rattle.sgb_graph.specs.declared.fields.Kind.TheVariants.{I, V, S, A}
 use Rattle.sgb_graph.specs.declared.fields.Util.{Util}
+use Rattle.sgb_graph.specs.declared.fields.Util.TheVariants.{Int, Vertex as VertexField, Str, Chain}
+use Rattle.sgb_graph.specs.declared.fields.Vertex.{Vertex}
+use Rattle.sgb_graph.specs.declared.fields.ArcRec.{ArcRec}
+use Rattle.sgb_file.specs.Fields.{Counts}
+use Rattle.sgb_file.specs.Files.{head_of}
+use Rattle.sgb_file.specs.Saved.{ValueCanBeSaved, VertexCanBeSaved, ArcCanBeSaved, CanBeSaved}
+use Rattle.sgb_file.proofs.NumberReading.{at_most}
 
 -- P holds of the first n elements
 abbrev pub HoldsOfFirst : {X : Type 0} → (X → Type 0) → List X → ℕ → Type 0
@@ -32,13 +45,62 @@ more_hold P xs n x before here holds k y below there = elim (cases_lt k n) [
 pub all_hold : {X : Type 0} (P : X → Type 0) (xs : List X) (n : ℕ) → length xs ≤ n → HoldsOfFirst P xs n → All P xs
 all_hold P xs n fits h = λ k d below. h k (get_or xs k d) (omega (arith, below, fits)) (slice_get-get_or xs k d below)
 
+-- values that fit these kinds, and can be saved
+pub record FieldsFit (counts : Counts) (kinds : List Kind) (us : List Util) : Type 0 where
+  pub fits : utils_fit counts.vertices counts.arcs kinds us ≡ true
+  pub values : All ValueCanBeSaved us
+
+-- a vertex and an arc record whose fields fit, and which can be saved
+pub record VertexFits (g : GraphData) (v : Vertex) : Type 0 where
+  pub fits : vertex_fits g v ≡ true
+  pub saved : VertexCanBeSaved v
+
+pub record ArcFits (g : GraphData) (r : ArcRec) : Type 0 where
+  pub fits : record_fits g r ≡ true
+  pub saved : ArcCanBeSaved r
+
+-- the fields of their records
+abbrev pub fields_of_vertex : Vertex → List Util
+fields_of_vertex v = Str v.name ∷ Chain v.arcs ∷ v.util
+
+abbrev pub fields_of_arc : ArcRec → List Util
+fields_of_arc r = VertexField r.tip ∷ Chain r.next ∷ Int r.len ∷ r.a ∷ r.b ∷ []
+
+pub vertex_fields : (g : GraphData) (v : Vertex) → VertexFits g v → FieldsFit (head_of g).counts (S ∷ A ∷ vertex_kinds g.kinds) (fields_of_vertex v)
+vertex_fields g v h = record {
+  fits = h.fits;
+  values = All-cons ValueCanBeSaved (Str v.name) (Chain v.arcs ∷ v.util) h.saved.name (All-cons ValueCanBeSaved (Chain v.arcs) v.util tt h.saved.util);
+}
+
+pub vertex_of_fields : (g : GraphData) (v : Vertex) → FieldsFit (head_of g).counts (S ∷ A ∷ vertex_kinds g.kinds) (fields_of_vertex v) → VertexFits g v
+vertex_of_fields g v h = record {
+  fits = h.fits;
+  saved = record { name = h.values 0 (Str v.name) (omega arith); util = λ k d below. h.values (suc (suc k)) d (omega (arith, below)) };
+}
+
+-- the tests of an arc's fields are grouped in two ways
+arc_tests : (g : GraphData) (r : ArcRec) → record_fits g r ≡ utils_fit (length g.vertices) (length g.records) (V ∷ A ∷ I ∷ arc_kinds g.kinds) (fields_of_arc r)
+arc_tests g r = and_assoc (ref_fits (length g.vertices) r.tip) (chain_fits (length g.records) r.next) (utils_fit (length g.vertices) (length g.records) (arc_kinds g.kinds) (r.a ∷ r.b ∷ []))
+
+pub arc_fields : (g : GraphData) (r : ArcRec) → ArcFits g r → FieldsFit (head_of g).counts (V ∷ A ∷ I ∷ arc_kinds g.kinds) (fields_of_arc r)
+arc_fields g r h =
+    let fields = r.a ∷ r.b ∷ [] in
+    let own = All-cons ValueCanBeSaved r.a (r.b ∷ []) h.saved.a (All-cons ValueCanBeSaved r.b [] h.saved.b (All-nil ValueCanBeSaved)) in
+    let after = All-cons ValueCanBeSaved (Chain r.next) (Int r.len ∷ fields) tt (All-cons ValueCanBeSaved (Int r.len) fields h.saved.len own) in
+    record { fits = sym (arc_tests g r) ∙ h.fits; values = All-cons ValueCanBeSaved (VertexField r.tip) (Chain r.next ∷ Int r.len ∷ fields) tt after }
+
+pub arc_of_fields : (g : GraphData) (r : ArcRec) → FieldsFit (head_of g).counts (V ∷ A ∷ I ∷ arc_kinds g.kinds) (fields_of_arc r) → ArcFits g r
+arc_of_fields g r h = record {
+  fits = arc_tests g r ∙ h.fits;
+  saved = record { len = h.values 2 (Int r.len) (omega arith); a = h.values 3 r.a (omega arith); b = h.values 4 r.b (omega arith) };
+}
+
 -- as many values as kinds
-length_fits : (n m : ℕ) (kinds : List Kind) (utils : List Util) → utils_fit n m kinds utils ≡ true → length utils ≡ length kinds
+pub length_fits : (n m : ℕ) (kinds : List Kind) (utils : List Util) → utils_fit n m kinds utils ≡ true → length utils ≡ length kinds
 length_fits n m [] [] h = refl
-length_fits n m [] (u ∷ utils) h = absurd cc
-length_fits n m (kind ∷ kinds) [] h = absurd cc
 length_fits n m (kind ∷ kinds) (u ∷ utils) h =
     ap suc (length_fits n m kinds utils (and_parts (util_fits n m kind u) (utils_fit n m kinds utils) h).1)
+length_fits n m _ _ h = absurd cc
 
 -- a graph has six fields of its own
 pub six_fields : (g : GraphData) → IsGraph g → length g.kinds ≡ 14 → length g.util ≡ 6
@@ -49,3 +111,37 @@ six_fields g h kinds =
     let parts = and_parts (own && nodes) (list_all (record_fits g) g.records) h.fields in
     let fits = (and_parts own nodes parts.0).0 in
     length_fits n (length g.records) (graph_kinds g.kinds) g.util fits ∙ rw length-drop (omega arith)
+
+-- counts that numbers of 18 digits reach
+pub record AreSmall (counts : Counts) : Type 0 where
+  pub vertices : counts.vertices ≤ 10 ^ 18
+  pub arcs : counts.arcs ≤ 10 ^ 18
+
+-- a graph that can be saved, in the parts that its text asks for
+pub record IsReady (g : GraphData) : Type 0 where
+  pub small : AreSmall (head_of g).counts
+  pub vertices_few : length g.vertices ≤ most_vertices
+  pub records_few : length g.records < 10 ^ 18
+  pub arcs_few : g.m < 10 ^ 18
+  pub id : IsId g.id
+  pub own : FieldsFit (head_of g).counts (graph_kinds g.kinds) g.util
+  pub vertices : All (VertexFits g) g.vertices
+  pub records : All (ArcFits g) g.records
+
+pub ready : (g : GraphData) → CanBeSaved g → IsReady g
+ready g h =
+    let own = utils_fit (length g.vertices) (length g.records) (graph_kinds g.kinds) g.util in
+    let nodes = list_all (vertex_fits g) g.vertices in
+    let most = at_most (length g.vertices) most_vertices h.graph.vertices_fit in
+    let parts = and_parts (own && nodes) (list_all (record_fits g) g.records) h.graph.fields in
+    let first = and_parts own nodes parts.0 in
+    record {
+      small = record { vertices = omega (arith, most); arcs = omega (arith, h.writable.records_counted) };
+      vertices_few = most;
+      records_few = h.writable.records_counted;
+      arcs_few = h.writable.arcs_counted;
+      id = h.writable.id;
+      own = record { fits = first.0; values = h.writable.util };
+      vertices = λ k d below. record { fits = AllPass-from_list_all (vertex_fits g) g.vertices first.1 k d below; saved = h.writable.vertices k d below };
+      records = λ k d below. record { fits = AllPass-from_list_all (record_fits g) g.records parts.1 k d below; saved = h.writable.records k d below };
+    }

@@ -12,10 +12,10 @@ use Rattle.sgb_file.specs.Fields.{Found, given, found_as, after_prefix}
 use Rattle.sgb_file.specs.Records.{Head, all_at, arc_record_at, graph_record_at, records_at, vertex_record_at}
 use Rattle.sgb_file.proofs.FoundParts.{was_mapped, own_parts}
 use Rattle.sgb_file.proofs.FoundSteps.{stops}
-use Rattle.sgb_file.specs.Found.{IsFoundBy}
+use Rattle.sgb_file.specs.inner.Found.{IsFoundBy}
 use Rattle.sgb_vec.specs.declared.panics.Panic.{Panic}
-use Rattle.sgb_file.specs.Reading.{vertices_at, arcs_at, with_vertices, with_records}
-use Rattle.sgb_file.specs.LinesLeft.{LinesLeft, text_left, has_no_newline}
+use Rattle.sgb_file.specs.inner.Reading.{vertices_at, arcs_at, with_vertices, with_records}
+use Rattle.sgb_file.specs.inner.LinesLeft.{LinesLeft, text_left, has_no_newline}
 use Rattle.sgb_file.specs.FileLines.{text_of_lines}
 use Rattle.sgb_file.proofs.LineLemmas.{not_true}
 
@@ -152,15 +152,3 @@ records_whole head parts more t0 t1 t2 t3 t4 g a v b =
     ∙ (ap (λ (xs : List Vertex). found_as (λ rs. record parts { vertices = xs ++ vs; records = rs }) arcs) (sym start.vertices)
     ∙ (ap (λ (xs : List ArcRec). found_as (λ rs. record parts { vertices = parts.vertices ++ vs; records = xs ++ rs }) arcs) (sym start.records)
     ∙ ap (λ x. arcs_at head x.value head.counts.arcs t4) p.same)))))
-
--- the records where those of a vertex are not
-as_none : {X Y : Type 0} (f : X → Y) (o : Option (Found X)) → found_as f o ≡ None → o ≡ None
-as_none f None e = refl
-as_none f (Some x) e = absurd cc
-
-pub records_broken : (head : Head) (parts : GraphData) (t0 t1 t2 : List ℕ) → graph_record_at head t0 ≡ Some (record { value = parts; rest = t1 })
-    → after_prefix (codes "* Vertices\n") t1 ≡ Some t2 → vertices_at head parts head.counts.vertices t2 ≡ None → records_at head t0 ≡ None
-records_broken head parts t0 t1 t2 g a v =
-    ap (λ o. given o (titles_after head)) g
-    ∙ (ap (λ o. given o (vertices_after head parts)) a
-    ∙ ap (λ o. given o (arcs_after head parts)) (as_none (λ vs. record parts { vertices = parts.vertices ++ vs }) (all_at (vertex_record_at head) head.counts.vertices t2) v))

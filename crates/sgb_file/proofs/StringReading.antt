@@ -1,22 +1,22 @@
 -- Lemmas on strings that are read part by part, each on a line.
 use Rattle.std.specs.Prelude.{◌≡◌, ℕ, zero, suc, ◌+◌, ◌-◌, ◌<◌, ◌≤◌, Bool, true, false, cond, not, ◌&&◌, List, [], ◌∷◌, ◌++◌, length, take, drop, Option, Some, None, nat_lt, nat_le, ◌==◌, ◌↔◌, All, Result, Ok, Err, IfOk, IsErrOf, IsOkUnless, slice_index_or, refl}
 use Rattle.std.specs.List.{list_any, list_all, position, position_or_len, before_first, after_first}
-use Rattle.std.proofs.Common.{ap, sym, ◌∙◌, append_assoc, arith, length-append}
+use Rattle.std.proofs.Common.{ap, sym, ◌∙◌, append_assoc, arith}
 use Rattle.std.proofs.Math.Seq.{take-append-add, drop-append-add}
 use Rattle.std.proofs.lemmas.Bool.{and_parts}
 use Rattle.std.proofs.lemmas.Bool.Decides.{nat_tests}
 use Rattle.std.proofs.lemmas.List.{take-append-le}
-use Rattle.std.proofs.lemmas.List.Elements.{All-cons, All-nil}
 use Rattle.sgb_vec.specs.Limits.{most_bytes}
 use Rattle.sgb_vec.specs.Names.{IsText, IsTextByte}
 use Rattle.sgb_vec.specs.declared.panics.Panic.{Panic}
 use Rattle.sgb_vec.specs.declared.panics.Panic.TheVariants.{NoRoom, Syntax}
 use Rattle.sgb_graph.specs.Ids.{most_id_bytes, IsId}
 use Rattle.sgb_file.specs.Fields.{after_prefix, is_string_byte, string_at, unbroken}
-use Rattle.sgb_file.specs.Found.{IsFoundBy, IsPartOf, IsNoString, IsWholeOf, IsNoWhole, checked_text, goes_on, is_broken, string_before, string_from}
-use Rattle.sgb_file.specs.LinesLeft.{has_no_newline}
+use Rattle.sgb_file.specs.inner.Found.{IsFoundBy, IsPartOf, IsNoString, IsWholeOf, IsNoWhole, checked_text, goes_on, is_broken, string_before, string_from}
+use Rattle.sgb_file.specs.inner.LinesLeft.{has_no_newline}
 use Rattle.sgb_file.proofs.LineLemmas.{not_true, list_all-take}
-use Rattle.sgb_file.proofs.FieldReading.{string_bytes}
+use Rattle.sgb_file.proofs.FieldReading.{string_bytes, text_bytes}
+use Rattle.sgb_file.proofs.FoundParts.{was_let_through}
 use Rattle.sgb_file.proofs.LeftTexts.{none_before, first_beyond, any_beyond, first_within, any_within}
 
 abbrev pub is_quote : ℕ → Bool
@@ -27,10 +27,6 @@ and_false true u h = h
 and_false false u h = refl
 
 -- what a test with one answer says
-some_step : {X : Type 0} (t : Bool) (x y : X) → cond t (Some x) None ≡ Some y → (t ≡ true) × (x ≡ y)
-some_step true x y e = (refl, cc)
-some_step false x y e = absurd cc
-
 none_step : {X : Type 0} (t : Bool) (x : X) → ◌≡◌ {A = Option X} (cond t (Some x) None) None → t ≡ false
 none_step true x e = absurd cc
 none_step false x e = refl
@@ -43,7 +39,7 @@ and_true false h = refl
 pub opened : (most : ℕ) (text left : List ℕ) → after_prefix (34 ∷ []) text ≡ Some left → string_at most text ≡ string_from most [] left
 opened most [] left e = absurd cc
 opened most (b ∷ text) left e =
-    let p = some_step ((34 == b) && true) text left e in
+    let p = was_let_through ((34 == b) && true) text left e in
     let test = (and_parts (34 == b) true p.0).0 in
     let quote : (b == 34) ≡ true = grind (arith, nat_tests) in
     rw (quote, p.1) refl
@@ -72,7 +68,7 @@ pub record HasQuote (line : List ℕ) (end : ℕ) : Type 0 where
 
 pub has_quote : (line : List ℕ) (end : ℕ) → Some end ≡ position is_quote line → HasQuote line end
 has_quote line end e =
-    let p = some_step (nat_lt (position_or_len is_quote line) (length line)) (position_or_len is_quote line) end (sym e) in
+    let p = was_let_through (nat_lt (position_or_len is_quote line) (length line)) (position_or_len is_quote line) end (sym e) in
     let test = p.0 in
     let below : position_or_len is_quote line < length line = grind (arith, nat_tests) in
     record { at = p.1; within = omega (arith, below, p.1) }
@@ -171,37 +167,9 @@ ended_line line more h none last most bytes =
     rw before (none_by (nat_le (length said) most) (list_all is_string_byte said) (List ℕ) said refused) in
     either_none (list_any is_quote (line ++ 10 ∷ more)) _ (rw no refl)
 
--- a string longer than it may be
-too_long : (most : ℕ) (bytes more : List ℕ) → most < length bytes → checked_text most (bytes ++ more) ≡ None
-too_long most bytes more h =
-    let long = length-append bytes more in
-    let test : nat_le (length (bytes ++ more)) most ≡ false = (let above : most < length (bytes ++ more) = omega (arith, h, long) in grind (arith, nat_tests)) in
-    rw test refl
-
-long_none : (closed : Bool) (most : ℕ) (bytes left : List ℕ) → most < length bytes → goes_on closed most bytes left ≡ None
-long_none true most bytes left h =
-    let e : checked_text most bytes ≡ None = (let test : nat_le (length bytes) most ≡ false = grind (arith, nat_tests) in rw test refl) in
-    rw e refl
-long_none false most bytes left h =
-    either_none (list_any is_quote left) _ (rw (too_long most bytes (unbroken (before_first is_quote left)) h) refl)
-
 -- the parts of a string so far: the string that began with the first one goes on so
 abbrev pub IsGathered : List ℕ → List ℕ → Bool → List ℕ → List ℕ → Type 0
 IsGathered first text closed bytes left = (most : ℕ) → string_from most first text ≡ goes_on closed most bytes left
-
-pub gathered_more : (first text bytes part left : List ℕ) (closed : Bool) (before after : List ℕ) → IsGathered first text false bytes before → IsPartOf before part closed left → after ≡ bytes ++ part → IsGathered first text closed after left
-gathered_more first text bytes part left closed before after so next e most =
-    so most ∙ next most bytes ∙ ap (λ x. goes_on closed most x left) (sym e)
-
-pub gathered_none : (first text bytes before : List ℕ) → IsGathered first text false bytes before → IsNoString before → IsNoWhole first text
-gathered_none first text bytes before so none most h = so most ∙ none most bytes
-
-pub gathered_long : (first text bytes part left : List ℕ) (closed : Bool) (before : List ℕ) → IsGathered first text false bytes before → IsPartOf before part closed left → most_bytes < length (bytes ++ part) → IsNoWhole first text
-gathered_long first text bytes part left closed before so next long most h =
-    so most ∙ next most bytes ∙ long_none closed most (bytes ++ part) left (omega (arith, long, h))
-
-pub first_long : (first text : List ℕ) → most_bytes < length first → IsNoWhole first text
-first_long first text long most h = long_none false most first text (omega (arith, long, h))
 
 -- a string of one part, and one of several
 pub one_part : (most : ℕ) (text part left : List ℕ) (closed : Bool) → IsPartOf text part closed left → closed ≡ true → string_from most [] text ≡ string_before most part left
@@ -216,34 +184,6 @@ pub several_none : (most : ℕ) (text part left : List ℕ) (closed : Bool) → 
 several_none most text part left true short h e none = absurd cc
 several_none most text part left false short h e none = h most [] ∙ none most short
 
--- the bytes are a string where the test says so
-printable : (bytes : List ℕ) → list_all is_string_byte bytes ≡ true → All IsTextByte bytes
-printable [] h = All-nil IsTextByte
-printable (b ∷ bytes) h =
-    let parts = and_parts (is_string_byte b) (list_all is_string_byte bytes) h in
-    All-cons IsTextByte b bytes (text_byte b parts.0) (printable bytes parts.1) where
-      text_byte : (b : ℕ) → is_string_byte b ≡ true → IsTextByte b
-      text_byte b h =
-          let first = and_parts (nat_le 32 b && nat_le b 126 && not (b == 34)) (not (b == 92)) h in
-          let second = and_parts (nat_le 32 b && nat_le b 126) (not (b == 34)) first.0 in
-          let third = and_parts (nat_le 32 b) (nat_le b 126) second.0 in
-          let low = third.0 in
-          let high = third.1 in
-          let quote = not_true (b == 34) second.1 in
-          let slash = not_true (b == 92) first.1 in record {
-            from_space = grind (arith, nat_tests);
-            to_tilde = grind (arith, nat_tests);
-            no_quote = grind (arith, nat_tests);
-            no_backslash = grind (arith, nat_tests);
-          }
-
--- the test of a string of at most so many bytes, one way or the other
-record Tested (most : ℕ) (bytes : List ℕ) (passed : Bool) : Type 0 where
-  is : (nat_le (length bytes) most && list_all is_string_byte bytes) ≡ passed
-
-tested : (most : ℕ) (bytes : List ℕ) → Tested most bytes (nat_le (length bytes) most && list_all is_string_byte bytes)
-tested most bytes = record { is = refl }
-
 -- the test passes just for what is short and printable
 test_passes : (most : ℕ) (bytes : List ℕ) → length bytes ≤ most → All IsTextByte bytes → (nat_le (length bytes) most && list_all is_string_byte bytes) ≡ true
 test_passes most bytes short h =
@@ -255,7 +195,7 @@ passes_short most bytes h =
     let first = (and_parts (nat_le (length bytes) most) (list_all is_string_byte bytes) h).0 in grind (arith, nat_tests)
 
 passes_printable : (most : ℕ) (bytes : List ℕ) → (nat_le (length bytes) most && list_all is_string_byte bytes) ≡ true → All IsTextByte bytes
-passes_printable most bytes h = printable bytes (and_parts (nat_le (length bytes) most) (list_all is_string_byte bytes) h).1
+passes_printable most bytes h = text_bytes bytes (and_parts (nat_le (length bytes) most) (list_all is_string_byte bytes) h).1
 
 -- what a maker of texts returns that takes just these bytes
 record Makes (most : ℕ) (bytes : List ℕ) (r : Result (List ℕ) Panic) : Type 0 where

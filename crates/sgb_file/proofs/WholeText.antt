@@ -1,18 +1,14 @@
 -- The text of a graph in three parts, and what stands in each.
-use Rattle.std.proofs.Common.{◌≡◌, ◌+◌, ◌*◌, ◌%◌, ◌^◌, ◌++◌, ◌∙◌, ℕ, true, List, [], ◌∷◌, length, drop, map, codes, decimal, refl, sym, ap, append_assoc, append-nil, arith}
+use Rattle.std.proofs.Common.{◌≡◌, ◌+◌, ◌*◌, ◌%◌, ◌^◌, ◌++◌, ◌∙◌, ℕ, true, List, [], ◌∷◌, length, map, codes, decimal, sym, ap, append_assoc, append-nil, arith}
 use Rattle.std.proofs.lemmas.List.Concat.{flat_map-append}
-use Rattle.std.proofs.Math.ListN.{length-drop}
 use Rattle.std.specs.Io.KnownBytes.{Appends}
 use Rattle.sgb_graph.specs.Graphs.{GraphData}
-use Rattle.sgb_graph.specs.Growth.{IsKept}
-use Rattle.sgb_graph.proofs.TestLemmas.{both_first}
 use Rattle.sgb_file.specs.FileLines.{text_of_lines}
 use Rattle.sgb_file.specs.Checksum.{checksum_of_lines, checksum_prime, has_star, weighted_sum}
 use Rattle.sgb_file.specs.Saving.{letter_of, head_line, middle_lines, checksum_line, text_of_graph}
-use Rattle.sgb_file.specs.Layouts.{checksum_after, checksum_from, checksum_text, counted_bytes, head_text, place_of, Stage, HasLaid, IsStopped}
+use Rattle.sgb_file.specs.inner.Layouts.{checksum_after, checksum_from, checksum_text, counted_bytes, head_text, place_of, Stage, HasLaid, IsStopped}
 use Rattle.sgb_file.specs.Devices.{AppendsPrefix}
 use Rattle.sgb_file.proofs.ChecksumLemmas.{running_from}
-use Rattle.sgb_file.proofs.FieldTexts.{as_many}
 use Rattle.sgb_file.proofs.LaidLines.{checksum-starred}
 
 -- a line with a star, written as it is
@@ -39,12 +35,6 @@ text-parts g n records sum h k s =
     flat_map-append (λ line. line ++ 10 ∷ []) (middle_lines g) (checksum_line g ∷ [])
     ∙ ap (λ text. text_of_lines (middle_lines g) ++ text) (append-nil (checksum_line g ++ 10 ∷ []) ∙ ap (λ (x : ℕ). checksum_text x) (sym s)) in
     ap (λ text. text ++ text_of_lines (middle_lines g ++ checksum_line g ∷ [])) first ∙ ap (λ text. head_text (map letter_of g.kinds) n records ++ text) last
-
--- a graph has six fields of its own
-pub six_fields : (g : GraphData) → length g.kinds ≡ 14 → IsKept g → length g.util ≡ 6
-six_fields g size kept =
-    as_many (length g.vertices) (length g.records) (drop 8 g.kinds) g.util (both_first _ _ (both_first _ _ kept.graph.fields))
-    ∙ (length-drop 8 g.kinds ∙ rw size refl)
 
 -- the writing stopped within a line with a star
 pub starred-stopped : (line : List ℕ) (a b : Stage) → AppendsPrefix a.written b.written (text_of_lines (line ∷ [])) → b.failed ≡ true → IsStopped (line ∷ []) a b

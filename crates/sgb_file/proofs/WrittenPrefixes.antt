@@ -2,7 +2,9 @@
 use Rattle.std.proofs.Common.{◌≡◌, ◌++◌, ℕ, Bool, true, false, List, [], Option, Result, Ok, Err, refl, sym, ap, ◌∙◌, append_assoc, append-nil}
 use Rattle.std.specs.Io.KnownBytes.{Appends}
 use Rattle.std.proofs.KnownBytes.{Appends-trans, Appends-nil}
-use Rattle.sgb_file.specs.Devices.{AppendsPrefix, AppendsUnlessFailed, IsPut}
+use Rattle.sgb_file.specs.Devices.{AppendsPrefix, AppendsUnlessFailed, Change, IsPut}
+use Rattle.std.specs.Bool.{MatchBool}
+use Rattle.std.proofs.lemmas.Bool.{both_ways}
 
 -- a whole text is a prefix of itself
 pub prefix_all : (a b : Option (List ℕ)) (xs : List ℕ) → Appends a b xs → AppendsPrefix a b xs
@@ -21,17 +23,17 @@ pub prefix_after : (a b c : Option (List ℕ)) (xs ys : List ℕ) → Appends a 
 prefix_after a b c xs ys p q = (xs ++ q.0, q.1, ap (λ l. xs ++ l) q.2 ∙ sym (append_assoc xs q.0 q.1), Appends-trans a b c xs q.0 p q.3)
 
 -- what was put, whether or not the sink has failed
-pub unless_failed : {T E : Type 0} (xs : List ℕ) (a b : Option (List ℕ)) (failed : Bool) (r : Result T E) → IsPut xs a b failed r → AppendsUnlessFailed failed a b xs
-unless_failed xs a b true (Ok x) p = prefix_all a b xs p
-unless_failed xs a b false (Ok x) p = p
-unless_failed xs a b true (Err e) p = p.0
-unless_failed xs a b false (Err e) p = cc
-
--- a text cut off is one with more after it cut off
-pub put_cut : (a b : Option (List ℕ)) (failed : Bool) (xs ys : List ℕ) → AppendsPrefix a b xs × (failed ≡ true) → AppendsPrefix a b (xs ++ ys) × (failed ≡ true)
-put_cut a b failed xs ys p = (prefix_more a b xs ys p.0, p.1)
+pub unless_failed : {T E : Type 0} (xs : List ℕ) (sink : Change) (r : Result T E) → IsPut xs sink r → AppendsUnlessFailed sink xs
+unless_failed {T = T} {E = E} xs sink r p = by_failure sink.failed r refl p
+  where
+    by_failure : (failed : Bool) (r : Result T E) → sink.failed ≡ failed → IsPut xs sink r → MatchBool failed (AppendsPrefix sink.before sink.after xs) (Appends sink.before sink.after xs)
+    by_failure true (Ok x) is p = prefix_all sink.before sink.after xs p
+    by_failure false (Ok x) is p = p
+    by_failure true (Err e) is p = p.0
+    by_failure false (Err e) is p = absurd (both_ways sink.failed is p.1)
 
 -- after a whole text, what becomes of the next is what becomes of both
-pub put_after : {T E : Type 0} (a b c : Option (List ℕ)) (failed : Bool) (xs ys : List ℕ) (r : Result T E) → Appends a b xs → IsPut ys b c failed r → IsPut (xs ++ ys) a c failed r
+pub put_after : {T E : Type 0} (a b c : Option (List ℕ)) (failed : Bool) (xs ys : List ℕ) (r : Result T E) → Appends a b xs
+    → IsPut ys (record { before = b; after = c; failed = failed }) r → IsPut (xs ++ ys) (record { before = a; after = c; failed = failed }) r
 put_after a b c failed xs ys (Ok x) p q = Appends-trans a b c xs ys p q
 put_after a b c failed xs ys (Err e) p q = (prefix_after a b c xs ys p q.0, q.1)

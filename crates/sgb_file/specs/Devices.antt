@@ -1,21 +1,30 @@
 -- What sources give and sinks take, where they tell their bytes, and when a device has failed.
-use Rattle.std.specs.Prelude.{◌≡◌, ℕ, ◌++◌, ◌-◌, ◌||◌, ◌==◌, min, take, drop, length, Bool, true, List, Option, Result, Ok, Err, refl}
+use Rattle.std.specs.Prelude.{◌≡◌, ℕ, ◌++◌, ◌-◌, ◌||◌, ◌==◌, min, take, drop, length, Bool, true, List, Option, Result, Ok, Err}
 use Rattle.std.specs.Bool.{MatchBool}
-use Rattle.std.specs.Coded.{Coded, code_by, coded×, coded_bool}
 use Rattle.std.specs.Io.KnownBytes.{Appends}
 
 -- known bytes grew by a prefix of bs, of whatever length
 abbrev pub AppendsPrefix : Option (List ℕ) → Option (List ℕ) → List ℕ → Type 0
 AppendsPrefix old new bs = (done rest : List ℕ) × (bs ≡ done ++ rest) × Appends old new done
 
--- known bytes grew by bs, or by a prefix of bs where the sink has failed
-abbrev pub AppendsUnlessFailed : Bool → Option (List ℕ) → Option (List ℕ) → List ℕ → Type 0
-AppendsUnlessFailed failed old new bs = MatchBool failed (AppendsPrefix old new bs) (Appends old new bs)
+-- what was done to a sink: the bytes that it tells, before and after, and whether it has failed afterwards
+pub record Change : Type 0 where
+  pub before : Option (List ℕ)
+  pub after : Option (List ℕ)
+  pub failed : Bool
+
+-- how a sink that was old is changed where it is new, by what it tells and whether it has failed
+abbrev pub change : {S : Type 0} → (S → Option (List ℕ)) → (S → Bool) → S → S → Change
+change written has_failed old new = record { before = written old; after = written new; failed = has_failed new }
+
+-- bs was taken, or a prefix of it where the sink has failed
+abbrev pub AppendsUnlessFailed : Change → List ℕ → Type 0
+AppendsUnlessFailed sink bs = MatchBool sink.failed (AppendsPrefix sink.before sink.after bs) (Appends sink.before sink.after bs)
 
 -- all of bs was taken, or a prefix of it and the sink has failed
-abbrev pub IsPut : {T E : Type 0} → List ℕ → Option (List ℕ) → Option (List ℕ) → Bool → Result T E → Type 0
-IsPut bs old new failed (Ok x) = Appends old new bs
-IsPut bs old new failed (Err e) = AppendsPrefix old new bs × (failed ≡ true)
+abbrev pub IsPut : {T E : Type 0} → List ℕ → Change → Result T E → Type 0
+IsPut bs sink (Ok x) = Appends sink.before sink.after bs
+IsPut bs sink (Err e) = AppendsPrefix sink.before sink.after bs × (sink.failed ≡ true)
 
 -- a sink in memory: the bytes that it took, how many it has memory for, and whether it has failed
 pub record MemSinkState : Type 0 where
@@ -67,8 +76,3 @@ after_put sink bs count = record sink { taken = sink.taken ++ take count bs; lef
 pub record Adapted (Inner : Type 0) : Type 0 where
   pub inner : Inner
   pub failed : Bool
-
--- an adapted value is stored as the pair of its fields
-abbrev pub adapted_code : {Inner : Type 0} → Coded Inner → Coded (Adapted Inner)
-adapted_code {Inner = Inner} code =
-    code_by (Inner × Bool) (coded× code coded_bool) (λ a. (a.inner, a.failed)) (λ p. record { inner = p.0; failed = p.1 }) (λ _. refl)

@@ -1,14 +1,23 @@
 -- What the contracts of sgb_file speak of.
+-- what sources give and sinks take
 pub mod Devices
+-- the lines of a file
 pub mod FileLines
+-- the checksum of a file
 pub mod Checksum
+-- the fields of a record: their texts and values
 pub mod Fields
+-- the records that a text begins with
 pub mod Records
+-- the graph that a text is read as
 pub mod Restoring
+-- the text that is written for a graph
 pub mod Saving
+-- when a text is a file of a graph
 pub mod Files
+-- the graphs that can be saved
 pub mod Saved
-pub mod Layouts
-pub mod LinesLeft
-pub mod Found
+-- what reading a file returns
 pub mod Reading
+-- what only private contracts and proofs speak of
+pub mod inner

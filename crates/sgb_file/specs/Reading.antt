@@ -1,29 +1,10 @@
 -- What reading a file returns [GB_SAVE, restore_graph].
-use Rattle.std.specs.Prelude.{◌≡◌, ◌⊎◌, ◌++◌, ℕ, List, Option, Result, Ok, Err}
+use Rattle.std.specs.Prelude.{◌≡◌, ◌⊎◌, Result, Ok, Err}
 use Rattle.sgb_vec.specs.declared.panics.Panic.{Panic}
 use Rattle.sgb_vec.specs.declared.panics.Panic.TheVariants.{NoRoom}
 use Rattle.sgb_graph.specs.Graphs.{GraphData}
-use Rattle.sgb_graph.specs.declared.fields.Vertex.{Vertex}
-use Rattle.sgb_graph.specs.declared.fields.ArcRec.{ArcRec}
-use Rattle.sgb_file.specs.Fields.{Found, found_as}
-use Rattle.sgb_file.specs.Records.{Head, all_at, arc_record_at, vertex_record_at}
 
 -- the result is this graph, or this refusal; or it is out of memory
 abbrev pub IsReadOf : Result GraphData Panic → Result GraphData Panic → Type 0
 IsReadOf value (Ok g) = value ≡ Ok g
 IsReadOf value (Err p) = (value ≡ Err p) ⊎ (p ≡ NoRoom)
-
--- the parts with these vertices, or these arc records, after those that they have
-abbrev pub with_vertices : GraphData → List Vertex → GraphData
-with_vertices parts vs = record parts { vertices = parts.vertices ++ vs }
-
-abbrev pub with_records : GraphData → List ArcRec → GraphData
-with_records parts rs = record parts { records = parts.records ++ rs }
-
--- the parts with so many vertices after those that they have, whose records a text begins with
-abbrev pub vertices_at : Head → GraphData → ℕ → List ℕ → Option (Found GraphData)
-vertices_at head parts n text = found_as (with_vertices parts) (all_at (vertex_record_at head) n text)
-
--- the parts with so many arc records after those that they have, whose records a text begins with
-abbrev pub arcs_at : Head → GraphData → ℕ → List ℕ → Option (Found GraphData)
-arcs_at head parts n text = found_as (with_records parts) (all_at (arc_record_at head) n text)

@@ -12,12 +12,16 @@ use Rattle.sgb_file.specs.FileLines.{lines_of_text, clean_lines, text_of_lines}
 use Rattle.sgb_file.specs.Checksum.{has_star, checksum_of_lines}
 use Rattle.sgb_file.specs.Fields.{Found, given, is_decimal_digit, number_of, most_number_digits, after_prefix}
 use Rattle.sgb_file.specs.Records.{Head, records_at}
+use Rattle.sgb_file.specs.Saving.{letter_of}
 
--- the kind of a letter
+-- the kind whose letter it is
 abbrev pub kind_of_letter : ℕ → Option Kind
 kind_of_letter letter =
-    if letter == 90 then Some Z else (if letter == 73 then Some I else (if letter == 86 then Some V
-    else (if letter == 83 then Some S else (if letter == 65 then Some A else None))))
+    if letter == letter_of Z then Some Z
+    else (if letter == letter_of I then Some I
+    else (if letter == letter_of V then Some V
+    else (if letter == letter_of S then Some S
+    else (if letter == letter_of A then Some A else None))))
 
 -- the kinds of the fourteen letters that a text begins with
 abbrev pub kinds_at : List ℕ → Option (Found (List Kind))

@@ -1,5 +1,5 @@
 -- The one text that is written for a graph [GB_SAVE, save_graph].
-use Rattle.std.specs.Prelude.{ℕ, ◌+◌, ◌-◌, ◌*◌, ◌/◌, Bool, List, [], ◌∷◌, ◌++◌, map, length, take, drop, codes, decimal, Option, Some, None, nat_le, ◌==◌, if◌then◌else◌}
+use Rattle.std.specs.Prelude.{ℕ, ◌+◌, ◌-◌, ◌*◌, ◌/◌, Bool, List, [], ◌∷◌, ◌++◌, map, length, take, drop, codes, decimal, Option, Some, None, slice_index, nat_le, ◌==◌, if◌then◌else◌}
 use Rattle.std.specs.List.{flat_map, range_with_len}
 use Rattle.std.specs.Fmt.{signed_decimal}
 use Rattle.sgb_graph.specs.Graphs.{GraphData}
@@ -20,11 +20,11 @@ most_line_bytes = 79
 
 -- the letter of a kind
 abbrev pub letter_of : Kind → ℕ
-letter_of Z = 90
-letter_of I = 73
-letter_of V = 86
-letter_of S = 83
-letter_of A = 65
+letter_of Z = slice_index (codes "Z") 0
+letter_of I = slice_index (codes "I") 0
+letter_of V = slice_index (codes "V") 0
+letter_of S = slice_index (codes "S") 0
+letter_of A = slice_index (codes "A") 0
 
 -- the text of a string: the bytes between quotes (34)
 abbrev pub quoted : List ℕ → List ℕ

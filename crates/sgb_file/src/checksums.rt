@@ -1,7 +1,7 @@
 //! The checksum of a file, made byte by byte (GB_IO, new_checksum).
 ghost use Rattle.std.specs.Prelude.{◌≡◌, ◌∷◌, []};
 ghost use Rattle.sgb_file.specs.Checksum.{has_star};
-ghost use Rattle.sgb_file.specs.Layouts.{checksum_after, checksum_from, counted_bytes, place_of, places};
+ghost use Rattle.sgb_file.specs.inner.Layouts.{checksum_after, checksum_from, counted_bytes, place_of, places};
 
 // The checksum is taken modulo this prime.
 const PRIME: u64 = 1_073_741_741;
@@ -45,7 +45,7 @@ pub(crate) fn has_star(line: &[u8]) -> bool
 }
 
 // The checksum after these bytes, from the checksum before them.
-#[tactic(auto, unfolding(crate::specs::Layouts::checksum_from))]
+#[tactic(auto, unfolding(crate::specs::inner::Layouts::checksum_from))]
 fn checksum_from(sum: u32, bytes: &[u8]) -> u32
     ensures { result ≡ checksum_from sum bytes.now }
 {
@@ -55,7 +55,7 @@ fn checksum_from(sum: u32, bytes: &[u8]) -> u32
 }
 
 // The checksum after one byte more.
-#[tactic(auto, unfolding(crate::specs::Layouts::checksum_after))]
+#[tactic(auto, unfolding(crate::specs::inner::Layouts::checksum_after))]
 fn checksum_after(sum: u32, byte: u8) -> u32
     ensures { result ≡ checksum_after sum byte }
 {

@@ -1,6 +1,5 @@
 //! Where bytes come from and go to: sources and sinks that may fail, over memory, over std's readers and
 //! writers, and cut short for tests.
-
 ghost use Rattle.std.specs.Prelude.{◌≡◌, ℕ, ◌<◌, ◌≤◌, Bool, true, List, Option, length, is_err, IfOk};
 ghost use Rattle.std.specs.Io.{ReadsAtMost, WritesAtMost};
 ghost use Rattle.std.specs.Io.KnownBytes.{ReadConsumes, WriteAppends, Keeps};

@@ -33,19 +33,24 @@ pub fn read_text_law()
 /// wrong with it is only that its lists are not sound (GB_SAVE, restore_graph). So what is read can be saved.
 pub fn file_parts_law()
     ensures parts { (line text : List ℕ) (head : Head) (found : Found GraphData) →
-        head_of_line line ≡ Some head → records_at head text ≡ Some found → CanBeChecked found.value }
+        head_of_line line ≡ Some head → records_at head text ≡ Some found
+        → CanBeChecked found.value }
     ensures saved { (g : GraphData) (text : List ℕ) → graph_of_text text ≡ Ok g → CanBeSaved g }
 {}
 
 /// The lines of a record have at most 79 bytes each, and a piece is broken where more than that are left of
 /// it, and not further (GB_SAVE, save_graph).
 pub fn line_bytes_law()
-    ensures lines { (texts : List (List ℕ)) → All (λ line. length line ≤ most_line_bytes) (record_lines texts) }
-    ensures broken { (piece : List ℕ) (k : ℕ) → (k < breaks_of piece) ↔ (most_line_bytes < length (part_from_break piece k)) }
+    ensures lines { (texts : List (List ℕ))
+        → All (λ line. length line ≤ most_line_bytes) (record_lines texts) }
+    ensures broken { (piece : List ℕ) (k : ℕ) → (k < breaks_of piece)
+        ↔ (most_line_bytes < length (part_from_break piece k)) }
 {}
 
 /// What is written is read again as the same graph, whatever follows it (GB_SAVE, save_graph and restore_graph).
 pub fn written_is_read_law()
-    ensures file { (g : GraphData) (more : List ℕ) → CanBeSaved g → IsFileOf g (text_of_graph g ++ more) }
-    ensures read { (g : GraphData) (more : List ℕ) → CanBeSaved g → graph_of_text (text_of_graph g ++ more) ≡ Ok g }
+    ensures file { (g : GraphData) (more : List ℕ) → CanBeSaved g
+        → IsFileOf g (text_of_graph g ++ more) }
+    ensures read { (g : GraphData) (more : List ℕ) → CanBeSaved g
+        → graph_of_text (text_of_graph g ++ more) ≡ Ok g }
 {}

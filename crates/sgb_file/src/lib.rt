@@ -2,12 +2,18 @@
 //! stands for, and the text of a graph.
 #![tactic(auto)]
 
+// The checksum of lines.
 mod checksums;
+// Sources and sinks.
 mod devices;
+// What holds of all texts and graphs.
 mod laws;
+// Reads a file.
 mod reading;
+// Files that tests read.
 #[cfg(test)]
 mod sample_files;
+// Writes a file.
 mod saving;
 
 pub use devices::{

@@ -1,5 +1,4 @@
 //! Texts of files that several tests read or write.
-
 // The file of complete(2).
 pub(crate) const TWO_JOINED: &[u8] = b"* GraphBase graph (util_types ZZZIIIZZZZZZZZ,2V,2A)
 \"board(2,0,0,0,-1,0,0)\",2,2

@@ -1,8 +1,8 @@
 //! The text of a graph as a `.gb` file, written to a sink (GB_SAVE, save_graph).
 ghost use Rattle.std.specs.Prelude.{◌≡◌, [], true, length, map, OnOk};
 ghost use Rattle.std.specs.List.{flat_map};
-ghost use Rattle.sgb_file.specs.Devices.{IsPut};
-ghost use Rattle.sgb_file.specs.Layouts.{IsLaid, arc_lines, checksum_text, head_text, stage, vertex_lines};
+ghost use Rattle.sgb_file.specs.Devices.{change, IsPut};
+ghost use Rattle.sgb_file.specs.inner.Layouts.{IsLaid, arc_lines, checksum_text, head_text, stage, vertex_lines};
 ghost use Rattle.sgb_file.specs.Saving.{letter_of, middle_lines, text_of_graph};
 
 mod fields;
@@ -22,7 +22,8 @@ use sgb_graph::{Graph, Kind};
 ///
 /// `Failed` where a `put` failed: the sink then has a prefix of the file, and has failed.
 pub fn write_gb<W: Sink>(graph: &Graph, sink: &mut W) -> Result<(), Failed>
-    ensures put { IsPut (text_of_graph graph.now) (W.written sink.old) (W.written sink.new) (W.has_failed sink.new) result }
+    ensures put { IsPut (text_of_graph graph.now) (change W.written W.has_failed sink.old sink.new)
+        result }
     ensures sound { OnOk result (W.has_failed sink.new ≡ W.has_failed sink.old) }
     ensures stays_failed { W.has_failed sink.old ≡ true → W.has_failed sink.new ≡ true }
 {
@@ -37,7 +38,8 @@ pub fn write_gb<W: Sink>(graph: &Graph, sink: &mut W) -> Result<(), Failed>
 // Writes the first line: the letters of the kinds, and how many vertices and arc records there are.
 fn put_head<W: Sink>(sink: &mut W, kinds: &[Kind; 14], n: u32, records: usize) -> Result<(), Failed>
     ensures kinds { length kinds.now ≡ 14 }
-    ensures put { IsPut (head_text (map letter_of kinds.now) n records) (W.written sink.old) (W.written sink.new) (W.has_failed sink.new) result }
+    ensures put { IsPut (head_text (map letter_of kinds.now) n records)
+        (change W.written W.has_failed sink.old sink.new) result }
     ensures sound { OnOk result (W.has_failed sink.new ≡ W.has_failed sink.old) }
 {
     let mut vertices = Buffer::new();
@@ -90,16 +92,16 @@ fn put_records<W: Sink>(
     requires n { n ≡ length graph.now.vertices }
     requires fields { length graph.now.util ≡ 6 }
     requires line { layout.old.line ≡ [] }
-    ensures { IsLaid (middle_lines graph.now) [] (stage (W.written sink.old) (W.has_failed sink.old) layout.old) (stage (W.written sink.new) (W.has_failed sink.new) layout.new) result }
+    ensures { IsLaid (middle_lines graph.now) []
+        (stage W.written W.has_failed sink.old layout.old)
+        (stage W.written W.has_failed sink.new layout.new) result }
 {
     put_graph(layout, sink, graph)?;
-    put_all(sink, b"* Vertices\n")?;
     put_vertices(layout, sink, graph, n)?;
-    put_all(sink, b"* Arcs\n")?;
     put_arcs(layout, sink, graph)
 }
 
-// Writes the records of the vertices.
+// Writes the section of the vertices: its title, and their records.
 fn put_vertices<W: Sink>(
     layout: &mut Layout,
     sink: &mut W,
@@ -108,19 +110,25 @@ fn put_vertices<W: Sink>(
 ) -> Result<(), Failed>
     requires n { n ≡ length graph.now.vertices }
     requires line { layout.old.line ≡ [] }
-    ensures { IsLaid (vertex_lines graph.now.vertices) [] (stage (W.written sink.old) (W.has_failed sink.old) layout.old) (stage (W.written sink.new) (W.has_failed sink.new) layout.new) result }
+    ensures { IsLaid (vertex_lines graph.now.vertices) []
+        (stage W.written W.has_failed sink.old layout.old)
+        (stage W.written W.has_failed sink.new layout.new) result }
 {
+    put_all(sink, b"* Vertices\n")?;
     for v in 0..n {
         put_vertex(layout, sink, graph.vertex(v))?;
     }
     Ok(())
 }
 
-// Writes the arc records, on lists or not.
+// Writes the section of the arcs: its title, and the arc records, on lists or not.
 fn put_arcs<W: Sink>(layout: &mut Layout, sink: &mut W, graph: &Graph) -> Result<(), Failed>
     requires { layout.old.line ≡ [] }
-    ensures { IsLaid (arc_lines graph.now.records) [] (stage (W.written sink.old) (W.has_failed sink.old) layout.old) (stage (W.written sink.new) (W.has_failed sink.new) layout.new) result }
+    ensures { IsLaid (arc_lines graph.now.records) []
+        (stage W.written W.has_failed sink.old layout.old)
+        (stage W.written W.has_failed sink.new layout.new) result }
 {
+    put_all(sink, b"* Arcs\n")?;
     for k in 0..graph.records_len() {
         put_arc(layout, sink, graph.arc_rec(k))?;
     }
@@ -129,7 +137,8 @@ fn put_arcs<W: Sink>(layout: &mut Layout, sink: &mut W, graph: &Graph) -> Result
 
 // Writes the last line.
 fn put_checksum<W: Sink>(sink: &mut W, checksum: u32) -> Result<(), Failed>
-    ensures put { IsPut (checksum_text checksum) (W.written sink.old) (W.written sink.new) (W.has_failed sink.new) result }
+    ensures put { IsPut (checksum_text checksum) (change W.written W.has_failed sink.old sink.new)
+        result }
     ensures sound { OnOk result (W.has_failed sink.new ≡ W.has_failed sink.old) }
 {
     let mut digits = Buffer::new();
@@ -141,7 +150,8 @@ fn put_checksum<W: Sink>(sink: &mut W, checksum: u32) -> Result<(), Failed>
 
 // Puts texts, one after the other.
 fn put_texts<W: Sink>(sink: &mut W, texts: &[&[u8]]) -> Result<(), Failed>
-    ensures put { IsPut (flat_map (λ text. text.now) texts.now) (W.written sink.old) (W.written sink.new) (W.has_failed sink.new) result }
+    ensures put { IsPut (flat_map (λ text. text.now) texts.now)
+        (change W.written W.has_failed sink.old sink.new) result }
     ensures sound { OnOk result (W.has_failed sink.new ≡ W.has_failed sink.old) }
 {
     for text in texts {

@@ -1,12 +1,12 @@
 -- What is known of the board that is accepted.
-use Rattle.std.proofs.Common.{◌≡◌, ℕ, zero, suc, ◌≤◌, ℤ, pos, negsuc, Bool, true, false, cond, ltb, List, [], ◌∷◌, length, Result, Ok, Err, refl, ap, subst, ◌∙◌, inl, inr}
+use Rattle.std.proofs.Common.{◌≡◌, ℕ, ◌≤◌, ℤ, Bool, true, false, cond, ltb, List, [], ◌∷◌, length, Result, Ok, Err, refl, ap, subst, ◌∙◌, inl, inr}
 use Rattle.std.proofs.lemmas.Bool.{cases_lt, lt-ltb}
-use Rattle.std.proofs.lemmas.List.{length-map}
 use Rattle.sgb_vec.specs.Boxes.{box_of, product_of}
 use Rattle.sgb_vec.specs.Limits.{most_dimensions, most_vertices}
 use Rattle.sgb_vec.specs.Sizes.{Normalized, chessboard, board_of, board_by_stop, before_stop, stop_of, zero_after_stop, count_by_stop, sizes_by_stop, has_great_size}
 use Rattle.sgb_vec.specs.declared.panics.Panic.{Panic}
 use Rattle.sgb_vec.specs.declared.panics.Panic.TheVariants.{Bad, VeryBad}
+use Rattle.sgb_vec.proofs.SimplexBounds.{length-zero_after_stop}
 
 -- a choice that is accepted was not refused
 chosen : {X : Type 0} (b : Bool) (e : Panic) (r : Result X Panic) (x : X) → Ok x ≡ cond b (Err e) r → (b ≡ false) × (Ok x ≡ r)
@@ -31,13 +31,6 @@ box_accepted sizes f h =
     let small = chosen (ltb most_vertices (product_of sizes)) VeryBad (Ok sizes) f few.1 in
     let same : sizes ≡ f = cc small.1 in
     (same, subst (λ s. length s ≤ most_dimensions) same (at_most_from most_dimensions (length sizes) few.0), subst (λ s. product_of s ≤ most_vertices) same (at_most_from most_vertices (product_of sizes) small.0))
-
--- the parameters stay as many
-length-zero_after_stop : (entries : List ℤ) → length (zero_after_stop entries) ≡ length entries
-length-zero_after_stop [] = refl
-length-zero_after_stop (pos zero ∷ rest) = ap suc (length-map rest (λ n. pos 0))
-length-zero_after_stop (pos (suc n) ∷ rest) = ap suc (length-zero_after_stop rest)
-length-zero_after_stop (negsuc n ∷ rest) = ap suc (length-map rest (λ n. pos 0))
 
 parameters_by_stop : (entries : List ℤ) (before : List ℕ) (e : ℤ) (s : Normalized) → length entries ≡ 4 → Ok s ≡ board_by_stop entries before e → length s.params ≡ 4
 parameters_by_stop entries [] e s four h =

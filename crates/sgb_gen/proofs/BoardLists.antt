@@ -11,22 +11,24 @@ use Rattle.std.proofs.lemmas.List.{reverse-append}
 use Rattle.std.proofs.lemmas.List.Elements.{All-cons, All-contains, All-contains_itself, All-head, All-nil, All-tail, filter-append, filter_passes}
 use Rattle.sgb_vec.specs.Boxes.{box}
 use Rattle.sgb_vec.specs.Lexicographic.{IsBefore, IsBelow, IsRising}
-use Rattle.sgb_vec.specs.Rising.{box_vectors_rise}
+use Rattle.sgb_vec.specs.inner.Rising.{box_vectors_rise}
 use Rattle.sgb_vec.proofs.BoxPlaces.{Contains-from_IsBelow, IsBelow-from_Contains}
 use Rattle.sgb_gen.specs.Boards.{BoardData, board_vectors, moves_of_board}
 use Rattle.sgb_gen.specs.Displacements.{displacements, signings, sum_of_squares}
-use Rattle.sgb_gen.specs.EntryBounds.{displacements_within, vectors_within}
-use Rattle.sgb_gen.specs.LocalArcs.{arcs_by, arcs_of_moves}
-use Rattle.sgb_gen.specs.LocalBoards.{arcs_onward, move_arc, moves_by}
+use Rattle.sgb_gen.specs.inner.EntryBounds.{displacements_within, vectors_within}
+use Rattle.sgb_gen.specs.inner.LocalArcs.{arcs_by, arcs_of_moves}
+use Rattle.sgb_gen.specs.inner.LocalBoards.{arcs_onward, move_arc, moves_by}
 use Rattle.sgb_gen.specs.LocalLists.{LocalArc, list_at}
-use Rattle.sgb_gen.specs.Moves.{Side, board_moves, destination, longest_move, moves_from, sides_of}
+use Rattle.sgb_gen.specs.Moves.{Side, board_moves, moves_from, sides_of}
+use Rattle.sgb_gen.specs.inner.Moves.{destination, longest_move}
 use Rattle.sgb_gen.specs.VectorGraphs.{Move, same_vector}
 use Rattle.sgb_gen.proofs.DisplacementLengths.{signings-sizes}
 use Rattle.sgb_gen.proofs.DisplacementWalk.{entries-small}
 use Rattle.sgb_gen.proofs.MoveLists.{HasEnds, list_at-moves}
 use Rattle.sgb_gen.proofs.MovesInOrder.{all_lead, all_start}
 use Rattle.sgb_gen.proofs.NextSignings.{sizes_of}
-use Rattle.sgb_gen.proofs.OrderedLists.{All-flat_map, AllPairs-first, AllPairs-others, Contains-cases, Contains-none, before_none}
+use Rattle.sgb_vec.proofs.Lists.{All-flat_map, AllPairs-first, AllPairs-others, Contains-cases, Contains-none, filter-none}
+use Rattle.sgb_gen.proofs.OrderedLists.{before_none}
 use Rattle.sgb_gen.proofs.Reaches.{destination-below, move, moves_from-until, moves_until}
 
 -- ---- the order turned
@@ -70,10 +72,6 @@ passing_all : {X : Type 0} (p : X → Bool) (xs : List X) → All (λ x. p x ≡
 passing_all p [] h = refl
 passing_all p (x ∷ xs) h = ap (λ c. cond c (x ∷ filter p xs) (filter p xs)) (All-head (λ y. p y ≡ true) x xs h) ∙ ap (λ ys. x ∷ ys) (passing_all p xs (All-tail (λ y. p y ≡ true) x xs h))
 
-passing_none : {X : Type 0} (p : X → Bool) (xs : List X) → All (λ x. p x ≡ false) xs → filter p xs ≡ []
-passing_none p [] h = refl
-passing_none p (x ∷ xs) h = ap (λ c. cond c (x ∷ filter p xs) (filter p xs)) (All-head (λ y. p y ≡ false) x xs h) ∙ passing_none p xs (All-tail (λ y. p y ≡ false) x xs h)
-
 module _ (sides : List Side) (piece : ℤ) (t : List ℤ) (x : List ℕ) where
   abbrev starts_here : Move → Bool
   starts_here m = same_vector m.from x
@@ -96,13 +94,13 @@ module _ (sides : List Side) (piece : ℤ) (t : List ℤ) (x : List ℕ) where
             let is : v ≡ x = (bytes_decides v x).0 same in
             let all : filter starts_here own ≡ own = passing_all starts_here own
             (λ k d within. ap (λ w. same_vector w x) (all_lead sides piece t v k d within).0 ∙ same) in
-            let none : filter starts_here rest ≡ [] = passing_none starts_here rest
+            let none : filter starts_here rest ≡ [] = filter-none starts_here rest
             (λ k d within.
             let after : IsBefore v (get_or rest k d).from = All-contains (IsBefore v) vs (get_or rest k d).from later (all_start sides piece t vs k d within) in
             differs (get_or rest k d).from (λ e. before_none v (subst (IsBefore v) (e ∙ sym is) after))) in
             ap₂ (λ p q. p ++ q) all none ∙ append-nil own ∙ ap (λ w. moves_from sides piece w t) is
         | inr other ↦
-            let none : filter starts_here own ≡ [] = passing_none starts_here own
+            let none : filter starts_here own ≡ [] = filter-none starts_here own
             (λ k d within. ap (λ w. same_vector w x) (all_lead sides piece t v k d within).0 ∙ other) in
             let found : Contains vs x = elim (Contains-cases v x vs there) [
               | inl same ↦ let e : same_vector v x ≡ true = (bytes_decides v x).1 same in absurd (cc)

@@ -7,8 +7,16 @@ use Rattle.sgb_vec.specs.Lexicographic.{IsBelow}
 use Rattle.sgb_gen.specs.Boards.{BoardData}
 use Rattle.sgb_gen.specs.Moves.{sides_of, moves_from}
 use Rattle.sgb_gen.specs.VectorGraphs.{Move}
-use Rattle.sgb_gen.proofs.BoardEvents.{leads, longest}
+use Rattle.sgb_gen.specs.inner.Moves.{destination, longest_move}
 use Rattle.sgb_gen.proofs.Reaches.{destination-below, move, moves_until, moves_from-until}
+
+-- where a piece moves on a board
+abbrev pub leads : BoardData → List ℕ → List ℤ → ℕ → Option (List ℕ)
+leads b x t l = destination (sides_of b.sizes b.wrap) b.piece x t l
+
+-- the greatest length
+abbrev pub longest : BoardData → ℕ
+longest b = longest_move (sides_of b.sizes b.wrap) b.piece
 
 -- the moves of the lengths from l on
 abbrev pub moves_left : BoardData → List ℤ → List ℕ → ℕ → List Move

@@ -2,23 +2,24 @@
 -- displacements within the bounds.
 use Rattle.std.proofs.Common.{◌≡◌, ℕ, zero, suc, ◌+◌, ◌-◌, ◌<◌, ◌≤◌, min, ℤ, pos, negsuc, ◌+ℤ◌, ◌*ℤ◌, nat_abs, Bool, true, false, cond, eqb, ltb, List, [], ◌∷◌, ◌++◌, length, map, replicate, get_or, drop, Option, Some, None, refl, sym, ap, subst, ◌∙◌, inl, inr, arith, append_assoc, append-nil, length-append}
 use Rattle.std.specs.Int.{int_rem_euclid}
-use Rattle.std.specs.List.{All, filter, flat_map, range_with_len}
+use Rattle.std.specs.List.{filter, flat_map, range_with_len}
 use Rattle.std.specs.Option.{option_map_or}
 use Rattle.std.proofs.lemmas.Bool.{cases_Bool, cases_lt, cond-false, le-ltb, eqb-true}
 use Rattle.std.proofs.lemmas.Bool.Decides.{nat_tests}
 use Rattle.std.proofs.lemmas.Grind.{flat_map-append}
 use Rattle.std.proofs.lemmas.Int.{ints}
 use Rattle.std.proofs.lemmas.List.{at_drop_more, drop_all, get_or-map, get_or-replicate, length-map, length-replicate}
-use Rattle.std.proofs.lemmas.List.Elements.{All-head, All-tail, All-weaker, Contains-get_or}
+use Rattle.std.proofs.lemmas.List.Elements.{All-weaker, Contains-get_or}
 use Rattle.std.proofs.lemmas.List.Folds.{flat_map-map}
 use Rattle.sgb_vec.specs.Boxes.{box}
 use Rattle.sgb_vec.specs.Lexicographic.{IsBelow}
 use Rattle.sgb_vec.proofs.BoxPlaces.{IsBelow-from_Contains}
 use Rattle.sgb_gen.specs.Boards.{BoardData, moves_of_board}
 use Rattle.sgb_gen.specs.Displacements.{signings, sum_of_squares, vectors_of_norm, displacements}
-use Rattle.sgb_gen.specs.EntryBounds.{entry_bound, entry_bounds, vectors_within, displacements_within}
-use Rattle.sgb_gen.specs.Moves.{Side, is_bit_set, sides_from_bit, sides_of, within_size, coordinate_on, in_front, place, is_elsewhere, destination, longest_move, moves_from, board_moves}
-use Rattle.sgb_gen.specs.LocalBoards.{moves_by}
+use Rattle.sgb_gen.specs.inner.EntryBounds.{entry_bound, entry_bounds, vectors_within, displacements_within}
+use Rattle.sgb_gen.specs.Moves.{Side, is_bit_set, sides_from_bit, sides_of, within_size, coordinate_on, in_front, place, is_elsewhere, moves_from, board_moves}
+use Rattle.sgb_gen.specs.inner.Moves.{destination, longest_move}
+use Rattle.sgb_gen.specs.inner.LocalBoards.{moves_by}
 use Rattle.sgb_gen.specs.VectorGraphs.{event_among}
 use Rattle.sgb_gen.proofs.AllVectors.{flat_map-same, rows-cut}
 use Rattle.sgb_gen.proofs.BoardEvents.{events_by, events_by-moves, events_of}
@@ -26,6 +27,7 @@ use Rattle.sgb_gen.proofs.Completions.{square-ge, squares-cons}
 use Rattle.sgb_gen.proofs.DisplacementLengths.{HasSizes, signings-sizes}
 use Rattle.sgb_gen.proofs.NextSignings.{sizes_of}
 use Rattle.sgb_gen.proofs.Reaches.{sizes_of_sides, move, moves_until, moves_from-until}
+use Rattle.sgb_vec.proofs.Lists.{flat_map-none}
 
 -- ---- the bounds, side by side
 
@@ -102,11 +104,6 @@ until-none x g (suc n) h = ap (λ o. option_map_or (λ y. move x 1 y ∷ moves_u
 moves-none : (sides : List Side) (piece : ℤ) (x : List ℕ) (t : List ℤ) → place sides x t 1 ≡ None → moves_from sides piece x t ≡ []
 moves-none sides piece x t h =
     moves_from-until sides piece x t ∙ until-none x (destination sides piece x t) (longest_move sides piece) (destination-none sides piece x t 1 h)
-
--- nothing of each makes nothing of all
-flat_map-none : {X Y : Type 0} (f : X → List Y) (xs : List X) → All (λ x. f x ≡ []) xs → flat_map f xs ≡ []
-flat_map-none f [] h = refl
-flat_map-none f (x ∷ xs) h = rw (All-head (λ y. f y ≡ []) x xs h, flat_map-none f xs (All-tail (λ y. f y ≡ []) x xs h)) refl
 
 -- the bounds of a board's entries
 abbrev pub bounds_of : BoardData → List ℕ

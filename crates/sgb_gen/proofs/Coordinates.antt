@@ -1,7 +1,7 @@
 -- The coordinates in the utility fields of the vertices, vertex by vertex.
-use Rattle.std.proofs.Common.{◌≡◌, ℕ, zero, suc, ◌+◌, ◌<◌, pos, List, [], ◌∷◌, ◌++◌, length, map, take, drop, subst, add-one, slice_index, Some, refl, sym, ap, ◌∙◌, arith, append-nil, append_assoc}
+use Rattle.std.proofs.Common.{◌≡◌, ℕ, zero, suc, ◌+◌, ◌<◌, pos, List, [], ◌∷◌, ◌++◌, length, map, take, drop, subst, add-one, slice_index, Some, refl, sym, ap, ◌∙◌, arith, append_assoc}
 use Rattle.std.specs.List.{slice_get}
-use Rattle.std.proofs.lemmas.List.{length-map, map-append, take_all, drop_all, length-take-le}
+use Rattle.std.proofs.lemmas.List.{length-map, map-append, length-take-le}
 use Rattle.std.proofs.lemmas.Option.{slice_get_within}
 use Rattle.sgb_graph.specs.Graphs.{GraphData, chain_of}
 use Rattle.sgb_graph.specs.Growth.{at_place, with_ints, with_number_kinds, some_numbers, put_numbers}
@@ -10,8 +10,7 @@ use Rattle.sgb_graph.specs.declared.fields.Kind.{Kind}
 use Rattle.sgb_graph.specs.declared.fields.Util.{Util}
 use Rattle.sgb_graph.specs.declared.fields.Vertex.{Vertex}
 use Rattle.sgb_graph.proofs.Numbers.{ints_firsts}
-use Rattle.sgb_gen.specs.VectorGraphs.{HasCoordinates}
-use Rattle.sgb_gen.specs.VectorGraphs.{fields_of_vector, kinds_of_family}
+use Rattle.sgb_gen.specs.VectorGraphs.{fields_of_vector}
 use Rattle.sgb_gen.proofs.FamilyWalks.{drop_at_vector, take_at_vector}
 
 -- an element after others changed
@@ -45,11 +44,6 @@ pub record HasSomeCoordinates (vectors : List (List ℕ)) (u : ℕ) (old new : G
   pub firsts : map (λ v. v.arcs) new.vertices ≡ map (λ v. v.arcs) old.vertices
   pub chains : (v : ℕ) → chain_of new v ≡ chain_of old v
 
--- none has at first
-pub coordinates-none : (vectors : List (List ℕ)) (g : GraphData) → g.kinds ≡ no_kinds → map (λ v. v.util) g.vertices ≡ map (λ v. no_fields) vectors → HasSomeCoordinates vectors 0 g g
-coordinates-none vectors g kinds fields =
-    record { id = refl; count = refl; kinds = kinds; util = refl; records = refl; names = refl; fields = fields; firsts = refl; chains = λ v. refl }
-
 -- a map that gives the same for each element
 pub map-each : {X Y Z : Type 0} (f : Y → Z) (g : X → Y) (h : X → Z) → ((x : X) → f (g x) ≡ h x) → (xs : List X) → map f (map g xs) ≡ map h xs
 map-each f g h e [] = refl
@@ -82,20 +76,6 @@ kinds-more : (u : ℕ) → with_number_kinds (kinds_so_far u) ≡ kinds_so_far (
 kinds-more zero = refl
 kinds-more (suc u) = refl
 
--- the kinds and fields with all coordinates
-kinds-all : (u : ℕ) (vectors : List (List ℕ)) → u ≡ length vectors → kinds_so_far u ≡ kinds_of_family vectors
-kinds-all zero [] e = refl
-kinds-all zero (v ∷ vectors) e = absurd (omega arith)
-kinds-all (suc u) [] e = absurd (omega arith)
-kinds-all (suc u) (v ∷ vectors) e = refl
-
-fields-all : (u : ℕ) (vectors : List (List ℕ)) → u ≡ length vectors → fields_so_far u vectors ≡ map fields_of_vector vectors
-fields-all zero [] e = refl
-fields-all zero (v ∷ vectors) e = absurd (omega arith)
-fields-all (suc u) vectors e =
-    ap (λ ws. map fields_of_vector ws ++ map (λ v. zero_fields) (drop (suc u) vectors)) (take_all (suc u) vectors (omega arith))
-    ∙ ap (λ ws. map fields_of_vector vectors ++ map (λ v. zero_fields) ws) (drop_all (suc u) vectors (omega arith)) ∙ append-nil (map fields_of_vector vectors)
-
 -- what the coordinates of a vector, put into the fields of vertex u, leave
 pub record PutsCoordinates (u : ℕ) (v : List ℕ) (old new : GraphData) : Type 0 where
   pub whole : new ≡ with_ints old u (pos (slice_index v 0)) (pos (slice_index v 1)) (pos (slice_index v 2))
@@ -119,17 +99,3 @@ coordinates-more vectors u v old now new at h k =
           ∙ ints_firsts now u (pos (slice_index v 0)) (pos (slice_index v 1)) (pos (slice_index v 2)) ∙ h.firsts;
       chains = λ w. k.chains w ∙ h.chains w;
     })
-
--- all have them
-pub coordinates-all : (vectors : List (List ℕ)) (u : ℕ) (old new : GraphData) → u ≡ length vectors → HasSomeCoordinates vectors u old new → HasCoordinates vectors old new
-coordinates-all vectors u old new e h = record {
-  id = h.id;
-  count = h.count;
-  kinds = h.kinds ∙ kinds-all u vectors e;
-  util = h.util;
-  records = h.records;
-  names = h.names;
-  fields = h.fields ∙ fields-all u vectors e;
-  firsts = h.firsts;
-  chains = h.chains;
-}

@@ -1,10 +1,20 @@
 -- Worked examples of the generators, evaluated.
+
+-- how they show a graph
 pub mod Listings
+-- boards
 pub mod Boards
+-- simplexes
 pub mod Simplexes
+-- subsets
 pub mod Subsets
+-- the graph that a file holds
 pub mod Graphs
+-- lists of one vertex
 pub mod LocalLists
+-- those of simplexes, by pairs of places
 pub mod LocalSimplexes
+-- those of subsets, by a walk
 pub mod LocalSubsets
+-- those of boards, by displacements
 pub mod LocalBoards

@@ -1,24 +1,37 @@
 -- A walk over the vectors of a family, from the first to the last.
-use Rattle.std.proofs.Common.{◌≡◌, ℕ, ◌+◌, ◌<◌, Bool, true, false, List, [], ◌∷◌, ◌++◌, length, map, take, drop, Some, refl, ap, ◌∙◌, arith}
-use Rattle.std.specs.Bool.{OnTrue, OnFalse}
+use Rattle.std.proofs.Common.{◌≡◌, ℕ, ◌+◌, ◌≤◌, List, [], ◌∷◌, ◌++◌, length, map, take, drop, get_or, Some, refl, sym, ap, ◌∙◌, arith, append-nil, append_assoc}
 use Rattle.std.specs.List.{slice_get, flat_map}
-use Rattle.std.proofs.lemmas.List.{at_drop_more, map-append, take_more}
-use Rattle.std.proofs.lemmas.Option.{slice_get_within, get_or_from_slice_get}
-use Rattle.sgb_vec.specs.Order.{IsFirst, IsNext, IsLast}
+use Rattle.std.proofs.lemmas.List.{at_drop_more, drop-drop, get_or-drop, length-drop, map-append, take_more}
+use Rattle.std.proofs.lemmas.Option.{slice_get_within, slice_get_read, get_or_from_slice_get}
+use Rattle.sgb_vec.proofs.RangeSteps.{first_and_rest}
 
--- v stands at this place, if the family has so many vectors
-abbrev pub IsAt : List (List ℕ) → ℕ → List ℕ → Type 0
-IsAt vectors u v = u < length vectors → slice_get vectors u ≡ Some v
+-- of the vectors from a place on the first stands at the place
+pub at_front : (vectors left : List (List ℕ)) (u : ℕ) (v : List ℕ) → left ≡ drop u vectors → slice_get left 0 ≡ Some v → slice_get vectors u ≡ Some v
+at_front vectors left u v is first =
+    let here : slice_get (drop u vectors) 0 ≡ Some v = ap (λ (vs : List (List ℕ)). slice_get vs 0) (sym is) ∙ first in
+    let within = slice_get_within (drop u vectors) 0 v here in
+    let place : u + 0 ≡ u = omega arith in
+    slice_get_read vectors (length vectors) u v refl (omega (arith, length-drop u vectors))
+    (sym (ap (λ k. get_or vectors k v) (sym place) ∙ sym (get_or-drop u vectors 0 v) ∙ get_or_from_slice_get (drop u vectors) 0 v v here))
 
--- the first vector stands at place 0
-pub at_first : (vectors : List (List ℕ)) (v : List ℕ) (found : Bool) → OnTrue found (IsFirst vectors v) → OnFalse found (vectors ≡ []) → IsAt vectors 0 v
-at_first vectors v true first none h = first
-at_first vectors v false first none h = absurd (omega (arith, ap length none))
+-- the others are those from the next place on
+pub next_left : (vectors left rest : List (List ℕ)) (u : ℕ) → left ≡ drop u vectors → rest ≡ drop 1 left → rest ≡ drop (u + 1) vectors
+next_left vectors left rest u is after = after ∙ ap (λ (vs : List (List ℕ)). drop 1 vs) is ∙ drop-drop 1 u vectors
 
--- the next one stands at the next place
-pub at_next : (vectors : List (List ℕ)) (u : ℕ) (v w : List ℕ) (found : Bool) → slice_get vectors u ≡ Some v → OnTrue found (IsNext vectors v w) → OnFalse found (IsLast vectors v) → IsAt vectors (u + 1) w
-at_next vectors u v w true at next last h = next u at
-at_next vectors u v w false at next last h = absurd (omega (arith, last u at))
+-- and where none are left the place is past all
+pub none_left : (vectors left : List (List ℕ)) (u : ℕ) → left ≡ drop u vectors → left ≡ [] → length vectors ≤ u
+none_left vectors left u is none = omega (arith, ap length is, ap length none, length-drop u vectors)
+
+-- what the vectors that are left give comes behind what is there: one vector more, and the end
+pub walked-more : {X : Type 0} (f : List ℕ → List X) (g : List (List ℕ) → List X) → ((v : List ℕ) (vs : List (List ℕ)) → g (v ∷ vs) ≡ f v ++ g vs)
+    → (left rest : List (List ℕ)) (v : List ℕ) (done new all : List X) → done ++ g left ≡ all → slice_get left 0 ≡ Some v → rest ≡ drop 1 left → new ≡ done ++ f v → new ++ g rest ≡ all
+walked-more f g law left rest v done new all so_far first after is =
+    ap (λ l. l ++ g rest) is ∙ append_assoc done (f v) (g rest) ∙ ap (λ l. done ++ l) (sym (law v rest))
+    ∙ ap (λ vs. done ++ g vs) (sym (first_and_rest left rest v v first refl after)) ∙ so_far
+
+pub walked-all : {X : Type 0} (g : List (List ℕ) → List X) → g [] ≡ [] → (left : List (List ℕ)) (done all : List X) → done ++ g left ≡ all → left ≡ [] → done ≡ all
+walked-all g none left done all so_far end =
+    sym (append-nil done) ∙ ap (λ l. done ++ l) (sym (ap g end ∙ none)) ∙ so_far
 
 -- the vectors from a place on
 pub drop_at_vector : (vectors : List (List ℕ)) (u : ℕ) (v : List ℕ) → slice_get vectors u ≡ Some v → drop u vectors ≡ v ∷ drop (u + 1) vectors
@@ -32,15 +45,7 @@ take_at_vector vectors u v at =
     take_more vectors u v (slice_get_within vectors u v at)
     ∙ ap (λ w. take u vectors ++ w ∷ []) (get_or_from_slice_get vectors u v v at)
 
--- what each vector from a place on gives, the one at the place first
-pub flat_map_at : {X : Type 0} (f : List ℕ → List X) (vectors : List (List ℕ)) (u : ℕ) (v : List ℕ) → slice_get vectors u ≡ Some v → flat_map f (drop u vectors) ≡ f v ++ flat_map f (drop (u + 1) vectors)
-flat_map_at f vectors u v at = ap (flat_map f) (drop_at_vector vectors u v at)
-
 -- a map of lists joined
 pub map-flat_map : {X Y Z : Type 0} (f : Y → Z) (g : X → List Y) (xs : List X) → map f (flat_map g xs) ≡ flat_map (λ x. map f (g x)) xs
 map-flat_map f g [] = refl
 map-flat_map f g (x ∷ xs) = map-append f (g x) (flat_map g xs) ∙ ap (λ zs. map f (g x) ++ zs) (map-flat_map f g xs)
-
--- what each vector up to a place is mapped to
-pub map_at_vector : {X : Type 0} (f : List ℕ → X) (vectors : List (List ℕ)) (u : ℕ) (v : List ℕ) → slice_get vectors u ≡ Some v → map f (take (u + 1) vectors) ≡ map f (take u vectors) ++ f v ∷ []
-map_at_vector f vectors u v at = ap (map f) (take_at_vector vectors u v at) ∙ map-append f (take u vectors) (v ∷ [])

@@ -1,47 +1,102 @@
 -- Lemmas that the proofs of sgb_gen share, and worked examples.
+
+-- the squares of a displacement's entries
 pub mod Norms
-pub mod AllVectors
-pub mod Completions
-pub mod DisplacementWalk
-pub mod FirstEntries
-pub mod NextSignings
-pub mod NextVectors
-pub mod Parts
-pub mod Riders
-pub mod Destinations
-pub mod TurnedMoves
-pub mod ShiftLemmas
-pub mod AcceptedBoards
-pub mod Reaches
-pub mod BoardEvents
-pub mod BoundedMoves
+-- numbers that are no sum of two or three squares
 pub mod SumsOfSquares
-pub mod FamilyWalks
+-- a list's first element written apart from the others
+pub mod Parts
+-- the vectors of a norm: the first and the next
+pub mod Completions
+-- that they are all vectors of that norm within bounds
+pub mod AllVectors
+-- the next vector of a norm, as it is written
+pub mod NextVectors
+-- the next signing of a vector's entries
+pub mod NextSignings
+-- signings where the first entry other than 0 stays
+pub mod FirstEntries
+-- a displacement has an entry for each dimension
 pub mod DisplacementLengths
-pub mod Coordinates
-pub mod WrittenIds
-pub mod FamilyGraphs
-pub mod FieldCounts
-pub mod Examples
-pub mod Vertices
-pub mod Places
+-- a walk over displacements, one after another
+pub mod DisplacementWalk
+-- the bits of `wrap`
 pub mod WrapBits
-pub mod CommonSizes
+-- a place, coordinate by coordinate
+pub mod Places
+-- where a move leads
+pub mod Destinations
+-- how far a piece moves
+pub mod Reaches
+-- a rider stops
+pub mod Riders
+-- moves turned back
+pub mod TurnedMoves
+-- displacements above the bounds lead nowhere
+pub mod BoundedMoves
+-- what is known of an accepted board
+pub mod AcceptedBoards
+-- the texts of ids, parameter by parameter
+pub mod WrittenIds
+-- the vertices of vectors
+pub mod Vertices
+-- where a vector stands among rising ones
 pub mod RisingVectors
-pub mod SubsetsEvents
-pub mod TableRows
-pub mod LinkRows
+-- rising lists with the same members are the same
 pub mod OrderedLists
+-- a walk over a family, from the first vector on
+pub mod FamilyWalks
+-- the coordinates in the fields of vertices
+pub mod Coordinates
+-- the graph of a family, made step by step
+pub mod FamilyGraphs
+-- the vectors of a table
+pub mod TableRows
+-- the events of a board, move by move
+pub mod BoardEvents
+-- a unit that goes to a higher place
+pub mod ShiftLemmas
+-- where a vector stands once a unit has gone
 pub mod ShiftedEntries
-pub mod SimplexLists
-pub mod PairWalks
-pub mod SubsetsLists
-pub mod SubsetsWalks
-pub mod TurnedLinks
-pub mod BoardWalks
-pub mod MoveLists
+-- the events of a simplex, move by move
 pub mod SimplexEvents
+-- the events of subsets, move by move
+pub mod SubsetsEvents
+-- what multisets have in common, counted in chunks
+pub mod CommonSizes
+-- arcs kept with their vectors
+pub mod LinkRows
+-- such arcs in the other order
+pub mod TurnedLinks
+-- the list of a vector, from the moves that touch it
+pub mod MoveLists
+-- moves by one displacement, in order
 pub mod MovesInOrder
+-- those that touch a vector
 pub mod TouchingMoves
-pub mod BoardLists
+-- where they start, sorted
 pub mod SortedStarts
+-- moves from a vector, length by length
+pub mod BoardWalks
+-- the list of a vector of a board
+pub mod BoardLists
+-- the list of a vector of a simplex
+pub mod SimplexLists
+-- its arcs, pair of places by pair
+pub mod PairWalks
+-- the list of a vector of subsets
+pub mod SubsetsLists
+-- the walk that makes it, from the last vector back
+pub mod SubsetsWalks
+-- worked examples, evaluated
+pub mod Examples
+-- from how many places steps of a displacement lead to a place of the board
+pub mod BoardCountsStarts
+-- what is known of one length holds of the farther ones
+pub mod BoardCountsFarther
+-- when a rider is home
+pub mod BoardCountsHome
+-- the moves by one displacement, counted length by length
+pub mod BoardCountsLengths
+-- the moves and the arcs of a board, counted
+pub mod BoardCountsBoards

@@ -2,7 +2,7 @@
 use Rattle.std.proofs.Common.{◌≡◌, ℕ, zero, suc, ◌+◌, ◌*◌, ◌<◌, ◌≤◌, pos, List, [], ◌∷◌, ◌++◌, length, get_or, take, drop, Some, refl, ap, ◌∙◌, arith, length-drop}
 use Rattle.std.specs.List.{slice_get}
 use Rattle.std.proofs.lemmas.List.{take_all, take-append-le, drop-append-le, drop-drop}
-use Rattle.sgb_gen.specs.LocalArcs.{arcs_in}
+use Rattle.sgb_gen.specs.inner.LocalArcs.{arcs_in}
 
 -- as many arcs as lengths
 pub length-arcs_in : (width : ℕ) (tips lens : List ℕ) → length (arcs_in width tips lens) ≡ length lens

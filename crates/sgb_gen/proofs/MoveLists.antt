@@ -1,21 +1,22 @@
 -- The list of a vector, as the moves that touch it make it.
-use Rattle.std.proofs.Common.{◌≡◌, ℕ, ◌+◌, min, max, ℤ, pos, Bool, true, false, cond, List, [], ◌∷◌, ◌++◌, length, map, get_or, Some, refl, sym, ap, ap₂, ◌∙◌, inl, inr, arith, append-nil}
+use Rattle.std.proofs.Common.{◌≡◌, ℕ, ◌+◌, min, max, ℤ, pos, Bool, true, false, cond, List, [], ◌∷◌, ◌++◌, length, map, get_or, refl, sym, ap, ap₂, ◌∙◌, inl, inr, arith, append-nil, append_assoc}
 use Rattle.std.specs.Prelude.{◌==◌}
 use Rattle.std.specs.Cmp.Lexicographic.{bytes_decides}
-use Rattle.std.specs.List.{All, Contains, slice_get}
+use Rattle.std.specs.List.{All, Contains}
 use Rattle.std.proofs.lemmas.Bool.{cases_lt}
 use Rattle.std.proofs.lemmas.Bool.Decides.{Decides-eqb}
 use Rattle.std.proofs.lemmas.List.{map-append}
 use Rattle.std.proofs.lemmas.List.Elements.{All-head, All-tail}
-use Rattle.std.proofs.lemmas.Option.{slice_get_read, get_or_from_slice_get}
+use Rattle.std.proofs.lemmas.Option.{get_or_from_slice_get}
 use Rattle.sgb_vec.specs.Lexicographic.{IsRising}
-use Rattle.sgb_graph.specs.Events.{links_at, list_from, rows_of}
+use Rattle.sgb_graph.specs.Events.{links_at, list_from, records_of}
 use Rattle.sgb_graph.specs.declared.fields.Link.{Link}
 use Rattle.sgb_graph.proofs.EventLemmas.{list_none, list_first}
 use Rattle.sgb_gen.specs.VectorGraphs.{Move, event_among, same_vector, vertex_among}
-use Rattle.sgb_gen.specs.LocalArcs.{arcs_by, arcs_of_moves}
+use Rattle.sgb_gen.specs.inner.LocalArcs.{arcs_by, arcs_of_moves}
 use Rattle.sgb_gen.specs.LocalLists.{LocalArc, local_arc, list_at}
-use Rattle.sgb_gen.proofs.RisingVectors.{vertex_in_rising}
+use Rattle.sgb_gen.proofs.RisingVectors.{at_vertex}
+use Rattle.sgb_vec.proofs.Lists.{same_tests}
 
 -- an arc of a link whose tip stands for a vector
 abbrev arc_of : (ℕ → List ℕ) → Link → LocalArc
@@ -43,11 +44,11 @@ either_first false true ps qs h = append-nil qs
 either_first false false ps qs h = refl
 
 -- the arc of v that an arc's record makes
-links_of_arc : (g : ℕ → List ℕ) (v k a b : ℕ) (n : ℤ) → map (arc_of g) (links_at v k (rows_of true (record { from = a; to = b; len = n }))) ≡ one (a == v) (g b) n
+links_of_arc : (g : ℕ → List ℕ) (v k a b : ℕ) (n : ℤ) → map (arc_of g) (links_at v k (records_of true (record { from = a; to = b; len = n }))) ≡ one (a == v) (g b) n
 links_of_arc g v k a b n = mapped_one g (a == v) (record { number = k; tip = b; len = n })
 
 -- those that an edge's two records make
-links_of_edge : (g : ℕ → List ℕ) (v k a b : ℕ) (n : ℤ) → map (arc_of g) (links_at v k (rows_of false (record { from = a; to = b; len = n }))) ≡ one (a == v) (g b) n ++ one (b == v) (g a) n
+links_of_edge : (g : ℕ → List ℕ) (v k a b : ℕ) (n : ℤ) → map (arc_of g) (links_at v k (records_of false (record { from = a; to = b; len = n }))) ≡ one (a == v) (g b) n ++ one (b == v) (g a) n
 links_of_edge g v k a b n =
     mapped_two g (min a b == v) (max a b == v) (record { number = k; tip = max a b; len = n }) (record { number = k + 1; tip = min a b; len = n })
     ∙ elim (cases_lt b a) [
@@ -63,26 +64,20 @@ links_of_edge g v k a b n =
           ap₂ (λ i j. one (i == v) (g j) n ++ one (j == v) (g i) n) low high
     ]
 
--- tests that pass together
-same_tests : (p q : Bool) → (p ≡ true → q ≡ true) → (q ≡ true → p ≡ true) → p ≡ q
-same_tests true true f g = refl
-same_tests true false f g = sym (f refl)
-same_tests false true f g = g refl
-same_tests false false f g = refl
+-- the arcs by some moves and then others
+pub arcs-append : (directed : Bool) (x : List ℕ) (ms ns : List Move) → arcs_of_moves directed x (ms ++ ns) ≡ arcs_of_moves directed x ns ++ arcs_of_moves directed x ms
+arcs-append directed x [] ns = sym (append-nil (arcs_of_moves directed x ns))
+arcs-append directed x (m ∷ ms) ns =
+    ap (λ l. l ++ arcs_by directed x m) (arcs-append directed x ms ns)
+    ∙ append_assoc (arcs_of_moves directed x ns) (arcs_of_moves directed x ms) (arcs_by directed x m)
 
 -- both ends of a move are vertices
 abbrev pub HasEnds : List (List ℕ) → Move → Type 0
 HasEnds vectors m = Contains vectors m.from × Contains vectors m.to
 
 module _ (vectors : List (List ℕ)) (rise : IsRising vectors) where
-  -- a vector stands at the place that is its vertex
-  stands_there : (a : List ℕ) → Contains vectors a → slice_get vectors (vertex_among vectors a) ≡ Some a
-  stands_there a (k, within, at) =
-      let here : slice_get vectors k ≡ Some a = slice_get_read vectors (length vectors) k a refl within (sym at) in
-      ap (slice_get vectors) (vertex_in_rising vectors k a rise here) ∙ here
-
   vector_back : (a : List ℕ) → Contains vectors a → get_or vectors (vertex_among vectors a) [] ≡ a
-  vector_back a h = get_or_from_slice_get vectors (vertex_among vectors a) a [] (stands_there a h)
+  vector_back a h = get_or_from_slice_get vectors (vertex_among vectors a) a [] (at_vertex vectors a rise h)
 
   -- vectors are the same where their vertices are
   pub same_vertex : (a b : List ℕ) → Contains vectors a → Contains vectors b → (vertex_among vectors a == vertex_among vectors b) ≡ same_vector a b
@@ -92,7 +87,7 @@ module _ (vectors : List (List ℕ)) (rise : IsRising vectors) where
       (λ e. (Decides-eqb _ _).1 (ap (vertex_among vectors) ((bytes_decides a b).0 e)))
 
   -- the arcs of x that one move makes
-  move_arcs : (directed : Bool) (x : List ℕ) (k : ℕ) (m : Move) → Contains vectors x → HasEnds vectors m → map (local_arc vectors) (links_at (vertex_among vectors x) k (rows_of directed (event_among vectors m))) ≡ arcs_by directed x m
+  move_arcs : (directed : Bool) (x : List ℕ) (k : ℕ) (m : Move) → Contains vectors x → HasEnds vectors m → map (local_arc vectors) (links_at (vertex_among vectors x) k (records_of directed (event_among vectors m))) ≡ arcs_by directed x m
   move_arcs true x k m hx ends =
       links_of_arc (λ t. get_or vectors t []) (vertex_among vectors x) k (vertex_among vectors m.from) (vertex_among vectors m.to) (pos m.len)
       ∙ ap₂ (λ c t. one c t (pos m.len)) (same_vertex m.from x ends.0 hx) (vector_back m.to ends.1)
@@ -105,7 +100,7 @@ module _ (vectors : List (List ℕ)) (rise : IsRising vectors) where
   from_moves : (directed : Bool) (x : List ℕ) (k : ℕ) (moves : List Move) → Contains vectors x → All (HasEnds vectors) moves → map (local_arc vectors) (list_from directed k (map (event_among vectors) moves) (vertex_among vectors x)) ≡ arcs_of_moves directed x moves
   from_moves directed x k [] hx ends = ap (map (local_arc vectors)) (list_none directed k (vertex_among vectors x))
   from_moves directed x k (m ∷ moves) hx ends =
-      let rows = rows_of directed (event_among vectors m) in
+      let rows = records_of directed (event_among vectors m) in
       ap (map (local_arc vectors)) (list_first directed k (event_among vectors m) (map (event_among vectors) moves) (vertex_among vectors x))
       ∙ map-append (local_arc vectors) (list_from directed (k + length rows) (map (event_among vectors) moves) (vertex_among vectors x)) (links_at (vertex_among vectors x) k rows)
       ∙ ap₂ (λ ps qs. ps ++ qs) (from_moves directed x (k + length rows) moves hx (All-tail (HasEnds vectors) m moves ends)) (move_arcs directed x k m hx (All-head (HasEnds vectors) m moves ends))

@@ -1,12 +1,12 @@
 -- Arcs that are put behind others, pair of places by pair.
-use Rattle.std.proofs.Common.{◌≡◌, ℕ, zero, suc, pos, Bool, true, false, cond, if◌then◌else◌, ◌+◌, ◌<◌, ◌≤◌, List, [], ◌∷◌, ◌++◌, map, reverse, refl, sym, ap, ◌∙◌, arith, append-nil, append_assoc}
+use Rattle.std.proofs.Common.{◌≡◌, ℕ, zero, suc, pos, Bool, true, false, cond, if◌then◌else◌, ◌+◌, ◌<◌, ◌≤◌, List, [], ◌∷◌, ◌++◌, map, reverse, refl, sym, ap, ◌∙◌, arith, append-nil, append_assoc, ◌-◌}
 use Rattle.std.specs.List.{flat_map, range_with_len}
 use Rattle.std.proofs.lemmas.List.{reverse-append}
 use Rattle.std.proofs.lemmas.List.Concat.{flat_map-append}
 use Rattle.sgb_gen.specs.LocalLists.{LocalArc, LinksData}
-use Rattle.sgb_gen.specs.LocalSimplexes.{arc_by_unit, can_return, returned, arcs_back, arcs_on, pairs_down, with_arcs}
+use Rattle.sgb_gen.specs.inner.LocalSimplexes.{arc_by_unit, can_return, returned, arcs_back, arcs_on, pairs_down, with_arcs}
 use Rattle.sgb_gen.specs.Simplexes.{Places, can_move_unit, unit_moved, can_shift, shifted, pairs_from, pairs_of_places}
-use Rattle.sgb_gen.proofs.OrderedLists.{made-append}
+use Rattle.sgb_vec.proofs.Lists.{made-append}
 use Rattle.sgb_gen.proofs.SimplexEvents.{pairs_left, pairs_left-next, pairs_left-none, pairs_after, pairs_after-all, pairs_after-next, pairs_after-none}
 
 -- no arcs
@@ -40,6 +40,15 @@ left-next n j k h = ap reverse (pairs_left-next n j k h) ∙ reverse-append (rec
 
 pub left-none : (n j k : ℕ) → n ≤ k → reverse (pairs_left n j k) ≡ []
 left-none n j k h = ap reverse (pairs_left-none n j k h)
+
+-- one pair more, of what is made of pairs
+pub pair_more : (f : List Places → List LocalArc) → ((ps qs : List Places) → f (ps ++ qs) ≡ f ps ++ f qs) → (n j h : ℕ) (start links new : LinksData) → 0 < h → h ≤ n → links ≡ with_arcs start (f (reverse (pairs_left n j h)))
+    → new ≡ with_arcs links (f (record { lower = j; higher = h - 1 } ∷ [])) → new ≡ with_arcs start (f (reverse (pairs_left n j (h - 1))))
+pair_more f append n j h start links new some within links_is new_is =
+    let at : Places = record { lower = j; higher = h - 1 } in
+    let count : h - 1 + 1 ≡ h = omega arith in
+    with_more start links new _ _ _ links_is new_is
+    (ap f (left-next n j (h - 1) (omega arith) ∙ ap (λ i. reverse (pairs_left n j i) ++ at ∷ []) count) ∙ append (reverse (pairs_left n j h)) (at ∷ []))
 
 -- the pairs of all places, from the last place down
 pub after-next : (n j : ℕ) → j < n → reverse (pairs_after n j) ≡ reverse (pairs_after n (j + 1)) ++ pairs_down n j

@@ -8,7 +8,7 @@ use Rattle.std.proofs.lemmas.Int.{to_z-of_z}
 use Rattle.sgb_vec.specs.Boxes.{box, product_of}
 use Rattle.sgb_vec.specs.Lexicographic.{IsBelow}
 use Rattle.sgb_vec.proofs.BoxPlaces.{length-box}
-use Rattle.sgb_gen.specs.Moves.{destination, longest_move}
+use Rattle.sgb_gen.specs.inner.Moves.{destination, longest_move}
 use Rattle.sgb_gen.specs.VectorGraphs.{Move}
 use Rattle.sgb_gen.proofs.Destinations.{place-below}
 use Rattle.sgb_gen.specs.Moves.{Side, sides_from_bit, sides_of, place, is_elsewhere, places_count, moves_from}

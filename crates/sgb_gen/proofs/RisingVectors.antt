@@ -1,5 +1,5 @@
 -- Vectors in strictly rising lexicographic order: where one stands, and how a search in halves comes to its place.
-use Rattle.std.proofs.Common.{◌≡◌, ℕ, ◌+◌, ◌<◌, ◌≤◌, true, false, List, length, refl, sym, ap, ◌∙◌, inl, inr, arith}
+use Rattle.std.proofs.Common.{◌≡◌, ℕ, ◌<◌, ◌≤◌, true, false, List, length, refl, sym, ap, ◌∙◌, inl, inr, arith}
 use Rattle.std.specs.Prelude.{Some}
 use Rattle.std.specs.Ordering.{nat_cmp, is_gt, ordering_reverse}
 use Rattle.std.specs.Cmp.Lexicographic.{slice_cmp, nat_list_cmp_total}
@@ -11,10 +11,8 @@ use Rattle.std.proofs.lemmas.Option.{slice_get_within, slice_get_read, get_or_fr
 use Rattle.sgb_vec.specs.Lexicographic.{IsBefore, IsRising}
 use Rattle.sgb_gen.specs.VectorGraphs.{vertex_among}
 use Rattle.sgb_gen.proofs.Vertices.{vertex_at}
-
--- no vector is before itself
-before_itself : (v : List ℕ) → IsBefore v v → ⊥
-before_itself v h = let same = tied_itself nat_list_cmp_total v in cc
+use Rattle.sgb_vec.proofs.RisingLists.{place-once}
+use Rattle.sgb_vec.proofs.SumSuccessors.{IsBefore-asymmetric}
 
 -- a vector at an earlier place is before one at a later place
 pub before_later : (vectors : List (List ℕ)) (i j : ℕ) (v w : List ℕ) → IsRising vectors → i < j → slice_get vectors i ≡ Some v → slice_get vectors j ≡ Some w → IsBefore v w
@@ -23,18 +21,15 @@ before_later vectors i j v w rises less here there =
     let at_j = get_or_from_slice_get vectors j w v there in
     rw (at_i, at_j) at (rises i j v less (slice_get_within vectors j w there))
 
--- a vector stands at one place alone
-pub place_once : (vectors : List (List ℕ)) (i j : ℕ) (v : List ℕ) → IsRising vectors → slice_get vectors i ≡ Some v → slice_get vectors j ≡ Some v → j ≡ i
-place_once vectors i j v rises here there =
-    elim (cases_order j i) [
-      | inl same ↦ same
-      | inr (inl less) ↦ absurd (before_itself v (before_later vectors j i v v rises less there here))
-      | inr (inr more) ↦ absurd (before_itself v (before_later vectors i j v v rises more here there))
-    ]
-
 -- which is that of its vertex
 pub vertex_in_rising : (vectors : List (List ℕ)) (i : ℕ) (v : List ℕ) → IsRising vectors → slice_get vectors i ≡ Some v → vertex_among vectors v ≡ i
-vertex_in_rising vectors i v rises at = vertex_at vectors i v at (λ j there. place_once vectors i j v rises at there)
+vertex_in_rising vectors i v rises at = vertex_at vectors i v at (λ j there. place-once IsBefore vectors v j i IsBefore-asymmetric rises there at)
+
+-- and there it stands
+pub at_vertex : (vectors : List (List ℕ)) (v : List ℕ) → IsRising vectors → Contains vectors v → slice_get vectors (vertex_among vectors v) ≡ Some v
+at_vertex vectors v rises (k, within, at) =
+    let here : slice_get vectors k ≡ Some v = slice_get_read vectors (length vectors) k v refl within (sym at) in
+    ap (slice_get vectors) (vertex_in_rising vectors k v rises here) ∙ here
 
 -- v stands at a place from low on and below high
 pub record IsBetween (vectors : List (List ℕ)) (v : List ℕ) (low high : ℕ) : Type 0 where
@@ -73,9 +68,3 @@ between-upper vectors v w low high middle rises there not_after b =
       | inr more ↦ more
     ] in
     record { place = b.place; from = from; below = b.below; at = b.at }
-
--- where one place is left, that is it
-pub between-one : (vectors : List (List ℕ)) (v : List ℕ) (low high : ℕ) → high ≤ low + 1 → IsBetween vectors v low high → slice_get vectors low ≡ Some v
-between-one vectors v low high h b =
-    let same : b.place ≡ low = omega (arith, b.from, b.below) in
-    sym (ap (slice_get vectors) same) ∙ b.at

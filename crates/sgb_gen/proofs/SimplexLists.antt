@@ -1,5 +1,5 @@
 -- The list of a vector of a simplex is made by pairs of its places.
-use Rattle.std.proofs.Common.{◌≡◌, ℕ, zero, suc, ◌+◌, ◌-◌, ◌<◌, ◌≤◌, pos, Bool, true, false, cond, ◌&&◌, List, [], ◌∷◌, ◌++◌, length, map, reverse, get_or, sum, refl, sym, ap, ap₂, subst, ◌∙◌, inl, inr, arith, append-nil, append_assoc}
+use Rattle.std.proofs.Common.{◌≡◌, ℕ, zero, suc, ◌+◌, ◌-◌, ◌<◌, ◌≤◌, pos, Bool, true, false, cond, ◌&&◌, List, [], ◌∷◌, ◌++◌, length, map, reverse, get_or, sum, refl, sym, ap, ap₂, subst, ◌∙◌, inl, inr, arith, append-nil}
 use Rattle.std.specs.Cmp.Lexicographic.{bytes_decides}
 use Rattle.std.specs.List.{All, AllPairs, Contains, filter, flat_map, range_with_len}
 use Rattle.std.proofs.lemmas.Bool.{and_parts, and_from}
@@ -13,13 +13,15 @@ use Rattle.sgb_vec.proofs.SumMembers.{Contains-bounded_sums, bounded_sums-rise}
 use Rattle.sgb_graph.proofs.Lists.{map-map}
 use Rattle.sgb_gen.specs.VectorGraphs.{Move, same_vector}
 use Rattle.sgb_gen.specs.Simplexes.{SimplexData, simplex_vectors, moves_of_simplex, Places, can_shift, shifted, pairs_from, pairs_of_places, moves_by, moves_to}
-use Rattle.sgb_gen.specs.LocalArcs.{arc_if, arcs_by, arcs_of_moves}
+use Rattle.sgb_gen.specs.inner.LocalArcs.{arc_if, arcs_by, arcs_of_moves}
 use Rattle.sgb_gen.specs.LocalLists.{LocalArc, list_at}
-use Rattle.sgb_gen.specs.LocalSimplexes.{can_return, returned, arcs_back, arcs_on, pairs_down, pairs_back, arcs_by_pairs}
-use Rattle.sgb_gen.proofs.MoveLists.{HasEnds, list_at-moves}
+use Rattle.sgb_gen.specs.inner.LocalSimplexes.{can_return, returned, arcs_back, arcs_on, pairs_down, pairs_back, arcs_by_pairs}
+use Rattle.sgb_gen.proofs.MoveLists.{HasEnds, list_at-moves, arcs-append}
 use Rattle.sgb_gen.proofs.SimplexEvents.{shifted_in_simplex}
-use Rattle.sgb_gen.proofs.OrderedLists.{AllPairs-none, AllPairs-first, AllPairs-others, AllPairs-append, AllPairs-map, AllPairs-reverse, AllPairs-follows, range-rises, range-within, Contains-first, Contains-cases, Contains-none, Contains-image, Contains-passing, Contains-flat_map, Contains-range, Contains-reverse, All-flat_map, All-reverse, made-append, before_none, before_trans, rising_same}
+use Rattle.sgb_vec.proofs.Lists.{AllPairs-none, AllPairs-first, AllPairs-others, AllPairs-append, AllPairs-map, AllPairs-reverse, AllPairs-follows, range-rises, range-within, Contains-first, Contains-cases, Contains-none, Contains-image, Contains-passing, Contains-flat_map, Contains-range, Contains-reverse, All-flat_map, All-reverse, made-append, reverse-first, filter-none, flat_map-none, never_true}
+use Rattle.sgb_gen.proofs.OrderedLists.{before_none, before_trans, rising_same}
 use Rattle.sgb_gen.proofs.ShiftedEntries.{IsPair, RisesTo, FallsTo, length-returned, returned-shifted, shifted-returned, can_return-shifted, can_shift-returned, shifted-before, returned-in_sum, shifted-once, returned-before}
+use Rattle.sgb_gen.proofs.Vertices.{other_is}
 
 -- the pairs of place j
 abbrev IsPairOf : ℕ → ℕ → Places → Type 0
@@ -97,13 +99,6 @@ in_pairs_back n at pair =
     (Contains-range 0 n at.lower (omega arith) (omega (arith, pair.0, pair.1)))
     (Contains-reverse (pairs_from n at.lower) at (in_pairs_from n at pair))
 
--- the arcs by some moves and then others
-arcs-append : (directed : Bool) (x : List ℕ) (ms ns : List Move) → arcs_of_moves directed x (ms ++ ns) ≡ arcs_of_moves directed x ns ++ arcs_of_moves directed x ms
-arcs-append directed x [] ns = sym (append-nil (arcs_of_moves directed x ns))
-arcs-append directed x (m ∷ ms) ns =
-    ap (λ l. l ++ arcs_by directed x m) (arcs-append directed x ms ns)
-    ∙ append_assoc (arcs_of_moves directed x ns) (arcs_of_moves directed x ms) (arcs_by directed x m)
-
 -- an arc of length 1
 abbrev unit_arc : List ℕ → LocalArc
 unit_arc v = record { tip = v; len = pos 1 }
@@ -111,29 +106,6 @@ unit_arc v = record { tip = v; len = pos 1 }
 -- the move to v by a pair
 abbrev move_by : List ℕ → Places → Move
 move_by v at = record { from = shifted v at; to = v; len = 1 }
-
--- a test that cannot pass
-fails : (b : Bool) → (b ≡ true → ⊥) → b ≡ false
-fails true h = absurd (h refl)
-fails false h = refl
-
-apart : (v x : List ℕ) → (v ≡ x → ⊥) → same_vector v x ≡ false
-apart v x h = fails (same_vector v x) (λ e. h ((bytes_decides v x).0 e))
-
--- the other order of a list with a first element
-reverse-first : {X : Type 0} (x : X) (xs : List X) → reverse (x ∷ xs) ≡ reverse xs ++ x ∷ []
-reverse-first x xs = reverse-append (x ∷ []) xs
-
-filter_none : (t : Places → Bool) (ps : List Places) → All (λ p. t p ≡ false) ps → filter t ps ≡ []
-filter_none t [] h = refl
-filter_none t (p ∷ ps) h =
-    ap (λ b. cond b (p ∷ filter t ps) (filter t ps)) (All-head (λ q. t q ≡ false) p ps h)
-    ∙ filter_none t ps (All-tail (λ q. t q ≡ false) p ps h)
-
-flat_map_none : {X Y : Type 0} (f : X → List Y) (xs : List X) → All (λ x. f x ≡ []) xs → flat_map f xs ≡ []
-flat_map_none f [] h = refl
-flat_map_none f (x ∷ xs) h =
-    ap (λ l. l ++ flat_map f xs) (All-head (λ y. f y ≡ []) x xs h) ∙ flat_map_none f xs (All-tail (λ y. f y ≡ []) x xs h)
 
 -- a list in two at an element
 split_at : (xs : List (List ℕ)) (v : List ℕ) → Contains xs v → (before : List (List ℕ)) × (after : List (List ℕ)) × (xs ≡ before ++ v ∷ after)
@@ -212,9 +184,9 @@ module _ (bounds x : List ℕ) where
   -- a vector before x is not reached
   none_before : (v : List ℕ) → IsBefore v x → tips_to v ≡ []
   none_before v before =
-      ap (map (λ at. v)) (filter_none (hits v) (pairs_of_places (length v))
+      ap (map (λ at. v)) (filter-none (hits v) (pairs_of_places (length v))
       (All-weaker (IsPair (length v)) (λ p. hits v p ≡ false)
-      (λ p pair. fails (hits v p) (λ e.
+      (λ p pair. never_true (hits v p) (λ e.
       let parts = and_parts (can_shift bounds v p) (same_vector (shifted v p) x) e in
       let there : IsBefore (shifted v p) v = shifted-before bounds v p pair parts.0 in
       before_none x (subst (λ w. IsBefore w x) ((bytes_decides (shifted v p) x).0 parts.1) (before_trans (shifted v p) v x there before))))
@@ -252,7 +224,7 @@ module _ (bounds x : List ℕ) where
   own_moves false [] pairs = refl
   own_moves directed (at ∷ ps) pairs =
       own_first directed at ps (own_moves directed ps (All-tail (IsPair (length x)) at ps pairs)) (can_shift bounds x at) refl
-      (λ can. apart (shifted x at) x (λ e. before_none x (subst (λ w. IsBefore w x) e (shifted-before bounds x at (All-head (IsPair (length x)) at ps pairs) can))))
+      (λ can. other_is (shifted x at) x (λ e. before_none x (subst (λ w. IsBefore w x) e (shifted-before bounds x at (All-head (IsPair (length x)) at ps pairs) can))))
       ∙ own_join directed at ps
 
   -- by one pair at most v is reached
@@ -351,11 +323,11 @@ module _ (bounds x : List ℕ) where
       let late = AllPairs-first IsBefore x after from_x in
       let moves = flat_map (moves_to bounds) in
       let others_before : All (λ v. same_vector v x ≡ false) before =
-      All-weaker (λ w. IsBefore w x) (λ w. same_vector w x ≡ false) (λ w h. apart w x (λ e. before_none x (subst (λ u. IsBefore u x) e h))) before early in
+      All-weaker (λ w. IsBefore w x) (λ w. same_vector w x ≡ false) (λ w h. other_is w x (λ e. before_none x (subst (λ u. IsBefore u x) e h))) before early in
       let others_after : All (λ v. same_vector v x ≡ false) after =
-      All-weaker (IsBefore x) (λ w. same_vector w x ≡ false) (λ w h. apart w x (λ e. before_none x (subst (IsBefore x) e h))) after late in
+      All-weaker (IsBefore x) (λ w. same_vector w x ≡ false) (λ w h. other_is w x (λ e. before_none x (subst (IsBefore x) e h))) after late in
       let none : flat_map tips_to before ≡ [] =
-      flat_map_none tips_to before (All-weaker (λ w. IsBefore w x) (λ w. tips_to w ≡ []) none_before before early) in
+      flat_map-none tips_to before (All-weaker (λ w. IsBefore w x) (λ w. tips_to w ≡ []) none_before before early) in
       let same : flat_map tips_to after ≡ reverse tips_back =
       rising_same (flat_map tips_to after) (reverse tips_back) (tips-rise after (AllPairs-others IsBefore x after from_x)) tips_back-rise
       (all_reached after members) (all_become after within member) in

@@ -14,11 +14,12 @@ use Rattle.std.proofs.lemmas.List.Sorted.{All-permutation, Contains-permutation}
 use Rattle.std.proofs.lemmas.Map.Keys.{IsDistinct-IsPermutation}
 use Rattle.sgb_vec.specs.Boxes.{box}
 use Rattle.sgb_gen.specs.Boards.{BoardData}
-use Rattle.sgb_gen.specs.LocalBoards.{other_starts, own_starts, starts_of}
+use Rattle.sgb_gen.specs.inner.LocalBoards.{other_starts, own_starts, starts_of}
 use Rattle.sgb_gen.specs.Moves.{moves_from, opposite, sides_of}
 use Rattle.sgb_gen.specs.VectorGraphs.{Move, vertex_among}
 use Rattle.sgb_gen.proofs.MovesInOrder.{lengths_rise}
-use Rattle.sgb_gen.proofs.OrderedLists.{AllPairs-append, AllPairs-first, AllPairs-follows, AllPairs-map, AllPairs-none, AllPairs-others, before_trans}
+use Rattle.sgb_vec.proofs.Lists.{AllPairs-append, AllPairs-first, AllPairs-follows, AllPairs-map, AllPairs-none, AllPairs-others}
+use Rattle.sgb_gen.proofs.OrderedLists.{before_trans}
 use Rattle.sgb_gen.proofs.TouchingMoves.{IsEarlier, first_less, in_order_same, pair, second_less, starts_touch, touching, touching_found}
 
 -- the order of pairs of numbers

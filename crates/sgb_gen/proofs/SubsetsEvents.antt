@@ -3,7 +3,7 @@ use Rattle.std.proofs.Common.{◌≡◌, ℕ, suc, ◌+◌, ◌-◌, ◌<◌, �
 use Rattle.std.specs.List.{flat_map, range_with_len, slice_get, Contains}
 use Rattle.std.proofs.lemmas.List.{drop_all, length-take, get_or-take}
 use Rattle.std.proofs.lemmas.Option.{slice_get_within, slice_get_read, get_or_from_slice_get}
-use Rattle.sgb_vec.specs.SumWidth.{length-sum_member}
+use Rattle.sgb_vec.specs.inner.SumWidth.{length-sum_member}
 use Rattle.sgb_vec.proofs.SumMembers.{bounded_sums-rise}
 use Rattle.sgb_graph.specs.Events.{Event}
 use Rattle.sgb_gen.specs.VectorGraphs.{event_among, vertex_among}
@@ -100,6 +100,5 @@ pub is_among : (vectors : List (List ℕ)) (i : ℕ) (u : List ℕ) → slice_ge
 is_among vectors i u at = (i, slice_get_within vectors i u at, get_or_from_slice_get vectors i u u at)
 
 -- the vectors have one width
-pub same_width : (s : SubsetsData) (u v : List ℕ) (i j : ℕ) → slice_get (subsets_vectors s) i ≡ Some u → slice_get (subsets_vectors s) j ≡ Some v → length u ≡ length v
-same_width s u v i j at_u at_v =
-    length-sum_member s.sum u (is_among (subsets_vectors s) i u at_u) ∙ sym (length-sum_member s.sum v (is_among (subsets_vectors s) j v at_v))
+pub same_width : (s : SubsetsData) (u v : List ℕ) → Contains (subsets_vectors s) u → Contains (subsets_vectors s) v → length u ≡ length v
+same_width s u v among_u among_v = length-sum_member s.sum u among_u ∙ sym (length-sum_member s.sum v among_v)

@@ -10,13 +10,15 @@ use Rattle.sgb_vec.specs.Lexicographic.{IsBefore, IsRising}
 use Rattle.sgb_vec.proofs.SumMembers.{bounded_sums-rise}
 use Rattle.sgb_gen.specs.VectorGraphs.{Move, same_vector, vertex_among}
 use Rattle.sgb_gen.specs.Subsets.{SubsetsData, common_size, is_wanted_size, moves_to_place, subsets_vectors, moves_of_subsets}
-use Rattle.sgb_gen.specs.LocalArcs.{arc_if, arcs_by, arcs_of_moves}
+use Rattle.sgb_gen.specs.inner.LocalArcs.{arc_if, arcs_by, arcs_of_moves}
 use Rattle.sgb_gen.specs.LocalLists.{LocalArc, list_at}
-use Rattle.sgb_gen.specs.LocalSubsets.{arcs_to, arcs_by_walk}
+use Rattle.sgb_gen.specs.inner.LocalSubsets.{arcs_to, arcs_by_walk}
 use Rattle.sgb_gen.proofs.FamilyWalks.{drop_at_vector, take_at_vector}
-use Rattle.sgb_gen.proofs.MoveLists.{HasEnds, list_at-moves}
-use Rattle.sgb_gen.proofs.OrderedLists.{All-flat_map, before_none, made-append, range-within}
+use Rattle.sgb_gen.proofs.MoveLists.{HasEnds, list_at-moves, arcs-append}
+use Rattle.sgb_vec.proofs.Lists.{All-flat_map, made-append, range-within, reverse-first}
+use Rattle.sgb_gen.proofs.OrderedLists.{before_none}
 use Rattle.sgb_gen.proofs.RisingVectors.{vertex_in_rising}
+use Rattle.sgb_gen.proofs.Vertices.{other_is}
 
 -- either multiset may stand first
 common-turned : (u v : List ℕ) → common_size u v ≡ common_size v u
@@ -24,22 +26,6 @@ common-turned [] [] = refl
 common-turned [] (y ∷ v) = refl
 common-turned (x ∷ u) [] = refl
 common-turned (x ∷ u) (y ∷ v) = omega (arith, common-turned u v)
-
--- the arcs by some moves and then others
-arcs-append : (directed : Bool) (x : List ℕ) (ms ns : List Move) → arcs_of_moves directed x (ms ++ ns) ≡ arcs_of_moves directed x ns ++ arcs_of_moves directed x ms
-arcs-append directed x [] ns = sym (append-nil (arcs_of_moves directed x ns))
-arcs-append directed x (m ∷ ms) ns =
-    ap (λ l. l ++ arcs_by directed x m) (arcs-append directed x ms ns)
-    ∙ append_assoc (arcs_of_moves directed x ns) (arcs_of_moves directed x ms) (arcs_by directed x m)
-
--- the other order of a list with a first element
-reverse-first : {X : Type 0} (x : X) (xs : List X) → reverse (x ∷ xs) ≡ reverse xs ++ x ∷ []
-reverse-first x xs = reverse-append (x ∷ []) xs
-
--- a test that cannot pass
-fails : (b : Bool) → (b ≡ true → ⊥) → b ≡ false
-fails true h = absurd (h refl)
-fails false h = refl
 
 -- an element that is made where a test passes
 made_if : (b : Bool) (v : List ℕ) → map {B = LocalArc} (λ y. record { tip = y; len = pos 1 }) (cond b (v ∷ []) []) ≡ cond b (record { tip = v; len = pos 1 } ∷ []) []
@@ -261,13 +247,13 @@ module _ (vectors : List (List ℕ)) (p : ℕ) (x : List ℕ) (rise : IsRising v
   differs_at k d less =
       let there : get_or vectors p d ≡ x = get_or_from_slice_get vectors p x d at in
       let before : IsBefore (get_or vectors k d) x = subst (IsBefore (get_or vectors k d)) there (rise k p d less (slice_get_within vectors p x at)) in
-      fails (same_vector (get_or vectors k d) x) (λ e. before_none x (subst (λ y. IsBefore y x) ((bytes_decides (get_or vectors k d) x).0 e) before))
+      other_is (get_or vectors k d) x (λ e. before_none x (subst (λ y. IsBefore y x) e before))
 
   differs_after : (k : ℕ) (d : List ℕ) → p < k → k < length vectors → same_vector (get_or vectors k d) x ≡ false
   differs_after k d more within =
       let there : get_or vectors p d ≡ x = get_or_from_slice_get vectors p x d at in
       let after : IsBefore x (get_or vectors k d) = subst (λ y. IsBefore y (get_or vectors k d)) there (rise p k d more within) in
-      fails (same_vector (get_or vectors k d) x) (λ e. before_none x (subst (IsBefore x) ((bytes_decides (get_or vectors k d) x).0 e) after))
+      other_is (get_or vectors k d) x (λ e. before_none x (subst (IsBefore x) e after))
 
   earlier_differ : All (λ v. same_vector v x ≡ false) (take p vectors)
   earlier_differ k d within =

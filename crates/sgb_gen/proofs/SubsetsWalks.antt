@@ -1,93 +1,87 @@
 -- A walk over the vectors of subsets from the last one back, which puts arcs behind others.
-use Rattle.std.proofs.Common.{◌≡◌, ℕ, ◌+◌, ◌-◌, ◌<◌, ◌≤◌, Bool, true, false, not, List, [], ◌∷◌, ◌++◌, length, reverse, take, drop, get_or, Some, refl, sym, ap, ◌∙◌, inl, inr, arith, append-nil, append_assoc}
-use Rattle.std.specs.Bool.{OnTrue, OnFalse}
-use Rattle.std.specs.Cmp.Lexicographic.{bytes_decides}
+use Rattle.std.proofs.Common.{◌≡◌, ◌≢◌, ℕ, ◌+◌, ◌-◌, List, [], ◌∷◌, ◌++◌, length, reverse, take, drop, get_or, Some, refl, sym, ap, subst, ◌∙◌, inl, inr, arith, append-nil, append_assoc}
 use Rattle.std.specs.List.{Contains, slice_get}
-use Rattle.std.proofs.lemmas.Bool.{cases_lt, true≢false}
-use Rattle.std.proofs.lemmas.List.{drop_all, get_or-take, length-take}
-use Rattle.std.proofs.lemmas.Option.{get_or_from_slice_get, slice_get_read, slice_get_within}
-use Rattle.sgb_vec.proofs.SumMembers.{bounded_sums-rise}
-use Rattle.sgb_vec.specs.Order.{IsFinal, IsPrevious, HasNoneBefore}
-use Rattle.sgb_gen.specs.LocalLists.{LocalArc, LinksData}
-use Rattle.sgb_gen.specs.LocalSubsets.{arcs_to}
-use Rattle.sgb_gen.specs.Subsets.{SubsetsData, subsets_vectors}
-use Rattle.sgb_gen.specs.VectorGraphs.{same_vector, vertex_among}
-use Rattle.sgb_gen.proofs.FamilyWalks.{drop_at_vector}
+use Rattle.std.proofs.lemmas.List.{drop_at, length-append, length_push, take-append-drop, take_at}
+use Rattle.std.proofs.lemmas.List.Elements.{Contains-append_cases, Contains-append_left}
+use Rattle.std.proofs.lemmas.Option.{slice_get_read}
+use Rattle.std.proofs.Math.Seq.{get_or-append_seam}
+use Rattle.sgb_vec.specs.Lexicographic.{IsRising}
+use Rattle.sgb_vec.specs.Order.{IsFinal}
+use Rattle.sgb_vec.proofs.Lists.{Contains-cases, Contains-none}
+use Rattle.sgb_vec.proofs.RangeSteps.{rest_and_last}
+use Rattle.sgb_gen.specs.LocalLists.{LinksData}
+use Rattle.sgb_gen.specs.inner.LocalSubsets.{arcs_to}
+use Rattle.sgb_gen.specs.VectorGraphs.{vertex_among}
 use Rattle.sgb_gen.proofs.RisingVectors.{vertex_in_rising}
+use Rattle.sgb_gen.proofs.SubsetsEvents.{is_among}
 use Rattle.sgb_gen.proofs.SubsetsLists.{back-first}
+use Rattle.sgb_gen.proofs.PairWalks.{with_none, with_more}
+use Rattle.sgb_gen.specs.inner.LocalSimplexes.{with_arcs}
 
--- the last vector stands at the last place
-pub at_last : (vectors : List (List ℕ)) (v : List ℕ) (found : Bool) → OnTrue found (IsFinal vectors v) → OnFalse found (vectors ≡ []) → 0 < length vectors → slice_get vectors (length vectors - 1) ≡ Some v
-at_last vectors v true final none some = final
-at_last vectors v false final none some = absurd (omega (arith, ap length none))
+-- of these vectors so many are left, and the arcs of x to those after them are there
+pub record IsWalked (size_bits : ℕ) (x : List ℕ) (vectors : List (List ℕ)) (start : LinksData) (left : List (List ℕ)) (links : LinksData) : Type 0 where
+  pub after : List (List ℕ)
+  pub whole : vectors ≡ left ++ after
+  pub there : links ≡ with_arcs start (arcs_to size_bits x (reverse after))
 
--- a vector of subsets stands at its vertex, and nowhere else
-pub vertex_place : (s : SubsetsData) (k : ℕ) (v : List ℕ) → slice_get (subsets_vectors s) k ≡ Some v → vertex_among (subsets_vectors s) v ≡ k
-vertex_place s k v at = vertex_in_rising (subsets_vectors s) k v (bounded_sums-rise s.sum.total s.sum.bounds) at
+module _ (size_bits : ℕ) (x : List ℕ) (vectors : List (List ℕ)) (start : LinksData) where
+  -- at first all are left
+  pub walked-none : IsWalked size_bits x vectors start vectors start
+  walked-none = record {
+    after = [];
+    whole = sym (append-nil vectors);
+    there = with_none start;
+  }
 
-pub at_vertex : (s : SubsetsData) (v : List ℕ) → Contains (subsets_vectors s) v → slice_get (subsets_vectors s) (vertex_among (subsets_vectors s) v) ≡ Some v
-at_vertex s v (k, within, at) =
-    let here : slice_get (subsets_vectors s) k ≡ Some v = slice_get_read (subsets_vectors s) (length (subsets_vectors s)) k v refl within (sym at) in
-    ap (slice_get (subsets_vectors s)) (vertex_place s k v here) ∙ here
+  -- then the last of those that are left is among them
+  pub last_there : (left : List (List ℕ)) (links : LinksData) (y : List ℕ) → IsWalked size_bits x vectors start left links → IsFinal left y → Contains vectors y
+  last_there left links y w last =
+      subst (λ vs. Contains vs y) (sym w.whole) (Contains-append_left left w.after y (is_among left (length left - 1) y last))
 
--- where x and y are not the same, and where they are
-pub unlike : (u v : List ℕ) → true ≡ not (same_vector u v) → u ≡ v → ⊥
-unlike u v test same = true≢false (test ∙ ap not ((bytes_decides u v).1 same))
+  -- with the arc to it there is one fewer left
+  pub walked-more : (left rest : List (List ℕ)) (links new : LinksData) (y : List ℕ) → IsWalked size_bits x vectors start left links → IsFinal left y → rest ≡ take (length left - 1) left → new ≡ with_arcs links (arcs_to size_bits x (y ∷ [])) → IsWalked size_bits x vectors start rest new
+  walked-more left rest links new y w last back is =
+      record {
+        after = y ∷ w.after;
+        whole = w.whole ∙ ap (λ l. l ++ w.after) (rest_and_last left rest y y last refl back) ∙ append_assoc rest (y ∷ []) w.after;
+        there = with_more start links new _ _ _ w.there is (back-first size_bits x y w.after);
+      }
 
-passed : (b : Bool) → false ≡ not b → b ≡ true
-passed true e = refl
-passed false e = e
+  -- at last the arcs to all are there
+  pub walked-all : (left : List (List ℕ)) (links : LinksData) → IsWalked size_bits x vectors start left links → left ≡ [] → links ≡ with_arcs start (arcs_to size_bits x (reverse vectors))
+  walked-all left links w none =
+      w.there ∙ ap (λ l. with_arcs start (arcs_to size_bits x (reverse l))) (sym (w.whole ∙ ap (λ l. l ++ w.after) none))
 
-pub alike : (u v : List ℕ) → false ≡ not (same_vector u v) → u ≡ v
-alike u v test = (bytes_decides u v).0 (passed (same_vector u v) test)
-
--- where the last of the first k vectors is not x, x is among those before it
-pub still_before : (s : SubsetsData) (x y : List ℕ) (k : ℕ) → Contains (subsets_vectors s) x → slice_get (subsets_vectors s) (k - 1) ≡ Some y → (y ≡ x → ⊥) → vertex_among (subsets_vectors s) x < k → vertex_among (subsets_vectors s) x < k - 1
-still_before s x y k member at differ among =
-    let vectors = subsets_vectors s in
-    let place = vertex_among vectors x in
-    elim (cases_lt place (k - 1)) [
-      | inl less ↦ less
-      | inr more ↦
-          let same : k - 1 ≡ place = omega (arith, more, among) in
-          absurd (differ (sym (get_or_from_slice_get vectors (k - 1) y x at) ∙ ap (λ i. get_or vectors i x) same ∙ get_or_from_slice_get vectors place x x (at_vertex s x member)))
-    ]
-
--- the one before stands at the place before
-pub at_previous : (vectors : List (List ℕ)) (u : ℕ) (v w : List ℕ) (found : Bool) → slice_get vectors u ≡ Some v → OnTrue found (IsPrevious vectors v w) → OnFalse found (HasNoneBefore vectors v) → 0 < u → slice_get vectors (u - 1) ≡ Some w
-at_previous vectors u v w true at previous first more = (previous u at).1
-at_previous vectors u v w false at previous first more = absurd (omega (arith, first u at))
-
--- links with these arcs behind the others
-abbrev pub behind : LinksData → List LocalArc → LinksData
-behind links arcs = record links { arcs = links.arcs ++ arcs }
-
-pub behind-none : (links : LinksData) → links ≡ behind links []
-behind-none links = ap (λ arcs. record links { arcs = arcs }) (sym (append-nil links.arcs))
-
--- some arcs and then more
-pub behind-more : (start links new : LinksData) (some more all : List LocalArc) → links ≡ behind start some → new ≡ behind links more → all ≡ some ++ more → new ≡ behind start all
-behind-more start links new some more all links_is new_is all_is =
-    new_is ∙ ap (λ l. behind l more) links_is
-    ∙ ap (λ arcs. record { width = start.width; arcs = arcs }) (append_assoc start.arcs some more)
-    ∙ ap (behind start) (sym all_is)
-
--- the arcs of x to the vectors from the last one back to place k
-abbrev pub arcs_back : ℕ → List ℕ → List (List ℕ) → ℕ → List LocalArc
-arcs_back size_bits x vectors k = arcs_to size_bits x (reverse (drop k vectors))
-
--- past the last place there are none
-pub back-none : (size_bits : ℕ) (x : List ℕ) (vectors : List (List ℕ)) (k : ℕ) → length vectors ≤ k → arcs_back size_bits x vectors k ≡ []
-back-none size_bits x vectors k h = ap (λ l. arcs_to size_bits x (reverse l)) (drop_all k vectors h)
-
--- at a place comes the arc to its vector
-pub back-next : (size_bits : ℕ) (x : List ℕ) (vectors : List (List ℕ)) (k : ℕ) (y : List ℕ) → slice_get vectors k ≡ Some y → arcs_back size_bits x vectors k ≡ arcs_back size_bits x vectors (k + 1) ++ arcs_to size_bits x (y ∷ [])
-back-next size_bits x vectors k y at =
-    ap (λ l. arcs_to size_bits x (reverse l)) (drop_at_vector vectors k y at) ∙ back-first size_bits x y (drop (k + 1) vectors)
+  -- at x those up to it are left, and with its own arc those to it and the ones after it are there
+  pub walked-to : IsRising vectors → (left : List (List ℕ)) (links new : LinksData) → IsWalked size_bits x vectors start left links → IsFinal left x → new ≡ with_arcs links (arcs_to size_bits x (x ∷ []))
+      → (left ≡ take (vertex_among vectors x + 1) vectors) × (new ≡ with_arcs start (arcs_to size_bits x (reverse (drop (vertex_among vectors x) vectors))))
+  unfolding walked-more
+  walked-to rise left links new w last is =
+      let rest = take (length left - 1) left in
+      let more = walked-more left rest links new x w last refl is in
+      let long : length left ≡ length rest + 1 = ap length (rest_and_last left rest x x last refl refl) ∙ length_push rest x in
+      let at : slice_get vectors (length rest) ≡ Some x =
+      slice_get_read vectors (length vectors) (length rest) x refl (omega (arith, ap length more.whole, length-append rest (x ∷ w.after)))
+      (sym (ap (λ vs. get_or vs (length rest) x) more.whole ∙ get_or-append_seam rest x w.after x)) in
+      let place : vertex_among vectors x ≡ length rest = vertex_in_rising vectors (length rest) x rise at in
+      let front : take (vertex_among vectors x + 1) vectors ≡ left =
+      ap (take (vertex_among vectors x + 1)) w.whole ∙ take_at left w.after (vertex_among vectors x + 1) (omega (arith, long, place)) in
+      let back : drop (vertex_among vectors x) vectors ≡ x ∷ w.after =
+      ap (drop (vertex_among vectors x)) more.whole ∙ drop_at rest (x ∷ w.after) (vertex_among vectors x) (sym place) in
+      (sym front, more.there ∙ ap (λ l. with_arcs start (arcs_to size_bits x (reverse l))) (sym back))
 
 -- a vector among the first n
-pub among_first : (vectors : List (List ℕ)) (n k : ℕ) (y : List ℕ) → k < n → slice_get vectors k ≡ Some y → slice_get (take n vectors) k ≡ Some y
-among_first vectors n k y less at =
-    let within = slice_get_within vectors k y at in
-    slice_get_read (take n vectors) (length (take n vectors)) k y refl (omega (arith, length-take n vectors))
-    (sym (get_or-take n vectors k y less ∙ get_or_from_slice_get vectors k y y at))
+pub among_all : (n : ℕ) (vectors : List (List ℕ)) (y : List ℕ) → Contains (take n vectors) y → Contains vectors y
+among_all n vectors y there =
+    subst (λ vs. Contains vs y) (take-append-drop n vectors) (Contains-append_left (take n vectors) (drop n vectors) y there)
+
+-- another vector than the last one stands before it
+pub still_there : (left rest : List (List ℕ)) (x y : List ℕ) → Contains left x → IsFinal left y → rest ≡ take (length left - 1) left → y ≢ x → Contains rest x
+still_there left rest x y there last back other =
+    elim (Contains-append_cases rest (y ∷ []) x (subst (λ l. Contains l x) (rest_and_last left rest y y last refl back) there)) [
+      | inl before ↦ before
+      | inr end ↦ elim (Contains-cases y x [] end) [
+        | inl same ↦ absurd (other same)
+        | inr none ↦ absurd (Contains-none x none)
+      ]
+    ]

@@ -1,12 +1,10 @@
 -- The vectors of a table, which stand one after another.
-use Rattle.std.proofs.Common.{◌≡◌, ℕ, zero, suc, ◌+◌, ◌*◌, ◌<◌, ◌≤◌, List, [], ◌∷◌, ◌++◌, length, take, drop, Some, refl, ap, ◌∙◌, arith, append-nil, length-append}
+use Rattle.std.proofs.Common.{◌≡◌, ℕ, zero, suc, ◌+◌, ◌*◌, ◌<◌, ◌≤◌, List, [], ◌∷◌, ◌++◌, length, take, drop, Some, refl, ap, ◌∙◌, arith, length-append}
 use Rattle.std.specs.List.{All, Contains, flat_map, slice_get}
 use Rattle.std.proofs.lemmas.List.{take_at, drop_at, drop-drop}
-use Rattle.std.proofs.lemmas.List.Concat.{flat_map-append}
 use Rattle.std.proofs.lemmas.List.Elements.{All-head, All-tail, All-contains_itself, All-weaker}
 use Rattle.std.proofs.lemmas.Nat.{mul-le}
-use Rattle.sgb_gen.specs.Tables.{rows}
-use Rattle.sgb_gen.proofs.FamilyWalks.{take_at_vector}
+use Rattle.sgb_gen.specs.inner.Tables.{rows}
 
 -- the vectors one after another
 abbrev pub joined : List (List ℕ) → List ℕ
@@ -55,9 +53,3 @@ rows-joined width (v ∷ vectors) h =
     let others : rows width (length vectors) (drop width (v ++ joined vectors)) ≡ vectors =
     ap (rows width (length vectors)) (drop_at v (joined vectors) width wide) ∙ rows-joined width vectors (All-tail (λ w. length w ≡ width) v vectors h) in
     rw (first, others) refl
-
--- one more vector after those before it
-pub joined_at_vector : (vectors : List (List ℕ)) (u : ℕ) (v : List ℕ) → slice_get vectors u ≡ Some v → joined (take (u + 1) vectors) ≡ joined (take u vectors) ++ v
-joined_at_vector vectors u v at =
-    ap joined (take_at_vector vectors u v at) ∙ flat_map-append (λ w. w) (take u vectors) (v ∷ [])
-    ∙ ap (λ es. joined (take u vectors) ++ es) (append-nil v)

@@ -10,18 +10,20 @@ use Rattle.std.proofs.lemmas.List.Elements.{All-append, All-contains_itself, All
 use Rattle.std.proofs.lemmas.List.Kept.{AllPairs-filter}
 use Rattle.sgb_vec.specs.Boxes.{box}
 use Rattle.sgb_vec.specs.Lexicographic.{IsBefore, IsBelow}
-use Rattle.sgb_vec.specs.Rising.{box_vectors_rise}
+use Rattle.sgb_vec.specs.inner.Rising.{box_vectors_rise}
 use Rattle.sgb_vec.proofs.BoxPlaces.{Contains-from_IsBelow, IsBelow-from_Contains}
 use Rattle.sgb_gen.specs.Boards.{BoardData}
-use Rattle.sgb_gen.specs.LocalArcs.{arc_if, arcs_by}
-use Rattle.sgb_gen.specs.LocalBoards.{arcs_of_starts, arcs_onward, edge_arcs, moves_by, other_starts, own_starts, starts_of}
+use Rattle.sgb_gen.specs.inner.LocalArcs.{arc_if, arcs_by}
+use Rattle.sgb_gen.specs.inner.LocalBoards.{arcs_of_starts, arcs_onward, edge_arcs, moves_by, other_starts, own_starts, starts_of}
 use Rattle.sgb_gen.specs.LocalLists.{LocalArc}
-use Rattle.sgb_gen.specs.Moves.{LeadsTo, Side, destination, moves_from, opposite, place, sides_of}
+use Rattle.sgb_gen.specs.Moves.{LeadsTo, Side, moves_from, opposite, place, sides_of}
+use Rattle.sgb_gen.specs.inner.Moves.{destination}
 use Rattle.sgb_gen.specs.VectorGraphs.{Move, same_vector, vertex_among}
 use Rattle.sgb_gen.proofs.Destinations.{place-below}
 use Rattle.sgb_gen.proofs.MoveLists.{same_vertex}
 use Rattle.sgb_gen.proofs.MovesInOrder.{ComesBefore, all_lead, all_start, move_there, moves_in_order, vertices_in_order}
-use Rattle.sgb_gen.proofs.OrderedLists.{All-flat_map, AllPairs-follows, AllPairs-map, Contains-flat_map, Contains-image, Contains-passing, before_at, made-append, rising_same}
+use Rattle.sgb_vec.proofs.Lists.{All-flat_map, AllPairs-follows, AllPairs-map, Contains-flat_map, Contains-image, Contains-passing, made-append}
+use Rattle.sgb_gen.proofs.OrderedLists.{before_at, rising_same}
 use Rattle.sgb_gen.proofs.Reaches.{move, sizes_of_sides}
 use Rattle.sgb_gen.proofs.Riders.{Contains-rider_reach}
 use Rattle.sgb_gen.proofs.TurnedMoves.{moves_turned}

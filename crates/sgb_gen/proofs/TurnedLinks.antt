@@ -2,7 +2,7 @@
 use Rattle.std.proofs.Common.{◌≡◌, ℕ, zero, suc, ◌+◌, ◌*◌, ◌≤◌, pos, List, [], ◌∷◌, ◌++◌, length, reverse, take, drop, refl, sym, ap, ap₂, ◌∙◌, arith, append-nil, length-append, length-drop}
 use Rattle.std.proofs.Math.Seq.{take-append-add, drop-append-add}
 use Rattle.std.proofs.lemmas.List.{append_assoc, take_all, take-append-le, drop-append-le, length-take-le, take-append-drop, length-reverse, reverse-append, reverse-reverse}
-use Rattle.sgb_gen.specs.LocalArcs.{arcs_in, rows_turned}
+use Rattle.sgb_gen.specs.inner.LocalArcs.{arcs_in, rows_turned}
 use Rattle.sgb_gen.proofs.LinkRows.{arcs_in-push}
 
 -- entries keep their number

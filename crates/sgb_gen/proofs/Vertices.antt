@@ -14,7 +14,7 @@ pub same_is : (v : List ℕ) → same_vector v v ≡ true
 same_is v = (bytes_decides v v).1 refl
 
 -- or not
-other_is : (v w : List ℕ) → v ≢ w → same_vector v w ≡ false
+pub other_is : (v w : List ℕ) → v ≢ w → same_vector v w ≡ false
 other_is v w other =
     elim (cases_Bool (same_vector v w)) [
       | inl same ↦ absurd (other ((bytes_decides v w).0 same))

@@ -1,7 +1,6 @@
 -- The graphs of boards [GB_BASIC, board].
-use Rattle.std.specs.Prelude.{◌≡◌, ℕ, zero, suc, ◌<◌, ◌≤◌, ℤ, pos, negsuc, nat_abs, nat_lt, Bool, List, [], ◌∷◌, ◌++◌, length, Result, Ok, Err, codes, if◌then◌else◌}
-use Rattle.sgb_vec.specs.Boxes.{box, box_of, product_of}
-use Rattle.sgb_vec.specs.Limits.{most_dimensions, most_vertices}
+use Rattle.std.specs.Prelude.{ℕ, zero, suc, ℤ, pos, negsuc, nat_abs, nat_lt, Bool, List, [], ◌∷◌, ◌++◌, length, Result, Ok, Err, codes, if◌then◌else◌}
+use Rattle.sgb_vec.specs.Boxes.{box, box_of}
 use Rattle.sgb_vec.specs.Results.{and_then}
 use Rattle.sgb_vec.specs.Sizes.{board_of}
 use Rattle.sgb_vec.specs.declared.panics.Panic.{Panic}
@@ -40,15 +39,6 @@ accepted_board p =
     and_then (box_of shape.sizes) (λ sizes.
     and_then (piece_of p.piece) (λ piece.
     Ok (record { params = shape.params; sizes = sizes; piece = piece; wrap = p.wrap; directed = p.directed }))))
-
--- four parameters, the sizes and the piece of an accepted board: not too many dimensions, vertices or steps, and
--- a piece
-pub record IsAccepted (params : List ℤ) (sizes : List ℕ) (piece : ℤ) : Type 0 where
-  pub parameters : length params ≡ 4
-  pub dimensions : length sizes ≤ most_dimensions
-  pub vertices : product_of sizes ≤ most_vertices
-  pub some_piece : 0 < nat_abs piece
-  pub small_piece : nat_abs piece ≤ most_piece
 
 -- its id: board(n1,n2,n3,n4,piece,wrap,directed)
 unfoldable pub board_id : BoardData → List ℕ

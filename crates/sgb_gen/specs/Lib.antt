@@ -1,17 +1,22 @@
 -- What the contracts of sgb_gen speak of.
+
+-- the limits of pieces and of size bits
 pub mod Limits
+-- the graph of a family of vectors
 pub mod VectorGraphs
+-- the displacements of a piece
 pub mod Displacements
-pub mod LaterDisplacements
+-- the moves of a piece on a board
 pub mod Moves
-pub mod EntryBounds
+-- boards: parameters, ids, graphs
 pub mod Boards
+-- simplexes: parameters, ids, graphs
 pub mod Simplexes
+-- subsets: parameters, ids, graphs
 pub mod Subsets
-pub mod Tables
+-- the list of arcs of one vertex
 pub mod LocalLists
-pub mod LocalArcs
-pub mod LocalSimplexes
-pub mod LocalSubsets
-pub mod LocalBoards
+-- the short names
 pub mod Shorthands
+-- what only private contracts and proofs speak of
+pub mod inner

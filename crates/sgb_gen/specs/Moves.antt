@@ -58,16 +58,6 @@ is_elsewhere x (Some y) = not (same_vector y x)
 abbrev pub places_count : List Side → ℕ
 places_count sides = product_of (map (λ s. s.size) sides)
 
--- where the piece moves from x by t at length l, if it does: a rider stops before its start
-abbrev pub destination : List Side → ℤ → List ℕ → List ℤ → ℕ → Option (List ℕ)
-destination sides (pos p) x t l = place sides x t l
-destination sides (negsuc p) x t l = if is_elsewhere x (place sides x t l) then place sides x t l else None
-
--- the greatest length that a move may have
-abbrev pub longest_move : List Side → ℤ → ℕ
-longest_move sides (pos p) = 1
-longest_move sides (negsuc p) = places_count sides
-
 -- the lengths of a rider's moves from x by t: all from 1 on below the least at which the place does not exist
 -- or is x. As many steps as there are places always lead out of the board or back to x
 abbrev pub rider_reach : List Side → List ℕ → List ℤ → List ℕ

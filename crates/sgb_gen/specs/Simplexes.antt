@@ -1,10 +1,9 @@
 -- The graphs of simplexes [GB_BASIC, simplex].
-use Rattle.std.specs.Prelude.{◌≡◌, ◌<◌, ◌≤◌, ℕ, ◌+◌, ◌-◌, nat_lt, ℤ, Bool, true, ◌&&◌, List, [], ◌∷◌, ◌++◌, length, map, filter, slice_index, slice_set, sum, Result, Ok, codes}
+use Rattle.std.specs.Prelude.{◌≡◌, ◌<◌, ℕ, ◌+◌, ◌-◌, nat_lt, ℤ, Bool, true, ◌&&◌, List, [], ◌∷◌, ◌++◌, length, map, filter, slice_index, slice_set, sum, Result, Ok, codes}
 use Rattle.std.specs.List.{flat_map, range_with_len}
 use Rattle.sgb_vec.specs.Results.{and_then}
 use Rattle.sgb_vec.specs.Bounds.{simplex_of}
 use Rattle.sgb_vec.specs.Lexicographic.{IsWithin}
-use Rattle.sgb_vec.specs.Limits.{most_dimensions, most_vertices}
 use Rattle.sgb_vec.specs.Sums.{BoundedSum, bounded_sums, sum_of}
 use Rattle.sgb_vec.specs.declared.panics.Panic.{Panic}
 use Rattle.sgb_graph.specs.Descriptions.{Description}
@@ -26,12 +25,6 @@ accepted_simplex p =
     and_then (simplex_of p.n p.n0 p.n1 p.n2 p.n3 p.n4) (λ shape.
     and_then (sum_of p.n shape.sizes) (λ s.
     Ok (record { params = shape.params; sum = s; directed = p.directed })))
-
--- six parameters and the sum of an accepted simplex, or of accepted subsets: not too many bounds or vectors
-pub record IsAcceptedSum (params : List ℤ) (s : BoundedSum) : Type 0 where
-  pub parameters : length params ≡ 6
-  pub dimensions : length s.bounds ≤ most_dimensions + 1
-  pub vertices : length (bounded_sums s.total s.bounds) ≤ most_vertices
 
 -- two places in a vector
 pub record Places : Type 0 where

@@ -1,9 +1,8 @@
 -- The graphs of subsets [GB_BASIC, subsets].
-use Rattle.std.specs.Prelude.{◌≤◌, ℕ, ◌+◌, ◌/◌, ◌%◌, ◌^◌, ◌==◌, min, nat_lt, ℤ, nat_abs, Bool, ◌&&◌, List, [], ◌∷◌, ◌++◌, length, map, filter, take, slice_index_or, All, Result, Ok, codes}
+use Rattle.std.specs.Prelude.{ℕ, ◌+◌, ◌/◌, ◌%◌, ◌^◌, ◌==◌, min, nat_lt, ℤ, Bool, ◌&&◌, List, [], ◌∷◌, ◌++◌, length, map, filter, take, slice_index_or, Result, Ok, codes}
 use Rattle.std.specs.List.{flat_map, range_with_len}
 use Rattle.sgb_vec.specs.Results.{and_then}
 use Rattle.sgb_vec.specs.Bounds.{simplex_of}
-use Rattle.sgb_vec.specs.Limits.{most_vertices}
 use Rattle.sgb_vec.specs.Sums.{BoundedSum, bounded_sums, sum_of}
 use Rattle.sgb_vec.specs.declared.panics.Panic.{Panic}
 use Rattle.sgb_graph.specs.Descriptions.{Description}
@@ -26,10 +25,6 @@ accepted_subsets p =
     and_then (simplex_of p.n p.n0 p.n1 p.n2 p.n3 p.n4) (λ shape.
     and_then (sum_of p.n shape.sizes) (λ s.
     Ok (record { params = shape.params; sum = s; size_bits = p.size_bits; directed = p.directed })))
-
--- parameters of at most 1,000,000,000, and at least its negative
-abbrev pub AreSmall : List ℤ → Type 0
-AreSmall params = All (λ p. nat_abs p ≤ most_vertices) params
 
 -- how many elements two multisets have in common: the sum of the lesser entries
 abbrev pub common_size : List ℕ → List ℕ → ℕ

@@ -1,5 +1,4 @@
 //! The parameters that the generators accept, each with the vertices, the id and the graph that they stand for.
-
 mod boards;
 mod simplexes;
 mod subsets;
@@ -7,3 +6,6 @@ mod subsets;
 pub use boards::Board;
 pub use simplexes::Simplex;
 pub use subsets::{Subsets, common};
+
+#[cfg(test)]
+mod tests;

@@ -26,7 +26,9 @@ pub fn board(
     wrap: i64,
     directed: bool,
 ) -> Result<Graph, Panic>
-    ensures { IsAnswerOf (board (record { n1 = n1; n2 = n2; n3 = n3; n4 = n4; piece = piece; wrap = wrap; directed = directed })) result }
+    ensures { IsAnswerOf (board (record
+        { n1 = n1; n2 = n2; n3 = n3; n4 = n4; piece = piece; wrap = wrap; directed = directed }))
+        result }
 {
     BoardParams {
         n1,
@@ -57,7 +59,8 @@ pub fn simplex(
     n4: i64,
     directed: bool,
 ) -> Result<Graph, Panic>
-    ensures { IsAnswerOf (simplex (record { n = n; n0 = n0; n1 = n1; n2 = n2; n3 = n3; n4 = n4; directed = directed })) result }
+    ensures { IsAnswerOf (simplex (record
+        { n = n; n0 = n0; n1 = n1; n2 = n2; n3 = n3; n4 = n4; directed = directed })) result }
 {
     SimplexParams {
         n,
@@ -90,7 +93,16 @@ pub fn subsets(
     size_bits: u128,
     directed: bool,
 ) -> Result<Graph, Panic>
-    ensures { IsAnswerOf (subsets (record { n = n; n0 = n0; n1 = n1; n2 = n2; n3 = n3; n4 = n4; size_bits = size_bits; directed = directed })) result }
+    ensures { IsAnswerOf (subsets (record {
+      n = n;
+      n0 = n0;
+      n1 = n1;
+      n2 = n2;
+      n3 = n3;
+      n4 = n4;
+      size_bits = size_bits;
+      directed = directed;
+    })) result }
 {
     SubsetsParams {
         n,

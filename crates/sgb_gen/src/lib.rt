@@ -1,16 +1,27 @@
 //! The generators of GB_BASIC whose vertices are vectors: board, simplex and subsets.
 #![tactic(auto)]
 
+// Accepted parameters: their vertices, ids, graphs and lists.
 mod accepted;
+// A walk over the displacements of a piece.
 mod displacements;
+// The generators.
 mod generators;
+// Laws of displacements, moves and shifts.
 mod laws;
+// The arcs of one vertex, with the vectors where they lead.
 mod links;
+// Where a piece moves on a board.
 mod moves;
+// The generators' parameters.
 mod params;
+// A unit of a vector that goes to a higher place.
 mod shifts;
+// The short names of some boards and subsets.
 mod shorthands;
+// The vectors of a family, found by search.
 mod tables;
+// The names and the coordinates of a family's graph.
 mod vector_graphs;
 
 pub use accepted::{Board, Simplex, Subsets, common};
@@ -19,6 +30,6 @@ pub use laws::{
     displacements_have_their_norm, moves_stay_on_board, moves_turn_back, riders_stop,
     shifts_stay_in_sum,
 };
-pub use links::{Links, LocalLink};
+pub use links::{Links, LocalArcRef};
 pub use params::{BoardParams, SimplexParams, SubsetsParams};
 pub use shorthands::{circuit, complete, cycle, disjoint_subsets, empty, petersen, transitive};

@@ -1,7 +1,7 @@
 //! The arcs of one vertex, with the vectors where they lead.
 ghost use Rattle.std.specs.Prelude.{◌≡◌, ◌<◌, pos, [], ◌∷◌, ◌++◌, ◌*◌, ◌≤◌, length, reverse, slice_get, Some, OnOk, OnErr, IsOkUnless};
 ghost use Rattle.sgb_gen.specs.LocalLists.{LinksData, LocalArc};
-ghost use Rattle.sgb_gen.specs.LocalArcs.{rows_turned};
+ghost use Rattle.sgb_gen.specs.inner.LocalArcs.{rows_turned};
 
 use sgb_vec::Panic;
 use std::alloc::Global;
@@ -10,14 +10,14 @@ use std::mem::replace;
 
 /// An arc of a vertex: the vector where it leads, and its length. Contracts see the vector as a list.
 #[derive(Drop)]
-pub struct LocalLink<'a> {
+pub struct LocalArcRef<'a> {
     /// The vector where the arc leads.
     pub tip: &'a [u32],
     /// Its length.
     pub len: u32,
 }
 
-impl<'a> Model for LocalLink<'a> {
+impl<'a> Model for LocalArcRef<'a> {
     ghost use Rattle.std.specs.Prelude.{pos};
     ghost use Rattle.sgb_gen.specs.LocalLists.{LocalArc};
 
@@ -40,12 +40,15 @@ pub struct Links {
 
 impl Model for Links {
     ghost use Rattle.std.specs.Prelude.{◌≡◌, ◌*◌, length};
-    ghost use Rattle.sgb_gen.specs.LocalArcs.{arcs_in};
+    ghost use Rattle.sgb_gen.specs.inner.LocalArcs.{arcs_in};
     ghost use Rattle.sgb_gen.specs.LocalLists.{LinksData};
 
     ghost Value = { LinksData };
 
-    ghost view = { λ l. record { width = l.width; arcs = arcs_in l.width l.tips.items l.lens.items } };
+    ghost view = { λ l. record {
+      width = l.width;
+      arcs = arcs_in l.width l.tips.items l.lens.items;
+    } };
 
     ghost invariant = { λ l. length l.tips.items ≡ length l.lens.items * l.width };
 }
@@ -71,13 +74,13 @@ impl Links {
     }
 
     /// The arc at place `i`, counted from 0, of a list of more than `i` arcs.
-    pub fn get(&self, i: usize) -> LocalLink<'_>
+    pub fn get(&self, i: usize) -> LocalArcRef<'_>
         requires { i < length self.now.arcs }
         ensures { slice_get self.now.arcs i ≡ Some result }
     {
         let tips = self.tips.as_slice();
         let start = i * self.width;
-        LocalLink {
+        LocalArcRef {
             tip: &tips[start..start + self.width],
             len: self.lens[i],
         }
@@ -95,7 +98,11 @@ impl Links {
     // Puts an arc behind the others. An error means out of memory: the arcs stay as they were.
     pub(crate) fn push(&mut self, tip: &[u32], len: u32) -> Result<(), Panic>
         requires width { length tip.now ≡ self.old.width }
-        ensures ok { OnOk result (self.new ≡ record self.old { arcs = self.old.arcs ++ record { tip = tip.now; len = pos len } ∷ [] }) }
+        ensures ok { OnOk result (self.new
+            ≡ record self.old {
+              arcs = self.old.arcs ++ record { tip = tip.now; len = pos len }
+                  ∷ [];
+            }) }
         ensures err { OnErr result (self.new ≡ self.old) }
         ensures memory { IsOkUnless result Panic.NoRoom }
     {

@@ -2,16 +2,16 @@ ghost use Rattle.std.specs.Prelude.{◌≡◌, pos, ◌+ℤ◌, ◌*ℤ◌, ◌<
 ghost use Rattle.std.specs.Bool.{OnTrue, OnFalse};
 ghost use Rattle.sgb_vec.specs.Limits.{most_dimensions};
 ghost use Rattle.sgb_vec.specs.Lexicographic.{IsBelow};
-ghost use Rattle.sgb_gen.specs.Moves.{destination};
+ghost use Rattle.sgb_gen.specs.inner.Moves.{destination};
 ghost use Rattle.sgb_gen.specs.Moves.{is_bit_set, coordinate_on, sides_of, place};
-ghost use Rattle.sgb_gen.specs.EntryBounds.{entry_bound, entry_bounds};
+ghost use Rattle.sgb_gen.specs.inner.EntryBounds.{entry_bound, entry_bounds};
 
 use crate::displacements::EntrySizes;
 use arrayvec::ArrayVec;
 use sgb_vec::Vector;
 
 // Whether coordinate k, counted from 0, wraps around: its bit of `wrap`, with the sign carried on.
-fn wraps(wrap: i64, k: usize) -> bool
+pub(crate) fn wraps(wrap: i64, k: usize) -> bool
     ensures { result ≡ is_bit_set wrap k }
 {
     (wrap >> k.min(63)) & 1 == 1
@@ -42,7 +42,8 @@ fn place(sizes: &[u32], wrap: i64, x: &[u32], t: &[i32], l: u32, there: &mut Vec
     requires few { length sizes.now ≤ most_dimensions }
     requires below { IsBelow x.now sizes.now }
     requires dimensions { length t.now ≡ length sizes.now }
-    ensures leads { OnTrue result (place (sides_of sizes.now wrap) x.now t.now l ≡ Some there.new.items) }
+    ensures leads { OnTrue result (place (sides_of sizes.now wrap) x.now t.now l
+        ≡ Some there.new.items) }
     ensures nowhere { OnFalse result (place (sides_of sizes.now wrap) x.now t.now l ≡ None) }
 {
     there.clear();
@@ -71,8 +72,10 @@ pub(crate) fn destination(
     requires few { length sizes.now ≤ most_dimensions }
     requires below { IsBelow x.now sizes.now }
     requires dimensions { length t.now ≡ length sizes.now }
-    ensures leads { OnTrue result (destination (sides_of sizes.now wrap) piece x.now t.now l ≡ Some there.new.items) }
-    ensures nowhere { OnFalse result (destination (sides_of sizes.now wrap) piece x.now t.now l ≡ None) }
+    ensures leads { OnTrue result (destination (sides_of sizes.now wrap) piece x.now t.now l
+        ≡ Some there.new.items) }
+    ensures nowhere { OnFalse result
+        (destination (sides_of sizes.now wrap) piece x.now t.now l ≡ None) }
 {
     if !place(sizes, wrap, x, t, l, there) {
         return false;

@@ -1,7 +1,7 @@
 ghost use Rattle.std.specs.Prelude.{◌≡◌, ◌<◌, length, slice_get, Some, Contains, IfOk, IsOkUnless};
 ghost use Rattle.sgb_vec.specs.Lexicographic.{IsRising};
 
-use sgb_vec::{Family, Panic, Steps, Vector};
+use sgb_vec::{Family, Panic, Vectors};
 use std::alloc::Global;
 use std::marker::Model;
 
@@ -17,7 +17,7 @@ pub(crate) struct VectorTable {
 
 impl Model for VectorTable {
     ghost use Rattle.std.specs.Prelude.{◌≡◌, ◌*◌, List, ℕ, length};
-    ghost use Rattle.sgb_gen.specs.Tables.{rows};
+    ghost use Rattle.sgb_gen.specs.inner.Tables.{rows};
 
     ghost Value = { List (List ℕ) };
 
@@ -30,18 +30,17 @@ impl VectorTable {
     /// The vectors of this family.
     ///
     /// `NoRoom` when out of memory, and nothing else.
-    pub fn new<F: Family>(alloc: Global, family: &F) -> Result<VectorTable, Panic>
+    pub(crate) fn new<F: Family>(alloc: Global, family: &F) -> Result<VectorTable, Panic>
         ensures ok { IfOk result (λ t. t ≡ F.members family.now) }
         ensures memory { IsOkUnless result Panic.NoRoom }
     {
         let width = family.dims();
         let count = family.size();
         let mut entries = Vec::with_capacity(alloc, width.saturating_mul(count as usize))?;
-        let mut vector = Vector::new();
-        let _some = family.first(&mut vector, &mut Steps::new());
-        for _u in 0..count {
-            entries.extend_from_slice(vector.as_slice())?;
-            let _more = family.next(&mut vector, &mut Steps::new());
+        let mut left = Vectors::all(family);
+        while let Some(vector) = left.front() {
+            entries.extend_from_slice(vector)?;
+            let _some = left.advance();
         }
         Ok(VectorTable {
             entries,
@@ -51,14 +50,14 @@ impl VectorTable {
     }
 
     /// How many vectors there are.
-    pub fn len(&self) -> u32
+    pub(crate) fn len(&self) -> u32
         ensures { result ≡ length self.now }
     {
         self.count
     }
 
     /// The vector at this place, counted from 0.
-    pub fn vector(&self, place: u32) -> &[u32]
+    pub(crate) fn vector(&self, place: u32) -> &[u32]
         requires { place < length self.now }
         ensures { slice_get self.now place ≡ Some result.now }
     {
@@ -68,7 +67,7 @@ impl VectorTable {
     }
 
     /// The place of a vector among those of a table in lexicographic order, by binary search.
-    pub fn place_of(&self, vector: &[u32]) -> u32
+    pub(crate) fn place_of(&self, vector: &[u32]) -> u32
         requires rising { IsRising self.now }
         requires member { Contains self.now vector.now }
         ensures { slice_get self.now result ≡ Some vector.now }

@@ -5,7 +5,7 @@ ghost use Rattle.sgb_graph.specs.Made.{no_kinds, no_fields};
 ghost use Rattle.sgb_gen.specs.VectorGraphs.{HasCoordinates};
 
 use sgb_graph::{Graph, Names};
-use sgb_vec::{Family, Panic, Steps, Vector, name_of};
+use sgb_vec::{Family, Panic, Vectors, name_of};
 use std::alloc::Global;
 
 /// The names of the vectors of a family, in order (GB_BASIC, board).
@@ -16,14 +16,13 @@ pub(crate) fn vector_names<F: Family>(alloc: Global, family: &F) -> Result<Names
     ensures memory { IsOkUnless result Panic.NoRoom }
 {
     let mut names = Names::new(alloc);
-    let mut vector = Vector::new();
-    let _some = family.first(&mut vector, &mut Steps::new());
-    for _u in 0..family.size() {
-        let name = name_of(alloc, vector.as_slice())?;
+    let mut left = Vectors::all(family);
+    while let Some(vector) = left.front() {
+        let name = name_of(alloc, vector)?;
         let Ok(()) = names.push(name) else {
             return Err(Panic::NoRoom);
         };
-        let _more = family.next(&mut vector, &mut Steps::new());
+        let _some = left.advance();
     }
     Ok(names)
 }
@@ -33,17 +32,20 @@ pub(crate) fn vector_names<F: Family>(alloc: Global, family: &F) -> Result<Names
 pub(crate) fn put_coordinates<F: Family>(graph: &mut Graph, family: &F)
     requires vertices { length graph.old.vertices ≡ length (F.members family.now) }
     requires kinds { graph.old.kinds ≡ no_kinds }
-    requires fields { map (λ v. v.util) graph.old.vertices ≡ map (λ v. no_fields) (F.members family.now) }
+    requires fields { map (λ v. v.util) graph.old.vertices
+        ≡ map (λ v. no_fields) (F.members family.now) }
     ensures { HasCoordinates (F.members family.now) graph.old graph.new }
 {
-    let mut vector = Vector::new();
-    let _some = family.first(&mut vector, &mut Steps::new());
+    let mut left = Vectors::all(family);
     for u in 0..family.size() {
-        let x = entry(vector.as_slice(), 0);
-        let y = entry(vector.as_slice(), 1);
-        let z = entry(vector.as_slice(), 2);
+        let Some(vector) = left.front() else {
+            return;
+        };
+        let x = entry(vector, 0);
+        let y = entry(vector, 1);
+        let z = entry(vector, 2);
         graph.set_vertex_ints(u, x, y, z);
-        let _more = family.next(&mut vector, &mut Steps::new());
+        let _some = left.advance();
     }
 }
 

@@ -8,12 +8,14 @@ use Rattle.std.proofs.lemmas.List.{length-append}
 use Rattle.std.proofs.lemmas.Option.{slice_get_read}
 use Rattle.sgb_graph.specs.Graphs.{GraphData, chain_of, ends_of, ends_from, links_of}
 use Rattle.sgb_graph.specs.Sound.{arc_kinds, chain_fits, utils_fit, vertex_kinds}
-use Rattle.sgb_graph.specs.Growth.{IsKept, HasPlainArcs, AddsArc, KeepsAllButArcs, arc_record, at_place, first_arc, link, with_arcs}
+use Rattle.sgb_graph.specs.Growth.{IsKept, HasPlainArcs, AddsArc, KeepsAllButArcs, arc_record, at_place, first_arc, link}
+use Rattle.sgb_graph.specs.inner.Growth.{with_arcs}
 use Rattle.sgb_graph.specs.declared.fields.Kind.{Kind}
 use Rattle.sgb_graph.specs.declared.fields.Kind.TheVariants.{Z}
 use Rattle.sgb_graph.specs.declared.fields.Util.TheVariants.{Nothing}
 use Rattle.sgb_graph.specs.declared.fields.Vertex.{Vertex}
 use Rattle.sgb_graph.specs.declared.fields.ArcRec.{ArcRec}
+use Rattle.sgb_graph.specs.declared.fields.Link.{Link}
 use Rattle.sgb_graph.proofs.Lists.{slice_get-at_place_same, slice_get-at_place_other, slice_get-after, length-at_place, map-at_place, list_all-get, list_all-at_place}
 use Rattle.sgb_graph.proofs.Fitting.{vertex_fits_in, record_fits_in, chain_fits_more}
 use Rattle.sgb_graph.proofs.Chains.{ends_step, ends_kept, links_step, links_kept, leads_step, leads_kept, links_within, lead_within}
@@ -51,13 +53,6 @@ chain_of_vertex g u has below =
       chain = chain_at g u x.element x.is;
     }
 
--- the same of the first record as it is read
-pub chain_of_read : (g : GraphData) (u : ℕ) (x : Vertex) → HasParts g → u < length g.vertices → x ≡ get_or g.vertices u x → HasChain g u x.arcs
-chain_of_read g u x has below here =
-    let is = slice_get_read g.vertices (length g.vertices) u x refl below here in
-    let same : first_arc g.vertices u ≡ x.arcs = ap (λ o. option_and_then (λ (v : Vertex). v.arcs) o) is in
-    rw same at (chain_of_vertex g u has below)
-
 -- the fields of a new record
 pub plain_record_fits : (n m : ℕ) (kinds : List Kind) (v : ℕ) (after : Option ℕ) (far : ℤ) → v < n → chain_fits m after ≡ true → arc_kinds kinds ≡ Z ∷ Z ∷ [] → record_fits_in n m kinds (arc_record v after far) ≡ true
 plain_record_fits n m kinds v after far below fits plain =
@@ -73,13 +68,13 @@ good_with_arcs n kinds records first x fits leads good =
     (and_from (chain_fits (length records) first) (utils_fit n (length records) (vertex_kinds kinds) x.util) fits own.1) leads
 
 -- a record in front of a chain
-pub record IsLead (steps : ℕ) (g : GraphData) (u : ℕ) (records : List ArcRec) (k v : ℕ) (far : ℤ) : Type 0 where
+pub record IsLead (steps : ℕ) (records : List ArcRec) (k v : ℕ) (far : ℤ) (chain : List Link) : Type 0 where
   pub ends : ends_from (suc steps) records (Some k) ≡ true
   pub leads : lead_within (suc steps) records (Some k) ≡ true
-  pub links : links_within (suc steps) records (Some k) ≡ link k v far ∷ chain_of g u
+  pub links : links_within (suc steps) records (Some k) ≡ link k v far ∷ chain
 
 -- a record that goes on with the old chain is in front of it
-pub lead_of : (steps : ℕ) (g : GraphData) (more : List ArcRec) (u k v : ℕ) (far : ℤ) → HasParts g → u < length g.vertices → length g.records ≤ steps → slice_get (g.records ++ more) k ≡ Some (arc_record v (first_arc g.vertices u) far) → IsLead steps g u (g.records ++ more) k v far
+pub lead_of : (steps : ℕ) (g : GraphData) (more : List ArcRec) (u k v : ℕ) (far : ℤ) → HasParts g → u < length g.vertices → length g.records ≤ steps → slice_get (g.records ++ more) k ≡ Some (arc_record v (first_arc g.vertices u) far) → IsLead steps (g.records ++ more) k v far (chain_of g u)
 lead_of steps g more u k v far has below le is =
     let old = chain_of_vertex g u has below in
     let first = first_arc g.vertices u in
@@ -111,11 +106,11 @@ keeps_all g count first u more = record {
 one_more : (records : List ArcRec) (r : ArcRec) → length (records ++ r ∷ []) ≡ suc (length records)
 one_more records r = omega (arith, length-append records (r ∷ []))
 
--- the new record is the last one
-last_is : (records : List ArcRec) (r : ArcRec) → slice_get (records ++ r ∷ []) (length records) ≡ Some r
-last_is records r =
+-- the first of the new records stands after the old ones
+pub first_is : (records more : List ArcRec) (r : ArcRec) → slice_get (records ++ r ∷ more) (length records) ≡ Some r
+first_is records more r =
     let place : length records ≡ length records + 0 = omega arith in
-    ap (slice_get (records ++ r ∷ [])) place ∙ slice_get-after records (r ∷ []) 0
+    ap (slice_get (records ++ r ∷ more)) place ∙ slice_get-after records (r ∷ more) 0
 
 -- it is a graph with one arc more
 pub arc_added : (g : GraphData) (u v : ℕ) (far : ℤ) → IsKept g → HasPlainArcs g → u < length g.vertices → v < length g.vertices → AddsArc g (with_arc g u v far) u v far × IsKept (with_arc g u v far)
@@ -139,8 +134,8 @@ arc_added g u v far kept plain u_in v_in = (adds, still)
     longer : length all ≡ suc m
     longer = one_more g.records new
 
-    lead : IsLead m g u all m v far
-    lead = lead_of m g (new ∷ []) u m v far has u_in (omega arith) (last_is g.records new)
+    lead : IsLead m all m v far (chain_of g u)
+    lead = lead_of m g (new ∷ []) u m v far has u_in (omega arith) (first_is g.records [] new)
 
     new_fits : chain_fits (length all) (Some m) ≡ true
     new_fits = lt-ltb m (length all) (omega (arith, longer))

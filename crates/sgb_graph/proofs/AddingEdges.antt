@@ -6,14 +6,15 @@ use Rattle.std.proofs.lemmas.Bool.{and_from, lt-ltb, eq-eqb, ne_eqb, cases_eq}
 use Rattle.std.proofs.lemmas.List.{length-append}
 use Rattle.sgb_graph.specs.Graphs.{GraphData, chain_of, ends_of, ends_from}
 use Rattle.sgb_graph.specs.Sound.{chain_fits}
-use Rattle.sgb_graph.specs.Growth.{IsKept, HasPlainArcs, AddsEdge, KeepsAllButArcs, arc_record, after_lower, at_place, first_arc, link, with_arcs, with_ends}
+use Rattle.sgb_graph.specs.Growth.{IsKept, HasPlainArcs, AddsEdge, KeepsAllButArcs, arc_record, after_lower, at_place, first_arc, link}
+use Rattle.sgb_graph.specs.inner.Growth.{with_arcs, with_ends}
 use Rattle.sgb_graph.specs.declared.fields.ArcRec.{ArcRec}
 use Rattle.sgb_graph.specs.declared.fields.Link.{Link}
 use Rattle.sgb_graph.proofs.Lists.{slice_get-at_place_same, slice_get-at_place_other, slice_get-after, length-at_place, map-at_place, list_all-at_place}
 use Rattle.sgb_graph.proofs.Fitting.{record_fits_in, chain_fits_more}
 use Rattle.sgb_graph.proofs.Chains.{ends_step, links_step, leads_step, links_within, lead_within}
 use Rattle.sgb_graph.proofs.Growing.{HasParts, NewFit, parts_of, graph_from_parts, is_good, all_good_more, grown, grown_is_graph, chain_kept, chain_at, lists_end}
-use Rattle.sgb_graph.proofs.AddingArcs.{element_at, chain_of_vertex, plain_record_fits, good_with_arcs, IsLead, lead_of}
+use Rattle.sgb_graph.proofs.AddingArcs.{element_at, chain_of_vertex, first_is, plain_record_fits, good_with_arcs, IsLead, lead_of}
 
 -- the graph with two records between low and high, the lower of them before the one given
 abbrev pub with_pair : GraphData → ℕ → ℕ → Option ℕ → ℤ → GraphData
@@ -21,50 +22,37 @@ with_pair g low high after far =
     grown g (g.m + 2) (with_ends (length g.records) low high g.vertices)
     (arc_record high after far ∷ arc_record low (first_arc g.vertices high) far ∷ [])
 
--- the way from the lower record of a pair, and what comes after it
-record IsLower (g : GraphData) (records : List ArcRec) (high : ℕ) (far : ℤ) (tail : List Link) : Type 0 where
-  ends : ends_from (suc (suc (length g.records))) records (Some (length g.records)) ≡ true
-  leads : lead_within (suc (suc (length g.records))) records (Some (length g.records)) ≡ true
-  links : links_within (suc (suc (length g.records))) records (Some (length g.records)) ≡ link (length g.records) high far ∷ tail
-
 -- the two records stand at the end
 two_more : (records : List ArcRec) (r s : ArcRec) → length (records ++ r ∷ s ∷ []) ≡ suc (suc (length records))
 two_more records r s = omega (arith, length-append records (r ∷ s ∷ []))
 
--- the lower one first
-lower_is : (records : List ArcRec) (r s : ArcRec) → slice_get (records ++ r ∷ s ∷ []) (length records) ≡ Some r
-lower_is records r s =
-    let place : length records ≡ length records + 0 = omega arith in
-    ap (slice_get (records ++ r ∷ s ∷ [])) place ∙ slice_get-after records (r ∷ s ∷ []) 0
-
--- then the higher one
+-- the higher one after the lower one
 higher_is : (records : List ArcRec) (r s : ArcRec) → slice_get (records ++ r ∷ s ∷ []) (length records + 1) ≡ Some s
 higher_is records r s = slice_get-after records (r ∷ s ∷ []) 1
 
 -- the higher record, in so many steps, is in front of the chain of high
-higher_lead : (steps : ℕ) (g : GraphData) (low high : ℕ) (after : Option ℕ) (far : ℤ) → HasParts g → high < length g.vertices → length g.records ≤ steps → IsLead steps g high (g.records ++ arc_record high after far ∷ arc_record low (first_arc g.vertices high) far ∷ []) (length g.records + 1) low far
+higher_lead : (steps : ℕ) (g : GraphData) (low high : ℕ) (after : Option ℕ) (far : ℤ) → HasParts g → high < length g.vertices → length g.records ≤ steps → IsLead steps (g.records ++ arc_record high after far ∷ arc_record low (first_arc g.vertices high) far ∷ []) (length g.records + 1) low far (chain_of g high)
 higher_lead steps g low high after far has below le =
     let lower = arc_record high after far in
     let higher = arc_record low (first_arc g.vertices high) far in
     lead_of steps g (lower ∷ higher ∷ []) high (length g.records + 1) low far has below le (higher_is g.records lower higher)
 
 -- the lower record is in front of the chain of low
-lower_of_two : (g : GraphData) (low high : ℕ) (far : ℤ) → HasParts g → low < length g.vertices → IsLower g (g.records ++ arc_record high (first_arc g.vertices low) far ∷ arc_record low (first_arc g.vertices high) far ∷ []) high far (chain_of g low)
+lower_of_two : (g : GraphData) (low high : ℕ) (far : ℤ) → HasParts g → low < length g.vertices → IsLead (suc (length g.records)) (g.records ++ arc_record high (first_arc g.vertices low) far ∷ arc_record low (first_arc g.vertices high) far ∷ []) (length g.records) high far (chain_of g low)
 lower_of_two g low high far has below =
     let lower = arc_record high (first_arc g.vertices low) far in
     let higher = arc_record low (first_arc g.vertices high) far in
-    let lead = lead_of (suc (length g.records)) g (lower ∷ higher ∷ []) low (length g.records) high far has below (omega arith) (lower_is g.records lower higher) in
-    record { ends = lead.ends; leads = lead.leads; links = lead.links }
+    lead_of (suc (length g.records)) g (lower ∷ higher ∷ []) low (length g.records) high far has below (omega arith) (first_is g.records (higher ∷ []) lower)
 
 -- the lower record of a loop is in front of the higher one
-lower_of_loop : (g : GraphData) (u : ℕ) (far : ℤ) → HasParts g → u < length g.vertices → IsLower g (g.records ++ arc_record u (Some (length g.records + 1)) far ∷ arc_record u (first_arc g.vertices u) far ∷ []) u far (link (length g.records + 1) u far ∷ chain_of g u)
+lower_of_loop : (g : GraphData) (u : ℕ) (far : ℤ) → HasParts g → u < length g.vertices → IsLead (suc (length g.records)) (g.records ++ arc_record u (Some (length g.records + 1)) far ∷ arc_record u (first_arc g.vertices u) far ∷ []) (length g.records) u far (link (length g.records + 1) u far ∷ chain_of g u)
 lower_of_loop g u far has below =
     let m = length g.records in
     let lower = arc_record u (Some (m + 1)) far in
     let higher = arc_record u (first_arc g.vertices u) far in
     let all = g.records ++ lower ∷ higher ∷ [] in
     let lead = higher_lead m g u u (Some (m + 1)) far has below (omega arith) in
-    let is = lower_is g.records lower higher in
+    let is = first_is g.records (higher ∷ []) lower in
     record {
       ends = ends_step (suc m) all m lower is ∙ lead.ends;
       leads = leads_step (suc m) all m lower is refl lead.leads;
@@ -73,7 +61,7 @@ lower_of_loop g u far has below =
 
 -- the pair makes up a graph
 pair_is_kept : (g : GraphData) (low high : ℕ) (after : Option ℕ) (far : ℤ) (tail : List Link) → IsKept g → HasPlainArcs g → low < length g.vertices → high < length g.vertices → chain_fits (length g.records + 2) after ≡ true
-    → IsLower g (g.records ++ arc_record high after far ∷ arc_record low (first_arc g.vertices high) far ∷ []) high far tail → IsKept (with_pair g low high after far)
+    → IsLead (suc (length g.records)) (g.records ++ arc_record high after far ∷ arc_record low (first_arc g.vertices high) far ∷ []) (length g.records) high far tail → IsKept (with_pair g low high after far)
 pair_is_kept g low high after far tail kept plain low_in high_in after_fits down = record {
   graph = graph_from_parts (with_pair g low high after far) (grown_is_graph g (g.m + 2) (with_ends m low high g.vertices) (lower ∷ higher ∷ []) has same good fit);
   count = omega (arith, kept.count, longer);
@@ -100,7 +88,7 @@ pair_is_kept g low high after far tail kept plain low_in high_in after_fits down
     longer : length all ≡ suc (suc m)
     longer = two_more g.records lower higher
 
-    up : IsLead (suc m) g high all (m + 1) low far
+    up : IsLead (suc m) all (m + 1) low far (chain_of g high)
     up = higher_lead (suc m) g low high after far has high_in (omega arith)
 
     same : length (with_ends m low high g.vertices) ≡ n
@@ -144,7 +132,7 @@ pair_is_kept g low high after far tail kept plain low_in high_in after_fits down
 
 -- the chain of low
 lower_chain : (g : GraphData) (low high : ℕ) (after : Option ℕ) (far : ℤ) (tail : List Link) → low < length g.vertices
-    → IsLower g (g.records ++ arc_record high after far ∷ arc_record low (first_arc g.vertices high) far ∷ []) high far tail → chain_of (with_pair g low high after far) low ≡ link (length g.records) high far ∷ tail
+    → IsLead (suc (length g.records)) (g.records ++ arc_record high after far ∷ arc_record low (first_arc g.vertices high) far ∷ []) (length g.records) high far tail → chain_of (with_pair g low high after far) low ≡ link (length g.records) high far ∷ tail
 lower_chain g low high after far tail below down =
     let m = length g.records in
     let others = at_place (with_arcs (Some (m + 1))) high g.vertices in

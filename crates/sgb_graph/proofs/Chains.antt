@@ -1,5 +1,5 @@
 -- Chains of records: what more records at the end leave as it was.
-use Rattle.std.proofs.Common.{◌≡◌, ◌≤◌, ℕ, zero, suc, Bool, true, false, List, [], ◌∷◌, ◌++◌, length, Option, Some, None, refl, ap, sym, ◌∙◌, arith}
+use Rattle.std.proofs.Common.{◌≡◌, ◌≤◌, ℕ, zero, suc, Bool, true, false, List, [], ◌∷◌, ◌++◌, length, Option, Some, None, refl, ap, sym, subst, ◌∙◌, arith}
 use Rattle.std.specs.Prelude.{slice_get, is_some}
 use Rattle.std.specs.List.{list_all, flat_map}
 use Rattle.std.specs.Option.{option_map_or}
@@ -89,23 +89,22 @@ numbers_are_records (suc fuel) records (Some k) = by_record (numbers_are_records
     by_record later None is = refl
     by_record later (Some r) is = rw is (later r.next)
 
--- the arc of a record with more records
-link_more : (records more : List ArcRec) (k : ℕ) → is_record records k ≡ true → link_of (records ++ more) k ≡ link_of records k
+-- it is the same with more records
+record_more : (records more : List ArcRec) (k : ℕ) → is_record records k ≡ true → slice_get (records ++ more) k ≡ slice_get records k
 unfolding is_record
-link_more records more k e = by_record (slice_get records k) refl e
+record_more records more k e = by_record (slice_get records k) refl e
   where
-    by_record : (o : Option ArcRec) → slice_get records k ≡ o → is_some o ≡ true → link_of (records ++ more) k ≡ link_of records k
+    by_record : (o : Option ArcRec) → slice_get records k ≡ o → is_some o ≡ true → slice_get (records ++ more) k ≡ slice_get records k
     by_record None is h = absurd cc
-    by_record (Some r) is h = rw (slice_get-more records more k r is, is) refl
+    by_record (Some r) is h = slice_get-more records more k r is ∙ sym is
 
--- the tip of a record with more records
+-- so is its arc
+link_more : (records more : List ArcRec) (k : ℕ) → is_record records k ≡ true → link_of (records ++ more) k ≡ link_of records k
+link_more records more k e = rw (record_more records more k e) refl
+
+-- and whether it leads to a vertex
 leads_more : (records more : List ArcRec) (k : ℕ) → is_record records k ≡ true → leads_to_vertex (records ++ more) k ≡ leads_to_vertex records k
-unfolding is_record
-leads_more records more k e = by_record (slice_get records k) refl e
-  where
-    by_record : (o : Option ArcRec) → slice_get records k ≡ o → is_some o ≡ true → leads_to_vertex (records ++ more) k ≡ leads_to_vertex records k
-    by_record None is h = absurd cc
-    by_record (Some r) is h = rw (slice_get-more records more k r is, is) refl
+leads_more records more k e = rw (record_more records more k e) refl
 
 -- the arcs on a way of so many steps at most
 abbrev pub links_within : ℕ → List ArcRec → Option ℕ → List Link
@@ -162,13 +161,25 @@ length-links (suc fuel) records (Some k) = by_record (length-links fuel records)
         let rest = later r.next in
         rw is (omega arith)
 
--- a chain that ends: from none there is no arc, from a record its own and then a chain that ends
+-- from none there is no arc
 pub links_of_none : (records : List ArcRec) → links_of records None ≡ []
 links_of_none records = ap (flat_map (link_of records)) (numbers_none (length records) records)
 
+-- a way that ends, ends with more steps
+pub ends_longer : (fuel steps : ℕ) (records : List ArcRec) (first : Option ℕ) → fuel ≤ steps → ends_from fuel records first ≡ true → ends_from steps records first ≡ true
+ends_longer fuel steps records first le e =
+    subst (λ rs. ends_from steps rs first ≡ true) (append-nil records) (ends_more fuel steps records [] first le e)
+
+-- and meets the same records
+pub numbers_longer : (fuel steps : ℕ) (records : List ArcRec) (first : Option ℕ) → fuel ≤ steps → ends_from fuel records first ≡ true → numbers_from steps records first ≡ numbers_from fuel records first
+numbers_longer fuel steps records first le e =
+    subst (λ rs. numbers_from steps rs first ≡ numbers_from fuel records first) (append-nil records) (numbers_more fuel steps records [] first le e)
+
+-- a way that ends from a record: it meets that one, and then those of the way from the next one, which ends
 pub record IsStep (records : List ArcRec) (k : ℕ) : Type 0 where
   pub here : ArcRec
   pub is : slice_get records k ≡ Some here
+  pub numbers : numbers_of records (Some k) ≡ k ∷ numbers_of records here.next
   pub links : links_of records (Some k) ≡ link k (vertex_of here.tip) here.len ∷ links_of records here.next
   pub ends : ends_of records here.next ≡ true
 
@@ -180,14 +191,14 @@ step_of records k ends = by_length (length records) refl
     by_length zero is = absurd (no_start records k (rw is at ends))
     by_length (suc n) is =
         let b = ends_after n records k (rw is at ends) in
-        let none_more : records ++ [] ≡ records = append-nil records in
-        let on = ends_more n (length records) records [] b.here.next (omega arith) b.ends in
-        let same = numbers_more n (length records) records [] b.here.next (omega arith) b.ends in
+        let same = numbers_longer n (length records) records b.here.next (omega arith) b.ends in
+        let numbers : numbers_of records (Some k) ≡ k ∷ numbers_of records b.here.next =
+        ap (λ steps. numbers_from steps records (Some k)) is ∙ (numbers_step n records k b.here b.is ∙ ap (λ ks. k ∷ ks) (sym same)) in
         record {
           here = b.here;
           is = b.is;
-          links = ap (λ steps. links_within steps records (Some k)) is
-              ∙ (links_step n records k b.here b.is
-              ∙ ap (λ ks. link k (vertex_of b.here.tip) b.here.len ∷ flat_map (link_of records) ks) (sym (rw none_more at same)));
-          ends = rw none_more at on;
+          numbers = numbers;
+          links = ap (flat_map (link_of records)) numbers
+              ∙ ap (λ ls. ls ++ links_of records b.here.next) (ap (λ o. option_map_or (λ (x : ArcRec). link k (vertex_of x.tip) x.len ∷ []) o []) b.is);
+          ends = ends_longer n (length records) records b.here.next (omega arith) b.ends;
         }

@@ -2,7 +2,7 @@
 use Rattle.std.proofs.Common.{◌≡◌, ◌<◌, ◌+◌, ℕ, [], ◌∷◌, ◌++◌, length, refl, ap, sym, ◌∙◌, arith, replicate}
 use Rattle.std.proofs.lemmas.List.{length-map, length-replicate, length_push, replicate_more}
 use Rattle.std.proofs.Math.Nat.{add_comm}
-use Rattle.sgb_graph.specs.Columns.{HasPlace, HoldsMany, column_kind, values}
+use Rattle.sgb_graph.specs.inner.Columns.{HasPlace, HoldsMany, column_kind, values}
 use Rattle.sgb_graph.specs.declared.columns.Column.{Column}
 use Rattle.sgb_graph.specs.declared.columns.Column.TheVariants.{Unused, Ints, Vertices, Texts, Chains}
 use Rattle.sgb_graph.specs.declared.fields.Kind.TheVariants.{Z}

@@ -2,7 +2,7 @@
 use Rattle.std.proofs.Common.{◌≡◌, ℕ, ◌+◌, ◌-◌, ◌%◌, ◌<◌, ◌≤◌, ◌≢◌, ◌⊎◌, List, length, get_or, set, refl, ap, sym, ◌∙◌, subst, inl, inr, arith, length-set, get_or-set_same, get_or-set_other}
 use Rattle.std.proofs.lemmas.Bool.{cases_lt}
 use Rattle.sgb_graph.specs.Draws.{modulus, difference, x_number}
-use Rattle.sgb_graph.specs.Flips.{HandsOut, IsCycle, IsNextCycle}
+use Rattle.sgb_graph.specs.inner.Flips.{HandsOut, IsCycle, IsNextCycle}
 use Rattle.sgb_graph.proofs.DrawLemmas.{later_number}
 
 -- a difference is below 2^31

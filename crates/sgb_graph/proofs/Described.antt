@@ -1,5 +1,5 @@
 -- The graph that is described: it is one, and the only one.
-use Rattle.std.proofs.Common.{◌≡◌, ◌≢◌, ◌+◌, ◌<◌, ◌≤◌, ◌⊎◌, ℕ, zero, suc, min, max, Bool, true, false, List, [], ◌∷◌, length, map, zip, drop, Option, Some, None, refl, ap, sym, ◌∙◌, subst, inl, inr, arith}
+use Rattle.std.proofs.Common.{◌≡◌, ◌≢◌, ◌+◌, ◌<◌, ◌≤◌, ◌⊎◌, ℕ, zero, suc, min, max, Bool, true, false, List, [], ◌∷◌, length, get_or, map, zip, drop, Option, Some, None, refl, ap, sym, ◌∙◌, subst, inl, inr, arith}
 use Rattle.std.specs.Prelude.{slice_get}
 use Rattle.std.specs.List.{All, AllPairs, Contains, enumerate_from, flat_map}
 use Rattle.std.proofs.lemmas.Bool.{eq-eqb, ne_eqb, cases_eq}
@@ -7,11 +7,12 @@ use Rattle.std.proofs.lemmas.List.Elements.{All-nil, All-cons, All-append, All-c
 use Rattle.std.proofs.lemmas.List.{length-map}
 use Rattle.std.proofs.lemmas.List.FromFn.{length-enumerate_from}
 use Rattle.std.proofs.lemmas.Option.{slice_get_within, get_or_from_slice_get}
+use Rattle.sgb_vec.proofs.Lists.{All-flat_map, Contains-cases, Contains-first, Contains-none, Contains-other}
 use Rattle.sgb_graph.specs.Graphs.{GraphData, HasNoFields, ends_from, ends_of, link_of, links_of, vertex_of}
-use Rattle.sgb_graph.specs.Events.{Event, IsWithin, Row, all_rows, list_of, rows_of}
+use Rattle.sgb_graph.specs.Events.{Event, IsWithin, Record, all_records, list_of, records_of}
 use Rattle.sgb_graph.specs.Descriptions.{Description, IsGraphOf}
 use Rattle.sgb_graph.specs.Made.{first_number, graph_described, number_after, record_in, records_of_events, vertex_with, vertices_of}
-use Rattle.sgb_graph.specs.Growth.{graph_data, link, row}
+use Rattle.sgb_graph.specs.Growth.{graph_data, link, record_from}
 use Rattle.sgb_graph.specs.declared.fields.Ref.TheVariants.{At}
 use Rattle.sgb_graph.specs.declared.fields.Util.{Util}
 use Rattle.sgb_graph.specs.declared.fields.Util.TheVariants.{Nothing}
@@ -21,7 +22,7 @@ use Rattle.sgb_graph.specs.declared.fields.Link.{Link}
 use Rattle.sgb_graph.proofs.AddingArcs.{element_at}
 use Rattle.sgb_graph.proofs.Chains.{IsStep, ends_none, ends_step, links_of_none, links_step, links_within, numbers_none, step_of}
 use Rattle.sgb_graph.proofs.Growing.{chain_at}
-use Rattle.sgb_graph.proofs.ListMembers.{AreApart, apart_on_list, contains_after, contains_cases, contains_first, contains_none, each_on_list, only_on_list, short_list}
+use Rattle.sgb_graph.proofs.ListMembers.{AreApart, apart_on_list, each_on_list, only_on_list, short_list}
 
 -- a list that ends begins with its first record
 first_is : (records : List ArcRec) (first : Option ℕ) → ends_of records first ≡ true → first_number (links_of records first) ≡ first
@@ -30,7 +31,7 @@ first_is records (Some k) ends = ap first_number (step_of records k ends).links
 
 -- and after each record on it stands the one that comes next
 after_is : (links : List Link) (records : List ArcRec) (first : Option ℕ) (l : Link) (r : ArcRec) → ends_of records first ≡ true → links_of records first ≡ links → Contains links l → slice_get records l.number ≡ Some r → number_after l.number links ≡ r.next
-after_is [] records first l r ends e has is = absurd (contains_none l has)
+after_is [] records first l r ends e has is = absurd (Contains-none l has)
 after_is (a ∷ links) records None l r ends e has is = let none = sym (links_of_none records) ∙ e in absurd cc
 after_is (a ∷ links) records (Some k) l r ends e has is =
     by_number (cases_eq a.number l.number) (after_is links records step.here.next l r step.ends (sym rest))
@@ -48,7 +49,7 @@ after_is (a ∷ links) records (Some k) l r ends e has is =
     by_number (inl same) later =
         let here : step.here ≡ r = let at = step.is in let start = number in cc in
         rw (eq-eqb a.number l.number same) (ap first_number rest ∙ first_is records step.here.next step.ends ∙ ap (λ (x : ArcRec). x.next) here)
-    by_number (inr other) later = rw (ne_eqb a.number l.number other) (by_place (contains_cases a l links has))
+    by_number (inr other) later = rw (ne_eqb a.number l.number other) (by_place (Contains-cases a l links has))
       where
         by_place : (a ≡ l) ⊎ Contains links l → number_after l.number links ≡ r.next
         by_place (inl same) = absurd (other (ap (λ (x : Link). x.number) same))
@@ -66,7 +67,7 @@ vertices_are lists k (x ∷ vertices) firsts =
     (vertices_are lists (k + 1) vertices (λ i y is. let after : k + suc i ≡ k + 1 + i = omega arith in firsts (suc i) y is ∙ ap (λ j. first_number (lists j)) after))
 
 -- a record by its parts
-record_is : (links : List Link) (k : ℕ) (a : Row) (r : ArcRec) → r.tip ≡ At a.tip → r.len ≡ a.len → HasNoFields r → r.next ≡ number_after k links → r ≡ record_in links k a
+record_is : (links : List Link) (k : ℕ) (a : Record) (r : ArcRec) → r.tip ≡ At a.tip → r.len ≡ a.len → HasNoFields r → r.next ≡ number_after k links → r ≡ record_in links k a
 record_is links k a r tip len none next =
     ap (λ t. record r { tip = t }) tip
     ∙ ap (λ n. record r { tip = At a.tip; next = n }) next
@@ -75,42 +76,40 @@ record_is links k a r tip len none next =
     ∙ ap (λ f. record r { tip = At a.tip; next = number_after k links; len = a.len; a = Nothing; b = f }) none.1
 
 -- records by theirs
-records_are : (lists : ℕ → List Link) (k : ℕ) (records : List ArcRec) (rows : List Row) → map (λ r. r.tip) records ≡ map (λ r. At r.tip) rows → map (λ r. r.len) records ≡ map (λ r. r.len) rows → All HasNoFields records
-    → ((i : ℕ) (r : ArcRec) (a : Row) → slice_get records i ≡ Some r → slice_get rows i ≡ Some a → r.next ≡ number_after (k + i) (lists a.start))
-    → records ≡ map (λ p. record_in (lists p.1.start) p.0 p.1) (enumerate_from k rows)
+records_are : (lists : ℕ → List Link) (k : ℕ) (records : List ArcRec) (wanted : List Record) → map (λ r. r.tip) records ≡ map (λ r. At r.tip) wanted → map (λ r. r.len) records ≡ map (λ r. r.len) wanted → All HasNoFields records
+    → ((i : ℕ) (r : ArcRec) (a : Record) → slice_get records i ≡ Some r → slice_get wanted i ≡ Some a → r.next ≡ number_after (k + i) (lists a.start))
+    → records ≡ map (λ p. record_in (lists p.1.start) p.0 p.1) (enumerate_from k wanted)
 records_are lists k [] [] tips lengths none nexts = refl
-records_are lists k [] (a ∷ rows) tips lengths none nexts = absurd cc
+records_are lists k [] (a ∷ wanted) tips lengths none nexts = absurd cc
 records_are lists k (r ∷ records) [] tips lengths none nexts = absurd cc
-records_are lists k (r ∷ records) (a ∷ rows) tips lengths none nexts =
+records_are lists k (r ∷ records) (a ∷ wanted) tips lengths none nexts =
     let place : k + 0 ≡ k = omega arith in
     let next : r.next ≡ number_after k (lists a.start) = nexts 0 r a refl refl ∙ ap (λ j. number_after j (lists a.start)) place in
     let own = record_is (lists a.start) k a r (same_first tips) (same_first lengths) (All-head HasNoFields r records none) next in
     ap (λ x. x ∷ records) own
     ∙ ap (λ xs. record_in (lists a.start) k a ∷ xs)
-    (records_are lists (k + 1) records rows (ap (drop 1) tips) (ap (drop 1) lengths) (All-tail HasNoFields r records none)
+    (records_are lists (k + 1) records wanted (ap (drop 1) tips) (ap (drop 1) lengths) (All-tail HasNoFields r records none)
     (λ i s b is at. let after : k + suc i ≡ k + 1 + i = omega arith in nexts (suc i) s b is at ∙ ap (λ j. number_after j (lists b.start)) after))
   where
     same_first : {X : Type 0} {x y : X} {xs ys : List X} → x ∷ xs ≡ y ∷ ys → x ≡ y
     same_first e = cc
 
 -- an event within the vertices has its records there
-rows_within : (n : ℕ) (directed : Bool) (e : Event) → IsWithin n e → All (λ r. r.start < n) (rows_of directed e)
-rows_within n true e within = All-cons (λ (r : Row). r.start < n) (row e.from e.to e.len) [] within.0 (All-nil (λ (r : Row). r.start < n))
-rows_within n false e within =
+pub records_within : (n : ℕ) (directed : Bool) (e : Event) → IsWithin n e → All (λ r. r.start < n) (records_of directed e)
+records_within n true e within = All-cons (λ (r : Record). r.start < n) (record_from e.from e.to e.len) [] within.0 (All-nil (λ (r : Record). r.start < n))
+records_within n false e within =
     let from = within.0 in
     let to = within.1 in
     let smaller : min e.from e.to < n = omega arith in
     let greater : max e.from e.to < n = omega arith in
-    let lower = row (min e.from e.to) (max e.from e.to) e.len in
-    let higher = row (max e.from e.to) (min e.from e.to) e.len in
-    All-cons (λ (r : Row). r.start < n) lower (higher ∷ []) smaller (All-cons (λ (r : Row). r.start < n) higher [] greater (All-nil (λ (r : Row). r.start < n)))
+    let lower = record_from (min e.from e.to) (max e.from e.to) e.len in
+    let higher = record_from (max e.from e.to) (min e.from e.to) e.len in
+    All-cons (λ (r : Record). r.start < n) lower (higher ∷ []) smaller (All-cons (λ (r : Record). r.start < n) higher [] greater (All-nil (λ (r : Record). r.start < n)))
 
 -- so have all
-all_rows_within : (n : ℕ) (directed : Bool) (events : List Event) → All (IsWithin n) events → All (λ r. r.start < n) (all_rows directed events)
-all_rows_within n directed [] within = All-nil (λ (r : Row). r.start < n)
-all_rows_within n directed (e ∷ events) within =
-    All-append (λ (r : Row). r.start < n) (rows_of directed e) (all_rows directed events)
-    (rows_within n directed e (All-head (IsWithin n) e events within)) (all_rows_within n directed events (All-tail (IsWithin n) e events within))
+all_records_within : (n : ℕ) (directed : Bool) (events : List Event) → All (IsWithin n) events → All (λ r. r.start < n) (all_records directed events)
+all_records_within n directed events within =
+    All-flat_map (λ (r : Record). r.start < n) (records_of directed) events (λ k e inside. records_within n directed (get_or events k e) (within k e inside))
 
 -- what holds of all holds of each
 at_get : {X : Type 0} (P : X → Type 0) (xs : List X) (i : ℕ) (x : X) → All P xs → slice_get xs i ≡ Some x → P x
@@ -126,11 +125,11 @@ described_only d g h =
     ∙ ap (λ x. graph_data d.id count d.kinds d.util x g.records) vertices
     ∙ ap (λ x. graph_data d.id count d.kinds d.util (vertices_of d) x) records
   where
-    rows : List Row
-    rows = all_rows d.directed d.events
+    wanted : List Record
+    wanted = all_records d.directed d.events
 
     count : ℕ
-    count = length rows
+    count = length wanted
 
     lists : ℕ → List Link
     lists v = list_of d.directed d.events v
@@ -151,16 +150,16 @@ described_only d g h =
         ∙ ap (λ ns. map (λ p. vertex_with p.1.0 p.1.1 (lists p.0)) (enumerate_from 0 (zip ns (map (λ v. v.util) g.vertices)))) h.names
         ∙ ap (λ fs. map (λ p. vertex_with p.1.0 p.1.1 (lists p.0)) (enumerate_from 0 (zip d.names fs))) h.fields
 
-    next_at : (i : ℕ) (r : ArcRec) (a : Row) → slice_get g.records i ≡ Some r → slice_get rows i ≡ Some a → r.next ≡ number_after (0 + i) (lists a.start)
+    next_at : (i : ℕ) (r : ArcRec) (a : Record) → slice_get g.records i ≡ Some r → slice_get wanted i ≡ Some a → r.next ≡ number_after (0 + i) (lists a.start)
     next_at i r a is at =
         let place : i ≡ 0 + i = omega arith in
-        let below : a.start < length g.vertices = at_get (λ (b : Row). b.start < length g.vertices) rows i a (all_rows_within (length g.vertices) d.directed d.events h.arcs.within) at in
+        let below : a.start < length g.vertices = at_get (λ (b : Record). b.start < length g.vertices) wanted i a (all_records_within (length g.vertices) d.directed d.events h.arcs.within) at in
         let x = element_at g.vertices a.start below in
         sym (after_is (lists a.start) g.records x.element.arcs (link i a.tip a.len) r (chain_ends a.start x.element x.is) (chain_is a.start x.element x.is) (each_on_list d.directed d.events i a at) is)
         ∙ ap (λ j. number_after j (lists a.start)) place
 
     records : g.records ≡ records_of_events d.directed d.events
-    records = records_are lists 0 g.records rows h.arcs.tips h.arcs.lengths h.arc_fields next_at
+    records = records_are lists 0 g.records wanted h.arcs.tips h.arcs.lengths h.arc_fields next_at
 
 -- the vertices of a description have its names
 names_are : (lists : ℕ → List Link) (k : ℕ) (names : List (List ℕ)) (fields : List (List Util)) → length fields ≡ length names → map (λ v. v.name) (map (λ p. vertex_with p.1.0 p.1.1 (lists p.0)) (enumerate_from k (zip names fields))) ≡ names
@@ -191,29 +190,29 @@ firsts_are lists k (name ∷ names) (field ∷ fields) (suc i) x is =
     let place : k + 1 + i ≡ k + suc i = omega arith in
     firsts_are lists (k + 1) names fields i x is ∙ ap (λ j. first_number (lists j)) place
 
--- the records of rows: their tips, their lengths, their fields, and each at its place
-record_tips : (lists : ℕ → List Link) (k : ℕ) (rows : List Row) → map (λ r. r.tip) (map (λ p. record_in (lists p.1.start) p.0 p.1) (enumerate_from k rows)) ≡ map (λ r. At r.tip) rows
+-- the records that are wanted: their tips, their lengths, their fields, and each at its place
+record_tips : (lists : ℕ → List Link) (k : ℕ) (wanted : List Record) → map (λ r. r.tip) (map (λ p. record_in (lists p.1.start) p.0 p.1) (enumerate_from k wanted)) ≡ map (λ r. At r.tip) wanted
 record_tips lists k [] = refl
-record_tips lists k (a ∷ rows) = ap (λ ts. At a.tip ∷ ts) (record_tips lists (k + 1) rows)
+record_tips lists k (a ∷ wanted) = ap (λ ts. At a.tip ∷ ts) (record_tips lists (k + 1) wanted)
 
-record_lengths : (lists : ℕ → List Link) (k : ℕ) (rows : List Row) → map (λ r. r.len) (map (λ p. record_in (lists p.1.start) p.0 p.1) (enumerate_from k rows)) ≡ map (λ r. r.len) rows
+record_lengths : (lists : ℕ → List Link) (k : ℕ) (wanted : List Record) → map (λ r. r.len) (map (λ p. record_in (lists p.1.start) p.0 p.1) (enumerate_from k wanted)) ≡ map (λ r. r.len) wanted
 record_lengths lists k [] = refl
-record_lengths lists k (a ∷ rows) = ap (λ ls. a.len ∷ ls) (record_lengths lists (k + 1) rows)
+record_lengths lists k (a ∷ wanted) = ap (λ ls. a.len ∷ ls) (record_lengths lists (k + 1) wanted)
 
-record_fields : (lists : ℕ → List Link) (k : ℕ) (rows : List Row) → All HasNoFields (map (λ p. record_in (lists p.1.start) p.0 p.1) (enumerate_from k rows))
+record_fields : (lists : ℕ → List Link) (k : ℕ) (wanted : List Record) → All HasNoFields (map (λ p. record_in (lists p.1.start) p.0 p.1) (enumerate_from k wanted))
 record_fields lists k [] = All-nil HasNoFields
-record_fields lists k (a ∷ rows) =
-    All-cons HasNoFields (record_in (lists a.start) k a) (map (λ p. record_in (lists p.1.start) p.0 p.1) (enumerate_from (k + 1) rows)) (refl, refl) (record_fields lists (k + 1) rows)
+record_fields lists k (a ∷ wanted) =
+    All-cons HasNoFields (record_in (lists a.start) k a) (map (λ p. record_in (lists p.1.start) p.0 p.1) (enumerate_from (k + 1) wanted)) (refl, refl) (record_fields lists (k + 1) wanted)
 
-record_at : (lists : ℕ → List Link) (k : ℕ) (rows : List Row) (i : ℕ) (a : Row) → slice_get rows i ≡ Some a → slice_get (map (λ p. record_in (lists p.1.start) p.0 p.1) (enumerate_from k rows)) i ≡ Some (record_in (lists a.start) (k + i) a)
+record_at : (lists : ℕ → List Link) (k : ℕ) (wanted : List Record) (i : ℕ) (a : Record) → slice_get wanted i ≡ Some a → slice_get (map (λ p. record_in (lists p.1.start) p.0 p.1) (enumerate_from k wanted)) i ≡ Some (record_in (lists a.start) (k + i) a)
 record_at lists k [] i a is = absurd cc
-record_at lists k (b ∷ rows) zero a is =
+record_at lists k (b ∷ wanted) zero a is =
     let place : k ≡ k + 0 = omega arith in
     let same : b ≡ a = cc in
     ap (λ c. Some (record_in (lists c.start) k c)) same ∙ ap (λ j. Some (record_in (lists a.start) j a)) place
-record_at lists k (b ∷ rows) (suc i) a is =
+record_at lists k (b ∷ wanted) (suc i) a is =
     let place : k + 1 + i ≡ k + suc i = omega arith in
-    record_at lists (k + 1) rows i a is ∙ ap (λ j. Some (record_in (lists a.start) j a)) place
+    record_at lists (k + 1) wanted i a is ∙ ap (λ j. Some (record_in (lists a.start) j a)) place
 
 -- the record of an arc that stands in a list
 record StandsIn (records : List ArcRec) (links : List Link) (l : Link) : Type 0 where
@@ -232,7 +231,7 @@ way_is : (fuel : ℕ) (records : List ArcRec) (links : List Link) → length lin
 way_is fuel records [] short apart stand = record { ends = ends_none fuel records; arcs = ap (flat_map (link_of records)) (numbers_none fuel records) }
 way_is zero records (l ∷ links) short apart stand = absurd (omega arith)
 way_is (suc fuel) records (l ∷ links) short apart stand =
-    let first = stand l (contains_first l links) in
+    let first = stand l (Contains-first l links) in
     let next : first.here.next ≡ first_number links = first.next ∙ rw (eq-eqb l.number l.number refl) refl in
     let rest = way_is fuel records links (omega arith) (λ i j d less below. apart (suc i) (suc j) d (omega arith) (omega arith)) later in
     record {
@@ -246,7 +245,7 @@ way_is (suc fuel) records (l ∷ links) short apart stand =
   where
     later : (m : Link) → Contains links m → StandsIn records links m
     later m has =
-        let stands = stand m (contains_after l m links has) in
+        let stands = stand m (Contains-other l m links has) in
         let other : l.number ≢ m.number = All-contains (AreApart l) links m (λ k d below. apart 0 (suc k) d (omega arith) (omega arith)) has in
         record { here = stands.here; is = stands.is; tip = stands.tip; len = stands.len; next = stands.next ∙ rw (ne_eqb l.number m.number other) refl }
 
@@ -260,19 +259,19 @@ described_is d within same = record {
   fields = fields_are lists 0 d.names d.fields same;
   arcs = record {
     count = refl;
-    tips = record_tips lists 0 rows;
-    lengths = record_lengths lists 0 rows;
+    tips = record_tips lists 0 wanted;
+    lengths = record_lengths lists 0 wanted;
     lists = λ v below. let x = element_at (vertices_of d) v below in chain_at (graph_described d) v x.element x.is ∙ ap (links_of records) (first_at v x.element x.is) ∙ (way v).arcs;
     within = subst (λ n. All (IsWithin n) d.events) (sym size) within;
     ends = λ v x below. let y = element_at (vertices_of d) v below in
         subst (λ z. ends_of records z.arcs ≡ true) (sym (get_or_from_slice_get (vertices_of d) v y.element x y.is))
         (ap (ends_of records) (first_at v y.element y.is) ∙ (way v).ends);
   };
-  arc_fields = record_fields lists 0 rows;
+  arc_fields = record_fields lists 0 wanted;
 }
   where
-    rows : List Row
-    rows = all_rows d.directed d.events
+    wanted : List Record
+    wanted = all_records d.directed d.events
 
     records : List ArcRec
     records = records_of_events d.directed d.events
@@ -288,15 +287,15 @@ described_is d within same = record {
 
     stands : (v : ℕ) (l : Link) → Contains (lists v) l → StandsIn records (lists v) l
     stands v l has = record {
-      here = record_in (lists v) (0 + l.number) (row v l.tip l.len);
-      is = record_at lists 0 rows l.number (row v l.tip l.len) (only_on_list d.directed d.events v l has);
+      here = record_in (lists v) (0 + l.number) (record_from v l.tip l.len);
+      is = record_at lists 0 wanted l.number (record_from v l.tip l.len) (only_on_list d.directed d.events v l has);
       tip = refl;
       len = refl;
       next = let place : 0 + l.number ≡ l.number = omega arith in ap (λ j. number_after j (lists v)) place;
     }
 
-    many : length records ≡ length rows
-    many = length-map (enumerate_from 0 rows) (λ p. record_in (lists p.1.start) p.0 p.1) ∙ length-enumerate_from 0 rows
+    many : length records ≡ length wanted
+    many = length-map (enumerate_from 0 wanted) (λ p. record_in (lists p.1.start) p.0 p.1) ∙ length-enumerate_from 0 wanted
 
     way : (v : ℕ) → IsWay (length records) records (lists v)
     way v = way_is (length records) records (lists v) (omega (arith, many, short_list d.directed d.events v)) (apart_on_list d.directed d.events v) (stands v)

@@ -11,17 +11,7 @@ use Rattle.std.proofs.lemmas.Map.Keys.{IsDistinct-cons}
 use Rattle.std.proofs.lemmas.Map.Steps.{length-le_from_distinct_below}
 use Rattle.sgb_graph.specs.Graphs.{numbers_from, ends_from, ends_of}
 use Rattle.sgb_graph.specs.declared.fields.ArcRec.{ArcRec}
-use Rattle.sgb_graph.proofs.Chains.{ends_none, ends_step, ends_after, ends_more, no_start, numbers_none, numbers_step, numbers_more, is_record, numbers_are_records}
-
--- a way that ends, ends with more steps
-pub ends_longer : (fuel steps : ℕ) (records : List ArcRec) (first : Option ℕ) → fuel ≤ steps → ends_from fuel records first ≡ true → ends_from steps records first ≡ true
-ends_longer fuel steps records first le e =
-    subst (λ rs. ends_from steps rs first ≡ true) (append-nil records) (ends_more fuel steps records [] first le e)
-
--- and meets the same records
-pub numbers_longer : (fuel steps : ℕ) (records : List ArcRec) (first : Option ℕ) → fuel ≤ steps → ends_from fuel records first ≡ true → numbers_from steps records first ≡ numbers_from fuel records first
-numbers_longer fuel steps records first le e =
-    subst (λ rs. numbers_from steps rs first ≡ numbers_from fuel records first) (append-nil records) (numbers_more fuel steps records [] first le e)
+use Rattle.sgb_graph.proofs.Chains.{ends_after, ends_longer, ends_more, ends_none, ends_step, is_record, no_start, numbers_are_records, numbers_longer, numbers_more, numbers_none, numbers_step}
 
 -- numbers that are equal by their test
 equal_numbers : (k j : ℕ) → eqb k j ≡ true → k ≡ j

@@ -9,8 +9,8 @@ use Rattle.std.proofs.lemmas.List.Elements.{All-nil, All-cons, All-append, All-m
 use Rattle.std.proofs.lemmas.List.Concat.{flat_map-append}
 use Rattle.std.proofs.lemmas.Option.{slice_get-map}
 use Rattle.sgb_graph.specs.Graphs.{GraphData, ListsEnd, chain_of, ends_of, links_of}
-use Rattle.sgb_graph.specs.Events.{Event, Row, HasArcsOf, IsWithin, all_rows, links_at, list_from, list_of, rows_of}
-use Rattle.sgb_graph.specs.Growth.{AddsArc, AddsEdge, ArcsLead, EdgesLead, link, new_graph, new_vertex, row}
+use Rattle.sgb_graph.specs.Events.{Event, Record, HasArcsOf, IsWithin, all_records, links_at, list_from, list_of, records_of}
+use Rattle.sgb_graph.specs.Growth.{AddsArc, AddsEdge, ArcsLead, EdgesLead, link, new_graph, new_vertex, record_from}
 use Rattle.sgb_graph.specs.declared.fields.Ref.TheVariants.{At}
 use Rattle.sgb_graph.specs.declared.fields.Vertex.{Vertex}
 use Rattle.sgb_graph.proofs.Chains.{ends_none, links_of_none}
@@ -21,48 +21,48 @@ unfolding list_from
 list_none directed k v = refl
 
 -- the list with an event in front
-pub list_first : (directed : Bool) (k : ℕ) (e : Event) (events : List Event) (v : ℕ) → list_from directed k (e ∷ events) v ≡ list_from directed (k + length (rows_of directed e)) events v ++ links_at v k (rows_of directed e)
+pub list_first : (directed : Bool) (k : ℕ) (e : Event) (events : List Event) (v : ℕ) → list_from directed k (e ∷ events) v ≡ list_from directed (k + length (records_of directed e)) events v ++ links_at v k (records_of directed e)
 unfolding list_from
 list_first directed k e events v = refl
 
 -- the records of one more event
-rows_push : (directed : Bool) (events : List Event) (e : Event) → all_rows directed (events ++ e ∷ []) ≡ all_rows directed events ++ rows_of directed e
-rows_push directed events e =
-    flat_map-append (rows_of directed) events (e ∷ []) ∙ ap (λ rows. all_rows directed events ++ rows) (append-nil (rows_of directed e))
+records_push : (directed : Bool) (events : List Event) (e : Event) → all_records directed (events ++ e ∷ []) ≡ all_records directed events ++ records_of directed e
+records_push directed events e =
+    flat_map-append (records_of directed) events (e ∷ []) ∙ ap (λ records. all_records directed events ++ records) (append-nil (records_of directed e))
 
 -- the list with one more event at the end: its records come first
-list_push : (directed : Bool) (k : ℕ) (events : List Event) (e : Event) (v : ℕ) → list_from directed k (events ++ e ∷ []) v ≡ links_at v (k + length (all_rows directed events)) (rows_of directed e) ++ list_from directed k events v
+list_push : (directed : Bool) (k : ℕ) (events : List Event) (e : Event) (v : ℕ) → list_from directed k (events ++ e ∷ []) v ≡ links_at v (k + length (all_records directed events)) (records_of directed e) ++ list_from directed k events v
 list_push directed k [] e v =
-    let new = links_at v k (rows_of directed e) in
+    let new = links_at v k (records_of directed e) in
     let none : k + 0 ≡ k = omega arith in
     list_first directed k e [] v
-    ∙ (ap (λ ls. ls ++ new) (list_none directed (k + length (rows_of directed e)) v)
-    ∙ sym (ap (λ ls. links_at v (k + 0) (rows_of directed e) ++ ls) (list_none directed k v) ∙ (append-nil (links_at v (k + 0) (rows_of directed e)) ∙ ap (λ j. links_at v j (rows_of directed e)) none)))
+    ∙ (ap (λ ls. ls ++ new) (list_none directed (k + length (records_of directed e)) v)
+    ∙ sym (ap (λ ls. links_at v (k + 0) (records_of directed e) ++ ls) (list_none directed k v) ∙ (append-nil (links_at v (k + 0) (records_of directed e)) ∙ ap (λ j. links_at v j (records_of directed e)) none)))
 list_push directed k (x ∷ events) e v =
-    let own = rows_of directed x in
+    let own = records_of directed x in
     let from = k + length own in
-    let place : from + length (all_rows directed events) ≡ k + length (own ++ all_rows directed events) = omega (arith, length-append own (all_rows directed events)) in
+    let place : from + length (all_records directed events) ≡ k + length (own ++ all_records directed events) = omega (arith, length-append own (all_records directed events)) in
     list_first directed k x (events ++ e ∷ []) v
-    ∙ (ap (λ ls. ls ++ links_at v k own) (list_push directed from events e v ∙ ap (λ j. links_at v j (rows_of directed e) ++ list_from directed from events v) place)
-    ∙ (append_assoc (links_at v (k + length (own ++ all_rows directed events)) (rows_of directed e)) (list_from directed from events v) (links_at v k own)
-    ∙ ap (λ ls. links_at v (k + length (own ++ all_rows directed events)) (rows_of directed e) ++ ls) (sym (list_first directed k x events v))))
+    ∙ (ap (λ ls. ls ++ links_at v k own) (list_push directed from events e v ∙ ap (λ j. links_at v j (records_of directed e) ++ list_from directed from events v) place)
+    ∙ (append_assoc (links_at v (k + length (own ++ all_records directed events)) (records_of directed e)) (list_from directed from events v) (links_at v k own)
+    ∙ ap (λ ls. links_at v (k + length (own ++ all_records directed events)) (records_of directed e) ++ ls) (sym (list_first directed k x events v))))
 
 -- the records of an event come after those of the graph, and in front of the lists
-record AddsRows (directed : Bool) (old new : GraphData) (e : Event) : Type 0 where
-  count : new.m ≡ old.m + length (rows_of directed e)
-  tips : map (λ r. r.tip) new.records ≡ map (λ r. r.tip) old.records ++ map (λ r. At r.tip) (rows_of directed e)
-  lengths : map (λ r. r.len) new.records ≡ map (λ r. r.len) old.records ++ map (λ r. r.len) (rows_of directed e)
-  lists : (w : ℕ) → chain_of new w ≡ links_at w (length old.records) (rows_of directed e) ++ chain_of old w
+record AddsRecords (directed : Bool) (old new : GraphData) (e : Event) : Type 0 where
+  count : new.m ≡ old.m + length (records_of directed e)
+  tips : map (λ r. r.tip) new.records ≡ map (λ r. r.tip) old.records ++ map (λ r. At r.tip) (records_of directed e)
+  lengths : map (λ r. r.len) new.records ≡ map (λ r. r.len) old.records ++ map (λ r. r.len) (records_of directed e)
+  lists : (w : ℕ) → chain_of new w ≡ links_at w (length old.records) (records_of directed e) ++ chain_of old w
   within : IsWithin (length old.vertices) e
   ends : ListsEnd new
   size : length new.vertices ≡ length old.vertices
 
 -- then the graph has the arcs of that event too
-rows_added : (directed : Bool) (events : List Event) (e : Event) (old new : GraphData) → HasArcsOf directed events old → AddsRows directed old new e → HasArcsOf directed (events ++ e ∷ []) new
-rows_added directed events e old new has adds = record {
-  count = adds.count ∙ sym (ap length more ∙ (length-append rows own ∙ ap (λ j. j + length own) (sym has.count)));
-  tips = adds.tips ∙ (ap (λ ts. ts ++ map (λ (r : Row). At r.tip) own) has.tips ∙ sym (ap (map (λ (r : Row). At r.tip)) more ∙ map-append (λ (r : Row). At r.tip) rows own));
-  lengths = adds.lengths ∙ (ap (λ ls. ls ++ map (λ (r : Row). r.len) own) has.lengths ∙ sym (ap (map (λ (r : Row). r.len)) more ∙ map-append (λ (r : Row). r.len) rows own));
+records_added : (directed : Bool) (events : List Event) (e : Event) (old new : GraphData) → HasArcsOf directed events old → AddsRecords directed old new e → HasArcsOf directed (events ++ e ∷ []) new
+records_added directed events e old new has adds = record {
+  count = adds.count ∙ sym (ap length more ∙ (length-append records own ∙ ap (λ j. j + length own) (sym has.count)));
+  tips = adds.tips ∙ (ap (λ ts. ts ++ map (λ (r : Record). At r.tip) own) has.tips ∙ sym (ap (map (λ (r : Record). At r.tip)) more ∙ map-append (λ (r : Record). At r.tip) records own));
+  lengths = adds.lengths ∙ (ap (λ ls. ls ++ map (λ (r : Record). r.len) own) has.lengths ∙ sym (ap (map (λ (r : Record). r.len)) more ∙ map-append (λ (r : Record). r.len) records own));
   lists = λ v below. adds.lists v
       ∙ (ap (λ ls. links_at v (length old.records) own ++ ls) (has.lists v (omega (arith, adds.size)))
       ∙ (ap (λ j. links_at v j own ++ list_of directed events v) place ∙ sym (list_push directed 0 events e v)));
@@ -71,17 +71,17 @@ rows_added directed events e old new has adds = record {
   ends = adds.ends;
 }
   where
-    rows : List Row
-    rows = all_rows directed events
+    records : List Record
+    records = all_records directed events
 
-    own : List Row
-    own = rows_of directed e
+    own : List Record
+    own = records_of directed e
 
-    more : all_rows directed (events ++ e ∷ []) ≡ rows ++ own
-    more = rows_push directed events e
+    more : all_records directed (events ++ e ∷ []) ≡ records ++ own
+    more = records_push directed events e
 
-    place : length old.records ≡ 0 + length rows
-    place = omega (arith, ap length has.tips, length-map old.records (λ r. r.tip), length-map rows (λ r. At r.tip))
+    place : length old.records ≡ 0 + length records
+    place = omega (arith, ap length has.tips, length-map old.records (λ r. r.tip), length-map records (λ r. At r.tip))
 
 -- a new graph has no arcs
 pub new_has_none : (directed : Bool) (names : List (List ℕ)) → HasArcsOf directed [] (new_graph names)
@@ -106,32 +106,32 @@ new_has_none directed names = record {
     none_at : (v : ℕ) → chain_of (new_graph names) v ≡ []
     none_at v = ap (λ o. option_map_or (λ (x : Vertex). links_of [] x.arcs) o []) (slice_get-map new_vertex names v) ∙ by_name (slice_get names v)
 
--- the link of a row where it starts at this vertex, and none where it does not
-pub link_here : (w k : ℕ) (r : Row) (rows : List Row) → w ≡ r.start → links_at w k (r ∷ rows) ≡ link k r.tip r.len ∷ links_at w (k + 1) rows
-link_here w k r rows same = rw (eq-eqb r.start w (sym same)) refl
+-- the link of a record where it starts at this vertex, and none where it does not
+pub link_here : (w k : ℕ) (r : Record) (records : List Record) → w ≡ r.start → links_at w k (r ∷ records) ≡ link k r.tip r.len ∷ links_at w (k + 1) records
+link_here w k r records same = rw (eq-eqb r.start w (sym same)) refl
 
 -- none where it starts elsewhere
-pub no_link_here : (w k : ℕ) (r : Row) (rows : List Row) → w ≢ r.start → links_at w k (r ∷ rows) ≡ links_at w (k + 1) rows
-no_link_here w k r rows other = rw (ne_eqb r.start w (λ e. other (sym e))) refl
+pub no_link_here : (w k : ℕ) (r : Record) (records : List Record) → w ≢ r.start → links_at w k (r ∷ records) ≡ links_at w (k + 1) records
+no_link_here w k r records other = rw (ne_eqb r.start w (λ e. other (sym e))) refl
 
--- the lists of vertices u and v, and of others, with two rows in front
-two_here : (k u : ℕ) (far : ℤ) → links_at u k (row u u far ∷ row u u far ∷ []) ≡ link k u far ∷ link (k + 1) u far ∷ []
-two_here k u far = link_here u k (row u u far) (row u u far ∷ []) refl ∙ ap (λ ls. link k u far ∷ ls) (link_here u (k + 1) (row u u far) [] refl)
+-- the lists of vertices u and v, and of others, with two records in front
+two_here : (k u : ℕ) (far : ℤ) → links_at u k (record_from u u far ∷ record_from u u far ∷ []) ≡ link k u far ∷ link (k + 1) u far ∷ []
+two_here k u far = link_here u k (record_from u u far) (record_from u u far ∷ []) refl ∙ ap (λ ls. link k u far ∷ ls) (link_here u (k + 1) (record_from u u far) [] refl)
 
 -- at the first of two ends
-first_here : (k u v : ℕ) (far : ℤ) → u ≢ v → links_at u k (row u v far ∷ row v u far ∷ []) ≡ link k v far ∷ []
-first_here k u v far other = link_here u k (row u v far) (row v u far ∷ []) refl ∙ ap (λ ls. link k v far ∷ ls) (no_link_here u (k + 1) (row v u far) [] other)
+first_here : (k u v : ℕ) (far : ℤ) → u ≢ v → links_at u k (record_from u v far ∷ record_from v u far ∷ []) ≡ link k v far ∷ []
+first_here k u v far other = link_here u k (record_from u v far) (record_from v u far ∷ []) refl ∙ ap (λ ls. link k v far ∷ ls) (no_link_here u (k + 1) (record_from v u far) [] other)
 
 -- at the second
-second_here : (k u v : ℕ) (far : ℤ) → v ≢ u → links_at v k (row u v far ∷ row v u far ∷ []) ≡ link (k + 1) u far ∷ []
-second_here k u v far other = no_link_here v k (row u v far) (row v u far ∷ []) other ∙ link_here v (k + 1) (row v u far) [] refl
+second_here : (k u v : ℕ) (far : ℤ) → v ≢ u → links_at v k (record_from u v far ∷ record_from v u far ∷ []) ≡ link (k + 1) u far ∷ []
+second_here k u v far other = no_link_here v k (record_from u v far) (record_from v u far ∷ []) other ∙ link_here v (k + 1) (record_from v u far) [] refl
 
 -- at neither
-neither_here : (k u v w : ℕ) (far : ℤ) → w ≢ u → w ≢ v → links_at w k (row u v far ∷ row v u far ∷ []) ≡ []
-neither_here k u v w far not_u not_v = no_link_here w k (row u v far) (row v u far ∷ []) not_u ∙ no_link_here w (k + 1) (row v u far) [] not_v
+neither_here : (k u v w : ℕ) (far : ℤ) → w ≢ u → w ≢ v → links_at w k (record_from u v far ∷ record_from v u far ∷ []) ≡ []
+neither_here k u v w far not_u not_v = no_link_here w k (record_from u v far) (record_from v u far ∷ []) not_u ∙ no_link_here w (k + 1) (record_from v u far) [] not_v
 
 -- a new arc adds the record of its event
-arc_adds : (old new : GraphData) (e : Event) → AddsArc old new e.from e.to e.len → AddsRows true old new e
+arc_adds : (old new : GraphData) (e : Event) → AddsArc old new e.from e.to e.len → AddsRecords true old new e
 arc_adds old new e adds = record {
   count = adds.count;
   tips = ap (map (λ r. r.tip)) adds.records ∙ map-append (λ r. r.tip) old.records _;
@@ -142,12 +142,12 @@ arc_adds old new e adds = record {
   size = adds.rest.size;
 }
   where
-    at_vertex : (w : ℕ) → (w ≡ e.from) ⊎ (w ≡ e.from → ⊥) → chain_of new w ≡ links_at w (length old.records) (rows_of true e) ++ chain_of old w
-    at_vertex w (inl here) = rw here (adds.chain ∙ sym (ap (λ ls. ls ++ chain_of old e.from) (link_here e.from (length old.records) (row e.from e.to e.len) [] refl)))
-    at_vertex w (inr other) = adds.others w other ∙ sym (ap (λ ls. ls ++ chain_of old w) (no_link_here w (length old.records) (row e.from e.to e.len) [] other))
+    at_vertex : (w : ℕ) → (w ≡ e.from) ⊎ (w ≡ e.from → ⊥) → chain_of new w ≡ links_at w (length old.records) (records_of true e) ++ chain_of old w
+    at_vertex w (inl here) = rw here (adds.chain ∙ sym (ap (λ ls. ls ++ chain_of old e.from) (link_here e.from (length old.records) (record_from e.from e.to e.len) [] refl)))
+    at_vertex w (inr other) = adds.others w other ∙ sym (ap (λ ls. ls ++ chain_of old w) (no_link_here w (length old.records) (record_from e.from e.to e.len) [] other))
 
 -- a new edge adds the two records of its event
-edge_adds : (old new : GraphData) (e : Event) → AddsEdge old new e.from e.to e.len → AddsRows false old new e
+edge_adds : (old new : GraphData) (e : Event) → AddsEdge old new e.from e.to e.len → AddsRecords false old new e
 edge_adds old new e adds = record {
   count = adds.count;
   tips = ap (map (λ r. r.tip)) adds.records ∙ map-append (λ r. r.tip) old.records _;
@@ -173,8 +173,8 @@ edge_adds old new e adds = record {
     k : ℕ
     k = length old.records
 
-    rows : List Row
-    rows = rows_of false e
+    records : List Record
+    records = records_of false e
 
     first_end : (a b : ℕ) → (a ≡ min a b) ⊎ (a ≡ max a b)
     first_end a b = grind arith
@@ -186,7 +186,7 @@ edge_adds old new e adds = record {
     no_end w at not_low not_high (inl is) same = not_low (same ∙ is)
     no_end w at not_low not_high (inr is) same = not_high (same ∙ is)
 
-    at_vertex : (w : ℕ) → (w ≡ low) ⊎ (w ≡ low → ⊥) → (w ≡ high) ⊎ (w ≡ high → ⊥) → chain_of new w ≡ links_at w k rows ++ chain_of old w
+    at_vertex : (w : ℕ) → (w ≡ low) ⊎ (w ≡ low → ⊥) → (w ≡ high) ⊎ (w ≡ high → ⊥) → chain_of new w ≡ links_at w k records ++ chain_of old w
     at_vertex w (inl is_low) (inl is_high) =
         let same : e.from ≡ e.to = omega arith in
         let here : w ≡ e.from = omega arith in
@@ -206,11 +206,11 @@ edge_adds old new e adds = record {
 
 -- one event more: the arc that was added last
 pub arc_more : (events : List Event) (e : Event) (old new : GraphData) → HasArcsOf true events old → AddsArc old new e.from e.to e.len → HasArcsOf true (events ++ e ∷ []) new
-arc_more events e old new has adds = rows_added true events e old new has (arc_adds old new e adds)
+arc_more events e old new has adds = records_added true events e old new has (arc_adds old new e adds)
 
 -- or the edge
 pub edge_more : (events : List Event) (e : Event) (old new : GraphData) → HasArcsOf false events old → AddsEdge old new e.from e.to e.len → HasArcsOf false (events ++ e ∷ []) new
-edge_more events e old new has adds = rows_added false events e old new has (edge_adds old new e adds)
+edge_more events e old new has adds = records_added false events e old new has (edge_adds old new e adds)
 
 -- all events, one by one
 arcs_lead : (done events : List Event) (old new : GraphData) → HasArcsOf true done old → ArcsLead old events new → HasArcsOf true (done ++ events) new

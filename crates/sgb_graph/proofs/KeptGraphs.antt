@@ -1,11 +1,12 @@
 -- Graphs made of vertices and records that are kept: how one with more arcs or with more numbers is made.
 use Rattle.std.proofs.Common.{◌≡◌, ◌<◌, ◌+◌, ◌++◌, ℕ, ℤ, true, List, [], ◌∷◌, length, map, min, max, set, slice_get, Some, refl}
-use Rattle.sgb_graph.specs.Columns.{util_kind}
+use Rattle.sgb_graph.specs.inner.Columns.{util_kind}
 use Rattle.sgb_graph.specs.Graphs.{ends_of, links_of, vertex_of}
-use Rattle.sgb_graph.specs.Growth.{AddsArc, AddsEdge, HasPlainArcs, IsKept, after_lower, arc_record, at_place, first_arc, link, with_arcs, with_ends}
-use Rattle.sgb_graph.specs.Kept.{kept_graph}
-use Rattle.sgb_graph.specs.KeptRecords.{KeptRecords}
-use Rattle.sgb_graph.specs.KeptVertices.{KeptVertices}
+use Rattle.sgb_graph.specs.Growth.{AddsArc, AddsEdge, HasPlainArcs, IsKept, after_lower, arc_record, at_place, first_arc, link}
+use Rattle.sgb_graph.specs.inner.Growth.{with_arcs, with_ends}
+use Rattle.sgb_graph.specs.inner.Kept.{kept_graph}
+use Rattle.sgb_graph.specs.inner.KeptRecords.{KeptRecords}
+use Rattle.sgb_graph.specs.inner.KeptVertices.{KeptVertices}
 use Rattle.sgb_graph.specs.declared.fields.ArcRec.{ArcRec}
 use Rattle.sgb_graph.specs.declared.fields.Kind.{Kind}
 use Rattle.sgb_graph.specs.declared.fields.Kind.TheVariants.{I, Z}

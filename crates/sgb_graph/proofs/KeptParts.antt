@@ -2,11 +2,11 @@
 use Rattle.std.proofs.Common.{◌≡◌, ◌<◌, ◌≤◌, ◌+◌, ◌^◌, ◌∙◌, ◌&&◌, ◌++◌, ℕ, true, List, [], ◌∷◌, length, map, All, get_or, slice_index_or, Option, Some, None, IfSome, refl, ap, arith}
 use Rattle.std.proofs.lemmas.Bool.{and_parts, ltb-true}
 use Rattle.std.proofs.lemmas.Option.{slice_get-get_or}
-use Rattle.sgb_graph.specs.Columns.{util_kind}
+use Rattle.sgb_graph.specs.inner.Columns.{util_kind}
 use Rattle.sgb_graph.specs.Graphs.{GraphData}
-use Rattle.sgb_graph.specs.Kept.{kept_graph}
-use Rattle.sgb_graph.specs.KeptRecords.{KeptRecords}
-use Rattle.sgb_graph.specs.KeptVertices.{KeptVertices, kinds_of_vertices}
+use Rattle.sgb_graph.specs.inner.Kept.{kept_graph}
+use Rattle.sgb_graph.specs.inner.KeptRecords.{KeptRecords}
+use Rattle.sgb_graph.specs.inner.KeptVertices.{KeptVertices, kinds_of_vertices}
 use Rattle.sgb_graph.specs.Growth.{graph_data}
 use Rattle.sgb_graph.specs.Sound.{IsGraph, arc_kinds, chain_fits, graph_kinds, ref_fits, util_fits, utils_fit, vertex_kinds}
 use Rattle.sgb_graph.specs.declared.fields.ArcRec.{ArcRec}

@@ -1,8 +1,8 @@
 -- Records as they are kept: how many, each by its place, one more.
 use Rattle.std.proofs.Common.{◌≡◌, ◌<◌, ◌+◌, ℕ, suc, zero, List, [], ◌∷◌, ◌++◌, length, get_or, slice_get, Some, refl, ap, ◌∙◌, arith, append_assoc}
 use Rattle.std.proofs.lemmas.List.{length_push}
-use Rattle.sgb_graph.specs.Columns.{HoldsMany, column_kind, values}
-use Rattle.sgb_graph.specs.KeptRecords.{KeptRecords, kept_number, kept_records, records_with}
+use Rattle.sgb_graph.specs.inner.Columns.{HoldsMany, column_kind, values}
+use Rattle.sgb_graph.specs.inner.KeptRecords.{KeptRecords, kept_number, kept_records, records_with}
 use Rattle.sgb_graph.specs.declared.columns.Column.{Column}
 use Rattle.sgb_graph.specs.declared.fields.ArcRec.{ArcRec}
 use Rattle.sgb_graph.specs.declared.fields.Kind.TheVariants.{Z}

@@ -9,10 +9,11 @@ use mir.Syntax.{w64}
 use mir.Val.{SFits, to_z, of_z}
 use Rattle.std.proofs.lemmas.List.{length-map, length_push, length-replicate, length-set, map-append, map-set, get_or-set_other, take_all, take_more, take_more_set}
 use Rattle.std.proofs.lemmas.Option.{get_or_from_slice_get, slice_get-map, slice_get_within}
-use Rattle.sgb_graph.specs.Columns.{HoldsMany, column_kind, values}
-use Rattle.sgb_graph.specs.Growth.{at_place, first_arc, new_vertex, number_or_zero, put_numbers, some_numbers, with_arcs, with_numbers, with_some_numbers}
-use Rattle.sgb_graph.specs.KeptRecords.{kept_number}
-use Rattle.sgb_graph.specs.KeptVertices.{AreColumns, AreKept, KeptVertices, HasNumber, HaveValues, HoldNumbers, Keep, TakeNumbers, bare_named, bare_vertex, field_columns, field_kinds, kept_items, kept_vertices, number_at, numbers_kind, numbers_values, rows, with_fields, with_row}
+use Rattle.sgb_graph.specs.inner.Columns.{HoldsMany, column_kind, values}
+use Rattle.sgb_graph.specs.Growth.{at_place, first_arc, new_vertex, number_or_zero, put_numbers, some_numbers, with_numbers, with_some_numbers}
+use Rattle.sgb_graph.specs.inner.Growth.{with_arcs}
+use Rattle.sgb_graph.specs.inner.KeptRecords.{kept_number}
+use Rattle.sgb_graph.specs.inner.KeptVertices.{AreColumns, AreKept, KeptVertices, HasNumber, HaveValues, HoldNumbers, Keep, TakeNumbers, bare_named, bare_vertex, field_columns, field_kinds, kept_items, kept_vertices, number_at, numbers_kind, numbers_values, rows, with_fields, with_row}
 use Rattle.sgb_graph.specs.Made.{no_fields}
 use Rattle.sgb_graph.specs.declared.columns.Column.{Column}
 use Rattle.sgb_graph.specs.declared.fields.Kind.{Kind}
@@ -26,14 +27,11 @@ use Rattle.sgb_graph.specs.declared.vertices.Numbers.TheVariants.{Inside, Beside
 use Rattle.sgb_graph.specs.declared.vertices.PlainVertex.{PlainVertex}
 use Rattle.sgb_graph.proofs.ColumnValues.{HasPlace-below, unused}
 use Rattle.sgb_graph.proofs.Lists.{at_place-is_set, length-at_place, map-map}
-use Rattle.sgb_graph.proofs.Tables.{at_place-at_place, at_place-same, at_place-set, length-rows, rows-at, rows-map, rows-push, rows-replicate}
+use Rattle.sgb_graph.proofs.Tables.{at_place-at_place, at_place-same, at_place-set, combined-at_first, combined-at_second, combined-map_second, combined-push, combined_at, length-combined, length-rows, rows-at, rows-map, rows-push, rows-replicate}
 
--- as many vertices as before
-length-with_fields : (xs : List Vertex) (rs : List (List Util)) → length xs ≡ length rs → length (with_fields xs rs) ≡ length xs
-length-with_fields [] [] e = refl
-length-with_fields [] (r ∷ rs) e = refl
-length-with_fields (x ∷ xs) [] e = absurd (omega (arith, e))
-length-with_fields (x ∷ xs) (r ∷ rs) e = ap suc (length-with_fields xs rs (omega (arith, e)))
+-- the vertex with these fields
+abbrev put_fields : Vertex → List Util → Vertex
+put_fields x fields = record x { util = fields }
 
 -- as many rows as vertices
 same_length : (ps : List PlainVertex) (f : Fields) → AreKept ps f → length (map bare_vertex ps) ≡ length (rows (length ps) (field_columns ps f))
@@ -43,23 +41,13 @@ same_length ps f kept = length-map ps bare_vertex ∙ sym (length-rows (length p
 pub length-kept : (ps : List PlainVertex) (f : Fields) (seen : KeptVertices) → AreKept ps f → kept_vertices ps f ≡ seen → length seen.items ≡ length ps
 length-kept ps f seen kept view =
     ap (λ (g : KeptVertices). length g.items) (sym view)
-    ∙ length-with_fields (map bare_vertex ps) (rows (length ps) (field_columns ps f)) (same_length ps f kept)
-    ∙ length-map ps bare_vertex
-
--- a vertex with its fields
-with_fields_at : (xs : List Vertex) (rs : List (List Util)) (k : ℕ) (x : Vertex) (r : List Util) → slice_get xs k ≡ Some x → slice_get rs k ≡ Some r → slice_get (with_fields xs rs) k ≡ Some (record x { util = r })
-with_fields_at [] rs k x r one other = absurd cc
-with_fields_at (a ∷ xs) [] k x r one other = absurd cc
-with_fields_at (a ∷ xs) (b ∷ rs) zero x r one other =
-    let same : a ≡ x = cc in
-    let also : b ≡ r = cc in
-    rw (same, also) refl
-with_fields_at (a ∷ xs) (b ∷ rs) (suc k) x r one other = with_fields_at xs rs k x r one other
+    ∙ length-combined put_fields (map bare_vertex ps) (rows (length ps) (field_columns ps f)) (same_length ps f kept)
+    ∙ length-rows (length ps) (field_columns ps f) kept
 
 -- a vertex that is seen
 pub kept_at : (ps : List PlainVertex) (f : Fields) (k : ℕ) (p : PlainVertex) (r : List Util) → slice_get ps k ≡ Some p → slice_get (rows (length ps) (field_columns ps f)) k ≡ Some r → slice_get (kept_items ps f) k ≡ Some (record (bare_vertex p) { util = r })
 kept_at ps f k p r one other =
-    with_fields_at (map bare_vertex ps) (rows (length ps) (field_columns ps f)) k (bare_vertex p) r (slice_get-map bare_vertex ps k ∙ ap (option_map bare_vertex) one) other
+    combined_at put_fields (map bare_vertex ps) (rows (length ps) (field_columns ps f)) k (bare_vertex p) r (slice_get-map bare_vertex ps k ∙ ap (option_map bare_vertex) one) other
 
 -- what does not depend on the fields
 with_fields-other : {Y : Type 0} (h : Vertex → Y) (xs : List Vertex) (rs : List (List Util)) → ((x : Vertex) (r : List Util) → h (record x { util = r }) ≡ h x) → length xs ≡ length rs → map h (with_fields xs rs) ≡ map h xs
@@ -168,14 +156,6 @@ pub same_table : (xs ys : List Vertex) (m n : ℕ) (columns others : List (List 
 same_table xs ys m n columns others bare count same =
     ap (λ zs. with_fields zs (rows m columns)) bare ∙ (ap (λ k. with_fields ys (rows k columns)) count ∙ ap (λ cs. with_fields ys (rows n cs)) same)
 
--- another first record of a vertex
-with_fields-arcs : (first : Option ℕ) (v : ℕ) (xs : List Vertex) (rs : List (List Util)) → with_fields (at_place (with_arcs first) v xs) rs ≡ at_place (with_arcs first) v (with_fields xs rs)
-with_fields-arcs first v [] rs = refl
-with_fields-arcs first zero (x ∷ xs) [] = refl
-with_fields-arcs first zero (x ∷ xs) (r ∷ rs) = refl
-with_fields-arcs first (suc v) (x ∷ xs) [] = refl
-with_fields-arcs first (suc v) (x ∷ xs) (r ∷ rs) = ap (λ ys. record x { util = r } ∷ ys) (with_fields-arcs first v xs rs)
-
 -- the numbers of vertices of which one is exchanged for one with the same numbers
 same_numbers : (place v : ℕ) (ps : List PlainVertex) (p q : PlainVertex) (f : Numbers) → p ≡ get_or ps v p → q.ints ≡ p.ints → numbers_values place (set ps v q) f ≡ numbers_values place ps f
 same_numbers place v ps p q Inside here ints =
@@ -205,7 +185,7 @@ first_put v k first ps p f below here is =
     map-set bare_vertex ps v q ∙ (ap (set (map bare_vertex ps) v) same ∙ at_place-is_set (with_arcs first) v (map bare_vertex ps) (bare_vertex p) within there) in
     same_table (map bare_vertex (set ps v q)) (at_place (with_arcs first) v (map bare_vertex ps)) (length (set ps v q)) (length ps)
     (field_columns (set ps v q) f) (field_columns ps f) bare (length-set ps v q) (same_columns v ps p q f here refl)
-    ∙ (with_fields-arcs first v (map bare_vertex ps) (rows (length ps) (field_columns ps f)))
+    ∙ combined-at_first put_fields (with_arcs first) (with_arcs first) v (map bare_vertex ps) (rows (length ps) (field_columns ps f)) (λ x fields. refl)
 
 -- the numbers of the first k vertices are taken, all else stays
 pub record TakenSoFar (place k : ℕ) (old new : List PlainVertex) (found : List Util) : Type 0 where
@@ -300,19 +280,6 @@ all_taken f old one two new x y z = record {
 -- the vertex with its fields changed
 abbrev with_util : (List Util → List Util) → Vertex → Vertex
 with_util h x = record x { util = h x.util }
-
--- a change of each row is one of each vertex
-with_fields-map : (h : List Util → List Util) (xs : List Vertex) (rs : List (List Util)) → with_fields xs (map h rs) ≡ map (λ (x : Vertex). with_util h x) (with_fields xs rs)
-with_fields-map h [] rs = refl
-with_fields-map h (x ∷ xs) [] = refl
-with_fields-map h (x ∷ xs) (r ∷ rs) = ap (λ ys. record x { util = h r } ∷ ys) (with_fields-map h xs rs)
-
--- a change of one row is one of that vertex
-with_fields-at : (h : List Util → List Util) (v : ℕ) (xs : List Vertex) (rs : List (List Util)) → with_fields xs (at_place h v rs) ≡ at_place (with_util h) v (with_fields xs rs)
-with_fields-at h v [] rs = refl
-with_fields-at h v (x ∷ xs) [] = refl
-with_fields-at h zero (x ∷ xs) (r ∷ rs) = refl
-with_fields-at h (suc v) (x ∷ xs) (r ∷ rs) = ap (λ ys. record x { util = r } ∷ ys) (with_fields-at h v xs rs)
 
 -- columns with a number in each place of x, y, z
 abbrev number_columns : List (List Util) → List (List Util)
@@ -426,13 +393,6 @@ fields_pushed ps p f g a b c d e h i j k ints kept u v w x y z =
       z 2 ps p (at 2) kept.1.1.1.1.1.0,
     ) refl
 
--- vertices and their fields, one more of each
-with_fields-push : (xs : List Vertex) (rs : List (List Util)) (x : Vertex) (r : List Util) → length xs ≡ length rs → with_fields (xs ++ x ∷ []) (rs ++ r ∷ []) ≡ with_fields xs rs ++ record x { util = r } ∷ []
-with_fields-push [] [] x r long = refl
-with_fields-push [] (s ∷ rs) x r long = absurd (omega (arith, long))
-with_fields-push (y ∷ xs) [] x r long = absurd (omega (arith, long))
-with_fields-push (y ∷ xs) (s ∷ rs) x r long = ap (λ ys. record y { util = s } ∷ ys) (with_fields-push xs rs x r (omega (arith, long)))
-
 -- columns with one row more
 columns_row : (n : ℕ) (columns : List (List Util)) (row : List Util) → length columns ≡ length row → AreColumns n columns → AreColumns (suc n) (with_row columns row)
 columns_row n [] [] long are = tt
@@ -477,7 +437,7 @@ kept_more ps p f g kinds items x keep same columns six name arcs = record { whol
     all =
         ap (λ rs. with_fields (map bare_vertex (ps ++ p ∷ [])) rs) table
         ∙ (ap (λ xs. with_fields xs (rows n old ++ x.util ∷ [])) (map-append bare_vertex ps (p ∷ []))
-        ∙ (with_fields-push (map bare_vertex ps) (rows n old) (bare_vertex p) x.util count
+        ∙ (combined-push put_fields (map bare_vertex ps) (rows n old) (bare_vertex p) x.util count
         ∙ (ap (λ y. with_fields (map bare_vertex ps) (rows n old) ++ y ∷ []) last ∙ ap (λ ys. ys ++ x ∷ []) keep.items)))
 
 -- a column changed, which keeps its length
@@ -535,8 +495,8 @@ are_put old f new p v x y z kept hold here = record { whole = whole; items = ite
     items =
         ap (λ rs. with_fields (map bare_vertex last) rs) table
         ∙ (ap (λ xs. with_fields xs (at_place (put_numbers x y z) v (map some_numbers (rows n columns)))) put.bare
-        ∙ (with_fields-at (put_numbers x y z) v (map bare_vertex old) (map some_numbers (rows n columns))
-        ∙ ap (at_place (with_numbers x y z) v) (with_fields-map some_numbers (map bare_vertex old) (rows n columns))))
+        ∙ (combined-at_second put_fields (put_numbers x y z) (with_util (put_numbers x y z)) v (map bare_vertex old) (map some_numbers (rows n columns)) (λ w fields. refl)
+        ∙ ap (at_place (with_numbers x y z) v) (combined-map_second put_fields some_numbers (with_util some_numbers) (map bare_vertex old) (rows n columns) (λ w fields. refl))))
 
 -- as many elements written over all are those elements
 pub refill_same : (n : ℕ) (xs ys : List PlainVertex) → length xs ≡ n → take n (xs ++ drop (length xs) ys) ≡ xs

@@ -1,35 +1,69 @@
 -- The lemmas and examples of sgb_graph.
+-- events added to a graph one after another
 pub mod AddedEvents
+-- one arc more
 pub mod AddingArcs
+-- one edge more
 pub mod AddingEdges
+-- chains of records, and what more records leave of them
 pub mod Chains
-pub mod CompoundIds
+-- parts that were checked, and the graph that they make up
 pub mod CheckedParts
-pub mod Described
-pub mod DrawLemmas
-pub mod EndingWays
-pub mod EventLemmas
-pub mod Examples
-pub mod Fitting
-pub mod Growing
-pub mod HexadecimalDigits
-pub mod IdLemmas
+-- columns of values, one value more
 pub mod ColumnValues
-pub mod KeptGraphs
-pub mod KeptParts
-pub mod KeptRecords
-pub mod KeptVertices
-pub mod ListMembers
-pub mod Lists
-pub mod MarkedWays
-pub mod NewGraphs
-pub mod Numbers
-pub mod OwnNumbers
-pub mod Tables
-pub mod TestLemmas
-pub mod Tips
-pub mod UniformDraws
+-- operands' ids in the id of a result
+pub mod CompoundIds
+-- one cycle of random numbers and the next
 pub mod Cycles
+-- the graph that a description makes is the only one
+pub mod Described
+-- single random numbers, and the first draw that is not thrown away
+pub mod DrawLemmas
+-- a way that ends meets no record twice
+pub mod EndingWays
+-- the lists of vertices, one event more
+pub mod EventLemmas
+-- worked examples of the definitions
+pub mod Examples
+-- the first cycle of random numbers
 pub mod FirstCycle
+-- what fits a graph fits one with more records
+pub mod Fitting
+-- a graph with more records at the end
+pub mod Growing
+-- the hexadecimal digits of a number
+pub mod HexadecimalDigits
+-- texts and numbers that may stand in an id
+pub mod IdLemmas
+-- the graph that kept vertices and records make up, as it changes
+pub mod KeptGraphs
+-- the parts of a file, as a graph keeps them
+pub mod KeptParts
+-- records as they are kept
+pub mod KeptRecords
+-- vertices as they are kept
+pub mod KeptVertices
+-- what stands on the list of a vertex
+pub mod ListMembers
+-- places of lists, and tests that each element passes
+pub mod Lists
+-- walks along chains, and the marks that they set
+pub mod MarkedWays
+-- a new graph is one
+pub mod NewGraphs
+-- integers in the fields x, y, z of vertices
+pub mod Numbers
+-- a number in the graph's own field uu
+pub mod OwnNumbers
+-- a generator at a draw, and what it hands out
 pub mod Standing
+-- tables, given by their columns
+pub mod Tables
+-- facts from tests
+pub mod TestLemmas
+-- arcs lead to vertices
+pub mod Tips
+-- each uniform draw is found
+pub mod UniformDraws
+-- how long a uniform draw may take
 pub mod Waiting

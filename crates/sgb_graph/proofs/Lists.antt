@@ -3,6 +3,7 @@ use Rattle.std.proofs.Common.{◌≡◌, ◌≢◌, ◌+◌, ◌<◌, ℕ, zero,
 use Rattle.std.specs.Prelude.{slice_get}
 use Rattle.std.specs.List.{list_all, flat_map, range_with_len}
 use Rattle.std.proofs.lemmas.Bool.{and_parts, and_from}
+use Rattle.std.proofs.lemmas.List.Folds.{list_all-map}
 use Rattle.sgb_graph.specs.Growth.{at_place}
 
 -- an element is at its place in a longer list too
@@ -105,10 +106,7 @@ list_all-made p f (a ∷ xs) passes = and_from (p (f a)) (list_all p (map f xs))
 
 -- a test that each element passes after a change of all
 pub list_all-mapped : {X Y : Type 0} (p : X → Bool) (q : Y → Bool) (f : X → Y) (xs : List X) → ((x : X) → p x ≡ true → q (f x) ≡ true) → list_all p xs ≡ true → list_all q (map f xs) ≡ true
-list_all-mapped p q f [] passes all = refl
-list_all-mapped p q f (a ∷ xs) passes all =
-    let parts = and_parts (p a) (list_all p xs) all in
-    and_from (q (f a)) (list_all q (map f xs)) (passes a parts.0) (list_all-mapped p q f xs passes parts.1)
+list_all-mapped p q f xs passes all = list_all-map q f xs ∙ list_all-weaker p (λ x. q (f x)) xs passes all
 
 -- a change that changes no element that passes
 pub map-stays : {X : Type 0} (p : X → Bool) (f : X → X) (xs : List X) → ((x : X) → p x ≡ true → f x ≡ x) → list_all p xs ≡ true → map f xs ≡ xs

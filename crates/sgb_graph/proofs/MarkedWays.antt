@@ -10,34 +10,11 @@ use Rattle.std.proofs.lemmas.Option.{slice_get_past, slice_get_within, get_or_fr
 use Rattle.std.proofs.lemmas.List.FromFn.{length-range_with_len, get_or-range_with_len}
 use Rattle.sgb_graph.specs.Graphs.{ends_from, numbers_of, ends_of}
 use Rattle.sgb_graph.specs.Sound.{chains_end, leads_to_vertex, is_vertex}
-use Rattle.sgb_graph.specs.Walks.{leads_of, is_marked, MarksGoOn}
+use Rattle.sgb_graph.specs.inner.Walks.{leads_of, is_marked, MarksGoOn}
 use Rattle.sgb_graph.specs.declared.fields.ArcRec.{ArcRec}
-use Rattle.sgb_graph.proofs.Chains.{ends_none, ends_step, ends_after, no_start, numbers_none, numbers_step}
-use Rattle.sgb_graph.proofs.EndingWays.{ends_longer, ends_within, numbers_longer}
+use Rattle.sgb_graph.proofs.Chains.{ends_none, ends_step, numbers_none, step_of}
+use Rattle.sgb_graph.proofs.EndingWays.{ends_within}
 use Rattle.sgb_graph.proofs.Lists.{list_all-range}
-
--- a way that ends from a record: it meets that one, and then those of the way from the next one, which ends
-pub record IsWayStep (records : List ArcRec) (k : ℕ) : Type 0 where
-  pub here : ArcRec
-  pub is : slice_get records k ≡ Some here
-  pub numbers : numbers_of records (Some k) ≡ k ∷ numbers_of records here.next
-  pub ends : ends_of records here.next ≡ true
-
--- so it goes
-pub way_step : (records : List ArcRec) (k : ℕ) → ends_of records (Some k) ≡ true → IsWayStep records k
-way_step records k ends = by_length (length records) refl
-  where
-    by_length : (n : ℕ) → length records ≡ n → IsWayStep records k
-    by_length zero is = absurd (no_start records k (rw is at ends))
-    by_length (suc n) is =
-        let b = ends_after n records k (rw is at ends) in
-        let same = numbers_longer n (length records) records b.here.next (omega arith) b.ends in
-        record {
-          here = b.here;
-          is = b.is;
-          numbers = rw is (numbers_step n records k b.here b.is ∙ ap (λ ks. k ∷ ks) (sym (rw is at same)));
-          ends = ends_longer n (length records) records b.here.next (omega arith) b.ends;
-        }
 
 -- the way from a record that is not there does not end
 pub ends_outside : (fuel : ℕ) (records : List ArcRec) (k : ℕ) → length records ≤ k → ends_from fuel records (Some k) ≡ false
@@ -47,29 +24,25 @@ ends_outside (suc fuel) records k out = ap (λ o. option_map_or (λ (x : ArcRec)
 
 -- such a record is one of them
 pub way_inside : (records : List ArcRec) (k : ℕ) → ends_of records (Some k) ≡ true → k < length records
-way_inside records k ends = let step = way_step records k ends in slice_get_within records k step.here step.is
+way_inside records k ends = let step = step_of records k ends in slice_get_within records k step.here step.is
 
 -- the rest of the way is shorter
 pub way_shorter : (records : List ArcRec) (k : ℕ) (r : ArcRec) → ends_of records (Some k) ≡ true → r ≡ get_or records k r → length (numbers_of records r.next) < length (numbers_of records (Some k))
 way_shorter records k r ends here =
-    let step = way_step records k ends in
+    let step = step_of records k ends in
     let read : r ≡ step.here = here ∙ get_or_from_slice_get records k step.here r step.is in
     rw (read, step.numbers) (omega arith)
 
 -- and ends
 pub way_goes_on : (records : List ArcRec) (k : ℕ) (r : ArcRec) → ends_of records (Some k) ≡ true → r ≡ get_or records k r → ends_of records r.next ≡ true
 way_goes_on records k r ends here =
-    let step = way_step records k ends in
+    let step = step_of records k ends in
     let read : r ≡ step.here = here ∙ get_or_from_slice_get records k step.here r step.is in
     rw read step.ends
 
 -- so many steps lead from the first record to the next one
 abbrev pub StepsLead : List ArcRec → Option ℕ → ℕ → Option ℕ → Type 0
 StepsLead records first steps next = (fuel : ℕ) → ends_from (fuel + steps) records first ≡ ends_from fuel records next
-
--- none yet
-pub steps_none : (records : List ArcRec) (first : Option ℕ) → StepsLead records first 0 first
-steps_none records first fuel = let none : fuel + 0 ≡ fuel = omega arith in ap (λ n. ends_from n records first) none
 
 -- one more
 pub steps_more : (records : List ArcRec) (first : Option ℕ) (steps k : ℕ) (r : ArcRec) → StepsLead records first steps (Some k) → slice_get records k ≡ Some r → StepsLead records first (steps + 1) r.next
@@ -109,7 +82,7 @@ walk_is_over records first next steps none lead all test =
 -- each arc on a way leads to a vertex where the first does, and each on the way after it
 pub leads_step : (records : List ArcRec) (k : ℕ) (r : ArcRec) → ends_of records (Some k) ≡ true → r ≡ get_or records k r → leads_of records (Some k) ≡ (is_vertex r.tip && leads_of records r.next)
 leads_step records k r ends here =
-    let step = way_step records k ends in
+    let step = step_of records k ends in
     let read : r ≡ step.here = here ∙ get_or_from_slice_get records k step.here r step.is in
     let tip : leads_to_vertex records k ≡ is_vertex step.here.tip = ap (λ o. option_map_or (λ (x : ArcRec). is_vertex x.tip) o false) step.is in
     rw read (ap (list_all (leads_to_vertex records)) step.numbers ∙ ap (λ b. b && leads_of records step.here.next) tip)
@@ -122,12 +95,6 @@ leads_goes_on records k r ends here all =
 -- no arc is on the way from none
 pub leads_none : (records : List ArcRec) → leads_of records None ≡ true
 leads_none records = ap (list_all (leads_to_vertex records)) (numbers_none (length records) records)
-
--- no record is marked yet
-pub none_marked : (n k : ℕ) → get_or (replicate n false) k false ≡ false
-none_marked zero k = refl
-none_marked (suc n) zero = refl
-none_marked (suc n) (suc k) = none_marked n k
 
 -- what holds of each marked record holds with one more, of which it holds too
 pub one_more_marked : (P : ℕ → Type 0) (marks : List Bool) (k : ℕ) → P k → ((j : ℕ) → IsTrue (get_or marks j false) → P j) → (j : ℕ) → IsTrue (get_or (set marks k true) j false) → P j

@@ -2,7 +2,8 @@
 use Rattle.std.proofs.Common.{◌≡◌, ◌<◌, ◌+◌, ℕ, Option, Some, None, slice_get, option_map, zero, suc, ℤ, pos, true, false, List, [], ◌∷◌, ◌++◌, length, get_or, set, take, drop, map, refl, ap, sym, ◌∙◌, arith}
 use Rattle.std.specs.Option.{option_map_or}
 use Rattle.std.proofs.lemmas.Bool.{and_parts, and_from}
-use Rattle.std.proofs.lemmas.List.{set-get_or, length-map}
+use Rattle.std.proofs.Math.Seq.{take-set-lt}
+use Rattle.std.proofs.lemmas.List.{drop-set-lt, length-map}
 use Rattle.std.proofs.lemmas.Option.{slice_get-map}
 use Rattle.sgb_graph.specs.Graphs.{GraphData, chain_of, links_of}
 use Rattle.sgb_graph.specs.Sound.{arc_kinds, graph_kinds, vertex_kinds, chain_fits, util_fits, utils_fit}
@@ -16,35 +17,6 @@ use Rattle.sgb_graph.proofs.Lists.{at_place-is_set, length-at_place, list_all-at
 use Rattle.sgb_graph.proofs.Fitting.{vertex_fits_in, record_fits_in}
 use Rattle.sgb_graph.proofs.Chains.{lead_within}
 use Rattle.sgb_graph.proofs.Growing.{HasParts, parts_of, graph_from_parts}
-
--- 0 is put where there was no number
-pub zero_put : (fields : List Util) (k : ℕ) (u : Util) → k < length fields → u ≡ get_or fields k u → is_number u ≡ false → set fields k (Int (pos 0)) ≡ at_place number_or_zero k fields
-zero_put fields k u below here none = rw none at (at_place-is_set number_or_zero k fields u below here)
-
--- a number stays
-pub number_kept : (fields : List Util) (k : ℕ) (u : Util) → k < length fields → u ≡ get_or fields k u → is_number u ≡ true → fields ≡ at_place number_or_zero k fields
-number_kept fields k u below here some =
-    sym (set-get_or fields k u) ∙ (ap (set fields k) (sym here) ∙ rw some at (at_place-is_set number_or_zero k fields u below here))
-
--- the first i elements mapped, the others as they were
-abbrev pub mapped_prefix : {X : Type 0} → (X → X) → ℕ → List X → List X
-mapped_prefix f i xs = map f (take i xs) ++ drop i xs
-
--- one more is mapped
-pub mapped_prefix-more : {X : Type 0} (f : X → X) (i : ℕ) (xs : List X) (d : X) → i < length xs → set (mapped_prefix f i xs) i (f (get_or (mapped_prefix f i xs) i d)) ≡ mapped_prefix f (i + 1) xs
-mapped_prefix-more f i [] d below = absurd (omega arith)
-mapped_prefix-more f zero (a ∷ xs) d below = refl
-mapped_prefix-more f (suc i) (a ∷ xs) d below =
-    let next : suc i + 1 ≡ suc (i + 1) = omega arith in
-    rw next (ap (λ ys. f a ∷ ys) (mapped_prefix-more f i xs d (omega arith)))
-
--- a field of kind I is a number
-number_of_kind : (n m : ℕ) (u : Util) → util_fits n m I u ≡ true → is_number u ≡ true
-number_of_kind n m (Int i) e = refl
-number_of_kind n m Nothing e = e
-number_of_kind n m (VertexField r) e = e
-number_of_kind n m (Str s) e = e
-number_of_kind n m (Chain first) e = e
 
 -- what is put is one
 zero_fits : (n m : ℕ) (u : Util) → util_fits n m I (number_or_zero u) ≡ true
@@ -78,19 +50,6 @@ put_fits n m (suc k) i (a ∷ kinds) (u ∷ utils) e is =
     let parts = and_parts (util_fits n m a u) (utils_fit n m kinds utils) e in
     and_from (util_fits n m a u) (utils_fit n m kinds (set utils k (Int i))) parts.0 (put_fits n m k i kinds utils parts.1 rest)
 
--- a field of kind I stays
-number_stays : (n m k : ℕ) (kinds : List Kind) (utils : List Util) → utils_fit n m kinds utils ≡ true → set kinds k I ≡ kinds → at_place number_or_zero k utils ≡ utils
-number_stays n m k [] [] e is = refl
-number_stays n m k [] (u ∷ utils) e is = absurd cc
-number_stays n m k (a ∷ kinds) [] e is = refl
-number_stays n m zero (a ∷ kinds) (u ∷ utils) e is =
-    let kind : a ≡ I = cc in
-    let fits = rw kind at (and_parts (util_fits n m a u) (utils_fit n m kinds utils) e).0 in
-    rw (number_of_kind n m u fits) refl
-number_stays n m (suc k) (a ∷ kinds) (u ∷ utils) e is =
-    let rest : set kinds k I ≡ kinds = cc in
-    ap (λ us. u ∷ us) (number_stays n m k kinds utils (and_parts (util_fits n m a u) (utils_fit n m kinds utils) e).1 rest)
-
 -- the kinds of vertices, and the others, where the fields x, y, z hold integers
 record SplitKinds (kinds : List Kind) : Type 0 where
   vertices : vertex_kinds (with_number_kinds kinds) ≡ with_number_kinds (vertex_kinds kinds)
@@ -99,13 +58,14 @@ record SplitKinds (kinds : List Kind) : Type 0 where
 
 -- as they are where these are put
 split_kinds : (kinds : List Kind) → SplitKinds kinds
-split_kinds [] = record { vertices = refl; arcs = refl; own = refl }
-split_kinds (a ∷ []) = record { vertices = refl; arcs = refl; own = refl }
-split_kinds (a ∷ b ∷ []) = record { vertices = refl; arcs = refl; own = refl }
-split_kinds (a ∷ b ∷ c ∷ []) = record { vertices = refl; arcs = refl; own = refl }
-split_kinds (a ∷ b ∷ c ∷ d ∷ []) = record { vertices = refl; arcs = refl; own = refl }
-split_kinds (a ∷ b ∷ c ∷ d ∷ e ∷ []) = record { vertices = refl; arcs = refl; own = refl }
-split_kinds (a ∷ b ∷ c ∷ d ∷ e ∷ f ∷ kinds) = record { vertices = refl; arcs = refl; own = refl }
+split_kinds kinds =
+    let third : List Kind = set kinds 3 I in
+    let fourth : List Kind = set third 4 I in
+    record {
+      vertices = take-set-lt 6 fourth 5 I (omega arith) ∙ ap (λ ks. set ks 5 I) (take-set-lt 6 third 4 I (omega arith) ∙ ap (λ ks. set ks 4 I) (take-set-lt 6 kinds 3 I (omega arith)));
+      arcs = ap (take 2) (drop-set-lt 6 fourth 5 I (omega arith) ∙ (drop-set-lt 6 third 4 I (omega arith) ∙ drop-set-lt 6 kinds 3 I (omega arith)));
+      own = drop-set-lt 8 fourth 5 I (omega arith) ∙ (drop-set-lt 8 third 4 I (omega arith) ∙ drop-set-lt 8 kinds 3 I (omega arith));
+    }
 
 -- they hold integers then
 hold_then : (kinds : List Kind) → HoldNumbers (with_number_kinds kinds)
@@ -119,38 +79,11 @@ hold_then (a ∷ b ∷ c ∷ d ∷ e ∷ f ∷ kinds) = record { x = refl; y = r
 
 -- so do the kinds of vertices
 hold_in_six : (kinds : List Kind) → HoldNumbers kinds → HoldNumbers (vertex_kinds kinds)
-hold_in_six [] h = record { x = refl; y = refl; z = refl }
-hold_in_six (a ∷ []) h = record { x = refl; y = refl; z = refl }
-hold_in_six (a ∷ b ∷ []) h = record { x = refl; y = refl; z = refl }
-hold_in_six (a ∷ b ∷ c ∷ []) h = record { x = refl; y = refl; z = refl }
-hold_in_six (a ∷ b ∷ c ∷ d ∷ []) h = record { x = h.x; y = refl; z = refl }
-hold_in_six (a ∷ b ∷ c ∷ d ∷ e ∷ []) h = record { x = h.x; y = h.y; z = refl }
-hold_in_six (a ∷ b ∷ c ∷ d ∷ e ∷ f ∷ kinds) h = record { x = ap (take 6) h.x; y = ap (take 6) h.y; z = ap (take 6) h.z }
-
--- where the fields hold integers, every vertex has its numbers
-pub numbers_stay : (g : GraphData) → IsKept g → HoldNumbers g.kinds → map with_some_numbers g.vertices ≡ g.vertices
-numbers_stay g kept hold =
-    map-stays (vertex_fits_in n m g.kinds) with_some_numbers g.vertices (λ x fits. stays x (and_parts (chain_fits m x.arcs) (utils_fit n m six x.util) fits).1) (parts_of g kept.graph).vertices
-  where
-    n : ℕ
-    n = length g.vertices
-
-    m : ℕ
-    m = length g.records
-
-    six : List Kind
-    six = vertex_kinds g.kinds
-
-    at : HoldNumbers six
-    at = hold_in_six g.kinds hold
-
-    stays : (x : Vertex) → utils_fit n m six x.util ≡ true → with_some_numbers x ≡ x
-    stays x fits =
-        let third = number_stays n m 3 six x.util fits at.x in
-        let fourth = number_stays n m 4 six x.util fits at.y in
-        let fifth = number_stays n m 5 six x.util fits at.z in
-        ap (λ us. record x { util = us })
-        (ap (λ us. at_place number_or_zero 5 (at_place number_or_zero 4 us)) third ∙ (ap (at_place number_or_zero 5) fourth ∙ fifth))
+hold_in_six kinds h = record {
+  x = sym (take-set-lt 6 kinds 3 I (omega arith)) ∙ ap (take 6) h.x;
+  y = sym (take-set-lt 6 kinds 4 I (omega arith)) ∙ ap (take 6) h.y;
+  z = sym (take-set-lt 6 kinds 5 I (omega arith)) ∙ ap (take 6) h.z;
+}
 
 -- a vertex with numbers in its fields fits
 some_fit : (n m : ℕ) (kinds : List Kind) (x : Vertex) → vertex_fits_in n m kinds x ≡ true → vertex_fits_in n m (with_number_kinds kinds) (with_some_numbers x) ≡ true

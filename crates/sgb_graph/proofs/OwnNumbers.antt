@@ -1,6 +1,7 @@
 -- A number in the graph's own field uu.
-use Rattle.std.proofs.Common.{◌≡◌, ℕ, ℤ, true, List, [], ◌∷◌, length, set, refl}
+use Rattle.std.proofs.Common.{◌≡◌, ℕ, ℤ, true, ◌≤◌, List, [], ◌∷◌, length, set, take, drop, ap, ◌∙◌, arith}
 use Rattle.std.proofs.lemmas.Bool.{and_parts}
+use Rattle.std.proofs.lemmas.List.{drop-set-add, take-set-le}
 use Rattle.sgb_graph.specs.Graphs.{GraphData}
 use Rattle.sgb_graph.specs.Sound.{arc_kinds, graph_kinds, vertex_kinds, util_fits, utils_fit}
 use Rattle.sgb_graph.specs.Growth.{IsKept, with_uu}
@@ -19,24 +20,6 @@ first_number_fits n m value [] (u ∷ utils) e = absurd cc
 first_number_fits n m value (a ∷ kinds) [] e = absurd cc
 first_number_fits n m value (a ∷ kinds) (u ∷ utils) e = (and_parts (util_fits n m a u) (utils_fit n m kinds utils) e).1
 
--- the kinds of vertices, of arcs and of the graph, where uu holds an integer
-record UuKinds (kinds : List Kind) : Type 0 where
-  vertices : vertex_kinds (set kinds 8 I) ≡ vertex_kinds kinds
-  arcs : arc_kinds (set kinds 8 I) ≡ arc_kinds kinds
-  own : graph_kinds (set kinds 8 I) ≡ set (graph_kinds kinds) 0 I
-
--- those of vertices and arcs stay
-uu_kinds : (kinds : List Kind) → UuKinds kinds
-uu_kinds [] = record { vertices = refl; arcs = refl; own = refl }
-uu_kinds (a ∷ []) = record { vertices = refl; arcs = refl; own = refl }
-uu_kinds (a ∷ b ∷ []) = record { vertices = refl; arcs = refl; own = refl }
-uu_kinds (a ∷ b ∷ c ∷ []) = record { vertices = refl; arcs = refl; own = refl }
-uu_kinds (a ∷ b ∷ c ∷ d ∷ []) = record { vertices = refl; arcs = refl; own = refl }
-uu_kinds (a ∷ b ∷ c ∷ d ∷ e ∷ []) = record { vertices = refl; arcs = refl; own = refl }
-uu_kinds (a ∷ b ∷ c ∷ d ∷ e ∷ f ∷ []) = record { vertices = refl; arcs = refl; own = refl }
-uu_kinds (a ∷ b ∷ c ∷ d ∷ e ∷ f ∷ g ∷ []) = record { vertices = refl; arcs = refl; own = refl }
-uu_kinds (a ∷ b ∷ c ∷ d ∷ e ∷ f ∷ g ∷ h ∷ kinds) = record { vertices = refl; arcs = refl; own = refl }
-
 -- the graph with this number is one
 pub uu_kept : (value : ℤ) (g : GraphData) → IsKept g → IsKept (with_uu value g)
 uu_kept value g kept = record { graph = graph_from_parts (with_uu value g) parts; count = kept.count }
@@ -53,12 +36,21 @@ uu_kept value g kept = record { graph = graph_from_parts (with_uu value g) parts
     kinds : List Kind
     kinds = set g.kinds 8 I
 
+    vertices : vertex_kinds (set g.kinds 8 I) ≡ vertex_kinds g.kinds
+    vertices = take-set-le 6 g.kinds 8 I (omega arith)
+
+    arcs : arc_kinds (set g.kinds 8 I) ≡ arc_kinds g.kinds
+    arcs = ap (take 2) (drop-set-add 6 g.kinds 2 I) ∙ take-set-le 2 (drop 6 g.kinds) 2 I (omega arith)
+
+    own : graph_kinds (set g.kinds 8 I) ≡ set (graph_kinds g.kinds) 0 I
+    own = drop-set-add 8 g.kinds 0 I
+
     parts : HasParts (with_uu value g)
     parts = record {
       few = has.few;
-      util = rw (uu_kinds g.kinds).own (first_number_fits n m value (graph_kinds g.kinds) g.util has.util);
-      vertices = list_all-weaker (vertex_fits_in n m g.kinds) (vertex_fits_in n m kinds) g.vertices (λ x h. rw (uu_kinds g.kinds).vertices h) has.vertices;
-      records = list_all-weaker (record_fits_in n m g.kinds) (record_fits_in n m kinds) g.records (λ r h. rw (uu_kinds g.kinds).arcs h) has.records;
+      util = rw own (first_number_fits n m value (graph_kinds g.kinds) g.util has.util);
+      vertices = list_all-weaker (vertex_fits_in n m g.kinds) (vertex_fits_in n m kinds) g.vertices (λ x h. rw vertices h) has.vertices;
+      records = list_all-weaker (record_fits_in n m g.kinds) (record_fits_in n m kinds) g.records (λ r h. rw arcs h) has.records;
       ends = has.ends;
       leads = has.leads;
     }

@@ -8,7 +8,7 @@ use Rattle.std.proofs.lemmas.Bool.{cases_lt}
 use Rattle.std.proofs.lemmas.List.{ext_get_or}
 use Rattle.std.proofs.lemmas.List.FromFn.{get_or-map-range_with_len, length-map-range_with_len}
 use Rattle.sgb_graph.specs.Draws.{IsUniformDraw, IsAtDraw, bound_below, draw, modulus, seed_of, x_number}
-use Rattle.sgb_graph.specs.Flips.{HandsOut, IsCycle, IsFirstCycle, IsNextCycle}
+use Rattle.sgb_graph.specs.inner.Flips.{HandsOut, IsCycle, IsFirstCycle, IsNextCycle}
 use Rattle.sgb_graph.proofs.DrawLemmas.{first_number}
 use Rattle.sgb_graph.proofs.Cycles.{IsWindow, next_window}
 

@@ -3,21 +3,61 @@ use Rattle.std.proofs.Common.{◌≡◌, ◌<◌, ℕ, zero, suc, List, [], ◌�
 use Rattle.std.specs.Prelude.{slice_get}
 use Rattle.std.proofs.lemmas.List.{length-replicate}
 use Rattle.sgb_graph.specs.Growth.{at_place}
-use Rattle.sgb_graph.specs.KeptVertices.{AreColumns, in_front, rows, with_row}
+use Rattle.sgb_graph.specs.inner.KeptVertices.{AreColumns, combined, in_front, rows, with_row}
 
--- as many rows as before
-length-in_front : {X : Type 0} (column : List X) (below : List (List X)) → length column ≡ length below → length (in_front column below) ≡ length below
-length-in_front [] [] e = refl
-length-in_front [] (row ∷ below) e = absurd (omega (arith, e))
-length-in_front (x ∷ column) [] e = refl
-length-in_front (x ∷ column) (row ∷ below) e = ap suc (length-in_front column below (omega (arith, e)))
+-- two lists made one: how many elements, each by its place, one more
+pub length-combined : {X Y Z : Type 0} (f : X → Y → Z) (xs : List X) (ys : List Y) → length xs ≡ length ys → length (combined f xs ys) ≡ length ys
+length-combined f [] [] e = refl
+length-combined f [] (y ∷ ys) e = absurd (omega (arith, e))
+length-combined f (x ∷ xs) [] e = refl
+length-combined f (x ∷ xs) (y ∷ ys) e = ap suc (length-combined f xs ys (omega (arith, e)))
+
+pub combined_at : {X Y Z : Type 0} (f : X → Y → Z) (xs : List X) (ys : List Y) (k : ℕ) (x : X) (y : Y) → slice_get xs k ≡ Some x → slice_get ys k ≡ Some y → slice_get (combined f xs ys) k ≡ Some (f x y)
+combined_at f [] ys k x y one other = absurd cc
+combined_at f (a ∷ xs) [] k x y one other = absurd cc
+combined_at f (a ∷ xs) (b ∷ ys) zero x y one other =
+    let same : a ≡ x = cc in
+    let also : b ≡ y = cc in
+    rw (same, also) refl
+combined_at f (a ∷ xs) (b ∷ ys) (suc k) x y one other = combined_at f xs ys k x y one other
+
+pub combined-push : {X Y Z : Type 0} (f : X → Y → Z) (xs : List X) (ys : List Y) (x : X) (y : Y) → length xs ≡ length ys → combined f (xs ++ x ∷ []) (ys ++ y ∷ []) ≡ combined f xs ys ++ f x y ∷ []
+combined-push f [] [] x y e = refl
+combined-push f [] (b ∷ ys) x y e = absurd (omega (arith, e))
+combined-push f (a ∷ xs) [] x y e = absurd (omega (arith, e))
+combined-push f (a ∷ xs) (b ∷ ys) x y e = ap (λ zs. f a b ∷ zs) (combined-push f xs ys x y (omega (arith, e)))
+
+-- all elements of one of them changed
+pub combined-map_first : {X Y Z : Type 0} (f : X → Y → Z) (g : X → X) (h : Z → Z) (xs : List X) (ys : List Y) → ((x : X) (y : Y) → f (g x) y ≡ h (f x y)) → combined f (map g xs) ys ≡ map h (combined f xs ys)
+combined-map_first f g h [] ys same = refl
+combined-map_first f g h (x ∷ xs) [] same = refl
+combined-map_first f g h (x ∷ xs) (y ∷ ys) same = ap (λ z. z ∷ combined f (map g xs) ys) (same x y) ∙ ap (λ zs. h (f x y) ∷ zs) (combined-map_first f g h xs ys same)
+
+pub combined-map_second : {X Y Z : Type 0} (f : X → Y → Z) (g : Y → Y) (h : Z → Z) (xs : List X) (ys : List Y) → ((x : X) (y : Y) → f x (g y) ≡ h (f x y)) → combined f xs (map g ys) ≡ map h (combined f xs ys)
+combined-map_second f g h [] ys same = refl
+combined-map_second f g h (x ∷ xs) [] same = refl
+combined-map_second f g h (x ∷ xs) (y ∷ ys) same = ap (λ z. z ∷ combined f xs (map g ys)) (same x y) ∙ ap (λ zs. h (f x y) ∷ zs) (combined-map_second f g h xs ys same)
+
+-- one element of one of them
+pub combined-at_first : {X Y Z : Type 0} (f : X → Y → Z) (g : X → X) (h : Z → Z) (v : ℕ) (xs : List X) (ys : List Y) → ((x : X) (y : Y) → f (g x) y ≡ h (f x y)) → combined f (at_place g v xs) ys ≡ at_place h v (combined f xs ys)
+combined-at_first f g h v [] ys same = refl
+combined-at_first f g h zero (x ∷ xs) [] same = refl
+combined-at_first f g h zero (x ∷ xs) (y ∷ ys) same = ap (λ z. z ∷ combined f xs ys) (same x y)
+combined-at_first f g h (suc v) (x ∷ xs) [] same = refl
+combined-at_first f g h (suc v) (x ∷ xs) (y ∷ ys) same = ap (λ zs. f x y ∷ zs) (combined-at_first f g h v xs ys same)
+
+pub combined-at_second : {X Y Z : Type 0} (f : X → Y → Z) (g : Y → Y) (h : Z → Z) (v : ℕ) (xs : List X) (ys : List Y) → ((x : X) (y : Y) → f x (g y) ≡ h (f x y)) → combined f xs (at_place g v ys) ≡ at_place h v (combined f xs ys)
+combined-at_second f g h v [] ys same = refl
+combined-at_second f g h v (x ∷ xs) [] same = refl
+combined-at_second f g h zero (x ∷ xs) (y ∷ ys) same = ap (λ z. z ∷ combined f xs ys) (same x y)
+combined-at_second f g h (suc v) (x ∷ xs) (y ∷ ys) same = ap (λ zs. f x y ∷ zs) (combined-at_second f g h v xs ys same)
 
 -- the number of rows
 pub length-rows : {X : Type 0} (n : ℕ) (columns : List (List X)) → AreColumns n columns → length (rows n columns) ≡ n
 length-rows n [] whole = length-replicate n []
 length-rows n (column ∷ columns) whole =
     let others = length-rows n columns whole.1 in
-    length-in_front column (rows n columns) (whole.0 ∙ sym others) ∙ others
+    length-combined (λ x row. x ∷ row) column (rows n columns) (whole.0 ∙ sym others) ∙ others
 
 -- the row at place k has these elements
 abbrev pub IsRow : {X : Type 0} → ℕ → List (List X) → List X → Type 0
@@ -36,29 +76,12 @@ replicate-push : {X : Type 0} (n : ℕ) (x : X) → replicate (suc n) x ≡ repl
 replicate-push zero x = refl
 replicate-push (suc n) x = ap (λ xs. x ∷ xs) (replicate-push n x)
 
--- the first element of a row, and the others
-in_front_at : {X : Type 0} (column : List X) (below : List (List X)) (k : ℕ) (x : X) (row : List X) → slice_get column k ≡ Some x → slice_get below k ≡ Some row → slice_get (in_front column below) k ≡ Some (x ∷ row)
-in_front_at [] below k x row first rest = absurd cc
-in_front_at (a ∷ column) [] k x row first rest = absurd cc
-in_front_at (a ∷ column) (b ∷ below) zero x row first rest =
-    let same : a ≡ x = cc in
-    let also : b ≡ row = cc in
-    rw (same, also) refl
-in_front_at (a ∷ column) (b ∷ below) (suc k) x row first rest = in_front_at column below k x row first rest
-
 -- a row has the elements of the columns
 pub row_at : {X : Type 0} (n k : ℕ) (columns : List (List X)) (row : List X) → k < n → IsRow k columns row → slice_get (rows n columns) k ≡ Some row
 row_at n k [] [] below is = slice_get-replicate n k [] below
 row_at n k [] (x ∷ row) below is = absurd is
 row_at n k (column ∷ columns) [] below is = absurd is
-row_at n k (column ∷ columns) (x ∷ row) below is = in_front_at column (rows n columns) k x row is.0 (row_at n k columns row below is.1)
-
--- an element more in front
-in_front-push : {X : Type 0} (column : List X) (below : List (List X)) (x : X) (row : List X) → length column ≡ length below → in_front (column ++ x ∷ []) (below ++ row ∷ []) ≡ in_front column below ++ (x ∷ row) ∷ []
-in_front-push [] [] x row e = refl
-in_front-push [] (b ∷ below) x row e = absurd (omega (arith, e))
-in_front-push (a ∷ column) [] x row e = absurd (omega (arith, e))
-in_front-push (a ∷ column) (b ∷ below) x row e = ap (λ rs. (a ∷ b) ∷ rs) (in_front-push column below x row (omega (arith, e)))
+row_at n k (column ∷ columns) (x ∷ row) below is = combined_at (λ y ys. y ∷ ys) column (rows n columns) k x row is.0 (row_at n k columns row below is.1)
 
 -- one row more
 pub rows-push : {X : Type 0} (n : ℕ) (columns : List (List X)) (row : List X) → AreColumns n columns → length columns ≡ length row → rows (suc n) (with_row columns row) ≡ rows n columns ++ row ∷ []
@@ -66,19 +89,7 @@ rows-push n [] [] whole e = replicate-push n []
 rows-push n [] (x ∷ row) whole e = absurd (omega (arith, e))
 rows-push n (column ∷ columns) [] whole e = absurd (omega (arith, e))
 rows-push n (column ∷ columns) (x ∷ row) whole e =
-    rw (rows-push n columns row whole.1 (omega (arith, e))) (in_front-push column (rows n columns) x row (whole.0 ∙ sym (length-rows n columns whole.1)))
-
--- a first column that is changed
-in_front-map_first : {X : Type 0} (f : X → X) (column : List X) (below : List (List X)) → in_front (map f column) below ≡ map (at_place f zero) (in_front column below)
-in_front-map_first f [] below = refl
-in_front-map_first f (x ∷ column) [] = refl
-in_front-map_first f (x ∷ column) (row ∷ below) = ap (λ rs. (f x ∷ row) ∷ rs) (in_front-map_first f column below)
-
--- a later one
-in_front-map_later : {X : Type 0} (f : X → X) (j : ℕ) (column : List X) (below : List (List X)) → in_front column (map (at_place f j) below) ≡ map (at_place f (suc j)) (in_front column below)
-in_front-map_later f j [] below = refl
-in_front-map_later f j (x ∷ column) [] = refl
-in_front-map_later f j (x ∷ column) (row ∷ below) = ap (λ rs. (x ∷ at_place f j row) ∷ rs) (in_front-map_later f j column below)
+    rw (rows-push n columns row whole.1 (omega (arith, e))) (combined-push (λ y ys. y ∷ ys) column (rows n columns) x row (whole.0 ∙ sym (length-rows n columns whole.1)))
 
 -- rows of nothing
 empty-map : {X : Type 0} (f : X → X) (j n : ℕ) → replicate {A = List X} n [] ≡ map (at_place f j) (replicate n [])
@@ -88,24 +99,9 @@ empty-map f j (suc n) = ap (λ rs. [] ∷ rs) (empty-map f j n)
 -- a change of a column is one of each row
 pub rows-map : {X : Type 0} (f : X → X) (n j : ℕ) (columns : List (List X)) → rows n (at_place (map f) j columns) ≡ map (at_place f j) (rows n columns)
 rows-map f n j [] = empty-map f j n
-rows-map f n zero (column ∷ columns) = in_front-map_first f column (rows n columns)
+rows-map f n zero (column ∷ columns) = combined-map_first (λ x row. x ∷ row) f (at_place f zero) column (rows n columns) (λ x row. refl)
 rows-map f n (suc j) (column ∷ columns) =
-    ap (in_front column) (rows-map f n j columns) ∙ in_front-map_later f j column (rows n columns)
-
--- a place of the first column that is changed
-in_front-at_first : {X : Type 0} (f : X → X) (v : ℕ) (column : List X) (below : List (List X)) → in_front (at_place f v column) below ≡ at_place (at_place f zero) v (in_front column below)
-in_front-at_first f v [] below = refl
-in_front-at_first f zero (x ∷ column) [] = refl
-in_front-at_first f zero (x ∷ column) (row ∷ below) = refl
-in_front-at_first f (suc v) (x ∷ column) [] = refl
-in_front-at_first f (suc v) (x ∷ column) (row ∷ below) = ap (λ rs. (x ∷ row) ∷ rs) (in_front-at_first f v column below)
-
--- of a later one
-in_front-at_later : {X : Type 0} (f : X → X) (v j : ℕ) (column : List X) (below : List (List X)) → in_front column (at_place (at_place f j) v below) ≡ at_place (at_place f (suc j)) v (in_front column below)
-in_front-at_later f v j [] below = refl
-in_front-at_later f v j (x ∷ column) [] = refl
-in_front-at_later f zero j (x ∷ column) (row ∷ below) = refl
-in_front-at_later f (suc v) j (x ∷ column) (row ∷ below) = ap (λ rs. (x ∷ row) ∷ rs) (in_front-at_later f v j column below)
+    ap (in_front column) (rows-map f n j columns) ∙ combined-map_second (λ x row. x ∷ row) (at_place f j) (at_place f (suc j)) column (rows n columns) (λ x row. refl)
 
 -- rows of nothing
 empty-at : {X : Type 0} (f : X → X) (v j n : ℕ) → replicate {A = List X} n [] ≡ at_place (at_place f j) v (replicate n [])
@@ -116,9 +112,9 @@ empty-at f (suc v) j (suc n) = ap (λ rs. [] ∷ rs) (empty-at f v j n)
 -- a change at a place of a column is one of that row
 pub rows-at : {X : Type 0} (f : X → X) (n v j : ℕ) (columns : List (List X)) → rows n (at_place (at_place f v) j columns) ≡ at_place (at_place f j) v (rows n columns)
 rows-at f n v j [] = empty-at f v j n
-rows-at f n v zero (column ∷ columns) = in_front-at_first f v column (rows n columns)
+rows-at f n v zero (column ∷ columns) = combined-at_first (λ x row. x ∷ row) f (at_place f zero) v column (rows n columns) (λ x row. refl)
 rows-at f n v (suc j) (column ∷ columns) =
-    ap (in_front column) (rows-at f n v j columns) ∙ in_front-at_later f v j column (rows n columns)
+    ap (in_front column) (rows-at f n v j columns) ∙ combined-at_second (λ x row. x ∷ row) (at_place f j) (at_place f (suc j)) v column (rows n columns) (λ x row. refl)
 
 -- a first column of one element
 in_front-replicate : {X : Type 0} (n : ℕ) (x : X) (row : List X) → in_front (replicate n x) (replicate n row) ≡ replicate n (x ∷ row)

@@ -135,11 +135,3 @@ uniform_draw_only seed m k number last some small is =
     let low = no_later seed m k number (draw seed (used_draw seed m k) % m) last (used_draw seed m k) is taken in
     let high = no_later seed m k (draw seed (used_draw seed m k) % m) number (used_draw seed m k) last taken is in
     (omega (arith, low, high), is.value)
-
--- so one uniform draw below m is the first of so many, and the others come after the draw that it is made of
-pub uniform_draws_more : (seed m k number last count : ℕ) → 1 ≤ m → m ≤ modulus → IsUniformDraw seed m k number last
-    → uniform_draws seed m k (suc count) ≡ number ∷ uniform_draws seed m (last + 1) count
-unfolding uniform_draws
-uniform_draws_more seed m k number last count some small is =
-    let only = uniform_draw_only seed m k number last some small is in
-    rw (only.1, only.0) refl

@@ -4,7 +4,7 @@ use Rattle.std.proofs.lemmas.Bool.{cases_lt, cases_Bool, cond-true, cond-false, 
 use Rattle.std.proofs.lemmas.Nat.{le-div, mod_below}
 use Rattle.std.proofs.Math.Nat.{div-add-mod, mul-le-mul_left}
 use Rattle.sgb_graph.specs.Draws.{modulus, difference, bound_below}
-use Rattle.sgb_graph.specs.Flips.{HandsOut, IsNextCycle}
+use Rattle.sgb_graph.specs.inner.Flips.{HandsOut, IsNextCycle}
 
 -- the bound of a uniform draw is above 2^30
 pub bound_above : (m : ℕ) → 1 ≤ m → m ≤ modulus → 2 ^ 30 < bound_below m

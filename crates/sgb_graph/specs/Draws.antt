@@ -1,5 +1,5 @@
 -- The random numbers of GB_FLIP, by one formula [GB_FLIP, gb_flip_cycle, gb_init_rand and gb_unif_rand].
-use Rattle.std.specs.Prelude.{◌≡◌, ℕ, zero, suc, ◌+◌, ◌-◌, ◌*◌, ◌/◌, ◌%◌, ◌^◌, ◌<◌, ◌≤◌, ℤ, pos, negsuc, Option, List, [], ◌∷◌, map, reverse, find, nat_lt, option_map, unwrap_or, slice_index}
+use Rattle.std.specs.Prelude.{◌≡◌, ℕ, zero, suc, ◌+◌, ◌-◌, ◌*◌, ◌/◌, ◌%◌, ◌^◌, ◌<◌, ◌≤◌, ℤ, pos, negsuc, Option, List, [], ◌∷◌, map, reverse, find, nat_lt, unwrap_or, slice_index}
 use Rattle.std.specs.List.{range_with_len}
 
 -- the numbers are from 0 to 2^31 - 1, and their differences are taken modulo 2^31
@@ -63,10 +63,6 @@ pub record IsUniformDraw (seed m k number last : ℕ) : Type 0 where
 -- the number of the first of so many draws from k on that a uniform draw below m does not throw away
 abbrev pub first_taken : ℕ → ℕ → ℕ → ℕ → Option ℕ
 first_taken seed m k many = find (λ t. nat_lt (draw seed t) (bound_below m)) (range_with_len k many)
-
--- the uniform draw below m from draw k on, where it comes within so many draws
-abbrev pub uniform_within : ℕ → ℕ → ℕ → ℕ → Option ℕ
-uniform_within seed m k many = option_map (λ t. draw seed t % m) (first_taken seed m k many)
 
 -- of so many draws in a row, wherever they begin, a uniform draw takes one
 abbrev pub most_tried : ℕ

@@ -2,7 +2,7 @@
 use Rattle.std.specs.Prelude.{◌≡◌, ◌≢◌, ◌≤◌, ◌<◌, ◌+◌, ◌++◌, ◌^◌, ◌==◌, ℕ, zero, suc, ℤ, pos, min, max, List, [], ◌∷◌, length, map, All, codes, decimal, Option, Some, None, slice_get, slice_set, Bool, true, false, if◌then◌else◌}
 use Rattle.std.specs.Option.{option_and_then}
 use Rattle.sgb_graph.specs.Graphs.{GraphData, HasNoFields, ListsEnd, chain_of}
-use Rattle.sgb_graph.specs.Events.{Event, HasArcsOf, Row}
+use Rattle.sgb_graph.specs.Events.{Event, HasArcsOf, Record}
 use Rattle.sgb_graph.specs.Made.{no_kinds, no_fields}
 use Rattle.sgb_graph.specs.Sound.{IsGraph, arc_kinds}
 use Rattle.sgb_graph.specs.declared.fields.Kind.{Kind}
@@ -42,10 +42,6 @@ at_place f k [] = []
 at_place f zero (x ∷ xs) = f x ∷ xs
 at_place f (suc k) (x ∷ xs) = x ∷ at_place f k xs
 
--- the vertex with this first record of its list
-abbrev pub with_arcs : Option ℕ → Vertex → Vertex
-with_arcs first x = record x { arcs = first }
-
 -- the first record of the list of vertex v
 abbrev pub first_arc : List Vertex → ℕ → Option ℕ
 first_arc vertices v = option_and_then (λ x. x.arcs) (slice_get vertices v)
@@ -59,8 +55,8 @@ abbrev pub link : ℕ → ℕ → ℤ → Link
 link k v far = record { number = k; tip = v; len = far }
 
 -- what the record of an arc from u to v says
-abbrev pub row : ℕ → ℕ → ℤ → Row
-row u v far = record { start = u; tip = v; len = far }
+abbrev pub record_from : ℕ → ℕ → ℤ → Record
+record_from u v far = record { start = u; tip = v; len = far }
 
 -- the utility fields of arcs hold nothing
 abbrev pub HasPlainArcs : GraphData → Type 0
@@ -88,10 +84,6 @@ pub record AddsArc (old new : GraphData) (u v : ℕ) (len : ℤ) : Type 0 where
 -- what follows the lower record, number k, of a new edge: where it is a loop, the higher one
 abbrev pub after_lower : ℕ → List Vertex → ℕ → ℕ → Option ℕ
 after_lower k vertices u v = if u == v then Some (k + 1) else first_arc vertices (min u v)
-
--- the vertices, with the records k and k + 1 as the first ones of the two ends of an edge
-abbrev pub with_ends : ℕ → ℕ → ℕ → List Vertex → List Vertex
-with_ends k low high vertices = at_place (with_arcs (Some k)) low (at_place (with_arcs (Some (k + 1))) high vertices)
 
 -- the new graph has one edge more, between u and v: it is the last two records. The lower one is the first on
 -- the list of the smaller end, the higher one on that of the other; on the list of a loop it follows the lower

@@ -2,7 +2,7 @@
 use Rattle.std.specs.Prelude.{◌≡◌, ℕ, ◌==◌, Bool, List, [], ◌∷◌, length, map, All, zip, replicate, Option, Some, None, if◌then◌else◌}
 use Rattle.std.specs.List.{enumerate_from}
 use Rattle.sgb_graph.specs.Graphs.{GraphData}
-use Rattle.sgb_graph.specs.Events.{Event, IsWithin, Row, all_rows, list_of}
+use Rattle.sgb_graph.specs.Events.{Event, IsWithin, Record, all_records, list_of}
 use Rattle.sgb_graph.specs.Descriptions.{Description, IsGraphOf}
 use Rattle.sgb_graph.specs.declared.fields.Kind.{Kind}
 use Rattle.sgb_graph.specs.declared.fields.Kind.TheVariants.{Z}
@@ -48,7 +48,7 @@ abbrev pub vertex_with : List ℕ → List Util → List Link → Vertex
 vertex_with text fields links = record { name = text; arcs = first_number links; util = fields }
 
 -- record number k, which says what the row says and stands in the list given
-abbrev pub record_in : List Link → ℕ → Row → ArcRec
+abbrev pub record_in : List Link → ℕ → Record → ArcRec
 record_in links k row = record { tip = At row.tip; next = number_after k links; len = row.len; a = Nothing; b = Nothing }
 
 -- the vertices of a description, each with the list of its arcs
@@ -59,22 +59,18 @@ vertices_of d =
 -- the records of the events, each in the list of the vertex where it starts
 abbrev pub records_of_events : Bool → List Event → List ArcRec
 records_of_events directed events =
-    map (λ p. record_in (list_of directed events p.1.start) p.0 p.1) (enumerate_from 0 (all_rows directed events))
+    map (λ p. record_in (list_of directed events p.1.start) p.0 p.1) (enumerate_from 0 (all_records directed events))
 
 -- the graph that is described
 abbrev pub graph_described : Description → GraphData
 graph_described d = record {
   id = d.id;
-  m = length (all_rows d.directed d.events);
+  m = length (all_records d.directed d.events);
   kinds = d.kinds;
   util = d.util;
   vertices = vertices_of d;
   records = records_of_events d.directed d.events;
 }
-
--- the graph of these events, on vertices of these names, with this id; it uses no utility field
-abbrev pub graph_of : Bool → List Event → List (List ℕ) → List ℕ → GraphData
-graph_of directed events names id = graph_described (plain directed events names id)
 
 -- a graph that is described is the one that its description makes
 abbrev pub DescribedIsOnly : Type 0

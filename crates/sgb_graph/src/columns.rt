@@ -1,6 +1,7 @@
 //! The values of one utility field, of all vertices or of all arc records of a graph, kept by their kind.
 ghost use Rattle.std.specs.Prelude.{◌≡◌, ◌<◌, ◌+◌, ℕ, [], ◌∷◌, ◌++◌, length, slice_get, Some, OnOk};
-ghost use Rattle.sgb_graph.specs.Columns.{HasPlace, HoldsMany, column_kind, util_kind, util_seen, values};
+ghost use Rattle.sgb_graph.specs.Columns.{util_seen};
+ghost use Rattle.sgb_graph.specs.inner.Columns.{HasPlace, HoldsMany, column_kind, util_kind, values};
 
 use crate::fields::{Kind, Ref, Util, UtilRef};
 use sgb_vec::Text;
@@ -48,7 +49,8 @@ impl Column {
     pub(crate) fn push(&mut self, value: Util) -> Result<(), AllocError>
         requires { util_kind value ≡ column_kind self.old }
         ensures kind { OnOk result (column_kind self.new ≡ column_kind self.old) }
-        ensures values { OnOk result ((n : ℕ) → HoldsMany n self.old → values (1 + n) self.new ≡ values n self.old ++ value ∷ []) }
+        ensures values { OnOk result ((n : ℕ) → HoldsMany n self.old → values (1 + n) self.new
+            ≡ values n self.old ++ value ∷ []) }
     {
         match (self, value) {
             (Column::Ints(numbers), Util::Int(number)) => numbers.push(number)?,
@@ -63,7 +65,8 @@ impl Column {
     // The value of place k.
     pub(crate) fn get(&self, k: usize) -> UtilRef<'_>
         requires { HasPlace k self.now }
-        ensures { (n : ℕ) → k < n → HoldsMany n self.now → slice_get (values n self.now) k ≡ Some (util_seen result) }
+        ensures { (n : ℕ) → k < n → HoldsMany n self.now → slice_get (values n self.now) k
+            ≡ Some (util_seen result) }
     {
         match self {
             Column::Unused => UtilRef::Nothing,

@@ -1,5 +1,6 @@
 ghost use Rattle.std.specs.Prelude.{◌≡◌};
-ghost use Rattle.sgb_graph.specs.Columns.{util_kind, util_seen};
+ghost use Rattle.sgb_graph.specs.Columns.{util_seen};
+ghost use Rattle.sgb_graph.specs.inner.Columns.{util_kind};
 
 use sgb_vec::Text;
 

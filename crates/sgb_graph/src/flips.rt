@@ -1,7 +1,7 @@
 //! The random number generator of GB_FLIP.
 ghost use Rattle.std.specs.Prelude.{◌≡◌, ℕ, ℤ, ◌+◌, ◌%◌, ◌<◌, ◌≤◌};
 ghost use Rattle.sgb_graph.specs.Draws.{IsUniformDraw, IsAtDraw, difference, draw, modulus, seed_of};
-ghost use Rattle.sgb_graph.specs.Flips.{HandsOut, IsCycle, IsFirstCycle, IsNextCycle, rotated_once};
+ghost use Rattle.sgb_graph.specs.inner.Flips.{HandsOut, IsCycle, IsFirstCycle, IsNextCycle, rotated_once};
 
 use std::marker::Model;
 
@@ -23,7 +23,8 @@ pub struct Flip {
 }
 
 impl Model for Flip {
-    ghost use Rattle.sgb_graph.specs.Flips.{FlipData, flip_data, IsFlip};
+    ghost use Rattle.sgb_graph.specs.Flips.{FlipData};
+    ghost use Rattle.sgb_graph.specs.inner.Flips.{flip_data, IsFlip};
 
     ghost Value = { FlipData };
 
@@ -50,7 +51,8 @@ impl Flip {
     /// The next number, from 0 to 2^31 - 1 (GB_FLIP, gb_next_rand).
     pub fn draw(&mut self) -> u32
         ensures stands { (start : ℤ) (k : ℕ) → IsAtDraw start k self.old.numbers self.old.left
-            → (result ≡ draw (seed_of start) k) × IsAtDraw start (k + 1) self.new.numbers self.new.left }
+            → (result ≡ draw (seed_of start) k)
+            × IsAtDraw start (k + 1) self.new.numbers self.new.left }
         ensures below { result < modulus }
     {
         hand_out(&mut self.numbers, &mut self.left)

@@ -1,9 +1,10 @@
 ghost use Rattle.std.specs.Prelude.{◌≡◌, ◌<◌, ◌≤◌, length, map, ◌↔◌, slice_get, Some, IfOk, IsErrOf, IsOkUnless};
 ghost use Rattle.sgb_vec.specs.Limits.{most_vertices};
 ghost use Rattle.sgb_graph.specs.Made.{no_fields};
-ghost use Rattle.sgb_graph.specs.Columns.{arc_seen, util_kind, vertex_seen};
+ghost use Rattle.sgb_graph.specs.Columns.{arc_seen, vertex_seen};
+ghost use Rattle.sgb_graph.specs.inner.Columns.{util_kind};
 ghost use Rattle.sgb_graph.specs.Growth.{IsKept, new_id, new_graph, with_id};
-ghost use Rattle.sgb_graph.specs.Kept.{kept_graph};
+ghost use Rattle.sgb_graph.specs.inner.Kept.{kept_graph};
 
 mod adding;
 mod arcs;
@@ -38,7 +39,7 @@ impl Model for Graph {
     ghost Value = { GraphData };
 
     ghost use Rattle.sgb_graph.specs.Growth.{IsKept};
-    ghost use Rattle.sgb_graph.specs.Kept.{kept_graph};
+    ghost use Rattle.sgb_graph.specs.inner.Kept.{kept_graph};
 
     ghost view = { λ g. kept_graph g.id g.m g.util g.vertices g.records };
 

@@ -1,6 +1,6 @@
 //! The number of an arc record, or none, as vertices and records keep it: in one word.
 ghost use Rattle.std.specs.Prelude.{◌≡◌, ◌<◌, ◌+◌, ◌^◌, IfSome};
-ghost use Rattle.sgb_graph.specs.KeptRecords.{kept_number};
+ghost use Rattle.sgb_graph.specs.inner.KeptRecords.{kept_number};
 
 // The number that stands for no record. No list of records is that long.
 const NONE: usize = usize::MAX;

@@ -5,8 +5,8 @@ ghost use Rattle.sgb_graph.specs.Descriptions.{IsGraphOf};
 ghost use Rattle.sgb_graph.specs.Parts.{checked};
 ghost use Rattle.sgb_graph.specs.Sound.{IsGraph};
 ghost use Rattle.sgb_graph.specs.Made.{DescribedIs, DescribedIsOnly, plain};
-ghost use Rattle.sgb_graph.specs.Events.{Event, HasArcsOf, Row, all_rows, list_of};
-ghost use Rattle.sgb_graph.specs.Growth.{AddsArc, AddsEdge, AddsEvents, ArcsLead, EdgesLead, link, new_graph, row, with_id};
+ghost use Rattle.sgb_graph.specs.Events.{Event, HasArcsOf, Record, all_records, list_of};
+ghost use Rattle.sgb_graph.specs.Growth.{AddsArc, AddsEdge, AddsEvents, ArcsLead, EdgesLead, link, new_graph, record_from, with_id};
 ghost use Rattle.sgb_graph.specs.declared.fields.Link.{Link};
 ghost use Rattle.sgb_graph.specs.Draws.{IsUniformDraw, difference, draw, first_taken, modulus, most_tried, used_draw, x_number, y_number};
 
@@ -15,17 +15,21 @@ ghost use Rattle.sgb_graph.specs.Draws.{IsUniformDraw, difference, draw, first_t
 pub fn random_numbers_law()
     ensures seed { (seed : ℕ) → x_number seed 55 ≡ y_number seed 0 }
     ensures first { (seed k : ℕ) → 1 ≤ k → k ≤ 54 → x_number seed (21 * k % 55) ≡ y_number seed k }
-    ensures later { (seed n : ℕ) → 55 < n → x_number seed n ≡ difference (x_number seed (n - 55)) (x_number seed (n - 24)) }
+    ensures later { (seed n : ℕ) → 55 < n → x_number seed n
+        ≡ difference (x_number seed (n - 55)) (x_number seed (n - 24)) }
 {}
 
 /// The first draw of some that is not thrown away makes the uniform draw below `m`; for `m` from 1 to 2^31 one of any
 /// 1760 draws in a row is not thrown away, and there is no other uniform draw (GB_FLIP, gb_unif_rand).
 pub fn uniform_draw_law()
-    ensures first { (seed m k many last : ℕ) → first_taken seed m k many ≡ Some last → IsUniformDraw seed m k (draw seed last % m) last }
-    ensures found { (seed m k : ℕ) → 1 ≤ m → m ≤ modulus → first_taken seed m k most_tried ≡ Some (used_draw seed m k) }
+    ensures first { (seed m k many last : ℕ) → first_taken seed m k many ≡ Some last
+        → IsUniformDraw seed m k (draw seed last % m) last }
+    ensures found { (seed m k : ℕ) → 1 ≤ m → m ≤ modulus → first_taken seed m k most_tried
+        ≡ Some (used_draw seed m k) }
     ensures taken { (seed m k : ℕ) → 1 ≤ m → m ≤ modulus
         → IsUniformDraw seed m k (draw seed (used_draw seed m k) % m) (used_draw seed m k) }
-    ensures only { (seed m k number last : ℕ) → 1 ≤ m → m ≤ modulus → IsUniformDraw seed m k number last
+    ensures only { (seed m k number last : ℕ) → 1 ≤ m → m ≤ modulus
+        → IsUniformDraw seed m k number last
         → (last ≡ used_draw seed m k) × (number ≡ draw seed last % m) }
 {}
 
@@ -58,20 +62,23 @@ pub fn events_law()
         → AddsEvents directed first third (events ++ others) }
     ensures arcs { (directed : Bool) (names : List (List ℕ)) (events : List Event) (g : GraphData)
         → AddsEvents directed (new_graph names) g events → HasArcsOf directed events g }
-    ensures graph { (directed : Bool) (names : List (List ℕ)) (events : List Event) (g : GraphData) (id : List ℕ)
-        → AddsEvents directed (new_graph names) g events → IsGraphOf (plain directed events names id) (with_id id g) }
+    ensures graph { (directed : Bool) (names : List (List ℕ)) (events : List Event) (g : GraphData)
+        (id : List ℕ)
+        → AddsEvents directed (new_graph names) g events
+        → IsGraphOf (plain directed events names id) (with_id id g) }
 {}
 
 /// The list of a vertex has each record of the events that starts there, once, and nothing else.
 pub fn lists_law()
-    ensures each { (directed : Bool) (events : List Event) (k : ℕ) (r : Row)
-        → slice_get (all_rows directed events) k ≡ Some r
+    ensures each { (directed : Bool) (events : List Event) (k : ℕ) (r : Record)
+        → slice_get (all_records directed events) k ≡ Some r
         → Contains (list_of directed events r.start) (link k r.tip r.len) }
     ensures only { (directed : Bool) (events : List Event) (v : ℕ) (l : Link)
         → Contains (list_of directed events v) l
-        → slice_get (all_rows directed events) l.number ≡ Some (row v l.tip l.len) }
+        → slice_get (all_records directed events) l.number ≡ Some (record_from v l.tip l.len) }
     ensures once { (directed : Bool) (events : List Event) (v : ℕ)
-        → length (list_of directed events v) ≡ count_by (λ r. r.start == v) (all_rows directed events) }
+        → length (list_of directed events v)
+        ≡ count_by (λ r. r.start == v) (all_records directed events) }
 {}
 
 /// A description makes one graph, and no other graph is the one that it describes.

@@ -1,16 +1,27 @@
 //! Graphs as GB_GRAPH keeps them: vertices with lists of arc records, utility fields and an id.
 #![tactic(auto)]
 
+// The values of one utility field, by its kind.
 mod columns;
+// Vertices, arc records and their fields, as readers see them.
 mod fields;
+// Random numbers.
 mod flips;
+// A graph: how it is read, and how it grows.
 mod graphs;
+// The id of a graph.
 mod ids;
+// The number of an arc record, or none, in one word.
 mod kept_numbers;
+// What holds of all graphs and of all random numbers.
 mod laws;
+// The names of the vertices of a new graph.
 mod names;
+// The parts of a graph that a file brings.
 mod parts;
+// The arc records, as they are kept.
 mod records;
+// The vertices, as they are kept.
 mod vertices;
 
 pub use fields::{ArcRec, ArcRef, Kind, Link, Ref, Util, UtilRef, Vertex, VertexRef};

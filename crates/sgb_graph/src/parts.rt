@@ -123,7 +123,8 @@ impl Parts {
 
     // Whether there are not too many vertices, and all fields fit their kinds.
     fn fit(&self) -> bool
-        ensures { result ≡ (nat_le (length self.now.vertices) most_vertices && fields_fit self.now) }
+        ensures { result ≡ (nat_le (length self.now.vertices) most_vertices && fields_fit
+            self.now) }
     {
         self.vertices.len() <= MOST_VERTICES as usize && self.fields_fit()
     }

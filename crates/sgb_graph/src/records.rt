@@ -1,8 +1,9 @@
 //! The arc records of a graph, in little memory: 24 bytes for one without utility fields.
 ghost use Rattle.std.specs.Prelude.{◌≡◌, ◌<◌, ◌+◌, ◌++◌, ◌^◌, [], ◌∷◌, length, slice_get, All, Some, IfOk, IfSome, OnOk, OnErr};
-ghost use Rattle.sgb_graph.specs.Columns.{arc_seen, util_kind};
+ghost use Rattle.sgb_graph.specs.Columns.{arc_seen};
+ghost use Rattle.sgb_graph.specs.inner.Columns.{util_kind};
 ghost use Rattle.sgb_graph.specs.Growth.{arc_record};
-ghost use Rattle.sgb_graph.specs.KeptRecords.{kept_number};
+ghost use Rattle.sgb_graph.specs.inner.KeptRecords.{kept_number};
 ghost use Rattle.sgb_graph.specs.declared.fields.Kind.TheVariants.{Z};
 
 use crate::columns::Column;
@@ -31,8 +32,8 @@ pub(crate) struct Records {
 
 impl Model for Records {
     ghost use Rattle.std.specs.Prelude.{length};
-    ghost use Rattle.sgb_graph.specs.Columns.{HoldsMany};
-    ghost use Rattle.sgb_graph.specs.KeptRecords.{KeptRecords, kept_records};
+    ghost use Rattle.sgb_graph.specs.inner.Columns.{HoldsMany};
+    ghost use Rattle.sgb_graph.specs.inner.KeptRecords.{KeptRecords, kept_records};
 
     ghost Value = { KeptRecords };
 
@@ -134,7 +135,8 @@ impl Records {
     ) -> Result<(), AllocError>
         requires plain { (self.old.a ≡ Z) × (self.old.b ≡ Z) }
         requires small { IfSome after (λ k. k + 1 < 2 ^ 64) }
-        ensures ok { OnOk result (self.new ≡ record self.old { items = self.old.items ++ arc_record v after len ∷ [] }) }
+        ensures ok { OnOk result (self.new
+            ≡ record self.old { items = self.old.items ++ arc_record v after len ∷ [] }) }
         ensures err { OnErr result (self.new ≡ self.old) }
     {
         self.plain.push(PlainRecord::new(Ref::At(v), after, len))?;

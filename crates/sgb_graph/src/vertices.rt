@@ -1,9 +1,11 @@
 //! The vertices of a graph, in little memory: integers in the utility fields x, y, z stand in the vertex itself, all
 //! other utility fields beside.
 ghost use Rattle.std.specs.Prelude.{◌≡◌, ◌<◌, ◌+◌, ◌^◌, ◌++◌, ℕ, List, [], ◌∷◌, length, map, slice_get, slice_set, All, Some, IfOk, IfSome, OnOk};
-ghost use Rattle.sgb_graph.specs.Columns.{HoldsMany, util_kind, util_seen, values, vertex_seen};
-ghost use Rattle.sgb_graph.specs.Growth.{at_place, first_arc, new_vertex, number_or_zero, with_arcs, with_numbers, with_some_numbers};
-ghost use Rattle.sgb_graph.specs.KeptVertices.{AreKept, HoldNumbers, Keep, TakeNumbers, bare_named, bare_vertex, field_kinds, kinds_of_vertices, numbers_values};
+ghost use Rattle.sgb_graph.specs.Columns.{util_seen, vertex_seen};
+ghost use Rattle.sgb_graph.specs.inner.Columns.{HoldsMany, util_kind, values};
+ghost use Rattle.sgb_graph.specs.Growth.{at_place, first_arc, new_vertex, number_or_zero, with_numbers, with_some_numbers};
+ghost use Rattle.sgb_graph.specs.inner.Growth.{with_arcs};
+ghost use Rattle.sgb_graph.specs.inner.KeptVertices.{AreKept, HoldNumbers, Keep, TakeNumbers, bare_named, bare_vertex, field_kinds, kinds_of_vertices, numbers_values};
 ghost use Rattle.sgb_graph.specs.declared.fields.Kind.{Kind};
 ghost use Rattle.sgb_graph.specs.declared.fields.Kind.TheVariants.{Z, I};
 ghost use Rattle.sgb_graph.specs.declared.fields.Util.TheVariants.{Int};
@@ -53,7 +55,7 @@ pub(crate) struct Vertices {
 }
 
 impl Model for Vertices {
-    ghost use Rattle.sgb_graph.specs.KeptVertices.{AreKept, KeptVertices, kept_vertices};
+    ghost use Rattle.sgb_graph.specs.inner.KeptVertices.{AreKept, KeptVertices, kept_vertices};
 
     ghost Value = { KeptVertices };
 
@@ -65,7 +67,8 @@ impl Model for Vertices {
 impl Vertices {
     // The vertices of these names, with no arcs and no utility fields.
     pub(crate) fn named(alloc: Global, names: Names) -> Result<Vertices, AllocError>
-        ensures { IfOk result (λ vertices. vertices ≡ record { u = Z; v = Z; w = Z; x = Z; y = Z; z = Z; items = map new_vertex names }) }
+        ensures { IfOk result (λ vertices. vertices
+            ≡ record { u = Z; v = Z; w = Z; x = Z; y = Z; z = Z; items = map new_vertex names }) }
     {
         let plain = new_vertices(alloc, names)?;
         Ok(Vertices {
@@ -129,7 +132,8 @@ impl Vertices {
     pub(crate) fn set_first(&mut self, v: u32, number: usize)
         requires vertex { v < length self.old.items }
         requires small { number + 1 < 2 ^ 64 }
-        ensures { self.new ≡ record self.old { items = at_place (with_arcs (Some number)) v self.old.items } }
+        ensures { self.new ≡ record self.old
+            { items = at_place (with_arcs (Some number)) v self.old.items } }
     {
         self.plain[v as usize].arcs = keep_number(Some(number));
     }
@@ -164,8 +168,8 @@ impl Vertices {
 }
 
 impl PlainVertex {
-    ghost use Rattle.sgb_graph.specs.KeptRecords.{kept_number};
-    ghost use Rattle.sgb_graph.specs.KeptVertices.{number_at};
+    ghost use Rattle.sgb_graph.specs.inner.KeptRecords.{kept_number};
+    ghost use Rattle.sgb_graph.specs.inner.KeptVertices.{number_at};
 
     // The vertex with this name, first record of its list of arcs, and integers in the fields x, y, z.
     fn new(name: Text, arcs: Option<usize>, ints: [i64; 3]) -> PlainVertex
@@ -192,7 +196,7 @@ impl PlainVertex {
 }
 
 impl Numbers {
-    ghost use Rattle.sgb_graph.specs.KeptVertices.{HasNumber, number_at, numbers_kind, numbers_values};
+    ghost use Rattle.sgb_graph.specs.inner.KeptVertices.{HasNumber, number_at, numbers_kind, numbers_values};
     ghost use Rattle.sgb_graph.specs.declared.vertices.PlainVertex.{PlainVertex};
 
     // A field of this kind, with no values yet. It takes no memory.
@@ -221,9 +225,11 @@ impl Numbers {
     fn push(&mut self, value: Util) -> Result<i64, AllocError>
         requires { util_kind value ≡ numbers_kind self.old }
         ensures kind { OnOk result (numbers_kind self.new ≡ numbers_kind self.old) }
-        ensures values { IfOk result (λ i. (place : ℕ) (ps : List PlainVertex) (p : PlainVertex) → number_at place p ≡ i
+        ensures values { IfOk result (λ i. (place : ℕ) (ps : List PlainVertex) (p : PlainVertex)
+            → number_at place p ≡ i
             → length (numbers_values place ps self.old) ≡ length ps
-            → numbers_values place (ps ++ p ∷ []) self.new ≡ numbers_values place ps self.old ++ value ∷ []) }
+            → numbers_values place (ps ++ p ∷ []) self.new ≡ numbers_values place ps self.old
+            ++ value ∷ []) }
     {
         match (self, value) {
             (Numbers::Beside(column), value) => {
@@ -238,7 +244,8 @@ impl Numbers {
     // The value of vertex k, which has this integer.
     fn get(&self, own: i64, k: usize) -> UtilRef<'_>
         requires { HasNumber k self.now }
-        ensures { (place : ℕ) (ps : List PlainVertex) (p : PlainVertex) → slice_get ps k ≡ Some p → number_at place p ≡ own
+        ensures { (place : ℕ) (ps : List PlainVertex) (p : PlainVertex) → slice_get ps k ≡ Some p
+            → number_at place p ≡ own
             → length (numbers_values place ps self.now) ≡ length ps
             → slice_get (numbers_values place ps self.now) k ≡ Some (util_seen result) }
     {
@@ -250,7 +257,7 @@ impl Numbers {
 }
 
 impl Fields {
-    ghost use Rattle.sgb_graph.specs.KeptVertices.{AreKept, HaveValues, field_columns, rows, with_row};
+    ghost use Rattle.sgb_graph.specs.inner.KeptVertices.{AreKept, HaveValues, field_columns, rows, with_row};
     ghost use Rattle.sgb_graph.specs.declared.vertices.PlainVertex.{PlainVertex};
 
     // Fields of these kinds, with no values yet. They take no memory.
@@ -287,7 +294,8 @@ impl Fields {
     fn push(&mut self, values: [Util; 6]) -> Result<[i64; 3], AllocError>
         requires { map util_kind values ≡ field_kinds self.old }
         ensures kinds { OnOk result (field_kinds self.new ≡ field_kinds self.old) }
-        ensures values { IfOk result (λ ints. (ps : List PlainVertex) (p : PlainVertex) → p.ints ≡ ints → AreKept ps self.old
+        ensures values { IfOk result (λ ints. (ps : List PlainVertex) (p : PlainVertex) → p.ints
+            ≡ ints → AreKept ps self.old
             → field_columns (ps ++ p ∷ []) self.new ≡ with_row (field_columns ps self.old) values) }
     {
         let (u, v, w, x, y, z) = each(values);
@@ -303,8 +311,10 @@ impl Fields {
     // The values of vertex k, which has these integers.
     fn get(&self, ints: &[i64; 3], k: usize) -> [UtilRef<'_>; 6]
         requires { HaveValues k self.now }
-        ensures { (ps : List PlainVertex) (p : PlainVertex) → slice_get ps k ≡ Some p → p.ints ≡ ints.now → AreKept ps self.now
-            → slice_get (rows (length ps) (field_columns ps self.now)) k ≡ Some (map util_seen result) }
+        ensures { (ps : List PlainVertex) (p : PlainVertex) → slice_get ps k ≡ Some p → p.ints
+            ≡ ints.now → AreKept ps self.now
+            → slice_get (rows (length ps) (field_columns ps self.now)) k
+            ≡ Some (map util_seen result) }
     {
         [
             self.u.get(k),
@@ -340,7 +350,8 @@ fn new_vertices(alloc: Global, names: Names) -> Result<Vec<PlainVertex>, AllocEr
 fn keep(plain: &mut Vec<PlainVertex>, fields: &mut Fields, vertex: Vertex) -> Result<(), AllocError>
     requires kinds { map util_kind vertex.util ≡ field_kinds fields.old }
     requires arcs { IfSome vertex.arcs (λ k. k + 1 < 2 ^ 64) }
-    ensures { OnOk result ((kinds : List Kind) (items : List Vertex) → Keep plain.old.items fields.old kinds items
+    ensures { OnOk result ((kinds : List Kind) (items : List Vertex)
+        → Keep plain.old.items fields.old kinds items
         → Keep plain.new.items fields.new kinds (items ++ vertex ∷ [])) }
 {
     let Vertex { name, arcs, util } = vertex;
@@ -365,7 +376,8 @@ fn take_numbers(plain: &mut [PlainVertex], place: usize, field: &mut Numbers)
     requires place { place < 3 }
     requires whole { length (numbers_values place plain.old field.old) ≡ length plain.old }
     ensures field { field.new ≡ Inside }
-    ensures plain { TakeNumbers place plain.old plain.new (numbers_values place plain.old field.old) }
+    ensures plain { TakeNumbers place plain.old plain.new
+        (numbers_values place plain.old field.old) }
 {
     let Numbers::Beside(column) = field else {
         return;

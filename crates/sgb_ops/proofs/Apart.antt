@@ -6,12 +6,14 @@ use Rattle.std.proofs.lemmas.Bool.{cases_eq, cases_Bool}
 use Rattle.std.proofs.lemmas.List.Elements.{All-nil, All-cons, All-append}
 use Rattle.std.proofs.lemmas.List.Quantifiers.{all_pairs_push}
 use Rattle.std.proofs.lemmas.Nat.Bits.{bit_at_set_same, bit_at_set_other}
+use Rattle.sgb_vec.proofs.Lists.{filter-none}
 use Rattle.sgb_graph.specs.Events.{Event}
-use Rattle.sgb_ops.specs.Ends.{bit_place}
-use Rattle.sgb_ops.specs.Merged.{HaveDifferentEnds, has_ends_of, merged, merged_unless}
+use Rattle.sgb_ops.specs.inner.Ends.{bit_place}
+use Rattle.sgb_ops.specs.Merged.{has_ends_of, merged, merged_unless}
+use Rattle.sgb_ops.specs.inner.Merged.{HaveDifferentEnds}
 use Rattle.sgb_ops.proofs.Ends.{same_sums}
 use Rattle.sgb_ops.proofs.Merging.{apart}
-use Rattle.sgb_ops.proofs.MergedParts.{none_like, all_stay}
+use Rattle.sgb_ops.proofs.MergedParts.{all_stay}
 
 -- they are merged to themselves
 merged_same : (directed : Bool) (events : List Event) → AllPairs (apart directed) events → merged directed events ≡ events
@@ -20,7 +22,7 @@ merged_same directed [] pairs = refl
 merged_same directed (e ∷ events) pairs =
     let from_e : All (apart directed e) events = λ k d h. pairs 0 (suc k) d (omega arith) (omega (arith, h)) in
     let rest = merged_same directed events (λ i j d h k. pairs (suc i) (suc j) d (omega (arith, h)) (omega (arith, k))) in
-    rw (none_like directed e events from_e, rest, all_stay directed e events from_e) refl
+    rw (filter-none (has_ends_of directed e) events from_e, rest, all_stay directed e events from_e) refl
 
 pub merged_unless_same : (multi directed : Bool) (events : List Event) → HaveDifferentEnds events → merged_unless multi directed events ≡ events
 merged_unless_same true directed events different = refl

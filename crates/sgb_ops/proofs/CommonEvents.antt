@@ -7,17 +7,18 @@ use Rattle.std.proofs.lemmas.List.{length-append, take_at}
 use Rattle.std.proofs.lemmas.List.Elements.{All-nil, All-cons, All-append}
 use Rattle.std.proofs.lemmas.List.Sums.{length-filter}
 use Rattle.sgb_graph.specs.Graphs.{GraphData}
-use Rattle.sgb_graph.specs.Events.{Event}
+use Rattle.sgb_graph.specs.Events.{Event, IsWithin}
 use Rattle.sgb_graph.specs.Growth.{IsKept}
 use Rattle.sgb_graph.specs.declared.fields.Link.{Link}
-use Rattle.sgb_ops.specs.Ends.{AllWithin}
+use Rattle.sgb_ops.specs.inner.Ends.{AllWithin}
 use Rattle.sgb_ops.specs.Intersection.{count_to, least_to, common_count, common_length, common_event, common_events, intersection_events}
 use Rattle.sgb_ops.specs.Lengths.{greater, least_of}
 use Rattle.sgb_ops.specs.Operands.{order_of}
 use Rattle.sgb_ops.specs.Taken.{taken}
-use Rattle.sgb_ops.specs.Tallies.{tally_of, tally_to, without_one, second_length, event_left}
+use Rattle.sgb_ops.specs.inner.Tallies.{tally_of, tally_to, without_one, second_length, event_left}
 use Rattle.sgb_ops.specs.declared.tallies.Tally.{Tally}
-use Rattle.sgb_ops.proofs.EventsWithin.{TipBelow, Within, taken_tips, events_after_within}
+use Rattle.sgb_ops.proofs.EventsWithin.{TipBelow, taken_tips, events_after_within}
+use Rattle.sgb_ops.proofs.PlainLists.{places_from}
 use Rattle.sgb_ops.proofs.TallyLemmas.{arcs_to, count_more_here, count_more_elsewhere, count_at, tip_counted}
 
 -- the events for arcs of hs that stand after others
@@ -38,10 +39,13 @@ tally_left multi met (Some t) = Some (record t { count = count_left multi t.coun
 abbrev pub left_after : Bool → ℕ → List Link → List Link → Option Tally
 left_after multi u gs before = tally_left multi (count_to u before) (tally_to u gs)
 
--- the events of the vertices from v on that both graphs have
+-- the events of v that both graphs have
+abbrev pub commons_of : GraphData → GraphData → Bool → Bool → ℕ → List Event
+commons_of g h multi directed v = common_events multi v (taken directed g v) (taken directed h v)
+
+-- those of the vertices from v on
 abbrev pub events_after : GraphData → GraphData → Bool → Bool → ℕ → List Event
-events_after g h multi directed v =
-    flat_map (λ u. common_events multi u (taken directed g u) (taken directed h u)) (range_with_len v (min (order_of g) (order_of h) - v))
+events_after g h multi directed v = flat_map (commons_of g h multi directed) (places_from (min (order_of g) (order_of h)) v)
 
 -- these are those that are found by their places
 pub commons_at_places : (multi : Bool) (v : ℕ) (gs hs before links : List Link) (k : ℕ) → hs ≡ before ++ links → k ≡ length before
@@ -170,9 +174,9 @@ event_there multi v gs hs before links l is =
 
 -- the ends of the events of v are below n
 pub commons_within : (n : ℕ) (multi : Bool) (v : ℕ) (gs hs before links : List Link) → v < n → All (TipBelow n) gs → AllWithin n (commons_after multi v gs hs before links)
-commons_within n multi v gs hs before [] below all = All-nil (Within n)
+commons_within n multi v gs hs before [] below all = All-nil (IsWithin n)
 commons_within n multi v gs hs before (l ∷ links) below all =
-    All-append (Within n) (common_event multi v gs hs before l) (commons_after multi v gs hs (before ++ l ∷ []) links) (by_test (cases_Bool (nat_lt (count_to l.tip before) (common_count multi l.tip gs hs))))
+    All-append (IsWithin n) (common_event multi v gs hs before l) (commons_after multi v gs hs (before ++ l ∷ []) links) (by_test (cases_Bool (nat_lt (count_to l.tip before) (common_count multi l.tip gs hs))))
     (commons_within n multi v gs hs (before ++ l ∷ []) links below all)
   where
     some : (m : Bool) → count_to l.tip before < common_count m l.tip gs hs → 0 < count_to l.tip gs
@@ -183,26 +187,13 @@ commons_within n multi v gs hs before (l ∷ links) below all =
         → AllWithin n (common_event multi v gs hs before l)
     by_test (inl wanted) =
         let tip : l.tip < n = tip_counted n l.tip gs all (some multi (ltb-true _ _ wanted)) in
-        rw wanted (All-cons (Within n) (record { from = v; to = l.tip; len = common_length multi gs hs l }) [] (below, tip) (All-nil (Within n)))
-    by_test (inr unwanted) = rw unwanted (All-nil (Within n))
+        rw wanted (All-cons (IsWithin n) (record { from = v; to = l.tip; len = common_length multi gs hs l }) [] (below, tip) (All-nil (IsWithin n)))
+    by_test (inr unwanted) = rw unwanted (All-nil (IsWithin n))
 
 -- and so are those of all vertices
 pub intersection_within : (g h : GraphData) (multi directed : Bool) → IsKept g → AllWithin (order_of g) (intersection_events g h multi directed)
 intersection_within g h multi directed kept =
-    events_after_within (order_of g) (λ v. common_events multi v (taken directed g v) (taken directed h v)) 0 (min (order_of g) (order_of h))
+    events_after_within (order_of g) (commons_of g h multi directed) 0 (min (order_of g) (order_of h))
     (λ v low high.
     subst (AllWithin (order_of g)) (sym (commons_at_places multi v (taken directed g v) (taken directed h v) [] (taken directed h v) 0 refl refl))
     (commons_within (order_of g) multi v (taken directed g v) (taken directed h v) [] (taken directed h v) (omega (arith, high)) (taken_tips directed g v kept (omega (arith, high)))))
-
--- those of v come first
-pub events_after-next : (g h : GraphData) (multi directed : Bool) (v : ℕ) → v < min (order_of g) (order_of h)
-    → events_after g h multi directed v ≡ common_events multi v (taken directed g v) (taken directed h v) ++ events_after g h multi directed (v + 1)
-events_after-next g h multi directed v below =
-    let count : min (order_of g) (order_of h) - v ≡ suc (min (order_of g) (order_of h) - (v + 1)) = omega (arith, below) in
-    ap (λ n. flat_map (λ u. common_events multi u (taken directed g u) (taken directed h u)) (range_with_len v n)) count
-
--- past the last vertex there are none
-pub events_after-none : (g h : GraphData) (multi directed : Bool) (v : ℕ) → min (order_of g) (order_of h) ≤ v → events_after g h multi directed v ≡ []
-events_after-none g h multi directed v past =
-    let count : min (order_of g) (order_of h) - v ≡ 0 = omega (arith, past) in
-    ap (λ n. flat_map (λ u. common_events multi u (taken directed g u) (taken directed h u)) (range_with_len v n)) count

@@ -1,5 +1,5 @@
 -- The copies of the vertices, one vertex after another.
-use Rattle.std.proofs.Common.{◌≡◌, ◌<◌, ◌≤◌, ◌+◌, ◌-◌, ℕ, zero, suc, List, [], ◌∷◌, ◌++◌, length, take, false, refl, sym, ap, ◌∙◌, inl, inr, append-nil, arith}
+use Rattle.std.proofs.Common.{◌≡◌, ◌<◌, ◌≤◌, ◌+◌, ◌-◌, ℕ, zero, suc, List, [], ◌∷◌, ◌++◌, length, get_or, take, false, refl, sym, ap, ◌∙◌, inl, inr, append-nil, arith}
 use Rattle.std.specs.Prelude.{◌⊎◌, Contains, Option, Some, None, filter, flat_map, nat_le, slice_get}
 use Rattle.std.specs.List.{list_any, range_with_len}
 use Rattle.std.specs.Option.{option_map_or}
@@ -7,41 +7,27 @@ use Rattle.std.proofs.lemmas.Bool.{cases_lt, le-leb, lt-leb}
 use Rattle.std.proofs.lemmas.Bool.Decides.{nat_tests}
 use Rattle.std.proofs.lemmas.Grind.{flat_map-append}
 use Rattle.std.proofs.lemmas.List.{take_all}
-use Rattle.std.proofs.lemmas.List.FromFn.{length-range_with_len, get_or-range_with_len}
+use Rattle.std.proofs.lemmas.List.Elements.{All-contains}
+use Rattle.sgb_vec.proofs.Lists.{range-within}
 use Rattle.sgb_ops.specs.declared.entries.Entry.{Entry}
 use Rattle.sgb_ops.specs.Copies.{CopiesAreAll, CopiesAreApart, own_copies}
 use Rattle.sgb_ops.specs.Entries.{copies_by, copies_of, first_copy, is_unnumbered, merged_count, merged_number, own_total, size_of_entry}
 use Rattle.sgb_ops.specs.Operands.{order_of}
 use Rattle.sgb_ops.specs.declared.entries.Entry.TheVariants as entry
 use Rattle.sgb_ops.proofs.EntryTotals.{next_first, number_below, numbered_one}
-use Rattle.sgb_ops.proofs.LineEvents.{range_more}
-
--- numbers, and those that come after them
-range_on : (a n k : ℕ) → range_with_len a (n + k) ≡ range_with_len a n ++ range_with_len (a + n) k
-range_on a zero k =
-    let count : zero + k ≡ k = omega arith in
-    let start : a ≡ a + zero = omega arith in
-    ap (range_with_len a) count ∙ ap (λ i. range_with_len i k) start
-range_on a (suc n) k =
-    let count : suc n + k ≡ suc (n + k) = omega arith in
-    let start : a + 1 + n ≡ a + suc n = omega arith in
-    ap (range_with_len a) count ∙ ap (λ ks. a ∷ ks) (range_on (a + 1) n k ∙ ap (λ i. range_with_len (a + 1) n ++ range_with_len i k) start)
+use Rattle.sgb_ops.proofs.PlainLists.{filter-all, range_on, range_more}
 
 -- a number of a range
 in_range : (start n u : ℕ) → Contains (range_with_len start n) u → (start ≤ u) × (u < start + n)
-in_range start n u (k, below, here) =
-    let few : k < n = omega (arith, below, length-range_with_len start n) in
-    let at = sym here ∙ get_or-range_with_len start n k u few in
-    (omega (arith, at), omega (arith, at, few))
+in_range start n u inside = All-contains (λ k. (start ≤ k) × (k < start + n)) (range_with_len start n) u (range-within start n) inside
 
 -- how many copies a vertex has alone
 abbrev size_at : List Entry → ℕ → ℕ
 size_at entries v = option_map_or size_of_entry (slice_get entries v) 0
 
--- none of these numbers is below k, or all are
+-- none of these numbers is below k
 kept_from : (k a n : ℕ) → k ≤ a → filter (nat_le k) (range_with_len a n) ≡ range_with_len a n
-kept_from k a zero low = refl
-kept_from k a (suc n) low = rw (le-leb k a low) (ap (λ ks. a ∷ ks) (kept_from k (a + 1) n (omega (arith, low))))
+kept_from k a n low = filter-all (nat_le k) (range_with_len a n) (λ i d h. le-leb k (get_or (range_with_len a n) i d) (omega (arith, low, (range-within a n i d h).0)))
 
 -- of the copies by an entry those are kept that stand for its vertex alone
 own_by : (k start : ℕ) (e : Entry) → k ≤ start → merged_number e ≤ k → is_unnumbered e ≡ false → filter (nat_le k) (copies_by start e) ≡ range_with_len start (size_of_entry e)

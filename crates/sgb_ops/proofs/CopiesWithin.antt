@@ -4,22 +4,24 @@ use Rattle.std.specs.Prelude.{All, flat_map, slice_get}
 use Rattle.std.specs.List.{list_any, range_with_len, enumerate_from}
 use Rattle.std.specs.Option.{option_map_or}
 use Rattle.std.proofs.lemmas.List.{length-append, length-map}
-use Rattle.std.proofs.lemmas.List.Elements.{All-nil, All-cons, All-head, All-tail, All-append, All-map, All-filter}
+use Rattle.std.proofs.lemmas.List.Elements.{All-nil, All-cons, All-append, All-map, All-filter, All-weaker}
 use Rattle.std.proofs.lemmas.List.FromFn.{length-range_with_len, length-enumerate_from, get_or-enumerate_from}
 use Rattle.std.proofs.lemmas.List.Sums.{sum_by-cons, sum_by-take-le}
+use Rattle.sgb_vec.proofs.Lists.{All-flat_map, range-within}
+use Rattle.sgb_graph.specs.Events.{IsWithin}
 use Rattle.sgb_graph.specs.Graphs.{GraphData}
 use Rattle.sgb_graph.specs.declared.fields.Link.{Link}
 use Rattle.sgb_ops.specs.declared.entries.Entry.{Entry}
 use Rattle.sgb_ops.specs.declared.entries.Entry.TheVariants as entry
-use Rattle.sgb_ops.specs.Copies.{IsKeptEntry, copies_start, count_by}
-use Rattle.sgb_ops.specs.Ends.{AllWithin}
+use Rattle.sgb_ops.specs.inner.Copies.{IsKeptEntry, copies_start, count_by}
+use Rattle.sgb_ops.specs.inner.Ends.{AllWithin}
 use Rattle.sgb_ops.specs.Entries.{copies_of, events_within, first_copy, inner_event, inner_events, inner_events_from, is_unnumbered, merged_count, merged_name, names_by_entries, names_of_copies, own_names, own_total, size_of_entry, total_of}
 use Rattle.sgb_ops.specs.Induced.{all_events, copies_met, event_between, events_between, events_of_arc, events_of_copies, events_of_copy, induced_events, is_met, is_wanted, wanted}
 use Rattle.sgb_ops.specs.Operands.{order_of, places_of, names_of}
 use Rattle.sgb_ops.specs.Taken.{taken}
 use Rattle.sgb_ops.specs.Titles.{numbered_name, substituted_name}
 use Rattle.sgb_ops.proofs.EntryTotals.{copies_within, copies-range, total_at}
-use Rattle.sgb_ops.proofs.EventsWithin.{Within, merged_unless_within, taken_tips, events_after_within}
+use Rattle.sgb_ops.proofs.EventsWithin.{merged_unless_within, taken_tips, events_after_within}
 
 -- as many names as vertices
 length-names_of_copies : (text : List ℕ) (e : Entry) → length (names_of_copies text e) ≡ size_of_entry e
@@ -44,25 +46,13 @@ length-names names entries same =
     let merged = length-map (range_with_len 1 (merged_count entries)) merged_name ∙ length-range_with_len 1 (merged_count entries) in
     length-append (map merged_name (range_with_len 1 (merged_count entries))) (own_names names entries) ∙ omega (arith, merged, length-own names entries same)
 
--- what holds of what each element gives holds of what all give
-all_of_each : {X Y : Type 0} (Q : X → Type 0) (P : Y → Type 0) (f : X → List Y) (xs : List X) → All Q xs → ((x : X) → Q x → All P (f x)) → All P (flat_map f xs)
-all_of_each Q P f [] all each = All-nil P
-all_of_each Q P f (x ∷ xs) all each =
-    All-append P (f x) (flat_map f xs) (each x (All-head Q x xs all)) (all_of_each Q P f xs (All-tail Q x xs all) each)
-
--- of all elements, with nothing known of them
-all_of_any : {X Y : Type 0} (P : Y → Type 0) (f : X → List Y) (xs : List X) → ((x : X) → All P (f x)) → All P (flat_map f xs)
-all_of_any P f [] each = All-nil P
-all_of_any P f (x ∷ xs) each = All-append P (f x) (flat_map f xs) (each x) (all_of_any P f xs each)
-
 -- a vertex of n
 abbrev Below : ℕ → ℕ → Type 0
 Below n u = u < n
 
--- the numbers from a on are below what comes after them
+-- numbers, of which none is beyond n
 range_below : (n a k : ℕ) → a + k ≤ n → All (Below n) (range_with_len a k)
-range_below n a zero few = All-nil (Below n)
-range_below n a (suc k) few = All-cons (Below n) a (range_with_len (a + 1) k) (omega (arith, few)) (range_below n (a + 1) k (omega (arith, few)))
+range_below n a k few = All-weaker (λ u. (a ≤ u) × (u < a + k)) (Below n) (λ u p. omega (arith, p.1, few)) (range_with_len a k) (range-within a k)
 
 module _ (entries : List Entry) (directed : Bool) (numbered : list_any is_unnumbered entries ≡ false) where
   -- the copies of a vertex are among those of all
@@ -73,28 +63,28 @@ module _ (entries : List Entry) (directed : Bool) (numbered : list_any is_unnumb
 
   of_arc : (v u : ℕ) (a : Link) → u < total_of entries → AllWithin (total_of entries) (events_of_arc entries directed v u a)
   of_arc v u a below =
-      All-map (Within (total_of entries)) (event_between u a.len) (copies_met entries directed v u a.tip)
+      All-map (IsWithin (total_of entries)) (event_between u a.len) (copies_met entries directed v u a.tip)
       (λ k d h. (below, All-filter (is_met directed v u a.tip) (Below (total_of entries)) (copies_of entries a.tip) (all_copies a.tip) k d h))
 
   of_copy : (g : GraphData) (v u : ℕ) → u < total_of entries → AllWithin (total_of entries) (events_of_copy g entries directed v u)
-  of_copy g v u below = all_of_any (Within (total_of entries)) (events_of_arc entries directed v u) (taken directed g v) (λ a. of_arc v u a below)
+  of_copy g v u below = All-flat_map (IsWithin (total_of entries)) (events_of_arc entries directed v u) (taken directed g v) (λ k d h. of_arc v u (get_or (taken directed g v) k d) below)
 
   of_copies : (g : GraphData) (v : ℕ) → AllWithin (total_of entries) (events_of_copies g entries directed v)
-  of_copies g v = all_of_each (Below (total_of entries)) (Within (total_of entries)) (events_of_copy g entries directed v) (copies_of entries v) (all_copies v) (λ u below. of_copy g v u below)
+  of_copies g v = All-flat_map (IsWithin (total_of entries)) (events_of_copy g entries directed v) (copies_of entries v) (λ k d h. of_copy g v (get_or (copies_of entries v) k d) (all_copies v k d h))
 
   -- the events between copies are between vertices of the result
   between_within : (g : GraphData) → AllWithin (total_of entries) (events_between g entries directed)
-  between_within g = all_of_any (Within (total_of entries)) (events_of_copies g entries directed) (places_of g) (λ v. of_copies g v)
+  between_within g = All-flat_map (IsWithin (total_of entries)) (events_of_copies g entries directed) (places_of g) (λ k d h. of_copies g (get_or (places_of g) k d))
 
   -- those inside an entry are between its vertices
   inner_within : (start : ℕ) (e : Entry) → start + size_of_entry e ≤ total_of entries → IsKeptEntry e → AllWithin (total_of entries) (inner_events directed start e)
-  inner_within start (entry.Copies k) few kept = All-nil (Within (total_of entries))
-  inner_within start (entry.Merged k) few kept = All-nil (Within (total_of entries))
+  inner_within start (entry.Copies k) few kept = All-nil (IsWithin (total_of entries))
+  inner_within start (entry.Merged k) few kept = All-nil (IsWithin (total_of entries))
   inner_within start (entry.Graph inner) few kept =
       events_after_within (total_of entries) (inner_events_from directed start inner) 0 (order_of inner)
       (λ w low high.
       let below : w < order_of inner = omega (arith, high) in
-      All-map (Within (total_of entries)) (inner_event start w) (taken directed inner w)
+      All-map (IsWithin (total_of entries)) (inner_event start w) (taken directed inner w)
       (λ k d h. let tip = taken_tips directed inner w kept below k d h in (omega (arith, few, below), omega (arith, few, tip))))
 
   -- an entry with its place
@@ -112,12 +102,12 @@ module _ (entries : List Entry) (directed : Bool) (numbered : list_any is_unnumb
 
   events_inside : All IsKeptEntry entries → AllWithin (total_of entries) (events_within entries directed)
   events_inside kept =
-      all_of_each Fits (Within (total_of entries)) (λ p. inner_events directed (first_copy entries p.0) p.1) (enumerate_from 0 entries) (all_fit kept)
-      (λ p fits. inner_within (first_copy entries p.0) p.1 fits.0 fits.1)
+      All-flat_map (IsWithin (total_of entries)) (λ p. inner_events directed (first_copy entries p.0) p.1) (enumerate_from 0 entries)
+      (λ k d h. let p = get_or (enumerate_from 0 entries) k d in let fits = all_fit kept k d h in inner_within (first_copy entries p.0) p.1 fits.0 fits.1)
 
   -- all events are between vertices of the result
   pub induced_within : (g : GraphData) (self multi : Bool) → All IsKeptEntry entries → AllWithin (total_of entries) (induced_events g entries self multi directed)
   induced_within g self multi kept =
       merged_unless_within (total_of entries) multi directed (wanted self (all_events g entries directed))
-      (All-filter (is_wanted self) (Within (total_of entries)) (all_events g entries directed)
-      (All-append (Within (total_of entries)) (events_within entries directed) (events_between g entries directed) (events_inside kept) (between_within g)))
+      (All-filter (is_wanted self) (IsWithin (total_of entries)) (all_events g entries directed)
+      (All-append (IsWithin (total_of entries)) (events_within entries directed) (events_between g entries directed) (events_inside kept) (between_within g)))

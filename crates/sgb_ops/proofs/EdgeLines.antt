@@ -13,7 +13,7 @@ use Rattle.sgb_vec.specs.Results.{and_then}
 use Rattle.sgb_vec.specs.declared.panics.Panic.TheVariants.{VeryBad, Invalid}
 use Rattle.sgb_graph.specs.Graphs.{GraphData}
 use Rattle.sgb_graph.specs.Descriptions.{Description}
-use Rattle.sgb_graph.specs.Events.{Event, HasArcsOf, IsWithin, all_rows}
+use Rattle.sgb_graph.specs.Events.{Event, HasArcsOf, IsWithin, all_records}
 use Rattle.sgb_graph.specs.declared.fields.ArcRec.{ArcRec}
 use Rattle.sgb_graph.specs.declared.fields.Link.{Link}
 use Rattle.sgb_graph.specs.declared.fields.Ref.{Ref}
@@ -75,7 +75,7 @@ edges_below_all n (e ∷ events) within =
     rw (lt-ltb (min e.from e.to) n low) (ap suc (edges_below_all n events (All-tail (IsWithin n) e events within)))
 
 -- each edge has two records
-two_each : (events : List Event) → length (all_rows false events) ≡ 2 * length events
+two_each : (events : List Event) → length (all_records false events) ≡ 2 * length events
 two_each [] = refl
 two_each (e ∷ events) = omega (arith, two_each events)
 
@@ -133,7 +133,7 @@ one_passes p false x xs here rest = rest
 
 -- so each edge whose smaller end is v has, where the first of these has place i
 ways_back_from : (g : GraphData) (v i : ℕ) (events : List Event)
-    → ((j : ℕ) → slice_get (map (λ r. r.tip) g.records) (2 * i + j) ≡ slice_get (map (λ r. At r.tip) (all_rows false events)) j)
+    → ((j : ℕ) → slice_get (map (λ r. r.tip) g.records) (2 * i + j) ≡ slice_get (map (λ r. At r.tip) (all_records false events)) j)
     → list_all (way_back_of g v) (filter (λ p. min p.1.from p.1.to == v) (enumerate_from i events)) ≡ true
 ways_back_from g v i [] same = refl
 ways_back_from g v i (e ∷ events) same =
@@ -143,7 +143,7 @@ ways_back_from g v i (e ∷ events) same =
     here : (min e.from e.to == v) ≡ true → way_back_of g v (i, e) ≡ true
     here end = back_by_tips g.records v (2 * i + 1) ∙ (ap (λ o. option_map_or (λ t. points_to t v) o false) (same 1) ∙ end)
 
-    later : (j : ℕ) → slice_get (map (λ r. r.tip) g.records) (2 * (i + 1) + j) ≡ slice_get (map (λ r. At r.tip) (all_rows false events)) j
+    later : (j : ℕ) → slice_get (map (λ r. r.tip) g.records) (2 * (i + 1) + j) ≡ slice_get (map (λ r. At r.tip) (all_records false events)) j
     later j =
         let place : 2 * (i + 1) + j ≡ 2 * i + suc (suc j) = omega arith in
         ap (slice_get (map (λ r. r.tip) g.records)) place ∙ same (suc (suc j))

@@ -1,8 +1,10 @@
 -- What it means that two events have the same ends.
 use Rattle.std.proofs.Common.{◌≡◌, ◌⊎◌, ◌==◌, ◌&&◌, ◌||◌, ◌+◌, ℕ, min, max, Bool, true, false, refl, sym, ◌∙◌, inl, inr, arith}
+use Rattle.std.proofs.Math.Bool.{or-false}
 use Rattle.std.proofs.lemmas.Bool.{and_parts, and_from, or_cases, or_right, eqb-true, eq-eqb, cases_eq}
+use Rattle.sgb_vec.proofs.Lists.{same_tests}
 use Rattle.sgb_graph.specs.Events.{Event}
-use Rattle.sgb_ops.specs.Ends.{ends_key}
+use Rattle.sgb_ops.specs.inner.Ends.{ends_key}
 use Rattle.sgb_ops.specs.Merged.{has_ends_of}
 
 -- two pairs of numbers are the same
@@ -62,14 +64,9 @@ joined_ways directed e f g (inr a) (inr b) = inl record { from = b.from ∙ a.to
 pub ends_joined : (directed : Bool) (e f g : Event) → has_ends_of directed e f ≡ true → has_ends_of directed f g ≡ true → has_ends_of directed e g ≡ true
 ends_joined directed e f g one two = has_ends directed e g (joined_ways directed e f g (ends directed e f one) (ends directed f g two))
 
-by_both : (a b : Bool) → (a ≡ true → b ≡ true) → (b ≡ true → a ≡ true) → a ≡ b
-by_both true b to from = sym (to refl)
-by_both false true to from = from refl
-by_both false false to from = refl
-
 -- the test says the same both ways
 pub ends_either_way : (directed : Bool) (e f : Event) → has_ends_of directed e f ≡ has_ends_of directed f e
-ends_either_way directed e f = by_both (has_ends_of directed e f) (has_ends_of directed f e) (ends_turned directed e f) (ends_turned directed f e)
+ends_either_way directed e f = same_tests (has_ends_of directed e f) (has_ends_of directed f e) (ends_turned directed e f) (ends_turned directed f e)
 
 -- in the same way of edges the smaller ends are the same, and the greater ones; and the other way round
 keys_of_ways : (e f : Event) → (f.from ≡ e.from) × (f.to ≡ e.to) ⊎ (f.from ≡ e.to) × (f.to ≡ e.from)
@@ -85,13 +82,9 @@ ways_of_keys e f low high = elim (cases_eq f.from e.from) [
 
 -- the keys of two events are the same where they have the same ends
 pub key_tells : (directed : Bool) (e f : Event) → has_same_pair (ends_key directed f) (ends_key directed e) ≡ has_ends_of directed e f
-key_tells true e f = by_end ((f.from == e.from) && (f.to == e.to))
-  where
-    by_end : (b : Bool) → b ≡ b || false
-    by_end true = refl
-    by_end false = refl
+key_tells true e f = sym (or-false ((f.from == e.from) && (f.to == e.to)))
 key_tells false e f =
-    by_both (has_same_pair (ends_key false f) (ends_key false e)) (has_ends_of false e f)
+    same_tests (has_same_pair (ends_key false f) (ends_key false e)) (has_ends_of false e f)
     (λ h.
     let parts = and_parts _ _ h in
     has_ends false e f (ways_of_keys e f (eqb-true _ _ parts.0) (eqb-true _ _ parts.1)))

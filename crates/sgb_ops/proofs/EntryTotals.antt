@@ -3,7 +3,7 @@ use Rattle.std.proofs.Common.{◌≡◌, ◌≢◌, ◌<◌, ◌≤◌, ◌+◌,
 use Rattle.std.specs.Prelude.{All, ◌||◌, slice_get}
 use Rattle.std.specs.List.{list_any, range_with_len}
 use Rattle.std.specs.Option.{option_map_or}
-use Rattle.std.proofs.lemmas.Bool.{le-ltb, eq-eqb}
+use Rattle.std.proofs.lemmas.Bool.{le-ltb, eq-eqb, or_parts}
 use Rattle.std.proofs.lemmas.Bool.Decides.{nat_tests}
 use Rattle.std.proofs.lemmas.List.{drop_more, take_more}
 use Rattle.std.proofs.lemmas.Option.{slice_get_read}
@@ -14,7 +14,7 @@ use Rattle.sgb_vec.specs.Limits.{most_vertices}
 use Rattle.std.specs.Prelude.{Ok}
 use Rattle.sgb_ops.specs.declared.entries.Entry.{Entry}
 use Rattle.sgb_ops.specs.declared.entries.Entry.TheVariants as entry
-use Rattle.sgb_ops.specs.Copies.{IsKeptEntry, copies_end, copies_start, count_by, first_copies, start_by}
+use Rattle.sgb_ops.specs.inner.Copies.{IsKeptEntry, copies_end, copies_start, count_by, first_copies, start_by}
 use Rattle.sgb_ops.specs.Entries.{accepted_entries, copies_by, copies_of, first_copy, is_too_great, is_unnumbered, merged_count, merged_number, own_total, size_of_entry, total_of}
 
 -- the entries up to the one at this place
@@ -139,16 +139,11 @@ number_below [] v e here = absurd (search (rules, here))
 number_below (x ∷ entries) zero e here = let same : x ≡ e = search (rules, here) in omega (arith, ap merged_number same)
 number_below (x ∷ entries) (suc v) e here = omega (arith, number_below entries v e here)
 
-or_none : (b c : Bool) → (b || c) ≡ false → (b ≡ false) × (c ≡ false)
-or_none false false h = (refl, refl)
-or_none false true h = absurd (search (rules, h))
-or_none true c h = absurd (search (rules, h))
-
 -- none of numbered entries has no number
 pub numbered_one : (entries : List Entry) (v : ℕ) (e : Entry) → list_any is_unnumbered entries ≡ false → slice_get entries v ≡ Some e → is_unnumbered e ≡ false
 numbered_one [] v e numbered here = absurd (search (rules, here))
-numbered_one (x ∷ entries) zero e numbered here = let same : x ≡ e = search (rules, here) in ap is_unnumbered (sym same) ∙ (or_none (is_unnumbered x) (list_any is_unnumbered entries) numbered).0
-numbered_one (x ∷ entries) (suc v) e numbered here = numbered_one entries v e (or_none (is_unnumbered x) (list_any is_unnumbered entries) numbered).1 here
+numbered_one (x ∷ entries) zero e numbered here = let same : x ≡ e = search (rules, here) in ap is_unnumbered (sym same) ∙ (or_parts (is_unnumbered x) (list_any is_unnumbered entries) numbered).0
+numbered_one (x ∷ entries) (suc v) e numbered here = numbered_one entries v e (or_parts (is_unnumbered x) (list_any is_unnumbered entries) numbered).1 here
 
 -- they are among those of all
 fits_by : (total first : ℕ) (e : Entry) → first + size_of_entry e ≤ total → merged_number e ≤ total → is_unnumbered e ≡ false → start_by first e + count_by e ≤ total

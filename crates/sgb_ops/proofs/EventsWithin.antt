@@ -3,38 +3,30 @@ use Rattle.std.proofs.Common.{◌<◌, ◌≤◌, ◌+◌, ℕ, zero, suc, Bool,
 use Rattle.std.specs.Prelude.{All, filter, flat_map, slice_get, nat_lt}
 use Rattle.std.specs.List.{range_with_len}
 use Rattle.std.specs.Option.{option_map_or}
-use Rattle.std.proofs.lemmas.List.Elements.{All-nil, All-cons, All-head, All-tail, All-append, All-filter, All-map}
+use Rattle.std.proofs.lemmas.Bool.{cond_both}
+use Rattle.std.proofs.lemmas.List.Elements.{All-nil, All-cons, All-head, All-tail, All-filter, All-map, All-weaker}
 use Rattle.sgb_graph.specs.Graphs.{GraphData, chain_of, links_of}
-use Rattle.sgb_graph.specs.Events.{Event}
+use Rattle.sgb_vec.proofs.Lists.{All-flat_map, range-within}
+use Rattle.sgb_graph.specs.Events.{Event, IsWithin}
 use Rattle.sgb_graph.specs.Growth.{IsKept}
 use Rattle.sgb_graph.specs.declared.fields.Link.{Link}
 use Rattle.sgb_graph.specs.declared.fields.Vertex.{Vertex}
 use Rattle.sgb_graph.proofs.Growing.{parts_of}
 use Rattle.sgb_graph.proofs.Tips.{tips_below}
-use Rattle.sgb_ops.specs.Ends.{AllWithin, event_of}
+use Rattle.sgb_ops.specs.inner.Ends.{AllWithin, event_of}
+use Rattle.sgb_ops.specs.inner.TakenArcs.{taken_of}
 use Rattle.sgb_ops.specs.Merged.{has_ends_of, with_least_length, merged, merged_unless}
 use Rattle.sgb_ops.specs.Taken.{is_loop_with, each_edge_once, taken}
-
--- both ends are below n
-abbrev pub Within : ℕ → Event → Type 0
-Within n e = (e.from < n) × (e.to < n)
+use Rattle.sgb_ops.proofs.Merging.{merged_keeps}
 
 -- the arc leads to a vertex below n
 abbrev pub TipBelow : ℕ → Link → Type 0
 TipBelow n l = l.tip < n
 
 -- merged events keep their ends
-merged_within : (n : ℕ) (directed : Bool) (events : List Event) → AllWithin n events → AllWithin n (merged directed events)
-unfolding merged
-merged_within n directed [] all = All-nil (Within n)
-merged_within n directed (e ∷ events) all =
-    let rest = merged_within n directed events (All-tail (Within n) e events all) in
-    All-cons (Within n) (with_least_length directed e events) (filter (λ f. not (has_ends_of directed e f)) (merged directed events)) (All-head (Within n) e events all)
-    (All-filter (λ f. not (has_ends_of directed e f)) (Within n) (merged directed events) rest)
-
 pub merged_unless_within : (n : ℕ) (multi directed : Bool) (events : List Event) → AllWithin n events → AllWithin n (merged_unless multi directed events)
 merged_unless_within n true directed events all = all
-merged_unless_within n false directed events all = merged_within n directed events all
+merged_unless_within n false directed events all = merged_keeps (IsWithin n) (λ e far h. h) directed events all
 
 -- the arcs of a graph lead to its vertices
 chain_tips : (g : GraphData) (v : ℕ) → IsKept g → v < length g.vertices → All (TipBelow (length g.vertices)) (chain_of g v)
@@ -48,33 +40,32 @@ chain_tips g v kept below = by_vertex (slice_get g.vertices v)
     by_vertex (Some x) = tips_below (length g.records) n (length g.records) g.kinds g.records x.arcs (omega (arith, below)) (parts_of g kept.graph).records
 
 -- what is true of all arcs is true of those that are taken
-all_of_either : (P : Link → Type 0) (b : Bool) (xs ys : List Link) → All P xs → All P ys → All P (cond b xs ys)
-all_of_either P true xs ys p q = p
-all_of_either P false xs ys p q = q
-
-all_taken : (P : Link → Type 0) (v : ℕ) (links : List Link) → All P links → All P (each_edge_once v links)
+all_met : (P : Link → Type 0) (v : ℕ) (links : List Link) → All P links → All P (each_edge_once v links)
 unfolding each_edge_once
-all_taken P v [] all = all
-all_taken P v (l ∷ []) all = all_of_either P (nat_lt l.tip v) [] (l ∷ []) (All-nil P) all
-all_taken P v (l ∷ k ∷ links) all =
+all_met P v [] all = all
+all_met P v (l ∷ []) all = cond_both (nat_lt l.tip v) [] (l ∷ []) (All P) (λ _. All-nil P) (λ _. all)
+all_met P v (l ∷ k ∷ links) all =
     let after = All-tail P l (k ∷ links) all in
-    let next = all_taken P v (k ∷ links) after in
-    let later = all_taken P v links (All-tail P k links after) in
+    let next = all_met P v (k ∷ links) after in
+    let later = all_met P v links (All-tail P k links after) in
     let rest = cond (is_loop_with v l k) (each_edge_once v links) (each_edge_once v (k ∷ links)) in
-    all_of_either P (nat_lt l.tip v) (each_edge_once v (k ∷ links)) (l ∷ rest) next
-    (All-cons P l rest (All-head P l (k ∷ links) all) (all_of_either P (is_loop_with v l k) (each_edge_once v links) (each_edge_once v (k ∷ links)) later next))
+    cond_both (nat_lt l.tip v) (each_edge_once v (k ∷ links)) (l ∷ rest) (All P) (λ _. next)
+    (λ _. All-cons P l rest (All-head P l (k ∷ links) all) (cond_both (is_loop_with v l k) (each_edge_once v links) (each_edge_once v (k ∷ links)) (All P) (λ _. later) (λ _. next)))
+
+pub all_taken : (P : Link → Type 0) (directed : Bool) (v : ℕ) (links : List Link) → All P links → All P (taken_of directed v links)
+all_taken P true v links all = all
+all_taken P false v links all = all_met P v links all
 
 pub taken_tips : (directed : Bool) (g : GraphData) (v : ℕ) → IsKept g → v < length g.vertices → All (TipBelow (length g.vertices)) (taken directed g v)
 taken_tips true g v kept below = chain_tips g v kept below
-taken_tips false g v kept below = all_taken (TipBelow (length g.vertices)) v (chain_of g v) (chain_tips g v kept below)
+taken_tips false g v kept below = all_met (TipBelow (length g.vertices)) v (chain_of g v) (chain_tips g v kept below)
 
 -- the events of arcs on the list of a vertex
 pub events_of_within : (n v : ℕ) (links : List Link) → v < n → All (TipBelow n) links → AllWithin n (map (event_of v) links)
-events_of_within n v links below all = All-map (Within n) (event_of v) links (λ k d h. (below, all k d h))
+events_of_within n v links below all = All-map (IsWithin n) (event_of v) links (λ k d h. (below, all k d h))
 
 -- the events of several vertices
 pub events_after_within : (n : ℕ) (f : ℕ → List Event) (v count : ℕ) → ((u : ℕ) → v ≤ u → u < v + count → AllWithin n (f u)) → AllWithin n (flat_map f (range_with_len v count))
-events_after_within n f v zero each = All-nil (Within n)
-events_after_within n f v (suc count) each =
-    All-append (Within n) (f v) (flat_map f (range_with_len (v + 1) count)) (each v (omega arith) (omega arith))
-    (events_after_within n f (v + 1) count (λ u low high. each u (omega (arith, low)) (omega (arith, high))))
+events_after_within n f v count each =
+    All-flat_map (IsWithin n) f (range_with_len v count)
+    (All-weaker (λ u. (v ≤ u) × (u < v + count)) (λ u. AllWithin n (f u)) (λ u p. each u p.0 p.1) (range_with_len v count) (range-within v count))

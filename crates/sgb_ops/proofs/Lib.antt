@@ -1,26 +1,53 @@
 -- Lemmas on the definitions, and worked examples.
+-- numbers in a row, a list that grows, a filter that keeps all
+pub mod PlainLists
+-- the arcs taken of a list
 pub mod Taking
+-- when events have the same ends
 pub mod Ends
+-- merged events: each is kept, the first ones, the shortest
 pub mod Merging
+-- events merged one by one
 pub mod MergeSteps
+-- events merged part by part
 pub mod MergedParts
+-- events told apart by a table of bits
 pub mod Apart
+-- how many vertices entries make, and where their copies are
 pub mod EntryTotals
+-- events and arcs between the vertices of a graph
 pub mod EventsWithin
+-- the wanted events of an induced graph, part by part
 pub mod WantedEvents
+-- the names and the events of copies fit
 pub mod CopiesWithin
+-- the events of a union
 pub mod UnionEvents
+-- what is noted of arcs
 pub mod TallyLemmas
+-- the events of an intersection
 pub mod CommonEvents
+-- marks at the tips of arcs
 pub mod Marks
+-- events added place by place and arc by arc
 pub mod Places
+-- the pairs of vertices of two graphs
 pub mod Pairs
+-- the graph that an operation ends with
 pub mod Results
+-- answers one after another
 pub mod AnswersOnward
+-- the wanted arcs of a complement
 pub mod ComplementEvents
+-- names made of names are texts
 pub mod JoinedNames
+-- lines and the events between them, one by one
 pub mod LineEvents
+-- the lines at each vertex give the events
 pub mod LineLists
+-- the lines of a graph of edges
 pub mod EdgeLines
+-- the copies of the vertices, in order and apart
 pub mod CopiesInOrder
+-- worked examples
 pub mod Examples

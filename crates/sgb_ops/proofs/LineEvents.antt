@@ -3,24 +3,20 @@ use Rattle.std.proofs.Common.{◌≡◌, ◌<◌, ◌≤◌, ◌+◌, ℕ, zero,
 use Rattle.std.specs.Prelude.{All, filter, flat_map}
 use Rattle.std.specs.List.{range_with_len, enumerate_from}
 use Rattle.std.proofs.lemmas.List.{reverse-append, length-take-le}
-use Rattle.std.proofs.lemmas.List.Elements.{All-nil, All-cons, All-append, All-map}
+use Rattle.std.proofs.lemmas.List.Elements.{All-nil, All-cons, All-append, All-filter, All-map}
 use Rattle.sgb_graph.specs.Graphs.{GraphData}
-use Rattle.sgb_graph.specs.Events.{Event}
+use Rattle.sgb_graph.specs.Events.{Event, IsWithin}
 use Rattle.sgb_graph.specs.Growth.{IsKept}
-use Rattle.sgb_ops.specs.Ends.{AllWithin}
-use Rattle.sgb_ops.specs.Lines.{LineWithin, events_to, line_events, line_of, lines_for, lines_of_graph, meets}
+use Rattle.sgb_ops.specs.inner.Ends.{AllWithin}
+use Rattle.sgb_ops.specs.Lines.{events_to, line_events, line_of, lines_for, lines_of_graph, meets}
+use Rattle.sgb_ops.specs.inner.Lines.{LineWithin}
 use Rattle.sgb_ops.specs.Operands.{order_of}
 use Rattle.sgb_ops.specs.Taken.{taken}
 use Rattle.sgb_ops.specs.declared.line_graphs.Line.{Line}
-use Rattle.sgb_ops.proofs.EventsWithin.{Within, taken_tips}
+use Rattle.sgb_ops.proofs.EventsWithin.{taken_tips}
+use Rattle.sgb_ops.proofs.PlainLists.{range_more}
 
 -- the numbers below k + 1, k first
-pub range_more : (a n : ℕ) → range_with_len a (suc n) ≡ range_with_len a n ++ (a + n) ∷ []
-range_more a zero = ap (λ (k : ℕ). k ∷ []) (omega arith)
-range_more a (suc n) =
-    let last : a + 1 + n ≡ a + suc n = omega arith in
-    ap (λ ks. a ∷ ks) (range_more (a + 1) n) ∙ ap (λ (k : ℕ). a ∷ range_with_len (a + 1) n ++ k ∷ []) last
-
 pub below_more : (k : ℕ) → reverse (range_with_len 0 (suc k)) ≡ k ∷ reverse (range_with_len 0 k)
 below_more k =
     let last : 0 + k ≡ k = omega arith in
@@ -57,42 +53,18 @@ lines_below_within g directed (suc k) kept few =
 pub lines_within : (g : GraphData) (directed : Bool) → IsKept g → All (LineWithin (order_of g)) (lines_of_graph g directed)
 lines_within g directed kept = lines_below_within g directed (order_of g) kept (omega arith)
 
--- the events from line number i to these lines
-abbrev events_of : ℕ → List (ℕ × Line) → List Event
-events_of i met = map (λ q. record { from = i; to = q.0; len = pos 1 }) met
+-- the numbers of lines that have those from j on
+numbers_below : (n j : ℕ) (others : List Line) → j + length others ≤ n → All (λ (q : ℕ × Line). q.0 < n) (enumerate_from j others)
+numbers_below n j [] few = All-nil (λ (q : ℕ × Line). q.0 < n)
+numbers_below n j (other ∷ others) few =
+    All-cons (λ (q : ℕ × Line). q.0 < n) (j, other) (enumerate_from (j + 1) others) (omega (arith, few)) (numbers_below n (j + 1) others (omega (arith, few)))
 
--- the events from line number i to those of the others that it meets, where they have the numbers from j on
-abbrev pub events_on : Bool → ℕ → Line → ℕ → List Line → List Event
-events_on directed i line j others =
-    map (λ q. record { from = i; to = q.0; len = pos 1 }) (filter (λ q. meets directed line q.1) (enumerate_from j others))
-
--- the one to the line of this number, if they meet
-abbrev pub event_if : Bool → ℕ → ℕ → List Event
-event_if meet i j = cond meet (record { from = i; to = j; len = pos 1 } ∷ []) []
-
--- it comes first
-pub events_on-next : (directed : Bool) (i : ℕ) (line : Line) (j : ℕ) (other : Line) (others : List Line)
-    → events_on directed i line j (other ∷ others) ≡ event_if (meets directed line other) i j ++ events_on directed i line (j + 1) others
-events_on-next directed i line j other others =
-    let rest = filter (λ q. meets directed line q.1) (enumerate_from (j + 1) others) in
-    elim (meets directed line other) as (λ b. events_of i (cond b ((j, other) ∷ rest) rest) ≡ event_if b i j ++ events_of i rest) [
-      | true ↦ refl
-      | false ↦ refl
-    ]
-
--- their ends are numbers of lines
-event_if_within : (n : ℕ) (meet : Bool) (i j : ℕ) → i < n → j < n → AllWithin n (event_if meet i j)
-event_if_within n true i j first second = All-cons (Within n) (record { from = i; to = j; len = pos 1 }) [] (first, second) (All-nil (Within n))
-event_if_within n false i j first second = All-nil (Within n)
-
-events_on_within : (n : ℕ) (directed : Bool) (i : ℕ) (line : Line) (j : ℕ) (others : List Line) → i < n → j + length others ≤ n
-    → AllWithin n (events_on directed i line j others)
-events_on_within n directed i line j [] here few = All-nil (Within n)
-events_on_within n directed i line j (other ∷ others) here few =
-    subst (AllWithin n) (sym (events_on-next directed i line j other others))
-    (All-append (Within n) (event_if (meets directed line other) i j) (events_on directed i line (j + 1) others)
-    (event_if_within n (meets directed line other) i j here (omega (arith, few)))
-    (events_on_within n directed i line (j + 1) others here (omega (arith, few))))
+-- the ends of the events from a line are numbers of lines
+events_to_within : (n : ℕ) (directed : Bool) (i : ℕ) (line : Line) (others : List Line) → i < n → length others ≤ n → AllWithin n (events_to directed i line others)
+events_to_within n directed i line others here few =
+    let met = λ (q : ℕ × Line). meets directed line q.1 in
+    let below = All-filter met (λ (q : ℕ × Line). q.0 < n) (enumerate_from 0 others) (numbers_below n 0 others (omega (arith, few))) in
+    All-map (IsWithin n) (λ (q : ℕ × Line). record { from = i; to = q.0; len = pos 1 }) (filter met (enumerate_from 0 others)) (λ k d h. (here, below k d h))
 
 -- the events from the lines that are left, which have the numbers from i on
 abbrev pub events_from : Bool → List Line → ℕ → List Line → List Event
@@ -104,11 +76,11 @@ few_for false lines i within = let some = length-take-le i lines within in omega
 
 events_from_within : (directed : Bool) (lines : List Line) (i : ℕ) (left : List Line) → i + length left ≤ length lines
     → AllWithin (length lines) (events_from directed lines i left)
-events_from_within directed lines i [] few = All-nil (Within (length lines))
+events_from_within directed lines i [] few = All-nil (IsWithin (length lines))
 events_from_within directed lines i (line ∷ left) few =
     let some = few_for directed lines i (omega (arith, few)) in
-    All-append (Within (length lines)) (events_to directed i line (lines_for directed lines i)) (events_from directed lines (i + 1) left)
-    (events_on_within (length lines) directed i line 0 (lines_for directed lines i) (omega (arith, few)) (omega (arith, some)))
+    All-append (IsWithin (length lines)) (events_to directed i line (lines_for directed lines i)) (events_from directed lines (i + 1) left)
+    (events_to_within (length lines) directed i line (lines_for directed lines i) (omega (arith, few)) (omega (arith, some)))
     (events_from_within directed lines (i + 1) left (omega (arith, few)))
 
 pub line_events_within : (directed : Bool) (lines : List Line) → AllWithin (length lines) (line_events directed lines)

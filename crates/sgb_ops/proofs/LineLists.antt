@@ -2,9 +2,12 @@
 use Rattle.std.proofs.Common.{◌≡◌, ◌<◌, ◌≤◌, ◌+◌, ◌-◌, ◌==◌, ℕ, zero, suc, pos, Bool, true, false, not, ◌&&◌, ◌||◌, cond, nat_lt, List, [], ◌∷◌, ◌++◌, map, take, length, refl, sym, ap, subst, ◌∙◌, inl, inr, arith}
 use Rattle.std.specs.Prelude.{All, filter, if◌then◌else◌, slice_index_or}
 use Rattle.std.specs.List.{enumerate_from}
-use Rattle.std.proofs.lemmas.Bool.{cases_eq, cases_lt, eq-eqb, ne_eqb, lt-ltb, le-ltb}
+use Rattle.std.proofs.lemmas.Bool.{cases_eq, cases_lt, eq-eqb, eqb-true, ne_eqb, lt-ltb, le-ltb}
 use Rattle.std.proofs.lemmas.List.{map-append}
+use Rattle.std.proofs.Math.Bool.{and-false, and-true}
 use Rattle.std.proofs.Math.Seq.{take-nil}
+use Rattle.sgb_vec.proofs.Lists.{same_tests}
+use Rattle.sgb_ops.proofs.PlainLists.{filter-all}
 use Rattle.sgb_ops.specs.Lines.{events_to, line_of, lines_for, lines_of_graph, share_vertex}
 use Rattle.std.proofs.lemmas.List.Elements.{All-head, All-tail}
 use Rattle.std.proofs.Common.{Vec, Global, ◌≢◌, set, get_or, append-nil}
@@ -16,17 +19,15 @@ use Rattle.sgb_ops.specs.Operands.{order_of}
 use Rattle.sgb_ops.specs.Taken.{taken}
 use Rattle.sgb_ops.proofs.Taking.{each_edge_once_leads_up}
 use Rattle.sgb_ops.proofs.LineEvents.{lines_below, lines_below-more}
-use Rattle.sgb_ops.specs.LineLists.{list_at, FallFrom, counts, events_of_numbers, events_to_listed, touches, touching}
+use Rattle.sgb_ops.specs.inner.LineLists.{list_at, FallFrom, counts, events_of_numbers, events_to_listed, touches, touching}
 use Rattle.sgb_ops.specs.declared.line_graphs.Line.{Line}
 
 -- directed, all lines at the end of a line are those that it meets
 pub directed_events : (lines : List Line) (i : ℕ) (line : Line)
     → events_to_listed false false i line (touching true line.to 0 lines) ≡ events_to true i line (lines_for true lines i)
-directed_events lines i line = ap (events_of_numbers i) (all_count (touching true line.to 0 lines))
-  where
-    all_count : (ps : List (ℕ × Line)) → filter (counts false false i line) ps ≡ ps
-    all_count [] = refl
-    all_count (p ∷ ps) = ap (λ qs. p ∷ qs) (all_count ps)
+directed_events lines i line =
+    let met = touching true line.to 0 lines in
+    ap (events_of_numbers i) (filter-all (counts false false i line) met (λ k d h. refl))
 
 -- the lines before a place fall to where the line there begins
 abbrev pub FallTo : ℕ → List Line → ℕ → Type 0
@@ -106,19 +107,8 @@ at_end line x = touches false line.to x && not (x.from == line.from)
 abbrev at_beginning : Line → Line → Bool
 at_beginning line x = touches false line.from x && true
 
-either_false : (b : Bool) → (b && false) ≡ false
-either_false true = refl
-either_false false = refl
-
 same_eq : (a b : ℕ) → (a == b) ≡ (b == a)
-same_eq a b = elim (cases_eq a b) [
-  | inl e ↦ eq-eqb a b e ∙ sym (eq-eqb b a (sym e))
-  | inr n ↦ ne_eqb a b n ∙ sym (ne_eqb b a (λ e. n (sym e)))
-]
-
-and_true : (b : Bool) → (b && true) ≡ b
-and_true true = refl
-and_true false = refl
+same_eq a b = same_tests (a == b) (b == a) (λ e. eq-eqb b a (sym (eqb-true a b e))) (λ e. eq-eqb a b (sym (eqb-true b a e)))
 
 step : (b c d : Bool) (q : ℕ × Line) (all first second : List (ℕ × Line)) → b ≡ c → d ≡ false → all ≡ first ++ second
     → cond b (q ∷ all) all ≡ cond c (q ∷ first) first ++ cond d (q ∷ second) second
@@ -135,7 +125,7 @@ split line top k (x ∷ lines) falls = elim (cases_eq x.from line.from) [
       let f = line.from in
       let now : FallTo f (x ∷ lines) f = (omega (arith, same), falls.1, falls.2, falls.3) in
       let all = all_pass f (share_vertex line) (λ y e. rw (eq-eqb line.from y.from (sym e)) refl) k (x ∷ lines) now in
-      let first = none_pass f (at_end line) (λ y e. rw (eq-eqb y.from line.from e) (either_false (touches false line.to y))) k (x ∷ lines) now in
+      let first = none_pass f (at_end line) (λ y e. rw (eq-eqb y.from line.from e) (and-false (touches false line.to y))) k (x ∷ lines) now in
       let second = all_pass f (at_beginning line) (λ y e. rw (eq-eqb y.from line.from e) refl) k (x ∷ lines) now in
       all ∙ sym (ap (λ qs. qs ++ filter (λ q. at_beginning line q.1) (enumerate_from k (x ∷ lines))) first ∙ second)
   | inr other ↦
@@ -146,7 +136,7 @@ split line top k (x ∷ lines) falls = elim (cases_eq x.from line.from) [
       let off_back : (x.from == line.from) ≡ false = ne_eqb x.from line.from other in
       let far_back : (x.to == line.from) ≡ false = ne_eqb x.to line.from (λ e. absurd (omega (arith, e, up))) in
       let shared : share_vertex line x ≡ touches false line.to x = rw (off, far) (ap (λ b. b || (line.to == x.to)) (same_eq line.to x.from) ∙ ap (λ b. (x.from == line.to) || b) (same_eq line.to x.to)) in
-      let ends : at_end line x ≡ touches false line.to x = ap (λ b. touches false line.to x && not b) off_back ∙ and_true (touches false line.to x) in
+      let ends : at_end line x ≡ touches false line.to x = ap (λ b. touches false line.to x && not b) off_back ∙ and-true (touches false line.to x) in
       let begins : at_beginning line x ≡ false = rw (off_back, far_back) refl in
       step (share_vertex line x) (at_end line x) (at_beginning line x) (k, x) _ _ _ (shared ∙ sym ends) begins (split line x.from (k + 1) lines falls.3)
 ]

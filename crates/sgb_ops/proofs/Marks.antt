@@ -1,7 +1,7 @@
 -- Marks at the vertices that a list of arcs leads to.
 use Rattle.std.proofs.Common.{◌≡◌, ◌≢◌, ℕ, ◌+◌, ◌<◌, ◌≤◌, ◌==◌, Bool, true, false, cond, List, ◌∷◌, ◌++◌, length, take, set, get_or, refl, subst, ◌∙◌, inl, inr, arith}
 use Rattle.std.specs.List.{list_any}
-use Rattle.std.proofs.lemmas.Bool.{cases_Bool}
+use Rattle.std.proofs.lemmas.Bool.{cases_Bool, cond_both}
 use Rattle.std.proofs.lemmas.Bool.Decides.{nat_tests}
 use Rattle.std.proofs.lemmas.List.{get_or-set_same, get_or-set_other, take-append-le, take_all}
 use Rattle.sgb_graph.specs.declared.fields.Link.{Link}
@@ -14,18 +14,13 @@ leads_to links w = list_any (λ l. l.tip == w) links
 abbrev pub mark_at : List Link → ℕ → List ℕ → ℕ → ℕ
 mark_at links mark marks w = cond (leads_to links w) mark (get_or marks w 0)
 
--- both ways the same
-same_both : (b : Bool) (m : ℕ) → cond b m m ≡ m
-same_both true m = refl
-same_both false m = refl
-
 -- the tip of the first arc is marked
 pub mark_at-next : (l : Link) (links : List Link) (mark : ℕ) (marks : List ℕ) (w : ℕ) → l.tip < length marks → mark_at links mark (set marks l.tip mark) w ≡ mark_at (l ∷ links) mark marks w
 mark_at-next l links mark marks w within = elim (cases_Bool (l.tip == w)) [
   | inl e ↦
       let same : l.tip ≡ w = grind (arith, nat_tests) in
       let here : get_or (set marks l.tip mark) w 0 ≡ mark = subst (λ k. get_or (set marks l.tip mark) k 0 ≡ mark) same (get_or-set_same marks l.tip mark 0 within) in
-      rw (e, here) (same_both (leads_to links w) mark)
+      rw (e, here) (cond_both (leads_to links w) mark mark (λ (k : ℕ). k ≡ mark) (λ _. refl) (λ _. refl))
   | inr e ↦
       let other : w ≢ l.tip = λ same. absurd (grind (arith, nat_tests)) in
       rw (e, get_or-set_other marks l.tip w mark 0 other) refl

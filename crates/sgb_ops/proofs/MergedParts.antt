@@ -2,37 +2,21 @@
 use Rattle.std.proofs.Common.{◌≡◌, ◌<◌, ◌+◌, ℕ, zero, suc, Bool, true, false, not, List, [], ◌∷◌, ◌++◌, get_or, refl, ap, ◌∙◌, append-nil, arith}
 use Rattle.std.specs.Prelude.{All, filter, flat_map}
 use Rattle.std.specs.List.{range_with_len}
+use Rattle.std.proofs.lemmas.Bool.{not_from_false}
 use Rattle.std.proofs.lemmas.List.Elements.{All-nil, All-cons, All-head, All-tail, All-append, All-filter, filter-append}
+use Rattle.sgb_vec.proofs.Lists.{filter-none}
 use Rattle.sgb_graph.specs.Events.{Event}
 use Rattle.sgb_ops.specs.Merged.{has_ends_of, with_least_length, merged, merged_unless}
-use Rattle.sgb_ops.proofs.Merging.{apart}
+use Rattle.sgb_ops.proofs.Merging.{apart, merged_keeps}
+use Rattle.sgb_ops.proofs.PlainLists.{filter-all}
 
 -- no event of the first list has the ends of one of the second
 abbrev pub AreApart : Bool → List Event → List Event → Type 0
 AreApart directed xs ys = All (λ e. All (apart directed e) ys) xs
 
--- none has the ends of e
-pub none_like : (directed : Bool) (e : Event) (ys : List Event) → All (apart directed e) ys → filter (has_ends_of directed e) ys ≡ []
-none_like directed e [] all = refl
-none_like directed e (f ∷ ys) all =
-    let first = All-head (apart directed e) f ys all in
-    rw (first, none_like directed e ys (All-tail (apart directed e) f ys all)) refl
-
--- so all stay
+-- where no event has the ends of e all stay
 pub all_stay : (directed : Bool) (e : Event) (ys : List Event) → All (apart directed e) ys → filter (λ f. not (has_ends_of directed e f)) ys ≡ ys
-all_stay directed e [] all = refl
-all_stay directed e (f ∷ ys) all =
-    let first = All-head (apart directed e) f ys all in
-    rw (first, all_stay directed e ys (All-tail (apart directed e) f ys all)) refl
-
--- merged events keep their ends
-merged_apart_from : (directed : Bool) (e : Event) (ys : List Event) → All (apart directed e) ys → All (apart directed e) (merged directed ys)
-unfolding merged
-merged_apart_from directed e [] all = All-nil (apart directed e)
-merged_apart_from directed e (f ∷ ys) all =
-    let rest = merged_apart_from directed e ys (All-tail (apart directed e) f ys all) in
-    All-cons (apart directed e) (with_least_length directed f ys) (filter (λ x. not (has_ends_of directed f x)) (merged directed ys)) (All-head (apart directed e) f ys all)
-    (All-filter (λ x. not (has_ends_of directed f x)) (apart directed e) (merged directed ys) rest)
+all_stay directed e ys all = filter-all (λ f. not (has_ends_of directed e f)) ys (λ k d h. not_from_false _ (all k d h))
 
 -- two parts
 merged_of_both : (directed : Bool) (xs ys : List Event) → AreApart directed xs ys → merged directed (xs ++ ys) ≡ merged directed xs ++ merged directed ys
@@ -42,10 +26,10 @@ merged_of_both directed (e ∷ xs) ys all =
     let from_e = All-head (λ x. All (apart directed x) ys) e xs all in
     let others = λ (f : Event). not (has_ends_of directed e f) in
     let like = filter-append (has_ends_of directed e) xs ys
-    ∙ (ap (λ fs. filter (has_ends_of directed e) xs ++ fs) (none_like directed e ys from_e) ∙ append-nil (filter (has_ends_of directed e) xs)) in
+    ∙ (ap (λ fs. filter (has_ends_of directed e) xs ++ fs) (filter-none (has_ends_of directed e) ys from_e) ∙ append-nil (filter (has_ends_of directed e) xs)) in
     let rest = ap (filter others) (merged_of_both directed xs ys (All-tail (λ x. All (apart directed x) ys) e xs all))
     ∙ (filter-append others (merged directed xs) (merged directed ys)
-    ∙ ap (λ fs. filter others (merged directed xs) ++ fs) (all_stay directed e (merged directed ys) (merged_apart_from directed e ys from_e))) in
+    ∙ ap (λ fs. filter others (merged directed xs) ++ fs) (all_stay directed e (merged directed ys) (merged_keeps (apart directed e) (λ f far h. h) directed ys from_e))) in
     rw (like, rest) refl
 
 module _ (directed : Bool) (f : ℕ → List Event) (each : (u w : ℕ) → u < w → AreApart directed (f u) (f w)) where

@@ -7,6 +7,7 @@ use Rattle.std.proofs.lemmas.Int.{fold-int_min_bounds, fold-int_min_reached}
 use Rattle.std.proofs.lemmas.List.{append_assoc, length-append, take_at}
 use Rattle.std.proofs.lemmas.List.Elements.{All-nil, All-cons, All-head, All-tail, All-contains, All-filter, All-contains_itself, filter_passes, filter-append}
 use Rattle.std.proofs.lemmas.List.Kept.{AllPairs-filter, AllPairs-cons}
+use Rattle.sgb_vec.proofs.Lists.{Contains-first, Contains-other, Contains-none, Contains-cases, Contains-passing}
 use Rattle.sgb_graph.specs.Events.{Event}
 use Rattle.sgb_ops.specs.Lengths.{lesser}
 use Rattle.sgb_ops.specs.Merged.{has_ends_of, with_least_length, merged, ends_of, first_ones, IsShortest}
@@ -20,6 +21,15 @@ apart directed e f = has_ends_of directed e f ≡ false
 others : (directed : Bool) (e : Event) (events : List Event) → All (apart directed e) (filter (λ f. not (has_ends_of directed e f)) events)
 others directed e events = λ k d h. not-true _ (filter_passes (λ f. not (has_ends_of directed e f)) events k d h)
 
+-- what holds of events whatever their length holds of merged ones
+pub merged_keeps : (P : Event → Type 0) → ((e : Event) (far : ℤ) → P e → P (record e { len = far })) → (directed : Bool) (events : List Event) → All P events → All P (merged directed events)
+unfolding merged
+merged_keeps P same directed [] all = All-nil P
+merged_keeps P same directed (e ∷ events) all =
+    All-cons P (with_least_length directed e events) (filter (λ f. not (has_ends_of directed e f)) (merged directed events)) (same e (with_least_length directed e events).len (All-head P e events all))
+    (All-filter (λ f. not (has_ends_of directed e f)) P (merged directed events) (merged_keeps P same directed events (All-tail P e events all)))
+
+-- no two merged events have the same ends
 pub merged_apart : (directed : Bool) (events : List Event) → AllPairs (apart directed) (merged directed events)
 unfolding merged
 merged_apart directed [] = λ i j d h k. absurd (omega (arith, h, k))
@@ -27,43 +37,14 @@ merged_apart directed (e ∷ events) =
     AllPairs-cons (apart directed) (with_least_length directed e events) _ (others directed e (merged directed events))
     (AllPairs-filter (apart directed) (λ f. not (has_ends_of directed e f)) (merged directed events) (merged_apart directed events))
 
--- an element of a list, at its first place or after it
-contains_first : {X : Type 0} (x : X) (xs : List X) → Contains (x ∷ xs) x
-contains_first x xs = (0, omega arith, refl)
-
-contains_after : {X : Type 0} (x y : X) (xs : List X) → Contains xs y → Contains (x ∷ xs) y
-contains_after x y xs (k, below, here) = (suc k, omega arith, here)
-
-contains_none : {X : Type 0} (x : X) → Contains [] x → ⊥
-contains_none x (k, below, here) = omega arith
-
-contains_cases : {X : Type 0} (x y : X) (xs : List X) → Contains (x ∷ xs) y → (x ≡ y) ⊎ Contains xs y
-contains_cases x y xs (zero, below, here) = inl here
-contains_cases x y xs (suc k, below, here) = inr (k, omega arith, here)
-
--- one that passes a test is kept by the filter
-contains_filter : {X : Type 0} (p : X → Bool) (xs : List X) (x : X) → p x ≡ true → Contains xs x → Contains (filter p xs) x
-contains_filter p [] x passes has = absurd (contains_none x has)
-contains_filter p (a ∷ xs) x passes has = by_place (contains_cases a x xs has) (contains_filter p xs x passes)
-  where
-    later : Bool → Contains (filter p xs) x → Contains (cond (p a) (a ∷ filter p xs) (filter p xs)) x
-    later _ there = elim (cases_Bool (p a)) [
-      | inl kept ↦ rw kept (contains_after a x (filter p xs) there)
-      | inr out ↦ rw out there
-    ]
-
-    by_place : (a ≡ x) ⊎ Contains xs x → (Contains xs x → Contains (filter p xs) x) → Contains (cond (p a) (a ∷ filter p xs) (filter p xs)) x
-    by_place (inl here) rest = let kept : p a ≡ true = ap p here ∙ passes in rw kept (subst (λ y. Contains (a ∷ filter p xs) y) here (contains_first a (filter p xs)))
-    by_place (inr there) rest = later true (rest there)
-
 -- the element that a made one was made of
-contains_map : {X Y : Type 0} (f : X → Y) (xs : List X) (y : Y) → Contains (map f xs) y → (x : X) × Contains xs x × (f x ≡ y)
-contains_map f [] y has = absurd (contains_none y has)
-contains_map f (a ∷ xs) y has = by_place (contains_cases (f a) y (map f xs) has) (contains_map f xs y)
+made_of : {X Y : Type 0} (f : X → Y) (xs : List X) (y : Y) → Contains (map f xs) y → (x : X) × Contains xs x × (f x ≡ y)
+made_of f [] y has = absurd (Contains-none y has)
+made_of f (a ∷ xs) y has = by_place (Contains-cases (f a) y (map f xs) has) (made_of f xs y)
   where
     by_place : (f a ≡ y) ⊎ Contains (map f xs) y → (Contains (map f xs) y → (x : _) × Contains xs x × (f x ≡ y)) → (x : _) × Contains (a ∷ xs) x × (f x ≡ y)
-    by_place (inl here) rest = (a, contains_first a xs, here)
-    by_place (inr there) rest = let of = rest there in (of.0, contains_after a of.0 xs of.1, of.2)
+    by_place (inl here) rest = (a, Contains-first a xs, here)
+    by_place (inr there) rest = let of = rest there in (of.0, Contains-other a of.0 xs of.1, of.2)
 
 -- a fact on what is made of the elements that pass a test
 below_kept : (p : Event → Bool) (r : ℤ) (events : List Event) → All (λ x. r ≤ℤ x) (map (λ (f : Event). f.len) (filter p events)) → All (λ f. p f ≡ true → r ≤ℤ f.len) events
@@ -98,11 +79,11 @@ first_is_shortest directed e events = record {
 
     by_place : (shortest ≡ e.len) ⊎ Contains lengths shortest
         → (f : Event) × Contains (e ∷ events) f × (has_ends_of directed e f ≡ true) × (f.len ≡ shortest)
-    by_place (inl own) = (e, contains_first e events, own_ends directed e, sym own)
+    by_place (inl own) = (e, Contains-first e events, own_ends directed e, sym own)
     by_place (inr among) =
-        let of = contains_map (λ (f : Event). f.len) like shortest among in (
+        let of = made_of (λ (f : Event). f.len) like shortest among in (
           of.0,
-          contains_after e of.0 events (All-contains (Contains events) like of.0 (All-filter (has_ends_of directed e) (Contains events) events (All-contains_itself events)) of.1),
+          Contains-other e of.0 events (All-contains (Contains events) like of.0 (All-filter (has_ends_of directed e) (Contains events) events (All-contains_itself events)) of.1),
           All-contains (λ f. has_ends_of directed e f ≡ true) like of.0 (filter_passes (has_ends_of directed e) events) of.1,
           of.2,
         )
@@ -110,7 +91,7 @@ first_is_shortest directed e events = record {
 -- one that stays so with an event in front that has not its ends
 stays_shortest : (directed : Bool) (e : Event) (events : List Event) (f : Event) → apart directed e f → IsShortest directed events f → IsShortest directed (e ∷ events) f
 stays_shortest directed e events f other short = record {
-  one = (short.one.0, contains_after e short.one.0 events short.one.1, short.one.2, short.one.3);
+  one = (short.one.0, Contains-other e short.one.0 events short.one.1, short.one.2, short.one.3);
   least = All-cons (λ x. has_ends_of directed f x ≡ true → f.len ≤ℤ x.len) e events (λ h. absurd (no h)) short.least;
 }
   where
@@ -130,8 +111,8 @@ merged_shortest directed (e ∷ events) =
 -- each event has its ends in one of them
 pub merged_has_each : (directed : Bool) (events : List Event) (e : Event) → Contains events e → (f : Event) × Contains (merged directed events) f × (has_ends_of directed e f ≡ true)
 unfolding merged
-merged_has_each directed [] e has = absurd (contains_none e has)
-merged_has_each directed (a ∷ events) e has = by_place (contains_cases a e events has) (merged_has_each directed events e)
+merged_has_each directed [] e has = absurd (Contains-none e has)
+merged_has_each directed (a ∷ events) e has = by_place (Contains-cases a e events has) (merged_has_each directed events e)
   where
     first : Event
     first = with_least_length directed a events
@@ -142,13 +123,13 @@ merged_has_each directed (a ∷ events) e has = by_place (contains_cases a e eve
     by_ends : (f : Event) → Contains (merged directed events) f → has_ends_of directed e f ≡ true
         → (has_ends_of directed a f ≡ true) ⊎ (has_ends_of directed a f ≡ false)
         → (f : Event) × Contains (first ∷ rest) f × (has_ends_of directed e f ≡ true)
-    by_ends f there same (inl like) = (first, contains_first first rest, ends_joined directed e f a same (ends_turned directed a f like))
+    by_ends f there same (inl like) = (first, Contains-first first rest, ends_joined directed e f a same (ends_turned directed a f like))
     by_ends f there same (inr other) =
-        (f, contains_after first f rest (contains_filter (λ x. not (has_ends_of directed a x)) (merged directed events) f (not_from_false _ other) there), same)
+        (f, Contains-other first f rest (Contains-passing (λ x. not (has_ends_of directed a x)) (merged directed events) f (not_from_false _ other) there), same)
 
     by_place : (a ≡ e) ⊎ Contains events e → (Contains events e → (f : Event) × Contains (merged directed events) f × (has_ends_of directed e f ≡ true))
         → (f : Event) × Contains (first ∷ rest) f × (has_ends_of directed e f ≡ true)
-    by_place (inl here) later = (first, contains_first first rest, subst (λ x. has_ends_of directed x a ≡ true) here (own_ends directed a))
+    by_place (inl here) later = (first, Contains-first first rest, subst (λ x. has_ends_of directed x a ≡ true) here (own_ends directed a))
     by_place (inr there) later = let of = later there in by_ends of.0 of.1 of.2 (cases_Bool (has_ends_of directed a of.0))
 
 -- the first ones of events that come after others

@@ -1,12 +1,15 @@
 -- What is done place by place, or arc by arc, as events that are added one after another.
-use Rattle.std.proofs.Common.{◌≡◌, ℕ, ℤ, Option, Some, suc, ◌+◌, ◌-◌, ◌<◌, ◌≤◌, Bool, List, [], ◌∷◌, map, ap, subst, arith}
+use Rattle.std.proofs.Common.{◌≡◌, ℕ, ℤ, Option, Some, ◌+◌, ◌<◌, ◌≤◌, Bool, List, [], ◌∷◌, ◌++◌, sym, ap, subst, ◌∙◌}
 use Rattle.std.specs.Iterator.{YieldsFirst}
-use Rattle.std.specs.List.{flat_map, range_with_len}
+use Rattle.std.specs.List.{All, range_with_len}
+use Rattle.std.proofs.lemmas.List.Elements.{All-head, All-tail}
 use Rattle.sgb_graph.specs.Graphs.{GraphData}
 use Rattle.sgb_graph.specs.Events.{Event}
 use Rattle.sgb_graph.specs.Growth.{AddsEvents}
 use Rattle.sgb_graph.specs.declared.fields.Link.{Link}
-use Rattle.sgb_graph.proofs.AddedEvents.{AddsUpTo, up_to-more, up_to-all}
+use Rattle.sgb_graph.proofs.AddedEvents.{AddsUpTo, up_to-none, up_to-more, up_to-all}
+use Rattle.sgb_ops.proofs.EventsWithin.{TipBelow}
+use Rattle.sgb_ops.proofs.PlainLists.{places_from, places-all, places-next, places-none}
 
 -- what a walk over arcs gives
 pub steps_to : (s rest : List Link) (r : Option Link) (l : Link) → r ≡ Some l → YieldsFirst (λ x. x) s r rest → s ≡ l ∷ rest
@@ -19,53 +22,45 @@ same_event directed old new u v x y far len a b c h =
     (subst (λ (k : ℕ). AddsEvents directed old new (record { from = x; to = k; len = far } ∷ [])) b
     (subst (λ (k : ℕ). AddsEvents directed old new (record { from = k; to = v; len = far } ∷ [])) a h))
 
--- the events of the places from i on, of n places with some each
-abbrev pub some_from : (ℕ → List Event) → ℕ → ℕ → List Event
-some_from f n i = flat_map f (range_with_len i (n - i))
+-- a graph that has the events of the places before i; those of the places from i on are still to come
+abbrev pub PlacesLeft : Bool → GraphData → GraphData → (List ℕ → List Event) → ℕ → ℕ → Type 0
+PlacesLeft directed old now events n i = AddsUpTo directed old now (events (places_from n i)) (events (places_from n 0))
 
--- the same of n places with one each
-abbrev pub one_from : (ℕ → Event) → ℕ → ℕ → List Event
-one_from f n i = map f (range_with_len i (n - i))
-
-module _ (directed : Bool) (old now : GraphData) where
-  -- those of one place more are added
-  pub some_more : (new : GraphData) (f : ℕ → List Event) (n i : ℕ) (all : List Event) → i < n → AddsUpTo directed old now (some_from f n i) all → AddsEvents directed now new (f i) → AddsUpTo directed old new (some_from f n (i + 1)) all
-  some_more new f n i all below h k =
-      let count : n - i ≡ suc (n - (i + 1)) = omega (arith, below) in
-      up_to-more directed old now new (f i) (some_from f n (i + 1)) all (some_from f n i) h (ap (λ m. flat_map f (range_with_len i m)) count) k
-
-  pub one_more : (new : GraphData) (f : ℕ → Event) (n i : ℕ) (all : List Event) → i < n → AddsUpTo directed old now (one_from f n i) all → AddsEvents directed now new (f i ∷ []) → AddsUpTo directed old new (one_from f n (i + 1)) all
-  one_more new f n i all below h k =
-      let count : n - i ≡ suc (n - (i + 1)) = omega (arith, below) in
-      up_to-more directed old now new (f i ∷ []) (one_from f n (i + 1)) all (one_from f n i) h (ap (λ m. map f (range_with_len i m)) count) k
+module _ (directed : Bool) (old now : GraphData) (events : List ℕ → List Event) (n i : ℕ) where
+  -- those of place i are added
+  pub place_added : (new : GraphData) (es : List Event) → i < n → PlacesLeft directed old now events n i → AddsEvents directed now new es
+      → events (i ∷ places_from n (i + 1)) ≡ es ++ events (places_from n (i + 1)) → PlacesLeft directed old new events n (i + 1)
+  place_added new es below left added is =
+      up_to-more directed old now new es (events (places_from n (i + 1))) (events (places_from n 0)) (events (places_from n i)) left (ap events (places-next n i below) ∙ is) added
 
   -- those of all places are added
-  pub some_all : (f : ℕ → List Event) (n i : ℕ) → n ≤ i → AddsUpTo directed old now (some_from f n i) (some_from f n 0) → AddsEvents directed old now (flat_map f (range_with_len 0 n))
-  some_all f n i past h =
-      let count : n - i ≡ 0 = omega (arith, past) in
-      let whole : n - 0 ≡ n = omega arith in
-      subst (λ m. AddsEvents directed old now (flat_map f (range_with_len 0 m))) whole
-      (up_to-all directed old now (some_from f n i) (some_from f n 0) h (ap (λ m. flat_map f (range_with_len i m)) count))
+  pub places_added : n ≤ i → PlacesLeft directed old now events n i → events [] ≡ [] → AddsEvents directed old now (events (range_with_len 0 n))
+  places_added past left none =
+      subst (λ ks. AddsEvents directed old now (events ks)) (places-all n)
+      (up_to-all directed old now (events (places_from n i)) (events (places_from n 0)) left (ap events (places-none n i past) ∙ none))
 
-  pub one_all : (f : ℕ → Event) (n i : ℕ) → n ≤ i → AddsUpTo directed old now (one_from f n i) (one_from f n 0) → AddsEvents directed old now (map f (range_with_len 0 n))
-  one_all f n i past h =
-      let count : n - i ≡ 0 = omega (arith, past) in
-      let whole : n - 0 ≡ n = omega arith in
-      subst (λ m. AddsEvents directed old now (map f (range_with_len 0 m))) whole
-      (up_to-all directed old now (one_from f n i) (one_from f n 0) h (ap (λ m. map f (range_with_len i m)) count))
+-- arcs that lead to vertices below n are left, and their events are still to come
+abbrev pub ArcsLeft : ℕ → Bool → GraphData → GraphData → (List Link → List Event) → List Link → List Event → Type 0
+ArcsLeft n directed old now events left all = All (TipBelow n) left × AddsUpTo directed old now (events left) all
 
-  -- those of one arc more
-  pub arc_more : (new : GraphData) (f : Link → List Event) (links rest : List Link) (l : Link) (all : List Event) → links ≡ l ∷ rest → AddsUpTo directed old now (flat_map f links) all → AddsEvents directed now new (f l) → AddsUpTo directed old new (flat_map f rest) all
-  arc_more new f links rest l all is h k =
-      up_to-more directed old now new (f l) (flat_map f rest) all (flat_map f links) h (ap (flat_map f) is) k
+-- at first all are left
+pub arcs_first : (n : ℕ) (directed : Bool) (g : GraphData) (events : List Link → List Event) (left given arcs : List Link)
+    → left ≡ given → given ≡ arcs → All (TipBelow n) given → ArcsLeft n directed g g events left (events arcs)
+arcs_first n directed g events left given arcs is same tips = (
+  subst (All (TipBelow n)) (sym is) tips,
+  subst (λ ls. AddsUpTo directed g g (events ls) (events arcs)) (sym (is ∙ same)) (up_to-none directed g (events arcs)),
+)
 
-  pub link_more : (new : GraphData) (f : Link → Event) (links rest : List Link) (l : Link) (all : List Event) → links ≡ l ∷ rest → AddsUpTo directed old now (map f links) all → AddsEvents directed now new (f l ∷ []) → AddsUpTo directed old new (map f rest) all
-  link_more new f links rest l all is h k =
-      up_to-more directed old now new (f l ∷ []) (map f rest) all (map f links) h (ap (map f) is) k
+-- the next one leads to such a vertex
+pub next_tip : (n : ℕ) (left rest : List Link) (r : Option Link) (l : Link) → r ≡ Some l → YieldsFirst (λ x. x) left r rest → All (TipBelow n) left → l.tip < n
+next_tip n left rest r l is steps tips = All-head (TipBelow n) l rest (subst (All (TipBelow n)) (steps_to left rest r l is steps) tips)
 
-  -- those of all arcs
-  pub arc_all : (f : Link → List Event) (links : List Link) (all : List Event) → links ≡ [] → AddsUpTo directed old now (flat_map f links) all → AddsEvents directed old now all
-  arc_all f links all none h = up_to-all directed old now (flat_map f links) all h (ap (flat_map f) none)
-
-  pub link_all : (f : Link → Event) (links : List Link) (all : List Event) → links ≡ [] → AddsUpTo directed old now (map f links) all → AddsEvents directed old now all
-  link_all f links all none h = up_to-all directed old now (map f links) all h (ap (map f) none)
+-- its events are added
+pub arc_added : (n : ℕ) (directed : Bool) (old now new : GraphData) (events : List Link → List Event) (left rest : List Link) (r : Option Link) (l : Link) (es all : List Event)
+    → r ≡ Some l → YieldsFirst (λ x. x) left r rest → ArcsLeft n directed old now events left all → AddsEvents directed now new es → events (l ∷ rest) ≡ es ++ events rest
+    → ArcsLeft n directed old new events rest all
+arc_added n directed old now new events left rest r l es all is steps arcs added same =
+    let step = steps_to left rest r l is steps in (
+      All-tail (TipBelow n) l rest (subst (All (TipBelow n)) step arcs.0),
+      up_to-more directed old now new es (events rest) all (events left) arcs.1 (ap events step ∙ same) added,
+    )

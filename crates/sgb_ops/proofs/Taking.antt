@@ -3,41 +3,32 @@ use Rattle.std.proofs.Common.{◌≡◌, ◌+◌, ◌*◌, ◌≤◌, ◌<◌, �
 use Rattle.std.specs.Prelude.{All, filter, if◌then◌else◌}
 use Rattle.std.specs.List.{enumerate_from}
 use Rattle.std.specs.Option.{option_map_or}
-use Rattle.std.proofs.lemmas.Bool.{cases_Bool, cases_eq, ltb-false, eq-eqb, ne_eqb, lt-ltb, le-ltb, and_right}
+use Rattle.std.proofs.lemmas.Bool.{cases_Bool, cases_eq, cond_both, ltb-false, eq-eqb, ne_eqb, lt-ltb, le-ltb, and_right}
 use Rattle.std.proofs.lemmas.List.{append-nil, reverse-append}
 use Rattle.std.proofs.lemmas.List.Elements.{All-nil, All-cons, All-head, All-tail, All-append, All-weaker}
 use Rattle.sgb_graph.specs.Graphs.{GraphData}
-use Rattle.sgb_graph.specs.Events.{Event, Row, HasArcsOf, links_at, list_from, rows_of}
-use Rattle.sgb_graph.specs.Growth.{link, row}
+use Rattle.sgb_graph.specs.Events.{Event, Record, HasArcsOf, links_at, list_from, records_of}
+use Rattle.sgb_graph.specs.Growth.{link, record_from}
 use Rattle.sgb_graph.specs.declared.fields.Link.{Link}
 use Rattle.sgb_ops.specs.Taken.{is_loop_with, each_edge_once, taken, lower_record, edges_up_from}
-use Rattle.sgb_ops.specs.TakenArcs.{IsStep, taken_after, without_other}
+use Rattle.sgb_ops.specs.inner.TakenArcs.{IsStep, taken_after, without_other}
 
 -- an arc of the list of v that leads to no vertex before it
 abbrev leads_up : ℕ → Link → Type 0
 leads_up v l = v ≤ l.tip
 
--- both ways of going on after an arc
-either_way : (v : ℕ) (b : Bool) (xs ys : List Link) → All (leads_up v) xs → All (leads_up v) ys → All (leads_up v) (cond b xs ys)
-either_way v true xs ys p q = p
-either_way v false xs ys p q = q
-
--- an arc is passed over, or leads up and stands before the rest
-one_more : (v : ℕ) (l : Link) (skipped rest : List Link) → All (leads_up v) skipped → All (leads_up v) rest
-    → All (leads_up v) (cond (ltb l.tip v) skipped (l ∷ rest))
-one_more v l skipped rest p q = elim (cases_Bool (ltb l.tip v)) [
-  | inl e ↦ rw e p
-  | inr e ↦ rw e (All-cons (leads_up v) l rest (ltb-false l.tip v e) q)
-]
-
 -- the arcs taken lead up
 pub each_edge_once_leads_up : (v : ℕ) (links : List Link) → All (leads_up v) (each_edge_once v links)
 unfolding each_edge_once
 each_edge_once_leads_up v [] = All-nil (leads_up v)
-each_edge_once_leads_up v (l ∷ []) = one_more v l [] [] (All-nil (leads_up v)) (All-nil (leads_up v))
+each_edge_once_leads_up v (l ∷ []) =
+    cond_both (ltb l.tip v) [] (l ∷ []) (All (leads_up v)) (λ _. All-nil (leads_up v)) (λ e. All-cons (leads_up v) l [] (ltb-false l.tip v e) (All-nil (leads_up v)))
 each_edge_once_leads_up v (l ∷ k ∷ links) =
     let next = each_edge_once_leads_up v (k ∷ links) in
-    one_more v l _ _ next (either_way v (is_loop_with v l k) _ _ (each_edge_once_leads_up v links) next)
+    let later = each_edge_once_leads_up v links in
+    let rest = if is_loop_with v l k then each_edge_once v links else each_edge_once v (k ∷ links) in
+    cond_both (ltb l.tip v) (each_edge_once v (k ∷ links)) (l ∷ rest) (All (leads_up v)) (λ _. next)
+    (λ e. All-cons (leads_up v) l rest (ltb-false l.tip v e) (cond_both (is_loop_with v l k) (each_edge_once v links) (each_edge_once v (k ∷ links)) (All (leads_up v)) (λ _. later) (λ _. next)))
 
 -- a list of arcs cut in two where no number is followed by the next: what is taken of each part
 apart_at : (v : ℕ) (skip loop : Bool) (l : Link) (one two three four rest : List Link) → one ≡ two ++ rest → three ≡ four ++ rest
@@ -72,12 +63,12 @@ taken_apart v low (l ∷ m ∷ xs) ys high below =
 
 -- of the records of one edge the lower one is taken, at the smaller end
 one_edge : (v k a b : ℕ) (far : ℤ) → a ≤ b
-    → each_edge_once v (links_at v k (row a b far ∷ row b a far ∷ [])) ≡ (if a == v then link k b far ∷ [] else [])
+    → each_edge_once v (links_at v k (record_from a b far ∷ record_from b a far ∷ [])) ≡ (if a == v then link k b far ∷ [] else [])
 unfolding each_edge_once
 one_edge v k a b far up = by_ends (cases_eq a v) (cases_eq b v)
   where
     by_ends : (a ≡ v) ⊎ (a ≡ v → ⊥) → (b ≡ v) ⊎ (b ≡ v → ⊥)
-        → each_edge_once v (links_at v k (row a b far ∷ row b a far ∷ [])) ≡ (if a == v then link k b far ∷ [] else [])
+        → each_edge_once v (links_at v k (record_from a b far ∷ record_from b a far ∷ [])) ≡ (if a == v then link k b far ∷ [] else [])
     by_ends (inl low) (inl high) =
         let is_low = eq-eqb a v low in
         let is_high = eq-eqb b v high in
@@ -101,7 +92,7 @@ one_edge v k a b far up = by_ends (cases_eq a v) (cases_eq b v)
         simp (is_low, is_high)
 
 -- the numbers of the links of some rows
-numbers_at : (v k : ℕ) (rows : List Row) → All (λ l. (k ≤ l.number) × (l.number < k + length rows)) (links_at v k rows)
+numbers_at : (v k : ℕ) (rows : List Record) → All (λ l. (k ≤ l.number) × (l.number < k + length rows)) (links_at v k rows)
 numbers_at v k [] = All-nil _
 numbers_at v k (r ∷ rows) = by_start (cases_Bool (r.start == v)) (numbers_at v (k + 1) rows)
   where
@@ -122,9 +113,9 @@ numbers_from_first : (k : ℕ) (events : List Event) (v : ℕ) → All (λ l. k 
 unfolding list_from
 numbers_from_first k [] v = All-nil _
 numbers_from_first k (e ∷ events) v =
-    All-append (λ l. k ≤ l.number) (list_from false (k + 2) events v) (links_at v k (rows_of false e))
+    All-append (λ l. k ≤ l.number) (list_from false (k + 2) events v) (links_at v k (records_of false e))
     (All-weaker (λ l. k + 2 ≤ l.number) (λ l. k ≤ l.number) (λ l p. omega (arith, p)) _ (numbers_from_first (k + 2) events v))
-    (All-weaker (λ l. (k ≤ l.number) × (l.number < k + 2)) (λ l. k ≤ l.number) (λ l p. p.0) _ (numbers_at v k (rows_of false e)))
+    (All-weaker (λ l. (k ≤ l.number) × (l.number < k + 2)) (λ l. k ≤ l.number) (λ l p. p.0) _ (numbers_at v k (records_of false e)))
 
 -- taken of the list of the events, whose first one has this place
 taken_from : (v i : ℕ) (events : List Event)
@@ -135,9 +126,9 @@ taken_from v i (e ∷ events) =
     let next = taken_from v (i + 1) events in
     let place : 2 * (i + 1) ≡ 2 * i + 2 = omega arith in
     let own = one_edge v (2 * i) (min e.from e.to) (max e.from e.to) e.len (omega arith) in
-    taken_apart v (2 * i + 2) (list_from false (2 * i + 2) events v) (links_at v (2 * i) (rows_of false e)) (numbers_from_first (2 * i + 2) events v)
-    (All-weaker (λ l. (2 * i ≤ l.number) × (l.number < 2 * i + 2)) (λ l. l.number < 2 * i + 2) (λ l p. p.1) _ (numbers_at v (2 * i) (rows_of false e)))
-    ∙ (ap (λ xs. xs ++ each_edge_once v (links_at v (2 * i) (rows_of false e))) (ap (λ k. each_edge_once v (list_from false k events v)) (sym place) ∙ next)
+    taken_apart v (2 * i + 2) (list_from false (2 * i + 2) events v) (links_at v (2 * i) (records_of false e)) (numbers_from_first (2 * i + 2) events v)
+    (All-weaker (λ l. (2 * i ≤ l.number) × (l.number < 2 * i + 2)) (λ l. l.number < 2 * i + 2) (λ l p. p.1) _ (numbers_at v (2 * i) (records_of false e)))
+    ∙ (ap (λ xs. xs ++ each_edge_once v (links_at v (2 * i) (records_of false e))) (ap (λ k. each_edge_once v (list_from false k events v)) (sym place) ∙ next)
     ∙ (ap (λ ys. reverse (map lower_record later) ++ ys) own ∙ by_end (min e.from e.to == v)))
   where
     later : List (ℕ × Event)

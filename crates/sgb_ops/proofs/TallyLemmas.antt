@@ -9,7 +9,7 @@ use Rattle.std.proofs.lemmas.List.Sums.{fold-append, length-filter, count_by-le-
 use Rattle.sgb_graph.specs.declared.fields.Link.{Link}
 use Rattle.sgb_ops.specs.Intersection.{count_to}
 use Rattle.sgb_ops.specs.Lengths.{lesser}
-use Rattle.sgb_ops.specs.Tallies.{tally_of, tally_to, one_more}
+use Rattle.sgb_ops.specs.inner.Tallies.{tally_of, tally_to, one_more}
 use Rattle.sgb_ops.specs.declared.tallies.Tally.{Tally}
 use Rattle.sgb_ops.proofs.EventsWithin.{TipBelow}
 

@@ -7,16 +7,16 @@ use Rattle.std.proofs.lemmas.List.{map-append}
 use Rattle.std.proofs.lemmas.List.Elements.{All-head, All-tail, All-append, All-filter, All-map, All-nil, filter_passes}
 use Rattle.sgb_graph.specs.Graphs.{GraphData, chain_of}
 use Rattle.sgb_graph.specs.Events.{Event}
-use Rattle.sgb_graph.specs.Growth.{AddsEvents, IsKept}
+use Rattle.sgb_graph.specs.Growth.{IsKept}
 use Rattle.sgb_graph.specs.declared.fields.Link.{Link}
-use Rattle.sgb_graph.proofs.AddedEvents.{AddsUpTo, up_to-all, up_to-more}
-use Rattle.sgb_ops.specs.Ends.{AllWithin, event_of}
+use Rattle.sgb_ops.specs.inner.Ends.{AllWithin, event_of}
 use Rattle.sgb_ops.specs.Gunion.{union_arcs, union_events}
-use Rattle.sgb_ops.specs.Operands.{order_of}
+use Rattle.sgb_ops.specs.Operands.{order_of, places_of}
 use Rattle.sgb_ops.specs.Taken.{taken}
 use Rattle.sgb_ops.specs.Merged.{has_ends_of, merged_unless}
 use Rattle.sgb_ops.proofs.EventsWithin.{TipBelow, taken_tips, events_of_within, merged_unless_within}
 use Rattle.sgb_ops.proofs.MergedParts.{AreApart, merged_parts}
+use Rattle.sgb_ops.proofs.PlainLists.{filter-all}
 use Rattle.sgb_ops.proofs.Taking.{each_edge_once_leads_up}
 
 -- the arcs that lead to vertices below n
@@ -25,10 +25,7 @@ leading_below n links = filter (λ l. nat_lt l.tip n) links
 
 -- they are all where all do
 all_lead_below : (n : ℕ) (links : List Link) → All (TipBelow n) links → leading_below n links ≡ links
-all_lead_below n [] all = refl
-all_lead_below n (l ∷ links) all =
-    let first = lt-ltb l.tip n (All-head (TipBelow n) l links all) in
-    rw (first, all_lead_below n links (All-tail (TipBelow n) l links all)) refl
+all_lead_below n links all = filter-all (λ l. nat_lt l.tip n) links (λ k d h. lt-ltb _ n (all k d h))
 
 lead_below : (n : ℕ) (links : List Link) → All (TipBelow n) (leading_below n links)
 lead_below n links = λ k d h. ltb-true _ n (filter_passes (λ l. nat_lt l.tip n) links k d h)
@@ -114,44 +111,10 @@ vertices_apart g h directed u w after =
     (λ i d below. All-map (λ f. has_ends_of directed (event_of u (get_or (union_arcs g h directed u) i d)) f ≡ false) (event_of w) (union_arcs g h directed w)
     (λ j x there. arcs_apart directed u w (get_or (union_arcs g h directed u) i d) (get_or (union_arcs g h directed w) j x) after (arcs_lead_up g h directed w j x there)))
 
--- the events of the vertices from v on that are left, merged vertex by vertex
-abbrev pub events_after : GraphData → GraphData → Bool → Bool → ℕ → List Event
-events_after g h multi directed v =
-    flat_map (λ u. merged_unless multi directed (events_of g h directed u)) (range_with_len v (order_of g - v))
+-- those of v that are left
+abbrev pub left_of : GraphData → GraphData → Bool → Bool → ℕ → List Event
+left_of g h multi directed v = merged_unless multi directed (events_of g h directed v)
 
--- from the first on they are those of the union
-events_after-first : (g h : GraphData) (multi directed : Bool) → events_after g h multi directed 0 ≡ merged_unless multi directed (union_events g h directed)
-events_after-first g h multi directed =
-    let count : order_of g - 0 ≡ order_of g = omega arith in
-    ap (λ n. flat_map (λ u. merged_unless multi directed (events_of g h directed u)) (range_with_len 0 n)) count
-    ∙ sym (merged_parts multi directed (events_of g h directed) (vertices_apart g h directed) 0 (order_of g))
-
--- those of v come first
-events_after-next : (g h : GraphData) (multi directed : Bool) (v : ℕ) → v < order_of g
-    → events_after g h multi directed v ≡ merged_unless multi directed (events_of g h directed v) ++ events_after g h multi directed (v + 1)
-events_after-next g h multi directed v below =
-    let count : order_of g - v ≡ suc (order_of g - (v + 1)) = omega arith in
-    ap (λ n. flat_map (λ u. merged_unless multi directed (events_of g h directed u)) (range_with_len v n)) count
-
--- those of v are added
-pub added_more : (g h : GraphData) (multi directed : Bool) (v : ℕ) (old now new : GraphData) (found left : List Event) → v < order_of g
-    → AddsUpTo directed old now (events_after g h multi directed v) (events_after g h multi directed 0)
-    → left ≡ merged_unless multi directed found → found ≡ events_of g h directed v → AddsEvents directed now new left
-    → AddsUpTo directed old new (events_after g h multi directed (v + 1)) (events_after g h multi directed 0)
-added_more g h multi directed v old now new found left below so_far merges all added =
-    up_to-more directed old now new (merged_unless multi directed (events_of g h directed v)) (events_after g h multi directed (v + 1)) (events_after g h multi directed 0) _
-    so_far (events_after-next g h multi directed v below) (subst (AddsEvents directed now new) (merges ∙ ap (merged_unless multi directed) all) added)
-
--- past the last vertex there are none
-events_after-none : (g h : GraphData) (multi directed : Bool) (v : ℕ) → order_of g ≤ v → events_after g h multi directed v ≡ []
-events_after-none g h multi directed v past =
-    let count : order_of g - v ≡ 0 = omega arith in
-    ap (λ n. flat_map (λ u. merged_unless multi directed (events_of g h directed u)) (range_with_len v n)) count
-
--- so all are added
-pub added_all : (g h : GraphData) (multi directed : Bool) (v : ℕ) (old now : GraphData) → order_of g ≤ v
-    → AddsUpTo directed old now (events_after g h multi directed v) (events_after g h multi directed 0)
-    → AddsEvents directed old now (merged_unless multi directed (union_events g h directed))
-added_all g h multi directed v old now past so_far =
-    subst (AddsEvents directed old now) (events_after-first g h multi directed)
-    (up_to-all directed old now (events_after g h multi directed v) (events_after g h multi directed 0) so_far (events_after-none g h multi directed v past))
+-- of all vertices they are those of the union
+pub all_left : (g h : GraphData) (multi directed : Bool) → flat_map (left_of g h multi directed) (places_of g) ≡ merged_unless multi directed (union_events g h directed)
+all_left g h multi directed = sym (merged_parts multi directed (events_of g h directed) (vertices_apart g h directed) 0 (order_of g))

@@ -3,60 +3,38 @@ use Rattle.std.proofs.Common.{◌≡◌, ◌<◌, ◌≤◌, ◌+◌, ◌-◌, �
 use Rattle.std.specs.Prelude.{filter, flat_map}
 use Rattle.std.specs.List.{range_with_len, enumerate_from}
 use Rattle.std.proofs.lemmas.Bool.{ltb-false, cases_Bool}
-use Rattle.std.proofs.lemmas.List.{map-append}
 use Rattle.std.proofs.lemmas.List.Elements.{filter-append}
+use Rattle.sgb_vec.proofs.Lists.{made-append}
 use Rattle.sgb_graph.specs.Events.{Event}
 use Rattle.sgb_graph.specs.declared.fields.Link.{Link}
 use Rattle.sgb_ops.specs.declared.entries.Entry.{Entry}
-use Rattle.sgb_ops.specs.Copies.{copies_end, copies_start, leads_to_copies}
+use Rattle.sgb_ops.specs.inner.Copies.{copies_end, copies_start, leads_to_copies}
 use Rattle.sgb_ops.specs.Entries.{first_copy, inner_events}
 use Rattle.sgb_ops.specs.Induced.{event_between, events_of_arc, is_met, is_wanted, wanted}
 use Rattle.sgb_ops.proofs.EntryTotals.{copies_between}
+use Rattle.sgb_ops.proofs.PlainLists.{part_more, places_from, places-next}
 
 -- the wanted ones of a part more
 pub wanted_more : (self : Bool) (now new part rest whole all : List Event) → whole ≡ part ++ rest → now ++ wanted self whole ≡ all → new ≡ now ++ wanted self part → new ++ wanted self rest ≡ all
 wanted_more self now new part rest whole all is h grown =
-    ap (λ es. es ++ wanted self rest) grown
-    ∙ (append_assoc now (wanted self part) (wanted self rest)
-    ∙ (ap (λ es. now ++ es) (sym (filter-append (is_wanted self) part rest))
-    ∙ (ap (λ es. now ++ wanted self es) (sym is) ∙ h)))
-
--- those of all parts
-pub wanted_all : (self : Bool) (now whole all : List Event) → whole ≡ [] → now ++ wanted self whole ≡ all → now ≡ all
-wanted_all self now whole all none h = sym (append-nil now) ∙ (ap (λ es. now ++ wanted self es) (sym none) ∙ h)
+    part_more now new (wanted self part) (wanted self rest) (wanted self whole) all (ap (wanted self) is ∙ filter-append (is_wanted self) part rest) h grown
 
 -- the events of the places from i on, before the one where they stop
 abbrev pub events_until : (ℕ → List Event) → ℕ → ℕ → List Event
-events_until f stop i = flat_map f (range_with_len i (stop - i))
+events_until f stop i = flat_map f (places_from stop i)
 
 pub until_more : (f : ℕ → List Event) (stop i : ℕ) → i < stop → events_until f stop i ≡ f i ++ events_until f stop (i + 1)
-until_more f stop i below =
-    let count : stop - i ≡ suc (stop - (i + 1)) = omega (arith, below) in
-    ap (λ n. flat_map f (range_with_len i n)) count
-
-pub until_none : (f : ℕ → List Event) (stop i : ℕ) → stop ≤ i → events_until f stop i ≡ []
-until_none f stop i past =
-    let count : stop - i ≡ 0 = omega (arith, past) in
-    ap (λ n. flat_map f (range_with_len i n)) count
+until_more f stop i below = ap (flat_map f) (places-next stop i below)
 
 -- of the copies t to stop those that copy u of v is joined to for an arc a from v
 abbrev pub events_met : Bool → ℕ → ℕ → Link → ℕ → ℕ → List Event
-events_met directed v u a stop t = map (event_between u a.len) (filter (is_met directed v u a.tip) (range_with_len t (stop - t)))
+events_met directed v u a stop t = map (event_between u a.len) (filter (is_met directed v u a.tip) (places_from stop t))
 
 pub met_more : (directed : Bool) (v u : ℕ) (a : Link) (stop t : ℕ) → t < stop
     → events_met directed v u a stop t ≡ map (event_between u a.len) (filter (is_met directed v u a.tip) (t ∷ [])) ++ events_met directed v u a stop (t + 1)
 met_more directed v u a stop t below =
-    let count : stop - t ≡ suc (stop - (t + 1)) = omega (arith, below) in
-    let later = range_with_len (t + 1) (stop - (t + 1)) in
-    let met = filter (is_met directed v u a.tip) in
-    ap (λ n. map (event_between u a.len) (met (range_with_len t n))) count
-    ∙ (ap (map (event_between u a.len)) (filter-append (is_met directed v u a.tip) (t ∷ []) later)
-    ∙ map-append (event_between u a.len) (met (t ∷ [])) (met later))
-
-pub met_none : (directed : Bool) (v u : ℕ) (a : Link) (stop t : ℕ) → stop ≤ t → events_met directed v u a stop t ≡ []
-met_none directed v u a stop t past =
-    let count : stop - t ≡ 0 = omega (arith, past) in
-    ap (λ n. map (event_between u a.len) (filter (is_met directed v u a.tip) (range_with_len t n))) count
+    ap (λ ts. map (event_between u a.len) (filter (is_met directed v u a.tip) ts)) (places-next stop t below)
+    ∙ made-append (is_met directed v u a.tip) (event_between u a.len) (t ∷ []) (places_from stop (t + 1))
 
 -- an arc that leads to no copies gives no events
 no_copies : (entries : List Entry) (directed : Bool) (v u : ℕ) (a : Link) → leads_to_copies entries a ≡ false → events_of_arc entries directed v u a ≡ []

@@ -1,5 +1,5 @@
 -- The line graph: a vertex for each arc or edge [GB_BASIC, lines].
-use Rattle.std.specs.Prelude.{◌≡◌, ◌≢◌, ℕ, pos, ◌+◌, ◌/◌, ◌<◌, ◌==◌, Bool, true, false, not, ◌&&◌, ◌||◌, List, [], ◌∷◌, map, reverse, filter, flat_map, take, length, slice_get, codes, nat_lt, if◌then◌else◌, Result, Ok, Err}
+use Rattle.std.specs.Prelude.{◌≡◌, ◌≢◌, ℕ, pos, ◌+◌, ◌/◌, ◌==◌, Bool, true, false, not, ◌&&◌, ◌||◌, List, [], ◌∷◌, map, reverse, filter, flat_map, take, length, slice_get, codes, nat_lt, if◌then◌else◌, Result, Ok, Err}
 use Rattle.std.specs.List.{list_all, enumerate_from}
 use Rattle.std.specs.Option.{option_map_or}
 use Rattle.sgb_vec.specs.Limits.{most_vertices}
@@ -27,10 +27,6 @@ line_of v l = record { from = v; to = l.tip; number = l.number }
 -- the lines: the arcs taken of each vertex, from the last vertex down to the first
 abbrev pub lines_of_graph : GraphData → Bool → List Line
 lines_of_graph g directed = flat_map (λ v. map (line_of v) (taken directed g v)) (reverse (places_of g))
-
--- the two ends of the line are vertices of a graph that has n of them
-abbrev pub LineWithin : ℕ → Line → Type 0
-LineWithin n line = (line.from < n) × (line.to < n)
 
 -- the tip is vertex v
 abbrev pub points_to : Ref → ℕ → Bool

@@ -9,10 +9,6 @@ abbrev pub has_ends_of : Bool → Event → Event → Bool
 has_ends_of directed e f =
     ((f.from == e.from) && (f.to == e.to)) || (not directed && (f.from == e.to) && (f.to == e.from))
 
--- no two of the events have the same ends, be they arcs or edges
-abbrev pub HaveDifferentEnds : List Event → Type 0
-HaveDifferentEnds events = (directed : Bool) → AllPairs (λ e f. has_ends_of directed e f ≡ false) events
-
 -- event e with the least length of e and of those events that have its ends
 abbrev pub with_least_length : Bool → Event → List Event → Event
 with_least_length directed e events =

@@ -14,6 +14,8 @@ use Rattle.sgb_ops.specs.Operands.{order_of, places_of, names_of}
 use Rattle.sgb_ops.specs.Taken.{taken}
 use Rattle.sgb_graph.specs.IdTexts.{flag_text}
 use Rattle.sgb_ops.specs.Titles.{closing, pair_name}
+use Rattle.sgb_ops.specs.declared.products.Axis.{Axis}
+use Rattle.sgb_ops.specs.declared.products.Axis.TheVariants.{First, Second}
 use Rattle.sgb_ops.specs.declared.products.ProductType.{ProductType}
 use Rattle.sgb_ops.specs.declared.products.ProductType.TheVariants.{Cartesian, Direct, Strong}
 
@@ -32,25 +34,28 @@ type_number Strong = 2
 abbrev pub pair_place : ℕ → ℕ → ℕ → ℕ
 pair_place h x y = x * h + y
 
--- an arc b from y in the graph of the second coordinate, beside x
-abbrev pub second_step : ℕ → ℕ → Link → ℕ → Event
-second_step h y b x = record { from = pair_place h x y; to = pair_place h x b.tip; len = b.len }
+-- the place of the pair of v, a vertex of the graph along an axis, and w, one of the graph beside it
+abbrev pub place_along : Axis → GraphData → GraphData → ℕ → ℕ → ℕ
+place_along First along beside v w = pair_place (order_of beside) v w
+place_along Second along beside v w = pair_place (order_of along) w v
 
--- an arc a from x in the graph of the first coordinate, beside y
-abbrev pub first_step : ℕ → ℕ → Link → ℕ → Event
-first_step h x a y = record { from = pair_place h x y; to = pair_place h a.tip y; len = a.len }
+-- a step along an axis: an arc a from v, beside w
+abbrev pub step_along : Axis → GraphData → GraphData → ℕ → Link → ℕ → Event
+step_along axis along beside v a w =
+    record { from = place_along axis along beside v w; to = place_along axis along beside a.tip w; len = a.len }
 
 -- both at once, with the lesser length
 abbrev pub both_step : ℕ → ℕ → ℕ → Link → Link → Event
 both_step h x y a b = record { from = pair_place h x y; to = pair_place h a.tip b.tip; len = lesser a.len b.len }
 
--- the steps in the second coordinate from all pairs of y: for each arc taken of y, each x
-abbrev pub second_steps_at : GraphData → GraphData → Bool → ℕ → List Event
-second_steps_at g h directed y = flat_map (λ b. map (second_step (order_of h) y b) (places_of g)) (taken directed h y)
+-- the steps along an axis from all pairs of v: for each arc taken of v, each w beside
+abbrev pub steps_from : Axis → GraphData → GraphData → Bool → ℕ → List Event
+steps_from axis along beside directed v =
+    flat_map (λ a. map (step_along axis along beside v a) (places_of beside)) (taken directed along v)
 
--- the steps in the first coordinate from all pairs of x: for each arc taken of x, each y
-abbrev pub first_steps_at : GraphData → GraphData → Bool → ℕ → List Event
-first_steps_at g h directed x = flat_map (λ a. map (first_step (order_of h) x a) (places_of h)) (taken directed g x)
+-- all steps along an axis, for each v
+abbrev pub steps_along : Axis → GraphData → GraphData → Bool → List Event
+steps_along axis along beside directed = flat_map (steps_from axis along beside directed) (places_of along)
 
 -- the steps in both from (x, y): for each arc taken of x, each arc of y's whole list
 abbrev pub both_steps_at : GraphData → GraphData → Bool → ℕ → ℕ → List Event
@@ -60,13 +65,9 @@ both_steps_at g h directed x y = flat_map (λ a. map (both_step (order_of h) x y
 abbrev pub both_steps_of_row : GraphData → GraphData → Bool → ℕ → List Event
 both_steps_of_row g h directed x = flat_map (both_steps_at g h directed x) (places_of h)
 
--- the events that step in the second coordinate, for each y
-abbrev pub second_steps : GraphData → GraphData → Bool → List Event
-second_steps g h directed = flat_map (second_steps_at g h directed) (places_of h)
-
--- those that step in the first, for each x
-abbrev pub first_steps : GraphData → GraphData → Bool → List Event
-first_steps g h directed = flat_map (first_steps_at g h directed) (places_of g)
+-- the steps in the second coordinate, and then those in the first
+abbrev pub single_steps : GraphData → GraphData → Bool → List Event
+single_steps g h directed = steps_along Second h g directed ++ steps_along First g h directed
 
 -- those that step in both, for each pair
 abbrev pub both_steps : GraphData → GraphData → Bool → List Event
@@ -75,9 +76,9 @@ both_steps g h directed = flat_map (both_steps_of_row g h directed) (places_of g
 -- the cartesian product steps in one coordinate, the direct one in both; the strong one has the events of
 -- the cartesian one and then those of the direct one
 abbrev pub product_events : ProductType → GraphData → GraphData → Bool → List Event
-product_events Cartesian g h directed = second_steps g h directed ++ first_steps g h directed
+product_events Cartesian g h directed = single_steps g h directed
 product_events Direct g h directed = both_steps g h directed
-product_events Strong g h directed = second_steps g h directed ++ first_steps g h directed ++ both_steps g h directed
+product_events Strong g h directed = single_steps g h directed ++ both_steps g h directed
 
 -- the names of the pairs
 abbrev pub names_of_pairs : GraphData → GraphData → List (List ℕ)

@@ -66,7 +66,8 @@ impl Wanted {
     fn add_arcs(self, alloc: Global, graph: &Graph, built: &mut Graph) -> Result<(), Panic>
         requires vertices { length built.old.vertices ≡ length graph.now.vertices }
         requires plain { HasPlainArcs built.old }
-        ensures ok { OnOk result (AddsEvents self.directed built.old built.new (complement_events graph.now self.copy self.self_loops self.directed)) }
+        ensures ok { OnOk result (AddsEvents self.directed built.old built.new
+            (complement_events graph.now self.copy self.self_loops self.directed)) }
         ensures memory { IsOkUnless result Panic.NoRoom }
     {
         // For each vertex w the last u + 1 so far where u has an arc to w, or 0.
@@ -91,8 +92,10 @@ impl Wanted {
         requires vertices { length built.old.vertices ≡ length graph.now.vertices }
         requires plain { HasPlainArcs built.old }
         requires marks { length marks.now ≡ length graph.now.vertices }
-        requires marked { (w : ℕ) → w < length graph.now.vertices → (slice_index marks.now w == u + 1) ≡ has_arc graph.now u w }
-        ensures ok { OnOk result (AddsEvents self.directed built.old built.new (complement_events_from graph.now self.copy self.self_loops self.directed u)) }
+        requires marked { (w : ℕ) → w < length graph.now.vertices
+            → (slice_index marks.now w == u + 1) ≡ has_arc graph.now u w }
+        ensures ok { OnOk result (AddsEvents self.directed built.old built.new
+            (complement_events_from graph.now self.copy self.self_loops self.directed u)) }
         ensures memory { IsOkUnless result Panic.NoRoom }
     {
         for w in 0..graph.n() {
@@ -107,7 +110,8 @@ impl Wanted {
         requires to { w < length built.old.vertices }
         requires plain { HasPlainArcs built.old }
         ensures ok { OnOk result (AddsEvents self.directed built.old built.new
-            (if is_wanted_where has_arc self.copy self.self_loops self.directed u w then record { from = u; to = w; len = pos 1 } ∷ [] else [])) }
+            (if is_wanted_where has_arc self.copy self.self_loops self.directed u w then record
+            { from = u; to = w; len = pos 1 } ∷ [] else [])) }
         ensures memory { IsOkUnless result Panic.NoRoom }
     {
         if self.has(u, w, has_arc) {
@@ -128,7 +132,8 @@ impl Wanted {
 fn mark_tips(marks: &mut [u32], graph: &Graph, u: u32, mark: u32)
     requires vertex { u < length graph.now.vertices }
     requires marks { length marks.old ≡ length graph.now.vertices }
-    ensures { (w : ℕ) → w < length graph.now.vertices → slice_index marks.new w ≡ (if has_arc graph.now u w then mark else slice_index marks.old w) }
+    ensures { (w : ℕ) → w < length graph.now.vertices → slice_index marks.new w
+        ≡ (if has_arc graph.now u w then mark else slice_index marks.old w) }
 {
     for link in graph.arcs(u) {
         marks[link.tip as usize] = mark;

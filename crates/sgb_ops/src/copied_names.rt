@@ -88,7 +88,8 @@ fn push_copies(alloc: Global, names: &mut Names, name: &Text, entry: &Entry) -> 
 
 // Appends the names of so many copies: one has the name, the second of two a prime too, three or more have numbers.
 fn push_counted(alloc: Global, names: &mut Names, name: &Text, count: u32) -> Result<(), Panic>
-    ensures ok { OnOk result (names.new ≡ names.old ++ names_of_copies name.now (entry.Copies count)) }
+    ensures ok { OnOk result (names.new ≡ names.old
+        ++ names_of_copies name.now (entry.Copies count)) }
     ensures memory { IsOkUnless result Panic.NoRoom }
 {
     if count > 2 {
@@ -116,7 +117,8 @@ fn push_name(names: &mut Names, name: Text) -> Result<(), Panic>
 
 // Appends the name with `:0`, `:1` and so on, so many times.
 fn push_numbered(alloc: Global, names: &mut Names, name: &Text, count: u32) -> Result<(), Panic>
-    ensures ok { OnOk result (names.new ≡ names.old ++ map (numbered_name name.now) (range_with_len 0 count)) }
+    ensures ok { OnOk result (names.new ≡ names.old
+        ++ map (numbered_name name.now) (range_with_len 0 count)) }
     ensures memory { IsOkUnless result Panic.NoRoom }
 {
     for k in 0..count {
@@ -141,7 +143,8 @@ fn push_substituted(
     name: &Text,
     inner: &Graph,
 ) -> Result<(), Panic>
-    ensures ok { OnOk result (names.new ≡ names.old ++ map (substituted_name name.now) (names_of inner.now)) }
+    ensures ok { OnOk result (names.new ≡ names.old
+        ++ map (substituted_name name.now) (names_of inner.now)) }
     ensures memory { IsOkUnless result Panic.NoRoom }
 {
     for w in 0..inner.n() {

@@ -2,7 +2,7 @@
 ghost use Rattle.std.specs.Prelude.{◌≡◌, ◌≤◌, ◌<◌, ◌+◌, ◌*◌, ◌^◌, false, Ok, Err, length, All, OnOk, IfOk, IfErr, IsOkUnless};
 ghost use Rattle.sgb_vec.specs.Limits.{most_vertices};
 ghost use Rattle.std.specs.List.{list_any};
-ghost use Rattle.sgb_ops.specs.Copies.{IsKeptEntry, copies_end, copies_start, first_copies};
+ghost use Rattle.sgb_ops.specs.inner.Copies.{IsKeptEntry, copies_end, copies_start, first_copies};
 ghost use Rattle.sgb_ops.specs.Entries.{accepted_entries, first_copy, is_unnumbered, merged_count, merged_number, own_total, size_of_entry, total_of};
 
 use sgb_graph::Graph;
@@ -123,7 +123,7 @@ impl<'a> Model for Copies<'a> {
     ghost use Rattle.std.specs.Prelude.{◌≡◌, ◌≤◌, List};
     ghost use Rattle.sgb_vec.specs.Limits.{most_vertices};
     ghost use Rattle.sgb_ops.specs.declared.entries.Entry.{Entry};
-    ghost use Rattle.sgb_ops.specs.Copies.{first_copies};
+    ghost use Rattle.sgb_ops.specs.inner.Copies.{first_copies};
     ghost use Rattle.sgb_ops.specs.Entries.{total_of};
 
     ghost Value = { List Entry };

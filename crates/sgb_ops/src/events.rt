@@ -4,7 +4,7 @@ ghost use Rattle.sgb_vec.specs.Limits.{most_vertices};
 ghost use Rattle.sgb_graph.specs.Descriptions.{IsGraphOf};
 ghost use Rattle.sgb_graph.specs.Growth.{AddsEvents, HasPlainArcs};
 ghost use Rattle.sgb_graph.specs.Made.{plain};
-ghost use Rattle.sgb_ops.specs.Ends.{AllWithin, bit_place, ends_key, shortened};
+ghost use Rattle.sgb_ops.specs.inner.Ends.{AllWithin, bit_place, ends_key, shortened};
 
 use sgb_graph::{Graph, Id, Names};
 use sgb_vec::Panic;

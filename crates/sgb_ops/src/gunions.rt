@@ -3,7 +3,7 @@ ghost use Rattle.std.specs.Prelude.{◌≡◌, ◌<◌, ◌++◌, [], ◌∷◌,
 ghost use Rattle.sgb_graph.specs.Descriptions.{IsAnswerOf};
 ghost use Rattle.sgb_graph.specs.declared.fields.Link.{Link};
 ghost use Rattle.sgb_graph.specs.Growth.{AddsEvents, HasPlainArcs};
-ghost use Rattle.sgb_ops.specs.Ends.{event_of};
+ghost use Rattle.sgb_ops.specs.inner.Ends.{event_of};
 ghost use Rattle.sgb_ops.specs.Gunion.{gunion_id, gunion_of, union_arcs, union_events};
 ghost use Rattle.sgb_ops.specs.Merged.{merged_unless};
 ghost use Rattle.sgb_ops.specs.Taken.{taken};
@@ -60,7 +60,8 @@ fn add_union_events(
 ) -> Result<(), Panic>
     requires size { length built.old.vertices ≡ length first.now.vertices }
     requires plain { HasPlainArcs built.old }
-    ensures ok { OnOk result (AddsEvents directed built.old built.new (merged_unless multi directed (union_events first.now second.now directed))) }
+    ensures ok { OnOk result (AddsEvents directed built.old built.new
+        (merged_unless multi directed (union_events first.now second.now directed))) }
     ensures memory { IsOkUnless result Panic.NoRoom }
 {
     // The events of each vertex take the memory of those of the vertex before.
@@ -85,7 +86,8 @@ fn events_from(
     v: u32,
 ) -> Result<Vec<Event>, Panic>
     requires vertex { v < length first.now.vertices }
-    ensures ok { IfOk result (λ events. events.items ≡ map (event_of v) (union_arcs first.now second.now directed v)) }
+    ensures ok { IfOk result (λ events. events.items
+        ≡ map (event_of v) (union_arcs first.now second.now directed v)) }
     ensures memory { IsOkUnless result Panic.NoRoom }
 {
     events.clear();
@@ -106,7 +108,8 @@ fn push_taken(
     n: u32,
 ) -> Result<(), Panic>
     requires vertex { v < length graph.now.vertices }
-    ensures ok { OnOk result (events.new.items ≡ events.old.items ++ map (event_of v) (filter (λ l. nat_lt l.tip n) (taken directed graph.now v))) }
+    ensures ok { OnOk result (events.new.items ≡ events.old.items
+        ++ map (event_of v) (filter (λ l. nat_lt l.tip n) (taken directed graph.now v))) }
     ensures memory { IsOkUnless result Panic.NoRoom }
 {
     for link in taken(graph, directed, v) {
@@ -117,7 +120,8 @@ fn push_taken(
 
 // Appends the event of this arc of `v`, where its tip is below `n`.
 fn push_arc(events: &mut Vec<Event>, v: u32, link: Link, n: u32) -> Result<(), Panic>
-    ensures ok { OnOk result (events.new.items ≡ events.old.items ++ (if nat_lt link.tip n then event_of v link ∷ [] else [])) }
+    ensures ok { OnOk result (events.new.items ≡ events.old.items
+        ++ (if nat_lt link.tip n then event_of v link ∷ [] else [])) }
     ensures memory { IsOkUnless result Panic.NoRoom }
 {
     if link.tip < n {

@@ -1,9 +1,8 @@
 //! The events of an induced graph (GB_BASIC, induced).
 ghost use Rattle.std.specs.Prelude.{◌≡◌, ◌<◌, ◌≤◌, ◌+◌, ◌++◌, ◌==◌, [], ◌∷◌, length, map, filter, flat_map, nat_lt, All, OnOk, IfOk, IsOkUnless, if◌then◌else◌};
 ghost use Rattle.sgb_vec.specs.Limits.{most_vertices};
-ghost use Rattle.sgb_graph.specs.Growth.{IsKept};
 ghost use Rattle.sgb_ops.specs.declared.entries.Entry.TheVariants as entry;
-ghost use Rattle.sgb_ops.specs.Copies.{leads_to_copies};
+ghost use Rattle.sgb_ops.specs.inner.Copies.{leads_to_copies};
 ghost use Rattle.sgb_ops.specs.Entries.{events_within, inner_events, inner_events_from, size_of_entry, total_of};
 ghost use Rattle.sgb_ops.specs.Induced.{all_events, event_between, events_between, events_of_arc, events_of_copies, is_met, wanted};
 ghost use Rattle.sgb_ops.specs.Taken.{taken};
@@ -33,7 +32,8 @@ pub(crate) fn all_events(
     flags: Flags,
 ) -> Result<Vec<Event>, Panic>
     requires { length copies.now ≡ length graph.now.vertices }
-    ensures ok { IfOk result (λ events. events.items ≡ wanted flags.self_loops (all_events graph.now copies.now flags.directed)) }
+    ensures ok { IfOk result (λ events. events.items
+        ≡ wanted flags.self_loops (all_events graph.now copies.now flags.directed)) }
     ensures memory { IsOkUnless result Panic.NoRoom }
 {
     let mut events = Vec::new(alloc);
@@ -50,7 +50,8 @@ fn push_events_within(
     flags: Flags,
 ) -> Result<(), Panic>
     requires { length copies.now ≡ n }
-    ensures ok { OnOk result (events.new.items ≡ events.old.items ++ wanted flags.self_loops (events_within copies.now flags.directed)) }
+    ensures ok { OnOk result (events.new.items ≡ events.old.items
+        ++ wanted flags.self_loops (events_within copies.now flags.directed)) }
     ensures memory { IsOkUnless result Panic.NoRoom }
 {
     let entries = copies.entries();
@@ -68,7 +69,8 @@ fn push_inner_events(
     flags: Flags,
 ) -> Result<(), Panic>
     requires { start + size_of_entry entry.now ≤ most_vertices }
-    ensures ok { OnOk result (events.new.items ≡ events.old.items ++ wanted flags.self_loops (inner_events flags.directed start entry.now)) }
+    ensures ok { OnOk result (events.new.items ≡ events.old.items
+        ++ wanted flags.self_loops (inner_events flags.directed start entry.now)) }
     ensures memory { IsOkUnless result Panic.NoRoom }
 {
     match entry {
@@ -80,7 +82,8 @@ fn push_inner_events(
 // Appends the events of a graph whose first vertex is `start`.
 fn push_graph(events: &mut Vec<Event>, inner: &Graph, start: u32, flags: Flags) -> Result<(), Panic>
     requires { start + length inner.now.vertices ≤ most_vertices }
-    ensures ok { OnOk result (events.new.items ≡ events.old.items ++ wanted flags.self_loops (inner_events flags.directed start (entry.Graph inner.now))) }
+    ensures ok { OnOk result (events.new.items ≡ events.old.items
+        ++ wanted flags.self_loops (inner_events flags.directed start (entry.Graph inner.now))) }
     ensures memory { IsOkUnless result Panic.NoRoom }
 {
     for w in 0..inner.n() {
@@ -99,9 +102,9 @@ fn push_inner_arcs(
     w: u32,
 ) -> Result<(), Panic>
     requires few { start + length inner.now.vertices ≤ most_vertices }
-    requires kept { IsKept inner.now }
     requires vertex { w < length inner.now.vertices }
-    ensures ok { OnOk result (events.new.items ≡ events.old.items ++ wanted flags.self_loops (inner_events_from flags.directed start inner.now w)) }
+    ensures ok { OnOk result (events.new.items ≡ events.old.items
+        ++ wanted flags.self_loops (inner_events_from flags.directed start inner.now w)) }
     ensures memory { IsOkUnless result Panic.NoRoom }
 {
     for arc in taken(inner, flags.directed, w) {
@@ -113,7 +116,8 @@ fn push_inner_arcs(
 
 // Appends the event, unless it is a loop and none is wanted.
 fn push_wanted(events: &mut Vec<Event>, event: Event, flags: Flags) -> Result<(), Panic>
-    ensures ok { OnOk result (events.new.items ≡ events.old.items ++ wanted flags.self_loops (event ∷ [])) }
+    ensures ok { OnOk result (events.new.items ≡ events.old.items
+        ++ wanted flags.self_loops (event ∷ [])) }
     ensures memory { IsOkUnless result Panic.NoRoom }
 {
     if flags.self_loops || !event.is_loop() {
@@ -131,7 +135,8 @@ fn push_events_between(
     flags: Flags,
 ) -> Result<(), Panic>
     requires { length copies.now ≡ length graph.now.vertices }
-    ensures ok { OnOk result (events.new.items ≡ events.old.items ++ wanted flags.self_loops (events_between graph.now copies.now flags.directed)) }
+    ensures ok { OnOk result (events.new.items ≡ events.old.items
+        ++ wanted flags.self_loops (events_between graph.now copies.now flags.directed)) }
     ensures memory { IsOkUnless result Panic.NoRoom }
 {
     for v in 0..graph.n() {
@@ -151,9 +156,9 @@ fn push_from_copies(
     v: u32,
 ) -> Result<(), Panic>
     requires count { length copies.now ≡ length graph.now.vertices }
-    requires kept { IsKept graph.now }
     requires vertex { v < length graph.now.vertices }
-    ensures ok { OnOk result (events.new.items ≡ events.old.items ++ wanted flags.self_loops (events_of_copies graph.now copies.now flags.directed v)) }
+    ensures ok { OnOk result (events.new.items ≡ events.old.items
+        ++ wanted flags.self_loops (events_of_copies graph.now copies.now flags.directed v)) }
     ensures memory { IsOkUnless result Panic.NoRoom }
 {
     let arcs = arcs_to_copies(alloc, graph, copies, flags.directed, v)?;
@@ -172,9 +177,9 @@ fn arcs_to_copies(
     v: u32,
 ) -> Result<Vec<Link>, Panic>
     requires count { length copies.now ≡ length graph.now.vertices }
-    requires kept { IsKept graph.now }
     requires vertex { v < length graph.now.vertices }
-    ensures ok { IfOk result (λ arcs. arcs.items ≡ filter (leads_to_copies copies.now) (taken directed graph.now v)) }
+    ensures ok { IfOk result (λ arcs. arcs.items
+        ≡ filter (leads_to_copies copies.now) (taken directed graph.now v)) }
     ensures tips { IfOk result (λ arcs. All (λ l. l.tip < length copies.now) arcs.items) }
     ensures memory { IsOkUnless result Panic.NoRoom }
 {
@@ -188,7 +193,8 @@ fn arcs_to_copies(
 // Appends the arc where it leads to a vertex with copies.
 fn push_arc_to_copies(arcs: &mut Vec<Link>, copies: &Copies<'_>, arc: Link) -> Result<(), Panic>
     requires { arc.tip < length copies.now }
-    ensures ok { OnOk result (arcs.new.items ≡ arcs.old.items ++ (if leads_to_copies copies.now arc then arc ∷ [] else [])) }
+    ensures ok { OnOk result (arcs.new.items ≡ arcs.old.items
+        ++ (if leads_to_copies copies.now arc then arc ∷ [] else [])) }
     ensures memory { IsOkUnless result Panic.NoRoom }
 {
     if copies.start(arc.tip) < copies.end(arc.tip) {
@@ -207,7 +213,9 @@ fn push_from_copy(
     u: u32,
 ) -> Result<(), Panic>
     requires { All (λ l. l.tip < length copies.now) arcs.now }
-    ensures ok { OnOk result (events.new.items ≡ events.old.items ++ wanted flags.self_loops (flat_map (events_of_arc copies.now flags.directed v u) arcs.now)) }
+    ensures ok { OnOk result (events.new.items ≡ events.old.items
+        ++ wanted flags.self_loops (flat_map (events_of_arc copies.now flags.directed v u)
+        arcs.now)) }
     ensures memory { IsOkUnless result Panic.NoRoom }
 {
     for arc in arcs {
@@ -226,7 +234,8 @@ fn push_to_copies(
     u: u32,
 ) -> Result<(), Panic>
     requires { arc.tip < length copies.now }
-    ensures ok { OnOk result (events.new.items ≡ events.old.items ++ wanted flags.self_loops (events_of_arc copies.now flags.directed v u arc)) }
+    ensures ok { OnOk result (events.new.items ≡ events.old.items
+        ++ wanted flags.self_loops (events_of_arc copies.now flags.directed v u arc)) }
     ensures memory { IsOkUnless result Panic.NoRoom }
 {
     for t in copies.start(arc.tip)..copies.end(arc.tip) {
@@ -244,7 +253,9 @@ fn push_met(
     u: u32,
     t: u32,
 ) -> Result<(), Panic>
-    ensures ok { OnOk result (events.new.items ≡ events.old.items ++ wanted flags.self_loops (map (event_between u arc.len) (filter (is_met flags.directed v u arc.tip) (t ∷ [])))) }
+    ensures ok { OnOk result (events.new.items ≡ events.old.items
+        ++ wanted flags.self_loops (map (event_between u arc.len)
+        (filter (is_met flags.directed v u arc.tip) (t ∷ [])))) }
     ensures memory { IsOkUnless result Panic.NoRoom }
 {
     // A loop of an undirected graph joins each two copies once.

@@ -2,10 +2,10 @@
 ghost use Rattle.std.specs.Prelude.{◌≡◌, ◌<◌, ◌++◌, ℕ, length, nat_eq, OnOk, IfOk, IsOkUnless, if◌then◌else◌, ◌==◌};
 ghost use Rattle.indexmap.specs.IndexMap.{get};
 ghost use Rattle.sgb_graph.specs.Descriptions.{IsAnswerOf};
-ghost use Rattle.sgb_ops.specs.Ends.{AllWithin};
+ghost use Rattle.sgb_ops.specs.inner.Ends.{AllWithin};
 ghost use Rattle.sgb_ops.specs.Intersection.{common_events, intersection_events, intersection_id, intersection_of};
 ghost use Rattle.sgb_ops.specs.Taken.{taken};
-ghost use Rattle.sgb_ops.specs.Tallies.{event_left, one_less, second_length, without_one};
+ghost use Rattle.sgb_ops.specs.inner.Tallies.{event_left, one_less, second_length, without_one};
 
 use crate::events::{Event, graph_of};
 use crate::operands::names_of;
@@ -55,7 +55,8 @@ fn common_arcs(
     multi: bool,
     directed: bool,
 ) -> Result<Vec<Event>, Panic>
-    ensures ok { IfOk result (λ events. events.items ≡ intersection_events first.now second.now multi directed) }
+    ensures ok { IfOk result (λ events. events.items
+        ≡ intersection_events first.now second.now multi directed) }
     ensures within { IfOk result (λ events. AllWithin (length first.now.vertices) events.items) }
     ensures memory { IsOkUnless result Panic.NoRoom }
 {
@@ -92,7 +93,8 @@ fn push_common(
     ours: &[Link],
     theirs: &[Link],
 ) -> Result<(), Panic>
-    ensures ok { OnOk result (events.new.items ≡ events.old.items ++ common_events multi v ours.now theirs.now) }
+    ensures ok { OnOk result (events.new.items ≡ events.old.items
+        ++ common_events multi v ours.now theirs.now) }
     ensures memory { IsOkUnless result Panic.NoRoom }
 {
     let mut left = tallies(alloc, ours)?;
@@ -127,8 +129,11 @@ fn push_if_left(
     arc: Link,
     len: i64,
 ) -> Result<(), Panic>
-    ensures ok { OnOk result (events.new.items ≡ events.old.items ++ event_left v arc.tip len (get nat_eq left.old arc.tip)) }
-    ensures left { OnOk result ((u : ℕ) → get nat_eq left.new u ≡ (if arc.tip == u then without_one multi (get nat_eq left.old u) else get nat_eq left.old u)) }
+    ensures ok { OnOk result (events.new.items ≡ events.old.items
+        ++ event_left v arc.tip len (get nat_eq left.old arc.tip)) }
+    ensures left { OnOk result ((u : ℕ) → get nat_eq left.new u
+        ≡ (if arc.tip == u then without_one multi (get nat_eq left.old u) else get nat_eq left.old
+        u)) }
     ensures memory { IsOkUnless result Panic.NoRoom }
 {
     let Some(tally) = left.get(&arc.tip).copied() else {

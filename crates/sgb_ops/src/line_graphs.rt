@@ -4,9 +4,10 @@ ghost use Rattle.std.specs.List.{list_all};
 ghost use Rattle.sgb_vec.specs.Limits.{most_vertices};
 ghost use Rattle.sgb_graph.specs.Descriptions.{IsAnswerOf, IsGraphOf};
 ghost use Rattle.sgb_graph.specs.Made.{plain};
-ghost use Rattle.sgb_ops.specs.Ends.{AllWithin};
-ghost use Rattle.sgb_ops.specs.Lines.{LineWithin, accepted_lines, has_way_back, is_of_edges, line_events, line_graph_of, line_of, lines_id, lines_of_graph, names_of_lines, points_to};
-ghost use Rattle.sgb_ops.specs.LineLists.{FallFrom, counts, events_to_listed, list_at, touches, touching};
+ghost use Rattle.sgb_ops.specs.inner.Ends.{AllWithin};
+ghost use Rattle.sgb_ops.specs.Lines.{accepted_lines, has_way_back, is_of_edges, line_events, line_graph_of, line_of, lines_id, lines_of_graph, names_of_lines, points_to};
+ghost use Rattle.sgb_ops.specs.inner.Lines.{LineWithin};
+ghost use Rattle.sgb_ops.specs.inner.LineLists.{FallFrom, counts, events_to_listed, list_at, touches, touching};
 ghost use Rattle.sgb_ops.specs.Operands.{name_at};
 ghost use Rattle.sgb_ops.specs.Taken.{taken};
 ghost use Rattle.sgb_ops.specs.Titles.{line_name, line_sign};
@@ -58,7 +59,9 @@ fn graph_of_lines(
     requires few { length lines.now ≤ most_vertices }
     requires within { All (LineWithin (length graph.now.vertices)) lines.now }
     requires falling { directed ≡ false → FallFrom (length graph.now.vertices) lines.now }
-    ensures ok { IfOk result (λ g. IsGraphOf (plain directed (line_events directed lines.now) (names_of_lines graph.now directed lines.now) (lines_id graph.now.id directed)) g) }
+    ensures ok { IfOk result (λ g. IsGraphOf
+        (plain directed (line_events directed lines.now)
+        (names_of_lines graph.now directed lines.now) (lines_id graph.now.id directed)) g) }
     ensures memory { IsOkUnless result Panic.NoRoom }
 {
     let events = line_events(alloc, graph.n(), directed, lines)?;
@@ -76,8 +79,10 @@ fn title(id: &Id, directed: bool) -> Id
 // The lines, from the last vertex down.
 fn lines_of_graph(alloc: Global, graph: &Graph, directed: bool) -> Result<Vec<Line>, Panic>
     ensures ok { IfOk result (λ lines. lines.items ≡ lines_of_graph graph.now directed) }
-    ensures within { IfOk result (λ lines. All (LineWithin (length graph.now.vertices)) lines.items) }
-    ensures falling { directed ≡ false → IfOk result (λ lines. FallFrom (length graph.now.vertices) lines.items) }
+    ensures within { IfOk result (λ lines. All (LineWithin (length graph.now.vertices))
+        lines.items) }
+    ensures falling { directed ≡ false
+        → IfOk result (λ lines. FallFrom (length graph.now.vertices) lines.items) }
     ensures memory { IsOkUnless result Panic.NoRoom }
 {
     let mut lines = Vec::new(alloc);
@@ -90,7 +95,8 @@ fn lines_of_graph(alloc: Global, graph: &Graph, directed: bool) -> Result<Vec<Li
 // Appends the lines that begin at `v`.
 fn push_lines(lines: &mut Vec<Line>, graph: &Graph, directed: bool, v: u32) -> Result<(), Panic>
     requires vertex { v < length graph.now.vertices }
-    ensures ok { OnOk result (lines.new.items ≡ lines.old.items ++ map (line_of v) (taken directed graph.now v)) }
+    ensures ok { OnOk result (lines.new.items ≡ lines.old.items
+        ++ map (line_of v) (taken directed graph.now v)) }
     ensures memory { IsOkUnless result Panic.NoRoom }
 {
     for link in taken(graph, directed, v) {
@@ -145,7 +151,8 @@ impl Line {
     // The line's name, made of the names of its ends.
     fn name(self, alloc: Global, graph: &Graph, directed: bool) -> Result<Text, Panic>
         requires { LineWithin (length graph.now.vertices) self }
-        ensures ok { IfOk result (λ name. name ≡ line_name directed (name_at graph.now self.from) (name_at graph.now self.to)) }
+        ensures ok { IfOk result (λ name. name
+            ≡ line_name directed (name_at graph.now self.from) (name_at graph.now self.to)) }
         ensures memory { IsOkUnless result Panic.NoRoom }
     {
         let start = graph.name(self.from);
@@ -228,7 +235,8 @@ fn push_events(
     requires within { LineWithin (length lists.now) line }
     ensures ok { OnOk result (events.new.items ≡ events.old.items
         ++ (if directed then events_to_listed false false i line (list_at lists.now line.to)
-        else events_to_listed true true i line (list_at lists.now line.to) ++ events_to_listed true false i line (list_at lists.now line.from))) }
+        else events_to_listed true true i line (list_at lists.now line.to)
+        ++ events_to_listed true false i line (list_at lists.now line.from))) }
     ensures memory { IsOkUnless result Panic.NoRoom }
 {
     let at_end = &lists[line.to as usize];
@@ -248,7 +256,8 @@ fn push_listed(
     line: Line,
     list: &[(u32, Line)],
 ) -> Result<(), Panic>
-    ensures ok { OnOk result (events.new.items ≡ events.old.items ++ events_to_listed earlier elsewhere i line list.now) }
+    ensures ok { OnOk result (events.new.items ≡ events.old.items
+        ++ events_to_listed earlier elsewhere i line list.now) }
     ensures memory { IsOkUnless result Panic.NoRoom }
 {
     for other in list {
@@ -274,7 +283,8 @@ fn line_lists(
 ) -> Result<Vec<Vec<(u32, Line)>>, Panic>
     requires few { length lines.now ≤ most_vertices }
     requires within { All (LineWithin n) lines.now }
-    ensures ok { IfOk result (λ lists. (w : ℕ) → list_at lists.items w ≡ touching directed w 0 lines.now) }
+    ensures ok { IfOk result (λ lists. (w : ℕ) → list_at lists.items w
+        ≡ touching directed w 0 lines.now) }
     ensures size { IfOk result (λ lists. length lists.items ≡ n) }
     ensures memory { IsOkUnless result Panic.NoRoom }
 {
@@ -305,7 +315,8 @@ fn push_line(
     line: (u32, Line),
 ) -> Result<(), Panic>
     requires within { LineWithin (length lists.old.items) line.1 }
-    ensures ok { OnOk result ((w : ℕ) → list_at lists.new.items w ≡ list_at lists.old.items w ++ (if touches directed w line.1 then line ∷ [] else [])) }
+    ensures ok { OnOk result ((w : ℕ) → list_at lists.new.items w ≡ list_at lists.old.items w
+        ++ (if touches directed w line.1 then line ∷ [] else [])) }
     ensures size { OnOk result (length lists.new.items ≡ length lists.old.items) }
     ensures memory { IsOkUnless result Panic.NoRoom }
 {
@@ -319,7 +330,8 @@ fn push_line(
 // Appends the line to list number `w`.
 fn push_at(lists: &mut Vec<Vec<(u32, Line)>>, w: u32, line: (u32, Line)) -> Result<(), Panic>
     requires { w < length lists.old.items }
-    ensures ok { OnOk result ((u : ℕ) → list_at lists.new.items u ≡ list_at lists.old.items u ++ (if w == u then line ∷ [] else [])) }
+    ensures ok { OnOk result ((u : ℕ) → list_at lists.new.items u ≡ list_at lists.old.items u
+        ++ (if w == u then line ∷ [] else [])) }
     ensures size { OnOk result (length lists.new.items ≡ length lists.old.items) }
     ensures memory { IsOkUnless result Panic.NoRoom }
 {
@@ -329,7 +341,8 @@ fn push_at(lists: &mut Vec<Vec<(u32, Line)>>, w: u32, line: (u32, Line)) -> Resu
 
 // Appends the event from line number `i` to line number `j`, where they meet.
 fn push_event_if(events: &mut Vec<Event>, meet: bool, i: u32, j: u32) -> Result<(), Panic>
-    ensures ok { OnOk result (events.new.items ≡ events.old.items ++ (if meet then record { from = i; to = j; len = pos 1 } ∷ [] else [])) }
+    ensures ok { OnOk result (events.new.items ≡ events.old.items
+        ++ (if meet then record { from = i; to = j; len = pos 1 } ∷ [] else [])) }
     ensures memory { IsOkUnless result Panic.NoRoom }
 {
     if meet {

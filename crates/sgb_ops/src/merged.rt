@@ -1,8 +1,9 @@
 //! Events with the same two ends made into one (GB_BASIC, gunion).
 ghost use Rattle.std.specs.Prelude.{◌≡◌, map, OnOk, IfOk, IsOkUnless};
 ghost use Rattle.std.specs.Bool.{OnTrue};
-ghost use Rattle.sgb_ops.specs.Ends.{ends_key, with_event};
-ghost use Rattle.sgb_ops.specs.Merged.{HaveDifferentEnds, merged, merged_unless};
+ghost use Rattle.sgb_ops.specs.inner.Ends.{ends_key, with_event};
+ghost use Rattle.sgb_ops.specs.Merged.{merged, merged_unless};
+ghost use Rattle.sgb_ops.specs.inner.Merged.{HaveDifferentEnds};
 
 use crate::events::Event;
 use indexmap::IndexSet;

@@ -1,15 +1,14 @@
 //! The products of two graphs, on the pairs of their vertices (GB_BASIC, product).
-ghost use Rattle.std.specs.Prelude.{◌≡◌, ◌<◌, ◌≤◌, ◌+◌, ◌*◌, ◌++◌, [], ◌∷◌, decimal, map, length, OnOk, IfOk, IsOkUnless};
-ghost use Rattle.std.specs.List.{range_with_len};
+ghost use Rattle.std.specs.Prelude.{◌≡◌, ◌<◌, ◌≤◌, ◌*◌, ◌++◌, [], ◌∷◌, decimal, map, OnOk, IfOk, IsOkUnless};
 ghost use Rattle.sgb_vec.specs.Limits.{most_vertices};
 ghost use Rattle.sgb_graph.specs.Descriptions.{IsAnswerOf};
 ghost use Rattle.sgb_graph.specs.Graphs.{chain_of};
-ghost use Rattle.sgb_graph.specs.Growth.{AddsEvents, HasPlainArcs, IsKept};
+ghost use Rattle.sgb_graph.specs.Growth.{AddsEvents};
 ghost use Rattle.sgb_ops.specs.Lengths.{lesser};
-ghost use Rattle.sgb_ops.specs.Operands.{names_of};
-ghost use Rattle.sgb_ops.specs.Product.{both_step, both_steps, both_steps_at, both_steps_of_row, first_step, first_steps_at, first_steps, names_of_pairs, pair_place, product_events, product_graph_of, product_id, product_type, second_step, second_steps, second_steps_at, type_number};
-ghost use Rattle.sgb_ops.specs.Taken.{taken};
+ghost use Rattle.sgb_ops.specs.Operands.{names_of, order_of, places_of};
+ghost use Rattle.sgb_ops.specs.Product.{both_step, both_steps, both_steps_at, both_steps_of_row, names_of_pairs, place_along, product_events, product_graph_of, product_id, product_type, single_steps, step_along, steps_along, steps_from, type_number};
 ghost use Rattle.sgb_ops.specs.Titles.{pair_name};
+ghost use Rattle.sgb_ops.specs.inner.Pairs.{HasRoomForPairs};
 
 use crate::taken::taken;
 use crate::titles::{flag_byte, joined_name};
@@ -99,10 +98,9 @@ impl ProductType {
         second: &Graph,
         directed: bool,
     ) -> Result<(), Panic>
-        requires few { length first.now.vertices * length second.now.vertices ≤ most_vertices }
-        requires vertices { length built.old.vertices ≡ length first.now.vertices * length second.now.vertices }
-        requires plain { HasPlainArcs built.old }
-        ensures ok { OnOk result (AddsEvents directed built.old built.new (product_events self first.now second.now directed)) }
+        requires room { HasRoomForPairs built.old first.now second.now }
+        ensures ok { OnOk result (AddsEvents directed built.old built.new
+            (product_events self first.now second.now directed)) }
         ensures memory { IsOkUnless result Panic.NoRoom }
     {
         match self {
@@ -116,34 +114,95 @@ impl ProductType {
     }
 }
 
-// The numbers of vertices of the two graphs.
+// Which vertex of a pair a step changes. Along the axis is the graph of that vertex, beside it the other one.
 #[derive(Clone, Copy)]
-struct Sizes {
-    first: u32,
-    second: u32,
+enum Axis {
+    First,
+    Second,
 }
 
-impl Sizes {
-    fn of(first: &Graph, second: &Graph) -> Sizes
-        ensures first { result.first ≡ length first.now.vertices }
-        ensures second { result.second ≡ length second.now.vertices }
-        ensures kept { IsKept first.now × IsKept second.now }
+impl Axis {
+    // The place of the pair of vertex `v` of the graph along the axis and `w` of that beside it: pairs stand in
+    // lexicographic order.
+    fn place(self, along: &Graph, beside: &Graph, v: u32, w: u32) -> u32
+        requires few { order_of along.now * order_of beside.now ≤ most_vertices }
+        requires v { v < order_of along.now }
+        requires w { w < order_of beside.now }
+        ensures value { result ≡ place_along self along.now beside.now v w }
+        ensures below { result < order_of along.now * order_of beside.now }
     {
-        Sizes {
-            first: first.n(),
-            second: second.n(),
+        match self {
+            Axis::First => v * beside.n() + w,
+            Axis::Second => w * along.n() + v,
         }
     }
 
-    // The place of the pair of x and y, in lexicographic order.
-    fn place(self, x: u32, y: u32) -> u32
-        requires few { self.first * self.second ≤ most_vertices }
-        requires x { x < self.first }
-        requires y { y < self.second }
-        ensures value { result ≡ pair_place self.second x y }
-        ensures below { result < self.first * self.second }
+    // Adds all steps along the axis.
+    fn add_steps(
+        self,
+        built: &mut Graph,
+        along: &Graph,
+        beside: &Graph,
+        directed: bool,
+    ) -> Result<(), Panic>
+        requires room { HasRoomForPairs built.old along.now beside.now }
+        ensures ok { OnOk result (AddsEvents directed built.old built.new
+            (steps_along self along.now beside.now directed)) }
+        ensures memory { IsOkUnless result Panic.NoRoom }
     {
-        x * self.second + y
+        for v in 0..along.n() {
+            self.add_steps_from(built, along, beside, directed, v)?;
+        }
+        Ok(())
+    }
+
+    // Adds those from the pairs of vertex `v`.
+    fn add_steps_from(
+        self,
+        built: &mut Graph,
+        along: &Graph,
+        beside: &Graph,
+        directed: bool,
+        v: u32,
+    ) -> Result<(), Panic>
+        requires room { HasRoomForPairs built.old along.now beside.now }
+        requires v { v < order_of along.now }
+        ensures ok { OnOk result (AddsEvents directed built.old built.new
+            (steps_from self along.now beside.now directed v)) }
+        ensures memory { IsOkUnless result Panic.NoRoom }
+    {
+        for arc in taken(along, directed, v) {
+            self.add_step(built, along, beside, directed, v, arc)?;
+        }
+        Ok(())
+    }
+
+    // Adds this arc of vertex `v` beside each vertex of the other graph.
+    fn add_step(
+        self,
+        built: &mut Graph,
+        along: &Graph,
+        beside: &Graph,
+        directed: bool,
+        v: u32,
+        arc: Link,
+    ) -> Result<(), Panic>
+        requires room { HasRoomForPairs built.old along.now beside.now }
+        requires v { v < order_of along.now }
+        requires tip { arc.tip < order_of along.now }
+        ensures ok { OnOk result (AddsEvents directed built.old built.new
+            (map (step_along self along.now beside.now v arc) (places_of beside.now))) }
+        ensures memory { IsOkUnless result Panic.NoRoom }
+    {
+        for w in 0..beside.n() {
+            built.add_event(
+                directed,
+                self.place(along, beside, v, w),
+                self.place(along, beside, arc.tip, w),
+                arc.len,
+            )?;
+        }
+        Ok(())
     }
 }
 
@@ -154,150 +213,13 @@ fn add_single_steps(
     second: &Graph,
     directed: bool,
 ) -> Result<(), Panic>
-    requires few { length first.now.vertices * length second.now.vertices ≤ most_vertices }
-    requires vertices { length built.old.vertices ≡ length first.now.vertices * length second.now.vertices }
-    requires plain { HasPlainArcs built.old }
-    ensures ok { OnOk result (AddsEvents directed built.old built.new (second_steps first.now second.now directed ++ first_steps first.now second.now directed)) }
+    requires room { HasRoomForPairs built.old first.now second.now }
+    ensures ok { OnOk result (AddsEvents directed built.old built.new
+        (single_steps first.now second.now directed)) }
     ensures memory { IsOkUnless result Panic.NoRoom }
 {
-    add_second_steps(built, first, second, directed)?;
-    add_first_steps(built, first, second, directed)?;
-    Ok(())
-}
-
-// Adds the steps in the second coordinate.
-fn add_second_steps(
-    built: &mut Graph,
-    first: &Graph,
-    second: &Graph,
-    directed: bool,
-) -> Result<(), Panic>
-    requires few { length first.now.vertices * length second.now.vertices ≤ most_vertices }
-    requires vertices { length built.old.vertices ≡ length first.now.vertices * length second.now.vertices }
-    requires plain { HasPlainArcs built.old }
-    ensures ok { OnOk result (AddsEvents directed built.old built.new (second_steps first.now second.now directed)) }
-    ensures memory { IsOkUnless result Panic.NoRoom }
-{
-    for y in 0..second.n() {
-        add_second_steps_at(built, first, second, directed, y)?;
-    }
-    Ok(())
-}
-
-// Adds those from the pairs of vertex `y`.
-fn add_second_steps_at(
-    built: &mut Graph,
-    first: &Graph,
-    second: &Graph,
-    directed: bool,
-    y: u32,
-) -> Result<(), Panic>
-    requires few { length first.now.vertices * length second.now.vertices ≤ most_vertices }
-    requires y { y < length second.now.vertices }
-    requires vertices { length built.old.vertices ≡ length first.now.vertices * length second.now.vertices }
-    requires plain { HasPlainArcs built.old }
-    ensures ok { OnOk result (AddsEvents directed built.old built.new (second_steps_at first.now second.now directed y)) }
-    ensures memory { IsOkUnless result Panic.NoRoom }
-{
-    let sizes = Sizes::of(first, second);
-    for arc in taken(second, directed, y) {
-        add_second_step(built, sizes, directed, y, arc)?;
-    }
-    Ok(())
-}
-
-// Adds this arc of vertex `y` beside each vertex of the first graph.
-fn add_second_step(
-    built: &mut Graph,
-    sizes: Sizes,
-    directed: bool,
-    y: u32,
-    arc: Link,
-) -> Result<(), Panic>
-    requires few { sizes.first * sizes.second ≤ most_vertices }
-    requires y { y < sizes.second }
-    requires tip { arc.tip < sizes.second }
-    requires vertices { length built.old.vertices ≡ sizes.first * sizes.second }
-    requires plain { HasPlainArcs built.old }
-    ensures ok { OnOk result (AddsEvents directed built.old built.new (map (second_step sizes.second y arc) (range_with_len 0 sizes.first))) }
-    ensures memory { IsOkUnless result Panic.NoRoom }
-{
-    for x in 0..sizes.first {
-        built.add_event(
-            directed,
-            sizes.place(x, y),
-            sizes.place(x, arc.tip),
-            arc.len,
-        )?;
-    }
-    Ok(())
-}
-
-// Adds the steps in the first coordinate.
-fn add_first_steps(
-    built: &mut Graph,
-    first: &Graph,
-    second: &Graph,
-    directed: bool,
-) -> Result<(), Panic>
-    requires few { length first.now.vertices * length second.now.vertices ≤ most_vertices }
-    requires vertices { length built.old.vertices ≡ length first.now.vertices * length second.now.vertices }
-    requires plain { HasPlainArcs built.old }
-    ensures ok { OnOk result (AddsEvents directed built.old built.new (first_steps first.now second.now directed)) }
-    ensures memory { IsOkUnless result Panic.NoRoom }
-{
-    for x in 0..first.n() {
-        add_first_steps_at(built, first, second, directed, x)?;
-    }
-    Ok(())
-}
-
-// Adds those from the pairs of vertex `x`.
-fn add_first_steps_at(
-    built: &mut Graph,
-    first: &Graph,
-    second: &Graph,
-    directed: bool,
-    x: u32,
-) -> Result<(), Panic>
-    requires few { length first.now.vertices * length second.now.vertices ≤ most_vertices }
-    requires x { x < length first.now.vertices }
-    requires vertices { length built.old.vertices ≡ length first.now.vertices * length second.now.vertices }
-    requires plain { HasPlainArcs built.old }
-    ensures ok { OnOk result (AddsEvents directed built.old built.new (first_steps_at first.now second.now directed x)) }
-    ensures memory { IsOkUnless result Panic.NoRoom }
-{
-    let sizes = Sizes::of(first, second);
-    for arc in taken(first, directed, x) {
-        add_first_step(built, sizes, directed, x, arc)?;
-    }
-    Ok(())
-}
-
-// Adds this arc of vertex `x` beside each vertex of the second graph.
-fn add_first_step(
-    built: &mut Graph,
-    sizes: Sizes,
-    directed: bool,
-    x: u32,
-    arc: Link,
-) -> Result<(), Panic>
-    requires few { sizes.first * sizes.second ≤ most_vertices }
-    requires x { x < sizes.first }
-    requires tip { arc.tip < sizes.first }
-    requires vertices { length built.old.vertices ≡ sizes.first * sizes.second }
-    requires plain { HasPlainArcs built.old }
-    ensures ok { OnOk result (AddsEvents directed built.old built.new (map (first_step sizes.second x arc) (range_with_len 0 sizes.second))) }
-    ensures memory { IsOkUnless result Panic.NoRoom }
-{
-    for y in 0..sizes.second {
-        built.add_event(
-            directed,
-            sizes.place(x, y),
-            sizes.place(arc.tip, y),
-            arc.len,
-        )?;
-    }
+    Axis::Second.add_steps(built, second, first, directed)?;
+    Axis::First.add_steps(built, first, second, directed)?;
     Ok(())
 }
 
@@ -308,10 +230,9 @@ fn add_both_steps(
     second: &Graph,
     directed: bool,
 ) -> Result<(), Panic>
-    requires few { length first.now.vertices * length second.now.vertices ≤ most_vertices }
-    requires vertices { length built.old.vertices ≡ length first.now.vertices * length second.now.vertices }
-    requires plain { HasPlainArcs built.old }
-    ensures ok { OnOk result (AddsEvents directed built.old built.new (both_steps first.now second.now directed)) }
+    requires room { HasRoomForPairs built.old first.now second.now }
+    ensures ok { OnOk result (AddsEvents directed built.old built.new
+        (both_steps first.now second.now directed)) }
     ensures memory { IsOkUnless result Panic.NoRoom }
 {
     for x in 0..first.n() {
@@ -328,11 +249,10 @@ fn add_both_steps_of_row(
     directed: bool,
     x: u32,
 ) -> Result<(), Panic>
-    requires few { length first.now.vertices * length second.now.vertices ≤ most_vertices }
-    requires x { x < length first.now.vertices }
-    requires vertices { length built.old.vertices ≡ length first.now.vertices * length second.now.vertices }
-    requires plain { HasPlainArcs built.old }
-    ensures ok { OnOk result (AddsEvents directed built.old built.new (both_steps_of_row first.now second.now directed x)) }
+    requires room { HasRoomForPairs built.old first.now second.now }
+    requires x { x < order_of first.now }
+    ensures ok { OnOk result (AddsEvents directed built.old built.new
+        (both_steps_of_row first.now second.now directed x)) }
     ensures memory { IsOkUnless result Panic.NoRoom }
 {
     for y in 0..second.n() {
@@ -350,17 +270,15 @@ fn add_both_steps_at(
     x: u32,
     y: u32,
 ) -> Result<(), Panic>
-    requires few { length first.now.vertices * length second.now.vertices ≤ most_vertices }
-    requires x { x < length first.now.vertices }
-    requires y { y < length second.now.vertices }
-    requires vertices { length built.old.vertices ≡ length first.now.vertices * length second.now.vertices }
-    requires plain { HasPlainArcs built.old }
-    ensures ok { OnOk result (AddsEvents directed built.old built.new (both_steps_at first.now second.now directed x y)) }
+    requires room { HasRoomForPairs built.old first.now second.now }
+    requires x { x < order_of first.now }
+    requires y { y < order_of second.now }
+    ensures ok { OnOk result (AddsEvents directed built.old built.new
+        (both_steps_at first.now second.now directed x y)) }
     ensures memory { IsOkUnless result Panic.NoRoom }
 {
-    let sizes = Sizes::of(first, second);
     for arc in taken(first, directed, x) {
-        add_both_step(built, sizes, second, directed, x, y, arc)?;
+        add_both_step(built, first, second, directed, x, y, arc)?;
     }
     Ok(())
 }
@@ -368,29 +286,27 @@ fn add_both_steps_at(
 // Adds this arc of vertex `x` together with each one of vertex `y`.
 fn add_both_step(
     built: &mut Graph,
-    sizes: Sizes,
+    first: &Graph,
     second: &Graph,
     directed: bool,
     x: u32,
     y: u32,
     arc: Link,
 ) -> Result<(), Panic>
-    requires few { sizes.first * sizes.second ≤ most_vertices }
-    requires second { sizes.second ≡ length second.now.vertices }
-    requires x { x < sizes.first }
-    requires y { y < sizes.second }
-    requires tip { arc.tip < sizes.first }
-    requires vertices { length built.old.vertices ≡ sizes.first * sizes.second }
-    requires plain { HasPlainArcs built.old }
-    ensures ok { OnOk result (AddsEvents directed built.old built.new (map (both_step sizes.second x y arc) (chain_of second.now y))) }
+    requires room { HasRoomForPairs built.old first.now second.now }
+    requires x { x < order_of first.now }
+    requires y { y < order_of second.now }
+    requires tip { arc.tip < order_of first.now }
+    ensures ok { OnOk result (AddsEvents directed built.old built.new
+        (map (both_step (order_of second.now) x y arc) (chain_of second.now y))) }
     ensures memory { IsOkUnless result Panic.NoRoom }
 {
-    let from = sizes.place(x, y);
+    let from = Axis::First.place(first, second, x, y);
     for other in second.arcs(y) {
         built.add_event(
             directed,
             from,
-            sizes.place(arc.tip, other.tip),
+            Axis::First.place(first, second, arc.tip, other.tip),
             lesser(arc.len, other.len),
         )?;
     }
@@ -426,7 +342,8 @@ fn push_names_with(
     first: &Text,
     second: &Graph,
 ) -> Result<(), Panic>
-    ensures ok { OnOk result (names.new ≡ names.old ++ map (pair_name first.now) (names_of second.now)) }
+    ensures ok { OnOk result (names.new ≡ names.old
+        ++ map (pair_name first.now) (names_of second.now)) }
     ensures memory { IsOkUnless result Panic.NoRoom }
 {
     for y in 0..second.n() {

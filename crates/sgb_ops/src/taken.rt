@@ -1,9 +1,9 @@
 //! The arcs that are taken of a vertex's list, so that each edge of an undirected graph is met once (GB_BASIC, gunion).
-ghost use Rattle.std.specs.Prelude.{◌≡◌, ◌+◌, ◌<◌, ◌==◌, false, length};
+ghost use Rattle.std.specs.Prelude.{◌≡◌, ◌+◌, ◌<◌, ◌==◌, All, false, length};
 ghost use Rattle.std.specs.Iterator.{YieldsFirst, item_count};
 ghost use Rattle.std.specs.Option.{option_map_or};
 ghost use Rattle.sgb_ops.specs.Taken.{taken};
-ghost use Rattle.sgb_ops.specs.TakenArcs.{IsStep};
+ghost use Rattle.sgb_ops.specs.inner.TakenArcs.{IsStep};
 
 use sgb_graph::{Arcs, Graph, Link};
 use std::marker::Model;
@@ -22,7 +22,7 @@ pub(crate) struct TakenArcs<'a> {
 impl<'a> Model for TakenArcs<'a> {
     ghost use Rattle.std.specs.Prelude.{List};
     ghost use Rattle.sgb_graph.specs.declared.fields.Link.{Link};
-    ghost use Rattle.sgb_ops.specs.TakenArcs.{taken_after};
+    ghost use Rattle.sgb_ops.specs.inner.TakenArcs.{taken_after};
 
     ghost Value = { List Link };
 
@@ -33,7 +33,8 @@ impl<'a> Model for TakenArcs<'a> {
 /// one those that lead to no vertex before `v`, and of a loop's two records the first alone (GB_BASIC, gunion).
 pub(crate) fn taken(graph: &Graph, directed: bool, v: u32) -> TakenArcs<'_>
     requires { v < length graph.now.vertices }
-    ensures { result ≡ taken directed graph.now v }
+    ensures taken { result ≡ taken directed graph.now v }
+    ensures tips { All (λ l. l.tip < length graph.now.vertices) result }
 {
     TakenArcs {
         directed,

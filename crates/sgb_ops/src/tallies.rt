@@ -2,7 +2,7 @@
 ghost use Rattle.std.specs.Prelude.{◌≡◌, ◌<◌, ◌+◌, ◌^◌, ℕ, nat_eq, Some, OnOk, IfOk, IsOkUnless, if◌then◌else◌};
 ghost use Rattle.std.specs.Option.{option_map_or};
 ghost use Rattle.indexmap.specs.IndexMap.{get};
-ghost use Rattle.sgb_ops.specs.Tallies.{one_more, tally_to, without_one};
+ghost use Rattle.sgb_ops.specs.inner.Tallies.{one_more, tally_to, without_one};
 
 use indexmap::IndexMap;
 use sgb_graph::Link;

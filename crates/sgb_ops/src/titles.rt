@@ -21,7 +21,8 @@ pub(crate) fn flag_byte(flag: bool) -> u8
 pub(crate) fn numbers_id(start: &[u8], n1: i64, n2: i64, directed: bool) -> Id
     requires short { length start.now ≤ 100 }
     requires text { IsTrue (is_id_text start.now) }
-    ensures { result ≡ start.now ++ signed_decimal n1 ++ closing (signed_decimal n2 ∷ flag_text directed ∷ []) }
+    ensures { result ≡ start.now ++ signed_decimal n1
+        ++ closing (signed_decimal n2 ∷ flag_text directed ∷ []) }
 {
     let mut writer = IdWriter::new();
     writer.push_text(start);
@@ -46,7 +47,8 @@ pub(crate) fn joined_name(
 ) -> Result<Text, Panic>
     requires short { most_first + length separator.now + most_second ≤ most_bytes }
     requires printable { All IsTextByte separator.now }
-    ensures ok { IfOk result (λ text. text ≡ take most_first first.now ++ separator.now ++ take most_second second.now) }
+    ensures ok { IfOk result (λ text. text ≡ take most_first first.now ++ separator.now
+        ++ take most_second second.now) }
     ensures memory { IsOkUnless result Panic.NoRoom }
 {
     let mut bytes = Vec::from_slice(alloc, front(first.bytes(), most_first))?;

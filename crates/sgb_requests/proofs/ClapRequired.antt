@@ -31,12 +31,35 @@ pub none_second : (a b : Kinds) → or_else a b ≡ [] → b ≡ []
 none_second [] b e = e
 none_second (k ∷ ks) b e = cc
 
+-- ---- what each of a list has
+
+abbrev pub Each : {X : Type 0} → (X → Type 0) → List X → Type 0
+Each P [] = Unit {0}
+Each P (x ∷ xs) = P x × Each P xs
+
+-- the one has it, if there is one
+abbrev IfThere : {X : Type 0} → (X → Type 0) → Option X → Type 0
+IfThere P None = Unit {0}
+IfThere P (Some x) = P x
+
+-- one that is looked up
+found_has : {X : Type 0} (P : X → Type 0) (p : X → Bool) (xs : List X) → Each P xs → IfThere P (find p xs)
+found_has P p [] each = tt
+found_has {X} P p (x ∷ rest) each = go (p x) (found_has P p rest each.1)
+  where
+    go : (b : Bool) → IfThere P (find p rest) → IfThere P (cond b (Some x) (find p rest))
+    go true after = each.0
+    go false after = after
+
 -- ---- rows with values
+
+-- the row has a value
+abbrev HasValue : Row → Type 0
+HasValue r = 0 < length r.values
 
 -- each row has a value
 abbrev pub IsFilled : List Row → Type 0
-IsFilled [] = Unit {0}
-IsFilled (r ∷ rs) = (0 < length r.values) × IsFilled rs
+IsFilled = Each HasValue
 
 -- rows joined
 filled_append : (xs ys : List Row) → IsFilled xs → IsFilled ys → IsFilled (xs ++ ys)
@@ -71,22 +94,7 @@ Fills a = (again : Bool) (values : List Text) (rows : List Row) → use_fault ag
 
 -- each of the arguments does
 abbrev pub EachFills : List Rule → Type 0
-EachFills [] = Unit {0}
-EachFills (a ∷ rest) = Fills a × EachFills rest
-
--- the argument does, if there is one
-abbrev FillsIfSome : Option Rule → Type 0
-FillsIfSome None = Unit {0}
-FillsIfSome (Some a) = Fills a
-
--- an argument that is looked up
-found_fills : (p : Rule → Bool) (c : List Rule) → EachFills c → FillsIfSome (find p c)
-found_fills p [] each = tt
-found_fills p (a ∷ rest) each = go (p a) (found_fills p rest each.1)
-  where
-    go : (b : Bool) → FillsIfSome (find p rest) → FillsIfSome (cond b (Some a) (find p rest))
-    go true after = each.0
-    go false after = after
+EachFills = Each Fills
 
 -- ---- the walk, of rules that each fill
 
@@ -95,7 +103,7 @@ module _ (c : List Rule) (again : Bool) (each : EachFills c) where
   settled_filled : (h : Held) → settle_fault c again h ≡ [] → IsFilled h.rows → IsFilled (settled c h).rows
   settled_filled h e p = go h.pending e
     where
-      of : (q : Text × List Text) (found : Option Rule) → FillsIfSome found → option_map_or (λ a. use_fault again a q.1 h.rows) found [] ≡ []
+      of : (q : Text × List Text) (found : Option Rule) → IfThere Fills found → option_map_or (λ a. use_fault again a q.1 h.rows) found [] ≡ []
           → IsFilled (used_by_id found q.1 h.rows)
       of q None fills e = p
       of q (Some a) fills e = fills again q.1 h.rows e p
@@ -103,7 +111,7 @@ module _ (c : List Rule) (again : Bool) (each : EachFills c) where
       go : (pending : Option (Text × List Text)) → option_map_or (λ q. option_map_or (λ a. use_fault again a q.1 h.rows) (arg_by_id c q.0) []) pending [] ≡ []
           → IsFilled (settled_rows c pending h.rows)
       go None e = p
-      go (Some q) e = of q (arg_by_id c q.0) (found_fills _ c each) e
+      go (Some q) e = of q (arg_by_id c q.0) (found_has Fills _ c each) e
 
   -- another argument is used after it
   reacted_filled : (a : Rule) (values : List Text) (h : Held) → Fills a → react_fault c again a values h ≡ [] → IsFilled h.rows → IsFilled (reacted c a values h).rows
@@ -116,7 +124,7 @@ module _ (c : List Rule) (again : Bool) (each : EachFills c) where
   option_filled a None h fills e p = settled_filled h e p
 
   -- `--name` or `--name=value`
-  long_filled : (found : Option Rule) (v : Option Text) (h : Held) → FillsIfSome found → long_fault c again found v h ≡ [] → IsFilled h.rows
+  long_filled : (found : Option Rule) (v : Option Text) (h : Held) → IfThere Fills found → long_fault c again found v h ≡ [] → IsFilled h.rows
       → IsFilled (long_met c found v h).0.rows
   long_filled None v h fills e p = p
   long_filled (Some a) v h fills e p = go (takes_values a) v e
@@ -128,7 +136,7 @@ module _ (c : List Rule) (again : Bool) (each : EachFills c) where
       go false None e = reacted_filled a [] h fills e p
 
   -- one letter of a bundle, and then those after it
-  short_filled : (found : Option Rule) (rest : Text) (h : Held) (fault : Held → Kinds) (then : Held → Held × Outcome) → FillsIfSome found
+  short_filled : (found : Option Rule) (rest : Text) (h : Held) (fault : Held → Kinds) (then : Held → Held × Outcome) → IfThere Fills found
       → ((h : Held) → fault h ≡ [] → IsFilled h.rows → IsFilled (then h).0.rows) → short_fault c again found rest h fault ≡ [] → IsFilled h.rows
       → IsFilled (short_met c found rest h then).0.rows
   short_filled None rest h fault then fills keeps e p = p
@@ -153,7 +161,7 @@ module _ (c : List Rule) (again : Bool) (each : EachFills c) where
       go None skip keeps e = p
       go (Some x) zero keeps e =
           let rest = drop (length (encode_utf8 x)) flags in
-          short_filled (arg_by_short c x) rest h (flags_fault c again k rest 0) (bundle_met c k rest 0 done) (found_fills _ c each) (keeps rest 0 done) e p
+          short_filled (arg_by_short c x) rest h (flags_fault c again k rest 0) (bundle_met c k rest 0 done) (found_has Fills _ c each) (keeps rest 0 done) e p
       go (Some x) (suc skip) keeps e = keeps (drop (length (encode_utf8 x)) flags) skip so_far h e p
 
   -- a word that is no flag
@@ -177,7 +185,7 @@ module _ (c : List Rule) (again : Bool) (each : EachFills c) where
   flag_word_filled : (waiting : Waiting) (word : Text) (long : Option (Text × Option Text)) (h : Held) → flag_word_fault c again long word h ≡ [] → IsFilled h.rows
       → IsFilled (long_or_other c waiting word long h).0.rows
   flag_word_filled waiting word (Some q) h e p =
-      flag_filled waiting word _ (long_met c (arg_by_long c q.0) q.1 h).1 (long_filled (arg_by_long c q.0) q.1 h (found_fills _ c each) e p)
+      flag_filled waiting word _ (long_met c (arg_by_long c q.0) q.1 h).1 (long_filled (arg_by_long c q.0) q.1 h (found_has Fills _ c each) e p)
   flag_word_filled waiting word None h e p = go (short_of word) e
     where
       go : (flags : Option Text) → option_map_or (λ flags. bundle_fault c again flags h) flags [] ≡ [] → IsFilled (short_or_plain c waiting word flags h).0.rows
@@ -262,20 +270,6 @@ defaults_filled (a ∷ rest) rows p = defaults_filled rest (with_default rows a)
 
 -- ---- what is required is there
 
--- the row has a value, if there is one
-abbrev FilledIfSome : Option Row → Type 0
-FilledIfSome None = Unit {0}
-FilledIfSome (Some r) = 0 < length r.values
-
--- a row that is looked up
-found_filled : (p : Row → Bool) (rows : List Row) → IsFilled rows → FilledIfSome (find p rows)
-found_filled p [] each = tt
-found_filled p (r ∷ rest) each = go (p r) (found_filled p rest each.1)
-  where
-    go : (b : Bool) → FilledIfSome (find p rest) → FilledIfSome (cond b (Some r) (find p rest))
-    go true after = each.0
-    go false after = after
-
 -- a list that is not empty has a first
 first_there : (values : List Text) → 0 < length values → IsSome (slice_get values 0)
 first_there [] h = absurd (omega arith)
@@ -283,9 +277,9 @@ first_there (v ∷ vs) h = refl
 
 -- an argument that was given has a first value
 given_first : (id : Text) (rows : List Row) → IsFilled rows → is_given id rows ≡ true → IsSome (first_of id rows)
-given_first id rows filled given = go (find (λ r. bytes_eq r.id id) rows) (found_filled _ rows filled) given
+given_first id rows filled given = go (find (λ r. bytes_eq r.id id) rows) (found_has HasValue _ rows filled) given
   where
-    go : (o : Option Row) → FilledIfSome o → option_map_or (λ r. explicit_source r.source) o false ≡ true → IsSome (option_and_then (λ r. slice_get r.values 0) o)
+    go : (o : Option Row) → IfThere HasValue o → option_map_or (λ r. explicit_source r.source) o false ≡ true → IsSome (option_and_then (λ r. slice_get r.values 0) o)
     go None h e = absurd (true≢false (sym e))
     go (Some r) h e = first_there r.values h
 

@@ -1,7 +1,8 @@
 -- The commands that the words enter.
-use Rattle.std.proofs.Common.{◌≡◌, ◌≢◌, ◌∙◌, ◌⊎◌, Bool, cond, true, false, subst, List, [], ◌∷◌, ◌++◌, Option, Some, None, IsSome, Result, Ok, Err, IfOk, MatchResult, ap, sym, refl, inl, inr, codes, find, option_map}
+use Rattle.std.proofs.Common.{◌≡◌, ◌≢◌, ◌∙◌, ◌⊎◌, Bool, cond, true, false, subst, List, [], ◌∷◌, ◌++◌, Option, Some, None, IsSome, Result, Ok, Err, IfOk, MatchResult, ap, sym, refl, inl, inr, codes, find, option_map, true≢false}
 use Rattle.std.specs.List.{list_all}
 use Rattle.std.specs.Option.{option_map_or}
+use Rattle.std.specs.Str.{bytes_eq}
 use Rattle.std.proofs.lemmas.Slice.Eq.{bytes_eq-Decides}
 use Rattle.clap.specs.Faults.{entered_fault, level_fault}
 use Rattle.clap.specs.Kinds.{Kinds}
@@ -166,10 +167,10 @@ pub entered_is : (words : List Text) (m : ArgMatches) (name : Text) (rows : List
 entered_is words m name rows is named has = sym is.entered ∙ pair_is _ name rows (sym (name_by_rows m) ∙ named) has
 
 -- the matches of a command have an expression, unless it is `queen`
-pub has_expression : (words : List Text) (m : ArgMatches) (name : Text) (rows : List Row) → name ≢ codes "queen" → IsTaken words m → subcommand_name_of m ≡ Some name
+pub has_expression : (words : List Text) (m : ArgMatches) (name : Text) (rows : List Row) → bytes_eq name (codes "queen") ≡ false → IsTaken words m → subcommand_name_of m ≡ Some name
     → option_map (λ p. p.1) (subcommand_rows_of m) ≡ Some rows → IsSome (first_of (codes "EXPR") rows)
 has_expression words m name rows other is named has =
-    expression_there (name, rows) other (which_entered _ (commands_entered words _ is.taken (entered_is words m _ rows is named has)))
+    expression_there (name, rows) (λ queen. true≢false (sym ((bytes_eq-Decides name (codes "queen")).1 queen) ∙ other)) (which_entered _ (commands_entered words _ is.taken (entered_is words m _ rows is named has)))
 
 -- the command of these matches is entered
 pub enters : (words : List Text) (m : ArgMatches) (name : Text) → IsTaken words m → subcommand_name_of m ≡ Some name → Enters words name

@@ -1,6 +1,13 @@
 -- What the contracts of sgb_requests speak of.
+-- the command line by clap's meaning, and what its words ask for
 pub mod CommandLine
+-- the texts of counts
 pub mod Counts
+-- the line and the exit status of each fault
 pub mod Faults
+-- what reading an expression, or a flip, returns
 pub mod Reading
+-- the requests that the words make, and how others are refused
 pub mod Requests
+-- what private contracts and proofs alone speak of
+pub mod inner

@@ -6,17 +6,9 @@ use Rattle.sgb_expr.specs.Expressions.{IsExpression, IsNoExpression, IsLongestPr
 use Rattle.sgb_expr.specs.FlipTexts.{IsFlip}
 use Rattle.sgb_expr.specs.Languages.{IsLongestPrefixOf, IsNoWord}
 use Rattle.sgb_expr.specs.declared.expressions.Expr.{Expr}
-use Rattle.sgb_expr.specs.declared.expressions.Unread.{Unread}
-use Rattle.sgb_expr.specs.declared.expressions.Unread.TheVariants as unread
 use Rattle.sgb_expr.specs.declared.flips.FlipParams.{FlipParams}
 use Rattle.sgb_requests.specs.declared.faults.Fault.{Fault}
 use Rattle.sgb_requests.specs.declared.faults.Fault.TheVariants as fault
-
--- the fault of a text that is not read
-abbrev pub fault_of_unread : Unread → Fault
-fault_of_unread unread.TooLarge = fault.TooLarge
-fault_of_unread (unread.At k) = fault.Expr k
-fault_of_unread unread.NoRoom = fault.Panic NoRoom
 
 -- the text is refused with this fault: too large before all else, then no expression, with the length of the longest
 -- prefix that begins one; or out of memory

@@ -31,21 +31,9 @@ resume_of (Some name) _ = After name
 abbrev pub IsResumeOf : Option Text → Option Text → Resume → Type 0
 IsResumeOf after skip resume = GoTogether after skip × (resume ≡ resume_of after skip)
 
--- the fault of values of `--after` and `--skip`: `Usage` where they do not go together, or out of memory
-abbrev pub IsResumeFault : Option Text → Option Text → Fault → Type 0
-IsResumeFault after skip fault.Usage = GoTogether after skip → ⊥
-IsResumeFault after skip (fault.Panic p) = p ≡ NoRoom
-IsResumeFault after skip _ = ⊥
-
 -- these values of `EXPR`, `--after` and `--skip` are read as this expression and this place to begin
 abbrev pub AreReadAs : Text → Option Text → Option Text → Expr → Resume → Type 0
 AreReadAs text after skip e resume = IsResumeOf after skip resume × IsReadAs text (Ok e)
-
--- the fault of these values: `Usage` by the options before the expression is read, or out of memory
-abbrev pub AreRefused : Text → Option Text → Option Text → Fault → Type 0
-AreRefused text after skip fault.Usage = GoTogether after skip → ⊥
-AreRefused text after skip (fault.Panic p) = p ≡ NoRoom
-AreRefused text after skip f = GoTogether after skip × IsReadAs text (Err f)
 
 -- an invalid command line: clap refuses the words, or there is no command, or both options stand, or K is no number of 1 to
 -- 18 digits

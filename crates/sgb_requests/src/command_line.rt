@@ -1,12 +1,12 @@
 //! The request that a command line makes.
-
 ghost use Rattle.std.specs.Prelude.{◌≡◌, MatchResult, map};
 ghost use Rattle.std.specs.Option.{SomeIff};
 ghost use Rattle.std.specs.Str.Parse.{digits_value};
 ghost use Rattle.std.specs.String.{string_bytes};
-ghost use Rattle.sgb_requests.specs.CommandLine.{bytes_of};
+ghost use Rattle.sgb_requests.specs.inner.CommandLine.{bytes_of};
 ghost use Rattle.sgb_requests.specs.Counts.{IsDigits};
-ghost use Rattle.sgb_requests.specs.Requests.{AreReadAs, AreRefused, IsCommandLineReadAs, IsResumeFault, IsResumeOf};
+ghost use Rattle.sgb_requests.specs.Requests.{AreReadAs, IsCommandLineReadAs, IsResumeOf};
+ghost use Rattle.sgb_requests.specs.inner.Requests.{AreRefused, IsResumeFault};
 
 use crate::arguments::{Arguments, Subcommand, entered_subcommand};
 use crate::expressions::{parse_expr, parse_flip};
@@ -51,8 +51,10 @@ pub fn request(alloc: Global, words: &[String]) -> Result<Request, Fault>
 // The expression that a command's values name, and where its answer begins. The options come first.
 fn read(alloc: Global, values: Arguments) -> Result<(Expr, Resume), Fault>
     ensures { MatchResult result
-        (λ read. AreReadAs values.entry.expression.now (bytes_of values.entry.after) (bytes_of values.entry.skip) read.0 read.1)
-        (AreRefused values.entry.expression.now (bytes_of values.entry.after) (bytes_of values.entry.skip)) }
+        (λ read. AreReadAs values.entry.expression.now (bytes_of values.entry.after)
+        (bytes_of values.entry.skip) read.0 read.1)
+        (AreRefused values.entry.expression.now (bytes_of values.entry.after)
+        (bytes_of values.entry.skip)) }
 {
     let resume = resume_of(alloc, values.after, values.skip)?;
     let graph = parse_expr(alloc, values.expression.as_bytes())?;

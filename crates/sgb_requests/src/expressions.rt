@@ -13,7 +13,7 @@ use std::alloc::Global;
 
 impl From<Unread> for Fault {
     ghost use Rattle.std.specs.Prelude.{◌≡◌};
-    ghost use Rattle.sgb_requests.specs.Reading.{fault_of_unread};
+    ghost use Rattle.sgb_requests.specs.inner.Reading.{fault_of_unread};
 
     ghost from_gives = { λ cause fault. fault ≡ fault_of_unread cause };
 
@@ -34,7 +34,8 @@ impl From<Unread> for Fault {
 /// `Panic(NoRoom)` when out of memory.
 pub fn parse_expr(alloc: Global, text: &[u8]) -> Result<Expr, Fault>
     ensures read { IsReadAs text.now result }
-    ensures only { (e : Expression) → IsExpression text.now e → IfOk result (λ read. expression_of read ≡ e) }
+    ensures only { (e : Expression) → IsExpression text.now e
+        → IfOk result (λ read. expression_of read ≡ e) }
 {
     let expression = read_expr(alloc, text)?;
     Ok(expression)

@@ -1,5 +1,6 @@
+//! The faults that a request ends with, and the line that each prints.
 ghost use Rattle.std.specs.Prelude.{◌≡◌, ◌≤◌, ◌+◌, ◌++◌, decimal, length};
-ghost use Rattle.sgb_file.specs.Devices.{AppendsUnlessFailed, IsPut};
+ghost use Rattle.sgb_file.specs.Devices.{AppendsUnlessFailed, change, IsPut};
 ghost use Rattle.sgb_requests.specs.Faults.{line_of, status_of};
 
 use arrayvec::ArrayVec;
@@ -11,29 +12,29 @@ use thiserror::Error;
 // A line with a number in it has at most this many bytes.
 const MOST_BYTES: usize = 64;
 
-/// Why a request ends without its whole answer.
+/// Why a request ends without its whole answer. Its message is the line that `report` writes, without the newline.
 #[derive(Clone, Copy, Debug, PartialEq, Eq, Error)]
 pub enum Fault {
     /// The words are an invalid command line.
-    #[error("usage")]
+    #[error("usage: sgb (names|list) EXPR [--after NAME|--skip K], sgb save EXPR, sgb queen, sgb flip EXPR")]
     Usage,
     /// The expression is too large to be read.
-    #[error("expression too large")]
+    #[error("sgb: expression too large")]
     TooLarge,
     /// The text is no expression; its longest prefix that begins one has this many bytes.
-    #[error("bad expression at byte {0}")]
+    #[error("sgb: bad expression at byte {0}")]
     Expr(u32),
     /// The graph is refused, or memory ran out.
-    #[error("panic code {}", .0.code())]
+    #[error("Something went wrong (panic code {})!", .0.code())]
     Panic(Panic),
     /// No vertex has the name.
-    #[error("no such vertex")]
+    #[error("sgb: no such vertex")]
     NoVertex,
     /// Standard input failed.
-    #[error("read fault")]
+    #[error("sgb: read fault")]
     Read,
     /// The output failed.
-    #[error("write fault")]
+    #[error("sgb: write fault")]
     Write,
 }
 
@@ -62,7 +63,8 @@ pub fn status(fault: &Fault) -> u8
 /// Writes the fault's line, all of it at once, and returns its exit status. A sink that fails has a prefix of the line,
 /// and the status is the same.
 pub fn report<E: Sink>(fault: &Fault, errors: &mut E) -> u8
-    ensures line { AppendsUnlessFailed (E.has_failed errors.new) (E.written errors.old) (E.written errors.new) (line_of fault.now) }
+    ensures line { AppendsUnlessFailed (change E.written E.has_failed errors.old errors.new)
+        (line_of fault.now) }
     ensures status { result ≡ status_of fault.now }
 {
     let _written = put_line(fault, errors);
@@ -72,7 +74,8 @@ pub fn report<E: Sink>(fault: &Fault, errors: &mut E) -> u8
 // Puts the line of a fault.
 #[tactic(auto, unfolding(crate::specs::Faults::line_of, crate::specs::Faults::usage_line))]
 fn put_line<E: Sink>(fault: &Fault, errors: &mut E) -> Result<(), Failed>
-    ensures { IsPut (line_of fault.now) (E.written errors.old) (E.written errors.new) (E.has_failed errors.new) result }
+    ensures { IsPut (line_of fault.now) (change E.written E.has_failed errors.old errors.new)
+        result }
 {
     match fault {
         Fault::Usage => put_all(
@@ -99,7 +102,8 @@ fn put_number<E: Sink>(
     errors: &mut E,
 ) -> Result<(), Failed>
     requires { length before.now + length after.now ≤ 54 }
-    ensures { IsPut (before.now ++ decimal number ++ after.now) (E.written errors.old) (E.written errors.new) (E.has_failed errors.new) result }
+    ensures { IsPut (before.now ++ decimal number ++ after.now)
+        (change E.written E.has_failed errors.old errors.new) result }
 {
     let line = number_line(before, number, after);
     put_all(errors, line.as_slice())
@@ -117,3 +121,6 @@ fn number_line(before: &[u8], number: u32, after: &[u8]) -> ArrayVec<u8, MOST_BY
     let _after = line.try_extend_from_slice(after);
     line
 }
+
+#[cfg(test)]
+mod tests;

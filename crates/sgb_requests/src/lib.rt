@@ -2,10 +2,15 @@
 //! ends with.
 #![tactic(auto)]
 
+// The subcommand and the arguments that clap finds.
 mod arguments;
+// The request that a command line makes.
 pub mod command_line;
+// Expressions and flips read for a request.
 pub mod expressions;
+// The faults, and the line that each prints.
 pub mod faults;
+// What the program is asked to do.
 pub mod requests;
 
 pub use command_line::request;

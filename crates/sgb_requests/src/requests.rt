@@ -1,5 +1,4 @@
 //! What the program is asked to do.
-
 ghost use Rattle.std.specs.Prelude.{◌≡◌, IfOk, IsOkUnless};
 
 use sgb_expr::{Expr, FlipParams};

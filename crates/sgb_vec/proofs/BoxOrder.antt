@@ -1,8 +1,7 @@
 -- The order of the vectors of a box: the first, the last and the next.
-use Rattle.std.proofs.Common.{◌≡◌, ℕ, ◌+◌, ◌<◌, List, [], ◌∷◌, length, replicate, refl, subst, ◌∙◌, arith}
+use Rattle.std.proofs.Common.{◌≡◌, ℕ, ◌+◌, ◌<◌, List, [], ◌∷◌, length, replicate, refl, subst, arith}
 use Rattle.std.specs.Prelude.{Some}
 use Rattle.std.specs.List.{slice_get}
-use Rattle.std.proofs.lemmas.List.{nil_from_length}
 use Rattle.sgb_vec.specs.Boxes.{box, product_of}
 use Rattle.sgb_vec.specs.Order.{IsFirst, IsNext, IsLast}
 use Rattle.sgb_vec.proofs.Products.{factors-pos}
@@ -35,7 +34,3 @@ pub IsFirst-zeros : (sizes : List ℕ) → 0 < product_of sizes → IsFirst (box
 IsFirst-zeros sizes h =
     let zeros = StandsAt-zeros sizes h in
     subst (λ m. slice_get (box sizes) m ≡ Some (replicate (length sizes) 0)) zeros.place (slice_get-place_of sizes _ zeros.each_below)
-
--- a box of no vectors
-pub box-empty : (sizes : List ℕ) → product_of sizes ≡ 0 → box sizes ≡ []
-box-empty sizes e = nil_from_length (box sizes) (length-box sizes ∙ e)

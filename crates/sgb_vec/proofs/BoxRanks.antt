@@ -13,10 +13,6 @@ use Rattle.sgb_vec.proofs.BoxPlaces.{IsBelow-length, place_of, place_of-below, s
 pub record IsRankSoFar (sizes v : List ℕ) (k rank : ℕ) : Type 0 where
   pub whole : rank * product_of (drop k sizes) + place_of (drop k sizes) (drop k v) ≡ place_of sizes v
 
--- no entry makes 0
-pub rank-none : (sizes v : List ℕ) → IsRankSoFar sizes v 0 0
-rank-none sizes v = record { whole = omega arith }
-
 -- one entry more
 pub rank-more : (sizes v : List ℕ) (k rank : ℕ) → IsRankSoFar sizes v k rank → k < length sizes → k < length v → IsRankSoFar sizes v (k + 1) (rank * get_or sizes k 0 + get_or v k 0)
 rank-more sizes v k rank so h i =

@@ -1,28 +1,57 @@
 -- The lemmas and examples of sgb_vec, by subject.
+-- sizes and parameters of a board
 pub mod BoardSizes
+-- the first, the last and the next vector of a box
 pub mod BoxOrder
+-- where a vector stands in a box
 pub mod BoxPlaces
+-- the step back in a box
 pub mod BoxPredecessors
+-- the place of a vector, entry by entry
 pub mod BoxRanks
+-- the step on in a box
 pub mod BoxSuccessors
+-- sums of products over windows
 pub mod Convolutions
+-- worked examples of the definitions
 pub mod Examples
+-- members of the families have names
 pub mod FamilyVectors
+-- counts above the most vertices, told from the rows of counts
 pub mod GreatCounts
+-- sequences that rise and then fall, and their windows
 pub mod Hills
+-- plain lists
+pub mod Lists
+-- the name of a vector read back
 pub mod NameReading
+-- numbers read back from their decimals
 pub mod NamedNumbers
+-- the number that digits write
 pub mod Numerals
+-- the product of sizes
 pub mod Products
+-- the vectors from one to another, one less at either end
 pub mod RangeSteps
+-- neighbours in a list that rises
 pub mod RisingLists
+-- bounds and parameters of a simplex
 pub mod SimplexBounds
+-- how many vectors a bounded sum has
 pub mod SumCounts
+-- which vectors a bounded sum has
 pub mod SumMembers
+-- rows of counts of a bounded sum
 pub mod SumRowLemmas
+-- the least and the greatest vector of a sum, and the nearest to another
 pub mod SumSuccessors
+-- vectors of a sum built, and looked through
 pub mod SumTails
+-- the first, next, previous and last vector of a bounded sum
 pub mod SumWalks
+-- the name of a vector, entry by entry
 pub mod VectorNames
+-- how many entries a step changes and visits
 pub mod VisitLemmas
+-- sums of a sequence over a window
 pub mod Windows

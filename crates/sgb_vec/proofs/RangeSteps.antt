@@ -4,18 +4,27 @@ use Rattle.std.specs.Bool.{IsTrue, OnTrue, OnFalse}
 use Rattle.std.specs.List.{Contains, slice_get}
 use Rattle.std.specs.Cmp.Lexicographic.{pointwise, bytes_decides}
 use Rattle.std.proofs.lemmas.Bool.{cases_Bool, cases_order}
-use Rattle.std.proofs.lemmas.List.{drop_more, take_more, drop_all, drop-append-le, drop-take, take-append-drop, take_all, length-take-le, get_or-take}
+use Rattle.std.proofs.Math.Seq.{get_or-append_seam, take-append_seam}
+use Rattle.std.proofs.lemmas.List.{length_push, drop_more, take_more, drop_all, drop-append-le, drop-take, take-append-drop, take_all, length-take-le, get_or-take}
 use Rattle.std.proofs.lemmas.List.Sums.{position_or_len_is, passes_at_first}
 use Rattle.std.proofs.lemmas.Option.{slice_get_within, slice_get_read, get_or_from_slice_get}
 use Rattle.sgb_vec.specs.Lexicographic.{IsBefore, IsRising}
 use Rattle.sgb_vec.specs.Order.{IsFirst, IsFinal, IsNext, IsLast, IsPrevious, HasNoneBefore}
-use Rattle.sgb_vec.specs.Ranges.{place_among, from_to, from_to_if, AreEnds, ComeAfter}
+use Rattle.sgb_vec.specs.Ranges.{ComeAfter}
+use Rattle.sgb_vec.specs.inner.Ranges.{place_among, from_to, from_to_if, AreEnds}
 use Rattle.sgb_vec.proofs.RisingLists.{place-once}
 use Rattle.sgb_vec.proofs.SumSuccessors.{IsBefore-asymmetric}
 
 -- the same vector
 abbrev is_same : List ℕ → List ℕ → Bool
 is_same v w = pointwise nat_eq v w
+
+-- the last of a list is the one that comes after all others
+last_of : (xs others : List (List ℕ)) (v : List ℕ) → xs ≡ others ++ v ∷ [] → IsFinal xs v
+last_of xs others v is =
+    let long = length_push others v in
+    let at : length (others ++ v ∷ []) - 1 ≡ length others = omega arith in
+    rw (is, at) (slice_get_read (others ++ v ∷ []) (length (others ++ v ∷ [])) (length others) v refl (omega arith) (sym (get_or-append_seam others v [] v)))
 
 module _ (vs : List (List ℕ)) (rise : IsRising vs) where
   -- a vector that stands at a place has that place
@@ -73,6 +82,15 @@ module _ (vs : List (List ℕ)) (rise : IsRising vs) where
       one i x within at =
           drop-take i 1 vs ∙ (ap (take 1) (drop_more vs i x within) ∙ ap (λ y. y ∷ []) at)
 
+  -- the last one comes after the others
+  from_before : (v w : List ℕ) → AreEnds vs v w → from_to vs v w ≡ drop (place_among vs v) (take (place_among vs w) vs) ++ w ∷ []
+  from_before v w ends =
+      let j = place_among vs w in
+      let here : get_or vs j w ≡ w = get_or_from_slice_get vs j w w (stands_there w ends.1) in
+      let longer : take (j + 1) vs ≡ take j vs ++ w ∷ [] = take_more vs j w ends.1 ∙ ap (λ y. take j vs ++ y ∷ []) here in
+      ap (drop (place_among vs v)) longer
+      ∙ drop-append-le (place_among vs v) (take j vs) (w ∷ []) (omega (arith, ends.0, length-take-le j vs (omega (arith, ends.1))))
+
   -- other ends stand at other places
   apart_ends : (v w : List ℕ) → AreEnds vs v w → v ≢ w → place_among vs v < place_among vs w
   apart_ends v w ends other =
@@ -119,13 +137,7 @@ module _ (vs : List (List ℕ)) (rise : IsRising vs) where
       let at_before = previous_at found w before j previous first at_w (omega arith) in
       let place = place_at before (j - 1) at_before in
       let short : place_among vs before + 1 ≡ j = omega (arith, place) in
-      let here : get_or vs j w ≡ w = get_or_from_slice_get vs j w w at_w in
-      ((omega (arith, place), omega (arith, place, ends.1)), more (place_among vs v) j w less ends.1 here ∙ ap (λ k. drop (place_among vs v) (take k vs) ++ w ∷ []) (sym short))
-    where
-      more : (i j : ℕ) (x : List ℕ) → i < j → j < length vs → get_or vs j x ≡ x → drop i (take (j + 1) vs) ≡ drop i (take j vs) ++ x ∷ []
-      more i j x less within at =
-          let longer : take (j + 1) vs ≡ take j vs ++ x ∷ [] = take_more vs j x within ∙ ap (λ y. take j vs ++ y ∷ []) at in
-          ap (drop i) longer ∙ drop-append-le i (take j vs) (x ∷ []) (omega (arith, length-take-le j vs (omega arith)))
+      ((omega (arith, place), omega (arith, place, ends.1)), from_before v w ends ∙ ap (λ k. drop (place_among vs v) (take k vs) ++ w ∷ []) (sym short))
 
   -- a vector of the list, what stands before it and what comes after it
   around : (v : List ℕ) (i : ℕ) → i < length vs → get_or vs i v ≡ v → vs ≡ take i vs ++ v ∷ drop (i + 1) vs
@@ -169,37 +181,37 @@ module _ (vs : List (List ℕ)) (rise : IsRising vs) where
       let here : get_or (take (place_among vs w + 1) vs) i v ≡ v = get_or-take (place_among vs w + 1) vs i v (omega (arith, both.0)) ∙ get_or_from_slice_get vs i v v at_v in
       rw is (ap (λ (xs : List (List ℕ)). slice_get xs 0) (drop_more (take (place_among vs w + 1) vs) i v within) ∙ ap (λ (x : List ℕ). Some x) here)
 
+  -- the back one comes last
+  pub back_last : (more : Bool) (v w : List ℕ) → more ≡ true → (IsTrue more → AreEnds vs v w) → IsFinal (from_to_if more vs v w) w
+  back_last more v w is ends = rw is (last_of _ _ w (from_before v w (ends is)))
+
   pub back_among : (more : Bool) (v w : List ℕ) → more ≡ true → (IsTrue more → AreEnds vs v w) → Contains vs w
   back_among more v w is ends =
       let both = ends is in
       (place_among vs w, both.1, get_or_from_slice_get vs (place_among vs w) w w (stands_there w both.1))
 
   -- one is left
-  pub one_left : (more : Bool) (v w : List ℕ) → more ≡ true → (IsTrue more → AreEnds vs v w) → pointwise nat_eq v w ≡ true → from_to_if more vs v w ≡ v ∷ []
-  one_left more v w is ends same = rw is (from_itself v w (ends is) ((bytes_decides v w).0 same))
-
-  -- and the back one is that one
-  pub back_left : (more : Bool) (v w : List ℕ) → more ≡ true → (IsTrue more → AreEnds vs v w) → pointwise nat_eq v w ≡ true → from_to_if more vs v w ≡ w ∷ []
-  back_left more v w is ends same = one_left more v w is ends same ∙ ap (λ x. x ∷ []) ((bytes_decides v w).0 same)
+  pub one_left : (more : Bool) (v w a b : List ℕ) → more ≡ true → (IsTrue more → AreEnds vs v w) → a ≡ v → b ≡ w → true ≡ pointwise nat_eq a b → from_to_if more vs v w ≡ v ∷ []
+  one_left more v w a b is ends at_v at_w same = rw is (from_itself v w (ends is) (sym at_v ∙ (bytes_decides a b).0 (sym same) ∙ at_w))
 
   -- two vectors that a test tells apart
-  told_apart : (v w : List ℕ) → pointwise nat_eq v w ≡ false → v ≢ w
-  told_apart v w other same = let equal : true ≡ false = sym ((bytes_decides v w).1 same) ∙ other in absurd cc
+  told_apart : (v w a b : List ℕ) → a ≡ v → b ≡ w → false ≡ pointwise nat_eq a b → v ≢ w
+  told_apart v w a b at_v at_w other same = let equal : true ≡ false = sym ((bytes_decides a b).1 (at_v ∙ same ∙ sym at_w)) ∙ sym other in absurd cc
 
   -- more are left: the front one goes on
-  pub front_goes : (more found : Bool) (v w next : List ℕ) → more ≡ true → (IsTrue more → AreEnds vs v w) → pointwise nat_eq v w ≡ false
+  pub front_goes : (more found : Bool) (v w next a b : List ℕ) → more ≡ true → (IsTrue more → AreEnds vs v w) → a ≡ v → b ≡ w → false ≡ pointwise nat_eq a b
       → OnTrue found (IsNext vs v next) → OnFalse found (IsLast vs v)
       → (IsTrue more → AreEnds vs next w) × (from_to_if more vs v w ≡ v ∷ from_to_if more vs next w)
-  front_goes more found v w next is ends other after last =
-      let step = front_taken found v w next after last (ends is) (told_apart v w other) in
+  front_goes more found v w next a b is ends at_v at_w other after last =
+      let step = front_taken found v w next after last (ends is) (told_apart v w a b at_v at_w other) in
       (λ _. step.0, rw is step.1)
 
   -- or the back one
-  pub back_goes : (more found : Bool) (v w before : List ℕ) → more ≡ true → (IsTrue more → AreEnds vs v w) → pointwise nat_eq v w ≡ false
+  pub back_goes : (more found : Bool) (v w before a b : List ℕ) → more ≡ true → (IsTrue more → AreEnds vs v w) → a ≡ v → b ≡ w → false ≡ pointwise nat_eq a b
       → OnTrue found (IsPrevious vs w before) → OnFalse found (HasNoneBefore vs w)
       → (IsTrue more → AreEnds vs v before) × (from_to_if more vs v w ≡ from_to_if more vs v before ++ w ∷ [])
-  back_goes more found v w before is ends other previous first =
-      let step = back_taken found v w before previous first (ends is) (told_apart v w other) in
+  back_goes more found v w before a b is ends at_v at_w other previous first =
+      let step = back_taken found v w before previous first (ends is) (told_apart v w a b at_v at_w other) in
       (λ _. step.0, rw is step.1)
 
   -- what comes after a vector, seen as an iterator
@@ -215,3 +227,20 @@ pub first_and_rest : (xs rest : List (List ℕ)) (v copy : List ℕ) → slice_g
 first_and_rest [] rest v copy first same left = absurd (omega (arith, slice_get_within [] 0 v first))
 first_and_rest (x ∷ xs) rest v copy first same left =
     ap (λ (y : List ℕ). y ∷ xs) (get_or_from_slice_get (x ∷ xs) 0 v v first ∙ sym same) ∙ ap (λ ys. copy ∷ ys) (sym left)
+
+-- and a list with a last element the others and that one
+pub rest_and_last : (xs rest : List (List ℕ)) (v copy : List ℕ) → IsFinal xs v → copy ≡ v → rest ≡ take (length xs - 1) xs → xs ≡ rest ++ copy ∷ []
+rest_and_last xs rest v copy final same left =
+    let within = slice_get_within xs (length xs - 1) v final in
+    let all : length xs - 1 + 1 ≡ length xs = omega arith in
+    sym (take_all (length xs) xs (omega arith)) ∙ ap (λ k. take k xs) (sym all)
+    ∙ take_more xs (length xs - 1) v within
+    ∙ ap (λ ys. ys ++ get_or xs (length xs - 1) v ∷ []) (sym left)
+    ∙ ap (λ y. rest ++ y ∷ []) (get_or_from_slice_get xs (length xs - 1) v v final ∙ sym same)
+
+-- without its last one
+pub without_last : (xs others : List (List ℕ)) (v : List ℕ) → xs ≡ others ++ v ∷ [] → others ≡ take (length xs - 1) xs
+without_last xs others v is =
+    let long = length_push others v in
+    let at : length (others ++ v ∷ []) - 1 ≡ length others = omega arith in
+    rw (is, at) (sym (take-append_seam others (v ∷ [])))

@@ -1,10 +1,9 @@
 -- The bounds and parameters of a simplex, one bound or one entry at a time.
-use Rattle.std.proofs.Common.{◌≡◌, ℕ, zero, suc, ℤ, pos, negsuc, ◌+◌, ◌%◌, ◌≤◌, min, List, [], ◌∷◌, ◌++◌, true, false, get_or, length, map, Ok, Err, refl, sym, ap, subst, arith, rules, ◌∙◌}
+use Rattle.std.proofs.Common.{◌≡◌, ℕ, zero, suc, ℤ, pos, negsuc, ◌+◌, ◌%◌, ◌≤◌, min, List, [], ◌∷◌, ◌++◌, true, false, get_or, length, map, Ok, Err, refl, sym, ap, subst, arith, rules}
 use Rattle.std.specs.Prelude.{Bool, nat_lt, nat_abs, All, if◌then◌else◌}
 use Rattle.std.proofs.lemmas.Bool.Decides.{nat_tests}
 use Rattle.std.proofs.lemmas.List.{map-append, length-map}
 use Rattle.std.proofs.lemmas.List.Elements.{All-nil, All-cons}
-use Rattle.std.proofs.lemmas.List.FromFn.{length-map-range_with_len}
 use Rattle.sgb_vec.specs.Limits.{most_dimensions, most_vertices}
 use Rattle.sgb_vec.specs.Sizes.{Normalized, before_stop, stop_of, zero_after_stop, repeated}
 use Rattle.sgb_vec.specs.Bounds.{first_parameter, bounds_to_repeat, bounds_count, bounds_by_stop, clamped_parameter, simplex_by_stop, simplex_of}
@@ -15,11 +14,6 @@ use Rattle.sgb_vec.proofs.BoardSizes.{repeated-none, repeated-more, repeated_onc
 pub bounds_by_stop-repeated : (s : List ℕ) (e : ℤ) → bounds_by_stop s e ≡ repeated s (bounds_count s e)
 bounds_by_stop-repeated s (pos n) = sym (repeated_once s)
 bounds_by_stop-repeated s (negsuc n) = refl
-
--- as many bounds as are counted
-length-repeated : (s : List ℕ) (k : ℕ) → length (repeated s k) ≡ k
-unfolding repeated
-length-repeated s k = length-map-range_with_len (λ i. get_or s (i % length s) 0) 0 k
 
 -- no bound clamped
 pub clamped-none : (n : ℕ) (s : List ℕ) → map (λ b. min b n) (repeated s 0) ≡ []
@@ -48,20 +42,6 @@ accepted_of : (b c : Bool) (given shape : Normalized) → (if b then Err Bad els
 accepted_of true c given shape accepted = absurd (search (rules, accepted))
 accepted_of false true given shape accepted = absurd (search (rules, accepted))
 accepted_of false false given shape accepted = (refl, refl, search (rules, accepted))
-
--- an accepted simplex has at most 251 bounds
-pub few_bounds : (n n0 n1 n2 n3 n4 : ℤ) (shape : Normalized) → simplex_of n n0 n1 n2 n3 n4 ≡ Ok shape → length shape.sizes ≤ most_dimensions + 1
-few_bounds (negsuc n) n0 n1 n2 n3 n4 shape accepted = absurd (search (rules, accepted))
-few_bounds (pos n) n0 n1 n2 n3 n4 shape accepted =
-    let entries = first_parameter n0 ∷ n1 ∷ n2 ∷ n3 ∷ n4 ∷ [] in
-    let s = bounds_to_repeat n (before_stop entries) in
-    let e = stop_of entries in
-    let w = accepted_of _ _ _ shape accepted in
-    let few : bounds_count s e ≤ most_dimensions + 1 = grind (arith, nat_tests, w.0) in
-    let size = length-map (bounds_by_stop s e) (λ b. min b n) in
-    let same = ap length (bounds_by_stop-repeated s e) ∙ length-repeated s (bounds_count s e) in
-    let sizes = ap (λ (r : Normalized). length r.sizes) w.2 in
-    omega (arith, few, size, same, sizes)
 
 -- zeros after the stop stay zeros
 zeros_small : (n most : ℕ) (rest : List ℤ) → All (λ p. nat_abs p ≤ most) (map (clamped_parameter n) (map (λ z. pos 0) rest))

@@ -1,15 +1,16 @@
 -- Which vectors a bounded sum has, and that they rise lexicographically.
-use Rattle.std.proofs.Common.{◌≡◌, ℕ, suc, zero, ◌+◌, ◌≤◌, ◌↔◌, Bool, true, false, cond, eqb, List, [], ◌∷◌, length, map, filter, refl, ap, ◌∙◌, sum, arith}
+use Rattle.std.proofs.Common.{◌≡◌, ℕ, ◌+◌, ◌≤◌, ◌↔◌, Bool, true, eqb, List, [], ◌∷◌, length, map, filter, refl, sum, arith}
 use Rattle.std.specs.List.{Contains, list_all, zip}
 use Rattle.std.specs.Prelude.{nat_le}
 use Rattle.std.proofs.lemmas.Bool.{and_parts, and_from, eqb-true, eq-eqb, leb-true, le-leb}
 use Rattle.std.proofs.lemmas.List.Elements.{All-contains, All-contains_itself, All-filter, filter_passes, length_all_zip}
 use Rattle.std.proofs.lemmas.List.Kept.{AllPairs-filter}
+use Rattle.sgb_vec.proofs.Lists.{Contains-passing}
 use Rattle.sgb_vec.specs.Boxes.{box}
-use Rattle.sgb_vec.specs.Sums.{bounded_sums}
+use Rattle.sgb_vec.specs.Sums.{BoundedSum, bounded_sums}
 use Rattle.sgb_vec.specs.Lexicographic.{IsBefore, IsRising, IsBelow, IsWithin}
 use Rattle.sgb_vec.proofs.BoxPlaces.{IsBelow-from_Contains, Contains-from_IsBelow}
-use Rattle.sgb_vec.specs.Rising.{box_vectors_rise}
+use Rattle.sgb_vec.specs.inner.Rising.{box_vectors_rise}
 
 -- what a filter keeps is an element that passes
 Contains-from_filter : {X : Type 0} (p : X → Bool) (xs : List X) (x : X) → Contains (filter p xs) x → Contains xs x × (p x ≡ true)
@@ -17,19 +18,6 @@ Contains-from_filter p xs x h = (
   All-contains (Contains xs) (filter p xs) x (All-filter p (Contains xs) xs (All-contains_itself xs)) h,
   All-contains (λ y. p y ≡ true) (filter p xs) x (filter_passes p xs) h,
 )
-
--- a filter keeps an element that passes
-Contains-filter : {X : Type 0} (p : X → Bool) (xs : List X) (x : X) → p x ≡ true → Contains xs x → Contains (filter p xs) x
-Contains-filter p [] x e (k, within, at) = absurd (omega arith)
-Contains-filter p (y ∷ ys) x e (zero, within, at) =
-    let passes : p y ≡ true = ap p at ∙ e in
-    rw passes (0, omega arith, at)
-Contains-filter p (y ∷ ys) x e (suc k, within, at) =
-    let rest = Contains-filter p ys x e (k, omega arith, at) in
-    elim (p y) as (λ b. Contains (cond b (y ∷ filter p ys) (filter p ys)) x) [
-      | true ↦ (suc rest.0, omega (arith, rest.1), rest.2)
-      | false ↦ rest
-    ]
 
 -- below the bounds + 1 is within the bounds, and the other way round
 within-from_below : (v bounds : List ℕ) → IsBelow v (map (λ b. b + 1) bounds) → IsWithin v bounds
@@ -52,8 +40,12 @@ Contains-bounded_sums n bounds v =
     let adds : List ℕ → Bool = λ w. eqb (sum w) n in (
       λ h. let kept = Contains-from_filter adds (box sizes) v h in
           (within-from_below v bounds (IsBelow-from_Contains sizes v kept.0), eqb-true (sum v) n kept.1),
-      λ h. Contains-filter adds (box sizes) v (eq-eqb (sum v) n h.1) (Contains-from_IsBelow sizes v (below-from_within v bounds h.0)),
+      λ h. Contains-passing adds (box sizes) v (eq-eqb (sum v) n h.1) (Contains-from_IsBelow sizes v (below-from_within v bounds h.0)),
     )
+
+-- the same of a sum as it is kept, with its bounds as they are lent
+pub members_mean : (s : BoundedSum) (bounds v : List ℕ) → bounds ≡ s.bounds → Contains (bounded_sums s.total s.bounds) v → IsWithin v bounds × (sum v ≡ s.total)
+members_mean s bounds v same member = rw same ((Contains-bounded_sums s.total s.bounds v).0 member)
 
 -- they rise lexicographically
 pub bounded_sums-rise : (n : ℕ) (bounds : List ℕ) → IsRising (bounded_sums n bounds)

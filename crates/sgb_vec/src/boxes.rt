@@ -102,11 +102,11 @@ impl Family for BoxFamily {
         retreat(self.sizes.as_slice(), vector.as_mut_slice(), steps)
     }
 
-    ghost use Rattle.sgb_vec.specs.BoxWidth.{length-box_member};
+    ghost use Rattle.sgb_vec.specs.inner.BoxWidth.{length-box_member};
 
     ghost each_width = { length-box_member };
 
-    ghost use Rattle.sgb_vec.specs.Rising.{box_vectors_rise};
+    ghost use Rattle.sgb_vec.specs.inner.Rising.{box_vectors_rise};
 
     ghost rising = { box_vectors_rise };
 }
@@ -114,7 +114,8 @@ impl Family for BoxFamily {
 // The product of the sizes, where it is at most the number of vertices that a graph may have. A size of
 // 0 is looked for first: the product is then 0, however great the other sizes are.
 fn vector_count(sizes: &[u32]) -> Option<u32>
-    ensures { result ≡ (if nat_lt most_vertices (product_of sizes.now) then None else Some (product_of sizes.now)) }
+    ensures { result ≡ (if nat_lt most_vertices (product_of sizes.now) then None else Some
+        (product_of sizes.now)) }
 {
     if sizes.contains(&0) {
         return Some(0);
@@ -186,9 +187,14 @@ fn put_tops(sizes: &[u32], entries: &mut [u32], steps: &mut Steps)
 fn last_below_top(sizes: &[u32], entries: &[u32], steps: &mut Steps) -> Option<usize>
     requires below { AllZip (λ x s. x < s) entries.now sizes.now }
     requires count { steps.old + length entries.now < 2 ^ 64 }
-    ensures below { IfSome result (λ p. (p < length entries.now) × (slice_index entries.now p + 1 < slice_index sizes.now p)) }
-    ensures top_after { IfSome result (λ p. (k : ℕ) → p < k → k < length entries.now → slice_index entries.now k + 1 ≡ slice_index sizes.now k) }
-    ensures all_top { IfNone result ((k : ℕ) → k < length entries.now → slice_index entries.now k + 1 ≡ slice_index sizes.now k) }
+    ensures below { IfSome result (λ p. (p < length entries.now)
+        × (slice_index entries.now p + 1 < slice_index sizes.now p)) }
+    ensures top_after { IfSome result
+        (λ p. (k : ℕ) → p < k → k < length entries.now → slice_index entries.now k + 1
+        ≡ slice_index sizes.now k) }
+    ensures all_top { IfNone result
+        ((k : ℕ) → k < length entries.now → slice_index entries.now k + 1
+        ≡ slice_index sizes.now k) }
     ensures visits { IfSome result (λ p. steps.new + p ≡ steps.old + length entries.now) }
     ensures all_visited { IfNone result (steps.new ≡ steps.old + length entries.now) }
 {
@@ -204,9 +210,12 @@ fn last_below_top(sizes: &[u32], entries: &[u32], steps: &mut Steps) -> Option<u
 // The last place whose entry is not 0.
 fn last_above_zero(entries: &[u32], steps: &mut Steps) -> Option<usize>
     requires { steps.old + length entries.now < 2 ^ 64 }
-    ensures above { IfSome result (λ p. (p < length entries.now) × (0 < slice_index entries.now p)) }
-    ensures zero_after { IfSome result (λ p. (k : ℕ) → p < k → k < length entries.now → slice_index entries.now k ≡ 0) }
-    ensures all_zero { IfNone result ((k : ℕ) → k < length entries.now → slice_index entries.now k ≡ 0) }
+    ensures above { IfSome result (λ p. (p < length entries.now)
+        × (0 < slice_index entries.now p)) }
+    ensures zero_after { IfSome result
+        (λ p. (k : ℕ) → p < k → k < length entries.now → slice_index entries.now k ≡ 0) }
+    ensures all_zero { IfNone result
+        ((k : ℕ) → k < length entries.now → slice_index entries.now k ≡ 0) }
     ensures visits { IfSome result (λ p. steps.new + p ≡ steps.old + length entries.now) }
     ensures all_visited { IfNone result (steps.new ≡ steps.old + length entries.now) }
 {
@@ -228,7 +237,8 @@ fn advance(sizes: &[u32], entries: &mut [u32], steps: &mut Steps) -> bool
     ensures found { OnTrue result (IsNext (box sizes.now) entries.old entries.new) }
     ensures last { OnFalse result (IsLast (box sizes.now) entries.old) }
     ensures unchanged { OnFalse result (entries.new ≡ entries.old) }
-    ensures visits { HasVisited (length sizes.now) (changed_entries entries.old entries.new) steps.old steps.new }
+    ensures visits { HasVisited (length sizes.now) (changed_entries entries.old entries.new)
+        steps.old steps.new }
 {
     let Some(place) = last_below_top(sizes, entries, steps) else {
         return false;
@@ -247,7 +257,8 @@ fn retreat(sizes: &[u32], entries: &mut [u32], steps: &mut Steps) -> bool
     ensures found { OnTrue result (IsPrevious (box sizes.now) entries.old entries.new) }
     ensures first { OnFalse result (HasNoneBefore (box sizes.now) entries.old) }
     ensures unchanged { OnFalse result (entries.new ≡ entries.old) }
-    ensures visits { HasVisited (length sizes.now) (changed_entries entries.old entries.new) steps.old steps.new }
+    ensures visits { HasVisited (length sizes.now) (changed_entries entries.old entries.new)
+        steps.old steps.new }
 {
     let Some(place) = last_above_zero(entries, steps) else {
         return false;

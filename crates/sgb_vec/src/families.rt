@@ -54,19 +54,23 @@ pub trait Family {
     fn next(&self, vector: &mut Vector, steps: &mut Steps) -> bool
         requires member { Contains (members self.now) vector.old.items }
         requires count { steps.old ≤ 2 ^ 63 }
-        ensures found { OnTrue result (IsNext (members self.now) vector.old.items vector.new.items) }
+        ensures found { OnTrue result (IsNext (members self.now) vector.old.items
+            vector.new.items) }
         ensures last { OnFalse result (IsLast (members self.now) vector.old.items) }
         ensures unchanged { OnFalse result (vector.new.items ≡ vector.old.items) }
-        ensures visits { HasVisited (width self.now) (changed_entries vector.old.items vector.new.items) steps.old steps.new };
+        ensures visits { HasVisited (width self.now)
+            (changed_entries vector.old.items vector.new.items) steps.old steps.new };
 
     /// Puts the member before `vector` into it. `false` at the first, and `vector` is then as before.
     fn prev(&self, vector: &mut Vector, steps: &mut Steps) -> bool
         requires member { Contains (members self.now) vector.old.items }
         requires count { steps.old ≤ 2 ^ 63 }
-        ensures found { OnTrue result (IsPrevious (members self.now) vector.old.items vector.new.items) }
+        ensures found { OnTrue result (IsPrevious (members self.now) vector.old.items
+            vector.new.items) }
         ensures first { OnFalse result (HasNoneBefore (members self.now) vector.old.items) }
         ensures unchanged { OnFalse result (vector.new.items ≡ vector.old.items) }
-        ensures visits { HasVisited (width self.now) (changed_entries vector.old.items vector.new.items) steps.old steps.new };
+        ensures visits { HasVisited (width self.now)
+            (changed_entries vector.old.items vector.new.items) steps.old steps.new };
 
     // Each member has that many entries.
     ghost each_width: { (f : Self) (v : List ℕ) → Contains (members f) v → length v ≡ width f };

@@ -1,18 +1,31 @@
 //! Vectors, the families of vectors that GraphBase's generators have as vertices, and their names.
 #![tactic(auto)]
 
+// The vectors of a box.
 mod boxes;
+// Digits, and the number that they write.
 mod digits;
+// What a family of vectors is.
 mod families;
+// What holds of all families and names.
 mod laws;
+// Limits that several subjects share.
 mod limits;
+// The vector that a name stands for.
 mod named;
+// The panic codes.
 mod panics;
+// The sizes of a board and the bounds of a simplex.
 mod shapes;
+// Small things that the families share.
 mod shared;
+// How many entries a walk visits.
 mod steps;
+// The vectors of a bounded sum.
 mod sums;
+// The texts of vertices, and the name of a vector.
 mod texts;
+// The vectors of a family, from either end.
 mod vectors;
 
 pub use boxes::BoxFamily;

@@ -10,8 +10,10 @@ use itoa::Buffer;
 /// The vector whose name is this text (GB_BASIC, board): decimal numbers below 2^32 without leading zeros, joined by dots,
 /// at most 251 of them. The empty text is the name of the empty vector. `None` where the text is no vector's name.
 pub fn vector_of(name: &[u8]) -> Option<Vector>
-    ensures named { IfSome result (λ vector. IsVector vector.items × (name_of_vector vector.items ≡ name.now)) }
-    ensures none { IfNone result ((vector : List ℕ) → IsVector vector → name_of_vector vector ≢ name.now) }
+    ensures named { IfSome result (λ vector. IsVector vector.items
+        × (name_of_vector vector.items ≡ name.now)) }
+    ensures none { IfNone result ((vector : List ℕ) → IsVector vector → name_of_vector vector
+        ≢ name.now) }
 {
     let mut vector = Vector::new();
     if name.is_empty() {

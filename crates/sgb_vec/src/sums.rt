@@ -1,4 +1,4 @@
-ghost use Rattle.std.specs.Prelude.{◌≡◌, ◌+◌, ◌<◌, ◌≤◌, ◌^◌, ◌⊎◌, ◌↔◌, length, drop, sum, IsTrue, IfSome, IfNone, slice_index, nat_le};
+ghost use Rattle.std.specs.Prelude.{◌≡◌, ◌+◌, ◌<◌, ◌≤◌, ◌^◌, ◌⊎◌, ◌↔◌, length, drop, sum, Contains, IsTrue, IfSome, IfNone, slice_index, nat_le};
 ghost use Rattle.std.specs.Bool.{OnTrue, OnFalse};
 ghost use Rattle.std.specs.List.{list_all, zip};
 ghost use Rattle.sgb_vec.specs.Lexicographic.{IsWithin};
@@ -70,6 +70,64 @@ impl SumFamily {
             count,
         })
     }
+
+    // Puts the vector after `entries` into it: the last entry that can grow at the cost of those after it grows by 1,
+    // and these become the first vector of what is left to them. `false` where none can, and `entries` is then as
+    // before.
+    fn advance(&self, entries: &mut [u32], steps: &mut Steps) -> bool
+        requires member { Contains (bounded_sums self.now.total self.now.bounds) entries.old }
+        requires few { length entries.old ≤ 251 }
+        requires count { steps.old ≤ 2 ^ 63 }
+        ensures found { OnTrue result
+            (IsNext (bounded_sums self.now.total self.now.bounds) entries.old entries.new) }
+        ensures last { OnFalse result
+            (IsLast (bounded_sums self.now.total self.now.bounds) entries.old) }
+        ensures unchanged { OnFalse result (entries.new ≡ entries.old) }
+        ensures visits { HasVisited (length self.now.bounds)
+            (changed_entries entries.old entries.new) steps.old steps.new }
+    {
+        let bounds = self.bounds.as_slice();
+        let Some((place, after)) = last_growing(bounds, entries, steps) else {
+            return false;
+        };
+        entries[place] += 1;
+        put_least(
+            &bounds[place + 1..],
+            &mut entries[place + 1..],
+            after - 1,
+            steps,
+        );
+        true
+    }
+
+    // Puts the vector before `entries` into it: the last entry that can fall to the benefit of those after it falls
+    // by 1, and these become the last vector of what they then have. `false` where none can, and `entries` is then
+    // as before.
+    fn retreat(&self, entries: &mut [u32], steps: &mut Steps) -> bool
+        requires member { Contains (bounded_sums self.now.total self.now.bounds) entries.old }
+        requires few { length entries.old ≤ 251 }
+        requires count { steps.old ≤ 2 ^ 63 }
+        ensures found { OnTrue result
+            (IsPrevious (bounded_sums self.now.total self.now.bounds) entries.old entries.new) }
+        ensures first { OnFalse result
+            (HasNoneBefore (bounded_sums self.now.total self.now.bounds) entries.old) }
+        ensures unchanged { OnFalse result (entries.new ≡ entries.old) }
+        ensures visits { HasVisited (length self.now.bounds)
+            (changed_entries entries.old entries.new) steps.old steps.new }
+    {
+        let bounds = self.bounds.as_slice();
+        let Some((place, after)) = last_falling(bounds, entries, steps) else {
+            return false;
+        };
+        entries[place] -= 1;
+        put_greatest(
+            &bounds[place + 1..],
+            &mut entries[place + 1..],
+            after + 1,
+            steps,
+        );
+        true
+    }
 }
 
 impl Family for SumFamily {
@@ -118,18 +176,18 @@ impl Family for SumFamily {
     }
 
     fn next(&self, vector: &mut Vector, steps: &mut Steps) -> bool {
-        advance(self.bounds.as_slice(), vector.as_mut_slice(), steps)
+        self.advance(vector.as_mut_slice(), steps)
     }
 
     fn prev(&self, vector: &mut Vector, steps: &mut Steps) -> bool {
-        retreat(self.bounds.as_slice(), vector.as_mut_slice(), steps)
+        self.retreat(vector.as_mut_slice(), steps)
     }
 
-    ghost use Rattle.sgb_vec.specs.SumWidth.{length-sum_member};
+    ghost use Rattle.sgb_vec.specs.inner.SumWidth.{length-sum_member};
 
     ghost each_width = { length-sum_member };
 
-    ghost use Rattle.sgb_vec.specs.Rising.{sum_vectors_rise};
+    ghost use Rattle.sgb_vec.specs.inner.Rising.{sum_vectors_rise};
 
     ghost rising = { sum_vectors_rise };
 }
@@ -197,9 +255,11 @@ fn last_growing(bounds: &[u32], entries: &[u32], steps: &mut Steps) -> Option<(u
     requires within { IsWithin entries.now bounds.now }
     requires small { sum entries.now ≤ most_vertices }
     requires count { steps.old + length entries.now < 2 ^ 64 }
-    ensures below { IfSome result (λ p. (p.0 < length entries.now) × (slice_index entries.now p.0 < slice_index bounds.now p.0)) }
+    ensures below { IfSome result (λ p. (p.0 < length entries.now)
+        × (slice_index entries.now p.0 < slice_index bounds.now p.0)) }
     ensures after { IfSome result (λ p. (0 < p.1) × (p.1 ≡ sum (drop (p.0 + 1) entries.now))) }
-    ensures last_after { IfSome result (λ p. IsLast (bounded_sums p.1 (drop (p.0 + 1) bounds.now)) (drop (p.0 + 1) entries.now)) }
+    ensures last_after { IfSome result
+        (λ p. IsLast (bounded_sums p.1 (drop (p.0 + 1) bounds.now)) (drop (p.0 + 1) entries.now)) }
     ensures last { IfNone result (IsLast (bounded_sums (sum entries.now) bounds.now) entries.now) }
     ensures visits { IfSome result (λ p. steps.new + p.0 ≡ steps.old + length entries.now) }
     ensures all_visited { IfNone result (steps.new ≡ steps.old + length entries.now) }
@@ -220,10 +280,14 @@ fn last_falling(bounds: &[u32], entries: &[u32], steps: &mut Steps) -> Option<(u
     requires within { IsWithin entries.now bounds.now }
     requires small { sum entries.now ≤ most_vertices }
     requires count { steps.old + length entries.now < 2 ^ 64 }
-    ensures above { IfSome result (λ p. (p.0 < length entries.now) × (0 < slice_index entries.now p.0)) }
-    ensures after { IfSome result (λ p. (p.1 ≡ sum (drop (p.0 + 1) entries.now)) × (p.1 < sum (drop (p.0 + 1) bounds.now))) }
-    ensures first_after { IfSome result (λ p. IsFirst (bounded_sums p.1 (drop (p.0 + 1) bounds.now)) (drop (p.0 + 1) entries.now)) }
-    ensures first { IfNone result (IsFirst (bounded_sums (sum entries.now) bounds.now) entries.now) }
+    ensures above { IfSome result (λ p. (p.0 < length entries.now)
+        × (0 < slice_index entries.now p.0)) }
+    ensures after { IfSome result (λ p. (p.1 ≡ sum (drop (p.0 + 1) entries.now))
+        × (p.1 < sum (drop (p.0 + 1) bounds.now))) }
+    ensures first_after { IfSome result
+        (λ p. IsFirst (bounded_sums p.1 (drop (p.0 + 1) bounds.now)) (drop (p.0 + 1) entries.now)) }
+    ensures first { IfNone result (IsFirst (bounded_sums (sum entries.now) bounds.now)
+        entries.now) }
     ensures visits { IfSome result (λ p. steps.new + p.0 ≡ steps.old + length entries.now) }
     ensures all_visited { IfNone result (steps.new ≡ steps.old + length entries.now) }
 {
@@ -238,58 +302,6 @@ fn last_falling(bounds: &[u32], entries: &[u32], steps: &mut Steps) -> Option<(u
         after += entries[place];
     }
     None
-}
-
-// Puts the vector after `entries` into it, among those within the bounds that add to the same: the last entry that
-// can grow at the cost of those after it grows by 1, and these become the first vector of what is left to them.
-// `false` where none can, and `entries` is then as before.
-fn advance(bounds: &[u32], entries: &mut [u32], steps: &mut Steps) -> bool
-    requires within { IsWithin entries.old bounds.now }
-    requires small { sum entries.old ≤ most_vertices }
-    requires few { length entries.old ≤ 251 }
-    requires count { steps.old ≤ 2 ^ 63 }
-    ensures found { OnTrue result (IsNext (bounded_sums (sum entries.old) bounds.now) entries.old entries.new) }
-    ensures last { OnFalse result (IsLast (bounded_sums (sum entries.old) bounds.now) entries.old) }
-    ensures unchanged { OnFalse result (entries.new ≡ entries.old) }
-    ensures visits { HasVisited (length bounds.now) (changed_entries entries.old entries.new) steps.old steps.new }
-{
-    let Some((place, after)) = last_growing(bounds, entries, steps) else {
-        return false;
-    };
-    entries[place] += 1;
-    put_least(
-        &bounds[place + 1..],
-        &mut entries[place + 1..],
-        after - 1,
-        steps,
-    );
-    true
-}
-
-// Puts the vector before `entries` into it, among those within the bounds that add to the same: the last entry that
-// can fall to the benefit of those after it falls by 1, and these become the last vector of what they then have.
-// `false` where none can, and `entries` is then as before.
-fn retreat(bounds: &[u32], entries: &mut [u32], steps: &mut Steps) -> bool
-    requires within { IsWithin entries.old bounds.now }
-    requires small { sum entries.old ≤ most_vertices }
-    requires few { length entries.old ≤ 251 }
-    requires count { steps.old ≤ 2 ^ 63 }
-    ensures found { OnTrue result (IsPrevious (bounded_sums (sum entries.old) bounds.now) entries.old entries.new) }
-    ensures first { OnFalse result (HasNoneBefore (bounded_sums (sum entries.old) bounds.now) entries.old) }
-    ensures unchanged { OnFalse result (entries.new ≡ entries.old) }
-    ensures visits { HasVisited (length bounds.now) (changed_entries entries.old entries.new) steps.old steps.new }
-{
-    let Some((place, after)) = last_falling(bounds, entries, steps) else {
-        return false;
-    };
-    entries[place] -= 1;
-    put_greatest(
-        &bounds[place + 1..],
-        &mut entries[place + 1..],
-        after + 1,
-        steps,
-    );
-    true
 }
 
 #[cfg(test)]

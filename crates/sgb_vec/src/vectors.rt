@@ -1,5 +1,5 @@
 //! The vectors of a family, from either end.
-ghost use Rattle.std.specs.Prelude.{◌≡◌, ◌≤◌, ◌+◌, [], Some, Contains, IfSome, IfNone, drop, length, nat_lt, slice_get};
+ghost use Rattle.std.specs.Prelude.{◌≡◌, ◌≤◌, ◌+◌, ◌-◌, [], Some, Contains, IfSome, IfNone, drop, length, nat_lt, slice_get, take};
 ghost use Rattle.std.specs.Iterator.{YieldsFirstBy, YieldsLastBy, item_count};
 ghost use Rattle.sgb_vec.specs.Limits.{most_dimensions};
 ghost use Rattle.sgb_vec.specs.Ranges.{ComeAfter};
@@ -22,7 +22,7 @@ pub struct Vectors<'a, F: Family> {
 
 impl<'a, F: Family> Model for Vectors<'a, F> {
     ghost use Rattle.std.specs.Prelude.{List, ℕ, IsTrue};
-    ghost use Rattle.sgb_vec.specs.Ranges.{AreEnds, from_to_if};
+    ghost use Rattle.sgb_vec.specs.inner.Ranges.{AreEnds, from_to_if};
 
     ghost Value = { List (List ℕ) };
 
@@ -38,8 +38,8 @@ impl<'a, F: Family> Vectors<'a, F> {
     {
         let mut front = Vector::new();
         let mut back = Vector::new();
-        let more = family.first(&mut front, &mut Steps::new());
-        let _some = family.last(&mut back, &mut Steps::new());
+        let more = family.first(&mut front, &mut uncounted());
+        let _some = family.last(&mut back, &mut uncounted());
         Vectors {
             family,
             more,
@@ -50,7 +50,8 @@ impl<'a, F: Family> Vectors<'a, F> {
 
     /// The vectors of the family after this one, in order. `None` where it is no vector of the family.
     pub fn after(family: &'a F, vector: &[u32]) -> Option<Vectors<'a, F>>
-        ensures after { IfSome result (λ vectors. ComeAfter (F.members family.now) vector.now vectors) }
+        ensures after { IfSome result (λ vectors. ComeAfter (F.members family.now) vector.now
+            vectors) }
         ensures none { IfNone result (¬ Contains (F.members family.now) vector.now) }
     {
         if vector.len() != family.dims() || !family.holds(vector) {
@@ -58,8 +59,8 @@ impl<'a, F: Family> Vectors<'a, F> {
         }
         let mut front = ArrayVec::try_from(vector).unwrap();
         let mut back = Vector::new();
-        let more = family.next(&mut front, &mut Steps::new());
-        let _some = family.last(&mut back, &mut Steps::new());
+        let more = family.next(&mut front, &mut uncounted());
+        let _some = family.last(&mut back, &mut uncounted());
         Some(Vectors {
             family,
             more,
@@ -92,9 +93,45 @@ impl<'a, F: Family> Vectors<'a, F> {
             self.more = false;
             return true;
         }
-        let _more = self.family.next(&mut self.front, &mut Steps::new());
+        let _more = self.family.next(&mut self.front, &mut uncounted());
         true
     }
+
+    /// The last vector, where it stands; `None` where none is left.
+    pub fn back(&self) -> Option<&[u32]>
+        ensures last { IfSome result (λ vector. slice_get self.now (length self.now - 1)
+            ≡ Some vector.now) }
+        ensures short { IfSome result (λ vector. length vector.now ≤ most_dimensions + 1) }
+        ensures none { IfNone result (self.now ≡ []) }
+    {
+        if !self.more {
+            return None;
+        }
+        Some(self.back.as_slice())
+    }
+
+    /// Leaves out the last vector. Returns whether there was one.
+    pub fn retreat(&mut self) -> bool
+        ensures rest { self.new ≡ take (length self.old - 1) self.old }
+        ensures some { result ≡ nat_lt 0 (length self.old) }
+    {
+        if !self.more {
+            return false;
+        }
+        if self.front.as_slice() == self.back.as_slice() {
+            self.more = false;
+            return true;
+        }
+        let _more = self.family.prev(&mut self.back, &mut uncounted());
+        true
+    }
+}
+
+// A count of visits that nobody reads.
+fn uncounted() -> Steps
+    ensures { result ≡ 0 }
+{
+    Steps::new()
 }
 
 impl<'a, F: Family> Iterator for Vectors<'a, F> {
@@ -122,11 +159,7 @@ impl<'a, F: Family> DoubleEndedIterator for Vectors<'a, F> {
             return None;
         }
         let vector = ArrayVec::try_from(self.back.as_slice()).unwrap();
-        if self.front.as_slice() == self.back.as_slice() {
-            self.more = false;
-            return Some(vector);
-        }
-        let _more = self.family.prev(&mut self.back, &mut Steps::new());
+        let _some = self.retreat();
         Some(vector)
     }
 }

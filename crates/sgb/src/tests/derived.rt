@@ -1,5 +1,4 @@
 //! Line graphs, products, induced graphs, complete bipartite graphs and wheels.
-
 use super::refusals::check_refusals;
 use super::{CODE_30, CODE_40, CODE_60, answers_are};
 use std::test::Fail;
@@ -127,7 +126,7 @@ fn answers_to_derived_graphs(rt: HostRuntime) -> Result<(), Fail> {
 }
 
 // Operands and entries are evaluated in order before the operation's own refusals.
-static REFUSED: [(&[&str], &str, u8); 19] = [
+static REFUSED: [(&[&str], &str, u8); 17] = [
     (&["list", "lines(cycle(3),0)"], CODE_60, 1),
     (
         &["list", "product(empty(40000),empty(40000),0,0)"],
@@ -163,19 +162,9 @@ static REFUSED: [(&[&str], &str, u8); 19] = [
         CODE_40,
         1,
     ),
-    (
-        &["names", "induced(complete(2),[1,999999999999999999],0,0,0)"],
-        CODE_40,
-        1,
-    ),
     // 2^32 + 1 does not count as 1
     (
         &["names", "induced(complete(2),[1,4294967297],0,0,0)"],
-        CODE_40,
-        1,
-    ),
-    (
-        &["names", "induced(complete(2),[2000000000,-1],0,0,0)"],
         CODE_40,
         1,
     ),

@@ -1,5 +1,4 @@
 //! A sink that keeps what it is given, counts its calls and may be made to fail.
-
 ghost use Rattle.std.specs.Prelude.{◌≡◌, false};
 
 use sgb_file::{Failed, MemSink, Sink};

@@ -1,5 +1,4 @@
 //! Devices that fail: what becomes of the faults of each, and how often it is called.
-
 ghost use Rattle.std.specs.Prelude.{◌<◌};
 
 use super::devices::Counted;

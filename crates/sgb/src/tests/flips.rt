@@ -1,5 +1,4 @@
 //! Random numbers, with values from GB_FLIP's own test and from a program of its rules by itself.
-
 use super::refusals::check_refusals;
 use super::{CODE_30, TOO_LARGE, answers_are};
 use std::test::Fail;

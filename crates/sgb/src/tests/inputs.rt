@@ -1,5 +1,4 @@
 //! Calls that read standard input, and calls that leave it alone.
-
 ghost use Rattle.std.specs.Prelude.{◌<◌};
 
 use super::{

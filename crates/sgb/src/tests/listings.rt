@@ -1,11 +1,9 @@
 //! The listings of the graphs that generators make.
-
 use super::{Parts, answers_are, answers_have};
 use crate::locals::Local;
 use crate::writing::families::list_family;
-use sgb_file::MemSink;
+use sgb_file::CutSink;
 use sgb_gen::{Board, BoardParams, Links};
-use sgb_vec::Family;
 use std::alloc::Global;
 use std::test::Fail;
 
@@ -199,45 +197,49 @@ static PARTS_OF_LISTINGS: [Parts; 11] = [
 ];
 
 #[test]
-fn short_names(rt: HostRuntime) -> Result<(), Fail> {
+fn heads_and_last_blocks(rt: HostRuntime) -> Result<(), Fail> {
     answers_have(&rt, rt.alloc(), &PARTS_OF_LISTINGS)
 }
 
-// What `list_family` writes of a line of `n1` squares: the blocks after this vector, or all with the head where it has no
-// such vector.
-fn listed(alloc: Global, n1: i64, x: &[u32]) -> MemSink {
-    let mut out = MemSink::new(alloc);
+// What a sink of 200 bytes has of the listing of a board with its head.
+fn begun(alloc: Global, n1: i64, n2: i64, piece: i64) -> CutSink<200> {
+    let mut out = CutSink::new(200, 200, false);
     let params = BoardParams {
         n1,
-        n2: 0,
+        n2,
         n3: 0,
         n4: 0,
-        piece: 1,
+        piece,
         wrap: 0,
         directed: false,
     };
     let Ok(board) = Board::from_params(&params) else {
         return out;
     };
-    let holds = board.family().holds(x);
     let local = Local::Board(board);
     let mut links = Links::new(alloc);
-    let _written = if holds {
-        list_family(&local, false, Some(x), &mut links, &mut out)
-    } else {
-        list_family(&local, true, None, &mut links, &mut out)
-    };
+    let _cut = list_family(&local, true, None, &mut links, &mut out);
     out
 }
 
+// A walk over the vertices of these boards would not reach the head in the time that a test has.
 #[test]
-fn listings_by_themselves(rt: HostRuntime) -> Result<(), Fail> {
-    let last = "999999998\n  -> 999999999, length 1\n  -> 999999997, length 1\n\
-        999999999\n  -> 999999998, length 1\n";
-    let whole =
-        "  The graph whose official name is\nboard(2,0,0,0,1,0,0)\n  has 2 vertices and 2 arcs:\n\n\
-        0\n  -> 1, length 1\n1\n  -> 0, length 1\n";
-    assert!(rt; listed(rt.alloc(), 1_000_000_000, &[999_999_997]).bytes() == last.as_bytes());
-    assert!(rt; listed(rt.alloc(), 2, &[2]).bytes() == whole.as_bytes());
+fn heads_of_great_boards(rt: HostRuntime) -> Result<(), Fail> {
+    let line =
+        "  The graph whose official name is\nboard(1000000000,0,0,0,1,0,0)\n  has 1000000000 vertices and \
+        1999999998 arcs:\n\n0\n  -> 1, length 1\n";
+    let rooks =
+        "  The graph whose official name is\nboard(30000,30000,0,0,-1,0,0)\n  has 900000000 vertices and \
+        53998200000000 arcs:\n\n0.0\n";
+    assert!(rt;
+        begun(rt.alloc(), 1_000_000_000, 0, 1)
+            .bytes()
+            .starts_with(line.as_bytes())
+    );
+    assert!(rt;
+        begun(rt.alloc(), 30_000, 30_000, -1)
+            .bytes()
+            .starts_with(rooks.as_bytes())
+    );
     Ok(())
 }

@@ -1,5 +1,4 @@
 //! The names of the vertices that generators make.
-
 use super::{Parts, answers_are, answers_have};
 use std::test::Fail;
 
@@ -74,27 +73,6 @@ static MANY_NAMES: [Parts; 2] = [
 #[test]
 fn many_names(rt: HostRuntime) -> Result<(), Fail> {
     answers_have(&rt, rt.alloc(), &MANY_NAMES)
-}
-
-static LAST_OF_MANY: [(&[&str], &str); 2] = [
-    (
-        &[
-            "names",
-            "simplex(2,-60,0,0,0,0,0)",
-            "--after",
-            "2.0.0.0.0.0.0.0.0.0.0.0.0.0.0.0.0.0.0.0.0.0.0.0.0.0.0.0.0.0.0.0.0.0.0.0.0.0.0.0.0.0.0.0.0.0.0.0.0.0.0.0.0.0.0.0.0.0.0.0.0",
-        ],
-        "",
-    ),
-    (
-        &["names", "simplex(2,-60,0,0,0,0,0)", "--skip", "1890"],
-        "2.0.0.0.0.0.0.0.0.0.0.0.0.0.0.0.0.0.0.0.0.0.0.0.0.0.0.0.0.0.0.0.0.0.0.0.0.0.0.0.0.0.0.0.0.0.0.0.0.0.0.0.0.0.0.0.0.0.0.0.0\n",
-    ),
-];
-
-#[test]
-fn the_last_of_many(rt: HostRuntime) -> Result<(), Fail> {
-    answers_are(&rt, rt.alloc(), &LAST_OF_MANY)
 }
 
 // The vectors after a name are found without those before it, of which there may be a billion.

@@ -1,9 +1,11 @@
 //! The listing of a generator's graph, written from its vectors: one list of arcs after another, and no graph is built.
 ghost use Rattle.std.specs.Prelude.{◌≡◌, false, pos, drop, option_map, Contains, IfOk, IfSome, IsOkUnless};
 ghost use Rattle.std.specs.List.{flat_map};
+ghost use Rattle.sgb_file.specs.Devices.{change};
 ghost use Rattle.sgb_graph.specs.Made.{graph_described};
-ghost use Rattle.sgb.specs.Locals.{arcs_among, family_text, head_if, local_block, local_line, start_after, vectors_of};
-ghost use Rattle.sgb.specs.Remaining.{IsRest};
+ghost use Rattle.sgb.specs.Locals.{family_text, head_if, start_after, vectors_of};
+ghost use Rattle.sgb.specs.inner.Locals.{arcs_among, local_block, local_line};
+ghost use Rattle.sgb.specs.inner.Remaining.{IsRest};
 ghost use Rattle.sgb.specs.Texts.{head};
 ghost use Rattle.sgb.specs.Values.{described};
 ghost use Rattle.sgb.specs.Writing.{IsWritten};
@@ -33,7 +35,9 @@ pub fn list_family<W: Sink>(
 ) -> Result<(), Fault>
     requires member { IfSome after (λ x. Contains (vectors_of local.now) x.now) }
     requires sound { W.has_failed out.old ≡ false }
-    ensures { IsWritten (family_text (graph_described (described local.now)) head (start_after (vectors_of local.now) (option_map (λ x. x.now) after.entry))) (record { before = W.written out.old; after = W.written out.new; failed = W.has_failed out.new }) result }
+    ensures { IsWritten (family_text (graph_described (described local.now)) head
+        (start_after (vectors_of local.now) (option_map (λ x. x.now) after.entry)))
+        (change W.written W.has_failed out.old out.new) result }
 {
     match local {
         Local::Board(board) => list_vectors(local, board.family(), head, after, links, out),
@@ -54,7 +58,9 @@ fn list_vectors<F: Family, W: Sink>(
     requires members { F.members family.now ≡ vectors_of local.now }
     requires member { IfSome after (λ x. Contains (vectors_of local.now) x.now) }
     requires sound { W.has_failed out.old ≡ false }
-    ensures { IsWritten (family_text (graph_described (described local.now)) head (start_after (vectors_of local.now) (option_map (λ x. x.now) after.entry))) (record { before = W.written out.old; after = W.written out.new; failed = W.has_failed out.new }) result }
+    ensures { IsWritten (family_text (graph_described (described local.now)) head
+        (start_after (vectors_of local.now) (option_map (λ x. x.now) after.entry)))
+        (change W.written W.has_failed out.old out.new) result }
 {
     let vectors = vectors_after(family, after);
     write_head_if(head, local, family, links, out)?;
@@ -64,7 +70,8 @@ fn list_vectors<F: Family, W: Sink>(
 // The vectors of the family after this member, or all.
 fn vectors_after<'a, F: Family>(family: &'a F, after: Option<&[u32]>) -> Vectors<'a, F>
     requires { IfSome after (λ x. Contains (F.members family.now) x.now) }
-    ensures { result ≡ drop (start_after (F.members family.now) (option_map (λ x. x.now) after.entry)) (F.members family.now) }
+    ensures { result ≡ drop (start_after (F.members family.now)
+        (option_map (λ x. x.now) after.entry)) (F.members family.now) }
 {
     match after {
         None => Vectors::all(family),
@@ -82,7 +89,8 @@ fn write_head_if<F: Family, W: Sink>(
 ) -> Result<(), Fault>
     requires members { F.members family.now ≡ vectors_of local.now }
     requires sound { W.has_failed out.old ≡ false }
-    ensures { IsWritten (head_if asked (graph_described (described local.now))) (record { before = W.written out.old; after = W.written out.new; failed = W.has_failed out.new }) result }
+    ensures { IsWritten (head_if asked (graph_described (described local.now)))
+        (change W.written W.has_failed out.old out.new) result }
 {
     if !asked {
         return Ok(());
@@ -99,13 +107,26 @@ fn write_head<F: Family, W: Sink>(
 ) -> Result<(), Fault>
     requires members { F.members family.now ≡ vectors_of local.now }
     requires sound { W.has_failed out.old ≡ false }
-    ensures { IsWritten (head (graph_described (described local.now))) (record { before = W.written out.old; after = W.written out.new; failed = W.has_failed out.new }) result }
+    ensures { IsWritten (head (graph_described (described local.now)))
+        (change W.written W.has_failed out.old out.new) result }
 {
-    let m = count_arcs(local, family, links)?;
+    let m = arcs_of(local, family, links)?;
     write_head_of(&local.id(), family.size(), m, out)
 }
 
-// How many arcs the graph has: those of all vectors.
+// How many arcs the graph has. Those of a board are counted without its lists.
+fn arcs_of<F: Family>(local: &Local, family: &F, links: &mut Links) -> Result<u128, Panic>
+    requires { F.members family.now ≡ vectors_of local.now }
+    ensures count { IfOk result (λ m. m ≡ (graph_described (described local.now)).m) }
+    ensures memory { IsOkUnless result Panic.NoRoom }
+{
+    if let Local::Board(board) = local {
+        return board.arcs_count();
+    }
+    count_arcs(local, family, links)
+}
+
+// How many arcs all lists have together, made one after another.
 fn count_arcs<F: Family>(local: &Local, family: &F, links: &mut Links) -> Result<u128, Panic>
     requires { F.members family.now ≡ vectors_of local.now }
     ensures count { IfOk result (λ m. m ≡ arcs_among local.now (vectors_of local.now)) }
@@ -133,7 +154,8 @@ fn write_blocks<F: Family, W: Sink>(
 ) -> Result<(), Fault>
     requires rest { IsRest (vectors_of local.now) vectors }
     requires sound { W.has_failed out.old ≡ false }
-    ensures { IsWritten (flat_map (local_block local.now) vectors.entry) (record { before = W.written out.old; after = W.written out.new; failed = W.has_failed out.new }) result }
+    ensures { IsWritten (flat_map (local_block local.now) vectors.entry)
+        (change W.written W.has_failed out.old out.new) result }
 {
     let mut left = vectors;
     while let Some(x) = left.front() {
@@ -152,7 +174,8 @@ fn write_block<W: Sink>(
 ) -> Result<(), Fault>
     requires member { Contains (vectors_of local.now) x.now }
     requires sound { W.has_failed out.old ≡ false }
-    ensures { IsWritten (local_block local.now x.now) (record { before = W.written out.old; after = W.written out.new; failed = W.has_failed out.new }) result }
+    ensures { IsWritten (local_block local.now x.now)
+        (change W.written W.has_failed out.old out.new) result }
 {
     local.arcs_at(x, links)?;
     write_name_line(x, out)?;
@@ -166,7 +189,8 @@ fn write_block<W: Sink>(
 // Writes the line of an arc to this vector.
 fn write_arc<W: Sink>(tip: &[u32], len: u32, out: &mut W) -> Result<(), Fault>
     requires { W.has_failed out.old ≡ false }
-    ensures { IsWritten (local_line (record { tip = tip.now; len = pos len })) (record { before = W.written out.old; after = W.written out.new; failed = W.has_failed out.new }) result }
+    ensures { IsWritten (local_line (record { tip = tip.now; len = pos len }))
+        (change W.written W.has_failed out.old out.new) result }
 {
     let mut digits = Buffer::new();
     write_bytes(out, b"  -> ")?;

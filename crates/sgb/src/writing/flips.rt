@@ -1,8 +1,10 @@
 //! Random numbers, written to a sink (GB_FLIP).
 ghost use Rattle.std.specs.Prelude.{◌≡◌, ◌≤◌, ◌+◌, ◌∷◌, ℕ, ℤ, suc, false};
+ghost use Rattle.sgb_file.specs.Devices.{change};
 ghost use Rattle.sgb_graph.specs.Draws.{IsAtDraw, modulus, seed_of};
 ghost use Rattle.sgb.specs.FlipAnswers.{accepted_draws, drawn, drawn_from, flip_answer, number_line, number_lines, number_within};
-ghost use Rattle.sgb.specs.Writing.{IsEnded, IsWritten};
+ghost use Rattle.sgb.specs.Writing.{IsWritten};
+ghost use Rattle.sgb.specs.inner.Writing.{IsEnded};
 
 use super::write_texts;
 use itoa::Buffer;
@@ -34,7 +36,8 @@ pub(crate) struct Draws {
 /// `Bad` where `skip` or `count` is not from 0 to 1,000,000,000, or `m` is not from 0 to 2^31.
 pub(crate) fn write_flip<W: Sink>(params: &FlipParams, out: &mut W) -> Result<(), Fault>
     requires { W.has_failed out.old ≡ false }
-    ensures { IsEnded (flip_answer params.now) (record { before = W.written out.old; after = W.written out.new; failed = W.has_failed out.new }) result }
+    ensures { IsEnded (flip_answer params.now) (change W.written W.has_failed out.old out.new)
+        result }
 {
     let draws = accepted_draws(params)?;
     write_draws(draws, out)
@@ -70,7 +73,8 @@ fn number_within(greatest: u32, integer: i64) -> Result<u32, Panic>
 fn write_draws<W: Sink>(draws: Draws, out: &mut W) -> Result<(), Fault>
     requires bound { draws.m ≤ modulus }
     requires sound { W.has_failed out.old ≡ false }
-    ensures { IsWritten (number_lines (drawn draws)) (record { before = W.written out.old; after = W.written out.new; failed = W.has_failed out.new }) result }
+    ensures { IsWritten (number_lines (drawn draws)) (change W.written W.has_failed out.old out.new)
+        result }
 {
     let mut flip = Flip::new(draws.start);
     skip_draws(&mut flip, draws.skip);
@@ -96,7 +100,8 @@ fn next_number(flip: &mut Flip, m: u32) -> u32
     requires { m ≤ modulus }
     ensures { (start : ℤ) (k : ℕ) → IsAtDraw start k flip.old.numbers flip.old.left
         → (next : ℕ) × IsAtDraw start next flip.new.numbers flip.new.left
-        × ((count : ℕ) → drawn_from (seed_of start) m k (suc count) ≡ result ∷ drawn_from (seed_of start) m next count) }
+        × ((count : ℕ) → drawn_from (seed_of start) m k (suc count) ≡ result
+        ∷ drawn_from (seed_of start) m next count) }
 {
     if m == 0 { flip.draw() } else { flip.below(m) }
 }
@@ -104,7 +109,8 @@ fn next_number(flip: &mut Flip, m: u32) -> u32
 // Writes the line of a number: its digits and a newline.
 fn write_number<W: Sink>(number: u32, out: &mut W) -> Result<(), Fault>
     requires { W.has_failed out.old ≡ false }
-    ensures { IsWritten (number_line number) (record { before = W.written out.old; after = W.written out.new; failed = W.has_failed out.new }) result }
+    ensures { IsWritten (number_line number) (change W.written W.has_failed out.old out.new)
+        result }
 {
     let mut digits = Buffer::new();
     write_texts(out, &[digits.format(number).as_bytes(), b"\n"])

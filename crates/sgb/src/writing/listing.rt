@@ -1,10 +1,12 @@
 //! The listing of a graph, written to a sink.
 ghost use Rattle.std.specs.Prelude.{◌≡◌, ◌<◌, ◌++◌, false, length};
 ghost use Rattle.std.specs.List.{flat_map};
+ghost use Rattle.sgb_file.specs.Devices.{change};
 ghost use Rattle.sgb_ops.specs.Operands.{names_of};
 ghost use Rattle.sgb.specs.Outcomes.{head_for, list_answer};
 ghost use Rattle.sgb.specs.Texts.{arc_line, block, blocks, head, head_text};
-ghost use Rattle.sgb.specs.Writing.{IsEnded, IsWritten};
+ghost use Rattle.sgb.specs.Writing.{IsWritten};
+ghost use Rattle.sgb.specs.inner.Writing.{IsEnded};
 
 use super::vertices::{vertices_left_out, write_name_line};
 use super::{write_bytes, write_texts};
@@ -23,7 +25,8 @@ pub(crate) fn write_listing<W: Sink>(
     out: &mut W,
 ) -> Result<(), Fault>
     requires { W.has_failed out.old ≡ false }
-    ensures { IsEnded (list_answer graph.now resume.now) (record { before = W.written out.old; after = W.written out.new; failed = W.has_failed out.new }) result }
+    ensures { IsEnded (list_answer graph.now resume.now)
+        (change W.written W.has_failed out.old out.new) result }
 {
     let from = vertices_left_out(graph, resume)?;
     write_head_for(resume, graph, out)?;
@@ -37,7 +40,8 @@ pub(crate) fn write_titled_listing<W: Sink>(
     out: &mut W,
 ) -> Result<(), Fault>
     requires { W.has_failed out.old ≡ false }
-    ensures { IsWritten (title.now ++ (head graph.now ++ blocks graph.now 0)) (record { before = W.written out.old; after = W.written out.new; failed = W.has_failed out.new }) result }
+    ensures { IsWritten (title.now ++ (head graph.now ++ blocks graph.now 0))
+        (change W.written W.has_failed out.old out.new) result }
 {
     write_bytes(out, title)?;
     write_head(graph, out)?;
@@ -47,7 +51,8 @@ pub(crate) fn write_titled_listing<W: Sink>(
 // Writes the head, but where the listing is resumed.
 fn write_head_for<W: Sink>(resume: &Resume, graph: &Graph, out: &mut W) -> Result<(), Fault>
     requires { W.has_failed out.old ≡ false }
-    ensures { IsWritten (head_for resume.now (head graph.now)) (record { before = W.written out.old; after = W.written out.new; failed = W.has_failed out.new }) result }
+    ensures { IsWritten (head_for resume.now (head graph.now))
+        (change W.written W.has_failed out.old out.new) result }
 {
     match resume {
         Resume::Whole => write_head(graph, out),
@@ -58,7 +63,7 @@ fn write_head_for<W: Sink>(resume: &Resume, graph: &Graph, out: &mut W) -> Resul
 // Writes what stands before the blocks.
 fn write_head<W: Sink>(graph: &Graph, out: &mut W) -> Result<(), Fault>
     requires { W.has_failed out.old ≡ false }
-    ensures { IsWritten (head graph.now) (record { before = W.written out.old; after = W.written out.new; failed = W.has_failed out.new }) result }
+    ensures { IsWritten (head graph.now) (change W.written W.has_failed out.old out.new) result }
 {
     let m: u64 = graph.m();
     write_head_of(graph.id(), graph.n(), u128::from(m), out)
@@ -67,7 +72,8 @@ fn write_head<W: Sink>(graph: &Graph, out: &mut W) -> Result<(), Fault>
 /// Writes what stands before the blocks of a graph of this id with `n` vertices and `m` arcs.
 pub(super) fn write_head_of<W: Sink>(id: &Id, n: u32, m: u128, out: &mut W) -> Result<(), Fault>
     requires { W.has_failed out.old ≡ false }
-    ensures { IsWritten (head_text id.now n m) (record { before = W.written out.old; after = W.written out.new; failed = W.has_failed out.new }) result }
+    ensures { IsWritten (head_text id.now n m) (change W.written W.has_failed out.old out.new)
+        result }
 {
     let mut vertices = Buffer::new();
     let mut arcs = Buffer::new();
@@ -88,7 +94,8 @@ pub(super) fn write_head_of<W: Sink>(id: &Id, n: u32, m: u128, out: &mut W) -> R
 // Writes the blocks of the vertices from `from` on.
 fn write_blocks<W: Sink>(graph: &Graph, from: u64, out: &mut W) -> Result<(), Fault>
     requires { W.has_failed out.old ≡ false }
-    ensures { IsWritten (blocks graph.now from) (record { before = W.written out.old; after = W.written out.new; failed = W.has_failed out.new }) result }
+    ensures { IsWritten (blocks graph.now from) (change W.written W.has_failed out.old out.new)
+        result }
 {
     let end = graph.n();
     let start = from.min(u64::from(end)) as u32;
@@ -103,7 +110,7 @@ fn write_blocks<W: Sink>(graph: &Graph, from: u64, out: &mut W) -> Result<(), Fa
 fn write_block<W: Sink>(graph: &Graph, v: u32, out: &mut W) -> Result<(), Fault>
     requires vertex { v < length graph.now.vertices }
     requires sound { W.has_failed out.old ≡ false }
-    ensures { IsWritten (block graph.now v) (record { before = W.written out.old; after = W.written out.new; failed = W.has_failed out.new }) result }
+    ensures { IsWritten (block graph.now v) (change W.written W.has_failed out.old out.new) result }
 {
     write_name_line(graph, v, out)?;
     for link in graph.arcs(v) {
@@ -116,7 +123,8 @@ fn write_block<W: Sink>(graph: &Graph, v: u32, out: &mut W) -> Result<(), Fault>
 fn write_arc<W: Sink>(graph: &Graph, link: Link, out: &mut W) -> Result<(), Fault>
     requires tip { link.tip < length graph.now.vertices }
     requires sound { W.has_failed out.old ≡ false }
-    ensures { IsWritten (arc_line (names_of graph.now) link) (record { before = W.written out.old; after = W.written out.new; failed = W.has_failed out.new }) result }
+    ensures { IsWritten (arc_line (names_of graph.now) link)
+        (change W.written W.has_failed out.old out.new) result }
 {
     let mut len = Buffer::new();
     write_texts(

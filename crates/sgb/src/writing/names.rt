@@ -1,11 +1,14 @@
 //! The names of a family's vectors, written one a line.
 ghost use Rattle.std.specs.Prelude.{◌≡◌, false, drop, map, option_map};
 ghost use Rattle.std.specs.List.{flat_map};
+ghost use Rattle.sgb_file.specs.Devices.{change};
 ghost use Rattle.sgb_vec.specs.Names.{name_of_vector};
 ghost use Rattle.sgb.specs.Outcomes.{names_answer};
-ghost use Rattle.sgb.specs.Remaining.{IsMemberNamed, IsNameAfter, Remain};
-ghost use Rattle.sgb.specs.Texts.{entry_text, name_line};
-ghost use Rattle.sgb.specs.Writing.{IsEnded, IsWritten};
+ghost use Rattle.sgb.specs.inner.Remaining.{IsMemberNamed, IsNameAfter, Remain};
+ghost use Rattle.sgb.specs.Texts.{name_line};
+ghost use Rattle.sgb.specs.inner.Texts.{entry_text};
+ghost use Rattle.sgb.specs.Writing.{IsWritten};
+ghost use Rattle.sgb.specs.inner.Writing.{IsEnded};
 
 use super::write_bytes;
 use itoa::Buffer;
@@ -22,7 +25,8 @@ pub(crate) fn write_names<F: Family, W: Sink>(
     out: &mut W,
 ) -> Result<(), Fault>
     requires { W.has_failed out.old ≡ false }
-    ensures { IsEnded (names_answer (map name_of_vector (F.members family.now)) resume.now) (record { before = W.written out.old; after = W.written out.new; failed = W.has_failed out.new }) result }
+    ensures { IsEnded (names_answer (map name_of_vector (F.members family.now)) resume.now)
+        (change W.written W.has_failed out.old out.new) result }
 {
     let vectors = remaining(family, resume)?;
     write_all(vectors, out)
@@ -68,7 +72,8 @@ fn after_name<'a, F: Family>(family: &'a F, name: &[u8]) -> Option<Vectors<'a, F
 
 /// The vector of the family that has this name. The name tells which vector that is, so none is searched for.
 pub(super) fn member_named<F: Family>(family: &F, name: &[u8]) -> Option<Vector>
-    ensures { IsMemberNamed (F.members family.now) name.now (option_map (λ vector. vector.items) result) }
+    ensures { IsMemberNamed (F.members family.now) name.now
+        (option_map (λ vector. vector.items) result) }
 {
     let dims = family.dims();
     let vector = vector_of(name)?;
@@ -84,7 +89,8 @@ pub(super) fn member_named<F: Family>(family: &F, name: &[u8]) -> Option<Vector>
 // Writes the lines of these vectors.
 fn write_all<F: Family, W: Sink>(vectors: Vectors<'_, F>, out: &mut W) -> Result<(), Fault>
     requires { W.has_failed out.old ≡ false }
-    ensures { IsWritten (flat_map name_line (map name_of_vector vectors.entry)) (record { before = W.written out.old; after = W.written out.new; failed = W.has_failed out.new }) result }
+    ensures { IsWritten (flat_map name_line (map name_of_vector vectors.entry))
+        (change W.written W.has_failed out.old out.new) result }
 {
     let mut left = vectors;
     while let Some(vector) = left.front() {
@@ -97,7 +103,8 @@ fn write_all<F: Family, W: Sink>(vectors: Vectors<'_, F>, out: &mut W) -> Result
 /// Writes the line of a vector: its name and a newline.
 pub(super) fn write_name_line<W: Sink>(vector: &[u32], out: &mut W) -> Result<(), Fault>
     requires { W.has_failed out.old ≡ false }
-    ensures { IsWritten (name_line (name_of_vector vector.now)) (record { before = W.written out.old; after = W.written out.new; failed = W.has_failed out.new }) result }
+    ensures { IsWritten (name_line (name_of_vector vector.now))
+        (change W.written W.has_failed out.old out.new) result }
 {
     write_name(vector, out)?;
     write_bytes(out, b"\n")
@@ -106,7 +113,8 @@ pub(super) fn write_name_line<W: Sink>(vector: &[u32], out: &mut W) -> Result<()
 /// Writes the name of a vector, entry by entry.
 pub(super) fn write_name<W: Sink>(vector: &[u32], out: &mut W) -> Result<(), Fault>
     requires { W.has_failed out.old ≡ false }
-    ensures { IsWritten (name_of_vector vector.now) (record { before = W.written out.old; after = W.written out.new; failed = W.has_failed out.new }) result }
+    ensures { IsWritten (name_of_vector vector.now) (change W.written W.has_failed out.old out.new)
+        result }
 {
     for (place, entry) in vector.iter().enumerate() {
         write_entry(place > 0, *entry, out)?;
@@ -117,7 +125,8 @@ pub(super) fn write_name<W: Sink>(vector: &[u32], out: &mut W) -> Result<(), Fau
 // Writes an entry in decimal, after a dot where it is not the first.
 fn write_entry<W: Sink>(dotted: bool, entry: u32, out: &mut W) -> Result<(), Fault>
     requires { W.has_failed out.old ≡ false }
-    ensures { IsWritten (entry_text dotted entry) (record { before = W.written out.old; after = W.written out.new; failed = W.has_failed out.new }) result }
+    ensures { IsWritten (entry_text dotted entry) (change W.written W.has_failed out.old out.new)
+        result }
 {
     let mut digits = Buffer::new();
     if dotted {

@@ -1,11 +1,13 @@
 //! The listing of a generator's graph from where the answer begins.
 ghost use Rattle.std.specs.Prelude.{◌≡◌, false};
+ghost use Rattle.sgb_file.specs.Devices.{change};
 ghost use Rattle.sgb_graph.specs.Made.{graph_described};
 ghost use Rattle.sgb.specs.Locals.{vectors_of};
 ghost use Rattle.sgb.specs.Outcomes.{list_answer};
 ghost use Rattle.sgb.specs.Texts.{blocks};
 ghost use Rattle.sgb.specs.Values.{described};
-ghost use Rattle.sgb.specs.Writing.{IsEnded, IsWritten};
+ghost use Rattle.sgb.specs.Writing.{IsWritten};
+ghost use Rattle.sgb.specs.inner.Writing.{IsEnded};
 
 use super::families::list_family;
 use super::names::{member_named, without_first};
@@ -28,7 +30,8 @@ pub(crate) fn list_resumed<F: Family, W: Sink>(
 ) -> Result<(), Fault>
     requires members { F.members family.now ≡ vectors_of local.now }
     requires sound { W.has_failed out.old ≡ false }
-    ensures { IsEnded (list_answer (graph_described (described local.now)) resume.now) (record { before = W.written out.old; after = W.written out.new; failed = W.has_failed out.new }) result }
+    ensures { IsEnded (list_answer (graph_described (described local.now)) resume.now)
+        (change W.written W.has_failed out.old out.new) result }
 {
     match resume {
         Resume::Whole => list_family(local, true, None, links, out),
@@ -50,7 +53,8 @@ fn list_skipping<F: Family, W: Sink>(
 ) -> Result<(), Fault>
     requires members { F.members family.now ≡ vectors_of local.now }
     requires sound { W.has_failed out.old ≡ false }
-    ensures { IsWritten (blocks (graph_described (described local.now)) count) (record { before = W.written out.old; after = W.written out.new; failed = W.has_failed out.new }) result }
+    ensures { IsWritten (blocks (graph_described (described local.now)) count)
+        (change W.written W.has_failed out.old out.new) result }
 {
     if count == 0 {
         return list_family(local, false, None, links, out);

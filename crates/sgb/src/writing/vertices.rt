@@ -1,10 +1,12 @@
 //! The names of a graph's vertices, written one a line, and where an answer begins by a name.
 ghost use Rattle.std.specs.Prelude.{◌≡◌, ◌<◌, [], false, length};
 ghost use Rattle.std.specs.List.{slice_index_or};
+ghost use Rattle.sgb_file.specs.Devices.{change};
 ghost use Rattle.sgb_ops.specs.Operands.{names_of};
 ghost use Rattle.sgb.specs.Outcomes.{left_out, names_answer, vertex_named};
 ghost use Rattle.sgb.specs.Texts.{name_line, name_lines};
-ghost use Rattle.sgb.specs.Writing.{IsEnded, IsWritten};
+ghost use Rattle.sgb.specs.Writing.{IsWritten};
+ghost use Rattle.sgb.specs.inner.Writing.{IsEnded};
 
 use super::write_texts;
 use sgb_file::Sink;
@@ -20,7 +22,8 @@ pub(crate) fn write_vertex_names<W: Sink>(
     out: &mut W,
 ) -> Result<(), Fault>
     requires { W.has_failed out.old ≡ false }
-    ensures { IsEnded (names_answer (names_of graph.now) resume.now) (record { before = W.written out.old; after = W.written out.new; failed = W.has_failed out.new }) result }
+    ensures { IsEnded (names_answer (names_of graph.now) resume.now)
+        (change W.written W.has_failed out.old out.new) result }
 {
     let from = vertices_left_out(graph, resume)?;
     write_name_lines(graph, from, out)
@@ -29,7 +32,8 @@ pub(crate) fn write_vertex_names<W: Sink>(
 // Writes the names of the vertices from `from` on.
 fn write_name_lines<W: Sink>(graph: &Graph, from: u64, out: &mut W) -> Result<(), Fault>
     requires { W.has_failed out.old ≡ false }
-    ensures { IsWritten (name_lines (names_of graph.now) from) (record { before = W.written out.old; after = W.written out.new; failed = W.has_failed out.new }) result }
+    ensures { IsWritten (name_lines (names_of graph.now) from)
+        (change W.written W.has_failed out.old out.new) result }
 {
     let end = graph.n();
     let start = from.min(u64::from(end)) as u32;
@@ -43,7 +47,8 @@ fn write_name_lines<W: Sink>(graph: &Graph, from: u64, out: &mut W) -> Result<()
 pub(super) fn write_name_line<W: Sink>(graph: &Graph, v: u32, out: &mut W) -> Result<(), Fault>
     requires vertex { v < length graph.now.vertices }
     requires sound { W.has_failed out.old ≡ false }
-    ensures { IsWritten (name_line (slice_index_or (names_of graph.now) v [])) (record { before = W.written out.old; after = W.written out.new; failed = W.has_failed out.new }) result }
+    ensures { IsWritten (name_line (slice_index_or (names_of graph.now) v []))
+        (change W.written W.has_failed out.old out.new) result }
 {
     write_texts(out, &[graph.name(v).bytes(), b"\n"])
 }

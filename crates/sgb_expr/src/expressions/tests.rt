@@ -1,56 +1,56 @@
 use super::*;
-use crate::cases::{PETERSEN, RING, TRIANGLE, first_unmet, is_answer, is_family, read};
+use crate::cases::{first_unmet, first_unread, is_answer};
 use std::alloc::AllocError;
 
-// Whether the text is read as this graph of a generator.
-fn is_read_as(alloc: Global, text: &str, family: Family) -> bool {
-    match read(alloc, text) {
-        Some(expression) => is_family(&expression, family),
-        None => false,
-    }
-}
-
-// The board with these numbers.
-fn board(numbers: [i64; 6], directed: bool) -> Family {
-    let [n1, n2, n3, n4, piece, wrap] = numbers;
-    Family::Board(BoardParams {
-        n1,
-        n2,
-        n3,
-        n4,
-        piece,
-        wrap,
-        directed,
-    })
-}
-
-/// The largest integer of 18 digits.
-const LONGEST: i64 = 999_999_999_999_999_999;
-
-/// Texts of boards, each with its numbers, and whether it is directed.
-static BOARDS: [(&str, [i64; 6], bool); 7] = [
-    ("board(2,3,0,0,1,0,0)", [2, 3, 0, 0, 1, 0], false),
-    ("board(2,3,5,-7,1,0,0)", [2, 3, 5, -7, 1, 0], false),
-    ("board(007,-0,-00,0,1,0,-000)", [7, 0, 0, 0, 1, 0], false),
-    ("board(1,2,3,4,5,6,1)", [1, 2, 3, 4, 5, 6], true),
-    ("board(1,2,3,4,5,6,2)", [1, 2, 3, 4, 5, 6], true),
-    ("board(1,2,3,4,5,6,-5)", [1, 2, 3, 4, 5, 6], true),
-    (
-        "board(999999999999999999,-999999999999999999,0,0,0,0,0)",
-        [LONGEST, -LONGEST, 0, 0, 0, 0],
-        false,
-    ),
-];
+/// Texts, each with the expression that it is after a space, as `{:?}` shows it.
+const GENERATORS: &str = "\
+board(2,3,5,-7,1,0,0) Generator(Board(BoardParams { n1: 2, n2: 3, n3: 5, n4: -7, piece: 1, wrap: 0, directed: false }))
+board(007,-0,-00,0,1,0,-000) Generator(Board(BoardParams { n1: 7, n2: 0, n3: 0, n4: 0, piece: 1, wrap: 0, directed: false }))
+board(1,2,3,4,5,6,-5) Generator(Board(BoardParams { n1: 1, n2: 2, n3: 3, n4: 4, piece: 5, wrap: 6, directed: true }))
+board(999999999999999999,-999999999999999999,0,0,0,0,2) Generator(Board(BoardParams { n1: 999999999999999999, n2: -999999999999999999, n3: 0, n4: 0, piece: 0, wrap: 0, directed: true }))
+simplex(10,-3,4,5,6,7,0) Generator(Simplex(SimplexParams { n: 10, n0: -3, n1: 4, n2: 5, n3: 6, n4: 7, directed: false }))
+simplex(2,0,0,0,0,0,1) Generator(Simplex(SimplexParams { n: 2, n0: 0, n1: 0, n2: 0, n3: 0, n4: 0, directed: true }))
+subsets(3,2,2,2,0,0,0x3,0) Generator(Subsets(SubsetsParams { n: 3, n0: 2, n1: 2, n2: 2, n3: 0, n4: 0, size_bits: 3, directed: false }))
+subsets(3,2,2,2,0,0,010,-1) Generator(Subsets(SubsetsParams { n: 3, n0: 2, n1: 2, n2: 2, n3: 0, n4: 0, size_bits: 10, directed: true }))
+subsets(-3,2,-2,2,0,9,0xABcdef,0) Generator(Subsets(SubsetsParams { n: -3, n0: 2, n1: -2, n2: 2, n3: 0, n4: 9, size_bits: 11259375, directed: false }))
+subsets(3,2,2,2,0,0,0x0000000000000000000000000000000a,0) Generator(Subsets(SubsetsParams { n: 3, n0: 2, n1: 2, n2: 2, n3: 0, n4: 0, size_bits: 10, directed: false }))
+subsets(3,2,2,2,0,0,999999999999999999,0) Generator(Subsets(SubsetsParams { n: 3, n0: 2, n1: 2, n2: 2, n3: 0, n4: 0, size_bits: 999999999999999999, directed: false }))
+subsets(3,2,2,2,0,0,0xffffffffffffffffffffffffffffffff,0) Generator(Subsets(SubsetsParams { n: 3, n0: 2, n1: 2, n2: 2, n3: 0, n4: 0, size_bits: 340282366920938463463374607431768211455, directed: false }))
+complete(3) Generator(Board(BoardParams { n1: 3, n2: 0, n3: 0, n4: 0, piece: -1, wrap: 0, directed: false }))
+transitive(-4) Generator(Board(BoardParams { n1: -4, n2: 0, n3: 0, n4: 0, piece: -1, wrap: 0, directed: true }))
+empty(0) Generator(Board(BoardParams { n1: 0, n2: 0, n3: 0, n4: 0, piece: 2, wrap: 0, directed: false }))
+circuit(007) Generator(Board(BoardParams { n1: 7, n2: 0, n3: 0, n4: 0, piece: 1, wrap: 1, directed: false }))
+cycle(12) Generator(Board(BoardParams { n1: 12, n2: 0, n3: 0, n4: 0, piece: 1, wrap: 1, directed: true }))
+disjoint_subsets(-999999999999999998,3) Generator(Subsets(SubsetsParams { n: 3, n0: 1, n1: 999999999999999999, n2: 0, n3: 0, n4: 0, size_bits: 1, directed: false }))
+petersen() Generator(Subsets(SubsetsParams { n: 2, n0: 1, n1: -4, n2: 0, n3: 0, n4: 0, size_bits: 1, directed: false }))";
 
 #[test]
-fn boards_are_read(rt: HostRuntime) {
-    for row in &BOARDS {
-        let (text, numbers, directed) = *row;
-        assert!(rt;
-            is_read_as(rt.alloc(), text, board(numbers, directed)),
-            "at {text}"
-        );
-    }
+fn generators_are_read(rt: HostRuntime) -> Result<(), AllocError> {
+    let unread = first_unread(rt.alloc(), GENERATORS)?;
+    assert!(rt; unread.is_none(), "at {}", unread.unwrap_or(""));
+    Ok(())
+}
+
+/// Operations, and standard input.
+const OPERATIONS: &str = "\
+stdin Stdin
+complement(stdin,0,00,-0) Complement { graph: Stdin, copy: false, self_loops: false, directed: false }
+complement(stdin,1,0,0) Complement { graph: Stdin, copy: true, self_loops: false, directed: false }
+complement(stdin,0,-2,999999999999999999) Complement { graph: Stdin, copy: false, self_loops: true, directed: true }
+gunion(stdin,wheel(5,1,2),1,0) Gunion { first: Stdin, second: Wheel { n: 5, n1: 1, directed: true }, multi: true, directed: false }
+intersection(wheel(5,1,0),stdin,0,1) Intersection { first: Wheel { n: 5, n1: 1, directed: false }, second: Stdin, multi: false, directed: true }
+lines(stdin,0) Lines { graph: Stdin, directed: false }
+lines(wheel(5,1,0),-3) Lines { graph: Wheel { n: 5, n1: 1, directed: false }, directed: true }
+product(stdin,wheel(5,1,0),2,1) Product { first: Stdin, second: Wheel { n: 5, n1: 1, directed: false }, kind: 2, directed: true }
+product(wheel(5,1,0),stdin,-7,0) Product { first: Wheel { n: 5, n1: 1, directed: false }, second: Stdin, kind: -7, directed: false }
+bi_complete(2,-3,0) BiComplete { n1: 2, n2: -3, directed: false }
+intersection(gunion(stdin,petersen(),0,0),complement(stdin,0,1,0),1,1) Intersection { first: Gunion { first: Stdin, second: Generator(Subsets(SubsetsParams { n: 2, n0: 1, n1: -4, n2: 0, n3: 0, n4: 0, size_bits: 1, directed: false })), multi: false, directed: false }, second: Complement { graph: Stdin, copy: false, self_loops: true, directed: false }, multi: true, directed: true }";
+
+#[test]
+fn operations_are_read(rt: HostRuntime) -> Result<(), AllocError> {
+    let unread = first_unread(rt.alloc(), OPERATIONS)?;
+    assert!(rt; unread.is_none(), "at {}", unread.unwrap_or(""));
+    Ok(())
 }
 
 /// Texts that are no expressions, each with a `|` after its longest prefix that begins one.
@@ -81,130 +81,6 @@ fn other_texts_go_wrong_somewhere(rt: HostRuntime) -> Result<(), AllocError> {
     let unmet = first_unmet(rt.alloc(), WRONG_BOARDS)?;
     assert!(rt; unmet.is_none(), "at {}", unmet.unwrap_or(""));
     Ok(())
-}
-
-// The simplex with these numbers.
-fn simplex(numbers: [i64; 6], directed: bool) -> Family {
-    let [n, n0, n1, n2, n3, n4] = numbers;
-    Family::Simplex(SimplexParams {
-        n,
-        n0,
-        n1,
-        n2,
-        n3,
-        n4,
-        directed,
-    })
-}
-
-/// Texts of simplices, each with its numbers, and whether it is directed.
-static SIMPLICES: [(&str, [i64; 6], bool); 2] = [
-    ("simplex(2,0,0,0,0,0,1)", [2, 0, 0, 0, 0, 0], true),
-    ("simplex(10,-3,4,5,6,7,0)", [10, -3, 4, 5, 6, 7], false),
-];
-
-#[test]
-fn simplices_are_read(rt: HostRuntime) {
-    for row in &SIMPLICES {
-        let (text, numbers, directed) = *row;
-        assert!(rt;
-            is_read_as(rt.alloc(), text, simplex(numbers, directed)),
-            "at {text}"
-        );
-    }
-}
-
-// Whether both texts are read, and as the same expression.
-fn are_read_alike(alloc: Global, one: &str, other: &str) -> bool {
-    let Some(first) = read(alloc, one) else {
-        return false;
-    };
-    read(alloc, other) == Some(first)
-}
-
-/// Short names, each with what it stands for.
-static SHORT: [(&str, &str); 8] = [
-    ("complete(3)", "board(3,0,0,0,-1,0,0)"),
-    ("transitive(-4)", "board(-4,0,0,0,-1,0,1)"),
-    ("empty(0)", "board(0,0,0,0,2,0,0)"),
-    ("circuit(007)", "board(7,0,0,0,1,1,0)"),
-    ("cycle(12)", "board(12,0,0,0,1,1,1)"),
-    ("disjoint_subsets(5,2)", "subsets(2,1,-4,0,0,0,1,0)"),
-    (
-        "disjoint_subsets(-999999999999999998,3)",
-        "subsets(3,1,999999999999999999,0,0,0,1,0)",
-    ),
-    ("petersen()", "subsets(2,1,-4,0,0,0,1,0)"),
-];
-
-#[test]
-fn a_short_name_is_read_as_what_it_stands_for(rt: HostRuntime) {
-    for row in &SHORT {
-        let (short, long) = *row;
-        assert!(rt; are_read_alike(rt.alloc(), short, long), "at {short}");
-    }
-}
-
-// The subsets with these numbers and bits.
-fn subsets(numbers: [i64; 6], size_bits: u128, directed: bool) -> Family {
-    let [n, n0, n1, n2, n3, n4] = numbers;
-    Family::Subsets(SubsetsParams {
-        n,
-        n0,
-        n1,
-        n2,
-        n3,
-        n4,
-        size_bits,
-        directed,
-    })
-}
-
-/// Texts of subsets, each with its numbers and bits, and whether it is directed.
-static SUBSETS: [(&str, [i64; 6], u128, bool); 9] = [
-    ("subsets(3,2,2,2,0,0,3,0)", [3, 2, 2, 2, 0, 0], 3, false),
-    ("subsets(3,2,2,2,0,0,0x3,0)", [3, 2, 2, 2, 0, 0], 3, false),
-    ("subsets(3,2,2,2,0,0,0,1)", [3, 2, 2, 2, 0, 0], 0, true),
-    ("subsets(3,2,2,2,0,0,010,-1)", [3, 2, 2, 2, 0, 0], 10, true),
-    (
-        "subsets(3,2,2,2,0,0,0xABcdef,0)",
-        [3, 2, 2, 2, 0, 0],
-        11_259_375,
-        false,
-    ),
-    (
-        "subsets(3,2,2,2,0,0,0x0000000000000000000000000000000a,0)",
-        [3, 2, 2, 2, 0, 0],
-        10,
-        false,
-    ),
-    (
-        "subsets(3,2,2,2,0,0,999999999999999999,0)",
-        [3, 2, 2, 2, 0, 0],
-        999_999_999_999_999_999,
-        false,
-    ),
-    (
-        "subsets(3,2,2,2,0,0,0xffffffffffffffffffffffffffffffff,0)",
-        [3, 2, 2, 2, 0, 0],
-        340_282_366_920_938_463_463_374_607_431_768_211_455,
-        false,
-    ),
-    (
-        "subsets(-3,2,-2,2,0,9,0xFFFFFFFF,0)",
-        [-3, 2, -2, 2, 0, 9],
-        4_294_967_295,
-        false,
-    ),
-];
-
-#[test]
-fn bits_are_decimal_or_hexadecimal(rt: HostRuntime) {
-    for row in &SUBSETS {
-        let (text, numbers, size_bits, directed) = *row;
-        let want = subsets(numbers, size_bits, directed);
-        assert!(rt; is_read_as(rt.alloc(), text, want), "at {text}");
-    }
 }
 
 /// Texts that are no expressions, each with a `|` after its longest prefix that begins one.
@@ -267,184 +143,6 @@ fn the_longest_prefix_is_that_of_some_form(rt: HostRuntime) -> Result<(), AllocE
     assert!(rt; unmet.is_none(), "at {}", unmet.unwrap_or(""));
     Ok(())
 }
-
-// Whether the expression is the complement of this graph with these flags.
-fn is_complement(expression: &Expr, of: Family, flags: [bool; 3]) -> bool {
-    match expression {
-        Expr::Complement {
-            graph,
-            copy,
-            self_loops,
-            directed,
-        } => is_family(graph, of) && [*copy, *self_loops, *directed] == flags,
-        _ => false,
-    }
-}
-
-// Whether the expressions are these graphs of generators.
-fn are_families(first: &Expr, second: &Expr, of: [Family; 2]) -> bool {
-    let [one, other] = of;
-    is_family(first, one) && is_family(second, other)
-}
-
-// Whether the expression is the union of these graphs with these flags.
-fn is_union(expression: &Expr, of: [Family; 2], flags: [bool; 2]) -> bool {
-    match expression {
-        Expr::Gunion {
-            first,
-            second,
-            multi,
-            directed,
-        } => are_families(first, second, of) && [*multi, *directed] == flags,
-        _ => false,
-    }
-}
-
-// Whether the expression is the intersection of these graphs with these flags.
-fn is_intersection(expression: &Expr, of: [Family; 2], flags: [bool; 2]) -> bool {
-    match expression {
-        Expr::Intersection {
-            first,
-            second,
-            multi,
-            directed,
-        } => are_families(first, second, of) && [*multi, *directed] == flags,
-        _ => false,
-    }
-}
-
-// Whether the expression is the line graph of this graph.
-fn is_line_graph(expression: &Expr, of: Family, directed: bool) -> bool {
-    match expression {
-        Expr::Lines {
-            graph,
-            directed: found,
-        } => is_family(graph, of) && *found == directed,
-        _ => false,
-    }
-}
-
-// Whether the expression is the product of these graphs, of this kind.
-fn is_product(expression: &Expr, of: [Family; 2], kind: i64, directed: bool) -> bool {
-    match expression {
-        Expr::Product {
-            first,
-            second,
-            kind: found,
-            directed: flag,
-        } => { are_families(first, second, of) && *found == kind && *flag == directed }
-        _ => false,
-    }
-}
-
-/// An operation on graphs of generators, with its flags in the order of the text.
-#[derive(Clone, Copy)]
-enum Operation {
-    Complement(Family, [bool; 3]),
-    Gunion([Family; 2], [bool; 2]),
-    Intersection([Family; 2], [bool; 2]),
-    Lines(Family, bool),
-    Product([Family; 2], i64, bool),
-    BiComplete(i64, i64, bool),
-    Wheel(i64, i64, bool),
-}
-
-// Whether the expression is this operation.
-fn is_operation(expression: &Expr, operation: Operation) -> bool {
-    match operation {
-        Operation::Complement(of, flags) => is_complement(expression, of, flags),
-        Operation::Gunion(of, flags) => is_union(expression, of, flags),
-        Operation::Intersection(of, flags) => is_intersection(expression, of, flags),
-        Operation::Lines(of, directed) => is_line_graph(expression, of, directed),
-        Operation::Product(of, kind, directed) => is_product(expression, of, kind, directed),
-        Operation::BiComplete(n1, n2, directed) => {
-            *expression == Expr::BiComplete { n1, n2, directed }
-        }
-        Operation::Wheel(n, n1, directed) => *expression == Expr::Wheel { n, n1, directed },
-    }
-}
-
-// Whether the text is read as this operation.
-fn is_read_as_operation(alloc: Global, text: &str, operation: Operation) -> bool {
-    match read(alloc, text) {
-        Some(expression) => is_operation(&expression, operation),
-        None => false,
-    }
-}
-
-/// Texts, each with the operation that it is read as.
-const OPERATIONS: [(&str, Operation); 11] = [
-    (
-        "complement(complete(3),0,00,-0)",
-        Operation::Complement(TRIANGLE, [false, false, false]),
-    ),
-    (
-        "complement(complete(3),1,0,0)",
-        Operation::Complement(TRIANGLE, [true, false, false]),
-    ),
-    (
-        "complement(petersen(),0,-2,999999999999999999)",
-        Operation::Complement(PETERSEN, [false, true, true]),
-    ),
-    (
-        "gunion(complete(3),circuit(5),1,0)",
-        Operation::Gunion([TRIANGLE, RING], [true, false]),
-    ),
-    (
-        "intersection(circuit(5),complete(3),0,1)",
-        Operation::Intersection([RING, TRIANGLE], [false, true]),
-    ),
-    ("lines(petersen(),0)", Operation::Lines(PETERSEN, false)),
-    ("lines(circuit(5),-3)", Operation::Lines(RING, true)),
-    (
-        "product(petersen(),circuit(5),2,1)",
-        Operation::Product([PETERSEN, RING], 2, true),
-    ),
-    (
-        "product(circuit(5),petersen(),-7,0)",
-        Operation::Product([RING, PETERSEN], -7, false),
-    ),
-    ("bi_complete(2,-3,0)", Operation::BiComplete(2, -3, false)),
-    ("wheel(5,1,2)", Operation::Wheel(5, 1, true)),
-];
-
-#[test]
-fn operations_are_read(rt: HostRuntime) {
-    for (text, operation) in OPERATIONS {
-        assert!(rt;
-            is_read_as_operation(rt.alloc(), text, operation),
-            "at {text}"
-        );
-    }
-}
-
-// Whether the text is read as the intersection of a union and a complement.
-fn is_read_as_nested(alloc: Global, text: &str) -> bool {
-    match read(alloc, text) {
-        Some(
-            Expr::Intersection {
-                first,
-                second,
-                multi,
-                directed,
-            },
-        ) => {
-            is_union(&first, [PETERSEN, RING], [false, false])
-                && is_complement(&second, TRIANGLE, [false, true, false])
-                && multi
-                && directed
-        }
-        _ => false,
-    }
-}
-
-#[test]
-fn operations_of_operations_are_read(rt: HostRuntime) {
-    assert!(rt; is_read_as_nested(rt.alloc(), NESTED));
-}
-
-const NESTED: &str =
-    "intersection(gunion(petersen(),circuit(5),0,0),complement(complete(3),0,1,0),1,1)";
 
 /// Texts that are no expressions, each with a `|` after its longest prefix that begins one.
 const WRONG_OPERATIONS: &str = "\

@@ -47,20 +47,6 @@ fn stdin_is_found_wherever_it_stands(rt: HostRuntime) {
     }
 }
 
-// Whether the text is read as the line graph of `stdin`, directed.
-fn is_lines_of_stdin(alloc: Global, text: &str) -> bool {
-    match read(alloc, text) {
-        Some(Expr::Lines { graph, directed }) => matches!(*graph, Expr::Stdin) && directed,
-        _ => false,
-    }
-}
-
-#[test]
-fn stdin_is_read(rt: HostRuntime) {
-    assert!(rt; matches!(read(rt.alloc(), "stdin"), Some(Expr::Stdin)));
-    assert!(rt; is_lines_of_stdin(rt.alloc(), "lines(stdin,1)"));
-}
-
 /// Texts that are no expressions, each with a `|` after its longest prefix that begins one.
 const CUT: &str = "\
 st|
@@ -68,7 +54,6 @@ stdi|
 std|out
 |Stdin
 stdin| 
-stdin|x
 stdin|()
 stdin|,
 complement(stdin|

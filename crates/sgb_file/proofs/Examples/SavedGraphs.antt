@@ -1,12 +1,9 @@
 -- Graphs that can be saved, at each limit, and what becomes of a file past it.
-use Rattle.std.specs.Prelude.{◌≡◌, ℕ, pos, negsuc, true, List, [], ◌∷◌, ◌++◌, codes, replicate, Some, None, Err, All, refl}
-use Rattle.std.specs.List.{list_all}
+use Rattle.std.specs.Prelude.{◌≡◌, ℕ, pos, negsuc, List, [], ◌∷◌, ◌++◌, codes, replicate, Some, None, Err, All, refl}
 use Rattle.std.specs.Fmt.{digits}
 use Rattle.std.proofs.Common.{arith}
-use Rattle.std.proofs.lemmas.Bool.{and_parts}
-use Rattle.std.proofs.lemmas.Bool.Decides.{nat_tests}
 use Rattle.std.proofs.lemmas.List.Elements.{All-nil, All-cons}
-use Rattle.sgb_vec.specs.Names.{IsText, IsTextByte}
+use Rattle.sgb_vec.specs.Names.{IsText}
 use Rattle.sgb_vec.specs.declared.panics.Panic.TheVariants.{Early, Syntax}
 use Rattle.sgb_graph.specs.Graphs.{GraphData, ends_from, numbers_from}
 use Rattle.sgb_graph.specs.declared.fields.Kind.{Kind}
@@ -18,26 +15,12 @@ use Rattle.sgb_graph.specs.declared.fields.Vertex.{Vertex}
 use Rattle.sgb_graph.specs.declared.fields.ArcRec.{ArcRec}
 use Rattle.sgb_file.specs.FileLines.{lines_among, without_end_spaces}
 use Rattle.sgb_file.specs.Checksum.{weighted_sum}
-use Rattle.sgb_file.specs.Fields.{is_string_byte, unbroken}
+use Rattle.sgb_file.specs.Fields.{unbroken}
 use Rattle.sgb_file.specs.Records.{more_fields_at, all_at}
 use Rattle.sgb_file.specs.Restoring.{opening_of, graph_of_text}
 use Rattle.sgb_file.specs.Saving.{pieces_of, laid_out, text_of_graph}
+use Rattle.sgb_file.proofs.FieldReading.{text_bytes}
 use Rattle.sgb_file.specs.Saved.{CanBeSaved, ValueCanBeSaved, VertexCanBeSaved, ArcCanBeSaved}
-
--- bytes that pass the test of a string's bytes
-text_byte : (b : ℕ) → is_string_byte b ≡ true → IsTextByte b
-text_byte b h = record {
-  from_space = grind (arith, nat_tests);
-  to_tilde = grind (arith, nat_tests);
-  no_quote = λ e. grind (arith, nat_tests);
-  no_backslash = λ e. grind (arith, nat_tests);
-}
-
-text_bytes : (text : List ℕ) → list_all is_string_byte text ≡ true → All IsTextByte text
-text_bytes [] h = All-nil IsTextByte
-text_bytes (b ∷ text) h =
-    let parts = and_parts (is_string_byte b) (list_all is_string_byte text) h in
-    All-cons IsTextByte b text (text_byte b parts.0) (text_bytes text parts.1)
 
 -- a name of the most bytes, and an id of the most bytes
 abbrev longest_name : List ℕ

@@ -1,5 +1,4 @@
 //! std's writers as sinks with a buffer before them, which is given up with the first fault.
-
 ghost use Rattle.std.specs.Prelude.{◌≡◌, true, false, IfOk, IfErr};
 ghost use Rattle.std.specs.Io.Buffered.{writer_buffer, writer_inner};
 ghost use Rattle.std.specs.IoError.{error_kind};

@@ -1,5 +1,4 @@
 //! A sink that takes few bytes at once and fails after so many, for tests of what writes to it.
-
 ghost use Rattle.std.specs.Prelude.{◌≡◌, ◌<◌, [], true, false, ◌||◌, Some, IfOk, OnErr, length, is_err};
 ghost use Rattle.std.specs.Io.{WritesAtMost};
 ghost use Rattle.std.specs.Io.KnownBytes.{WriteAppends, Keeps};

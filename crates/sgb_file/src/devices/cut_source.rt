@@ -1,5 +1,4 @@
 //! A source that gives few bytes at once and fails after so many, for tests of what reads it.
-
 ghost use Rattle.std.specs.Prelude.{◌≡◌, ◌<◌, ◌++◌, true, false, Some, IfOk, OnErr, length, take, drop, is_err};
 ghost use Rattle.std.specs.Io.{ReadsAtMost};
 ghost use Rattle.std.specs.Io.KnownBytes.{ReadConsumes};
@@ -66,7 +65,8 @@ impl<'a> Source for CutSource<'a> {
         ensures stays_failed { self.old.failed ≡ true → self.new.failed ≡ true }
         ensures fails { is_err result ≡ take_fails self.old }
         ensures count { IfOk result (λ count. count ≡ take_count self.old (length buffer.old)) }
-        ensures copied { IfOk result (λ count. buffer.new ≡ take count self.old.bytes ++ drop count buffer.old) }
+        ensures copied { IfOk result (λ count. buffer.new ≡ take count self.old.bytes
+            ++ drop count buffer.old) }
         ensures rest { IfOk result (λ count. self.new ≡ after_take self.old count) }
         ensures refused { OnErr result (self.new ≡ record self.old { failed = true }) }
         ensures untouched { OnErr result (buffer.new ≡ buffer.old) }

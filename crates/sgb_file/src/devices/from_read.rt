@@ -1,5 +1,4 @@
 //! std's readers as sources. The first fault of any kind is final.
-
 ghost use Rattle.std.specs.Prelude.{◌≡◌, true, false, is_err};
 ghost use Rattle.std.specs.Io.{ReadsAtMost};
 ghost use Rattle.std.specs.Io.KnownBytes.{ReadConsumes};
@@ -17,7 +16,8 @@ pub struct FromRead<R> {
 }
 
 impl<R> Model for FromRead<R> {
-    ghost use Rattle.sgb_file.specs.Devices.{Adapted, adapted_code};
+    ghost use Rattle.sgb_file.specs.Devices.{Adapted};
+    ghost use Rattle.sgb_file.specs.inner.Devices.{adapted_code};
 
     ghost Value = { Adapted R };
 
@@ -48,7 +48,8 @@ impl<R: Read> Source for FromRead<R> {
     /// fails, also by an interrupt.
     fn take(&mut self, buffer: &mut [u8]) -> Result<usize, Failed>
         ensures bound { ReadsAtMost result buffer.new }
-        ensures gave { ReadConsumes (R.remaining self.old.inner) (R.remaining self.new.inner) result buffer.new }
+        ensures gave { ReadConsumes (R.remaining self.old.inner) (R.remaining self.new.inner) result
+            buffer.new }
         ensures failed { self.new.failed ≡ is_err result }
         ensures stays_failed { self.old.failed ≡ true → self.new.failed ≡ true }
         ensures left_alone { self.old.failed ≡ true → self.new ≡ self.old }

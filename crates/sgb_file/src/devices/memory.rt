@@ -1,5 +1,4 @@
 //! A source and a sink over memory.
-
 ghost use Rattle.std.specs.Prelude.{◌≡◌, ◌+◌, ◌<◌, ◌++◌, [], true, false, Some, Ok, IsOk, IfOk, OnOk, OnErr, length, min, take, drop, is_err};
 ghost use Rattle.std.specs.Io.{ReadsAtMost, WritesAtMost};
 ghost use Rattle.std.specs.Io.KnownBytes.{ReadConsumes, WriteAppends, Keeps};
@@ -44,7 +43,8 @@ impl<'a> Source for MemSource<'a> {
         ensures failed { false ≡ is_err result }
         ensures stays_failed { false ≡ true → false ≡ true }
         ensures count { result ≡ Ok (min (length self.old) (length buffer.old)) }
-        ensures copied { IfOk result (λ count. buffer.new ≡ take count self.old ++ drop count buffer.old) }
+        ensures copied { IfOk result (λ count. buffer.new ≡ take count self.old
+            ++ drop count buffer.old) }
         ensures rest { IfOk result (λ count. self.new ≡ drop count self.old) }
     {
         let bytes = self.bytes;
@@ -116,7 +116,8 @@ impl Sink for MemSink {
         ensures all_taken { IfOk result (λ count. count ≡ length bytes.now) }
         ensures held { OnOk result (self.new.bytes ≡ self.old.bytes ++ bytes.now) }
         ensures kept { OnErr result (self.new.bytes ≡ self.old.bytes) }
-        ensures refused { OnErr result (self.old.failed ≡ false → self.old.room < length self.old.bytes + length bytes.now) }
+        ensures refused { OnErr result
+            (self.old.failed ≡ false → self.old.room < length self.old.bytes + length bytes.now) }
         ensures takes_none { self.old.failed ≡ false → length bytes.now ≡ 0 → IsOk result }
     {
         if self.failed {

@@ -1,5 +1,4 @@
 //! What several devices do: copy bytes, give up, and keep a fault of std's.
-
 ghost use Rattle.std.specs.Prelude.{◌≡◌, ◌++◌, true, length, min, take, drop, is_ok, IsErr, if◌then◌else◌};
 ghost use Rattle.std.specs.Result.{result_ok};
 

@@ -1,5 +1,4 @@
 //! std's writers as sinks. The first fault of any kind is final, and so is a write that takes nothing.
-
 ghost use Rattle.std.specs.Prelude.{◌≡◌, ◌<◌, true, false, IfOk, length, is_err};
 ghost use Rattle.std.specs.Io.{WritesAtMost};
 ghost use Rattle.std.specs.Io.KnownBytes.{WriteAppends, Keeps};
@@ -17,7 +16,8 @@ pub struct ToWrite<W> {
 }
 
 impl<W> Model for ToWrite<W> {
-    ghost use Rattle.sgb_file.specs.Devices.{Adapted, adapted_code};
+    ghost use Rattle.sgb_file.specs.Devices.{Adapted};
+    ghost use Rattle.sgb_file.specs.inner.Devices.{adapted_code};
 
     ghost Value = { Adapted W };
 
@@ -58,7 +58,8 @@ impl<W: Write> Sink for ToWrite<W> {
     fn put(&mut self, bytes: &[u8]) -> Result<usize, Failed>
         ensures bound { WritesAtMost result bytes.now }
         ensures progress { IfOk result (λ count. 0 < length bytes.now → 0 < count) }
-        ensures took { WriteAppends (W.contents self.old.inner) (W.contents self.new.inner) result bytes.now }
+        ensures took { WriteAppends (W.contents self.old.inner) (W.contents self.new.inner) result
+            bytes.now }
         ensures failed { self.new.failed ≡ is_err result }
         ensures stays_failed { self.old.failed ≡ true → self.new.failed ≡ true }
         ensures left_alone { self.old.failed ≡ true → self.new ≡ self.old }

@@ -1,7 +1,7 @@
 //! The line that closes a file, with the checksum of the lines before it (GB_SAVE, restore_graph).
 ghost use Rattle.std.specs.Prelude.{◌≡◌, ◌∷◌, [], ℕ, List};
 ghost use Rattle.sgb_file.specs.Checksum.{checksum_of_lines};
-ghost use Rattle.sgb_file.specs.LinesLeft.{text_left};
+ghost use Rattle.sgb_file.specs.inner.LinesLeft.{text_left};
 ghost use Rattle.sgb_file.specs.Records.{Head as FileHead};
 ghost use Rattle.sgb_file.specs.Restoring.{checksum_agrees, checksum_in_line, closes, line_closes};
 
@@ -11,7 +11,8 @@ use super::texts::{after_prefix, leading_number};
 // Whether the line under way closes the file: it is a checksum line, which is negative or agrees with the lines after the
 // first one and before it.
 pub(super) fn closes(lines: &Lines<'_>) -> bool
-    ensures { (head : FileHead) → result ≡ closes (record { head = head; lines = lines.now.all }) (text_left lines.now) }
+    ensures { (head : FileHead) → result
+        ≡ closes (record { head = head; lines = lines.now.all }) (text_left lines.now) }
 {
     let Some(line) = lines.line() else {
         return false;
@@ -21,7 +22,8 @@ pub(super) fn closes(lines: &Lines<'_>) -> bool
 
 // Whether the line is a checksum line that is negative or has this checksum.
 fn line_closes(line: &[u8], sum: u32) -> bool
-    ensures { (lines : List (List ℕ)) → sum ≡ checksum_of_lines lines → result ≡ line_closes lines (line.now ∷ []) }
+    ensures { (lines : List (List ℕ)) → sum ≡ checksum_of_lines lines → result
+        ≡ line_closes lines (line.now ∷ []) }
 {
     match checksum_in_line(line) {
         Some(checksum) => checksum_agrees(checksum, sum),
@@ -31,7 +33,8 @@ fn line_closes(line: &[u8], sum: u32) -> bool
 
 // Whether the checksum of a checksum line is negative, or this one.
 fn checksum_agrees(checksum: i64, sum: u32) -> bool
-    ensures { (lines : List (List ℕ)) → sum ≡ checksum_of_lines lines → result ≡ checksum_agrees checksum lines }
+    ensures { (lines : List (List ℕ)) → sum ≡ checksum_of_lines lines → result
+        ≡ checksum_agrees checksum lines }
 {
     checksum < 0 || checksum == i64::from(sum)
 }

@@ -2,8 +2,8 @@
 ghost use Rattle.std.specs.Prelude.{◌≡◌, ◌==◌, ◌<◌, ◌^◌, drop, length, IfOk};
 ghost use Rattle.std.specs.List.{before_first, position};
 ghost use Rattle.sgb_file.specs.Fields.{field_at, integer_of, most_number_digits, number_of, plain_at, plain_text, record_number_of, ref_of};
-ghost use Rattle.sgb_file.specs.Found.{IsFoundBy, is_used, next_field_at};
-ghost use Rattle.sgb_file.specs.LinesLeft.{text_left};
+ghost use Rattle.sgb_file.specs.inner.Found.{IsFoundBy, is_used, next_field_at};
+ghost use Rattle.sgb_file.specs.inner.LinesLeft.{text_left};
 
 use super::heads::Counts;
 use super::lines::Lines;
@@ -21,7 +21,8 @@ pub(super) fn read_next_field(
     kind: Kind,
     lines: &mut Lines<'_>,
 ) -> Result<Util, Panic>
-    ensures found { IsFoundBy (next_field_at counts.now kind (text_left lines.old)) result (text_left lines.new) }
+    ensures found { IsFoundBy (next_field_at counts.now kind (text_left lines.old)) result
+        (text_left lines.new) }
     ensures all { lines.new.all ≡ lines.old.all }
 {
     if !is_used(kind) {
@@ -45,7 +46,8 @@ pub(super) fn read_field(
     kind: Kind,
     lines: &mut Lines<'_>,
 ) -> Result<Util, Panic>
-    ensures found { IsFoundBy (field_at counts.now kind (text_left lines.old)) result (text_left lines.new) }
+    ensures found { IsFoundBy (field_at counts.now kind (text_left lines.old)) result
+        (text_left lines.new) }
     ensures all { lines.new.all ≡ lines.old.all }
 {
     match kind {
@@ -59,7 +61,8 @@ pub(super) fn read_field(
 
 // The integer that stands next.
 pub(super) fn read_integer(lines: &mut Lines<'_>) -> Result<i64, Panic>
-    ensures found { IsFoundBy (plain_at integer_of (text_left lines.old)) result (text_left lines.new) }
+    ensures found { IsFoundBy (plain_at integer_of (text_left lines.old)) result
+        (text_left lines.new) }
     ensures all { lines.new.all ≡ lines.old.all }
 {
     integer_of(take_plain(lines)).ok_or(Panic::Syntax)
@@ -67,7 +70,8 @@ pub(super) fn read_integer(lines: &mut Lines<'_>) -> Result<i64, Panic>
 
 // The number that stands next, of 1 to 18 digits.
 pub(super) fn read_number(lines: &mut Lines<'_>) -> Result<u64, Panic>
-    ensures found { IsFoundBy (plain_at (number_of most_number_digits) (text_left lines.old)) result (text_left lines.new) }
+    ensures found { IsFoundBy (plain_at (number_of most_number_digits) (text_left lines.old)) result
+        (text_left lines.new) }
     ensures bound { IfOk result (λ n. n < 10 ^ 18) }
     ensures all { lines.new.all ≡ lines.old.all }
 {
@@ -76,7 +80,8 @@ pub(super) fn read_number(lines: &mut Lines<'_>) -> Result<u64, Panic>
 
 // The vertex that stands next, or none.
 pub(super) fn read_ref(counts: &Counts, lines: &mut Lines<'_>) -> Result<Ref, Panic>
-    ensures found { IsFoundBy (plain_at (ref_of counts.now.vertices) (text_left lines.old)) result (text_left lines.new) }
+    ensures found { IsFoundBy (plain_at (ref_of counts.now.vertices) (text_left lines.old)) result
+        (text_left lines.new) }
     ensures all { lines.new.all ≡ lines.old.all }
 {
     ref_of(counts, take_plain(lines)).ok_or(Panic::Syntax)
@@ -87,7 +92,8 @@ pub(super) fn read_record_number(
     counts: &Counts,
     lines: &mut Lines<'_>,
 ) -> Result<Option<usize>, Panic>
-    ensures found { IsFoundBy (plain_at (record_number_of counts.now.arcs) (text_left lines.old)) result (text_left lines.new) }
+    ensures found { IsFoundBy (plain_at (record_number_of counts.now.arcs) (text_left lines.old))
+        result (text_left lines.new) }
     ensures all { lines.new.all ≡ lines.old.all }
 {
     record_number_of(counts, take_plain(lines)).ok_or(Panic::Syntax)
@@ -96,7 +102,8 @@ pub(super) fn read_record_number(
 // Takes the bytes up to the next comma or the end of the line.
 fn take_plain<'a>(lines: &mut Lines<'a>) -> &'a [u8]
     ensures text { result.now ≡ plain_text (text_left lines.old) }
-    ensures left { text_left lines.new ≡ drop (length (plain_text (text_left lines.old))) (text_left lines.old) }
+    ensures left { text_left lines.new
+        ≡ drop (length (plain_text (text_left lines.old))) (text_left lines.old) }
     ensures all { lines.new.all ≡ lines.old.all }
 {
     let Some(line) = lines.line() else {

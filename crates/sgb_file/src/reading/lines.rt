@@ -3,7 +3,7 @@ ghost use Rattle.std.specs.Prelude.{◌≡◌, ◌≢◌, ◌≤◌, ◌==◌, [
 ghost use Rattle.std.specs.List.{position_or_len};
 ghost use Rattle.sgb_file.specs.Checksum.{checksum_of_lines};
 ghost use Rattle.sgb_file.specs.FileLines.{clean_lines, lines_of_text, without_end_spaces};
-ghost use Rattle.sgb_file.specs.LinesLeft.{HasPassed, has_no_newline, lines_left, lines_passed, lines_still, next_begun, none_begun, skipped, text_left};
+ghost use Rattle.sgb_file.specs.inner.LinesLeft.{HasPassed, has_no_newline, lines_left, lines_passed, lines_still, next_begun, none_begun, skipped, text_left};
 
 use crate::checksums::checksum_after_line;
 use std::marker::Model;
@@ -21,13 +21,14 @@ pub(super) struct Lines<'a> {
 
 impl<'a> Model for Lines<'a> {
     ghost use Rattle.std.specs.Prelude.{option_map};
-    ghost use Rattle.sgb_file.specs.LinesLeft.{LinesLeft, AreLinesLeft, lines_left};
+    ghost use Rattle.sgb_file.specs.inner.LinesLeft.{LinesLeft, AreLinesLeft, lines_left};
 
     ghost Value = { LinesLeft };
 
     ghost view = { λ s. lines_left s.all.now (option_map (λ line. line.now) s.line) s.rest.now };
 
-    ghost invariant = { λ s. AreLinesLeft s.all.now (option_map (λ line. line.now) s.line) s.begun.now s.rest.now s.sum };
+    ghost invariant = { λ s. AreLinesLeft s.all.now (option_map (λ line. line.now) s.line)
+        s.begun.now s.rest.now s.sum };
 }
 
 impl<'a> Lines<'a> {

@@ -3,7 +3,7 @@ ghost use Rattle.std.specs.Prelude.{◌≡◌, ◌≤◌, ◌<◌, ◌^◌, leng
 ghost use Rattle.std.specs.List.{list_all};
 ghost use Rattle.std.specs.Str.Parse.{digits_value};
 ghost use Rattle.sgb_file.specs.Fields.{integer_of, is_decimal_digit, most_number_digits, number_below, number_of, record_number_of, ref_of};
-ghost use Rattle.sgb_file.specs.Found.{negative_of, positive_of};
+ghost use Rattle.sgb_file.specs.inner.Found.{negative_of, positive_of};
 
 use super::heads::Counts;
 use sgb_graph::Ref;

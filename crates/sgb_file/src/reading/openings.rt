@@ -2,7 +2,7 @@
 ghost use Rattle.std.specs.Prelude.{◌≡◌, ◌≤◌, IfSome, option_map};
 ghost use Rattle.sgb_vec.specs.Limits.{most_vertices};
 ghost use Rattle.sgb_file.specs.FileLines.{clean_lines};
-ghost use Rattle.sgb_file.specs.LinesLeft.{next_begun, none_begun};
+ghost use Rattle.sgb_file.specs.inner.LinesLeft.{next_begun, none_begun};
 ghost use Rattle.sgb_file.specs.Restoring.{head_of_line, kind_of_letter, kinds_at, opening_of};
 
 use super::heads::{Counts, Head};
@@ -14,7 +14,8 @@ use sgb_vec::MOST_VERTICES;
 
 // What the first line of a file says, and the lines after it; or none, where the file does not open as it has to.
 pub(super) fn opening(bytes: &[u8]) -> Option<(Head, Lines<'_>)>
-    ensures head { option_map (λ x. record { head = x.0; lines = x.1.all }) result ≡ opening_of (clean_lines bytes.now) }
+    ensures head { option_map (λ x. record { head = x.0; lines = x.1.all }) result
+        ≡ opening_of (clean_lines bytes.now) }
     ensures begun { IfSome result (λ x. x.1 ≡ next_begun (none_begun x.1.all)) }
     ensures few { IfSome result (λ x. x.0.counts.vertices ≤ most_vertices) }
 {

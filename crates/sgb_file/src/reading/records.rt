@@ -1,8 +1,8 @@
 //! The records of a `.gb` file (GB_SAVE, restore_graph).
 ghost use Rattle.std.specs.Prelude.{◌≡◌, length};
 ghost use Rattle.sgb_graph.specs.Sound.{graph_kinds};
-ghost use Rattle.sgb_file.specs.Found.{IsFoundBy};
-ghost use Rattle.sgb_file.specs.LinesLeft.{text_left};
+ghost use Rattle.sgb_file.specs.inner.Found.{IsFoundBy};
+ghost use Rattle.sgb_file.specs.inner.LinesLeft.{text_left};
 ghost use Rattle.sgb_file.specs.Records.{arc_record_at, graph_record_at, more_fields_at, vertex_record_at};
 
 use super::fields::{read_integer, read_next_field, read_number, read_record_number, read_ref};
@@ -21,7 +21,8 @@ pub(super) fn read_graph_record(
     head: &Head,
     lines: &mut Lines<'_>,
 ) -> Result<Parts, Panic>
-    ensures found { IsFoundBy (graph_record_at head.now (text_left lines.old)) result (text_left lines.new) }
+    ensures found { IsFoundBy (graph_record_at head.now (text_left lines.old)) result
+        (text_left lines.new) }
     ensures all { lines.new.all ≡ lines.old.all }
 {
     let id = read_id(lines)?;
@@ -38,7 +39,8 @@ pub(super) fn read_graph_record(
 
 // The graph's own fields, which end its record.
 fn read_graph_fields(alloc: Global, head: &Head, lines: &mut Lines<'_>) -> Result<[Util; 6], Panic>
-    ensures found { IsFoundBy (more_fields_at head.now.counts (graph_kinds head.now.kinds) (text_left lines.old)) result (text_left lines.new) }
+    ensures found { IsFoundBy (more_fields_at head.now.counts (graph_kinds head.now.kinds)
+        (text_left lines.old)) result (text_left lines.new) }
     ensures all { lines.new.all ≡ lines.old.all }
 {
     read_fields(alloc, &head.counts, &head.kinds[8..], lines)
@@ -50,7 +52,8 @@ pub(super) fn read_vertex(
     head: &Head,
     lines: &mut Lines<'_>,
 ) -> Result<Vertex, Panic>
-    ensures found { IsFoundBy (vertex_record_at head.now (text_left lines.old)) result (text_left lines.new) }
+    ensures found { IsFoundBy (vertex_record_at head.now (text_left lines.old)) result
+        (text_left lines.new) }
     ensures all { lines.new.all ≡ lines.old.all }
 {
     let name = read_text(alloc, lines)?;
@@ -62,7 +65,8 @@ pub(super) fn read_vertex(
 
 // An arc record. Without strings in it, it takes no memory.
 pub(super) fn read_arc(alloc: Global, head: &Head, lines: &mut Lines<'_>) -> Result<ArcRec, Panic>
-    ensures found { IsFoundBy (arc_record_at head.now (text_left lines.old)) result (text_left lines.new) }
+    ensures found { IsFoundBy (arc_record_at head.now (text_left lines.old)) result
+        (text_left lines.new) }
     ensures all { lines.new.all ≡ lines.old.all }
 {
     let tip = read_ref(&head.counts, lines)?;
@@ -90,7 +94,8 @@ fn read_fields(
     lines: &mut Lines<'_>,
 ) -> Result<[Util; 6], Panic>
     requires { length kinds.now ≡ 6 }
-    ensures found { IsFoundBy (more_fields_at counts.now kinds.now (text_left lines.old)) result (text_left lines.new) }
+    ensures found { IsFoundBy (more_fields_at counts.now kinds.now (text_left lines.old)) result
+        (text_left lines.new) }
     ensures all { lines.new.all ≡ lines.old.all }
 {
     let mut fields = [

@@ -1,9 +1,9 @@
 //! The records of a file, section by section: the graph's, the vertices', the arcs' (GB_SAVE, restore_graph).
 ghost use Rattle.std.specs.Prelude.{◌≡◌, ◌++◌, ◌∷◌, [], IsTrue};
 ghost use Rattle.sgb_file.specs.Fields.{after_prefix};
-ghost use Rattle.sgb_file.specs.Found.{IsFoundBy, IsPassedBy};
-ghost use Rattle.sgb_file.specs.LinesLeft.{has_no_newline, text_left};
-ghost use Rattle.sgb_file.specs.Reading.{arcs_at, vertices_at};
+ghost use Rattle.sgb_file.specs.inner.Found.{IsFoundBy, IsPassedBy};
+ghost use Rattle.sgb_file.specs.inner.LinesLeft.{has_no_newline, text_left};
+ghost use Rattle.sgb_file.specs.inner.Reading.{arcs_at, vertices_at};
 ghost use Rattle.sgb_file.specs.Records.{records_at};
 
 use super::heads::Head;
@@ -19,7 +19,8 @@ pub(super) fn read_records(
     head: &Head,
     lines: &mut Lines<'_>,
 ) -> Result<Parts, Panic>
-    ensures found { IsFoundBy (records_at head.now (text_left lines.old)) result (text_left lines.new) }
+    ensures found { IsFoundBy (records_at head.now (text_left lines.old)) result
+        (text_left lines.new) }
     ensures all { lines.new.all ≡ lines.old.all }
 {
     let parts = read_graph_record(alloc, head, lines)?;
@@ -36,7 +37,8 @@ fn read_vertices(
     lines: &mut Lines<'_>,
     mut parts: Parts,
 ) -> Result<Parts, Panic>
-    ensures found { IsFoundBy (vertices_at head.now parts head.now.counts.vertices (text_left lines.old)) result (text_left lines.new) }
+    ensures found { IsFoundBy (vertices_at head.now parts head.now.counts.vertices
+        (text_left lines.old)) result (text_left lines.new) }
     ensures all { lines.new.all ≡ lines.old.all }
 {
     for _v in 0..head.counts.vertices {
@@ -53,7 +55,8 @@ fn read_arcs(
     lines: &mut Lines<'_>,
     mut parts: Parts,
 ) -> Result<Parts, Panic>
-    ensures found { IsFoundBy (arcs_at head.now parts head.now.counts.arcs (text_left lines.old)) result (text_left lines.new) }
+    ensures found { IsFoundBy (arcs_at head.now parts head.now.counts.arcs (text_left lines.old))
+        result (text_left lines.new) }
     ensures all { lines.new.all ≡ lines.old.all }
 {
     for _k in 0..head.counts.arcs {
@@ -66,7 +69,8 @@ fn read_arcs(
 // Passes over the line that has to come next, the title of a section.
 fn pass_title(lines: &mut Lines<'_>, title: &[u8]) -> Result<(), Panic>
     requires { IsTrue (has_no_newline title.now) }
-    ensures passed { IsPassedBy (after_prefix (title.now ++ 10 ∷ []) (text_left lines.old)) result (text_left lines.new) }
+    ensures passed { IsPassedBy (after_prefix (title.now ++ 10 ∷ []) (text_left lines.old)) result
+        (text_left lines.new) }
     ensures all { lines.new.all ≡ lines.old.all }
 {
     let Some(line) = lines.line() else {

@@ -1,8 +1,8 @@
 //! What stands between the fields of a record, and at its end (GB_SAVE, fill_field, finish_record).
 ghost use Rattle.std.specs.Prelude.{◌≡◌, ◌≢◌, ◌∷◌, [], codes, is_some, unwrap_or};
 ghost use Rattle.sgb_file.specs.Fields.{after_prefix};
-ghost use Rattle.sgb_file.specs.Found.{IsPassedBy};
-ghost use Rattle.sgb_file.specs.LinesLeft.{text_left};
+ghost use Rattle.sgb_file.specs.inner.Found.{IsPassedBy};
+ghost use Rattle.sgb_file.specs.inner.LinesLeft.{text_left};
 ghost use Rattle.sgb_file.specs.Records.{after_comma};
 
 use super::lines::Lines;
@@ -11,7 +11,8 @@ use sgb_vec::Panic;
 // Passes over this byte, which has to stand next.
 pub(super) fn pass_byte(lines: &mut Lines<'_>, byte: u8) -> Result<(), Panic>
     requires { byte ≢ 10 }
-    ensures passed { IsPassedBy (after_prefix (byte ∷ []) (text_left lines.old)) result (text_left lines.new) }
+    ensures passed { IsPassedBy (after_prefix (byte ∷ []) (text_left lines.old)) result
+        (text_left lines.new) }
     ensures all { lines.new.all ≡ lines.old.all }
 {
     let Some(line) = lines.line() else {
@@ -36,7 +37,8 @@ pub(super) fn pass_comma(lines: &mut Lines<'_>) -> Result<(), Panic>
 
 // Ends a record: with it ends its line.
 pub(super) fn end_record(lines: &mut Lines<'_>) -> Result<(), Panic>
-    ensures passed { IsPassedBy (after_prefix (codes "\n") (text_left lines.old)) result (text_left lines.new) }
+    ensures passed { IsPassedBy (after_prefix (codes "\n") (text_left lines.old)) result
+        (text_left lines.new) }
     ensures all { lines.new.all ≡ lines.old.all }
 {
     if !pass_line_end(lines) {
@@ -48,7 +50,8 @@ pub(super) fn end_record(lines: &mut Lines<'_>) -> Result<(), Panic>
 // Passes to the next line if nothing is left of this one, and returns whether it did.
 fn pass_line_end(lines: &mut Lines<'_>) -> bool
     ensures value { result ≡ is_some (after_prefix (codes "\n") (text_left lines.old)) }
-    ensures passed { text_left lines.new ≡ unwrap_or (after_prefix (codes "\n") (text_left lines.old)) (text_left lines.old) }
+    ensures passed { text_left lines.new
+        ≡ unwrap_or (after_prefix (codes "\n") (text_left lines.old)) (text_left lines.old) }
     ensures all { lines.new.all ≡ lines.old.all }
 {
     let Some(line) = lines.line() else {

@@ -4,8 +4,8 @@ ghost use Rattle.std.specs.List.{position};
 ghost use Rattle.sgb_vec.specs.Limits.{most_bytes};
 ghost use Rattle.sgb_graph.specs.Ids.{most_id_bytes};
 ghost use Rattle.sgb_file.specs.Fields.{string_at};
-ghost use Rattle.sgb_file.specs.Found.{IsFoundBy, IsNoString, IsNoStringAt, IsNoWhole, IsPartOf, IsStringAt, IsWholeOf, is_broken};
-ghost use Rattle.sgb_file.specs.LinesLeft.{text_left};
+ghost use Rattle.sgb_file.specs.inner.Found.{IsFoundBy, IsNoString, IsNoStringAt, IsNoWhole, IsPartOf, IsStringAt, IsWholeOf, is_broken};
+ghost use Rattle.sgb_file.specs.inner.LinesLeft.{text_left};
 
 use super::lines::Lines;
 use super::separators::pass_byte;
@@ -26,7 +26,8 @@ struct Part<'a> {
 
 // The string that stands next, of at most 4,095 bytes.
 pub(super) fn read_text(alloc: Global, lines: &mut Lines<'_>) -> Result<Text, Panic>
-    ensures found { IsFoundBy (string_at most_bytes (text_left lines.old)) result (text_left lines.new) }
+    ensures found { IsFoundBy (string_at most_bytes (text_left lines.old)) result
+        (text_left lines.new) }
     ensures all { lines.new.all ≡ lines.old.all }
 {
     let mut gathered = None;
@@ -36,7 +37,8 @@ pub(super) fn read_text(alloc: Global, lines: &mut Lines<'_>) -> Result<Text, Pa
 
 // The string that stands next, as an id: of at most 160 bytes.
 pub(super) fn read_id(lines: &mut Lines<'_>) -> Result<Id, Panic>
-    ensures found { IsFoundBy (string_at most_id_bytes (text_left lines.old)) result (text_left lines.new) }
+    ensures found { IsFoundBy (string_at most_id_bytes (text_left lines.old)) result
+        (text_left lines.new) }
     ensures all { lines.new.all ≡ lines.old.all }
 {
     let mut gathered = None;
@@ -49,8 +51,10 @@ fn read_bytes<'a: 'b, 'b>(
     lines: &mut Lines<'a>,
     gathered: &'b mut Option<ArrayVec<u8, MOST_BYTES>>,
 ) -> Result<&'b [u8], Panic>
-    ensures string { IfOk result (λ bytes. IsStringAt (text_left lines.old) bytes.now (text_left lines.new)) }
-    ensures none { IfErr result (λ error. (error ≡ Panic.Syntax) × IsNoStringAt (text_left lines.old)) }
+    ensures string { IfOk result (λ bytes. IsStringAt (text_left lines.old) bytes.now
+        (text_left lines.new)) }
+    ensures none { IfErr result (λ error. (error ≡ Panic.Syntax)
+        × IsNoStringAt (text_left lines.old)) }
     ensures all { lines.new.all ≡ lines.old.all }
 {
     pass_byte(lines, b'"')?;
@@ -64,9 +68,12 @@ fn read_bytes<'a: 'b, 'b>(
 
 // The next part of a string: up to its closing quote, or to a `\` at the end of its line.
 fn take_part<'a>(lines: &mut Lines<'a>) -> Result<Part<'a>, Panic>
-    ensures part { IfOk result (λ part. IsPartOf (text_left lines.old) part.bytes.now part.closed (text_left lines.new)) }
-    ensures shorter { IfOk result (λ part. length (text_left lines.new) < length (text_left lines.old)) }
-    ensures none { IfErr result (λ error. (error ≡ Panic.Syntax) × IsNoString (text_left lines.old)) }
+    ensures part { IfOk result (λ part. IsPartOf (text_left lines.old) part.bytes.now part.closed
+        (text_left lines.new)) }
+    ensures shorter { IfOk result (λ part. length (text_left lines.new) < length
+        (text_left lines.old)) }
+    ensures none { IfErr result (λ error. (error ≡ Panic.Syntax)
+        × IsNoString (text_left lines.old)) }
     ensures all { lines.new.all ≡ lines.old.all }
 {
     let Some(line) = lines.line() else {
@@ -106,8 +113,10 @@ fn place_of_quote(line: &[u8]) -> Option<usize>
 
 // The bytes of a string of several parts, of which the first one was taken.
 fn gather(first: &[u8], lines: &mut Lines<'_>) -> Result<ArrayVec<u8, MOST_BYTES>, Panic>
-    ensures whole { IfOk result (λ bytes. IsWholeOf first.now (text_left lines.old) bytes.items (text_left lines.new)) }
-    ensures none { IfErr result (λ error. (error ≡ Panic.Syntax) × IsNoWhole first.now (text_left lines.old)) }
+    ensures whole { IfOk result (λ bytes. IsWholeOf first.now (text_left lines.old) bytes.items
+        (text_left lines.new)) }
+    ensures none { IfErr result (λ error. (error ≡ Panic.Syntax)
+        × IsNoWhole first.now (text_left lines.old)) }
     ensures all { lines.new.all ≡ lines.old.all }
 {
     let mut bytes = ArrayVec::new();
@@ -124,7 +133,8 @@ fn gather(first: &[u8], lines: &mut Lines<'_>) -> Result<ArrayVec<u8, MOST_BYTES
 // Appends a part of a string. `Syntax` where the string is longer than any may be.
 fn push_part(bytes: &mut ArrayVec<u8, MOST_BYTES>, part: &[u8]) -> Result<(), Panic>
     ensures ok { OnOk result (bytes.new.items ≡ bytes.old.items ++ part.now) }
-    ensures long { IfErr result (λ error. (error ≡ Panic.Syntax) × (most_bytes < length (bytes.old.items ++ part.now))) }
+    ensures long { IfErr result (λ error. (error ≡ Panic.Syntax)
+        × (most_bytes < length (bytes.old.items ++ part.now))) }
 {
     match bytes.try_extend_from_slice(part) {
         Ok(()) => Ok(()),

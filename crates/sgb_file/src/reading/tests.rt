@@ -1,15 +1,12 @@
 //! Fields and records read from lines, on texts whose values are known.
-
 mod files;
 
-use super::fields::read_next_field;
 use super::heads::{Counts, Head};
 use super::lines::Lines;
 use super::numbers::{integer_of, record_number_of, ref_of};
-use super::records::{read_arc, read_graph_record, read_vertex};
+use super::records::{read_arc, read_vertex};
 use super::strings::{read_id, read_text};
 use sgb_graph::{Kind, Ref, Util};
-use sgb_vec::Panic;
 use std::test::Fail;
 
 const INTEGERS: &[(&[u8], Option<i64>)] = &[
@@ -149,24 +146,5 @@ fn an_arc_is_read(rt: HostRuntime) -> Result<(), Fail> {
     assert!(rt; matches!(&arc.a, Util::Nothing));
     assert!(rt; matches!(&arc.b, Util::Vertex(Ref::One)));
     assert!(rt; read_arc(rt.alloc(), &head, &mut lines).is_err());
-    Ok(())
-}
-
-#[test]
-fn the_record_of_the_graph_is_read(rt: HostRuntime) -> Result<(), Fail> {
-    let head = small_head();
-    assert!(rt; read_graph_record(rt.alloc(), &head, &mut Lines::new(b"\"g\",3,8\n")).is_ok());
-    assert!(rt; read_graph_record(rt.alloc(), &head, &mut Lines::new(b"\"g\",2,8\n")).is_err());
-    assert!(rt; read_graph_record(rt.alloc(), &head, &mut Lines::new(b"\"g\",3,8,0\n")).is_err());
-    Ok(())
-}
-
-#[test]
-fn a_field_stands_after_a_comma(rt: HostRuntime) -> Result<(), Fail> {
-    let head = small_head();
-    let field = read_next_field(rt.alloc(), &head.counts, Kind::A, &mut Lines::new(b",A1\n"))?;
-    assert!(rt; matches!(field, Util::Chain(Some(1))));
-    let field = read_next_field(rt.alloc(), &head.counts, Kind::A, &mut Lines::new(b"A1\n"));
-    assert!(rt; matches!(field, Err(Panic::Syntax)));
     Ok(())
 }

@@ -19,7 +19,8 @@ pub(super) fn after_prefix<'a>(prefix: &[u8], text: &'a [u8]) -> Option<&'a [u8]
 
 // The number of 1 to 18 digits that all the digits write which a text begins with, and what follows them.
 pub(super) fn leading_number(text: &[u8]) -> Option<(u64, &[u8])>
-    ensures value { option_map (λ x. record { value = x.0; rest = x.1.now }) result ≡ leading_number text.now }
+    ensures value { option_map (λ x. record { value = x.0; rest = x.1.now }) result
+        ≡ leading_number text.now }
     ensures bound { IfSome result (λ x. x.0 < 10 ^ 18) }
 {
     let (digits, rest) = leading_digits(text);

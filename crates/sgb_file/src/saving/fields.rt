@@ -3,7 +3,7 @@ ghost use Rattle.std.specs.Prelude.{◌≡◌, ◌≤◌, ◌++◌, length, map,
 ghost use Rattle.std.specs.Fmt.{signed_decimal};
 ghost use Rattle.std.specs.List.{flat_map};
 ghost use Rattle.sgb_graph.specs.Columns.{util_seen};
-ghost use Rattle.sgb_file.specs.Layouts.{AreLaidOut, IsNextPlaced, IsPlaced, comma_of, has_any, piece_of, stage};
+ghost use Rattle.sgb_file.specs.inner.Layouts.{AreLaidOut, IsNextPlaced, IsPlaced, comma_of, has_any, piece_of, stage};
 ghost use Rattle.sgb_file.specs.Saving.{field_texts, pieces_of, quoted, record_number_text, ref_text};
 
 use super::layouts::Layout;
@@ -17,7 +17,9 @@ pub(super) fn put_fields<W: Sink>(
     sink: &mut W,
     fields: &[UtilRef<'_>],
 ) -> Result<(), Failed>
-    ensures { AreLaidOut (flat_map field_texts (map util_seen fields.now)) (stage (W.written sink.old) (W.has_failed sink.old) layout.old) (stage (W.written sink.new) (W.has_failed sink.new) layout.new) result }
+    ensures { AreLaidOut (flat_map field_texts (map util_seen fields.now))
+        (stage W.written W.has_failed sink.old layout.old)
+        (stage W.written W.has_failed sink.new layout.new) result }
 {
     for place in 0..fields.len() {
         let more = any_used(&fields[place + 1..]);
@@ -52,7 +54,9 @@ fn put_field<W: Sink>(
     field: UtilRef<'_>,
     more: bool,
 ) -> Result<(), Failed>
-    ensures { IsNextPlaced more (field_texts (util_seen field.entry)) (stage (W.written sink.old) (W.has_failed sink.old) layout.old) (stage (W.written sink.new) (W.has_failed sink.new) layout.new) result }
+    ensures { IsNextPlaced more (field_texts (util_seen field.entry))
+        (stage W.written W.has_failed sink.old layout.old)
+        (stage W.written W.has_failed sink.new layout.new) result }
 {
     match field {
         UtilRef::Nothing => Ok(()),
@@ -70,7 +74,9 @@ pub(super) fn put_string<W: Sink>(
     bytes: &[u8],
     more: bool,
 ) -> Result<(), Failed>
-    ensures { IsPlaced (piece_of more (quoted bytes.now)) (stage (W.written sink.old) (W.has_failed sink.old) layout.old) (stage (W.written sink.new) (W.has_failed sink.new) layout.new) result }
+    ensures { IsPlaced (piece_of more (quoted bytes.now))
+        (stage W.written W.has_failed sink.old layout.old)
+        (stage W.written W.has_failed sink.new layout.new) result }
 {
     let end: &[u8] = if more { b"\"," } else { b"\"" };
     layout.place(sink, b"\"", bytes, end)
@@ -83,7 +89,9 @@ pub(super) fn put_integer<W: Sink>(
     number: i64,
     more: bool,
 ) -> Result<(), Failed>
-    ensures { IsPlaced (piece_of more (signed_decimal number)) (stage (W.written sink.old) (W.has_failed sink.old) layout.old) (stage (W.written sink.new) (W.has_failed sink.new) layout.new) result }
+    ensures { IsPlaced (piece_of more (signed_decimal number))
+        (stage W.written W.has_failed sink.old layout.old)
+        (stage W.written W.has_failed sink.new layout.new) result }
 {
     let mut digits = Buffer::new();
     layout.place(sink, b"", digits.format(number).as_bytes(), comma(more))
@@ -96,7 +104,9 @@ pub(super) fn put_number<W: Sink>(
     number: u64,
     more: bool,
 ) -> Result<(), Failed>
-    ensures { IsPlaced (piece_of more (decimal number)) (stage (W.written sink.old) (W.has_failed sink.old) layout.old) (stage (W.written sink.new) (W.has_failed sink.new) layout.new) result }
+    ensures { IsPlaced (piece_of more (decimal number))
+        (stage W.written W.has_failed sink.old layout.old)
+        (stage W.written W.has_failed sink.new layout.new) result }
 {
     let mut digits = Buffer::new();
     layout.place(sink, b"", digits.format(number).as_bytes(), comma(more))
@@ -109,7 +119,9 @@ pub(super) fn put_ref<W: Sink>(
     vertex: Ref,
     more: bool,
 ) -> Result<(), Failed>
-    ensures { IsPlaced (piece_of more (ref_text vertex)) (stage (W.written sink.old) (W.has_failed sink.old) layout.old) (stage (W.written sink.new) (W.has_failed sink.new) layout.new) result }
+    ensures { IsPlaced (piece_of more (ref_text vertex))
+        (stage W.written W.has_failed sink.old layout.old)
+        (stage W.written W.has_failed sink.new layout.new) result }
 {
     match vertex {
         Ref::Null => layout.place(sink, b"", b"0", comma(more)),
@@ -128,7 +140,9 @@ pub(super) fn put_record_number<W: Sink>(
     first: Option<usize>,
     more: bool,
 ) -> Result<(), Failed>
-    ensures { IsPlaced (piece_of more (record_number_text first)) (stage (W.written sink.old) (W.has_failed sink.old) layout.old) (stage (W.written sink.new) (W.has_failed sink.new) layout.new) result }
+    ensures { IsPlaced (piece_of more (record_number_text first))
+        (stage W.written W.has_failed sink.old layout.old)
+        (stage W.written W.has_failed sink.new layout.new) result }
 {
     match first {
         None => layout.place(sink, b"", b"0", comma(more)),

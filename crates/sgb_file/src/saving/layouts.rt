@@ -1,6 +1,6 @@
 //! Pieces laid out on lines of at most 79 bytes (GB_SAVE, save_graph).
 ghost use Rattle.std.specs.Prelude.{◌≡◌, ◌+◌, ◌≤◌, ◌++◌, ◌∷◌, [], length, take, drop};
-ghost use Rattle.sgb_file.specs.Layouts.{IsFilled, IsLaid, IsPlaced, line_before, lines_before, stage};
+ghost use Rattle.sgb_file.specs.inner.Layouts.{IsFilled, IsLaid, IsPlaced, line_before, lines_before, stage};
 ghost use Rattle.sgb_file.specs.Saving.{broken_line_bytes, fits_on, most_line_bytes};
 
 use super::lines::{Line, MOST_LINE_BYTES};
@@ -15,7 +15,7 @@ pub(super) struct Layout {
 }
 
 impl Model for Layout {
-    ghost use Rattle.sgb_file.specs.Layouts.{LayoutState};
+    ghost use Rattle.sgb_file.specs.inner.Layouts.{LayoutState};
 
     ghost Value = { LayoutState };
 
@@ -43,7 +43,9 @@ impl Layout {
 
     // Ends the line.
     pub(super) fn end_line<W: Sink>(&mut self, sink: &mut W) -> Result<(), Failed>
-        ensures { IsLaid (self.old.line ∷ []) [] (stage (W.written sink.old) (W.has_failed sink.old) self.old) (stage (W.written sink.new) (W.has_failed sink.new) self.new) result }
+        ensures { IsLaid (self.old.line ∷ []) []
+            (stage W.written W.has_failed sink.old self.old)
+            (stage W.written W.has_failed sink.new self.new) result }
     {
         self.checksum = self.line.checksum_after(self.checksum);
         self.line.put(sink)
@@ -59,7 +61,9 @@ impl Layout {
     ) -> Result<(), Failed>
         requires front { length front.now ≤ 1 }
         requires back { length back.now ≤ 2 }
-        ensures { IsPlaced (front.now ++ body.now ++ back.now) (stage (W.written sink.old) (W.has_failed sink.old) self.old) (stage (W.written sink.new) (W.has_failed sink.new) self.new) result }
+        ensures { IsPlaced (front.now ++ body.now ++ back.now)
+            (stage W.written W.has_failed sink.old self.old)
+            (stage W.written W.has_failed sink.new self.new) result }
     {
         let fits = self.has_room(front, body, back);
         self.make_room(sink, fits)?;
@@ -79,7 +83,9 @@ impl Layout {
 
     // Ends a line that was begun, where the next piece does not fit on it.
     fn make_room<W: Sink>(&mut self, sink: &mut W, fits: bool) -> Result<(), Failed>
-        ensures { IsLaid (lines_before fits self.old.line) (line_before fits self.old.line) (stage (W.written sink.old) (W.has_failed sink.old) self.old) (stage (W.written sink.new) (W.has_failed sink.new) self.new) result }
+        ensures { IsLaid (lines_before fits self.old.line) (line_before fits self.old.line)
+            (stage W.written W.has_failed sink.old self.old)
+            (stage W.written W.has_failed sink.new self.new) result }
     {
         if fits || self.line.len() == 0 {
             return Ok(());
@@ -95,7 +101,9 @@ impl Layout {
         body: &[u8],
         back: &[u8],
     ) -> Result<(), Failed>
-        ensures { IsFilled (front.now ++ body.now ++ back.now) (stage (W.written sink.old) (W.has_failed sink.old) self.old) (stage (W.written sink.new) (W.has_failed sink.new) self.new) result }
+        ensures { IsFilled (front.now ++ body.now ++ back.now)
+            (stage W.written W.has_failed sink.old self.old)
+            (stage W.written W.has_failed sink.new self.new) result }
     {
         self.fill(sink, front)?;
         self.fill(sink, body)?;
@@ -104,7 +112,8 @@ impl Layout {
 
     // Puts bytes on the line, and breaks it as often as they need.
     fn fill<W: Sink>(&mut self, sink: &mut W, bytes: &[u8]) -> Result<(), Failed>
-        ensures { IsFilled bytes.now (stage (W.written sink.old) (W.has_failed sink.old) self.old) (stage (W.written sink.new) (W.has_failed sink.new) self.new) result }
+        ensures { IsFilled bytes.now (stage W.written W.has_failed sink.old self.old)
+            (stage W.written W.has_failed sink.new self.new) result }
     {
         if bytes.len() <= MOST_LINE_BYTES - self.line.len() {
             self.line.push(bytes);
@@ -118,7 +127,8 @@ impl Layout {
 
     // Puts a byte on the line, and breaks the line where it is full.
     fn fill_byte<W: Sink>(&mut self, sink: &mut W, byte: u8) -> Result<(), Failed>
-        ensures { IsFilled (byte ∷ []) (stage (W.written sink.old) (W.has_failed sink.old) self.old) (stage (W.written sink.new) (W.has_failed sink.new) self.new) result }
+        ensures { IsFilled (byte ∷ []) (stage W.written W.has_failed sink.old self.old)
+            (stage W.written W.has_failed sink.new self.new) result }
     {
         if self.line.len() < MOST_LINE_BYTES {
             self.line.push(&[byte]);

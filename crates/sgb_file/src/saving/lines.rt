@@ -1,7 +1,7 @@
 //! The line under way.
 ghost use Rattle.std.specs.Prelude.{◌≡◌, ◌+◌, ◌≤◌, ◌++◌, ◌∷◌, [], length, take, drop, OnOk};
-ghost use Rattle.sgb_file.specs.Devices.{IsPut};
-ghost use Rattle.sgb_file.specs.Layouts.{checksum_from, counted_bytes};
+ghost use Rattle.sgb_file.specs.Devices.{change, IsPut};
+ghost use Rattle.sgb_file.specs.inner.Layouts.{checksum_from, counted_bytes};
 ghost use Rattle.sgb_file.specs.Saving.{broken_line_bytes, most_line_bytes};
 
 use crate::checksums::checksum_after_line;
@@ -77,7 +77,8 @@ impl Line {
     // Writes the line and its newline; it is then empty.
     pub(super) fn put<W: Sink>(&mut self, sink: &mut W) -> Result<(), Failed>
         ensures empty { self.new ≡ [] }
-        ensures put { IsPut (self.old ++ 10 ∷ []) (W.written sink.old) (W.written sink.new) (W.has_failed sink.new) result }
+        ensures put { IsPut (self.old ++ 10 ∷ []) (change W.written W.has_failed sink.old sink.new)
+            result }
         ensures sound { OnOk result (W.has_failed sink.new ≡ W.has_failed sink.old) }
     {
         self.bytes.push(b'\n');

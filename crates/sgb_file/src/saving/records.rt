@@ -1,7 +1,7 @@
 //! The records of a file (GB_SAVE, save_graph).
 ghost use Rattle.std.specs.Prelude.{◌≡◌, length, map};
 ghost use Rattle.sgb_graph.specs.Columns.{arc_seen, util_seen, vertex_seen};
-ghost use Rattle.sgb_file.specs.Layouts.{AreLaidOut, stage};
+ghost use Rattle.sgb_file.specs.inner.Layouts.{AreLaidOut, stage};
 ghost use Rattle.sgb_file.specs.Saving.{arc_texts, graph_texts, vertex_texts};
 
 use super::fields::{
@@ -18,7 +18,9 @@ pub(super) fn put_graph<W: Sink>(
     graph: &Graph,
 ) -> Result<(), Failed>
     requires { length graph.now.util ≡ 6 }
-    ensures { AreLaidOut (graph_texts graph.now) (stage (W.written sink.old) (W.has_failed sink.old) layout.old) (stage (W.written sink.new) (W.has_failed sink.new) layout.new) result }
+    ensures { AreLaidOut (graph_texts graph.now)
+        (stage W.written W.has_failed sink.old layout.old)
+        (stage W.written W.has_failed sink.new layout.new) result }
 {
     let fields = graph_fields(graph);
     put_string(layout, sink, graph.id().bytes(), true)?;
@@ -48,7 +50,9 @@ pub(super) fn put_vertex<W: Sink>(
     sink: &mut W,
     vertex: VertexRef<'_>,
 ) -> Result<(), Failed>
-    ensures { AreLaidOut (vertex_texts (vertex_seen vertex.entry)) (stage (W.written sink.old) (W.has_failed sink.old) layout.old) (stage (W.written sink.new) (W.has_failed sink.new) layout.new) result }
+    ensures { AreLaidOut (vertex_texts (vertex_seen vertex.entry))
+        (stage W.written W.has_failed sink.old layout.old)
+        (stage W.written W.has_failed sink.new layout.new) result }
 {
     put_string(layout, sink, vertex.name.bytes(), true)?;
     put_record_number(layout, sink, vertex.arcs, any_used(&vertex.util))?;
@@ -61,7 +65,9 @@ pub(super) fn put_arc<W: Sink>(
     sink: &mut W,
     arc: ArcRef<'_>,
 ) -> Result<(), Failed>
-    ensures { AreLaidOut (arc_texts (arc_seen arc.entry)) (stage (W.written sink.old) (W.has_failed sink.old) layout.old) (stage (W.written sink.new) (W.has_failed sink.new) layout.new) result }
+    ensures { AreLaidOut (arc_texts (arc_seen arc.entry))
+        (stage W.written W.has_failed sink.old layout.old)
+        (stage W.written W.has_failed sink.new layout.new) result }
 {
     let fields = [arc.a, arc.b];
     put_ref(layout, sink, arc.tip, true)?;

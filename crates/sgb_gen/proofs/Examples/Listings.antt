@@ -3,7 +3,7 @@ use Prim.Native.String.{String}
 use Rattle.std.specs.Prelude.{ℕ, ℤ, pos, List, [], length, map, slice_index_or, Result, Ok, Err, codes}
 use Rattle.std.specs.List.{range_with_len}
 use Rattle.sgb_vec.specs.declared.panics.Panic.{Panic}
-use Rattle.sgb_graph.specs.Events.{all_rows, list_of}
+use Rattle.sgb_graph.specs.Events.{all_records, list_of}
 use Rattle.sgb_graph.specs.Descriptions.{Description}
 use Rattle.sgb_graph.specs.declared.fields.Link.{Link}
 
@@ -30,7 +30,7 @@ arcs_of d v =
 
 -- how many arcs there are
 abbrev pub arcs_count : Description → ℕ
-arcs_count d = length (all_rows d.directed d.events)
+arcs_count d = length (all_records d.directed d.events)
 
 -- vertex v
 abbrev pub block_of : Description → ℕ → Block

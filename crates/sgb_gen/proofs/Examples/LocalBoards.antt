@@ -1,7 +1,7 @@
 -- Lists of one vertex of a board, by displacements, evaluated.
 use Rattle.std.specs.Prelude.{◌≡◌, ℕ, ℤ, pos, negsuc, true, false, List, [], ◌∷◌, Some, None, refl}
 use Rattle.sgb_graph.specs.Events.{list_from}
-use Rattle.sgb_gen.specs.LocalBoards.{arcs_of_starts, arcs_onward, edge_arcs, move_arc, moves_by, other_starts, own_starts, starts_of}
+use Rattle.sgb_gen.specs.inner.LocalBoards.{arcs_of_starts, arcs_onward, edge_arcs, move_arc, moves_by, other_starts, own_starts, starts_of}
 use Rattle.sgb_gen.specs.LocalLists.{LocalArc, list_at}
 use Rattle.sgb_gen.specs.Moves.{Side, moves_from, opposite}
 

@@ -5,7 +5,7 @@ use Rattle.sgb_vec.specs.Sums.{bounded_sums}
 use Rattle.sgb_graph.specs.Events.{list_from}
 use Rattle.sgb_gen.specs.Simplexes.{SimplexData, Places, simplex_vectors, moves_of_simplex}
 use Rattle.sgb_gen.specs.LocalLists.{list_at}
-use Rattle.sgb_gen.specs.LocalSimplexes.{can_return, returned, arc_by_unit, pairs_down, pairs_back, arcs_by_pairs}
+use Rattle.sgb_gen.specs.inner.LocalSimplexes.{can_return, returned, arc_by_unit, pairs_down, pairs_back, arcs_by_pairs}
 use Rattle.sgb_gen.proofs.Examples.LocalLists.{triangle, unit_arcs}
 
 -- two places

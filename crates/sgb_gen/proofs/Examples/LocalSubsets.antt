@@ -5,7 +5,7 @@ use Rattle.sgb_vec.specs.Sums.{bounded_sums}
 use Rattle.sgb_graph.specs.Events.{list_from}
 use Rattle.sgb_gen.specs.Subsets.{SubsetsData, subsets_vectors, moves_of_subsets}
 use Rattle.sgb_gen.specs.LocalLists.{LocalArc, list_at}
-use Rattle.sgb_gen.specs.LocalSubsets.{arcs_by_walk}
+use Rattle.sgb_gen.specs.inner.LocalSubsets.{arcs_by_walk}
 
 -- multisets of two elements of three, joined where they have one or two in common
 abbrev pairs : Bool → SubsetsData

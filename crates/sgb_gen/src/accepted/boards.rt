@@ -1,4 +1,4 @@
-ghost use Rattle.std.specs.Prelude.{◌≡◌, ◌<◌, ◌≤◌, nat_abs, IfOk, length, map, option_map, slice_get, Some, Ok, IfSome, OnOk, IsOkUnless};
+ghost use Rattle.std.specs.Prelude.{◌≡◌, ◌<◌, ◌≤◌, All, nat_abs, IfOk, length, map, option_map, slice_get, Some, Ok, IfSome, OnOk, IsOkUnless};
 ghost use Rattle.sgb_gen.specs.Boards.{accepted_board, board_id, piece_of, board_graph, moves_of_board};
 ghost use Rattle.sgb_gen.specs.Limits.{most_piece};
 ghost use Rattle.std.specs.List.{flat_map};
@@ -7,8 +7,11 @@ ghost use Rattle.sgb_vec.specs.Lexicographic.{IsBelow};
 ghost use Rattle.sgb_graph.specs.Descriptions.{IsAnswerOf};
 ghost use Rattle.sgb_graph.specs.Growth.{AddsEvents, HasPlainArcs};
 ghost use Rattle.sgb_gen.specs.VectorGraphs.{event_among, vertex_among};
-ghost use Rattle.sgb_gen.specs.Moves.{destination, longest_move, sides_of, moves_from};
+ghost use Rattle.sgb_gen.specs.Moves.{sides_of, moves_from};
+ghost use Rattle.sgb_gen.specs.inner.EntryBounds.{displacements_within, entry_bounds};
+ghost use Rattle.sgb_gen.specs.inner.Moves.{destination, longest_move};
 
+mod counts;
 mod lists;
 
 use crate::displacements::Displacements;
@@ -16,7 +19,7 @@ use crate::moves::{destination, entry_bounds};
 use crate::params::BoardParams;
 use crate::vector_graphs::{put_coordinates, vector_names};
 use sgb_graph::{Graph, Id, IdWriter};
-use sgb_vec::{BoxFamily, Family, Panic, Shape, Steps, Vector, board_sizes};
+use sgb_vec::{BoxFamily, Family, Panic, Shape, Vector, Vectors, board_sizes};
 use std::alloc::Global;
 use std::marker::Model;
 
@@ -36,7 +39,8 @@ pub struct Board {
 
 impl Model for Board {
     ghost use Rattle.std.specs.Prelude.{◌≡◌};
-    ghost use Rattle.sgb_gen.specs.Boards.{BoardData, IsAccepted};
+    ghost use Rattle.sgb_gen.specs.Boards.{BoardData};
+    ghost use Rattle.sgb_gen.specs.inner.Boards.{IsAccepted};
 
     ghost Value = { BoardData };
 
@@ -48,7 +52,8 @@ impl Model for Board {
       directed = b.directed;
     } };
 
-    ghost invariant = { λ b. (b.shape.sizes ≡ b.family) × IsAccepted b.shape.params b.family b.piece };
+    ghost invariant = { λ b. (b.shape.sizes ≡ b.family)
+        × IsAccepted b.shape.params b.family b.piece };
 }
 
 impl Board {
@@ -66,7 +71,16 @@ impl Board {
         wrap: i64,
         directed: bool,
     ) -> Result<Board, Panic>
-        ensures { result ≡ accepted_board (record { n1 = n1; n2 = n2; n3 = n3; n4 = n4; piece = piece; wrap = wrap; directed = directed }) }
+        ensures { result ≡ accepted_board
+            (record {
+              n1 = n1;
+              n2 = n2;
+              n3 = n3;
+              n4 = n4;
+              piece = piece;
+              wrap = wrap;
+              directed = directed;
+            }) }
     {
         Board::from_params(&BoardParams {
             n1,
@@ -131,6 +145,18 @@ impl Board {
         Ok(graph)
     }
 
+    // The displacements by which the piece can move on the board.
+    fn displacements(&self) -> Displacements
+        ensures all { result ≡ displacements_within (nat_abs self.now.piece)
+            (entry_bounds (nat_abs self.now.piece) (sides_of self.now.sizes self.now.wrap)) }
+        ensures dimensions { All (λ t. length t ≡ length self.now.sizes) result }
+        ensures small { All (λ t. All (λ e. nat_abs e ≤ most_piece) t) result }
+    {
+        let piece = self.piece.unsigned_abs() as u32;
+        let bounds = entry_bounds(self.shape.sizes(), self.wrap, piece);
+        Displacements::new(piece, bounds)
+    }
+
     // The greatest length that a move may have.
     fn longest_move(&self) -> u32
         ensures { result ≡ longest_move (sides_of self.now.sizes self.now.wrap) self.now.piece }
@@ -164,7 +190,8 @@ impl Board {
         requires vertices { length graph.old.vertices ≡ length (box self.now.sizes) }
         requires plain { HasPlainArcs graph.old }
         ensures ok { OnOk result (AddsEvents self.now.directed graph.old graph.new
-            (map (event_among (box self.now.sizes)) (moves_from (sides_of self.now.sizes self.now.wrap) self.now.piece x.now t.now))) }
+            (map (event_among (box self.now.sizes))
+            (moves_from (sides_of self.now.sizes self.now.wrap) self.now.piece x.now t.now))) }
         ensures memory { IsOkUnless result Panic.NoRoom }
     {
         let mut there = Vector::new();
@@ -183,14 +210,18 @@ impl Board {
         requires vertices { length graph.old.vertices ≡ length (box self.now.sizes) }
         requires plain { HasPlainArcs graph.old }
         ensures ok { OnOk result (AddsEvents self.now.directed graph.old graph.new
-            (map (event_among (box self.now.sizes)) (flat_map (λ x. moves_from (sides_of self.now.sizes self.now.wrap) self.now.piece x t.now) (box self.now.sizes)))) }
+            (map (event_among (box self.now.sizes))
+            (flat_map (λ x. moves_from (sides_of self.now.sizes self.now.wrap) self.now.piece x
+            t.now) (box self.now.sizes)))) }
         ensures memory { IsOkUnless result Panic.NoRoom }
     {
-        let mut x = Vector::new();
-        let _some = self.family.first(&mut x, &mut Steps::new());
+        let mut left = Vectors::all(&self.family);
         for u in 0..self.family.size() {
-            self.add_moves(graph, u, x.as_slice(), t)?;
-            let _more = self.family.next(&mut x, &mut Steps::new());
+            let Some(x) = left.front() else {
+                return Ok(());
+            };
+            self.add_moves(graph, u, x, t)?;
+            let _some = left.advance();
         }
         Ok(())
     }
@@ -199,13 +230,14 @@ impl Board {
     fn add_arcs(&self, graph: &mut Graph) -> Result<(), Panic>
         requires vertices { length graph.old.vertices ≡ length (box self.now.sizes) }
         requires plain { HasPlainArcs graph.old }
-        ensures ok { OnOk result (AddsEvents self.now.directed graph.old graph.new (map (event_among (box self.now.sizes)) (moves_of_board self.now))) }
+        ensures ok { OnOk result (AddsEvents self.now.directed graph.old graph.new
+            (map (event_among (box self.now.sizes)) (moves_of_board self.now))) }
         ensures memory { IsOkUnless result Panic.NoRoom }
     {
-        let piece = self.piece.unsigned_abs() as u32;
-        let bounds = entry_bounds(self.shape.sizes(), self.wrap, piece);
-        for t in Displacements::new(piece, bounds) {
-            self.add_moves_by(graph, t.as_slice())?;
+        let mut left = self.displacements();
+        while let Some(t) = left.front() {
+            self.add_moves_by(graph, t)?;
+            let _some = left.advance();
         }
         Ok(())
     }

@@ -26,7 +26,8 @@ pub struct Simplex {
 
 impl Model for Simplex {
     ghost use Rattle.std.specs.Prelude.{◌≡◌};
-    ghost use Rattle.sgb_gen.specs.Simplexes.{SimplexData, IsAcceptedSum};
+    ghost use Rattle.sgb_gen.specs.Simplexes.{SimplexData};
+    ghost use Rattle.sgb_gen.specs.inner.Simplexes.{IsAcceptedSum};
 
     ghost Value = { SimplexData };
 
@@ -36,7 +37,8 @@ impl Model for Simplex {
       directed = s.directed;
     } };
 
-    ghost invariant = { λ s. (s.shape.sizes ≡ s.family.bounds) × IsAcceptedSum s.shape.params s.family };
+    ghost invariant = { λ s. (s.shape.sizes ≡ s.family.bounds)
+        × IsAcceptedSum s.shape.params s.family };
 }
 
 impl Simplex {
@@ -56,7 +58,9 @@ impl Simplex {
         n4: i64,
         directed: bool,
     ) -> Result<Simplex, Panic>
-        ensures { (result ≡ accepted_simplex (record { n = n; n0 = n0; n1 = n1; n2 = n2; n3 = n3; n4 = n4; directed = directed })) ⊎ (result ≡ Err Panic.NoRoom) }
+        ensures { (result ≡ accepted_simplex
+            (record { n = n; n0 = n0; n1 = n1; n2 = n2; n3 = n3; n4 = n4; directed = directed }))
+            ⊎ (result ≡ Err Panic.NoRoom) }
     {
         let params = SimplexParams {
             n,
@@ -135,8 +139,10 @@ impl Simplex {
         requires member { Contains (simplex_vectors self.now) x.now }
         requires order { lower < higher }
         requires entry { higher < length x.now }
-        ensures vertex { result ≡ (if can_shift self.now.sum.bounds x.now (record { lower = lower; higher = higher })
-            then Some (vertex_among (simplex_vectors self.now) (shifted x.now (record { lower = lower; higher = higher }))) else None) }
+        ensures vertex { result ≡ (if can_shift self.now.sum.bounds x.now
+            (record { lower = lower; higher = higher })
+            then Some (vertex_among (simplex_vectors self.now)
+            (shifted x.now (record { lower = lower; higher = higher }))) else None) }
         ensures within { IfSome result (λ u. u < length (simplex_vectors self.now)) }
     {
         let bounds = self.shape.sizes();
@@ -162,7 +168,8 @@ impl Simplex {
         requires nodes { length graph.old.vertices ≡ length (simplex_vectors self.now) }
         requires plain { HasPlainArcs graph.old }
         ensures ok { OnOk result (AddsEvents self.now.directed graph.old graph.new
-            (map (event_among (simplex_vectors self.now)) (moves_by self.now.sum.bounds x.now (pairs_from (length x.now) lower)))) }
+            (map (event_among (simplex_vectors self.now))
+            (moves_by self.now.sum.bounds x.now (pairs_from (length x.now) lower)))) }
         ensures memory { IsOkUnless result Panic.NoRoom }
     {
         for higher in lower + 1..x.len() {

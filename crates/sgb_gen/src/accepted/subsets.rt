@@ -10,7 +10,7 @@ mod lists;
 use crate::params::SubsetsParams;
 use crate::vector_graphs::{put_coordinates, vector_names};
 use sgb_graph::{Graph, Id, IdWriter};
-use sgb_vec::{Family, Panic, Shape, Steps, SumFamily, Vector, simplex_bounds};
+use sgb_vec::{Family, Panic, Shape, SumFamily, Vectors, simplex_bounds};
 use std::alloc::Global;
 use std::marker::Model;
 use std::simd::prelude::*;
@@ -27,8 +27,9 @@ pub struct Subsets {
 
 impl Model for Subsets {
     ghost use Rattle.std.specs.Prelude.{◌≡◌};
-    ghost use Rattle.sgb_gen.specs.Simplexes.{IsAcceptedSum};
-    ghost use Rattle.sgb_gen.specs.Subsets.{SubsetsData, AreSmall};
+    ghost use Rattle.sgb_gen.specs.inner.Simplexes.{IsAcceptedSum};
+    ghost use Rattle.sgb_gen.specs.Subsets.{SubsetsData};
+    ghost use Rattle.sgb_gen.specs.inner.Subsets.{AreSmall};
 
     ghost Value = { SubsetsData };
 
@@ -39,7 +40,8 @@ impl Model for Subsets {
       directed = s.directed;
     } };
 
-    ghost invariant = { λ s. (s.shape.sizes ≡ s.family.bounds) × IsAcceptedSum s.shape.params s.family × AreSmall s.shape.params };
+    ghost invariant = { λ s. (s.shape.sizes ≡ s.family.bounds)
+        × IsAcceptedSum s.shape.params s.family × AreSmall s.shape.params };
 }
 
 impl Subsets {
@@ -61,7 +63,17 @@ impl Subsets {
         size_bits: u128,
         directed: bool,
     ) -> Result<Subsets, Panic>
-        ensures { (result ≡ accepted_subsets (record { n = n; n0 = n0; n1 = n1; n2 = n2; n3 = n3; n4 = n4; size_bits = size_bits; directed = directed })) ⊎ (result ≡ Err Panic.NoRoom) }
+        ensures { (result ≡ accepted_subsets
+            (record {
+              n = n;
+              n0 = n0;
+              n1 = n1;
+              n2 = n2;
+              n3 = n3;
+              n4 = n4;
+              size_bits = size_bits;
+              directed = directed;
+            })) ⊎ (result ≡ Err Panic.NoRoom) }
     {
         let params = SubsetsParams {
             n,
@@ -135,14 +147,17 @@ impl Subsets {
     fn add_arcs(&self, graph: &mut Graph) -> Result<(), Panic>
         requires vertices { length graph.old.vertices ≡ length (subsets_vectors self.now) }
         requires plain { HasPlainArcs graph.old }
-        ensures ok { OnOk result (AddsEvents self.now.directed graph.old graph.new (map (event_among (subsets_vectors self.now)) (moves_of_subsets self.now))) }
+        ensures ok { OnOk result (AddsEvents self.now.directed graph.old graph.new
+            (map (event_among (subsets_vectors self.now)) (moves_of_subsets self.now))) }
         ensures memory { IsOkUnless result Panic.NoRoom }
     {
-        let mut vector = Vector::new();
-        let _some = self.family.first(&mut vector, &mut Steps::new());
+        let mut left = Vectors::all(&self.family);
         for v in 0..self.family.size() {
-            self.add_moves_to(graph, v, vector.as_slice())?;
-            let _more = self.family.next(&mut vector, &mut Steps::new());
+            let Some(to) = left.front() else {
+                return Ok(());
+            };
+            self.add_moves_to(graph, v, to)?;
+            let _some = left.advance();
         }
         Ok(())
     }
@@ -153,14 +168,17 @@ impl Subsets {
         requires vertices { length graph.old.vertices ≡ length (subsets_vectors self.now) }
         requires plain { HasPlainArcs graph.old }
         ensures ok { OnOk result (AddsEvents self.now.directed graph.old graph.new
-            (map (event_among (subsets_vectors self.now)) (moves_to_place self.now.size_bits (subsets_vectors self.now) v))) }
+            (map (event_among (subsets_vectors self.now))
+            (moves_to_place self.now.size_bits (subsets_vectors self.now) v))) }
         ensures memory { IsOkUnless result Panic.NoRoom }
     {
-        let mut from = Vector::new();
-        let _some = self.family.first(&mut from, &mut Steps::new());
+        let mut left = Vectors::all(&self.family);
         for u in 0..=v {
-            self.add_move(graph, u, v, common(from.as_slice(), to))?;
-            let _more = self.family.next(&mut from, &mut Steps::new());
+            let Some(from) = left.front() else {
+                return Ok(());
+            };
+            self.add_move(graph, u, v, common(from, to))?;
+            let _some = left.advance();
         }
         Ok(())
     }
@@ -171,7 +189,8 @@ impl Subsets {
         requires to { v < length graph.old.vertices }
         requires plain { HasPlainArcs graph.old }
         ensures ok { OnOk result (AddsEvents self.now.directed graph.old graph.new
-            (if is_wanted_size self.now.size_bits c then record { from = u; to = v; len = pos 1 } ∷ [] else [])) }
+            (if is_wanted_size self.now.size_bits c then record { from = u; to = v; len = pos 1 }
+            ∷ [] else [])) }
         ensures memory { IsOkUnless result Panic.NoRoom }
     {
         if is_wanted(self.size_bits, c) {

@@ -1,6 +1,5 @@
 use super::{board, simplex, subsets};
 use sgb_graph::{Graph, Kind};
-use sgb_vec::Panic;
 use std::process::Abort;
 use std::test::Fail;
 
@@ -43,50 +42,7 @@ const BOARDS: [(
     u32,
     u64,
     &'static [Block<'static>],
-); 15] = [
-    (
-        [2, 2, 0, 0, 1, 0],
-        false,
-        b"board(2,2,0,0,1,0,0)",
-        4,
-        8,
-        &[
-            (0, b"0.0", &[(2, 1), (1, 1)]),
-            (1, b"0.1", &[(3, 1), (0, 1)]),
-            (2, b"1.0", &[(0, 1), (3, 1)]),
-            (3, b"1.1", &[(1, 1), (2, 1)]),
-        ],
-    ),
-    // a ring for riders
-    (
-        [3, 0, 0, 0, -1, 1],
-        false,
-        b"board(3,0,0,0,-1,1,0)",
-        3,
-        12,
-        &[
-            (0, b"0", &[(2, 1), (1, 2), (2, 2), (1, 1)]),
-            (1, b"1", &[(2, 2), (0, 2), (2, 1), (0, 1)]),
-            (2, b"2", &[(1, 2), (0, 1), (1, 1), (0, 2)]),
-        ],
-    ),
-    (
-        [1, 0, 0, 0, 1, 1],
-        false,
-        b"board(1,0,0,0,1,1,0)",
-        1,
-        2,
-        &[(0, b"0", &[(0, 1), (0, 1)])],
-    ),
-    ([1, 0, 0, 0, 1, 1], true, b"board(1,0,0,0,1,1,1)", 1, 1, &[]),
-    (
-        [1, 0, 0, 0, -1, 1],
-        false,
-        b"board(1,0,0,0,-1,1,0)",
-        1,
-        0,
-        &[],
-    ),
+); 8] = [
     // no displacement is within the board
     (
         [2, -5, 0, 0, 400, 0],
@@ -127,15 +83,7 @@ const BOARDS: [(
         24,
         &[(0, b"0.0", &[(1, 1), (1, 1), (5, 1), (5, 1)])],
     ),
-    // the rook's, the king's diagonal, the knight's and the queen's diagonal moves on 8 by 8
-    (
-        [0, 5, 5, 5, 1, 0],
-        false,
-        b"board(8,8,0,0,1,0,0)",
-        64,
-        224,
-        &[],
-    ),
+    // the king's diagonal, the knight's and the queen's diagonal moves on 8 by 8
     (
         [0, 5, 5, 5, 2, 0],
         false,
@@ -169,14 +117,6 @@ const BOARDS: [(
         1_200,
         &[(599, b"19.29", &[(29, 1), (570, 1)])],
     ),
-    (
-        [2, 0, 0, 0, -2_147_483_647, 0],
-        false,
-        b"board(2,0,0,0,-2147483647,0,0)",
-        2,
-        0,
-        &[],
-    ),
 ];
 
 #[test]
@@ -189,74 +129,18 @@ fn boards(rt: HostRuntime) -> Result<(), Fail> {
 }
 
 #[test]
-fn refused_boards(rt: HostRuntime) {
-    for ([n1, n2, piece], panic) in [
-        ([2, -251, 1], Panic::Bad),
-        ([2, -30, 1], Panic::VeryBad),
-        ([2, 0, 2_147_483_648], Panic::VeryBad),
-        ([2, 0, -2_147_483_648], Panic::VeryBad),
-    ] {
-        let refusal = board(rt.alloc(), n1, n2, 0, 0, piece, 0, false).err();
-        assert!(rt; refusal == Some(panic));
-    }
-}
-
-const SIMPLEXES: [([i64; 3], &'static [u8], u32, u64, &'static [Block<'static>]); 4] = [
-    (
-        [2, 0, 0],
+fn simplex_of_three_entries(rt: HostRuntime) -> Result<(), Fail> {
+    let graph = simplex(rt.alloc(), 2, 0, 0, 0, 0, 0, false)?;
+    let list = [(4, 1), (3, 1), (2, 1), (0, 1)];
+    compare(
+        &rt,
+        &graph,
         b"simplex(2,-2,0,0,0,0,0)",
         6,
         18,
-        &[
-            (0, b"0.0.2", &[(3, 1), (1, 1)]),
-            (1, b"0.1.1", &[(4, 1), (3, 1), (2, 1), (0, 1)]),
-            (2, b"0.2.0", &[(4, 1), (1, 1)]),
-            (3, b"1.0.1", &[(5, 1), (4, 1), (0, 1), (1, 1)]),
-            (4, b"1.1.0", &[(5, 1), (3, 1), (1, 1), (2, 1)]),
-            (5, b"2.0.0", &[(3, 1), (4, 1)]),
-        ],
-    ),
-    ([5, 2, 2], b"simplex(5,2,2,0,0,0,0)", 0, 0, &[]),
-    (
-        [0, 3, 0],
-        b"simplex(0,0,0,0,0,0,0)",
-        1,
-        0,
-        &[(0, b"0", &[])],
-    ),
-    (
-        [3, 3, 0],
-        b"simplex(3,3,0,0,0,0,0)",
-        1,
-        0,
-        &[(0, b"3", &[])],
-    ),
-];
-
-#[test]
-fn simplexes(rt: HostRuntime) -> Result<(), Fail> {
-    for ([total, n0, n1], id, n, m, blocks) in SIMPLEXES {
-        let graph = simplex(rt.alloc(), total, n0, n1, 0, 0, 0, false)?;
-        compare(&rt, &graph, id, n, m, blocks);
-    }
+        &[(1, b"0.1.1", &list)],
+    );
     Ok(())
-}
-
-// The refusals of simplexes, which subsets have too.
-const REFUSALS: [(i64, i64, Panic); 3] = [
-    (-1, 0, Panic::Bad),
-    (1_000_000_001, 1, Panic::VeryBad),
-    (30, -30, Panic::VeryBad),
-];
-
-#[test]
-fn refused_simplexes_and_subsets(rt: HostRuntime) {
-    for (n, n0, panic) in REFUSALS {
-        let refusal = simplex(rt.alloc(), n, n0, 0, 0, 0, 0, false).err();
-        assert!(rt; refusal == Some(panic));
-        let refusal = subsets(rt.alloc(), n, n0, 0, 0, 0, 0, 1, false).err();
-        assert!(rt; refusal == Some(panic));
-    }
 }
 
 const SUBSETS: [(
@@ -267,31 +151,7 @@ const SUBSETS: [(
     u32,
     u64,
     &'static [Block<'static>],
-); 9] = [
-    (
-        [3, 2, 2, 2],
-        3,
-        false,
-        b"subsets(3,2,2,2,0,0,0x3,0)",
-        7,
-        18,
-        &[(3, b"1.1.1", &[]), (6, b"2.1.0", &[(2, 1), (1, 1), (0, 1)])],
-    ),
-    // the Petersen graph
-    (
-        [2, 1, -4, 0],
-        1,
-        false,
-        b"subsets(2,1,-4,0,0,0,0x1,0)",
-        10,
-        30,
-        &[
-            (0, b"0.0.0.1.1", &[(9, 1), (8, 1), (5, 1)]),
-            (9, b"1.1.0.0.0", &[(2, 1), (1, 1), (0, 1)]),
-            (8, b"1.0.1.0.0", &[(4, 1), (3, 1), (0, 1)]),
-            (5, b"0.1.1.0.0", &[(7, 1), (6, 1), (0, 1)]),
-        ],
-    ),
+); 4] = [
     // loops, as edges and as arcs
     (
         [1, 1, 1, 0],
@@ -314,26 +174,6 @@ const SUBSETS: [(
         2,
         &[(0, b"0.1", &[(0, 1)]), (1, b"1.0", &[(1, 1)])],
     ),
-    // arcs go to later vertices
-    (
-        [1, 1, 1, 0],
-        1,
-        true,
-        b"subsets(1,1,1,0,0,0,0x1,1)",
-        2,
-        1,
-        &[(0, b"0.1", &[(1, 1)]), (1, b"1.0", &[])],
-    ),
-    // no size is wanted
-    (
-        [2, 0, 0, 0],
-        0,
-        false,
-        b"subsets(2,-2,0,0,0,0,0x0,0)",
-        6,
-        0,
-        &[],
-    ),
     // the greatest size that has a bit, and one above it
     (
         [127, 127, 0, 0],
@@ -352,15 +192,6 @@ const SUBSETS: [(
         1,
         0,
         &[(0, b"128", &[])],
-    ),
-    (
-        [5, 2, 2, 0],
-        1,
-        false,
-        b"subsets(5,2,2,0,0,0,0x1,0)",
-        0,
-        0,
-        &[],
     ),
 ];
 

@@ -1,7 +1,8 @@
 -- Draws of GB_FLIP.
 use Rattle.std.specs.Prelude.{◌≡◌, ◌*◌, ◌%◌, pos, negsuc, refl, true, Some, [], ◌∷◌, ◌==◌}
 use Rattle.std.specs.List.{list_all, range_with_len}
-use Rattle.sgb_graph.specs.Draws.{y_number, x_number, back_to_first, seed_of, draw, first_taken, uniform_within, used_draw, plain_draws, uniform_draws}
+use Rattle.sgb_graph.specs.Draws.{y_number, x_number, back_to_first, seed_of, draw, first_taken, used_draw, plain_draws, uniform_draws}
+use Rattle.sgb_graph.specs.inner.Draws.{uniform_within}
 
 -- the first draw from -314159, as GB_FLIP's own test has it
 pub first_draw : draw (seed_of (negsuc 314158)) 0 ≡ 119318998

@@ -2,7 +2,7 @@
 use Rattle.std.specs.Prelude.{◌≡◌, ℕ, pos, Bool, true, false, List, [], ◌∷◌, map, codes, refl}
 use Rattle.sgb_graph.specs.Graphs.{GraphData, numbers_from, ends_from, chain_of, ends_of}
 use Rattle.sgb_graph.specs.Events.{Event, list_from, list_of}
-use Rattle.sgb_graph.specs.Made.{graph_of}
+use Rattle.sgb_graph.specs.inner.Made.{graph_of}
 use Rattle.sgb_graph.specs.declared.fields.Link.{Link}
 
 abbrev arc : ℕ → ℕ → ℕ → Event

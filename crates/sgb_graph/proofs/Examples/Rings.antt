@@ -3,7 +3,7 @@
 use Rattle.std.specs.Prelude.{◌≡◌, pos, true, List, [], ◌∷◌, codes, refl, Some, map}
 use Rattle.std.proofs.Common.{arith}
 use Rattle.sgb_graph.specs.Graphs.{GraphData, numbers_from, ends_from, chain_of, ends_of}
-use Rattle.sgb_graph.specs.Events.{Event, all_rows, list_from, list_of}
+use Rattle.sgb_graph.specs.Events.{Event, all_records, list_from, list_of}
 use Rattle.sgb_graph.specs.Descriptions.{IsGraphOf}
 use Rattle.sgb_graph.specs.Made.{no_fields, no_kinds, plain}
 use Rattle.sgb_graph.specs.declared.fields.Ref.TheVariants.{At}
@@ -32,7 +32,7 @@ pub ring_list : chain_of ring 0 ≡ list_of true loop 0
 unfolding list_from numbers_from
 ring_list = refl
 
-pub ring_tips : map (λ r. r.tip) ring.records ≡ map (λ r. At r.tip) (all_rows true loop)
+pub ring_tips : map (λ r. r.tip) ring.records ≡ map (λ r. At r.tip) (all_records true loop)
 ring_tips = refl
 
 -- and yet it is not the graph of the arc

@@ -49,14 +49,6 @@ fn a_start_counts_modulo_2_to_the_31(rt: HostRuntime) {
 }
 
 #[test]
-fn draws_are_below_2_to_the_31(rt: HostRuntime) {
-    let mut flip = Flip::new(1);
-    for _draw in 0..200 {
-        assert!(rt; flip.draw() < 0x8000_0000);
-    }
-}
-
-#[test]
 fn great_draws_are_thrown_away(rt: HostRuntime) {
     let mut flip = Flip::new(7);
     assert!(rt; flip.below(1073741825) == 529181769);

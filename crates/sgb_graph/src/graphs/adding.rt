@@ -1,6 +1,7 @@
 //! New arcs and edges (GB_GRAPH, gb_new_arc and gb_new_edge).
 ghost use Rattle.std.specs.Prelude.{◌≡◌, ◌<◌, ◌+◌, ◌++◌, [], ◌∷◌, length, min, max, ◌^◌, Some, IfSome, OnOk, OnErr, IsOkUnless};
-ghost use Rattle.sgb_graph.specs.Growth.{AddsArc, AddsEdge, HasPlainArcs, after_lower, arc_record, at_place, first_arc, with_arcs, with_ends};
+ghost use Rattle.sgb_graph.specs.Growth.{AddsArc, AddsEdge, HasPlainArcs, after_lower, arc_record, at_place, first_arc};
+ghost use Rattle.sgb_graph.specs.inner.Growth.{with_arcs, with_ends};
 ghost use Rattle.sgb_graph.specs.declared.fields.Kind.TheVariants.{Z};
 
 use super::Graph;
@@ -57,9 +58,15 @@ fn put_arc(
     requires from { u < length vertices.old.items }
     requires plain { (records.old.a ≡ Z) × (records.old.b ≡ Z) }
     ensures nodes { OnOk result (vertices.new
-        ≡ record vertices.old { items = at_place (with_arcs (Some (length records.old.items))) u vertices.old.items }) }
+        ≡ record vertices.old {
+          items = at_place (with_arcs (Some (length records.old.items))) u
+              vertices.old.items;
+        }) }
     ensures arcs { OnOk result (records.new
-        ≡ record records.old { items = records.old.items ++ arc_record v (first_arc vertices.old.items u) len ∷ [] }) }
+        ≡ record records.old {
+          items = records.old.items
+              ++ arc_record v (first_arc vertices.old.items u) len ∷ [];
+        }) }
     ensures room { length records.old.items < 2 ^ 63 }
     ensures nodes_stay { OnErr result (vertices.new ≡ vertices.old) }
     ensures arcs_stay { OnErr result (records.new ≡ records.old) }
@@ -83,11 +90,15 @@ fn put_edge(
     requires to { v < length vertices.old.items }
     requires plain { (records.old.a ≡ Z) × (records.old.b ≡ Z) }
     ensures nodes { OnOk result (vertices.new
-        ≡ record vertices.old { items = with_ends (length records.old.items) (min u v) (max u v) vertices.old.items }) }
+        ≡ record vertices.old {
+          items = with_ends (length records.old.items) (min u v) (max u v)
+              vertices.old.items;
+        }) }
     ensures arcs { OnOk result (records.new
         ≡ record records.old {
           items = records.old.items
-              ++ arc_record (max u v) (after_lower (length records.old.items) vertices.old.items u v) len
+              ++ arc_record (max u v) (after_lower (length records.old.items) vertices.old.items u
+              v) len
               ∷ arc_record (min u v) (first_arc vertices.old.items (max u v)) len ∷ [];
         }) }
     ensures room { length records.old.items < 2 ^ 63 }

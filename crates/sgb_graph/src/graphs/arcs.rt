@@ -62,7 +62,8 @@ impl<'a> Iterator for Arcs<'a> {
 // The arc of this record, from which the way ends, and the record that follows it.
 fn link_and_next(records: &Records, number: usize) -> (Link, Option<usize>)
     requires { IsTrue (ends_of records.now.items (Some number)) }
-    ensures links { links_of records.now.items (Some number) ≡ result.0 ∷ links_of records.now.items result.1 }
+    ensures links { links_of records.now.items (Some number) ≡ result.0
+        ∷ links_of records.now.items result.1 }
     ensures ends { IsTrue (ends_of records.now.items result.1) }
 {
     let record = records.get(number);

@@ -12,7 +12,8 @@ impl Graph {
     /// where the next one is: so the processor waits for eight of them at once.
     pub fn degrees(&self, v: u32) -> [usize; 8]
         requires { v + 7 < length self.now.vertices }
-        ensures { result ≡ map (λ k. length (chain_of self.now (v + k))) (0 ∷ 1 ∷ 2 ∷ 3 ∷ 4 ∷ 5 ∷ 6 ∷ 7 ∷ []) }
+        ensures { result ≡ map (λ k. length (chain_of self.now (v + k)))
+            (0 ∷ 1 ∷ 2 ∷ 3 ∷ 4 ∷ 5 ∷ 6 ∷ 7 ∷ []) }
     {
         prove!(v < self.n() && self.n() - v > 7);
         let mut first = Counted::new(self.arcs(v));
@@ -77,7 +78,8 @@ impl<'a> Counted<'a> {
     // Counts an arc, if one is left: whether there was one.
     fn step(&mut self) -> bool
         requires { self.old.count + length self.old.left < 2 ^ 64 }
-        ensures whole { self.new.count + length self.new.left ≡ self.old.count + length self.old.left }
+        ensures whole { self.new.count + length self.new.left
+            ≡ self.old.count + length self.old.left }
         ensures some { OnTrue result (length self.new.left + 1 ≡ length self.old.left) }
         ensures none { OnFalse result (length self.new.left ≡ 0) }
     {

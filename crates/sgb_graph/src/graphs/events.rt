@@ -14,7 +14,8 @@ impl Graph {
         requires from { u < length self.old.vertices }
         requires to { v < length self.old.vertices }
         requires plain { HasPlainArcs self.old }
-        ensures ok { OnOk result (AddsEvents directed self.old self.new (record { from = u; to = v; len = len } ∷ [])) }
+        ensures ok { OnOk result (AddsEvents directed self.old self.new
+            (record { from = u; to = v; len = len } ∷ [])) }
         ensures err { OnErr result (self.new ≡ self.old) }
         ensures memory { IsOkUnless result Panic.NoRoom }
     {

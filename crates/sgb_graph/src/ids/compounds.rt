@@ -53,7 +53,8 @@ pub fn double_compound_id(s1: &[u8], id1: &Id, s2: &[u8], id2: &Id, s3: &[u8]) -
 
 // Appends an operand's id: where it does not fit, its first `kept` bytes and `...)`.
 fn push_operand(writer: &mut IdWriter, id: &Id, fits: bool, kept: usize)
-    requires { length writer.old + length (if fits then id.now else cut_id kept id.now) ≤ most_id_bytes }
+    requires { length writer.old + length
+        (if fits then id.now else cut_id kept id.now) ≤ most_id_bytes }
     ensures { writer.new ≡ writer.old ++ (if fits then id.now else cut_id kept id.now) }
 {
     let bytes = id.bytes();

@@ -16,7 +16,8 @@ impl Parts {
 
     // Whether the graph's own utility fields fit.
     fn own_utils_fit(&self) -> bool
-        ensures { result ≡ utils_fit (length self.now.vertices) (length self.now.records) (graph_kinds self.now.kinds)
+        ensures { result ≡ utils_fit (length self.now.vertices) (length self.now.records)
+            (graph_kinds self.now.kinds)
             self.now.util }
     {
         self.utils_fit(own_kinds(&self.kinds), &self.util)
@@ -65,14 +66,16 @@ impl Parts {
     // Whether the values fit these kinds, of which there are as many.
     fn utils_fit(&self, kinds: &[Kind], utils: &[Util]) -> bool
         requires { length kinds.now ≡ length utils.now }
-        ensures { result ≡ utils_fit (length self.now.vertices) (length self.now.records) kinds.now utils.now }
+        ensures { result ≡ utils_fit (length self.now.vertices) (length self.now.records) kinds.now
+            utils.now }
     {
         self.each_fits(kinds, utils)
     }
 
     // Whether each value is of the kind at its place.
     fn each_fits(&self, kinds: &[Kind], utils: &[Util]) -> bool
-        ensures { result ≡ list_all (λ p. util_fits (length self.now.vertices) (length self.now.records) p.0 p.1)
+        ensures { result ≡ list_all (λ p. util_fits (length self.now.vertices)
+            (length self.now.records) p.0 p.1)
             (zip kinds.now utils.now) }
     {
         kinds
@@ -83,7 +86,8 @@ impl Parts {
 
     // Whether the value is one of this kind.
     fn util_fits(&self, kind: Kind, util: &Util) -> bool
-        ensures { result ≡ util_fits (length self.now.vertices) (length self.now.records) kind util.now }
+        ensures { result ≡ util_fits (length self.now.vertices) (length self.now.records) kind
+            util.now }
     {
         match kind {
             Kind::Z => matches!(util, Util::Nothing),

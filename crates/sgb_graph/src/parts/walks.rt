@@ -3,7 +3,7 @@ ghost use Rattle.std.specs.Prelude.{◌≡◌, length, IsTrue, IfOk};
 ghost use Rattle.std.specs.List.{list_all};
 ghost use Rattle.sgb_graph.specs.Graphs.{ends_of};
 ghost use Rattle.sgb_graph.specs.Sound.{chains_end, is_vertex, lists_lead_to_vertices};
-ghost use Rattle.sgb_graph.specs.Walks.{MarksEnd, MarksGoOn, MarksLead, is_marked, leads_of};
+ghost use Rattle.sgb_graph.specs.inner.Walks.{MarksEnd, MarksGoOn, MarksLead, is_marked, leads_of};
 
 use crate::fields::{ArcRec, Ref, Vertex};
 use std::alloc::{AllocError, Global};

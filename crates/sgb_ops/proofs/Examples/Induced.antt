@@ -112,10 +112,6 @@ pub wheel_blocks : blocks (wheel_of (pos 3) (pos 1) false)
 unfolding digits box name_of_vector numbers_from list_from each_edge_once merged repeated displacements vectors_of_norm board_moves board_id family_graph
 wheel_blocks = refl
 
-pub wheel_arcs : arcs (wheel_of (pos 3) (pos 1) false) ≡ 12
-unfolding digits box name_of_vector numbers_from list_from each_edge_once merged repeated displacements vectors_of_norm board_moves board_id family_graph
-wheel_arcs = refl
-
 pub wheel_title : title (wheel_of (pos 3) (pos 1) false) ≡ codes "wheel(3,1,0)"
 unfolding digits box name_of_vector numbers_from list_from each_edge_once merged compound_id repeated displacements vectors_of_norm board_moves board_id family_graph
 wheel_title = refl

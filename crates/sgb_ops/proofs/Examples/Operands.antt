@@ -4,9 +4,9 @@ use Rattle.std.specs.List.{range_with_len}
 use Rattle.std.specs.Option.{option_map_or}
 use Rattle.sgb_vec.specs.declared.panics.Panic.{Panic}
 use Rattle.sgb_graph.specs.Graphs.{GraphData}
-use Rattle.sgb_graph.specs.Events.{Event, all_rows, list_of}
+use Rattle.sgb_graph.specs.Events.{Event, all_records, list_of}
 use Rattle.sgb_graph.specs.Descriptions.{Description}
-use Rattle.sgb_graph.specs.Made.{graph_of}
+use Rattle.sgb_graph.specs.inner.Made.{graph_of}
 use Rattle.sgb_graph.specs.declared.fields.Kind.{Kind}
 use Rattle.sgb_graph.specs.declared.fields.Util.{Util}
 use Rattle.sgb_graph.specs.declared.fields.Link.{Link}
@@ -72,7 +72,7 @@ blocks (Ok d) = map (block_of d) (range_with_len 0 (length d.names))
 blocks (Err p) = []
 
 abbrev pub arcs : Result Description Panic → ℕ
-arcs (Ok d) = length (all_rows d.directed d.events)
+arcs (Ok d) = length (all_records d.directed d.events)
 arcs (Err p) = 0
 
 abbrev pub names : Result Description Panic → List (List ℕ)

@@ -3,7 +3,7 @@ use Rattle.std.specs.Prelude.{◌≡◌, true, false, [], ◌∷◌, codes, refl
 use Rattle.sgb_graph.specs.Graphs.{GraphData, numbers_from}
 use Rattle.sgb_graph.specs.Events.{list_from}
 use Rattle.sgb_graph.specs.Ids.{double_compound_id}
-use Rattle.sgb_graph.specs.Made.{graph_of}
+use Rattle.sgb_graph.specs.inner.Made.{graph_of}
 use Rattle.sgb_ops.specs.Taken.{each_edge_once}
 use Rattle.sgb_ops.specs.Merged.{merged, merged_unless}
 use Rattle.sgb_ops.specs.Gunion.{gunion_of, union_events}

@@ -3,7 +3,7 @@ use Rattle.std.specs.Prelude.{◌≡◌, ℕ, false, List, [], ◌∷◌, map, c
 use Rattle.sgb_vec.specs.Names.{name_of_vector}
 use Rattle.sgb_graph.specs.Graphs.{GraphData, numbers_from}
 use Rattle.sgb_graph.specs.Events.{Event, list_from}
-use Rattle.sgb_graph.specs.Made.{graph_of}
+use Rattle.sgb_graph.specs.inner.Made.{graph_of}
 use Rattle.sgb_ops.specs.Complement.{complement_of, complement_events}
 use Rattle.sgb_ops.proofs.Examples.Operands.{event, arcs}
 

@@ -27,11 +27,6 @@ pub product_arcs : map (λ kind. arcs (product_graph_of complete_2 complete_2 (p
 unfolding numbers_from list_from each_edge_once
 product_arcs = refl
 
--- the direct product
-pub direct_block : block (product_graph_of complete_2 complete_2 (pos 1) false) 0 ≡ (codes "1,1", pos 1) ∷ []
-unfolding digits numbers_from list_from each_edge_once
-direct_block = refl
-
 -- type 3 acts and prints as 1
 pub direct_title : title (product_graph_of complete_2 complete_2 (pos 3) false) ≡ codes "product(board(2,0,0,0,-1,0,0),board(2,0,0,0,-1,0,0),1,0)"
 unfolding digits double_compound_id
@@ -96,16 +91,11 @@ pub direct_events_of_triangles : both_steps_at complete_3 complete_3 false 0 0
 unfolding digits numbers_from list_from each_edge_once
 direct_events_of_triangles = refl
 
--- the direct steps of the strong product come last, and so first on each list
+-- the direct steps of the strong product come last
 pub strong_events : product_events Strong complete_2 complete_2 false
     ≡ event 0 1 1 ∷ event 2 3 1 ∷ event 0 2 1 ∷ event 1 3 1 ∷ event 0 3 1 ∷ event 1 2 1 ∷ []
 unfolding digits numbers_from list_from each_edge_once
 strong_events = refl
-
-pub strong_block : block (product_graph_of complete_2 complete_2 (pos 2) false) 0
-    ≡ (codes "1,1", pos 1) ∷ (codes "1,0", pos 1) ∷ (codes "0,1", pos 1) ∷ []
-unfolding digits numbers_from list_from each_edge_once
-strong_block = refl
 
 -- for arcs both records of an edge are taken
 pub directed_events : map (λ t. product_events t complete_2 complete_2 true) (Cartesian ∷ Direct ∷ [])
@@ -113,7 +103,3 @@ pub directed_events : map (λ t. product_events t complete_2 complete_2 true) (C
     ∷ (event 0 3 1 ∷ event 1 2 1 ∷ event 2 1 1 ∷ event 3 0 1 ∷ []) ∷ []
 unfolding digits numbers_from list_from each_edge_once
 directed_events = refl
-
-pub directed_arcs : map (λ kind. arcs (product_graph_of complete_2 complete_2 (pos kind) true)) (0 ∷ 1 ∷ 2 ∷ []) ≡ 8 ∷ 4 ∷ 12 ∷ []
-unfolding numbers_from list_from each_edge_once
-directed_arcs = refl

@@ -7,7 +7,7 @@ use Rattle.sgb_vec.specs.Names.{name_of_vector}
 use Rattle.sgb_graph.specs.Graphs.{GraphData, numbers_from}
 use Rattle.sgb_graph.specs.Events.{Event, list_from}
 use Rattle.sgb_graph.specs.Ids.{double_compound_id}
-use Rattle.sgb_graph.specs.Made.{graph_of}
+use Rattle.sgb_graph.specs.inner.Made.{graph_of}
 use Rattle.sgb_ops.specs.Taken.{each_edge_once}
 use Rattle.sgb_ops.specs.Merged.{merged}
 use Rattle.sgb_ops.specs.Gunion.{gunion_of}

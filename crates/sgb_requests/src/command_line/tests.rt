@@ -1,7 +1,7 @@
 use super::request;
 use crate::faults::Fault;
 use crate::requests::{Name, Request, Resume};
-use sgb_expr::{Expr, Family, FlipParams};
+use sgb_expr::{Expr, FlipParams, Generator};
 use sgb_gen::BoardParams;
 use std::test::Fail;
 
@@ -60,7 +60,7 @@ fn saves(request: &Request) -> bool {
 
 // `board(2,3,0,0,1,0,0)`.
 fn small_board() -> Expr {
-    Expr::Family(Family::Board(BoardParams {
+    Expr::Generator(Generator::Board(BoardParams {
         n1: 2,
         n2: 3,
         n3: 0,

@@ -34,7 +34,8 @@ fn first_parameter(n0: i64) -> i64
 
 // The simplex of the sum n and five entries.
 fn simplex_of(n: u64, entries: &[i64; 5]) -> Result<Shape, Panic>
-    ensures { result ≡ simplex_by_stop n entries.now (bounds_to_repeat n (before_stop entries.now)) (stop_of entries.now) }
+    ensures { result ≡ simplex_by_stop n entries.now (bounds_to_repeat n (before_stop entries.now))
+        (stop_of entries.now) }
 {
     let to_repeat = bounds_to_repeat(n, before_stop(entries));
     let count = bounds_count(to_repeat.as_slice(), stop_of(entries));

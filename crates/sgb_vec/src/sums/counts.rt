@@ -2,7 +2,7 @@ ghost use Rattle.std.specs.Prelude.{◌≡◌, ◌+◌, ◌-◌, ◌/◌, ◌<�
 ghost use Rattle.std.specs.List.{list_any};
 ghost use Rattle.sgb_vec.specs.Limits.{most_dimensions, most_vertices};
 ghost use Rattle.sgb_vec.specs.Sums.{count_of_sum, has_great_count};
-ghost use Rattle.sgb_vec.specs.SumRows.{CountsSums, HasGreatSum, great_bound, has_great_three};
+ghost use Rattle.sgb_vec.specs.inner.SumRows.{CountsSums, HasGreatSum, great_bound, has_great_three};
 
 use super::total_of;
 use crate::families::Vector;
@@ -20,8 +20,11 @@ const GREAT_BOUND: u32 = 44_720;
 pub(super) fn count_vectors(alloc: Global, total: u32, bounds: &[u32]) -> Result<u32, Panic>
     requires low { total ≤ most_vertices }
     requires few { length bounds.now ≤ most_dimensions + 1 }
-    ensures ok { IfOk result (λ count. (has_great_count total bounds.now ≡ false) × (count ≡ count_of_sum total bounds.now) × (count ≤ most_vertices)) }
-    ensures err { IfErr result (λ panic. ((panic ≡ Panic.VeryBad) × (has_great_count total bounds.now ≡ true)) ⊎ (panic ≡ Panic.NoRoom)) }
+    ensures ok { IfOk result (λ count. (has_great_count total bounds.now ≡ false)
+        × (count ≡ count_of_sum total bounds.now) × (count ≤ most_vertices)) }
+    ensures err { IfErr result (λ panic.
+        ((panic ≡ Panic.VeryBad) × (has_great_count total bounds.now ≡ true))
+        ⊎ (panic ≡ Panic.NoRoom)) }
 {
     if bounds.len() < 2 {
         return Ok(count_of_one(total, bounds));
@@ -49,7 +52,8 @@ fn count_of_one(total: u32, bounds: &[u32]) -> u32
 // Takes the greatest of the bounds out of them.
 fn take_greatest(bounds: &mut Vector) -> u32
     requires { 0 < length bounds.old.items }
-    ensures counts { (k : ℕ) → count_of_sum k bounds.old.items ≡ count_of_sum k (result ∷ bounds.new.items) }
+    ensures counts { (k : ℕ) → count_of_sum k bounds.old.items
+        ≡ count_of_sum k (result ∷ bounds.new.items) }
     ensures len { length bounds.new.items + 1 ≡ length bounds.old.items }
 {
     let place = place_of_greatest(bounds.as_slice());
@@ -60,7 +64,8 @@ fn take_greatest(bounds: &mut Vector) -> u32
 fn place_of_greatest(bounds: &[u32]) -> usize
     requires { 0 < length bounds.now }
     ensures place { result < length bounds.now }
-    ensures greatest { (k : ℕ) → k < length bounds.now → slice_index bounds.now k ≤ slice_index bounds.now result }
+    ensures greatest { (k : ℕ) → k < length bounds.now
+        → slice_index bounds.now k ≤ slice_index bounds.now result }
 {
     let mut greatest = 0;
     for place in 1..bounds.len() {
@@ -92,8 +97,11 @@ fn count_with_two(
     requires low { total ≤ most_vertices }
     requires few { length others.now ≤ most_dimensions + 1 }
     requires before { greatest ≤ total }
-    ensures ok { IfOk result (λ count. (count ≡ count_of_sum total (a ∷ b ∷ others.now)) × (count ≤ most_vertices) × (count_of_sum greatest (a ∷ b ∷ others.now) ≤ most_vertices)) }
-    ensures err { IfErr result (λ panic. ((panic ≡ Panic.VeryBad) × HasGreatSum total (a ∷ b ∷ others.now)) ⊎ (panic ≡ Panic.NoRoom)) }
+    ensures ok { IfOk result (λ count. (count ≡ count_of_sum total (a ∷ b ∷ others.now))
+        × (count ≤ most_vertices) × (count_of_sum greatest (a ∷ b ∷ others.now) ≤ most_vertices)) }
+    ensures err { IfErr result (λ panic.
+        ((panic ≡ Panic.VeryBad) × HasGreatSum total (a ∷ b ∷ others.now))
+        ⊎ (panic ≡ Panic.NoRoom)) }
 {
     if three_are_great(total, a, b, others) {
         return Err(Panic::VeryBad);
@@ -127,7 +135,8 @@ fn row_of(alloc: Global, total: u32, bounds: &[u32]) -> Result<Vec<u64>, Panic>
     requires few { length bounds.now ≤ most_dimensions + 1 }
     ensures counts { IfOk result (λ row. CountsSums total row.items bounds.now) }
     ensures small { IfOk result (λ row. All (λ count. count ≤ most_vertices) row.items) }
-    ensures err { IfErr result (λ panic. ((panic ≡ Panic.VeryBad) × HasGreatSum total bounds.now) ⊎ (panic ≡ Panic.NoRoom)) }
+    ensures err { IfErr result (λ panic. ((panic ≡ Panic.VeryBad) × HasGreatSum total bounds.now)
+        ⊎ (panic ≡ Panic.NoRoom)) }
 {
     let mut row = vec![in alloc; 1]?;
     for place in 0..bounds.len() {
@@ -153,7 +162,8 @@ fn row_length(total: u32, bounds: &[u32]) -> usize
 fn add_bound(row: &mut [u64], bound: u32)
     requires short { length row.old ≤ most_vertices + 1 }
     requires small { All (λ count. count ≤ most_vertices) row.old }
-    ensures { (n : ℕ) (bounds : List ℕ) → CountsSums n row.old bounds → length row.old ≡ min n (sum (bounds ++ bound ∷ [])) + 1 → CountsSums n row.new (bounds ++ bound ∷ []) }
+    ensures { (n : ℕ) (bounds : List ℕ) → CountsSums n row.old bounds → length row.old
+        ≡ min n (sum (bounds ++ bound ∷ [])) + 1 → CountsSums n row.new (bounds ++ bound ∷ []) }
 {
     add_up(row);
     take_off(row, bound as usize + 1);
@@ -174,9 +184,11 @@ fn add_up(row: &mut [u64])
 // Takes off each entry the one that stood `width` places before it, if there is one.
 fn take_off(row: &mut [u64], width: usize)
     requires some { 0 < width }
-    requires rising { (k : ℕ) → width ≤ k → k < length row.old → slice_index row.old (k - width) ≤ slice_index row.old k }
+    requires rising { (k : ℕ) → width ≤ k → k < length row.old
+        → slice_index row.old (k - width) ≤ slice_index row.old k }
     ensures prefix { (k : ℕ) → k < width → slice_index row.new k ≡ slice_index row.old k }
-    ensures after { (k : ℕ) → width ≤ k → k < length row.old → slice_index row.new k + slice_index row.old (k - width) ≡ slice_index row.old k }
+    ensures after { (k : ℕ) → width ≤ k → k < length row.old
+        → slice_index row.new k + slice_index row.old (k - width) ≡ slice_index row.old k }
 {
     for place in (width..row.len()).rev() {
         row[place] -= row[place - width];
@@ -194,8 +206,11 @@ fn has_great(row: &[u64]) -> bool
 // the pairs that add to the rest. `None` where there are more than 1,000,000,000.
 fn count_at(row: &[u64], a: u32, b: u32, total: u32) -> Option<u32>
     requires { All (λ count. count ≤ most_vertices) row.now }
-    ensures some { (bounds : List ℕ) → CountsSums total row.now bounds → IfSome result (λ count. (count ≡ count_of_sum total (a ∷ b ∷ bounds)) × (count ≤ most_vertices)) }
-    ensures none { (bounds : List ℕ) → CountsSums total row.now bounds → IfNone result (most_vertices < count_of_sum total (a ∷ b ∷ bounds)) }
+    ensures some { (bounds : List ℕ) → CountsSums total row.now bounds
+        → IfSome result (λ count. (count ≡ count_of_sum total (a ∷ b ∷ bounds))
+        × (count ≤ most_vertices)) }
+    ensures none { (bounds : List ℕ) → CountsSums total row.now bounds
+        → IfNone result (most_vertices < count_of_sum total (a ∷ b ∷ bounds)) }
 {
     let mut count: u64 = 0;
     for place in 0..row.len().min(total as usize + 1) {

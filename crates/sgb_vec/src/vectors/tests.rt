@@ -113,3 +113,17 @@ fn the_front_one_where_it_stands(rt: HostRuntime) -> Result<(), Fail> {
     assert!(rt; !vectors.advance());
     Ok(())
 }
+
+#[test]
+fn the_back_one_where_it_stands(rt: HostRuntime) -> Result<(), Fail> {
+    let family = SumFamily::new(rt.alloc(), 2, &[2, 2])?;
+    let mut vectors = Vectors::all(&family);
+    let expected: [&[u32]; 3] = [&[2, 0], &[1, 1], &[0, 2]];
+    for vector in expected {
+        assert!(rt; vectors.back() == Some(vector));
+        assert!(rt; vectors.retreat());
+    }
+    assert!(rt; vectors.back().is_none());
+    assert!(rt; !vectors.retreat());
+    Ok(())
+}

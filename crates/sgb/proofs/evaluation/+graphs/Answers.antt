@@ -4,7 +4,7 @@ use Rattle.std.proofs.lemmas.Int.{to_z-of_z}
 use Rattle.sgb_vec.specs.declared.panics.Panic.{Panic}
 use Rattle.sgb_graph.specs.Descriptions.{Description, IsAnswerOf}
 use Rattle.sgb_graph.specs.Graphs.{GraphData}
-use Rattle.sgb_expr.specs.CodeEntries.{listed}
+use Rattle.sgb_expr.specs.inner.CodeEntries.{listed}
 use Rattle.sgb_expr.specs.Expression.{entries_of, entry_of, expression_of}
 use Rattle.sgb_expr.specs.declared.entries.EntryExpr.{EntryExpr}
 use Rattle.sgb_ops.specs.Induced.{induced_of}
@@ -17,7 +17,8 @@ use Rattle.sgb_ops.specs.Lines.{line_graph_of}
 use Rattle.sgb_ops.specs.Product.{product_graph_of}
 use Rattle.sgb_ops.specs.BiComplete.{bi_complete_of}
 use Rattle.sgb_ops.specs.Wheel.{wheel_of}
-use Rattle.sgb.specs.Values.{IsValue, both, made, value_of, values_of}
+use Rattle.sgb.specs.Values.{both, made, value_of, values_of}
+use Rattle.sgb.specs.inner.Values.{IsValue}
 use Rattle.sgb.proofs.EntryValues.{entries_handed, entries_refused, entry_smaller, induced_size, induced_value}
 use Rattle.sgb.proofs.Values.{size_of_entries, size_of_entry, value_made, value_then}
 use Rattle.sgb.proofs.evaluation.+graphs.Goals as goal
@@ -33,9 +34,9 @@ at_values input e f e' f' operands same alike is =
     subst (λ (x : Expr). both (value_of input (expression_of x)) (value_of input (expression_of f')) ≡ Ok operands) same
     (subst (λ (y : Expr). both (value_of input (expression_of e)) (value_of input (expression_of y)) ≡ Ok operands) alike is)
 
-pub graph_of-returns-in-Family : goal.graph_of-returns-in-Family
-graph_of-returns-in-Family t c =
-    subst (λ (e : Expr). IsValue (value_of c.args.input.now (expression_of e)) c.family_graph.result) (sym c.in-Family.is) (value_made _ _ c.family_graph.ensures)
+pub graph_of-returns-in-Generator : goal.graph_of-returns-in-Generator
+graph_of-returns-in-Generator t c =
+    subst (λ (e : Expr). IsValue (value_of c.args.input.now (expression_of e)) c.generator_graph.result) (sym c.in-Generator.is) (value_made _ _ c.generator_graph.ensures)
 
 pub graph_of-returns-in_ok-operand-in-Complement : goal.graph_of-returns-in_ok-operand-in-Complement
 graph_of-returns-in_ok-operand-in-Complement t c =

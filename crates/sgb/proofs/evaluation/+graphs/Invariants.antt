@@ -1,5 +1,5 @@
 use Rattle.std.proofs.Common.{◌≡◌, ◌+◌, drop}
-use Rattle.sgb_expr.specs.CodeEntries.{listed}
+use Rattle.sgb_expr.specs.inner.CodeEntries.{listed}
 use Rattle.sgb_expr.specs.Expression.{entries_of, entry_of, expression_of}
 use Rattle.sgb.specs.Values.{values_of}
 use Rattle.sgb.proofs.EntryValues.{and_values}

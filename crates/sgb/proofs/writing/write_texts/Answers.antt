@@ -1,16 +1,14 @@
 use Rattle.std.proofs.Common.{ℕ, List, Bor, ap, arith}
 use Rattle.std.proofs.lemmas.List.{at_drop_more, drop_all}
-use Rattle.std.proofs.lemmas.Result.{err_from_is_err_and}
 use Rattle.std.specs.List.{flat_map}
 use Rattle.sgb_file.proofs.SoFar.{so_far-all, so_far-more}
-use Rattle.sgb.proofs.CutOff.{so_far-cut}
+use Rattle.sgb.proofs.CutOff.{exit_cut, so_far-cut}
 use Rattle.sgb.proofs.writing.write_texts.Goals as goal
 
 pub returns-in_err-write_bytes : goal.returns-in_err-write_bytes
 returns-in_err-write_bytes g c =
-    let p = err_from_is_err_and c.from_residual.result c.from_residual.ensures.1 in
     let first = at_drop_more (flat_map (λ (text : Bor (List ℕ)). text.now)) c.args.texts.now c.loop-text.text-index _ c.loop-text-test.true in
-    rw (p.1, p.2) (so_far-cut _ _ _ _ _ _ _ _ _ first c.loop-text.invariant.0 c.in_err-write_bytes.ensures)
+    exit_cut _ _ _ _ c.from_residual.ensures.1 (so_far-cut _ _ _ _ _ _ _ _ _ first c.loop-text.invariant.0 c.in_err-write_bytes.ensures)
 
 pub loop-text-preserved : goal.loop-text-preserved
 loop-text-preserved g c =

@@ -1,16 +1,16 @@
 use Rattle.std.proofs.Common.{sym, ◌∙◌, subst}
 use Rattle.sgb_expr.specs.Expression.{expression_of}
-use Rattle.sgb_expr.specs.Gives.{Fails}
-use Rattle.sgb_expr.specs.Reading.{whole_at}
+use Rattle.sgb_expr.specs.inner.Gives.{Fails}
+use Rattle.sgb_expr.specs.inner.Reading.{whole_at}
 use Rattle.sgb_expr.specs.declared.wrong.Wrong.{Wrong}
 use Rattle.sgb_expr.proofs.Readers.{ok_same}
-use Rattle.sgb_expr.proofs.WholeReading.{whole_read, whole_again, goes_wrong}
+use Rattle.sgb_expr.proofs.WholeReading.{whole_read, whole_again, whole_wrong}
 use Rattle.sgb_expr.proofs.expressions.read_expr.Goals as goal
 
 pub overflow_sub-result : goal.overflow_sub-result
 overflow_sub-result c =
     let stops = subst (λ (w : Wrong). Fails w (whole_at c.args.text.now)) c.in-Err-Left.field-0-is c.in-Err-Left.ensures in
-    (goes_wrong c.args.text.now c.in-Err-Left.left stops).within
+    (whole_wrong c.args.text.now c.in-Err-Left.left stops).within
 
 pub returns-in-Ok-clause-read : goal.returns-in-Ok-clause-read
 returns-in-Ok-clause-read c =
@@ -22,5 +22,5 @@ returns-in-Ok-clause-only c = λ e is. ok_same (expression_of c.in-Ok.expression
 pub returns-in-Err-Left-clause-read : goal.returns-in-Err-Left-clause-read
 returns-in-Err-Left-clause-read c =
     let stops = subst (λ (w : Wrong). Fails w (whole_at c.args.text.now)) c.in-Err-Left.field-0-is c.in-Err-Left.ensures in
-    let wrong = goes_wrong c.args.text.now c.in-Err-Left.left stops in
+    let wrong = whole_wrong c.args.text.now c.in-Err-Left.left stops in
     ((λ h. let t = c.is_too_large.ensures.1 h in cc (t, c.if-is_too_large.false)), wrong.none, wrong.longest)

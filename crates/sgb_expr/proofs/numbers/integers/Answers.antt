@@ -1,19 +1,21 @@
 use Rattle.std.proofs.Common.{◌≡◌, arith, rules, length-set, to_z, of_z, w64, ◌∙◌, ◌^◌}
 use Rattle.std.proofs.lemmas.Result.{err_from_is_err_and}
-use Rattle.sgb_expr.proofs.IntegerLists.{place_begins_wrong, place_wrong, place_read, place_small, all_read, all_wrong}
+use Rattle.sgb_expr.specs.inner.Readings.{integer_at}
+use Rattle.sgb_expr.proofs.Readers.{bind_of, bind_stops}
+use Rattle.sgb_expr.proofs.IntegerLists.{place_wrong, place_read, place_small, all_read, all_wrong}
 use Rattle.sgb_expr.proofs.numbers.integers.Goals as goal
 
 pub returns-in_err-begun-clause-read : goal.returns-in_err-begun-clause-read
 returns-in_err-begun-clause-read g c =
     let p = err_from_is_err_and c.from_residual.result c.from_residual.ensures.1 in
-    rw (p.1, p.2) (place_begins_wrong c.loop-place.numbers c.loop-place.place g.row.N _ c.args.separator.now c.separator_before.result.now c.args.end.now c.loop-place.rest.now _
-    c.loop-place-test.true c.separator_before.ensures c.in_err-begun.ensures c.loop-place.invariant.read)
+    rw (p.1, p.2) (place_wrong c.loop-place.numbers c.loop-place.place g.row.N _ c.args.separator.now c.separator_before.result.now c.args.end.now c.loop-place.rest.now _
+    c.loop-place-test.true c.separator_before.ensures (bind_stops _ integer_at _ c.in_err-begun.ensures) c.loop-place.invariant.read)
 
 pub returns-in_err-value-clause-read : goal.returns-in_err-value-clause-read
 returns-in_err-value-clause-read g c =
     let p = err_from_is_err_and c.from_residual-in_err-value.result c.from_residual-in_err-value.ensures.1 in
-    rw (p.1, p.2) (place_wrong c.loop-place.numbers c.loop-place.place g.row.N _ c.args.separator.now c.separator_before.result.now c.args.end.now c.loop-place.rest.now c.in_ok-begun.begun.now _
-    c.loop-place-test.true c.separator_before.ensures c.in_ok-begun.ensures c.in_err-value.ensures.read c.loop-place.invariant.read)
+    rw (p.1, p.2) (place_wrong c.loop-place.numbers c.loop-place.place g.row.N _ c.args.separator.now c.separator_before.result.now c.args.end.now c.loop-place.rest.now _
+    c.loop-place-test.true c.separator_before.ensures (bind_of _ integer_at _ c.in_ok-begun.ensures ∙ c.in_err-value.ensures.read) c.loop-place.invariant.read)
 
 pub loop-place-preserved : goal.loop-place-preserved
 loop-place-preserved g c =

@@ -1,14 +1,17 @@
-use Rattle.std.proofs.Common.{arith, rules, codes, length, length-append, List, ◌≡◌, ◌+◌, ℕ, Ok, Some, None, sym, ◌∙◌, ap, subst}
+use Rattle.std.proofs.Common.{arith, rules, codes, length, length-append, List, ◌≡◌, ◌+◌, Ok, Some, None, sym, ◌∙◌, ap, subst}
 use Rattle.std.proofs.lemmas.Slice.Eq.{strip_prefix_is}
 use Rattle.std.proofs.lemmas.Bool.Decides.{Decides-eqb}
 use Rattle.std.proofs.lemmas.Result.{err_from_is_err_and}
-use Rattle.sgb_expr.specs.CodeEntries.{listed}
+use Rattle.sgb_expr.specs.inner.CodeEntries.{listed}
 use Rattle.sgb_expr.specs.Expression.{entry_of, expression_of}
 use Rattle.sgb_expr.specs.declared.entries.EntryExpr.{EntryExpr}
-use Rattle.sgb_expr.specs.Reading.{entry_list_at, expression_at}
-use Rattle.sgb_expr.proofs.EntryLists.{and_entries, entries_end, entry_kept, entry_wrong, next_separator, separator_counts, separator_wrong}
+use Rattle.sgb_expr.specs.inner.Reading.{entry_at, expression_at}
+use Rattle.sgb_expr.specs.inner.Gives.{Fails}
+use Rattle.sgb_expr.specs.declared.wrong.Wrong.TheVariants.{Left}
+use Rattle.sgb_expr.proofs.Readers.{bind_of, bind_stops}
+use Rattle.sgb_expr.proofs.EntryLists.{entries_end, entries_wrong, entry_kept, separator_counts}
 use Rattle.sgb_expr.proofs.EntryReaders.{entry_no_longer}
-use Rattle.sgb_expr.proofs.Lengths.{fixed_no_longer, fixed_takes}
+use Rattle.sgb_expr.proofs.Lengths.{fixed_takes}
 use Rattle.sgb_expr.proofs.Nesting.{expression_no_longer, name_read, name_wrong, opening_shorter}
 use Rattle.sgb_expr.proofs.operations.+expressions.Goals as goal
 
@@ -29,7 +32,7 @@ expression-returns t c =
 pub two_graphs-expression-requires-2 : goal.two_graphs-expression-requires-2
 two_graphs-expression-requires-2 t c =
     let first = expression_no_longer c.args.text.now (expression_of c.in_ok-first.first) c.in_ok-first.rest.now c.in_ok-first.ensures in
-    let comma = fixed_no_longer (codes ",") c.in_ok-first.rest.now c.in_ok-begun.begun.now c.in_ok-begun.ensures in
+    let comma = fixed_takes (codes ",") c.in_ok-first.rest.now c.in_ok-begun.begun.now c.in_ok-begun.ensures in
     (omega (arith, first, comma, c.decreases), tt)
 
 pub induced-entry_list-requires : goal.induced-entry_list-requires
@@ -48,17 +51,15 @@ pub entry_list-returns-in_err-begun : goal.entry_list-returns-in_err-begun
 entry_list-returns-in_err-begun t c =
     let p = err_from_is_err_and c.from_residual-in_err-begun.result c.from_residual-in_err-begun.ensures.1 in
     let none = strip_prefix_is Decides-eqb c.entries.rest.now (codes "]") None c.in_default.ensures.cases in
-    let same = next_separator c.entries.list.items _ c.separator_before.result.now (search rules) c.separator_before.ensures in
-    let read = subst (λ (s : List ℕ). and_entries (listed c.entries.list.items) s c.entries.rest.now ≡ entry_list_at expression_at c.args.text.now) same c.entries.invariant.read in
-    rw (p.1, p.2) (separator_wrong _ (listed c.entries.list.items) c.separator_before.result.now c.entries.rest.now _ none c.in_err-begun.ensures read)
+    rw (p.1, p.2) (entries_wrong (Left _) c.entries.list.items _ c.separator_before.result.now c.entries.rest.now _ none (search rules) c.separator_before.ensures
+    (bind_stops _ (entry_at expression_at) _ c.in_err-begun.ensures) c.entries.invariant.read)
 
 pub entry_list-returns-in_err-one : goal.entry_list-returns-in_err-one
 entry_list-returns-in_err-one t c =
     let p = err_from_is_err_and c.from_residual-in_err-one.result c.from_residual-in_err-one.ensures.1 in
     let none = strip_prefix_is Decides-eqb c.entries.rest.now (codes "]") None c.in_default.ensures.cases in
-    let same = next_separator c.entries.list.items _ c.separator_before.result.now (search rules) c.separator_before.ensures in
-    let read = subst (λ (s : List ℕ). and_entries (listed c.entries.list.items) s c.entries.rest.now ≡ entry_list_at expression_at c.args.text.now) same c.entries.invariant.read in
-    rw (p.1, p.2) (entry_wrong _ (listed c.entries.list.items) c.separator_before.result.now c.entries.rest.now c.in_ok-begun.begun.now _ none c.in_ok-begun.ensures c.in_err-one.ensures read)
+    rw (p.1, p.2) (entries_wrong _ c.entries.list.items _ c.separator_before.result.now c.entries.rest.now _ none (search rules) c.separator_before.ensures
+    (subst (Fails _) (sym (bind_of _ (entry_at expression_at) _ c.in_ok-begun.ensures)) c.in_err-one.ensures) c.entries.invariant.read)
 
 pub entry_list-entries-smaller : goal.entry_list-entries-smaller
 entry_list-entries-smaller t c =

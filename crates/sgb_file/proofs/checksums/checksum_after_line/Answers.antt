@@ -1,5 +1,5 @@
 use Rattle.std.proofs.Common.{◌∙◌, sym, ap, [], ◌∷◌}
-use Rattle.sgb_file.specs.Layouts.{checksum_from}
+use Rattle.sgb_file.specs.inner.Layouts.{checksum_from}
 use Rattle.sgb_file.proofs.LaidLines.{checksum-starred, checksum-counted}
 use Rattle.sgb_file.proofs.checksums.checksum_after_line.Goals as goal
 

@@ -1,4 +1,5 @@
-use Rattle.sgb_file.specs.Layouts.{stage}
+use Rattle.std.proofs.Common.{codes}
+use Rattle.sgb_file.specs.inner.Layouts.{stage}
 use Rattle.sgb_file.specs.Saving.{arc_texts}
 use Rattle.sgb_file.proofs.RecordLines.{RecordsSoFar}
 use Rattle.sgb_file.proofs.saving.put_arcs.Given as goal
@@ -6,5 +7,5 @@ use Rattle.sgb_file.proofs.saving.put_arcs.Given as goal
 -- the records from this one on are left
 abbrev pub invariant-loop-k : goal.invariant-loop-k
 invariant-loop-k g l =
-    RecordsSoFar (λ x. arc_texts x) l.graph.records l.k (stage (g.W.Sink.written l.fn.sink) (g.W.Sink.has_failed l.fn.sink) l.fn.layout)
-    (stage (g.W.Sink.written l.sink) (g.W.Sink.has_failed l.sink) l.layout)
+    RecordsSoFar (codes "* Arcs") (λ x. arc_texts x) l.graph.records l.k (stage g.W.Sink.written g.W.Sink.has_failed l.fn.sink l.fn.layout)
+    (stage g.W.Sink.written g.W.Sink.has_failed l.sink l.layout)

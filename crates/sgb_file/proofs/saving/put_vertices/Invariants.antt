@@ -1,4 +1,5 @@
-use Rattle.sgb_file.specs.Layouts.{stage}
+use Rattle.std.proofs.Common.{codes}
+use Rattle.sgb_file.specs.inner.Layouts.{stage}
 use Rattle.sgb_file.specs.Saving.{vertex_texts}
 use Rattle.sgb_file.proofs.RecordLines.{RecordsSoFar}
 use Rattle.sgb_file.proofs.saving.put_vertices.Given as goal
@@ -6,5 +7,5 @@ use Rattle.sgb_file.proofs.saving.put_vertices.Given as goal
 -- the records from this one on are left
 abbrev pub invariant-loop-v : goal.invariant-loop-v
 invariant-loop-v g l =
-    RecordsSoFar (λ x. vertex_texts x) l.graph.vertices l.v (stage (g.W.Sink.written l.fn.sink) (g.W.Sink.has_failed l.fn.sink) l.fn.layout)
-    (stage (g.W.Sink.written l.sink) (g.W.Sink.has_failed l.sink) l.layout)
+    RecordsSoFar (codes "* Vertices") (λ x. vertex_texts x) l.graph.vertices l.v (stage g.W.Sink.written g.W.Sink.has_failed l.fn.sink l.fn.layout)
+    (stage g.W.Sink.written g.W.Sink.has_failed l.sink l.layout)

@@ -1,10 +1,11 @@
 use Rattle.std.proofs.Common.{◌∙◌, refl, sym, ap, map, length}
 use Rattle.std.proofs.lemmas.Result.{err_from_is_err_and}
 use Rattle.sgb_file.specs.Checksum.{checksum_of_lines}
-use Rattle.sgb_file.specs.Layouts.{checksum_from, counted_bytes}
+use Rattle.sgb_file.specs.inner.Layouts.{checksum_from, counted_bytes}
 use Rattle.sgb_file.specs.Saving.{letter_of, middle_lines}
 use Rattle.sgb_file.proofs.WrittenPrefixes.{put_after, prefix_more, prefix_after}
-use Rattle.sgb_file.proofs.WholeText.{text-parts, checksum-whole, six_fields}
+use Rattle.sgb_file.proofs.SavedGraphs.{six_fields}
+use Rattle.sgb_file.proofs.WholeText.{text-parts, checksum-whole}
 use Rattle.sgb_file.proofs.saving.write_gb.Goals as goal
 
 pub returns-in_err-put_head-clause-put : goal.returns-in_err-put_head-clause-put
@@ -18,7 +19,7 @@ returns-in_err-put_head-clause-put g c =
 
 pub put_records-requires-clause-fields : goal.put_records-requires-clause-fields
 put_records-requires-clause-fields g c =
-    six_fields c.args.graph.now (ap length (sym c.kinds-kinds.ensures) ∙ c.in_ok-put_head.ensures.kinds) c.n-n.ensures.kept
+    six_fields c.args.graph.now c.n-n.ensures.kept.graph (ap length (sym c.kinds-kinds.ensures) ∙ c.in_ok-put_head.ensures.kinds)
 
 pub returns-in_err-put_records-clause-put : goal.returns-in_err-put_records-clause-put
 returns-in_err-put_records-clause-put g c =

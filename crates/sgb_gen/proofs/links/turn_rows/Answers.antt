@@ -1,5 +1,5 @@
 use Rattle.std.proofs.Common.{◌≡◌, ℕ, suc, ◌+◌, ◌*◌, ◌≤◌, List, ◌++◌, length, reverse, take, drop, sym, ap, ◌∙◌, arith}
-use Rattle.sgb_gen.specs.LocalArcs.{rows_turned}
+use Rattle.sgb_gen.specs.inner.LocalArcs.{rows_turned}
 use Rattle.sgb_gen.proofs.TurnedLinks.{rows_turned-next}
 use Rattle.sgb_gen.proofs.TableRows.{row_within}
 use Rattle.sgb_gen.proofs.links.turn_rows.Goals as goal

@@ -1,5 +1,5 @@
 use Rattle.std.proofs.Common.{◌≡◌}
-use Rattle.sgb_gen.specs.LocalArcs.{rows_turned}
+use Rattle.sgb_gen.specs.inner.LocalArcs.{rows_turned}
 use Rattle.sgb_gen.proofs.links.turn_rows.Given as goal
 
 -- the rows before this one are turned round

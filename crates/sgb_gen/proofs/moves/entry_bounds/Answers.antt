@@ -1,6 +1,6 @@
 use Rattle.std.proofs.Common.{ℤ, to_z, of_z, w64, ap, ◌∙◌, arith}
 use Rattle.std.proofs.lemmas.Int.{to_z-of_z}
-use Rattle.sgb_gen.specs.EntryBounds.{entry_bounds}
+use Rattle.sgb_gen.specs.inner.EntryBounds.{entry_bounds}
 use Rattle.sgb_gen.specs.Moves.{sides_of}
 use Rattle.sgb_gen.proofs.BoundedMoves.{bounds-more, bounds-all}
 use Rattle.sgb_gen.proofs.moves.entry_bounds.Goals as goal

@@ -1,9 +1,9 @@
+use Rattle.std.proofs.Common.{◌≡◌, drop}
 use Rattle.sgb_gen.proofs.Coordinates.{HasSomeCoordinates}
-use Rattle.sgb_gen.proofs.FamilyWalks.{IsAt}
 use Rattle.sgb_gen.proofs.vector_graphs.put_coordinates.Given as goal
 
--- the vector is number u, and the vertices before it have their coordinates
+-- the vertices before this one have their coordinates
 abbrev pub invariant-loop-u : goal.invariant-loop-u
 invariant-loop-u g l =
-    IsAt (g.F.Family.members l.family) l.u l.vector.items
+    (l.left ≡ drop l.u (g.F.Family.members l.family))
     × HasSomeCoordinates (g.F.Family.members l.family) l.u l.fn.graph l.graph

@@ -6,14 +6,15 @@ ghost use Rattle.sgb_vec.specs.Lexicographic.{IsBelow};
 ghost use Rattle.sgb_gen.specs.Limits.{most_piece};
 ghost use Rattle.sgb_gen.specs.Boards.{moves_of_board};
 ghost use Rattle.sgb_gen.specs.LocalLists.{list_at};
-ghost use Rattle.sgb_gen.specs.LocalBoards.{move_arc, edge_arcs, own_starts, other_starts, starts_of, arcs_of_starts, arcs_onward, moves_by};
-ghost use Rattle.sgb_gen.specs.Moves.{destination, moves_from, sides_of, opposite};
+ghost use Rattle.sgb_gen.specs.inner.LocalBoards.{move_arc, edge_arcs, own_starts, other_starts, starts_of, arcs_of_starts, arcs_onward, moves_by};
+ghost use Rattle.sgb_gen.specs.Moves.{moves_from, sides_of, opposite};
+ghost use Rattle.sgb_gen.specs.inner.Moves.{destination};
 ghost use Rattle.sgb_gen.specs.VectorGraphs.{vertex_among};
 
 use super::Board;
-use crate::displacements::{Displacement, Displacements, put_opposite};
+use crate::displacements::{Displacement, put_opposite};
 use crate::links::Links;
-use crate::moves::{destination, entry_bounds};
+use crate::moves::destination;
 use sgb_vec::{Panic, Vector};
 
 impl Board {
@@ -23,7 +24,8 @@ impl Board {
     /// `x` is a vector of the board. `NoRoom` when out of memory, and nothing else; the links are then empty.
     pub fn arcs_at(&self, x: &[u32], links: &mut Links) -> Result<(), Panic>
         requires { Contains (box self.now.sizes) x.now }
-        ensures ok { OnOk result (links.new.arcs ≡ list_at self.now.directed (box self.now.sizes) (moves_of_board self.now) x.now) }
+        ensures ok { OnOk result (links.new.arcs
+            ≡ list_at self.now.directed (box self.now.sizes) (moves_of_board self.now) x.now) }
         ensures err { OnErr result (links.new.arcs ≡ []) }
         ensures memory { IsOkUnless result Panic.NoRoom }
     {
@@ -44,14 +46,16 @@ impl Board {
     fn push_all(&self, x: &[u32], links: &mut Links) -> Result<(), Panic>
         requires below { IsBelow x.now self.now.sizes }
         requires width { length x.now ≡ links.old.width }
-        ensures ok { OnOk result (links.new ≡ record links.old { arcs = links.old.arcs ++ arcs_onward self.now.directed x.now (moves_of_board self.now) }) }
+        ensures ok { OnOk result (links.new
+            ≡ record links.old {
+              arcs = links.old.arcs
+                  ++ arcs_onward self.now.directed x.now (moves_of_board self.now);
+            }) }
         ensures memory { IsOkUnless result Panic.NoRoom }
     {
-        let piece = self.piece.unsigned_abs() as u32;
-        let bounds = entry_bounds(self.shape.sizes(), self.wrap, piece);
         let mut there = Vector::new();
         let mut back = Displacement::new();
-        let mut left = Displacements::new(piece, bounds);
+        let mut left = self.displacements();
         while let Some(t) = left.front() {
             self.push_by(x, t, &mut back, &mut there, links)?;
             let _some = left.advance();
@@ -73,7 +77,13 @@ impl Board {
         requires dimensions { length t.now ≡ length self.now.sizes }
         requires small { All (λ e. nat_abs e ≤ most_piece) t.now }
         requires width { length x.now ≡ links.old.width }
-        ensures ok { OnOk result (links.new ≡ record links.old { arcs = links.old.arcs ++ arcs_onward self.now.directed x.now (moves_by (sides_of self.now.sizes self.now.wrap) self.now.piece (box self.now.sizes) t.now) }) }
+        ensures ok { OnOk result (links.new
+            ≡ record links.old {
+              arcs = links.old.arcs
+                  ++ arcs_onward self.now.directed x.now
+                  (moves_by (sides_of self.now.sizes self.now.wrap) self.now.piece
+                  (box self.now.sizes) t.now);
+            }) }
         ensures memory { IsOkUnless result Panic.NoRoom }
     {
         if self.directed {
@@ -99,7 +109,12 @@ impl Board {
         requires below { IsBelow x.now self.now.sizes }
         requires dimensions { length t.now ≡ length self.now.sizes }
         requires width { length x.now ≡ links.old.width }
-        ensures ok { OnOk result (links.new ≡ record links.old { arcs = links.old.arcs ++ map move_arc (moves_from (sides_of self.now.sizes self.now.wrap) self.now.piece x.now t.now) }) }
+        ensures ok { OnOk result (links.new
+            ≡ record links.old {
+              arcs = links.old.arcs
+                  ++ map move_arc (moves_from (sides_of self.now.sizes self.now.wrap)
+                  self.now.piece x.now t.now);
+            }) }
         ensures memory { IsOkUnless result Panic.NoRoom }
     {
         for l in 1..=self.longest_move() {
@@ -124,7 +139,9 @@ impl Board {
         requires below { IsBelow x.now self.now.sizes }
         requires dimensions { length t.now ≡ length self.now.sizes }
         requires back { back.now ≡ opposite t.now }
-        ensures ok { OnOk result (starts.new.items ≡ starts.old.items ++ starts_of (sides_of self.now.sizes self.now.wrap) self.now.piece (box self.now.sizes) x.now t.now) }
+        ensures ok { OnOk result (starts.new.items ≡ starts.old.items
+            ++ starts_of (sides_of self.now.sizes self.now.wrap) self.now.piece (box self.now.sizes)
+            x.now t.now) }
         ensures memory { IsOkUnless result Panic.NoRoom }
     {
         let u = self.family.place_of(x);
@@ -144,7 +161,9 @@ impl Board {
     ) -> Result<(), Panic>
         requires below { IsBelow x.now self.now.sizes }
         requires dimensions { length t.now ≡ length self.now.sizes }
-        ensures ok { OnOk result (starts.new.items ≡ starts.old.items ++ own_starts u (moves_from (sides_of self.now.sizes self.now.wrap) self.now.piece x.now t.now)) }
+        ensures ok { OnOk result (starts.new.items ≡ starts.old.items
+            ++ own_starts u (moves_from (sides_of self.now.sizes self.now.wrap) self.now.piece x.now
+            t.now)) }
         ensures memory { IsOkUnless result Panic.NoRoom }
     {
         for l in 1..=self.longest_move() {
@@ -167,7 +186,9 @@ impl Board {
     ) -> Result<(), Panic>
         requires below { IsBelow x.now self.now.sizes }
         requires back { length back.now ≡ length self.now.sizes }
-        ensures ok { OnOk result (starts.new.items ≡ starts.old.items ++ other_starts (box self.now.sizes) u (moves_from (sides_of self.now.sizes self.now.wrap) self.now.piece x.now back.now)) }
+        ensures ok { OnOk result (starts.new.items ≡ starts.old.items
+            ++ other_starts (box self.now.sizes) u
+            (moves_from (sides_of self.now.sizes self.now.wrap) self.now.piece x.now back.now)) }
         ensures memory { IsOkUnless result Panic.NoRoom }
     {
         for l in 1..=self.longest_move() {
@@ -195,7 +216,12 @@ impl Board {
         requires dimensions { length t.now ≡ length self.now.sizes }
         requires back { length back.now ≡ length self.now.sizes }
         requires width { length x.now ≡ links.old.width }
-        ensures ok { OnOk result (links.new ≡ record links.old { arcs = links.old.arcs ++ arcs_of_starts (sides_of self.now.sizes self.now.wrap) self.now.piece (vertex_among (box self.now.sizes) x.now) x.now t.now back.now starts.now }) }
+        ensures ok { OnOk result (links.new
+            ≡ record links.old {
+              arcs = links.old.arcs
+                  ++ arcs_of_starts (sides_of self.now.sizes self.now.wrap) self.now.piece
+                  (vertex_among (box self.now.sizes) x.now) x.now t.now back.now starts.now;
+            }) }
         ensures memory { IsOkUnless result Panic.NoRoom }
     {
         let u = self.family.place_of(x);
@@ -217,7 +243,12 @@ impl Board {
         requires below { IsBelow x.now self.now.sizes }
         requires dimensions { length t.now ≡ length self.now.sizes }
         requires width { length x.now ≡ links.old.width }
-        ensures ok { OnOk result (links.new ≡ record links.old { arcs = links.old.arcs ++ edge_arcs x.now l (destination (sides_of self.now.sizes self.now.wrap) self.now.piece x.now t.now l) }) }
+        ensures ok { OnOk result (links.new
+            ≡ record links.old {
+              arcs = links.old.arcs
+                  ++ edge_arcs x.now l (destination (sides_of self.now.sizes self.now.wrap)
+                  self.now.piece x.now t.now l);
+            }) }
         ensures memory { IsOkUnless result Panic.NoRoom }
     {
         if !self.lands(x, t, l, there) {
@@ -234,8 +265,11 @@ impl Board {
     fn lands(&self, x: &[u32], t: &[i32], l: u32, there: &mut Vector) -> bool
         requires below { IsBelow x.now self.now.sizes }
         requires dimensions { length t.now ≡ length self.now.sizes }
-        ensures leads { OnTrue result (destination (sides_of self.now.sizes self.now.wrap) self.now.piece x.now t.now l ≡ Some there.new.items) }
-        ensures nowhere { OnFalse result (destination (sides_of self.now.sizes self.now.wrap) self.now.piece x.now t.now l ≡ None) }
+        ensures leads { OnTrue result (destination (sides_of self.now.sizes self.now.wrap)
+            self.now.piece x.now t.now l ≡ Some there.new.items) }
+        ensures nowhere { OnFalse result
+            (destination (sides_of self.now.sizes self.now.wrap) self.now.piece x.now t.now l
+            ≡ None) }
     {
         destination(self.shape.sizes(), self.wrap, self.piece, x, t, l, there)
     }

@@ -2,7 +2,7 @@
 ghost use Rattle.std.specs.Prelude.{◌≡◌, ◌≢◌, ◌<◌, ◌≤◌, ◌+◌, [], ◌∷◌, length, reverse, Contains, OnOk, OnErr, IsOkUnless};
 ghost use Rattle.sgb_vec.specs.Limits.{most_dimensions};
 ghost use Rattle.sgb_gen.specs.LocalLists.{list_at};
-ghost use Rattle.sgb_gen.specs.LocalSimplexes.{arc_by_unit, arcs_back, arcs_on, arcs_by_pairs, pairs_down, pairs_back, with_arcs};
+ghost use Rattle.sgb_gen.specs.inner.LocalSimplexes.{arc_by_unit, arcs_back, arcs_on, arcs_by_pairs, pairs_down, pairs_back, with_arcs};
 ghost use Rattle.sgb_gen.specs.Simplexes.{simplex_vectors, moves_of_simplex, pairs_from, pairs_of_places};
 
 use super::Simplex;
@@ -17,7 +17,9 @@ impl Simplex {
     /// `x` is a vector of the simplex. `NoRoom` when out of memory, and nothing else; the links are then empty.
     pub fn arcs_at(&self, x: &[u32], links: &mut Links) -> Result<(), Panic>
         requires { Contains (simplex_vectors self.now) x.now }
-        ensures ok { OnOk result (links.new.arcs ≡ list_at self.now.directed (simplex_vectors self.now) (moves_of_simplex self.now) x.now) }
+        ensures ok { OnOk result (links.new.arcs
+            ≡ list_at self.now.directed (simplex_vectors self.now) (moves_of_simplex self.now)
+            x.now) }
         ensures err { OnErr result (links.new.arcs ≡ []) }
         ensures memory { IsOkUnless result Panic.NoRoom }
     {
@@ -38,7 +40,8 @@ fn push_all(directed: bool, bounds: &[u32], x: &[u32], links: &mut Links) -> Res
     requires few { length x.now ≤ most_dimensions + 1 }
     requires bounds { length x.now ≡ length bounds.now }
     requires width { length x.now ≡ links.old.width }
-    ensures ok { OnOk result (links.new ≡ with_arcs links.old (arcs_by_pairs directed bounds.now x.now)) }
+    ensures ok { OnOk result (links.new
+        ≡ with_arcs links.old (arcs_by_pairs directed bounds.now x.now)) }
     ensures memory { IsOkUnless result Panic.NoRoom }
 {
     push_back(bounds, x, links)?;
@@ -54,7 +57,8 @@ fn push_back(bounds: &[u32], x: &[u32], links: &mut Links) -> Result<(), Panic>
     requires few { length x.now ≤ most_dimensions + 1 }
     requires bounds { length x.now ≡ length bounds.now }
     requires width { length x.now ≡ links.old.width }
-    ensures ok { OnOk result (links.new ≡ with_arcs links.old (arcs_back bounds.now x.now (pairs_back (length x.now)))) }
+    ensures ok { OnOk result (links.new
+        ≡ with_arcs links.old (arcs_back bounds.now x.now (pairs_back (length x.now)))) }
     ensures memory { IsOkUnless result Panic.NoRoom }
 {
     for lower in 0..x.len() {
@@ -69,7 +73,8 @@ fn push_back_to(bounds: &[u32], x: &[u32], lower: usize, links: &mut Links) -> R
     requires entry { lower < length x.now }
     requires bounds { length x.now ≡ length bounds.now }
     requires width { length x.now ≡ links.old.width }
-    ensures ok { OnOk result (links.new ≡ with_arcs links.old (arcs_back bounds.now x.now (pairs_down (length x.now) lower))) }
+    ensures ok { OnOk result (links.new
+        ≡ with_arcs links.old (arcs_back bounds.now x.now (pairs_down (length x.now) lower))) }
     ensures memory { IsOkUnless result Panic.NoRoom }
 {
     for higher in (lower + 1..x.len()).rev() {
@@ -83,7 +88,9 @@ fn push_on(bounds: &[u32], x: &[u32], links: &mut Links) -> Result<(), Panic>
     requires few { length x.now ≤ most_dimensions + 1 }
     requires bounds { length x.now ≡ length bounds.now }
     requires width { length x.now ≡ links.old.width }
-    ensures ok { OnOk result (links.new ≡ with_arcs links.old (arcs_on bounds.now x.now (reverse (pairs_of_places (length x.now))))) }
+    ensures ok { OnOk result (links.new
+        ≡ with_arcs links.old (arcs_on bounds.now x.now
+        (reverse (pairs_of_places (length x.now))))) }
     ensures memory { IsOkUnless result Panic.NoRoom }
 {
     for lower in (0..x.len()).rev() {
@@ -98,7 +105,8 @@ fn push_on_from(bounds: &[u32], x: &[u32], lower: usize, links: &mut Links) -> R
     requires entry { lower < length x.now }
     requires bounds { length x.now ≡ length bounds.now }
     requires width { length x.now ≡ links.old.width }
-    ensures ok { OnOk result (links.new ≡ with_arcs links.old (arcs_on bounds.now x.now (pairs_down (length x.now) lower))) }
+    ensures ok { OnOk result (links.new
+        ≡ with_arcs links.old (arcs_on bounds.now x.now (pairs_down (length x.now) lower))) }
     ensures memory { IsOkUnless result Panic.NoRoom }
 {
     for higher in (lower + 1..x.len()).rev() {
@@ -121,7 +129,8 @@ fn push_one(
     requires to { to < length x.now }
     requires bounds { length x.now ≡ length bounds.now }
     requires width { length x.now ≡ links.old.width }
-    ensures ok { OnOk result (links.new ≡ with_arcs links.old (arc_by_unit bounds.now x.now from to)) }
+    ensures ok { OnOk result (links.new
+        ≡ with_arcs links.old (arc_by_unit bounds.now x.now from to)) }
     ensures memory { IsOkUnless result Panic.NoRoom }
 {
     if !can_move_unit(bounds, x, from, to) {

@@ -1,5 +1,5 @@
 use super::Simplex;
-use sgb_vec::{Family, Panic};
+use sgb_vec::Family;
 use std::test::Fail;
 
 // Parameters with the count of dimensions, the count of vectors and the id that they give.
@@ -23,17 +23,4 @@ fn family_and_id(rt: HostRuntime) -> Result<(), Fail> {
         assert!(rt; simplex.id().bytes() == id);
     }
     Ok(())
-}
-
-#[test]
-fn refusals(rt: HostRuntime) {
-    for (n, n0, panic) in [
-        (-1, 0, Panic::Bad),
-        (1_000_000_001, 1, Panic::VeryBad),
-        (30, -30, Panic::VeryBad),
-        (30, -251, Panic::Bad),
-    ] {
-        let refusal = Simplex::new(rt.alloc(), n, n0, 0, 0, 0, 0, false).err();
-        assert!(rt; refusal == Some(panic));
-    }
 }

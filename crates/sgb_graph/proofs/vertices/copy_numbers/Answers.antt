@@ -3,8 +3,9 @@ use Rattle.std.proofs.lemmas.List.{length-map}
 use Rattle.std.proofs.lemmas.Int.{to_z-of_z}
 use mir.Syntax.{w64}
 use mir.Val.{SFits}
-use Rattle.sgb_graph.specs.Columns.{util_seen, values}
-use Rattle.sgb_graph.specs.KeptVertices.{bare_vertex}
+use Rattle.sgb_graph.specs.Columns.{util_seen}
+use Rattle.sgb_graph.specs.inner.Columns.{values}
+use Rattle.sgb_graph.specs.inner.KeptVertices.{bare_vertex}
 use Rattle.sgb_graph.proofs.KeptVertices.{taken_none, taken_more, taken_all}
 use Rattle.sgb_graph.proofs.vertices.copy_numbers.Goals as goal
 

@@ -1,5 +1,5 @@
 use Rattle.std.proofs.Common.{length}
-use Rattle.sgb_graph.specs.Columns.{values}
+use Rattle.sgb_graph.specs.inner.Columns.{values}
 use Rattle.sgb_graph.proofs.KeptVertices.{TakenSoFar}
 use Rattle.sgb_graph.proofs.vertices.copy_numbers.Given as goal
 

@@ -1,6 +1,6 @@
 use Rattle.std.proofs.Common.{◌≡◌, ◌∙◌, sym, ap, length}
 use Rattle.std.proofs.lemmas.List.{length-map}
-use Rattle.sgb_graph.specs.Columns.{util_kind}
+use Rattle.sgb_graph.specs.inner.Columns.{util_kind}
 use Rattle.sgb_graph.proofs.KeptVertices.{kept_more}
 use Rattle.sgb_graph.proofs.vertices.keep.Goals as goal
 

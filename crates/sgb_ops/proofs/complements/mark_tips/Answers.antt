@@ -1,15 +1,11 @@
-use Rattle.std.proofs.Common.{◌≡◌, ◌<◌, ◌∙◌, List, ◌∷◌, Option, Some, sym, ap, subst, length, arith}
-use Rattle.std.specs.Iterator.{YieldsFirst}
+use Rattle.std.proofs.Common.{◌<◌, ◌∙◌, sym, ap, subst, length, arith}
 use Rattle.std.specs.List.{All}
 use Rattle.std.proofs.lemmas.List.{length-set}
 use Rattle.std.proofs.lemmas.List.Elements.{All-head, All-tail}
 use Rattle.sgb_graph.specs.declared.fields.Link.{Link}
 use Rattle.sgb_ops.proofs.Marks.{mark_at, mark_at-next}
+use Rattle.sgb_ops.proofs.Places.{steps_to}
 use Rattle.sgb_ops.proofs.complements.mark_tips.Goals as goal
-
--- what the walk over arcs gives
-step_some : (s u : List Link) (r : Option Link) (link : Link) → r ≡ Some link → YieldsFirst (λ x. x) s r u → s ≡ link ∷ u
-step_some s u r link e h = subst (λ o. YieldsFirst (λ x. x) s o u) e h
 
 pub loop-link-preserved : goal.loop-link-preserved
 loop-link-preserved c =
@@ -17,7 +13,7 @@ loop-link-preserved c =
     let left = c.next.new.self in
     let link = c.in-Some.link in
     let marks = c.loop-link.marks in
-    let step = step_some c.loop-link.link-iterator left c.next.result link c.in-Some.is c.next.ensures.steps in
+    let step = steps_to c.loop-link.link-iterator left c.next.result link c.in-Some.is c.next.ensures.steps in
     let Within = λ (l : Link). l.tip < length g.vertices in
     let within = subst (All Within) step c.loop-link.invariant.1 in
     let tip : link.tip < length g.vertices = All-head Within link left within in (

@@ -1,5 +1,5 @@
 use Rattle.std.proofs.Common.{◌≡◌, ◌≤◌, ◌*◌, All, take}
-use Rattle.sgb_ops.specs.Copies.{IsKeptEntry}
+use Rattle.sgb_ops.specs.inner.Copies.{IsKeptEntry}
 use Rattle.sgb_ops.specs.Entries.{own_total}
 use Rattle.sgb_ops.proofs.entries.own_total.Given as goal
 

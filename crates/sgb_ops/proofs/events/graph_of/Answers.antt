@@ -2,7 +2,7 @@ use Rattle.std.proofs.Common.{◌∙◌, ap, length, refl, subst, sym}
 use Rattle.std.proofs.lemmas.List.{length-map}
 use Rattle.sgb_graph.specs.Graphs.{GraphData}
 use Rattle.sgb_graph.specs.Growth.{new_vertex}
-use Rattle.sgb_ops.specs.Ends.{AllWithin}
+use Rattle.sgb_ops.specs.inner.Ends.{AllWithin}
 use Rattle.sgb_ops.proofs.Results.{made}
 use Rattle.sgb_ops.proofs.events.graph_of.Goals as goal
 

@@ -1,5 +1,10 @@
-use Rattle.std.proofs.Common.{◌∙◌, arith}
-use Rattle.sgb_ops.proofs.UnionEvents.{left_within, added_more, added_all}
+use Rattle.std.proofs.Common.{◌∙◌, ap, subst, refl, arith}
+use Rattle.std.specs.List.{flat_map}
+use Rattle.sgb_graph.specs.Growth.{AddsEvents}
+use Rattle.sgb_ops.specs.Merged.{merged_unless}
+use Rattle.sgb_ops.specs.Operands.{order_of}
+use Rattle.sgb_ops.proofs.Places.{place_added, places_added}
+use Rattle.sgb_ops.proofs.UnionEvents.{all_left, left_of, left_within}
 use Rattle.sgb_ops.proofs.gunions.add_union_events.Goals as goal
 
 pub add_events-requires-clause-within : goal.add_events-requires-clause-within
@@ -9,8 +14,16 @@ add_events-requires-clause-within c =
 
 pub loop-v-preserved : goal.loop-v-preserved
 loop-v-preserved c =
-    added_more c.args.first.now c.args.second.now c.args.multi c.args.directed c.loop-v.v c.args.built.now c.loop-v.built c.add_events.new.built c.in_ok-all.all.items c.deref.result.now (omega arith)
-    c.loop-v.invariant (c.deref.ensures.value ∙ c.in_ok-events.ensures.ok) c.in_ok-all.ensures.ok c.in_ok-add_events.ensures.ok
+    let multi = c.args.multi in
+    let d = c.args.directed in
+    let g = c.args.first.now in
+    let left = c.deref.ensures.value ∙ (c.in_ok-events.ensures.ok ∙ ap (merged_unless multi d) c.in_ok-all.ensures.ok) in
+    place_added d c.args.built.now c.loop-v.built (flat_map (left_of g c.args.second.now multi d)) (order_of g) c.loop-v.v c.add_events.new.built _ (omega arith) c.loop-v.invariant
+    (subst (AddsEvents d c.loop-v.built c.add_events.new.built) left c.in_ok-add_events.ensures.ok) refl
 
 pub returns-clause-ok : goal.returns-clause-ok
-returns-clause-ok c = added_all c.args.first.now c.args.second.now c.args.multi c.args.directed c.loop-v.v c.args.built.now c.loop-v.built (omega arith) c.loop-v.invariant
+returns-clause-ok c =
+    let g = c.args.first.now in
+    let h = c.args.second.now in
+    subst (AddsEvents c.args.directed c.args.built.now c.loop-v.built) (all_left g h c.args.multi c.args.directed)
+    (places_added c.args.directed c.args.built.now c.loop-v.built (flat_map (left_of g h c.args.multi c.args.directed)) (order_of g) c.loop-v.v (omega arith) c.loop-v.invariant refl)

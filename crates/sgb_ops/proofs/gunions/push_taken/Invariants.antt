@@ -1,5 +1,5 @@
 use Rattle.std.proofs.Common.{◌≡◌, ◌++◌, map, filter, nat_lt}
-use Rattle.sgb_ops.specs.Ends.{event_of}
+use Rattle.sgb_ops.specs.inner.Ends.{event_of}
 use Rattle.sgb_ops.specs.Taken.{taken}
 use Rattle.sgb_ops.proofs.gunions.push_taken.Given as goal
 

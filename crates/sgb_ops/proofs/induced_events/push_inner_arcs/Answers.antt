@@ -1,22 +1,19 @@
-use Rattle.std.proofs.Common.{◌≡◌, ℤ, w64, rules, ◌++◌, ◌∷◌, [], ◌∙◌, ◌+◌, map, length, sym, ap, subst}
+use Rattle.std.proofs.Common.{ℤ, w64, rules, ◌++◌, ◌∷◌, [], ◌∙◌, ◌+◌, map, length, sym, ap, subst}
 use Rattle.std.specs.List.{All}
 use Rattle.std.proofs.lemmas.Int.{to_z-of_z}
 use Rattle.std.proofs.lemmas.List.Elements.{All-tail}
 use Rattle.sgb_ops.specs.Entries.{inner_event, inner_events_from}
 use Rattle.sgb_ops.specs.Induced.{wanted}
-use Rattle.sgb_ops.specs.Taken.{taken}
-use Rattle.sgb_ops.proofs.EventsWithin.{TipBelow, taken_tips}
+use Rattle.sgb_ops.proofs.EventsWithin.{TipBelow}
 use Rattle.sgb_ops.proofs.Places.{steps_to}
 use Rattle.sgb_ops.proofs.WantedEvents.{wanted_more}
 use Rattle.sgb_ops.proofs.induced_events.push_inner_arcs.Goals as goal
 
 pub loop-arc-init : goal.loop-arc-init
 loop-arc-init c =
-    let g = c.args.inner.now in
-    let d = c.args.flags.directed in
-    let is : c.into_iter-arc-iterator.result ≡ taken d g c.args.w = c.into_iter-arc-iterator.ensures.into_iter_gives ∙ c.taken-arc-items.ensures in (
-      subst (All (TipBelow (length g.vertices))) (sym is) (taken_tips d g c.args.w c.requires.kept c.requires.vertex),
-      ap (λ ls. c.args.events.now.items ++ wanted c.args.flags.self_loops (map (inner_event c.args.start c.args.w) ls)) is,
+    let is = c.into_iter-arc-iterator.ensures.into_iter_gives in (
+      subst (All (TipBelow (length c.args.inner.now.vertices))) (sym is) c.taken-arc-items.ensures.tips,
+      ap (λ ls. c.args.events.now.items ++ wanted c.args.flags.self_loops (map (inner_event c.args.start c.args.w) ls)) (is ∙ c.taken-arc-items.ensures.taken),
     )
 
 pub loop-arc-preserved : goal.loop-arc-preserved

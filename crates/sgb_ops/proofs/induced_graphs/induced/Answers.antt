@@ -1,6 +1,6 @@
 use Rattle.std.proofs.Common.{◌≡◌, ◌∙◌, length, sym, ap, subst, arith}
 use Rattle.std.proofs.lemmas.List.{length-map}
-use Rattle.sgb_ops.specs.Ends.{AllWithin}
+use Rattle.sgb_ops.specs.inner.Ends.{AllWithin}
 use Rattle.sgb_ops.specs.Induced.{all_events, wanted}
 use Rattle.sgb_ops.specs.Merged.{merged_unless}
 use Rattle.sgb_ops.specs.Operands.{names_of}

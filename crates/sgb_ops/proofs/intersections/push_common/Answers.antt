@@ -1,10 +1,11 @@
-use Rattle.std.proofs.Common.{◌≡◌, ◌==◌, ◌+◌, ◌∙◌, ◌++◌, ◌∷◌, [], nat_eq, take, drop, get_or, sym, ap, refl, append_assoc, if◌then◌else◌, w64, to_z, of_z, rules, arith}
+use Rattle.std.proofs.Common.{◌≡◌, ◌==◌, ◌+◌, ◌∙◌, ◌++◌, ◌∷◌, [], nat_eq, take, drop, get_or, sym, ap, refl, if◌then◌else◌, w64, to_z, of_z, rules, arith}
 use Rattle.std.proofs.lemmas.Int.{to_z-of_z}
 use Rattle.std.proofs.lemmas.List.{take_more, drop_more, take-append-drop}
 use Rattle.indexmap.specs.IndexMap.{get}
-use Rattle.sgb_ops.specs.Tallies.{tally_to, event_left, second_length, without_one}
+use Rattle.sgb_ops.specs.inner.Tallies.{tally_to, event_left, second_length, without_one}
 use Rattle.sgb_ops.specs.Intersection.{common_event}
 use Rattle.sgb_ops.proofs.CommonEvents.{commons_after, commons_at_places, left_after, left_at_first, left_more, event_there}
+use Rattle.sgb_ops.proofs.PlainLists.{part_more}
 use Rattle.sgb_ops.proofs.TallyLemmas.{no_arc}
 use Rattle.sgb_ops.proofs.intersections.push_common.Goals as goal
 
@@ -36,10 +37,9 @@ loop-arc-preserved c =
     ∙ (ap (event_left v l.tip (second_length multi l.len (tally_to l.tip hs))) (c.loop-arc.invariant.1 l.tip) ∙ event_there multi v gs hs before links l is) in
     let sofar = c.loop-arc.events.items in
     let now = common_event multi v gs hs before l in (
-      ap (λ es. es ++ commons_after multi v gs hs (take (i + 1) hs) links) (c.in_ok-push_if_left.ensures.ok ∙ ap (λ e. sofar ++ e) event)
-          ∙ (append_assoc sofar now (commons_after multi v gs hs (take (i + 1) hs) links)
-          ∙ (ap (λ b. sofar ++ (now ++ commons_after multi v gs hs b links)) next
-          ∙ (ap (λ ls. sofar ++ commons_after multi v gs hs before ls) (sym rest) ∙ c.loop-arc.invariant.0))),
+      part_more sofar _ now (commons_after multi v gs hs (take (i + 1) hs) links) (commons_after multi v gs hs before (drop i hs)) _
+          (ap (commons_after multi v gs hs before) rest ∙ ap (λ b. now ++ commons_after multi v gs hs b links) (sym next)) c.loop-arc.invariant.0
+          (c.in_ok-push_if_left.ensures.ok ∙ ap (λ e. sofar ++ e) event),
       (λ u. c.in_ok-push_if_left.ensures.left u
           ∙ (ap (λ o. if l.tip == u then without_one multi o else o) (c.loop-arc.invariant.1 u)
           ∙ (left_more multi u gs before l ∙ ap (left_after multi u gs) (sym next)))),

@@ -1,5 +1,5 @@
 use Rattle.std.proofs.Common.{◌≡◌, ℕ, [], length}
-use Rattle.sgb_ops.specs.LineLists.{list_at}
+use Rattle.sgb_ops.specs.inner.LineLists.{list_at}
 use Rattle.sgb_ops.proofs.line_graphs.empty_lists.Given as goal
 
 -- each list is empty

@@ -1,5 +1,5 @@
 use Rattle.std.proofs.Common.{◌≡◌, ◌++◌, ℕ, drop, length}
-use Rattle.sgb_ops.specs.LineLists.{list_at, touching}
+use Rattle.sgb_ops.specs.inner.LineLists.{list_at, touching}
 use Rattle.sgb_ops.proofs.line_graphs.line_lists.Given as goal
 
 -- with the lines from number j on, the lists are whole

@@ -1,9 +1,10 @@
-use Rattle.std.proofs.Common.{◌++◌, ◌-◌, ◌+◌, ◌≡◌, ◌∙◌, All, sym, ap, subst, append_assoc, append-nil, arith}
-use Rattle.sgb_ops.specs.Lines.{LineWithin}
+use Rattle.std.proofs.Common.{◌-◌, ◌+◌, ◌≡◌, ◌∙◌, All, sym, ap, subst, arith}
+use Rattle.sgb_ops.specs.inner.Lines.{LineWithin}
 use Rattle.sgb_ops.specs.Operands.{order_of}
 use Rattle.sgb_ops.proofs.LineEvents.{lines_at, lines_below, lines_below-more, lines_within}
-use Rattle.sgb_ops.specs.LineLists.{FallFrom}
+use Rattle.sgb_ops.specs.inner.LineLists.{FallFrom}
 use Rattle.sgb_ops.proofs.LineLists.{lines_fall}
+use Rattle.sgb_ops.proofs.PlainLists.{part_more, parts_all}
 use Rattle.sgb_ops.proofs.line_graphs.lines_of_graph.Goals as goal
 
 pub loop-v-preserved : goal.loop-v-preserved
@@ -12,17 +13,15 @@ loop-v-preserved c =
     let directed = c.args.directed in
     let v = c.loop-v.v - 1 in
     let last : c.loop-v.v ≡ v + 1 = omega arith in
-    let before = c.loop-v.lines.items in
-    ap (λ ls. ls ++ lines_below g directed v) c.in_ok-push_lines.ensures.ok
-    ∙ (append_assoc before (lines_at g directed v) (lines_below g directed v)
-    ∙ (ap (λ ls. before ++ ls) (sym (ap (lines_below g directed) last ∙ lines_below-more g directed v)) ∙ c.loop-v.invariant))
+    part_more c.loop-v.lines.items _ (lines_at g directed v) (lines_below g directed v) (lines_below g directed c.loop-v.v) _
+    (ap (lines_below g directed) last ∙ lines_below-more g directed v) c.loop-v.invariant c.in_ok-push_lines.ensures.ok
 
 pub returns-clause-within : goal.returns-clause-within
 returns-clause-within c =
     let g = c.args.graph.now in
     let none : c.loop-v.v ≡ 0 = omega arith in
     subst (All (LineWithin (order_of g)))
-    (sym (sym (append-nil _) ∙ (ap (λ ls. c.loop-v.lines.items ++ ls) (sym (ap (lines_below g c.args.directed) none)) ∙ c.loop-v.invariant)))
+    (sym (parts_all c.loop-v.lines.items _ _ (ap (lines_below g c.args.directed) none) c.loop-v.invariant))
     (lines_within g c.args.directed c.n-v.ensures.kept)
 
 pub returns-clause-falling : goal.returns-clause-falling
@@ -30,5 +29,5 @@ returns-clause-falling c = λ e.
     let g = c.args.graph.now in
     let none : c.loop-v.v ≡ 0 = omega arith in
     subst (FallFrom (order_of g))
-    (sym (sym (append-nil _) ∙ (ap (λ ls. c.loop-v.lines.items ++ ls) (sym (ap (lines_below g c.args.directed) none)) ∙ c.loop-v.invariant)))
+    (sym (parts_all c.loop-v.lines.items _ _ (ap (lines_below g c.args.directed) none) c.loop-v.invariant))
     (lines_fall g c.args.directed e)

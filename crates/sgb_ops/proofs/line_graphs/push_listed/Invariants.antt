@@ -1,5 +1,5 @@
 use Rattle.std.proofs.Common.{◌≡◌, ◌++◌, drop}
-use Rattle.sgb_ops.specs.LineLists.{events_to_listed}
+use Rattle.sgb_ops.specs.inner.LineLists.{events_to_listed}
 use Rattle.sgb_ops.proofs.line_graphs.push_listed.Given as goal
 
 -- with the events to those that are left, they are all

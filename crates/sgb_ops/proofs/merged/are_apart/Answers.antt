@@ -2,7 +2,7 @@ use Rattle.std.proofs.Common.{◌≡◌, ◌≢◌, ◌∙◌, ◌+◌, ◌/◌,
 use Rattle.std.specs.Int.{bit_at}
 use Rattle.std.proofs.lemmas.List.{take_more}
 use Rattle.std.proofs.lemmas.Nat.Bits.{shr_and_one}
-use Rattle.sgb_ops.specs.Ends.{bit_place}
+use Rattle.sgb_ops.specs.inner.Ends.{bit_place}
 use Rattle.sgb_ops.proofs.Apart.{so_far_more}
 use Rattle.sgb_ops.proofs.merged.are_apart.Goals as goal
 

@@ -1,7 +1,7 @@
 use Rattle.std.proofs.Common.{◌≡◌, ◌+◌, ◌∙◌, ◌++◌, ◌∷◌, [], sym, ap, take, arith}
 use Rattle.std.specs.Prelude.{map}
 use Rattle.std.proofs.lemmas.List.{take_more}
-use Rattle.sgb_ops.specs.Ends.{ends_key, with_event}
+use Rattle.sgb_ops.specs.inner.Ends.{ends_key, with_event}
 use Rattle.sgb_ops.specs.Merged.{merged}
 use Rattle.sgb_ops.proofs.MergeSteps.{merged_more}
 use Rattle.sgb_ops.proofs.merged.merged.Goals as goal

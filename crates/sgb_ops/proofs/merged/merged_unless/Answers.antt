@@ -1,6 +1,6 @@
 use Rattle.std.proofs.Common.{refl, sym, subst}
 use Rattle.std.proofs.lemmas.Bool.{OnTrue_at}
-use Rattle.sgb_ops.specs.Merged.{HaveDifferentEnds}
+use Rattle.sgb_ops.specs.inner.Merged.{HaveDifferentEnds}
 use Rattle.sgb_ops.proofs.Apart.{merged_unless_same}
 use Rattle.sgb_ops.proofs.merged.merged_unless.Goals as goal
 use Rattle.sgb_ops.proofs.merged.merged_unless.Goals.{then-multi-via-then-multi, then-multi-via-else-multi+then-are_apart}

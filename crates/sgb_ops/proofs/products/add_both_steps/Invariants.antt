@@ -1,11 +1,9 @@
-use Rattle.std.proofs.Common.{length}
-use Rattle.sgb_graph.proofs.AddedEvents.{AddsUpTo}
+use Rattle.std.specs.List.{flat_map}
+use Rattle.sgb_ops.specs.Operands.{order_of}
 use Rattle.sgb_ops.specs.Product.{both_steps_of_row}
-use Rattle.sgb_ops.proofs.Places.{some_from}
+use Rattle.sgb_ops.proofs.Places.{PlacesLeft}
 use Rattle.sgb_ops.proofs.products.add_both_steps.Given as goal
 
 -- the steps from the pairs of the vertices from x on are still to come
 abbrev pub invariant-loop-x : goal.invariant-loop-x
-invariant-loop-x l =
-    let steps = both_steps_of_row l.first l.second l.directed in
-    AddsUpTo l.directed l.fn.built l.built (some_from steps (length l.first.vertices) l.x) (some_from steps (length l.first.vertices) 0)
+invariant-loop-x l = PlacesLeft l.directed l.fn.built l.built (flat_map (both_steps_of_row l.first l.second l.directed)) (order_of l.first) l.x

@@ -1,14 +1,13 @@
-use Rattle.std.proofs.Common.{map, length}
-use Rattle.std.specs.List.{All, flat_map}
+use Rattle.std.proofs.Common.{map}
+use Rattle.std.specs.List.{flat_map}
 use Rattle.sgb_graph.specs.Graphs.{chain_of}
-use Rattle.sgb_graph.proofs.AddedEvents.{AddsUpTo}
+use Rattle.sgb_ops.specs.Operands.{order_of}
 use Rattle.sgb_ops.specs.Product.{both_step, both_steps_at}
-use Rattle.sgb_ops.proofs.EventsWithin.{TipBelow}
+use Rattle.sgb_ops.proofs.Places.{ArcsLeft}
 use Rattle.sgb_ops.proofs.products.add_both_steps_at.Given as goal
 
 -- the steps of the arcs that are left are still to come
 abbrev pub invariant-loop-arc : goal.invariant-loop-arc
 invariant-loop-arc l =
-    let n = length l.second.vertices in
-    All (TipBelow (length l.first.vertices)) l.arc-iterator
-    × AddsUpTo l.directed l.fn.built l.built (flat_map (λ a. map (both_step n l.x l.y a) (chain_of l.second l.y)) l.arc-iterator) (both_steps_at l.first l.second l.directed l.x l.y)
+    ArcsLeft (order_of l.first) l.directed l.fn.built l.built (flat_map (λ a. map (both_step (order_of l.second) l.x l.y a) (chain_of l.second l.y)))
+    l.arc-iterator (both_steps_at l.first l.second l.directed l.x l.y)

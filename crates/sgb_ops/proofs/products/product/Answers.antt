@@ -5,17 +5,22 @@ use Rattle.std.proofs.lemmas.List.{length-map}
 use Rattle.sgb_vec.specs.Limits.{most_vertices}
 use Rattle.sgb_graph.specs.Descriptions.{IsGraphOf}
 use Rattle.sgb_graph.specs.Growth.{new_vertex}
+use Rattle.sgb_graph.specs.Sound.{arc_kinds}
 use Rattle.sgb_ops.specs.Operands.{order_of}
 use Rattle.sgb_ops.specs.Product.{has_too_many_pairs, names_of_pairs, product_events, product_graph, product_id, product_type}
 use Rattle.sgb_ops.proofs.Pairs.{length-names_of_pairs}
 use Rattle.sgb_ops.proofs.Results.{made}
 use Rattle.sgb_ops.proofs.products.product.Goals as goal
 
-pub add_steps-requires-clause-vertices : goal.add_steps-requires-clause-vertices
-add_steps-requires-clause-vertices c =
+pub add_steps-requires : goal.add_steps-requires
+add_steps-requires c =
     let g = c.args.first.now in
     let h = c.args.second.now in
-    ap (λ k. length k.vertices) c.in_ok-built.ensures.ok ∙ (length-map c.in_ok-names.names new_vertex ∙ (ap length c.in_ok-names.ensures.ok ∙ length-names_of_pairs g h))
+    let size : c.from.result * c.from-2.result ≡ order_of g * order_of h =
+    ap (λ a. a * c.from-2.result) (c.from.ensures ∙ c.n.ensures.count) ∙ ap (λ b. order_of g * b) (c.from-2.ensures ∙ c.n-2.ensures.count) in
+    let few : order_of g * order_of h ≤ most_vertices = omega (arith, size, c.if-from.false, c.from-3.ensures) in
+    let count = ap (λ k. length k.vertices) c.in_ok-built.ensures.ok ∙ (length-map c.in_ok-names.names new_vertex ∙ (ap length c.in_ok-names.ensures.ok ∙ length-names_of_pairs g h)) in
+    record { room = (few, count, ap (λ k. arc_kinds k.kinds) c.in_ok-built.ensures.ok) }
 
 pub returns : goal.returns
 returns c =

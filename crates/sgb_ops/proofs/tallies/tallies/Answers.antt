@@ -2,7 +2,7 @@ use Rattle.std.proofs.Common.{◌≡◌, ◌==◌, ◌≤◌, ◌+◌, ◌∙◌
 use Rattle.std.specs.Option.{option_map_or}
 use Rattle.std.proofs.lemmas.List.{take_more, length-take-le}
 use Rattle.indexmap.specs.IndexMap.{get}
-use Rattle.sgb_ops.specs.Tallies.{tally_to}
+use Rattle.sgb_ops.specs.inner.Tallies.{tally_to}
 use Rattle.sgb_ops.specs.declared.tallies.Tally.{Tally}
 use Rattle.sgb_ops.proofs.TallyLemmas.{no_arc, few_to, noted_more}
 use Rattle.sgb_ops.proofs.tallies.tallies.Goals as goal

@@ -1,6 +1,6 @@
 use Rattle.std.proofs.Common.{◌≡◌, ℕ, nat_eq, take}
 use Rattle.indexmap.specs.IndexMap.{get}
-use Rattle.sgb_ops.specs.Tallies.{tally_to}
+use Rattle.sgb_ops.specs.inner.Tallies.{tally_to}
 use Rattle.sgb_ops.proofs.tallies.tallies.Given as goal
 
 -- the arcs so far are noted

@@ -1,33 +1,20 @@
-use Rattle.std.proofs.Common.{◌∙◌, ◌≢◌, refl, true≢false, sym, ap, codes, arith, slice_index_or}
+use Rattle.std.proofs.Common.{◌∙◌, refl, true≢false, sym, codes}
 use Rattle.sgb_requests.proofs.EnteredCommands.{asks_alone, enters, has_expression, not_called}
 use Rattle.sgb_requests.proofs.arguments.entered_subcommand.Goals as goal
 
--- other names than `queen`, by their first letters
-names_apart : codes "names" ≢ codes "queen"
-names_apart e = omega (arith, ap (λ text. slice_index_or text 0 0) e)
-
-list_apart : codes "list" ≢ codes "queen"
-list_apart e = omega (arith, ap (λ text. slice_index_or text 0 0) e)
-
-save_apart : codes "save" ≢ codes "queen"
-save_apart e = omega (arith, ap (λ text. slice_index_or text 0 0) e)
-
-flip_apart : codes "flip" ≢ codes "queen"
-flip_apart e = omega (arith, ap (λ text. slice_index_or text 0 0) e)
-
 pub arguments_of-requires : goal.arguments_of-requires
 arguments_of-requires c =
-    has_expression _ _ _ _ names_apart c.in_ok-matches.ensures (c.in-Some.ensures.found.0 refl) c.in-Some.ensures.rows
+    has_expression _ _ (codes "names") _ refl c.in_ok-matches.ensures (c.in-Some.ensures.found.0 refl) c.in-Some.ensures.rows
 
 pub arguments_of-requires-in-Some-subcommand_matches : goal.arguments_of-requires-in-Some-subcommand_matches
 arguments_of-requires-in-Some-subcommand_matches c =
     let list = c.in-Some-subcommand_matches.ensures in
-    has_expression _ _ _ _ list_apart c.in_ok-matches.ensures (list.found.0 refl) list.rows
+    has_expression _ _ (codes "list") _ refl c.in_ok-matches.ensures (list.found.0 refl) list.rows
 
 pub expression_in-requires : goal.expression_in-requires
 expression_in-requires c =
     let save = c.in-Some-subcommand_matches-2.ensures in
-    has_expression _ _ _ _ save_apart c.in_ok-matches.ensures (save.found.0 refl) save.rows
+    has_expression _ _ (codes "save") _ refl c.in_ok-matches.ensures (save.found.0 refl) save.rows
 
 pub returns-in-Some-subcommand_matches-2 : goal.returns-in-Some-subcommand_matches-2
 returns-in-Some-subcommand_matches-2 c =
@@ -41,7 +28,7 @@ returns-then-is_some c =
 pub expression_in-requires-in-Some-subcommand_matches-3 : goal.expression_in-requires-in-Some-subcommand_matches-3
 expression_in-requires-in-Some-subcommand_matches-3 c =
     let flip = c.in-Some-subcommand_matches-3.ensures in
-    has_expression _ _ _ _ flip_apart c.in_ok-matches.ensures (flip.found.0 refl) flip.rows
+    has_expression _ _ (codes "flip") _ refl c.in_ok-matches.ensures (flip.found.0 refl) flip.rows
 
 pub returns-in-Some-subcommand_matches-3 : goal.returns-in-Some-subcommand_matches-3
 returns-in-Some-subcommand_matches-3 c =

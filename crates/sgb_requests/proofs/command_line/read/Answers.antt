@@ -3,7 +3,8 @@ use Rattle.std.proofs.Common.{subst}
 use Rattle.std.proofs.lemmas.Result.{err_from_is_err_and}
 use Rattle.clap.specs.Words.{Text}
 use Rattle.sgb_requests.specs.Reading.{IsReadAs, IsRefusedText}
-use Rattle.sgb_requests.specs.Requests.{AreRefused, GoTogether}
+use Rattle.sgb_requests.specs.Requests.{GoTogether}
+use Rattle.sgb_requests.specs.inner.Requests.{AreRefused}
 use Rattle.sgb_requests.specs.declared.faults.Fault.{Fault}
 use Rattle.sgb_requests.specs.declared.faults.Fault.TheVariants as fault
 use Rattle.sgb_requests.proofs.command_line.read.Goals as goal

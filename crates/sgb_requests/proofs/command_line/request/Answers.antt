@@ -2,9 +2,11 @@ use Rattle.std.proofs.Common.{List, Option, map, codes, refl, subst, inl, inr}
 use Rattle.std.proofs.lemmas.Result.{err_from_is_err_and}
 use Rattle.std.specs.String.{string_bytes}
 use Rattle.clap.specs.Words.{Text}
-use Rattle.sgb_requests.specs.CommandLine.{Asks, AsksAlone, EntersSubcommand, bytes_of}
+use Rattle.sgb_requests.specs.CommandLine.{Asks, AsksAlone}
+use Rattle.sgb_requests.specs.inner.CommandLine.{EntersSubcommand, bytes_of}
 use Rattle.sgb_requests.specs.Reading.{IsRefusedFlip, IsRefusedText}
-use Rattle.sgb_requests.specs.Requests.{AreRefused, IsRefusedCommandLine, TakesOptions}
+use Rattle.sgb_requests.specs.Requests.{IsRefusedCommandLine, TakesOptions}
+use Rattle.sgb_requests.specs.inner.Requests.{AreRefused}
 use Rattle.sgb_requests.specs.declared.faults.Fault.{Fault}
 use Rattle.sgb_requests.specs.declared.faults.Fault.TheVariants as fault
 use Rattle.sgb_requests.proofs.command_line.request.Goals as goal

@@ -1,7 +1,9 @@
 use Rattle.std.proofs.Common.{◌≡◌, ◌∙◌, ◌∷◌, length, drop, refl, ap, arith}
 use Rattle.std.proofs.lemmas.List.{drop-drop}
 use Rattle.sgb_vec.proofs.RangeSteps.{first_and_rest}
-use Rattle.sgb.specs.Locals.{arcs_among, links_of, vectors_of}
+use Rattle.sgb.specs.Locals.{vectors_of}
+use Rattle.sgb.specs.inner.Locals.{links_of}
+use Rattle.sgb.specs.inner.Locals.{arcs_among}
 use Rattle.sgb.proofs.writing.families.count_arcs.Goals as goal
 
 pub loop-v-preserved : goal.loop-v-preserved

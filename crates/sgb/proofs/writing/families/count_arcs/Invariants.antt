@@ -1,5 +1,6 @@
 use Rattle.std.proofs.Common.{◌≡◌, ◌≤◌, ◌+◌, ◌*◌, drop}
-use Rattle.sgb.specs.Locals.{arcs_among, vectors_of}
+use Rattle.sgb.specs.Locals.{vectors_of}
+use Rattle.sgb.specs.inner.Locals.{arcs_among}
 use Rattle.sgb.proofs.writing.families.count_arcs.Given as goal
 
 -- the arcs of the vectors that are still to come are left to count, and so many lists have fewer than 2^64 arcs each

@@ -1,14 +1,11 @@
 use Rattle.std.proofs.Common.{◌≡◌, ◌∙◌, ap, drop, option_map}
-use Rattle.std.proofs.lemmas.Result.{err_from_is_err_and}
 use Rattle.sgb.specs.Locals.{start_after, vectors_of}
-use Rattle.sgb.proofs.CutOff.{cut_more, written_after}
+use Rattle.sgb.proofs.CutOff.{cut_more, exit_cut, written_after}
 use Rattle.sgb.proofs.LocalListings.{blocks_of_rest}
 use Rattle.sgb.proofs.writing.families.list_vectors.Goals as goal
 
 pub returns-in_err-write_head_if : goal.returns-in_err-write_head_if
-returns-in_err-write_head_if g c =
-    let p = err_from_is_err_and c.from_residual.result c.from_residual.ensures.1 in
-    rw (p.1, p.2) (cut_more _ _ _ _ c.in_err-write_head_if.ensures)
+returns-in_err-write_head_if g c = exit_cut _ _ _ _ c.from_residual.ensures.1 (cut_more _ _ _ _ c.in_err-write_head_if.ensures)
 
 pub returns : goal.returns
 returns g c =

@@ -1,19 +1,14 @@
 use Rattle.std.proofs.Common.{◌≡◌, ◌∙◌, decimal, pos, sym}
-use Rattle.std.proofs.lemmas.Result.{err_from_is_err_and}
-use Rattle.sgb.proofs.CutOff.{cut_after, cut_more, written_after}
+use Rattle.sgb.proofs.CutOff.{cut_after, cut_more, exit_cut, written_after}
 use Rattle.sgb.proofs.LocalListings.{line-parts}
 use Rattle.sgb.proofs.writing.families.write_arc.Goals as goal
 
 pub returns-in_err-write_bytes : goal.returns-in_err-write_bytes
-returns-in_err-write_bytes g c =
-    let p = err_from_is_err_and c.from_residual.result c.from_residual.ensures.1 in
-    rw (p.1, p.2, line-parts c.args.tip.now (pos c.args.len)) (cut_more _ _ _ _ c.in_err-write_bytes.ensures)
+returns-in_err-write_bytes g c = rw (line-parts c.args.tip.now (pos c.args.len)) (exit_cut _ _ _ _ c.from_residual.ensures.1 (cut_more _ _ _ _ c.in_err-write_bytes.ensures))
 
 pub returns-in_err-write_name : goal.returns-in_err-write_name
-returns-in_err-write_name g c =
-    let p = err_from_is_err_and c.from_residual-in_err-write_name.result c.from_residual-in_err-write_name.ensures.1 in
-    rw (p.1, p.2, line-parts c.args.tip.now (pos c.args.len))
-    (cut_after _ _ _ _ _ _ _ c.in_ok-write_bytes.ensures.output (cut_more _ _ _ _ c.in_err-write_name.ensures))
+returns-in_err-write_name g c = rw (line-parts c.args.tip.now (pos c.args.len)) (exit_cut _ _ _ _ c.from_residual-in_err-write_name.ensures.1
+    (cut_after _ _ _ _ _ _ _ c.in_ok-write_bytes.ensures.output (cut_more _ _ _ _ c.in_err-write_name.ensures)))
 
 pub returns : goal.returns
 returns g c =

@@ -1,16 +1,13 @@
 use Rattle.std.proofs.Common.{◌≡◌, ◌∙◌, Some, pos, sym, ap}
 use Rattle.std.specs.List.{slice_get}
-use Rattle.std.proofs.lemmas.Result.{err_from_is_err_and}
 use Rattle.sgb_gen.specs.LocalLists.{LocalArc}
 use Rattle.sgb.proofs.LocalListings.{lines-first, local_block-parts}
 use Rattle.sgb_file.proofs.SoFar.{so_far-more, so_far-none}
-use Rattle.sgb.proofs.CutOff.{cut_more, so_far-cut}
+use Rattle.sgb.proofs.CutOff.{cut_more, exit_cut, so_far-cut}
 use Rattle.sgb.proofs.writing.families.write_block.Goals as goal
 
 pub returns-in_err-write_name_line : goal.returns-in_err-write_name_line
-returns-in_err-write_name_line g c =
-    let p = err_from_is_err_and c.from_residual-in_err-write_name_line.result c.from_residual-in_err-write_name_line.ensures.1 in
-    rw (p.1, p.2, local_block-parts c.args.local.now c.args.x.now _ c.in_ok-arcs_at.ensures.ok) (cut_more _ _ _ _ c.in_err-write_name_line.ensures)
+returns-in_err-write_name_line g c = rw (local_block-parts c.args.local.now c.args.x.now _ c.in_ok-arcs_at.ensures.ok) (exit_cut _ _ _ _ c.from_residual-in_err-write_name_line.ensures.1 (cut_more _ _ _ _ c.in_err-write_name_line.ensures))
 
 pub loop-i-init : goal.loop-i-init
 loop-i-init g c =
@@ -19,11 +16,10 @@ loop-i-init g c =
 
 pub returns-in_err-write_arc : goal.returns-in_err-write_arc
 returns-in_err-write_arc g c =
-    let p = err_from_is_err_and c.from_residual-in_err-write_arc.result c.from_residual-in_err-write_arc.ensures.1 in
     let arc : LocalArc = record { tip = c.link.inside.tip.now; len = pos c.link.inside.len } in
     let there : slice_get c.arcs_at.new.links.arcs c.loop-i.i ≡ Some arc = c.get-link.ensures ∙ ap Some (sym c.link.view_is) in
     let first = lines-first c.arcs_at.new.links.arcs c.loop-i.i arc there in
-    rw (p.1, p.2) (so_far-cut _ _ _ _ _ _ _ _ _ first c.loop-i.invariant.0 c.in_err-write_arc.ensures)
+    exit_cut _ _ _ _ c.from_residual-in_err-write_arc.ensures.1 (so_far-cut _ _ _ _ _ _ _ _ _ first c.loop-i.invariant.0 c.in_err-write_arc.ensures)
 
 pub loop-i-preserved : goal.loop-i-preserved
 loop-i-preserved g c =

@@ -1,6 +1,6 @@
 use Rattle.std.proofs.Common.{◌≡◌, false, drop}
 use Rattle.std.specs.List.{flat_map}
-use Rattle.sgb.specs.Locals.{local_block, local_line}
+use Rattle.sgb.specs.inner.Locals.{local_block, local_line}
 use Rattle.sgb_file.proofs.SoFar.{SoFar}
 use Rattle.sgb.proofs.writing.families.write_block.Given as goal
 

@@ -1,10 +1,9 @@
 use Rattle.std.proofs.Common.{◌≡◌, ◌++◌, drop, refl, ap, List, ℕ}
 use Rattle.std.specs.List.{flat_map}
-use Rattle.std.proofs.lemmas.Result.{err_from_is_err_and}
 use Rattle.sgb_vec.proofs.RangeSteps.{first_and_rest}
-use Rattle.sgb.specs.Locals.{local_block}
+use Rattle.sgb.specs.inner.Locals.{local_block}
 use Rattle.sgb_file.proofs.SoFar.{so_far-more}
-use Rattle.sgb.proofs.CutOff.{so_far-cut}
+use Rattle.sgb.proofs.CutOff.{exit_cut, so_far-cut}
 use Rattle.sgb.proofs.LocalListings.{first_of_rest, rest_of_rest}
 use Rattle.sgb.proofs.writing.families.write_blocks.Goals as goal
 
@@ -24,10 +23,9 @@ loop-x-preserved g c =
 
 pub returns-in_err-write_block : goal.returns-in_err-write_block
 returns-in_err-write_block g c =
-    let p = err_from_is_err_and c.from_residual.result c.from_residual.ensures.1 in
     let texts : List (List ℕ) → List ℕ = flat_map (local_block c.args.local.now) in
     let x = c.in-Some.x.now in
     let rest : List (List ℕ) = drop 1 c.loop-x.left in
     let first : texts c.loop-x.left ≡ local_block c.args.local.now x ++ texts rest =
     ap texts (first_and_rest c.loop-x.left rest x x c.in-Some.ensures.first refl refl) in
-    rw (p.1, p.2) (so_far-cut _ _ _ _ _ _ _ _ _ first c.loop-x.invariant.0 c.in_err-write_block.ensures)
+    exit_cut _ _ _ _ c.from_residual.ensures.1 (so_far-cut _ _ _ _ _ _ _ _ _ first c.loop-x.invariant.0 c.in_err-write_block.ensures)

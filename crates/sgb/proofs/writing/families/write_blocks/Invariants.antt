@@ -1,7 +1,8 @@
 use Rattle.std.proofs.Common.{◌≡◌, false, length}
 use Rattle.std.specs.List.{flat_map}
-use Rattle.sgb.specs.Locals.{local_block, vectors_of}
-use Rattle.sgb.specs.Remaining.{IsRest}
+use Rattle.sgb.specs.Locals.{vectors_of}
+use Rattle.sgb.specs.inner.Locals.{local_block}
+use Rattle.sgb.specs.inner.Remaining.{IsRest}
 use Rattle.sgb_file.proofs.SoFar.{SoFar}
 use Rattle.sgb.proofs.writing.families.write_blocks.Given as goal
 

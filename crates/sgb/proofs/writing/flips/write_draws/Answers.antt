@@ -1,10 +1,9 @@
 use Rattle.std.proofs.Common.{◌≡◌, ◌-◌, ◌+◌, ℕ, ℤ, w64, ap, subst, suc, arith, rules}
 use Rattle.std.proofs.lemmas.Int.{to_z-of_z}
-use Rattle.std.proofs.lemmas.Result.{err_from_is_err_and}
 use Rattle.sgb_graph.specs.Draws.{IsAtDraw, seed_of}
 use Rattle.sgb_file.proofs.SoFar.{so_far-all, so_far-more, so_far-none, so_far-same}
 use Rattle.sgb.specs.FlipAnswers.{drawn_from, number_lines}
-use Rattle.sgb.proofs.CutOff.{so_far-cut}
+use Rattle.sgb.proofs.CutOff.{exit_cut, so_far-cut}
 use Rattle.sgb.proofs.DrawnNumbers.{lines_first, lines_none}
 use Rattle.sgb.proofs.writing.flips.write_draws.Goals as goal
 
@@ -24,13 +23,12 @@ write_number-requires g c = c.loop-number.invariant.1
 
 pub returns-in_err-write_number : goal.returns-in_err-write_number
 returns-in_err-write_number g c =
-    let p = err_from_is_err_and c.from_residual.result c.from_residual.ensures.1 in
     let draws = c.args.draws in
     let stands = c.loop-number.invariant.0 in
     let next = c.next_number.ensures draws.start stands.0 stands.1 in
     let left : draws.count - c.loop-number._number ≡ suc (draws.count - (c.loop-number._number + 1)) = omega (arith, c.loop-number-test.true) in
     let first = lines_first (seed_of draws.start) draws.m stands.0 next.0 c.next_number.result _ _ left next.2 in
-    rw (p.1, p.2) (so_far-cut _ _ _ _ _ _ _ _ _ first stands.2 c.in_err-write_number.ensures)
+    exit_cut _ _ _ _ c.from_residual.ensures.1 (so_far-cut _ _ _ _ _ _ _ _ _ first stands.2 c.in_err-write_number.ensures)
 
 pub loop-number-preserved : goal.loop-number-preserved
 loop-number-preserved g c =

@@ -2,12 +2,11 @@ use Rattle.std.proofs.Common.{◌≡◌, ◌<◌, ◌∙◌, List, [], ◌∷◌
 use Rattle.std.specs.Iterator.{YieldsFirst}
 use Rattle.std.specs.List.{All, flat_map}
 use Rattle.std.proofs.lemmas.List.Elements.{All-tail}
-use Rattle.std.proofs.lemmas.Result.{err_from_is_err_and}
 use Rattle.sgb_graph.specs.declared.fields.Link.{Link}
 use Rattle.sgb.specs.Texts.{arc_line}
 use Rattle.sgb.proofs.Listings.{block-parts}
 use Rattle.sgb_file.proofs.SoFar.{so_far-all, so_far-more, so_far-none}
-use Rattle.sgb.proofs.CutOff.{cut_more, so_far-cut}
+use Rattle.sgb.proofs.CutOff.{cut_more, exit_cut, so_far-cut}
 use Rattle.sgb.proofs.writing.listing.write_block.Goals as goal
 
 -- what the walk over arcs gives
@@ -19,9 +18,8 @@ step_none s u r e h = (subst (λ o. YieldsFirst (λ x. x) s o u) e h).0
 
 pub returns-in_err-write_name_line : goal.returns-in_err-write_name_line
 returns-in_err-write_name_line g c =
-    let p = err_from_is_err_and c.from_residual.result c.from_residual.ensures.1 in
     let parts = block-parts c.args.graph.now c.args.v _ refl in
-    rw (p.1, p.2, parts) (cut_more _ _ _ _ c.in_err-write_name_line.ensures)
+    rw parts (exit_cut _ _ _ _ c.from_residual.ensures.1 (cut_more _ _ _ _ c.in_err-write_name_line.ensures))
 
 pub loop-link-init : goal.loop-link-init
 loop-link-init g c =
@@ -34,10 +32,9 @@ loop-link-init g c =
 
 pub returns-in_err-write_arc : goal.returns-in_err-write_arc
 returns-in_err-write_arc g c =
-    let p = err_from_is_err_and c.from_residual-in_err-write_arc.result c.from_residual-in_err-write_arc.ensures.1 in
     let names = map (λ v. v.name) c.args.graph.now.vertices in
     let step = step_some c.loop-link.link-iterator c.next.new.self c.next.result c.in-Some.link c.in-Some.is c.next.ensures.steps in
-    rw (p.1, p.2) (so_far-cut _ _ _ _ _ _ _ _ _ (ap (flat_map (arc_line names)) step) c.loop-link.invariant.0 c.in_err-write_arc.ensures)
+    exit_cut _ _ _ _ c.from_residual-in_err-write_arc.ensures.1 (so_far-cut _ _ _ _ _ _ _ _ _ (ap (flat_map (arc_line names)) step) c.loop-link.invariant.0 c.in_err-write_arc.ensures)
 
 pub loop-link-preserved : goal.loop-link-preserved
 loop-link-preserved g c =

@@ -1,25 +1,22 @@
-use Rattle.std.proofs.Common.{◌++◌, ℕ, inl}
-use Rattle.std.proofs.lemmas.Result.{err_from_is_err_and}
+use Rattle.std.proofs.Common.{◌++◌, ℕ}
 use Rattle.sgb_ops.specs.Operands.{names_of}
 use Rattle.sgb.specs.Outcomes.{head_for, left_out}
 use Rattle.sgb.specs.Texts.{blocks, head}
-use Rattle.sgb.proofs.Endings.{ended_after, refused_after}
+use Rattle.sgb.proofs.Endings.{ended_after, exit_ended, refused_after}
 use Rattle.sgb.proofs.CutOff.{cut_more, written_after}
 use Rattle.sgb.proofs.writing.listing.write_listing.Goals as goal
 
 pub returns-in_err-from : goal.returns-in_err-from
 returns-in_err-from g c =
-    let p = err_from_is_err_and c.from_residual.result c.from_residual.ensures.1 in
     let graph = c.args.graph.now in
     let text = λ (k : ℕ). head_for c.args.resume.now (head graph) ++ blocks graph k in
-    rw (p.1, p.2) (refused_after _ (left_out (names_of graph) c.args.resume.now) text _ _ _ (inl c.in_err-from.ensures) c.requires)
+    exit_ended _ _ _ _ c.from_residual.ensures.1 (refused_after _ (left_out (names_of graph) c.args.resume.now) text _ _ _ c.in_err-from.ensures c.requires)
 
 pub returns-in_err-write_head_for : goal.returns-in_err-write_head_for
 returns-in_err-write_head_for g c =
-    let p = err_from_is_err_and c.from_residual-in_err-write_head_for.result c.from_residual-in_err-write_head_for.ensures.1 in
     let graph = c.args.graph.now in
     let text = λ (k : ℕ). head_for c.args.resume.now (head graph) ++ blocks graph k in
-    rw (p.1, p.2) (ended_after (left_out (names_of graph) c.args.resume.now) _ text _ _ c.in_ok-from.ensures (cut_more _ _ _ _ c.in_err-write_head_for.ensures))
+    exit_ended _ _ _ _ c.from_residual-in_err-write_head_for.ensures.1 (ended_after (left_out (names_of graph) c.args.resume.now) _ text _ _ c.in_ok-from.ensures (cut_more _ _ _ _ c.in_err-write_head_for.ensures))
 
 pub returns : goal.returns
 returns g c =

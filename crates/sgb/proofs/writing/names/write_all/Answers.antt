@@ -1,11 +1,10 @@
 use Rattle.std.proofs.Common.{◌≡◌, ◌++◌, drop, map, refl, ap, List, ℕ}
 use Rattle.std.specs.List.{flat_map}
-use Rattle.std.proofs.lemmas.Result.{err_from_is_err_and}
 use Rattle.sgb_vec.specs.Names.{name_of_vector}
 use Rattle.sgb_vec.proofs.RangeSteps.{first_and_rest}
 use Rattle.sgb.specs.Texts.{name_line}
 use Rattle.sgb_file.proofs.SoFar.{so_far-more}
-use Rattle.sgb.proofs.CutOff.{so_far-cut}
+use Rattle.sgb.proofs.CutOff.{exit_cut, so_far-cut}
 use Rattle.sgb.proofs.writing.names.write_all.Goals as goal
 
 pub loop-vector-preserved : goal.loop-vector-preserved
@@ -18,10 +17,9 @@ loop-vector-preserved g c =
 
 pub returns-in_err-write_name_line : goal.returns-in_err-write_name_line
 returns-in_err-write_name_line g c =
-    let p = err_from_is_err_and c.from_residual.result c.from_residual.ensures.1 in
     let lines : List (List ℕ) → List ℕ = λ vectors. flat_map name_line (map name_of_vector vectors) in
     let v = c.in-Some.vector.now in
     let rest : List (List ℕ) = drop 1 c.loop-vector.left in
     let first : lines c.loop-vector.left ≡ name_line (name_of_vector v) ++ lines rest =
     ap lines (first_and_rest c.loop-vector.left rest v v c.in-Some.ensures.first refl refl) in
-    rw (p.1, p.2) (so_far-cut _ _ _ _ _ _ _ _ _ first c.loop-vector.invariant.0 c.in_err-write_name_line.ensures)
+    exit_cut _ _ _ _ c.from_residual.ensures.1 (so_far-cut _ _ _ _ _ _ _ _ _ first c.loop-vector.invariant.0 c.in_err-write_name_line.ensures)

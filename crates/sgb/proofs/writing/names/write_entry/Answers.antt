@@ -1,13 +1,10 @@
 use Rattle.std.proofs.Common.{◌≡◌, ◌∙◌, ◌∷◌, [], decimal, sym}
-use Rattle.std.proofs.lemmas.Result.{err_from_is_err_and}
-use Rattle.sgb.proofs.CutOff.{cut_more, written_after}
+use Rattle.sgb.proofs.CutOff.{cut_more, exit_cut, written_after}
 use Rattle.sgb.proofs.writing.names.write_entry.Goals as goal
 use Rattle.sgb.proofs.writing.names.write_entry.Goals.{then-dotted+in_ok-write_bytes, else-dotted}
 
 pub returns-in_err-write_bytes : goal.returns-in_err-write_bytes
-returns-in_err-write_bytes g c =
-    let p = err_from_is_err_and c.from_residual.result c.from_residual.ensures.1 in
-    rw (p.1, p.2, c.if-dotted.true) (cut_more (46 ∷ []) (decimal c.args.entry) _ _ c.in_err-write_bytes.ensures)
+returns-in_err-write_bytes g c = rw c.if-dotted.true (exit_cut _ _ _ _ c.from_residual.ensures.1 (cut_more (46 ∷ []) (decimal c.args.entry) _ _ c.in_err-write_bytes.ensures))
 
 -- what was written last is the number's digits
 pub returns : goal.returns

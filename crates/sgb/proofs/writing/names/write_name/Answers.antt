@@ -1,10 +1,9 @@
 use Rattle.std.proofs.Common.{◌≡◌, ◌+◌, ◌++◌, ◌∙◌, true, nat_lt, drop, get_or, ap, sym, arith}
 use Rattle.std.proofs.lemmas.Bool.Decides.{nat_tests}
-use Rattle.std.proofs.lemmas.Result.{err_from_is_err_and}
-use Rattle.sgb.specs.Texts.{entry_text}
+use Rattle.sgb.specs.inner.Texts.{entry_text}
 use Rattle.sgb.proofs.NameEntries.{entries-first, entries-none, entries_text, name-entries}
 use Rattle.sgb_file.proofs.SoFar.{so_far-all, so_far-more, so_far-none, so_far-same}
-use Rattle.sgb.proofs.CutOff.{so_far-cut}
+use Rattle.sgb.proofs.CutOff.{exit_cut, so_far-cut}
 use Rattle.sgb.proofs.writing.names.write_name.Goals as goal
 
 pub loop-place-init : goal.loop-place-init
@@ -12,11 +11,10 @@ loop-place-init g c = (so_far-same _ _ _ _ _ (name-entries c.args.vector.now) (s
 
 pub returns-in_err-write_entry : goal.returns-in_err-write_entry
 returns-in_err-write_entry g c =
-    let p = err_from_is_err_and c.from_residual.result c.from_residual.ensures.1 in
     let k = c.loop-place.place in
     let v = c.args.vector.now in
     let first = entries-first (nat_lt 0 k) v k (omega arith) in
-    rw (p.1, p.2) (so_far-cut _ _ _ _ _ _ _ _ _ first c.loop-place.invariant.0 c.in_err-write_entry.ensures)
+    exit_cut _ _ _ _ c.from_residual.ensures.1 (so_far-cut _ _ _ _ _ _ _ _ _ first c.loop-place.invariant.0 c.in_err-write_entry.ensures)
 
 pub loop-place-preserved : goal.loop-place-preserved
 loop-place-preserved g c =

@@ -1,17 +1,15 @@
-use Rattle.std.proofs.Common.{map, inl, sym}
-use Rattle.std.proofs.lemmas.Result.{err_from_is_err_and}
+use Rattle.std.proofs.Common.{map, sym}
 use Rattle.sgb_vec.specs.Names.{name_of_vector}
 use Rattle.sgb.specs.Outcomes.{left_out}
 use Rattle.sgb.specs.Texts.{name_lines}
-use Rattle.sgb.proofs.Endings.{ended_after, refused_after}
+use Rattle.sgb.proofs.Endings.{ended_after, exit_ended, refused_after}
 use Rattle.sgb.proofs.NamedMembers.{lines_of_rest}
 use Rattle.sgb.proofs.writing.names.write_names.Goals as goal
 
 pub returns-in_err-vectors : goal.returns-in_err-vectors
 returns-in_err-vectors g c =
-    let p = err_from_is_err_and c.from_residual.result c.from_residual.ensures.1 in
     let names = map name_of_vector (g.F.Family.members c.args.family.now) in
-    rw (p.1, p.2) (refused_after _ (left_out names c.args.resume.now) (name_lines names) _ _ _ (inl (sym c.in_err-vectors.ensures)) c.requires)
+    exit_ended _ _ _ _ c.from_residual.ensures.1 (refused_after _ (left_out names c.args.resume.now) (name_lines names) _ _ _ (sym c.in_err-vectors.ensures) c.requires)
 
 pub returns : goal.returns
 returns g c =

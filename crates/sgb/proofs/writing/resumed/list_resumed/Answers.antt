@@ -1,4 +1,4 @@
-use Rattle.std.proofs.Common.{◌≡◌, ◌∙◌, ℕ, List, Some, None, ap, map, sym, inl}
+use Rattle.std.proofs.Common.{◌≡◌, ◌∙◌, ℕ, List, Some, None, ap, map, sym}
 use Rattle.sgb_graph.specs.Made.{graph_described}
 use Rattle.sgb_vec.specs.Names.{name_of_vector}
 use Rattle.sgb_gen.specs.VectorGraphs.{vertex_among}
@@ -35,4 +35,4 @@ returns-in-None g c =
     let none : vertex_named name (map name_of_vector members) ≡ None =
     ap (λ (text : List ℕ). vertex_named text (map name_of_vector members)) (sym c.bytes.ensures) ∙ c.in-None.ensures in
     rw c.in-After.is
-    (refused_after _ (left_out (names_of graph) (resume.After name)) (λ (k : ℕ). blocks graph k) _ _ _ (inl (sym (starts_nowhere l members name c.requires.members none))) c.requires.sound)
+    (refused_after _ (left_out (names_of graph) (resume.After name)) (λ (k : ℕ). blocks graph k) _ _ _ (sym (starts_nowhere l members name c.requires.members none)) c.requires.sound)

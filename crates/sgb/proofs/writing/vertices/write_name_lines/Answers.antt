@@ -1,11 +1,10 @@
 use Rattle.std.proofs.Common.{◌≡◌, ◌≤◌, ◌<◌, ◌∙◌, min, sym, ap, length, arith}
 use Rattle.std.proofs.lemmas.List.{length-map}
-use Rattle.std.proofs.lemmas.Result.{err_from_is_err_and}
 use Rattle.sgb_ops.specs.Operands.{names_of}
 use Rattle.sgb.specs.Texts.{name_lines}
 use Rattle.sgb.proofs.Listings.{name_lines-first, name_lines-min, name_lines-none}
 use Rattle.sgb_file.proofs.SoFar.{so_far-all, so_far-more, so_far-none, so_far-same}
-use Rattle.sgb.proofs.CutOff.{so_far-cut}
+use Rattle.sgb.proofs.CutOff.{exit_cut, so_far-cut}
 use Rattle.sgb.proofs.writing.vertices.write_name_lines.Goals as goal
 
 pub loop-v-init : goal.loop-v-init
@@ -18,10 +17,9 @@ loop-v-init g c =
 
 pub returns-in_err-write_name_line : goal.returns-in_err-write_name_line
 returns-in_err-write_name_line g c =
-    let p = err_from_is_err_and c.from_residual.result c.from_residual.ensures.1 in
     let graph = c.args.graph.now in
     let within : c.loop-v.v < length (names_of graph) = omega (arith, length-map c.args.graph.now.vertices (λ v. v.name), c.n-end.ensures.count) in
-    rw (p.1, p.2) (so_far-cut _ _ _ _ _ _ _ _ _ (name_lines-first (names_of graph) c.loop-v.v within) c.loop-v.invariant.0 c.in_err-write_name_line.ensures)
+    exit_cut _ _ _ _ c.from_residual.ensures.1 (so_far-cut _ _ _ _ _ _ _ _ _ (name_lines-first (names_of graph) c.loop-v.v within) c.loop-v.invariant.0 c.in_err-write_name_line.ensures)
 
 pub loop-v-preserved : goal.loop-v-preserved
 loop-v-preserved g c =

@@ -1,5 +1,5 @@
 use Rattle.std.proofs.Common.{sym, ap, ◌∙◌, option_map}
-use Rattle.sgb_file.specs.LinesLeft.{lines_passed}
+use Rattle.sgb_file.specs.inner.LinesLeft.{lines_passed}
 use Rattle.sgb_file.proofs.Endings.{closes_none, closes_by}
 use Rattle.sgb_file.proofs.reading.closings.closes.Goals as goal
 

@@ -1,7 +1,7 @@
 use Rattle.std.proofs.Common.{ap, sym, ◌∙◌, drop, length}
 use Rattle.sgb_file.specs.FileLines.{text_of_lines}
 use Rattle.sgb_file.specs.Fields.{plain_text}
-use Rattle.sgb_file.specs.LinesLeft.{text_left}
+use Rattle.sgb_file.specs.inner.LinesLeft.{text_left}
 use Rattle.sgb_file.proofs.LeftTexts.{under_way, skipped_left, plain_of_line, before_comma_short}
 use Rattle.sgb_file.proofs.reading.fields.take_plain.Goals as goal
 

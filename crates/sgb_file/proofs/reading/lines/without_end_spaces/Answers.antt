@@ -1,7 +1,7 @@
 use Rattle.std.proofs.Common.{◌∙◌, sym, ◌≡◌, length, ◌-◌, ◌==◌, false, slice_index, arith}
 use Rattle.std.proofs.lemmas.Bool.Decides.{nat_tests}
-use Rattle.sgb_file.proofs.LineLemmas.{stays_clean}
-use Rattle.sgb_file.proofs.LinesLeftLemmas.{clean-last, ends_well-at, clean_nothing, no_bytes, some_bytes}
+use Rattle.sgb_file.proofs.LineLemmas.{no_bytes, stays_clean}
+use Rattle.sgb_file.proofs.LinesLeftLemmas.{clean-last, ends_well-at, clean_nothing, some_bytes}
 use Rattle.sgb_file.proofs.reading.lines.without_end_spaces.Goals as goal
 
 pub loop-line-preserved : goal.loop-line-preserved

@@ -1,7 +1,7 @@
 use Rattle.std.proofs.Common.{sym, ap, ◌∙◌, Some}
 use Rattle.sgb_file.specs.FileLines.{clean_lines}
+use Rattle.sgb_file.proofs.LineLemmas.{no_bytes}
 use Rattle.sgb_file.proofs.Endings.{opens_here, opens_later, opens_not, opens_nothing}
-use Rattle.sgb_file.proofs.LinesLeftLemmas.{no_bytes}
 use Rattle.sgb_file.proofs.reading.openings.opening.Goals as goal
 
 pub returns-in-Some-clause-head : goal.returns-in-Some-clause-head

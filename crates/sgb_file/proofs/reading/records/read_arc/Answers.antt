@@ -1,7 +1,7 @@
 use Rattle.std.proofs.Common.{rules}
 use Rattle.sgb_graph.specs.declared.fields.Kind.TheVariants.{Z}
 use Rattle.sgb_file.proofs.FoundSteps.{arc_steps, two_kinds}
-use Rattle.sgb_file.specs.LinesLeft.{text_left}
+use Rattle.sgb_file.specs.inner.LinesLeft.{text_left}
 use Rattle.sgb_file.proofs.reading.records.read_arc.Goals as goal
 
 pub returns-in_err-pass_comma-clause-found : goal.returns-in_err-pass_comma-clause-found

@@ -1,6 +1,6 @@
 use Rattle.std.proofs.Common.{arith, refl, take, ◌∙◌, length-set}
 use Rattle.std.proofs.lemmas.Result.{err_from_is_err_and}
-use Rattle.sgb_file.specs.LinesLeft.{text_left}
+use Rattle.sgb_file.specs.inner.LinesLeft.{text_left}
 use Rattle.sgb_file.specs.Records.{more_fields_at}
 use Rattle.sgb_file.proofs.FoundSteps.{field_stops, field_read, end_stops, end_read}
 use Rattle.sgb_file.proofs.reading.records.read_fields.Goals as goal

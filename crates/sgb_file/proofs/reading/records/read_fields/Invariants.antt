@@ -1,5 +1,5 @@
 use Rattle.std.proofs.Common.{◌≡◌, length, take, drop}
-use Rattle.sgb_file.specs.LinesLeft.{text_left}
+use Rattle.sgb_file.specs.inner.LinesLeft.{text_left}
 use Rattle.sgb_file.specs.Records.{more_fields_at}
 use Rattle.sgb_file.proofs.FoundSteps.{with_first}
 use Rattle.sgb_file.proofs.reading.records.read_fields.Given as goal

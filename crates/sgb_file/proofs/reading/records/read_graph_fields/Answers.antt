@@ -1,8 +1,8 @@
 use Rattle.std.proofs.Common.{◌-◌, List, drop, length, rules, subst, take}
 use Rattle.std.proofs.lemmas.List.{take_rest}
 use Rattle.sgb_graph.specs.declared.fields.Kind.{Kind}
-use Rattle.sgb_file.specs.Found.{IsFoundBy}
-use Rattle.sgb_file.specs.LinesLeft.{text_left}
+use Rattle.sgb_file.specs.inner.Found.{IsFoundBy}
+use Rattle.sgb_file.specs.inner.LinesLeft.{text_left}
 use Rattle.sgb_file.specs.Records.{more_fields_at}
 use Rattle.sgb_file.proofs.reading.records.read_graph_fields.Goals as goal
 

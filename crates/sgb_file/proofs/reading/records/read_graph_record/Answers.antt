@@ -1,6 +1,6 @@
 use Rattle.std.proofs.Common.{◌≡◌, [], arith, rules}
 use Rattle.sgb_graph.specs.Growth.{graph_data}
-use Rattle.sgb_file.specs.LinesLeft.{text_left}
+use Rattle.sgb_file.specs.inner.LinesLeft.{text_left}
 use Rattle.sgb_file.proofs.FoundSteps.{graph_found}
 use Rattle.sgb_file.proofs.reading.records.read_graph_record.Goals as goal
 

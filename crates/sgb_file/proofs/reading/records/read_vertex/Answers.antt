@@ -1,6 +1,6 @@
 use Rattle.std.proofs.Common.{rules}
 use Rattle.sgb_file.proofs.FoundSteps.{vertex_steps}
-use Rattle.sgb_file.specs.LinesLeft.{text_left}
+use Rattle.sgb_file.specs.inner.LinesLeft.{text_left}
 use Rattle.sgb_file.proofs.reading.records.read_vertex.Goals as goal
 
 pub returns-in_err-pass_comma-clause-found : goal.returns-in_err-pass_comma-clause-found

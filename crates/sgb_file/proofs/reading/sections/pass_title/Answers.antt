@@ -1,5 +1,5 @@
 use Rattle.std.proofs.Common.{◌≡◌, ◌∙◌, sym, ap, option_map, rules}
-use Rattle.sgb_file.specs.LinesLeft.{text_left, next_begun}
+use Rattle.sgb_file.specs.inner.LinesLeft.{text_left, next_begun}
 use Rattle.sgb_file.proofs.LeftTexts.{next_left}
 use Rattle.sgb_file.proofs.Sections.{title_passed, title_missed}
 use Rattle.sgb_file.proofs.reading.sections.pass_title.Goals as goal

@@ -1,7 +1,7 @@
 use Rattle.std.proofs.Common.{sym, ap, ◌∙◌, ◌-◌, ◌<◌, arith}
 use Rattle.std.proofs.lemmas.Result.{err_from_is_err_and}
-use Rattle.sgb_file.specs.LinesLeft.{text_left}
-use Rattle.sgb_file.specs.Reading.{with_records}
+use Rattle.sgb_file.specs.inner.LinesLeft.{text_left}
+use Rattle.sgb_file.specs.inner.Reading.{with_records}
 use Rattle.sgb_file.specs.Records.{arc_record_at}
 use Rattle.sgb_file.proofs.Sections.{next_arc, next_stops, arcs_read}
 use Rattle.sgb_file.proofs.reading.sections.read_arcs.Goals as goal

@@ -1,6 +1,6 @@
 use Rattle.std.proofs.Common.{◌≡◌, ◌≤◌, ◌-◌}
-use Rattle.sgb_file.specs.LinesLeft.{text_left}
-use Rattle.sgb_file.specs.Reading.{arcs_at}
+use Rattle.sgb_file.specs.inner.LinesLeft.{text_left}
+use Rattle.sgb_file.specs.inner.Reading.{arcs_at}
 use Rattle.sgb_file.proofs.reading.sections.read_arcs.Given as goal
 
 -- with the arc records that are left the parts are as with all

@@ -1,6 +1,6 @@
 use Rattle.std.proofs.Common.{sym, subst}
-use Rattle.sgb_file.specs.Found.{IsFoundBy}
-use Rattle.sgb_file.specs.LinesLeft.{text_left}
+use Rattle.sgb_file.specs.inner.Found.{IsFoundBy}
+use Rattle.sgb_file.specs.inner.LinesLeft.{text_left}
 use Rattle.sgb_file.proofs.Sections.{records_whole}
 use Rattle.sgb_file.proofs.reading.sections.read_records.Goals as goal
 

@@ -1,7 +1,7 @@
 use Rattle.std.proofs.Common.{sym, ap, ◌∙◌, ◌-◌, ◌<◌, arith}
 use Rattle.std.proofs.lemmas.Result.{err_from_is_err_and}
-use Rattle.sgb_file.specs.LinesLeft.{text_left}
-use Rattle.sgb_file.specs.Reading.{with_vertices}
+use Rattle.sgb_file.specs.inner.LinesLeft.{text_left}
+use Rattle.sgb_file.specs.inner.Reading.{with_vertices}
 use Rattle.sgb_file.specs.Records.{vertex_record_at}
 use Rattle.sgb_file.proofs.Sections.{next_vertex, next_stops, vertices_read}
 use Rattle.sgb_file.proofs.reading.sections.read_vertices.Goals as goal

@@ -1,6 +1,6 @@
 use Rattle.std.proofs.Common.{◌≡◌, ◌≤◌, ◌-◌}
-use Rattle.sgb_file.specs.LinesLeft.{text_left}
-use Rattle.sgb_file.specs.Reading.{vertices_at}
+use Rattle.sgb_file.specs.inner.LinesLeft.{text_left}
+use Rattle.sgb_file.specs.inner.Reading.{vertices_at}
 use Rattle.sgb_file.proofs.reading.sections.read_vertices.Given as goal
 
 -- with the vertices that are left the parts are as with all

@@ -1,7 +1,7 @@
 use Rattle.std.proofs.Common.{[], ◌≡◌, rules, ◌∙◌, sym, ap, refl, List, ℕ}
 use Rattle.std.proofs.lemmas.Result.{err_from_is_err_and}
-use Rattle.sgb_file.specs.Found.{string_before}
-use Rattle.sgb_file.specs.LinesLeft.{text_left}
+use Rattle.sgb_file.specs.inner.Found.{string_before}
+use Rattle.sgb_file.specs.inner.LinesLeft.{text_left}
 use Rattle.sgb_file.proofs.FoundSteps.{passing_stopped}
 use Rattle.sgb_file.proofs.StringReading.{opened, not_opened, one_part, several_parts, several_none}
 use Rattle.sgb_file.proofs.reading.strings.read_bytes.Goals as goal

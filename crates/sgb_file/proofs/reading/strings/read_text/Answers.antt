@@ -1,7 +1,7 @@
 use Rattle.std.proofs.Common.{arith}
 use Rattle.std.proofs.lemmas.Result.{err_from_is_err_and}
 use Rattle.sgb_vec.specs.Limits.{most_bytes}
-use Rattle.sgb_file.specs.LinesLeft.{text_left}
+use Rattle.sgb_file.specs.inner.LinesLeft.{text_left}
 use Rattle.sgb_file.proofs.StringReading.{text_found}
 use Rattle.sgb_file.proofs.reading.strings.read_text.Goals as goal
 

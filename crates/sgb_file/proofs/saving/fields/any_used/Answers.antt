@@ -1,7 +1,7 @@
 use Rattle.std.proofs.Common.{◌∙◌, ◌+◌, sym, ap, refl, drop, arith}
 use Rattle.std.proofs.lemmas.List.{drop_all}
 use Rattle.sgb_graph.specs.Columns.{util_seen}
-use Rattle.sgb_file.specs.Layouts.{has_any}
+use Rattle.sgb_file.specs.inner.Layouts.{has_any}
 use Rattle.sgb_file.specs.Saving.{field_texts}
 use Rattle.sgb_file.proofs.FieldTexts.{texts_of, texts-from, any-here, any-later}
 use Rattle.sgb_file.proofs.saving.fields.any_used.Goals as goal

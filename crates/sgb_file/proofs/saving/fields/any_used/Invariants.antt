@@ -1,5 +1,5 @@
 use Rattle.std.proofs.Common.{◌≡◌, drop}
-use Rattle.sgb_file.specs.Layouts.{has_any}
+use Rattle.sgb_file.specs.inner.Layouts.{has_any}
 use Rattle.sgb_file.proofs.FieldTexts.{texts_of}
 use Rattle.sgb_file.proofs.saving.fields.any_used.Given as goal
 

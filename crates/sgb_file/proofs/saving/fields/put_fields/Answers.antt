@@ -1,6 +1,6 @@
 use Rattle.std.proofs.Common.{arith, ap, ◌∙◌, ◌+◌}
 use Rattle.std.proofs.lemmas.List.{take_rest}
-use Rattle.sgb_file.specs.Layouts.{has_any}
+use Rattle.sgb_file.specs.inner.Layouts.{has_any}
 use Rattle.std.proofs.lemmas.Result.{err_from_is_err_and}
 use Rattle.sgb_file.proofs.FieldTexts.{texts_of, fields-more, fields-cut, fields-end}
 use Rattle.sgb_file.proofs.LaidLines.{lines-none}

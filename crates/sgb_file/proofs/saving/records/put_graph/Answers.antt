@@ -1,7 +1,7 @@
 use Rattle.std.proofs.Common.{◌∙◌, ◌∷◌, ap, refl, true, decimal, length, subst}
 use Rattle.std.specs.List.{flat_map}
 use Rattle.std.proofs.lemmas.Result.{err_from_is_err_and}
-use Rattle.sgb_file.specs.Layouts.{AreLaidOut, has_any, stage}
+use Rattle.sgb_file.specs.inner.Layouts.{AreLaidOut, has_any, stage}
 use Rattle.sgb_file.specs.Saving.{field_texts, quoted}
 use Rattle.sgb_file.proofs.FieldTexts.{record-cut, record-then, record-stopped}
 use Rattle.sgb_file.proofs.saving.records.put_graph.Goals as goal
@@ -39,8 +39,8 @@ returns g c =
     let id = ap quoted (c.bytes.ensures.value ∙ c.id.ensures) in
     let n = ap decimal (c.from.ensures ∙ c.n.ensures.count) in
     let more = c.any_used.ensures ∙ ap (λ us. has_any (flat_map field_texts us)) c.graph_fields-fields.ensures in
-    let a = stage (g.W.Sink.written c.put_number-2.new.sink) (g.W.Sink.has_failed c.put_number-2.new.sink) c.put_number-2.new.layout in
-    let b = stage (g.W.Sink.written c.put_fields.new.sink) (g.W.Sink.has_failed c.put_fields.new.sink) c.put_fields.new.layout in
+    let a = stage g.W.Sink.written g.W.Sink.has_failed c.put_number-2.new.sink c.put_number-2.new.layout in
+    let b = stage g.W.Sink.written g.W.Sink.has_failed c.put_fields.new.sink c.put_fields.new.layout in
     record-then (quoted v.id) _ (decimal (length v.vertices) ∷ decimal v.m ∷ flat_map field_texts v.util) true _ _ _ _ id refl c.in_ok-put_string.ensures
     (record-then (decimal (length v.vertices)) _ (decimal v.m ∷ flat_map field_texts v.util) true _ _ _ _ n refl c.in_ok-put_number.ensures
     (record-then (decimal v.m) _ (flat_map field_texts v.util) _ _ a b _ (ap decimal c.m.ensures) more c.in_ok-put_number-2.ensures

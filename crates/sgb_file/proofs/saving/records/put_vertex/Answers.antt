@@ -1,8 +1,8 @@
-use Rattle.std.proofs.Common.{◌∙◌, ◌∷◌, ap, refl, subst, true}
+use Rattle.std.proofs.Common.{◌∷◌, ap, refl, true}
 use Rattle.std.specs.List.{flat_map}
 use Rattle.std.proofs.lemmas.Result.{err_from_is_err_and}
 use Rattle.sgb_graph.specs.Columns.{vertex_seen}
-use Rattle.sgb_file.specs.Layouts.{AreLaidOut, has_any, stage}
+use Rattle.sgb_file.specs.inner.Layouts.{stage}
 use Rattle.sgb_file.specs.Saving.{field_texts, quoted, record_number_text}
 use Rattle.sgb_file.proofs.FieldTexts.{record-cut, record-then, record-stopped}
 use Rattle.sgb_file.proofs.saving.records.put_vertex.Goals as goal
@@ -25,8 +25,8 @@ pub returns : goal.returns
 returns g c =
     let v = vertex_seen c.args.vertex in
     let more = c.any_used.ensures in
-    let a = stage (g.W.Sink.written c.put_record_number.new.sink) (g.W.Sink.has_failed c.put_record_number.new.sink) c.put_record_number.new.layout in
-    let b = stage (g.W.Sink.written c.put_fields.new.sink) (g.W.Sink.has_failed c.put_fields.new.sink) c.put_fields.new.layout in
+    let a = stage g.W.Sink.written g.W.Sink.has_failed c.put_record_number.new.sink c.put_record_number.new.layout in
+    let b = stage g.W.Sink.written g.W.Sink.has_failed c.put_fields.new.sink c.put_fields.new.layout in
     record-then (quoted v.name) _ (record_number_text v.arcs ∷ flat_map field_texts v.util) true _ _ _ _ (ap quoted c.bytes.ensures.value) refl c.in_ok-put_string.ensures
     (record-then (record_number_text v.arcs) _ (flat_map field_texts v.util) _ _ a b _ refl more c.in_ok-put_record_number.ensures
     c.put_fields.ensures)

@@ -2,7 +2,7 @@ use Rattle.std.proofs.Common.{◌≡◌, ℕ, ◌+◌, ◌-◌, ◌*◌, ◌<◌
 use Rattle.std.specs.List.{slice_get}
 use Rattle.std.specs.Vec.{vec_len}
 use Rattle.std.proofs.lemmas.Grind.{get_or_default_zero}
-use Rattle.sgb_gen.specs.LocalArcs.{arcs_in}
+use Rattle.sgb_gen.specs.inner.LocalArcs.{arcs_in}
 use Rattle.sgb_gen.specs.LocalLists.{LocalArc, LinksData}
 use Rattle.sgb_gen.proofs.LinkRows.{length-arcs_in, slice_get-arcs_in}
 use Rattle.sgb_gen.proofs.TableRows.{row_within}

@@ -1,5 +1,5 @@
 use Rattle.std.proofs.Common.{◌++◌, ◌∷◌, [], pos, sym, ap, ◌∙◌}
-use Rattle.sgb_gen.specs.LocalArcs.{arcs_in}
+use Rattle.sgb_gen.specs.inner.LocalArcs.{arcs_in}
 use Rattle.sgb_gen.proofs.LinkRows.{arcs_in-push}
 use Rattle.sgb_gen.proofs.links.Links.push.Goals as goal
 

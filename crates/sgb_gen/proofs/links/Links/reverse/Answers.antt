@@ -1,7 +1,7 @@
 use Rattle.std.proofs.Common.{◌≡◌, ℕ, ◌*◌, List, length, reverse, sym, ap, ap₂, ◌∙◌, arith}
 use Rattle.std.proofs.lemmas.List.{length-reverse, with_items_is}
 use Rattle.std.specs.Vec.{with_items}
-use Rattle.sgb_gen.specs.LocalArcs.{arcs_in, rows_turned}
+use Rattle.sgb_gen.specs.inner.LocalArcs.{arcs_in, rows_turned}
 use Rattle.sgb_gen.proofs.LinkRows.{length-arcs_in}
 use Rattle.sgb_gen.proofs.TurnedLinks.{arcs_in-reverse}
 use Rattle.sgb_gen.proofs.links.Links.reverse.Goals as goal

@@ -1,10 +1,10 @@
-use Rattle.std.proofs.Common.{◌≡◌, take}
-use Rattle.sgb_gen.proofs.FamilyWalks.{IsAt}
+use Rattle.std.proofs.Common.{◌≡◌, ◌++◌, length}
 use Rattle.sgb_gen.proofs.TableRows.{joined}
 use Rattle.sgb_gen.proofs.tables.VectorTable.new.Given as goal
 
--- the vector is number u, and the entries are those of the vectors before it
-abbrev pub invariant-loop-u : goal.invariant-loop-u
-invariant-loop-u g l =
-    IsAt (g.F.Family.members l.family) l._u l.vector.items
-    × (l.entries.items ≡ joined (take l._u (g.F.Family.members l.family)))
+-- behind the entries that are there come those of the vectors that are left
+abbrev pub invariant-loop-vector : goal.invariant-loop-vector
+invariant-loop-vector g l = l.entries.items ++ joined l.left ≡ joined (g.F.Family.members l.family)
+
+abbrev pub decreases-loop-vector : goal.decreases-loop-vector
+decreases-loop-vector g l = length l.left

@@ -1,6 +1,6 @@
 use Rattle.std.proofs.Common.{◌≡◌, ℕ, ◌+◌, ◌-◌, ◌*◌, ◌<◌, ◌≤◌, List, length, take, drop, Some, sym, ap, ◌∙◌, arith, rules}
 use Rattle.std.specs.List.{slice_get}
-use Rattle.sgb_gen.specs.Tables.{rows}
+use Rattle.sgb_gen.specs.inner.Tables.{rows}
 use Rattle.sgb_gen.proofs.TableRows.{length-rows, slice_get-rows, row_within}
 use Rattle.sgb_gen.proofs.tables.VectorTable.vector.Goals as goal
 

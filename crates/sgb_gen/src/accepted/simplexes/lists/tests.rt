@@ -1,7 +1,7 @@
 use super::super::Simplex;
+use crate::accepted::tests::compare;
 use crate::links::Links;
-use sgb_graph::Graph;
-use sgb_vec::{Family, Vectors, name_of};
+use sgb_vec::{Family, Vectors};
 use std::alloc::Global;
 use std::process::Abort;
 use std::test::Fail;
@@ -34,37 +34,11 @@ fn compare_all<A: Abort>(rt: &A, alloc: Global, simplex: &Simplex) -> Result<(),
     let mut v: u32 = 0;
     for x in Vectors::all(simplex.family()) {
         assert!(rt; v < graph.n());
-        compare(rt, alloc, simplex, &graph, v, x.as_slice(), &mut links)?;
+        assert!(rt; simplex.family().holds(x.as_slice()));
+        simplex.arcs_at(x.as_slice(), &mut links)?;
+        compare(rt, alloc, &graph, v, &links)?;
         v += 1;
     }
     assert!(rt; v == graph.n());
-    Ok(())
-}
-
-// The list of `x`, which is vertex `v`.
-fn compare<A: Abort>(
-    rt: &A,
-    alloc: Global,
-    simplex: &Simplex,
-    graph: &Graph,
-    v: u32,
-    x: &[u32],
-    links: &mut Links,
-) -> Result<(), Fail> {
-    assert!(rt; simplex.family().holds(x));
-    assert!(rt; v < graph.n());
-    simplex.arcs_at(x, links)?;
-    let mut i: usize = 0;
-    for link in graph.arcs(v) {
-        assert!(rt; i < links.len());
-        assert!(rt; link.tip < graph.n());
-        let found = links.get(i);
-        assert!(rt; i64::from(found.len) == link.len);
-        assert!(rt; found.tip.len() <= 251);
-        let name = name_of(alloc, found.tip)?;
-        assert!(rt; name.bytes() == graph.name(link.tip).bytes());
-        i += 1;
-    }
-    assert!(rt; i == links.len());
     Ok(())
 }

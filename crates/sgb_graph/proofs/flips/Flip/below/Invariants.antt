@@ -1,6 +1,6 @@
 use Rattle.std.proofs.Common.{ℕ, ℤ}
 use Rattle.sgb_graph.specs.Draws.{IsAtDraw}
-use Rattle.sgb_graph.specs.Flips.{IsFlip}
+use Rattle.sgb_graph.specs.inner.Flips.{IsFlip}
 use Rattle.sgb_graph.proofs.Standing.{HasThrownAway}
 use Rattle.sgb_graph.proofs.Waiting.{waiting}
 use Rattle.sgb_graph.proofs.flips.Flip.below.Given as goal

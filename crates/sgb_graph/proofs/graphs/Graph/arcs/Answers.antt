@@ -1,5 +1,5 @@
 use Rattle.std.proofs.Common.{◌<◌, length, sym, arith}
-use Rattle.sgb_graph.specs.Kept.{kept_graph}
+use Rattle.sgb_graph.specs.inner.Kept.{kept_graph}
 use Rattle.sgb_graph.proofs.Chains.{length-links}
 use Rattle.sgb_graph.proofs.Tips.{tips_below}
 use Rattle.sgb_graph.proofs.Growing.{parts_of}

@@ -1,6 +1,6 @@
 use Rattle.std.proofs.Common.{Some, ◌+◌, length, ap, arith}
-use Rattle.sgb_graph.specs.Growth.{with_arcs}
-use Rattle.sgb_graph.specs.KeptVertices.{KeptVertices}
+use Rattle.sgb_graph.specs.inner.Growth.{with_arcs}
+use Rattle.sgb_graph.specs.inner.KeptVertices.{KeptVertices}
 use Rattle.sgb_graph.proofs.Lists.{length-at_place}
 use Rattle.sgb_graph.proofs.graphs.adding.put_edge.Goals as goal
 

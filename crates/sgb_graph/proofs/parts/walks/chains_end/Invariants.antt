@@ -1,6 +1,6 @@
 use Rattle.std.proofs.Common.{◌≡◌, ◌<◌, ℕ, length, true, Some}
 use Rattle.sgb_graph.specs.Graphs.{ends_of}
-use Rattle.sgb_graph.specs.Walks.{MarksEnd}
+use Rattle.sgb_graph.specs.inner.Walks.{MarksEnd}
 use Rattle.sgb_graph.proofs.parts.walks.chains_end.Given as goal
 
 -- the way ends from each record so far, and from each marked one

@@ -2,7 +2,7 @@ use Rattle.std.proofs.Common.{◌≡◌, ◌⊎◌, ◌<◌, length, Some, None,
 use Rattle.std.specs.Prelude.{IsTrue}
 use Rattle.std.proofs.lemmas.Option.{slice_get_read}
 use Rattle.sgb_graph.specs.Graphs.{ends_of}
-use Rattle.sgb_graph.specs.Walks.{leads_of, is_marked}
+use Rattle.sgb_graph.specs.inner.Walks.{leads_of, is_marked}
 use Rattle.sgb_graph.proofs.MarkedWays.{way_inside, way_shorter, way_goes_on, leads_goes_on, one_more_marked, reached_more, reach_more, reached_all, reach_all}
 use Rattle.sgb_graph.proofs.parts.walks.mark_way.Goals as goal
 

@@ -1,7 +1,7 @@
 use Rattle.std.proofs.Common.{◌≡◌, ◌&&◌, Some, false, true, ap, sym, ◌∙◌, rules, arith}
 use Rattle.sgb_graph.specs.Graphs.{ends_of}
 use Rattle.sgb_graph.specs.Sound.{is_vertex}
-use Rattle.sgb_graph.specs.Walks.{leads_of}
+use Rattle.sgb_graph.specs.inner.Walks.{leads_of}
 use Rattle.sgb_graph.proofs.MarkedWays.{way_inside, way_shorter, way_goes_on, leads_step, leads_none}
 use Rattle.sgb_graph.proofs.parts.walks.way_leads.Goals as goal
 

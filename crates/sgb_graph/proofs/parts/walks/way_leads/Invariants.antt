@@ -1,6 +1,6 @@
 use Rattle.std.proofs.Common.{◌≡◌, length, true}
 use Rattle.sgb_graph.specs.Graphs.{ends_of, numbers_of}
-use Rattle.sgb_graph.specs.Walks.{leads_of}
+use Rattle.sgb_graph.specs.inner.Walks.{leads_of}
 use Rattle.sgb_graph.proofs.parts.walks.way_leads.Given as goal
 
 -- the way goes on to an end, and all arcs so far lead to vertices

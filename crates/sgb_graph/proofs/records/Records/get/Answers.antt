@@ -2,7 +2,8 @@ use Rattle.std.proofs.Common.{◌<◌, length, sym, ap, ◌∙◌, arith, rules,
 use Rattle.std.proofs.lemmas.Int.{to_z-of_z}
 use Rattle.sgb_graph.proofs.ColumnValues.{HasPlace-below}
 use Rattle.sgb_graph.proofs.KeptRecords.{length-kept_records, slice_get-records_with}
-use Rattle.sgb_graph.specs.Columns.{util_seen, values}
+use Rattle.sgb_graph.specs.Columns.{util_seen}
+use Rattle.sgb_graph.specs.inner.Columns.{values}
 use Rattle.sgb_graph.proofs.records.Records.get.Goals as goal
 
 pub index-plain-requires : goal.index-plain-requires

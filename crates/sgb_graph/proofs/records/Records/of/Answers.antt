@@ -3,8 +3,8 @@ use Rattle.std.proofs.lemmas.Int.{to_z-of_z}
 use Rattle.std.proofs.lemmas.List.{length_push}
 use Rattle.std.proofs.lemmas.List.Elements.{All-tail}
 use Rattle.std.specs.Vec.Iter.{into_iter_items}
-use Rattle.sgb_graph.specs.Columns.{HoldsMany, util_kind}
-use Rattle.sgb_graph.specs.KeptRecords.{kept_records}
+use Rattle.sgb_graph.specs.inner.Columns.{HoldsMany, util_kind}
+use Rattle.sgb_graph.specs.inner.KeptRecords.{kept_records}
 use Rattle.sgb_graph.specs.declared.fields.ArcRec.{ArcRec}
 use Rattle.sgb_graph.specs.declared.records.PlainRecord.{PlainRecord}
 use Rattle.sgb_graph.proofs.ColumnValues.{HoldsMany-push}

@@ -1,7 +1,7 @@
 use Rattle.std.proofs.Common.{◌≡◌, ◌<◌, ◌++◌, ◌^◌, length, All, IfSome}
 use Rattle.std.specs.Vec.Iter.{into_iter_items, into_iter_len}
-use Rattle.sgb_graph.specs.Columns.{HoldsMany, column_kind, util_kind}
-use Rattle.sgb_graph.specs.KeptRecords.{kept_records}
+use Rattle.sgb_graph.specs.inner.Columns.{HoldsMany, column_kind, util_kind}
+use Rattle.sgb_graph.specs.inner.KeptRecords.{kept_records}
 use Rattle.sgb_graph.proofs.records.Records.of.Given as goal
 
 -- the records that are kept and those that are left are all

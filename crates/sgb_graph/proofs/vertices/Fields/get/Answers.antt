@@ -4,7 +4,7 @@ use Rattle.std.proofs.lemmas.Int.{to_z-of_z}
 use mir.Syntax.{w64}
 use mir.Val.{SFits, to_z, of_z}
 use Rattle.sgb_graph.specs.Columns.{util_seen}
-use Rattle.sgb_graph.specs.KeptVertices.{field_columns, number_at}
+use Rattle.sgb_graph.specs.inner.KeptVertices.{field_columns, number_at}
 use Rattle.sgb_graph.proofs.Tables.{row_at}
 use Rattle.sgb_graph.proofs.vertices.Fields.get.Goals as goal
 

@@ -1,7 +1,7 @@
 use Rattle.std.proofs.Common.{◌∙◌, ◌<◌, ap, sym, length, refl, arith}
 use Rattle.std.proofs.lemmas.Option.{slice_get_read}
 use Rattle.sgb_graph.specs.Growth.{first_arc}
-use Rattle.sgb_graph.specs.KeptVertices.{KeptVertices}
+use Rattle.sgb_graph.specs.inner.KeptVertices.{KeptVertices}
 use Rattle.sgb_graph.proofs.KeptVertices.{kept_first, length-kept}
 use Rattle.sgb_graph.proofs.vertices.Vertices.first.Goals as goal
 

@@ -1,7 +1,7 @@
 use Rattle.std.proofs.Common.{◌∙◌, ◌<◌, ap, sym, map, length, refl, arith}
 use Rattle.std.specs.Prelude.{slice_get}
 use Rattle.std.proofs.lemmas.Option.{slice_get_read}
-use Rattle.sgb_graph.specs.KeptVertices.{KeptVertices}
+use Rattle.sgb_graph.specs.inner.KeptVertices.{KeptVertices}
 use Rattle.sgb_graph.proofs.KeptVertices.{kept_name, length-kept}
 use Rattle.sgb_graph.proofs.vertices.Vertices.name.Goals as goal
 

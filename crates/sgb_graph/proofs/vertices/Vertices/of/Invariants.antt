@@ -1,4 +1,4 @@
-use Rattle.sgb_graph.specs.KeptVertices.{Keep}
+use Rattle.sgb_graph.specs.inner.KeptVertices.{Keep}
 use Rattle.sgb_graph.proofs.vertices.Vertices.of.Given as goal
 
 -- the vertices so far are kept

@@ -1,6 +1,7 @@
 use Rattle.std.proofs.Common.{◌<◌, ap, length, Some, arith}
-use Rattle.sgb_graph.specs.Growth.{at_place, with_arcs}
-use Rattle.sgb_graph.specs.KeptVertices.{KeptVertices}
+use Rattle.sgb_graph.specs.Growth.{at_place}
+use Rattle.sgb_graph.specs.inner.Growth.{with_arcs}
+use Rattle.sgb_graph.specs.inner.KeptVertices.{KeptVertices}
 use Rattle.sgb_graph.proofs.KeptVertices.{first_kept, first_put, length-kept}
 use Rattle.sgb_graph.proofs.vertices.Vertices.set_first.Goals as goal
 

@@ -1,9 +1,9 @@
-use Rattle.std.proofs.Common.{◌≡◌, ◌+◌, ◌<◌, ◌≤◌, ℕ, length, slice_index, sym, ap, subst, ◌∙◌, arith}
+use Rattle.std.proofs.Common.{◌≡◌, ◌+◌, ◌<◌, ◌≤◌, ℕ, length, slice_index, sym, ap, subst, refl, ◌∙◌, arith}
+use Rattle.std.specs.List.{flat_map}
 use Rattle.sgb_graph.specs.Graphs.{chain_of}
-use Rattle.sgb_graph.proofs.AddedEvents.{up_to-more}
 use Rattle.sgb_ops.specs.Complement.{complement_events_from}
 use Rattle.sgb_ops.proofs.Marks.{mark_at-le, lent_back}
-use Rattle.sgb_ops.proofs.ComplementEvents.{events_after, events_after-next}
+use Rattle.sgb_ops.proofs.Places.{place_added, places_added}
 use Rattle.sgb_ops.proofs.complements.Wanted.add_arcs.Goals as goal
 
 pub loop-u-preserved : goal.loop-u-preserved
@@ -18,7 +18,13 @@ loop-u-preserved c =
     let back = lent_back c.loop-u.marks.len new _ size in
     let bound : (w : ℕ) → w < length g.vertices → slice_index new w ≤ u + 1 =
     λ w h. subst (λ m. m ≤ u + 1) (sym (c.mark_tips.ensures w h)) (mark_at-le (chain_of g u) u old w (subst (λ ms. slice_index ms w ≤ u) (sym same) (c.loop-u.invariant.2 w h))) in (
-      up_to-more wanted.directed c.args.built.now c.loop-u.built c.add_arcs_from.new.built (complement_events_from g wanted.copy wanted.self_loops wanted.directed u) (events_after g wanted.copy wanted.self_loops wanted.directed (u + 1)) (events_after g wanted.copy wanted.self_loops wanted.directed 0) _ c.loop-u.invariant.0 (events_after-next g wanted.copy wanted.self_loops wanted.directed u (omega arith)) c.in_ok-add_arcs_from.ensures.ok,
+      place_added wanted.directed c.args.built.now c.loop-u.built (flat_map (complement_events_from g wanted.copy wanted.self_loops wanted.directed)) (length g.vertices) u c.add_arcs_from.new.built _ (omega arith) c.loop-u.invariant.0 c.in_ok-add_arcs_from.ensures.ok refl,
       ap length back ∙ size ∙ c.loop-u.marks.ok.0 ∙ c.loop-u.invariant.1,
       (λ w h. subst (λ ms. slice_index ms w ≤ u + 1) (sym back) (bound w h)),
     )
+
+pub returns-clause-ok : goal.returns-clause-ok
+returns-clause-ok c =
+    let wanted = c.args.self in
+    let g = c.args.graph.now in
+    places_added wanted.directed c.args.built.now c.loop-u.built (flat_map (complement_events_from g wanted.copy wanted.self_loops wanted.directed)) (length g.vertices) c.loop-u.u (omega arith) c.loop-u.invariant.0 refl

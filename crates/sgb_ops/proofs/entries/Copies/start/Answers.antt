@@ -1,5 +1,5 @@
-use Rattle.std.proofs.Common.{◌∙◌, ◌+◌, length, sym, ap, arith}
-use Rattle.sgb_ops.specs.Copies.{copies_start}
+use Rattle.std.proofs.Common.{◌∙◌, length, sym, ap, arith}
+use Rattle.sgb_ops.specs.inner.Copies.{copies_start}
 use Rattle.sgb_ops.proofs.EntryTotals.{first_at, length-firsts, ends_merged, ends_own}
 use Rattle.sgb_ops.proofs.entries.Copies.start.Goals as goal
 

@@ -1,5 +1,5 @@
 use Rattle.std.proofs.Common.{◌≡◌, [], ap, sym, ◌∙◌}
-use Rattle.sgb_ops.specs.TakenArcs.{taken_after}
+use Rattle.sgb_ops.specs.inner.TakenArcs.{taken_after}
 use Rattle.sgb_ops.proofs.Taking.{none_taken}
 use Rattle.sgb_ops.proofs.taken.TakenArcsIterator.next.Goals as goal
 

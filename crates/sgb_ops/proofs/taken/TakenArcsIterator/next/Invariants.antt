@@ -1,5 +1,5 @@
 use Rattle.std.proofs.Common.{◌≡◌, length}
-use Rattle.sgb_ops.specs.TakenArcs.{taken_after}
+use Rattle.sgb_ops.specs.inner.TakenArcs.{taken_after}
 use Rattle.sgb_ops.proofs.taken.TakenArcsIterator.next.Given as goal
 
 -- the arcs that are passed over change nothing

@@ -3,7 +3,7 @@ use Rattle.std.specs.List.{list_any}
 use Rattle.std.specs.Prelude.{nat_lt}
 use Rattle.std.proofs.lemmas.List.Elements.{All-nil, All-cons}
 use Rattle.sgb_vec.specs.Limits.{most_vertices}
-use Rattle.sgb_vec.specs.SumRows.{CountsSums}
+use Rattle.sgb_vec.specs.inner.SumRows.{CountsSums}
 use Rattle.sgb_vec.proofs.GreatCounts.{All-from_none, HasGreatSum-from_row}
 use Rattle.sgb_vec.proofs.SumRowLemmas.{CountsSums-nil, CountsSums-step, take_written}
 use Rattle.sgb_vec.proofs.sums.counts.row_of.Goals as goal

@@ -1,7 +1,7 @@
 use Rattle.std.proofs.Common.{◌≡◌, ◌+◌, ◌≤◌, length, take, sum, min}
 use Rattle.std.specs.List.{All}
 use Rattle.sgb_vec.specs.Limits.{most_vertices}
-use Rattle.sgb_vec.specs.SumRows.{CountsSums}
+use Rattle.sgb_vec.specs.inner.SumRows.{CountsSums}
 use Rattle.sgb_vec.proofs.sums.counts.row_of.Given as goal
 
 -- the row has the counts of the bounds so far, and none was too great

@@ -4,7 +4,5 @@ use Rattle.sgb_vec.proofs.vectors.Vectors.front.Goals as goal
 
 pub returns-clause-first : goal.returns-clause-first
 returns-clause-first g c =
-    let members = g.F.Family.members c.self.inside.family.now in
-    let rising = g.met.F.Family.rising c.self.inside.family.now in
     ap (λ (xs : List (List ℕ)). slice_get xs 0) (sym c.self.view_is)
-    ∙ (front_first members rising _ _ _ c.if-not-self.false c.self.invariant ∙ ap (λ (v : List ℕ). Some v) (sym c.as_slice.ensures.value))
+    ∙ (front_first _ (g.met.F.Family.rising c.self.inside.family.now) _ _ _ c.if-not-self.false c.self.invariant ∙ ap (λ (v : List ℕ). Some v) (sym c.as_slice.ensures.value))

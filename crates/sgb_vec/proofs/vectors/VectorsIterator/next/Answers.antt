@@ -4,10 +4,8 @@ use Rattle.sgb_vec.proofs.vectors.VectorsIterator.next.Goals as goal
 
 pub returns-clause-steps : goal.returns-clause-steps
 returns-clause-steps g c =
-    let members = g.F.Family.members c.self.inside.family.now in
-    let rising = g.met.F.Family.rising c.self.inside.family.now in
     let copy : c.unwrap-vector.result.items ≡ c.self.inside.front.items = (rw c.unwrap-vector.ensures at c.try_from.ensures).0 ∙ c.as_slice.ensures.value in
-    let first = ap (λ (xs : List (List ℕ)). slice_get xs 0) (sym c.self.view_is) ∙ front_first members rising _ _ _ c.if-not-self.false c.self.invariant in
+    let first = ap (λ (xs : List (List ℕ)). slice_get xs 0) (sym c.self.view_is) ∙ front_first _ (g.met.F.Family.rising c.self.inside.family.now) _ _ _ c.if-not-self.false c.self.invariant in
     first_and_rest _ _ _ _ first copy c.advance-some.ensures.rest
 
 pub returns-clause-goes : goal.returns-clause-goes

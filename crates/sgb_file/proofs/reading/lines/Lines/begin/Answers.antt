@@ -1,6 +1,7 @@
 use Rattle.std.proofs.Common.{ap, sym, ◌∙◌, [], ◌≡◌}
 use Rattle.sgb_file.specs.FileLines.{clean_lines}
-use Rattle.sgb_file.proofs.LinesLeftLemmas.{no_bytes, no_lines, none_left}
+use Rattle.sgb_file.proofs.LineLemmas.{no_bytes}
+use Rattle.sgb_file.proofs.LinesLeftLemmas.{no_lines, none_left}
 use Rattle.sgb_file.proofs.reading.lines.Lines.begin.Goals as goal
 
 pub invariant_of-result : goal.invariant_of-result

@@ -3,10 +3,9 @@ use Rattle.std.specs.Prelude.{◌==◌}
 use Rattle.std.specs.List.{filter}
 use Rattle.std.proofs.lemmas.Bool.{eq-eqb, ne_eqb}
 use Rattle.sgb_vec.specs.Boxes.{box}
-use Rattle.sgb_gen.specs.LocalBoards.{other_starts}
+use Rattle.sgb_gen.specs.inner.LocalBoards.{other_starts}
 use Rattle.sgb_gen.specs.VectorGraphs.{Move, vertex_among}
-use Rattle.sgb_gen.proofs.BoardEvents.{leads}
-use Rattle.sgb_gen.proofs.BoardWalks.{led_nowhere, led_to, left-all, left-next, left-out, moves_left, no_more, not_one, one_more, one_that}
+use Rattle.sgb_gen.proofs.BoardWalks.{led_nowhere, led_to, left-all, left-next, left-out, moves_left, no_more, not_one, one_more, one_that, leads}
 use Rattle.sgb_gen.proofs.Reaches.{move}
 use Rattle.sgb_gen.proofs.accepted.boards.Board.add_others.Goals as goal
 use Rattle.sgb_gen.proofs.accepted.boards.Board.add_others.Goals.{then-v-u+in_ok-push, else-v-u}

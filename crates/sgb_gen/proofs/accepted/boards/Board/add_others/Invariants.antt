@@ -1,6 +1,6 @@
 use Rattle.std.proofs.Common.{◌≡◌, ◌++◌}
 use Rattle.sgb_vec.specs.Boxes.{box}
-use Rattle.sgb_gen.specs.LocalBoards.{other_starts}
+use Rattle.sgb_gen.specs.inner.LocalBoards.{other_starts}
 use Rattle.sgb_gen.proofs.BoardWalks.{moves_left, moves_of}
 use Rattle.sgb_gen.proofs.accepted.boards.Board.add_others.Given as goal
 

@@ -1,8 +1,7 @@
 use Rattle.std.proofs.Common.{◌≡◌, ◌++◌, ◌+◌, None, Some, ap, arith}
-use Rattle.sgb_gen.specs.LocalBoards.{own_starts}
+use Rattle.sgb_gen.specs.inner.LocalBoards.{own_starts}
 use Rattle.sgb_gen.specs.VectorGraphs.{Move}
-use Rattle.sgb_gen.proofs.BoardEvents.{leads}
-use Rattle.sgb_gen.proofs.BoardWalks.{left-all, left-next, left-out, moves_left, no_more, one_more}
+use Rattle.sgb_gen.proofs.BoardWalks.{left-all, left-next, left-out, moves_left, no_more, one_more, leads}
 use Rattle.sgb_gen.proofs.Reaches.{move}
 use Rattle.sgb_gen.proofs.accepted.boards.Board.add_own.Goals as goal
 

@@ -1,5 +1,5 @@
 use Rattle.std.proofs.Common.{◌≡◌, ◌++◌}
-use Rattle.sgb_gen.specs.LocalBoards.{own_starts}
+use Rattle.sgb_gen.specs.inner.LocalBoards.{own_starts}
 use Rattle.sgb_gen.proofs.BoardWalks.{moves_left, moves_of}
 use Rattle.sgb_gen.proofs.accepted.boards.Board.add_own.Given as goal
 

@@ -1,7 +1,7 @@
 use Rattle.std.proofs.Common.{◌≡◌, ◌++◌, ◌∙◌, Some, sym, ap, append_assoc}
 use Rattle.std.specs.List.{slice_get}
 use Rattle.sgb_vec.specs.Boxes.{box}
-use Rattle.sgb_gen.specs.LocalBoards.{other_starts, own_starts}
+use Rattle.sgb_gen.specs.inner.LocalBoards.{other_starts, own_starts}
 use Rattle.sgb_gen.specs.Moves.{moves_from, opposite, sides_of}
 use Rattle.sgb_gen.specs.VectorGraphs.{vertex_among}
 use Rattle.sgb_gen.proofs.Vertices.{vertex_in_box}

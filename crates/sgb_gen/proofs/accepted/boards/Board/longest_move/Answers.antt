@@ -1,5 +1,5 @@
 use Rattle.std.proofs.Common.{sym, ap, ◌∙◌, rules}
-use Rattle.sgb_gen.specs.Moves.{longest_move}
+use Rattle.sgb_gen.specs.inner.Moves.{longest_move}
 use Rattle.sgb_gen.specs.Moves.{sides_of}
 use Rattle.sgb_gen.proofs.Reaches.{longest-rider}
 use Rattle.sgb_gen.proofs.accepted.boards.Board.longest_move.Goals as goal

@@ -3,7 +3,7 @@ use Rattle.std.specs.List.{All, flat_map}
 use Rattle.sgb_vec.specs.Boxes.{box}
 use Rattle.sgb_gen.specs.Limits.{most_piece}
 use Rattle.sgb_gen.specs.Boards.{moves_of_board}
-use Rattle.sgb_gen.specs.LocalBoards.{arcs_onward, moves_by}
+use Rattle.sgb_gen.specs.inner.LocalBoards.{arcs_onward, moves_by}
 use Rattle.sgb_gen.specs.Moves.{sides_of}
 use Rattle.sgb_gen.proofs.accepted.boards.Board.push_all.Given as goal
 

@@ -2,9 +2,9 @@ use Rattle.std.proofs.Common.{◌≡◌, ◌++◌, ◌∙◌, ℕ, List, true, f
 use Rattle.std.specs.List.Sorted.{IsPermutation}
 use Rattle.std.specs.Result.{OnOk}
 use Rattle.sgb_vec.specs.Boxes.{box}
-use Rattle.sgb_vec.specs.Rising.{box_vectors_rise}
+use Rattle.sgb_vec.specs.inner.Rising.{box_vectors_rise}
 use Rattle.sgb_vec.proofs.BoxPlaces.{Contains-from_IsBelow}
-use Rattle.sgb_gen.specs.LocalBoards.{arcs_of_starts, arcs_onward, move_arc, moves_by, starts_of}
+use Rattle.sgb_gen.specs.inner.LocalBoards.{arcs_of_starts, arcs_onward, move_arc, moves_by, starts_of}
 use Rattle.sgb_gen.specs.LocalLists.{LinksData, LocalArc}
 use Rattle.sgb_gen.specs.Moves.{moves_from, opposite, sides_of}
 use Rattle.sgb_gen.specs.VectorGraphs.{vertex_among}

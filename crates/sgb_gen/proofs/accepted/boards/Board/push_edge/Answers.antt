@@ -1,6 +1,5 @@
 use Rattle.std.proofs.Common.{◌≡◌, ◌∙◌, Some, length, ap}
-use Rattle.sgb_gen.proofs.BoardEvents.{leads}
-use Rattle.sgb_gen.proofs.BoardWalks.{lands_width}
+use Rattle.sgb_gen.proofs.BoardWalks.{lands_width, leads}
 use Rattle.sgb_gen.proofs.accepted.boards.Board.push_edge.Goals as goal
 
 pub push-requires : goal.push-requires

@@ -1,5 +1,5 @@
 use Rattle.std.proofs.Common.{◌≡◌, ◌++◌, drop}
-use Rattle.sgb_gen.specs.LocalBoards.{arcs_of_starts}
+use Rattle.sgb_gen.specs.inner.LocalBoards.{arcs_of_starts}
 use Rattle.sgb_gen.specs.Moves.{sides_of}
 use Rattle.sgb_gen.proofs.accepted.boards.Board.push_edges.Given as goal
 

@@ -1,7 +1,6 @@
 use Rattle.std.proofs.Common.{◌≡◌, ◌++◌, ◌∷◌, ◌+◌, ◌∙◌, [], Some, length, map, pos, refl, sym, ap, arith}
-use Rattle.sgb_gen.specs.LocalBoards.{move_arc}
-use Rattle.sgb_gen.proofs.BoardEvents.{leads}
-use Rattle.sgb_gen.proofs.BoardWalks.{lands_width, left-all, left-next, moves_left, one_more}
+use Rattle.sgb_gen.specs.inner.LocalBoards.{move_arc}
+use Rattle.sgb_gen.proofs.BoardWalks.{lands_width, left-all, left-next, moves_left, one_more, leads}
 use Rattle.sgb_gen.proofs.Reaches.{move}
 use Rattle.sgb_gen.proofs.accepted.boards.Board.push_moves.Goals as goal
 

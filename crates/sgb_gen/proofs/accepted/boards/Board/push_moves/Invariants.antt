@@ -1,5 +1,5 @@
 use Rattle.std.proofs.Common.{◌≡◌, ◌++◌, map}
-use Rattle.sgb_gen.specs.LocalBoards.{move_arc}
+use Rattle.sgb_gen.specs.inner.LocalBoards.{move_arc}
 use Rattle.sgb_gen.proofs.BoardWalks.{moves_left, moves_of}
 use Rattle.sgb_gen.proofs.accepted.boards.Board.push_moves.Given as goal
 

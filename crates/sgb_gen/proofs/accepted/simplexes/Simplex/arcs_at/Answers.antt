@@ -1,5 +1,5 @@
 use Rattle.std.proofs.Common.{◌≡◌, ◌++◌, length, sym, ap, ◌∙◌, arith}
-use Rattle.sgb_gen.specs.LocalSimplexes.{arcs_by_pairs}
+use Rattle.sgb_gen.specs.inner.LocalSimplexes.{arcs_by_pairs}
 use Rattle.sgb_gen.proofs.SimplexEvents.{length_in_sum}
 use Rattle.sgb_gen.proofs.SimplexLists.{list_by_pairs}
 use Rattle.sgb_gen.proofs.accepted.simplexes.Simplex.arcs_at.Goals as goal

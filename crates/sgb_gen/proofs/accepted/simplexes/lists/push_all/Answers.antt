@@ -1,6 +1,6 @@
 use Rattle.std.proofs.Common.{length, sym, ap, ◌∙◌}
 use Rattle.std.proofs.Common.{reverse}
-use Rattle.sgb_gen.specs.LocalSimplexes.{arcs_back, arcs_on, arcs_by_pairs, pairs_back, with_arcs}
+use Rattle.sgb_gen.specs.inner.LocalSimplexes.{arcs_back, arcs_on, arcs_by_pairs, pairs_back, with_arcs}
 use Rattle.sgb_gen.specs.Simplexes.{pairs_of_places}
 use Rattle.sgb_gen.proofs.PairWalks.{with_more}
 use Rattle.sgb_gen.proofs.accepted.simplexes.lists.push_all.Goals as goal

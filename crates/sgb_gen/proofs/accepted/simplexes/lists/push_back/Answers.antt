@@ -1,5 +1,5 @@
 use Rattle.std.proofs.Common.{◌≡◌, length, sym, ap, ◌∙◌, arith}
-use Rattle.sgb_gen.specs.LocalSimplexes.{arcs_back, pairs_down, with_arcs}
+use Rattle.sgb_gen.specs.inner.LocalSimplexes.{arcs_back, pairs_down, with_arcs}
 use Rattle.sgb_gen.proofs.PairWalks.{with_none, with_more, arcs_back-append, pairs_below, below-next}
 use Rattle.sgb_gen.proofs.accepted.simplexes.lists.push_back.Goals as goal
 

@@ -1,5 +1,5 @@
 use Rattle.std.proofs.Common.{◌≡◌, ◌+◌, ◌-◌, ◌++◌, length, reverse, sym, ap, ◌∙◌, arith}
-use Rattle.sgb_gen.specs.LocalSimplexes.{arcs_on, pairs_down, with_arcs}
+use Rattle.sgb_gen.specs.inner.LocalSimplexes.{arcs_on, pairs_down, with_arcs}
 use Rattle.sgb_gen.proofs.PairWalks.{with_none, with_more, arcs_on-append, after-next, after-none, after-all}
 use Rattle.sgb_gen.proofs.SimplexEvents.{pairs_after}
 use Rattle.sgb_gen.proofs.accepted.simplexes.lists.push_on.Goals as goal

@@ -1,7 +1,6 @@
-use Rattle.std.proofs.Common.{◌≡◌, ◌+◌, ◌-◌, ◌++◌, ◌∷◌, [], length, reverse, sym, ap, ◌∙◌, arith}
-use Rattle.sgb_gen.specs.LocalSimplexes.{arcs_on, with_arcs}
-use Rattle.sgb_gen.specs.Simplexes.{Places}
-use Rattle.sgb_gen.proofs.PairWalks.{with_none, with_more, arcs_on-append, left-next, left-none, on-one}
+use Rattle.std.proofs.Common.{◌≡◌, ◌+◌, length, reverse, sym, ap, ◌∙◌, arith}
+use Rattle.sgb_gen.specs.inner.LocalSimplexes.{arcs_on, with_arcs}
+use Rattle.sgb_gen.proofs.PairWalks.{with_none, arcs_on-append, left-none, on-one, pair_more}
 use Rattle.sgb_gen.proofs.SimplexEvents.{pairs_left}
 use Rattle.sgb_gen.proofs.accepted.simplexes.lists.push_on_from.Goals as goal
 
@@ -19,18 +18,10 @@ push_one-requires-clause-width c = c.requires.width ∙ sym (ap (λ d. d.width) 
 pub loop-higher-preserved : goal.loop-higher-preserved
 loop-higher-preserved c =
     let x = c.args.x.now in
-    let n = length x in
-    let bounds = c.args.bounds.now in
-    let lower = c.args.lower in
-    let h = c.loop-higher.higher in
-    let at : Places = record { lower = lower; higher = h - 1 } in
-    let count : h - 1 + 1 ≡ h = omega arith in
-    let next : reverse (pairs_left n lower (h - 1)) ≡ reverse (pairs_left n lower h) ++ at ∷ [] =
-    left-next n lower (h - 1) (omega arith) ∙ ap (λ i. reverse (pairs_left n lower i) ++ at ∷ []) count in (
+    let bounds = c.args.bounds.now in (
       omega arith,
-      with_more c.args.links.now c.loop-higher.links c.push_one.new.links (arcs_on bounds x (reverse (pairs_left n lower h))) (arcs_on bounds x (at ∷ [])) (arcs_on bounds x (reverse (pairs_left n lower (h - 1))))
-          c.loop-higher.invariant.1 (c.in_ok-push_one.ensures.ok ∙ ap (with_arcs c.loop-higher.links) (on-one bounds x at))
-          (ap (arcs_on bounds x) next ∙ arcs_on-append bounds x (reverse (pairs_left n lower h)) (at ∷ [])),
+      pair_more (arcs_on bounds x) (arcs_on-append bounds x) (length x) c.args.lower c.loop-higher.higher _ _ _ (omega arith) (omega arith) c.loop-higher.invariant.1
+          (c.in_ok-push_one.ensures.ok ∙ ap (with_arcs c.loop-higher.links) (on-one bounds x _)),
     )
 
 pub returns-clause-ok : goal.returns-clause-ok

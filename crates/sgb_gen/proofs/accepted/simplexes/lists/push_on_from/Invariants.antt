@@ -1,5 +1,5 @@
 use Rattle.std.proofs.Common.{◌≡◌, ◌+◌, ◌≤◌, length, reverse}
-use Rattle.sgb_gen.specs.LocalSimplexes.{arcs_on, with_arcs}
+use Rattle.sgb_gen.specs.inner.LocalSimplexes.{arcs_on, with_arcs}
 use Rattle.sgb_gen.proofs.SimplexEvents.{pairs_left}
 use Rattle.sgb_gen.proofs.accepted.simplexes.lists.push_on_from.Given as goal
 

@@ -1,6 +1,6 @@
 use Rattle.std.proofs.Common.{◌++◌, sym, ap, ◌∙◌}
 use Rattle.sgb_gen.specs.Subsets.{subsets_vectors}
-use Rattle.sgb_gen.specs.LocalSubsets.{arcs_by_walk}
+use Rattle.sgb_gen.specs.inner.LocalSubsets.{arcs_by_walk}
 use Rattle.sgb_gen.proofs.SubsetsLists.{list_by_walk}
 use Rattle.sgb_gen.proofs.accepted.subsets.Subsets.arcs_at.Goals as goal
 

@@ -4,7 +4,8 @@ use Rattle.sgb_graph.proofs.IdLemmas.{length-small_numbers}
 use Rattle.sgb_graph.specs.IdTexts.{numbers_text}
 use Rattle.sgb_graph.specs.IdTexts.{flag_text}
 use Rattle.sgb_graph.specs.IdTexts.{hexadecimal_text}
-use Rattle.sgb_gen.specs.Subsets.{subsets_id, AreSmall}
+use Rattle.sgb_gen.specs.Subsets.{subsets_id}
+use Rattle.sgb_gen.specs.inner.Subsets.{AreSmall}
 use Rattle.sgb_gen.proofs.WrittenIds.{subsets_id-written}
 use Rattle.sgb_gen.proofs.accepted.subsets.Subsets.id.Goals as goal
 
@@ -35,29 +36,23 @@ numbers_short start new params read begun put same six small =
 
 pub push_hexadecimal-requires : goal.push_hexadecimal-requires
 push_hexadecimal-requires c =
-    let s = c.self.inside in
     let start = c.push_text.ensures ∙ ap (λ t. t ++ codes "subsets(") c.new-id.ensures in
-    let short = numbers_short c.push_text.new.self c.push_numbers.new.self s.shape.params c.params.result.now start c.push_numbers.ensures.bytes c.params.ensures c.self.invariant.1.parameters c.self.invariant.2 in
-    omega (arith, short)
+    omega (arith, numbers_short _ _ _ _ start c.push_numbers.ensures.bytes c.params.ensures c.self.invariant.1.parameters c.self.invariant.2)
 
 pub push_text-requires-2-clause-room : goal.push_text-requires-2-clause-room
 push_text-requires-2-clause-room c =
-    let s = c.self.inside in
     let start = c.push_text.ensures ∙ ap (λ t. t ++ codes "subsets(") c.new-id.ensures in
-    let short = numbers_short c.push_text.new.self c.push_numbers.new.self s.shape.params c.params.result.now start c.push_numbers.ensures.bytes c.params.ensures c.self.invariant.1.parameters c.self.invariant.2 in
+    let short = numbers_short _ _ _ _ start c.push_numbers.ensures.bytes c.params.ensures c.self.invariant.1.parameters c.self.invariant.2 in
     omega (arith, short, c.push_hexadecimal.ensures.short)
 
 pub push_flag-requires : goal.push_flag-requires
 push_flag-requires c =
-    let s = c.self.inside in
     let start = c.push_text.ensures ∙ ap (λ t. t ++ codes "subsets(") c.new-id.ensures in
-    let short = numbers_short c.push_text.new.self c.push_numbers.new.self s.shape.params c.params.result.now start c.push_numbers.ensures.bytes c.params.ensures c.self.invariant.1.parameters c.self.invariant.2 in
+    let short = numbers_short _ _ _ _ start c.push_numbers.ensures.bytes c.params.ensures c.self.invariant.1.parameters c.self.invariant.2 in
     omega (arith, short, c.push_hexadecimal.ensures.short, ap length c.push_text-2.ensures, length-append c.push_hexadecimal.new.self (codes ","))
 
 pub push_text-requires-3-clause-room : goal.push_text-requires-3-clause-room
 push_text-requires-3-clause-room c =
-    let s = c.self.inside in
     let start = c.push_text.ensures ∙ ap (λ t. t ++ codes "subsets(") c.new-id.ensures in
-    let short = numbers_short c.push_text.new.self c.push_numbers.new.self s.shape.params c.params.result.now start c.push_numbers.ensures.bytes c.params.ensures c.self.invariant.1.parameters c.self.invariant.2 in
-    let flag = length-flag c.self.inside.directed in
-    omega (arith, short, c.push_hexadecimal.ensures.short, ap length c.push_text-2.ensures, length-append c.push_hexadecimal.new.self (codes ","), ap length c.push_flag.ensures, length-append c.push_text-2.new.self (flag_text c.self.inside.directed), flag)
+    let short = numbers_short _ _ _ _ start c.push_numbers.ensures.bytes c.params.ensures c.self.invariant.1.parameters c.self.invariant.2 in
+    omega (arith, short, c.push_hexadecimal.ensures.short, ap length c.push_text-2.ensures, length-append c.push_hexadecimal.new.self (codes ","), ap length c.push_flag.ensures, length-append c.push_text-2.new.self (flag_text c.self.inside.directed), length-flag c.self.inside.directed)

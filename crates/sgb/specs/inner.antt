@@ -1,0 +1,13 @@
+-- What only the private contracts and the proofs of sgb speak of.
+-- how reading standard input ends
+pub mod Inputs
+-- blocks of a generator's graph
+pub mod Locals
+-- what is left of vectors
+pub mod Remaining
+-- an entry of a name
+pub mod Texts
+-- a value, a refusal, or out of memory
+pub mod Values
+-- how an answer ends
+pub mod Writing

@@ -1,0 +1,32 @@
+-- The blocks of a generator's graph, from its vectors.
+use Rattle.std.specs.Prelude.{ℕ, ◌+◌, List, [], ◌∷◌, ◌++◌, length, codes}
+use Rattle.std.specs.Fmt.{signed_decimal}
+use Rattle.std.specs.List.{flat_map}
+use Rattle.sgb_vec.specs.Names.{name_of_vector}
+use Rattle.sgb_gen.specs.Boards.{board_vectors, moves_of_board}
+use Rattle.sgb_gen.specs.LocalLists.{LocalArc, list_at}
+use Rattle.sgb_gen.specs.Simplexes.{moves_of_simplex, simplex_vectors}
+use Rattle.sgb_gen.specs.Subsets.{moves_of_subsets, subsets_vectors}
+use Rattle.sgb.specs.Texts.{name_line}
+use Rattle.sgb.specs.declared.locals.Local.{Local}
+use Rattle.sgb.specs.declared.locals.Local.TheVariants as local
+
+-- the arcs of a vector, in the order of its list
+abbrev pub links_of : Local → List ℕ → List LocalArc
+links_of (local.Board b) x = list_at b.directed (board_vectors b) (moves_of_board b) x
+links_of (local.Simplex s) x = list_at s.directed (simplex_vectors s) (moves_of_simplex s) x
+links_of (local.Subsets s) x = list_at s.directed (subsets_vectors s) (moves_of_subsets s) x
+
+-- how many arcs these vectors have together
+abbrev pub arcs_among : Local → List (List ℕ) → ℕ
+arcs_among l [] = 0
+arcs_among l (x ∷ vectors) = length (links_of l x) + arcs_among l vectors
+
+-- the line of an arc: the name of the vector where it leads, and its length
+unfoldable pub local_line : LocalArc → List ℕ
+local_line arc =
+    codes "  -> " ++ name_of_vector arc.tip ++ codes ", length " ++ signed_decimal arc.len ++ codes "\n"
+
+-- the block of a vector: its line, and those of its arcs in the order of its list
+unfoldable pub local_block : Local → List ℕ → List ℕ
+local_block l x = name_line (name_of_vector x) ++ flat_map local_line (links_of l x)

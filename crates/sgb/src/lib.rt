@@ -1,0 +1,29 @@
+//! Graphs by the official names of the Stanford GraphBase: requests, and the names, listings, files and random numbers
+//! that answer them, for any source of input and any sink of output.
+#![tactic(auto)]
+
+// The graph of an expression.
+mod evaluation;
+// Standard input, read whole.
+mod input;
+// What holds of all answers.
+mod laws;
+// Accepted parameters of a generator.
+mod locals;
+// A call of the program: from its words to its exit status.
+mod program;
+// A request answered.
+mod runs;
+// Whole calls.
+#[cfg(test)]
+mod tests;
+// Names, listings, files and random numbers, written to a sink.
+mod writing;
+
+pub use laws::input_unread_law;
+pub use locals::Local;
+pub use program::run_program;
+pub use runs::run;
+pub use sgb_expr::Expr;
+pub use sgb_requests::{Fault, Request, parse_expr, report, request, status};
+pub use writing::families::list_family;

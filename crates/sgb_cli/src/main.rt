@@ -1,0 +1,38 @@
+//! sgb: the names, listings and files of graphs that Stanford GraphBase's generators and operations make, and its random
+//! numbers.
+//!
+//! What the program does is the library's `run_program`, which is proved. `main` hands it the words and the streams; it is
+//! run by a stored run (`args`, `stdout`) and by a test, and not proved.
+#![tactic(auto)]
+
+// The library's public names.
+#[cfg(test)]
+mod tests;
+
+use sgb::run_program;
+use sgb_file::{Buffered, FromRead, ToWrite};
+use std::process::ExitCode;
+use std::rt::Env;
+use std::{env, io};
+
+fn main(rt: HostRuntime) -> ExitCode {
+    let alloc = rt.alloc();
+    let words = words(&rt);
+    let mut source = FromRead::new(rt.stdin());
+    let mut errors = ToWrite::new(rt.stderr());
+    let status = match Buffered::new(alloc, rt.stdout()) {
+        Ok(mut out) => run_program(alloc, words, &mut source, &mut out, &mut errors),
+        // No memory for the buffer is none for the words.
+        Err(error) => {
+            let mut out = ToWrite::new(rt.stdout());
+            run_program(alloc, Err(error), &mut source, &mut out, &mut errors)
+        }
+    };
+    ExitCode::from(status)
+}
+
+// The words of the command line.
+fn words<R: Env + AllocGlobal>(rt: &R) -> io::Result<Vec<String>> {
+    let words = env::args(rt)?.collect(rt.alloc())?;
+    Ok(words)
+}

@@ -1,0 +1,15 @@
+-- What only the private contracts and the proofs of sgb_expr speak of.
+-- lists of entries of the code
+pub mod CodeEntries
+-- reading what is asked of the random generator
+pub mod FlipTexts
+-- what a reader of the code returns
+pub mod Gives
+-- all names, and what each begins with
+pub mod Names
+-- reading an expression: its name, and then its form
+pub mod Reading
+-- what reading from the beginning of a text returns
+pub mod Readings
+-- what two graphs with integers after them are
+pub mod TwoGraphs

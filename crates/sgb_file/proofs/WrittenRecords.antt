@@ -1,0 +1,229 @@
+-- The records of a file as they are written: each is a record of the graph's, with breaks in its texts.
+use Rattle.std.specs.Prelude.{◌≡◌, ℕ, suc, ℤ, pos, negsuc, ◌^◌, ◌<◌, ◌≤◌, Bool, true, false, cond, List, [], ◌∷◌, ◌++◌, length, decimal, Option, Some, None, All, FitsSigned, ⊤, nat_lt, refl}
+use Rattle.std.specs.Fmt.{signed_decimal}
+use Rattle.std.specs.Int.{w64}
+use Rattle.std.specs.List.{list_all, flat_map}
+use Rattle.std.proofs.Common.{ap, sym, subst, ◌∙◌, arith, inl, inr}
+use Rattle.std.proofs.lemmas.Bool.{and_parts, and_from}
+use Rattle.std.proofs.lemmas.Bool.Decides.{nat_tests}
+use Rattle.std.proofs.lemmas.List.Elements.{All-head, All-tail}
+use Rattle.sgb_vec.specs.Limits.{most_bytes}
+use Rattle.sgb_graph.proofs.Lists.{list_all-weaker}
+use Rattle.sgb_graph.specs.Graphs.{GraphData}
+use Rattle.sgb_graph.specs.Ids.{most_id_bytes}
+use Rattle.sgb_graph.specs.Sound.{ref_fits, chain_fits, util_fits, utils_fit, vertex_kinds, arc_kinds, graph_kinds}
+use Rattle.sgb_graph.specs.declared.fields.Kind.{Kind}
+use Rattle.sgb_graph.specs.declared.fields.Kind.TheVariants.{Z, I, V, S, A}
+use Rattle.sgb_graph.specs.declared.fields.Ref.{Ref}
+use Rattle.sgb_graph.specs.declared.fields.Ref.TheVariants.{Null, One, At}
+use Rattle.sgb_graph.specs.declared.fields.Util.{Util}
+use Rattle.sgb_graph.specs.declared.fields.Util.TheVariants.{Nothing, Int, Vertex as VertexField, Str, Chain}
+use Rattle.sgb_graph.specs.declared.fields.Vertex.{Vertex}
+use Rattle.sgb_graph.specs.declared.fields.ArcRec.{ArcRec}
+use Rattle.sgb_file.specs.FileLines.{text_of_lines}
+use Rattle.sgb_file.specs.Fields.{Counts, is_decimal_digit, most_number_digits, number_of, integer_of, ref_of, record_number_of}
+use Rattle.sgb_file.specs.Files.{IsFieldText, AreFieldTexts, IsComma, IsRecord, IsVertexRecord, IsArcRecord, IsGraphRecord, AreRecords, head_of}
+use Rattle.sgb_file.specs.Saving.{quoted, ref_text, record_number_text, field_texts, graph_texts, vertex_texts, arc_texts, pieces_of, record_lines}
+use Rattle.sgb_file.specs.Saved.{ValueCanBeSaved}
+use Rattle.sgb_file.proofs.LineLemmas.{is_line, is_one_line, is_within_line, ends_well}
+use Rattle.sgb_file.proofs.LaidOutText.{with_breaks, after_field, lay_out, laid_out_text}
+use Rattle.sgb_file.proofs.FieldReading.{IsBroken, test_below, decimal_digits, said_broken, number_is_said, integer_is_said, ref_is_said, record_number_is_said, string_is_said, quoted_is_line}
+use Rattle.sgb_file.proofs.RecordsAndTexts.{IsTail, record_from_tail, and_others}
+use Rattle.sgb_file.proofs.SavedGraphs.{AreSmall, IsReady, VertexFits, ArcFits, fields_of_vertex, fields_of_arc, vertex_fields, arc_fields}
+
+-- a byte above the space
+abbrev is_visible : ℕ → Bool
+is_visible b = nat_lt 32 b
+
+visible_within : (b : ℕ) → is_visible b ≡ true → is_within_line b ≡ true
+visible_within b h = grind (arith, nat_tests)
+
+visible_ends_well : (text : List ℕ) → list_all is_visible text ≡ true → ends_well text ≡ true
+unfolding ends_well
+visible_ends_well [] h = refl
+visible_ends_well (b ∷ []) h = let byte : is_visible b ≡ true = (and_parts (is_visible b) true h).0 in grind (arith, nat_tests)
+visible_ends_well (b ∷ c ∷ text) h = visible_ends_well (c ∷ text) (and_parts (is_visible b) (list_all is_visible (c ∷ text)) h).1
+
+-- a text of such bytes is a line as it is written
+pub visible_is_line : (text : List ℕ) → list_all is_visible text ≡ true → is_line text ≡ true
+visible_is_line text h = and_from (is_one_line text) (ends_well text) (list_all-weaker is_visible is_within_line text visible_within h) (visible_ends_well text h)
+
+digit_visible : (b : ℕ) → is_decimal_digit b ≡ true → is_visible b ≡ true
+digit_visible b h = grind (arith, nat_tests)
+
+pub decimal_visible : (n : ℕ) → n < 2 ^ 64 → list_all is_visible (decimal n) ≡ true
+decimal_visible n h = list_all-weaker is_decimal_digit is_visible (decimal n) digit_visible (decimal_digits n h)
+
+pub decimal_is_line : (n : ℕ) → n < 2 ^ 64 → is_line (decimal n) ≡ true
+decimal_is_line n h = visible_is_line (decimal n) (decimal_visible n h)
+
+-- a letter before a decimal
+lettered_is_line : (b n : ℕ) → is_visible b ≡ true → n < 2 ^ 64 → is_line (b ∷ decimal n) ≡ true
+lettered_is_line b n e h = visible_is_line (b ∷ decimal n) (and_from (is_visible b) (list_all is_visible (decimal n)) e (decimal_visible n h))
+
+integer_is_line : (i : ℤ) → FitsSigned w64 i → is_line (signed_decimal i) ≡ true
+integer_is_line (pos n) h = decimal_is_line n (omega (arith, h))
+integer_is_line (negsuc n) h = lettered_is_line 45 (suc n) refl (omega (arith, h))
+
+ref_is_line : (n : ℕ) (r : Ref) → n ≤ 10 ^ 18 → ref_fits n r ≡ true → is_line (ref_text r) ≡ true
+unfolding ends_well
+ref_is_line n Null most h = refl
+ref_is_line n One most h = refl
+ref_is_line n (At v) most h = let below = test_below v n h in lettered_is_line 86 v refl (omega (arith, below, most))
+
+number_is_line : (m : ℕ) (k : Option ℕ) → m ≤ 10 ^ 18 → chain_fits m k ≡ true → is_line (record_number_text k) ≡ true
+unfolding ends_well
+number_is_line m None most h = refl
+number_is_line m (Some k) most h = let below = test_below k m h in lettered_is_line 65 k refl (omega (arith, below, most))
+
+-- a field that has a text: with any breaks it says the value, and it is a line as it is written
+pub record IsField (counts : Counts) (kind : Kind) (u : Util) : Type 0 where
+  pub text : List ℕ
+  pub texts : field_texts u ≡ text ∷ []
+  pub says : (broken : List ℕ) → IsBroken text broken → IsFieldText counts kind u broken
+  pub line : is_line text ≡ true
+
+pub field_of : (counts : Counts) → AreSmall counts → (kind : Kind) (u : Util) → (kind ≡ Z → ⊥) → util_fits counts.vertices counts.arcs kind u ≡ true → ValueCanBeSaved u → IsField counts kind u
+field_of counts small Z u used fits h = absurd (used refl)
+field_of counts small I (Int i) used fits h = record {
+  text = signed_decimal i;
+  texts = refl;
+  says = said_broken integer_of (signed_decimal i) i (integer_is_said i h);
+  line = integer_is_line i h;
+}
+field_of counts small V (VertexField r) used fits h = record {
+  text = ref_text r;
+  texts = refl;
+  says = said_broken (ref_of counts.vertices) (ref_text r) r (ref_is_said counts.vertices r small.vertices fits);
+  line = ref_is_line counts.vertices r small.vertices fits;
+}
+field_of counts small S (Str s) used fits h = record {
+  text = quoted s;
+  texts = refl;
+  says = string_is_said most_bytes s h.short h.printable;
+  line = quoted_is_line s h.printable;
+}
+field_of counts small A (Chain first) used fits h = record {
+  text = record_number_text first;
+  texts = refl;
+  says = said_broken (record_number_of counts.arcs) (record_number_text first) first (record_number_is_said counts.arcs first small.arcs fits);
+  line = number_is_line counts.arcs first small.arcs fits;
+}
+field_of counts small _ _ used fits h = absurd cc
+
+-- texts as they stand with their breaks
+abbrev AreBroken : List (List ℕ) → List (List ℕ) → Type 0
+AreBroken [] [] = ⊤
+AreBroken (text ∷ texts) (broken ∷ others) = IsBroken text broken × AreBroken texts others
+AreBroken _ _ = ⊥
+
+-- a comma, and the end of the line or not
+is_comma : (gap : Bool) → IsComma (44 ∷ cond gap (10 ∷ []) [])
+is_comma true = inr refl
+is_comma false = inl refl
+
+-- what is written after a field: the other fields' texts, with breaks
+record IsTailWritten (line : List ℕ) (texts : List (List ℕ)) : Type 0 where
+  broken : List (List ℕ)
+  are : AreBroken texts broken
+  stands : IsTail broken (after_field line texts)
+
+tail_written : (line : List ℕ) (texts : List (List ℕ)) → IsTailWritten line texts
+tail_written line [] = record { broken = []; are = tt; stands = refl }
+tail_written line (text ∷ texts) =
+    let laid = lay_out line text texts in
+    let more = tail_written laid.next texts in
+    let comma = 44 ∷ cond laid.gap (10 ∷ []) [] in
+    record {
+      broken = with_breaks laid.breaks 78 text ∷ more.broken;
+      are = ((laid.breaks, laid.few, refl), more.are);
+      stands = (comma, after_field laid.next texts, is_comma laid.gap, more.stands, ap (λ x. 44 ∷ x) laid.whole);
+    }
+
+-- the lines of a record with these texts
+record IsWritten (text : List ℕ) (texts : List (List ℕ)) : Type 0 where
+  first : List ℕ
+  others : List (List ℕ)
+  first_is : IsBroken text first
+  others_are : AreBroken texts others
+  stands : IsRecord (first ∷ others) (text_of_lines (record_lines (text ∷ texts)))
+
+record_written : (text : List ℕ) (texts : List (List ℕ)) → IsWritten text texts
+record_written text texts =
+    let laid = lay_out [] text texts in
+    let body = with_breaks laid.breaks 78 text in
+    let more = tail_written laid.next texts in
+    let whole = laid_out_text [] (pieces_of (text ∷ texts)) ∙ laid.whole ∙ ap (λ gap. cond gap (10 ∷ []) [] ++ (body ++ after_field laid.next texts)) (laid.starts refl) in
+    record {
+      first = body;
+      others = more.broken;
+      first_is = (laid.breaks, laid.few, refl);
+      others_are = more.are;
+      stands = subst (IsRecord (body ∷ more.broken)) (sym whole) (record_from_tail body more.broken (after_field laid.next texts) more.stands);
+    }
+
+-- the texts of fields with breaks are texts of the fields
+next_written : (counts : Counts) (kind : Kind) (kinds : List Kind) (u : Util) (us : List Util) → IsField counts kind u
+    → ((others : List (List ℕ)) → AreBroken (flat_map field_texts us) others → AreFieldTexts counts kinds us others)
+    → (broken : List (List ℕ)) → AreBroken (flat_map field_texts (u ∷ us)) broken → AreFieldTexts counts (kind ∷ kinds) (u ∷ us) broken
+next_written counts kind kinds u us field more broken b =
+    by_texts broken (subst (λ texts. AreBroken (texts ++ flat_map field_texts us) broken) field.texts b)
+  where
+    by_texts : (broken : List (List ℕ)) → AreBroken (field.text ∷ flat_map field_texts us) broken → AreFieldTexts counts (kind ∷ kinds) (u ∷ us) broken
+    by_texts [] b = absurd b
+    by_texts (text ∷ texts) b = and_others counts kind kinds u us text texts (field.says text b.0) (more texts b.1)
+
+fields_written : (counts : Counts) → AreSmall counts → (kinds : List Kind) (us : List Util) → utils_fit counts.vertices counts.arcs kinds us ≡ true → All ValueCanBeSaved us
+    → (broken : List (List ℕ)) → AreBroken (flat_map field_texts us) broken → AreFieldTexts counts kinds us broken
+fields_written counts small [] [] fits h [] b = tt
+fields_written counts small [] [] fits h (text ∷ texts) b = absurd b
+fields_written counts small (Z ∷ kinds) (Nothing ∷ us) fits h broken b =
+    (refl, fields_written counts small kinds us fits (All-tail ValueCanBeSaved Nothing us h) broken b)
+fields_written counts small (kind ∷ kinds) (u ∷ us) fits h broken b =
+    let parts = and_parts (util_fits counts.vertices counts.arcs kind u) (utils_fit counts.vertices counts.arcs kinds us) fits in
+    next_written counts kind kinds u us (field_of counts small kind u (λ z. absurd cc) parts.0 (All-head ValueCanBeSaved u us h))
+    (fields_written counts small kinds us parts.1 (All-tail ValueCanBeSaved u us h)) broken b
+fields_written counts small _ _ fits h broken b = absurd cc
+
+-- a vertex's record, an arc's and the graph's
+pub vertex_written : (g : GraphData) → AreSmall (head_of g).counts → (v : Vertex) → VertexFits g v → IsVertexRecord (head_of g) v (text_of_lines (record_lines (vertex_texts v)))
+vertex_written g small v h =
+    let fields = vertex_fields g v h in
+    let w = record_written (quoted v.name) (record_number_text v.arcs ∷ flat_map field_texts v.util) in
+    let texts = w.first ∷ w.others in
+    (texts, fields_written (head_of g).counts small (S ∷ A ∷ vertex_kinds g.kinds) (fields_of_vertex v) fields.fits fields.values texts (w.first_is, w.others_are), w.stands)
+
+pub arc_written : (g : GraphData) → AreSmall (head_of g).counts → (r : ArcRec) → ArcFits g r → IsArcRecord (head_of g) r (text_of_lines (record_lines (arc_texts r)))
+arc_written g small r h =
+    let fields = arc_fields g r h in
+    let w = record_written (ref_text r.tip) (record_number_text r.next ∷ signed_decimal r.len ∷ flat_map field_texts (r.a ∷ r.b ∷ [])) in
+    let texts = w.first ∷ w.others in
+    (texts, fields_written (head_of g).counts small (V ∷ A ∷ I ∷ arc_kinds g.kinds) (fields_of_arc r) fields.fits fields.values texts (w.first_is, w.others_are), w.stands)
+
+pub graph_written : (g : GraphData) → IsReady g → IsGraphRecord (head_of g) g (text_of_lines (record_lines (graph_texts g)))
+graph_written g h =
+    let w = record_written (quoted g.id) (decimal (length g.vertices) ∷ decimal g.m ∷ flat_map field_texts g.util) in
+    by_texts w.first w.others w.first_is w.others_are w.stands
+  where
+    by_texts : (first : List ℕ) (others : List (List ℕ)) → IsBroken (quoted g.id) first → AreBroken (decimal (length g.vertices) ∷ decimal g.m ∷ flat_map field_texts g.util) others
+        → IsRecord (first ∷ others) (text_of_lines (record_lines (graph_texts g))) → IsGraphRecord (head_of g) g (text_of_lines (record_lines (graph_texts g)))
+    by_texts first [] is are stands = absurd are
+    by_texts first (n ∷ []) is are stands = absurd are.1
+    by_texts first (n ∷ m ∷ texts) is are stands = record {
+      id = first;
+      n = n;
+      m = m;
+      fields = texts;
+      id_says = string_is_said most_id_bytes g.id h.id.short h.id.printable first is;
+      n_says = said_broken (number_of most_number_digits) (decimal (length g.vertices)) (length g.vertices) (number_is_said (length g.vertices) (omega (arith, h.vertices_few))) n are.0;
+      m_says = said_broken (number_of most_number_digits) (decimal g.m) g.m (number_is_said g.m h.arcs_few) m are.1.0;
+      fields_say = fields_written (head_of g).counts h.small (graph_kinds g.kinds) g.util h.own.fits h.own.values texts are.1.1;
+      is_record = stands;
+    }
+
+-- records one after another
+pub all_written : {X : Type 0} (text_of : X → List ℕ) (IsOne : X → List ℕ → Type 0) (IsGood : X → Type 0) → ((x : X) → IsGood x → IsOne x (text_of x))
+    → (xs : List X) → All IsGood xs → AreRecords IsOne xs (flat_map text_of xs)
+all_written text_of IsOne IsGood each [] h = refl
+all_written text_of IsOne IsGood each (x ∷ xs) h =
+    (text_of x, flat_map text_of xs, each x (All-head IsGood x xs h), all_written text_of IsOne IsGood each xs (All-tail IsGood x xs h), refl)

@@ -1,0 +1,11 @@
+-- What only the private contracts and the proofs of sgb_file speak of.
+-- how an adapted reader or writer is stored
+pub mod Devices
+-- what a reader found, or how it was refused
+pub mod Found
+-- lines that are laid out, and what the sink has of them
+pub mod Layouts
+-- what is left of a file's lines while they are read
+pub mod LinesLeft
+-- parts with the records that a text begins with
+pub mod Reading

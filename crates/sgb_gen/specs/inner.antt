@@ -1,0 +1,26 @@
+-- What only the private contracts and the proofs of sgb_gen speak of.
+
+-- what accepted boards keep
+pub mod Boards
+-- the displacements within a board's bounds
+pub mod EntryBounds
+-- the displacements after one of them
+pub mod LaterDisplacements
+-- the list of a vector, from the moves that touch it
+pub mod LocalArcs
+-- the list of a vector of a board, by displacements
+pub mod LocalBoards
+-- the list of a vector of a simplex, by pairs of places
+pub mod LocalSimplexes
+-- the list of a vector of subsets, by a walk
+pub mod LocalSubsets
+-- where a piece moves at one length
+pub mod Moves
+-- what accepted simplexes and subsets keep
+pub mod Simplexes
+-- what the parameters of accepted subsets keep
+pub mod Subsets
+-- vectors of one width, one after another
+pub mod Tables
+-- from how many places a piece moves by a displacement, at one length
+pub mod BoardCounts

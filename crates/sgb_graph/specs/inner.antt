@@ -1,0 +1,19 @@
+-- What only the private contracts and the proofs of sgb_graph speak of.
+-- the columns of one utility field, by its kind
+pub mod Columns
+-- a uniform draw within so many draws
+pub mod Draws
+-- a generator from cycle to cycle
+pub mod Flips
+-- vertices whose lists begin elsewhere
+pub mod Growth
+-- the graph that is kept
+pub mod Kept
+-- records as they are kept
+pub mod KeptRecords
+-- vertices as they are kept
+pub mod KeptVertices
+-- the graph of a description's parts
+pub mod Made
+-- walks that mark the records they pass
+pub mod Walks

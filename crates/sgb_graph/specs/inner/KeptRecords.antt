@@ -1,0 +1,32 @@
+-- How a graph keeps its arc records: what each one has one after another, and the utility fields beside.
+use Rattle.std.specs.Prelude.{ℕ, ◌-◌, ◌^◌, ◌==◌, List, [], ◌∷◌, length, Option, Some, None, if◌then◌else◌}
+use Rattle.sgb_graph.specs.inner.Columns.{column_kind, values}
+use Rattle.sgb_graph.specs.declared.columns.Column.{Column}
+use Rattle.sgb_graph.specs.declared.fields.ArcRec.{ArcRec}
+use Rattle.sgb_graph.specs.declared.fields.Kind.{Kind}
+use Rattle.sgb_graph.specs.declared.fields.Util.{Util}
+use Rattle.sgb_graph.specs.declared.records.PlainRecord.{PlainRecord}
+
+-- the arc records of a graph, and what their utility fields a and b hold
+pub record KeptRecords : Type 0 where
+  pub a : Kind
+  pub b : Kind
+  pub items : List ArcRec
+
+-- the record of this number, where the greatest one stands for none
+abbrev pub kept_number : ℕ → Option ℕ
+kept_number k = if k == 2 ^ 64 - 1 then None else Some k
+
+-- the records with these values of their utility fields
+abbrev pub records_with : List PlainRecord → List Util → List Util → List ArcRec
+records_with (p ∷ ps) (x ∷ xs) (y ∷ ys) =
+    record { tip = p.tip; next = kept_number p.next; len = p.len; a = x; b = y } ∷ records_with ps xs ys
+records_with _ _ _ = []
+
+-- the records that are kept so
+abbrev pub kept_records : List PlainRecord → Column → Column → KeptRecords
+kept_records ps a b = record {
+  a = column_kind a;
+  b = column_kind b;
+  items = records_with ps (values (length ps) a) (values (length ps) b);
+}

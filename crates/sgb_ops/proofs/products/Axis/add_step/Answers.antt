@@ -1,0 +1,17 @@
+use Rattle.std.proofs.Common.{map, refl, w64, rules, arith}
+use Rattle.std.proofs.lemmas.Int.{to_z-of_z}
+use Rattle.sgb_ops.specs.Operands.{order_of}
+use Rattle.sgb_ops.specs.Product.{step_along}
+use Rattle.sgb_ops.proofs.Places.{place_added, places_added, same_event}
+use Rattle.sgb_ops.proofs.products.Axis.add_step.Goals as goal
+
+pub loop-w-preserved : goal.loop-w-preserved
+loop-w-preserved c =
+    let step = map (step_along c.args.self c.args.along.now c.args.beside.now c.args.v c.args.arc) in
+    let added = same_event c.args.directed c.loop-w.built c.add_event.new.self _ _ _ _ _ _ c.place.ensures.value c.place-in-loop-w.ensures.value (to_z-of_z w64 c.args.arc.len (search rules)) c.in_ok-add_event.ensures.ok in
+    place_added c.args.directed c.args.built.now c.loop-w.built step (order_of c.args.beside.now) c.loop-w.w c.add_event.new.self _ (omega arith) c.loop-w.invariant added refl
+
+pub returns-clause-ok : goal.returns-clause-ok
+returns-clause-ok c =
+    let step = map (step_along c.args.self c.args.along.now c.args.beside.now c.args.v c.args.arc) in
+    places_added c.args.directed c.args.built.now c.loop-w.built step (order_of c.args.beside.now) c.loop-w.w (omega arith) c.loop-w.invariant refl

@@ -1,0 +1,17 @@
+-- What only the private contracts and the proofs of sgb_ops speak of.
+-- where the copies of a vertex begin and end
+pub mod Copies
+-- the ends of events, and events merged one by one
+pub mod Ends
+-- the lines at each vertex
+pub mod LineLists
+-- a line between vertices of a graph
+pub mod Lines
+-- events no two of which have the same ends
+pub mod Merged
+-- a graph under way with a vertex for each pair
+pub mod Pairs
+-- the arcs taken of a list, met one by one
+pub mod TakenArcs
+-- what is noted of the arcs to each vertex
+pub mod Tallies

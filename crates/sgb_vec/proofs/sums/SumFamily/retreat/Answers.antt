@@ -1,0 +1,65 @@
+use Rattle.std.proofs.Common.{◌≡◌, ◌+◌, ◌<◌, ◌∙◌, length, rules, ap, arith}
+use Rattle.std.proofs.lemmas.List.{take_rest, length-drop, length-set, places}
+use Rattle.std.proofs.lemmas.List.Sums.{sum_by-take-drop}
+use Rattle.sgb_vec.specs.Sums.{BoundedSum}
+use Rattle.sgb_vec.proofs.SumWalks.{HasNoneBefore-first}
+use Rattle.sgb_vec.proofs.SumTails.{put_mid-tail, IsPrevious-step}
+use Rattle.sgb_vec.proofs.VisitLemmas.{HasVisited-from, HasVisited-all}
+use Rattle.sgb_vec.proofs.SumMembers.{IsWithin-length, members_mean}
+use Rattle.sgb_vec.proofs.sums.SumFamily.retreat.Goals as goal
+
+pub last_falling-requires-clause-within : goal.last_falling-requires-clause-within
+last_falling-requires-clause-within c =
+    (members_mean c.args.self.now _ _ (c.as_slice-bounds.ensures.value ∙ ap (λ (s : BoundedSum). s.bounds) c.self.view_is) c.requires.member).0
+
+pub last_falling-requires-clause-small : goal.last_falling-requires-clause-small
+last_falling-requires-clause-small c =
+    let total : c.self.inside.total ≡ c.args.self.now.total = ap (λ (s : BoundedSum). s.total) c.self.view_is in
+    omega (arith, total, (members_mean c.args.self.now _ _ (c.as_slice-bounds.ensures.value ∙ ap (λ (s : BoundedSum). s.bounds) c.self.view_is) c.requires.member).1, c.self.invariant.2)
+
+pub returns-in_default-clause-first : goal.returns-in_default-clause-first
+returns-in_default-clause-first c =
+    let bounds : c.as_slice-bounds.result.now ≡ c.args.self.now.bounds = c.as_slice-bounds.ensures.value ∙ ap (λ (s : BoundedSum). s.bounds) c.self.view_is in
+    let means = members_mean c.args.self.now _ _ bounds c.requires.member in
+    rw (bounds, means.1) at (HasNoneBefore-first _ _ _ c.in_default.ensures.first)
+
+pub returns-in_default-clause-visits : goal.returns-in_default-clause-visits
+returns-in_default-clause-visits c =
+    let bounds : c.as_slice-bounds.result.now ≡ c.args.self.now.bounds = c.as_slice-bounds.ensures.value ∙ ap (λ (s : BoundedSum). s.bounds) c.self.view_is in
+    let means = members_mean c.args.self.now _ _ bounds c.requires.member in
+    rw bounds at (HasVisited-all c.args.entries.now _ _ _ (IsWithin-length _ _ means.0) c.in_default.ensures.all_visited)
+
+pub put_greatest-requires-clause-same_length : goal.put_greatest-requires-clause-same_length
+put_greatest-requires-clause-same_length c =
+    let within = (members_mean c.args.self.now _ _ (c.as_slice-bounds.ensures.value ∙ ap (λ (s : BoundedSum). s.bounds) c.self.view_is) c.requires.member).0 in
+    simp (take_rest, length-drop) (simp length-set (omega (arith, IsWithin-length _ _ within)))
+
+pub returns-clause-visits : goal.returns-clause-visits
+returns-clause-visits c =
+    let bounds : c.as_slice-bounds.result.now ≡ c.args.self.now.bounds = c.as_slice-bounds.ensures.value ∙ ap (λ (s : BoundedSum). s.bounds) c.self.view_is in
+    let means = members_mean c.args.self.now _ _ bounds c.requires.member in
+    let v = c.args.entries.now in
+    let p = c.in-Some.place in
+    let here : p < length v = c.in-Some.ensures.above.0 in
+    let same_length : length v ≡ length c.args.self.now.bounds = IsWithin-length _ _ means.0 ∙ ap length bounds in
+    let walk = simp length-set at (rw (take_rest, length-drop) at c.put_greatest.ensures.visits) in
+    HasVisited-from v _ p _ _ c.last_falling.new.steps _ same_length here (λ k m. search (rules, places)) c.in-Some.ensures.visits (omega (arith, walk))
+
+pub overflow_add-after : goal.overflow_add-after
+overflow_add-after c =
+    let total : c.self.inside.total ≡ c.args.self.now.total = ap (λ (s : BoundedSum). s.total) c.self.view_is in
+    omega (arith, total, (members_mean c.args.self.now _ _ (c.as_slice-bounds.ensures.value ∙ ap (λ (s : BoundedSum). s.bounds) c.self.view_is) c.requires.member).1, c.self.invariant.2, c.in-Some.ensures.after.0, sum_by-take-drop (λ x. x) c.args.entries.now (c.in-Some.place + 1))
+
+pub put_greatest-requires-clause-room : goal.put_greatest-requires-clause-room
+put_greatest-requires-clause-room c = rw take_rest (omega (arith, c.in-Some.ensures.after.1))
+
+pub returns-clause-found : goal.returns-clause-found
+returns-clause-found c =
+    let bounds : c.as_slice-bounds.result.now ≡ c.args.self.now.bounds = c.as_slice-bounds.ensures.value ∙ ap (λ (s : BoundedSum). s.bounds) c.self.view_is in
+    let means = members_mean c.args.self.now _ _ bounds c.requires.member in
+    let above = c.in-Some.ensures.above in
+    let here : c.in-Some.place < length c.args.entries.now = above.0 in
+    let after = c.in-Some.ensures.after in
+    let last = rw take_rest at c.put_greatest.ensures.last in
+    let step = IsPrevious-step c.as_slice-bounds.result.now c.args.entries.now c.put_greatest.new.entries c.in-Some.place c.in-Some.after (c.in-Some.after + 1) means.0 here above.1 after.0 (omega arith) c.in-Some.ensures.first_after last in
+    rw put_mid-tail (rw (bounds, means.1) at step)

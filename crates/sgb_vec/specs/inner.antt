@@ -1,0 +1,11 @@
+-- What only the private contracts and the proofs of sgb_vec speak of.
+-- the length of the vectors of a box
+pub mod BoxWidth
+-- what an iterator over vectors has left
+pub mod Ranges
+-- the vectors of the families rise
+pub mod Rising
+-- rows of counts of a bounded sum
+pub mod SumRows
+-- the length of the vectors of a bounded sum
+pub mod SumWidth
