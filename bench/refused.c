@@ -1,5 +1,5 @@
-/* A library to preload: of a program's calls for memory the one numbered REFUSE answers NULL (counted from 1; none where REFUSE is
-   not set). At the end of the program the number of calls goes into the file COUNTED, if that is set.
+/* A library to preload: of a program's calls for memory the one numbered REFUSE answers NULL (counted from 1; none where
+   REFUSE is not set). At the end of the program the number of calls goes into the file COUNTED, if that is set.
 
        gcc -O2 -shared -fPIC -o refused.so bench/refused.c -ldl
 */

@@ -1,0 +1,656 @@
+#!/usr/bin/env python3
+"""Checks the built program from outside: bench/outside.py [PROGRAM [WORD ..]], where PROGRAM is ./sgb if none is named.
+
+    make outside
+
+It runs the program with memory refused, with devices that fail, with broken files, and with the commands of the tour. It
+prints what failed, and last how many checks passed and failed. With words, it makes only the checks whose names hold one
+of them. Where PROGRAM is a script, OUTSIDE_PROGRAM names the executable that it runs, in which memory is then refused;
+OUTSIDE_SECONDS gives a slow one more time for each run.
+"""
+
+import collections
+import contextlib
+import mmap
+import os
+import pty
+import re
+import resource
+import shutil
+import signal
+import socket
+import struct
+import subprocess
+import sys
+import tempfile
+import termios
+import time
+import tty
+
+TOP = os.path.dirname(os.path.dirname(os.path.abspath(__file__)))
+PROGRAM = os.path.abspath(sys.argv[1]) if len(sys.argv) > 1 else os.path.join(TOP, "sgb")
+SECONDS = int(os.environ.get("OUTSIDE_SECONDS", "60"))  # that one run may take
+MOST = 100_000_000  # bytes that a run may take where it has to take little
+ENDLESS = 2**64 - 1
+
+WRITE_FAULT = (3, b"sgb: write fault\n")
+READ_FAULT = (3, b"sgb: read fault\n")
+USAGE = (2, b"usage: sgb (names|list) EXPR [--after NAME|--skip K], sgb save EXPR, sgb queen, sgb flip EXPR\n")
+
+# what `save "complete(2)"` writes, and the answers on that file
+FILE = b"""\
+* GraphBase graph (util_types ZZZIIIZZZZZZZZ,2V,2A)
+"board(2,0,0,0,-1,0,0)",2,2
+* Vertices
+"0",A0,0,0,0
+"1",A1,1,0,0
+* Arcs
+V1,0,1
+V0,0,1
+* Checksum 1066721325
+"""
+ANSWERS = {
+    "names": b"0\n1\n",
+    "list": b"  The graph whose official name is\nboard(2,0,0,0,-1,0,0)\n  has 2 vertices and 2 arcs:\n\n"
+    b"0\n  -> 1, length 1\n1\n  -> 0, length 1\n",
+    "save": FILE,
+}
+
+# where memory is refused: each expression for names, list and save, with the fault of those that have one
+EXPRESSIONS = {
+    "board(2,2,0,0,1,0,0)": None,
+    "board(3,0,0,0,-1,1,0)": None,
+    "simplex(2,0,0,0,0,0,0)": None,
+    "subsets(3,2,2,2,0,0,3,0)": None,
+    "induced(circuit(4),[-1,1,-1,1],0,0,0)": None,
+    "lines(complete(3),0)": None,
+    "product(complete(2),complete(2),0,0)": None,
+    "gunion(complete(3),circuit(3),0,0)": None,
+    "stdin": None,
+    "board(2,-251,0,0,1,0,0)": (1, b"Something went wrong (panic code 30)!\n"),
+    "board(3,": (2, b"sgb: bad expression at byte 8\n"),
+}
+# of these, the last two find that they need more room when a part of the listing stands: in the buffer, and beyond it
+OTHERS = {
+    ("queen",): None,
+    ("names", "complete(2)", "--after", "0", "--skip", "1"): USAGE,
+    ("list", "complete(2)", "--after", "0", "--skip", "1"): USAGE,
+    ("list", "board(5,5,0,0,-2,0,0)", "--skip", "0"): None,
+    ("list", "simplex(90,2,90,90,0,0,0)", "--skip", "0"): None,
+}
+# one request of each status, with its input: 0, then faults of words, of texts, of graphs, of names, of files
+STATUSES = [
+    (("names", "complete(2)"), b"", (0, b"")),
+    (("list", "stdin"), FILE, (0, b"")),
+    (("list", "complete(2)", "--after", "0", "--skip", "1"), b"", USAGE),
+    (("list", "board(3,"), b"", EXPRESSIONS["board(3,"]),
+    (("save", "board(2,-251,0,0,1,0,0)"), b"", EXPRESSIONS["board(2,-251,0,0,1,0,0)"]),
+    (("names", "complete(2)", "--after", "2"), b"", (1, b"sgb: no such vertex\n")),
+    (("names", "stdin"), b"", (1, b"Something went wrong (panic code 10)!\n")),
+]
+# whose outputs go to devices that fail
+WRITTEN = [
+    ("names", "board(2,3,0,0,1,0,0)"),
+    ("list", "simplex(2,0,0,0,0,0,0)"),
+    ("queen",),
+    ("save", "complete(2)"),
+]
+
+
+def code(number):
+    return 1, b"Something went wrong (panic code %d)!\n" % number
+
+
+# What a run came to: its status, what it wrote, and what it used.
+Got = collections.namedtuple("Got", "status out err usage")
+
+
+def said(got):
+    """The parts that an answer has."""
+    return got.status, got.out, got.err
+
+
+class Library:
+    """bench/outside.c, preloaded: its page of orders, and of what happened."""
+
+    ORDERS = struct.Struct("4Q")
+    EVENTS = struct.Struct("7Q")
+    Events = collections.namedtuple("Events", "calls refused most outputs errors early late")
+
+    def __init__(self, folder):
+        self.path = os.path.join(folder, "outside.so")
+        source = os.path.join(TOP, "bench", "outside.c")
+        subprocess.run(["cc", "-O2", "-shared", "-fPIC", "-o", self.path, source], check=True)
+        executable = os.environ.get("OUTSIDE_PROGRAM", PROGRAM)
+        place = os.path.join(folder, "page")
+        with open(place, "wb") as file:
+            file.write(bytes(88) + os.fsencode(os.path.realpath(executable)).ljust(2048, b"\0"))
+        with open(place, "r+b") as file:
+            self.page = mmap.mmap(file.fileno(), 0)
+        self.environment = dict(os.environ, LD_PRELOAD=self.path, OUTSIDE=place)
+
+    def order(self, first=0, last=0, readable=ENDLESS, step=ENDLESS):
+        self.page[:88] = self.ORDERS.pack(first, last, readable, step) + bytes(56)
+
+    def events(self):
+        return self.Events._make(self.EVENTS.unpack(self.page[32:88]))
+
+
+class DidNotEnd(Exception):
+    pass
+
+
+def too_long(*_):
+    raise DidNotEnd
+
+
+class Runs:
+    """Runs of the program."""
+
+    def __init__(self, folder):
+        self.folder = folder
+        self.library = Library(folder)
+        self.files = {}
+        signal.signal(signal.SIGALRM, too_long)
+
+    def file(self, contents):
+        """A file with these contents."""
+        if contents not in self.files:
+            self.files[contents] = os.path.join(self.folder, f"file.{len(self.files)}")
+            with open(self.files[contents], "wb") as file:
+                file.write(contents)
+        return self.files[contents]
+
+    def run(self, words, given=b"", out=None, err=None, orders=None, shell=None, limit=None, signals=False, fed=None):
+        """One run. `given` is what standard input has, or a descriptor; `out` and `err` are descriptors for what is not
+        kept; `orders` are those of the library; `shell` is a command that runs "$@"; `limit` is the size that a file may
+        have; without `signals` a closed pipe and a full file are no signals; `fed` is called while it runs."""
+        environment = None
+        if orders is not None:
+            self.library.order(**orders)
+            environment = self.library.environment
+        command = ["sh", "-c", shell, PROGRAM, PROGRAM, *words] if shell else [PROGRAM, *words]
+        with contextlib.ExitStack() as stack:
+            if isinstance(given, bytes):
+                given = os.open(self.file(given), os.O_RDONLY)
+                stack.callback(os.close, given)
+            if out is None:
+                kept = out = os.memfd_create("out")
+                stack.callback(os.close, kept)
+            else:
+                kept = None
+            heard = None
+            if err is None:
+                heard, err = os.pipe()
+                heard = stack.enter_context(open(heard, "rb"))
+                mouth = stack.enter_context(open(err, "wb", 0))
+            soft, hard = resource.getrlimit(resource.RLIMIT_FSIZE)
+            signal.alarm(SECONDS)
+            process = None
+            try:
+                if limit is not None:
+                    resource.setrlimit(resource.RLIMIT_FSIZE, (limit, hard))
+                try:
+                    process = subprocess.Popen(
+                        command, stdin=given, stdout=out, stderr=err, env=environment, restore_signals=signals
+                    )
+                finally:
+                    resource.setrlimit(resource.RLIMIT_FSIZE, (soft, hard))
+                if heard:
+                    mouth.close()
+                if fed:
+                    fed()
+                _, status, usage = os.wait4(process.pid, 0)
+                process.returncode = os.waitstatus_to_exitcode(status)
+                line = heard.read() if heard else b""
+            except DidNotEnd:
+                if process and process.returncode is None:
+                    process.kill()
+                    process.wait()
+                raise DidNotEnd(shown((*words, "did not end"))) from None
+            finally:
+                signal.alarm(0)
+            text = b"" if kept is None else os.pread(kept, os.fstat(kept).st_size, 0)
+        return Got(process.returncode, text, line, usage)
+
+
+class Tally:
+    """The checks of one name: how many passed, and what the others saw."""
+
+    def __init__(self):
+        self.passed, self.failed = 0, []
+
+    def check(self, is_right, *seen):
+        if is_right:
+            self.passed += 1
+        else:
+            self.failed.append(" ".join(shown(part) for part in seen))
+
+    def same(self, what, seen, wanted):
+        self.check(seen == wanted, what, "gave", seen, "and not", wanted)
+
+
+def shown(part):
+    text = part if isinstance(part, str) else " ".join(part) if is_words(part) else repr(part)
+    return text if len(text) < 400 else text[:200] + " .. " + text[-200:]
+
+
+def is_words(part):
+    return isinstance(part, tuple) and all(isinstance(word, str) for word in part)
+
+
+# ---------------------------------------------------------------------------------------------------------------------
+# Memory
+
+
+def memory(words, given, fault):
+    def checks(runs, tally):
+        """Each call for memory refused, and each with all after it: the answer in full, or code 1 and a prefix of it. On
+        a device that is full it is code 1 where the call came before the first write, else a write fault."""
+        full = runs.run(words, given, orders={})
+        calls = runs.library.events().calls
+        is_usual = (full.status, full.err) == (fault or (0, b"")) and bool(full.out) == (fault is None)
+        tally.check(is_usual, words, "gave", said(full))
+        tally.check(calls > 0, words, "made no call for memory that the library saw")
+        for number in range(1, calls + 1):
+            for last in (number, ENDLESS):
+                orders = {"first": number, "last": last}
+                got = runs.run(words, given, orders=orders)
+                what = (*words, "without call", str(number), *(["and all after it"] if last == ENDLESS else []))
+                is_code_1 = (got.status, got.err) == code(1) and full.out.startswith(got.out)
+                events = runs.library.events()
+                tally.check(events.refused > 0 and (is_code_1 or said(got) == said(full)), what, "gave", said(got))
+                with opened("/dev/full", os.O_WRONLY) as device:
+                    there = runs.run(words, given, out=device, orders=orders)
+                fails = events.early > 0 if is_code_1 else got.out
+                wanted = WRITE_FAULT if fails else (got.status, got.err)
+                tally.same((*what, "on a full device"), (there.status, there.err), wanted)
+
+    return checks
+
+
+@contextlib.contextmanager
+def opened(path, flags):
+    file = os.open(path, flags)
+    try:
+        yield file
+    finally:
+        os.close(file)
+
+
+# ---------------------------------------------------------------------------------------------------------------------
+# Devices. `main` hands standard input on, and gives each output its own words and the status of the answer: where it drops
+# the input, exchanges the outputs or turns a status, nearly every check here and below fails.
+
+
+def answers(runs, tally):
+    """Answers that are known, on three usual devices; the requests of each status; what calls of write they make."""
+    for word, answer in ANSWERS.items():
+        for expression, given in [("complete(2)", b""), ("stdin", FILE)]:
+            words = (word, expression)
+            tally.same(words, said(runs.run(words, given)), (0, answer, b""))
+    for words, given, (status, line) in STATUSES:
+        got = runs.run(words, given, orders={})
+        events = runs.library.events()
+        tally.same(words, (got.status, got.err), (status, line))
+        tally.check(bool(got.out) == (status == 0), words, "wrote", got.out)
+        calls = (events.outputs > 0, events.errors)
+        tally.same((*words, "(calls for output, for errors)"), calls, (status == 0, int(status != 0)))
+
+
+def limited(words):
+    def checks(runs, tally):
+        """A file that may have k bytes, for each k below the length of the output, and for that length."""
+        full = runs.run(words)
+        tally.check(full.status == 0 and full.out, words, "gave", said(full))
+        place = os.path.join(runs.folder, "limited")
+        for size in range(len(full.out) + 1):
+            with opened(place, os.O_RDWR | os.O_CREAT | os.O_TRUNC) as file:
+                got = runs.run(words, out=file, orders={}, limit=size)
+                there = os.pread(file, len(full.out) + 1, 0)
+            what = (*words, "into a file of", str(size))
+            wanted = (0, b"") if size == len(full.out) else WRITE_FAULT
+            tally.same(what, (got.status, got.err, there), (*wanted, full.out[:size]))
+            late = runs.library.events().late
+            tally.check(late == 0, what, "wrote on after the fault:", late)
+
+    return checks
+
+
+def no_output(runs, tally):
+    """A full device, a closed pipe, an output that is closed or for reading only."""
+    for words in WRITTEN:
+        with opened("/dev/full", os.O_WRONLY) as device:
+            got = runs.run(words, out=device)
+        tally.same((*words, "on a full device"), (got.status, got.err), WRITE_FAULT)
+        for signals in (False, True):
+            ears, mouth = os.pipe()
+            os.close(ears)
+            got = runs.run(words, out=mouth, signals=signals)
+            os.close(mouth)
+            what = (*words, "on a closed pipe,", "that is a signal" if signals else "its signal ignored")
+            tally.same(what, (got.status, got.err), WRITE_FAULT)
+        got = runs.run(words, shell='exec "$@" >&-')
+        tally.same((*words, "with standard output closed"), said(got), (WRITE_FAULT[0], b"", WRITE_FAULT[1]))
+        with opened(runs.file(FILE), os.O_RDONLY) as file:
+            got = runs.run(words, out=file)
+        tally.same((*words, "with standard output for reading"), (got.status, got.err), WRITE_FAULT)
+    # an answer is written to its end before the status is 0: nothing is lost at the last write
+    ears, mouth = os.pipe()
+    with open(ears, "rb", 0) as reader:
+        def leave():
+            os.close(mouth)
+            reader.read(100)
+            reader.close()
+
+        got = runs.run(("names", "board(300,300,0,0,1,0,0)"), out=mouth, fed=leave)
+        tally.same("a pipe whose reader leaves", (got.status, got.err), WRITE_FAULT)
+
+
+def no_errors(runs, tally):
+    """Standard error closed, full, for reading only: no status or output changes."""
+    for words, given, _ in STATUSES + [(WRITTEN[2], b"", (0, b""))]:
+        for on_full in (False, True):
+            with contextlib.ExitStack() as stack:
+                def run(**changes):
+                    out = stack.enter_context(opened("/dev/full", os.O_WRONLY)) if on_full else None
+                    got = runs.run(words, given, out=out, **changes)
+                    return got.status, got.out
+
+                usual = run()
+                full = stack.enter_context(opened("/dev/full", os.O_WRONLY))
+                reading = stack.enter_context(opened(runs.file(FILE), os.O_RDONLY))
+                what = (*words, *(["on a full device,"] if on_full else []))
+                tally.same((*what, "with standard error closed"), run(shell='exec "$@" 2>&-'), usual)
+                tally.same((*what, "with standard error full"), run(err=full), usual)
+                tally.same((*what, "with standard error for reading"), run(err=reading), usual)
+    got = runs.run(("list", "stdin"), shell='exec "$@" <&- 2>&-')
+    tally.same("a read fault with standard error closed", (got.status, got.out), (3, b""))
+
+
+def no_input(runs, tally):
+    """An input that is a folder, closed or for writing only, and one that fails after k bytes, of a file or a terminal."""
+    wanted = (READ_FAULT[0], b"", READ_FAULT[1])
+    readers = [(word, "stdin") for word in ANSWERS] + [("list", "complement(gunion(complete(2),stdin,0,0),0,0,0)")]
+    for words in readers:
+        with opened(runs.folder, os.O_RDONLY) as folder:
+            tally.same((*words, "of a folder"), said(runs.run(words, folder)), wanted)
+        tally.same((*words, "with standard input closed"), said(runs.run(words, shell='exec "$@" <&-')), wanted)
+        with opened("/dev/null", os.O_WRONLY) as file:
+            tally.same((*words, "with standard input for writing"), said(runs.run(words, file)), wanted)
+        for size in range(len(FILE) + 1):
+            got = runs.run(words, FILE, orders={"readable": size})
+            tally.same((*words, "with an input that fails after", str(size)), said(got), wanted)
+    # the other end of a terminal: what was written there comes first, then it fails, since nobody has it open
+    for size in (0, 1, 52, 100, len(FILE)):
+        master, slave = pty.openpty()
+        tty.setraw(slave, termios.TCSANOW)
+        os.write(slave, FILE[:size])
+        os.close(slave)
+        got = runs.run(("list", "stdin"), master)
+        os.close(master)
+        tally.same(f"a terminal that fails after {size}", said(got), wanted)
+
+
+def short_input(runs, tally):
+    """An input that gives few bytes at a time: a file, and a pipe and a socket that give each byte by itself."""
+    for word, answer in ANSWERS.items():
+        words = (word, "stdin")
+        for step in (1, 2, 3, 7, 50, 159, 160):
+            got = runs.run(words, FILE, orders={"step": step})
+            tally.same((*words, "of a file, so many bytes at a time:", str(step)), said(got), (0, answer, b""))
+        read, write = packets()
+        tally.same((*words, "of a pipe, byte by byte"), said(fed(runs, words, read, write)), (0, answer, b""))
+        ours, theirs = (end.detach() for end in socket.socketpair(socket.AF_UNIX, socket.SOCK_SEQPACKET))
+        tally.same((*words, "of a socket, byte by byte"), said(fed(runs, words, theirs, ours)), (0, answer, b""))
+
+
+def packets():
+    """A pipe that gives each write by itself, where there is such a thing."""
+    try:
+        return os.pipe2(os.O_DIRECT)
+    except OSError:
+        return os.pipe()
+
+
+def fed(runs, words, read, write):
+    """A run that gets the file byte by byte."""
+
+    def bytes_of_it():
+        os.close(read)
+        try:
+            for place in range(len(FILE)):
+                os.write(write, FILE[place:place + 1])
+        except OSError:
+            pass  # nobody reads on; the answer tells
+        os.close(write)
+
+    return runs.run(words, read, fed=bytes_of_it)
+
+
+def unread(runs, tally):
+    """Standard input stays as it was where the words do not ask for it, and a failing one changes nothing."""
+    for words in [*WRITTEN, ("list", "board(3,"), ("names", "stdin", "--skip", "x"), ("names", "board(2,-251,0,0,1,0,0)")]:
+        usual = said(runs.run(words))
+        with opened(runs.file(FILE), os.O_RDONLY) as file:
+            got = runs.run(words, file)
+            tally.same((*words, "beside a file"), (said(got), os.lseek(file, 0, os.SEEK_CUR)), (usual, 0))
+        tally.same((*words, "with standard input closed"), said(runs.run(words, shell='exec "$@" <&-')), usual)
+        with opened(runs.folder, os.O_RDONLY) as folder:
+            tally.same((*words, "beside a folder"), said(runs.run(words, folder)), usual)
+
+
+# ---------------------------------------------------------------------------------------------------------------------
+# Files
+
+
+def cut_files(runs, tally):
+    """The file of complete(2), cut after k bytes."""
+    for size in range(len(FILE) + 1):
+        wanted = None if size >= 159 else code(11) if size > 136 else code(20) if size > 50 else code(10)
+        for word, answer in ANSWERS.items():
+            got = runs.run((word, "stdin"), FILE[:size])
+            right = (0, answer, b"") if wanted is None else (wanted[0], b"", wanted[1])
+            tally.same((word, "stdin of", str(size), "bytes"), said(got), right)
+
+
+def long_file(runs, tally):
+    """A file of some megabytes, read and saved again; the listing of its graph."""
+    expression = "board(300,300,0,0,1,0,0)"
+    saved = runs.run(("save", expression))
+    tally.check(saved.status == 0 and len(saved.out) > 4_000_000 and not saved.err, "save", expression, said(saved))
+    again = runs.run(("save", "stdin"), saved.out)
+    tally.check(said(again) == said(saved), "save stdin of", len(saved.out), "bytes gave", said(again))
+    listed = runs.run(("list", expression))
+    from_file = runs.run(("list", "stdin"), saved.out)
+    tally.check(said(from_file) == said(listed), "list stdin of", len(saved.out), "bytes gave", said(from_file))
+
+
+def promises(runs, tally):
+    """A first line that promises many arcs or vertices: refused at once, without room for them."""
+    for size in ("2V,999999999999999999A", "999999999V,2A", "999999999V,999999999999999999A"):
+        n, m = re.fullmatch("([0-9]*)V,([0-9]*)A", size).groups()
+        head = b"* GraphBase graph (util_types ZZZZZZZZZZZZZZ,%s)\n" % size.encode()
+        record = b'"x",%s,%s\n* Vertices\n' % (n.encode(), m.encode())
+        for part, text in [
+            ("its head", head),
+            ("its graph's record", head + record),
+            ("two vertices", head + record + b'"a",A0\n"b",0\n'),
+            ("an arc", head + record + b'"a",A0\n"b",0\n* Arcs\nV1,0,1\n'),
+        ]:
+            got = runs.run(("list", "stdin"), text, orders={}, shell='ulimit -t 20; exec "$@"')
+            what = f"{size}, up to {part}"
+            tally.same(what, said(got), (1, b"", code(20)[1]))
+            used = got.usage.ru_maxrss * 1024, got.usage.ru_utime + got.usage.ru_stime
+            tally.check(used[0] < MOST and used[1] < 2, what, "took bytes and seconds:", used)
+            events = runs.library.events()
+            tally.check(events.calls > 0 and events.most < MOST, what, "asked for bytes at once:", events.most)
+
+
+# ---------------------------------------------------------------------------------------------------------------------
+# What the documents say
+
+
+def commands(path):
+    """The commands of a document's indented blocks, each with the lines below it."""
+    found, block = [], []
+    with open(path, encoding="utf-8") as file:
+        lines = file.read().split("\n")
+    for line in lines + ["end"]:
+        if line.startswith("    $ "):
+            block = []
+            found.append((line[6:], block))
+        elif line.startswith("    "):
+            block.append(line[4:])
+        elif not line:
+            block.append("")
+        else:
+            block = []
+    return [(command, "\n".join(block).rstrip("\n").split("\n") if any(block) else []) for command, block in found]
+
+
+class Shell:
+    """A folder with the program as sgb and the examples, in which commands are run."""
+
+    def __init__(self, runs, name):
+        self.folder = os.path.join(runs.folder, name)
+        os.mkdir(self.folder)
+        os.symlink(PROGRAM, os.path.join(self.folder, "sgb"))
+        os.symlink(os.path.join(TOP, "examples"), os.path.join(self.folder, "examples"))
+        self.environment = dict(os.environ, PATH=self.folder + os.pathsep + os.environ.get("PATH", os.defpath))
+
+    def run(self, command):
+        shell = "bash" if "<(" in command else "sh"
+        try:
+            got = subprocess.run(
+                [shell, "-c", command], cwd=self.folder, env=self.environment, stdin=subprocess.DEVNULL,
+                capture_output=True, timeout=SECONDS,
+            )
+        except subprocess.TimeoutExpired:
+            raise DidNotEnd(f"$ {command} did not end") from None
+        return got.returncode, got.stdout, got.stderr
+
+    def file(self, name):
+        return os.path.join(self.folder, name)
+
+
+def document(path, wanted):
+    def checks(runs, tally):
+        """Each command gives what stands below it, as far as that goes."""
+        shell = Shell(runs, os.path.basename(path))
+        found = commands(os.path.join(TOP, path))
+        tally.check(len(found) >= wanted, path, "has only so many commands:", len(found))
+        # a listing that the tour compares its parts with
+        shell.run('sgb list "board(30,30,0,0,1,0,0)" > whole.txt')
+        for command, lines in found:
+            name = re.fullmatch("cat ([a-z]+[.]gb)", command)
+            if name and not os.path.exists(shell.file(name[1])):
+                # a file that is written by hand, as it is shown
+                with open(shell.file(name[1]), "w", encoding="utf-8") as file:
+                    file.write("".join(line + "\n" for line in lines))
+            if "<(" in command and not shutil.which("bash"):
+                print(f"  skipped, without bash: {command}")
+                continue
+            is_cut = lines[-1:] == [".."]
+            text = "".join(line + "\n" for line in (lines[:-1] if is_cut else lines)).encode()
+            status, out, err = shell.run(command)
+            is_right = out.startswith(text) and len(out) > len(text) if is_cut else out == text
+            tally.check(status == 0 and not err and is_right, "$", command, "gave", (status, out, err), "and not", text)
+
+    return checks
+
+
+def examples(runs, tally):
+    """The four files of `make examples`."""
+    shell = Shell(runs, "made")
+    with open(os.path.join(TOP, "Makefile"), encoding="utf-8") as file:
+        found = re.findall(r"^\t(\./sgb list .* \| cmp - examples/.*)$", file.read(), re.M)
+    tally.check(len(found) == 4, "the Makefile compares so many files:", len(found))
+    for command in found:
+        tally.same(command, shell.run(command), (0, b"", b""))
+
+
+def manual(runs, tally):
+    """The manual page's examples end with status 0 and no line; it has no warnings."""
+    shell = Shell(runs, "manual")
+    page = os.path.join(TOP, "man", "sgb.1")
+    with open(page, encoding="utf-8") as file:
+        found = re.findall(r"^\.Dl (sgb .*)$", file.read(), re.M)
+    tally.check(len(found) >= 6, "the manual page has only so many examples:", len(found))
+    for command in found:
+        command = command.replace(r"\(dq", '"').replace(r"\-", "-")
+        if "| dot " in command and not shutil.which("dot"):
+            print(f"  skipped, without dot: {command}")
+            continue
+        status, out, err = shell.run(command)
+        tally.check(status == 0 and not err, "$", command, "gave", (status, out, err))
+    if shutil.which("mandoc"):
+        linter = ["mandoc", "-T", "lint", "-W", "warning", page]
+    elif shutil.which("man"):
+        linter = ["man", "--warnings", "-l", page]
+    else:
+        print("  skipped, without mandoc and man: the manual page's warnings")
+        return
+    got = subprocess.run(linter, stdin=subprocess.DEVNULL, capture_output=True, timeout=SECONDS)
+    warnings = got.stderr + (got.stdout if linter[0] == "mandoc" else b"")
+    tally.check(got.returncode == 0 and not warnings, " ".join(linter), "gave", (got.returncode, warnings))
+
+
+# ---------------------------------------------------------------------------------------------------------------------
+
+
+def all_checks():
+    yield "answers", answers
+    yield "document README.md", document("README.md", 1)
+    yield "document docs/TOUR.md", document("docs/TOUR.md", 20)
+    yield "examples", examples
+    yield "manual", manual
+    yield "input left alone", unread
+    yield "input failing", no_input
+    yield "input short", short_input
+    yield "file cut", cut_files
+    yield "file long", long_file
+    yield "file promising", promises
+    yield "output failing", no_output
+    yield "errors failing", no_errors
+    for words in WRITTEN:
+        yield "output limited " + " ".join(words), limited(words)
+    for words, fault in OTHERS.items():
+        yield "memory " + " ".join(words), memory(words, b"", fault)
+    for expression, fault in EXPRESSIONS.items():
+        for word in ANSWERS:
+            given = FILE if expression == "stdin" else b""
+            yield f"memory {word} {expression}", memory((word, expression), given, fault)
+
+
+def main():
+    if not os.access(PROGRAM, os.X_OK):
+        sys.exit(f"{PROGRAM}: no such program")
+    passed, failed, endless = 0, 0, 0
+    with tempfile.TemporaryDirectory() as folder:
+        runs = Runs(folder)
+        for name, checks in all_checks():
+            if len(sys.argv) > 2 and not any(word in name for word in sys.argv[2:]):
+                continue
+            tally, start = Tally(), time.monotonic()
+            try:
+                checks(runs, tally)
+            except DidNotEnd as run:
+                tally.failed.append(f"{run}; what comes after it was not tried")
+                endless += 1
+            seconds = time.monotonic() - start
+            print(f"{tally.passed:6} passed {len(tally.failed):4} failed {seconds:6.1f} s  {name}", flush=True)
+            for line in tally.failed[:5]:
+                print(f"  {line}")
+            if len(tally.failed) > 5:
+                print(f"  and {len(tally.failed) - 5} more")
+            passed, failed = passed + tally.passed, failed + len(tally.failed)
+            if endless == 3:
+                print("Three runs did not end: given up")
+                break
+    print(f"{passed} passed, {failed} failed")
+    sys.exit(1 if failed else 0)
+
+
+if __name__ == "__main__":
+    main()

@@ -1,0 +1,86 @@
+#!/usr/bin/env python3
+"""Tests of sgb_graph.py: examples/sgb_graph_test.py [PROGRAM]. The graphs are also compared with networkx, if it is there."""
+
+import itertools
+import os
+import sys
+import unittest
+
+sys.path.insert(0, os.path.dirname(os.path.abspath(__file__)))
+import sgb_graph
+
+try:
+    import networkx
+except ImportError:
+    networkx = None
+
+HERE = os.path.dirname(os.path.abspath(__file__))
+PROGRAM = sys.argv.pop(1) if len(sys.argv) > 1 else os.path.join(HERE, "..", "sgb")
+
+FILE = (
+    b"* GraphBase graph (util_types ZZZZZZZZZZZZZZ,2V,2A)\n"
+    b'"pair",2,2\n* Vertices\n"a b",A0\n"",A1\n* Arcs\nV1,0,-7\nV0,0,-7\n* Checksum -1\n'
+)
+
+
+def read(expression, input=None):
+    return sgb_graph.read(expression, input, PROGRAM)
+
+
+class Listings(unittest.TestCase):
+    def test_petersen(self):
+        listing = read("petersen()")
+        self.assertEqual((listing.id, listing.n, listing.m), ("subsets(2,1,-4,0,0,0,0x1,0)", 10, 30))
+        blocks = list(listing)
+        self.assertEqual(blocks[0], ("0.0.0.1.1", [("1.1.0.0.0", 1), ("1.0.1.0.0", 1), ("0.1.1.0.0", 1)]))
+        self.assertEqual(len(blocks), 10)
+        self.assertEqual(len(list(sgb_graph.to_edges(read("petersen()")))), 15)
+
+    def test_union_has_the_least_lengths(self):
+        edges = list(sgb_graph.to_edges(read("gunion(complete(3),circuit(3),0,0)")))
+        self.assertEqual(edges, [("0", "1", 1), ("0", "2", 1), ("1", "2", 1)])
+
+    def test_directed_cycle(self):
+        edges = list(sgb_graph.to_edges(read("cycle(3)"), directed=True))
+        self.assertEqual(edges, [("0", "1", 1), ("1", "2", 1), ("2", "0", 1)])
+
+    def test_loops_stand_once(self):
+        self.assertEqual(list(sgb_graph.to_edges(read("board(1,0,0,0,1,1,0)"))), [("0", "0", 1)])
+
+    def test_file(self):
+        listing = read("stdin", FILE)
+        self.assertEqual(list(listing), [("a b", [("", -7)]), ("", [("a b", -7)])])
+
+    def test_faults(self):
+        for expression, status, code, line in [
+            ("board(3,", 2, None, "sgb: bad expression at byte 8"),
+            ("board(2,-251,0,0,1,0,0)", 1, 30, "Something went wrong (panic code 30)!"),
+            ("stdin", 1, 10, "Something went wrong (panic code 10)!"),
+        ]:
+            with self.assertRaises(sgb_graph.Fault) as raised:
+                read(expression)
+            fault = raised.exception
+            self.assertEqual((fault.status, fault.code, fault.line), (status, code, line))
+
+    def test_names_that_repeat(self):
+        with self.assertRaises(ValueError):
+            list(sgb_graph.to_edges(read("lines(board(3,0,0,0,-1,1,0),0)")))
+
+    def test_a_part_of_a_long_listing(self):
+        with read("board(60,60,0,0,-1,0,0)") as listing:
+            self.assertEqual([name for name, _ in itertools.islice(listing, 3)], ["0.0", "0.1", "0.2"])
+
+    @unittest.skipUnless(networkx, "networkx is not there")
+    def test_networkx(self):
+        petersen = sgb_graph.to_networkx(read("petersen()"))
+        self.assertTrue(networkx.is_isomorphic(networkx.Graph(petersen), networkx.petersen_graph()))
+        union = sgb_graph.to_networkx(read("gunion(complete(5),circuit(5),1,0)"))
+        self.assertEqual((union.number_of_nodes(), union.number_of_edges()), (5, 15))
+        cycle = sgb_graph.to_networkx(read("cycle(7)"), directed=True)
+        self.assertTrue(networkx.is_isomorphic(networkx.DiGraph(cycle), networkx.cycle_graph(7, networkx.DiGraph)))
+        pair = sgb_graph.to_networkx(read("stdin", FILE))
+        self.assertEqual(list(pair.edges(data="weight")), [("a b", "", -7)])
+
+
+if __name__ == "__main__":
+    unittest.main()
