@@ -1,5 +1,5 @@
 -- The values of entries, one after another.
-use Rattle.std.proofs.Common.{◌≡◌, ◌≤◌, ◌<◌, ◌+◌, ◌++◌, ℕ, zero, suc, Bool, Box, Global, List, [], ◌∷◌, length, get_or, Result, Ok, Err, inl, inr, refl, sym, ap, ◌∙◌, rules, arith}
+use Rattle.std.proofs.Common.{◌≡◌, ◌≤◌, ◌<◌, ◌+◌, ◌++◌, ℕ, zero, suc, Bool, Box, Global, List, [], ◌∷◌, length, get_or, Result, Ok, Err, inl, inr, refl, ap, ◌∙◌, rules, arith}
 use Rattle.sgb_vec.specs.Results.{and_then}
 use Rattle.sgb_vec.specs.declared.panics.Panic.{Panic}
 use Rattle.sgb_graph.specs.Graphs.{GraphData}

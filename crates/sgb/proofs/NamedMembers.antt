@@ -1,7 +1,7 @@
 -- The members of a family by their names: no two have the same one.
 use Rattle.std.proofs.Common.{◌≡◌, ◌≢◌, ◌∙◌, ℕ, suc, ◌<◌, true, List, [], ◌∷◌, ◌++◌, length, drop, get_or, map, Option, Some, None, option_map, refl, sym, ap, subst, inl, inr, arith}
 use Rattle.std.specs.List.{Contains, flat_map, slice_get}
-use Rattle.std.specs.Option.{IfSome, IfNone}
+use Rattle.std.specs.Option.{IfSome}
 use Rattle.std.specs.Cmp.Lexicographic.{bytes_decides}
 use Rattle.std.proofs.lemmas.Bool.{cases_Bool}
 use Rattle.std.proofs.lemmas.List.{drop-map, get_or-map, get_or_at, get_or_default, length-map, length-append}
@@ -17,7 +17,6 @@ use Rattle.sgb_gen.specs.VectorGraphs.{vertex_among}
 use Rattle.sgb_gen.proofs.RisingVectors.{vertex_in_rising}
 use Rattle.sgb.specs.Outcomes.{vertex_named}
 use Rattle.sgb.specs.Texts.{name_line, name_lines}
-use Rattle.sgb.specs.inner.Remaining.{IsNameAfter}
 use Rattle.sgb.proofs.Named.{NoneBefore, has_name, named_here, named_nowhere}
 
 -- vectors of the same name are the same
@@ -101,13 +100,6 @@ rest_after members rising x after (before, whole) =
     let there : slice_get members i ≡ Some x =
     slice_get_read members (length members) i x refl within (sym (ap (λ ys. get_or ys i x) whole ∙ get_or_at before x after x i refl)) in
     sym (ap (λ k. drop (suc k) members) (vertex_in_rising members i x rising there) ∙ ap (drop (suc i)) whole ∙ after_both x before after)
-
--- what comes after a member, by its name
-pub after_named : (members : List (List ℕ)) → IsRising members → (x name : List ℕ) (r : Option (List (List ℕ))) → Contains members x
-    → vertex_named name (map name_of_vector members) ≡ Some (vertex_among members x)
-    → IfSome r (λ after. ComeAfter members x after) → IfNone r (Contains members x → ⊥) → IsNameAfter members name r
-after_named members rising x name (Some after) there named comes none = (vertex_among members x, named, rest_after members rising x after comes)
-after_named members rising x name None there named comes none = absurd (none there)
 
 -- what is left after the vector at which the listing begins
 pub rest_from : (members : List (List ℕ)) → IsRising members → (x : List ℕ) (r : Option (List (List ℕ))) (rest : List (List ℕ)) → r ≡ Some rest

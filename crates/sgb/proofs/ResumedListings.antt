@@ -1,7 +1,10 @@
--- Where the listing of a generator's graph begins.
-use Rattle.std.proofs.Common.{◌≡◌, ◌∙◌, ◌-◌, ◌<◌, ℕ, suc, List, [], length, map, drop, Some, None, Ok, Err, sym, ap, arith}
-use Rattle.std.specs.List.{slice_get}
-use Rattle.std.proofs.lemmas.List.{length-drop, length-map}
+-- Where the answer to a request about a family begins.
+use Rattle.std.proofs.Common.{◌≡◌, ◌∙◌, ◌+◌, ◌<◌, ◌≤◌, min, ℕ, suc, List, Bool, true, false, length, map, drop, Option, Some, None, Result, option_map, inl, inr, refl, sym, ap, ap₂, subst, arith}
+use Rattle.std.specs.Bool.{OnTrue, OnFalse}
+use Rattle.std.specs.List.{flat_map, slice_get}
+use Rattle.std.specs.Option.{IfSome}
+use Rattle.std.proofs.lemmas.Bool.{cases_lt}
+use Rattle.std.proofs.lemmas.List.{drop_all}
 use Rattle.sgb_vec.specs.Lexicographic.{IsRising}
 use Rattle.sgb_vec.specs.Names.{name_of_vector}
 use Rattle.sgb_graph.specs.Made.{graph_described}
@@ -9,39 +12,67 @@ use Rattle.sgb_gen.specs.VectorGraphs.{vertex_among}
 use Rattle.sgb_gen.proofs.RisingVectors.{vertex_in_rising}
 use Rattle.sgb_ops.specs.Operands.{names_of}
 use Rattle.sgb.specs.Locals.{start_after, vectors_of}
-use Rattle.sgb.specs.Outcomes.{left_out, left_out_by, vertex_named}
+use Rattle.sgb.specs.Outcomes.{left_out}
 use Rattle.sgb.specs.Texts.{blocks}
 use Rattle.sgb.specs.Values.{described}
 use Rattle.sgb.specs.declared.locals.Local.{Local}
-use Rattle.sgb_requests.specs.declared.faults.Fault.TheVariants as fault
+use Rattle.sgb.specs.inner.Locals.{local_block}
+use Rattle.sgb.specs.inner.Remaining.{BeginsAfter, IsLastSkipped}
+use Rattle.sgb_requests.specs.declared.faults.Fault.{Fault}
+use Rattle.sgb_requests.specs.declared.requests.Resume.{Resume}
 use Rattle.sgb_requests.specs.declared.requests.Resume.TheVariants as resume
-use Rattle.sgb.proofs.Listings.{blocks-none}
-use Rattle.sgb.proofs.LocalListings.{first_in_drop, named_by_members}
+use Rattle.sgb.proofs.LocalListings.{blocks_of_rest, contains_in_drop, first_in_drop, named_by_members}
 
--- after the vector at a place the next place is the first
-pub start_behind : (members vectors : List (List ℕ)) (k : ℕ) (x : List ℕ) → members ≡ vectors → IsRising members → 0 < k → slice_get (drop (k - 1) members) 0 ≡ Some x
-    → start_after vectors (Some x) ≡ k
-start_behind members vectors k x same rising positive first =
-    let there : slice_get members (k - 1) ≡ Some x = sym (first_in_drop (k - 1) members) ∙ first in
-    let place : vertex_among members x ≡ k - 1 = vertex_in_rising members (k - 1) x rising there in
-    let next : suc (k - 1) ≡ k = omega (arith, positive) in
-    ap (λ ms. suc (vertex_among ms x)) (sym same) ∙ ap suc place ∙ next
+-- what holds of the value of what there may be
+pub of_value : {A B : Type 0} (f : A → B) (P : B → Type 0) (o : Option A) (m : Option B) → option_map f o ≡ m → IfSome m P → IfSome o (λ x. P (f x))
+of_value f P None m e h = tt
+of_value f P (Some x) m e h = subst (λ p. IfSome p P) (sym e) h
 
--- no block is left where no vector is
-pub none_behind : (l : Local) (members : List (List ℕ)) (k : ℕ) → members ≡ vectors_of l → drop (k - 1) members ≡ [] → blocks (graph_described (described l)) k ≡ []
-none_behind l members k same none =
-    let g = graph_described (described l) in
-    blocks-none g k
-    (omega (arith, ap length none, length-drop (k - 1) members, ap length (named_by_members l members same), length-map members name_of_vector))
+-- nothing is left out of a list by a number that is its length at least
+pub all_skipped : (members : List (List ℕ)) (count n : ℕ) → n ≡ length members → n ≤ count → drop count members ≡ drop n members
+all_skipped members count n size most =
+    drop_all count members (omega (arith, size, most)) ∙ sym (drop_all n members (omega (arith, size)))
 
--- the listing begins after the member of a name
-pub starts_after_name : (l : Local) (members : List (List ℕ)) (x name : List ℕ) → members ≡ vectors_of l → vertex_named name (map name_of_vector members) ≡ Some (vertex_among members x)
-    → left_out (names_of (graph_described (described l))) (resume.After name) ≡ Ok (start_after (vectors_of l) (Some x))
-starts_after_name l members x name same named =
-    ap (λ ns. left_out_by (vertex_named name ns)) (named_by_members l members same) ∙ ap left_out_by named ∙ ap (λ ms. Ok (suc (vertex_among ms x))) same
+-- the answer begins after the last of the first so many members
+pub skipped_begins : (members : List (List ℕ)) → IsRising members → (count : ℕ) (start : Option (List ℕ)) → IsLastSkipped members count start
+    → BeginsAfter members (resume.Skip count) start
+skipped_begins members rising count None none = (tt, (count, refl, none))
+skipped_begins members rising count (Some x) (k, there, same) =
+    let place : vertex_among members x ≡ k = vertex_in_rising members k x rising there in
+    let here : slice_get (drop k members) 0 ≡ Some x = first_in_drop k members ∙ there in
+    (contains_in_drop k members x here, (count, refl, same ∙ ap (λ j. drop (suc j) members) (sym place)))
 
--- or nowhere
-pub starts_nowhere : (l : Local) (members : List (List ℕ)) (name : List ℕ) → members ≡ vectors_of l → vertex_named name (map name_of_vector members) ≡ None
-    → left_out (names_of (graph_described (described l))) (resume.After name) ≡ Err fault.NoVertex
-starts_nowhere l members name same none =
-    ap (λ ns. left_out_by (vertex_named name ns)) (named_by_members l members same) ∙ ap left_out_by none
+-- the blocks are the same where the same vectors are left
+pub blocks_alike : (l : Local) (members : List (List ℕ)) (j k : ℕ) → members ≡ vectors_of l → drop j members ≡ drop k members
+    → blocks (graph_described (described l)) j ≡ blocks (graph_described (described l)) k
+blocks_alike l members j k same alike =
+    let left : drop j (vectors_of l) ≡ drop k (vectors_of l) = subst (λ ms. drop j ms ≡ drop k ms) same alike in
+    blocks_of_rest l j (drop j (vectors_of l)) refl ∙ ap (flat_map (local_block l)) left ∙ sym (blocks_of_rest l k (drop k (vectors_of l)) refl)
+
+-- what is left out of the graph's names
+pub left_out_of_graph : (l : Local) (members : List (List ℕ)) (r : Resume) (a : Result ℕ Fault) → members ≡ vectors_of l → left_out (map name_of_vector members) r ≡ a
+    → a ≡ left_out (names_of (graph_described (described l))) r
+left_out_of_graph l members r a same e = sym (ap (λ ns. left_out ns r) (named_by_members l members same) ∙ e)
+
+-- the blocks after the vector where the listing begins are those that are not left out
+pub blocks_after : (l : Local) (members : List (List ℕ)) (k : ℕ) (start after : Option (List ℕ)) → members ≡ vectors_of l
+    → drop k members ≡ drop (start_after members start) members → after ≡ start
+    → blocks (graph_described (described l)) k ≡ blocks (graph_described (described l)) (start_after (vectors_of l) after)
+blocks_after l members k start after same alike is =
+    blocks_alike l members k (start_after members start) same alike
+    ∙ ap₂ (λ ms o. blocks (graph_described (described l)) (start_after ms o)) same (sym is)
+
+-- the last of the first so many members, by its place, where there is such a place
+pub skipped_last : (members : List (List ℕ)) (count n skipped place : ℕ) (found : Bool) (v : List ℕ) → n ≡ length members → skipped ≡ min count n → 0 < skipped → place + 1 ≡ skipped
+    → OnTrue found (slice_get members place ≡ Some v) → OnFalse found (length members ≤ place)
+    → (k : ℕ) × (slice_get members k ≡ Some v) × (drop count members ≡ drop (suc k) members)
+skipped_last members count n skipped place true v size least some next there none =
+    elim (cases_lt count n) [
+      | inl fewer ↦
+          let same : count ≡ suc place = omega (arith, least, next, fewer) in
+          (place, there, ap (λ k. drop k members) same)
+      | inr more ↦
+          let all : n ≡ suc place = omega (arith, least, next, more) in
+          (place, there, all_skipped members count n size more ∙ ap (λ k. drop k members) all)
+    ]
+skipped_last members count n skipped place false v size least some next there none = absurd (omega (arith, none, size, least, next))

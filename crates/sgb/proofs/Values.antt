@@ -1,5 +1,5 @@
 -- Values of expressions, from those of their operands.
-use Rattle.std.proofs.Common.{◌∙◌, ◌≡◌, ◌+◌, ℕ, Result, Ok, Err, ap, refl, sym, subst, inl, inr}
+use Rattle.std.proofs.Common.{◌≡◌, ◌+◌, ℕ, Result, Ok, Err, ap, refl, sym, subst, inl, inr}
 use Rattle.sgb_vec.specs.Results.{and_then}
 use Rattle.sgb_vec.specs.declared.panics.Panic.{Panic}
 use Rattle.sgb_graph.specs.Descriptions.{Description, IsAnswerOf}

@@ -1,5 +1,5 @@
 -- The listing of a generator's graph from its vectors, one list of arcs at a time.
-use Rattle.std.specs.Prelude.{ℕ, suc, ◌+◌, Bool, true, false, Option, Some, None, List, [], ◌++◌}
+use Rattle.std.specs.Prelude.{ℕ, suc, Bool, true, false, Option, Some, None, List, [], ◌++◌}
 use Rattle.sgb_gen.specs.Boards.{board_vectors}
 use Rattle.sgb_gen.specs.Simplexes.{simplex_vectors}
 use Rattle.sgb_gen.specs.Subsets.{subsets_vectors}

@@ -14,7 +14,7 @@ pub(crate) mod flips;
 pub(crate) mod listing;
 // Names of a generator's vectors.
 pub(crate) mod names;
-// Listings from a generator's vectors, from where they begin.
+// Where the names and the listing of a generator's vectors begin.
 pub(crate) mod resumed;
 // Names of a graph's vertices.
 pub(crate) mod vertices;

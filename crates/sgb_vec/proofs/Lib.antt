@@ -1,6 +1,8 @@
 -- The lemmas and examples of sgb_vec, by subject.
 -- sizes and parameters of a board
 pub mod BoardSizes
+-- the vector at a place of a box, as digits of the place
+pub mod BoxDigits
 -- the first, the last and the next vector of a box
 pub mod BoxOrder
 -- where a vector stands in a box

@@ -77,6 +77,16 @@ impl Family for BoxFamily {
         each_below(vector, self.sizes.as_slice())
     }
 
+    // It is computed: no vector before it is made.
+    fn at(&self, place: u32, vector: &mut Vector) -> bool {
+        if place >= self.count {
+            return false;
+        }
+        put_zeros(vector, self.sizes.len(), &mut Steps::new());
+        put_at(self.sizes.as_slice(), vector.as_mut_slice(), place);
+        true
+    }
+
     fn first(&self, vector: &mut Vector, steps: &mut Steps) -> bool {
         if self.size() == 0 {
             return false;
@@ -155,6 +165,20 @@ fn place_among(sizes: &[u32], vector: &[u32]) -> u32
         place = place * sizes[k] + entry;
     }
     place
+}
+
+// Makes `entries` the vector at this place among those of the box of these sizes: its digits in mixed radix, the last
+// one first.
+fn put_at(sizes: &[u32], entries: &mut [u32], place: u32)
+    requires same_length { length entries.old ≡ length sizes.now }
+    requires within { place < product_of sizes.now }
+    ensures { slice_get (box sizes.now) place ≡ Some entries.new }
+{
+    let mut rest = place;
+    for k in (0..sizes.len()).rev() {
+        entries[k] = rest % sizes[k];
+        rest /= sizes[k];
+    }
 }
 
 // Makes all entries zeros.

@@ -1,4 +1,4 @@
-ghost use Rattle.std.specs.Prelude.{◌≡◌, ◌≤◌, ◌^◌, ℕ, ◌↔◌, List, [], IsTrue, Contains, length};
+ghost use Rattle.std.specs.Prelude.{◌≡◌, ◌≤◌, ◌^◌, ℕ, ◌↔◌, List, [], IsTrue, Contains, Some, length, slice_get};
 ghost use Rattle.std.specs.Bool.{OnTrue, OnFalse};
 ghost use Rattle.sgb_vec.specs.Lexicographic.{IsRising};
 ghost use Rattle.sgb_vec.specs.NamedVectors.{IsVector};
@@ -33,6 +33,14 @@ pub trait Family {
     /// Whether the vector is a member.
     fn holds(&self, vector: &[u32]) -> bool
         ensures { IsTrue result ↔ Contains (members self.now) vector.now };
+
+    /// Puts the member at this place, counted from 0, into `vector`. `false` where there are not so many, and `vector` is
+    /// then as before.
+    fn at(&self, place: u32, vector: &mut Vector) -> bool
+        ensures found { OnTrue result (slice_get (members self.now) place
+            ≡ Some vector.new.items) }
+        ensures none { OnFalse result (length (members self.now) ≤ place) }
+        ensures unchanged { OnFalse result (vector.new.items ≡ vector.old.items) };
 
     /// Puts the first member into `vector`. `false` where there is none, and `vector` is then as before.
     fn first(&self, vector: &mut Vector, steps: &mut Steps) -> bool

@@ -147,6 +147,18 @@ impl Family for SumFamily {
         each_within(vector, self.bounds.as_slice()) && total_of(vector) == u64::from(self.total)
     }
 
+    // The members before it are walked.
+    fn at(&self, place: u32, vector: &mut Vector) -> bool {
+        if place >= self.count {
+            return false;
+        }
+        let _some = self.first(vector, &mut Steps::new());
+        for _k in 0..place {
+            let _more = self.advance(vector.as_mut_slice(), &mut Steps::new());
+        }
+        true
+    }
+
     fn first(&self, vector: &mut Vector, steps: &mut Steps) -> bool {
         if self.size() == 0 {
             return false;

@@ -3,7 +3,7 @@ use super::refusals::check_refusals;
 use super::{CODE_30, CODE_40, CODE_60, answers_are};
 use std::test::Fail;
 
-static ANSWERS: [(&[&str], &str); 21] = [
+static ANSWERS: [(&[&str], &str); 22] = [
     (
         &["list", "wheel(3,1,0)"],
         "  The graph whose official name is\nwheel(3,1,0)\n  has 4 vertices and 12 arcs:\n\n\
@@ -33,6 +33,14 @@ static ANSWERS: [(&[&str], &str); 21] = [
         0,1\n  -> 1,1, length 1\n  -> 0,0, length 1\n\
         1,0\n  -> 0,0, length 1\n  -> 1,1, length 1\n\
         1,1\n  -> 0,1, length 1\n  -> 1,0, length 1\n",
+    ),
+    (
+        &["list", "product(complete(2),complete(2),1,0)"],
+        "  The graph whose official name is\nproduct(board(2,0,0,0,-1,0,0),board(2,0,0,0,-1,0,0),1,0)\n  has 4 vertices and 4 arcs:\n\n\
+        0,0\n  -> 1,1, length 1\n\
+        0,1\n  -> 1,0, length 1\n\
+        1,0\n  -> 0,1, length 1\n\
+        1,1\n  -> 0,0, length 1\n",
     ),
     // an odd type is the direct product, and its id has type 1
     (

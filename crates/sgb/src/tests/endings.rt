@@ -2,7 +2,7 @@
 ghost use Rattle.std.specs.Prelude.{◌<◌};
 
 use super::devices::Counted;
-use super::{Faults, Left, WRITE_FAULT, call, check_call, left_by};
+use super::{Faults, Left, NO_VERTEX, WRITE_FAULT, answered, call, check_call, left_by};
 use sgb_file::{Buffered, CutSink};
 use std::alloc::Global;
 use std::io::{self, Error, ErrorKind, Write};
@@ -42,6 +42,44 @@ fn check_write_faults(rt: &impl Abort, alloc: Global, put: bool, deaf: bool) -> 
     for (words, empty) in &ANSWERED {
         let left = left_by(alloc, words, faults)?;
         check_call(rt, words, is_write_fault(&left, put && !*empty, line));
+    }
+    Ok(())
+}
+
+// Where only the flush fails the whole output stands.
+fn check_late_fault(rt: &impl Abort, alloc: Global, words: &[&str]) -> Result<(), Fail> {
+    let faults = Faults {
+        put: false,
+        flush: true,
+        deaf: false,
+    };
+    let whole = answered(rt, alloc, words)?;
+    let left = left_by(alloc, words, faults)?;
+    check_call(rt, words, left.has(WRITE_FAULT, 3));
+    check_call(rt, words, left.out.bytes() == whole.bytes());
+    Ok(())
+}
+
+#[test]
+fn a_flush_that_fails_comes_last(rt: HostRuntime) -> Result<(), Fail> {
+    for (words, _empty) in &ANSWERED {
+        check_late_fault(&rt, rt.alloc(), words)?;
+    }
+    Ok(())
+}
+
+// A refused request is not flushed, so that it keeps its line.
+#[test]
+fn a_refusal_comes_before_the_flush(rt: HostRuntime) -> Result<(), Fail> {
+    let faults = Faults {
+        put: true,
+        flush: true,
+        deaf: false,
+    };
+    for command in ["names", "list"] {
+        let words = [command, SMALL, "--after", "2"];
+        let left = left_by(rt.alloc(), &words, faults)?;
+        check_call(&rt, &words, left.is_refusal(NO_VERTEX, 1));
     }
     Ok(())
 }
@@ -145,8 +183,8 @@ fn is_cut_off(
 ) -> Result<bool, Fail>
     requires { 0 < each }
 {
-    let mut out: CutSink<160> = CutSink::new(each, limit, false);
-    let mut errors: CutSink<160> = CutSink::new(each, 128, false);
+    let mut out: CutSink<2600> = CutSink::new(each, limit, false);
+    let mut errors: CutSink<128> = CutSink::new(each, 128, false);
     let status = call(alloc, words, &mut out, &mut errors)?;
     let (line, wanted) = ending(limit < whole.len());
     let is_prefix = out.bytes().len() == limit && whole.starts_with(out.bytes());
@@ -171,7 +209,7 @@ fn check_short_sinks(rt: &impl Abort, alloc: Global, each: usize) -> Result<(), 
 }
 
 // Words, output.
-static SHORT_ANSWERS: [(&[&str], &str); 4] = [
+static SHORT_ANSWERS: [(&[&str], &str); 6] = [
     (
         &["save", "board(1,0,0,0,1,0,0)"],
         "* GraphBase graph (util_types ZZZIIIZZZZZZZZ,1V,0A)\n\"board(1,0,0,0,1,0,0)\",1,0\n\
@@ -187,6 +225,21 @@ static SHORT_ANSWERS: [(&[&str], &str); 4] = [
         0\n  -> 1, length 1\n1\n  -> 0, length 1\n",
     ),
     (
+        &["save", "complete(2)"],
+        "* GraphBase graph (util_types ZZZIIIZZZZZZZZ,2V,2A)\n\"board(2,0,0,0,-1,0,0)\",2,2\n\
+        * Vertices\n\"0\",A0,0,0,0\n\"1\",A1,1,0,0\n* Arcs\nV1,0,1\nV0,0,1\n* Checksum 1066721325\n",
+    ),
+    (
+        &["list", "simplex(2,0,0,0,0,0,0)"],
+        "  The graph whose official name is\nsimplex(2,-2,0,0,0,0,0)\n  has 6 vertices and 18 arcs:\n\n\
+        0.0.2\n  -> 1.0.1, length 1\n  -> 0.1.1, length 1\n\
+        0.1.1\n  -> 1.1.0, length 1\n  -> 1.0.1, length 1\n  -> 0.2.0, length 1\n  -> 0.0.2, length 1\n\
+        0.2.0\n  -> 1.1.0, length 1\n  -> 0.1.1, length 1\n\
+        1.0.1\n  -> 2.0.0, length 1\n  -> 1.1.0, length 1\n  -> 0.0.2, length 1\n  -> 0.1.1, length 1\n\
+        1.1.0\n  -> 2.0.0, length 1\n  -> 1.0.1, length 1\n  -> 0.1.1, length 1\n  -> 0.2.0, length 1\n\
+        2.0.0\n  -> 1.0.1, length 1\n  -> 1.1.0, length 1\n",
+    ),
+    (
         &["flip", "flip(7,0,4,0)"],
         "529181769\n719591340\n1610774012\n194604418\n",
     ),
@@ -198,4 +251,15 @@ fn short_sinks(rt: HostRuntime) -> Result<(), Fail> {
     check_short_sinks(&rt, rt.alloc(), 3)?;
     check_short_sinks(&rt, rt.alloc(), 7)?;
     check_short_sinks(&rt, rt.alloc(), 1000)
+}
+
+#[test]
+fn short_sinks_of_queens(rt: HostRuntime) -> Result<(), Fail> {
+    let words = ["queen"];
+    let whole = answered(&rt, rt.alloc(), &words)?;
+    for limit in 0..=whole.bytes().len() {
+        let is_cut = is_cut_off(rt.alloc(), &words, whole.bytes(), 7, limit)?;
+        check_call(&rt, &words, is_cut);
+    }
+    Ok(())
 }

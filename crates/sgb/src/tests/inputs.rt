@@ -2,8 +2,8 @@
 ghost use Rattle.std.specs.Prelude.{◌<◌};
 
 use super::{
-    CODE_10, CODE_11, CODE_20, CODE_30, CODE_60, NO_VERTEX, NONE, READ_FAULT, USAGE, check_call,
-    left_on,
+    CODE_10, CODE_11, CODE_20, CODE_30, CODE_60, NO_VERTEX, NONE, READ_FAULT, USAGE, answered,
+    check_call, left_on,
 };
 use sgb_file::{CutSource, MemSource, Source};
 use std::alloc::Global;
@@ -110,7 +110,7 @@ static ANSWERS: [(&[&str], &str, &str); 13] = [
 ];
 
 // Words, standard input, the line of the refusal.
-static REFUSED: [(&[&str], &str, &str); 15] = [
+static REFUSED: [(&[&str], &str, &str); 16] = [
     (&["list", "stdin"], "", CODE_10),
     // another checksum, and none
     (
@@ -147,6 +147,13 @@ static REFUSED: [(&[&str], &str, &str); 15] = [
     (
         &["list", "stdin"],
         "* GraphBase graph (util_types ZZZZZZZZZZZZZZ,999999999V,0A)\n\"a\",999999999,0\n* Vertices\n",
+        CODE_20,
+    ),
+    // one that ends before its many arcs
+    (
+        &["list", "stdin"],
+        "* GraphBase graph (util_types ZZZZZZZZZZZZZZ,0V,999999999999999999A)\n\"a\",0,999999999999999999\n\
+        * Vertices\n* Arcs\n",
         CODE_20,
     ),
     // a graph with arcs that are no edges
@@ -294,4 +301,17 @@ fn standard_input_is_read_whole(rt: HostRuntime) -> Result<(), Fail> {
         &mut source,
         ("", CODE_10, 1),
     )
+}
+
+// A file of some megabytes is saved, read, and saved again: the same bytes.
+#[test]
+fn a_long_file(rt: HostRuntime) -> Result<(), Fail> {
+    let words = ["save", "board(150,150,0,0,1,0,0)"];
+    let saved = answered(&rt, rt.alloc(), &words)?;
+    let mut source = MemSource::new(saved.bytes());
+    let left = left_on(rt.alloc(), &["save", "stdin"], &mut source, NONE)?;
+    assert!(rt; saved.bytes().len() > 1_500_000);
+    assert!(rt; left.has("", 0));
+    assert!(rt; left.out.bytes() == saved.bytes());
+    Ok(())
 }

@@ -7,7 +7,7 @@ use sgb_gen::{Board, BoardParams, Links};
 use std::alloc::Global;
 use std::test::Fail;
 
-static LISTINGS: [(&[&str], &str); 18] = [
+static LISTINGS: [(&[&str], &str); 20] = [
     (
         &["list", "board(2,2,0,0,1,0,0)"],
         "  The graph whose official name is\nboard(2,2,0,0,1,0,0)\n  has 4 vertices and 8 arcs:\n\n\
@@ -69,6 +69,15 @@ static LISTINGS: [(&[&str], &str); 18] = [
     (
         &[
             "list",
+            "board(1000000000,0,0,0,1,0,0)",
+            "--skip",
+            "999999999",
+        ],
+        "999999999\n  -> 999999998, length 1\n",
+    ),
+    (
+        &[
+            "list",
             "simplex(500000000,-1,0,0,0,0,0)",
             "--after",
             "499999999.1",
@@ -106,6 +115,17 @@ static LISTINGS: [(&[&str], &str); 18] = [
     (
         &["list", "simplex(0,3,0,0,0,0,0)"],
         "  The graph whose official name is\nsimplex(0,0,0,0,0,0,0)\n  has 1 vertices and 0 arcs:\n\n0\n",
+    ),
+    (
+        &["list", "subsets(3,2,2,2,0,0,3,0)"],
+        "  The graph whose official name is\nsubsets(3,2,2,2,0,0,0x3,0)\n  has 7 vertices and 18 arcs:\n\n\
+                0.1.2\n  -> 2.1.0, length 1\n  -> 2.0.1, length 1\n  -> 1.2.0, length 1\n\
+                0.2.1\n  -> 2.1.0, length 1\n  -> 2.0.1, length 1\n  -> 1.0.2, length 1\n\
+                1.0.2\n  -> 2.1.0, length 1\n  -> 1.2.0, length 1\n  -> 0.2.1, length 1\n\
+                1.1.1\n\
+                1.2.0\n  -> 2.0.1, length 1\n  -> 1.0.2, length 1\n  -> 0.1.2, length 1\n\
+                2.0.1\n  -> 1.2.0, length 1\n  -> 0.2.1, length 1\n  -> 0.1.2, length 1\n\
+                2.1.0\n  -> 1.0.2, length 1\n  -> 0.2.1, length 1\n  -> 0.1.2, length 1\n",
     ),
     (
         &["list", "subsets(3,2,2,2,0,0,3,0)", "--skip", "3"],

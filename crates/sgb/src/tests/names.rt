@@ -75,8 +75,17 @@ fn many_names(rt: HostRuntime) -> Result<(), Fail> {
     answers_have(&rt, rt.alloc(), &MANY_NAMES)
 }
 
-// The vectors after a name are found without those before it, of which there may be a billion.
-static AFTER_MANY: [(&[&str], &str); 3] = [
+// The vectors after a name, or after many of a board, are found without those before it, of which there may be a billion.
+static AFTER_MANY: [(&[&str], &str); 4] = [
+    (
+        &[
+            "names",
+            "board(1000000000,0,0,0,1,0,0)",
+            "--skip",
+            "999999998",
+        ],
+        "999999998\n999999999\n",
+    ),
     (
         &[
             "names",

@@ -149,11 +149,15 @@ macro_rules! complements {
     };
 }
 
-// An expression with 64 open parentheses is read.
-static DEEP: [(&[&str], &str); 1] = [(
-    &["names", complements!("petersen()"), "--skip", "9"],
-    "1.1.0.0.0\n",
-)];
+// An expression with 64 open parentheses is read. Its id is as long as one may be.
+static DEEP: [Parts; 1] = [Parts {
+    words: &["list", complements!("petersen()")],
+    start: "  The graph whose official name is\n\
+        complement(complement(complement(complement(complement(complement(complement(complement(\
+        complement(complement(complement(complement(complement(comple...),0,0,0)\n  has 10 vertices and 60 arcs:\n\n0.0.0.1.1\n",
+    end: ", length 1\n",
+    lines: 74,
+}];
 
 // One with 65 is too large.
 static TOO_DEEP: [(&[&str], &str, u8); 1] = [(
@@ -164,6 +168,6 @@ static TOO_DEEP: [(&[&str], &str, u8); 1] = [(
 
 #[test]
 fn as_many_parentheses_as_are_read(rt: HostRuntime) -> Result<(), Fail> {
-    answers_are(&rt, rt.alloc(), &DEEP)?;
+    answers_have(&rt, rt.alloc(), &DEEP)?;
     check_refusals(&rt, rt.alloc(), &TOO_DEEP)
 }

@@ -13,9 +13,10 @@ use std::process::Abort;
 use std::test::Fail;
 
 // Words that are refused or make a request that is, with the line and the status.
-static REFUSED: [(&[&str], &str, u8); 40] = [
+static REFUSED: [(&[&str], &str, u8); 41] = [
     (&["names", "board(2,-251,0,0,1,0,0)"], CODE_30, 1),
     (&["names", "board(2,-30,0,0,1,0,0)"], CODE_40, 1),
+    (&["names", "board(2,-92,0,0,1,0,0)"], CODE_40, 1),
     (&["names", "board(2,0,0,0,2147483648,0,0)"], CODE_40, 1),
     (&["names", "board(65536,65536,0,0,1,0,0)"], CODE_40, 1),
     (

@@ -12,6 +12,7 @@ ghost use Rattle.sgb.specs.Writing.{IsWritten};
 
 use super::listing::write_head_of;
 use super::names::{write_name, write_name_line};
+use super::resumed::vectors_after;
 use super::{write_bytes, write_texts};
 use crate::locals::Local;
 use itoa::Buffer;
@@ -65,18 +66,6 @@ fn list_vectors<F: Family, W: Sink>(
     let vectors = vectors_after(family, after);
     write_head_if(head, local, family, links, out)?;
     write_blocks(local, vectors, links, out)
-}
-
-// The vectors of the family after this member, or all.
-fn vectors_after<'a, F: Family>(family: &'a F, after: Option<&[u32]>) -> Vectors<'a, F>
-    requires { IfSome after (λ x. Contains (F.members family.now) x.now) }
-    ensures { result ≡ drop (start_after (F.members family.now)
-        (option_map (λ x. x.now) after.entry)) (F.members family.now) }
-{
-    match after {
-        None => Vectors::all(family),
-        Some(x) => Vectors::after(family, x).unwrap(),
-    }
 }
 
 // Writes the head where it is asked for.

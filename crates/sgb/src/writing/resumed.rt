@@ -1,21 +1,23 @@
-//! The listing of a generator's graph from where the answer begins.
-ghost use Rattle.std.specs.Prelude.{◌≡◌, false};
+//! Where the answer to a request about a family begins.
+ghost use Rattle.std.specs.Prelude.{◌≡◌, false, drop, map, option_map, Contains, Err, IfSome};
+ghost use Rattle.std.specs.Result.{MatchResult};
 ghost use Rattle.sgb_file.specs.Devices.{change};
+ghost use Rattle.sgb_graph.specs.Graphs.{GraphData};
 ghost use Rattle.sgb_graph.specs.Made.{graph_described};
-ghost use Rattle.sgb.specs.Locals.{vectors_of};
-ghost use Rattle.sgb.specs.Outcomes.{list_answer};
-ghost use Rattle.sgb.specs.Texts.{blocks};
+ghost use Rattle.sgb_vec.specs.Names.{name_of_vector};
+ghost use Rattle.sgb.specs.Locals.{head_if, start_after, vectors_of};
+ghost use Rattle.sgb.specs.Outcomes.{head_for, left_out, list_answer};
+ghost use Rattle.sgb.specs.Texts.{head};
 ghost use Rattle.sgb.specs.Values.{described};
-ghost use Rattle.sgb.specs.Writing.{IsWritten};
+ghost use Rattle.sgb.specs.inner.Remaining.{BeginsAfter, IsLastSkipped, IsMemberNamed};
 ghost use Rattle.sgb.specs.inner.Writing.{IsEnded};
 
 use super::families::list_family;
-use super::names::{member_named, without_first};
 use crate::locals::Local;
 use sgb_file::Sink;
 use sgb_gen::Links;
 use sgb_requests::{Fault, Resume};
-use sgb_vec::Family;
+use sgb_vec::{Family, Vector, Vectors, vector_of};
 
 /// Writes the listing of a generator's graph, whose vectors are those of the family: the head, and a block for each
 /// vertex; or, where the answer begins further on, the blocks from there.
@@ -33,35 +35,87 @@ pub(crate) fn list_resumed<F: Family, W: Sink>(
     ensures { IsEnded (list_answer (graph_described (described local.now)) resume.now)
         (change W.written W.has_failed out.old out.new) result }
 {
+    let start = start_of(family, resume)?;
+    list_family(local, has_head(resume), slice_of(&start), links, out)
+}
+
+// Whether the answer has a head: where it is not resumed.
+fn has_head(resume: &Resume) -> bool
+    ensures { (g : GraphData) → head_if result g ≡ head_for resume.now (head g) }
+{
     match resume {
-        Resume::Whole => list_family(local, true, None, links, out),
-        Resume::Skip(count) => list_skipping(local, family, *count, links, out),
+        Resume::Whole => true,
+        Resume::Skip(_) | Resume::After(_) => false,
+    }
+}
+
+/// The vector after which the answer begins; `None` where it begins with the first one.
+///
+/// `NoVertex` where it is to begin after a name that no vector has.
+pub(super) fn start_of<F: Family>(family: &F, resume: &Resume) -> Result<Option<Vector>, Fault>
+    ensures { MatchResult result
+        (λ start. BeginsAfter (F.members family.now) resume.now
+        (option_map (λ vector. vector.items) start))
+        (λ fault. left_out (map name_of_vector (F.members family.now)) resume.now ≡ Err fault) }
+{
+    match resume {
+        Resume::Whole => Ok(None),
+        Resume::Skip(count) => Ok(last_skipped(family, *count)),
         Resume::After(name) => match member_named(family, name.bytes()) {
-            Some(vector) => list_family(local, false, Some(vector.as_slice()), links, out),
+            Some(vector) => Ok(Some(vector)),
             None => Err(Fault::NoVertex),
         },
     }
 }
 
-// Writes the blocks without the first `count`. No vector on the way is named.
-fn list_skipping<F: Family, W: Sink>(
-    local: &Local,
-    family: &F,
-    count: u64,
-    links: &mut Links,
-    out: &mut W,
-) -> Result<(), Fault>
-    requires members { F.members family.now ≡ vectors_of local.now }
-    requires sound { W.has_failed out.old ≡ false }
-    ensures { IsWritten (blocks (graph_described (described local.now)) count)
-        (change W.written W.has_failed out.old out.new) result }
+// The last of the first `count` vectors of the family, or of all where there are fewer; `None` where there is none.
+fn last_skipped<F: Family>(family: &F, count: u64) -> Option<Vector>
+    ensures { IsLastSkipped (F.members family.now) count
+        (option_map (λ vector. vector.items) result) }
 {
-    if count == 0 {
-        return list_family(local, false, None, links, out);
+    let skipped = count.min(u64::from(family.size()));
+    if skipped == 0 {
+        return None;
     }
-    let left = without_first(family, count - 1);
-    let Some(x) = left.front() else {
-        return Ok(());
-    };
-    list_family(local, false, Some(x), links, out)
+    let mut vector = Vector::new();
+    let _found = family.at((skipped - 1) as u32, &mut vector);
+    Some(vector)
+}
+
+// The vector of the family that has this name. The name tells which vector that is, so none is searched for.
+fn member_named<F: Family>(family: &F, name: &[u8]) -> Option<Vector>
+    ensures { IsMemberNamed (F.members family.now) name.now
+        (option_map (λ vector. vector.items) result) }
+{
+    let dims = family.dims();
+    let vector = vector_of(name)?;
+    if vector.len() != dims {
+        return None;
+    }
+    if !family.holds(vector.as_slice()) {
+        return None;
+    }
+    Some(vector)
+}
+
+/// The entries of a vector that there may be.
+pub(super) fn slice_of(vector: &Option<Vector>) -> Option<&[u32]>
+    ensures { option_map (λ x. x.now) result ≡ option_map (λ v. v.items) vector.now }
+{
+    match vector {
+        Some(vector) => Some(vector.as_slice()),
+        None => None,
+    }
+}
+
+/// The vectors of the family after this member, or all.
+pub(super) fn vectors_after<'a, F: Family>(family: &'a F, after: Option<&[u32]>) -> Vectors<'a, F>
+    requires { IfSome after (λ x. Contains (F.members family.now) x.now) }
+    ensures { result ≡ drop (start_after (F.members family.now)
+        (option_map (λ x. x.now) after.entry)) (F.members family.now) }
+{
+    match after {
+        None => Vectors::all(family),
+        Some(x) => Vectors::after(family, x).unwrap(),
+    }
 }

@@ -118,3 +118,19 @@ fn places_of_members(rt: HostRuntime) {
         Err(_) => assert!(rt; false),
     }
 }
+
+// A member by its place; there is none past the end.
+#[test]
+fn members_at_places(rt: HostRuntime) -> Result<(), Fail> {
+    let mut vector = Vector::new();
+    let family = BoxFamily::new(&[2, 3])?;
+    assert!(rt; family.at(4, &mut vector));
+    assert!(rt; vector.as_slice() == [1, 1].as_slice());
+    assert!(rt; !family.at(6, &mut vector));
+    assert!(rt; vector.as_slice() == [1, 1].as_slice());
+    let many = BoxFamily::new(&[1_000, 1_000, 1_000])?;
+    assert!(rt; many.at(999_998_997, &mut vector));
+    assert!(rt; vector.as_slice() == [999, 998, 997].as_slice());
+    assert!(rt; !many.at(1_000_000_000, &mut vector));
+    Ok(())
+}

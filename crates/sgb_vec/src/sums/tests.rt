@@ -215,3 +215,15 @@ fn great_sums_are_refused(rt: HostRuntime) {
         assert!(rt; count_of(rt.alloc(), n, bounds) == Err(Panic::VeryBad));
     }
 }
+
+// A member by its place; there is none past the end.
+#[test]
+fn members_at_places(rt: HostRuntime) -> Result<(), Fail> {
+    let mut vector = Vector::new();
+    let family = SumFamily::new(rt.alloc(), 2, &[2, 1, 2])?;
+    assert!(rt; family.at(3, &mut vector));
+    assert!(rt; vector.as_slice() == [1, 1, 0].as_slice());
+    assert!(rt; !family.at(5, &mut vector));
+    assert!(rt; vector.as_slice() == [1, 1, 0].as_slice());
+    Ok(())
+}

@@ -1,6 +1,6 @@
 use Rattle.std.proofs.Common.{rules, Contains, sym, subst, arith}
 use Rattle.sgb.proofs.NamedMembers.{member_named, no_member_named, no_vector_named}
-use Rattle.sgb.proofs.writing.names.member_named.Goals as goal
+use Rattle.sgb.proofs.writing.resumed.member_named.Goals as goal
 
 pub returns-in_err-vector : goal.returns-in_err-vector
 returns-in_err-vector g c = rw c.from_residual.ensures (no_vector_named (g.F.Family.members c.args.family.now) c.dims-dims.ensures.vectors c.args.name.now c.in_err-vector.ensures.none)

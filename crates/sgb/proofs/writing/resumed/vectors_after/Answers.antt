@@ -1,5 +1,5 @@
 use Rattle.sgb.proofs.NamedMembers.{rest_from}
-use Rattle.sgb.proofs.writing.families.vectors_after.Goals as goal
+use Rattle.sgb.proofs.writing.resumed.vectors_after.Goals as goal
 
 pub returns-in-Some : goal.returns-in-Some
 returns-in-Some g c =

@@ -1,0 +1,19 @@
+use Rattle.std.proofs.Common.{◌≡◌, ◌∙◌, List, ℕ, Some, suc, map, option_map, refl, sym, ap}
+use Rattle.sgb_vec.specs.Names.{name_of_vector}
+use Rattle.sgb_gen.specs.VectorGraphs.{vertex_among}
+use Rattle.sgb.specs.Outcomes.{left_out_by, vertex_named}
+use Rattle.sgb.proofs.ResumedListings.{skipped_begins}
+use Rattle.sgb.proofs.writing.resumed.start_of.Goals as goal
+
+pub returns-in-Skip : goal.returns-in-Skip
+returns-in-Skip g c =
+    let members = g.F.Family.members c.args.family.now in
+    rw c.in-Skip.is (skipped_begins members (g.met.F.Family.rising c.args.family.now) c.in-Skip.count (option_map (λ vector. vector.items) c.last_skipped.result) c.last_skipped.ensures)
+
+pub returns-in-Some : goal.returns-in-Some
+returns-in-Some g c =
+    let members = g.F.Family.members c.args.family.now in
+    let x = c.in-Some.vector.items in
+    let names : List (List ℕ) = map name_of_vector members in
+    let here : vertex_named c.in-After.name names ≡ Some (vertex_among members x) = ap (λ (name : List ℕ). vertex_named name names) (sym c.bytes.ensures) ∙ c.in-Some.ensures.1 in
+    rw c.in-After.is (c.in-Some.ensures.0, (suc (vertex_among members x), ap left_out_by here, refl))

@@ -1,0 +1,8 @@
+use Rattle.std.proofs.Common.{◌≡◌, Some}
+use Rattle.std.specs.List.{slice_get}
+use Rattle.sgb_vec.specs.Sums.{bounded_sums}
+use Rattle.sgb_vec.proofs.sums.SumFamilyFamily.at.Given as goal
+
+-- so many members were left behind
+abbrev pub invariant-loop-k : goal.invariant-loop-k
+invariant-loop-k l = slice_get (bounded_sums l.self.total l.self.bounds) l._k ≡ Some l.vector.items
