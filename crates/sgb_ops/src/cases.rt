@@ -65,7 +65,7 @@ pub(crate) type Block = (u32, &'static str, &'static [(u32, i64)]);
 pub(crate) type Known = (u32, u64, &'static [Block]);
 
 /// Operands with the flags multi and directed, the id of what an operation makes of them, and what is known of it.
-pub(crate) type Record = ([Operand; 2], [bool; 2], &'static str, Known);
+pub(crate) type Row = ([Operand; 2], [bool; 2], &'static str, Known);
 
 /// Whether the graph has this id, and what is known.
 pub(crate) fn is_known(graph: &Graph, id: &str, known: Known) -> bool {

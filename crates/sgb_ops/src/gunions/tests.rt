@@ -1,5 +1,5 @@
 use super::gunion;
-use crate::cases::{CYCLE, LOOP, Operand, Record, SQUARE, TRIANGLE, is_known, two_graphs};
+use crate::cases::{CYCLE, LOOP, Operand, Row, SQUARE, TRIANGLE, is_known, two_graphs};
 use sgb_graph::Graph;
 use sgb_vec::Panic;
 use std::alloc::Global;
@@ -13,7 +13,7 @@ const ROOK: Operand = Operand::Board([3, 4, 0, 0, -1, 0], false);
 const BISHOP: Operand = Operand::Board([3, 4, 0, 0, -2, 0], false);
 
 // Whether the union of the row's operands has this id, and what is known.
-fn is_union(alloc: Global, row: Record) -> Result<bool, Panic> {
+fn is_union(alloc: Global, row: Row) -> Result<bool, Panic> {
     let (operands, flags, id, known) = row;
     let (first, second) = two_graphs(alloc, operands)?;
     let [multi, directed] = flags;
@@ -22,7 +22,7 @@ fn is_union(alloc: Global, row: Record) -> Result<bool, Panic> {
 }
 
 /// Unions of small graphs.
-static UNIONS: [Record; 12] = [
+static UNIONS: [Row; 12] = [
     (
         [TRIANGLE, RING],
         [false, false],

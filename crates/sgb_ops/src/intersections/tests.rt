@@ -1,5 +1,5 @@
 use super::intersection;
-use crate::cases::{CYCLE, LOOP, Operand, RIDERS, Record, SQUARE, TRIANGLE, is_known, two_graphs};
+use crate::cases::{CYCLE, LOOP, Operand, RIDERS, Row, SQUARE, TRIANGLE, is_known, two_graphs};
 use sgb_vec::Panic;
 use std::alloc::Global;
 
@@ -7,7 +7,7 @@ use std::alloc::Global;
 const ALL: Operand = Operand::Board([4, 0, 0, 0, -1, 0], false);
 
 // Whether the intersection of the row's operands has this id, and what is known.
-fn is_intersection(alloc: Global, row: Record) -> Result<bool, Panic> {
+fn is_intersection(alloc: Global, row: Row) -> Result<bool, Panic> {
     let (operands, flags, id, known) = row;
     let (first, second) = two_graphs(alloc, operands)?;
     let [multi, directed] = flags;
@@ -16,7 +16,7 @@ fn is_intersection(alloc: Global, row: Record) -> Result<bool, Panic> {
 }
 
 /// Intersections of small graphs.
-static INTERSECTIONS: [Record; 14] = [
+static INTERSECTIONS: [Row; 14] = [
     (
         [SQUARE, ALL],
         [false, false],

@@ -4,10 +4,10 @@ use sgb_vec::Panic;
 use std::alloc::Global;
 
 // Two ends and a length.
-type Record = (u32, u32, i64);
+type Row = (u32, u32, i64);
 
 // The events of these rows.
-fn events_of(alloc: Global, rows: &[Record]) -> Result<Vec<Event>, Panic> {
+fn events_of(alloc: Global, rows: &[Row]) -> Result<Vec<Event>, Panic> {
     let mut events = Vec::new(alloc);
     for row in rows {
         let (from, to, len) = *row;
@@ -17,7 +17,7 @@ fn events_of(alloc: Global, rows: &[Record]) -> Result<Vec<Event>, Panic> {
 }
 
 // Whether the events are those of these rows.
-fn are_events_of(events: &[Event], rows: &[Record]) -> bool {
+fn are_events_of(events: &[Event], rows: &[Row]) -> bool {
     let mut expected = rows.iter();
     for event in events {
         let parts = event.parts();
@@ -32,9 +32,9 @@ fn are_events_of(events: &[Event], rows: &[Record]) -> bool {
 fn are_left(
     alloc: Global,
     directed: bool,
-    rows: &[Record],
+    rows: &[Row],
     apart: bool,
-    left: &[Record],
+    left: &[Row],
 ) -> Result<bool, Panic> {
     let events = events_of(alloc, rows)?;
     if are_apart(&events) != apart {
@@ -45,7 +45,7 @@ fn are_left(
 }
 
 // The events of one vertex without parallel ones; their bits are in several words.
-const APART: [Record; 6] = [
+const APART: [Row; 6] = [
     (3, 1, 1),
     (3, 60, 2),
     (3, 61, 3),
@@ -63,7 +63,7 @@ fn events_of_different_ends_stay(rt: HostRuntime) -> Result<(), Panic> {
 }
 
 // Two parallel ones among others.
-const PARALLEL: [Record; 4] = [(3, 1, 5), (3, 2, 2), (3, 1, 4), (3, 7, 3)];
+const PARALLEL: [Row; 4] = [(3, 1, 5), (3, 2, 2), (3, 1, 4), (3, 7, 3)];
 
 #[test]
 fn parallel_events_are_merged(rt: HostRuntime) -> Result<(), Panic> {
@@ -74,7 +74,7 @@ fn parallel_events_are_merged(rt: HostRuntime) -> Result<(), Panic> {
 }
 
 // The same ends in either order.
-const TURNED: [Record; 2] = [(4, 1, 7), (1, 4, 5)];
+const TURNED: [Row; 2] = [(4, 1, 7), (1, 4, 5)];
 
 #[test]
 fn events_in_either_order_are_merged_as_edges(rt: HostRuntime) -> Result<(), Panic> {
@@ -84,7 +84,7 @@ fn events_in_either_order_are_merged_as_edges(rt: HostRuntime) -> Result<(), Pan
 }
 
 // Tips that differ by the size of the table, and other ends with the same sum.
-const ONE_BIT: [Record; 4] = [(0, 1, 5), (0, 16385, 4), (2, 3, 6), (1, 4, 7)];
+const ONE_BIT: [Row; 4] = [(0, 1, 5), (0, 16385, 4), (2, 3, 6), (1, 4, 7)];
 
 #[test]
 fn events_with_one_bit_stay(rt: HostRuntime) -> Result<(), Panic> {
