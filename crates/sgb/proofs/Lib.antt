@@ -13,6 +13,8 @@ pub mod EntryValues
 pub mod ExamplesFlips
 -- what a run leaves that reads standard input first
 pub mod InputEndings
+-- names of vectors that are kept
+pub mod KeptNames
 -- what is kept of a source
 pub mod KeptInput
 -- parts of a listing
@@ -33,5 +35,7 @@ pub mod Refusals
 pub mod ResumedListings
 -- what answers depend on of standard input
 pub mod StdinValues
+-- how many entries tips have
+pub mod TipWidths
 -- values of expressions
 pub mod Values

@@ -1,11 +1,13 @@
 -- What only the private contracts and the proofs of sgb speak of.
 -- how reading standard input ends
 pub mod Inputs
+-- names of vectors that are kept
+pub mod KeptNames
 -- blocks of a generator's graph
 pub mod Locals
 -- what is left of vectors
 pub mod Remaining
--- an entry of a name
+-- the entries of a name, and how long lines are
 pub mod Texts
 -- a value, a refusal, or out of memory
 pub mod Values

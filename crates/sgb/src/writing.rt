@@ -10,6 +10,10 @@ pub mod families;
 pub(crate) mod files;
 // Random numbers.
 pub(crate) mod flips;
+// Names of vectors that are kept.
+mod kept_names;
+// Lines.
+mod lines;
 // Listings of graphs.
 pub(crate) mod listing;
 // Names of a generator's vectors.

@@ -1,7 +1,16 @@
--- The text of one entry of a vector.
-use Rattle.std.specs.Prelude.{ℕ, Bool, true, false, List, ◌∷◌, decimal}
+-- The texts of the entries of a vector, and how long lines are.
+use Rattle.std.specs.Prelude.{ℕ, Bool, true, false, List, [], ◌∷◌, ◌++◌, decimal}
 
 -- an entry of a vector in its name: after a dot (46) where it is not the first
 abbrev pub entry_text : Bool → ℕ → List ℕ
 entry_text true entry = 46 ∷ decimal entry
 entry_text false entry = decimal entry
+
+-- the texts of entries, the first after a dot or not, the others each after a dot
+abbrev pub entries_text : Bool → List ℕ → List ℕ
+entries_text dotted [] = []
+entries_text dotted (entry ∷ entries) = entry_text dotted entry ++ entries_text true entries
+
+-- a line that is put together has at most this many bytes
+abbrev pub most_line_bytes : ℕ
+most_line_bytes = 4_160

@@ -7,7 +7,7 @@ use sgb_gen::{Board, BoardParams, Links};
 use std::alloc::Global;
 use std::test::Fail;
 
-static LISTINGS: [(&[&str], &str); 20] = [
+static LISTINGS: [(&[&str], &str); 24] = [
     (
         &["list", "board(2,2,0,0,1,0,0)"],
         "  The graph whose official name is\nboard(2,2,0,0,1,0,0)\n  has 4 vertices and 8 arcs:\n\n\
@@ -132,6 +132,26 @@ static LISTINGS: [(&[&str], &str); 20] = [
         "1.1.1\n1.2.0\n  -> 2.0.1, length 1\n  -> 1.0.2, length 1\n  -> 0.1.2, length 1\n\
                 2.0.1\n  -> 1.2.0, length 1\n  -> 0.2.1, length 1\n  -> 0.1.2, length 1\n\
                 2.1.0\n  -> 1.0.2, length 1\n  -> 0.2.1, length 1\n  -> 0.1.2, length 1\n",
+    ),
+    // tips of which one entry changes, or the first and the last one, with more digits or with fewer
+    (
+        &["list", "board(101,0,0,0,1,0,0)", "--after", "98"],
+        "99\n  -> 100, length 1\n  -> 98, length 1\n100\n  -> 99, length 1\n",
+    ),
+    (
+        &["list", "board(11,2,0,0,100,0,0)", "--after", "9.1"],
+        "10.0\n  -> 0.0, length 1\n10.1\n  -> 0.1, length 1\n",
+    ),
+    (
+        &["list", "board(2,11,0,0,100,0,0)", "--after", "0.9"],
+        "0.10\n  -> 0.0, length 1\n1.0\n  -> 1.10, length 1\n\
+                1.1\n1.2\n1.3\n1.4\n1.5\n1.6\n1.7\n1.8\n1.9\n1.10\n  -> 1.0, length 1\n",
+    ),
+    (
+        &["list", "board(11,2,11,0,200,0,0)", "--after", "10.0.9"],
+        "10.0.10\n  -> 0.0.0, length 1\n10.1.0\n  -> 0.1.10, length 1\n\
+                10.1.1\n10.1.2\n10.1.3\n10.1.4\n10.1.5\n10.1.6\n10.1.7\n10.1.8\n10.1.9\n\
+                10.1.10\n  -> 0.1.0, length 1\n",
     ),
 ];
 

@@ -2,7 +2,7 @@
 use super::{Parts, answers_are, answers_have};
 use std::test::Fail;
 
-static NAMES: [(&[&str], &str); 17] = [
+static NAMES: [(&[&str], &str); 20] = [
     (
         &["names", "board(2,3,0,0,1,0,0)"],
         "0.0\n0.1\n0.2\n1.0\n1.1\n1.2\n",
@@ -47,6 +47,19 @@ static NAMES: [(&[&str], &str); 17] = [
     (
         &["names", "subsets(3,2,2,2,0,0,0x3,1)"],
         "0.1.2\n0.2.1\n1.0.2\n1.1.1\n1.2.0\n2.0.1\n2.1.0\n",
+    ),
+    // entries that grow by a digit, the first and the last, and shrink again
+    (
+        &["names", "board(11,2,0,0,1,0,0)", "--skip", "17"],
+        "8.1\n9.0\n9.1\n10.0\n10.1\n",
+    ),
+    (
+        &["names", "board(2,11,0,0,1,0,0)", "--skip", "8"],
+        "0.8\n0.9\n0.10\n1.0\n1.1\n1.2\n1.3\n1.4\n1.5\n1.6\n1.7\n1.8\n1.9\n1.10\n",
+    ),
+    (
+        &["names", "board(101,0,0,0,1,0,0)", "--after", "98"],
+        "99\n100\n",
     ),
 ];
 

@@ -1,7 +1,8 @@
 //! The listing of a generator's graph, written from its vectors: one list of arcs after another, and no graph is built.
-ghost use Rattle.std.specs.Prelude.{◌≡◌, false, pos, drop, option_map, Contains, IfOk, IfSome, IsOkUnless};
+ghost use Rattle.std.specs.Prelude.{◌≡◌, ◌≤◌, ◌+◌, false, pos, drop, length, option_map, Contains, IfOk, IfSome, IsOkUnless};
 ghost use Rattle.std.specs.List.{flat_map};
 ghost use Rattle.sgb_file.specs.Devices.{change};
+ghost use Rattle.sgb_vec.specs.Limits.{most_dimensions};
 ghost use Rattle.sgb_graph.specs.Made.{graph_described};
 ghost use Rattle.sgb.specs.Locals.{family_text, head_if, start_after, vectors_of};
 ghost use Rattle.sgb.specs.inner.Locals.{arcs_among, local_block, local_line};
@@ -10,12 +11,12 @@ ghost use Rattle.sgb.specs.Texts.{head};
 ghost use Rattle.sgb.specs.Values.{described};
 ghost use Rattle.sgb.specs.Writing.{IsWritten};
 
+use super::kept_names::KeptName;
+use super::lines::Line;
 use super::listing::write_head_of;
-use super::names::{write_name, write_name_line};
 use super::resumed::vectors_after;
-use super::{write_bytes, write_texts};
+use super::write_bytes;
 use crate::locals::Local;
-use itoa::Buffer;
 use sgb_file::Sink;
 use sgb_gen::Links;
 use sgb_requests::Fault;
@@ -146,9 +147,12 @@ fn write_blocks<F: Family, W: Sink>(
     ensures { IsWritten (flat_map (local_block local.now) vectors.entry)
         (change W.written W.has_failed out.old out.new) result }
 {
+    let mut name = KeptName::new();
+    let mut line = Line::new();
     let mut left = vectors;
     while let Some(x) = left.front() {
-        write_block(local, x, links, out)?;
+        name.turn_to(x);
+        write_block(local, x, links, &mut name, &mut line, out)?;
         let _some = left.advance();
     }
     Ok(())
@@ -159,30 +163,42 @@ fn write_block<W: Sink>(
     local: &Local,
     x: &[u32],
     links: &mut Links,
+    name: &mut KeptName,
+    line: &mut Line,
     out: &mut W,
 ) -> Result<(), Fault>
     requires member { Contains (vectors_of local.now) x.now }
+    requires short { length x.now ≤ most_dimensions + 1 }
+    requires named { name.old ≡ x.now }
     requires sound { W.has_failed out.old ≡ false }
     ensures { IsWritten (local_block local.now x.now)
         (change W.written W.has_failed out.old out.new) result }
 {
     local.arcs_at(x, links)?;
-    write_name_line(x, out)?;
+    name.write_line(out)?;
     for i in 0..links.len() {
         let link = links.get(i);
-        write_arc(link.tip, link.len, out)?;
+        write_arc(name, link.tip, link.len, line, out)?;
     }
     Ok(())
 }
 
-// Writes the line of an arc to this vector.
-fn write_arc<W: Sink>(tip: &[u32], len: u32, out: &mut W) -> Result<(), Fault>
-    requires { W.has_failed out.old ≡ false }
+// Writes the line of an arc to this vector, from one whose name is known. It is put together in `line`.
+fn write_arc<W: Sink>(
+    name: &KeptName,
+    tip: &[u32],
+    len: u32,
+    line: &mut Line,
+    out: &mut W,
+) -> Result<(), Fault>
+    requires width { length tip.now ≡ length name.now }
+    requires short { length tip.now ≤ most_dimensions + 1 }
+    requires sound { W.has_failed out.old ≡ false }
     ensures { IsWritten (local_line (record { tip = tip.now; len = pos len }))
         (change W.written W.has_failed out.old out.new) result }
 {
-    let mut digits = Buffer::new();
-    write_bytes(out, b"  -> ")?;
-    write_name(tip, out)?;
-    write_texts(out, &[b", length ", digits.format(len).as_bytes(), b"\n"])
+    line.begin_arc();
+    name.push_other(tip, line);
+    line.end_arc(len);
+    write_bytes(out, line.bytes())
 }

@@ -1,0 +1,15 @@
+use Rattle.std.proofs.Common.{length, nat_lt, ap, arith}
+use Rattle.sgb.proofs.KeptNames.{kept-more}
+use Rattle.sgb.proofs.NameEntries.{length-name}
+use Rattle.sgb.proofs.writing.kept_names.KeptName.push.Goals as goal
+
+pub push_entry-requires : goal.push_entry-requires
+push_entry-requires c =
+    let kept = c.self.invariant in
+    omega (arith, c.requires, ap length kept.name, length-name c.self.inside.vector.items kept.small, ap length c.self.view_is)
+
+pub invariant_of-self : goal.invariant_of-self
+invariant_of-self c =
+    rw (c.push.ensures.items, c.push-2.ensures.items)
+    (kept-more _ _ _ _ (nat_lt 0 c.len.result) c.args.entry c.len-2.result (omega (arith, c.ranges.entry.fits)) (omega (arith, c.requires, ap length c.self.view_is)) c.self.invariant (ap (nat_lt 0) c.len.ensures.value)
+    c.push_entry.ensures.text c.len-2.ensures.value)

@@ -1,0 +1,153 @@
+//! The name of a vector, of which the next name keeps what it has in common with it.
+ghost use Rattle.std.specs.Prelude.{◌≡◌, ◌≤◌, ◌+◌, ◌*◌, [], ◌∷◌, ◌++◌, drop, false, length, take};
+ghost use Rattle.sgb_file.specs.Devices.{change};
+ghost use Rattle.sgb_vec.specs.Limits.{most_dimensions};
+ghost use Rattle.sgb_vec.specs.Names.{name_of_vector};
+ghost use Rattle.sgb.specs.Texts.{name_line};
+ghost use Rattle.sgb.specs.Writing.{IsWritten};
+ghost use Rattle.sgb.specs.inner.Texts.{most_line_bytes};
+
+use super::lines::Line;
+use super::write_bytes;
+use sgb_file::Sink;
+use sgb_requests::Fault;
+use sgb_vec::Vector;
+use std::marker::Model;
+
+/// The name of a vector, with the places where its entries end. Contracts see it as the vector.
+#[derive(Drop)]
+pub(super) struct KeptName {
+    vector: Vector,
+    // How many bytes each entry takes in the name together with those before it.
+    ends: Vector,
+    text: Line,
+}
+
+impl Model for KeptName {
+    ghost use Rattle.std.specs.Prelude.{List, ℕ};
+    ghost use Rattle.sgb.specs.inner.KeptNames.{IsKeptName};
+
+    ghost Value = { List ℕ };
+
+    ghost view = { λ name. name.vector.items };
+
+    ghost invariant = { λ name. IsKeptName name.vector.items name.ends.items name.text };
+}
+
+impl KeptName {
+    /// The name of the vector with no entries.
+    pub(super) fn new() -> KeptName
+        ensures { result ≡ [] }
+    {
+        KeptName {
+            vector: Vector::new(),
+            ends: Vector::new(),
+            text: Line::new(),
+        }
+    }
+
+    /// Makes it the name of this vector. The entries before the first one that is new keep their bytes.
+    pub(super) fn turn_to(&mut self, vector: &[u32])
+        requires { length vector.now ≤ most_dimensions + 1 }
+        ensures { self.new ≡ vector.now }
+    {
+        let kept = equal_from_start(self.vector.as_slice(), vector);
+        self.cut(kept);
+        for entry in &vector[kept..] {
+            self.push(*entry);
+        }
+    }
+
+    // The name of the first `count` entries.
+    fn cut(&mut self, count: usize)
+        requires { count ≤ length self.old }
+        ensures { self.new ≡ take count self.old }
+    {
+        let end = self.end_of(count);
+        self.text.cut(end);
+        self.vector.truncate(count);
+        self.ends.truncate(count);
+    }
+
+    // The name with one more entry.
+    fn push(&mut self, entry: u32)
+        requires { length self.old ≤ most_dimensions }
+        ensures { self.new ≡ self.old ++ entry ∷ [] }
+    {
+        self.text.push_entry(self.vector.len() > 0, entry);
+        self.vector.push(entry);
+        self.ends.push(self.text.len() as u32);
+    }
+
+    // How many bytes the first `count` entries take.
+    fn end_of(&self, count: usize) -> usize
+        requires { count ≤ length self.now }
+        ensures value { result ≡ length (name_of_vector (take count self.now)) }
+        ensures short { result ≤ 11 * count }
+        ensures within { result ≤ length (name_of_vector self.now) }
+    {
+        if count == 0 {
+            return 0;
+        }
+        self.ends.as_slice()[count - 1] as usize
+    }
+
+    /// Writes the line of the vector: its name and a newline.
+    pub(super) fn write_line<W: Sink>(&mut self, out: &mut W) -> Result<(), Fault>
+        requires { W.has_failed out.old ≡ false }
+        ensures written { IsWritten (name_line (name_of_vector self.old))
+            (change W.written W.has_failed out.old out.new) result }
+        ensures same { self.new ≡ self.old }
+    {
+        let end = self.text.len();
+        self.text.push_text(b"\n");
+        let result = write_bytes(out, self.text.bytes());
+        self.text.cut(end);
+        result
+    }
+
+    /// Appends the name of a vector of as many entries to a line. Only the entries between those that both vectors have
+    /// alike, at the start and at the end, are put in digits anew.
+    pub(super) fn push_other(&self, other: &[u32], line: &mut Line)
+        requires width { length other.now ≡ length self.now }
+        requires room { length line.old + (11 * length self.now + 41) ≤ most_line_bytes }
+        ensures text { line.new ≡ line.old ++ name_of_vector other.now }
+        ensures short { length line.new ≤ length line.old + 11 * length self.now }
+    {
+        let vector = self.vector.as_slice();
+        let from = equal_from_start(vector, other);
+        let to = equal_to_end(vector, other, from);
+        let name = self.text.bytes();
+        line.push_text(&name[..self.end_of(from)]);
+        line.push_entries(other, from, to);
+        line.push_text(&name[self.end_of(to)..]);
+    }
+}
+
+// A number of first entries that both vectors have alike: the greatest there is.
+fn equal_from_start(a: &[u32], b: &[u32]) -> usize
+    ensures within { (result ≤ length a.now) × (result ≤ length b.now) }
+    ensures equal { take result a.now ≡ take result b.now }
+{
+    let most = a.len().min(b.len());
+    for place in 0..most {
+        if a[place] != b[place] {
+            return place;
+        }
+    }
+    most
+}
+
+// A place, not before `from`, from which on both vectors have their entries alike: the least there is.
+fn equal_to_end(a: &[u32], b: &[u32], from: usize) -> usize
+    requires width { length b.now ≡ length a.now }
+    requires place { from ≤ length a.now }
+    ensures within { (from ≤ result) × (result ≤ length a.now) }
+    ensures equal { drop result a.now ≡ drop result b.now }
+{
+    let mut to = a.len();
+    while from < to && a[to - 1] == b[to - 1] {
+        to -= 1;
+    }
+    to
+}
