@@ -1,5 +1,5 @@
 # make try        a quick look: one answer from the sources, nothing proved, about a minute
-# make            proves every crate, builds the program, leaves it as ./sgb
+# make            proves every crate, builds the programs, leaves them as ./sgb and ./sgb_levels
 # make demo       that, and three small graphs
 # make examples   tries the examples: DOT and edge lists of listings, Python, a listing in parts
 # make outside    checks the built program from outside: refused memory, failing devices, broken files, the tour
@@ -29,10 +29,12 @@ sgb: FORCE
 	  then echo "proved, $$(( $$(date +%s) - start )) s"; rm -f $$log; \
 	  else echo "failed"; cat $$log; rm -f $$log; exit 1; fi; \
 	done
-	@echo "Building the program"
+	@echo "Building the programs"
 	@cd crates/sgb_cli && rt run -- names "board(1,0,0,0,1,0,0)" > /dev/null
+	@cd crates/sgb_levels && rt run -- "circuit(1)" > /dev/null
 	@ln -sf $(PROGRAM) sgb
-	@echo "Done: ./sgb"
+	@ln -sf crates/sgb_levels/out/sgb_levels sgb_levels
+	@echo "Done: ./sgb, ./sgb_levels"
 
 demo: sgb
 	./sgb names "board(2,3,0,0,1,0,0)"
@@ -62,7 +64,7 @@ uninstall:
 
 clean:
 	rm -rf crates/*/out
-	rm -f sgb
+	rm -f sgb sgb_levels
 
 FORCE:
 

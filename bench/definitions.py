@@ -77,10 +77,15 @@ def closing(text, opening):
 
 
 def exported(crate):
-    """The names that a library's root file re-exports, and its public modules."""
+    """The names that a library's root file re-exports, and its public modules; of a program its public functions."""
     root = f"crates/{crate}/src/lib.rt"
     if not os.path.exists(root):
-        return set(), set()
+        # a program: the functions that its modules hand to one another
+        found = set()
+        for path in files_of(f"crates/{crate}/src", ".rt"):
+            with open(path) as file:
+                found.update(re.findall(r"^pub fn (\w+)", file.read(), re.M))
+        return found, set()
     with open(root) as file:
         text = re.sub(r"//[^\n]*", "", file.read())
     listed = re.findall(r"pub use [\w:]+?(?:::)?(\{[^}]*\}|\w+);", text, re.S)

@@ -66,13 +66,24 @@ EXPRESSIONS = {
     "lines(complete(3),0)": None,
     "product(complete(2),complete(2),0,0)": None,
     "gunion(complete(3),circuit(3),0,0)": None,
+    "complement(simplex(0,-1,0,0,0,0,0),1,1,1)": None,
+    "intersection(board(3,3,0,0,1,0,0),complete(9),0,0)": None,
+    "lines(complete(3),1)": None,
+    "induced(complete(3),[1,2,circuit(3)],0,0,0)": None,
+    "product(circuit(3),circuit(3),0,0)": None,
+    "bi_complete(2,3,0)": None,
+    "wheel(4,2,0)": None,
     "stdin": None,
+    "gunion(stdin,stdin,1,1)": None,
     "board(2,-251,0,0,1,0,0)": (1, b"Something went wrong (panic code 30)!\n"),
     "board(3,": (2, b"sgb: bad expression at byte 8\n"),
 }
 # of these, the last two find that they need more room when a part of the listing stands: in the buffer, and beyond it
 OTHERS = {
     ("queen",): None,
+    ("flip", "flip(-314159,0,5,1000)"): None,
+    ("names", "simplex(2,-60,0,0,0,0,0)", "--skip", "1880"): None,
+    ("list", "board(3,4,0,0,-2,0,0)", "--after", "1.1"): None,
     ("names", "complete(2)", "--after", "0", "--skip", "1"): USAGE,
     ("list", "complete(2)", "--after", "0", "--skip", "1"): USAGE,
     ("list", "board(5,5,0,0,-2,0,0)", "--skip", "0"): None,
@@ -516,6 +527,7 @@ class Shell:
         self.folder = os.path.join(runs.folder, name)
         os.mkdir(self.folder)
         os.symlink(PROGRAM, os.path.join(self.folder, "sgb"))
+        os.symlink(os.path.join(TOP, "crates/sgb_levels/out/sgb_levels"), os.path.join(self.folder, "sgb_levels"))
         os.symlink(os.path.join(TOP, "examples"), os.path.join(self.folder, "examples"))
         self.environment = dict(os.environ, PATH=self.folder + os.pathsep + os.environ.get("PATH", os.defpath))
 
@@ -619,7 +631,7 @@ def all_checks():
         yield "memory " + " ".join(words), memory(words, b"", fault)
     for expression, fault in EXPRESSIONS.items():
         for word in ANSWERS:
-            given = FILE if expression == "stdin" else b""
+            given = FILE if "stdin" in expression else b""
             yield f"memory {word} {expression}", memory((word, expression), given, fault)
 
 

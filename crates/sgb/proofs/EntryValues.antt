@@ -11,8 +11,7 @@ use Rattle.sgb_expr.specs.declared.entries.Entries.{Entries}
 use Rattle.sgb_expr.specs.declared.expressions.Expr.{Expr}
 use Rattle.sgb_expr.specs.declared.expressions.Expr.TheVariants as expr
 use Rattle.sgb_expr.specs.declared.entries.EntryExpr.{EntryExpr}
-use Rattle.sgb.specs.Values.{both, handed_entries, made, value_of, values_of}
-use Rattle.sgb.specs.inner.Values.{IsValue}
+use Rattle.sgb.specs.Values.{IsValue, both, handed_entries, made, value_of, values_of}
 use Rattle.sgb.specs.declared.evaluation.entries.EntryValue.{EntryValue}
 use Rattle.sgb.proofs.Values.{size_of, size_of_entries, size_of_entry}
 

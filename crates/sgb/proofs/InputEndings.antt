@@ -3,7 +3,7 @@ use Rattle.std.proofs.Common.{◌≡◌, ◌+◌, ℕ, Bool, true, false, List, 
 use Rattle.std.proofs.lemmas.Bool.{both_ways}
 use Rattle.sgb_file.specs.Devices.{AppendsUnlessFailed, Change}
 use Rattle.sgb_requests.specs.Faults.{line_of, status_of}
-use Rattle.sgb.specs.inner.Inputs.{IsKept, IsReadFault}
+use Rattle.sgb.specs.Inputs.{IsKept, IsReadFault}
 use Rattle.sgb.specs.Outcomes.{outcome_of}
 use Rattle.sgb.specs.Runs.{IsRunFrom}
 use Rattle.sgb.specs.Values.{most_input}

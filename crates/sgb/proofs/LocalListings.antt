@@ -20,7 +20,7 @@ use Rattle.sgb_gen.specs.LocalLists.{LocalArc, list_at, local_arc}
 use Rattle.sgb_gen.specs.Simplexes.{moves_of_simplex, simplex_graph, simplex_id, simplex_vectors}
 use Rattle.sgb_gen.specs.Subsets.{moves_of_subsets, subsets_graph, subsets_id, subsets_vectors}
 use Rattle.sgb_gen.specs.VectorGraphs.{Move, event_among, family_graph, fields_of_vector, vertex_among}
-use Rattle.sgb_gen.proofs.BoardLists.{ends_on_board}
+use Rattle.sgb_gen.proofs.ListsOfBoards.{ends_on_board}
 use Rattle.sgb_gen.proofs.MoveLists.{HasEnds}
 use Rattle.sgb_gen.proofs.RisingVectors.{vertex_in_rising}
 use Rattle.sgb_gen.proofs.SimplexLists.{ends_in_simplex}

@@ -20,11 +20,10 @@ use Rattle.sgb_expr.specs.StdinUses.{entries_have_stdin, entry_has_stdin, has_st
 use Rattle.sgb_file.specs.Reading.{IsReadOf}
 use Rattle.sgb_file.specs.Saving.{text_of_graph}
 use Rattle.sgb_file.specs.Devices.{Change}
-use Rattle.sgb.specs.inner.Inputs.{IsKept}
+use Rattle.sgb.specs.Inputs.{IsKept}
 use Rattle.sgb.specs.Outcomes.{answer_from, answer_of, list_answer, names_answer, outcome_of, reads_input}
 use Rattle.sgb.specs.Runs.{Input, IsRunFrom, IsRunOn, fails_to_read}
-use Rattle.sgb.specs.Values.{both, entry_value, handed_entries, made, most_input, stdin_value, value_of, values_of}
-use Rattle.sgb.specs.inner.Values.{IsValue}
+use Rattle.sgb.specs.Values.{IsValue, both, entry_value, handed_entries, made, most_input, stdin_value, value_of, values_of}
 use Rattle.sgb.specs.declared.evaluation.entries.EntryValue.TheVariants as value
 use Rattle.sgb_requests.specs.declared.requests.Request.{Request}
 use Rattle.sgb_requests.specs.declared.requests.Request.TheVariants as request

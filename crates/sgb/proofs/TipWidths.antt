@@ -14,7 +14,7 @@ use Rattle.sgb_gen.specs.Simplexes.{moves_of_simplex, simplex_vectors}
 use Rattle.sgb_gen.specs.Subsets.{moves_of_subsets, subsets_vectors}
 use Rattle.sgb_gen.specs.VectorGraphs.{Move, same_vector}
 use Rattle.sgb_gen.specs.inner.LocalArcs.{arc_if, arcs_by, arcs_of_moves}
-use Rattle.sgb_gen.proofs.BoardLists.{ends_on_board}
+use Rattle.sgb_gen.proofs.ListsOfBoards.{ends_on_board}
 use Rattle.sgb_gen.proofs.MoveLists.{HasEnds, list_at-moves}
 use Rattle.sgb_gen.proofs.SimplexLists.{ends_in_simplex}
 use Rattle.sgb_gen.proofs.SubsetsLists.{moves_have_ends}

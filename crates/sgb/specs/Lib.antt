@@ -1,7 +1,7 @@
 -- What the contracts of sgb speak of.
 -- random numbers
 pub mod FlipAnswers
--- what is taken from standard input
+-- what is read of standard input
 pub mod Inputs
 -- the answers of requests
 pub mod Outcomes

@@ -1,6 +1,4 @@
 -- What only the private contracts and the proofs of sgb speak of.
--- how reading standard input ends
-pub mod Inputs
 -- names of vectors that are kept
 pub mod KeptNames
 -- blocks of a generator's graph
@@ -9,7 +7,7 @@ pub mod Locals
 pub mod Remaining
 -- the entries of a name, and how long lines are
 pub mod Texts
--- a value, a refusal, or out of memory
+-- parameters of a graph, a refusal, or out of memory
 pub mod Values
 -- how an answer ends
 pub mod Writing

@@ -4,8 +4,7 @@ ghost use Rattle.sgb_graph.specs.Descriptions.{IsAnswerOf};
 ghost use Rattle.sgb_expr.specs.inner.CodeEntries.{listed};
 ghost use Rattle.sgb_expr.specs.Expression.{entries_of, entry_of, expression_of};
 ghost use Rattle.sgb.specs.Outcomes.{moves_of, queen_moves};
-ghost use Rattle.sgb.specs.Values.{both, entry_value, generator_value, value_of, values_of};
-ghost use Rattle.sgb.specs.inner.Values.{IsValue};
+ghost use Rattle.sgb.specs.Values.{IsValue, both, entry_value, generator_value, value_of, values_of};
 
 mod entries;
 
@@ -23,7 +22,7 @@ use std::alloc::Global;
 ///
 /// The first refusal, or `NoRoom` when out of memory.
 #[cycle(graphs)]
-pub(crate) fn graph_of(alloc: Global, expression: &Expr, input: &[u8]) -> Result<Graph, Panic>
+pub fn graph_of(alloc: Global, expression: &Expr, input: &[u8]) -> Result<Graph, Panic>
     ensures { IsValue (value_of input.now (expression_of expression.now)) result }
 {
     match expression {

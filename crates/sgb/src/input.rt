@@ -1,11 +1,9 @@
 //! Standard input: who reads it, reading it whole, and the graph that it is a file of.
 ghost use Rattle.std.specs.Prelude.{◌≡◌, ◌≤◌, ◌<◌, ◌+◌, ◌-◌, ◌++◌, ◌&&◌, ℕ, List, false, true, length, nat_le, IfOk};
 ghost use Rattle.std.specs.Io.KnownBytes.{Consumes, IsAtEnd};
-ghost use Rattle.sgb.specs.Inputs.{LosesAtMost};
-ghost use Rattle.sgb.specs.inner.Inputs.{IsKept, IsReadFrom};
+ghost use Rattle.sgb.specs.Inputs.{IsKept, IsReadFrom, LosesAtMost};
 ghost use Rattle.sgb.specs.Outcomes.{reads_input};
-ghost use Rattle.sgb.specs.Values.{most_input, stdin_value};
-ghost use Rattle.sgb.specs.inner.Values.{IsValue};
+ghost use Rattle.sgb.specs.Values.{IsValue, most_input, stdin_value};
 
 use sgb_file::{Source, read_gb};
 use sgb_graph::Graph;
@@ -53,8 +51,10 @@ pub(crate) fn input_for<R: Source>(
     read_input(alloc, source)
 }
 
-// The bytes of a source to its end, or up to the first that is too many.
-fn read_input<R: Source>(alloc: Global, source: &mut R) -> Result<Vec<u8>, Fault>
+/// The bytes of a source to its end, or up to the first that is too many for a file: 2^30 and one.
+///
+/// `Read` where the source fails, `Panic(NoRoom)` when out of memory.
+pub fn read_input<R: Source>(alloc: Global, source: &mut R) -> Result<Vec<u8>, Fault>
     ensures kept { IfOk result (λ bytes. IsKept (R.remaining source.old) bytes.items) }
     ensures ended { IsReadFrom (R.has_failed source.new) result }
     ensures bounded { LosesAtMost (most_input + 1) (R.remaining source.old)

@@ -20,6 +20,8 @@ mod tests;
 // Names, listings, files and random numbers, written to a sink.
 mod writing;
 
+pub use evaluation::graph_of;
+pub use input::read_input;
 pub use laws::input_unread_law;
 pub use locals::Local;
 pub use program::run_program;

@@ -76,10 +76,14 @@ pub mod MovesInOrder
 pub mod TouchingMoves
 -- where they start, sorted
 pub mod SortedStarts
+-- moves by a displacement that leads to later vectors
+pub mod OnwardMoves
+-- where those start that touch a vector, with no sorting
+pub mod OnwardStarts
 -- moves from a vector, length by length
 pub mod BoardWalks
 -- the list of a vector of a board
-pub mod BoardLists
+pub mod ListsOfBoards
 -- the list of a vector of a simplex
 pub mod SimplexLists
 -- its arcs, pair of places by pair
@@ -100,3 +104,7 @@ pub mod BoardCountsHome
 pub mod BoardCountsLengths
 -- the moves and the arcs of a board, counted
 pub mod BoardCountsBoards
+-- bounds with one less at a place
+pub mod LoweredBounds
+-- the moves of a simplex counted by pairs of places
+pub mod SimplexCounts

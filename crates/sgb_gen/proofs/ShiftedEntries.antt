@@ -61,7 +61,7 @@ pub length-moved : (v : List ℕ) (from to : ℕ) → length (unit_moved v from 
 length-moved v from to = length-set (set v from (get_or v from 0 - 1)) to (get_or v to 0 + 1) ∙ length-set v from (get_or v from 0 - 1)
 
 -- what a unit that can go says of the entries
-can_shift-says : (bounds v : List ℕ) (at : Places) → can_shift bounds v at ≡ true → (0 < get_or v at.lower 0) × (get_or v at.higher 0 < get_or bounds at.higher 0)
+pub can_shift-says : (bounds v : List ℕ) (at : Places) → can_shift bounds v at ≡ true → (0 < get_or v at.lower 0) × (get_or v at.higher 0 < get_or bounds at.higher 0)
 can_shift-says bounds v at can =
     let parts = and_parts _ _ can in
     (ltb-true 0 (get_or v at.lower 0) parts.0, ltb-true (get_or v at.higher 0) (get_or bounds at.higher 0) parts.1)

@@ -46,7 +46,7 @@ second_less p q same less =
     before_at (pair p) (pair q) 1 (λ i h. let zero : i ≡ 0 = omega (arith, h) in subst (λ j. get_or (pair p) j 0 ≡ get_or (pair q) j 0) (sym zero) same) less (omega arith) (omega arith)
 
 -- where a move of a length leads is its destination
-leads_there : (sides : List Side) (piece : ℤ) (t : List ℤ) (y : List ℕ) (l : ℕ) (z : List ℕ) → IsBelow y (map (λ s. s.size) sides) → LeadsTo sides piece y t l z → destination sides piece y t l ≡ Some z
+pub leads_there : (sides : List Side) (piece : ℤ) (t : List ℤ) (y : List ℕ) (l : ℕ) (z : List ℕ) → IsBelow y (map (λ s. s.size) sides) → LeadsTo sides piece y t l z → destination sides piece y t l ≡ Some z
 leads_there sides (pos p) t y l z below leads = leads.1
 leads_there sides (negsuc p) t y l z below leads =
     let goes = (Contains-rider_reach sides y t l below).0 leads.0 in
@@ -76,7 +76,7 @@ module _ (b : BoardData) (t : List ℤ) (x : List ℕ) (there : Contains (box b.
   abbrev IsMove : Move → Type 0
   IsMove m = Contains vectors m.from × LeadsTo sides b.piece m.from t m.len m.to
 
-  below : (y : List ℕ) → Contains (box b.sizes) y → IsBelow y (map (λ s. s.size) (sides_of b.sizes b.wrap))
+  pub below : (y : List ℕ) → Contains (box b.sizes) y → IsBelow y (map (λ s. s.size) (sides_of b.sizes b.wrap))
   below y h = subst (IsBelow y) (sym (sizes_of_sides 0 b.sizes b.wrap)) (IsBelow-from_Contains b.sizes y h)
 
   all_moves : All IsMove (moves_by sides b.piece vectors t)
@@ -154,7 +154,7 @@ module _ (b : BoardData) (t : List ℤ) (x : List ℕ) (there : Contains (box b.
       Contains-image start (filter touches (moves_by sides b.piece vectors t)) (move y l z) (Contains-passing touches (moves_by sides b.piece vectors t) (move y l z) passes is)
 
   -- a place of the board where a move from x leads is a vector
-  vector_there : (ts : List ℤ) (y : List ℕ) (l : ℕ) → LeadsTo sides b.piece x ts l y → Contains vectors y
+  pub vector_there : (ts : List ℤ) (y : List ℕ) (l : ℕ) → LeadsTo sides b.piece x ts l y → Contains vectors y
   vector_there ts y l lead =
       Contains-from_IsBelow b.sizes y
       (subst (IsBelow y) (sizes_of_sides 0 b.sizes b.wrap) (place-below sides x ts l y (below x there) lead.1))

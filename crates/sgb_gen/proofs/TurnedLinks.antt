@@ -1,9 +1,10 @@
 -- Arcs that are turned round: their entries as a whole, and then each row by itself.
 use Rattle.std.proofs.Common.{◌≡◌, ℕ, zero, suc, ◌+◌, ◌*◌, ◌≤◌, pos, List, [], ◌∷◌, ◌++◌, length, reverse, take, drop, refl, sym, ap, ap₂, ◌∙◌, arith, append-nil, length-append, length-drop}
 use Rattle.std.proofs.Math.Seq.{take-append-add, drop-append-add}
-use Rattle.std.proofs.lemmas.List.{append_assoc, take_all, take-append-le, drop-append-le, length-take-le, take-append-drop, length-reverse, reverse-append, reverse-reverse}
+use Rattle.std.proofs.lemmas.List.{append_assoc, drop_at, take_at, take_all, take-append-le, drop-append-le, length-take-le, take-append-drop, length-reverse, reverse-append, reverse-reverse}
+use Rattle.std.proofs.lemmas.Nat.{mul-le}
 use Rattle.sgb_gen.specs.inner.LocalArcs.{arcs_in, rows_turned}
-use Rattle.sgb_gen.proofs.LinkRows.{arcs_in-push}
+use Rattle.sgb_gen.proofs.LinkRows.{arcs_in-push, length-arcs_in}
 
 -- entries keep their number
 row_long : (w n : ℕ) (xs : List ℕ) → suc n * w ≤ length xs → length (reverse (take w xs)) ≡ w
@@ -74,3 +75,37 @@ arcs_in-reverse w tips (n ∷ lens) long =
     ∙ arcs_in-push w (rows_turned w (length lens) (reverse rest)) (reverse lens) row n kept wide
     ∙ ap (λ arcs. arcs ++ record { tip = row; len = pos n } ∷ []) (arcs_in-reverse w rest lens left)
     ∙ sym (reverse-append (record { tip = row; len = pos n } ∷ []) (arcs_in w rest lens))
+
+-- ---- arcs of which the first stay
+
+-- arcs behind others
+pub arcs_in-append : (w : ℕ) (ts us ns ms : List ℕ) → length ts ≡ length ns * w → arcs_in w (ts ++ us) (ns ++ ms) ≡ arcs_in w ts ns ++ arcs_in w us ms
+arcs_in-append w [] us [] ms long = refl
+arcs_in-append w (t ∷ ts) us [] ms long = absurd (omega arith)
+arcs_in-append w ts us (n ∷ ns) ms long =
+    let room : w ≤ length ts = omega arith in
+    let left : length (drop w ts) ≡ length ns * w = omega (arith, length-drop w ts) in
+    ap₂ (λ row rows. record { tip = row; len = pos n } ∷ arcs_in w rows (ns ++ ms)) (take-append-le w ts us room) (drop-append-le w ts us room)
+    ∙ ap (λ arcs. record { tip = take w ts; len = pos n } ∷ arcs) (arcs_in-append w (drop w ts) us ns ms left)
+
+-- those from one on turned round
+pub arcs_in-turned : (w first start : ℕ) (tips lens : List ℕ) → length tips ≡ length lens * w → first ≤ length lens → start ≡ first * w
+    → arcs_in w (take start tips ++ rows_turned w (length (drop first lens)) (reverse (drop start tips))) (take first lens ++ reverse (drop first lens))
+    ≡ take first (arcs_in w tips lens) ++ reverse (drop first (arcs_in w tips lens))
+arcs_in-turned w first start tips lens long within at =
+    let room : first * w ≤ length lens * w = mul-le first w (length lens) w within (omega arith) in
+    let ts = take start tips in
+    let us = drop start tips in
+    let ns = take first lens in
+    let ms = drop first lens in
+    let count : length ns ≡ first = length-take-le first lens within in
+    let wide : length ts ≡ length ns * w = length-take-le start tips (omega (arith, room, long, at)) ∙ at ∙ ap (λ k. k * w) (sym count) in
+    let sum : first + length ms ≡ length lens = omega (arith, length-drop first lens, within) in
+    let left : length us ≡ length ms * w = omega (arith, length-drop start tips, ap (λ k. k * w) sum, long, at) in
+    let whole : arcs_in w tips lens ≡ arcs_in w ts ns ++ arcs_in w us ms =
+    ap₂ (arcs_in w) (sym (take-append-drop start tips)) (sym (take-append-drop first lens)) ∙ arcs_in-append w ts us ns ms wide in
+    let number : length (arcs_in w ts ns) ≡ first = length-arcs_in w ts ns ∙ count in
+    arcs_in-append w ts (rows_turned w (length ms) (reverse us)) ns (reverse ms) wide
+    ∙ ap (λ arcs. arcs_in w ts ns ++ arcs) (arcs_in-reverse w us ms left)
+    ∙ sym (ap (λ arcs. take first arcs ++ reverse (drop first arcs)) whole
+    ∙ ap₂ (λ p q. p ++ reverse q) (take_at (arcs_in w ts ns) (arcs_in w us ms) first number) (drop_at (arcs_in w ts ns) (arcs_in w us ms) first number))

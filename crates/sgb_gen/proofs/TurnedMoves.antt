@@ -72,7 +72,7 @@ opposite_twice (u ∷ t) = rw (neg_ℤ-neg_ℤ u, opposite_twice t) refl
 -- ---- places
 
 -- what stands in front, and what after it
-in_front-parts : (o : Option ℕ) (p : Option (List ℕ)) (x : ℕ) (v : List ℕ) → in_front o p ≡ Some (x ∷ v) → (o ≡ Some x) × (p ≡ Some v)
+pub in_front-parts : (o : Option ℕ) (p : Option (List ℕ)) (x : ℕ) (v : List ℕ) → in_front o p ≡ Some (x ∷ v) → (o ≡ Some x) × (p ≡ Some v)
 in_front-parts (Some c) (Some w) x v e =
     let first : c ≡ x = cc in
     let rest : w ≡ v = cc in
@@ -80,13 +80,13 @@ in_front-parts (Some c) (Some w) x v e =
 in_front-parts (Some c) None x v e = absurd (cc)
 in_front-parts None p x v e = absurd (cc)
 
-in_front-some : (o : Option ℕ) (p : Option (List ℕ)) → in_front o p ≢ Some []
+pub in_front-some : (o : Option ℕ) (p : Option (List ℕ)) → in_front o p ≢ Some []
 in_front-some (Some c) (Some w) e = absurd (cc)
 in_front-some (Some c) None e = absurd (cc)
 in_front-some None p e = absurd (cc)
 
 -- what is within a side is the number itself
-within_is : (n : ℕ) (y : ℤ) (c : ℕ) → within_size n y ≡ Some c → y ≡ pos c
+pub within_is : (n : ℕ) (y : ℤ) (c : ℕ) → within_size n y ≡ Some c → y ≡ pos c
 within_is n (pos y) c e =
     elim (cases_lt y n) [
       | inl less ↦
@@ -196,7 +196,7 @@ rider_back sides y t l x h all e k low up =
     elsewhere_back sides y t (l - k) k x h (subst (IsElsewhereTo sides y t) (sym whole) all) (ap (place sides y t) whole ∙ e) low
 
 -- a leaper's length is 1
-leaper_one : (o : Option (List ℕ)) (l : ℕ) → Contains (cond (is_some o) (1 ∷ []) []) l → l ≡ 1
+pub leaper_one : (o : Option (List ℕ)) (l : ℕ) → Contains (cond (is_some o) (1 ∷ []) []) l → l ≡ 1
 leaper_one (Some v) l (zero, within, at) = sym at
 leaper_one (Some v) l (suc i, within, at) = absurd (omega arith)
 leaper_one None l (i, within, at) = absurd (omega arith)

@@ -20,7 +20,9 @@ pub mod Moves
 pub mod Simplexes
 -- what the parameters of accepted subsets keep
 pub mod Subsets
--- vectors of one width, one after another
+-- lists of one width, one after another
 pub mod Tables
 -- from how many places a piece moves by a displacement, at one length
 pub mod BoardCounts
+-- from how many vectors of a simplex a unit goes from one place to another
+pub mod SimplexCounts

@@ -3,7 +3,7 @@ mod boards;
 mod simplexes;
 mod subsets;
 
-pub use boards::Board;
+pub use boards::{Board, BoardLists};
 pub use simplexes::Simplex;
 pub use subsets::{Subsets, common};
 

@@ -3,6 +3,8 @@
 
 // Accepted parameters: their vertices, ids, graphs and lists.
 mod accepted;
+// Displacements that are kept.
+mod displacement_tables;
 // A walk over the displacements of a piece.
 mod displacements;
 // The generators.
@@ -24,7 +26,7 @@ mod tables;
 // The names and the coordinates of a family's graph.
 mod vector_graphs;
 
-pub use accepted::{Board, Simplex, Subsets, common};
+pub use accepted::{Board, BoardLists, Simplex, Subsets, common};
 pub use generators::{board, simplex, subsets};
 pub use laws::{
     displacements_have_their_norm, moves_stay_on_board, moves_turn_back, riders_stop,

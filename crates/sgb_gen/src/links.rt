@@ -1,5 +1,5 @@
 //! The arcs of one vertex, with the vectors where they lead.
-ghost use Rattle.std.specs.Prelude.{◌≡◌, ◌<◌, pos, [], ◌∷◌, ◌++◌, ◌*◌, ◌≤◌, length, reverse, slice_get, Some, OnOk, OnErr, IsOkUnless};
+ghost use Rattle.std.specs.Prelude.{◌≡◌, ◌<◌, pos, [], ◌∷◌, ◌++◌, ◌*◌, ◌≤◌, length, take, drop, reverse, slice_get, Some, OnOk, OnErr, IsOkUnless};
 ghost use Rattle.sgb_gen.specs.LocalLists.{LinksData, LocalArc};
 ghost use Rattle.sgb_gen.specs.inner.LocalArcs.{rows_turned};
 
@@ -86,6 +86,11 @@ impl Links {
         }
     }
 
+    // Where the memory of the arcs comes from.
+    pub(crate) fn alloc(&self) -> Global {
+        *self.lens.allocator()
+    }
+
     // Drops all arcs; those that follow lead to vectors of this width.
     pub(crate) fn clear(&mut self, width: usize)
         ensures { self.new ≡ record { width = width; arcs = [] } }
@@ -122,6 +127,24 @@ impl Links {
         turn_rows(self.tips.as_mut_slice(), self.width, count);
     }
 
+    // Turns the arcs from this one on round: the last comes first of them.
+    pub(crate) fn reverse_from(&mut self, first: usize)
+        requires { first ≤ length self.old.arcs }
+        ensures { self.new
+            ≡ record self.old {
+              arcs = take first self.old.arcs ++ reverse (drop first self.old.arcs);
+            } }
+    {
+        if self.len() - first < 2 {
+            return;
+        }
+        let width = self.width;
+        let tips = self.tips.as_mut_slice();
+        let lens = self.lens.as_mut_slice();
+        let start = first * width;
+        turn_arcs(&mut tips[start..], &mut lens[first..], width);
+    }
+
     // Hands out room for the starts of moves, which is empty; its memory comes from where that of the links does.
     pub(crate) fn take_starts(&mut self) -> Vec<(u32, u32)>
         ensures empty { result.items ≡ [] }
@@ -139,6 +162,17 @@ impl Links {
     {
         self.starts = starts;
     }
+}
+
+// Turns arcs round whose vectors have this width: the last comes first.
+fn turn_arcs(tips: &mut [u32], lens: &mut [u32], width: usize)
+    requires { length tips.old ≡ length lens.old * width }
+    ensures tips { tips.new ≡ rows_turned width (length lens.old) (reverse tips.old) }
+    ensures lens { lens.new ≡ reverse lens.old }
+{
+    lens.reverse();
+    tips.reverse();
+    turn_rows(tips, width, lens.len());
 }
 
 // Turns each of the first rows round, which have this width.

@@ -2,7 +2,7 @@ ghost use Rattle.std.specs.Prelude.{◌≡◌, pos, ◌+ℤ◌, ◌*ℤ◌, ◌<
 ghost use Rattle.std.specs.Bool.{OnTrue, OnFalse};
 ghost use Rattle.sgb_vec.specs.Limits.{most_dimensions};
 ghost use Rattle.sgb_vec.specs.Lexicographic.{IsBelow};
-ghost use Rattle.sgb_gen.specs.inner.Moves.{destination};
+ghost use Rattle.sgb_gen.specs.inner.Moves.{destination, leads_onward};
 ghost use Rattle.sgb_gen.specs.Moves.{is_bit_set, coordinate_on, sides_of, place};
 ghost use Rattle.sgb_gen.specs.inner.EntryBounds.{entry_bound, entry_bounds};
 
@@ -84,6 +84,19 @@ pub(crate) fn destination(
         return false;
     }
     true
+}
+
+/// Whether the first entry of a displacement that is not 0 is positive, and its side does not wrap around: each step then
+/// leads to a later vector.
+pub(crate) fn leads_onward(wrap: i64, t: &[i32]) -> bool
+    ensures { result ≡ leads_onward wrap 0 t.now }
+{
+    for (k, entry) in t.iter().enumerate() {
+        if *entry != 0 {
+            return *entry > 0 && !wraps(wrap, k);
+        }
+    }
+    false
 }
 
 // The greatest entry of a displacement on a side that leads to a place: less than its size where it does not wrap

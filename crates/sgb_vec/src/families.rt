@@ -13,7 +13,8 @@ pub type Vector = ArrayVec<u32, 251>;
 
 /// A finite list of vectors of one length, walked one vector at a time, from either end.
 ///
-/// Each step counts the entries that it visits: at least as many as it changes, and at most two for each entry.
+/// Each step counts the entries that it visits, at most two for each entry; `next` and `prev` count at least as many as
+/// they change.
 pub trait Family {
     // The members, in order.
     ghost members: { Self → List (List ℕ) };

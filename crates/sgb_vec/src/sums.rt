@@ -71,6 +71,14 @@ impl SumFamily {
         })
     }
 
+    /// What the vectors add to, at most 1,000,000,000.
+    pub fn total(&self) -> u32
+        ensures total { result ≡ self.now.total }
+        ensures small { result ≤ most_vertices }
+    {
+        self.total
+    }
+
     // Puts the vector after `entries` into it: the last entry that can grow at the cost of those after it grows by 1,
     // and these become the first vector of what is left to them. `false` where none can, and `entries` is then as
     // before.

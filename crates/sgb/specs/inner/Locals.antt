@@ -1,9 +1,9 @@
 -- The blocks of a generator's graph, from its vectors.
-use Rattle.std.specs.Prelude.{ℕ, ◌+◌, List, [], ◌∷◌, ◌++◌, length, codes}
+use Rattle.std.specs.Prelude.{◌≡◌, ⊤, ℕ, ◌+◌, List, [], ◌∷◌, ◌++◌, length, Option, Some, None, codes}
 use Rattle.std.specs.Fmt.{signed_decimal}
 use Rattle.std.specs.List.{flat_map}
 use Rattle.sgb_vec.specs.Names.{name_of_vector}
-use Rattle.sgb_gen.specs.Boards.{board_vectors, moves_of_board}
+use Rattle.sgb_gen.specs.Boards.{BoardData, board_vectors, moves_of_board}
 use Rattle.sgb_gen.specs.LocalLists.{LocalArc, list_at}
 use Rattle.sgb_gen.specs.Simplexes.{moves_of_simplex, simplex_vectors}
 use Rattle.sgb_gen.specs.Subsets.{moves_of_subsets, subsets_vectors}
@@ -21,6 +21,11 @@ links_of (local.Subsets s) x = list_at s.directed (subsets_vectors s) (moves_of_
 abbrev pub arcs_among : Local → List (List ℕ) → ℕ
 arcs_among l [] = 0
 arcs_among l (x ∷ vectors) = length (links_of l x) + arcs_among l vectors
+
+-- the board whose lists are made is that of the parameters
+abbrev pub IsItsBoard : Local → Option BoardData → Type 0
+IsItsBoard l None = ⊤
+IsItsBoard l (Some b) = l ≡ local.Board b
 
 -- the line of an arc: the name of the vector where it leads, and its length
 unfoldable pub local_line : LocalArc → List ℕ

@@ -1,15 +1,10 @@
--- What evaluation gives: a value, a refusal, or out of memory.
+-- The parameters of a graph, its refusal, or out of memory.
 use Rattle.std.specs.Prelude.{◌≡◌, ◌⊎◌, Result, Ok, Err}
 use Rattle.sgb_vec.specs.declared.panics.Panic.{Panic}
 use Rattle.sgb_vec.specs.declared.panics.Panic.TheVariants.{NoRoom}
 use Rattle.sgb_graph.specs.Descriptions.{Description}
 use Rattle.sgb.specs.declared.locals.Local.{Local}
 use Rattle.sgb.specs.Values.{described}
-
--- the result is this value, or this refusal; or it is out of memory
-abbrev pub IsValue : {T : Type 0} → Result T Panic → Result T Panic → Type 0
-IsValue value (Ok x) = value ≡ Ok x
-IsValue value (Err p) = (value ≡ Err p) ⊎ (p ≡ NoRoom)
 
 -- the accepted parameters of a graph, or its refusal, or out of memory
 abbrev pub IsLocalOf : Result Description Panic → Result Local Panic → Type 0

@@ -16,7 +16,7 @@ use super::lines::Line;
 use super::listing::write_head_of;
 use super::resumed::vectors_after;
 use super::write_bytes;
-use crate::locals::Local;
+use crate::locals::{Lists, Local};
 use sgb_file::Sink;
 use sgb_gen::Links;
 use sgb_requests::Fault;
@@ -104,16 +104,17 @@ fn write_head<F: Family, W: Sink>(
     write_head_of(&local.id(), family.size(), m, out)
 }
 
-// How many arcs the graph has. Those of a board are counted without its lists.
+// How many arcs the graph has. Those of a board and of a simplex are counted without the lists.
 fn arcs_of<F: Family>(local: &Local, family: &F, links: &mut Links) -> Result<u128, Panic>
     requires { F.members family.now ≡ vectors_of local.now }
     ensures count { IfOk result (λ m. m ≡ (graph_described (described local.now)).m) }
     ensures memory { IsOkUnless result Panic.NoRoom }
 {
-    if let Local::Board(board) = local {
-        return board.arcs_count();
+    match local {
+        Local::Board(board) => board.arcs_count(),
+        Local::Simplex(simplex) => simplex.arcs_count(links),
+        Local::Subsets(_) => count_arcs(local, family, links),
     }
-    count_arcs(local, family, links)
 }
 
 // How many arcs all lists have together, made one after another.
@@ -147,12 +148,13 @@ fn write_blocks<F: Family, W: Sink>(
     ensures { IsWritten (flat_map (local_block local.now) vectors.entry)
         (change W.written W.has_failed out.old out.new) result }
 {
+    let mut lists = local.lists(links);
     let mut name = KeptName::new();
     let mut line = Line::new();
     let mut left = vectors;
     while let Some(x) = left.front() {
         name.turn_to(x);
-        write_block(local, x, links, &mut name, &mut line, out)?;
+        write_block(&mut lists, x, links, &mut name, &mut line, out)?;
         let _some = left.advance();
     }
     Ok(())
@@ -160,21 +162,22 @@ fn write_blocks<F: Family, W: Sink>(
 
 // Writes the block of a vector: its name, and a line for each of its arcs.
 fn write_block<W: Sink>(
-    local: &Local,
+    lists: &mut Lists<'_>,
     x: &[u32],
     links: &mut Links,
     name: &mut KeptName,
     line: &mut Line,
     out: &mut W,
 ) -> Result<(), Fault>
-    requires member { Contains (vectors_of local.now) x.now }
+    requires member { Contains (vectors_of lists.old) x.now }
     requires short { length x.now ≤ most_dimensions + 1 }
     requires named { name.old ≡ x.now }
     requires sound { W.has_failed out.old ≡ false }
-    ensures { IsWritten (local_block local.now x.now)
+    ensures written { IsWritten (local_block lists.old x.now)
         (change W.written W.has_failed out.old out.new) result }
+    ensures same { lists.new ≡ lists.old }
 {
-    local.arcs_at(x, links)?;
+    lists.arcs_at(x, links)?;
     name.write_line(out)?;
     for i in 0..links.len() {
         let link = links.get(i);

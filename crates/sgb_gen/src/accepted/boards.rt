@@ -13,6 +13,7 @@ ghost use Rattle.sgb_gen.specs.inner.Moves.{destination, longest_move};
 
 mod counts;
 mod lists;
+mod tables;
 
 use crate::displacements::Displacements;
 use crate::moves::{destination, entry_bounds};
@@ -22,6 +23,7 @@ use sgb_graph::{Graph, Id, IdWriter};
 use sgb_vec::{BoxFamily, Family, Panic, Shape, Vector, Vectors, board_sizes};
 use std::alloc::Global;
 use std::marker::Model;
+pub use tables::BoardLists;
 
 // The piece of a board is at most this number, and at least its negative.
 const MOST_PIECE: u64 = 2_147_483_647;

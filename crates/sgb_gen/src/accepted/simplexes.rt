@@ -4,6 +4,7 @@ ghost use Rattle.sgb_graph.specs.Descriptions.{IsAnswerOf};
 ghost use Rattle.sgb_graph.specs.Growth.{AddsEvents, HasPlainArcs};
 ghost use Rattle.sgb_gen.specs.VectorGraphs.{event_among, vertex_among};
 
+mod counts;
 mod lists;
 
 use crate::params::SimplexParams;
@@ -25,8 +26,9 @@ pub struct Simplex {
 }
 
 impl Model for Simplex {
-    ghost use Rattle.std.specs.Prelude.{◌≡◌};
+    ghost use Rattle.std.specs.Prelude.{◌≡◌, false};
     ghost use Rattle.sgb_gen.specs.Simplexes.{SimplexData};
+    ghost use Rattle.sgb_vec.specs.Sums.{has_great_count};
     ghost use Rattle.sgb_gen.specs.inner.Simplexes.{IsAcceptedSum};
 
     ghost Value = { SimplexData };
@@ -38,7 +40,8 @@ impl Model for Simplex {
     } };
 
     ghost invariant = { λ s. (s.shape.sizes ≡ s.family.bounds)
-        × IsAcceptedSum s.shape.params s.family };
+        × IsAcceptedSum s.shape.params s.family
+        × (has_great_count s.family.total s.family.bounds ≡ false) };
 }
 
 impl Simplex {

@@ -52,6 +52,8 @@ fn count_of_one(total: u32, bounds: &[u32]) -> u32
 // Takes the greatest of the bounds out of them.
 fn take_greatest(bounds: &mut Vector) -> u32
     requires { 0 < length bounds.old.items }
+    ensures greatest { (k : ℕ) → k < length bounds.old.items
+        → slice_index bounds.old.items k ≤ result }
     ensures counts { (k : ℕ) → count_of_sum k bounds.old.items
         ≡ count_of_sum k (result ∷ bounds.new.items) }
     ensures len { length bounds.new.items + 1 ≡ length bounds.old.items }

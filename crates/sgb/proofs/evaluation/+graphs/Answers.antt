@@ -17,8 +17,7 @@ use Rattle.sgb_ops.specs.Lines.{line_graph_of}
 use Rattle.sgb_ops.specs.Product.{product_graph_of}
 use Rattle.sgb_ops.specs.BiComplete.{bi_complete_of}
 use Rattle.sgb_ops.specs.Wheel.{wheel_of}
-use Rattle.sgb.specs.Values.{both, made, value_of, values_of}
-use Rattle.sgb.specs.inner.Values.{IsValue}
+use Rattle.sgb.specs.Values.{IsValue, both, made, value_of, values_of}
 use Rattle.sgb.proofs.EntryValues.{entries_handed, entries_refused, entry_smaller, induced_size, induced_value}
 use Rattle.sgb.proofs.Values.{size_of_entries, size_of_entry, value_made, value_then}
 use Rattle.sgb.proofs.evaluation.+graphs.Goals as goal

@@ -1,5 +1,5 @@
 //! The list of one vector of a board.
-ghost use Rattle.std.specs.Prelude.{◌≡◌, ◌≤◌, ◌<◌, [], ◌++◌, ◌==◌, ℕ, length, map, nat_abs, None, Some, if◌then◌else◌, All, Contains, OnOk, OnErr, IsOkUnless};
+ghost use Rattle.std.specs.Prelude.{◌≡◌, ◌≤◌, ◌<◌, [], ◌++◌, ◌==◌, ℕ, true, false, length, map, nat_abs, None, Some, if◌then◌else◌, All, Contains, OnOk, OnErr, IsOkUnless};
 ghost use Rattle.std.specs.Bool.{OnTrue, OnFalse};
 ghost use Rattle.sgb_vec.specs.Boxes.{box};
 ghost use Rattle.sgb_vec.specs.Lexicographic.{IsBelow};
@@ -8,13 +8,13 @@ ghost use Rattle.sgb_gen.specs.Boards.{moves_of_board};
 ghost use Rattle.sgb_gen.specs.LocalLists.{list_at};
 ghost use Rattle.sgb_gen.specs.inner.LocalBoards.{move_arc, edge_arcs, own_starts, other_starts, starts_of, arcs_of_starts, arcs_onward, moves_by};
 ghost use Rattle.sgb_gen.specs.Moves.{moves_from, sides_of, opposite};
-ghost use Rattle.sgb_gen.specs.inner.Moves.{destination};
+ghost use Rattle.sgb_gen.specs.inner.Moves.{destination, leads_onward};
 ghost use Rattle.sgb_gen.specs.VectorGraphs.{vertex_among};
 
 use super::Board;
 use crate::displacements::{Displacement, put_opposite};
 use crate::links::Links;
-use crate::moves::destination;
+use crate::moves::{destination, leads_onward};
 use sgb_vec::{Panic, Vector};
 
 impl Board {
@@ -43,7 +43,7 @@ impl Board {
     }
 
     // Puts the arcs of `x` behind the others, those by earlier moves first.
-    fn push_all(&self, x: &[u32], links: &mut Links) -> Result<(), Panic>
+    pub(super) fn push_all(&self, x: &[u32], links: &mut Links) -> Result<(), Panic>
         requires below { IsBelow x.now self.now.sizes }
         requires width { length x.now ≡ links.old.width }
         ensures ok { OnOk result (links.new
@@ -57,25 +57,26 @@ impl Board {
         let mut back = Displacement::new();
         let mut left = self.displacements();
         while let Some(t) = left.front() {
-            self.push_by(x, t, &mut back, &mut there, links)?;
+            put_opposite(t, &mut back);
+            self.push_by(x, t, back.as_slice(), &mut there, links)?;
             let _some = left.advance();
         }
         Ok(())
     }
 
-    // Puts the arcs of `x` by the displacement `t` behind the others. `back` and `there` are room for its opposite and, here
-    // and below, for a place: what they hold does not count.
-    fn push_by(
+    // Puts the arcs of `x` by the displacement `t`, whose opposite is `back`, behind the others. `there` is room for a place,
+    // here and below: what it holds does not count.
+    pub(super) fn push_by(
         &self,
         x: &[u32],
         t: &[i32],
-        back: &mut Displacement,
+        back: &[i32],
         there: &mut Vector,
         links: &mut Links,
     ) -> Result<(), Panic>
         requires below { IsBelow x.now self.now.sizes }
         requires dimensions { length t.now ≡ length self.now.sizes }
-        requires small { All (λ e. nat_abs e ≤ most_piece) t.now }
+        requires back { back.now ≡ opposite t.now }
         requires width { length x.now ≡ links.old.width }
         ensures ok { OnOk result (links.new
             ≡ record links.old {
@@ -89,11 +90,68 @@ impl Board {
         if self.directed {
             return self.push_moves(x, t, there, links);
         }
-        put_opposite(t, back);
+        if leads_onward(self.wrap, t) {
+            return self.push_in_order(x, t, back, there, links);
+        }
+        self.push_sorted(x, t, back, there, links)
+    }
+
+    // Puts the arcs of `x` by the edges of the displacement `t`, which leads onward, behind the others. They come in order:
+    // those from farther vertices first, and then those from `x`, the shorter first.
+    fn push_in_order(
+        &self,
+        x: &[u32],
+        t: &[i32],
+        back: &[i32],
+        there: &mut Vector,
+        links: &mut Links,
+    ) -> Result<(), Panic>
+        requires below { IsBelow x.now self.now.sizes }
+        requires dimensions { length t.now ≡ length self.now.sizes }
+        requires back { back.now ≡ opposite t.now }
+        requires onward { leads_onward self.now.wrap 0 t.now ≡ true }
+        requires width { length x.now ≡ links.old.width }
+        ensures ok { OnOk result (links.new
+            ≡ record links.old {
+              arcs = links.old.arcs
+                  ++ arcs_onward false x.now
+                  (moves_by (sides_of self.now.sizes self.now.wrap) self.now.piece
+                  (box self.now.sizes) t.now);
+            }) }
+        ensures memory { IsOkUnless result Panic.NoRoom }
+    {
+        let first = links.len();
+        self.push_moves(x, back, there, links)?;
+        links.reverse_from(first);
+        self.push_moves(x, t, there, links)
+    }
+
+    // Puts the arcs of `x` by the edges of the displacement `t` behind the others, which are sorted by their starts.
+    fn push_sorted(
+        &self,
+        x: &[u32],
+        t: &[i32],
+        back: &[i32],
+        there: &mut Vector,
+        links: &mut Links,
+    ) -> Result<(), Panic>
+        requires below { IsBelow x.now self.now.sizes }
+        requires dimensions { length t.now ≡ length self.now.sizes }
+        requires back { back.now ≡ opposite t.now }
+        requires width { length x.now ≡ links.old.width }
+        ensures ok { OnOk result (links.new
+            ≡ record links.old {
+              arcs = links.old.arcs
+                  ++ arcs_onward false x.now
+                  (moves_by (sides_of self.now.sizes self.now.wrap) self.now.piece
+                  (box self.now.sizes) t.now);
+            }) }
+        ensures memory { IsOkUnless result Panic.NoRoom }
+    {
         let mut starts = links.take_starts();
-        self.add_starts(x, t, back.as_slice(), there, &mut starts)?;
+        self.add_starts(x, t, back, there, &mut starts)?;
         starts.sort_unstable();
-        self.push_edges(x, t, back.as_slice(), starts.as_slice(), there, links)?;
+        self.push_edges(x, t, back, starts.as_slice(), there, links)?;
         links.keep_starts(starts);
         Ok(())
     }

@@ -1,4 +1,4 @@
-use Rattle.std.proofs.Common.{◌≡◌, ◌∙◌, ℕ, Result, Ok, Err}
+use Rattle.std.proofs.Common.{◌≡◌, ◌∙◌, ℕ, Result, Ok, Err, sym, ap, subst}
 use Rattle.std.specs.Prelude.{IfOk}
 use Rattle.sgb_vec.specs.declared.panics.Panic.{Panic}
 use Rattle.sgb_graph.specs.Made.{graph_described}
@@ -14,8 +14,5 @@ counted : (l : Local) (r : Result ℕ Panic) → IfOk r (λ m. m ≡ arcs_among 
 counted l (Ok m) is = is ∙ count_of_arcs l
 counted l (Err e) is = is
 
-pub returns : goal.returns
-returns g c = record {
-  count = counted c.args.local.now c.count_arcs.result c.count_arcs.ensures.count;
-  memory = c.count_arcs.ensures.memory;
-}
+pub returns-in-Subsets-clause-count : goal.returns-in-Subsets-clause-count
+returns-in-Subsets-clause-count g c = counted c.args.local.now c.count_arcs.result c.count_arcs.ensures.count

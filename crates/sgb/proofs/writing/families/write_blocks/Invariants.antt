@@ -12,6 +12,7 @@ invariant-loop-x g l =
     SoFar (flat_map (local_block l.local) l.fn.vectors) (flat_map (local_block l.local) l.left) (g.W.Sink.written l.initial.out) (g.W.Sink.written l.out)
     × (g.W.Sink.has_failed l.out ≡ false)
     × IsRest (vectors_of l.local) l.left
+    × (l.lists ≡ l.local)
 
 -- each turn leaves out one vector
 abbrev pub decreases-loop-x : goal.decreases-loop-x

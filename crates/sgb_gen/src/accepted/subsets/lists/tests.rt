@@ -43,10 +43,10 @@ fn compare_all<A: Abort>(rt: &A, alloc: Global, subsets: &Subsets) -> Result<(),
     Ok(())
 }
 
-// The one vector has three elements in common with itself.
+// One element of each kind: it has two in common with each other vector, and three with itself.
 #[test]
 fn no_size_wanted(rt: HostRuntime) -> Result<(), Fail> {
-    let subsets = Subsets::new(rt.alloc(), 3, 1, 1, 1, 0, 0, 0x1, false)?;
+    let subsets = Subsets::new(rt.alloc(), 3, 2, 2, 2, 0, 0, 0x3, false)?;
     let mut links = Links::new(rt.alloc());
     assert!(rt; subsets.family().holds(&[1, 1, 1]));
     subsets.arcs_at(&[1, 1, 1], &mut links)?;

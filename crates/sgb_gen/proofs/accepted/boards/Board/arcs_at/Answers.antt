@@ -2,7 +2,7 @@ use Rattle.std.proofs.Common.{◌++◌, ◌∙◌, reverse, sym, ap}
 use Rattle.sgb_vec.proofs.BoxPlaces.{IsBelow-from_Contains}
 use Rattle.sgb_gen.specs.Boards.{moves_of_board}
 use Rattle.sgb_gen.specs.inner.LocalBoards.{arcs_onward}
-use Rattle.sgb_gen.proofs.BoardLists.{list_of_board}
+use Rattle.sgb_gen.proofs.ListsOfBoards.{list_of_board}
 use Rattle.sgb_gen.proofs.accepted.boards.Board.arcs_at.Goals as goal
 
 pub push_all-requires-clause-below : goal.push_all-requires-clause-below

@@ -4,7 +4,7 @@ use Rattle.std.proofs.lemmas.Int.{to_z-of_z}
 use Rattle.sgb_gen.specs.Limits.{most_piece}
 use Rattle.sgb_gen.specs.inner.EntryBounds.{entry_bounds, displacements_within}
 use Rattle.sgb_gen.specs.Moves.{sides_of}
-use Rattle.sgb_gen.proofs.BoardLists.{displacements_small}
+use Rattle.sgb_gen.proofs.ListsOfBoards.{displacements_small}
 use Rattle.sgb_gen.proofs.BoundedMoves.{bounds_of, length-entry_bounds}
 use Rattle.sgb_gen.proofs.DisplacementLengths.{displacement_lengths}
 use Rattle.sgb_gen.proofs.accepted.boards.Board.displacements.Goals as goal

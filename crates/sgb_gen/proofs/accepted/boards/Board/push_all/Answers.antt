@@ -5,7 +5,7 @@ use Rattle.sgb_vec.specs.Boxes.{box}
 use Rattle.sgb_gen.specs.Limits.{most_piece}
 use Rattle.sgb_gen.specs.inner.LocalBoards.{arcs_onward, moves_by}
 use Rattle.sgb_gen.specs.Moves.{sides_of}
-use Rattle.sgb_gen.proofs.BoardLists.{onward-first}
+use Rattle.sgb_gen.proofs.ListsOfBoards.{onward-first}
 use Rattle.sgb_gen.proofs.BoundedMoves.{moves_within}
 use Rattle.sgb_gen.proofs.DisplacementWalk.{first_and_others, first_has}
 use Rattle.sgb_gen.proofs.accepted.boards.Board.push_all.Goals as goal
@@ -23,8 +23,11 @@ loop-t-init c =
 pub push_by-requires-clause-dimensions : goal.push_by-requires-clause-dimensions
 push_by-requires-clause-dimensions c = first_has (λ t. length t ≡ length c.args.self.now.sizes) c.loop-t.left c.in-Some.t.now c.loop-t.invariant.0 c.in-Some.ensures.first
 
-pub push_by-requires-clause-small : goal.push_by-requires-clause-small
-push_by-requires-clause-small c = first_has (λ t. All (λ e. nat_abs e ≤ most_piece) t) c.loop-t.left c.in-Some.t.now c.loop-t.invariant.1 c.in-Some.ensures.first
+pub put_opposite-requires-clause-few : goal.put_opposite-requires-clause-few
+put_opposite-requires-clause-few c = c.in-Some.ensures.few
+
+pub put_opposite-requires-clause-small : goal.put_opposite-requires-clause-small
+put_opposite-requires-clause-small c = first_has (λ t. All (λ e. nat_abs e ≤ most_piece) t) c.loop-t.left c.in-Some.t.now c.loop-t.invariant.1 c.in-Some.ensures.first
 
 pub loop-t-preserved : goal.loop-t-preserved
 loop-t-preserved c =

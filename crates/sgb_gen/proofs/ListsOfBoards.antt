@@ -68,7 +68,7 @@ list_turned directed x (m ∷ ms) =
 
 -- ---- the moves from one vector
 
-passing_all : {X : Type 0} (p : X → Bool) (xs : List X) → All (λ x. p x ≡ true) xs → filter p xs ≡ xs
+pub passing_all : {X : Type 0} (p : X → Bool) (xs : List X) → All (λ x. p x ≡ true) xs → filter p xs ≡ xs
 passing_all p [] h = refl
 passing_all p (x ∷ xs) h = ap (λ c. cond c (x ∷ filter p xs) (filter p xs)) (All-head (λ y. p y ≡ true) x xs h) ∙ ap (λ ys. x ∷ ys) (passing_all p xs (All-tail (λ y. p y ≡ true) x xs h))
 

@@ -1,0 +1,142 @@
+-- Bounds with one less at a place: the vectors of a sum within them, and how many there are.
+use Rattle.std.proofs.Common.{◌≡◌, ℕ, zero, suc, ◌+◌, ◌-◌, ◌<◌, ◌≤◌, Bool, false, List, [], ◌∷◌, length, get_or, set, sum, take, refl, ap, inl, inr, arith, length-set}
+use Rattle.std.specs.List.{list_any, range_with_len}
+use Rattle.std.specs.Prelude.{nat_lt}
+use Rattle.std.proofs.lemmas.Bool.{cases_lt, or_from, or_parts, lt-ltb, le-ltb, both_ways}
+use Rattle.std.proofs.lemmas.List.{get_or_past}
+use Rattle.std.proofs.lemmas.List.Sums.{sum_by-set}
+use Rattle.sgb_vec.specs.Lexicographic.{IsBefore, IsWithin}
+use Rattle.sgb_vec.specs.Limits.{most_vertices}
+use Rattle.sgb_vec.specs.Sums.{count_of_sum, has_great_count}
+use Rattle.sgb_vec.proofs.SumCounts.{count_of_sum-cons}
+use Rattle.sgb_vec.proofs.SumSuccessors.{IsBefore-cases, IsBefore-less, IsBefore-same}
+use Rattle.sgb_vec.proofs.Windows.{window, window_le, window-wide, window-wider}
+use Rattle.sgb_gen.specs.Simplexes.{Places}
+use Rattle.sgb_gen.specs.inner.SimplexCounts.{less_at, lowered}
+
+-- ---- vectors with one less at a place
+
+-- vectors that have a unit there stay in order
+pub before-less_at : (v w : List ℕ) (i : ℕ) → 0 < get_or v i 0 → 0 < get_or w i 0 → IsBefore v w → IsBefore (less_at v i) (less_at w i)
+before-less_at [] w i hv hw h = absurd (omega arith)
+before-less_at (x ∷ v) [] i hv hw h = absurd (omega arith)
+before-less_at (x ∷ v) (y ∷ w) zero hv hw h =
+    elim (IsBefore-cases x y v w h) [
+      | inl less ↦ IsBefore-less (x - 1) (y - 1) v w (omega arith)
+      | inr same ↦ IsBefore-same (x - 1) (y - 1) v w (ap (λ n. n - 1) same.0) same.1
+    ]
+before-less_at (x ∷ v) (y ∷ w) (suc i) hv hw h =
+    elim (IsBefore-cases x y v w h) [
+      | inl less ↦ IsBefore-less x y (less_at v i) (less_at w i) less
+      | inr same ↦ IsBefore-same x y (less_at v i) (less_at w i) same.0 (before-less_at v w i hv hw same.1)
+    ]
+
+-- they are within bounds with one less there
+pub within-less_both : (v bounds : List ℕ) (i : ℕ) → IsWithin v bounds → IsWithin (less_at v i) (less_at bounds i)
+within-less_both [] [] i h = h
+within-less_both [] (b ∷ bounds) i h = absurd h
+within-less_both (x ∷ v) [] i h = absurd h
+within-less_both (x ∷ v) (b ∷ bounds) zero h = (omega (arith, h.0), h.1)
+within-less_both (x ∷ v) (b ∷ bounds) (suc i) h = (h.0, within-less_both v bounds i h.1)
+
+-- so is a vector that has room there
+pub within-less : (v bounds : List ℕ) (i : ℕ) → get_or v i 0 < get_or bounds i 0 → IsWithin v bounds → IsWithin v (less_at bounds i)
+within-less [] [] i room h = h
+within-less [] (b ∷ bounds) i room h = absurd h
+within-less (x ∷ v) [] i room h = absurd h
+within-less (x ∷ v) (b ∷ bounds) zero room h = (omega (arith, room), h.1)
+within-less (x ∷ v) (b ∷ bounds) (suc i) room h = (h.0, within-less v bounds i room h.1)
+
+-- numbers with one more at a place
+abbrev pub more_at : List ℕ → ℕ → List ℕ
+more_at xs i = set xs i (get_or xs i 0 + 1)
+
+pub less-more_at : (xs : List ℕ) (i : ℕ) → less_at (more_at xs i) i ≡ xs
+less-more_at [] i = refl
+less-more_at (x ∷ xs) zero = ap (λ n. n ∷ xs) (omega arith)
+less-more_at (x ∷ xs) (suc i) = ap (λ ys. x ∷ ys) (less-more_at xs i)
+
+-- a vector within bounds with one less at a place has room there
+pub within-more : (v bounds : List ℕ) (i : ℕ) → 0 < get_or bounds i 0 → IsWithin v (less_at bounds i) → IsWithin v bounds × (get_or v i 0 < get_or bounds i 0)
+within-more v [] i some h = absurd (omega arith)
+within-more [] (b ∷ bounds) zero some h = absurd h
+within-more [] (b ∷ bounds) (suc i) some h = absurd h
+within-more (x ∷ v) (b ∷ bounds) zero some h = ((omega (arith, h.0), h.1), omega (arith, h.0, some))
+within-more (x ∷ v) (b ∷ bounds) (suc i) some h =
+    let rest = within-more v bounds i some h.1 in
+    ((h.0, rest.0), rest.1)
+
+-- and can have one more there
+pub within-more_both : (v bounds : List ℕ) (i : ℕ) → get_or v i 0 < get_or bounds i 0 → IsWithin v bounds → IsWithin (more_at v i) bounds
+within-more_both [] bounds i room h = h
+within-more_both (x ∷ v) [] i room h = absurd h
+within-more_both (x ∷ v) (b ∷ bounds) zero room h = (omega (arith, room), h.1)
+within-more_both (x ∷ v) (b ∷ bounds) (suc i) room h = (h.0, within-more_both v bounds i room h.1)
+
+-- what they add to
+pub sum-less_at : (v : List ℕ) (i : ℕ) → 0 < get_or v i 0 → sum (less_at v i) + 1 ≡ sum v
+sum-less_at v i some =
+    elim (cases_lt i (length v)) [
+      | inl within ↦ omega (arith, some, sum_by-set (λ x. x) v i (get_or v i 0 - 1) 0 within)
+      | inr past ↦ absurd (omega (arith, some, get_or_past v i 0 past))
+    ]
+
+-- ---- how many vectors there are
+
+-- a narrower window has no greater sum
+window-narrower : (b : ℕ) (f : ℕ → ℕ) (k : ℕ) → window (b - 1) f k ≤ window b f k
+window-narrower zero f k = omega arith
+window-narrower (suc b) f k =
+    let same : suc b - 1 ≡ b = omega arith in
+    let here : window (suc b - 1) f k ≡ window b f k = ap (λ n. window n f k) same in
+    elim (cases_lt b k) [
+      | inl past ↦ omega (arith, here, window-wider b (k - (b + 1)) f k (omega arith))
+      | inr within ↦ omega (arith, here, window-wide b f k within)
+    ]
+
+-- with one less at a place there are no more vectors of a sum, also within the first bounds
+pub count-lowered_le : (bounds : List ℕ) (m i k : ℕ) → count_of_sum k (take m (less_at bounds i)) ≤ count_of_sum k (take m bounds)
+count-lowered_le [] m i k = omega arith
+count-lowered_le (b ∷ bounds) zero zero k = omega arith
+count-lowered_le (b ∷ bounds) zero (suc i) k = omega arith
+count-lowered_le (b ∷ bounds) (suc m) zero k =
+    let rest = take m bounds in
+    omega (arith, count_of_sum-cons (b - 1) rest k, count_of_sum-cons b rest k, window-narrower b (λ j. count_of_sum j rest) k)
+count-lowered_le (b ∷ bounds) (suc m) (suc i) k =
+    let rest = take m bounds in
+    let less = take m (less_at bounds i) in
+    omega (arith, count_of_sum-cons b less k, count_of_sum-cons b rest k, window_le b (λ j. count_of_sum j less) (λ j. count_of_sum j rest) k (λ j _. count-lowered_le bounds m i j))
+
+-- in a shorter range a test that passes less often passes nowhere, where the other one does not
+none_fewer : (p q : ℕ → Bool) (m n a : ℕ) → m ≤ n → ((x : ℕ) → p x ≡ false → q x ≡ false) → list_any p (range_with_len a n) ≡ false → list_any q (range_with_len a m) ≡ false
+none_fewer p q zero n a le fewer none = refl
+none_fewer p q (suc m) zero a le fewer none = absurd (omega arith)
+none_fewer p q (suc m) (suc n) a le fewer none =
+    let parts = or_parts (p a) (list_any p (range_with_len (a + 1) n)) none in
+    or_from (q a) (list_any q (range_with_len (a + 1) m)) (fewer a parts.0) (none_fewer p q m n (a + 1) (omega arith) fewer parts.1)
+
+-- a count that is no greater is not too great
+small_too : (a b : ℕ) → a ≤ b → nat_lt most_vertices b ≡ false → nat_lt most_vertices a ≡ false
+small_too a b le small =
+    elim (cases_lt most_vertices b) [
+      | inl great ↦ absurd (both_ways (nat_lt most_vertices b) small (lt-ltb most_vertices b great))
+      | inr few ↦ le-ltb most_vertices a (omega (arith, le, few))
+    ]
+
+-- where there are not too many vectors, there are not of a smaller sum and with one less at a place
+none_great-less : (n m : ℕ) (bounds : List ℕ) (i : ℕ) → m ≤ n → has_great_count n bounds ≡ false → has_great_count m (less_at bounds i) ≡ false
+unfolding has_great_count
+none_great-less n m bounds i le none =
+    let less = less_at bounds i in
+    let long : length less ≡ length bounds = length-set bounds i (get_or bounds i 0 - 1) in
+    let great : List ℕ → ℕ → ℕ → Bool = λ bs j k. nat_lt most_vertices (count_of_sum k (take (j + 1) bs)) in
+    none_fewer (λ j. list_any (great bounds j) (range_with_len 0 (n + 1))) (λ j. list_any (great less j) (range_with_len 0 (m + 1)))
+    (length less - 1) (length bounds - 1) 1 (omega (arith, long))
+    (λ j. none_fewer (great bounds j) (great less j) (m + 1) (n + 1) 0 (omega (arith, le))
+    (λ k. small_too (count_of_sum k (take (j + 1) less)) (count_of_sum k (take (j + 1) bounds)) (count-lowered_le bounds (j + 1) i k)))
+    none
+
+-- nor with one less at two
+pub none_great-lowered : (n : ℕ) (bounds : List ℕ) (at : Places) → has_great_count n bounds ≡ false → has_great_count (n - 1) (lowered bounds at) ≡ false
+none_great-lowered n bounds at none =
+    none_great-less (n - 1) (n - 1) (less_at bounds at.lower) at.higher (omega arith) (none_great-less n (n - 1) bounds at.lower (omega arith) none)

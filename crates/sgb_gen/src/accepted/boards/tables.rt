@@ -1,0 +1,130 @@
+//! The lists of a board's vertices, one after another.
+ghost use Rattle.std.specs.Prelude.{◌≡◌, [], ◌++◌, length, nat_abs, Contains, OnOk, OnErr, IsOkUnless};
+ghost use Rattle.sgb_vec.specs.Boxes.{box};
+ghost use Rattle.sgb_vec.specs.Lexicographic.{IsBelow};
+ghost use Rattle.sgb_gen.specs.Boards.{moves_of_board};
+ghost use Rattle.sgb_gen.specs.LocalLists.{list_at};
+ghost use Rattle.sgb_gen.specs.Moves.{sides_of};
+ghost use Rattle.sgb_gen.specs.inner.EntryBounds.{displacements_within, entry_bounds};
+ghost use Rattle.sgb_gen.specs.inner.LocalBoards.{arcs_onward};
+
+use super::Board;
+use crate::displacement_tables::DisplacementTable;
+use crate::links::Links;
+use sgb_vec::{Family, Panic, Vector};
+use std::marker::Model;
+
+/// The lists of a board's vertices, one after another: what they have in common is found once (GB_BASIC, board).
+/// Contracts see it as its board.
+#[derive(Drop)]
+pub struct BoardLists<'a> {
+    board: &'a Board,
+    // The displacements by which the piece can move, where they are few.
+    table: Option<DisplacementTable>,
+    // Room for a vector.
+    there: Vector,
+}
+
+impl<'a> Model for BoardLists<'a> {
+    ghost use Rattle.std.specs.Prelude.{◌≡◌, nat_abs, IfSome};
+    ghost use Rattle.sgb_gen.specs.Boards.{BoardData};
+    ghost use Rattle.sgb_gen.specs.Moves.{sides_of};
+    ghost use Rattle.sgb_gen.specs.inner.EntryBounds.{displacements_within, entry_bounds};
+
+    ghost Value = { BoardData };
+
+    ghost view = { λ b. b.board.now };
+
+    ghost invariant = { λ b. IfSome b.table (λ d. d
+        ≡ displacements_within (nat_abs b.board.now.piece)
+        (entry_bounds (nat_abs b.board.now.piece) (sides_of b.board.now.sizes b.board.now.wrap))) };
+}
+
+impl Board {
+    /// The board, ready to list its vertices one after another, which is faster than `arcs_at` for each of them. A small
+    /// table is kept in memory from where that of the links comes; where it would be large, or there is no memory, the
+    /// lists are made with none.
+    pub fn lists(&self, links: &Links) -> BoardLists<'_>
+        ensures { result ≡ self.now }
+    {
+        let table = DisplacementTable::new(links.alloc(), self.family.dims(), self.displacements());
+        BoardLists {
+            board: self,
+            table,
+            there: Vector::new(),
+        }
+    }
+
+    // Puts the arcs of `x` behind the others, as `push_all` does, where the displacements are in a table.
+    fn push_kept(
+        &self,
+        x: &[u32],
+        table: &DisplacementTable,
+        there: &mut Vector,
+        links: &mut Links,
+    ) -> Result<(), Panic>
+        requires below { IsBelow x.now self.now.sizes }
+        requires width { length x.now ≡ links.old.width }
+        requires table { table.now ≡ displacements_within (nat_abs self.now.piece)
+            (entry_bounds (nat_abs self.now.piece) (sides_of self.now.sizes self.now.wrap)) }
+        ensures ok { OnOk result (links.new
+            ≡ record links.old {
+              arcs = links.old.arcs
+                  ++ arcs_onward self.now.directed x.now (moves_of_board self.now);
+            }) }
+        ensures memory { IsOkUnless result Panic.NoRoom }
+    {
+        for k in 0..table.len() {
+            self.push_by(x, table.displacement(k), table.opposite(k), there, links)?;
+        }
+        Ok(())
+    }
+}
+
+impl<'a> BoardLists<'a> {
+    /// Puts the arcs of the vertex of `x` into `links`, in the order of its list in the board's graph: from the
+    /// vector alone, by undoing displacements (GB_BASIC, board). What `links` held before is dropped.
+    ///
+    /// `x` is a vector of the board. `NoRoom` when out of memory, and nothing else; the links are then empty.
+    pub fn arcs_at(&mut self, x: &[u32], links: &mut Links) -> Result<(), Panic>
+        requires { Contains (box self.old.sizes) x.now }
+        ensures ok { OnOk result (links.new.arcs
+            ≡ list_at self.old.directed (box self.old.sizes) (moves_of_board self.old) x.now) }
+        ensures err { OnErr result (links.new.arcs ≡ []) }
+        ensures memory { IsOkUnless result Panic.NoRoom }
+        ensures same { self.new ≡ self.old }
+    {
+        links.clear(x.len());
+        match self.push_all(x, links) {
+            Ok(()) => {
+                links.reverse();
+                Ok(())
+            }
+            Err(refused) => {
+                links.clear(x.len());
+                Err(refused)
+            }
+        }
+    }
+
+    // Puts the arcs of `x` behind the others, those by earlier moves first.
+    fn push_all(&mut self, x: &[u32], links: &mut Links) -> Result<(), Panic>
+        requires below { IsBelow x.now self.old.sizes }
+        requires width { length x.now ≡ links.old.width }
+        ensures ok { OnOk result (links.new
+            ≡ record links.old {
+              arcs = links.old.arcs
+                  ++ arcs_onward self.old.directed x.now (moves_of_board self.old);
+            }) }
+        ensures memory { IsOkUnless result Panic.NoRoom }
+        ensures same { self.new ≡ self.old }
+    {
+        match &self.table {
+            Some(table) => self.board.push_kept(x, table, &mut self.there, links),
+            None => self.board.push_all(x, links),
+        }
+    }
+}
+
+#[cfg(test)]
+mod tests;

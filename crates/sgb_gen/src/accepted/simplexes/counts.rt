@@ -1,0 +1,99 @@
+//! The number of arcs of a simplex's graph, with no list made.
+ghost use Rattle.std.specs.Prelude.{◌≡◌, ◌≤◌, ◌<◌, ◌*◌, ◌+◌, length, slice_index, IfOk, IsOkUnless};
+ghost use Rattle.sgb_graph.specs.Made.{graph_described};
+ghost use Rattle.sgb_vec.specs.Limits.{most_dimensions, most_vertices};
+ghost use Rattle.sgb_gen.specs.Simplexes.{simplex_graph, moves_of_simplex, pairs_from};
+ghost use Rattle.sgb_gen.specs.inner.SimplexCounts.{lowered, shifts_count, shifts_by};
+
+use super::Simplex;
+use crate::links::Links;
+use sgb_vec::{Family, Panic, SumFamily, Vector};
+use std::alloc::Global;
+
+impl Simplex {
+    /// The number of arcs of the simplex's graph (GB_BASIC, simplex), where an edge counts as two. It is found by
+    /// pairs of places, with no arc made and no vector walked: where a unit can go from one place to another, the
+    /// vectors are as many as those of a sum and of bounds that are one less.
+    ///
+    /// `NoRoom` when out of memory, and nothing else. The memory is from where that of the links comes; for each pair it
+    /// is that of `sgb_vec::SumFamily::new`, as is the time.
+    pub fn arcs_count(&self, links: &Links) -> Result<u128, Panic>
+        ensures count { IfOk result (λ m. m ≡ (graph_described (simplex_graph self.now)).m) }
+        ensures memory { IsOkUnless result Panic.NoRoom }
+    {
+        let moves = self.moves_count(links.alloc())?;
+        if self.directed {
+            return Ok(u128::from(moves));
+        }
+        Ok(u128::from(moves) * 2)
+    }
+
+    // The number of moves.
+    fn moves_count(&self, alloc: Global) -> Result<u64, Panic>
+        ensures ok { IfOk result (λ n. n ≡ length (moves_of_simplex self.now)) }
+        ensures memory { IsOkUnless result Panic.NoRoom }
+    {
+        let mut counted: u64 = 0;
+        for lower in 0..self.shape.sizes().len() {
+            counted += self.shifts_from(alloc, lower)?;
+        }
+        Ok(counted)
+    }
+
+    // From how many vectors a unit goes from the lower place to a higher one: for each of these.
+    fn shifts_from(&self, alloc: Global, lower: usize) -> Result<u64, Panic>
+        requires entry { lower < length self.now.sum.bounds }
+        ensures ok { IfOk result (λ n. n
+            ≡ shifts_by self.now.sum (pairs_from (length self.now.sum.bounds) lower)) }
+        ensures small { IfOk result (λ n. n ≤ (most_dimensions + 1) * most_vertices) }
+        ensures memory { IsOkUnless result Panic.NoRoom }
+    {
+        let bounds = self.shape.sizes();
+        let mut counted: u64 = 0;
+        for higher in lower + 1..bounds.len() {
+            counted += u64::from(self.shifts_count(alloc, lower, higher)?);
+        }
+        Ok(counted)
+    }
+
+    // From how many vectors a unit can go from the lower place to the higher one: as many as have a sum and bounds
+    // that are one less.
+    fn shifts_count(&self, alloc: Global, lower: usize, higher: usize) -> Result<u32, Panic>
+        requires order { lower < higher }
+        requires entry { higher < length self.now.sum.bounds }
+        ensures ok { IfOk result (λ n. n
+            ≡ shifts_count self.now.sum (record { lower = lower; higher = higher })) }
+        ensures small { IfOk result (λ n. n ≤ most_vertices) }
+        ensures memory { IsOkUnless result Panic.NoRoom }
+    {
+        let bounds = self.shape.sizes();
+        let total = self.family.total();
+        if total == 0 || bounds[lower] == 0 || bounds[higher] == 0 {
+            return Ok(0);
+        }
+        let bounds = lowered(bounds, lower, higher);
+        let family = SumFamily::new(alloc, i64::from(total - 1), bounds.as_slice())?;
+        Ok(family.size())
+    }
+}
+
+// The bounds with one less at both places.
+fn lowered(bounds: &[u32], lower: usize, higher: usize) -> Vector
+    requires few { length bounds.now ≤ most_dimensions + 1 }
+    requires order { lower < higher }
+    requires entry { higher < length bounds.now }
+    requires low { 0 < slice_index bounds.now lower }
+    requires high { 0 < slice_index bounds.now higher }
+    ensures { result.items ≡ lowered bounds.now (record { lower = lower; higher = higher }) }
+{
+    let mut less = Vector::new();
+    for bound in bounds {
+        less.push(*bound);
+    }
+    less[lower] -= 1;
+    less[higher] -= 1;
+    less
+}
+
+#[cfg(test)]
+mod tests;

@@ -1,0 +1,71 @@
+-- The lines of distances, one after the other, and how an answer of them ends.
+use Rattle.std.proofs.Common.{◌≡◌, ◌∙◌, ◌+◌, ◌<◌, ◌≤◌, ℕ, Bool, false, List, [], ◌∷◌, ◌++◌, length, get_or, Option, Some, None, Result, Ok, Err, refl, sym, ap, subst, inl, inr, arith}
+use Rattle.std.specs.List.{flat_map}
+use Rattle.std.proofs.lemmas.List.{ext_get_or}
+use Rattle.sgb_vec.specs.declared.panics.Panic.{Panic}
+use Rattle.sgb_vec.specs.declared.panics.Panic.TheVariants.{NoRoom}
+use Rattle.sgb_graph.specs.Graphs.{GraphData}
+use Rattle.sgb_ops.specs.Operands.{names_of}
+use Rattle.sgb_file.specs.Devices.{Change}
+use Rattle.sgb_requests.specs.declared.faults.Fault.{Fault}
+use Rattle.sgb_requests.specs.declared.faults.Fault.TheVariants as fault
+use Rattle.sgb.specs.Values.{IsValue}
+use Rattle.sgb.specs.Writing.{IsWritten}
+use Rattle.sgb.specs.inner.Writing.{IsEnded}
+use Rattle.sgb.proofs.Endings.{change_of, memory_at_once, refused_at_once}
+use Rattle.sgb.proofs.Listings.{range-first, range-none}
+use Rattle.sgb_levels.specs.Distances.{AreDistances, IsDistanceIfAny}
+use Rattle.sgb_levels.specs.inner.Lines.{IsLevelsAnswer, distance_text, level_line, level_lines, line_of_level}
+
+-- the parts of a line
+pub line-parts : (name : List ℕ) (distance : Option ℕ) → line_of_level name distance ≡ name ++ ((32 ∷ []) ++ (distance_text distance ++ (10 ∷ [])))
+unfolding line_of_level
+line-parts name distance = refl
+
+-- the line of a vertex stands before those after it
+pub level_lines-first : (names : List (List ℕ)) (distances : List (Option ℕ)) (v : ℕ) → v < length names
+    → level_lines names distances v ≡ level_line names distances v ++ level_lines names distances (v + 1)
+unfolding level_lines
+level_lines-first names distances v h = ap (flat_map (level_line names distances)) (range-first v (length names) h)
+
+-- no line is left after the last vertex
+pub level_lines-none : (names : List (List ℕ)) (distances : List (Option ℕ)) (v : ℕ) → length names ≤ v → level_lines names distances v ≡ []
+unfolding level_lines
+level_lines-none names distances v h = ap (flat_map (level_line names distances)) (range-none v (length names) h)
+
+-- a vertex has one distance
+one_distance : (g : GraphData) (u v : ℕ) (o p : Option ℕ) → IsDistanceIfAny g u v o → IsDistanceIfAny g u v p → o ≡ p
+one_distance g u v (Some d) (Some e) x y = let same : d ≡ e = omega (arith, x.least e y.path, y.least d x.path) in ap Some same
+one_distance g u v (Some d) None x y = absurd (y d x.path)
+one_distance g u v None (Some e) x y = absurd (x e y.path)
+one_distance g u v None None x y = refl
+
+-- so there is one list of them
+pub distances_only : (g : GraphData) (u : ℕ) (xs ys : List (Option ℕ)) → AreDistances g u xs → AreDistances g u ys → xs ≡ ys
+distances_only g u xs ys x y =
+    ext_get_or None xs ys (x.size ∙ sym y.size) (λ v below.
+    let inside : v < length g.vertices = omega (arith, below, x.size) in
+    one_distance g u v (get_or xs v None) (get_or ys v None) (x.each v inside) (y.each v inside))
+
+-- the lines of the distances that were found are the answer
+written_is : {T : Type 0} (g : GraphData) (found : List (Option ℕ)) (a : Result (List ℕ) Fault) (out : Change) (r : Result T Fault)
+    → AreDistances g 0 found → IsWritten (level_lines (names_of g) found 0) out r → IsLevelsAnswer (Ok g) a → IsEnded a out r
+written_is {T = T} g found (Ok text) out r are written (distances, also, is) =
+    let same : level_lines (names_of g) found 0 ≡ text = ap (λ ds. level_lines (names_of g) ds 0) (distances_only g 0 found distances are also) ∙ sym is in
+    subst (λ t. IsWritten {T = T} t out r) same written
+written_is g found (Err f) out r are written answer = absurd answer
+
+pub answer_written : {T : Type 0} (v : Result GraphData Panic) (g : GraphData) (found : List (Option ℕ)) (a : Result (List ℕ) Fault) (out : Change) (r : Result T Fault)
+    → v ≡ Ok g → AreDistances g 0 found → IsWritten (level_lines (names_of g) found 0) out r → IsLevelsAnswer v a → IsEnded a out r
+answer_written v g found a out r is are written answer = written_is g found a out r are written (subst (λ (x : Result GraphData Panic). IsLevelsAnswer x a) is answer)
+
+-- a graph that is refused is the answer
+refused_is : (T : Type 0) (p : Panic) (a : Result (List ℕ) Fault) (w : Option (List ℕ)) (failed : Bool) → failed ≡ false
+    → IsLevelsAnswer (Err p) a → IsEnded {T = T} a (change_of w w failed) (Err (fault.Panic p))
+refused_is T p (Ok text) w failed sound answer = absurd answer
+refused_is T p (Err f) w failed sound answer = refused_at_once T (Err f) (fault.Panic p) w failed (ap Err answer) sound
+
+pub answer_refused : (T : Type 0) (v : Result GraphData Panic) (p : Panic) (a : Result (List ℕ) Fault) (w : Option (List ℕ)) (failed : Bool) → IsValue v (Err p) → failed ≡ false
+    → IsLevelsAnswer v a → IsEnded {T = T} a (change_of w w failed) (Err (fault.Panic p))
+answer_refused T v p a w failed (inl is) sound answer = refused_is T p a w failed sound (subst (λ (x : Result GraphData Panic). IsLevelsAnswer x a) is answer)
+answer_refused T v p a w failed (inr is) sound answer = subst (λ q. IsEnded {T = T} a (change_of w w failed) (Err (fault.Panic q))) (sym is) (memory_at_once T a w failed sound)
