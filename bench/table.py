@@ -31,6 +31,11 @@ REQUESTS = [
     ["list", "board(1000,1000,0,0,1,3,1)"],
     ["list", "board(200,200,0,0,-1,0,0)"],
     ["list", "board(200,200,0,0,-2,3,0)"],
+    ["list", "board(700,700,0,0,5,0,0)"],
+    ["list", "board(1000,1000,0,0,1,0,1)"],
+    ["list", "board(64,64,64,0,1,7,0)"],
+    ["list", "board(7,-6,0,0,2,0,0)"],
+    ["list", "board(100,100,0,0,-1,0,0)"],
     ["list", "board(2,-18,0,0,1,0,0)"],
     ["list", "board(1000,1000,0,0,1,0,0)", "--skip", "999990"],
     ["list", "complete(2000)"],
@@ -38,6 +43,8 @@ REQUESTS = [
     ["list", "simplex(25,-5,0,0,0,0,0)"],
     ["list", "simplex(1000,-2,0,0,0,0,0)"],
     ["list", "disjoint_subsets(15,6)"],
+    ["list", "disjoint_subsets(25,3)"],
+    ["list", "subsets(4,1,-19,0,0,0,0x8,0)"],
     ["list", "subsets(20,5,-5,0,0,0,0xff,0)"],
     # operations: queens on 80 x 80 beside the rooks alone, a complement, an intersection
     ["list", "board(80,80,0,0,-1,0,0)"],
@@ -65,6 +72,14 @@ REQUESTS = [
     ["names", "simplex(1000000000,-1,0,0,0,0,0)"],
 ]
 
+# requests of which only the beginning is read: the head of great graphs, and a skip of many vertices
+HEADS = [
+    ["list", "board(1000000000,0,0,0,1,0,0)"],
+    ["list", "board(30000,30000,0,0,-1,0,0)"],
+    ["list", "simplex(44000,-2,0,0,0,0,0)"],
+    ["names", "board(1000000000,0,0,0,1,0,0)", "--skip", "500000000"],
+]
+
 # requests that read a file, each with the one that writes it
 READERS = [
     (["list", "stdin"], ["save", "board(600,600,0,0,1,0,0)"]),
@@ -73,12 +88,16 @@ READERS = [
 ]
 
 
-def cost(words, source=subprocess.DEVNULL):
-    """Runs the program; its exit status, processor seconds, peak memory in kilobytes, bytes of output."""
+def cost(words, source=subprocess.DEVNULL, most=None):
+    """Runs the program; its exit status, processor seconds, peak memory in kilobytes, bytes of output. With `most` the
+    output is closed after so many bytes."""
     run = subprocess.Popen([PROGRAM, *words], stdin=source, stdout=subprocess.PIPE)
     count = 0
-    while chunk := run.stdout.read(1 << 20):
+    while chunk := run.stdout.read(min(1 << 20, most or 1 << 20)):
         count += len(chunk)
+        if most and count >= most:
+            break
+    run.stdout.close()
     _, status, usage = os.wait4(run.pid, 0)
     run.returncode = os.waitstatus_to_exitcode(status)
     return run.returncode, usage.ru_utime + usage.ru_stime, usage.ru_maxrss, count
@@ -97,6 +116,11 @@ def main():
         text = " ".join(words)
         if not wanted or any(word in text for word in wanted):
             show(text, *cost(words))
+    for words in HEADS:
+        text = " ".join(words) + " | head"
+        if not wanted or any(word in text for word in wanted):
+            status, *costs = cost(words, most=200)
+            show(text, 0 if status == 3 else status, *costs)
     for words, writer in READERS:
         text = f"{' '.join(words)} < {' '.join(writer)}"
         if not wanted or any(word in text for word in wanted):

@@ -25,10 +25,6 @@ all_pass : {X : Type 0} (xs : List X) → passing (λ x. true) xs ≡ length xs
 all_pass [] = refl
 all_pass (x ∷ xs) = ap suc (all_pass xs)
 
--- a coordinate that is left on a side
-is_left : ℕ → ℤ → ℕ → Bool
-is_left n u x = is_some (within_size n (pos x +ℤ u))
-
 left-some : (n y : ℕ) → y < n → is_some (within_size n (pos y)) ≡ true
 left-some n y h = ap is_some (cond-true (ltb y n) (Some y) None (lt-ltb y n h))
 
