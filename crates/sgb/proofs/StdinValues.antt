@@ -76,7 +76,7 @@ both_same p p' q q' e f = ap₂ (λ x y. both x y) e f
 
 mutual
   -- the graph of an expression, on two texts that are files of the same graph, or where it does not read
-  value_same : (a b : List ℕ) (e : Expression) → (has_stdin e ≡ true → stdin_value a ≡ stdin_value b) → value_of a e ≡ value_of b e
+  pub value_same : (a b : List ℕ) (e : Expression) → (has_stdin e ≡ true → stdin_value a ≡ stdin_value b) → value_of a e ≡ value_of b e
   value_same a b (Generated f) same = refl
   value_same a b (Complement e copy self_loops directed) same =
       ap (λ v. and_then v (λ g. made (complement_of g copy self_loops directed))) (value_same a b e same)

@@ -1,6 +1,4 @@
 -- What only the private contracts and the proofs of sgb_levels speak of.
--- what the program writes
-pub mod Lines
 -- the marks of a search
 pub mod Marks
 -- searches, level by level

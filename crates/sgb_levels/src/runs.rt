@@ -1,18 +1,26 @@
 //! The program: the graph of an expression, and the lines of its vertices.
-ghost use Rattle.std.specs.Prelude.{◌≡◌, ◌<◌, List, ℕ, None, Result, [], false, length};
+ghost use Rattle.std.specs.Prelude.{◌≡◌, ◌<◌, ◌&&◌, List, ℕ, None, Result, [], true, false, length, map, is_err, Err, IfOk, IfErr, OnOk, MatchResult};
 ghost use Rattle.std.specs.List.{slice_index_or};
-ghost use Rattle.sgb_file.specs.Devices.{change};
+ghost use Rattle.std.specs.Io.KnownBytes.{Keeps};
+ghost use Rattle.std.specs.IoError.{error_kind};
+ghost use Rattle.std.specs.String.{string_bytes};
+ghost use Rattle.sgb_file.specs.Devices.{AppendsUnlessFailed, change};
 ghost use Rattle.sgb_ops.specs.Operands.{names_of};
 ghost use Rattle.sgb_expr.specs.Expression.{expression_of};
+ghost use Rattle.sgb_expr.specs.StdinUses.{has_stdin};
+ghost use Rattle.sgb_requests.specs.Faults.{status_of};
 ghost use Rattle.sgb_requests.specs.declared.faults.Fault.{Fault};
+ghost use Rattle.sgb.specs.Inputs.{IsKept, IsReadFrom};
+ghost use Rattle.sgb.specs.Program.{unread_fault};
 ghost use Rattle.sgb.specs.Values.{value_of};
 ghost use Rattle.sgb.specs.Writing.{IsWritten};
-ghost use Rattle.sgb.specs.inner.Writing.{IsEnded};
-ghost use Rattle.sgb_levels.specs.inner.Lines.{IsLevelsAnswer, distance_text, level_line, level_lines, line_of_level};
+ghost use Rattle.sgb.specs.inner.Writing.{IsEnded, IsEndedFrom};
+ghost use Rattle.sgb_levels.specs.Lines.{IsLevelsAnswer, distance_text, level_line, level_lines, line_of_level};
+ghost use Rattle.sgb_levels.specs.Program.{AreLevelsWritten, AskFor, IsLevelsRun, IsRefused, refusal_line, usage_line};
 
 use crate::levels::levels;
 use itoa::Buffer;
-use sgb::{Expr, Fault, graph_of, parse_expr, read_input, report, status};
+use sgb::{Expr, Fault, graph_of, parse_expr, read_input, report};
 use sgb_file::{Sink, Source, put_all};
 use sgb_graph::Graph;
 use sgb_vec::Panic;
@@ -20,9 +28,12 @@ use std::alloc::Global;
 use std::io::{self, ErrorKind};
 
 /// Writes the lines of the graph whose expression is the word after the program's name, or the line of a fault, and
-/// returns the exit status, as `sgb` does: 0, or 1 for a refused graph, 2 for words that are none, 3 for a device.
+/// returns the exit status, as `sgb` does: 0, or 1 for a refused graph, 2 for words that are none, 3 for a device. Each
+/// line has the name of a vertex, and its distance from the first one, or `-` where no arcs lead there.
 ///
-/// `source` is standard input. It is read only if the expression has `stdin`, whole and before all else.
+/// Words that could not be read are an invalid command line (2), or out of memory (1). `source` is standard input. It is
+/// read only if the expression has `stdin`, whole and before all else. What is refused leaves `out` as it was, with no flush;
+/// an answer that is given in full ends with one.
 pub fn run_levels<R: Source, W: Sink, E: Sink>(
     alloc: Global,
     words: io::Result<Vec<String>>,
@@ -31,39 +42,136 @@ pub fn run_levels<R: Source, W: Sink, E: Sink>(
     errors: &mut E,
 ) -> u8
     requires { W.has_failed out.old ≡ false }
+    ensures read { MatchResult words
+        (λ words. IsLevelsRun (map string_bytes words.items)
+        (record { bytes = R.remaining source.old; failed = R.has_failed source.new })
+        (out.new ≡ out.old)
+        (change W.written W.has_failed out.old out.new)
+        (change E.written E.has_failed errors.old errors.new)
+        result)
+        (λ error. IsRefused (unread_fault (error_kind error)) (out.new ≡ out.old)
+        (change W.written W.has_failed out.old out.new)
+        (change E.written E.has_failed errors.old errors.new)
+        result) }
+    ensures flushed { result ≡ 0 → W.held out.new ≡ [] }
 {
-    match answer(alloc, words, source, out) {
+    match asked(alloc, words) {
+        Ok(expression) => run(alloc, &expression, source, out, errors),
+        Err(fault) => report_refusal(&fault, errors),
+    }
+}
+
+// Answers an expression, or reports the fault that it ends with, and returns the exit status.
+fn run<R: Source, W: Sink, E: Sink>(
+    alloc: Global,
+    expression: &Expr,
+    source: &mut R,
+    out: &mut W,
+    errors: &mut E,
+) -> u8
+    requires { W.has_failed out.old ≡ false }
+    ensures written { AreLevelsWritten (expression_of expression.now)
+        (record { bytes = R.remaining source.old; failed = R.has_failed source.new })
+        (out.new ≡ out.old)
+        (change W.written W.has_failed out.old out.new)
+        (change E.written E.has_failed errors.old errors.new)
+        result }
+    ensures flushed { result ≡ 0 → W.held out.new ≡ [] }
+{
+    match answer(alloc, expression, source, out) {
         Ok(()) => 0,
-        Err(Fault::Usage) => {
-            let _written = put_all(errors, b"usage: sgb_levels EXPR\n");
-            status(&Fault::Usage)
-        }
         Err(fault) => report(&fault, errors),
     }
 }
 
-// Answers the words, and passes the output on.
+// Reports why the words are refused, and returns the exit status.
+fn report_refusal<E: Sink>(fault: &Fault, errors: &mut E) -> u8
+    ensures line { AppendsUnlessFailed (change E.written E.has_failed errors.old errors.new)
+        (refusal_line fault.now) }
+    ensures status { result ≡ status_of fault.now }
+{
+    match fault {
+        Fault::Usage => report_usage(errors),
+        _ => report(fault, errors),
+    }
+}
+
+// Writes the usage line, and returns its exit status.
+#[tactic(auto, unfolding(crate::specs::Program::usage_line))]
+fn report_usage<E: Sink>(errors: &mut E) -> u8
+    ensures line { AppendsUnlessFailed (change E.written E.has_failed errors.old errors.new)
+        usage_line }
+    ensures status { result ≡ 2 }
+{
+    let _written = put_all(errors, b"usage: sgb_levels EXPR\n");
+    2
+}
+
+// Reads standard input where the expression does, answers it, and passes the output on.
 fn answer<R: Source, W: Sink>(
     alloc: Global,
-    words: io::Result<Vec<String>>,
+    expression: &Expr,
     source: &mut R,
     out: &mut W,
 ) -> Result<(), Fault>
     requires { W.has_failed out.old ≡ false }
+    ensures ended { (kept : List ℕ)
+        × (has_stdin (expression_of expression.now) ≡ true
+        → IsKept (R.remaining source.old) kept)
+        × ((a : Result (List ℕ) Fault)
+        → IsLevelsAnswer (value_of kept (expression_of expression.now)) a
+        → IsEndedFrom (has_stdin (expression_of expression.now) && R.has_failed source.new) a
+        (out.new ≡ out.old) (change W.written W.has_failed out.old out.new) result) }
+    ensures flushed { OnOk result (W.held out.new ≡ []) }
 {
-    let expression = asked(alloc, words)?;
-    let input = input_for(alloc, &expression, source)?;
-    write_answer(alloc, &expression, input.as_slice(), out)?;
-    out.flush().map_err(|_| Fault::Write)
+    let input = input_for(alloc, expression, source)?;
+    write_answer(alloc, expression, input.as_slice(), out)?;
+    pass_on(out)
 }
 
-// The expression that the words ask for: there is one word after the program's name.
-fn asked(alloc: Global, words: io::Result<Vec<String>>) -> Result<Expr, Fault> {
+// Passes on what the sink holds back.
+fn pass_on<W: Sink>(out: &mut W) -> Result<(), Fault>
+    ensures kept { Keeps (W.written out.old) (W.written out.new) }
+    ensures flushed { OnOk result (W.held out.new ≡ []) }
+    ensures failed { W.has_failed out.new ≡ is_err result }
+    ensures fault { IfErr result (λ f. f ≡ Fault.Write) }
+{
+    match out.flush() {
+        Ok(()) => Ok(()),
+        Err(_) => Err(Fault::Write),
+    }
+}
+
+// The expression that the words ask for, if they could be read.
+fn asked(alloc: Global, words: io::Result<Vec<String>>) -> Result<Expr, Fault>
+    ensures { MatchResult words
+        (λ words. AskFor (map string_bytes words.items) result)
+        (λ error. result ≡ Err (unread_fault (error_kind error))) }
+{
     match words {
-        Ok(words) if words.len() == 2 => parse_expr(alloc, words[1].as_bytes()),
-        Ok(_) => Err(Fault::Usage),
-        Err(error) if error.kind() == ErrorKind::OutOfMemory => Err(Fault::Panic(Panic::NoRoom)),
-        Err(_) => Err(Fault::Usage),
+        Ok(words) => asked_by(alloc, words.as_slice()),
+        Err(error) => Err(unread_fault(&error)),
+    }
+}
+
+// The expression that these words ask for: there is one after the program's name.
+fn asked_by(alloc: Global, words: &[String]) -> Result<Expr, Fault>
+    ensures { AskFor (map string_bytes words.now) result }
+{
+    match words {
+        [_, text] => parse_expr(alloc, text.as_bytes()),
+        _ => Err(Fault::Usage),
+    }
+}
+
+// The fault of words that could not be read.
+fn unread_fault(error: &io::Error) -> Fault
+    ensures { result ≡ unread_fault (error_kind error.now) }
+{
+    if error.kind() == ErrorKind::OutOfMemory {
+        Fault::Panic(Panic::NoRoom)
+    } else {
+        Fault::Usage
     }
 }
 
@@ -72,12 +180,16 @@ fn input_for<R: Source>(
     alloc: Global,
     expression: &Expr,
     source: &mut R,
-) -> Result<Vec<u8>, Fault> {
-    if expression.has_stdin() {
-        read_input(alloc, source)
-    } else {
-        Ok(Vec::new(alloc))
+) -> Result<Vec<u8>, Fault>
+    ensures kept { IfOk result (λ bytes. has_stdin (expression_of expression.now) ≡ true
+        → IsKept (R.remaining source.old) bytes.items) }
+    ensures ended { IsReadFrom
+        (has_stdin (expression_of expression.now) && R.has_failed source.new) result }
+{
+    if !expression.has_stdin() {
+        return Ok(Vec::new(alloc));
     }
+    read_input(alloc, source)
 }
 
 // Writes the lines of an expression's graph.
@@ -90,7 +202,7 @@ fn write_answer<W: Sink>(
     requires { W.has_failed out.old ≡ false }
     ensures { (a : Result (List ℕ) Fault)
         → IsLevelsAnswer (value_of input.now (expression_of expression.now)) a
-        → IsEnded a (change W.written W.has_failed out.old out.new) result }
+        → IsEnded a (out.new ≡ out.old) (change W.written W.has_failed out.old out.new) result }
 {
     let graph = graph_of(alloc, expression, input)?;
     let distances = levels(alloc, &graph)?;

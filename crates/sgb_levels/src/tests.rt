@@ -49,11 +49,28 @@ fn vertices_without_a_way(rt: HostRuntime) -> Result<(), Fail> {
 }
 
 #[test]
+fn vertices_of_two_components(rt: HostRuntime) -> Result<(), Fail> {
+    let diagonals = "gunion(board(2,2,0,0,2,0,0),board(2,2,0,0,2,0,0),1,0)";
+    assert!(rt; is_answered(rt.alloc(), diagonals, b"0.0 0\n0.1 -\n1.0 -\n1.1 1\n")?);
+    Ok(())
+}
+
+#[test]
+fn the_petersen_graph(rt: HostRuntime) -> Result<(), Fail> {
+    let lines = b"0.0.0.1.1 0\n0.0.1.0.1 2\n0.0.1.1.0 2\n0.1.0.0.1 2\n0.1.0.1.0 2\n0.1.1.0.0 1\n1.0.0.0.1 2\n1.0.0.1.0 2\n1.0.1.0.0 1\n1.1.0.0.0 1\n";
+    assert!(rt; is_answered(rt.alloc(), "disjoint_subsets(5,2)", lines)?);
+    Ok(())
+}
+
+#[test]
 fn a_file_on_standard_input(rt: HostRuntime) -> Result<(), Fail> {
     let file =
-        b"* GraphBase graph (util_types ZZZZZZZZZZZZZZ,2V,1A)\n\"x\",2,1\n* Vertices\n\"a\",0\n\"b\",A0\n* Arcs\nV0,0,1\n* Checksum 1\n";
-    let line = b"Something went wrong (panic code 11)!\n";
-    assert!(rt; is_called(rt.alloc(), &["sgb_levels", "stdin"], file, b"", line, 1)?);
+        b"* GraphBase graph (util_types ZZZZZZZZZZZZZZ,2V,1A)\n\"a\",2,1\n* Vertices\n\"x\",A0\n\"y\",0\n* Arcs\nV1,0,1\n* Checksum -1\n";
+    let words = ["sgb_levels", "stdin"];
+    assert!(rt; is_called(rt.alloc(), &words, file, b"x 0\ny 1\n", b"", 0)?);
+    let cut = &file[..90];
+    let line = b"Something went wrong (panic code 20)!\n";
+    assert!(rt; is_called(rt.alloc(), &words, cut, b"", line, 1)?);
     Ok(())
 }
 

@@ -1,7 +1,7 @@
 use Rattle.std.proofs.Common.{◌≡◌, false}
 use Rattle.sgb_ops.specs.Operands.{names_of}
 use Rattle.sgb_file.proofs.SoFar.{SoFar}
-use Rattle.sgb_levels.specs.inner.Lines.{level_lines}
+use Rattle.sgb_levels.specs.Lines.{level_lines}
 use Rattle.sgb_levels.proofs.runs.write_lines.Given as goal
 
 -- the lines of the vertices from this one on are left

@@ -1,0 +1,29 @@
+use Rattle.std.proofs.Common.{refl}
+use Rattle.std.proofs.lemmas.Result.{err_from_is_err_and}
+use Rattle.sgb.proofs.Endings.{flush_ended}
+use Rattle.sgb.proofs.InputEndings.{read_refused, read_sound, some_kept}
+use Rattle.sgb_levels.proofs.runs.answer.Goals as goal
+
+pub returns-in_err-input-clause-ended : goal.returns-in_err-input-clause-ended
+returns-in_err-input-clause-ended g c =
+    let p = err_from_is_err_and c.from_residual.result c.from_residual.ensures.1 in
+    let (kept, is) = some_kept (g.R.Source.remaining c.args.source.now) in
+    rw (p.1, p.2) (kept, λ _. is, λ a answer. read_refused _ _ a _ _ _ _ c.in_err-input.ensures.ended c.requires refl)
+
+pub returns-in_err-write_answer-clause-ended : goal.returns-in_err-write_answer-clause-ended
+returns-in_err-write_answer-clause-ended g c =
+    let p = err_from_is_err_and c.from_residual-in_err-write_answer.result c.from_residual-in_err-write_answer.ensures.1 in
+    rw (p.1, p.2) (
+      c.in_ok-input.input.items,
+      c.in_ok-input.ensures.kept,
+      λ a answer. read_sound _ a _ _ _ c.in_ok-input.ensures.ended (c.in_err-write_answer.ensures a (rw c.as_slice.ensures.value answer)),
+    )
+
+pub returns-clause-ended : goal.returns-clause-ended
+returns-clause-ended g c =
+    let passed = c.pass_on.ensures in (
+      c.in_ok-input.input.items,
+      c.in_ok-input.ensures.kept,
+      λ a answer. read_sound _ a _ _ _ c.in_ok-input.ensures.ended
+          (flush_ended a _ _ _ _ _ _ _ _ _ (c.in_ok-write_answer.ensures a (rw c.as_slice.ensures.value answer)) passed.kept passed.failed passed.fault),
+    )

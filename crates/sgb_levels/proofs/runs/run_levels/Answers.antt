@@ -1,0 +1,15 @@
+use Rattle.std.proofs.Common.{◌∙◌, refl, sym}
+use Rattle.sgb.proofs.Endings.{fault_status}
+use Rattle.sgb_levels.proofs.LevelRuns.{levels_ran, levels_refused}
+use Rattle.sgb_levels.proofs.runs.run_levels.Goals as goal
+
+pub returns-in-Ok-clause-read : goal.returns-in-Ok-clause-read
+returns-in-Ok-clause-read g c = levels_ran c.args.words _ _ c.in-Ok.expression _ _ _ _ c.run.result c.in-Ok.ensures c.run.ensures.written
+
+pub returns-in-Err-clause-read : goal.returns-in-Err-clause-read
+returns-in-Err-clause-read g c =
+    levels_refused c.args.words _ _ c.in-Err.fault _ _ _ _ c.report_refusal.result c.in-Err.ensures
+    (record { left = refl; untouched = refl; sound = c.requires; line = c.report_refusal.ensures.line; exit = c.report_refusal.ensures.status })
+
+pub returns-in-Err-clause-flushed : goal.returns-in-Err-clause-flushed
+returns-in-Err-clause-flushed g c = λ none. absurd (fault_status c.in-Err.fault (sym c.report_refusal.ensures.status ∙ none))

@@ -1,0 +1,51 @@
+-- What a call of the program does: the lines of an expression's graph are written, or a refusal is reported.
+use Rattle.std.specs.Prelude.{◌≡◌, ◌⊎◌, ◌&&◌, ℕ, false, List, [], ◌∷◌, codes, IfSome, Result, Ok, Err}
+use Rattle.sgb_file.specs.Devices.{AppendsUnlessFailed, Change}
+use Rattle.sgb_expr.specs.Expression.{Expression, expression_of}
+use Rattle.sgb_expr.specs.StdinUses.{has_stdin}
+use Rattle.sgb_expr.specs.declared.expressions.Expr.{Expr}
+use Rattle.sgb_requests.specs.Faults.{line_of, status_of}
+use Rattle.sgb_requests.specs.Reading.{IsReadAs}
+use Rattle.sgb_requests.specs.declared.faults.Fault.{Fault}
+use Rattle.sgb_requests.specs.declared.faults.Fault.TheVariants as fault
+use Rattle.sgb.specs.Runs.{Input, IsRunFrom}
+use Rattle.sgb.specs.Values.{value_of}
+use Rattle.sgb_levels.specs.Lines.{IsLevelsAnswer}
+
+-- what the words ask for, of which the first is the program's name: the expression that the only other one is read as; any
+-- other number of words is an invalid command line
+abbrev pub AskFor : List (List ℕ) → Result Expr Fault → Type 0
+AskFor (name ∷ text ∷ []) read = IsReadAs text read
+AskFor words read = read ≡ Err fault.Usage
+
+-- the usage line
+unfoldable pub usage_line : List ℕ
+usage_line = codes "usage: sgb_levels EXPR\n"
+
+-- the line of a refusal: of its own for an invalid command line, else that of `sgb`
+abbrev pub refusal_line : Fault → List ℕ
+refusal_line fault.Usage = usage_line
+refusal_line f = line_of f
+
+-- Only this refusal of the words was reported: nothing was written to the output, its line to standard error unless that
+-- failed, and its status was returned. `same` says that the output is as it was.
+pub record IsRefused (f : Fault) (same : Type 0) (out err : Change) (status : ℕ) : Type 0 where
+  pub left : same
+  pub untouched : out.after ≡ out.before
+  pub sound : out.failed ≡ false
+  pub line : AppendsUnlessFailed err (refusal_line f)
+  pub exit : status ≡ status_of f
+
+-- The distances in this expression's graph were written: standard input holds a text, the one that it tells, and the answer on
+-- it was given, or the run was stopped, as runs of `sgb` are.
+abbrev pub AreLevelsWritten : Expression → Input → Type 0 → Change → Change → ℕ → Type 0
+AreLevelsWritten e source same out err status =
+    (held : List ℕ) × IfSome source.bytes (λ bytes. held ≡ bytes)
+    × ((a : Result (List ℕ) Fault) → IsLevelsAnswer (value_of held e) a
+    → IsRunFrom (has_stdin e && source.failed) a same out err status)
+
+-- what these words ask for was done, or their refusal was reported
+abbrev pub IsLevelsRun : List (List ℕ) → Input → Type 0 → Change → Change → ℕ → Type 0
+IsLevelsRun words source same out err status =
+    ((e : Expr) × AskFor words (Ok e) × AreLevelsWritten (expression_of e) source same out err status)
+    ⊎ ((f : Fault) × AskFor words (Err f) × IsRefused f same out err status)
