@@ -66,6 +66,9 @@ board_refused_twice = refl
 pub board_of_a_great_size : board_of (pos 4294967296) (pos 0) (pos 0) (pos 0) ≡ Err VeryBad
 board_of_a_great_size = refl
 
+pub board_of_the_greatest_size : board_of (pos 4294967295) (pos 0) (pos 0) (pos 0) ≡ Ok (record { params = pos 4294967295 ∷ pos 0 ∷ pos 0 ∷ pos 0 ∷ []; sizes = 4294967295 ∷ [] })
+board_of_the_greatest_size = refl
+
 pub board_of_250_dimensions : sizes_count (board_of (pos 1) (negsuc 249) (pos 0) (pos 0)) ≡ 250
 unfolding repeated
 board_of_250_dimensions = refl
