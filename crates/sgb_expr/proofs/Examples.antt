@@ -1,14 +1,15 @@
 -- Texts and the expressions that they are, and where others go wrong, by evaluation.
-use Rattle.std.proofs.Common.{◌≡◌, true, false, codes, Ok, Err, refl, pos, negsuc}
-use Rattle.sgb_gen.specs.Shorthands.{complete, petersen}
+use Rattle.std.proofs.Common.{◌≡◌, true, false, [], ◌∷◌, map, codes, Ok, Err, refl, pos, negsuc}
+use Rattle.sgb_gen.specs.Shorthands.{complete, transitive, empty, circuit, cycle, disjoint_subsets, petersen}
 use Rattle.sgb_expr.specs.Expression.{Expression, Entry, Entries}
 use Rattle.sgb_expr.specs.Expressions.{IsExpression}
 use Rattle.sgb_expr.specs.FlipTexts.{IsFlip}
 use Rattle.sgb_expr.specs.inner.FlipTexts.{whole_flip_at}
 use Rattle.sgb_expr.specs.inner.Names.{generator_openings, openings}
 use Rattle.sgb_expr.specs.inner.Reading.{entries_at, expression_at, whole_at}
+use Rattle.sgb_expr.specs.inner.Readings.{bits_at}
 use Rattle.sgb_expr.specs.StdinUses.{has_stdin}
-use Rattle.sgb_expr.specs.declared.expressions.Generator.TheVariants.{Board, Subsets}
+use Rattle.sgb_expr.specs.declared.expressions.Generator.TheVariants.{Board, Simplex, Subsets}
 use Rattle.sgb_expr.proofs.FlipReading.{reads_flip}
 use Rattle.sgb_expr.proofs.WholeReading.{whole_read}
 use Rattle.sgb_expr.proofs.WholeWords.{word_whole}
@@ -49,6 +50,57 @@ reads_bi_complete = refl
 reads_wheel : whole_at (codes "wheel(5,1,0)") ≡ Ok (Expression.Wheel (pos 5) (pos 1) false)
 unfolding expression_at openings generator_openings
 reads_wheel = refl
+
+-- the flags of an intersection
+reads_intersection : whole_at (codes "intersection(complete(2),petersen(),1,0)") ≡ Ok (Expression.Intersection (Expression.Generated (Board (complete (pos 2)))) (Expression.Generated (Subsets petersen)) true false)
+unfolding expression_at openings generator_openings
+reads_intersection = refl
+
+-- each parameter of a board, a simplex and subsets, at its place
+reads_board : whole_at (codes "board(1,2,3,4,5,-6,7)") ≡ Ok (Expression.Generated (Board (record { n1 = pos 1; n2 = pos 2; n3 = pos 3; n4 = pos 4; piece = pos 5; wrap = negsuc 5; directed = true })))
+unfolding expression_at openings generator_openings
+reads_board = refl
+
+reads_simplex : whole_at (codes "simplex(9,1,2,3,4,5,1)") ≡ Ok (Expression.Generated (Simplex (record { n = pos 9; n0 = pos 1; n1 = pos 2; n2 = pos 3; n3 = pos 4; n4 = pos 5; directed = true })))
+unfolding expression_at openings generator_openings
+reads_simplex = refl
+
+reads_subsets : whole_at (codes "subsets(9,1,2,3,4,5,0x1F,1)") ≡ Ok (Expression.Generated (Subsets (record { n = pos 9; n0 = pos 1; n1 = pos 2; n2 = pos 3; n3 = pos 4; n4 = pos 5; size_bits = 31; directed = true })))
+unfolding expression_at openings generator_openings
+reads_subsets = refl
+
+-- the flags the other way, so that each stands at its place
+reads_undirected : map whole_at (codes "board(1,2,3,4,5,-6,0)" ∷ codes "simplex(9,1,2,3,4,5,0)" ∷ [])
+    ≡ map (λ f. Ok (Expression.Generated f)) (Board (record { n1 = pos 1; n2 = pos 2; n3 = pos 3; n4 = pos 4; piece = pos 5; wrap = negsuc 5; directed = false }) ∷ Simplex (record { n = pos 9; n0 = pos 1; n1 = pos 2; n2 = pos 3; n3 = pos 4; n4 = pos 5; directed = false }) ∷ [])
+unfolding expression_at openings generator_openings
+reads_undirected = refl
+
+reads_flags : map whole_at (codes "product(stdin,stdin,1,0)" ∷ codes "intersection(stdin,stdin,0,1)" ∷ codes "gunion(stdin,stdin,1,0)" ∷ codes "bi_complete(2,0,1)" ∷ codes "wheel(5,0,1)" ∷ [])
+    ≡ map (λ e. Ok e) (Expression.Product Expression.Stdin Expression.Stdin (pos 1) false ∷ Expression.Intersection Expression.Stdin Expression.Stdin false true ∷ Expression.Gunion Expression.Stdin Expression.Stdin true false ∷ Expression.BiComplete (pos 2) (pos 0) true ∷ Expression.Wheel (pos 5) (pos 0) true ∷ [])
+unfolding expression_at openings generator_openings
+reads_flags = refl
+
+-- each short name
+reads_short_names : map whole_at (codes "transitive(4)" ∷ codes "empty(4)" ∷ codes "circuit(4)" ∷ codes "cycle(4)" ∷ codes "disjoint_subsets(4,1)" ∷ [])
+    ≡ map (λ f. Ok (Expression.Generated f)) (Board (transitive (pos 4)) ∷ Board (empty (pos 4)) ∷ Board (circuit (pos 4)) ∷ Board (cycle (pos 4)) ∷ Subsets (disjoint_subsets (pos 4) (pos 1)) ∷ [])
+unfolding expression_at openings generator_openings
+reads_short_names = refl
+
+-- an integer of 18 digits; of 19 the last is left, and what comes after it
+reads_18_digits : whole_at (codes "complete(999999999999999999)") ≡ Ok (Expression.Generated (Board (complete (pos 999999999999999999))))
+unfolding expression_at openings generator_openings
+reads_18_digits = refl
+
+wrong_19_digits : whole_at (codes "complete(0999999999999999999)") ≡ Err 2
+unfolding expression_at openings generator_openings
+wrong_19_digits = refl
+
+-- bits of 32 hexadecimal digits; of 33 the last is left
+reads_32_digits : bits_at (codes "0xfffffffffffffffffffffffffffffffF") ≡ Ok (340282366920938463463374607431768211455, [])
+reads_32_digits = refl
+
+leaves_digit_33 : bits_at (codes "0x0ffffffffffffffffffffffffffffffff") ≡ Ok (21267647932558653966460912964485513215, codes "f")
+leaves_digit_33 = refl
 
 -- entries are integers and expressions, in order
 reads_induced : whole_at (codes "induced(complete(2),[3,petersen(),-4],0,9,0)")
@@ -94,6 +146,14 @@ wrong_in_stdin = refl
 -- it stands in an entry of an entry's graph
 finds_stdin : has_stdin (Expression.Induced (Expression.Generated (Subsets petersen)) (Entries.EntryThen (Entry.Number (pos 3)) (Entries.EntryThen (Entry.Graph (Expression.Lines Expression.Stdin true)) Entries.NoEntries)) false true false) ≡ true
 finds_stdin = refl
+
+-- and as the second operand of each operation on two graphs
+finds_second : map has_stdin (Expression.Product (Expression.Generated (Subsets petersen)) Expression.Stdin (pos 0) false ∷ Expression.Gunion (Expression.Generated (Subsets petersen)) Expression.Stdin false false ∷ Expression.Intersection (Expression.Generated (Subsets petersen)) Expression.Stdin false false ∷ []) ≡ true ∷ true ∷ true ∷ []
+finds_second = refl
+
+-- and as the first one
+finds_first : map has_stdin (Expression.Product Expression.Stdin (Expression.Generated (Subsets petersen)) (pos 0) false ∷ Expression.Gunion Expression.Stdin (Expression.Generated (Subsets petersen)) false false ∷ Expression.Intersection Expression.Stdin (Expression.Generated (Subsets petersen)) false false ∷ []) ≡ true ∷ true ∷ true ∷ []
+finds_first = refl
 
 -- what is asked of the random generator: leading zeros and a sign
 flip_example : whole_flip_at (codes "flip(-3,00,5,07)") ≡ Ok (record { start = negsuc 2; skip = pos 0; count = pos 5; m = pos 7 })

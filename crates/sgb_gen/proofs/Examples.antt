@@ -18,3 +18,5 @@ pub mod LocalSimplexes
 pub mod LocalSubsets
 -- those of boards, by displacements
 pub mod LocalBoards
+-- what the laws say of single cases
+pub mod Laws

@@ -1,4 +1,6 @@
 //! The generators (GB_BASIC).
+ghost use Rattle.std.specs.Prelude.{◌≡◌, Err};
+ghost use Rattle.sgb_vec.specs.Bounds.{simplex_of};
 ghost use Rattle.sgb_graph.specs.Descriptions.{IsAnswerOf};
 ghost use Rattle.sgb_gen.specs.Boards.{board};
 ghost use Rattle.sgb_gen.specs.Simplexes.{simplex};
@@ -26,9 +28,13 @@ pub fn board(
     wrap: i64,
     directed: bool,
 ) -> Result<Graph, Panic>
-    ensures { IsAnswerOf (board (record
+    ensures answer { IsAnswerOf (board (record
         { n1 = n1; n2 = n2; n3 = n3; n4 = n4; piece = piece; wrap = wrap; directed = directed }))
         result }
+    ensures refused { (e : Panic) → board (record
+        { n1 = n1; n2 = n2; n3 = n3; n4 = n4; piece = piece; wrap = wrap; directed = directed })
+        ≡ Err e
+        → result ≡ Err e }
 {
     BoardParams {
         n1,
@@ -59,8 +65,9 @@ pub fn simplex(
     n4: i64,
     directed: bool,
 ) -> Result<Graph, Panic>
-    ensures { IsAnswerOf (simplex (record
+    ensures answer { IsAnswerOf (simplex (record
         { n = n; n0 = n0; n1 = n1; n2 = n2; n3 = n3; n4 = n4; directed = directed })) result }
+    ensures refused { (e : Panic) → simplex_of n n0 n1 n2 n3 n4 ≡ Err e → result ≡ Err e }
 {
     SimplexParams {
         n,
@@ -123,7 +130,8 @@ impl BoardParams {
     /// `Bad` above 250 dimensions; else `VeryBad` above 1,000,000,000 vertices, or where `piece` is above
     /// 2,147,483,647 or below its negative. `NoRoom` when out of memory.
     pub fn graph(&self, alloc: Global) -> Result<Graph, Panic>
-        ensures { IsAnswerOf (board self.now) result }
+        ensures answer { IsAnswerOf (board self.now) result }
+        ensures refused { (e : Panic) → board self.now ≡ Err e → result ≡ Err e }
     {
         Board::from_params(self)?.graph(alloc)
     }
@@ -136,7 +144,10 @@ impl SimplexParams {
     /// where for some j from 1 to the last dimension and some k up to `n` more than 1,000,000,000 vectors within the
     /// first j+1 bounds add to k. `NoRoom` when out of memory.
     pub fn graph(&self, alloc: Global) -> Result<Graph, Panic>
-        ensures { IsAnswerOf (simplex self.now) result }
+        ensures answer { IsAnswerOf (simplex self.now) result }
+        ensures refused { (e : Panic) → simplex_of self.now.n self.now.n0 self.now.n1 self.now.n2
+            self.now.n3 self.now.n4 ≡ Err e
+            → result ≡ Err e }
     {
         Simplex::from_params(alloc, self)?.graph(alloc)
     }

@@ -1,5 +1,6 @@
 -- Worked examples of the definitions, each with the value that the published programs give.
 pub mod Checked
 pub mod Draws
+pub mod Ids
 pub mod Made
 pub mod Rings

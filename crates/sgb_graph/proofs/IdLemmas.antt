@@ -1,8 +1,8 @@
 -- Texts and numbers that may stand in an id.
-use Rattle.std.proofs.Common.{◌≡◌, ℕ, ◌+◌, ◌*◌, ◌^◌, ◌<◌, ◌≤◌, true, List, [], ◌∷◌, ◌++◌, length, decimal, ℤ, pos, negsuc, suc, arith}
+use Rattle.std.proofs.Common.{◌≡◌, ℕ, ◌+◌, ◌*◌, ◌^◌, ◌<◌, ◌≤◌, true, List, [], ◌∷◌, ◌++◌, length, decimal, ℤ, pos, negsuc, suc, arith, refl}
 use Rattle.std.specs.Fmt.{signed_decimal}
 use Rattle.std.specs.List.{All}
-use Rattle.std.proofs.lemmas.Bool.{and_parts}
+use Rattle.std.proofs.lemmas.Bool.{and_parts, and_from}
 use Rattle.std.proofs.lemmas.Bool.Decides.{nat_tests}
 use Rattle.std.proofs.lemmas.Fmt.{length_signed_le}
 use Rattle.std.proofs.lemmas.List.Elements.{All-nil, All-cons, All-head, All-tail, All-append}
@@ -16,7 +16,7 @@ use Rattle.sgb_vec.specs.Limits.{most_vertices}
 use Rattle.std.specs.Prelude.{nat_abs}
 
 -- a byte that passes the test
-byte_passes : (b : ℕ) → is_id_byte b ≡ true → IsTextByte b
+pub byte_passes : (b : ℕ) → is_id_byte b ≡ true → IsTextByte b
 byte_passes b e = record {
   from_space = grind (arith, nat_tests);
   to_tilde = grind (arith, nat_tests);
@@ -25,11 +25,20 @@ byte_passes b e = record {
 }
 
 -- a text that passes the test
-text_passes : (text : List ℕ) → is_id_text text ≡ true → All IsTextByte text
+pub text_passes : (text : List ℕ) → is_id_text text ≡ true → All IsTextByte text
 text_passes [] e = All-nil IsTextByte
 text_passes (b ∷ text) e =
     let parts = and_parts (is_id_byte b) (is_id_text text) e in
     All-cons IsTextByte b text (byte_passes b parts.0) (text_passes text parts.1)
+
+-- and the other way round
+pub byte_may : (b : ℕ) → IsTextByte b → is_id_byte b ≡ true
+byte_may b is = grind (arith, nat_tests, is.from_space, is.to_tilde, is.no_quote, is.no_backslash)
+
+pub text_may : (text : List ℕ) → All IsTextByte text → is_id_text text ≡ true
+text_may [] is = refl
+text_may (b ∷ text) is =
+    and_from (is_id_byte b) (is_id_text text) (byte_may b (All-head IsTextByte b text is)) (text_may text (All-tail IsTextByte b text is))
 
 -- a number with its sign may stand in an id
 number_passes : (z : ℤ) → mag z < 2 ^ 63 → All IsTextByte (signed_decimal z)

@@ -99,6 +99,11 @@ pub record AddsEdge (old new : GraphData) (u v : ℕ) (len : ℤ) : Type 0 where
   pub ends : ListsEnd new
   pub rest : KeepsAllButArcs old new
 
+-- the new graph has one event more, from u to v: an arc where directed, else an edge
+abbrev pub AddsEvent : Bool → GraphData → GraphData → ℕ → ℕ → ℤ → Type 0
+AddsEvent true old new u v len = AddsArc old new u v len
+AddsEvent false old new u v len = AddsEdge old new u v len
+
 -- the new graph is the old one with the arcs of these events after those that it had
 pub record AddsEvents (directed : Bool) (old new : GraphData) (events : List Event) : Type 0 where
   pub arcs : (before : List Event) → HasArcsOf directed before old → HasArcsOf directed (before ++ events) new

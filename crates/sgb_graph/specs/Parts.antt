@@ -16,6 +16,10 @@ with_vertex x g = record g { vertices = g.vertices ++ x ∷ [] }
 abbrev pub with_record : ArcRec → GraphData → GraphData
 with_record r g = record g { records = g.records ++ r ∷ [] }
 
+-- there are not too many vertices, and all fields fit their kinds
+abbrev pub parts_fit : GraphData → Bool
+parts_fit g = nat_le (length g.vertices) most_vertices && fields_fit g
+
 -- the parts make up a graph: not too many vertices, fields that fit their kinds, and sound lists
 abbrev pub is_graph : GraphData → Bool
 is_graph g = nat_le (length g.vertices) most_vertices && fields_fit g && is_sound g

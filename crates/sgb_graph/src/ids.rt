@@ -91,6 +91,14 @@ impl IdWriter {
         }
     }
 
+    /// How many bytes there are so far, at most 160.
+    pub fn len(&self) -> usize
+        ensures count { result ≡ length self.now }
+        ensures few { result ≤ most_id_bytes }
+    {
+        self.bytes.len()
+    }
+
     /// Appends a text; it has to have room, and bytes that an id may have.
     pub fn push_text(&mut self, text: &[u8])
         requires room { length self.old + length text.now ≤ most_id_bytes }

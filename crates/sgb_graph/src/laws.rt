@@ -1,4 +1,4 @@
-ghost use Rattle.std.specs.Prelude.{◌≡◌, ℕ, ◌-◌, ◌*◌, ◌%◌, ◌<◌, ◌≤◌, ◌==◌, ◌++◌, [], ◌∷◌, Bool, true, false, List, length, Some, Ok, Err, slice_get, Contains, count_by};
+ghost use Rattle.std.specs.Prelude.{◌≡◌, ℕ, ◌-◌, ◌*◌, ◌%◌, ◌<◌, ◌≤◌, ◌==◌, ◌++◌, [], ◌∷◌, Bool, true, false, List, length, Some, Ok, Err, slice_get, Contains, count_by, IsTrue, All, ◌↔◌};
 ghost use Rattle.sgb_graph.specs.Graphs.{GraphData};
 ghost use Rattle.sgb_vec.specs.declared.panics.Panic.TheVariants.{Syntax};
 ghost use Rattle.sgb_graph.specs.Descriptions.{IsGraphOf};
@@ -8,6 +8,8 @@ ghost use Rattle.sgb_graph.specs.Made.{DescribedIs, DescribedIsOnly, plain};
 ghost use Rattle.sgb_graph.specs.Events.{Event, HasArcsOf, Record, all_records, list_of};
 ghost use Rattle.sgb_graph.specs.Growth.{AddsArc, AddsEdge, AddsEvents, ArcsLead, EdgesLead, link, new_graph, record_from, with_id};
 ghost use Rattle.sgb_graph.specs.declared.fields.Link.{Link};
+ghost use Rattle.sgb_graph.specs.IdTexts.{is_id_byte, is_id_text};
+ghost use Rattle.sgb_vec.specs.Names.{IsTextByte};
 ghost use Rattle.sgb_graph.specs.Draws.{IsUniformDraw, difference, draw, first_taken, modulus, most_tried, used_draw, x_number, y_number};
 
 /// The random numbers by their rules (GB_FLIP, gb_init_rand and gb_flip_cycle): number 55 is the seed,
@@ -85,6 +87,12 @@ pub fn lists_law()
 pub fn described_law()
     ensures only { DescribedIsOnly }
     ensures is { DescribedIs }
+{}
+
+/// A byte, and a text, pass the test for ids exactly where they may stand in a string (GB_SAVE).
+pub fn id_texts_law()
+    ensures byte { (byte : ℕ) → IsTrue (is_id_byte byte) ↔ IsTextByte byte }
+    ensures text { (text : List ℕ) → IsTrue (is_id_text text) ↔ All IsTextByte text }
 {}
 
 /// Parts that make up a graph are that graph, and others are refused (GB_SAVE, restore_graph).

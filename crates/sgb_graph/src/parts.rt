@@ -1,7 +1,7 @@
-ghost use Rattle.std.specs.Prelude.{◌≡◌, ◌≤◌, ◌^◌, ◌&&◌, [], length, nat_le, IsTrue, OnOk, OnErr, IfOk, IsOkUnless};
+ghost use Rattle.std.specs.Prelude.{◌≡◌, ◌≤◌, ◌^◌, ◌&&◌, [], length, nat_le, false, Err, IsTrue, OnOk, OnErr, IfOk, IsOkUnless};
 ghost use Rattle.sgb_vec.specs.Limits.{most_vertices};
 ghost use Rattle.sgb_graph.specs.Growth.{graph_data};
-ghost use Rattle.sgb_graph.specs.Parts.{IsCheckOf, checked, with_record, with_vertex};
+ghost use Rattle.sgb_graph.specs.Parts.{IsCheckOf, checked, parts_fit, with_record, with_vertex};
 ghost use Rattle.sgb_graph.specs.Sound.{IsGraph, fields_fit, is_sound, vertex_kinds};
 
 mod fitting;
@@ -90,11 +90,12 @@ impl Parts {
     ///
     /// `Syntax` where they make up none: above 1,000,000,000 vertices; a utility field that is not of its kind; the
     /// number of a vertex or of a record that is not there; a chain of records that does not end, on a list or not; an
-    /// arc on a vertex's list that leads to no vertex. `NoRoom` when out of memory. The parts are gone after a refusal
-    /// too.
+    /// arc on a vertex's list that leads to no vertex. `NoRoom` when out of memory, and never where the first three are so.
+    /// The parts are gone after a refusal too.
     pub fn check(self) -> Result<Graph, Panic>
         ensures value { IsCheckOf (checked self) result }
         ensures graph { IfOk result IsGraph }
+        ensures unfit { parts_fit self ≡ false → result ≡ Err Panic.Syntax }
     {
         if !self.fit() || !self.are_sound()? {
             return Err(Panic::Syntax);

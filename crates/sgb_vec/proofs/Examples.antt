@@ -1,5 +1,5 @@
 -- Worked examples, evaluated: normalised parameters with their refusals, vectors of a sum, names.
-use Rattle.std.specs.Prelude.{◌≡◌, ℕ, pos, negsuc, [], ◌∷◌, length, Some, None, Result, Ok, Err, codes, slice_get, refl}
+use Rattle.std.specs.Prelude.{◌≡◌, ℕ, true, false, replicate, pos, negsuc, [], ◌∷◌, length, Some, None, Result, Ok, Err, codes, slice_get, refl}
 use Rattle.std.specs.Fmt.{digits}
 use Rattle.sgb_vec.specs.Sizes.{Normalized, repeated, board_of}
 use Rattle.sgb_vec.specs.Boxes.{box, box_of}
@@ -7,7 +7,7 @@ use Rattle.sgb_vec.specs.Results.{and_then}
 use Rattle.sgb_vec.specs.Bounds.{simplex_of}
 use Rattle.sgb_vec.specs.Sums.{bounded_sums, count_of_sum, has_great_count, sum_of}
 use Rattle.sgb_vec.specs.Names.{name_of_vector}
-use Rattle.sgb_vec.specs.NamedVectors.{vector_of}
+use Rattle.sgb_vec.specs.NamedVectors.{is_vector, vector_of}
 use Rattle.sgb_vec.specs.declared.panics.Panic.{Panic}
 use Rattle.sgb_vec.specs.declared.panics.Panic.TheVariants.{Bad, VeryBad}
 
@@ -58,6 +58,35 @@ pub board_of_30_dimensions : and_then (board_of (pos 2) (negsuc 29) (pos 0) (pos
 unfolding repeated
 board_of_30_dimensions = refl
 
+-- board(4294967296,-251,..) has too many dimensions and a size too great: that there are too many dimensions comes first
+pub board_refused_twice : board_of (pos 4294967296) (negsuc 250) (pos 0) (pos 0) ≡ Err Bad
+unfolding repeated
+board_refused_twice = refl
+
+pub board_of_a_great_size : board_of (pos 4294967296) (pos 0) (pos 0) (pos 0) ≡ Err VeryBad
+board_of_a_great_size = refl
+
+pub board_of_the_greatest_size : board_of (pos 4294967295) (pos 0) (pos 0) (pos 0) ≡ Ok (record { params = pos 4294967295 ∷ pos 0 ∷ pos 0 ∷ pos 0 ∷ []; sizes = 4294967295 ∷ [] })
+board_of_the_greatest_size = refl
+
+pub board_of_250_dimensions : sizes_count (board_of (pos 1) (negsuc 249) (pos 0) (pos 0)) ≡ 250
+unfolding repeated
+board_of_250_dimensions = refl
+
+-- so it is with the box of these sizes; 250 dimensions are not too many
+pub box_refused_twice : box_of (replicate 251 2) ≡ Err Bad
+box_refused_twice = refl
+
+pub box_of_250_dimensions : box_of (replicate 250 1) ≡ Ok (replicate 250 1)
+box_of_250_dimensions = refl
+
+-- the greatest box, and one of a vertex more
+pub greatest_box : box_of (1_000_000_000 ∷ []) ≡ Ok (1_000_000_000 ∷ [])
+greatest_box = refl
+
+pub box_too_great : box_of (1_000_000_001 ∷ []) ≡ Err VeryBad
+box_too_great = refl
+
 -- board(2,4294967296,-1,0,..) has the one size 2: the great entry is not reached
 pub board_with_unreached_entry : board_of (pos 2) (pos 4294967296) (negsuc 0) (pos 0) ≡ Ok (record { params = pos 2 ∷ pos 4294967296 ∷ negsuc 0 ∷ pos 0 ∷ []; sizes = 2 ∷ [] })
 unfolding repeated
@@ -93,6 +122,13 @@ simplex_of_250_dimensions = refl
 pub simplex_of_251_dimensions : simplex_of (pos 1) (negsuc 250) (pos 0) (pos 0) (pos 0) (pos 0) ≡ Err Bad
 unfolding repeated
 simplex_of_251_dimensions = refl
+
+-- simplex(1000000001,-251,..) has too many dimensions and a sum too great: that there are too many dimensions comes first
+pub simplex_refused_twice : simplex_of (pos 1_000_000_001) (negsuc 250) (pos 0) (pos 0) (pos 0) (pos 0) ≡ Err Bad
+simplex_refused_twice = refl
+
+pub simplex_of_a_great_sum : simplex_of (pos 1_000_000_001) (negsuc 249) (pos 0) (pos 0) (pos 0) (pos 0) ≡ Err VeryBad
+simplex_of_a_great_sum = refl
 
 -- the entries after the stop become 0, and those before it that are above n become n
 pub simplex_name : simplex_of (pos 4) (pos 3) (pos 9) (negsuc 0) (pos 5) (negsuc 6)
@@ -145,6 +181,16 @@ name_of_1_0 = refl
 pub vector_of_empty_text : vector_of [] ≡ Some []
 unfolding vector_of name_of_vector
 vector_of_empty_text = refl
+
+-- a vector that a name may stand for has at most 251 entries, each below 2^32
+pub vector_of_251_entries : is_vector (replicate 251 0) ≡ true
+vector_of_251_entries = refl
+
+pub vector_of_252_entries : is_vector (replicate 252 0) ≡ false
+vector_of_252_entries = refl
+
+pub vector_of_greatest_entry : is_vector (4294967295 ∷ []) ≡ true
+vector_of_greatest_entry = refl
 
 pub vector_of_name : vector_of (codes "1.10.0") ≡ Some (1 ∷ 10 ∷ 0 ∷ [])
 unfolding vector_of name_of_vector digits

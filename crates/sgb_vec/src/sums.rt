@@ -1,4 +1,4 @@
-ghost use Rattle.std.specs.Prelude.{◌≡◌, ◌+◌, ◌<◌, ◌≤◌, ◌^◌, ◌⊎◌, ◌↔◌, length, drop, sum, Contains, IsTrue, IfSome, IfNone, slice_index, nat_le};
+ghost use Rattle.std.specs.Prelude.{◌≡◌, ◌+◌, ◌<◌, ◌≤◌, ◌<ℤ◌, pos, ◌^◌, ◌⊎◌, ◌↔◌, length, drop, sum, Contains, IsTrue, IfSome, IfNone, slice_index, nat_le};
 ghost use Rattle.std.specs.Bool.{OnTrue, OnFalse};
 ghost use Rattle.std.specs.List.{list_all, zip};
 ghost use Rattle.sgb_vec.specs.Lexicographic.{IsWithin};
@@ -47,13 +47,15 @@ impl SumFamily {
 
     /// The vectors within the bounds that add to `n`; there may be none.
     ///
-    /// `Bad` where `n` is negative; `VeryBad` where it is above 1,000,000,000, or where for some j from 1 to
-    /// d and some k up to `n` more than 1,000,000,000 vectors within the first j+1 bounds add to k; `NoRoom`
-    /// when out of memory. Memory grows with the smaller of `n` and the sum of all bounds but the two greatest, and
-    /// stays small where that is refused; so does the time for each bound.
+    /// `Bad` where `n` is negative; `VeryBad` where it is above 1,000,000,000, both whatever memory there is, or
+    /// where for some j from 1 to d and some k up to `n` more than 1,000,000,000 vectors within the first j+1
+    /// bounds add to k; `NoRoom` when out of memory. Memory grows with the smaller of `n` and the sum of all bounds but
+    /// the two greatest, and stays small where that is refused; so does the time for each bound.
     pub fn new(alloc: Global, n: i64, bounds: &[u32]) -> Result<SumFamily, Panic>
         requires { length bounds.now ≤ most_dimensions + 1 }
-        ensures { (result ≡ sum_of n bounds.now) ⊎ (result ≡ Err NoRoom) }
+        ensures value { (result ≡ sum_of n bounds.now) ⊎ (result ≡ Err NoRoom) }
+        ensures negative { n <ℤ pos 0 → result ≡ Err Panic.Bad }
+        ensures great { pos most_vertices <ℤ n → result ≡ Err Panic.VeryBad }
     {
         if n < 0 {
             return Err(Panic::Bad);

@@ -1,5 +1,6 @@
 ghost use Rattle.std.specs.Prelude.{◌≡◌, ◌⊎◌, Err, ◌<◌, length, map, slice_get, Contains, Some, None, Ok, IfSome, OnOk, IsOkUnless, if◌then◌else◌};
 ghost use Rattle.sgb_gen.specs.Simplexes.{accepted_simplex, simplex_id, can_shift, shifted, pairs_from, moves_by, moves_to, moves_of_simplex, simplex_vectors, simplex_graph};
+ghost use Rattle.sgb_vec.specs.Bounds.{simplex_of};
 ghost use Rattle.sgb_graph.specs.Descriptions.{IsAnswerOf};
 ghost use Rattle.sgb_graph.specs.Growth.{AddsEvents, HasPlainArcs};
 ghost use Rattle.sgb_gen.specs.VectorGraphs.{event_among, vertex_among};
@@ -61,9 +62,10 @@ impl Simplex {
         n4: i64,
         directed: bool,
     ) -> Result<Simplex, Panic>
-        ensures { (result ≡ accepted_simplex
+        ensures value { (result ≡ accepted_simplex
             (record { n = n; n0 = n0; n1 = n1; n2 = n2; n3 = n3; n4 = n4; directed = directed }))
             ⊎ (result ≡ Err Panic.NoRoom) }
+        ensures refused { (e : Panic) → simplex_of n n0 n1 n2 n3 n4 ≡ Err e → result ≡ Err e }
     {
         let params = SimplexParams {
             n,
@@ -83,7 +85,10 @@ impl Simplex {
     /// or where for some j from 1 to the last dimension and some k up to `n` more than 1,000,000,000 vectors
     /// within the first j+1 bounds add to k. `NoRoom` when out of memory.
     pub fn from_params(alloc: Global, params: &SimplexParams) -> Result<Simplex, Panic>
-        ensures { (result ≡ accepted_simplex params.now) ⊎ (result ≡ Err Panic.NoRoom) }
+        ensures value { (result ≡ accepted_simplex params.now) ⊎ (result ≡ Err Panic.NoRoom) }
+        ensures refused { (e : Panic) → simplex_of params.now.n params.now.n0 params.now.n1
+            params.now.n2 params.now.n3 params.now.n4 ≡ Err e
+            → result ≡ Err e }
     {
         let shape = simplex_bounds(
             params.n, params.n0, params.n1, params.n2, params.n3, params.n4,

@@ -32,7 +32,7 @@ returns-in_err-family-clause-memory c =
     let lower = c.as_slice.ensures.value ∙ c.lowered-bounds.ensures ∙ ap (λ b. lowered b at) bounds in
     let p = err_from_is_err_and c.from_residual.result c.from_residual.ensures.1 in
     let number = to_z-of_z w64 c.from.result (search rules) ∙ c.from.ensures ∙ ap (λ t. pos (t - 1)) total in
-    let made = family_lowered s at (to_z w64 (of_z w64 c.from.result)) c.as_slice.result.now c.new.result (omega (arith, total, c.total-total.ensures.small)) none number lower c.new.ensures in
+    let made = family_lowered s at (to_z w64 (of_z w64 c.from.result)) c.as_slice.result.now c.new.result (omega (arith, total, c.total-total.ensures.small)) none number lower c.new.ensures.value in
     rw (p.1, p.2) (room_alone c.new.result _ c.in_err-family.field-0.0 c.in_err-family.was made)
 
 pub returns-clause-ok : goal.returns-clause-ok
@@ -47,5 +47,5 @@ returns-clause-ok c =
     let low : 0 < get_or s.bounds c.args.lower 0 = omega (arith, ap (λ b. get_or b c.args.lower 0) bounds, c.if-bounds-lower-eq0.false) in
     let high : 0 < get_or s.bounds c.args.higher 0 = omega (arith, ap (λ b. get_or b c.args.higher 0) bounds, c.if-bounds-higher-eq0.false) in
     let number = to_z-of_z w64 c.from.result (search rules) ∙ c.from.ensures ∙ ap (λ t. pos (t - 1)) total in
-    let made = family_lowered s at (to_z w64 (of_z w64 c.from.result)) c.as_slice.result.now c.new.result (omega (arith, total, c.total-total.ensures.small)) none number lower c.new.ensures in
+    let made = family_lowered s at (to_z w64 (of_z w64 c.from.result)) c.as_slice.result.now c.new.result (omega (arith, total, c.total-total.ensures.small)) none number lower c.new.ensures.value in
     c.size.ensures ∙ size_lowered s at c.new.result c.in_ok-family.family c.requires.order some low high c.in_ok-family.was made
