@@ -90,8 +90,12 @@ pub mod SimplexLists
 pub mod PairWalks
 -- the list of a vector of subsets
 pub mod SubsetsLists
--- the walk that makes it, from the last vector back
-pub mod SubsetsWalks
+-- the vectors of subsets by their first entries, and the arcs to them
+pub mod Descents
+-- the arcs to vectors that begin alike, and the vectors down to one and from it
+pub mod DescentArcs
+-- sizes below the least wanted one
+pub mod WantedSizes
 -- worked examples, evaluated
 pub mod Examples
 -- from how many places steps of a displacement lead to a place of the board

@@ -59,17 +59,17 @@ module _ (size_bits : ℕ) (x : List ℕ) where
   onto-append v us ws = made-append (λ u. wanted u v) (unit_move v) us ws
 
   -- the arcs to some vectors and then others
-  pub to-append : (us ws : List (List ℕ)) → arcs_to size_bits x (us ++ ws) ≡ arcs_to size_bits x us ++ arcs_to size_bits x ws
+  to-append : (us ws : List (List ℕ)) → arcs_to size_bits x (us ++ ws) ≡ arcs_to size_bits x us ++ arcs_to size_bits x ws
   to-append us ws = made-append (λ y. wanted x y) (λ y. record { tip = y; len = pos 1 }) us ws
 
   to-one : (v : List ℕ) → arcs_to size_bits x (v ∷ []) ≡ cond (wanted x v) (record { tip = v; len = pos 1 } ∷ []) []
   to-one v = made_if (wanted x v) v
 
   -- to these vectors from the last one back
-  pub back-first : (v : List ℕ) (vs : List (List ℕ)) → arcs_to size_bits x (reverse (v ∷ vs)) ≡ arcs_to size_bits x (reverse vs) ++ arcs_to size_bits x (v ∷ [])
+  back-first : (v : List ℕ) (vs : List (List ℕ)) → arcs_to size_bits x (reverse (v ∷ vs)) ≡ arcs_to size_bits x (reverse vs) ++ arcs_to size_bits x (v ∷ [])
   back-first v vs = ap (arcs_to size_bits x) (reverse-first v vs) ∙ to-append (reverse vs) (v ∷ [])
 
-  pub back-last : (vs : List (List ℕ)) (v : List ℕ) → arcs_to size_bits x (reverse (vs ++ v ∷ [])) ≡ arcs_to size_bits x (v ∷ []) ++ arcs_to size_bits x (reverse vs)
+  back-last : (vs : List (List ℕ)) (v : List ℕ) → arcs_to size_bits x (reverse (vs ++ v ∷ [])) ≡ arcs_to size_bits x (v ∷ []) ++ arcs_to size_bits x (reverse vs)
   back-last vs v = ap (arcs_to size_bits x) (reverse-append vs (v ∷ [])) ∙ to-append (v ∷ []) (reverse vs)
 
   -- a vector is another than x

@@ -14,6 +14,8 @@ pub mod LocalBoards
 pub mod LocalSimplexes
 -- the list of a vector of subsets, by a walk
 pub mod LocalSubsets
+-- the list of a vector of subsets, by a descent
+pub mod Descents
 -- where a piece moves at one length
 pub mod Moves
 -- what accepted simplexes and subsets keep

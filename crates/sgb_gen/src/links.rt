@@ -36,6 +36,8 @@ pub struct Links {
     lens: Vec<u32>,
     // Room that is used again for the starts of moves: no part of the arcs.
     starts: Vec<(u32, u32)>,
+    // Room that is used again for the first entries of a vector: no part of the arcs.
+    entries: Vec<u32>,
 }
 
 impl Model for Links {
@@ -63,6 +65,7 @@ impl Links {
             width: 0,
             lens: Vec::new(alloc),
             starts: Vec::new(alloc),
+            entries: Vec::new(alloc),
         }
     }
 
@@ -161,6 +164,24 @@ impl Links {
         ensures { self.new ≡ self.old }
     {
         self.starts = starts;
+    }
+
+    // Hands out room for the entries of a vector, which is empty; its memory comes from where that of the links does.
+    pub(crate) fn take_entries(&mut self) -> Vec<u32>
+        ensures empty { result.items ≡ [] }
+        ensures same { self.new ≡ self.old }
+    {
+        let none = Vec::new(*self.lens.allocator());
+        let mut entries = replace(&mut self.entries, none);
+        entries.clear();
+        entries
+    }
+
+    // Takes that room back.
+    pub(crate) fn keep_entries(&mut self, entries: Vec<u32>)
+        ensures { self.new ≡ self.old }
+    {
+        self.entries = entries;
     }
 }
 

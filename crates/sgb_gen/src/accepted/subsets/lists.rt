@@ -1,13 +1,17 @@
 //! The list of one vector of the subsets.
-ghost use Rattle.std.specs.Prelude.{◌≡◌, ◌<◌, ◌≤◌, ◌+◌, ◌^◌, [], ◌∷◌, ◌++◌, length, drop, reverse, take, Contains, OnOk, OnErr, IfOk, IsOkUnless};
+ghost use Rattle.std.specs.Prelude.{◌≡◌, ◌≤◌, ◌+◌, [], ◌++◌, length, sum, Contains, OnOk, OnErr, IsOkUnless};
+ghost use Rattle.sgb_vec.specs.Limits.{most_dimensions};
+ghost use Rattle.sgb_vec.specs.Sums.{bounded_sums};
 ghost use Rattle.sgb_gen.specs.LocalLists.{list_at};
-ghost use Rattle.sgb_gen.specs.inner.LocalSubsets.{arcs_to, arcs_by_walk};
+ghost use Rattle.sgb_gen.specs.inner.Descents.{IsBegun};
+ghost use Rattle.sgb_gen.specs.inner.LocalSimplexes.{with_arcs};
+ghost use Rattle.sgb_gen.specs.inner.LocalSubsets.{arcs_by_walk};
 ghost use Rattle.sgb_gen.specs.Subsets.{subsets_vectors, moves_of_subsets};
-ghost use Rattle.sgb_gen.specs.VectorGraphs.{vertex_among};
 
-use super::{Subsets, common, is_wanted};
+use super::Subsets;
+use super::descents::{Begun, push_from, push_to};
 use crate::links::Links;
-use sgb_vec::{Panic, SumFamily, Vectors};
+use sgb_vec::Panic;
 
 impl Subsets {
     /// Puts the arcs of the vertex of `x` into `links`, in the order of its list in the graph of the subsets: the
@@ -44,88 +48,53 @@ impl Subsets {
             }) }
         ensures memory { IsOkUnless result Panic.NoRoom }
     {
-        let mut left = Vectors::all(&self.family);
-        self.push_back_to(x, &mut left, links)?;
-        if self.directed {
-            return Ok(());
-        }
-        self.push_back_from(x, left, links)
-    }
-
-    // Puts the arcs of `x` to the vectors from the last one back to `x` behind the others; those up to `x` are left then.
-    fn push_back_to(
-        &self,
-        x: &[u32],
-        left: &mut Vectors<'_, SumFamily>,
-        links: &mut Links,
-    ) -> Result<(), Panic>
-        requires member { Contains (subsets_vectors self.now) x.now }
-        requires all { left.old ≡ subsets_vectors self.now }
-        requires width { length x.now ≡ links.old.width }
-        ensures rest { OnOk result (left.new
-            ≡ take (vertex_among (subsets_vectors self.now) x.now + 1) (subsets_vectors self.now)) }
-        ensures ok { OnOk result (links.new
-            ≡ record links.old {
-              arcs = links.old.arcs
-                  ++ arcs_to self.now.size_bits x.now
-                  (reverse (drop (vertex_among (subsets_vectors self.now) x.now)
-                  (subsets_vectors self.now)));
-            }) }
-        ensures memory { IsOkUnless result Panic.NoRoom }
-    {
-        while let Some(y) = left.back() {
-            push_wanted(self.size_bits, x, y, links)?;
-            if y == x {
-                return Ok(());
-            }
-            let _some = left.retreat();
-        }
-        Ok(())
-    }
-
-    // Puts the arcs of `x` to these vectors, the first so many of the family, from the last one back behind the others.
-    fn push_back_from(
-        &self,
-        x: &[u32],
-        vectors: Vectors<'_, SumFamily>,
-        links: &mut Links,
-    ) -> Result<(), Panic>
-        requires member { Contains (subsets_vectors self.now) x.now }
-        requires first { vectors
-            ≡ take (vertex_among (subsets_vectors self.now) x.now + 1) (subsets_vectors self.now) }
-        requires width { length x.now ≡ links.old.width }
-        ensures ok { OnOk result (links.new
-            ≡ record links.old {
-              arcs = links.old.arcs
-                  ++ arcs_to self.now.size_bits x.now
-                  (reverse (take (vertex_among (subsets_vectors self.now) x.now + 1)
-                  (subsets_vectors self.now)));
-            }) }
-        ensures memory { IsOkUnless result Panic.NoRoom }
-    {
-        let mut left = vectors;
-        while let Some(y) = left.back() {
-            push_wanted(self.size_bits, x, y, links)?;
-            let _some = left.retreat();
-        }
+        let mut front = links.take_entries();
+        let bounds = self.shape.sizes();
+        let begun = Begun {
+            size_bits: self.size_bits,
+            room: sum_of_entries(bounds),
+            shared: u64::from(self.family.total()),
+            left: self.family.total(),
+            common: 0,
+        };
+        push_both(self.directed, begun, bounds, x, &mut front, links)?;
+        links.keep_entries(front);
         Ok(())
     }
 }
 
-// Puts the arc of `x` to `y` behind the others, if they have a wanted size in common.
-fn push_wanted(size_bits: u128, x: &[u32], y: &[u32], links: &mut Links) -> Result<(), Panic>
-    requires widths { length x.now ≡ length y.now }
-    requires fits { length x.now ≤ 2 ^ 31 }
+// Puts the arcs to the vectors down to `x`, and where undirected then those from `x` on down, behind the others.
+fn push_both(
+    directed: bool,
+    begun: Begun,
+    bounds: &[u32],
+    x: &[u32],
+    front: &mut Vec<u32>,
+    links: &mut Links,
+) -> Result<(), Panic>
+    requires begun { IsBegun bounds.now x.now begun.room begun.shared begun.left begun.common }
+    requires none { begun.common ≡ 0 }
+    requires all { begun.left ≡ sum x.now }
+    requires empty { front.old.items ≡ [] }
     requires width { length x.now ≡ links.old.width }
     ensures ok { OnOk result (links.new
-        ≡ record links.old { arcs = links.old.arcs ++ arcs_to size_bits x.now (y.now ∷ []) }) }
+        ≡ with_arcs links.old (arcs_by_walk directed begun.size_bits
+        (bounded_sums begun.left bounds.now) x.now)) }
     ensures memory { IsOkUnless result Panic.NoRoom }
 {
-    if !is_wanted(size_bits, common(x, y)) {
+    push_to(begun, bounds, x, front, links)?;
+    if directed {
         return Ok(());
     }
-    links.push(y, 1)?;
-    Ok(())
+    push_from(begun, bounds, x, front, links)
+}
+
+// What these entries add to.
+fn sum_of_entries(entries: &[u32]) -> u64
+    requires { length entries.now ≤ most_dimensions + 1 }
+    ensures { result ≡ sum entries.now }
+{
+    entries.iter().map(|entry| u64::from(*entry)).sum()
 }
 
 #[cfg(test)]

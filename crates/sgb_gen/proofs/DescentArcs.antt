@@ -1,0 +1,305 @@
+-- The arcs to vectors that begin alike; sizes that they cannot have in common; and the vectors down to one and from it.
+use Rattle.std.proofs.Common.{◌≡◌, ℕ, zero, suc, ◌+◌, ◌-◌, ◌<◌, ◌≤◌, ◌⊎◌, min, pos, Bool, true, false, cond, ◌&&◌, eqb, List, [], ◌∷◌, ◌++◌, length, map, filter, reverse, take, drop, sum, get_or, Some, refl, sym, ap, ap₂, subst, ◌∙◌, inl, inr, arith, append-nil, append_assoc}
+use Rattle.std.specs.Prelude.{nat_eq}
+use Rattle.std.specs.List.{All, Contains, slice_get}
+use Rattle.std.proofs.lemmas.Bool.{cases_lt, ne_eqb}
+use Rattle.std.proofs.lemmas.List.{drop_at, length-append, map-append, reverse-append, reverse-reverse, take_at}
+use Rattle.std.proofs.lemmas.List.Elements.{All-contains_itself}
+use Rattle.std.proofs.lemmas.Option.{slice_get_read}
+use Rattle.std.proofs.Math.Seq.{get_or-append_seam}
+use Rattle.std.proofs.Math.Path.{fun_ext}
+use Rattle.sgb_vec.specs.Boxes.{box}
+use Rattle.sgb_vec.specs.Lexicographic.{IsWithin}
+use Rattle.sgb_vec.specs.Limits.{most_vertices}
+use Rattle.sgb_vec.specs.Sums.{BoundedSum, bounded_sums}
+use Rattle.sgb_vec.proofs.Lists.{All-reverse, filter-none, made-append, reverse-first}
+use Rattle.sgb_vec.proofs.SumMembers.{Contains-bounded_sums, bounded_sums-rise}
+use Rattle.sgb_vec.proofs.SumSuccessors.{sum-cons}
+use Rattle.sgb_gen.specs.LocalLists.{LinksData, LocalArc}
+use Rattle.sgb_gen.specs.Subsets.{common_size, is_wanted_size}
+use Rattle.sgb_gen.specs.VectorGraphs.{vertex_among}
+use Rattle.sgb_gen.specs.inner.Descents.{IsBegun, arcs_under, down_from, down_to, row, rows}
+use Rattle.sgb_gen.specs.inner.LocalSimplexes.{with_arcs}
+use Rattle.sgb_gen.specs.inner.LocalSubsets.{arcs_by_walk, arcs_to}
+use Rattle.sgb_gen.proofs.Descents.{row-within, rows-end, rows-next, rows-parts, sums-end, sums-past, sums-rows}
+use Rattle.sgb_gen.proofs.PairWalks.{with_more}
+use Rattle.sgb_gen.proofs.RisingVectors.{vertex_in_rising}
+
+-- ---- arcs to vectors that begin alike
+
+-- to some vectors and then others
+pub under-append : (sb : ℕ) (front : List ℕ) (c : ℕ) (x : List ℕ) (us ws : List (List ℕ)) → arcs_under sb front c x (us ++ ws) ≡ arcs_under sb front c x us ++ arcs_under sb front c x ws
+under-append sb front c x us ws = made-append (λ v. is_wanted_size sb (common_size x v + c)) (λ v. record { tip = front ++ v; len = pos 1 }) us ws
+
+-- an entry that all have stands at the end of their beginning as well
+made_front : (b : Bool) (front v : List ℕ) (e : ℕ) (vs : List (List ℕ)) (arcs : List LocalArc) → map {B = LocalArc} (λ w. record { tip = front ++ w; len = pos 1 }) vs ≡ arcs
+    → map {B = LocalArc} (λ w. record { tip = front ++ w; len = pos 1 }) (cond b ((e ∷ v) ∷ vs) vs) ≡ cond b (record { tip = (front ++ e ∷ []) ++ v; len = pos 1 } ∷ arcs) arcs
+made_front true front v e vs arcs same = ap₂ (λ t l. record { tip = t; len = pos 1 } ∷ l) (sym (append_assoc front (e ∷ []) v)) same
+made_front false front v e vs arcs same = same
+
+made_cond : (b : Bool) (front v : List ℕ) (vs : List (List ℕ)) → map {B = LocalArc} (λ w. record { tip = front ++ w; len = pos 1 }) (cond b (v ∷ vs) vs) ≡ cond b (record { tip = front ++ v; len = pos 1 } ∷ map {B = LocalArc} (λ w. record { tip = front ++ w; len = pos 1 }) vs) (map {B = LocalArc} (λ w. record { tip = front ++ w; len = pos 1 }) vs)
+made_cond true front v vs = refl
+made_cond false front v vs = refl
+
+pub under-front : (sb : ℕ) (front : List ℕ) (c h : ℕ) (x : List ℕ) (e : ℕ) (vs : List (List ℕ)) → arcs_under sb front c (h ∷ x) (map (λ v. e ∷ v) vs) ≡ arcs_under sb (front ++ e ∷ []) (c + min h e) x vs
+under-front sb front c h x e [] = refl
+under-front sb front c h x e (v ∷ vs) =
+    let passes : List ℕ → Bool = λ w. is_wanted_size sb (common_size (h ∷ x) w + c) in
+    let same : common_size (h ∷ x) (e ∷ v) + c ≡ common_size x v + (c + min h e) = omega arith in
+    made_front (passes (e ∷ v)) front v e (filter passes (map (λ w. e ∷ w) vs)) _ (under-front sb front c h x e vs)
+    ∙ ap (λ k. cond (is_wanted_size sb k) (record { tip = (front ++ e ∷ []) ++ v; len = pos 1 } ∷ arcs_under sb (front ++ e ∷ []) (c + min h e) x vs) (arcs_under sb (front ++ e ∷ []) (c + min h e) x vs)) same
+    ∙ sym (made_cond (is_wanted_size sb (common_size x v + (c + min h e))) (front ++ e ∷ []) v (filter (λ w. is_wanted_size sb (common_size x w + (c + min h e))) vs))
+
+-- ---- what two vectors may have in common
+
+common-most : (x v : List ℕ) → (common_size x v ≤ sum x) × (common_size x v ≤ sum v)
+common-most [] v = (omega arith, omega arith)
+common-most (h ∷ x) [] = (omega arith, omega arith)
+common-most (h ∷ x) (e ∷ v) =
+    let rest = common-most x v in
+    (omega (arith, sum-cons h x, rest.0), omega (arith, sum-cons e v, rest.1))
+
+common-least : (bs x v : List ℕ) → IsWithin x bs → IsWithin v bs → sum v + sum x ≤ common_size x v + sum bs
+common-least [] [] [] hx hv = omega arith
+common-least [] [] (e ∷ v) hx hv = absurd hv
+common-least [] (h ∷ x) v hx hv = absurd hx
+common-least (b ∷ bs) [] v hx hv = absurd hx
+common-least (b ∷ bs) (h ∷ x) [] hx hv = absurd hv
+common-least (b ∷ bs) (h ∷ x) (e ∷ v) hx hv =
+    omega (arith, sum-cons h x, sum-cons e v, sum-cons b bs, hx.0, hv.0, common-least bs x v hx.1 hv.1)
+
+-- where none of these sizes is wanted there are no arcs
+pub under-unwanted : (sb : ℕ) (front : List ℕ) (c : ℕ) (bs x : List ℕ) (room shared left : ℕ) → IsBegun bs x room shared left c
+    → ((k : ℕ) → left ≤ k + (room - shared) → k ≤ left → k ≤ shared → is_wanted_size sb (k + c) ≡ false)
+    → arcs_under sb front c x (reverse (bounded_sums left bs)) ≡ []
+under-unwanted sb front c bs x room shared left begun none =
+    ap (map (λ v. record { tip = front ++ v; len = pos 1 })) (filter-none (λ v. is_wanted_size sb (common_size x v + c)) (reverse (bounded_sums left bs))
+    (All-reverse (λ v. is_wanted_size sb (common_size x v + c) ≡ false) (bounded_sums left bs) (λ k d within. unwanted _ (All-contains_itself (bounded_sums left bs) k d within)))) where
+      unwanted : (v : List ℕ) → Contains (bounded_sums left bs) v → is_wanted_size sb (common_size x v + c) ≡ false
+      unwanted v there =
+          let is = (Contains-bounded_sums left bs v).0 there in
+          let most = common-most x v in
+          none (common_size x v) (omega (arith, common-least bs x v begun.within is.0, is.1, begun.bounds_add, begun.own_add, most.0)) (omega (arith, most.1, is.1)) (omega (arith, most.0, begun.own_add))
+
+-- ---- the end
+
+made_end : (b : Bool) (front : List ℕ) → map {B = LocalArc} (λ w. record { tip = front ++ w; len = pos 1 }) (cond b ([] ∷ []) []) ≡ cond b (record { tip = front; len = pos 1 } ∷ []) []
+made_end true front = ap (λ t. record { tip = t; len = pos 1 } ∷ []) (append-nil front)
+made_end false front = refl
+
+-- a vector that is placed whole is there where it has the sum and a wanted size
+pub under-end : (sb : ℕ) (front : List ℕ) (c left : ℕ) (b : Bool) → (nat_eq left 0 && is_wanted_size sb c) ≡ b → arcs_under sb front c [] (bounded_sums left []) ≡ cond b (record { tip = front; len = pos 1 } ∷ []) []
+under-end sb front c left b test =
+    elim (cases_lt 0 left) [
+      | inl some ↦
+          ap (arcs_under sb front c []) (sums-past left [] (omega arith))
+          ∙ ap (λ t. cond t (record { tip = front; len = pos 1 } ∷ []) []) (sym (ap (λ t. t && is_wanted_size sb c) (ne_eqb left 0 (λ e. absurd (omega arith)))) ∙ test)
+      | inr none ↦
+          let zero_left : left ≡ 0 = omega arith in
+          ap (λ n. arcs_under sb front c [] (bounded_sums n [])) zero_left
+          ∙ ap (arcs_under sb front c []) sums-end
+          ∙ ap (λ k. map (λ w. record { tip = front ++ w; len = pos 1 }) (cond (is_wanted_size sb k) ([] ∷ []) [])) (omega arith)
+          ∙ made_end (is_wanted_size sb c) front
+          ∙ ap (λ t. cond t (record { tip = front; len = pos 1 } ∷ []) []) (sym (ap (λ n. nat_eq n 0 && is_wanted_size sb c) zero_left) ∙ test)
+    ]
+
+-- ---- the vectors above one and below it
+
+abbrev above : List ℕ → List ℕ → List (List ℕ)
+above [] x = []
+above (b ∷ bs) [] = []
+above (b ∷ bs) (x ∷ xs) = rows (x + sum xs) bs (x + 1) (b - x) ++ map (λ v. x ∷ v) (above bs xs)
+
+abbrev below : List ℕ → List ℕ → List (List ℕ)
+below [] x = []
+below (b ∷ bs) [] = []
+below (b ∷ bs) (x ∷ xs) = map (λ v. x ∷ v) (below bs xs) ++ rows (x + sum xs) bs 0 x
+
+to-above : (bs x : List ℕ) → IsWithin x bs → down_to bs x ≡ above bs x ++ x ∷ []
+to-above [] [] h = refl
+to-above [] (x ∷ xs) h = absurd h
+to-above (b ∷ bs) [] h = absurd h
+to-above (b ∷ bs) (x ∷ xs) h =
+    ap (λ l. rows (x + sum xs) bs (x + 1) (b - x) ++ map (λ v. x ∷ v) l) (to-above bs xs h.1)
+    ∙ ap (λ l. rows (x + sum xs) bs (x + 1) (b - x) ++ l) (map-append (λ v. x ∷ v) (above bs xs) (xs ∷ []))
+    ∙ sym (append_assoc (rows (x + sum xs) bs (x + 1) (b - x)) (map (λ v. x ∷ v) (above bs xs)) ((x ∷ xs) ∷ []))
+
+from-below : (bs x : List ℕ) → IsWithin x bs → down_from bs x ≡ x ∷ below bs x
+from-below [] [] h = refl
+from-below [] (x ∷ xs) h = absurd h
+from-below (b ∷ bs) [] h = absurd h
+from-below (b ∷ bs) (x ∷ xs) h = ap (λ l. map (λ v. x ∷ v) l ++ rows (x + sum xs) bs 0 x) (from-below bs xs h.1)
+
+-- they are all
+parted : (bs x : List ℕ) → IsWithin x bs → reverse (bounded_sums (sum x) bs) ≡ above bs x ++ x ∷ below bs x
+unfolding bounded_sums box
+parted [] [] h = refl
+parted [] (x ∷ xs) h = absurd h
+parted (b ∷ bs) [] h = absurd h
+parted (b ∷ bs) (x ∷ xs) h =
+    let r = x + sum xs in
+    let upper = rows r bs (x + 1) (b - x) in
+    let lower = rows r bs 0 x in
+    let middle : row r bs x ≡ map (λ v. x ∷ v) (above bs xs) ++ (x ∷ xs) ∷ map (λ v. x ∷ v) (below bs xs) =
+    row-within r x bs (omega arith)
+    ∙ ap (λ k. map (λ v. x ∷ v) (reverse (bounded_sums k bs))) (omega arith)
+    ∙ ap (map (λ v. x ∷ v)) (parted bs xs h.1)
+    ∙ map-append (λ v. x ∷ v) (above bs xs) (xs ∷ below bs xs) in
+    ap (λ k. reverse (bounded_sums k (b ∷ bs))) (sum-cons x xs)
+    ∙ sums-rows r b bs
+    ∙ ap (rows r bs 0) {y = x + 1 + (b - x)} (omega (arith, h.0))
+    ∙ rows-parts r bs 0 (x + 1) (b - x)
+    ∙ ap₂ (λ l m. l ++ m) (ap (λ a. rows r bs a (b - x)) (omega arith)) (own_row x middle)
+    ∙ ap (λ l. upper ++ l) (append_assoc (map (λ v. x ∷ v) (above bs xs)) ((x ∷ xs) ∷ map (λ v. x ∷ v) (below bs xs)) lower)
+    ∙ sym (append_assoc upper (map (λ v. x ∷ v) (above bs xs)) ((x ∷ xs) ∷ (map (λ v. x ∷ v) (below bs xs) ++ lower))) where
+      own_row : {l : List (List ℕ)} (k : ℕ) → row (x + sum xs) bs k ≡ l → rows (x + sum xs) bs 0 (k + 1) ≡ l ++ rows (x + sum xs) bs 0 k
+      own_row k is = ap (rows (x + sum xs) bs 0) {y = suc k} (omega arith) ∙ ap (λ e. row (x + sum xs) bs e ++ rows (x + sum xs) bs 0 k) (omega arith) ∙ ap (λ m. m ++ rows (x + sum xs) bs 0 k) is
+
+-- so those from x on, and those up to it, are these
+module _ (bs x : List ℕ) (h : IsWithin x bs) where
+  abbrev vectors : List (List ℕ)
+  vectors = bounded_sums (sum x) bs
+
+  whole : vectors ≡ reverse (below bs x) ++ x ∷ reverse (above bs x)
+  whole =
+      sym (reverse-reverse vectors) ∙ ap reverse (parted bs x h)
+      ∙ reverse-append (above bs x) (x ∷ below bs x)
+      ∙ ap (λ l. l ++ reverse (above bs x)) (reverse-first x (below bs x))
+      ∙ append_assoc (reverse (below bs x)) (x ∷ []) (reverse (above bs x))
+
+  place : vertex_among vectors x ≡ length (reverse (below bs x))
+  place =
+      let k = length (reverse (below bs x)) in
+      vertex_in_rising vectors k x (bounded_sums-rise (sum x) bs)
+      (slice_get_read vectors (length vectors) k x refl (omega (arith, ap length whole, length-append (reverse (below bs x)) (x ∷ reverse (above bs x))))
+      (sym (ap (λ vs. get_or vs k x) whole ∙ get_or-append_seam (reverse (below bs x)) x (reverse (above bs x)) x)))
+
+  pub to-dropped : reverse (drop (vertex_among vectors x) vectors) ≡ down_to bs x
+  to-dropped =
+      ap (λ vs. reverse (drop (vertex_among vectors x) vs)) whole
+      ∙ ap reverse (drop_at (reverse (below bs x)) (x ∷ reverse (above bs x)) (vertex_among vectors x) (sym place))
+      ∙ reverse-first x (reverse (above bs x))
+      ∙ ap (λ l. l ++ x ∷ []) (reverse-reverse (above bs x))
+      ∙ sym (to-above bs x h)
+
+  pub from-taken : reverse (take (vertex_among vectors x + 1) vectors) ≡ down_from bs x
+  from-taken =
+      let front = reverse (below bs x) in
+      ap (λ vs. reverse (take (vertex_among vectors x + 1) vs)) (whole ∙ sym (append_assoc front (x ∷ []) (reverse (above bs x))))
+      ∙ ap reverse (take_at (front ++ x ∷ []) (reverse (above bs x)) (vertex_among vectors x + 1) (omega (arith, place, length-append front (x ∷ []))))
+      ∙ reverse-append front (x ∷ [])
+      ∙ ap (λ l. x ∷ l) (reverse-reverse (below bs x))
+      ∙ sym (from-below bs x h)
+
+  -- and the walk's arcs are these
+  arcs_alike : (sb : ℕ) (vs : List (List ℕ)) → arcs_to sb x vs ≡ arcs_under sb [] 0 x vs
+  arcs_alike sb vs = ap (λ t. map (λ v. record { tip = v; len = pos 1 }) (filter t vs)) (fun_ext (λ v. ap (is_wanted_size sb) (omega arith)))
+
+  pub walk-descended : (directed : Bool) (sb : ℕ) → arcs_by_walk directed sb vectors x ≡ arcs_under sb [] 0 x (down_to bs x) ++ cond directed [] (arcs_under sb [] 0 x (down_from bs x))
+  walk-descended true sb = arcs_alike sb (reverse (drop (vertex_among vectors x) vectors)) ∙ ap (arcs_under sb [] 0 x) to-dropped ∙ sym (append-nil (arcs_under sb [] 0 x (down_to bs x)))
+  walk-descended false sb =
+      ap₂ (λ a b. a ++ b) (arcs_alike sb (reverse (drop (vertex_among vectors x) vectors)) ∙ ap (arcs_under sb [] 0 x) to-dropped)
+      (arcs_alike sb (reverse (take (vertex_among vectors x + 1) vectors)) ∙ ap (arcs_under sb [] 0 x) from-taken)
+
+-- ---- steps of the descent
+
+-- of no bounds and no entries nothing is left to be placed
+reverse-end : (left : ℕ) → reverse (bounded_sums left []) ≡ bounded_sums left []
+reverse-end left =
+    elim (cases_lt 0 left) [
+      | inl some ↦ let none = sums-past left [] (omega arith) in ap reverse none ∙ sym none
+      | inr none ↦ ap (λ n. reverse (bounded_sums n [])) (omega arith) ∙ ap reverse sums-end ∙ sym (ap (λ n. bounded_sums n []) (omega arith) ∙ sums-end)
+    ]
+
+pub ended-all : (sb : ℕ) (front : List ℕ) (c left : ℕ) (bs x : List ℕ) → IsWithin x bs → (length x ≡ 0) ⊎ (length bs ≡ 0) → arcs_under sb front c [] (bounded_sums left []) ≡ arcs_under sb front c x (reverse (bounded_sums left bs))
+ended-all sb front c left [] [] h none = ap (arcs_under sb front c []) (sym (reverse-end left))
+ended-all sb front c left [] (x ∷ xs) h none = absurd h
+ended-all sb front c left (b ∷ bs) [] h none = absurd h
+ended-all sb front c left (b ∷ bs) (x ∷ xs) h (inl e) = absurd (omega arith)
+ended-all sb front c left (b ∷ bs) (x ∷ xs) h (inr e) = absurd (omega arith)
+
+pub ended-to : (sb : ℕ) (front : List ℕ) (c left : ℕ) (bs x : List ℕ) → IsWithin x bs → left ≡ sum x → (length x ≡ 0) ⊎ (length bs ≡ 0) → arcs_under sb front c [] (bounded_sums left []) ≡ arcs_under sb front c x (down_to bs x)
+ended-to sb front c left [] [] h all none = ap (λ n. arcs_under sb front c [] (bounded_sums n [])) all ∙ ap (arcs_under sb front c []) sums-end
+ended-to sb front c left [] (x ∷ xs) h all none = absurd h
+ended-to sb front c left (b ∷ bs) [] h all none = absurd h
+ended-to sb front c left (b ∷ bs) (x ∷ xs) h all (inl e) = absurd (omega arith)
+ended-to sb front c left (b ∷ bs) (x ∷ xs) h all (inr e) = absurd (omega arith)
+
+pub ended-from : (sb : ℕ) (front : List ℕ) (c left : ℕ) (bs x : List ℕ) → IsWithin x bs → left ≡ sum x → (length x ≡ 0) ⊎ (length bs ≡ 0) → arcs_under sb front c [] (bounded_sums left []) ≡ arcs_under sb front c x (down_from bs x)
+ended-from sb front c left [] [] h all none = ap (λ n. arcs_under sb front c [] (bounded_sums n [])) all ∙ ap (arcs_under sb front c []) sums-end
+ended-from sb front c left [] (x ∷ xs) h all none = absurd h
+ended-from sb front c left (b ∷ bs) [] h all none = absurd h
+ended-from sb front c left (b ∷ bs) (x ∷ xs) h all (inl e) = absurd (omega arith)
+ended-from sb front c left (b ∷ bs) (x ∷ xs) h all (inr e) = absurd (omega arith)
+
+-- all vectors by their rows
+pub all-rows : (sb : ℕ) (front : List ℕ) (c left b h most : ℕ) (bs xs bounds x : List ℕ) → bounds ≡ b ∷ bs → x ≡ h ∷ xs → most ≡ min left b → arcs_under sb front c (h ∷ xs) (rows left bs 0 (most + 1 - 0)) ≡ arcs_under sb front c x (reverse (bounded_sums left bounds))
+all-rows sb front c left b h most bs xs bounds x bounds_are x_is most_is =
+    ap (λ n. arcs_under sb front c (h ∷ xs) (rows left bs 0 (n + 1 - 0))) most_is
+    ∙ ap (arcs_under sb front c (h ∷ xs)) (sym (rows-end left bs 0 b (omega arith)) ∙ ap (rows left bs 0) (omega arith) ∙ sym (sums-rows left b bs))
+    ∙ ap₂ (λ v cs. arcs_under sb front c v (reverse (bounded_sums left cs))) (sym x_is) (sym bounds_are)
+
+-- a row by the vectors that go on
+pub row-under : (sb : ℕ) (front : List ℕ) (c left h e : ℕ) (bs x : List ℕ) → e ≤ left → arcs_under sb (front ++ e ∷ []) (c + min h e) x (reverse (bounded_sums (left - e) bs)) ≡ arcs_under sb front c (h ∷ x) (row left bs e)
+row-under sb front c left h e bs x within =
+    sym (under-front sb front c h x e (reverse (bounded_sums (left - e) bs))) ∙ ap (arcs_under sb front c (h ∷ x)) (sym (row-within left e bs within))
+
+-- a row more is done
+pub rows-done : (start links new : LinksData) (sb : ℕ) (front at : List ℕ) (c : ℕ) (x : List ℕ) (left : ℕ) (bs : List ℕ) (low k : ℕ) (all : List LocalArc) → at ≡ front → 0 < k
+    → new ≡ with_arcs links (arcs_under sb at c x (row left bs (low + (k - 1))))
+    → with_arcs links (arcs_under sb front c x (rows left bs low k)) ≡ with_arcs start all
+    → with_arcs new (arcs_under sb front c x (rows left bs low (k - 1))) ≡ with_arcs start all
+rows-done start links new sb front at c x left bs low k all same some new_is so_far =
+    let first = arcs_under sb front c x (row left bs (low + (k - 1))) in
+    let rest = arcs_under sb front c x (rows left bs low (k - 1)) in
+    ap (λ l. with_arcs l rest) (new_is ∙ ap (λ f. with_arcs links (arcs_under sb f c x (row left bs (low + (k - 1))))) same)
+    ∙ ap (λ arcs. record { width = links.width; arcs = arcs }) (append_assoc links.arcs first rest)
+    ∙ ap (with_arcs links) (sym (under-append sb front c x (row left bs (low + (k - 1))) (rows left bs low (k - 1))) ∙ ap (arcs_under sb front c x) (sym (rows-next left bs low k some)))
+    ∙ so_far
+
+-- an entry is taken off again
+pub last_taken : (front : List ℕ) (e : ℕ) (items left : List ℕ) (n : ℕ) → n ≡ length items → left ≡ take (n - 1) items → items ≡ front ++ e ∷ [] → left ≡ front
+last_taken front e items left n count is items_are =
+    is ∙ ap (take (n - 1)) items_are ∙ take_at front (e ∷ []) (n - 1) (omega (arith, count, ap length items_are, length-append front (e ∷ [])))
+
+-- down to x: the rows above its first entry, and then on with that
+pub to-more : (links mid new : LinksData) (sb : ℕ) (front : List ℕ) (c left b h most : ℕ) (bs xs bounds x : List ℕ) → bounds ≡ b ∷ bs → x ≡ h ∷ xs → left ≡ sum x → most ≡ min left b
+    → mid ≡ with_arcs links (arcs_under sb front c (h ∷ xs) (rows left bs (h + 1) (most + 1 - (h + 1))))
+    → new ≡ with_arcs mid (arcs_under sb (front ++ h ∷ []) (c + min h h) xs (down_to bs xs))
+    → new ≡ with_arcs links (arcs_under sb front c x (down_to bounds x))
+to-more links mid new sb front c left b h most bs xs bounds x bounds_are x_is adds most_is mid_is new_is =
+    let whole : left ≡ h + sum xs = adds ∙ ap sum x_is ∙ sum-cons h xs in
+    with_more links mid new _ _ _ mid_is new_is
+    (ap₂ (λ cs v. arcs_under sb front c v (down_to cs v)) bounds_are x_is
+    ∙ under-append sb front c (h ∷ xs) (rows (h + sum xs) bs (h + 1) (b - h)) (map (λ v. h ∷ v) (down_to bs xs))
+    ∙ ap₂ (λ l m. l ++ m)
+    (ap (λ n. arcs_under sb front c (h ∷ xs) (rows n bs (h + 1) (b - h))) (sym whole)
+    ∙ ap (λ n. arcs_under sb front c (h ∷ xs) (rows left bs (h + 1) n)) {y = b + 1 - (h + 1)} (omega arith)
+    ∙ ap (arcs_under sb front c (h ∷ xs)) (rows-end left bs (h + 1) b (omega arith) ∙ ap (λ n. rows left bs (h + 1) (n + 1 - (h + 1))) (sym most_is)))
+    (under-front sb front c h xs h (down_to bs xs)))
+
+-- from x on: on with its first entry, and then the rows below that
+pub from-more : (links mid new : LinksData) (sb : ℕ) (front : List ℕ) (c left b h : ℕ) (bs xs bounds x : List ℕ) → bounds ≡ b ∷ bs → x ≡ h ∷ xs → left ≡ sum x
+    → mid ≡ with_arcs links (arcs_under sb (front ++ h ∷ []) (c + min h h) xs (down_from bs xs))
+    → new ≡ with_arcs mid (arcs_under sb front c (h ∷ xs) (rows left bs 0 (h - 0)))
+    → new ≡ with_arcs links (arcs_under sb front c x (down_from bounds x))
+from-more links mid new sb front c left b h bs xs bounds x bounds_are x_is adds mid_is new_is =
+    let whole : left ≡ h + sum xs = adds ∙ ap sum x_is ∙ sum-cons h xs in
+    with_more links mid new _ _ _ mid_is new_is
+    (ap₂ (λ cs v. arcs_under sb front c v (down_from cs v)) bounds_are x_is
+    ∙ under-append sb front c (h ∷ xs) (map (λ v. h ∷ v) (down_from bs xs)) (rows (h + sum xs) bs 0 h)
+    ∙ ap₂ (λ l m. l ++ m)
+    (under-front sb front c h xs h (down_from bs xs))
+    (ap₂ (λ n k. arcs_under sb front c (h ∷ xs) (rows n bs 0 k)) (sym whole) (omega arith)))
+
+-- both lists of x as it is descended, of no first entries
+pub walked : (b directed : Bool) (sb : ℕ) (front again : List ℕ) (c left : ℕ) (bs x : List ℕ) → IsWithin x bs → left ≡ sum x → c ≡ 0 → front ≡ [] → again ≡ [] → directed ≡ b
+    → arcs_by_walk directed sb (bounded_sums left bs) x ≡ arcs_under sb front c x (down_to bs x) ++ cond b [] (arcs_under sb again c x (down_from bs x))
+walked b directed sb front again c left bs x h adds none empty empty_again is =
+    rw (is, adds, none, empty, empty_again) (walk-descended bs x h b sb)
+
+-- at first nothing is placed
+pub begun-all : (s : BoundedSum) (bounds x : List ℕ) (room shared total : ℕ) → Contains (bounded_sums s.total s.bounds) x → bounds ≡ s.bounds → room ≡ sum bounds → shared ≡ s.total → total ≡ s.total → total ≤ most_vertices → IsBegun bounds x room shared total 0
+begun-all s bounds x room shared total member same adds own all small =
+    let is = (Contains-bounded_sums s.total s.bounds x).0 member in
+    record { within = subst (IsWithin x) (sym same) is.0; bounds_add = adds; own_add = own ∙ sym is.1; few = omega (arith, small) }

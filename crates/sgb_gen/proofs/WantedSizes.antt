@@ -1,0 +1,35 @@
+-- Sizes below the least wanted one.
+use Rattle.std.proofs.Common.{◌≡◌, ℕ, ◌+◌, ◌-◌, ◌*◌, ◌/◌, ◌%◌, ◌^◌, ◌<◌, ◌≤◌, Bool, true, false, ◌&&◌, refl, sym, ap, ◌∙◌, inl, inr, arith}
+use Rattle.std.specs.Prelude.{◌==◌, nat_lt}
+use Rattle.std.specs.Int.{trailing_zeros, w128}
+use Rattle.std.proofs.Math.Nat.{div-div-eq-div-mul}
+use Rattle.std.proofs.lemmas.Bool.{cases_lt, le-ltb}
+use Rattle.std.proofs.lemmas.Nat.{pow-add}
+use Rattle.std.proofs.lemmas.Nat.Bits.{bit_at-trailing_zeros}
+use Rattle.sgb_gen.specs.Subsets.{is_wanted_size}
+
+-- where bit k is 0, k is not wanted
+unwanted : (sb k : ℕ) → sb / 2 ^ k % 2 ≡ 0 → is_wanted_size sb k ≡ false
+unwanted sb k clear = ap (λ bit. nat_lt k 128 && (bit == 1)) clear ∙ no_bit (nat_lt k 128) where
+  no_bit : (b : Bool) → b && (0 == 1) ≡ false
+  no_bit true = refl
+  no_bit false = refl
+
+-- the bits from one on
+later_bit : (sb from k : ℕ) → from ≤ k → sb / 2 ^ k ≡ sb / 2 ^ from / 2 ^ (k - from)
+later_bit sb from k h =
+    ap (λ n. sb / 2 ^ n) {y = from + (k - from)} (omega arith) ∙ ap (λ n. sb / n) (pow-add 2 from (k - from)) ∙ sym (div-div-eq-div-mul sb (2 ^ from) (2 ^ (k - from)))
+
+-- 128 and more are not wanted
+pub unwanted-past : (sb k : ℕ) → 128 ≤ k → is_wanted_size sb k ≡ false
+unwanted-past sb k h = ap (λ b. b && (sb / 2 ^ k % 2 == 1)) (le-ltb k 128 h)
+
+-- nor are sizes from one on that are below the least bit of 1
+pub unwanted-below : (sb from k later : ℕ) → later ≡ sb / 2 ^ from → later < 2 ^ 128 → from ≤ k → k < from + trailing_zeros w128 later → is_wanted_size sb k ≡ false
+unwanted-below sb from k later is small h below =
+    unwanted sb k (elim (cases_lt 0 later) [
+      | inl some ↦ ap (λ n. n % 2) (later_bit sb from k h ∙ ap (λ n. n / 2 ^ (k - from)) (sym is)) ∙ (bit_at-trailing_zeros w128 later some small).2 (k - from) (omega arith)
+      | inr none ↦ ap (λ n. n % 2) (later_bit sb from k h ∙ ap (λ n. n / 2 ^ (k - from)) {y = 0} (sym is ∙ omega arith)) ∙ zero_bits (k - from)
+    ]) where
+      zero_bits : (j : ℕ) → 0 / 2 ^ j % 2 ≡ 0
+      zero_bits j = omega arith
