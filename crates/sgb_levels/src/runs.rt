@@ -176,11 +176,7 @@ fn unread_fault(error: &io::Error) -> Fault
 }
 
 // The bytes of standard input, if the expression reads it.
-fn input_for<R: Source>(
-    alloc: Global,
-    expression: &Expr,
-    source: &mut R,
-) -> Result<Vec<u8>, Fault>
+fn input_for<R: Source>(alloc: Global, expression: &Expr, source: &mut R) -> Result<Vec<u8>, Fault>
     ensures kept { IfOk result (λ bytes. has_stdin (expression_of expression.now) ≡ true
         → IsKept (R.remaining source.old) bytes.items) }
     ensures ended { IsReadFrom

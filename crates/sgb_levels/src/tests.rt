@@ -57,7 +57,8 @@ fn vertices_of_two_components(rt: HostRuntime) -> Result<(), Fail> {
 
 #[test]
 fn the_petersen_graph(rt: HostRuntime) -> Result<(), Fail> {
-    let lines = b"0.0.0.1.1 0\n0.0.1.0.1 2\n0.0.1.1.0 2\n0.1.0.0.1 2\n0.1.0.1.0 2\n0.1.1.0.0 1\n1.0.0.0.1 2\n1.0.0.1.0 2\n1.0.1.0.0 1\n1.1.0.0.0 1\n";
+    let lines =
+        b"0.0.0.1.1 0\n0.0.1.0.1 2\n0.0.1.1.0 2\n0.1.0.0.1 2\n0.1.0.1.0 2\n0.1.1.0.0 1\n1.0.0.0.1 2\n1.0.0.1.0 2\n1.0.1.0.0 1\n1.1.0.0.0 1\n";
     assert!(rt; is_answered(rt.alloc(), "disjoint_subsets(5,2)", lines)?);
     Ok(())
 }
