@@ -1,7 +1,7 @@
 #!/usr/bin/env python3
 """Library calls with memory refused: bench/calls.py, a minute or two.
 
-It builds bench/calls/main.rt over the crates, unproved, in a folder of its own, and runs it once for each allocation that
+It builds bench/calls.in over the crates, unproved, in a folder of its own, and runs it once for each allocation that
 it makes, which fails then (rt try --cases). A run passes where it ends with 0, or with 1, which is want of memory for what
 it needs itself; it fails where what stood before a refused call does not stand after it. Each call has to be refused
 once at least. The last line is "N passed, M failed".
@@ -17,7 +17,7 @@ import tempfile
 
 TOP = os.path.dirname(os.path.dirname(os.path.abspath(__file__)))
 BELOW = ["sgb_vec", "sgb_graph", "sgb_gen"]
-FAILS = 800  # as in main.rt
+FAILS = 800  # as in calls.in
 CASES = 500  # more than there are allocations
 CALLS = [
     "Names::push",
@@ -48,7 +48,8 @@ def build(folder):
     for crate in BELOW:
         for part in ("src", "specs", "proofs"):
             shutil.copytree(os.path.join(TOP, "crates", crate, part), os.path.join(folder, "crates", crate, part))
-    shutil.copytree(os.path.join(TOP, "bench", "calls"), os.path.join(folder, "crates", "calls", "src"))
+    os.makedirs(os.path.join(folder, "crates", "calls", "src"))
+    shutil.copy(os.path.join(TOP, "bench", "calls.in"), os.path.join(folder, "crates", "calls", "src", "main.rt"))
     shutil.copy(os.path.join(TOP, "HANDLES"), folder)
     with open(os.path.join(TOP, "crates.txt")) as file:
         lines = [line for line in file if line.split(":")[0] in BELOW]
