@@ -1,4 +1,4 @@
-use Rattle.std.proofs.Common.{arith, ap, sym, ◌∙◌, ◌≤◌, ◌<◌, length, take, drop}
+use Rattle.std.proofs.Common.{arith, ap, sym, ◌∙◌, ◌≤◌, ◌<◌, length, take}
 use Rattle.std.proofs.lemmas.List.{length-drop, length-take}
 use Rattle.sgb_file.proofs.ChecksumLemmas.{bytes_counted, nothing_counted}
 use Rattle.sgb_file.proofs.LineLemmas.{no_bytes}

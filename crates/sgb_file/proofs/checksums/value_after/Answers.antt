@@ -16,9 +16,10 @@ overflow_add-value c =
 pub loop-byte-preserved : goal.loop-byte-preserved
 loop-byte-preserved c =
     let value = c.loop-byte.value in
-    let i = c.loop-byte.byte-index in
-    (rw (c.from.ensures, c.place_of.ensures) (sym (byte_counted value c.args.bytes.now i c.loop-byte-test.true) ∙ c.loop-byte.invariant.0),
-    value_doubled value c.from.result i c.loop-byte.invariant.1 (omega (arith, c.from.ensures, c.place_of.type_inv)))
+    let i = c.loop-byte.byte-index in (
+      rw (c.from.ensures, c.place_of.ensures) (sym (byte_counted value c.args.bytes.now i c.loop-byte-test.true) ∙ c.loop-byte.invariant.0),
+      value_doubled value c.from.result i c.loop-byte.invariant.1 (omega (arith, c.from.ensures, c.place_of.type_inv)),
+    )
 
 pub returns : goal.returns
 returns c =
