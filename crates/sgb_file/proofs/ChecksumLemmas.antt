@@ -1,15 +1,18 @@
 -- Lemmas on the order of bytes in the checksum, and on the sum made byte by byte.
-use Rattle.std.specs.Prelude.{◌≡◌, ℕ, suc, ◌+◌, ◌*◌, ◌/◌, ◌%◌, ◌^◌, ◌<◌, Bool, true, not, ◌&&◌, ◌||◌, List, [], ◌∷◌, length, fold, refl, nat_lt, ◌==◌, slice_index}
+use Rattle.std.specs.Prelude.{◌≡◌, ℕ, suc, ◌+◌, ◌*◌, ◌/◌, ◌%◌, ◌^◌, ◌<◌, ◌≤◌, Bool, true, not, ◌&&◌, ◌||◌, List, [], ◌∷◌, length, take, drop, fold, refl, nat_lt, ◌==◌, slice_index}
 use Rattle.std.specs.List.{list_all, range_with_len}
 use Rattle.std.proofs.Common.{arith, ap, sym, ◌∙◌}
-use Rattle.std.proofs.Math.Nat.{mul_assoc, mul_comm, add-mul, pow-suc, add-mul-mod_self_right, mod-add-div', mod-eq_of_lt}
+use Rattle.std.proofs.Math.Nat.{mul_assoc, mul_comm, add-mul, pow-suc, add-mul-mod_self_right, mod-add-div', mod-eq_of_lt, two-pow-succ}
+use Rattle.std.proofs.lemmas.List.{drop_all, drop_more, take-append-drop}
+use Rattle.std.proofs.lemmas.List.Sums.{fold-append}
 use Rattle.std.proofs.lemmas.Nat.{mod_below}
+use native.Mathlib.Nat.{pow-le-pow_right}
 use Rattle.std.proofs.lemmas.Bool.Decides.{Decides-eqb, Decides-ltb, nat_tests}
 use Rattle.sgb_graph.proofs.TestLemmas.{at_each_below, both_first, both_second, where_passes}
 use Rattle.std.specs.Prelude.{slice_index_or as get_or}
 use Rattle.std.proofs.lemmas.Grind.{get_or_default_zero}
-use Rattle.sgb_file.specs.inner.Layouts.{place_of, places}
-use Rattle.sgb_file.specs.Checksum.{characters, value_of_byte, is_character, weighted_sum}
+use Rattle.sgb_file.specs.inner.Layouts.{checksum_after, checksum_from, place_of, places}
+use Rattle.sgb_file.specs.Checksum.{characters, checksum_prime, value_of_byte, is_character, weighted_sum}
 
 -- the byte has a place below 96, where it stands
 abbrev pub has_place : ℕ → Bool
@@ -59,6 +62,53 @@ remainder_in_sum n k w p =
     mul_assoc (n / p) p k ∙ (ap (λ (x : ℕ). n / p * x) inner ∙ sym (mul_assoc (n / p) k p)) in
     let whole : n * k + w ≡ n % p * k + w + n / p * k * p = omega arith in
     sym (ap (λ (x : ℕ). x % p) whole ∙ add-mul-mod_self_right (n % p * k + w) (n / p * k) p)
+
+-- a number that is doubled and added to may stand for its remainder
+remainder_doubled : (n v p : ℕ) → (2 * (n % p) + v) % p ≡ (2 * n + v) % p
+remainder_doubled n v p =
+    ap (λ (x : ℕ). (x + v) % p) (mul_comm 2 (n % p))
+    ∙ (remainder_in_sum n 2 v p ∙ ap (λ (x : ℕ). (x + v) % p) (mul_comm n 2))
+
+-- a byte more, with no remainder taken
+pub byte_counted : (value : ℕ) (bytes : List ℕ) (i : ℕ) → i < length bytes
+    → checksum_from (value % checksum_prime) (drop i bytes)
+    ≡ checksum_from ((2 * value + place_of (get_or bytes i 0)) % checksum_prime) (drop (i + 1) bytes)
+unfolding checksum_from checksum_after
+byte_counted value bytes i within =
+    ap (checksum_from (value % checksum_prime)) (drop_more bytes i 0 within)
+    ∙ ap (λ sum. checksum_from sum (drop (i + 1) bytes)) (remainder_doubled value (place_of (get_or bytes i 0)) checksum_prime)
+
+-- the checksum after some bytes may begin at the remainder
+from_remainder : (sum : ℕ) (few : List ℕ) → 0 < length few → checksum_from (sum % checksum_prime) few ≡ checksum_from sum few
+unfolding checksum_from checksum_after
+from_remainder sum [] some = absurd (omega (arith, some))
+from_remainder sum (b ∷ few) some = ap (λ x. checksum_from x few) (remainder_doubled sum (place_of b) checksum_prime)
+
+-- the first bytes of a text, with the remainder taken at their end
+pub bytes_counted : (sum value k : ℕ) (bytes : List ℕ) → 0 < length (take k bytes)
+    → value % checksum_prime ≡ checksum_from (sum % checksum_prime) (take k bytes)
+    → checksum_from (value % checksum_prime) (drop k bytes) ≡ checksum_from sum bytes
+unfolding checksum_from
+bytes_counted sum value k bytes some counted =
+    ap (λ x. checksum_from x (drop k bytes)) (counted ∙ from_remainder sum (take k bytes) some)
+    ∙ (sym (fold-append checksum_after sum (take k bytes) (drop k bytes)) ∙ ap (checksum_from sum) (take-append-drop k bytes))
+
+-- no bytes are left
+pub nothing_counted : (sum i : ℕ) (bytes : List ℕ) → length bytes ≤ i → checksum_from sum (drop i bytes) ≡ sum
+unfolding checksum_from
+nothing_counted sum i bytes past = ap (checksum_from sum) (drop_all i bytes past)
+
+-- a value has room for a byte more before the 31st, and so it grows
+pub value_has_room : (value i n : ℕ) → value + 256 ≤ 2 ^ (33 + i) → i < n → n ≤ 31 → value + 256 ≤ 2 ^ 63
+value_has_room value i n h within short =
+    let few : 33 + i ≤ 63 = omega (arith, within, short) in
+    let most : 2 ^ (33 + i) ≤ 2 ^ 63 = pow-le-pow_right (omega arith) few in
+    omega (arith, h, most)
+
+pub value_doubled : (value byte i : ℕ) → value + 256 ≤ 2 ^ (33 + i) → byte < 256 → 2 * value + byte + 256 ≤ 2 ^ (33 + (i + 1))
+value_doubled value byte i h small =
+    let next : 33 + (i + 1) ≡ suc (33 + i) = omega arith in
+    rw next (omega (arith, two-pow-succ (33 + i), h, small))
 
 -- doubling, adding a value, and then weighing by k
 pub weighed : (a v k : ℕ) → (2 * a + v) * k ≡ a * (k * 2) + v * k

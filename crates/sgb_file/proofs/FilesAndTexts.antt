@@ -17,6 +17,7 @@ use Rattle.sgb_file.specs.Fields.{Found, is_decimal_digit, number_of, most_numbe
 use Rattle.sgb_file.specs.Records.{Head, records_at}
 use Rattle.sgb_file.specs.Restoring.{Opening, leading_number, head_of_line, opening_of, checksum_in_line, checksum_agrees, line_closes, closes, graph_of_text}
 use Rattle.sgb_file.specs.Files.{IsFirstLine, IsComment, IsChecksumLine, IsRecord, IsArcRecord, AreRecords, AreRecordsOf, IsFileOf, head_of}
+use Rattle.sgb_file.specs.Refused.{IsClosed}
 use Rattle.sgb_file.proofs.LineLemmas.{is_one_line, is_within_line, lines_again, lines_read, clean_are_one_line}
 use Rattle.sgb_file.proofs.FoundParts.{prefix_is, was_given, was_mapped, was_chosen}
 use Rattle.sgb_file.proofs.NumberReading.{number_digits}
@@ -47,7 +48,7 @@ comment_is_passed line h = by_head (head_of_line line) refl
     by_head None e = refl
     by_head (Some head) e = absurd (h.other head (first_line_found line head e))
 
-opening_read : (head : Head) (comments : List (List ℕ)) (first : List ℕ) (lines : List (List ℕ)) → All IsComment comments → IsFirstLine head first
+pub opening_read : (head : Head) (comments : List (List ℕ)) (first : List ℕ) (lines : List (List ℕ)) → All IsComment comments → IsFirstLine head first
     → opening_of (comments ++ first ∷ lines) ≡ Some (record { head = head; lines = lines })
 unfolding opening_of
 opening_read head [] first lines h says = rw (first_line_read head first says) refl
@@ -55,12 +56,12 @@ opening_read head (line ∷ comments) first lines h says =
     let comment = All-head IsComment line comments h in
     rw (comment_is_passed line comment) (rw comment.star (opening_read head comments first lines (All-tail IsComment line comments h) says))
 
-record IsOpened (lines : List (List ℕ)) (opening : Opening) : Type 0 where
-  comments : List (List ℕ)
-  first : List ℕ
-  comments_are : All IsComment comments
-  first_says : IsFirstLine opening.head first
-  parts : lines ≡ comments ++ first ∷ opening.lines
+pub record IsOpened (lines : List (List ℕ)) (opening : Opening) : Type 0 where
+  pub comments : List (List ℕ)
+  pub first : List ℕ
+  pub comments_are : All IsComment comments
+  pub first_says : IsFirstLine opening.head first
+  pub parts : lines ≡ comments ++ first ∷ opening.lines
 
 comment_found : (line : List ℕ) → head_of_line line ≡ None → has_star line ≡ true → IsComment line
 comment_found line none star = record {
@@ -68,7 +69,7 @@ comment_found line none star = record {
   other = λ head says. let is = first_line_read head line says in absurd cc;
 }
 
-opening_found : (lines : List (List ℕ)) (opening : Opening) → opening_of lines ≡ Some opening → IsOpened lines opening
+pub opening_found : (lines : List (List ℕ)) (opening : Opening) → opening_of lines ≡ Some opening → IsOpened lines opening
 unfolding opening_of
 opening_found [] opening e = absurd cc
 opening_found (line ∷ lines) opening e = by_line (head_of_line line) refl e (opening_found lines opening)
@@ -142,10 +143,10 @@ digits_no_minus (b ∷ digits) more k e =
     grind (arith, nat_tests)
 
 -- the line after the records closes the file
-abbrev Closes : List (List ℕ) → List ℕ → Type 0
+abbrev pub Closes : List (List ℕ) → List ℕ → Type 0
 Closes lines line = option_map_or (λ c. checksum_agrees c lines) (checksum_in_line line) false ≡ true
 
-checksum_read : (line : List ℕ) (lines : List (List ℕ)) → IsChecksumLine (checksum_of_lines lines) line → Closes lines line
+pub checksum_read : (line : List ℕ) (lines : List (List ℕ)) → IsChecksumLine (checksum_of_lines lines) line → Closes lines line
 checksum_read line lines h = by_form h.form
   where
     by_form : ((h.k ≡ checksum_of_lines lines) × (line ≡ codes "* Checksum " ++ (h.digits ++ h.anything)))
@@ -158,9 +159,9 @@ checksum_read line lines h = by_form h.form
         ∙ rw (leading_says h.digits h.anything h.k h.says h.ends) (minus_passes h.k lines agrees)
 
 -- a text that ends with a newline
-record EndsLine (text : List ℕ) : Type 0 where
-  front : List ℕ
-  whole : text ≡ front ++ 10 ∷ []
+pub record EndsLine (text : List ℕ) : Type 0 where
+  pub front : List ℕ
+  pub whole : text ≡ front ++ 10 ∷ []
 
 ends_too : (before text : List ℕ) → EndsLine text → EndsLine (before ++ text)
 ends_too before text h = record { front = before ++ h.front; whole = ap (λ x. before ++ x) h.whole ∙ sym (append_assoc before h.front (10 ∷ [])) }
@@ -179,7 +180,7 @@ records_end IsOne ends (x ∷ xs) whole h line =
     let split : whole ≡ one.front ++ 10 ∷ h.1 = h.4 ∙ ap (λ y. y ++ h.1) one.whole ∙ append_assoc one.front (10 ∷ []) h.1 in
     subst EndsLine (append_assoc line (10 ∷ one.front) (10 ∷ h.1) ∙ ap (λ y. line ++ 10 ∷ y) (sym split)) further
 
-all_records_end : (g : GraphData) (whole : List ℕ) → AreRecordsOf g whole → EndsLine whole
+pub all_records_end : (g : GraphData) (whole : List ℕ) → AreRecordsOf g whole → EndsLine whole
 all_records_end g whole h =
     let arcs = records_end (IsArcRecord (head_of g)) (λ r t is. record_ends is.0 t is.2) g.records h.arcs h.arc_records (codes "* Arcs") in
     subst EndsLine (sym h.parts) (ends_too h.own (codes "* Vertices\n" ++ (h.vertices ++ (codes "* Arcs\n" ++ h.arcs)))
@@ -213,12 +214,12 @@ is_of_lines : (text : List ℕ) → EndsLine text → IsOfLines text
 is_of_lines text h = subst IsOfLines (sym h.whole) (front_is_of_lines h.front)
 
 -- lines whose text begins with the lines of records
-record IsCut (lines : List (List ℕ)) (whole rest : List ℕ) : Type 0 where
-  records : List (List ℕ)
-  text_is : text_of_lines records ≡ whole
-  parts : lines ≡ records ++ lines_of_text rest
+pub record IsCut (lines : List (List ℕ)) (whole rest : List ℕ) : Type 0 where
+  pub records : List (List ℕ)
+  pub text_is : text_of_lines records ≡ whole
+  pub parts : lines ≡ records ++ lines_of_text rest
 
-cut_lines : (lines : List (List ℕ)) (whole rest : List ℕ) → list_all is_one_line lines ≡ true → text_of_lines lines ≡ whole ++ rest → EndsLine whole → IsCut lines whole rest
+pub cut_lines : (lines : List (List ℕ)) (whole rest : List ℕ) → list_all is_one_line lines ≡ true → text_of_lines lines ≡ whole ++ rest → EndsLine whole → IsCut lines whole rest
 cut_lines lines whole rest one_lines parts ends =
     let h = is_of_lines whole ends in
     let records = h.first ∷ h.others in
@@ -229,7 +230,7 @@ cut_lines lines whole rest one_lines parts ends =
     }
 
 -- the lines after a part of them
-last_lines : (xs ys : List (List ℕ)) → list_all is_one_line (xs ++ ys) ≡ true → list_all is_one_line ys ≡ true
+pub last_lines : (xs ys : List (List ℕ)) → list_all is_one_line (xs ++ ys) ≡ true → list_all is_one_line ys ≡ true
 last_lines xs ys h = (and_parts (list_all is_one_line xs) (list_all is_one_line ys) (sym (list_all-append is_one_line xs ys) ∙ h)).1
 
 before_following : (records following : List (List ℕ)) → take (length (records ++ following) - length following) (records ++ following) ≡ records
@@ -238,13 +239,7 @@ before_following records following =
     ap (λ k. take k (records ++ following)) count ∙ take-append_seam records following
 
 -- what follows the records, where the file closes
-record IsClosed (records following : List (List ℕ)) : Type 0 where
-  last : List ℕ
-  others : List (List ℕ)
-  parts : following ≡ last ∷ others
-  says : IsChecksumLine (checksum_of_lines records) last
-
-closed_found : (records following : List (List ℕ)) → line_closes records following ≡ true → IsClosed records following
+pub closed_found : (records following : List (List ℕ)) → line_closes records following ≡ true → IsClosed records following
 closed_found records [] e = absurd cc
 closed_found records (last ∷ others) e = by_checksum (checksum_in_line last) refl e
   where
@@ -252,7 +247,7 @@ closed_found records (last ∷ others) e = by_checksum (checksum_in_line last) r
     by_checksum None here e = absurd cc
     by_checksum (Some c) here e = record { last = last; others = others; parts = refl; says = checksum_found last c records here e }
 
-closes_by : (opening : Opening) (records : List (List ℕ)) (rest : List ℕ) → opening.lines ≡ records ++ lines_of_text rest → closes opening rest ≡ line_closes records (lines_of_text rest)
+pub closes_by : (opening : Opening) (records : List (List ℕ)) (rest : List ℕ) → opening.lines ≡ records ++ lines_of_text rest → closes opening rest ≡ line_closes records (lines_of_text rest)
 closes_by opening records rest e =
     ap (λ lines. line_closes (take (length lines - length (lines_of_text rest)) lines) (lines_of_text rest)) e
     ∙ ap (λ lines. line_closes lines (lines_of_text rest)) (before_following records (lines_of_text rest))

@@ -16,6 +16,8 @@ pub mod FieldsAndTexts
 pub mod RecordsAndTexts
 -- a text is read as a graph exactly where it is a file of it
 pub mod FilesAndTexts
+-- the code of a text that is a file of no graph
+pub mod RefusedTexts
 -- lines of at most 79 bytes
 pub mod LayoutLemmas
 -- the lines that are left while a file is read

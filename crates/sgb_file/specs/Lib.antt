@@ -15,6 +15,8 @@ pub mod Restoring
 pub mod Saving
 -- when a text is a file of a graph
 pub mod Files
+-- when a text is a file of no graph
+pub mod Refused
 -- the graphs that can be saved
 pub mod Saved
 -- what reading a file returns

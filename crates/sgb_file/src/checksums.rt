@@ -1,10 +1,13 @@
 //! The checksum of a file, made byte by byte (GB_IO, new_checksum).
-ghost use Rattle.std.specs.Prelude.{◌≡◌, ◌∷◌, []};
-ghost use Rattle.sgb_file.specs.Checksum.{has_star};
-ghost use Rattle.sgb_file.specs.inner.Layouts.{checksum_after, checksum_from, counted_bytes, place_of, places};
+ghost use Rattle.std.specs.Prelude.{◌≡◌, ◌≤◌, ◌%◌, ◌∷◌, [], length};
+ghost use Rattle.sgb_file.specs.Checksum.{checksum_prime, has_star};
+ghost use Rattle.sgb_file.specs.inner.Layouts.{checksum_from, counted_bytes, place_of, places};
 
 // The checksum is taken modulo this prime.
 const PRIME: u64 = 1_073_741_741;
+
+// A value below 2^32, doubled this often with a byte's place added each time, is below 2^64.
+const MOST_AT_ONCE: usize = 31;
 
 // The place of each byte among the 96 characters of a file, and 96 where it is none of them (GB_IO, imap_chr).
 #[rattlefmt::skip]
@@ -44,22 +47,37 @@ pub(crate) fn has_star(line: &[u8]) -> bool
     !line.is_empty() && line[0] == b'*'
 }
 
-// The checksum after these bytes, from the checksum before them.
-#[tactic(auto, unfolding(crate::specs::inner::Layouts::checksum_from))]
+// The checksum after these bytes, from the checksum before them: a remainder is taken for many bytes at once.
 fn checksum_from(sum: u32, bytes: &[u8]) -> u32
     ensures { result ≡ checksum_from sum bytes.now }
 {
-    bytes
-        .iter()
-        .fold(sum, |before, byte| checksum_after(before, *byte))
+    let mut after = sum;
+    let mut rest = bytes;
+    while !rest.is_empty() {
+        let (few, others) = rest.split_at(rest.len().min(MOST_AT_ONCE));
+        after = remainder(value_after(after, few));
+        rest = others;
+    }
+    after
 }
 
-// The checksum after one byte more.
-#[tactic(auto, unfolding(crate::specs::inner::Layouts::checksum_after))]
-fn checksum_after(sum: u32, byte: u8) -> u32
-    ensures { result ≡ checksum_after sum byte }
+// A number with this remainder, and that of the checksum after these bytes: as it is made with no remainder taken.
+fn value_after(sum: u32, bytes: &[u8]) -> u64
+    requires { length bytes.now ≤ 31 }
+    ensures { result % checksum_prime ≡ checksum_from (sum % checksum_prime) bytes.now }
 {
-    ((2 * u64::from(sum) + u64::from(place_of(byte))) % PRIME) as u32
+    let mut value = u64::from(sum);
+    for byte in bytes {
+        value = 2 * value + u64::from(place_of(*byte));
+    }
+    value
+}
+
+// The remainder of a number.
+fn remainder(value: u64) -> u32
+    ensures { result ≡ value % checksum_prime }
+{
+    (value % PRIME) as u32
 }
 
 // The place of a byte.

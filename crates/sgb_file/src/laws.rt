@@ -1,9 +1,11 @@
-ghost use Rattle.std.specs.Prelude.{ℕ, List, ◌↔◌, ◌≡◌, ◌<◌, ◌≤◌, ◌++◌, All, Ok, Some, length};
+ghost use Rattle.std.specs.Prelude.{ℕ, List, ◌↔◌, ◌≡◌, ◌<◌, ◌≤◌, ◌++◌, ◌⊎◌, All, Ok, Err, Some, length};
+ghost use Rattle.sgb_vec.specs.declared.panics.Panic.TheVariants.{Early, Late, Syntax};
 ghost use Rattle.sgb_graph.specs.Graphs.{GraphData};
 ghost use Rattle.sgb_file.specs.Checksum.{IsOrder, checksum, running_checksum};
 ghost use Rattle.sgb_file.specs.Fields.{Found};
 ghost use Rattle.sgb_file.specs.Files.{IsFileOf};
 ghost use Rattle.sgb_file.specs.Records.{Head, records_at};
+ghost use Rattle.sgb_file.specs.Refused.{HasNoClosing, HasNoOpening, HasNoRecords, HasUnsoundLists};
 ghost use Rattle.sgb_file.specs.Restoring.{graph_of_text, head_of_line};
 ghost use Rattle.sgb_file.specs.Saved.{CanBeChecked, CanBeSaved};
 ghost use Rattle.sgb_file.specs.Saving.{breaks_of, most_line_bytes, part_from_break, record_lines, text_of_graph};
@@ -27,6 +29,16 @@ pub fn running_checksum_law()
 /// A text is read as a graph exactly where it is a file of that graph (GB_SAVE, restore_graph).
 pub fn read_text_law()
     ensures { (g : GraphData) (text : List ℕ) → (graph_of_text text ≡ Ok g) ↔ IsFileOf g text }
+{}
+
+/// The code of a text that is a file of no graph, by what its lines are (GB_SAVE, restore_graph): 10 exactly where no
+/// comments and first line stand at its beginning; else 20 where no records of a graph come next that the first line
+/// counts; else 11 where no line with their checksum comes next; else 20 where the lists are not sound.
+pub fn refused_text_law()
+    ensures early { (text : List ℕ) → (graph_of_text text ≡ Err Early) ↔ HasNoOpening text }
+    ensures syntax { (text : List ℕ) → (graph_of_text text ≡ Err Syntax)
+        ↔ (HasNoRecords text ⊎ HasUnsoundLists text) }
+    ensures late { (text : List ℕ) → (graph_of_text text ≡ Err Late) ↔ HasNoClosing text }
 {}
 
 /// What the records of a file say, after a first line, fits its kinds and is within all limits; what may be

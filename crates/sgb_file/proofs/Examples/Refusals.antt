@@ -32,6 +32,38 @@ pub nineteen_digits : graph_of_text (text_of_lines (nothing_lines ++ codes "* Ch
 unfolding lines_among without_end_spaces weighted_sum unbroken more_fields_at all_at opening_of ends_from numbers_from
 nineteen_digits = refl
 
+-- a line before that of the checksum
+pub line_between : graph_of_text (text_of_lines (nothing_lines ++ [] ∷ codes "* Checksum 18619" ∷ [])) ≡ Err Late
+unfolding lines_among without_end_spaces weighted_sum unbroken more_fields_at all_at opening_of ends_from numbers_from
+line_between = refl
+
+-- a field too many and a wrong checksum: the record's code
+pub record_and_checksum : graph_of_text (text_of_lines (
+    codes "* GraphBase graph (util_types ZZZZZZZZZZZZZZ,0V,0A)"
+    ∷ codes "\"a\",0,0,0"
+    ∷ codes "* Vertices"
+    ∷ codes "* Arcs"
+    ∷ codes "* Checksum 0" ∷ [])) ≡ Err Syntax
+unfolding lines_among without_end_spaces weighted_sum unbroken more_fields_at all_at opening_of ends_from numbers_from
+record_and_checksum = refl
+
+-- a ring and a wrong checksum: the checksum's code
+pub ring_and_checksum : graph_of_text (text_of_lines (
+    codes "* GraphBase graph (util_types ZZZZZZZZZZZZZZ,1V,1A)"
+    ∷ codes "\"ring\",1,1"
+    ∷ codes "* Vertices"
+    ∷ codes "\"x\",A0"
+    ∷ codes "* Arcs"
+    ∷ codes "V0,A0,1"
+    ∷ codes "* Checksum 0" ∷ [])) ≡ Err Late
+unfolding lines_among without_end_spaces weighted_sum unbroken more_fields_at all_at opening_of ends_from numbers_from
+ring_and_checksum = refl
+
+-- a record whose line ends in a tab (9), which is no space
+pub tab_after_record : graph_of_text (ring_text (codes "V0,0,1" ++ 9 ∷ [])) ≡ Err Syntax
+unfolding lines_among without_end_spaces weighted_sum unbroken more_fields_at all_at opening_of ends_from numbers_from
+tab_after_record = refl
+
 -- a ring of one record
 pub ring_of_one : graph_of_text (ring_text (codes "V0,A0,1")) ≡ Err Syntax
 unfolding lines_among without_end_spaces weighted_sum unbroken more_fields_at all_at opening_of ends_from numbers_from
