@@ -9,6 +9,8 @@ pub mod DrawnNumbers
 pub mod Endings
 -- values of entries
 pub mod EntryValues
+-- answers on small graphs
+pub mod ExamplesAnswers
 -- answers of flips
 pub mod ExamplesFlips
 -- what a run leaves that reads standard input first

@@ -187,12 +187,12 @@ pub named_by_members : (l : Local) (members : List (List ℕ)) → members ≡ v
 named_by_members l members same = named_by_vectors l ∙ ap (map name_of_vector) (sym same)
 
 -- the names of a generator's vertices, from the members of its family
-pub named_local : {T : Type 0} (v : Result Description Panic) (l : Local) (members : List (List ℕ)) (resume : Resume) (out : Change) (r : Result T Fault)
-    → v ≡ Ok (described l) → members ≡ vectors_of l → IsEnded (names_answer (map name_of_vector members) resume) out r
-    → IsEnded (answer_from (made v) (λ g. names_answer (names_of g) resume)) out r
-named_local {T = T} v l members resume out r e same p =
-    subst (λ (u : Result Description Panic). IsEnded {T = T} (answer_from (made u) (λ g. names_answer (names_of g) resume)) out r) (sym e)
-    (subst (λ (ns : List (List ℕ)). IsEnded {T = T} (names_answer ns resume) out r) (sym (named_by_members l members same)) p)
+pub named_local : {T : Type 0} (v : Result Description Panic) (l : Local) (members : List (List ℕ)) (resume : Resume) (same : Type 0) (out : Change) (r : Result T Fault)
+    → v ≡ Ok (described l) → members ≡ vectors_of l → IsEnded (names_answer (map name_of_vector members) resume) same out r
+    → IsEnded (answer_from (made v) (λ g. names_answer (names_of g) resume)) same out r
+named_local {T = T} v l members resume same out r e vectors p =
+    subst (λ (u : Result Description Panic). IsEnded {T = T} (answer_from (made u) (λ g. names_answer (names_of g) resume)) same out r) (sym e)
+    (subst (λ (ns : List (List ℕ)). IsEnded {T = T} (names_answer ns resume) same out r) (sym (named_by_members l members vectors)) p)
 
 -- the block of a vertex is that of its vector
 block_of_vector : (l : Local) (v : ℕ) (x : List ℕ) → slice_get (vectors_of l) v ≡ Some x → block (graph_described (described l)) v ≡ local_block l x

@@ -9,19 +9,19 @@ use Rattle.sgb_requests.specs.declared.faults.Fault.{Fault}
 use Rattle.sgb_requests.specs.declared.requests.Request.{Request}
 
 -- the words make a request, and it was run
-pub program_ran : {W E : Type 0} (words : Result W E) (texts : W → List (List ℕ)) (kind : E → ErrorKind) (r : Request) (source : Input) (out err : Change) (status : ℕ)
+pub program_ran : {W E : Type 0} (words : Result W E) (texts : W → List (List ℕ)) (kind : E → ErrorKind) (r : Request) (source : Input) (same : Type 0) (out err : Change) (status : ℕ)
     → MatchResult words (λ w. IsCommandLineReadAs (texts w) (Ok r)) (λ e. ◌≡◌ {A = Result Request Fault} (Ok r) (Err (unread_fault (kind e))))
-    → IsRunOn r source out err status
-    → MatchResult words (λ w. IsProgramRun (texts w) source out err status) (λ e. IsReported (unread_fault (kind e)) out err status)
-program_ran (Ok w) texts kind r source out err status is run = inl (r, is, run)
-program_ran (Err e) texts kind r source out err status is run = absurd cc
+    → IsRunOn r source same out err status
+    → MatchResult words (λ w. IsProgramRun (texts w) source same out err status) (λ e. IsReported (unread_fault (kind e)) same out err status)
+program_ran (Ok w) texts kind r source same out err status is run = inl (r, is, run)
+program_ran (Err e) texts kind r source same out err status is run = absurd cc
 
 -- they are refused, and that was reported
-pub program_refused : {W E : Type 0} (words : Result W E) (texts : W → List (List ℕ)) (kind : E → ErrorKind) (f : Fault) (source : Input) (out err : Change) (status : ℕ)
+pub program_refused : {W E : Type 0} (words : Result W E) (texts : W → List (List ℕ)) (kind : E → ErrorKind) (f : Fault) (source : Input) (same : Type 0) (out err : Change) (status : ℕ)
     → MatchResult words (λ w. IsCommandLineReadAs (texts w) (Err f)) (λ e. ◌≡◌ {A = Result Request Fault} (Err f) (Err (unread_fault (kind e))))
-    → IsReported f out err status
-    → MatchResult words (λ w. IsProgramRun (texts w) source out err status) (λ e. IsReported (unread_fault (kind e)) out err status)
-program_refused (Ok w) texts kind f source out err status is reported = inr (f, is, reported)
-program_refused (Err e) texts kind f source out err status is reported =
-    let same : f ≡ unread_fault (kind e) = cc in
-    subst (λ (g : Fault). IsReported g out err status) same reported
+    → IsReported f same out err status
+    → MatchResult words (λ w. IsProgramRun (texts w) source same out err status) (λ e. IsReported (unread_fault (kind e)) same out err status)
+program_refused (Ok w) texts kind f source same out err status is reported = inr (f, is, reported)
+program_refused (Err e) texts kind f source same out err status is reported =
+    let alike : f ≡ unread_fault (kind e) = cc in
+    subst (λ (g : Fault). IsReported g same out err status) alike reported

@@ -21,7 +21,7 @@ use Rattle.sgb_file.specs.Reading.{IsReadOf}
 use Rattle.sgb_file.specs.Saving.{text_of_graph}
 use Rattle.sgb_file.specs.Devices.{Change}
 use Rattle.sgb.specs.Inputs.{IsKept}
-use Rattle.sgb.specs.Outcomes.{answer_from, answer_of, list_answer, names_answer, outcome_of, reads_input}
+use Rattle.sgb.specs.Outcomes.{answer_from, answer_of, list_answer, names_answer, reads_input}
 use Rattle.sgb.specs.Runs.{Input, IsRunFrom, IsRunOn, fails_to_read}
 use Rattle.sgb.specs.Values.{IsValue, both, entry_value, handed_entries, made, most_input, stdin_value, value_of, values_of}
 use Rattle.sgb.specs.declared.evaluation.entries.EntryValue.TheVariants as value
@@ -118,13 +118,13 @@ pub answer_unread : (r : Request) (a b : List ℕ) → reads_input r ≡ false �
 answer_unread r a b unread = answer_same r a b (λ reads. absurd (both_ways (reads_input r) unread reads))
 
 -- what is kept of standard input is as good as all of it
-pub run_on : (r : Request) (source : Input) (kept : List ℕ) (out err : Change) (status : ℕ) → (reads_input r ≡ true → IsKept source.bytes kept)
-    → IsRunFrom (fails_to_read r source) (outcome_of (answer_of r kept)) out err status → IsRunOn r source out err status
-run_on r source kept out err status is run = by_told source.bytes is
+pub run_on : (r : Request) (source : Input) (kept : List ℕ) (same : Type 0) (out err : Change) (status : ℕ) → (reads_input r ≡ true → IsKept source.bytes kept)
+    → IsRunFrom (fails_to_read r source) (answer_of r kept) same out err status → IsRunOn r source same out err status
+run_on r source kept same out err status is run = by_told source.bytes is
   where
     by_told : (told : Option (List ℕ)) → (reads_input r ≡ true → IsKept told kept)
-        → (held : List ℕ) × IfSome told (λ bytes. held ≡ bytes) × IsRunFrom (fails_to_read r source) (outcome_of (answer_of r held)) out err status
+        → (held : List ℕ) × IfSome told (λ bytes. held ≡ bytes) × IsRunFrom (fails_to_read r source) (answer_of r held) same out err status
     by_told None is = (kept, tt, run)
     by_told (Some bytes) is =
-        let same = answer_same r kept bytes (λ reads. ap stdin_value (is reads) ∙ stdin_cut bytes) in
-        (bytes, refl, subst (λ a. IsRunFrom (fails_to_read r source) (outcome_of a) out err status) same run)
+        let alike = answer_same r kept bytes (λ reads. ap stdin_value (is reads) ∙ stdin_cut bytes) in
+        (bytes, refl, subst (λ a. IsRunFrom (fails_to_read r source) a same out err status) alike run)

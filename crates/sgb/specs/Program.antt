@@ -17,16 +17,17 @@ unread_fault OutOfMemory = fault.Panic NoRoom
 unread_fault _ = fault.Usage
 
 -- the words make a request, and a run answered it
-abbrev pub IsRequestRun : List (List ℕ) → Input → Change → Change → ℕ → Type 0
-IsRequestRun words source out err status = (r : Request) × IsRequest words r × IsRunOn r source out err status
+abbrev pub IsRequestRun : List (List ℕ) → Input → Type 0 → Change → Change → ℕ → Type 0
+IsRequestRun words source same out err status = (r : Request) × IsRequest words r × IsRunOn r source same out err status
 
 -- the words are refused with a fault, and it was reported
-abbrev pub IsRefusalReported : List (List ℕ) → Change → Change → ℕ → Type 0
-IsRefusalReported words out err status = (f : Fault) × IsRefusedCommandLine words f × IsReported f out err status
+abbrev pub IsRefusalReported : List (List ℕ) → Type 0 → Change → Change → ℕ → Type 0
+IsRefusalReported words same out err status = (f : Fault) × IsRefusedCommandLine words f × IsReported f same out err status
 
--- a run of the program with these words leaves this: what they ask for was answered, or their refusal was reported
-abbrev pub IsProgramRun : List (List ℕ) → Input → Change → Change → ℕ → Type 0
-IsProgramRun words source out err status = IsRequestRun words source out err status ⊎ IsRefusalReported words out err status
+-- a run of the program with these words leaves this: what they ask for was answered, or their refusal was reported;
+-- `same` says that the output is as it was
+abbrev pub IsProgramRun : List (List ℕ) → Input → Type 0 → Change → Change → ℕ → Type 0
+IsProgramRun words source same out err status = IsRequestRun words source same out err status ⊎ IsRefusalReported words same out err status
 
 -- the words make no request that reads standard input
 abbrev pub AskForNoInput : List (List ℕ) → Type 0

@@ -1,5 +1,5 @@
 -- What a run leaves in its sinks, by what standard input gives.
-use Rattle.std.specs.Prelude.{◌≡◌, ◌⊎◌, ◌&&◌, ℕ, Bool, false, List, Option, IfSome}
+use Rattle.std.specs.Prelude.{◌≡◌, ◌⊎◌, ◌&&◌, ℕ, Bool, false, List, Option, IfSome, IfErr, Result}
 use Rattle.std.specs.Bool.{MatchBool}
 use Rattle.std.specs.Io.KnownBytes.{Appends}
 use Rattle.sgb_vec.specs.declared.panics.Panic.TheVariants.{NoRoom}
@@ -29,17 +29,21 @@ IsRunOf answer out err status = MatchBool out.failed
     (IsStopped fault.Write answer out err status)
     (IsGiven answer out err status ⊎ IsStopped (fault.Panic NoRoom) answer out err status)
 
--- only this fault was reported: nothing was written to the output, its line to standard error unless that failed,
--- and its status was returned
-pub record IsReported (f : Fault) (out err : Change) (status : ℕ) : Type 0 where
+-- Only this fault was reported: nothing was written to the output, its line to standard error unless that failed,
+-- and its status was returned. `same` says that the output is as it was: there was neither a put nor a flush.
+pub record IsReported (f : Fault) (same : Type 0) (out err : Change) (status : ℕ) : Type 0 where
+  pub left : same
   pub untouched : out.after ≡ out.before
   pub sound : out.failed ≡ false
   pub line : AppendsUnlessFailed err (line_of f)
   pub exit : status ≡ status_of f
 
--- what a run leaves: where standard input was read and failed, this was reported and nothing else done
-abbrev pub IsRunFrom : Bool → Outcome → Change → Change → ℕ → Type 0
-IsRunFrom failed answer out err status = MatchBool failed (IsReported fault.Read out err status) (IsRunOf answer out err status)
+-- what a run leaves: where standard input was read and failed, this was reported and nothing else done; where the request
+-- is refused the output is as it was, also out of memory
+abbrev pub IsRunFrom : Bool → Result (List ℕ) Fault → Type 0 → Change → Change → ℕ → Type 0
+IsRunFrom failed answer same out err status = MatchBool failed
+    (IsReported fault.Read same out err status)
+    (IsRunOf (outcome_of answer) out err status × IfErr answer (λ f. same))
 
 -- the bytes that standard input tells before a run, and whether it has failed afterwards
 pub record Input : Type 0 where
@@ -52,7 +56,7 @@ fails_to_read r source = reads_input r && source.failed
 
 -- a run that answers this request leaves this: standard input holds a text, the one that it tells, on which the request is
 -- answered (one that does not read it is answered alike on every text: input_unread_law)
-abbrev pub IsRunOn : Request → Input → Change → Change → ℕ → Type 0
-IsRunOn r source out err status =
+abbrev pub IsRunOn : Request → Input → Type 0 → Change → Change → ℕ → Type 0
+IsRunOn r source same out err status =
     (held : List ℕ) × IfSome source.bytes (λ bytes. held ≡ bytes)
-    × IsRunFrom (fails_to_read r source) (outcome_of (answer_of r held)) out err status
+    × IsRunFrom (fails_to_read r source) (answer_of r held) same out err status

@@ -1,5 +1,5 @@
 //! A call of the program, from its words to its bytes and its exit status.
-ghost use Rattle.std.specs.Prelude.{◌≡◌, ◌+◌, Ok, Err, MatchResult, false, map};
+ghost use Rattle.std.specs.Prelude.{◌≡◌, ◌+◌, [], Ok, Err, MatchResult, false, map};
 ghost use Rattle.std.specs.IoError.{error_kind};
 ghost use Rattle.std.specs.String.{string_bytes};
 ghost use Rattle.sgb_file.specs.Devices.{change};
@@ -33,13 +33,16 @@ pub fn run_program<R: Source, W: Sink, E: Sink>(
     ensures read { MatchResult words
         (λ words. IsProgramRun (map string_bytes words.items)
         (record { bytes = R.remaining source.old; failed = R.has_failed source.new })
+        (out.new ≡ out.old)
         (change W.written W.has_failed out.old out.new)
         (change E.written E.has_failed errors.old errors.new)
         result)
         (λ error. IsReported (unread_fault (error_kind error))
+        (out.new ≡ out.old)
         (change W.written W.has_failed out.old out.new)
         (change E.written E.has_failed errors.old errors.new)
         result) }
+    ensures flushed { result ≡ 0 → W.held out.new ≡ [] }
     ensures unread { MatchResult words
         (λ words. AskForNoInput (map string_bytes words.items) → source.new ≡ source.old)
         (λ error. source.new ≡ source.old) }

@@ -1,5 +1,6 @@
 //! Requests answered: evaluation, output, the line of a fault and the exit status.
-ghost use Rattle.std.specs.Prelude.{◌≡◌, ◌≢◌, ◌+◌, ◌++◌, ◌&&◌, ℕ, List, [], Ok, Err, true, false};
+ghost use Rattle.std.specs.Prelude.{◌≡◌, ◌≢◌, ◌+◌, ◌++◌, ◌&&◌, ℕ, List, [], Ok, Err, IfErr, OnOk, is_err, true, false};
+ghost use Rattle.std.specs.Io.KnownBytes.{Keeps};
 ghost use Rattle.sgb_file.specs.Devices.{change};
 ghost use Rattle.sgb_vec.specs.declared.panics.Panic.TheVariants.{NoRoom};
 ghost use Rattle.sgb_expr.specs.Expression.{expression_of};
@@ -29,7 +30,8 @@ use std::alloc::Global;
 
 /// Answers a request: writes its output to `out`, or the line of a fault to `errors`, and returns the exit status. The
 /// answer is that of the definitions, unless `out` fails (3, a prefix of the output) or memory runs out (1, a prefix of
-/// the output). An answer that is given in full ends with one flush of `out`.
+/// the output). An answer that is given in full ends with one flush of `out`, which then holds nothing back. A request
+/// that is refused, or whose input fails, leaves `out` as it was, with no put and no flush.
 ///
 /// `source` is standard input. It is read, once and whole, only if the request's expression has `stdin`, and before all
 /// else; where it fails nothing is written (3). Of more than 2^30 bytes only so many and one more are read.
@@ -43,9 +45,11 @@ pub fn run<R: Source, W: Sink, E: Sink>(
     requires { W.has_failed out.old ≡ false }
     ensures answers { IsRunOn request.now
         (record { bytes = R.remaining source.old; failed = R.has_failed source.new })
+        (out.new ≡ out.old)
         (change W.written W.has_failed out.old out.new)
         (change E.written E.has_failed errors.old errors.new)
         result }
+    ensures flushed { result ≡ 0 → W.held out.new ≡ [] }
     // What the request asks for is never that memory runs out: code 1 is the machine's alone.
     ensures apart { (input : List ℕ) → answer_of request.now input ≢ Err (Fault.Panic NoRoom) }
     ensures unread { reads_input request.now ≡ false → source.new ≡ source.old }
@@ -69,14 +73,25 @@ fn answer<R: Source, W: Sink>(
     ensures ended { (kept : List ℕ)
         × (reads_input request.now ≡ true → IsKept (R.remaining source.old) kept)
         × IsEndedFrom (reads_input request.now && R.has_failed source.new)
-        (answer_of request.now kept)
+        (answer_of request.now kept) (out.new ≡ out.old)
         (change W.written W.has_failed out.old out.new) result }
+    ensures flushed { OnOk result (W.held out.new ≡ []) }
     ensures unread { reads_input request.now ≡ false → source.new ≡ source.old }
     ensures bounded { LosesAtMost (most_input + 1) (R.remaining source.old)
         (R.remaining source.new) }
 {
     let input = input_for(alloc, request, source)?;
     write_answer(alloc, request, input.as_slice(), out)?;
+    pass_on(out)
+}
+
+// Passes on what the sink holds back.
+fn pass_on<W: Sink>(out: &mut W) -> Result<(), Fault>
+    ensures kept { Keeps (W.written out.old) (W.written out.new) }
+    ensures flushed { OnOk result (W.held out.new ≡ []) }
+    ensures failed { W.has_failed out.new ≡ is_err result }
+    ensures fault { IfErr result (λ f. f ≡ Fault.Write) }
+{
     match out.flush() {
         Ok(()) => Ok(()),
         Err(_) => Err(Fault::Write),
@@ -92,7 +107,7 @@ fn write_answer<W: Sink>(
 ) -> Result<(), Fault>
     requires { W.has_failed out.old ≡ false }
     ensures { IsEnded (answer_of request.now input.now)
-        (change W.written W.has_failed out.old out.new) result }
+        (out.new ≡ out.old) (change W.written W.has_failed out.old out.new) result }
 {
     match request {
         Request::Names(expression, resume) => answer_names(alloc, expression, input, resume, out),
@@ -113,8 +128,8 @@ fn answer_names<W: Sink>(
 ) -> Result<(), Fault>
     requires { W.has_failed out.old ≡ false }
     ensures { IsEnded (answer_from (value_of input.now (expression_of expression.now))
-        (λ g. names_answer (names_of g) resume.now)) (change W.written W.has_failed out.old out.new)
-        result }
+        (λ g. names_answer (names_of g) resume.now)) (out.new ≡ out.old)
+        (change W.written W.has_failed out.old out.new) result }
 {
     if let Expr::Generator(generator) = expression {
         return answer_generator_names(alloc, generator, resume, out);
@@ -132,8 +147,8 @@ fn answer_generator_names<W: Sink>(
 ) -> Result<(), Fault>
     requires { W.has_failed out.old ≡ false }
     ensures { IsEnded (answer_from (made (generator_value generator.now))
-        (λ g. names_answer (names_of g) resume.now)) (change W.written W.has_failed out.old out.new)
-        result }
+        (λ g. names_answer (names_of g) resume.now)) (out.new ≡ out.old)
+        (change W.written W.has_failed out.old out.new) result }
 {
     match local_of(alloc, generator)? {
         Local::Board(board) => write_names(board.family(), resume, out),
@@ -152,7 +167,8 @@ fn answer_list<W: Sink>(
 ) -> Result<(), Fault>
     requires { W.has_failed out.old ≡ false }
     ensures { IsEnded (answer_from (value_of input.now (expression_of expression.now))
-        (λ g. list_answer g resume.now)) (change W.written W.has_failed out.old out.new) result }
+        (λ g. list_answer g resume.now)) (out.new ≡ out.old)
+        (change W.written W.has_failed out.old out.new) result }
 {
     if let Expr::Generator(generator) = expression {
         return answer_generator_list(alloc, generator, resume, out);
@@ -170,7 +186,8 @@ fn answer_generator_list<W: Sink>(
 ) -> Result<(), Fault>
     requires { W.has_failed out.old ≡ false }
     ensures { IsEnded (answer_from (made (generator_value generator.now))
-        (λ g. list_answer g resume.now)) (change W.written W.has_failed out.old out.new) result }
+        (λ g. list_answer g resume.now)) (out.new ≡ out.old)
+        (change W.written W.has_failed out.old out.new) result }
 {
     let local = local_of(alloc, generator)?;
     let mut links = Links::new(alloc);
@@ -190,7 +207,8 @@ fn answer_save<W: Sink>(
 ) -> Result<(), Fault>
     requires { W.has_failed out.old ≡ false }
     ensures { IsEnded (answer_from (value_of input.now (expression_of expression.now))
-        (λ g. Ok (text_of_graph g))) (change W.written W.has_failed out.old out.new) result }
+        (λ g. Ok (text_of_graph g))) (out.new ≡ out.old)
+        (change W.written W.has_failed out.old out.new) result }
 {
     let graph = graph_of(alloc, expression, input)?;
     write_file(&graph, out)
@@ -201,7 +219,7 @@ fn answer_queen<W: Sink>(alloc: Global, out: &mut W) -> Result<(), Fault>
     requires { W.has_failed out.old ≡ false }
     ensures { IsEnded (answer_from (value_of [] queen_moves)
         (λ g. Ok (queen_title ++ (head g ++ blocks g 0))))
-        (change W.written W.has_failed out.old out.new) result }
+        (out.new ≡ out.old) (change W.written W.has_failed out.old out.new) result }
 {
     let graph = queen_moves(alloc)?;
     write_titled_listing(b"Queen Moves on a 3x4 Board\n\n", &graph, out)

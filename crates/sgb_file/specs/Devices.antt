@@ -1,5 +1,5 @@
 -- What sources give and sinks take, where they tell their bytes, and when a device has failed.
-use Rattle.std.specs.Prelude.{◌≡◌, ℕ, ◌++◌, ◌-◌, ◌||◌, ◌==◌, min, take, drop, length, Bool, true, List, Option, Result, Ok, Err}
+use Rattle.std.specs.Prelude.{◌≡◌, ℕ, ◌++◌, ◌-◌, ◌||◌, ◌==◌, min, take, drop, length, Bool, true, List, [], Option, Result, Ok, Err}
 use Rattle.std.specs.Bool.{MatchBool}
 use Rattle.std.specs.Io.KnownBytes.{Appends}
 
@@ -25,6 +25,10 @@ AppendsUnlessFailed sink bs = MatchBool sink.failed (AppendsPrefix sink.before s
 abbrev pub IsPut : {T E : Type 0} → List ℕ → Change → Result T E → Type 0
 IsPut bs sink (Ok x) = Appends sink.before sink.after bs
 IsPut bs sink (Err e) = AppendsPrefix sink.before sink.after bs × (sink.failed ≡ true)
+
+-- what a sink holds back that passes on all that it takes at once
+abbrev pub nothing_held : List ℕ
+nothing_held = []
 
 -- a sink in memory: the bytes that it took, how many it has memory for, and whether it has failed
 pub record MemSinkState : Type 0 where

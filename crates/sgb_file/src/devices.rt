@@ -1,6 +1,6 @@
 //! Where bytes come from and go to: sources and sinks that may fail, over memory, over std's readers and
 //! writers, and cut short for tests.
-ghost use Rattle.std.specs.Prelude.{◌≡◌, ℕ, ◌<◌, ◌≤◌, Bool, true, List, Option, length, is_err, IfOk};
+ghost use Rattle.std.specs.Prelude.{◌≡◌, ℕ, ◌<◌, ◌≤◌, Bool, true, List, [], Option, length, is_err, IfOk, OnOk};
 ghost use Rattle.std.specs.Io.{ReadsAtMost, WritesAtMost};
 ghost use Rattle.std.specs.Io.KnownBytes.{ReadConsumes, WriteAppends, Keeps};
 
@@ -53,6 +53,9 @@ pub trait Sink {
     // The bytes that the sink holds, where it tells them.
     ghost written: { Self → Option (List ℕ) };
 
+    // The bytes that it was given and holds back until a flush.
+    ghost held: { Self → List ℕ };
+
     // Whether the sink has failed.
     ghost has_failed: { Self → Bool };
 
@@ -65,9 +68,11 @@ pub trait Sink {
         ensures failed { has_failed self.new ≡ is_err result }
         ensures stays_failed { has_failed self.old ≡ true → has_failed self.new ≡ true };
 
-    /// Passes on what the sink holds back. `Failed` exactly where `failed()` is true afterwards.
+    /// Passes on what the sink holds back, so that it holds nothing. `Failed` exactly where `failed()` is true
+    /// afterwards.
     fn flush(&mut self) -> Result<(), Failed>
         ensures kept { Keeps (written self.old) (written self.new) }
+        ensures passed_on { OnOk result (held self.new ≡ []) }
         ensures failed { has_failed self.new ≡ is_err result }
         ensures stays_failed { has_failed self.old ≡ true → has_failed self.new ≡ true };
 

@@ -48,24 +48,25 @@ distances_only g u xs ys x y =
     one_distance g u v (get_or xs v None) (get_or ys v None) (x.each v inside) (y.each v inside))
 
 -- the lines of the distances that were found are the answer
-written_is : {T : Type 0} (g : GraphData) (found : List (Option ℕ)) (a : Result (List ℕ) Fault) (out : Change) (r : Result T Fault)
-    → AreDistances g 0 found → IsWritten (level_lines (names_of g) found 0) out r → IsLevelsAnswer (Ok g) a → IsEnded a out r
-written_is {T = T} g found (Ok text) out r are written (distances, also, is) =
-    let same : level_lines (names_of g) found 0 ≡ text = ap (λ ds. level_lines (names_of g) ds 0) (distances_only g 0 found distances are also) ∙ sym is in
-    subst (λ t. IsWritten {T = T} t out r) same written
-written_is g found (Err f) out r are written answer = absurd answer
+written_is : {T : Type 0} (g : GraphData) (found : List (Option ℕ)) (a : Result (List ℕ) Fault) (same : Type 0) (out : Change) (r : Result T Fault)
+    → AreDistances g 0 found → IsWritten (level_lines (names_of g) found 0) out r → IsLevelsAnswer (Ok g) a → IsEnded a same out r
+written_is {T = T} g found (Ok text) same out r are written (distances, also, is) =
+    let alike : level_lines (names_of g) found 0 ≡ text = ap (λ ds. level_lines (names_of g) ds 0) (distances_only g 0 found distances are also) ∙ sym is in
+    subst (λ t. IsWritten {T = T} t out r) alike written
+written_is g found (Err f) same out r are written answer = absurd answer
 
-pub answer_written : {T : Type 0} (v : Result GraphData Panic) (g : GraphData) (found : List (Option ℕ)) (a : Result (List ℕ) Fault) (out : Change) (r : Result T Fault)
-    → v ≡ Ok g → AreDistances g 0 found → IsWritten (level_lines (names_of g) found 0) out r → IsLevelsAnswer v a → IsEnded a out r
-answer_written v g found a out r is are written answer = written_is g found a out r are written (subst (λ (x : Result GraphData Panic). IsLevelsAnswer x a) is answer)
+pub answer_written : {T : Type 0} (v : Result GraphData Panic) (g : GraphData) (found : List (Option ℕ)) (a : Result (List ℕ) Fault) (same : Type 0) (out : Change) (r : Result T Fault)
+    → v ≡ Ok g → AreDistances g 0 found → IsWritten (level_lines (names_of g) found 0) out r → IsLevelsAnswer v a → IsEnded a same out r
+answer_written v g found a same out r is are written answer = written_is g found a same out r are written (subst (λ (x : Result GraphData Panic). IsLevelsAnswer x a) is answer)
 
 -- a graph that is refused is the answer
-refused_is : (T : Type 0) (p : Panic) (a : Result (List ℕ) Fault) (w : Option (List ℕ)) (failed : Bool) → failed ≡ false
-    → IsLevelsAnswer (Err p) a → IsEnded {T = T} a (change_of w w failed) (Err (fault.Panic p))
-refused_is T p (Ok text) w failed sound answer = absurd answer
-refused_is T p (Err f) w failed sound answer = refused_at_once T (Err f) (fault.Panic p) w failed (ap Err answer) sound
+refused_is : (T : Type 0) (p : Panic) (a : Result (List ℕ) Fault) (same : Type 0) (w : Option (List ℕ)) (failed : Bool) → failed ≡ false → same
+    → IsLevelsAnswer (Err p) a → IsEnded {T = T} a same (change_of w w failed) (Err (fault.Panic p))
+refused_is T p (Ok text) same w failed sound left answer = absurd answer
+refused_is T p (Err f) same w failed sound left answer = refused_at_once T (Err f) same (fault.Panic p) w failed (ap Err answer) sound left
 
-pub answer_refused : (T : Type 0) (v : Result GraphData Panic) (p : Panic) (a : Result (List ℕ) Fault) (w : Option (List ℕ)) (failed : Bool) → IsValue v (Err p) → failed ≡ false
-    → IsLevelsAnswer v a → IsEnded {T = T} a (change_of w w failed) (Err (fault.Panic p))
-answer_refused T v p a w failed (inl is) sound answer = refused_is T p a w failed sound (subst (λ (x : Result GraphData Panic). IsLevelsAnswer x a) is answer)
-answer_refused T v p a w failed (inr is) sound answer = subst (λ q. IsEnded {T = T} a (change_of w w failed) (Err (fault.Panic q))) (sym is) (memory_at_once T a w failed sound)
+pub answer_refused : (T : Type 0) (v : Result GraphData Panic) (p : Panic) (a : Result (List ℕ) Fault) (same : Type 0) (w : Option (List ℕ)) (failed : Bool) → IsValue v (Err p) → failed ≡ false → same
+    → IsLevelsAnswer v a → IsEnded {T = T} a same (change_of w w failed) (Err (fault.Panic p))
+answer_refused T v p a same w failed (inl is) sound left answer = refused_is T p a same w failed sound left (subst (λ (x : Result GraphData Panic). IsLevelsAnswer x a) is answer)
+answer_refused T v p a same w failed (inr is) sound left answer =
+    subst (λ q. IsEnded {T = T} a same (change_of w w failed) (Err (fault.Panic q))) (sym is) (memory_at_once T a same w failed sound left)

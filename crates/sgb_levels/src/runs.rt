@@ -90,7 +90,7 @@ fn write_answer<W: Sink>(
     requires { W.has_failed out.old ≡ false }
     ensures { (a : Result (List ℕ) Fault)
         → IsLevelsAnswer (value_of input.now (expression_of expression.now)) a
-        → IsEnded a (change W.written W.has_failed out.old out.new) result }
+        → IsEnded a (out.new ≡ out.old) (change W.written W.has_failed out.old out.new) result }
 {
     let graph = graph_of(alloc, expression, input)?;
     let distances = levels(alloc, &graph)?;

@@ -47,9 +47,11 @@ impl Counted {
 }
 
 impl Sink for Counted {
-    ghost use Rattle.std.specs.Prelude.{None};
+    ghost use Rattle.std.specs.Prelude.{None, []};
 
     ghost written = { λ sink. None };
+
+    ghost held = { λ _. [] };
 
     ghost has_failed = { λ sink. sink.failed };
 

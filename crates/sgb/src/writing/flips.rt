@@ -36,8 +36,8 @@ pub(crate) struct Draws {
 /// `Bad` where `skip` or `count` is not from 0 to 1,000,000,000, or `m` is not from 0 to 2^31.
 pub(crate) fn write_flip<W: Sink>(params: &FlipParams, out: &mut W) -> Result<(), Fault>
     requires { W.has_failed out.old ≡ false }
-    ensures { IsEnded (flip_answer params.now) (change W.written W.has_failed out.old out.new)
-        result }
+    ensures { IsEnded (flip_answer params.now) (out.new ≡ out.old)
+        (change W.written W.has_failed out.old out.new) result }
 {
     let draws = accepted_draws(params)?;
     write_draws(draws, out)

@@ -26,7 +26,7 @@ pub(crate) fn write_listing<W: Sink>(
 ) -> Result<(), Fault>
     requires { W.has_failed out.old ≡ false }
     ensures { IsEnded (list_answer graph.now resume.now)
-        (change W.written W.has_failed out.old out.new) result }
+        (out.new ≡ out.old) (change W.written W.has_failed out.old out.new) result }
 {
     let from = vertices_left_out(graph, resume)?;
     write_head_for(resume, graph, out)?;

@@ -24,7 +24,7 @@ pub(crate) fn write_names<F: Family, W: Sink>(
 ) -> Result<(), Fault>
     requires { W.has_failed out.old ≡ false }
     ensures { IsEnded (names_answer (map name_of_vector (F.members family.now)) resume.now)
-        (change W.written W.has_failed out.old out.new) result }
+        (out.new ≡ out.old) (change W.written W.has_failed out.old out.new) result }
 {
     let start = start_of(family, resume)?;
     write_all(vectors_after(family, slice_of(&start)), out)

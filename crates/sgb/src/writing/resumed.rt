@@ -33,7 +33,7 @@ pub(crate) fn list_resumed<F: Family, W: Sink>(
     requires members { F.members family.now ≡ vectors_of local.now }
     requires sound { W.has_failed out.old ≡ false }
     ensures { IsEnded (list_answer (graph_described (described local.now)) resume.now)
-        (change W.written W.has_failed out.old out.new) result }
+        (out.new ≡ out.old) (change W.written W.has_failed out.old out.new) result }
 {
     let start = start_of(family, resume)?;
     list_family(local, has_head(resume), slice_of(&start), links, out)

@@ -23,7 +23,7 @@ pub(crate) fn write_vertex_names<W: Sink>(
 ) -> Result<(), Fault>
     requires { W.has_failed out.old ≡ false }
     ensures { IsEnded (names_answer (names_of graph.now) resume.now)
-        (change W.written W.has_failed out.old out.new) result }
+        (out.new ≡ out.old) (change W.written W.has_failed out.old out.new) result }
 {
     let from = vertices_left_out(graph, resume)?;
     write_name_lines(graph, from, out)

@@ -1,61 +1,70 @@
 //! std's writers as sinks with a buffer before them, which is given up with the first fault.
-ghost use Rattle.std.specs.Prelude.{◌≡◌, true, false, IfOk, IfErr};
+ghost use Rattle.std.specs.Prelude.{◌≡◌, [], true, false, is_err, IfOk, IfErr, OnOk};
 ghost use Rattle.std.specs.Io.Buffered.{writer_buffer, writer_inner};
 ghost use Rattle.std.specs.IoError.{error_kind};
 
-use super::{Failed, Sink, ToWrite};
+use super::parts::{keep_fault, write_once};
+use super::{Failed, Sink};
 use std::alloc::Global;
 use std::io::{self, BufWriter, ErrorKind, Write};
 
 /// A writer as a sink, with a buffer before it. After its first fault nothing more is written: what the buffer holds
 /// then is dropped with it. It tells its bytes where the writer does.
 pub struct Buffered<W: Write + Drop> {
-    sink: ToWrite<BufWriter<W>>,
+    writer: BufWriter<W>,
+    failed: bool,
 }
 
 impl<W: Write + Drop> Buffered<W> {
     /// A sink that writes to `writer`. An error of the kind `OutOfMemory` when out of memory.
     pub fn new(alloc: Global, writer: W) -> io::Result<Buffered<W>>
-        ensures inner { IfOk result (λ s. writer_inner s.sink.inner ≡ writer) }
-        ensures sound { IfOk result (λ s. s.sink.failed ≡ false) }
+        ensures inner { IfOk result (λ s. writer_inner s.writer ≡ writer) }
+        ensures empty { IfOk result (λ s. writer_buffer s.writer ≡ []) }
+        ensures sound { IfOk result (λ s. s.failed ≡ false) }
         ensures memory { IfErr result (λ e. error_kind e ≡ ErrorKind.OutOfMemory) }
     {
         let writer = BufWriter::new(alloc, writer)?;
         Ok(Buffered {
-            sink: ToWrite::new(writer),
+            writer,
+            failed: false,
         })
     }
 }
 
 impl<W: Write + Drop> Sink for Buffered<W> {
-    ghost use Rattle.std.specs.Io.Buffered.{writer_contents};
+    ghost use Rattle.std.specs.Io.Buffered.{writer_buffer, writer_contents};
 
-    ghost written = { λ s. writer_contents W.contents s.sink.inner };
+    ghost written = { λ s. writer_contents W.contents s.writer };
 
-    ghost has_failed = { λ s. s.sink.failed };
+    ghost held = { λ s. writer_buffer s.writer };
+
+    ghost has_failed = { λ s. s.failed };
 
     /// Puts bytes into the buffer, and writes what it holds where they do not fit. `Failed` where the sink had failed
     /// or a write fails.
     fn put(&mut self, bytes: &[u8]) -> Result<usize, Failed> {
-        self.sink.put(bytes)
+        write_once(&mut self.writer, &mut self.failed, bytes)
     }
 
     /// Writes what the buffer holds and flushes the writer. `Failed` where the sink had failed, or one of the two
     /// fails.
     fn flush(&mut self) -> Result<(), Failed> {
-        self.sink.flush()
+        if self.failed {
+            return Err(Failed);
+        }
+        let returned = self.writer.flush();
+        keep_fault(&mut self.failed, returned)
     }
 
     /// Whether a write or a flush failed.
     fn failed(&self) -> bool {
-        self.sink.failed()
+        self.failed
     }
 }
 
 impl<W: Write + Drop> Drop for Buffered<W> {
     fn drop(self) {
-        let Buffered { sink } = self;
-        let (writer, failed) = sink.into_parts();
+        let Buffered { writer, failed } = self;
         if failed {
             let (_writer, _held) = writer.into_parts();
         } else {

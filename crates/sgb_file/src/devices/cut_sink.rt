@@ -1,8 +1,8 @@
 //! A sink that takes few bytes at once and fails after so many, for tests of what writes to it.
-ghost use Rattle.std.specs.Prelude.{◌≡◌, ◌<◌, [], true, false, ◌||◌, Some, IfOk, OnErr, length, is_err};
+ghost use Rattle.std.specs.Prelude.{◌≡◌, ◌<◌, [], true, false, ◌||◌, Some, IfOk, OnOk, OnErr, length, is_err};
 ghost use Rattle.std.specs.Io.{WritesAtMost};
 ghost use Rattle.std.specs.Io.KnownBytes.{WriteAppends, Keeps};
-ghost use Rattle.sgb_file.specs.Devices.{put_fails, put_count, after_put};
+ghost use Rattle.sgb_file.specs.Devices.{nothing_held, put_fails, put_count, after_put};
 
 use super::parts::give_up;
 use super::{Failed, Sink};
@@ -68,6 +68,8 @@ impl<const N: usize> CutSink<N> {
 impl<const N: usize> Sink for CutSink<N> {
     ghost written = { λ sink. Some sink.taken };
 
+    ghost held = { λ _. nothing_held };
+
     ghost has_failed = { λ sink. sink.failed };
 
     /// Takes a prefix of `bytes`. `Failed` where the sink had failed, has taken its limit or is full.
@@ -96,6 +98,7 @@ impl<const N: usize> Sink for CutSink<N> {
     /// Holds nothing back. `Failed` where the sink had failed, or was made to fail here.
     fn flush(&mut self) -> Result<(), Failed>
         ensures kept { Keeps (Some self.old.taken) (Some self.new.taken) }
+        ensures passed_on { OnOk result (nothing_held ≡ []) }
         ensures failed { self.new.failed ≡ is_err result }
         ensures stays_failed { self.old.failed ≡ true → self.new.failed ≡ true }
         ensures fails { is_err result ≡ (self.old.failed || self.old.flush_fails) }

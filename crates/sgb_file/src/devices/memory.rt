@@ -2,6 +2,7 @@
 ghost use Rattle.std.specs.Prelude.{◌≡◌, ◌+◌, ◌<◌, ◌++◌, [], true, false, Some, Ok, IsOk, IfOk, OnOk, OnErr, length, min, take, drop, is_err};
 ghost use Rattle.std.specs.Io.{ReadsAtMost, WritesAtMost};
 ghost use Rattle.std.specs.Io.KnownBytes.{ReadConsumes, WriteAppends, Keeps};
+ghost use Rattle.sgb_file.specs.Devices.{nothing_held};
 
 use super::parts::{copy_prefix, give_up};
 use super::{Failed, Sink, Source};
@@ -104,6 +105,8 @@ impl MemSink {
 impl Sink for MemSink {
     ghost written = { λ sink. Some sink.bytes };
 
+    ghost held = { λ _. nothing_held };
+
     ghost has_failed = { λ sink. sink.failed };
 
     /// Takes all of the bytes. `Failed` where the sink had failed or when out of memory: nothing was taken then.
@@ -132,6 +135,7 @@ impl Sink for MemSink {
     /// Changes nothing. `Failed` where the sink had failed.
     fn flush(&mut self) -> Result<(), Failed>
         ensures kept { Keeps (Some self.old.bytes) (Some self.new.bytes) }
+        ensures passed_on { OnOk result (nothing_held ≡ []) }
         ensures failed { self.new.failed ≡ is_err result }
         ensures stays_failed { self.old.failed ≡ true → self.new.failed ≡ true }
         ensures same { self.new ≡ self.old }

@@ -1,9 +1,11 @@
-//! What several devices do: copy bytes, give up, and keep a fault of std's.
-ghost use Rattle.std.specs.Prelude.{◌≡◌, ◌++◌, true, length, min, take, drop, is_ok, IsErr, if◌then◌else◌};
+//! What several devices do: copy bytes, give up, keep a fault of std's, and write once.
+ghost use Rattle.std.specs.Prelude.{◌≡◌, ◌<◌, ◌++◌, true, length, min, take, drop, is_err, is_ok, IfOk, IsErr, if◌then◌else◌};
+ghost use Rattle.std.specs.Io.{WritesAtMost};
+ghost use Rattle.std.specs.Io.KnownBytes.{WriteAppends};
 ghost use Rattle.std.specs.Result.{result_ok};
 
 use super::Failed;
-use std::io;
+use std::io::{self, Write};
 
 /// Copies as many bytes as both have to the start of `to`, and returns how many.
 pub(super) fn copy_prefix(from: &[u8], to: &mut [u8]) -> usize
@@ -33,4 +35,29 @@ pub(super) fn keep_fault<T>(failed: &mut bool, returned: io::Result<T>) -> Resul
         Ok(value) => Ok(value),
         Err(_) => give_up(failed),
     }
+}
+
+/// Writes once, and sets the flag where the write fails, also by an interrupt, or takes none of bytes that are not
+/// empty. Where the flag was set the writer is left alone.
+pub(super) fn write_once<W: Write>(
+    writer: &mut W,
+    failed: &mut bool,
+    bytes: &[u8],
+) -> Result<usize, Failed>
+    ensures bound { WritesAtMost result bytes.now }
+    ensures progress { IfOk result (λ count. 0 < length bytes.now → 0 < count) }
+    ensures took { WriteAppends (W.contents writer.old) (W.contents writer.new) result bytes.now }
+    ensures failed { failed.new ≡ is_err result }
+    ensures stays_failed { failed.old ≡ true → failed.new ≡ true }
+    ensures left_alone { failed.old ≡ true → writer.new ≡ writer.old }
+{
+    if *failed {
+        return Err(Failed);
+    }
+    let returned = writer.write(bytes);
+    let count = keep_fault(failed, returned)?;
+    if count == 0 && !bytes.is_empty() {
+        return give_up(failed);
+    }
+    Ok(count)
 }

@@ -1,9 +1,10 @@
 //! std's writers as sinks. The first fault of any kind is final, and so is a write that takes nothing.
-ghost use Rattle.std.specs.Prelude.{◌≡◌, ◌<◌, true, false, IfOk, length, is_err};
+ghost use Rattle.std.specs.Prelude.{◌≡◌, ◌<◌, [], true, false, IfOk, OnOk, length, is_err};
 ghost use Rattle.std.specs.Io.{WritesAtMost};
 ghost use Rattle.std.specs.Io.KnownBytes.{WriteAppends, Keeps};
+ghost use Rattle.sgb_file.specs.Devices.{nothing_held};
 
-use super::parts::{give_up, keep_fault};
+use super::parts::{keep_fault, write_once};
 use super::{Failed, Sink};
 use std::io::Write;
 use std::marker::Model;
@@ -37,19 +38,12 @@ impl<W> ToWrite<W> {
             failed: false,
         }
     }
-
-    /// The writer, and whether the sink has failed.
-    pub(super) fn into_parts(self) -> (W, bool)
-        ensures writer { result.0 ≡ self.inner }
-        ensures failed { result.1 ≡ self.failed }
-    {
-        let ToWrite { writer, failed } = self;
-        (writer, failed)
-    }
 }
 
 impl<W: Write> Sink for ToWrite<W> {
     ghost written = { λ sink. W.contents sink.inner };
+
+    ghost held = { λ _. nothing_held };
 
     ghost has_failed = { λ sink. sink.failed };
 
@@ -64,21 +58,14 @@ impl<W: Write> Sink for ToWrite<W> {
         ensures stays_failed { self.old.failed ≡ true → self.new.failed ≡ true }
         ensures left_alone { self.old.failed ≡ true → self.new ≡ self.old }
     {
-        if self.failed {
-            return Err(Failed);
-        }
-        let returned = self.writer.write(bytes);
-        let count = keep_fault(&mut self.failed, returned)?;
-        if count == 0 && !bytes.is_empty() {
-            return give_up(&mut self.failed);
-        }
-        Ok(count)
+        write_once(&mut self.writer, &mut self.failed, bytes)
     }
 
     /// Flushes the writer. `Failed` where the sink had failed, and then the writer is left alone, or where the
     /// flush fails.
     fn flush(&mut self) -> Result<(), Failed>
         ensures kept { Keeps (W.contents self.old.inner) (W.contents self.new.inner) }
+        ensures passed_on { OnOk result (nothing_held ≡ []) }
         ensures failed { self.new.failed ≡ is_err result }
         ensures stays_failed { self.old.failed ≡ true → self.new.failed ≡ true }
         ensures left_alone { self.old.failed ≡ true → self.new ≡ self.old }

@@ -1,6 +1,6 @@
 use Rattle.std.proofs.Common.{refl}
 use Rattle.std.proofs.lemmas.Result.{err_from_is_err_and}
-use Rattle.sgb.proofs.Endings.{flush_failed, flush_sound}
+use Rattle.sgb.proofs.Endings.{flush_ended}
 use Rattle.sgb.proofs.InputEndings.{read_refused, read_sound, some_kept}
 use Rattle.sgb.proofs.runs.answer.Goals as goal
 
@@ -8,7 +8,7 @@ pub returns-in_err-input-clause-ended : goal.returns-in_err-input-clause-ended
 returns-in_err-input-clause-ended g c =
     let p = err_from_is_err_and c.from_residual.result c.from_residual.ensures.1 in
     let (kept, is) = some_kept (g.R.Source.remaining c.args.source.now) in
-    rw (p.1, p.2) (kept, λ _. is, read_refused _ _ _ _ _ _ c.in_err-input.ensures.ended c.requires)
+    rw (p.1, p.2) (kept, λ _. is, read_refused _ _ _ _ _ _ _ c.in_err-input.ensures.ended c.requires refl)
 
 pub returns-in_err-write_answer-clause-ended : goal.returns-in_err-write_answer-clause-ended
 returns-in_err-write_answer-clause-ended g c =
@@ -16,24 +16,15 @@ returns-in_err-write_answer-clause-ended g c =
     rw (p.1, p.2) (
       c.in_ok-input.input.items,
       c.in_ok-input.ensures.kept,
-      read_sound _ _ _ _ c.in_ok-input.ensures.ended
+      read_sound _ _ _ _ _ c.in_ok-input.ensures.ended
           (rw c.as_slice.ensures.value at c.in_err-write_answer.ensures),
-    )
-
-pub returns-in-Ok-clause-ended : goal.returns-in-Ok-clause-ended
-returns-in-Ok-clause-ended g c =
-    let flushed = c.flush.ensures in (
-      c.in_ok-input.input.items,
-      c.in_ok-input.ensures.kept,
-      read_sound _ _ _ _ c.in_ok-input.ensures.ended
-          (flush_sound _ _ _ _ _ _ _ _ (rw c.as_slice.ensures.value at c.in_ok-write_answer.ensures) flushed.kept (rw c.in-Ok.is at flushed.failed)),
     )
 
 pub returns-clause-ended : goal.returns-clause-ended
 returns-clause-ended g c =
-    let flushed = c.flush.ensures in (
+    let passed = c.pass_on.ensures in (
       c.in_ok-input.input.items,
       c.in_ok-input.ensures.kept,
-      read_sound _ _ _ _ c.in_ok-input.ensures.ended
-          (flush_failed _ _ _ _ _ _ _ _ _ (rw c.as_slice.ensures.value at c.in_ok-write_answer.ensures) flushed.kept (rw c.in-Err.is at flushed.failed) refl),
+      read_sound _ _ _ _ _ c.in_ok-input.ensures.ended
+          (flush_ended _ _ _ _ _ _ _ _ _ _ (rw c.as_slice.ensures.value at c.in_ok-write_answer.ensures) passed.kept passed.failed passed.fault),
     )

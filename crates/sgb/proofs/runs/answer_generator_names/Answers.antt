@@ -6,14 +6,14 @@ use Rattle.sgb.proofs.LocalListings.{named_local}
 use Rattle.sgb.proofs.runs.answer_generator_names.Goals as goal
 
 pub returns-in-Board : goal.returns-in-Board
-returns-in-Board g c = named_local _ _ _ _ _ _ c.in_ok-board.ensures (ap box c.family.ensures ∙ sym (ap vectors_of c.in-Board.is)) c.write_names.ensures
+returns-in-Board g c = named_local _ _ _ _ _ _ _ c.in_ok-board.ensures (ap box c.family.ensures ∙ sym (ap vectors_of c.in-Board.is)) c.write_names.ensures
 
 pub returns-in-Simplex : goal.returns-in-Simplex
 returns-in-Simplex g c =
-    named_local _ _ _ _ _ _ c.in_ok-board.ensures
+    named_local _ _ _ _ _ _ _ c.in_ok-board.ensures
     (ap (λ (s : BoundedSum). bounded_sums s.total s.bounds) c.family-in-Simplex.ensures ∙ sym (ap vectors_of c.in-Simplex.is)) c.write_names-in-Simplex.ensures
 
 pub returns-in-Subsets : goal.returns-in-Subsets
 returns-in-Subsets g c =
-    named_local _ _ _ _ _ _ c.in_ok-board.ensures
+    named_local _ _ _ _ _ _ _ c.in_ok-board.ensures
     (ap (λ (s : BoundedSum). bounded_sums s.total s.bounds) c.family-in-Subsets.ensures ∙ sym (ap vectors_of c.in-Subsets.is)) c.write_names-in-Subsets.ensures

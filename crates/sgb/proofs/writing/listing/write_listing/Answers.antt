@@ -1,4 +1,4 @@
-use Rattle.std.proofs.Common.{◌++◌, ℕ}
+use Rattle.std.proofs.Common.{◌++◌, ℕ, refl}
 use Rattle.sgb_ops.specs.Operands.{names_of}
 use Rattle.sgb.specs.Outcomes.{head_for, left_out}
 use Rattle.sgb.specs.Texts.{blocks, head}
@@ -10,17 +10,17 @@ pub returns-in_err-from : goal.returns-in_err-from
 returns-in_err-from g c =
     let graph = c.args.graph.now in
     let text = λ (k : ℕ). head_for c.args.resume.now (head graph) ++ blocks graph k in
-    exit_ended _ _ _ _ c.from_residual.ensures.1 (refused_after _ (left_out (names_of graph) c.args.resume.now) text _ _ _ c.in_err-from.ensures c.requires)
+    exit_ended _ _ _ _ _ c.from_residual.ensures.1 (refused_after _ (left_out (names_of graph) c.args.resume.now) text _ _ _ _ c.in_err-from.ensures c.requires refl)
 
 pub returns-in_err-write_head_for : goal.returns-in_err-write_head_for
 returns-in_err-write_head_for g c =
     let graph = c.args.graph.now in
     let text = λ (k : ℕ). head_for c.args.resume.now (head graph) ++ blocks graph k in
-    exit_ended _ _ _ _ c.from_residual-in_err-write_head_for.ensures.1 (ended_after (left_out (names_of graph) c.args.resume.now) _ text _ _ c.in_ok-from.ensures (cut_more _ _ _ _ c.in_err-write_head_for.ensures))
+    exit_ended _ _ _ _ _ c.from_residual-in_err-write_head_for.ensures.1 (ended_after (left_out (names_of graph) c.args.resume.now) _ text _ _ _ c.in_ok-from.ensures (cut_more _ _ _ _ c.in_err-write_head_for.ensures))
 
 pub returns : goal.returns
 returns g c =
     let graph = c.args.graph.now in
     let text = λ (k : ℕ). head_for c.args.resume.now (head graph) ++ blocks graph k in
-    ended_after (left_out (names_of graph) c.args.resume.now) _ text _ _ c.in_ok-from.ensures
+    ended_after (left_out (names_of graph) c.args.resume.now) _ text _ _ _ c.in_ok-from.ensures
     (written_after _ _ _ _ _ _ _ c.in_ok-write_head_for.ensures.output c.write_blocks.ensures)

@@ -1,4 +1,4 @@
-use Rattle.std.proofs.Common.{◌∙◌, drop, map, option_map, sym, ap}
+use Rattle.std.proofs.Common.{◌∙◌, drop, map, option_map, sym, ap, refl}
 use Rattle.sgb_vec.specs.Names.{name_of_vector}
 use Rattle.sgb.specs.Locals.{start_after}
 use Rattle.sgb.specs.Outcomes.{left_out}
@@ -10,7 +10,7 @@ use Rattle.sgb.proofs.writing.names.write_names.Goals as goal
 pub returns-in_err-start : goal.returns-in_err-start
 returns-in_err-start g c =
     let names = map name_of_vector (g.F.Family.members c.args.family.now) in
-    exit_ended _ _ _ _ c.from_residual.ensures.1 (refused_after _ (left_out names c.args.resume.now) (name_lines names) _ _ _ (sym c.in_err-start.ensures) c.requires)
+    exit_ended _ _ _ _ _ c.from_residual.ensures.1 (refused_after _ (left_out names c.args.resume.now) (name_lines names) _ _ _ _ (sym c.in_err-start.ensures) c.requires refl)
 
 pub returns : goal.returns
 returns g c =
@@ -19,5 +19,5 @@ returns g c =
     let begins = c.in_ok-start.ensures.1 in
     let start = option_map (λ vector. vector.items) c.in_ok-start.start in
     let left = c.vectors_after.ensures ∙ ap (λ o. drop (start_after members o) members) c.slice_of.ensures ∙ sym begins.2 in
-    ended_after (left_out names c.args.resume.now) begins.0 (name_lines names) _ _ (sym begins.1)
+    ended_after (left_out names c.args.resume.now) begins.0 (name_lines names) _ _ _ (sym begins.1)
     (rw (lines_of_rest members c.vectors_after.result begins.0 left) c.write_all.ensures)

@@ -1,4 +1,4 @@
-use Rattle.std.proofs.Common.{ℕ, List, ◌++◌, Ok, option_map, sym}
+use Rattle.std.proofs.Common.{ℕ, List, ◌++◌, Ok, option_map, sym, refl}
 use Rattle.sgb_graph.specs.Made.{graph_described}
 use Rattle.sgb_ops.specs.Operands.{names_of}
 use Rattle.sgb.specs.Outcomes.{head_for, left_out}
@@ -14,7 +14,7 @@ returns-in_err-start g c =
     let graph = graph_described (described l) in
     let text : ℕ → List ℕ = λ k. head_for c.args.resume.now (head graph) ++ blocks graph k in
     let nowhere = left_out_of_graph l (g.F.Family.members c.args.family.now) c.args.resume.now _ c.requires.members c.in_err-start.ensures in
-    exit_ended _ _ _ _ c.from_residual.ensures.1 (refused_after _ (left_out (names_of graph) c.args.resume.now) text _ _ _ nowhere c.requires.sound)
+    exit_ended _ _ _ _ _ c.from_residual.ensures.1 (refused_after _ (left_out (names_of graph) c.args.resume.now) text _ _ _ _ nowhere c.requires.sound refl)
 
 pub returns : goal.returns
 returns g c =
@@ -25,5 +25,5 @@ returns g c =
     let begins = c.in_ok-start.ensures.1 in
     let from = left_out_of_graph l members c.args.resume.now (Ok begins.0) c.requires.members begins.1 in
     let after = blocks_after l members begins.0 (option_map (λ vector. vector.items) c.in_ok-start.start) (option_map (λ x. x.now) c.slice_of.result) c.requires.members begins.2 c.slice_of.ensures in
-    ended_after (left_out (names_of graph) c.args.resume.now) begins.0 text _ _ from
+    ended_after (left_out (names_of graph) c.args.resume.now) begins.0 text _ _ _ from
     (rw (after, sym (c.has_head.ensures graph)) c.list_family.ensures)

@@ -1,0 +1,156 @@
+-- Answers of requests on small graphs, worked out by hand, and what they are made of.
+use Rattle.std.specs.Prelude.{◌≡◌, ℕ, ℤ, pos, negsuc, true, false, List, [], ◌∷◌, ◌++◌, Some, None, Ok, Err, map, codes, refl}
+use Rattle.std.specs.Fmt.{digits}
+use Rattle.sgb_vec.specs.Boxes.{box}
+use Rattle.sgb_vec.specs.Names.{name_of_vector}
+use Rattle.sgb_vec.specs.Sizes.{repeated}
+use Rattle.sgb_vec.specs.Sums.{bounded_sums, has_great_count}
+use Rattle.sgb_vec.specs.declared.panics.Panic.TheVariants.{Bad, VeryBad, Early}
+use Rattle.sgb_graph.specs.Events.{list_from}
+use Rattle.sgb_graph.specs.Graphs.{ends_from, numbers_from}
+use Rattle.sgb_graph.specs.Made.{graph_described}
+use Rattle.sgb_gen.specs.Boards.{board_id}
+use Rattle.sgb_gen.specs.Displacements.{displacements, vectors_of_norm}
+use Rattle.sgb_gen.specs.Moves.{board_moves}
+use Rattle.sgb_gen.specs.Simplexes.{simplex_id, moves_of_simplex}
+use Rattle.sgb_gen.specs.VectorGraphs.{family_graph}
+use Rattle.sgb_ops.specs.declared.entries.Entry.TheVariants as entry
+use Rattle.sgb_file.specs.FileLines.{lines_among, text_of_lines, without_end_spaces}
+use Rattle.sgb_file.specs.Checksum.{weighted_sum}
+use Rattle.sgb_file.specs.Fields.{unbroken}
+use Rattle.sgb_file.specs.Records.{all_at, more_fields_at}
+use Rattle.sgb_file.specs.Restoring.{opening_of}
+use Rattle.sgb_file.proofs.Examples.GraphFiles.{one_cell, one_cell_lines}
+use Rattle.sgb_expr.specs.Expression.{Expression, EntryThen, Generated, Graph, Gunion, NoEntries, Number, Stdin}
+use Rattle.sgb_expr.specs.declared.expressions.Expr.{Expr}
+use Rattle.sgb_expr.specs.declared.expressions.Expr.TheVariants as expr
+use Rattle.sgb_expr.specs.declared.expressions.Generator.{Generator}
+use Rattle.sgb_expr.specs.declared.expressions.Generator.TheVariants as generator
+use Rattle.sgb.specs.Locals.{family_text, start_after, vectors_of}
+use Rattle.sgb.specs.Outcomes.{answer_of}
+use Rattle.sgb.specs.Texts.{arc_line, block, blocks, head_text, name_lines}
+use Rattle.sgb.specs.Values.{described, handed_entries, stdin_value, value_of, values_of}
+use Rattle.sgb.specs.declared.evaluation.entries.EntryValue.TheVariants as value
+use Rattle.sgb.specs.declared.locals.Local.{Local}
+use Rattle.sgb.specs.declared.locals.Local.TheVariants as local
+use Rattle.sgb_requests.specs.declared.faults.Fault.TheVariants as fault
+use Rattle.sgb_requests.specs.declared.requests.Request.TheVariants as request
+use Rattle.sgb_requests.specs.declared.requests.Resume.TheVariants as resume
+
+-- board(n1,n2,0,0,piece,0,0)
+abbrev squares : ℤ → ℤ → ℤ → Generator
+squares n1 n2 piece = generator.Board (record { n1 = n1; n2 = n2; n3 = pos 0; n4 = pos 0; piece = piece; wrap = pos 0; directed = false })
+
+-- board(2,2,0,0,1,0,0): four squares in a ring
+abbrev ring : Expr
+ring = expr.Generator (squares (pos 2) (pos 2) (pos 1))
+
+-- its blocks: of each square the later edge, along the first side, comes first
+abbrev first_blocks : List ℕ
+first_blocks = codes "0.0\n  -> 1.0, length 1\n  -> 0.1, length 1\n0.1\n  -> 1.1, length 1\n  -> 0.0, length 1\n"
+
+abbrev last_blocks : List ℕ
+last_blocks = codes "1.0\n  -> 0.0, length 1\n  -> 1.1, length 1\n1.1\n  -> 0.1, length 1\n  -> 1.0, length 1\n"
+
+abbrev ring_head : List ℕ
+ring_head = codes "  The graph whose official name is\nboard(2,2,0,0,1,0,0)\n  has 4 vertices and 8 arcs:\n\n"
+
+-- ---- answers
+
+pub ring_listed : answer_of (request.List ring resume.Whole) [] ≡ Ok (ring_head ++ (first_blocks ++ last_blocks))
+unfolding box digits name_of_vector displacements vectors_of_norm board_moves board_id family_graph list_from numbers_from blocks block arc_line head_text
+ring_listed = refl
+
+-- resumed after a name or a number of vertices: the blocks from there, without the head
+pub ring_after_name : answer_of (request.List ring (resume.After (codes "0.1"))) [] ≡ Ok last_blocks
+unfolding box digits name_of_vector displacements vectors_of_norm board_moves board_id family_graph list_from numbers_from blocks block arc_line head_text
+ring_after_name = refl
+
+pub ring_after_count : answer_of (request.List ring (resume.Skip 2)) [] ≡ Ok last_blocks
+unfolding box digits name_of_vector displacements vectors_of_norm board_moves board_id family_graph list_from numbers_from blocks block arc_line head_text
+ring_after_count = refl
+
+pub ring_after_all : answer_of (request.List ring (resume.Skip 5)) [] ≡ Ok []
+unfolding box digits name_of_vector displacements vectors_of_norm board_moves board_id family_graph list_from numbers_from blocks block arc_line head_text
+ring_after_all = refl
+
+-- names, from the first one and after one; a name that no vertex has
+pub ring_named : answer_of (request.Names ring resume.Whole) [] ≡ Ok (codes "0.0\n0.1\n1.0\n1.1\n")
+unfolding box digits name_of_vector displacements vectors_of_norm board_moves board_id family_graph list_from name_lines
+ring_named = refl
+
+pub ring_named_after : answer_of (request.Names ring (resume.After (codes "1.0"))) [] ≡ Ok (codes "1.1\n")
+unfolding box digits name_of_vector displacements vectors_of_norm board_moves board_id family_graph list_from name_lines
+ring_named_after = refl
+
+pub ring_named_nowhere : answer_of (request.Names ring (resume.After (codes "01.0"))) [] ≡ Err fault.NoVertex
+unfolding box digits name_of_vector displacements vectors_of_norm board_moves board_id family_graph list_from name_lines
+ring_named_nowhere = refl
+
+-- simplex(1,1,1,0,0,0,1): one arc, to the vector that has the unit at the first place
+pub unit_listed : answer_of (request.List (expr.Generator (generator.Simplex (record { n = pos 1; n0 = pos 1; n1 = pos 1; n2 = pos 0; n3 = pos 0; n4 = pos 0; directed = true }))) resume.Whole) []
+    ≡ Ok (codes "  The graph whose official name is\nsimplex(1,1,1,0,0,0,1)\n  has 2 vertices and 1 arcs:\n\n0.1\n  -> 1.0, length 1\n1.0\n")
+unfolding box repeated digits name_of_vector bounded_sums has_great_count list_from simplex_id moves_of_simplex family_graph numbers_from blocks block arc_line head_text
+unit_listed = refl
+
+-- a graph that is refused
+pub great_piece : answer_of (request.Save (expr.Generator (squares (pos 2) (pos 2) (pos 1_000_000_000_000)))) [] ≡ Err (fault.Panic VeryBad)
+great_piece = refl
+
+-- ---- standard input
+
+-- the file of board(1,0,0,0,1,0,0), and a text that is no file
+pub stdin_listed : answer_of (request.List expr.Stdin resume.Whole) (text_of_lines one_cell_lines)
+    ≡ Ok (codes "  The graph whose official name is\nboard(1,0,0,0,1,0,0)\n  has 1 vertices and 0 arcs:\n\n0\n")
+unfolding stdin_value digits lines_among without_end_spaces weighted_sum unbroken more_fields_at all_at opening_of ends_from numbers_from blocks block arc_line head_text
+stdin_listed = refl
+
+pub stdin_refused : answer_of (request.Names expr.Stdin resume.Whole) (codes "0\n") ≡ Err (fault.Panic Early)
+unfolding stdin_value lines_among without_end_spaces opening_of
+stdin_refused = refl
+
+-- ---- values
+
+-- simplex(-1,0,0,0,0,0,0)
+abbrev negative : Expression
+negative = Generated (generator.Simplex (record { n = negsuc 0; n0 = pos 0; n1 = pos 0; n2 = pos 0; n3 = pos 0; n4 = pos 0; directed = false }))
+
+abbrev too_great : Expression
+too_great = Generated (squares (pos 2) (pos 2) (pos 1_000_000_000_000))
+
+-- of two operands that are refused the first one's code
+pub first_refusal : value_of [] (Gunion negative too_great false false) ≡ Err Bad
+first_refusal = refl
+
+pub other_first : value_of [] (Gunion too_great negative false false) ≡ Err VeryBad
+other_first = refl
+
+-- entries: each is a number or a graph; the first refusal among them
+pub some_entries : values_of (text_of_lines one_cell_lines) (EntryThen (Number (negsuc 2)) (EntryThen (Graph Stdin) NoEntries)) ≡ Ok (value.Number (negsuc 2) ∷ value.Graph one_cell ∷ [])
+unfolding stdin_value lines_among without_end_spaces weighted_sum unbroken more_fields_at all_at opening_of ends_from numbers_from
+some_entries = refl
+
+pub refused_entry : values_of [] (EntryThen (Number (pos 1)) (EntryThen (Graph negative) (EntryThen (Graph too_great) NoEntries))) ≡ Err Bad
+refused_entry = refl
+
+-- what is handed on: so many copies, or merged vertex k of -k, at most 4,294,967,295 of either
+pub numbers_handed : handed_entries (map value.Number (pos 0 ∷ pos 7 ∷ pos 4_294_967_296 ∷ negsuc 0 ∷ negsuc 6 ∷ negsuc 4_294_967_296 ∷ []))
+    ≡ entry.Copies 0 ∷ entry.Copies 7 ∷ entry.Copies 4_294_967_295 ∷ entry.Merged 1 ∷ entry.Merged 7 ∷ entry.Merged 4_294_967_295 ∷ []
+numbers_handed = refl
+
+-- ---- a generator's listing
+
+abbrev local_ring : Local
+local_ring = local.Board (record { params = pos 2 ∷ pos 2 ∷ pos 0 ∷ pos 0 ∷ []; sizes = 2 ∷ 2 ∷ []; piece = pos 1; wrap = pos 0; directed = false })
+
+pub begins_after : start_after (vectors_of local_ring) (Some (0 ∷ 1 ∷ [])) ∷ start_after (vectors_of local_ring) None ∷ [] ≡ 2 ∷ 0 ∷ []
+unfolding box
+begins_after = refl
+
+pub ring_without_head : family_text (graph_described (described local_ring)) false 2 ≡ last_blocks
+unfolding box digits name_of_vector displacements vectors_of_norm board_moves board_id family_graph list_from numbers_from blocks block arc_line
+ring_without_head = refl
+
+pub ring_with_head : family_text (graph_described (described local_ring)) true 2 ≡ ring_head ++ last_blocks
+unfolding box digits name_of_vector displacements vectors_of_norm board_moves board_id family_graph list_from numbers_from blocks block arc_line head_text
+ring_with_head = refl
