@@ -1,8 +1,7 @@
 -- Answers of requests on small graphs, worked out by hand, and what they are made of.
-use Rattle.std.specs.Prelude.{◌≡◌, ℕ, ℤ, pos, negsuc, true, false, List, [], ◌∷◌, ◌++◌, Some, None, Result, Ok, Err, map, codes, refl}
+use Rattle.std.specs.Prelude.{◌≡◌, ℕ, ℤ, pos, negsuc, true, false, List, [], ◌∷◌, ◌++◌, Some, None, Ok, Err, map, codes, refl}
 use Rattle.std.specs.Fmt.{digits}
 use Rattle.sgb_vec.specs.Boxes.{box}
-use Rattle.sgb_vec.specs.Limits.{most_entry}
 use Rattle.sgb_vec.specs.Names.{name_of_vector}
 use Rattle.sgb_vec.specs.Sizes.{repeated}
 use Rattle.sgb_vec.specs.Sums.{bounded_sums, has_great_count}
@@ -10,7 +9,7 @@ use Rattle.sgb_vec.specs.declared.panics.Panic.TheVariants.{Bad, VeryBad, Early}
 use Rattle.sgb_graph.specs.Events.{list_from}
 use Rattle.sgb_graph.specs.Graphs.{ends_from, numbers_from}
 use Rattle.sgb_graph.specs.Made.{graph_described}
-use Rattle.sgb_gen.specs.Boards.{BoardData, board_id}
+use Rattle.sgb_gen.specs.Boards.{board_id}
 use Rattle.sgb_gen.specs.Displacements.{displacements, vectors_of_norm}
 use Rattle.sgb_gen.specs.Moves.{board_moves}
 use Rattle.sgb_gen.specs.Simplexes.{simplex_id, moves_of_simplex}
