@@ -1,5 +1,5 @@
 -- Texts written part by part, until a part is cut off.
-use Rattle.std.proofs.Common.{◌≡◌, ◌++◌, Bool, ℕ, List, Option, Result, Ok, Err}
+use Rattle.std.proofs.Common.{◌≡◌, ◌≢◌, ◌++◌, Bool, ℕ, List, Option, Result, Ok, Err, IfErr, inl, inr}
 use Rattle.std.specs.Result.{IsErrAnd}
 use Rattle.std.proofs.lemmas.Result.{err_from_is_err_and}
 use Rattle.std.specs.Io.KnownBytes.{Appends}
@@ -7,8 +7,9 @@ use Rattle.std.proofs.KnownBytes.{Appends-trans}
 use Rattle.sgb_file.proofs.SoFar.{SoFar, so_far-prefix}
 use Rattle.sgb_file.proofs.WrittenPrefixes.{prefix_more, prefix_after}
 use Rattle.sgb_file.specs.Devices.{Change}
-use Rattle.sgb.specs.Writing.{IsWritten, IsCutOff}
+use Rattle.sgb.specs.Writing.{IsWritten, IsCutOff, IsLeftOrBegun}
 use Rattle.sgb_requests.specs.declared.faults.Fault.{Fault}
+use Rattle.sgb_requests.specs.declared.faults.Fault.TheVariants as fault
 
 -- the exit of a `?`, where its fault cut the text off
 pub exit_cut : {T : Type 0} (text : List ℕ) (out : Change) (r : Result T Fault) (f : Fault) → IsErrAnd r (λ g. g ≡ f) → IsCutOff text out f → IsWritten text out r
@@ -36,3 +37,36 @@ pub so_far-cut : (all part left rest : List ℕ) (a b c : Option (List ℕ)) (fa
     → IsCutOff part (record { before = b; after = c; failed = failed }) f → IsCutOff all (record { before = a; after = c; failed = failed }) f
 so_far-cut all part left rest a b c failed f e p q =
     record { output = so_far-prefix all part left rest a b c e p q.output; cause = q.cause }
+
+-- the exit of a `?` with the fault of a write
+pub exit_write : {T : Type 0} (r : Result T Fault) (f : Fault) → IsErrAnd r (λ g. g ≡ f) → f ≡ fault.Write → IfErr r (λ g. g ≡ fault.Write)
+exit_write r f exit is =
+    let p = err_from_is_err_and r exit in
+    rw (p.1, p.2) is
+
+-- the exit of a `?` before anything was written
+pub exit_left : {T : Type 0} (same : Type 0) (r : Result T Fault) (f : Fault) → IsErrAnd r (λ g. g ≡ f) → same → IfErr r (λ g. g ≢ fault.Write → same)
+exit_left same r f exit left =
+    let p = err_from_is_err_and r exit in
+    rw (p.1, p.2) (λ other. left)
+
+-- nothing but a write can fail
+pub only_write : {T : Type 0} (same : Type 0) (r : Result T Fault) → IfErr r (λ f. f ≡ fault.Write) → IfErr r (λ f. f ≢ fault.Write → same)
+only_write same (Ok x) h = tt
+only_write same (Err f) h = λ other. absurd (other h)
+
+-- the exit of a `?` where a text was cut off by a write alone
+pub exit_uncut : {T : Type 0} (same : Type 0) (text : List ℕ) (a b : Option (List ℕ)) (r : Result T Fault) (f : Fault) → IsErrAnd r (λ g. g ≡ f) → (f ≢ fault.Write → same)
+    → IfErr r (λ g. g ≢ fault.Write → IsLeftOrBegun same text a b)
+exit_uncut same text a b r f exit left =
+    let p = err_from_is_err_and r exit in
+    rw (p.1, p.2) (λ other. inl (left other))
+
+-- after a whole text, the next one is written or cut off
+pub begun_by : {T : Type 0} (same : Type 0) (a b c : Option (List ℕ)) (failed : Bool) (xs ys : List ℕ) (r : Result T Fault) → Appends a b xs
+    → IsWritten ys (record { before = b; after = c; failed = failed }) r
+    → IfErr r (λ f. f ≢ fault.Write → IsLeftOrBegun same xs a c)
+begun_by same a b c failed xs ys (Ok x) p q = tt
+begun_by same a b c failed xs ys (Err f) p q =
+    let (done, rest, split, appended) = q.output in
+    λ other. inr (done, Appends-trans a b c xs done p appended)

@@ -1,5 +1,5 @@
 -- What writing a text leaves in a sink.
-use Rattle.std.specs.Prelude.{◌≡◌, ◌⊎◌, ℕ, true, false, List, Result, Ok, Err}
+use Rattle.std.specs.Prelude.{◌≡◌, ◌⊎◌, ℕ, ◌++◌, true, false, List, Option, Result, Ok, Err}
 use Rattle.std.specs.Io.KnownBytes.{Appends}
 use Rattle.sgb_vec.specs.declared.panics.Panic.TheVariants.{NoRoom}
 use Rattle.sgb_file.specs.Devices.{AppendsPrefix, Change}
@@ -24,3 +24,7 @@ pub record IsCutOff (text : List ℕ) (out : Change) (f : Fault) : Type 0 where
 abbrev pub IsWritten : {T : Type 0} → List ℕ → Change → Result T Fault → Type 0
 IsWritten text out (Ok x) = IsWhole text out
 IsWritten text out (Err f) = IsCutOff text out f
+
+-- a sink is as it was, which `same` says, or of the bytes that it tells it took this text at least
+abbrev pub IsLeftOrBegun : Type 0 → List ℕ → Option (List ℕ) → Option (List ℕ) → Type 0
+IsLeftOrBegun same text old new = same ⊎ ((more : List ℕ) × Appends old new (text ++ more))

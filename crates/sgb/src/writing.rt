@@ -1,5 +1,5 @@
 //! Texts written to a sink.
-ghost use Rattle.std.specs.Prelude.{◌≡◌, false};
+ghost use Rattle.std.specs.Prelude.{◌≡◌, false, IfErr};
 ghost use Rattle.std.specs.List.{flat_map};
 ghost use Rattle.sgb_file.specs.Devices.{change};
 ghost use Rattle.sgb.specs.Writing.{IsWritten};
@@ -29,7 +29,8 @@ use sgb_requests::Fault;
 // Writes bytes.
 fn write_bytes<W: Sink>(out: &mut W, bytes: &[u8]) -> Result<(), Fault>
     requires { W.has_failed out.old ≡ false }
-    ensures { IsWritten bytes.now (change W.written W.has_failed out.old out.new) result }
+    ensures written { IsWritten bytes.now (change W.written W.has_failed out.old out.new) result }
+    ensures fault { IfErr result (λ f. f ≡ Fault.Write) }
 {
     put_all(out, bytes).map_err(|_| Fault::Write)
 }
@@ -37,8 +38,9 @@ fn write_bytes<W: Sink>(out: &mut W, bytes: &[u8]) -> Result<(), Fault>
 // Writes texts, one after the other.
 fn write_texts<W: Sink>(out: &mut W, texts: &[&[u8]]) -> Result<(), Fault>
     requires { W.has_failed out.old ≡ false }
-    ensures { IsWritten (flat_map (λ text. text.now) texts.now)
+    ensures written { IsWritten (flat_map (λ text. text.now) texts.now)
         (change W.written W.has_failed out.old out.new) result }
+    ensures fault { IfErr result (λ f. f ≡ Fault.Write) }
 {
     for text in texts {
         write_bytes(out, text)?;

@@ -1,5 +1,5 @@
 //! The listing of a generator's graph, written from its vectors: one list of arcs after another, and no graph is built.
-ghost use Rattle.std.specs.Prelude.{◌≡◌, ◌≤◌, ◌+◌, false, pos, drop, length, option_map, Contains, IfOk, IfSome, IsOkUnless};
+ghost use Rattle.std.specs.Prelude.{◌≡◌, ◌≢◌, ◌≤◌, ◌+◌, false, pos, drop, length, option_map, Contains, IfErr, IfOk, IfSome, IsOkUnless};
 ghost use Rattle.std.specs.List.{flat_map};
 ghost use Rattle.sgb_file.specs.Devices.{change};
 ghost use Rattle.sgb_vec.specs.Limits.{most_dimensions};
@@ -9,7 +9,7 @@ ghost use Rattle.sgb.specs.inner.Locals.{arcs_among, local_block, local_line};
 ghost use Rattle.sgb.specs.inner.Remaining.{IsRest};
 ghost use Rattle.sgb.specs.Texts.{head};
 ghost use Rattle.sgb.specs.Values.{described};
-ghost use Rattle.sgb.specs.Writing.{IsWritten};
+ghost use Rattle.sgb.specs.Writing.{IsLeftOrBegun, IsWritten};
 
 use super::kept_names::KeptName;
 use super::lines::Line;
@@ -27,7 +27,7 @@ use sgb_vec::{Family, Panic, Vectors};
 /// `links`, which holds one list after another; what it holds afterwards is open.
 ///
 /// `after` is a vector of the family. `Write` where the sink failed, `Panic(NoRoom)` when out of memory; a prefix is then
-/// written, and nothing where memory runs out while the arcs are counted.
+/// written. Where memory runs out that is nothing, or the whole head at least.
 pub fn list_family<W: Sink>(
     local: &Local,
     head: bool,
@@ -37,9 +37,12 @@ pub fn list_family<W: Sink>(
 ) -> Result<(), Fault>
     requires member { IfSome after (λ x. Contains (vectors_of local.now) x.now) }
     requires sound { W.has_failed out.old ≡ false }
-    ensures { IsWritten (family_text (graph_described (described local.now)) head
+    ensures written { IsWritten (family_text (graph_described (described local.now)) head
         (start_after (vectors_of local.now) (option_map (λ x. x.now) after.entry)))
         (change W.written W.has_failed out.old out.new) result }
+    ensures head { IfErr result (λ f. f ≢ Fault.Write → IsLeftOrBegun (out.new ≡ out.old)
+        (head_if head (graph_described (described local.now)))
+        (W.written out.old) (W.written out.new)) }
 {
     match local {
         Local::Board(board) => list_vectors(local, board.family(), head, after, links, out),
@@ -60,9 +63,12 @@ fn list_vectors<F: Family, W: Sink>(
     requires members { F.members family.now ≡ vectors_of local.now }
     requires member { IfSome after (λ x. Contains (vectors_of local.now) x.now) }
     requires sound { W.has_failed out.old ≡ false }
-    ensures { IsWritten (family_text (graph_described (described local.now)) head
+    ensures written { IsWritten (family_text (graph_described (described local.now)) head
         (start_after (vectors_of local.now) (option_map (λ x. x.now) after.entry)))
         (change W.written W.has_failed out.old out.new) result }
+    ensures head { IfErr result (λ f. f ≢ Fault.Write → IsLeftOrBegun (out.new ≡ out.old)
+        (head_if head (graph_described (described local.now)))
+        (W.written out.old) (W.written out.new)) }
 {
     let vectors = vectors_after(family, after);
     write_head_if(head, local, family, links, out)?;
@@ -79,8 +85,9 @@ fn write_head_if<F: Family, W: Sink>(
 ) -> Result<(), Fault>
     requires members { F.members family.now ≡ vectors_of local.now }
     requires sound { W.has_failed out.old ≡ false }
-    ensures { IsWritten (head_if asked (graph_described (described local.now)))
+    ensures written { IsWritten (head_if asked (graph_described (described local.now)))
         (change W.written W.has_failed out.old out.new) result }
+    ensures memory { IfErr result (λ f. f ≢ Fault.Write → out.new ≡ out.old) }
 {
     if !asked {
         return Ok(());
@@ -97,8 +104,9 @@ fn write_head<F: Family, W: Sink>(
 ) -> Result<(), Fault>
     requires members { F.members family.now ≡ vectors_of local.now }
     requires sound { W.has_failed out.old ≡ false }
-    ensures { IsWritten (head (graph_described (described local.now)))
+    ensures written { IsWritten (head (graph_described (described local.now)))
         (change W.written W.has_failed out.old out.new) result }
+    ensures memory { IfErr result (λ f. f ≢ Fault.Write → out.new ≡ out.old) }
 {
     let m = arcs_of(local, family, links)?;
     write_head_of(&local.id(), family.size(), m, out)

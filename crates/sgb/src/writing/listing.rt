@@ -1,5 +1,5 @@
 //! The listing of a graph, written to a sink.
-ghost use Rattle.std.specs.Prelude.{◌≡◌, ◌<◌, ◌++◌, false, length};
+ghost use Rattle.std.specs.Prelude.{◌≡◌, ◌<◌, ◌++◌, false, length, IfErr};
 ghost use Rattle.std.specs.List.{flat_map};
 ghost use Rattle.sgb_file.specs.Devices.{change};
 ghost use Rattle.sgb_ops.specs.Operands.{names_of};
@@ -72,8 +72,9 @@ fn write_head<W: Sink>(graph: &Graph, out: &mut W) -> Result<(), Fault>
 /// Writes what stands before the blocks of a graph of this id with `n` vertices and `m` arcs.
 pub(super) fn write_head_of<W: Sink>(id: &Id, n: u32, m: u128, out: &mut W) -> Result<(), Fault>
     requires { W.has_failed out.old ≡ false }
-    ensures { IsWritten (head_text id.now n m) (change W.written W.has_failed out.old out.new)
-        result }
+    ensures written { IsWritten (head_text id.now n m)
+        (change W.written W.has_failed out.old out.new) result }
+    ensures fault { IfErr result (λ f. f ≡ Fault.Write) }
 {
     let mut vertices = Buffer::new();
     let mut arcs = Buffer::new();

@@ -19,4 +19,4 @@ returns g c =
     c.bytes.ensures ∙ c.end_arc.ensures
     ∙ ap (λ (line : List ℕ). line ++ rest) (c.push_other.ensures.text ∙ ap (λ (line : List ℕ). line ++ name_of_vector tip) c.begin_arc.ensures)
     ∙ append_assoc (codes "  -> ") (name_of_vector tip) rest ∙ sym (line-parts tip (pos c.args.len)) in
-    rw (sym text) c.write_bytes.ensures
+    rw (sym text) c.write_bytes.ensures.written

@@ -6,4 +6,4 @@ use Rattle.sgb.proofs.writing.listing.write_head.Goals as goal
 pub returns : goal.returns
 returns g c =
     let count : c.n.result ≡ length (names_of c.args.graph.now) = c.n.ensures.count ∙ sym (length-map c.args.graph.now.vertices (λ v. v.name)) in
-    rw (sym c.id.ensures, sym count, sym (c.from.ensures ∙ c.m-m.ensures)) c.write_head_of.ensures
+    rw (sym c.id.ensures, sym count, sym (c.from.ensures ∙ c.m-m.ensures)) c.write_head_of.ensures.written

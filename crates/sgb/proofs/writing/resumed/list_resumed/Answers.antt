@@ -26,4 +26,4 @@ returns g c =
     let from = left_out_of_graph l members c.args.resume.now (Ok begins.0) c.requires.members begins.1 in
     let after = blocks_after l members begins.0 (option_map (λ vector. vector.items) c.in_ok-start.start) (option_map (λ x. x.now) c.slice_of.result) c.requires.members begins.2 c.slice_of.ensures in
     ended_after (left_out (names_of graph) c.args.resume.now) begins.0 text _ _ _ from
-    (rw (after, sym (c.has_head.ensures graph)) c.list_family.ensures)
+    (rw (after, sym (c.has_head.ensures graph)) c.list_family.ensures.written)

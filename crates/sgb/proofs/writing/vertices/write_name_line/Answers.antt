@@ -6,4 +6,4 @@ use Rattle.sgb.proofs.writing.vertices.write_name_line.Goals as goal
 pub returns : goal.returns
 returns g c =
     let named = get_or_from_slice_get (names_of c.args.graph.now) c.args.v _ [] (c.name.ensures ∙ ap Some (sym c.bytes.ensures.value)) in
-    rw named c.write_texts.ensures
+    rw named c.write_texts.ensures.written
