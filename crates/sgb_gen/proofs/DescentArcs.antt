@@ -1,7 +1,7 @@
 -- The arcs to vectors that begin alike; sizes that they cannot have in common; and the vectors down to one and from it.
-use Rattle.std.proofs.Common.{◌≡◌, ℕ, zero, suc, ◌+◌, ◌-◌, ◌<◌, ◌≤◌, ◌⊎◌, min, pos, Bool, true, false, cond, ◌&&◌, eqb, List, [], ◌∷◌, ◌++◌, length, map, filter, reverse, take, drop, sum, get_or, Some, refl, sym, ap, ap₂, subst, ◌∙◌, inl, inr, arith, append-nil, append_assoc}
+use Rattle.std.proofs.Common.{◌≡◌, ℕ, suc, ◌+◌, ◌-◌, ◌<◌, ◌≤◌, ◌⊎◌, min, pos, Bool, true, false, cond, ◌&&◌, List, [], ◌∷◌, ◌++◌, length, map, filter, reverse, take, drop, sum, get_or, refl, sym, ap, ap₂, subst, ◌∙◌, inl, inr, arith, append-nil, append_assoc}
 use Rattle.std.specs.Prelude.{nat_eq}
-use Rattle.std.specs.List.{All, Contains, slice_get}
+use Rattle.std.specs.List.{Contains}
 use Rattle.std.proofs.lemmas.Bool.{cases_lt, ne_eqb}
 use Rattle.std.proofs.lemmas.List.{drop_at, length-append, map-append, reverse-append, reverse-reverse, take_at}
 use Rattle.std.proofs.lemmas.List.Elements.{All-contains_itself}

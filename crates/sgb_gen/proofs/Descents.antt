@@ -1,24 +1,16 @@
 -- The vectors of a bounded sum by their first entries, the last vector first, and the arcs to them.
-use Rattle.std.proofs.Common.{◌≡◌, ℕ, zero, suc, ◌+◌, ◌-◌, ◌<◌, ◌≤◌, ◌⊎◌, min, pos, Bool, true, false, cond, eqb, List, [], ◌∷◌, ◌++◌, length, map, filter, reverse, take, drop, sum, Some, refl, sym, ap, ap₂, subst, ◌∙◌, inl, inr, arith, append-nil, append_assoc}
-use Rattle.std.specs.Prelude.{nat_le}
-use Rattle.std.specs.List.{All, Contains, flat_map, range_with_len, slice_get}
+use Rattle.std.proofs.Common.{◌≡◌, ℕ, zero, suc, ◌+◌, ◌-◌, ◌<◌, ◌≤◌, ◌⊎◌, min, true, false, cond, eqb, List, [], ◌∷◌, ◌++◌, map, filter, reverse, sum, refl, sym, ap, ap₂, ◌∙◌, inl, inr, arith, append-nil, append_assoc}
+use Rattle.std.specs.List.{Contains, flat_map, range_with_len}
 use Rattle.std.proofs.lemmas.Bool.{cases_lt, le-leb, ne_eqb}
 use Rattle.std.proofs.lemmas.Bool.Decides.{nat_tests}
-use Rattle.std.proofs.lemmas.List.{drop_at, length-append, map-append, reverse-append, reverse-reverse, take_at}
-use Rattle.std.proofs.lemmas.List.Elements.{All-contains_itself, filter-append}
-use Rattle.std.proofs.lemmas.Option.{slice_get_read}
-use Rattle.std.proofs.Math.Seq.{get_or-append_seam}
+use Rattle.std.proofs.lemmas.List.{map-append, reverse-append}
+use Rattle.std.proofs.lemmas.List.Elements.{filter-append}
 use Rattle.sgb_vec.specs.Boxes.{box}
-use Rattle.sgb_vec.specs.Lexicographic.{IsRising, IsWithin}
 use Rattle.sgb_vec.specs.Sums.{bounded_sums}
-use Rattle.sgb_vec.proofs.Lists.{Contains-first, filter-none, made-append, reverse-first}
-use Rattle.sgb_vec.proofs.SumMembers.{Contains-bounded_sums, bounded_sums-rise}
+use Rattle.sgb_vec.proofs.Lists.{Contains-first, reverse-first}
+use Rattle.sgb_vec.proofs.SumMembers.{Contains-bounded_sums}
 use Rattle.sgb_vec.proofs.SumSuccessors.{sum-cons, sum-within}
-use Rattle.sgb_gen.specs.LocalLists.{LocalArc}
-use Rattle.sgb_gen.specs.Subsets.{common_size, is_wanted_size}
-use Rattle.sgb_gen.specs.VectorGraphs.{vertex_among}
-use Rattle.sgb_gen.specs.inner.Descents.{arcs_under, down_from, down_to, row, rows}
-use Rattle.sgb_gen.proofs.RisingVectors.{vertex_in_rising}
+use Rattle.sgb_gen.specs.inner.Descents.{row, rows}
 
 -- ---- first entries
 

@@ -1,4 +1,4 @@
-use Rattle.std.proofs.Common.{◌≡◌, ◌+◌, ◌-◌, ◌∷◌, ◌++◌, ◌⊎◌, [], length, min, reverse, sym, ap, ◌∙◌, inl, inr, arith}
+use Rattle.std.proofs.Common.{◌≡◌, ◌+◌, ◌-◌, ◌∷◌, ◌⊎◌, length, min, reverse, sym, ap, ◌∙◌, inl, inr, arith}
 use Rattle.std.proofs.lemmas.Result.{on_ok_weaker}
 use Rattle.sgb_vec.specs.Sums.{bounded_sums}
 use Rattle.sgb_gen.specs.inner.Descents.{arcs_under}

@@ -1,4 +1,4 @@
-use Rattle.std.proofs.Common.{◌+◌, ◌-◌, arith, inl, inr}
+use Rattle.std.proofs.Common.{◌-◌, arith, inl, inr}
 use Rattle.std.proofs.lemmas.Bool.{cases_lt}
 use Rattle.sgb_gen.proofs.Descents.{rows-start}
 use Rattle.sgb_gen.proofs.accepted.subsets.descents.with_room.Goals as goal

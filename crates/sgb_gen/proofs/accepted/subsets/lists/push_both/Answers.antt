@@ -1,10 +1,5 @@
-use Rattle.std.proofs.Common.{◌≡◌, ◌++◌, [], true, false, cond, sum, sym, ap, ap₂, ◌∙◌}
+use Rattle.std.proofs.Common.{[], true, false, ◌∙◌}
 use Rattle.std.proofs.lemmas.Result.{on_ok_weaker}
-use Rattle.sgb_vec.specs.Sums.{bounded_sums}
-use Rattle.sgb_gen.specs.LocalLists.{LinksData, LocalArc}
-use Rattle.sgb_gen.specs.inner.Descents.{IsBegun, arcs_under, down_from, down_to}
-use Rattle.sgb_gen.specs.inner.LocalSimplexes.{with_arcs}
-use Rattle.sgb_gen.specs.inner.LocalSubsets.{arcs_by_walk}
 use Rattle.sgb_gen.proofs.DescentArcs.{walked}
 use Rattle.sgb_gen.proofs.PairWalks.{with_none, with_more}
 use Rattle.sgb_gen.proofs.accepted.subsets.lists.push_both.Goals as goal
