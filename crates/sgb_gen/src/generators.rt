@@ -100,7 +100,7 @@ pub fn subsets(
     size_bits: u128,
     directed: bool,
 ) -> Result<Graph, Panic>
-    ensures { IsAnswerOf (subsets (record {
+    ensures answer { IsAnswerOf (subsets (record {
       n = n;
       n0 = n0;
       n1 = n1;
@@ -110,6 +110,7 @@ pub fn subsets(
       size_bits = size_bits;
       directed = directed;
     })) result }
+    ensures refused { (e : Panic) → simplex_of n n0 n1 n2 n3 n4 ≡ Err e → result ≡ Err e }
 {
     SubsetsParams {
         n,
@@ -160,7 +161,10 @@ impl SubsetsParams {
     /// where for some j from 1 to the last dimension and some k up to `n` more than 1,000,000,000 vectors within the
     /// first j+1 bounds add to k. `NoRoom` when out of memory.
     pub fn graph(&self, alloc: Global) -> Result<Graph, Panic>
-        ensures { IsAnswerOf (subsets self.now) result }
+        ensures answer { IsAnswerOf (subsets self.now) result }
+        ensures refused { (e : Panic) → simplex_of self.now.n self.now.n0 self.now.n1 self.now.n2
+            self.now.n3 self.now.n4 ≡ Err e
+            → result ≡ Err e }
     {
         Subsets::from_params(alloc, self)?.graph(alloc)
     }

@@ -1,5 +1,6 @@
 ghost use Rattle.std.specs.Prelude.{◌≡◌, ◌⊎◌, Err, ◌<◌, [], ◌∷◌, pos, length, map, min, slice_get, Some, Ok, OnOk, IsOkUnless, if◌then◌else◌, ◌≤◌, ◌^◌};
 ghost use Rattle.sgb_gen.specs.Subsets.{accepted_subsets, subsets_id, is_wanted_size, moves_to_place, subsets_vectors, moves_of_subsets, subsets_graph, common_size};
+ghost use Rattle.sgb_vec.specs.Bounds.{simplex_of};
 ghost use Rattle.sgb_graph.specs.Descriptions.{IsAnswerOf};
 ghost use Rattle.sgb_graph.specs.Growth.{AddsEvents, HasPlainArcs};
 ghost use Rattle.sgb_gen.specs.VectorGraphs.{event_among};
@@ -64,7 +65,7 @@ impl Subsets {
         size_bits: u128,
         directed: bool,
     ) -> Result<Subsets, Panic>
-        ensures { (result ≡ accepted_subsets
+        ensures value { (result ≡ accepted_subsets
             (record {
               n = n;
               n0 = n0;
@@ -75,6 +76,7 @@ impl Subsets {
               size_bits = size_bits;
               directed = directed;
             })) ⊎ (result ≡ Err Panic.NoRoom) }
+        ensures refused { (e : Panic) → simplex_of n n0 n1 n2 n3 n4 ≡ Err e → result ≡ Err e }
     {
         let params = SubsetsParams {
             n,
@@ -95,7 +97,10 @@ impl Subsets {
     /// where for some j from 1 to the last dimension and some k up to `n` more than 1,000,000,000 vectors within the
     /// first j+1 bounds add to k. `NoRoom` when out of memory.
     pub fn from_params(alloc: Global, params: &SubsetsParams) -> Result<Subsets, Panic>
-        ensures { (result ≡ accepted_subsets params.now) ⊎ (result ≡ Err Panic.NoRoom) }
+        ensures value { (result ≡ accepted_subsets params.now) ⊎ (result ≡ Err Panic.NoRoom) }
+        ensures refused { (e : Panic) → simplex_of params.now.n params.now.n0 params.now.n1
+            params.now.n2 params.now.n3 params.now.n4 ≡ Err e
+            → result ≡ Err e }
     {
         let shape = simplex_bounds(
             params.n, params.n0, params.n1, params.n2, params.n3, params.n4,
