@@ -1,9 +1,7 @@
 -- The arcs to vectors that begin alike; sizes that they cannot have in common; and the vectors down to one and from it.
-use Rattle.std.proofs.Common.{◌≡◌, ℕ, suc, ◌+◌, ◌-◌, ◌<◌, ◌≤◌, ◌⊎◌, min, pos, Bool, true, false, cond, ◌&&◌, List, [], ◌∷◌, ◌++◌, length, map, filter, reverse, take, drop, sum, get_or, refl, sym, ap, ap₂, subst, ◌∙◌, inl, inr, arith, append-nil, append_assoc}
-use Rattle.std.specs.Prelude.{nat_eq}
+use Rattle.std.proofs.Common.{◌≡◌, ℕ, suc, ◌+◌, ◌-◌, ◌<◌, ◌≤◌, ◌⊎◌, min, pos, Bool, true, false, cond, List, [], ◌∷◌, ◌++◌, length, map, filter, replicate, reverse, take, drop, sum, get_or, refl, sym, ap, ap₂, subst, ◌∙◌, inl, inr, arith, append-nil, append_assoc}
 use Rattle.std.specs.List.{Contains}
-use Rattle.std.proofs.lemmas.Bool.{cases_lt, ne_eqb}
-use Rattle.std.proofs.lemmas.List.{drop_at, length-append, map-append, reverse-append, reverse-reverse, take_at}
+use Rattle.std.proofs.lemmas.List.{drop_at, length-append, map-append, reverse-append, reverse-reverse, take_all, take_at}
 use Rattle.std.proofs.lemmas.List.Elements.{All-contains_itself}
 use Rattle.std.proofs.lemmas.Option.{slice_get_read}
 use Rattle.std.proofs.Math.Seq.{get_or-append_seam}
@@ -13,7 +11,8 @@ use Rattle.sgb_vec.specs.Lexicographic.{IsWithin}
 use Rattle.sgb_vec.specs.Limits.{most_vertices}
 use Rattle.sgb_vec.specs.Sums.{BoundedSum, bounded_sums}
 use Rattle.sgb_vec.proofs.Lists.{All-reverse, filter-none, made-append, reverse-first}
-use Rattle.sgb_vec.proofs.SumMembers.{Contains-bounded_sums, bounded_sums-rise}
+use Rattle.std.proofs.lemmas.Simd.{splat_is_map}
+use Rattle.sgb_vec.proofs.SumMembers.{IsWithin-length, Contains-bounded_sums, bounded_sums-rise}
 use Rattle.sgb_vec.proofs.SumSuccessors.{sum-cons}
 use Rattle.sgb_gen.specs.LocalLists.{LinksData, LocalArc}
 use Rattle.sgb_gen.specs.Subsets.{common_size, is_wanted_size}
@@ -81,27 +80,35 @@ under-unwanted sb front c bs x room shared left begun none =
           let most = common-most x v in
           none (common_size x v) (omega (arith, common-least bs x v begun.within is.0, is.1, begun.bounds_add, begun.own_add, most.0)) (omega (arith, most.1, is.1)) (omega (arith, most.0, begun.own_add))
 
--- ---- the end
+-- ---- where nothing is left to be placed
 
-made_end : (b : Bool) (front : List ℕ) → map {B = LocalArc} (λ w. record { tip = front ++ w; len = pos 1 }) (cond b ([] ∷ []) []) ≡ cond b (record { tip = front; len = pos 1 } ∷ []) []
-made_end true front = ap (λ t. record { tip = t; len = pos 1 } ∷ []) (append-nil front)
-made_end false front = refl
+-- the one vector that adds to 0
+abbrev pub zeros : List ℕ → List ℕ
+zeros bs = map (λ b. 0) bs
 
--- a vector that is placed whole is there where it has the sum and a wanted size
-pub under-end : (sb : ℕ) (front : List ℕ) (c left : ℕ) (b : Bool) → (nat_eq left 0 && is_wanted_size sb c) ≡ b → arcs_under sb front c [] (bounded_sums left []) ≡ cond b (record { tip = front; len = pos 1 } ∷ []) []
-under-end sb front c left b test =
-    elim (cases_lt 0 left) [
-      | inl some ↦
-          ap (arcs_under sb front c []) (sums-past left [] (omega arith))
-          ∙ ap (λ t. cond t (record { tip = front; len = pos 1 } ∷ []) []) (sym (ap (λ t. t && is_wanted_size sb c) (ne_eqb left 0 (λ e. absurd (omega arith)))) ∙ test)
-      | inr none ↦
-          let zero_left : left ≡ 0 = omega arith in
-          ap (λ n. arcs_under sb front c [] (bounded_sums n [])) zero_left
-          ∙ ap (arcs_under sb front c []) sums-end
-          ∙ ap (λ k. map (λ w. record { tip = front ++ w; len = pos 1 }) (cond (is_wanted_size sb k) ([] ∷ []) [])) (omega arith)
-          ∙ made_end (is_wanted_size sb c) front
-          ∙ ap (λ t. cond t (record { tip = front; len = pos 1 } ∷ []) []) (sym (ap (λ n. nat_eq n 0 && is_wanted_size sb c) zero_left) ∙ test)
-    ]
+sums-zero : (bs : List ℕ) → bounded_sums 0 bs ≡ zeros bs ∷ []
+sums-zero [] = sums-end
+sums-zero (b ∷ bs) =
+    sym (reverse-reverse (bounded_sums 0 (b ∷ bs)))
+    ∙ ap reverse (sums-rows 0 b bs ∙ ap (rows 0 bs 0) {x = b + 1} {y = b + 1 - 0} (omega arith) ∙ rows-end 0 bs 0 b (omega arith) ∙ ap (rows 0 bs 0) {x = min 0 b + 1 - 0} {y = 1} (omega arith))
+    ∙ ap (λ vs. reverse (map (λ v. 0 ∷ v) (reverse vs) ++ [])) (sums-zero bs)
+
+common-zero : (x bs : List ℕ) → common_size x (zeros bs) ≡ 0
+common-zero [] bs = refl
+common-zero (h ∷ x) [] = refl
+common-zero (h ∷ x) (b ∷ bs) = omega (arith, common-zero x bs)
+
+made_one : (b : Bool) (front v : List ℕ) → map {B = LocalArc} (λ w. record { tip = front ++ w; len = pos 1 }) (cond b (v ∷ []) []) ≡ cond b (record { tip = front ++ v; len = pos 1 } ∷ []) []
+made_one true front v = refl
+made_one false front v = refl
+
+pub under-zeros : (sb : ℕ) (front : List ℕ) (c left : ℕ) (bs x : List ℕ) (b : Bool) → left ≡ 0 → is_wanted_size sb c ≡ b → arcs_under sb front c x (reverse (bounded_sums left bs)) ≡ cond b (record { tip = front ++ zeros bs; len = pos 1 } ∷ []) []
+under-zeros sb front c left bs x b none test =
+    ap (λ n. arcs_under sb front c x (reverse (bounded_sums n bs))) none
+    ∙ ap (λ vs. arcs_under sb front c x (reverse vs)) (sums-zero bs)
+    ∙ ap (λ k. map (λ w. record { tip = front ++ w; len = pos 1 }) (cond (is_wanted_size sb k) (zeros bs ∷ []) [])) (omega (arith, common-zero x bs))
+    ∙ ap (λ t. map (λ w. record { tip = front ++ w; len = pos 1 }) (cond t (zeros bs ∷ []) [])) test
+    ∙ made_one b front (zeros bs)
 
 -- ---- the vectors above one and below it
 
@@ -203,34 +210,41 @@ module _ (bs x : List ℕ) (h : IsWithin x bs) where
 
 -- ---- steps of the descent
 
--- of no bounds and no entries nothing is left to be placed
-reverse-end : (left : ℕ) → reverse (bounded_sums left []) ≡ bounded_sums left []
-reverse-end left =
-    elim (cases_lt 0 left) [
-      | inl some ↦ let none = sums-past left [] (omega arith) in ap reverse none ∙ sym none
-      | inr none ↦ ap (λ n. reverse (bounded_sums n [])) (omega arith) ∙ ap reverse sums-end ∙ sym (ap (λ n. bounded_sums n []) (omega arith) ∙ sums-end)
-    ]
+-- where there are no more entries, there is no bound more either
+abbrev pub HasEnded : List ℕ → List ℕ → Type 0
+HasEnded bs x = (length x ≡ 0) ⊎ (length bs ≡ 0)
 
-pub ended-all : (sb : ℕ) (front : List ℕ) (c left : ℕ) (bs x : List ℕ) → IsWithin x bs → (length x ≡ 0) ⊎ (length bs ≡ 0) → arcs_under sb front c [] (bounded_sums left []) ≡ arcs_under sb front c x (reverse (bounded_sums left bs))
-ended-all sb front c left [] [] h none = ap (arcs_under sb front c []) (sym (reverse-end left))
-ended-all sb front c left [] (x ∷ xs) h none = absurd h
-ended-all sb front c left (b ∷ bs) [] h none = absurd h
-ended-all sb front c left (b ∷ bs) (x ∷ xs) h (inl e) = absurd (omega arith)
-ended-all sb front c left (b ∷ bs) (x ∷ xs) h (inr e) = absurd (omega arith)
+both_ended : (bs x : List ℕ) → IsWithin x bs → HasEnded bs x → (bs ≡ []) × (x ≡ [])
+both_ended [] [] h none = (refl, refl)
+both_ended [] (x ∷ xs) h none = absurd h
+both_ended (b ∷ bs) [] h none = absurd h
+both_ended (b ∷ bs) (x ∷ xs) h (inl e) = absurd (omega arith)
+both_ended (b ∷ bs) (x ∷ xs) h (inr e) = absurd (omega arith)
 
-pub ended-to : (sb : ℕ) (front : List ℕ) (c left : ℕ) (bs x : List ℕ) → IsWithin x bs → left ≡ sum x → (length x ≡ 0) ⊎ (length bs ≡ 0) → arcs_under sb front c [] (bounded_sums left []) ≡ arcs_under sb front c x (down_to bs x)
-ended-to sb front c left [] [] h all none = ap (λ n. arcs_under sb front c [] (bounded_sums n [])) all ∙ ap (arcs_under sb front c []) sums-end
-ended-to sb front c left [] (x ∷ xs) h all none = absurd h
-ended-to sb front c left (b ∷ bs) [] h all none = absurd h
-ended-to sb front c left (b ∷ bs) (x ∷ xs) h all (inl e) = absurd (omega arith)
-ended-to sb front c left (b ∷ bs) (x ∷ xs) h all (inr e) = absurd (omega arith)
+pub ended-zero : (bs x : List ℕ) → IsWithin x bs → HasEnded bs x → sum x ≡ 0
+ended-zero bs x h none = ap sum (both_ended bs x h none).1
 
-pub ended-from : (sb : ℕ) (front : List ℕ) (c left : ℕ) (bs x : List ℕ) → IsWithin x bs → left ≡ sum x → (length x ≡ 0) ⊎ (length bs ≡ 0) → arcs_under sb front c [] (bounded_sums left []) ≡ arcs_under sb front c x (down_from bs x)
-ended-from sb front c left [] [] h all none = ap (λ n. arcs_under sb front c [] (bounded_sums n [])) all ∙ ap (arcs_under sb front c []) sums-end
-ended-from sb front c left [] (x ∷ xs) h all none = absurd h
-ended-from sb front c left (b ∷ bs) [] h all none = absurd h
-ended-from sb front c left (b ∷ bs) (x ∷ xs) h all (inl e) = absurd (omega arith)
-ended-from sb front c left (b ∷ bs) (x ∷ xs) h all (inr e) = absurd (omega arith)
+-- then more than 0 is no sum, and x is the one vector
+pub ended-all : (sb : ℕ) (front : List ℕ) (c left : ℕ) (bs x : List ℕ) → IsWithin x bs → HasEnded bs x → 0 < left → arcs_under sb front c x (reverse (bounded_sums left bs)) ≡ []
+ended-all sb front c left bs x h none some =
+    ap (λ cs. arcs_under sb front c x (reverse (bounded_sums left cs))) (both_ended bs x h none).0
+    ∙ ap (λ vs. arcs_under sb front c x (reverse vs)) (sums-past left [] (omega arith))
+
+pub ended-to : (sb : ℕ) (front : List ℕ) (c left : ℕ) (bs x : List ℕ) → IsWithin x bs → HasEnded bs x → left ≡ sum x → arcs_under sb front c x (reverse (bounded_sums left bs)) ≡ arcs_under sb front c x (down_to bs x)
+ended-to sb front c left bs x h none all =
+    let both = both_ended bs x h none in
+    ap (λ n. arcs_under sb front c x (reverse (bounded_sums n bs))) (all ∙ ap sum both.1)
+    ∙ ap (λ cs. arcs_under sb front c x (reverse (bounded_sums 0 cs))) both.0
+    ∙ ap (λ vs. arcs_under sb front c x (reverse vs)) sums-end
+    ∙ ap (λ cs. arcs_under sb front c x (down_to cs x)) (sym both.0)
+
+pub ended-from : (sb : ℕ) (front : List ℕ) (c left : ℕ) (bs x : List ℕ) → IsWithin x bs → HasEnded bs x → left ≡ sum x → arcs_under sb front c x (reverse (bounded_sums left bs)) ≡ arcs_under sb front c x (down_from bs x)
+ended-from sb front c left bs x h none all =
+    let both = both_ended bs x h none in
+    ap (λ n. arcs_under sb front c x (reverse (bounded_sums n bs))) (all ∙ ap sum both.1)
+    ∙ ap (λ cs. arcs_under sb front c x (reverse (bounded_sums 0 cs))) both.0
+    ∙ ap (λ vs. arcs_under sb front c x (reverse vs)) sums-end
+    ∙ ap (λ cs. arcs_under sb front c x (down_from cs x)) (sym both.0)
 
 -- all vectors by their rows
 pub all-rows : (sb : ℕ) (front : List ℕ) (c left b h most : ℕ) (bs xs bounds x : List ℕ) → bounds ≡ b ∷ bs → x ≡ h ∷ xs → most ≡ min left b → arcs_under sb front c (h ∷ xs) (rows left bs 0 (most + 1 - 0)) ≡ arcs_under sb front c x (reverse (bounded_sums left bounds))
@@ -256,6 +270,13 @@ rows-done start links new sb front at c x left bs low k all same some new_is so_
     ∙ ap (λ arcs. record { width = links.width; arcs = arcs }) (append_assoc links.arcs first rest)
     ∙ ap (with_arcs links) (sym (under-append sb front c x (row left bs (low + (k - 1))) (rows left bs low (k - 1))) ∙ ap (arcs_under sb front c x) (sym (rows-next left bs low k some)))
     ∙ so_far
+
+-- zeros are taken off again, and are as many as x has entries
+pub zeros_written : (front items : List ℕ) (bs x : List ℕ) (placed long : ℕ) → placed ≡ long → long ≡ length front → IsWithin x bs → items ≡ take (placed + length x) front ++ replicate (placed + length x - long) 0 → items ≡ front ++ zeros bs
+zeros_written front items bs x placed long same count h is =
+    let count_of : placed + length x - long ≡ length bs = omega (arith, same, IsWithin-length bs x h) in
+    is ∙ ap (λ l. l ++ replicate (placed + length x - long) 0) (take_all (placed + length x) front (omega arith)) ∙ ap (λ n. front ++ replicate n 0) count_of
+    ∙ ap (λ l. front ++ l) (splat_is_map bs (length bs) 0 refl)
 
 -- an entry is taken off again
 pub last_taken : (front : List ℕ) (e : ℕ) (items left : List ℕ) (n : ℕ) → n ≡ length items → left ≡ take (n - 1) items → items ≡ front ++ e ∷ [] → left ≡ front

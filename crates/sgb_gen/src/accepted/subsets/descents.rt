@@ -1,7 +1,8 @@
 //! The arcs of one vector of the subsets, by a descent: the vectors are taken entry by entry, the greatest entry first, and
 //! a beginning is left as soon as no vector that has it can have a wanted size in common.
-ghost use Rattle.std.specs.Prelude.{◌≡◌, ◌+◌, ◌-◌, ◌^◌, ◌≤◌, ◌<◌, ◌==◌, ◌&&◌, min, ℕ, List, Bool, false, [], ◌∷◌, ◌++◌, length, reverse, sum, if◌then◌else◌, OnOk, IsOkUnless};
+ghost use Rattle.std.specs.Prelude.{◌≡◌, ◌+◌, ◌-◌, ◌^◌, ◌≤◌, ◌<◌, min, ℕ, List, Bool, false, [], ◌∷◌, ◌++◌, length, reverse, sum, if◌then◌else◌, OnOk, IsOkUnless};
 ghost use Rattle.std.specs.Bool.{OnFalse};
+ghost use Rattle.sgb_vec.specs.Lexicographic.{IsWithin};
 ghost use Rattle.sgb_vec.specs.Sums.{bounded_sums};
 ghost use Rattle.sgb_gen.specs.Subsets.{is_wanted_size};
 ghost use Rattle.sgb_gen.specs.inner.Descents.{IsBegun, arcs_under, down_from, down_to, row, rows};
@@ -47,7 +48,7 @@ pub(super) fn push_to(
     ensures memory { IsOkUnless result Panic.NoRoom }
 {
     let (Some((bound, bounds)), Some((own, x))) = (bounds.split_first(), x.split_first()) else {
-        return push_end(begun, front, links);
+        return push_zeros(begun, bounds, x, front, links);
     };
     let end = begun.left.min(*bound) + 1;
     push_rows(begun, *bound, *own, bounds, x, *own + 1, end, front, links)?;
@@ -75,7 +76,7 @@ pub(super) fn push_from(
     ensures memory { IsOkUnless result Panic.NoRoom }
 {
     let (Some((bound, bounds)), Some((own, x))) = (bounds.split_first(), x.split_first()) else {
-        return push_end(begun, front, links);
+        return push_zeros(begun, bounds, x, front, links);
     };
     front.push(*own)?;
     push_from(placed(begun, *bound, *own, *own), bounds, x, front, links)?;
@@ -101,11 +102,14 @@ fn push_all(
         (reverse (bounded_sums begun.left bounds.now)))) }
     ensures memory { IsOkUnless result Panic.NoRoom }
 {
+    if begun.left == 0 {
+        return push_zeros(begun, bounds, x, front, links);
+    }
     if !may_be_wanted(begun) {
         return Ok(());
     }
     let (Some((bound, bounds)), Some((own, x))) = (bounds.split_first(), x.split_first()) else {
-        return push_end(begun, front, links);
+        return Ok(());
     };
     let end = begun.left.min(*bound) + 1;
     push_rows(begun, *bound, *own, bounds, x, 0, end, front, links)
@@ -179,27 +183,31 @@ fn push_row(
     Ok(())
 }
 
-// Puts the arc to the vector that is placed whole behind the others, if it has the sum and a wanted size.
-fn push_end(begun: Begun, front: &mut Vec<u32>, links: &mut Links) -> Result<(), Panic>
-    requires width { length front.old.items ≡ links.old.width }
+// Puts the arc to the vector whose other entries are 0 behind the others, if it has a wanted size in common.
+fn push_zeros(
+    begun: Begun,
+    bounds: &[u32],
+    x: &[u32],
+    front: &mut Vec<u32>,
+    links: &mut Links,
+) -> Result<(), Panic>
+    requires within { IsWithin x.now bounds.now }
+    requires none { begun.left ≡ 0 }
+    requires width { length front.old.items + length x.now ≡ links.old.width }
     ensures same { OnOk result (front.new.items ≡ front.old.items) }
     ensures ok { OnOk result (links.new
-        ≡ with_arcs links.old (arcs_under begun.size_bits front.old.items begun.common []
-        (bounded_sums begun.left []))) }
+        ≡ with_arcs links.old (arcs_under begun.size_bits front.old.items begun.common x.now
+        (reverse (bounded_sums begun.left bounds.now)))) }
     ensures memory { IsOkUnless result Panic.NoRoom }
 {
-    if !is_wanted_end(begun) {
+    if !is_wanted(begun.size_bits, u64::from(begun.common)) {
         return Ok(());
     }
+    let placed = front.len();
+    front.resize(placed + x.len(), 0)?;
     links.push(front.as_slice(), 1)?;
+    front.truncate(placed);
     Ok(())
-}
-
-// Whether a vector that is placed whole has the sum, and a wanted size in common.
-fn is_wanted_end(begun: Begun) -> bool
-    ensures { result ≡ (begun.left == 0 && is_wanted_size begun.size_bits begun.common) }
-{
-    begun.left == 0 && is_wanted(begun.size_bits, u64::from(begun.common))
 }
 
 // What is known with one more entry, whose bound and whose own entry of `x` these are.

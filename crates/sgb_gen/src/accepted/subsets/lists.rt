@@ -14,8 +14,9 @@ use crate::links::Links;
 use sgb_vec::Panic;
 
 impl Subsets {
-    /// Puts the arcs of the vertex of `x` into `links`, in the order of its list in the graph of the subsets: the
-    /// family is walked from its back, and nothing else is kept (GB_BASIC, subsets). What `links` held before is dropped.
+    /// Puts the arcs of the vertex of `x` into `links`, in the order of its list in the graph of the subsets: its vectors
+    /// are taken entry by entry, and those that begin alike are left together where none has a wanted size in common
+    /// (GB_BASIC, subsets). What `links` held before is dropped.
     ///
     /// `x` is a vector of the family. `NoRoom` when out of memory, and nothing else; the links are then empty.
     pub fn arcs_at(&self, x: &[u32], links: &mut Links) -> Result<(), Panic>

@@ -1,4 +1,4 @@
-use Rattle.std.proofs.Common.{◌≡◌, ◌+◌, ◌-◌, ◌∷◌, ◌⊎◌, length, min, reverse, sym, ap, ◌∙◌, inl, inr, arith}
+use Rattle.std.proofs.Common.{◌+◌, ◌-◌, ◌∷◌, min, reverse, sym, ap, ◌∙◌, inl, inr, arith}
 use Rattle.std.proofs.lemmas.Result.{on_ok_weaker}
 use Rattle.sgb_vec.specs.Sums.{bounded_sums}
 use Rattle.sgb_gen.specs.inner.Descents.{arcs_under}
@@ -6,7 +6,6 @@ use Rattle.sgb_gen.specs.inner.LocalSimplexes.{with_arcs}
 use Rattle.sgb_gen.proofs.DescentArcs.{all-rows, ended-all, row-under, rows-done, under-unwanted}
 use Rattle.sgb_gen.proofs.PairWalks.{with_none}
 use Rattle.sgb_gen.proofs.accepted.subsets.descents.+descent.Goals as goal
-use Rattle.sgb_gen.proofs.accepted.subsets.descents.+descent.Goals.{push_all-in_default-via-in-Some+in_default, push_all-in_default-via-in_default}
 
 pub push_all-returns-then-not-may_be_wanted-clause-ok : goal.push_all-returns-then-not-may_be_wanted-clause-ok
 push_all-returns-then-not-may_be_wanted-clause-ok t c =
@@ -17,11 +16,14 @@ push_all-returns-then-not-may_be_wanted-clause-ok t c =
 pub push_all-returns-in_default-clause-ok : goal.push_all-returns-in_default-clause-ok
 push_all-returns-in_default-clause-ok t c =
     let b = c.args.begun in
-    let none : (length c.args.x.now ≡ 0) ⊎ (length c.args.bounds.now ≡ 0) = elim c.in_default.branch [
-      | push_all-in_default-via-in-Some+in_default w ↦ inl w.in_default.ensures'.cases
-      | push_all-in_default-via-in_default w ↦ inr w.in_default.ensures.cases
-    ] in
-    on_ok_weaker c.push_end.result (λ is. is ∙ ap (with_arcs c.args.links.now) (ended-all b.size_bits c.args.front.now.items b.common b.left c.args.bounds.now c.args.x.now c.requires.begun.within none)) c.push_end.ensures.ok
+    with_none c.args.links.now
+    ∙ ap (with_arcs c.args.links.now) (sym (ended-all b.size_bits c.args.front.now.items b.common b.left c.args.bounds.now c.args.x.now c.requires.begun.within (inl c.in_default.ensures'.cases) (omega (arith, c.if-begun-eq0.false))))
+
+pub push_all-returns-in_default-2-clause-ok : goal.push_all-returns-in_default-2-clause-ok
+push_all-returns-in_default-2-clause-ok t c =
+    let b = c.args.begun in
+    with_none c.args.links.now
+    ∙ ap (with_arcs c.args.links.now) (sym (ended-all b.size_bits c.args.front.now.items b.common b.left c.args.bounds.now c.args.x.now c.requires.begun.within (inr c.in_default.ensures.cases) (omega (arith, c.if-begun-eq0.false))))
 
 pub push_all-returns-clause-ok : goal.push_all-returns-clause-ok
 push_all-returns-clause-ok t c =

@@ -1,20 +1,29 @@
-use Rattle.std.proofs.Common.{◌≡◌, ◌-◌, ◌∷◌, ◌⊎◌, length, ap, ap₂, ◌∙◌, inl, inr, rules}
+use Rattle.std.proofs.Common.{◌≡◌, ◌-◌, ◌∷◌, length, ap, ap₂, ◌∙◌, inl, inr, rules}
 use Rattle.std.specs.Vec.{vec_len}
 use Rattle.std.proofs.lemmas.Result.{on_ok_weaker}
 use Rattle.sgb_gen.specs.inner.Descents.{arcs_under, down_from, rows}
 use Rattle.sgb_gen.specs.inner.LocalSimplexes.{with_arcs}
-use Rattle.sgb_gen.proofs.DescentArcs.{ended-from, from-more, last_taken}
+use Rattle.sgb_gen.proofs.DescentArcs.{HasEnded, ended-zero, ended-from, from-more, last_taken}
 use Rattle.sgb_gen.proofs.accepted.subsets.descents.+push_from.Goals as goal
 use Rattle.sgb_gen.proofs.accepted.subsets.descents.+push_from.Goals.{in_default-via-in-Some+in_default, in_default-via-in_default}
+
+pub push_zeros-requires-clause-none : goal.push_zeros-requires-clause-none
+push_zeros-requires-clause-none t c =
+    let none : HasEnded c.args.bounds.now c.args.x.now = elim c.in_default.branch [
+      | in_default-via-in-Some+in_default w ↦ inl w.in_default.ensures'.cases
+      | in_default-via-in_default w ↦ inr w.in_default.ensures.cases
+    ] in
+    c.requires.all ∙ ended-zero c.args.bounds.now c.args.x.now c.requires.begun.within none
 
 pub returns-in_default-clause-ok : goal.returns-in_default-clause-ok
 returns-in_default-clause-ok t c =
     let b = c.args.begun in
-    let none : (length c.args.x.now ≡ 0) ⊎ (length c.args.bounds.now ≡ 0) = elim c.in_default.branch [
+    let none : HasEnded c.args.bounds.now c.args.x.now = elim c.in_default.branch [
       | in_default-via-in-Some+in_default w ↦ inl w.in_default.ensures'.cases
       | in_default-via-in_default w ↦ inr w.in_default.ensures.cases
     ] in
-    on_ok_weaker c.push_end.result (λ is. is ∙ ap (with_arcs c.args.links.now) (ended-from b.size_bits c.args.front.now.items b.common b.left c.args.bounds.now c.args.x.now c.requires.begun.within c.requires.all none)) c.push_end.ensures.ok
+    let same = ended-from b.size_bits c.args.front.now.items b.common b.left c.args.bounds.now c.args.x.now c.requires.begun.within none c.requires.all in
+    on_ok_weaker c.push_zeros.result (λ is. is ∙ ap (with_arcs c.args.links.now) same) c.push_zeros.ensures.ok
 
 pub returns-clause-ok : goal.returns-clause-ok
 returns-clause-ok t c =
