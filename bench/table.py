@@ -46,6 +46,7 @@ REQUESTS = [
     ["list", "disjoint_subsets(25,3)"],
     ["list", "subsets(4,1,-19,0,0,0,0x8,0)"],
     ["list", "subsets(20,5,-5,0,0,0,0xff,0)"],
+    ["list", "subsets(4,1,-39,0,0,0,0x8,0)"],
     # operations: queens on 80 x 80 beside the rooks alone, a complement, an intersection
     ["list", "board(80,80,0,0,-1,0,0)"],
     ["list", "gunion(board(80,80,0,0,-1,0,0),board(80,80,0,0,-2,0,0),0,0)"],
