@@ -13,8 +13,8 @@ PREFIX ?= /usr/local
 
 PROGRAM = crates/sgb_cli/out/sgb_cli
 
-# the crates, lowest first
-CRATES = $(shell sed -n 's/^\([a-z_]*\):.*/\1/p' crates.txt)
+# the crates, lowest first, but for those that hold tests alone
+CRATES = $(filter-out %_tests, $(shell sed -n 's/^\([a-z_]*\):.*/\1/p' crates.txt))
 
 all: sgb
 

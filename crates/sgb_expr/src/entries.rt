@@ -50,6 +50,3 @@ impl Entries {
         self.list.as_slice()
     }
 }
-
-#[cfg(test)]
-mod tests;

@@ -134,6 +134,3 @@ fn whole(alloc: Global, text: &[u8]) -> Result<Expr, Wrong>
         Err(Wrong::Left(rest.len()))
     }
 }
-
-#[cfg(test)]
-mod tests;

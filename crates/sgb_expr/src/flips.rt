@@ -68,6 +68,3 @@ fn flip(numbers: [i64; 4]) -> FlipParams
         m,
     }
 }
-
-#[cfg(test)]
-mod tests;

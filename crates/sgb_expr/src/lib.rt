@@ -4,9 +4,6 @@
 
 // The arguments of each generator's form.
 mod arguments;
-// What the tests ask of a text.
-#[cfg(test)]
-mod cases;
 // The entries of an induced graph.
 pub mod entries;
 // The expressions, and reading one.

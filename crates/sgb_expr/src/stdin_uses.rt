@@ -54,6 +54,3 @@ fn entry_has_stdin(entry: &EntryExpr) -> bool
         EntryExpr::Graph(graph) => graph.has_stdin(),
     }
 }
-
-#[cfg(test)]
-mod tests;

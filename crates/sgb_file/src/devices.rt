@@ -10,8 +10,6 @@ mod cut_source;
 mod from_read;
 mod memory;
 mod parts;
-#[cfg(test)]
-mod tests;
 mod to_write;
 mod whole;
 

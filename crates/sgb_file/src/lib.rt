@@ -10,9 +10,6 @@ mod devices;
 mod laws;
 // Reads a file.
 mod reading;
-// Files that tests read.
-#[cfg(test)]
-mod sample_files;
 // Writes a file.
 mod saving;
 

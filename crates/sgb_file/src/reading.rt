@@ -12,8 +12,6 @@ mod records;
 mod sections;
 mod separators;
 mod strings;
-#[cfg(test)]
-mod tests;
 mod texts;
 
 use closings::closes;

@@ -9,8 +9,6 @@ mod fields;
 mod layouts;
 mod lines;
 mod records;
-#[cfg(test)]
-mod tests;
 
 use crate::devices::{Failed, Sink, put_all};
 use itoa::Buffer;

@@ -6,6 +6,3 @@ mod subsets;
 pub use boards::{Board, BoardLists};
 pub use simplexes::Simplex;
 pub use subsets::{Subsets, common};
-
-#[cfg(test)]
-mod tests;

@@ -169,6 +169,3 @@ impl SubsetsParams {
         Subsets::from_params(alloc, self)?.graph(alloc)
     }
 }
-
-#[cfg(test)]
-mod tests;

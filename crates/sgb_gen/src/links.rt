@@ -206,6 +206,3 @@ fn turn_rows(entries: &mut [u32], width: usize, count: usize)
         entries[start..start + width].reverse();
     }
 }
-
-#[cfg(test)]
-mod tests;

@@ -85,6 +85,3 @@ fn line(n: i64, piece: i64, wrap: i64, directed: bool) -> BoardParams
         directed,
     }
 }
-
-#[cfg(test)]
-mod tests;

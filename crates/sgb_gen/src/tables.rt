@@ -86,6 +86,3 @@ impl VectorTable {
         low
     }
 }
-
-#[cfg(test)]
-mod tests;

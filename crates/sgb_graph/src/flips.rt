@@ -146,6 +146,3 @@ fn difference(a: u32, b: u32) -> u32
 {
     (a + MODULUS - b) % MODULUS
 }
-
-#[cfg(test)]
-mod tests;

@@ -210,6 +210,3 @@ fn kinds_of(fields: &[Util; 6]) -> [Kind; 6]
         zz.kind(),
     ]
 }
-
-#[cfg(test)]
-pub(crate) mod tests;

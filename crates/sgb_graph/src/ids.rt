@@ -164,6 +164,3 @@ impl IdWriter {
         Id { bytes }
     }
 }
-
-#[cfg(test)]
-mod tests;

@@ -57,6 +57,3 @@ impl Names {
         texts
     }
 }
-
-#[cfg(test)]
-mod tests;

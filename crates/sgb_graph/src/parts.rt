@@ -150,6 +150,3 @@ fn kinds_of_vertices(kinds: &[Kind; 14]) -> [Kind; 6]
     let [u, v, w, x, y, z, ..] = *kinds;
     [u, v, w, x, y, z]
 }
-
-#[cfg(test)]
-mod tests;

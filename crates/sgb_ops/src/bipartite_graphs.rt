@@ -43,6 +43,3 @@ fn accepted_parts(n1: i64, n2: i64) -> Result<[Entry; 2], Panic>
     }
     Ok([Entry::Copies(n1 as u32), Entry::Copies(n2 as u32)])
 }
-
-#[cfg(test)]
-mod tests;

@@ -139,6 +139,3 @@ fn mark_tips(marks: &mut [u32], graph: &Graph, u: u32, mark: u32)
         marks[link.tip as usize] = mark;
     }
 }
-
-#[cfg(test)]
-mod tests;

@@ -56,14 +56,6 @@ impl Event {
         (self.from as usize + self.to as usize) % 16384
     }
 
-    /// Its two ends, as it names them, and its length.
-    #[cfg(test)]
-    pub(crate) fn parts(self) -> (u32, u32, i64)
-        ensures { result ≡ (self.from, self.to, self.len) }
-    {
-        (self.from, self.to, self.len)
-    }
-
     /// Whether it joins a vertex to itself.
     pub(crate) fn is_loop(self) -> bool
         ensures { result ≡ (self.from == self.to) }

@@ -129,6 +129,3 @@ fn push_arc(events: &mut Vec<Event>, v: u32, link: Link, n: u32) -> Result<(), P
     }
     Ok(())
 }
-
-#[cfg(test)]
-mod tests;

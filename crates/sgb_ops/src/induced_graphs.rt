@@ -68,6 +68,3 @@ fn title(id: &Id, self_loops: bool, multi: bool, directed: bool) -> Id
     ];
     compound_id(b"induced(", id, &end)
 }
-
-#[cfg(test)]
-mod tests;

@@ -157,6 +157,3 @@ fn one_less(multi: bool, tally: Tally) -> Tally
         least: tally.least,
     }
 }
-
-#[cfg(test)]
-mod tests;

@@ -5,9 +5,6 @@
 mod bipartite_graphs;
 // the graphs of boards that operations start from
 mod boards;
-// operands and known results of tests
-#[cfg(test)]
-mod cases;
 // complement
 mod complements;
 // the names of the copies of vertices

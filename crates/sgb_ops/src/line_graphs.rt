@@ -350,6 +350,3 @@ fn push_event_if(events: &mut Vec<Event>, meet: bool, i: u32, j: u32) -> Result<
     }
     Ok(())
 }
-
-#[cfg(test)]
-mod tests;

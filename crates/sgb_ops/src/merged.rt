@@ -83,6 +83,3 @@ fn merge_event(
     left[place] = left[place].shortened(event);
     Ok(())
 }
-
-#[cfg(test)]
-mod tests;

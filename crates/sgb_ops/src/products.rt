@@ -354,6 +354,3 @@ fn push_names_with(
     }
     Ok(())
 }
-
-#[cfg(test)]
-mod tests;

@@ -91,6 +91,3 @@ fn is_other_record(after_loop: Option<usize>, number: usize) -> bool
         None => false,
     }
 }
-
-#[cfg(test)]
-mod tests;

@@ -51,6 +51,3 @@ fn accepted_middle(n1: i64) -> Result<Entry, Panic>
     }
     Ok(Entry::Copies(n1 as u32))
 }
-
-#[cfg(test)]
-mod tests;

@@ -90,6 +90,3 @@ fn count_of(text: &str) -> Option<u64>
     }
     text.parse().ok()
 }
-
-#[cfg(test)]
-mod tests;

@@ -52,6 +52,3 @@ pub fn parse_flip(text: &[u8]) -> Result<FlipParams, Fault>
     let params = read_flip(text)?;
     Ok(params)
 }
-
-#[cfg(test)]
-mod tests;

@@ -121,6 +121,3 @@ fn number_line(before: &[u8], number: u32, after: &[u8]) -> ArrayVec<u8, MOST_BY
     let _after = line.try_extend_from_slice(after);
     line
 }
-
-#[cfg(test)]
-mod tests;

@@ -226,6 +226,3 @@ impl Simplex {
         Ok(())
     }
 }
-
-#[cfg(test)]
-mod tests;

@@ -271,6 +271,3 @@ fn sum_of(entries: u64x8) -> u64
 {
     entries.strict_reduce_sum()
 }
-
-#[cfg(test)]
-mod tests;

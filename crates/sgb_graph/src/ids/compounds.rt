@@ -65,6 +65,3 @@ fn push_operand(writer: &mut IdWriter, id: &Id, fits: bool, kept: usize)
     writer.push_text(&bytes[..kept.min(bytes.len())]);
     writer.push_text(b"...)");
 }
-
-#[cfg(test)]
-mod tests;

@@ -173,6 +173,3 @@ fn is_home_on(size: u32, wraps: bool, u: i64) -> bool
     }
     u == 0
 }
-
-#[cfg(test)]
-mod tests;

@@ -332,6 +332,3 @@ impl Board {
         destination(self.shape.sizes(), self.wrap, self.piece, x, t, l, there)
     }
 }
-
-#[cfg(test)]
-mod tests;

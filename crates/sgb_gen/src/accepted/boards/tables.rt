@@ -125,6 +125,3 @@ impl<'a> BoardLists<'a> {
         }
     }
 }
-
-#[cfg(test)]
-mod tests;

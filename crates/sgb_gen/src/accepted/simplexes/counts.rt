@@ -94,6 +94,3 @@ fn lowered(bounds: &[u32], lower: usize, higher: usize) -> Vector
     less[higher] -= 1;
     less
 }
-
-#[cfg(test)]
-mod tests;

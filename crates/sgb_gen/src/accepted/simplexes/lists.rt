@@ -140,6 +140,3 @@ fn push_one(
     links.push(there.as_slice(), 1)?;
     Ok(())
 }
-
-#[cfg(test)]
-mod tests;

@@ -97,6 +97,3 @@ fn sum_of_entries(entries: &[u32]) -> u64
 {
     entries.iter().map(|entry| u64::from(*entry)).sum()
 }
-
-#[cfg(test)]
-mod tests;

@@ -1,0 +1,62 @@
+use crate::cases::compare;
+use sgb_gen::{Board, BoardParams, Links};
+use sgb_vec::{Family, Vectors};
+use std::alloc::Global;
+use std::process::Abort;
+use std::test::Fail;
+
+// Parameters of boards whose lists are compared with those of the built graphs, each with both directions: leapers
+// and riders, with sides that wrap around and loops.
+const BOARDS: [[i64; 6]; 12] = [
+    [2, 3, 0, 0, 1, 0],
+    [3, 0, 0, 0, -1, 0],
+    [3, 0, 0, 0, -1, 1],
+    [4, 0, 0, 0, -1, 1],
+    [1, 0, 0, 0, 1, 1],
+    [2, 2, 0, 0, 1, 3],
+    [3, 4, 0, 0, 2, 3],
+    [4, 6, 0, 0, -2, 3],
+    [2, 3, 4, 0, -3, -1],
+    [3, 1, 0, 0, 4, 3],
+    [5, 4, 0, 0, 5, 0],
+    [0, 2, 0, 0, 1, 0],
+];
+
+#[test]
+fn lists_of_the_built_graph(rt: HostRuntime) -> Result<(), Fail> {
+    for [n1, n2, n3, n4, piece, wrap] in BOARDS {
+        for directed in [false, true] {
+            let params = BoardParams {
+                n1,
+                n2,
+                n3,
+                n4,
+                piece,
+                wrap,
+                directed,
+            };
+            compare_all(&rt, rt.alloc(), &params)?;
+        }
+    }
+    Ok(())
+}
+
+// All lists of this board, each by itself and as one of all of them.
+fn compare_all<A: Abort>(rt: &A, alloc: Global, params: &BoardParams) -> Result<(), Fail> {
+    let graph = params.graph(alloc)?;
+    let board = Board::from_params(params)?;
+    let mut links = Links::new(alloc);
+    let mut v: u32 = 0;
+    for x in Vectors::all(board.family()) {
+        assert!(rt; v < graph.n());
+        assert!(rt; board.family().holds(x.as_slice()));
+        board.arcs_at(x.as_slice(), &mut links)?;
+        compare(rt, alloc, &graph, v, &links)?;
+        let mut lists = board.lists(&links);
+        lists.arcs_at(x.as_slice(), &mut links)?;
+        compare(rt, alloc, &graph, v, &links)?;
+        v += 1;
+    }
+    assert!(rt; v == graph.n());
+    Ok(())
+}

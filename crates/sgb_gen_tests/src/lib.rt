@@ -1,0 +1,36 @@
+//! Tests of the public calls of `sgb_gen`, in a crate of their own: so that crate is not proved once more for them.
+#![tactic(auto)]
+
+// the number of arcs of a board
+#[cfg(test)]
+mod board_counts;
+// the lists of a board
+#[cfg(test)]
+mod board_lists;
+// a list of links compared with a list of a graph
+#[cfg(test)]
+mod cases;
+// the displacements of a piece, by the lists of boards
+#[cfg(test)]
+mod displacements;
+// board, simplex and subsets
+#[cfg(test)]
+mod generators;
+// the short names
+#[cfg(test)]
+mod shorthands;
+// the number of arcs of a simplex
+#[cfg(test)]
+mod simplex_counts;
+// the lists of a simplex
+#[cfg(test)]
+mod simplex_lists;
+// an accepted simplex
+#[cfg(test)]
+mod simplexes;
+// accepted subsets
+#[cfg(test)]
+mod subsets;
+// the lists of subsets
+#[cfg(test)]
+mod subsets_lists;

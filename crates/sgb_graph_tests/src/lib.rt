@@ -1,0 +1,21 @@
+//! Tests of the public calls of `sgb_graph`, in a crate of their own: so that crate is not proved once more for them.
+#![tactic(auto)]
+
+// ids made of others
+#[cfg(test)]
+mod compound_ids;
+// random numbers
+#[cfg(test)]
+mod flips;
+// graphs, and how they grow
+#[cfg(test)]
+mod graphs;
+// ids
+#[cfg(test)]
+mod ids;
+// names of vertices
+#[cfg(test)]
+mod names;
+// the parts of a graph that a file brings
+#[cfg(test)]
+mod parts;
