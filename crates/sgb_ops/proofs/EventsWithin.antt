@@ -1,10 +1,10 @@
 -- Events whose ends are vertices of a graph.
-use Rattle.std.proofs.Common.{◌<◌, ◌≤◌, ◌+◌, ℕ, zero, suc, Bool, true, false, not, cond, List, [], ◌∷◌, map, length, Option, Some, None, arith}
-use Rattle.std.specs.Prelude.{All, filter, flat_map, slice_get, nat_lt}
+use Rattle.std.proofs.Common.{◌<◌, ◌≤◌, ◌+◌, ℕ, Bool, true, false, cond, List, [], ◌∷◌, map, length, Option, Some, None, arith}
+use Rattle.std.specs.Prelude.{All, flat_map, slice_get, nat_lt}
 use Rattle.std.specs.List.{range_with_len}
 use Rattle.std.specs.Option.{option_map_or}
 use Rattle.std.proofs.lemmas.Bool.{cond_both}
-use Rattle.std.proofs.lemmas.List.Elements.{All-nil, All-cons, All-head, All-tail, All-filter, All-map, All-weaker}
+use Rattle.std.proofs.lemmas.List.Elements.{All-nil, All-cons, All-head, All-tail, All-map, All-weaker}
 use Rattle.sgb_graph.specs.Graphs.{GraphData, chain_of, links_of}
 use Rattle.sgb_vec.proofs.Lists.{All-flat_map, range-within}
 use Rattle.sgb_graph.specs.Events.{Event, IsWithin}
@@ -15,7 +15,7 @@ use Rattle.sgb_graph.proofs.Growing.{parts_of}
 use Rattle.sgb_graph.proofs.Tips.{tips_below}
 use Rattle.sgb_ops.specs.inner.Ends.{AllWithin, event_of}
 use Rattle.sgb_ops.specs.inner.TakenArcs.{taken_of}
-use Rattle.sgb_ops.specs.Merged.{has_ends_of, with_least_length, merged, merged_unless}
+use Rattle.sgb_ops.specs.Merged.{merged_unless}
 use Rattle.sgb_ops.specs.Taken.{is_loop_with, each_edge_once, taken}
 use Rattle.sgb_ops.proofs.Merging.{merged_keeps}
 

@@ -51,3 +51,5 @@ pub mod EdgeLines
 pub mod CopiesInOrder
 -- worked examples
 pub mod Examples
+-- refusals that come before memory is taken
+pub mod Refusals

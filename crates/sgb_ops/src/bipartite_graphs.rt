@@ -16,14 +16,29 @@ use std::alloc::Global;
 /// second, with arcs where `directed` and edges where not. Its own utility field uu has `n1`. The id is
 /// `bi_complete(n1,n2,directed)`.
 ///
-/// `Bad` where `n1` or `n2` is negative; else `VeryBad` where they make more than 1,000,000,000 vertices. `NoRoom` when
-/// out of memory.
+/// `Bad` where `n1` or `n2` is negative; else `VeryBad` where they make more than 1,000,000,000 vertices; both whatever
+/// memory there is. `NoRoom` when out of memory.
 pub fn bi_complete(alloc: Global, n1: i64, n2: i64, directed: bool) -> Result<Graph, Panic>
-    ensures { IsAnswerOf (bi_complete_of n1 n2 directed) result }
+    ensures answer { IsAnswerOf (bi_complete_of n1 n2 directed) result }
+    ensures refused { (e : Panic) → accepted_parts n1 n2 ≡ Err e → result ≡ Err e }
 {
     let parts = accepted_parts(n1, n2)?;
+    bi_complete_by(alloc, n1, n2, &parts, directed)
+}
+
+// The complete bipartite graph of these numbers, whose entries these are.
+fn bi_complete_by(
+    alloc: Global,
+    n1: i64,
+    n2: i64,
+    parts: &[Entry],
+    directed: bool,
+) -> Result<Graph, Panic>
+    requires { accepted_parts n1 n2 ≡ Ok parts.now }
+    ensures { IsAnswerOf (bi_complete_of n1 n2 directed) result }
+{
     let pair = pair_of_vertices(alloc, directed)?;
-    let mut built = induced(alloc, &pair, &parts, false, false, directed)?;
+    let mut built = induced(alloc, &pair, parts, false, false, directed)?;
     built.set_uu(n1);
     built.set_id(numbers_id(b"bi_complete(", n1, n2, directed));
     Ok(built)

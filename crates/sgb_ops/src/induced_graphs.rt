@@ -1,7 +1,12 @@
 //! Induced graphs: vertices dropped, kept, repeated, merged, or with a graph put in their place (GB_BASIC, induced).
-ghost use Rattle.std.specs.Prelude.{◌≡◌};
+ghost use Rattle.std.specs.Prelude.{◌≡◌, ◌≤◌, Ok, Err, false, length, All};
+ghost use Rattle.std.specs.List.{list_any};
+ghost use Rattle.sgb_vec.specs.Limits.{most_vertices};
 ghost use Rattle.sgb_graph.specs.Descriptions.{IsAnswerOf};
-ghost use Rattle.sgb_ops.specs.Induced.{induced_id, induced_of};
+ghost use Rattle.sgb_ops.specs.Entries.{accepted_entries, is_unnumbered, total_of};
+ghost use Rattle.sgb_ops.specs.Induced.{induced_graph, induced_id, induced_of};
+ghost use Rattle.sgb_ops.specs.Operands.{order_of};
+ghost use Rattle.sgb_ops.specs.inner.Copies.{IsKeptEntry};
 
 use crate::copied_names::names_by_entries;
 use crate::entries::{Copies, Entry, accept_entries};
@@ -28,7 +33,7 @@ use std::alloc::Global;
 /// unless `multi`. The id is `induced(ID,,self_loops,multi,directed)`.
 ///
 /// `Bad` where the entries are not as many as the vertices of `graph`, or one is `Merged(0)`; else `VeryBad` where they
-/// make more than 1,000,000,000 vertices. `NoRoom` when out of memory.
+/// make more than 1,000,000,000 vertices; both whatever memory there is. `NoRoom` when out of memory.
 pub fn induced(
     alloc: Global,
     graph: &Graph,
@@ -37,9 +42,31 @@ pub fn induced(
     multi: bool,
     directed: bool,
 ) -> Result<Graph, Panic>
-    ensures { IsAnswerOf (induced_of graph.now entries.now self_loops multi directed) result }
+    ensures answer { IsAnswerOf (induced_of graph.now entries.now self_loops multi directed)
+        result }
+    ensures refused { (e : Panic)
+        → accepted_entries (order_of graph.now) entries.now ≡ Err e → result ≡ Err e }
 {
     accept_entries(graph.n(), entries)?;
+    induced_by(alloc, graph, entries, self_loops, multi, directed)
+}
+
+// The graph that is induced by these entries, which are accepted.
+fn induced_by(
+    alloc: Global,
+    graph: &Graph,
+    entries: &[Entry],
+    self_loops: bool,
+    multi: bool,
+    directed: bool,
+) -> Result<Graph, Panic>
+    requires count { length entries.now ≡ order_of graph.now }
+    requires numbered { list_any is_unnumbered entries.now ≡ false }
+    requires few { total_of entries.now ≤ most_vertices }
+    requires kept { All IsKeptEntry entries.now }
+    ensures { IsAnswerOf (Ok (induced_graph graph.now entries.now self_loops multi directed))
+        result }
+{
     let copies = Copies::new(alloc, entries)?;
     let flags = Flags {
         self_loops,

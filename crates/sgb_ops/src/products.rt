@@ -1,12 +1,12 @@
 //! The products of two graphs, on the pairs of their vertices (GB_BASIC, product).
-ghost use Rattle.std.specs.Prelude.{◌≡◌, ◌<◌, ◌≤◌, ◌*◌, ◌++◌, [], ◌∷◌, decimal, map, OnOk, IfOk, IsOkUnless};
+ghost use Rattle.std.specs.Prelude.{◌≡◌, ◌<◌, ◌≤◌, ◌*◌, ◌++◌, [], ◌∷◌, decimal, map, Ok, Err, OnOk, IfOk, IsOkUnless};
 ghost use Rattle.sgb_vec.specs.Limits.{most_vertices};
 ghost use Rattle.sgb_graph.specs.Descriptions.{IsAnswerOf};
 ghost use Rattle.sgb_graph.specs.Graphs.{chain_of};
 ghost use Rattle.sgb_graph.specs.Growth.{AddsEvents};
 ghost use Rattle.sgb_ops.specs.Lengths.{lesser};
 ghost use Rattle.sgb_ops.specs.Operands.{names_of, order_of, places_of};
-ghost use Rattle.sgb_ops.specs.Product.{both_step, both_steps, both_steps_at, both_steps_of_row, names_of_pairs, place_along, product_events, product_graph_of, product_id, product_type, single_steps, step_along, steps_along, steps_from, type_number};
+ghost use Rattle.sgb_ops.specs.Product.{both_step, both_steps, both_steps_at, both_steps_of_row, names_of_pairs, place_along, product_events, product_graph, product_graph_of, product_id, product_type, single_steps, step_along, steps_along, steps_from, type_number};
 ghost use Rattle.sgb_ops.specs.Titles.{pair_name};
 ghost use Rattle.sgb_ops.specs.inner.Pairs.{HasRoomForPairs};
 
@@ -27,7 +27,7 @@ use std::alloc::Global;
 /// direct product both arcs of each edge of `second`. The id is `product(ID1,ID2,kind,directed)`, with 0, 1 or 2 for the
 /// kind.
 ///
-/// `VeryBad` above 1,000,000,000 pairs. `NoRoom` when out of memory.
+/// `VeryBad` above 1,000,000,000 pairs, whatever memory there is. `NoRoom` when out of memory.
 pub fn product(
     alloc: Global,
     first: &Graph,
@@ -35,12 +35,27 @@ pub fn product(
     kind: i64,
     directed: bool,
 ) -> Result<Graph, Panic>
-    ensures { IsAnswerOf (product_graph_of first.now second.now kind directed) result }
+    ensures answer { IsAnswerOf (product_graph_of first.now second.now kind directed) result }
+    ensures refused { (e : Panic)
+        → product_graph_of first.now second.now kind directed ≡ Err e → result ≡ Err e }
 {
     if u64::from(first.n()) * u64::from(second.n()) > u64::from(MOST_VERTICES) {
         return Err(Panic::VeryBad);
     }
-    let product_type = ProductType::of(kind);
+    product_of_few(alloc, first, second, ProductType::of(kind), directed)
+}
+
+// The product of this type of two graphs that have not too many pairs of vertices.
+fn product_of_few(
+    alloc: Global,
+    first: &Graph,
+    second: &Graph,
+    product_type: ProductType,
+    directed: bool,
+) -> Result<Graph, Panic>
+    requires { order_of first.now * order_of second.now ≤ most_vertices }
+    ensures { IsAnswerOf (Ok (product_graph product_type first.now second.now directed)) result }
+{
     let names = names_of_pairs(alloc, first, second)?;
     let mut built = Graph::new(alloc, names)?;
     product_type.add_steps(&mut built, first, second, directed)?;

@@ -17,12 +17,27 @@ use std::alloc::Global;
 /// middle is joined to each of the rim, with arcs from the middle where `directed` and edges where not. Where `n` is not
 /// positive, the rim is the board of 8 by 8. The id is `wheel(n,n1,directed)`.
 ///
-/// `Bad` where `n1` is negative; else `VeryBad` where `n` or `n1` is above 1,000,000,000, or where they make more than
-/// 1,000,000,000 vertices. `NoRoom` when out of memory.
+/// `Bad` where `n1` is negative; else `VeryBad` where it is above 1,000,000,000, both whatever memory there is; else where
+/// `n` is, or where they make more than 1,000,000,000 vertices. `NoRoom` when out of memory.
 pub fn wheel(alloc: Global, n: i64, n1: i64, directed: bool) -> Result<Graph, Panic>
-    ensures { IsAnswerOf (wheel_of n n1 directed) result }
+    ensures answer { IsAnswerOf (wheel_of n n1 directed) result }
+    ensures refused { (e : Panic) → accepted_middle n1 ≡ Err e → result ≡ Err e }
 {
     let middle = accepted_middle(n1)?;
+    wheel_around(alloc, n, n1, middle, directed)
+}
+
+// The wheel of these numbers, whose middle is this entry.
+fn wheel_around(
+    alloc: Global,
+    n: i64,
+    n1: i64,
+    middle: Entry,
+    directed: bool,
+) -> Result<Graph, Panic>
+    requires { accepted_middle n1 ≡ Ok middle }
+    ensures { IsAnswerOf (wheel_of n n1 directed) result }
+{
     let rim = rim_of_wheel(alloc, n, directed)?;
     let pair = pair_of_vertices(alloc, directed)?;
     let entries = entries(middle, rim);

@@ -80,7 +80,7 @@ graph_of-returns-in_ok-left-in-Product t c =
     (at_values c.args.input.now _ _ a.first.value a.second.value _ c.deref-in-Product.ensures c.deref-in-Product-2.ensures c.in_ok-left-in-Product.ensures)
     (value_made (product_graph_of c.in_ok-left-in-Product.left c.in_ok-left-in-Product.right a.kind a.directed) c.product.result
     (subst (λ kind. IsAnswerOf (product_graph_of c.in_ok-left-in-Product.left c.in_ok-left-in-Product.right kind a.directed) c.product.result)
-    (to_z-of_z w64 a.kind (search rules)) c.product.ensures)))
+    (to_z-of_z w64 a.kind (search rules)) c.product.ensures.answer)))
 
 -- the answer to two integers that stand for themselves
 at_numbers : (make : ℤ → ℤ → Result Description Panic) (m n m' n' : ℤ) (r : Result GraphData Panic) → m' ≡ m → n' ≡ n → IsAnswerOf (make m' n') r → IsAnswerOf (make m n) r
@@ -91,14 +91,14 @@ graph_of-returns-in-BiComplete t c =
     let a = c.in-BiComplete in
     subst (λ (e : Expr). IsValue (value_of c.args.input.now (expression_of e)) c.bi_complete.result) (sym a.is)
     (value_made (bi_complete_of a.n1 a.n2 a.directed) c.bi_complete.result
-    (at_numbers (λ n1 n2. bi_complete_of n1 n2 a.directed) a.n1 a.n2 _ _ c.bi_complete.result (to_z-of_z w64 a.n1 (search rules)) (to_z-of_z w64 a.n2 (search rules)) c.bi_complete.ensures))
+    (at_numbers (λ n1 n2. bi_complete_of n1 n2 a.directed) a.n1 a.n2 _ _ c.bi_complete.result (to_z-of_z w64 a.n1 (search rules)) (to_z-of_z w64 a.n2 (search rules)) c.bi_complete.ensures.answer))
 
 pub graph_of-returns-in-Wheel : goal.graph_of-returns-in-Wheel
 graph_of-returns-in-Wheel t c =
     let a = c.in-Wheel in
     subst (λ (e : Expr). IsValue (value_of c.args.input.now (expression_of e)) c.wheel.result) (sym a.is)
     (value_made (wheel_of a.n a.n1 a.directed) c.wheel.result
-    (at_numbers (λ n n1. wheel_of n n1 a.directed) a.n a.n1 _ _ c.wheel.result (to_z-of_z w64 a.n (search rules)) (to_z-of_z w64 a.n1 (search rules)) c.wheel.ensures))
+    (at_numbers (λ n n1. wheel_of n n1 a.directed) a.n a.n1 _ _ c.wheel.result (to_z-of_z w64 a.n (search rules)) (to_z-of_z w64 a.n1 (search rules)) c.wheel.ensures.answer))
 
 pub graph_of-returns-in-Stdin : goal.graph_of-returns-in-Stdin
 graph_of-returns-in-Stdin t c =
@@ -140,7 +140,7 @@ graph_of-returns-in_ok-list-in-Induced t c =
     let list = c.in_ok-list-in-Induced.list.items in
     let operand = c.in_ok-operand-in-Induced.operand in
     let is = subst (λ (es : List EntryExpr). values_of c.args.input.now (entries_of (listed es)) ≡ Ok values) c.as_slice.ensures c.in_ok-values-in-Induced.ensures.ok in
-    let answer = subst (λ (es : List Handed). IsAnswerOf (induced_of operand es a.self_loops a.multi a.directed) c.induced.result) c.deref-in-Induced-2.ensures.value c.induced.ensures in
+    let answer = subst (λ (es : List Handed). IsAnswerOf (induced_of operand es a.self_loops a.multi a.directed) c.induced.result) c.deref-in-Induced-2.ensures.value c.induced.ensures.answer in
     subst (λ (v : Result GraphData Panic). IsValue v c.induced.result) (sym (induced_value c.args.input.now c.args.expression.now a.graph a.entries a.self_loops a.multi a.directed a.is))
     (entries_handed _ _ operand values a.self_loops a.multi a.directed c.induced.result
     (at_value c.args.input.now _ a.graph.value operand c.deref-in-Induced.ensures c.in_ok-operand-in-Induced.ensures) is

@@ -1,49 +1,28 @@
-use Rattle.std.proofs.Common.{◌≡◌, ◌∙◌, Ok, Err, false, w64, to_z, of_z, sym, ap}
+use Rattle.std.proofs.Common.{◌≡◌, ◌∙◌, ℤ, SFits, Err, w64, to_z, of_z, ap, subst}
 use Rattle.std.proofs.lemmas.Int.{to_z-of_z}
 use Rattle.std.proofs.lemmas.Result.{err_from_is_err_and}
-use Rattle.sgb_vec.specs.Results.{and_then}
-use Rattle.sgb_graph.specs.Growth.{with_id, with_uu}
-use Rattle.sgb_gen.specs.Boards.{board}
-use Rattle.sgb_ops.specs.BiComplete.{accepted_parts, bi_complete_id, with_parts}
-use Rattle.sgb_ops.specs.Boards.{pair_of_vertices}
-use Rattle.sgb_ops.specs.Induced.{induced_of}
-use Rattle.sgb_ops.proofs.AnswersOnward.{changed, induced_uses_none, onward, parts_made, refused_onward}
+use Rattle.sgb_graph.specs.Descriptions.{IsAnswerOf}
+use Rattle.sgb_ops.specs.BiComplete.{accepted_parts, bi_complete_of}
+use Rattle.sgb_ops.proofs.Refusals.{not_refused, same_refusal}
 use Rattle.sgb_ops.proofs.bipartite_graphs.bi_complete.Goals as goal
 
-pub returns : goal.returns
-returns c =
-    let n1 = c.args.n1 in
-    let n2 = c.args.n2 in
-    let d = c.args.directed in
-    let first = to_z-of_z w64 n1 c.ranges.n1 in
-    let second = to_z-of_z w64 n2 c.ranges.n2 in
-    let read1 = to_z w64 (of_z w64 n1) in
-    let read2 = to_z w64 (of_z w64 n2) in
-    let parts = c.in_ok-parts.parts in
-    let pair = c.in_ok-pair.pair in
-    let built = c.in_ok-built.built in
-    let new = c.set_id.new.self in
-    let accepted : accepted_parts n1 n2 ≡ Ok parts = ap (λ k. accepted_parts k n2) (sym first) ∙ (ap (accepted_parts read1) (sym second) ∙ c.in_ok-parts.ensures.ok) in
-    let id = c.numbers_id.ensures ∙ (ap (λ k. bi_complete_id k read2 d) first ∙ ap (λ k. bi_complete_id n1 k d) second) in
-    let uu = c.set_uu.ensures.data ∙ ap (λ k. with_uu k built) first in
-    let made = c.set_id.ensures ∙ (ap (λ t. with_id t c.set_uu.new.self) id ∙ ap (with_id (bi_complete_id n1 n2 d)) uu) in
-    rw accepted
-    (onward (board (pair_of_vertices d)) pair (λ g. and_then (induced_of g parts false false d) (λ x. Ok (with_parts n1 n2 d x))) (Ok new) c.in_ok-pair.ensures
-    (changed (induced_of pair parts false false d) built new (with_parts n1 n2 d) c.in_ok-built.ensures
-    (λ x is h. parts_made n1 n2 d x built new (induced_uses_none pair parts false false d x is) h made)))
+-- two numbers as the code keeps them
+read : (n1 n2 : ℤ) → SFits w64 n1 → SFits w64 n2 → accepted_parts (to_z w64 (of_z w64 n1)) (to_z w64 (of_z w64 n2)) ≡ accepted_parts n1 n2
+read n1 n2 first second =
+    ap (λ k. accepted_parts k (to_z w64 (of_z w64 n2))) (to_z-of_z w64 n1 first) ∙ ap (accepted_parts n1) (to_z-of_z w64 n2 second)
 
-pub returns-in_err-built : goal.returns-in_err-built
-returns-in_err-built c =
-    let n1 = c.args.n1 in
-    let n2 = c.args.n2 in
-    let d = c.args.directed in
-    let first = to_z-of_z w64 n1 c.ranges.n1 in
-    let second = to_z-of_z w64 n2 c.ranges.n2 in
-    let read1 = to_z w64 (of_z w64 n1) in
-    let parts = c.in_ok-parts.parts in
-    let pair = c.in_ok-pair.pair in
-    let accepted : accepted_parts n1 n2 ≡ Ok parts = ap (λ k. accepted_parts k n2) (sym first) ∙ (ap (accepted_parts read1) (sym second) ∙ c.in_ok-parts.ensures.ok) in
-    let p = err_from_is_err_and c.from_residual-in_err-built.result c.from_residual-in_err-built.ensures.1 in
-    rw (accepted, p.1, p.2)
-    (onward (board (pair_of_vertices d)) pair (λ g. and_then (induced_of g parts false false d) (λ x. Ok (with_parts n1 n2 d x))) (Err c.in_err-built.field-0.0) c.in_ok-pair.ensures
-    (refused_onward (induced_of pair parts false false d) c.in_err-built.field-0.0 (λ x. Ok (with_parts n1 n2 d x)) c.in_err-built.ensures))
+pub bi_complete_by-requires : goal.bi_complete_by-requires
+bi_complete_by-requires c = c.in_ok-parts.ensures.ok
+
+pub returns-clause-answer : goal.returns-clause-answer
+returns-clause-answer c =
+    subst (λ k. IsAnswerOf (bi_complete_of k c.args.n2 c.args.directed) c.bi_complete_by.result) (to_z-of_z w64 c.args.n1 c.ranges.n1)
+    (subst (λ k. IsAnswerOf (bi_complete_of (to_z w64 (of_z w64 c.args.n1)) k c.args.directed) c.bi_complete_by.result) (to_z-of_z w64 c.args.n2 c.ranges.n2) c.bi_complete_by.ensures)
+
+pub returns-clause-refused : goal.returns-clause-refused
+returns-clause-refused c = λ e is. absurd (not_refused _ _ e c.in_ok-parts.ensures.ok (read c.args.n1 c.args.n2 c.ranges.n1 c.ranges.n2 ∙ is))
+
+pub returns-in_err-parts-clause-refused : goal.returns-in_err-parts-clause-refused
+returns-in_err-parts-clause-refused c =
+    let p = err_from_is_err_and c.from_residual.result c.from_residual.ensures.1 in
+    λ e is. same_refusal _ _ e _ c.in_err-parts.ensures.refused (p.1 ∙ ap (λ x. Err x) p.2) (read c.args.n1 c.args.n2 c.ranges.n1 c.ranges.n2 ∙ is)

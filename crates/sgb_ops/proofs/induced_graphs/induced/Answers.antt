@@ -1,27 +1,24 @@
-use Rattle.std.proofs.Common.{◌≡◌, ◌∙◌, length, sym, ap, subst, arith}
-use Rattle.std.proofs.lemmas.List.{length-map}
-use Rattle.sgb_ops.specs.inner.Ends.{AllWithin}
-use Rattle.sgb_ops.specs.Induced.{all_events, wanted}
-use Rattle.sgb_ops.specs.Merged.{merged_unless}
-use Rattle.sgb_ops.specs.Operands.{names_of}
-use Rattle.sgb_ops.proofs.CopiesWithin.{induced_within, length-names}
+use Rattle.std.proofs.Common.{◌≡◌, ◌∙◌, Ok, Err, sym, ap}
+use Rattle.std.proofs.lemmas.Result.{err_from_is_err_and}
+use Rattle.sgb_ops.specs.Entries.{accepted_entries}
+use Rattle.sgb_ops.specs.Operands.{order_of}
+use Rattle.sgb_ops.proofs.Refusals.{not_refused, same_refusal}
 use Rattle.sgb_ops.proofs.induced_graphs.induced.Goals as goal
 
-pub graph_of-requires-clause-few : goal.graph_of-requires-clause-few
-graph_of-requires-clause-few c =
-    let g = c.args.graph.now in
-    let entries = c.args.entries.now in
-    let count : length entries ≡ length (names_of g) = c.in_ok-accept_entries.ensures.count ∙ (c.n.ensures.count ∙ sym (length-map g.vertices (λ x. x.name))) in
-    omega (arith, ap length c.in_ok-names.ensures.ok, length-names (names_of g) entries count, c.in_ok-accept_entries.ensures.few)
+pub induced_by-requires-clause-count : goal.induced_by-requires-clause-count
+induced_by-requires-clause-count c = c.in_ok-accept_entries.ensures.count ∙ c.n.ensures.count
 
-pub graph_of-requires-clause-within : goal.graph_of-requires-clause-within
-graph_of-requires-clause-within c =
-    let g = c.args.graph.now in
-    let entries = c.args.entries.now in
-    let self = c.args.self_loops in
-    let d = c.args.directed in
-    let count : length entries ≡ length (names_of g) = c.in_ok-accept_entries.ensures.count ∙ (c.n.ensures.count ∙ sym (length-map g.vertices (λ x. x.name))) in
-    let size = ap length c.in_ok-names.ensures.ok ∙ length-names (names_of g) entries count in
-    let all = c.in_ok-all.ensures.ok ∙ ap (λ es. wanted self (all_events g es d)) c.in_ok-copies.ensures.ok in
-    let same = c.deref.ensures.value ∙ (c.in_ok-events.ensures.ok ∙ ap (merged_unless _ d) all) in
-    subst (λ k. AllWithin k c.deref.result.now) (sym size) (subst (AllWithin _) (sym same) (induced_within entries d c.in_ok-accept_entries.ensures.numbered g self _ c.in_ok-accept_entries.ensures.kept))
+pub returns-clause-answer : goal.returns-clause-answer
+returns-clause-answer c =
+    let accepted : accepted_entries (order_of c.args.graph.now) c.args.entries.now ≡ Ok c.args.entries.now =
+    ap (λ n. accepted_entries n c.args.entries.now) (sym c.n.ensures.count) ∙ c.in_ok-accept_entries.ensures.ok in
+    rw accepted c.induced_by.ensures
+
+pub returns-clause-refused : goal.returns-clause-refused
+returns-clause-refused c =
+    λ e is. absurd (not_refused _ _ e c.in_ok-accept_entries.ensures.ok (ap (λ n. accepted_entries n c.args.entries.now) c.n.ensures.count ∙ is))
+
+pub returns-in_err-accept_entries-clause-refused : goal.returns-in_err-accept_entries-clause-refused
+returns-in_err-accept_entries-clause-refused c =
+    let p = err_from_is_err_and c.from_residual.result c.from_residual.ensures.1 in
+    λ e is. same_refusal _ _ e _ c.in_err-accept_entries.ensures.refused (p.1 ∙ ap (λ x. Err x) p.2) (ap (λ n. accepted_entries n c.args.entries.now) c.n.ensures.count ∙ is)

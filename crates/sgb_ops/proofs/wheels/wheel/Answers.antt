@@ -1,103 +1,27 @@
-use Rattle.std.proofs.Common.{◌≡◌, ◌∙◌, ℤ, Bool, Result, Ok, Err, [], ◌∷◌, false, SFits, w64, to_z, of_z, sym, ap, subst}
+use Rattle.std.proofs.Common.{◌≡◌, ◌∙◌, ℤ, SFits, Err, w64, to_z, of_z, ap, subst}
 use Rattle.std.proofs.lemmas.Int.{to_z-of_z}
 use Rattle.std.proofs.lemmas.Result.{err_from_is_err_and}
-use Rattle.sgb_vec.specs.Results.{and_then}
-use Rattle.sgb_vec.specs.declared.panics.Panic.{Panic}
-use Rattle.sgb_graph.specs.Descriptions.{Description, IsAnswerOf}
-use Rattle.sgb_graph.specs.Graphs.{GraphData}
-use Rattle.sgb_graph.specs.Growth.{with_id}
-use Rattle.sgb_graph.specs.Made.{graph_described}
-use Rattle.sgb_gen.specs.Boards.{board}
-use Rattle.sgb_ops.specs.declared.entries.Entry.{Entry}
-use Rattle.sgb_ops.specs.declared.entries.Entry.TheVariants as entry
-use Rattle.sgb_ops.specs.Boards.{pair_of_vertices, rim_of_wheel}
-use Rattle.sgb_ops.specs.Induced.{induced_of}
-use Rattle.sgb_ops.specs.Wheel.{accepted_middle, wheel_id, wheel_of, with_wheel_id}
-use Rattle.sgb_ops.proofs.AnswersOnward.{changed, onward, refused_onward, wheel_made}
+use Rattle.sgb_graph.specs.Descriptions.{IsAnswerOf}
+use Rattle.sgb_ops.specs.Wheel.{accepted_middle, wheel_of}
+use Rattle.sgb_ops.proofs.Refusals.{not_refused, same_refusal}
 use Rattle.sgb_ops.proofs.wheels.wheel.Goals as goal
 
 -- a number as the code keeps it
-abbrev kept : ℤ → ℤ
-kept n = to_z w64 (of_z w64 n)
+read : (n1 : ℤ) → SFits w64 n1 → accepted_middle (to_z w64 (of_z w64 n1)) ≡ accepted_middle n1
+read n1 fits = ap accepted_middle (to_z-of_z w64 n1 fits)
 
--- the last step, and those after the pair, after the rim, and after the middle
-abbrev named : ℤ → ℤ → Bool → Description → Result Description Panic
-named n n1 d x = Ok (with_wheel_id n n1 d x)
+pub wheel_around-requires : goal.wheel_around-requires
+wheel_around-requires c = c.in_ok-middle.ensures.ok
 
-abbrev after_pair : ℤ → ℤ → Bool → Entry → GraphData → GraphData → Result Description Panic
-after_pair n n1 d middle rim pair = and_then (induced_of pair (middle ∷ entry.Graph rim ∷ []) false false d) (named n n1 d)
+pub returns-clause-answer : goal.returns-clause-answer
+returns-clause-answer c =
+    subst (λ k. IsAnswerOf (wheel_of k c.args.n1 c.args.directed) c.wheel_around.result) (to_z-of_z w64 c.args.n c.ranges.n)
+    (subst (λ k. IsAnswerOf (wheel_of (to_z w64 (of_z w64 c.args.n)) k c.args.directed) c.wheel_around.result) (to_z-of_z w64 c.args.n1 c.ranges.n1) c.wheel_around.ensures)
 
-abbrev after_rim : ℤ → ℤ → Bool → Entry → GraphData → Result Description Panic
-after_rim n n1 d middle rim = and_then (board (pair_of_vertices d)) (λ p. after_pair n n1 d middle rim (graph_described p))
+pub returns-clause-refused : goal.returns-clause-refused
+returns-clause-refused c = λ e is. absurd (not_refused _ _ e c.in_ok-middle.ensures.ok (read c.args.n1 c.ranges.n1 ∙ is))
 
--- the middle is accepted: the answer is that of what follows
-middle_there : (n n1 : ℤ) (d : Bool) (middle : Entry) (result : Result GraphData Panic) → SFits w64 n1 → accepted_middle (kept n1) ≡ Ok middle
-    → IsAnswerOf (and_then (board (rim_of_wheel n d)) (λ h. after_rim n n1 d middle (graph_described h))) result → IsAnswerOf (wheel_of n n1 d) result
-middle_there n n1 d middle result fits accepted answer =
-    let is : accepted_middle n1 ≡ Ok middle = ap accepted_middle (sym (to_z-of_z w64 n1 fits)) ∙ accepted in
-    rw is answer
-
--- the rim is made too
-rim_there : (n n1 : ℤ) (d : Bool) (middle : Entry) (rim : GraphData) (result : Result GraphData Panic) → SFits w64 n → SFits w64 n1 → accepted_middle (kept n1) ≡ Ok middle
-    → IsAnswerOf (board (rim_of_wheel (kept n) d)) (Ok rim) → IsAnswerOf (after_rim n n1 d middle rim) result → IsAnswerOf (wheel_of n n1 d) result
-rim_there n n1 d middle rim result around inside accepted made answer =
-    middle_there n n1 d middle result inside accepted
-    (onward (board (rim_of_wheel n d)) rim (after_rim n n1 d middle) result (subst (λ k. IsAnswerOf (board (rim_of_wheel k d)) (Ok rim)) (to_z-of_z w64 n around) made) answer)
-
--- and the pair
-pair_there : (n n1 : ℤ) (d : Bool) (middle : Entry) (rim pair : GraphData) (result : Result GraphData Panic) → SFits w64 n → SFits w64 n1 → accepted_middle (kept n1) ≡ Ok middle
-    → IsAnswerOf (board (rim_of_wheel (kept n) d)) (Ok rim) → IsAnswerOf (board (pair_of_vertices d)) (Ok pair) → IsAnswerOf (after_pair n n1 d middle rim pair) result → IsAnswerOf (wheel_of n n1 d) result
-pair_there n n1 d middle rim pair result around inside accepted made two answer =
-    rim_there n n1 d middle rim result around inside accepted made (onward (board (pair_of_vertices d)) pair (after_pair n n1 d middle rim) result two answer)
-
-pub returns : goal.returns
-returns c =
-    let n = c.args.n in
-    let n1 = c.args.n1 in
-    let d = c.args.directed in
-    let pair = c.in_ok-pair.pair in
-    let built = c.in_ok-built.built in
-    let new = c.set_id.new.self in
-    let id = c.numbers_id.ensures ∙ (ap (λ k. wheel_id k (kept n1) d) (to_z-of_z w64 n c.ranges.n) ∙ ap (λ k. wheel_id n k d) (to_z-of_z w64 n1 c.ranges.n1)) in
-    let made = c.set_id.ensures ∙ ap (λ t. with_id t built) id in
-    let answer = subst (λ es. IsAnswerOf (induced_of pair es false false d) (Ok built)) c.entries-entries.ensures c.in_ok-built.ensures in
-    pair_there n n1 d c.in_ok-middle.middle c.in_ok-rim.rim pair (Ok new) c.ranges.n c.ranges.n1 c.in_ok-middle.ensures.ok c.in_ok-rim.ensures c.in_ok-pair.ensures
-    (changed (induced_of pair (c.in_ok-middle.middle ∷ entry.Graph c.in_ok-rim.rim ∷ []) false false d) built new (with_wheel_id n n1 d) answer (λ x is h. wheel_made n n1 d x built new h made))
-
-pub returns-in_err-built : goal.returns-in_err-built
-returns-in_err-built c =
-    let n = c.args.n in
-    let n1 = c.args.n1 in
-    let d = c.args.directed in
-    let pair = c.in_ok-pair.pair in
-    let e = c.in_err-built.field-0.0 in
-    let p = err_from_is_err_and c.from_residual-in_err-built.result c.from_residual-in_err-built.ensures.1 in
-    let answer = subst (λ es. IsAnswerOf (induced_of pair es false false d) (Err e)) c.entries-entries.ensures c.in_err-built.ensures in
-    rw (p.1, p.2)
-    (pair_there n n1 d c.in_ok-middle.middle c.in_ok-rim.rim pair (Err e) c.ranges.n c.ranges.n1 c.in_ok-middle.ensures.ok c.in_ok-rim.ensures c.in_ok-pair.ensures
-    (refused_onward (induced_of pair (c.in_ok-middle.middle ∷ entry.Graph c.in_ok-rim.rim ∷ []) false false d) e (named n n1 d) answer))
-
-pub returns-in_err-rim : goal.returns-in_err-rim
-returns-in_err-rim c =
-    let n = c.args.n in
-    let n1 = c.args.n1 in
-    let d = c.args.directed in
-    let middle = c.in_ok-middle.middle in
-    let e = c.in_err-rim.field-0.0 in
-    let p = err_from_is_err_and c.from_residual-in_err-rim.result c.from_residual-in_err-rim.ensures.1 in
-    let answer = subst (λ k. IsAnswerOf (board (rim_of_wheel k d)) (Err e)) (to_z-of_z w64 n c.ranges.n) c.in_err-rim.ensures in
-    rw (p.1, p.2)
-    (middle_there n n1 d middle (Err e) c.ranges.n1 c.in_ok-middle.ensures.ok (refused_onward (board (rim_of_wheel n d)) e (λ h. after_rim n n1 d middle (graph_described h)) answer))
-
-pub returns-in_err-pair : goal.returns-in_err-pair
-returns-in_err-pair c =
-    let n = c.args.n in
-    let n1 = c.args.n1 in
-    let d = c.args.directed in
-    let middle = c.in_ok-middle.middle in
-    let rim = c.in_ok-rim.rim in
-    let e = c.in_err-pair.field-0.0 in
-    let p = err_from_is_err_and c.from_residual-in_err-pair.result c.from_residual-in_err-pair.ensures.1 in
-    rw (p.1, p.2)
-    (rim_there n n1 d middle rim (Err e) c.ranges.n c.ranges.n1 c.in_ok-middle.ensures.ok c.in_ok-rim.ensures
-    (refused_onward (board (pair_of_vertices d)) e (λ p. after_pair n n1 d middle rim (graph_described p)) c.in_err-pair.ensures))
+pub returns-in_err-middle-clause-refused : goal.returns-in_err-middle-clause-refused
+returns-in_err-middle-clause-refused c =
+    let p = err_from_is_err_and c.from_residual.result c.from_residual.ensures.1 in
+    λ e is. same_refusal _ _ e _ c.in_err-middle.ensures.refused (p.1 ∙ ap (λ x. Err x) p.2) (read c.args.n1 c.ranges.n1 ∙ is)

@@ -1,0 +1,31 @@
+use Rattle.std.proofs.Common.{◌∙◌, length, ap, rules, arith}
+use Rattle.std.proofs.lemmas.List.{length-map}
+use Rattle.sgb_graph.specs.Growth.{new_vertex}
+use Rattle.sgb_graph.specs.Sound.{arc_kinds}
+use Rattle.sgb_ops.specs.Product.{names_of_pairs, product_events, product_id}
+use Rattle.sgb_ops.proofs.Pairs.{length-names_of_pairs}
+use Rattle.sgb_ops.proofs.Results.{made}
+use Rattle.sgb_ops.proofs.products.product_of_few.Goals as goal
+
+pub add_steps-requires : goal.add_steps-requires
+add_steps-requires c =
+    let g = c.args.first.now in
+    let h = c.args.second.now in
+    let count = ap (λ k. length k.vertices) c.in_ok-built.ensures.ok ∙ (length-map c.in_ok-names.names new_vertex ∙ (ap length c.in_ok-names.ensures.ok ∙ length-names_of_pairs g h)) in
+    record { room = (c.requires, count, ap (λ k. arc_kinds k.kinds) c.in_ok-built.ensures.ok) }
+
+pub returns : goal.returns
+returns c =
+    let g = c.args.first.now in
+    let h = c.args.second.now in
+    let d = c.args.directed in
+    let t = c.args.product_type in
+    made d (product_events t g h d) (names_of_pairs g h) c.in_ok-names.names (product_id g.id h.id t d) _ c.in_ok-built.built c.add_steps.new.built c.set_id.new.self
+    c.in_ok-names.ensures.ok c.in_ok-built.ensures.ok c.in_ok-add_steps.ensures.ok
+    (c.id-3.ensures ∙ (ap (λ id. product_id id c.id-2.result.now t d) c.id.ensures ∙ ap (λ id. product_id g.id id t d) c.id-2.ensures)) c.set_id.ensures
+
+pub returns-in_err-built : goal.returns-in_err-built
+returns-in_err-built c =
+    let count = ap length c.in_ok-names.ensures.ok ∙ length-names_of_pairs c.args.first.now c.args.second.now in
+    let memory = c.in_err-built.ensures.err (omega (arith, count, c.requires)) in
+    search (rules, memory)

@@ -1,0 +1,102 @@
+use Rattle.std.proofs.Common.{◌≡◌, ◌∙◌, ℤ, Bool, Result, Ok, Err, [], ◌∷◌, false, SFits, w64, to_z, of_z, ap, subst}
+use Rattle.std.proofs.lemmas.Int.{to_z-of_z}
+use Rattle.std.proofs.lemmas.Result.{err_from_is_err_and}
+use Rattle.sgb_vec.specs.Results.{and_then}
+use Rattle.sgb_vec.specs.declared.panics.Panic.{Panic}
+use Rattle.sgb_graph.specs.Descriptions.{Description, IsAnswerOf}
+use Rattle.sgb_graph.specs.Graphs.{GraphData}
+use Rattle.sgb_graph.specs.Growth.{with_id}
+use Rattle.sgb_graph.specs.Made.{graph_described}
+use Rattle.sgb_gen.specs.Boards.{board}
+use Rattle.sgb_ops.specs.declared.entries.Entry.{Entry}
+use Rattle.sgb_ops.specs.declared.entries.Entry.TheVariants as entry
+use Rattle.sgb_ops.specs.Boards.{pair_of_vertices, rim_of_wheel}
+use Rattle.sgb_ops.specs.Induced.{induced_of}
+use Rattle.sgb_ops.specs.Wheel.{accepted_middle, wheel_id, wheel_of, with_wheel_id}
+use Rattle.sgb_ops.proofs.AnswersOnward.{changed, onward, refused_onward, wheel_made}
+use Rattle.sgb_ops.proofs.wheels.wheel_around.Goals as goal
+
+-- a number as the code keeps it
+abbrev kept : ℤ → ℤ
+kept n = to_z w64 (of_z w64 n)
+
+-- the last step, and those after the pair, after the rim, and after the middle
+abbrev named : ℤ → ℤ → Bool → Description → Result Description Panic
+named n n1 d x = Ok (with_wheel_id n n1 d x)
+
+abbrev after_pair : ℤ → ℤ → Bool → Entry → GraphData → GraphData → Result Description Panic
+after_pair n n1 d middle rim pair = and_then (induced_of pair (middle ∷ entry.Graph rim ∷ []) false false d) (named n n1 d)
+
+abbrev after_rim : ℤ → ℤ → Bool → Entry → GraphData → Result Description Panic
+after_rim n n1 d middle rim = and_then (board (pair_of_vertices d)) (λ p. after_pair n n1 d middle rim (graph_described p))
+
+-- the middle is accepted: the answer is that of what follows
+middle_there : (n n1 : ℤ) (d : Bool) (middle : Entry) (result : Result GraphData Panic) → accepted_middle n1 ≡ Ok middle
+    → IsAnswerOf (and_then (board (rim_of_wheel n d)) (λ h. after_rim n n1 d middle (graph_described h))) result → IsAnswerOf (wheel_of n n1 d) result
+middle_there n n1 d middle result accepted answer =
+    rw accepted answer
+
+-- the rim is made too
+rim_there : (n n1 : ℤ) (d : Bool) (middle : Entry) (rim : GraphData) (result : Result GraphData Panic) → SFits w64 n → accepted_middle n1 ≡ Ok middle
+    → IsAnswerOf (board (rim_of_wheel (kept n) d)) (Ok rim) → IsAnswerOf (after_rim n n1 d middle rim) result → IsAnswerOf (wheel_of n n1 d) result
+rim_there n n1 d middle rim result around accepted made answer =
+    middle_there n n1 d middle result accepted
+    (onward (board (rim_of_wheel n d)) rim (after_rim n n1 d middle) result (subst (λ k. IsAnswerOf (board (rim_of_wheel k d)) (Ok rim)) (to_z-of_z w64 n around) made) answer)
+
+-- and the pair
+pair_there : (n n1 : ℤ) (d : Bool) (middle : Entry) (rim pair : GraphData) (result : Result GraphData Panic) → SFits w64 n → accepted_middle n1 ≡ Ok middle
+    → IsAnswerOf (board (rim_of_wheel (kept n) d)) (Ok rim) → IsAnswerOf (board (pair_of_vertices d)) (Ok pair) → IsAnswerOf (after_pair n n1 d middle rim pair) result → IsAnswerOf (wheel_of n n1 d) result
+pair_there n n1 d middle rim pair result around accepted made two answer =
+    rim_there n n1 d middle rim result around accepted made (onward (board (pair_of_vertices d)) pair (after_pair n n1 d middle rim) result two answer)
+
+pub returns : goal.returns
+returns c =
+    let n = c.args.n in
+    let n1 = c.args.n1 in
+    let d = c.args.directed in
+    let pair = c.in_ok-pair.pair in
+    let built = c.in_ok-built.built in
+    let new = c.set_id.new.self in
+    let id = c.numbers_id.ensures ∙ (ap (λ k. wheel_id k (kept n1) d) (to_z-of_z w64 n c.ranges.n) ∙ ap (λ k. wheel_id n k d) (to_z-of_z w64 n1 c.ranges.n1)) in
+    let made = c.set_id.ensures ∙ ap (λ t. with_id t built) id in
+    let answer = subst (λ es. IsAnswerOf (induced_of pair es false false d) (Ok built)) c.entries-entries.ensures c.in_ok-built.ensures.answer in
+    pair_there n n1 d c.args.middle c.in_ok-rim.rim pair (Ok new) c.ranges.n c.requires c.in_ok-rim.ensures c.in_ok-pair.ensures
+    (changed (induced_of pair (c.args.middle ∷ entry.Graph c.in_ok-rim.rim ∷ []) false false d) built new (with_wheel_id n n1 d) answer (λ x is h. wheel_made n n1 d x built new h made))
+
+pub returns-in_err-built : goal.returns-in_err-built
+returns-in_err-built c =
+    let n = c.args.n in
+    let n1 = c.args.n1 in
+    let d = c.args.directed in
+    let pair = c.in_ok-pair.pair in
+    let e = c.in_err-built.field-0.0 in
+    let p = err_from_is_err_and c.from_residual-in_err-built.result c.from_residual-in_err-built.ensures.1 in
+    let answer = subst (λ es. IsAnswerOf (induced_of pair es false false d) (Err e)) c.entries-entries.ensures c.in_err-built.ensures.answer in
+    rw (p.1, p.2)
+    (pair_there n n1 d c.args.middle c.in_ok-rim.rim pair (Err e) c.ranges.n c.requires c.in_ok-rim.ensures c.in_ok-pair.ensures
+    (refused_onward (induced_of pair (c.args.middle ∷ entry.Graph c.in_ok-rim.rim ∷ []) false false d) e (named n n1 d) answer))
+
+pub returns-in_err-rim : goal.returns-in_err-rim
+returns-in_err-rim c =
+    let n = c.args.n in
+    let n1 = c.args.n1 in
+    let d = c.args.directed in
+    let middle = c.args.middle in
+    let e = c.in_err-rim.field-0.0 in
+    let p = err_from_is_err_and c.from_residual.result c.from_residual.ensures.1 in
+    let answer = subst (λ k. IsAnswerOf (board (rim_of_wheel k d)) (Err e)) (to_z-of_z w64 n c.ranges.n) c.in_err-rim.ensures in
+    rw (p.1, p.2)
+    (middle_there n n1 d middle (Err e) c.requires (refused_onward (board (rim_of_wheel n d)) e (λ h. after_rim n n1 d middle (graph_described h)) answer))
+
+pub returns-in_err-pair : goal.returns-in_err-pair
+returns-in_err-pair c =
+    let n = c.args.n in
+    let n1 = c.args.n1 in
+    let d = c.args.directed in
+    let middle = c.args.middle in
+    let rim = c.in_ok-rim.rim in
+    let e = c.in_err-pair.field-0.0 in
+    let p = err_from_is_err_and c.from_residual-in_err-pair.result c.from_residual-in_err-pair.ensures.1 in
+    rw (p.1, p.2)
+    (rim_there n n1 d middle rim (Err e) c.ranges.n c.requires c.in_ok-rim.ensures
+    (refused_onward (board (pair_of_vertices d)) e (λ p. after_pair n n1 d middle rim (graph_described p)) c.in_err-pair.ensures))
