@@ -146,9 +146,12 @@ row-few : (r low n k : ℕ) (bs : List ℕ) → k < n → length (row r bs (low 
 row-few r low n k bs less =
     let parts : rows r bs low n ≡ rows r bs (low + suc k) (n - suc k) ++ rows r bs low (suc k) =
     ap (rows r bs low) {y = suc k + (n - suc k)} (omega arith) ∙ rows-parts r bs low (suc k) (n - suc k) in
-    omega (arith, ap length parts,
-    length-append (rows r bs (low + suc k) (n - suc k)) (rows r bs low (suc k)),
-    length-append (row r bs (low + k)) (rows r bs low k))
+    omega (
+      arith,
+      ap length parts,
+      length-append (rows r bs (low + suc k) (n - suc k)) (rows r bs low (suc k)),
+      length-append (row r bs (low + k)) (rows r bs low k),
+    )
 
 length-row : (r e : ℕ) (bs : List ℕ) → e ≤ r → length (row r bs e) ≡ length (bounded_sums (r - e) bs)
 length-row r e bs within =
@@ -167,10 +170,17 @@ pub few-counted : (sb c r h low n k counted more most : ℕ) (bs x : List ℕ) �
     → more ≡ wanted_among sb (c + min h (low + k)) x (reverse (bounded_sums (r - (low + k)) bs))
     → length (rows r bs low n) ≤ most → counted + more ≤ most
 few-counted sb c r h low n k counted more most bs x less within so_far is few =
-    omega (arith, few, so_far, is, row-few r low n k bs less, length-row r (low + k) bs within,
-    among-most sb c (h ∷ x) (rows r bs low k),
-    among-most sb (c + min h (low + k)) x (reverse (bounded_sums (r - (low + k)) bs)),
-    length-reverse (bounded_sums (r - (low + k)) bs))
+    omega (
+      arith,
+      few,
+      so_far,
+      is,
+      row-few r low n k bs less,
+      length-row r (low + k) bs within,
+      among-most sb c (h ∷ x) (rows r bs low k),
+      among-most sb (c + min h (low + k)) x (reverse (bounded_sums (r - (low + k)) bs)),
+      length-reverse (bounded_sums (r - (low + k)) bs),
+    )
 
 -- the rows of all vectors
 length-rows : (r b : ℕ) (bs : List ℕ) → length (rows r bs 0 (b + 1)) ≡ length (bounded_sums r (b ∷ bs))
@@ -197,10 +207,12 @@ first_within b h bs xs bounds x bounds_are x_is within = (subst (IsWithin (h ∷
 
 pub few-own : (r b h most : ℕ) (bs xs bounds x : List ℕ) → bounds ≡ b ∷ bs → x ≡ h ∷ xs → IsWithin x bounds → h ≤ r → length (bounded_sums r bounds) ≤ most → length (bounded_sums (r - h) bs) ≤ most
 few-own r b h most bs xs bounds x bounds_are x_is within small few =
-    omega (arith,
-    few-after r 0 (b + 1) h most bs (omega (arith, first_within b h bs xs bounds x bounds_are x_is within)) (omega arith)
-    (omega (arith, few, ap (λ cs. length (bounded_sums r cs)) bounds_are, length-rows r b bs)),
-    ap (λ n. length (bounded_sums (r - n) bs)) {x = 0 + h} {y = h} (omega arith))
+    omega (
+      arith,
+      few-after r 0 (b + 1) h most bs (omega (arith, first_within b h bs xs bounds x bounds_are x_is within)) (omega arith)
+          (omega (arith, few, ap (λ cs. length (bounded_sums r cs)) bounds_are, length-rows r b bs)),
+      ap (λ n. length (bounded_sums (r - n) bs)) {x = 0 + h} {y = h} (omega arith),
+    )
 
 -- those from x on down are among all
 down-few : (bs x : List ℕ) → IsWithin x bs → length (down_from bs x) ≤ length (bounded_sums (sum x) bs)
@@ -267,8 +279,12 @@ pub moves-few : (s : SubsetsData) → length (subsets_vectors s) ≤ most_vertic
 unfolding moves_of_subsets
 moves-few s few =
     let vectors = subsets_vectors s in
-    omega (arith, few, length-range_with_len 0 (length vectors),
-    few_joined (moves_to_place s.size_bits vectors) (λ i. omega (arith, few, few_to_place s i)) (range_with_len 0 (length vectors)))
+    omega (
+      arith,
+      few,
+      length-range_with_len 0 (length vectors),
+      few_joined (moves_to_place s.size_bits vectors) (λ i. omega (arith, few, few_to_place s i)) (range_with_len 0 (length vectors)),
+    )
 
 -- ---- the arcs of the graph
 

@@ -90,11 +90,7 @@ fn count_rows(begun: Begun, bound: u32, own: u32, bounds: &[u32], x: &[u32], end
     let entries = with_room(begun.left, begun.room - u64::from(bound), 0, end);
     let mut counted: u64 = 0;
     for k in 0..entries.count {
-        counted += count_all(
-            placed(begun, bound, own, entries.least + k),
-            bounds,
-            x,
-        );
+        counted += count_all(placed(begun, bound, own, entries.least + k), bounds, x);
     }
     counted
 }

@@ -49,7 +49,14 @@ impl Subsets {
         ensures memory { IsOkUnless result Panic.NoRoom }
     {
         let mut front = links.take_entries();
-        push_both(self.directed, self.begun(), self.shape.sizes(), x, &mut front, links)?;
+        push_both(
+            self.directed,
+            self.begun(),
+            self.shape.sizes(),
+            x,
+            &mut front,
+            links,
+        )?;
         links.keep_entries(front);
         Ok(())
     }

@@ -1,4 +1,4 @@
-use Rattle.std.proofs.Common.{◌≡◌, ◌+◌, sum, ap, ◌∙◌, inl, inr, arith, rules}
+use Rattle.std.proofs.Common.{◌≡◌, ◌+◌, min, sum, ap, ◌∙◌, inl, inr, arith, rules}
 use Rattle.sgb_vec.specs.Limits.{most_vertices}
 use Rattle.sgb_vec.proofs.SumSuccessors.{sum-cons}
 use Rattle.sgb_gen.specs.inner.Descents.{down_from}
@@ -25,9 +25,10 @@ pub returns : goal.returns
 returns t c =
     let b = c.args.begun in
     let s = c.in-Some-Some in
+    let others : c.count_from.result ≡ wanted_among b.size_bits (b.common + min s.own.now s.own.now) s.x.now (down_from s.bounds.now s.x.now) =
+    c.count_from.ensures ∙ ap (λ q. wanted_among q.size_bits q.common s.x.now (down_from s.bounds.now s.x.now)) c.placed.ensures in
     among-from b.size_bits b.common b.left s.bound.now s.own.now c.count_rows-lower.result c.count_from.result s.bounds.now s.x.now c.args.bounds.now c.args.x.now
-    s.ensures.cases.0 s.ensures'.cases.0 c.requires.all c.count_rows-lower.ensures
-    (c.count_from.ensures ∙ ap (λ q. wanted_among q.size_bits q.common s.x.now (down_from s.bounds.now s.x.now)) c.placed.ensures)
+    s.ensures.cases.0 s.ensures'.cases.0 c.requires.all c.count_rows-lower.ensures others
 
 pub count_rows-lower-requires-clause-few : goal.count_rows-lower-requires-clause-few
 count_rows-lower-requires-clause-few t c =
@@ -50,7 +51,8 @@ pub overflow_add-result : goal.overflow_add-result
 overflow_add-result t c =
     let b = c.args.begun in
     let s = c.in-Some-Some in
+    let others : c.count_from.result ≡ wanted_among b.size_bits (b.common + min s.own.now s.own.now) s.x.now (down_from s.bounds.now s.x.now) =
+    c.count_from.ensures ∙ ap (λ q. wanted_among q.size_bits q.common s.x.now (down_from s.bounds.now s.x.now)) c.placed.ensures in
     let counted = among-from b.size_bits b.common b.left s.bound.now s.own.now c.count_rows-lower.result c.count_from.result s.bounds.now s.x.now c.args.bounds.now c.args.x.now
-    s.ensures.cases.0 s.ensures'.cases.0 c.requires.all c.count_rows-lower.ensures
-    (c.count_from.ensures ∙ ap (λ q. wanted_among q.size_bits q.common s.x.now (down_from s.bounds.now s.x.now)) c.placed.ensures) in
+    s.ensures.cases.0 s.ensures'.cases.0 c.requires.all c.count_rows-lower.ensures others in
     omega (arith, counted, few-from b.size_bits b.common b.left most_vertices c.args.bounds.now c.args.x.now c.requires.begun.within c.requires.all c.requires.few)

@@ -58,9 +58,13 @@ count_rows-overflow_add-counted t c =
     let x = c.args.x.now in
     let adds : sum bounds ≡ b.room - c.from.result = omega (arith, c.requires.begun.bounds_add, sum-cons c.args.bound bounds, c.from.ensures) in
     let few = few-kept b.left c.args.end e.result.least e.result.count most_vertices bounds (e.ensures.same bounds adds) c.requires.few in
-    let more = c.count_all-counted.ensures ∙ ap (λ q. wanted_among q.size_bits q.common x (reverse (bounded_sums q.left bounds))) c.placed.ensures in
-    omega (arith, few-counted b.size_bits b.common b.left c.args.own e.result.least e.result.count c.loop-k.k c.loop-k.counted c.count_all-counted.result most_vertices bounds x
-    (omega arith) (omega (arith, e.ensures.few)) c.loop-k.invariant more few)
+    let more : c.count_all-counted.result ≡ wanted_among b.size_bits (b.common + min c.args.own (e.result.least + c.loop-k.k)) x (reverse (bounded_sums (b.left - (e.result.least + c.loop-k.k)) bounds)) =
+    c.count_all-counted.ensures ∙ ap (λ q. wanted_among q.size_bits q.common x (reverse (bounded_sums q.left bounds))) c.placed.ensures in
+    omega (
+      arith,
+      few-counted b.size_bits b.common b.left c.args.own e.result.least e.result.count c.loop-k.k c.loop-k.counted c.count_all-counted.result most_vertices bounds x
+          (omega arith) (omega (arith, e.ensures.few)) c.loop-k.invariant more few,
+    )
 
 pub count_rows-loop-k-preserved : goal.count_rows-loop-k-preserved
 count_rows-loop-k-preserved t c =
@@ -68,6 +72,7 @@ count_rows-loop-k-preserved t c =
     let e = c.with_room-entries in
     let bounds = c.args.bounds.now in
     let x = c.args.x.now in
-    let more = c.count_all-counted.ensures ∙ ap (λ q. wanted_among q.size_bits q.common x (reverse (bounded_sums q.left bounds))) c.placed.ensures in
+    let more : c.count_all-counted.result ≡ wanted_among b.size_bits (b.common + min c.args.own (e.result.least + c.loop-k.k)) x (reverse (bounded_sums (b.left - (e.result.least + c.loop-k.k)) bounds)) =
+    c.count_all-counted.ensures ∙ ap (λ q. wanted_among q.size_bits q.common x (reverse (bounded_sums q.left bounds))) c.placed.ensures in
     rows-counted b.size_bits b.common b.left c.args.own e.result.least c.loop-k.k bounds x c.loop-k.counted c.count_all-counted.result
     (omega (arith, e.ensures.few)) c.loop-k.invariant more
