@@ -1,5 +1,5 @@
 -- The moves of subsets counted: by the descent from each vector down to the first one.
-use Rattle.std.proofs.Common.{◌≡◌, ℕ, zero, suc, ◌+◌, ◌-◌, ◌*◌, ◌<◌, ◌≤◌, min, pos, Bool, true, false, not, cond, List, [], ◌∷◌, ◌++◌, length, map, filter, reverse, take, drop, sum, Some, refl, sym, ap, ap₂, subst, ◌∙◌, arith, length-append}
+use Rattle.std.proofs.Common.{◌≡◌, ℕ, suc, ◌+◌, ◌-◌, ◌*◌, ◌<◌, ◌≤◌, min, pos, Bool, true, false, not, cond, List, [], ◌∷◌, ◌++◌, length, map, filter, reverse, take, drop, sum, Some, refl, sym, ap, ap₂, subst, ◌∙◌, arith, length-append}
 use Rattle.std.specs.List.{flat_map, range_with_len, slice_get}
 use Rattle.std.specs.Prelude.{slice_index_or}
 use Rattle.std.proofs.Math.Path.{fun_ext}
