@@ -1,6 +1,4 @@
 -- The lemmas of sgb, by subject.
--- how many arcs the lists of all vertices have
-pub mod ArcCounts
 -- texts written part by part
 pub mod CutOff
 -- the numbers that a flip draws

@@ -11,7 +11,7 @@ use Rattle.sgb_vec.specs.inner.Rising.{box_vectors_rise, sum_vectors_rise}
 use Rattle.sgb_graph.specs.declared.fields.Link.{Link}
 use Rattle.sgb_vec.specs.declared.panics.Panic.{Panic}
 use Rattle.sgb_graph.specs.Descriptions.{Description, IsGraphOf}
-use Rattle.sgb_graph.specs.Events.{IsWithin, all_records, list_of}
+use Rattle.sgb_graph.specs.Events.{IsWithin, list_of}
 use Rattle.sgb_graph.specs.Graphs.{GraphData, chain_of}
 use Rattle.sgb_graph.specs.Made.{graph_described}
 use Rattle.sgb_graph.proofs.Described.{described_is, described_names}
@@ -28,7 +28,7 @@ use Rattle.sgb_gen.proofs.SubsetsLists.{moves_have_ends}
 use Rattle.sgb_ops.specs.Operands.{names_of}
 use Rattle.sgb.specs.Locals.{vectors_of}
 use Rattle.sgb.specs.inner.Locals.{links_of}
-use Rattle.sgb.specs.inner.Locals.{arcs_among, local_block, local_line}
+use Rattle.sgb.specs.inner.Locals.{local_block, local_line}
 use Rattle.sgb.specs.inner.Remaining.{IsRest}
 use Rattle.sgb.specs.Texts.{arc_line, block, blocks, head, head_text, name_line}
 use Rattle.sgb.specs.Outcomes.{answer_from, names_answer}
@@ -39,7 +39,6 @@ use Rattle.sgb_requests.specs.declared.faults.Fault.{Fault}
 use Rattle.sgb_requests.specs.declared.requests.Resume.{Resume}
 use Rattle.sgb.specs.declared.locals.Local.{Local}
 use Rattle.sgb.specs.declared.locals.Local.TheVariants as local
-use Rattle.sgb.proofs.ArcCounts.{lists_counted, total}
 use Rattle.sgb.proofs.Listings.{block-parts, blocks-first, blocks-none, five}
 
 -- the name at a place, or the empty one, is that of the vector there, or of the empty one
@@ -69,11 +68,6 @@ line_of_arc vectors link = ap (λ name. codes "  -> " ++ name ++ codes ", length
 lines_of_arcs : (vectors : List (List ℕ)) (links : List Link) → flat_map (arc_line (map name_of_vector vectors)) links ≡ flat_map local_line (map (local_arc vectors) links)
 lines_of_arcs vectors [] = refl
 lines_of_arcs vectors (link ∷ links) = ap₂ (λ line lines. line ++ lines) (line_of_arc vectors link) (lines_of_arcs vectors links)
-
--- the length of a list of arcs is that of the list of its vertex
-length_of_list : (directed : Bool) (vectors : List (List ℕ)) (moves : List Move) (x : List ℕ) → length (list_at directed vectors moves x) ≡ length (list_of directed (map (event_among vectors) moves) (vertex_among vectors x))
-unfolding list_at
-length_of_list directed vectors moves x = length-map (list_of directed (map (event_among vectors) moves) (vertex_among vectors x)) (local_arc vectors)
 
 -- the block of a vertex is that of its vector
 module _ (directed : Bool) (vectors : List (List ℕ)) (moves : List Move) (rise : IsRising vectors) (g : GraphData) (named : names_of g ≡ map name_of_vector vectors)
@@ -107,15 +101,6 @@ first_of_rest members rest x (k, from) first =
 pub rest_of_rest : (members rest after : List (List ℕ)) → IsRest members rest → after ≡ drop 1 rest → IsRest members after
 rest_of_rest members rest after (k, from) one = (k + 1, one ∙ ap (drop 1) from ∙ drop-drop 1 k members)
 
--- the arcs of vectors from a place on, counted by their vertices
-among_is_total : (l : Local) (g : ℕ → ℕ) (k : ℕ) (xs : List (List ℕ)) → ((i : ℕ) (x : List ℕ) → slice_get xs i ≡ Some x → length (links_of l x) ≡ g (k + i)) → arcs_among l xs ≡ total g k (length xs)
-among_is_total l g k [] each = refl
-among_is_total l g k (x ∷ xs) each =
-    let place : k + 0 ≡ k = omega arith in
-    let first : length (links_of l x) ≡ g k = each 0 x refl ∙ ap g place in
-    ap₂ (λ m n. m + n) first
-    (among_is_total l g (suc k) xs (λ i y there. let after : k + suc i ≡ suc k + i = omega arith in each (suc i) y there ∙ ap g after))
-
 -- a vector that is there has its vertex among theirs
 vertex_within : (vectors : List (List ℕ)) (a : List ℕ) → IsRising vectors → Contains vectors a → vertex_among vectors a < length vectors
 vertex_within vectors a rise (k, within, there) =
@@ -127,18 +112,6 @@ events_within : (vectors : List (List ℕ)) (moves : List Move) → IsRising vec
 events_within vectors moves rise ends =
     All-map (IsWithin (length vectors)) (event_among vectors) moves
     (λ k d within. let e = ends k d within in (vertex_within vectors (get_or moves k d).from rise e.0, vertex_within vectors (get_or moves k d).to rise e.1))
-
--- the arcs of all vectors are those that the events make
-counted : (l : Local) (directed : Bool) (vectors : List (List ℕ)) (moves : List Move) → IsRising vectors → All (HasEnds vectors) moves → ((x : List ℕ) → links_of l x ≡ list_at directed vectors moves x)
-    → arcs_among l vectors ≡ length (all_records directed (map (event_among vectors) moves))
-counted l directed vectors moves rise ends lists =
-    let events = map (event_among vectors) moves in
-    let count : ℕ → ℕ = λ v. length (list_of directed events v) in
-    among_is_total l count 0 vectors
-    (λ i x there.
-    let place : i ≡ 0 + i = omega arith in
-    ap length (lists x) ∙ length_of_list directed vectors moves x ∙ ap count (vertex_in_rising vectors i x rise there) ∙ ap count place)
-    ∙ lists_counted directed (length vectors) 0 events (events_within vectors moves rise ends)
 
 -- vectors, names and fields of a generator's graph
 named_vectors : (vectors : List (List ℕ)) → length (map fields_of_vector vectors) ≡ length (map name_of_vector vectors)
@@ -167,13 +140,6 @@ local_block-parts l x arcs same = ap (λ links. name_line (name_of_vector x) ++ 
 pub lines-first : (arcs : List LocalArc) (i : ℕ) (arc : LocalArc) → slice_get arcs i ≡ Some arc → flat_map local_line (drop i arcs) ≡ local_line arc ++ flat_map local_line (drop (i + 1) arcs)
 lines-first arcs i arc there =
     ap (flat_map local_line) (drop-cons arcs i arc (slice_get_within arcs i arc there) ∙ ap₂ (λ first k. first ∷ drop k arcs) (get_or_from_slice_get arcs i arc arc there) (sym (add-one i)))
-
--- the number of arcs of the graph is that of all lists together
-pub count_of_arcs : (l : Local) → arcs_among l (vectors_of l) ≡ (graph_described (described l)).m
-unfolding family_graph moves_of_simplex
-count_of_arcs (local.Board b) = counted (local.Board b) b.directed (board_vectors b) (moves_of_board b) (box_vectors_rise b.sizes) (ends_on_board b) (λ x. refl)
-count_of_arcs (local.Simplex s) = counted (local.Simplex s) s.directed (simplex_vectors s) (moves_of_simplex s) (sum_vectors_rise s.sum) (ends_in_simplex s) (λ x. refl)
-count_of_arcs (local.Subsets s) = counted (local.Subsets s) s.directed (subsets_vectors s) (moves_of_subsets s) (sum_vectors_rise s.sum) (moves_have_ends s) (λ x. refl)
 
 -- the vertices have the names of the vectors
 named_by_vectors : (l : Local) → names_of (graph_described (described l)) ≡ map name_of_vector (vectors_of l)

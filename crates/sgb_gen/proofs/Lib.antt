@@ -112,3 +112,5 @@ pub mod BoardCountsBoards
 pub mod LoweredBounds
 -- the moves of a simplex counted by pairs of places
 pub mod SimplexCounts
+-- the moves of subsets counted by the descent
+pub mod SubsetsCounts

@@ -21,7 +21,7 @@ use Rattle.sgb_gen.proofs.RisingVectors.{vertex_in_rising}
 use Rattle.sgb_gen.proofs.Vertices.{other_is}
 
 -- either multiset may stand first
-common-turned : (u v : List ℕ) → common_size u v ≡ common_size v u
+pub common-turned : (u v : List ℕ) → common_size u v ≡ common_size v u
 common-turned [] [] = refl
 common-turned [] (y ∷ v) = refl
 common-turned (x ∷ u) [] = refl

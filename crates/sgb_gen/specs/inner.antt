@@ -28,3 +28,5 @@ pub mod Tables
 pub mod BoardCounts
 -- from how many vectors of a simplex a unit goes from one place to another
 pub mod SimplexCounts
+-- how many moves subsets have, vector by vector
+pub mod SubsetsCounts

@@ -31,6 +31,9 @@ mod simplexes;
 // accepted subsets
 #[cfg(test)]
 mod subsets;
+// the number of arcs of subsets
+#[cfg(test)]
+mod subsets_counts;
 // the lists of subsets
 #[cfg(test)]
 mod subsets_lists;

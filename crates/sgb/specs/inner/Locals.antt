@@ -1,5 +1,5 @@
 -- The blocks of a generator's graph, from its vectors.
-use Rattle.std.specs.Prelude.{◌≡◌, ⊤, ℕ, ◌+◌, List, [], ◌∷◌, ◌++◌, length, Option, Some, None, codes}
+use Rattle.std.specs.Prelude.{◌≡◌, ⊤, ℕ, List, ◌++◌, Option, Some, None, codes}
 use Rattle.std.specs.Fmt.{signed_decimal}
 use Rattle.std.specs.List.{flat_map}
 use Rattle.sgb_vec.specs.Names.{name_of_vector}
@@ -16,11 +16,6 @@ abbrev pub links_of : Local → List ℕ → List LocalArc
 links_of (local.Board b) x = list_at b.directed (board_vectors b) (moves_of_board b) x
 links_of (local.Simplex s) x = list_at s.directed (simplex_vectors s) (moves_of_simplex s) x
 links_of (local.Subsets s) x = list_at s.directed (subsets_vectors s) (moves_of_subsets s) x
-
--- how many arcs these vectors have together
-abbrev pub arcs_among : Local → List (List ℕ) → ℕ
-arcs_among l [] = 0
-arcs_among l (x ∷ vectors) = length (links_of l x) + arcs_among l vectors
 
 -- the board whose lists are made is that of the parameters
 abbrev pub IsItsBoard : Local → Option BoardData → Type 0

@@ -5,7 +5,7 @@ ghost use Rattle.sgb_file.specs.Devices.{change};
 ghost use Rattle.sgb_vec.specs.Limits.{most_dimensions};
 ghost use Rattle.sgb_graph.specs.Made.{graph_described};
 ghost use Rattle.sgb.specs.Locals.{family_text, head_if, start_after, vectors_of};
-ghost use Rattle.sgb.specs.inner.Locals.{arcs_among, local_block, local_line};
+ghost use Rattle.sgb.specs.inner.Locals.{local_block, local_line};
 ghost use Rattle.sgb.specs.inner.Remaining.{IsRest};
 ghost use Rattle.sgb.specs.Texts.{head};
 ghost use Rattle.sgb.specs.Values.{described};
@@ -108,40 +108,20 @@ fn write_head<F: Family, W: Sink>(
         (change W.written W.has_failed out.old out.new) result }
     ensures memory { IfErr result (λ f. f ≢ Fault.Write → out.new ≡ out.old) }
 {
-    let m = arcs_of(local, family, links)?;
+    let m = arcs_of(local, links)?;
     write_head_of(&local.id(), family.size(), m, out)
 }
 
-// How many arcs the graph has. Those of a board and of a simplex are counted without the lists.
-fn arcs_of<F: Family>(local: &Local, family: &F, links: &mut Links) -> Result<u128, Panic>
-    requires { F.members family.now ≡ vectors_of local.now }
+// How many arcs the graph has. They are counted without the lists.
+fn arcs_of(local: &Local, links: &Links) -> Result<u128, Panic>
     ensures count { IfOk result (λ m. m ≡ (graph_described (described local.now)).m) }
     ensures memory { IsOkUnless result Panic.NoRoom }
 {
     match local {
         Local::Board(board) => board.arcs_count(),
         Local::Simplex(simplex) => simplex.arcs_count(links),
-        Local::Subsets(_) => count_arcs(local, family, links),
+        Local::Subsets(subsets) => Ok(subsets.arcs_count()),
     }
-}
-
-// How many arcs all lists have together, made one after another.
-fn count_arcs<F: Family>(local: &Local, family: &F, links: &mut Links) -> Result<u128, Panic>
-    requires { F.members family.now ≡ vectors_of local.now }
-    ensures count { IfOk result (λ m. m ≡ arcs_among local.now (vectors_of local.now)) }
-    ensures memory { IsOkUnless result Panic.NoRoom }
-{
-    let mut count: u128 = 0;
-    let mut left = Vectors::all(family);
-    for _v in 0..family.size() {
-        let Some(x) = left.front() else {
-            return Ok(count);
-        };
-        local.arcs_at(x, links)?;
-        count += links.len() as u128;
-        let _some = left.advance();
-    }
-    Ok(count)
 }
 
 // Writes the blocks of these vectors.

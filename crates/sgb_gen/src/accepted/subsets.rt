@@ -6,6 +6,7 @@ ghost use Rattle.sgb_graph.specs.Growth.{AddsEvents, HasPlainArcs};
 ghost use Rattle.sgb_gen.specs.VectorGraphs.{event_among};
 ghost use Rattle.std.specs.Simd.Lanes.{sum_l, zip2};
 
+mod counts;
 mod descents;
 mod lists;
 

@@ -3,12 +3,13 @@
 ghost use Rattle.std.specs.Prelude.{◌≡◌, ◌+◌, ◌-◌, ◌^◌, ◌≤◌, ◌<◌, min, ℕ, List, Bool, false, [], ◌∷◌, ◌++◌, length, reverse, sum, if◌then◌else◌, OnOk, IsOkUnless};
 ghost use Rattle.std.specs.Bool.{OnFalse};
 ghost use Rattle.sgb_vec.specs.Lexicographic.{IsWithin};
+ghost use Rattle.sgb_vec.specs.Limits.{most_dimensions, most_vertices};
 ghost use Rattle.sgb_vec.specs.Sums.{bounded_sums};
 ghost use Rattle.sgb_gen.specs.Subsets.{is_wanted_size};
 ghost use Rattle.sgb_gen.specs.inner.Descents.{IsBegun, arcs_under, down_from, down_to, row, rows};
 ghost use Rattle.sgb_gen.specs.inner.LocalSimplexes.{with_arcs};
 
-use super::is_wanted;
+use super::{Subsets, is_wanted};
 use crate::links::Links;
 use sgb_vec::Panic;
 
@@ -25,9 +26,31 @@ pub(super) struct Begun {
 
 // The entries from one on, so many.
 #[derive(Clone, Copy)]
-struct Entries {
-    least: u32,
-    count: u32,
+pub(super) struct Entries {
+    pub least: u32,
+    pub count: u32,
+}
+
+impl Subsets {
+    // What is known where no entry of a vector is placed.
+    pub(super) fn begun(&self) -> Begun
+        ensures value { result ≡ record {
+          size_bits = self.now.size_bits;
+          room = sum self.now.sum.bounds;
+          shared = self.now.sum.total;
+          left = self.now.sum.total;
+          common = 0;
+        } }
+        ensures small { self.now.sum.total ≤ most_vertices }
+    {
+        Begun {
+            size_bits: self.size_bits,
+            room: sum_of_entries(self.shape.sizes()),
+            shared: u64::from(self.family.total()),
+            left: self.family.total(),
+            common: 0,
+        }
+    }
 }
 
 // Puts the arcs to the vectors down to `x`, or to what is left of them, behind the others; they begin with `front`.
@@ -211,7 +234,7 @@ fn push_zeros(
 }
 
 // What is known with one more entry, whose bound and whose own entry of `x` these are.
-fn placed(begun: Begun, bound: u32, own: u32, entry: u32) -> Begun
+pub(super) fn placed(begun: Begun, bound: u32, own: u32, entry: u32) -> Begun
     requires room { bound ≤ begun.room }
     requires shared { own ≤ begun.shared }
     requires left { entry ≤ begun.left }
@@ -234,7 +257,7 @@ fn placed(begun: Begun, bound: u32, own: u32, entry: u32) -> Begun
 }
 
 // The entries from `low` on and below `end` that leave no more than there is room for.
-fn with_room(left: u32, room: u64, low: u32, end: u32) -> Entries
+pub(super) fn with_room(left: u32, room: u64, low: u32, end: u32) -> Entries
     requires low { low ≤ left + 1 }
     requires end { end ≤ left + 1 }
     ensures few { result.least + result.count ≤ left + 1 }
@@ -250,7 +273,7 @@ fn with_room(left: u32, room: u64, low: u32, end: u32) -> Entries
 
 // Whether a vector that begins so may have a wanted size in common: at most what is left and what `x` has there, and
 // at least what finds no room beside the entries of `x`.
-fn may_be_wanted(begun: Begun) -> bool
+pub(super) fn may_be_wanted(begun: Begun) -> bool
     requires few { begun.common + begun.left < 2 ^ 32 }
     ensures { OnFalse result ((k : ℕ) → begun.left ≤ k + (begun.room - begun.shared) →
         k ≤ begun.left → k ≤ begun.shared →
@@ -274,4 +297,12 @@ fn any_wanted(size_bits: u128, from: u64, to: u64) -> bool
     }
     let later = size_bits >> from;
     from + u64::from(later.trailing_zeros()) <= to
+}
+
+// What these entries add to.
+fn sum_of_entries(entries: &[u32]) -> u64
+    requires { length entries.now ≤ most_dimensions + 1 }
+    ensures { result ≡ sum entries.now }
+{
+    entries.iter().map(|entry| u64::from(*entry)).sum()
 }

@@ -1,6 +1,5 @@
 //! The list of one vector of the subsets.
-ghost use Rattle.std.specs.Prelude.{◌≡◌, ◌≤◌, ◌+◌, [], ◌++◌, length, sum, Contains, OnOk, OnErr, IsOkUnless};
-ghost use Rattle.sgb_vec.specs.Limits.{most_dimensions};
+ghost use Rattle.std.specs.Prelude.{◌≡◌, [], ◌++◌, length, sum, Contains, OnOk, OnErr, IsOkUnless};
 ghost use Rattle.sgb_vec.specs.Sums.{bounded_sums};
 ghost use Rattle.sgb_gen.specs.LocalLists.{list_at};
 ghost use Rattle.sgb_gen.specs.inner.Descents.{IsBegun};
@@ -50,15 +49,14 @@ impl Subsets {
         ensures memory { IsOkUnless result Panic.NoRoom }
     {
         let mut front = links.take_entries();
-        let bounds = self.shape.sizes();
-        let begun = Begun {
-            size_bits: self.size_bits,
-            room: sum_of_entries(bounds),
-            shared: u64::from(self.family.total()),
-            left: self.family.total(),
-            common: 0,
-        };
-        push_both(self.directed, begun, bounds, x, &mut front, links)?;
+        push_both(
+            self.directed,
+            self.begun(),
+            self.shape.sizes(),
+            x,
+            &mut front,
+            links,
+        )?;
         links.keep_entries(front);
         Ok(())
     }
@@ -88,12 +86,4 @@ fn push_both(
         return Ok(());
     }
     push_from(begun, bounds, x, front, links)
-}
-
-// What these entries add to.
-fn sum_of_entries(entries: &[u32]) -> u64
-    requires { length entries.now ≤ most_dimensions + 1 }
-    ensures { result ≡ sum entries.now }
-{
-    entries.iter().map(|entry| u64::from(*entry)).sum()
 }
