@@ -67,8 +67,9 @@ impl Flip {
         ensures { (start : ℤ) (k : ℕ) → IsAtDraw start k self.old.numbers self.old.left
             → IsAtDraw start (k + count) self.new.numbers self.new.left }
     {
-        jump(&mut self.numbers, count / 55);
-        let rest = (count % 55) as usize;
+        let cycle = CYCLE as u64;
+        jump(&mut self.numbers, count / cycle);
+        let rest = (count % cycle) as usize;
         if self.left < rest {
             step_cycle(&mut self.numbers);
             self.left += CYCLE;
