@@ -3,6 +3,7 @@ use Rattle.std.proofs.Common.{◌≡◌, ℕ, ◌+◌, ◌-◌, ◌%◌, ◌<◌
 use Rattle.std.proofs.lemmas.Bool.{cases_lt}
 use Rattle.sgb_graph.specs.Draws.{modulus, difference, x_number}
 use Rattle.sgb_graph.specs.inner.Flips.{HandsOut, IsCycle, IsNextCycle}
+use Rattle.sgb_graph.specs.inner.Jumps.{IsPartOf}
 use Rattle.sgb_graph.proofs.DrawLemmas.{later_number}
 
 -- a difference is below 2^31
@@ -111,33 +112,49 @@ cycling_all old now is = record {
 pub record IsWindow (seed n : ℕ) (numbers : List ℕ) : Type 0 where
   pub at : (i : ℕ) → i < 55 → get_or numbers i 0 ≡ x_number seed (n + (i + 1))
 
--- those of the next cycle come after them
-pub next_window : (seed n : ℕ) (old new : List ℕ) → IsWindow seed n old → IsNextCycle old new → IsWindow seed (n + 55) new
-next_window seed n old new is next = record { at = λ i inside. anywhere i inside (cases_lt i 24) (cases_lt i 48) }
+-- the same of the sequence of X(1), X(2), ..
+pub window_part : (seed n : ℕ) (numbers : List ℕ) → IsWindow seed n numbers → IsPartOf (λ j. x_number seed (j + 1)) n numbers
+window_part seed n numbers is = record {
+  at = λ i inside. let place : n + (i + 1) ≡ n + i + 1 = omega arith in is.at i inside ∙ ap (λ p. x_number seed p) place;
+}
+
+pub part_window : (seed n : ℕ) (numbers : List ℕ) → IsPartOf (λ j. x_number seed (j + 1)) n numbers → IsWindow seed n numbers
+part_window seed n numbers is = record {
+  at = λ i inside. let place : n + i + 1 ≡ n + (i + 1) = omega arith in is.at i inside ∙ ap (λ p. x_number seed p) place;
+}
+
+-- its rule
+pub numbers_rule : (seed j : ℕ) → x_number seed (j + 55 + 1) ≡ difference (x_number seed (j + 1)) (x_number seed (j + 31 + 1))
+numbers_rule seed j =
+    let one : j + 55 + 1 - 55 ≡ j + 1 = omega arith in
+    let other : j + 55 + 1 - 24 ≡ j + 31 + 1 = omega arith in
+    rw (← one, ← other) (later_number seed (j + 55 + 1) (omega arith))
+
+-- the numbers of the next cycle come after those of a cycle in each sequence with the rule
+pub next_part : (y : ℕ → ℕ) (n : ℕ) (old new : List ℕ) → ((j : ℕ) → y (j + 55) ≡ difference (y j) (y (j + 31))) → IsPartOf y n old → IsNextCycle old new → IsPartOf y (n + 55) new
+next_part y n old new rule is next = record { at = λ i inside. anywhere i inside (cases_lt i 24) (cases_lt i 48) }
   where
     After : ℕ → Type 0
-    After i = get_or new i 0 ≡ x_number seed (n + 55 + (i + 1))
+    After i = get_or new i 0 ≡ y (n + 55 + i)
 
-    rule : (i : ℕ) → x_number seed (n + 55 + (i + 1)) ≡ difference (x_number seed (n + (i + 1))) (x_number seed (n + (i + 32)))
-    rule i =
-        let one : n + 55 + (i + 1) - 55 ≡ n + (i + 1) = omega arith in
-        let other : n + 55 + (i + 1) - 24 ≡ n + (i + 32) = omega arith in
-        rw (← one, ← other) (later_number seed (n + 55 + (i + 1)) (omega arith))
+    rule_at : (i : ℕ) → y (n + 55 + i) ≡ difference (y (n + i)) (y (n + (i + 31)))
+    rule_at i =
+        let here : n + 55 + i ≡ n + i + 55 = omega arith in
+        let other : n + i + 31 ≡ n + (i + 31) = omega arith in
+        ap y here ∙ (rule (n + i) ∙ ap (λ p. difference (y (n + i)) (y p)) other)
 
     first_24 : (i : ℕ) → i < 24 → After i
     first_24 i small =
-        let other = is.at (i + 31) (omega arith) in
-        let place : i + 31 + 1 ≡ i + 32 = omega arith in
         next.early i small
         ∙ (ap (λ a. difference a (get_or old (i + 31) 0)) (is.at i (omega arith))
-        ∙ (ap (λ b. difference (x_number seed (n + (i + 1))) b) (other ∙ ap (λ p. x_number seed (n + p)) place) ∙ sym (rule i)))
+        ∙ (ap (λ b. difference (y (n + i)) b) (is.at (i + 31) (omega arith)) ∙ sym (rule_at i)))
 
     later : (i : ℕ) → 24 ≤ i → i < 55 → After (i - 24) → After i
     later i great inside before =
-        let place : n + 55 + (i - 24 + 1) ≡ n + (i + 32) = omega arith in
+        let place : n + 55 + (i - 24) ≡ n + (i + 31) = omega arith in
         next.late i great inside
         ∙ (ap (λ a. difference a (get_or new (i - 24) 0)) (is.at i inside)
-        ∙ (ap (λ b. difference (x_number seed (n + (i + 1))) b) (before ∙ ap (λ p. x_number seed p) place) ∙ sym (rule i)))
+        ∙ (ap (λ b. difference (y (n + i)) b) (before ∙ ap y place) ∙ sym (rule_at i)))
 
     next_24 : (i : ℕ) → 24 ≤ i → i < 48 → After i
     next_24 i great small = later i great (omega arith) (first_24 (i - 24) (omega arith))
@@ -146,6 +163,11 @@ next_window seed n old new is next = record { at = λ i inside. anywhere i insid
     anywhere i inside (inl small) _ = first_24 i small
     anywhere i inside (inr great) (inl small) = next_24 i great small
     anywhere i inside (inr _) (inr great) = later i (omega arith) inside (next_24 (i - 24) (omega arith) (omega arith))
+
+-- and so among the random numbers
+pub next_window : (seed n : ℕ) (old new : List ℕ) → IsWindow seed n old → IsNextCycle old new → IsWindow seed (n + 55) new
+next_window seed n old new is next =
+    part_window seed (n + 55) new (next_part (λ j. x_number seed (j + 1)) n old new (numbers_rule seed) (window_part seed n old is) next)
 
 -- where numbers of the cycle are still to come, the last of them is handed out
 pub hands_on : (numbers : List ℕ) (left : ℕ) → IsCycle numbers → 0 < left → left ≤ 54 → HandsOut numbers left (get_or numbers (left - 1) 0) numbers (left - 1)

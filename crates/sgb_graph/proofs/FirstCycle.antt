@@ -108,7 +108,7 @@ pub record IsFilling (seed : ℕ) (numbers : List ℕ) (number next turned k : �
   pub filled : (i : ℕ) → i < 55 → 21 * (i + 1) % 55 < k → get_or numbers i 0 ≡ first_x seed (i + 1)
 
 -- 55 zeros
-zeros_are_cycle : IsCycle (replicate 55 0)
+pub zeros_are_cycle : IsCycle (replicate 55 0)
 zeros_are_cycle = record { many = refl; below = λ i inside. rw (get_or-replicate {A = ℕ} 55 i 0 0 inside) (omega arith) }
 
 -- at the start

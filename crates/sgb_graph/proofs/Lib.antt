@@ -35,6 +35,8 @@ pub mod Growing
 pub mod HexadecimalDigits
 -- texts and numbers that may stand in an id
 pub mod IdLemmas
+-- jumps over many random numbers
+pub mod Jumps
 -- the graph that kept vertices and records make up, as it changes
 pub mod KeptGraphs
 -- the parts of a file, as a graph keeps them

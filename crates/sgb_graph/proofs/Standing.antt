@@ -10,7 +10,9 @@ use Rattle.std.proofs.lemmas.List.FromFn.{get_or-map-range_with_len, length-map-
 use Rattle.sgb_graph.specs.Draws.{IsUniformDraw, IsAtDraw, bound_below, draw, modulus, seed_of, x_number}
 use Rattle.sgb_graph.specs.inner.Flips.{HandsOut, IsCycle, IsFirstCycle, IsNextCycle}
 use Rattle.sgb_graph.proofs.DrawLemmas.{first_number}
+use Rattle.sgb_graph.specs.inner.Jumps.{HasJumped}
 use Rattle.sgb_graph.proofs.Cycles.{IsWindow, next_window}
+use Rattle.sgb_graph.proofs.Jumps.{window_jumped}
 
 -- what stands at a place of the values from 1 on
 value_at : (f : ℕ → ℕ) (many : ℕ) (xs : List ℕ) (i : ℕ) → xs ≡ map f (range_with_len 1 many) → i < many → get_or xs i 0 ≡ f (i + 1)
@@ -78,6 +80,23 @@ hands_out_draw start k old left result new left_after stands out = by_cases (cas
           value = placed (seed_of start) (55 * (5 + k / 55) + 55) (55 * (5 + (k + 1) / 55) + 55 - (k + 1) % 55) left_after new result window_now (omega arith) out.value (omega arith);
           stands = window_stands start (k + 1) (55 * (5 + k / 55) + 55) new left_after out.flip.cycle window_now (omega arith) (omega arith);
         }
+
+-- so many draws left out, where those behind whole cycles are still to come
+pub skips_inside : (start : ℤ) (k count : ℕ) (old : List ℕ) (left : ℕ) (new : List ℕ) → IsCycle old → IsAtDraw start k old left → HasJumped old (55 * (count / 55)) new → count % 55 ≤ left
+    → IsAtDraw start (k + count) new (left - count % 55)
+skips_inside start k count old left new cycle stands jump few =
+    let still = stands.still in
+    let window = window_jumped (seed_of start) (55 * (5 + k / 55)) (55 * (count / 55)) old new cycle (stands_window start k old left stands) jump in
+    window_stands start (k + count) (55 * (5 + k / 55) + 55 * (count / 55)) new (left - count % 55) jump.cycle window (omega arith) (omega arith)
+
+-- and where they lead to one cycle more
+pub skips_over : (start : ℤ) (k count : ℕ) (old : List ℕ) (left : ℕ) (new next : List ℕ) → IsCycle old → IsAtDraw start k old left → HasJumped old (55 * (count / 55)) new → IsNextCycle new next → left < count % 55
+    → IsAtDraw start (k + count) next (left + 55 - count % 55)
+skips_over start k count old left new next cycle stands jump follows many =
+    let still = stands.still in
+    let window = window_jumped (seed_of start) (55 * (5 + k / 55)) (55 * (count / 55)) old new cycle (stands_window start k old left stands) jump in
+    let window_now = next_window (seed_of start) (55 * (5 + k / 55) + 55 * (count / 55)) new next window follows in
+    window_stands start (k + count) (55 * (5 + k / 55) + 55 * (count / 55) + 55) next (left + 55 - count % 55) follows.cycle window_now (omega arith) (omega arith)
 
 -- what is handed out is below 2^31
 pub result_below : (old : List ℕ) (left result : ℕ) (new : List ℕ) (left_after : ℕ) → HandsOut old left result new left_after → result < modulus

@@ -7,6 +7,8 @@ pub mod Draws
 pub mod Flips
 -- vertices whose lists begin elsewhere
 pub mod Growth
+-- jumps over many random numbers
+pub mod Jumps
 -- the graph that is kept
 pub mod Kept
 -- records as they are kept

@@ -3,7 +3,11 @@ ghost use Rattle.std.specs.Prelude.{◌≡◌, ℕ, ℤ, ◌+◌, ◌%◌, ◌<�
 ghost use Rattle.sgb_graph.specs.Draws.{IsUniformDraw, IsAtDraw, difference, draw, modulus, seed_of};
 ghost use Rattle.sgb_graph.specs.inner.Flips.{HandsOut, IsCycle, IsFirstCycle, IsNextCycle, rotated_once};
 
+use jumps::jump;
 use std::marker::Model;
+
+// Jumps over many numbers.
+mod jumps;
 
 // The numbers of a cycle.
 const CYCLE: usize = 55;
@@ -56,6 +60,21 @@ impl Flip {
         ensures below { result < modulus }
     {
         hand_out(&mut self.numbers, &mut self.left)
+    }
+
+    /// Leaves out so many draws: as many calls of `draw` would (GB_FLIP, gb_next_rand).
+    pub fn skip(&mut self, count: u64)
+        ensures { (start : ℤ) (k : ℕ) → IsAtDraw start k self.old.numbers self.old.left
+            → IsAtDraw start (k + count) self.new.numbers self.new.left }
+    {
+        let cycle = CYCLE as u64;
+        jump(&mut self.numbers, count / cycle);
+        let rest = (count % cycle) as usize;
+        if self.left < rest {
+            step_cycle(&mut self.numbers);
+            self.left += CYCLE;
+        }
+        self.left -= rest;
     }
 
     /// A uniform number below `m`, for `m` from 1 to 2^31 (GB_FLIP, gb_unif_rand): draws are thrown

@@ -13,6 +13,9 @@ mod graphs;
 // ids
 #[cfg(test)]
 mod ids;
+// jumps over many random numbers
+#[cfg(test)]
+mod jumps;
 // names of vertices
 #[cfg(test)]
 mod names;
