@@ -97,7 +97,13 @@ fn integer_of(graph: &Graph) -> Option<i64> {
     if graph.n() == 0 {
         return None;
     }
-    match graph.vertex(0).util[0] {
+    let fields = graph.vertex(0).util;
+    integer_in(fields[0])
+}
+
+// The integer in a field.
+fn integer_in(field: UtilRef<'_>) -> Option<i64> {
+    match field {
         UtilRef::Int(number) => Some(number),
         _ => None,
     }
@@ -108,7 +114,13 @@ fn has_string(graph: &Graph, bytes: &[u8]) -> bool {
     if graph.n() == 0 {
         return false;
     }
-    match graph.vertex(0).util[5] {
+    let fields = graph.vertex(0).util;
+    holds(fields[5], bytes)
+}
+
+// Whether the field holds a string of these bytes.
+fn holds(field: UtilRef<'_>, bytes: &[u8]) -> bool {
+    match field {
         UtilRef::Str(text) => text.bytes() == bytes,
         _ => false,
     }
