@@ -60,3 +60,17 @@ fn compare_all<A: Abort>(rt: &A, alloc: Global, params: &BoardParams) -> Result<
     assert!(rt; v == graph.n());
     Ok(())
 }
+
+// 19 sides of two: the displacements of four units are too many for a table. From the least place they change four of the
+// 19 entries, which is C(19,4) places.
+#[test]
+fn a_list_by_many_displacements(rt: HostRuntime) -> Result<(), Fail> {
+    let board = Board::new(2, -19, 0, 0, 4, 0, false)?;
+    let place = [0; 19];
+    let mut links = Links::new(rt.alloc());
+    assert!(rt; board.family().holds(&place));
+    let mut lists = board.lists(&links);
+    lists.arcs_at(&place, &mut links)?;
+    assert!(rt; links.len() == 3_876);
+    Ok(())
+}
