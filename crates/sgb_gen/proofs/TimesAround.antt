@@ -2,7 +2,7 @@
 -- common divisor is.
 use Rattle.std.proofs.Common.{◌≡◌, ℕ, zero, suc, ◌+◌, ◌-◌, ◌*◌, ◌/◌, ◌%◌, ◌<◌, ◌≤◌, ℤ, pos, negsuc, ◌*ℤ◌, nat_abs, Bool, true, false, ◌&&◌, eqb, refl, sym, ap, ◌∙◌, inl, inr, arith}
 use Rattle.std.specs.Int.{int_rem_euclid}
-use Rattle.std.proofs.Math.Nat.{mul-mod_left}
+use Rattle.std.proofs.Math.Nat.{mod-eq_of_lt, mul-mod_left}
 use Rattle.std.proofs.lemmas.Bool.{cases_Bool, cases_lt, eqb-true, eqb-false, eq-eqb}
 use Rattle.std.proofs.lemmas.Int.{ints}
 use Rattle.std.proofs.lemmas.Nat.{mul-le, mod-mul-add, mul-mod_second}
@@ -165,3 +165,12 @@ still-home m i t still =
     let none : nat_abs (pos m *ℤ t) ≡ 0 = abs-times m t ∙ ap (λ n. m * n) still ∙ omega arith in
     let nothing : i % 1 ≡ 0 = omega arith in
     ap (λ n. eqb n 0) none ∙ ap (λ n. eqb n 0) (sym nothing)
+
+-- a rider is away at each length before the least one at which it is home
+pub away-before : (home l : ℕ) → 0 < l → l ≤ home - 1 → eqb (l % home) 0 ≡ false
+away-before home l some before =
+    let same : l % home ≡ l = mod-eq_of_lt (omega arith) in
+    not_zero (l % home) (omega (arith, same, some))
+
+pub home-at : (home : ℕ) → 0 < home → eqb ((home - 1 + 1) % home) 0 ≡ true
+home-at home some = eq-eqb ((home - 1 + 1) % home) 0 (times-to home (home - 1 + 1) 1 (omega (arith, some)))

@@ -253,11 +253,11 @@ fn lengths_along(size: u32, step: u32) -> u32
 // From how many coordinates of a side steps of `step` stay on it, at each of so many lengths, for so many places of the
 // other sides. The greatest and the least of these numbers, and so each two, have the same sum.
 fn starts_along(rest: u32, size: u32, step: u32, lengths: u32) -> u128
-    requires on { lengths * step < size }
-    requires step { step ≤ size }
+    requires { lengths * step < size }
     ensures { result ≡ rest * starts_along size step lengths }
 {
-    let both = u128::from(size) * 2 - (u128::from(lengths) + 1) * u128::from(step);
+    let steps = (u128::from(lengths) + 1) * u128::from(step);
+    let both = (u128::from(size) * 2).saturating_sub(steps);
     u128::from(rest) * (u128::from(lengths) * both / 2)
 }
 
