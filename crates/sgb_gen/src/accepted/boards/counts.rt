@@ -294,3 +294,5 @@ fn starts_on(size: u32, wraps: bool, u: i64) -> u64
 
 #[cfg(test)]
 mod tests;
+#[cfg(test)]
+mod totals;
