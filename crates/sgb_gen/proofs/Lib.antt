@@ -118,3 +118,5 @@ pub mod TimesAround
 pub mod LoweredBounds
 -- the moves of a simplex counted by pairs of places
 pub mod SimplexCounts
+-- pairs of places with equal bounds
+pub mod EqualBounds
