@@ -16,7 +16,8 @@ use sgb_vec::{Family, Panic};
 
 impl Board {
     /// The number of arcs of the board's graph (GB_BASIC, board), where an edge counts as two. It is found by
-    /// displacements and lengths, with no arc made, and takes no memory.
+    /// displacements, with no arc made, and takes no memory: at once for each that moves on at most one side that does
+    /// not wrap around, and length by length for the others.
     ///
     /// `NoRoom` where the number is 2^128 or more, and nothing else: only a board that wraps around in hundreds of
     /// dimensions has so many arcs, and no time would do to list them.

@@ -17,8 +17,8 @@ impl Simplex {
     /// pairs of places, with no arc made and no vector walked: where a unit can go from one place to another, the
     /// vectors are as many as those of a sum and of bounds that are one less.
     ///
-    /// `NoRoom` when out of memory, and nothing else. The memory is from where that of the links comes; for each pair it
-    /// is that of `sgb_vec::SumFamily::new`, as is the time.
+    /// `NoRoom` when out of memory, and nothing else. The memory is from where that of the links comes; for each pair of
+    /// bounds, of which there are at most sixteen, it is that of `sgb_vec::SumFamily::new`, as is the time.
     pub fn arcs_count(&self, links: &Links) -> Result<u128, Panic>
         ensures count { IfOk result (λ m. m ≡ (graph_described (simplex_graph self.now)).m) }
         ensures memory { IsOkUnless result Panic.NoRoom }
@@ -157,5 +157,7 @@ fn lowered(bounds: &[u32], lower: usize, higher: usize) -> Vector
     less
 }
 
+#[cfg(test)]
+mod equal_bounds;
 #[cfg(test)]
 mod tests;
