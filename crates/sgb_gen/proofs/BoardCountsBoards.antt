@@ -87,19 +87,10 @@ product-all sizes wrap t l k product h fits so =
 abbrev pub home_from : List ℕ → ℤ → List ℤ → ℕ → ℕ → Bool
 home_from sizes wrap t l k = is_home (sides_from_bit k (drop k sizes) wrap) (drop k t) l
 
-home-step : (sizes : List ℕ) (wrap : ℤ) (t : List ℤ) (l k : ℕ) → k < length sizes → k < length t → home_from sizes wrap t l k ≡ (is_home_on (side_at sizes wrap k) (pos l *ℤ get_or t k (pos 0)) && home_from sizes wrap t l (k + 1))
+pub home-step : (sizes : List ℕ) (wrap : ℤ) (t : List ℤ) (l k : ℕ) → k < length sizes → k < length t → home_from sizes wrap t l k ≡ (is_home_on (side_at sizes wrap k) (pos l *ℤ get_or t k (pos 0)) && home_from sizes wrap t l (k + 1))
 home-step sizes wrap t l k h i =
     at_drop_more (λ s. is_home (sides_from_bit k s wrap) (drop k t) l) sizes k 0 h
     ∙ at_drop_more (λ u. is_home (sides_from_bit k (get_or sizes k 0 ∷ drop (k + 1) sizes) wrap) u l) t k (pos 0) i
-
--- on a side that leads home the others decide, and one that does not decides
-pub home-more : (sizes : List ℕ) (wrap : ℤ) (t : List ℤ) (l k : ℕ) (b : Bool) → k < length sizes → k < length t → b ≡ is_home_on (side_at sizes wrap k) (pos l *ℤ get_or t k (pos 0)) → home_from sizes wrap t l k ≡ is_home (sides_of sizes wrap) t l → (b && home_from sizes wrap t l (k + 1)) ≡ is_home (sides_of sizes wrap) t l
-home-more sizes wrap t l k b h i e so =
-    ap (λ c. c && home_from sizes wrap t l (k + 1)) e ∙ sym (home-step sizes wrap t l k h i) ∙ so
-
-pub home-all : (sizes : List ℕ) (wrap : ℤ) (t : List ℤ) (l k : ℕ) → length sizes ≤ k → home_from sizes wrap t l k ≡ is_home (sides_of sizes wrap) t l → true ≡ is_home (sides_of sizes wrap) t l
-home-all sizes wrap t l k h so =
-    sym (ap (λ s. is_home (sides_from_bit k s wrap) (drop k t) l) (drop_all k sizes h)) ∙ so
 
 -- ---- the places of a board
 

@@ -108,9 +108,17 @@ pub mod BoardCountsHome
 pub mod BoardCountsLengths
 -- the moves and the arcs of a board, counted
 pub mod BoardCountsBoards
+-- where at most one side of a board stops a displacement
+pub mod BoardCountsSides
+-- the moves of all lengths together, by a displacement that at most one side stops
+pub mod BoardCountsTotals
+-- when a step around a side is back
+pub mod TimesAround
 -- bounds with one less at a place
 pub mod LoweredBounds
 -- the moves of a simplex counted by pairs of places
 pub mod SimplexCounts
+-- pairs of places with equal bounds
+pub mod EqualBounds
 -- the moves of subsets counted by the descent
 pub mod SubsetsCounts

@@ -7,12 +7,18 @@ mod board_counts;
 // the lists of a board
 #[cfg(test)]
 mod board_lists;
+// the number of arcs of boards with sides that wrap around and that do not
+#[cfg(test)]
+mod board_totals;
 // a list of links compared with a list of a graph
 #[cfg(test)]
 mod cases;
 // the displacements of a piece, by the lists of boards
 #[cfg(test)]
 mod displacements;
+// the number of arcs of simplexes with equal bounds
+#[cfg(test)]
+mod equal_bounds;
 // board, simplex and subsets
 #[cfg(test)]
 mod generators;

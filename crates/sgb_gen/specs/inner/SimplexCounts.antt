@@ -1,7 +1,9 @@
 -- How many moves a simplex has, by pairs of places, with no move made.
-use Rattle.std.specs.Prelude.{ℕ, ◌+◌, ◌-◌, List, [], ◌∷◌, length, filter, slice_index, slice_set}
+use Rattle.std.specs.Prelude.{◌≡◌, ◌<◌, ◌≤◌, ℕ, ◌+◌, ◌-◌, List, [], ◌∷◌, length, filter, slice_index, slice_set, All}
+use Rattle.sgb_vec.specs.Limits.{most_vertices}
 use Rattle.sgb_vec.specs.Sums.{BoundedSum, bounded_sums}
 use Rattle.sgb_gen.specs.Simplexes.{Places, can_shift}
+use Rattle.sgb_gen.specs.declared.accepted.simplexes.known.KnownCount.{KnownCount}
 
 -- numbers with one less at a place
 abbrev pub less_at : List ℕ → ℕ → List ℕ
@@ -19,3 +21,13 @@ shifts_count s at = length (filter (λ x. can_shift s.bounds x at) (bounded_sums
 abbrev pub shifts_by : BoundedSum → List Places → ℕ
 shifts_by s [] = 0
 shifts_by s (at ∷ pairs) = shifts_count s at + shifts_by s pairs
+
+-- a count that is known of two bounds is that of each pair of places with these bounds
+pub record IsKnown (s : BoundedSum) (k : KnownCount) : Type 0 where
+  pub small : k.count ≤ most_vertices
+  pub same : (at : Places) → at.lower < at.higher → at.higher < length s.bounds
+      → slice_index s.bounds at.lower ≡ k.low → slice_index s.bounds at.higher ≡ k.high → shifts_count s at ≡ k.count
+
+-- so is each of some counts
+abbrev pub AreKnown : BoundedSum → List KnownCount → Type 0
+AreKnown s known = All (IsKnown s) known

@@ -6,6 +6,7 @@ ghost use Rattle.sgb_graph.specs.Growth.{AddsEvents, HasPlainArcs};
 ghost use Rattle.sgb_gen.specs.VectorGraphs.{event_among, vertex_among};
 
 mod counts;
+mod known;
 mod lists;
 
 use crate::params::SimplexParams;

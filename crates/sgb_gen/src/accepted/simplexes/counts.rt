@@ -1,11 +1,13 @@
 //! The number of arcs of a simplex's graph, with no list made.
-ghost use Rattle.std.specs.Prelude.{◌≡◌, ◌≤◌, ◌<◌, ◌*◌, ◌+◌, length, slice_index, IfOk, IsOkUnless};
+ghost use Rattle.std.specs.Prelude.{◌≡◌, ◌≤◌, ◌<◌, ◌*◌, ◌+◌, length, slice_index, Contains, IfOk, IfSome, IsOkUnless};
 ghost use Rattle.sgb_graph.specs.Made.{graph_described};
 ghost use Rattle.sgb_vec.specs.Limits.{most_dimensions, most_vertices};
+ghost use Rattle.sgb_vec.specs.Sums.{BoundedSum};
 ghost use Rattle.sgb_gen.specs.Simplexes.{simplex_graph, moves_of_simplex, pairs_from};
-ghost use Rattle.sgb_gen.specs.inner.SimplexCounts.{lowered, shifts_count, shifts_by};
+ghost use Rattle.sgb_gen.specs.inner.SimplexCounts.{lowered, shifts_count, shifts_by, AreKnown, IsKnown};
 
 use super::Simplex;
+use super::known::{KnownCount, KnownCounts};
 use crate::links::Links;
 use sgb_vec::{Family, Panic, SumFamily, Vector};
 use std::alloc::Global;
@@ -15,8 +17,8 @@ impl Simplex {
     /// pairs of places, with no arc made and no vector walked: where a unit can go from one place to another, the
     /// vectors are as many as those of a sum and of bounds that are one less.
     ///
-    /// `NoRoom` when out of memory, and nothing else. The memory is from where that of the links comes; for each pair it
-    /// is that of `sgb_vec::SumFamily::new`, as is the time.
+    /// `NoRoom` when out of memory, and nothing else. The memory is from where that of the links comes; for each pair of
+    /// bounds, of which there are at most sixteen, it is that of `sgb_vec::SumFamily::new`, as is the time.
     pub fn arcs_count(&self, links: &Links) -> Result<u128, Panic>
         ensures count { IfOk result (λ m. m ≡ (graph_described (simplex_graph self.now)).m) }
         ensures memory { IsOkUnless result Panic.NoRoom }
@@ -33,27 +35,63 @@ impl Simplex {
         ensures ok { IfOk result (λ n. n ≡ length (moves_of_simplex self.now)) }
         ensures memory { IsOkUnless result Panic.NoRoom }
     {
+        let mut known = KnownCounts::new();
         let mut counted: u64 = 0;
         for lower in 0..self.shape.sizes().len() {
-            counted += self.shifts_from(alloc, lower)?;
+            counted += self.shifts_from(alloc, lower, &mut known)?;
         }
         Ok(counted)
     }
 
     // From how many vectors a unit goes from the lower place to a higher one: for each of these.
-    fn shifts_from(&self, alloc: Global, lower: usize) -> Result<u64, Panic>
+    fn shifts_from(
+        &self,
+        alloc: Global,
+        lower: usize,
+        known: &mut KnownCounts,
+    ) -> Result<u64, Panic>
         requires entry { lower < length self.now.sum.bounds }
+        requires known { AreKnown self.now.sum known.old.items }
         ensures ok { IfOk result (λ n. n
             ≡ shifts_by self.now.sum (pairs_from (length self.now.sum.bounds) lower)) }
         ensures small { IfOk result (λ n. n ≤ (most_dimensions + 1) * most_vertices) }
+        ensures known { AreKnown self.now.sum known.new.items }
         ensures memory { IsOkUnless result Panic.NoRoom }
     {
         let bounds = self.shape.sizes();
         let mut counted: u64 = 0;
         for higher in lower + 1..bounds.len() {
-            counted += u64::from(self.shifts_count(alloc, lower, higher)?);
+            counted += u64::from(self.shifts_known(alloc, lower, higher, known)?);
         }
         Ok(counted)
+    }
+
+    // From how many vectors a unit can go from the lower place to the higher one, which is counted once for two bounds:
+    // places with equal bounds have equal counts.
+    fn shifts_known(
+        &self,
+        alloc: Global,
+        lower: usize,
+        higher: usize,
+        known: &mut KnownCounts,
+    ) -> Result<u32, Panic>
+        requires order { lower < higher }
+        requires entry { higher < length self.now.sum.bounds }
+        requires known { AreKnown self.now.sum known.old.items }
+        ensures ok { IfOk result (λ n. n
+            ≡ shifts_count self.now.sum (record { lower = lower; higher = higher })) }
+        ensures small { IfOk result (λ n. n ≤ most_vertices) }
+        ensures known { AreKnown self.now.sum known.new.items }
+        ensures memory { IsOkUnless result Panic.NoRoom }
+    {
+        let bounds = self.shape.sizes();
+        let (low, high) = (bounds[lower], bounds[higher]);
+        if let Some(count) = known_count(known.as_slice(), low, high) {
+            return Ok(count);
+        }
+        let count = self.shifts_count(alloc, lower, higher)?;
+        keep(known, KnownCount { low, high, count });
+        Ok(count)
     }
 
     // From how many vectors a unit can go from the lower place to the higher one: as many as have a sum and bounds
@@ -75,6 +113,30 @@ impl Simplex {
         let family = SumFamily::new(alloc, i64::from(total - 1), bounds.as_slice())?;
         Ok(family.size())
     }
+}
+
+// The count that is known of these bounds.
+fn known_count(known: &[KnownCount], low: u32, high: u32) -> Option<u32>
+    ensures { IfSome result (λ n. Contains known.now
+        (record { low = low; high = high; count = n })) }
+{
+    for k in known {
+        if k.low == low && k.high == high {
+            return Some(k.count);
+        }
+    }
+    None
+}
+
+// Keeps one more count, where there is room.
+fn keep(known: &mut KnownCounts, count: KnownCount)
+    ensures { (s : BoundedSum) → IsKnown s count → AreKnown s known.old.items
+        → AreKnown s known.new.items }
+{
+    if known.is_full() {
+        return;
+    }
+    known.push(count);
 }
 
 // The bounds with one less at both places.

@@ -1,35 +1,26 @@
-use Rattle.std.proofs.Common.{◌+◌, sym, ap, ◌∙◌, arith}
-use Rattle.sgb_gen.proofs.BoardCountsBoards.{beyond-all, beyond-first, beyond-none, beyond-end, great}
+use Rattle.std.proofs.Common.{◌≡◌, ◌<◌, true, to_z, of_z, w64, length, sym, ap, ◌∙◌, arith, rules}
+use Rattle.std.proofs.lemmas.Int.{to_z-of_z}
+use Rattle.sgb_vec.specs.Boxes.{product_of}
+use Rattle.sgb_vec.proofs.BoxPlaces.{length-box}
+use Rattle.sgb_gen.specs.inner.BoardCounts.{stops_at}
+use Rattle.sgb_gen.proofs.BoardCountsSides.{never-home}
 use Rattle.sgb_gen.proofs.accepted.boards.Board.count_by.Goals as goal
 
-pub loop-shorter-init : goal.loop-shorter-init
-loop-shorter-init c =
-    let b = c.args.self.now in
-    ap (λ n. c.args.before + n) (beyond-all b.sizes b.wrap b.piece c.args.t.now)
+pub count_around-requires-clause-some : goal.count_around-requires-clause-some
+count_around-requires-clause-some c =
+    omega (arith, c.if-size-eq0.false, c.size.ensures, length-box c.self.inside.family, ap (λ d. product_of d.sizes) c.self.view_is)
 
-pub loop-shorter-preserved : goal.loop-shorter-preserved
-loop-shorter-preserved c =
-    let b = c.args.self.now in
-    let starts = c.starts_count-starts.ensures in
-    let first = beyond-first b.sizes b.wrap b.piece c.args.t.now c.loop-shorter.shorter (omega (arith, c.longest_move-shorter-end.ensures)) (omega (arith, starts, c.if-starts-eq0.false)) in
-    omega (arith, first, starts, c.loop-shorter.invariant, c.in-Some.ensures.1, c.from.ensures)
+pub count_along-requires-clause-some : goal.count_along-requires-clause-some
+count_along-requires-clause-some c =
+    omega (arith, c.if-size-eq0.false, c.size.ensures, length-box c.self.inside.family, ap (λ d. product_of d.sizes) c.self.view_is)
 
-pub returns-then-starts-eq0-clause-some : goal.returns-then-starts-eq0-clause-some
-returns-then-starts-eq0-clause-some c =
+pub count_one_by_one-requires-clause-away : goal.count_one_by_one-requires-clause-away
+count_one_by_one-requires-clause-away c =
     let b = c.args.self.now in
-    let none = beyond-none b.sizes b.wrap b.piece c.args.t.now c.loop-shorter.shorter (sym c.starts_count-starts.ensures ∙ c.if-starts-eq0.true) in
-    omega (arith, none, c.loop-shorter.invariant)
-
-pub returns-in_default-clause-none : goal.returns-in_default-clause-none
-returns-in_default-clause-none c =
-    let b = c.args.self.now in
-    let starts = c.starts_count-starts.ensures in
-    let first = beyond-first b.sizes b.wrap b.piece c.args.t.now c.loop-shorter.shorter (omega (arith, c.longest_move-shorter-end.ensures)) (omega (arith, starts, c.if-starts-eq0.false)) in
-    let past = great c.checked_add.result (c.loop-shorter.counted + c.from.result) c.in_default.is c.checked_add.ensures in
-    omega (arith, first, past, starts, c.loop-shorter.invariant, c.from.ensures)
-
-pub returns-clause-some : goal.returns-clause-some
-returns-clause-some c =
-    let b = c.args.self.now in
-    let end = beyond-end b.sizes b.wrap b.piece c.args.t.now c.loop-shorter.shorter (omega (arith, c.longest_move-shorter-end.ensures)) in
-    omega (arith, end, c.loop-shorter.invariant)
+    let t = c.args.t.now in
+    let k = c.first_stop-stop.result in
+    let inside = c.self.inside in
+    let wrap : to_z w64 (of_z w64 inside.wrap) ≡ b.wrap = to_z-of_z w64 inside.wrap (search rules) ∙ ap (λ d. d.wrap) c.self.view_is in
+    let there : k < length t = omega (arith, c.first_stop-stop.ensures.within, c.if-stop-t.false) in
+    let stop : stops_at b.wrap t k ≡ true = ap (λ w. stops_at w t k) (sym wrap) ∙ c.first_stop-stop.ensures.stop there in
+    λ l some. never-home b.sizes b.wrap b.piece t k l some c.requires.dimensions there stop

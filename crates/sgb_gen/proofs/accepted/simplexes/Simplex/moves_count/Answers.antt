@@ -15,6 +15,7 @@ loop-lower-preserved c =
     ∙ shifts_by-append s (pairs_from n j) (pairs_after n (j + 1)) in (
       omega (arith, next, c.loop-lower.invariant.0, c.in_ok-counted.ensures.ok),
       omega (arith, c.loop-lower.invariant.1, c.in_ok-counted.ensures.small),
+      c.in_ok-counted.ensures.known,
     )
 
 pub returns-clause-ok : goal.returns-clause-ok

@@ -3,7 +3,7 @@ use Rattle.sgb_vec.specs.Boxes.{box}
 use Rattle.sgb_gen.specs.inner.LocalBoards.{moves_by}
 use Rattle.sgb_gen.specs.Moves.{sides_of}
 use Rattle.sgb_gen.proofs.BoardCountsBoards.{moves_beyond}
-use Rattle.sgb_gen.proofs.accepted.boards.Board.count_by.Given as goal
+use Rattle.sgb_gen.proofs.accepted.boards.Board.count_one_by_one.Given as goal
 
 -- the moves of greater lengths are still to be counted
 abbrev pub invariant-loop-shorter : goal.invariant-loop-shorter
