@@ -77,21 +77,11 @@ fn write_draws<W: Sink>(draws: Draws, out: &mut W) -> Result<(), Fault>
         result }
 {
     let mut flip = Flip::new(draws.start);
-    skip_draws(&mut flip, draws.skip);
+    flip.skip(u64::from(draws.skip));
     for _number in 0..draws.count {
         write_number(next_number(&mut flip, draws.m), out)?;
     }
     Ok(())
-}
-
-// Throws so many draws away.
-fn skip_draws(flip: &mut Flip, skip: u32)
-    ensures { (start : ℤ) (k : ℕ) → IsAtDraw start k flip.old.numbers flip.old.left
-        → IsAtDraw start (k + skip) flip.new.numbers flip.new.left }
-{
-    for _thrown in 0..skip {
-        flip.draw();
-    }
 }
 
 // The next number: a plain draw where m is 0, else a uniform draw below m. Of the numbers from where the generator stood,
