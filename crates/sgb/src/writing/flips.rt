@@ -1,5 +1,5 @@
 //! Random numbers, written to a sink (GB_FLIP).
-ghost use Rattle.std.specs.Prelude.{◌≡◌, ◌≤◌, ◌+◌, ◌∷◌, ℕ, ℤ, suc, false};
+ghost use Rattle.std.specs.Prelude.{◌≡◌, ◌≤◌, ◌∷◌, ℕ, ℤ, suc, false};
 ghost use Rattle.sgb_file.specs.Devices.{change};
 ghost use Rattle.sgb_graph.specs.Draws.{IsAtDraw, modulus, seed_of};
 ghost use Rattle.sgb.specs.FlipAnswers.{accepted_draws, drawn, drawn_from, flip_answer, number_line, number_lines, number_within};
@@ -77,21 +77,11 @@ fn write_draws<W: Sink>(draws: Draws, out: &mut W) -> Result<(), Fault>
         result }
 {
     let mut flip = Flip::new(draws.start);
-    skip_draws(&mut flip, draws.skip);
+    flip.skip(u64::from(draws.skip));
     for _number in 0..draws.count {
         write_number(next_number(&mut flip, draws.m), out)?;
     }
     Ok(())
-}
-
-// Throws so many draws away.
-fn skip_draws(flip: &mut Flip, skip: u32)
-    ensures { (start : ℤ) (k : ℕ) → IsAtDraw start k flip.old.numbers flip.old.left
-        → IsAtDraw start (k + skip) flip.new.numbers flip.new.left }
-{
-    for _thrown in 0..skip {
-        flip.draw();
-    }
 }
 
 // The next number: a plain draw where m is 0, else a uniform draw below m. Of the numbers from where the generator stood,

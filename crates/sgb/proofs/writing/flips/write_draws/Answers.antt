@@ -12,8 +12,8 @@ loop-number-init g c =
     let draws = c.args.draws in
     let begun =
     subst (λ (s : ℤ). IsAtDraw s 0 c.new-flip.result.numbers c.new-flip.result.left) (to_z-of_z w64 draws.start (search rules)) c.new-flip.ensures in
-    let skipped : 0 + draws.skip ≡ draws.skip = omega arith in
-    let at = subst (λ (k : ℕ). IsAtDraw draws.start k c.skip_draws.new.flip.numbers c.skip_draws.new.flip.left) skipped (c.skip_draws.ensures draws.start 0 begun) in
+    let skipped : 0 + c.from.result ≡ draws.skip = omega (arith, c.from.ensures) in
+    let at = subst (λ (k : ℕ). IsAtDraw draws.start k c.skip.new.self.numbers c.skip.new.self.left) skipped (c.skip.ensures draws.start 0 begun) in
     let all : draws.count ≡ draws.count - 0 = omega arith in
     let same = ap (λ (n : ℕ). number_lines (drawn_from (seed_of draws.start) draws.m draws.skip n)) all in
     ((draws.skip, at, so_far-same _ _ _ _ _ same (so_far-none _ _)), c.requires.sound)
