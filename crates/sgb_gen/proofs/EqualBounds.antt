@@ -118,13 +118,13 @@ shifts-same s p q order_p within_p order_q within_q same_low same_high =
     elim (cases_lt 0 s.total) [
       | inr none ↦ sym (shifts-none s p order_p (inl (omega arith))) ∙ shifts-none s q order_q (inl (omega arith))
       | inl some ↦ elim (cases_lt 0 (get_or s.bounds p.lower 0)) [
-          | inr none ↦ sym (shifts-none s p order_p (inr (inl (omega arith)))) ∙ shifts-none s q order_q (inr (inl (omega (arith, same_low))))
-          | inl low ↦ elim (cases_lt 0 (get_or s.bounds p.higher 0)) [
-              | inr none ↦ sym (shifts-none s p order_p (inr (inr (omega arith)))) ∙ shifts-none s q order_q (inr (inr (omega (arith, same_high))))
-              | inl high ↦
-                  shifts-lowered s p order_p some low high
-                  ∙ same_lowered s.bounds p q order_p within_p order_q within_q same_low same_high (s.total - 1)
-                  ∙ sym (shifts-lowered s q order_q some (omega (arith, low, same_low)) (omega (arith, high, same_high)))
-            ]
+        | inr none ↦ sym (shifts-none s p order_p (inr (inl (omega arith)))) ∙ shifts-none s q order_q (inr (inl (omega (arith, same_low))))
+        | inl low ↦ elim (cases_lt 0 (get_or s.bounds p.higher 0)) [
+          | inr none ↦ sym (shifts-none s p order_p (inr (inr (omega arith)))) ∙ shifts-none s q order_q (inr (inr (omega (arith, same_high))))
+          | inl high ↦
+              shifts-lowered s p order_p some low high
+              ∙ same_lowered s.bounds p q order_p within_p order_q within_q same_low same_high (s.total - 1)
+              ∙ sym (shifts-lowered s q order_q some (omega (arith, low, same_low)) (omega (arith, high, same_high)))
         ]
+      ]
     ]

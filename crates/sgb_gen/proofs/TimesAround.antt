@@ -33,9 +33,9 @@ same_factor a b v some e =
     elim (cases_lt a b) [
       | inl less ↦ absurd (omega (arith, e, some, mul-le (a + 1) v b v (omega arith) (omega arith)))
       | inr more ↦ elim (cases_lt b a) [
-          | inl above ↦ absurd (omega (arith, e, some, mul-le (b + 1) v a v (omega arith) (omega arith)))
-          | inr below ↦ omega arith
-        ]
+        | inl above ↦ absurd (omega (arith, e, some, mul-le (b + 1) v a v (omega arith) (omega arith)))
+        | inr below ↦ omega arith
+      ]
     ]
 
 least_factor : (a b v : ℕ) → 0 < v → a * v ≤ b * v → a ≤ b
