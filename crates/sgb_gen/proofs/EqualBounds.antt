@@ -1,12 +1,12 @@
 -- Pairs of places with equal bounds: as many vectors of a bounded sum let a unit go between them.
-use Rattle.std.proofs.Common.{◌≡◌, ℕ, zero, suc, ◌+◌, ◌-◌, ◌<◌, ◌≤◌, List, [], ◌∷◌, length, get_or, set, refl, sym, ap, ◌∙◌, inl, inr, arith, length-set}
+use Rattle.std.proofs.Common.{◌≡◌, ℕ, zero, suc, ◌-◌, ◌<◌, List, [], ◌∷◌, length, get_or, set, refl, sym, ap, ◌∙◌, inl, inr, arith, length-set}
 use Rattle.std.specs.List.{remove}
 use Rattle.std.proofs.lemmas.Bool.{cases_lt}
 use Rattle.std.proofs.lemmas.List.{get_or-set_same, get_or-set_other}
 use Rattle.std.proofs.lemmas.List.Edits.{get_or-remove_below, length-remove}
 use Rattle.sgb_vec.specs.Sums.{BoundedSum, count_of_sum}
 use Rattle.sgb_vec.proofs.SumCounts.{count_of_sum-cons, count_of_sum-remove}
-use Rattle.sgb_vec.proofs.Windows.{shifted, window, window_same}
+use Rattle.sgb_vec.proofs.Windows.{window, window_same}
 use Rattle.sgb_gen.specs.Simplexes.{Places}
 use Rattle.sgb_gen.specs.inner.SimplexCounts.{less_at, lowered, shifts_count}
 use Rattle.sgb_gen.proofs.SimplexCounts.{shifts-lowered, shifts-none}

@@ -1,4 +1,4 @@
-use Rattle.std.proofs.Common.{◌≡◌, pos, nat_abs, min, get_or, to_z, of_z, w32, ap, ◌∙◌, arith, rules}
+use Rattle.std.proofs.Common.{◌≡◌, pos, nat_abs, min, get_or, w32, ap, ◌∙◌, arith, rules}
 use Rattle.std.proofs.lemmas.Int.{to_z-of_z}
 use Rattle.sgb_vec.specs.Boxes.{product_of}
 use Rattle.sgb_vec.proofs.BoxPlaces.{length-box}

@@ -1,5 +1,5 @@
 use Rattle.std.proofs.Common.{◌<◌, arith}
-use Rattle.sgb_gen.proofs.TimesAround.{times-small, times-some, times-exact, no-step}
+use Rattle.sgb_gen.proofs.TimesAround.{times-exact, no-step}
 use Rattle.sgb_gen.proofs.accepted.boards.counts.+times_around.Goals as goal
 
 pub returns-then-step-eq0-clause-times : goal.returns-then-step-eq0-clause-times

@@ -1,6 +1,6 @@
-use Rattle.std.proofs.Common.{◌≡◌, ◌*◌, ◌%◌, ℤ, nat_abs, to_z, of_z, w32, eqb, sym, ap, ◌∙◌, rules, arith}
+use Rattle.std.proofs.Common.{◌≡◌, ◌*◌, ◌%◌, ℤ, nat_abs, w32, eqb, sym, ap, ◌∙◌}
 use Rattle.std.proofs.lemmas.Int.{to_z-of_z}
-use Rattle.sgb_gen.proofs.TimesAround.{around-home, still-home}
+use Rattle.sgb_gen.proofs.TimesAround.{around-home}
 use Rattle.sgb_gen.proofs.accepted.boards.counts.turns.Goals as goal
 
 pub returns-clause-home : goal.returns-clause-home
