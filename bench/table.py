@@ -15,6 +15,9 @@ import tempfile
 
 PROGRAM = os.path.join(os.path.dirname(os.path.abspath(__file__)), "..", "sgb")
 
+# each vertex of a board of 180 by 180 twice
+TWICE = f"induced(board(180,180,0,0,1,0,0),[{','.join(['2'] * 32400)}],0,0,0)"
+
 REQUESTS = [
     # names: no graph is built
     ["names", "board(1000,1000,0,0,1,0,0)"],
@@ -59,6 +62,9 @@ REQUESTS = [
     # line graphs, products, complete bipartite graphs, wheels
     ["list", "lines(complete(120),0)"],
     ["list", "lines(board(400,400,0,0,1,0,1),1)"],
+    ["list", "lines(transitive(300),1)"],
+    ["list", "induced(complete(6),[board(30,30,0,0,1,0,0),40,40,40,1,circuit(900)],0,0,1)"],
+    ["list", TWICE],
     ["list", "product(circuit(400),circuit(400),2,0)"],
     ["list", "product(complete(40),complete(40),1,0)"],
     ["list", "bi_complete(1000,1000,0)"],
@@ -68,7 +74,7 @@ REQUESTS = [
     ["save", "board(100,100,0,0,-1,0,0)"],
     ["save", "simplex(25,-5,0,0,0,0,0)"],
     # random numbers; a sum that is refused by its counts
-    ["flip", "flip(1,100000000,1,0)"],
+    ["flip", "flip(1,1000000000,1,0)"],
     ["flip", "flip(1,0,1000000,6)"],
     ["names", "simplex(1000000000,-1,0,0,0,0,0)"],
 ]
@@ -107,6 +113,7 @@ def cost(words, source=subprocess.DEVNULL, most=None):
 def show(text, status, seconds, peak, count):
     """Prints a row of the table."""
     note = "" if status == 0 else f"  status {status}"
+    text = text if len(text) <= 90 else text[:60] + ".."
     print(f"{text:<66} {seconds:>8.2f} {peak / 1024:>8.0f} {count:>12}{note}", flush=True)
 
 

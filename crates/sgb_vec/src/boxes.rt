@@ -291,6 +291,3 @@ fn retreat(sizes: &[u32], entries: &mut [u32], steps: &mut Steps) -> bool
     put_tops(&sizes[place + 1..], &mut entries[place + 1..], steps);
     true
 }
-
-#[cfg(test)]
-mod tests;

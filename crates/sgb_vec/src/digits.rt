@@ -34,6 +34,3 @@ pub fn digits_value(digits: &[u8], radix: u32) -> u128
     }
     value
 }
-
-#[cfg(test)]
-mod tests;

@@ -47,6 +47,3 @@ fn entry_of(text: &[u8]) -> Option<u32>
     }
     Some(entry)
 }
-
-#[cfg(test)]
-mod tests;

@@ -59,6 +59,3 @@ impl<T: Drop> From<AllocFailed<T>> for Panic {
         Panic::NoRoom
     }
 }
-
-#[cfg(test)]
-mod tests;

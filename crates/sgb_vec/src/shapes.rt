@@ -43,6 +43,3 @@ impl Shape {
 
 // A board or a simplex has at most this many dimensions.
 const MOST_DIMENSIONS: u64 = 250;
-
-#[cfg(test)]
-mod tests;

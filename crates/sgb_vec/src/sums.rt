@@ -325,6 +325,3 @@ fn last_falling(bounds: &[u32], entries: &[u32], steps: &mut Steps) -> Option<(u
     }
     None
 }
-
-#[cfg(test)]
-mod tests;

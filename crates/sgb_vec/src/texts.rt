@@ -126,6 +126,3 @@ fn push_decimal(bytes: &mut Vec<u8>, number: u32) -> Result<(), AllocError>
     let mut buffer = Buffer::new();
     bytes.extend_from_slice(buffer.format(number).as_bytes())
 }
-
-#[cfg(test)]
-mod tests;

@@ -163,6 +163,3 @@ impl<'a, F: Family> DoubleEndedIterator for Vectors<'a, F> {
         Some(vector)
     }
 }
-
-#[cfg(test)]
-mod tests;

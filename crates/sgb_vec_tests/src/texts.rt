@@ -1,7 +1,6 @@
 ghost use Rattle.std.specs.Prelude.{◌≤◌, length};
 
-use super::{Text, name_of};
-use crate::panics::Panic;
+use sgb_vec::{Panic, Text, name_of};
 use std::alloc::Global;
 
 // Whether the vector's name is this text.

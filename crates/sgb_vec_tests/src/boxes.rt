@@ -1,4 +1,4 @@
-use super::*;
+use sgb_vec::{BoxFamily, Family, Panic, Steps, Vector};
 use std::process::Abort;
 use std::test::Fail;
 

@@ -1,5 +1,4 @@
-use super::{board_sizes, simplex_bounds};
-use crate::panics::Panic;
+use sgb_vec::{Panic, board_sizes, simplex_bounds};
 
 // The parameters and the sizes of a board that is accepted.
 fn is_board(entries: [i64; 4], params: &[i64], sizes: &[u32]) -> bool {

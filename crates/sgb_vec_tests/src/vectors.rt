@@ -1,6 +1,4 @@
-use super::*;
-use crate::boxes::BoxFamily;
-use crate::sums::SumFamily;
+use sgb_vec::{BoxFamily, Family, SumFamily, Vectors};
 use std::process::Abort;
 use std::test::Fail;
 

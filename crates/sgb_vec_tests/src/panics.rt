@@ -1,4 +1,4 @@
-use super::Panic;
+use sgb_vec::Panic;
 
 #[test]
 fn a_panic_has_the_code_that_graphbase_prints(rt: HostRuntime) {

@@ -1,10 +1,7 @@
 ghost use Rattle.std.specs.Prelude.{◌≤◌, ◌+◌, length};
 ghost use Rattle.sgb_vec.specs.Limits.{most_dimensions};
 
-use super::SumFamily;
-use crate::families::{Family, Vector};
-use crate::panics::Panic;
-use crate::steps::Steps;
+use sgb_vec::{Family, Panic, Steps, SumFamily, Vector};
 use std::alloc::Global;
 use std::process::Abort;
 use std::test::Fail;
@@ -139,7 +136,7 @@ fn no_vector(rt: HostRuntime) -> Result<(), Fail> {
 fn count_of(alloc: Global, n: i64, bounds: &[u32]) -> Result<u32, Panic>
     requires { length bounds.now ≤ most_dimensions + 1 }
 {
-    Ok(SumFamily::new(alloc, n, bounds)?.count)
+    Ok(SumFamily::new(alloc, n, bounds)?.size())
 }
 
 #[test]

@@ -1,4 +1,4 @@
-use super::*;
+use sgb_vec::vector_of;
 use std::test::Fail;
 
 #[test]

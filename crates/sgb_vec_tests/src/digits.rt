@@ -1,4 +1,4 @@
-use super::{digits_value, leading_digits};
+use sgb_vec::{digits_value, leading_digits};
 
 #[test]
 fn digits_are_taken_up_to_a_byte_that_is_none(rt: HostRuntime) {

@@ -1,0 +1,27 @@
+//! Tests of the public calls of `sgb_vec`, in a crate of their own: so that crate is not proved once more for them.
+#![tactic(auto)]
+
+// boxes
+#[cfg(test)]
+mod boxes;
+// digits in a radix
+#[cfg(test)]
+mod digits;
+// vectors of names
+#[cfg(test)]
+mod named;
+// panic codes
+#[cfg(test)]
+mod panics;
+// sizes of boards and bounds of simplexes
+#[cfg(test)]
+mod shapes;
+// bounded sums
+#[cfg(test)]
+mod sums;
+// texts, and names of vectors
+#[cfg(test)]
+mod texts;
+// walks over vectors
+#[cfg(test)]
+mod vectors;
