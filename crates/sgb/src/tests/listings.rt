@@ -3,7 +3,7 @@ use super::{Parts, answers_are, answers_have};
 use crate::locals::Local;
 use crate::writing::families::list_family;
 use sgb_file::CutSink;
-use sgb_gen::{Board, BoardParams, Links};
+use sgb_gen::{Board, BoardParams, Links, Simplex, SimplexParams};
 use std::alloc::Global;
 use std::test::Fail;
 
@@ -241,9 +241,16 @@ fn heads_and_last_blocks(rt: HostRuntime) -> Result<(), Fail> {
     answers_have(&rt, rt.alloc(), &PARTS_OF_LISTINGS)
 }
 
-// What a sink of 200 bytes has of the listing of a board with its head.
-fn begun(alloc: Global, n1: i64, n2: i64, piece: i64) -> CutSink<200> {
+// What a sink of 200 bytes has of this listing with its head.
+fn begun_by(alloc: Global, local: &Local) -> CutSink<200> {
     let mut out = CutSink::new(200, 200, false);
+    let mut links = Links::new(alloc);
+    let _cut = list_family(local, true, None, &mut links, &mut out);
+    out
+}
+
+// What it has of the listing of a board.
+fn begun(alloc: Global, n1: i64, n2: i64, piece: i64) -> CutSink<200> {
     let params = BoardParams {
         n1,
         n2,
@@ -254,12 +261,26 @@ fn begun(alloc: Global, n1: i64, n2: i64, piece: i64) -> CutSink<200> {
         directed: false,
     };
     let Ok(board) = Board::from_params(&params) else {
-        return out;
+        return CutSink::new(200, 200, false);
     };
-    let local = Local::Board(board);
-    let mut links = Links::new(alloc);
-    let _cut = list_family(&local, true, None, &mut links, &mut out);
-    out
+    begun_by(alloc, &Local::Board(board))
+}
+
+// What it has of the listing of a simplex of three entries.
+fn begun_simplex(alloc: Global, n: i64) -> CutSink<200> {
+    let params = SimplexParams {
+        n,
+        n0: -2,
+        n1: 0,
+        n2: 0,
+        n3: 0,
+        n4: 0,
+        directed: false,
+    };
+    let Ok(simplex) = Simplex::from_params(alloc, &params) else {
+        return CutSink::new(200, 200, false);
+    };
+    begun_by(alloc, &Local::Simplex(simplex))
 }
 
 // A walk over the vertices of these boards would not reach the head in the time that a test has.
@@ -280,6 +301,20 @@ fn heads_of_great_boards(rt: HostRuntime) -> Result<(), Fail> {
         begun(rt.alloc(), 30_000, 30_000, -1)
             .bytes()
             .starts_with(rooks.as_bytes())
+    );
+    Ok(())
+}
+
+// So does a walk over the vertices of this simplex: 3 * 44,001 * 44,000 arcs.
+#[test]
+fn head_of_a_great_simplex(rt: HostRuntime) -> Result<(), Fail> {
+    let head =
+        "  The graph whose official name is\nsimplex(44000,-2,0,0,0,0,0)\n  has 968066001 vertices and \
+        5808132000 arcs:\n\n0.0.44000\n  -> 1.0.43999, length 1\n";
+    assert!(rt;
+        begun_simplex(rt.alloc(), 44_000)
+            .bytes()
+            .starts_with(head.as_bytes())
     );
     Ok(())
 }

@@ -8,6 +8,7 @@ ghost use Rattle.sgb.specs.Texts.{arc_line, block, blocks, head, head_text};
 ghost use Rattle.sgb.specs.Writing.{IsWritten};
 ghost use Rattle.sgb.specs.inner.Writing.{IsEnded};
 
+use super::lines::Line;
 use super::vertices::{vertices_left_out, write_name_line};
 use super::{write_bytes, write_texts};
 use itoa::Buffer;
@@ -100,42 +101,46 @@ fn write_blocks<W: Sink>(graph: &Graph, from: u64, out: &mut W) -> Result<(), Fa
 {
     let end = graph.n();
     let start = from.min(u64::from(end)) as u32;
+    let mut line = Line::new();
     for v in start..end {
         graph.read_ahead(v);
-        write_block(graph, v, out)?;
+        write_block(graph, v, &mut line, out)?;
     }
     Ok(())
 }
 
-// Writes the block of a vertex: its name, and a line for each of its arcs.
-fn write_block<W: Sink>(graph: &Graph, v: u32, out: &mut W) -> Result<(), Fault>
+// Writes the block of a vertex: its name, and a line for each of its arcs. Each is put together in `line`.
+fn write_block<W: Sink>(
+    graph: &Graph,
+    v: u32,
+    line: &mut Line,
+    out: &mut W,
+) -> Result<(), Fault>
     requires vertex { v < length graph.now.vertices }
     requires sound { W.has_failed out.old ≡ false }
     ensures { IsWritten (block graph.now v) (change W.written W.has_failed out.old out.new) result }
 {
-    write_name_line(graph, v, out)?;
+    write_name_line(graph, v, line, out)?;
     for link in graph.arcs(v) {
-        write_arc(graph, link, out)?;
+        write_arc(graph, link, line, out)?;
     }
     Ok(())
 }
 
-// Writes the line of an arc.
-fn write_arc<W: Sink>(graph: &Graph, link: Link, out: &mut W) -> Result<(), Fault>
+// Writes the line of an arc. It is put together in `line`.
+fn write_arc<W: Sink>(
+    graph: &Graph,
+    link: Link,
+    line: &mut Line,
+    out: &mut W,
+) -> Result<(), Fault>
     requires tip { link.tip < length graph.now.vertices }
     requires sound { W.has_failed out.old ≡ false }
     ensures { IsWritten (arc_line (names_of graph.now) link)
         (change W.written W.has_failed out.old out.new) result }
 {
-    let mut len = Buffer::new();
-    write_texts(
-        out,
-        &[
-            b"  -> ",
-            graph.name(link.tip).bytes(),
-            b", length ",
-            len.format(link.len).as_bytes(),
-            b"\n",
-        ],
-    )
+    line.begin_arc();
+    line.push_text(graph.name(link.tip).bytes());
+    line.end_arc(link.len);
+    write_bytes(out, line.bytes())
 }

@@ -8,7 +8,8 @@ ghost use Rattle.sgb.specs.Texts.{name_line, name_lines};
 ghost use Rattle.sgb.specs.Writing.{IsWritten};
 ghost use Rattle.sgb.specs.inner.Writing.{IsEnded};
 
-use super::write_texts;
+use super::lines::Line;
+use super::write_bytes;
 use sgb_file::Sink;
 use sgb_graph::Graph;
 use sgb_requests::{Fault, Resume};
@@ -37,20 +38,29 @@ fn write_name_lines<W: Sink>(graph: &Graph, from: u64, out: &mut W) -> Result<()
 {
     let end = graph.n();
     let start = from.min(u64::from(end)) as u32;
+    let mut line = Line::new();
     for v in start..end {
-        write_name_line(graph, v, out)?;
+        write_name_line(graph, v, &mut line, out)?;
     }
     Ok(())
 }
 
-/// Writes the line of a vertex: its name and a newline.
-pub(super) fn write_name_line<W: Sink>(graph: &Graph, v: u32, out: &mut W) -> Result<(), Fault>
+/// Writes the line of a vertex: its name and a newline. It is put together in `line`.
+pub(super) fn write_name_line<W: Sink>(
+    graph: &Graph,
+    v: u32,
+    line: &mut Line,
+    out: &mut W,
+) -> Result<(), Fault>
     requires vertex { v < length graph.now.vertices }
     requires sound { W.has_failed out.old ≡ false }
     ensures { IsWritten (name_line (slice_index_or (names_of graph.now) v []))
         (change W.written W.has_failed out.old out.new) result }
 {
-    write_texts(out, &[graph.name(v).bytes(), b"\n"])
+    line.cut(0);
+    line.push_text(graph.name(v).bytes());
+    line.push_text(b"\n");
+    write_bytes(out, line.bytes())
 }
 
 /// How many first vertices are left out.

@@ -105,9 +105,9 @@ impl Layout {
             (stage W.written W.has_failed sink.old self.old)
             (stage W.written W.has_failed sink.new self.new) result }
     {
-        self.fill(sink, front)?;
+        self.fill_bytes(sink, front)?;
         self.fill(sink, body)?;
-        self.fill(sink, back)
+        self.fill_bytes(sink, back)
     }
 
     // Puts bytes on the line, and breaks it as often as they need.
@@ -119,6 +119,15 @@ impl Layout {
             self.line.push(bytes);
             return Ok(());
         }
+        self.fill_bytes(sink, bytes)
+    }
+
+    // Puts bytes on the line one by one, and breaks it as often as they need.
+    fn fill_bytes<W: Sink>(&mut self, sink: &mut W, bytes: &[u8]) -> Result<(), Failed>
+        ensures { IsFilled bytes.now (stage W.written W.has_failed sink.old self.old)
+            (stage W.written W.has_failed sink.new self.new) result }
+    {
+        prove!(self.line.len() <= MOST_LINE_BYTES);
         for byte in bytes {
             self.fill_byte(sink, *byte)?;
         }
@@ -131,7 +140,7 @@ impl Layout {
             (stage W.written W.has_failed sink.new self.new) result }
     {
         if self.line.len() < MOST_LINE_BYTES {
-            self.line.push(&[byte]);
+            self.line.push_byte(byte);
             return Ok(());
         }
         let last = self.line.replace_last(b'\\');

@@ -55,6 +55,14 @@ impl Line {
         let _written = self.bytes.try_extend_from_slice(bytes);
     }
 
+    // Appends a byte, for which there is room.
+    pub(super) fn push_byte(&mut self, byte: u8)
+        requires { length self.old + 1 ≤ most_line_bytes }
+        ensures { self.new ≡ self.old ++ byte ∷ [] }
+    {
+        self.bytes.push(byte);
+    }
+
     // Puts another byte in the place of the last one of a full line, which it returns.
     pub(super) fn replace_last(&mut self, byte: u8) -> u8
         requires { length self.old ≡ most_line_bytes }

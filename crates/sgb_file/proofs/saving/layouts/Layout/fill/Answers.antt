@@ -1,6 +1,5 @@
 use Rattle.std.proofs.Common.{◌≤◌, ◌∙◌, ◌++◌, ap, arith, length, refl, length-append}
-use Rattle.std.proofs.lemmas.Result.{err_from_is_err_and}
-use Rattle.sgb_file.proofs.PlacedPieces.{filled-short, filled-none, filled-next, filled-stopped-at}
+use Rattle.sgb_file.proofs.PlacedPieces.{filled-short}
 use Rattle.sgb_file.proofs.saving.layouts.Layout.fill.Goals as goal
 
 pub returns-then-bytes-len : goal.returns-then-bytes-len
@@ -9,16 +8,3 @@ returns-then-bytes-len g c =
     let short : length (c.args.self.now.line ++ c.args.bytes.now) ≤ 79 = rw length-append (omega (arith, c.len.ensures.value, c.len.ensures.short, ap length line, c.if-bytes-len.true)) in
     filled-short c.args.bytes.now _ _ short (record { written = refl; failed = refl; checksum = ap (λ l. l.checksum) c.self.view_is })
     (c.push.ensures ∙ ap (λ xs. xs ++ c.args.bytes.now) line)
-
-pub loop-byte-init : goal.loop-byte-init
-loop-byte-init g c =
-    filled-none _ (omega (arith, c.len.ensures.short, ap (λ l. length l.line) c.self.view_is))
-
-pub returns-in_err-fill_byte : goal.returns-in_err-fill_byte
-returns-in_err-fill_byte g c =
-    let p = err_from_is_err_and c.from_residual.result c.from_residual.ensures.1 in
-    rw p.1 (filled-stopped-at c.args.bytes.now c.loop-byte.byte-index 0 _ _ _ c.loop-byte-test.true c.loop-byte.invariant c.in_err-fill_byte.ensures)
-
-pub loop-byte-preserved : goal.loop-byte-preserved
-loop-byte-preserved g c =
-    filled-next c.args.bytes.now c.loop-byte.byte-index 0 _ _ _ c.loop-byte-test.true c.loop-byte.invariant c.in_ok-fill_byte.ensures

@@ -1,7 +1,7 @@
 use Rattle.std.proofs.Common.{take}
 use Rattle.sgb_file.specs.inner.Layouts.{stage}
 use Rattle.sgb_file.proofs.PlacedPieces.{HasFilled}
-use Rattle.sgb_file.proofs.saving.layouts.Layout.fill.Given as goal
+use Rattle.sgb_file.proofs.saving.layouts.Layout.fill_bytes.Given as goal
 
 -- the bytes before this one were put on lines
 abbrev pub invariant-loop-byte : goal.invariant-loop-byte
