@@ -1,22 +1,22 @@
 -- Parts that make up a graph, as the graph keeps them.
-use Rattle.std.proofs.Common.{◌≡◌, ◌<◌, ◌≤◌, ◌+◌, ◌^◌, ◌∙◌, ◌&&◌, ◌++◌, ℕ, true, List, [], ◌∷◌, length, map, All, get_or, slice_index_or, Option, Some, None, IfSome, refl, ap, arith}
+use Rattle.std.proofs.Common.{◌≡◌, ◌<◌, ◌+◌, ◌^◌, ◌∙◌, ◌&&◌, ◌++◌, ℕ, true, List, [], ◌∷◌, length, map, Option, Some, None, IfSome, refl, ap, arith}
 use Rattle.std.proofs.lemmas.Bool.{and_parts, ltb-true}
-use Rattle.std.proofs.lemmas.Option.{slice_get-get_or}
+use Rattle.std.specs.List.{list_all}
 use Rattle.sgb_graph.specs.inner.Columns.{util_kind}
+use Rattle.sgb_graph.specs.inner.Fitting.{most, record_fits_by, record_may_fit, vertex_fits_by, vertex_may_fit}
 use Rattle.sgb_graph.specs.Graphs.{GraphData}
 use Rattle.sgb_graph.specs.inner.Kept.{kept_graph}
 use Rattle.sgb_graph.specs.inner.KeptRecords.{KeptRecords}
 use Rattle.sgb_graph.specs.inner.KeptVertices.{KeptVertices, kinds_of_vertices}
 use Rattle.sgb_graph.specs.Growth.{graph_data}
-use Rattle.sgb_graph.specs.Sound.{IsGraph, arc_kinds, chain_fits, graph_kinds, ref_fits, util_fits, utils_fit, vertex_kinds}
+use Rattle.sgb_graph.specs.Sound.{IsGraph, arc_kinds, chain_fits, graph_kinds, record_fits, ref_fits, util_fits, utils_fit, vertex_fits, vertex_kinds}
 use Rattle.sgb_graph.specs.declared.fields.ArcRec.{ArcRec}
 use Rattle.sgb_graph.specs.declared.fields.Kind.{Kind}
+use Rattle.sgb_graph.specs.declared.fields.Vertex.{Vertex}
 use Rattle.sgb_graph.specs.declared.fields.Kind.TheVariants.{Z, I, V, S, A}
 use Rattle.sgb_graph.specs.declared.fields.Util.{Util}
 use Rattle.sgb_graph.specs.declared.fields.Util.TheVariants.{Nothing, Int, Vertex as VertexField, Str, Chain}
-use Rattle.sgb_graph.proofs.Fitting.{vertex_fits_in, record_fits_in}
 use Rattle.sgb_graph.proofs.Growing.{parts_of}
-use Rattle.sgb_graph.proofs.Lists.{list_all-get}
 
 -- a value that fits a kind is of that kind
 fits_kind : (n m : ℕ) (kind : Kind) (util : Util) → util_fits n m kind util ≡ true → util_kind util ≡ kind
@@ -55,77 +55,67 @@ fits_kinds n m (a ∷ kinds) (u ∷ utils) e =
     let parts = and_parts (util_fits n m a u) (utils_fit n m kinds utils) e in
     ap (λ k. k ∷ map util_kind utils) (fits_kind n m a u parts.0) ∙ ap (λ ks. a ∷ ks) (fits_kinds n m kinds utils parts.1)
 
--- a number that fits is small
-fits_small : (m : ℕ) (first : Option ℕ) → m < 2 ^ 63 → chain_fits m first ≡ true → IfSome first (λ k. k < 2 ^ 63)
-fits_small m None few e = tt
-fits_small m (Some k) few e = omega (arith, ltb-true k m e)
+-- a number that may fit can be kept in a word
+fits_word : (first : Option ℕ) → chain_fits most first ≡ true → IfSome first (λ k. k + 1 < 2 ^ 64)
+fits_word None e = tt
+fits_word (Some k) e = omega (arith, ltb-true k most e)
 
-fits_smaller : (m : ℕ) (first : Option ℕ) → m < 2 ^ 63 → chain_fits m first ≡ true → IfSome first (λ k. k + 1 < 2 ^ 64)
-fits_smaller m None few e = tt
-fits_smaller m (Some k) few e = omega (arith, ltb-true k m e)
+-- a vertex that may stand in a graph of these kinds can be kept
+pub record VertexKept (all : List Kind) (x : Vertex) : Type 0 where
+  pub kinds : map util_kind x.util ≡ vertex_kinds all
+  pub arcs : IfSome x.arcs (λ k. k + 1 < 2 ^ 64)
 
--- so are the fields of the vertices of a graph, and their first records are small
-pub vertices_of_kinds : (g : GraphData) → IsGraph g → All (λ x. map util_kind x.util ≡ vertex_kinds g.kinds) g.vertices
-vertices_of_kinds g is = λ k d below.
-    let x = get_or g.vertices k d in
-    let fits = list_all-get (vertex_fits_in (length g.vertices) (length g.records) g.kinds) g.vertices k x (parts_of g is).vertices (slice_get-get_or g.vertices k d below) in
-    let parts = and_parts (chain_fits (length g.records) x.arcs) (utils_fit (length g.vertices) (length g.records) (vertex_kinds g.kinds) x.util) fits in
-    fits_kinds (length g.vertices) (length g.records) (vertex_kinds g.kinds) x.util parts.1
+pub vertex_kept : (kinds : List Kind) (x : Vertex) → vertex_may_fit kinds x ≡ true → VertexKept kinds x
+vertex_kept kinds x fits =
+    let parts = and_parts (chain_fits most x.arcs) (utils_fit most most (vertex_kinds kinds) x.util) fits in
+    record { kinds = fits_kinds most most (vertex_kinds kinds) x.util parts.1; arcs = fits_word x.arcs parts.0 }
 
-pub vertices_of_small : (g : GraphData) → IsGraph g → length g.records < 2 ^ 63 → All (λ x. IfSome x.arcs (λ k. k + 1 < 2 ^ 64)) g.vertices
-vertices_of_small g is few = λ k d below.
-    let x = get_or g.vertices k d in
-    let fits = list_all-get (vertex_fits_in (length g.vertices) (length g.records) g.kinds) g.vertices k x (parts_of g is).vertices (slice_get-get_or g.vertices k d below) in
-    let parts = and_parts (chain_fits (length g.records) x.arcs) (utils_fit (length g.vertices) (length g.records) (vertex_kinds g.kinds) x.util) fits in
-    fits_smaller (length g.records) x.arcs few parts.0
+-- so can a record
+pub record RecordKept (all : List Kind) (r : ArcRec) : Type 0 where
+  pub kinds : util_kind r.a ∷ util_kind r.b ∷ [] ≡ arc_kinds all
+  pub next : IfSome r.next (λ k. k + 1 < 2 ^ 64)
 
--- a record that fits
-record IsFit (all : List Kind) (r : ArcRec) : Type 0 where
-  kinds : util_kind r.a ∷ util_kind r.b ∷ [] ≡ arc_kinds all
-  next : IfSome r.next (λ k. k < 2 ^ 63)
+pub record_kept : (kinds : List Kind) (r : ArcRec) → record_may_fit kinds r ≡ true → RecordKept kinds r
+record_kept kinds r fits =
+    let parts = and_parts (ref_fits most r.tip && chain_fits most r.next) (utils_fit most most (arc_kinds kinds) (r.a ∷ r.b ∷ [])) fits in
+    let first = and_parts (ref_fits most r.tip) (chain_fits most r.next) parts.0 in
+    record { kinds = fits_kinds most most (arc_kinds kinds) (r.a ∷ r.b ∷ []) parts.1; next = fits_word r.next first.1 }
 
-record_fit : (g : GraphData) → IsGraph g → length g.records < 2 ^ 63 → (k : ℕ) (d : ArcRec) → k < length g.records → IsFit g.kinds (get_or g.records k d)
-record_fit g is few k d below =
-    let r = get_or g.records k d in
-    let fits = list_all-get (record_fits_in (length g.vertices) (length g.records) g.kinds) g.records k r (parts_of g is).records (slice_get-get_or g.records k d below) in
-    let parts = and_parts (ref_fits (length g.vertices) r.tip && chain_fits (length g.records) r.next) (utils_fit (length g.vertices) (length g.records) (arc_kinds g.kinds) (r.a ∷ r.b ∷ [])) fits in
-    let first = and_parts (ref_fits (length g.vertices) r.tip) (chain_fits (length g.records) r.next) parts.0 in
-    record {
-      kinds = fits_kinds (length g.vertices) (length g.records) (arc_kinds g.kinds) (r.a ∷ r.b ∷ []) parts.1;
-      next = fits_small (length g.records) r.next few first.1;
-    }
+-- two kinds that are the same two
+pub pair_kinds : (a b c d : Kind) (kinds : List Kind) → a ∷ b ∷ [] ≡ kinds → c ∷ d ∷ [] ≡ kinds → (a ≡ c) × (b ≡ d)
+pair_kinds a b c d kinds one other = (cc, cc)
 
 -- kinds are those of vertices, the two of arcs, and those of the graph
-kinds_parted : (kinds : List Kind) → 8 ≤ length kinds
-    → (vertex_kinds kinds ++ slice_index_or kinds 6 Z ∷ slice_index_or kinds 7 Z ∷ graph_kinds kinds ≡ kinds) × (arc_kinds kinds ≡ slice_index_or kinds 6 Z ∷ slice_index_or kinds 7 Z ∷ [])
-kinds_parted [] long = absurd (omega arith)
-kinds_parted (a ∷ []) long = absurd (omega arith)
-kinds_parted (a ∷ b ∷ []) long = absurd (omega arith)
-kinds_parted (a ∷ b ∷ c ∷ []) long = absurd (omega arith)
-kinds_parted (a ∷ b ∷ c ∷ d ∷ []) long = absurd (omega arith)
-kinds_parted (a ∷ b ∷ c ∷ d ∷ e ∷ []) long = absurd (omega arith)
-kinds_parted (a ∷ b ∷ c ∷ d ∷ e ∷ f ∷ []) long = absurd (omega arith)
-kinds_parted (a ∷ b ∷ c ∷ d ∷ e ∷ f ∷ g ∷ []) long = absurd (omega arith)
-kinds_parted (a ∷ b ∷ c ∷ d ∷ e ∷ f ∷ g ∷ h ∷ kinds) long = (refl, refl)
-
--- so the fields of a record are of the kinds at places 6 and 7, and its next record's number is small
-pub record_of_kinds : (g : GraphData) → IsGraph g → 8 ≤ length g.kinds → length g.records < 2 ^ 63
-    → All (λ r. (util_kind r.a ≡ slice_index_or g.kinds 6 Z) × (util_kind r.b ≡ slice_index_or g.kinds 7 Z)) g.records
-record_of_kinds g is long few = λ k d below.
-    let same = (record_fit g is few k d below).kinds ∙ (kinds_parted g.kinds long).1 in
-    (cc, cc)
-
-pub record_of_small : (g : GraphData) → IsGraph g → length g.records < 2 ^ 63 → All (λ r. IfSome r.next (λ k. k < 2 ^ 63)) g.records
-record_of_small g is few = λ k d below. (record_fit g is few k d below).next
+kinds_parted : (kinds : List Kind) (a b : Kind) → a ∷ b ∷ [] ≡ arc_kinds kinds → vertex_kinds kinds ++ (arc_kinds kinds ++ graph_kinds kinds) ≡ kinds
+kinds_parted [] a b e = absurd cc
+kinds_parted (k ∷ []) a b e = absurd cc
+kinds_parted (k ∷ l ∷ []) a b e = absurd cc
+kinds_parted (k ∷ l ∷ m ∷ []) a b e = absurd cc
+kinds_parted (k ∷ l ∷ m ∷ n ∷ []) a b e = absurd cc
+kinds_parted (k ∷ l ∷ m ∷ n ∷ o ∷ []) a b e = absurd cc
+kinds_parted (k ∷ l ∷ m ∷ n ∷ o ∷ p ∷ []) a b e = absurd cc
+kinds_parted (k ∷ l ∷ m ∷ n ∷ o ∷ p ∷ q ∷ []) a b e = absurd cc
+kinds_parted (k ∷ l ∷ m ∷ n ∷ o ∷ p ∷ q ∷ r ∷ kinds) a b e = refl
 
 -- the graph that keeps the vertices and records of these parts is the graph that they make up
-pub kept_same : (g : GraphData) (vertices : KeptVertices) (records : KeptRecords) → IsGraph g → 8 ≤ length g.kinds
-    → kinds_of_vertices vertices ≡ vertex_kinds g.kinds → vertices.items ≡ g.vertices
-    → records ≡ record { a = slice_index_or g.kinds 6 Z; b = slice_index_or g.kinds 7 Z; items = g.records }
-    → kept_graph g.id g.m g.util vertices records ≡ g
-kept_same g vertices records is long of_kinds nodes arcs =
-    let own = fits_kinds (length g.vertices) (length g.records) (graph_kinds g.kinds) g.util (parts_of g is).util in
-    let first = ap (λ ks. ks ++ slice_index_or g.kinds 6 Z ∷ slice_index_or g.kinds 7 Z ∷ map util_kind g.util) of_kinds in
-    let last = ap (λ ks. vertex_kinds g.kinds ++ slice_index_or g.kinds 6 Z ∷ slice_index_or g.kinds 7 Z ∷ ks) own in
-    rw (arcs, nodes)
-    (ap (λ ks. graph_data g.id g.m ks g.util g.vertices g.records) (first ∙ last ∙ (kinds_parted g.kinds long).0))
+pub kept_same : (text : List ℕ) (count : ℕ) (kinds : List Kind) (own : List Util) (vertices : KeptVertices) (records : KeptRecords) → IsGraph (graph_data text count kinds own vertices.items records.items)
+    → kinds_of_vertices vertices ≡ vertex_kinds kinds → records.a ∷ records.b ∷ [] ≡ arc_kinds kinds
+    → kept_graph text count own vertices records ≡ graph_data text count kinds own vertices.items records.items
+kept_same text count kinds own vertices records is nodes arcs =
+    let g = graph_data text count kinds own vertices.items records.items in
+    let of_own = fits_kinds (length vertices.items) (length records.items) (graph_kinds kinds) own (parts_of g is).util in
+    let first = ap (λ ks. ks ++ (records.a ∷ records.b ∷ map util_kind own)) nodes in
+    let second = ap (λ ks. vertex_kinds kinds ++ (ks ++ map util_kind own)) arcs in
+    let third = ap (λ ks. vertex_kinds kinds ++ (arc_kinds kinds ++ ks)) of_own in
+    ap (λ ks. graph_data text count ks own vertices.items records.items) (first ∙ (second ∙ (third ∙ kinds_parted kinds records.a records.b arcs)))
+
+-- the fields of the vertices fit, as those that are kept do
+pub vertices_fit_same : (g : GraphData) (vertices : KeptVertices) (m : ℕ) → vertices.items ≡ g.vertices → m ≡ length g.records → kinds_of_vertices vertices ≡ vertex_kinds g.kinds
+    → list_all (vertex_fits_by (length vertices.items) m (kinds_of_vertices vertices)) vertices.items ≡ list_all (vertex_fits g) g.vertices
+vertices_fit_same g vertices m nodes count kinds = rw (nodes, count, kinds) refl
+
+-- so do those of the records
+pub records_fit_same : (g : GraphData) (records : KeptRecords) (n : ℕ) → records.items ≡ g.records → n ≡ length g.vertices → records.a ∷ records.b ∷ [] ≡ arc_kinds g.kinds
+    → list_all (record_fits_by n (length records.items) (records.a ∷ records.b ∷ [])) records.items ≡ list_all (record_fits g) g.records
+records_fit_same g records n arcs count kinds =
+    ap (λ ks. list_all (record_fits_by n (length records.items) ks) records.items) kinds ∙ rw (arcs, count) refl

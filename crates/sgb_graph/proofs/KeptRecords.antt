@@ -1,5 +1,5 @@
 -- Records as they are kept: how many, each by its place, one more.
-use Rattle.std.proofs.Common.{◌≡◌, ◌<◌, ◌+◌, ℕ, suc, zero, List, [], ◌∷◌, ◌++◌, length, get_or, slice_get, Some, refl, ap, ◌∙◌, arith, append_assoc}
+use Rattle.std.proofs.Common.{◌≡◌, ◌<◌, ◌+◌, ℕ, suc, zero, List, [], ◌∷◌, ◌++◌, length, get_or, slice_get, Some, refl, ap, sym, subst, ◌∙◌, arith, append_assoc}
 use Rattle.std.proofs.lemmas.List.{length_push}
 use Rattle.sgb_graph.specs.inner.Columns.{HoldsMany, column_kind, values}
 use Rattle.sgb_graph.specs.inner.KeptRecords.{KeptRecords, kept_number, kept_records, records_with}
@@ -9,7 +9,7 @@ use Rattle.sgb_graph.specs.declared.fields.Kind.TheVariants.{Z}
 use Rattle.sgb_graph.specs.declared.fields.Util.{Util}
 use Rattle.sgb_graph.specs.declared.fields.Util.TheVariants.{Nothing}
 use Rattle.sgb_graph.specs.declared.records.PlainRecord.{PlainRecord}
-use Rattle.sgb_graph.proofs.ColumnValues.{HoldsMany-unused, values-unused}
+use Rattle.sgb_graph.proofs.ColumnValues.{HoldsMany-push, HoldsMany-unused, values-unused}
 
 -- a record with its utility fields
 abbrev pub record_with : PlainRecord → Util → Util → ArcRec
@@ -84,3 +84,36 @@ kept_records-push_pair ps a b p q r s ha hb e f =
     kept_records-push_plain (ps ++ p ∷ []) a b q s ha hb f
     ∙ ap (λ (d : KeptRecords). record d { items = d.items ++ s ∷ [] }) (kept_records-push_plain ps a b p r ha hb e)
     ∙ ap (λ rs. record (kept_records ps a b) { items = rs }) (append_assoc (kept_records ps a b).items (r ∷ []) (s ∷ []))
+
+-- one record more, where room was taken before
+pub record IsMore (ps : List PlainRecord) (a b : Column) (rs : List PlainRecord) (c d : Column) (r : ArcRec) : Type 0 where
+  pub first : HoldsMany (length rs) c
+  pub second : HoldsMany (length rs) d
+  pub same : kept_records rs c d ≡ record (kept_records ps a b) { items = (kept_records ps a b).items ++ r ∷ [] }
+
+pub record_pushed :
+    (ps rs : List PlainRecord) (p : PlainRecord) (a b a' b' c d : Column) (r : ArcRec) → HoldsMany (length ps) a → HoldsMany (length ps) b → rs ≡ ps ++ p ∷ [] →
+    column_kind c ≡ column_kind a → column_kind d ≡ column_kind b → ((n : ℕ) → values n a' ≡ values n a) → ((n : ℕ) → values n b' ≡ values n b) →
+    ((n : ℕ) → HoldsMany n a' → values (1 + n) c ≡ values n a' ++ r.a ∷ []) → ((n : ℕ) → HoldsMany n b' → values (1 + n) d ≡ values n b' ++ r.b ∷ []) →
+    record_with p r.a r.b ≡ r → IsMore ps a b rs c d r
+record_pushed ps rs p a b a' b' c d r ha hb pushed ka kb va vb one other is =
+    subst (λ (l : List PlainRecord). IsMore ps a b l c d r) (sym pushed) record {
+      first = rw long (HoldsMany-push n a c r.a ha more_a);
+      second = rw long (HoldsMany-push n b d r.b hb more_b);
+      same = rw (ka, kb) (ap (λ (rs : List ArcRec). record (kept_records ps a b) { items = rs }) items);
+    }
+  where
+    n : ℕ
+    n = length ps
+
+    long : length (ps ++ p ∷ []) ≡ 1 + n
+    long = omega (arith, length_push ps p)
+
+    more_a : values (1 + n) c ≡ values n a ++ r.a ∷ []
+    more_a = one n (rw (va n) ha) ∙ ap (λ us. us ++ r.a ∷ []) (va n)
+
+    more_b : values (1 + n) d ≡ values n b ++ r.b ∷ []
+    more_b = other n (rw (vb n) hb) ∙ ap (λ us. us ++ r.b ∷ []) (vb n)
+
+    items : (kept_records (ps ++ p ∷ []) c d).items ≡ (kept_records ps a b).items ++ r ∷ []
+    items = kept_records-push ps a b c d p r.a r.b ha hb more_a more_b ∙ ap (λ (x : ArcRec). (kept_records ps a b).items ++ x ∷ []) is

@@ -13,7 +13,7 @@ use Rattle.sgb_graph.specs.inner.Columns.{HoldsMany, column_kind, values}
 use Rattle.sgb_graph.specs.Growth.{at_place, first_arc, new_vertex, number_or_zero, put_numbers, some_numbers, with_numbers, with_some_numbers}
 use Rattle.sgb_graph.specs.inner.Growth.{with_arcs}
 use Rattle.sgb_graph.specs.inner.KeptRecords.{kept_number}
-use Rattle.sgb_graph.specs.inner.KeptVertices.{AreColumns, AreKept, KeptVertices, HasNumber, HaveValues, HoldNumbers, Keep, TakeNumbers, bare_named, bare_vertex, field_columns, field_kinds, kept_items, kept_vertices, number_at, numbers_kind, numbers_values, rows, with_fields, with_row}
+use Rattle.sgb_graph.specs.inner.KeptVertices.{AreColumns, AreKept, KeptVertices, HasNumber, HaveValues, HoldNumbers, TakeNumbers, bare_named, bare_vertex, field_columns, field_kinds, kept_items, kept_vertices, number_at, numbers_kind, numbers_values, rows, with_fields, with_row}
 use Rattle.sgb_graph.specs.Made.{no_fields}
 use Rattle.sgb_graph.specs.declared.columns.Column.{Column}
 use Rattle.sgb_graph.specs.declared.fields.Kind.{Kind}
@@ -401,9 +401,18 @@ columns_row n (column ∷ columns) [] long are = absurd (omega (arith, long))
 columns_row n (column ∷ columns) (x ∷ row) long are = (omega (arith, are.0, length_push column x), columns_row n columns row (omega (arith, long)) are.1)
 
 -- one vertex more
-pub kept_more : (ps : List PlainVertex) (p : PlainVertex) (f g : Fields) (kinds : List Kind) (items : List Vertex) (x : Vertex) → Keep ps f kinds items → field_kinds g ≡ field_kinds f
-    → field_columns (ps ++ p ∷ []) g ≡ with_row (field_columns ps f) x.util → length x.util ≡ 6 → p.name ≡ x.name → kept_number p.arcs ≡ x.arcs → Keep (ps ++ p ∷ []) g kinds (items ++ x ∷ [])
-kept_more ps p f g kinds items x keep same columns six name arcs = record { whole = whole; kinds = same ∙ keep.kinds; items = all }
+pub record AreMore (ps : List PlainVertex) (f : Fields) (qs : List PlainVertex) (g : Fields) (x : Vertex) : Type 0 where
+  pub whole : AreKept qs g
+  pub same : kept_vertices qs g ≡ record (kept_vertices ps f) { items = kept_items ps f ++ x ∷ [] }
+
+pub kept_more : (ps : List PlainVertex) (p : PlainVertex) (f g : Fields) (x : Vertex) → AreKept ps f → field_kinds g ≡ field_kinds f
+    → field_columns (ps ++ p ∷ []) g ≡ with_row (field_columns ps f) x.util → length x.util ≡ 6 → p.name ≡ x.name → kept_number p.arcs ≡ x.arcs → AreMore ps f (ps ++ p ∷ []) g x
+kept_more ps p f g x kept kinds columns six name arcs = record {
+  whole = whole;
+  same =
+      kinds_record (ps ++ p ∷ []) g (column_kind f.u) (column_kind f.v) (column_kind f.w) (numbers_kind f.x) (numbers_kind f.y) (numbers_kind f.z) kinds
+      ∙ ap (λ (xs : List Vertex). record (kept_vertices ps f) { items = xs }) all;
+}
   where
     n : ℕ
     n = length ps
@@ -420,25 +429,34 @@ kept_more ps p f g kinds items x keep same columns six name arcs = record { whol
     whole : AreKept (ps ++ p ∷ []) g
     whole =
         columns_kept (suc n) (length (ps ++ p ∷ [])) (with_row old x.util) (field_columns (ps ++ p ∷ []) g) long columns
-        (columns_row n old x.util rows_long keep.whole)
+        (columns_row n old x.util rows_long kept)
 
     table : rows (length (ps ++ p ∷ [])) (field_columns (ps ++ p ∷ []) g) ≡ rows n old ++ x.util ∷ []
     table =
         ap (λ m. rows m (field_columns (ps ++ p ∷ []) g)) long
-        ∙ (ap (rows (suc n)) columns ∙ rows-push n old x.util keep.whole rows_long)
+        ∙ (ap (rows (suc n)) columns ∙ rows-push n old x.util kept rows_long)
 
     count : length (map bare_vertex ps) ≡ length (rows n old)
-    count = length-map ps bare_vertex ∙ sym (length-rows n old keep.whole)
+    count = length-map ps bare_vertex ∙ sym (length-rows n old kept)
 
     last : record (bare_vertex p) { util = x.util } ≡ x
     last = rw (name, arcs) refl
 
-    all : kept_items (ps ++ p ∷ []) g ≡ items ++ x ∷ []
+    all : kept_items (ps ++ p ∷ []) g ≡ kept_items ps f ++ x ∷ []
     all =
         ap (λ rs. with_fields (map bare_vertex (ps ++ p ∷ [])) rs) table
         ∙ (ap (λ xs. with_fields xs (rows n old ++ x.util ∷ [])) (map-append bare_vertex ps (p ∷ []))
         ∙ (combined-push put_fields (map bare_vertex ps) (rows n old) (bare_vertex p) x.util count
-        ∙ (ap (λ y. with_fields (map bare_vertex ps) (rows n old) ++ y ∷ []) last ∙ ap (λ ys. ys ++ x ∷ []) keep.items)))
+        ∙ ap (λ y. with_fields (map bare_vertex ps) (rows n old) ++ y ∷ []) last))
+
+-- the same, where room was taken before
+pub vertex_pushed : (ps qs rs : List PlainVertex) (p : PlainVertex) (f h g : Fields) (x : Vertex) → AreKept ps f → qs ≡ ps → rs ≡ qs ++ p ∷ [] → field_kinds h ≡ field_kinds f
+    → ((l : List PlainVertex) → field_columns l h ≡ field_columns l f) → field_kinds g ≡ field_kinds h
+    → (AreKept ps h → field_columns (ps ++ p ∷ []) g ≡ with_row (field_columns ps h) x.util) → length x.util ≡ 6 → p.name ≡ x.name → kept_number p.arcs ≡ x.arcs → AreMore ps f rs g x
+vertex_pushed ps qs rs p f h g x kept same pushed kinds columns of_kinds row six name arcs =
+    let room : AreKept ps h = subst (AreColumns (length ps)) (sym (columns ps)) kept in
+    subst (λ (l : List PlainVertex). AreMore ps f l g x) (sym (pushed ∙ ap (λ (l : List PlainVertex). l ++ p ∷ []) same))
+    (kept_more ps p f g x kept (of_kinds ∙ kinds) (row room ∙ ap (λ t. with_row t x.util) (columns ps)) six name arcs)
 
 -- a column changed, which keeps its length
 columns_at : (f : List Util → List Util) (n k : ℕ) (columns : List (List Util)) → ((us : List Util) → length (f us) ≡ length us) → AreColumns n columns → AreColumns n (at_place f k columns)

@@ -27,7 +27,9 @@ pub mod EventLemmas
 pub mod Examples
 -- the first cycle of random numbers
 pub mod FirstCycle
--- what fits a graph fits one with more records
+-- vertices and records fit where their columns do
+pub mod FitColumns
+-- what fits a graph fits one with more vertices and records
 pub mod Fitting
 -- a graph with more records at the end
 pub mod Growing
@@ -51,6 +53,8 @@ pub mod ListMembers
 pub mod Lists
 -- walks along chains, and the marks that they set
 pub mod MarkedWays
+-- parts with some that can stand in no graph
+pub mod Misfits
 -- a new graph is one
 pub mod NewGraphs
 -- integers in the fields x, y, z of vertices
@@ -69,3 +73,5 @@ pub mod Tips
 pub mod UniformDraws
 -- how long a uniform draw may take
 pub mod Waiting
+-- walks along the lists of all vertices
+pub mod WalkedLists

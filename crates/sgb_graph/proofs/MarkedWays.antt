@@ -6,7 +6,7 @@ use Rattle.std.specs.Option.{option_map_or}
 use Rattle.std.proofs.lemmas.Bool.{and_parts, cases_eq}
 use Rattle.std.proofs.lemmas.List.{get_or-set_same, get_or-set_other}
 use Rattle.std.proofs.lemmas.List.Folds.{list_all_at}
-use Rattle.std.proofs.lemmas.Option.{slice_get_past, slice_get_within, get_or_from_slice_get}
+use Rattle.std.proofs.lemmas.Option.{slice_get_past, slice_get_within}
 use Rattle.std.proofs.lemmas.List.FromFn.{length-range_with_len, get_or-range_with_len}
 use Rattle.sgb_graph.specs.Graphs.{ends_from, numbers_of, ends_of}
 use Rattle.sgb_graph.specs.Sound.{chains_end, leads_to_vertex, is_vertex}
@@ -26,18 +26,22 @@ ends_outside (suc fuel) records k out = ap (λ o. option_map_or (λ (x : ArcRec)
 pub way_inside : (records : List ArcRec) (k : ℕ) → ends_of records (Some k) ≡ true → k < length records
 way_inside records k ends = let step = step_of records k ends in slice_get_within records k step.here step.is
 
+-- a record is read once
+same_read : (records : List ArcRec) (k : ℕ) (r s : ArcRec) → slice_get records k ≡ Some r → slice_get records k ≡ Some s → r ≡ s
+same_read records k r s one other = cc
+
 -- the rest of the way is shorter
-pub way_shorter : (records : List ArcRec) (k : ℕ) (r : ArcRec) → ends_of records (Some k) ≡ true → r ≡ get_or records k r → length (numbers_of records r.next) < length (numbers_of records (Some k))
-way_shorter records k r ends here =
+pub way_shorter : (records : List ArcRec) (k : ℕ) (r : ArcRec) → ends_of records (Some k) ≡ true → slice_get records k ≡ Some r → length (numbers_of records r.next) < length (numbers_of records (Some k))
+way_shorter records k r ends is =
     let step = step_of records k ends in
-    let read : r ≡ step.here = here ∙ get_or_from_slice_get records k step.here r step.is in
+    let read : r ≡ step.here = same_read records k r step.here is step.is in
     rw (read, step.numbers) (omega arith)
 
 -- and ends
-pub way_goes_on : (records : List ArcRec) (k : ℕ) (r : ArcRec) → ends_of records (Some k) ≡ true → r ≡ get_or records k r → ends_of records r.next ≡ true
-way_goes_on records k r ends here =
+pub way_goes_on : (records : List ArcRec) (k : ℕ) (r : ArcRec) → ends_of records (Some k) ≡ true → slice_get records k ≡ Some r → ends_of records r.next ≡ true
+way_goes_on records k r ends is =
     let step = step_of records k ends in
-    let read : r ≡ step.here = here ∙ get_or_from_slice_get records k step.here r step.is in
+    let read : r ≡ step.here = same_read records k r step.here is step.is in
     rw read step.ends
 
 -- so many steps lead from the first record to the next one
@@ -80,17 +84,17 @@ walk_is_over records first next steps none lead all test =
     no_steps records next none test ∙ sym (left_steps records first steps next 0 lead (omega arith))
 
 -- each arc on a way leads to a vertex where the first does, and each on the way after it
-pub leads_step : (records : List ArcRec) (k : ℕ) (r : ArcRec) → ends_of records (Some k) ≡ true → r ≡ get_or records k r → leads_of records (Some k) ≡ (is_vertex r.tip && leads_of records r.next)
-leads_step records k r ends here =
+pub leads_step : (records : List ArcRec) (k : ℕ) (r : ArcRec) → ends_of records (Some k) ≡ true → slice_get records k ≡ Some r → leads_of records (Some k) ≡ (is_vertex r.tip && leads_of records r.next)
+leads_step records k r ends is =
     let step = step_of records k ends in
-    let read : r ≡ step.here = here ∙ get_or_from_slice_get records k step.here r step.is in
+    let read : r ≡ step.here = same_read records k r step.here is step.is in
     let tip : leads_to_vertex records k ≡ is_vertex step.here.tip = ap (λ o. option_map_or (λ (x : ArcRec). is_vertex x.tip) o false) step.is in
     rw read (ap (list_all (leads_to_vertex records)) step.numbers ∙ ap (λ b. b && leads_of records step.here.next) tip)
 
 -- they do on the way after it where they do on all of it
-pub leads_goes_on : (records : List ArcRec) (k : ℕ) (r : ArcRec) → ends_of records (Some k) ≡ true → r ≡ get_or records k r → leads_of records (Some k) ≡ true → leads_of records r.next ≡ true
-leads_goes_on records k r ends here all =
-    (and_parts (is_vertex r.tip) (leads_of records r.next) (sym (leads_step records k r ends here) ∙ all)).1
+pub leads_goes_on : (records : List ArcRec) (k : ℕ) (r : ArcRec) → ends_of records (Some k) ≡ true → slice_get records k ≡ Some r → leads_of records (Some k) ≡ true → leads_of records r.next ≡ true
+leads_goes_on records k r ends is all =
+    (and_parts (is_vertex r.tip) (leads_of records r.next) (sym (leads_step records k r ends is) ∙ all)).1
 
 -- no arc is on the way from none
 pub leads_none : (records : List ArcRec) → leads_of records None ≡ true

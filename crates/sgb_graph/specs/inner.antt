@@ -3,6 +3,8 @@
 pub mod Columns
 -- a uniform draw within so many draws
 pub mod Draws
+-- vertices and records that fit so many of them
+pub mod Fitting
 -- a generator from cycle to cycle
 pub mod Flips
 -- vertices whose lists begin elsewhere

@@ -1,9 +1,13 @@
 //! The values of one utility field, of all vertices or of all arc records of a graph, kept by their kind.
 ghost use Rattle.std.specs.Prelude.{◌≡◌, ◌<◌, ◌+◌, ℕ, [], ◌∷◌, ◌++◌, length, slice_get, Some, OnOk};
 ghost use Rattle.sgb_graph.specs.Columns.{util_seen};
-ghost use Rattle.sgb_graph.specs.inner.Columns.{HasPlace, HoldsMany, column_kind, util_kind, values};
+ghost use Rattle.std.specs.List.{list_all};
+ghost use Rattle.sgb_graph.specs.Sound.{chain_fits, ref_fits, util_fits};
+ghost use Rattle.sgb_graph.specs.inner.Columns.{HasPlace, HasRoom, HoldsMany, column_kind, util_kind, values};
 
 use crate::fields::{Kind, Ref, Util, UtilRef};
+use crate::ranges::{chain_fits, ref_fits};
+use crate::room::put;
 use sgb_vec::Text;
 use std::alloc::{AllocError, Global};
 
@@ -45,21 +49,51 @@ impl Column {
         }
     }
 
-    // Puts a value of the column's kind after the others.
-    pub(crate) fn push(&mut self, value: Util) -> Result<(), AllocError>
-        requires { util_kind value ≡ column_kind self.old }
-        ensures kind { OnOk result (column_kind self.new ≡ column_kind self.old) }
-        ensures values { OnOk result ((n : ℕ) → HoldsMany n self.old → values (1 + n) self.new
-            ≡ values n self.old ++ value ∷ []) }
+    // Takes room for one value more. The values stay, whether there is room or not.
+    pub(crate) fn reserve(&mut self) -> Result<(), AllocError>
+        ensures kind { column_kind self.new ≡ column_kind self.old }
+        ensures values { (n : ℕ) → values n self.new ≡ values n self.old }
+        ensures room { OnOk result (HasRoom self.new) }
     {
-        match (self, value) {
-            (Column::Ints(numbers), Util::Int(number)) => numbers.push(number)?,
-            (Column::Vertices(vertices), Util::Vertex(vertex)) => vertices.push(vertex)?,
-            (Column::Texts(texts), Util::Str(text)) => texts.push(text)?,
-            (Column::Chains(chains), Util::Chain(first)) => chains.push(first)?,
-            _ => {}
+        match self {
+            Column::Unused => {}
+            Column::Ints(numbers) => numbers.reserve(1)?,
+            Column::Vertices(vertices) => vertices.reserve(1)?,
+            Column::Texts(texts) => texts.reserve(1)?,
+            Column::Chains(chains) => chains.reserve(1)?,
         }
         Ok(())
+    }
+
+    // Puts a value of the column's kind after the others, for which there is room. It takes no memory.
+    pub(crate) fn push(&mut self, value: Util)
+        requires kind { util_kind value ≡ column_kind self.old }
+        requires room { HasRoom self.old }
+        ensures kind { column_kind self.new ≡ column_kind self.old }
+        ensures values { (n : ℕ) → HoldsMany n self.old → values (1 + n) self.new
+            ≡ values n self.old ++ value ∷ [] }
+    {
+        match (self, value) {
+            (Column::Ints(numbers), Util::Int(number)) => put(numbers, number),
+            (Column::Vertices(vertices), Util::Vertex(vertex)) => put(vertices, vertex),
+            (Column::Texts(texts), Util::Str(text)) => put(texts, text),
+            (Column::Chains(chains), Util::Chain(first)) => put(chains, first),
+            _ => {}
+        }
+    }
+
+    // Whether each vertex that is named is one of n, and each arc record one of m.
+    pub(crate) fn fits(&self, n: usize, m: usize) -> bool
+        ensures { (k : ℕ) → result
+            ≡ list_all (util_fits n m (column_kind self.now)) (values k self.now) }
+    {
+        match self {
+            Column::Unused => true,
+            Column::Ints(_) => true,
+            Column::Vertices(vertices) => each_vertex_fits(vertices, n),
+            Column::Texts(_) => true,
+            Column::Chains(chains) => each_chain_fits(chains, m),
+        }
     }
 
     // The value of place k.
@@ -76,4 +110,18 @@ impl Column {
             Column::Chains(chains) => UtilRef::Chain(chains[k]),
         }
     }
+}
+
+// Whether each is one of n vertices, or none.
+fn each_vertex_fits(vertices: &[Ref], n: usize) -> bool
+    ensures { result ≡ list_all (ref_fits n) vertices.now }
+{
+    vertices.iter().all(|vertex| ref_fits(n, *vertex))
+}
+
+// Whether each is one of m records, or none.
+fn each_chain_fits(chains: &[Option<usize>], m: usize) -> bool
+    ensures { result ≡ list_all (chain_fits m) chains.now }
+{
+    chains.iter().all(|first| chain_fits(m, *first))
 }

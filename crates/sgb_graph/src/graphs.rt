@@ -67,7 +67,7 @@ impl Graph {
             m: 0,
             util: no_fields(),
             vertices,
-            records: Records::new(alloc),
+            records: Records::new(alloc, Kind::Z, Kind::Z),
         })
     }
 

@@ -19,8 +19,12 @@ mod laws;
 mod names;
 // The parts of a graph that a file brings.
 mod parts;
+// Whether vertices and arc records that are named are there.
+mod ranges;
 // The arc records, as they are kept.
 mod records;
+// Values put where there is room.
+mod room;
 // The vertices, as they are kept.
 mod vertices;
 

@@ -1,45 +1,45 @@
-ghost use Rattle.std.specs.Prelude.{◌≡◌, ◌≤◌, ◌^◌, ◌&&◌, [], length, nat_le, false, Err, IsTrue, OnOk, OnErr, IfOk, IsOkUnless};
-ghost use Rattle.sgb_vec.specs.Limits.{most_vertices};
+ghost use Rattle.std.specs.Prelude.{◌≡◌, ◌≤◌, ◌^◌, [], false, Err, OnOk, OnErr, IfOk, IsOkUnless};
 ghost use Rattle.sgb_graph.specs.Growth.{graph_data};
 ghost use Rattle.sgb_graph.specs.Parts.{IsCheckOf, checked, parts_fit, with_record, with_vertex};
-ghost use Rattle.sgb_graph.specs.Sound.{IsGraph, fields_fit, is_sound, vertex_kinds};
+ghost use Rattle.sgb_graph.specs.Sound.{IsGraph};
 
+// Whether vertices and records fit kinds and numbers.
 mod fitting;
+// Parts that are kept as a graph keeps them.
+mod kept;
+// Walks along the chains of records.
 mod walks;
 
 use crate::fields::{ArcRec, Kind, Util, Vertex};
 use crate::graphs::Graph;
 use crate::ids::Id;
-use crate::records::Records;
-use crate::vertices::Vertices;
-use sgb_vec::{MOST_VERTICES, Panic};
-use std::alloc::{AllocError, Global};
+use kept::KeptParts;
+use sgb_vec::Panic;
+use std::alloc::Global;
 use std::marker::Model;
-use walks::{chains_end, lists_lead_to_vertices};
 
 /// The parts of a graph, as a file brings them (GB_SAVE, restore_graph): nothing says yet that they make up one.
 /// Contracts see them as the data of a graph.
+// Vertices are kept as a graph keeps them up to the first that can stand in no graph of these kinds. That one and all
+// later ones stand beside, as they came: such parts make up no graph. So it is with records.
 #[derive(Drop)]
 pub struct Parts {
-    alloc: Global,
-    id: Id,
-    m: u64,
-    kinds: [Kind; 14],
-    util: [Util; 6],
-    vertices: Vec<Vertex>,
-    records: Vec<ArcRec>,
+    kept: KeptParts,
+    more_vertices: Vec<Vertex>,
+    more_records: Vec<ArcRec>,
 }
 
 impl Model for Parts {
-    ghost use Rattle.std.specs.Prelude.{◌≤◌, ◌^◌};
+    ghost use Rattle.std.specs.Prelude.{IsTrue};
     ghost use Rattle.sgb_graph.specs.Graphs.{GraphData};
-    ghost use Rattle.sgb_graph.specs.Growth.{graph_data};
+    ghost use Rattle.sgb_graph.specs.inner.Fitting.{first_fails, record_may_fit, vertex_may_fit, with_more};
 
     ghost Value = { GraphData };
 
-    ghost view = { λ p. graph_data p.id p.m p.kinds p.util p.vertices.items p.records.items };
+    ghost view = { λ p. with_more p.more_vertices.items p.more_records.items p.kept };
 
-    ghost invariant = { λ p. p.m ≤ 10 ^ 18 };
+    ghost invariant = { λ p. IsTrue (first_fails (vertex_may_fit p.kept.kinds) p.more_vertices.items)
+        × IsTrue (first_fails (record_may_fit p.kept.kinds) p.more_records.items) };
 }
 
 impl Parts {
@@ -51,13 +51,9 @@ impl Parts {
         ensures { result ≡ graph_data id m kinds util [] [] }
     {
         Parts {
-            alloc,
-            id,
-            m,
-            kinds,
-            util,
-            vertices: Vec::new(alloc),
-            records: Vec::new(alloc),
+            kept: KeptParts::new(alloc, id, m, kinds, util),
+            more_vertices: Vec::new(alloc),
+            more_records: Vec::new(alloc),
         }
     }
 
@@ -69,7 +65,11 @@ impl Parts {
         ensures err { OnErr result (self.new ≡ self.old) }
         ensures memory { IsOkUnless result Panic.NoRoom }
     {
-        self.vertices.push(vertex)?;
+        if self.more_vertices.is_empty() && self.kept.takes_vertex(&vertex) {
+            self.kept.push_vertex(vertex)?;
+            return Ok(());
+        }
+        self.more_vertices.push(vertex)?;
         Ok(())
     }
 
@@ -81,7 +81,11 @@ impl Parts {
         ensures err { OnErr result (self.new ≡ self.old) }
         ensures memory { IsOkUnless result Panic.NoRoom }
     {
-        self.records.push(arc)?;
+        if self.more_records.is_empty() && self.kept.takes_record(&arc) {
+            self.kept.push_record(arc)?;
+            return Ok(());
+        }
+        self.more_records.push(arc)?;
         Ok(())
     }
 
@@ -97,56 +101,9 @@ impl Parts {
         ensures graph { IfOk result IsGraph }
         ensures unfit { parts_fit self ≡ false → result ≡ Err Panic.Syntax }
     {
-        if !self.fit() || !self.are_sound()? {
+        if !self.kept.are_all(&self.more_vertices, &self.more_records) {
             return Err(Panic::Syntax);
         }
-        Ok(self.kept()?)
+        self.kept.check()
     }
-
-    // The graph of these parts, which make up one.
-    fn kept(self) -> Result<Graph, AllocError>
-        requires { IsGraph self }
-        ensures { IfOk result (λ graph. graph ≡ self) }
-    {
-        let Parts {
-            alloc,
-            id,
-            m,
-            kinds,
-            util,
-            vertices,
-            records,
-        } = self;
-        let vertices = Vertices::of(alloc, kinds_of_vertices(&kinds), vertices)?;
-        let records = Records::of(alloc, kinds[6], kinds[7], records)?;
-        Ok(Graph::from_parts(id, m, util, vertices, records))
-    }
-
-    // Whether there are not too many vertices, and all fields fit their kinds.
-    fn fit(&self) -> bool
-        ensures { result ≡ (nat_le (length self.now.vertices) most_vertices && fields_fit
-            self.now) }
-    {
-        self.vertices.len() <= MOST_VERTICES as usize && self.fields_fit()
-    }
-
-    // Whether each record's chain ends, and each arc on a list leads to a vertex.
-    fn are_sound(&self) -> Result<bool, AllocError>
-        requires { IsTrue (fields_fit self.now) }
-        ensures { IfOk result (λ b. b ≡ is_sound self.now) }
-    {
-        if !chains_end(self.alloc, &self.records)? {
-            return Ok(false);
-        }
-        lists_lead_to_vertices(self.alloc, &self.vertices, &self.records)
-    }
-}
-
-// Of the fourteen kinds those of a vertex's fields.
-fn kinds_of_vertices(kinds: &[Kind; 14]) -> [Kind; 6]
-    ensures kinds { result ≡ vertex_kinds kinds.now }
-    ensures long { length kinds.now ≡ 14 }
-{
-    let [u, v, w, x, y, z, ..] = *kinds;
-    [u, v, w, x, y, z]
 }

@@ -1,14 +1,18 @@
 //! The arc records of a graph, in little memory: 24 bytes for one without utility fields.
-ghost use Rattle.std.specs.Prelude.{◌≡◌, ◌<◌, ◌+◌, ◌++◌, ◌^◌, [], ◌∷◌, length, slice_get, All, Some, IfOk, IfSome, OnOk, OnErr};
+ghost use Rattle.std.specs.Prelude.{◌≡◌, ◌<◌, ◌+◌, ◌++◌, ◌^◌, ◌&&◌, ℕ, [], ◌∷◌, length, slice_get, All, Some, IfOk, IfSome, OnOk, OnErr};
 ghost use Rattle.sgb_graph.specs.Columns.{arc_seen};
-ghost use Rattle.sgb_graph.specs.inner.Columns.{util_kind};
+ghost use Rattle.sgb_graph.specs.Sound.{util_fits};
+ghost use Rattle.sgb_graph.specs.inner.Columns.{column_kind, util_kind, values};
 ghost use Rattle.sgb_graph.specs.Growth.{arc_record};
-ghost use Rattle.sgb_graph.specs.inner.KeptRecords.{kept_number};
+ghost use Rattle.std.specs.List.{list_all};
+ghost use Rattle.sgb_graph.specs.inner.Fitting.{record_fits_by};
+ghost use Rattle.sgb_graph.specs.inner.KeptRecords.{kept_number, plain_fits};
 ghost use Rattle.sgb_graph.specs.declared.fields.Kind.TheVariants.{Z};
 
 use crate::columns::Column;
 use crate::fields::{ArcRec, ArcRef, Kind, Ref};
 use crate::kept_numbers::{keep_number, read_number};
+use crate::ranges::{chain_fits, ref_fits};
 use std::alloc::{AllocError, Global};
 use std::marker::Model;
 
@@ -56,44 +60,25 @@ impl PlainRecord {
             tip,
         }
     }
+
+    // Whether the record leads to one of n vertices, or none, before one of m records, or none.
+    fn fits(&self, n: usize, m: usize) -> bool
+        ensures { result ≡ plain_fits n m self.now }
+    {
+        ref_fits(n, self.tip) && chain_fits(m, read_number(self.next))
+    }
 }
 
 impl Records {
-    // No records, whose utility fields are not used. It takes no memory.
-    pub(crate) fn new(alloc: Global) -> Records
-        ensures { result ≡ record { a = Z; b = Z; items = [] } }
+    // No records, whose utility fields a and b are of these kinds. It takes no memory.
+    pub(crate) fn new(alloc: Global, a: Kind, b: Kind) -> Records
+        ensures { result ≡ record { a = a; b = b; items = [] } }
     {
         Records {
             plain: Vec::new(alloc),
-            a: Column::new(alloc, Kind::Z),
-            b: Column::new(alloc, Kind::Z),
+            a: Column::new(alloc, a),
+            b: Column::new(alloc, b),
         }
-    }
-
-    // These records, whose utility fields a and b are of these kinds.
-    pub(crate) fn of(
-        alloc: Global,
-        a: Kind,
-        b: Kind,
-        arcs: Vec<ArcRec>,
-    ) -> Result<Records, AllocError>
-        requires kinds { All (λ r. (util_kind r.a ≡ a) × (util_kind r.b ≡ b)) arcs.items }
-        requires next { All (λ r. IfSome r.next (λ k. k < 2 ^ 63)) arcs.items }
-        ensures { IfOk result (λ records. records ≡ record { a = a; b = b; items = arcs.items }) }
-    {
-        let mut plain = Vec::with_capacity(alloc, arcs.len())?;
-        let mut first = Column::new(alloc, a);
-        let mut second = Column::new(alloc, b);
-        for arc in arcs {
-            plain.push(PlainRecord::new(arc.tip, arc.next, arc.len))?;
-            first.push(arc.a)?;
-            second.push(arc.b)?;
-        }
-        Ok(Records {
-            plain,
-            a: first,
-            b: second,
-        })
     }
 
     // The number of records.
@@ -124,6 +109,31 @@ impl Records {
             a: self.a.get(k),
             b: self.b.get(k),
         }
+    }
+
+    // Whether the fields of each record fit n vertices and as many records as there are.
+    pub(crate) fn fit(&self, n: usize) -> bool
+        ensures { result ≡ list_all (record_fits_by n (length self.now.items)
+            (self.now.a ∷ self.now.b ∷ [])) self.now.items }
+    {
+        all_fit(&self.plain, &self.a, &self.b, n, self.plain.len())
+    }
+
+    // Puts a record, whose utility fields are of the kinds here, after the others.
+    pub(crate) fn push(&mut self, arc: ArcRec) -> Result<(), AllocError>
+        requires kinds { (util_kind arc.a ≡ self.old.a) × (util_kind arc.b ≡ self.old.b) }
+        requires next { IfSome arc.next (λ k. k + 1 < 2 ^ 64) }
+        ensures ok { OnOk result (self.new
+            ≡ record self.old { items = self.old.items ++ arc ∷ [] }) }
+        ensures err { OnErr result (self.new ≡ self.old) }
+    {
+        self.a.reserve()?;
+        self.b.reserve()?;
+        self.plain
+            .push(PlainRecord::new(arc.tip, arc.next, arc.len))?;
+        self.a.push(arc.a);
+        self.b.push(arc.b);
+        Ok(())
     }
 
     // Puts a record that leads to v, before the one given, after the others; the utility fields of records are not used.
@@ -168,4 +178,20 @@ impl Records {
             .push(PlainRecord::new(Ref::At(low), after_higher, len))?;
         Ok(())
     }
+}
+
+// Whether all of these fit n vertices and m records.
+fn all_fit(plain: &[PlainRecord], a: &Column, b: &Column, n: usize, m: usize) -> bool
+    ensures { (k : ℕ) → result ≡ (list_all (plain_fits n m) plain.now
+        && list_all (util_fits n m (column_kind a.now)) (values k a.now)
+        && list_all (util_fits n m (column_kind b.now)) (values k b.now)) }
+{
+    each_fits(plain, n, m) && a.fits(n, m) && b.fits(n, m)
+}
+
+// Whether each record leads to one of n vertices, or none, before one of m records, or none.
+fn each_fits(plain: &[PlainRecord], n: usize, m: usize) -> bool
+    ensures { result ≡ list_all (plain_fits n m) plain.now }
+{
+    plain.iter().all(|record| record.fits(n, m))
 }

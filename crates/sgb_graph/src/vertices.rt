@@ -1,11 +1,15 @@
 //! The vertices of a graph, in little memory: integers in the utility fields x, y, z stand in the vertex itself, all
 //! other utility fields beside.
-ghost use Rattle.std.specs.Prelude.{◌≡◌, ◌<◌, ◌+◌, ◌^◌, ◌++◌, ℕ, List, [], ◌∷◌, length, map, slice_get, slice_set, All, Some, IfOk, IfSome, OnOk};
+ghost use Rattle.std.specs.Prelude.{◌≡◌, ◌<◌, ◌+◌, ◌^◌, ◌++◌, ◌&&◌, ℕ, List, [], ◌∷◌, length, map, slice_get, slice_set, Some, IfOk, IfSome, OnErr, OnOk};
+ghost use Rattle.std.specs.List.{list_all};
 ghost use Rattle.sgb_graph.specs.Columns.{util_seen, vertex_seen};
+ghost use Rattle.sgb_graph.specs.Sound.{chain_fits, util_fits};
 ghost use Rattle.sgb_graph.specs.inner.Columns.{HoldsMany, util_kind, values};
+ghost use Rattle.sgb_graph.specs.inner.Fitting.{vertex_fits_by};
 ghost use Rattle.sgb_graph.specs.Growth.{at_place, first_arc, new_vertex, number_or_zero, with_numbers, with_some_numbers};
 ghost use Rattle.sgb_graph.specs.inner.Growth.{with_arcs};
-ghost use Rattle.sgb_graph.specs.inner.KeptVertices.{AreKept, HoldNumbers, Keep, TakeNumbers, bare_named, bare_vertex, field_kinds, kinds_of_vertices, numbers_values};
+ghost use Rattle.sgb_graph.specs.inner.KeptRecords.{kept_number};
+ghost use Rattle.sgb_graph.specs.inner.KeptVertices.{AreKept, HoldNumbers, TakeNumbers, bare_named, bare_vertex, columns_fit, field_columns, field_kinds, kinds_of_vertices, numbers_values};
 ghost use Rattle.sgb_graph.specs.declared.fields.Kind.{Kind};
 ghost use Rattle.sgb_graph.specs.declared.fields.Kind.TheVariants.{Z, I};
 ghost use Rattle.sgb_graph.specs.declared.fields.Util.TheVariants.{Int};
@@ -16,6 +20,8 @@ use crate::columns::Column;
 use crate::fields::{Kind, Util, UtilRef, Vertex, VertexRef};
 use crate::kept_numbers::{keep_number, read_number};
 use crate::names::Names;
+use crate::ranges::chain_fits;
+use crate::room::put;
 use sgb_vec::Text;
 use std::alloc::{AllocError, Global};
 use std::marker::Model;
@@ -77,23 +83,15 @@ impl Vertices {
         })
     }
 
-    // These vertices, whose utility fields u, v, w, x, y, z are of these kinds.
-    pub(crate) fn of(
-        alloc: Global,
-        kinds: [Kind; 6],
-        vertices: Vec<Vertex>,
-    ) -> Result<Vertices, AllocError>
-        requires kinds { All (λ x. map util_kind x.util ≡ kinds) vertices.items }
-        requires arcs { All (λ x. IfSome x.arcs (λ k. k + 1 < 2 ^ 64)) vertices.items }
-        ensures kinds { IfOk result (λ kept. kinds_of_vertices kept ≡ kinds) }
-        ensures items { IfOk result (λ kept. kept.items ≡ vertices.items) }
+    // No vertices, whose utility fields u, v, w, x, y, z are of these kinds. It takes no memory.
+    pub(crate) fn new(alloc: Global, kinds: [Kind; 6]) -> Vertices
+        ensures kinds { kinds_of_vertices result ≡ kinds }
+        ensures items { result.items ≡ [] }
     {
-        let mut plain = Vec::with_capacity(alloc, vertices.len())?;
-        let mut fields = Fields::new(alloc, kinds);
-        for vertex in vertices {
-            keep(&mut plain, &mut fields, vertex)?;
+        Vertices {
+            plain: Vec::new(alloc),
+            fields: Fields::new(alloc, kinds),
         }
-        Ok(Vertices { plain, fields })
     }
 
     // The number of vertices.
@@ -109,6 +107,30 @@ impl Vertices {
         ensures { result ≡ kinds_of_vertices self.now }
     {
         self.fields.kinds()
+    }
+
+    // Whether the fields of each vertex fit as many vertices as there are and m records.
+    pub(crate) fn fit(&self, m: usize) -> bool
+        ensures { result ≡ list_all (vertex_fits_by (length self.now.items) m
+            (kinds_of_vertices self.now)) self.now.items }
+    {
+        all_fit(&self.plain, &self.fields, m)
+    }
+
+    // Puts a vertex, whose utility fields are of the kinds here, after the others.
+    pub(crate) fn push(&mut self, vertex: Vertex) -> Result<(), AllocError>
+        requires kinds { map util_kind vertex.util ≡ kinds_of_vertices self.old }
+        requires arcs { IfSome vertex.arcs (λ k. k + 1 < 2 ^ 64) }
+        ensures ok { OnOk result (self.new
+            ≡ record self.old { items = self.old.items ++ vertex ∷ [] }) }
+        ensures err { OnErr result (self.new ≡ self.old) }
+    {
+        let Vertex { name, arcs, util } = vertex;
+        self.fields.reserve()?;
+        self.plain.reserve(1)?;
+        let ints = self.fields.push(util);
+        put(&mut self.plain, PlainVertex::new(name, arcs, ints));
+        Ok(())
     }
 
     // The name of vertex `v < n`.
@@ -185,6 +207,13 @@ impl PlainVertex {
         }
     }
 
+    // Whether the first record of its list is one of m, or none.
+    fn fits(&self, m: usize) -> bool
+        ensures { result ≡ chain_fits m (kept_number self.now.arcs) }
+    {
+        chain_fits(m, read_number(self.arcs))
+    }
+
     // Puts an integer into the field of this place.
     fn put(&mut self, place: usize, value: i64)
         requires { place < 3 }
@@ -196,7 +225,7 @@ impl PlainVertex {
 }
 
 impl Numbers {
-    ghost use Rattle.sgb_graph.specs.inner.KeptVertices.{HasNumber, number_at, numbers_kind, numbers_values};
+    ghost use Rattle.sgb_graph.specs.inner.KeptVertices.{HasNumber, HasNumberRoom, number_at, numbers_kind, numbers_values};
     ghost use Rattle.sgb_graph.specs.declared.vertices.PlainVertex.{PlainVertex};
 
     // A field of this kind, with no values yet. It takes no memory.
@@ -221,23 +250,49 @@ impl Numbers {
         }
     }
 
-    // Puts a value of the field's kind after the others, or hands out the integer that the vertex is to have.
-    fn push(&mut self, value: Util) -> Result<i64, AllocError>
-        requires { util_kind value ≡ numbers_kind self.old }
-        ensures kind { OnOk result (numbers_kind self.new ≡ numbers_kind self.old) }
-        ensures values { IfOk result (λ i. (place : ℕ) (ps : List PlainVertex) (p : PlainVertex)
-            → number_at place p ≡ i
+    // Takes room for one value more. The values stay, whether there is room or not.
+    fn reserve(&mut self) -> Result<(), AllocError>
+        ensures kind { numbers_kind self.new ≡ numbers_kind self.old }
+        ensures values { (place : ℕ) (ps : List PlainVertex) → numbers_values place ps self.new
+            ≡ numbers_values place ps self.old }
+        ensures room { OnOk result (HasNumberRoom self.new) }
+    {
+        match self {
+            Numbers::Inside => Ok(()),
+            Numbers::Beside(column) => column.reserve(),
+        }
+    }
+
+    // Puts a value of the field's kind after the others, for which there is room, or hands out the integer that the
+    // vertex is to have. It takes no memory.
+    fn push(&mut self, value: Util) -> i64
+        requires kind { util_kind value ≡ numbers_kind self.old }
+        requires room { HasNumberRoom self.old }
+        ensures kind { numbers_kind self.new ≡ numbers_kind self.old }
+        ensures values { (place : ℕ) (ps : List PlainVertex) (p : PlainVertex)
+            → number_at place p ≡ result
             → length (numbers_values place ps self.old) ≡ length ps
             → numbers_values place (ps ++ p ∷ []) self.new ≡ numbers_values place ps self.old
-            ++ value ∷ []) }
+            ++ value ∷ [] }
     {
         match (self, value) {
             (Numbers::Beside(column), value) => {
-                column.push(value)?;
-                Ok(0)
+                column.push(value);
+                0
             }
-            (Numbers::Inside, Util::Int(number)) => Ok(number),
-            _ => Ok(0),
+            (Numbers::Inside, Util::Int(number)) => number,
+            _ => 0,
+        }
+    }
+
+    // Whether each vertex that is named is one of n, and each arc record one of m.
+    fn fits(&self, n: usize, m: usize) -> bool
+        ensures { (place : ℕ) (ps : List PlainVertex) → result
+            ≡ list_all (util_fits n m (numbers_kind self.now)) (numbers_values place ps self.now) }
+    {
+        match self {
+            Numbers::Inside => true,
+            Numbers::Beside(column) => column.fits(n, m),
         }
     }
 
@@ -257,7 +312,7 @@ impl Numbers {
 }
 
 impl Fields {
-    ghost use Rattle.sgb_graph.specs.inner.KeptVertices.{AreKept, HaveValues, field_columns, rows, with_row};
+    ghost use Rattle.sgb_graph.specs.inner.KeptVertices.{AreKept, HaveRoom, HaveValues, columns_fit, field_columns, rows, with_row};
     ghost use Rattle.sgb_graph.specs.declared.vertices.PlainVertex.{PlainVertex};
 
     // Fields of these kinds, with no values yet. They take no memory.
@@ -290,22 +345,53 @@ impl Fields {
         ]
     }
 
-    // Puts the values of a vertex after the others, and hands out the integers that the vertex is to have.
-    fn push(&mut self, values: [Util; 6]) -> Result<[i64; 3], AllocError>
-        requires { map util_kind values ≡ field_kinds self.old }
-        ensures kinds { OnOk result (field_kinds self.new ≡ field_kinds self.old) }
-        ensures values { IfOk result (λ ints. (ps : List PlainVertex) (p : PlainVertex) → p.ints
-            ≡ ints → AreKept ps self.old
-            → field_columns (ps ++ p ∷ []) self.new ≡ with_row (field_columns ps self.old) values) }
+    // Takes room for the values of one vertex more. The values stay, whether there is room or not.
+    fn reserve(&mut self) -> Result<(), AllocError>
+        ensures kinds { field_kinds self.new ≡ field_kinds self.old }
+        ensures columns { (ps : List PlainVertex) → field_columns ps self.new
+            ≡ field_columns ps self.old }
+        ensures room { OnOk result (HaveRoom self.new) }
+    {
+        self.u.reserve()?;
+        self.v.reserve()?;
+        self.w.reserve()?;
+        self.x.reserve()?;
+        self.y.reserve()?;
+        self.z.reserve()?;
+        Ok(())
+    }
+
+    // Puts the values of a vertex after the others, for which there is room, and hands out the integers that the
+    // vertex is to have. It takes no memory.
+    fn push(&mut self, values: [Util; 6]) -> [i64; 3]
+        requires kinds { map util_kind values ≡ field_kinds self.old }
+        requires room { HaveRoom self.old }
+        ensures kinds { field_kinds self.new ≡ field_kinds self.old }
+        ensures values { (ps : List PlainVertex) (p : PlainVertex) → p.ints ≡ result
+            → AreKept ps self.old
+            → field_columns (ps ++ p ∷ []) self.new ≡ with_row (field_columns ps self.old) values }
     {
         let (u, v, w, x, y, z) = each(values);
-        self.u.push(u)?;
-        self.v.push(v)?;
-        self.w.push(w)?;
-        let first = self.x.push(x)?;
-        let second = self.y.push(y)?;
-        let third = self.z.push(z)?;
-        Ok([first, second, third])
+        self.u.push(u);
+        self.v.push(v);
+        self.w.push(w);
+        let first = self.x.push(x);
+        let second = self.y.push(y);
+        let third = self.z.push(z);
+        [first, second, third]
+    }
+
+    // Whether each vertex that is named is one of n, and each arc record one of m.
+    fn fit(&self, n: usize, m: usize) -> bool
+        ensures { (ps : List PlainVertex) → result ≡ columns_fit n m (field_kinds self.now)
+            (field_columns ps self.now) }
+    {
+        self.u.fits(n, m)
+            && self.v.fits(n, m)
+            && self.w.fits(n, m)
+            && self.x.fits(n, m)
+            && self.y.fits(n, m)
+            && self.z.fits(n, m)
     }
 
     // The values of vertex k, which has these integers.
@@ -335,6 +421,22 @@ fn each(values: [Util; 6]) -> (Util, Util, Util, Util, Util, Util)
     (u, v, w, x, y, z)
 }
 
+// Whether all of these fit as many vertices as there are and m records.
+fn all_fit(plain: &[PlainVertex], fields: &Fields, m: usize) -> bool
+    ensures { result ≡ (list_all (λ p. chain_fits m (kept_number p.arcs)) plain.now
+        && columns_fit (length plain.now) m (field_kinds fields.now)
+        (field_columns plain.now fields.now)) }
+{
+    firsts_fit(plain, m) && fields.fit(plain.len(), m)
+}
+
+// Whether the first record of each list is one of m, or none.
+fn firsts_fit(plain: &[PlainVertex], m: usize) -> bool
+    ensures { result ≡ list_all (λ p. chain_fits m (kept_number p.arcs)) plain.now }
+{
+    plain.iter().all(|vertex| vertex.fits(m))
+}
+
 // The vertices of these names, with no arcs.
 fn new_vertices(alloc: Global, names: Names) -> Result<Vec<PlainVertex>, AllocError>
     ensures { IfOk result (λ plain. map bare_vertex plain.items ≡ map bare_named names) }
@@ -344,20 +446,6 @@ fn new_vertices(alloc: Global, names: Names) -> Result<Vec<PlainVertex>, AllocEr
         plain.push(PlainVertex::new(name, None, [0; 3]))?;
     }
     Ok(plain)
-}
-
-// Puts a vertex after the others.
-fn keep(plain: &mut Vec<PlainVertex>, fields: &mut Fields, vertex: Vertex) -> Result<(), AllocError>
-    requires kinds { map util_kind vertex.util ≡ field_kinds fields.old }
-    requires arcs { IfSome vertex.arcs (λ k. k + 1 < 2 ^ 64) }
-    ensures { OnOk result ((kinds : List Kind) (items : List Vertex)
-        → Keep plain.old.items fields.old kinds items
-        → Keep plain.new.items fields.new kinds (items ++ vertex ∷ [])) }
-{
-    let Vertex { name, arcs, util } = vertex;
-    let ints = fields.push(util)?;
-    plain.push(PlainVertex::new(name, arcs, ints))?;
-    Ok(())
 }
 
 // Makes the fields x, y, z hold integers, which stand in the vertices: 0 where a vertex had none.

@@ -1,5 +1,5 @@
 -- The columns that keep the values of one utility field, by its kind.
-use Rattle.std.specs.Prelude.{◌≡◌, ◌<◌, ℕ, suc, List, length, map, replicate}
+use Rattle.std.specs.Prelude.{◌≡◌, ◌<◌, ℕ, suc, List, length, map, replicate, vec_capacity, vec_len}
 use Rattle.sgb_graph.specs.declared.columns.Column.{Column}
 use Rattle.sgb_graph.specs.declared.columns.Column.TheVariants.{Unused, Ints, Vertices, Texts, Chains}
 use Rattle.sgb_graph.specs.declared.fields.Kind.{Kind}
@@ -42,3 +42,11 @@ HasPlace k (Ints numbers) = k < length numbers.items
 HasPlace k (Vertices vertices) = k < length vertices.items
 HasPlace k (Texts texts) = k < length texts.items
 HasPlace k (Chains chains) = k < length chains.items
+
+-- the column has room for one value more, or is not used
+abbrev pub HasRoom : Column → Type 0
+HasRoom Unused = 0 < 1
+HasRoom (Ints numbers) = vec_len numbers < vec_capacity numbers
+HasRoom (Vertices vertices) = vec_len vertices < vec_capacity vertices
+HasRoom (Texts texts) = vec_len texts < vec_capacity texts
+HasRoom (Chains chains) = vec_len chains < vec_capacity chains

@@ -1,5 +1,6 @@
 -- How a graph keeps its arc records: what each one has one after another, and the utility fields beside.
-use Rattle.std.specs.Prelude.{ℕ, ◌-◌, ◌^◌, ◌==◌, List, [], ◌∷◌, length, Option, Some, None, if◌then◌else◌}
+use Rattle.std.specs.Prelude.{◌&&◌, ℕ, Bool, ◌-◌, ◌^◌, ◌==◌, List, [], ◌∷◌, length, Option, Some, None, if◌then◌else◌}
+use Rattle.sgb_graph.specs.Sound.{chain_fits, ref_fits}
 use Rattle.sgb_graph.specs.inner.Columns.{column_kind, values}
 use Rattle.sgb_graph.specs.declared.columns.Column.{Column}
 use Rattle.sgb_graph.specs.declared.fields.ArcRec.{ArcRec}
@@ -30,3 +31,7 @@ kept_records ps a b = record {
   b = column_kind b;
   items = records_with ps (values (length ps) a) (values (length ps) b);
 }
+
+-- the record leads to one of n vertices, or none, before one of m records, or none
+abbrev pub plain_fits : ℕ → ℕ → PlainRecord → Bool
+plain_fits n m p = ref_fits n p.tip && chain_fits m (kept_number p.next)

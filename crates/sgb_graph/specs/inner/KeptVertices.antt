@@ -1,6 +1,8 @@
 -- How a graph keeps its vertices: what each one has one after another, and the utility fields beside.
-use Rattle.std.specs.Prelude.{◌≡◌, ◌≢◌, ◌<◌, ℕ, suc, ℤ, pos, List, [], ◌∷◌, ◌++◌, length, map, replicate, get_or, None}
-use Rattle.sgb_graph.specs.inner.Columns.{HasPlace, column_kind, values}
+use Rattle.std.specs.Prelude.{◌≡◌, ◌≢◌, ◌<◌, ◌&&◌, ℕ, suc, ℤ, pos, Bool, true, List, [], ◌∷◌, ◌++◌, length, map, replicate, get_or, None}
+use Rattle.std.specs.List.{list_all}
+use Rattle.sgb_graph.specs.Sound.{util_fits}
+use Rattle.sgb_graph.specs.inner.Columns.{HasPlace, HasRoom, column_kind, values}
 use Rattle.sgb_graph.specs.Growth.{number_or_zero}
 use Rattle.sgb_graph.specs.inner.KeptRecords.{kept_number}
 use Rattle.sgb_graph.specs.declared.fields.Kind.{Kind}
@@ -54,6 +56,20 @@ pub record HaveValues (k : ℕ) (f : Fields) : Type 0 where
   pub x : HasNumber k f.x
   pub y : HasNumber k f.y
   pub z : HasNumber k f.z
+
+-- the field has room for one value more, or is not used
+abbrev pub HasNumberRoom : Numbers → Type 0
+HasNumberRoom Inside = 0 < 1
+HasNumberRoom (Beside column) = HasRoom column
+
+-- each field has room for one value more, or is not used
+pub record HaveRoom (f : Fields) : Type 0 where
+  pub u : HasRoom f.u
+  pub v : HasRoom f.v
+  pub w : HasRoom f.w
+  pub x : HasNumberRoom f.x
+  pub y : HasNumberRoom f.y
+  pub z : HasNumberRoom f.z
 
 -- the kinds of the fields
 abbrev pub field_kinds : Fields → List Kind
@@ -117,11 +133,10 @@ AreColumns n (column ∷ columns) = (length column ≡ n) × AreColumns n column
 abbrev pub AreKept : List PlainVertex → Fields → Type 0
 AreKept ps f = AreColumns (length ps) (field_columns ps f)
 
--- these vertices are kept so, with fields of these kinds
-pub record Keep (ps : List PlainVertex) (f : Fields) (of_kinds : List Kind) (vertices : List Vertex) : Type 0 where
-  pub whole : AreKept ps f
-  pub kinds : field_kinds f ≡ of_kinds
-  pub items : kept_items ps f ≡ vertices
+-- the values of each column fit n vertices and m records, by the kind of the column
+abbrev pub columns_fit : ℕ → ℕ → List Kind → List (List Util) → Bool
+columns_fit n m (kind ∷ kinds) (column ∷ columns) = list_all (util_fits n m kind) column && columns_fit n m kinds columns
+columns_fit n m _ _ = true
 
 -- columns with one row more
 abbrev pub with_row : {X : Type 0} → List (List X) → List X → List (List X)

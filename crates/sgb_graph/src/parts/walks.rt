@@ -1,16 +1,19 @@
 //! Walks along the chains of records. Records that were passed are marked, so that each is passed twice at most.
-ghost use Rattle.std.specs.Prelude.{◌≡◌, length, IsTrue, IfOk};
+ghost use Rattle.std.specs.Prelude.{◌≡◌, ◌≤◌, length, IsTrue, IfOk};
+ghost use Rattle.sgb_vec.specs.Limits.{most_vertices};
 ghost use Rattle.std.specs.List.{list_all};
 ghost use Rattle.sgb_graph.specs.Graphs.{ends_of};
 ghost use Rattle.sgb_graph.specs.Sound.{chains_end, is_vertex, lists_lead_to_vertices};
 ghost use Rattle.sgb_graph.specs.inner.Walks.{MarksEnd, MarksGoOn, MarksLead, is_marked, leads_of};
 
-use crate::fields::{ArcRec, Ref, Vertex};
+use crate::fields::Ref;
+use crate::records::Records;
+use crate::vertices::Vertices;
 use std::alloc::{AllocError, Global};
 
 // Whether the way by next comes to an end from every record.
-pub(super) fn chains_end(alloc: Global, records: &[ArcRec]) -> Result<bool, AllocError>
-    ensures { IfOk result (λ b. b ≡ chains_end records.now) }
+pub(super) fn chains_end(alloc: Global, records: &Records) -> Result<bool, AllocError>
+    ensures { IfOk result (λ b. b ≡ chains_end records.now.items) }
 {
     let mut marks = vec![in alloc; false; records.len()]?;
     for k in 0..records.len() {
@@ -25,28 +28,30 @@ pub(super) fn chains_end(alloc: Global, records: &[ArcRec]) -> Result<bool, Allo
 // Whether each arc on a vertex's list leads to a vertex.
 pub(super) fn lists_lead_to_vertices(
     alloc: Global,
-    vertices: &[Vertex],
-    records: &[ArcRec],
+    vertices: &Vertices,
+    records: &Records,
 ) -> Result<bool, AllocError>
-    requires { IsTrue (list_all (λ v. ends_of records.now v.arcs) vertices.now) }
-    ensures { IfOk result (λ b. b ≡ lists_lead_to_vertices vertices.now records.now) }
+    requires few { length vertices.now.items ≤ most_vertices }
+    requires ends { IsTrue (list_all (λ v. ends_of records.now.items v.arcs) vertices.now.items) }
+    ensures { IfOk result (λ b. b ≡ lists_lead_to_vertices vertices.now.items records.now.items) }
 {
     let mut marks = vec![in alloc; false; records.len()]?;
-    for vertex in vertices {
-        if !way_leads(records, &marks, vertex.arcs) {
+    for v in 0..vertices.len() as u32 {
+        let first = vertices.first(v);
+        if !way_leads(records, &marks, first) {
             return Ok(false);
         }
-        mark_way(records, &mut marks, vertex.arcs);
+        mark_way(records, &mut marks, first);
     }
     Ok(true)
 }
 
 // Whether the way from a first record comes to an end, where it does from each marked one. A way of more steps than
 // there are records is a ring.
-fn way_ends(records: &[ArcRec], marks: &[bool], first: Option<usize>) -> bool
-    requires long { length marks.now ≡ length records.now }
-    requires marked { MarksEnd records.now marks.now }
-    ensures { result ≡ ends_of records.now first }
+fn way_ends(records: &Records, marks: &[bool], first: Option<usize>) -> bool
+    requires long { length marks.now ≡ length records.now.items }
+    requires marked { MarksEnd records.now.items marks.now }
+    ensures { result ≡ ends_of records.now.items first }
 {
     let mut next = first;
     for _step in 0..records.len() {
@@ -59,21 +64,21 @@ fn way_ends(records: &[ArcRec], marks: &[bool], first: Option<usize>) -> bool
         if marks[k] {
             return true;
         }
-        next = records[k].next;
+        next = records.get(k).next;
     }
     next.is_none()
 }
 
 // Whether each arc on the way from a first record leads to a vertex, where it does so from each marked one.
-fn way_leads(records: &[ArcRec], marks: &[bool], first: Option<usize>) -> bool
-    requires long { length marks.now ≡ length records.now }
-    requires ends { IsTrue (ends_of records.now first) }
-    requires marked { MarksLead records.now marks.now }
-    ensures { result ≡ leads_of records.now first }
+fn way_leads(records: &Records, marks: &[bool], first: Option<usize>) -> bool
+    requires long { length marks.now ≡ length records.now.items }
+    requires ends { IsTrue (ends_of records.now.items first) }
+    requires marked { MarksLead records.now.items marks.now }
+    ensures { result ≡ leads_of records.now.items first }
 {
     let mut next = first;
     while let Some(k) = next {
-        let arc = &records[k];
+        let arc = records.get(k);
         if marks[k] {
             return true;
         }
@@ -86,15 +91,15 @@ fn way_leads(records: &[ArcRec], marks: &[bool], first: Option<usize>) -> bool
 }
 
 // Marks the records on the way from a first one, up to one that has a mark.
-fn mark_way(records: &[ArcRec], marks: &mut [bool], first: Option<usize>)
-    requires long { length marks.old ≡ length records.now }
-    requires ends { IsTrue (ends_of records.now first) }
+fn mark_way(records: &Records, marks: &mut [bool], first: Option<usize>)
+    requires long { length marks.old ≡ length records.now.items }
+    requires ends { IsTrue (ends_of records.now.items first) }
     ensures long { length marks.new ≡ length marks.old }
-    ensures ends { MarksEnd records.now marks.old → MarksEnd records.now marks.new }
-    ensures leads { MarksLead records.now marks.old → IsTrue (leads_of records.now first)
-        → MarksLead records.now marks.new }
+    ensures ends { MarksEnd records.now.items marks.old → MarksEnd records.now.items marks.new }
+    ensures leads { MarksLead records.now.items marks.old → IsTrue (leads_of records.now.items first)
+        → MarksLead records.now.items marks.new }
     ensures first { IsTrue (is_marked marks.new first) }
-    ensures on { MarksGoOn records.now marks.old → MarksGoOn records.now marks.new }
+    ensures on { MarksGoOn records.now.items marks.old → MarksGoOn records.now.items marks.new }
 {
     let mut next = first;
     while let Some(k) = next {
@@ -102,7 +107,7 @@ fn mark_way(records: &[ArcRec], marks: &mut [bool], first: Option<usize>)
             return;
         }
         marks[k] = true;
-        next = records[k].next;
+        next = records.get(k).next;
     }
 }
 

@@ -3,7 +3,7 @@ use Rattle.sgb_graph.proofs.MarkedWays.{not_all_end, all_end}
 use Rattle.sgb_graph.proofs.parts.walks.chains_end.Goals as goal
 
 pub returns-then-not-way_ends : goal.returns-then-not-way_ends
-returns-then-not-way_ends c = sym (not_all_end c.args.records.now c.loop-k.k c.loop-k-test.true (sym c.way_ends.ensures ∙ c.if-not-way_ends.true))
+returns-then-not-way_ends c = sym (not_all_end c.args.records.now.items c.loop-k.k (omega (arith, c.loop-k-test.true, c.len-k-end.ensures.count)) (sym c.way_ends.ensures ∙ c.if-not-way_ends.true))
 
 pub returns : goal.returns
-returns c = sym (all_end c.args.records.now (λ j below. c.loop-k.invariant.before j (omega arith)))
+returns c = sym (all_end c.args.records.now.items (λ j below. c.loop-k.invariant.before j (omega arith)))

@@ -6,7 +6,7 @@ use Rattle.sgb_graph.proofs.parts.walks.chains_end.Given as goal
 -- the way ends from each record so far, and from each marked one
 abbrev pub invariant-loop-k : goal.invariant-loop-k
 invariant-loop-k l = record {
-  long : length l.marks.items ≡ length l.records;
-  marked : MarksEnd l.records l.marks.items;
-  before : (j : ℕ) → j < l.k → ends_of l.records (Some j) ≡ true;
+  long : length l.marks.items ≡ length l.records.items;
+  marked : MarksEnd l.records.items l.marks.items;
+  before : (j : ℕ) → j < l.k → ends_of l.records.items (Some j) ≡ true;
 }

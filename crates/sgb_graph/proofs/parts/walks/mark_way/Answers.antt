@@ -1,6 +1,6 @@
 use Rattle.std.proofs.Common.{◌≡◌, ◌⊎◌, ◌<◌, length, Some, None, true, refl, inl, inr, rules, arith}
 use Rattle.std.specs.Prelude.{IsTrue}
-use Rattle.std.proofs.lemmas.Option.{slice_get_read}
+use Rattle.sgb_graph.specs.Columns.{arc_seen}
 use Rattle.sgb_graph.specs.Graphs.{ends_of}
 use Rattle.sgb_graph.specs.inner.Walks.{leads_of, is_marked}
 use Rattle.sgb_graph.proofs.MarkedWays.{way_inside, way_shorter, way_goes_on, leads_goes_on, one_more_marked, reached_more, reach_more, reached_all, reach_all}
@@ -9,49 +9,39 @@ use Rattle.sgb_graph.proofs.parts.walks.mark_way.Goals as goal
 pub bounds-marks-k : goal.bounds-marks-k
 bounds-marks-k c =
     let ends = rw c.in-Some.is at c.loop-next.invariant.ends in
-    omega (arith, c.loop-next.invariant.long, way_inside c.args.records.now c.in-Some.k ends)
+    omega (arith, c.loop-next.invariant.long, way_inside c.args.records.now.items c.in-Some.k ends)
 
 pub bounds-marks-k-in-Some : goal.bounds-marks-k-in-Some
 bounds-marks-k-in-Some c =
     let ends = rw c.in-Some.is at c.loop-next.invariant.ends in
-    omega (arith, c.loop-next.invariant.long, way_inside c.args.records.now c.in-Some.k ends)
+    omega (arith, c.loop-next.invariant.long, way_inside c.args.records.now.items c.in-Some.k ends)
 
-pub offset_bounds-records-k : goal.offset_bounds-records-k
-offset_bounds-records-k c =
-    let ends = rw c.in-Some.is at c.loop-next.invariant.ends in
-    let inside = way_inside c.args.records.now c.in-Some.k ends in
-    search rules
-
-pub bounds-records-k : goal.bounds-records-k
-bounds-records-k c = way_inside c.args.records.now c.in-Some.k (rw c.in-Some.is at c.loop-next.invariant.ends)
-
-pub bounds-records-k-else-marks-k : goal.bounds-records-k-else-marks-k
-bounds-records-k-else-marks-k c = way_inside c.args.records.now c.in-Some.k (rw c.in-Some.is at c.loop-next.invariant.ends)
+pub get-next-requires : goal.get-next-requires
+get-next-requires c = way_inside c.args.records.now.items c.in-Some.k (rw c.in-Some.is at c.loop-next.invariant.ends)
 
 pub loop-next-smaller : goal.loop-next-smaller
 loop-next-smaller c =
     let ends = rw c.in-Some.is at c.loop-next.invariant.ends in
-    rw (← c.index-records-k.is, c.in-Some.is) (way_shorter c.args.records.now c.in-Some.k c.index-records-k.result ends c.index-records-k.is)
+    rw c.in-Some.is (way_shorter c.args.records.now.items c.in-Some.k (arc_seen c.get-next.result) ends c.get-next.ensures)
 
 pub loop-next-preserved : goal.loop-next-preserved
 loop-next-preserved c =
-    let records = c.args.records.now in
+    let records = c.args.records.now.items in
     let k = c.in-Some.k in
     let kept = c.loop-next.invariant in
     let ends : ends_of records (Some k) ≡ true = rw c.in-Some.is at kept.ends in
     let inside = way_inside records k ends in
     let within : k < length c.loop-next.marks = omega (arith, kept.long, inside) in
-    let read = slice_get_read records (length records) k c.index-records-k.result refl inside c.index-records-k.is in
     let first : (c.args.first ≡ Some k) ⊎ IsTrue (is_marked c.loop-next.marks c.args.first) = rw c.in-Some.is at kept.first in
     let leads : leads_of records c.args.first ≡ true → leads_of records (Some k) ≡ true = rw c.in-Some.is at kept.leads in
-    rw (← c.index-records-k.is) record {
+    record {
       long = search rules;
-      ends = way_goes_on records k c.index-records-k.result ends c.index-records-k.is;
-      leads = λ all. leads_goes_on records k c.index-records-k.result ends c.index-records-k.is (leads all);
+      ends = way_goes_on records k (arc_seen c.get-next.result) ends c.get-next.ensures;
+      leads = λ all. leads_goes_on records k (arc_seen c.get-next.result) ends c.get-next.ensures (leads all);
       marks_end = λ before. one_more_marked (λ j. IsTrue (ends_of records (Some j))) c.loop-next.marks k ends (kept.marks_end before);
       marks_lead = λ before all. one_more_marked (λ j. IsTrue (leads_of records (Some j))) c.loop-next.marks k (leads all) (kept.marks_lead before all);
       first = inr (reached_more c.loop-next.marks k c.args.first within first);
-      reach = λ before. reach_more records c.loop-next.marks k c.index-records-k.result within read (rw c.in-Some.is at (kept.reach before));
+      reach = λ before. reach_more records c.loop-next.marks k (arc_seen c.get-next.result) within c.get-next.ensures (rw c.in-Some.is at (kept.reach before));
     }
 
 pub loop-next-init : goal.loop-next-init
@@ -71,11 +61,11 @@ returns-then-marks-k-clause-first c =
 
 pub returns-then-marks-k-clause-on : goal.returns-then-marks-k-clause-on
 returns-then-marks-k-clause-on c = λ before.
-    reach_all c.args.records.now c.loop-next.marks (Some c.in-Some.k) (search rules) (rw c.in-Some.is at (c.loop-next.invariant.reach before))
+    reach_all c.args.records.now.items c.loop-next.marks (Some c.in-Some.k) (search rules) (rw c.in-Some.is at (c.loop-next.invariant.reach before))
 
 pub returns-clause-first : goal.returns-clause-first
 returns-clause-first c = reached_all c.loop-next.marks None c.args.first refl (rw c.in_default.is at c.loop-next.invariant.first)
 
 pub returns-clause-on : goal.returns-clause-on
 returns-clause-on c = λ before.
-    reach_all c.args.records.now c.loop-next.marks None refl (rw c.in_default.is at (c.loop-next.invariant.reach before))
+    reach_all c.args.records.now.items c.loop-next.marks None refl (rw c.in_default.is at (c.loop-next.invariant.reach before))

@@ -9,15 +9,15 @@ use Rattle.sgb_graph.proofs.parts.walks.mark_way.Given as goal
 -- marks so far, which reach from the first record to the next one
 abbrev pub invariant-loop-next : goal.invariant-loop-next
 invariant-loop-next l = record {
-  long : length l.marks ≡ length l.records;
-  ends : ends_of l.records l.next ≡ true;
-  leads : leads_of l.records l.fn.first ≡ true → leads_of l.records l.next ≡ true;
-  marks_end : MarksEnd l.records l.fn.marks → MarksEnd l.records l.marks;
-  marks_lead : MarksLead l.records l.fn.marks → IsTrue (leads_of l.records l.fn.first) → MarksLead l.records l.marks;
+  long : length l.marks ≡ length l.records.items;
+  ends : ends_of l.records.items l.next ≡ true;
+  leads : leads_of l.records.items l.fn.first ≡ true → leads_of l.records.items l.next ≡ true;
+  marks_end : MarksEnd l.records.items l.fn.marks → MarksEnd l.records.items l.marks;
+  marks_lead : MarksLead l.records.items l.fn.marks → IsTrue (leads_of l.records.items l.fn.first) → MarksLead l.records.items l.marks;
   first : (l.fn.first ≡ l.next) ⊎ IsTrue (is_marked l.marks l.fn.first);
-  reach : MarksGoOn l.records l.fn.marks → MarksReach l.records l.marks l.next;
+  reach : MarksGoOn l.records.items l.fn.marks → MarksReach l.records.items l.marks l.next;
 }
 
 -- the rest of the way
 abbrev pub decreases-loop-next : goal.decreases-loop-next
-decreases-loop-next l = length (numbers_of l.records l.next)
+decreases-loop-next l = length (numbers_of l.records.items l.next)
