@@ -43,8 +43,10 @@ pub mod ComplementEvents
 pub mod JoinedNames
 -- lines and the events between them, one by one
 pub mod LineEvents
--- the lines at each vertex give the events
+-- the earlier lines at each vertex give the edges
 pub mod LineLists
+-- the lines that begin at one vertex, as a run, give the arcs
+pub mod LineRuns
 -- the lines of a graph of edges
 pub mod EdgeLines
 -- the copies of the vertices, in order and apart

@@ -1,14 +1,13 @@
 -- The lines of a graph and the events between them, as they are found one by one.
-use Rattle.std.proofs.Common.{◌≡◌, ◌<◌, ◌≤◌, ◌+◌, ℕ, zero, suc, pos, Bool, true, false, List, [], ◌∷◌, ◌++◌, map, reverse, length, sym, ap, subst, ◌∙◌, arith}
-use Rattle.std.specs.Prelude.{All, filter, flat_map}
+use Rattle.std.proofs.Common.{◌≡◌, ◌<◌, ◌≤◌, ◌+◌, ℕ, zero, suc, Bool, List, [], ◌∷◌, ◌++◌, map, reverse, length, sym, ap, subst, ◌∙◌, arith}
+use Rattle.std.specs.Prelude.{All, flat_map}
 use Rattle.std.specs.List.{range_with_len, enumerate_from}
-use Rattle.std.proofs.lemmas.List.{reverse-append, length-take-le}
-use Rattle.std.proofs.lemmas.List.Elements.{All-nil, All-cons, All-append, All-filter, All-map}
+use Rattle.std.proofs.lemmas.List.{reverse-append}
+use Rattle.std.proofs.lemmas.List.Elements.{All-nil, All-cons, All-append, All-map}
 use Rattle.sgb_graph.specs.Graphs.{GraphData}
-use Rattle.sgb_graph.specs.Events.{Event, IsWithin}
+use Rattle.sgb_graph.specs.Events.{Event}
 use Rattle.sgb_graph.specs.Growth.{IsKept}
-use Rattle.sgb_ops.specs.inner.Ends.{AllWithin}
-use Rattle.sgb_ops.specs.Lines.{events_to, line_events, line_of, lines_for, lines_of_graph, meets}
+use Rattle.sgb_ops.specs.Lines.{events_to, line_of, lines_for, lines_of_graph}
 use Rattle.sgb_ops.specs.inner.Lines.{LineWithin}
 use Rattle.sgb_ops.specs.Operands.{order_of}
 use Rattle.sgb_ops.specs.Taken.{taken}
@@ -54,34 +53,11 @@ pub lines_within : (g : GraphData) (directed : Bool) → IsKept g → All (LineW
 lines_within g directed kept = lines_below_within g directed (order_of g) kept (omega arith)
 
 -- the numbers of lines that have those from j on
-numbers_below : (n j : ℕ) (others : List Line) → j + length others ≤ n → All (λ (q : ℕ × Line). q.0 < n) (enumerate_from j others)
+pub numbers_below : (n j : ℕ) (others : List Line) → j + length others ≤ n → All (λ (q : ℕ × Line). q.0 < n) (enumerate_from j others)
 numbers_below n j [] few = All-nil (λ (q : ℕ × Line). q.0 < n)
 numbers_below n j (other ∷ others) few =
     All-cons (λ (q : ℕ × Line). q.0 < n) (j, other) (enumerate_from (j + 1) others) (omega (arith, few)) (numbers_below n (j + 1) others (omega (arith, few)))
 
--- the ends of the events from a line are numbers of lines
-events_to_within : (n : ℕ) (directed : Bool) (i : ℕ) (line : Line) (others : List Line) → i < n → length others ≤ n → AllWithin n (events_to directed i line others)
-events_to_within n directed i line others here few =
-    let met = λ (q : ℕ × Line). meets directed line q.1 in
-    let below = All-filter met (λ (q : ℕ × Line). q.0 < n) (enumerate_from 0 others) (numbers_below n 0 others (omega (arith, few))) in
-    All-map (IsWithin n) (λ (q : ℕ × Line). record { from = i; to = q.0; len = pos 1 }) (filter met (enumerate_from 0 others)) (λ k d h. (here, below k d h))
-
 -- the events from the lines that are left, which have the numbers from i on
 abbrev pub events_from : Bool → List Line → ℕ → List Line → List Event
 events_from directed lines i left = flat_map (λ p. events_to directed p.0 p.1 (lines_for directed lines p.0)) (enumerate_from i left)
-
-few_for : (directed : Bool) (lines : List Line) (i : ℕ) → i ≤ length lines → length (lines_for directed lines i) ≤ length lines
-few_for true lines i within = omega arith
-few_for false lines i within = let some = length-take-le i lines within in omega (arith, some, within)
-
-events_from_within : (directed : Bool) (lines : List Line) (i : ℕ) (left : List Line) → i + length left ≤ length lines
-    → AllWithin (length lines) (events_from directed lines i left)
-events_from_within directed lines i [] few = All-nil (IsWithin (length lines))
-events_from_within directed lines i (line ∷ left) few =
-    let some = few_for directed lines i (omega (arith, few)) in
-    All-append (IsWithin (length lines)) (events_to directed i line (lines_for directed lines i)) (events_from directed lines (i + 1) left)
-    (events_to_within (length lines) directed i line (lines_for directed lines i) (omega (arith, few)) (omega (arith, some)))
-    (events_from_within directed lines (i + 1) left (omega (arith, few)))
-
-pub line_events_within : (directed : Bool) (lines : List Line) → AllWithin (length lines) (line_events directed lines)
-line_events_within directed lines = events_from_within directed lines 0 lines (omega arith)

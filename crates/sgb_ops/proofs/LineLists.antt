@@ -1,33 +1,24 @@
--- The lines at each vertex: the events to them are those of the line graph.
-use Rattle.std.proofs.Common.{◌≡◌, ◌<◌, ◌≤◌, ◌+◌, ◌-◌, ◌==◌, ℕ, zero, suc, pos, Bool, true, false, not, ◌&&◌, ◌||◌, cond, nat_lt, List, [], ◌∷◌, ◌++◌, map, take, length, refl, sym, ap, subst, ◌∙◌, inl, inr, arith}
-use Rattle.std.specs.Prelude.{All, filter, if◌then◌else◌, slice_index_or}
+-- The earlier lines at each vertex: the edges to them are those of the line graph. And the lines come from the last vertex down.
+use Rattle.std.proofs.Common.{◌≡◌, ◌≢◌, ◌<◌, ◌≤◌, ◌+◌, ◌==◌, ℕ, zero, suc, pos, Bool, true, false, not, ◌&&◌, ◌||◌, cond, List, [], ◌∷◌, ◌++◌, map, take, length, set, get_or, Vec, Global, append-nil, refl, sym, ap, subst, ◌∙◌, inl, inr, arith}
+use Rattle.std.specs.Prelude.{All, filter, if◌then◌else◌, slice_index_or, slice_set}
 use Rattle.std.specs.List.{enumerate_from}
-use Rattle.std.proofs.lemmas.Bool.{cases_eq, cases_lt, eq-eqb, eqb-true, ne_eqb, lt-ltb, le-ltb}
-use Rattle.std.proofs.lemmas.List.{map-append}
+use Rattle.std.proofs.lemmas.Bool.{cases_eq, eq-eqb, eqb-true, ne_eqb}
+use Rattle.std.proofs.lemmas.List.{map-append, take_more, length-take-le, get_or-take, get_or_default, get_or-set_same, get_or-set_other, map-set, length-map, get_or-map}
+use Rattle.std.proofs.lemmas.List.Elements.{All-nil, All-head, All-tail, All-append, All-map, All-filter, All-weaker}
+use Rattle.std.proofs.lemmas.List.FromFn.{length-enumerate_from, get_or-enumerate_from}
 use Rattle.std.proofs.Math.Bool.{and-false, and-true}
-use Rattle.std.proofs.Math.Seq.{take-nil}
-use Rattle.sgb_vec.proofs.Lists.{same_tests}
-use Rattle.sgb_ops.proofs.PlainLists.{filter-all}
-use Rattle.sgb_ops.specs.Lines.{events_to, line_of, lines_for, lines_of_graph, share_vertex}
-use Rattle.std.proofs.lemmas.List.Elements.{All-head, All-tail}
-use Rattle.std.proofs.Common.{Vec, Global, ◌≢◌, set, get_or, append-nil}
-use Rattle.std.specs.Prelude.{slice_set}
-use Rattle.std.proofs.lemmas.List.{get_or-set_same, get_or-set_other, map-set, length-map, get_or-map}
+use Rattle.sgb_vec.proofs.Lists.{made-append, same_tests}
 use Rattle.sgb_graph.specs.Graphs.{GraphData, chain_of}
 use Rattle.sgb_graph.specs.declared.fields.Link.{Link}
+use Rattle.sgb_ops.specs.Lines.{events_to, line_of, lines_of_graph, share_vertex}
 use Rattle.sgb_ops.specs.Operands.{order_of}
 use Rattle.sgb_ops.specs.Taken.{taken}
-use Rattle.sgb_ops.proofs.Taking.{each_edge_once_leads_up}
-use Rattle.sgb_ops.proofs.LineEvents.{lines_below, lines_below-more}
-use Rattle.sgb_ops.specs.inner.LineLists.{list_at, FallFrom, counts, events_of_numbers, events_to_listed, touches, touching}
+use Rattle.sgb_ops.specs.inner.Lines.{DescendFrom, LeadsUp, events_to_numbers, no_line}
+use Rattle.sgb_ops.specs.inner.LineLists.{counts, list_at, numbers_at, touches, touching}
 use Rattle.sgb_ops.specs.declared.line_graphs.Line.{Line}
-
--- directed, all lines at the end of a line are those that it meets
-pub directed_events : (lines : List Line) (i : ℕ) (line : Line)
-    → events_to_listed false false i line (touching true line.to 0 lines) ≡ events_to true i line (lines_for true lines i)
-directed_events lines i line =
-    let met = touching true line.to 0 lines in
-    ap (events_of_numbers i) (filter-all (counts false false i line) met (λ k d h. refl))
+use Rattle.sgb_ops.proofs.LineEvents.{lines_at, lines_below, lines_below-more, numbers_below}
+use Rattle.sgb_ops.proofs.LineRuns.{events_of_places}
+use Rattle.sgb_ops.proofs.Taking.{each_edge_once_leads_up}
 
 -- the lines before a place fall to where the line there begins
 abbrev pub FallTo : ℕ → List Line → ℕ → Type 0
@@ -38,50 +29,39 @@ low_below : (top : ℕ) (lines : List Line) (low : ℕ) → FallTo top lines low
 low_below top [] low falls = falls
 low_below top (line ∷ lines) low falls = omega (arith, falls.0, falls.2)
 
-pub fall_to : (top : ℕ) (lines : List Line) (i : ℕ) (d : Line) → i < length lines → FallFrom top lines → FallTo top (take i lines) (slice_index_or lines i d).from
-fall_to top [] i d within falls = absurd (omega (arith, within))
-fall_to top (line ∷ lines) zero d within falls = falls.0
-fall_to top (line ∷ lines) (suc i) d within falls =
-    let rest = fall_to line.from lines i d (omega (arith, within)) falls.2 in
-    (falls.0, falls.1, low_below line.from (take i lines) _ rest, rest)
+fall_to : (top : ℕ) (lines : List Line) (i : ℕ) (d : Line) → i < length lines → DescendFrom top lines → All LeadsUp lines → FallTo top (take i lines) (slice_index_or lines i d).from
+fall_to top [] i d within descend up = absurd (omega (arith, within))
+fall_to top (line ∷ lines) zero d within descend up = descend.0
+fall_to top (line ∷ lines) (suc i) d within descend up =
+    let rest = fall_to line.from lines i d (omega (arith, within)) descend.1 (All-tail LeadsUp line lines up) in
+    (descend.0, All-head LeadsUp line lines up, low_below line.from (take i lines) _ rest, rest)
 
--- of the lines from number k on none comes before number i
-none_before : (r p : Line → Bool) (i k : ℕ) (lines : List Line) → i ≤ k
-    → filter (λ q. nat_lt q.0 i && p q.1) (filter (λ q. r q.1) (enumerate_from k lines)) ≡ []
-none_before r p i k [] past = refl
-none_before r p i k (line ∷ lines) past =
-    let is = le-ltb k i past in
-    let next = none_before r p i (k + 1) lines (omega (arith, past)) in
-    let rest = filter (λ q. r q.1) (enumerate_from (k + 1) lines) in
-    elim (r line) as (λ b. filter (λ q. nat_lt q.0 i && p q.1) (cond b ((k, line) ∷ rest) rest) ≡ []) [
-      | true ↦ rw is next
+-- the numbers of those that pass a test of lines, where the test of numbers tells the same
+kept : (r pass : Line → Bool) (test : ℕ → Bool) (qs : List (ℕ × Line)) → All (λ q. test q.0 ≡ pass q.1) qs
+    → filter test (map (λ q. q.0) (filter (λ q. r q.1) qs)) ≡ map (λ q. q.0) (filter (λ q. r q.1 && pass q.1) qs)
+kept r pass test [] same = refl
+kept r pass test (q ∷ qs) same =
+    let next = kept r pass test qs (All-tail (λ (p : ℕ × Line). test p.0 ≡ pass p.1) q qs same) in
+    let here : test q.0 ≡ pass q.1 = All-head (λ (p : ℕ × Line). test p.0 ≡ pass p.1) q qs same in
+    let rest = filter (λ p. r p.1) qs in
+    let left = filter (λ p. r p.1 && pass p.1) qs in
+    elim (r q.1) as (λ b. filter test (map (λ p. p.0) (cond b (q ∷ rest) rest)) ≡ map (λ p. p.0) (cond (b && pass q.1) (q ∷ left) left)) [
+      | true ↦ rw here (elim (pass q.1) as (λ c. cond c (q.0 ∷ filter test (map (λ p. p.0) rest)) (filter test (map (λ p. p.0) rest)) ≡ map (λ p. p.0) (cond c (q ∷ left) left)) [
+        | true ↦ ap (λ (ks : List ℕ). q.0 ∷ ks) next
+        | false ↦ next
+      ])
       | false ↦ next
     ]
 
--- of the lines from number k on those before number i that pass two tests
-cut : (r p : Line → Bool) (i k : ℕ) (lines : List Line)
-    → filter (λ q. nat_lt q.0 i && p q.1) (filter (λ q. r q.1) (enumerate_from k lines)) ≡ filter (λ q. r q.1 && p q.1) (enumerate_from k (take (i - k) lines))
-cut r p i k [] = sym (ap (λ ls. filter (λ q. r q.1 && p q.1) (enumerate_from k ls)) (take-nil (i - k)))
-cut r p i k (line ∷ lines) = elim (cases_lt k i) [
-  | inl before ↦
-      let count : i - k ≡ suc (i - (k + 1)) = omega (arith, before) in
-      let is = lt-ltb k i before in
-      let next = cut r p i (k + 1) lines in
-      let rest = filter (λ q. r q.1) (enumerate_from (k + 1) lines) in
-      let left = filter (λ q. r q.1 && p q.1) (enumerate_from (k + 1) (take (i - (k + 1)) lines)) in
-      (elim (r line) as (λ b. filter (λ q. nat_lt q.0 i && p q.1) (cond b ((k, line) ∷ rest) rest) ≡ cond (b && p line) ((k, line) ∷ left) left) [
-        | true ↦ rw is (elim (p line) as (λ c. cond c ((k, line) ∷ filter (λ q. nat_lt q.0 i && p q.1) rest) (filter (λ q. nat_lt q.0 i && p q.1) rest) ≡ cond c ((k, line) ∷ left) left) [
-          | true ↦ ap (λ qs. (k, line) ∷ qs) next
-          | false ↦ next
-        ])
-        | false ↦ next
-      ])
-      ∙ ap (λ (n : ℕ). filter (λ q. r q.1 && p q.1) (enumerate_from k (take n (line ∷ lines)))) (sym count)
-  | inr past ↦
-      let count : i - k ≡ 0 = omega (arith, past) in
-      none_before r p i k (line ∷ lines) past
-      ∙ ap (λ (n : ℕ). filter (λ q. r q.1 && p q.1) (enumerate_from k (take n (line ∷ lines)))) (sym count)
-]
+-- a line is found by its number
+by_number : (lines : List Line) (i : ℕ) → i ≤ length lines → All (λ (q : ℕ × Line). slice_index_or lines q.0 no_line ≡ q.1) (enumerate_from 0 (take i lines))
+by_number lines i within = λ k d below.
+    let size = length-take-le i lines within in
+    let many = length-enumerate_from 0 (take i lines) in
+    let early : k < i = omega (arith, below, size, many) in
+    let at = get_or-enumerate_from 0 (take i lines) k d (omega (arith, below, many)) in
+    let place : 0 + k ≡ k = omega arith in
+    subst (λ (q : ℕ × Line). slice_index_or lines q.0 no_line ≡ q.1) (sym at) (ap (λ (j : ℕ). slice_index_or lines j no_line) place ∙ (get_or_default lines k no_line d.1 (omega (arith, early, within)) ∙ sym (get_or-take i lines k d.1 early)))
 
 -- lines that begin at one vertex
 all_pass : (f : ℕ) (test : Line → Bool) → ((x : Line) → x.from ≡ f → test x ≡ true) → (k : ℕ) (lines : List Line) → FallTo f lines f
@@ -102,10 +82,10 @@ none_pass f test fails k (line ∷ lines) falls =
 
 -- at its end, and beginning elsewhere; at its beginning
 abbrev at_end : Line → Line → Bool
-at_end line x = touches false line.to x && not (x.from == line.from)
+at_end line x = touches line.to x && not (x.from == line.from)
 
 abbrev at_beginning : Line → Line → Bool
-at_beginning line x = touches false line.from x && true
+at_beginning line x = touches line.from x && true
 
 same_eq : (a b : ℕ) → (a == b) ≡ (b == a)
 same_eq a b = same_tests (a == b) (b == a) (λ e. eq-eqb b a (sym (eqb-true a b e))) (λ e. eq-eqb a b (sym (eqb-true b a e)))
@@ -125,7 +105,7 @@ split line top k (x ∷ lines) falls = elim (cases_eq x.from line.from) [
       let f = line.from in
       let now : FallTo f (x ∷ lines) f = (omega (arith, same), falls.1, falls.2, falls.3) in
       let all = all_pass f (share_vertex line) (λ y e. rw (eq-eqb line.from y.from (sym e)) refl) k (x ∷ lines) now in
-      let first = none_pass f (at_end line) (λ y e. rw (eq-eqb y.from line.from e) (and-false (touches false line.to y))) k (x ∷ lines) now in
+      let first = none_pass f (at_end line) (λ y e. rw (eq-eqb y.from line.from e) (and-false (touches line.to y))) k (x ∷ lines) now in
       let second = all_pass f (at_beginning line) (λ y e. rw (eq-eqb y.from line.from e) refl) k (x ∷ lines) now in
       all ∙ sym (ap (λ qs. qs ++ filter (λ q. at_beginning line q.1) (enumerate_from k (x ∷ lines))) first ∙ second)
   | inr other ↦
@@ -135,73 +115,116 @@ split line top k (x ∷ lines) falls = elim (cases_eq x.from line.from) [
       let far : (line.from == x.to) ≡ false = ne_eqb line.from x.to (λ e. absurd (omega (arith, e, up))) in
       let off_back : (x.from == line.from) ≡ false = ne_eqb x.from line.from other in
       let far_back : (x.to == line.from) ≡ false = ne_eqb x.to line.from (λ e. absurd (omega (arith, e, up))) in
-      let shared : share_vertex line x ≡ touches false line.to x = rw (off, far) (ap (λ b. b || (line.to == x.to)) (same_eq line.to x.from) ∙ ap (λ b. (x.from == line.to) || b) (same_eq line.to x.to)) in
-      let ends : at_end line x ≡ touches false line.to x = ap (λ b. touches false line.to x && not b) off_back ∙ and-true (touches false line.to x) in
+      let shared : share_vertex line x ≡ touches line.to x = rw (off, far) (ap (λ b. b || (line.to == x.to)) (same_eq line.to x.from) ∙ ap (λ b. (x.from == line.to) || b) (same_eq line.to x.to)) in
+      let ends : at_end line x ≡ touches line.to x = ap (λ b. touches line.to x && not b) off_back ∙ and-true (touches line.to x) in
       let begins : at_beginning line x ≡ false = rw (off_back, far_back) refl in
       step (share_vertex line x) (at_end line x) (at_beginning line x) (k, x) _ _ _ (shared ∙ sym ends) begins (split line x.from (k + 1) lines falls.3)
 ]
 
--- undirected, so are those of the events from a line
-pub undirected_events : (top : ℕ) (lines : List Line) (i : ℕ) (line : Line) → FallTo top (take i lines) line.from
-    → events_to_listed true true i line (touching false line.to 0 lines) ++ events_to_listed true false i line (touching false line.from 0 lines)
-    ≡ events_to false i line (lines_for false lines i)
-undirected_events top lines i line falls =
-    let count : i - 0 ≡ i = omega arith in
-    let all = λ (test : Line → Bool). filter (λ q. test q.1) (enumerate_from 0 (take i lines)) in
-    let first : filter (counts true true i line) (touching false line.to 0 lines) ≡ all (at_end line) =
-    cut (touches false line.to) (λ x. not (x.from == line.from)) i 0 lines ∙ ap (λ (n : ℕ). filter (λ q. at_end line q.1) (enumerate_from 0 (take n lines))) count in
-    let second : filter (counts true false i line) (touching false line.from 0 lines) ≡ all (at_beginning line) =
-    cut (touches false line.from) (λ x. true) i 0 lines ∙ ap (λ (n : ℕ). filter (λ q. at_beginning line q.1) (enumerate_from 0 (take n lines))) count in
-    ap (λ qs. events_of_numbers i qs ++ events_to_listed true false i line (touching false line.from 0 lines)) first
-    ∙ (ap (λ qs. events_of_numbers i (all (at_end line)) ++ events_of_numbers i qs) second
+-- the event to the first number, where it counts
+pub first_counted : (i j : ℕ) (b : Bool) (rest : List ℕ) → events_to_numbers i (cond b (j ∷ rest) rest) ≡ events_to_numbers i (if b then j ∷ [] else []) ++ events_to_numbers i rest
+first_counted i j true rest = refl
+first_counted i j false rest = refl
+
+-- the edges from a line, found by lists
+pub edges_at : (top : ℕ) (lines : List Line) (i : ℕ) (line : Line) → i < length lines → line ≡ slice_index_or lines i no_line
+    → DescendFrom top lines → All LeadsUp lines
+    → events_to_numbers i (filter (counts true lines i) (numbers_at line.to (take i lines))) ++ events_to_numbers i (filter (counts false lines i) (numbers_at line.from (take i lines)))
+    ≡ events_to false i line (take i lines)
+edges_at top lines i line within is descend up =
+    let before = take i lines in
+    let falls : FallTo top before line.from = subst (λ l. FallTo top before l.from) (sym is) (fall_to top lines i no_line within descend up) in
+    let all = λ (test : Line → Bool). filter (λ q. test q.1) (enumerate_from 0 before) in
+    let start = ap (λ (l : Line). l.from) is in
+    let elsewhere = All-weaker (λ (q : ℕ × Line). slice_index_or lines q.0 no_line ≡ q.1) (λ (q : ℕ × Line). counts true lines i q.0 ≡ not (q.1.from == line.from)) (λ (q : ℕ × Line) e. ap (λ (l : Line). not (l.from == (slice_index_or lines i no_line).from)) e ∙ ap (λ (v : ℕ). not (q.1.from == v)) (sym start)) (enumerate_from 0 before) (by_number lines i (omega (arith, within))) in
+    let first = kept (touches line.to) (λ x. not (x.from == line.from)) (counts true lines i) (enumerate_from 0 before) elsewhere in
+    let second = kept (touches line.from) (λ x. true) (counts false lines i) (enumerate_from 0 before) (λ k d below. refl) in
+    ap (λ ks. events_to_numbers i ks ++ events_to_numbers i (filter (counts false lines i) (numbers_at line.from before))) first
+    ∙ (ap (λ ks. events_to_numbers i (map (λ q. q.0) (all (at_end line))) ++ events_to_numbers i ks) second
+    ∙ (ap (λ es. es ++ events_to_numbers i (map (λ q. q.0) (all (at_beginning line)))) (events_of_places i (all (at_end line)))
+    ∙ (ap (λ es. map (λ q. record { from = i; to = q.0; len = pos 1 }) (all (at_end line)) ++ es) (events_of_places i (all (at_beginning line)))
     ∙ (sym (map-append (λ (q : ℕ × Line). record { from = i; to = q.0; len = pos 1 }) (all (at_end line)) (all (at_beginning line)))
-    ∙ ap (events_of_numbers i) (sym (split line top 0 (take i lines) falls))))
+    ∙ ap (map (λ q. record { from = i; to = q.0; len = pos 1 })) (sym (split line top 0 before falls))))))
 
--- the events from a line, found by lists
-pub line_events_at : (directed : Bool) (top : ℕ) (lines : List Line) (i : ℕ) (d : Line) (lists : List (Vec (ℕ × Line) Global)) → i < length lines
-    → (directed ≡ false → FallFrom top lines) → ((w : ℕ) → list_at lists w ≡ touching directed w 0 lines)
-    → (if directed then events_to_listed false false i (slice_index_or lines i d) (list_at lists (slice_index_or lines i d).to)
-    else events_to_listed true true i (slice_index_or lines i d) (list_at lists (slice_index_or lines i d).to) ++ events_to_listed true false i (slice_index_or lines i d) (list_at lists (slice_index_or lines i d).from))
-    ≡ events_to directed i (slice_index_or lines i d) (lines_for directed lines i)
-line_events_at true top lines i d lists within falls are =
-    let line = slice_index_or lines i d in
-    ap (events_to_listed false false i line) (are line.to) ∙ directed_events lines i line
-line_events_at false top lines i d lists within falls are =
-    let line = slice_index_or lines i d in
-    ap (λ ps. events_to_listed true true i line ps ++ events_to_listed true false i line (list_at lists line.from)) (are line.to)
-    ∙ (ap (λ ps. events_to_listed true true i line (touching false line.to 0 lines) ++ events_to_listed true false i line ps) (are line.from)
-    ∙ undirected_events top lines i line (fall_to top lines i d within (falls refl)))
+-- the lines of a graph descend
+descend_higher : (low high : ℕ) (lines : List Line) → low ≤ high → DescendFrom low lines → DescendFrom high lines
+descend_higher low high [] h descend = tt
+descend_higher low high (line ∷ lines) h descend = (omega (arith, h, descend.0), descend.1)
 
--- the lines of a graph fall
-fall_higher : (low high : ℕ) (lines : List Line) → low ≤ high → FallFrom low lines → FallFrom high lines
-fall_higher low high [] h falls = tt
-fall_higher low high (line ∷ lines) h falls = (omega (arith, h, falls.0), falls.1, falls.2)
+descend_on : (v top : ℕ) (links : List Link) (lines : List Line) → v ≤ top → DescendFrom v lines → DescendFrom top (map (line_of v) links ++ lines)
+descend_on v top [] lines h descend = descend_higher v top lines h descend
+descend_on v top (l ∷ links) lines h descend = (h, descend_on v v links lines (omega arith) descend)
 
-fall_on : (v top : ℕ) (links : List Link) (lines : List Line) → v ≤ top → All (λ l. v ≤ l.tip) links → FallFrom v lines → FallFrom top (map (line_of v) links ++ lines)
-fall_on v top [] lines h up falls = fall_higher v top lines h falls
-fall_on v top (l ∷ links) lines h up falls =
-    (h, All-head (λ k. v ≤ k.tip) l links up, fall_on v v links lines (omega arith) (All-tail (λ k. v ≤ k.tip) l links up) falls)
-
-below_fall : (g : GraphData) (k : ℕ) → FallFrom k (lines_below g false k)
-below_fall g zero = tt
-below_fall g (suc k) =
+below_descend : (g : GraphData) (directed : Bool) (k : ℕ) → DescendFrom k (lines_below g directed k)
+below_descend g directed zero = tt
+below_descend g directed (suc k) =
     let next : suc k ≡ k + 1 = omega arith in
-    subst (FallFrom (suc k)) (sym (ap (lines_below g false) next ∙ lines_below-more g false k))
-    (fall_on k (suc k) (taken false g k) (lines_below g false k) (omega arith) (each_edge_once_leads_up k (chain_of g k)) (below_fall g k))
+    subst (DescendFrom (suc k)) (sym (ap (lines_below g directed) next ∙ lines_below-more g directed k))
+    (descend_on k (suc k) (taken directed g k) (lines_below g directed k) (omega arith) (below_descend g directed k))
 
-pub lines_fall : (g : GraphData) (directed : Bool) → directed ≡ false → FallFrom (order_of g) (lines_of_graph g directed)
-lines_fall g directed e = subst (λ b. FallFrom (order_of g) (lines_of_graph g b)) (sym e) (below_fall g (order_of g))
+pub lines_descend : (g : GraphData) (directed : Bool) → DescendFrom (order_of g) (lines_of_graph g directed)
+lines_descend g directed = below_descend g directed (order_of g)
+
+-- undirected, they lead up
+below_lead_up : (g : GraphData) (k : ℕ) → All LeadsUp (lines_below g false k)
+below_lead_up g zero = All-nil LeadsUp
+below_lead_up g (suc k) =
+    let next : suc k ≡ k + 1 = omega arith in
+    subst (All LeadsUp) (sym (ap (lines_below g false) next ∙ lines_below-more g false k))
+    (All-append LeadsUp (lines_at g false k) (lines_below g false k)
+    (All-map LeadsUp (line_of k) (taken false g k) (each_edge_once_leads_up k (chain_of g k)))
+    (below_lead_up g k))
+
+pub lines_lead_up : (g : GraphData) (directed : Bool) → directed ≡ false → All LeadsUp (lines_of_graph g directed)
+lines_lead_up g directed e = subst (λ b. All LeadsUp (lines_of_graph g b)) (sym e) (below_lead_up g (order_of g))
+
+-- one line more at a vertex
+numbered_more : (k : ℕ) (lines : List Line) (line : Line) → enumerate_from k (lines ++ line ∷ []) ≡ enumerate_from k lines ++ (k + length lines, line) ∷ []
+numbered_more k [] line =
+    let place : k ≡ k + 0 = omega arith in
+    ap (λ (j : ℕ). (j, line) ∷ []) place
+numbered_more k (x ∷ lines) line =
+    let place : k + 1 + length lines ≡ k + suc (length lines) = omega arith in
+    ap (λ qs. (k, x) ∷ qs) (numbered_more (k + 1) lines line ∙ ap (λ (j : ℕ). enumerate_from (k + 1) lines ++ (j, line) ∷ []) place)
+
+pub numbers_more : (w i : ℕ) (lines : List Line) (line : Line) → i < length lines → line ≡ slice_index_or lines i no_line
+    → numbers_at w (take (i + 1) lines) ≡ numbers_at w (take i lines) ++ (if touches w line then i ∷ [] else [])
+numbers_more w i lines line within is =
+    let before = take i lines in
+    let here : 0 + length before ≡ i = omega (arith, length-take-le i lines (omega (arith, within))) in
+    let more : take (i + 1) lines ≡ before ++ line ∷ [] = take_more lines i no_line within ∙ ap (λ l. before ++ l ∷ []) (sym is) in
+    let numbered = ap (enumerate_from 0) more ∙ (numbered_more 0 before line ∙ ap (λ (j : ℕ). enumerate_from 0 before ++ (j, line) ∷ []) here) in
+    ap (λ qs. map (λ q. q.0) (filter (λ q. touches w q.1) qs)) numbered
+    ∙ (made-append (λ (q : ℕ × Line). touches w q.1) (λ q. q.0) (enumerate_from 0 before) ((i, line) ∷ [])
+    ∙ ap (λ ks. numbers_at w before ++ ks) (by_test (touches w line)))
+  where
+    by_test : (b : Bool) → map (λ (q : ℕ × Line). q.0) (cond b ((i, line) ∷ []) []) ≡ cond b (i ∷ []) []
+    by_test true = refl
+    by_test false = refl
+
+-- the numbers are those of the lines before
+pub numbers_within : (w i : ℕ) (lines : List Line) → i ≤ length lines → All (λ j. j < length lines) (numbers_at w (take i lines))
+numbers_within w i lines within =
+    let size = length-take-le i lines within in
+    let below = numbers_below (length lines) 0 (take i lines) (omega (arith, size, within)) in
+    All-map (λ j. j < length lines) (λ (q : ℕ × Line). q.0) (touching w 0 (take i lines)) (All-filter (λ (q : ℕ × Line). touches w q.1) (λ (q : ℕ × Line). q.0 < length lines) (enumerate_from 0 (take i lines)) below)
+
+-- what stands in one of the lists
+pub listed : (lists : List (Vec ℕ Global)) (w : ℕ) (at : Vec ℕ Global) (numbers : List ℕ) → w < length lists → at ≡ slice_index_or lists w at → list_at lists w ≡ numbers → at.items ≡ numbers
+listed lists w at numbers within value is =
+    let items = λ (v : Vec ℕ Global). v.items in
+    ap items value ∙ (sym (get_or-map items lists w at [] within) ∙ is)
 
 -- a line more on one of the lists
-pub one_listed : (lists : List (Vec (ℕ × Line) Global)) (w : ℕ) (was new : Vec (ℕ × Line) Global) (entry : ℕ × Line) (u : ℕ) → w < length lists
+pub one_listed : (lists : List (Vec ℕ Global)) (w : ℕ) (was new : Vec ℕ Global) (entry : ℕ) (u : ℕ) → w < length lists
     → was ≡ slice_index_or lists w was → new.items ≡ was.items ++ entry ∷ []
     → list_at (slice_set lists w new) u ≡ list_at lists u ++ (if w == u then entry ∷ [] else [])
 one_listed lists w was new entry u within value grown =
-    let items = λ (v : Vec (ℕ × Line) Global). v.items in
+    let items = λ (v : Vec ℕ Global). v.items in
     let all = map items lists in
     let size : w < length all = omega (arith, within, length-map lists items) in
     let old : get_or all w [] ≡ was.items = get_or-map items lists w was [] within ∙ ap items (sym value) in
-    let set_in = ap (λ (xs : List (List (ℕ × Line))). get_or xs u []) (map-set items lists w new) in
+    let set_in = ap (λ (xs : List (List ℕ)). get_or xs u []) (map-set items lists w new) in
     elim (cases_eq w u) [
       | inl e ↦
           let here = get_or-set_same all w new.items [] size in

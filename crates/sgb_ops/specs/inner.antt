@@ -3,9 +3,11 @@
 pub mod Copies
 -- the ends of events, and events merged one by one
 pub mod Ends
--- the lines at each vertex
+-- the earlier lines at each vertex
 pub mod LineLists
--- a line between vertices of a graph
+-- how many lines begin at a vertex, and there or later
+pub mod LineRuns
+-- lines between vertices of a graph, and the events to them
 pub mod Lines
 -- events no two of which have the same ends
 pub mod Merged

@@ -1,18 +1,18 @@
 //! The line graph of a graph, which has a vertex for each arc or edge (GB_BASIC, lines).
-ghost use Rattle.std.specs.Prelude.{◌≡◌, ℕ, true, false, ◌≤◌, ◌<◌, ◌+◌, ◌++◌, ◌==◌, ◌&&◌, [], ◌∷◌, Ok, Err, pos, length, map, All, OnOk, IfOk, IfErr, IsOkUnless, if◌then◌else◌};
-ghost use Rattle.std.specs.List.{list_all};
+ghost use Rattle.std.specs.Prelude.{◌≡◌, ℕ, true, false, ◌≤◌, ◌<◌, ◌+◌, ◌-◌, ◌++◌, ◌==◌, ◌&&◌, [], ◌∷◌, Ok, Err, length, map, filter, take, slice_index, slice_index_or, All, OnOk, IfOk, IfErr, IsOkUnless, if◌then◌else◌};
+ghost use Rattle.std.specs.List.{list_all, range_with_len};
 ghost use Rattle.sgb_vec.specs.Limits.{most_vertices};
 ghost use Rattle.sgb_graph.specs.Descriptions.{IsAnswerOf, IsGraphOf};
 ghost use Rattle.sgb_graph.specs.Made.{plain};
-ghost use Rattle.sgb_ops.specs.inner.Ends.{AllWithin};
-ghost use Rattle.sgb_ops.specs.Lines.{accepted_lines, has_way_back, is_of_edges, line_events, line_graph_of, line_of, lines_id, lines_of_graph, names_of_lines, points_to};
-ghost use Rattle.sgb_ops.specs.inner.Lines.{LineWithin};
-ghost use Rattle.sgb_ops.specs.inner.LineLists.{FallFrom, counts, events_to_listed, list_at, touches, touching};
+ghost use Rattle.sgb_graph.specs.Growth.{AddsEvents, HasPlainArcs};
+ghost use Rattle.sgb_ops.specs.Lines.{accepted_lines, events_to, has_way_back, is_of_edges, line_events, line_graph_of, line_of, lines_id, lines_of_graph, names_of_lines, points_to};
+ghost use Rattle.sgb_ops.specs.inner.Lines.{DescendFrom, LeadsUp, LineWithin, events_to_numbers, no_line};
+ghost use Rattle.sgb_ops.specs.inner.LineLists.{counts, list_at, numbers_at, touches};
+ghost use Rattle.sgb_ops.specs.inner.LineRuns.{begin_at, begin_from};
 ghost use Rattle.sgb_ops.specs.Operands.{name_at};
 ghost use Rattle.sgb_ops.specs.Taken.{taken};
 ghost use Rattle.sgb_ops.specs.Titles.{line_name, line_sign};
 
-use crate::events::{Event, graph_of};
 use crate::taken::taken;
 use crate::titles::{flag_byte, joined_name};
 use sgb_graph::{Graph, Id, Names, Ref, compound_id};
@@ -58,15 +58,18 @@ fn graph_of_lines(
 ) -> Result<Graph, Panic>
     requires few { length lines.now ≤ most_vertices }
     requires within { All (LineWithin (length graph.now.vertices)) lines.now }
-    requires falling { directed ≡ false → FallFrom (length graph.now.vertices) lines.now }
+    requires descending { DescendFrom (length graph.now.vertices) lines.now }
+    requires up { directed ≡ false → All LeadsUp lines.now }
     ensures ok { IfOk result (λ g. IsGraphOf
         (plain directed (line_events directed lines.now)
         (names_of_lines graph.now directed lines.now) (lines_id graph.now.id directed)) g) }
     ensures memory { IsOkUnless result Panic.NoRoom }
 {
-    let events = line_events(alloc, graph.n(), directed, lines)?;
     let names = names_of_lines(alloc, graph, directed, lines)?;
-    graph_of(alloc, directed, &events, names, title(graph.id(), directed))
+    let mut built = Graph::new(alloc, names)?;
+    add_line_events(&mut built, alloc, graph.n(), directed, lines)?;
+    built.set_id(title(graph.id(), directed));
+    Ok(built)
 }
 
 // The id of the result, made from the operand's.
@@ -81,8 +84,9 @@ fn lines_of_graph(alloc: Global, graph: &Graph, directed: bool) -> Result<Vec<Li
     ensures ok { IfOk result (λ lines. lines.items ≡ lines_of_graph graph.now directed) }
     ensures within { IfOk result (λ lines. All (LineWithin (length graph.now.vertices))
         lines.items) }
-    ensures falling { directed ≡ false
-        → IfOk result (λ lines. FallFrom (length graph.now.vertices) lines.items) }
+    ensures descending { IfOk result (λ lines. DescendFrom (length graph.now.vertices)
+        lines.items) }
+    ensures up { directed ≡ false → IfOk result (λ lines. All LeadsUp lines.items) }
     ensures memory { IsOkUnless result Panic.NoRoom }
 {
     let mut lines = Vec::new(alloc);
@@ -206,97 +210,190 @@ fn names_of_lines(
     Ok(names)
 }
 
-// The events of the line graph.
-fn line_events(alloc: Global, n: u32, directed: bool, lines: &[Line]) -> Result<Vec<Event>, Panic>
-    requires few { length lines.now ≤ most_vertices }
-    requires within { All (LineWithin n) lines.now }
-    requires falling { directed ≡ false → FallFrom n lines.now }
-    ensures ok { IfOk result (λ events. events.items ≡ line_events directed lines.now) }
-    ensures within { IfOk result (λ events. AllWithin (length lines.now) events.items) }
-    ensures memory { IsOkUnless result Panic.NoRoom }
-{
-    let lists = line_lists(alloc, n, directed, lines)?;
-    let mut events = Vec::new(alloc);
-    for (i, line) in lines.iter().enumerate() {
-        push_events(&mut events, directed, i as u32, *line, &lists)?;
-    }
-    Ok(events)
-}
-
-// Appends the events from line number `i`. An undirected one meets earlier lines at its end, but those that begin where
-// it begins, and then those at its beginning: they come later.
-fn push_events(
-    events: &mut Vec<Event>,
-    directed: bool,
-    i: u32,
-    line: Line,
-    lists: &[Vec<(u32, Line)>],
-) -> Result<(), Panic>
-    requires within { LineWithin (length lists.now) line }
-    ensures ok { OnOk result (events.new.items ≡ events.old.items
-        ++ (if directed then events_to_listed false false i line (list_at lists.now line.to)
-        else events_to_listed true true i line (list_at lists.now line.to)
-        ++ events_to_listed true false i line (list_at lists.now line.from))) }
-    ensures memory { IsOkUnless result Panic.NoRoom }
-{
-    let at_end = &lists[line.to as usize];
-    if directed {
-        return push_listed(events, false, false, i, line, at_end);
-    }
-    push_listed(events, true, true, i, line, at_end)?;
-    push_listed(events, true, false, i, line, &lists[line.from as usize])
-}
-
-// Appends the events from line number `i` to those of the list that count.
-fn push_listed(
-    events: &mut Vec<Event>,
-    earlier: bool,
-    elsewhere: bool,
-    i: u32,
-    line: Line,
-    list: &[(u32, Line)],
-) -> Result<(), Panic>
-    ensures ok { OnOk result (events.new.items ≡ events.old.items
-        ++ events_to_listed earlier elsewhere i line list.now) }
-    ensures memory { IsOkUnless result Panic.NoRoom }
-{
-    for other in list {
-        let wanted = counts(earlier, elsewhere, i, line, *other);
-        push_event_if(events, wanted, i, other.0)?;
-    }
-    Ok(())
-}
-
-// Whether the other line counts for line number `i`.
-fn counts(earlier: bool, elsewhere: bool, i: u32, line: Line, other: (u32, Line)) -> bool
-    ensures { result ≡ counts earlier elsewhere i line other }
-{
-    (!earlier || other.0 < i) && (!elsewhere || other.1.from != line.from)
-}
-
-// For each of `n` vertices the lines at it, in order, with their numbers.
-fn line_lists(
+// Adds the events of the line graph. The lines are between `n` vertices, from the last one down.
+fn add_line_events(
+    built: &mut Graph,
     alloc: Global,
     n: u32,
     directed: bool,
     lines: &[Line],
-) -> Result<Vec<Vec<(u32, Line)>>, Panic>
+) -> Result<(), Panic>
+    requires size { length built.old.vertices ≡ length lines.now }
+    requires plain { HasPlainArcs built.old }
     requires few { length lines.now ≤ most_vertices }
     requires within { All (LineWithin n) lines.now }
-    ensures ok { IfOk result (λ lists. (w : ℕ) → list_at lists.items w
-        ≡ touching directed w 0 lines.now) }
-    ensures size { IfOk result (λ lists. length lists.items ≡ n) }
+    requires descending { DescendFrom n lines.now }
+    requires up { directed ≡ false → All LeadsUp lines.now }
+    ensures ok { OnOk result (AddsEvents directed built.old built.new
+        (line_events directed lines.now)) }
     ensures memory { IsOkUnless result Panic.NoRoom }
 {
-    let mut lists = empty_lists(alloc, n)?;
-    for (j, line) in lines.iter().enumerate() {
-        push_line(&mut lists, directed, (j as u32, *line))?;
+    if directed {
+        return add_arcs(built, alloc, n, lines);
     }
-    Ok(lists)
+    add_edges(built, alloc, n, lines)
+}
+
+// Adds the arcs of the line graph: from each line those to the lines that begin where it ends, which are one run.
+fn add_arcs(built: &mut Graph, alloc: Global, n: u32, lines: &[Line]) -> Result<(), Panic>
+    requires size { length built.old.vertices ≡ length lines.now }
+    requires plain { HasPlainArcs built.old }
+    requires few { length lines.now ≤ most_vertices }
+    requires within { All (LineWithin n) lines.now }
+    requires descending { DescendFrom n lines.now }
+    ensures ok { OnOk result (AddsEvents true built.old built.new (line_events true lines.now)) }
+    ensures memory { IsOkUnless result Panic.NoRoom }
+{
+    let ends = run_ends(alloc, n, lines)?;
+    for (i, line) in lines.iter().enumerate() {
+        let w = line.to as usize;
+        add_arcs_to(built, i as u32, ends[w + 1], ends[w])?;
+    }
+    Ok(())
+}
+
+// Adds the arcs from line number `i` to the lines with the numbers from `first` on, before `end`.
+fn add_arcs_to(built: &mut Graph, i: u32, first: u32, end: u32) -> Result<(), Panic>
+    requires line { i < length built.old.vertices }
+    requires others { end ≤ length built.old.vertices }
+    requires plain { HasPlainArcs built.old }
+    ensures ok { OnOk result (AddsEvents true built.old built.new
+        (events_to_numbers i (range_with_len first (end - first)))) }
+    ensures memory { IsOkUnless result Panic.NoRoom }
+{
+    for j in first..end {
+        built.add_event(true, i, j, 1)?;
+    }
+    Ok(())
+}
+
+// For each of `n` vertices, and the number after the last, how many lines begin there or later. Lines from the last vertex
+// down that begin at one vertex are a run, which ends before that number, and begins with that of the next vertex.
+fn run_ends(alloc: Global, n: u32, lines: &[Line]) -> Result<Vec<u32>, Panic>
+    requires few { length lines.now ≤ most_vertices }
+    requires within { All (LineWithin n) lines.now }
+    ensures size { IfOk result (λ ends. length ends.items ≡ n + 1) }
+    ensures ends { IfOk result (λ ends. (w : ℕ) → w ≤ n
+        → slice_index ends.items w ≡ begin_from w lines.now) }
+    ensures memory { IsOkUnless result Panic.NoRoom }
+{
+    let mut ends = counts_of_beginnings(alloc, n, lines)?;
+    for w in (0..n as usize).rev() {
+        ends[w] += ends[w + 1];
+    }
+    Ok(ends)
+}
+
+// For each of `n` vertices how many lines begin there, and a 0 more.
+fn counts_of_beginnings(alloc: Global, n: u32, lines: &[Line]) -> Result<Vec<u32>, Panic>
+    requires few { length lines.now ≤ most_vertices }
+    requires within { All (LineWithin n) lines.now }
+    ensures size { IfOk result (λ counts. length counts.items ≡ n + 1) }
+    ensures counts { IfOk result (λ counts. (w : ℕ) → w ≤ n
+        → slice_index counts.items w ≡ begin_at w lines.now) }
+    ensures memory { IsOkUnless result Panic.NoRoom }
+{
+    let mut counts = vec![in alloc; 0; n as usize + 1]?;
+    for line in lines {
+        counts[line.from as usize] += 1;
+    }
+    Ok(counts)
+}
+
+// Adds the edges of the line graph: from each line those to the earlier lines that it meets.
+fn add_edges(built: &mut Graph, alloc: Global, n: u32, lines: &[Line]) -> Result<(), Panic>
+    requires size { length built.old.vertices ≡ length lines.now }
+    requires plain { HasPlainArcs built.old }
+    requires few { length lines.now ≤ most_vertices }
+    requires within { All (LineWithin n) lines.now }
+    requires descending { DescendFrom n lines.now }
+    requires up { All LeadsUp lines.now }
+    ensures ok { OnOk result (AddsEvents false built.old built.new (line_events false lines.now)) }
+    ensures memory { IsOkUnless result Panic.NoRoom }
+{
+    // For each vertex the numbers of the lines so far that have an end there.
+    let mut lists = empty_lists(alloc, n)?;
+    for (i, line) in lines.iter().enumerate() {
+        add_edges_from(built, lines, i as u32, *line, &lists)?;
+        push_line(&mut lists, i as u32, *line)?;
+    }
+    Ok(())
+}
+
+// Adds the edges from line number `i` to the earlier lines that it meets: first those at its end, but those that begin
+// where it begins, and then those at its beginning, which come later.
+fn add_edges_from(
+    built: &mut Graph,
+    lines: &[Line],
+    i: u32,
+    line: Line,
+    lists: &[Vec<u32>],
+) -> Result<(), Panic>
+    requires size { length built.old.vertices ≡ length lines.now }
+    requires plain { HasPlainArcs built.old }
+    requires place { i < length lines.now }
+    requires line { line ≡ slice_index_or lines.now i no_line }
+    requires within { LineWithin (length lists.now) line }
+    requires descending { DescendFrom (length lists.now) lines.now }
+    requires up { All LeadsUp lines.now }
+    requires listed { (w : ℕ) → list_at lists.now w ≡ numbers_at w (take i lines.now) }
+    ensures ok { OnOk result (AddsEvents false built.old built.new
+        (events_to false i line (take i lines.now))) }
+    ensures memory { IsOkUnless result Panic.NoRoom }
+{
+    add_edges_to(built, lines, i, true, &lists[line.to as usize])?;
+    add_edges_to(built, lines, i, false, &lists[line.from as usize])
+}
+
+// Adds the edges from line number `i` to those of the list, or only to those that begin elsewhere.
+fn add_edges_to(
+    built: &mut Graph,
+    lines: &[Line],
+    i: u32,
+    elsewhere: bool,
+    list: &[u32],
+) -> Result<(), Panic>
+    requires size { length built.old.vertices ≡ length lines.now }
+    requires plain { HasPlainArcs built.old }
+    requires place { i < length lines.now }
+    requires within { All (λ j. j < length lines.now) list.now }
+    ensures ok { OnOk result (AddsEvents false built.old built.new
+        (events_to_numbers i (filter (counts elsewhere lines.now i) list.now))) }
+    ensures memory { IsOkUnless result Panic.NoRoom }
+{
+    for j in list {
+        let wanted = counts(elsewhere, lines, i, *j);
+        add_edge_if(built, wanted, i, *j)?;
+    }
+    Ok(())
+}
+
+// Whether line number `j` counts for line number `i`: each, or where wanted one that begins elsewhere.
+fn counts(elsewhere: bool, lines: &[Line], i: u32, j: u32) -> bool
+    requires line { i < length lines.now }
+    requires other { j < length lines.now }
+    ensures { result ≡ counts elsewhere lines.now i j }
+{
+    !elsewhere || lines[j as usize].from != lines[i as usize].from
+}
+
+// Adds the edge from line number `i` to line number `j`, where it is wanted.
+fn add_edge_if(built: &mut Graph, wanted: bool, i: u32, j: u32) -> Result<(), Panic>
+    requires line { i < length built.old.vertices }
+    requires other { j < length built.old.vertices }
+    requires plain { HasPlainArcs built.old }
+    ensures ok { OnOk result (AddsEvents false built.old built.new
+        (events_to_numbers i (if wanted then j ∷ [] else []))) }
+    ensures memory { IsOkUnless result Panic.NoRoom }
+{
+    if wanted {
+        return built.add_event(false, i, j, 1);
+    }
+    Ok(())
 }
 
 // So many empty lists.
-fn empty_lists(alloc: Global, n: u32) -> Result<Vec<Vec<(u32, Line)>>, Panic>
+fn empty_lists(alloc: Global, n: u32) -> Result<Vec<Vec<u32>>, Panic>
     ensures ok { IfOk result (λ lists. (w : ℕ) → list_at lists.items w ≡ []) }
     ensures size { IfOk result (λ lists. length lists.items ≡ n) }
     ensures memory { IsOkUnless result Panic.NoRoom }
@@ -308,45 +405,29 @@ fn empty_lists(alloc: Global, n: u32) -> Result<Vec<Vec<(u32, Line)>>, Panic>
     Ok(lists)
 }
 
-// Appends the line to the list of each of its ends; directed, of its beginning.
-fn push_line(
-    lists: &mut Vec<Vec<(u32, Line)>>,
-    directed: bool,
-    line: (u32, Line),
-) -> Result<(), Panic>
-    requires within { LineWithin (length lists.old.items) line.1 }
+// Appends the number of the line to the list of each of its ends.
+fn push_line(lists: &mut Vec<Vec<u32>>, i: u32, line: Line) -> Result<(), Panic>
+    requires within { LineWithin (length lists.old.items) line }
     ensures ok { OnOk result ((w : ℕ) → list_at lists.new.items w ≡ list_at lists.old.items w
-        ++ (if touches directed w line.1 then line ∷ [] else [])) }
+        ++ (if touches w line then i ∷ [] else [])) }
     ensures size { OnOk result (length lists.new.items ≡ length lists.old.items) }
     ensures memory { IsOkUnless result Panic.NoRoom }
 {
-    push_at(lists, line.1.from, line)?;
-    if !directed && line.1.to != line.1.from {
-        push_at(lists, line.1.to, line)?;
+    push_at(lists, line.from, i)?;
+    if line.to != line.from {
+        push_at(lists, line.to, i)?;
     }
     Ok(())
 }
 
-// Appends the line to list number `w`.
-fn push_at(lists: &mut Vec<Vec<(u32, Line)>>, w: u32, line: (u32, Line)) -> Result<(), Panic>
+// Appends the number to list number `w`.
+fn push_at(lists: &mut Vec<Vec<u32>>, w: u32, i: u32) -> Result<(), Panic>
     requires { w < length lists.old.items }
     ensures ok { OnOk result ((u : ℕ) → list_at lists.new.items u ≡ list_at lists.old.items u
-        ++ (if w == u then line ∷ [] else [])) }
+        ++ (if w == u then i ∷ [] else [])) }
     ensures size { OnOk result (length lists.new.items ≡ length lists.old.items) }
     ensures memory { IsOkUnless result Panic.NoRoom }
 {
-    lists[w as usize].push(line)?;
-    Ok(())
-}
-
-// Appends the event from line number `i` to line number `j`, where they meet.
-fn push_event_if(events: &mut Vec<Event>, meet: bool, i: u32, j: u32) -> Result<(), Panic>
-    ensures ok { OnOk result (events.new.items ≡ events.old.items
-        ++ (if meet then record { from = i; to = j; len = pos 1 } ∷ [] else [])) }
-    ensures memory { IsOkUnless result Panic.NoRoom }
-{
-    if meet {
-        events.push(Event::new(i, j, 1))?;
-    }
+    lists[w as usize].push(i)?;
     Ok(())
 }

@@ -21,8 +21,14 @@ fn is_line_graph(
     Ok(is_known(&graph, id, known))
 }
 
+// An arc from each of four vertices to each later one: none begins at the last.
+const FORWARD: Operand = Operand::Board([4, 0, 0, 0, -1, 0], true);
+
+// Two rows of five vertices, with an arc to the vertex two places on: none begins at the last two of a row.
+const STEPS: Operand = Operand::Board([2, 5, 0, 0, 4, 0], true);
+
 /// Operands with the flag directed, each with the id of the line graph and what is known of it.
-static LINES: [(Operand, bool, &str, Known); 4] = [
+static LINES: [(Operand, bool, &str, Known); 6] = [
     (
         TRIANGLE,
         false,
@@ -48,6 +54,40 @@ static LINES: [(Operand, bool, &str, Known); 4] = [
                 (0, "2->0", &[(2, 1)]),
                 (1, "1->2", &[(0, 1)]),
                 (2, "0->1", &[(1, 1)]),
+            ],
+        ),
+    ),
+    (
+        FORWARD,
+        true,
+        "lines(board(4,0,0,0,-1,0,1),1)",
+        (
+            6,
+            4,
+            &[
+                (0, "2->3", &[]),
+                (1, "1->3", &[]),
+                (2, "1->2", &[(0, 1)]),
+                (3, "0->3", &[]),
+                (4, "0->2", &[(0, 1)]),
+                (5, "0->1", &[(2, 1), (1, 1)]),
+            ],
+        ),
+    ),
+    (
+        STEPS,
+        true,
+        "lines(board(2,5,0,0,4,0,1),1)",
+        (
+            6,
+            2,
+            &[
+                (0, "1.2->1.4", &[]),
+                (1, "1.1->1.3", &[]),
+                (2, "1.0->1.2", &[(0, 1)]),
+                (3, "0.2->0.4", &[]),
+                (4, "0.1->0.3", &[]),
+                (5, "0.0->0.2", &[(3, 1)]),
             ],
         ),
     ),

@@ -1,9 +1,8 @@
-use Rattle.std.proofs.Common.{◌-◌, ◌+◌, ◌≡◌, ◌∙◌, All, sym, ap, subst, arith}
-use Rattle.sgb_ops.specs.inner.Lines.{LineWithin}
+use Rattle.std.proofs.Common.{◌≡◌, ◌+◌, ◌-◌, ◌∙◌, All, sym, ap, subst, arith}
+use Rattle.sgb_ops.specs.inner.Lines.{DescendFrom, LeadsUp, LineWithin}
 use Rattle.sgb_ops.specs.Operands.{order_of}
 use Rattle.sgb_ops.proofs.LineEvents.{lines_at, lines_below, lines_below-more, lines_within}
-use Rattle.sgb_ops.specs.inner.LineLists.{FallFrom}
-use Rattle.sgb_ops.proofs.LineLists.{lines_fall}
+use Rattle.sgb_ops.proofs.LineLists.{lines_descend, lines_lead_up}
 use Rattle.sgb_ops.proofs.PlainLists.{part_more, parts_all}
 use Rattle.sgb_ops.proofs.line_graphs.lines_of_graph.Goals as goal
 
@@ -24,10 +23,18 @@ returns-clause-within c =
     (sym (parts_all c.loop-v.lines.items _ _ (ap (lines_below g c.args.directed) none) c.loop-v.invariant))
     (lines_within g c.args.directed c.n-v.ensures.kept)
 
-pub returns-clause-falling : goal.returns-clause-falling
-returns-clause-falling c = λ e.
+pub returns-clause-descending : goal.returns-clause-descending
+returns-clause-descending c =
     let g = c.args.graph.now in
     let none : c.loop-v.v ≡ 0 = omega arith in
-    subst (FallFrom (order_of g))
+    subst (DescendFrom (order_of g))
     (sym (parts_all c.loop-v.lines.items _ _ (ap (lines_below g c.args.directed) none) c.loop-v.invariant))
-    (lines_fall g c.args.directed e)
+    (lines_descend g c.args.directed)
+
+pub returns-clause-up : goal.returns-clause-up
+returns-clause-up c = λ e.
+    let g = c.args.graph.now in
+    let none : c.loop-v.v ≡ 0 = omega arith in
+    subst (All LeadsUp)
+    (sym (parts_all c.loop-v.lines.items _ _ (ap (lines_below g c.args.directed) none) c.loop-v.invariant))
+    (lines_lead_up g c.args.directed e)

@@ -1,0 +1,145 @@
+-- The lines that begin at one vertex, as a run.
+use Rattle.std.proofs.Common.{◌≡◌, ◌<◌, ◌≤◌, ◌+◌, ◌-◌, ◌==◌, ℕ, suc, pos, true, not, nat_lt, List, [], ◌∷◌, map, length, set, get_or, refl, sym, ap, ◌∙◌, inl, inr, arith}
+use Rattle.std.specs.Prelude.{All, filter, slice_index}
+use Rattle.std.specs.List.{enumerate_from, range_with_len}
+use Rattle.std.proofs.lemmas.Bool.{cases_eq, cases_lt, eq-eqb, ne_eqb, lt-ltb, le-ltb}
+use Rattle.std.proofs.lemmas.List.{length-set, get_or-set_same, get_or-set_other, get_or_default}
+use Rattle.std.proofs.lemmas.List.Sums.{length-filter, count_by-le-length}
+use Rattle.sgb_vec.proofs.Lists.{filter-none}
+use Rattle.sgb_ops.specs.Lines.{events_to}
+use Rattle.sgb_ops.specs.inner.Lines.{DescendFrom, LineWithin, events_to_numbers}
+use Rattle.sgb_ops.specs.inner.LineRuns.{begin_at, begin_from}
+use Rattle.sgb_ops.specs.declared.line_graphs.Line.{Line}
+
+-- no more lines begin somewhere than there are
+pub few_from : (w : ℕ) (lines : List Line) → begin_from w lines ≤ length lines
+few_from w lines =
+    let test = λ (l : Line). not (nat_lt l.from w) in
+    omega (arith, length-filter test lines, count_by-le-length test lines)
+
+pub few_at : (w : ℕ) (lines : List Line) → begin_at w lines ≤ length lines
+few_at w lines =
+    let test = λ (l : Line). l.from == w in
+    omega (arith, length-filter test lines, count_by-le-length test lines)
+
+-- those that begin at w or later begin at w, or at w + 1 or later
+two_parts : (w : ℕ) (lines : List Line) → begin_from w lines ≡ begin_at w lines + begin_from (w + 1) lines
+two_parts w [] = refl
+two_parts w (line ∷ lines) =
+    let next = two_parts w lines in
+    elim (cases_lt line.from w) [
+      | inl low ↦ rw (lt-ltb line.from w low, ne_eqb line.from w (λ e. absurd (omega (arith, e, low))), lt-ltb line.from (w + 1) (omega (arith, low))) next
+      | inr high ↦ elim (cases_eq line.from w) [
+        | inl e ↦ rw (le-ltb line.from w high, eq-eqb line.from w e, lt-ltb line.from (w + 1) (omega (arith, e))) omega (arith, next)
+        | inr n ↦ rw (le-ltb line.from w high, ne_eqb line.from w n, le-ltb line.from (w + 1) (omega (arith, n, high))) omega (arith, next)
+      ]
+    ]
+
+-- no line begins past the vertices
+none_past : (n : ℕ) (lines : List Line) → All (LineWithin n) lines → begin_from n lines ≡ 0
+none_past n lines within =
+    ap length (filter-none (λ (l : Line). not (nat_lt l.from n)) lines (λ k d h. ap not (lt-ltb _ n (within k d h).0)))
+
+none_at_end : (n : ℕ) (lines : List Line) → All (LineWithin n) lines → begin_at n lines ≡ 0
+none_at_end n lines within = omega (arith, none_past n lines within, two_parts n lines)
+
+all_at_end : (n u : ℕ) (lines : List Line) → All (LineWithin n) lines → n ≤ u → u ≤ n → begin_at u lines ≡ begin_from u lines
+all_at_end n u lines within low high =
+    let e : u ≡ n = omega (arith, low, high) in
+    ap (λ (k : ℕ). begin_at k lines) e ∙ (none_at_end n lines within ∙ sym (ap (λ (k : ℕ). begin_from k lines) e ∙ none_past n lines within))
+
+-- a table with the numbers of lines that begin at each vertex before w, and from w on of those that begin there or later
+abbrev pub EndsFrom : ℕ → List Line → List ℕ → ℕ → Type 0
+EndsFrom n lines ends w =
+    (length ends ≡ n + 1)
+    × ((u : ℕ) → u < w → slice_index ends u ≡ begin_at u lines)
+    × ((u : ℕ) → w ≤ u → u ≤ n → slice_index ends u ≡ begin_from u lines)
+
+-- at first none are summed up
+pub ends_first : (n : ℕ) (lines : List Line) (ends : List ℕ) → All (LineWithin n) lines → length ends ≡ n + 1
+    → ((u : ℕ) → u ≤ n → slice_index ends u ≡ begin_at u lines) → EndsFrom n lines ends n
+ends_first n lines ends within size counts =
+    (size, (λ u low. counts u (omega (arith, low))), (λ u low high. counts u high ∙ all_at_end n u lines within low high))
+
+-- two neighbours make the next sum
+pub ends_sum : (n w : ℕ) (lines : List Line) (ends : List ℕ) (here next : ℕ) → 0 < w → w ≤ n → EndsFrom n lines ends w
+    → here ≡ get_or ends (w - 1) here → next ≡ get_or ends (w - 1 + 1) next → here + next ≡ begin_from (w - 1) lines
+ends_sum n w lines ends here next some few table is later =
+    let v = w - 1 in
+    let size = table.0 in
+    let at : get_or ends v here ≡ begin_at v lines = get_or_default ends v here 0 (omega (arith, size, some, few)) ∙ table.1 v (omega (arith, some)) in
+    let after : get_or ends (v + 1) next ≡ begin_from (v + 1) lines =
+    get_or_default ends (v + 1) next 0 (omega (arith, size, some, few)) ∙ table.2 (v + 1) (omega (arith, some)) (omega (arith, some, few)) in
+    omega (arith, is, later, at, after, two_parts v lines)
+
+pub ends_more : (n w : ℕ) (lines : List Line) (ends : List ℕ) (here : ℕ) → 0 < w → w ≤ n → EndsFrom n lines ends w
+    → here ≡ begin_from (w - 1) lines → EndsFrom n lines (set ends (w - 1) here) (w - 1)
+ends_more n w lines ends here some few table is =
+    let v = w - 1 in
+    let size = table.0 in (
+      length-set ends v here ∙ size,
+      (λ u low. get_or-set_other ends v u here 0 (λ e. absurd (omega (arith, e, low))) ∙ table.1 u (omega (arith, low))),
+      (λ u low high. elim (cases_eq u v) [
+        | inl e ↦
+            ap (λ (k : ℕ). get_or (set ends v here) k 0) e
+            ∙ (get_or-set_same ends v here 0 (omega (arith, size, some, few)) ∙ (is ∙ ap (λ (k : ℕ). begin_from k lines) (sym e)))
+        | inr n ↦ get_or-set_other ends v u here 0 n ∙ table.2 u (omega (arith, low, n)) high
+      ]),
+    )
+
+-- a number read from the whole table
+pub ends_read : (n w : ℕ) (lines : List Line) (ends : List ℕ) (number : ℕ) → w ≤ n → length ends ≡ n + 1
+    → ((u : ℕ) → u ≤ n → slice_index ends u ≡ begin_from u lines) → number ≡ get_or ends w number → number ≡ begin_from w lines
+ends_read n w lines ends number low size table is = is ∙ (get_or_default ends w number 0 (omega (arith, size, low)) ∙ table w low)
+
+-- nor above the first
+none_above : (w top : ℕ) (lines : List Line) → top < w → DescendFrom top lines → begin_from w lines ≡ 0
+none_above w top [] above descend = refl
+none_above w top (line ∷ lines) above descend =
+    let low : line.from < w = omega (arith, above, descend.0) in
+    rw (lt-ltb line.from w low) (none_above w line.from lines low descend.1)
+
+-- those that begin at w have the numbers after those of the lines that begin later
+run : (w top k : ℕ) (lines : List Line) → DescendFrom top lines
+    → map (λ q. q.0) (filter (λ q. q.1.from == w) (enumerate_from k lines)) ≡ range_with_len (k + begin_from (w + 1) lines) (begin_at w lines)
+run w top k [] descend = refl
+run w top k (line ∷ lines) descend =
+    let next = run w line.from (k + 1) lines descend.1 in
+    let later = begin_from (w + 1) lines in
+    let here = begin_at w lines in
+    elim (cases_lt line.from (w + 1)) [
+      | inl low ↦
+          let none : later ≡ 0 = none_above (w + 1) line.from lines low descend.1 in
+          elim (cases_eq line.from w) [
+            | inl e ↦
+                let first : k ≡ k + later = omega (arith, none) in
+                let second : k + 1 + later ≡ k + later + 1 = omega arith in
+                rw (lt-ltb line.from (w + 1) low, eq-eqb line.from w e)
+                (ap (λ (js : List ℕ). k ∷ js) next ∙ (ap (λ (j : ℕ). k ∷ range_with_len j here) second ∙ ap (λ (j : ℕ). j ∷ range_with_len (k + later + 1) here) first))
+            | inr n ↦
+                let few : here ≡ 0 = omega (arith, two_parts w lines, none_above w line.from lines (omega (arith, n, low)) descend.1) in
+                rw (lt-ltb line.from (w + 1) low, ne_eqb line.from w n)
+                (next ∙ (ap (λ (j : ℕ). range_with_len (k + 1 + later) j) few ∙ sym (ap (λ (j : ℕ). range_with_len (k + later) j) few)))
+          ]
+      | inr high ↦
+          let place : k + 1 + later ≡ k + suc later = omega arith in
+          rw (le-ltb line.from (w + 1) high, ne_eqb line.from w (λ e. absurd (omega (arith, e, high))))
+          (next ∙ ap (λ (j : ℕ). range_with_len j here) place)
+    ]
+
+-- events to lines, by their numbers
+pub events_of_places : (i : ℕ) (qs : List (ℕ × Line)) → events_to_numbers i (map (λ q. q.0) qs) ≡ map (λ q. record { from = i; to = q.0; len = pos 1 }) qs
+events_of_places i [] = refl
+events_of_places i (q ∷ qs) = ap (λ es. record { from = i; to = q.0; len = pos 1 } ∷ es) (events_of_places i qs)
+
+-- the arcs from a line are those to the run at its end
+pub run_events : (top : ℕ) (lines : List Line) (i : ℕ) (line : Line) (first end : ℕ) → DescendFrom top lines
+    → first ≡ begin_from (line.to + 1) lines → end ≡ begin_from line.to lines
+    → events_to_numbers i (range_with_len first (end - first)) ≡ events_to true i line lines
+run_events top lines i line first end descend begins ends =
+    let w = line.to in
+    let start : first ≡ 0 + begin_from (w + 1) lines = omega (arith, begins) in
+    let count : end - first ≡ begin_at w lines = omega (arith, begins, ends, two_parts w lines) in
+    ap (events_to_numbers i)
+    (ap (λ (n : ℕ). range_with_len first n) count ∙ (ap (λ (k : ℕ). range_with_len k (begin_at w lines)) start ∙ sym (run w top 0 lines descend)))
+    ∙ events_of_places i (filter (λ q. q.1.from == w) (enumerate_from 0 lines))

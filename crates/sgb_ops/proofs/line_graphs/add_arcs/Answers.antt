@@ -1,0 +1,34 @@
+use Rattle.std.proofs.Common.{◌≡◌, ◌<◌, ◌+◌, ◌∷◌, true, drop, get_or, ap, subst, arith}
+use Rattle.std.proofs.lemmas.List.{drop_more}
+use Rattle.sgb_graph.specs.Growth.{AddsEvents}
+use Rattle.sgb_graph.proofs.AddedEvents.{up_to-more}
+use Rattle.sgb_ops.specs.Lines.{events_to, line_events}
+use Rattle.sgb_ops.specs.inner.Lines.{no_line}
+use Rattle.sgb_ops.proofs.LineEvents.{events_from}
+use Rattle.sgb_ops.proofs.LineRuns.{ends_read, few_from, run_events}
+use Rattle.sgb_ops.proofs.line_graphs.add_arcs.Goals as goal
+
+pub add_arcs_to-requires-clause-others : goal.add_arcs_to-requires-clause-others
+add_arcs_to-requires-clause-others c =
+    let lines = c.args.lines.now in
+    let line = get_or lines c.loop-i.i no_line in
+    let below : line.to < c.args.n = (c.requires.within c.loop-i.i no_line c.loop-i-test.true).1 in
+    let end = ends_read c.args.n line.to lines c.in_ok-ends.ends.items c.index-in-loop-i.result.now (omega (arith, below)) c.in_ok-ends.ensures.size c.in_ok-ends.ensures.ends c.index-in-loop-i.ensures in
+    omega (arith, end, few_from line.to lines, c.loop-i.invariant.added.rest.size, c.requires.size)
+
+pub loop-i-preserved : goal.loop-i-preserved
+loop-i-preserved c =
+    let n = c.args.n in
+    let lines = c.args.lines.now in
+    let i = c.loop-i.i in
+    let line = get_or lines i no_line in
+    let ends = c.in_ok-ends.ends.items in
+    let size = c.in_ok-ends.ensures.size in
+    let table = c.in_ok-ends.ensures.ends in
+    let below : line.to < n = (c.requires.within i no_line c.loop-i-test.true).1 in
+    let first = ends_read n (line.to + 1) lines ends c.index.result.now (omega (arith, below)) size table c.index.ensures in
+    let end = ends_read n line.to lines ends c.index-in-loop-i.result.now (omega (arith, below)) size table c.index-in-loop-i.ensures in
+    let next : drop i lines ≡ line ∷ drop (i + 1) lines = drop_more lines i no_line (omega arith) in
+    let added = subst (AddsEvents true c.loop-i.built c.add_arcs_to.new.built) (run_events n lines i line c.index.result.now c.index-in-loop-i.result.now c.requires.descending first end) c.in_ok-add_arcs_to.ensures.ok in
+    up_to-more true c.args.built.now c.loop-i.built c.add_arcs_to.new.built (events_to true i line lines) (events_from true lines (i + 1) (drop (i + 1) lines)) (line_events true lines) (events_from true lines i (drop i lines))
+    c.loop-i.invariant (ap (events_from true lines i) next) added

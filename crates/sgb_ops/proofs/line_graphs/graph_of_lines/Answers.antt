@@ -1,0 +1,13 @@
+use Rattle.std.proofs.Common.{◌∙◌, ap}
+use Rattle.sgb_ops.specs.Lines.{line_events, lines_id, names_of_lines}
+use Rattle.sgb_ops.proofs.Results.{made}
+use Rattle.sgb_ops.proofs.line_graphs.graph_of_lines.Goals as goal
+
+pub returns-clause-ok : goal.returns-clause-ok
+returns-clause-ok c =
+    let g = c.args.graph.now in
+    let d = c.args.directed in
+    let lines = c.args.lines.now in
+    made d (line_events d lines) (names_of_lines g d lines) c.in_ok-names.names (lines_id g.id d) _ c.in_ok-built.built c.add_line_events.new.built c.set_id.new.self
+    c.in_ok-names.ensures.ok c.in_ok-built.ensures.ok c.in_ok-add_line_events.ensures.ok
+    (c.title.ensures ∙ ap (λ id. lines_id id d) c.id.ensures) c.set_id.ensures
