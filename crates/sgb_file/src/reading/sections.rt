@@ -1,6 +1,6 @@
 //! The records of a file, section by section: the graph's, the vertices', the arcs' (GB_SAVE, restore_graph).
-ghost use Rattle.std.specs.Prelude.{◌≡◌, ◌++◌, ◌∷◌, [], IsTrue};
-ghost use Rattle.sgb_file.specs.Fields.{after_prefix};
+ghost use Rattle.std.specs.Prelude.{◌≡◌, ◌++◌, ◌∷◌, [], codes, IsTrue};
+ghost use Rattle.sgb_file.specs.Fields.{after_prefix, given};
 ghost use Rattle.sgb_file.specs.inner.Found.{IsFoundBy, IsPassedBy};
 ghost use Rattle.sgb_file.specs.inner.LinesLeft.{has_no_newline, text_left};
 ghost use Rattle.sgb_file.specs.inner.Reading.{arcs_at, vertices_at};
@@ -26,6 +26,20 @@ pub(super) fn read_records(
     let parts = read_graph_record(alloc, head, lines)?;
     pass_title(lines, b"* Vertices")?;
     let parts = read_vertices(alloc, head, lines, parts)?;
+    read_arc_section(alloc, head, lines, parts)
+}
+
+// The parts with the arc records of the file after those that they have: the title of their section comes first.
+fn read_arc_section(
+    alloc: Global,
+    head: &Head,
+    lines: &mut Lines<'_>,
+    parts: Parts,
+) -> Result<Parts, Panic>
+    ensures found { IsFoundBy (given (after_prefix (codes "* Arcs\n") (text_left lines.old))
+        (arcs_at head.now parts head.now.counts.arcs)) result (text_left lines.new) }
+    ensures all { lines.new.all ≡ lines.old.all }
+{
     pass_title(lines, b"* Arcs")?;
     read_arcs(alloc, head, lines, parts)
 }
