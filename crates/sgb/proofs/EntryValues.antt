@@ -1,5 +1,5 @@
 -- The values of entries, one after another.
-use Rattle.std.proofs.Common.{◌≡◌, ◌≤◌, ◌<◌, ◌+◌, ◌++◌, ℕ, zero, suc, Bool, Box, Global, List, [], ◌∷◌, length, get_or, Result, Ok, Err, inl, inr, refl, ap, ◌∙◌, rules, arith}
+use Rattle.std.proofs.Common.{◌≡◌, ◌||◌, ◌≤◌, ◌<◌, ◌+◌, ◌++◌, ℕ, zero, suc, Bool, Box, Global, List, [], ◌∷◌, length, get_or, Result, Ok, Err, inl, inr, refl, ap, ◌∙◌, append_assoc, arith}
 use Rattle.sgb_vec.specs.Results.{and_then}
 use Rattle.sgb_vec.specs.declared.panics.Panic.{Panic}
 use Rattle.sgb_graph.specs.Graphs.{GraphData}
@@ -7,6 +7,7 @@ use Rattle.sgb_ops.specs.Induced.{induced_of}
 use Rattle.sgb_expr.proofs.CodeExpressions.{induced_is}
 use Rattle.sgb_expr.specs.inner.CodeEntries.{list_of, listed}
 use Rattle.sgb_expr.specs.Expression.{entries_of, entry_of, expression_of}
+use Rattle.sgb_expr.specs.StdinUses.{entries_have_stdin, has_stdin}
 use Rattle.sgb_expr.specs.declared.entries.Entries.{Entries}
 use Rattle.sgb_expr.specs.declared.expressions.Expr.{Expr}
 use Rattle.sgb_expr.specs.declared.expressions.Expr.TheVariants as expr
@@ -19,18 +20,16 @@ use Rattle.sgb.proofs.Values.{size_of, size_of_entries, size_of_entry}
 abbrev pub and_values : {T : Type 0} → List T → Result (List T) Panic → Result (List T) Panic
 and_values done rest = and_then rest (λ others. Ok (done ++ others))
 
+-- one more of them
+pub one_more : {T : Type 0} (done : List T) (value : T) (first : Result T Panic) (others : Result (List T) Panic) → first ≡ Ok value
+    → and_values (done ++ value ∷ []) others ≡ and_values done (and_then (both first others) (λ p. Ok (p.0 ∷ p.1)))
+one_more done value first (Ok os) e = rw e (ap Ok (append_assoc done (value ∷ []) os))
+one_more done value first (Err p) e = rw e refl
+
 -- a list of no length
 pub length_zero : {T : Type 0} (list : List T) → length list ≡ 0 → list ≡ []
 length_zero [] e = refl
 length_zero (x ∷ list) e = absurd (omega (arith, e))
-
--- an entry is no larger than all of them together
-pub entry_smaller : (entries : List EntryExpr) (k : ℕ) (default : EntryExpr) → k < length entries → size_of_entry (entry_of (get_or entries k default)) ≤ size_of_entries (entries_of (listed entries))
-entry_smaller [] k default below = absurd (search (rules, arith))
-entry_smaller (first ∷ others) zero default below = omega arith
-entry_smaller (first ∷ others) (suc k) default below =
-    let smaller = entry_smaller others k default (omega (arith, below)) in
-    omega (arith, smaller)
 
 -- the value of an induced graph, from those of its graph and its entries
 abbrev pub induced_from : Result GraphData Panic → Result (List EntryValue) Panic → Bool → Bool → Bool → Result GraphData Panic
@@ -48,6 +47,12 @@ pub induced_size : (e : Expr) (graph : Box Expr Global) (entries : Entries) (sel
     → size_of (expression_of e) ≡ size_of (expression_of graph.value) + size_of_entries (entries_of (list_of entries)) + 2
 induced_size e graph entries self_loops multi directed is =
     ap (λ x. size_of (expression_of x)) is ∙ ap size_of (induced_is graph entries self_loops multi directed)
+
+-- whether it reads standard input
+pub induced_reads : (e : Expr) (graph : Box Expr Global) (entries : Entries) (self_loops multi directed : Bool) → e ≡ expr.Induced graph entries self_loops multi directed
+    → has_stdin (expression_of e) ≡ (has_stdin (expression_of graph.value) || entries_have_stdin (entries_of (list_of entries)))
+induced_reads e graph entries self_loops multi directed is =
+    ap (λ x. has_stdin (expression_of x)) is ∙ ap has_stdin (induced_is graph entries self_loops multi directed)
 
 -- a refusal of the entries
 pub entries_refused : (graph : Result GraphData Panic) (entries : Result (List EntryValue) Panic) (g : GraphData) (self_loops multi directed : Bool) (p : Panic)

@@ -13,6 +13,8 @@ pub mod ExamplesAnswers
 pub mod ExamplesFlips
 -- what a run leaves that reads standard input first
 pub mod InputEndings
+-- what evaluations leave of standard input
+pub mod InputsLeft
 -- names of vectors that are kept
 pub mod KeptNames
 -- what is kept of a source

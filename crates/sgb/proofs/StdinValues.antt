@@ -94,11 +94,13 @@ mutual
   value_same a b (Wheel n n1 directed) same = refl
   value_same a b Stdin same = same refl
 
+  -- the value of an entry
   entry_same : (a b : List ℕ) (entry : Entry) → (entry_has_stdin entry ≡ true → stdin_value a ≡ stdin_value b) → entry_value a entry ≡ entry_value b entry
   entry_same a b (Number n) same = refl
   entry_same a b (Graph e) same = ap (λ v. and_then v (λ g. Ok (value.Graph g))) (value_same a b e same)
 
-  values_same : (a b : List ℕ) (entries : Entries) → (entries_have_stdin entries ≡ true → stdin_value a ≡ stdin_value b) → values_of a entries ≡ values_of b entries
+  -- the values of entries
+  pub values_same : (a b : List ℕ) (entries : Entries) → (entries_have_stdin entries ≡ true → stdin_value a ≡ stdin_value b) → values_of a entries ≡ values_of b entries
   values_same a b NoEntries same = refl
   values_same a b (EntryThen first others) same =
       ap (λ v. and_then v (λ p. Ok (p.0 ∷ p.1)))

@@ -25,6 +25,11 @@ value_then {T} {U} operand x make r e is = subst (λ (v : Result T Panic). IsVal
 pub value_both : {T U : Type 0} (first : Result T Panic) (second : Result U Panic) (x : T) (y : U) → first ≡ Ok x → second ≡ Ok y → both first second ≡ Ok (x, y)
 value_both first second x y e f = rw (e, f) refl
 
+-- the second one's refusal
+pub both_refused : {T U : Type 0} (first : Result T Panic) (second : Result U Panic) (x : T) (p : Panic) → first ≡ Ok x → IsValue second (Err p) → IsValue (both first second) (Err p)
+both_refused first second x p e (inl f) = inl (rw (e, f) refl)
+both_refused first second x p e (inr f) = inr f
+
 abbrev mutual
   -- how large an expression is: larger than its operands together
   pub size_of : Expression → ℕ

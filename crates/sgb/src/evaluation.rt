@@ -1,16 +1,18 @@
 //! The graphs that expressions name (GB_BASIC).
-ghost use Rattle.std.specs.Prelude.{◌≡◌, [], Err, Ok, IfErr, IfOk};
+ghost use Rattle.std.specs.Prelude.{◌≡◌, ◌||◌, [], Err, Ok, IfErr, IfOk};
 ghost use Rattle.sgb_graph.specs.Descriptions.{IsAnswerOf};
 ghost use Rattle.sgb_expr.specs.inner.CodeEntries.{listed};
 ghost use Rattle.sgb_expr.specs.Expression.{entries_of, entry_of, expression_of};
+ghost use Rattle.sgb_expr.specs.StdinUses.{entries_have_stdin, entry_has_stdin, has_stdin};
 ghost use Rattle.sgb.specs.Outcomes.{moves_of, queen_moves};
 ghost use Rattle.sgb.specs.Values.{IsValue, both, entry_value, generator_value, value_of, values_of};
+ghost use Rattle.sgb.specs.inner.Inputs.{left_after};
 
 mod entries;
 
-use crate::input::stdin_graph;
+use crate::input::{Kept, read_kept};
 use entries::{EntryValue, handed_entries};
-use sgb_expr::{EntryExpr, Expr, Generator};
+use sgb_expr::{EntryExpr, Expr, Generator, have_stdin};
 use sgb_gen::BoardParams;
 use sgb_graph::Graph;
 use sgb_ops::{bi_complete, complement, gunion, induced, intersection, lines, product, wheel};
@@ -21,9 +23,36 @@ use std::alloc::Global;
 /// from left to right; each is dropped when the operation is made.
 ///
 /// The first refusal, or `NoRoom` when out of memory.
-#[cycle(graphs)]
 pub fn graph_of(alloc: Global, expression: &Expr, input: &[u8]) -> Result<Graph, Panic>
     ensures { IsValue (value_of input.now (expression_of expression.now)) result }
+{
+    let mut lent = Kept::lent(input);
+    evaluate(alloc, expression, &mut lent, true)
+}
+
+/// The graph of an expression, as `graph_of`, where the bytes of standard input are dropped as soon as no `stdin` is
+/// left that reads them.
+///
+/// The first refusal, or `NoRoom` when out of memory.
+pub(crate) fn graph_from(alloc: Global, expression: &Expr, input: Vec<u8>) -> Result<Graph, Panic>
+    ensures { IsValue (value_of input.items (expression_of expression.now)) result }
+{
+    let mut owned = Kept::owned(input);
+    evaluate(alloc, expression, &mut owned, false)
+}
+
+// The graph of an expression. What is kept of standard input is dropped after the last `stdin` of the expression, unless
+// there are `more` to come after it.
+#[cycle(graphs)]
+fn evaluate(
+    alloc: Global,
+    expression: &Expr,
+    input: &mut Kept<'_>,
+    more: bool,
+) -> Result<Graph, Panic>
+    ensures value { IsValue (value_of input.old (expression_of expression.now)) result }
+    ensures left { IfOk result (λ _. input.new
+        ≡ left_after more (has_stdin (expression_of expression.now)) input.old) }
 {
     match expression {
         Expr::Generator(generator) => generator_graph(alloc, generator),
@@ -33,7 +62,7 @@ pub fn graph_of(alloc: Global, expression: &Expr, input: &[u8]) -> Result<Graph,
             self_loops,
             directed,
         } => {
-            let operand = graph_of(alloc, graph, input)?;
+            let operand = evaluate(alloc, graph, input, more)?;
             complement(alloc, &operand, *copy, *self_loops, *directed)
         }
         Expr::Gunion {
@@ -42,7 +71,7 @@ pub fn graph_of(alloc: Global, expression: &Expr, input: &[u8]) -> Result<Graph,
             multi,
             directed,
         } => {
-            let (left, right) = operands(alloc, first, second, input)?;
+            let (left, right) = operands(alloc, first, second, input, more)?;
             gunion(alloc, &left, &right, *multi, *directed)
         }
         Expr::Intersection {
@@ -51,11 +80,11 @@ pub fn graph_of(alloc: Global, expression: &Expr, input: &[u8]) -> Result<Graph,
             multi,
             directed,
         } => {
-            let (left, right) = operands(alloc, first, second, input)?;
+            let (left, right) = operands(alloc, first, second, input, more)?;
             intersection(alloc, &left, &right, *multi, *directed)
         }
         Expr::Lines { graph, directed } => {
-            let operand = graph_of(alloc, graph, input)?;
+            let operand = evaluate(alloc, graph, input, more)?;
             lines(alloc, &operand, *directed)
         }
         Expr::Product {
@@ -64,7 +93,7 @@ pub fn graph_of(alloc: Global, expression: &Expr, input: &[u8]) -> Result<Graph,
             kind,
             directed,
         } => {
-            let (left, right) = operands(alloc, first, second, input)?;
+            let (left, right) = operands(alloc, first, second, input, more)?;
             product(alloc, &left, &right, *kind, *directed)
         }
         Expr::Induced {
@@ -74,14 +103,15 @@ pub fn graph_of(alloc: Global, expression: &Expr, input: &[u8]) -> Result<Graph,
             multi,
             directed,
         } => {
-            let operand = graph_of(alloc, graph, input)?;
-            let values = values_of(alloc, entries.as_slice(), input)?;
+            let entries = entries.as_slice();
+            let operand = evaluate(alloc, graph, input, more_in(more, entries))?;
+            let values = values_of(alloc, entries, input, more)?;
             let list = handed_entries(alloc, values)?;
             induced(alloc, &operand, &list, *self_loops, *multi, *directed)
         }
         Expr::BiComplete { n1, n2, directed } => bi_complete(alloc, *n1, *n2, *directed),
         Expr::Wheel { n, n1, directed } => wheel(alloc, *n, *n1, *directed),
-        Expr::Stdin => stdin_graph(alloc, input),
+        Expr::Stdin => read_kept(alloc, input, more),
     }
 }
 
@@ -91,41 +121,76 @@ fn operands(
     alloc: Global,
     first: &Expr,
     second: &Expr,
-    input: &[u8],
+    input: &mut Kept<'_>,
+    more: bool,
 ) -> Result<(Graph, Graph), Panic>
-    ensures { IsValue (both (value_of input.now (expression_of first.now))
-        (value_of input.now (expression_of second.now))) result }
+    ensures value { IsValue (both (value_of input.old (expression_of first.now))
+        (value_of input.old (expression_of second.now))) result }
+    ensures left { IfOk result (λ _. input.new ≡ left_after more
+        (has_stdin (expression_of first.now) || has_stdin (expression_of second.now)) input.old) }
 {
-    let left = graph_of(alloc, first, input)?;
-    let right = graph_of(alloc, second, input)?;
+    let left = evaluate(alloc, first, input, more_with(more, second))?;
+    let right = evaluate(alloc, second, input, more)?;
     Ok((left, right))
+}
+
+// Whether standard input is read again where an expression is still to come.
+fn more_with(more: bool, expression: &Expr) -> bool
+    ensures { result ≡ (more || has_stdin (expression_of expression.now)) }
+{
+    more || expression.has_stdin()
+}
+
+// Whether standard input is read again where entries are still to come.
+fn more_in(more: bool, entries: &[EntryExpr]) -> bool
+    ensures { result ≡ (more || entries_have_stdin (entries_of (listed entries.now))) }
+{
+    more || have_stdin(entries)
 }
 
 // The values of entries, in order.
 #[cycle(graphs)]
-fn values_of(alloc: Global, entries: &[EntryExpr], input: &[u8]) -> Result<Vec<EntryValue>, Panic>
-    ensures ok { IfOk result (λ values. values_of input.now (entries_of (listed entries.now))
+fn values_of(
+    alloc: Global,
+    entries: &[EntryExpr],
+    input: &mut Kept<'_>,
+    more: bool,
+) -> Result<Vec<EntryValue>, Panic>
+    ensures ok { IfOk result (λ values. values_of input.old (entries_of (listed entries.now))
         ≡ Ok values.items) }
     ensures refused { IfErr result
-        (λ p. IsValue (values_of input.now (entries_of (listed entries.now))) (Err p)) }
+        (λ p. IsValue (values_of input.old (entries_of (listed entries.now))) (Err p)) }
+    ensures left { IfOk result (λ _. input.new
+        ≡ left_after more (entries_have_stdin (entries_of (listed entries.now))) input.old) }
 {
     let mut values = Vec::with_capacity(alloc, entries.len())?;
-    for entry in entries {
-        let value = value_of_entry(alloc, entry, input)?;
+    let mut later = entries;
+    while let Some((entry, others)) = later.split_first() {
+        let value = value_of_entry(alloc, entry, others, input, more)?;
         values.push(value)?;
+        later = others;
     }
     Ok(values)
 }
 
-// The value of an entry.
+// The value of an entry, after which these others come.
 #[cycle(graphs)]
-fn value_of_entry(alloc: Global, entry: &EntryExpr, input: &[u8]) -> Result<EntryValue, Panic>
-    ensures { IsValue (entry_value input.now (entry_of entry.now)) result }
+fn value_of_entry(
+    alloc: Global,
+    entry: &EntryExpr,
+    others: &[EntryExpr],
+    input: &mut Kept<'_>,
+    more: bool,
+) -> Result<EntryValue, Panic>
+    ensures value { IsValue (entry_value input.old (entry_of entry.now)) result }
+    ensures left { IfOk result (λ _. input.new
+        ≡ left_after (more || entries_have_stdin (entries_of (listed others.now)))
+        (entry_has_stdin (entry_of entry.now)) input.old) }
 {
     match entry {
         EntryExpr::Number(number) => Ok(EntryValue::Number(*number)),
         EntryExpr::Graph(expression) => {
-            let graph = graph_of(alloc, expression, input)?;
+            let graph = evaluate(alloc, expression, input, more_in(more, others))?;
             Ok(EntryValue::Graph(graph))
         }
     }

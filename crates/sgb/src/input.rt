@@ -4,6 +4,11 @@ ghost use Rattle.std.specs.Io.KnownBytes.{Consumes, IsAtEnd};
 ghost use Rattle.sgb.specs.Inputs.{IsKept, IsReadFrom, LosesAtMost};
 ghost use Rattle.sgb.specs.Outcomes.{reads_input};
 ghost use Rattle.sgb.specs.Values.{IsValue, most_input, stdin_value};
+ghost use Rattle.sgb.specs.inner.Inputs.{left_after};
+
+mod kept;
+
+pub(crate) use kept::Kept;
 
 use sgb_file::{Source, read_gb};
 use sgb_graph::Graph;
@@ -98,10 +103,24 @@ fn read_more<R: Source>(
     }
 }
 
-/// The graph that standard input is a file of, from its bytes (GB_SAVE, restore_graph).
+/// The graph that standard input is a file of. What is kept of it is then dropped, unless `more` says that it is read
+/// again.
 ///
 /// The code of a text that is a file of none; `Syntax` where it has more than 2^30 bytes; `NoRoom` when out of memory.
-pub(crate) fn stdin_graph(alloc: Global, input: &[u8]) -> Result<Graph, Panic>
+pub(crate) fn read_kept(alloc: Global, input: &mut Kept<'_>, more: bool) -> Result<Graph, Panic>
+    ensures value { IsValue (stdin_value input.old) result }
+    ensures left { input.new ≡ left_after more true input.old }
+{
+    let graph = stdin_graph(alloc, input.bytes());
+    if more {
+        return graph;
+    }
+    input.clear();
+    graph
+}
+
+// The graph that standard input is a file of, from its bytes (GB_SAVE, restore_graph).
+fn stdin_graph(alloc: Global, input: &[u8]) -> Result<Graph, Panic>
     ensures { IsValue (stdin_value input.now) result }
 {
     if !is_read(input) {

@@ -13,7 +13,7 @@ ghost use Rattle.sgb.specs.Texts.{blocks, head};
 ghost use Rattle.sgb.specs.Values.{generator_value, made, most_input, value_of};
 ghost use Rattle.sgb.specs.inner.Writing.{IsEnded, IsEndedFrom};
 
-use crate::evaluation::{graph_of, queen_moves};
+use crate::evaluation::{graph_from, queen_moves};
 use crate::input::input_for;
 use crate::locals::{Local, local_of};
 use crate::writing::files::write_file;
@@ -81,7 +81,7 @@ fn answer<R: Source, W: Sink>(
         (R.remaining source.new) }
 {
     let input = input_for(alloc, request, source)?;
-    write_answer(alloc, request, input.as_slice(), out)?;
+    write_answer(alloc, request, input, out)?;
     pass_on(out)
 }
 
@@ -98,15 +98,15 @@ fn pass_on<W: Sink>(out: &mut W) -> Result<(), Fault>
     }
 }
 
-// Writes the output of a request.
+// Writes the output of a request. The bytes of its input are handed on, so that they are gone before the output is written.
 fn write_answer<W: Sink>(
     alloc: Global,
     request: &Request,
-    input: &[u8],
+    input: Vec<u8>,
     out: &mut W,
 ) -> Result<(), Fault>
     requires { W.has_failed out.old ≡ false }
-    ensures { IsEnded (answer_of request.now input.now)
+    ensures { IsEnded (answer_of request.now input.items)
         (out.new ≡ out.old) (change W.written W.has_failed out.old out.new) result }
 {
     match request {
@@ -122,19 +122,19 @@ fn write_answer<W: Sink>(
 fn answer_names<W: Sink>(
     alloc: Global,
     expression: &Expr,
-    input: &[u8],
+    input: Vec<u8>,
     resume: &Resume,
     out: &mut W,
 ) -> Result<(), Fault>
     requires { W.has_failed out.old ≡ false }
-    ensures { IsEnded (answer_from (value_of input.now (expression_of expression.now))
+    ensures { IsEnded (answer_from (value_of input.items (expression_of expression.now))
         (λ g. names_answer (names_of g) resume.now)) (out.new ≡ out.old)
         (change W.written W.has_failed out.old out.new) result }
 {
     if let Expr::Generator(generator) = expression {
         return answer_generator_names(alloc, generator, resume, out);
     }
-    let graph = graph_of(alloc, expression, input)?;
+    let graph = graph_from(alloc, expression, input)?;
     write_vertex_names(&graph, resume, out)
 }
 
@@ -161,19 +161,19 @@ fn answer_generator_names<W: Sink>(
 fn answer_list<W: Sink>(
     alloc: Global,
     expression: &Expr,
-    input: &[u8],
+    input: Vec<u8>,
     resume: &Resume,
     out: &mut W,
 ) -> Result<(), Fault>
     requires { W.has_failed out.old ≡ false }
-    ensures { IsEnded (answer_from (value_of input.now (expression_of expression.now))
+    ensures { IsEnded (answer_from (value_of input.items (expression_of expression.now))
         (λ g. list_answer g resume.now)) (out.new ≡ out.old)
         (change W.written W.has_failed out.old out.new) result }
 {
     if let Expr::Generator(generator) = expression {
         return answer_generator_list(alloc, generator, resume, out);
     }
-    let graph = graph_of(alloc, expression, input)?;
+    let graph = graph_from(alloc, expression, input)?;
     write_listing(&graph, resume, out)
 }
 
@@ -202,15 +202,15 @@ fn answer_generator_list<W: Sink>(
 fn answer_save<W: Sink>(
     alloc: Global,
     expression: &Expr,
-    input: &[u8],
+    input: Vec<u8>,
     out: &mut W,
 ) -> Result<(), Fault>
     requires { W.has_failed out.old ≡ false }
-    ensures { IsEnded (answer_from (value_of input.now (expression_of expression.now))
+    ensures { IsEnded (answer_from (value_of input.items (expression_of expression.now))
         (λ g. Ok (text_of_graph g))) (out.new ≡ out.old)
         (change W.written W.has_failed out.old out.new) result }
 {
-    let graph = graph_of(alloc, expression, input)?;
+    let graph = graph_from(alloc, expression, input)?;
     write_file(&graph, out)
 }
 

@@ -26,3 +26,4 @@ mod wrong;
 pub use entries::{Entries, EntryExpr};
 pub use expressions::{Expr, Generator, Unread, read_expr};
 pub use flips::{FlipParams, read_flip};
+pub use stdin_uses::have_stdin;

@@ -31,9 +31,9 @@ impl Expr {
     }
 }
 
-// Whether `stdin` stands anywhere in one of the entries.
+/// Whether `stdin` stands anywhere in one of the entries.
 #[cycle(stdin_uses)]
-fn have_stdin(entries: &[EntryExpr]) -> bool
+pub fn have_stdin(entries: &[EntryExpr]) -> bool
     ensures { result ≡ entries_have_stdin (entries_of (listed entries.now)) }
 {
     for entry in entries {

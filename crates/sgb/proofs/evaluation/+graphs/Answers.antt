@@ -1,4 +1,4 @@
-use Rattle.std.proofs.Common.{◌≡◌, ◌<◌, length, ℕ, ℤ, List, Result, Ok, Err, ap, sym, subst, w64, rules, arith, inr}
+use Rattle.std.proofs.Common.{◌≡◌, ◌||◌, ◌∙◌, ◌++◌, ℕ, ℤ, List, [], ◌∷◌, Result, Ok, Err, refl, ap, sym, subst, w64, rules, arith, inr}
 use Rattle.std.proofs.lemmas.Result.{err_from_is_err_and}
 use Rattle.std.proofs.lemmas.Int.{to_z-of_z}
 use Rattle.sgb_vec.specs.declared.panics.Panic.{Panic}
@@ -6,6 +6,7 @@ use Rattle.sgb_graph.specs.Descriptions.{Description, IsAnswerOf}
 use Rattle.sgb_graph.specs.Graphs.{GraphData}
 use Rattle.sgb_expr.specs.inner.CodeEntries.{listed}
 use Rattle.sgb_expr.specs.Expression.{entries_of, entry_of, expression_of}
+use Rattle.sgb_expr.specs.StdinUses.{entries_have_stdin, has_stdin}
 use Rattle.sgb_expr.specs.declared.entries.EntryExpr.{EntryExpr}
 use Rattle.sgb_ops.specs.Induced.{induced_of}
 use Rattle.sgb_ops.specs.declared.entries.Entry.{Entry as Handed}
@@ -18,8 +19,11 @@ use Rattle.sgb_ops.specs.Product.{product_graph_of}
 use Rattle.sgb_ops.specs.BiComplete.{bi_complete_of}
 use Rattle.sgb_ops.specs.Wheel.{wheel_of}
 use Rattle.sgb.specs.Values.{IsValue, both, made, value_of, values_of}
-use Rattle.sgb.proofs.EntryValues.{entries_handed, entries_refused, entry_smaller, induced_size, induced_value}
-use Rattle.sgb.proofs.Values.{size_of_entries, size_of_entry, value_made, value_then}
+use Rattle.sgb.specs.declared.evaluation.entries.EntryValue.{EntryValue}
+use Rattle.sgb.specs.inner.Inputs.{left_after}
+use Rattle.sgb.proofs.EntryValues.{and_values, entries_handed, entries_refused, induced_reads, induced_size, induced_value, one_more}
+use Rattle.sgb.proofs.InputsLeft.{if_ok, left_on, value_on, values_on}
+use Rattle.sgb.proofs.Values.{both_refused, size_of_entries, size_of_entry, value_both, value_made, value_then}
 use Rattle.sgb.proofs.evaluation.+graphs.Goals as goal
 
 -- the value of an operand that stands in a box
@@ -33,51 +37,51 @@ at_values input e f e' f' operands same alike is =
     subst (λ (x : Expr). both (value_of input (expression_of x)) (value_of input (expression_of f')) ≡ Ok operands) same
     (subst (λ (y : Expr). both (value_of input (expression_of e)) (value_of input (expression_of y)) ≡ Ok operands) alike is)
 
-pub graph_of-returns-in-Generator : goal.graph_of-returns-in-Generator
-graph_of-returns-in-Generator t c =
+pub evaluate-returns-in-Generator-clause-value : goal.evaluate-returns-in-Generator-clause-value
+evaluate-returns-in-Generator-clause-value t c =
     subst (λ (e : Expr). IsValue (value_of c.args.input.now (expression_of e)) c.generator_graph.result) (sym c.in-Generator.is) (value_made _ _ c.generator_graph.ensures)
 
-pub graph_of-returns-in_ok-operand-in-Complement : goal.graph_of-returns-in_ok-operand-in-Complement
-graph_of-returns-in_ok-operand-in-Complement t c =
+pub evaluate-returns-in_ok-operand-in-Complement-clause-value : goal.evaluate-returns-in_ok-operand-in-Complement-clause-value
+evaluate-returns-in_ok-operand-in-Complement-clause-value t c =
     let a = c.in-Complement in
     subst (λ (e : Expr). IsValue (value_of c.args.input.now (expression_of e)) c.complement.result) (sym a.is)
     (value_then (value_of c.args.input.now (expression_of a.graph.value)) c.in_ok-operand-in-Complement.operand (λ g. made (complement_of g a.copy a.self_loops a.directed)) c.complement.result
-    (at_value c.args.input.now c.deref.result.now a.graph.value c.in_ok-operand-in-Complement.operand c.deref.ensures c.in_ok-operand-in-Complement.ensures)
+    (at_value c.args.input.now c.deref.result.now a.graph.value c.in_ok-operand-in-Complement.operand c.deref.ensures c.in_ok-operand-in-Complement.ensures.value)
     (value_made (complement_of c.in_ok-operand-in-Complement.operand a.copy a.self_loops a.directed) c.complement.result c.complement.ensures))
 
-pub graph_of-returns-in_ok-left-in-Gunion : goal.graph_of-returns-in_ok-left-in-Gunion
-graph_of-returns-in_ok-left-in-Gunion t c =
+pub evaluate-returns-in_ok-left-in-Gunion-clause-value : goal.evaluate-returns-in_ok-left-in-Gunion-clause-value
+evaluate-returns-in_ok-left-in-Gunion-clause-value t c =
     let a = c.in-Gunion in
     subst (λ (e : Expr). IsValue (value_of c.args.input.now (expression_of e)) c.gunion.result) (sym a.is)
     (value_then (both (value_of c.args.input.now (expression_of a.first.value)) (value_of c.args.input.now (expression_of a.second.value))) (c.in_ok-left-in-Gunion.left, c.in_ok-left-in-Gunion.right)
     (λ operands. made (gunion_of operands.0 operands.1 a.multi a.directed)) c.gunion.result
-    (at_values c.args.input.now _ _ a.first.value a.second.value _ c.deref-in-Gunion.ensures c.deref-in-Gunion-2.ensures c.in_ok-left-in-Gunion.ensures)
+    (at_values c.args.input.now _ _ a.first.value a.second.value _ c.deref-in-Gunion.ensures c.deref-in-Gunion-2.ensures c.in_ok-left-in-Gunion.ensures.value)
     (value_made (gunion_of c.in_ok-left-in-Gunion.left c.in_ok-left-in-Gunion.right a.multi a.directed) c.gunion.result c.gunion.ensures))
 
-pub graph_of-returns-in_ok-left-in-Intersection : goal.graph_of-returns-in_ok-left-in-Intersection
-graph_of-returns-in_ok-left-in-Intersection t c =
+pub evaluate-returns-in_ok-left-in-Intersection-clause-value : goal.evaluate-returns-in_ok-left-in-Intersection-clause-value
+evaluate-returns-in_ok-left-in-Intersection-clause-value t c =
     let a = c.in-Intersection in
     subst (λ (e : Expr). IsValue (value_of c.args.input.now (expression_of e)) c.intersection.result) (sym a.is)
     (value_then (both (value_of c.args.input.now (expression_of a.first.value)) (value_of c.args.input.now (expression_of a.second.value))) (c.in_ok-left-in-Intersection.left, c.in_ok-left-in-Intersection.right)
     (λ operands. made (intersection_of operands.0 operands.1 a.multi a.directed)) c.intersection.result
-    (at_values c.args.input.now _ _ a.first.value a.second.value _ c.deref-in-Intersection.ensures c.deref-in-Intersection-2.ensures c.in_ok-left-in-Intersection.ensures)
+    (at_values c.args.input.now _ _ a.first.value a.second.value _ c.deref-in-Intersection.ensures c.deref-in-Intersection-2.ensures c.in_ok-left-in-Intersection.ensures.value)
     (value_made (intersection_of c.in_ok-left-in-Intersection.left c.in_ok-left-in-Intersection.right a.multi a.directed) c.intersection.result c.intersection.ensures))
 
-pub graph_of-returns-in_ok-operand-in-Lines : goal.graph_of-returns-in_ok-operand-in-Lines
-graph_of-returns-in_ok-operand-in-Lines t c =
+pub evaluate-returns-in_ok-operand-in-Lines-clause-value : goal.evaluate-returns-in_ok-operand-in-Lines-clause-value
+evaluate-returns-in_ok-operand-in-Lines-clause-value t c =
     let a = c.in-Lines in
     subst (λ (e : Expr). IsValue (value_of c.args.input.now (expression_of e)) c.lines.result) (sym a.is)
     (value_then (value_of c.args.input.now (expression_of a.graph.value)) c.in_ok-operand-in-Lines.operand (λ g. made (line_graph_of g a.directed)) c.lines.result
-    (at_value c.args.input.now _ a.graph.value c.in_ok-operand-in-Lines.operand c.deref-in-Lines.ensures c.in_ok-operand-in-Lines.ensures)
+    (at_value c.args.input.now _ a.graph.value c.in_ok-operand-in-Lines.operand c.deref-in-Lines.ensures c.in_ok-operand-in-Lines.ensures.value)
     (value_made (line_graph_of c.in_ok-operand-in-Lines.operand a.directed) c.lines.result c.lines.ensures))
 
-pub graph_of-returns-in_ok-left-in-Product : goal.graph_of-returns-in_ok-left-in-Product
-graph_of-returns-in_ok-left-in-Product t c =
+pub evaluate-returns-in_ok-left-in-Product-clause-value : goal.evaluate-returns-in_ok-left-in-Product-clause-value
+evaluate-returns-in_ok-left-in-Product-clause-value t c =
     let a = c.in-Product in
     subst (λ (e : Expr). IsValue (value_of c.args.input.now (expression_of e)) c.product.result) (sym a.is)
     (value_then (both (value_of c.args.input.now (expression_of a.first.value)) (value_of c.args.input.now (expression_of a.second.value))) (c.in_ok-left-in-Product.left, c.in_ok-left-in-Product.right)
     (λ operands. made (product_graph_of operands.0 operands.1 a.kind a.directed)) c.product.result
-    (at_values c.args.input.now _ _ a.first.value a.second.value _ c.deref-in-Product.ensures c.deref-in-Product-2.ensures c.in_ok-left-in-Product.ensures)
+    (at_values c.args.input.now _ _ a.first.value a.second.value _ c.deref-in-Product.ensures c.deref-in-Product-2.ensures c.in_ok-left-in-Product.ensures.value)
     (value_made (product_graph_of c.in_ok-left-in-Product.left c.in_ok-left-in-Product.right a.kind a.directed) c.product.result
     (subst (λ kind. IsAnswerOf (product_graph_of c.in_ok-left-in-Product.left c.in_ok-left-in-Product.right kind a.directed) c.product.result)
     (to_z-of_z w64 a.kind (search rules)) c.product.ensures.answer)))
@@ -86,70 +90,111 @@ graph_of-returns-in_ok-left-in-Product t c =
 at_numbers : (make : ℤ → ℤ → Result Description Panic) (m n m' n' : ℤ) (r : Result GraphData Panic) → m' ≡ m → n' ≡ n → IsAnswerOf (make m' n') r → IsAnswerOf (make m n) r
 at_numbers make m n m' n' r e f is = subst (λ k. IsAnswerOf (make m k) r) f (subst (λ k. IsAnswerOf (make k n') r) e is)
 
-pub graph_of-returns-in-BiComplete : goal.graph_of-returns-in-BiComplete
-graph_of-returns-in-BiComplete t c =
+pub evaluate-returns-in-BiComplete-clause-value : goal.evaluate-returns-in-BiComplete-clause-value
+evaluate-returns-in-BiComplete-clause-value t c =
     let a = c.in-BiComplete in
     subst (λ (e : Expr). IsValue (value_of c.args.input.now (expression_of e)) c.bi_complete.result) (sym a.is)
     (value_made (bi_complete_of a.n1 a.n2 a.directed) c.bi_complete.result
     (at_numbers (λ n1 n2. bi_complete_of n1 n2 a.directed) a.n1 a.n2 _ _ c.bi_complete.result (to_z-of_z w64 a.n1 (search rules)) (to_z-of_z w64 a.n2 (search rules)) c.bi_complete.ensures.answer))
 
-pub graph_of-returns-in-Wheel : goal.graph_of-returns-in-Wheel
-graph_of-returns-in-Wheel t c =
+pub evaluate-returns-in-Wheel-clause-value : goal.evaluate-returns-in-Wheel-clause-value
+evaluate-returns-in-Wheel-clause-value t c =
     let a = c.in-Wheel in
     subst (λ (e : Expr). IsValue (value_of c.args.input.now (expression_of e)) c.wheel.result) (sym a.is)
     (value_made (wheel_of a.n a.n1 a.directed) c.wheel.result
     (at_numbers (λ n n1. wheel_of n n1 a.directed) a.n a.n1 _ _ c.wheel.result (to_z-of_z w64 a.n (search rules)) (to_z-of_z w64 a.n1 (search rules)) c.wheel.ensures.answer))
 
-pub graph_of-returns-in-Stdin : goal.graph_of-returns-in-Stdin
-graph_of-returns-in-Stdin t c =
-    subst (λ (e : Expr). IsValue (value_of c.args.input.now (expression_of e)) c.stdin_graph.result) (sym c.in-Stdin.is) c.stdin_graph.ensures
+pub evaluate-returns-in-Stdin-clause-value : goal.evaluate-returns-in-Stdin-clause-value
+evaluate-returns-in-Stdin-clause-value t c =
+    subst (λ (e : Expr). IsValue (value_of c.args.input.now (expression_of e)) c.read_kept.result) (sym c.in-Stdin.is) c.read_kept.ensures.value
 
-pub graph_of-values_of-requires : goal.graph_of-values_of-requires
-graph_of-values_of-requires t c =
+pub evaluate-values_of-requires : goal.evaluate-values_of-requires
+evaluate-values_of-requires t c =
     let a = c.in-Induced in
     let size = induced_size c.args.expression.now a.graph a.entries a.self_loops a.multi a.directed a.is in
-    let same = ap (λ es. size_of_entries (entries_of (listed es))) c.as_slice.ensures in
+    let same = ap (λ es. size_of_entries (entries_of (listed es))) c.as_slice-entries.ensures in
     (omega (arith, size, same, c.decreases), tt)
 
-pub graph_of-returns-in_err-values-in-Induced : goal.graph_of-returns-in_err-values-in-Induced
-graph_of-returns-in_err-values-in-Induced t c =
+pub evaluate-returns-in_err-values-in-Induced-clause-value : goal.evaluate-returns-in_err-values-in-Induced-clause-value
+evaluate-returns-in_err-values-in-Induced-clause-value t c =
     let a = c.in-Induced in
     let p = err_from_is_err_and c.from_residual-in_err-values-in-Induced.result c.from_residual-in_err-values-in-Induced.ensures.1 in
-    let refused = subst (λ (es : List EntryExpr). IsValue (values_of c.args.input.now (entries_of (listed es))) (Err c.in_err-values-in-Induced.field-0.0)) c.as_slice.ensures c.in_err-values-in-Induced.ensures.refused in
+    let same = values_on _ _ _ _ _ (entries_of (listed c.as_slice-entries.result.now)) c.more_in.ensures c.in_ok-operand-in-Induced.ensures.left in
+    let refused = subst (λ (v : Result (List EntryValue) Panic). IsValue v (Err c.in_err-values-in-Induced.field-0.0)) same c.in_err-values-in-Induced.ensures.refused in
+    let by = subst (λ (es : List EntryExpr). IsValue (values_of c.args.input.now (entries_of (listed es))) (Err c.in_err-values-in-Induced.field-0.0)) c.as_slice-entries.ensures refused in
     rw (p.1, p.2)
     (subst (λ (v : Result GraphData Panic). IsValue v (Err c.in_err-values-in-Induced.field-0.0)) (sym (induced_value c.args.input.now c.args.expression.now a.graph a.entries a.self_loops a.multi a.directed a.is))
     (entries_refused _ _ c.in_ok-operand-in-Induced.operand a.self_loops a.multi a.directed c.in_err-values-in-Induced.field-0.0
-    (at_value c.args.input.now _ a.graph.value c.in_ok-operand-in-Induced.operand c.deref-in-Induced.ensures c.in_ok-operand-in-Induced.ensures) refused))
+    (at_value c.args.input.now _ a.graph.value c.in_ok-operand-in-Induced.operand c.deref-in-Induced.ensures c.in_ok-operand-in-Induced.ensures.value) by))
 
-pub graph_of-returns-in_err-list-in-Induced : goal.graph_of-returns-in_err-list-in-Induced
-graph_of-returns-in_err-list-in-Induced t c =
+pub evaluate-returns-in_err-list-in-Induced-clause-value : goal.evaluate-returns-in_err-list-in-Induced-clause-value
+evaluate-returns-in_err-list-in-Induced-clause-value t c =
     let a = c.in-Induced in
     let p = err_from_is_err_and c.from_residual-in_err-list-in-Induced.result c.from_residual-in_err-list-in-Induced.ensures.1 in
     let values = c.in_ok-values-in-Induced.values.items in
-    let is = subst (λ (es : List EntryExpr). values_of c.args.input.now (entries_of (listed es)) ≡ Ok values) c.as_slice.ensures c.in_ok-values-in-Induced.ensures.ok in
+    let same = values_on _ _ _ _ _ (entries_of (listed c.as_slice-entries.result.now)) c.more_in.ensures c.in_ok-operand-in-Induced.ensures.left in
+    let is = subst (λ (es : List EntryExpr). values_of c.args.input.now (entries_of (listed es)) ≡ Ok values) c.as_slice-entries.ensures (sym same ∙ c.in_ok-values-in-Induced.ensures.ok) in
     rw (p.1, p.2)
     (subst (λ (v : Result GraphData Panic). IsValue v (Err c.in_err-list-in-Induced.field-0.0)) (sym (induced_value c.args.input.now c.args.expression.now a.graph a.entries a.self_loops a.multi a.directed a.is))
     (entries_handed _ _ c.in_ok-operand-in-Induced.operand values a.self_loops a.multi a.directed (Err c.in_err-list-in-Induced.field-0.0)
-    (at_value c.args.input.now _ a.graph.value c.in_ok-operand-in-Induced.operand c.deref-in-Induced.ensures c.in_ok-operand-in-Induced.ensures) is
+    (at_value c.args.input.now _ a.graph.value c.in_ok-operand-in-Induced.operand c.deref-in-Induced.ensures c.in_ok-operand-in-Induced.ensures.value) is
     (inr c.in_err-list-in-Induced.ensures.memory)))
 
-pub graph_of-returns-in_ok-list-in-Induced : goal.graph_of-returns-in_ok-list-in-Induced
-graph_of-returns-in_ok-list-in-Induced t c =
+pub evaluate-returns-in_ok-list-in-Induced-clause-value : goal.evaluate-returns-in_ok-list-in-Induced-clause-value
+evaluate-returns-in_ok-list-in-Induced-clause-value t c =
     let a = c.in-Induced in
     let values = c.in_ok-values-in-Induced.values.items in
     let list = c.in_ok-list-in-Induced.list.items in
     let operand = c.in_ok-operand-in-Induced.operand in
-    let is = subst (λ (es : List EntryExpr). values_of c.args.input.now (entries_of (listed es)) ≡ Ok values) c.as_slice.ensures c.in_ok-values-in-Induced.ensures.ok in
+    let same = values_on _ _ _ _ _ (entries_of (listed c.as_slice-entries.result.now)) c.more_in.ensures c.in_ok-operand-in-Induced.ensures.left in
+    let is = subst (λ (es : List EntryExpr). values_of c.args.input.now (entries_of (listed es)) ≡ Ok values) c.as_slice-entries.ensures (sym same ∙ c.in_ok-values-in-Induced.ensures.ok) in
     let answer = subst (λ (es : List Handed). IsAnswerOf (induced_of operand es a.self_loops a.multi a.directed) c.induced.result) c.deref-in-Induced-2.ensures.value c.induced.ensures.answer in
     subst (λ (v : Result GraphData Panic). IsValue v c.induced.result) (sym (induced_value c.args.input.now c.args.expression.now a.graph a.entries a.self_loops a.multi a.directed a.is))
     (entries_handed _ _ operand values a.self_loops a.multi a.directed c.induced.result
-    (at_value c.args.input.now _ a.graph.value operand c.deref-in-Induced.ensures c.in_ok-operand-in-Induced.ensures) is
+    (at_value c.args.input.now _ a.graph.value operand c.deref-in-Induced.ensures c.in_ok-operand-in-Induced.ensures.value) is
     (subst (λ (es : List Handed). IsValue (made (induced_of operand es a.self_loops a.multi a.directed)) c.induced.result) c.in_ok-list-in-Induced.ensures.ok
     (value_made (induced_of operand list a.self_loops a.multi a.directed) c.induced.result answer)))
 
+pub evaluate-returns-in_ok-list-in-Induced-clause-left : goal.evaluate-returns-in_ok-list-in-Induced-clause-left
+evaluate-returns-in_ok-list-in-Induced-clause-left t c =
+    let a = c.in-Induced in
+    let left = left_on c.args.more _ _ _ _ (entries_have_stdin (entries_of (listed c.as_slice-entries.result.now))) _ c.more_in.ensures c.in_ok-operand-in-Induced.ensures.left c.in_ok-values-in-Induced.ensures.left in
+    let graph = ap (λ x. has_stdin (expression_of x) || entries_have_stdin (entries_of (listed c.as_slice-entries.result.now))) c.deref-in-Induced.ensures in
+    let entries = ap (λ es. has_stdin (expression_of a.graph.value) || entries_have_stdin (entries_of (listed es))) c.as_slice-entries.ensures in
+    let all = induced_reads c.args.expression.now a.graph a.entries a.self_loops a.multi a.directed a.is in
+    if_ok c.induced.result _ (left ∙ ap (λ reads. left_after c.args.more reads c.args.input.now) (graph ∙ entries ∙ sym all))
+
+pub operands-returns-in_err-right-clause-value : goal.operands-returns-in_err-right-clause-value
+operands-returns-in_err-right-clause-value t c =
+    let p = err_from_is_err_and c.from_residual-in_err-right.result c.from_residual-in_err-right.ensures.1 in
+    let same = value_on _ _ _ _ _ (expression_of c.args.second.now) c.more_with.ensures c.in_ok-left.ensures.left in
+    rw (p.1, p.2) (both_refused _ _ c.in_ok-left.left c.in_err-right.field-0.0 c.in_ok-left.ensures.value
+    (subst (λ (v : Result GraphData Panic). IsValue v (Err c.in_err-right.field-0.0)) same c.in_err-right.ensures.value))
+
+pub operands-returns-clause-value : goal.operands-returns-clause-value
+operands-returns-clause-value t c =
+    let same = value_on _ _ _ _ _ (expression_of c.args.second.now) c.more_with.ensures c.in_ok-left.ensures.left in
+    value_both _ _ c.in_ok-left.left c.in_ok-right.right c.in_ok-left.ensures.value (sym same ∙ c.in_ok-right.ensures.value)
+
 pub values_of-value_of_entry-requires : goal.values_of-value_of_entry-requires
 values_of-value_of_entry-requires t c =
-    let within : c.loop-entry.entry-index < length c.args.entries.now = search (rules, arith) in
-    let smaller = entry_smaller c.args.entries.now c.loop-entry.entry-index c.entry-item.result within in
-    let same = ap (λ (e : EntryExpr). size_of_entry (entry_of e)) c.entry-item.is in
-    (omega (arith, smaller, same, c.decreases), tt)
+    let same = ap (λ (es : List EntryExpr). size_of_entries (entries_of (listed es))) c.in-Some.ensures.cases.0 in
+    (omega (arith, same, c.loop-entry.invariant.2, c.decreases), tt)
+
+pub values_of-loop-entry-preserved : goal.values_of-loop-entry-preserved
+values_of-loop-entry-preserved t c =
+    let taken = c.in-Some.ensures.cases.0 in
+    let others = entries_of (listed c.in-Some.others.now) in
+    let before = c.loop-entry.values.items in
+    let value = c.in_ok-value.value in
+    let left = c.in_ok-value.ensures.left in (
+      ap (λ (vs : List EntryValue). and_values vs (values_of c.value_of_entry.new.input others)) c.in_ok-push.ensures.items
+          ∙ ap (and_values (before ++ value ∷ [])) (values_on c.args.more _ _ c.loop-entry.input _ others refl left)
+          ∙ one_more before value _ (values_of c.loop-entry.input others) c.in_ok-value.ensures.value
+          ∙ ap (λ (es : List EntryExpr). and_values before (values_of c.loop-entry.input (entries_of (listed es)))) (sym taken)
+          ∙ c.loop-entry.invariant.0,
+      left_on c.args.more _ _ c.loop-entry.input _ (entries_have_stdin others) _ refl left refl
+          ∙ ap (λ (es : List EntryExpr). left_after c.args.more (entries_have_stdin (entries_of (listed es))) c.loop-entry.input) (sym taken)
+          ∙ c.loop-entry.invariant.1,
+      omega (arith, ap (λ (es : List EntryExpr). size_of_entries (entries_of (listed es))) taken, c.loop-entry.invariant.2),
+    )

@@ -1,14 +1,16 @@
-use Rattle.std.proofs.Common.{◌≡◌, ◌+◌, drop}
+use Rattle.std.proofs.Common.{◌≡◌, ◌≤◌, ◌+◌, length}
 use Rattle.sgb_expr.specs.inner.CodeEntries.{listed}
 use Rattle.sgb_expr.specs.Expression.{entries_of, entry_of, expression_of}
+use Rattle.sgb_expr.specs.StdinUses.{entries_have_stdin}
 use Rattle.sgb.specs.Values.{values_of}
+use Rattle.sgb.specs.inner.Inputs.{left_after}
 use Rattle.sgb.proofs.EntryValues.{and_values}
 use Rattle.sgb.proofs.Values.{size_of, size_of_entries, size_of_entry}
 use Rattle.sgb.proofs.evaluation.+graphs.Given as goal
 
 -- an expression is larger than its operands together
-abbrev pub decreases-graph_of : goal.decreases-graph_of
-decreases-graph_of l = size_of (expression_of l.expression.now)
+abbrev pub decreases-evaluate : goal.decreases-evaluate
+decreases-evaluate l = size_of (expression_of l.expression.now)
 
 abbrev pub decreases-operands : goal.decreases-operands
 decreases-operands l = size_of (expression_of l.first.now) + size_of (expression_of l.second.now) + 1
@@ -19,7 +21,12 @@ decreases-values_of l = size_of_entries (entries_of (listed l.entries.now)) + 1
 abbrev pub decreases-value_of_entry : goal.decreases-value_of_entry
 decreases-value_of_entry l = size_of_entry (entry_of l.entry.now)
 
--- with the values of the entries that are left, they are all
+-- with the values of the entries that are left, they are all; the input is left as by all where it is left so by these
 abbrev pub invariant-values_of-loop-entry : goal.invariant-values_of-loop-entry
 invariant-values_of-loop-entry l =
-    and_values l.values.items (values_of l.input (entries_of (listed (drop l.entry-index l.entries)))) ≡ values_of l.input (entries_of (listed l.entries))
+    (and_values l.values.items (values_of l.input (entries_of (listed l.later))) ≡ values_of l.initial.input (entries_of (listed l.entries)))
+    × (left_after l.more (entries_have_stdin (entries_of (listed l.later))) l.input ≡ left_after l.more (entries_have_stdin (entries_of (listed l.entries))) l.initial.input)
+    × (size_of_entries (entries_of (listed l.later)) ≤ size_of_entries (entries_of (listed l.entries)))
+
+abbrev pub decreases-values_of-loop-entry : goal.decreases-values_of-loop-entry
+decreases-values_of-loop-entry l = length l.later

@@ -17,7 +17,7 @@ returns-in_err-write_answer-clause-ended g c =
       c.in_ok-input.input.items,
       c.in_ok-input.ensures.kept,
       read_sound _ _ _ _ _ c.in_ok-input.ensures.ended
-          (rw c.as_slice.ensures.value at c.in_err-write_answer.ensures),
+          c.in_err-write_answer.ensures,
     )
 
 pub returns-clause-ended : goal.returns-clause-ended
@@ -26,5 +26,5 @@ returns-clause-ended g c =
       c.in_ok-input.input.items,
       c.in_ok-input.ensures.kept,
       read_sound _ _ _ _ _ c.in_ok-input.ensures.ended
-          (flush_ended _ _ _ _ _ _ _ _ _ _ (rw c.as_slice.ensures.value at c.in_ok-write_answer.ensures) passed.kept passed.failed passed.fault),
+          (flush_ended _ _ _ _ _ _ _ _ _ _ c.in_ok-write_answer.ensures passed.kept passed.failed passed.fault),
     )
