@@ -5,7 +5,8 @@ use Rattle.sgb_vec.specs.declared.panics.Panic.{Panic}
 use Rattle.sgb_graph.specs.Graphs.{GraphData}
 use Rattle.sgb_ops.specs.Induced.{induced_of}
 use Rattle.sgb_expr.proofs.CodeExpressions.{induced_is}
-use Rattle.sgb_expr.specs.inner.CodeEntries.{list_of, listed}
+use Rattle.sgb_expr.specs.inner.CodeEntries.{list_of}
+use Rattle.sgb_expr.specs.Listed.{listed}
 use Rattle.sgb_expr.specs.Expression.{entries_of, entry_of, expression_of}
 use Rattle.sgb_expr.specs.StdinUses.{entries_have_stdin, has_stdin}
 use Rattle.sgb_expr.specs.declared.entries.Entries.{Entries}

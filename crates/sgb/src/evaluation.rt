@@ -1,7 +1,7 @@
 //! The graphs that expressions name (GB_BASIC).
 ghost use Rattle.std.specs.Prelude.{◌≡◌, ◌||◌, [], Err, Ok, IfErr, IfOk};
 ghost use Rattle.sgb_graph.specs.Descriptions.{IsAnswerOf};
-ghost use Rattle.sgb_expr.specs.inner.CodeEntries.{listed};
+ghost use Rattle.sgb_expr.specs.Listed.{listed};
 ghost use Rattle.sgb_expr.specs.Expression.{entries_of, entry_of, expression_of};
 ghost use Rattle.sgb_expr.specs.StdinUses.{entries_have_stdin, entry_has_stdin, has_stdin};
 ghost use Rattle.sgb.specs.Outcomes.{moves_of, queen_moves};

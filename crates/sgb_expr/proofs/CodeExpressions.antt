@@ -1,7 +1,8 @@
 -- What expressions of the code that hold entries are.
 use mathlib.Core.Former.{Count}
 use Rattle.std.proofs.Common.{◌≡◌, ℤ, Bool, List, Box, Global, refl, ◌∙◌, ap}
-use Rattle.sgb_expr.specs.inner.CodeEntries.{listed, list_of}
+use Rattle.sgb_expr.specs.inner.CodeEntries.{list_of}
+use Rattle.sgb_expr.specs.Listed.{listed}
 use Rattle.sgb_expr.specs.Expression.{Expression, entries_of, entry_of, expression_of, row_entries, EntryThen}
 use Rattle.sgb_expr.specs.Operations.{flag_at, induced_of}
 use Rattle.sgb_expr.specs.declared.entries.Entries.{Entries}

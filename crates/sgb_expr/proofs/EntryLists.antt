@@ -1,6 +1,6 @@
 -- Entries read one after another.
 use Rattle.std.proofs.Common.{◌≡◌, ◌≢◌, ◌+◌, ◌-◌, ℕ, zero, suc, List, [], ◌∷◌, ◌++◌, length, codes, Result, Ok, refl, sym, ◌∙◌, ap, inl, inr, append-nil, arith}
-use Rattle.sgb_expr.specs.inner.CodeEntries.{listed}
+use Rattle.sgb_expr.specs.Listed.{listed}
 use Rattle.sgb_expr.specs.Expression.{Entry, entry_of}
 use Rattle.sgb_expr.specs.inner.Gives.{Fails}
 use Rattle.sgb_expr.specs.inner.Readings.{or_else, then_read, read_after, read_as, fixed_at, fixed_as, separator_before}

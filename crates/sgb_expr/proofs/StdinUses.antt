@@ -1,6 +1,7 @@
 -- Which expressions of the code read standard input.
 use Rattle.std.proofs.Common.{◌≡◌, ◌||◌, Bool, false, Box, Global, List, ap, ◌∙◌}
-use Rattle.sgb_expr.specs.inner.CodeEntries.{list_of, listed}
+use Rattle.sgb_expr.specs.inner.CodeEntries.{list_of}
+use Rattle.sgb_expr.specs.Listed.{listed}
 use Rattle.sgb_expr.specs.Expression.{entries_of, expression_of}
 use Rattle.sgb_expr.specs.StdinUses.{entries_have_stdin, has_stdin}
 use Rattle.sgb_expr.specs.declared.entries.Entries.{Entries}

@@ -15,6 +15,8 @@ pub mod Operations
 pub mod Expressions
 -- what entries of the code are
 pub mod CodeEntries
+-- lists of entries of the code, as entries
+pub mod Listed
 -- which expressions read standard input
 pub mod StdinUses
 -- the texts that ask for numbers of the random generator

@@ -1,6 +1,6 @@
 //! Which expressions read standard input.
 ghost use Rattle.std.specs.Prelude.{◌≡◌};
-ghost use Rattle.sgb_expr.specs.inner.CodeEntries.{listed};
+ghost use Rattle.sgb_expr.specs.Listed.{listed};
 ghost use Rattle.sgb_expr.specs.Expression.{entries_of, entry_of, expression_of};
 ghost use Rattle.sgb_expr.specs.StdinUses.{entries_have_stdin, entry_has_stdin, has_stdin};
 

@@ -137,7 +137,7 @@ start_found head text found e =
     subst (λ (f : Found GraphData). StartsEmpty f.value) (own_parts head text found e).same (record { vertices = refl; records = refl })
 
 -- the records where those of the graph and of the vertices are read
-pub records_whole : (head : Head) (parts more : GraphData) (t0 t1 t2 t3 t4 : List ℕ) → graph_record_at head t0 ≡ Some (record { value = parts; rest = t1 })
+records_whole : (head : Head) (parts more : GraphData) (t0 t1 t2 t3 t4 : List ℕ) → graph_record_at head t0 ≡ Some (record { value = parts; rest = t1 })
     → after_prefix (codes "* Vertices\n") t1 ≡ Some t2 → vertices_at head parts head.counts.vertices t2 ≡ Some (record { value = more; rest = t3 })
     → after_prefix (codes "* Arcs\n") t3 ≡ Some t4 → records_at head t0 ≡ arcs_at head more head.counts.arcs t4
 records_whole head parts more t0 t1 t2 t3 t4 g a v b =
@@ -152,3 +152,25 @@ records_whole head parts more t0 t1 t2 t3 t4 g a v b =
     ∙ (ap (λ (xs : List Vertex). found_as (λ rs. record parts { vertices = xs ++ vs; records = rs }) arcs) (sym start.vertices)
     ∙ (ap (λ (xs : List ArcRec). found_as (λ rs. record parts { vertices = parts.vertices ++ vs; records = xs ++ rs }) arcs) (sym start.records)
     ∙ ap (λ x. arcs_at head x.value head.counts.arcs t4) p.same)))))
+
+-- there are none where no title of the arcs comes after those
+records_none : (head : Head) (parts more : GraphData) (t0 t1 t2 t3 : List ℕ) → graph_record_at head t0 ≡ Some (record { value = parts; rest = t1 })
+    → after_prefix (codes "* Vertices\n") t1 ≡ Some t2 → vertices_at head parts head.counts.vertices t2 ≡ Some (record { value = more; rest = t3 })
+    → after_prefix (codes "* Arcs\n") t3 ≡ None → records_at head t0 ≡ None
+records_none head parts more t0 t1 t2 t3 g a v b =
+    let p = was_mapped (all_at (vertex_record_at head) head.counts.vertices t2) {f = λ x. record { value = record parts { vertices = parts.vertices ++ x.value }; rest = x.rest }} v in
+    let vs = p.first.value in
+    ap (λ o. given o (titles_after head)) g
+    ∙ (ap (λ o. given o (vertices_after head parts)) a
+    ∙ (ap (λ o. given o (arcs_after head parts)) p.here
+    ∙ ap (λ o. given o (λ third. found_as (λ records. record parts { vertices = vs; records = records }) (all_at (arc_record_at head) head.counts.arcs third))) (ap (λ x. after_prefix (codes "* Arcs\n") x.rest) p.same ∙ b)))
+
+-- so they are those of the section of the arcs
+pub records_sections : (head : Head) (parts more : GraphData) (t0 t1 t2 t3 : List ℕ) → graph_record_at head t0 ≡ Some (record { value = parts; rest = t1 })
+    → after_prefix (codes "* Vertices\n") t1 ≡ Some t2 → vertices_at head parts head.counts.vertices t2 ≡ Some (record { value = more; rest = t3 })
+    → records_at head t0 ≡ given (after_prefix (codes "* Arcs\n") t3) (arcs_at head more head.counts.arcs)
+records_sections head parts more t0 t1 t2 t3 g a v = by_option (after_prefix (codes "* Arcs\n") t3) refl
+  where
+    by_option : (o : Option (List ℕ)) → after_prefix (codes "* Arcs\n") t3 ≡ o → records_at head t0 ≡ given o (arcs_at head more head.counts.arcs)
+    by_option None b = records_none head parts more t0 t1 t2 t3 g a v b
+    by_option (Some t4) b = records_whole head parts more t0 t1 t2 t3 t4 g a v b

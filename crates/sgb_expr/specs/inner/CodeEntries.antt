@@ -1,13 +1,9 @@
 -- Lists of entries of the code.
-use Rattle.std.specs.Prelude.{List, map}
-use Rattle.sgb_expr.specs.Expression.{Entry, entry_of}
+use Rattle.std.specs.Prelude.{List}
+use Rattle.sgb_expr.specs.Expression.{Entry}
 use Rattle.sgb_expr.specs.declared.entries.Entries.{Entries}
-use Rattle.sgb_expr.specs.declared.entries.EntryExpr.{EntryExpr}
 use Rattle.sgb_expr.specs.CodeEntries.{items_of}
-
--- what each of a list is
-abbrev pub listed : List EntryExpr → List Entry
-listed list = map entry_of list
+use Rattle.sgb_expr.specs.Listed.{listed}
 
 -- the entries that they are, in order
 abbrev pub list_of : Entries → List Entry

@@ -1,5 +1,5 @@
 use Rattle.std.proofs.Common.{◌≡◌, ◌≤◌, ◌+◌, length}
-use Rattle.sgb_expr.specs.inner.CodeEntries.{listed}
+use Rattle.sgb_expr.specs.Listed.{listed}
 use Rattle.sgb_expr.specs.Expression.{entries_of, entry_of, expression_of}
 use Rattle.sgb_expr.specs.StdinUses.{entries_have_stdin}
 use Rattle.sgb.specs.Values.{values_of}

@@ -2,7 +2,7 @@ use Rattle.std.proofs.Common.{arith, rules, codes, length, length-append, List, 
 use Rattle.std.proofs.lemmas.Slice.Eq.{strip_prefix_is}
 use Rattle.std.proofs.lemmas.Bool.Decides.{Decides-eqb}
 use Rattle.std.proofs.lemmas.Result.{err_from_is_err_and}
-use Rattle.sgb_expr.specs.inner.CodeEntries.{listed}
+use Rattle.sgb_expr.specs.Listed.{listed}
 use Rattle.sgb_expr.specs.Expression.{entry_of, expression_of}
 use Rattle.sgb_expr.specs.declared.entries.EntryExpr.{EntryExpr}
 use Rattle.sgb_expr.specs.inner.Reading.{entry_at, expression_at}

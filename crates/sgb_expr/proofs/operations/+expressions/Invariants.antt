@@ -1,5 +1,5 @@
 use Rattle.std.proofs.Common.{◌≡◌, ◌<◌, ◌+◌, ◌-◌, ◌*◌, [], length}
-use Rattle.sgb_expr.specs.inner.CodeEntries.{listed}
+use Rattle.sgb_expr.specs.Listed.{listed}
 use Rattle.sgb_expr.specs.inner.Readings.{separator_before}
 use Rattle.sgb_expr.specs.inner.Reading.{entry_list_at, expression_at}
 use Rattle.sgb_expr.proofs.EntryLists.{and_entries}

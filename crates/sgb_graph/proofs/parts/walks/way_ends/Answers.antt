@@ -1,4 +1,4 @@
-use Rattle.std.proofs.Common.{◌≡◌, ◌<◌, ◌-◌, length, Some, None, refl, sym, rules, arith}
+use Rattle.std.proofs.Common.{◌≡◌, ◌-◌, length, Some, None, sym, rules, arith}
 use Rattle.sgb_graph.specs.Columns.{arc_seen}
 use Rattle.sgb_graph.proofs.MarkedWays.{StepsLead, steps_more, walk_ends, walk_outside, walk_meets, walk_is_over}
 use Rattle.sgb_graph.proofs.parts.walks.way_ends.Goals as goal

@@ -1,4 +1,4 @@
-use Rattle.std.proofs.Common.{◌≡◌, ◌&&◌, Some, false, true, ap, sym, ◌∙◌, rules, arith}
+use Rattle.std.proofs.Common.{◌≡◌, ◌&&◌, Some, false, true, ap, sym, ◌∙◌, arith}
 use Rattle.sgb_graph.specs.Columns.{arc_seen}
 use Rattle.sgb_graph.specs.Graphs.{ends_of}
 use Rattle.sgb_graph.specs.Sound.{is_vertex}
