@@ -1,6 +1,6 @@
 -- The events of an induced graph where parts have no ends in common: those of each vertex of a graph that is put in, and
 -- those of each copy.
-use Rattle.std.proofs.Common.{◌≡◌, ◌<◌, ◌≤◌, ◌+◌, ◌==◌, ℕ, zero, suc, Bool, true, false, List, [], ◌∷◌, ◌++◌, length, get_or, Option, Some, None, inl, inr, refl, sym, ap, subst, ◌∙◌, arith, rules}
+use Rattle.std.proofs.Common.{◌≡◌, ◌⊎◌, ◌<◌, ◌≤◌, ◌+◌, ◌==◌, ℕ, zero, suc, Bool, true, false, List, [], ◌∷◌, ◌++◌, length, get_or, Option, Some, None, inl, inr, refl, sym, ap, subst, ◌∙◌, arith, rules}
 use Rattle.std.specs.Prelude.{All, Contains, flat_map, slice_get}
 use Rattle.std.specs.List.{list_any, enumerate_from, range_with_len}
 use Rattle.std.specs.Option.{option_map_or}
@@ -10,13 +10,14 @@ use Rattle.std.proofs.lemmas.List.Elements.{All-nil, All-map, All-filter, All-we
 use Rattle.sgb_vec.proofs.Lists.{All-flat_map, Contains-range, never_true, range-within}
 use Rattle.sgb_graph.specs.Graphs.{GraphData, chain_of}
 use Rattle.sgb_graph.specs.Events.{Event, IsWithin}
-use Rattle.sgb_graph.specs.Growth.{IsKept}
+use Rattle.sgb_graph.specs.Growth.{AddsEvents, IsKept}
+use Rattle.sgb_graph.proofs.AddedEvents.{adds-none}
 use Rattle.sgb_graph.specs.declared.fields.Link.{Link}
 use Rattle.sgb_ops.specs.declared.entries.Entry.{Entry}
 use Rattle.sgb_ops.specs.declared.entries.Entry.TheVariants as entry
 use Rattle.sgb_ops.specs.Entries.{copies_of, events_within, first_copy, inner_event, inner_events, inner_events_from, is_unnumbered, merged_count, size_of_entry, total_of}
 use Rattle.sgb_ops.specs.Induced.{all_events, copies_met, event_between, events_between, events_of_arc, events_of_copies, events_of_copy, induced_events, is_met, is_wanted, wanted}
-use Rattle.sgb_ops.specs.Merged.{has_ends_of, merged_unless}
+use Rattle.sgb_ops.specs.Merged.{has_ends_of, merged, merged_unless}
 use Rattle.sgb_ops.specs.Operands.{order_of, places_of}
 use Rattle.sgb_ops.specs.Taken.{taken}
 use Rattle.sgb_ops.specs.inner.Copies.{IsKeptEntry, copies_start, count_by}
@@ -300,3 +301,15 @@ pub copy_within : (g : GraphData) (entries : List Entry) (directed : Bool) (numb
     → AllWithin (total_of entries) (wanted self (events_of_copy g entries directed v u))
 copy_within g entries directed numbered self v u below =
     All-filter (is_wanted self) (IsWithin (total_of entries)) (events_of_copy g entries directed v u) (copy_events_within entries directed numbered g v u below)
+
+-- of no events none are left
+pub none_left : (multi directed : Bool) → merged_unless multi directed [] ≡ []
+unfolding merged
+none_left true directed = refl
+none_left false directed = refl
+
+-- so none are inside an entry that is no graph
+pub none_inside : (self multi directed : Bool) (start : ℕ) (e : Entry) (g : GraphData) → ((x : ℕ) × (e ≡ entry.Copies x)) ⊎ ((x : ℕ) × (e ≡ entry.Merged x))
+    → AddsEvents directed g g (merged_unless multi directed (wanted self (inner_events directed start e)))
+none_inside self multi directed start e g (inl (x, is)) = rw is (subst (AddsEvents directed g g) (sym (none_left multi directed)) (adds-none directed g))
+none_inside self multi directed start e g (inr (x, is)) = rw is (subst (AddsEvents directed g g) (sym (none_left multi directed)) (adds-none directed g))
