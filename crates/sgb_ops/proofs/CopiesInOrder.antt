@@ -72,7 +72,7 @@ by_entry start u (entry.Merged n) numbered (zero, below, here) =
 by_entry start u (entry.Merged n) numbered (suc k, below, here) = absurd (omega (arith, below))
 
 -- the same for the copies of a vertex
-copy_between : (entries : List Entry) (v u : ℕ) → list_any is_unnumbered entries ≡ false → Contains (copies_of entries v) u
+pub copy_between : (entries : List Entry) (v u : ℕ) → list_any is_unnumbered entries ≡ false → Contains (copies_of entries v) u
     → ((first_copy entries v ≤ u) × (u < first_copy entries (suc v))) ⊎ (slice_get entries v ≡ Some (entry.Merged (u + 1)))
 copy_between entries v u numbered copy = by_option (slice_get entries v) refl copy
   where
@@ -95,7 +95,7 @@ firsts_rise entries v (suc d) =
     let next : suc d + v ≡ suc (d + v) = omega arith in
     omega (arith, firsts_rise entries v d, next_first entries (d + v), ap (first_copy entries) next)
 
-firsts_order : (entries : List Entry) (v w : ℕ) → v < w → first_copy entries (suc v) ≤ first_copy entries w
+pub firsts_order : (entries : List Entry) (v w : ℕ) → v < w → first_copy entries (suc v) ≤ first_copy entries w
 firsts_order entries v w less =
     let place : (w - suc v) + suc v ≡ w = omega (arith, less) in
     omega (arith, firsts_rise entries (suc v) (w - suc v), ap (first_copy entries) place)

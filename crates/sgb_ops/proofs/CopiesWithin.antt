@@ -56,7 +56,7 @@ range_below n a k few = All-weaker (λ u. (a ≤ u) × (u < a + k)) (Below n) (�
 
 module _ (entries : List Entry) (directed : Bool) (numbered : list_any is_unnumbered entries ≡ false) where
   -- the copies of a vertex are among those of all
-  all_copies : (v : ℕ) → All (Below (total_of entries)) (copies_of entries v)
+  pub all_copies : (v : ℕ) → All (Below (total_of entries)) (copies_of entries v)
   all_copies v =
       subst (All (Below (total_of entries))) (sym (copies-range entries v))
       (range_below (total_of entries) (copies_start entries v) (option_map_or count_by (slice_get entries v) 0) (copies_within entries v numbered))
@@ -66,7 +66,7 @@ module _ (entries : List Entry) (directed : Bool) (numbered : list_any is_unnumb
       All-map (IsWithin (total_of entries)) (event_between u a.len) (copies_met entries directed v u a.tip)
       (λ k d h. (below, All-filter (is_met directed v u a.tip) (Below (total_of entries)) (copies_of entries a.tip) (all_copies a.tip) k d h))
 
-  of_copy : (g : GraphData) (v u : ℕ) → u < total_of entries → AllWithin (total_of entries) (events_of_copy g entries directed v u)
+  pub of_copy : (g : GraphData) (v u : ℕ) → u < total_of entries → AllWithin (total_of entries) (events_of_copy g entries directed v u)
   of_copy g v u below = All-flat_map (IsWithin (total_of entries)) (events_of_arc entries directed v u) (taken directed g v) (λ k d h. of_arc v u (get_or (taken directed g v) k d) below)
 
   of_copies : (g : GraphData) (v : ℕ) → AllWithin (total_of entries) (events_of_copies g entries directed v)

@@ -12,12 +12,12 @@ abbrev pub has_same_pair : ℕ × ℕ → ℕ × ℕ → Bool
 has_same_pair p q = (p.0 == q.0) && (p.1 == q.1)
 
 -- the same ends in the same order
-record SameWay (e f : Event) : Type 0 where
+pub record SameWay (e f : Event) : Type 0 where
   pub from : f.from ≡ e.from
   pub to : f.to ≡ e.to
 
 -- or in the other order
-record OtherWay (directed : Bool) (e f : Event) : Type 0 where
+pub record OtherWay (directed : Bool) (e f : Event) : Type 0 where
   pub edges : directed ≡ false
   pub from : f.from ≡ e.to
   pub to : f.to ≡ e.from
@@ -32,7 +32,7 @@ has_ends : (directed : Bool) (e f : Event) → SameWay e f ⊎ OtherWay directed
 has_ends directed e f (inl same) = same_way directed e f same
 has_ends directed e f (inr other) = rw other.edges (other_way e f (rw other.edges at other))
 
-ends : (directed : Bool) (e f : Event) → has_ends_of directed e f ≡ true → SameWay e f ⊎ OtherWay directed e f
+pub ends : (directed : Bool) (e f : Event) → has_ends_of directed e f ≡ true → SameWay e f ⊎ OtherWay directed e f
 ends true e f h = elim (or_cases ((f.from == e.from) && (f.to == e.to)) false h) [
   | inl one ↦ let parts = and_parts _ _ one in inl record { from = eqb-true _ _ parts.0; to = eqb-true _ _ parts.1 }
   | inr none ↦ absurd cc

@@ -97,7 +97,7 @@ copies_between entries v a b first last =
     ap (λ k. range_with_len a k) size ∙ (ap (λ k. range_with_len k count) first ∙ sym (copies-range entries v))
 
 -- the entry that is looked up
-entry_there : (entries : List Entry) (v : ℕ) (e : Entry) → v < length entries → e ≡ get_or entries v e → slice_get entries v ≡ Some e
+pub entry_there : (entries : List Entry) (v : ℕ) (e : Entry) → v < length entries → e ≡ get_or entries v e → slice_get entries v ≡ Some e
 entry_there entries v e below is = slice_get_read entries (length entries) v e refl below is
 
 -- a merged vertex is a copy alone

@@ -51,6 +51,10 @@ pub mod LineRuns
 pub mod EdgeLines
 -- the copies of the vertices, in order and apart
 pub mod CopiesInOrder
+-- events in parts that rise
+pub mod RisingParts
+-- the events of an induced graph, part by part
+pub mod InducedParts
 -- worked examples
 pub mod Examples
 -- refusals that come before memory is taken

@@ -116,4 +116,4 @@ left_of g h multi directed v = merged_unless multi directed (events_of g h direc
 
 -- of all vertices they are those of the union
 pub all_left : (g h : GraphData) (multi directed : Bool) → flat_map (left_of g h multi directed) (places_of g) ≡ merged_unless multi directed (union_events g h directed)
-all_left g h multi directed = sym (merged_parts multi directed (events_of g h directed) (vertices_apart g h directed) 0 (order_of g))
+all_left g h multi directed = sym (merged_parts multi directed (events_of g h directed) 0 (order_of g) (λ u w low after high. vertices_apart g h directed u w after))

@@ -13,6 +13,8 @@ pub mod Lines
 pub mod Merged
 -- a graph under way with a vertex for each pair
 pub mod Pairs
+-- when events may be merged part by part
+pub mod Parts
 -- the arcs taken of a list, met one by one
 pub mod TakenArcs
 -- what is noted of the arcs to each vertex

@@ -14,10 +14,11 @@ use sgb_graph::{Graph, Link};
 use sgb_vec::Panic;
 use std::alloc::Global;
 
-/// Which arcs an induced graph has: loops or none, arcs or edges.
+/// Which arcs an induced graph has: loops or none, parallel ones or none, arcs or edges.
 #[derive(Clone, Copy)]
 pub(crate) struct Flags {
     pub(crate) self_loops: bool,
+    pub(crate) multi: bool,
     pub(crate) directed: bool,
 }
 
@@ -93,8 +94,8 @@ fn push_graph(events: &mut Vec<Event>, inner: &Graph, start: u32, flags: Flags) 
     Ok(())
 }
 
-// Appends those of the arcs of its vertex `w`.
-fn push_inner_arcs(
+/// Appends those of the arcs of its vertex `w`.
+pub(crate) fn push_inner_arcs(
     events: &mut Vec<Event>,
     inner: &Graph,
     start: u32,
@@ -168,8 +169,8 @@ fn push_from_copies(
     Ok(())
 }
 
-// The arcs taken of vertex `v` that lead to vertices with copies: the others are not looked at for each copy of `v`.
-fn arcs_to_copies(
+/// The arcs taken of vertex `v` that lead to vertices with copies: the others are not looked at for each copy of `v`.
+pub(crate) fn arcs_to_copies(
     alloc: Global,
     graph: &Graph,
     copies: &Copies<'_>,
@@ -203,8 +204,8 @@ fn push_arc_to_copies(arcs: &mut Vec<Link>, copies: &Copies<'_>, arc: Link) -> R
     Ok(())
 }
 
-// Appends the events from copy `u` of vertex `v` for these arcs from `v`.
-fn push_from_copy(
+/// Appends the events from copy `u` of vertex `v` for these arcs from `v`.
+pub(crate) fn push_from_copy(
     events: &mut Vec<Event>,
     copies: &Copies<'_>,
     arcs: &[Link],

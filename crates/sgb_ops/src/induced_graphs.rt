@@ -1,17 +1,19 @@
 //! Induced graphs: vertices dropped, kept, repeated, merged, or with a graph put in their place (GB_BASIC, induced).
-ghost use Rattle.std.specs.Prelude.{◌≡◌, ◌≤◌, Ok, Err, false, length, All};
+ghost use Rattle.std.specs.Prelude.{◌≡◌, ◌≤◌, Ok, Err, false, length, All, OnOk, IsOkUnless};
 ghost use Rattle.std.specs.List.{list_any};
 ghost use Rattle.sgb_vec.specs.Limits.{most_vertices};
 ghost use Rattle.sgb_graph.specs.Descriptions.{IsAnswerOf};
+ghost use Rattle.sgb_graph.specs.Growth.{AddsEvents, HasPlainArcs};
 ghost use Rattle.sgb_ops.specs.Entries.{accepted_entries, is_unnumbered, total_of};
-ghost use Rattle.sgb_ops.specs.Induced.{induced_graph, induced_id, induced_of};
+ghost use Rattle.sgb_ops.specs.Induced.{induced_events, induced_graph, induced_id, induced_of};
 ghost use Rattle.sgb_ops.specs.Operands.{order_of};
 ghost use Rattle.sgb_ops.specs.inner.Copies.{IsKeptEntry};
 
 use crate::copied_names::names_by_entries;
 use crate::entries::{Copies, Entry, accept_entries};
-use crate::events::graph_of;
+use crate::events::add_events;
 use crate::induced_events::{Flags, all_events};
+use crate::induced_parts::{add_parts, are_in_parts};
 use crate::merged::merged_unless;
 use crate::titles::flag_byte;
 use sgb_graph::{Graph, Id, compound_id};
@@ -68,15 +70,61 @@ fn induced_by(
         result }
 {
     let copies = Copies::new(alloc, entries)?;
+    let names = names_by_entries(alloc, graph, entries)?;
+    let mut built = Graph::new(alloc, names)?;
     let flags = Flags {
         self_loops,
+        multi,
         directed,
     };
-    let all = all_events(alloc, graph, &copies, flags)?;
-    let events = merged_unless(alloc, multi, directed, all)?;
-    let names = names_by_entries(alloc, graph, entries)?;
-    let id = title(graph.id(), self_loops, multi, directed);
-    graph_of(alloc, directed, &events, names, id)
+    add_induced_events(&mut built, alloc, graph, &copies, flags)?;
+    built.set_id(title(graph.id(), self_loops, multi, directed));
+    Ok(built)
+}
+
+// Adds the events of the induced graph to that of its names: part by part where parts have no ends in common.
+fn add_induced_events(
+    built: &mut Graph,
+    alloc: Global,
+    graph: &Graph,
+    copies: &Copies<'_>,
+    flags: Flags,
+) -> Result<(), Panic>
+    requires count { length copies.now ≡ length graph.now.vertices }
+    requires numbered { list_any is_unnumbered copies.now ≡ false }
+    requires kept { All IsKeptEntry copies.now }
+    requires size { length built.old.vertices ≡ total_of copies.now }
+    requires plain { HasPlainArcs built.old }
+    ensures ok { OnOk result (AddsEvents flags.directed built.old built.new
+        (induced_events graph.now copies.now flags.self_loops flags.multi flags.directed)) }
+    ensures memory { IsOkUnless result Panic.NoRoom }
+{
+    if are_in_parts(graph, copies.entries(), flags.directed) {
+        return add_parts(built, alloc, graph, copies, flags);
+    }
+    add_whole(built, alloc, graph, copies, flags)
+}
+
+// Adds them, merged all at once.
+fn add_whole(
+    built: &mut Graph,
+    alloc: Global,
+    graph: &Graph,
+    copies: &Copies<'_>,
+    flags: Flags,
+) -> Result<(), Panic>
+    requires count { length copies.now ≡ length graph.now.vertices }
+    requires numbered { list_any is_unnumbered copies.now ≡ false }
+    requires kept { All IsKeptEntry copies.now }
+    requires size { length built.old.vertices ≡ total_of copies.now }
+    requires plain { HasPlainArcs built.old }
+    ensures ok { OnOk result (AddsEvents flags.directed built.old built.new
+        (induced_events graph.now copies.now flags.self_loops flags.multi flags.directed)) }
+    ensures memory { IsOkUnless result Panic.NoRoom }
+{
+    let all = all_events(alloc, graph, copies, flags)?;
+    let events = merged_unless(alloc, flags.multi, flags.directed, all)?;
+    add_events(built, flags.directed, &events)
 }
 
 // The id of the result, made from the operand's; the entries are not in it.

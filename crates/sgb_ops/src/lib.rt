@@ -19,6 +19,8 @@ mod gunions;
 mod induced_events;
 // induced
 mod induced_graphs;
+// the events of an induced graph, merged and added part by part
+mod induced_parts;
 // intersection
 mod intersections;
 // laws of the definitions

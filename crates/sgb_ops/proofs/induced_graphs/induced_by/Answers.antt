@@ -1,27 +1,40 @@
-use Rattle.std.proofs.Common.{◌≡◌, ◌∙◌, length, sym, ap, subst, arith}
+use Rattle.std.proofs.Common.{◌≡◌, ◌∙◌, length, sym, ap, subst, rules, arith}
 use Rattle.std.proofs.lemmas.List.{length-map}
-use Rattle.sgb_ops.specs.inner.Ends.{AllWithin}
-use Rattle.sgb_ops.specs.Induced.{all_events, wanted}
-use Rattle.sgb_ops.specs.Merged.{merged_unless}
+use Rattle.sgb_graph.specs.Growth.{AddsEvents, new_vertex}
+use Rattle.sgb_ops.specs.Entries.{names_by_entries, total_of}
+use Rattle.sgb_ops.specs.Induced.{induced_events, induced_id}
 use Rattle.sgb_ops.specs.Operands.{names_of}
-use Rattle.sgb_ops.proofs.CopiesWithin.{induced_within, length-names}
+use Rattle.sgb_ops.proofs.CopiesWithin.{length-names}
+use Rattle.sgb_ops.proofs.Results.{made}
 use Rattle.sgb_ops.proofs.induced_graphs.induced_by.Goals as goal
 
-pub graph_of-requires-clause-few : goal.graph_of-requires-clause-few
-graph_of-requires-clause-few c =
+pub returns-in_err-built : goal.returns-in_err-built
+returns-in_err-built c =
     let g = c.args.graph.now in
     let entries = c.args.entries.now in
-    let count : length entries ≡ length (names_of g) = c.requires.count ∙ sym (length-map g.vertices (λ x. x.name)) in
-    omega (arith, ap length c.in_ok-names.ensures.ok, length-names (names_of g) entries count, c.requires.few)
+    let same : length entries ≡ length (names_of g) = c.requires.count ∙ sym (length-map g.vertices (λ x. x.name)) in
+    let count = ap length c.in_ok-names.ensures.ok ∙ length-names (names_of g) entries same in
+    let memory = c.in_err-built.ensures.err (omega (arith, count, c.requires.few)) in
+    search (rules, memory)
 
-pub graph_of-requires-clause-within : goal.graph_of-requires-clause-within
-graph_of-requires-clause-within c =
+pub add_induced_events-requires-clause-size : goal.add_induced_events-requires-clause-size
+add_induced_events-requires-clause-size c =
+    let g = c.args.graph.now in
+    let entries = c.args.entries.now in
+    let same : length entries ≡ length (names_of g) = c.requires.count ∙ sym (length-map g.vertices (λ x. x.name)) in
+    let count = ap length c.in_ok-names.ensures.ok ∙ length-names (names_of g) entries same in
+    ap (λ k. length k.vertices) c.in_ok-built.ensures.ok ∙ (length-map c.in_ok-names.names new_vertex ∙ (count ∙ sym (ap total_of c.in_ok-copies.ensures.ok)))
+
+pub returns : goal.returns
+returns c =
     let g = c.args.graph.now in
     let entries = c.args.entries.now in
     let self = c.args.self_loops in
+    let multi = c.args.multi in
     let d = c.args.directed in
-    let count : length entries ≡ length (names_of g) = c.requires.count ∙ sym (length-map g.vertices (λ x. x.name)) in
-    let size = ap length c.in_ok-names.ensures.ok ∙ length-names (names_of g) entries count in
-    let all = c.in_ok-all.ensures.ok ∙ ap (λ es. wanted self (all_events g es d)) c.in_ok-copies.ensures.ok in
-    let same = c.deref.ensures.value ∙ (c.in_ok-events.ensures.ok ∙ ap (merged_unless _ d) all) in
-    subst (λ k. AllWithin k c.deref.result.now) (sym size) (subst (AllWithin _) (sym same) (induced_within entries d c.requires.numbered g self _ c.requires.kept))
+    let built = c.in_ok-built.built in
+    let grown = c.add_induced_events.new.built in
+    let added = subst (λ es. AddsEvents d built grown (induced_events g es self multi d)) c.in_ok-copies.ensures.ok c.in_ok-add_induced_events.ensures.ok in
+    made d (induced_events g entries self multi d) (names_by_entries (names_of g) entries) c.in_ok-names.names (induced_id g.id self multi d) _ built grown c.set_id.new.self
+    c.in_ok-names.ensures.ok c.in_ok-built.ensures.ok added
+    (c.title.ensures ∙ ap (λ id. induced_id id self multi d) c.id.ensures) c.set_id.ensures

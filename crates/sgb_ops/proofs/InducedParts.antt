@@ -1,0 +1,315 @@
+-- The events of an induced graph where parts have no ends in common: those of each vertex of a graph that is put in, and
+-- those of each copy.
+use Rattle.std.proofs.Common.{◌≡◌, ◌⊎◌, ◌<◌, ◌≤◌, ◌+◌, ◌==◌, ℕ, zero, suc, Bool, true, false, List, [], ◌∷◌, ◌++◌, length, get_or, Option, Some, None, inl, inr, refl, sym, ap, subst, ◌∙◌, arith, rules}
+use Rattle.std.specs.Prelude.{All, Contains, flat_map, slice_get}
+use Rattle.std.specs.List.{list_any, enumerate_from, range_with_len}
+use Rattle.std.specs.Option.{option_map_or}
+use Rattle.std.proofs.lemmas.Bool.{cases_eq, cases_lt, eq-eqb, or_parts}
+use Rattle.std.proofs.lemmas.Bool.Decides.{nat_tests}
+use Rattle.std.proofs.lemmas.List.Elements.{All-nil, All-map, All-filter, All-weaker, All-contains_itself, All-head, All-tail, filter_passes, filter-append}
+use Rattle.sgb_vec.proofs.Lists.{All-flat_map, Contains-range, never_true, range-within}
+use Rattle.sgb_graph.specs.Graphs.{GraphData, chain_of}
+use Rattle.sgb_graph.specs.Events.{Event, IsWithin}
+use Rattle.sgb_graph.specs.Growth.{AddsEvents, IsKept}
+use Rattle.sgb_graph.proofs.AddedEvents.{adds-none}
+use Rattle.sgb_graph.specs.declared.fields.Link.{Link}
+use Rattle.sgb_ops.specs.declared.entries.Entry.{Entry}
+use Rattle.sgb_ops.specs.declared.entries.Entry.TheVariants as entry
+use Rattle.sgb_ops.specs.Entries.{copies_of, events_within, first_copy, inner_event, inner_events, inner_events_from, is_unnumbered, merged_count, size_of_entry, total_of}
+use Rattle.sgb_ops.specs.Induced.{all_events, copies_met, event_between, events_between, events_of_arc, events_of_copies, events_of_copy, induced_events, is_met, is_wanted, wanted}
+use Rattle.sgb_ops.specs.Merged.{has_ends_of, merged, merged_unless}
+use Rattle.sgb_ops.specs.Operands.{order_of, places_of}
+use Rattle.sgb_ops.specs.Taken.{taken}
+use Rattle.sgb_ops.specs.inner.Copies.{IsKeptEntry, copies_start, count_by}
+use Rattle.sgb_ops.specs.inner.Ends.{AllWithin}
+use Rattle.sgb_ops.specs.inner.Parts.{AreInParts, has_loop_inside, has_loops_inside}
+use Rattle.sgb_ops.proofs.CopiesInOrder.{copy_between, firsts_order}
+use Rattle.sgb_ops.proofs.CopiesWithin.{of_copy as copy_events_within}
+use Rattle.sgb_ops.proofs.Ends.{ends}
+use Rattle.sgb_ops.proofs.EntryTotals.{copies-range, next_copy, number_below}
+use Rattle.sgb_ops.proofs.EventsWithin.{taken_tips}
+use Rattle.sgb_ops.proofs.MergedParts.{AreApart, merged_both}
+use Rattle.sgb_ops.proofs.RisingParts.{Rises, merged_rising, rises_wider}
+use Rattle.sgb_ops.proofs.Taking.{each_edge_once_leads_up}
+
+-- an arc that is taken of v for an undirected result leads up
+taken_up : (directed : Bool) (g : GraphData) (v : ℕ) → All (λ l. directed ≡ false → v ≤ l.tip) (taken directed g v)
+taken_up true g v = λ k d h same. absurd cc
+taken_up false g v = λ k d h same. each_edge_once_leads_up v (chain_of g v) k d h
+
+-- the ends of the event are vertices of a to b
+abbrev pub Inside : ℕ → ℕ → Event → Type 0
+Inside a b e = (a ≤ e.from) × (e.from < b) × (a ≤ e.to) × (e.to < b)
+
+-- the events that are left of vertex w of a graph whose first vertex is `start`
+abbrev pub graph_part : Bool → Bool → Bool → ℕ → GraphData → ℕ → List Event
+graph_part self multi directed start inner w = merged_unless multi directed (wanted self (inner_events_from directed start inner w))
+
+-- the events of that vertex
+module _ (directed : Bool) (start : ℕ) (inner : GraphData) where
+  inside_from : (w : ℕ) → IsKept inner → w < order_of inner → All (Inside start (start + order_of inner)) (inner_events_from directed start inner w)
+  inside_from w kept below =
+      All-map (Inside start (start + order_of inner)) (inner_event start w) (taken directed inner w)
+      (λ k d h. let tip = taken_tips directed inner w kept below k d h in (omega arith, omega (arith, below), omega arith, omega (arith, tip)))
+
+  -- they are between vertices of the result
+  pub part_within : (self : Bool) (w n : ℕ) → IsKept inner → w < order_of inner → start + order_of inner ≤ n → AllWithin n (wanted self (inner_events_from directed start inner w))
+  part_within self w n kept below few =
+      All-filter (is_wanted self) (IsWithin n) (inner_events_from directed start inner w)
+      (All-weaker (Inside start (start + order_of inner)) (IsWithin n) (λ e p. (omega (arith, few, p.1), omega (arith, few, p.3))) (inner_events_from directed start inner w) (inside_from w kept below))
+
+  inner_rises : (w : ℕ) → All (Rises directed (start + w) (start + (w + 1))) (inner_events_from directed start inner w)
+  inner_rises w =
+      All-map (Rises directed (start + w) (start + (w + 1))) (inner_event start w) (taken directed inner w)
+      (λ k d h. (omega arith, omega arith, λ same. omega (arith, taken_up directed inner w k d h same)))
+
+  -- those of all its vertices that are left
+  pub graph_left : (self multi : Bool) → flat_map (graph_part self multi directed start inner) (places_of inner)
+      ≡ merged_unless multi directed (wanted self (inner_events directed start (entry.Graph inner)))
+  graph_left self multi = merged_rising self multi directed (inner_events_from directed start inner) (λ w. start + w) 0 (order_of inner) (λ w low high. inner_rises w) (λ u w less. omega (arith, less))
+
+  -- all of them are inside it
+  graph_inside : IsKept inner → All (Inside start (start + order_of inner)) (inner_events directed start (entry.Graph inner))
+  graph_inside kept =
+      All-flat_map (Inside start (start + order_of inner)) (inner_events_from directed start inner) (places_of inner)
+      (λ k d h. inside_from (get_or (places_of inner) k d) kept (omega (arith, (range-within 0 (order_of inner) k d h).1)))
+
+entry_inside : (directed : Bool) (start : ℕ) (e : Entry) → IsKeptEntry e → All (Inside start (start + size_of_entry e)) (inner_events directed start e)
+entry_inside directed start (entry.Copies k) kept = All-nil (Inside start (start + k))
+entry_inside directed start (entry.Graph inner) kept = graph_inside directed start inner kept
+entry_inside directed start (entry.Merged k) kept = All-nil (Inside start (start + 0))
+
+-- the vertex is a copy that stands for v alone
+abbrev Own : List Entry → ℕ → ℕ → Type 0
+Own entries v u = (first_copy entries v ≤ u) × (u < first_copy entries (v + 1))
+
+-- first copies rise
+firsts_up : (entries : List Entry) (v w : ℕ) → v < w → first_copy entries (v + 1) ≤ first_copy entries w
+firsts_up entries v w less = let next : v + 1 ≡ suc v = omega arith in omega (arith, firsts_order entries v w less, ap (first_copy entries) next)
+
+-- so a copy stands for one vertex
+own_same : (entries : List Entry) (v w u : ℕ) → Own entries v u → Own entries w u → w ≡ v
+own_same entries v w u a b = elim (cases_lt v w) [
+  | inl less ↦ absurd (omega (arith, a.1, b.0, firsts_up entries v w less))
+  | inr up ↦ elim (cases_lt w v) [
+    | inl less ↦ absurd (omega (arith, a.0, b.1, firsts_up entries w v less))
+    | inr down ↦ omega (arith, up, down)
+  ]
+]
+
+-- an entry that is looked up
+kept_at : (entries : List Entry) (v : ℕ) (e : Entry) → All IsKeptEntry entries → slice_get entries v ≡ Some e → IsKeptEntry e
+kept_at [] v e kept here = absurd (search (rules, here))
+kept_at (x ∷ entries) zero e kept here = let same : x ≡ e = search (rules, here) in subst IsKeptEntry same (All-head IsKeptEntry x entries kept)
+kept_at (x ∷ entries) (suc v) e kept here = kept_at entries v e (All-tail IsKeptEntry x entries kept) here
+
+-- none passes a test
+none_at : (t : ℕ → Entry → Bool) (i : ℕ) (entries : List Entry) (k : ℕ) (e : Entry) → list_any (λ p. t p.0 p.1) (enumerate_from i entries) ≡ false → slice_get entries k ≡ Some e → t (i + k) e ≡ false
+none_at t i [] k e none here = absurd (search (rules, here))
+none_at t i (x ∷ entries) zero e none here =
+    let same : x ≡ e = search (rules, here) in
+    let place : i + 0 ≡ i = omega arith in
+    rw place (subst (λ y. t i y ≡ false) same (or_parts (t i x) (list_any (λ p. t p.0 p.1) (enumerate_from (i + 1) entries)) none).0)
+none_at t i (x ∷ entries) (suc k) e none here =
+    let place : i + suc k ≡ i + 1 + k = omega arith in
+    rw place (none_at t (i + 1) entries k e (or_parts (t i x) (list_any (λ p. t p.0 p.1) (enumerate_from (i + 1) entries)) none).1 here)
+
+-- what entries with their places give is what the entries at the places give
+by_places : (f : ℕ → Entry → List Event) (i : ℕ) (xs : List Entry) (at : ℕ → Option Entry) → ((k : ℕ) → at (i + k) ≡ slice_get xs k)
+    → flat_map (λ p. f p.0 p.1) (enumerate_from i xs) ≡ flat_map (λ v. option_map_or (f v) (at v) []) (range_with_len i (length xs))
+by_places f i [] at same = refl
+by_places f i (x ∷ xs) at same =
+    let place : i ≡ i + 0 = omega arith in
+    let first : at i ≡ Some x = ap at place ∙ same 0 in
+    let later : (k : ℕ) → at (i + 1 + k) ≡ slice_get xs k = λ k. let next : i + 1 + k ≡ i + suc k = omega arith in ap at next ∙ same (suc k) in
+    ap (λ es. f i x ++ es) (by_places f (i + 1) xs at later)
+    ∙ ap (λ o. option_map_or (f i) o [] ++ flat_map (λ v. option_map_or (f v) (at v) []) (range_with_len (i + 1) (length xs))) (sym first)
+
+-- the events inside the entry of v
+abbrev pub inside_at : List Entry → Bool → ℕ → List Event
+inside_at entries directed v = option_map_or (inner_events directed (first_copy entries v)) (slice_get entries v) []
+
+-- those that are left
+abbrev pub inside_part : Bool → Bool → List Entry → Bool → ℕ → List Event
+inside_part self multi entries directed v = merged_unless multi directed (wanted self (inside_at entries directed v))
+
+module _ (entries : List Entry) (directed : Bool) (kept : All IsKeptEntry entries) where
+  within_places : events_within entries directed ≡ flat_map (inside_at entries directed) (range_with_len 0 (length entries))
+  within_places = by_places (λ v. inner_events directed (first_copy entries v)) 0 entries (slice_get entries) (λ k. let place : 0 + k ≡ k = omega arith in ap (slice_get entries) place)
+
+  -- they are between its copies
+  at_inside : (v : ℕ) → All (Inside (first_copy entries v) (first_copy entries (v + 1))) (inside_at entries directed v)
+  at_inside v = by_option (slice_get entries v) refl
+    where
+      by_option : (o : Option Entry) → slice_get entries v ≡ o → All (Inside (first_copy entries v) (first_copy entries (v + 1))) (option_map_or (inner_events directed (first_copy entries v)) o [])
+      by_option None here = All-nil (Inside (first_copy entries v) (first_copy entries (v + 1)))
+      by_option (Some e) here =
+          let size : option_map_or size_of_entry (slice_get entries v) 0 ≡ size_of_entry e = ap (λ o. option_map_or size_of_entry o 0) here in
+          let end : first_copy entries v + size_of_entry e ≡ first_copy entries (v + 1) = omega (arith, size, next_copy entries v) in
+          subst (λ b. All (Inside (first_copy entries v) b) (inner_events directed (first_copy entries v) e)) end (entry_inside directed (first_copy entries v) e (kept_at entries v e kept here))
+
+  at_rises : (v : ℕ) → All (Rises directed (first_copy entries v) (first_copy entries (v + 1))) (inside_at entries directed v)
+  at_rises v =
+      All-weaker (Inside (first_copy entries v) (first_copy entries (v + 1))) (Rises directed (first_copy entries v) (first_copy entries (v + 1)))
+      (λ e p. (p.0, p.1, λ same. p.2)) (inside_at entries directed v) (at_inside v)
+
+  -- those inside all entries that are left
+  pub within_left : (self multi : Bool)
+      → flat_map (inside_part self multi entries directed) (range_with_len 0 (length entries))
+      ≡ merged_unless multi directed (wanted self (events_within entries directed))
+  within_left self multi =
+      merged_rising self multi directed (inside_at entries directed) (first_copy entries) 0 (length entries) (λ v low high. at_rises v) (firsts_up entries)
+      ∙ ap (λ es. merged_unless multi directed (wanted self es)) (sym within_places)
+
+-- the events that are left of those from copy u of v, and from all copies of v
+abbrev pub copy_part : Bool → Bool → GraphData → List Entry → Bool → ℕ → ℕ → List Event
+copy_part self multi g entries directed v u = merged_unless multi directed (wanted self (events_of_copy g entries directed v u))
+
+abbrev pub vertex_part : Bool → Bool → GraphData → List Entry → Bool → ℕ → List Event
+vertex_part self multi g entries directed v = merged_unless multi directed (wanted self (events_of_copies g entries directed v))
+
+module _ (g : GraphData) (entries : List Entry) (directed : Bool) (numbered : list_any is_unnumbered entries ≡ false) (apart : merged_count entries ≡ 0) where
+  own_copy : (v u : ℕ) → Contains (copies_of entries v) u → Own entries v u
+  own_copy v u copy = elim (copy_between entries v u numbered copy) [
+    | inl own ↦ let next : suc v ≡ v + 1 = omega arith in (own.0, omega (arith, own.1, ap (first_copy entries) next))
+    | inr merged ↦ absurd (omega (arith, number_below entries v (entry.Merged (u + 1)) merged, apart))
+  ]
+
+  all_own : (v : ℕ) → All (Own entries v) (copies_of entries v)
+  all_own v = λ k d h. own_copy v (get_or (copies_of entries v) k d) (All-contains_itself (copies_of entries v) k d h)
+
+  -- copy u of v is joined to no copy before it by an edge
+  met_up : (b : Bool) (v u tip t : ℕ) → b ≡ false → v ≤ tip → Own entries v u → Own entries tip t → is_met b v u tip t ≡ true → u ≤ t
+  met_up true v u tip t edge up own there met = absurd cc
+  met_up false v u tip t edge up own there met = elim (cases_eq tip v) [
+    | inl same ↦ let here = eq-eqb tip v same in let seen = rw here at met in grind (arith, nat_tests)
+    | inr other ↦ omega (arith, own.1, there.0, firsts_up entries v tip (omega (arith, up, other)))
+  ]
+
+  of_arc : (v u : ℕ) (a : Link) → Own entries v u → (directed ≡ false → v ≤ a.tip) → All (Rises directed u (u + 1)) (events_of_arc entries directed v u a)
+  of_arc v u a own up =
+      All-map (Rises directed u (u + 1)) (event_between u a.len) (copies_met entries directed v u a.tip)
+      (λ k d h. (
+      omega arith, omega arith,
+      λ edge. met_up directed v u a.tip (get_or (copies_met entries directed v u a.tip) k d) edge (up edge) own
+      (All-filter (is_met directed v u a.tip) (Own entries a.tip) (copies_of entries a.tip) (all_own a.tip) k d h)
+      (filter_passes (is_met directed v u a.tip) (copies_of entries a.tip) k d h),
+      ))
+
+  of_copy : (v u : ℕ) → Own entries v u → All (Rises directed u (u + 1)) (events_of_copy g entries directed v u)
+  of_copy v u own =
+      All-flat_map (Rises directed u (u + 1)) (events_of_arc entries directed v u) (taken directed g v)
+      (λ k d h. of_arc v u (get_or (taken directed g v) k d) own (taken_up directed g v k d h))
+
+  of_copies : (v : ℕ) → All (Rises directed (first_copy entries v) (first_copy entries (v + 1))) (events_of_copies g entries directed v)
+  of_copies v =
+      All-flat_map (Rises directed (first_copy entries v) (first_copy entries (v + 1))) (events_of_copy g entries directed v) (copies_of entries v)
+      (λ k d h.
+      let u = get_or (copies_of entries v) k d in
+      let own = all_own v k d h in
+      All-weaker (Rises directed u (u + 1)) (Rises directed (first_copy entries v) (first_copy entries (v + 1)))
+      (λ e r. rises_wider directed (first_copy entries v) (first_copy entries (v + 1)) u (u + 1) e own.0 (omega (arith, own.1)) r)
+      (events_of_copy g entries directed v u) (of_copy v u own))
+
+  -- those from the copies of v that are left
+  pub copies_left : (self multi : Bool) (v : ℕ) → flat_map (copy_part self multi g entries directed v) (copies_of entries v) ≡ vertex_part self multi g entries directed v
+  copies_left self multi v =
+      let start = copies_start entries v in
+      let count = option_map_or count_by (slice_get entries v) 0 in
+      subst (λ us. flat_map (copy_part self multi g entries directed v) us ≡ merged_unless multi directed (wanted self (flat_map (events_of_copy g entries directed v) us)))
+      (sym (copies-range entries v))
+      (merged_rising self multi directed (events_of_copy g entries directed v) (λ u. u) start count
+      (λ u low high. of_copy v u (own_copy v u (subst (λ us. Contains us u) (sym (copies-range entries v)) (Contains-range start count u low high))))
+      (λ u w less. omega (arith, less)))
+
+  -- those between all copies that are left
+  pub between_left : (self multi : Bool) → flat_map (vertex_part self multi g entries directed) (places_of g)
+      ≡ merged_unless multi directed (wanted self (events_between g entries directed))
+  between_left self multi = merged_rising self multi directed (events_of_copies g entries directed) (first_copy entries) 0 (order_of g) (λ v low high. of_copies v) (firsts_up entries)
+
+  -- no event between copies joins two of v
+  abbrev Leaves : ℕ → Event → Type 0
+  Leaves v f = Own entries v f.from → Own entries v f.to → ⊥
+
+  no_loop : (v w : ℕ) (a : Link) → list_any (λ l. l.tip == v) (taken directed g v) ≡ false → Contains (taken directed g w) a → w ≡ v → a.tip ≡ v → ⊥
+  no_loop v w a none has same loop = by_list (taken directed g v) none (subst (λ x. Contains (taken directed g x) a) same has)
+    where
+      by_list : (links : List Link) → list_any (λ l. l.tip == v) links ≡ false → Contains links a → ⊥
+      by_list [] none (k, below, here) = absurd (omega (arith, below))
+      by_list (l ∷ links) none (zero, below, here) =
+          let first = (or_parts (l.tip == v) (list_any (λ l. l.tip == v) links) none).0 in
+          let same : l ≡ a = here in
+          let is = eq-eqb l.tip v (ap (λ (x : Link). x.tip) same ∙ loop) in
+          absurd cc
+      by_list (l ∷ links) none (suc k, below, here) = by_list links (or_parts (l.tip == v) (list_any (λ l. l.tip == v) links) none).1 (k, omega (arith, below), here)
+
+  between_leaves : (v : ℕ) → list_any (λ l. l.tip == v) (taken directed g v) ≡ false → All (Leaves v) (events_between g entries directed)
+  between_leaves v none =
+      All-flat_map (Leaves v) (events_of_copies g entries directed) (places_of g)
+      (λ i x h. let w = get_or (places_of g) i x in
+      All-flat_map (Leaves v) (events_of_copy g entries directed w) (copies_of entries w)
+      (λ j y m. let u = get_or (copies_of entries w) j y in
+      All-flat_map (Leaves v) (events_of_arc entries directed w u) (taken directed g w)
+      (λ n z o. let a = get_or (taken directed g w) n z in
+      All-map (Leaves v) (event_between u a.len) (copies_met entries directed w u a.tip)
+      (λ k d q from to. no_loop v w a none (All-contains_itself (taken directed g w) n z o)
+      (own_same entries v w u from (all_own w j y m))
+      (own_same entries v a.tip (get_or (copies_met entries directed w u a.tip) k d) to (All-filter (is_met directed w u a.tip) (Own entries a.tip) (copies_of entries a.tip) (all_own a.tip) k d q))))))
+
+  -- an event inside the copies of v has not the ends of one that leaves them
+  inside_apart : (v : ℕ) (e f : Event) → Inside (first_copy entries v) (first_copy entries (v + 1)) e → Leaves v f → has_ends_of directed e f ≡ false
+  inside_apart v e f inside leaves = never_true (has_ends_of directed e f) (λ h. elim (ends directed e f h) [
+    | inl same ↦ leaves (omega (arith, same.from, inside.0), omega (arith, same.from, inside.1)) (omega (arith, same.to, inside.2), omega (arith, same.to, inside.3))
+    | inr other ↦ leaves (omega (arith, other.from, inside.2), omega (arith, other.from, inside.3)) (omega (arith, other.to, inside.0), omega (arith, other.to, inside.1))
+  ])
+
+  -- the events inside the entry of v have not the ends of those between copies
+  entry_apart : (self : Bool) (v : ℕ) (e : Entry) → has_loop_inside g directed v e ≡ false → All (Inside (first_copy entries v) (first_copy entries (v + 1))) (inner_events directed (first_copy entries v) e)
+      → AreApart directed (inner_events directed (first_copy entries v) e) (wanted self (events_between g entries directed))
+  entry_apart self v (entry.Copies n) none inside = All-nil (λ e. All (λ f. has_ends_of directed e f ≡ false) (wanted self (events_between g entries directed)))
+  entry_apart self v (entry.Merged n) none inside = All-nil (λ e. All (λ f. has_ends_of directed e f ≡ false) (wanted self (events_between g entries directed)))
+  entry_apart self v (entry.Graph inner) none inside = λ k d h j y m.
+      inside_apart v (get_or (inner_events directed (first_copy entries v) (entry.Graph inner)) k d) (get_or (wanted self (events_between g entries directed)) j y) (inside k d h)
+      (All-filter (is_wanted self) (Leaves v) (events_between g entries directed) (between_leaves v none) j y m)
+
+  module _ (kept : All IsKeptEntry entries) (loops : has_loops_inside g entries directed ≡ false) where
+    at_apart : (self : Bool) (v : ℕ) → AreApart directed (inside_at entries directed v) (wanted self (events_between g entries directed))
+    at_apart self v = by_option (slice_get entries v) refl (at_inside entries directed kept v)
+      where
+        by_option : (o : Option Entry) → slice_get entries v ≡ o → All (Inside (first_copy entries v) (first_copy entries (v + 1))) (option_map_or (inner_events directed (first_copy entries v)) o [])
+            → AreApart directed (option_map_or (inner_events directed (first_copy entries v)) o []) (wanted self (events_between g entries directed))
+        by_option None here inside = All-nil (λ e. All (λ f. has_ends_of directed e f ≡ false) (wanted self (events_between g entries directed)))
+        by_option (Some e) here inside =
+            let place : 0 + v ≡ v = omega arith in
+            entry_apart self v e (subst (λ i. has_loop_inside g directed i e ≡ false) place (none_at (has_loop_inside g directed) 0 entries v e loops here)) inside
+
+    -- the events that are left are those inside the entries and then those between copies
+    pub both_left : (self multi : Bool)
+        → merged_unless multi directed (wanted self (events_within entries directed)) ++ merged_unless multi directed (wanted self (events_between g entries directed))
+        ≡ induced_events g entries self multi directed
+    both_left self multi =
+        let others = wanted self (events_between g entries directed) in
+        let all = subst (λ es. AreApart directed es others) (sym (within_places entries directed kept))
+        (All-flat_map (λ e. All (λ f. has_ends_of directed e f ≡ false) others) (inside_at entries directed) (range_with_len 0 (length entries))
+        (λ k d h. at_apart self (get_or (range_with_len 0 (length entries)) k d))) in
+        sym (ap (merged_unless multi directed) (filter-append (is_wanted self) (events_within entries directed) (events_between g entries directed))
+        ∙ merged_both multi directed (wanted self (events_within entries directed)) others
+        (All-filter (is_wanted self) (λ e. All (λ f. has_ends_of directed e f ≡ false) others) (events_within entries directed) all))
+
+-- the events from copy u are between vertices of the result
+pub copy_within : (g : GraphData) (entries : List Entry) (directed : Bool) (numbered : list_any is_unnumbered entries ≡ false) (self : Bool) (v u : ℕ) → u < total_of entries
+    → AllWithin (total_of entries) (wanted self (events_of_copy g entries directed v u))
+copy_within g entries directed numbered self v u below =
+    All-filter (is_wanted self) (IsWithin (total_of entries)) (events_of_copy g entries directed v u) (copy_events_within entries directed numbered g v u below)
+
+-- of no events none are left
+pub none_left : (multi directed : Bool) → merged_unless multi directed [] ≡ []
+unfolding merged
+none_left true directed = refl
+none_left false directed = refl
+
+-- so none are inside an entry that is no graph
+pub none_inside : (self multi directed : Bool) (start : ℕ) (e : Entry) (g : GraphData) → ((x : ℕ) × (e ≡ entry.Copies x)) ⊎ ((x : ℕ) × (e ≡ entry.Merged x))
+    → AddsEvents directed g g (merged_unless multi directed (wanted self (inner_events directed start e)))
+none_inside self multi directed start e g (inl (x, is)) = rw is (subst (AddsEvents directed g g) (sym (none_left multi directed)) (adds-none directed g))
+none_inside self multi directed start e g (inr (x, is)) = rw is (subst (AddsEvents directed g g) (sym (none_left multi directed)) (adds-none directed g))
