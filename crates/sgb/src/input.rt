@@ -9,7 +9,6 @@ ghost use Rattle.sgb.specs.inner.Inputs.{left_after};
 mod kept;
 
 pub(crate) use kept::Kept;
-
 use sgb_file::{Source, read_gb};
 use sgb_graph::Graph;
 use sgb_requests::{Fault, Request};

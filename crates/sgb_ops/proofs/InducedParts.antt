@@ -190,10 +190,11 @@ module _ (g : GraphData) (entries : List Entry) (directed : Bool) (numbered : li
   of_arc v u a own up =
       All-map (Rises directed u (u + 1)) (event_between u a.len) (copies_met entries directed v u a.tip)
       (λ k d h. (
-      omega arith, omega arith,
-      λ edge. met_up directed v u a.tip (get_or (copies_met entries directed v u a.tip) k d) edge (up edge) own
-      (All-filter (is_met directed v u a.tip) (Own entries a.tip) (copies_of entries a.tip) (all_own a.tip) k d h)
-      (filter_passes (is_met directed v u a.tip) (copies_of entries a.tip) k d h),
+        omega arith,
+        omega arith,
+        λ edge. met_up directed v u a.tip (get_or (copies_met entries directed v u a.tip) k d) edge (up edge) own
+            (All-filter (is_met directed v u a.tip) (Own entries a.tip) (copies_of entries a.tip) (all_own a.tip) k d h)
+            (filter_passes (is_met directed v u a.tip) (copies_of entries a.tip) k d h),
       ))
 
   of_copy : (v u : ℕ) → Own entries v u → All (Rises directed u (u + 1)) (events_of_copy g entries directed v u)

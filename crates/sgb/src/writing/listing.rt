@@ -110,12 +110,7 @@ fn write_blocks<W: Sink>(graph: &Graph, from: u64, out: &mut W) -> Result<(), Fa
 }
 
 // Writes the block of a vertex: its name, and a line for each of its arcs. Each is put together in `line`.
-fn write_block<W: Sink>(
-    graph: &Graph,
-    v: u32,
-    line: &mut Line,
-    out: &mut W,
-) -> Result<(), Fault>
+fn write_block<W: Sink>(graph: &Graph, v: u32, line: &mut Line, out: &mut W) -> Result<(), Fault>
     requires vertex { v < length graph.now.vertices }
     requires sound { W.has_failed out.old ≡ false }
     ensures { IsWritten (block graph.now v) (change W.written W.has_failed out.old out.new) result }
@@ -128,12 +123,7 @@ fn write_block<W: Sink>(
 }
 
 // Writes the line of an arc. It is put together in `line`.
-fn write_arc<W: Sink>(
-    graph: &Graph,
-    link: Link,
-    line: &mut Line,
-    out: &mut W,
-) -> Result<(), Fault>
+fn write_arc<W: Sink>(graph: &Graph, link: Link, line: &mut Line, out: &mut W) -> Result<(), Fault>
     requires tip { link.tip < length graph.now.vertices }
     requires sound { W.has_failed out.old ≡ false }
     ensures { IsWritten (arc_line (names_of graph.now) link)
