@@ -47,6 +47,22 @@ fn stdin_is_found_wherever_it_stands(rt: HostRuntime) {
     }
 }
 
+// Whether one of the entries of the induced graph that the text names has `stdin`.
+fn entries_have_stdin(alloc: Global, text: &str) -> Option<bool> {
+    match read(alloc, text) {
+        Some(Expr::Induced { entries, .. }) => Some(have_stdin(entries.as_slice())),
+        _ => None,
+    }
+}
+
+#[test]
+fn stdin_is_found_among_entries(rt: HostRuntime) {
+    let operand = "induced(stdin,[1,2],0,0,0)";
+    let entry = "induced(petersen(),[1,lines(stdin,0)],0,0,0)";
+    assert!(rt; entries_have_stdin(rt.alloc(), operand) == Some(false));
+    assert!(rt; entries_have_stdin(rt.alloc(), entry) == Some(true));
+}
+
 /// Texts that are no expressions, each with a `|` after its longest prefix that begins one.
 const CUT: &str = "\
 st|

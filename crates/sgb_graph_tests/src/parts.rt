@@ -74,13 +74,16 @@ fn lists_may_share_records(rt: HostRuntime) -> Result<(), Fail> {
 }
 
 // First arcs, and records with their tips and next ones, that make up no graph.
-const REFUSED: [(&[Option<usize>], &[(Ref, Option<usize>)]); 6] = [
+const REFUSED: [(&[Option<usize>], &[(Ref, Option<usize>)]); 9] = [
     (&[Some(0)], &[]),
     (&[None], &[(Ref::At(0), Some(1)), (Ref::At(0), Some(0))]),
     (&[], &[(Ref::Null, Some(0))]),
     (&[Some(0)], &[(Ref::Null, None)]),
     (&[Some(0)], &[(Ref::At(0), Some(1)), (Ref::One, None)]),
     (&[None], &[(Ref::At(1), None)]),
+    (&[Some(usize::MAX)], &[]),
+    (&[None, Some(usize::MAX), None], &[]),
+    (&[], &[(Ref::Null, Some(usize::MAX)), (Ref::Null, None)]),
 ];
 
 // What the check says of such parts: the code of a refusal, or none.
@@ -131,4 +134,60 @@ fn fields_fit_their_kinds(rt: HostRuntime) {
     assert!(rt; is_unfit(alloc, Kind::I, Util::Nothing));
     assert!(rt; is_unfit(alloc, Kind::Z, Util::Int(7)));
     assert!(rt; is_unfit(alloc, Kind::V, Util::Vertex(Ref::At(1))));
+    assert!(rt; is_unfit(alloc, Kind::S, Util::Int(7)));
+    assert!(rt; is_unfit(alloc, Kind::A, Util::Vertex(Ref::Null)));
+}
+
+// The parts of a graph whose fields u and a are integers.
+fn parts_of_integers(alloc: Global) -> Result<Parts, Panic> {
+    let mut kinds = [Kind::Z; 14];
+    kinds[0] = Kind::I;
+    kinds[6] = Kind::I;
+    Ok(Parts::new(alloc, Id::new(b"g")?, 0, kinds, fields(Util::Nothing)))
+}
+
+// An integer, but at this place nothing.
+fn value_but_at(place: usize, here: usize) -> Util {
+    if here == place {
+        return Util::Nothing;
+    }
+    Util::Int(7)
+}
+
+// What the check says of three vertices, of which that at this place has no integer.
+fn refusal_of_vertex(alloc: Global, place: usize) -> Result<Option<Panic>, Panic> {
+    let mut parts = parts_of_integers(alloc)?;
+    for v in 0..3 {
+        parts.add_vertex(Vertex {
+            name: Text::new(alloc, b"x")?,
+            arcs: None,
+            util: fields(value_but_at(place, v)),
+        })?;
+    }
+    Ok(parts.check().err())
+}
+
+// What it says of three arc records, of which that at this place has no integer.
+fn refusal_of_record(alloc: Global, place: usize) -> Result<Option<Panic>, Panic> {
+    let mut parts = parts_of_integers(alloc)?;
+    for k in 0..3 {
+        parts.add_arc(ArcRec {
+            tip: Ref::Null,
+            next: None,
+            len: 1,
+            a: value_but_at(place, k),
+            b: Util::Nothing,
+        })?;
+    }
+    Ok(parts.check().err())
+}
+
+#[test]
+fn a_field_that_does_not_fit_is_seen_at_each_place(rt: HostRuntime) {
+    for place in 0..3 {
+        assert!(rt; refusal_of_vertex(rt.alloc(), place) == Ok(Some(Panic::Syntax)));
+        assert!(rt; refusal_of_record(rt.alloc(), place) == Ok(Some(Panic::Syntax)));
+    }
+    assert!(rt; refusal_of_vertex(rt.alloc(), 3) == Ok(None));
+    assert!(rt; refusal_of_record(rt.alloc(), 3) == Ok(None));
 }

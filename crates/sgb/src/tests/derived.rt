@@ -3,7 +3,7 @@ use super::refusals::check_refusals;
 use super::{CODE_30, CODE_40, CODE_60, answers_are};
 use std::test::Fail;
 
-static ANSWERS: [(&[&str], &str); 22] = [
+static ANSWERS: [(&[&str], &str); 25] = [
     (
         &["list", "wheel(3,1,0)"],
         "  The graph whose official name is\nwheel(3,1,0)\n  has 4 vertices and 12 arcs:\n\n\
@@ -66,6 +66,26 @@ static ANSWERS: [(&[&str], &str); 22] = [
         1:2\n  -> 0', length 1\n  -> 0, length 1\n  -> 1:1, length 1\n  -> 1:0, length 1\n",
     ),
     // no entry for no vertex, and a graph of no vertices in the place of one
+    // a loop under a graph shortens its edges; parallel edges inside a graph, and between copies
+    (
+        &["list", "induced(circuit(1),[complete(3)],0,0,0)"],
+        "  The graph whose official name is\ninduced(board(1,0,0,0,1,1,0),,0,0,0)\n  has 3 vertices and 6 arcs:\n\n\
+        0:0\n  -> 0:1, length 1\n  -> 0:2, length 1\n\
+        0:1\n  -> 0:2, length 1\n  -> 0:0, length 1\n\
+        0:2\n  -> 0:1, length 1\n  -> 0:0, length 1\n",
+    ),
+    (
+        &["list", "induced(empty(1),[board(3,0,0,0,-1,1,0)],0,0,0)"],
+        "  The graph whose official name is\ninduced(board(1,0,0,0,2,0,0),,0,0,0)\n  has 3 vertices and 6 arcs:\n\n\
+        0:0\n  -> 0:1, length 1\n  -> 0:2, length 1\n\
+        0:1\n  -> 0:2, length 1\n  -> 0:0, length 1\n\
+        0:2\n  -> 0:1, length 1\n  -> 0:0, length 1\n",
+    ),
+    (
+        &["list", "induced(board(3,0,0,0,-1,1,0),[2,0,1],0,0,0)"],
+        "  The graph whose official name is\ninduced(board(3,0,0,0,-1,1,0),,0,0,0)\n  has 3 vertices and 4 arcs:\n\n\
+        0\n  -> 2, length 1\n0'\n  -> 2, length 1\n2\n  -> 0', length 1\n  -> 0, length 1\n",
+    ),
     (&["names", "induced(simplex(5,2,2,0,0,0,0),[],0,0,0)"], ""),
     (
         &[

@@ -57,7 +57,7 @@ const SHARED: &str = "* GraphBase graph (util_types ZZZZZZZZZZZZZZ,2V,1A)\n\"s\"
     * Vertices\n\"x\",A0\n\"y\",A0\n* Arcs\nV0,0,1\n* Checksum -1\n";
 
 // Words, standard input, output.
-static ANSWERS: [(&[&str], &str, &str); 13] = [
+static ANSWERS: [(&[&str], &str, &str); 15] = [
     (&["list", "stdin"], EMPTY, EMPTY_LISTING),
     // a line before the file, and no newline at its end
     (
@@ -106,6 +106,22 @@ static ANSWERS: [(&[&str], &str, &str); 13] = [
         &["names", "induced(stdin,[2,lines(stdin,0)],0,0,0)"],
         COMPLETE,
         "0\n0'\n1:0--1\n",
+    ),
+    // read again by the second operand, and by an entry before the last one
+    (
+        &["list", "gunion(stdin,complement(stdin,0,0,0),0,0)"],
+        COMPLETE,
+        "  The graph whose official name is\n\
+        gunion(board(2,0,0,0,-1,0,0),complement(board(2,0,0,0,-1,0,0),0,0,0),0,0)\n  has 2 vertices and 2 arcs:\n\n\
+        0\n  -> 1, length 1\n1\n  -> 0, length 1\n",
+    ),
+    (
+        &["list", "induced(stdin,[stdin,1],0,0,0)"],
+        COMPLETE,
+        "  The graph whose official name is\ninduced(board(2,0,0,0,-1,0,0),,0,0,0)\n  has 3 vertices and 6 arcs:\n\n\
+        0:0\n  -> 1, length 1\n  -> 0:1, length 1\n\
+        0:1\n  -> 1, length 1\n  -> 0:0, length 1\n\
+        1\n  -> 0:1, length 1\n  -> 0:0, length 1\n",
     ),
 ];
 
