@@ -14,9 +14,6 @@ mod locals;
 mod program;
 // A request answered.
 mod runs;
-// Whole calls.
-#[cfg(test)]
-mod tests;
 // Names, listings, files and random numbers, written to a sink.
 mod writing;
 

@@ -1,6 +1,6 @@
 //! Nested expressions, and the graph of the queens.
-use super::refusals::check_refusals;
-use super::{Parts, TOO_LARGE, answers_are, answers_have};
+use crate::calls::{Parts, TOO_LARGE, answers_are, answers_have};
+use crate::refusals::check_refusals;
 use std::test::Fail;
 
 static ANSWERS: [(&[&str], &str); 12] = [

@@ -1,7 +1,6 @@
 //! The listings of the graphs that generators make.
-use super::{Parts, answers_are, answers_have};
-use crate::locals::Local;
-use crate::writing::families::list_family;
+use crate::calls::{Parts, answers_are, answers_have};
+use sgb::{Local, list_family};
 use sgb_file::CutSink;
 use sgb_gen::{Board, BoardParams, Links, Simplex, SimplexParams};
 use std::alloc::Global;

@@ -1,5 +1,5 @@
 //! The names of the vertices that generators make.
-use super::{Parts, answers_are, answers_have};
+use crate::calls::{Parts, answers_are, answers_have};
 use std::test::Fail;
 
 static NAMES: [(&[&str], &str); 20] = [

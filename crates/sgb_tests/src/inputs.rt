@@ -1,7 +1,7 @@
 //! Calls that read standard input, and calls that leave it alone.
 ghost use Rattle.std.specs.Prelude.{◌<◌};
 
-use super::{
+use crate::calls::{
     CODE_10, CODE_11, CODE_20, CODE_30, CODE_60, NO_VERTEX, NONE, READ_FAULT, USAGE, answered,
     check_call, left_on,
 };

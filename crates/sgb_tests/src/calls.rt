@@ -1,51 +1,40 @@
-//! Whole calls, from the words to the bytes, with values from the published programs' rules.
+//! Makes calls of the program, from its words to its bytes, and compares what they leave.
 ghost use Rattle.std.specs.Prelude.{◌≡◌, false};
 
-use crate::program::run_program;
-use devices::Counted;
+use crate::devices::Counted;
+use sgb::run_program;
 use sgb_file::{CutSource, Sink, Source};
 use std::alloc::Global;
 use std::process::Abort;
 use std::test::Fail;
 
-mod derived;
-mod devices;
-mod endings;
-mod flips;
-mod inputs;
-mod listings;
-mod names;
-mod operations;
-mod refusals;
-mod saving;
-
-const USAGE: &str =
+pub(crate) const USAGE: &str =
     "usage: sgb (names|list) EXPR [--after NAME|--skip K], sgb save EXPR, sgb queen, sgb flip EXPR\n";
 
-const TOO_LARGE: &str = "sgb: expression too large\n";
+pub(crate) const TOO_LARGE: &str = "sgb: expression too large\n";
 
-const NO_VERTEX: &str = "sgb: no such vertex\n";
+pub(crate) const NO_VERTEX: &str = "sgb: no such vertex\n";
 
-const READ_FAULT: &str = "sgb: read fault\n";
+pub(crate) const READ_FAULT: &str = "sgb: read fault\n";
 
-const WRITE_FAULT: &str = "sgb: write fault\n";
+pub(crate) const WRITE_FAULT: &str = "sgb: write fault\n";
 
-const CODE_1: &str = "Something went wrong (panic code 1)!\n";
+pub(crate) const CODE_1: &str = "Something went wrong (panic code 1)!\n";
 
-const CODE_10: &str = "Something went wrong (panic code 10)!\n";
+pub(crate) const CODE_10: &str = "Something went wrong (panic code 10)!\n";
 
-const CODE_11: &str = "Something went wrong (panic code 11)!\n";
+pub(crate) const CODE_11: &str = "Something went wrong (panic code 11)!\n";
 
-const CODE_20: &str = "Something went wrong (panic code 20)!\n";
+pub(crate) const CODE_20: &str = "Something went wrong (panic code 20)!\n";
 
-const CODE_30: &str = "Something went wrong (panic code 30)!\n";
+pub(crate) const CODE_30: &str = "Something went wrong (panic code 30)!\n";
 
-const CODE_40: &str = "Something went wrong (panic code 40)!\n";
+pub(crate) const CODE_40: &str = "Something went wrong (panic code 40)!\n";
 
-const CODE_60: &str = "Something went wrong (panic code 60)!\n";
+pub(crate) const CODE_60: &str = "Something went wrong (panic code 60)!\n";
 
 // The words of a call after the program's name.
-fn words_of(alloc: Global, words: &[&str]) -> Result<Vec<String>, Fail> {
+pub(crate) fn words_of(alloc: Global, words: &[&str]) -> Result<Vec<String>, Fail> {
     let mut all = Vec::new(alloc);
     push_word(alloc, &mut all, "sgb")?;
     for word in words {
@@ -54,14 +43,14 @@ fn words_of(alloc: Global, words: &[&str]) -> Result<Vec<String>, Fail> {
     Ok(all)
 }
 
-fn push_word(alloc: Global, all: &mut Vec<String>, word: &str) -> Result<(), Fail> {
+pub(crate) fn push_word(alloc: Global, all: &mut Vec<String>, word: &str) -> Result<(), Fail> {
     let owned = String::from_str(alloc, word)?;
     all.push(owned)?;
     Ok(())
 }
 
 // Makes a call, and returns its exit status. Standard input would fail: no such call reads it.
-fn call<W: Sink, E: Sink>(
+pub(crate) fn call<W: Sink, E: Sink>(
     alloc: Global,
     words: &[&str],
     out: &mut W,
@@ -74,7 +63,7 @@ fn call<W: Sink, E: Sink>(
 }
 
 // Makes a call on this standard input, and returns its exit status.
-fn call_on<R: Source, W: Sink, E: Sink>(
+pub(crate) fn call_on<R: Source, W: Sink, E: Sink>(
     alloc: Global,
     words: &[&str],
     source: &mut R,
@@ -89,25 +78,25 @@ fn call_on<R: Source, W: Sink, E: Sink>(
 
 // What a call leaves: its exit status, and what came to its sinks.
 #[derive(Drop)]
-struct Left {
-    status: u8,
-    out: Counted,
-    errors: Counted,
+pub(crate) struct Left {
+    pub(crate) status: u8,
+    pub(crate) out: Counted,
+    pub(crate) errors: Counted,
 }
 
 impl Left {
     // Whether these are the line and the status.
-    fn has(&self, line: &str, status: u8) -> bool {
+    pub(crate) fn has(&self, line: &str, status: u8) -> bool {
         self.status == status && self.errors.bytes() == line.as_bytes()
     }
 
     // Whether these are the output, the line and the status.
-    fn is(&self, output: &str, line: &str, status: u8) -> bool {
+    pub(crate) fn is(&self, output: &str, line: &str, status: u8) -> bool {
         self.has(line, status) && self.out.bytes() == output.as_bytes()
     }
 
     // How often the sinks were called: the output's puts and flushes, and those of standard error.
-    fn calls(&self) -> [u32; 4] {
+    pub(crate) fn calls(&self) -> [u32; 4] {
         [
             self.out.puts(),
             self.out.flushes(),
@@ -117,12 +106,12 @@ impl Left {
     }
 
     // Whether the call was refused: the output was not called, and standard error was, once and with no flush.
-    fn is_refusal(&self, line: &str, status: u8) -> bool {
+    pub(crate) fn is_refusal(&self, line: &str, status: u8) -> bool {
         self.is("", line, status) && self.calls() == [0, 0, 1, 0]
     }
 
     // Whether the call was answered in full: also the empty answer ends with exactly one flush.
-    fn is_answer(&self) -> bool {
+    pub(crate) fn is_answer(&self) -> bool {
         let puts = self.out.puts();
         self.has("", 0)
             && (puts == 0) == self.out.bytes().is_empty()
@@ -131,26 +120,26 @@ impl Left {
 }
 
 // Says which call it is where something is not as it is to be.
-fn check_call(rt: &impl Abort, words: &[&str], is_well: bool) {
+pub(crate) fn check_call(rt: &impl Abort, words: &[&str], is_well: bool) {
     assert!(rt; is_well, "{words:?}");
 }
 
 // Which sinks fail: the output at its first put, or at its first flush; standard error at its first put.
 #[derive(Clone, Copy)]
-struct Faults {
-    put: bool,
-    flush: bool,
-    deaf: bool,
+pub(crate) struct Faults {
+    pub(crate) put: bool,
+    pub(crate) flush: bool,
+    pub(crate) deaf: bool,
 }
 
-const NONE: Faults = Faults {
+pub(crate) const NONE: Faults = Faults {
     put: false,
     flush: false,
     deaf: false,
 };
 
 // Makes a call on this standard input, into sinks that fail there. A flush of standard error always fails.
-fn left_on<R: Source>(
+pub(crate) fn left_on<R: Source>(
     alloc: Global,
     words: &[&str],
     source: &mut R,
@@ -167,20 +156,24 @@ fn left_on<R: Source>(
 }
 
 // Makes a call into sinks that fail there. Standard input would fail: no such call reads it.
-fn left_by(alloc: Global, words: &[&str], faults: Faults) -> Result<Left, Fail> {
+pub(crate) fn left_by(alloc: Global, words: &[&str], faults: Faults) -> Result<Left, Fail> {
     let mut source = CutSource::new(b"", 1, 0);
     left_on(alloc, words, &mut source, faults)
 }
 
 // Makes a call that is to be answered in full, and returns its output.
-fn answered(rt: &impl Abort, alloc: Global, words: &[&str]) -> Result<Counted, Fail> {
+pub(crate) fn answered(rt: &impl Abort, alloc: Global, words: &[&str]) -> Result<Counted, Fail> {
     let left = left_by(alloc, words, NONE)?;
     check_call(rt, words, left.is_answer());
     Ok(left.out)
 }
 
 // Makes each call, and compares its output with the text beside it.
-fn answers_are(rt: &impl Abort, alloc: Global, calls: &[(&[&str], &str)]) -> Result<(), Fail> {
+pub(crate) fn answers_are(
+    rt: &impl Abort,
+    alloc: Global,
+    calls: &[(&[&str], &str)],
+) -> Result<(), Fail> {
     for (words, output) in calls {
         let out = answered(rt, alloc, words)?;
         check_call(rt, words, out.bytes() == output.as_bytes());
@@ -189,16 +182,16 @@ fn answers_are(rt: &impl Abort, alloc: Global, calls: &[(&[&str], &str)]) -> Res
 }
 
 // How an output begins and ends, and its number of lines.
-struct Parts {
-    words: &'static [&'static str],
-    start: &'static str,
-    end: &'static str,
-    lines: usize,
+pub(crate) struct Parts {
+    pub(crate) words: &'static [&'static str],
+    pub(crate) start: &'static str,
+    pub(crate) end: &'static str,
+    pub(crate) lines: usize,
 }
 
 impl Parts {
     // Whether these are parts of an output.
-    fn are_of(&self, output: &[u8]) -> bool {
+    pub(crate) fn are_of(&self, output: &[u8]) -> bool {
         let ends = output.iter().filter(|byte| **byte == b'\n');
         output.starts_with(self.start.as_bytes())
             && output.ends_with(self.end.as_bytes())
@@ -207,7 +200,7 @@ impl Parts {
 }
 
 // Makes each call, and compares its output with these parts of it.
-fn answers_have(rt: &impl Abort, alloc: Global, calls: &[Parts]) -> Result<(), Fail> {
+pub(crate) fn answers_have(rt: &impl Abort, alloc: Global, calls: &[Parts]) -> Result<(), Fail> {
     for parts in calls {
         let out = answered(rt, alloc, parts.words)?;
         check_call(rt, parts.words, parts.are_of(out.bytes()));

@@ -1,6 +1,6 @@
 //! Random numbers, with values from GB_FLIP's own test and from a program of its rules by itself.
-use super::refusals::check_refusals;
-use super::{CODE_30, TOO_LARGE, answers_are};
+use crate::calls::{CODE_30, TOO_LARGE, answers_are};
+use crate::refusals::check_refusals;
 use std::test::Fail;
 
 static NUMBERS: [(&[&str], &str); 13] = [

@@ -1,11 +1,10 @@
 //! Calls that are refused: the line and the exit status of each.
-use super::devices::Counted;
-use super::{
+use crate::calls::{
     CODE_1, CODE_30, CODE_40, Faults, Left, NO_VERTEX, TOO_LARGE, USAGE, check_call, left_by,
 };
-use crate::program::run_program;
+use crate::devices::Counted;
+use sgb::{Fault, report, run_program};
 use sgb_file::CutSource;
-use sgb_requests::{Fault, report};
 use sgb_vec::Panic;
 use std::alloc::Global;
 use std::io::{Error, ErrorKind};
@@ -161,7 +160,7 @@ static REFUSED: [(&[&str], &str, u8); 41] = [
 
 // A refused call makes no call of the output, and its line is one put of standard error; where that fails the status
 // is the same.
-pub(super) fn check_refusals(
+pub(crate) fn check_refusals(
     rt: &impl Abort,
     alloc: Global,
     calls: &[(&[&str], &str, u8)],

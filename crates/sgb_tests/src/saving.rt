@@ -1,5 +1,5 @@
 //! The files that `save` writes.
-use super::{Parts, answers_are, answers_have};
+use crate::calls::{Parts, answers_are, answers_have};
 use std::test::Fail;
 
 static FILES: [(&[&str], &str); 2] = [

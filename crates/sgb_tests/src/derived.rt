@@ -1,6 +1,6 @@
 //! Line graphs, products, induced graphs, complete bipartite graphs and wheels.
-use super::refusals::check_refusals;
-use super::{CODE_30, CODE_40, CODE_60, answers_are};
+use crate::calls::{CODE_30, CODE_40, CODE_60, answers_are};
+use crate::refusals::check_refusals;
 use std::test::Fail;
 
 static ANSWERS: [(&[&str], &str); 25] = [

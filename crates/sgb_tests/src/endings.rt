@@ -1,8 +1,8 @@
 //! Devices that fail: what becomes of the faults of each, and how often it is called.
 ghost use Rattle.std.specs.Prelude.{◌<◌};
 
-use super::devices::Counted;
-use super::{Faults, Left, NO_VERTEX, WRITE_FAULT, answered, call, check_call, left_by};
+use crate::calls::{Faults, Left, NO_VERTEX, WRITE_FAULT, answered, call, check_call, left_by};
+use crate::devices::Counted;
 use sgb_file::{Buffered, CutSink};
 use std::alloc::Global;
 use std::io::{self, Error, ErrorKind, Write};

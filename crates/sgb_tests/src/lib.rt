@@ -1,0 +1,37 @@
+//! Tests of whole calls of `sgb`, from the words to the bytes, with values from the published programs' rules: in a crate of
+//! their own, so that `sgb` is not proved once more for them.
+#![tactic(auto)]
+
+// calls, and what they leave
+#[cfg(test)]
+mod calls;
+// operations, their forms and refusals
+#[cfg(test)]
+mod derived;
+// sinks that count, and fail
+#[cfg(test)]
+mod devices;
+// how a call ends
+#[cfg(test)]
+mod endings;
+// random numbers
+#[cfg(test)]
+mod flips;
+// standard input
+#[cfg(test)]
+mod inputs;
+// listings
+#[cfg(test)]
+mod listings;
+// names
+#[cfg(test)]
+mod names;
+// operations on graphs
+#[cfg(test)]
+mod operations;
+// requests that are refused
+#[cfg(test)]
+mod refusals;
+// files
+#[cfg(test)]
+mod saving;
