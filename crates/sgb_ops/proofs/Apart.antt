@@ -1,5 +1,5 @@
 -- Events of which no two have the same ends, and a table of bits that tells so.
-use Rattle.std.proofs.Common.{◌≡◌, ◌≢◌, ◌<◌, ◌*◌, ◌/◌, ◌%◌, ◌^◌, ℕ, suc, Bool, true, false, List, [], ◌∷◌, ◌++◌, length, get_or, set, bit_or, w64, refl, sym, ap, ◌∙◌, inl, inr, arith, length-set, get_or-set_same, get_or-set_other}
+use Rattle.std.proofs.Common.{◌≡◌, ◌≢◌, ◌<◌, ◌+◌, ◌*◌, ◌/◌, ◌%◌, ◌^◌, ℕ, suc, Bool, true, false, List, [], ◌∷◌, ◌++◌, length, get_or, set, bit_or, w64, refl, sym, ap, ◌∙◌, inl, inr, arith, length-set, get_or-set_same, get_or-set_other}
 use Rattle.std.specs.Prelude.{All, AllPairs}
 use Rattle.std.specs.Int.{bit_at}
 use Rattle.std.proofs.lemmas.Bool.{cases_eq, cases_Bool}
@@ -28,12 +28,16 @@ pub merged_unless_same : (multi directed : Bool) (events : List Event) → HaveD
 merged_unless_same true directed events different = refl
 merged_unless_same false directed events different = merged_same directed events (different directed)
 
--- events with different places have different ends
-apart_by_place : (directed : Bool) (e f : Event) → bit_place e ≢ bit_place f → apart directed e f
-apart_by_place directed e f other = elim (cases_Bool (has_ends_of directed e f)) [
-  | inl same ↦ absurd (other (ap (λ n. n % 16384) (same_sums directed e f same)))
+-- events whose ends have different sums have different ends
+pub apart_by_sum : (directed : Bool) (e f : Event) → e.from + e.to ≢ f.from + f.to → apart directed e f
+apart_by_sum directed e f other = elim (cases_Bool (has_ends_of directed e f)) [
+  | inl same ↦ absurd (other (same_sums directed e f same))
   | inr apart ↦ apart
 ]
+
+-- and so have events with different places
+apart_by_place : (directed : Bool) (e f : Event) → bit_place e ≢ bit_place f → apart directed e f
+apart_by_place directed e f other = apart_by_sum directed e f (λ same. other (ap (λ n. n % 16384) same))
 
 -- the bit at a place of a table, and the table with that bit
 abbrev bit_of : List ℕ → ℕ → ℕ

@@ -53,6 +53,8 @@ pub mod EdgeLines
 pub mod CopiesInOrder
 -- events in parts that rise
 pub mod RisingParts
+-- events whose ends have rising sums
+pub mod RisingSums
 -- the events of an induced graph, part by part
 pub mod InducedParts
 -- worked examples

@@ -1,5 +1,5 @@
 //! The events of which the graph of an operation is made (GB_GRAPH, gb_new_arc and gb_new_edge).
-ghost use Rattle.std.specs.Prelude.{◌≡◌, ◌≤◌, ◌<◌, ◌==◌, length, All, OnOk, IfOk, IsOkUnless};
+ghost use Rattle.std.specs.Prelude.{◌≡◌, ◌≤◌, ◌<◌, ◌==◌, ◌+◌, ◌^◌, length, All, OnOk, IfOk, IsOkUnless};
 ghost use Rattle.sgb_vec.specs.Limits.{most_vertices};
 ghost use Rattle.sgb_graph.specs.Descriptions.{IsGraphOf};
 ghost use Rattle.sgb_graph.specs.Growth.{AddsEvents, HasPlainArcs};
@@ -47,6 +47,14 @@ impl Event {
         } else {
             (self.from.min(self.to), self.from.max(self.to))
         }
+    }
+
+    /// The sum of its ends. Events with the same ends have the same sum, for arcs and edges.
+    pub(crate) fn ends_sum(self) -> u64
+        ensures sum { result ≡ self.from + self.to }
+        ensures bound { result < 2 ^ 33 }
+    {
+        u64::from(self.from) + u64::from(self.to)
     }
 
     /// The place of its bit in a table of 16384 bits. Events with the same ends have the same place, for arcs and edges.

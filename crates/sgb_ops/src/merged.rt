@@ -23,10 +23,27 @@ pub(crate) fn merged_unless(
     ensures ok { IfOk result (λ left. left.items ≡ merged_unless multi directed events.items) }
     ensures memory { IsOkUnless result Panic.NoRoom }
 {
-    if multi || are_apart(&events) {
+    if multi || are_rising(&events) || are_apart(&events) {
         return Ok(events);
     }
     merged(alloc, directed, &events)
+}
+
+// Whether the sums of the ends rise: then no two of the events have the same ends. It needs no table, for any number of
+// events, as those of one vertex that is joined to others in their order.
+fn are_rising(events: &[Event]) -> bool
+    ensures { OnTrue result (HaveDifferentEnds events.now) }
+{
+    // One more than the sum of the event before.
+    let mut least = 0;
+    for event in events {
+        let sum = event.ends_sum();
+        if sum < least {
+            return false;
+        }
+        least = sum + 1;
+    }
+    true
 }
 
 // Whether no two of the events have the same ends, as far as a table of bits tells. The answer is also `false` where two
