@@ -1,21 +1,19 @@
 -- The values of entries, one after another.
-use Rattle.std.proofs.Common.{◌≡◌, ◌||◌, ◌≤◌, ◌<◌, ◌+◌, ◌++◌, ℕ, zero, suc, Bool, Box, Global, List, [], ◌∷◌, length, get_or, Result, Ok, Err, inl, inr, refl, ap, ◌∙◌, append_assoc, arith}
+use Rattle.std.proofs.Common.{◌≡◌, ◌||◌, ◌+◌, ◌++◌, ℕ, Bool, Box, Global, List, [], ◌∷◌, length, Result, Ok, Err, inl, inr, refl, ap, ◌∙◌, append_assoc, arith}
 use Rattle.sgb_vec.specs.Results.{and_then}
 use Rattle.sgb_vec.specs.declared.panics.Panic.{Panic}
 use Rattle.sgb_graph.specs.Graphs.{GraphData}
 use Rattle.sgb_ops.specs.Induced.{induced_of}
 use Rattle.sgb_expr.proofs.CodeExpressions.{induced_is}
 use Rattle.sgb_expr.specs.inner.CodeEntries.{list_of}
-use Rattle.sgb_expr.specs.Listed.{listed}
-use Rattle.sgb_expr.specs.Expression.{entries_of, entry_of, expression_of}
+use Rattle.sgb_expr.specs.Expression.{entries_of, expression_of}
 use Rattle.sgb_expr.specs.StdinUses.{entries_have_stdin, has_stdin}
 use Rattle.sgb_expr.specs.declared.entries.Entries.{Entries}
 use Rattle.sgb_expr.specs.declared.expressions.Expr.{Expr}
 use Rattle.sgb_expr.specs.declared.expressions.Expr.TheVariants as expr
-use Rattle.sgb_expr.specs.declared.entries.EntryExpr.{EntryExpr}
 use Rattle.sgb.specs.Values.{IsValue, both, handed_entries, made, value_of, values_of}
 use Rattle.sgb.specs.declared.evaluation.entries.EntryValue.{EntryValue}
-use Rattle.sgb.proofs.Values.{size_of, size_of_entries, size_of_entry}
+use Rattle.sgb.proofs.Values.{size_of, size_of_entries}
 
 -- these values and then others
 abbrev pub and_values : {T : Type 0} → List T → Result (List T) Panic → Result (List T) Panic

@@ -8,6 +8,8 @@ mod evaluation;
 mod input;
 // What holds of all answers.
 mod laws;
+// What a listing asks of a generator's graph.
+mod listed;
 // Accepted parameters of a generator.
 mod locals;
 // A call of the program: from its words to its exit status.

@@ -15,6 +15,7 @@ ghost use Rattle.sgb.specs.inner.Writing.{IsEnded, IsEndedFrom};
 
 use crate::evaluation::{graph_from, queen_moves};
 use crate::input::input_for;
+use crate::listed::{ListedBoard, ListedSimplex, ListedSubsets};
 use crate::locals::{Local, local_of};
 use crate::writing::files::write_file;
 use crate::writing::flips::write_flip;
@@ -192,9 +193,18 @@ fn answer_generator_list<W: Sink>(
     let local = local_of(alloc, generator)?;
     let mut links = Links::new(alloc);
     match &local {
-        Local::Board(board) => list_resumed(&local, board.family(), resume, &mut links, out),
-        Local::Simplex(simplex) => list_resumed(&local, simplex.family(), resume, &mut links, out),
-        Local::Subsets(subsets) => list_resumed(&local, subsets.family(), resume, &mut links, out),
+        Local::Board(board) => {
+            let mut listed = ListedBoard::new(board, &links);
+            list_resumed(&mut listed, board.family(), resume, &mut links, out)
+        }
+        Local::Simplex(simplex) => {
+            let mut listed = ListedSimplex { simplex };
+            list_resumed(&mut listed, simplex.family(), resume, &mut links, out)
+        }
+        Local::Subsets(subsets) => {
+            let mut listed = ListedSubsets { subsets };
+            list_resumed(&mut listed, subsets.family(), resume, &mut links, out)
+        }
     }
 }
 

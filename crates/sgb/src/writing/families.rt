@@ -16,11 +16,12 @@ use super::lines::Line;
 use super::listing::write_head_of;
 use super::resumed::vectors_after;
 use super::write_bytes;
-use crate::locals::{Lists, Local};
+use crate::listed::{Listed, ListedBoard, ListedSimplex, ListedSubsets};
+use crate::locals::Local;
 use sgb_file::Sink;
 use sgb_gen::Links;
 use sgb_requests::Fault;
-use sgb_vec::{Family, Panic, Vectors};
+use sgb_vec::{Family, Vectors};
 
 /// Writes the listing of a generator's graph, one arc list after another: the head where `head` asks for it, and a
 /// block for each vertex after that of the vector `after`, or for all. No flush. All memory that it takes is that of
@@ -45,127 +46,123 @@ pub fn list_family<W: Sink>(
         (W.written out.old) (W.written out.new)) }
 {
     match local {
-        Local::Board(board) => list_vectors(local, board.family(), head, after, links, out),
-        Local::Simplex(simplex) => list_vectors(local, simplex.family(), head, after, links, out),
-        Local::Subsets(subsets) => list_vectors(local, subsets.family(), head, after, links, out),
+        Local::Board(board) => {
+            let mut listed = ListedBoard::new(board, links);
+            list_vectors(&mut listed, board.family(), head, after, links, out)
+        }
+        Local::Simplex(simplex) => {
+            let mut listed = ListedSimplex { simplex };
+            list_vectors(&mut listed, simplex.family(), head, after, links, out)
+        }
+        Local::Subsets(subsets) => {
+            let mut listed = ListedSubsets { subsets };
+            list_vectors(&mut listed, subsets.family(), head, after, links, out)
+        }
     }
 }
 
-// The same where the vectors are those of the family.
-fn list_vectors<F: Family, W: Sink>(
-    local: &Local,
+/// The same of a graph whose vectors are those of the family.
+pub(super) fn list_vectors<L: Listed, F: Family, W: Sink>(
+    listed: &mut L,
     family: &F,
     head: bool,
     after: Option<&[u32]>,
     links: &mut Links,
     out: &mut W,
 ) -> Result<(), Fault>
-    requires members { F.members family.now ≡ vectors_of local.now }
-    requires member { IfSome after (λ x. Contains (vectors_of local.now) x.now) }
+    requires members { F.members family.now ≡ vectors_of (L.parameters listed.old) }
+    requires member { IfSome after (λ x. Contains (vectors_of (L.parameters listed.old)) x.now) }
     requires sound { W.has_failed out.old ≡ false }
-    ensures written { IsWritten (family_text (graph_described (described local.now)) head
-        (start_after (vectors_of local.now) (option_map (λ x. x.now) after.entry)))
+    ensures written { IsWritten (family_text (graph_described (described (L.parameters listed.old))) head
+        (start_after (vectors_of (L.parameters listed.old)) (option_map (λ x. x.now) after.entry)))
         (change W.written W.has_failed out.old out.new) result }
     ensures head { IfErr result (λ f. f ≢ Fault.Write → IsLeftOrBegun (out.new ≡ out.old)
-        (head_if head (graph_described (described local.now)))
+        (head_if head (graph_described (described (L.parameters listed.old))))
         (W.written out.old) (W.written out.new)) }
 {
     let vectors = vectors_after(family, after);
-    write_head_if(head, local, family, links, out)?;
-    write_blocks(local, vectors, links, out)
+    write_head_if(head, listed, family, links, out)?;
+    write_blocks(listed, vectors, links, out)
 }
 
 // Writes the head where it is asked for.
-fn write_head_if<F: Family, W: Sink>(
+fn write_head_if<L: Listed, F: Family, W: Sink>(
     asked: bool,
-    local: &Local,
+    listed: &L,
     family: &F,
     links: &mut Links,
     out: &mut W,
 ) -> Result<(), Fault>
-    requires members { F.members family.now ≡ vectors_of local.now }
+    requires members { F.members family.now ≡ vectors_of (L.parameters listed.now) }
     requires sound { W.has_failed out.old ≡ false }
-    ensures written { IsWritten (head_if asked (graph_described (described local.now)))
+    ensures written { IsWritten (head_if asked (graph_described (described (L.parameters listed.now))))
         (change W.written W.has_failed out.old out.new) result }
     ensures memory { IfErr result (λ f. f ≢ Fault.Write → out.new ≡ out.old) }
 {
     if !asked {
         return Ok(());
     }
-    write_head(local, family, links, out)
+    write_head(listed, family, links, out)
 }
 
 // Writes the head. The arcs are counted first.
-fn write_head<F: Family, W: Sink>(
-    local: &Local,
+fn write_head<L: Listed, F: Family, W: Sink>(
+    listed: &L,
     family: &F,
     links: &mut Links,
     out: &mut W,
 ) -> Result<(), Fault>
-    requires members { F.members family.now ≡ vectors_of local.now }
+    requires members { F.members family.now ≡ vectors_of (L.parameters listed.now) }
     requires sound { W.has_failed out.old ≡ false }
-    ensures written { IsWritten (head (graph_described (described local.now)))
+    ensures written { IsWritten (head (graph_described (described (L.parameters listed.now))))
         (change W.written W.has_failed out.old out.new) result }
     ensures memory { IfErr result (λ f. f ≢ Fault.Write → out.new ≡ out.old) }
 {
-    let m = arcs_of(local, links)?;
-    write_head_of(&local.id(), family.size(), m, out)
-}
-
-// How many arcs the graph has. They are counted without the lists.
-fn arcs_of(local: &Local, links: &Links) -> Result<u128, Panic>
-    ensures count { IfOk result (λ m. m ≡ (graph_described (described local.now)).m) }
-    ensures memory { IsOkUnless result Panic.NoRoom }
-{
-    match local {
-        Local::Board(board) => board.arcs_count(),
-        Local::Simplex(simplex) => simplex.arcs_count(links),
-        Local::Subsets(subsets) => Ok(subsets.arcs_count()),
-    }
+    let m = listed.arcs_count(links)?;
+    write_head_of(&listed.id(), family.size(), m, out)
 }
 
 // Writes the blocks of these vectors.
-fn write_blocks<F: Family, W: Sink>(
-    local: &Local,
+fn write_blocks<L: Listed, F: Family, W: Sink>(
+    listed: &mut L,
     vectors: Vectors<'_, F>,
     links: &mut Links,
     out: &mut W,
 ) -> Result<(), Fault>
-    requires rest { IsRest (vectors_of local.now) vectors }
+    requires rest { IsRest (vectors_of (L.parameters listed.old)) vectors }
     requires sound { W.has_failed out.old ≡ false }
-    ensures { IsWritten (flat_map (local_block local.now) vectors.entry)
+    ensures { IsWritten (flat_map (local_block (L.parameters listed.old)) vectors.entry)
         (change W.written W.has_failed out.old out.new) result }
 {
-    let mut lists = local.lists(links);
     let mut name = KeptName::new();
     let mut line = Line::new();
     let mut left = vectors;
     while let Some(x) = left.front() {
         name.turn_to(x);
-        write_block(&mut lists, x, links, &mut name, &mut line, out)?;
+        write_block(listed, x, links, &mut name, &mut line, out)?;
         let _some = left.advance();
     }
     Ok(())
 }
 
 // Writes the block of a vector: its name, and a line for each of its arcs.
-fn write_block<W: Sink>(
-    lists: &mut Lists<'_>,
+fn write_block<L: Listed, W: Sink>(
+    listed: &mut L,
     x: &[u32],
     links: &mut Links,
     name: &mut KeptName,
     line: &mut Line,
     out: &mut W,
 ) -> Result<(), Fault>
-    requires member { Contains (vectors_of lists.old) x.now }
+    requires member { Contains (vectors_of (L.parameters listed.old)) x.now }
     requires short { length x.now ≤ most_dimensions + 1 }
     requires named { name.old ≡ x.now }
     requires sound { W.has_failed out.old ≡ false }
-    ensures written { IsWritten (local_block lists.old x.now)
+    ensures written { IsWritten (local_block (L.parameters listed.old) x.now)
         (change W.written W.has_failed out.old out.new) result }
-    ensures same { lists.new ≡ lists.old }
+    ensures same { L.parameters listed.new ≡ L.parameters listed.old }
 {
-    lists.arcs_at(x, links)?;
+    listed.arcs_at(x, links)?;
     name.write_line(out)?;
     for i in 0..links.len() {
         let link = links.get(i);

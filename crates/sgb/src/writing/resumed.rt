@@ -12,8 +12,8 @@ ghost use Rattle.sgb.specs.Values.{described};
 ghost use Rattle.sgb.specs.inner.Remaining.{BeginsAfter, IsLastSkipped, IsMemberNamed};
 ghost use Rattle.sgb.specs.inner.Writing.{IsEnded};
 
-use super::families::list_family;
-use crate::locals::Local;
+use super::families::list_vectors;
+use crate::listed::Listed;
 use sgb_file::Sink;
 use sgb_gen::Links;
 use sgb_requests::{Fault, Resume};
@@ -23,20 +23,27 @@ use sgb_vec::{Family, Vector, Vectors, vector_of};
 /// vertex; or, where the answer begins further on, the blocks from there.
 ///
 /// `NoVertex` where it is to begin after a name that no vertex has.
-pub(crate) fn list_resumed<F: Family, W: Sink>(
-    local: &Local,
+pub(crate) fn list_resumed<L: Listed, F: Family, W: Sink>(
+    listed: &mut L,
     family: &F,
     resume: &Resume,
     links: &mut Links,
     out: &mut W,
 ) -> Result<(), Fault>
-    requires members { F.members family.now ≡ vectors_of local.now }
+    requires members { F.members family.now ≡ vectors_of (L.parameters listed.old) }
     requires sound { W.has_failed out.old ≡ false }
-    ensures { IsEnded (list_answer (graph_described (described local.now)) resume.now)
+    ensures { IsEnded (list_answer (graph_described (described (L.parameters listed.old))) resume.now)
         (out.new ≡ out.old) (change W.written W.has_failed out.old out.new) result }
 {
     let start = start_of(family, resume)?;
-    list_family(local, has_head(resume), slice_of(&start), links, out)
+    list_vectors(
+        listed,
+        family,
+        has_head(resume),
+        slice_of(&start),
+        links,
+        out,
+    )
 }
 
 // Whether the answer has a head: where it is not resumed.

@@ -5,7 +5,7 @@ use Rattle.sgb_vec.specs.declared.panics.Panic.{Panic}
 use Rattle.sgb_graph.specs.Descriptions.{Description, IsAnswerOf}
 use Rattle.sgb_graph.specs.Graphs.{GraphData}
 use Rattle.sgb_expr.specs.Listed.{listed}
-use Rattle.sgb_expr.specs.Expression.{entries_of, entry_of, expression_of}
+use Rattle.sgb_expr.specs.Expression.{entries_of, expression_of}
 use Rattle.sgb_expr.specs.StdinUses.{entries_have_stdin, has_stdin}
 use Rattle.sgb_expr.specs.declared.entries.EntryExpr.{EntryExpr}
 use Rattle.sgb_ops.specs.Induced.{induced_of}
@@ -23,7 +23,7 @@ use Rattle.sgb.specs.declared.evaluation.entries.EntryValue.{EntryValue}
 use Rattle.sgb.specs.inner.Inputs.{left_after}
 use Rattle.sgb.proofs.EntryValues.{and_values, entries_handed, entries_refused, induced_reads, induced_size, induced_value, one_more}
 use Rattle.sgb.proofs.InputsLeft.{if_ok, left_on, value_on, values_on}
-use Rattle.sgb.proofs.Values.{both_refused, size_of_entries, size_of_entry, value_both, value_made, value_then}
+use Rattle.sgb.proofs.Values.{both_refused, size_of_entries, value_both, value_made, value_then}
 use Rattle.sgb.proofs.evaluation.+graphs.Goals as goal
 
 -- the value of an operand that stands in a box

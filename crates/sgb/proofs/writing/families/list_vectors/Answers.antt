@@ -12,7 +12,7 @@ returns-in_err-write_head_if-clause-head g c = exit_uncut _ _ _ _ _ _ c.from_res
 
 pub returns-clause-written : goal.returns-clause-written
 returns-clause-written g c =
-    let l = c.args.local.now in
+    let l = g.L.Listed.parameters c.args.listed.now in
     let after = option_map (λ x. x.now) c.args.after in
     let rest : c.vectors_after-vectors.result ≡ drop (start_after (vectors_of l) after) (vectors_of l) =
     c.vectors_after-vectors.ensures ∙ ap (λ ms. drop (start_after ms after) ms) c.requires.members in

@@ -21,12 +21,12 @@ write_block-requires-clause-member g c =
 
 pub loop-x-preserved : goal.loop-x-preserved
 loop-x-preserved g c =
-    let l = c.args.local.now in
+    let l = g.L.Listed.parameters c.args.listed.now in
     let texts : List (List ℕ) → List ℕ = flat_map (local_block l) in
     let x = c.in-Some.x.now in
     let own : texts c.loop-x.left ≡ local_block l x ++ texts c.advance-some.new.self =
     ap texts (first_and_rest c.loop-x.left c.advance-some.new.self x x c.in-Some.ensures.first refl c.advance-some.ensures.rest) in
-    let first = block_first l c.loop-x.lists x c.loop-x.left c.advance-some.new.self c.loop-x.invariant.3 own in (
+    let first = block_first l (g.L.Listed.parameters c.loop-x.listed) x c.loop-x.left c.advance-some.new.self c.loop-x.invariant.3 own in (
       so_far-more _ _ _ _ _ _ _ first c.loop-x.invariant.0 c.in_ok-write_block.ensures.written.output,
       c.in_ok-write_block.ensures.written.sound,
       rest_of_rest _ c.loop-x.left c.advance-some.new.self c.loop-x.invariant.2 c.advance-some.ensures.rest,
@@ -35,10 +35,10 @@ loop-x-preserved g c =
 
 pub returns-in_err-write_block : goal.returns-in_err-write_block
 returns-in_err-write_block g c =
-    let l = c.args.local.now in
+    let l = g.L.Listed.parameters c.args.listed.now in
     let texts : List (List ℕ) → List ℕ = flat_map (local_block l) in
     let x = c.in-Some.x.now in
     let rest : List (List ℕ) = drop 1 c.loop-x.left in
     let own : texts c.loop-x.left ≡ local_block l x ++ texts rest = ap texts (first_and_rest c.loop-x.left rest x x c.in-Some.ensures.first refl refl) in
-    let first = block_first l c.loop-x.lists x c.loop-x.left rest c.loop-x.invariant.3 own in
+    let first = block_first l (g.L.Listed.parameters c.loop-x.listed) x c.loop-x.left rest c.loop-x.invariant.3 own in
     exit_cut _ _ _ _ c.from_residual.ensures.1 (so_far-cut _ _ _ _ _ _ _ _ _ first c.loop-x.invariant.0 c.in_err-write_block.ensures.written)

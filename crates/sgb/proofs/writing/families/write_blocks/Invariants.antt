@@ -9,10 +9,11 @@ use Rattle.sgb.proofs.writing.families.write_blocks.Given as goal
 -- the blocks of the vectors that are still to come are left
 abbrev pub invariant-loop-x : goal.invariant-loop-x
 invariant-loop-x g l =
-    SoFar (flat_map (local_block l.local) l.fn.vectors) (flat_map (local_block l.local) l.left) (g.W.Sink.written l.initial.out) (g.W.Sink.written l.out)
+    let parameters = g.L.Listed.parameters l.initial.listed in
+    SoFar (flat_map (local_block parameters) l.fn.vectors) (flat_map (local_block parameters) l.left) (g.W.Sink.written l.initial.out) (g.W.Sink.written l.out)
     × (g.W.Sink.has_failed l.out ≡ false)
-    × IsRest (vectors_of l.local) l.left
-    × (l.lists ≡ l.local)
+    × IsRest (vectors_of parameters) l.left
+    × (g.L.Listed.parameters l.listed ≡ parameters)
 
 -- each turn leaves out one vector
 abbrev pub decreases-loop-x : goal.decreases-loop-x

@@ -6,7 +6,7 @@ use Rattle.sgb.proofs.writing.families.write_head.Goals as goal
 
 pub returns-clause-written : goal.returns-clause-written
 returns-clause-written g c =
-    let l = c.args.local.now in
+    let l = g.L.Listed.parameters c.args.listed.now in
     let size : c.size.result ≡ length (vectors_of l) = c.size.ensures ∙ ap length c.requires.members in
     rw (head_of_local l c.size.result c.in_ok-m.m size c.in_ok-m.ensures.count, sym c.id.ensures) c.write_head_of.ensures.written
 

@@ -10,7 +10,7 @@ use Rattle.sgb.proofs.writing.resumed.list_resumed.Goals as goal
 
 pub returns-in_err-start : goal.returns-in_err-start
 returns-in_err-start g c =
-    let l = c.args.local.now in
+    let l = g.L.Listed.parameters c.args.listed.now in
     let graph = graph_described (described l) in
     let text : ℕ → List ℕ = λ k. head_for c.args.resume.now (head graph) ++ blocks graph k in
     let nowhere = left_out_of_graph l (g.F.Family.members c.args.family.now) c.args.resume.now _ c.requires.members c.in_err-start.ensures in
@@ -18,7 +18,7 @@ returns-in_err-start g c =
 
 pub returns : goal.returns
 returns g c =
-    let l = c.args.local.now in
+    let l = g.L.Listed.parameters c.args.listed.now in
     let members = g.F.Family.members c.args.family.now in
     let graph = graph_described (described l) in
     let text : ℕ → List ℕ = λ k. head_for c.args.resume.now (head graph) ++ blocks graph k in
@@ -26,4 +26,4 @@ returns g c =
     let from = left_out_of_graph l members c.args.resume.now (Ok begins.0) c.requires.members begins.1 in
     let after = blocks_after l members begins.0 (option_map (λ vector. vector.items) c.in_ok-start.start) (option_map (λ x. x.now) c.slice_of.result) c.requires.members begins.2 c.slice_of.ensures in
     ended_after (left_out (names_of graph) c.args.resume.now) begins.0 text _ _ _ from
-    (rw (after, sym (c.has_head.ensures graph)) c.list_family.ensures.written)
+    (rw (after, sym (c.has_head.ensures graph)) c.list_vectors.ensures.written)
