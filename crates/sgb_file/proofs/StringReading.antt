@@ -12,7 +12,7 @@ use Rattle.sgb_vec.specs.declared.panics.Panic.{Panic}
 use Rattle.sgb_vec.specs.declared.panics.Panic.TheVariants.{NoRoom, Syntax}
 use Rattle.sgb_graph.specs.Ids.{most_id_bytes, IsId}
 use Rattle.sgb_file.specs.Fields.{after_prefix, is_string_byte, string_at, unbroken}
-use Rattle.sgb_file.specs.inner.Found.{IsFoundBy, IsPartOf, IsNoString, IsWholeOf, IsNoWhole, checked_text, goes_on, is_broken, string_before, string_from}
+use Rattle.sgb_file.specs.inner.Found.{IsFoundBy, IsPartOf, IsNoString, checked_text, goes_on, is_broken, string_before, string_from}
 use Rattle.sgb_file.specs.inner.LinesLeft.{has_no_newline}
 use Rattle.sgb_file.proofs.LineLemmas.{not_true, list_all-take}
 use Rattle.sgb_file.proofs.FieldReading.{string_bytes, text_bytes}
@@ -170,19 +170,6 @@ ended_line line more h none last most bytes =
 -- the parts of a string so far: the string that began with the first one goes on so
 abbrev pub IsGathered : List ℕ → List ℕ → Bool → List ℕ → List ℕ → Type 0
 IsGathered first text closed bytes left = (most : ℕ) → string_from most first text ≡ goes_on closed most bytes left
-
--- a string of one part, and one of several
-pub one_part : (most : ℕ) (text part left : List ℕ) (closed : Bool) → IsPartOf text part closed left → closed ≡ true → string_from most [] text ≡ string_before most part left
-one_part most text part left true h e = h most []
-one_part most text part left false h e = absurd cc
-
-pub several_parts : (most : ℕ) (text part left bytes after : List ℕ) (closed : Bool) → IsPartOf text part closed left → closed ≡ false → IsWholeOf part left bytes after → string_from most [] text ≡ string_before most bytes after
-several_parts most text part left bytes after true h e whole = absurd cc
-several_parts most text part left bytes after false h e whole = h most [] ∙ whole most
-
-pub several_none : (most : ℕ) (text part left : List ℕ) (closed : Bool) → most ≤ most_bytes → IsPartOf text part closed left → closed ≡ false → IsNoWhole part left → string_from most [] text ≡ None
-several_none most text part left true short h e none = absurd cc
-several_none most text part left false short h e none = h most [] ∙ none most short
 
 -- the test passes just for what is short and printable
 test_passes : (most : ℕ) (bytes : List ℕ) → length bytes ≤ most → All IsTextByte bytes → (nat_le (length bytes) most && list_all is_string_byte bytes) ≡ true

@@ -83,10 +83,9 @@ IsWholeOf first text bytes left = (most : ℕ) → string_from most first text �
 abbrev pub IsNoWhole : List ℕ → List ℕ → Type 0
 IsNoWhole first text = (most : ℕ) → most ≤ most_bytes → string_from most first text ≡ None
 
--- a text begins with a string of these bytes, and this text is left; a string of at most so many bytes is refused where they
--- are too many
-abbrev pub IsStringAt : List ℕ → List ℕ → List ℕ → Type 0
-IsStringAt text bytes left = (most : ℕ) → string_at most text ≡ string_before most bytes left
+-- a text begins with a string that has this first part, which ends it or not, and this text is left
+abbrev pub BeginsWith : List ℕ → List ℕ → Bool → List ℕ → Type 0
+BeginsWith text part closed left = (most : ℕ) → string_at most text ≡ goes_on closed most part left
 
 -- the text begins with no string that a file may hold
 abbrev pub IsNoStringAt : List ℕ → Type 0

@@ -4,7 +4,7 @@ ghost use Rattle.std.specs.List.{position};
 ghost use Rattle.sgb_vec.specs.Limits.{most_bytes};
 ghost use Rattle.sgb_graph.specs.Ids.{most_id_bytes};
 ghost use Rattle.sgb_file.specs.Fields.{string_at};
-ghost use Rattle.sgb_file.specs.inner.Found.{IsFoundBy, IsNoString, IsNoStringAt, IsNoWhole, IsPartOf, IsStringAt, IsWholeOf, is_broken};
+ghost use Rattle.sgb_file.specs.inner.Found.{BeginsWith, IsFoundBy, IsNoString, IsNoStringAt, IsNoWhole, IsPartOf, IsWholeOf, is_broken, string_from};
 ghost use Rattle.sgb_file.specs.inner.LinesLeft.{text_left};
 
 use super::lines::Lines;
@@ -30,9 +30,11 @@ pub(super) fn read_text(alloc: Global, lines: &mut Lines<'_>) -> Result<Text, Pa
         (text_left lines.new) }
     ensures all { lines.new.all ≡ lines.old.all }
 {
-    let mut gathered = None;
-    let bytes = read_bytes(lines, &mut gathered)?;
-    Text::new(alloc, bytes)
+    let first = first_part(lines)?;
+    if first.closed {
+        return Text::new(alloc, first.bytes);
+    }
+    broken_text(alloc, first.bytes, lines)
 }
 
 // The string that stands next, as an id: of at most 160 bytes.
@@ -41,29 +43,44 @@ pub(super) fn read_id(lines: &mut Lines<'_>) -> Result<Id, Panic>
         (text_left lines.new) }
     ensures all { lines.new.all ≡ lines.old.all }
 {
-    let mut gathered = None;
-    let bytes = read_bytes(lines, &mut gathered)?;
-    Id::new(bytes)
+    let first = first_part(lines)?;
+    if first.closed {
+        return Id::new(first.bytes);
+    }
+    broken_id(first.bytes, lines)
 }
 
-// The bytes of the string that stands next: in their place where they are on one line, else gathered from several.
-fn read_bytes<'a: 'b, 'b>(
-    lines: &mut Lines<'a>,
-    gathered: &'b mut Option<ArrayVec<u8, MOST_BYTES>>,
-) -> Result<&'b [u8], Panic>
-    ensures string { IfOk result (λ bytes. IsStringAt (text_left lines.old) bytes.now
+// A string of several parts, of which the first one was taken. It is gathered in room of its own, which no other string
+// needs.
+fn broken_text(alloc: Global, first: &[u8], lines: &mut Lines<'_>) -> Result<Text, Panic>
+    ensures found { IsFoundBy (string_from most_bytes first.now (text_left lines.old)) result
+        (text_left lines.new) }
+    ensures all { lines.new.all ≡ lines.old.all }
+{
+    let bytes = gather(first, lines)?;
+    Text::new(alloc, bytes.as_slice())
+}
+
+// The same of an id.
+fn broken_id(first: &[u8], lines: &mut Lines<'_>) -> Result<Id, Panic>
+    ensures found { IsFoundBy (string_from most_id_bytes first.now (text_left lines.old)) result
+        (text_left lines.new) }
+    ensures all { lines.new.all ≡ lines.old.all }
+{
+    let bytes = gather(first, lines)?;
+    Id::new(bytes.as_slice())
+}
+
+// The first part of the string that stands next.
+fn first_part<'a>(lines: &mut Lines<'a>) -> Result<Part<'a>, Panic>
+    ensures part { IfOk result (λ part. BeginsWith (text_left lines.old) part.bytes.now part.closed
         (text_left lines.new)) }
     ensures none { IfErr result (λ error. (error ≡ Panic.Syntax)
         × IsNoStringAt (text_left lines.old)) }
     ensures all { lines.new.all ≡ lines.old.all }
 {
     pass_byte(lines, b'"')?;
-    let part = take_part(lines)?;
-    if part.closed {
-        return Ok(part.bytes);
-    }
-    let bytes = gather(part.bytes, lines)?;
-    Ok(gathered.insert(bytes).as_slice())
+    take_part(lines)
 }
 
 // The next part of a string: up to its closing quote, or to a `\` at the end of its line.
