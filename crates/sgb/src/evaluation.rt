@@ -15,7 +15,7 @@ use entries::{EntryValue, handed_entries};
 use sgb_expr::{EntryExpr, Expr, Generator, have_stdin};
 use sgb_gen::BoardParams;
 use sgb_graph::Graph;
-use sgb_ops::{bi_complete, complement, gunion, induced, intersection, lines, product, wheel};
+use sgb_ops::{bi_complete, complement, gunion, induced_from, intersection, lines, product, wheel};
 use sgb_vec::Panic;
 use std::alloc::Global;
 
@@ -107,7 +107,7 @@ fn evaluate(
             let operand = evaluate(alloc, graph, input, more_in(more, entries))?;
             let values = values_of(alloc, entries, input, more)?;
             let list = handed_entries(alloc, values)?;
-            induced(alloc, &operand, &list, *self_loops, *multi, *directed)
+            induced_from(alloc, &operand, list, *self_loops, *multi, *directed)
         }
         Expr::BiComplete { n1, n2, directed } => bi_complete(alloc, *n1, *n2, *directed),
         Expr::Wheel { n, n1, directed } => wheel(alloc, *n, *n1, *directed),

@@ -73,7 +73,7 @@ module _ (entries : List Entry) (directed : Bool) (numbered : list_any is_unnumb
   of_copies g v = All-flat_map (IsWithin (total_of entries)) (events_of_copy g entries directed v) (copies_of entries v) (λ k d h. of_copy g v (get_or (copies_of entries v) k d) (all_copies v k d h))
 
   -- the events between copies are between vertices of the result
-  between_within : (g : GraphData) → AllWithin (total_of entries) (events_between g entries directed)
+  pub between_within : (g : GraphData) → AllWithin (total_of entries) (events_between g entries directed)
   between_within g = All-flat_map (IsWithin (total_of entries)) (events_of_copies g entries directed) (places_of g) (λ k d h. of_copies g (get_or (places_of g) k d))
 
   -- those inside an entry are between its vertices
@@ -100,7 +100,7 @@ module _ (entries : List Entry) (directed : Bool) (numbered : list_any is_unnumb
       subst Fits (sym (get_or-enumerate_from 0 entries k d below ∙ ap (λ i. (i, e)) place))
       (omega (arith, more, sum_by-take-le size_of_entry entries (k + 1)), kept k d.1 below)
 
-  events_inside : All IsKeptEntry entries → AllWithin (total_of entries) (events_within entries directed)
+  pub events_inside : All IsKeptEntry entries → AllWithin (total_of entries) (events_within entries directed)
   events_inside kept =
       All-flat_map (IsWithin (total_of entries)) (λ p. inner_events directed (first_copy entries p.0) p.1) (enumerate_from 0 entries)
       (λ k d h. let p = get_or (enumerate_from 0 entries) k d in let fits = all_fit kept k d h in inner_within (first_copy entries p.0) p.1 fits.0 fits.1)

@@ -14,7 +14,7 @@ use Rattle.sgb_vec.specs.Limits.{most_vertices}
 use Rattle.std.specs.Prelude.{Ok}
 use Rattle.sgb_ops.specs.declared.entries.Entry.{Entry}
 use Rattle.sgb_ops.specs.declared.entries.Entry.TheVariants as entry
-use Rattle.sgb_ops.specs.inner.Copies.{IsKeptEntry, copies_end, copies_start, count_by, first_copies, start_by}
+use Rattle.sgb_ops.specs.inner.Copies.{IsKeptEntry, copies_end, copies_start, count_by, first_copies, merged_of, start_by}
 use Rattle.sgb_ops.specs.Entries.{accepted_entries, copies_by, copies_of, first_copy, is_too_great, is_unnumbered, merged_count, merged_number, own_total, size_of_entry, total_of}
 
 -- the entries up to the one at this place
@@ -27,6 +27,10 @@ total_more entries i e below is = ap own_total (entries_more entries i e below i
 
 pub total_at : (entries : List Entry) (i : ℕ) (d : Entry) → i < length entries → own_total (take (i + 1) entries) ≡ own_total (take i entries) + size_of_entry (get_or entries i d)
 total_at entries i d below = ap own_total (take_more entries i d below) ∙ sum_by_push size_of_entry (take i entries) (get_or entries i d)
+
+-- the copies of an entry are among those of all
+pub place_fits : (entries : List Entry) (v : ℕ) (e : Entry) → v < length entries → e ≡ get_or entries v e → first_copy entries v + size_of_entry e ≤ total_of entries
+place_fits entries v e below is = omega (arith, total_more entries v e below is, sum_by-take-le size_of_entry entries (v + 1))
 
 -- it is sound, as those before are
 pub kept_more : (entries : List Entry) (i : ℕ) (e : Entry) → i < length entries → e ≡ get_or entries i e → All IsKeptEntry (take i entries) → IsKeptEntry e → All IsKeptEntry (take (i + 1) entries)
@@ -123,6 +127,17 @@ ends_own entries v e below is other =
     let count : option_map_or count_by (slice_get entries v) 0 ≡ size_of_entry e = ap (λ o. option_map_or count_by o 0) here ∙ own.1 in
     let size : option_map_or size_of_entry (slice_get entries v) 0 ≡ size_of_entry e = ap (λ o. option_map_or size_of_entry o 0) here in
     (start, omega (arith, start, count, size, next_copy entries v))
+
+-- the number of a merged vertex is asked for
+pub some_merged : (e : Entry) (k : ℕ) → merged_of e ≡ Some k → e ≡ entry.Merged k
+some_merged (entry.Copies n) k h = absurd cc
+some_merged (entry.Graph inner) k h = absurd cc
+some_merged (entry.Merged n) k h = let same : n ≡ k = search (rules, h) in ap entry.Merged same
+
+pub none_merged : (e : Entry) → merged_of e ≡ None → (k : ℕ) → e ≢ entry.Merged k
+none_merged (entry.Copies n) h k same = absurd cc
+none_merged (entry.Graph inner) h k same = absurd cc
+none_merged (entry.Merged n) h k same = absurd cc
 
 -- what is left of entries, one after another
 pub unnumbered_left : (entries : List Entry) (i : ℕ) (e : Entry) → i < length entries → e ≡ get_or entries i e

@@ -51,12 +51,16 @@ pub mod LineRuns
 pub mod EdgeLines
 -- the copies of the vertices, in order and apart
 pub mod CopiesInOrder
+-- entries without the graphs that they put in
+pub mod SizedEntries
 -- events in parts that rise
 pub mod RisingParts
 -- events whose ends have rising sums
 pub mod RisingSums
 -- the events of an induced graph, part by part
 pub mod InducedParts
+-- an induced graph under way
+pub mod BegunGraphs
 -- worked examples
 pub mod Examples
 -- refusals that come before memory is taken

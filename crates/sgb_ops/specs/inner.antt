@@ -1,4 +1,6 @@
 -- What only the private contracts and the proofs of sgb_ops speak of.
+-- an induced graph under way
+pub mod Begun
 -- where the copies of a vertex begin and end
 pub mod Copies
 -- the ends of events, and events merged one by one

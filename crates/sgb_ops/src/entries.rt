@@ -1,8 +1,9 @@
 //! What is put in the place of each vertex of a graph (GB_BASIC, induced).
-ghost use Rattle.std.specs.Prelude.{◌≡◌, ◌≤◌, ◌<◌, ◌+◌, ◌*◌, ◌^◌, false, Ok, Err, length, All, OnOk, IfOk, IfErr, IsOkUnless};
+ghost use Rattle.std.specs.Prelude.{◌≡◌, ◌≤◌, ◌<◌, ◌+◌, ◌*◌, ◌^◌, false, Ok, Err, length, map, All, OnOk, IfOk, IfErr, IsOkUnless};
 ghost use Rattle.sgb_vec.specs.Limits.{most_vertices};
 ghost use Rattle.std.specs.List.{list_any};
-ghost use Rattle.sgb_ops.specs.inner.Copies.{IsKeptEntry, copies_end, copies_start, first_copies};
+ghost use Rattle.sgb_ops.specs.declared.entries.Entry.TheVariants as entry;
+ghost use Rattle.sgb_ops.specs.inner.Copies.{IsKeptEntry, copies_end, copies_start, first_copies, merged_of, sized};
 ghost use Rattle.sgb_ops.specs.Entries.{accepted_entries, first_copy, is_unnumbered, merged_count, merged_number, own_total, size_of_entry, total_of};
 
 use sgb_graph::Graph;
@@ -111,15 +112,77 @@ fn own_total(entries: &[Entry]) -> u64
     total
 }
 
-/// The vertices that stand in the place of each vertex. Contracts see them as the entries.
+/// What stands in the place of a vertex: so many copies, or a merged vertex. Contracts see it as an entry.
 #[derive(Drop)]
-pub(crate) struct Copies<'a> {
-    entries: &'a [Entry],
+struct Place {
+    copies: u32,
+    // The number of the merged vertex, or 0.
+    number: u32,
+}
+
+impl Model for Place {
+    ghost use Rattle.sgb_ops.specs.declared.entries.Entry.{Entry};
+    ghost use Rattle.sgb_ops.specs.inner.Copies.{entry_of_place};
+
+    ghost Value = { Entry };
+
+    ghost view = { λ p. entry_of_place p.copies p.number };
+}
+
+impl Place {
+    // That of an entry, without the graph that it may be.
+    fn of(entry: &Entry) -> Place
+        requires { is_unnumbered entry.now ≡ false }
+        ensures { result ≡ sized entry.now }
+    {
+        match entry {
+            Entry::Copies(count) => Place::copies(*count),
+            Entry::Graph(graph) => Place::copies(graph.n()),
+            Entry::Merged(number) => Place {
+                copies: 0,
+                number: *number,
+            },
+        }
+    }
+
+    // So many copies.
+    fn copies(count: u32) -> Place
+        ensures { result ≡ entry.Copies count }
+    {
+        Place {
+            copies: count,
+            number: 0,
+        }
+    }
+
+    // How many vertices stand there alone.
+    fn size(&self) -> u32
+        ensures { result ≡ size_of_entry self.now }
+    {
+        if self.number > 0 { 0 } else { self.copies }
+    }
+
+    // The number of the merged vertex, if it is one.
+    fn merged(&self) -> Option<u32>
+        ensures { result ≡ merged_of self.now }
+    {
+        if self.number > 0 {
+            Some(self.number)
+        } else {
+            None
+        }
+    }
+}
+
+/// The vertices that stand in the place of each vertex. Contracts see them as entries that put in no graph.
+#[derive(Drop)]
+pub(crate) struct Copies {
+    places: Vec<Place>,
     // Where the copies of each vertex begin that stand for it alone, and after them how many there are in all.
     firsts: Vec<u32>,
 }
 
-impl<'a> Model for Copies<'a> {
+impl Model for Copies {
     ghost use Rattle.std.specs.Prelude.{◌≡◌, ◌≤◌, List};
     ghost use Rattle.sgb_vec.specs.Limits.{most_vertices};
     ghost use Rattle.sgb_ops.specs.declared.entries.Entry.{Entry};
@@ -128,30 +191,24 @@ impl<'a> Model for Copies<'a> {
 
     ghost Value = { List Entry };
 
-    ghost view = { λ c. c.entries.now };
+    ghost view = { λ c. c.places.items };
 
-    ghost invariant = { λ c. (c.firsts.items ≡ first_copies c.entries.now) × (total_of c.entries.now ≤ most_vertices) };
+    ghost invariant = { λ c. (c.firsts.items ≡ first_copies c.places.items) × (total_of c.places.items ≤ most_vertices) };
 }
 
-impl<'a> Copies<'a> {
-    /// The copies that these entries make.
+impl Copies {
+    /// The copies that these entries make, without the graphs that they put in.
     ///
     /// `NoRoom` when out of memory, and nothing else.
-    pub(crate) fn new(alloc: Global, entries: &'a [Entry]) -> Result<Copies<'a>, Panic>
-        requires { total_of entries.now ≤ most_vertices }
-        ensures ok { IfOk result (λ copies. copies ≡ entries.now) }
+    pub(crate) fn new(alloc: Global, entries: &[Entry]) -> Result<Copies, Panic>
+        requires numbered { list_any is_unnumbered entries.now ≡ false }
+        requires few { total_of entries.now ≤ most_vertices }
+        ensures ok { IfOk result (λ copies. copies ≡ map sized entries.now) }
         ensures memory { IsOkUnless result Panic.NoRoom }
     {
-        let firsts = first_copies(alloc, entries)?;
-        Ok(Copies { entries, firsts })
-    }
-
-    /// The entries.
-    pub(crate) fn entries(&self) -> &'a [Entry]
-        ensures value { result.now ≡ self.now }
-        ensures few { total_of self.now ≤ most_vertices }
-    {
-        self.entries
+        let places = places_of(alloc, entries)?;
+        let firsts = first_copies(alloc, merged_count(entries), &places)?;
+        Ok(Copies { places, firsts })
     }
 
     /// Where the copies of vertex `v` begin that stand for it alone.
@@ -167,9 +224,9 @@ impl<'a> Copies<'a> {
         requires { v < length self.now }
         ensures value { result ≡ copies_start self.now v }
     {
-        match &self.entries[v as usize] {
-            Entry::Merged(number) => number.saturating_sub(1),
-            _ => self.firsts[v as usize],
+        match self.places[v as usize].merged() {
+            Some(number) => number.saturating_sub(1),
+            None => self.firsts[v as usize],
         }
     }
 
@@ -178,24 +235,38 @@ impl<'a> Copies<'a> {
         requires { v < length self.now }
         ensures value { result ≡ copies_end self.now v }
     {
-        match &self.entries[v as usize] {
-            Entry::Merged(number) => number.saturating_sub(1) + 1,
-            _ => self.firsts[v as usize + 1],
+        match self.places[v as usize].merged() {
+            Some(number) => number.saturating_sub(1) + 1,
+            None => self.firsts[v as usize + 1],
         }
     }
 }
 
-// The first copy of each vertex, and after them how many there are in all.
-fn first_copies(alloc: Global, entries: &[Entry]) -> Result<Vec<u32>, Panic>
-    requires { total_of entries.now ≤ most_vertices }
-    ensures ok { IfOk result (λ firsts. firsts.items ≡ first_copies entries.now) }
+// The places of entries.
+fn places_of(alloc: Global, entries: &[Entry]) -> Result<Vec<Place>, Panic>
+    requires { list_any is_unnumbered entries.now ≡ false }
+    ensures ok { IfOk result (λ places. places.items ≡ map sized entries.now) }
     ensures memory { IsOkUnless result Panic.NoRoom }
 {
-    let mut firsts = Vec::new(alloc);
-    let mut total = merged_count(entries);
+    let mut places = Vec::with_capacity(alloc, entries.len())?;
     for entry in entries {
+        places.push(Place::of(entry))?;
+    }
+    Ok(places)
+}
+
+// The first copy of each vertex, and after them how many there are in all.
+fn first_copies(alloc: Global, merged: u32, places: &[Place]) -> Result<Vec<u32>, Panic>
+    requires merged { merged ≡ merged_count places.now }
+    requires few { total_of places.now ≤ most_vertices }
+    ensures ok { IfOk result (λ firsts. firsts.items ≡ first_copies places.now) }
+    ensures memory { IsOkUnless result Panic.NoRoom }
+{
+    let mut firsts = Vec::with_capacity(alloc, places.len() + 1)?;
+    let mut total = merged;
+    for place in places {
         firsts.push(total)?;
-        total += entry.size();
+        total += place.size();
     }
     firsts.push(total)?;
     Ok(firsts)

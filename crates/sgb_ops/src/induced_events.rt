@@ -2,7 +2,7 @@
 ghost use Rattle.std.specs.Prelude.{◌≡◌, ◌<◌, ◌≤◌, ◌+◌, ◌++◌, ◌==◌, [], ◌∷◌, length, map, filter, flat_map, nat_lt, All, OnOk, IfOk, IsOkUnless, if◌then◌else◌};
 ghost use Rattle.sgb_vec.specs.Limits.{most_vertices};
 ghost use Rattle.sgb_ops.specs.declared.entries.Entry.TheVariants as entry;
-ghost use Rattle.sgb_ops.specs.inner.Copies.{leads_to_copies};
+ghost use Rattle.sgb_ops.specs.inner.Copies.{leads_to_copies, sized};
 ghost use Rattle.sgb_ops.specs.Entries.{events_within, inner_events, inner_events_from, size_of_entry, total_of};
 ghost use Rattle.sgb_ops.specs.Induced.{all_events, event_between, events_between, events_of_arc, events_of_copies, is_met, wanted};
 ghost use Rattle.sgb_ops.specs.Taken.{taken};
@@ -22,44 +22,29 @@ pub(crate) struct Flags {
     pub(crate) directed: bool,
 }
 
-/// The events inside the graphs that stand in the places of vertices, and then those between copies, with no loops
-/// unless they are wanted. It takes the time of their number and of the arcs of `graph`.
+/// The events inside the graphs that stand in the places of vertices by these `n` entries, of which these are the copies; with
+/// no loops unless they are wanted.
 ///
 /// `NoRoom` when out of memory, and nothing else.
-pub(crate) fn all_events(
+pub(crate) fn events_within(
     alloc: Global,
-    graph: &Graph,
-    copies: &Copies<'_>,
+    n: u32,
+    entries: &[Entry],
+    copies: &Copies,
     flags: Flags,
 ) -> Result<Vec<Event>, Panic>
-    requires { length copies.now ≡ length graph.now.vertices }
+    requires count { length entries.now ≡ n }
+    requires copies { copies.now ≡ map sized entries.now }
+    requires few { total_of entries.now ≤ most_vertices }
     ensures ok { IfOk result (λ events. events.items
-        ≡ wanted flags.self_loops (all_events graph.now copies.now flags.directed)) }
+        ≡ wanted flags.self_loops (events_within entries.now flags.directed)) }
     ensures memory { IsOkUnless result Panic.NoRoom }
 {
     let mut events = Vec::new(alloc);
-    push_events_within(&mut events, graph.n(), copies, flags)?;
-    push_events_between(alloc, &mut events, graph, copies, flags)?;
-    Ok(events)
-}
-
-// Appends the events inside the entries.
-fn push_events_within(
-    events: &mut Vec<Event>,
-    n: u32,
-    copies: &Copies<'_>,
-    flags: Flags,
-) -> Result<(), Panic>
-    requires { length copies.now ≡ n }
-    ensures ok { OnOk result (events.new.items ≡ events.old.items
-        ++ wanted flags.self_loops (events_within copies.now flags.directed)) }
-    ensures memory { IsOkUnless result Panic.NoRoom }
-{
-    let entries = copies.entries();
     for v in 0..n {
-        push_inner_events(events, &entries[v as usize], copies.first(v), flags)?;
+        push_inner_events(&mut events, &entries[v as usize], copies.first(v), flags)?;
     }
-    Ok(())
+    Ok(events)
 }
 
 // Appends the events inside an entry whose first vertex is `start`.
@@ -127,12 +112,15 @@ fn push_wanted(events: &mut Vec<Event>, event: Event, flags: Flags) -> Result<()
     Ok(())
 }
 
-// Appends the events between copies.
-fn push_events_between(
+/// Appends the events between copies, with no loops unless they are wanted. It takes the time of their number and of the
+/// arcs of `graph`.
+///
+/// `NoRoom` when out of memory, and nothing else.
+pub(crate) fn push_events_between(
     alloc: Global,
     events: &mut Vec<Event>,
     graph: &Graph,
-    copies: &Copies<'_>,
+    copies: &Copies,
     flags: Flags,
 ) -> Result<(), Panic>
     requires { length copies.now ≡ length graph.now.vertices }
@@ -152,7 +140,7 @@ fn push_from_copies(
     alloc: Global,
     events: &mut Vec<Event>,
     graph: &Graph,
-    copies: &Copies<'_>,
+    copies: &Copies,
     flags: Flags,
     v: u32,
 ) -> Result<(), Panic>
@@ -173,7 +161,7 @@ fn push_from_copies(
 pub(crate) fn arcs_to_copies(
     alloc: Global,
     graph: &Graph,
-    copies: &Copies<'_>,
+    copies: &Copies,
     directed: bool,
     v: u32,
 ) -> Result<Vec<Link>, Panic>
@@ -192,7 +180,7 @@ pub(crate) fn arcs_to_copies(
 }
 
 // Appends the arc where it leads to a vertex with copies.
-fn push_arc_to_copies(arcs: &mut Vec<Link>, copies: &Copies<'_>, arc: Link) -> Result<(), Panic>
+fn push_arc_to_copies(arcs: &mut Vec<Link>, copies: &Copies, arc: Link) -> Result<(), Panic>
     requires { arc.tip < length copies.now }
     ensures ok { OnOk result (arcs.new.items ≡ arcs.old.items
         ++ (if leads_to_copies copies.now arc then arc ∷ [] else [])) }
@@ -207,7 +195,7 @@ fn push_arc_to_copies(arcs: &mut Vec<Link>, copies: &Copies<'_>, arc: Link) -> R
 /// Appends the events from copy `u` of vertex `v` for these arcs from `v`.
 pub(crate) fn push_from_copy(
     events: &mut Vec<Event>,
-    copies: &Copies<'_>,
+    copies: &Copies,
     arcs: &[Link],
     flags: Flags,
     v: u32,
@@ -228,7 +216,7 @@ pub(crate) fn push_from_copy(
 // Appends those for one arc: to the copies of its tip.
 fn push_to_copies(
     events: &mut Vec<Event>,
-    copies: &Copies<'_>,
+    copies: &Copies,
     arc: Link,
     flags: Flags,
     v: u32,

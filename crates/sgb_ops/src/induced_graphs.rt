@@ -1,19 +1,22 @@
 //! Induced graphs: vertices dropped, kept, repeated, merged, or with a graph put in their place (GB_BASIC, induced).
-ghost use Rattle.std.specs.Prelude.{◌≡◌, ◌≤◌, Ok, Err, false, length, All, OnOk, IsOkUnless};
+ghost use Rattle.std.specs.Prelude.{◌≡◌, ◌≤◌, ◌++◌, Err, true, false, length, map, All, OnOk, IfOk, IsOkUnless};
 ghost use Rattle.std.specs.List.{list_any};
 ghost use Rattle.sgb_vec.specs.Limits.{most_vertices};
 ghost use Rattle.sgb_graph.specs.Descriptions.{IsAnswerOf};
 ghost use Rattle.sgb_graph.specs.Growth.{AddsEvents, HasPlainArcs};
-ghost use Rattle.sgb_ops.specs.Entries.{accepted_entries, is_unnumbered, total_of};
-ghost use Rattle.sgb_ops.specs.Induced.{induced_events, induced_graph, induced_id, induced_of};
+ghost use Rattle.sgb_ops.specs.Entries.{accepted_entries, events_within, is_unnumbered, merged_count, total_of};
+ghost use Rattle.sgb_ops.specs.Induced.{events_between, induced_id, induced_of, wanted};
+ghost use Rattle.sgb_ops.specs.Merged.{merged_unless};
 ghost use Rattle.sgb_ops.specs.Operands.{order_of};
-ghost use Rattle.sgb_ops.specs.inner.Copies.{IsKeptEntry};
+ghost use Rattle.sgb_ops.specs.inner.Begun.{IsBegun, IsFinished, later_events};
+ghost use Rattle.sgb_ops.specs.inner.Copies.{IsKeptEntry, sized};
+ghost use Rattle.sgb_ops.specs.inner.Ends.{AllWithin};
 
 use crate::copied_names::names_by_entries;
 use crate::entries::{Copies, Entry, accept_entries};
-use crate::events::add_events;
-use crate::induced_events::{Flags, all_events};
-use crate::induced_parts::{add_parts, are_in_parts};
+use crate::events::{Event, add_events};
+use crate::induced_events::{Flags, events_within, push_events_between};
+use crate::induced_parts::{add_events_between, add_events_within, are_in_parts};
 use crate::merged::merged_unless;
 use crate::titles::flag_byte;
 use sgb_graph::{Graph, Id, compound_id};
@@ -49,96 +52,196 @@ pub fn induced(
     ensures refused { (e : Panic)
         → accepted_entries (order_of graph.now) entries.now ≡ Err e → result ≡ Err e }
 {
-    accept_entries(graph.n(), entries)?;
-    induced_by(alloc, graph, entries, self_loops, multi, directed)
-}
-
-// The graph that is induced by these entries, which are accepted.
-fn induced_by(
-    alloc: Global,
-    graph: &Graph,
-    entries: &[Entry],
-    self_loops: bool,
-    multi: bool,
-    directed: bool,
-) -> Result<Graph, Panic>
-    requires count { length entries.now ≡ order_of graph.now }
-    requires numbered { list_any is_unnumbered entries.now ≡ false }
-    requires few { total_of entries.now ≤ most_vertices }
-    requires kept { All IsKeptEntry entries.now }
-    ensures { IsAnswerOf (Ok (induced_graph graph.now entries.now self_loops multi directed))
-        result }
-{
-    let copies = Copies::new(alloc, entries)?;
-    let names = names_by_entries(alloc, graph, entries)?;
-    let mut built = Graph::new(alloc, names)?;
     let flags = Flags {
         self_loops,
         multi,
         directed,
     };
-    add_induced_events(&mut built, alloc, graph, &copies, flags)?;
-    built.set_id(title(graph.id(), self_loops, multi, directed));
+    accept_entries(graph.n(), entries)?;
+    let begun = begun_by(alloc, graph, entries, flags)?;
+    finished(alloc, graph, begun, flags)
+}
+
+/// The same graph of entries that are given up: the graphs that they put in are dropped as soon as their names and the
+/// events inside them are taken. It has the errors of `induced`.
+pub fn induced_from(
+    alloc: Global,
+    graph: &Graph,
+    entries: Vec<Entry>,
+    self_loops: bool,
+    multi: bool,
+    directed: bool,
+) -> Result<Graph, Panic>
+    ensures answer { IsAnswerOf (induced_of graph.now entries.items self_loops multi directed)
+        result }
+    ensures refused { (e : Panic)
+        → accepted_entries (order_of graph.now) entries.items ≡ Err e → result ≡ Err e }
+{
+    let flags = Flags {
+        self_loops,
+        multi,
+        directed,
+    };
+    accept_entries(graph.n(), &entries)?;
+    let begun = begun_by(alloc, graph, &entries, flags)?;
+    drop(entries);
+    finished(alloc, graph, begun, flags)
+}
+
+// An induced graph under way: its vertices are there, and the events inside the graphs that are put in. These are in the
+// graph already, where they share no ends with others, or they are kept.
+#[derive(Drop)]
+struct Begun {
+    built: Graph,
+    copies: Copies,
+    in_parts: bool,
+    kept: Vec<Event>,
+}
+
+// The graph that is induced by these entries, which are accepted, as far as the entries themselves are needed.
+fn begun_by(alloc: Global, graph: &Graph, entries: &[Entry], flags: Flags) -> Result<Begun, Panic>
+    requires count { length entries.now ≡ order_of graph.now }
+    requires numbered { list_any is_unnumbered entries.now ≡ false }
+    requires few { total_of entries.now ≤ most_vertices }
+    requires kept { All IsKeptEntry entries.now }
+    ensures ok { IfOk result (λ b. IsBegun graph.now entries.now flags.self_loops flags.multi
+        flags.directed b.copies b.in_parts b.kept.items b.built) }
+    ensures memory { IsOkUnless result Panic.NoRoom }
+{
+    let copies = Copies::new(alloc, entries)?;
+    let names = names_by_entries(alloc, graph, entries)?;
+    let built = Graph::new(alloc, names)?;
+    if are_in_parts(graph, entries, flags.directed) {
+        return begun_in_parts(alloc, graph.n(), entries, copies, built, flags);
+    }
+    let kept = events_within(alloc, graph.n(), entries, &copies, flags)?;
+    Ok(Begun {
+        built,
+        copies,
+        in_parts: false,
+        kept,
+    })
+}
+
+// The same where parts have no ends in common: the events inside the graphs that are put in are added.
+fn begun_in_parts(
+    alloc: Global,
+    n: u32,
+    entries: &[Entry],
+    copies: Copies,
+    mut built: Graph,
+    flags: Flags,
+) -> Result<Begun, Panic>
+    requires count { length entries.now ≡ n }
+    requires copies { copies ≡ map sized entries.now }
+    requires few { total_of entries.now ≤ most_vertices }
+    requires kept { All IsKeptEntry entries.now }
+    requires size { length built.vertices ≡ total_of entries.now }
+    requires plain { HasPlainArcs built }
+    ensures copies { IfOk result (λ b. b.copies ≡ map sized entries.now) }
+    ensures parts { IfOk result (λ b. b.in_parts ≡ true) }
+    ensures ok { IfOk result (λ b. AddsEvents flags.directed built b.built
+        (merged_unless flags.multi flags.directed
+        (wanted flags.self_loops (events_within entries.now flags.directed)))) }
+    ensures memory { IsOkUnless result Panic.NoRoom }
+{
+    add_events_within(&mut built, alloc, n, entries, &copies, flags)?;
+    Ok(Begun {
+        built,
+        copies,
+        in_parts: true,
+        kept: Vec::new(alloc),
+    })
+}
+
+// The graph under way with the events that are still to come, and with its id.
+fn finished(alloc: Global, graph: &Graph, begun: Begun, flags: Flags) -> Result<Graph, Panic>
+    requires count { length begun.copies ≡ length graph.now.vertices }
+    requires numbered { list_any is_unnumbered begun.copies ≡ false }
+    requires parts { begun.in_parts ≡ true → merged_count begun.copies ≡ 0 }
+    requires size { length begun.built.vertices ≡ total_of begun.copies }
+    requires plain { HasPlainArcs begun.built }
+    requires within { begun.in_parts ≡ false
+        → AllWithin (total_of begun.copies) begun.kept.items }
+    ensures ok { IfOk result (λ done. IsFinished graph.now flags.self_loops flags.multi
+        flags.directed begun.copies begun.in_parts begun.kept.items begun.built done) }
+    ensures memory { IsOkUnless result Panic.NoRoom }
+{
+    let Begun {
+        mut built,
+        copies,
+        in_parts,
+        kept,
+    } = begun;
+    add_later(&mut built, alloc, graph, &copies, in_parts, kept, flags)?;
+    built.set_id(title(graph.id(), flags));
     Ok(built)
 }
 
-// Adds the events of the induced graph to that of its names: part by part where parts have no ends in common.
-fn add_induced_events(
+// Adds the events between copies: part by part, or merged with those that are kept.
+fn add_later(
     built: &mut Graph,
     alloc: Global,
     graph: &Graph,
-    copies: &Copies<'_>,
+    copies: &Copies,
+    in_parts: bool,
+    kept: Vec<Event>,
     flags: Flags,
 ) -> Result<(), Panic>
     requires count { length copies.now ≡ length graph.now.vertices }
     requires numbered { list_any is_unnumbered copies.now ≡ false }
-    requires kept { All IsKeptEntry copies.now }
+    requires parts { in_parts ≡ true → merged_count copies.now ≡ 0 }
     requires size { length built.old.vertices ≡ total_of copies.now }
     requires plain { HasPlainArcs built.old }
+    requires within { in_parts ≡ false → AllWithin (total_of copies.now) kept.items }
     ensures ok { OnOk result (AddsEvents flags.directed built.old built.new
-        (induced_events graph.now copies.now flags.self_loops flags.multi flags.directed)) }
+        (later_events in_parts flags.multi flags.directed kept.items
+        (wanted flags.self_loops (events_between graph.now copies.now flags.directed)))) }
     ensures memory { IsOkUnless result Panic.NoRoom }
 {
-    if are_in_parts(graph, copies.entries(), flags.directed) {
-        return add_parts(built, alloc, graph, copies, flags);
+    if in_parts {
+        return add_events_between(built, alloc, graph, copies, flags);
     }
-    add_whole(built, alloc, graph, copies, flags)
+    add_merged(built, alloc, graph, copies, kept, flags)
 }
 
-// Adds them, merged all at once.
-fn add_whole(
+// Adds them, merged all at once with those that are kept.
+fn add_merged(
     built: &mut Graph,
     alloc: Global,
     graph: &Graph,
-    copies: &Copies<'_>,
+    copies: &Copies,
+    kept: Vec<Event>,
     flags: Flags,
 ) -> Result<(), Panic>
     requires count { length copies.now ≡ length graph.now.vertices }
     requires numbered { list_any is_unnumbered copies.now ≡ false }
-    requires kept { All IsKeptEntry copies.now }
     requires size { length built.old.vertices ≡ total_of copies.now }
     requires plain { HasPlainArcs built.old }
+    requires within { AllWithin (total_of copies.now) kept.items }
     ensures ok { OnOk result (AddsEvents flags.directed built.old built.new
-        (induced_events graph.now copies.now flags.self_loops flags.multi flags.directed)) }
+        (merged_unless flags.multi flags.directed (kept.items
+        ++ wanted flags.self_loops (events_between graph.now copies.now flags.directed)))) }
     ensures memory { IsOkUnless result Panic.NoRoom }
 {
-    let all = all_events(alloc, graph, copies, flags)?;
+    let mut all = kept;
+    push_events_between(alloc, &mut all, graph, copies, flags)?;
     let events = merged_unless(alloc, flags.multi, flags.directed, all)?;
     add_events(built, flags.directed, &events)
 }
 
 // The id of the result, made from the operand's; the entries are not in it.
-fn title(id: &Id, self_loops: bool, multi: bool, directed: bool) -> Id
-    ensures { result ≡ induced_id id.now self_loops multi directed }
+fn title(id: &Id, flags: Flags) -> Id
+    ensures { result ≡ induced_id id.now flags.self_loops flags.multi flags.directed }
 {
     let end = [
         b',',
         b',',
-        flag_byte(self_loops),
+        flag_byte(flags.self_loops),
         b',',
-        flag_byte(multi),
+        flag_byte(flags.multi),
         b',',
-        flag_byte(directed),
+        flag_byte(flags.directed),
         b')',
     ];
     compound_id(b"induced(", id, &end)

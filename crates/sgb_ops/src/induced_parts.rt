@@ -1,15 +1,15 @@
 //! The events of an induced graph merged and added part by part (GB_BASIC, induced).
-ghost use Rattle.std.specs.Prelude.{◌≡◌, ◌<◌, ◌≤◌, ◌+◌, ◌++◌, ◌==◌, false, length, flat_map, filter, All, OnOk, IfOk, IsOkUnless};
+ghost use Rattle.std.specs.Prelude.{◌≡◌, ◌<◌, ◌≤◌, ◌+◌, ◌++◌, ◌==◌, false, length, map, flat_map, filter, All, OnOk, IfOk, IsOkUnless};
 ghost use Rattle.std.specs.Bool.{OnTrue};
 ghost use Rattle.std.specs.List.{list_any};
 ghost use Rattle.sgb_vec.specs.Limits.{most_vertices};
 ghost use Rattle.sgb_graph.specs.Growth.{AddsEvents, HasPlainArcs, IsKept};
 ghost use Rattle.sgb_ops.specs.declared.entries.Entry.TheVariants as entry;
-ghost use Rattle.sgb_ops.specs.Entries.{events_within, inner_events, inner_events_from, is_unnumbered, size_of_entry, total_of};
+ghost use Rattle.sgb_ops.specs.Entries.{events_within, inner_events, inner_events_from, is_unnumbered, merged_count, size_of_entry, total_of};
 ghost use Rattle.sgb_ops.specs.Induced.{events_between, events_of_arc, events_of_copies, induced_events, wanted};
 ghost use Rattle.sgb_ops.specs.Merged.{merged_unless};
 ghost use Rattle.sgb_ops.specs.Taken.{taken};
-ghost use Rattle.sgb_ops.specs.inner.Copies.{IsKeptEntry};
+ghost use Rattle.sgb_ops.specs.inner.Copies.{IsKeptEntry, sized};
 ghost use Rattle.sgb_ops.specs.inner.Ends.{AllWithin};
 ghost use Rattle.sgb_ops.specs.inner.Parts.{AreInParts, has_loop_inside, has_loops_inside};
 
@@ -68,49 +68,29 @@ fn has_loop(graph: &Graph, directed: bool, v: u32) -> bool
     false
 }
 
-/// Adds the events of the induced graph to that of its names: those of each vertex of a graph that is put in, and then
-/// those of each copy, merged by themselves.
+/// Adds the events inside the `n` entries, of which these are the copies: those of each vertex of a graph that is put in are
+/// merged by themselves.
 ///
 /// `NoRoom` when out of memory, and nothing else.
-pub(crate) fn add_parts(
-    built: &mut Graph,
-    alloc: Global,
-    graph: &Graph,
-    copies: &Copies<'_>,
-    flags: Flags,
-) -> Result<(), Panic>
-    requires count { length copies.now ≡ length graph.now.vertices }
-    requires numbered { list_any is_unnumbered copies.now ≡ false }
-    requires kept { All IsKeptEntry copies.now }
-    requires parts { AreInParts graph.now copies.now flags.directed }
-    requires size { length built.old.vertices ≡ total_of copies.now }
-    requires plain { HasPlainArcs built.old }
-    ensures ok { OnOk result (AddsEvents flags.directed built.old built.new
-        (induced_events graph.now copies.now flags.self_loops flags.multi flags.directed)) }
-    ensures memory { IsOkUnless result Panic.NoRoom }
-{
-    add_events_within(built, alloc, graph.n(), copies, flags)?;
-    add_events_between(built, alloc, graph, copies, flags)
-}
-
-// Adds the events inside the entries.
-fn add_events_within(
+pub(crate) fn add_events_within(
     built: &mut Graph,
     alloc: Global,
     n: u32,
-    copies: &Copies<'_>,
+    entries: &[Entry],
+    copies: &Copies,
     flags: Flags,
 ) -> Result<(), Panic>
-    requires count { length copies.now ≡ n }
-    requires kept { All IsKeptEntry copies.now }
-    requires size { length built.old.vertices ≡ total_of copies.now }
+    requires count { length entries.now ≡ n }
+    requires copies { copies.now ≡ map sized entries.now }
+    requires few { total_of entries.now ≤ most_vertices }
+    requires kept { All IsKeptEntry entries.now }
+    requires size { length built.old.vertices ≡ total_of entries.now }
     requires plain { HasPlainArcs built.old }
     ensures ok { OnOk result (AddsEvents flags.directed built.old built.new
         (merged_unless flags.multi flags.directed
-        (wanted flags.self_loops (events_within copies.now flags.directed)))) }
+        (wanted flags.self_loops (events_within entries.now flags.directed)))) }
     ensures memory { IsOkUnless result Panic.NoRoom }
 {
-    let entries = copies.entries();
     for v in 0..n {
         let start = copies.first(v);
         add_inner_events(built, alloc, &entries[v as usize], start, flags)?;
@@ -205,17 +185,19 @@ fn add_part(
     Ok(events)
 }
 
-// Adds the events between copies.
-fn add_events_between(
+/// Adds the events between copies: those of each copy are merged by themselves.
+///
+/// `NoRoom` when out of memory, and nothing else.
+pub(crate) fn add_events_between(
     built: &mut Graph,
     alloc: Global,
     graph: &Graph,
-    copies: &Copies<'_>,
+    copies: &Copies,
     flags: Flags,
 ) -> Result<(), Panic>
     requires count { length copies.now ≡ length graph.now.vertices }
     requires numbered { list_any is_unnumbered copies.now ≡ false }
-    requires parts { AreInParts graph.now copies.now flags.directed }
+    requires own { merged_count copies.now ≡ 0 }
     requires size { length built.old.vertices ≡ total_of copies.now }
     requires plain { HasPlainArcs built.old }
     ensures ok { OnOk result (AddsEvents flags.directed built.old built.new
@@ -235,14 +217,14 @@ fn add_from_copies(
     built: &mut Graph,
     alloc: Global,
     graph: &Graph,
-    copies: &Copies<'_>,
+    copies: &Copies,
     flags: Flags,
     v: u32,
 ) -> Result<(), Panic>
     requires count { length copies.now ≡ length graph.now.vertices }
     requires vertex { v < length graph.now.vertices }
     requires numbered { list_any is_unnumbered copies.now ≡ false }
-    requires parts { AreInParts graph.now copies.now flags.directed }
+    requires own { merged_count copies.now ≡ 0 }
     requires size { length built.old.vertices ≡ total_of copies.now }
     requires plain { HasPlainArcs built.old }
     ensures ok { OnOk result (AddsEvents flags.directed built.old built.new
@@ -263,7 +245,7 @@ fn add_from_copies(
 // The events from copy `u` of vertex `v` for these arcs from `v`. They take the memory of those in `events`.
 fn events_from_copy(
     mut events: Vec<Event>,
-    copies: &Copies<'_>,
+    copies: &Copies,
     arcs: &[Link],
     flags: Flags,
     v: u32,

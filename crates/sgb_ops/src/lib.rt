@@ -46,7 +46,7 @@ pub use bipartite_graphs::bi_complete;
 pub use complements::complement;
 pub use entries::Entry;
 pub use gunions::gunion;
-pub use induced_graphs::induced;
+pub use induced_graphs::{induced, induced_from};
 pub use intersections::intersection;
 pub use laws::{copies_law, lines_law, merged_are_apart, merging_law, taken_lead_up, taking_law};
 pub use line_graphs::lines;

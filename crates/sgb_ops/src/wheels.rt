@@ -1,12 +1,12 @@
 //! Wheels: vertices in the middle, each joined to all those of a rim (GB_BASIC, wheel).
-ghost use Rattle.std.specs.Prelude.{◌≡◌, [], ◌∷◌, Ok, Err, IfOk, IfErr};
+ghost use Rattle.std.specs.Prelude.{◌≡◌, [], ◌∷◌, Ok, Err, IfOk, IfErr, IsOkUnless};
 ghost use Rattle.sgb_graph.specs.Descriptions.{IsAnswerOf};
 ghost use Rattle.sgb_ops.specs.declared.entries.Entry.TheVariants as entry;
 ghost use Rattle.sgb_ops.specs.Wheel.{accepted_middle, wheel_of};
 
 use crate::boards::{pair_of_vertices, rim_of_wheel};
 use crate::entries::Entry;
-use crate::induced_graphs::induced;
+use crate::induced_graphs::induced_from;
 use crate::titles::numbers_id;
 use sgb_graph::Graph;
 use sgb_vec::{MOST_VERTICES, Panic};
@@ -39,18 +39,22 @@ fn wheel_around(
     ensures { IsAnswerOf (wheel_of n n1 directed) result }
 {
     let rim = rim_of_wheel(alloc, n, directed)?;
+    let entries = entries(alloc, middle, rim)?;
     let pair = pair_of_vertices(alloc, directed)?;
-    let entries = entries(middle, rim);
-    let mut built = induced(alloc, &pair, &entries, false, false, directed)?;
+    let mut built = induced_from(alloc, &pair, entries, false, false, directed)?;
     built.set_id(numbers_id(b"wheel(", n, n1, directed));
     Ok(built)
 }
 
 // The entries: the middle, and then the rim.
-fn entries(middle: Entry, rim: Graph) -> [Entry; 2]
-    ensures { result ≡ middle ∷ entry.Graph rim ∷ [] }
+fn entries(alloc: Global, middle: Entry, rim: Graph) -> Result<Vec<Entry>, Panic>
+    ensures ok { IfOk result (λ es. es.items ≡ middle ∷ entry.Graph rim ∷ []) }
+    ensures memory { IsOkUnless result Panic.NoRoom }
 {
-    [middle, Entry::Graph(rim)]
+    let mut entries = Vec::with_capacity(alloc, 2)?;
+    entries.push(middle)?;
+    entries.push(Entry::Graph(rim))?;
+    Ok(entries)
 }
 
 // The entry of so many vertices in the middle.

@@ -1,6 +1,6 @@
 use crate::cases::{EDGE, Known, LOOP, Operand, is_known, is_refused};
 use sgb_graph::Graph;
-use sgb_ops::{Entry, induced};
+use sgb_ops::{Entry, induced, induced_from};
 use sgb_vec::Panic;
 use std::alloc::Global;
 
@@ -126,7 +126,7 @@ fn induced_by_merging(
         entries.push(entry)?;
     }
     let graph = operand.graph(alloc)?;
-    induced(alloc, &graph, &entries, false, multi, false)
+    induced_from(alloc, &graph, entries, false, multi, false)
 }
 
 /// What is known of a circuit of four whose vertices 0 and 2 are merged.

@@ -1,5 +1,5 @@
 -- Where the copies of each vertex begin and end, as they are looked up.
-use Rattle.std.specs.Prelude.{ℕ, ◌+◌, ◌-◌, Bool, List, length, map, nat_lt, slice_get}
+use Rattle.std.specs.Prelude.{ℕ, zero, suc, ◌+◌, ◌-◌, Bool, List, Option, Some, None, length, map, nat_lt, slice_get}
 use Rattle.std.specs.List.{range_with_len}
 use Rattle.std.specs.Option.{option_map_or}
 use Rattle.sgb_graph.specs.Growth.{IsKept}
@@ -39,3 +39,20 @@ abbrev pub IsKeptEntry : Entry → Type 0
 IsKeptEntry (entry.Copies k) = Unit {0}
 IsKeptEntry (entry.Graph inner) = IsKept inner
 IsKeptEntry (entry.Merged k) = Unit {0}
+
+-- an entry by its number of copies, or by the number of its merged vertex, and without the graph that is put in
+abbrev pub sized : Entry → Entry
+sized (entry.Copies k) = entry.Copies k
+sized (entry.Graph inner) = entry.Copies (order_of inner)
+sized (entry.Merged k) = entry.Merged k
+
+-- the entry of so many copies, or of a merged vertex where that has a number
+abbrev pub entry_of_place : ℕ → ℕ → Entry
+entry_of_place k zero = entry.Copies k
+entry_of_place k (suc n) = entry.Merged (suc n)
+
+-- the number of the merged vertex, if the entry is one
+abbrev pub merged_of : Entry → Option ℕ
+merged_of (entry.Copies k) = None
+merged_of (entry.Graph inner) = None
+merged_of (entry.Merged k) = Some k

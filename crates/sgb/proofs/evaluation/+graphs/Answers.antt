@@ -148,12 +148,12 @@ evaluate-returns-in_ok-list-in-Induced-clause-value t c =
     let operand = c.in_ok-operand-in-Induced.operand in
     let same = values_on _ _ _ _ _ (entries_of (listed c.as_slice-entries.result.now)) c.more_in.ensures c.in_ok-operand-in-Induced.ensures.left in
     let is = subst (λ (es : List EntryExpr). values_of c.args.input.now (entries_of (listed es)) ≡ Ok values) c.as_slice-entries.ensures (sym same ∙ c.in_ok-values-in-Induced.ensures.ok) in
-    let answer = subst (λ (es : List Handed). IsAnswerOf (induced_of operand es a.self_loops a.multi a.directed) c.induced.result) c.deref-in-Induced-2.ensures.value c.induced.ensures.answer in
-    subst (λ (v : Result GraphData Panic). IsValue v c.induced.result) (sym (induced_value c.args.input.now c.args.expression.now a.graph a.entries a.self_loops a.multi a.directed a.is))
-    (entries_handed _ _ operand values a.self_loops a.multi a.directed c.induced.result
+    let answer : IsAnswerOf (induced_of operand list a.self_loops a.multi a.directed) c.induced_from.result = c.induced_from.ensures.answer in
+    subst (λ (v : Result GraphData Panic). IsValue v c.induced_from.result) (sym (induced_value c.args.input.now c.args.expression.now a.graph a.entries a.self_loops a.multi a.directed a.is))
+    (entries_handed _ _ operand values a.self_loops a.multi a.directed c.induced_from.result
     (at_value c.args.input.now _ a.graph.value operand c.deref-in-Induced.ensures c.in_ok-operand-in-Induced.ensures.value) is
-    (subst (λ (es : List Handed). IsValue (made (induced_of operand es a.self_loops a.multi a.directed)) c.induced.result) c.in_ok-list-in-Induced.ensures.ok
-    (value_made (induced_of operand list a.self_loops a.multi a.directed) c.induced.result answer)))
+    (subst (λ (es : List Handed). IsValue (made (induced_of operand es a.self_loops a.multi a.directed)) c.induced_from.result) c.in_ok-list-in-Induced.ensures.ok
+    (value_made (induced_of operand list a.self_loops a.multi a.directed) c.induced_from.result answer)))
 
 pub evaluate-returns-in_ok-list-in-Induced-clause-left : goal.evaluate-returns-in_ok-list-in-Induced-clause-left
 evaluate-returns-in_ok-list-in-Induced-clause-left t c =
@@ -162,7 +162,7 @@ evaluate-returns-in_ok-list-in-Induced-clause-left t c =
     let graph = ap (λ x. has_stdin (expression_of x) || entries_have_stdin (entries_of (listed c.as_slice-entries.result.now))) c.deref-in-Induced.ensures in
     let entries = ap (λ es. has_stdin (expression_of a.graph.value) || entries_have_stdin (entries_of (listed es))) c.as_slice-entries.ensures in
     let all = induced_reads c.args.expression.now a.graph a.entries a.self_loops a.multi a.directed a.is in
-    if_ok c.induced.result _ (left ∙ ap (λ reads. left_after c.args.more reads c.args.input.now) (graph ∙ entries ∙ sym all))
+    if_ok c.induced_from.result _ (left ∙ ap (λ reads. left_after c.args.more reads c.args.input.now) (graph ∙ entries ∙ sym all))
 
 pub operands-returns-in_err-right-clause-value : goal.operands-returns-in_err-right-clause-value
 operands-returns-in_err-right-clause-value t c =

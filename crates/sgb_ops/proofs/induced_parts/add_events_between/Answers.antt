@@ -21,5 +21,5 @@ returns-clause-ok c =
     let flags = c.args.flags in
     let g = c.args.graph.now in
     let copies = c.args.copies.now in
-    subst (AddsEvents flags.directed c.args.built.now c.loop-v.built) (between_left g copies flags.directed c.requires.numbered c.requires.parts.own flags.self_loops flags.multi)
+    subst (AddsEvents flags.directed c.args.built.now c.loop-v.built) (between_left g copies flags.directed c.requires.numbered c.requires.own flags.self_loops flags.multi)
     (places_added flags.directed c.args.built.now c.loop-v.built (flat_map (vertex_part flags.self_loops flags.multi g copies flags.directed)) (order_of g) c.loop-v.v (omega arith) c.loop-v.invariant refl)

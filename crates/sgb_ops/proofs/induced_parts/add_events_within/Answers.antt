@@ -1,27 +1,36 @@
-use Rattle.std.proofs.Common.{◌≡◌, ◌<◌, ◌∙◌, [], length, get_or, Some, ap, sym, subst, refl, arith}
+use Rattle.std.proofs.Common.{◌≡◌, ◌<◌, ◌∙◌, [], length, Some, ap, sym, subst, refl, arith}
 use Rattle.std.specs.List.{flat_map, slice_get}
 use Rattle.std.specs.Option.{option_map_or}
 use Rattle.sgb_graph.specs.Growth.{AddsEvents}
 use Rattle.sgb_ops.specs.Entries.{first_copy, inner_events}
 use Rattle.sgb_ops.specs.Induced.{wanted}
 use Rattle.sgb_ops.specs.Merged.{merged_unless}
-use Rattle.sgb_ops.proofs.EntryTotals.{entry_there}
+use Rattle.sgb_ops.proofs.EntryTotals.{entry_there, place_fits}
 use Rattle.sgb_ops.proofs.InducedParts.{inside_at, inside_part, within_left}
+use Rattle.sgb_ops.proofs.SizedEntries.{first_read}
 use Rattle.sgb_ops.proofs.Places.{place_added, places_added}
 use Rattle.sgb_ops.proofs.induced_parts.add_events_within.Goals as goal
+
+pub add_inner_events-requires-clause-few : goal.add_inner_events-requires-clause-few
+add_inner_events-requires-clause-few c =
+    let entries = c.args.entries.now in
+    let v = c.loop-v.v in
+    let e = c.index-entries-v.result in
+    let first = first_read entries c.args.copies.now v c.first-start.result c.requires.copies c.first-start.ensures.value in
+    omega (arith, first, place_fits entries v e (omega (arith, c.requires.count)) c.index-entries-v.is, c.loop-v.invariant.added.rest.size, c.requires.size)
 
 pub loop-v-preserved : goal.loop-v-preserved
 loop-v-preserved c =
     let self = c.args.flags.self_loops in
     let multi = c.args.flags.multi in
     let d = c.args.flags.directed in
-    let entries = c.args.copies.now in
+    let entries = c.args.entries.now in
     let v = c.loop-v.v in
     let e = c.index-entries-v.result in
     let below : v < length entries = omega (arith, c.requires.count) in
-    let here : slice_get entries v ≡ Some e = entry_there entries v e below (c.index-entries-v.is ∙ ap (λ es. get_or es v e) c.entries-entries.ensures.value) in
+    let here : slice_get entries v ≡ Some e = entry_there entries v e below c.index-entries-v.is in
     let inside : inner_events d c.first-start.result e ≡ inside_at entries d v =
-    ap (λ s. inner_events d s e) c.first-start.ensures.value ∙ ap (λ o. option_map_or (inner_events d (first_copy entries v)) o []) (sym here) in
+    ap (λ s. inner_events d s e) (first_read entries c.args.copies.now v c.first-start.result c.requires.copies c.first-start.ensures.value) ∙ ap (λ o. option_map_or (inner_events d (first_copy entries v)) o []) (sym here) in
     let added = subst (AddsEvents d c.loop-v.built c.add_inner_events.new.built) (ap (λ es. merged_unless multi d (wanted self es)) inside) c.in_ok-add_inner_events.ensures.ok in
     place_added d c.args.built.now c.loop-v.built (flat_map (inside_part self multi entries d)) (length entries) v c.add_inner_events.new.built _ below c.loop-v.invariant added refl
 
@@ -30,6 +39,6 @@ returns-clause-ok c =
     let self = c.args.flags.self_loops in
     let multi = c.args.flags.multi in
     let d = c.args.flags.directed in
-    let entries = c.args.copies.now in
+    let entries = c.args.entries.now in
     subst (AddsEvents d c.args.built.now c.loop-v.built) (within_left entries d c.requires.kept self multi)
     (places_added d c.args.built.now c.loop-v.built (flat_map (inside_part self multi entries d)) (length entries) c.loop-v.v (omega (arith, c.requires.count)) c.loop-v.invariant refl)

@@ -1,9 +1,9 @@
-use Rattle.std.proofs.Common.{◌≡◌, ◌∙◌, ◌+◌, ◌<◌, length, refl, sym, ap, subst, arith}
+use Rattle.std.proofs.Common.{◌∙◌, ◌+◌, ◌<◌, refl, sym, ap, subst, arith}
 use Rattle.std.specs.List.{flat_map}
 use Rattle.sgb_graph.specs.Growth.{AddsEvents}
 use Rattle.sgb_graph.proofs.AddedEvents.{AddsUpTo, up_to-all, up_to-more, up_to-none}
 use Rattle.sgb_ops.specs.Entries.{copies_of, total_of}
-use Rattle.sgb_ops.specs.Induced.{events_of_arc, events_of_copy, wanted}
+use Rattle.sgb_ops.specs.Induced.{events_of_arc, wanted}
 use Rattle.sgb_ops.specs.Merged.{merged_unless}
 use Rattle.sgb_ops.specs.Taken.{taken}
 use Rattle.sgb_ops.specs.inner.Copies.{copies_end}
@@ -65,6 +65,6 @@ returns-clause-ok c =
     let v = c.args.v in
     let last = copies_end copies v in
     let part = copy_part flags.self_loops flags.multi g copies flags.directed v in
-    subst (AddsEvents flags.directed c.args.built.now c.loop-u.built) (copies_left g copies flags.directed c.requires.numbered c.requires.parts.own flags.self_loops flags.multi v)
+    subst (AddsEvents flags.directed c.args.built.now c.loop-u.built) (copies_left g copies flags.directed c.requires.numbered c.requires.own flags.self_loops flags.multi v)
     (up_to-all flags.directed c.args.built.now c.loop-u.built (events_until part last c.loop-u.u) (flat_map part (copies_of copies v)) c.loop-u.invariant
     (ap (flat_map part) (places-none last c.loop-u.u (omega (arith, c.end-u-end.ensures.value)))))

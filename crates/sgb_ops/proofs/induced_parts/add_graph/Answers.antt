@@ -1,4 +1,4 @@
-use Rattle.std.proofs.Common.{◌∙◌, length, sym, ap, subst, refl, arith}
+use Rattle.std.proofs.Common.{length, sym, ap, subst, refl, arith}
 use Rattle.std.specs.List.{flat_map}
 use Rattle.sgb_graph.specs.Growth.{AddsEvents}
 use Rattle.sgb_ops.specs.Merged.{merged_unless}

@@ -59,7 +59,7 @@ returns c =
     let new = c.set_id.new.self in
     let id = c.numbers_id.ensures ∙ (ap (λ k. wheel_id k (kept n1) d) (to_z-of_z w64 n c.ranges.n) ∙ ap (λ k. wheel_id n k d) (to_z-of_z w64 n1 c.ranges.n1)) in
     let made = c.set_id.ensures ∙ ap (λ t. with_id t built) id in
-    let answer = subst (λ es. IsAnswerOf (induced_of pair es false false d) (Ok built)) c.entries-entries.ensures c.in_ok-built.ensures.answer in
+    let answer = subst (λ es. IsAnswerOf (induced_of pair es false false d) (Ok built)) c.in_ok-entries.ensures.ok c.in_ok-built.ensures.answer in
     pair_there n n1 d c.args.middle c.in_ok-rim.rim pair (Ok new) c.ranges.n c.requires c.in_ok-rim.ensures c.in_ok-pair.ensures
     (changed (induced_of pair (c.args.middle ∷ entry.Graph c.in_ok-rim.rim ∷ []) false false d) built new (with_wheel_id n n1 d) answer (λ x is h. wheel_made n n1 d x built new h made))
 
@@ -71,7 +71,7 @@ returns-in_err-built c =
     let pair = c.in_ok-pair.pair in
     let e = c.in_err-built.field-0.0 in
     let p = err_from_is_err_and c.from_residual-in_err-built.result c.from_residual-in_err-built.ensures.1 in
-    let answer = subst (λ es. IsAnswerOf (induced_of pair es false false d) (Err e)) c.entries-entries.ensures c.in_err-built.ensures.answer in
+    let answer = subst (λ es. IsAnswerOf (induced_of pair es false false d) (Err e)) c.in_ok-entries.ensures.ok c.in_err-built.ensures.answer in
     rw (p.1, p.2)
     (pair_there n n1 d c.args.middle c.in_ok-rim.rim pair (Err e) c.ranges.n c.requires c.in_ok-rim.ensures c.in_ok-pair.ensures
     (refused_onward (induced_of pair (c.args.middle ∷ entry.Graph c.in_ok-rim.rim ∷ []) false false d) e (named n n1 d) answer))

@@ -4,11 +4,11 @@ use Rattle.sgb_ops.proofs.EntryTotals.{first_at, length-firsts}
 use Rattle.sgb_ops.proofs.entries.Copies.first.Goals as goal
 
 pub index-requires : goal.index-requires
-index-requires c = omega (arith, length-firsts c.self.inside.entries.now c.self.inside.firsts.items c.self.invariant.0, c.requires, ap length c.self.view_is)
+index-requires c = omega (arith, length-firsts c.self.inside.places.items c.self.inside.firsts.items c.self.invariant.0, c.requires, ap length c.self.view_is)
 
 pub returns : goal.returns
 returns c = record {
   value = c.index.ensures
-      ∙ (first_at c.self.inside.entries.now c.self.inside.firsts.items c.args.v c.index.result.now c.self.invariant.0 (omega (arith, c.requires, ap length c.self.view_is))
+      ∙ (first_at c.self.inside.places.items c.self.inside.firsts.items c.args.v c.index.result.now c.self.invariant.0 (omega (arith, c.requires, ap length c.self.view_is))
       ∙ ap (λ es. first_copy es c.args.v) c.self.view_is);
 }

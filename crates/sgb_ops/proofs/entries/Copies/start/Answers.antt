@@ -1,22 +1,25 @@
 use Rattle.std.proofs.Common.{◌∙◌, length, sym, ap, arith}
 use Rattle.sgb_ops.specs.inner.Copies.{copies_start}
-use Rattle.sgb_ops.proofs.EntryTotals.{first_at, length-firsts, ends_merged, ends_own}
+use Rattle.sgb_ops.proofs.EntryTotals.{first_at, length-firsts, ends_merged, ends_own, none_merged, some_merged}
 use Rattle.sgb_ops.proofs.entries.Copies.start.Goals as goal
 
-pub index-requires : goal.index-requires
-index-requires c = omega (arith, length-firsts c.self.inside.entries.now c.self.inside.firsts.items c.self.invariant.0, c.requires, ap length c.self.view_is)
+pub index-requires-in-None : goal.index-requires-in-None
+index-requires-in-None c = omega (arith, length-firsts c.self.inside.places.items c.self.inside.firsts.items c.self.invariant.0, c.requires, ap length c.self.view_is)
 
-pub returns-in-Merged : goal.returns-in-Merged
-returns-in-Merged c =
-    let ends = ends_merged c.self.inside.entries.now c.args.v c.in-Merged.number c.index-self-v.result (omega (arith, c.requires, ap length c.self.view_is)) c.index-self-v.is (c.index-self-v.is ∙ c.in-Merged.is) in
+pub returns-in-Some : goal.returns-in-Some
+returns-in-Some c =
+    let places = c.self.inside.places.items in
+    let merged = some_merged c.index.result.now c.in-Some.number (sym c.merged.ensures ∙ c.in-Some.is) in
+    let ends = ends_merged places c.args.v c.in-Some.number c.index.result.now (omega (arith, c.requires, ap length c.self.view_is)) c.index.ensures merged in
     record { value = omega (arith, c.saturating_sub.ensures, ends.0, ap (λ es. copies_start es c.args.v) c.self.view_is) }
 
-pub returns-in_default : goal.returns-in_default
-returns-in_default c =
-    let entries = c.self.inside.entries.now in
-    let ends = ends_own entries c.args.v c.index-self-v.result (omega (arith, c.requires, ap length c.self.view_is)) c.index-self-v.is (λ k same. c.in_default.not-Merged k (sym c.index-self-v.is ∙ same)) in
+pub returns-in-None : goal.returns-in-None
+returns-in-None c =
+    let places = c.self.inside.places.items in
+    let own = none_merged c.index.result.now (sym c.merged.ensures ∙ c.in-None.is) in
+    let ends = ends_own places c.args.v c.index.result.now (omega (arith, c.requires, ap length c.self.view_is)) c.index.ensures own in
     record {
-      value = c.index.ensures
-          ∙ (first_at entries c.self.inside.firsts.items c.args.v c.index.result.now c.self.invariant.0 (omega (arith, c.requires, ap length c.self.view_is))
+      value = c.index-in-None.ensures
+          ∙ (first_at places c.self.inside.firsts.items c.args.v c.index-in-None.result.now c.self.invariant.0 (omega (arith, c.requires, ap length c.self.view_is))
           ∙ (sym ends.0 ∙ ap (λ es. copies_start es c.args.v) c.self.view_is));
     }

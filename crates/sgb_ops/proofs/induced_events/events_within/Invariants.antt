@@ -2,10 +2,10 @@ use Rattle.std.proofs.Common.{◌≡◌, ◌++◌, drop}
 use Rattle.sgb_ops.specs.Entries.{events_within}
 use Rattle.sgb_ops.specs.Induced.{wanted}
 use Rattle.sgb_ops.proofs.WantedEvents.{events_within_from}
-use Rattle.sgb_ops.proofs.induced_events.push_events_within.Given as goal
+use Rattle.sgb_ops.proofs.induced_events.events_within.Given as goal
 
 -- with those inside the entries from v on, they are all
 abbrev pub invariant-loop-v : goal.invariant-loop-v
 invariant-loop-v l =
-    l.events.items ++ wanted l.flags.self_loops (events_within_from l.copies l.flags.directed l.v (drop l.v l.copies))
-    ≡ l.fn.events.items ++ wanted l.flags.self_loops (events_within l.copies l.flags.directed)
+    l.events.items ++ wanted l.flags.self_loops (events_within_from l.entries l.flags.directed l.v (drop l.v l.entries))
+    ≡ wanted l.flags.self_loops (events_within l.entries l.flags.directed)

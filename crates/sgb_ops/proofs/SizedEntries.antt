@@ -1,0 +1,90 @@
+-- Entries without the graphs that they put in: they make the same vertices, and the same events between copies.
+use Rattle.std.proofs.Common.{◌≡◌, ◌∙◌, ℕ, zero, suc, Bool, List, [], ◌∷◌, Option, Some, None, map, take, refl, ap, arith}
+use Rattle.std.specs.Prelude.{filter, flat_map, slice_get, option_map}
+use Rattle.std.specs.List.{list_any}
+use Rattle.std.specs.Option.{option_map_or}
+use Rattle.std.proofs.lemmas.List.Sums.{sum_by-cons}
+use Rattle.std.proofs.lemmas.Option.{slice_get-map}
+use Rattle.sgb_graph.specs.Graphs.{GraphData}
+use Rattle.sgb_graph.specs.declared.fields.Link.{Link}
+use Rattle.sgb_gen.proofs.AllVectors.{flat_map-same}
+use Rattle.sgb_ops.specs.declared.entries.Entry.{Entry}
+use Rattle.sgb_ops.specs.declared.entries.Entry.TheVariants as entry
+use Rattle.sgb_ops.specs.Entries.{copies_by, copies_of, first_copy, is_unnumbered, merged_count, merged_number, own_total, size_of_entry, total_of}
+use Rattle.sgb_ops.specs.Induced.{event_between, events_between, events_of_arc, events_of_copies, events_of_copy, is_met}
+use Rattle.sgb_ops.specs.Operands.{places_of}
+use Rattle.sgb_ops.specs.Taken.{taken}
+use Rattle.sgb_ops.specs.inner.Copies.{sized}
+
+-- one entry
+size_sized : (e : Entry) → size_of_entry (sized e) ≡ size_of_entry e
+size_sized (entry.Copies k) = refl
+size_sized (entry.Graph inner) = refl
+size_sized (entry.Merged k) = refl
+
+number_sized : (e : Entry) → merged_number (sized e) ≡ merged_number e
+number_sized (entry.Copies k) = refl
+number_sized (entry.Graph inner) = refl
+number_sized (entry.Merged k) = refl
+
+unnumbered_sized : (e : Entry) → is_unnumbered (sized e) ≡ is_unnumbered e
+unnumbered_sized (entry.Copies k) = refl
+unnumbered_sized (entry.Graph inner) = refl
+unnumbered_sized (entry.Merged k) = refl
+
+copies_by_sized : (start : ℕ) (e : Entry) → copies_by start (sized e) ≡ copies_by start e
+copies_by_sized start (entry.Copies k) = refl
+copies_by_sized start (entry.Graph inner) = refl
+copies_by_sized start (entry.Merged k) = refl
+
+-- all of them
+pub merged_sized : (es : List Entry) → merged_count (map sized es) ≡ merged_count es
+merged_sized [] = refl
+merged_sized (e ∷ es) = rw (number_sized e, merged_sized es) refl
+
+pub numbered_sized : (es : List Entry) → list_any is_unnumbered (map sized es) ≡ list_any is_unnumbered es
+numbered_sized [] = refl
+numbered_sized (e ∷ es) = rw (unnumbered_sized e, numbered_sized es) refl
+
+own_sized : (es : List Entry) → own_total (map sized es) ≡ own_total es
+own_sized [] = refl
+own_sized (e ∷ es) = omega (arith, sum_by-cons size_of_entry (sized e) (map sized es), sum_by-cons size_of_entry e es, size_sized e, own_sized es)
+
+pub total_sized : (es : List Entry) → total_of (map sized es) ≡ total_of es
+total_sized es = omega (arith, merged_sized es, own_sized es)
+
+-- where the copies of a vertex begin, and which they are
+taken_sized : (es : List Entry) (v : ℕ) → own_total (take v (map sized es)) ≡ own_total (take v es)
+taken_sized es zero = refl
+taken_sized [] (suc v) = refl
+taken_sized (e ∷ es) (suc v) = omega (arith, sum_by-cons size_of_entry (sized e) (take v (map sized es)), sum_by-cons size_of_entry e (take v es), size_sized e, taken_sized es v)
+
+pub first_sized : (es : List Entry) (v : ℕ) → first_copy (map sized es) v ≡ first_copy es v
+first_sized es v = omega (arith, merged_sized es, taken_sized es v)
+
+pub copies_sized : (es : List Entry) (v : ℕ) → copies_of (map sized es) v ≡ copies_of es v
+copies_sized es v = rw (slice_get-map sized es v, first_sized es v) (by_option (first_copy es v) (slice_get es v))
+  where
+    by_option : (start : ℕ) (o : Option Entry) → option_map_or (copies_by start) (option_map sized o) [] ≡ option_map_or (copies_by start) o []
+    by_option start None = refl
+    by_option start (Some e) = copies_by_sized start e
+
+-- the events between them
+module _ (g : GraphData) (es : List Entry) (directed : Bool) where
+  arc_sized : (v u : ℕ) (a : Link) → events_of_arc (map sized es) directed v u a ≡ events_of_arc es directed v u a
+  arc_sized v u a = ap (λ us. map (event_between u a.len) (filter (is_met directed v u a.tip) us)) (copies_sized es a.tip)
+
+  copy_sized : (v u : ℕ) → events_of_copy g (map sized es) directed v u ≡ events_of_copy g es directed v u
+  copy_sized v u = flat_map-same (events_of_arc (map sized es) directed v u) (events_of_arc es directed v u) (arc_sized v u) (taken directed g v)
+
+  vertex_sized : (v : ℕ) → events_of_copies g (map sized es) directed v ≡ events_of_copies g es directed v
+  vertex_sized v =
+      flat_map-same (events_of_copy g (map sized es) directed v) (events_of_copy g es directed v) (copy_sized v) (copies_of (map sized es) v)
+      ∙ ap (flat_map (events_of_copy g es directed v)) (copies_sized es v)
+
+  pub between_sized : events_between g (map sized es) directed ≡ events_between g es directed
+  between_sized = flat_map-same (events_of_copies g (map sized es) directed) (events_of_copies g es directed) vertex_sized (places_of g)
+
+-- the first copy that is looked up
+pub first_read : (es copies : List Entry) (v first : ℕ) → copies ≡ map sized es → first ≡ first_copy copies v → first ≡ first_copy es v
+first_read es copies v first are is = is ∙ (ap (λ xs. first_copy xs v) are ∙ first_sized es v)

@@ -1,0 +1,40 @@
+use Rattle.std.proofs.Common.{◌≡◌, ◌∙◌, ◌<◌, ◌+◌, ◌++◌, ◌∷◌, ℕ, Bool, List, drop, length, get_or, sym, ap, append_assoc, arith}
+use Rattle.std.proofs.lemmas.List.{drop_more}
+use Rattle.std.proofs.lemmas.List.Elements.{filter-append}
+use Rattle.sgb_graph.specs.Events.{Event}
+use Rattle.sgb_ops.specs.declared.entries.Entry.{Entry}
+use Rattle.sgb_ops.specs.Entries.{first_copy, inner_events}
+use Rattle.sgb_ops.specs.Induced.{is_wanted, wanted}
+use Rattle.sgb_ops.proofs.EntryTotals.{place_fits}
+use Rattle.sgb_ops.proofs.SizedEntries.{first_read}
+use Rattle.sgb_ops.proofs.WantedEvents.{events_within_from}
+use Rattle.sgb_ops.proofs.induced_events.events_within.Goals as goal
+
+-- the events inside the entries from v on are those inside that of v, and the others
+step : (entries : List Entry) (d self : Bool) (v : ℕ) (e : Entry) → v < length entries → e ≡ get_or entries v e
+    → wanted self (events_within_from entries d v (drop v entries))
+    ≡ wanted self (inner_events d (first_copy entries v) e) ++ wanted self (events_within_from entries d (v + 1) (drop (v + 1) entries))
+step entries d self v e below is =
+    ap (λ es. wanted self (events_within_from entries d v es)) (drop_more entries v e below ∙ ap (λ x. x ∷ drop (v + 1) entries) (sym is))
+    ∙ filter-append (is_wanted self) (inner_events d (first_copy entries v) e) (events_within_from entries d (v + 1) (drop (v + 1) entries))
+
+pub push_inner_events-requires : goal.push_inner_events-requires
+push_inner_events-requires c =
+    let entries = c.args.entries.now in
+    let v = c.loop-v.v in
+    let first = first_read entries c.args.copies.now v c.first.result c.requires.copies c.first.ensures.value in
+    omega (arith, first, place_fits entries v c.index-entries-v.result (omega (arith, c.requires.count)) c.index-entries-v.is, c.requires.few)
+
+pub loop-v-preserved : goal.loop-v-preserved
+loop-v-preserved c =
+    let entries = c.args.entries.now in
+    let self = c.args.flags.self_loops in
+    let d = c.args.flags.directed in
+    let v = c.loop-v.v in
+    let e = c.index-entries-v.result in
+    let items = c.loop-v.events.items in
+    let first = first_read entries c.args.copies.now v c.first.result c.requires.copies c.first.ensures.value in
+    let here : List Event = wanted self (inner_events d (first_copy entries v) e) in
+    let later : List Event = wanted self (events_within_from entries d (v + 1) (drop (v + 1) entries)) in
+    ap (λ (es : List Event). es ++ later) (c.in_ok-push_inner_events.ensures.ok ∙ ap (λ s. items ++ wanted self (inner_events d s e)) first)
+    ∙ (append_assoc items here later ∙ (ap (λ (es : List Event). items ++ es) (sym (step entries d self v e (omega (arith, c.requires.count)) c.index-entries-v.is)) ∙ c.loop-v.invariant))

@@ -1,0 +1,24 @@
+use Rattle.std.proofs.Common.{◌≡◌, ◌∙◌, ℕ, List, length, sym, ap, rules, arith}
+use Rattle.std.proofs.lemmas.List.{length-map}
+use Rattle.sgb_graph.specs.Graphs.{GraphData}
+use Rattle.sgb_graph.specs.Growth.{new_vertex}
+use Rattle.sgb_ops.specs.declared.entries.Entry.{Entry}
+use Rattle.sgb_ops.specs.Entries.{names_by_entries, total_of}
+use Rattle.sgb_ops.specs.Operands.{names_of, order_of}
+use Rattle.sgb_ops.proofs.CopiesWithin.{length-names}
+use Rattle.sgb_ops.proofs.induced_graphs.begun_by.Goals as goal
+
+-- as many names as the entries make vertices
+count_of : (g : GraphData) (entries : List Entry) (names : List (List ℕ)) → length entries ≡ order_of g → names ≡ names_by_entries (names_of g) entries → length names ≡ total_of entries
+count_of g entries names count is = ap length is ∙ length-names (names_of g) entries (count ∙ sym (length-map g.vertices (λ x. x.name)))
+
+pub returns-in_err-built-clause-memory : goal.returns-in_err-built-clause-memory
+returns-in_err-built-clause-memory c =
+    let count = count_of c.args.graph.now c.args.entries.now c.in_ok-names.names c.requires.count c.in_ok-names.ensures.ok in
+    let memory = c.in_err-built.ensures.err (omega (arith, count, c.requires.few)) in
+    search (rules, memory)
+
+pub begun_in_parts-requires-clause-size : goal.begun_in_parts-requires-clause-size
+begun_in_parts-requires-clause-size c =
+    let count = count_of c.args.graph.now c.args.entries.now c.in_ok-names.names c.requires.count c.in_ok-names.ensures.ok in
+    ap (λ k. length k.vertices) c.in_ok-built.ensures.ok ∙ (length-map c.in_ok-names.names new_vertex ∙ count)
