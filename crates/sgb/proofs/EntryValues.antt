@@ -11,8 +11,8 @@ use Rattle.sgb_expr.specs.StdinUses.{entries_have_stdin, has_stdin}
 use Rattle.sgb_expr.specs.declared.entries.Entries.{Entries}
 use Rattle.sgb_expr.specs.declared.expressions.Expr.{Expr}
 use Rattle.sgb_expr.specs.declared.expressions.Expr.TheVariants as expr
-use Rattle.sgb.specs.Values.{IsValue, both, handed_entries, made, value_of, values_of}
-use Rattle.sgb.specs.declared.evaluation.entries.EntryValue.{EntryValue}
+use Rattle.sgb.specs.Values.{IsValue, both, made, value_of, values_of}
+use Rattle.sgb_ops.specs.declared.entries.Entry.{Entry}
 use Rattle.sgb.proofs.Values.{size_of, size_of_entries}
 
 -- these values and then others
@@ -31,9 +31,9 @@ length_zero [] e = refl
 length_zero (x ∷ list) e = absurd (omega (arith, e))
 
 -- the value of an induced graph, from those of its graph and its entries
-abbrev pub induced_from : Result GraphData Panic → Result (List EntryValue) Panic → Bool → Bool → Bool → Result GraphData Panic
+abbrev pub induced_from : Result GraphData Panic → Result (List Entry) Panic → Bool → Bool → Bool → Result GraphData Panic
 induced_from graph entries self_loops multi directed =
-    and_then (both graph entries) (λ operands. made (induced_of operands.0 (handed_entries operands.1) self_loops multi directed))
+    and_then (both graph entries) (λ operands. made (induced_of operands.0 operands.1 self_loops multi directed))
 
 -- of an expression of the code
 pub induced_value : (input : List ℕ) (e : Expr) (graph : Box Expr Global) (entries : Entries) (self_loops multi directed : Bool) → e ≡ expr.Induced graph entries self_loops multi directed
@@ -54,13 +54,13 @@ induced_reads e graph entries self_loops multi directed is =
     ap (λ x. has_stdin (expression_of x)) is ∙ ap has_stdin (induced_is graph entries self_loops multi directed)
 
 -- a refusal of the entries
-pub entries_refused : (graph : Result GraphData Panic) (entries : Result (List EntryValue) Panic) (g : GraphData) (self_loops multi directed : Bool) (p : Panic)
+pub entries_refused : (graph : Result GraphData Panic) (entries : Result (List Entry) Panic) (g : GraphData) (self_loops multi directed : Bool) (p : Panic)
     → graph ≡ Ok g → IsValue entries (Err p) → IsValue (induced_from graph entries self_loops multi directed) (Err p)
 entries_refused graph entries g self_loops multi directed p e (inl f) = inl (rw (e, f) refl)
 entries_refused graph entries g self_loops multi directed p e (inr f) = inr f
 
 -- what is made of entries
-pub entries_handed : (graph : Result GraphData Panic) (entries : Result (List EntryValue) Panic) (g : GraphData) (values : List EntryValue) (self_loops multi directed : Bool) (r : Result GraphData Panic)
-    → graph ≡ Ok g → entries ≡ Ok values → IsValue (made (induced_of g (handed_entries values) self_loops multi directed)) r
+pub entries_made : (graph : Result GraphData Panic) (entries : Result (List Entry) Panic) (g : GraphData) (values : List Entry) (self_loops multi directed : Bool) (r : Result GraphData Panic)
+    → graph ≡ Ok g → entries ≡ Ok values → IsValue (made (induced_of g values self_loops multi directed)) r
     → IsValue (induced_from graph entries self_loops multi directed) r
-entries_handed graph entries g values self_loops multi directed r e f is = rw (e, f) is
+entries_made graph entries g values self_loops multi directed r e f is = rw (e, f) is

@@ -29,8 +29,7 @@ use Rattle.sgb_expr.specs.declared.expressions.Generator.TheVariants as generato
 use Rattle.sgb.specs.Locals.{family_text, start_after, vectors_of}
 use Rattle.sgb.specs.Outcomes.{answer_of}
 use Rattle.sgb.specs.Texts.{arc_line, block, blocks, head_text, name_lines}
-use Rattle.sgb.specs.Values.{described, handed_entries, stdin_value, value_of, values_of}
-use Rattle.sgb.specs.declared.evaluation.entries.EntryValue.TheVariants as value
+use Rattle.sgb.specs.Values.{described, numbered_entry, stdin_value, value_of, values_of}
 use Rattle.sgb.specs.declared.locals.Local.{Local}
 use Rattle.sgb.specs.declared.locals.Local.TheVariants as local
 use Rattle.sgb_requests.specs.declared.faults.Fault.TheVariants as fault
@@ -126,17 +125,17 @@ pub other_first : value_of [] (Gunion too_great negative false false) ≡ Err Ve
 other_first = refl
 
 -- entries: each is a number or a graph; the first refusal among them
-pub some_entries : values_of (text_of_lines one_cell_lines) (EntryThen (Number (negsuc 2)) (EntryThen (Graph Stdin) NoEntries)) ≡ Ok (value.Number (negsuc 2) ∷ value.Graph one_cell ∷ [])
+pub some_entries : values_of (text_of_lines one_cell_lines) (EntryThen (Number (negsuc 2)) (EntryThen (Graph Stdin) NoEntries)) ≡ Ok (entry.Merged 3 ∷ entry.Graph one_cell ∷ [])
 unfolding stdin_value lines_among without_end_spaces weighted_sum unbroken more_fields_at all_at opening_of ends_from numbers_from
 some_entries = refl
 
 pub refused_entry : values_of [] (EntryThen (Number (pos 1)) (EntryThen (Graph negative) (EntryThen (Graph too_great) NoEntries))) ≡ Err Bad
 refused_entry = refl
 
--- what is handed on: so many copies, or merged vertex k of -k, at most 4,294,967,295 of either
-pub numbers_handed : handed_entries (map value.Number (pos 0 ∷ pos 7 ∷ pos 4_294_967_296 ∷ negsuc 0 ∷ negsuc 6 ∷ negsuc 4_294_967_296 ∷ []))
+-- what a number stands for: so many copies, or merged vertex k of -k, at most 4,294,967,295 of either
+pub numbers_told : map numbered_entry (pos 0 ∷ pos 7 ∷ pos 4_294_967_296 ∷ negsuc 0 ∷ negsuc 6 ∷ negsuc 4_294_967_296 ∷ [])
     ≡ entry.Copies 0 ∷ entry.Copies 7 ∷ entry.Copies 4_294_967_295 ∷ entry.Merged 1 ∷ entry.Merged 7 ∷ entry.Merged 4_294_967_295 ∷ []
-numbers_handed = refl
+numbers_told = refl
 
 -- ---- a generator's listing
 

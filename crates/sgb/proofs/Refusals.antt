@@ -39,7 +39,7 @@ use Rattle.sgb_file.specs.Fields.{Found}
 use Rattle.sgb_file.specs.FileLines.{clean_lines}
 use Rattle.sgb_file.specs.Restoring.{Opening, closes, graph_after, graph_at_end, graph_of_opening, graph_of_records, graph_of_text, opening_of}
 use Rattle.sgb_graph.specs.Sound.{is_sound}
-use Rattle.sgb.specs.Values.{both, generator_value, handed_entries, stdin_value, value_of, values_of}
+use Rattle.sgb.specs.Values.{both, generator_value, stdin_value, value_of, values_of}
 use Rattle.sgb_requests.specs.declared.faults.Fault.{Fault}
 use Rattle.sgb_requests.specs.declared.faults.Fault.TheVariants as fault
 use Rattle.sgb_requests.specs.declared.requests.Request.{Request}
@@ -214,7 +214,7 @@ mutual
       after _ _ (both_judged _ _ (value_judged input e) (value_judged input f)) (λ operands. after _ _ (product_judged operands.0 operands.1 kind directed) (λ d. accepted _))
   value_judged input (Induced e entries self_loops multi directed) =
       after _ _ (both_judged _ _ (value_judged input e) (values_judged input entries)) (λ operands.
-      after _ _ (induced_judged operands.0 (handed_entries operands.1) self_loops multi directed) (λ d. accepted _))
+      after _ _ (induced_judged operands.0 operands.1 self_loops multi directed) (λ d. accepted _))
   value_judged input (BiComplete n1 n2 directed) = after _ _ (bi_complete_judged n1 n2 directed) (λ d. accepted _)
   value_judged input (Wheel n n1 directed) = after _ _ (wheel_judged n n1 directed) (λ d. accepted _)
   value_judged input Stdin = stdin_judged input

@@ -23,8 +23,8 @@ use Rattle.sgb_file.specs.Devices.{Change}
 use Rattle.sgb.specs.Inputs.{IsKept}
 use Rattle.sgb.specs.Outcomes.{answer_from, answer_of, list_answer, names_answer, reads_input}
 use Rattle.sgb.specs.Runs.{Input, IsRunFrom, IsRunOn, fails_to_read}
-use Rattle.sgb.specs.Values.{IsValue, both, entry_value, handed_entries, made, most_input, stdin_value, value_of, values_of}
-use Rattle.sgb.specs.declared.evaluation.entries.EntryValue.TheVariants as value
+use Rattle.sgb.specs.Values.{IsValue, both, entry_value, made, most_input, stdin_value, value_of, values_of}
+use Rattle.sgb_ops.specs.declared.entries.Entry.TheVariants as entry
 use Rattle.sgb_requests.specs.declared.requests.Request.{Request}
 use Rattle.sgb_requests.specs.declared.requests.Request.TheVariants as request
 
@@ -88,7 +88,7 @@ mutual
   value_same a b (Product e f kind directed) same =
       ap (λ v. and_then v (λ operands. made (product_graph_of operands.0 operands.1 kind directed))) (both_same _ _ _ _ (value_same a b e (λ h. same (or_left _ _ h))) (value_same a b f (λ h. same (or_right _ _ h))))
   value_same a b (Induced e entries self_loops multi directed) same =
-      ap (λ v. and_then v (λ operands. made (induced_of operands.0 (handed_entries operands.1) self_loops multi directed)))
+      ap (λ v. and_then v (λ operands. made (induced_of operands.0 operands.1 self_loops multi directed)))
       (both_same _ _ _ _ (value_same a b e (λ h. same (or_left _ _ h))) (values_same a b entries (λ h. same (or_right _ _ h))))
   value_same a b (BiComplete n1 n2 directed) same = refl
   value_same a b (Wheel n n1 directed) same = refl
@@ -97,7 +97,7 @@ mutual
   -- the value of an entry
   entry_same : (a b : List ℕ) (entry : Entry) → (entry_has_stdin entry ≡ true → stdin_value a ≡ stdin_value b) → entry_value a entry ≡ entry_value b entry
   entry_same a b (Number n) same = refl
-  entry_same a b (Graph e) same = ap (λ v. and_then v (λ g. Ok (value.Graph g))) (value_same a b e same)
+  entry_same a b (Graph e) same = ap (λ v. and_then v (λ g. Ok (entry.Graph g))) (value_same a b e same)
 
   -- the values of entries
   pub values_same : (a b : List ℕ) (entries : Entries) → (entries_have_stdin entries ≡ true → stdin_value a ≡ stdin_value b) → values_of a entries ≡ values_of b entries

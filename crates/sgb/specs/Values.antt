@@ -1,5 +1,5 @@
 -- The graphs that expressions name [GB_BASIC].
-use Rattle.std.specs.Prelude.{◌≡◌, ◌⊎◌, ℕ, ◌^◌, pos, negsuc, min, nat_le, List, [], ◌∷◌, length, Result, Ok, Err, if◌then◌else◌, ◌+◌, map}
+use Rattle.std.specs.Prelude.{◌≡◌, ◌⊎◌, ℕ, ℤ, ◌^◌, pos, negsuc, min, nat_le, List, [], ◌∷◌, length, Result, Ok, Err, if◌then◌else◌, ◌+◌}
 use Rattle.sgb_vec.specs.Limits.{most_entry}
 use Rattle.sgb_vec.specs.Results.{and_then}
 use Rattle.sgb_vec.specs.declared.panics.Panic.{Panic}
@@ -24,8 +24,6 @@ use Rattle.sgb_ops.specs.declared.entries.Entry.TheVariants as entry
 use Rattle.sgb_expr.specs.Expression.{Expression, Generated, Complement, Gunion, Intersection, Lines, Product, Induced, BiComplete, Wheel, Stdin, Entry as EntryExpression, Number, Graph, Entries, NoEntries, EntryThen}
 use Rattle.sgb_expr.specs.declared.expressions.Generator.{Generator}
 use Rattle.sgb_expr.specs.declared.expressions.Generator.TheVariants as generator
-use Rattle.sgb.specs.declared.evaluation.entries.EntryValue.{EntryValue}
-use Rattle.sgb.specs.declared.evaluation.entries.EntryValue.TheVariants as value
 use Rattle.sgb.specs.declared.locals.Local.{Local}
 use Rattle.sgb.specs.declared.locals.Local.TheVariants as local
 
@@ -56,15 +54,10 @@ IsValue value (Err p) = (value ≡ Err p) ⊎ (p ≡ NoRoom)
 abbrev pub both : {T U : Type 0} → Result T Panic → Result U Panic → Result (T × U) Panic
 both first second = and_then first (λ x. and_then second (λ y. Ok (x, y)))
 
--- the entry that is handed on: a number of copies, or -k for merged vertex k, each at most the greatest of 32 bits
-abbrev pub handed_entry : EntryValue → Entry
-handed_entry (value.Number (pos k)) = entry.Copies (min k most_entry)
-handed_entry (value.Number (negsuc k)) = entry.Merged (min (k + 1) most_entry)
-handed_entry (value.Graph g) = entry.Graph g
-
--- the entries that are handed on
-abbrev pub handed_entries : List EntryValue → List Entry
-handed_entries values = map handed_entry values
+-- the entry that a number stands for: so many copies, or -k for merged vertex k, each at most the greatest of 32 bits
+abbrev pub numbered_entry : ℤ → Entry
+numbered_entry (pos k) = entry.Copies (min k most_entry)
+numbered_entry (negsuc k) = entry.Merged (min (k + 1) most_entry)
 
 abbrev mutual
   -- the graph of an expression where this is standard input, or the first refusal: the operands' from left to right, then
@@ -80,18 +73,18 @@ abbrev mutual
   value_of input (Product e f kind directed) =
       and_then (both (value_of input e) (value_of input f)) (λ operands. made (product_graph_of operands.0 operands.1 kind directed))
   value_of input (Induced e entries self_loops multi directed) =
-      and_then (both (value_of input e) (values_of input entries)) (λ operands. made (induced_of operands.0 (handed_entries operands.1) self_loops multi directed))
+      and_then (both (value_of input e) (values_of input entries)) (λ operands. made (induced_of operands.0 operands.1 self_loops multi directed))
   value_of input (BiComplete n1 n2 directed) = made (bi_complete_of n1 n2 directed)
   value_of input (Wheel n n1 directed) = made (wheel_of n n1 directed)
   value_of input Stdin = stdin_value input
 
   -- an entry, or why its graph is refused
-  pub entry_value : List ℕ → EntryExpression → Result EntryValue Panic
-  entry_value input (Number n) = Ok (value.Number n)
-  entry_value input (Graph e) = and_then (value_of input e) (λ g. Ok (value.Graph g))
+  pub entry_value : List ℕ → EntryExpression → Result Entry Panic
+  entry_value input (Number n) = Ok (numbered_entry n)
+  entry_value input (Graph e) = and_then (value_of input e) (λ g. Ok (entry.Graph g))
 
   -- the entries in order, or the first refusal of a graph among them
-  pub values_of : List ℕ → Entries → Result (List EntryValue) Panic
+  pub values_of : List ℕ → Entries → Result (List Entry) Panic
   values_of input NoEntries = Ok []
   values_of input (EntryThen first others) = and_then (both (entry_value input first) (values_of input others)) (λ p. Ok (p.0 ∷ p.1))
 

@@ -1,4 +1,6 @@
 -- What only the private contracts and the proofs of sgb speak of.
+-- entries whose expressions are evaluated
+pub mod EntryValues
 -- what is left of standard input
 pub mod Inputs
 -- names of vectors that are kept

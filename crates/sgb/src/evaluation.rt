@@ -1,17 +1,18 @@
 //! The graphs that expressions name (GB_BASIC).
-ghost use Rattle.std.specs.Prelude.{◌≡◌, ◌||◌, [], Err, Ok, IfErr, IfOk};
+ghost use Rattle.std.specs.Prelude.{◌≡◌, ◌||◌, [], Err, Ok, map, IfErr, IfOk};
 ghost use Rattle.sgb_graph.specs.Descriptions.{IsAnswerOf};
 ghost use Rattle.sgb_expr.specs.Listed.{listed};
 ghost use Rattle.sgb_expr.specs.Expression.{entries_of, entry_of, expression_of};
 ghost use Rattle.sgb_expr.specs.StdinUses.{entries_have_stdin, entry_has_stdin, has_stdin};
 ghost use Rattle.sgb.specs.Outcomes.{moves_of, queen_moves};
 ghost use Rattle.sgb.specs.Values.{IsValue, both, entry_value, generator_value, value_of, values_of};
+ghost use Rattle.sgb.specs.inner.EntryValues.{handed_entry};
 ghost use Rattle.sgb.specs.inner.Inputs.{left_after};
 
 mod entries;
 
 use crate::input::{Kept, read_kept};
-use entries::{EntryValue, handed_entries};
+use entries::{EntryValue, graph_value, handed_entries};
 use sgb_expr::{EntryExpr, Expr, Generator, have_stdin};
 use sgb_gen::BoardParams;
 use sgb_graph::Graph;
@@ -157,7 +158,7 @@ fn values_of(
     more: bool,
 ) -> Result<Vec<EntryValue>, Panic>
     ensures ok { IfOk result (λ values. values_of input.old (entries_of (listed entries.now))
-        ≡ Ok values.items) }
+        ≡ Ok (map handed_entry values.items)) }
     ensures refused { IfErr result
         (λ p. IsValue (values_of input.old (entries_of (listed entries.now))) (Err p)) }
     ensures left { IfOk result (λ _. input.new
@@ -182,7 +183,10 @@ fn value_of_entry(
     input: &mut Kept<'_>,
     more: bool,
 ) -> Result<EntryValue, Panic>
-    ensures value { IsValue (entry_value input.old (entry_of entry.now)) result }
+    ensures ok { IfOk result (λ v. entry_value input.old (entry_of entry.now)
+        ≡ Ok (handed_entry v)) }
+    ensures refused { IfErr result
+        (λ p. IsValue (entry_value input.old (entry_of entry.now)) (Err p)) }
     ensures left { IfOk result (λ _. input.new
         ≡ left_after (more || entries_have_stdin (entries_of (listed others.now)))
         (entry_has_stdin (entry_of entry.now)) input.old) }
@@ -191,7 +195,7 @@ fn value_of_entry(
         EntryExpr::Number(number) => Ok(EntryValue::Number(*number)),
         EntryExpr::Graph(expression) => {
             let graph = evaluate(alloc, expression, input, more_in(more, others))?;
-            Ok(EntryValue::Graph(graph))
+            graph_value(alloc, graph)
         }
     }
 }

@@ -1,6 +1,6 @@
-ghost use Rattle.std.specs.Prelude.{◌≡◌, [], ◌∷◌, ◌++◌, length, OnOk, OnErr, IfErr};
+ghost use Rattle.std.specs.Prelude.{◌≡◌, [], ◌∷◌, ◌++◌, length, OnOk, OnErr, IfErr, IfOk, IsOkUnless};
 
-use sgb_vec::Text;
+use sgb_vec::{Panic, Text};
 use std::alloc::Global;
 use std::marker::Model;
 
@@ -26,6 +26,17 @@ impl Names {
         Names {
             texts: Vec::new(alloc),
         }
+    }
+
+    /// No names, with room for so many.
+    ///
+    /// `NoRoom` when out of memory, and nothing else.
+    pub fn with_capacity(alloc: Global, count: usize) -> Result<Names, Panic>
+        ensures ok { IfOk result (λ names. names ≡ []) }
+        ensures memory { IsOkUnless result Panic.NoRoom }
+    {
+        let texts = Vec::with_capacity(alloc, count)?;
+        Ok(Names { texts })
     }
 
     /// Appends a name.

@@ -38,7 +38,8 @@ impl Model for Parts {
 
     ghost view = { λ p. with_more p.more_vertices.items p.more_records.items p.kept };
 
-    ghost invariant = { λ p. IsTrue (first_fails (vertex_may_fit p.kept.kinds) p.more_vertices.items)
+    ghost invariant = { λ p.
+        IsTrue (first_fails (vertex_may_fit p.kept.kinds) p.more_vertices.items)
         × IsTrue (first_fails (record_may_fit p.kept.kinds) p.more_records.items) };
 }
 

@@ -43,7 +43,8 @@ impl Model for Records {
 
     ghost view = { λ r. kept_records r.plain.items r.a r.b };
 
-    ghost invariant = { λ r. HoldsMany (length r.plain.items) r.a × HoldsMany (length r.plain.items) r.b };
+    ghost invariant = { λ r. HoldsMany (length r.plain.items) r.a
+        × HoldsMany (length r.plain.items) r.b };
 }
 
 impl PlainRecord {
@@ -117,6 +118,13 @@ impl Records {
             (self.now.a ∷ self.now.b ∷ [])) self.now.items }
     {
         all_fit(&self.plain, &self.a, &self.b, n, self.plain.len())
+    }
+
+    // Takes room for so many records more, but not for their utility fields. The records stay, whether there is room or not.
+    pub(crate) fn reserve(&mut self, count: usize) -> Result<(), AllocError>
+        ensures { self.new ≡ self.old }
+    {
+        self.plain.reserve(count)
     }
 
     // Puts a record, whose utility fields are of the kinds here, after the others.

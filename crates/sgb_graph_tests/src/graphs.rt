@@ -44,6 +44,7 @@ fn with_events(
     events: &[(u32, u32, i64)],
 ) -> Result<Graph, Panic> {
     let mut graph = graph_of(alloc, digits)?;
+    graph.reserve(events.len())?;
     for (u, v, len) in events {
         if *u >= graph.n() || *v >= graph.n() {
             return Err(Panic::Bad);

@@ -4,7 +4,7 @@ use std::alloc::Global;
 
 // The number of names after these two were put in.
 fn count_of_two(alloc: Global) -> Option<usize> {
-    let mut names = Names::new(alloc);
+    let mut names = Names::with_capacity(alloc, 1).ok()?;
     names.push(Text::new(alloc, b"0").ok()?).ok()?;
     names.push(Text::new(alloc, b"1").ok()?).ok()?;
     Some(names.len())

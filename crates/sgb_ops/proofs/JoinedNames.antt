@@ -1,11 +1,13 @@
 -- Names that are made of names.
 use Rattle.std.proofs.Common.{◌≡◌, ℕ, ◌≤◌, ◌<◌, ◌+◌, ◌^◌, List, [], ◌∷◌, ◌++◌, take, length, arith}
-use Rattle.std.specs.Prelude.{All, decimal}
+use Rattle.std.specs.Prelude.{All, IsOk, IsOkUnless, Result, Ok, Err, decimal}
 use Rattle.std.proofs.lemmas.Fmt.{length-decimal-le}
 use Rattle.std.proofs.lemmas.List.{length-take, length-append, take_all}
 use Rattle.std.proofs.lemmas.List.Elements.{All-append, All-take}
 use Rattle.sgb_vec.specs.Limits.{most_bytes}
 use Rattle.sgb_vec.specs.Names.{IsText, IsTextByte, name_of_vector}
+use Rattle.sgb_vec.specs.declared.panics.Panic.{Panic}
+use Rattle.sgb_vec.specs.declared.panics.Panic.TheVariants.{NoRoom}
 
 -- a name of two cut names with a text between them
 pub joined_is_text : (a separator b : List ℕ) (most_a most_b : ℕ) → IsText a → IsText b → All IsTextByte separator → most_a + length separator + most_b ≤ most_bytes
@@ -27,3 +29,8 @@ ended_is_text a end most name after fits = record {
 pub whole_number : (k : ℕ) → k < 2 ^ 32 → take 10 (name_of_vector (k ∷ [])) ≡ decimal k
 unfolding name_of_vector
 whole_number k fits = take_all 10 (decimal k) (length-decimal-le 10 k (omega arith) (omega (arith, fits)) (omega (arith, fits)))
+
+-- what is never refused is refused out of memory at most
+pub unless_memory : {T : Type 0} (r : Result T Panic) → IsOk r → IsOkUnless r NoRoom
+unless_memory (Ok x) good = tt
+unless_memory (Err e) good = cc

@@ -193,7 +193,8 @@ impl Model for Copies {
 
     ghost view = { λ c. c.places.items };
 
-    ghost invariant = { λ c. (c.firsts.items ≡ first_copies c.places.items) × (total_of c.places.items ≤ most_vertices) };
+    ghost invariant = { λ c. (c.firsts.items ≡ first_copies c.places.items)
+        × (total_of c.places.items ≤ most_vertices) };
 }
 
 impl Copies {

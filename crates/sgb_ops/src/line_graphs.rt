@@ -89,11 +89,20 @@ fn lines_of_graph(alloc: Global, graph: &Graph, directed: bool) -> Result<Vec<Li
     ensures up { directed ≡ false → IfOk result (λ lines. All LeadsUp lines.items) }
     ensures memory { IsOkUnless result Panic.NoRoom }
 {
-    let mut lines = Vec::new(alloc);
+    let mut lines = Vec::with_capacity(alloc, most_lines(graph, directed))?;
     for v in (0..graph.n()).rev() {
         push_lines(&mut lines, graph, directed, v)?;
     }
     Ok(lines)
+}
+
+// Room for so many lines is taken at first: for each record, or each two of an edge.
+fn most_lines(graph: &Graph, directed: bool) -> usize {
+    if directed {
+        graph.records_len()
+    } else {
+        graph.records_len() / 2
+    }
 }
 
 // Appends the lines that begin at `v`.
@@ -200,7 +209,7 @@ fn names_of_lines(
     ensures ok { IfOk result (λ names. names ≡ names_of_lines graph.now directed lines.now) }
     ensures memory { IsOkUnless result Panic.NoRoom }
 {
-    let mut names = Names::new(alloc);
+    let mut names = Names::with_capacity(alloc, lines.len())?;
     for line in lines {
         let name = line.name(alloc, graph, directed)?;
         let Ok(()) = names.push(name) else {
@@ -245,11 +254,24 @@ fn add_arcs(built: &mut Graph, alloc: Global, n: u32, lines: &[Line]) -> Result<
     ensures memory { IsOkUnless result Panic.NoRoom }
 {
     let ends = run_ends(alloc, n, lines)?;
+    built.reserve(room_for_arcs(lines, &ends))?;
     for (i, line) in lines.iter().enumerate() {
         let w = line.to as usize;
         add_arcs_to(built, i as u32, ends[w + 1], ends[w])?;
     }
     Ok(())
+}
+
+// How many records the arcs take: for each line as many as lines begin where it ends. No contract speaks of room.
+fn room_for_arcs(lines: &[Line], ends: &[u32]) -> usize
+    requires { All (λ l. l.to + 1 < length ends.now) lines.now }
+{
+    let mut count = 0_usize;
+    for line in lines {
+        let end = line.to as usize;
+        count = count.saturating_add(ends[end].saturating_sub(ends[end + 1]) as usize);
+    }
+    count
 }
 
 // Adds the arcs from line number `i` to the lines with the numbers from `first` on, before `end`.

@@ -51,10 +51,13 @@ pub(crate) fn joined_name(
         ++ take most_second second.now) }
     ensures memory { IsOkUnless result Panic.NoRoom }
 {
-    let mut bytes = Vec::from_slice(alloc, front(first.bytes(), most_first))?;
+    let start = front(first.bytes(), most_first);
+    let end = front(second.bytes(), most_second);
+    let mut bytes = Vec::with_capacity(alloc, start.len() + separator.len() + end.len())?;
+    bytes.extend_from_slice(start)?;
     bytes.extend_from_slice(separator)?;
-    bytes.extend_from_slice(front(second.bytes(), most_second))?;
-    Text::new(alloc, &bytes)
+    bytes.extend_from_slice(end)?;
+    Text::from_bytes(bytes)
 }
 
 /// The first `most` bytes of the name, and `end` after them.
@@ -66,9 +69,11 @@ pub(crate) fn ended_name(alloc: Global, name: &Text, most: usize, end: &[u8]) ->
     ensures ok { IfOk result (λ text. text ≡ take most name.now ++ end.now) }
     ensures memory { IsOkUnless result Panic.NoRoom }
 {
-    let mut bytes = Vec::from_slice(alloc, front(name.bytes(), most))?;
+    let start = front(name.bytes(), most);
+    let mut bytes = Vec::with_capacity(alloc, start.len() + end.len())?;
+    bytes.extend_from_slice(start)?;
     bytes.extend_from_slice(end)?;
-    Text::new(alloc, &bytes)
+    Text::from_bytes(bytes)
 }
 
 // At most the first `most` bytes.

@@ -38,7 +38,8 @@ impl Model for SumFamily {
 
     ghost view = { λ s. record { total = s.total; bounds = s.bounds.items } };
 
-    ghost invariant = { λ s. (s.count ≡ length (bounded_sums s.total s.bounds.items)) × (s.count ≤ most_vertices) × (s.total ≤ most_vertices) };
+    ghost invariant = { λ s. (s.count ≡ length (bounded_sums s.total s.bounds.items))
+        × (s.count ≤ most_vertices) × (s.total ≤ most_vertices) };
 }
 
 impl SumFamily {

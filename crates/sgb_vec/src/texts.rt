@@ -1,4 +1,4 @@
-ghost use Rattle.std.specs.Prelude.{◌≡◌, ◌+◌, ◌≤◌, ◌++◌, ◌↔◌, length, decimal, IsTrue, IfOk, OnOk, OnErr, IsErrOf, IsOkUnless};
+ghost use Rattle.std.specs.Prelude.{◌≡◌, ◌+◌, ◌≤◌, ◌++◌, ◌↔◌, length, decimal, IsTrue, IsOk, IfOk, OnOk, OnErr, IsErrOf, IsOkUnless};
 ghost use Rattle.sgb_vec.specs.Limits.{most_dimensions};
 ghost use Rattle.sgb_vec.specs.Names.{name_of_vector, IsTextByte, IsText};
 
@@ -42,6 +42,20 @@ impl Text {
             return Err(Panic::Syntax);
         }
         let bytes = Vec::from_slice(alloc, bytes)?;
+        Ok(Text { bytes })
+    }
+
+    /// The string of these bytes, which it keeps where they are: it takes no memory.
+    ///
+    /// `Syntax` where they are no string, as for `new`, and nothing else.
+    pub fn from_bytes(bytes: Vec<u8>) -> Result<Text, Panic>
+        ensures ok { IfOk result (λ text. (text ≡ bytes.items) × IsText bytes.items) }
+        ensures refused { IsErrOf result Panic.Syntax ↔ ¬ IsText bytes.items }
+        ensures err { IsText bytes.items → IsOk result }
+    {
+        if !is_text(&bytes) {
+            return Err(Panic::Syntax);
+        }
         Ok(Text { bytes })
     }
 

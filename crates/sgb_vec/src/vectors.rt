@@ -28,7 +28,8 @@ impl<'a, F: Family> Model for Vectors<'a, F> {
 
     ghost view = { λ v. from_to_if v.more (F.members v.family.now) v.front.items v.back.items };
 
-    ghost invariant = { λ v. IsTrue v.more → AreEnds (F.members v.family.now) v.front.items v.back.items };
+    ghost invariant = { λ v. IsTrue v.more
+        → AreEnds (F.members v.family.now) v.front.items v.back.items };
 }
 
 impl<'a, F: Family> Vectors<'a, F> {

@@ -25,6 +25,17 @@ fn is_refused(alloc: Global, bytes: &[u8]) -> bool {
     matches!(Text::new(alloc, bytes), Err(Panic::Syntax))
 }
 
+// Whether the bytes, handed over, make a text that has them.
+fn is_kept(alloc: Global, bytes: &[u8]) -> bool {
+    let Ok(owned) = Vec::from_slice(alloc, bytes) else {
+        return false;
+    };
+    let Ok(text) = Text::from_bytes(owned) else {
+        return false;
+    };
+    text.bytes() == bytes
+}
+
 #[test]
 fn a_name_has_the_entries_joined_by_dots(rt: HostRuntime) {
     assert!(rt; is_named(rt.alloc(), &[1, 0], b"1.0"));
@@ -49,6 +60,13 @@ fn a_text_has_printable_bytes_but_two(rt: HostRuntime) {
     for bytes in [b"\\", b"\"", b"\x1f", b"\x7f", b"\n", b"\xe9"] {
         assert!(rt; is_refused(rt.alloc(), bytes));
     }
+}
+
+#[test]
+fn a_text_keeps_bytes_that_are_handed_over(rt: HostRuntime) {
+    assert!(rt; is_kept(rt.alloc(), b""));
+    assert!(rt; is_kept(rt.alloc(), b"0.0->1.0"));
+    assert!(rt; !is_kept(rt.alloc(), b"0\\1"));
 }
 
 #[test]

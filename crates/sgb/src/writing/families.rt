@@ -73,7 +73,8 @@ pub(super) fn list_vectors<L: Listed, F: Family, W: Sink>(
     requires members { F.members family.now ≡ vectors_of (L.parameters listed.old) }
     requires member { IfSome after (λ x. Contains (vectors_of (L.parameters listed.old)) x.now) }
     requires sound { W.has_failed out.old ≡ false }
-    ensures written { IsWritten (family_text (graph_described (described (L.parameters listed.old))) head
+    ensures written { IsWritten
+        (family_text (graph_described (described (L.parameters listed.old))) head
         (start_after (vectors_of (L.parameters listed.old)) (option_map (λ x. x.now) after.entry)))
         (change W.written W.has_failed out.old out.new) result }
     ensures head { IfErr result (λ f. f ≢ Fault.Write → IsLeftOrBegun (out.new ≡ out.old)
@@ -95,7 +96,8 @@ fn write_head_if<L: Listed, F: Family, W: Sink>(
 ) -> Result<(), Fault>
     requires members { F.members family.now ≡ vectors_of (L.parameters listed.now) }
     requires sound { W.has_failed out.old ≡ false }
-    ensures written { IsWritten (head_if asked (graph_described (described (L.parameters listed.now))))
+    ensures written { IsWritten
+        (head_if asked (graph_described (described (L.parameters listed.now))))
         (change W.written W.has_failed out.old out.new) result }
     ensures memory { IfErr result (λ f. f ≢ Fault.Write → out.new ≡ out.old) }
 {

@@ -32,7 +32,8 @@ pub(crate) fn list_resumed<L: Listed, F: Family, W: Sink>(
 ) -> Result<(), Fault>
     requires members { F.members family.now ≡ vectors_of (L.parameters listed.old) }
     requires sound { W.has_failed out.old ≡ false }
-    ensures { IsEnded (list_answer (graph_described (described (L.parameters listed.old))) resume.now)
+    ensures { IsEnded
+        (list_answer (graph_described (described (L.parameters listed.old))) resume.now)
         (out.new ≡ out.old) (change W.written W.has_failed out.old out.new) result }
 {
     let start = start_of(family, resume)?;

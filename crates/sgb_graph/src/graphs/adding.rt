@@ -45,6 +45,17 @@ impl Graph {
         self.m += 2;
         Ok(())
     }
+
+    /// Takes room for so many arc records more: one for each arc that is to come, two for each edge. The graph is as it was.
+    ///
+    /// `NoRoom` when out of memory, and nothing else.
+    pub fn reserve(&mut self, records: usize) -> Result<(), Panic>
+        ensures kept { self.new ≡ self.old }
+        ensures memory { IsOkUnless result Panic.NoRoom }
+    {
+        self.records.reserve(records)?;
+        Ok(())
+    }
 }
 
 // Puts a new record in front of the list of u.

@@ -96,8 +96,8 @@ fn mark_way(records: &Records, marks: &mut [bool], first: Option<usize>)
     requires ends { IsTrue (ends_of records.now.items first) }
     ensures long { length marks.new ≡ length marks.old }
     ensures ends { MarksEnd records.now.items marks.old → MarksEnd records.now.items marks.new }
-    ensures leads { MarksLead records.now.items marks.old → IsTrue (leads_of records.now.items first)
-        → MarksLead records.now.items marks.new }
+    ensures leads { MarksLead records.now.items marks.old
+        → IsTrue (leads_of records.now.items first) → MarksLead records.now.items marks.new }
     ensures first { IsTrue (is_marked marks.new first) }
     ensures on { MarksGoOn records.now.items marks.old → MarksGoOn records.now.items marks.new }
 {

@@ -1,6 +1,7 @@
-use Rattle.std.proofs.Common.{◌≡◌, ◌||◌, ◌∙◌, ◌++◌, ℕ, ℤ, List, [], ◌∷◌, Result, Ok, Err, refl, ap, sym, subst, w64, rules, arith, inr}
+use Rattle.std.proofs.Common.{◌≡◌, ◌||◌, ◌∙◌, ◌++◌, ℕ, ℤ, List, [], ◌∷◌, map, Result, Ok, Err, refl, ap, sym, subst, w64, rules, arith, inr}
 use Rattle.std.proofs.lemmas.Result.{err_from_is_err_and}
 use Rattle.std.proofs.lemmas.Int.{to_z-of_z}
+use Rattle.std.proofs.lemmas.List.{map-append}
 use Rattle.sgb_vec.specs.declared.panics.Panic.{Panic}
 use Rattle.sgb_graph.specs.Descriptions.{Description, IsAnswerOf}
 use Rattle.sgb_graph.specs.Graphs.{GraphData}
@@ -9,7 +10,7 @@ use Rattle.sgb_expr.specs.Expression.{entries_of, expression_of}
 use Rattle.sgb_expr.specs.StdinUses.{entries_have_stdin, has_stdin}
 use Rattle.sgb_expr.specs.declared.entries.EntryExpr.{EntryExpr}
 use Rattle.sgb_ops.specs.Induced.{induced_of}
-use Rattle.sgb_ops.specs.declared.entries.Entry.{Entry as Handed}
+use Rattle.sgb_ops.specs.declared.entries.Entry.{Entry}
 use Rattle.sgb_expr.specs.declared.expressions.Expr.{Expr}
 use Rattle.sgb_ops.specs.Complement.{complement_of}
 use Rattle.sgb_ops.specs.Gunion.{gunion_of}
@@ -19,9 +20,9 @@ use Rattle.sgb_ops.specs.Product.{product_graph_of}
 use Rattle.sgb_ops.specs.BiComplete.{bi_complete_of}
 use Rattle.sgb_ops.specs.Wheel.{wheel_of}
 use Rattle.sgb.specs.Values.{IsValue, both, made, value_of, values_of}
-use Rattle.sgb.specs.declared.evaluation.entries.EntryValue.{EntryValue}
+use Rattle.sgb.specs.inner.EntryValues.{handed_entry}
 use Rattle.sgb.specs.inner.Inputs.{left_after}
-use Rattle.sgb.proofs.EntryValues.{and_values, entries_handed, entries_refused, induced_reads, induced_size, induced_value, one_more}
+use Rattle.sgb.proofs.EntryValues.{and_values, entries_made, entries_refused, induced_reads, induced_size, induced_value, one_more}
 use Rattle.sgb.proofs.InputsLeft.{if_ok, left_on, value_on, values_on}
 use Rattle.sgb.proofs.Values.{both_refused, size_of_entries, value_both, value_made, value_then}
 use Rattle.sgb.proofs.evaluation.+graphs.Goals as goal
@@ -120,7 +121,7 @@ evaluate-returns-in_err-values-in-Induced-clause-value t c =
     let a = c.in-Induced in
     let p = err_from_is_err_and c.from_residual-in_err-values-in-Induced.result c.from_residual-in_err-values-in-Induced.ensures.1 in
     let same = values_on _ _ _ _ _ (entries_of (listed c.as_slice-entries.result.now)) c.more_in.ensures c.in_ok-operand-in-Induced.ensures.left in
-    let refused = subst (λ (v : Result (List EntryValue) Panic). IsValue v (Err c.in_err-values-in-Induced.field-0.0)) same c.in_err-values-in-Induced.ensures.refused in
+    let refused = subst (λ (v : Result (List Entry) Panic). IsValue v (Err c.in_err-values-in-Induced.field-0.0)) same c.in_err-values-in-Induced.ensures.refused in
     let by = subst (λ (es : List EntryExpr). IsValue (values_of c.args.input.now (entries_of (listed es))) (Err c.in_err-values-in-Induced.field-0.0)) c.as_slice-entries.ensures refused in
     rw (p.1, p.2)
     (subst (λ (v : Result GraphData Panic). IsValue v (Err c.in_err-values-in-Induced.field-0.0)) (sym (induced_value c.args.input.now c.args.expression.now a.graph a.entries a.self_loops a.multi a.directed a.is))
@@ -131,28 +132,28 @@ pub evaluate-returns-in_err-list-in-Induced-clause-value : goal.evaluate-returns
 evaluate-returns-in_err-list-in-Induced-clause-value t c =
     let a = c.in-Induced in
     let p = err_from_is_err_and c.from_residual-in_err-list-in-Induced.result c.from_residual-in_err-list-in-Induced.ensures.1 in
-    let values = c.in_ok-values-in-Induced.values.items in
+    let values = map handed_entry c.in_ok-values-in-Induced.values.items in
     let same = values_on _ _ _ _ _ (entries_of (listed c.as_slice-entries.result.now)) c.more_in.ensures c.in_ok-operand-in-Induced.ensures.left in
     let is = subst (λ (es : List EntryExpr). values_of c.args.input.now (entries_of (listed es)) ≡ Ok values) c.as_slice-entries.ensures (sym same ∙ c.in_ok-values-in-Induced.ensures.ok) in
     rw (p.1, p.2)
     (subst (λ (v : Result GraphData Panic). IsValue v (Err c.in_err-list-in-Induced.field-0.0)) (sym (induced_value c.args.input.now c.args.expression.now a.graph a.entries a.self_loops a.multi a.directed a.is))
-    (entries_handed _ _ c.in_ok-operand-in-Induced.operand values a.self_loops a.multi a.directed (Err c.in_err-list-in-Induced.field-0.0)
+    (entries_made _ _ c.in_ok-operand-in-Induced.operand values a.self_loops a.multi a.directed (Err c.in_err-list-in-Induced.field-0.0)
     (at_value c.args.input.now _ a.graph.value c.in_ok-operand-in-Induced.operand c.deref-in-Induced.ensures c.in_ok-operand-in-Induced.ensures.value) is
     (inr c.in_err-list-in-Induced.ensures.memory)))
 
 pub evaluate-returns-in_ok-list-in-Induced-clause-value : goal.evaluate-returns-in_ok-list-in-Induced-clause-value
 evaluate-returns-in_ok-list-in-Induced-clause-value t c =
     let a = c.in-Induced in
-    let values = c.in_ok-values-in-Induced.values.items in
+    let values = map handed_entry c.in_ok-values-in-Induced.values.items in
     let list = c.in_ok-list-in-Induced.list.items in
     let operand = c.in_ok-operand-in-Induced.operand in
     let same = values_on _ _ _ _ _ (entries_of (listed c.as_slice-entries.result.now)) c.more_in.ensures c.in_ok-operand-in-Induced.ensures.left in
     let is = subst (λ (es : List EntryExpr). values_of c.args.input.now (entries_of (listed es)) ≡ Ok values) c.as_slice-entries.ensures (sym same ∙ c.in_ok-values-in-Induced.ensures.ok) in
     let answer : IsAnswerOf (induced_of operand list a.self_loops a.multi a.directed) c.induced_from.result = c.induced_from.ensures.answer in
     subst (λ (v : Result GraphData Panic). IsValue v c.induced_from.result) (sym (induced_value c.args.input.now c.args.expression.now a.graph a.entries a.self_loops a.multi a.directed a.is))
-    (entries_handed _ _ operand values a.self_loops a.multi a.directed c.induced_from.result
+    (entries_made _ _ operand values a.self_loops a.multi a.directed c.induced_from.result
     (at_value c.args.input.now _ a.graph.value operand c.deref-in-Induced.ensures c.in_ok-operand-in-Induced.ensures.value) is
-    (subst (λ (es : List Handed). IsValue (made (induced_of operand es a.self_loops a.multi a.directed)) c.induced_from.result) c.in_ok-list-in-Induced.ensures.ok
+    (subst (λ (es : List Entry). IsValue (made (induced_of operand es a.self_loops a.multi a.directed)) c.induced_from.result) c.in_ok-list-in-Induced.ensures.ok
     (value_made (induced_of operand list a.self_loops a.multi a.directed) c.induced_from.result answer)))
 
 pub evaluate-returns-in_ok-list-in-Induced-clause-left : goal.evaluate-returns-in_ok-list-in-Induced-clause-left
@@ -185,12 +186,13 @@ pub values_of-loop-entry-preserved : goal.values_of-loop-entry-preserved
 values_of-loop-entry-preserved t c =
     let taken = c.in-Some.ensures.cases.0 in
     let others = entries_of (listed c.in-Some.others.now) in
-    let before = c.loop-entry.values.items in
-    let value = c.in_ok-value.value in
+    let before = map handed_entry c.loop-entry.values.items in
+    let value = handed_entry c.in_ok-value.value in
+    let put = ap (map handed_entry) c.in_ok-push.ensures.items ∙ map-append handed_entry c.loop-entry.values.items (c.in_ok-value.value ∷ []) in
     let left = c.in_ok-value.ensures.left in (
-      ap (λ (vs : List EntryValue). and_values vs (values_of c.value_of_entry.new.input others)) c.in_ok-push.ensures.items
+      ap (λ (es : List Entry). and_values es (values_of c.value_of_entry.new.input others)) put
           ∙ ap (and_values (before ++ value ∷ [])) (values_on c.args.more _ _ c.loop-entry.input _ others refl left)
-          ∙ one_more before value _ (values_of c.loop-entry.input others) c.in_ok-value.ensures.value
+          ∙ one_more before value _ (values_of c.loop-entry.input others) c.in_ok-value.ensures.ok
           ∙ ap (λ (es : List EntryExpr). and_values before (values_of c.loop-entry.input (entries_of (listed es)))) (sym taken)
           ∙ c.loop-entry.invariant.0,
       left_on c.args.more _ _ c.loop-entry.input _ (entries_have_stdin others) _ refl left refl

@@ -1,7 +1,8 @@
 use Rattle.std.proofs.Common.{◌≡◌, ◌<◌, ◌+◌, ◌∷◌, true, drop, get_or, ap, subst, arith}
 use Rattle.std.proofs.lemmas.List.{drop_more}
 use Rattle.sgb_graph.specs.Growth.{AddsEvents}
-use Rattle.sgb_graph.proofs.AddedEvents.{up_to-more}
+use Rattle.sgb_graph.specs.Graphs.{GraphData}
+use Rattle.sgb_graph.proofs.AddedEvents.{AddsUpTo, up_to-more, up_to-none}
 use Rattle.sgb_ops.specs.Lines.{events_to, line_events}
 use Rattle.sgb_ops.specs.inner.Lines.{no_line}
 use Rattle.sgb_ops.proofs.LineEvents.{events_from}
@@ -15,6 +16,11 @@ add_arcs_to-requires-clause-others c =
     let below : line.to < c.args.n = (c.requires.within c.loop-i.i no_line c.loop-i-test.true).1 in
     let end = ends_read c.args.n line.to lines c.in_ok-ends.ends.items c.index-in-loop-i.result.now (omega (arith, below)) c.in_ok-ends.ensures.size c.in_ok-ends.ensures.ends c.index-in-loop-i.ensures in
     omega (arith, end, few_from line.to lines, c.loop-i.invariant.added.rest.size, c.requires.size)
+
+pub loop-i-init : goal.loop-i-init
+loop-i-init c =
+    let all = line_events true c.args.lines.now in
+    subst (λ (g : GraphData). AddsUpTo true g c.reserve.new.self all all) c.reserve.ensures.kept (up_to-none true c.reserve.new.self all)
 
 pub loop-i-preserved : goal.loop-i-preserved
 loop-i-preserved c =

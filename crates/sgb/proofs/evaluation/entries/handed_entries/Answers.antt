@@ -1,7 +1,7 @@
 use Rattle.std.proofs.Common.{◌≡◌, ◌∙◌, ◌++◌, ◌∷◌, List, [], length, map, ap, sym, append_assoc, append-nil, arith}
 use Rattle.std.specs.Vec.Iter.{into_iter_items}
 use Rattle.sgb_ops.specs.declared.entries.Entry.{Entry}
-use Rattle.sgb.specs.Values.{handed_entry}
+use Rattle.sgb.specs.inner.EntryValues.{handed_entry}
 use Rattle.sgb.specs.declared.evaluation.entries.EntryValue.{EntryValue}
 use Rattle.sgb.proofs.EntryValues.{length_zero}
 use Rattle.sgb.proofs.evaluation.entries.handed_entries.Goals as goal
