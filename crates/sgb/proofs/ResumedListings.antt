@@ -1,8 +1,7 @@
 -- Where the answer to a request about a family begins.
-use Rattle.std.proofs.Common.{◌≡◌, ◌∙◌, ◌+◌, ◌<◌, ◌≤◌, min, ℕ, suc, List, Bool, true, false, length, map, drop, Option, Some, None, Result, option_map, inl, inr, refl, sym, ap, ap₂, subst, arith}
+use Rattle.std.proofs.Common.{◌≡◌, ◌∙◌, ◌+◌, ◌<◌, ◌≤◌, min, ℕ, suc, List, Bool, true, false, length, map, drop, Option, Some, None, Result, inl, inr, refl, sym, ap, ap₂, subst, arith}
 use Rattle.std.specs.Bool.{OnTrue, OnFalse}
 use Rattle.std.specs.List.{flat_map, slice_get}
-use Rattle.std.specs.Option.{IfSome}
 use Rattle.std.proofs.lemmas.Bool.{cases_lt}
 use Rattle.std.proofs.lemmas.List.{drop_all}
 use Rattle.sgb_vec.specs.Lexicographic.{IsRising}
@@ -22,11 +21,6 @@ use Rattle.sgb_requests.specs.declared.faults.Fault.{Fault}
 use Rattle.sgb_requests.specs.declared.requests.Resume.{Resume}
 use Rattle.sgb_requests.specs.declared.requests.Resume.TheVariants as resume
 use Rattle.sgb.proofs.LocalListings.{blocks_of_rest, contains_in_drop, first_in_drop, named_by_members}
-
--- what holds of the value of what there may be
-pub of_value : {A B : Type 0} (f : A → B) (P : B → Type 0) (o : Option A) (m : Option B) → option_map f o ≡ m → IfSome m P → IfSome o (λ x. P (f x))
-of_value f P None m e h = tt
-of_value f P (Some x) m e h = subst (λ p. IfSome p P) (sym e) h
 
 -- nothing is left out of a list by a number that is its length at least
 pub all_skipped : (members : List (List ℕ)) (count n : ℕ) → n ≡ length members → n ≤ count → drop count members ≡ drop n members

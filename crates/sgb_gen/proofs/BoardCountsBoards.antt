@@ -1,6 +1,6 @@
 -- The counts of a board, as the code finds them: by its sides, its lengths and its displacements.
 use lib.Signed.{lt_z}
-use Rattle.std.proofs.Common.{◌≡◌, ℕ, zero, suc, ◌+◌, ◌-◌, ◌*◌, ◌^◌, ◌<◌, ◌≤◌, min, ℤ, pos, negsuc, ◌*ℤ◌, nat_abs, to_z, of_z, w32, w64, SFits, Bool, true, false, ◌&&◌, cond, ltb, List, [], ◌∷◌, length, map, get_or, drop, Option, Some, None, refl, sym, ap, subst, ◌∙◌, inl, inr, arith, true≢false}
+use Rattle.std.proofs.Common.{◌≡◌, ℕ, zero, suc, ◌+◌, ◌-◌, ◌*◌, ◌^◌, ◌<◌, ◌≤◌, min, ℤ, pos, negsuc, ◌*ℤ◌, nat_abs, to_z, of_z, w32, w64, SFits, Bool, true, false, ◌&&◌, cond, ltb, List, [], ◌∷◌, length, map, get_or, drop, Option, Some, None, refl, sym, ap, subst, ◌∙◌, inl, inr, arith}
 use Rattle.std.specs.List.{All, filter, range_with_len}
 use Rattle.std.specs.Option.{is_some, SomeIff}
 use Rattle.std.proofs.lemmas.Bool.{cases_Bool, cases_lt, ltb-true}
@@ -120,13 +120,6 @@ counts-away sizes wrap piece t l e away =
 pub counts-home : (sizes : List ℕ) (wrap piece : ℤ) (t : List ℤ) (l : ℕ) → comes_home (sides_of sizes wrap) piece t l ≡ true → 0 ≡ starts_count (sides_of sizes wrap) piece (box sizes) t l
 counts-home sizes wrap piece t l home = sym (starts-home (sides_of sizes wrap) piece (box sizes) t l (all_below sizes wrap) home)
 
-pub counts-none : (sizes : List ℕ) (wrap piece : ℤ) (t : List ℤ) (l : ℕ) → length t ≡ length sizes → starts_product (sides_of sizes wrap) t l ≡ 0 → 0 ≡ starts_count (sides_of sizes wrap) piece (box sizes) t l
-counts-none sizes wrap piece t l e none =
-    elim (cases_Bool (comes_home (sides_of sizes wrap) piece t l)) [
-      | inl home ↦ counts-home sizes wrap piece t l home
-      | inr away ↦ sym none ∙ counts-away sizes wrap piece t l e away
-    ]
-
 passing-le : {X : Type 0} (p : X → Bool) (xs : List X) → passing p xs ≤ length xs
 passing-le p [] = omega arith
 passing-le p (x ∷ xs) =
@@ -207,11 +200,6 @@ starts_read sizes wrap t l k wraps u starts f g e h is =
     is ∙ ap (λ z. starts_on (record { size = get_or sizes k 0; wraps = wraps }) z) (step_read t l k u f g h)
     ∙ ap (λ b. starts_on (record { size = get_or sizes k 0; wraps = b }) (pos l *ℤ get_or t k (pos 0))) e
 
-pub home_read : (sizes : List ℕ) (wrap : ℤ) (t : List ℤ) (l k : ℕ) (wraps : Bool) (u : ℤ) (home : Bool) → SFits w64 u → SFits w32 (get_or t k (pos 0)) → wraps ≡ is_bit_set wrap k → u ≡ pos l *ℤ to_z w32 (of_z w32 (get_or t k (pos 0))) → home ≡ is_home_on (record { size = get_or sizes k 0; wraps = wraps }) (to_z w64 (of_z w64 u)) → home ≡ is_home_on (side_at sizes wrap k) (pos l *ℤ get_or t k (pos 0))
-home_read sizes wrap t l k wraps u home f g e h is =
-    is ∙ ap (λ z. is_home_on (record { size = get_or sizes k 0; wraps = wraps }) z) (step_read t l k u f g h)
-    ∙ ap (λ b. is_home_on (record { size = get_or sizes k 0; wraps = b }) (pos l *ℤ get_or t k (pos 0))) e
-
 -- as many as places are below the greatest number of 64 bits
 pub product-exact : (sizes : List ℕ) (wrap : ℤ) (t : List ℤ) (l starts : ℕ) → length t ≡ length sizes → product_of sizes ≤ most_vertices → starts ≡ min (starts_product (sides_of sizes wrap) t l) most_of_64 → starts ≡ starts_product (sides_of sizes wrap) t l
 product-exact sizes wrap t l starts e few is =
@@ -225,11 +213,6 @@ rider-home sides (pos p) t l f h =
     let below : ltb p 0 ≡ true = ap (λ z. lt_z z (pos 0)) (sym (to_z-of_z w64 (pos p) f)) ∙ h in
     absurd (omega (arith, ltb-true p 0 below))
 rider-home sides (negsuc p) t l f h = refl
-
-pub leaper-away : (sides : List Side) (piece : ℤ) (t : List ℤ) (l : ℕ) → SFits w64 piece → rides piece ≡ false → false ≡ comes_home sides piece t l
-leaper-away sides (pos p) t l f h = refl
-leaper-away sides (negsuc p) t l f h =
-    absurd (true≢false (ap (λ z. lt_z z (pos 0)) (sym (to_z-of_z w64 (negsuc p) f)) ∙ h))
 
 -- what does not fit in 128 bits
 pub great : (o : Option ℕ) (n : ℕ) → o ≡ None → SomeIff o (n < 2 ^ 128) n → 2 ^ 128 ≤ n

@@ -1,5 +1,5 @@
 -- The moves of a simplex counted: by pairs of places, as vectors of a smaller sum.
-use Rattle.std.proofs.Common.{◌≡◌, ℕ, ◌+◌, ◌-◌, ◌*◌, ◌<◌, ◌≤◌, ℤ, pos, negsuc, Bool, true, false, cond, ◌⊎◌, Result, Ok, Err, List, [], ◌∷◌, ◌++◌, length, map, get_or, sum, refl, sym, ap, subst, ◌∙◌, inl, inr, arith, length-append}
+use Rattle.std.proofs.Common.{◌≡◌, ℕ, ◌+◌, ◌-◌, ◌*◌, ◌<◌, ◌≤◌, ℤ, pos, Bool, true, false, cond, ◌⊎◌, Result, Ok, Err, List, [], ◌∷◌, ◌++◌, length, map, get_or, sum, refl, sym, ap, subst, ◌∙◌, inl, inr, arith, length-append}
 use Rattle.std.specs.List.{All, AllPairs, Contains, filter, flat_map}
 use Rattle.std.specs.Prelude.{nat_lt}
 use Rattle.std.proofs.lemmas.Bool.{and_from, cases_lt, le-ltb}
@@ -13,7 +13,7 @@ use Rattle.sgb_vec.specs.Lexicographic.{IsBefore}
 use Rattle.sgb_vec.specs.Sums.{BoundedSum, bounded_sums, count_of_sum, has_great_count, sum_of}
 use Rattle.sgb_vec.specs.Limits.{most_vertices}
 use Rattle.sgb_vec.specs.declared.panics.Panic.{Panic}
-use Rattle.sgb_vec.specs.declared.panics.Panic.TheVariants.{NoRoom, VeryBad}
+use Rattle.sgb_vec.specs.declared.panics.Panic.TheVariants.{NoRoom}
 use Rattle.sgb_vec.proofs.Lists.{AllPairs-follows, AllPairs-map, Contains-image, Contains-passing, filter-none, never_true}
 use Rattle.sgb_vec.proofs.SumMembers.{Contains-bounded_sums, IsWithin-length, bounded_sums-rise}
 use Rattle.sgb_gen.specs.VectorGraphs.{Move, event_among, family_graph}
@@ -219,15 +219,3 @@ size_lowered s at r family order some low high is (inr refused) = absurd (cc)
 pub room_alone : (r : Result BoundedSum Panic) (made : BoundedSum) (e : Panic) → r ≡ Err e → (r ≡ Ok made) ⊎ (r ≡ Err NoRoom) → e ≡ NoRoom
 room_alone r made e is (inl there) = absurd (cc)
 room_alone r made e is (inr refused) = cc
-
--- a sum that is accepted has no count that is too great
-pub none_great-accepted : (n : ℤ) (bounds : List ℕ) (s : BoundedSum) → sum_of n bounds ≡ Ok s → has_great_count s.total s.bounds ≡ false
-none_great-accepted (negsuc n) bounds s made = absurd (cc made)
-none_great-accepted (pos n) bounds s made = small_accepted (nat_lt most_vertices n) (has_great_count n bounds) n bounds s refl made
-  where
-    small_accepted : (great_sum great : Bool) (n : ℕ) (bounds : List ℕ) (s : BoundedSum) → has_great_count n bounds ≡ great → cond great_sum (Err VeryBad) (cond great (Err VeryBad) (Ok (record { total = n; bounds = bounds }))) ≡ Ok s → has_great_count s.total s.bounds ≡ false
-    small_accepted true great n bounds s is made = absurd (cc made)
-    small_accepted false true n bounds s is made = absurd (cc made)
-    small_accepted false false n bounds s is made =
-        let same : record { total = n; bounds = bounds } ≡ s = ok_same (record { total = n; bounds = bounds }) s made in
-        ap (λ f. has_great_count f.total f.bounds) (sym same) ∙ is

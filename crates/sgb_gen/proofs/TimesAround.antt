@@ -38,13 +38,6 @@ same_factor a b v some e =
       ]
     ]
 
-least_factor : (a b v : ℕ) → 0 < v → a * v ≤ b * v → a ≤ b
-least_factor a b v some e =
-    elim (cases_lt b a) [
-      | inl above ↦ absurd (omega (arith, e, some, mul-le (b + 1) v a v (omega arith) (omega arith)))
-      | inr below ↦ below
-    ]
-
 -- ---- one step of the search
 
 module _ (n v o : ℕ) (some : 0 < v) (below : v < n) (one : 0 < o) (few : o ≤ v) (inner : (q : ℕ) → eqb (q * (n % v) % v) 0 ≡ eqb (q % o) 0) where
@@ -55,10 +48,6 @@ module _ (n v o : ℕ) (some : 0 < v) (below : v < n) (one : 0 < o) (few : o ≤
       let left : o * (n % v) % v ≡ 0 = eqb-true (o * (n % v) % v) 0 (inner o ∙ eq-eqb (o % o) 0 own) in
       let times : o * n % v ≡ 0 = sym (mul-mod_second o n v) ∙ left in
       omega (arith, times, some)
-
-  pub times-small : o * n / v ≤ n
-  times-small =
-      least_factor (o * n / v) n v some (omega (arith, whole, mul-le o n v n few (omega arith)))
 
   pub times-some : 0 < o * n / v
   times-some =
@@ -158,13 +147,6 @@ pub around-home : (n steps r : ℕ) (t : ℤ) (i : ℕ) → 0 < n → eqb (i * (
 around-home n steps r t i some e =
     let size : nat_abs (pos (i * steps) *ℤ t) ≡ i * (steps * nat_abs t) = abs-times (i * steps) t ∙ omega arith in
     rem-none n (pos (i * steps) *ℤ t) some ∙ ap (λ m. eqb (m % n) 0) size ∙ ap (λ m. eqb m 0) (sym (mul-mod_second i (steps * nat_abs t) n)) ∙ e
-
--- on a side that a piece stays on where it is
-pub still-home : (m i : ℕ) (t : ℤ) → nat_abs t ≡ 0 → eqb (nat_abs (pos m *ℤ t)) 0 ≡ eqb (i % 1) 0
-still-home m i t still =
-    let none : nat_abs (pos m *ℤ t) ≡ 0 = abs-times m t ∙ ap (λ n. m * n) still ∙ omega arith in
-    let nothing : i % 1 ≡ 0 = omega arith in
-    ap (λ n. eqb n 0) none ∙ ap (λ n. eqb n 0) (sym nothing)
 
 -- a rider is away at each length before the least one at which it is home
 pub away-before : (home l : ℕ) → 0 < l → l ≤ home - 1 → eqb (l % home) 0 ≡ false

@@ -1,8 +1,8 @@
-use crate::cases::compare;
+use crate::cases::is_list;
 use sgb_gen::{Board, BoardParams, Links};
-use sgb_vec::{Family, Vectors};
+use sgb_graph::Graph;
+use sgb_vec::{Family, Panic, Vectors};
 use std::alloc::Global;
-use std::process::Abort;
 use std::test::Fail;
 
 // Parameters of boards whose lists are compared with those of the built graphs, each with both directions: leapers
@@ -35,30 +35,36 @@ fn lists_of_the_built_graph(rt: HostRuntime) -> Result<(), Fail> {
                 wrap,
                 directed,
             };
-            compare_all(&rt, rt.alloc(), &params)?;
+            assert!(rt; are_lists(rt.alloc(), &params)?);
         }
     }
     Ok(())
 }
 
-// All lists of this board, each by itself and as one of all of them.
-fn compare_all<A: Abort>(rt: &A, alloc: Global, params: &BoardParams) -> Result<(), Fail> {
+// Whether the lists of this board are those of the built graph, each by itself and as one of all of them.
+fn are_lists(alloc: Global, params: &BoardParams) -> Result<bool, Panic> {
     let graph = params.graph(alloc)?;
     let board = Board::from_params(params)?;
+    Ok(are_lists_of(alloc, &graph, &board))
+}
+
+fn are_lists_of(alloc: Global, graph: &Graph, board: &Board) -> bool {
     let mut links = Links::new(alloc);
     let mut v: u32 = 0;
     for x in Vectors::all(board.family()) {
-        assert!(rt; v < graph.n());
-        assert!(rt; board.family().holds(x.as_slice()));
-        board.arcs_at(x.as_slice(), &mut links)?;
-        compare(rt, alloc, &graph, v, &links)?;
+        if v >= graph.n() || !board.family().holds(x.as_slice()) {
+            return false;
+        }
+        if board.arcs_at(x.as_slice(), &mut links).is_err() || !is_list(graph, v, &links) {
+            return false;
+        }
         let mut lists = board.lists(&links);
-        lists.arcs_at(x.as_slice(), &mut links)?;
-        compare(rt, alloc, &graph, v, &links)?;
+        if lists.arcs_at(x.as_slice(), &mut links).is_err() || !is_list(graph, v, &links) {
+            return false;
+        }
         v += 1;
     }
-    assert!(rt; v == graph.n());
-    Ok(())
+    v == graph.n()
 }
 
 // 19 sides of two: the displacements of four units are too many for a table. From the least place they change four of the

@@ -1,30 +1,29 @@
-use sgb_gen::Links;
-use sgb_graph::Graph;
-use sgb_vec::name_of;
-use std::alloc::Global;
-use std::process::Abort;
-use std::test::Fail;
+use sgb_gen::{Links, LocalArcRef};
+use sgb_graph::{Graph, Link};
+use sgb_vec::vector_of;
 
-// Whether the links are the list of vertex `v` of the graph: the same lengths, to the vectors that the tips' names tell.
-pub(crate) fn compare<A: Abort>(
-    rt: &A,
-    alloc: Global,
-    graph: &Graph,
-    v: u32,
-    links: &Links,
-) -> Result<(), Fail> {
-    assert!(rt; v < graph.n());
+/// Whether the links are the list of vertex `v` of the graph: the same lengths, to the vectors that the tips' names tell.
+pub(crate) fn is_list(graph: &Graph, v: u32, links: &Links) -> bool {
+    if v >= graph.n() {
+        return false;
+    }
     let mut i: usize = 0;
     for link in graph.arcs(v) {
-        assert!(rt; i < links.len());
-        assert!(rt; link.tip < graph.n());
-        let found = links.get(i);
-        assert!(rt; i64::from(found.len) == link.len);
-        assert!(rt; found.tip.len() <= 251);
-        let name = name_of(alloc, found.tip)?;
-        assert!(rt; name.bytes() == graph.name(link.tip).bytes());
+        if i >= links.len() || !is_same(graph, link, links.get(i)) {
+            return false;
+        }
         i += 1;
     }
-    assert!(rt; i == links.len());
-    Ok(())
+    i == links.len()
+}
+
+// Whether the arc has this length, and leads to the vector that the name of the link's tip tells.
+fn is_same(graph: &Graph, link: Link, found: LocalArcRef<'_>) -> bool {
+    if link.tip >= graph.n() || link.len != i64::from(found.len) {
+        return false;
+    }
+    let Some(tip) = vector_of(graph.name(link.tip).bytes()) else {
+        return false;
+    };
+    tip.as_slice() == found.tip
 }

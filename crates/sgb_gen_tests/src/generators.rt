@@ -13,10 +13,10 @@ fn has_block(graph: &Graph, v: u32, name: &[u8], list: &[(u32, i64)]) -> bool {
     }
     let mut expected = list.iter();
     for link in graph.arcs(v) {
-        let same = expected
-            .next()
-            .is_some_and(|(tip, len)| link.tip == *tip && link.len == *len);
-        if !same {
+        let Some((tip, len)) = expected.next() else {
+            return false;
+        };
+        if link.tip != *tip || link.len != *len {
             return false;
         }
     }

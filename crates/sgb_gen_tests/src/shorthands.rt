@@ -46,7 +46,10 @@ fn subsets_that_are_disjoint(rt: HostRuntime) {
 
 // Whether there is a graph, with this id and so many vertices.
 fn is_graph(answer: Result<Graph, Panic>, id: &[u8], n: u32) -> bool {
-    answer.is_ok_and(|graph| graph.id().bytes() == id && graph.n() == n)
+    let Ok(graph) = answer else {
+        return false;
+    };
+    graph.id().bytes() == id && graph.n() == n
 }
 
 #[test]

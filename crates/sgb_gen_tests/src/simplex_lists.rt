@@ -1,8 +1,8 @@
-use crate::cases::compare;
+use crate::cases::is_list;
 use sgb_gen::{Links, Simplex, SimplexParams};
-use sgb_vec::{Family, Vectors};
+use sgb_graph::Graph;
+use sgb_vec::{Family, Panic, Vectors};
 use std::alloc::Global;
-use std::process::Abort;
 use std::test::Fail;
 
 // Parameters of simplexes whose lists are compared with those of the built graphs, each with both directions.
@@ -28,25 +28,30 @@ fn lists_of_the_built_graph(rt: HostRuntime) -> Result<(), Fail> {
                 n4,
                 directed,
             };
-            compare_all(&rt, rt.alloc(), &params)?;
+            assert!(rt; are_lists(rt.alloc(), &params)?);
         }
     }
     Ok(())
 }
 
-// All lists of this simplex.
-fn compare_all<A: Abort>(rt: &A, alloc: Global, params: &SimplexParams) -> Result<(), Fail> {
+// Whether the lists of this simplex are those of the built graph.
+fn are_lists(alloc: Global, params: &SimplexParams) -> Result<bool, Panic> {
     let graph = params.graph(alloc)?;
     let simplex = Simplex::from_params(alloc, params)?;
+    Ok(are_lists_of(alloc, &graph, &simplex))
+}
+
+fn are_lists_of(alloc: Global, graph: &Graph, simplex: &Simplex) -> bool {
     let mut links = Links::new(alloc);
     let mut v: u32 = 0;
     for x in Vectors::all(simplex.family()) {
-        assert!(rt; v < graph.n());
-        assert!(rt; simplex.family().holds(x.as_slice()));
-        simplex.arcs_at(x.as_slice(), &mut links)?;
-        compare(rt, alloc, &graph, v, &links)?;
+        if v >= graph.n() || !simplex.family().holds(x.as_slice()) {
+            return false;
+        }
+        if simplex.arcs_at(x.as_slice(), &mut links).is_err() || !is_list(graph, v, &links) {
+            return false;
+        }
         v += 1;
     }
-    assert!(rt; v == graph.n());
-    Ok(())
+    v == graph.n()
 }

@@ -1,8 +1,8 @@
-use crate::cases::compare;
+use crate::cases::is_list;
 use sgb_gen::{Links, Subsets, SubsetsParams};
-use sgb_vec::{Family, Vectors};
+use sgb_graph::Graph;
+use sgb_vec::{Family, Panic, Vectors};
 use std::alloc::Global;
-use std::process::Abort;
 use std::test::Fail;
 
 // Parameters of subsets whose lists are compared with those of the built graphs, each with both directions.
@@ -29,27 +29,32 @@ fn lists_of_the_built_graph(rt: HostRuntime) -> Result<(), Fail> {
                 size_bits,
                 directed,
             };
-            compare_all(&rt, rt.alloc(), &params)?;
+            assert!(rt; are_lists(rt.alloc(), &params)?);
         }
     }
     Ok(())
 }
 
-// All lists of these subsets.
-fn compare_all<A: Abort>(rt: &A, alloc: Global, params: &SubsetsParams) -> Result<(), Fail> {
+// Whether the lists of these subsets are those of the built graph.
+fn are_lists(alloc: Global, params: &SubsetsParams) -> Result<bool, Panic> {
     let graph = params.graph(alloc)?;
     let subsets = Subsets::from_params(alloc, params)?;
+    Ok(are_lists_of(alloc, &graph, &subsets))
+}
+
+fn are_lists_of(alloc: Global, graph: &Graph, subsets: &Subsets) -> bool {
     let mut links = Links::new(alloc);
     let mut v: u32 = 0;
     for x in Vectors::all(subsets.family()) {
-        assert!(rt; v < graph.n());
-        assert!(rt; subsets.family().holds(x.as_slice()));
-        subsets.arcs_at(x.as_slice(), &mut links)?;
-        compare(rt, alloc, &graph, v, &links)?;
+        if v >= graph.n() || !subsets.family().holds(x.as_slice()) {
+            return false;
+        }
+        if subsets.arcs_at(x.as_slice(), &mut links).is_err() || !is_list(graph, v, &links) {
+            return false;
+        }
         v += 1;
     }
-    assert!(rt; v == graph.n());
-    Ok(())
+    v == graph.n()
 }
 
 // One element of each kind: it has two in common with each other vector, and three with itself.

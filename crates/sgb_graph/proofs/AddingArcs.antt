@@ -1,11 +1,10 @@
 -- A graph with one arc more.
-use Rattle.std.proofs.Common.{◌≡◌, ◌+◌, ◌≤◌, ◌<◌, ℕ, zero, suc, ℤ, true, ◌&&◌, List, [], ◌∷◌, ◌++◌, length, get_or, Option, Some, refl, ap, sym, ◌∙◌, arith}
+use Rattle.std.proofs.Common.{◌≡◌, ◌+◌, ◌≤◌, ◌<◌, ℕ, zero, suc, ℤ, true, ◌&&◌, List, [], ◌∷◌, ◌++◌, length, Option, Some, refl, ap, sym, ◌∙◌, arith}
 use Rattle.std.specs.Prelude.{slice_get, nat_lt}
 use Rattle.std.specs.List.{list_all}
 use Rattle.std.specs.Option.{option_and_then}
 use Rattle.std.proofs.lemmas.Bool.{and_parts, and_from, lt-ltb}
 use Rattle.std.proofs.lemmas.List.{length-append}
-use Rattle.std.proofs.lemmas.Option.{slice_get_read}
 use Rattle.sgb_graph.specs.Graphs.{GraphData, chain_of, ends_of, ends_from, links_of}
 use Rattle.sgb_graph.specs.Sound.{arc_kinds, chain_fits, utils_fit, vertex_kinds}
 use Rattle.sgb_graph.specs.Growth.{IsKept, HasPlainArcs, AddsArc, KeepsAllButArcs, arc_record, at_place, first_arc, link}

@@ -4,7 +4,7 @@ use Rattle.std.specs.Prelude.{slice_get}
 use Rattle.std.specs.List.{list_all}
 use Rattle.std.proofs.lemmas.Bool.{and_from, lt-ltb, eq-eqb, ne_eqb, cases_eq}
 use Rattle.std.proofs.lemmas.List.{length-append}
-use Rattle.sgb_graph.specs.Graphs.{GraphData, chain_of, ends_of, ends_from}
+use Rattle.sgb_graph.specs.Graphs.{GraphData, chain_of, ends_of}
 use Rattle.sgb_graph.specs.Sound.{chain_fits}
 use Rattle.sgb_graph.specs.Growth.{IsKept, HasPlainArcs, AddsEdge, KeepsAllButArcs, arc_record, after_lower, at_place, first_arc, link}
 use Rattle.sgb_graph.specs.inner.Growth.{with_arcs, with_ends}

@@ -1,17 +1,16 @@
 -- A way that ends has no more steps than there are records: it meets no record twice.
-use Rattle.std.proofs.Common.{◌≡◌, ◌≤◌, ◌<◌, ◌⊎◌, ℕ, zero, suc, Bool, true, false, List, [], ◌∷◌, length, Option, Some, None, refl, ap, sym, ◌∙◌, subst, inl, inr, arith}
+use Rattle.std.proofs.Common.{◌≡◌, ◌<◌, ◌⊎◌, ℕ, zero, suc, Bool, true, false, List, [], ◌∷◌, length, Option, Some, None, refl, ap, sym, ◌∙◌, subst, inl, inr, arith}
 use Rattle.std.specs.Prelude.{slice_get, is_some}
 use Rattle.std.specs.List.{AllByRecursion, IsDistinct, list_any, list_all}
 use Rattle.std.proofs.Math.Dec.{eqb}
 use Rattle.std.proofs.lemmas.Bool.{and_parts, or_cases, or_parts, cases_Bool}
 use Rattle.std.proofs.lemmas.Bool.Decides.{eqb_tells}
-use Rattle.std.proofs.lemmas.List.{append-nil}
 use Rattle.std.proofs.lemmas.Option.{slice_get_within}
 use Rattle.std.proofs.lemmas.Map.Keys.{IsDistinct-cons}
 use Rattle.std.proofs.lemmas.Map.Steps.{length-le_from_distinct_below}
 use Rattle.sgb_graph.specs.Graphs.{numbers_from, ends_from, ends_of}
 use Rattle.sgb_graph.specs.declared.fields.ArcRec.{ArcRec}
-use Rattle.sgb_graph.proofs.Chains.{ends_after, ends_longer, ends_more, ends_none, ends_step, is_record, no_start, numbers_are_records, numbers_longer, numbers_more, numbers_none, numbers_step}
+use Rattle.sgb_graph.proofs.Chains.{ends_after, ends_longer, ends_none, ends_step, is_record, no_start, numbers_are_records, numbers_longer, numbers_none, numbers_step}
 
 -- numbers that are equal by their test
 equal_numbers : (k j : ℕ) → eqb k j ≡ true → k ≡ j

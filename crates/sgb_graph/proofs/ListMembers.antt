@@ -6,7 +6,7 @@ use Rattle.std.proofs.lemmas.List.Kept.{AllPairs-cons}
 use Rattle.std.proofs.lemmas.Option.{slice_get_within}
 use Rattle.std.proofs.lemmas.Bool.{cases_eq, cases_lt}
 use Rattle.std.proofs.lemmas.List.{length-append}
-use Rattle.std.proofs.lemmas.List.Elements.{All-append, All-head, All-tail, Contains-get_or, filter-append, Contains-append_left, Contains-append_right, Contains-append_cases}
+use Rattle.std.proofs.lemmas.List.Elements.{Contains-get_or, filter-append, Contains-append_left, Contains-append_right, Contains-append_cases}
 use Rattle.std.proofs.lemmas.List.Sums.{count_by-le-length, length-filter}
 use Rattle.sgb_vec.proofs.Lists.{AllPairs-append, Contains-cases, Contains-first, Contains-none, Contains-other}
 use Rattle.sgb_graph.specs.Events.{Event, Record, all_records, links_at, list_from, list_of, records_of}

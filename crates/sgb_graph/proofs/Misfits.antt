@@ -1,5 +1,5 @@
 -- Parts with vertices or records that can stand in no graph of their kinds.
-use Rattle.std.proofs.Common.{◌≡◌, ◌<◌, ◌+◌, ◌^◌, ◌&&◌, ◌++◌, ◌∙◌, Bool, true, false, List, [], ◌∷◌, length, refl, ap, sym, arith, append_assoc}
+use Rattle.std.proofs.Common.{◌≡◌, ◌<◌, ◌+◌, ◌^◌, ◌&&◌, ◌++◌, ◌∙◌, true, false, List, [], ◌∷◌, length, refl, ap, sym, arith}
 use Rattle.std.specs.Prelude.{◌==◌, not, Err}
 use Rattle.std.specs.List.{list_all}
 use Rattle.std.proofs.lemmas.Bool.{and_parts, eqb-true}
@@ -7,7 +7,7 @@ use Rattle.std.proofs.lemmas.List.{append-nil, length-append}
 use Rattle.std.proofs.lemmas.List.Folds.{list_all-append}
 use Rattle.sgb_vec.specs.declared.panics.Panic.TheVariants.{Syntax}
 use Rattle.sgb_graph.specs.Graphs.{GraphData}
-use Rattle.sgb_graph.specs.Parts.{checked, with_record, with_vertex}
+use Rattle.sgb_graph.specs.Parts.{checked, with_vertex}
 use Rattle.sgb_graph.specs.Sound.{IsGraph}
 use Rattle.sgb_graph.specs.inner.Fitting.{first_fails, most, record_may_fit, vertex_may_fit, with_more}
 use Rattle.sgb_graph.specs.declared.fields.ArcRec.{ArcRec}
@@ -15,16 +15,6 @@ use Rattle.sgb_graph.specs.declared.fields.Vertex.{Vertex}
 use Rattle.sgb_graph.proofs.CheckedParts.{other_is_refused}
 use Rattle.sgb_graph.proofs.Fitting.{record_fits_in, record_fits_in_more, vertex_fits_in, vertex_fits_in_more}
 use Rattle.sgb_graph.proofs.Growing.{parts_of}
-
--- one element more: the first fails still, or is the one that was put
-pub first_fails_more : {X : Type 0} (test : X → Bool) (xs : List X) (x : X) → first_fails test xs ≡ true → (length xs ≡ 0 → test x ≡ false) → first_fails test (xs ++ x ∷ []) ≡ true
-first_fails_more test [] x fails new = ap not (new refl)
-first_fails_more test (y ∷ xs) x fails new = fails
-
--- none fails where there is none
-pub none_fails : {X : Type 0} (test : X → Bool) (xs : List X) → length xs ≡ 0 → first_fails test xs ≡ true
-none_fails test [] e = refl
-none_fails test (x ∷ xs) e = absurd (omega (arith, e))
 
 -- there are none
 pub are_none : (vertices : List Vertex) (records : List ArcRec) → (length vertices == 0 && length records == 0) ≡ true → (length vertices ≡ 0) × (length records ≡ 0)
@@ -44,20 +34,6 @@ pub vertex_among : (vertices : List Vertex) (records : List ArcRec) (g : GraphDa
 vertex_among [] records g x e =
     ap (λ xs. record g { vertices = xs; records = g.records ++ records }) (append-nil (g.vertices ++ x ∷ []) ∙ ap (λ xs. xs ++ x ∷ []) (sym (append-nil g.vertices)))
 vertex_among (y ∷ vertices) records g x e = absurd (omega (arith, e))
-
--- one that stands beside
-pub vertex_beside : (vertices : List Vertex) (records : List ArcRec) (g : GraphData) (x : Vertex) → with_more (vertices ++ x ∷ []) records g ≡ with_vertex x (with_more vertices records g)
-vertex_beside vertices records g x = ap (λ xs. record g { vertices = xs; records = g.records ++ records }) (sym (append_assoc g.vertices vertices (x ∷ [])))
-
--- a record that is kept
-pub record_among : (vertices : List Vertex) (records : List ArcRec) (g : GraphData) (r : ArcRec) → length records ≡ 0 → with_more vertices records (with_record r g) ≡ with_record r (with_more vertices records g)
-record_among vertices [] g r e =
-    ap (λ rs. record g { vertices = g.vertices ++ vertices; records = rs }) (append-nil (g.records ++ r ∷ []) ∙ ap (λ rs. rs ++ r ∷ []) (sym (append-nil g.records)))
-record_among vertices (s ∷ records) g r e = absurd (omega (arith, e))
-
--- one that stands beside
-pub record_beside : (vertices : List Vertex) (records : List ArcRec) (g : GraphData) (r : ArcRec) → with_more vertices (records ++ r ∷ []) g ≡ with_record r (with_more vertices records g)
-record_beside vertices records g r = ap (λ rs. record g { vertices = g.vertices ++ vertices; records = rs }) (sym (append_assoc g.records records (r ∷ [])))
 
 -- no graph has a vertex that fails
 no_vertex : (g : GraphData) (vertices : List Vertex) (records : List ArcRec) → first_fails (vertex_may_fit g.kinds) vertices ≡ true → length g.vertices + length vertices < 2 ^ 64 → length g.records + length records < 2 ^ 64

@@ -1,5 +1,5 @@
 -- Integers in the utility fields x, y, z of vertices.
-use Rattle.std.proofs.Common.{◌≡◌, ◌<◌, ◌+◌, ℕ, Option, Some, None, slice_get, option_map, zero, suc, ℤ, pos, true, false, List, [], ◌∷◌, ◌++◌, length, get_or, set, take, drop, map, refl, ap, sym, ◌∙◌, arith}
+use Rattle.std.proofs.Common.{◌≡◌, ℕ, Option, Some, None, slice_get, option_map, zero, suc, ℤ, true, List, [], ◌∷◌, length, set, take, map, refl, ap, sym, ◌∙◌, arith}
 use Rattle.std.specs.Option.{option_map_or}
 use Rattle.std.proofs.lemmas.Bool.{and_parts, and_from}
 use Rattle.std.proofs.Math.Seq.{take-set-lt}
@@ -7,13 +7,13 @@ use Rattle.std.proofs.lemmas.List.{drop-set-lt, length-map}
 use Rattle.std.proofs.lemmas.Option.{slice_get-map}
 use Rattle.sgb_graph.specs.Graphs.{GraphData, chain_of, links_of}
 use Rattle.sgb_graph.specs.Sound.{arc_kinds, graph_kinds, vertex_kinds, chain_fits, util_fits, utils_fit}
-use Rattle.sgb_graph.specs.Growth.{HoldNumbers, IsKept, at_place, is_number, number_or_zero, put_numbers, some_numbers, with_ints, with_number_kinds, with_numbers, with_some_numbers}
+use Rattle.sgb_graph.specs.Growth.{HoldNumbers, IsKept, at_place, number_or_zero, put_numbers, some_numbers, with_ints, with_number_kinds, with_numbers, with_some_numbers}
 use Rattle.sgb_graph.specs.declared.fields.Kind.{Kind}
 use Rattle.sgb_graph.specs.declared.fields.Kind.TheVariants.{I}
 use Rattle.sgb_graph.specs.declared.fields.Util.{Util}
 use Rattle.sgb_graph.specs.declared.fields.Util.TheVariants.{Nothing, Int, Vertex as VertexField, Str, Chain}
 use Rattle.sgb_graph.specs.declared.fields.Vertex.{Vertex}
-use Rattle.sgb_graph.proofs.Lists.{at_place-is_set, length-at_place, list_all-at_place, list_all-mapped, list_all-weaker, map-at_place, map-at_place_made, map-map, map-stays}
+use Rattle.sgb_graph.proofs.Lists.{length-at_place, list_all-at_place, list_all-mapped, list_all-weaker, map-at_place, map-at_place_made, map-map}
 use Rattle.sgb_graph.proofs.Fitting.{vertex_fits_in, record_fits_in}
 use Rattle.sgb_graph.proofs.Chains.{lead_within}
 use Rattle.sgb_graph.proofs.Growing.{HasParts, parts_of, graph_from_parts}

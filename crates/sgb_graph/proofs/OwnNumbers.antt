@@ -1,5 +1,5 @@
 -- A number in the graph's own field uu.
-use Rattle.std.proofs.Common.{◌≡◌, ℕ, ℤ, true, ◌≤◌, List, [], ◌∷◌, length, set, take, drop, ap, ◌∙◌, arith}
+use Rattle.std.proofs.Common.{◌≡◌, ℕ, ℤ, true, List, [], ◌∷◌, length, set, take, drop, ap, ◌∙◌, arith}
 use Rattle.std.proofs.lemmas.Bool.{and_parts}
 use Rattle.std.proofs.lemmas.List.{drop-set-add, take-set-le}
 use Rattle.sgb_graph.specs.Graphs.{GraphData}

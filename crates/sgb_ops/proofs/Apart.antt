@@ -35,10 +35,6 @@ apart_by_sum directed e f other = elim (cases_Bool (has_ends_of directed e f)) [
   | inr apart ↦ apart
 ]
 
--- and so have events with different places
-apart_by_place : (directed : Bool) (e f : Event) → bit_place e ≢ bit_place f → apart directed e f
-apart_by_place directed e f other = apart_by_sum directed e f (λ same. other (ap (λ n. n % 16384) same))
-
 -- the bit at a place of a table, and the table with that bit
 abbrev bit_of : List ℕ → ℕ → ℕ
 bit_of seen p = bit_at (get_or seen (p / 64) 0) (p % 64)
@@ -85,7 +81,3 @@ so_far_more seen events e so unset =
           (All-cons (λ f. bit_of (with_bit seen p) (bit_place f) ≡ 1) e [] (bit_is_set seen p within) (All-nil (λ f. bit_of (with_bit seen p) (bit_place f) ≡ 1)));
       apart = all_pairs_push (λ f g. bit_place f ≢ bit_place g) events e so.apart (λ k d h same. unset (ap (bit_of seen) (sym same) ∙ so.set k d h));
     }
-
--- events with different bits have different ends
-pub ends_differ : (seen : List ℕ) (events : List Event) → SoFar seen events → HaveDifferentEnds events
-ends_differ seen events so directed = λ i j d h k. apart_by_place directed (get_or events i d) (get_or events j d) (so.apart i j d h k)

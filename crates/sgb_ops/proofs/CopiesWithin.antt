@@ -4,7 +4,7 @@ use Rattle.std.specs.Prelude.{All, slice_get}
 use Rattle.std.specs.List.{list_any, range_with_len, enumerate_from}
 use Rattle.std.specs.Option.{option_map_or}
 use Rattle.std.proofs.lemmas.List.{length-append, length-map}
-use Rattle.std.proofs.lemmas.List.Elements.{All-nil, All-append, All-map, All-filter, All-weaker}
+use Rattle.std.proofs.lemmas.List.Elements.{All-nil, All-map, All-filter, All-weaker}
 use Rattle.std.proofs.lemmas.List.FromFn.{length-range_with_len, length-enumerate_from, get_or-enumerate_from}
 use Rattle.std.proofs.lemmas.List.Sums.{sum_by-cons, sum_by-take-le}
 use Rattle.sgb_vec.proofs.Lists.{All-flat_map, range-within}
@@ -16,12 +16,12 @@ use Rattle.sgb_ops.specs.declared.entries.Entry.TheVariants as entry
 use Rattle.sgb_ops.specs.inner.Copies.{IsKeptEntry, copies_start, count_by}
 use Rattle.sgb_ops.specs.inner.Ends.{AllWithin}
 use Rattle.sgb_ops.specs.Entries.{copies_of, events_within, first_copy, inner_event, inner_events, inner_events_from, is_unnumbered, merged_count, merged_name, names_by_entries, names_of_copies, own_names, own_total, size_of_entry, total_of}
-use Rattle.sgb_ops.specs.Induced.{all_events, copies_met, event_between, events_between, events_of_arc, events_of_copies, events_of_copy, induced_events, is_met, is_wanted, wanted}
+use Rattle.sgb_ops.specs.Induced.{copies_met, event_between, events_between, events_of_arc, events_of_copies, events_of_copy, is_met}
 use Rattle.sgb_ops.specs.Operands.{order_of, places_of, names_of}
 use Rattle.sgb_ops.specs.Taken.{taken}
 use Rattle.sgb_ops.specs.Titles.{numbered_name, substituted_name}
 use Rattle.sgb_ops.proofs.EntryTotals.{copies_within, copies-range, total_at}
-use Rattle.sgb_ops.proofs.EventsWithin.{merged_unless_within, taken_tips, events_after_within}
+use Rattle.sgb_ops.proofs.EventsWithin.{taken_tips, events_after_within}
 
 -- as many names as vertices
 length-names_of_copies : (text : List ℕ) (e : Entry) → length (names_of_copies text e) ≡ size_of_entry e
@@ -104,10 +104,3 @@ module _ (entries : List Entry) (directed : Bool) (numbered : list_any is_unnumb
   events_inside kept =
       All-flat_map (IsWithin (total_of entries)) (λ p. inner_events directed (first_copy entries p.0) p.1) (enumerate_from 0 entries)
       (λ k d h. let p = get_or (enumerate_from 0 entries) k d in let fits = all_fit kept k d h in inner_within (first_copy entries p.0) p.1 fits.0 fits.1)
-
-  -- all events are between vertices of the result
-  pub induced_within : (g : GraphData) (self multi : Bool) → All IsKeptEntry entries → AllWithin (total_of entries) (induced_events g entries self multi directed)
-  induced_within g self multi kept =
-      merged_unless_within (total_of entries) multi directed (wanted self (all_events g entries directed))
-      (All-filter (is_wanted self) (IsWithin (total_of entries)) (all_events g entries directed)
-      (All-append (IsWithin (total_of entries)) (events_within entries directed) (events_between g entries directed) (events_inside kept) (between_within g)))

@@ -1,11 +1,9 @@
 -- Events whose ends have rising sums: no two of them have the same ends.
-use Rattle.std.proofs.Common.{◌<◌, ◌≤◌, ◌+◌, ℕ, List, [], ◌∷◌, ◌++◌, get_or, arith}
+use Rattle.std.proofs.Common.{◌<◌, ◌≤◌, ◌+◌, ℕ, List, [], ◌∷◌, ◌++◌, arith}
 use Rattle.std.specs.Prelude.{All, AllPairs}
 use Rattle.std.proofs.lemmas.List.Elements.{All-nil, All-cons, All-append}
 use Rattle.std.proofs.lemmas.List.Quantifiers.{all_pairs_push}
 use Rattle.sgb_graph.specs.Events.{Event}
-use Rattle.sgb_ops.specs.inner.Merged.{HaveDifferentEnds}
-use Rattle.sgb_ops.proofs.Apart.{apart_by_sum}
 
 -- the sums rise, and are below this one
 pub record RiseTo (least : ℕ) (events : List Event) : Type 0 where
@@ -20,6 +18,3 @@ rise_more least events e so after = record {
       (All-cons (λ f. f.from + f.to < e.from + e.to + 1) e [] (omega arith) (All-nil (λ f. f.from + f.to < e.from + e.to + 1)));
   rise = all_pairs_push (λ f g. f.from + f.to < g.from + g.to) events e so.rise (λ k d h. omega (arith, so.below k d h, after));
 }
-
-pub rising_differ : (least : ℕ) (events : List Event) → RiseTo least events → HaveDifferentEnds events
-rising_differ least events so directed = λ i j d h k. apart_by_sum directed (get_or events i d) (get_or events j d) (λ same. omega (arith, so.rise i j d h k, same))

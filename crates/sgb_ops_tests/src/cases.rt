@@ -89,10 +89,10 @@ fn has_block(graph: &Graph, block: Block) -> bool {
     }
     let mut expected = list.iter();
     for link in graph.arcs(v) {
-        let same = expected
-            .next()
-            .is_some_and(|(tip, len)| link.tip == *tip && link.len == *len);
-        if !same {
+        let Some((tip, len)) = expected.next() else {
+            return false;
+        };
+        if link.tip != *tip || link.len != *len {
             return false;
         }
     }

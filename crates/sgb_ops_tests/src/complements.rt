@@ -11,16 +11,10 @@ fn with_flags(alloc: Global, graph: &Graph, flags: [bool; 3]) -> Result<Graph, P
     complement(alloc, graph, copy, self_loops, directed)
 }
 
-// Whether the complement has this id, and what is known.
-fn is_complement(
-    alloc: Global,
-    operand: Operand,
-    flags: [bool; 3],
-    id: &str,
-    known: Known,
-) -> Result<bool, Panic> {
-    let graph = with_flags(alloc, &operand.graph(alloc)?, flags)?;
-    Ok(is_known(&graph, id, known))
+// The complement of this operand.
+fn complement_of(alloc: Global, operand: Operand, flags: [bool; 3]) -> Result<Graph, Panic> {
+    let graph = operand.graph(alloc)?;
+    with_flags(alloc, &graph, flags)
 }
 
 /// Operands with the flags copy, self_loops and directed, each with the id of the complement and what is known of it.
@@ -127,10 +121,8 @@ static COMPLEMENTS: [(Operand, [bool; 3], &str, Known); 10] = [
 fn complements_of_small_graphs(rt: HostRuntime) -> Result<(), Panic> {
     for row in &COMPLEMENTS {
         let (operand, flags, id, known) = *row;
-        assert!(rt;
-            is_complement(rt.alloc(), operand, flags, id, known)?,
-            "at {id}"
-        );
+        let graph = complement_of(rt.alloc(), operand, flags)?;
+        assert!(rt; is_known(&graph, id, known), "at {id}");
     }
     Ok(())
 }

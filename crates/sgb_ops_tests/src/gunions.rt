@@ -12,13 +12,11 @@ const ROOK: Operand = Operand::Board([3, 4, 0, 0, -1, 0], false);
 
 const BISHOP: Operand = Operand::Board([3, 4, 0, 0, -2, 0], false);
 
-// Whether the union of the row's operands has this id, and what is known.
-fn is_union(alloc: Global, row: Row) -> Result<bool, Panic> {
-    let (operands, flags, id, known) = row;
+// The union of these operands, with the flags multi and directed.
+fn union_of(alloc: Global, operands: [Operand; 2], flags: [bool; 2]) -> Result<Graph, Panic> {
     let (first, second) = two_graphs(alloc, operands)?;
     let [multi, directed] = flags;
-    let graph = gunion(alloc, &first, &second, multi, directed)?;
-    Ok(is_known(&graph, id, known))
+    gunion(alloc, &first, &second, multi, directed)
 }
 
 /// Unions of small graphs.
@@ -125,8 +123,9 @@ static UNIONS: [Row; 12] = [
 #[test]
 fn unions_of_small_graphs(rt: HostRuntime) -> Result<(), Panic> {
     for row in &UNIONS {
-        let id = row.2;
-        assert!(rt; is_union(rt.alloc(), *row)?, "at {id}");
+        let (operands, flags, id, known) = *row;
+        let graph = union_of(rt.alloc(), operands, flags)?;
+        assert!(rt; is_known(&graph, id, known), "at {id}");
     }
     Ok(())
 }

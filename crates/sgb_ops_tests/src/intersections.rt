@@ -1,4 +1,5 @@
 use crate::cases::{CYCLE, LOOP, Operand, RIDERS, Row, SQUARE, TRIANGLE, is_known, two_graphs};
+use sgb_graph::Graph;
 use sgb_ops::intersection;
 use sgb_vec::Panic;
 use std::alloc::Global;
@@ -6,13 +7,11 @@ use std::alloc::Global;
 // The complete graph of four vertices.
 const ALL: Operand = Operand::Board([4, 0, 0, 0, -1, 0], false);
 
-// Whether the intersection of the row's operands has this id, and what is known.
-fn is_intersection(alloc: Global, row: Row) -> Result<bool, Panic> {
-    let (operands, flags, id, known) = row;
+// The intersection of these operands, with the flags multi and directed.
+fn common_part(alloc: Global, operands: [Operand; 2], flags: [bool; 2]) -> Result<Graph, Panic> {
     let (first, second) = two_graphs(alloc, operands)?;
     let [multi, directed] = flags;
-    let graph = intersection(alloc, &first, &second, multi, directed)?;
-    Ok(is_known(&graph, id, known))
+    intersection(alloc, &first, &second, multi, directed)
 }
 
 /// Intersections of small graphs.
@@ -109,8 +108,9 @@ static INTERSECTIONS: [Row; 14] = [
 #[test]
 fn intersections_of_small_graphs(rt: HostRuntime) -> Result<(), Panic> {
     for row in &INTERSECTIONS {
-        let id = row.2;
-        assert!(rt; is_intersection(rt.alloc(), *row)?, "at {id}");
+        let (operands, flags, id, known) = *row;
+        let graph = common_part(rt.alloc(), operands, flags)?;
+        assert!(rt; is_known(&graph, id, known), "at {id}");
     }
     Ok(())
 }

@@ -1,5 +1,5 @@
 -- What the laws of the generators say of single cases: each fact comes from its law alone.
-use Rattle.std.specs.Prelude.{◌≡◌, ◌≤◌, ◌<◌, ◌+◌, ◌*◌, ◌&&◌, ℕ, ℤ, pos, negsuc, nat_abs, nat_lt, true, false, List, [], ◌∷◌, sum, sum_by, Some, Contains, refl}
+use Rattle.std.specs.Prelude.{◌≡◌, ◌<◌, ◌+◌, ◌*◌, ◌&&◌, ℕ, ℤ, pos, negsuc, nat_abs, nat_lt, true, false, List, [], ◌∷◌, sum, sum_by, Some, Contains, refl}
 use Rattle.std.proofs.Common.{arith, subst}
 use Rattle.std.proofs.lemmas.Bool.Decides.{nat_tests}
 use Rattle.sgb_vec.specs.Boxes.{box}

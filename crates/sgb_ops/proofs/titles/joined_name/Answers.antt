@@ -1,4 +1,4 @@
-use Rattle.std.proofs.Common.{◌≡◌, ◌++◌, ◌∙◌, take, sym, subst, ap}
+use Rattle.std.proofs.Common.{◌++◌, ◌∙◌, take, sym, subst, ap}
 use Rattle.sgb_vec.specs.Names.{IsText}
 use Rattle.sgb_ops.proofs.JoinedNames.{joined_is_text, unless_memory}
 use Rattle.sgb_ops.proofs.titles.joined_name.Goals as goal
