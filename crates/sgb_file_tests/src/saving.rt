@@ -69,12 +69,30 @@ fn two_joined(alloc: Global) -> Result<Graph, Panic> {
     Ok(graph)
 }
 
+// The graph of no vertices with this id.
+fn without_vertices(alloc: Global, id: &[u8]) -> Result<Graph, Panic> {
+    let id = Id::new(id)?;
+    let mut graph = Graph::new(alloc, Names::new(alloc))?;
+    graph.set_id(id);
+    Ok(graph)
+}
+
+// Whether the file of the graph begins with this text.
+fn begins(alloc: Global, graph: &Graph, text: &[u8]) -> bool {
+    let mut sink = MemSink::new(alloc);
+    write_gb(graph, &mut sink).is_ok() && sink.bytes().starts_with(text)
+}
+
+// Whether the file of the graph is this text.
+fn is_written(alloc: Global, graph: &Graph, text: &[u8]) -> bool {
+    let mut sink = MemSink::new(alloc);
+    write_gb(graph, &mut sink).is_ok() && sink.bytes() == text
+}
+
 #[test]
 fn a_board_of_one_cell_is_written(rt: HostRuntime) -> Result<(), Fail> {
     let graph = one_cell(rt.alloc())?;
-    let mut sink = MemSink::new(rt.alloc());
-    assert!(rt; write_gb(&graph, &mut sink) == Ok(()));
-    assert!(rt; sink.bytes() == ONE_CELL);
+    assert!(rt; is_written(rt.alloc(), &graph, ONE_CELL));
     Ok(())
 }
 
@@ -100,20 +118,14 @@ fn a_sink_that_fails_has_the_prefix(rt: HostRuntime) -> Result<(), Fail> {
 
 #[test]
 fn a_graph_of_no_vertices_is_written(rt: HostRuntime) -> Result<(), Fail> {
-    let mut graph = Graph::new(rt.alloc(), Names::new(rt.alloc()))?;
-    graph.set_id(Id::new(b"a")?);
-    let mut sink = MemSink::new(rt.alloc());
-    assert!(rt; write_gb(&graph, &mut sink) == Ok(()));
-    assert!(rt; sink.bytes() == NOTHING);
+    let graph = without_vertices(rt.alloc(), b"a")?;
+    assert!(rt; is_written(rt.alloc(), &graph, NOTHING));
     Ok(())
 }
 
 #[test]
 fn a_long_id_is_broken(rt: HostRuntime) -> Result<(), Fail> {
-    let mut graph = Graph::new(rt.alloc(), Names::new(rt.alloc()))?;
-    graph.set_id(Id::new(&[b'x'; 160])?);
-    let mut sink = MemSink::new(rt.alloc());
-    assert!(rt; write_gb(&graph, &mut sink) == Ok(()));
-    assert!(rt; sink.bytes().starts_with(LONG_ID));
+    let graph = without_vertices(rt.alloc(), &[b'x'; 160])?;
+    assert!(rt; begins(rt.alloc(), &graph, LONG_ID));
     Ok(())
 }

@@ -16,34 +16,50 @@ fn fields(first: Util) -> [Util; 6] {
     ]
 }
 
+// Parts of a graph with three arcs whose fields are not used.
+fn plain_parts(alloc: Global) -> Result<Parts, Panic> {
+    let id = Id::new(b"g")?;
+    Ok(Parts::new(alloc, id, 3, [Kind::Z; 14], fields(Util::Nothing)))
+}
+
+// Adds a vertex with this first arc, and this value in its first field.
+fn add_vertex(
+    parts: &mut Parts,
+    alloc: Global,
+    first: Option<usize>,
+    value: Util,
+) -> Result<(), Panic> {
+    let name = Text::new(alloc, b"x")?;
+    parts.add_vertex(Vertex {
+        name,
+        arcs: first,
+        util: fields(value),
+    })
+}
+
+// Adds a record with this tip and next one, and this value in its first field.
+fn add_record(parts: &mut Parts, tip: Ref, next: Option<usize>, value: Util) -> Result<(), Panic> {
+    parts.add_arc(ArcRec {
+        tip,
+        next,
+        len: 1,
+        a: value,
+        b: Util::Nothing,
+    })
+}
+
 // The graph that has a vertex for each first arc here, and a record for each tip and next one.
 fn checked(
     alloc: Global,
     firsts: &[Option<usize>],
     records: &[(Ref, Option<usize>)],
 ) -> Result<Graph, Panic> {
-    let mut parts = Parts::new(
-        alloc,
-        Id::new(b"g")?,
-        3,
-        [Kind::Z; 14],
-        fields(Util::Nothing),
-    );
+    let mut parts = plain_parts(alloc)?;
     for first in firsts {
-        parts.add_vertex(Vertex {
-            name: Text::new(alloc, b"x")?,
-            arcs: *first,
-            util: fields(Util::Nothing),
-        })?;
+        add_vertex(&mut parts, alloc, *first, Util::Nothing)?;
     }
     for (tip, next) in records {
-        parts.add_arc(ArcRec {
-            tip: *tip,
-            next: *next,
-            len: 1,
-            a: Util::Nothing,
-            b: Util::Nothing,
-        })?;
+        add_record(&mut parts, *tip, *next, Util::Nothing)?;
     }
     parts.check()
 }
@@ -107,12 +123,9 @@ fn chains_end_and_lists_lead_to_vertices(rt: HostRuntime) {
 fn with_field(alloc: Global, kind: Kind, value: Util) -> Result<Graph, Panic> {
     let mut kinds = [Kind::Z; 14];
     kinds[0] = kind;
-    let mut parts = Parts::new(alloc, Id::new(b"g")?, 0, kinds, fields(Util::Nothing));
-    parts.add_vertex(Vertex {
-        name: Text::new(alloc, b"x")?,
-        arcs: None,
-        util: fields(value),
-    })?;
+    let id = Id::new(b"g")?;
+    let mut parts = Parts::new(alloc, id, 0, kinds, fields(Util::Nothing));
+    add_vertex(&mut parts, alloc, None, value)?;
     parts.check()
 }
 
@@ -158,11 +171,7 @@ fn value_but_at(place: usize, here: usize) -> Util {
 fn refusal_of_vertex(alloc: Global, place: usize) -> Result<Option<Panic>, Panic> {
     let mut parts = parts_of_integers(alloc)?;
     for v in 0..3 {
-        parts.add_vertex(Vertex {
-            name: Text::new(alloc, b"x")?,
-            arcs: None,
-            util: fields(value_but_at(place, v)),
-        })?;
+        add_vertex(&mut parts, alloc, None, value_but_at(place, v))?;
     }
     Ok(parts.check().err())
 }
@@ -171,13 +180,7 @@ fn refusal_of_vertex(alloc: Global, place: usize) -> Result<Option<Panic>, Panic
 fn refusal_of_record(alloc: Global, place: usize) -> Result<Option<Panic>, Panic> {
     let mut parts = parts_of_integers(alloc)?;
     for k in 0..3 {
-        parts.add_arc(ArcRec {
-            tip: Ref::Null,
-            next: None,
-            len: 1,
-            a: value_but_at(place, k),
-            b: Util::Nothing,
-        })?;
+        add_record(&mut parts, Ref::Null, None, value_but_at(place, k))?;
     }
     Ok(parts.check().err())
 }

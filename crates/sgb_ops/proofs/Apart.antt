@@ -1,8 +1,8 @@
 -- Events of which no two have the same ends, and a table of bits that tells so.
-use Rattle.std.proofs.Common.{◌≡◌, ◌≢◌, ◌<◌, ◌+◌, ◌*◌, ◌/◌, ◌%◌, ◌^◌, ℕ, suc, Bool, true, false, List, [], ◌∷◌, ◌++◌, length, get_or, set, bit_or, w64, refl, sym, ap, ◌∙◌, inl, inr, arith, length-set, get_or-set_same, get_or-set_other}
+use Rattle.std.proofs.Common.{◌≡◌, ◌≢◌, ◌<◌, ◌*◌, ◌/◌, ◌%◌, ◌^◌, ℕ, suc, Bool, true, false, List, [], ◌∷◌, ◌++◌, length, get_or, set, bit_or, w64, refl, sym, ap, ◌∙◌, inl, inr, arith, length-set, get_or-set_same, get_or-set_other}
 use Rattle.std.specs.Prelude.{All, AllPairs}
 use Rattle.std.specs.Int.{bit_at}
-use Rattle.std.proofs.lemmas.Bool.{cases_eq, cases_Bool}
+use Rattle.std.proofs.lemmas.Bool.{cases_eq}
 use Rattle.std.proofs.lemmas.List.Elements.{All-nil, All-cons, All-append}
 use Rattle.std.proofs.lemmas.List.Quantifiers.{all_pairs_push}
 use Rattle.std.proofs.lemmas.Nat.Bits.{bit_at_set_same, bit_at_set_other}
@@ -11,7 +11,6 @@ use Rattle.sgb_graph.specs.Events.{Event}
 use Rattle.sgb_ops.specs.inner.Ends.{bit_place}
 use Rattle.sgb_ops.specs.Merged.{has_ends_of, merged, merged_unless}
 use Rattle.sgb_ops.specs.inner.Merged.{HaveDifferentEnds}
-use Rattle.sgb_ops.proofs.Ends.{same_sums}
 use Rattle.sgb_ops.proofs.Merging.{apart}
 use Rattle.sgb_ops.proofs.MergedParts.{all_stay}
 
@@ -27,13 +26,6 @@ merged_same directed (e ∷ events) pairs =
 pub merged_unless_same : (multi directed : Bool) (events : List Event) → HaveDifferentEnds events → merged_unless multi directed events ≡ events
 merged_unless_same true directed events different = refl
 merged_unless_same false directed events different = merged_same directed events (different directed)
-
--- events whose ends have different sums have different ends
-pub apart_by_sum : (directed : Bool) (e f : Event) → e.from + e.to ≢ f.from + f.to → apart directed e f
-apart_by_sum directed e f other = elim (cases_Bool (has_ends_of directed e f)) [
-  | inl same ↦ absurd (other (same_sums directed e f same))
-  | inr apart ↦ apart
-]
 
 -- the bit at a place of a table, and the table with that bit
 abbrev bit_of : List ℕ → ℕ → ℕ

@@ -95,11 +95,3 @@ key_tells false e f =
     by_way : SameWay e f ⊎ OtherWay false e f → (min f.from f.to ≡ min e.from e.to) × (max f.from f.to ≡ max e.from e.to)
     by_way (inl w) = keys_of_ways e f (inl (w.from, w.to))
     by_way (inr w) = keys_of_ways e f (inr (w.from, w.to))
-
--- and so are the sums of their ends
-pub same_sums : (directed : Bool) (e f : Event) → has_ends_of directed e f ≡ true → e.from + e.to ≡ f.from + f.to
-same_sums directed e f h = by_way (ends directed e f h)
-  where
-    by_way : SameWay e f ⊎ OtherWay directed e f → e.from + e.to ≡ f.from + f.to
-    by_way (inl w) = omega (arith, w.from, w.to)
-    by_way (inr w) = omega (arith, w.from, w.to)
