@@ -252,8 +252,8 @@ fn events_from_copy(
     u: u32,
 ) -> Result<Vec<Event>, Panic>
     requires { All (λ l. l.tip < length copies.now) arcs.now }
-    ensures ok { IfOk result (λ part. part.items
-        ≡ wanted flags.self_loops (flat_map (events_of_arc copies.now flags.directed v u) arcs.now)) }
+    ensures ok { IfOk result (λ part. part.items ≡ wanted flags.self_loops
+        (flat_map (events_of_arc copies.now flags.directed v u) arcs.now)) }
     ensures memory { IsOkUnless result Panic.NoRoom }
 {
     events.clear();
