@@ -1,35 +1,33 @@
-# make try        a quick look: one answer from the sources, nothing proved, about a minute
+# make try        a quick look: a request from the sources, nothing proved, about a minute: make try WORDS='list "petersen()"'
 # make            proves every crate, builds the programs, leaves them as ./sgb and ./sgb_levels
 # make demo       that, and three small graphs
 # make examples   tries the examples: DOT and edge lists of listings, Python, a listing in parts
 # make outside    checks the built program from outside: refused memory, failing devices, broken files, the tour
 # make calls      refuses memory to library calls: what stood before stands after, a minute or two
-# make check      the gate: all proofs from nothing, the must-fail edits, the tests, the program
-# make install    puts the program into $(PREFIX)/bin as sgb, and its manual page into $(PREFIX)/share/man
+# make check      the gate: all proofs from nothing, must-fail edits, the tests, the program
+# make edits      tries the must-fail edits that the gate leaves out, on a copy
+# make install    puts what is built into $(PREFIX)/bin, and its manual page into $(PREFIX)/share/man; it builds nothing
 # make uninstall  takes both away again
 # make clean      removes what was built, and with it what is kept of proofs
 
 PREFIX ?= /usr/local
+WORDS ?= names "board(2,3,0,0,1,0,0)"
 
 PROGRAM = crates/sgb_cli/out/sgb_cli
 
-# the crates, lowest first, but for those that hold tests alone
-CRATES = $(filter-out %_tests, $(shell sed -n 's/^\([a-z_]*\):.*/\1/p' crates.txt))
-
 all: sgb
 
-try:
-	@echo "Unproved: compiled from the sources as they stand, about a minute. make proves them."
-	cd crates/sgb_cli && rt try -- names "board(2,3,0,0,1,0,0)"
+toolchain:
+	@command -v rt > /dev/null || \
+	  { echo "make: there is no command rt on the path: the Rattle toolchain is needed (README.md)" >&2; exit 1; }
 
-sgb: FORCE
-	@echo "Proving the crates, lowest first: 12 to 30 minutes on a fresh machine, less where proofs are kept."
-	@for crate in $(CRATES); do \
-	  printf '  %-14s' $$crate; start=$$(date +%s); log=$$(mktemp); \
-	  if (cd crates/$$crate && rt check) > $$log 2>&1; \
-	  then echo "proved, $$(( $$(date +%s) - start )) s"; rm -f $$log; \
-	  else echo "failed"; cat $$log; rm -f $$log; exit 1; fi; \
-	done
+try: toolchain
+	@echo "Unproved: compiled from the sources as they stand, about a minute. make proves them." >&2
+	@cd crates/sgb_cli && rt try -- $(WORDS)
+
+sgb: toolchain FORCE
+	@echo "Proving the crates, lowest first: READMETIME on a fresh machine, less where proofs are kept."
+	@bench/prove.py sgb_cli sgb_levels
 	@echo "Building the programs"
 	@cd crates/sgb_cli && rt run -- names "board(1,0,0,0,1,0,0)" > /dev/null
 	@cd crates/sgb_levels && rt run -- "circuit(1)" > /dev/null
@@ -53,13 +51,17 @@ examples: sgb
 outside: sgb
 	bench/outside.py ./sgb
 
-calls:
+calls: toolchain
 	bench/calls.py
 
-check:
+check: toolchain
 	bash .ci/run
 
-install: sgb
+edits: toolchain
+	bench/edits.py
+
+install:
+	@[ -x $(PROGRAM) ] || { echo "make: nothing is built yet: make builds the program, make install installs it" >&2; exit 1; }
 	install -D $(PROGRAM) $(DESTDIR)$(PREFIX)/bin/sgb
 	install -D -m 644 man/sgb.1 $(DESTDIR)$(PREFIX)/share/man/man1/sgb.1
 
@@ -72,4 +74,4 @@ clean:
 
 FORCE:
 
-.PHONY: all try demo examples outside calls check install uninstall clean FORCE
+.PHONY: all toolchain try demo examples outside calls check edits install uninstall clean FORCE
