@@ -3,6 +3,8 @@
 # make demo       that, and three small graphs
 # make examples   tries the examples: DOT and edge lists of listings, Python, a listing in parts
 # make outside    checks the built program from outside: refused memory, failing devices, broken files, the tour
+# make conformance  holds the program against a table of graphs and refusals
+# make graphbase GRAPHBASE=FOLDER  holds it against the published library in FOLDER: gb_graph.h .. and libgb.a
 # make calls      refuses memory to library calls: what stood before stands after, a minute or two
 # make check      the gate: all proofs from nothing, the must-fail edits, the tests, the program
 # make install    puts the program into $(PREFIX)/bin as sgb, and its manual page into $(PREFIX)/share/man
@@ -53,6 +55,16 @@ examples: sgb
 outside: sgb
 	bench/outside.py ./sgb
 
+conformance: sgb
+	conformance/compare.py ./sgb
+
+graphbase: sgb
+	@test -n "$(GRAPHBASE)" || { echo "make graphbase GRAPHBASE=FOLDER, which has gb_graph.h and libgb.a" >&2; exit 2; }
+	mkdir -p conformance/out
+	$(CC) -std=gnu99 -O2 -Wall -Wextra -Werror -isystem $(GRAPHBASE) -o conformance/out/graphbase \
+	  conformance/graphbase.c -L $(GRAPHBASE) -lgb
+	conformance/graphbase.py ./sgb conformance/out/graphbase
+
 calls:
 	bench/calls.py
 
@@ -67,9 +79,9 @@ uninstall:
 	rm -f $(DESTDIR)$(PREFIX)/bin/sgb $(DESTDIR)$(PREFIX)/share/man/man1/sgb.1
 
 clean:
-	rm -rf crates/*/out
+	rm -rf crates/*/out conformance/out
 	rm -f sgb sgb_levels
 
 FORCE:
 
-.PHONY: all try demo examples outside calls check install uninstall clean FORCE
+.PHONY: all try demo examples outside conformance graphbase calls check install uninstall clean FORCE
