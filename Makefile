@@ -5,6 +5,7 @@
 # make outside    checks the built program from outside: refused memory, failing devices, broken files, the tour
 # make conformance  holds the program against a table of graphs and refusals
 # make graphbase GRAPHBASE=FOLDER  holds it against the published library in FOLDER: gb_graph.h .. and libgb.a
+# make gallery    makes the pictures of docs/gallery.md and compares them with those that are kept
 # make calls      refuses memory to library calls: what stood before stands after, a minute or two
 # make check      the gate: all proofs from nothing, the must-fail edits, the tests, the program
 # make install    puts the program into $(PREFIX)/bin as sgb, and its manual page into $(PREFIX)/share/man
@@ -65,6 +66,9 @@ graphbase: sgb
 	  conformance/graphbase.c -L $(GRAPHBASE) -lgb
 	conformance/graphbase.py ./sgb conformance/out/graphbase
 
+gallery: sgb
+	examples/gallery.sh ./sgb
+
 calls:
 	bench/calls.py
 
@@ -84,4 +88,4 @@ clean:
 
 FORCE:
 
-.PHONY: all try demo examples outside conformance graphbase calls check install uninstall clean FORCE
+.PHONY: all try demo examples outside conformance graphbase gallery calls check install uninstall clean FORCE

@@ -1,12 +1,49 @@
-"""Checks of what stands around the program, for bench/outside.py: the table of conformance/, and the commands of pages."""
+"""Checks of what stands around the program, for bench/outside.py: the table of conformance/, pictures, and pages."""
 
 import importlib.util
 import os
+import re
+import subprocess
 import sys
 
 TOP = os.path.dirname(os.path.dirname(os.path.abspath(__file__)))
 # how many rows the table has: graphs and refusals
 GRAPHS, REFUSALS = 134, 26
+
+# what examples/draw.awk draws: options, expression, how many lines and how many of them wrap around
+DRAWN = [
+    ("", "board(8,8,0,0,5,0,0)", 168, 0),
+    ("", "board(3,4,2,0,1,7,0)", 72, 8 + 6),
+    ("-v directed=1", "cycle(6)", 6, 1),
+    ("", "circuit(2)", 2, 0),
+    ("", "complete(6)", 15, 0),
+    ("-v on=circle", "complement(circuit(5),0,1,0)", 10, 0),
+    ("", "simplex(6,-2,0,0,0,0,0)", 63, 0),
+    ("", "simplex(4,-1,0,0,0,0,0)", 4, 0),
+    ("-v rim=5", "petersen()", 15, 0),
+    ("", "petersen()", 15, 0),
+    ("", "wheel(4,1,0)", 8, 0),
+    ("", "lines(board(3,3,0,0,1,0,0),0)", 22, 0),
+    ("", "lines(complete(4),0)", 12, 0),
+    ("", "product(circuit(3),petersen(),0,0)", 75, 0),
+    ("", "empty(3)", 0, 0),
+    ("", "simplex(5,2,2,0,0,0,0)", 0, 0),
+]
+# what it refuses: what comes before it in a pipe, its options, and its line
+NOT_DRAWN = [
+    ('sgb names "petersen()"', "", "line 1: no head of a whole listing"),
+    ('sgb list "petersen()" --skip 0', "", "line 1: no head of a whole listing"),
+    ('sgb list "petersen()" | head -3', "", "line 3: no head of a whole listing"),
+    (":", "", "line 0: no head of a whole listing"),
+    ('sgb list "petersen()" | head -20', "", "line 20: 4 vertices, and 10 in the head"),
+    ('sgb list "petersen()" | head -43', "", "line 43: 29 arcs, and 30 in the head"),
+    ('sgb list "lines(board(3,0,0,0,-1,1,0),0)"', "", "line 12: a name that came before: 1--2"),
+    ('sgb list "cycle(4)"', "", "line 12: not a graph of edges, which directed=1 draws: 0 and 1"),
+    ('sgb list "circuit(4)" | sed "s/-> 3/-> 7/"', "", "line 16: an arc to a name that no vertex has: 7"),
+    ('sgb list "petersen()"', "-v rim=4", "line 44: no cycle of 4 vertices through the first one"),
+    ('sgb list "complete(4)"', "-v rim=3 -v on=circle", None),
+    ('sgb list "petersen()"', "-v on=triangle", "line 44: names that are no vectors of one to three entries: on=circle draws them"),
+]
 
 
 def loaded(path):
@@ -33,7 +70,42 @@ def table(runs, tally):
             tally.check(difference is None, what, compare.shown(row.expression), difference or "")
 
 
-def all_checks(document):
-    """Each check with its name; `document` makes one of a page's commands."""
+def script(*words):
+    """A script of this tree: its status, output and errors."""
+    got = subprocess.run(words, cwd=TOP, stdin=subprocess.DEVNULL, capture_output=True)
+    return got.returncode, got.stdout, got.stderr
+
+
+def gallery(runs, tally):
+    """The pictures of the gallery are those that its commands make."""
+    tally.same("examples/gallery.sh", script("examples/gallery.sh", runs.program), (0, b"8 pictures\n", b""))
+
+
+def drawings(shell_of):
+    def checks(runs, tally):
+        """Each picture has its vertices and lines, and its places apart; a listing that is not whole has none."""
+        shell = shell_of(runs, "drawn")
+        for options, expression, lines, wrapped in DRAWN:
+            command = f'sgb list "{expression}" | awk {options} -f examples/draw.awk'
+            status, out, err = shell.run(command)
+            names = shell.run(f'sgb names "{expression}"')[1].count(b"\n")
+            spots = re.findall(rb'<circle cx="([-0-9.]+)" cy="([-0-9.]+)"', out)
+            seen = (status, err, len(spots), len(set(spots)), out.count(b'<path class="'), out.count(b'<path class="w"'))
+            tally.same(command, seen, (0, b"", names, names, lines, wrapped))
+        for before, options, line in NOT_DRAWN:
+            command = f"{before} | awk {options} -f examples/draw.awk"
+            if line is not None:
+                tally.same(command, shell.run(command), (1, b"", b"draw.awk: " + line.encode() + b"\n"))
+            else:
+                tally.check(shell.run(command)[0] == 0, command, "failed")
+
+    return checks
+
+
+def all_checks(document, shell_of):
+    """Each check with its name; `document` makes one of a page's commands, `shell_of` a folder in which they run."""
     yield "conformance table", table
     yield "document conformance/README.md", document("conformance/README.md", 3)
+    yield "document docs/gallery.md", document("docs/gallery.md", 8)
+    yield "gallery", gallery
+    yield "gallery drawings", drawings(shell_of)

@@ -619,7 +619,7 @@ def all_checks():
     yield "answers", answers
     yield "document README.md", document("README.md", 1)
     yield "document docs/TOUR.md", document("docs/TOUR.md", 20)
-    yield from conformance.all_checks(document)
+    yield from conformance.all_checks(document, Shell)
     yield "examples", examples
     yield "manual", manual
     yield "input left alone", unread
