@@ -1,7 +1,7 @@
 # make try        a quick look: one answer from the sources, nothing proved, about a minute
 # make            proves every crate, builds the programs, leaves them as ./sgb and ./sgb_levels
 # make demo       that, and three small graphs
-# make examples   tries the examples: DOT and edge lists of listings, Python, a listing in parts
+# make examples   tries the examples: DOT and edge lists of listings, Python, a listing in parts, the cookbook
 # make outside    checks the built program from outside: refused memory, failing devices, broken files, the tour
 # make conformance  holds the program against a table of graphs and refusals
 # make graphbase GRAPHBASE=FOLDER  holds it against the published library in FOLDER: gb_graph.h .. and libgb.a
@@ -51,6 +51,7 @@ examples: sgb
 	./sgb list "board(3,3,0,0,1,1,1)" | awk -v directed=1 -f examples/dot.awk | cmp - examples/cylinder.dot
 	./sgb list "board(3,3,0,0,1,1,1)" | awk -v directed=1 -f examples/edges.awk | cmp - examples/cylinder.tsv
 	python3 examples/sgb_graph_test.py
+	examples/cookbook_test.py ./sgb
 	examples/shards_test.sh
 
 outside: sgb

@@ -81,6 +81,17 @@ def gallery(runs, tally):
     tally.same("examples/gallery.sh", script("examples/gallery.sh", runs.program), (0, b"8 pictures\n", b""))
 
 
+def cookbook(runs, tally):
+    """Each row of the cookbook, with the numbers of its listing, and by networkx where that is installed."""
+    status, out, err = script("examples/cookbook_test.py", runs.program)
+    lines = out.decode().splitlines()
+    for line in lines:
+        if line.startswith("skipped"):
+            print(f"  {line}")
+    is_right = status == 0 and not err and lines and re.fullmatch("[0-9]+ rows, 0 failed", lines[-1])
+    tally.check(is_right, "examples/cookbook_test.py gave", (status, out, err))
+
+
 def drawings(shell_of):
     def checks(runs, tally):
         """Each picture has its vertices and lines, and its places apart; a listing that is not whole has none."""
@@ -107,5 +118,7 @@ def all_checks(document, shell_of):
     yield "conformance table", table
     yield "document conformance/README.md", document("conformance/README.md", 3)
     yield "document docs/gallery.md", document("docs/gallery.md", 8)
+    yield "document docs/COOKBOOK.md", document("docs/COOKBOOK.md", 15)
+    yield "cookbook", cookbook
     yield "gallery", gallery
     yield "gallery drawings", drawings(shell_of)
