@@ -1,8 +1,9 @@
-"""Checks of what stands around the program, for bench/outside.py: the table of conformance/, pictures, and pages."""
+"""Checks of what stands around the program, for bench/outside.py: the table of conformance/, pages, and scripts."""
 
 import importlib.util
 import os
 import re
+import shutil
 import subprocess
 import sys
 
@@ -92,6 +93,73 @@ def cookbook(runs, tally):
     tally.check(is_right, "examples/cookbook_test.py gave", (status, out, err))
 
 
+def bad_expressions(runs, tally):
+    """Each row of the table of bad expressions: the text is refused at its byte, and the right one is not refused."""
+    with open(os.path.join(TOP, "docs", "ERRORS.md"), encoding="utf-8") as file:
+        lines = file.read().split("\n")
+    begin = lines.index("| text | byte | what is wrong | right |") + 2
+    found = lines[begin:lines.index("", begin)]
+    tally.check(len(found) >= 25, "docs/ERRORS.md has only so many bad expressions:", len(found))
+    for line in found:
+        row = re.fullmatch(r"\| `([^`]+)` \| ([0-9]+) \| [^|`]*(?:`[^`|]+`[^|`]*)* \| `([^`]+)` \|", line)
+        if not row:
+            tally.check(False, "no row of a bad expression:", line)
+            continue
+        bad, byte, right = row.groups()
+        got = runs.run(("names", bad))
+        wanted = (2, b"", b"sgb: bad expression at byte %s\n" % byte.encode())
+        tally.same(("names", bad), (got.status, got.out, got.err), wanted)
+        got = runs.run(("names", right), runs.run(("save", "complete(2)")).out)
+        tally.check(got.status == 0 and got.out and not got.err, "names", right, "gave", (got.status, got.out, got.err))
+
+
+# texts for caret.sh, and the lines that it writes after that of sgb
+LONG = "complement(" * 9
+CARETS = [
+    (("list", "petersen("), ["petersen(", "         ^ more is wanted here"]),
+    (("names", ""), ["", "^ more is wanted here"]),
+    (("save", "petersen()\n"), ["petersen()?", "          ^ here"]),
+    (("list", "--skip", "3", "board(3\t,"), ["board(3?,", "       ^ here"]),
+    (("list", "--after=0", "é"), ["??", "^ here"]),
+    (("flip", "flip(1,2,3)", ), ["flip(1,2,3)", "          ^ here"]),
+    (("list", LONG + "x" + LONG), [".. " + (LONG + "x" + LONG)[60:138] + " ..", " " * 42 + "^ here"]),
+]
+
+
+def carets(runs, tally):
+    """The mark of caret.sh stands below the byte; what is no bad expression comes through as it is."""
+    environment = dict(os.environ, SGB=runs.program)
+
+    def script_of(words):
+        words = [os.path.join(TOP, "examples", "caret.sh"), *words]
+        got = subprocess.run(words, env=environment, stdin=subprocess.DEVNULL, capture_output=True)
+        return got.returncode, got.stdout, got.stderr.decode("utf-8")
+
+    for words, lines in CARETS:
+        line = runs.run(words).err.decode()
+        tally.check(line.startswith("sgb: bad expression at byte "), words, "was refused with", line)
+        tally.same(words, script_of(words), (2, b"", line + "".join(f"  {text}\n" for text in lines)))
+    for words in [("names", "circuit(3)"), ("names", "board(2,-251,0,0,1,0,0)"), ("show",), ()]:
+        got = runs.run(words)
+        tally.same(("caret.sh", *words), script_of(words), (got.status, got.out, got.err.decode()))
+
+
+def completion(runs, tally):
+    """The script that tries the completion; its forms are those of the manual page."""
+    with open(os.path.join(TOP, "completions", "sgb.bash"), encoding="utf-8") as file:
+        offered = re.findall(r"^    '([a-z_]+)[('].*$", file.read(), re.M)
+    with open(os.path.join(TOP, "man", "sgb.1"), encoding="utf-8") as file:
+        page = file.read().partition(".Sh EXPRESSIONS")[2].partition(".Ss ")[0]
+    forms = [name for line in re.findall("^\\.It Li (.*)$", page, re.M) for name in re.findall(r"([a-z_]+)(?:\(|$)", line)]
+    tally.same("the forms of completions/sgb.bash", sorted(offered), sorted(forms))
+    if not shutil.which("bash"):
+        print("  skipped, without bash: completions/sgb_test.bash")
+        return
+    status, out, err = script("bash", "completions/sgb_test.bash")
+    is_right = re.fullmatch(rb"[1-9][0-9]* passed, 0 failed\n", out)
+    tally.check(status == 0 and is_right and not err, "completions/sgb_test.bash gave", (status, out, err))
+
+
 def drawings(shell_of):
     def checks(runs, tally):
         """Each picture has its vertices and lines, and its places apart; a listing that is not whole has none."""
@@ -118,7 +186,11 @@ def all_checks(document, shell_of):
     yield "conformance table", table
     yield "document conformance/README.md", document("conformance/README.md", 3)
     yield "document docs/gallery.md", document("docs/gallery.md", 8)
-    yield "document docs/COOKBOOK.md", document("docs/COOKBOOK.md", 15)
+    yield "document docs/COOKBOOK.md", document("docs/COOKBOOK.md", 14)
     yield "cookbook", cookbook
+    yield "document docs/ERRORS.md", document("docs/ERRORS.md", 30)
+    yield "bad expressions", bad_expressions
+    yield "carets", carets
+    yield "completion", completion
     yield "gallery", gallery
     yield "gallery drawings", drawings(shell_of)
