@@ -1,8 +1,11 @@
 # make try        a quick look: a request from the sources, nothing proved, about a minute: make try WORDS='list "petersen()"'
 # make            proves every crate, builds the programs, leaves them as ./sgb and ./sgb_levels
 # make demo       that, and three small graphs
-# make examples   tries the examples: DOT and edge lists of listings, Python, a listing in parts
+# make examples   tries the examples: DOT and edge lists of listings, Python, a listing in parts, the cookbook
 # make outside    checks the built program from outside: refused memory, failing devices, broken files, the tour
+# make conformance  holds the program against a table of graphs and refusals
+# make graphbase GRAPHBASE=FOLDER  holds it against the published library in FOLDER: gb_graph.h .. and libgb.a
+# make gallery    makes the pictures of docs/gallery.md and compares them with those that are kept
 # make calls      refuses memory to library calls: what stood before stands after, a minute or two
 # make check      the gate: all proofs from nothing, must-fail edits, the tests, the program
 # make edits      tries the must-fail edits that the gate leaves out, on a copy
@@ -46,10 +49,24 @@ examples: sgb
 	./sgb list "board(3,3,0,0,1,1,1)" | awk -v directed=1 -f examples/dot.awk | cmp - examples/cylinder.dot
 	./sgb list "board(3,3,0,0,1,1,1)" | awk -v directed=1 -f examples/edges.awk | cmp - examples/cylinder.tsv
 	python3 examples/sgb_graph_test.py
+	examples/cookbook_test.py ./sgb
 	examples/shards_test.sh
 
 outside: sgb
 	bench/outside.py ./sgb
+
+conformance: sgb
+	conformance/compare.py ./sgb
+
+graphbase: sgb
+	@test -n "$(GRAPHBASE)" || { echo "make graphbase GRAPHBASE=FOLDER, which has gb_graph.h and libgb.a" >&2; exit 2; }
+	mkdir -p conformance/out
+	$(CC) -std=gnu99 -O2 -Wall -Wextra -Werror -isystem $(GRAPHBASE) -o conformance/out/graphbase \
+	  conformance/graphbase.c -L $(GRAPHBASE) -lgb
+	conformance/graphbase.py ./sgb conformance/out/graphbase
+
+gallery: sgb
+	examples/gallery.sh ./sgb
 
 calls: toolchain
 	bench/calls.py
@@ -69,9 +86,10 @@ uninstall:
 	rm -f $(DESTDIR)$(PREFIX)/bin/sgb $(DESTDIR)$(PREFIX)/share/man/man1/sgb.1
 
 clean:
-	rm -rf crates/*/out
+	rm -rf crates/*/out conformance/out
 	rm -f sgb sgb_levels
 
 FORCE:
 
-.PHONY: all toolchain try demo examples outside calls check edits install uninstall clean FORCE
+.PHONY: all toolchain try demo examples outside conformance graphbase gallery calls check edits install uninstall \
+  clean FORCE

@@ -27,6 +27,8 @@ import termios
 import time
 import tty
 
+import conformance
+
 TOP = os.path.dirname(os.path.dirname(os.path.abspath(__file__)))
 PROGRAM = os.path.abspath(sys.argv[1]) if len(sys.argv) > 1 else os.path.join(TOP, "sgb")
 SECONDS = int(os.environ.get("OUTSIDE_SECONDS", "60"))  # that one run may take
@@ -160,6 +162,7 @@ class Runs:
 
     def __init__(self, folder):
         self.folder = folder
+        self.program = PROGRAM
         self.library = Library(folder)
         self.files = {}
         signal.signal(signal.SIGALRM, too_long)
@@ -528,7 +531,8 @@ class Shell:
         os.mkdir(self.folder)
         os.symlink(PROGRAM, os.path.join(self.folder, "sgb"))
         os.symlink(os.path.join(TOP, "crates/sgb_levels/out/sgb_levels"), os.path.join(self.folder, "sgb_levels"))
-        os.symlink(os.path.join(TOP, "examples"), os.path.join(self.folder, "examples"))
+        for there in ("conformance", "examples"):
+            os.symlink(os.path.join(TOP, there), os.path.join(self.folder, there))
         self.environment = dict(os.environ, PATH=self.folder + os.pathsep + os.environ.get("PATH", os.defpath))
 
     def run(self, command):
@@ -549,7 +553,7 @@ class Shell:
 def document(path, wanted):
     def checks(runs, tally):
         """Each command gives what stands below it, as far as that goes."""
-        shell = Shell(runs, os.path.basename(path))
+        shell = Shell(runs, path.replace("/", "."))
         found = commands(os.path.join(TOP, path))
         tally.check(len(found) >= wanted, path, "has only so many commands:", len(found))
         # a listing that the tour compares its parts with
@@ -615,6 +619,7 @@ def all_checks():
     yield "answers", answers
     yield "document README.md", document("README.md", 1)
     yield "document docs/TOUR.md", document("docs/TOUR.md", 20)
+    yield from conformance.all_checks(document, Shell)
     yield "examples", examples
     yield "manual", manual
     yield "input left alone", unread
