@@ -556,8 +556,6 @@ def document(path, wanted):
         shell = Shell(runs, path.replace("/", "."))
         found = commands(os.path.join(TOP, path))
         tally.check(len(found) >= wanted, path, "has only so many commands:", len(found))
-        # a listing that the tour compares its parts with
-        shell.run('sgb list "board(30,30,0,0,1,0,0)" > whole.txt')
         for command, lines in found:
             name = re.fullmatch("cat ([a-z]+[.]gb)", command)
             if name and not os.path.exists(shell.file(name[1])):

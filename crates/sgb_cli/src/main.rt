@@ -5,7 +5,7 @@
 //! run by a stored run (`args`, `stdout`) and by a test, and not proved.
 #![tactic(auto)]
 
-// The library's public names.
+// Calls of the library, from outside.
 #[cfg(test)]
 mod tests;
 

@@ -1,4 +1,4 @@
-//! Each public name of the library once, from outside.
+//! Calls of the library `sgb`, from outside: each public name but `graph_of` and `read_input`, which a test of `sgb_tests` calls.
 use sgb::{
     Expr, Fault, Local, Request, input_unread_law, list_family, parse_expr, report, request, run,
     run_program, status,

@@ -4,6 +4,9 @@
 // devices over std's readers and writers
 #[cfg(test)]
 mod adapters;
+// the caller that the page for callers shows
+#[cfg(test)]
+mod caller;
 // sources and sinks
 #[cfg(test)]
 mod devices;

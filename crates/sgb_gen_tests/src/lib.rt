@@ -10,6 +10,9 @@ mod board_lists;
 // the number of arcs of boards with sides that wrap around and that do not
 #[cfg(test)]
 mod board_totals;
+// the caller that the page for callers shows
+#[cfg(test)]
+mod caller;
 // a list of links compared with a list of a graph
 #[cfg(test)]
 mod cases;

@@ -1,6 +1,9 @@
 //! Tests of the public calls of `sgb_graph`, in a crate of their own: so that crate is not proved once more for them.
 #![tactic(auto)]
 
+// the caller that the page for callers shows
+#[cfg(test)]
+mod caller;
 // ids made of others
 #[cfg(test)]
 mod compound_ids;

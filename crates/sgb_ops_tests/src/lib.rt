@@ -4,6 +4,9 @@
 // bi_complete
 #[cfg(test)]
 mod bipartite_graphs;
+// the caller that the page for callers shows
+#[cfg(test)]
+mod caller;
 // operands and known results
 #[cfg(test)]
 mod cases;

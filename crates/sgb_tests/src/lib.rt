@@ -2,6 +2,9 @@
 //! their own, so that `sgb` is not proved once more for them.
 #![tactic(auto)]
 
+// the caller that the page for callers shows
+#[cfg(test)]
+mod caller;
 // calls, and what they leave
 #[cfg(test)]
 mod calls;
@@ -14,6 +17,9 @@ mod devices;
 // how a call ends
 #[cfg(test)]
 mod endings;
+// the caller that the page of `sgb_expr` shows
+#[cfg(test)]
+mod expression_caller;
 // random numbers
 #[cfg(test)]
 mod flips;

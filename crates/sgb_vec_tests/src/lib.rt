@@ -4,6 +4,9 @@
 // boxes
 #[cfg(test)]
 mod boxes;
+// the caller that the page for callers shows
+#[cfg(test)]
+mod caller;
 // digits in a radix
 #[cfg(test)]
 mod digits;

@@ -1,0 +1,28 @@
+//! A caller of `sgb_gen`, as the page for callers shows it.
+use sgb_gen::{Board, Links, board};
+use sgb_vec::{Family, Panic, Vectors};
+use std::alloc::Global;
+use std::test::Fail;
+
+/// How many arcs a vertex of a board has at most, from its vectors alone: no graph is built.
+pub fn most_arcs(alloc: Global, board: &Board) -> Result<usize, Panic> {
+    let mut links = Links::new(alloc);
+    let mut most: usize = 0;
+    for x in Vectors::all(board.family()) {
+        // `arcs_at` wants a vector of the family
+        if board.family().holds(x.as_slice()) {
+            board.arcs_at(x.as_slice(), &mut links)?;
+            most = most.max(links.len());
+        }
+    }
+    Ok(most)
+}
+
+#[test]
+fn knights_have_eight_moves_at_most(rt: HostRuntime) -> Result<(), Fail> {
+    let knights = Board::new(8, 8, 0, 0, 5, 0, false)?;
+    assert!(rt; most_arcs(rt.alloc(), &knights)? == 8);
+    let built = board(rt.alloc(), 8, 8, 0, 0, 5, 0, false)?;
+    assert!(rt; built.n() == 64 && built.m() == 336);
+    Ok(())
+}
