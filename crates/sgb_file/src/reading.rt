@@ -1,4 +1,5 @@
 //! The graph of a `.gb` file (GB_SAVE, restore_graph).
+ghost use Rattle.std.specs.Prelude.{◌≡◌, Err};
 ghost use Rattle.sgb_file.specs.Reading.{IsReadOf};
 ghost use Rattle.sgb_file.specs.Restoring.{graph_of_text};
 
@@ -27,9 +28,11 @@ use std::alloc::Global;
 /// `Early` (10) where no first line stands in the file, or a line before it does not begin with `*`; then `Syntax` (20)
 /// where a record of the graph, of its vertices or of its arcs is not as it has to be; then `Late` (11) where no checksum
 /// line comes next, or the checksum is neither negative nor that of the lines; then `Syntax` (20) where a chain of records
-/// does not end, or an arc on a vertex's list leads to no vertex. `NoRoom` when out of memory.
+/// does not end, or an arc on a vertex's list leads to no vertex. `NoRoom` when out of memory; `Early` comes whatever
+/// memory there is.
 pub fn read_gb(alloc: Global, bytes: &[u8]) -> Result<Graph, Panic>
-    ensures { IsReadOf (graph_of_text bytes.now) result }
+    ensures read { IsReadOf (graph_of_text bytes.now) result }
+    ensures early { graph_of_text bytes.now ≡ Err Panic.Early → result ≡ Err Panic.Early }
 {
     let Some((head, mut lines)) = opening(bytes) else {
         return Err(Panic::Early);

@@ -1,6 +1,8 @@
 //! std's writers as sinks with a buffer before them, which is given up with the first fault.
-ghost use Rattle.std.specs.Prelude.{◌≡◌, [], true, false, is_err, IfOk, IfErr, OnOk};
-ghost use Rattle.std.specs.Io.Buffered.{writer_buffer, writer_inner};
+ghost use Rattle.std.specs.Prelude.{◌≡◌, ◌<◌, [], true, false, length, is_err, IfOk, IfErr, OnOk};
+ghost use Rattle.std.specs.Io.{WritesAtMost};
+ghost use Rattle.std.specs.Io.Buffered.{writer_buffer, writer_contents, writer_inner};
+ghost use Rattle.std.specs.Io.KnownBytes.{WriteAppends, Keeps};
 ghost use Rattle.std.specs.IoError.{error_kind};
 
 use super::parts::{keep_fault, write_once};
@@ -32,23 +34,36 @@ impl<W: Write + Drop> Buffered<W> {
 }
 
 impl<W: Write + Drop> Sink for Buffered<W> {
-    ghost use Rattle.std.specs.Io.Buffered.{writer_buffer, writer_contents};
-
     ghost written = { λ s. writer_contents W.contents s.writer };
 
     ghost held = { λ s. writer_buffer s.writer };
 
     ghost has_failed = { λ s. s.failed };
 
-    /// Puts bytes into the buffer, and writes what it holds where they do not fit. `Failed` where the sink had failed
-    /// or a write fails.
-    fn put(&mut self, bytes: &[u8]) -> Result<usize, Failed> {
+    /// Puts bytes into the buffer, and writes what it holds where they do not fit. `Failed` where the sink had failed,
+    /// and then buffer and writer are left alone, or where a write fails.
+    fn put(&mut self, bytes: &[u8]) -> Result<usize, Failed>
+        ensures bound { WritesAtMost result bytes.now }
+        ensures progress { IfOk result (λ count. 0 < length bytes.now → 0 < count) }
+        ensures took { WriteAppends (writer_contents W.contents self.old.writer)
+            (writer_contents W.contents self.new.writer) result bytes.now }
+        ensures failed { self.new.failed ≡ is_err result }
+        ensures stays_failed { self.old.failed ≡ true → self.new.failed ≡ true }
+        ensures left_alone { self.old.failed ≡ true → self.new ≡ self.old }
+    {
         write_once(&mut self.writer, &mut self.failed, bytes)
     }
 
-    /// Writes what the buffer holds and flushes the writer. `Failed` where the sink had failed, or one of the two
-    /// fails.
-    fn flush(&mut self) -> Result<(), Failed> {
+    /// Writes what the buffer holds and flushes the writer. `Failed` where the sink had failed, and then buffer and
+    /// writer are left alone, or where one of the two fails.
+    fn flush(&mut self) -> Result<(), Failed>
+        ensures kept { Keeps (writer_contents W.contents self.old.writer)
+            (writer_contents W.contents self.new.writer) }
+        ensures passed_on { OnOk result (writer_buffer self.new.writer ≡ []) }
+        ensures failed { self.new.failed ≡ is_err result }
+        ensures stays_failed { self.old.failed ≡ true → self.new.failed ≡ true }
+        ensures left_alone { self.old.failed ≡ true → self.new ≡ self.old }
+    {
         if self.failed {
             return Err(Failed);
         }
@@ -57,7 +72,9 @@ impl<W: Write + Drop> Sink for Buffered<W> {
     }
 
     /// Whether a write or a flush failed.
-    fn failed(&self) -> bool {
+    fn failed(&self) -> bool
+        ensures { result ≡ self.now.failed }
+    {
         self.failed
     }
 }
