@@ -38,7 +38,7 @@ NOT_DRAWN = [
     (":", "", "line 0: no head of a whole listing"),
     ('sgb list "petersen()" | head -20', "", "line 20: 4 vertices, and 10 in the head"),
     ('sgb list "petersen()" | head -43', "", "line 43: 29 arcs, and 30 in the head"),
-    ('sgb list "lines(board(3,0,0,0,-1,1,0),0)"', "", "line 12: a name that came before: 1--2"),
+    ('sgb list "lines(board(3,0,0,0,-1,1,0),0)"', "", "line 11: a name that came before: 1--2"),
     ('sgb list "cycle(4)"', "", "line 12: not a graph of edges, which directed=1 draws: 0 and 1"),
     ('sgb list "circuit(4)" | sed "s/-> 3/-> 7/"', "", "line 16: an arc to a name that no vertex has: 7"),
     ('sgb list "petersen()"', "-v rim=4", "line 44: no cycle of 4 vertices through the first one"),
@@ -122,7 +122,7 @@ CARETS = [
     (("list", "--skip", "3", "board(3\t,"), ["board(3?,", "       ^ here"]),
     (("list", "--after=0", "é"), ["??", "^ here"]),
     (("flip", "flip(1,2,3)", ), ["flip(1,2,3)", "          ^ here"]),
-    (("list", LONG + "x" + LONG), [".. " + (LONG + "x" + LONG)[60:138] + " ..", " " * 42 + "^ here"]),
+    (("list", LONG + "x" + LONG), [".. " + (LONG + "x" + LONG)[59:137] + " ..", " " * 43 + "^ here"]),
 ]
 
 

@@ -1,17 +1,18 @@
 #!/usr/bin/env python3
-"""Holds sgb and the published library of GraphBase against each other: conformance/graphbase.py SGB GRAPHBASE
+"""Holds sgb and the published library of GraphBase against each other: conformance/graphbase.py SGB GRAPHBASE [WORD ..]
 
     make graphbase GRAPHBASE=FOLDER
 
 SGB is the program, GRAPHBASE is graphbase.c compiled with the library. For each row of graphs.tsv both write names, list
 and save; each file that sgb saves is read by restore_graph, and each that save_graph writes is read by sgb. Then come a few
-expressions at the library's limits, and random numbers.
+expressions at the library's limits, and random numbers. With words, only those are held whose text has one of them.
 
 Two answers are the same, or a rule of README.md explains how they differ, or they are different. The last line counts the
 three; the status is 1 where something is different.
 """
 
 import collections
+import hashlib
 import os
 import re
 import sys
@@ -61,16 +62,26 @@ TEXTS = "texts that are no expression, which GraphBase does not read"
 
 
 class Programs:
-    """The two programs, with what they have answered for the row at hand."""
+    """The two programs. What they answered for the expression at hand is kept, so that none is asked twice."""
 
     def __init__(self, sgb, graphbase):
         self.sgb, self.graphbase = sgb, graphbase
+        self.kept = {}
+
+    def forget(self):
+        self.kept.clear()
+
+    def answer(self, program, words, given):
+        request = program, words, given
+        if request not in self.kept:
+            self.kept[request] = compare.run(program, *words, given=given)
+        return self.kept[request]
 
     def ours(self, *words, given=None):
-        return compare.run(self.sgb, *words, given=given)
+        return self.answer(self.sgb, words, given)
 
     def theirs(self, *words, given=None):
-        return compare.run(self.graphbase, *words, given=given)
+        return self.answer(self.graphbase, words, given)
 
 
 # ---------------------------------------------------------------------------------------------------------------------
@@ -330,48 +341,62 @@ def held_refusal(programs, row):
     return told(ours, theirs)
 
 
-def all_held(programs):
-    for row in compare.rows():
-        if isinstance(row, compare.Refusal):
-            yield row.expression, "refused", held_refusal(programs, row)
+def held_row(programs, row):
+    """Each comparison of a row, after one of sgb itself with the row."""
+    if isinstance(row, compare.Refusal):
+        yield "refused", held_refusal(programs, row)
+        return
+    for command in compare.COMMANDS:
+        if hashlib.sha256(programs.ours(command, row.expression).out).hexdigest() != row.sums[command]:
+            yield command, Different("sgb itself does not answer as the row says: make conformance")
+            return
+    yield from held_graph(programs, row.expression)
+
+
+def held_numbers(programs, text):
+    ours, theirs = programs.ours("flip", text), programs.theirs("flip", text)
+    is_same = ours == theirs and ours.status == 0 and bool(ours.out)
+    yield "flip", is_same or told(ours, theirs)
+
+
+def all_held(programs, words):
+    """Each comparison: of what, which, and its result."""
+    to_hold = [(row.expression, held_row, row) for row in compare.rows()]
+    to_hold += [(expression, held_graph, expression) for expression in BORDERS]
+    to_hold += [(text, held_numbers, text) for text in NUMBERS]
+    for text, held, what in to_hold:
+        if words and not any(word in text for word in words):
             continue
-        mistaken = [what for what, difference in compare.compared(programs.sgb, row) if difference]
-        if mistaken:
-            yield row.expression, "the row", Different("sgb itself does not answer as the row says: make conformance")
-            continue
-        for what, result in held_graph(programs, row.expression):
-            yield row.expression, what, result
-    for expression in BORDERS:
-        for what, result in held_graph(programs, expression):
-            yield expression, what, result
-    for text in NUMBERS:
-        ours, theirs = programs.ours("flip", text), programs.theirs("flip", text)
-        is_same = ours == theirs and ours.status == 0 and bool(ours.out)
-        yield text, "flip", is_same or told(ours, theirs)
+        programs.forget()
+        for name, result in held(programs, what):
+            yield text, name, result
 
 
 def main():
-    if len(sys.argv) != 3:
-        print("usage: graphbase.py SGB GRAPHBASE", file=sys.stderr)
+    if len(sys.argv) < 3:
+        print("usage: graphbase.py SGB GRAPHBASE [WORD ..]", file=sys.stderr)
         sys.exit(2)
-    paths = [os.path.abspath(path) for path in sys.argv[1:]]
+    paths = [os.path.abspath(path) for path in sys.argv[1:3]]
     for path in paths:
         if not os.access(path, os.X_OK):
             sys.exit(f"graphbase.py: no such program: {path}")
     programs = Programs(*paths)
-    same, rules, different = collections.Counter(), collections.Counter(), 0
-    for expression, what, result in all_held(programs):
+    same, rules, different = collections.Counter(), collections.defaultdict(list), 0
+    for expression, what, result in all_held(programs, sys.argv[3:]):
         if result is True:
             same[what] += 1
         elif isinstance(result, Different):
             different += 1
             print(f"different: {what} {compare.shown(expression)}: {result}")
         else:
-            rules[result] += 1
+            rules[result].append(f"{what} {compare.shown(expression)}")
     print("the same: " + ", ".join(f"{count} {what}" for what, count in same.items()))
-    for rule, count in sorted(rules.items()):
-        print(f"by rule: {count:3} {rule}")
-    print(f"{sum(same.values())} the same, {sum(rules.values())} different by rule, {different} different")
+    for rule, found in sorted(rules.items()):
+        print(f"by rule, {len(found)}: {rule}")
+        for one in found:
+            print(f"  {one}")
+    by_rule = sum(len(found) for found in rules.values())
+    print(f"{sum(same.values())} the same, {by_rule} different by rule, {different} different")
     sys.exit(1 if different else 0)
 
 
