@@ -66,6 +66,7 @@ def check_page(page):
     text = read(page)
     blocks = list(BLOCK.finditer(text))
     check(blocks, f"{page}: no caller")
+    check(len(re.findall(r"^```", text, re.M)) == 2 * len(blocks), f"{page}: a block that is no caller")
     line = LINE.findall(text)
     check(len(line) == 1, f"{page}: so many lines of crates.txt: {len(line)}")
     listed = set(" ".join(line).split())

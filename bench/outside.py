@@ -610,6 +610,22 @@ def manual(runs, tally):
     tally.check(got.returncode == 0 and not warnings, " ".join(linter), "gave", (got.returncode, warnings))
 
 
+def version(runs, tally):
+    """The change log, the README and the manual page are of one version."""
+    found = []
+    for path, line in [
+        ("CHANGELOG.md", r"^## ([0-9.]+)$"),
+        ("README.md", r"^Version ([0-9]+[.][0-9]+[.][0-9]+)\b"),
+        ("man/sgb.1", r"^[.]Os sgb ([0-9.]+)$"),
+        ("man/sgb.1", r"^This page is that of version ([0-9]+[.][0-9]+[.][0-9]+)[.]$"),
+    ]:
+        with open(os.path.join(TOP, path), encoding="utf-8") as file:
+            number = re.search(line, file.read(), re.M)
+        tally.check(number, path, "has no version")
+        found.append(number and number[1])
+    tally.check(len(set(found)) == 1, "versions of the change log, the README, the manual page twice:", repr(found))
+
+
 # ---------------------------------------------------------------------------------------------------------------------
 
 
@@ -620,6 +636,7 @@ def all_checks():
     yield from conformance.all_checks(document, Shell)
     yield "examples", examples
     yield "manual", manual
+    yield "version", version
     yield "input left alone", unread
     yield "input failing", no_input
     yield "input short", short_input

@@ -1,7 +1,7 @@
-/* What a plain program in C takes for three listings of bench/table.py, to compare with: the moves of rooks, of
-   bishops and of queens on a board of 80 by 80, where the queens' graph is the union of the other two. Its graphs are
-   made and kept as sgb's: a list of arc records for each vertex, two records with consecutive numbers for an edge. Parallel
-   edges are merged by a mark for each vertex. It writes what sgb writes, but for the head.
+/* What a plain program in C takes for three listings, to compare with: the moves of rooks, of bishops and of queens on a
+   board of 80 by 80, where the queens' graph is the union of the other two. bench/table.py has the first and the last. Its
+   graphs are made and kept as sgb's: a list of arc records for each vertex, two records with consecutive numbers for an
+   edge. Parallel edges are merged by a mark for each vertex. It writes what sgb writes, but for the head.
 
      cc -O2 -DLISTS=1 -o union bench/union.c
      time ./union rooks > /dev/null; time ./union bishops > /dev/null; time ./union queens > /dev/null

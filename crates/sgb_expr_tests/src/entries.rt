@@ -75,3 +75,13 @@ fn thirty_thousand_entries_are_read(rt: HostRuntime) -> Result<(), AllocError> {
     assert!(rt; has_entries(rt.alloc(), text.as_str(), 30_001));
     Ok(())
 }
+
+#[test]
+fn entries_are_those_of_their_list(rt: HostRuntime) -> Result<(), AllocError> {
+    let mut list = Vec::new(rt.alloc());
+    list.push(EntryExpr::Number(7))?;
+    let entries = Entries::new(list);
+    assert!(rt; entries.len() == 1 && !entries.is_empty());
+    assert!(rt; entries.as_slice() == [EntryExpr::Number(7)].as_slice());
+    Ok(())
+}

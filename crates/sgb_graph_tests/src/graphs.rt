@@ -233,6 +233,7 @@ fn has_own_number(graph: &Graph) -> bool {
         && graph.kinds()[8] == Kind::I
         && graph.kinds()[9..].iter().all(|kind| *kind == Kind::Z)
         && matches!(graph.graph_util(0), Util::Int(-5))
+        && holds(graph.graph_util(0).seen(), -5)
         && matches!(graph.graph_util(1), Util::Nothing)
 }
 

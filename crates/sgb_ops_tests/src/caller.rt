@@ -1,16 +1,15 @@
 //! A caller of `sgb_ops`, as the page for callers shows it.
 use sgb_gen::board;
 use sgb_graph::Graph;
-use sgb_ops::{Entry, gunion, induced};
+use sgb_ops::{Entry, complement, induced};
 use sgb_vec::Panic;
 use std::alloc::Global;
 use std::test::Fail;
 
-/// The moves of queens on a board: those of rooks, and those of bishops.
-pub fn queens(alloc: Global, rows: i64, columns: i64) -> Result<Graph, Panic> {
-    let rooks = board(alloc, rows, columns, 0, 0, -1, 0, false)?;
-    let bishops = board(alloc, rows, columns, 0, 0, -2, 0, false)?;
-    gunion(alloc, &rooks, &bishops, false, false)
+/// The places of a circle, joined where they are not neighbours.
+pub fn strangers(alloc: Global, places: i64) -> Result<Graph, Panic> {
+    let circle = board(alloc, places, 0, 0, 0, 1, 1, false)?;
+    complement(alloc, &circle, false, false, false)
 }
 
 /// Two vertices, each joined to each of three others: copies of the two ends of an edge.
@@ -22,7 +21,7 @@ pub fn two_and_three(alloc: Global) -> Result<Graph, Panic> {
 
 #[test]
 fn graphs_of_graphs(rt: HostRuntime) -> Result<(), Fail> {
-    assert!(rt; queens(rt.alloc(), 3, 4)?.m() == 92);
+    assert!(rt; strangers(rt.alloc(), 5)?.m() == 10);
     assert!(rt; two_and_three(rt.alloc())?.m() == 12);
     Ok(())
 }

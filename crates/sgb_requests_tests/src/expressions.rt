@@ -1,5 +1,6 @@
-use sgb_expr::{Expr, Generator};
+use sgb_expr::{Expr, FlipParams, Generator};
 use sgb_gen::complete;
+use sgb_requests::expressions::parse_flip;
 use sgb_requests::parse_expr;
 
 #[test]
@@ -7,5 +8,18 @@ fn the_expression_that_a_text_is(rt: HostRuntime) {
     assert_eq!(rt;
         parse_expr(rt.alloc(), b"complete(3)"),
         Ok(Expr::Generator(Generator::Board(complete(3))))
+    );
+}
+
+#[test]
+fn the_flip_that_a_text_is(rt: HostRuntime) {
+    assert_eq!(rt;
+        parse_flip(b"flip(-1,2,3,0)"),
+        Ok(FlipParams {
+            start: -1,
+            skip: 2,
+            count: 3,
+            m: 0,
+        })
     );
 }

@@ -224,3 +224,10 @@ fn members_at_places(rt: HostRuntime) -> Result<(), Fail> {
     assert!(rt; vector.as_slice() == [1, 1, 0].as_slice());
     Ok(())
 }
+
+#[test]
+fn a_sum_tells_what_its_vectors_add_to(rt: HostRuntime) -> Result<(), Fail> {
+    let family = SumFamily::new(rt.alloc(), 4, &[2, 3])?;
+    assert!(rt; family.total() == 4);
+    Ok(())
+}

@@ -1,6 +1,6 @@
 ghost use Rattle.std.specs.Prelude.{◌≤◌, length};
 
-use sgb_vec::{Panic, Text, name_of};
+use sgb_vec::{Panic, Text, is_text_byte, name_of};
 use std::alloc::Global;
 
 // Whether the vector's name is this text.
@@ -73,4 +73,12 @@ fn a_text_keeps_bytes_that_are_handed_over(rt: HostRuntime) {
 fn a_text_has_at_most_4095_bytes(rt: HostRuntime) {
     assert!(rt; is_accepted(rt.alloc(), &[b'a'; 4_095]));
     assert!(rt; is_refused(rt.alloc(), &[b'a'; 4_096]));
+}
+
+#[test]
+fn bytes_that_stand_in_no_text(rt: HostRuntime) {
+    assert!(rt; is_text_byte(32) && is_text_byte(126));
+    for byte in [31, 127, b'"', b'\\'] {
+        assert!(rt; !is_text_byte(byte));
+    }
 }
