@@ -15,7 +15,7 @@ use Rattle.sgb_graph.specs.Made.{no_fields}
 use Rattle.sgb_graph.proofs.AddedEvents.{adds-new, adds-new_fields, new_names, new_fields}
 use Rattle.sgb_graph.proofs.Lists.{map-map}
 use Rattle.sgb_graph.specs.Growth.{AddsEvents}
-use Rattle.sgb_gen.specs.VectorGraphs.{HasCoordinates}
+use Rattle.sgb_gen.specs.inner.VectorGraphs.{HasCoordinates}
 use Rattle.sgb_graph.specs.Graphs.{HasNoFields}
 use Rattle.sgb_gen.specs.VectorGraphs.{Move, event_among, family_graph}
 

@@ -1,12 +1,11 @@
 -- The graph of a family of vectors: what the graphs of board, simplex and subsets have in common [GB_BASIC].
-use Rattle.std.specs.Prelude.{◌≡◌, ℕ, ℤ, pos, Bool, List, [], ◌∷◌, ◌++◌, map, replicate, slice_index, codes, nat_eq}
+use Rattle.std.specs.Prelude.{ℕ, ℤ, pos, Bool, List, [], ◌∷◌, ◌++◌, map, replicate, slice_index, codes, nat_eq}
 use Rattle.std.specs.List.{position_or_len, join_with_byte}
 use Rattle.std.specs.Cmp.Lexicographic.{pointwise}
 use Rattle.std.specs.Fmt.{signed_decimal}
 use Rattle.sgb_vec.specs.Names.{name_of_vector}
 use Rattle.sgb_graph.specs.Events.{Event}
 use Rattle.sgb_graph.specs.Descriptions.{Description}
-use Rattle.sgb_graph.specs.Graphs.{GraphData, chain_of}
 use Rattle.sgb_graph.specs.declared.fields.Kind.{Kind}
 use Rattle.sgb_graph.specs.declared.fields.Kind.TheVariants.{Z, I}
 use Rattle.sgb_graph.specs.declared.fields.Util.{Util}
@@ -62,15 +61,3 @@ family_graph id directed vectors moves = record {
   names = map name_of_vector vectors;
   fields = map fields_of_vector vectors;
 }
-
--- the new graph is the old one with the coordinates of the vectors in the fields of its vertices
-pub record HasCoordinates (vectors : List (List ℕ)) (old new : GraphData) : Type 0 where
-  pub id : new.id ≡ old.id
-  pub count : new.m ≡ old.m
-  pub kinds : new.kinds ≡ kinds_of_family vectors
-  pub util : new.util ≡ old.util
-  pub records : new.records ≡ old.records
-  pub names : map (λ v. v.name) new.vertices ≡ map (λ v. v.name) old.vertices
-  pub fields : map (λ v. v.util) new.vertices ≡ map fields_of_vector vectors
-  pub firsts : map (λ v. v.arcs) new.vertices ≡ map (λ v. v.arcs) old.vertices
-  pub chains : (v : ℕ) → chain_of new v ≡ chain_of old v

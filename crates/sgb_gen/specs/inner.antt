@@ -30,3 +30,5 @@ pub mod BoardCounts
 pub mod SimplexCounts
 -- how many moves subsets have, vector by vector
 pub mod SubsetsCounts
+-- the coordinates of vectors, put into a graph
+pub mod VectorGraphs

@@ -2,7 +2,7 @@
 ghost use Rattle.std.specs.Prelude.{◌≡◌, pos, length, map, slice_index, IfOk, IsOkUnless};
 ghost use Rattle.sgb_vec.specs.Names.{name_of_vector};
 ghost use Rattle.sgb_graph.specs.Made.{no_kinds, no_fields};
-ghost use Rattle.sgb_gen.specs.VectorGraphs.{HasCoordinates};
+ghost use Rattle.sgb_gen.specs.inner.VectorGraphs.{HasCoordinates};
 
 use sgb_graph::{Graph, Names};
 use sgb_vec::{Family, Panic, Vectors, name_of};

@@ -142,12 +142,6 @@ with_numbers x y z v = record v { util = put_numbers x y z v.util }
 abbrev pub with_number_kinds : List Kind → List Kind
 with_number_kinds kinds = slice_set (slice_set (slice_set kinds 3 I) 4 I) 5 I
 
--- they hold integers already
-pub record HoldNumbers (kinds : List Kind) : Type 0 where
-  pub x : slice_set kinds 3 I ≡ kinds
-  pub y : slice_set kinds 4 I ≡ kinds
-  pub z : slice_set kinds 5 I ≡ kinds
-
 -- the graph with these numbers in the fields x, y, z of vertex v, and 0 in those of other vertices that have no
 -- number there
 abbrev pub with_ints : GraphData → ℕ → ℤ → ℤ → ℤ → GraphData

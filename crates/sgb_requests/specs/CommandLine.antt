@@ -1,9 +1,8 @@
 -- The command line by clap's meaning of it, and what its words ask for.
 use Rattle.std.specs.Prelude.{◌≡◌, ◌≢◌, ◌⊎◌, true, List, [], ◌∷◌, Option, Some, None, codes, option_map}
 use Rattle.clap.specs.Simple.{new_shape}
-use Rattle.clap.specs.Words.{App, Row, Rule, Shape, Text, fault_of, first_of, new_app, new_rule, subcommand_of, subcommand_rows_of, with_subcommand}
+use Rattle.clap.specs.Words.{App, Row, Rule, Shape, Text, fault_of, first_of, new_app, new_rule, subcommand_of, with_subcommand}
 use Rattle.clap.specs.declared.builder.action.ArgAction.TheVariants.{Set}
-use Rattle.clap.specs.declared.parser.matches.ArgMatches.{ArgMatches}
 
 -- `EXPR`, which is required
 abbrev pub expression_rule : Rule
@@ -80,8 +79,3 @@ IsRefusedByClap words = fault_of command_line words ≢ []
 -- clap refuses the words, or there is no command
 abbrev pub HasNoCommand : List Text → Type 0
 HasNoCommand words = IsRefusedByClap words ⊎ (asked_of words ≡ None)
-
--- clap takes the words, and these are its matches
-pub record IsTaken (words : List Text) (matches : ArgMatches) : Type 0 where
-  pub taken : fault_of command_line words ≡ []
-  pub entered : subcommand_rows_of matches ≡ subcommand_of command_line words

@@ -1,6 +1,11 @@
--- The faults of a request: the line that each prints on standard error, and its exit status.
+-- The faults of a request: what each comes from, the line that it prints on standard error, and its exit status.
 use Rattle.std.specs.Prelude.{ℕ, List, ◌++◌, codes, decimal}
+use Rattle.clap.specs.declared.error.kind.ErrorKind.{ErrorKind}
+use Rattle.clap.specs.declared.error.kind.ErrorKind.TheVariants.{OutOfMemory}
 use Rattle.sgb_vec.specs.Codes.{code_of}
+use Rattle.sgb_vec.specs.declared.panics.Panic.TheVariants.{NoRoom}
+use Rattle.sgb_expr.specs.declared.expressions.Unread.{Unread}
+use Rattle.sgb_expr.specs.declared.expressions.Unread.TheVariants as unread
 use Rattle.sgb_requests.specs.declared.faults.Fault.{Fault}
 use Rattle.sgb_requests.specs.declared.faults.Fault.TheVariants.{Usage, TooLarge, Expr, Panic, NoVertex, Read, Write}
 
@@ -27,3 +32,14 @@ line_of (Panic p) = codes "Something went wrong (panic code " ++ decimal (code_o
 line_of NoVertex = codes "sgb: no such vertex\n"
 line_of Read = codes "sgb: read fault\n"
 line_of Write = codes "sgb: write fault\n"
+
+-- the fault for an error of clap's of this kind
+abbrev pub fault_of_kind : ErrorKind → Fault
+fault_of_kind OutOfMemory = Panic NoRoom
+fault_of_kind _ = Usage
+
+-- the fault of a text that is not read
+abbrev pub fault_of_unread : Unread → Fault
+fault_of_unread unread.TooLarge = TooLarge
+fault_of_unread (unread.At k) = Expr k
+fault_of_unread unread.NoRoom = Panic NoRoom

@@ -3,7 +3,7 @@
 pub mod CommandLine
 -- the texts of counts
 pub mod Counts
--- the line and the exit status of each fault
+-- what each fault comes from, its line and its exit status
 pub mod Faults
 -- what reading an expression, or a flip, returns
 pub mod Reading

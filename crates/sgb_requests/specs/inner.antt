@@ -1,7 +1,5 @@
 -- What only the private contracts and the proofs of sgb_requests speak of.
 -- what the steps of reading a command line give
 pub mod CommandLine
--- the fault of a text that is not read
-pub mod Reading
 -- how values of the words are refused
 pub mod Requests

@@ -3,8 +3,8 @@ ghost use Rattle.std.specs.Prelude.{◌≡◌, IfOk, IsSome, MatchResult, Some, 
 ghost use Rattle.std.specs.String.{string_bytes};
 ghost use Rattle.clap.specs.Words.{HasKind, app_of, fault_of, first_of, found_of, rows_of, rule_of, shape_of};
 ghost use Rattle.clap.specs.declared.builder.command.Command.TheViews.{out-Command};
-ghost use Rattle.sgb_requests.specs.CommandLine.{IsTaken, command_line};
-ghost use Rattle.sgb_requests.specs.inner.CommandLine.{Gives, EntersSubcommand, IsRefusedAtOnce};
+ghost use Rattle.sgb_requests.specs.CommandLine.{command_line};
+ghost use Rattle.sgb_requests.specs.inner.CommandLine.{Gives, EntersSubcommand, IsRefusedAtOnce, IsTaken};
 ghost use Rattle.sgb_requests.specs.CommandLine.{alone_shape, expression_rule, option_rule, output_command_line, output_shape};
 
 use crate::faults::Fault;
@@ -39,7 +39,7 @@ pub(crate) enum Subcommand<'a> {
 impl From<Error> for Fault {
     ghost use Rattle.std.specs.Prelude.{◌≡◌};
     ghost use Rattle.clap.specs.Words.{kind_of};
-    ghost use Rattle.sgb_requests.specs.inner.CommandLine.{fault_of_kind};
+    ghost use Rattle.sgb_requests.specs.Faults.{fault_of_kind};
 
     ghost from_gives = { λ error fault. fault ≡ fault_of_kind (kind_of error) };
 

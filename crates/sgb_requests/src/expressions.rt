@@ -13,7 +13,7 @@ use std::alloc::Global;
 
 impl From<Unread> for Fault {
     ghost use Rattle.std.specs.Prelude.{◌≡◌};
-    ghost use Rattle.sgb_requests.specs.inner.Reading.{fault_of_unread};
+    ghost use Rattle.sgb_requests.specs.Faults.{fault_of_unread};
 
     ghost from_gives = { λ cause fault. fault ≡ fault_of_unread cause };
 

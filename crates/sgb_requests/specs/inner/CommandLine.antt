@@ -1,21 +1,20 @@
 -- What the steps of reading a command line give.
-use Rattle.std.specs.Prelude.{◌≡◌, List, Option, Some, codes, option_map}
+use Rattle.std.specs.Prelude.{◌≡◌, List, [], Option, Some, codes, option_map}
 use Rattle.std.specs.Borrow.{Bor}
-use Rattle.clap.specs.Words.{Row, Text, first_of}
-use Rattle.clap.specs.declared.error.kind.ErrorKind.{ErrorKind}
-use Rattle.clap.specs.declared.error.kind.ErrorKind.TheVariants.{OutOfMemory}
+use Rattle.clap.specs.Words.{Row, Text, fault_of, first_of, subcommand_of, subcommand_rows_of}
+use Rattle.clap.specs.declared.parser.matches.ArgMatches.{ArgMatches}
 use Rattle.sgb_vec.specs.declared.panics.Panic.TheVariants.{NoRoom}
 use Rattle.sgb_requests.specs.declared.arguments.Subcommand.{Subcommand}
 use Rattle.sgb_requests.specs.declared.arguments.Subcommand.TheVariants as subcommand
 use Rattle.sgb_requests.specs.declared.arguments.Arguments.{Arguments}
 use Rattle.sgb_requests.specs.declared.faults.Fault.{Fault}
 use Rattle.sgb_requests.specs.declared.faults.Fault.TheVariants as fault
-use Rattle.sgb_requests.specs.CommandLine.{Asks, AsksAlone, Enters, HasNoCommand}
+use Rattle.sgb_requests.specs.CommandLine.{Asks, AsksAlone, Enters, HasNoCommand, command_line}
 
--- the fault for an error of this kind
-abbrev pub fault_of_kind : ErrorKind → Fault
-fault_of_kind OutOfMemory = fault.Panic NoRoom
-fault_of_kind _ = fault.Usage
+-- clap takes the words, and these are its matches
+pub record IsTaken (words : List Text) (matches : ArgMatches) : Type 0 where
+  pub taken : fault_of command_line words ≡ []
+  pub entered : subcommand_rows_of matches ≡ subcommand_of command_line words
 
 -- the bytes of a value, if there is one
 abbrev pub bytes_of : Option (Bor Text) → Option Text

@@ -6,7 +6,7 @@ use Rattle.sgb_vec.specs.Names.{name_of_vector}
 use Rattle.sgb_vec.proofs.BoxPlaces.{length-box}
 use Rattle.sgb_graph.specs.Descriptions.{IsGraphOf}
 use Rattle.sgb_graph.specs.Growth.{new_graph, with_id}
-use Rattle.sgb_gen.specs.VectorGraphs.{HasCoordinates}
+use Rattle.sgb_gen.specs.inner.VectorGraphs.{HasCoordinates}
 use Rattle.sgb_gen.specs.Boards.{board_graph, board_id, moves_of_board}
 use Rattle.sgb_gen.proofs.FamilyGraphs.{fields_unused, family_made, no_room}
 use Rattle.sgb_gen.proofs.accepted.boards.Board.graph.Goals as goal

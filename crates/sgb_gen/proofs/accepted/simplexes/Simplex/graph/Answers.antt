@@ -5,7 +5,7 @@ use Rattle.sgb_vec.specs.Names.{name_of_vector}
 use Rattle.sgb_vec.specs.Sums.{bounded_sums}
 use Rattle.sgb_graph.specs.Descriptions.{IsGraphOf}
 use Rattle.sgb_graph.specs.Growth.{new_graph, with_id}
-use Rattle.sgb_gen.specs.VectorGraphs.{HasCoordinates}
+use Rattle.sgb_gen.specs.inner.VectorGraphs.{HasCoordinates}
 use Rattle.sgb_gen.specs.Simplexes.{simplex_graph, simplex_id, simplex_vectors, moves_of_simplex}
 use Rattle.sgb_gen.proofs.FamilyGraphs.{fields_unused, family_made, no_room}
 use Rattle.sgb_gen.proofs.accepted.simplexes.Simplex.graph.Goals as goal

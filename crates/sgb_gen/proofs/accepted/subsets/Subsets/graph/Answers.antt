@@ -5,7 +5,7 @@ use Rattle.sgb_vec.specs.Names.{name_of_vector}
 use Rattle.sgb_vec.specs.Sums.{bounded_sums}
 use Rattle.sgb_graph.specs.Descriptions.{IsGraphOf}
 use Rattle.sgb_graph.specs.Growth.{new_graph, with_id}
-use Rattle.sgb_gen.specs.VectorGraphs.{HasCoordinates}
+use Rattle.sgb_gen.specs.inner.VectorGraphs.{HasCoordinates}
 use Rattle.sgb_gen.specs.Subsets.{subsets_graph, subsets_id, subsets_vectors, moves_of_subsets}
 use Rattle.sgb_gen.proofs.FamilyGraphs.{no_room, fields_unused, family_made}
 use Rattle.sgb_gen.proofs.accepted.subsets.Subsets.graph.Goals as goal
