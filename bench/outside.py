@@ -3,9 +3,9 @@
 
     make outside
 
-It runs the program with memory refused, with devices that fail, with broken files, and with the commands of the tour. It
-prints what failed, and last how many checks passed and failed. With words, it makes only the checks whose names hold one
-of them. Where PROGRAM is a script, OUTSIDE_PROGRAM names the executable that it runs, in which memory is then refused;
+It runs the program with memory refused, with devices that fail, with broken files, with the commands of the tour, and with
+the scripts of examples/ (bench/scripts.py). It prints what failed, and last how many checks passed and failed. With words,
+it makes only the checks whose names hold one of them. Where PROGRAM is a script, OUTSIDE_PROGRAM names the executable that it runs, in which memory is then refused;
 OUTSIDE_SECONDS gives a slow one more time for each run.
 """
 
@@ -26,6 +26,8 @@ import tempfile
 import termios
 import time
 import tty
+
+import scripts
 
 TOP = os.path.dirname(os.path.dirname(os.path.abspath(__file__)))
 PROGRAM = os.path.abspath(sys.argv[1]) if len(sys.argv) > 1 else os.path.join(TOP, "sgb")
@@ -552,8 +554,6 @@ def document(path, wanted):
         shell = Shell(runs, os.path.basename(path))
         found = commands(os.path.join(TOP, path))
         tally.check(len(found) >= wanted, path, "has only so many commands:", len(found))
-        # a listing that the tour compares its parts with
-        shell.run('sgb list "board(30,30,0,0,1,0,0)" > whole.txt')
         for command, lines in found:
             name = re.fullmatch("cat ([a-z]+[.]gb)", command)
             if name and not os.path.exists(shell.file(name[1])):
@@ -617,6 +617,7 @@ def all_checks():
     yield "document docs/TOUR.md", document("docs/TOUR.md", 20)
     yield "examples", examples
     yield "manual", manual
+    yield from scripts.all_checks(PROGRAM)
     yield "input left alone", unread
     yield "input failing", no_input
     yield "input short", short_input
