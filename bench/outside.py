@@ -3,9 +3,9 @@
 
     make outside
 
-It runs the program with memory refused, with devices that fail, with broken files, and with the commands of the tour. It
-prints what failed, and last how many checks passed and failed. With words, it makes only the checks whose names hold one
-of them. Where PROGRAM is a script, OUTSIDE_PROGRAM names the executable that it runs, in which memory is then refused;
+It runs the program with memory refused, with devices that fail, with broken files, with the commands of the tour, and with
+the scripts of examples/ (bench/scripts.py). It prints what failed, and last how many checks passed and failed. With words,
+it makes only the checks whose names hold one of them. Where PROGRAM is a script, OUTSIDE_PROGRAM names the executable that it runs, in which memory is then refused;
 OUTSIDE_SECONDS gives a slow one more time for each run.
 """
 
@@ -28,6 +28,7 @@ import time
 import tty
 
 import conformance
+import scripts
 
 TOP = os.path.dirname(os.path.dirname(os.path.abspath(__file__)))
 PROGRAM = os.path.abspath(sys.argv[1]) if len(sys.argv) > 1 else os.path.join(TOP, "sgb")
@@ -637,6 +638,7 @@ def all_checks():
     yield "examples", examples
     yield "manual", manual
     yield "version", version
+    yield from scripts.all_checks(PROGRAM)
     yield "input left alone", unread
     yield "input failing", no_input
     yield "input short", short_input

@@ -10,12 +10,17 @@
     graph = sgb_graph.to_networkx(sgb_graph.read("board(3,3,0,0,1,0,0)"))
 
 `read` parses the listing as the program writes it, so a listing of any length takes the memory of one vertex's arcs. A
-listing can be gone through once; `close`, or a `with`, ends the program of one that is not gone through to its end. Needs Python's library alone; `to_networkx` needs networkx.
+listing can be gone through once; `close`, or a `with`, ends the program of one that is not gone through to its end. Needs
+Python's library alone; `to_networkx` needs networkx.
 
-A listing gives names, not numbers. So two vertices of one name (a line graph of parallel edges has them) cannot be told
-apart, and a vertex whose name looks like the line of an arc, as a file may have it, is taken for one.
+A refusal is a Fault. A listing that does not tell what was asked for is a ValueError: where it has another number of
+vertices or arcs than its head says, as where a vertex's name, in a file, looks like the line of an arc; and in `to_edges`
+and `to_networkx` also where two vertices have one name, since a listing has names alone (a line graph of parallel edges is
+such), where an arc leads to no vertex, and where arcs do not come in pairs as edges do, unless `directed` says that they
+are arcs. These two give nothing before all of the listing was read and found right.
 """
 
+import collections
 import re
 import subprocess
 import tempfile
@@ -37,16 +42,20 @@ class Fault(Exception):
 
 
 class Listing:
-    """A listing under way: `id`, `n` vertices, `m` arcs; an iterator of pairs of a name and a list of (tip, length)."""
+    """A listing under way: `id`, `n` vertices, `m` arcs; an iterator of pairs of a name and a list of (tip, length).
 
-    def __init__(self, process, kept):
+    `m` is what the head says: where the expression is `stdin` this is what the file says, and it is not compared.
+    """
+
+    def __init__(self, process, kept, is_file=False):
         self._process = process
         self._kept = kept
+        self._is_file = is_file
         lines = [process.stdout.readline() for _ in range(4)]
         sizes = _SIZES.match(lines[2])
         if lines[0] != "  The graph whose official name is\n" or not sizes or lines[3] != "\n":
             self._end()
-            raise Fault(0, "no head of a listing: %r" % lines)
+            raise ValueError("no head of a listing: %r" % lines)
         self.id = lines[1][:-1]
         self.n = int(sizes.group(1))
         self.m = int(sizes.group(2))
@@ -63,17 +72,24 @@ class Listing:
 
     def _read_blocks(self):
         try:
-            name, arcs = None, []
+            name, arcs, blocks, tips, line = None, [], 0, 0, "\n"
             for line in self._process.stdout:
                 arc = _ARC.match(line) if name is not None else None
                 if arc:
                     arcs.append((arc.group(1), int(arc.group(2))))
+                    tips += 1
                 else:
                     if name is not None:
                         yield name, arcs
                     name, arcs = line[:-1], []
+                    blocks += 1
             # What was cut off in its middle is not given as a vertex.
             self._end()
+            if not line.endswith("\n"):
+                raise ValueError("the listing is cut off in the middle of a line")
+            if blocks != self.n or (tips != self.m and not self._is_file):
+                said = "the head has %d vertices and %d arcs, the listing %d and %d"
+                raise ValueError(said % (self.n, self.m, blocks, tips))
             if name is not None:
                 yield name, arcs
         finally:
@@ -101,7 +117,8 @@ class Listing:
 def read(expression, input=None, program="sgb"):
     """The listing of an expression. `input` is what its `stdin` reads: bytes, or a binary file with a descriptor.
 
-    Raises Fault where the request is refused, and, while the listing is gone through, where it is cut off.
+    Raises Fault where the request is refused, and, while the listing is gone through, where it is cut off; ValueError
+    where what the program writes is no listing.
     """
     kept = None
     if isinstance(input, (bytes, bytearray)):
@@ -115,46 +132,66 @@ def read(expression, input=None, program="sgb"):
         stderr=subprocess.PIPE,
         encoding="ascii",
     )
-    return Listing(process, kept)
+    return Listing(process, kept, expression == "stdin")
 
 
 def to_edges(listing, directed=False):
-    """The arcs as (name, tip, length), in order; unless `directed`, each edge once, at the end that comes first.
+    """An iterator of the arcs as (name, tip, length), in order; unless `directed`, of each edge once, at the end that comes
+    first.
 
-    An edge stands on the lists of both its ends, and a loop twice on its vertex's list. The vertices are to have
-    different names: else ValueError.
+    An edge stands on the lists of both its ends, and a loop twice on its vertex's list, with one length: ValueError where
+    arcs do not come in such pairs, unless `directed`. (Where they do by chance they are taken for edges.) ValueError also
+    where two vertices have one name, or an arc leads to no vertex. The whole listing is read and kept first.
     """
-    done = set()
-    try:
+    return iter(_edges(_lists(listing), directed))
+
+
+def _lists(listing):
+    """The arcs of each name."""
+    lists = {}
+    with listing:
         for name, arcs in listing:
-            if name in done:
-                raise ValueError("two vertices have the name %r" % name)
-            loops = 0
-            for tip, length in arcs:
-                if tip == name:
-                    loops += 1
-                first = loops % 2 if tip == name else tip not in done
-                if directed or first:
-                    yield name, tip, length
-            done.add(name)
-    finally:
-        listing.close()
+            if name in lists:
+                raise ValueError("two vertices have the name %r, and a listing has names alone" % name)
+            lists[name] = arcs
+    for name, arcs in lists.items():
+        for tip, _ in arcs:
+            if tip not in lists:
+                raise ValueError("no vertex has the name %r, but an arc leads there from %r" % (tip, name))
+    return lists
+
+
+def _edges(lists, directed):
+    arcs = [(name, tip, length) for name, list_ in lists.items() for tip, length in list_]
+    if directed:
+        return arcs
+    counts = collections.Counter(arcs)
+    for (name, tip, length), count in counts.items():
+        if count % 2 if name == tip else count > counts[tip, name, length]:
+            said = "the arc from %r to %r, length %d, is no edge, since none leads back: " % (name, tip, length)
+            raise ValueError(said + "directed=True where arcs are meant")
+    places = {name: place for place, name in enumerate(lists)}
+    loops = collections.Counter()
+    edges = []
+    for arc in arcs:
+        name, tip, _ = arc
+        if name == tip:
+            loops[arc] += 1
+        if loops[arc] % 2 if name == tip else places[name] < places[tip]:
+            edges.append(arc)
+    return edges
 
 
 def to_networkx(listing, directed=False):
-    """A networkx MultiGraph, or MultiDiGraph, with the lengths as `weight`, and the id as the graph's `name`."""
+    """A networkx MultiGraph, or MultiDiGraph, with the lengths as `weight`, and the id as the graph's `name`; ValueError as
+    from `to_edges`."""
     import networkx
 
+    lists = _lists(listing)
+    edges = _edges(lists, directed)
     graph = networkx.MultiDiGraph() if directed else networkx.MultiGraph()
     graph.graph["name"] = listing.id
-
-    # Each vertex as it comes, so that networkx has them in order, and also those without arcs.
-    def noted():
-        with listing:
-            for name, arcs in listing:
-                graph.add_node(name)
-                yield name, arcs
-
-    edges = list(to_edges(noted(), directed))
+    # the vertices as they come, and also those without arcs
+    graph.add_nodes_from(lists)
     graph.add_weighted_edges_from(edges)
     return graph

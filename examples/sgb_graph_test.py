@@ -1,5 +1,5 @@
 #!/usr/bin/env python3
-"""Tests of sgb_graph.py: examples/sgb_graph_test.py [PROGRAM]. The graphs are also compared with networkx, if it is there."""
+"""Tests of sgb_graph.py: examples/sgb_graph_test.py [PROGRAM]. Graphs are also compared with networkx, if it is there."""
 
 import itertools
 import os
@@ -21,6 +21,12 @@ FILE = (
     b"* GraphBase graph (util_types ZZZZZZZZZZZZZZ,2V,2A)\n"
     b'"pair",2,2\n* Vertices\n"a b",A0\n"",A1\n* Arcs\nV1,0,-7\nV0,0,-7\n* Checksum -1\n'
 )
+
+LOOPS = (
+    b"* GraphBase graph (util_types ZZZZZZZZZZZZZZ,1V,4A)\n"
+    b'"loops",1,4\n* Vertices\n"a",A3\n* Arcs\nV0,0,1\nV0,A0,2\nV0,A1,1\nV0,A2,2\n* Checksum -1\n'
+)
+LIKE_AN_ARC = FILE.replace(b'"",A1', b'"  -> a b, length 3",A1')
 
 
 def read(expression, input=None):
@@ -62,9 +68,40 @@ class Listings(unittest.TestCase):
             fault = raised.exception
             self.assertEqual((fault.status, fault.code, fault.line), (status, code, line))
 
+    def test_loops_of_two_lengths(self):
+        edges = list(sgb_graph.to_edges(read("stdin", LOOPS)))
+        self.assertEqual(edges, [("a", "a", 2), ("a", "a", 1)])
+
     def test_names_that_repeat(self):
-        with self.assertRaises(ValueError):
-            list(sgb_graph.to_edges(read("lines(board(3,0,0,0,-1,1,0),0)")))
+        for directed in (False, True):
+            with self.assertRaisesRegex(ValueError, "two vertices have the name '"):
+                sgb_graph.to_edges(read("lines(board(3,0,0,0,-1,1,0),0)"), directed)
+
+    def test_arcs_that_are_no_edges(self):
+        for expression, given in [
+            ("cycle(5)", None),
+            ("transitive(4)", None),
+            ("board(1,0,0,0,1,1,1)", None),
+            # a multiple arc with a single one back; the lengths of an arc and of the one back; two loops of two lengths
+            ("gunion(cycle(2),transitive(2),1,1)", None),
+            ("stdin", FILE.replace(b"V0,0,-7", b"V0,0,7")),
+            ("stdin", LOOPS.replace(b"V0,A2,2", b"V0,A2,3")),
+        ]:
+            with self.assertRaisesRegex(ValueError, "is no edge"):
+                sgb_graph.to_edges(read(expression, given))
+            self.assertTrue(list(sgb_graph.to_edges(read(expression, given), directed=True)))
+
+    def test_names_that_look_like_arcs(self):
+        for directed in (False, True):
+            with self.assertRaisesRegex(ValueError, "the head has 2 vertices and 2 arcs, the listing 1 and 3"):
+                sgb_graph.to_edges(read("complement(complement(stdin,0,0,0),0,0,0)", LIKE_AN_ARC), directed)
+            with self.assertRaisesRegex(ValueError, "the head has 2 vertices and 2 arcs, the listing 1 and 3"):
+                list(read("stdin", LIKE_AN_ARC))
+
+    def test_a_file_that_counts_other_arcs(self):
+        listing = read("stdin", FILE.replace(b'"pair",2,2', b'"pair",2,7'))
+        self.assertEqual(listing.m, 7)
+        self.assertEqual(list(sgb_graph.to_edges(listing)), [("a b", "", -7)])
 
     def test_a_part_of_a_long_listing(self):
         with read("board(60,60,0,0,-1,0,0)") as listing:
@@ -78,6 +115,10 @@ class Listings(unittest.TestCase):
         self.assertEqual((union.number_of_nodes(), union.number_of_edges()), (5, 15))
         cycle = sgb_graph.to_networkx(read("cycle(7)"), directed=True)
         self.assertTrue(networkx.is_isomorphic(networkx.DiGraph(cycle), networkx.cycle_graph(7, networkx.DiGraph)))
+        with self.assertRaisesRegex(ValueError, "is no edge"):
+            sgb_graph.to_networkx(read("cycle(7)"))
+        alone = sgb_graph.to_networkx(read("empty(3)"))
+        self.assertEqual((list(alone), alone.number_of_edges()), (["0", "1", "2"], 0))
         pair = sgb_graph.to_networkx(read("stdin", FILE))
         self.assertEqual(list(pair.edges(data="weight")), [("a b", "", -7)])
 

@@ -9,31 +9,76 @@
 #   examples/shards.sh EXPR 4 | parallel -k
 #   sh -c "$(examples/shards.sh EXPR 4 part | sed -n "${SLURM_ARRAY_TASK_ID}p")"
 #
-# SGB names the program, if it is not the one on the path. EXPR is a board, a simplex, subsets or one of their short names:
-# any other expression is evaluated anew by each command.
+# A command fails where its part is not whole (part.sh). SGB names the program, if it is not the one on the path. EXPR is a
+# board, a simplex, subsets or one of their short names: any other graph would be made anew by each command.
 set -eu
+LC_ALL=C
+export LC_ALL
+refuse() { echo "shards.sh: $*" >&2; exit 2; }
 [ $# -eq 2 ] || [ $# -eq 3 ] || { echo "usage: shards.sh EXPR PARTS [FILES]" >&2; exit 2; }
 expression=$1 parts=$2 files=${3:-}
 sgb=${SGB:-sgb}
-case $expression in *[!a-z0-9_,\(\)x-]*) echo "shards.sh: no expression of a generator: $expression" >&2; exit 2 ;; esac
-case $parts in '' | *[!0-9]* | 0) echo "shards.sh: PARTS is a number from 1 on" >&2; exit 2 ;; esac
-blocks=$(dirname "$0")/blocks.awk
+here=$(dirname "$0")
 
-# how many vertices there are, from the head of the listing
-n=$({ "$sgb" list "$expression" 2>/dev/null || true; } | sed -n '3{s/  has \([0-9]*\) vertices.*/\1/p;q;}')
-[ -n "$n" ] || { "$sgb" list "$expression"; exit 1; }
+# an expression as it stands here needs no more than double quotes
+case $expression in
+    *[!a-zA-F0-9_,\(\)-]*) refuse "no expression of a generator: $expression" ;;
+    board\(* | simplex\(* | subsets\(* | complete\(* | transitive\(* | empty\(* | circuit\(* | cycle\(*) ;;
+    disjoint_subsets\(* | petersen\(*) ;;
+    *) refuse "no expression of a generator: $expression" ;;
+esac
+case $parts in *[!0-9]*) refuse "PARTS is a number from 1 on: $parts" ;; esac
+while :; do case $parts in 0*) parts=${parts#0} ;; *) break ;; esac; done
+case $parts in '' | ??????????*) refuse "PARTS is a number from 1 to 999999999: $2" ;; esac
+case $files$here$sgb in *"
+"*) refuse "a line cannot name a file with a line's end in its name" ;; esac
 
-k=0 from=0
+# a word as the shell reads it
+quoted() {
+    case $1 in
+        *[!a-zA-Z0-9_./,:=@%+-]*) printf "'%s'" "$(printf '%s' "$1" | sed "s/'/'\\\\''/g")" ;;
+        *) printf '%s' "$1" ;;
+    esac
+}
+
+# Whether there is a vertex after the first $1. The names go to a full device, so that the program ends at the first of
+# them with a write fault, and with no fault where there is none. This makes no head, which may take long.
+has_more() {
+    status=0
+    said=$("$sgb" names "$expression" --skip "$1" 2>&1 > /dev/full) || status=$?
+    [ "$status" -ne 0 ] || return 1
+    [ "$status" -eq 3 ] && [ "$said" = "sgb: write fault" ] || { printf '%s\n' "$said" >&2; exit "$status"; }
+}
+
+# How many vertices there are: n at least, and at most as many as have to be skipped until there are no more.
+n=0 most=1 limit=1000000000
+while [ "$most" -lt "$limit" ] && has_more "$most"; do n=$((most + 1)) most=$((4 * most)); done
+[ "$most" -le "$limit" ] || most=$limit
+while [ "$n" -lt "$most" ]; do
+    middle=$(((n + most) / 2))
+    if has_more "$middle"; then n=$((middle + 1)); else most=$middle; fi
+done
+
+# the program that the commands name, and the one that runs it with blocks.awk
+named=$(quoted "$sgb")
+if [ "$sgb" = sgb ]; then part=; else part="SGB=$named "; fi
+part=$part$(quoted "$here/part.sh")
+files=$(quoted "$files")
+
+# Part k has the blocks from this one, counted from 0, up to that one. Some have none where there are more parts than
+# blocks; the last that has any, or the only one, ends with the listing.
+k=0 this=0
 while [ "$k" -lt "$parts" ]; do
     k=$((k + 1))
-    to=$((n * k / parts))
-    if [ "$k" -eq 1 ]; then skip=; else skip=" --skip $from"; fi
-    if [ "$k" -eq "$parts" ]; then
-        command="$sgb list \"$expression\"$skip"
+    that=$(((n * k + parts - 1) / parts))
+    if [ "$k" -eq 1 ]; then skip=; else skip=" --skip $this"; fi
+    if [ "$k" -gt 1 ] && [ "$this" -eq "$that" ]; then
+        command=:
+    elif [ "$that" -eq "$n" ]; then
+        command="$named list \"$expression\"$skip"
     else
-        # the end of the pipe is no fault of the program's; blocks.awk fails where blocks are missing
-        command="$sgb list \"$expression\"$skip 2>/dev/null | awk -v blocks=$((to - from)) -f $blocks"
+        command="$part \"$expression\" $this $((that - this))"
     fi
     echo "$command${files:+ > $files.$k}"
-    from=$to
+    this=$that
 done

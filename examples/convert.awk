@@ -1,0 +1,201 @@
+# Turns a listing of sgb into another form of the same graph:
+#
+#   sgb list "petersen()" | awk -v to=edges -f examples/convert.awk > petersen.tsv
+#   sgb list "petersen()" | awk -v to=dot -f examples/convert.awk | dot -Tsvg > petersen.svg
+#   sgb list "cycle(4)" | awk -v to=dot -v directed=1 -f examples/convert.awk | dot -Tsvg > cycle.svg
+#
+#   to=dot      Graphviz's DOT. The label of an edge is its length.
+#   to=edges    A line for each edge: two names and its length with tabs between them; an isolated vertex alone on a line.
+#               networkx reads it by read_edgelist("petersen.tsv", delimiter="\t"), or where there are lengths by
+#               read_weighted_edgelist, with create_using=networkx.DiGraph for arcs; it leaves isolated vertices out.
+#
+# Lengths are not written where all are 1, unless lengths=1 asks for them.
+#
+# A listing does not say whether its graph has edges or arcs. An edge stands on the lists of both its ends, a loop twice
+# on one. So without directed=1 the arcs have to come in such pairs, with equal lengths, and each pair is written once,
+# in the block that comes first. (Where arcs come in pairs by chance they are taken for edges.)
+#
+# Nothing is written unless all of the listing was read and is right; else there is one line on standard error, and the
+# status is 1. What is refused: a listing without its head, as a refused request leaves it; a number of vertices or arcs
+# that is not the head's, as where the listing is cut off; a last line without its end; an arc to a vertex that is not
+# there; two vertices of one name, since a listing tells vertices apart by their names alone; arcs that do not come in
+# pairs.
+#
+#   directed=1  the arcs are arcs, and are written as they stand
+#   file=1      the graph is a file's (stdin): the number of arcs in the head is what the file says, and is not compared
+#   resumed=1   the listing was resumed (--after, --skip) and has no head: for dot and edges. What leads to a vertex that
+#               is not in it is written once. Whether vertices are missing, or arcs at its end, or whether what leads
+#               out of it is an edge or an arc, cannot be seen.
+#
+# It keeps the graph: mawk takes some 400 bytes for each vertex and 100 for each arc.
+
+BEGIN {
+    if (to !~ /^(dot|edges)$/)
+        fail("say what to write: -v to=dot or edges")
+    # Records end at ">" and not at the end of a line: so a last line that has no end is seen.
+    RS = ">"
+}
+
+failed { next }
+
+{
+    last = split((NR > 1 ? rest ">" : "") $0, lines, "\n")
+    for (i = 1; i < last && !failed; i++)
+        take(lines[i] "")
+    rest = lines[last]
+}
+
+END {
+    if (!failed)
+        check()
+    if (failed)
+        exit 1
+    if (to == "dot")
+        write_dot()
+    else
+        write_edges()
+}
+
+function fail(text) {
+    if (!failed)
+        print "convert.awk: " text | "cat >&2"
+    failed = 1
+}
+
+# ---- reading: vertices and tips get numbers as they are met; order[i] is that of the vertex in place i, from 1
+
+function take(line,    at) {
+    if (++taken <= 4 && !resumed)
+        head[taken] = line
+    else if (vertices && substr(line, 1, 5) == "  -> " && (at = match(line, /, length -?[0-9]+$/)))
+        take_arc(number(substr(line, 6, at - 6)), substr(line, at + 9))
+    else
+        take_vertex(line)
+    if (taken == 4 && !resumed)
+        take_head()
+    if (taken == 1 && resumed && line == "  The graph whose official name is")
+        fail("the listing has its head: leave resumed=1 out")
+}
+
+function take_head(    words) {
+    if (head[1] != "  The graph whose official name is" || head[4] != "" ||
+        head[3] !~ /^  has [0-9]+ vertices and [0-9]+ arcs:$/)
+        fail("no head of a listing: say -v resumed=1 where it was resumed")
+    split(head[3], words, " ")
+    head_vertices = words[2] + 0
+    head_arcs = words[5] + 0
+}
+
+function take_vertex(name) {
+    vertex = number(name)
+    if (vertex in place)
+        fail("two vertices have the name " name ", and a listing has names alone")
+    place[vertex] = ++vertices
+    order[vertices] = vertex
+    first[vertices] = arcs + 1
+}
+
+function take_arc(tip, len) {
+    tips[++arcs] = tip
+    if (len != "1") {
+        lens[arcs] = len
+        lengths = 1
+    }
+    if (!directed)
+        match_up(vertex, tip, len)
+}
+
+function number(name) {
+    if (!(name in numbers)) {
+        numbers[name] = ++known
+        names[known] = name
+    }
+    return numbers[name]
+}
+
+# single[u, v, len] is how many more arcs there are from u to v than back; of loops, whether one is left over
+function match_up(u, v, len,    key) {
+    key = u < v ? u SUBSEP v SUBSEP len : v SUBSEP u SUBSEP len
+    single[key] += u < v || (u == v && !single[key]) ? 1 : -1
+    if (!single[key])
+        delete single[key]
+}
+
+# ---- whether all of it was read, and is right
+
+function check() {
+    first[vertices + 1] = arcs + 1
+    if (rest != "")
+        fail("the listing is cut off in the middle of a line")
+    else if (!resumed && taken < 4)
+        fail("no head of a listing: say -v resumed=1 where it was resumed")
+    else if (!resumed && vertices != head_vertices)
+        fail("the head has " head_vertices " vertices, the listing " vertices + 0 \
+            ": it is cut off, or a name is like an arc's line")
+    else if (!resumed && !file && arcs != head_arcs)
+        fail("the head has " head_arcs " arcs, the listing " arcs + 0 ": it is cut off, or a file's (-v file=1)")
+    else
+        check_arcs()
+}
+
+function check_arcs(    i, k, u, v, key) {
+    for (i = 1; i <= vertices; i++)
+        for (k = first[i]; k < first[i + 1]; k++) {
+            u = order[i]
+            v = tips[k]
+            if (!(v in place)) {
+                if (!resumed)
+                    return fail("no vertex has the name " names[v] ", but an arc leads there from " names[u])
+                continue
+            }
+            if (directed)
+                continue
+            key = (u < v ? u SUBSEP v : v SUBSEP u) SUBSEP len_of(k)
+            if (key in single && (u == v || (u < v) == (single[key] > 0)))
+                return fail("the arc from " names[u] " to " names[v] ", length " len_of(k) \
+                    ", is no edge, since none leads back: say -v directed=1 where arcs are meant")
+        }
+}
+
+# ---- what the formats have in common
+
+function len_of(k) { return k in lens ? lens[k] : "1" }
+
+# Whether arc k, which stands in the block of place i, is to be written: each arc, or each edge in the block that comes
+# first; of the loops of one length every second, so that when all were asked for the next pass begins anew.
+function is_written(i, k,    tip, key) {
+    tip = tips[k]
+    if (directed || !(tip in place))
+        return 1
+    if (place[tip] != i)
+        return place[tip] > i
+    key = tip SUBSEP len_of(k)
+    return half[key] = !half[key]
+}
+
+# ---- the formats
+
+# Names have no quotes and no backslashes, so they stand in quotes as they are.
+function write_dot(    i, k) {
+    print (directed ? "digraph" : "graph") " \"" head[2] "\" {"
+    for (i = 1; i <= vertices; i++) {
+        print "  \"" names[order[i]] "\";"
+        for (k = first[i]; k < first[i + 1]; k++)
+            if (is_written(i, k))
+                print "  \"" names[order[i]] (directed ? "\" -> \"" : "\" -- \"") names[tips[k]] \
+                    "\"" (lengths ? " [label=\"" len_of(k) "\"]" : "") ";"
+    }
+    print "}"
+}
+
+function write_edges(    i, k, is_tip) {
+    for (k = 1; k <= arcs; k++)
+        is_tip[tips[k]] = 1
+    for (i = 1; i <= vertices; i++) {
+        if (first[i] == first[i + 1] && !(order[i] in is_tip))
+            print names[order[i]]
+        for (k = first[i]; k < first[i + 1]; k++)
+            if (is_written(i, k))
+                print names[order[i]] "\t" names[tips[k]] (lengths ? "\t" len_of(k) : "")
+    }
+}
