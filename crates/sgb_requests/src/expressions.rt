@@ -1,7 +1,7 @@
 //! Expressions and flips read for a request.
-ghost use Rattle.std.specs.Prelude.{◌≡◌, IfOk, List, ℕ};
+ghost use Rattle.std.specs.Prelude.{◌≡◌, Err, IfOk, List, ℕ};
 ghost use Rattle.sgb_expr.specs.Expression.{Expression, expression_of};
-ghost use Rattle.sgb_expr.specs.Expressions.{IsExpression};
+ghost use Rattle.sgb_expr.specs.Expressions.{IsExpression, IsTooLarge};
 ghost use Rattle.sgb_expr.specs.FlipTexts.{IsFlip};
 ghost use Rattle.sgb_expr.specs.declared.flips.FlipParams.{FlipParams};
 ghost use Rattle.sgb_requests.specs.Reading.{IsFlipReadAs, IsReadAs};
@@ -29,13 +29,14 @@ impl From<Unread> for Fault {
 /// The expression that the text is: one of GraphBase's official names and, in parentheses, its arguments with commas
 /// between them (GB_BASIC, board, simplex, subsets and their special cases), with no spaces.
 ///
-/// `TooLarge` before all else where the text has more than 65,536 bytes, or some prefix of it has over 64 more `(`
-/// than `)`. `Expr(k)` where it is no expression; its first k bytes are its longest prefix that begins one.
-/// `Panic(NoRoom)` when out of memory.
+/// `TooLarge` before all else, whatever memory there is, where the text has more than 65,536 bytes, or some prefix of it
+/// has over 64 more `(` than `)`. `Expr(k)` where it is no expression; its first k bytes are its longest prefix that
+/// begins one. `Panic(NoRoom)` when out of memory.
 pub fn parse_expr(alloc: Global, text: &[u8]) -> Result<Expr, Fault>
     ensures read { IsReadAs text.now result }
     ensures only { (e : Expression) → IsExpression text.now e
         → IfOk result (λ read. expression_of read ≡ e) }
+    ensures large { IsTooLarge text.now → result ≡ Err Fault.TooLarge }
 {
     let expression = read_expr(alloc, text)?;
     Ok(expression)
