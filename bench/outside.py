@@ -28,6 +28,8 @@ import time
 import tty
 
 import conformance
+import great_listings
+import random_requests
 import scripts
 
 TOP = os.path.dirname(os.path.dirname(os.path.abspath(__file__)))
@@ -59,8 +61,24 @@ ANSWERS = {
     "save": FILE,
 }
 
+# the smallest file, and the answers on it
+SMALLEST = b"""\
+* GraphBase graph (util_types ZZZZZZZZZZZZZZ,0V,0A)
+"",0,0
+* Vertices
+* Arcs
+* Checksum 10363
+"""
+NO_VERTICES = {
+    "names": b"",
+    "list": b"  The graph whose official name is\n\n  has 0 vertices and 0 arcs:\n\n",
+    "save": SMALLEST,
+}
+
 # where memory is refused: each expression for names, list and save, with the fault of those that have one
 EXPRESSIONS = {
+    "petersen()": None,
+    "induced(complete(2),[0,3],0,0,0)": None,
     "board(2,2,0,0,1,0,0)": None,
     "board(3,0,0,0,-1,1,0)": None,
     "simplex(2,0,0,0,0,0,0)": None,
@@ -88,6 +106,7 @@ OTHERS = {
     ("names", "simplex(2,-60,0,0,0,0,0)", "--skip", "1880"): None,
     ("list", "board(3,4,0,0,-2,0,0)", "--after", "1.1"): None,
     ("names", "complete(2)", "--after", "0", "--skip", "1"): USAGE,
+    ("list", "petersen()", "--after", "1", "--skip", "1"): USAGE,
     ("list", "complete(2)", "--after", "0", "--skip", "1"): USAGE,
     ("list", "board(5,5,0,0,-2,0,0)", "--skip", "0"): None,
     ("list", "simplex(90,2,90,90,0,0,0)", "--skip", "0"): None,
@@ -99,6 +118,7 @@ STATUSES = [
     (("list", "complete(2)", "--after", "0", "--skip", "1"), b"", USAGE),
     (("list", "board(3,"), b"", EXPRESSIONS["board(3,"]),
     (("save", "board(2,-251,0,0,1,0,0)"), b"", EXPRESSIONS["board(2,-251,0,0,1,0,0)"]),
+    (("list", "board(1,-251,0,0,1,0,0)"), b"", EXPRESSIONS["board(2,-251,0,0,1,0,0)"]),
     (("names", "complete(2)", "--after", "2"), b"", (1, b"sgb: no such vertex\n")),
     (("names", "stdin"), b"", (1, b"Something went wrong (panic code 10)!\n")),
 ]
@@ -304,6 +324,8 @@ def answers(runs, tally):
         for expression, given in [("complete(2)", b""), ("stdin", FILE)]:
             words = (word, expression)
             tally.same(words, said(runs.run(words, given)), (0, answer, b""))
+    for word, answer in NO_VERTICES.items():
+        tally.same((word, "the smallest file"), said(runs.run((word, "stdin"), SMALLEST)), (0, answer, b""))
     for words, given, (status, line) in STATUSES:
         got = runs.run(words, given, orders={})
         events = runs.library.events()
@@ -460,13 +482,16 @@ def unread(runs, tally):
 
 
 def cut_files(runs, tally):
-    """The file of complete(2), cut after k bytes."""
-    for size in range(len(FILE) + 1):
-        wanted = None if size >= 159 else code(11) if size > 136 else code(20) if size > 50 else code(10)
-        for word, answer in ANSWERS.items():
-            got = runs.run((word, "stdin"), FILE[:size])
-            right = (0, answer, b"") if wanted is None else (wanted[0], b"", wanted[1])
-            tally.same((word, "stdin of", str(size), "bytes"), said(got), right)
+    """The file of complete(2), and the smallest one, cut after k bytes: the newline at the end alone may be missing."""
+    for file, found in (FILE, ANSWERS), (SMALLEST, NO_VERTICES):
+        arcs = file.index(b"\n* Checksum")
+        for size in range(len(file) + 1):
+            whole = size >= len(file) - 1
+            wanted = code(11) if size >= arcs else code(20) if size > 50 else code(10)
+            for word, answer in found.items():
+                got = runs.run((word, "stdin"), file[:size])
+                right = (0, answer, b"") if whole else (wanted[0], b"", wanted[1])
+                tally.same((word, "stdin of", str(size), "bytes of", str(len(file))), said(got), right)
 
 
 def long_file(runs, tally):
@@ -655,6 +680,8 @@ def all_checks():
         for word in ANSWERS:
             given = FILE if "stdin" in expression else b""
             yield f"memory {word} {expression}", memory((word, expression), given, fault)
+    yield from great_listings.all_checks()
+    yield from random_requests.all_checks()
 
 
 def main():
