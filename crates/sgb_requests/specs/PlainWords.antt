@@ -36,7 +36,7 @@ abbrev pub IsFlipReadBy : List ℕ → Result Request Fault → Type 0
 IsFlipReadBy text (Ok r) = (p : FlipParams) × IsFlipReadAs text (Ok p) × (r ≡ request.Flip p)
 IsFlipReadBy text (Err f) = IsFlipReadAs text (Err f) ⊎ (f ≡ fault.Panic NoRoom)
 
--- the same where no text is read
+-- the same where no text is read: the words are refused out of memory alone
 abbrev pub IsQueenRead : Result Request Fault → Type 0
 IsQueenRead (Ok r) = r ≡ request.Queen
 IsQueenRead (Err f) = f ≡ fault.Panic NoRoom

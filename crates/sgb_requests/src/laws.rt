@@ -10,10 +10,10 @@ ghost use Rattle.sgb_requests.specs.declared.requests.Request.{Request};
 ghost use Rattle.sgb_requests.specs.declared.requests.Request.TheVariants as request;
 ghost use Rattle.sgb_requests.specs.declared.requests.Resume.{Resume};
 
-/// The plain forms of words, after the program's name, are read as these requests and as nothing else: `names EXPR` and
-/// `list EXPR`, each alone, with `--after NAME` or with `--skip K`, `save EXPR`, `queen` and `flip TEXT`. EXPR, TEXT and NAME do
-/// not begin with `-`, which no expression and no flip does, and K is 1 to 18 digits. Where EXPR or TEXT is refused, the words
-/// are refused with the same fault.
+/// The plain forms of words, after the program's name, are read as these requests and as nothing else: `names EXPR`
+/// and `list EXPR`, each alone, with `--after NAME` or with `--skip K`, `save EXPR`, `queen` and `flip TEXT`. EXPR, TEXT
+/// and NAME do not begin with `-`, which no expression and no flip does, and K is 1 to 18 digits. Where EXPR or TEXT is
+/// refused, the words are refused with the same fault; and they are refused when out of memory, and never else.
 pub fn plain_words_law()
     ensures names { (program text : List ℕ) (options : List (List ℕ)) (resume : Resume)
         (result : Result Request Fault) → IsPlain text → AreOptions options resume
