@@ -35,19 +35,19 @@ parsed a words r is =
 -- ---- the command that is entered
 
 -- the command line, as clap builds it
-abbrev built_line : App
+abbrev pub built_line : App
 built_line = built command_line
 
 -- its command of this name that has `EXPR`, `--after` and `--skip`
-abbrev output_leaf : Text → Shape
+abbrev pub output_leaf : Text → Shape
 output_leaf name = built_leaf (inherited (with_leaf_noted (marked_built command_line.top)) (output_shape name))
 
 -- its command of this name that has `EXPR` alone
-abbrev alone_leaf : Text → Shape
+abbrev pub alone_leaf : Text → Shape
 alone_leaf name = built_leaf (inherited (with_leaf_noted (marked_built command_line.top)) (alone_shape name))
 
 -- its command `queen`, which has no argument
-abbrev queen_leaf : Shape
+abbrev pub queen_leaf : Shape
 queen_leaf = built_leaf (inherited (with_leaf_noted (marked_built command_line.top)) (new_shape (codes "queen")))
 
 -- its commands, as the program knows them

@@ -9,3 +9,15 @@ pub mod ClapValues
 pub mod Counts
 -- the commands that the words enter
 pub mod EnteredCommands
+-- the walk over words that are no options
+pub mod PlainWalks
+-- the commands that plain words enter, and what they ask
+pub mod PlainCommands
+-- what words are read as, where it is known what they ask
+pub mod PlainReadings
+-- texts that do not begin with a hyphen
+pub mod PlainTexts
+-- the plain forms of words
+pub mod PlainWords
+-- words and what they ask, by evaluation
+mod Examples

@@ -5,6 +5,8 @@ pub mod CommandLine
 pub mod Counts
 -- what each fault comes from, its line and its exit status
 pub mod Faults
+-- the plain forms of words, and what each is read as
+pub mod PlainWords
 -- what reading an expression, or a flip, returns
 pub mod Reading
 -- the requests that the words make, and how others are refused

@@ -10,10 +10,13 @@ pub mod command_line;
 pub mod expressions;
 // The faults, and the line that each prints.
 pub mod faults;
+// What holds of the plain forms of words.
+mod laws;
 // What the program is asked to do.
 pub mod requests;
 
 pub use command_line::request;
 pub use expressions::parse_expr;
 pub use faults::{Fault, report, status};
+pub use laws::plain_words_law;
 pub use requests::{Name, Request, Resume};

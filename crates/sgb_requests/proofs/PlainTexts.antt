@@ -1,0 +1,41 @@
+-- Texts that do not begin with a hyphen.
+use Rattle.std.proofs.Common.{◌≡◌, ◌≢◌, ◌∙◌, ◌<◌, ◌==◌, ℕ, false, true≢false, List, [], ◌∷◌, Result, Ok, is_ok, refl, sym, ap, subst, arith}
+use Rattle.std.specs.Char.{digit_value}
+use Rattle.sgb_expr.specs.Expression.{Expression, expression_of}
+use Rattle.sgb_expr.specs.Expressions.{IsExpression}
+use Rattle.sgb_expr.specs.inner.Names.{generator_openings, openings}
+use Rattle.sgb_expr.specs.inner.Reading.{expression_at, whole_at}
+use Rattle.sgb_expr.proofs.WholeReading.{whole_again}
+use Rattle.sgb_expr.specs.declared.expressions.Expr.{Expr}
+use Rattle.sgb_expr.specs.declared.flips.FlipParams.{FlipParams}
+use Rattle.sgb_requests.specs.Counts.{IsDigits}
+use Rattle.sgb_requests.specs.PlainWords.{IsPlain}
+use Rattle.sgb_requests.specs.Reading.{IsFlipReadAs, IsReadAs}
+
+-- a count begins with a digit
+pub digits_plain : (count : List ℕ) → IsDigits count → IsPlain count
+digits_plain [] is = let bad : 0 < 0 = is.numeral.0 in absurd (omega (arith, bad))
+digits_plain (c ∷ cs) is = λ e. let bad : digit_value 45 < 10 = subst (λ (x : ℕ). digit_value x < 10) e is.numeral.1.0 in absurd (omega (arith, bad))
+
+-- a known first byte is not the hyphen
+pub letter : (n : ℕ) → (n == 45) ≡ false → n ≢ 45
+letter n other e = true≢false (sym (ap (λ (x : ℕ). x == 45) e) ∙ other)
+
+-- reading a text that begins with the hyphen finds no expression
+hyphen_read : (rest : List ℕ) → is_ok (whole_at (45 ∷ rest)) ≡ false
+unfolding expression_at openings generator_openings
+hyphen_read rest = refl
+
+-- an expression begins with its name
+named : (text : List ℕ) (e : Expression) → IsExpression text e → IsPlain text
+named [] e h = letter 0 refl
+named (x ∷ rest) e h =
+    λ first. let whole = whole_again (45 ∷ rest) e (subst (λ (x : ℕ). IsExpression (x ∷ rest) e) first h) in
+    true≢false (sym (ap (λ (read : Result Expression ℕ). is_ok read) whole) ∙ hyphen_read rest)
+
+pub expression_plain : (text : List ℕ) (e : Expr) → IsReadAs text (Ok e) → IsPlain text
+expression_plain text e h = named text (expression_of e) h.1
+
+-- and so does a flip
+pub flip_plain : (text : List ℕ) (p : FlipParams) → IsFlipReadAs text (Ok p) → IsPlain text
+flip_plain text p h = subst IsPlain (sym h.1.1) (letter 102 refl)
