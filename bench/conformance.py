@@ -63,7 +63,11 @@ def loaded(path):
 def table(runs, tally):
     """Each row of the table: n, m, and the sums of names, list and save; or status and line."""
     compare = loaded("conformance/compare.py")
-    found = compare.rows()
+    try:
+        found = compare.rows()
+    except ValueError as fault:
+        tally.check(False, str(fault))
+        return
     kinds = [sum(isinstance(row, kind) for row in found) for kind in (compare.Graph, compare.Refusal)]
     tally.same("the rows of graphs and refusals", kinds, [GRAPHS, REFUSALS])
     for row in found:

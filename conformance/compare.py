@@ -138,7 +138,11 @@ def main():
     if not os.access(program, os.X_OK):
         sys.exit(f"compare.py: no such program: {program}")
     passed, failed = 0, 0
-    for row in rows():
+    try:
+        table = rows()
+    except (OSError, ValueError) as fault:
+        sys.exit(f"compare.py: {fault}")
+    for row in table:
         for name, difference in compared(program, row, words):
             if difference is None:
                 passed += 1

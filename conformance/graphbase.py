@@ -13,6 +13,7 @@ three; the status is 1 where something is different.
 
 import collections
 import hashlib
+import itertools
 import os
 import re
 import sys
@@ -310,6 +311,11 @@ def outcome(programs, expression, command, ours, theirs):
 
 
 def told(ours, theirs):
+    """The first line that differs, or else the whole of both answers."""
+    if ours.status == theirs.status == 0 and ours.out != theirs.out:
+        pairs = itertools.zip_longest(ours.out.split(b"\n"), theirs.out.split(b"\n"))
+        number, (one, other) = next((n, pair) for n, pair in enumerate(pairs, 1) if pair[0] != pair[1])
+        return Different(f"line {number}: sgb {one}, GraphBase {other}")
     return Different(f"sgb {brief(ours)}, GraphBase {brief(theirs)}")
 
 
@@ -361,7 +367,10 @@ def held_numbers(programs, text):
 
 def all_held(programs, words):
     """Each comparison: of what, which, and its result."""
-    to_hold = [(row.expression, held_row, row) for row in compare.rows()]
+    try:
+        to_hold = [(row.expression, held_row, row) for row in compare.rows()]
+    except (OSError, ValueError) as fault:
+        sys.exit(f"graphbase.py: {fault}")
     to_hold += [(expression, held_graph, expression) for expression in BORDERS]
     to_hold += [(text, held_numbers, text) for text in NUMBERS]
     for text, held, what in to_hold:
@@ -395,6 +404,8 @@ def main():
         print(f"by rule, {len(found)}: {rule}")
         for one in found:
             print(f"  {one}")
+    if not same and not rules and not different:
+        sys.exit("graphbase.py: nothing was held")
     by_rule = sum(len(found) for found in rules.values())
     print(f"{sum(same.values())} the same, {by_rule} different by rule, {different} different")
     sys.exit(1 if different else 0)

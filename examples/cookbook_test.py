@@ -129,7 +129,10 @@ def fault_of(row):
 
 def main():
     failed = 0
-    found = rows()
+    try:
+        found = rows()
+    except (OSError, ValueError) as fault:
+        sys.exit(f"cookbook_test.py: {fault}")
     for row in found:
         try:
             fault = fault_of(row)
