@@ -1,8 +1,8 @@
 # make try        a quick look: one answer from the sources, nothing proved, about a minute
 # make            proves every crate, builds the programs, leaves them as ./sgb and ./sgb_levels
 # make demo       that, and three small graphs
-# make examples   tries the examples: DOT and edge lists of listings, Python, a listing in parts
-# make outside    checks the built program from outside: refused memory, failing devices, broken files, the tour, the examples
+# make examples   tries the examples: forms of listings, by the readers that are installed, Python, a listing in parts
+# make outside    checks the built program from outside: refused memory, failing devices, broken files, tour, examples
 # make calls      refuses memory to library calls: what stood before stands after, a minute or two
 # make check      the gate: all proofs from nothing, the must-fail edits, the tests, the program
 # make install    puts the program into $(PREFIX)/bin as sgb, and its manual page into $(PREFIX)/share/man
@@ -43,10 +43,7 @@ demo: sgb
 	./sgb queen
 
 examples: sgb
-	./sgb list "petersen()" | awk -v to=dot -f examples/convert.awk | cmp - examples/petersen.dot
-	./sgb list "petersen()" | awk -v to=edges -f examples/convert.awk | cmp - examples/petersen.tsv
-	./sgb list "board(3,3,0,0,1,1,1)" | awk -v to=dot -v directed=1 -f examples/convert.awk | cmp - examples/cylinder.dot
-	./sgb list "board(3,3,0,0,1,1,1)" | awk -v to=edges -v directed=1 -f examples/convert.awk | cmp - examples/cylinder.tsv
+	python3 examples/convert_test.py ./sgb
 	python3 examples/sgb_graph_test.py
 	examples/shards_test.sh
 

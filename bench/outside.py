@@ -572,16 +572,6 @@ def document(path, wanted):
     return checks
 
 
-def examples(runs, tally):
-    """The four files of `make examples`."""
-    shell = Shell(runs, "made")
-    with open(os.path.join(TOP, "Makefile"), encoding="utf-8") as file:
-        found = re.findall(r"^\t(\./sgb list .* \| cmp - examples/.*)$", file.read(), re.M)
-    tally.check(len(found) == 4, "the Makefile compares so many files:", len(found))
-    for command in found:
-        tally.same(command, shell.run(command), (0, b"", b""))
-
-
 def manual(runs, tally):
     """The manual page's examples end with status 0 and no line; it has no warnings."""
     shell = Shell(runs, "manual")
@@ -615,7 +605,6 @@ def all_checks():
     yield "answers", answers
     yield "document README.md", document("README.md", 1)
     yield "document docs/TOUR.md", document("docs/TOUR.md", 20)
-    yield "examples", examples
     yield "manual", manual
     yield from scripts.all_checks(PROGRAM)
     yield "input left alone", unread
