@@ -1,8 +1,8 @@
 # make try        a quick look: a request from the sources, nothing proved, about a minute: make try WORDS='list "petersen()"'
 # make            proves every crate, builds the programs, leaves them as ./sgb and ./sgb_levels
 # make demo       that, and three small graphs
-# make examples   tries the examples: DOT and edge lists of listings, Python, a listing in parts, the cookbook
-# make outside    checks the built program from outside: refused memory, failing devices, broken files, the tour, the examples
+# make examples   tries the examples: forms of listings, by the readers that are installed, Python, a listing in parts, the cookbook
+# make outside    checks the built program from outside: refused memory, failing devices, broken files, tour, examples
 # make conformance  holds the program against a table of graphs and refusals
 # make graphbase GRAPHBASE=FOLDER  holds it against the published library in FOLDER: gb_graph.h .. and libgb.a
 # make gallery    makes the pictures of docs/gallery.md and compares them with those that are kept
@@ -44,10 +44,7 @@ demo: sgb
 	./sgb queen
 
 examples: sgb
-	./sgb list "petersen()" | awk -v to=dot -f examples/convert.awk | cmp - examples/petersen.dot
-	./sgb list "petersen()" | awk -v to=edges -f examples/convert.awk | cmp - examples/petersen.tsv
-	./sgb list "board(3,3,0,0,1,1,1)" | awk -v to=dot -v directed=1 -f examples/convert.awk | cmp - examples/cylinder.dot
-	./sgb list "board(3,3,0,0,1,1,1)" | awk -v to=edges -v directed=1 -f examples/convert.awk | cmp - examples/cylinder.tsv
+	python3 examples/convert_test.py ./sgb
 	python3 examples/sgb_graph_test.py
 	examples/cookbook_test.py ./sgb
 	examples/shards_test.sh

@@ -600,16 +600,6 @@ def document(path, wanted):
     return checks
 
 
-def examples(runs, tally):
-    """The four files of `make examples`."""
-    shell = Shell(runs, "made")
-    with open(os.path.join(TOP, "Makefile"), encoding="utf-8") as file:
-        found = re.findall(r"^\t(\./sgb list .* \| cmp - examples/.*)$", file.read(), re.M)
-    tally.check(len(found) == 4, "the Makefile compares so many files:", len(found))
-    for command in found:
-        tally.same(command, shell.run(command), (0, b"", b""))
-
-
 def manual(runs, tally):
     """The manual page's examples end with status 0 and no line; it has no warnings."""
     shell = Shell(runs, "manual")
@@ -660,7 +650,6 @@ def all_checks():
     yield "document README.md", document("README.md", 1)
     yield "document docs/TOUR.md", document("docs/TOUR.md", 20)
     yield from conformance.all_checks(document, Shell)
-    yield "examples", examples
     yield "manual", manual
     yield "version", version
     yield from scripts.all_checks(PROGRAM)

@@ -3,6 +3,7 @@ a status and a line and no wrong output, where a listing is cut off or refused, 
 arcs and not of edges."""
 
 import os
+import re
 import shutil
 import subprocess
 import sys
@@ -347,6 +348,78 @@ def clusters(program):
     return checks
 
 
+def forms(program):
+    def checks(runs, tally):
+        """The forms that convert.awk writes: those that are stored, and more that are read again."""
+        tests = os.path.join(TOP, "examples", "convert_test.py")
+        got = subprocess.run([sys.executable, "-B", tests, program, "stored"], capture_output=True, timeout=SECONDS)
+        said = got.stdout.decode() + got.stderr.decode()
+        found = re.fullmatch("([0-9]+) passed, 0 failed", (said.splitlines() or [""])[-1])
+        tally.check(got.returncode == 0 and found, tests, "gave", said)
+        tally.passed += int(found[1]) - 1 if found else 0
+
+    return checks
+
+
+def gb(program):
+    def checks(runs, tally):
+        """gb.h reads what sgb saves, and refuses what sgb refuses, with its codes."""
+        shell = Shell(runs, program, "gb")
+        status, _, err = shell.run("cc -O2 -Wall -Wextra -Werror -o gb_list examples/gb_list.c")
+        tally.same("cc gb_list.c", (status, err), (0, ""))
+        with open(os.path.join(TOP, "examples", "gb.h"), encoding="utf-8") as file:
+            tally.check(len(file.readlines()) < 150, "gb.h has too many lines")
+
+        def compare(what):
+            status, out, err = shell.run("sgb list stdin < file.gb")
+            mine = shell.run("./gb_list < file.gb")
+            code = re.search("panic code ([0-9]+)", err)
+            wanted = (0, out, "") if status == 0 else (1, "", f"gb_list: code {code[1]}\n" if code else err)
+            tally.same(what, mine, wanted)
+            return status
+
+        for expression in [
+            "petersen()", "board(9,9,0,0,-1,3,0)", "lines(board(3,0,0,0,-1,1,0),0)", "bi_complete(2,3,0)",
+            "simplex(5,2,2,0,0,0,0)", "product(lines(complete(5),0),lines(complete(5),0),0,0)", "empty(1)",
+        ]:
+            _, saved, _ = shell.run('sgb save "$EXPR"', EXPR=expression)
+            shell.write("file.gb", saved)
+            tally.check(compare(f"gb.h on the file of {expression}") == 0, expression, "was refused")
+        # every kind of field, a line broken in a string and after a comma, spaces at ends, and a record on no list
+        text = (
+            "* by hand\n* GraphBase graph (util_types IVSAIVSAIVSAIV,2V,3A)  \n"
+            '"all \\\nfields",2,9,"x",A2,\n-7,0\n* Vertices\n"a",A0,3,V1,"s",0,-9,0\n"b c",0,00,0,"",A1,9,V0  \n'
+            '* Arcs\nV1,A1,-5,"t",0\nV0,0,9223372036854775807,"u",A2\n1,0,0,"",0\n* Checksum -1\nmore\n'
+        )
+        text = text.replace('"all', '"all').replace("util_types IVSAIVSAIVSAIV", "util_types IVSAIVSASAIVZZ")
+        shell.write("file.gb", text)
+        tally.check(compare("gb.h on a file of all fields") == 0, "a file of all fields was refused")
+        short = shell.run('sgb save "circuit(3)"')[1]
+        texts = [short[:size] for size in range(0, len(short), 3)] + [text[:size] for size in range(0, len(text), 3)]
+        for whole, step in ((short, 2), (text, 2)):
+            for at in range(0, len(whole), step):
+                byte = "0AV1,\"\n \\-"[at // step % 10]
+                texts.append(whole[:at] + byte + whole[at + 1:])
+        # chains that do not end, on a list and on none; lists that lead to no vertex; lists that share records
+        head = '* GraphBase graph (util_types ZZZZZZZZZZZZZZ,2V,3A)\n"x",2,3\n* Vertices\n"a",A0\n"b",A1\n* Arcs\n'
+        for records in (
+            "V1,A1,1\nV1,A2,1\nV0,A0,1\n", "V1,0,1\nV1,0,1\nV0,A2,1\n", "0,0,1\nV1,0,1\nV0,0,1\n",
+            "V1,A2,1\nV1,A2,1\nV0,0,1\n", "V1,0,1\nV1,0,1\n1,0,1\n", "V1,0,1\nV1,A2,1\n1,0,1\n",
+        ):
+            texts += [head + records + "* Checksum -1\n", head + records + "* Checksum 5\n"]
+        refused = 0
+        for place, changed in enumerate(texts):
+            shell.write("file.gb", changed)
+            refused += compare(f"gb.h on changed file {place}, {changed!r}") != 0
+        tally.check(200 < refused < len(texts), "so many changed files were refused:", refused, "of", len(texts))
+        status, out, err = shell.run("./gb_list < .")
+        tally.check((status, out, err) == (1, "", "gb_list: code -1\n"), "gb.h on a folder gave", (status, out, err))
+        status, out, err = shell.run('sgb save "petersen()" | ./gb_list > /dev/full')
+        tally.check(status != 0, "gb_list on a full device gave", status)
+
+    return checks
+
+
 def python(program):
     def checks(runs, tally):
         """The tests of sgb_graph.py."""
@@ -360,8 +433,10 @@ def python(program):
 def all_checks(program):
     yield "scripts refusing", refused(program)
     yield "scripts agreeing", agreed(program)
+    yield "scripts of forms", forms(program)
     yield "scripts of blocks", blocks(program)
     yield "scripts of a part", parts(program)
     yield "scripts of parts", shards(program)
     yield "scripts of clusters", clusters(program)
+    yield "scripts in C", gb(program)
     yield "scripts in Python", python(program)

@@ -8,8 +8,15 @@
 #   to=edges    A line for each edge: two names and its length with tabs between them; an isolated vertex alone on a line.
 #               networkx reads it by read_edgelist("petersen.tsv", delimiter="\t"), or where there are lengths by
 #               read_weighted_edgelist, with create_using=networkx.DiGraph for arcs; it leaves isolated vertices out.
+#   to=dimacs   DIMACS: "p edge" with a line "e 1 2" for each edge where all lengths are 1; else, and with directed=1,
+#               "p sp" with a line "a 1 2 LENGTH" for each arc, two for an edge.
+#   to=metis    METIS: a line with the neighbours of each vertex. It has no arcs, loops, parallel edges, or lengths below 1.
+#   to=mtx      Matrix Market: the entries of the adjacency matrix. It has no parallel edges.
+#   to=graphml  GraphML; the length of an edge is its weight.
+#   to=graph6   graph6 of nauty. It has no arcs, loops or parallel edges, and no names and lengths: these are left out.
 #
-# Lengths are not written where all are 1, unless lengths=1 asks for them.
+# Vertices without a name in the format have the number of their place, from 1, in GraphML from 0; comments or labels tell
+# their names. Lengths are not written where all are 1, unless lengths=1 asks for them.
 #
 # A listing does not say whether its graph has edges or arcs. An edge stands on the lists of both its ends, a loop twice
 # on one. So without directed=1 the arcs have to come in such pairs, with equal lengths, and each pair is written once,
@@ -19,7 +26,7 @@
 # status is 1. What is refused: a listing without its head, as a refused request leaves it; a number of vertices or arcs
 # that is not the head's, as where the listing is cut off; a last line without its end; an arc to a vertex that is not
 # there; two vertices of one name, since a listing tells vertices apart by their names alone; arcs that do not come in
-# pairs.
+# pairs; what the format does not have.
 #
 #   directed=1  the arcs are arcs, and are written as they stand
 #   file=1      the graph is a file's (stdin): the number of arcs in the head is what the file says, and is not compared
@@ -30,8 +37,12 @@
 # It keeps the graph: mawk takes some 400 bytes for each vertex and 100 for each arc.
 
 BEGIN {
-    if (to !~ /^(dot|edges)$/)
-        fail("say what to write: -v to=dot or edges")
+    if (to !~ /^(dot|edges|dimacs|metis|mtx|graphml|graph6)$/)
+        fail("say what to write: -v to=dot, edges, dimacs, metis, mtx, graphml or graph6")
+    else if (resumed && to != "dot" && to != "edges")
+        fail("a resumed listing has not all vertices, and to=" to " needs them")
+    else if (directed && (to == "metis" || to == "graph6"))
+        fail("to=" to " has no arcs")
     # Records end at ">" and not at the end of a line: so a last line that has no end is seen.
     RS = ">"
 }
@@ -50,10 +61,13 @@ END {
         check()
     if (failed)
         exit 1
-    if (to == "dot")
-        write_dot()
-    else
-        write_edges()
+    if (to == "dot") write_dot()
+    if (to == "edges") write_edges()
+    if (to == "dimacs") write_dimacs()
+    if (to == "metis") write_metis()
+    if (to == "mtx") write_mtx()
+    if (to == "graphml") write_graphml()
+    if (to == "graph6") write_graph6()
 }
 
 function fail(text) {
@@ -136,6 +150,8 @@ function check() {
         fail("the head has " head_arcs " arcs, the listing " arcs + 0 ": it is cut off, or a file's (-v file=1)")
     else
         check_arcs()
+    if (!failed && (to == "metis" || to == "mtx" || to == "graph6"))
+        check_form()
 }
 
 function check_arcs(    i, k, u, v, key) {
@@ -155,6 +171,22 @@ function check_arcs(    i, k, u, v, key) {
                 return fail("the arc from " names[u] " to " names[v] ", length " len_of(k) \
                     ", is no edge, since none leads back: say -v directed=1 where arcs are meant")
         }
+}
+
+# Whether the format has such a graph: a loop stands twice on its vertex's list, of arcs once.
+function check_form(    i, k, loops, met) {
+    for (i = 1; i <= vertices; i++) {
+        loops = 0
+        for (k = first[i]; k < first[i + 1]; k++) {
+            if (to == "metis" && len_of(k) < 1)
+                return fail("to=metis has no lengths below 1, and there is one at " names[order[i]])
+            if (tips[k] == order[i] && to != "mtx")
+                return fail("to=" to " has no loops, and there is one at " names[order[i]])
+            if (tips[k] == order[i] ? ++loops > 2 - directed : met[tips[k]] == i)
+                return fail("to=" to " has no parallel edges, and there are some from " names[order[i]] " to " names[tips[k]])
+            met[tips[k]] = i
+        }
+    }
 }
 
 # ---- what the formats have in common
@@ -198,4 +230,107 @@ function write_edges(    i, k, is_tip) {
             if (is_written(i, k))
                 print names[order[i]] "\t" names[tips[k]] (lengths ? "\t" len_of(k) : "")
     }
+}
+
+# A comment for each vertex: the name of its number, from 1.
+function write_names(sign,    i) {
+    print sign " " head[2]
+    for (i = 1; i <= vertices; i++)
+        print sign " vertex " i " is " names[order[i]]
+}
+
+# Edges of length 1 as in the problems of colouring, else arcs as in those of shortest paths: for an edge one each way.
+function write_dimacs(    i, k, is_edges) {
+    is_edges = !directed && !lengths
+    write_names("c")
+    print is_edges ? "p edge " vertices + 0 " " arcs / 2 : "p sp " vertices + 0 " " arcs + 0
+    for (i = 1; i <= vertices; i++)
+        for (k = first[i]; k < first[i + 1]; k++)
+            if (!is_edges)
+                print "a " i " " place[tips[k]] " " len_of(k)
+            else if (is_written(i, k))
+                print "e " i " " place[tips[k]]
+}
+
+# A line for each vertex: its neighbours, each with the length of the edge where there are lengths.
+function write_metis(    i, k, line) {
+    write_names("%")
+    print vertices + 0 " " arcs / 2 (lengths ? " 001" : "")
+    for (i = 1; i <= vertices; i++) {
+        line = ""
+        for (k = first[i]; k < first[i + 1]; k++)
+            line = line (line == "" ? "" : " ") place[tips[k]] (lengths ? " " len_of(k) : "")
+        print line
+    }
+}
+
+# A line for each entry, row and column and length; of a symmetric matrix those that are not above the diagonal.
+function write_mtx(    i, k, entries) {
+    for (i = 1; i <= vertices; i++)
+        for (k = first[i]; k < first[i + 1]; k++)
+            entries += is_written(i, k)
+    print "%%MatrixMarket matrix coordinate " (lengths ? "integer " : "pattern ") (directed ? "general" : "symmetric")
+    write_names("%")
+    print vertices + 0 " " vertices + 0 " " entries + 0
+    for (i = 1; i <= vertices; i++)
+        for (k = first[i]; k < first[i + 1]; k++)
+            if (is_written(i, k))
+                print (directed ? i " " place[tips[k]] : place[tips[k]] " " i) (lengths ? " " len_of(k) : "")
+}
+
+function write_graphml(    i, k) {
+    print "<?xml version=\"1.0\" encoding=\"UTF-8\"?>"
+    print "<graphml xmlns=\"http://graphml.graphdrawing.org/xmlns\">"
+    print "  <key id=\"id\" for=\"graph\" attr.name=\"name\" attr.type=\"string\"/>"
+    print "  <key id=\"name\" for=\"node\" attr.name=\"name\" attr.type=\"string\"/>"
+    if (lengths)
+        print "  <key id=\"weight\" for=\"edge\" attr.name=\"weight\" attr.type=\"long\"/>"
+    print "  <graph edgedefault=\"" (directed ? "directed" : "undirected") "\">"
+    print "    <data key=\"id\">" escaped(head[2]) "</data>"
+    for (i = 1; i <= vertices; i++)
+        print "    <node id=\"n" i - 1 "\"><data key=\"name\">" escaped(names[order[i]]) "</data></node>"
+    for (i = 1; i <= vertices; i++)
+        for (k = first[i]; k < first[i + 1]; k++)
+            if (is_written(i, k))
+                print "    <edge source=\"n" i - 1 "\" target=\"n" place[tips[k]] - 1 "\"" \
+                    (lengths ? "><data key=\"weight\">" len_of(k) "</data></edge>" : "/>")
+    print "  </graph>"
+    print "</graphml>"
+}
+
+function escaped(text) {
+    gsub(/&/, "\\&amp;", text)
+    gsub(/</, "\\&lt;", text)
+    gsub(/>/, "\\&gt;", text)
+    return text
+}
+
+# The number of vertices, then a bit for each pair, those of (1, 2), (1, 3), (2, 3), (1, 4), ..; six bits a byte.
+function write_graph6(    i, j, k, is_tip, bits, value) {
+    if (vertices > 62)
+        printf "%s", (vertices > 258047 ? "~~" : "~")
+    write_bits(vertices + 0, vertices > 258047 ? 6 : vertices > 62 ? 3 : 1)
+    for (j = 2; j <= vertices; j++) {
+        split("", is_tip)
+        for (k = first[j]; k < first[j + 1]; k++)
+            is_tip[place[tips[k]]] = 1
+        for (i = 1; i < j; i++) {
+            value = 2 * value + (i in is_tip)
+            if (++bits == 6) {
+                write_bits(value, 1)
+                bits = value = 0
+            }
+        }
+    }
+    for (i = bits; i % 6; i++)
+        value *= 2
+    if (bits)
+        write_bits(value, 1)
+    print ""
+}
+
+function write_bits(value, bytes) {
+    if (bytes > 1)
+        write_bits(int(value / 64), bytes - 1)
+    printf "%c", value % 64 + 63
 }

@@ -1,0 +1,347 @@
+#!/usr/bin/env python3
+"""Tests of convert.awk: examples/convert_test.py PROGRAM [stored].
+
+Each form of some graphs is compared with the file in converted/ that is stored for it, by each kind of awk that is there.
+Each form of more graphs is read again, here and, unless `stored` asks for no more, by the readers that are installed
+(networkx, igraph, scipy, Graphviz, nauty's showg, METIS's graphchk), and compared with what sgb_graph.py says.
+"""
+
+import collections
+import os
+import re
+import shutil
+import subprocess
+import sys
+import tempfile
+import xml.etree.ElementTree
+
+HERE = os.path.dirname(os.path.abspath(__file__))
+sys.path.insert(0, HERE)
+sys.dont_write_bytecode = True
+import sgb_graph
+
+FORMS = ["dot", "edges", "dimacs", "metis", "mtx", "graphml", "graph6"]
+# the stored ones: edges of length 1, edges with lengths and a vertex that is alone, arcs and names that XML has to escape
+STORED = [
+    ("petersen", "petersen()", False),
+    ("lengths", "gunion(empty(6),board(5,0,0,0,-1,0,0),0,0)", False),
+    ("arrows", "lines(cycle(4),1)", True),
+]
+READ = [(expression, directed) for _, expression, directed in STORED] + [
+    ("empty(3)", False), ("simplex(5,2,2,0,0,0,0)", False), ("complete(62)", False), ("circuit(63)", False),
+    ("circuit(64)", False), ("board(3,4,0,0,-1,3,0)", False), ("board(3,4,0,0,-1,0,0)", False), ("board(1,0,0,0,1,1,0)", False),
+    ("complement(empty(3),0,1,0)", False), ("complement(empty(3),0,1,1)", True), ("transitive(6)", True),
+    ("gunion(complete(5),circuit(5),1,0)", False), ("product(complete(3),circuit(4),0,0)", False),
+    ("board(4,4,0,0,-1,0,1)", True), ("lines(complete(4),0)", False),
+]
+
+# What a form says: how many vertices, their names in order or None, and the edges or arcs by places from 0.
+Form = collections.namedtuple("Form", "n names edges")
+
+
+def graph_of(program, expression, directed):
+    names = [name for name, _ in sgb_graph.read(expression, program=program)]
+    place = {name: at for at, name in enumerate(names)}
+    edges = sgb_graph.to_edges(sgb_graph.read(expression, program=program), directed)
+    return Form(len(names), names, sorted((place[u], place[v], length) for u, v, length in edges))
+
+
+def converted(program, expression, directed, form, awk=("awk",)):
+    listing = subprocess.run([program, "list", expression], capture_output=True, check=True).stdout
+    words = [*awk, "-v", f"to={form}", "-v", f"directed={int(directed)}", "-f", os.path.join(HERE, "convert.awk")]
+    return subprocess.run(words, input=listing, capture_output=True)
+
+
+def fits(graph, form, directed):
+    """Whether the form has such a graph."""
+    pairs = collections.Counter(edge[:2] if directed else tuple(sorted(edge[:2])) for edge in graph.edges)
+    if form in ("metis", "mtx", "graph6") and any(count > 1 for count in pairs.values()):
+        return False
+    if form in ("metis", "graph6") and (directed or any(u == v for u, v in pairs)):
+        return False
+    return form != "metis" or all(length > 0 for _, _, length in graph.edges)
+
+
+# ---- each form, read by its own rules: vertices named by their numbers become places from 0
+
+
+def named(lines, sign):
+    found = [re.fullmatch(f"{sign} vertex ([0-9]+) is (.*)", line) for line in lines]
+    numbers = [int(match[1]) for match in found if match]
+    assert numbers == list(range(1, len(numbers) + 1)), numbers
+    return [match[2] for match in found if match]
+
+
+def ints(line):
+    return [int(word) for word in line.split()]
+
+
+def one_way(arcs):
+    """Of an edge's two arcs one, of two loops one."""
+    loops = [arc for arc in sorted(arcs) if arc[0] == arc[1]]
+    assert sorted(arcs) == sorted((v, u, *rest) for u, v, *rest in arcs) and loops[::2] == loops[1::2], arcs
+    return [arc for arc in arcs if arc[0] < arc[1]] + loops[::2]
+
+
+def read_dot(text, graph, directed):
+    lines = text.splitlines()
+    assert re.fullmatch(("digraph" if directed else "graph") + ' ".*" {', lines[0]) and lines[-1] == "}", lines
+    names = [line[3:-2] for line in lines if re.fullmatch('  "[^"]*";', line)]
+    found = [re.fullmatch('  "([^"]*)" (--|->) "([^"]*)"(?: \\[label="(-?[0-9]+)"\\])?;', line) for line in lines]
+    edges = [(names.index(match[1]), names.index(match[3]), int(match[4] or 1)) for match in found if match]
+    assert len(names) + len(edges) + 2 == len(lines), lines
+    return Form(len(names), names, edges)
+
+
+def read_edges(text, graph, directed):
+    place, met, edges = {name: at for at, name in enumerate(graph.names)}, set(), []
+    for line in text.splitlines():
+        ends, length = line.split("\t")[:2], (line.split("\t") + ["1"])[2:3]
+        assert len(ends) == 2 or not met & {place[line]}, line
+        met |= {place[end] for end in ends}
+        if len(ends) == 2:
+            edges.append((place[ends[0]], place[ends[1]], int(length[0])))
+    return Form(len(met), None, edges)
+
+
+def read_dimacs(text, graph, directed):
+    lines = text.splitlines()
+    kind, n, m = [line.split()[1:] for line in lines if line[0] == "p"][0]
+    arcs = [ints(line[1:]) for line in lines if line[0] in "ea"]
+    assert len(arcs) == int(m) and all(line[0] in "cp" + {"edge": "e", "sp": "a"}[kind] for line in lines), text
+    edges = [(arc[0] - 1, arc[1] - 1, arc[2] if kind == "sp" else 1) for arc in arcs]
+    return Form(int(n), named(lines, "c"), edges if directed or kind == "edge" else one_way(edges))
+
+
+def read_metis(text, graph, directed):
+    lines = [line for line in text.splitlines() if not line.startswith("%")]
+    n, m, *has_lengths = ints(lines[0])
+    step = 2 if has_lengths else 1
+    arcs = []
+    for at, line in enumerate(lines[1:]):
+        numbers = ints(line)
+        arcs += [(at, numbers[k] - 1, numbers[k + 1] if has_lengths else 1) for k in range(0, len(numbers), step)]
+    edges = one_way(arcs)
+    assert len(lines) == n + 1 and len(edges) == m, text
+    return Form(n, named(text.splitlines(), "%"), edges)
+
+
+def read_mtx(text, graph, directed):
+    lines = text.splitlines()
+    kind = re.fullmatch("%%MatrixMarket matrix coordinate (pattern|integer) (general|symmetric)", lines[0])
+    rows, columns, m = ints(next(line for line in lines if line[0] != "%"))
+    entries = [ints(line) for line in lines if line[0] != "%"][1:]
+    assert rows == columns and m == len(entries) and (kind[2] == "general") == directed, text
+    assert directed or all(entry[0] >= entry[1] for entry in entries), text
+    return Form(rows, named(lines, "%"), [(u - 1, v - 1, *(length or [1])) for u, v, *length in entries])
+
+
+def read_graphml(text, graph, directed):
+    root = xml.etree.ElementTree.fromstring(text)
+    space = "{http://graphml.graphdrawing.org/xmlns}"
+    inside = root.find(space + "graph")
+    assert inside.get("edgedefault") == ("directed" if directed else "undirected"), text
+    nodes = inside.findall(space + "node")
+    assert [node.get("id") for node in nodes] == [f"n{at}" for at in range(len(nodes))], text
+    edges = [
+        (int(edge.get("source")[1:]), int(edge.get("target")[1:]), int(edge.findtext(space + "data") or 1))
+        for edge in inside.findall(space + "edge")
+    ]
+    return Form(len(nodes), [node.findtext(space + "data") for node in nodes], edges)
+
+
+def read_graph6(text, graph, directed):
+    values = [ord(byte) - 63 for byte in text.rstrip("\n")]
+    start, bytes_ = (2, 6) if values[:2] == [63, 63] else (1, 3) if values[0] == 63 else (0, 1)
+    n = int("".join(f"{value:06b}" for value in values[start:start + bytes_]), 2)
+    bits = "".join(f"{value:06b}" for value in values[start + bytes_:])
+    pairs = [(u, v) for v in range(n) for u in range(v)]
+    assert 0 <= len(bits) - len(pairs) < 6 and "1" not in bits[len(pairs):], text
+    return Form(n, None, [(u, v, 1) for (u, v), bit in zip(pairs, bits) if bit == "1"])
+
+
+def is_same(form, seen, graph, directed):
+    def sorted_(edges):
+        lengths = form != "graph6"
+        return sorted((*(edge[:2] if directed else sorted(edge[:2])), edge[2] if lengths else 1) for edge in edges)
+
+    return (seen.n, seen.names or graph.names, sorted_(seen.edges)) == (graph.n, graph.names, sorted_(graph.edges))
+
+
+# ---- readers that may be installed: functions of a file, the graph and whether it is directed; None where one is not tried
+
+
+def networkx_readers(networkx):
+    def of(found, graph, directed, names=None):
+        assert found.is_directed() == directed
+        place = {name: at for at, name in enumerate(names if names is not None else found.nodes)}
+        return Form(len(place), names, [(place[u], place[v], data.get("weight", 1)) for u, v, data in found.edges(data=True)])
+
+    def edges(path, graph, directed):
+        kind = networkx.MultiDiGraph if directed else networkx.MultiGraph
+        with open(path, encoding="ascii") as file:
+            has_lengths = any(line.count("\t") == 2 for line in file)
+        read = networkx.read_weighted_edgelist if has_lengths else networkx.read_edgelist
+        return of(read(path, delimiter="\t", create_using=kind), graph, directed, graph.names)
+
+    def graphml(path, graph, directed):
+        found = networkx.read_graphml(path)
+        names = [data["name"] for _, data in found.nodes(data=True)]
+        return of(networkx.relabel_nodes(found, dict(zip(found, names))), graph, directed, names)
+
+    def graph6(path, graph, directed):
+        return of(networkx.read_graph6(path), graph, directed)
+
+    return {"edges": edges, "graphml": graphml, "graph6": graph6}
+
+
+def igraph_readers(igraph):
+    def of(found, names):
+        has_lengths = names is not None and "weight" in found.es.attributes()
+        weights = found.es["weight"] if has_lengths else [1] * found.ecount()
+        return Form(found.vcount(), names, [(*ends, int(w)) for ends, w in zip(found.get_edgelist(), weights)])
+
+    def graphml(path, graph, directed):
+        found = igraph.Graph.Read_GraphML(path)
+        assert found.is_directed() == directed
+        return of(found, found.vs["name"] if found.vcount() else [])
+
+    def dimacs(path, graph, directed):
+        with open(path, encoding="ascii") as file:
+            if "p sp" in file.read():
+                return None
+        # not Graph.Read_DIMACS, which wants capacities
+        return of(igraph.GraphBase.Read_DIMACS(path, False)[0], None)
+
+    return {"graphml": graphml, "dimacs": dimacs}
+
+
+def scipy_readers(io):
+    def mtx(path, graph, directed):
+        found = io.mmread(path).tocoo()
+        entries = [(int(u), int(v), int(length)) for u, v, length in zip(found.row, found.col, found.data)]
+        return Form(found.shape[0], None, [entry for entry in entries if directed or entry[0] >= entry[1]])
+
+    return {"mtx": mtx}
+
+
+def run(*words):
+    return subprocess.run(words, capture_output=True, text=True, check=True, timeout=60).stdout
+
+
+def dot(path, graph, directed):
+    if len(graph.edges) > 50:
+        return None  # it would lay them out, which takes long
+    lines = run("dot", "-Tplain", path).splitlines()
+    # it tells the vertices in the order in which it lays them out
+    names = graph.names
+    assert sorted(line.split()[1].strip('"') for line in lines if line.startswith("node ")) == sorted(names), lines
+    edges = []
+    for words in [line.split() for line in lines if line.startswith("edge ")]:
+        label = words[4 + 2 * int(words[3]):]
+        edges.append((*(names.index(end.strip('"')) for end in words[1:3]), int(label[0]) if len(label) > 2 else 1))
+    return Form(len(names), names, edges)
+
+
+def showg(path, graph, directed):
+    program = "showg" if shutil.which("showg") else "nauty-showg"
+    numbers = ints(" ".join(run(program, "-q", "-e", path).replace(";", " ").split()))
+    n, m, ends = numbers[0], numbers[1], numbers[2:]
+    assert len(ends) == 2 * m
+    return Form(n, None, [(*ends[k:k + 2], 1) for k in range(0, 2 * m, 2)])
+
+
+def graphchk(path, graph, directed):
+    """It says only that the file is right, and takes no graph without edges."""
+    if not graph.edges:
+        return None
+    return "format of the graph is correct" in run("graphchk", path).replace("\n", " ") or Form(0, None, [])
+
+
+def installed():
+    """For each reader that is there its name and the form; and the names of those that are not."""
+    found, missing = [], []
+    for name, module, readers in [
+        ("networkx", "networkx", networkx_readers), ("igraph", "igraph", igraph_readers), ("scipy", "scipy.io", scipy_readers)
+    ]:
+        try:
+            there = __import__(module, fromlist=["x"])
+        except ImportError:
+            missing.append(name)
+            continue
+        found += [(name, form, reader) for form, reader in readers(there).items()]
+    for name, form, reader in [("dot", "dot", dot), ("showg", "graph6", showg), ("graphchk", "metis", graphchk)]:
+        if shutil.which(name) or shutil.which(f"nauty-{name}"):
+            found.append((name, form, reader))
+        else:
+            missing.append(name)
+    return found, missing
+
+
+# ----
+
+
+def awks():
+    """The kinds of awk that are there."""
+    found = [(name,) for name in ("mawk", "gawk", "original-awk") if shutil.which(name)]
+    if shutil.which("busybox") and not subprocess.run(["busybox", "awk", ""], capture_output=True).returncode:
+        found.append(("busybox", "awk"))
+    return found or [("awk",)]
+
+
+def main():
+    program = os.path.abspath(sys.argv[1]) if len(sys.argv) > 1 else os.path.join(HERE, "..", "sgb")
+    failed, done = [], collections.Counter()
+
+    def check(is_right, *what):
+        done["checks"] += 1
+        if not is_right:
+            failed.append(" ".join(map(str, what)))
+
+    for name, expression, directed in STORED:
+        graph = graph_of(program, expression, directed)
+        for form in FORMS:
+            path = os.path.join(HERE, "converted", f"{name}.{form}")
+            check(os.path.exists(path) == fits(graph, form, directed), path, "is there, or is not, and should not, or should")
+            for awk in awks() if os.path.exists(path) else []:
+                got = converted(program, expression, directed, form, awk)
+                with open(path, "rb") as file:
+                    check((got.returncode, got.stdout, got.stderr) == (0, file.read(), b""), path, "differs by", *awk)
+    readers, missing = installed() if sys.argv[2:] != ["stored"] else ([], [])
+    with tempfile.TemporaryDirectory() as folder:
+        for expression, directed in READ:
+            graph = graph_of(program, expression, directed)
+            for form in FORMS:
+                got = converted(program, expression, directed, form)
+                what = f"{form} of {expression}"
+                if not fits(graph, form, directed):
+                    is_refused = got.returncode == 1 and not got.stdout and got.stderr.startswith(b"convert.awk: to=")
+                    check(is_refused and got.stderr.count(b"\n") == 1, what, "was not refused:", got)
+                    continue
+                check(got.returncode == 0 and not got.stderr, what, "gave", got)
+                path = os.path.join(folder, f"graph.{form}")
+                with open(path, "wb") as file:
+                    file.write(got.stdout)
+                mine = lambda path, graph, directed: globals()[f"read_{form}"](got.stdout.decode(), graph, directed)
+                for name, _, reader in [("the test", form, mine), *(each for each in readers if each[1] == form)]:
+                    try:
+                        seen = reader(path, graph, directed)
+                    except Exception as fault:
+                        check(False, what, "read by", name, "failed:", repr(fault))
+                        continue
+                    if seen is not None:
+                        done[f"{form} by {name}"] += 1
+                        check(seen is True or is_same(form, seen, graph, directed), what, "read by", name, "gave", seen)
+    for line in failed:
+        print(line)
+    for name, count in sorted(done.items()):
+        if " by " in name:
+            print(f"{count:4} graphs read from {name}")
+    if missing:
+        print("not installed, so not tried:", ", ".join(missing))
+    print(f"{done['checks'] - len(failed)} passed, {len(failed)} failed")
+    sys.exit(1 if failed else 0)
+
+
+if __name__ == "__main__":
+    main()
