@@ -3,7 +3,7 @@
 # make demo       that, and three small graphs
 # make examples   tries the examples: DOT and edge lists of listings, Python, a listing in parts
 # make outside    checks the built program from outside: refused memory, failing devices, broken files, the tour
-# make calls      refuses memory to library calls: what stood before stands after, a minute or two
+# make calls      refuses memory to library calls: what stood before stands after, about a minute
 # make check      the gate: all proofs from nothing, the must-fail edits, the tests, the program
 # make install    puts the program into $(PREFIX)/bin as sgb, and its manual page into $(PREFIX)/share/man
 # make uninstall  takes both away again
