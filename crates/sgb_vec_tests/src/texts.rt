@@ -1,6 +1,6 @@
 ghost use Rattle.std.specs.Prelude.{◌≤◌, length};
 
-use sgb_vec::{Panic, Text, name_of};
+use sgb_vec::{Panic, Text, is_text_byte, name_of};
 use std::alloc::Global;
 
 // Whether the vector's name is this text.
@@ -51,6 +51,15 @@ fn a_vector_of_251_entries_has_a_name(rt: HostRuntime) {
         name[2 * place] = b'7';
     }
     assert!(rt; is_named(rt.alloc(), &[7; 251], &name));
+}
+
+// How many of all bytes may stand in a text, and whether the bounds and the two that may not are among them.
+#[test]
+fn bytes_of_texts(rt: HostRuntime) {
+    let count = (0..=u8::MAX).filter(|byte| is_text_byte(*byte)).count();
+    assert!(rt; count == 93);
+    assert!(rt; is_text_byte(b' ') && is_text_byte(b'~'));
+    assert!(rt; !is_text_byte(b'"') && !is_text_byte(b'\\'));
 }
 
 #[test]
