@@ -316,7 +316,13 @@ fn rest_after(alloc: Global, n1: i64, square: u32) -> CutSink<200> {
         return out;
     }
     let mut links = Links::new(alloc);
-    let _whole = list_family(&Local::Board(board), false, Some(&after), &mut links, &mut out);
+    let _whole = list_family(
+        &Local::Board(board),
+        false,
+        Some(&after),
+        &mut links,
+        &mut out,
+    );
     out
 }
 
