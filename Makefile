@@ -1,12 +1,12 @@
 # make try        a quick look: a request from the sources, nothing proved, about a minute: make try WORDS='list "petersen()"'
 # make            proves every crate, builds the programs, leaves them as ./sgb and ./sgb_levels
 # make demo       that, and three small graphs
-# make examples   tries the examples: forms of listings, by the readers that are installed, Python, a listing in parts, the cookbook
+# make examples   tries the examples: forms of listings, by the readers installed, Python, parts of a listing, the cookbook
 # make outside    checks the built program from outside: refused memory, failing devices, broken files, tour, examples
 # make conformance  holds the program against a table of graphs and refusals
 # make graphbase GRAPHBASE=FOLDER  holds it against the published library in FOLDER: gb_graph.h .. and libgb.a
 # make gallery    makes the pictures of docs/gallery.md and compares them with those that are kept
-# make calls      refuses memory to library calls: what stood before stands after, a minute or two
+# make calls      refuses memory to library calls: what stood before stands after, about a minute
 # make check      the gate: all proofs from nothing, must-fail edits, the tests, the program
 # make edits      tries the must-fail edits that the gate leaves out, on a copy
 # make install    puts what is built into $(PREFIX)/bin, and its manual page into $(PREFIX)/share/man; it builds nothing

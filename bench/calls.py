@@ -1,33 +1,68 @@
 #!/usr/bin/env python3
-"""Library calls with memory refused: bench/calls.py, a minute or two.
+"""Library calls with memory refused: bench/calls.py, about a minute.
 
-It builds bench/calls.in over the crates, unproved, in a folder of its own, and runs it once for each allocation that
-it makes, which fails then (rt try --cases). A run passes where it ends with 0, or with 1, which is want of memory for what
-it needs itself; it fails where what stood before a refused call does not stand after it. Each call has to be refused
-once at least. The last line is "N passed, M failed".
+It builds the program in bench/calls over the crates, unproved, in a folder of its own, by `rt try --fail-alloc N`, which
+makes a program whose N-th allocation fails; and runs it once for each allocation that it makes, with so many others before
+that this one is the N-th. A run passes where it ends with 0, or with 1, which is want of memory for
+what it needs itself; it fails where what stood before a refused call does not stand after it, where the call has another
+error than that of memory, or where the same call made once more does not do its work. Each call has to be refused once at
+least. The last line is "N passed, M failed".
 """
 
 import collections
+import concurrent.futures
+import glob
 import os
-import re
 import shutil
+import signal
 import subprocess
 import sys
 import tempfile
+import time
 
 TOP = os.path.dirname(os.path.dirname(os.path.abspath(__file__)))
-BELOW = ["sgb_vec", "sgb_graph", "sgb_gen"]
-FAILS = 800  # as in calls.in
-CASES = 500  # more than there are allocations
+BELOW = ["sgb_vec", "sgb_graph", "sgb_gen", "sgb_ops", "sgb_file", "sgb_expr", "sgb_requests", "sgb"]
+FAILS = 2000  # as in bench/calls/main.in
+CASES = 900  # more than there are allocations
 CALLS = [
+    "SumFamily::new",
+    "Text::new",
+    "Text::copy",
+    "name_of",
+    "Names::with_capacity",
     "Names::push",
+    "Graph::new",
     "Graph::new_arc",
     "Graph::new_edge",
+    "Graph::reserve",
     "Parts::add_vertex",
     "Parts::add_arc",
+    "Parts::check",
+    "board",
+    "simplex",
+    "subsets",
+    "Simplex::new",
+    "Subsets::new",
+    "complement",
+    "gunion",
+    "intersection",
+    "lines",
+    "product",
+    "bi_complete",
+    "wheel",
+    "induced",
+    "induced_from",
+    "read_gb",
+    "parse_expr",
+    "graph_of",
     "Board::arcs_at",
     "Simplex::arcs_at",
     "Subsets::arcs_at",
+    "BoardLists::arcs_at",
+    "Simplex::arcs_count",
+    "list_family",
+    "request",
+    "read_input",
 ]
 
 
@@ -48,8 +83,10 @@ def build(folder):
     for crate in BELOW:
         for part in ("src", "specs", "proofs"):
             shutil.copytree(os.path.join(TOP, "crates", crate, part), os.path.join(folder, "crates", crate, part))
-    os.makedirs(os.path.join(folder, "crates", "calls", "src"))
-    shutil.copy(os.path.join(TOP, "bench", "calls.in"), os.path.join(folder, "crates", "calls", "src", "main.rt"))
+    source = os.path.join(folder, "crates", "calls", "src")
+    os.makedirs(source)
+    for name in ("main", "below", "graphs", "requests"):
+        shutil.copy(os.path.join(TOP, "bench", "calls", name + ".in"), os.path.join(source, name + ".rt"))
     shutil.copy(os.path.join(TOP, "HANDLES"), folder)
     with open(os.path.join(TOP, "crates.txt")) as file:
         lines = [line for line in file if line.split(":")[0] in BELOW]
@@ -57,27 +94,74 @@ def build(folder):
         file.writelines(lines + ["calls: " + " ".join(BELOW) + "\n"])
 
 
+def compiled(folder):
+    """The program, as `rt try` compiles it: it is copied while it waits, and then stopped."""
+    build(folder)
+    place = os.path.join(folder, "calls")
+    own = os.path.join(folder, "tmp")
+    os.mkdir(own)
+    words = [os.environ.get("RT", "rt"), "try", "--steps", "1", "--fail-alloc", str(FAILS)]
+    with open(os.path.join(folder, "said"), "w+") as said:
+        rt = subprocess.Popen(
+            words, cwd=os.path.join(folder, "crates", "calls"), env=dict(os.environ, TMPDIR=own),
+            stdin=subprocess.DEVNULL, stdout=said, stderr=said, start_new_session=True,
+        )
+        try:
+            while rt.poll() is None:
+                time.sleep(0.2)
+                # it runs in a folder that has its output, too
+                for program in glob.glob(os.path.join(own, "*", "*", "program")):
+                    if is_waiting(os.path.join(os.path.dirname(program), "stdout")):
+                        shutil.copy(program, place)
+                        return place
+        finally:
+            stop(rt)
+        said.seek(0)
+        sys.exit(f"{said.read()[-3000:]}\nthe program was not built, or not found where rt try runs it\n0 passed, 1 failed")
+
+
+def is_waiting(path):
+    try:
+        with open(path) as out:
+            return out.read().startswith("waiting")
+    except FileNotFoundError:
+        return False
+
+
+def stop(process):
+    """Stops a process and those that it started."""
+    for stopping in signal.SIGTERM, signal.SIGKILL:
+        if process.poll() is None:
+            os.killpg(process.pid, stopping)
+            try:
+                process.wait(5)
+            except subprocess.TimeoutExpired:
+                pass
+
+
+def run(program, number):
+    """What the program comes to whose allocation of this number fails: its status, and the calls that were refused."""
+    try:
+        ran = subprocess.run([program], input=str(number), capture_output=True, text=True, timeout=60)
+    except subprocess.TimeoutExpired:
+        return "none", []
+    return ran.returncode, ran.stdout.splitlines()
+
+
 def main():
+    refused = collections.Counter()
     with tempfile.TemporaryDirectory() as folder:
-        build(folder)
-        cases = os.path.join(folder, "cases")
-        os.mkdir(cases)
-        for number in range(1, CASES + 1):
-            with open(os.path.join(cases, f"{number:04}"), "w") as file:
-                file.write(str(number))
-        words = ["rt", "try", "--steps", "1", "--fail-alloc", str(FAILS), "--cases", cases]
-        ran = subprocess.run(words, cwd=os.path.join(folder, "crates", "calls"), capture_output=True, text=True)
-    statuses = dict(re.findall(r"^case=(\d+) run=ended status=(\d+) ", ran.stderr, re.M))
-    refused = collections.Counter(line for line in ran.stdout.splitlines() if line in CALLS)
-    for number in range(1, CASES + 1):
-        told = statuses.get(f"{number:04}")
-        check(f"allocation {number}: status {told}", told in ("0", "1"))
+        program = compiled(folder)
+        with concurrent.futures.ThreadPoolExecutor(os.cpu_count()) as pool:
+            runs = list(pool.map(lambda number: run(program, number), range(1, CASES + 1)))
+    for number, (status, lines) in enumerate(runs, 1):
+        check(f"allocation {number}: status {status} after {', '.join(lines) or 'no refused call'}", status in (0, 1))
+        refused.update(lines)
     for call in CALLS:
         check(f"{call} is refused", refused[call] > 0)
-    # the last cases are beyond the last allocation, so all of them was tried
-    check("nothing is refused at the end", statuses.get(f"{CASES:04}") == "0" and ran.stdout.endswith(f"== {CASES:04}\n"))
-    if not statuses:
-        sys.stderr.write(ran.stderr[-3000:])
+    # the last runs are beyond the last allocation, so all of them was tried
+    check("nothing is refused at the end", runs[-1] == (0, []))
+    check("each refused call is in the list", set(refused) <= set(CALLS))
     print(", ".join(f"{call} {refused[call]}" for call in CALLS))
     print(f"{passed} passed, {failed} failed")
     return 1 if failed else 0

@@ -2,12 +2,8 @@
 //! numbers.
 //!
 //! What the program does is the library's `run_program`, which is proved. `main` hands it the words and the streams; it is
-//! run by a stored run (`args`, `stdout`) and by a test, and not proved.
+//! run by a stored run (`args`, `stdout`), and not proved.
 #![tactic(auto)]
-
-// Calls of the library, from outside.
-#[cfg(test)]
-mod tests;
 
 use sgb::run_program;
 use sgb_file::{Buffered, FromRead, ToWrite};

@@ -7,12 +7,14 @@ use std::test::Fail;
 
 // Parameters of boards whose lists are compared with those of the built graphs, each with both directions: leapers
 // and riders, with sides that wrap around and loops.
-const BOARDS: [[i64; 6]; 12] = [
+const BOARDS: [[i64; 6]; 14] = [
+    [2, 2, 0, 0, 1, 0],
     [2, 3, 0, 0, 1, 0],
     [3, 0, 0, 0, -1, 0],
     [3, 0, 0, 0, -1, 1],
     [4, 0, 0, 0, -1, 1],
     [1, 0, 0, 0, 1, 1],
+    [1, 0, 0, 0, -1, 1],
     [2, 2, 0, 0, 1, 3],
     [3, 4, 0, 0, 2, 3],
     [4, 6, 0, 0, -2, 3],

@@ -6,8 +6,9 @@ use std::alloc::Global;
 use std::test::Fail;
 
 // Parameters of subsets whose lists are compared with those of the built graphs, each with both directions.
-const SUBSETS: [([i64; 6], u128); 6] = [
+const SUBSETS: [([i64; 6], u128); 7] = [
     ([2, 1, -4, 0, 0, 0], 0x1),
+    ([3, 2, 2, 2, 0, 0], 0x3),
     ([3, 2, 2, 2, 0, 0], 0xf),
     ([4, 3, 9, -3, 7, 7], 0x1c),
     ([3, 0, 0, 0, 0, 0], 0xa),

@@ -219,6 +219,14 @@ fn the_other_vertices_get_zeros(rt: HostRuntime) -> Result<(), Fail> {
     Ok(())
 }
 
+#[test]
+fn a_value_is_seen_where_it_stands(rt: HostRuntime) {
+    let number = Util::Int(-5);
+    assert!(rt; holds(number.seen(), -5) && !holds(number.seen(), 5));
+    let vertex = Util::Vertex(Ref::At(7));
+    assert!(rt; matches!(vertex.seen(), UtilRef::Vertex(Ref::At(7))));
+}
+
 // A number for the field uu of a graph of two vertices.
 fn with_own_number(alloc: Global) -> Result<Graph, Panic> {
     let mut graph = graph_of(alloc, b"ab")?;

@@ -1,7 +1,7 @@
 use sgb_expr::{Expr, FlipParams, Generator};
 use sgb_gen::complete;
 use sgb_requests::expressions::parse_flip;
-use sgb_requests::parse_expr;
+use sgb_requests::{Fault, parse_expr};
 
 #[test]
 fn the_expression_that_a_text_is(rt: HostRuntime) {
@@ -13,13 +13,12 @@ fn the_expression_that_a_text_is(rt: HostRuntime) {
 
 #[test]
 fn the_flip_that_a_text_is(rt: HostRuntime) {
-    assert_eq!(rt;
-        parse_flip(b"flip(-1,2,3,0)"),
-        Ok(FlipParams {
-            start: -1,
-            skip: 2,
-            count: 3,
-            m: 0,
-        })
-    );
+    let wanted = FlipParams {
+        start: -1,
+        skip: 2,
+        count: 3,
+        m: 4,
+    };
+    assert!(rt; parse_flip(b"flip(-1,2,3,4)") == Ok(wanted));
+    assert!(rt; parse_flip(b"flip(-1,2,3)") == Err(Fault::Expr(11)));
 }

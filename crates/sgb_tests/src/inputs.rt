@@ -34,7 +34,7 @@ const COMPLETE_LISTING: &str =
     0\n  -> 1, length 1\n1\n  -> 0, length 1\n";
 
 // A graph of no vertices.
-const EMPTY: &str =
+pub(crate) const EMPTY: &str =
     "* GraphBase graph (util_types ZZZZZZZZZZZZZZ,0V,0A)\n\"a\",0,0\n* Vertices\n* Arcs\n* Checksum 18619\n";
 
 const EMPTY_LISTING: &str =

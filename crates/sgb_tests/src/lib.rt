@@ -26,6 +26,9 @@ mod flips;
 // standard input
 #[cfg(test)]
 mod inputs;
+// each public name of the library
+#[cfg(test)]
+mod library;
 // listings
 #[cfg(test)]
 mod listings;

@@ -3,6 +3,7 @@ use crate::calls::{Parts, answers_are, answers_have};
 use sgb::{Local, list_family};
 use sgb_file::CutSink;
 use sgb_gen::{Board, BoardParams, Links, Simplex, SimplexParams};
+use sgb_vec::Family;
 use std::alloc::Global;
 use std::test::Fail;
 
@@ -302,6 +303,35 @@ fn heads_of_great_boards(rt: HostRuntime) -> Result<(), Fail> {
             .starts_with(rooks.as_bytes())
     );
     Ok(())
+}
+
+// What a sink of 200 bytes has of the listing of a board on a line: what comes after this square, with no head.
+fn rest_after(alloc: Global, n1: i64, square: u32) -> CutSink<200> {
+    let mut out = CutSink::new(200, 200, false);
+    let Ok(board) = Board::new(n1, 0, 0, 0, 1, 0, false) else {
+        return out;
+    };
+    let after = [square];
+    if !board.family().holds(&after) {
+        return out;
+    }
+    let mut links = Links::new(alloc);
+    let _whole = list_family(
+        &Local::Board(board),
+        false,
+        Some(&after),
+        &mut links,
+        &mut out,
+    );
+    out
+}
+
+#[test]
+fn the_last_squares_of_a_great_board(rt: HostRuntime) {
+    let blocks = "999999998\n  -> 999999999, length 1\n  -> 999999997, length 1\n\
+        999999999\n  -> 999999998, length 1\n";
+    let rest = rest_after(rt.alloc(), 1_000_000_000, 999_999_997);
+    assert!(rt; rest.bytes() == blocks.as_bytes());
 }
 
 // So does a walk over the vertices of this simplex: 3 * 44,001 * 44,000 arcs.

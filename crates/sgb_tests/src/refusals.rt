@@ -12,7 +12,8 @@ use std::process::Abort;
 use std::test::Fail;
 
 // Words that are refused or make a request that is, with the line and the status.
-static REFUSED: [(&[&str], &str, u8); 41] = [
+static REFUSED: [(&[&str], &str, u8); 43] = [
+    (&["names", "board(1,-251,0,0,1,0,0)"], CODE_30, 1),
     (&["names", "board(2,-251,0,0,1,0,0)"], CODE_30, 1),
     (&["names", "board(2,-30,0,0,1,0,0)"], CODE_40, 1),
     (&["names", "board(2,-92,0,0,1,0,0)"], CODE_40, 1),
@@ -105,6 +106,11 @@ static REFUSED: [(&[&str], &str, u8); 41] = [
         2,
     ),
     (&["save"], USAGE, 2),
+    (
+        &["list", "petersen()", "--after", "1", "--skip", "1"],
+        USAGE,
+        2,
+    ),
     (&["save", "petersen()", "--after", "1"], USAGE, 2),
     (&["save", "petersen()", "--skip", "1"], USAGE, 2),
     (&["save", "board(3,"], "sgb: bad expression at byte 8\n", 2),

@@ -36,7 +36,7 @@ fn a_negative_stop_repeats_the_sizes(rt: HostRuntime) {
 }
 
 #[test]
-fn above_91_dimensions_a_board_is_bad(rt: HostRuntime) {
+fn above_250_dimensions_a_board_is_bad(rt: HostRuntime) {
     assert!(rt; refusal([2, -251, 0, 0]) == Some(Panic::Bad));
     assert!(rt; refusal([2, i64::MIN, 0, 0]) == Some(Panic::Bad));
     assert!(rt; refusal([4_294_967_296, -251, 0, 0]) == Some(Panic::Bad));
@@ -103,7 +103,7 @@ fn no_bound_of_a_simplex_is_above_n(rt: HostRuntime) {
 }
 
 #[test]
-fn a_negative_n_and_above_91_dimensions_are_bad(rt: HostRuntime) {
+fn a_negative_n_and_above_250_dimensions_are_bad(rt: HostRuntime) {
     assert!(rt; simplex_refusal([-1, 0, 0, 0, 0, 0]) == Some(Panic::Bad));
     assert!(rt; simplex_refusal([2, -251, 0, 0, 0, 0]) == Some(Panic::Bad));
     assert!(rt; simplex_refusal([2, i64::MIN, 0, 0, 0, 0]) == Some(Panic::Bad));

@@ -53,6 +53,15 @@ fn a_vector_of_251_entries_has_a_name(rt: HostRuntime) {
     assert!(rt; is_named(rt.alloc(), &[7; 251], &name));
 }
 
+// How many of all bytes may stand in a text, and whether the bounds and the two that may not are among them.
+#[test]
+fn bytes_of_texts(rt: HostRuntime) {
+    let count = (0..=u8::MAX).filter(|byte| is_text_byte(*byte)).count();
+    assert!(rt; count == 93);
+    assert!(rt; is_text_byte(b' ') && is_text_byte(b'~'));
+    assert!(rt; !is_text_byte(b'"') && !is_text_byte(b'\\'));
+}
+
 #[test]
 fn a_text_has_printable_bytes_but_two(rt: HostRuntime) {
     assert!(rt; is_accepted(rt.alloc(), b""));

@@ -1,24 +1,16 @@
-//! Calls of the library `sgb`, from outside: each public name but `graph_of` and `read_input`, which a test of `sgb_tests` calls.
+//! Each public name of the library once, from outside.
+use crate::calls::words_of;
+use crate::inputs::EMPTY;
 use sgb::{
-    Expr, Fault, Local, Request, input_unread_law, list_family, parse_expr, report, request, run,
-    run_program, status,
+    Expr, Fault, Local, Request, graph_of, input_unread_law, list_family, parse_expr, read_input,
+    report, request, run, run_program, status,
 };
-use sgb_file::{MemSink, MemSource};
+use sgb_file::{CutSource, MemSink, MemSource};
 use sgb_gen::{Board, BoardParams, Links};
 use std::alloc::Global;
 use std::test::Fail;
 
-const WORDS: [&str; 3] = ["sgb", "names", "complete(2)"];
-
-// The words of a call.
-fn words_of(alloc: Global, words: &[&str]) -> Result<Vec<String>, Fail> {
-    let mut all = Vec::new(alloc);
-    for word in words {
-        let owned = String::from_str(alloc, word)?;
-        all.push(owned)?;
-    }
-    Ok(all)
-}
+const WORDS: [&str; 2] = ["names", "complete(2)"];
 
 // Whether the text is an expression that is a generator's.
 fn is_generator(alloc: Global, text: &[u8]) -> bool {
@@ -31,6 +23,43 @@ fn is_generator(alloc: Global, text: &[u8]) -> bool {
 #[test]
 fn an_expression_is_read(rt: HostRuntime) {
     assert!(rt; is_generator(rt.alloc(), b"complete(2)"));
+}
+
+// How many vertices and arcs the graph of a text has, where standard input has these bytes.
+fn sizes_of(alloc: Global, text: &[u8], input: &[u8]) -> Option<(u32, u64)> {
+    let Ok(expression) = parse_expr(alloc, text) else {
+        return None;
+    };
+    let Ok(graph) = graph_of(alloc, &expression, input) else {
+        return None;
+    };
+    Some((graph.n(), graph.m()))
+}
+
+#[test]
+fn the_graph_of_an_expression(rt: HostRuntime) {
+    assert!(rt; sizes_of(rt.alloc(), b"lines(petersen(),0)", b"") == Some((15, 60)));
+    assert!(rt; sizes_of(rt.alloc(), b"stdin", EMPTY.as_bytes()) == Some((0, 0)));
+    assert!(rt; sizes_of(rt.alloc(), b"lines(transitive(2),0)", b"") == None);
+}
+
+// Whether all bytes of a source that gives at most two at once are read.
+fn is_read_whole(alloc: Global, bytes: &[u8]) -> bool {
+    let mut source = CutSource::new(bytes, 2, bytes.len().saturating_add(1));
+    read_input(alloc, &mut source).is_ok_and(|read| read.as_slice() == bytes)
+}
+
+// The fault of a source that fails after so many bytes.
+fn fault_after(alloc: Global, bytes: &[u8], count: usize) -> Option<Fault> {
+    let mut source = CutSource::new(bytes, 2, count);
+    read_input(alloc, &mut source).err()
+}
+
+#[test]
+fn an_input_is_read(rt: HostRuntime) {
+    assert!(rt; is_read_whole(rt.alloc(), b"abcde"));
+    assert!(rt; is_read_whole(rt.alloc(), b""));
+    assert!(rt; fault_after(rt.alloc(), b"abcde", 3) == Some(Fault::Read));
 }
 
 // Whether a request is one for names.
