@@ -1,4 +1,8 @@
 -- The lemmas of sgb, by subject.
+-- what needs no memory is never out of memory
+pub mod CertainAnswers
+-- refusals that come before memory is taken
+pub mod FirstRefusals
 -- texts written part by part
 pub mod CutOff
 -- the numbers that a flip draws

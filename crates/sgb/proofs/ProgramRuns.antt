@@ -2,6 +2,7 @@
 use Rattle.std.proofs.Common.{◌≡◌, ℕ, List, MatchResult, Result, Ok, Err, inl, inr, subst}
 use Rattle.std.specs.declared.io.ErrorKind.{ErrorKind}
 use Rattle.sgb_file.specs.Devices.{Change}
+use Rattle.sgb.specs.Certain.{IsCertain}
 use Rattle.sgb.specs.Program.{IsProgramRun, unread_fault}
 use Rattle.sgb_requests.specs.Requests.{IsCommandLineReadAs}
 use Rattle.sgb.specs.Runs.{Input, IsReported, IsRunOn}
@@ -11,10 +12,10 @@ use Rattle.sgb_requests.specs.declared.requests.Request.{Request}
 -- the words make a request, and it was run
 pub program_ran : {W E : Type 0} (words : Result W E) (texts : W → List (List ℕ)) (kind : E → ErrorKind) (r : Request) (source : Input) (same : Type 0) (out err : Change) (status : ℕ)
     → MatchResult words (λ w. IsCommandLineReadAs (texts w) (Ok r)) (λ e. ◌≡◌ {A = Result Request Fault} (Ok r) (Err (unread_fault (kind e))))
-    → IsRunOn r source same out err status
+    → IsRunOn r source same out err status → IsCertain r out err status
     → MatchResult words (λ w. IsProgramRun (texts w) source same out err status) (λ e. IsReported (unread_fault (kind e)) same out err status)
-program_ran (Ok w) texts kind r source same out err status is run = inl (r, is, run)
-program_ran (Err e) texts kind r source same out err status is run = absurd cc
+program_ran (Ok w) texts kind r source same out err status is run certain = inl (r, is, run, certain)
+program_ran (Err e) texts kind r source same out err status is run certain = absurd cc
 
 -- they are refused, and that was reported
 pub program_refused : {W E : Type 0} (words : Result W E) (texts : W → List (List ℕ)) (kind : E → ErrorKind) (f : Fault) (source : Input) (same : Type 0) (out err : Change) (status : ℕ)

@@ -51,7 +51,7 @@ use Rattle.sgb.specs.declared.writing.flips.Draws.{Draws}
 -- ---- parameters
 
 -- accepted, or refused for what it is
-abbrev IsJudged : {T : Type 0} → Result T Panic → Type 0
+abbrev pub IsJudged : {T : Type 0} → Result T Panic → Type 0
 IsJudged r = r ≢ Err NoRoom
 
 -- an accepted value
@@ -91,7 +91,7 @@ box_of_judged : (sizes : List ℕ) → IsJudged (box_of sizes)
 box_of_judged sizes = either _ _ _ (refused Bad (λ e. cc)) (either _ _ _ (refused VeryBad (λ e. cc)) (accepted _))
 
 -- the bounds of a simplex
-simplex_of_judged : (n n0 n1 n2 n3 n4 : ℤ) → IsJudged (simplex_of n n0 n1 n2 n3 n4)
+pub simplex_of_judged : (n n0 n1 n2 n3 n4 : ℤ) → IsJudged (simplex_of n n0 n1 n2 n3 n4)
 simplex_of_judged (negsuc n) n0 n1 n2 n3 n4 = λ e. cc
 simplex_of_judged (pos n) n0 n1 n2 n3 n4 = either _ _ _ (refused Bad (λ e. cc)) (either _ _ _ (refused VeryBad (λ e. cc)) (accepted _))
 
@@ -100,14 +100,16 @@ sum_of_judged : (n : ℤ) (bounds : List ℕ) → IsJudged (sum_of n bounds)
 sum_of_judged (negsuc n) bounds = λ e. cc
 sum_of_judged (pos n) bounds = either _ _ _ (refused VeryBad (λ e. cc)) (either _ _ _ (refused VeryBad (λ e. cc)) (accepted _))
 
--- a board
-board_judged : (p : BoardParams) → IsJudged (board p)
-board_judged p =
-    let accepted_judged : IsJudged (accepted_board p) =
+-- the parameters of a board
+pub accepted_board_judged : (p : BoardParams) → IsJudged (accepted_board p)
+accepted_board_judged p =
     after _ _ (board_of_judged p.n1 p.n2 p.n3 p.n4) (λ shape.
     after _ _ (box_of_judged shape.sizes) (λ sizes.
-    after _ _ (either _ _ _ (refused VeryBad (λ e. cc)) (accepted _)) (λ piece. accepted _))) in
-    after _ _ accepted_judged (λ b. accepted _)
+    after _ _ (either _ _ _ (refused VeryBad (λ e. cc)) (accepted _)) (λ piece. accepted _)))
+
+-- a board
+pub board_judged : (p : BoardParams) → IsJudged (board p)
+board_judged p = after _ _ (accepted_board_judged p) (λ b. accepted _)
 
 -- a simplex
 simplex_judged : (p : SimplexParams) → IsJudged (simplex p)
@@ -152,29 +154,31 @@ lines_judged g directed =
 product_judged : (g h : GraphData) (kind : ℤ) (directed : Bool) → IsJudged (product_graph_of g h kind directed)
 product_judged g h kind directed = either _ _ _ (refused VeryBad (λ e. cc)) (accepted _)
 
+-- the numbers of a complete bipartite graph
+pub parts_judged : (n1 n2 : ℤ) → IsJudged (accepted_parts n1 n2)
+parts_judged (negsuc n1) n2 = λ e. cc
+parts_judged (pos n1) (negsuc n2) = λ e. cc
+parts_judged (pos n1) (pos n2) = either _ _ _ (refused VeryBad (λ e. cc)) (accepted _)
+
 -- a complete bipartite graph
 bi_complete_judged : (n1 n2 : ℤ) (directed : Bool) → IsJudged (bi_complete_of n1 n2 directed)
 bi_complete_judged n1 n2 directed =
-    after _ _ (parts n1 n2) (λ entries.
+    after _ _ (parts_judged n1 n2) (λ entries.
     after _ _ (board_judged (pair_of_vertices directed)) (λ pair.
     after _ _ (induced_judged (graph_described pair) entries false false directed) (λ d. accepted (with_parts n1 n2 directed d))))
-  where
-    parts : (n1 n2 : ℤ) → IsJudged (accepted_parts n1 n2)
-    parts (negsuc n1) n2 = λ e. cc
-    parts (pos n1) (negsuc n2) = λ e. cc
-    parts (pos n1) (pos n2) = either _ _ _ (refused VeryBad (λ e. cc)) (accepted _)
+
+-- the number in the middle of a wheel
+pub middle_judged : (n1 : ℤ) → IsJudged (accepted_middle n1)
+middle_judged (negsuc n1) = λ e. cc
+middle_judged (pos n1) = either _ _ _ (refused VeryBad (λ e. cc)) (accepted _)
 
 -- a wheel
 wheel_judged : (n n1 : ℤ) (directed : Bool) → IsJudged (wheel_of n n1 directed)
 wheel_judged n n1 directed =
-    after _ _ (middle n1) (λ centre.
+    after _ _ (middle_judged n1) (λ centre.
     after _ _ (board_judged (rim_of_wheel n directed)) (λ rim.
     after _ _ (board_judged (pair_of_vertices directed)) (λ pair.
     after _ _ (induced_judged (graph_described pair) (centre ∷ entry.Graph (graph_described rim) ∷ []) false false directed) (λ d. accepted (with_wheel_id n n1 directed d)))))
-  where
-    middle : (n1 : ℤ) → IsJudged (accepted_middle n1)
-    middle (negsuc n1) = λ e. cc
-    middle (pos n1) = either _ _ _ (refused VeryBad (λ e. cc)) (accepted _)
 
 -- a text of a file
 text_judged : (text : List ℕ) → IsJudged (graph_of_text text)
@@ -234,7 +238,7 @@ within_judged greatest (pos n) = either _ _ _ (accepted _) (refused Bad (λ e. c
 within_judged greatest (negsuc n) = λ e. cc
 
 -- the draws of a flip
-draws_judged : (p : FlipParams) → IsJudged (accepted_draws p)
+pub draws_judged : (p : FlipParams) → IsJudged (accepted_draws p)
 draws_judged p =
     after _ _ (within_judged most_draws p.skip) (λ skip.
     after _ _ (within_judged most_draws p.count) (λ count. after _ _ (within_judged modulus p.m) (λ m. accepted _)))
@@ -242,11 +246,11 @@ draws_judged p =
 -- ---- answers
 
 -- an answer, or a refusal for what the request is
-abbrev IsOwn : {T : Type 0} → Result T Fault → Type 0
+abbrev pub IsOwn : {T : Type 0} → Result T Fault → Type 0
 IsOwn r = r ≢ Err (fault.Panic NoRoom)
 
 -- how many first vertices are left out
-left_out_own : (names : List (List ℕ)) (resume : Resume) → IsOwn (left_out names resume)
+pub left_out_own : (names : List (List ℕ)) (resume : Resume) → IsOwn (left_out names resume)
 left_out_own names resume.Whole = λ e. cc
 left_out_own names (resume.Skip k) = λ e. cc
 left_out_own names (resume.After name) = at_vertex (vertex_named name names)

@@ -1,4 +1,6 @@
 -- What the contracts of sgb speak of.
+-- what is answered whatever memory there is
+pub mod Certain
 -- random numbers
 pub mod FlipAnswers
 -- what is read of standard input

@@ -4,6 +4,7 @@ use Rattle.std.specs.declared.io.ErrorKind.{ErrorKind}
 use Rattle.std.specs.declared.io.ErrorKind.TheVariants.{OutOfMemory}
 use Rattle.sgb_vec.specs.declared.panics.Panic.TheVariants.{NoRoom}
 use Rattle.sgb_file.specs.Devices.{Change}
+use Rattle.sgb.specs.Certain.{IsCertain}
 use Rattle.sgb.specs.Outcomes.{reads_input}
 use Rattle.sgb_requests.specs.Requests.{IsRefusedCommandLine, IsRequest}
 use Rattle.sgb.specs.Runs.{Input, IsReported, IsRunOn}
@@ -16,9 +17,10 @@ abbrev pub unread_fault : ErrorKind → Fault
 unread_fault OutOfMemory = fault.Panic NoRoom
 unread_fault _ = fault.Usage
 
--- the words make a request, and a run answered it
+-- the words make a request, and a run answered it, in full where that takes no memory and the output is sound
 abbrev pub IsRequestRun : List (List ℕ) → Input → Type 0 → Change → Change → ℕ → Type 0
-IsRequestRun words source same out err status = (r : Request) × IsRequest words r × IsRunOn r source same out err status
+IsRequestRun words source same out err status =
+    (r : Request) × IsRequest words r × IsRunOn r source same out err status × IsCertain r out err status
 
 -- the words are refused with a fault, and it was reported
 abbrev pub IsRefusalReported : List (List ℕ) → Type 0 → Change → Change → ℕ → Type 0

@@ -1,4 +1,6 @@
 -- What only the private contracts and the proofs of sgb speak of.
+-- generators whose answers take no memory
+pub mod Certain
 -- entries whose expressions are evaluated
 pub mod EntryValues
 -- what is left of standard input

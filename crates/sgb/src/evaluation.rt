@@ -4,6 +4,7 @@ ghost use Rattle.sgb_graph.specs.Descriptions.{IsAnswerOf};
 ghost use Rattle.sgb_expr.specs.Listed.{listed};
 ghost use Rattle.sgb_expr.specs.Expression.{entries_of, entry_of, expression_of};
 ghost use Rattle.sgb_expr.specs.StdinUses.{entries_have_stdin, entry_has_stdin, has_stdin};
+ghost use Rattle.sgb.specs.Certain.{IsGeneratorRefused, IsRefusedFirst};
 ghost use Rattle.sgb.specs.Outcomes.{moves_of, queen_moves};
 ghost use Rattle.sgb.specs.Values.{IsValue, both, entry_value, generator_value, value_of, values_of};
 ghost use Rattle.sgb.specs.inner.EntryValues.{handed_entry};
@@ -23,9 +24,12 @@ use std::alloc::Global;
 /// The graph of an expression, where `input` is what was kept of standard input. Operands come before their operation,
 /// from left to right; each is dropped when the operation is made.
 ///
-/// The first refusal, or `NoRoom` when out of memory.
+/// The first refusal, or `NoRoom` when out of memory. A refusal that is met before memory is taken comes whatever memory
+/// there is.
 pub fn graph_of(alloc: Global, expression: &Expr, input: &[u8]) -> Result<Graph, Panic>
-    ensures { IsValue (value_of input.now (expression_of expression.now)) result }
+    ensures value { IsValue (value_of input.now (expression_of expression.now)) result }
+    ensures refused { (p : Panic) → IsRefusedFirst input.now (expression_of expression.now) p
+        → result ≡ Err p }
 {
     let mut lent = Kept::lent(input);
     evaluate(alloc, expression, &mut lent, true)
@@ -36,7 +40,9 @@ pub fn graph_of(alloc: Global, expression: &Expr, input: &[u8]) -> Result<Graph,
 ///
 /// The first refusal, or `NoRoom` when out of memory.
 pub(crate) fn graph_from(alloc: Global, expression: &Expr, input: Vec<u8>) -> Result<Graph, Panic>
-    ensures { IsValue (value_of input.items (expression_of expression.now)) result }
+    ensures value { IsValue (value_of input.items (expression_of expression.now)) result }
+    ensures refused { (p : Panic) → IsRefusedFirst input.items (expression_of expression.now) p
+        → result ≡ Err p }
 {
     let mut owned = Kept::owned(input);
     evaluate(alloc, expression, &mut owned, false)
@@ -54,6 +60,8 @@ fn evaluate(
     ensures value { IsValue (value_of input.old (expression_of expression.now)) result }
     ensures left { IfOk result (λ _. input.new
         ≡ left_after more (has_stdin (expression_of expression.now)) input.old) }
+    ensures refused { (p : Panic) → IsRefusedFirst input.old (expression_of expression.now) p
+        → result ≡ Err p }
 {
     match expression {
         Expr::Generator(generator) => generator_graph(alloc, generator),
@@ -129,6 +137,8 @@ fn operands(
         (value_of input.old (expression_of second.now))) result }
     ensures left { IfOk result (λ _. input.new ≡ left_after more
         (has_stdin (expression_of first.now) || has_stdin (expression_of second.now)) input.old) }
+    ensures refused { (p : Panic) → IsRefusedFirst input.old (expression_of first.now) p
+        → result ≡ Err p }
 {
     let left = evaluate(alloc, first, input, more_with(more, second))?;
     let right = evaluate(alloc, second, input, more)?;
@@ -202,7 +212,8 @@ fn value_of_entry(
 
 // The graph of a generator.
 fn generator_graph(alloc: Global, generator: &Generator) -> Result<Graph, Panic>
-    ensures { IsAnswerOf (generator_value generator.now) result }
+    ensures answer { IsAnswerOf (generator_value generator.now) result }
+    ensures refused { (p : Panic) → IsGeneratorRefused generator.now p → result ≡ Err p }
 {
     match generator {
         Generator::Board(params) => params.graph(alloc),

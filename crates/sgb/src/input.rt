@@ -1,6 +1,7 @@
 //! Standard input: who reads it, reading it whole, and the graph that it is a file of.
-ghost use Rattle.std.specs.Prelude.{◌≡◌, ◌≤◌, ◌<◌, ◌+◌, ◌-◌, ◌++◌, ◌&&◌, ℕ, List, false, true, length, nat_le, IfOk};
+ghost use Rattle.std.specs.Prelude.{◌≡◌, ◌≤◌, ◌<◌, ◌+◌, ◌-◌, ◌++◌, ◌&&◌, ℕ, List, false, true, length, nat_le, Err, IfOk, IsOk};
 ghost use Rattle.std.specs.Io.KnownBytes.{Consumes, IsAtEnd};
+ghost use Rattle.sgb.specs.Certain.{IsInputRefused};
 ghost use Rattle.sgb.specs.Inputs.{IsKept, IsReadFrom, LosesAtMost};
 ghost use Rattle.sgb.specs.Outcomes.{reads_input};
 ghost use Rattle.sgb.specs.Values.{IsValue, most_input, stdin_value};
@@ -46,6 +47,7 @@ pub(crate) fn input_for<R: Source>(
         → IsKept (R.remaining source.old) bytes.items) }
     ensures ended { IsReadFrom (reads_input request.now && R.has_failed source.new) result }
     ensures unread { reads_input request.now ≡ false → source.new ≡ source.old }
+    ensures none { reads_input request.now ≡ false → IsOk result }
     ensures bounded { LosesAtMost (most_input + 1) (R.remaining source.old)
         (R.remaining source.new) }
 {
@@ -109,6 +111,7 @@ fn read_more<R: Source>(
 pub(crate) fn read_kept(alloc: Global, input: &mut Kept<'_>, more: bool) -> Result<Graph, Panic>
     ensures value { IsValue (stdin_value input.old) result }
     ensures left { input.new ≡ left_after more true input.old }
+    ensures refused { (p : Panic) → IsInputRefused input.old p → result ≡ Err p }
 {
     let graph = stdin_graph(alloc, input.bytes());
     if more {
@@ -120,7 +123,8 @@ pub(crate) fn read_kept(alloc: Global, input: &mut Kept<'_>, more: bool) -> Resu
 
 // The graph that standard input is a file of, from its bytes (GB_SAVE, restore_graph).
 fn stdin_graph(alloc: Global, input: &[u8]) -> Result<Graph, Panic>
-    ensures { IsValue (stdin_value input.now) result }
+    ensures value { IsValue (stdin_value input.now) result }
+    ensures refused { (p : Panic) → IsInputRefused input.now p → result ≡ Err p }
 {
     if !is_read(input) {
         return Err(Panic::Syntax);

@@ -1,4 +1,7 @@
 //! The accepted parameters of a generator: what is known of its graph without the graph.
+ghost use Rattle.std.specs.Prelude.{◌≡◌, ◌≢◌, Err, IfErr};
+ghost use Rattle.sgb_gen.specs.declared.params.BoardParams.{BoardParams};
+ghost use Rattle.sgb.specs.Certain.{IsGeneratorRefused};
 ghost use Rattle.sgb.specs.Values.{generator_value};
 ghost use Rattle.sgb.specs.inner.Values.{IsLocalOf};
 
@@ -19,7 +22,10 @@ pub enum Local {
 ///
 /// The generator's refusal, or `NoRoom` when out of memory.
 pub(crate) fn local_of(alloc: Global, generator: &Generator) -> Result<Local, Panic>
-    ensures { IsLocalOf (generator_value generator.now) result }
+    ensures value { IsLocalOf (generator_value generator.now) result }
+    ensures refused { (p : Panic) → IsGeneratorRefused generator.now p → result ≡ Err p }
+    ensures board { (params : BoardParams) → generator.now ≡ Generator.Board params
+        → IfErr result (λ p. p ≢ Panic.NoRoom) }
 {
     match generator {
         Generator::Board(params) => {

@@ -1,11 +1,13 @@
 //! Requests answered: evaluation, output, the line of a fault and the exit status.
-ghost use Rattle.std.specs.Prelude.{◌≡◌, ◌≢◌, ◌+◌, ◌++◌, ◌&&◌, ℕ, List, [], Ok, Err, IfErr, OnOk, is_err, true, false};
+ghost use Rattle.std.specs.Prelude.{◌≡◌, ◌≢◌, ◌⊎◌, ◌+◌, ◌++◌, ◌&&◌, ℕ, List, [], Ok, Err, IfErr, OnOk, is_err, true, false};
 ghost use Rattle.std.specs.Io.KnownBytes.{Keeps};
 ghost use Rattle.sgb_file.specs.Devices.{change};
 ghost use Rattle.sgb_vec.specs.declared.panics.Panic.TheVariants.{NoRoom};
 ghost use Rattle.sgb_expr.specs.Expression.{expression_of};
 ghost use Rattle.sgb_file.specs.Saving.{text_of_graph};
 ghost use Rattle.sgb_ops.specs.Operands.{names_of};
+ghost use Rattle.sgb.specs.Certain.{BeginsNowhereOn, IsBoard, IsCertain, IsRefusedAtOnce, NeedsNoMemory};
+ghost use Rattle.sgb.specs.inner.Certain.{HasListingAtOnce, HasNamesAtOnce};
 ghost use Rattle.sgb.specs.Outcomes.{answer_from, answer_of, list_answer, names_answer, queen_moves, queen_title, reads_input};
 ghost use Rattle.sgb.specs.Inputs.{IsKept, LosesAtMost};
 ghost use Rattle.sgb.specs.Runs.{IsRunOn};
@@ -50,6 +52,11 @@ pub fn run<R: Source, W: Sink, E: Sink>(
         (change W.written W.has_failed out.old out.new)
         (change E.written E.has_failed errors.old errors.new)
         result }
+    // What needs no memory is never out of memory.
+    ensures certain { IsCertain request.now
+        (change W.written W.has_failed out.old out.new)
+        (change E.written E.has_failed errors.old errors.new)
+        result }
     ensures flushed { result ≡ 0 → W.held out.new ≡ [] }
     // What the request asks for is never that memory runs out: code 1 is the machine's alone.
     ensures apart { (input : List ℕ) → answer_of request.now input ≢ Err (Fault.Panic NoRoom) }
@@ -76,6 +83,8 @@ fn answer<R: Source, W: Sink>(
         × IsEndedFrom (reads_input request.now && R.has_failed source.new)
         (answer_of request.now kept) (out.new ≡ out.old)
         (change W.written W.has_failed out.old out.new) result }
+    ensures certain { NeedsNoMemory request.now
+        → IfErr result (λ f. f ≢ Fault.Panic NoRoom) }
     ensures flushed { OnOk result (W.held out.new ≡ []) }
     ensures unread { reads_input request.now ≡ false → source.new ≡ source.old }
     ensures bounded { LosesAtMost (most_input + 1) (R.remaining source.old)
@@ -107,8 +116,10 @@ fn write_answer<W: Sink>(
     out: &mut W,
 ) -> Result<(), Fault>
     requires { W.has_failed out.old ≡ false }
-    ensures { IsEnded (answer_of request.now input.items)
+    ensures ended { IsEnded (answer_of request.now input.items)
         (out.new ≡ out.old) (change W.written W.has_failed out.old out.new) result }
+    ensures certain { NeedsNoMemory request.now
+        → IfErr result (λ f. f ≢ Fault.Panic NoRoom) }
 {
     match request {
         Request::Names(expression, resume) => answer_names(alloc, expression, input, resume, out),
@@ -128,9 +139,11 @@ fn answer_names<W: Sink>(
     out: &mut W,
 ) -> Result<(), Fault>
     requires { W.has_failed out.old ≡ false }
-    ensures { IsEnded (answer_from (value_of input.items (expression_of expression.now))
+    ensures ended { IsEnded (answer_from (value_of input.items (expression_of expression.now))
         (λ g. names_answer (names_of g) resume.now)) (out.new ≡ out.old)
         (change W.written W.has_failed out.old out.new) result }
+    ensures certain { IsBoard expression.now ⊎ IsRefusedAtOnce (expression_of expression.now)
+        → IfErr result (λ f. f ≢ Fault.Panic NoRoom) }
 {
     if let Expr::Generator(generator) = expression {
         return answer_generator_names(alloc, generator, resume, out);
@@ -147,9 +160,11 @@ fn answer_generator_names<W: Sink>(
     out: &mut W,
 ) -> Result<(), Fault>
     requires { W.has_failed out.old ≡ false }
-    ensures { IsEnded (answer_from (made (generator_value generator.now))
+    ensures ended { IsEnded (answer_from (made (generator_value generator.now))
         (λ g. names_answer (names_of g) resume.now)) (out.new ≡ out.old)
         (change W.written W.has_failed out.old out.new) result }
+    ensures certain { HasNamesAtOnce generator.now
+        → IfErr result (λ f. f ≢ Fault.Panic NoRoom) }
 {
     match local_of(alloc, generator)? {
         Local::Board(board) => write_names(board.family(), resume, out),
@@ -167,9 +182,12 @@ fn answer_list<W: Sink>(
     out: &mut W,
 ) -> Result<(), Fault>
     requires { W.has_failed out.old ≡ false }
-    ensures { IsEnded (answer_from (value_of input.items (expression_of expression.now))
+    ensures ended { IsEnded (answer_from (value_of input.items (expression_of expression.now))
         (λ g. list_answer g resume.now)) (out.new ≡ out.old)
         (change W.written W.has_failed out.old out.new) result }
+    ensures certain { BeginsNowhereOn expression.now resume.now
+        ⊎ IsRefusedAtOnce (expression_of expression.now)
+        → IfErr result (λ f. f ≢ Fault.Panic NoRoom) }
 {
     if let Expr::Generator(generator) = expression {
         return answer_generator_list(alloc, generator, resume, out);
@@ -186,9 +204,11 @@ fn answer_generator_list<W: Sink>(
     out: &mut W,
 ) -> Result<(), Fault>
     requires { W.has_failed out.old ≡ false }
-    ensures { IsEnded (answer_from (made (generator_value generator.now))
+    ensures ended { IsEnded (answer_from (made (generator_value generator.now))
         (λ g. list_answer g resume.now)) (out.new ≡ out.old)
         (change W.written W.has_failed out.old out.new) result }
+    ensures certain { HasListingAtOnce generator.now resume.now
+        → IfErr result (λ f. f ≢ Fault.Panic NoRoom) }
 {
     let local = local_of(alloc, generator)?;
     let mut links = Links::new(alloc);
@@ -216,9 +236,11 @@ fn answer_save<W: Sink>(
     out: &mut W,
 ) -> Result<(), Fault>
     requires { W.has_failed out.old ≡ false }
-    ensures { IsEnded (answer_from (value_of input.items (expression_of expression.now))
+    ensures ended { IsEnded (answer_from (value_of input.items (expression_of expression.now))
         (λ g. Ok (text_of_graph g))) (out.new ≡ out.old)
         (change W.written W.has_failed out.old out.new) result }
+    ensures certain { IsRefusedAtOnce (expression_of expression.now)
+        → IfErr result (λ f. f ≢ Fault.Panic NoRoom) }
 {
     let graph = graph_from(alloc, expression, input)?;
     write_file(&graph, out)

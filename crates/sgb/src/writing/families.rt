@@ -24,8 +24,9 @@ use sgb_requests::Fault;
 use sgb_vec::{Family, Vectors};
 
 /// Writes the listing of a generator's graph, one arc list after another: the head where `head` asks for it, and a
-/// block for each vertex after that of the vector `after`, or for all. No flush. All memory that it takes is that of
-/// `links`, which holds one list after another; what it holds afterwards is open.
+/// block for each vertex after that of the vector `after`, or for all. No flush. All memory that it takes is from where
+/// that of `links` comes: room for one list after another, which `links` keeps, and of a board its displacements, of a
+/// simplex the counts for the head, about a megabyte at most. What `links` holds afterwards is open.
 ///
 /// `after` is a vector of the family. `Write` where the sink failed, `Panic(NoRoom)` when out of memory; a prefix is then
 /// written. Where memory runs out that is nothing, or the whole head at least.

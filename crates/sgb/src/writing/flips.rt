@@ -1,5 +1,5 @@
 //! Random numbers, written to a sink (GB_FLIP).
-ghost use Rattle.std.specs.Prelude.{◌≡◌, ◌≤◌, ◌∷◌, ℕ, ℤ, suc, false};
+ghost use Rattle.std.specs.Prelude.{◌≡◌, ◌≢◌, ◌≤◌, ◌∷◌, ℕ, ℤ, suc, false, IfErr};
 ghost use Rattle.sgb_file.specs.Devices.{change};
 ghost use Rattle.sgb_graph.specs.Draws.{IsAtDraw, modulus, seed_of};
 ghost use Rattle.sgb.specs.FlipAnswers.{accepted_draws, drawn, drawn_from, flip_answer, number_line, number_lines, number_within};
@@ -36,8 +36,9 @@ pub(crate) struct Draws {
 /// `Bad` where `skip` or `count` is not from 0 to 1,000,000,000, or `m` is not from 0 to 2^31.
 pub(crate) fn write_flip<W: Sink>(params: &FlipParams, out: &mut W) -> Result<(), Fault>
     requires { W.has_failed out.old ≡ false }
-    ensures { IsEnded (flip_answer params.now) (out.new ≡ out.old)
+    ensures ended { IsEnded (flip_answer params.now) (out.new ≡ out.old)
         (change W.written W.has_failed out.old out.new) result }
+    ensures certain { IfErr result (λ f. f ≢ Fault.Panic Panic.NoRoom) }
 {
     let draws = accepted_draws(params)?;
     write_draws(draws, out)
@@ -73,8 +74,9 @@ fn number_within(greatest: u32, integer: i64) -> Result<u32, Panic>
 fn write_draws<W: Sink>(draws: Draws, out: &mut W) -> Result<(), Fault>
     requires bound { draws.m ≤ modulus }
     requires sound { W.has_failed out.old ≡ false }
-    ensures { IsWritten (number_lines (drawn draws)) (change W.written W.has_failed out.old out.new)
-        result }
+    ensures written { IsWritten (number_lines (drawn draws))
+        (change W.written W.has_failed out.old out.new) result }
+    ensures fault { IfErr result (λ f. f ≡ Fault.Write) }
 {
     let mut flip = Flip::new(draws.start);
     flip.skip(u64::from(draws.skip));
@@ -99,8 +101,9 @@ fn next_number(flip: &mut Flip, m: u32) -> u32
 // Writes the line of a number: its digits and a newline.
 fn write_number<W: Sink>(number: u32, out: &mut W) -> Result<(), Fault>
     requires { W.has_failed out.old ≡ false }
-    ensures { IsWritten (number_line number) (change W.written W.has_failed out.old out.new)
-        result }
+    ensures written { IsWritten (number_line number)
+        (change W.written W.has_failed out.old out.new) result }
+    ensures fault { IfErr result (λ f. f ≡ Fault.Write) }
 {
     let mut digits = Buffer::new();
     write_texts(out, &[digits.format(number).as_bytes(), b"\n"])

@@ -1,5 +1,5 @@
 //! The name of a vector, of which the next name keeps what it has in common with it.
-ghost use Rattle.std.specs.Prelude.{◌≡◌, ◌≤◌, ◌+◌, ◌*◌, [], ◌∷◌, ◌++◌, drop, false, length, take};
+ghost use Rattle.std.specs.Prelude.{◌≡◌, ◌≤◌, ◌+◌, ◌*◌, [], ◌∷◌, ◌++◌, drop, false, length, take, IfErr};
 ghost use Rattle.sgb_file.specs.Devices.{change};
 ghost use Rattle.sgb_vec.specs.Limits.{most_dimensions};
 ghost use Rattle.sgb_vec.specs.Names.{name_of_vector};
@@ -97,6 +97,7 @@ impl KeptName {
         requires { W.has_failed out.old ≡ false }
         ensures written { IsWritten (name_line (name_of_vector self.old))
             (change W.written W.has_failed out.old out.new) result }
+        ensures fault { IfErr result (λ f. f ≡ Fault.Write) }
         ensures same { self.new ≡ self.old }
     {
         let end = self.text.len();

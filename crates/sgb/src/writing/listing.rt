@@ -1,9 +1,9 @@
 //! The listing of a graph, written to a sink.
-ghost use Rattle.std.specs.Prelude.{◌≡◌, ◌<◌, ◌++◌, false, length, IfErr};
+ghost use Rattle.std.specs.Prelude.{◌≡◌, ◌<◌, ◌++◌, false, length, Err, IfErr};
 ghost use Rattle.std.specs.List.{flat_map};
 ghost use Rattle.sgb_file.specs.Devices.{change};
 ghost use Rattle.sgb_ops.specs.Operands.{names_of};
-ghost use Rattle.sgb.specs.Outcomes.{head_for, list_answer};
+ghost use Rattle.sgb.specs.Outcomes.{head_for, left_out, list_answer};
 ghost use Rattle.sgb.specs.Texts.{arc_line, block, blocks, head, head_text};
 ghost use Rattle.sgb.specs.Writing.{IsWritten};
 ghost use Rattle.sgb.specs.inner.Writing.{IsEnded};
@@ -26,8 +26,10 @@ pub(crate) fn write_listing<W: Sink>(
     out: &mut W,
 ) -> Result<(), Fault>
     requires { W.has_failed out.old ≡ false }
-    ensures { IsEnded (list_answer graph.now resume.now)
+    ensures ended { IsEnded (list_answer graph.now resume.now)
         (out.new ≡ out.old) (change W.written W.has_failed out.old out.new) result }
+    ensures nowhere { left_out (names_of graph.now) resume.now ≡ Err Fault.NoVertex
+        → result ≡ Err Fault.NoVertex }
 {
     let from = vertices_left_out(graph, resume)?;
     write_head_for(resume, graph, out)?;

@@ -1,5 +1,6 @@
 //! The names of a family's vectors, written one a line.
-ghost use Rattle.std.specs.Prelude.{◌≡◌, false, map};
+ghost use Rattle.std.specs.Prelude.{◌≡◌, ◌≢◌, false, map, IfErr};
+ghost use Rattle.sgb_vec.specs.declared.panics.Panic.TheVariants.{NoRoom};
 ghost use Rattle.std.specs.List.{flat_map};
 ghost use Rattle.sgb_file.specs.Devices.{change};
 ghost use Rattle.sgb_vec.specs.Names.{name_of_vector};
@@ -23,8 +24,9 @@ pub(crate) fn write_names<F: Family, W: Sink>(
     out: &mut W,
 ) -> Result<(), Fault>
     requires { W.has_failed out.old ≡ false }
-    ensures { IsEnded (names_answer (map name_of_vector (F.members family.now)) resume.now)
+    ensures ended { IsEnded (names_answer (map name_of_vector (F.members family.now)) resume.now)
         (out.new ≡ out.old) (change W.written W.has_failed out.old out.new) result }
+    ensures certain { IfErr result (λ f. f ≢ Fault.Panic NoRoom) }
 {
     let start = start_of(family, resume)?;
     write_all(vectors_after(family, slice_of(&start)), out)
@@ -33,8 +35,9 @@ pub(crate) fn write_names<F: Family, W: Sink>(
 // Writes the lines of these vectors.
 fn write_all<F: Family, W: Sink>(vectors: Vectors<'_, F>, out: &mut W) -> Result<(), Fault>
     requires { W.has_failed out.old ≡ false }
-    ensures { IsWritten (flat_map name_line (map name_of_vector vectors.entry))
+    ensures written { IsWritten (flat_map name_line (map name_of_vector vectors.entry))
         (change W.written W.has_failed out.old out.new) result }
+    ensures fault { IfErr result (λ f. f ≡ Fault.Write) }
 {
     let mut name = KeptName::new();
     let mut left = vectors;

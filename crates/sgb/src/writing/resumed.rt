@@ -5,6 +5,7 @@ ghost use Rattle.sgb_file.specs.Devices.{change};
 ghost use Rattle.sgb_graph.specs.Graphs.{GraphData};
 ghost use Rattle.sgb_graph.specs.Made.{graph_described};
 ghost use Rattle.sgb_vec.specs.Names.{name_of_vector};
+ghost use Rattle.sgb_ops.specs.Operands.{names_of};
 ghost use Rattle.sgb.specs.Locals.{head_if, start_after, vectors_of};
 ghost use Rattle.sgb.specs.Outcomes.{head_for, left_out, list_answer};
 ghost use Rattle.sgb.specs.Texts.{head};
@@ -32,9 +33,12 @@ pub(crate) fn list_resumed<L: Listed, F: Family, W: Sink>(
 ) -> Result<(), Fault>
     requires members { F.members family.now ≡ vectors_of (L.parameters listed.old) }
     requires sound { W.has_failed out.old ≡ false }
-    ensures { IsEnded
+    ensures ended { IsEnded
         (list_answer (graph_described (described (L.parameters listed.old))) resume.now)
         (out.new ≡ out.old) (change W.written W.has_failed out.old out.new) result }
+    ensures nowhere { left_out (names_of (graph_described (described (L.parameters listed.old))))
+        resume.now ≡ Err Fault.NoVertex
+        → result ≡ Err Fault.NoVertex }
 {
     let start = start_of(family, resume)?;
     list_vectors(

@@ -1,5 +1,5 @@
 //! The names of a graph's vertices, written one a line, and where an answer begins by a name.
-ghost use Rattle.std.specs.Prelude.{◌≡◌, ◌<◌, [], false, length};
+ghost use Rattle.std.specs.Prelude.{◌≡◌, ◌<◌, [], false, length, Err};
 ghost use Rattle.std.specs.List.{slice_index_or};
 ghost use Rattle.sgb_file.specs.Devices.{change};
 ghost use Rattle.sgb_ops.specs.Operands.{names_of};
@@ -23,8 +23,10 @@ pub(crate) fn write_vertex_names<W: Sink>(
     out: &mut W,
 ) -> Result<(), Fault>
     requires { W.has_failed out.old ≡ false }
-    ensures { IsEnded (names_answer (names_of graph.now) resume.now)
+    ensures ended { IsEnded (names_answer (names_of graph.now) resume.now)
         (out.new ≡ out.old) (change W.written W.has_failed out.old out.new) result }
+    ensures nowhere { left_out (names_of graph.now) resume.now ≡ Err Fault.NoVertex
+        → result ≡ Err Fault.NoVertex }
 {
     let from = vertices_left_out(graph, resume)?;
     write_name_lines(graph, from, out)

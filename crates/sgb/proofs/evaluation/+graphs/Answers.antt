@@ -17,12 +17,14 @@ use Rattle.sgb_ops.specs.Gunion.{gunion_of}
 use Rattle.sgb_ops.specs.Intersection.{intersection_of}
 use Rattle.sgb_ops.specs.Lines.{line_graph_of}
 use Rattle.sgb_ops.specs.Product.{product_graph_of}
-use Rattle.sgb_ops.specs.BiComplete.{bi_complete_of}
-use Rattle.sgb_ops.specs.Wheel.{wheel_of}
+use Rattle.sgb_ops.specs.BiComplete.{accepted_parts, bi_complete_of}
+use Rattle.sgb_ops.specs.Wheel.{accepted_middle, wheel_of}
+use Rattle.sgb.specs.Certain.{IsRefusedFirst}
 use Rattle.sgb.specs.Values.{IsValue, both, made, value_of, values_of}
 use Rattle.sgb.specs.inner.EntryValues.{handed_entry}
 use Rattle.sgb.specs.inner.Inputs.{left_after}
 use Rattle.sgb.proofs.EntryValues.{and_values, entries_made, entries_refused, induced_reads, induced_size, induced_value, one_more}
+use Rattle.sgb.proofs.FirstRefusals.{exit_first, made_first, made_operands, numbers_refused}
 use Rattle.sgb.proofs.InputsLeft.{if_ok, left_on, value_on, values_on}
 use Rattle.sgb.proofs.Values.{both_refused, size_of_entries, value_both, value_made, value_then}
 use Rattle.sgb.proofs.evaluation.+graphs.Goals as goal
@@ -40,7 +42,7 @@ at_values input e f e' f' operands same alike is =
 
 pub evaluate-returns-in-Generator-clause-value : goal.evaluate-returns-in-Generator-clause-value
 evaluate-returns-in-Generator-clause-value t c =
-    subst (λ (e : Expr). IsValue (value_of c.args.input.now (expression_of e)) c.generator_graph.result) (sym c.in-Generator.is) (value_made _ _ c.generator_graph.ensures)
+    subst (λ (e : Expr). IsValue (value_of c.args.input.now (expression_of e)) c.generator_graph.result) (sym c.in-Generator.is) (value_made _ _ c.generator_graph.ensures.answer)
 
 pub evaluate-returns-in_ok-operand-in-Complement-clause-value : goal.evaluate-returns-in_ok-operand-in-Complement-clause-value
 evaluate-returns-in_ok-operand-in-Complement-clause-value t c =
@@ -109,6 +111,96 @@ pub evaluate-returns-in-Stdin-clause-value : goal.evaluate-returns-in-Stdin-clau
 evaluate-returns-in-Stdin-clause-value t c =
     subst (λ (e : Expr). IsValue (value_of c.args.input.now (expression_of e)) c.read_kept.result) (sym c.in-Stdin.is) c.read_kept.ensures.value
 
+pub evaluate-returns-in-Generator-clause-refused : goal.evaluate-returns-in-Generator-clause-refused
+evaluate-returns-in-Generator-clause-refused t c =
+    subst (λ (e : Expr). (p : Panic) → IsRefusedFirst c.args.input.now (expression_of e) p → c.generator_graph.result ≡ Err p) (sym c.in-Generator.is) c.generator_graph.ensures.refused
+
+pub evaluate-returns-in_err-operand-in-Complement-clause-refused : goal.evaluate-returns-in_err-operand-in-Complement-clause-refused
+evaluate-returns-in_err-operand-in-Complement-clause-refused t c =
+    subst (λ (e : Expr). (p : Panic) → IsRefusedFirst c.args.input.now (expression_of e) p → c.from_residual.result ≡ Err p) (sym c.in-Complement.is)
+    (exit_first c.args.input.now c.deref.result.now c.in-Complement.graph.value _ _ c.from_residual.ensures.1 c.deref.ensures c.in_err-operand-in-Complement.ensures.refused)
+
+pub evaluate-returns-in_ok-operand-in-Complement-clause-refused : goal.evaluate-returns-in_ok-operand-in-Complement-clause-refused
+evaluate-returns-in_ok-operand-in-Complement-clause-refused t c =
+    subst (λ (e : Expr). (p : Panic) → IsRefusedFirst c.args.input.now (expression_of e) p → c.complement.result ≡ Err p) (sym c.in-Complement.is)
+    (made_first c.args.input.now c.deref.result.now c.in-Complement.graph.value _ _ c.deref.ensures c.in_ok-operand-in-Complement.ensures.refused)
+
+pub evaluate-returns-in_err-left-in-Gunion-clause-refused : goal.evaluate-returns-in_err-left-in-Gunion-clause-refused
+evaluate-returns-in_err-left-in-Gunion-clause-refused t c =
+    subst (λ (e : Expr). (p : Panic) → IsRefusedFirst c.args.input.now (expression_of e) p → c.from_residual-in_err-left-in-Gunion.result ≡ Err p) (sym c.in-Gunion.is)
+    (exit_first c.args.input.now c.deref-in-Gunion.result.now c.in-Gunion.first.value _ _ c.from_residual-in_err-left-in-Gunion.ensures.1 c.deref-in-Gunion.ensures c.in_err-left-in-Gunion.ensures.refused)
+
+pub evaluate-returns-in_ok-left-in-Gunion-clause-refused : goal.evaluate-returns-in_ok-left-in-Gunion-clause-refused
+evaluate-returns-in_ok-left-in-Gunion-clause-refused t c =
+    subst (λ (e : Expr). (p : Panic) → IsRefusedFirst c.args.input.now (expression_of e) p → c.gunion.result ≡ Err p) (sym c.in-Gunion.is)
+    (made_first c.args.input.now c.deref-in-Gunion.result.now c.in-Gunion.first.value _ _ c.deref-in-Gunion.ensures c.in_ok-left-in-Gunion.ensures.refused)
+
+pub evaluate-returns-in_err-left-in-Intersection-clause-refused : goal.evaluate-returns-in_err-left-in-Intersection-clause-refused
+evaluate-returns-in_err-left-in-Intersection-clause-refused t c =
+    subst (λ (e : Expr). (p : Panic) → IsRefusedFirst c.args.input.now (expression_of e) p → c.from_residual-in_err-left-in-Intersection.result ≡ Err p) (sym c.in-Intersection.is)
+    (exit_first c.args.input.now c.deref-in-Intersection.result.now c.in-Intersection.first.value _ _ c.from_residual-in_err-left-in-Intersection.ensures.1 c.deref-in-Intersection.ensures c.in_err-left-in-Intersection.ensures.refused)
+
+pub evaluate-returns-in_ok-left-in-Intersection-clause-refused : goal.evaluate-returns-in_ok-left-in-Intersection-clause-refused
+evaluate-returns-in_ok-left-in-Intersection-clause-refused t c =
+    subst (λ (e : Expr). (p : Panic) → IsRefusedFirst c.args.input.now (expression_of e) p → c.intersection.result ≡ Err p) (sym c.in-Intersection.is)
+    (made_first c.args.input.now c.deref-in-Intersection.result.now c.in-Intersection.first.value _ _ c.deref-in-Intersection.ensures c.in_ok-left-in-Intersection.ensures.refused)
+
+pub evaluate-returns-in_err-operand-in-Lines-clause-refused : goal.evaluate-returns-in_err-operand-in-Lines-clause-refused
+evaluate-returns-in_err-operand-in-Lines-clause-refused t c =
+    subst (λ (e : Expr). (p : Panic) → IsRefusedFirst c.args.input.now (expression_of e) p → c.from_residual-in_err-operand-in-Lines.result ≡ Err p) (sym c.in-Lines.is)
+    (exit_first c.args.input.now c.deref-in-Lines.result.now c.in-Lines.graph.value _ _ c.from_residual-in_err-operand-in-Lines.ensures.1 c.deref-in-Lines.ensures c.in_err-operand-in-Lines.ensures.refused)
+
+pub evaluate-returns-in_ok-operand-in-Lines-clause-refused : goal.evaluate-returns-in_ok-operand-in-Lines-clause-refused
+evaluate-returns-in_ok-operand-in-Lines-clause-refused t c =
+    subst (λ (e : Expr). (p : Panic) → IsRefusedFirst c.args.input.now (expression_of e) p → c.lines.result ≡ Err p) (sym c.in-Lines.is)
+    (made_first c.args.input.now c.deref-in-Lines.result.now c.in-Lines.graph.value _ _ c.deref-in-Lines.ensures c.in_ok-operand-in-Lines.ensures.refused)
+
+pub evaluate-returns-in_err-left-in-Product-clause-refused : goal.evaluate-returns-in_err-left-in-Product-clause-refused
+evaluate-returns-in_err-left-in-Product-clause-refused t c =
+    subst (λ (e : Expr). (p : Panic) → IsRefusedFirst c.args.input.now (expression_of e) p → c.from_residual-in_err-left-in-Product.result ≡ Err p) (sym c.in-Product.is)
+    (exit_first c.args.input.now c.deref-in-Product.result.now c.in-Product.first.value _ _ c.from_residual-in_err-left-in-Product.ensures.1 c.deref-in-Product.ensures c.in_err-left-in-Product.ensures.refused)
+
+pub evaluate-returns-in_ok-left-in-Product-clause-refused : goal.evaluate-returns-in_ok-left-in-Product-clause-refused
+evaluate-returns-in_ok-left-in-Product-clause-refused t c =
+    subst (λ (e : Expr). (p : Panic) → IsRefusedFirst c.args.input.now (expression_of e) p → c.product.result ≡ Err p) (sym c.in-Product.is)
+    (made_first c.args.input.now c.deref-in-Product.result.now c.in-Product.first.value _ _ c.deref-in-Product.ensures c.in_ok-left-in-Product.ensures.refused)
+
+pub evaluate-returns-in_err-operand-in-Induced-clause-refused : goal.evaluate-returns-in_err-operand-in-Induced-clause-refused
+evaluate-returns-in_err-operand-in-Induced-clause-refused t c =
+    subst (λ (e : Expr). (p : Panic) → IsRefusedFirst c.args.input.now (expression_of e) p → c.from_residual-in_err-operand-in-Induced.result ≡ Err p) (sym c.in-Induced.is)
+    (exit_first c.args.input.now c.deref-in-Induced.result.now c.in-Induced.graph.value _ _ c.from_residual-in_err-operand-in-Induced.ensures.1 c.deref-in-Induced.ensures c.in_err-operand-in-Induced.ensures.refused)
+
+pub evaluate-returns-in_ok-list-in-Induced-clause-refused : goal.evaluate-returns-in_ok-list-in-Induced-clause-refused
+evaluate-returns-in_ok-list-in-Induced-clause-refused t c =
+    subst (λ (e : Expr). (p : Panic) → IsRefusedFirst c.args.input.now (expression_of e) p → c.induced_from.result ≡ Err p) (sym c.in-Induced.is)
+    (made_first c.args.input.now c.deref-in-Induced.result.now c.in-Induced.graph.value _ _ c.deref-in-Induced.ensures c.in_ok-operand-in-Induced.ensures.refused)
+
+pub evaluate-returns-in_err-values-in-Induced-clause-refused : goal.evaluate-returns-in_err-values-in-Induced-clause-refused
+evaluate-returns-in_err-values-in-Induced-clause-refused t c =
+    subst (λ (e : Expr). (p : Panic) → IsRefusedFirst c.args.input.now (expression_of e) p → c.from_residual-in_err-values-in-Induced.result ≡ Err p) (sym c.in-Induced.is)
+    (made_first c.args.input.now c.deref-in-Induced.result.now c.in-Induced.graph.value _ _ c.deref-in-Induced.ensures c.in_ok-operand-in-Induced.ensures.refused)
+
+pub evaluate-returns-in_err-list-in-Induced-clause-refused : goal.evaluate-returns-in_err-list-in-Induced-clause-refused
+evaluate-returns-in_err-list-in-Induced-clause-refused t c =
+    subst (λ (e : Expr). (p : Panic) → IsRefusedFirst c.args.input.now (expression_of e) p → c.from_residual-in_err-list-in-Induced.result ≡ Err p) (sym c.in-Induced.is)
+    (made_first c.args.input.now c.deref-in-Induced.result.now c.in-Induced.graph.value _ _ c.deref-in-Induced.ensures c.in_ok-operand-in-Induced.ensures.refused)
+
+pub evaluate-returns-in-BiComplete-clause-refused : goal.evaluate-returns-in-BiComplete-clause-refused
+evaluate-returns-in-BiComplete-clause-refused t c =
+    let a = c.in-BiComplete in
+    subst (λ (e : Expr). (p : Panic) → IsRefusedFirst c.args.input.now (expression_of e) p → c.bi_complete.result ≡ Err p) (sym a.is)
+    (numbers_refused (λ n1 n2 p. accepted_parts n1 n2 ≡ Err p) a.n1 a.n2 _ _ c.bi_complete.result (to_z-of_z w64 a.n1 (search rules)) (to_z-of_z w64 a.n2 (search rules)) c.bi_complete.ensures.refused)
+
+pub evaluate-returns-in-Wheel-clause-refused : goal.evaluate-returns-in-Wheel-clause-refused
+evaluate-returns-in-Wheel-clause-refused t c =
+    let a = c.in-Wheel in
+    subst (λ (e : Expr). (p : Panic) → IsRefusedFirst c.args.input.now (expression_of e) p → c.wheel.result ≡ Err p) (sym a.is)
+    (numbers_refused (λ n n1 p. accepted_middle n1 ≡ Err p) a.n a.n1 a.n _ c.wheel.result refl (to_z-of_z w64 a.n1 (search rules)) c.wheel.ensures.refused)
+
+pub evaluate-returns-in-Stdin-clause-refused : goal.evaluate-returns-in-Stdin-clause-refused
+evaluate-returns-in-Stdin-clause-refused t c =
+    subst (λ (e : Expr). (p : Panic) → IsRefusedFirst c.args.input.now (expression_of e) p → c.read_kept.result ≡ Err p) (sym c.in-Stdin.is) c.read_kept.ensures.refused
+
 pub evaluate-values_of-requires : goal.evaluate-values_of-requires
 evaluate-values_of-requires t c =
     let a = c.in-Induced in
@@ -171,6 +263,15 @@ operands-returns-in_err-right-clause-value t c =
     let same = value_on _ _ _ _ _ (expression_of c.args.second.now) c.more_with.ensures c.in_ok-left.ensures.left in
     rw (p.1, p.2) (both_refused _ _ c.in_ok-left.left c.in_err-right.field-0.0 c.in_ok-left.ensures.value
     (subst (λ (v : Result GraphData Panic). IsValue v (Err c.in_err-right.field-0.0)) same c.in_err-right.ensures.value))
+
+pub operands-returns-in_err-left-clause-refused : goal.operands-returns-in_err-left-clause-refused
+operands-returns-in_err-left-clause-refused t c = exit_first c.args.input.now c.args.first.now c.args.first.now _ _ c.from_residual.ensures.1 refl c.in_err-left.ensures.refused
+
+pub operands-returns-in_err-right-clause-refused : goal.operands-returns-in_err-right-clause-refused
+operands-returns-in_err-right-clause-refused t c = λ p is. made_operands _ _ (c.in_ok-left.ensures.refused p is)
+
+pub operands-returns-clause-refused : goal.operands-returns-clause-refused
+operands-returns-clause-refused t c = λ p is. made_operands _ _ (c.in_ok-left.ensures.refused p is)
 
 pub operands-returns-clause-value : goal.operands-returns-clause-value
 operands-returns-clause-value t c =

@@ -17,5 +17,5 @@ unfolding queen_moves
 returns c =
     value_then (both (made (generator_value (moves_of (neg_ℤ (pos 1))))) (made (generator_value (moves_of (neg_ℤ (pos 2)))))) (c.in_ok-rooks.rooks, c.in_ok-bishops.bishops)
     (λ operands. made (gunion_of operands.0 operands.1 false false)) c.gunion.result
-    (value_both _ _ c.in_ok-rooks.rooks c.in_ok-bishops.bishops (moves_made _ _ _ c.moves_of.ensures c.in_ok-rooks.ensures) (moves_made _ _ _ c.moves_of-2.ensures c.in_ok-bishops.ensures))
+    (value_both _ _ c.in_ok-rooks.rooks c.in_ok-bishops.bishops (moves_made _ _ _ c.moves_of.ensures c.in_ok-rooks.ensures.answer) (moves_made _ _ _ c.moves_of-2.ensures c.in_ok-bishops.ensures.answer))
     (value_made (gunion_of c.in_ok-rooks.rooks c.in_ok-bishops.bishops false false) c.gunion.result c.gunion.ensures)

@@ -1,9 +1,17 @@
 use Rattle.std.proofs.Common.{refl}
+use Rattle.sgb.proofs.CertainAnswers.{at_once_other, at_once_unmade, exit_panic}
 use Rattle.sgb.proofs.Endings.{ended_value, refused_value}
 use Rattle.sgb.proofs.runs.answer_save.Goals as goal
 
-pub returns-in_err-graph : goal.returns-in_err-graph
-returns-in_err-graph g c = refused_value _ _ _ _ _ _ _ c.from_residual.ensures.1 c.in_err-graph.ensures c.requires refl
+pub returns-in_err-graph-clause-ended : goal.returns-in_err-graph-clause-ended
+returns-in_err-graph-clause-ended g c = refused_value _ _ _ _ _ _ _ c.from_residual.ensures.1 c.in_err-graph.ensures.value c.requires refl
 
-pub returns : goal.returns
-returns g c = ended_value _ c.in_ok-graph.graph _ _ _ _ c.in_ok-graph.ensures c.write_file.ensures
+pub returns-clause-ended : goal.returns-clause-ended
+returns-clause-ended g c = ended_value _ c.in_ok-graph.graph _ _ _ _ c.in_ok-graph.ensures.value c.write_file.ensures
+
+pub returns-in_err-graph-clause-certain : goal.returns-in_err-graph-clause-certain
+returns-in_err-graph-clause-certain g c = λ needs.
+    exit_panic _ _ c.from_residual.ensures.1 (at_once_other c.args.input.items c.args.expression.now _ c.in_err-graph.ensures.refused needs)
+
+pub returns-clause-certain : goal.returns-clause-certain
+returns-clause-certain g c = λ needs. at_once_unmade c.args.input.items c.args.expression.now _ _ c.in_ok-graph.ensures.refused needs

@@ -4,10 +4,10 @@ use Rattle.sgb_levels.proofs.LevelAnswers.{answer_refused, answer_written}
 use Rattle.sgb_levels.proofs.runs.write_answer.Goals as goal
 
 pub returns-in_err-graph : goal.returns-in_err-graph
-returns-in_err-graph g c = λ a answer. exit_ended a _ _ _ _ c.from_residual.ensures.1 (answer_refused _ _ _ a _ _ _ c.in_err-graph.ensures c.requires refl answer)
+returns-in_err-graph g c = λ a answer. exit_ended a _ _ _ _ c.from_residual.ensures.1 (answer_refused _ _ _ a _ _ _ c.in_err-graph.ensures.value c.requires refl answer)
 
 pub returns-in_err-distances : goal.returns-in_err-distances
 returns-in_err-distances g c = λ a answer. exit_ended a _ _ _ _ c.from_residual-in_err-distances.ensures.1 (answer_refused _ _ _ a _ _ _ (inr c.in_err-distances.ensures.memory) c.requires refl answer)
 
 pub returns : goal.returns
-returns g c = λ a answer. answer_written _ c.in_ok-graph.graph c.in_ok-distances.distances.items a _ _ _ c.in_ok-graph.ensures c.in_ok-distances.ensures.distances (rw c.as_slice.ensures.value at c.write_lines.ensures) answer
+returns g c = λ a answer. answer_written _ c.in_ok-graph.graph c.in_ok-distances.distances.items a _ _ _ c.in_ok-graph.ensures.value c.in_ok-distances.ensures.distances (rw c.as_slice.ensures.value at c.write_lines.ensures) answer

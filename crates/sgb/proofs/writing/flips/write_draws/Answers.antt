@@ -3,7 +3,7 @@ use Rattle.std.proofs.lemmas.Int.{to_z-of_z}
 use Rattle.sgb_graph.specs.Draws.{IsAtDraw, seed_of}
 use Rattle.sgb_file.proofs.SoFar.{so_far-all, so_far-more, so_far-none, so_far-same}
 use Rattle.sgb.specs.FlipAnswers.{drawn_from, number_lines}
-use Rattle.sgb.proofs.CutOff.{exit_cut, so_far-cut}
+use Rattle.sgb.proofs.CutOff.{exit_cut, exit_write, so_far-cut}
 use Rattle.sgb.proofs.DrawnNumbers.{lines_first, lines_none}
 use Rattle.sgb.proofs.writing.flips.write_draws.Goals as goal
 
@@ -21,14 +21,17 @@ loop-number-init g c =
 pub write_number-requires : goal.write_number-requires
 write_number-requires g c = c.loop-number.invariant.1
 
-pub returns-in_err-write_number : goal.returns-in_err-write_number
-returns-in_err-write_number g c =
+pub returns-in_err-write_number-clause-written : goal.returns-in_err-write_number-clause-written
+returns-in_err-write_number-clause-written g c =
     let draws = c.args.draws in
     let stands = c.loop-number.invariant.0 in
     let next = c.next_number.ensures draws.start stands.0 stands.1 in
     let left : draws.count - c.loop-number._number ≡ suc (draws.count - (c.loop-number._number + 1)) = omega (arith, c.loop-number-test.true) in
     let first = lines_first (seed_of draws.start) draws.m stands.0 next.0 c.next_number.result _ _ left next.2 in
-    exit_cut _ _ _ _ c.from_residual.ensures.1 (so_far-cut _ _ _ _ _ _ _ _ _ first stands.2 c.in_err-write_number.ensures)
+    exit_cut _ _ _ _ c.from_residual.ensures.1 (so_far-cut _ _ _ _ _ _ _ _ _ first stands.2 c.in_err-write_number.ensures.written)
+
+pub returns-in_err-write_number-clause-fault : goal.returns-in_err-write_number-clause-fault
+returns-in_err-write_number-clause-fault g c = exit_write _ _ c.from_residual.ensures.1 c.in_err-write_number.ensures.fault
 
 pub loop-number-preserved : goal.loop-number-preserved
 loop-number-preserved g c =
@@ -37,10 +40,10 @@ loop-number-preserved g c =
     let next = c.next_number.ensures draws.start stands.0 stands.1 in
     let left : draws.count - c.loop-number._number ≡ suc (draws.count - (c.loop-number._number + 1)) = omega (arith, c.loop-number-test.true) in
     let first = lines_first (seed_of draws.start) draws.m stands.0 next.0 c.next_number.result _ _ left next.2 in
-    ((next.0, next.1, so_far-more _ _ _ _ _ _ _ first stands.2 c.in_ok-write_number.ensures.output), c.in_ok-write_number.ensures.sound)
+    ((next.0, next.1, so_far-more _ _ _ _ _ _ _ first stands.2 c.in_ok-write_number.ensures.written.output), c.in_ok-write_number.ensures.written.sound)
 
-pub returns : goal.returns
-returns g c =
+pub returns-clause-written : goal.returns-clause-written
+returns-clause-written g c =
     let draws = c.args.draws in
     let stands = c.loop-number.invariant.0 in
     let none : draws.count - c.loop-number._number ≡ 0 = omega (arith, c.loop-number-test.false) in

@@ -4,7 +4,7 @@ use Rattle.sgb_vec.specs.Names.{name_of_vector}
 use Rattle.sgb_vec.proofs.RangeSteps.{first_and_rest}
 use Rattle.sgb.specs.Texts.{name_line}
 use Rattle.sgb_file.proofs.SoFar.{so_far-more}
-use Rattle.sgb.proofs.CutOff.{exit_cut, so_far-cut}
+use Rattle.sgb.proofs.CutOff.{exit_cut, exit_write, so_far-cut}
 use Rattle.sgb.proofs.writing.names.write_all.Goals as goal
 
 pub loop-vector-preserved : goal.loop-vector-preserved
@@ -16,8 +16,8 @@ loop-vector-preserved g c =
     ∙ ap (λ w. name_line (name_of_vector w) ++ lines c.advance-some.new.self) (sym c.turn_to.ensures) in
     (so_far-more _ _ _ _ _ _ _ first c.loop-vector.invariant.0 c.in_ok-write_line.ensures.written.output, c.in_ok-write_line.ensures.written.sound)
 
-pub returns-in_err-write_line : goal.returns-in_err-write_line
-returns-in_err-write_line g c =
+pub returns-in_err-write_line-clause-written : goal.returns-in_err-write_line-clause-written
+returns-in_err-write_line-clause-written g c =
     let lines : List (List ℕ) → List ℕ = λ vectors. flat_map name_line (map name_of_vector vectors) in
     let v = c.in-Some.vector.now in
     let rest : List (List ℕ) = drop 1 c.loop-vector.left in
@@ -25,3 +25,6 @@ returns-in_err-write_line g c =
     ap lines (first_and_rest c.loop-vector.left rest v v c.in-Some.ensures.first refl refl)
     ∙ ap (λ w. name_line (name_of_vector w) ++ lines rest) (sym c.turn_to.ensures) in
     exit_cut _ _ _ _ c.from_residual.ensures.1 (so_far-cut _ _ _ _ _ _ _ _ _ first c.loop-vector.invariant.0 c.in_err-write_line.ensures.written)
+
+pub returns-in_err-write_line-clause-fault : goal.returns-in_err-write_line-clause-fault
+returns-in_err-write_line-clause-fault g c = exit_write _ _ c.from_residual.ensures.1 c.in_err-write_line.ensures.fault

@@ -1,0 +1,201 @@
+-- What needs no memory is never out of memory.
+use Rattle.std.proofs.Common.{◌≡◌, ◌≢◌, ◌⊎◌, ◌&&◌, ◌∙◌, ℕ, List, [], Bool, true, false, Option, Result, Ok, Err, IfErr, inl, inr, refl, sym, ap, subst}
+use Rattle.std.specs.Result.{IsErrAnd}
+use Rattle.std.proofs.lemmas.Bool.{both_ways}
+use Rattle.std.proofs.lemmas.Result.{err_from_is_err_and}
+use Rattle.sgb_vec.specs.declared.panics.Panic.{Panic}
+use Rattle.sgb_vec.specs.declared.panics.Panic.TheVariants.{NoRoom}
+use Rattle.sgb_graph.specs.Graphs.{GraphData}
+use Rattle.sgb_graph.specs.Made.{graph_described}
+use Rattle.sgb_ops.specs.Operands.{names_of}
+use Rattle.sgb_file.specs.Devices.{AppendsUnlessFailed, Change}
+use Rattle.sgb_gen.specs.declared.params.BoardParams.{BoardParams}
+use Rattle.sgb_expr.specs.Expression.{expression_of}
+use Rattle.sgb_expr.specs.StdinUses.{has_stdin}
+use Rattle.sgb_expr.specs.declared.expressions.Expr.{Expr}
+use Rattle.sgb_expr.specs.declared.expressions.Expr.TheVariants as expr
+use Rattle.sgb_expr.specs.declared.expressions.Generator.{Generator}
+use Rattle.sgb_expr.specs.declared.expressions.Generator.TheVariants as generator
+use Rattle.sgb_requests.specs.Faults.{line_of, status_of}
+use Rattle.sgb_requests.specs.declared.faults.Fault.{Fault}
+use Rattle.sgb_requests.specs.declared.faults.Fault.TheVariants as fault
+use Rattle.sgb_requests.specs.declared.requests.Request.{Request}
+use Rattle.sgb_requests.specs.declared.requests.Request.TheVariants as request
+use Rattle.sgb_requests.specs.declared.requests.Resume.{Resume}
+use Rattle.sgb.specs.Certain.{BeginsNowhere, BeginsNowhereOn, IsBoard, IsCertain, IsGeneratorRefused, IsRefusedAtOnce, IsRefusedFirst, NeedsNoMemory}
+use Rattle.sgb.specs.Outcomes.{answer_of, left_out, outcome_of, reads_input}
+use Rattle.sgb.specs.Runs.{IsGiven}
+use Rattle.sgb.specs.Values.{described, generator_value, made}
+use Rattle.sgb.specs.declared.locals.Local.{Local}
+use Rattle.sgb.specs.inner.Certain.{HasListingAtOnce, HasNamesAtOnce, IsRefusedGenerator}
+use Rattle.sgb.specs.inner.Values.{IsLocalOf}
+use Rattle.sgb.specs.inner.Writing.{IsEnded, IsEndedFrom}
+use Rattle.sgb.proofs.Endings.{change_of, no_line}
+use Rattle.sgb.proofs.FirstRefusals.{first_other, generator_other}
+use Rattle.sgb.proofs.Refusals.{left_out_own}
+use Rattle.sgb.proofs.StdinValues.{answer_unread}
+
+-- ---- faults
+
+-- the exit of a `?` with another fault
+pub exit_certain : {T : Type 0} (r : Result T Fault) (f : Fault) → IsErrAnd r (λ g. g ≡ f) → f ≢ fault.Panic NoRoom → IfErr r (λ g. g ≢ fault.Panic NoRoom)
+exit_certain r f exit other =
+    let p = err_from_is_err_and r exit in
+    rw (p.1, p.2) other
+
+-- a code that is another
+other_panic : (p : Panic) → p ≢ NoRoom → fault.Panic p ≢ fault.Panic NoRoom
+other_panic p other e =
+    let same : p ≡ NoRoom = cc in
+    other same
+
+-- the exit of a `?` with a refusal
+pub exit_panic : {T : Type 0} (r : Result T Fault) (p : Panic) → IsErrAnd r (λ g. g ≡ fault.Panic p) → p ≢ NoRoom → IfErr r (λ g. g ≢ fault.Panic NoRoom)
+exit_panic r p exit other = exit_certain r (fault.Panic p) exit (other_panic p other)
+
+-- what a write alone can fail
+pub write_certain : {T : Type 0} (r : Result T Fault) → IfErr r (λ f. f ≡ fault.Write) → IfErr r (λ f. f ≢ fault.Panic NoRoom)
+write_certain (Ok x) h = tt
+write_certain (Err f) h = λ e. cc
+
+-- where an answer begins
+pub place_other : (names : List (List ℕ)) (resume : Resume) (f : Fault) → left_out names resume ≡ Err f → f ≢ fault.Panic NoRoom
+place_other names resume f is e = left_out_own names resume (is ∙ ap Err e)
+
+-- the exit of a `?` where no vertex has the name
+pub exit_nowhere : {T : Type 0} (r : Result T Fault) (from : Result ℕ Fault) (f : Fault) → IsErrAnd r (λ g. g ≡ f) → Err f ≡ from → from ≡ Err fault.NoVertex → r ≡ Err fault.NoVertex
+exit_nowhere r from f exit is nowhere =
+    let p = err_from_is_err_and r exit in
+    let same : f ≡ fault.NoVertex = cc in
+    p.1 ∙ ap Err (p.2 ∙ same)
+
+-- some vertex has it
+pub not_nowhere : {T : Type 0} (from : Result ℕ Fault) (k : ℕ) {r : Result T Fault} → Ok k ≡ from → from ≡ Err fault.NoVertex → r ≡ Err fault.NoVertex
+not_nowhere from k is nowhere = absurd cc
+
+-- ---- generators
+
+-- a generator that is not accepted, where its names need no memory
+pub names_refused : (f : Generator) (p : Panic) → ((code : Panic) → IsGeneratorRefused f code → ◌≡◌ {A = Result Local Panic} (Err p) (Err code))
+    → ((params : BoardParams) → f ≡ generator.Board params → p ≢ NoRoom) → HasNamesAtOnce f → p ≢ NoRoom
+names_refused f p refused board (inl h) = board h.0 h.1
+names_refused f p refused board (inr h) = λ e.
+    let other = generator_other f h.0 h.1 in
+    let same = refused h.0 h.1 in
+    let code : h.0 ≡ NoRoom = cc in
+    other code
+
+-- where its listing needs none
+pub listing_refused : (f : Generator) (resume : Resume) (p : Panic) → ((code : Panic) → IsGeneratorRefused f code → ◌≡◌ {A = Result Local Panic} (Err p) (Err code))
+    → ((params : BoardParams) → f ≡ generator.Board params → p ≢ NoRoom) → HasListingAtOnce f resume → p ≢ NoRoom
+listing_refused f resume p refused board (inl h) = board h.0 h.1
+listing_refused f resume p refused board (inr h) = names_refused f p refused board (inr h)
+
+-- its listing begins nowhere
+pub listing_begun : {T : Type 0} (f : Generator) (resume : Resume) (l m : Local) (r : Result T Fault) → m ≡ l → IsLocalOf (generator_value f) (Ok l)
+    → ((code : Panic) → IsGeneratorRefused f code → Ok l ≡ Err code)
+    → (left_out (names_of (graph_described (described m))) resume ≡ Err fault.NoVertex → r ≡ Err fault.NoVertex)
+    → HasListingAtOnce f resume → IfErr r (λ g. g ≢ fault.Panic NoRoom)
+listing_begun {T = T} f resume l m r alike is refused nowhere (inl (p, same, from)) =
+    let value : made (generator_value (generator.Board p)) ≡ Ok (graph_described (described l)) = ap made (ap generator_value (sym same) ∙ is) in
+    let none = subst (λ (x : Local). left_out (names_of (graph_described (described x))) resume ≡ Err fault.NoVertex) (sym alike) (from (graph_described (described l)) value) in
+    let ended = nowhere none in
+    subst (λ (x : Result T Fault). IfErr x (λ g. g ≢ fault.Panic NoRoom)) (sym ended) (λ e. cc)
+listing_begun f resume l m r alike is refused nowhere (inr h) =
+    let none = refused h.0 h.1 in
+    absurd cc
+
+-- of an expression that is a generator
+pub names_of_generator : (e : Expr) (f : Generator) → e ≡ expr.Generator f → IsBoard e ⊎ IsRefusedAtOnce (expression_of e) → HasNamesAtOnce f
+names_of_generator e f is (inl h) =
+    let same = h.1 in
+    let board : f ≡ generator.Board h.0 = cc in
+    inl (h.0, board)
+names_of_generator e f is (inr h) = inr (h.code, subst (λ (x : Expr). IsRefusedFirst [] (expression_of x) h.code) is (h.refused []))
+
+pub listing_of_generator : (e : Expr) (f : Generator) (resume : Resume) → e ≡ expr.Generator f → BeginsNowhereOn e resume ⊎ IsRefusedAtOnce (expression_of e) → HasListingAtOnce f resume
+listing_of_generator e f resume is (inl (g, same, nowhere)) =
+    let alike : g ≡ f = cc in
+    inl (subst (λ (x : Generator). BeginsNowhere x resume) alike nowhere)
+listing_of_generator e f resume is (inr h) = inr (h.code, subst (λ (x : Expr). IsRefusedFirst [] (expression_of x) h.code) is (h.refused []))
+
+-- ---- graphs
+
+-- an expression that is no generator, where its names need no memory
+pub names_of_graph : (e : Expr) → ((f : Generator) → e ≢ expr.Generator f) → IsBoard e ⊎ IsRefusedAtOnce (expression_of e) → IsRefusedAtOnce (expression_of e)
+names_of_graph e other (inl h) = absurd (other (generator.Board h.0) h.1)
+names_of_graph e other (inr h) = h
+
+-- where its listing needs none
+pub listing_of_graph : (e : Expr) (resume : Resume) → ((f : Generator) → e ≢ expr.Generator f) → BeginsNowhereOn e resume ⊎ IsRefusedAtOnce (expression_of e) → IsRefusedAtOnce (expression_of e)
+listing_of_graph e resume other (inl h) = absurd (other h.0 h.1)
+listing_of_graph e resume other (inr h) = h
+
+-- the refusal of an expression that is refused at once
+pub at_once_other : (input : List ℕ) (e : Expr) (p : Panic) → ((code : Panic) → IsRefusedFirst input (expression_of e) code → ◌≡◌ {A = Result GraphData Panic} (Err p) (Err code))
+    → IsRefusedAtOnce (expression_of e) → p ≢ NoRoom
+at_once_other input e p refused h is =
+    let other = first_other input (expression_of e) h.code (h.refused input) in
+    let same = refused h.code (h.refused input) in
+    let code : h.code ≡ NoRoom = cc in
+    other code
+
+-- no graph was made of it
+pub at_once_unmade : {T : Type 0} (input : List ℕ) (e : Expr) (g : GraphData) (r : Result T Fault) → ((code : Panic) → IsRefusedFirst input (expression_of e) code → Ok g ≡ Err code)
+    → IsRefusedAtOnce (expression_of e) → IfErr r (λ f. f ≢ fault.Panic NoRoom)
+at_once_unmade input e g r made h =
+    let none = made h.code (h.refused input) in
+    absurd cc
+
+-- ---- runs
+
+-- a request whose answer takes no memory reads no input
+pub certain_unread : (r : Request) → NeedsNoMemory r → reads_input r ≡ false
+certain_unread (request.Names e resume) (inl h) = ap (λ (x : Expr). has_stdin (expression_of x)) h.1
+certain_unread (request.Names e resume) (inr h) = h.unread
+certain_unread (request.List e resume) (inl h) = ap (λ (x : Expr). has_stdin (expression_of x)) h.1
+certain_unread (request.List e resume) (inr h) = h.unread
+certain_unread (request.Save e) h = h.unread
+certain_unread request.Queen h = absurd h
+certain_unread (request.Flip p) h = refl
+
+-- an end that is not that of reading
+ended_from : {T : Type 0} (failed : Bool) (a : Result (List ℕ) Fault) (same : Type 0) (out : Change) (r : Result T Fault) → failed ≡ false → IsEndedFrom failed a same out r → IsEnded a same out r
+ended_from {T = T} failed a same out r e p = subst (λ b. IsEndedFrom {T = T} b a same out r) e p
+
+-- the request was answered
+given_ok : {T : Type 0} (a : Result (List ℕ) Fault) (same : Type 0) (x : T) (w v e : Option (List ℕ)) (wf ef : Bool)
+    → IsEnded a same (change_of w v wf) (Ok x) → IsGiven (outcome_of a) (change_of w v wf) (change_of e e ef) 0
+given_ok (Ok text) same x w v e wf ef p = record { output = p.output; line = no_line ef e; exit = refl }
+given_ok (Err g) same x w v e wf ef p = absurd p
+
+-- it was refused, and not cut off by the sink
+given_err : (T : Type 0) (a : Result (List ℕ) Fault) (same : Type 0) (f : Fault) (w v e d : Option (List ℕ)) (wf ef : Bool)
+    → IsEnded {T = T} a same (change_of w v wf) (Err f) → f ≢ fault.Panic NoRoom → wf ≡ false → AppendsUnlessFailed (change_of e d ef) (line_of f)
+    → IsGiven (outcome_of a) (change_of w v wf) (change_of e d ef) (status_of f)
+given_err T (Ok text) same f w v e d wf ef p other sound line = elim p.cause [ | inl h ↦ absurd (both_ways wf sound h.0) | inr h ↦ absurd (other h.1) ]
+given_err T (Err g) same f w v e d wf ef p other sound line = elim p.0 [
+  | inl alike ↦ record {
+    output = p.1.output;
+    line = subst (λ (h : Fault). AppendsUnlessFailed (change_of e d ef) (line_of h)) alike line;
+    exit = ap status_of alike;
+  }
+  | inr memory ↦ absurd (other memory)
+]
+
+pub certain_ok : {T : Type 0} (r : Request) (failed : Bool) (kept : List ℕ) (same : Type 0) (x : T) (w v e : Option (List ℕ)) (wf ef : Bool)
+    → IsEndedFrom (reads_input r && failed) (answer_of r kept) same (change_of w v wf) (Ok x) → IsCertain r (change_of w v wf) (change_of e e ef) 0
+certain_ok r failed kept same x w v e wf ef ended needs sound input =
+    let unread = certain_unread r needs in
+    let here = ended_from _ (answer_of r kept) same _ (Ok x) (ap (λ b. b && failed) unread) ended in
+    subst (λ a. IsGiven (outcome_of a) (change_of w v wf) (change_of e e ef) 0) (answer_unread r kept input unread)
+    (given_ok (answer_of r kept) same x w v e wf ef here)
+
+pub certain_err : (T : Type 0) (r : Request) (failed : Bool) (kept : List ℕ) (same : Type 0) (f : Fault) (w v e d : Option (List ℕ)) (wf ef : Bool)
+    → IsEndedFrom {T = T} (reads_input r && failed) (answer_of r kept) same (change_of w v wf) (Err f) → (NeedsNoMemory r → f ≢ fault.Panic NoRoom)
+    → AppendsUnlessFailed (change_of e d ef) (line_of f) → IsCertain r (change_of w v wf) (change_of e d ef) (status_of f)
+certain_err T r failed kept same f w v e d wf ef ended other line needs sound input =
+    let unread = certain_unread r needs in
+    let here = ended_from {T = T} _ (answer_of r kept) same _ (Err f) (ap (λ b. b && failed) unread) ended in
+    subst (λ a. IsGiven (outcome_of a) (change_of w v wf) (change_of e d ef) (status_of f)) (answer_unread r kept input unread)
+    (given_err T (answer_of r kept) same f w v e d wf ef here (other needs) sound line)
