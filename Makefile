@@ -9,8 +9,8 @@
 # make calls      refuses memory to library calls: what stood before stands after, about a minute
 # make check      the gate: all proofs from nothing, must-fail edits, the tests, the program
 # make edits      tries the must-fail edits that the gate leaves out, on a copy
-# make install    puts what is built into $(PREFIX)/bin, and its manual page into $(PREFIX)/share/man; it builds nothing
-# make uninstall  takes both away again
+# make install    puts what is built below $(PREFIX), with its manual page and completion for bash; it builds nothing
+# make uninstall  takes them away again
 # make clean      removes what was built, and with it what is kept of proofs
 
 PREFIX ?= /usr/local
@@ -78,9 +78,11 @@ install:
 	@[ -x $(PROGRAM) ] || { echo "make: nothing is built yet: make builds the program, make install installs it" >&2; exit 1; }
 	install -D $(PROGRAM) $(DESTDIR)$(PREFIX)/bin/sgb
 	install -D -m 644 man/sgb.1 $(DESTDIR)$(PREFIX)/share/man/man1/sgb.1
+	install -D -m 644 completions/sgb.bash $(DESTDIR)$(PREFIX)/share/bash-completion/completions/sgb
 
 uninstall:
 	rm -f $(DESTDIR)$(PREFIX)/bin/sgb $(DESTDIR)$(PREFIX)/share/man/man1/sgb.1
+	rm -f $(DESTDIR)$(PREFIX)/share/bash-completion/completions/sgb
 
 clean:
 	rm -rf crates/*/out conformance/out
