@@ -1,5 +1,5 @@
 -- Values put into a list from a place on.
-use Rattle.std.proofs.Common.{◌≡◌, ℕ, ◌+◌, ◌<◌, ◌≤◌, List, [], ◌∷◌, ◌++◌, length, map, take, set, refl, sym, ap, append_assoc, ◌∙◌, arith}
+use Rattle.std.proofs.Common.{◌≡◌, ℕ, ◌+◌, List, [], ◌∷◌, ◌++◌, length, map, take, set, refl, sym, ap, append_assoc, ◌∙◌, arith}
 use Rattle.std.proofs.lemmas.List.{append-nil, length-map, length-set, map-append, take_all, take_more_set}
 use Rattle.sgb_arrays.specs.inner.Puts.{put_from}
 

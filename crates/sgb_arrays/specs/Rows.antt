@@ -1,5 +1,5 @@
 -- A graph as arrays: the lists of the vertices one after another, and where each one starts ("compressed sparse rows").
-use Rattle.std.specs.Prelude.{◌≡◌, ℕ, ℤ, ◌+◌, List, [], ◌∷◌, length, map}
+use Rattle.std.specs.Prelude.{◌≡◌, ℕ, ℤ, ◌+◌, List, length, map}
 use Rattle.std.specs.List.{flat_map}
 use Rattle.sgb_graph.specs.Graphs.{GraphData, chain_of}
 use Rattle.sgb_graph.specs.declared.fields.Link.{Link}

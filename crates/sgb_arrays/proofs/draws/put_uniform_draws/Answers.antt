@@ -1,4 +1,4 @@
-use Rattle.std.proofs.Common.{◌≡◌, ◌≤◌, ◌<◌, ◌+◌, ◌-◌, ◌∙◌, ℕ, ℤ, w64, to_z, of_z, length, ap, refl, subst, arith, rules}
+use Rattle.std.proofs.Common.{◌≡◌, ◌≤◌, ◌<◌, ◌+◌, ◌-◌, ℕ, ℤ, w64, to_z, of_z, length, ap, refl, subst, arith, rules}
 use Rattle.std.proofs.lemmas.Int.{to_z-of_z}
 use Rattle.sgb_graph.specs.Draws.{IsAtDraw, seed_of, uniform_draws}
 use Rattle.sgb_arrays.specs.inner.Puts.{put_from}

@@ -1,6 +1,5 @@
-use Rattle.std.proofs.Common.{◌≡◌, w64, to_z, of_z, ◌≤◌, ◌<◌, ◌+◌, ◌∙◌, length, ap, refl, arith, rules}
+use Rattle.std.proofs.Common.{w64, to_z, of_z, ◌≤◌, ◌<◌, ◌∙◌, length, refl, arith, rules}
 use Rattle.std.proofs.lemmas.Int.{to_z-of_z}
-use Rattle.sgb_arrays.specs.Fields.{ints_of}
 use Rattle.sgb_arrays.proofs.FieldValues.{int_put, ints_begun, ints_put}
 use Rattle.sgb_arrays.proofs.fields.put_ints.Goals as goal
 

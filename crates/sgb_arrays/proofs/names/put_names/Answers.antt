@@ -1,4 +1,4 @@
-use Rattle.std.proofs.Common.{◌≡◌, ℕ, set, ◌≤◌, ◌<◌, ◌+◌, ◌∙◌, [], Some, length, ap, refl, sym, get_or, subst, arith, rules}
+use Rattle.std.proofs.Common.{◌≡◌, ℕ, set, ◌<◌, ◌+◌, ◌∙◌, [], Some, length, ap, refl, sym, get_or, arith, rules}
 use Rattle.std.proofs.lemmas.List.{length-append}
 use Rattle.std.proofs.lemmas.Option.{get_or_from_slice_get}
 use Rattle.sgb_arrays.specs.Lists.{names_of}

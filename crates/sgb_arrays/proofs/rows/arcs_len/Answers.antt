@@ -1,4 +1,4 @@
-use Rattle.std.proofs.Common.{◌≡◌, ◌≤◌, ◌<◌, ◌+◌, length, ap, arith}
+use Rattle.std.proofs.Common.{◌≡◌, ◌≤◌, ◌<◌, length, ap, arith}
 use Rattle.sgb_graph.specs.Graphs.{chain_of}
 use Rattle.sgb_arrays.proofs.ArcsLeft.{arcs_left-none, arcs_left-whole, list_counted}
 use Rattle.sgb_arrays.proofs.rows.arcs_len.Goals as goal
