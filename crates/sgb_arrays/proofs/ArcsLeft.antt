@@ -1,0 +1,85 @@
+-- A walk through the lists of all vertices.
+use Rattle.std.proofs.Common.{◌≡◌, ℕ, suc, ◌+◌, ◌-◌, ◌<◌, ◌≤◌, List, [], ◌∷◌, ◌++◌, length, map, set, refl, sym, ap, ◌∙◌, arith}
+use Rattle.std.specs.List.{flat_map, range_with_len}
+use Rattle.std.proofs.lemmas.List.{length-append, length-map}
+use Rattle.std.proofs.lemmas.List.FromFn.{length-range_with_len}
+use Rattle.sgb_graph.specs.Graphs.{GraphData, chain_of}
+use Rattle.sgb_arrays.specs.Rows.{arcs_of, starts_of}
+use Rattle.sgb_arrays.specs.Lists.{starts_from}
+use Rattle.sgb_arrays.specs.inner.ArcsLeft.{arcs_left, starts_left}
+use Rattle.sgb_arrays.specs.inner.Puts.{put_from}
+use Rattle.sgb_arrays.proofs.PutValues.{put_from-all}
+
+-- the numbers from k on, below n
+range-first : (k n : ℕ) → k < n → range_with_len k (n - k) ≡ k ∷ range_with_len (k + 1) (n - (k + 1))
+range-first k n h =
+    let more : n - k ≡ suc (n - (k + 1)) = omega arith in
+    ap (range_with_len k) more
+
+range-none : (k n : ℕ) → n ≤ k → range_with_len k (n - k) ≡ []
+range-none k n h =
+    let none : n - k ≡ 0 = omega arith in
+    ap (range_with_len k) none
+
+range-whole : (n : ℕ) → range_with_len 0 (n - 0) ≡ range_with_len 0 n
+range-whole n = let same : n - 0 ≡ n = omega arith in ap (range_with_len 0) same
+
+-- all of them
+pub arcs_left-whole : (g : GraphData) → arcs_left g 0 ≡ arcs_of g
+unfolding arcs_left arcs_of
+arcs_left-whole g = ap (flat_map (chain_of g)) (range-whole (length g.vertices))
+
+pub starts_left-whole : (g : GraphData) → starts_left g 0 0 ≡ starts_of g
+unfolding starts_left starts_of
+starts_left-whole g = ap (λ vs. starts_from 0 (map (λ u. length (chain_of g u)) vs)) (range-whole (length g.vertices))
+
+-- those of a vertex come before those of the vertices after it
+pub arcs_left-first : (g : GraphData) (v : ℕ) → v < length g.vertices → arcs_left g v ≡ chain_of g v ++ arcs_left g (v + 1)
+unfolding arcs_left
+arcs_left-first g v within = ap (flat_map (chain_of g)) (range-first v (length g.vertices) within)
+
+pub starts_left-first : (g : GraphData) (v at : ℕ) → v < length g.vertices → starts_left g v at ≡ at ∷ starts_left g (v + 1) (at + length (chain_of g v))
+unfolding starts_left
+starts_left-first g v at within = ap (λ vs. starts_from at (map (λ u. length (chain_of g u)) vs)) (range-first v (length g.vertices) within)
+
+-- none come after the last vertex
+pub arcs_left-none : (g : GraphData) (v : ℕ) → length g.vertices ≤ v → arcs_left g v ≡ []
+unfolding arcs_left
+arcs_left-none g v past = ap (flat_map (chain_of g)) (range-none v (length g.vertices) past)
+
+pub starts_left-none : (g : GraphData) (v at : ℕ) → length g.vertices ≤ v → starts_left g v at ≡ at ∷ []
+unfolding starts_left
+starts_left-none g v at past = ap (λ vs. starts_from at (map (λ u. length (chain_of g u)) vs)) (range-none v (length g.vertices) past)
+
+-- one list less is left to count
+pub list_counted : (g : GraphData) (v count size all : ℕ) → v < length g.vertices → size ≡ length (chain_of g v)
+    → count + length (arcs_left g v) ≡ all → (count + size) + length (arcs_left g (v + 1)) ≡ all
+list_counted g v count size all within is whole =
+    omega (arith, is, whole, ap length (arcs_left-first g v within), length-append (chain_of g v) (arcs_left g (v + 1)))
+
+-- there is a start more than parts
+pub length-starts_from : (at : ℕ) (sizes : List ℕ) → length (starts_from at sizes) ≡ length sizes + 1
+length-starts_from at [] = refl
+length-starts_from at (size ∷ sizes) = omega (arith, length-starts_from (at + size) sizes)
+
+pub length-starts_of : (g : GraphData) → length (starts_of g) ≡ length g.vertices + 1
+unfolding starts_of
+length-starts_of g =
+    let sizes = map (λ u. length (chain_of g u)) (range_with_len 0 (length g.vertices)) in
+    omega (arith, length-starts_from 0 sizes, length-map (range_with_len 0 (length g.vertices)) (λ u. length (chain_of g u)), length-range_with_len 0 (length g.vertices))
+
+-- the start of the next list is put
+pub start_put : (g : GraphData) (v at next : ℕ) (now all : List ℕ) → v < length g.vertices → next ≡ at + length (chain_of g v)
+    → put_from v (starts_left g v at) now ≡ all → put_from (v + 1) (starts_left g (v + 1) next) (set now v at) ≡ all
+start_put g v at next now all within there whole =
+    ap (λ (k : ℕ). put_from (v + 1) (starts_left g (v + 1) k) (set now v at)) there
+    ∙ ap (λ xs. put_from v xs now) (sym (starts_left-first g v at within))
+    ∙ whole
+
+-- and so is the end of the last one, and all are there
+pub starts_put : (g : GraphData) (v at : ℕ) (now old : List ℕ) → v ≡ length g.vertices → length old ≡ length g.vertices + 1
+    → put_from v (starts_left g v at) now ≡ put_from 0 (starts_of g) old → set now v at ≡ starts_of g
+starts_put g v at now old last size whole =
+    ap (λ xs. put_from v xs now) (sym (starts_left-none g v at (omega (arith, last))))
+    ∙ whole
+    ∙ put_from-all (starts_of g) old (omega (arith, size, length-starts_of g))

@@ -1,0 +1,2 @@
+-- Worked examples of the definitions.
+pub mod Rows

@@ -1,0 +1,15 @@
+-- The lemmas of sgb_arrays, by subject.
+-- values put from a place on
+pub mod PutValues
+-- what is left of a walk through the lists
+pub mod ArcsLeft
+-- what is left of a walk through the names
+pub mod NamesLeft
+-- draws, one after another
+pub mod DrawsPut
+-- integers of a field
+pub mod FieldValues
+-- parts by their starts
+pub mod Parts
+-- worked examples
+pub mod Examples

@@ -1,0 +1,63 @@
+-- Values put into a list from a place on.
+use Rattle.std.proofs.Common.{◌≡◌, ℕ, ◌+◌, List, [], ◌∷◌, ◌++◌, length, map, take, set, refl, sym, ap, append_assoc, ◌∙◌, arith}
+use Rattle.std.proofs.lemmas.List.{append-nil, length-map, length-set, map-append, take_all, take_more_set}
+use Rattle.sgb_arrays.specs.inner.Puts.{put_from}
+
+-- the list stays as long
+pub length-put_from : {X : Type 0} (at : ℕ) (xs old : List X) → length (put_from at xs old) ≡ length old
+length-put_from at [] old = refl
+length-put_from at (x ∷ xs) old = length-put_from (at + 1) xs (set old at x) ∙ length-set old at x
+
+-- values, and then others
+pub put_from-append : {X : Type 0} (at : ℕ) (xs ys old : List X) → put_from at (xs ++ ys) old ≡ put_from (at + length xs) ys (put_from at xs old)
+put_from-append at [] ys old =
+    let same : at ≡ at + 0 = omega arith in
+    ap (λ (k : ℕ). put_from k ys old) same
+put_from-append at (x ∷ xs) ys old =
+    let same : (at + 1) + length xs ≡ at + length (x ∷ xs) = omega arith in
+    put_from-append (at + 1) xs ys (set old at x) ∙ ap (λ (k : ℕ). put_from k ys (put_from (at + 1) xs (set old at x))) same
+
+-- values up to the end
+pub put_from-rest : {X : Type 0} (at : ℕ) (xs old : List X) → at + length xs ≡ length old → put_from at xs old ≡ take at old ++ xs
+put_from-rest at [] old size = sym (append-nil (take at old) ∙ take_all at old (omega (arith, size)))
+put_from-rest at (x ∷ xs) old size =
+    put_from-rest (at + 1) xs (set old at x) (omega (arith, size, length-set old at x))
+    ∙ ap (λ ys. ys ++ xs) (take_more_set old at x (omega (arith, size)))
+    ∙ append_assoc (take at old) (x ∷ []) xs
+
+-- all values are others
+pub put_from-all : {X : Type 0} (xs old : List X) → length old ≡ length xs → put_from 0 xs old ≡ xs
+put_from-all xs old size = put_from-rest 0 xs old (omega (arith, size))
+
+-- the first of what is left is put
+pub value_put : {X Y : Type 0} (f : X → Y) (at : ℕ) (left rest : List X) (x : X) (now all : List Y) → left ≡ x ∷ rest
+    → put_from at (map f left) now ≡ all → put_from (at + 1) (map f rest) (set now at (f x)) ≡ all
+value_put f at left rest x now all is whole = ap (λ xs. put_from at (map f xs) now) (sym is) ∙ whole
+
+-- the first values of what is left are put
+pub part_put : {X Y : Type 0} (f : X → Y) (at next : ℕ) (left part rest : List X) (now new all : List Y) → left ≡ part ++ rest
+    → next ≡ at + length part → new ≡ put_from at (map f part) now → put_from at (map f left) now ≡ all → put_from next (map f rest) new ≡ all
+part_put f at next left part rest now new all is there done whole =
+    let end : next ≡ at + length (map f part) = omega (arith, there, length-map part f) in
+    ap (λ (k : ℕ). put_from k (map f rest) new) end
+    ∙ ap (put_from (at + length (map f part)) (map f rest)) done
+    ∙ sym (put_from-append at (map f part) (map f rest) now)
+    ∙ ap (λ xs. put_from at xs now) (sym (map-append f part rest))
+    ∙ ap (λ xs. put_from at (map f xs) now) (sym is)
+    ∙ whole
+
+-- none is left, so all are put
+pub all_put : {X Y : Type 0} (f : X → Y) (at : ℕ) (left : List X) (now old all : List Y) → left ≡ [] → length old ≡ length all
+    → put_from at (map f left) now ≡ put_from 0 all old → now ≡ all
+all_put f at left now old all none size whole = ap (λ xs. put_from at (map f xs) now) (sym none) ∙ whole ∙ put_from-all all old size
+
+-- the first part of what is left is put, which is known by another name
+pub bytes_put : (at next : ℕ) (left part known rest now new all : List ℕ) → left ≡ part ++ rest → part ≡ known → next ≡ at + length known
+    → new ≡ put_from at known now → put_from at left now ≡ all → put_from next rest new ≡ all
+bytes_put at next left part known rest now new all is same there done whole =
+    ap (λ (k : ℕ). put_from k rest new) there
+    ∙ ap (put_from (at + length known) rest) done
+    ∙ sym (put_from-append at known rest now)
+    ∙ ap (λ xs. put_from at (xs ++ rest) now) (sym same)
+    ∙ ap (λ xs. put_from at xs now) (sym is)
+    ∙ whole

@@ -1,0 +1,37 @@
+-- The utility fields of a graph's vertices, as arrays of numbers.
+use Rattle.std.specs.Prelude.{◌≡◌, ℕ, ℤ, pos, List, length, map, Some, slice_get}
+use Rattle.std.specs.List.{slice_index_or}
+use Rattle.sgb_graph.specs.Graphs.{GraphData}
+use Rattle.sgb_graph.specs.Sound.{vertex_kinds}
+use Rattle.sgb_graph.specs.declared.fields.Kind.TheVariants.{I}
+use Rattle.sgb_graph.specs.declared.fields.Util.{Util}
+use Rattle.sgb_graph.specs.declared.fields.Util.TheVariants.{Nothing, Int, Vertex as VertexField, Str, Chain}
+use Rattle.sgb_graph.specs.declared.fields.Vertex.{Vertex}
+use Rattle.sgb_arrays.specs.declared.refusals.Wrong.{Wrong}
+use Rattle.sgb_arrays.specs.declared.refusals.Wrong.TheVariants as wrong
+
+-- this field of the vertices, of u v w x y z from 0, holds integers
+abbrev pub HoldsInts : GraphData → ℕ → Type 0
+HoldsInts g field = slice_get (vertex_kinds g.kinds) field ≡ Some I
+
+-- the integer that a field holds
+abbrev pub int_of : Util → ℤ
+int_of (Int i) = i
+int_of Nothing = pos 0
+int_of (VertexField r) = pos 0
+int_of (Str text) = pos 0
+int_of (Chain first) = pos 0
+
+-- the integer in this field of a vertex
+abbrev pub int_at : ℕ → Vertex → ℤ
+int_at field x = int_of (slice_index_or x.util field Nothing)
+
+-- the integers in this field of the vertices, in order
+unfoldable pub ints_of : GraphData → ℕ → List ℤ
+ints_of g field = map (int_at field) g.vertices
+
+-- why a field is not handed over into an array of so many places
+abbrev pub IsIntsRefusal : GraphData → ℕ → ℕ → Wrong → Type 0
+IsIntsRefusal g field size wrong.Field = HoldsInts g field → ⊥
+IsIntsRefusal g field size wrong.Length = HoldsInts g field × (size ≡ length g.vertices → ⊥)
+IsIntsRefusal g field size wrong.Bound = ⊥

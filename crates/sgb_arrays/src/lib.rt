@@ -1,0 +1,28 @@
+//! Graphs as arrays: the lists of arcs in compressed sparse rows, the names one after another, utility fields, files and
+//! random numbers, each put into slices that the caller hands in.
+#![tactic(auto)]
+
+// Random numbers in an array.
+mod draws;
+// Utility fields of vertices as arrays.
+mod fields;
+// The id in an array.
+mod ids;
+// What holds of all arrays.
+mod laws;
+// Why an array is not filled.
+mod refusals;
+// The lists of arcs, one after another.
+mod rows;
+// Names, one after another.
+mod names;
+// Values put from a place on.
+mod puts;
+
+pub use draws::{fill_draws, fill_uniform_draws};
+pub use fields::fill_ints;
+pub use ids::fill_id;
+pub use laws::parts_law;
+pub use names::{fill_names, names_len};
+pub use refusals::Wrong;
+pub use rows::{arcs_len, fill_rows};

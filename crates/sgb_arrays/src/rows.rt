@@ -1,0 +1,104 @@
+//! The lists of arcs of a graph, one after another: compressed sparse rows.
+ghost use Rattle.std.specs.Prelude.{◌≡◌, ◌≤◌, ◌<◌, ◌+◌, length, map, OnOk, IfErr};
+ghost use Rattle.std.specs.Bool.{OnTrue, OnFalse};
+ghost use Rattle.sgb_graph.specs.Graphs.{chain_of};
+ghost use Rattle.sgb_arrays.specs.Rows.{AreRows, HaveRowLengths, arcs_of};
+ghost use Rattle.sgb_arrays.specs.inner.Puts.{put_from};
+ghost use Rattle.sgb_arrays.specs.declared.refusals.Wrong.TheVariants as wrong;
+
+use crate::refusals::Wrong;
+use sgb_graph::Graph;
+
+/// How many arcs are on the lists of a graph's vertices. No memory is taken.
+pub fn arcs_len(graph: &Graph) -> u128
+    ensures { result ≡ length (arcs_of graph.now) }
+{
+    let mut count = 0;
+    for v in 0..graph.n() {
+        graph.read_ahead(v);
+        count += u128::from(degree(graph, v) as u64);
+    }
+    count
+}
+
+// How many arcs are on the list of vertex v.
+fn degree(graph: &Graph, v: u32) -> usize
+    requires { v < length graph.now.vertices }
+    ensures count { result ≡ length (chain_of graph.now v) }
+    ensures few { result ≤ length graph.now.records }
+{
+    let most = graph.records_len();
+    let mut count = 0;
+    for _link in graph.arcs(v) {
+        count += 1;
+    }
+    count.min(most)
+}
+
+/// Puts the lists of arcs of a graph into arrays, one list after another: where each list starts, and then where the last
+/// one ends; where each arc leads; its length. The list of vertex v is what stands from `starts[v]` up to `starts[v + 1]`.
+/// No memory is taken.
+///
+/// `Length` where there are not n + 1 starts, or not as many tips and lengths as arcs.
+pub fn fill_rows(
+    graph: &Graph,
+    starts: &mut [u64],
+    tips: &mut [u32],
+    lengths: &mut [i64],
+) -> Result<(), Wrong>
+    ensures filled { OnOk result (HaveRowLengths graph.now starts.old tips.old lengths.old
+        × AreRows graph.now starts.new tips.new lengths.new) }
+    ensures refused { IfErr result (λ why. (why ≡ wrong.Length)
+        × (HaveRowLengths graph.now starts.old tips.old lengths.old → ⊥)
+        × (starts.new ≡ starts.old) × (tips.new ≡ tips.old) × (lengths.new ≡ lengths.old)) }
+{
+    if !have_row_lengths(graph, starts, tips, lengths) {
+        return Err(Wrong::Length);
+    }
+    put_rows(graph, starts, tips, lengths);
+    Ok(())
+}
+
+// Whether these arrays have the lengths that the lists of the graph must have.
+fn have_row_lengths(graph: &Graph, starts: &[u64], tips: &[u32], lengths: &[i64]) -> bool
+    ensures fits { OnTrue result (HaveRowLengths graph.now starts.now tips.now lengths.now) }
+    ensures other { OnFalse result (HaveRowLengths graph.now starts.now tips.now lengths.now → ⊥) }
+{
+    let arcs = arcs_len(graph);
+    starts.len() as u64 == u64::from(graph.n()) + 1
+        && u128::from(tips.len() as u64) == arcs
+        && u128::from(lengths.len() as u64) == arcs
+}
+
+// Puts the lists of arcs into arrays of the right lengths.
+fn put_rows(graph: &Graph, starts: &mut [u64], tips: &mut [u32], lengths: &mut [i64])
+    requires { HaveRowLengths graph.now starts.old tips.old lengths.old }
+    ensures { AreRows graph.now starts.new tips.new lengths.new }
+{
+    let mut at = 0;
+    for v in 0..graph.n() {
+        graph.read_ahead(v);
+        starts[v as usize] = at as u64;
+        at = put_row(graph, v, at, tips, lengths);
+    }
+    starts[graph.n() as usize] = at as u64;
+}
+
+// Puts the list of vertex v into the arrays, from a place on: the place after it.
+fn put_row(graph: &Graph, v: u32, at: usize, tips: &mut [u32], lengths: &mut [i64]) -> usize
+    requires vertex { v < length graph.now.vertices }
+    requires tips { at + length (chain_of graph.now v) ≤ length tips.old }
+    requires lengths { at + length (chain_of graph.now v) ≤ length lengths.old }
+    ensures end { result ≡ at + length (chain_of graph.now v) }
+    ensures tips { tips.new ≡ put_from at (map (λ l. l.tip) (chain_of graph.now v)) tips.old }
+    ensures lengths { lengths.new
+        ≡ put_from at (map (λ l. l.len) (chain_of graph.now v)) lengths.old }
+{
+    let mut place = at;
+    for link in graph.arcs(v) {
+        tips[place] = link.tip;
+        lengths[place] = link.len;
+        place += 1;
+    }
+    place
+}

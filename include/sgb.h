@@ -1,0 +1,92 @@
+/* The proved library of the Stanford GraphBase, for C: graphs by their official names, as arrays.
+ *
+ * Link with libsgb.a or libsgb.so. The library calls malloc, realloc and free of the program, and nothing else; it keeps
+ * no memory after a call, has no state, and writes nothing. So calls may run at once in several threads.
+ *
+ * A graph is named by an expression, as `sgb` takes it: "board(8,8,0,0,-1,0,0)", "petersen()", "lines(stdin,0)". The
+ * expression `stdin` is the graph of the `.gb` file whose bytes are handed in as `input`; else these are not looked at. A
+ * text has no zero byte at its end that would count: its length is handed in.
+ *
+ * Arrays belong to the caller, who hands in each with its length. A call fills all of its arrays, or leaves all of them as
+ * they were: an array of another length than it must have is never written to (SGB_WRONG_LENGTH). sgb_sizes says which
+ * lengths these are.
+ *
+ * What a caller owes: each pointer leads to as many values as its length says, which are no other argument's, and is not
+ * NULL, also where the length is 0 (any address that fits the type does then).
+ *
+ * What is proved of each call stands in crates/sgb_c/src/lib.rt: that the arrays hold what the definitions say of the
+ * expression's graph, and when each answer comes.
+ */
+#ifndef SGB_H
+#define SGB_H
+
+#include <stddef.h>
+#include <stdint.h>
+
+#ifdef __cplusplus
+extern "C" {
+#endif
+
+/* Answers. */
+#define SGB_OK 0                  /* the arrays are filled */
+#define SGB_NO_ROOM 1             /* out of memory: nothing is held */
+#define SGB_EARLY_DATA_FAULT 10   /* the head of a `.gb` file is wrong */
+#define SGB_LATE_DATA_FAULT 11    /* its end is wrong */
+#define SGB_SYNTAX_ERROR 20       /* a record of it is wrong */
+#define SGB_BAD_SPECS 30          /* parameters that make no sense */
+#define SGB_VERY_BAD_SPECS 40     /* parameters that ask for too much */
+#define SGB_INVALID_OPERAND 60    /* a graph that the operation cannot take */
+#define SGB_TEXT_TOO_LARGE 100    /* a text of more than 65,536 bytes, or with over 64 parentheses in one another */
+#define SGB_WRONG_LENGTH 101      /* an array has another length than it must have */
+#define SGB_NO_INTEGERS 102       /* there is no such field, or it holds no integers */
+#define SGB_BAD_BOUND 103         /* a uniform draw has a bound from 1 to 2^31 */
+#define SGB_BAD_EXPRESSION 1000   /* this and more: the text is no expression; what is above 1000 is the length of the
+                                     longest prefix of it that begins one */
+
+/* How large a graph is. */
+typedef struct {
+    uint64_t vertices; /* its vertices, n */
+    uint64_t arcs;     /* the arcs that it counts, m; an edge counts as two */
+    uint64_t listed;   /* the arcs on the lists of its vertices: m, but for some graphs of files; 2^64 - 1 also where more */
+    uint64_t names;    /* the bytes of the names of its vertices, all together */
+    uint64_t id;       /* the bytes of its id, at most 160 */
+} sgb_graph_sizes;
+
+/* The sizes of a graph. */
+uint64_t sgb_sizes(const char *text, size_t text_len, const char *input, size_t input_len, sgb_graph_sizes *sizes);
+
+/* The lists of arcs of all vertices, one after another, each in its order. The list of vertex v is what stands in `tips` and
+ * `lengths` from starts[v] up to starts[v + 1]: where each arc leads, and its length.
+ * `starts` has n + 1 places, `tips` and `lengths` have `listed` ones. */
+uint64_t sgb_rows(const char *text, size_t text_len, const char *input, size_t input_len,
+                  uint64_t *starts, size_t starts_len, uint32_t *tips, size_t tips_len,
+                  int64_t *lengths, size_t lengths_len);
+
+/* The names of all vertices, one after another, with nothing between them. The name of vertex v is what stands in `bytes`
+ * from starts[v] up to starts[v + 1].
+ * `starts` has n + 1 places, `bytes` has `names` ones. */
+uint64_t sgb_names(const char *text, size_t text_len, const char *input, size_t input_len,
+                   uint64_t *starts, size_t starts_len, char *bytes, size_t bytes_len);
+
+/* The integers in a utility field of the vertices: u, v, w, x, y, z are the fields 0 to 5. In 3, 4, 5 the vertices of board,
+ * simplex and subsets have the first three coordinates.
+ * `values` has n places. */
+uint64_t sgb_ints(const char *text, size_t text_len, const char *input, size_t input_len, uint32_t field,
+                  int64_t *values, size_t values_len);
+
+/* The id: the graph's official name. No zero byte comes after it.
+ * `bytes` has `id` places. */
+uint64_t sgb_id(const char *text, size_t text_len, const char *input, size_t input_len, char *bytes, size_t bytes_len);
+
+/* Random numbers of GB_FLIP: a generator is started from `start`, its first `skip` draws are left out, and the next ones fill
+ * `out`. No memory is taken. */
+void sgb_draws(int64_t start, uint64_t skip, uint32_t *out, size_t out_len);
+
+/* The same with uniform draws below m, which is from 1 to 2^31; else the answer is SGB_BAD_BOUND. No memory is taken. */
+uint64_t sgb_uniform_draws(int64_t start, uint64_t skip, uint32_t m, uint32_t *out, size_t out_len);
+
+#ifdef __cplusplus
+}
+#endif
+
+#endif
