@@ -214,6 +214,11 @@ def exported(crate):
     listed = re.findall(r"pub use [\w:]+?(?:::)?(\{[^}]*\}|\w+);", text, re.S)
     names = {name for part in listed for name in re.findall(r"\w+", part)}
     modules = set(re.findall(r"pub mod (\w+);", text))
+    exports = re.findall(r"^pub (?:unsafe )?extern \S* ?fn (\w+)", text, re.M)
+    if exports:
+        # a static library: what it exports, and the structs that pass between it and C
+        structs = re.findall(r"^pub struct (\w+)", "\n".join(map(code_of, files_of(folder, ".rt"))), re.M)
+        return names | set(exports) | set(structs), modules
     for path in files_of(folder, ".rt"):
         if module_of(path, folder) in modules:
             names.update(name for name in re.findall(r"^pub (?:struct|enum|trait|type) (\w+)", code_of(path), re.M))
@@ -273,7 +278,7 @@ def public_texts(crate, laws):
                     brace = start + found.end() - 1
                     member = text[brace + 1:closing(text, brace)]
                     yield Public(crate, f"{head.strip()} {found.group(1)}", False, member, uses)
-        for found in re.finditer(r"^[ \t]*(pub(?:\([^)]*\))? )?(?:const )?fn (\w+)", text, re.M):
+        for found in re.finditer(r"^[ \t]*(pub(?:\([^)]*\))? )?(?:const )?(?:unsafe )?(?:extern \S* ?)?fn (\w+)", text, re.M):
             inside = [block for block in blocks if block[0] < found.start() < block[1]]
             says_public = (found.group(1) or "").strip() == "pub"
             if inside:

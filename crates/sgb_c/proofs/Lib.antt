@@ -1,3 +1,5 @@
 -- The lemmas of sgb_c, by subject.
--- answers of calls
-pub mod AnswerLemmas
+-- the graph that a text names
+pub mod Named
+-- the machine value of a handle
+pub mod LooseValues

@@ -13,7 +13,7 @@ use Rattle.sgb_arrays.specs.Names.{name_bytes}
 use Rattle.sgb_arrays.specs.Rows.{arcs_of}
 use Rattle.sgb_arrays.specs.declared.refusals.Wrong.{Wrong}
 use Rattle.sgb_arrays.specs.declared.refusals.Wrong.TheVariants as wrong
-use Rattle.sgb_c.specs.declared.sizes.Sizes.{Sizes}
+use Rattle.sgb_c.specs.declared.Sizes.{Sizes}
 
 -- the number of what an array is not filled for: another length than it must have (101), a field that is none of integers
 -- (102), a bound that is none (103)
@@ -50,14 +50,6 @@ IsGraphNamed text input (Err f) = IsRefusedText text f ⊎ ((p : Panic) × (f �
 -- something has both properties
 abbrev pub IsFound : (Wrong → Type 0) → (Wrong → Type 0) → Type 0
 IsFound P Q = (why : Wrong) × P why × Q why
-
--- a call on the graph that a text names answers this number: 0, and what has to be done with the graph is done; or the number
--- of why there is no graph, or of what does not fit it, and all is left as it was
-abbrev pub IsAnswer : List ℕ → List ℕ → (GraphData → Type 0) → (GraphData → ℕ → Type 0) → Type 0 → ℕ → Type 0
-IsAnswer text input done unfit left number =
-    ((number ≡ 0) × ((g : GraphData) × IsGraphNamed text input (Ok g) × done g))
-    ⊎ (((f : Fault) × (number ≡ number_of_fault f) × IsGraphNamed text input (Err f)) × left)
-    ⊎ (((g : GraphData) × IsGraphNamed text input (Ok g) × unfit g number) × left)
 
 -- the sizes of the arrays of a graph
 pub record AreSizes (g : GraphData) (sizes : Sizes) : Type 0 where

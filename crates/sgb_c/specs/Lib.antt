@@ -1,3 +1,7 @@
 -- What the contracts of sgb_c speak of.
 -- the answers of calls
 pub mod Answers
+-- what a handle owns
+pub mod Owns
+-- what a handle holds, and what a call on it answers
+pub mod Handles

@@ -1,120 +1,193 @@
 //! The library for C: graphs by the official names of the Stanford GraphBase, as arrays that the caller hands in. Its
-//! exports are the calls of `include/sgb.h`; each calls a function of the libraries below, and states its clauses again.
+//! exports are the calls of `include/sgb.h`; each calls a function of the libraries below, and states its clauses again. A
+//! graph is made once and held by a handle until it is closed.
 #![tactic(auto)]
-ghost use Rattle.std.specs.Prelude.{◌≡◌, ◌⊎◌, ◌≤◌, length};
+ghost use Rattle.std.specs.Prelude.{◌≡◌, ◌⊎◌, ◌≤◌, length, None};
 ghost use Rattle.sgb_graph.specs.Draws.{modulus, plain_draws, seed_of, uniform_draws};
 ghost use Rattle.sgb_arrays.specs.Fields.{HoldsInts, IsIntsRefusal, ints_of};
 ghost use Rattle.sgb_arrays.specs.Names.{AreNames, HaveNameLengths};
 ghost use Rattle.sgb_arrays.specs.Rows.{AreRows, HaveRowLengths};
-ghost use Rattle.sgb_c.specs.Answers.{AreSizes, IsAnswer, IsFound, number_of_wrong};
+ghost use Rattle.sgb_c.specs.Answers.{AreSizes, IsFound, number_of_wrong};
+ghost use Rattle.sgb_c.specs.Handles.{IsAnswerOn, IsOpened, graph_in};
 ghost use Rattle.sgb_arrays.specs.declared.refusals.Wrong.TheVariants as wrong;
 
 // The answers, as numbers.
 mod answers;
-// How large a graph is.
-mod sizes;
+// The handle of a graph.
+mod graphs;
+// A graph that C holds.
+mod handles;
 // The graph of a text.
 mod texts;
 
 use answers::{number_of, number_of_fault};
+use graphs::GraphHandle;
 use sgb_arrays::{arcs_len, fill_draws, fill_id, fill_ints, fill_names, fill_rows, fill_uniform_draws, names_len};
 use sgb_graph::Graph;
-pub use sizes::Sizes;
 use std::alloc::Global;
-use texts::graph_named;
+use texts::held_graph;
 
-/// The sizes of the graph that a text names.
+// The number of a call for which another graph is open, and of one for which none is.
+const ALREADY_OPEN: u64 = 104;
+const NOT_OPEN: u64 = 105;
+
+/// How large the arrays of a graph are.
+#[repr(C)]
+#[derive(Drop)]
+pub struct Sizes {
+    /// The number of vertices.
+    pub vertices: u64,
+    /// The number of arcs that the graph counts.
+    pub arcs: u64,
+    /// The number of arcs on the lists of its vertices, or 2^64 - 1 where there are more.
+    pub listed: u64,
+    /// The number of bytes of all names.
+    pub names: u64,
+    /// The number of bytes of its id.
+    pub id: u64,
+}
+
+/// Opens the graph that a text names, where `input` is what its `stdin` reads.
 #[unsafe(no_mangle)]
-pub extern "C" fn sgb_sizes(alloc: Global, text: &[u8], input: &[u8], sizes: &mut Sizes) -> u64
-    ensures { IsAnswer text.now input.now (λ g. AreSizes g sizes.new) (λ g number. ⊥)
-        (sizes.new ≡ sizes.old) result }
+pub extern "C" fn sgb_open(
+    alloc: Global,
+    text: &[u8],
+    input: &[u8],
+    graph: &mut GraphHandle,
+) -> u64
+    ensures { IsOpened text.now input.now (graph_in graph.old) (graph_in graph.new) result }
 {
-    match graph_named(alloc, text, input) {
-        Ok(graph) => {
-            *sizes = sizes_of(&graph);
+    if graph.is_open() {
+        return ALREADY_OPEN;
+    }
+    match held_graph(alloc, text, input) {
+        Ok(held) => {
+            graph.put(held);
             0
         }
         Err(fault) => number_of_fault(&fault),
     }
 }
 
-/// The lists of the graph that a text names, in compressed sparse rows.
+/// Closes the graph, if one is open, and gives its memory back.
+#[unsafe(no_mangle)]
+pub extern "C" fn sgb_close(alloc: Global, graph: &mut GraphHandle)
+    ensures { graph_in graph.new ≡ None }
+{
+    let _closed = graph.take(alloc);
+}
+
+/// The sizes of the graph that is open.
+#[unsafe(no_mangle)]
+pub extern "C" fn sgb_sizes(alloc: Global, graph: &mut GraphHandle, sizes: &mut Sizes) -> u64
+    ensures answer { IsAnswerOn (graph_in graph.old) (λ g. AreSizes g sizes.new) (λ g number. ⊥)
+        (sizes.new ≡ sizes.old) result }
+    ensures kept { graph_in graph.new ≡ graph_in graph.old }
+{
+    match graph.take(alloc) {
+        Some(held) => {
+            *sizes = sizes_of(&held.graph);
+            graph.put(held);
+            0
+        }
+        None => NOT_OPEN,
+    }
+}
+
+/// The lists of the graph that is open, in compressed sparse rows.
 #[unsafe(no_mangle)]
 pub extern "C" fn sgb_rows(
     alloc: Global,
-    text: &[u8],
-    input: &[u8],
+    graph: &mut GraphHandle,
     starts: &mut [u64],
     tips: &mut [u32],
     lengths: &mut [i64],
 ) -> u64
-    ensures { IsAnswer text.now input.now
+    ensures answer { IsAnswerOn (graph_in graph.old)
         (λ g. HaveRowLengths g starts.old tips.old lengths.old
         × AreRows g starts.new tips.new lengths.new)
         (λ g number. (number ≡ number_of_wrong wrong.Length)
         × (HaveRowLengths g starts.old tips.old lengths.old → ⊥))
         ((starts.new ≡ starts.old) × (tips.new ≡ tips.old) × (lengths.new ≡ lengths.old)) result }
+    ensures kept { graph_in graph.new ≡ graph_in graph.old }
 {
-    match graph_named(alloc, text, input) {
-        Ok(graph) => number_of(fill_rows(&graph, starts, tips, lengths)),
-        Err(fault) => number_of_fault(&fault),
+    match graph.take(alloc) {
+        Some(held) => {
+            let number = number_of(fill_rows(&held.graph, starts, tips, lengths));
+            graph.put(held);
+            number
+        }
+        None => NOT_OPEN,
     }
 }
 
-/// The names of the vertices of the graph that a text names.
+/// The names of the vertices of the graph that is open.
 #[unsafe(no_mangle)]
 pub extern "C" fn sgb_names(
     alloc: Global,
-    text: &[u8],
-    input: &[u8],
+    graph: &mut GraphHandle,
     starts: &mut [u64],
     bytes: &mut [u8],
 ) -> u64
-    ensures { IsAnswer text.now input.now
+    ensures answer { IsAnswerOn (graph_in graph.old)
         (λ g. HaveNameLengths g starts.old bytes.old × AreNames g starts.new bytes.new)
         (λ g number. (number ≡ number_of_wrong wrong.Length)
         × (HaveNameLengths g starts.old bytes.old → ⊥))
         ((starts.new ≡ starts.old) × (bytes.new ≡ bytes.old)) result }
+    ensures kept { graph_in graph.new ≡ graph_in graph.old }
 {
-    match graph_named(alloc, text, input) {
-        Ok(graph) => number_of(fill_names(&graph, starts, bytes)),
-        Err(fault) => number_of_fault(&fault),
+    match graph.take(alloc) {
+        Some(held) => {
+            let number = number_of(fill_names(&held.graph, starts, bytes));
+            graph.put(held);
+            number
+        }
+        None => NOT_OPEN,
     }
 }
 
-/// The integers in a utility field of the vertices of the graph that a text names: of u v w x y z, from 0.
+/// The integers in a utility field of the vertices of the graph that is open: of u v w x y z, from 0.
 #[unsafe(no_mangle)]
 pub extern "C" fn sgb_ints(
     alloc: Global,
-    text: &[u8],
-    input: &[u8],
+    graph: &mut GraphHandle,
     field: u32,
     values: &mut [i64],
 ) -> u64
-    ensures { IsAnswer text.now input.now
+    ensures answer { IsAnswerOn (graph_in graph.old)
         (λ g. HoldsInts g field × (length values.old ≡ length g.vertices)
         × (values.new ≡ ints_of g field))
         (λ g number. IsFound (λ why. number ≡ number_of_wrong why)
         (IsIntsRefusal g field (length values.old)))
         (values.new ≡ values.old) result }
+    ensures kept { graph_in graph.new ≡ graph_in graph.old }
 {
-    match graph_named(alloc, text, input) {
-        Ok(graph) => number_of(fill_ints(&graph, field, values)),
-        Err(fault) => number_of_fault(&fault),
+    match graph.take(alloc) {
+        Some(held) => {
+            let number = number_of(fill_ints(&held.graph, field, values));
+            graph.put(held);
+            number
+        }
+        None => NOT_OPEN,
     }
 }
 
-/// The id of the graph that a text names.
+/// The id of the graph that is open.
 #[unsafe(no_mangle)]
-pub extern "C" fn sgb_id(alloc: Global, text: &[u8], input: &[u8], bytes: &mut [u8]) -> u64
-    ensures { IsAnswer text.now input.now
+pub extern "C" fn sgb_id(alloc: Global, graph: &mut GraphHandle, bytes: &mut [u8]) -> u64
+    ensures answer { IsAnswerOn (graph_in graph.old)
         (λ g. (length bytes.old ≡ length g.id) × (bytes.new ≡ g.id))
         (λ g number. (number ≡ number_of_wrong wrong.Length) × (length bytes.old ≡ length g.id → ⊥))
         (bytes.new ≡ bytes.old) result }
+    ensures kept { graph_in graph.new ≡ graph_in graph.old }
 {
-    match graph_named(alloc, text, input) {
-        Ok(graph) => number_of(fill_id(&graph, bytes)),
-        Err(fault) => number_of_fault(&fault),
+    match graph.take(alloc) {
+        Some(held) => {
+            let number = number_of(fill_id(&held.graph, bytes));
+            graph.put(held);
+            number
+        }
+        None => NOT_OPEN,
     }
 }
 

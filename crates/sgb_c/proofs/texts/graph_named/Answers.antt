@@ -1,4 +1,4 @@
-use Rattle.sgb_c.proofs.AnswerLemmas.{text_refused, value_named, value_refused}
+use Rattle.sgb_c.proofs.Named.{text_refused, value_named, value_refused}
 use Rattle.sgb_c.proofs.texts.graph_named.Goals as goal
 
 pub returns-in_err-expression : goal.returns-in_err-expression

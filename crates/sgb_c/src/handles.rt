@@ -1,0 +1,56 @@
+//! A graph that C holds: the pointer to it, and what it owns.
+ghost use Rattle.std.specs.Prelude.{◌≡◌, Option, Some, None, is_some, true};
+ghost use Rattle.sgb_c.specs.declared.handles.Held.{Held};
+
+use sgb_graph::Graph;
+use std::alloc::Global;
+use std::marker::Model;
+
+/// A graph in a block of its own.
+#[derive(Drop)]
+pub struct Held {
+    /// The graph.
+    pub graph: Graph,
+}
+
+/// The pointer to a graph that is held, or to none. Only the ghost field says which: code that needs to know keeps a flag
+/// beside it.
+#[repr(C)]
+#[derive(Drop)]
+pub struct Loose {
+    at: *mut (),
+    pub ghost value: { Option Held },
+}
+
+impl Model for Loose {
+    ghost use Rattle.sgb_c.specs.contracts.handles.Held.{the_row};
+    ghost use Rattle.sgb_c.specs.Owns.{owns_if};
+    ghost also_owns = { λ h. owns_if the_row h.at h.value };
+}
+
+impl Loose {
+    /// Holds nothing.
+    pub(crate) fn none() -> Loose
+        ensures { result.value ≡ None }
+    {
+        Loose {
+            at: std::ptr::null_mut(),
+        }
+    }
+
+    /// Holds what is in the box.
+    pub(crate) fn of(boxed: Box<Held>) -> Loose
+        ensures { result.value ≡ Some boxed.value }
+    {
+        let at = Box::into_raw(boxed);
+        Loose { at: at as *mut () }
+    }
+
+    /// The box again. There is one only where something is held.
+    pub(crate) fn into_box(self, alloc: Global) -> Box<Held>
+        requires { is_some self.value ≡ true }
+        ensures { Some result.value ≡ self.value }
+    {
+        unsafe { Box::from_raw(alloc, self.at as *mut Held) }
+    }
+}
