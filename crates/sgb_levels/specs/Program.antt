@@ -18,6 +18,10 @@ abbrev pub AskFor : List (List ℕ) → Result Expr Fault → Type 0
 AskFor (name ∷ text ∷ []) read = IsReadAs text read
 AskFor words read = read ≡ Err fault.Usage
 
+-- the words ask for no expression that reads standard input
+abbrev pub AskForNoInput : List (List ℕ) → Type 0
+AskForNoInput words = (e : Expr) → AskFor words (Ok e) → has_stdin (expression_of e) ≡ false
+
 -- the usage line
 unfoldable pub usage_line : List ℕ
 usage_line = codes "usage: sgb_levels EXPR\n"

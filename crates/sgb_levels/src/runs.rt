@@ -1,5 +1,5 @@
 //! The program: the graph of an expression, and the lines of its vertices.
-ghost use Rattle.std.specs.Prelude.{◌≡◌, ◌<◌, ◌&&◌, List, ℕ, None, Result, [], true, false, length, map, is_err, Err, IfOk, IfErr, OnOk, MatchResult};
+ghost use Rattle.std.specs.Prelude.{◌≡◌, ◌<◌, ◌+◌, ◌&&◌, List, ℕ, None, Result, [], true, false, length, map, is_err, Err, IfOk, IfErr, OnOk, MatchResult};
 ghost use Rattle.std.specs.List.{slice_index_or};
 ghost use Rattle.std.specs.Io.KnownBytes.{Keeps};
 ghost use Rattle.std.specs.IoError.{error_kind};
@@ -10,13 +10,13 @@ ghost use Rattle.sgb_expr.specs.Expression.{expression_of};
 ghost use Rattle.sgb_expr.specs.StdinUses.{has_stdin};
 ghost use Rattle.sgb_requests.specs.Faults.{status_of};
 ghost use Rattle.sgb_requests.specs.declared.faults.Fault.{Fault};
-ghost use Rattle.sgb.specs.Inputs.{IsKept, IsReadFrom};
+ghost use Rattle.sgb.specs.Inputs.{IsKept, IsReadFrom, LosesAtMost};
 ghost use Rattle.sgb.specs.Program.{unread_fault};
-ghost use Rattle.sgb.specs.Values.{value_of};
+ghost use Rattle.sgb.specs.Values.{most_input, value_of};
 ghost use Rattle.sgb.specs.Writing.{IsWritten};
 ghost use Rattle.sgb.specs.inner.Writing.{IsEnded, IsEndedFrom};
 ghost use Rattle.sgb_levels.specs.Lines.{IsLevelsAnswer, distance_text, level_line, level_lines, line_of_level};
-ghost use Rattle.sgb_levels.specs.Program.{AreLevelsWritten, AskFor, IsLevelsRun, IsRefused, refusal_line, usage_line};
+ghost use Rattle.sgb_levels.specs.Program.{AreLevelsWritten, AskFor, AskForNoInput, IsLevelsRun, IsRefused, refusal_line, usage_line};
 
 use crate::levels::levels;
 use itoa::Buffer;
@@ -32,8 +32,8 @@ use std::io::{self, ErrorKind};
 /// line has the name of a vertex, and its distance from the first one, or `-` where no arcs lead there.
 ///
 /// Words that could not be read are an invalid command line (2), or out of memory (1). `source` is standard input. It is
-/// read only if the expression has `stdin`, whole and before all else. What is refused leaves `out` as it was, with no flush;
-/// an answer that is given in full ends with one.
+/// read only if the expression has `stdin`, before all else, and whole, but of more than 2^30 bytes only so many and one
+/// more. What is refused leaves `out` as it was, with no flush; an answer that is given in full ends with one.
 pub fn run_levels<R: Source, W: Sink, E: Sink>(
     alloc: Global,
     words: io::Result<Vec<String>>,
@@ -54,6 +54,11 @@ pub fn run_levels<R: Source, W: Sink, E: Sink>(
         (change E.written E.has_failed errors.old errors.new)
         result) }
     ensures flushed { result ≡ 0 → W.held out.new ≡ [] }
+    ensures unread { MatchResult words
+        (λ words. AskForNoInput (map string_bytes words.items) → source.new ≡ source.old)
+        (λ error. source.new ≡ source.old) }
+    ensures bounded { LosesAtMost (most_input + 1) (R.remaining source.old)
+        (R.remaining source.new) }
 {
     match asked(alloc, words) {
         Ok(expression) => run(alloc, &expression, source, out, errors),
@@ -77,6 +82,9 @@ fn run<R: Source, W: Sink, E: Sink>(
         (change E.written E.has_failed errors.old errors.new)
         result }
     ensures flushed { result ≡ 0 → W.held out.new ≡ [] }
+    ensures unread { has_stdin (expression_of expression.now) ≡ false → source.new ≡ source.old }
+    ensures bounded { LosesAtMost (most_input + 1) (R.remaining source.old)
+        (R.remaining source.new) }
 {
     match answer(alloc, expression, source, out) {
         Ok(()) => 0,
@@ -123,6 +131,9 @@ fn answer<R: Source, W: Sink>(
         → IsEndedFrom (has_stdin (expression_of expression.now) && R.has_failed source.new) a
         (out.new ≡ out.old) (change W.written W.has_failed out.old out.new) result) }
     ensures flushed { OnOk result (W.held out.new ≡ []) }
+    ensures unread { has_stdin (expression_of expression.now) ≡ false → source.new ≡ source.old }
+    ensures bounded { LosesAtMost (most_input + 1) (R.remaining source.old)
+        (R.remaining source.new) }
 {
     let input = input_for(alloc, expression, source)?;
     write_answer(alloc, expression, input.as_slice(), out)?;
@@ -181,6 +192,9 @@ fn input_for<R: Source>(alloc: Global, expression: &Expr, source: &mut R) -> Res
         → IsKept (R.remaining source.old) bytes.items) }
     ensures ended { IsReadFrom
         (has_stdin (expression_of expression.now) && R.has_failed source.new) result }
+    ensures unread { has_stdin (expression_of expression.now) ≡ false → source.new ≡ source.old }
+    ensures bounded { LosesAtMost (most_input + 1) (R.remaining source.old)
+        (R.remaining source.new) }
 {
     if !expression.has_stdin() {
         return Ok(Vec::new(alloc));
