@@ -173,7 +173,7 @@ given_ok (Err g) same x w v e wf ef p = absurd p
 given_err : (T : Type 0) (a : Result (List ℕ) Fault) (same : Type 0) (f : Fault) (w v e d : Option (List ℕ)) (wf ef : Bool)
     → IsEnded {T = T} a same (change_of w v wf) (Err f) → f ≢ fault.Panic NoRoom → wf ≡ false → AppendsUnlessFailed (change_of e d ef) (line_of f)
     → IsGiven (outcome_of a) (change_of w v wf) (change_of e d ef) (status_of f)
-given_err T (Ok text) same f w v e d wf ef p other sound line = elim p.cause [ | inl h ↦ absurd (both_ways wf sound h.0) | inr h ↦ absurd (other h.1) ]
+given_err T (Ok text) same f w v e d wf ef p other sound line = elim p.cause [ inl h ↦ absurd (both_ways wf sound h.0) | inr h ↦ absurd (other h.1) ]
 given_err T (Err g) same f w v e d wf ef p other sound line = elim p.0 [
   | inl alike ↦ record {
     output = p.1.output;

@@ -11,7 +11,6 @@ use Rattle.sgb_requests.specs.declared.faults.Fault.TheVariants as fault
 use Rattle.sgb.specs.Values.{IsValue, value_of}
 use Rattle.sgb_c.specs.Answers.{IsGraphNamed}
 
-
 -- the text is refused
 pub text_refused : (text input : List ℕ) (r : Result GraphData Fault) (f : Fault) → IsErrAnd r (λ h. h ≡ f) → IsReadAs text (Err f) → IsGraphNamed text input r
 text_refused text input (Ok g) f is refused = absurd is

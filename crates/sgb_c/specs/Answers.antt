@@ -22,11 +22,6 @@ number_of_wrong wrong.Length = 101
 number_of_wrong wrong.Field = 102
 number_of_wrong wrong.Bound = 103
 
--- the number of an answer: 0 where the arrays are filled
-abbrev pub number_of_result : {T : Type 0} → Result T Wrong → ℕ
-number_of_result (Ok x) = 0
-number_of_result (Err w) = number_of_wrong w
-
 -- the number of why a text has no graph: a panic code; a text that is too large (100); a bad expression, 1000 and the length
 -- of the longest prefix that begins one (109 is for what no text is refused with)
 abbrev pub number_of_fault : Fault → ℕ

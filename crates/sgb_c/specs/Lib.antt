@@ -5,3 +5,5 @@ pub mod Answers
 pub mod Owns
 -- what a handle holds, and what a call on it answers
 pub mod Handles
+-- what no public contract needs
+pub mod inner

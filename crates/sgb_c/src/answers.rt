@@ -1,6 +1,7 @@
 //! The answers of calls, as numbers.
 ghost use Rattle.std.specs.Prelude.{◌≡◌, ◌⊎◌, Ok, Err};
-ghost use Rattle.sgb_c.specs.Answers.{number_of_fault, number_of_result, number_of_wrong};
+ghost use Rattle.sgb_c.specs.Answers.{number_of_fault, number_of_wrong};
+ghost use Rattle.sgb_c.specs.inner.Numbers.{number_of_result};
 
 use sgb_arrays::Wrong;
 use sgb_requests::Fault;

@@ -25,6 +25,7 @@ pub struct Loose {
 impl Model for Loose {
     ghost use Rattle.sgb_c.specs.contracts.handles.Held.{the_row};
     ghost use Rattle.sgb_c.specs.Owns.{owns_if};
+
     ghost also_owns = { λ h. owns_if the_row h.at h.value };
 }
 

@@ -2,6 +2,7 @@
 //! exports are the calls of `include/sgb.h`; each calls a function of the libraries below, and states its clauses again. A
 //! graph is made once and held by a handle until it is closed.
 #![tactic(auto)]
+
 ghost use Rattle.std.specs.Prelude.{◌≡◌, ◌⊎◌, ◌≤◌, length, None};
 ghost use Rattle.sgb_graph.specs.Draws.{modulus, plain_draws, seed_of, uniform_draws};
 ghost use Rattle.sgb_arrays.specs.Fields.{HoldsInts, IsIntsRefusal, ints_of};
@@ -22,13 +23,16 @@ mod texts;
 
 use answers::{number_of, number_of_fault};
 use graphs::GraphHandle;
-use sgb_arrays::{arcs_len, fill_draws, fill_id, fill_ints, fill_names, fill_rows, fill_uniform_draws, names_len};
+use sgb_arrays::{
+    arcs_len, fill_draws, fill_id, fill_ints, fill_names, fill_rows, fill_uniform_draws, names_len,
+};
 use sgb_graph::Graph;
 use std::alloc::Global;
 use texts::held_graph;
 
 // The number of a call for which another graph is open, and of one for which none is.
 const ALREADY_OPEN: u64 = 104;
+
 const NOT_OPEN: u64 = 105;
 
 /// How large the arrays of a graph are.
@@ -49,12 +53,7 @@ pub struct Sizes {
 
 /// Opens the graph that a text names, where `input` is what its `stdin` reads.
 #[unsafe(no_mangle)]
-pub extern "C" fn sgb_open(
-    alloc: Global,
-    text: &[u8],
-    input: &[u8],
-    graph: &mut GraphHandle,
-) -> u64
+pub extern "C" fn sgb_open(alloc: Global, text: &[u8], input: &[u8], graph: &mut GraphHandle) -> u64
     ensures { IsOpened text.now input.now (graph_in graph.old) (graph_in graph.new) result }
 {
     if graph.is_open() {

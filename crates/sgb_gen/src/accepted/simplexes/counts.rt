@@ -1,5 +1,5 @@
 //! The number of arcs of a simplex's graph, with no list made.
-ghost use Rattle.std.specs.Prelude.{◌≡◌, ◌≤◌, ◌<◌, ◌*◌, ◌+◌, length, slice_index, Contains, IfOk, IfSome, IsOkUnless};
+ghost use Rattle.std.specs.Prelude.{◌≡◌, ◌≤◌, ◌<◌, ◌*◌, ◌+◌, length, slice_index, Contains, IfOk, IfErr, IfSome, IsOkUnless};
 ghost use Rattle.sgb_graph.specs.Made.{graph_described};
 ghost use Rattle.sgb_vec.specs.Limits.{most_dimensions, most_vertices};
 ghost use Rattle.sgb_vec.specs.Sums.{BoundedSum};
@@ -17,11 +17,14 @@ impl Simplex {
     /// pairs of places, with no arc made and no vector walked: where a unit can go from one place to another, the
     /// vectors are as many as those of a sum and of bounds that are one less.
     ///
-    /// `NoRoom` when out of memory, and nothing else. The memory is from where that of the links comes; for each pair of
+    /// `NoRoom` when out of memory, and nothing else: never because the number is too great, and never for a sum of 0 or
+    /// vectors of one entry, for which none is taken. The memory is from where that of the links comes; for each pair of
     /// bounds, of which there are at most sixteen, it is that of `sgb_vec::SumFamily::new`, as is the time.
     pub fn arcs_count(&self, links: &Links) -> Result<u128, Panic>
         ensures count { IfOk result (λ m. m ≡ (graph_described (simplex_graph self.now)).m) }
         ensures memory { IsOkUnless result Panic.NoRoom }
+        ensures some { IfErr result (λ p. 0 < self.now.sum.total) }
+        ensures pair { IfErr result (λ p. 1 < length self.now.sum.bounds) }
     {
         let moves = self.moves_count(links.alloc())?;
         if self.directed {
@@ -34,6 +37,8 @@ impl Simplex {
     fn moves_count(&self, alloc: Global) -> Result<u64, Panic>
         ensures ok { IfOk result (λ n. n ≡ length (moves_of_simplex self.now)) }
         ensures memory { IsOkUnless result Panic.NoRoom }
+        ensures some { IfErr result (λ p. 0 < self.now.sum.total) }
+        ensures pair { IfErr result (λ p. 1 < length self.now.sum.bounds) }
     {
         let mut known = KnownCounts::new();
         let mut counted: u64 = 0;
@@ -57,6 +62,8 @@ impl Simplex {
         ensures small { IfOk result (λ n. n ≤ (most_dimensions + 1) * most_vertices) }
         ensures known { AreKnown self.now.sum known.new.items }
         ensures memory { IsOkUnless result Panic.NoRoom }
+        ensures some { IfErr result (λ p. 0 < self.now.sum.total) }
+        ensures pair { IfErr result (λ p. 1 < length self.now.sum.bounds) }
     {
         let bounds = self.shape.sizes();
         let mut counted: u64 = 0;
@@ -83,6 +90,8 @@ impl Simplex {
         ensures small { IfOk result (λ n. n ≤ most_vertices) }
         ensures known { AreKnown self.now.sum known.new.items }
         ensures memory { IsOkUnless result Panic.NoRoom }
+        ensures some { IfErr result (λ p. 0 < self.now.sum.total) }
+        ensures pair { IfErr result (λ p. 1 < length self.now.sum.bounds) }
     {
         let bounds = self.shape.sizes();
         let (low, high) = (bounds[lower], bounds[higher]);
@@ -103,6 +112,8 @@ impl Simplex {
             ≡ shifts_count self.now.sum (record { lower = lower; higher = higher })) }
         ensures small { IfOk result (λ n. n ≤ most_vertices) }
         ensures memory { IsOkUnless result Panic.NoRoom }
+        ensures some { IfErr result (λ p. 0 < self.now.sum.total) }
+        ensures pair { IfErr result (λ p. 1 < length self.now.sum.bounds) }
     {
         let bounds = self.shape.sizes();
         let total = self.family.total();

@@ -1,0 +1,3 @@
+-- What only the private contracts and the proofs of sgb_c speak of.
+-- the numbers of what calls answer
+pub mod Numbers
