@@ -31,7 +31,8 @@ STORED = [
 READ = [(expression, directed) for _, expression, directed in STORED] + [
     ("empty(3)", False), ("simplex(5,2,2,0,0,0,0)", False), ("complete(62)", False), ("circuit(63)", False),
     ("circuit(64)", False), ("board(3,4,0,0,-1,3,0)", False), ("board(3,4,0,0,-1,0,0)", False),
-    ("board(1,0,0,0,1,1,0)", False), ("board(1,0,0,0,1,1,0)", True), ("complement(empty(3),0,1,0)", False), ("complement(empty(3),0,1,1)", True), ("transitive(6)", True),
+    ("board(1,0,0,0,1,1,0)", False), ("board(1,0,0,0,1,1,0)", True),
+    ("complement(empty(3),0,1,0)", False), ("complement(empty(3),0,1,1)", True), ("transitive(6)", True),
     ("stdin", False), ("gunion(stdin,stdin,1,1)", True), ("complement(stdin,1,1,1)", True),
     ("induced(stdin,[1,1,0],0,0,0)", False),
     ("gunion(complete(5),circuit(5),1,0)", False), ("product(complete(3),circuit(4),0,0)", False),
