@@ -183,7 +183,8 @@ function check_form(    i, k, loops, met) {
             if (tips[k] == order[i] && to != "mtx")
                 return fail("to=" to " has no loops, and there is one at " names[order[i]])
             if (tips[k] == order[i] ? ++loops > 2 - directed : met[tips[k]] == i)
-                return fail("to=" to " has no parallel edges, and there are some from " names[order[i]] " to " names[tips[k]])
+                return fail("to=" to " has no parallel edges, and there are some from " names[order[i]] \
+                    " to " names[tips[k]])
             met[tips[k]] = i
         }
     }

@@ -9,6 +9,7 @@ Each form of more graphs is read again, here and, unless `stored` asks for no mo
 import collections
 import os
 import re
+import shlex
 import shutil
 import subprocess
 import sys
@@ -29,25 +30,35 @@ STORED = [
 ]
 READ = [(expression, directed) for _, expression, directed in STORED] + [
     ("empty(3)", False), ("simplex(5,2,2,0,0,0,0)", False), ("complete(62)", False), ("circuit(63)", False),
-    ("circuit(64)", False), ("board(3,4,0,0,-1,3,0)", False), ("board(3,4,0,0,-1,0,0)", False), ("board(1,0,0,0,1,1,0)", False),
+    ("circuit(64)", False), ("board(3,4,0,0,-1,3,0)", False), ("board(3,4,0,0,-1,0,0)", False),
+    ("board(1,0,0,0,1,1,0)", False), ("board(1,0,0,0,1,1,0)", True),
     ("complement(empty(3),0,1,0)", False), ("complement(empty(3),0,1,1)", True), ("transitive(6)", True),
+    ("stdin", False), ("gunion(stdin,stdin,1,1)", True), ("complement(stdin,1,1,1)", True),
+    ("induced(stdin,[1,1,0],0,0,0)", False),
     ("gunion(complete(5),circuit(5),1,0)", False), ("product(complete(3),circuit(4),0,0)", False),
     ("board(4,4,0,0,-1,0,1)", True), ("lines(complete(4),0)", False),
 ]
+
+# a file for `stdin`: names that XML has to escape, a length below 1, a vertex with two loops, another without arcs
+FILE = (
+    b"* GraphBase graph (util_types ZZZZZZZZZZZZZZ,3V,6A)\n"
+    b'"x & y < z",3,6\n* Vertices\n"a & <b>",A0\n"c;d",A1\n"loops",A5\n* Arcs\n'
+    b"V1,0,-3\nV0,0,-3\nV2,0,1\nV2,A2,4\nV2,A3,4\nV2,A4,1\n* Checksum -1\n"
+)
 
 # What a form says: how many vertices, their names in order or None, and the edges or arcs by places from 0.
 Form = collections.namedtuple("Form", "n names edges")
 
 
 def graph_of(program, expression, directed):
-    names = [name for name, _ in sgb_graph.read(expression, program=program)]
+    names = [name for name, _ in sgb_graph.read(expression, FILE, program)]
     place = {name: at for at, name in enumerate(names)}
-    edges = sgb_graph.to_edges(sgb_graph.read(expression, program=program), directed)
+    edges = sgb_graph.to_edges(sgb_graph.read(expression, FILE, program), directed)
     return Form(len(names), names, sorted((place[u], place[v], length) for u, v, length in edges))
 
 
 def converted(program, expression, directed, form, awk=("awk",)):
-    listing = subprocess.run([program, "list", expression], capture_output=True, check=True).stdout
+    listing = subprocess.run([program, "list", expression], input=FILE, capture_output=True, check=True).stdout
     words = [*awk, "-v", f"to={form}", "-v", f"directed={int(directed)}", "-f", os.path.join(HERE, "convert.awk")]
     return subprocess.run(words, input=listing, capture_output=True)
 
@@ -155,6 +166,7 @@ def read_graph6(text, graph, directed):
     start, bytes_ = (2, 6) if values[:2] == [63, 63] else (1, 3) if values[0] == 63 else (0, 1)
     n = int("".join(f"{value:06b}" for value in values[start:start + bytes_]), 2)
     bits = "".join(f"{value:06b}" for value in values[start + bytes_:])
+    assert n == graph.n, (n, graph.n)
     pairs = [(u, v) for v in range(n) for u in range(v)]
     assert 0 <= len(bits) - len(pairs) < 6 and "1" not in bits[len(pairs):], text
     return Form(n, None, [(u, v, 1) for (u, v), bit in zip(pairs, bits) if bit == "1"])
@@ -175,7 +187,8 @@ def networkx_readers(networkx):
     def of(found, graph, directed, names=None):
         assert found.is_directed() == directed
         place = {name: at for at, name in enumerate(names if names is not None else found.nodes)}
-        return Form(len(place), names, [(place[u], place[v], data.get("weight", 1)) for u, v, data in found.edges(data=True)])
+        edges = [(place[u], place[v], data.get("weight", 1)) for u, v, data in found.edges(data=True)]
+        return Form(len(place), names, edges)
 
     def edges(path, graph, directed):
         kind = networkx.MultiDiGraph if directed else networkx.MultiGraph
@@ -232,14 +245,14 @@ def run(*words):
 def dot(path, graph, directed):
     if len(graph.edges) > 50:
         return None  # it would lay them out, which takes long
-    lines = run("dot", "-Tplain", path).splitlines()
+    lines = [shlex.split(line) for line in run("dot", "-Tplain", path).splitlines()]
     # it tells the vertices in the order in which it lays them out
     names = graph.names
-    assert sorted(line.split()[1].strip('"') for line in lines if line.startswith("node ")) == sorted(names), lines
+    assert sorted(line[1] for line in lines if line[0] == "node") == sorted(names), lines
     edges = []
-    for words in [line.split() for line in lines if line.startswith("edge ")]:
+    for words in [line for line in lines if line[0] == "edge"]:
         label = words[4 + 2 * int(words[3]):]
-        edges.append((*(names.index(end.strip('"')) for end in words[1:3]), int(label[0]) if len(label) > 2 else 1))
+        edges.append((*map(names.index, words[1:3]), int(label[0]) if len(label) > 2 else 1))
     return Form(len(names), names, edges)
 
 
@@ -262,7 +275,9 @@ def installed():
     """For each reader that is there its name and the form; and the names of those that are not."""
     found, missing = [], []
     for name, module, readers in [
-        ("networkx", "networkx", networkx_readers), ("igraph", "igraph", igraph_readers), ("scipy", "scipy.io", scipy_readers)
+        ("networkx", "networkx", networkx_readers),
+        ("igraph", "igraph", igraph_readers),
+        ("scipy", "scipy.io", scipy_readers),
     ]:
         try:
             there = __import__(module, fromlist=["x"])
@@ -302,7 +317,7 @@ def main():
         graph = graph_of(program, expression, directed)
         for form in FORMS:
             path = os.path.join(HERE, "converted", f"{name}.{form}")
-            check(os.path.exists(path) == fits(graph, form, directed), path, "is there, or is not, and should not, or should")
+            check(os.path.exists(path) == fits(graph, form, directed), path, "is there and should not, or the other way")
             for awk in awks() if os.path.exists(path) else []:
                 got = converted(program, expression, directed, form, awk)
                 with open(path, "rb") as file:

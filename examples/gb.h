@@ -98,7 +98,7 @@ static inline int gb_sum_is_right(gb_reader *r, const char *line) {
     }
     return wanted < 0 || wanted == sum;
 }
-/* Whether each record's chain ends and each list leads to vertices: walks[k] is the walk that met record k, -1 of a list. */
+/* Whether each record's chain ends and each list leads to vertices; walks[k]: the walk that met record k, -1 of a list */
 static inline int gb_lists_are_right(gb_reader *r, long *walks) {
     Arc *a, *arcs = r->arcs;
     for (long k = 0; k < r->m; k++) {
