@@ -92,3 +92,5 @@ FORCE:
 
 .PHONY: all toolchain try demo examples outside conformance graphbase gallery calls check edits install uninstall \
   clean FORCE
+
+include lib.mk
