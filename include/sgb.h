@@ -1,7 +1,13 @@
-/* The proved library of the Stanford GraphBase, for C: graphs by their official names, as arrays.
+/* The proved library of the Stanford GraphBase, for C: graphs by their official names, as arrays that the caller hands in.
  *
- * Link with libsgb.a or libsgb.so. The library calls malloc, realloc and free of the program, and nothing else; it keeps
- * no memory after a call, has no state, and writes nothing. So calls may run at once in several threads.
+ *     sgb_graph graph = SGB_NO_GRAPH;
+ *     sgb_graph_sizes sizes;
+ *     if (sgb_open("petersen()", 10, "", 0, &graph) == SGB_OK && sgb_sizes(&graph, &sizes) == SGB_OK) { .. }
+ *     sgb_close(&graph);
+ *
+ * Link with libsgb.a or libsgb.so. The library calls malloc, realloc and free of the program, and nothing else; it has no
+ * state of its own, and writes nothing. What it holds is in the handles that are open: sgb_close gives it back, and a call
+ * that answers out of memory holds nothing more than before.
  *
  * A graph is named by an expression, as `sgb` takes it: "board(8,8,0,0,-1,0,0)", "petersen()", "lines(stdin,0)". The
  * expression `stdin` is the graph of the `.gb` file whose bytes are handed in as `input`; else these are not looked at. A
@@ -12,7 +18,9 @@
  * lengths these are.
  *
  * What a caller owes: each pointer leads to as many values as its length says, which are no other argument's, and is not
- * NULL, also where the length is 0 (any address that fits the type does then).
+ * NULL, also where the length is 0 (any address that fits the type does then). A handle begins as SGB_NO_GRAPH, is changed
+ * by these calls alone, and is not copied while it is open. It is used by one call at a time, and by the thread that opened
+ * it; several handles may be open at once.
  *
  * What is proved of each call stands in crates/sgb_c/src/lib.rt: that the arrays hold what the definitions say of the
  * expression's graph, and when each answer comes.
@@ -20,6 +28,7 @@
 #ifndef SGB_H
 #define SGB_H
 
+#include <stdbool.h>
 #include <stddef.h>
 #include <stdint.h>
 
@@ -40,6 +49,8 @@ extern "C" {
 #define SGB_WRONG_LENGTH 101      /* an array has another length than it must have */
 #define SGB_NO_INTEGERS 102       /* there is no such field, or it holds no integers */
 #define SGB_BAD_BOUND 103         /* a uniform draw has a bound from 1 to 2^31 */
+#define SGB_ALREADY_OPEN 104      /* the handle holds a graph, which stays: close it first */
+#define SGB_NOT_OPEN 105          /* the handle holds no graph */
 #define SGB_BAD_EXPRESSION 1000   /* this and more: the text is no expression; what is above 1000 is the length of the
                                      longest prefix of it that begins one */
 
@@ -52,31 +63,43 @@ typedef struct {
     uint64_t id;       /* the bytes of its id, at most 160 */
 } sgb_graph_sizes;
 
-/* The sizes of a graph. */
-uint64_t sgb_sizes(const char *text, size_t text_len, const char *input, size_t input_len, sgb_graph_sizes *sizes);
+/* A graph that is open, or none. Its fields are the library's. */
+typedef struct {
+    void *held;
+    bool is_open;
+} sgb_graph;
+
+/* What a handle is before it is opened, and after it is closed. */
+#define SGB_NO_GRAPH { 0, false }
+
+/* Makes the graph that the text names, and holds it. */
+uint64_t sgb_open(const char *text, size_t text_len, const char *input, size_t input_len, sgb_graph *graph);
+
+/* Gives the graph back, if one is open. */
+void sgb_close(sgb_graph *graph);
+
+/* The sizes of the graph that is open. No memory is taken, by this call and those below. */
+uint64_t sgb_sizes(sgb_graph *graph, sgb_graph_sizes *sizes);
 
 /* The lists of arcs of all vertices, one after another, each in its order. The list of vertex v is what stands in `tips` and
  * `lengths` from starts[v] up to starts[v + 1]: where each arc leads, and its length.
  * `starts` has n + 1 places, `tips` and `lengths` have `listed` ones. */
-uint64_t sgb_rows(const char *text, size_t text_len, const char *input, size_t input_len,
-                  uint64_t *starts, size_t starts_len, uint32_t *tips, size_t tips_len,
+uint64_t sgb_rows(sgb_graph *graph, uint64_t *starts, size_t starts_len, uint32_t *tips, size_t tips_len,
                   int64_t *lengths, size_t lengths_len);
 
 /* The names of all vertices, one after another, with nothing between them. The name of vertex v is what stands in `bytes`
  * from starts[v] up to starts[v + 1].
  * `starts` has n + 1 places, `bytes` has `names` ones. */
-uint64_t sgb_names(const char *text, size_t text_len, const char *input, size_t input_len,
-                   uint64_t *starts, size_t starts_len, char *bytes, size_t bytes_len);
+uint64_t sgb_names(sgb_graph *graph, uint64_t *starts, size_t starts_len, char *bytes, size_t bytes_len);
 
 /* The integers in a utility field of the vertices: u, v, w, x, y, z are the fields 0 to 5. In 3, 4, 5 the vertices of board,
  * simplex and subsets have the first three coordinates.
  * `values` has n places. */
-uint64_t sgb_ints(const char *text, size_t text_len, const char *input, size_t input_len, uint32_t field,
-                  int64_t *values, size_t values_len);
+uint64_t sgb_ints(sgb_graph *graph, uint32_t field, int64_t *values, size_t values_len);
 
 /* The id: the graph's official name. No zero byte comes after it.
  * `bytes` has `id` places. */
-uint64_t sgb_id(const char *text, size_t text_len, const char *input, size_t input_len, char *bytes, size_t bytes_len);
+uint64_t sgb_id(sgb_graph *graph, char *bytes, size_t bytes_len);
 
 /* Random numbers of GB_FLIP: a generator is started from `start`, its first `skip` draws are left out, and the next ones fill
  * `out`. No memory is taken. */
