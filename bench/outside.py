@@ -518,11 +518,13 @@ def promises(runs, tally):
             ("two vertices", head + record + b'"a",A0\n"b",0\n'),
             ("an arc", head + record + b'"a",A0\n"b",0\n* Arcs\nV1,0,1\n'),
         ]:
-            got = runs.run(("list", "stdin"), text, orders={}, shell='ulimit -t 20; exec "$@"')
+            # the most memory that a run took is not told: where it begins, it has that of this script
+            limits = f'ulimit -t 20; ulimit -v {MOST // 1024}; exec "$@"'
+            got = runs.run(("list", "stdin"), text, orders={}, shell=limits)
             what = f"{size}, up to {part}"
             tally.same(what, said(got), (1, b"", code(20)[1]))
-            used = got.usage.ru_maxrss * 1024, got.usage.ru_utime + got.usage.ru_stime
-            tally.check(used[0] < MOST and used[1] < 2, what, "took bytes and seconds:", used)
+            used = got.usage.ru_utime + got.usage.ru_stime
+            tally.check(used < 2, what, "took seconds:", used)
             events = runs.library.events()
             tally.check(events.calls > 0 and events.most < MOST, what, "asked for bytes at once:", events.most)
 
