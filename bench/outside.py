@@ -27,6 +27,8 @@ import termios
 import time
 import tty
 
+import c_library
+
 TOP = os.path.dirname(os.path.dirname(os.path.abspath(__file__)))
 PROGRAM = os.path.abspath(sys.argv[1]) if len(sys.argv) > 1 else os.path.join(TOP, "sgb")
 SECONDS = int(os.environ.get("OUTSIDE_SECONDS", "60"))  # that one run may take
@@ -633,6 +635,7 @@ def all_checks():
         for word in ANSWERS:
             given = FILE if "stdin" in expression else b""
             yield f"memory {word} {expression}", memory((word, expression), given, fault)
+    yield from c_library.all_checks(PROGRAM)
 
 
 def main():
