@@ -166,6 +166,20 @@ for v in range(graph.n):
 """
 
 
+def structures(program, link):
+    def checks(runs, tally):
+        """examples/c/graphbase.c walks structures as GB_GRAPH's, and prints the listings of the program."""
+        path = os.path.join(runs.folder, "graphbase")
+        words = ["cc", *WARNINGS, "-I", os.path.join(TOP, "include"), os.path.join(TOP, "examples/c/graphbase.c"), "-o", path, *link]
+        got = subprocess.run(words, capture_output=True, check=False)
+        tally.check(got.returncode == 0 and not got.stderr, " ".join(words), "gave", (got.returncode, got.stderr))
+        for expression in EXPRESSIONS if got.returncode == 0 else ():
+            given = SHARED if "stdin" in expression else b""
+            tally.same(("graphbase", expression), ran(path, expression, given=given), ran(program, "list", expression, given=given))
+
+    return checks
+
+
 def python_package(program):
     def checks(runs, tally):
         """The package in python/ gives the listings of some graphs, and its errors have the answers."""
@@ -206,6 +220,7 @@ def all_checks(program):
         yield f"library {name}", checks_of(program, name, link)
         if name.endswith(".a"):
             yield "library's memory", memory(link)
+            yield "library's structures", structures(program, link)
         else:
             yield "python package", python_package(program)
             if shutil.which("nm"):
