@@ -1,6 +1,7 @@
 //! The library for C: graphs by the official names of the Stanford GraphBase, as arrays that the caller hands in. Its
 //! exports are the calls of `include/sgb.h`; each calls a function of the libraries below, and states its clauses again.
 #![tactic(auto)]
+
 ghost use Rattle.std.specs.Prelude.{◌≡◌, ◌⊎◌, ◌≤◌, length};
 ghost use Rattle.sgb_graph.specs.Draws.{modulus, plain_draws, seed_of, uniform_draws};
 ghost use Rattle.sgb_arrays.specs.Fields.{HoldsInts, IsIntsRefusal, ints_of};
@@ -17,7 +18,9 @@ mod sizes;
 mod texts;
 
 use answers::{number_of, number_of_fault};
-use sgb_arrays::{arcs_len, fill_draws, fill_id, fill_ints, fill_names, fill_rows, fill_uniform_draws, names_len};
+use sgb_arrays::{
+    arcs_len, fill_draws, fill_id, fill_ints, fill_names, fill_rows, fill_uniform_draws, names_len,
+};
 use sgb_graph::Graph;
 pub use sizes::Sizes;
 use std::alloc::Global;

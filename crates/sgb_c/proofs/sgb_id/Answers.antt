@@ -2,7 +2,7 @@ use Rattle.std.proofs.Common.{◌≡◌, ℕ, length, refl, ap}
 use Rattle.sgb_graph.specs.Graphs.{GraphData}
 use Rattle.sgb_arrays.specs.declared.refusals.Wrong.{Wrong}
 use Rattle.sgb_arrays.specs.declared.refusals.Wrong.TheVariants as wrong
-use Rattle.sgb_c.specs.Answers.{IsFound, number_of_wrong}
+use Rattle.sgb_c.specs.Answers.{number_of_wrong}
 use Rattle.sgb_c.proofs.AnswerLemmas.{fill_answered, none_answered}
 use Rattle.sgb_c.proofs.sgb_id.Goals as goal
 
