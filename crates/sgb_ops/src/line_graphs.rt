@@ -1,6 +1,6 @@
 //! The line graph of a graph, which has a vertex for each arc or edge (GB_BASIC, lines).
-ghost use Rattle.std.specs.Prelude.{◌≡◌, ℕ, true, false, ◌≤◌, ◌<◌, ◌+◌, ◌-◌, ◌++◌, ◌==◌, ◌&&◌, [], ◌∷◌, Ok, Err, length, map, filter, take, slice_index, slice_index_or, All, OnOk, IfOk, IfErr, IsOkUnless, if◌then◌else◌};
-ghost use Rattle.std.specs.List.{list_all, range_with_len};
+ghost use Rattle.std.specs.Prelude.{◌≡◌, ℕ, true, false, ◌≤◌, ◌<◌, ◌+◌, ◌-◌, ◌/◌, ◌^◌, ◌++◌, ◌==◌, ◌&&◌, [], ◌∷◌, Ok, Err, length, map, min, filter, take, slice_index, slice_index_or, All, OnOk, IfOk, IfErr, IsOkUnless, if◌then◌else◌};
+ghost use Rattle.std.specs.List.{list_all, range_with_len, sum_by};
 ghost use Rattle.sgb_vec.specs.Limits.{most_vertices};
 ghost use Rattle.sgb_graph.specs.Descriptions.{IsAnswerOf, IsGraphOf};
 ghost use Rattle.sgb_graph.specs.Made.{plain};
@@ -97,7 +97,10 @@ fn lines_of_graph(alloc: Global, graph: &Graph, directed: bool) -> Result<Vec<Li
 }
 
 // Room for so many lines is taken at first: for each record, or each two of an edge.
-fn most_lines(graph: &Graph, directed: bool) -> usize {
+fn most_lines(graph: &Graph, directed: bool) -> usize
+    ensures { result
+        ≡ (if directed then length graph.now.records else length graph.now.records / 2) }
+{
     if directed {
         graph.records_len()
     } else {
@@ -262,9 +265,11 @@ fn add_arcs(built: &mut Graph, alloc: Global, n: u32, lines: &[Line]) -> Result<
     Ok(())
 }
 
-// How many records the arcs take: for each line as many as lines begin where it ends. No contract speaks of room.
+// How many records the arcs take: for each line as many as lines begin where it ends.
 fn room_for_arcs(lines: &[Line], ends: &[u32]) -> usize
     requires { All (λ l. l.to + 1 < length ends.now) lines.now }
+    ensures { result ≡ min (sum_by (λ l. slice_index ends.now l.to
+        - slice_index ends.now (l.to + 1)) lines.now) (2 ^ 64 - 1) }
 {
     let mut count = 0_usize;
     for line in lines {

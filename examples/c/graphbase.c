@@ -1,0 +1,146 @@
+/* An old program of the Stanford GraphBase on the library for C: structures as GB_GRAPH's, filled from the arrays.
+ *
+ *     cc -O2 -Iinclude examples/c/graphbase.c libsgb.a -o graphbase
+ *     ./graphbase "petersen()"              the listing, as `sgb list "petersen()"` writes it
+ *     ./graphbase "lines(stdin,0)" < file.gb
+ *
+ * The functions below `list` walk `v->arcs`, `a->next` and `a->tip`, as the demonstrations of the book do. Utility fields
+ * of vertices are filled where they hold integers; all others are null. */
+#include <stdio.h>
+#include <stdlib.h>
+#include <string.h>
+
+#include "sgb.h"
+
+typedef union {
+    struct vertex *V;
+    struct arc *A;
+    struct graph *G;
+    char *S;
+    long I;
+} util;
+
+typedef struct vertex {
+    struct arc *arcs;
+    char *name;
+    util u, v, w, x, y, z;
+} Vertex;
+
+typedef struct arc {
+    Vertex *tip;
+    struct arc *next;
+    long len;
+    util a, b;
+} Arc;
+
+typedef struct graph {
+    Vertex *vertices;
+    long n, m;
+    char id[161];
+    Arc *arcs; /* all of them; GB_GRAPH keeps them in blocks of its own */
+    char *names;
+} Graph;
+
+/* The number of why there is no graph; 0 where there is one. */
+static unsigned long panic_code;
+
+static void *room(size_t count, size_t size) {
+    void *at = calloc(count + 1, size);
+    if (!at) panic_code = SGB_NO_ROOM;
+    return at;
+}
+
+static void recycle(Graph *g) {
+    if (!g) return;
+    free(g->vertices);
+    free(g->arcs);
+    free(g->names);
+    free(g);
+}
+
+static util *field_of(Vertex *v, uint32_t field) {
+    util *fields[] = {&v->u, &v->v, &v->w, &v->x, &v->y, &v->z};
+    return fields[field];
+}
+
+/* The graph of an expression, or null, where panic_code says why. */
+static Graph *graph_of(const char *text, const char *input, size_t input_len) {
+    sgb_graph_sizes sizes;
+    size_t len = strlen(text);
+    panic_code = sgb_sizes(text, len, input, input_len, &sizes);
+    if (panic_code) return NULL;
+    size_t n = sizes.vertices;
+    Graph *g = room(1, sizeof *g);
+    uint64_t *starts = room(n + 1, sizeof *starts);
+    uint64_t *begins = room(n + 1, sizeof *begins);
+    uint32_t *tips = room(sizes.listed, sizeof *tips);
+    int64_t *numbers = room(sizes.listed > n ? sizes.listed : n, sizeof *numbers);
+    char *names = room(sizes.names, 1);
+    if (!panic_code) {
+        g->vertices = room(n, sizeof *g->vertices);
+        g->arcs = room(sizes.listed, sizeof *g->arcs);
+        g->names = room(sizes.names + n, 1);
+        g->n = (long)n;
+        g->m = (long)sizes.arcs;
+    }
+    if (!panic_code) panic_code = sgb_id(text, len, input, input_len, g->id, sizes.id);
+    if (!panic_code) panic_code = sgb_names(text, len, input, input_len, begins, n + 1, names, sizes.names);
+    if (!panic_code)
+        panic_code = sgb_rows(text, len, input, input_len, starts, n + 1, tips, sizes.listed, numbers, sizes.listed);
+    for (size_t v = 0; !panic_code && v < n; v++) {
+        Vertex *here = &g->vertices[v];
+        here->name = g->names + begins[v] + v; /* each name has a zero byte after it */
+        memcpy(here->name, names + begins[v], begins[v + 1] - begins[v]);
+        here->arcs = starts[v] < starts[v + 1] ? &g->arcs[starts[v]] : NULL;
+        for (uint64_t k = starts[v]; k < starts[v + 1]; k++) {
+            g->arcs[k].tip = &g->vertices[tips[k]];
+            g->arcs[k].len = (long)numbers[k];
+            g->arcs[k].next = k + 1 < starts[v + 1] ? &g->arcs[k + 1] : NULL;
+        }
+    }
+    for (uint32_t field = 0; !panic_code && field < 6; field++) {
+        uint64_t answer = sgb_ints(text, len, input, input_len, field, numbers, n);
+        if (answer == SGB_NO_INTEGERS) continue;
+        panic_code = answer;
+        for (size_t v = 0; !answer && v < n; v++) field_of(&g->vertices[v], field)->I = (long)numbers[v];
+    }
+    free(starts);
+    free(begins);
+    free(tips);
+    free(numbers);
+    free(names);
+    if (panic_code) {
+        recycle(g);
+        return NULL;
+    }
+    return g;
+}
+
+static void list(Graph *g) {
+    printf("  The graph whose official name is\n%s\n  has %ld vertices and %ld arcs:\n\n", g->id, g->n, g->m);
+    for (Vertex *v = g->vertices; v < g->vertices + g->n; v++) {
+        printf("%s\n", v->name);
+        for (Arc *a = v->arcs; a; a = a->next) printf("  -> %s, length %ld\n", a->tip->name, a->len);
+    }
+}
+
+int main(int count, char **words) {
+    static char input[1 << 22];
+    if (count != 2) {
+        fprintf(stderr, "usage: graphbase EXPR\n");
+        return 2;
+    }
+    size_t input_len = strstr(words[1], "stdin") ? fread(input, 1, sizeof input, stdin) : 0;
+    if (input_len == sizeof input) {
+        fprintf(stderr, "graphbase: the input is too long\n");
+        return 2;
+    }
+    Graph *g = graph_of(words[1], input, input_len);
+    if (!g) {
+        fprintf(stderr, "Something went wrong (panic code %lu)!\n", panic_code);
+        return 1;
+    }
+    list(g);
+    recycle(g);
+    return 0;
+}
