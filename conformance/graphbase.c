@@ -147,7 +147,7 @@ static unsigned long bits(void)
 static Graph *expression(void);
 
 /* restore_graph and save_graph want the name of a file: the one in use, which is removed at the end. */
-static char file_name[] = "/tmp/graphbase.XXXXXX";
+static char file_name[] = P_tmpdir "/graphbase.XXXXXX";
 static int is_open;
 
 static void remove_file(void)
@@ -161,7 +161,7 @@ static FILE *new_file(void)
   int file;
   FILE *out;
   remove_file();
-  strcpy(file_name, "/tmp/graphbase.XXXXXX");
+  strcpy(file_name, P_tmpdir "/graphbase.XXXXXX");
   file = mkstemp(file_name);
   is_open = file >= 0;
   out = is_open ? fdopen(file, "w") : NULL;

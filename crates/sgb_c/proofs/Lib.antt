@@ -3,3 +3,5 @@
 pub mod Named
 -- the machine value of a handle
 pub mod LooseValues
+-- the types of a box that is taken apart and made again
+pub mod BoxTypes

@@ -2,7 +2,6 @@
 use Rattle.std.proofs.Common.{◌≡◌, List, [], ◌∷◌, ◌++◌, refl, sym, ap, ◌∙◌, subst}
 use Rattle.std.specs.Prelude.{Option, Some, is_some, true}
 use lib.Dec.{T}
-use mir.Syntax.{Dict, impl, tnil, tcons, dnil}
 use mir.Raw.{raw as bare}
 use mir.Val.{Val, vptr, has_ty, WT}
 use base.Logic.{SProp, ent, emp, never, id⊢, fst∗}
@@ -17,14 +16,13 @@ use types.Part.{sub, whole}
 use contract.Monad.{fact, fact_i}
 use contract.BorrowLft.{◌⊑◌, ⊑_refl}
 use contract.Running.{tables}
-use denote.Exit.{no, yes}
+use denote.Exit.{yes}
 use denote.Memory.{lone}
 use denote.RattleType.{RattleType, owns}
 use denote.Signature.{types_at, plain}
 use denote.RawPtr.{Ptr, block_ptr, null_ptr, in_a_block}
 use denote.Steps.{nothing, only, heard}
-use denote.Param.{layout, arg}
-use denote.Param.Laws.{Laws, arg_laws}
+use denote.Param.{layout}
 use denote.Param.NoDrop.{glues}
 use denote.Triple.Clauses.{Lasts, lasts}
 use denote.Triple.Spec.{triple_of}
@@ -36,7 +34,6 @@ use denote.Triple.Table.{framed}
 use Rattle.libc.specs.Heap.{chunk}
 use Rattle.std.specs.Box.Ownership.{box_owns}
 use Rattle.std.specs.contracts.alloc.Global as global
-use Rattle.std.proofs.alloc.Global.TheLaws as global_laws
 use Rattle.std.specs.contracts.impls.GlobalAllocator.TheImpl.{ghosts, dict}
 use Rattle.std.proofs.impls.GlobalAllocator.TheImpl.Met as heap
 use Rattle.std.proofs.BoxSteps.Form as box
@@ -47,32 +44,13 @@ use Rattle.std.specs.contracts.boxed.Box.from_raw as callee
 use Rattle.std.proofs.boxed.Box.from_raw.Met.{met}
 use Rattle.sgb_c.specs.Owns.{owns_if}
 use Rattle.sgb_c.specs.contracts.handles.Held as item
-use Rattle.sgb_c.proofs.handles.Held.TheLaws as item_laws
 use Rattle.sgb_c.specs.contracts.handles.Loose as loose
+use Rattle.sgb_c.proofs.BoxTypes.{X, LX, Z, LZ, drops, E}
 use Rattle.sgb_c.proofs.LooseValues.{word, loose_out, some_of}
 use Rattle.sgb_c.specs.contracts.handles.Loose.into_box.{ended, clauses}
 use Rattle.sgb_c.specs.contracts.handles.Loose.into_box.Key.{name as #self}
 use Rattle.sgb_c.proofs.handles.Loose.into_box.Statement.{statement}
 use Rattle.sgb_c.proofs.handles.Loose.into_box.Code as code
-
--- the types that the call is made at
-abbrev X : RattleType
-X = arg (bare (layout item.the_row)) no item.the_row
-
-LX : Laws X
-LX = arg_laws (bare (layout item.the_row)) no item.the_row item_laws.the_row_laws refl
-
-abbrev Z : RattleType
-Z = arg (bare (layout global.the_row)) no global.the_row
-
-LZ : Laws Z
-LZ = arg_laws (bare (layout global.the_row)) no global.the_row global_laws.the_row_laws refl
-
-abbrev drops : Dict
-drops = impl ("sgb_c::Destruct++none::drop" ∷ []) (tcons (layout Z) tnil) dnil
-
-abbrev E : box.Bx
-E = record { row = X; laws = LX; al = record { row = Z; laws = LZ; g = ghosts; d = dict; drops = drops } }
 
 abbrev hs : Stays ended.signature.params ended.kept
 hs = (stay_dropped (plain (λ _. loose.the_row)) yes, (stay_dropped (plain (λ _. global.the_row)) yes, tt))

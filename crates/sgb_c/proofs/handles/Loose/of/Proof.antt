@@ -2,7 +2,7 @@
 use Rattle.std.proofs.Common.{◌≡◌, List, [], ◌∷◌, ◌++◌, refl, sym, ap, ◌∙◌, subst}
 use Rattle.std.specs.Prelude.{Some}
 use lib.Dec.{T}
-use mir.Syntax.{Dict, impl, tnil, tcons, dnil}
+use mir.Syntax.{Dict, impl, tnil, dnil}
 use mir.Raw.{raw as bare}
 use mir.Val.{Val, has_ty, WT}
 use base.Logic.{SProp, ent, emp, never, id⊢, fst∗}
@@ -23,8 +23,7 @@ use denote.RattleType.{RattleType, owns}
 use denote.Signature.{types_at, plain}
 use denote.RawPtr.{Ptr, RawPtr, block_ptr, null_ptr, ptr_val, in_a_block}
 use denote.Steps.{nothing, only}
-use denote.Param.{layout, arg}
-use denote.Param.Laws.{Laws, arg_laws}
+use denote.Param.{layout}
 use denote.Param.NoDrop.{glues}
 use denote.Triple.Clauses.{Lasts, lasts}
 use denote.Triple.Spec.{triple_of}
@@ -50,7 +49,6 @@ use denote.Triple.Table.{framed}
 use Rattle.libc.specs.Heap.{chunk}
 use Rattle.std.specs.Box.Ownership.{box_owns}
 use Rattle.std.specs.contracts.alloc.Global as global
-use Rattle.std.proofs.alloc.Global.TheLaws as global_laws
 use Rattle.std.specs.contracts.impls.GlobalAllocator.TheImpl.{ghosts, dict}
 use Rattle.std.proofs.impls.GlobalAllocator.TheImpl.Met as heap
 use Rattle.std.proofs.BoxSteps.Form as box
@@ -61,31 +59,12 @@ use Rattle.std.specs.contracts.boxed.Box.into_raw as callee
 use Rattle.std.specs.contracts.boxed.Box as whole_box
 use Rattle.std.proofs.boxed.Box.into_raw.Met.{met}
 use Rattle.sgb_c.specs.contracts.handles.Held as item
-use Rattle.sgb_c.proofs.handles.Held.TheLaws as item_laws
+use Rattle.sgb_c.proofs.BoxTypes.{X, LX, Z, LZ, drops, E}
 use Rattle.sgb_c.proofs.LooseValues.{word, loose_in}
 use Rattle.sgb_c.specs.contracts.handles.Loose.of.{ended, clauses}
 use Rattle.sgb_c.specs.contracts.handles.Loose.of.Key.{name as #self}
 use Rattle.sgb_c.proofs.handles.Loose.of.Statement.{statement}
 use Rattle.sgb_c.proofs.handles.Loose.of.Code as code
-
--- the types that the call is made at
-abbrev X : RattleType
-X = arg (bare (layout item.the_row)) no item.the_row
-
-LX : Laws X
-LX = arg_laws (bare (layout item.the_row)) no item.the_row item_laws.the_row_laws refl
-
-abbrev Z : RattleType
-Z = arg (bare (layout global.the_row)) no global.the_row
-
-LZ : Laws Z
-LZ = arg_laws (bare (layout global.the_row)) no global.the_row global_laws.the_row_laws refl
-
-abbrev drops : Dict
-drops = impl ("sgb_c::Destruct++none::drop" ∷ []) (tcons (layout Z) tnil) dnil
-
-abbrev E : box.Bx
-E = record { row = X; laws = LX; al = record { row = Z; laws = LZ; g = ghosts; d = dict; drops = drops } }
 
 abbrev hs : Stays ended.signature.params ended.kept
 hs = (stay_dropped (plain (λ _. whole_box.the_row item.the_row global.the_row ghosts)) yes, tt)
