@@ -1,0 +1,46 @@
+use sgb_arrays::{
+    Wrong, arcs_len, fill_draws, fill_id, fill_ints, fill_names, fill_rows, fill_uniform_draws,
+    names_len,
+};
+use sgb_gen::complete;
+use std::test::Fail;
+
+#[test]
+fn rows_of_a_triangle(rt: HostRuntime) -> Result<(), Fail> {
+    let graph = complete(3).graph(rt.alloc())?;
+    assert!(rt; arcs_len(&graph) == 6);
+    let (mut starts, mut tips, mut lengths) = ([0; 4], [0; 6], [0; 6]);
+    assert!(rt; fill_rows(&graph, &mut starts, &mut tips, &mut lengths) == Ok(()));
+    assert!(rt; starts == [0, 2, 4, 6]);
+    assert!(rt; lengths == [2, 1, 1, 1, 1, 2]);
+    Ok(())
+}
+
+#[test]
+fn names_and_fields_of_a_triangle(rt: HostRuntime) -> Result<(), Fail> {
+    let graph = complete(3).graph(rt.alloc())?;
+    assert!(rt; names_len(&graph) == 3);
+    let (mut starts, mut bytes) = ([0; 4], [0; 3]);
+    assert!(rt; fill_names(&graph, &mut starts, &mut bytes) == Ok(()));
+    assert!(rt; starts == [0, 1, 2, 3]);
+    assert!(rt; bytes == *b"012");
+    let mut values = [0; 3];
+    assert!(rt; fill_ints(&graph, 3, &mut values) == Ok(()));
+    assert!(rt; values == [0, 1, 2]);
+    assert!(rt; fill_ints(&graph, 0, &mut values) == Err(Wrong::Field));
+    let mut id = [0; 21];
+    assert!(rt; fill_id(&graph, &mut id) == Ok(()));
+    assert!(rt; id == *b"board(3,0,0,0,-1,0,0)");
+    Ok(())
+}
+
+// The published test of GB_FLIP: the first draw from -314159, and the uniform one after 134 draws.
+#[test]
+fn published_draws(rt: HostRuntime) {
+    let mut draws = [0; 1];
+    fill_draws(-314159, 0, &mut draws);
+    assert!(rt; draws == [119318998]);
+    assert!(rt; fill_uniform_draws(-314159, 134, 1431655765, &mut draws) == Ok(()));
+    assert!(rt; draws == [748103812]);
+    assert!(rt; fill_uniform_draws(-314159, 0, 0, &mut draws) == Err(Wrong::Bound));
+}
