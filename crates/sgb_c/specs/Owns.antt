@@ -1,12 +1,22 @@
 -- What a handle owns.
 use Rattle.std.specs.Prelude.{Option, Some, None}
 use Rattle.std.specs.Box.Ownership.{box_owns}
-use Rattle.libc.specs.Heap.{chunk}
+use Rattle.std.specs.contracts.impls.GlobalAllocator.TheImpl.{ghosts}
+use Rattle.std.specs.declared.alloc.Global.{Global}
 use base.Fml.{Fml, ftrue}
+use mir.Syntax.{Ty}
 use denote.RattleType.{RattleType}
 use denote.RawPtr.{Ptr}
+
+-- the C library's heap: one as the other
+abbrev heap : Global
+heap = record { memory = record { seal = tt } }
+
+-- the right to give a block of it back
+abbrev pub gives_back : Ty → Ptr → Fml
+gives_back = ghosts.dealloc_token heap
 
 -- ownership of the value at a pointer, in a block of the C library's heap, where there is one
 abbrev pub owns_if : (R : RattleType) → Ptr → Option R.Denot → Fml
 owns_if R p None = ftrue
-owns_if R p (Some x) = box_owns chunk R p x
+owns_if R p (Some x) = box_owns gives_back R p x

@@ -31,7 +31,6 @@ use denote.Triple.Walked.{Stays, stay_dropped, walk_of, Goes-dropped}
 use Rattle.std.proofs.alloc.Calls.{handle_tells}
 use Rattle.std.proofs.VecSteps.Shapes.{after}
 use denote.Triple.Table.{framed}
-use Rattle.libc.specs.Heap.{chunk}
 use Rattle.std.specs.Box.Ownership.{box_owns}
 use Rattle.std.specs.contracts.alloc.Global as global
 use Rattle.std.specs.contracts.impls.GlobalAllocator.TheImpl.{ghosts, dict}
@@ -42,7 +41,7 @@ use Rattle.std.proofs.ResultValues.{and_tt}
 use Rattle.std.proofs.raw_atomic.Walks.{proved_at, leaves}
 use Rattle.std.specs.contracts.boxed.Box.from_raw as callee
 use Rattle.std.proofs.boxed.Box.from_raw.Met.{met}
-use Rattle.sgb_c.specs.Owns.{owns_if}
+use Rattle.sgb_c.specs.Owns.{gives_back, owns_if}
 use Rattle.sgb_c.specs.contracts.handles.Held as item
 use Rattle.sgb_c.specs.contracts.handles.Loose as loose
 use Rattle.sgb_c.proofs.BoxTypes.{X, LX, Z, LZ, drops, E}
@@ -63,7 +62,7 @@ into_box_spec {M = M} 𝓤 𝓛 𝓜 𝓡 wired =
     let v = z.0.3.0 in let a = z.0.3.1.0 in let Post : Val → SProp 𝓤 = (walk_of 𝓛 ended hs c).post z in let Run : List Val → SProp 𝓤 = λ ws. WpFn 𝓤 H 𝓣.C 𝓣.Λ fn ws Post in
     qed 𝓛 ((‵ ftrue ⊛ ‵ (owns (types_at ended.signature.params z.0.0) z.0.3 z.0.4)) ∷ raw ((c z.0.0 z.0.3).requires z.1) ∷ []) ∵ split ! $ move ! (1 ∷ []) $ fsplit ! $ loose_out ! v z.0.4.0 (λ ws.
     move ! (3 ∷ []) $ heard ! (is_some v.value ≡ true) (λ es. let g = (some_of v.value es).0 in let ev = (some_of v.value es).1 in rewrite ! 0 (λ (x : Option item.struct.D). ‵ (owns_if item.the_row v.at x)) ev refl $
-    in_a_block ! v.at (λ p. box_owns chunk item.the_row p g) (fst∗ 𝓤 (never 𝓤) (sem 𝓛 (chunk (bare (lone item.the_row.mir)) null_ptr))) (λ b o e.
+    in_a_block ! v.at (λ p. box_owns gives_back item.the_row p g) (fst∗ 𝓤 (never 𝓤) (sem 𝓛 (gives_back (bare (lone item.the_row.mir)) null_ptr))) (λ b o e.
     move ! (1 ∷ []) $ fsplit ! $ handle_tells E.al ! a z.0.4.1.0 (λ h eh fits.
     let w : Val = word (block_ptr b o) in let ws' : z.0.4.0 ≡ w ∷ [] = ws ∙ ap (λ (p : Ptr). word p ∷ []) e in let k = triple_of 𝓛 (callee.signature X Z ghosts dict drops) (callee.spec X Z ghosts dict drops 𝓛 𝓜.mem 𝓡.returns) in
     let y : k.Ghost = ((([], ([], tt)), (full_share, (full_share, tt)), tt, (a, (block_ptr b o, tt)), (h ∷ [], (vptr b o ∷ [], tt))), g) in let B : RattleType = box.B E in let toks = ‵ (flft [] full_share) ⊛ ‵ (flft [] full_share) ⊛ ‵ ftrue in

@@ -46,7 +46,6 @@ use Rattle.sgb_c.proofs.sgb_c++handles++Held+Destruct.drop.Reads as drop_reads
 use Rattle.sgb_c.proofs.sgb_c++handles++Held+Destruct.drop.Symbol as drop_symbol
 use denote.Triple.Walked.{Stays, stay_dropped, walk_of, Goes-dropped}
 use denote.Triple.Table.{framed}
-use Rattle.libc.specs.Heap.{chunk}
 use Rattle.std.specs.Box.Ownership.{box_owns}
 use Rattle.std.specs.contracts.alloc.Global as global
 use Rattle.std.specs.contracts.impls.GlobalAllocator.TheImpl.{ghosts, dict}
@@ -59,6 +58,7 @@ use Rattle.std.specs.contracts.boxed.Box.into_raw as callee
 use Rattle.std.specs.contracts.boxed.Box as whole_box
 use Rattle.std.proofs.boxed.Box.into_raw.Met.{met}
 use Rattle.sgb_c.specs.contracts.handles.Held as item
+use Rattle.sgb_c.specs.Owns.{gives_back}
 use Rattle.sgb_c.proofs.BoxTypes.{X, LX, Z, LZ, drops, E}
 use Rattle.sgb_c.proofs.LooseValues.{word, loose_in}
 use Rattle.sgb_c.specs.contracts.handles.Loose.of.{ended, clauses}
@@ -103,9 +103,9 @@ of_spec {M = M} 𝓤 𝓛 𝓜 𝓡 wired =
     (λ κs bd within a vss qs. impl'.method_Known 0 drop_kinds.ps drop_kinds.r drop_reads.requires drop_reads.ensures drop_reads.Asked drop_reads.Learnt drop_reads.known (record { M = M; 𝓤 = 𝓤; 𝓛 = 𝓛; 𝓜 = 𝓜; 𝓡 = 𝓡 }) drop_symbol.name
     (method gone 0 (layouts [] tt)) (drop_symbol.as_method 𝓡.env (code.calls-sgb_c::sgb_c++handles++Held+Destruct::drop 𝓡.env wired) (method gone 0 (layouts [] tt)) refl)
     (drop_met.met 𝓤 𝓛 𝓜 𝓡 (code.calls-sgb_c::sgb_c++handles++Held+Destruct::drop 𝓡.env wired)) ((tt, qs, tt, a, vss), tt))))) y (and_then ! (get ! refl) (no_more !)) (λ u.
-    use1 𝓛 (later (some (λ (r : Ptr). (toks ⊛ ‵ (RawPtr.own_val r (u ∷ []))) ⊛ some (λ (ls : Lasts (callee.ended X Z ghosts dict drops gone) y.0.0 y.0.3). ‵ (lasts (callee.ended X Z ghosts dict drops gone) y.0.0 y.0.3 ls) ⊛ ‵ (box_owns chunk item.the_row r v.value))))) (id⊢ 𝓤 (k.post y u)) $
+    use1 𝓛 (later (some (λ (r : Ptr). (toks ⊛ ‵ (RawPtr.own_val r (u ∷ []))) ⊛ some (λ (ls : Lasts (callee.ended X Z ghosts dict drops gone) y.0.0 y.0.3). ‵ (lasts (callee.ended X Z ghosts dict drops gone) y.0.0 y.0.3 ls) ⊛ ‵ (box_owns gives_back item.the_row r v.value))))) (id⊢ 𝓤 (k.post y u)) $
     await ! tt $ pick ! (λ r. split ! $ move ! (1 ∷ []) $ pick ! (λ _. split ! $ drop ! $
-    in_a_block ! r (λ p. box_owns chunk item.the_row p v.value) (fst∗ 𝓤 (never 𝓤) (sem 𝓛 (chunk (bare (lone item.the_row.mir)) null_ptr))) (λ b' o' e'.
+    in_a_block ! r (λ p. box_owns gives_back item.the_row p v.value) (fst∗ 𝓤 (never 𝓤) (sem 𝓛 (gives_back (bare (lone item.the_row.mir)) null_ptr))) (λ b' o' e'.
     move ! (1 ∷ []) $ split ! $ drop ! $ feq_l ! (λ eu.
     lands_as ! (ap only (eu ∙ ap (λ (p : Ptr). ptr_val p ∷ []) e')) refl (tt, tt) $
     sets ! (of_opd ! (get ! refl)) refl (tt, tt) $ sets ! (agg ! (and_then ! (get ! refl) (no_more !))) refl (tt, (tt, tt)) $
