@@ -29,7 +29,7 @@ try: toolchain
 	@cd crates/sgb_cli && rt try -- $(WORDS)
 
 sgb: toolchain FORCE
-	@echo "Proving the crates, lowest first: 12 minutes on a fresh machine, less where proofs are kept."
+	@echo "Proving the crates, lowest first: some 12 minutes on a fresh machine, less where proofs are kept."
 	@bench/prove.py sgb_cli sgb_levels
 	@echo "Building the programs"
 	@cd crates/sgb_cli && rt run -- names "board(1,0,0,0,1,0,0)" > /dev/null
