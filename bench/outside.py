@@ -4,9 +4,10 @@
     make outside
 
 It runs the program with memory refused, with devices that fail, with broken files, with the commands of the tour, and with
-the scripts of examples/ (bench/scripts.py). It prints what failed, and last how many checks passed and failed. With words,
-it makes only the checks whose names hold one of them. Where PROGRAM is a script, OUTSIDE_PROGRAM names the executable that it runs, in which memory is then refused;
-OUTSIDE_SECONDS gives a slow one more time for each run.
+the scripts of examples/ (bench/scripts.py); programs in C and Python are held against it that use the library for C
+(bench/c_library.py). It prints what failed, and last how many checks passed and failed. With words, it makes only the checks
+whose names hold one of them. Where PROGRAM is a script, OUTSIDE_PROGRAM names the executable that it runs, in which memory is
+then refused; OUTSIDE_SECONDS gives a slow one more time for each run; OUTSIDE_WITHOUT_LIBRARY=1 leaves the library for C out.
 """
 
 import collections
@@ -27,6 +28,7 @@ import termios
 import time
 import tty
 
+import c_library
 import conformance
 import great_listings
 import random_requests
@@ -673,6 +675,7 @@ def all_checks():
             yield f"memory {word} {expression}", memory((word, expression), given, fault)
     yield from great_listings.all_checks()
     yield from random_requests.all_checks()
+    yield from c_library.all_checks(PROGRAM)
 
 
 def main():
