@@ -214,8 +214,9 @@ def python_package(program):
             if not without and ran(sys.executable, "-c", "import numpy")[0] != 0:
                 print("  skipped, without numpy: the Python package with its arrays")
                 continue
-            got = ran(sys.executable, tests, program, more=dict(more, SGB_WITHOUT_NUMPY=without))
-            tally.check(got[0] == 0 and re.search(rb"^Ran [1-9]", got[2], re.M), "python/tests.py", "without" if without else "with", "numpy gave", got)
+            status, out, err = ran(sys.executable, tests, program, more=dict(more, SGB_WITHOUT_NUMPY=without))
+            is_right = status == 0 and re.search(rb"^Ran [1-9]", err, re.M)
+            tally.check(is_right, tests, "without" if without else "with", "numpy gave", (status, out, err[-300:]))
 
     return checks
 
