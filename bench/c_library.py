@@ -66,8 +66,8 @@ LIBRARIES = {
 def library(runs, tally):
     """libsgb.a and libsgb.so are made of the archive that was proved and built, where it is there."""
     if os.path.exists(ARCHIVE):
-        got = subprocess.run(["make", "-s", "archives"], cwd=TOP, capture_output=True, check=False)
-        tally.check(got.returncode == 0, "make archives gave", (got.returncode, got.stderr))
+        got = ran("make", "-s", "-C", TOP, "archives")
+        tally.check(got[0] == 0, "make archives gave", got)
     for name in LIBRARIES:
         tally.check(os.path.exists(os.path.join(TOP, name)), name, "is not there: make lib")
 
@@ -90,7 +90,9 @@ def compiled(runs, tally, link, name, more=()):
 
 
 def ran(*words, given=b"", more=None):
-    environment = dict(os.environ, **more) if more else None
+    # a make that this one runs in has no orders for those that are run here
+    environment = {name: value for name, value in os.environ.items() if not name.startswith("MAKE")}
+    environment.update(more or {})
     got = subprocess.run(words, input=given, env=environment, capture_output=True, check=False, timeout=120)
     return got.returncode, got.stdout, got.stderr
 
@@ -203,6 +205,20 @@ def structures(program):
     return checks
 
 
+INSTALLED = """
+#include <sgb.h>
+#include <stdio.h>
+int main(void) {
+    char id[160];
+    sgb_graph graph = SGB_NO_GRAPH;
+    sgb_graph_sizes sizes;
+    if (sgb_open("complete(2)", 11, "", 0, &graph) || sgb_sizes(&graph, &sizes) || sgb_id(&graph, id, sizes.id)) return 1;
+    sgb_close(&graph);
+    printf("%.*s\\n", (int)sizes.id, id);
+}
+"""
+
+
 def python_package(program):
     def checks(runs, tally):
         """The tests of the package in python/, without numpy, and with it where it is installed."""
@@ -221,6 +237,54 @@ def python_package(program):
     return checks
 
 
+def class_of_cpp(runs, tally):
+    """The class of sgb.hpp: moved, closed, refused."""
+    if not shutil.which("c++"):
+        print("  skipped, without c++: include/sgb.hpp")
+        return
+    if not is_there(tally, "libsgb.a"):
+        return
+    path = os.path.join(runs.folder, "cpp_graph")
+    source = os.path.join(TOP, "bench/cpp_graph.cpp")
+    words = ["c++", "-std=c++20", *WARNINGS[1:], "-I", os.path.join(TOP, "include"), source, *LIBRARIES["libsgb.a"]]
+    status, out, err = ran(*words, "-Wl,--wrap=sgb_close", "-o", path)
+    tally.check(status == 0 and not err, " ".join(words), "gave", (status, out, err))
+    if status == 0:
+        tally.same(path, ran(path), (0, b"right\n", b""))
+
+
+def installed(runs, tally):
+    """A program that finds the installed library by pkg-config; and all of it is taken away again."""
+    prefix, source = os.path.join(runs.folder, "prefix"), os.path.join(runs.folder, "id.c")
+    if not is_there(tally, *LIBRARIES):
+        return
+    tally.same("make install-lib", ran("make", "-s", "-C", TOP, "install-lib", "PREFIX=" + prefix), (0, b"", b""))
+    if shutil.which("pkg-config"):
+        where = {"PKG_CONFIG_PATH": prefix + "/lib/pkgconfig"}
+        status, flags, err = ran("pkg-config", "--cflags", "--libs", "sgb", more=where)
+        tally.check(status == 0, "pkg-config gave", (status, flags, err))
+        with open(source, "w", encoding="utf-8") as file:
+            file.write(INSTALLED)
+        path = os.path.join(runs.folder, "id")
+        tally.same("cc, installed", ran("cc", source, "-o", path, *flags.decode().split()), (0, b"", b""))
+        seen = ran(path, more={"LD_LIBRARY_PATH": prefix + "/lib"})
+        tally.same((path,), seen, (0, b"board(2,0,0,0,-1,0,0)\n", b""))
+    else:
+        print("  skipped, without pkg-config: a program on the installed library")
+    tally.same("make uninstall-lib", ran("make", "-s", "-C", TOP, "uninstall-lib", "PREFIX=" + prefix), (0, b"", b""))
+    left = [name for _, _, names in os.walk(prefix) for name in names]
+    tally.check(not left, "make uninstall-lib leaves", left)
+
+
+def page(document):
+    def checks(runs, tally):
+        """The commands of docs/CALLING_FROM_C.md give what stands there."""
+        if is_there(tally, *LIBRARIES):
+            document("docs/CALLING_FROM_C.md", 9)(runs, tally)
+
+    return checks
+
+
 def exports(runs, tally):
     """libsgb.so shows the calls of sgb.h and no others."""
     if not shutil.which("nm"):
@@ -235,7 +299,7 @@ def exports(runs, tally):
     tally.same("the symbols of libsgb.so", shown, wanted)
 
 
-def all_checks(program):
+def all_checks(program, document):
     if os.environ.get("OUTSIDE_WITHOUT_LIBRARY") == "1":
         print("  skipped, as OUTSIDE_WITHOUT_LIBRARY says: the library for C")
         return
@@ -246,3 +310,6 @@ def all_checks(program):
     yield "library exports", exports
     yield "library structures", structures(program)
     yield "library python", python_package(program)
+    yield "library C++", class_of_cpp
+    yield "library installed", installed
+    yield "document docs/CALLING_FROM_C.md", page(document)
