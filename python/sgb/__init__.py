@@ -217,7 +217,8 @@ class Graph:
         _must(_lib.sgb_names(self._handle, *begins.words, *names.words))
         whole, at = bytes(names.seen()), begins.seen().tolist()
         if whole.isascii():
-            return list(map(whole.decode().__getitem__, map(slice, at, at[1:])))
+            whole = whole.decode()
+            return [whole[a:b] for a, b in zip(at, at[1:])]
         return [whole[a:b].decode(errors="surrogateescape") for a, b in zip(at, at[1:])]
 
     def ints(self, field):
