@@ -303,6 +303,18 @@ static uint64_t counted(uint64_t number) {
 
 static void refuse(void) {
     size_t refusals = 0;
+    /* another graph is open meanwhile, and stays as it is */
+    sgb_graph other = SGB_NO_GRAPH;
+    must(open_graph(&other), SGB_OK, "a second graph");
+    must(get_rows(&graph, 0, 0, 0), SGB_OK, "sgb_rows");
+    must(get_names(&graph, 0, 0), SGB_OK, "sgb_names");
+    sgb_graph_sizes wanted = sizes;
+    uint64_t *rows = starts;
+    uint32_t *ends = tips;
+    char *bytes = names;
+    starts = NULL;
+    tips = NULL;
+    names = NULL;
     sgb_close(&graph);
     free_arrays();
     for (uint64_t number = 1;; number++) {
@@ -339,6 +351,11 @@ static void refuse(void) {
         if (asked < number) break;
     }
     if (refusals == 0) fail("no call asked for memory");
+    is_graph(&other, &wanted, rows, ends, bytes);
+    sgb_close(&other);
+    free(rows);
+    free(ends);
+    free(bytes);
     printf("right %zu\n", refusals);
 }
 

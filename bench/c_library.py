@@ -148,13 +148,20 @@ def tables(tally, program, path):
 
 def refusals(tally, program, path):
     """Texts and files that are no graph: the answer, after which the handle holds none."""
-    for text, given, number in ANSWERS:
+    # a file that ends too early, wherever it does
+    files = [("stdin", SHARED[:size], None) for size in range(len(SHARED) - 1)]
+    for text, given, number in ANSWERS + files:
+        status, _, err = ran(program, "names", text, given=given)
+        told = re.fullmatch(rb"Something went wrong \(panic code ([0-9]+)\)!\n|sgb: bad expression at byte ([0-9]+)\n", err)
+        if number is None:
+            number = int(told[1] or -1) if told else -1
+        elif number != 100:
+            is_told = told and number in (int(told[1] or -1), 1000 + int(told[2] or -1001))
+            tally.check(is_told, program, "names", text[:40], "gave", (status, err), "and not", str(number))
         # the answer of sgb_open, and of the five calls on a handle that was not opened
         wanted = " ".join([str(number)] + ["105"] * 5) + "\n"
         # a text of 65,537 bytes is a word of a command line
         tally.same((path, "answer", text[:40]), ran(path, "answer", text, given=given), (0, wanted.encode(), b""))
-        status = ran(program, "names", text, given=given)[0]
-        tally.check(status in (1, 2), program, "names", text[:40], "gave", status)
     # arrays of a wrong length, and a field that there is not, are told of only where there is a graph
     tally.same((path, "answer", "complete(2)"), ran(path, "answer", "complete(2)"), (0, b"0 0 101 101 102 101\n", b""))
 

@@ -56,6 +56,18 @@ fn two_graphs_are_open_at_once() {
 }
 
 #[test]
+fn a_graph_that_is_dropped_is_given_back() {
+    // pages that this process holds, where the system says so
+    let pages = || Some(std::fs::read_to_string("/proc/self/statm").ok()?.split(' ').nth(1)?.parse::<u64>().ok()?);
+    let before = pages();
+    for _ in 0..300 {
+        assert_eq!(Graph::new("board(100,100,0,0,1,0,0)", b"").unwrap().n(), 10_000);
+    }
+    // one takes about two megabytes
+    assert!(before.zip(pages()).map_or(true, |(before, after)| after < before + 40_000));
+}
+
+#[test]
 fn what_is_no_graph_is_refused() {
     let refusal = |text: &str| Graph::new(text, b"").err();
     assert_eq!(refusal("board(3,"), Some(Error::Expression(8)));
