@@ -210,6 +210,7 @@ static void wrong(void) {
 
 /* Each call on a handle that holds no graph says so, and writes nothing. */
 static void is_closed(sgb_graph *at) {
+    if (at->is_open) fail("a handle of no graph is open");
     sgb_graph_sizes there;
     memset(&there, 0x5a, sizeof there);
     make_arrays();
@@ -229,6 +230,7 @@ static void is_closed(sgb_graph *at) {
 /* The handle holds a graph whose arrays are those of `sizes` and of the arrays that are kept. */
 static void is_graph(sgb_graph *at, const sgb_graph_sizes *wanted, const uint64_t *rows, const uint32_t *ends,
                      const char *bytes) {
+    if (!at->is_open || !at->held) fail("the handle of a graph is not open");
     must(sgb_sizes(at, &sizes), SGB_OK, "sgb_sizes");
     if (memcmp(&sizes, wanted, sizeof sizes) != 0) fail("other sizes than before");
     make_arrays();

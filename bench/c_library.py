@@ -273,9 +273,11 @@ def installed(runs, tally):
         with open(source, "w", encoding="utf-8") as file:
             file.write(INSTALLED)
         path = os.path.join(runs.folder, "id")
-        tally.same("cc, installed", ran("cc", source, "-o", path, *flags.decode().split()), (0, b"", b""))
-        seen = ran(path, more={"LD_LIBRARY_PATH": prefix + "/lib"})
-        tally.same((path,), seen, (0, b"board(2,0,0,0,-1,0,0)\n", b""))
+        got = ran("cc", source, "-o", path, *flags.decode().split())
+        tally.same("cc, installed", got, (0, b"", b""))
+        if got[0] == 0:
+            seen = ran(path, more={"LD_LIBRARY_PATH": prefix + "/lib"})
+            tally.same((path,), seen, (0, b"board(2,0,0,0,-1,0,0)\n", b""))
     else:
         print("  skipped, without pkg-config: a program on the installed library")
     tally.same("make uninstall-lib", ran("make", "-s", "-C", TOP, "uninstall-lib", "PREFIX=" + prefix), (0, b"", b""))

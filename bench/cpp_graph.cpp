@@ -40,7 +40,7 @@ int main() {
         check(first.n() == 12 && first.m() == 34 && names.size() == 12 && names[5] == "1.1", "a board of 3 by 4");
         check(first.ints(3)[11] == 2 && first.ints(4)[11] == 3, "coordinates");
         check(code_of([&] { first.ints(0); }) == SGB_NO_INTEGERS, "a field that holds no integers");
-        check(first.tips(11).size() == 2 && first.tips(0)[0] == 4, "the list of a vertex");
+        check(first.tips(11).size() == 2 && first.tips(0).size() == 2 && first.tips(0)[0] == 4, "the list of a vertex");
         try {
             first.tips(12);
             check(false, "the list of a vertex that is not there");

@@ -131,12 +131,13 @@ class Arrays(unittest.TestCase):
         self.assertEqual(why.exception.byte, 0)
 
     def test_flip(self):
-        for start, skip, count, m in ((-314159, 0, 3, 0), (-314159, 2, 3, 1000), (7, 133, 5, 2**31), (5, 5, 0, 6)):
+        for start, skip, count, m in ((-314159, 0, 3, 0), (-314159, 2, 3, 0), (-314159, 2, 3, 1000), (7, 133, 5, 2**31), (5, 5, 0, 6)):
             wanted = [int(line) for line in said("flip", f"flip({start},{skip},{count},{m})").split()]
             self.assertEqual(list(sgb.flip(start, skip, count, m)), wanted)
         for words in ((0, 0, -1, 0), (0, -1, 1, 0), (2**63, 0, 1, 0), (0, 0, 1, 2**32)):
-            with self.assertRaises(ValueError):
+            with self.assertRaises(ValueError) as why:
                 sgb.flip(*words)
+            self.assertNotIsInstance(why.exception, sgb.GraphError)
         with self.assertRaises(sgb.GraphError) as why:
             sgb.flip(0, 0, 1, 2**31 + 1)
         self.assertEqual(why.exception.code, 103)
