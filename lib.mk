@@ -5,7 +5,8 @@
 # make install-lib, make uninstall-lib   put them, the headers and sgb.pc below $(PREFIX), and take them away again; nothing
 #                 is built. make install does so too where the library is there.
 
-LIB_VERSION = $(shell sed -n 's/^## \([0-9.]*\)$$/\1/p' CHANGELOG.md | head -n 1)
+# of the calls, which may still change, and not of the program
+LIB_VERSION = 0.1
 
 # the kit's object with malloc, realloc and free
 KIT_HEAP = $(dir $(shell rt doc))c/liblibc_c.a
