@@ -294,8 +294,11 @@ def page(document):
     return checks
 
 
+CALLED = {"malloc", "realloc", "free", "memcpy", "memmove", "memset"}
+
+
 def exports(runs, tally):
-    """libsgb.so shows the calls of sgb.h and no others."""
+    """libsgb.so shows the calls of sgb.h and no others, and calls what sgb.h says."""
     if not shutil.which("nm"):
         print("  skipped, without nm: the symbols of libsgb.so")
         return
@@ -306,6 +309,9 @@ def exports(runs, tally):
     with open(os.path.join(TOP, "include/sgb.h"), encoding="utf-8") as file:
         wanted = sorted(re.findall(r"^(?:uint64_t|void) (sgb_\w+)\(", file.read(), re.M))
     tally.same("the symbols of libsgb.so", shown, wanted)
+    got = subprocess.run(["nm", "-D", "--undefined-only", os.path.join(TOP, "libsgb.so")], capture_output=True, check=False)
+    called = {line.split()[1].split("@")[0] for line in got.stdout.decode().splitlines() if line.split()[0] == "U"}
+    tally.check("malloc" in called and called <= CALLED, "libsgb.so calls", " ".join(sorted(called)))
 
 
 def all_checks(program, document):

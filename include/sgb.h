@@ -5,9 +5,9 @@
  *     if (sgb_open("petersen()", 10, "", 0, &graph) == SGB_OK && sgb_sizes(&graph, &sizes) == SGB_OK) { .. }
  *     sgb_close(&graph);
  *
- * Link with libsgb.a or libsgb.so. The library calls malloc, realloc and free of the program, and nothing else; it has no
- * state of its own, and writes nothing. What it holds is in the handles that are open: sgb_close gives it back, and a call
- * that answers out of memory holds nothing more than before.
+ * Link with libsgb.a or libsgb.so. The library calls malloc, realloc and free of the program, with memcpy, memmove and
+ * memset, and nothing else; it has no state of its own, and writes nothing. What it holds is in the handles that are open:
+ * sgb_close gives it back, and a call that answers out of memory holds nothing more than before.
  *
  * A graph is named by an expression, as `sgb` takes it: "board(8,8,0,0,-1,0,0)", "petersen()", "lines(stdin,0)". The
  * expression `stdin` is the graph of the `.gb` file whose bytes are handed in as `input`; else these are not looked at. A
