@@ -22,7 +22,7 @@ static csr boost_graph(const sgb::graph &graph) {
     arcs.reserve(graph.tips().size());
     for (std::uint64_t v = 0; v < graph.n(); v++)
         for (std::uint32_t tip : graph.tips(v)) arcs.emplace_back(v, tip);
-    return csr(boost::edges_are_sorted, arcs.begin(), arcs.end(), graph.n());
+    return csr(boost::edges_are_sorted, arcs.begin(), arcs.end(), static_cast<std::uint32_t>(graph.n()));
 }
 
 int main(int count, char **words) {
