@@ -1,7 +1,8 @@
 # make try        a quick look: a request from the sources, nothing proved, about a minute: make try WORDS='list "petersen()"'
 # make            proves every crate, builds the programs, leaves them as ./sgb and ./sgb_levels
 # make demo       that, and three small graphs
-# make examples   tries the examples: forms of listings, by the readers installed, Python, parts of a listing, the cookbook
+# make examples   tries the examples: forms of listings, by the readers installed, Python, parts of a listing, the cookbook,
+#                 and callers of the library for C where make lib has left it
 # make outside    checks the built program from outside: refused memory, failing devices, broken files, tour, examples
 # make conformance  holds the program against a table of graphs and refusals
 # make graphbase GRAPHBASE=FOLDER  holds it against the published library in FOLDER: gb_graph.h .. and libgb.a
@@ -9,7 +10,9 @@
 # make calls      refuses memory to library calls: what stood before stands after, about a minute
 # make check      the gate: all proofs from nothing, must-fail edits, the tests, the program
 # make edits      tries the must-fail edits that the gate leaves out, on a copy
-# make install    puts what is built below $(PREFIX), with its manual page and completion for bash; it builds nothing
+# make lib        proves the library for C, and leaves libsgb.a and libsgb.so (lib.mk)
+# make install    puts what is built below $(PREFIX), with its manual page and completion for bash, and the library for C
+#                 where it is there; it builds nothing
 # make uninstall  takes them away again
 # make clean      removes what was built, and with it what is kept of proofs
 
@@ -48,6 +51,7 @@ examples: sgb
 	python3 examples/sgb_graph_test.py
 	examples/cookbook_test.py ./sgb
 	examples/shards_test.sh
+	examples/callers_test.py ./sgb ./sgb_levels
 
 outside: sgb
 	bench/outside.py ./sgb
@@ -79,6 +83,7 @@ install:
 	install -D $(PROGRAM) $(DESTDIR)$(PREFIX)/bin/sgb
 	install -D -m 644 man/sgb.1 $(DESTDIR)$(PREFIX)/share/man/man1/sgb.1
 	install -D -m 644 completions/sgb.bash $(DESTDIR)$(PREFIX)/share/bash-completion/completions/sgb
+	@[ ! -f libsgb.a ] || $(MAKE) --no-print-directory install-lib
 
 uninstall:
 	rm -f $(DESTDIR)$(PREFIX)/bin/sgb $(DESTDIR)$(PREFIX)/share/man/man1/sgb.1

@@ -1,8 +1,11 @@
 # The library for C: libsgb.a, libsgb.so, and how they are installed. The Makefile includes this.
 #
 # make lib        proves the library for C, and leaves libsgb.a and libsgb.so beside include/sgb.h
-# make install-lib, make uninstall-lib   put them, the header and sgb.pc below $(PREFIX), and take them away again
+# make archives   makes these two of what `rt lib` left in crates/sgb_c/out, without a proof
+# make install-lib, make uninstall-lib   put them, the headers and sgb.pc below $(PREFIX), and take them away again; nothing
+#                 is built. make install does so too where the library is there.
 
+# of the calls, which may still change, and not of the program
 LIB_VERSION = 0.1
 
 # the kit's object with malloc, realloc and free
@@ -27,8 +30,10 @@ archives: FORCE
 	rm -rf out_lib
 	@echo "Done: libsgb.a, libsgb.so, include/sgb.h"
 
-install-lib: lib
+install-lib:
+	@[ -f libsgb.a ] && [ -f libsgb.so ] || { echo "make: libsgb.a and libsgb.so are not there: make lib makes them" >&2; exit 1; }
 	install -D -m 644 include/sgb.h $(DESTDIR)$(PREFIX)/include/sgb.h
+	install -D -m 644 include/sgb.hpp $(DESTDIR)$(PREFIX)/include/sgb.hpp
 	install -D -m 644 libsgb.a $(DESTDIR)$(PREFIX)/lib/libsgb.a
 	install -D -m 755 libsgb.so $(DESTDIR)$(PREFIX)/lib/libsgb.so
 	mkdir -p $(DESTDIR)$(PREFIX)/lib/pkgconfig
@@ -37,7 +42,14 @@ install-lib: lib
 	  'Libs: -L$${libdir} -lsgb' 'Cflags: -I$${includedir}' > $(DESTDIR)$(PREFIX)/lib/pkgconfig/sgb.pc
 
 uninstall-lib:
-	rm -f $(DESTDIR)$(PREFIX)/include/sgb.h $(DESTDIR)$(PREFIX)/lib/libsgb.a $(DESTDIR)$(PREFIX)/lib/libsgb.so
-	rm -f $(DESTDIR)$(PREFIX)/lib/pkgconfig/sgb.pc
+	rm -f $(DESTDIR)$(PREFIX)/include/sgb.h $(DESTDIR)$(PREFIX)/include/sgb.hpp
+	rm -f $(DESTDIR)$(PREFIX)/lib/libsgb.a $(DESTDIR)$(PREFIX)/lib/libsgb.so $(DESTDIR)$(PREFIX)/lib/pkgconfig/sgb.pc
 
-.PHONY: lib archives install-lib uninstall-lib
+clean-lib:
+	rm -rf libsgb.a libsgb.so out_lib
+
+# what takes the program away takes the library away; make install puts both there
+uninstall: uninstall-lib
+clean: clean-lib
+
+.PHONY: lib archives install-lib uninstall-lib clean-lib

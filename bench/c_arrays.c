@@ -3,9 +3,10 @@
  *     c_arrays list EXPR       the listing, put together from the arrays
  *     c_arrays names EXPR      the names, one a line
  *     c_arrays ints EXPR       for each utility field of the vertices its number, the answer, and its integers, on a line
- *     c_arrays answer EXPR     the answer of each call that takes a text, where all its arrays are empty but for sizes
+ *     c_arrays answer EXPR     the answer of sgb_open, and of the calls on this handle, where all their arrays are empty
  *     c_arrays wrong EXPR      each array one too short and one too long: the answer is SGB_WRONG_LENGTH, nothing is written
- *     c_arrays refuse EXPR     each allocation refused in turn: the answer is SGB_NO_ROOM, nothing is written or held
+ *     c_arrays handles EXPR    handles that are open, opened again, closed, closed twice, and two at once
+ *     c_arrays refuse EXPR     each allocation refused in turn: the answer is SGB_NO_ROOM, nothing is opened or held
  *     c_arrays draws START SKIP COUNT M     draws, one a line: uniform ones below M where that is not 0
  *
  * Standard input is the input of the expression. What is not as it must be ends it with status 4 and a line. With COUNTED
@@ -37,7 +38,9 @@ void *__wrap_malloc(size_t size) {
 
 void *__wrap_realloc(void *at, size_t size) {
     if (counting && ++calls == refused) return NULL;
-    return __real_realloc(at, size);
+    void *now = __real_realloc(at, size);
+    if (counting && now && !at) held++;
+    return now;
 }
 
 void __wrap_free(void *at) {
@@ -56,6 +59,7 @@ static size_t text_len;
 static char *input;
 static size_t input_len;
 
+static sgb_graph graph = SGB_NO_GRAPH;
 static sgb_graph_sizes sizes;
 static uint64_t *starts, *name_starts;
 static uint32_t *tips;
@@ -101,22 +105,29 @@ static void make_arrays(void) {
     id = array(sizes.id, 1);
 }
 
-static uint64_t get_sizes(void) { return sgb_sizes(text, text_len, input, input_len, &sizes); }
-
-static uint64_t get_rows(int a, int b, int c) {
-    return sgb_rows(text, text_len, input, input_len, starts, sizes.vertices + 1 + a, tips, sizes.listed + b,
-                    lengths, sizes.listed + c);
+static void free_arrays(void) {
+    free(starts);
+    free(name_starts);
+    free(tips);
+    free(lengths);
+    free(values);
+    free(names);
+    free(id);
 }
 
-static uint64_t get_names(int a, int b) {
-    return sgb_names(text, text_len, input, input_len, name_starts, sizes.vertices + 1 + a, names, sizes.names + b);
+static uint64_t open_graph(sgb_graph *at) { return sgb_open(text, text_len, input, input_len, at); }
+
+static uint64_t get_rows(sgb_graph *at, int a, int b, int c) {
+    return sgb_rows(at, starts, sizes.vertices + 1 + a, tips, sizes.listed + b, lengths, sizes.listed + c);
 }
 
-static uint64_t get_id(int a) { return sgb_id(text, text_len, input, input_len, id, sizes.id + a); }
-
-static uint64_t get_ints(uint32_t field, int a) {
-    return sgb_ints(text, text_len, input, input_len, field, values, sizes.vertices + a);
+static uint64_t get_names(sgb_graph *at, int a, int b) {
+    return sgb_names(at, name_starts, sizes.vertices + 1 + a, names, sizes.names + b);
 }
+
+static uint64_t get_id(sgb_graph *at, int a) { return sgb_id(at, id, sizes.id + a); }
+
+static uint64_t get_ints(sgb_graph *at, uint32_t field, int a) { return sgb_ints(at, field, values, sizes.vertices + a); }
 
 static void must(uint64_t answer, uint64_t wanted, const char *what) {
     if (answer != wanted) {
@@ -137,9 +148,9 @@ static void all_untouched(const char *what) {
 static void put_name(uint64_t v) { fwrite(names + name_starts[v], 1, name_starts[v + 1] - name_starts[v], stdout); }
 
 static void list(void) {
-    must(get_rows(0, 0, 0), SGB_OK, "sgb_rows");
-    must(get_names(0, 0), SGB_OK, "sgb_names");
-    must(get_id(0), SGB_OK, "sgb_id");
+    must(get_rows(&graph, 0, 0, 0), SGB_OK, "sgb_rows");
+    must(get_names(&graph, 0, 0), SGB_OK, "sgb_names");
+    must(get_id(&graph, 0), SGB_OK, "sgb_id");
     printf("  The graph whose official name is\n%.*s\n  has %" PRIu64 " vertices and %" PRIu64 " arcs:\n\n",
            (int)sizes.id, id, sizes.vertices, sizes.arcs);
     for (uint64_t v = 0; v < sizes.vertices; v++) {
@@ -158,7 +169,7 @@ static void list(void) {
 }
 
 static void list_names(void) {
-    must(get_names(0, 0), SGB_OK, "sgb_names");
+    must(get_names(&graph, 0, 0), SGB_OK, "sgb_names");
     for (uint64_t v = 0; v < sizes.vertices; v++) {
         put_name(v);
         putchar('\n');
@@ -167,7 +178,7 @@ static void list_names(void) {
 
 static void list_ints(void) {
     for (uint32_t field = 0; field < 7; field++) {
-        uint64_t answer = get_ints(field, 0);
+        uint64_t answer = get_ints(&graph, field, 0);
         printf("%" PRIu32 " %" PRIu64, field, answer);
         for (uint64_t v = 0; answer == SGB_OK && v < sizes.vertices; v++) printf(" %" PRId64, values[v]);
         putchar('\n');
@@ -176,67 +187,178 @@ static void list_ints(void) {
 
 static void wrong(void) {
     for (int by = -1; by <= 1; by += 2) {
-        must(get_rows(by, 0, 0), SGB_WRONG_LENGTH, "sgb_rows with wrong starts");
+        must(get_rows(&graph, by, 0, 0), SGB_WRONG_LENGTH, "sgb_rows with wrong starts");
         if (by > 0 || sizes.listed > 0) {
-            must(get_rows(0, by, 0), SGB_WRONG_LENGTH, "sgb_rows with wrong tips");
-            must(get_rows(0, 0, by), SGB_WRONG_LENGTH, "sgb_rows with wrong lengths");
+            must(get_rows(&graph, 0, by, 0), SGB_WRONG_LENGTH, "sgb_rows with wrong tips");
+            must(get_rows(&graph, 0, 0, by), SGB_WRONG_LENGTH, "sgb_rows with wrong lengths");
         }
-        must(get_names(by, 0), SGB_WRONG_LENGTH, "sgb_names with wrong starts");
-        if (by > 0 || sizes.names > 0) must(get_names(0, by), SGB_WRONG_LENGTH, "sgb_names with wrong bytes");
-        must(get_id(by), SGB_WRONG_LENGTH, "sgb_id");
+        must(get_names(&graph, by, 0), SGB_WRONG_LENGTH, "sgb_names with wrong starts");
+        if (by > 0 || sizes.names > 0) must(get_names(&graph, 0, by), SGB_WRONG_LENGTH, "sgb_names with wrong bytes");
+        must(get_id(&graph, by), SGB_WRONG_LENGTH, "sgb_id");
         if (by > 0 || sizes.vertices > 0) {
-            uint64_t fitting = get_ints(3, 0);
+            uint64_t fitting = get_ints(&graph, 3, 0);
             memset(values, 0x5a, (sizes.vertices + 2) * sizeof *values);
-            must(get_ints(3, by), fitting == SGB_OK ? SGB_WRONG_LENGTH : SGB_NO_INTEGERS, "sgb_ints");
+            must(get_ints(&graph, 3, by), fitting == SGB_OK ? SGB_WRONG_LENGTH : SGB_NO_INTEGERS, "sgb_ints");
         }
         all_untouched("an array of a wrong length is written to");
     }
-    must(get_ints(6, 0), SGB_NO_INTEGERS, "sgb_ints of field 6");
-    must(get_ints(UINT32_MAX, 0), SGB_NO_INTEGERS, "sgb_ints of the last field");
+    must(get_ints(&graph, 6, 0), SGB_NO_INTEGERS, "sgb_ints of field 6");
+    must(get_ints(&graph, UINT32_MAX, 0), SGB_NO_INTEGERS, "sgb_ints of the last field");
     all_untouched("an array for no field is written to");
     puts("right");
 }
 
-static uint64_t one(int which) {
+/* Each call on a handle that holds no graph says so, and writes nothing. */
+static void is_closed(sgb_graph *at) {
+    if (at->is_open) fail("a handle of no graph is open");
     sgb_graph_sizes there;
-    switch (which) {
-    case 0: return sgb_sizes(text, text_len, input, input_len, &there);
-    case 1: return get_rows(0, 0, 0);
-    case 2: return get_names(0, 0);
-    case 3: return get_id(0);
-    default: return get_ints(3, 0);
-    }
+    memset(&there, 0x5a, sizeof there);
+    make_arrays();
+    must(sgb_sizes(at, &there), SGB_NOT_OPEN, "sgb_sizes of no graph");
+    must(get_rows(at, 0, 0, 0), SGB_NOT_OPEN, "sgb_rows of no graph");
+    must(get_names(at, 0, 0), SGB_NOT_OPEN, "sgb_names of no graph");
+    must(get_id(at, 0), SGB_NOT_OPEN, "sgb_id of no graph");
+    for (uint32_t field = 0; field < 7; field++)
+        must(get_ints(at, field, 0), SGB_NOT_OPEN, "sgb_ints of no graph");
+    all_untouched("written to without a graph");
+    const unsigned char *bytes = (const unsigned char *)&there;
+    for (size_t k = 0; k < sizeof there; k++)
+        if (bytes[k] != 0x5a) fail("sizes are written without a graph");
+    free_arrays();
+}
+
+/* The handle holds a graph whose arrays are those of `sizes` and of the arrays that are kept. */
+static void is_graph(sgb_graph *at, const sgb_graph_sizes *wanted, const uint64_t *rows, const uint32_t *ends,
+                     const char *bytes) {
+    if (!at->is_open || !at->held) fail("the handle of a graph is not open");
+    must(sgb_sizes(at, &sizes), SGB_OK, "sgb_sizes");
+    if (memcmp(&sizes, wanted, sizeof sizes) != 0) fail("other sizes than before");
+    make_arrays();
+    must(get_rows(at, 0, 0, 0), SGB_OK, "sgb_rows");
+    must(get_names(at, 0, 0), SGB_OK, "sgb_names");
+    if (memcmp(starts, rows, (sizes.vertices + 1) * sizeof *starts) != 0 || memcmp(tips, ends, sizes.listed * sizeof *tips) != 0
+        || memcmp(names, bytes, sizes.names) != 0)
+        fail("other arrays than before");
+    free_arrays();
+}
+
+static void handles(void) {
+    static const char other[] = "simplex(3,-3,0,0,0,0,0)";
+    sgb_graph second = SGB_NO_GRAPH;
+    /* what the first graph is */
+    must(get_rows(&graph, 0, 0, 0), SGB_OK, "sgb_rows");
+    must(get_names(&graph, 0, 0), SGB_OK, "sgb_names");
+    sgb_graph_sizes wanted = sizes, others;
+    uint64_t *rows = starts;
+    uint32_t *ends = tips;
+    char *bytes = names;
+    starts = NULL;
+    tips = NULL;
+    names = NULL;
+    free_arrays();
+    /* it stays where a graph is opened over it, also one that is refused */
+    must(open_graph(&graph), SGB_ALREADY_OPEN, "opening it again");
+    must(sgb_open(other, strlen(other), "", 0, &graph), SGB_ALREADY_OPEN, "opening another one over it");
+    must(sgb_open("board(3,", 8, "", 0, &graph), SGB_ALREADY_OPEN, "a bad text over it");
+    is_graph(&graph, &wanted, rows, ends, bytes);
+    /* two at once: another graph, which is none of this one's */
+    must(sgb_sizes(&second, &others), SGB_NOT_OPEN, "sgb_sizes of a second handle");
+    must(sgb_open(other, strlen(other), "", 0, &second), SGB_OK, "a second graph");
+    must(sgb_sizes(&second, &others), SGB_OK, "sgb_sizes of the second graph");
+    if (others.vertices != 20 || others.arcs != 120) fail("the second graph is another one");
+    is_graph(&graph, &wanted, rows, ends, bytes);
+    sgb_close(&second);
+    is_closed(&second);
+    is_graph(&graph, &wanted, rows, ends, bytes);
+    /* two of the same text, of which the first is closed first */
+    must(open_graph(&second), SGB_OK, "the same graph again");
+    sgb_close(&graph);
+    is_closed(&graph);
+    is_graph(&second, &wanted, rows, ends, bytes);
+    sgb_close(&graph);
+    is_closed(&graph);
+    is_graph(&second, &wanted, rows, ends, bytes);
+    /* a handle that was closed is opened again; one that was refused is closed */
+    must(open_graph(&graph), SGB_OK, "opening a handle that was closed");
+    is_graph(&graph, &wanted, rows, ends, bytes);
+    sgb_close(&second);
+    sgb_close(&second);
+    is_closed(&second);
+    must(sgb_open("board(3,", 8, "", 0, &second), SGB_BAD_EXPRESSION + 8, "a bad text");
+    is_closed(&second);
+    is_graph(&graph, &wanted, rows, ends, bytes);
+    free(rows);
+    free(ends);
+    free(bytes);
+    puts("right");
+}
+
+/* Opens the graph, with the allocation of that number refused where it is not 0, and counts. */
+static uint64_t counted(uint64_t number) {
+    calls = held = 0;
+    refused = number;
+    counting = 1;
+    uint64_t answer = open_graph(&graph);
+    counting = 0;
+    return answer;
 }
 
 static void refuse(void) {
-    size_t tried = 0;
-    for (int which = 0; which < 5; which++) {
-        counting = 0;
-        uint64_t usual = one(which);
-        make_arrays();
-        for (refused = 1;; refused++) {
-            calls = held = 0;
+    size_t refusals = 0;
+    /* another graph is open meanwhile, and stays as it is */
+    sgb_graph other = SGB_NO_GRAPH;
+    must(open_graph(&other), SGB_OK, "a second graph");
+    must(get_rows(&graph, 0, 0, 0), SGB_OK, "sgb_rows");
+    must(get_names(&graph, 0, 0), SGB_OK, "sgb_names");
+    sgb_graph_sizes wanted = sizes;
+    uint64_t *rows = starts;
+    uint32_t *ends = tips;
+    char *bytes = names;
+    starts = NULL;
+    tips = NULL;
+    names = NULL;
+    sgb_close(&graph);
+    free_arrays();
+    for (uint64_t number = 1;; number++) {
+        uint64_t answer = counted(number);
+        size_t asked = calls;
+        if (answer == SGB_OK) {
+            /* with all its memory, or without room that is asked for ahead: the calls on it take none */
+            make_arrays();
+            calls = 0;
+            size_t before = held;
+            sgb_graph_sizes there;
             counting = 1;
-            uint64_t answer = one(which);
+            must(sgb_sizes(&graph, &there), SGB_OK, "sgb_sizes");
+            must(get_rows(&graph, 0, 0, 0), SGB_OK, "sgb_rows");
+            must(get_names(&graph, 0, 0), SGB_OK, "sgb_names");
+            must(get_id(&graph, 0), SGB_OK, "sgb_id");
+            get_ints(&graph, 3, 0);
             counting = 0;
-            if (held != 0) fail("memory is held after a call");
-            if (calls < refused) {
-                must(answer, usual, "a call with all its memory");
-                break;
-            }
-            /* room that is asked for ahead may be refused: the answer is then as usual */
-            if (answer != usual) {
-                must(answer, SGB_NO_ROOM, "a call that is refused memory");
-                all_untouched("written to after a refusal");
-            } else {
-                make_arrays();
-            }
-            tried++;
+            if (calls != 0 || held != before) fail("a call on a graph takes or gives back memory");
+            if (before == 0) fail("an open graph holds no memory");
+            if (memcmp(&there, &sizes, sizeof sizes) != 0) fail("other sizes than before");
+            counting = 1;
+            sgb_close(&graph);
+            counting = 0;
+            if (held != 0) fail("memory is held after sgb_close");
+            free_arrays();
+        } else {
+            must(answer, SGB_NO_ROOM, "opening that is refused memory");
+            if (asked < number) fail("no memory was refused, but the graph was");
+            if (held != 0) fail("memory is held after a refusal");
+            refusals++;
         }
+        is_closed(&graph);
+        if (asked < number) break;
     }
-    refused = 0;
-    if (tried == 0) fail("no call asked for memory");
-    printf("right %zu\n", tried);
+    if (refusals == 0) fail("no call asked for memory");
+    is_graph(&other, &wanted, rows, ends, bytes);
+    sgb_close(&other);
+    free(rows);
+    free(ends);
+    free(bytes);
+    printf("right %zu\n", refusals);
 }
 
 static void answer(void) {
@@ -244,10 +366,13 @@ static void answer(void) {
     uint64_t wide[1];
     uint32_t narrow[1];
     int64_t number[1];
-    printf("%" PRIu64 " %" PRIu64 " %" PRIu64 " %" PRIu64 " %" PRIu64 "\n", get_sizes(),
-           sgb_rows(text, text_len, input, input_len, wide, 0, narrow, 0, number, 0),
-           sgb_names(text, text_len, input, input_len, wide, 0, none, 0),
-           sgb_ints(text, text_len, input, input_len, 9, number, 0), sgb_id(text, text_len, input, input_len, none, 0));
+    sgb_graph_sizes there;
+    uint64_t opened = open_graph(&graph);
+    printf("%" PRIu64 " %" PRIu64 " %" PRIu64 " %" PRIu64 " %" PRIu64 " %" PRIu64 "\n", opened, sgb_sizes(&graph, &there),
+           sgb_rows(&graph, wide, 0, narrow, 0, number, 0), sgb_names(&graph, wide, 0, none, 0),
+           sgb_ints(&graph, 9, number, 0), sgb_id(&graph, none, 0));
+    sgb_close(&graph);
+    is_closed(&graph);
 }
 
 static int draws(char **words) {
@@ -278,13 +403,16 @@ int main(int count, char **words) {
         answer();
         return 0;
     }
-    must(get_sizes(), SGB_OK, "sgb_sizes");
+    must(open_graph(&graph), SGB_OK, "sgb_open");
+    must(sgb_sizes(&graph, &sizes), SGB_OK, "sgb_sizes");
     make_arrays();
     if (strcmp(words[1], "list") == 0) list();
     else if (strcmp(words[1], "names") == 0) list_names();
     else if (strcmp(words[1], "ints") == 0) list_ints();
     else if (strcmp(words[1], "wrong") == 0) wrong();
+    else if (strcmp(words[1], "handles") == 0) handles();
     else if (strcmp(words[1], "refuse") == 0) refuse();
     else fail("usage");
+    sgb_close(&graph);
     return 0;
 }

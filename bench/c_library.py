@@ -1,7 +1,8 @@
 """Checks of the library for C, for bench/outside.py: a C program on it gives what the program `sgb` writes.
 
-bench/c_arrays.c is compiled against include/sgb.h, once with libsgb.a and once with libsgb.so. Without these files, which
-`make lib` leaves, or without cc, the checks are left out, and a line says so.
+bench/c_arrays.c is compiled against include/sgb.h, once with libsgb.a and once with libsgb.so. The archives are made of what
+`rt lib` left in crates/sgb_c/out; without that, those that are there are used. Where there are none, the checks fail: only
+with OUTSIDE_WITHOUT_LIBRARY=1 are they left out, and a line says so.
 """
 
 import os
@@ -55,14 +56,27 @@ ANSWERS = [
 ]
 
 
-def libraries():
-    """The two libraries with the words that link with each, as far as they are there."""
-    found = []
-    for name in ("libsgb.a", "libsgb.so"):
-        path = os.path.join(TOP, name)
-        if os.path.exists(path):
-            found.append((name, [path, "-Wl,-rpath," + TOP] if name.endswith(".so") else [path]))
-    return found
+ARCHIVE = os.path.join(TOP, "crates/sgb_c/out/libsgb_c.a")
+LIBRARIES = {
+    "libsgb.a": [os.path.join(TOP, "libsgb.a")],
+    "libsgb.so": [os.path.join(TOP, "libsgb.so"), "-Wl,-rpath," + TOP],
+}
+
+
+def library(runs, tally):
+    """libsgb.a and libsgb.so are made of the archive that was proved and built, where it is there."""
+    if os.path.exists(ARCHIVE):
+        got = ran("make", "-s", "-C", TOP, "archives")
+        tally.check(got[0] == 0, "make archives gave", got)
+    for name in LIBRARIES:
+        tally.check(os.path.exists(os.path.join(TOP, name)), name, "is not there: make lib")
+
+
+def is_there(tally, *names):
+    """Whether these libraries are there; it is a failure where one is not."""
+    missing = [name for name in names if not os.path.exists(os.path.join(TOP, name))]
+    tally.check(not missing, " ".join(missing), "not tried: not there")
+    return not missing
 
 
 def compiled(runs, tally, link, name, more=()):
@@ -75,9 +89,26 @@ def compiled(runs, tally, link, name, more=()):
     return path if got.returncode == 0 else None
 
 
-def ran(*words, given=b""):
-    got = subprocess.run(words, input=given, capture_output=True, check=False, timeout=120)
+def ran(*words, given=b"", more=None):
+    # a make that this one runs in has no orders for those that are run here
+    environment = {name: value for name, value in os.environ.items() if not name.startswith("MAKE")}
+    environment.update(more or {})
+    got = subprocess.run(words, input=given, env=environment, capture_output=True, check=False, timeout=120)
     return got.returncode, got.stdout, got.stderr
+
+
+def input_of(expression):
+    return SHARED if "stdin" in expression else b""
+
+
+KEPT = {}
+
+
+def said(program, word, expression):
+    """What the program says, which is asked once."""
+    if (word, expression) not in KEPT:
+        KEPT[word, expression] = ran(program, word, expression, given=input_of(expression))
+    return KEPT[word, expression]
 
 
 def fields_of(file):
@@ -102,29 +133,40 @@ def fields_of(file):
     return "".join(line + "\n" for line in lines).encode()
 
 
-def tables(runs, tally, program, path):
+def tables(tally, program, path):
+    """The arrays of all expressions; wrong lengths; several handles."""
     for expression in EXPRESSIONS:
-        given = SHARED if "stdin" in expression else b""
+        given = input_of(expression)
         for word in ("list", "names"):
-            tally.same((path, word, expression), ran(path, word, expression, given=given), ran(program, word, expression, given=given))
-        status, saved, _ = ran(program, "save", expression, given=given)
-        tally.same((path, "ints", expression), ran(path, "ints", expression, given=given), (0, fields_of(saved), b"") if status == 0 else None)
-        tally.same((path, "wrong", expression), ran(path, "wrong", expression, given=given), (0, b"right\n", b""))
+            tally.same((path, word, expression), ran(path, word, expression, given=given), said(program, word, expression))
+        status, saved, _ = said(program, "save", expression)
+        wanted = (0, fields_of(saved), b"") if status == 0 else None
+        tally.same((path, "ints", expression), ran(path, "ints", expression, given=given), wanted)
+        for word in ("wrong", "handles"):
+            tally.same((path, word, expression), ran(path, word, expression, given=given), (0, b"right\n", b""))
 
 
-def refusals(runs, tally, program, path):
-    for text, given, number in ANSWERS:
-        # the arrays are empty, which no graph of these has; so the number of the text comes first
-        wanted = " ".join([str(number)] * 5) + "\n"
+def refusals(tally, program, path):
+    """Texts and files that are no graph: the answer, after which the handle holds none."""
+    # a file that ends too early, wherever it does
+    files = [("stdin", SHARED[:size], None) for size in range(len(SHARED) - 1)]
+    for text, given, number in ANSWERS + files:
+        status, _, err = ran(program, "names", text, given=given)
+        told = re.fullmatch(rb"Something went wrong \(panic code ([0-9]+)\)!\n|sgb: bad expression at byte ([0-9]+)\n", err)
+        if number is None:
+            number = int(told[1] or -1) if told else -1
+        elif number != 100:
+            is_told = told and number in (int(told[1] or -1), 1000 + int(told[2] or -1001))
+            tally.check(is_told, program, "names", text[:40], "gave", (status, err), "and not", str(number))
+        # the answer of sgb_open, and of the five calls on a handle that was not opened
+        wanted = " ".join([str(number)] + ["105"] * 5) + "\n"
         # a text of 65,537 bytes is a word of a command line
         tally.same((path, "answer", text[:40]), ran(path, "answer", text, given=given), (0, wanted.encode(), b""))
-        status = ran(program, "names", text, given=given)[0]
-        tally.check(status in (1, 2), program, "names", text[:40], "gave", status)
-    # arrays of a wrong length are told of only where there is a graph
-    tally.same((path, "answer", "complete(2)"), ran(path, "answer", "complete(2)"), (0, b"0 101 101 102 101\n", b""))
+    # arrays of a wrong length, and a field that there is not, are told of only where there is a graph
+    tally.same((path, "answer", "complete(2)"), ran(path, "answer", "complete(2)"), (0, b"0 0 101 101 102 101\n", b""))
 
 
-def draws(runs, tally, program, path):
+def draws(tally, program, path):
     for words in ("-314159 0 200 0", "0 54 60 0", "1 1000000000 5 0", "-314159 0 200 1000", "7 133 50 2147483648", "7 133 50 1",
                   "999999999 3 4 6", "-999999999 3 4 1234567890", "5 5 0 5"):
         start, skip, count, m = words.split()
@@ -132,96 +174,157 @@ def draws(runs, tally, program, path):
         tally.same((path, "draws", words), ran(path, "draws", start, skip, count, m), ran(program, "flip", flip))
 
 
-def checks_of(program, name, link):
+def checks_of(program, name):
     def checks(runs, tally):
-        path = compiled(runs, tally, link, "c_" + name)
+        path = is_there(tally, name) and compiled(runs, tally, LIBRARIES[name], "c_" + name)
         if path:
-            tables(runs, tally, program, path)
-            refusals(runs, tally, program, path)
-            draws(runs, tally, program, path)
+            tables(tally, program, path)
+            refusals(tally, program, path)
+            draws(tally, program, path)
 
     return checks
 
 
-def memory(link):
-    def checks(runs, tally):
-        path = compiled(runs, tally, link, "c_counted", WRAPPED)
-        for expression in EXPRESSIONS if path else ():
-            if "60,60" in expression:
-                continue
+def memory(runs, tally):
+    """Each allocation refused in turn, with malloc counted against free."""
+    path = is_there(tally, "libsgb.a") and compiled(runs, tally, LIBRARIES["libsgb.a"], "c_counted", WRAPPED)
+    for expression in EXPRESSIONS if path else ():
+        if "60,60" not in expression:
             status, out, err = ran(path, "refuse", expression, given=SHARED)
-            tally.check(status == 0 and re.fullmatch(rb"right [1-9][0-9]*\n", out) and not err, path, "refuse", expression, (status, out, err))
-
-    return checks
-
-
-LISTED = """
-import sys, sgb
-graph = sgb.graph(sys.argv[1], sys.stdin.buffer.read())
-print(f"  The graph whose official name is\\n{graph.id}\\n  has {graph.n} vertices and {graph.m} arcs:\\n")
-for v in range(graph.n):
-    print(graph.names[v])
-    for k in range(int(graph.starts[v]), int(graph.starts[v + 1])):
-        print(f"  -> {graph.names[graph.tips[k]]}, length {graph.lengths[k]}")
-"""
+            is_right = status == 0 and re.fullmatch(rb"right [1-9][0-9]*\n", out) and not err
+            tally.check(is_right, path, "refuse", expression, "gave", (status, out, err))
 
 
-def structures(program, link):
+def structures(program):
     def checks(runs, tally):
         """examples/c/graphbase.c walks structures as GB_GRAPH's, and prints the listings of the program."""
+        if not is_there(tally, "libsgb.a"):
+            return
         path = os.path.join(runs.folder, "graphbase")
-        words = ["cc", *WARNINGS, "-I", os.path.join(TOP, "include"), os.path.join(TOP, "examples/c/graphbase.c"), "-o", path, *link]
+        source = os.path.join(TOP, "examples/c/graphbase.c")
+        words = ["cc", *WARNINGS, "-I", os.path.join(TOP, "include"), source, "-o", path, *LIBRARIES["libsgb.a"]]
         got = subprocess.run(words, capture_output=True, check=False)
         tally.check(got.returncode == 0 and not got.stderr, " ".join(words), "gave", (got.returncode, got.stderr))
         for expression in EXPRESSIONS if got.returncode == 0 else ():
-            given = SHARED if "stdin" in expression else b""
-            tally.same(("graphbase", expression), ran(path, expression, given=given), ran(program, "list", expression, given=given))
+            seen = ran(path, expression, given=input_of(expression))
+            tally.same(("graphbase", expression), seen, said(program, "list", expression))
 
     return checks
+
+
+INSTALLED = """
+#include <sgb.h>
+#include <stdio.h>
+int main(void) {
+    char id[160];
+    sgb_graph graph = SGB_NO_GRAPH;
+    sgb_graph_sizes sizes;
+    if (sgb_open("complete(2)", 11, "", 0, &graph) || sgb_sizes(&graph, &sizes) || sgb_id(&graph, id, sizes.id)) return 1;
+    sgb_close(&graph);
+    printf("%.*s\\n", (int)sizes.id, id);
+}
+"""
 
 
 def python_package(program):
     def checks(runs, tally):
-        """The package in python/ gives the listings of some graphs, and its errors have the answers."""
-        environment = dict(os.environ, PYTHONPATH=os.path.join(TOP, "python"), SGB_LIBRARY=os.path.join(TOP, "libsgb.so"))
-
-        def run(*words, given=b""):
-            got = subprocess.run([sys.executable, *words], input=given, env=environment, capture_output=True, check=False)
-            return got.returncode, got.stdout, got.stderr
-
-        for expression in EXPRESSIONS[::6] + ["stdin"]:
-            given = SHARED if "stdin" in expression else b""
-            tally.same(("python", expression), run("-c", LISTED, expression, given=given), ran(program, "list", expression, given=given))
-        for text, given, number in ANSWERS[:13]:
-            tell = "import sys, sgb\ntry: sgb.graph(sys.argv[1], sys.stdin.buffer.read())\nexcept sgb.GraphError as why: print(why.code)"
-            tally.same(("python", text), run("-c", tell, text, given=given), (0, b"%d\n" % number, b""))
-        tell = "import sgb; print(list(sgb.flip(-314159, 2, 3, 1000)), list(sgb.graph('board(2,2,0,0,1,0,0)').ints('y')))"
-        drawn = ran(program, "flip", "flip(-314159,2,3,1000)")[1].split()
-        tally.same("python: draws and integers", run("-c", tell), (0, b"[" + b", ".join(drawn) + b"] [0, 1, 0, 1]\n", b""))
+        """The tests of the package in python/, without numpy, and with it where it is installed."""
+        if not is_there(tally, "libsgb.so"):
+            return
+        more = {"SGB_LIBRARY": os.path.join(TOP, "libsgb.so"), "PYTHONDONTWRITEBYTECODE": "1"}
+        tests = os.path.join(TOP, "python/tests.py")
+        for without in ("1", ""):
+            if not without and ran(sys.executable, "-c", "import numpy")[0] != 0:
+                print("  skipped, without numpy: the Python package with its arrays")
+                continue
+            status, out, err = ran(sys.executable, tests, program, more=dict(more, SGB_WITHOUT_NUMPY=without))
+            is_right = status == 0 and re.search(rb"^Ran [1-9]", err, re.M)
+            tally.check(is_right, tests, "without" if without else "with", "numpy gave", (status, out, err[-300:]))
 
     return checks
 
 
+def class_of_cpp(runs, tally):
+    """The class of sgb.hpp: moved, closed, refused."""
+    if not shutil.which("c++"):
+        print("  skipped, without c++: include/sgb.hpp")
+        return
+    if not is_there(tally, "libsgb.a"):
+        return
+    path = os.path.join(runs.folder, "cpp_graph")
+    source = os.path.join(TOP, "bench/cpp_graph.cpp")
+    words = ["c++", "-std=c++20", *WARNINGS[1:], "-I", os.path.join(TOP, "include"), source, *LIBRARIES["libsgb.a"]]
+    status, out, err = ran(*words, "-Wl,--wrap=sgb_close", "-o", path)
+    tally.check(status == 0 and not err, " ".join(words), "gave", (status, out, err))
+    if status == 0:
+        tally.same(path, ran(path), (0, b"right\n", b""))
+
+
+def installed(runs, tally):
+    """A program that finds the installed library by pkg-config; and all of it is taken away again."""
+    prefix, source = os.path.join(runs.folder, "prefix"), os.path.join(runs.folder, "id.c")
+    if not is_there(tally, *LIBRARIES):
+        return
+    tally.same("make install-lib", ran("make", "-s", "-C", TOP, "install-lib", "PREFIX=" + prefix), (0, b"", b""))
+    if shutil.which("pkg-config"):
+        where = {"PKG_CONFIG_PATH": prefix + "/lib/pkgconfig"}
+        status, flags, err = ran("pkg-config", "--cflags", "--libs", "sgb", more=where)
+        tally.check(status == 0, "pkg-config gave", (status, flags, err))
+        with open(source, "w", encoding="utf-8") as file:
+            file.write(INSTALLED)
+        path = os.path.join(runs.folder, "id")
+        got = ran("cc", source, "-o", path, *flags.decode().split())
+        tally.same("cc, installed", got, (0, b"", b""))
+        if got[0] == 0:
+            seen = ran(path, more={"LD_LIBRARY_PATH": prefix + "/lib"})
+            tally.same((path,), seen, (0, b"board(2,0,0,0,-1,0,0)\n", b""))
+    else:
+        print("  skipped, without pkg-config: a program on the installed library")
+    tally.same("make uninstall-lib", ran("make", "-s", "-C", TOP, "uninstall-lib", "PREFIX=" + prefix), (0, b"", b""))
+    left = [name for _, _, names in os.walk(prefix) for name in names]
+    tally.check(not left, "make uninstall-lib leaves", left)
+
+
+def page(document):
+    def checks(runs, tally):
+        """The commands of docs/CALLING_FROM_C.md give what stands there."""
+        if is_there(tally, *LIBRARIES):
+            document("docs/CALLING_FROM_C.md", 9)(runs, tally)
+
+    return checks
+
+
+CALLED = {"malloc", "realloc", "free", "memcpy", "memmove", "memset"}
+
+
 def exports(runs, tally):
-    """libsgb.so shows the calls of sgb.h and no others."""
+    """libsgb.so shows the calls of sgb.h and no others, and calls what sgb.h says."""
+    if not shutil.which("nm"):
+        print("  skipped, without nm: the symbols of libsgb.so")
+        return
+    if not is_there(tally, "libsgb.so"):
+        return
     got = subprocess.run(["nm", "-D", "--defined-only", os.path.join(TOP, "libsgb.so")], capture_output=True, check=False)
     shown = sorted(line.split()[2].decode() for line in got.stdout.splitlines())
     with open(os.path.join(TOP, "include/sgb.h"), encoding="utf-8") as file:
         wanted = sorted(re.findall(r"^(?:uint64_t|void) (sgb_\w+)\(", file.read(), re.M))
     tally.same("the symbols of libsgb.so", shown, wanted)
+    got = subprocess.run(["nm", "-D", "--undefined-only", os.path.join(TOP, "libsgb.so")], capture_output=True, check=False)
+    called = {line.split()[1].split("@")[0] for line in got.stdout.decode().splitlines() if line.split()[0] == "U"}
+    tally.check("malloc" in called and called <= CALLED, "libsgb.so calls", " ".join(sorted(called)))
 
 
-def all_checks(program):
-    found = libraries()
-    if not found or not shutil.which("cc"):
-        print("  skipped, without cc or what `make lib` leaves: the library for C")
+def all_checks(program, document):
+    if os.environ.get("OUTSIDE_WITHOUT_LIBRARY") == "1":
+        print("  skipped, as OUTSIDE_WITHOUT_LIBRARY says: the library for C")
         return
-    for name, link in found:
-        yield f"library {name}", checks_of(program, name, link)
-        if name.endswith(".a"):
-            yield "library's memory", memory(link)
-            yield "library's structures", structures(program, link)
-        else:
-            yield "python package", python_package(program)
-            if shutil.which("nm"):
-                yield "library's exports", exports
+    yield "library", library
+    for name in LIBRARIES:
+        yield f"library {name}", checks_of(program, name)
+    yield "library memory", memory
+    yield "library exports", exports
+    yield "library structures", structures(program)
+    yield "library python", python_package(program)
+    yield "library C++", class_of_cpp
+    yield "library installed", installed
+    yield "document docs/CALLING_FROM_C.md", page(document)

@@ -4,9 +4,10 @@
     make outside
 
 It runs the program with memory refused, with devices that fail, with broken files, with the commands of the tour, and with
-the scripts of examples/ (bench/scripts.py). It prints what failed, and last how many checks passed and failed. With words,
-it makes only the checks whose names hold one of them. Where PROGRAM is a script, OUTSIDE_PROGRAM names the executable that it runs, in which memory is then refused;
-OUTSIDE_SECONDS gives a slow one more time for each run.
+the scripts of examples/ (bench/scripts.py); programs in C and Python are held against it that use the library for C
+(bench/c_library.py). It prints what failed, and last how many checks passed and failed. With words, it makes only the checks
+whose names hold one of them. Where PROGRAM is a script, OUTSIDE_PROGRAM names the executable that it runs, in which memory is
+then refused; OUTSIDE_SECONDS gives a slow one more time for each run; OUTSIDE_WITHOUT_LIBRARY=1 leaves the library for C out.
 """
 
 import collections
@@ -27,6 +28,7 @@ import termios
 import time
 import tty
 
+import c_library
 import conformance
 import great_listings
 import random_requests
@@ -552,14 +554,14 @@ def commands(path):
 
 
 class Shell:
-    """A folder with the program as sgb and the examples, in which commands are run."""
+    """A folder with the program as sgb, the examples and the library for C, in which commands are run."""
 
     def __init__(self, runs, name):
         self.folder = os.path.join(runs.folder, name)
         os.mkdir(self.folder)
         os.symlink(PROGRAM, os.path.join(self.folder, "sgb"))
         os.symlink(os.path.join(TOP, "crates/sgb_levels/out/sgb_levels"), os.path.join(self.folder, "sgb_levels"))
-        for there in ("conformance", "examples"):
+        for there in ("conformance", "examples", "include", "python", "libsgb.a", "libsgb.so"):
             os.symlink(os.path.join(TOP, there), os.path.join(self.folder, there))
         self.environment = dict(os.environ, PATH=self.folder + os.pathsep + os.environ.get("PATH", os.defpath))
 
@@ -585,13 +587,14 @@ def document(path, wanted):
         found = commands(os.path.join(TOP, path))
         tally.check(len(found) >= wanted, path, "has only so many commands:", len(found))
         for command, lines in found:
-            name = re.fullmatch("cat ([a-z]+[.]gb)", command)
+            name = re.fullmatch("cat ([A-Za-z]+[.](gb|c|cpp|py|rs|toml))", command)
             if name and not os.path.exists(shell.file(name[1])):
                 # a file that is written by hand, as it is shown
                 with open(shell.file(name[1]), "w", encoding="utf-8") as file:
                     file.write("".join(line + "\n" for line in lines))
-            if "<(" in command and not shutil.which("bash"):
-                print(f"  skipped, without bash: {command}")
+            needed = "bash" if "<(" in command else command.split()[0]
+            if needed in ("bash", "c++", "cargo") and not shutil.which(needed):
+                print(f"  skipped, without {needed}: {command}")
                 continue
             is_cut = lines[-1:] == [".."]
             text = "".join(line + "\n" for line in (lines[:-1] if is_cut else lines)).encode()
@@ -673,6 +676,7 @@ def all_checks():
             yield f"memory {word} {expression}", memory((word, expression), given, fault)
     yield from great_listings.all_checks()
     yield from random_requests.all_checks()
+    yield from c_library.all_checks(PROGRAM, document)
 
 
 def main():

@@ -4,7 +4,9 @@
     make && bench/table.py [WORD ..]
 
 Each request is a run of ./sgb with its output read and counted; with words, only the requests that hold one of
-them are made. Where a request reads a file, another one writes it first, which is not counted. It is no part of the gate.
+them are made. Where a request reads a file, another one writes it first, which is not counted. Where `make lib` has left
+libsgb.a, there are rows of a program in C (bench/hand_over.c) that opens a graph, and fetches its lists, or all of its
+arrays, with the bytes of these as output: to compare with the `save` of the same graph. It is no part of the gate.
 docs/PERFORMANCE.md has figures.
 """
 
@@ -13,7 +15,9 @@ import subprocess
 import sys
 import tempfile
 
-PROGRAM = os.path.join(os.path.dirname(os.path.abspath(__file__)), "..", "sgb")
+TOP = os.path.dirname(os.path.dirname(os.path.abspath(__file__)))
+PROGRAM = os.path.join(TOP, "sgb")
+LIBRARY = os.path.join(TOP, "libsgb.a")
 
 # each vertex of a board of 180 by 180 twice
 TWICE = f"induced(board(180,180,0,0,1,0,0),[{','.join(['2'] * 32400)}],0,0,0)"
@@ -94,11 +98,20 @@ READERS = [
     (["list", "gunion(stdin,stdin,0,0)"], ["save", "board(100,100,0,0,-1,0,0)"]),
 ]
 
+# graphs that are handed over to C, and saved
+HANDED = [
+    "board(600,600,0,0,1,0,0)",
+    "board(1000,1000,0,0,1,0,0)",
+    "disjoint_subsets(15,6)",
+    "simplex(25,-5,0,0,0,0,0)",
+    "gunion(board(80,80,0,0,-1,0,0),board(80,80,0,0,-2,0,0),0,0)",
+]
 
-def cost(words, source=subprocess.DEVNULL, most=None):
+
+def cost(words, source=subprocess.DEVNULL, most=None, program=PROGRAM):
     """Runs the program; its exit status, processor seconds, peak memory in kilobytes, bytes of output. With `most` the
     output is closed after so many bytes."""
-    run = subprocess.Popen([PROGRAM, *words], stdin=source, stdout=subprocess.PIPE)
+    run = subprocess.Popen([program, *words], stdin=source, stdout=subprocess.PIPE)
     count = 0
     while chunk := run.stdout.read(min(1 << 20, most or 1 << 20)):
         count += len(chunk)
@@ -136,6 +149,28 @@ def main():
                 subprocess.run([PROGRAM, *writer], stdout=file, check=True)
                 file.seek(0)
                 show(text, *cost(words, file))
+    handed_over(wanted)
+
+
+def handed_over(wanted):
+    """Rows of graphs that C is handed, each beside the `save` of the same graph."""
+    rows = [(word, text) for text in HANDED for word in ("open", "rows", "all", "save")]
+    rows = [row for row in rows if not wanted or any(word in "C " + " ".join(row) for word in wanted)]
+    if rows and not os.path.exists(LIBRARY):
+        print("left out, without libsgb.a, which `make lib` leaves: graphs in the memory of C")
+        return
+    with tempfile.TemporaryDirectory() as folder:
+        program = os.path.join(folder, "hand_over")
+        source = os.path.join(TOP, "bench/hand_over.c")
+        if rows:
+            subprocess.run(["cc", "-O2", "-I", os.path.join(TOP, "include"), source, LIBRARY, "-o", program], check=True)
+        for word, text in rows:
+            if word == "save":
+                show(f"save {text}", *cost([word, text]))
+                continue
+            status, seconds, peak, _ = cost([word, text], program=program)
+            size = int(subprocess.run([program, word, text], stdout=subprocess.PIPE, check=True).stdout)
+            show(f"C {word} {text}", status, seconds, peak, size)
 
 
 if __name__ == "__main__":

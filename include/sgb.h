@@ -5,9 +5,9 @@
  *     if (sgb_open("petersen()", 10, "", 0, &graph) == SGB_OK && sgb_sizes(&graph, &sizes) == SGB_OK) { .. }
  *     sgb_close(&graph);
  *
- * Link with libsgb.a or libsgb.so. The library calls malloc, realloc and free of the program, and nothing else; it has no
- * state of its own, and writes nothing. What it holds is in the handles that are open: sgb_close gives it back, and a call
- * that answers out of memory holds nothing more than before.
+ * Link with libsgb.a or libsgb.so. The library calls malloc, realloc and free of the program, with memcpy, memmove and
+ * memset, and nothing else; it has no state of its own, and writes nothing. What it holds is in the handles that are open:
+ * sgb_close gives it back, and a call that answers out of memory holds nothing more than before.
  *
  * A graph is named by an expression, as `sgb` takes it: "board(8,8,0,0,-1,0,0)", "petersen()", "lines(stdin,0)". The
  * expression `stdin` is the graph of the `.gb` file whose bytes are handed in as `input`; else these are not looked at. A
@@ -19,8 +19,8 @@
  *
  * What a caller owes: each pointer leads to as many values as its length says, which are no other argument's, and is not
  * NULL, also where the length is 0 (any address that fits the type does then). A handle begins as SGB_NO_GRAPH, is changed
- * by these calls alone, and is not copied while it is open. It is used by one call at a time, and by the thread that opened
- * it; several handles may be open at once.
+ * by these calls alone, and is not copied while it is open. It is used by one call at a time, in whatever thread; several
+ * handles may be open at once.
  *
  * What is proved of each call stands in crates/sgb_c/src/lib.rt: that the arrays hold what the definitions say of the
  * expression's graph, and when each answer comes.

@@ -65,10 +65,11 @@ static util *field_of(Vertex *v, uint32_t field) {
 
 /* The graph of an expression, or null, where panic_code says why. */
 static Graph *graph_of(const char *text, const char *input, size_t input_len) {
+    sgb_graph held = SGB_NO_GRAPH;
     sgb_graph_sizes sizes;
-    size_t len = strlen(text);
-    panic_code = sgb_sizes(text, len, input, input_len, &sizes);
+    panic_code = sgb_open(text, strlen(text), input, input_len, &held);
     if (panic_code) return NULL;
+    sgb_sizes(&held, &sizes);
     size_t n = sizes.vertices;
     Graph *g = room(1, sizeof *g);
     uint64_t *starts = room(n + 1, sizeof *starts);
@@ -83,10 +84,9 @@ static Graph *graph_of(const char *text, const char *input, size_t input_len) {
         g->n = (long)n;
         g->m = (long)sizes.arcs;
     }
-    if (!panic_code) panic_code = sgb_id(text, len, input, input_len, g->id, sizes.id);
-    if (!panic_code) panic_code = sgb_names(text, len, input, input_len, begins, n + 1, names, sizes.names);
-    if (!panic_code)
-        panic_code = sgb_rows(text, len, input, input_len, starts, n + 1, tips, sizes.listed, numbers, sizes.listed);
+    if (!panic_code) panic_code = sgb_id(&held, g->id, sizes.id);
+    if (!panic_code) panic_code = sgb_names(&held, begins, n + 1, names, sizes.names);
+    if (!panic_code) panic_code = sgb_rows(&held, starts, n + 1, tips, sizes.listed, numbers, sizes.listed);
     for (size_t v = 0; !panic_code && v < n; v++) {
         Vertex *here = &g->vertices[v];
         here->name = g->names + begins[v] + v; /* each name has a zero byte after it */
@@ -99,11 +99,12 @@ static Graph *graph_of(const char *text, const char *input, size_t input_len) {
         }
     }
     for (uint32_t field = 0; !panic_code && field < 6; field++) {
-        uint64_t answer = sgb_ints(text, len, input, input_len, field, numbers, n);
+        uint64_t answer = sgb_ints(&held, field, numbers, n);
         if (answer == SGB_NO_INTEGERS) continue;
         panic_code = answer;
         for (size_t v = 0; !answer && v < n; v++) field_of(&g->vertices[v], field)->I = (long)numbers[v];
     }
+    sgb_close(&held);
     free(starts);
     free(begins);
     free(tips);

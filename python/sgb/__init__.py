@@ -12,10 +12,11 @@ in the repository that this file stands in, else the one that the system finds. 
 numpy is installed, arrays are numpy's, else memory views. Both look at the same memory: nothing is copied.
 """
 
-import array
+import contextlib
 import ctypes
-import ctypes.util
+import gc
 import os
+import threading
 
 try:
     import numpy
@@ -25,8 +26,9 @@ except ImportError:
 __all__ = ["Graph", "GraphError", "flip", "graph"]
 
 FIELDS = "uvwxyz"
+NO_INTEGERS = 102
+BAD_EXPRESSION = 1000
 ANSWERS = {
-    1: "out of memory",
     10: "the head of the .gb file is wrong",
     11: "the end of the .gb file is wrong",
     20: "a record of the .gb file is wrong",
@@ -34,62 +36,105 @@ ANSWERS = {
     40: "parameters that ask for too much",
     60: "a graph that the operation cannot take",
     100: "the expression is too large",
-    101: "an array has a wrong length",
+    101: "an array has another length than it must have",
     102: "there is no such field, or it holds no integers",
     103: "a uniform draw has a bound from 1 to 2**31",
+    104: "a graph is open",
+    105: "no graph is open",
 }
 
 
 class GraphError(ValueError):
     """Why there is no graph: `code` is the library's answer, GraphBase's panic code where it is below 100. Of a bad
-    expression `byte` is the length of the longest prefix that begins one."""
+    expression `byte` is the length of the longest prefix that begins one, else it is None."""
 
     def __init__(self, code):
         self.code = code
-        self.byte = code - 1000 if code >= 1000 else None
-        super().__init__(f"bad expression at byte {self.byte}" if code >= 1000 else f"{ANSWERS[code]} (code {code})")
+        self.byte = code - BAD_EXPRESSION if code >= BAD_EXPRESSION else None
+        if self.byte is None:
+            super().__init__(f"{ANSWERS.get(code, 'something went wrong')} (code {code})")
+        else:
+            super().__init__(f"bad expression at byte {self.byte}")
 
 
 class _Sizes(ctypes.Structure):
     _fields_ = [(name, ctypes.c_uint64) for name in ("vertices", "arcs", "listed", "names", "id")]
 
 
+class _Handle(ctypes.Structure):
+    _fields_ = [("held", ctypes.c_void_p), ("is_open", ctypes.c_bool)]
+
+
+_ARRAY = [ctypes.c_void_p, ctypes.c_size_t]
+_TEXT = [ctypes.c_char_p, ctypes.c_size_t]
+_ON = [ctypes.POINTER(_Handle)]
+# the calls of sgb.h: what each takes, and what it answers
+_CALLS = {
+    "sgb_open": (_TEXT + _TEXT + _ON, ctypes.c_uint64),
+    "sgb_close": (_ON, None),
+    "sgb_sizes": (_ON + [ctypes.POINTER(_Sizes)], ctypes.c_uint64),
+    "sgb_rows": (_ON + 3 * _ARRAY, ctypes.c_uint64),
+    "sgb_names": (_ON + 2 * _ARRAY, ctypes.c_uint64),
+    "sgb_ints": (_ON + [ctypes.c_uint32] + _ARRAY, ctypes.c_uint64),
+    "sgb_id": (_ON + _ARRAY, ctypes.c_uint64),
+    "sgb_draws": ([ctypes.c_int64, ctypes.c_uint64] + _ARRAY, None),
+    "sgb_uniform_draws": ([ctypes.c_int64, ctypes.c_uint64, ctypes.c_uint32] + _ARRAY, ctypes.c_uint64),
+}
+
+
 def _library():
     path = os.environ.get("SGB_LIBRARY")
     if not path:
-        here = os.path.dirname(os.path.dirname(os.path.dirname(os.path.abspath(__file__))))
-        path = os.path.join(here, "libsgb.so")
+        top = os.path.dirname(os.path.dirname(os.path.dirname(os.path.abspath(__file__))))
+        path = os.path.join(top, "libsgb.so")
         if not os.path.exists(path):
-            path = ctypes.util.find_library("sgb")
-    if not path:
-        raise ImportError("libsgb.so is not there: `make lib` makes it, and SGB_LIBRARY may name it")
-    library = ctypes.CDLL(path)
-    for name in ("sgb_sizes", "sgb_rows", "sgb_names", "sgb_ints", "sgb_id", "sgb_uniform_draws"):
-        getattr(library, name).restype = ctypes.c_uint64
-    library.sgb_draws.restype = None
+            path = "libsgb.so"
+    try:
+        library = ctypes.CDLL(path)
+        for name, (takes, answers) in _CALLS.items():
+            call = getattr(library, name)
+            call.argtypes, call.restype = takes, answers
+    except (OSError, AttributeError) as why:
+        raise ImportError(f"{why}: `make lib` makes libsgb.so, and SGB_LIBRARY may name it") from None
     return library
 
 
 _lib = _library()
 
 
+@contextlib.contextmanager
+def _uncollected():
+    """Python's collector looks through all objects again and again while many are made: here none of them is garbage."""
+    was_on = gc.isenabled()
+    gc.disable()
+    try:
+        yield
+    finally:
+        if was_on:
+            gc.enable()
+
+
+_TYPES = {"B": ctypes.c_uint8, "I": ctypes.c_uint32, "Q": ctypes.c_uint64, "q": ctypes.c_int64}
+
+
 class _Array:
     """An array of so many numbers: what C is handed, and what Python sees."""
 
     def __init__(self, code, count):
+        self.code, self.count = code, count
         # one place more than is handed over, so that there is always an address
-        self.kept = array.array(code, bytes((count + 1) * array.array(code).itemsize))
-        self.count = count
-        address, _ = self.kept.buffer_info()
-        self.words = (ctypes.c_void_p(address), ctypes.c_size_t(count))
+        if numpy is None:
+            self.kept = (_TYPES[code] * (count + 1))()
+            address = ctypes.addressof(self.kept)
+        else:
+            self.kept = numpy.empty(count + 1, dtype=code)
+            address = self.kept.ctypes.data
+        self.words = (address, count)
 
     def seen(self):
-        view = memoryview(self.kept)[: self.count]
-        return view if numpy is None else numpy.frombuffer(view, dtype=view.format) if self.count else numpy.empty(0, dtype=view.format)
-
-
-def _bytes(data):
-    return ctypes.c_char_p(data), ctypes.c_size_t(len(data))
+        if numpy is None:
+            return memoryview(self.kept).cast("B").cast(self.code)[: self.count]
+        return self.kept[: self.count]
 
 
 def _must(answer):
@@ -101,19 +146,43 @@ def _must(answer):
 
 class Graph:
     """A graph: its lists of arcs one after another, in `tips` and `lengths`; that of vertex v is what stands from starts[v]
-    up to starts[v + 1]."""
+    up to starts[v + 1].
+
+    The library holds the graph until `close`, the end of a `with`, or the end of this object: names and integers are fetched
+    when they are asked for. What was fetched stays."""
 
     def __init__(self, text, input=b""):
-        self._words = (*_bytes(text.encode()), *_bytes(bytes(input)))
-        sizes = _Sizes()
-        _must(_lib.sgb_sizes(*self._words, ctypes.byref(sizes)))
+        self._handle, self._lock, self._kept = _Handle(), threading.Lock(), {}
+        words = text.encode()
+        given = bytes(memoryview(input))
+        _must(_lib.sgb_open(words, len(words), given, len(given), self._handle))
+        self._sizes = sizes = _Sizes()
+        _must(_lib.sgb_sizes(self._handle, sizes))
         #: the expression, the number of vertices, and the number of arcs that the graph counts
         self.text, self.n, self.m = text, sizes.vertices, sizes.arcs
-        self._sizes = sizes
         starts, tips, lengths = _Array("Q", self.n + 1), _Array("I", sizes.listed), _Array("q", sizes.listed)
-        _must(_lib.sgb_rows(*self._words, *starts.words, *tips.words, *lengths.words))
+        _must(_lib.sgb_rows(self._handle, *starts.words, *tips.words, *lengths.words))
         self.starts, self.tips, self.lengths = starts.seen(), tips.seen(), lengths.seen()
-        self._names = self._id = None
+        name = _Array("B", sizes.id)
+        _must(_lib.sgb_id(self._handle, *name.words))
+        #: the id: the graph's official name
+        self.id = bytes(name.seen()).decode(errors="surrogateescape")
+
+    def close(self):
+        """Gives back what the library holds of the graph."""
+        with self._lock:
+            _lib.sgb_close(self._handle)
+
+    def __del__(self):
+        # nobody else has it any more; where it was not made in full, its handle may not be there
+        if handle := getattr(self, "_handle", None):
+            _lib.sgb_close(handle)
+
+    def __enter__(self):
+        return self
+
+    def __exit__(self, *_):
+        self.close()
 
     def __len__(self):
         return self.n
@@ -121,74 +190,94 @@ class Graph:
     def __repr__(self):
         return f"sgb.graph({self.text!r})"
 
+    def __reduce__(self):
+        raise TypeError("a graph is not copied: make it again from its text")
+
     def neighbors(self, v):
         """Where the arcs of vertex v lead, in the order of its list."""
         if not 0 <= v < self.n:
             raise IndexError(v)
         return self.tips[int(self.starts[v]) : int(self.starts[v + 1])]
 
-    @property
-    def id(self):
-        """The id: the graph's official name."""
-        if self._id is None:
-            place = _Array("B", self._sizes.id)
-            _must(_lib.sgb_id(*self._words, *place.words))
-            self._id = bytes(place.kept[: place.count]).decode()
-        return self._id
+    def _fetched(self, what, fetch):
+        with self._lock:
+            if what not in self._kept:
+                if not self._handle.is_open:
+                    raise ValueError(f"the graph is closed, and its {what} were not asked for before")
+                self._kept[what] = fetch()
+            return self._kept[what]
 
     @property
     def names(self):
         """The names of the vertices, a list that is made when it is asked for."""
-        if self._names is None:
-            starts, place = _Array("Q", self.n + 1), _Array("B", self._sizes.names)
-            _must(_lib.sgb_names(*self._words, *starts.words, *place.words))
-            whole = bytes(memoryview(place.kept)[: place.count]).decode()
-            at = starts.kept.tolist()
-            self._names = [whole[at[v] : at[v + 1]] for v in range(self.n)]
-        return self._names
+        return self._fetched("names", self._fetch_names)
+
+    def _fetch_names(self):
+        begins, names = _Array("Q", self.n + 1), _Array("B", self._sizes.names)
+        _must(_lib.sgb_names(self._handle, *begins.words, *names.words))
+        whole, at = bytes(names.seen()), begins.seen().tolist()
+        if whole.isascii():
+            whole = whole.decode()
+            return [whole[a:b] for a, b in zip(at, at[1:])]
+        return [whole[a:b].decode(errors="surrogateescape") for a, b in zip(at, at[1:])]
 
     def ints(self, field):
         """The integers in a utility field of the vertices, "u" to "z": of a board x, y and z are the coordinates."""
         if len(field) != 1 or field not in FIELDS:
             raise ValueError(f"no field {field!r}: one of u v w x y z")
+        return self._fetched("integers " + field, lambda: self._fetch_ints(field))
+
+    def _fetch_ints(self, field):
         values = _Array("q", self.n)
-        _must(_lib.sgb_ints(*self._words, ctypes.c_uint32(FIELDS.index(field)), *values.words))
+        _must(_lib.sgb_ints(self._handle, FIELDS.index(field), *values.words))
         return values.seen()
 
     def to_scipy(self):
-        """The matrix of lengths, scipy.sparse.csr_array; lengths of parallel arcs are added where scipy adds them."""
+        """The matrix of lengths, a scipy.sparse.csr_array: row v is the list of vertex v, in its order. Parallel arcs are
+        entries of one place, which scipy adds where it makes one of them."""
         import scipy.sparse
 
         return scipy.sparse.csr_array((self.lengths, self.tips, self.starts), shape=(self.n, self.n))
 
-    def _arcs(self):
-        starts, tips, lengths = (part.tolist() for part in (self.starts, self.tips, self.lengths))
-        for v in range(self.n):
-            for k in range(starts[v], starts[v + 1]):
-                yield v, tips[k], lengths[k]
-
     def to_networkx(self, multi=False, names=False):
-        """A networkx.DiGraph, or with `multi` a MultiDiGraph; its nodes are the vertices' numbers, or their names."""
+        """A networkx.DiGraph whose nodes are the vertices' numbers, or with `names` their names, and whose edges have the
+        lengths as `weight`; with `multi` a MultiDiGraph, which parallel arcs need. An edge of GraphBase is two arcs:
+        to_undirected makes one of them."""
         import networkx
 
-        made = networkx.MultiDiGraph() if multi else networkx.DiGraph()
+        nodes = self.names if names else range(self.n)
+        if names and len(set(nodes)) != self.n:
+            raise ValueError("two vertices have one name: without names=True the nodes are numbers")
+        starts, tips, lengths = self.starts.tolist(), self.tips.tolist(), self.lengths.tolist()
         if names:
-            called = self.names
-            made.add_nodes_from(called)
-            made.add_weighted_edges_from((called[u], called[v], far) for u, v, far in self._arcs())
-        else:
-            made.add_nodes_from(range(self.n))
-            made.add_weighted_edges_from(self._arcs())
+            tips = list(map(nodes.__getitem__, tips))
+        made = networkx.MultiDiGraph() if multi else networkx.DiGraph()
+        made.add_nodes_from(nodes)
+        # what add_edges_from leaves in the dictionaries of these classes, without its questions at each arc
+        leaving, entering = made._succ, made._pred
+        with _uncollected():
+            for v, a, b in zip(nodes, starts, starts[1:]):
+                ends = leaving[v]
+                for tip, length in zip(tips[a:b], lengths[a:b]):
+                    if not multi:
+                        ends[tip] = entering[tip][v] = {"weight": length}
+                    elif tip in ends:
+                        ends[tip][len(ends[tip])] = {"weight": length}
+                    else:
+                        ends[tip] = entering[tip][v] = {0: {"weight": length}}
+                if not multi and len(ends) != b - a:
+                    raise ValueError("the graph has parallel arcs: multi=True keeps them")
         return made
 
     def to_igraph(self):
         """A directed igraph.Graph with the names of the vertices and the lengths of the arcs."""
         import igraph
 
-        arcs = list(self._arcs())
+        starts = self.starts.tolist()
+        tails = [v for v, a, b in zip(range(self.n), starts, starts[1:]) for _ in range(a, b)]
         return igraph.Graph(
-            n=self.n, edges=[(u, v) for u, v, _ in arcs], directed=True,
-            vertex_attrs={"name": self.names}, edge_attrs={"length": [far for _, _, far in arcs]},
+            n=self.n, edges=list(zip(tails, self.tips.tolist())), directed=True,
+            vertex_attrs={"name": self.names}, edge_attrs={"length": self.lengths.tolist()},
         )
 
 
@@ -203,9 +292,8 @@ def flip(start, skip=0, count=1, m=0):
     if not -(2**63) <= start < 2**63 or not 0 <= skip < 2**64 or not 0 <= m < 2**32 or count < 0:
         raise ValueError("a start of 64 bits with its sign, a skip of 64 and a bound of 32 bits, and a count from 0 on")
     out = _Array("I", count)
-    words = (ctypes.c_int64(start), ctypes.c_uint64(skip))
     if m == 0:
-        _lib.sgb_draws(*words, *out.words)
+        _lib.sgb_draws(start, skip, *out.words)
     else:
-        _must(_lib.sgb_uniform_draws(*words, ctypes.c_uint32(m), *out.words))
+        _must(_lib.sgb_uniform_draws(start, skip, m, *out.words))
     return out.seen()

@@ -1,12 +1,23 @@
 //! Graphs of the Stanford GraphBase by their official names, as arrays: safe functions over the calls of `sgb.h`.
 //!
-//! A Rust slice is what these calls ask for: a pointer that is not null, and a length. So nothing has to be tested here but
-//! the answers.
+//! ```
+//! let graph = sgb::Graph::new("petersen()", b"")?;
+//! assert_eq!(graph.tips_of(0).len(), 3);
+//! # Ok::<(), sgb::Error>(())
+//! ```
+//!
+//! A slice is what these calls ask for: a pointer that is not null, and a length. A handle is closed when it is dropped, and
+//! belongs to one thread, since it is neither `Send` nor `Sync`.
+#![warn(missing_docs)]
+
+use std::cell::UnsafeCell;
 
 /// The calls of `include/sgb.h`.
 mod ffi {
+    use std::ffi::c_void;
+
     #[repr(C)]
-    #[derive(Default)]
+    #[derive(Clone, Copy, Debug, Default)]
     pub struct Sizes {
         pub vertices: u64,
         pub arcs: u64,
@@ -15,25 +26,56 @@ mod ffi {
         pub id: u64,
     }
 
+    #[repr(C)]
+    #[derive(Debug)]
+    pub struct Handle {
+        pub held: *mut c_void,
+        pub is_open: bool,
+    }
+
     extern "C" {
-        pub fn sgb_sizes(text: *const u8, text_len: usize, input: *const u8, input_len: usize, sizes: *mut Sizes) -> u64;
+        pub fn sgb_open(text: *const u8, text_len: usize, input: *const u8, input_len: usize, graph: *mut Handle) -> u64;
+        pub fn sgb_close(graph: *mut Handle);
+        pub fn sgb_sizes(graph: *mut Handle, sizes: *mut Sizes) -> u64;
         pub fn sgb_rows(
-            text: *const u8, text_len: usize, input: *const u8, input_len: usize, starts: *mut u64, starts_len: usize,
-            tips: *mut u32, tips_len: usize, lengths: *mut i64, lengths_len: usize,
+            graph: *mut Handle, starts: *mut u64, starts_len: usize, tips: *mut u32, tips_len: usize, lengths: *mut i64,
+            lengths_len: usize,
         ) -> u64;
-        pub fn sgb_names(
-            text: *const u8, text_len: usize, input: *const u8, input_len: usize, starts: *mut u64, starts_len: usize,
-            bytes: *mut u8, bytes_len: usize,
-        ) -> u64;
-        pub fn sgb_ints(
-            text: *const u8, text_len: usize, input: *const u8, input_len: usize, field: u32, values: *mut i64,
-            values_len: usize,
-        ) -> u64;
-        pub fn sgb_id(
-            text: *const u8, text_len: usize, input: *const u8, input_len: usize, bytes: *mut u8, bytes_len: usize,
-        ) -> u64;
+        pub fn sgb_names(graph: *mut Handle, starts: *mut u64, starts_len: usize, bytes: *mut u8, bytes_len: usize) -> u64;
+        pub fn sgb_ints(graph: *mut Handle, field: u32, values: *mut i64, values_len: usize) -> u64;
+        pub fn sgb_id(graph: *mut Handle, bytes: *mut u8, bytes_len: usize) -> u64;
         pub fn sgb_draws(start: i64, skip: u64, out: *mut u32, out_len: usize);
         pub fn sgb_uniform_draws(start: i64, skip: u64, m: u32, out: *mut u32, out_len: usize) -> u64;
+    }
+}
+
+/// A graph that the library holds, until this is dropped.
+#[derive(Debug)]
+struct Held(Box<UnsafeCell<ffi::Handle>>);
+
+impl Held {
+    fn open(text: &str, input: &[u8]) -> Result<Held, Error> {
+        let none = ffi::Handle { held: std::ptr::null_mut(), is_open: false };
+        let held = Held(Box::new(UnsafeCell::new(none)));
+        answer(unsafe { ffi::sgb_open(text.as_ptr(), text.len(), input.as_ptr(), input.len(), held.at()) })?;
+        Ok(held)
+    }
+
+    /// The handle, for one call: it is never lent, and a cell is for one thread.
+    fn at(&self) -> *mut ffi::Handle {
+        self.0.get()
+    }
+
+    fn sizes(&self) -> Result<ffi::Sizes, Error> {
+        let mut sizes = ffi::Sizes::default();
+        answer(unsafe { ffi::sgb_sizes(self.at(), &mut sizes) })?;
+        Ok(sizes)
+    }
+}
+
+impl Drop for Held {
+    fn drop(&mut self) {
+        unsafe { ffi::sgb_close(self.at()) }
     }
 }
 
@@ -66,42 +108,42 @@ fn answer(code: u64) -> Result<(), Error> {
 }
 
 /// A graph. The list of vertex v is what stands in `tips` and `lengths` from `starts[v]` up to `starts[v + 1]`.
-#[derive(Clone, Debug)]
+#[derive(Debug)]
 pub struct Graph {
-    /// The official name.
-    pub id: String,
-    /// The number of arcs that the graph counts.
-    pub m: u64,
+    held: Held,
+    sizes: ffi::Sizes,
+    /// Where the lists begin, n + 1 numbers.
     pub starts: Vec<u64>,
+    /// Where the arcs lead.
     pub tips: Vec<u32>,
+    /// Their lengths.
     pub lengths: Vec<i64>,
-    pub names: Vec<String>,
 }
 
 impl Graph {
     /// The graph that an expression names, where `input` are the bytes that `stdin` in it stands for.
     pub fn new(text: &str, input: &[u8]) -> Result<Graph, Error> {
-        let (t, tn, i, n) = (text.as_ptr(), text.len(), input.as_ptr(), input.len());
-        let mut sizes = ffi::Sizes::default();
-        answer(unsafe { ffi::sgb_sizes(t, tn, i, n, &mut sizes) })?;
-        let (vertices, listed) = (sizes.vertices as usize, sizes.listed as usize);
-        let mut starts = vec![0; vertices + 1];
+        let held = Held::open(text, input)?;
+        let sizes = held.sizes()?;
+        let listed = sizes.listed as usize;
+        let mut starts = vec![0; sizes.vertices as usize + 1];
         let (mut tips, mut lengths) = (vec![0; listed], vec![0; listed]);
         answer(unsafe {
-            ffi::sgb_rows(t, tn, i, n, starts.as_mut_ptr(), starts.len(), tips.as_mut_ptr(), listed, lengths.as_mut_ptr(), listed)
+            ffi::sgb_rows(
+                held.at(), starts.as_mut_ptr(), starts.len(), tips.as_mut_ptr(), tips.len(), lengths.as_mut_ptr(), lengths.len(),
+            )
         })?;
-        let (mut begins, mut bytes) = (vec![0; vertices + 1], vec![0; sizes.names as usize]);
-        answer(unsafe { ffi::sgb_names(t, tn, i, n, begins.as_mut_ptr(), begins.len(), bytes.as_mut_ptr(), bytes.len()) })?;
-        let mut id = vec![0; sizes.id as usize];
-        answer(unsafe { ffi::sgb_id(t, tn, i, n, id.as_mut_ptr(), id.len()) })?;
-        let word = |bytes: &[u8]| String::from_utf8_lossy(bytes).into_owned();
-        let names = begins.windows(2).map(|at| word(&bytes[at[0] as usize..at[1] as usize])).collect();
-        Ok(Graph { id: word(&id), m: sizes.arcs, starts, tips, lengths, names })
+        Ok(Graph { held, sizes, starts, tips, lengths })
     }
 
     /// The number of vertices.
     pub fn n(&self) -> usize {
-        self.names.len()
+        self.sizes.vertices as usize
+    }
+
+    /// The number of arcs that the graph counts.
+    pub fn m(&self) -> u64 {
+        self.sizes.arcs
     }
 
     /// Where the arcs of vertex `v` lead.
@@ -109,27 +151,44 @@ impl Graph {
         &self.tips[self.starts[v] as usize..self.starts[v + 1] as usize]
     }
 
+    /// The id: the official name.
+    pub fn id(&self) -> Result<String, Error> {
+        let mut bytes = vec![0; self.sizes.id as usize];
+        answer(unsafe { ffi::sgb_id(self.held.at(), bytes.as_mut_ptr(), bytes.len()) })?;
+        Ok(String::from_utf8_lossy(&bytes).into_owned())
+    }
+
+    /// The names of the vertices.
+    pub fn names(&self) -> Result<Vec<String>, Error> {
+        let (mut starts, mut bytes) = (vec![0; self.n() + 1], vec![0; self.sizes.names as usize]);
+        answer(unsafe {
+            ffi::sgb_names(self.held.at(), starts.as_mut_ptr(), starts.len(), bytes.as_mut_ptr(), bytes.len())
+        })?;
+        let name = |at: &[u64]| String::from_utf8_lossy(&bytes[at[0] as usize..at[1] as usize]).into_owned();
+        Ok(starts.windows(2).map(name).collect())
+    }
+
+    /// The integers in a utility field of the vertices: u v w x y z are 0 to 5.
+    pub fn ints(&self, field: u32) -> Result<Vec<i64>, Error> {
+        let mut values = vec![0; self.n()];
+        answer(unsafe { ffi::sgb_ints(self.held.at(), field, values.as_mut_ptr(), values.len()) })?;
+        Ok(values)
+    }
+
     /// The listing, as `sgb list` writes it.
-    pub fn listing(&self) -> String {
+    pub fn listing(&self) -> Result<String, Error> {
+        let names = self.names()?;
         let mut text = format!(
-            "  The graph whose official name is\n{}\n  has {} vertices and {} arcs:\n\n", self.id, self.n(), self.m
+            "  The graph whose official name is\n{}\n  has {} vertices and {} arcs:\n\n", self.id()?, self.n(), self.m()
         );
         for v in 0..self.n() {
-            text += &format!("{}\n", self.names[v]);
+            text += &format!("{}\n", names[v]);
             for k in self.starts[v] as usize..self.starts[v + 1] as usize {
-                text += &format!("  -> {}, length {}\n", self.names[self.tips[k] as usize], self.lengths[k]);
+                text += &format!("  -> {}, length {}\n", names[self.tips[k] as usize], self.lengths[k]);
             }
         }
-        text
+        Ok(text)
     }
-}
-
-/// The integers in a utility field of the vertices of a graph: u v w x y z are 0 to 5. `n` is its number of vertices.
-pub fn ints(text: &str, input: &[u8], field: u32, n: usize) -> Result<Vec<i64>, Error> {
-    let mut values = vec![0; n];
-    let (t, tn, i, k) = (text.as_ptr(), text.len(), input.as_ptr(), input.len());
-    answer(unsafe { ffi::sgb_ints(t, tn, i, k, field, values.as_mut_ptr(), n) })?;
-    Ok(values)
 }
 
 /// So many draws of GB_FLIP, after `skip` that are left out.

@@ -1,0 +1,308 @@
+#!/usr/bin/env python3
+"""Tests of the package sgb: python/tests.py [PROGRAM], where PROGRAM is the program sgb, ./sgb if none is named.
+
+Its graphs are compared with what the program writes; with scipy's, networkx's and igraph's where these are installed. With
+SGB_WITHOUT_NUMPY=1 the package does without numpy.
+"""
+
+import collections
+import gc
+import os
+import subprocess
+import sys
+import threading
+import unittest
+
+HERE = os.path.dirname(os.path.abspath(__file__))
+PROGRAM = os.path.abspath(sys.argv.pop(1)) if len(sys.argv) > 1 else os.path.join(os.path.dirname(HERE), "sgb")
+sys.path.insert(0, HERE)
+if os.environ.get("SGB_WITHOUT_NUMPY") == "1":
+    sys.modules["numpy"] = None
+
+import sgb  # noqa: E402  (the folder is put on the path above)
+
+BOARD = "board(3,4,0,0,1,0,0)"
+GRAPHS = [
+    "petersen()", BOARD, "board(5,5,0,0,-1,0,0)", "board(0,0,0,0,0,0,0)", "complete(1)", "transitive(6)", "circuit(2)",
+    "simplex(3,-3,0,0,0,0,0)", "disjoint_subsets(6,3)", "gunion(complete(3),circuit(3),1,1)", "lines(complete(4),0)",
+    "product(complete(2),complete(3),0,0)", "wheel(5,1,0)", "board(60,60,0,0,1,0,0)",
+]
+FILE = b"""\
+* GraphBase graph (util_types ZZZZZZZZZZZZZZ,2V,2A)
+"two",2,2
+* Vertices
+"left",A0
+"right",A1
+* Arcs
+V1,0,7
+V0,0,-3
+* Checksum -1
+"""
+ERRORS = [
+    ("board(3,", b"", 1008, 8), ("", b"", 1000, 0), ("board(2,-251,0,0,1,0,0)", b"", 30, None),
+    ("board(4294967296,0,0,0,1,0,0)", b"", 40, None), ("stdin", b"", 10, None), ("x" * 65_537, b"", 100, None),
+    ("stdin", FILE[:-14], 11, None), ("stdin", FILE.replace(b"A0", b"B0"), 20, None),
+]
+
+
+def said(*words, given=b""):
+    return subprocess.run([PROGRAM, *words], input=given, capture_output=True, check=True).stdout.decode()
+
+
+def listing(graph):
+    lines = [f"  The graph whose official name is\n{graph.id}\n  has {graph.n} vertices and {graph.m} arcs:\n"]
+    for v, name in enumerate(graph.names):
+        lines.append(name)
+        for k in range(int(graph.starts[v]), int(graph.starts[v + 1])):
+            lines.append(f"  -> {graph.names[graph.tips[k]]}, length {graph.lengths[k]}")
+    return "".join(line + "\n" for line in lines)
+
+
+def arcs(graph):
+    """Each arc by the numbers of its ends, with its length, and how often it is there."""
+    found = collections.Counter()
+    for v in range(graph.n):
+        for k in range(int(graph.starts[v]), int(graph.starts[v + 1])):
+            found[v, int(graph.tips[k]), int(graph.lengths[k])] += 1
+    return found
+
+
+def installed(name):
+    try:
+        return __import__(name)
+    except ImportError:
+        return None
+
+
+class Arrays(unittest.TestCase):
+    def test_listings(self):
+        for text in GRAPHS:
+            with self.subTest(text):
+                self.assertEqual(listing(sgb.graph(text)), said("list", text))
+
+    def test_file(self):
+        graph = sgb.graph("stdin", input=FILE)
+        self.assertEqual(listing(graph), said("list", "stdin", given=FILE))
+        self.assertEqual((graph.names, list(graph.lengths)), (["left", "right"], [7, -3]))
+        for given in (bytearray(FILE), memoryview(FILE)):
+            self.assertEqual(list(sgb.graph("stdin", given).tips), [1, 0])
+        saved = said("save", BOARD).encode()
+        self.assertEqual(listing(sgb.graph("stdin", saved)), said("list", BOARD))
+        with self.assertRaises(TypeError):
+            sgb.graph("stdin", "a text")
+        with self.assertRaises(TypeError):
+            sgb.graph("stdin", 5)
+
+    def test_kinds(self):
+        graph = sgb.graph("petersen()")
+        self.assertEqual((graph.n, len(graph), graph.m, graph.text), (10, 10, 30, "petersen()"))
+        wanted = memoryview if sgb.numpy is None else sgb.numpy.ndarray
+        for part, size in ((graph.starts, 8), (graph.tips, 4), (graph.lengths, 8)):
+            self.assertIsInstance(part, wanted)
+            self.assertEqual(part.itemsize, size)
+        self.assertEqual([len(graph.starts), len(graph.tips), len(graph.lengths)], [11, 30, 30])
+        self.assertEqual(list(graph.neighbors(9)), list(graph.tips[27:30]))
+        for wrong in (-1, 10):
+            with self.assertRaises(IndexError):
+                graph.neighbors(wrong)
+
+    def test_integers(self):
+        graph = sgb.graph(BOARD)
+        self.assertEqual(list(graph.ints("x")), [0, 0, 0, 0, 1, 1, 1, 1, 2, 2, 2, 2])
+        self.assertEqual(list(graph.ints("y")), [0, 1, 2, 3] * 3)
+        for field in "uvw":
+            with self.assertRaises(sgb.GraphError) as why:
+                graph.ints(field)
+            self.assertEqual(why.exception.code, 102)
+        for field in ("", "xy", "a", "t"):
+            with self.assertRaises(ValueError) as why:
+                graph.ints(field)
+            self.assertNotIsInstance(why.exception, sgb.GraphError)
+
+    def test_errors(self):
+        for text, given, code, byte in ERRORS:
+            with self.subTest(text[:40]):
+                with self.assertRaises(sgb.GraphError) as why:
+                    sgb.graph(text, given)
+                self.assertEqual((why.exception.code, why.exception.byte), (code, byte))
+        # the longest text that is read
+        with self.assertRaises(sgb.GraphError) as why:
+            sgb.graph("x" * 65_536)
+        self.assertEqual(why.exception.byte, 0)
+
+    def test_flip(self):
+        for start, skip, count, m in ((-314159, 0, 3, 0), (-314159, 2, 3, 0), (-314159, 2, 3, 1000), (7, 133, 5, 2**31), (5, 5, 0, 6)):
+            wanted = [int(line) for line in said("flip", f"flip({start},{skip},{count},{m})").split()]
+            self.assertEqual(list(sgb.flip(start, skip, count, m)), wanted)
+        for words in ((0, 0, -1, 0), (0, -1, 1, 0), (2**63, 0, 1, 0), (0, 0, 1, 2**32)):
+            with self.assertRaises(ValueError) as why:
+                sgb.flip(*words)
+            self.assertNotIsInstance(why.exception, sgb.GraphError)
+        with self.assertRaises(sgb.GraphError) as why:
+            sgb.flip(0, 0, 1, 2**31 + 1)
+        self.assertEqual(why.exception.code, 103)
+
+
+class Handles(unittest.TestCase):
+    def setUp(self):
+        # counts the calls that close
+        self.closed = 0
+        self.close = sgb._lib.sgb_close
+
+        def close(handle):
+            self.closed += handle.is_open
+            self.close(handle)
+
+        sgb._lib.sgb_close = close
+
+    def tearDown(self):
+        sgb._lib.sgb_close = self.close
+
+    def test_close(self):
+        with sgb.graph(BOARD) as graph:
+            names = graph.names
+            x = list(graph.ints("x"))
+        self.assertEqual(self.closed, 1)
+        # what was fetched stays, and the arrays do
+        self.assertEqual((graph.names, list(graph.ints("x")), len(graph.tips)), (names, x, graph.m))
+        with self.assertRaises(ValueError):
+            graph.ints("y")
+        graph.close()
+        del graph
+        self.assertEqual(self.closed, 1)
+
+    def test_end(self):
+        graph = sgb.graph(BOARD)
+        tips = graph.tips
+        wanted = list(tips)
+        del graph
+        gc.collect()
+        self.assertEqual(self.closed, 1)
+        self.assertEqual(list(tips), wanted)
+
+    def test_refused(self):
+        """A graph that cannot be made holds nothing; nor does one whose arrays are refused memory."""
+        with self.assertRaises(sgb.GraphError):
+            sgb.graph("board(3,")
+        self.assertEqual(self.closed, 0)
+        array, sgb._Array = sgb._Array, lambda *_: (_ for _ in ()).throw(MemoryError())
+        try:
+            with self.assertRaises(MemoryError):
+                sgb.graph(BOARD)
+        finally:
+            sgb._Array = array
+        gc.collect()
+        self.assertEqual(self.closed, 1)
+
+    def test_two(self):
+        first, second = sgb.graph(BOARD), sgb.graph("petersen()")
+        del first
+        self.assertEqual(self.closed, 1)
+        self.assertEqual(second.names, said("names", "petersen()").split())
+
+    def test_threads(self):
+        """A graph in each of some threads, and one graph asked by all of them."""
+        shared, found = sgb.graph("board(60,60,0,0,1,0,0)"), []
+
+        def work(text):
+            found.append((text, listing(sgb.graph(text)), shared.names, list(shared.ints("x"))))
+
+        threads = [threading.Thread(target=work, args=(text,)) for text in GRAPHS]
+        for thread in threads:
+            thread.start()
+        for thread in threads:
+            thread.join()
+        self.assertEqual(len(found), len(GRAPHS))
+        for text, seen, names, x in found:
+            self.assertEqual(seen, said("list", text))
+            self.assertEqual((names, x), (shared.names, [k // 60 for k in range(3600)]))
+
+    def test_copies(self):
+        import copy
+
+        with self.assertRaises(TypeError):
+            copy.copy(sgb.graph(BOARD))
+
+
+class Others(unittest.TestCase):
+    @unittest.skipUnless(installed("networkx"), "without networkx")
+    def test_networkx(self):
+        import networkx
+
+        for text in GRAPHS:
+            graph = sgb.graph(text)
+            wanted = arcs(graph)
+            # the same graph, by the functions that all may call
+            made = networkx.MultiDiGraph()
+            made.add_nodes_from(range(graph.n))
+            for (u, v, length), count in wanted.items():
+                made.add_edges_from([(u, v, {"weight": length})] * count)
+            seen = graph.to_networkx(multi=True)
+            with self.subTest(text):
+                self.assertIs(type(seen), networkx.MultiDiGraph)
+                self.assertEqual(list(seen), list(range(graph.n)))
+                counts = [collections.Counter(one.edges(data="weight")) for one in (seen, made)]
+                self.assertEqual(*counts)
+                self.assertEqual(dict(seen.in_degree()), dict(made.in_degree()))
+                self.assertEqual(seen.number_of_edges(), len(graph.tips))
+                # parallel arcs have keys 0, 1 .., as add_edge gives them
+                self.assertEqual(sorted(seen.edges(keys=True)), sorted(made.edges(keys=True)))
+                ends = collections.Counter((u, v) for u, v, _ in wanted.elements())
+                if any(count > 1 for count in ends.values()):
+                    with self.assertRaises(ValueError):
+                        graph.to_networkx()
+                    continue
+                simple = graph.to_networkx()
+                self.assertIs(type(simple), networkx.DiGraph)
+                self.assertEqual(set(simple.edges(data="weight")), set(wanted))
+                named = graph.to_networkx(names=True)
+                self.assertEqual(list(named), graph.names)
+                called = {(graph.names[u], graph.names[v], length) for u, v, length in wanted}
+                self.assertEqual(set(named.edges(data="weight")), called)
+                # both directions are the same: an arc that is changed or taken away is so on both sides
+                for u, v in list(simple.edges())[:1]:
+                    simple[u][v]["weight"] = 9
+                    self.assertEqual(simple.pred[v][u]["weight"], 9)
+                    simple.remove_edge(u, v)
+                    self.assertFalse(simple.has_predecessor(v, u))
+        self.assertTrue(gc.isenabled())
+
+    @unittest.skipUnless(installed("networkx"), "without networkx")
+    def test_networkx_names(self):
+        """Lines of parallel edges have names that are alike: they are no nodes."""
+        graph = sgb.graph("lines(circuit(2),0)")
+        self.assertEqual(len(set(graph.names)), 1)
+        with self.assertRaises(ValueError):
+            graph.to_networkx(multi=True, names=True)
+
+    @unittest.skipUnless(sgb.numpy and installed("scipy"), "without scipy")
+    def test_scipy(self):
+        for text in GRAPHS:
+            graph = sgb.graph(text)
+            matrix = graph.to_scipy()
+            sums = collections.Counter()
+            for (u, v, length), count in arcs(graph).items():
+                sums[u, v] += length * count
+            with self.subTest(text):
+                self.assertEqual(matrix.shape, (graph.n, graph.n))
+                self.assertEqual(matrix.nnz, len(graph.tips))
+                found = collections.Counter()
+                entries = matrix.tocoo()
+                for u, v, value in zip(entries.row, entries.col, entries.data):
+                    found[int(u), int(v)] += int(value)
+                self.assertEqual(found, sums)
+
+    @unittest.skipUnless(installed("igraph"), "without igraph")
+    def test_igraph(self):
+        for text in GRAPHS:
+            graph = sgb.graph(text)
+            made = graph.to_igraph()
+            with self.subTest(text):
+                found = collections.Counter((e.source, e.target, e["length"]) for e in made.es)
+                self.assertEqual(found, arcs(graph))
+                self.assertEqual(made.vs["name"] if graph.n else [], graph.names)
+                self.assertTrue(made.is_directed())
+
+
+if __name__ == "__main__":
+    unittest.main()
