@@ -19,8 +19,8 @@
  *
  * What a caller owes: each pointer leads to as many values as its length says, which are no other argument's, and is not
  * NULL, also where the length is 0 (any address that fits the type does then). A handle begins as SGB_NO_GRAPH, is changed
- * by these calls alone, and is not copied while it is open. It is used by one call at a time, in whatever thread; several
- * handles may be open at once.
+ * by these calls alone, and is not copied while it is open. It is used by one call at a time (that
+ * it may go to another thread, under a lock, is not proved); several handles may be open at once.
  *
  * What is proved of each call stands in crates/sgb_c/src/lib.rt: that the arrays hold what the definitions say of the
  * expression's graph, and when each answer comes.
