@@ -13,8 +13,10 @@ then refused; OUTSIDE_SECONDS gives a slow one more time for each run; OUTSIDE_W
 import collections
 import contextlib
 import mmap
+import multiprocessing
 import os
 import pty
+import queue
 import re
 import resource
 import shutil
@@ -679,31 +681,71 @@ def all_checks():
     yield from c_library.all_checks(PROGRAM, document)
 
 
+# these take longest, so they begin first
+LONGEST = ("random", "output limited queen", "scripts", "library", "conformance")
+
+
+def chosen():
+    """The checks that the words choose, those that take longest first."""
+    words = sys.argv[2:]
+    found = [(name, checks) for name, checks in all_checks() if not words or any(word in name for word in words)]
+    return sorted(found, key=lambda pair: not pair[0].startswith(LONGEST))
+
+
+def work(checks, following, endless, results):
+    """One worker: it makes the check that follows until none does, or three runs did not end."""
+    with tempfile.TemporaryDirectory() as folder:
+        runs = Runs(folder)
+        while endless.value < 3:
+            with following.get_lock():
+                number = following.value
+                following.value += 1
+            if number >= len(checks):
+                return
+            tally, start = Tally(), time.monotonic()
+            try:
+                checks[number][1](runs, tally)
+            except DidNotEnd as run:
+                tally.failed.append(f"{run}; what comes after it was not tried")
+                with endless.get_lock():
+                    endless.value += 1
+            results.put((number, tally.passed, tally.failed, time.monotonic() - start))
+
+
+def told(name, passed, failed, seconds):
+    print(f"{passed:6} passed {len(failed):4} failed {seconds:6.1f} s  {name}", flush=True)
+    for line in failed[:5]:
+        print(f"  {line}")
+    if len(failed) > 5:
+        print(f"  and {len(failed) - 5} more")
+
+
 def main():
     if not os.access(PROGRAM, os.X_OK):
         sys.exit(f"{PROGRAM}: no such program")
-    passed, failed, endless = 0, 0, 0
-    with tempfile.TemporaryDirectory() as folder:
-        runs = Runs(folder)
-        for name, checks in all_checks():
-            if len(sys.argv) > 2 and not any(word in name for word in sys.argv[2:]):
-                continue
-            tally, start = Tally(), time.monotonic()
-            try:
-                checks(runs, tally)
-            except DidNotEnd as run:
-                tally.failed.append(f"{run}; what comes after it was not tried")
-                endless += 1
-            seconds = time.monotonic() - start
-            print(f"{tally.passed:6} passed {len(tally.failed):4} failed {seconds:6.1f} s  {name}", flush=True)
-            for line in tally.failed[:5]:
-                print(f"  {line}")
-            if len(tally.failed) > 5:
-                print(f"  and {len(tally.failed) - 5} more")
-            passed, failed = passed + tally.passed, failed + len(tally.failed)
-            if endless == 3:
-                print("Three runs did not end: given up")
-                break
+    checks = chosen()
+    processes = multiprocessing.get_context("fork")
+    following, endless, results = processes.Value("i", 0), processes.Value("i", 0), processes.Queue()
+    workers = [
+        processes.Process(target=work, args=(checks, following, endless, results))
+        for _ in range(min(os.cpu_count() or 1, len(checks)))
+    ]
+    for worker in workers:
+        worker.start()
+    passed, failed, made = 0, 0, set()
+    while any(worker.is_alive() for worker in workers) or not results.empty():
+        with contextlib.suppress(queue.Empty):
+            number, good, bad, seconds = results.get(timeout=0.2)
+            told(checks[number][0], good, bad, seconds)
+            passed, failed = passed + good, failed + len(bad)
+            made.add(number)
+    missing = [name for number, (name, _) in enumerate(checks) if number not in made]
+    if endless.value >= 3:
+        print("Three runs did not end: given up")
+    if missing:
+        # a check that raised something else ends its worker, and its line says what
+        print(f"not made, {len(missing)} in all: {', '.join(missing[:5])}")
+        failed += len(missing)
     print(f"{passed} passed, {failed} failed")
     sys.exit(1 if failed else 0)
 
