@@ -43,12 +43,16 @@ pub mod SimplexBounds
 pub mod SumCounts
 -- which vectors a bounded sum has
 pub mod SumMembers
+-- the place of a vector of a bounded sum
+pub mod SumPlaces
 -- rows of counts of a bounded sum
 pub mod SumRowLemmas
 -- the least and the greatest vector of a sum, and the nearest to another
 pub mod SumSuccessors
 -- vectors of a sum built, and looked through
 pub mod SumTails
+-- triples of numbers that add to another
+pub mod SumTriples
 -- the first, next, previous and last vector of a bounded sum
 pub mod SumWalks
 -- the name of a vector, entry by entry

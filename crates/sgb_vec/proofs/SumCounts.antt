@@ -39,7 +39,7 @@ laters-window (suc b) f zero = omega (arith, laters-shifted (suc b) 0 f 0)
 laters-window (suc b) f (suc k) = omega (arith, laters-shifted (suc b) 0 f (suc k), laters-window b f k)
 
 -- how many of the vectors add to k
-abbrev tally : List (List ℕ) → ℕ → ℕ
+abbrev pub tally : List (List ℕ) → ℕ → ℕ
 tally vectors k = length (filter (λ v. eqb (sum v) k) vectors)
 
 -- a filter of mapped elements
@@ -62,7 +62,7 @@ sum-suc : (x : ℕ) (v : List ℕ) → sum (suc x ∷ v) ≡ suc (sum (x ∷ v))
 sum-suc x v = omega (arith, sum_by-cons (λ y. y) (suc x) v, sum_by-cons (λ y. y) x v)
 
 -- tests of equations that say the same
-eqb_like : (a b c d : ℕ) → (a ≡ b → c ≡ d) → (c ≡ d → a ≡ b) → eqb a b ≡ eqb c d
+pub eqb_like : (a b c d : ℕ) → (a ≡ b → c ≡ d) → (c ≡ d → a ≡ b) → eqb a b ≡ eqb c d
 eqb_like a b c d there back =
     same_from_decides {P = c ≡ d} (eqb a b) (eqb c d) (Decides-like (eqb a b) there back (Decides-eqb a b)) (Decides-eqb c d)
 
@@ -189,3 +189,15 @@ counts_rise (b ∷ bounds) =
     let f : ℕ → ℕ = λ k. count_of_sum k bounds in
     let whole : b + sum bounds ≡ sum (b ∷ bounds) = sym (sum_by-cons (λ y. y) b bounds) in
     subst (IsHill (λ k. count_of_sum k (b ∷ bounds))) whole (IsHill-same (window b f) (λ k. count_of_sum k (b ∷ bounds)) (b + sum bounds) (λ k. sym (count_of_sum-cons b bounds k)) (IsHill-window f (sum bounds) (counts_rise bounds) b))
+
+-- three that are taken out one after another, the last bound having been put behind the others
+pub count_of_sum-three_taken : (x a b c : ℕ) (bounds all first second others : List ℕ) → all ≡ bounds ++ x ∷ [] → ((k : ℕ) → count_of_sum k all ≡ count_of_sum k (a ∷ first)) → ((k : ℕ) → count_of_sum k first ≡ count_of_sum k (b ∷ second)) → ((k : ℕ) → count_of_sum k second ≡ count_of_sum k (c ∷ others)) → (k : ℕ) → count_of_sum k (x ∷ bounds) ≡ count_of_sum k (a ∷ b ∷ c ∷ others)
+count_of_sum-three_taken x a b c bounds all first second others whole e f g k =
+    let taken : (i : ℕ) → count_of_sum i first ≡ count_of_sum i (b ∷ c ∷ others) = count_of_sum-taken b c first second others f g in
+    count_of_sum-cons x bounds k
+    ∙ sym (count_of_sum-snoc bounds x k)
+    ∙ ap (count_of_sum k) (sym whole)
+    ∙ e k
+    ∙ count_of_sum-cons a first k
+    ∙ window_same a (λ i. count_of_sum i first) (λ i. count_of_sum i (b ∷ c ∷ others)) k (λ i _. taken i)
+    ∙ sym (count_of_sum-cons a (b ∷ c ∷ others) k)

@@ -1,8 +1,9 @@
 -- Rows of counts of a bounded sum: the row of no bounds, and what running sums and a difference make of a row.
-use Rattle.std.proofs.Common.{◌≡◌, ℕ, suc, zero, ◌+◌, ◌-◌, ◌*◌, ◌<◌, ◌≤◌, ◌^◌, List, [], ◌∷◌, ◌++◌, length, take, sum, get_or, min, replicate, refl, sym, ap, subst, ◌∙◌, inl, inr, add-one, arith}
+use Rattle.std.proofs.Common.{◌≡◌, ℕ, suc, zero, ◌+◌, ◌-◌, ◌*◌, ◌<◌, ◌≤◌, ◌^◌, List, [], ◌∷◌, ◌++◌, length, take, sum, get_or, min, replicate, set, refl, sym, ap, subst, ◌∙◌, inl, inr, add-one, arith}
 use Rattle.std.specs.List.{All}
 use Rattle.std.proofs.lemmas.Bool.{cases_lt}
 use Rattle.std.proofs.lemmas.List.{get_or_append_left, get_or-append_right, get_or_past, take-append-le, take_all, take_more}
+use Rattle.std.proofs.lemmas.List.Elements.{All-nil, All-cons}
 use Rattle.std.proofs.lemmas.List.Sums.{sum_by-cons, sum_by_more, sum_by-le}
 use Rattle.sgb_vec.specs.Limits.{most_vertices}
 use Rattle.sgb_vec.specs.Sums.{count_of_sum}
@@ -45,12 +46,12 @@ sum-take_up_to row f (suc k) e h =
     omega (arith, sum_by_more (λ x. x) row (suc k) 0 h, e (suc k) h)
 
 -- running sums, less those that stand b + 1 places before, are the counts of one more bound
-pub CountsSums-snoc : (n : ℕ) (row sums next bounds : List ℕ) (b : ℕ) → CountsSums n row bounds → length row ≡ min n (sum (bounds ++ b ∷ [])) + 1 → length sums ≡ length row → length next ≡ length row
+pub CountsSums-snoc : (n : ℕ) (row sums next bounds : List ℕ) (b : ℕ) → CountsSums n row bounds → length row ≤ n + 1 → min n (sum (bounds ++ b ∷ [])) < length row → length sums ≡ length row → length next ≡ length row
     → ((k : ℕ) → k < length row → get_or sums k 0 ≡ sum (take (k + 1) row))
     → ((k : ℕ) → k < b + 1 → get_or next k 0 ≡ get_or sums k 0)
     → ((k : ℕ) → b + 1 ≤ k → k < length sums → get_or next k 0 + get_or sums (k - (b + 1)) 0 ≡ get_or sums k 0)
     → CountsSums n next (bounds ++ b ∷ [])
-CountsSums-snoc n row sums next bounds b counts whole long long_next running start after =
+CountsSums-snoc n row sums next bounds b counts most whole long long_next running start after =
     let f : ℕ → ℕ = λ i. count_of_sum i bounds in
     let total : (i : ℕ) → i < length row → get_or sums i 0 ≡ up_to f i = λ i h. running i h ∙ sum-take_up_to row f i (λ j l. counts.at j (omega arith)) h in
     record {
@@ -77,6 +78,17 @@ CountsSums-filled n m row bounds counts = record {
           | inl here ↦ get_or_append_left row (replicate m 0) 0 k here
           | inr past ↦ get_or-append_right row (replicate m 0) (length row) k 0 refl past ∙ get_or-zeros m (k - length row) ∙ sym (get_or_past row k 0 past)
         ]
+
+-- zeros are small
+zeros_small : (m : ℕ) → All (λ count. count ≤ most_vertices) (replicate m 0)
+zeros_small zero = All-nil (λ count. count ≤ most_vertices)
+zeros_small (suc m) = All-cons (λ count. count ≤ most_vertices) 0 (replicate m 0) (omega arith) (zeros_small m)
+
+-- the row that a longer one begins as: 1, and zeros after it
+pub CountsSums-start : (n m : ℕ) (row : List ℕ) → 0 < m → row ≡ replicate m 0 → CountsSums n (set row 0 1) [] × All (λ count. count ≤ most_vertices) (set row 0 1)
+CountsSums-start n zero row h e = absurd (omega arith)
+CountsSums-start n (suc m) row h e =
+    rw e (CountsSums-filled n m (1 ∷ []) [] (CountsSums-nil n), All-cons (λ count. count ≤ most_vertices) 1 (replicate m 0) (omega arith) (zeros_small m))
 
 -- a Vec written through a slice of all of it
 pub take_written : (n : ℕ) (xs ys : List ℕ) → n ≡ length xs → take n (xs ++ ys) ≡ xs
@@ -112,11 +124,11 @@ products_all t a b row bounds counts =
 -- one bound more: the row is filled up to as many sums as there are, and the counts of the bound summed over it
 pub CountsSums-step : (n i m z : ℕ) (bounds old filled next : List ℕ) → i < length bounds → CountsSums n old (take i bounds) → length old ≡ min n (sum (take i bounds)) + 1
     → m ≡ min n (sum (take (i + 1) bounds)) + 1 → filled ≡ take m old ++ replicate z 0 → length filled ≡ m
-    → ((k : ℕ) (some : List ℕ) → CountsSums k filled some → length filled ≡ min k (sum (some ++ get_or bounds i 0 ∷ [])) + 1 → CountsSums k next (some ++ get_or bounds i 0 ∷ []))
+    → ((k : ℕ) (some : List ℕ) → CountsSums k filled some → length filled ≤ k + 1 → min k (sum (some ++ get_or bounds i 0 ∷ [])) < length filled → CountsSums k next (some ++ get_or bounds i 0 ∷ []))
     → CountsSums n next (take (i + 1) bounds)
 CountsSums-step n i m z bounds old filled next h counts long m_is filled_is whole step =
     let kept : take m old ≡ old = take_all m old (omega (arith, sum-take_le i (i + 1) bounds (omega arith))) in
     let same : old ++ replicate z 0 ≡ filled = ap (λ xs. xs ++ replicate z 0) (sym kept) ∙ sym filled_is in
     let before : CountsSums n filled (take i bounds) = subst (λ xs. CountsSums n xs (take i bounds)) same (CountsSums-filled n z old (take i bounds) counts) in
     let all : length filled ≡ min n (sum (take i bounds ++ get_or bounds i 0 ∷ [])) + 1 = whole ∙ m_is ∙ ap (λ xs. min n (sum xs) + 1) (take_more bounds i 0 h) in
-    CountsSums-more n next bounds i h (step n (take i bounds) before all)
+    CountsSums-more n next bounds i h (step n (take i bounds) before (omega arith) (omega arith))

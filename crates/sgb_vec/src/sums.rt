@@ -1,4 +1,4 @@
-ghost use Rattle.std.specs.Prelude.{◌≡◌, ◌+◌, ◌<◌, ◌≤◌, ◌<ℤ◌, pos, ◌^◌, ◌⊎◌, ◌↔◌, length, drop, sum, Contains, IsTrue, IfSome, IfNone, slice_index, nat_le};
+ghost use Rattle.std.specs.Prelude.{◌≡◌, ◌+◌, ◌<◌, ◌≤◌, ◌<ℤ◌, pos, ◌^◌, ◌⊎◌, ◌↔◌, length, drop, sum, Contains, IsTrue, IfSome, IfNone, slice_index, slice_get, nat_le, Some};
 ghost use Rattle.std.specs.Bool.{OnTrue, OnFalse};
 ghost use Rattle.std.specs.List.{list_all, zip};
 ghost use Rattle.sgb_vec.specs.Lexicographic.{IsWithin};
@@ -14,10 +14,14 @@ use crate::shared::{count_of, put_zeros};
 use crate::steps::Steps;
 use arrayvec::ArrayVec;
 use counts::count_vectors;
+use places::{place_among, put_at};
 use std::alloc::Global;
 use std::marker::Model;
 
 mod counts;
+mod places;
+mod rows;
+mod triples;
 
 /// The vectors of a bounded sum: all `(x0, .., xd)` with `xk` at most the k-th bound that add to `n`, in
 /// lexicographic order (GB_BASIC, simplex). at most 251 bounds and 1,000,000,000 vectors. Contracts see it
@@ -80,6 +84,47 @@ impl SumFamily {
         ensures small { result ≤ most_vertices }
     {
         self.total
+    }
+
+    /// The place of a vector among them, counted from 0. It is found by counting, in some counts for each entry, and
+    /// with no memory. Where the counts had no room in place, which no sum is known to need, those before it would be walked.
+    pub fn place_of(&self, vector: &[u32]) -> u32
+        requires { Contains (bounded_sums self.now.total self.now.bounds) vector.now }
+        ensures { slice_get (bounded_sums self.now.total self.now.bounds) result ≡ Some vector.now }
+    {
+        if let Some(place) = place_among(self.bounds.as_slice(), vector, self.total) {
+            return place;
+        }
+        self.place_by_walk(vector)
+    }
+
+    // Puts the member at this place there: those before it are walked.
+    fn walk_to(&self, place: u32, vector: &mut Vector)
+        requires { place < length (bounded_sums self.now.total self.now.bounds) }
+        ensures { slice_get (bounded_sums self.now.total self.now.bounds) place ≡ Some
+            vector.new.items }
+    {
+        let _some = self.first(vector, &mut Steps::new());
+        for _k in 0..place {
+            let _more = self.advance(vector.as_mut_slice(), &mut Steps::new());
+        }
+    }
+
+    // The place of a member: those before it are walked.
+    fn place_by_walk(&self, vector: &[u32]) -> u32
+        requires { Contains (bounded_sums self.now.total self.now.bounds) vector.now }
+        ensures { slice_get (bounded_sums self.now.total self.now.bounds) result ≡ Some vector.now }
+    {
+        let mut walked = Vector::new();
+        let _some = self.first(&mut walked, &mut Steps::new());
+        let last = self.count - 1;
+        for place in 0..last {
+            if walked.as_slice() == vector {
+                return place;
+            }
+            let _more = self.advance(walked.as_mut_slice(), &mut Steps::new());
+        }
+        last
     }
 
     // Puts the vector after `entries` into it: the last entry that can grow at the cost of those after it grows by 1,
@@ -158,15 +203,21 @@ impl Family for SumFamily {
         each_within(vector, self.bounds.as_slice()) && total_of(vector) == u64::from(self.total)
     }
 
-    // The members before it are walked.
+    // It is found by counting; where that has no room in place, the members before it are walked.
     fn at(&self, place: u32, vector: &mut Vector) -> bool {
         if place >= self.count {
             return false;
         }
-        let _some = self.first(vector, &mut Steps::new());
-        for _k in 0..place {
-            let _more = self.advance(vector.as_mut_slice(), &mut Steps::new());
+        put_zeros(vector, self.bounds.len(), &mut Steps::new());
+        if put_at(
+            self.bounds.as_slice(),
+            vector.as_mut_slice(),
+            self.total,
+            place,
+        ) {
+            return true;
         }
+        self.walk_to(place, vector);
         true
     }
 

@@ -19,6 +19,9 @@ mod panics;
 // sizes of boards and bounds of simplexes
 #[cfg(test)]
 mod shapes;
+// places among the vectors of bounded sums
+#[cfg(test)]
+mod sum_places;
 // bounded sums
 #[cfg(test)]
 mod sums;

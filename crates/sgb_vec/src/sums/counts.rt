@@ -50,7 +50,7 @@ fn count_of_one(total: u32, bounds: &[u32]) -> u32
 }
 
 // Takes the greatest of the bounds out of them.
-fn take_greatest(bounds: &mut Vector) -> u32
+pub(super) fn take_greatest(bounds: &mut Vector) -> u32
     requires { 0 < length bounds.old.items }
     ensures greatest { (k : ℕ) → k < length bounds.old.items
         → slice_index bounds.old.items k ≤ result }
@@ -153,7 +153,7 @@ fn row_of(alloc: Global, total: u32, bounds: &[u32]) -> Result<Vec<u64>, Panic>
 
 // How many sums from 0 up have to be counted: those up to `total`, and none above the sum of the bounds,
 // which no vector has.
-fn row_length(total: u32, bounds: &[u32]) -> usize
+pub(super) fn row_length(total: u32, bounds: &[u32]) -> usize
     requires { length bounds.now ≤ most_dimensions + 1 }
     ensures { result ≡ min total (sum bounds.now) + 1 }
 {
@@ -161,11 +161,12 @@ fn row_length(total: u32, bounds: &[u32]) -> usize
 }
 
 // Makes the row of some bounds that of these and one more: an entry of at most `bound` comes after each vector.
-fn add_bound(row: &mut [u64], bound: u32)
+pub(super) fn add_bound(row: &mut [u64], bound: u32)
     requires short { length row.old ≤ most_vertices + 1 }
     requires small { All (λ count. count ≤ most_vertices) row.old }
-    ensures { (n : ℕ) (bounds : List ℕ) → CountsSums n row.old bounds → length row.old
-        ≡ min n (sum (bounds ++ bound ∷ [])) + 1 → CountsSums n row.new (bounds ++ bound ∷ []) }
+    ensures { (n : ℕ) (bounds : List ℕ) → CountsSums n row.old bounds → length row.old ≤ n + 1
+        → min n (sum (bounds ++ bound ∷ [])) < length row.old
+        → CountsSums n row.new (bounds ++ bound ∷ []) }
 {
     add_up(row);
     take_off(row, bound as usize + 1);
@@ -198,7 +199,7 @@ fn take_off(row: &mut [u64], width: usize)
 }
 
 // Whether some count is above 1,000,000,000.
-fn has_great(row: &[u64]) -> bool
+pub(super) fn has_great(row: &[u64]) -> bool
     ensures { result ≡ list_any (λ count. nat_lt most_vertices count) row.now }
 {
     row.iter().any(|count| *count > u64::from(MOST_VERTICES))

@@ -11,5 +11,5 @@ take_off-requires-clause-rising c = λ k low high.
     omega (arith, c.add_up.ensures k (omega arith), c.add_up.ensures before (omega arith), sum-take_le (before + 1) (k + 1) c.args.row.now (omega arith))
 
 pub returns : goal.returns
-returns c = λ n bounds counts whole.
-    CountsSums-snoc n c.args.row.now c.add_up.new.row c.take_off.new.row bounds c.args.bound counts whole (omega arith) (omega arith) c.add_up.ensures c.take_off.ensures.prefix c.take_off.ensures.after
+returns c = λ n bounds counts most whole.
+    CountsSums-snoc n c.args.row.now c.add_up.new.row c.take_off.new.row bounds c.args.bound counts most whole (omega arith) (omega arith) c.add_up.ensures c.take_off.ensures.prefix c.take_off.ensures.after

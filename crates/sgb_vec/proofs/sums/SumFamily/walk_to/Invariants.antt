@@ -1,7 +1,7 @@
 use Rattle.std.proofs.Common.{◌≡◌, Some}
 use Rattle.std.specs.List.{slice_get}
 use Rattle.sgb_vec.specs.Sums.{bounded_sums}
-use Rattle.sgb_vec.proofs.sums.SumFamilyFamily.at.Given as goal
+use Rattle.sgb_vec.proofs.sums.SumFamily.walk_to.Given as goal
 
 -- so many members were left behind
 abbrev pub invariant-loop-k : goal.invariant-loop-k
