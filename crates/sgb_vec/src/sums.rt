@@ -86,8 +86,8 @@ impl SumFamily {
         self.total
     }
 
-    /// The place of a vector among them, counted from 0. It is found by counting, in some counts for each entry, and
-    /// with no memory. Where the counts had no room in place, which no sum is known to need, those before it would be walked.
+    /// The place of a vector among them, counted from 0. It is found by counting, at most once for each entry, and no
+    /// memory is taken. Where the counts have no room in place, which no sum is known to need, a walk finds it.
     pub fn place_of(&self, vector: &[u32]) -> u32
         requires { Contains (bounded_sums self.now.total self.now.bounds) vector.now }
         ensures { slice_get (bounded_sums self.now.total self.now.bounds) result ≡ Some vector.now }
@@ -203,7 +203,7 @@ impl Family for SumFamily {
         each_within(vector, self.bounds.as_slice()) && total_of(vector) == u64::from(self.total)
     }
 
-    // It is found by counting; where that has no room in place, the members before it are walked.
+    // It is found by counting; where the counts have no room in place, the members before it are walked.
     fn at(&self, place: u32, vector: &mut Vector) -> bool {
         if place >= self.count {
             return false;
