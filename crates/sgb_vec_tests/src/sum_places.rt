@@ -1,6 +1,3 @@
-ghost use Rattle.std.specs.Prelude.{◌≤◌, ◌+◌, length};
-ghost use Rattle.sgb_vec.specs.Limits.{most_dimensions};
-
 use sgb_vec::{Family, Panic, SumFamily, Vector, Vectors};
 use std::alloc::Global;
 use std::test::Fail;
@@ -75,9 +72,10 @@ fn is_found(family: &SumFamily, vector: &[u32], place: u32, there: &mut Vector) 
 }
 
 // Whether each vector that a walk comes to is found, and there is none after all.
-fn all_found(alloc: Global, total: i64, bounds: &[u32]) -> Result<bool, Panic>
-    requires { length bounds.now ≤ most_dimensions + 1 }
-{
+fn all_found(alloc: Global, total: i64, bounds: &[u32]) -> Result<bool, Panic> {
+    if bounds.len() > 251 {
+        return Ok(false);
+    }
     let family = SumFamily::new(alloc, total, bounds)?;
     Ok(walk_found(&family) && none_past_the_end(&family))
 }
@@ -105,17 +103,20 @@ fn none_past_the_end(family: &SumFamily) -> bool {
 }
 
 // Whether the vectors at the ends, in the middle and beside them have these places.
-fn ends_found(alloc: Global, total: i64, bounds: &[u32]) -> Result<bool, Panic>
-    requires { length bounds.now ≤ most_dimensions + 1 }
-{
+fn ends_found(alloc: Global, total: i64, bounds: &[u32]) -> Result<bool, Panic> {
+    if bounds.len() > 251 {
+        return Ok(false);
+    }
     let family = SumFamily::new(alloc, total, bounds)?;
     let last = family.size().saturating_sub(1);
     let middle = last / 2;
-    Ok(goes_back(&family, 0)
-        && goes_back(&family, middle)
-        && goes_back(&family, middle.saturating_add(1))
-        && goes_back(&family, last)
-        && none_past_the_end(&family))
+    Ok(
+        goes_back(&family, 0)
+            && goes_back(&family, middle)
+            && goes_back(&family, middle.saturating_add(1))
+            && goes_back(&family, last)
+            && none_past_the_end(&family),
+    )
 }
 
 // Whether the vector at this place has the place.
