@@ -93,12 +93,7 @@ back-one bounds x at = arc_in_list (can_return bounds x at) (arc_back x) at
 pub on-one : (bounds x : List ℕ) (at : Places) → arc_by_unit bounds x at.lower at.higher ≡ arcs_on bounds x (at ∷ [])
 on-one bounds x at = arc_in_list (can_shift bounds x at) (arc_on x) at
 
--- where no unit can go, and where one can
+-- where no unit can go
 pub unit-stays : (bounds x : List ℕ) (links : LinksData) (from to : ℕ) → can_move_unit bounds x from to ≡ false → links ≡ with_arcs links (arc_by_unit bounds x from to)
 unit-stays bounds x links from to cannot =
     with_none links ∙ ap (λ b. with_arcs links (if b then record { tip = unit_moved x from to; len = pos 1 } ∷ [] else [])) (sym cannot)
-
-pub unit-goes : (bounds x : List ℕ) (links new : LinksData) (from to : ℕ) (v : List ℕ) → can_move_unit bounds x from to ≡ true → v ≡ unit_moved x from to → new ≡ with_arcs links (record { tip = v; len = pos 1 } ∷ []) → new ≡ with_arcs links (arc_by_unit bounds x from to)
-unit-goes bounds x links new from to v can is new_is =
-    new_is ∙ ap (λ w. with_arcs links (record { tip = w; len = pos 1 } ∷ [])) is
-    ∙ ap (λ b. with_arcs links (if b then record { tip = unit_moved x from to; len = pos 1 } ∷ [] else [])) (sym can)

@@ -1,8 +1,10 @@
 //! The arcs of one vertex, with the vectors where they lead.
-ghost use Rattle.std.specs.Prelude.{◌≡◌, ◌<◌, pos, [], ◌∷◌, ◌++◌, ◌*◌, ◌≤◌, length, take, drop, reverse, slice_get, Some, OnOk, OnErr, IsOkUnless};
+ghost use Rattle.std.specs.Prelude.{◌≡◌, ◌≢◌, ◌<◌, pos, true, [], ◌∷◌, ◌++◌, ◌*◌, ◌≤◌, length, take, drop, reverse, slice_get, Some, OnOk, OnErr, IsOkUnless};
 ghost use Rattle.sgb_gen.specs.LocalLists.{LinksData, LocalArc};
 ghost use Rattle.sgb_gen.specs.inner.LocalArcs.{rows_turned};
+ghost use Rattle.sgb_gen.specs.Simplexes.{can_move_unit, unit_moved};
 
+use crate::shifts::move_unit;
 use sgb_vec::Panic;
 use std::alloc::Global;
 use std::marker::Model;
@@ -117,6 +119,36 @@ impl Links {
         self.lens.reserve(1)?;
         self.tips.extend_from_slice(tip)?;
         self.lens.push(len)?;
+        Ok(())
+    }
+
+    // Puts an arc of length 1 behind the others, to the vector that `x` becomes when a unit goes from one place to another:
+    // two of its entries are changed where they are kept. An error means out of memory.
+    pub(crate) fn push_moved(
+        &mut self,
+        bounds: &[u32],
+        x: &[u32],
+        from: usize,
+        to: usize,
+    ) -> Result<(), Panic>
+        requires width { length x.now ≡ self.old.width }
+        requires apart { from ≢ to }
+        requires from { from < length x.now }
+        requires to { to < length x.now }
+        requires bounds { length x.now ≡ length bounds.now }
+        requires can { can_move_unit bounds.now x.now from to ≡ true }
+        ensures ok { OnOk result (self.new
+            ≡ record self.old {
+              arcs = self.old.arcs
+                  ++ record { tip = unit_moved x.now from to; len = pos 1 } ∷ [];
+            }) }
+        ensures memory { IsOkUnless result Panic.NoRoom }
+    {
+        let start = self.tips.len();
+        self.lens.reserve(1)?;
+        self.tips.extend_from_slice(x)?;
+        move_unit(bounds, &mut self.tips.as_mut_slice()[start..], from, to);
+        self.lens.push(1)?;
         Ok(())
     }
 

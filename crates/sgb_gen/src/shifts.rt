@@ -15,6 +15,19 @@ pub(crate) fn can_move_unit(bounds: &[u32], v: &[u32], from: usize, to: usize) -
     v[from] > 0 && v[to] < bounds[to]
 }
 
+/// Moves a unit of `v` from one place to another (GB_BASIC, simplex).
+pub(crate) fn move_unit(bounds: &[u32], v: &mut [u32], from: usize, to: usize)
+    requires apart { from ≢ to }
+    requires from { from < length v.old }
+    requires to { to < length v.old }
+    requires bounds { length v.old ≡ length bounds.now }
+    requires can { can_move_unit bounds.now v.old from to ≡ true }
+    ensures { v.new ≡ unit_moved v.old from to }
+{
+    v[from] -= 1;
+    v[to] += 1;
+}
+
 /// The vector `v` with a unit gone from one place to another (GB_BASIC, simplex).
 pub(crate) fn unit_moved(bounds: &[u32], v: &[u32], from: usize, to: usize) -> Vector
     requires few { length v.now ≤ most_dimensions + 1 }
@@ -29,7 +42,6 @@ pub(crate) fn unit_moved(bounds: &[u32], v: &[u32], from: usize, to: usize) -> V
     for entry in v {
         there.push(*entry);
     }
-    there[from] -= 1;
-    there[to] += 1;
+    move_unit(bounds, there.as_mut_slice(), from, to);
     there
 }

@@ -7,7 +7,7 @@ ghost use Rattle.sgb_gen.specs.Simplexes.{simplex_vectors, moves_of_simplex, pai
 
 use super::Simplex;
 use crate::links::Links;
-use crate::shifts::{can_move_unit, unit_moved};
+use crate::shifts::can_move_unit;
 use sgb_vec::Panic;
 
 impl Simplex {
@@ -136,7 +136,5 @@ fn push_one(
     if !can_move_unit(bounds, x, from, to) {
         return Ok(());
     }
-    let there = unit_moved(bounds, x, from, to);
-    links.push(there.as_slice(), 1)?;
-    Ok(())
+    links.push_moved(bounds, x, from, to)
 }
