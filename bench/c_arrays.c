@@ -3,6 +3,8 @@
  *     c_arrays list EXPR       the listing, put together from the arrays
  *     c_arrays names EXPR      the names, one a line
  *     c_arrays ints EXPR       for each utility field of the vertices its number, the answer, and its integers, on a line
+ *     c_arrays save EXPR       the file
+ *     c_arrays kinds EXPR      the letters of the kinds, on a line
  *     c_arrays answer EXPR     the answer of sgb_open, and of the calls on this handle, where all their arrays are empty
  *     c_arrays wrong EXPR      each array one too short and one too long: the answer is SGB_WRONG_LENGTH, nothing is written
  *     c_arrays handles EXPR    handles that are open, opened again, closed, closed twice, and two at once
@@ -64,7 +66,8 @@ static sgb_graph_sizes sizes;
 static uint64_t *starts, *name_starts;
 static uint32_t *tips;
 static int64_t *lengths, *values;
-static char *names, *id;
+static char *names, *id, *kinds, *file;
+static uint64_t file_size;
 
 static void *array(uint64_t count, size_t size) {
     void *at = calloc(count + 2, size);
@@ -103,6 +106,8 @@ static void make_arrays(void) {
     values = array(n, sizeof *values);
     names = array(sizes.names, 1);
     id = array(sizes.id, 1);
+    kinds = array(14, 1);
+    file = array(file_size, 1);
 }
 
 static void free_arrays(void) {
@@ -113,6 +118,8 @@ static void free_arrays(void) {
     free(values);
     free(names);
     free(id);
+    free(kinds);
+    free(file);
 }
 
 static uint64_t open_graph(sgb_graph *at) { return sgb_open(text, text_len, input, input_len, at); }
@@ -126,6 +133,10 @@ static uint64_t get_names(sgb_graph *at, int a, int b) {
 }
 
 static uint64_t get_id(sgb_graph *at, int a) { return sgb_id(at, id, sizes.id + a); }
+
+static uint64_t get_kinds(sgb_graph *at, int a) { return sgb_kinds(at, kinds, 14 + a); }
+
+static uint64_t get_file(sgb_graph *at, int a) { return sgb_file(at, file, file_size + a); }
 
 static uint64_t get_ints(sgb_graph *at, uint32_t field, int a) { return sgb_ints(at, field, values, sizes.vertices + a); }
 
@@ -141,7 +152,7 @@ static void all_untouched(const char *what) {
     if (!is_untouched(starts, n + 1, sizeof *starts) || !is_untouched(name_starts, n + 1, sizeof *name_starts)
         || !is_untouched(tips, sizes.listed, sizeof *tips) || !is_untouched(lengths, sizes.listed, sizeof *lengths)
         || !is_untouched(values, n, sizeof *values) || !is_untouched(names, sizes.names, 1)
-        || !is_untouched(id, sizes.id, 1))
+        || !is_untouched(id, sizes.id, 1) || !is_untouched(kinds, 14, 1) || !is_untouched(file, file_size, 1))
         fail(what);
 }
 
@@ -176,6 +187,18 @@ static void list_names(void) {
     }
 }
 
+static void save(void) {
+    must(get_file(&graph, 0), SGB_OK, "sgb_file");
+    fwrite(file, 1, file_size, stdout);
+    if (!is_untouched(file + file_size, 0, 1)) fail("written past the end of a file");
+}
+
+static void list_kinds(void) {
+    must(get_kinds(&graph, 0), SGB_OK, "sgb_kinds");
+    printf("%.14s\n", kinds);
+    if (!is_untouched(kinds + 14, 0, 1)) fail("written past the end of the kinds");
+}
+
 static void list_ints(void) {
     for (uint32_t field = 0; field < 7; field++) {
         uint64_t answer = get_ints(&graph, field, 0);
@@ -195,6 +218,8 @@ static void wrong(void) {
         must(get_names(&graph, by, 0), SGB_WRONG_LENGTH, "sgb_names with wrong starts");
         if (by > 0 || sizes.names > 0) must(get_names(&graph, 0, by), SGB_WRONG_LENGTH, "sgb_names with wrong bytes");
         must(get_id(&graph, by), SGB_WRONG_LENGTH, "sgb_id");
+        must(get_kinds(&graph, by), SGB_WRONG_LENGTH, "sgb_kinds");
+        must(get_file(&graph, by), SGB_WRONG_LENGTH, "sgb_file");
         if (by > 0 || sizes.vertices > 0) {
             uint64_t fitting = get_ints(&graph, 3, 0);
             memset(values, 0x5a, (sizes.vertices + 2) * sizeof *values);
@@ -218,6 +243,11 @@ static void is_closed(sgb_graph *at) {
     must(get_rows(at, 0, 0, 0), SGB_NOT_OPEN, "sgb_rows of no graph");
     must(get_names(at, 0, 0), SGB_NOT_OPEN, "sgb_names of no graph");
     must(get_id(at, 0), SGB_NOT_OPEN, "sgb_id of no graph");
+    must(get_kinds(at, 0), SGB_NOT_OPEN, "sgb_kinds of no graph");
+    must(get_file(at, 0), SGB_NOT_OPEN, "sgb_file of no graph");
+    uint64_t size = 7;
+    must(sgb_file_size(at, &size), SGB_NOT_OPEN, "sgb_file_size of no graph");
+    if (size != 7) fail("the size of a file is written without a graph");
     for (uint32_t field = 0; field < 7; field++)
         must(get_ints(at, field, 0), SGB_NOT_OPEN, "sgb_ints of no graph");
     all_untouched("written to without a graph");
@@ -333,11 +363,15 @@ static void refuse(void) {
             must(get_rows(&graph, 0, 0, 0), SGB_OK, "sgb_rows");
             must(get_names(&graph, 0, 0), SGB_OK, "sgb_names");
             must(get_id(&graph, 0), SGB_OK, "sgb_id");
+            must(get_kinds(&graph, 0), SGB_OK, "sgb_kinds");
+            uint64_t size = 0;
+            must(sgb_file_size(&graph, &size), SGB_OK, "sgb_file_size");
+            must(get_file(&graph, 0), SGB_OK, "sgb_file");
             get_ints(&graph, 3, 0);
             counting = 0;
             if (calls != 0 || held != before) fail("a call on a graph takes or gives back memory");
             if (before == 0) fail("an open graph holds no memory");
-            if (memcmp(&there, &sizes, sizeof sizes) != 0) fail("other sizes than before");
+            if (memcmp(&there, &sizes, sizeof sizes) != 0 || size != file_size) fail("other sizes than before");
             counting = 1;
             sgb_close(&graph);
             counting = 0;
@@ -367,10 +401,13 @@ static void answer(void) {
     uint32_t narrow[1];
     int64_t number[1];
     sgb_graph_sizes there;
+    uint64_t size = 0;
     uint64_t opened = open_graph(&graph);
-    printf("%" PRIu64 " %" PRIu64 " %" PRIu64 " %" PRIu64 " %" PRIu64 " %" PRIu64 "\n", opened, sgb_sizes(&graph, &there),
+    printf("%" PRIu64 " %" PRIu64 " %" PRIu64 " %" PRIu64 " %" PRIu64 " %" PRIu64, opened, sgb_sizes(&graph, &there),
            sgb_rows(&graph, wide, 0, narrow, 0, number, 0), sgb_names(&graph, wide, 0, none, 0),
            sgb_ints(&graph, 9, number, 0), sgb_id(&graph, none, 0));
+    printf(" %" PRIu64 " %" PRIu64 " %" PRIu64 "\n", sgb_kinds(&graph, none, 0), sgb_file_size(&graph, &size),
+           sgb_file(&graph, none, 0));
     sgb_close(&graph);
     is_closed(&graph);
 }
@@ -405,10 +442,13 @@ int main(int count, char **words) {
     }
     must(open_graph(&graph), SGB_OK, "sgb_open");
     must(sgb_sizes(&graph, &sizes), SGB_OK, "sgb_sizes");
+    must(sgb_file_size(&graph, &file_size), SGB_OK, "sgb_file_size");
     make_arrays();
     if (strcmp(words[1], "list") == 0) list();
     else if (strcmp(words[1], "names") == 0) list_names();
     else if (strcmp(words[1], "ints") == 0) list_ints();
+    else if (strcmp(words[1], "save") == 0) save();
+    else if (strcmp(words[1], "kinds") == 0) list_kinds();
     else if (strcmp(words[1], "wrong") == 0) wrong();
     else if (strcmp(words[1], "handles") == 0) handles();
     else if (strcmp(words[1], "refuse") == 0) refuse();

@@ -137,11 +137,13 @@ def tables(tally, program, path):
     """The arrays of all expressions; wrong lengths; several handles."""
     for expression in EXPRESSIONS:
         given = input_of(expression)
-        for word in ("list", "names"):
+        for word in ("list", "names", "save"):
             tally.same((path, word, expression), ran(path, word, expression, given=given), said(program, word, expression))
         status, saved, _ = said(program, "save", expression)
         wanted = (0, fields_of(saved), b"") if status == 0 else None
         tally.same((path, "ints", expression), ran(path, "ints", expression, given=given), wanted)
+        letters = saved[len(b"* GraphBase graph (util_types "):][:14] + b"\n"
+        tally.same((path, "kinds", expression), ran(path, "kinds", expression, given=given), (status, letters, b""))
         for word in ("wrong", "handles"):
             tally.same((path, word, expression), ran(path, word, expression, given=given), (0, b"right\n", b""))
 
@@ -158,12 +160,12 @@ def refusals(tally, program, path):
         elif number != 100:
             is_told = told and number in (int(told[1] or -1), 1000 + int(told[2] or -1001))
             tally.check(is_told, program, "names", text[:40], "gave", (status, err), "and not", str(number))
-        # the answer of sgb_open, and of the five calls on a handle that was not opened
-        wanted = " ".join([str(number)] + ["105"] * 5) + "\n"
+        # the answer of sgb_open, and of the eight calls on a handle that was not opened
+        wanted = " ".join([str(number)] + ["105"] * 8) + "\n"
         # a text of 65,537 bytes is a word of a command line
         tally.same((path, "answer", text[:40]), ran(path, "answer", text, given=given), (0, wanted.encode(), b""))
     # arrays of a wrong length, and a field that there is not, are told of only where there is a graph
-    tally.same((path, "answer", "complete(2)"), ran(path, "answer", "complete(2)"), (0, b"0 0 101 101 102 101\n", b""))
+    tally.same((path, "answer", "complete(2)"), ran(path, "answer", "complete(2)"), (0, b"0 0 101 101 102 101 101 0 101\n", b""))
 
 
 def draws(tally, program, path):

@@ -40,6 +40,13 @@ int main() {
         check(first.n() == 12 && first.m() == 34 && names.size() == 12 && names[5] == "1.1", "a board of 3 by 4");
         check(first.ints(3)[11] == 2 && first.ints(4)[11] == 3, "coordinates");
         check(code_of([&] { first.ints(0); }) == SGB_NO_INTEGERS, "a field that holds no integers");
+        check(first.kinds() == "ZZZIIIZZZZZZZZ", "kinds");
+        const auto file = first.file();
+        check(file.starts_with("* GraphBase graph (util_types ZZZIIIZZZZZZZZ,12V,34A)\n"), "a file");
+        sgb::graph read("stdin", file);
+        check(read.names() == names && read.file() == file, "the graph of a file");
+        read.close();
+        closed = 0;
         check(first.tips(11).size() == 2 && first.tips(0).size() == 2 && first.tips(0)[0] == 4, "the list of a vertex");
         try {
             first.tips(12);
@@ -57,6 +64,8 @@ int main() {
         check(closed == 2 && third.tips().size() == 34, "the arrays of a graph that was closed");
         check(code_of([&] { third.names(); }) == SGB_NOT_OPEN, "names of a graph that was closed");
         check(code_of([&] { third.ints(3); }) == SGB_NOT_OPEN, "integers of a graph that was closed");
+        check(code_of([&] { third.kinds(); }) == SGB_NOT_OPEN, "kinds of a graph that was closed");
+        check(code_of([&] { third.file(); }) == SGB_NOT_OPEN, "the file of a graph that was closed");
         third.close();
     }
     check(closed == 2, "a graph is closed once");

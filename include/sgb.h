@@ -15,7 +15,7 @@
  *
  * Arrays belong to the caller, who hands in each with its length. A call fills all of its arrays, or leaves all of them as
  * they were: an array of another length than it must have is never written to (SGB_WRONG_LENGTH). sgb_sizes says which
- * lengths these are.
+ * lengths these are, sgb_file_size that of a file.
  *
  * What a caller owes: each pointer leads to as many values as its length says, which are no other argument's, and is not
  * NULL, also where the length is 0 (any address that fits the type does then). A handle begins as SGB_NO_GRAPH, is changed
@@ -100,6 +100,19 @@ uint64_t sgb_ints(sgb_graph *graph, uint32_t field, int64_t *values, size_t valu
 /* The id: the graph's official name. No zero byte comes after it.
  * `bytes` has `id` places. */
 uint64_t sgb_id(sgb_graph *graph, char *bytes, size_t bytes_len);
+
+/* What the utility fields hold, a letter each of Z I V S A (GB_GRAPH, util_types): of vertices u v w x y z, of arcs a b, of
+ * the graph uu vv ww xx yy zz. Z is a field that is not used, I an integer; V a vertex, S a string, A an arc.
+ * `letters` has 14 places, and no zero byte comes after them. */
+uint64_t sgb_kinds(sgb_graph *graph, char *letters, size_t letters_len);
+
+/* The bytes that the graph's `.gb` file has; 2^64 - 1 also where it has more. It is made, and not kept: this takes as long as
+ * sgb_file. */
+uint64_t sgb_file_size(sgb_graph *graph, uint64_t *size);
+
+/* The graph's `.gb` file (GB_SAVE, save_graph), as `sgb save` writes it.
+ * `bytes` has as many places as sgb_file_size says. */
+uint64_t sgb_file(sgb_graph *graph, char *bytes, size_t bytes_len);
 
 /* Random numbers of GB_FLIP: a generator is started from `start`, its first `skip` draws are left out, and the next ones fill
  * `out`. No memory is taken. */

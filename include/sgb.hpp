@@ -36,8 +36,8 @@ inline void must(std::uint64_t answer) {
 
 // A graph: the lists of its vertices in compressed sparse rows. It may be moved, and is not copied.
 //
-// The library holds the graph until close() or the end of this object; names and integers are fetched from it. A graph is
-// used by one call of names, ints or close at a time; its arrays may be read by many.
+// The library holds the graph until close() or the end of this object; names, integers, kinds and files are fetched from
+// it. A graph is used by one call of names, ints, kinds, file or close at a time; its arrays may be read by many.
 class graph {
 public:
     explicit graph(std::string_view text, std::string_view input = "") : handle_(new sgb_graph SGB_NO_GRAPH) {
@@ -55,7 +55,7 @@ public:
         must(sgb_id(handle_.get(), id_.data(), id_.size()));
     }
 
-    // gives back what the library holds: the arrays stay, and names() and ints() throw SGB_NOT_OPEN
+    // gives back what the library holds: the arrays stay, and names(), ints(), kinds() and file() throw SGB_NOT_OPEN
     void close() { handle_.reset(); }
 
     // the numbers of vertices and of arcs, and the official name
@@ -89,6 +89,22 @@ public:
         must(sgb_ints(held(), field, values.data(), n()));
         values.pop_back();
         return values;
+    }
+
+    // what the utility fields hold, a letter each: of vertices u v w x y z, of arcs a b, of the graph uu vv ww xx yy zz
+    std::string kinds() {
+        std::string letters(14, ' ');
+        must(sgb_kinds(held(), letters.data(), letters.size()));
+        return letters;
+    }
+
+    // the `.gb` file of the graph
+    std::string file() {
+        std::uint64_t size = 0;
+        must(sgb_file_size(held(), &size));
+        std::string bytes(size, ' ');
+        must(sgb_file(held(), bytes.data(), bytes.size()));
+        return bytes;
     }
 
 private:

@@ -93,7 +93,22 @@ class Arrays(unittest.TestCase):
         with self.assertRaises(TypeError):
             sgb.graph("stdin", 5)
 
-    def test_kinds(self):
+    def test_save(self):
+        for text in GRAPHS:
+            with self.subTest(text):
+                graph = sgb.graph(text)
+                saved = said("save", text)
+                self.assertEqual(graph.save(), saved.encode())
+                self.assertEqual(graph.kinds, saved[len("* GraphBase graph (util_types "):][:14])
+        self.assertEqual(sgb.graph("stdin", FILE).kinds, "Z" * 14)
+        self.assertEqual(graph.save(), graph.save())
+        kinds = graph.kinds
+        graph.close()
+        self.assertEqual(graph.kinds, kinds)
+        with self.assertRaises(ValueError):
+            graph.save()
+
+    def test_arrays(self):
         graph = sgb.graph("petersen()")
         self.assertEqual((graph.n, len(graph), graph.m, graph.text), (10, 10, 30, "petersen()"))
         wanted = memoryview if sgb.numpy is None else sgb.numpy.ndarray

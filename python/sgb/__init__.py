@@ -77,6 +77,9 @@ _CALLS = {
     "sgb_names": (_ON + 2 * _ARRAY, ctypes.c_uint64),
     "sgb_ints": (_ON + [ctypes.c_uint32] + _ARRAY, ctypes.c_uint64),
     "sgb_id": (_ON + _ARRAY, ctypes.c_uint64),
+    "sgb_kinds": (_ON + _ARRAY, ctypes.c_uint64),
+    "sgb_file_size": (_ON + [ctypes.POINTER(ctypes.c_uint64)], ctypes.c_uint64),
+    "sgb_file": (_ON + _ARRAY, ctypes.c_uint64),
     "sgb_draws": ([ctypes.c_int64, ctypes.c_uint64] + _ARRAY, None),
     "sgb_uniform_draws": ([ctypes.c_int64, ctypes.c_uint64, ctypes.c_uint32] + _ARRAY, ctypes.c_uint64),
 }
@@ -148,8 +151,8 @@ class Graph:
     """A graph: its lists of arcs one after another, in `tips` and `lengths`; that of vertex v is what stands from starts[v]
     up to starts[v + 1].
 
-    The library holds the graph until `close`, the end of a `with`, or the end of this object: names and integers are fetched
-    when they are asked for. What was fetched stays."""
+    The library holds the graph until `close`, the end of a `with`, or the end of this object: names, integers and kinds are
+    fetched when they are asked for. What was fetched stays."""
 
     def __init__(self, text, input=b""):
         self._handle, self._lock, self._kept = _Handle(), threading.Lock(), {}
@@ -231,6 +234,28 @@ class Graph:
         values = _Array("q", self.n)
         _must(_lib.sgb_ints(self._handle, FIELDS.index(field), *values.words))
         return values.seen()
+
+    @property
+    def kinds(self):
+        """What the utility fields hold, a letter of Z I V S A each: of vertices u v w x y z, of arcs a b, of the graph uu vv ww
+        xx yy zz. I is an integer, and Z a field that is not used."""
+        return self._fetched("kinds", self._fetch_kinds)
+
+    def _fetch_kinds(self):
+        letters = _Array("B", 14)
+        _must(_lib.sgb_kinds(self._handle, *letters.words))
+        return bytes(letters.seen()).decode()
+
+    def save(self):
+        """The bytes of the graph's .gb file."""
+        with self._lock:
+            if not self._handle.is_open:
+                raise ValueError("the graph is closed, and cannot be saved")
+            size = ctypes.c_uint64()
+            _must(_lib.sgb_file_size(self._handle, size))
+            file = _Array("B", size.value)
+            _must(_lib.sgb_file(self._handle, *file.words))
+            return bytes(file.seen())
 
     def to_scipy(self):
         """The matrix of lengths, a scipy.sparse.csr_array: row v is the list of vertex v, in its order. Parallel arcs are

@@ -9,6 +9,8 @@ pub mod NamesLeft
 pub mod DrawsPut
 -- integers of a field
 pub mod FieldValues
+-- a slice that a text is put into
+pub mod FilledFiles
 -- parts by their starts
 pub mod Parts
 -- worked examples

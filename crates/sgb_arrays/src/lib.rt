@@ -6,8 +6,12 @@
 mod draws;
 // Utility fields of vertices as arrays.
 mod fields;
+// Files in arrays.
+mod files;
 // The id in an array.
 mod ids;
+// Kinds of fields in an array.
+mod kinds;
 // What holds of all arrays.
 mod laws;
 // Why an array is not filled.
@@ -21,7 +25,9 @@ mod puts;
 
 pub use draws::{fill_draws, fill_uniform_draws};
 pub use fields::fill_ints;
+pub use files::{file_len, fill_file};
 pub use ids::fill_id;
+pub use kinds::fill_kinds;
 pub use laws::parts_law;
 pub use names::{fill_names, names_len};
 pub use refusals::Wrong;

@@ -1,6 +1,6 @@
 use sgb_arrays::{
-    Wrong, arcs_len, fill_draws, fill_id, fill_ints, fill_names, fill_rows, fill_uniform_draws,
-    names_len,
+    Wrong, arcs_len, file_len, fill_draws, fill_file, fill_id, fill_ints, fill_kinds, fill_names,
+    fill_rows, fill_uniform_draws, names_len,
 };
 use sgb_gen::complete;
 use std::test::Fail;
@@ -31,6 +31,32 @@ fn names_and_fields_of_a_triangle(rt: HostRuntime) -> Result<(), Fail> {
     let mut id = [0; 21];
     assert!(rt; fill_id(&graph, &mut id) == Ok(()));
     assert!(rt; id == *b"board(3,0,0,0,-1,0,0)");
+    Ok(())
+}
+
+const FILE: &[u8; 160] = b"* GraphBase graph (util_types ZZZIIIZZZZZZZZ,2V,2A)
+\"board(2,0,0,0,-1,0,0)\",2,2
+* Vertices
+\"0\",A0,0,0,0
+\"1\",A1,1,0,0
+* Arcs
+V1,0,1
+V0,0,1
+* Checksum 1066721325
+";
+
+#[test]
+fn kinds_and_file_of_two_vertices(rt: HostRuntime) -> Result<(), Fail> {
+    let graph = complete(2).graph(rt.alloc())?;
+    let mut letters = [0; 14];
+    assert!(rt; fill_kinds(&graph, &mut letters) == Ok(()));
+    assert!(rt; letters == *b"ZZZIIIZZZZZZZZ");
+    assert!(rt; fill_kinds(&graph, &mut letters[..13]) == Err(Wrong::Length));
+    assert!(rt; file_len(&graph) == 160);
+    let mut bytes = [0; 160];
+    assert!(rt; fill_file(&graph, &mut bytes) == Ok(()));
+    assert!(rt; bytes == *FILE);
+    assert!(rt; fill_file(&graph, &mut bytes[..159]) == Err(Wrong::Length));
     Ok(())
 }
 

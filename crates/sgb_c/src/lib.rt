@@ -3,7 +3,8 @@
 //! graph is made once and held by a handle until it is closed.
 #![tactic(auto)]
 
-ghost use Rattle.std.specs.Prelude.{◌≡◌, ◌⊎◌, ◌≤◌, length, None};
+ghost use Rattle.std.specs.Prelude.{◌≡◌, ◌⊎◌, ◌≤◌, ◌-◌, ◌^◌, length, map, min, None};
+ghost use Rattle.sgb_file.specs.Saving.{letter_of, text_of_graph};
 ghost use Rattle.sgb_graph.specs.Draws.{modulus, plain_draws, seed_of, uniform_draws};
 ghost use Rattle.sgb_arrays.specs.Fields.{HoldsInts, IsIntsRefusal, ints_of};
 ghost use Rattle.sgb_arrays.specs.Names.{AreNames, HaveNameLengths};
@@ -24,7 +25,8 @@ mod texts;
 use answers::{number_of, number_of_fault};
 use graphs::GraphHandle;
 use sgb_arrays::{
-    arcs_len, fill_draws, fill_id, fill_ints, fill_names, fill_rows, fill_uniform_draws, names_len,
+    arcs_len, file_len, fill_draws, fill_file, fill_id, fill_ints, fill_kinds, fill_names,
+    fill_rows, fill_uniform_draws, names_len,
 };
 use sgb_graph::Graph;
 use std::alloc::Global;
@@ -183,6 +185,63 @@ pub extern "C" fn sgb_id(alloc: Global, graph: &mut GraphHandle, bytes: &mut [u8
     match graph.take(alloc) {
         Some(held) => {
             let number = number_of(fill_id(&held.graph, bytes));
+            graph.put(held);
+            number
+        }
+        None => NOT_OPEN,
+    }
+}
+
+/// What the utility fields of the graph that is open hold, a letter each: of vertices, of arcs, of the graph.
+#[unsafe(no_mangle)]
+pub extern "C" fn sgb_kinds(alloc: Global, graph: &mut GraphHandle, letters: &mut [u8]) -> u64
+    ensures answer { IsAnswerOn (graph_in graph.old)
+        (λ g. (length letters.old ≡ 14) × (letters.new ≡ map letter_of g.kinds))
+        (λ g number. (number ≡ number_of_wrong wrong.Length) × (length letters.old ≡ 14 → ⊥))
+        (letters.new ≡ letters.old) result }
+    ensures kept { graph_in graph.new ≡ graph_in graph.old }
+{
+    match graph.take(alloc) {
+        Some(held) => {
+            let number = number_of(fill_kinds(&held.graph, letters));
+            graph.put(held);
+            number
+        }
+        None => NOT_OPEN,
+    }
+}
+
+/// The size of the `.gb` file of the graph that is open, or 2^64 - 1 where it is larger.
+#[unsafe(no_mangle)]
+pub extern "C" fn sgb_file_size(alloc: Global, graph: &mut GraphHandle, size: &mut u64) -> u64
+    ensures answer { IsAnswerOn (graph_in graph.old)
+        (λ g. size.new ≡ min (length (text_of_graph g)) (2 ^ 64 - 1)) (λ g number. ⊥)
+        (size.new ≡ size.old) result }
+    ensures kept { graph_in graph.new ≡ graph_in graph.old }
+{
+    match graph.take(alloc) {
+        Some(held) => {
+            *size = file_len(&held.graph);
+            graph.put(held);
+            0
+        }
+        None => NOT_OPEN,
+    }
+}
+
+/// The `.gb` file of the graph that is open.
+#[unsafe(no_mangle)]
+pub extern "C" fn sgb_file(alloc: Global, graph: &mut GraphHandle, bytes: &mut [u8]) -> u64
+    ensures answer { IsAnswerOn (graph_in graph.old)
+        (λ g. (length bytes.old ≡ length (text_of_graph g)) × (bytes.new ≡ text_of_graph g))
+        (λ g number. (number ≡ number_of_wrong wrong.Length)
+        × (length bytes.old ≡ length (text_of_graph g) → ⊥))
+        (bytes.new ≡ bytes.old) result }
+    ensures kept { graph_in graph.new ≡ graph_in graph.old }
+{
+    match graph.take(alloc) {
+        Some(held) => {
+            let number = number_of(fill_file(&held.graph, bytes));
             graph.put(held);
             number
         }

@@ -44,6 +44,9 @@ mod ffi {
         pub fn sgb_names(graph: *mut Handle, starts: *mut u64, starts_len: usize, bytes: *mut u8, bytes_len: usize) -> u64;
         pub fn sgb_ints(graph: *mut Handle, field: u32, values: *mut i64, values_len: usize) -> u64;
         pub fn sgb_id(graph: *mut Handle, bytes: *mut u8, bytes_len: usize) -> u64;
+        pub fn sgb_kinds(graph: *mut Handle, letters: *mut u8, letters_len: usize) -> u64;
+        pub fn sgb_file_size(graph: *mut Handle, size: *mut u64) -> u64;
+        pub fn sgb_file(graph: *mut Handle, bytes: *mut u8, bytes_len: usize) -> u64;
         pub fn sgb_draws(start: i64, skip: u64, out: *mut u32, out_len: usize);
         pub fn sgb_uniform_draws(start: i64, skip: u64, m: u32, out: *mut u32, out_len: usize) -> u64;
     }
@@ -173,6 +176,22 @@ impl Graph {
         let mut values = vec![0; self.n()];
         answer(unsafe { ffi::sgb_ints(self.held.at(), field, values.as_mut_ptr(), values.len()) })?;
         Ok(values)
+    }
+
+    /// What the utility fields hold, a letter each: of vertices u v w x y z, of arcs a b, of the graph uu vv ww xx yy zz.
+    pub fn kinds(&self) -> Result<String, Error> {
+        let mut letters = [0; 14];
+        answer(unsafe { ffi::sgb_kinds(self.held.at(), letters.as_mut_ptr(), letters.len()) })?;
+        Ok(String::from_utf8_lossy(&letters).into_owned())
+    }
+
+    /// The `.gb` file of the graph.
+    pub fn file(&self) -> Result<Vec<u8>, Error> {
+        let mut size = 0;
+        answer(unsafe { ffi::sgb_file_size(self.held.at(), &mut size) })?;
+        let mut bytes = vec![0; size as usize];
+        answer(unsafe { ffi::sgb_file(self.held.at(), bytes.as_mut_ptr(), bytes.len()) })?;
+        Ok(bytes)
     }
 
     /// The listing, as `sgb list` writes it.

@@ -27,6 +27,15 @@ fn a_file_is_read() {
 }
 
 #[test]
+fn a_file_is_written_as_it_was() {
+    let graph = Graph::new("stdin", FILE).unwrap();
+    assert_eq!(graph.kinds().unwrap(), "Z".repeat(14));
+    let file = graph.file().unwrap();
+    let again = Graph::new("stdin", &file).unwrap();
+    assert_eq!((again.file().unwrap(), again.listing()), (file, graph.listing()));
+}
+
+#[test]
 fn a_graph_of_no_vertices_has_empty_arrays() {
     let file = b"* GraphBase graph (util_types ZZZZZZZZZZZZZZ,0V,0A)\n\"\",0,0\n* Vertices\n* Arcs\n* Checksum 10363\n";
     let graph = Graph::new("stdin", file).unwrap();
