@@ -122,3 +122,7 @@ pub mod SimplexCounts
 pub mod EqualBounds
 -- the moves of subsets counted by the descent
 pub mod SubsetsCounts
+-- pairs of subsets counted by a table
+pub mod SubsetsPairs
+-- the moves of subsets as pairs of vectors
+pub mod SubsetsMovePairs

@@ -42,19 +42,19 @@ among-same : (sb : ℕ) (front left : List ℕ) (c d : ℕ) (x y : List ℕ) (vs
 among-same sb front left c d x y vs ws same =
     among-arcs sb front c x vs ∙ ap length same ∙ sym (among-arcs sb left d y ws)
 
-among-append : (sb c : ℕ) (x : List ℕ) (us ws : List (List ℕ)) → wanted_among sb c x (us ++ ws) ≡ wanted_among sb c x us + wanted_among sb c x ws
+pub among-append : (sb c : ℕ) (x : List ℕ) (us ws : List (List ℕ)) → wanted_among sb c x (us ++ ws) ≡ wanted_among sb c x us + wanted_among sb c x ws
 among-append sb c x us ws =
     let wanted : List ℕ → Bool = λ v. is_wanted_size sb (common_size x v + c) in
     ap length (filter-append wanted us ws) ∙ length-append (filter wanted us) (filter wanted ws)
 
 -- at most all
-among-most : (sb c : ℕ) (x : List ℕ) (vs : List (List ℕ)) → wanted_among sb c x vs ≤ length vs
+pub among-most : (sb c : ℕ) (x : List ℕ) (vs : List (List ℕ)) → wanted_among sb c x vs ≤ length vs
 among-most sb c x vs =
     let wanted : List ℕ → Bool = λ v. is_wanted_size sb (common_size x v + c) in
     omega (arith, length-filter_both wanted (λ v. not (wanted v)) (λ v. refl) vs)
 
 -- in the other order as many
-among-reverse : (sb c : ℕ) (x : List ℕ) (vs : List (List ℕ)) → wanted_among sb c x (reverse vs) ≡ wanted_among sb c x vs
+pub among-reverse : (sb c : ℕ) (x : List ℕ) (vs : List (List ℕ)) → wanted_among sb c x (reverse vs) ≡ wanted_among sb c x vs
 among-reverse sb c x [] = refl
 among-reverse sb c x (v ∷ vs) =
     ap (wanted_among sb c x) (reverse-first v vs)
@@ -92,7 +92,7 @@ among-ended_from sb c left bs x h none all = among-same sb [] [] c c x x _ _ (en
 -- ---- where it goes on
 
 -- a row by the vectors that go on
-among-row : (sb c left h e : ℕ) (bs x : List ℕ) → e ≤ left → wanted_among sb (c + min h e) x (reverse (bounded_sums (left - e) bs)) ≡ wanted_among sb c (h ∷ x) (row left bs e)
+pub among-row : (sb c left h e : ℕ) (bs x : List ℕ) → e ≤ left → wanted_among sb (c + min h e) x (reverse (bounded_sums (left - e) bs)) ≡ wanted_among sb c (h ∷ x) (row left bs e)
 among-row sb c left h e bs x within = among-same sb ([] ++ e ∷ []) [] (c + min h e) c x (h ∷ x) _ _ (row-under sb [] c left h e bs x within)
 
 -- one row more is counted

@@ -30,5 +30,7 @@ pub mod BoardCounts
 pub mod SimplexCounts
 -- how many moves subsets have, vector by vector
 pub mod SubsetsCounts
+-- how many pairs of subsets have a wanted size in common, by a table
+pub mod SubsetsPairs
 -- the coordinates of vectors, put into a graph
 pub mod VectorGraphs

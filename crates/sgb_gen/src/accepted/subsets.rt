@@ -9,6 +9,7 @@ ghost use Rattle.std.specs.Simd.Lanes.{sum_l, zip2};
 mod counts;
 mod descents;
 mod lists;
+mod pairs;
 
 use crate::params::SubsetsParams;
 use crate::vector_graphs::{put_coordinates, vector_names};

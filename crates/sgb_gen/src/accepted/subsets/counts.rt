@@ -25,8 +25,18 @@ impl Subsets {
         u128::from(moves) * 2
     }
 
-    // The number of moves.
+    // The number of moves: by pairs where the vectors are many and their sum is small, else by a walk.
     fn moves_count(&self) -> u64
+        ensures { result ≡ length (moves_of_subsets self.now) }
+    {
+        if self.has_many_pairs() {
+            return self.moves_by_pairs();
+        }
+        self.moves_by_walk()
+    }
+
+    // The number of moves, by a walk.
+    fn moves_by_walk(&self) -> u64
         ensures { result ≡ length (moves_of_subsets self.now) }
     {
         let begun = self.begun();

@@ -2,7 +2,7 @@ use Rattle.std.proofs.Common.{◌≡◌, ◌+◌, length}
 use Rattle.std.specs.List.{All, Contains}
 use Rattle.sgb_gen.specs.Subsets.{moves_of_subsets, subsets_vectors}
 use Rattle.sgb_gen.specs.inner.SubsetsCounts.{moves_among}
-use Rattle.sgb_gen.proofs.accepted.subsets.Subsets.moves_count.Given as goal
+use Rattle.sgb_gen.proofs.accepted.subsets.Subsets.moves_by_walk.Given as goal
 
 -- the moves to the vectors that are still to come are left to count
 abbrev pub invariant-loop-x : goal.invariant-loop-x
