@@ -5,7 +5,7 @@ use std::process::Abort;
 use std::test::Fail;
 
 // Parameters of subsets whose counts are compared with the lengths of their lists, each with both directions.
-const SUBSETS: [([i64; 6], u128); 12] = [
+const SUBSETS: [([i64; 6], u128); 15] = [
     ([2, 1, -4, 0, 0, 0], 0x1),
     ([3, 2, 2, 2, 0, 0], 0xf),
     ([4, 3, 9, -3, 7, 7], 0x1c),
@@ -18,6 +18,10 @@ const SUBSETS: [([i64; 6], u128); 12] = [
     ([3, 1, 1, 1, 0, 0], 0x8),
     ([9, 5, 1, 4, 2, 0], 0x1a0),
     ([7, 7, 7, 0, 0, 0], 0x81),
+    // more than 8,000 vectors of a small sum, which are counted by pairs
+    ([5, 2, 1, -17, 0, 0], 0x28),
+    ([4, 4, 1, 2, -22, 0], 0x18),
+    ([19, 7, 9, 5, -5, 0], 0xc0000),
 ];
 
 #[test]
@@ -52,6 +56,16 @@ fn counts_of_subsets_of_a_set(rt: HostRuntime) -> Result<(), Fail> {
     // 1,140 triples of twenty, each disjoint from 680, and with 408 one element in common
     count(&rt, rt.alloc(), 3, -19, 0x1, 775_200)?;
     count(&rt, rt.alloc(), 3, -19, 0x2, 465_120)?;
+    Ok(())
+}
+
+#[test]
+fn counts_of_many_subsets_of_a_set(rt: HostRuntime) -> Result<(), Fail> {
+    // 9,880 triples of forty, each joined with itself alone; 34,220 of sixty, each disjoint from 29,260
+    count(&rt, rt.alloc(), 3, -39, 0x8, 19_760)?;
+    count(&rt, rt.alloc(), 3, -59, 0x1, 1_001_277_200)?;
+    // 50,063,860 sets of six of sixty, each with three elements in common with 20 times 24,804
+    count(&rt, rt.alloc(), 6, -59, 0x8, 24_835_679_668_800)?;
     Ok(())
 }
 

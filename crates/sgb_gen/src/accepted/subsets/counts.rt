@@ -1,5 +1,6 @@
-//! The number of arcs of the subsets' graph, with no list made: the descent of the lists, which counts where that one puts
-//! arcs, from each vector down to the first. So each edge is found once, from the later one of its ends.
+//! The number of arcs of the subsets' graph, with no list made. Where the vectors are many and their sum is small, they are
+//! counted by pairs; else by the descent of the lists, which counts where that one puts arcs, from each vector down to the
+//! first. So each edge is found once, from the later one of its ends.
 ghost use Rattle.std.specs.Prelude.{◌≡◌, ◌+◌, ◌≤◌, ◌∷◌, length, reverse, sum, if◌then◌else◌};
 ghost use Rattle.sgb_graph.specs.Made.{graph_described};
 ghost use Rattle.sgb_vec.specs.Limits.{most_vertices};
@@ -13,8 +14,10 @@ use super::{Subsets, is_wanted};
 use sgb_vec::Vectors;
 
 impl Subsets {
-    /// The number of arcs of the graph of the subsets (GB_BASIC, subsets), where an edge counts as two. The vectors are
-    /// walked, and of each the joined ones up to it are counted, by their beginnings; no arc is made, and no memory taken.
+    /// The number of arcs of the graph of the subsets (GB_BASIC, subsets), where an edge counts as two. No arc is made, and no
+    /// memory taken. Of more than 8,000 vectors whose sum is below 20 the pairs are counted, bound by bound, in a table in
+    /// place, within some milliseconds. Else the vectors are walked, and of each the joined ones up to it are counted, by
+    /// their beginnings.
     pub fn arcs_count(&self) -> u128
         ensures { result ≡ (graph_described (subsets_graph self.now)).m }
     {

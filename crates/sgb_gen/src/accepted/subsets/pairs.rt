@@ -19,7 +19,7 @@ const SIDE: usize = 20;
 const CELLS: usize = SIDE * SIDE * SIDE;
 
 // No more vectors than these are walked: that is as quick.
-const MOST_WALKED: u32 = 1_000;
+const MOST_WALKED: u32 = 8_000;
 
 type PairTable = ArrayVec<u64, CELLS>;
 
@@ -145,7 +145,9 @@ fn cell_before(
     }
     let mut counted: u64 = 0;
     for entry in 0..first.min(bound) + 1 {
-        counted = counted.saturating_add(count_row(table, total, bound, first, entry, second, common));
+        counted = counted.saturating_add(count_row(
+            table, total, bound, first, entry, second, common,
+        ));
     }
     counted
 }

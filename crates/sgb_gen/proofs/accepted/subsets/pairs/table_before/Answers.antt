@@ -6,13 +6,13 @@ use Rattle.sgb_gen.proofs.accepted.subsets.pairs.table_before.Goals as goal
 
 pub loop-place-preserved : goal.loop-place-preserved
 loop-place-preserved c = (
-      omega (arith, c.push.ensures.len, c.loop-place.invariant.0),
-      λ size_bits bounds is.
+  omega (arith, c.push.ensures.len, c.loop-place.invariant.0),
+  λ size_bits bounds is.
       let cells : ℕ → ℕ = cell_at size_bits c.args.total (c.args.bound ∷ bounds) in
       c.push.ensures.items
       ∙ ap₂ (λ xs x. xs ++ x ∷ []) (c.loop-place.invariant.1 size_bits bounds is) (c.cell_before.ensures size_bits bounds is)
       ∙ sym (map-range_with_len_more cells 0 c.loop-place.place c.loop-place.place (omega arith)),
-    )
+)
 
 pub returns : goal.returns
 unfolding table_of
