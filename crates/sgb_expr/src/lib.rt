@@ -5,11 +5,11 @@
 // The arguments of each generator's form.
 mod arguments;
 // The entries of an induced graph.
-pub mod entries;
+mod entries;
 // The expressions, and reading one.
-pub mod expressions;
+mod expressions;
 // What is asked of the random generator, and reading it.
-pub mod flips;
+mod flips;
 // Which texts are too large to be read.
 mod measure;
 // The names of the forms.

@@ -5,18 +5,18 @@
 // The subcommand and the arguments that clap finds.
 mod arguments;
 // The request that a command line makes.
-pub mod command_line;
+mod command_line;
 // Expressions and flips read for a request.
-pub mod expressions;
+mod expressions;
 // The faults, and the line that each prints.
-pub mod faults;
+mod faults;
 // What holds of the plain forms of words.
 mod laws;
 // What the program is asked to do.
-pub mod requests;
+mod requests;
 
 pub use command_line::request;
-pub use expressions::parse_expr;
+pub use expressions::{parse_expr, parse_flip};
 pub use faults::{Fault, report, status};
 pub use laws::plain_words_law;
 pub use requests::{Name, Request, Resume};

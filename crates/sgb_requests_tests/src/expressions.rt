@@ -1,7 +1,6 @@
 use sgb_expr::{Expr, FlipParams, Generator};
 use sgb_gen::complete;
-use sgb_requests::expressions::parse_flip;
-use sgb_requests::{Fault, parse_expr};
+use sgb_requests::{Fault, parse_expr, parse_flip};
 
 #[test]
 fn the_expression_that_a_text_is(rt: HostRuntime) {
