@@ -33,6 +33,8 @@ pub mod NameEntries
 pub mod Named
 -- members of a family by their names
 pub mod NamedMembers
+-- texts handed to a page of output, part by part
+pub mod Pages
 -- what a call of the program leaves
 pub mod ProgramRuns
 -- refusals are never out of memory

@@ -1,10 +1,10 @@
 use Rattle.std.proofs.Common.{◌≡◌, ◌∙◌, ◌+◌, ◌∷◌, [], length, length-append, decimal, false, true, ap, arith}
 use Rattle.sgb.proofs.NameEntries.{length-entry}
-use Rattle.sgb.proofs.writing.lines.Line.push_entry.Goals as goal
-use Rattle.sgb.proofs.writing.lines.Line.push_entry.Goals.{then-dotted, else-dotted}
+use Rattle.sgb.proofs.writing.pages.Filled.push_entry.Goals as goal
+use Rattle.sgb.proofs.writing.pages.Filled.push_entry.Goals.{then-dotted, else-dotted}
 
 pub returns-clause-short : goal.returns-clause-short
-returns-clause-short c =
+returns-clause-short g c =
     let digits = length-entry false c.args.entry (omega (arith, c.ranges.entry.fits)) in
     let all : length c.push_number.new.self ≡ length c.if-dotted.self + length (decimal c.args.entry) =
     ap length c.push_number.ensures.text ∙ length-append c.if-dotted.self (decimal c.args.entry) in

@@ -1,10 +1,10 @@
 use Rattle.std.proofs.Common.{◌-◌, ◌++◌, ◌∙◌, drop, get_or, nat_lt, take, sym, ap, append_assoc, arith}
 use Rattle.sgb.specs.inner.Texts.{entries_text, entry_text}
 use Rattle.sgb.proofs.NameEntries.{entries-more}
-use Rattle.sgb.proofs.writing.lines.Line.push_entries.Goals as goal
+use Rattle.sgb.proofs.writing.pages.Filled.push_entries.Goals as goal
 
 pub loop-place-preserved : goal.loop-place-preserved
-loop-place-preserved c =
+loop-place-preserved g c =
     let from = c.args.from in
     let place = c.loop-place.place in
     let v = c.args.vector.now in

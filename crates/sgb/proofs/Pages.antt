@@ -1,0 +1,163 @@
+-- Texts handed to a page of output, part by part.
+use Rattle.std.proofs.Common.{◌≡◌, ◌≢◌, ◌∙◌, ◌++◌, Bool, ℕ, false, List, [], Option, Result, Ok, Err, IfErr, OnOk, refl, sym, ap, subst, inl, inr, append_assoc, append-nil}
+use Rattle.std.specs.Result.{IsErrAnd}
+use Rattle.std.proofs.lemmas.Result.{err_from_is_err_and}
+use Rattle.std.specs.Io.KnownBytes.{Appends}
+use Rattle.std.proofs.KnownBytes.{Appends-nil, Appends-trans}
+use Rattle.sgb_file.specs.Devices.{Change}
+use Rattle.sgb_file.proofs.SoFar.{SoFar, so_far-all}
+use Rattle.sgb_file.proofs.WrittenPrefixes.{prefix_all, prefix_more, prefix_none}
+use Rattle.sgb_vec.specs.declared.panics.Panic.{Panic}
+use Rattle.sgb_vec.specs.declared.panics.Panic.TheVariants.{NoRoom}
+use Rattle.sgb.specs.Writing.{IsCutOff, IsLeftOrBegun, IsWhole, IsWritten}
+use Rattle.sgb.specs.inner.Pages.{BeginsWith, IsHeld, IsPageCut, IsPaged}
+use Rattle.sgb.proofs.CutOff.{cut_after, cut_more, so_far-cut}
+use Rattle.sgb_requests.specs.declared.faults.Fault.{Fault}
+use Rattle.sgb_requests.specs.declared.faults.Fault.TheVariants as fault
+
+-- of all of a text, this is left; a page that held something took the rest
+abbrev pub PagedSoFar : (all left held holds : List ℕ) → Option (List ℕ) → Option (List ℕ) → Type 0
+PagedSoFar all left held holds before after = (done : List ℕ) × (done ++ left ≡ all) × SoFar (held ++ done) holds before after
+
+-- a page holds a text more
+pub held_more : (all now part after : List ℕ) (a b : Option (List ℕ)) → after ≡ now ++ part → SoFar all now a b → SoFar (all ++ part) after a b
+held_more all now part after a b e p =
+    (p.0, ap (λ (text : List ℕ). p.0 ++ text) e ∙ sym (append_assoc p.0 now part) ∙ ap (λ (text : List ℕ). text ++ part) p.1, p.2)
+
+-- a page took a text after others
+pub held_then : (all now part after : List ℕ) (a b c : Option (List ℕ)) → SoFar all now a b → SoFar (now ++ part) after b c → SoFar (all ++ part) after a c
+held_then all now part after a b c p q = (
+  p.0 ++ q.0,
+  append_assoc p.0 q.0 after ∙ ap (λ (text : List ℕ). p.0 ++ text) q.1 ∙ sym (append_assoc p.0 now part) ∙ ap (λ (text : List ℕ). text ++ part) p.1,
+  Appends-trans a b c p.0 q.0 p.2 q.2,
+)
+
+-- nothing was taken
+pub paged_none : (all held : List ℕ) (a : Option (List ℕ)) → PagedSoFar all all held held a a
+paged_none all held a = ([], refl, ([], sym (append-nil held), Appends-nil a))
+
+-- the next part was taken
+pub paged_more : (all part left rest held now after : List ℕ) (a b c : Option (List ℕ)) → left ≡ part ++ rest → PagedSoFar all left held now a b → SoFar (now ++ part) after b c
+    → PagedSoFar all rest held after a c
+paged_more all part left rest held now after a b c e p q = (
+  p.0 ++ part,
+  append_assoc p.0 part rest ∙ ap (λ (text : List ℕ). p.0 ++ text) (sym e) ∙ p.1,
+  subst (λ (text : List ℕ). SoFar text after a c) (append_assoc held p.0 part) (held_then (held ++ p.0) now part after a b c p.2 q),
+)
+
+-- all was taken
+pub paged_all : (all left held now : List ℕ) (a b : Option (List ℕ)) → left ≡ [] → PagedSoFar all left held now a b → SoFar (held ++ all) now a b
+paged_all all left held now a b e p =
+    let whole : p.0 ≡ all = sym (append-nil p.0) ∙ ap (λ (text : List ℕ). p.0 ++ text) (sym e) ∙ p.1 in
+    subst (λ (text : List ℕ). SoFar (held ++ text) now a b) whole p.2
+
+-- the next part was cut off
+pub paged_cut : (all part left rest held now : List ℕ) (a b c : Option (List ℕ)) (failed : Bool) (f : Fault) → left ≡ part ++ rest → PagedSoFar all left held now a b
+    → IsPageCut now part (record { before = b; after = c; failed = failed }) f → IsPageCut held all (record { before = a; after = c; failed = failed }) f
+paged_cut all part left rest held now a b c failed f e p q =
+    let (done, split, so) = p in
+    let (put, is, appended) = so in
+    let whole : put ++ ((now ++ part) ++ rest) ≡ held ++ all =
+    ap (λ (text : List ℕ). put ++ text) (append_assoc now part rest ∙ ap (λ (text : List ℕ). now ++ text) (sym e))
+    ∙ sym (append_assoc put now left) ∙ ap (λ (text : List ℕ). text ++ left) is ∙ append_assoc held done left ∙ ap (λ (text : List ℕ). held ++ text) split in
+    record {
+      cut = so_far-cut (held ++ all) (now ++ part) ((now ++ part) ++ rest) rest a b c failed f refl (put, whole, appended) q.cut;
+      whole = λ other.
+          let (more, after) = q.whole other in
+          let text : put ++ (now ++ more) ≡ held ++ (done ++ more) =
+          sym (append_assoc put now more) ∙ ap (λ (text : List ℕ). text ++ more) is ∙ append_assoc held done more in
+          (done ++ more, subst (Appends a c) text (Appends-trans a b c put (now ++ more) appended after));
+    }
+
+-- a page with no text to take is one with a text to take
+pub page_cut-more : (held text : List ℕ) (out : Change) (f : Fault) → IsPageCut held [] out f → IsPageCut held text out f
+page_cut-more held text out f p =
+    record { cut = subst (λ (xs : List ℕ). IsCutOff (xs ++ text) out f) (append-nil held) (cut_more (held ++ []) text out f p.cut); whole = p.whole }
+
+-- after room was made, a text was put on the page
+pub held_line : (held now text after : List ℕ) (a b : Option (List ℕ)) → SoFar (held ++ []) now a b → after ≡ now ++ text → SoFar (held ++ text) after a b
+held_line held now text after a b p e = subst (λ (xs : List ℕ). SoFar (xs ++ text) after a b) (append-nil held) (held_more (held ++ []) now text after a b e p)
+
+-- the exit of a `?`, where its fault cut a page off
+pub exit_paged : {T : Type 0} (held text holds : List ℕ) (out : Change) (r : Result T Fault) (f : Fault) → IsErrAnd r (λ g. g ≡ f) → IsPageCut held text out f → IsPaged held text holds out r
+exit_paged held text holds out r f exit cut =
+    let p = err_from_is_err_and r exit in
+    rw (p.1, p.2) cut
+
+-- what a page held was put, and it is empty
+pub paged_put : {T : Type 0} (held holds : List ℕ) (out : Change) (r : Result T Fault) → IsWritten held out r → OnOk r (holds ≡ []) → IfErr r (λ f. f ≡ fault.Write) → IsPaged held [] holds out r
+paged_put held holds out (Ok x) p none only =
+    record { output = (held, ap (λ (text : List ℕ). held ++ text) none, p.output); sound = p.sound }
+paged_put held holds out (Err f) p none only =
+    record { cut = cut_more held [] out f p; whole = λ other. absurd (other only) }
+
+-- nothing was put
+pub paged_same : (held : List ℕ) (a : Option (List ℕ)) → SoFar (held ++ []) held a a
+paged_same held a = ([], sym (append-nil held), Appends-nil a)
+
+-- all that a page holds is put in the end
+pub written_held : {T : Type 0} (all holds : List ℕ) (a b c : Option (List ℕ)) (failed : Bool) (r : Result T Fault) → SoFar all holds a b
+    → IsWritten holds (record { before = b; after = c; failed = failed }) r → IsWritten all (record { before = a; after = c; failed = failed }) r
+written_held {T = T} all holds a b c failed (Ok x) (put, is, appended) q =
+    record { output = subst (Appends a c) is (Appends-trans a b c put holds appended q.output); sound = q.sound }
+written_held {T = T} all holds a b c failed (Err f) (put, is, appended) q =
+    subst (λ (text : List ℕ). IsCutOff text (record { before = a; after = c; failed = failed }) f) is (cut_after a b c failed put holds f appended q)
+
+-- a page that is empty takes a text from the start
+pub paged_begun : (all left page : List ℕ) (a : Option (List ℕ)) → all ≡ left → page ≡ [] → PagedSoFar all left [] page a a
+paged_begun all left page a e none = ([], sym e, ([], none, Appends-nil a))
+
+-- three texts put on a page, one after the other
+pub put_together : (page first x y z : List ℕ) (second third : List ℕ) → first ≡ page ++ x → second ≡ first ++ y → third ≡ second ++ z → third ≡ page ++ (x ++ (y ++ z))
+put_together page first x y z second third p q r =
+    r ∙ ap (λ (text : List ℕ). text ++ z) (q ∙ ap (λ (text : List ℕ). text ++ y) p) ∙ append_assoc (page ++ x) y z ∙ append_assoc page x (y ++ z)
+
+-- a text more on a page, after one that was put
+pub put_more : (page done before after part : List ℕ) → before ≡ page ++ done → after ≡ before ++ part → after ≡ page ++ (done ++ part)
+put_more page done before after part p q = q ∙ ap (λ (text : List ℕ). text ++ part) p ∙ append_assoc page done part
+
+-- the exit of a `?` out of memory, before anything was put
+pub exit_unput : {T : Type 0} (text : List ℕ) (a : Option (List ℕ)) (failed : Bool) (r : Result T Fault) (p : Panic) → IsErrAnd r (λ f. f ≡ fault.Panic p) → p ≡ NoRoom → failed ≡ false
+    → IsWritten text (record { before = a; after = a; failed = failed }) r
+exit_unput text a failed r p exit memory sound =
+    let e = err_from_is_err_and r exit in
+    rw (e.1, e.2) (record { output = prefix_none a text; cause = inr (sound, ap fault.Panic memory) })
+
+pub exit_unput-head : {T : Type 0} (same : Type 0) (text : List ℕ) (a b : Option (List ℕ)) (r : Result T Fault) (p : Panic) → IsErrAnd r (λ f. f ≡ fault.Panic p) → same
+    → IfErr r (λ f. f ≢ fault.Write → IsLeftOrBegun same text a b)
+exit_unput-head same text a b r p exit left =
+    let e = err_from_is_err_and r exit in
+    rw (e.1, e.2) (λ other. inl left)
+
+-- the exit of a `?` where all that a page held was put
+pub exit_whole : {T : Type 0} (held : List ℕ) (a b : Option (List ℕ)) (r : Result T Fault) (f : Fault) → IsErrAnd r (λ g. g ≡ f) → (f ≢ fault.Write → BeginsWith held a b)
+    → IfErr r (λ g. g ≢ fault.Write → BeginsWith held a b)
+exit_whole held a b r f exit whole =
+    let e = err_from_is_err_and r exit in
+    rw (e.1, e.2) whole
+
+-- so the text that the page held was put
+pub whole_begun : {T : Type 0} (same : Type 0) (held text : List ℕ) (a b : Option (List ℕ)) (r : Result T Fault) → held ≡ text → IfErr r (λ f. f ≢ fault.Write → BeginsWith held a b)
+    → IfErr r (λ f. f ≢ fault.Write → IsLeftOrBegun same text a b)
+whole_begun same held text a b (Ok x) e h = tt
+whole_begun same held text a b (Err f) e h = λ other. inr (subst (λ (xs : List ℕ). BeginsWith xs a b) e (h other))
+
+-- the exit of a `?` where a page could not be put
+pub exit_put : {T : Type 0} (held holds : List ℕ) (out : Change) (r : Result T Fault) (f : Fault) → IsErrAnd r (λ g. g ≡ f) → IsCutOff held out f → f ≡ fault.Write → IsPaged held [] holds out r
+exit_put held holds out r f exit cut only =
+    exit_paged held [] holds out r f exit (record { cut = cut_more held [] out f cut; whole = λ other. absurd (other only) })
+
+-- out of memory a page was put
+pub put_out_of_memory : (held : List ℕ) (out : Change) (p : Panic) → IsWhole held out → p ≡ NoRoom → IsPageCut held [] out (fault.Panic p)
+put_out_of_memory held out p whole memory = record {
+  cut = record { output = prefix_more out.before out.after held [] (prefix_all out.before out.after held whole.output); cause = inr (whole.sound, ap fault.Panic memory) };
+  whole = λ other. ([], subst (Appends out.before out.after) (sym (append-nil held)) whole.output);
+}
+
+-- a page begins to take a text, of which all is left
+pub paged_left : (all left held : List ℕ) (a : Option (List ℕ)) → all ≡ left → PagedSoFar all left held held a a
+paged_left all left held a e = ([], sym e, ([], sym (append-nil held), Appends-nil a))
+
+-- and after it took nothing
+pub paged_first : (all held now : List ℕ) (a b : Option (List ℕ)) → SoFar (held ++ []) now a b → PagedSoFar all all held now a b
+paged_first all held now a b p = ([], refl, p)
