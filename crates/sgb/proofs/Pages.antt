@@ -1,16 +1,16 @@
 -- Texts handed to a page of output, part by part.
-use Rattle.std.proofs.Common.{◌≡◌, ◌≢◌, ◌∙◌, ◌++◌, Bool, ℕ, false, List, [], Option, Result, Ok, Err, IfErr, OnOk, refl, sym, ap, subst, inl, inr, append_assoc, append-nil}
+use Rattle.std.proofs.Common.{◌≡◌, ◌∙◌, ◌++◌, Bool, ℕ, false, List, [], Option, Result, Ok, Err, OnOk, refl, sym, ap, subst, inr, append_assoc, append-nil}
 use Rattle.std.specs.Result.{IsErrAnd}
 use Rattle.std.proofs.lemmas.Result.{err_from_is_err_and}
 use Rattle.std.specs.Io.KnownBytes.{Appends}
 use Rattle.std.proofs.KnownBytes.{Appends-nil, Appends-trans}
 use Rattle.sgb_file.specs.Devices.{Change}
-use Rattle.sgb_file.proofs.SoFar.{SoFar, so_far-all}
+use Rattle.sgb_file.proofs.SoFar.{SoFar}
 use Rattle.sgb_file.proofs.WrittenPrefixes.{prefix_all, prefix_more, prefix_none}
 use Rattle.sgb_vec.specs.declared.panics.Panic.{Panic}
 use Rattle.sgb_vec.specs.declared.panics.Panic.TheVariants.{NoRoom}
-use Rattle.sgb.specs.Writing.{IsCutOff, IsLeftOrBegun, IsWhole, IsWritten}
-use Rattle.sgb.specs.inner.Pages.{BeginsWith, IsHeld, IsPageCut, IsPaged}
+use Rattle.sgb.specs.Writing.{IsCutOff, IsWhole, IsWritten}
+use Rattle.sgb.specs.inner.Pages.{IsHeld, IsPaged}
 use Rattle.sgb.proofs.CutOff.{cut_after, cut_more, so_far-cut}
 use Rattle.sgb_requests.specs.declared.faults.Fault.{Fault}
 use Rattle.sgb_requests.specs.declared.faults.Fault.TheVariants as fault
@@ -53,43 +53,35 @@ paged_all all left held now a b e p =
 
 -- the next part was cut off
 pub paged_cut : (all part left rest held now : List ℕ) (a b c : Option (List ℕ)) (failed : Bool) (f : Fault) → left ≡ part ++ rest → PagedSoFar all left held now a b
-    → IsPageCut now part (record { before = b; after = c; failed = failed }) f → IsPageCut held all (record { before = a; after = c; failed = failed }) f
+    → IsCutOff (now ++ part) (record { before = b; after = c; failed = failed }) f → IsCutOff (held ++ all) (record { before = a; after = c; failed = failed }) f
 paged_cut all part left rest held now a b c failed f e p q =
     let (done, split, so) = p in
     let (put, is, appended) = so in
     let whole : put ++ ((now ++ part) ++ rest) ≡ held ++ all =
     ap (λ (text : List ℕ). put ++ text) (append_assoc now part rest ∙ ap (λ (text : List ℕ). now ++ text) (sym e))
     ∙ sym (append_assoc put now left) ∙ ap (λ (text : List ℕ). text ++ left) is ∙ append_assoc held done left ∙ ap (λ (text : List ℕ). held ++ text) split in
-    record {
-      cut = so_far-cut (held ++ all) (now ++ part) ((now ++ part) ++ rest) rest a b c failed f refl (put, whole, appended) q.cut;
-      whole = λ other.
-          let (more, after) = q.whole other in
-          let text : put ++ (now ++ more) ≡ held ++ (done ++ more) =
-          sym (append_assoc put now more) ∙ ap (λ (text : List ℕ). text ++ more) is ∙ append_assoc held done more in
-          (done ++ more, subst (Appends a c) text (Appends-trans a b c put (now ++ more) appended after));
-    }
+    so_far-cut (held ++ all) (now ++ part) ((now ++ part) ++ rest) rest a b c failed f refl (put, whole, appended) q
 
--- a page with no text to take is one with a text to take
-pub page_cut-more : (held text : List ℕ) (out : Change) (f : Fault) → IsPageCut held [] out f → IsPageCut held text out f
-page_cut-more held text out f p =
-    record { cut = subst (λ (xs : List ℕ). IsCutOff (xs ++ text) out f) (append-nil held) (cut_more (held ++ []) text out f p.cut); whole = p.whole }
+-- the exit of a `?`, where its fault cut a page off
+pub exit_paged : {T : Type 0} (held text holds : List ℕ) (out : Change) (r : Result T Fault) (f : Fault) → IsErrAnd r (λ g. g ≡ f) → IsCutOff (held ++ text) out f → IsPaged held text holds out r
+exit_paged held text holds out r f exit cut =
+    let p = err_from_is_err_and r exit in
+    rw (p.1, p.2) cut
+
+-- the exit of a `?`, where what a page held was cut off before it took the text
+pub exit_untaken : {T : Type 0} (held text holds : List ℕ) (out : Change) (r : Result T Fault) (f : Fault) → IsErrAnd r (λ g. g ≡ f) → IsCutOff (held ++ []) out f → IsPaged held text holds out r
+exit_untaken held text holds out r f exit cut =
+    exit_paged held text holds out r f exit (subst (λ (xs : List ℕ). IsCutOff (xs ++ text) out f) (append-nil held) (cut_more (held ++ []) text out f cut))
 
 -- after room was made, a text was put on the page
 pub held_line : (held now text after : List ℕ) (a b : Option (List ℕ)) → SoFar (held ++ []) now a b → after ≡ now ++ text → SoFar (held ++ text) after a b
 held_line held now text after a b p e = subst (λ (xs : List ℕ). SoFar (xs ++ text) after a b) (append-nil held) (held_more (held ++ []) now text after a b e p)
 
--- the exit of a `?`, where its fault cut a page off
-pub exit_paged : {T : Type 0} (held text holds : List ℕ) (out : Change) (r : Result T Fault) (f : Fault) → IsErrAnd r (λ g. g ≡ f) → IsPageCut held text out f → IsPaged held text holds out r
-exit_paged held text holds out r f exit cut =
-    let p = err_from_is_err_and r exit in
-    rw (p.1, p.2) cut
-
 -- what a page held was put, and it is empty
-pub paged_put : {T : Type 0} (held holds : List ℕ) (out : Change) (r : Result T Fault) → IsWritten held out r → OnOk r (holds ≡ []) → IfErr r (λ f. f ≡ fault.Write) → IsPaged held [] holds out r
-paged_put held holds out (Ok x) p none only =
+pub paged_put : {T : Type 0} (held holds : List ℕ) (out : Change) (r : Result T Fault) → IsWritten held out r → OnOk r (holds ≡ []) → IsPaged held [] holds out r
+paged_put held holds out (Ok x) p none =
     record { output = (held, ap (λ (text : List ℕ). held ++ text) none, p.output); sound = p.sound }
-paged_put held holds out (Err f) p none only =
-    record { cut = cut_more held [] out f p; whole = λ other. absurd (other only) }
+paged_put held holds out (Err f) p none = cut_more held [] out f p
 
 -- nothing was put
 pub paged_same : (held : List ℕ) (a : Option (List ℕ)) → SoFar (held ++ []) held a a
@@ -123,35 +115,15 @@ exit_unput text a failed r p exit memory sound =
     let e = err_from_is_err_and r exit in
     rw (e.1, e.2) (record { output = prefix_none a text; cause = inr (sound, ap fault.Panic memory) })
 
-pub exit_unput-head : {T : Type 0} (same : Type 0) (text : List ℕ) (a b : Option (List ℕ)) (r : Result T Fault) (p : Panic) → IsErrAnd r (λ f. f ≡ fault.Panic p) → same
-    → IfErr r (λ f. f ≢ fault.Write → IsLeftOrBegun same text a b)
-exit_unput-head same text a b r p exit left =
-    let e = err_from_is_err_and r exit in
-    rw (e.1, e.2) (λ other. inl left)
-
--- the exit of a `?` where all that a page held was put
-pub exit_whole : {T : Type 0} (held : List ℕ) (a b : Option (List ℕ)) (r : Result T Fault) (f : Fault) → IsErrAnd r (λ g. g ≡ f) → (f ≢ fault.Write → BeginsWith held a b)
-    → IfErr r (λ g. g ≢ fault.Write → BeginsWith held a b)
-exit_whole held a b r f exit whole =
-    let e = err_from_is_err_and r exit in
-    rw (e.1, e.2) whole
-
--- so the text that the page held was put
-pub whole_begun : {T : Type 0} (same : Type 0) (held text : List ℕ) (a b : Option (List ℕ)) (r : Result T Fault) → held ≡ text → IfErr r (λ f. f ≢ fault.Write → BeginsWith held a b)
-    → IfErr r (λ f. f ≢ fault.Write → IsLeftOrBegun same text a b)
-whole_begun same held text a b (Ok x) e h = tt
-whole_begun same held text a b (Err f) e h = λ other. inr (subst (λ (xs : List ℕ). BeginsWith xs a b) e (h other))
-
 -- the exit of a `?` where a page could not be put
-pub exit_put : {T : Type 0} (held holds : List ℕ) (out : Change) (r : Result T Fault) (f : Fault) → IsErrAnd r (λ g. g ≡ f) → IsCutOff held out f → f ≡ fault.Write → IsPaged held [] holds out r
-exit_put held holds out r f exit cut only =
-    exit_paged held [] holds out r f exit (record { cut = cut_more held [] out f cut; whole = λ other. absurd (other only) })
+pub exit_put : {T : Type 0} (held holds : List ℕ) (out : Change) (r : Result T Fault) (f : Fault) → IsErrAnd r (λ g. g ≡ f) → IsCutOff held out f → IsPaged held [] holds out r
+exit_put held holds out r f exit cut = exit_paged held [] holds out r f exit (cut_more held [] out f cut)
 
 -- out of memory a page was put
-pub put_out_of_memory : (held : List ℕ) (out : Change) (p : Panic) → IsWhole held out → p ≡ NoRoom → IsPageCut held [] out (fault.Panic p)
+pub put_out_of_memory : (held : List ℕ) (out : Change) (p : Panic) → IsWhole held out → p ≡ NoRoom → IsCutOff (held ++ []) out (fault.Panic p)
 put_out_of_memory held out p whole memory = record {
-  cut = record { output = prefix_more out.before out.after held [] (prefix_all out.before out.after held whole.output); cause = inr (whole.sound, ap fault.Panic memory) };
-  whole = λ other. ([], subst (Appends out.before out.after) (sym (append-nil held)) whole.output);
+  output = prefix_more out.before out.after held [] (prefix_all out.before out.after held whole.output);
+  cause = inr (whole.sound, ap fault.Panic memory);
 }
 
 -- a page begins to take a text, of which all is left

@@ -2,11 +2,11 @@ use Rattle.std.proofs.Common.{◌≡◌, ◌≤◌, ◌+◌, ◌∙◌, ◌++◌
 use Rattle.sgb_vec.specs.Names.{name_of_vector}
 use Rattle.sgb.specs.inner.Locals.{local_line}
 use Rattle.sgb.proofs.LocalListings.{line-parts}
-use Rattle.sgb.proofs.Pages.{exit_paged, held_line, page_cut-more, put_together}
+use Rattle.sgb.proofs.Pages.{exit_untaken, held_line, put_together}
 use Rattle.sgb.proofs.writing.families.push_arc.Goals as goal
 
 pub returns-in_err-make_room : goal.returns-in_err-make_room
-returns-in_err-make_room g c = exit_paged _ _ _ _ _ _ c.from_residual.ensures.1 (page_cut-more _ _ _ _ c.in_err-make_room.ensures.paged)
+returns-in_err-make_room g c = exit_untaken c.args.page.now (local_line (record { tip = c.args.tip.now; len = pos c.args.len })) _ _ _ _ c.from_residual.ensures.1 c.in_err-make_room.ensures.paged
 
 pub begin_arc-requires : goal.begin_arc-requires
 begin_arc-requires g c = omega (arith, c.in_ok-make_room.ensures.room)

@@ -1,4 +1,4 @@
-use Rattle.std.proofs.Common.{◌≡◌, false, length}
+use Rattle.std.proofs.Common.{◌≡◌, [], false, length}
 use Rattle.std.specs.List.{flat_map}
 use Rattle.sgb.specs.Locals.{vectors_of}
 use Rattle.sgb.specs.inner.Locals.{local_block}
@@ -10,7 +10,7 @@ use Rattle.sgb.proofs.writing.families.write_blocks.Given as goal
 abbrev pub invariant-loop-x : goal.invariant-loop-x
 invariant-loop-x g l =
     let parameters = g.L.Listed.parameters l.initial.listed in
-    PagedSoFar (flat_map (local_block parameters) l.fn.vectors) (flat_map (local_block parameters) l.left) l.initial.page l.page (g.W.Sink.written l.initial.out) (g.W.Sink.written l.out)
+    PagedSoFar (flat_map (local_block parameters) l.fn.vectors) (flat_map (local_block parameters) l.left) [] l.page (g.W.Sink.written l.initial.out) (g.W.Sink.written l.out)
     × (g.W.Sink.has_failed l.out ≡ false)
     × IsRest (vectors_of parameters) l.left
     × (g.L.Listed.parameters l.listed ≡ parameters)

@@ -1,7 +1,7 @@
 use Rattle.std.proofs.Common.{◌≡◌, ◌∙◌, ◌++◌, List, ℕ, [], ◌∷◌, length, decimal, ap, append_assoc, arith}
 use Rattle.sgb.specs.FlipAnswers.{number_line}
 use Rattle.sgb.proofs.CutOff.{exit_write}
-use Rattle.sgb.proofs.Pages.{exit_paged, held_line, page_cut-more}
+use Rattle.sgb.proofs.Pages.{exit_untaken, held_line}
 use Rattle.sgb.proofs.writing.flips.push_number_line.Goals as goal
 
 pub push_number-requires : goal.push_number-requires
@@ -11,7 +11,7 @@ pub push_text-requires : goal.push_text-requires
 push_text-requires g c = omega (arith, c.in_ok-make_room.ensures.room, c.push_number.ensures.short)
 
 pub returns-in_err-make_room-clause-paged : goal.returns-in_err-make_room-clause-paged
-returns-in_err-make_room-clause-paged g c = exit_paged _ _ _ _ _ _ c.from_residual.ensures.1 (page_cut-more _ _ _ _ c.in_err-make_room.ensures.paged)
+returns-in_err-make_room-clause-paged g c = exit_untaken c.args.page.now (number_line c.args.number) _ _ _ _ c.from_residual.ensures.1 c.in_err-make_room.ensures.paged
 
 pub returns-in_err-make_room-clause-fault : goal.returns-in_err-make_room-clause-fault
 returns-in_err-make_room-clause-fault g c = exit_write _ _ c.from_residual.ensures.1 c.in_err-make_room.ensures.fault

@@ -28,7 +28,7 @@ returns-in_err-push_number_line-clause-written g c =
     let next = c.next_number.ensures draws.start stands.0 stands.1 in
     let left : draws.count - c.loop-number._number ≡ suc (draws.count - (c.loop-number._number + 1)) = omega (arith, c.loop-number-test.true) in
     let first = lines_first (seed_of draws.start) draws.m stands.0 next.0 c.next_number.result _ _ left next.2 in
-    exit_cut _ _ _ _ c.from_residual.ensures.1 (paged_cut _ _ _ _ [] _ _ _ _ _ _ first stands.2 c.in_err-push_number_line.ensures.paged).cut
+    exit_cut _ _ _ _ c.from_residual.ensures.1 (paged_cut _ _ _ _ [] _ _ _ _ _ _ first stands.2 c.in_err-push_number_line.ensures.paged)
 
 pub returns-in_err-push_number_line-clause-fault : goal.returns-in_err-push_number_line-clause-fault
 returns-in_err-push_number_line-clause-fault g c = exit_write _ _ c.from_residual.ensures.1 c.in_err-push_number_line.ensures.fault

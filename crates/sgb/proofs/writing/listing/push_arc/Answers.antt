@@ -3,11 +3,11 @@ use Rattle.std.specs.Fmt.{signed_decimal}
 use Rattle.std.proofs.lemmas.Int.{to_z-of_z}
 use Rattle.sgb.specs.Texts.{arc_line}
 use Rattle.sgb.proofs.Listings.{arc_line-parts}
-use Rattle.sgb.proofs.Pages.{exit_paged, held_line, page_cut-more, put_together}
+use Rattle.sgb.proofs.Pages.{exit_untaken, held_line, put_together}
 use Rattle.sgb.proofs.writing.listing.push_arc.Goals as goal
 
 pub returns-in_err-make_room : goal.returns-in_err-make_room
-returns-in_err-make_room g c = exit_paged _ _ _ _ _ _ c.from_residual.ensures.1 (page_cut-more _ _ _ _ c.in_err-make_room.ensures.paged)
+returns-in_err-make_room g c = exit_untaken c.args.page.now (arc_line (map (λ v. v.name) c.args.graph.now.vertices) c.args.link) _ _ _ _ c.from_residual.ensures.1 c.in_err-make_room.ensures.paged
 
 pub begin_arc-requires : goal.begin_arc-requires
 begin_arc-requires g c = omega (arith, c.in_ok-make_room.ensures.room)

@@ -19,7 +19,7 @@ pub returns-in_err-push_block : goal.returns-in_err-push_block
 returns-in_err-push_block g c =
     let graph = c.args.graph.now in
     let within : c.loop-v.v < length (names_of graph) = omega (arith, length-map c.args.graph.now.vertices (λ v. v.name), c.n-end.ensures.count) in
-    exit_cut _ _ _ _ c.from_residual.ensures.1 (paged_cut _ _ _ _ _ _ _ _ _ _ _ (blocks-first graph c.loop-v.v within) c.loop-v.invariant.0 c.in_err-push_block.ensures).cut
+    exit_cut _ _ _ _ c.from_residual.ensures.1 (paged_cut _ _ _ _ _ _ _ _ _ _ _ (blocks-first graph c.loop-v.v within) c.loop-v.invariant.0 c.in_err-push_block.ensures)
 
 pub loop-v-preserved : goal.loop-v-preserved
 loop-v-preserved g c =

@@ -27,7 +27,7 @@ returns-in_err-push_line-clause-written g c =
     let first : lines c.loop-vector.left ≡ name_line (name_of_vector c.turn_to.new.self) ++ lines rest =
     ap lines (first_and_rest c.loop-vector.left rest v v c.in-Some.ensures.first refl refl)
     ∙ ap (λ w. name_line (name_of_vector w) ++ lines rest) (sym c.turn_to.ensures) in
-    exit_cut _ _ _ _ c.from_residual.ensures.1 (paged_cut _ _ _ _ [] _ _ _ _ _ _ first c.loop-vector.invariant.0 c.in_err-push_line.ensures.paged).cut
+    exit_cut _ _ _ _ c.from_residual.ensures.1 (paged_cut _ _ _ _ [] _ _ _ _ _ _ first c.loop-vector.invariant.0 c.in_err-push_line.ensures.paged)
 
 pub returns-in_err-push_line-clause-fault : goal.returns-in_err-push_line-clause-fault
 returns-in_err-push_line-clause-fault g c = exit_write _ _ c.from_residual.ensures.1 c.in_err-push_line.ensures.fault

@@ -1,8 +1,9 @@
 use Rattle.std.proofs.Common.{◌≡◌, ◌∙◌, ◌++◌, List, ℕ, [], ◌∷◌, Some, length, length-append, ap, sym, append_assoc, arith}
+use Rattle.std.specs.List.{slice_index_or}
 use Rattle.std.proofs.lemmas.Option.{get_or_from_slice_get}
 use Rattle.sgb_ops.specs.Operands.{names_of}
 use Rattle.sgb.specs.Texts.{name_line}
-use Rattle.sgb.proofs.Pages.{exit_paged, held_line, page_cut-more}
+use Rattle.sgb.proofs.Pages.{exit_untaken, held_line}
 use Rattle.sgb.proofs.writing.vertices.push_name_line.Goals as goal
 
 pub push_text-requires : goal.push_text-requires
@@ -13,7 +14,7 @@ push_text-requires-2 g c =
     omega (arith, c.in_ok-make_room.ensures.room, ap length c.push_text.ensures, length-append c.make_room.new.page c.bytes.result.now, ap length c.bytes.ensures.value, c.bytes.ensures.text.short)
 
 pub returns-in_err-make_room : goal.returns-in_err-make_room
-returns-in_err-make_room g c = exit_paged _ _ _ _ _ _ c.from_residual.ensures.1 (page_cut-more _ _ _ _ c.in_err-make_room.ensures.paged)
+returns-in_err-make_room g c = exit_untaken c.args.page.now (name_line (slice_index_or (names_of c.args.graph.now) c.args.v [])) _ _ _ _ c.from_residual.ensures.1 c.in_err-make_room.ensures.paged
 
 pub returns : goal.returns
 returns g c =

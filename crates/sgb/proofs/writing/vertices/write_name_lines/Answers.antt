@@ -19,7 +19,7 @@ pub returns-in_err-push_name_line : goal.returns-in_err-push_name_line
 returns-in_err-push_name_line g c =
     let graph = c.args.graph.now in
     let within : c.loop-v.v < length (names_of graph) = omega (arith, length-map c.args.graph.now.vertices (λ v. v.name), c.n-end.ensures.count) in
-    exit_cut _ _ _ _ c.from_residual.ensures.1 (paged_cut _ _ _ _ [] _ _ _ _ _ _ (name_lines-first (names_of graph) c.loop-v.v within) c.loop-v.invariant.0 c.in_err-push_name_line.ensures).cut
+    exit_cut _ _ _ _ c.from_residual.ensures.1 (paged_cut _ _ _ _ [] _ _ _ _ _ _ (name_lines-first (names_of graph) c.loop-v.v within) c.loop-v.invariant.0 c.in_err-push_name_line.ensures)
 
 pub loop-v-preserved : goal.loop-v-preserved
 loop-v-preserved g c =

@@ -3,7 +3,7 @@ use Rattle.sgb_vec.specs.Names.{name_of_vector}
 use Rattle.sgb.specs.Texts.{name_line}
 use Rattle.sgb.proofs.CutOff.{exit_write}
 use Rattle.sgb.proofs.NameEntries.{length-name}
-use Rattle.sgb.proofs.Pages.{exit_paged, held_line, page_cut-more}
+use Rattle.sgb.proofs.Pages.{exit_untaken, held_line}
 use Rattle.sgb.proofs.writing.kept_names.KeptName.push_line.Goals as goal
 
 pub push_text-requires : goal.push_text-requires
@@ -26,7 +26,7 @@ push_text-requires-2 g c =
     )
 
 pub returns-in_err-make_room-clause-paged : goal.returns-in_err-make_room-clause-paged
-returns-in_err-make_room-clause-paged g c = exit_paged _ _ _ _ _ _ c.from_residual.ensures.1 (page_cut-more _ _ _ _ c.in_err-make_room.ensures.paged)
+returns-in_err-make_room-clause-paged g c = exit_untaken c.args.page.now (name_line (name_of_vector c.args.self.now)) _ _ _ _ c.from_residual.ensures.1 c.in_err-make_room.ensures.paged
 
 pub returns-in_err-make_room-clause-fault : goal.returns-in_err-make_room-clause-fault
 returns-in_err-make_room-clause-fault g c = exit_write _ _ c.from_residual.ensures.1 c.in_err-make_room.ensures.fault
