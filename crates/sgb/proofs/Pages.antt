@@ -6,10 +6,10 @@ use Rattle.std.specs.Io.KnownBytes.{Appends}
 use Rattle.std.proofs.KnownBytes.{Appends-nil, Appends-trans}
 use Rattle.sgb_file.specs.Devices.{Change}
 use Rattle.sgb_file.proofs.SoFar.{SoFar}
-use Rattle.sgb_file.proofs.WrittenPrefixes.{prefix_all, prefix_more, prefix_none}
+use Rattle.sgb_file.proofs.WrittenPrefixes.{prefix_none}
 use Rattle.sgb_vec.specs.declared.panics.Panic.{Panic}
 use Rattle.sgb_vec.specs.declared.panics.Panic.TheVariants.{NoRoom}
-use Rattle.sgb.specs.Writing.{IsCutOff, IsWhole, IsWritten}
+use Rattle.sgb.specs.Writing.{IsCutOff, IsWritten}
 use Rattle.sgb.specs.inner.Pages.{IsHeld, IsPaged}
 use Rattle.sgb.proofs.CutOff.{cut_after, cut_more, so_far-cut}
 use Rattle.sgb_requests.specs.declared.faults.Fault.{Fault}
@@ -77,15 +77,11 @@ exit_untaken held text holds out r f exit cut =
 pub held_line : (held now text after : List ℕ) (a b : Option (List ℕ)) → SoFar (held ++ []) now a b → after ≡ now ++ text → SoFar (held ++ text) after a b
 held_line held now text after a b p e = subst (λ (xs : List ℕ). SoFar (xs ++ text) after a b) (append-nil held) (held_more (held ++ []) now text after a b e p)
 
--- what a page held was put, and it is empty
-pub paged_put : {T : Type 0} (held holds : List ℕ) (out : Change) (r : Result T Fault) → IsWritten held out r → OnOk r (holds ≡ []) → IsPaged held [] holds out r
-paged_put held holds out (Ok x) p none =
-    record { output = (held, ap (λ (text : List ℕ). held ++ text) none, p.output); sound = p.sound }
-paged_put held holds out (Err f) p none = cut_more held [] out f p
-
--- nothing was put
-pub paged_same : (held : List ℕ) (a : Option (List ℕ)) → SoFar (held ++ []) held a a
-paged_same held a = ([], sym (append-nil held), Appends-nil a)
+-- the exit of a `?` out of memory, where nothing was put
+pub exit_unput : {T : Type 0} (held text holds : List ℕ) (a : Option (List ℕ)) (failed : Bool) (r : Result T Fault) (p : Panic) → IsErrAnd r (λ f. f ≡ fault.Panic p) → p ≡ NoRoom → failed ≡ false
+    → IsPaged held text holds (record { before = a; after = a; failed = failed }) r
+exit_unput held text holds a failed r p exit memory sound =
+    exit_paged held text holds (record { before = a; after = a; failed = failed }) r (fault.Panic p) exit (record { output = prefix_none a (held ++ text); cause = inr (sound, ap fault.Panic memory) })
 
 -- all that a page holds is put in the end
 pub written_held : {T : Type 0} (all holds : List ℕ) (a b c : Option (List ℕ)) (failed : Bool) (r : Result T Fault) → SoFar all holds a b
@@ -108,28 +104,6 @@ put_together page first x y z second third p q r =
 pub put_more : (page done before after part : List ℕ) → before ≡ page ++ done → after ≡ before ++ part → after ≡ page ++ (done ++ part)
 put_more page done before after part p q = q ∙ ap (λ (text : List ℕ). text ++ part) p ∙ append_assoc page done part
 
--- the exit of a `?` out of memory, before anything was put
-pub exit_unput : {T : Type 0} (text : List ℕ) (a : Option (List ℕ)) (failed : Bool) (r : Result T Fault) (p : Panic) → IsErrAnd r (λ f. f ≡ fault.Panic p) → p ≡ NoRoom → failed ≡ false
-    → IsWritten text (record { before = a; after = a; failed = failed }) r
-exit_unput text a failed r p exit memory sound =
-    let e = err_from_is_err_and r exit in
-    rw (e.1, e.2) (record { output = prefix_none a text; cause = inr (sound, ap fault.Panic memory) })
-
--- the exit of a `?` where a page could not be put
-pub exit_put : {T : Type 0} (held holds : List ℕ) (out : Change) (r : Result T Fault) (f : Fault) → IsErrAnd r (λ g. g ≡ f) → IsCutOff held out f → IsPaged held [] holds out r
-exit_put held holds out r f exit cut = exit_paged held [] holds out r f exit (cut_more held [] out f cut)
-
--- out of memory a page was put
-pub put_out_of_memory : (held : List ℕ) (out : Change) (p : Panic) → IsWhole held out → p ≡ NoRoom → IsCutOff (held ++ []) out (fault.Panic p)
-put_out_of_memory held out p whole memory = record {
-  output = prefix_more out.before out.after held [] (prefix_all out.before out.after held whole.output);
-  cause = inr (whole.sound, ap fault.Panic memory);
-}
-
 -- a page begins to take a text, of which all is left
 pub paged_left : (all left held : List ℕ) (a : Option (List ℕ)) → all ≡ left → PagedSoFar all left held held a a
 paged_left all left held a e = ([], sym e, ([], sym (append-nil held), Appends-nil a))
-
--- and after it took nothing
-pub paged_first : (all held now : List ℕ) (a b : Option (List ℕ)) → SoFar (held ++ []) now a b → PagedSoFar all all held now a b
-paged_first all held now a b p = ([], refl, p)

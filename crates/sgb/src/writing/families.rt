@@ -5,7 +5,7 @@ ghost use Rattle.sgb_file.specs.Devices.{change};
 ghost use Rattle.sgb_vec.specs.Limits.{most_dimensions};
 ghost use Rattle.sgb_graph.specs.Made.{graph_described};
 ghost use Rattle.sgb.specs.Locals.{family_text, head_if, start_after, vectors_of};
-ghost use Rattle.sgb.specs.inner.Locals.{links_of, local_block, local_line};
+ghost use Rattle.sgb.specs.inner.Locals.{local_block, local_line};
 ghost use Rattle.sgb.specs.inner.Pages.{IsPaged, page_bytes};
 ghost use Rattle.sgb.specs.inner.Remaining.{IsRest};
 ghost use Rattle.sgb.specs.inner.Texts.{most_line_bytes};
@@ -153,7 +153,7 @@ fn write_blocks<L: Listed, F: Family, W: Sink>(
     put_page(page, out)
 }
 
-// Hands the block of a vector to a page: its name, and a line for each of its arcs.
+// Hands the block of a vector to a page: its name, and a line for each of its arcs. Out of memory the page is left as it is.
 fn push_block<L: Listed, W: Sink>(
     listed: &mut L,
     x: &[u32],
@@ -170,37 +170,13 @@ fn push_block<L: Listed, W: Sink>(
         (change W.written W.has_failed out.old out.new) result }
     ensures same { L.parameters listed.new ≡ L.parameters listed.old }
 {
-    arcs_or_put(listed, x, links, page, out)?;
+    listed.arcs_at(x, links)?;
     name.push_line(page, out)?;
     for i in 0..links.len() {
         let link = links.get(i);
         push_arc(name, link.tip, link.len, page, out)?;
     }
     Ok(())
-}
-
-// Puts the arcs of the vertex of `x` into `links`. Out of memory what the page holds is put, so that it is not lost.
-fn arcs_or_put<L: Listed, W: Sink>(
-    listed: &mut L,
-    x: &[u32],
-    links: &mut Links,
-    page: &mut Page,
-    out: &mut W,
-) -> Result<(), Fault>
-    requires member { Contains (vectors_of (L.parameters listed.old)) x.now }
-    requires sound { W.has_failed out.old ≡ false }
-    ensures ok { OnOk result (links.new.arcs ≡ links_of (L.parameters listed.old) x.now) }
-    ensures paged { IsPaged page.old [] page.new (change W.written W.has_failed out.old out.new)
-        result }
-    ensures same { L.parameters listed.new ≡ L.parameters listed.old }
-{
-    match listed.arcs_at(x, links) {
-        Ok(()) => Ok(()),
-        Err(panic) => {
-            put_page(page, out)?;
-            Err(Fault::Panic(panic))
-        }
-    }
 }
 
 // Hands the line of an arc to this vector, from one whose name is known, to a page.

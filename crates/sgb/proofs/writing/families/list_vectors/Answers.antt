@@ -1,19 +1,17 @@
-use Rattle.std.proofs.Common.{◌≡◌, ◌∙◌, ◌++◌, List, ℕ, ap, drop, length, option_map, arith, inl, refl, subst}
+use Rattle.std.proofs.Common.{◌≡◌, ◌∙◌, ◌++◌, List, ℕ, ap, drop, length, option_map, arith, refl, subst}
 use Rattle.std.specs.Io.KnownBytes.{Appends}
 use Rattle.sgb.specs.Locals.{head_if, start_after, vectors_of}
 use Rattle.sgb_graph.specs.Made.{graph_described}
 use Rattle.sgb.specs.Values.{described}
-use Rattle.sgb.specs.Writing.{IsWritten}
-use Rattle.sgb.proofs.CutOff.{begun_by, cut_more, exit_cut, exit_uncut, written_after}
+use Rattle.sgb.proofs.CutOff.{begun_by, cut_more, exit_cut, exit_uncut, exit_unwritten, written_after}
 use Rattle.sgb.proofs.LocalListings.{blocks_of_rest}
-use Rattle.sgb.proofs.Pages.{exit_unput}
 use Rattle.sgb.proofs.writing.families.list_vectors.Goals as goal
 
 pub push_head_if-requires-clause-room : goal.push_head_if-requires-clause-room
 push_head_if-requires-clause-room g c = omega (arith, ap length c.new-page.ensures)
 
 pub returns-in_err-push_head_if-clause-written : goal.returns-in_err-push_head_if-clause-written
-returns-in_err-push_head_if-clause-written g c = exit_unput _ _ _ _ _ c.from_residual.ensures.1 c.in_err-push_head_if.ensures.memory c.requires.sound
+returns-in_err-push_head_if-clause-written g c = exit_unwritten _ _ _ _ _ c.from_residual.ensures.1 c.in_err-push_head_if.ensures.memory c.requires.sound
 
 pub returns-in_err-push_head_if-clause-head : goal.returns-in_err-push_head_if-clause-head
 returns-in_err-push_head_if-clause-head g c = exit_uncut _ _ _ _ _ _ c.from_residual.ensures.1 (λ other. refl)
