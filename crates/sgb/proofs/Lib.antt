@@ -17,6 +17,8 @@ pub mod ExamplesAnswers
 pub mod ExamplesFlips
 -- what a run leaves that reads standard input first
 pub mod InputEndings
+-- numbers of few digits
+pub mod FewDigits
 -- what evaluations leave of standard input
 pub mod InputsLeft
 -- names of vectors that are kept

@@ -1,5 +1,5 @@
 //! Texts put together in place, and pages of output: lines are put together where they leave.
-ghost use Rattle.std.specs.Prelude.{◌≡◌, ◌≤◌, ◌+◌, ◌*◌, ◌-◌, [], ◌++◌, codes, drop, false, length, nat_lt, take, IfErr, OnOk};
+ghost use Rattle.std.specs.Prelude.{◌≡◌, ◌≤◌, ◌<◌, ◌+◌, ◌*◌, ◌-◌, [], ◌∷◌, ◌++◌, codes, decimal, drop, false, length, nat_lt, take, IfErr, OnOk};
 ghost use Rattle.sgb_file.specs.Devices.{change};
 ghost use Rattle.sgb.specs.Writing.{IsWritten};
 ghost use Rattle.sgb.specs.inner.Pages.{IsPaged, page_bytes};
@@ -101,9 +101,71 @@ impl<const N: usize> Filled<N> {
         ensures short { length self.new ≤ length self.old + 11 }
     {
         if dotted {
-            self.push_text(b".");
+            self.push_byte(b'.');
         }
-        self.push_number(entry);
+        self.push_count(entry);
+    }
+
+    // Appends a number of 32 bits in decimal, at most 10 bytes. Few digits are put one by one.
+    fn push_count(&mut self, number: u32)
+        requires { length self.old + 40 ≤ N }
+        ensures text { self.new ≡ self.old ++ decimal number }
+        ensures short { length self.new ≤ length self.old + 10 }
+    {
+        if number < 10_000 {
+            self.push_few_digits(number);
+        } else {
+            self.push_number(number);
+        }
+    }
+
+    // Appends a number of at most four digits.
+    fn push_few_digits(&mut self, number: u32)
+        requires few { number < 10_000 }
+        requires room { length self.old + 4 ≤ N }
+        ensures text { self.new ≡ self.old ++ decimal number }
+        ensures short { length self.new ≤ length self.old + 4 }
+    {
+        if number < 100 {
+            self.push_short(number);
+        } else {
+            self.push_short(number / 100);
+            self.push_digit(number / 10 % 10);
+            self.push_digit(number % 10);
+        }
+    }
+
+    // Appends a number of at most two digits.
+    fn push_short(&mut self, number: u32)
+        requires few { number < 100 }
+        requires room { length self.old + 2 ≤ N }
+        ensures text { self.new ≡ self.old ++ decimal number }
+        ensures short { length self.new ≤ length self.old + 2 }
+    {
+        if number >= 10 {
+            self.push_digit(number / 10);
+        }
+        self.push_digit(number % 10);
+    }
+
+    // Appends a digit.
+    fn push_digit(&mut self, digit: u32)
+        requires digit { digit < 10 }
+        requires room { length self.old < N }
+        ensures text { self.new ≡ self.old ++ (48 + digit) ∷ [] }
+        ensures len { length self.new ≡ length self.old + 1 }
+    {
+        self.push_byte(b'0' + digit as u8);
+    }
+
+    // Appends a byte, for which there is room.
+    fn push_byte(&mut self, byte: u8)
+        requires { length self.old < N }
+        ensures text { self.new ≡ self.old ++ byte ∷ [] }
+        ensures len { length self.new ≡ length self.old + 1 }
+    {
+        self.bytes[self.len] = byte;
+        self.len += 1;
     }
 
     /// Appends the entries of a vector from place `from` on and before `to`, as they stand in its name.
