@@ -1,5 +1,6 @@
 //! Texts put together in place, and pages of output: lines are put together where they leave.
 ghost use Rattle.std.specs.Prelude.{◌≡◌, ◌≤◌, ◌<◌, ◌+◌, ◌*◌, ◌-◌, [], ◌∷◌, ◌++◌, codes, decimal, drop, false, length, nat_lt, take, IfErr, OnOk};
+ghost use Rattle.std.specs.Fmt.{signed_decimal};
 ghost use Rattle.sgb_file.specs.Devices.{change};
 ghost use Rattle.sgb.specs.Writing.{IsWritten};
 ghost use Rattle.sgb.specs.inner.Pages.{IsPaged, page_bytes};
@@ -190,13 +191,26 @@ impl<const N: usize> Filled<N> {
     }
 
     /// Ends the line of an arc: what stands after that name.
-    pub(super) fn end_arc<I: Integer>(&mut self, len: I)
+    pub(super) fn end_arc(&mut self, len: i64)
         requires { length self.old + 50 ≤ N }
-        ensures { self.new ≡ self.old ++ (codes ", length " ++ (I.text len ++ codes "\n")) }
+        ensures { self.new ≡ self.old
+            ++ (codes ", length " ++ (signed_decimal len ++ codes "\n")) }
     {
         self.push_text(b", length ");
-        self.push_number(len);
+        self.push_length(len);
         self.push_text(b"\n");
+    }
+
+    // Appends the length of an arc in decimal.
+    fn push_length(&mut self, len: i64)
+        requires { length self.old + 40 ≤ N }
+        ensures text { self.new ≡ self.old ++ signed_decimal len }
+        ensures short { length self.new ≤ length self.old + 40 }
+    {
+        match u32::try_from(len) {
+            Ok(count) => self.push_count(count),
+            Err(_) => self.push_number(len),
+        }
     }
 }
 

@@ -1,4 +1,6 @@
-use Rattle.std.proofs.Common.{◌≡◌, ◌≤◌, ◌+◌, ◌∙◌, ◌++◌, List, ℕ, codes, length, length-append, pos, sym, ap, arith}
+use Rattle.std.proofs.Common.{◌≡◌, ◌≤◌, ◌+◌, ◌∙◌, ◌++◌, List, ℕ, codes, length, length-append, pos, sym, ap, arith, rules, w64, to_z, of_z}
+use Rattle.std.specs.Fmt.{signed_decimal}
+use Rattle.std.proofs.lemmas.Int.{to_z-of_z}
 use Rattle.sgb_vec.specs.Names.{name_of_vector}
 use Rattle.sgb.specs.inner.Locals.{local_line}
 use Rattle.sgb.proofs.LocalListings.{line-parts}
@@ -31,7 +33,10 @@ pub returns : goal.returns
 returns g c =
     let tip = c.args.tip.now in
     let page : List ℕ = c.make_room.new.page in
+    let len : signed_decimal (to_z w64 (of_z w64 c.from.result)) ≡ signed_decimal (pos c.args.len) =
+    ap signed_decimal (to_z-of_z w64 c.from.result (search rules) ∙ c.from.ensures) in
     let text : c.end_arc.new.self ≡ page ++ local_line (record { tip = tip; len = pos c.args.len }) =
-    put_together _ _ (codes "  -> ") (name_of_vector tip) _ _ _ c.begin_arc.ensures c.push_other.ensures.text c.end_arc.ensures
+    put_together _ _ (codes "  -> ") (name_of_vector tip) _ _ _ c.begin_arc.ensures c.push_other.ensures.text
+    (c.end_arc.ensures ∙ ap (λ (digits : List ℕ). c.push_other.new.page ++ (codes ", length " ++ (digits ++ codes "\n"))) len)
     ∙ ap (λ (line : List ℕ). page ++ line) (sym (line-parts tip (pos c.args.len))) in
     record { output = held_line _ _ _ _ _ _ c.in_ok-make_room.ensures.paged.output text; sound = c.in_ok-make_room.ensures.paged.sound }
