@@ -103,7 +103,8 @@ EXPRESSIONS = {
     "board(2,-251,0,0,1,0,0)": (1, b"Something went wrong (panic code 30)!\n"),
     "board(3,": (2, b"sgb: bad expression at byte 8\n"),
 }
-# of these, the last two find that they need more room when a part of the listing stands: in the buffer, and beyond it
+# of these, the last two find that they need more room when a part of the listing stands: on the first page, and after it
+# was written
 OTHERS = {
     ("queen",): None,
     ("flip", "flip(-314159,0,5,1000)"): None,
@@ -113,7 +114,7 @@ OTHERS = {
     ("list", "petersen()", "--after", "1", "--skip", "1"): USAGE,
     ("list", "complete(2)", "--after", "0", "--skip", "1"): USAGE,
     ("list", "board(5,5,0,0,-2,0,0)", "--skip", "0"): None,
-    ("list", "simplex(90,2,90,90,0,0,0)", "--skip", "0"): None,
+    ("list", "simplex(400,2,400,400,0,0,0)", "--skip", "0"): None,
 }
 # one request of each status, with its input: 0, then faults of words, of texts, of graphs, of names, of files
 STATUSES = [

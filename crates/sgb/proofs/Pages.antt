@@ -1,5 +1,5 @@
 -- Texts handed to a page of output, part by part.
-use Rattle.std.proofs.Common.{◌≡◌, ◌∙◌, ◌++◌, Bool, ℕ, false, List, [], Option, Result, Ok, Err, OnOk, refl, sym, ap, subst, inr, append_assoc, append-nil}
+use Rattle.std.proofs.Common.{◌≡◌, ◌∙◌, ◌++◌, Bool, ℕ, false, List, [], Option, Result, Ok, Err, refl, sym, ap, subst, inr, append_assoc, append-nil}
 use Rattle.std.specs.Result.{IsErrAnd}
 use Rattle.std.proofs.lemmas.Result.{err_from_is_err_and}
 use Rattle.std.specs.Io.KnownBytes.{Appends}
@@ -10,7 +10,7 @@ use Rattle.sgb_file.proofs.WrittenPrefixes.{prefix_none}
 use Rattle.sgb_vec.specs.declared.panics.Panic.{Panic}
 use Rattle.sgb_vec.specs.declared.panics.Panic.TheVariants.{NoRoom}
 use Rattle.sgb.specs.Writing.{IsCutOff, IsWritten}
-use Rattle.sgb.specs.inner.Pages.{IsHeld, IsPaged}
+use Rattle.sgb.specs.inner.Pages.{IsPaged}
 use Rattle.sgb.proofs.CutOff.{cut_after, cut_more, so_far-cut}
 use Rattle.sgb_requests.specs.declared.faults.Fault.{Fault}
 use Rattle.sgb_requests.specs.declared.faults.Fault.TheVariants as fault

@@ -86,7 +86,7 @@ pub(super) fn list_vectors<L: Listed, F: Family, W: Sink>(
     let vectors = vectors_after(family, after);
     let mut page = Page::new();
     push_head_if(head, listed, family, links, &mut page)?;
-    // The head leaves at once: the first list of a great graph takes its time. Of an empty page nothing is put.
+    // The head is put before the first list, which in a great graph takes time and memory. Of an empty page nothing is put.
     put_page(&mut page, out)?;
     write_blocks(listed, vectors, links, &mut page, out)
 }

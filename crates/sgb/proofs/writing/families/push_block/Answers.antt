@@ -7,7 +7,7 @@ use Rattle.sgb.specs.declared.locals.Local.{Local}
 use Rattle.sgb.specs.inner.Locals.{links_of, local_block, local_line}
 use Rattle.sgb.proofs.TipWidths.{tip_width}
 use Rattle.sgb.proofs.LocalListings.{lines-first, local_block-parts}
-use Rattle.sgb.proofs.Pages.{exit_paged, exit_unput, paged_all, paged_cut, paged_more, paged_none}
+use Rattle.sgb.proofs.Pages.{exit_paged, exit_unput, paged_cut, paged_more, paged_none}
 use Rattle.sgb.proofs.writing.families.push_block.Goals as goal
 
 -- a block in parts, by the vector whose name is kept

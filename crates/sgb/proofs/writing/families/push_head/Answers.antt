@@ -1,4 +1,4 @@
-use Rattle.std.proofs.Common.{◌≡◌, ◌∙◌, ◌++◌, List, ℕ, length, refl, sym, ap}
+use Rattle.std.proofs.Common.{◌≡◌, ◌∙◌, length, sym, ap}
 use Rattle.sgb.specs.Locals.{vectors_of}
 use Rattle.sgb.proofs.LocalListings.{head_of_local}
 use Rattle.sgb.proofs.writing.families.push_head.Goals as goal
