@@ -103,7 +103,8 @@ EXPRESSIONS = {
     "board(2,-251,0,0,1,0,0)": (1, b"Something went wrong (panic code 30)!\n"),
     "board(3,": (2, b"sgb: bad expression at byte 8\n"),
 }
-# of these, the last two find that they need more room when a part of the listing stands: in the buffer, and beyond it
+# of these, the last two find that they need more room when a part of the listing stands: on the first page, and after it
+# was written
 OTHERS = {
     ("queen",): None,
     ("flip", "flip(-314159,0,5,1000)"): None,
@@ -113,7 +114,7 @@ OTHERS = {
     ("list", "petersen()", "--after", "1", "--skip", "1"): USAGE,
     ("list", "complete(2)", "--after", "0", "--skip", "1"): USAGE,
     ("list", "board(5,5,0,0,-2,0,0)", "--skip", "0"): None,
-    ("list", "simplex(90,2,90,90,0,0,0)", "--skip", "0"): None,
+    ("list", "simplex(400,2,400,400,0,0,0)", "--skip", "0"): None,
 }
 # one request of each status, with its input: 0, then faults of words, of texts, of graphs, of names, of files
 STATUSES = [
@@ -649,11 +650,26 @@ def version(runs, tally):
     tally.check(len(set(found)) == 1, "versions of the change log, the README, the manual page twice:", repr(found))
 
 
+def digits(runs, tally):
+    """Numbers of few digits and of more: boards of one row, each square with an arc to the next; and all lengths from the last."""
+    for places in (9, 10, 11, 99, 100, 101, 999, 1_000, 1_001, 9_999, 10_000, 10_001, 100_001):
+        expression = f"board({places},0,0,0,1,0,1)"
+        head = f"  The graph whose official name is\n{expression}\n  has {places} vertices and {places - 1} arcs:\n\n"
+        blocks = [f"{square}\n  -> {square + 1}, length 1\n" for square in range(places - 1)]
+        listing = head + "".join(blocks) + f"{places - 1}\n"
+        tally.same(expression, said(runs.run(("list", expression))), (0, listing.encode(), b""))
+    last = 10_001
+    lines = [f"  -> {last - length}, length {length}\n" for length in range(1, last + 1)]
+    words = ("list", f"board({last + 1},0,0,0,-1,0,0)", "--skip", str(last))
+    tally.same(words, said(runs.run(words)), (0, f"{last}\n{''.join(lines)}".encode(), b""))
+
+
 # ---------------------------------------------------------------------------------------------------------------------
 
 
 def all_checks():
     yield "answers", answers
+    yield "digits", digits
     yield "document README.md", document("README.md", 1)
     yield "document docs/TOUR.md", document("docs/TOUR.md", 20)
     yield from conformance.all_checks(document, Shell)

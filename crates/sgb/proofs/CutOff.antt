@@ -1,12 +1,14 @@
 -- Texts written part by part, until a part is cut off.
-use Rattle.std.proofs.Common.{◌≡◌, ◌≢◌, ◌++◌, Bool, ℕ, List, Option, Result, Ok, Err, IfErr, inl, inr}
+use Rattle.std.proofs.Common.{◌≡◌, ◌≢◌, ◌++◌, Bool, ℕ, List, Option, Result, Ok, Err, IfErr, false, inl, inr, ap}
 use Rattle.std.specs.Result.{IsErrAnd}
 use Rattle.std.proofs.lemmas.Result.{err_from_is_err_and}
 use Rattle.std.specs.Io.KnownBytes.{Appends}
 use Rattle.std.proofs.KnownBytes.{Appends-trans}
 use Rattle.sgb_file.proofs.SoFar.{SoFar, so_far-prefix}
-use Rattle.sgb_file.proofs.WrittenPrefixes.{prefix_more, prefix_after}
+use Rattle.sgb_file.proofs.WrittenPrefixes.{prefix_more, prefix_none, prefix_after}
 use Rattle.sgb_file.specs.Devices.{Change}
+use Rattle.sgb_vec.specs.declared.panics.Panic.{Panic}
+use Rattle.sgb_vec.specs.declared.panics.Panic.TheVariants.{NoRoom}
 use Rattle.sgb.specs.Writing.{IsWritten, IsCutOff, IsLeftOrBegun}
 use Rattle.sgb_requests.specs.declared.faults.Fault.{Fault}
 use Rattle.sgb_requests.specs.declared.faults.Fault.TheVariants as fault
@@ -37,6 +39,12 @@ pub so_far-cut : (all part left rest : List ℕ) (a b c : Option (List ℕ)) (fa
     → IsCutOff part (record { before = b; after = c; failed = failed }) f → IsCutOff all (record { before = a; after = c; failed = failed }) f
 so_far-cut all part left rest a b c failed f e p q =
     record { output = so_far-prefix all part left rest a b c e p q.output; cause = q.cause }
+
+-- the exit of a `?` out of memory, before anything was written
+pub exit_unwritten : {T : Type 0} (text : List ℕ) (a : Option (List ℕ)) (failed : Bool) (r : Result T Fault) (p : Panic) → IsErrAnd r (λ f. f ≡ fault.Panic p) → p ≡ NoRoom → failed ≡ false
+    → IsWritten text (record { before = a; after = a; failed = failed }) r
+exit_unwritten text a failed r p exit memory sound =
+    exit_cut text (record { before = a; after = a; failed = failed }) r (fault.Panic p) exit (record { output = prefix_none a text; cause = inr (sound, ap fault.Panic memory) })
 
 -- the exit of a `?` with the fault of a write
 pub exit_write : {T : Type 0} (r : Result T Fault) (f : Fault) → IsErrAnd r (λ g. g ≡ f) → f ≡ fault.Write → IfErr r (λ g. g ≡ fault.Write)

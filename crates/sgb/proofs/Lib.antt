@@ -17,6 +17,8 @@ pub mod ExamplesAnswers
 pub mod ExamplesFlips
 -- what a run leaves that reads standard input first
 pub mod InputEndings
+-- numbers of few digits
+pub mod FewDigits
 -- what evaluations leave of standard input
 pub mod InputsLeft
 -- names of vectors that are kept
@@ -33,6 +35,8 @@ pub mod NameEntries
 pub mod Named
 -- members of a family by their names
 pub mod NamedMembers
+-- texts handed to a page of output, part by part
+pub mod Pages
 -- what a call of the program leaves
 pub mod ProgramRuns
 -- refusals are never out of memory

@@ -9,6 +9,8 @@ pub mod Inputs
 pub mod KeptNames
 -- blocks of a generator's graph
 pub mod Locals
+-- pages of output, and what was put of them
+pub mod Pages
 -- what is left of vectors
 pub mod Remaining
 -- the entries of a name, and how long lines are

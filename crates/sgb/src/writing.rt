@@ -1,6 +1,5 @@
 //! Texts written to a sink.
 ghost use Rattle.std.specs.Prelude.{◌≡◌, false, IfErr};
-ghost use Rattle.std.specs.List.{flat_map};
 ghost use Rattle.sgb_file.specs.Devices.{change};
 ghost use Rattle.sgb.specs.Writing.{IsWritten};
 
@@ -12,12 +11,12 @@ pub(crate) mod files;
 pub(crate) mod flips;
 // Names of vectors that are kept.
 mod kept_names;
-// Lines.
-mod lines;
 // Listings of graphs.
 pub(crate) mod listing;
 // Names of a generator's vectors.
 pub(crate) mod names;
+// Pages of output.
+mod pages;
 // Where the names and the listing of a generator's vectors begin.
 pub(crate) mod resumed;
 // Names of a graph's vertices.
@@ -33,17 +32,4 @@ fn write_bytes<W: Sink>(out: &mut W, bytes: &[u8]) -> Result<(), Fault>
     ensures fault { IfErr result (λ f. f ≡ Fault.Write) }
 {
     put_all(out, bytes).map_err(|_| Fault::Write)
-}
-
-// Writes texts, one after the other.
-fn write_texts<W: Sink>(out: &mut W, texts: &[&[u8]]) -> Result<(), Fault>
-    requires { W.has_failed out.old ≡ false }
-    ensures written { IsWritten (flat_map (λ text. text.now) texts.now)
-        (change W.written W.has_failed out.old out.new) result }
-    ensures fault { IfErr result (λ f. f ≡ Fault.Write) }
-{
-    for text in texts {
-        write_bytes(out, text)?;
-    }
-    Ok(())
 }

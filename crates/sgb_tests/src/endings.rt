@@ -156,8 +156,8 @@ fn left_writer(
 // After the first fault the writer is called no more.
 #[test]
 fn nothing_is_written_after_a_write_fault(rt: HostRuntime) -> Result<(), Fail> {
-    // 1800 names of 14 bytes: several writes
-    let words = ["names", "board(2,3,5,-7,1,0,0)"];
+    // 5400 names of 16 bytes: three full pages and a part of one, each in a write
+    let words = ["names", "board(2,3,5,-8,1,0,0)"];
     for (failing_write, failing_flush) in [(1, 0), (2, 0), (3, 0), (0, 1)] {
         let left = left_writer(rt.alloc(), &words, failing_write, failing_flush)?;
         assert!(rt; left.status == 3 && left.errors.bytes() == WRITE_FAULT.as_bytes());
@@ -172,9 +172,9 @@ fn ending(is_cut: bool) -> (&'static str, u8) {
     if is_cut { (WRITE_FAULT, 3) } else { ("", 0) }
 }
 
-// Whether a call whose sinks take so many bytes at once, and the output only this many in all, leaves there exactly the
-// first bytes of the whole output, and the line and the status that go with them.
-fn is_cut_off(
+// Whether a call whose sinks take so many bytes at once, and the output only this many in all, N at most, leaves there
+// exactly the first bytes of the whole output, and the line and the status that go with them.
+pub(crate) fn is_cut_off<const N: usize>(
     alloc: Global,
     words: &[&str],
     whole: &[u8],
@@ -183,7 +183,7 @@ fn is_cut_off(
 ) -> Result<bool, Fail>
     requires { 0 < each }
 {
-    let mut out: CutSink<2600> = CutSink::new(each, limit, false);
+    let mut out: CutSink<N> = CutSink::new(each, limit, false);
     let mut errors: CutSink<128> = CutSink::new(each, 128, false);
     let status = call(alloc, words, &mut out, &mut errors)?;
     let (line, wanted) = ending(limit < whole.len());
@@ -201,7 +201,7 @@ fn check_short_sinks(rt: &impl Abort, alloc: Global, each: usize) -> Result<(), 
             check_call(
                 rt,
                 words,
-                is_cut_off(alloc, words, whole.as_bytes(), each, limit)?,
+                is_cut_off::<2600>(alloc, words, whole.as_bytes(), each, limit)?,
             );
         }
     }
@@ -258,7 +258,7 @@ fn short_sinks_of_queens(rt: HostRuntime) -> Result<(), Fail> {
     let words = ["queen"];
     let whole = answered(&rt, rt.alloc(), &words)?;
     for limit in 0..=whole.bytes().len() {
-        let is_cut = is_cut_off(rt.alloc(), &words, whole.bytes(), 7, limit)?;
+        let is_cut = is_cut_off::<2600>(rt.alloc(), &words, whole.bytes(), 7, limit)?;
         check_call(&rt, &words, is_cut);
     }
     Ok(())

@@ -38,6 +38,9 @@ mod names;
 // operations on graphs
 #[cfg(test)]
 mod operations;
+// output that leaves page by page
+#[cfg(test)]
+mod pages;
 // requests that are refused
 #[cfg(test)]
 mod refusals;

@@ -1,27 +1,28 @@
 //! The listing of a generator's graph, written from its vectors: one list of arcs after another, and no graph is built.
-ghost use Rattle.std.specs.Prelude.{◌≡◌, ◌≢◌, ◌≤◌, ◌+◌, false, pos, drop, length, option_map, Contains, IfErr, IfOk, IfSome, IsOkUnless};
+ghost use Rattle.std.specs.Prelude.{◌≡◌, ◌≢◌, ◌≤◌, ◌+◌, [], ◌++◌, false, pos, drop, length, option_map, Contains, IfErr, IfOk, IfSome, IsOkUnless, OnOk};
 ghost use Rattle.std.specs.List.{flat_map};
 ghost use Rattle.sgb_file.specs.Devices.{change};
 ghost use Rattle.sgb_vec.specs.Limits.{most_dimensions};
 ghost use Rattle.sgb_graph.specs.Made.{graph_described};
 ghost use Rattle.sgb.specs.Locals.{family_text, head_if, start_after, vectors_of};
 ghost use Rattle.sgb.specs.inner.Locals.{local_block, local_line};
+ghost use Rattle.sgb.specs.inner.Pages.{IsPaged, page_bytes};
 ghost use Rattle.sgb.specs.inner.Remaining.{IsRest};
+ghost use Rattle.sgb.specs.inner.Texts.{most_line_bytes};
 ghost use Rattle.sgb.specs.Texts.{head};
 ghost use Rattle.sgb.specs.Values.{described};
 ghost use Rattle.sgb.specs.Writing.{IsLeftOrBegun, IsWritten};
 
 use super::kept_names::KeptName;
-use super::lines::Line;
-use super::listing::write_head_of;
+use super::listing::push_head_of;
+use super::pages::{Page, make_room, put_page};
 use super::resumed::vectors_after;
-use super::write_bytes;
 use crate::listed::{Listed, ListedBoard, ListedSimplex, ListedSubsets};
 use crate::locals::Local;
 use sgb_file::Sink;
 use sgb_gen::Links;
 use sgb_requests::Fault;
-use sgb_vec::{Family, Vectors};
+use sgb_vec::{Family, Panic, Vectors};
 
 /// Writes the listing of a generator's graph, one arc list after another: the head where `head` asks for it, and a
 /// block for each vertex after that of the vector `after`, or for all. No flush. All memory that it takes is from where
@@ -83,113 +84,118 @@ pub(super) fn list_vectors<L: Listed, F: Family, W: Sink>(
         (W.written out.old) (W.written out.new)) }
 {
     let vectors = vectors_after(family, after);
-    write_head_if(head, listed, family, links, out)?;
-    write_blocks(listed, vectors, links, out)
+    let mut page = Page::new();
+    push_head_if(head, listed, family, links, &mut page)?;
+    // The head is put before the first list, which in a great graph takes time and memory. Of an empty page nothing is put.
+    put_page(&mut page, out)?;
+    write_blocks(listed, vectors, links, &mut page, out)
 }
 
-// Writes the head where it is asked for.
-fn write_head_if<L: Listed, F: Family, W: Sink>(
+// Appends the head to a page where it is asked for.
+fn push_head_if<L: Listed, F: Family>(
     asked: bool,
     listed: &L,
     family: &F,
-    links: &mut Links,
-    out: &mut W,
-) -> Result<(), Fault>
+    links: &Links,
+    page: &mut Page,
+) -> Result<(), Panic>
     requires members { F.members family.now ≡ vectors_of (L.parameters listed.now) }
-    requires sound { W.has_failed out.old ≡ false }
-    ensures written { IsWritten
-        (head_if asked (graph_described (described (L.parameters listed.now))))
-        (change W.written W.has_failed out.old out.new) result }
-    ensures memory { IfErr result (λ f. f ≢ Fault.Write → out.new ≡ out.old) }
+    requires room { length page.old + most_line_bytes ≤ page_bytes }
+    ensures text { OnOk result (page.new ≡ page.old
+        ++ head_if asked (graph_described (described (L.parameters listed.now)))) }
+    ensures memory { IsOkUnless result Panic.NoRoom }
 {
     if !asked {
         return Ok(());
     }
-    write_head(listed, family, links, out)
+    push_head(listed, family, links, page)
 }
 
-// Writes the head. The arcs are counted first.
-fn write_head<L: Listed, F: Family, W: Sink>(
+// Appends the head to a page. The arcs are counted first.
+fn push_head<L: Listed, F: Family>(
     listed: &L,
     family: &F,
-    links: &mut Links,
-    out: &mut W,
-) -> Result<(), Fault>
+    links: &Links,
+    page: &mut Page,
+) -> Result<(), Panic>
     requires members { F.members family.now ≡ vectors_of (L.parameters listed.now) }
-    requires sound { W.has_failed out.old ≡ false }
-    ensures written { IsWritten (head (graph_described (described (L.parameters listed.now))))
-        (change W.written W.has_failed out.old out.new) result }
-    ensures memory { IfErr result (λ f. f ≢ Fault.Write → out.new ≡ out.old) }
+    requires room { length page.old + most_line_bytes ≤ page_bytes }
+    ensures text { OnOk result (page.new ≡ page.old
+        ++ head (graph_described (described (L.parameters listed.now)))) }
+    ensures memory { IsOkUnless result Panic.NoRoom }
 {
     let m = listed.arcs_count(links)?;
-    write_head_of(&listed.id(), family.size(), m, out)
+    push_head_of(&listed.id(), family.size(), m, page);
+    Ok(())
 }
 
-// Writes the blocks of these vectors.
+// Writes the blocks of these vectors, by a page that is empty.
 fn write_blocks<L: Listed, F: Family, W: Sink>(
     listed: &mut L,
     vectors: Vectors<'_, F>,
     links: &mut Links,
+    page: &mut Page,
     out: &mut W,
 ) -> Result<(), Fault>
     requires rest { IsRest (vectors_of (L.parameters listed.old)) vectors }
+    requires empty { page.old ≡ [] }
     requires sound { W.has_failed out.old ≡ false }
     ensures { IsWritten (flat_map (local_block (L.parameters listed.old)) vectors.entry)
         (change W.written W.has_failed out.old out.new) result }
 {
     let mut name = KeptName::new();
-    let mut line = Line::new();
     let mut left = vectors;
     while let Some(x) = left.front() {
         name.turn_to(x);
-        write_block(listed, x, links, &mut name, &mut line, out)?;
+        push_block(listed, x, links, &name, page, out)?;
         let _some = left.advance();
     }
-    Ok(())
+    put_page(page, out)
 }
 
-// Writes the block of a vector: its name, and a line for each of its arcs.
-fn write_block<L: Listed, W: Sink>(
+// Hands the block of a vector to a page: its name, and a line for each of its arcs. Out of memory the page is left as it is.
+fn push_block<L: Listed, W: Sink>(
     listed: &mut L,
     x: &[u32],
     links: &mut Links,
-    name: &mut KeptName,
-    line: &mut Line,
+    name: &KeptName,
+    page: &mut Page,
     out: &mut W,
 ) -> Result<(), Fault>
     requires member { Contains (vectors_of (L.parameters listed.old)) x.now }
     requires short { length x.now ≤ most_dimensions + 1 }
-    requires named { name.old ≡ x.now }
+    requires named { name.now ≡ x.now }
     requires sound { W.has_failed out.old ≡ false }
-    ensures written { IsWritten (local_block (L.parameters listed.old) x.now)
+    ensures paged { IsPaged page.old (local_block (L.parameters listed.old) x.now) page.new
         (change W.written W.has_failed out.old out.new) result }
     ensures same { L.parameters listed.new ≡ L.parameters listed.old }
 {
     listed.arcs_at(x, links)?;
-    name.write_line(out)?;
+    name.push_line(page, out)?;
     for i in 0..links.len() {
         let link = links.get(i);
-        write_arc(name, link.tip, link.len, line, out)?;
+        push_arc(name, link.tip, link.len, page, out)?;
     }
     Ok(())
 }
 
-// Writes the line of an arc to this vector, from one whose name is known. It is put together in `line`.
-fn write_arc<W: Sink>(
+// Hands the line of an arc to this vector, from one whose name is known, to a page.
+fn push_arc<W: Sink>(
     name: &KeptName,
     tip: &[u32],
     len: u32,
-    line: &mut Line,
+    page: &mut Page,
     out: &mut W,
 ) -> Result<(), Fault>
     requires width { length tip.now ≡ length name.now }
     requires short { length tip.now ≤ most_dimensions + 1 }
     requires sound { W.has_failed out.old ≡ false }
-    ensures { IsWritten (local_line (record { tip = tip.now; len = pos len }))
+    ensures { IsPaged page.old (local_line (record { tip = tip.now; len = pos len })) page.new
         (change W.written W.has_failed out.old out.new) result }
 {
-    line.begin_arc();
-    name.push_other(tip, line);
-    line.end_arc(len);
-    write_bytes(out, line.bytes())
+    make_room(page, out)?;
+    page.begin_arc();
+    name.push_other(tip, page);
+    page.end_arc(i64::from(len));
+    Ok(())
 }

@@ -4,10 +4,10 @@ ghost use Rattle.sgb_file.specs.Devices.{change};
 ghost use Rattle.sgb_graph.specs.Draws.{IsAtDraw, modulus, seed_of};
 ghost use Rattle.sgb.specs.FlipAnswers.{accepted_draws, drawn, drawn_from, flip_answer, number_line, number_lines, number_within};
 ghost use Rattle.sgb.specs.Writing.{IsWritten};
+ghost use Rattle.sgb.specs.inner.Pages.{IsPaged};
 ghost use Rattle.sgb.specs.inner.Writing.{IsEnded};
 
-use super::write_texts;
-use itoa::Buffer;
+use super::pages::{Page, make_room, put_page};
 use sgb_expr::FlipParams;
 use sgb_file::Sink;
 use sgb_graph::Flip;
@@ -80,10 +80,11 @@ fn write_draws<W: Sink>(draws: Draws, out: &mut W) -> Result<(), Fault>
 {
     let mut flip = Flip::new(draws.start);
     flip.skip(u64::from(draws.skip));
+    let mut page = Page::new();
     for _number in 0..draws.count {
-        write_number(next_number(&mut flip, draws.m), out)?;
+        push_number_line(next_number(&mut flip, draws.m), &mut page, out)?;
     }
-    Ok(())
+    put_page(&mut page, out)
 }
 
 // The next number: a plain draw where m is 0, else a uniform draw below m. Of the numbers from where the generator stood,
@@ -98,13 +99,15 @@ fn next_number(flip: &mut Flip, m: u32) -> u32
     if m == 0 { flip.draw() } else { flip.below(m) }
 }
 
-// Writes the line of a number: its digits and a newline.
-fn write_number<W: Sink>(number: u32, out: &mut W) -> Result<(), Fault>
+// Hands the line of a number to a page: its digits and a newline.
+fn push_number_line<W: Sink>(number: u32, page: &mut Page, out: &mut W) -> Result<(), Fault>
     requires { W.has_failed out.old ≡ false }
-    ensures written { IsWritten (number_line number)
+    ensures paged { IsPaged page.old (number_line number) page.new
         (change W.written W.has_failed out.old out.new) result }
     ensures fault { IfErr result (λ f. f ≡ Fault.Write) }
 {
-    let mut digits = Buffer::new();
-    write_texts(out, &[digits.format(number).as_bytes(), b"\n"])
+    make_room(page, out)?;
+    page.push_number(number);
+    page.push_text(b"\n");
+    Ok(())
 }

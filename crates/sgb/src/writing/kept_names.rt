@@ -4,15 +4,16 @@ ghost use Rattle.sgb_file.specs.Devices.{change};
 ghost use Rattle.sgb_vec.specs.Limits.{most_dimensions};
 ghost use Rattle.sgb_vec.specs.Names.{name_of_vector};
 ghost use Rattle.sgb.specs.Texts.{name_line};
-ghost use Rattle.sgb.specs.Writing.{IsWritten};
-ghost use Rattle.sgb.specs.inner.Texts.{most_line_bytes};
+ghost use Rattle.sgb.specs.inner.Pages.{IsPaged, page_bytes};
 
-use super::lines::Line;
-use super::write_bytes;
+use super::pages::{Filled, Page, make_room};
 use sgb_file::Sink;
 use sgb_requests::Fault;
 use sgb_vec::Vector;
 use std::marker::Model;
+
+// A name has at most this many bytes, with room for one entry more.
+const MOST_NAME_BYTES: usize = 2_816;
 
 /// The name of a vector, with the places where its entries end. Contracts see it as the vector.
 #[derive(Drop)]
@@ -20,7 +21,7 @@ pub(super) struct KeptName {
     vector: Vector,
     // How many bytes each entry takes in the name together with those before it.
     ends: Vector,
-    text: Line,
+    text: Filled<MOST_NAME_BYTES>,
 }
 
 impl Model for KeptName {
@@ -42,7 +43,7 @@ impl KeptName {
         KeptName {
             vector: Vector::new(),
             ends: Vector::new(),
-            text: Line::new(),
+            text: Filled::new(),
         }
     }
 
@@ -92,36 +93,34 @@ impl KeptName {
         self.ends.as_slice()[count - 1] as usize
     }
 
-    /// Writes the line of the vector: its name and a newline.
-    pub(super) fn write_line<W: Sink>(&mut self, out: &mut W) -> Result<(), Fault>
+    /// Hands the line of the vector to a page: its name and a newline.
+    pub(super) fn push_line<W: Sink>(&self, page: &mut Page, out: &mut W) -> Result<(), Fault>
         requires { W.has_failed out.old ≡ false }
-        ensures written { IsWritten (name_line (name_of_vector self.old))
+        ensures paged { IsPaged page.old (name_line (name_of_vector self.now)) page.new
             (change W.written W.has_failed out.old out.new) result }
         ensures fault { IfErr result (λ f. f ≡ Fault.Write) }
-        ensures same { self.new ≡ self.old }
     {
-        let end = self.text.len();
-        self.text.push_text(b"\n");
-        let result = write_bytes(out, self.text.bytes());
-        self.text.cut(end);
-        result
+        make_room(page, out)?;
+        page.push_text(self.text.bytes());
+        page.push_text(b"\n");
+        Ok(())
     }
 
-    /// Appends the name of a vector of as many entries to a line. Only the entries between those that both vectors have
+    /// Appends the name of a vector of as many entries to a page. Only the entries between those that both vectors have
     /// alike, at the start and at the end, are put in digits anew.
-    pub(super) fn push_other(&self, other: &[u32], line: &mut Line)
+    pub(super) fn push_other(&self, other: &[u32], page: &mut Page)
         requires width { length other.now ≡ length self.now }
-        requires room { length line.old + (11 * length self.now + 41) ≤ most_line_bytes }
-        ensures text { line.new ≡ line.old ++ name_of_vector other.now }
-        ensures short { length line.new ≤ length line.old + 11 * length self.now }
+        requires room { length page.old + (11 * length self.now + 41) ≤ page_bytes }
+        ensures text { page.new ≡ page.old ++ name_of_vector other.now }
+        ensures short { length page.new ≤ length page.old + 11 * length self.now }
     {
         let vector = self.vector.as_slice();
         let from = equal_from_start(vector, other);
         let to = equal_to_end(vector, other, from);
         let name = self.text.bytes();
-        line.push_text(&name[..self.end_of(from)]);
-        line.push_entries(other, from, to);
-        line.push_text(&name[self.end_of(to)..]);
+        page.push_text(&name[..self.end_of(from)]);
+        page.push_entries(other, from, to);
+        page.push_text(&name[self.end_of(to)..]);
     }
 }
 

@@ -1,17 +1,16 @@
 //! The listing of a graph, written to a sink.
-ghost use Rattle.std.specs.Prelude.{◌≡◌, ◌<◌, ◌++◌, false, length, Err, IfErr};
-ghost use Rattle.std.specs.List.{flat_map};
+ghost use Rattle.std.specs.Prelude.{◌≡◌, ◌<◌, ◌≤◌, ◌+◌, ◌++◌, false, length, Err};
 ghost use Rattle.sgb_file.specs.Devices.{change};
 ghost use Rattle.sgb_ops.specs.Operands.{names_of};
 ghost use Rattle.sgb.specs.Outcomes.{head_for, left_out, list_answer};
 ghost use Rattle.sgb.specs.Texts.{arc_line, block, blocks, head, head_text};
 ghost use Rattle.sgb.specs.Writing.{IsWritten};
+ghost use Rattle.sgb.specs.inner.Pages.{IsPaged, page_bytes};
+ghost use Rattle.sgb.specs.inner.Texts.{most_line_bytes};
 ghost use Rattle.sgb.specs.inner.Writing.{IsEnded};
 
-use super::lines::Line;
-use super::vertices::{vertices_left_out, write_name_line};
-use super::{write_bytes, write_texts};
-use itoa::Buffer;
+use super::pages::{Page, make_room, put_page};
+use super::vertices::{push_name_line, vertices_left_out};
 use sgb_file::Sink;
 use sgb_graph::{Graph, Id, Link};
 use sgb_requests::{Fault, Resume};
@@ -32,8 +31,9 @@ pub(crate) fn write_listing<W: Sink>(
         → result ≡ Err Fault.NoVertex }
 {
     let from = vertices_left_out(graph, resume)?;
-    write_head_for(resume, graph, out)?;
-    write_blocks(graph, from, out)
+    let mut page = Page::new();
+    push_head_for(resume, graph, &mut page);
+    write_blocks(graph, from, &mut page, out)
 }
 
 /// Writes this title, and then the listing of a graph.
@@ -42,97 +42,95 @@ pub(crate) fn write_titled_listing<W: Sink>(
     graph: &Graph,
     out: &mut W,
 ) -> Result<(), Fault>
-    requires { W.has_failed out.old ≡ false }
+    requires short { length title.now ≤ most_line_bytes }
+    requires sound { W.has_failed out.old ≡ false }
     ensures { IsWritten (title.now ++ (head graph.now ++ blocks graph.now 0))
         (change W.written W.has_failed out.old out.new) result }
 {
-    write_bytes(out, title)?;
-    write_head(graph, out)?;
-    write_blocks(graph, 0, out)
+    let mut page = Page::new();
+    page.push_text(title);
+    push_head(graph, &mut page);
+    write_blocks(graph, 0, &mut page, out)
 }
 
-// Writes the head, but where the listing is resumed.
-fn write_head_for<W: Sink>(resume: &Resume, graph: &Graph, out: &mut W) -> Result<(), Fault>
-    requires { W.has_failed out.old ≡ false }
-    ensures { IsWritten (head_for resume.now (head graph.now))
-        (change W.written W.has_failed out.old out.new) result }
+// Appends the head to a page, but where the listing is resumed.
+fn push_head_for(resume: &Resume, graph: &Graph, page: &mut Page)
+    requires { length page.old + most_line_bytes ≤ page_bytes }
+    ensures { page.new ≡ page.old ++ head_for resume.now (head graph.now) }
 {
     match resume {
-        Resume::Whole => write_head(graph, out),
-        Resume::Skip(_) | Resume::After(_) => Ok(()),
+        Resume::Whole => push_head(graph, page),
+        Resume::Skip(_) | Resume::After(_) => {}
     }
 }
 
-// Writes what stands before the blocks.
-fn write_head<W: Sink>(graph: &Graph, out: &mut W) -> Result<(), Fault>
-    requires { W.has_failed out.old ≡ false }
-    ensures { IsWritten (head graph.now) (change W.written W.has_failed out.old out.new) result }
+// Appends what stands before the blocks.
+fn push_head(graph: &Graph, page: &mut Page)
+    requires { length page.old + most_line_bytes ≤ page_bytes }
+    ensures { page.new ≡ page.old ++ head graph.now }
 {
     let m: u64 = graph.m();
-    write_head_of(graph.id(), graph.n(), u128::from(m), out)
+    push_head_of(graph.id(), graph.n(), u128::from(m), page);
 }
 
-/// Writes what stands before the blocks of a graph of this id with `n` vertices and `m` arcs.
-pub(super) fn write_head_of<W: Sink>(id: &Id, n: u32, m: u128, out: &mut W) -> Result<(), Fault>
-    requires { W.has_failed out.old ≡ false }
-    ensures written { IsWritten (head_text id.now n m)
-        (change W.written W.has_failed out.old out.new) result }
-    ensures fault { IfErr result (λ f. f ≡ Fault.Write) }
+/// Appends what stands before the blocks of a graph of this id with `n` vertices and `m` arcs.
+pub(super) fn push_head_of(id: &Id, n: u32, m: u128, page: &mut Page)
+    requires { length page.old + most_line_bytes ≤ page_bytes }
+    ensures { page.new ≡ page.old ++ head_text id.now n m }
 {
-    let mut vertices = Buffer::new();
-    let mut arcs = Buffer::new();
-    write_texts(
-        out,
-        &[
-            b"  The graph whose official name is\n",
-            id.bytes(),
-            b"\n  has ",
-            vertices.format(n).as_bytes(),
-            b" vertices and ",
-            arcs.format(m).as_bytes(),
-            b" arcs:\n\n",
-        ],
-    )
+    page.push_text(b"  The graph whose official name is\n");
+    page.push_text(id.bytes());
+    page.push_text(b"\n  has ");
+    page.push_number(n);
+    page.push_text(b" vertices and ");
+    page.push_number(m);
+    page.push_text(b" arcs:\n\n");
 }
 
-// Writes the blocks of the vertices from `from` on.
-fn write_blocks<W: Sink>(graph: &Graph, from: u64, out: &mut W) -> Result<(), Fault>
+// Writes what a page holds and the blocks of the vertices from `from` on.
+fn write_blocks<W: Sink>(
+    graph: &Graph,
+    from: u64,
+    page: &mut Page,
+    out: &mut W,
+) -> Result<(), Fault>
     requires { W.has_failed out.old ≡ false }
-    ensures { IsWritten (blocks graph.now from) (change W.written W.has_failed out.old out.new)
-        result }
+    ensures { IsWritten (page.old ++ blocks graph.now from)
+        (change W.written W.has_failed out.old out.new) result }
 {
     let end = graph.n();
     let start = from.min(u64::from(end)) as u32;
-    let mut line = Line::new();
     for v in start..end {
         graph.read_ahead(v);
-        write_block(graph, v, &mut line, out)?;
+        push_block(graph, v, page, out)?;
     }
-    Ok(())
+    put_page(page, out)
 }
 
-// Writes the block of a vertex: its name, and a line for each of its arcs. Each is put together in `line`.
-fn write_block<W: Sink>(graph: &Graph, v: u32, line: &mut Line, out: &mut W) -> Result<(), Fault>
+// Hands the block of a vertex to a page: its name, and a line for each of its arcs.
+fn push_block<W: Sink>(graph: &Graph, v: u32, page: &mut Page, out: &mut W) -> Result<(), Fault>
     requires vertex { v < length graph.now.vertices }
     requires sound { W.has_failed out.old ≡ false }
-    ensures { IsWritten (block graph.now v) (change W.written W.has_failed out.old out.new) result }
+    ensures { IsPaged page.old (block graph.now v) page.new
+        (change W.written W.has_failed out.old out.new) result }
 {
-    write_name_line(graph, v, line, out)?;
+    push_name_line(graph, v, page, out)?;
     for link in graph.arcs(v) {
-        write_arc(graph, link, line, out)?;
+        push_arc(graph, link, page, out)?;
     }
     Ok(())
 }
 
-// Writes the line of an arc. It is put together in `line`.
-fn write_arc<W: Sink>(graph: &Graph, link: Link, line: &mut Line, out: &mut W) -> Result<(), Fault>
+// Hands the line of an arc to a page.
+fn push_arc<W: Sink>(graph: &Graph, link: Link, page: &mut Page, out: &mut W) -> Result<(), Fault>
     requires tip { link.tip < length graph.now.vertices }
     requires sound { W.has_failed out.old ≡ false }
-    ensures { IsWritten (arc_line (names_of graph.now) link)
+    ensures { IsPaged page.old (arc_line (names_of graph.now) link) page.new
         (change W.written W.has_failed out.old out.new) result }
 {
-    line.begin_arc();
-    line.push_text(graph.name(link.tip).bytes());
-    line.end_arc(link.len);
-    write_bytes(out, line.bytes())
+    make_room(page, out)?;
+    page.begin_arc();
+    page.push_text(graph.name(link.tip).bytes());
+    page.end_arc(link.len);
+    Ok(())
 }

@@ -10,6 +10,7 @@ ghost use Rattle.sgb.specs.Writing.{IsWritten};
 ghost use Rattle.sgb.specs.inner.Writing.{IsEnded};
 
 use super::kept_names::KeptName;
+use super::pages::{Page, put_page};
 use super::resumed::{slice_of, start_of, vectors_after};
 use sgb_file::Sink;
 use sgb_requests::{Fault, Resume};
@@ -40,11 +41,12 @@ fn write_all<F: Family, W: Sink>(vectors: Vectors<'_, F>, out: &mut W) -> Result
     ensures fault { IfErr result (λ f. f ≡ Fault.Write) }
 {
     let mut name = KeptName::new();
+    let mut page = Page::new();
     let mut left = vectors;
     while let Some(vector) = left.front() {
         name.turn_to(vector);
-        name.write_line(out)?;
+        name.push_line(&mut page, out)?;
         let _some = left.advance();
     }
-    Ok(())
+    put_page(&mut page, out)
 }

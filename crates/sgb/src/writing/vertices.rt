@@ -6,10 +6,10 @@ ghost use Rattle.sgb_ops.specs.Operands.{names_of};
 ghost use Rattle.sgb.specs.Outcomes.{left_out, names_answer, vertex_named};
 ghost use Rattle.sgb.specs.Texts.{name_line, name_lines};
 ghost use Rattle.sgb.specs.Writing.{IsWritten};
+ghost use Rattle.sgb.specs.inner.Pages.{IsPaged};
 ghost use Rattle.sgb.specs.inner.Writing.{IsEnded};
 
-use super::lines::Line;
-use super::write_bytes;
+use super::pages::{Page, make_room, put_page};
 use sgb_file::Sink;
 use sgb_graph::Graph;
 use sgb_requests::{Fault, Resume};
@@ -40,29 +40,29 @@ fn write_name_lines<W: Sink>(graph: &Graph, from: u64, out: &mut W) -> Result<()
 {
     let end = graph.n();
     let start = from.min(u64::from(end)) as u32;
-    let mut line = Line::new();
+    let mut page = Page::new();
     for v in start..end {
-        write_name_line(graph, v, &mut line, out)?;
+        push_name_line(graph, v, &mut page, out)?;
     }
-    Ok(())
+    put_page(&mut page, out)
 }
 
-/// Writes the line of a vertex: its name and a newline. It is put together in `line`.
-pub(super) fn write_name_line<W: Sink>(
+/// Hands the line of a vertex to a page: its name and a newline.
+pub(super) fn push_name_line<W: Sink>(
     graph: &Graph,
     v: u32,
-    line: &mut Line,
+    page: &mut Page,
     out: &mut W,
 ) -> Result<(), Fault>
     requires vertex { v < length graph.now.vertices }
     requires sound { W.has_failed out.old ≡ false }
-    ensures { IsWritten (name_line (slice_index_or (names_of graph.now) v []))
+    ensures { IsPaged page.old (name_line (slice_index_or (names_of graph.now) v [])) page.new
         (change W.written W.has_failed out.old out.new) result }
 {
-    line.cut(0);
-    line.push_text(graph.name(v).bytes());
-    line.push_text(b"\n");
-    write_bytes(out, line.bytes())
+    make_room(page, out)?;
+    page.push_text(graph.name(v).bytes());
+    page.push_text(b"\n");
+    Ok(())
 }
 
 /// How many first vertices are left out.

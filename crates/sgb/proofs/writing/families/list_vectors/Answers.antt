@@ -1,22 +1,44 @@
-use Rattle.std.proofs.Common.{◌≡◌, ◌∙◌, ap, drop, option_map}
-use Rattle.sgb.specs.Locals.{start_after, vectors_of}
-use Rattle.sgb.proofs.CutOff.{begun_by, cut_more, exit_cut, exit_uncut, written_after}
+use Rattle.std.proofs.Common.{◌≡◌, ◌∙◌, ◌++◌, List, ℕ, ap, drop, length, option_map, arith, refl, subst}
+use Rattle.std.specs.Io.KnownBytes.{Appends}
+use Rattle.sgb.specs.Locals.{head_if, start_after, vectors_of}
+use Rattle.sgb_graph.specs.Made.{graph_described}
+use Rattle.sgb.specs.Values.{described}
+use Rattle.sgb.proofs.CutOff.{begun_by, cut_more, exit_cut, exit_uncut, exit_unwritten, written_after}
 use Rattle.sgb.proofs.LocalListings.{blocks_of_rest}
 use Rattle.sgb.proofs.writing.families.list_vectors.Goals as goal
 
-pub returns-in_err-write_head_if-clause-written : goal.returns-in_err-write_head_if-clause-written
-returns-in_err-write_head_if-clause-written g c = exit_cut _ _ _ _ c.from_residual.ensures.1 (cut_more _ _ _ _ c.in_err-write_head_if.ensures.written)
+pub push_head_if-requires-clause-room : goal.push_head_if-requires-clause-room
+push_head_if-requires-clause-room g c = omega (arith, ap length c.new-page.ensures)
 
-pub returns-in_err-write_head_if-clause-head : goal.returns-in_err-write_head_if-clause-head
-returns-in_err-write_head_if-clause-head g c = exit_uncut _ _ _ _ _ _ c.from_residual.ensures.1 c.in_err-write_head_if.ensures.memory
+pub returns-in_err-push_head_if-clause-written : goal.returns-in_err-push_head_if-clause-written
+returns-in_err-push_head_if-clause-written g c = exit_unwritten _ _ _ _ _ c.from_residual.ensures.1 c.in_err-push_head_if.ensures.memory c.requires.sound
+
+pub returns-in_err-push_head_if-clause-head : goal.returns-in_err-push_head_if-clause-head
+returns-in_err-push_head_if-clause-head g c = exit_uncut _ _ _ _ _ _ c.from_residual.ensures.1 (λ other. refl)
+
+pub returns-in_err-put_page-clause-written : goal.returns-in_err-put_page-clause-written
+returns-in_err-put_page-clause-written g c =
+    let top = head_if c.args.head (graph_described (described (g.L.Listed.parameters c.args.listed.now))) in
+    let page : c.push_head_if.new.page ≡ top = c.in_ok-push_head_if.ensures.text ∙ ap (λ (text : List ℕ). text ++ top) c.new-page.ensures in
+    exit_cut _ _ _ _ c.from_residual-in_err-put_page.ensures.1 (cut_more top _ _ _ (rw page at c.in_err-put_page.ensures.written))
+
+pub returns-in_err-put_page-clause-head : goal.returns-in_err-put_page-clause-head
+returns-in_err-put_page-clause-head g c =
+    exit_uncut _ _ _ _ _ _ c.from_residual-in_err-put_page.ensures.1 (λ other. absurd (other c.in_err-put_page.ensures.fault))
 
 pub returns-clause-written : goal.returns-clause-written
 returns-clause-written g c =
     let l = g.L.Listed.parameters c.args.listed.now in
+    let top = head_if c.args.head (graph_described (described l)) in
     let after = option_map (λ x. x.now) c.args.after in
     let rest : c.vectors_after-vectors.result ≡ drop (start_after (vectors_of l) after) (vectors_of l) =
     c.vectors_after-vectors.ensures ∙ ap (λ ms. drop (start_after ms after) ms) c.requires.members in
-    written_after _ _ _ _ _ _ _ c.in_ok-write_head_if.ensures.written.output (rw (blocks_of_rest l (start_after (vectors_of l) after) c.vectors_after-vectors.result rest) c.write_blocks.ensures)
+    let page : c.push_head_if.new.page ≡ top = c.in_ok-push_head_if.ensures.text ∙ ap (λ (text : List ℕ). text ++ top) c.new-page.ensures in
+    rw (blocks_of_rest l (start_after (vectors_of l) after) c.vectors_after-vectors.result rest)
+    (written_after _ _ _ _ top _ _ (subst (Appends _ _) page c.in_ok-put_page.ensures.written.output) c.write_blocks.ensures)
 
 pub returns-clause-head : goal.returns-clause-head
-returns-clause-head g c = begun_by _ _ _ _ _ _ _ _ c.in_ok-write_head_if.ensures.written.output c.write_blocks.ensures
+returns-clause-head g c =
+    let top = head_if c.args.head (graph_described (described (g.L.Listed.parameters c.args.listed.now))) in
+    let page : c.push_head_if.new.page ≡ top = c.in_ok-push_head_if.ensures.text ∙ ap (λ (text : List ℕ). text ++ top) c.new-page.ensures in
+    begun_by _ _ _ _ _ top _ _ (subst (Appends _ _) page c.in_ok-put_page.ensures.written.output) c.write_blocks.ensures

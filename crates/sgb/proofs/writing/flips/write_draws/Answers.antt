@@ -1,10 +1,10 @@
-use Rattle.std.proofs.Common.{◌≡◌, ◌-◌, ◌+◌, ℕ, ℤ, w64, ap, subst, suc, arith, rules}
+use Rattle.std.proofs.Common.{◌≡◌, ◌-◌, ◌+◌, ℕ, ℤ, [], w64, ap, subst, suc, arith, rules}
 use Rattle.std.proofs.lemmas.Int.{to_z-of_z}
 use Rattle.sgb_graph.specs.Draws.{IsAtDraw, seed_of}
-use Rattle.sgb_file.proofs.SoFar.{so_far-all, so_far-more, so_far-none, so_far-same}
 use Rattle.sgb.specs.FlipAnswers.{drawn_from, number_lines}
-use Rattle.sgb.proofs.CutOff.{exit_cut, exit_write, so_far-cut}
+use Rattle.sgb.proofs.CutOff.{exit_cut, exit_write}
 use Rattle.sgb.proofs.DrawnNumbers.{lines_first, lines_none}
+use Rattle.sgb.proofs.Pages.{paged_all, paged_begun, paged_cut, paged_more, written_held}
 use Rattle.sgb.proofs.writing.flips.write_draws.Goals as goal
 
 pub loop-number-init : goal.loop-number-init
@@ -16,22 +16,22 @@ loop-number-init g c =
     let at = subst (λ (k : ℕ). IsAtDraw draws.start k c.skip.new.self.numbers c.skip.new.self.left) skipped (c.skip.ensures draws.start 0 begun) in
     let all : draws.count ≡ draws.count - 0 = omega arith in
     let same = ap (λ (n : ℕ). number_lines (drawn_from (seed_of draws.start) draws.m draws.skip n)) all in
-    ((draws.skip, at, so_far-same _ _ _ _ _ same (so_far-none _ _)), c.requires.sound)
+    ((draws.skip, at, paged_begun _ _ _ _ same c.new-page.ensures), c.requires.sound)
 
-pub write_number-requires : goal.write_number-requires
-write_number-requires g c = c.loop-number.invariant.1
+pub push_number_line-requires : goal.push_number_line-requires
+push_number_line-requires g c = c.loop-number.invariant.1
 
-pub returns-in_err-write_number-clause-written : goal.returns-in_err-write_number-clause-written
-returns-in_err-write_number-clause-written g c =
+pub returns-in_err-push_number_line-clause-written : goal.returns-in_err-push_number_line-clause-written
+returns-in_err-push_number_line-clause-written g c =
     let draws = c.args.draws in
     let stands = c.loop-number.invariant.0 in
     let next = c.next_number.ensures draws.start stands.0 stands.1 in
     let left : draws.count - c.loop-number._number ≡ suc (draws.count - (c.loop-number._number + 1)) = omega (arith, c.loop-number-test.true) in
     let first = lines_first (seed_of draws.start) draws.m stands.0 next.0 c.next_number.result _ _ left next.2 in
-    exit_cut _ _ _ _ c.from_residual.ensures.1 (so_far-cut _ _ _ _ _ _ _ _ _ first stands.2 c.in_err-write_number.ensures.written)
+    exit_cut _ _ _ _ c.from_residual.ensures.1 (paged_cut _ _ _ _ [] _ _ _ _ _ _ first stands.2 c.in_err-push_number_line.ensures.paged)
 
-pub returns-in_err-write_number-clause-fault : goal.returns-in_err-write_number-clause-fault
-returns-in_err-write_number-clause-fault g c = exit_write _ _ c.from_residual.ensures.1 c.in_err-write_number.ensures.fault
+pub returns-in_err-push_number_line-clause-fault : goal.returns-in_err-push_number_line-clause-fault
+returns-in_err-push_number_line-clause-fault g c = exit_write _ _ c.from_residual.ensures.1 c.in_err-push_number_line.ensures.fault
 
 pub loop-number-preserved : goal.loop-number-preserved
 loop-number-preserved g c =
@@ -40,11 +40,11 @@ loop-number-preserved g c =
     let next = c.next_number.ensures draws.start stands.0 stands.1 in
     let left : draws.count - c.loop-number._number ≡ suc (draws.count - (c.loop-number._number + 1)) = omega (arith, c.loop-number-test.true) in
     let first = lines_first (seed_of draws.start) draws.m stands.0 next.0 c.next_number.result _ _ left next.2 in
-    ((next.0, next.1, so_far-more _ _ _ _ _ _ _ first stands.2 c.in_ok-write_number.ensures.written.output), c.in_ok-write_number.ensures.written.sound)
+    ((next.0, next.1, paged_more _ _ _ _ [] _ _ _ _ _ first stands.2 c.in_ok-push_number_line.ensures.paged.output), c.in_ok-push_number_line.ensures.paged.sound)
 
 pub returns-clause-written : goal.returns-clause-written
 returns-clause-written g c =
     let draws = c.args.draws in
     let stands = c.loop-number.invariant.0 in
     let none : draws.count - c.loop-number._number ≡ 0 = omega (arith, c.loop-number-test.false) in
-    record { output = so_far-all _ _ _ _ (lines_none (seed_of draws.start) draws.m stands.0 _ none) stands.2; sound = c.loop-number.invariant.1 }
+    written_held _ _ _ _ _ _ _ (paged_all _ _ [] _ _ _ (lines_none (seed_of draws.start) draws.m stands.0 _ none) stands.2) c.put_page.ensures.written

@@ -3,8 +3,8 @@ use Rattle.std.proofs.lemmas.List.{length-map}
 use Rattle.sgb_ops.specs.Operands.{names_of}
 use Rattle.sgb.specs.Texts.{blocks}
 use Rattle.sgb.proofs.Listings.{blocks-first, blocks-min, blocks-none}
-use Rattle.sgb_file.proofs.SoFar.{so_far-all, so_far-more, so_far-none, so_far-same}
-use Rattle.sgb.proofs.CutOff.{exit_cut, so_far-cut}
+use Rattle.sgb.proofs.CutOff.{exit_cut}
+use Rattle.sgb.proofs.Pages.{paged_all, paged_cut, paged_left, paged_more, written_held}
 use Rattle.sgb.proofs.writing.listing.write_blocks.Goals as goal
 
 pub loop-v-init : goal.loop-v-init
@@ -13,22 +13,22 @@ loop-v-init g c =
     let start : min c.args.from (length (names_of graph)) ≡ c.min-start.result =
     omega (arith, length-map c.args.graph.now.vertices (λ v. v.name), c.n-end.ensures.count, c.min-start.ensures, c.from.ensures) in
     let left = sym (blocks-min graph c.args.from) ∙ ap (blocks graph) start in
-    (so_far-same _ _ _ _ _ left (so_far-none _ _), c.requires)
+    (paged_left _ _ c.args.page.now _ left, c.requires)
 
-pub returns-in_err-write_block : goal.returns-in_err-write_block
-returns-in_err-write_block g c =
+pub returns-in_err-push_block : goal.returns-in_err-push_block
+returns-in_err-push_block g c =
     let graph = c.args.graph.now in
     let within : c.loop-v.v < length (names_of graph) = omega (arith, length-map c.args.graph.now.vertices (λ v. v.name), c.n-end.ensures.count) in
-    exit_cut _ _ _ _ c.from_residual.ensures.1 (so_far-cut _ _ _ _ _ _ _ _ _ (blocks-first graph c.loop-v.v within) c.loop-v.invariant.0 c.in_err-write_block.ensures)
+    exit_cut _ _ _ _ c.from_residual.ensures.1 (paged_cut _ _ _ _ _ _ _ _ _ _ _ (blocks-first graph c.loop-v.v within) c.loop-v.invariant.0 c.in_err-push_block.ensures)
 
 pub loop-v-preserved : goal.loop-v-preserved
 loop-v-preserved g c =
     let graph = c.args.graph.now in
     let within : c.loop-v.v < length (names_of graph) = omega (arith, length-map c.args.graph.now.vertices (λ v. v.name), c.n-end.ensures.count) in
-    (so_far-more _ _ _ _ _ _ _ (blocks-first graph c.loop-v.v within) c.loop-v.invariant.0 c.in_ok-write_block.ensures.output, c.in_ok-write_block.ensures.sound)
+    (paged_more _ _ _ _ _ _ _ _ _ _ (blocks-first graph c.loop-v.v within) c.loop-v.invariant.0 c.in_ok-push_block.ensures.output, c.in_ok-push_block.ensures.sound)
 
 pub returns : goal.returns
 returns g c =
     let graph = c.args.graph.now in
     let past : length (names_of graph) ≤ c.loop-v.v = omega (arith, length-map c.args.graph.now.vertices (λ v. v.name), c.n-end.ensures.count) in
-    record { output = so_far-all _ _ _ _ (blocks-none graph c.loop-v.v past) c.loop-v.invariant.0; sound = c.loop-v.invariant.1 }
+    written_held _ _ _ _ _ _ _ (paged_all _ _ _ _ _ _ (blocks-none graph c.loop-v.v past) c.loop-v.invariant.0) c.put_page.ensures.written

@@ -1,10 +1,9 @@
-use Rattle.std.proofs.Common.{◌++◌, ℕ, refl}
+use Rattle.std.proofs.Common.{◌≡◌, ◌∙◌, ◌++◌, List, ℕ, refl, sym, ap, length, arith}
 use Rattle.sgb_ops.specs.Operands.{names_of}
 use Rattle.sgb.specs.Outcomes.{head_for, left_out}
 use Rattle.sgb.specs.Texts.{blocks, head}
 use Rattle.sgb.proofs.CertainAnswers.{exit_nowhere, not_nowhere}
 use Rattle.sgb.proofs.Endings.{ended_after, exit_ended, refused_after}
-use Rattle.sgb.proofs.CutOff.{cut_more, written_after}
 use Rattle.sgb.proofs.writing.listing.write_listing.Goals as goal
 
 pub returns-in_err-from-clause-ended : goal.returns-in_err-from-clause-ended
@@ -13,18 +12,13 @@ returns-in_err-from-clause-ended g c =
     let text = λ (k : ℕ). head_for c.args.resume.now (head graph) ++ blocks graph k in
     exit_ended _ _ _ _ _ c.from_residual.ensures.1 (refused_after _ (left_out (names_of graph) c.args.resume.now) text _ _ _ _ c.in_err-from.ensures c.requires refl)
 
-pub returns-in_err-write_head_for-clause-ended : goal.returns-in_err-write_head_for-clause-ended
-returns-in_err-write_head_for-clause-ended g c =
-    let graph = c.args.graph.now in
-    let text = λ (k : ℕ). head_for c.args.resume.now (head graph) ++ blocks graph k in
-    exit_ended _ _ _ _ _ c.from_residual-in_err-write_head_for.ensures.1 (ended_after (left_out (names_of graph) c.args.resume.now) _ text _ _ _ c.in_ok-from.ensures (cut_more _ _ _ _ c.in_err-write_head_for.ensures))
-
 pub returns-clause-ended : goal.returns-clause-ended
 returns-clause-ended g c =
     let graph = c.args.graph.now in
     let text = λ (k : ℕ). head_for c.args.resume.now (head graph) ++ blocks graph k in
-    ended_after (left_out (names_of graph) c.args.resume.now) _ text _ _ _ c.in_ok-from.ensures
-    (written_after _ _ _ _ _ _ _ c.in_ok-write_head_for.ensures.output c.write_blocks.ensures)
+    let page : c.push_head_for.new.page ≡ head_for c.args.resume.now (head graph) =
+    c.push_head_for.ensures ∙ ap (λ (xs : List ℕ). xs ++ head_for c.args.resume.now (head graph)) c.new-page.ensures in
+    ended_after (left_out (names_of graph) c.args.resume.now) _ text _ _ _ c.in_ok-from.ensures (rw (sym page) c.write_blocks.ensures)
 
 pub returns-in_err-from-clause-nowhere : goal.returns-in_err-from-clause-nowhere
 returns-in_err-from-clause-nowhere g c = exit_nowhere _ (left_out (names_of c.args.graph.now) c.args.resume.now) _ c.from_residual.ensures.1 c.in_err-from.ensures
@@ -32,5 +26,5 @@ returns-in_err-from-clause-nowhere g c = exit_nowhere _ (left_out (names_of c.ar
 pub returns-clause-nowhere : goal.returns-clause-nowhere
 returns-clause-nowhere g c = not_nowhere (left_out (names_of c.args.graph.now) c.args.resume.now) _ c.in_ok-from.ensures
 
-pub returns-in_err-write_head_for-clause-nowhere : goal.returns-in_err-write_head_for-clause-nowhere
-returns-in_err-write_head_for-clause-nowhere g c = not_nowhere (left_out (names_of c.args.graph.now) c.args.resume.now) _ c.in_ok-from.ensures
+pub push_head_for-requires : goal.push_head_for-requires
+push_head_for-requires g c = omega (arith, ap length c.new-page.ensures)

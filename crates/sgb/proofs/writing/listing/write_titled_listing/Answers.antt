@@ -1,13 +1,18 @@
-use Rattle.sgb.proofs.CutOff.{cut_after, cut_more, exit_cut, written_after}
+use Rattle.std.proofs.Common.{◌≡◌, ◌∙◌, ◌++◌, List, ℕ, sym, ap, length, append_assoc, arith}
+use Rattle.sgb.specs.Texts.{blocks, head}
 use Rattle.sgb.proofs.writing.listing.write_titled_listing.Goals as goal
 
-pub returns-in_err-write_bytes : goal.returns-in_err-write_bytes
-returns-in_err-write_bytes g c = exit_cut _ _ _ _ c.from_residual.ensures.1 (cut_more _ _ _ _ c.in_err-write_bytes.ensures.written)
+pub push_text-requires : goal.push_text-requires
+push_text-requires g c = omega (arith, ap length c.new-page.ensures, c.requires.short)
 
-pub returns-in_err-write_head : goal.returns-in_err-write_head
-returns-in_err-write_head g c = exit_cut _ _ _ _ c.from_residual-in_err-write_head.ensures.1 (cut_after _ _ _ _ _ _ _ c.in_ok-write_bytes.ensures.written.output (cut_more _ _ _ _ c.in_err-write_head.ensures))
+pub push_head-requires : goal.push_head-requires
+push_head-requires g c =
+    omega (arith, ap length (c.push_text.ensures ∙ ap (λ (text : List ℕ). text ++ c.args.title.now) c.new-page.ensures), c.requires.short)
 
 pub returns : goal.returns
 returns g c =
-    written_after _ _ _ _ _ _ _ c.in_ok-write_bytes.ensures.written.output
-    (written_after _ _ _ _ _ _ _ c.in_ok-write_head.ensures.output c.write_blocks.ensures)
+    let title = c.args.title.now in
+    let graph = c.args.graph.now in
+    let page : c.push_head.new.page ≡ title ++ head graph =
+    c.push_head.ensures ∙ ap (λ (text : List ℕ). text ++ head graph) (c.push_text.ensures ∙ ap (λ (text : List ℕ). text ++ title) c.new-page.ensures) in
+    rw (sym (append_assoc title (head graph) (blocks graph 0)), sym page) c.write_blocks.ensures

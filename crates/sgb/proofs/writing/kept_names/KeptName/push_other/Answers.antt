@@ -20,8 +20,8 @@ push_text-requires-2 c =
       ap length c.push_text.ensures,
       within,
       order.0,
-      front-bound v c.args.other.now c.args.line.now c.bytes-name.result.now from to c.end_of.result c.end_of-2.result name order.0 within c.end_of.ensures.value c.end_of-2.ensures.value small,
-      back-bound v c.args.other.now c.args.line.now c.bytes-name.result.now from to c.end_of.result c.end_of-2.result name order.0 within c.end_of.ensures.value c.end_of-2.ensures.value small,
+      front-bound v c.args.other.now c.args.page.now c.bytes-name.result.now from to c.end_of.result c.end_of-2.result name order.0 within c.end_of.ensures.value c.end_of-2.ensures.value small,
+      back-bound v c.args.other.now c.args.page.now c.bytes-name.result.now from to c.end_of.result c.end_of-2.result name order.0 within c.end_of.ensures.value c.end_of-2.ensures.value small,
     )
 
 pub returns-clause-text : goal.returns-clause-text
@@ -36,7 +36,7 @@ returns-clause-text c =
     let first : take from v ≡ take from c.args.other.now = ap (take from) (sym slice) ∙ c.equal_from_start-from.ensures.equal in
     let last : drop to v ≡ drop to c.args.other.now = ap (drop to) (sym slice) ∙ c.equal_to_end-to.ensures.equal in
     rw (c.push_text-2.ensures, c.push_entries.ensures.text, c.push_text.ensures)
-    (other-text v c.args.other.now c.args.line.now c.bytes-name.result.now from to c.end_of.result c.end_of-2.result name order.0 within c.end_of.ensures.value c.end_of-2.ensures.value
+    (other-text v c.args.other.now c.args.page.now c.bytes-name.result.now from to c.end_of.result c.end_of-2.result name order.0 within c.end_of.ensures.value c.end_of-2.ensures.value
     c.requires.width first last)
 
 pub returns-clause-short : goal.returns-clause-short
@@ -58,6 +58,6 @@ returns-clause-short c =
       length-append c.push_entries.new.self (take (length c.bytes-name.result.now - end) (drop end c.bytes-name.result.now)),
       within,
       order.0,
-      front-bound v c.args.other.now c.args.line.now c.bytes-name.result.now from to c.end_of.result c.end_of-2.result name order.0 within c.end_of.ensures.value c.end_of-2.ensures.value small,
-      back-bound v c.args.other.now c.args.line.now c.bytes-name.result.now from to c.end_of.result c.end_of-2.result name order.0 within c.end_of.ensures.value c.end_of-2.ensures.value small,
+      front-bound v c.args.other.now c.args.page.now c.bytes-name.result.now from to c.end_of.result c.end_of-2.result name order.0 within c.end_of.ensures.value c.end_of-2.ensures.value small,
+      back-bound v c.args.other.now c.args.page.now c.bytes-name.result.now from to c.end_of.result c.end_of-2.result name order.0 within c.end_of.ensures.value c.end_of-2.ensures.value small,
     )

@@ -1,0 +1,241 @@
+//! Texts put together in place, and pages of output: lines are put together where they leave.
+ghost use Rattle.std.specs.Prelude.{◌≡◌, ◌≤◌, ◌<◌, ◌+◌, ◌*◌, ◌-◌, [], ◌∷◌, ◌++◌, codes, decimal, drop, false, length, nat_lt, take, IfErr, OnOk};
+ghost use Rattle.std.specs.Fmt.{signed_decimal};
+ghost use Rattle.sgb_file.specs.Devices.{change};
+ghost use Rattle.sgb.specs.Writing.{IsWritten};
+ghost use Rattle.sgb.specs.inner.Pages.{IsPaged, page_bytes};
+ghost use Rattle.sgb.specs.inner.Texts.{entries_text, entry_text, most_line_bytes};
+
+use super::write_bytes;
+use itoa::{Buffer, Integer};
+use sgb_file::Sink;
+use sgb_requests::Fault;
+use std::marker::Model;
+
+// A page of output has this many bytes: more than the buffer of std's BufWriter, so that a page goes past it.
+const PAGE_BYTES: usize = 32_768;
+
+// A line has at most this many bytes: those of a name, at most 4,095, and what the line of an arc has beside it.
+const MOST_LINE_BYTES: usize = 4_160;
+
+/// A page of output.
+pub(super) type Page = Filled<PAGE_BYTES>;
+
+/// A text of at most `N` bytes that is put together, in a value of fixed size. Contracts see it as the list of its bytes.
+#[derive(Drop)]
+pub(super) struct Filled<const N: usize> {
+    bytes: [u8; N],
+    // How many of them are the text's.
+    len: usize,
+}
+
+impl<const N: usize> Model for Filled<N> {
+    ghost use Rattle.std.specs.Prelude.{◌≤◌, List, ℕ, take};
+
+    ghost Value = { List ℕ };
+
+    ghost view = { λ filled. take filled.len filled.bytes };
+
+    ghost invariant = { λ filled. filled.len ≤ N };
+}
+
+impl<const N: usize> Filled<N> {
+    /// No bytes yet.
+    pub(super) fn new() -> Filled<N>
+        ensures { result ≡ [] }
+    {
+        Filled {
+            bytes: [0; N],
+            len: 0,
+        }
+    }
+
+    /// How many bytes the text has.
+    pub(super) fn len(&self) -> usize
+        ensures value { result ≡ length self.now }
+        ensures short { length self.now ≤ N }
+    {
+        self.len
+    }
+
+    /// The bytes of the text.
+    pub(super) fn bytes(&self) -> &[u8]
+        ensures { result.now ≡ self.now }
+    {
+        &self.bytes[..self.len]
+    }
+
+    /// Keeps the first `count` bytes.
+    pub(super) fn cut(&mut self, count: usize)
+        requires { count ≤ length self.old }
+        ensures { self.new ≡ take count self.old }
+    {
+        self.len = count;
+    }
+
+    /// Appends a text, for which there is room.
+    pub(super) fn push_text(&mut self, text: &[u8])
+        requires { length self.old + length text.now ≤ N }
+        ensures { self.new ≡ self.old ++ text.now }
+    {
+        let start = self.len;
+        let end = start + text.len();
+        let bytes = &mut self.bytes[..];
+        bytes[start..end].copy_from_slice(text);
+        self.len = end;
+    }
+
+    /// Appends a number in decimal, at most 40 bytes.
+    pub(super) fn push_number<I: Integer>(&mut self, number: I)
+        requires { length self.old + 40 ≤ N }
+        ensures text { self.new ≡ self.old ++ I.text number }
+        ensures short { length self.new ≤ length self.old + 40 }
+    {
+        let mut digits = Buffer::new();
+        self.push_text(digits.format(number).as_bytes());
+    }
+
+    /// Appends an entry of a vector, after a dot where it is not the first: at most 11 bytes.
+    pub(super) fn push_entry(&mut self, dotted: bool, entry: u32)
+        requires { length self.old + 41 ≤ N }
+        ensures text { self.new ≡ self.old ++ entry_text dotted entry }
+        ensures short { length self.new ≤ length self.old + 11 }
+    {
+        if dotted {
+            self.push_byte(b'.');
+        }
+        self.push_count(entry);
+    }
+
+    // Appends a number of 32 bits in decimal, at most 10 bytes. Few digits are put one by one.
+    fn push_count(&mut self, number: u32)
+        requires { length self.old + 40 ≤ N }
+        ensures text { self.new ≡ self.old ++ decimal number }
+        ensures short { length self.new ≤ length self.old + 10 }
+    {
+        if number < 10_000 {
+            self.push_few_digits(number);
+        } else {
+            self.push_number(number);
+        }
+    }
+
+    // Appends a number of at most four digits.
+    fn push_few_digits(&mut self, number: u32)
+        requires few { number < 10_000 }
+        requires room { length self.old + 4 ≤ N }
+        ensures text { self.new ≡ self.old ++ decimal number }
+        ensures short { length self.new ≤ length self.old + 4 }
+    {
+        if number < 100 {
+            self.push_short(number);
+        } else {
+            self.push_short(number / 100);
+            self.push_digit(number / 10 % 10);
+            self.push_digit(number % 10);
+        }
+    }
+
+    // Appends a number of at most two digits.
+    fn push_short(&mut self, number: u32)
+        requires few { number < 100 }
+        requires room { length self.old + 2 ≤ N }
+        ensures text { self.new ≡ self.old ++ decimal number }
+        ensures short { length self.new ≤ length self.old + 2 }
+    {
+        if number >= 10 {
+            self.push_digit(number / 10);
+        }
+        self.push_digit(number % 10);
+    }
+
+    // Appends a digit.
+    fn push_digit(&mut self, digit: u32)
+        requires digit { digit < 10 }
+        requires room { length self.old < N }
+        ensures text { self.new ≡ self.old ++ (48 + digit) ∷ [] }
+        ensures len { length self.new ≡ length self.old + 1 }
+    {
+        self.push_byte(b'0' + digit as u8);
+    }
+
+    // Appends a byte, for which there is room.
+    fn push_byte(&mut self, byte: u8)
+        requires { length self.old < N }
+        ensures text { self.new ≡ self.old ++ byte ∷ [] }
+        ensures len { length self.new ≡ length self.old + 1 }
+    {
+        self.bytes[self.len] = byte;
+        self.len += 1;
+    }
+
+    /// Appends the entries of a vector from place `from` on and before `to`, as they stand in its name.
+    pub(super) fn push_entries(&mut self, vector: &[u32], from: usize, to: usize)
+        requires places { (from ≤ to) × (to ≤ length vector.now) }
+        requires room { length self.old + (11 * (to - from) + 41) ≤ N }
+        ensures text { self.new ≡ self.old
+            ++ entries_text (nat_lt 0 from) (take (to - from) (drop from vector.now)) }
+        ensures short { length self.new ≤ length self.old + 11 * (to - from) }
+    {
+        for place in from..to {
+            self.push_entry(place > 0, vector[place]);
+        }
+    }
+
+    /// Begins the line of an arc: what stands before the name of the vertex where it leads.
+    pub(super) fn begin_arc(&mut self)
+        requires { length self.old + 5 ≤ N }
+        ensures { self.new ≡ self.old ++ codes "  -> " }
+    {
+        self.push_text(b"  -> ");
+    }
+
+    /// Ends the line of an arc: what stands after that name.
+    pub(super) fn end_arc(&mut self, len: i64)
+        requires { length self.old + 50 ≤ N }
+        ensures { self.new ≡ self.old
+            ++ (codes ", length " ++ (signed_decimal len ++ codes "\n")) }
+    {
+        self.push_text(b", length ");
+        self.push_length(len);
+        self.push_text(b"\n");
+    }
+
+    // Appends the length of an arc in decimal.
+    fn push_length(&mut self, len: i64)
+        requires { length self.old + 40 ≤ N }
+        ensures text { self.new ≡ self.old ++ signed_decimal len }
+        ensures short { length self.new ≤ length self.old + 40 }
+    {
+        match u32::try_from(len) {
+            Ok(count) => self.push_count(count),
+            Err(_) => self.push_number(len),
+        }
+    }
+}
+
+/// Makes room on a page for a line: where there may be too little, what the page holds is put.
+pub(super) fn make_room<W: Sink>(page: &mut Page, out: &mut W) -> Result<(), Fault>
+    requires { W.has_failed out.old ≡ false }
+    ensures room { OnOk result (length page.new + most_line_bytes ≤ page_bytes) }
+    ensures paged { IsPaged page.old [] page.new (change W.written W.has_failed out.old out.new)
+        result }
+    ensures fault { IfErr result (λ f. f ≡ Fault.Write) }
+{
+    if page.len() > PAGE_BYTES - MOST_LINE_BYTES {
+        return put_page(page, out);
+    }
+    Ok(())
+}
+
+/// Puts what a page holds, and leaves it empty.
+pub(super) fn put_page<W: Sink>(page: &mut Page, out: &mut W) -> Result<(), Fault>
+    requires { W.has_failed out.old ≡ false }
+    ensures written { IsWritten page.old (change W.written W.has_failed out.old out.new) result }
+    ensures fault { IfErr result (λ f. f ≡ Fault.Write) }
+    ensures empty { OnOk result (page.new ≡ []) }
+{
+    write_bytes(out, page.bytes())?;
+    page.cut(0);
+    Ok(())
+}
