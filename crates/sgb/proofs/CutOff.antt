@@ -52,17 +52,6 @@ exit_write r f exit is =
     let p = err_from_is_err_and r exit in
     rw (p.1, p.2) is
 
--- the exit of a `?` before anything was written
-pub exit_left : {T : Type 0} (same : Type 0) (r : Result T Fault) (f : Fault) → IsErrAnd r (λ g. g ≡ f) → same → IfErr r (λ g. g ≢ fault.Write → same)
-exit_left same r f exit left =
-    let p = err_from_is_err_and r exit in
-    rw (p.1, p.2) (λ other. left)
-
--- nothing but a write can fail
-pub only_write : {T : Type 0} (same : Type 0) (r : Result T Fault) → IfErr r (λ f. f ≡ fault.Write) → IfErr r (λ f. f ≢ fault.Write → same)
-only_write same (Ok x) h = tt
-only_write same (Err f) h = λ other. absurd (other h)
-
 -- the exit of a `?` where a text was cut off by a write alone
 pub exit_uncut : {T : Type 0} (same : Type 0) (text : List ℕ) (a b : Option (List ℕ)) (r : Result T Fault) (f : Fault) → IsErrAnd r (λ g. g ≡ f) → (f ≢ fault.Write → same)
     → IfErr r (λ g. g ≢ fault.Write → IsLeftOrBegun same text a b)
