@@ -172,9 +172,9 @@ fn ending(is_cut: bool) -> (&'static str, u8) {
     if is_cut { (WRITE_FAULT, 3) } else { ("", 0) }
 }
 
-// Whether a call whose sinks take so many bytes at once, and the output only this many in all, N at most, leaves there
-// exactly the first bytes of the whole output, and the line and the status that go with them.
-pub(crate) fn is_cut_off<const N: usize>(
+// Whether a call whose sinks take so many bytes at once, and the output only this many in all, leaves there exactly the
+// first bytes of the whole output, and the line and the status that go with them.
+pub(crate) fn is_cut_off(
     alloc: Global,
     words: &[&str],
     whole: &[u8],
@@ -183,7 +183,7 @@ pub(crate) fn is_cut_off<const N: usize>(
 ) -> Result<bool, Fail>
     requires { 0 < each }
 {
-    let mut out: CutSink<N> = CutSink::new(each, limit, false);
+    let mut out: CutSink<28_700> = CutSink::new(each, limit, false);
     let mut errors: CutSink<128> = CutSink::new(each, 128, false);
     let status = call(alloc, words, &mut out, &mut errors)?;
     let (line, wanted) = ending(limit < whole.len());
@@ -201,7 +201,7 @@ fn check_short_sinks(rt: &impl Abort, alloc: Global, each: usize) -> Result<(), 
             check_call(
                 rt,
                 words,
-                is_cut_off::<2600>(alloc, words, whole.as_bytes(), each, limit)?,
+                is_cut_off(alloc, words, whole.as_bytes(), each, limit)?,
             );
         }
     }
@@ -258,7 +258,7 @@ fn short_sinks_of_queens(rt: HostRuntime) -> Result<(), Fail> {
     let words = ["queen"];
     let whole = answered(&rt, rt.alloc(), &words)?;
     for limit in 0..=whole.bytes().len() {
-        let is_cut = is_cut_off::<2600>(rt.alloc(), &words, whole.bytes(), 7, limit)?;
+        let is_cut = is_cut_off(rt.alloc(), &words, whole.bytes(), 7, limit)?;
         check_call(&rt, &words, is_cut);
     }
     Ok(())

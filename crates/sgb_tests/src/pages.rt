@@ -67,7 +67,7 @@ fn check_cut_page(
 {
     let whole = answered(rt, alloc, words)?;
     for limit in full.saturating_sub(2)..full.saturating_add(3) {
-        let is_cut = is_cut_off::<28_700>(alloc, words, whole.bytes(), each, limit)?;
+        let is_cut = is_cut_off(alloc, words, whole.bytes(), each, limit)?;
         check_call(rt, words, is_cut);
     }
     Ok(())
