@@ -3,7 +3,7 @@ use Rattle.std.proofs.Common.{◌≡◌, ◌≤◌, ◌++◌, ◌∙◌, ℕ, Bo
 use Rattle.std.proofs.lemmas.List.{take-append-drop, take_more}
 use Rattle.std.proofs.lemmas.Bool.Decides.{nat_tests}
 use Rattle.sgb_file.specs.Saving.{broken_lines, last_part, fits_on, lines_ended, line_begun}
-use Rattle.sgb_file.specs.inner.Layouts.{Stage, HasLaid, IsStopped, IsFilled, IsPlaced, lines_before, line_before}
+use Rattle.sgb_file.specs.inner.Layouts.{Stage, HasLaid, IsStopped, IsLaid, IsFilled, IsPlaced, lines_before}
 use Rattle.sgb_file.proofs.BrokenLines.{broken-short, last-short, broken-once, last-once, broken-append, last-append}
 use Rattle.sgb_file.proofs.LaidLines.{laid-none, laid-append, laid-after, stopped-first, stopped-after}
 
@@ -87,24 +87,23 @@ filled-none a short =
     let whole = append-nil a.layout.line in
     filled-short [] a a (rw whole short) (record { written = refl; failed = refl; checksum = refl }) (sym whole)
 
--- a piece: what is written before it, and what its bytes fill
-placed-lines : (fits : Bool) (line piece : List ℕ) → fits_on line piece ≡ fits → lines_ended line piece ≡ lines_before fits line ++ broken_lines (line_before fits line ++ piece)
-placed-lines true line piece e =
-    let short : length (line ++ piece) ≤ 79 = rw length-append (grind (arith, nat_tests, e)) in
-    rw (e, broken-short (line ++ piece) short) refl
-placed-lines false line piece e = rw e refl
+-- a piece that fits on the line
+pub placed-here : (piece : List ℕ) (a b : Stage) → fits_on a.layout.line piece ≡ true → AreAlike a b → b.layout.line ≡ a.layout.line ++ piece
+    → HasLaid (lines_ended a.layout.line piece) a b × (b.layout.line ≡ line_begun a.layout.line piece)
+placed-here piece a b fits alike line = rw fits (laid-none a b alike.written alike.failed alike.checksum, line)
 
-placed-line : (fits : Bool) (line piece : List ℕ) → fits_on line piece ≡ fits → line_begun line piece ≡ last_part (line_before fits line ++ piece)
-placed-line true line piece e =
-    let short : length (line ++ piece) ≤ 79 = rw length-append (grind (arith, nat_tests, e)) in
-    rw (e, last-short (line ++ piece) short) refl
-placed-line false line piece e = rw e refl
+-- one that does not: what is written before it, and what its bytes fill
+placed-lines : (line piece : List ℕ) → fits_on line piece ≡ false → lines_ended line piece ≡ lines_before line ++ broken_lines piece
+placed-lines line piece e = rw e refl
 
-pub placed-cut : (fits : Bool) (piece : List ℕ) (a b : Stage) → fits_on a.layout.line piece ≡ fits → IsStopped (lines_before fits a.layout.line) a b → IsStopped (lines_ended a.layout.line piece) a b
-placed-cut fits piece a b e p = stopped-first _ _ _ a b (placed-lines fits a.layout.line piece e) p
+placed-line : (line piece : List ℕ) → fits_on line piece ≡ false → line_begun line piece ≡ last_part piece
+placed-line line piece e = rw e refl
 
-pub placed-then : {T E : Type 0} (fits : Bool) (piece : List ℕ) (a b c : Stage) (r : Result T E) → fits_on a.layout.line piece ≡ fits
-    → HasLaid (lines_before fits a.layout.line) a b × (b.layout.line ≡ line_before fits a.layout.line) → IsFilled piece b c r → IsPlaced piece a c r
-placed-then fits piece a b c r e p q =
-    rw (placed-line fits a.layout.line piece e)
-    (laid-after _ _ _ _ a b c r (placed-lines fits a.layout.line piece e) p.0 (rw (sym p.1) q))
+pub placed-cut : (piece : List ℕ) (a b : Stage) → fits_on a.layout.line piece ≡ false → IsStopped (lines_before a.layout.line) a b → IsStopped (lines_ended a.layout.line piece) a b
+placed-cut piece a b e p = stopped-first _ _ _ a b (placed-lines a.layout.line piece e) p
+
+pub placed-then : {T E : Type 0} (piece : List ℕ) (a b c : Stage) (r : Result T E) → fits_on a.layout.line piece ≡ false
+    → HasLaid (lines_before a.layout.line) a b × (b.layout.line ≡ []) → IsFilled piece b c r → IsPlaced piece a c r
+placed-then piece a b c r e p q =
+    rw (placed-line a.layout.line piece e)
+    (laid-after _ _ _ _ a b c r (placed-lines a.layout.line piece e) p.0 (subst (λ line. IsLaid (broken_lines (line ++ piece)) (last_part (line ++ piece)) b c r) p.1 q))

@@ -65,12 +65,9 @@ abbrev pub IsFilled : {T E : Type 0} → List ℕ → Stage → Stage → Result
 IsFilled bytes old new result =
     IsLaid (broken_lines (old.layout.line ++ bytes)) (last_part (old.layout.line ++ bytes)) old new result
 
--- the lines that end before a piece, and the beginning of a line that it is laid out after
-abbrev pub lines_before : Bool → List ℕ → List (List ℕ)
-lines_before fits line = if fits then [] else if length line == 0 then [] else line ∷ []
-
-abbrev pub line_before : Bool → List ℕ → List ℕ
-line_before fits line = if fits then line else []
+-- the line that ends before a piece which does not fit on it
+abbrev pub lines_before : List ℕ → List (List ℕ)
+lines_before line = if length line == 0 then [] else line ∷ []
 
 -- this piece was laid out after the beginning of a line
 abbrev pub IsPlaced : {T E : Type 0} → List ℕ → Stage → Stage → Result T E → Type 0

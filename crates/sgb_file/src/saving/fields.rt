@@ -22,8 +22,7 @@ pub(super) fn put_fields<W: Sink>(
         (stage W.written W.has_failed sink.new layout.new) result }
 {
     for place in 0..fields.len() {
-        let more = any_used(&fields[place + 1..]);
-        put_field(layout, sink, fields[place], more)?;
+        put_field(layout, sink, fields[place], &fields[place + 1..])?;
     }
     layout.end_line(sink)
 }
@@ -47,23 +46,24 @@ fn is_used(field: UtilRef<'_>) -> bool
     !matches!(field, UtilRef::Nothing)
 }
 
-// Lays out a field, if it is used; `more` says whether others follow.
+// Lays out a field, if it is used, with a comma where any of the later fields is used.
 fn put_field<W: Sink>(
     layout: &mut Layout,
     sink: &mut W,
     field: UtilRef<'_>,
-    more: bool,
+    later: &[UtilRef<'_>],
 ) -> Result<(), Failed>
-    ensures { IsNextPlaced more (field_texts (util_seen field.entry))
+    ensures { IsNextPlaced (has_any (flat_map field_texts (map util_seen later.now)))
+        (field_texts (util_seen field.entry))
         (stage W.written W.has_failed sink.old layout.old)
         (stage W.written W.has_failed sink.new layout.new) result }
 {
     match field {
         UtilRef::Nothing => Ok(()),
-        UtilRef::Int(number) => put_integer(layout, sink, number, more),
-        UtilRef::Vertex(vertex) => put_ref(layout, sink, vertex, more),
-        UtilRef::Str(text) => put_string(layout, sink, text.bytes(), more),
-        UtilRef::Chain(first) => put_record_number(layout, sink, first, more),
+        UtilRef::Int(number) => put_integer(layout, sink, number, any_used(later)),
+        UtilRef::Vertex(vertex) => put_ref(layout, sink, vertex, any_used(later)),
+        UtilRef::Str(text) => put_string(layout, sink, text.bytes(), any_used(later)),
+        UtilRef::Chain(first) => put_record_number(layout, sink, first, any_used(later)),
     }
 }
 

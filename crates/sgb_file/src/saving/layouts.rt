@@ -1,6 +1,6 @@
 //! Pieces laid out on lines of at most 79 bytes (GB_SAVE, save_graph).
 ghost use Rattle.std.specs.Prelude.{◌≡◌, ◌+◌, ◌≤◌, ◌++◌, ◌∷◌, [], length, take, drop};
-ghost use Rattle.sgb_file.specs.inner.Layouts.{IsFilled, IsLaid, IsPlaced, line_before, lines_before, stage};
+ghost use Rattle.sgb_file.specs.inner.Layouts.{IsFilled, IsLaid, IsPlaced, lines_before, stage};
 ghost use Rattle.sgb_file.specs.Saving.{broken_line_bytes, fits_on, most_line_bytes};
 
 use super::lines::{Line, MOST_LINE_BYTES};
@@ -65,8 +65,11 @@ impl Layout {
             (stage W.written W.has_failed sink.old self.old)
             (stage W.written W.has_failed sink.new self.new) result }
     {
-        let fits = self.has_room(front, body, back);
-        self.make_room(sink, fits)?;
+        if self.has_room(front, body, back) {
+            self.line.push_piece(front, body, back);
+            return Ok(());
+        }
+        self.make_room(sink)?;
         self.fill_all(sink, front, body, back)
     }
 
@@ -81,13 +84,13 @@ impl Layout {
             && len + front.len() + body.len() + back.len() <= MOST_LINE_BYTES
     }
 
-    // Ends a line that was begun, where the next piece does not fit on it.
-    fn make_room<W: Sink>(&mut self, sink: &mut W, fits: bool) -> Result<(), Failed>
-        ensures { IsLaid (lines_before fits self.old.line) (line_before fits self.old.line)
+    // Ends a line that was begun.
+    fn make_room<W: Sink>(&mut self, sink: &mut W) -> Result<(), Failed>
+        ensures { IsLaid (lines_before self.old.line) []
             (stage W.written W.has_failed sink.old self.old)
             (stage W.written W.has_failed sink.new self.new) result }
     {
-        if fits || self.line.len() == 0 {
+        if self.line.len() == 0 {
             return Ok(());
         }
         self.end_line(sink)

@@ -6,27 +6,27 @@ ghost use Rattle.sgb_file.specs.Saving.{broken_line_bytes, most_line_bytes};
 
 use crate::checksums::checksum_after_line;
 use crate::devices::{Failed, Sink, put_all};
-use arrayvec::ArrayVec;
 use std::marker::Model;
 
 // A line has at most this many bytes.
 pub(super) const MOST_LINE_BYTES: usize = 79;
 
-// The bytes of a line, with room for its newline. Contracts see it as their list.
+// The first bytes of an array with room for a line and its newline. Contracts see them as their list.
 #[derive(Drop)]
 pub(super) struct Line {
-    bytes: ArrayVec<u8, 80>,
+    bytes: [u8; 80],
+    len: usize,
 }
 
 impl Model for Line {
-    ghost use Rattle.std.specs.Prelude.{List, ℕ, length, ◌≤◌};
+    ghost use Rattle.std.specs.Prelude.{List, ℕ, length, take, ◌≡◌, ◌≤◌};
     ghost use Rattle.sgb_file.specs.Saving.{most_line_bytes};
 
     ghost Value = { List ℕ };
 
-    ghost view = { λ line. line.bytes.items };
+    ghost view = { λ line. take line.len line.bytes };
 
-    ghost invariant = { λ line. length line.bytes.items ≤ most_line_bytes };
+    ghost invariant = { λ line. (line.len ≤ most_line_bytes) × (length line.bytes ≡ 80) };
 }
 
 impl Line {
@@ -35,7 +35,8 @@ impl Line {
         ensures { result ≡ [] }
     {
         Line {
-            bytes: ArrayVec::new(),
+            bytes: [b' '; 80],
+            len: 0,
         }
     }
 
@@ -44,7 +45,36 @@ impl Line {
         ensures value { result ≡ length self.now }
         ensures short { length self.now ≤ most_line_bytes }
     {
-        self.bytes.len()
+        self.len
+    }
+
+    // Appends a piece in three parts, for which there is room.
+    pub(super) fn push_piece(&mut self, front: &[u8], body: &[u8], back: &[u8])
+        requires room { length self.old + length (front.now ++ body.now ++ back.now)
+            ≤ most_line_bytes }
+        requires front { length front.now ≤ 2 }
+        requires back { length back.now ≤ 2 }
+        ensures { self.new ≡ self.old ++ (front.now ++ body.now ++ back.now) }
+    {
+        self.push_few(front);
+        self.push(body);
+        self.push_few(back);
+    }
+
+    // Appends at most two bytes, for which there is room.
+    fn push_few(&mut self, bytes: &[u8])
+        requires room { length self.old + length bytes.now ≤ most_line_bytes }
+        requires few { length bytes.now ≤ 2 }
+        ensures { self.new ≡ self.old ++ bytes.now }
+    {
+        if bytes.is_empty() {
+            return;
+        }
+        self.push_byte(bytes[0]);
+        if bytes.len() == 1 {
+            return;
+        }
+        self.push_byte(bytes[1]);
     }
 
     // Appends bytes, for which there is room.
@@ -52,7 +82,8 @@ impl Line {
         requires { length self.old + length bytes.now ≤ most_line_bytes }
         ensures { self.new ≡ self.old ++ bytes.now }
     {
-        let _written = self.bytes.try_extend_from_slice(bytes);
+        write_at(&mut self.bytes, self.len, bytes);
+        self.len += bytes.len();
     }
 
     // Appends a byte, for which there is room.
@@ -60,7 +91,8 @@ impl Line {
         requires { length self.old + 1 ≤ most_line_bytes }
         ensures { self.new ≡ self.old ++ byte ∷ [] }
     {
-        self.bytes.push(byte);
+        self.bytes[self.len] = byte;
+        self.len += 1;
     }
 
     // Puts another byte in the place of the last one of a full line, which it returns.
@@ -70,8 +102,8 @@ impl Line {
         ensures last { drop broken_line_bytes self.old ≡ result ∷ [] }
     {
         let last = self.bytes[MOST_LINE_BYTES - 1];
-        self.bytes.truncate(MOST_LINE_BYTES - 1);
-        self.bytes.push(byte);
+        self.len = MOST_LINE_BYTES - 1;
+        self.push_byte(byte);
         last
     }
 
@@ -79,7 +111,7 @@ impl Line {
     pub(super) fn checksum_after(&self, sum: u32) -> u32
         ensures { result ≡ checksum_from sum (counted_bytes (self.now ∷ [])) }
     {
-        checksum_after_line(sum, &self.bytes)
+        checksum_after_line(sum, &self.bytes[..self.len])
     }
 
     // Writes the line and its newline; it is then empty.
@@ -89,9 +121,18 @@ impl Line {
             result }
         ensures sound { OnOk result (W.has_failed sink.new ≡ W.has_failed sink.old) }
     {
-        self.bytes.push(b'\n');
-        let put = put_all(sink, &self.bytes);
-        self.bytes.clear();
+        self.bytes[self.len] = b'\n';
+        let put = put_all(sink, &self.bytes[..self.len + 1]);
+        self.len = 0;
         put
     }
+}
+
+// Writes bytes into a text from a place on, where there is room for them.
+fn write_at(text: &mut [u8], place: usize, bytes: &[u8])
+    requires { place + length bytes.now ≤ length text.old }
+    ensures { text.new ≡ take place text.old ++ bytes.now ++ drop (place + length bytes.now)
+        text.old }
+{
+    text[place..place + bytes.len()].copy_from_slice(bytes);
 }
