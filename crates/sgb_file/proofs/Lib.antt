@@ -62,6 +62,8 @@ pub mod FieldTexts
 pub mod RecordLines
 -- the text of a graph in three parts
 pub mod WholeText
+-- a text that is looked through sixteen elements at a time
+pub mod FirstPlaces
 -- worked examples
 pub mod Examples
 -- bytes that a sink takes a part at a time

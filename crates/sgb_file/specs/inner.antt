@@ -3,6 +3,8 @@
 pub mod Devices
 -- what a reader found, or how it was refused
 pub mod Found
+-- bytes that are looked at together
+pub mod Lanes
 -- lines that are laid out, and what the sink has of them
 pub mod Layouts
 -- what is left of a file's lines while they are read

@@ -12,6 +12,8 @@ mod laws;
 mod reading;
 // Writes a file.
 mod saving;
+// Where a byte stands first.
+mod scans;
 
 pub use devices::{
     Buffered, CutSink, CutSource, Failed, FromRead, MemSink, MemSource, Sink, Source, ToWrite,

@@ -6,6 +6,7 @@ ghost use Rattle.sgb_file.specs.FileLines.{clean_lines, lines_of_text, without_e
 ghost use Rattle.sgb_file.specs.inner.LinesLeft.{HasPassed, has_no_newline, lines_left, lines_passed, lines_still, next_begun, none_begun, skipped, text_left};
 
 use crate::checksums::checksum_after_line;
+use crate::scans::bytes_before;
 use std::marker::Model;
 
 // The lines after the first one of a file, from the line under way on. They are passed over once, with the checksum of the
@@ -105,25 +106,11 @@ pub(super) fn first_line(bytes: &[u8]) -> (&[u8], &[u8])
     requires { length bytes.now ≢ 0 }
     ensures { clean_lines bytes.now ≡ result.0.now ∷ clean_lines result.1.now }
 {
-    let end = line_length(bytes);
+    let end = bytes_before(bytes, b'\n');
     if end == bytes.len() {
         return (without_end_spaces(bytes), &bytes[end..]);
     }
     (without_end_spaces(&bytes[..end]), &bytes[end + 1..])
-}
-
-// How many bytes stand before the first newline, or in all.
-fn line_length(bytes: &[u8]) -> usize
-    ensures { result ≡ position_or_len (λ b. b == 10) bytes.now }
-{
-    newline_in(bytes).unwrap_or(bytes.len())
-}
-
-// The place of the first newline.
-fn newline_in(bytes: &[u8]) -> Option<usize>
-    ensures { result ≡ position (λ b. b == 10) bytes.now }
-{
-    bytes.iter().position(|byte| *byte == b'\n')
 }
 
 // A line without the spaces at its end.

@@ -9,6 +9,7 @@ ghost use Rattle.sgb_file.specs.inner.LinesLeft.{text_left};
 
 use super::lines::Lines;
 use super::separators::pass_byte;
+use crate::scans::bytes_before;
 use arrayvec::ArrayVec;
 use sgb_graph::Id;
 use sgb_vec::{Panic, Text};
@@ -125,7 +126,8 @@ fn is_broken(line: &[u8]) -> bool
 fn place_of_quote(line: &[u8]) -> Option<usize>
     ensures { result ≡ position (λ b. b == 34) line.now }
 {
-    line.iter().position(|byte| *byte == b'"')
+    let end = bytes_before(line, b'"');
+    if end < line.len() { Some(end) } else { None }
 }
 
 // The bytes of a string of several parts, of which the first one was taken.
