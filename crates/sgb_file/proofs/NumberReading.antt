@@ -1,16 +1,19 @@
 -- Lemmas on numbers that are read digit by digit.
-use Rattle.std.specs.Prelude.{◌≡◌, ℕ, zero, suc, ◌+◌, ◌-◌, ◌*◌, ◌^◌, ◌<◌, ◌≤◌, true, false, ◌&&◌, List, [], ◌∷◌, Some, length, take, nat_le, nat_lt}
+use Rattle.std.specs.Prelude.{◌≡◌, ℕ, zero, suc, ◌+◌, ◌-◌, ◌*◌, ◌^◌, ◌<◌, ◌≤◌, Bool, true, false, ◌&&◌, List, [], ◌∷◌, Option, Some, None, IfSome, length, take, nat_le, nat_lt}
 use Rattle.std.specs.Char.{digit_value}
 use Rattle.std.specs.List.{list_all}
 use Rattle.std.specs.Str.Parse.{AllDigits, digits_value}
-use Rattle.std.proofs.Common.{get_or, arith, subst}
-use Rattle.std.proofs.lemmas.Bool.{and_parts}
+use Rattle.std.proofs.Common.{get_or, arith, subst, refl, sym, ap, ◌∙◌}
+use Rattle.std.proofs.lemmas.Bool.{and_parts, and_from}
+use Rattle.std.proofs.lemmas.List.{length-take, take_all, take_more}
+use Rattle.std.proofs.lemmas.List.Folds.{list_all-append}
 use Rattle.std.proofs.lemmas.Bool.Decides.{nat_tests}
 use Rattle.std.proofs.lemmas.Int.Digits.{digits_value_more, digits_value-lt}
 use Rattle.std.proofs.lemmas.Str.Parse.{digits_value-take-le}
 use native.Mathlib.Nat.{pow-le-pow_right}
 use Rattle.std.proofs.Common.{lt_of_lt_of_le}
 use Rattle.sgb_file.specs.Fields.{is_decimal_digit, number_of}
+use Rattle.sgb_file.specs.inner.Found.{value_if_digits}
 use Rattle.sgb_file.proofs.FoundParts.{was_let_through}
 
 -- a decimal digit, and its value
@@ -81,3 +84,59 @@ next_digit digits i h short within =
       more = omega (arith, more, value);
       fits = omega (arith, digits_value-take-le 10 digits (i + 1) (omega arith), value_below digits 20 h short);
     }
+
+-- one more byte of at most 18, which is a digit
+pub record GoesOn (text : List ℕ) (i : ℕ) : Type 0 where
+  pub low : 48 ≤ get_or text i 0
+  pub digits : list_all is_decimal_digit (take (i + 1) text) ≡ true
+  pub more : digits_value 10 (take (i + 1) text) ≡ 10 * digits_value 10 (take i text) + (get_or text i 0 - 48)
+  pub fits : digits_value 10 (take (i + 1) text) < 10 ^ 18
+
+pub goes_on : (text : List ℕ) (i : ℕ) → list_all is_decimal_digit (take i text) ≡ true → is_decimal_digit (get_or text i 0) ≡ true
+    → length text ≤ 18 → i < length text → GoesOn text i
+goes_on text i h here short within =
+    let digit = digit_is (get_or text i 0) here in
+    let value = value_is (get_or text i 0) digit in
+    let more = digits_value_more 10 text i within in
+    let all : list_all is_decimal_digit (take (i + 1) text) ≡ true =
+    ap (list_all is_decimal_digit) (take_more text i 0 within)
+    ∙ (list_all-append is_decimal_digit (take i text) (get_or text i 0 ∷ [])
+    ∙ and_from (list_all is_decimal_digit (take i text)) (list_all is_decimal_digit (get_or text i 0 ∷ [])) h (and_from (is_decimal_digit (get_or text i 0)) true here refl)) in
+    let few : length (take (i + 1) text) ≤ 18 = omega (arith, length-take (i + 1) text, short) in record {
+      low = digit.low;
+      digits = all;
+      more = omega (arith, more, value);
+      fits = value_below (take (i + 1) text) 18 all few;
+    }
+
+-- a byte that is no digit
+pub stops_at : (text : List ℕ) (i : ℕ) → is_decimal_digit (get_or text i 0) ≡ false → i < length text → list_all is_decimal_digit text ≡ false
+stops_at [] i h within = absurd (omega (arith, within))
+stops_at (b ∷ text) zero h within = rw h refl
+stops_at (b ∷ text) (suc i) h within = rw (stops_at text i h (omega (arith, within))) (and_false (is_decimal_digit b))
+  where
+    and_false : (t : Bool) → t && false ≡ false
+    and_false true = refl
+    and_false false = refl
+
+-- all of the bytes are digits
+pub ends_as_digits : (text : List ℕ) (i value : ℕ) → length text ≤ i → list_all is_decimal_digit (take i text) ≡ true → value ≡ digits_value 10 (take i text)
+    → Some value ≡ value_if_digits text
+ends_as_digits text i value past h e =
+    let whole : take i text ≡ text = take_all i text past in
+    let all : list_all is_decimal_digit text ≡ true = ap (list_all is_decimal_digit) (sym whole) ∙ h in
+    rw all (ap Some (e ∙ ap (digits_value 10) whole))
+
+-- at most 18 digits write a number below this power
+pub small_if_digits : (text : List ℕ) (found : Option ℕ) → found ≡ value_if_digits text → length text ≤ 18 → IfSome found (λ n. n < 10 ^ 18)
+small_if_digits text None e short = tt
+small_if_digits text (Some n) e short =
+    let p = was_let_through (list_all is_decimal_digit text) (digits_value 10 text) n (sym e) in
+    subst (λ (k : ℕ). k < 10 ^ 18) p.1 (value_below text 18 p.0 short)
+
+-- at most 18 digits are at most 20
+pub number_of_few : (text : List ℕ) → length text ≤ 18 → number_of 18 text ≡ number_of 20 text
+number_of_few text short =
+    let less : nat_le (length text) 18 ≡ true = grind (arith, nat_tests, short) in
+    let least : nat_le (length text) 20 ≡ true = grind (arith, nat_tests, short) in
+    rw (less, least) refl

@@ -2,8 +2,8 @@
 ghost use Rattle.std.specs.Prelude.{◌≡◌, ◌≤◌, ◌<◌, ◌^◌, length, IfSome, IsTrue};
 ghost use Rattle.std.specs.List.{list_all};
 ghost use Rattle.std.specs.Str.Parse.{digits_value};
-ghost use Rattle.sgb_file.specs.Fields.{integer_of, is_decimal_digit, most_number_digits, number_below, number_of, record_number_of, ref_of};
-ghost use Rattle.sgb_file.specs.inner.Found.{negative_of, positive_of};
+ghost use Rattle.sgb_file.specs.Fields.{integer_of, is_decimal_digit, most_integer_digits, most_number_digits, number_below, number_of, record_number_of, ref_of};
+ghost use Rattle.sgb_file.specs.inner.Found.{negative_of, positive_of, value_if_digits};
 
 use super::heads::Counts;
 use sgb_graph::Ref;
@@ -19,8 +19,32 @@ pub(super) fn number_of(text: &[u8]) -> Option<u64>
     ensures value { result ≡ number_of most_number_digits text.now }
     ensures bound { IfSome result (λ n. n < 10 ^ 18) }
 {
-    let number = number_of_digits(text, MOST_NUMBER_DIGITS)?;
-    Some(number as u64)
+    if text.is_empty() || text.len() > MOST_NUMBER_DIGITS {
+        return None;
+    }
+    value_if_digits(text)
+}
+
+// The number that at most 18 bytes write; none where one of them is no digit.
+fn value_if_digits(text: &[u8]) -> Option<u64>
+    requires { length text.now ≤ 18 }
+    ensures { result ≡ value_if_digits text.now }
+{
+    let mut value = 0;
+    for byte in text {
+        if !is_digit(*byte) {
+            return None;
+        }
+        value = 10 * value + u64::from(*byte - b'0');
+    }
+    Some(value)
+}
+
+// Whether the byte is a decimal digit.
+fn is_digit(byte: u8) -> bool
+    ensures { result ≡ is_decimal_digit byte }
+{
+    b'0' <= byte && byte <= b'9'
 }
 
 // The number below a limit that a text of 1 to 18 digits writes.
@@ -37,8 +61,8 @@ pub(super) fn integer_of(text: &[u8]) -> Option<i64>
     ensures { result ≡ integer_of text.now }
 {
     match text.strip_prefix(b"-") {
-        Some(digits) => negative_of(number_of_digits(digits, MOST_INTEGER_DIGITS)?),
-        None => positive_of(number_of_digits(text, MOST_INTEGER_DIGITS)?),
+        Some(digits) => negative_of(great_number_of(digits)?),
+        None => positive_of(great_number_of(text)?),
     }
 }
 
@@ -95,13 +119,16 @@ pub(super) fn record_number_of(counts: &Counts, text: &[u8]) -> Option<Option<us
     None
 }
 
-// The number that a text of 1 to `most` digits writes, `most` being 20 at the most; leading zeros are allowed.
-fn number_of_digits(text: &[u8], most: usize) -> Option<u128>
-    requires { most ≤ 20 }
-    ensures value { result ≡ number_of most text.now }
-    ensures bound { IfSome result (λ n. n < 10 ^ most) }
+// The number that a text of 1 to 20 digits writes; leading zeros are allowed.
+fn great_number_of(text: &[u8]) -> Option<u128>
+    ensures value { result ≡ number_of most_integer_digits text.now }
+    ensures bound { IfSome result (λ n. n < 10 ^ 20) }
 {
-    if text.is_empty() || text.len() > most || !are_digits(text) {
+    if text.len() <= MOST_NUMBER_DIGITS {
+        let number = number_of(text)?;
+        return Some(u128::from(number));
+    }
+    if text.len() > MOST_INTEGER_DIGITS || !are_digits(text) {
         return None;
     }
     Some(value_of(text))
