@@ -1,5 +1,5 @@
 //! Pieces laid out on lines of at most 79 bytes (GB_SAVE, save_graph).
-ghost use Rattle.std.specs.Prelude.{◌≡◌, ◌+◌, ◌≤◌, ◌++◌, ◌∷◌, [], length, take, drop};
+ghost use Rattle.std.specs.Prelude.{◌≡◌, ◌+◌, ◌≤◌, ◌++◌, ◌∷◌, [], false, length, take, drop};
 ghost use Rattle.sgb_file.specs.inner.Layouts.{IsFilled, IsLaid, IsPlaced, lines_before, stage};
 ghost use Rattle.sgb_file.specs.Saving.{broken_line_bytes, fits_on, most_line_bytes};
 
@@ -51,7 +51,8 @@ impl Layout {
         self.line.put(sink)
     }
 
-    // Lays out a piece in three parts.
+    // Lays out a piece in three parts. Most pieces fit on the line.
+    #[inline(always)]
     pub(super) fn place<W: Sink>(
         &mut self,
         sink: &mut W,
@@ -69,6 +70,23 @@ impl Layout {
             self.line.push_piece(front, body, back);
             return Ok(());
         }
+        self.place_anew(sink, front, body, back)
+    }
+
+    // Lays out a piece in three parts that does not fit on the line.
+    #[inline(never)]
+    fn place_anew<W: Sink>(
+        &mut self,
+        sink: &mut W,
+        front: &[u8],
+        body: &[u8],
+        back: &[u8],
+    ) -> Result<(), Failed>
+        requires { fits_on self.old.line (front.now ++ body.now ++ back.now) ≡ false }
+        ensures { IsPlaced (front.now ++ body.now ++ back.now)
+            (stage W.written W.has_failed sink.old self.old)
+            (stage W.written W.has_failed sink.new self.new) result }
+    {
         self.make_room(sink)?;
         self.fill_all(sink, front, body, back)
     }
