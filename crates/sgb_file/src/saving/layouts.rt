@@ -126,9 +126,9 @@ impl Layout {
             (stage W.written W.has_failed sink.old self.old)
             (stage W.written W.has_failed sink.new self.new) result }
     {
-        self.fill_bytes(sink, front)?;
+        self.fill(sink, front)?;
         self.fill(sink, body)?;
-        self.fill_bytes(sink, back)
+        self.fill(sink, back)
     }
 
     // Puts bytes on the line, and breaks it as often as they need.
@@ -136,23 +136,33 @@ impl Layout {
         ensures { IsFilled bytes.now (stage W.written W.has_failed sink.old self.old)
             (stage W.written W.has_failed sink.new self.new) result }
     {
-        if bytes.len() <= MOST_LINE_BYTES - self.line.len() {
-            self.line.push(bytes);
-            return Ok(());
+        prove!(self.line.len() <= MOST_LINE_BYTES);
+        let mut rest = bytes;
+        while rest.len() > self.room() {
+            let (first, others) = rest.split_at(self.room() + 1);
+            self.fill_up(sink, first)?;
+            rest = others;
         }
-        self.fill_bytes(sink, bytes)
+        self.line.push(rest);
+        Ok(())
     }
 
-    // Puts bytes on the line one by one, and breaks it as often as they need.
-    fn fill_bytes<W: Sink>(&mut self, sink: &mut W, bytes: &[u8]) -> Result<(), Failed>
+    // How many bytes more the line may have.
+    fn room(&self) -> usize
+        ensures { length self.now.line + result ≡ most_line_bytes }
+    {
+        MOST_LINE_BYTES - self.line.len()
+    }
+
+    // Fills the line up with all of these bytes but the last, which breaks it.
+    fn fill_up<W: Sink>(&mut self, sink: &mut W, bytes: &[u8]) -> Result<(), Failed>
+        requires { length self.old.line + length bytes.now ≡ most_line_bytes + 1 }
         ensures { IsFilled bytes.now (stage W.written W.has_failed sink.old self.old)
             (stage W.written W.has_failed sink.new self.new) result }
     {
-        prove!(self.line.len() <= MOST_LINE_BYTES);
-        for byte in bytes {
-            self.fill_byte(sink, *byte)?;
-        }
-        Ok(())
+        let room = self.room();
+        self.line.push(&bytes[..room]);
+        self.fill_byte(sink, bytes[room])
     }
 
     // Puts a byte on the line, and breaks the line where it is full.

@@ -1,10 +1,25 @@
-use Rattle.std.proofs.Common.{◌≤◌, ◌∙◌, ◌++◌, ap, arith, length, refl, length-append}
-use Rattle.sgb_file.proofs.PlacedPieces.{filled-short}
+use Rattle.std.proofs.Common.{◌+◌, ◌∙◌, ◌++◌, ap, arith, length, refl}
+use Rattle.std.proofs.lemmas.Result.{err_from_is_err_and}
+use Rattle.sgb_file.proofs.PlacedPieces.{filling-none, filling-more, filling-cut, filling-last}
 use Rattle.sgb_file.proofs.saving.layouts.Layout.fill.Goals as goal
 
-pub returns-then-bytes-len : goal.returns-then-bytes-len
-returns-then-bytes-len g c =
-    let line = ap (λ l. l.line) c.self.view_is in
-    let short : length (c.args.self.now.line ++ c.args.bytes.now) ≤ 79 = rw length-append (omega (arith, c.len.ensures.value, c.len.ensures.short, ap length line, c.if-bytes-len.true)) in
-    filled-short c.args.bytes.now _ _ short (record { written = refl; failed = refl; checksum = ap (λ l. l.checksum) c.self.view_is })
-    (c.push.ensures ∙ ap (λ xs. xs ++ c.args.bytes.now) line)
+pub loop-rest-init : goal.loop-rest-init
+loop-rest-init g c =
+    filling-none _ _ (omega (arith, c.len.ensures.short, ap (λ l. length l.line) c.self.view_is))
+
+pub returns-in_err-fill_up : goal.returns-in_err-fill_up
+returns-in_err-fill_up g c =
+    let p = err_from_is_err_and c.from_residual.result c.from_residual.ensures.1 in
+    rw p.1 (filling-cut c.args.bytes.now c.loop-rest.rest.now c.split_at.result.0.now (c.room-in-loop-rest.result + 1) _ _ _ c.split_at.ensures.front c.loop-rest.invariant c.in_err-fill_up.ensures)
+
+pub loop-rest-preserved : goal.loop-rest-preserved
+loop-rest-preserved g c =
+    filling-more c.args.bytes.now c.loop-rest.rest.now c.split_at.result.0.now c.split_at.result.1.now (c.room-in-loop-rest.result + 1) _ _ _ c.split_at.ensures.front c.split_at.ensures.back
+    c.loop-rest.invariant c.in_ok-fill_up.ensures
+
+pub returns : goal.returns
+returns g c =
+    let rest = c.loop-rest.rest.now in
+    filling-last c.args.bytes.now rest _ _ _ c.loop-rest.invariant (omega (arith, c.room.ensures, c.loop-rest-test.false))
+    (record { written = refl; failed = refl; checksum = ap (λ l. l.checksum) c.self-2.view_is })
+    (c.push.ensures ∙ ap (λ xs. xs ++ rest) (ap (λ l. l.line) c.self-2.view_is))
