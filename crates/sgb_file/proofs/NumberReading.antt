@@ -133,10 +133,3 @@ small_if_digits text None e short = tt
 small_if_digits text (Some n) e short =
     let p = was_let_through (list_all is_decimal_digit text) (digits_value 10 text) n (sym e) in
     subst (λ (k : ℕ). k < 10 ^ 18) p.1 (value_below text 18 p.0 short)
-
--- at most 18 digits are at most 20
-pub number_of_few : (text : List ℕ) → length text ≤ 18 → number_of 18 text ≡ number_of 20 text
-number_of_few text short =
-    let less : nat_le (length text) 18 ≡ true = grind (arith, nat_tests, short) in
-    let least : nat_le (length text) 20 ≡ true = grind (arith, nat_tests, short) in
-    rw (less, least) refl

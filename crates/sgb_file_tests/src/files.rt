@@ -1,5 +1,5 @@
 //! Files read: what is refused with which code, what is accepted, and files that are cut.
-use crate::sample_files::TWO_JOINED;
+use crate::sample_files::{LINES_OF_ALL_LENGTHS, TWO_JOINED};
 use sgb_file::{MemSink, read_gb, write_gb};
 use sgb_vec::Panic;
 use std::alloc::Global;
@@ -139,5 +139,14 @@ fn a_file_is_written_again_as_it_was_read(rt: HostRuntime) -> Result<(), Fail> {
     let mut sink = MemSink::new(rt.alloc());
     assert!(rt; write_gb(&graph, &mut sink) == Ok(()));
     assert!(rt; sink.bytes() == TWO_JOINED);
+    Ok(())
+}
+
+#[test]
+fn lines_of_all_lengths_are_written_again_as_they_were_read(rt: HostRuntime) -> Result<(), Fail> {
+    let graph = read_gb(rt.alloc(), LINES_OF_ALL_LENGTHS)?;
+    let mut sink = MemSink::new(rt.alloc());
+    assert!(rt; write_gb(&graph, &mut sink) == Ok(()));
+    assert!(rt; sink.bytes() == LINES_OF_ALL_LENGTHS);
     Ok(())
 }
