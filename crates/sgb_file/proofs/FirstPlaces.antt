@@ -1,6 +1,6 @@
 -- A text that is looked through sixteen elements at a time.
-use Rattle.std.proofs.Common.{◌≡◌, ◌+◌, ◌<◌, ◌≤◌, ◌∙◌, ◌==◌, ◌≢◌, ℕ, Bool, true, false, not, List, [], ◌∷◌, length, take, drop, sym, ap, arith, cond, eqb}
-use Rattle.std.specs.List.{position_or_len, prefix_len}
+use Rattle.std.proofs.Common.{◌≡◌, ◌+◌, ◌<◌, ◌≤◌, ◌∙◌, ◌≢◌, ℕ, Bool, not, List, length, take, drop, sym, ap, arith, cond, eqb}
+use Rattle.std.specs.List.{position_or_len}
 use Rattle.std.proofs.lemmas.Bool.{eq-eqb, ne_eqb, cond-true, cond-false}
 use Rattle.std.proofs.lemmas.List.{take-append-drop, length-take}
 use Rattle.std.proofs.lemmas.List.Folds.{prefix_len-append}

@@ -1,5 +1,4 @@
-use Rattle.std.proofs.Common.{◌≡◌, ◌≤◌, ◌+◌, ◌==◌, ◌∙◌, ℕ, length, drop, sym, ap, arith, unwrap_or}
-use Rattle.std.specs.List.{position_or_len}
+use Rattle.std.proofs.Common.{◌+◌, ◌==◌, ◌∙◌, ℕ, length, sym, ap, arith, unwrap_or}
 use Rattle.std.proofs.lemmas.List.{take_rest, length-drop}
 use Rattle.sgb_file.proofs.FirstPlaces.{found_here, found_later}
 use Rattle.sgb_file.proofs.LinesLeftLemmas.{position-unwrapped}

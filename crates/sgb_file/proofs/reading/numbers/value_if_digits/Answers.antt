@@ -1,6 +1,6 @@
-use Rattle.std.proofs.Common.{arith, ap, sym, ◌∙◌, refl}
+use Rattle.std.proofs.Common.{arith, sym, ◌∙◌}
 use Rattle.std.proofs.lemmas.Grind.{common_steps}
-use Rattle.sgb_file.proofs.NumberReading.{goes_on, stops_at, ends_as_digits}
+use Rattle.sgb_file.proofs.NumberReading.{goes_on, ends_as_digits}
 use Rattle.sgb_file.proofs.reading.numbers.value_if_digits.Goals as goal
 
 pub overflow_mul-value : goal.overflow_mul-value

@@ -1,4 +1,4 @@
-use Rattle.std.proofs.Common.{◌≤◌, ◌+◌, ◌∙◌, ◌++◌, ap, arith, length, take, refl}
+use Rattle.std.proofs.Common.{◌∙◌, ◌++◌, ap, arith, take, refl}
 use Rattle.sgb_file.proofs.PlacedPieces.{filled-up}
 use Rattle.sgb_file.proofs.saving.layouts.Layout.fill_up.Goals as goal
 
