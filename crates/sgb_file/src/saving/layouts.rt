@@ -1,7 +1,7 @@
 //! Pieces laid out on lines of at most 79 bytes (GB_SAVE, save_graph).
-ghost use Rattle.std.specs.Prelude.{◌≡◌, ◌+◌, ◌≤◌, ◌++◌, ◌∷◌, [], false, length, take, drop};
+ghost use Rattle.std.specs.Prelude.{◌≡◌, ◌+◌, ◌≤◌, ◌++◌, ◌∷◌, [], false, length};
 ghost use Rattle.sgb_file.specs.inner.Layouts.{IsFilled, IsLaid, IsPlaced, lines_before, stage};
-ghost use Rattle.sgb_file.specs.Saving.{broken_line_bytes, fits_on, most_line_bytes};
+ghost use Rattle.sgb_file.specs.Saving.{fits_on, most_line_bytes};
 
 use super::lines::{Line, MOST_LINE_BYTES};
 use crate::devices::{Failed, Sink};
