@@ -1,5 +1,5 @@
 //! The strings of a `.gb` file, which may be broken at the ends of lines (GB_SAVE, fill_field).
-ghost use Rattle.std.specs.Prelude.{◌≡◌, ◌==◌, ◌≤◌, ◌<◌, ◌++◌, length, IfOk, IfErr, OnOk};
+ghost use Rattle.std.specs.Prelude.{◌≡◌, ◌==◌, ◌≤◌, ◌<◌, ◌++◌, [], length, IfOk, IfErr, OnOk};
 ghost use Rattle.std.specs.List.{position};
 ghost use Rattle.sgb_vec.specs.Limits.{most_bytes};
 ghost use Rattle.sgb_graph.specs.Ids.{most_id_bytes};
@@ -58,7 +58,8 @@ fn broken_text(alloc: Global, first: &[u8], lines: &mut Lines<'_>) -> Result<Tex
         (text_left lines.new) }
     ensures all { lines.new.all ≡ lines.old.all }
 {
-    let bytes = gather(first, lines)?;
+    let mut bytes = ArrayVec::new();
+    gather(&mut bytes, first, lines)?;
     Text::new(alloc, bytes.as_slice())
 }
 
@@ -68,7 +69,8 @@ fn broken_id(first: &[u8], lines: &mut Lines<'_>) -> Result<Id, Panic>
         (text_left lines.new) }
     ensures all { lines.new.all ≡ lines.old.all }
 {
-    let bytes = gather(first, lines)?;
+    let mut bytes = ArrayVec::new();
+    gather(&mut bytes, first, lines)?;
     Id::new(bytes.as_slice())
 }
 
@@ -130,23 +132,27 @@ fn place_of_quote(line: &[u8]) -> Option<usize>
     if end < line.len() { Some(end) } else { None }
 }
 
-// The bytes of a string of several parts, of which the first one was taken.
-fn gather(first: &[u8], lines: &mut Lines<'_>) -> Result<ArrayVec<u8, MOST_BYTES>, Panic>
-    ensures whole { IfOk result (λ bytes. IsWholeOf first.now (text_left lines.old) bytes.items
+// Gathers the bytes of a string of several parts, of which the first one was taken. No bytes may be there yet.
+fn gather(
+    bytes: &mut ArrayVec<u8, MOST_BYTES>,
+    first: &[u8],
+    lines: &mut Lines<'_>,
+) -> Result<(), Panic>
+    requires { bytes.old.items ≡ [] }
+    ensures whole { OnOk result (IsWholeOf first.now (text_left lines.old) bytes.new.items
         (text_left lines.new)) }
     ensures none { IfErr result (λ error. (error ≡ Panic.Syntax)
         × IsNoWhole first.now (text_left lines.old)) }
     ensures all { lines.new.all ≡ lines.old.all }
 {
-    let mut bytes = ArrayVec::new();
+    push_part(bytes, first)?;
     let mut closed = false;
-    push_part(&mut bytes, first)?;
     while !closed {
         let part = take_part(lines)?;
-        push_part(&mut bytes, part.bytes)?;
+        push_part(bytes, part.bytes)?;
         closed = part.closed;
     }
-    Ok(bytes)
+    Ok(())
 }
 
 // Appends a part of a string. `Syntax` where the string is longer than any may be.

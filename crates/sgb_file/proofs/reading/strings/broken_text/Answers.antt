@@ -6,6 +6,6 @@ use Rattle.sgb_file.proofs.reading.strings.broken_text.Goals as goal
 
 pub returns-clause-found : goal.returns-clause-found
 returns-clause-found c =
-    let same : c.as_slice.result.now ≡ c.in_ok-bytes.bytes.items = search rules in
-    rw (c.in_ok-bytes.ensures.whole most_bytes, sym same)
+    let same : c.as_slice.result.now ≡ c.gather.new.bytes.items = search rules in
+    rw (c.in_ok-gather.ensures.whole most_bytes, sym same)
     (text_found c.as_slice.result.now (text_left c.gather.new.lines) c.new.result c.new.ensures.ok c.new.ensures.refused c.new.ensures.err)
