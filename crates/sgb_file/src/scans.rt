@@ -32,7 +32,7 @@ fn place_of(text: &[u8], byte: u8) -> Option<usize>
     text.iter().position(|b| *b == byte)
 }
 
-// The same of the first sixteen bytes.
+// How many of the first sixteen bytes stand before the first one like `byte`.
 fn lanes_before(text: &[u8], byte: u8) -> usize
     requires { 16 ≤ length text.now }
     ensures { result ≡ position_or_len (λ b. b == byte) (take 16 text.now) }

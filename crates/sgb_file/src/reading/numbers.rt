@@ -138,7 +138,7 @@ fn great_number_of(text: &[u8]) -> Option<u128>
 fn are_digits(text: &[u8]) -> bool
     ensures { result ≡ list_all is_decimal_digit text.now }
 {
-    text.iter().all(|byte| b'0' <= *byte && *byte <= b'9')
+    text.iter().all(|byte| is_digit(*byte))
 }
 
 // The number that at most 20 digits write.
