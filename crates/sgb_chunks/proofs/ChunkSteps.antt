@@ -3,7 +3,9 @@ use Rattle.std.proofs.Common.{◌≡◌, ◌∙◌, ℕ, zero, suc, ◌+◌, Lis
 use Rattle.std.specs.List.{flat_map, range_with_len, slice_index_or}
 use Rattle.std.proofs.lemmas.Grind.{flat_map-append}
 use Rattle.std.proofs.lemmas.List.{flat_map_more, length-append, map-append}
+use Rattle.std.proofs.lemmas.List.FromFn.{length-map-range_with_len}
 use Rattle.sgb_arrays.specs.Lists.{starts_from}
+use Rattle.sgb_arrays.proofs.ArcsLeft.{length-starts_from}
 use Rattle.sgb_chunks.specs.Chunks.{chunk_of, chunk_starts}
 
 -- one number more
@@ -87,3 +89,9 @@ pub start_more : {X : Type 0} (parts : ℕ → List X) (first count : ℕ) (now 
     → size ≡ length (chunk_of parts first (count + 1)) → after ≡ now ++ size ∷ [] → after ≡ chunk_starts parts first (count + 1)
 start_more parts first count now after size so_far is put =
     put ∙ ap₂ (λ xs k. xs ++ k ∷ []) so_far is ∙ sym (starts_more parts first count)
+
+-- there is a start more than vertices
+pub length-chunk_starts : {X : Type 0} (parts : ℕ → List X) (first count : ℕ) → length (chunk_starts parts first count) ≡ count + 1
+unfolding chunk_starts
+length-chunk_starts parts first count =
+    omega (arith, length-starts_from 0 (map (λ v. length (parts v)) (range_with_len first count)), length-map-range_with_len (λ v. length (parts v)) first count)

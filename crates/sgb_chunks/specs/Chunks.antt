@@ -29,10 +29,21 @@ pub record AreChunkRows (g : GraphData) (first count : ℕ) (begins leads : List
   pub tips : leads ≡ map (λ l. l.tip) (chunk_of (chain_of g) first count)
   pub lengths : weights ≡ map (λ l. l.len) (chunk_of (chain_of g) first count)
 
+-- arrays that the lists of the chunk fit into: a start more than vertices, and as many tips and lengths as arcs
+pub record HaveChunkRowLengths (g : GraphData) (first count : ℕ) (begins leads : List ℕ) (weights : List ℤ) : Type 0 where
+  pub starts : length begins ≡ count + 1
+  pub tips : length leads ≡ length (chunk_of (chain_of g) first count)
+  pub lengths : length weights ≡ length (chunk_of (chain_of g) first count)
+
 -- arrays that hold the names of the chunk, and where each starts
 pub record AreChunkNames (g : GraphData) (first count : ℕ) (begins text : List ℕ) : Type 0 where
   pub starts : begins ≡ chunk_starts (name_at g) first count
   pub bytes : text ≡ chunk_of (name_at g) first count
+
+-- arrays that the names of the chunk fit into: a start more than vertices, and as many bytes as the names have
+pub record HaveChunkNameLengths (g : GraphData) (first count : ℕ) (begins text : List ℕ) : Type 0 where
+  pub starts : length begins ≡ count + 1
+  pub bytes : length text ≡ length (chunk_of (name_at g) first count)
 
 -- why there is no chunk: some of its vertices are none of the graph, or out of memory
 abbrev pub IsChunkRefusal : GraphData → ℕ → ℕ → Fault → Type 0
