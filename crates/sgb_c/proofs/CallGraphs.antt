@@ -73,11 +73,32 @@ pub names_copied : (text : List ℕ) (first count number : ℕ) (starts bytes st
     (λ h n. IsMisfit (HaveChunkNameLengths h first count starts bytes) h first count n) ((starts_after ≡ starts) × (bytes_after ≡ bytes)) number
 names_copied text first count number starts bytes starts_after bytes_after begins letters (g, graph, there, are) copied (inl ok) =
     let (a, b, s, t) = copied ok in
-    inl (ok, (g, graph, (there, record { starts = a ∙ ap length are.starts ∙ length-chunk_starts (name_at g) first count; bytes = b ∙ ap length are.bytes },
-    record { starts = s ∙ are.starts; bytes = t ∙ are.bytes })))
+    inl (
+      ok,
+      (
+        g,
+        graph,
+        (
+          there,
+          record { starts = a ∙ ap length are.starts ∙ length-chunk_starts (name_at g) first count; bytes = b ∙ ap length are.bytes },
+          record { starts = s ∙ are.starts; bytes = t ∙ are.bytes },
+        ),
+      ),
+    )
 names_copied text first count number starts bytes starts_after bytes_after begins letters (g, graph, there, are) copied (inr (is, out, s, t)) =
-    inr (inr (g, graph, inr (is, there, λ fits.
-    out (fits.starts ∙ sym (ap length are.starts ∙ length-chunk_starts (name_at g) first count), fits.bytes ∙ sym (ap length are.bytes)))), (s, t))
+    inr (
+      inr (
+        g,
+        graph,
+        inr (
+          is,
+          there,
+          λ fits.
+              out (fits.starts ∙ sym (ap length are.starts ∙ length-chunk_starts (name_at g) first count), fits.bytes ∙ sym (ap length are.bytes)),
+        ),
+      ),
+      (s, t),
+    )
 
 -- the lists likewise
 module _ (g : GraphData) (first count : ℕ) (begins leads : List ℕ) (weights : List ℤ) (are : AreChunkRows g first count begins leads weights) where
@@ -100,15 +121,37 @@ pub rows_copied : (text : List ℕ) (first count number : ℕ) (starts tips : Li
     (λ h n. IsMisfit (HaveChunkRowLengths h first count starts tips lengths) h first count n) ((starts_after ≡ starts) × (tips_after ≡ tips) × (lengths_after ≡ lengths)) number
 rows_copied text first count number starts tips lengths starts_after tips_after lengths_after begins leads weights (g, graph, there, are) copied (inl ok) =
     let (a, b, c, s, t, u) = copied ok in
-    inl (ok, (g, graph, (there,
-    record {
-      starts = a ∙ begins_count g first count begins leads weights are;
-      tips = b ∙ leads_count g first count begins leads weights are;
-      lengths = c ∙ weights_count g first count begins leads weights are;
-    },
-    record { starts = s ∙ are.starts; tips = t ∙ are.tips; lengths = u ∙ are.lengths })))
+    inl (
+      ok,
+      (
+        g,
+        graph,
+        (
+          there,
+          record {
+            starts = a ∙ begins_count g first count begins leads weights are;
+            tips = b ∙ leads_count g first count begins leads weights are;
+            lengths = c ∙ weights_count g first count begins leads weights are;
+          },
+          record { starts = s ∙ are.starts; tips = t ∙ are.tips; lengths = u ∙ are.lengths },
+        ),
+      ),
+    )
 rows_copied text first count number starts tips lengths starts_after tips_after lengths_after begins leads weights (g, graph, there, are) copied (inr (is, out, s, t, u)) =
-    inr (inr (g, graph, inr (is, there, λ fits.
-    out (fits.starts ∙ sym (begins_count g first count begins leads weights are),
-    fits.tips ∙ sym (leads_count g first count begins leads weights are),
-    fits.lengths ∙ sym (weights_count g first count begins leads weights are)))), (s, t, u))
+    inr (
+      inr (
+        g,
+        graph,
+        inr (
+          is,
+          there,
+          λ fits.
+              out (
+                fits.starts ∙ sym (begins_count g first count begins leads weights are),
+                fits.tips ∙ sym (leads_count g first count begins leads weights are),
+                fits.lengths ∙ sym (weights_count g first count begins leads weights are),
+              ),
+        ),
+      ),
+      (s, t, u),
+    )

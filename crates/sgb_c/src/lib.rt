@@ -29,7 +29,8 @@ mod texts;
 
 use answers::{number_of, number_of_fault};
 use families::{
-    arcs_of_call, copy_names, copy_rows, names_of_call, rows_of_call, sizes_of_chunk, vertices_of_call,
+    arcs_of_call, copy_names, copy_rows, names_of_call, rows_of_call, sizes_of_chunk,
+    vertices_of_call,
 };
 use graphs::GraphHandle;
 use sgb_arrays::{

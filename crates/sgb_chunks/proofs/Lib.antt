@@ -5,3 +5,5 @@ pub mod ChunkSteps
 pub mod LocalChunks
 -- the names of all vertices, vertex by vertex
 pub mod NamesInOrder
+-- worked examples
+pub mod Examples

@@ -113,12 +113,13 @@ pub names_of_chunk : (now l : Local) (members : List (List ℕ)) (first count : 
     → (first + count ≤ length members) × (begins ≡ chunk_starts (name_there members) first count) × (text ≡ chunk_of (name_there members) first count)
     → IsThere (graph_described (described now)) first count × AreChunkNames (graph_described (described now)) first count begins text
 names_of_chunk now l members first count begins text is same (within, starts, bytes) =
-    subst (λ m. IsThere (graph_described (described m)) first count × AreChunkNames (graph_described (described m)) first count begins text) (sym is)
-    (omega (arith, vertices_are_members l members same, within),
-    record {
-      starts = starts ∙ ap (λ names. chunk_starts (λ v. slice_index_or names v []) first count) (sym (named_by_members l members same));
-      bytes = bytes ∙ ap (λ names. chunk_of (λ v. slice_index_or names v []) first count) (sym (named_by_members l members same));
-    })
+    subst (λ m. IsThere (graph_described (described m)) first count × AreChunkNames (graph_described (described m)) first count begins text) (sym is) (
+      omega (arith, vertices_are_members l members same, within),
+      record {
+        starts = starts ∙ ap (λ names. chunk_starts (λ v. slice_index_or names v []) first count) (sym (named_by_members l members same));
+        bytes = bytes ∙ ap (λ names. chunk_of (λ v. slice_index_or names v []) first count) (sym (named_by_members l members same));
+      },
+    )
 
 -- a chunk of members that is not there is none of the graph
 pub chunk_refused : (now l : Local) (members : List (List ℕ)) (first count : ℕ) (why : Fault) → now ≡ l → members ≡ vectors_of l

@@ -29,12 +29,7 @@ pub struct ChunkRows {
 /// The lists of `count` vertices of a generator's graph, from vertex `first` on. The graph is not built.
 ///
 /// `NoVertex` where there are not so many vertices; `Panic(NoRoom)` when out of memory.
-pub fn chunk_rows(
-    alloc: Global,
-    local: &Local,
-    first: u32,
-    count: u32,
-) -> Result<ChunkRows, Fault>
+pub fn chunk_rows(alloc: Global, local: &Local, first: u32, count: u32) -> Result<ChunkRows, Fault>
     ensures rows { IfOk result (λ rows. IsThere (graph_described (described local.now)) first count
         × AreChunkRows (graph_described (described local.now)) first count rows.starts.items
         rows.tips.items rows.lengths.items) }
@@ -49,11 +44,25 @@ pub fn chunk_rows(
         }
         Local::Simplex(simplex) => {
             let mut listed = ListedSimplex { simplex };
-            rows_of(alloc, &mut listed, simplex.family(), first, count, &mut links)
+            rows_of(
+                alloc,
+                &mut listed,
+                simplex.family(),
+                first,
+                count,
+                &mut links,
+            )
         }
         Local::Subsets(subsets) => {
             let mut listed = ListedSubsets { subsets };
-            rows_of(alloc, &mut listed, subsets.family(), first, count, &mut links)
+            rows_of(
+                alloc,
+                &mut listed,
+                subsets.family(),
+                first,
+                count,
+                &mut links,
+            )
         }
     }
 }

@@ -47,7 +47,7 @@ fn the_lists_of_two_squares(rt: HostRuntime) -> Result<(), Fail> {
     let board = small_board()?;
     let rows = chunk_rows(rt.alloc(), &board, 3, 2)?;
     assert!(rt; rows.starts.as_slice() == [0, 2, 5].as_slice());
-    assert!(rt; rows.tips.as_slice() == [0, 4, 1, 3, 5].as_slice());
+    assert!(rt; rows.tips.as_slice() == [0, 4, 1, 5, 3].as_slice());
     assert!(rt; rows.lengths.as_slice() == [1, 1, 1, 1, 1].as_slice());
     Ok(())
 }
@@ -69,7 +69,9 @@ fn chunks_that_are_not_there(rt: HostRuntime) -> Result<(), Fail> {
     assert!(rt; none.tips.is_empty());
     assert!(rt; chunk_rows(rt.alloc(), &board, 5, 2).err() == Some(Fault::NoVertex));
     assert!(rt; chunk_names(rt.alloc(), &board, 7, 0).err() == Some(Fault::NoVertex));
-    assert!(rt; chunk_names(rt.alloc(), &board, 4294967295, 4294967295).err() == Some(Fault::NoVertex));
+    assert!(rt;
+        chunk_names(rt.alloc(), &board, 4294967295, 4294967295).err() == Some(Fault::NoVertex)
+    );
     Ok(())
 }
 
@@ -78,10 +80,12 @@ fn is_joined(alloc: Global, local: &Local, n: u32, first: u32) -> Result<bool, F
     let all = chunk_rows(alloc, local, 0, n)?;
     let front = chunk_rows(alloc, local, 0, first)?;
     let back = chunk_rows(alloc, local, first, n.saturating_sub(first))?;
-    Ok(all.tips.starts_with(front.tips.as_slice())
-        && all.tips.ends_with(back.tips.as_slice())
-        && all.starts.starts_with(front.starts.as_slice())
-        && all.tips.len() == front.tips.len().saturating_add(back.tips.len()))
+    Ok(
+        all.tips.starts_with(front.tips.as_slice())
+            && all.tips.ends_with(back.tips.as_slice())
+            && all.starts.starts_with(front.starts.as_slice())
+            && all.tips.len() == front.tips.len().saturating_add(back.tips.len()),
+    )
 }
 
 #[test]
@@ -98,7 +102,7 @@ fn the_lists_of_petersens_last_vertices(rt: HostRuntime) -> Result<(), Fail> {
     let graph = petersen(rt.alloc())?;
     let rows = chunk_rows(rt.alloc(), &graph, 8, 2)?;
     assert!(rt; rows.starts.as_slice() == [0, 3, 6].as_slice());
-    assert!(rt; rows.tips.as_slice() == [4, 2, 0, 3, 1, 0].as_slice());
+    assert!(rt; rows.tips.as_slice() == [4, 3, 0, 2, 1, 0].as_slice());
     Ok(())
 }
 
@@ -111,6 +115,6 @@ fn great_graphs(rt: HostRuntime) -> Result<(), Fail> {
     let names = chunk_names(rt.alloc(), &simplex, 968_066_000, 1)?;
     assert!(rt; names.bytes.as_slice() == b"44000.0.0".as_slice());
     let rows = chunk_rows(rt.alloc(), &simplex, 968_066_000, 1)?;
-    assert!(rt; rows.tips.as_slice() == [968_065_999, 968_065_998].as_slice());
+    assert!(rt; rows.tips.as_slice() == [968_065_998, 968_065_999].as_slice());
     Ok(())
 }
