@@ -28,7 +28,6 @@ use Rattle.sgb.specs.Runs.{IsGiven}
 use Rattle.sgb.specs.Values.{described, generator_value, made}
 use Rattle.sgb.specs.declared.locals.Local.{Local}
 use Rattle.sgb.specs.inner.Certain.{HasListingAtOnce, HasNamesAtOnce, IsRefusedGenerator}
-use Rattle.sgb.specs.inner.Values.{IsLocalOf}
 use Rattle.sgb.specs.inner.Writing.{IsEnded, IsEndedFrom}
 use Rattle.sgb.proofs.Endings.{change_of, no_line}
 use Rattle.sgb.proofs.FirstRefusals.{first_other, generator_other}

@@ -27,6 +27,8 @@ pub mod KeptNames
 pub mod KeptInput
 -- parts of a listing
 pub mod Listings
+-- lists of a generator's graph, by the arcs of its vectors
+pub mod LocalChains
 -- listings from a generator's vectors
 pub mod LocalListings
 -- names of vectors, entry by entry
@@ -45,7 +47,7 @@ pub mod Refusals
 pub mod ResumedListings
 -- what answers depend on of standard input
 pub mod StdinValues
--- how many entries tips have
+-- the vectors where arcs lead
 pub mod TipWidths
 -- values of expressions
 pub mod Values

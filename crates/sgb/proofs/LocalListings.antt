@@ -26,8 +26,7 @@ use Rattle.sgb_gen.proofs.RisingVectors.{vertex_in_rising}
 use Rattle.sgb_gen.proofs.SimplexLists.{ends_in_simplex}
 use Rattle.sgb_gen.proofs.SubsetsLists.{moves_have_ends}
 use Rattle.sgb_ops.specs.Operands.{names_of}
-use Rattle.sgb.specs.Locals.{vectors_of}
-use Rattle.sgb.specs.inner.Locals.{links_of}
+use Rattle.sgb.specs.Locals.{links_of, vectors_of}
 use Rattle.sgb.specs.inner.Locals.{local_block, local_line}
 use Rattle.sgb.specs.inner.Remaining.{IsRest}
 use Rattle.sgb.specs.Texts.{arc_line, block, blocks, head, head_text, name_line}
@@ -102,13 +101,13 @@ pub rest_of_rest : (members rest after : List (List ℕ)) → IsRest members res
 rest_of_rest members rest after (k, from) one = (k + 1, one ∙ ap (drop 1) from ∙ drop-drop 1 k members)
 
 -- a vector that is there has its vertex among theirs
-vertex_within : (vectors : List (List ℕ)) (a : List ℕ) → IsRising vectors → Contains vectors a → vertex_among vectors a < length vectors
+pub vertex_within : (vectors : List (List ℕ)) (a : List ℕ) → IsRising vectors → Contains vectors a → vertex_among vectors a < length vectors
 vertex_within vectors a rise (k, within, there) =
     let here : slice_get vectors k ≡ Some a = slice_get_read vectors (length vectors) k a refl within (sym there) in
     subst (λ i. i < length vectors) (sym (vertex_in_rising vectors k a rise here)) within
 
 -- moves between vectors are events between their vertices
-events_within : (vectors : List (List ℕ)) (moves : List Move) → IsRising vectors → All (HasEnds vectors) moves → All (IsWithin (length vectors)) (map (event_among vectors) moves)
+pub events_within : (vectors : List (List ℕ)) (moves : List Move) → IsRising vectors → All (HasEnds vectors) moves → All (IsWithin (length vectors)) (map (event_among vectors) moves)
 events_within vectors moves rise ends =
     All-map (IsWithin (length vectors)) (event_among vectors) moves
     (λ k d within. let e = ends k d within in (vertex_within vectors (get_or moves k d).from rise e.0, vertex_within vectors (get_or moves k d).to rise e.1))
@@ -118,7 +117,7 @@ named_vectors : (vectors : List (List ℕ)) → length (map fields_of_vector vec
 named_vectors vectors = length-map vectors fields_of_vector ∙ sym (length-map vectors name_of_vector)
 
 -- the lists of the graph of moves between vectors
-lists_of_family : (id : List ℕ) (directed : Bool) (vectors : List (List ℕ)) (moves : List Move) → IsRising vectors → All (HasEnds vectors) moves
+pub lists_of_family : (id : List ℕ) (directed : Bool) (vectors : List (List ℕ)) (moves : List Move) → IsRising vectors → All (HasEnds vectors) moves
     → (v : ℕ) → v < length vectors → chain_of (graph_described (family_graph id directed vectors moves)) v ≡ list_of directed (map (event_among vectors) moves) v
 unfolding family_graph
 lists_of_family id directed vectors moves rise ends v within =
@@ -142,7 +141,7 @@ lines-first arcs i arc there =
     ap (flat_map local_line) (drop-cons arcs i arc (slice_get_within arcs i arc there) ∙ ap₂ (λ first k. first ∷ drop k arcs) (get_or_from_slice_get arcs i arc arc there) (sym (add-one i)))
 
 -- the vertices have the names of the vectors
-named_by_vectors : (l : Local) → names_of (graph_described (described l)) ≡ map name_of_vector (vectors_of l)
+pub named_by_vectors : (l : Local) → names_of (graph_described (described l)) ≡ map name_of_vector (vectors_of l)
 unfolding family_graph
 named_by_vectors (local.Board b) = described_names (board_graph b) (named_vectors (board_vectors b))
 named_by_vectors (local.Simplex s) = described_names (simplex_graph s) (named_vectors (simplex_vectors s))

@@ -1,4 +1,4 @@
--- The vectors where arcs lead have as many entries as that where they start.
+-- The vectors where arcs lead are vectors of the graph, and have as many entries as that where they start.
 use Rattle.std.proofs.Common.{◌≡◌, ◌∙◌, ℕ, Bool, true, false, List, [], ◌∷◌, length, Some, sym, subst}
 use Rattle.std.specs.List.{All, Contains, slice_get}
 use Rattle.std.proofs.lemmas.List.Elements.{All-append, All-cons, All-head, All-nil, All-tail}
@@ -18,8 +18,7 @@ use Rattle.sgb_gen.proofs.ListsOfBoards.{ends_on_board}
 use Rattle.sgb_gen.proofs.MoveLists.{HasEnds, list_at-moves}
 use Rattle.sgb_gen.proofs.SimplexLists.{ends_in_simplex}
 use Rattle.sgb_gen.proofs.SubsetsLists.{moves_have_ends}
-use Rattle.sgb.specs.Locals.{vectors_of}
-use Rattle.sgb.specs.inner.Locals.{links_of}
+use Rattle.sgb.specs.Locals.{links_of, vectors_of}
 use Rattle.sgb.specs.declared.locals.Local.{Local}
 use Rattle.sgb.specs.declared.locals.Local.TheVariants as local
 
@@ -57,14 +56,18 @@ leads-at vectors directed x moves k arc rise ends member there =
 width_of_box : (sizes x y : List ℕ) → Contains (box sizes) x → Contains (box sizes) y → length y ≡ length x
 width_of_box sizes x y hx hy = IsBelow-length sizes y (IsBelow-from_Contains sizes y hy) ∙ sym (IsBelow-length sizes x (IsBelow-from_Contains sizes x hx))
 
--- the vector where an arc leads is as wide as that where it starts
-pub tip_width : (l : Local) (x : List ℕ) (k : ℕ) (arc : LocalArc) → Contains (vectors_of l) x → slice_get (links_of l x) k ≡ Some arc → length arc.tip ≡ length x
+-- an arc of a generator's graph leads to one of its vectors
+pub tip_member : (l : Local) (x : List ℕ) (k : ℕ) (arc : LocalArc) → Contains (vectors_of l) x → slice_get (links_of l x) k ≡ Some arc → Contains (vectors_of l) arc.tip
 unfolding moves_of_simplex
-tip_width (local.Board b) x k arc member there =
-    width_of_box b.sizes x arc.tip member (leads-at (board_vectors b) b.directed x (moves_of_board b) k arc (box_vectors_rise b.sizes) (ends_on_board b) member there)
-tip_width (local.Simplex s) x k arc member there =
-    let tip = leads-at (simplex_vectors s) s.directed x (moves_of_simplex s) k arc (sum_vectors_rise s.sum) (ends_in_simplex s) member there in
-    length-sum_member s.sum arc.tip tip ∙ sym (length-sum_member s.sum x member)
-tip_width (local.Subsets s) x k arc member there =
-    let tip = leads-at (subsets_vectors s) s.directed x (moves_of_subsets s) k arc (sum_vectors_rise s.sum) (moves_have_ends s) member there in
-    length-sum_member s.sum arc.tip tip ∙ sym (length-sum_member s.sum x member)
+tip_member (local.Board b) x k arc member there = leads-at (board_vectors b) b.directed x (moves_of_board b) k arc (box_vectors_rise b.sizes) (ends_on_board b) member there
+tip_member (local.Simplex s) x k arc member there = leads-at (simplex_vectors s) s.directed x (moves_of_simplex s) k arc (sum_vectors_rise s.sum) (ends_in_simplex s) member there
+tip_member (local.Subsets s) x k arc member there = leads-at (subsets_vectors s) s.directed x (moves_of_subsets s) k arc (sum_vectors_rise s.sum) (moves_have_ends s) member there
+
+-- the vector where an arc leads is as wide as that where it starts
+width_alike : (l : Local) (x y : List ℕ) → Contains (vectors_of l) x → Contains (vectors_of l) y → length y ≡ length x
+width_alike (local.Board b) x y hx hy = width_of_box b.sizes x y hx hy
+width_alike (local.Simplex s) x y hx hy = length-sum_member s.sum y hy ∙ sym (length-sum_member s.sum x hx)
+width_alike (local.Subsets s) x y hx hy = length-sum_member s.sum y hy ∙ sym (length-sum_member s.sum x hx)
+
+pub tip_width : (l : Local) (x : List ℕ) (k : ℕ) (arc : LocalArc) → Contains (vectors_of l) x → slice_get (links_of l x) k ≡ Some arc → length arc.tip ≡ length x
+tip_width l x k arc member there = width_alike l x arc.tip member (tip_member l x k arc member there)

@@ -15,7 +15,5 @@ pub mod Pages
 pub mod Remaining
 -- the entries of a name, and how long lines are
 pub mod Texts
--- parameters of a graph, a refusal, or out of memory
-pub mod Values
 -- how an answer ends
 pub mod Writing

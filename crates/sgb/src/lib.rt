@@ -8,7 +8,7 @@ mod evaluation;
 mod input;
 // What holds of all answers.
 mod laws;
-// What a listing asks of a generator's graph.
+// What a listing asks of a generator's graph, with no graph.
 mod listed;
 // Accepted parameters of a generator.
 mod locals;
@@ -22,7 +22,8 @@ mod writing;
 pub use evaluation::graph_of;
 pub use input::read_input;
 pub use laws::input_unread_law;
-pub use locals::Local;
+pub use listed::{Listed, ListedBoard, ListedSimplex, ListedSubsets};
+pub use locals::{Local, local_of};
 pub use program::run_program;
 pub use runs::run;
 pub use sgb_expr::Expr;

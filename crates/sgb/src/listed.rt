@@ -1,12 +1,12 @@
-//! What a listing asks of a generator's graph beside its vectors: for each generator in a type of its own.
+//! What a listing asks of a generator's graph beside its vectors, with no graph: for each generator in a type of its own.
 ghost use Rattle.std.specs.Prelude.{◌≡◌, Contains, IfOk, OnOk, IsOkUnless};
 ghost use Rattle.sgb_gen.specs.Boards.{BoardData};
+ghost use Rattle.sgb_gen.specs.VectorGraphs.{vertex_among};
 ghost use Rattle.sgb_graph.specs.Made.{graph_described};
-ghost use Rattle.sgb.specs.Locals.{vectors_of};
+ghost use Rattle.sgb.specs.Locals.{links_of, vectors_of};
 ghost use Rattle.sgb.specs.Values.{described};
 ghost use Rattle.sgb.specs.declared.locals.Local.{Local};
 ghost use Rattle.sgb.specs.declared.locals.Local.TheVariants as local;
-ghost use Rattle.sgb.specs.inner.Locals.{links_of};
 
 use sgb_gen::{Board, BoardLists, Links, Simplex, Subsets};
 use sgb_graph::Id;
@@ -14,7 +14,7 @@ use sgb_vec::Panic;
 use std::marker::Model;
 
 /// A generator's graph that is listed, one arc list after another.
-pub(crate) trait Listed {
+pub trait Listed {
     // The accepted parameters.
     ghost parameters: { Self → Local };
 
@@ -38,11 +38,16 @@ pub(crate) trait Listed {
         ensures ok { OnOk result (links.new.arcs ≡ links_of (parameters self.old) x.now) }
         ensures memory { IsOkUnless result Panic.NoRoom }
         ensures same { parameters self.new ≡ parameters self.old };
+
+    /// The vertex of a vector: its place among the vectors, counted from 0. No memory is taken.
+    fn place_of(&self, x: &[u32]) -> u32
+        requires { Contains (vectors_of (parameters self.now)) x.now }
+        ensures { result ≡ vertex_among (vectors_of (parameters self.now)) x.now };
 }
 
 /// A board: what its lists have in common is found once.
 #[derive(Drop)]
-pub(crate) struct ListedBoard<'a> {
+pub struct ListedBoard<'a> {
     board: &'a Board,
     lists: BoardLists<'a>,
 }
@@ -58,7 +63,7 @@ impl<'a> Model for ListedBoard<'a> {
 impl<'a> ListedBoard<'a> {
     /// The board, to be listed. What its lists have in common is kept in memory from where that of the links comes, if
     /// there is any.
-    pub(crate) fn new(board: &'a Board, links: &Links) -> ListedBoard<'a>
+    pub fn new(board: &'a Board, links: &Links) -> ListedBoard<'a>
         ensures { result ≡ board.now }
     {
         ListedBoard {
@@ -82,11 +87,16 @@ impl<'a> Listed for ListedBoard<'a> {
     fn arcs_at(&mut self, x: &[u32], links: &mut Links) -> Result<(), Panic> {
         self.lists.arcs_at(x, links)
     }
+
+    fn place_of(&self, x: &[u32]) -> u32 {
+        self.board.family().place_of(x)
+    }
 }
 
 /// A simplex.
 #[derive(Drop)]
-pub(crate) struct ListedSimplex<'a> {
+pub struct ListedSimplex<'a> {
+    /// Its accepted parameters.
     pub simplex: &'a Simplex,
 }
 
@@ -104,11 +114,16 @@ impl<'a> Listed for ListedSimplex<'a> {
     fn arcs_at(&mut self, x: &[u32], links: &mut Links) -> Result<(), Panic> {
         self.simplex.arcs_at(x, links)
     }
+
+    fn place_of(&self, x: &[u32]) -> u32 {
+        self.simplex.family().place_of(x)
+    }
 }
 
 /// Subsets.
 #[derive(Drop)]
-pub(crate) struct ListedSubsets<'a> {
+pub struct ListedSubsets<'a> {
+    /// Their accepted parameters.
     pub subsets: &'a Subsets,
 }
 
@@ -125,5 +140,9 @@ impl<'a> Listed for ListedSubsets<'a> {
 
     fn arcs_at(&mut self, x: &[u32], links: &mut Links) -> Result<(), Panic> {
         self.subsets.arcs_at(x, links)
+    }
+
+    fn place_of(&self, x: &[u32]) -> u32 {
+        self.subsets.family().place_of(x)
     }
 }

@@ -2,8 +2,8 @@
 ghost use Rattle.std.specs.Prelude.{◌≡◌, ◌≢◌, Err, IfErr};
 ghost use Rattle.sgb_gen.specs.declared.params.BoardParams.{BoardParams};
 ghost use Rattle.sgb.specs.Certain.{IsGeneratorRefused};
+ghost use Rattle.sgb.specs.Locals.{IsLocalOf};
 ghost use Rattle.sgb.specs.Values.{generator_value};
-ghost use Rattle.sgb.specs.inner.Values.{IsLocalOf};
 
 use sgb_expr::Generator;
 use sgb_gen::{Board, Simplex, Subsets};
@@ -21,7 +21,7 @@ pub enum Local {
 /// The accepted parameters of a generator.
 ///
 /// The generator's refusal, or `NoRoom` when out of memory.
-pub(crate) fn local_of(alloc: Global, generator: &Generator) -> Result<Local, Panic>
+pub fn local_of(alloc: Global, generator: &Generator) -> Result<Local, Panic>
     ensures value { IsLocalOf (generator_value generator.now) result }
     ensures refused { (p : Panic) → IsGeneratorRefused generator.now p → result ≡ Err p }
     ensures board { (params : BoardParams) → generator.now ≡ Generator.Board params

@@ -7,3 +7,5 @@ pub mod LooseValues
 pub mod BoxTypes
 -- a call on the graph that a handle holds
 pub mod OnHandles
+-- the graph of a generator's call, and chunks of it
+pub mod CallGraphs

@@ -22,14 +22,14 @@ number_of_wrong wrong.Length = 101
 number_of_wrong wrong.Field = 102
 number_of_wrong wrong.Bound = 103
 
--- the number of why a text has no graph: a panic code; a text that is too large (100); a bad expression, 1000 and the length
--- of the longest prefix that begins one (109 is for what no text is refused with)
+-- the number of why there is no graph, or no chunk of one: a panic code; a text that is too large (100); a vertex that is not
+-- there (106); a bad expression, 1000 and the length of the longest prefix that begins one (109 is for what no call answers)
 abbrev pub number_of_fault : Fault → ℕ
 number_of_fault (fault.Panic p) = code_of p
 number_of_fault fault.TooLarge = 100
 number_of_fault (fault.Expr k) = 1000 + k
 number_of_fault fault.Usage = 109
-number_of_fault fault.NoVertex = 109
+number_of_fault fault.NoVertex = 106
 number_of_fault fault.Read = 109
 number_of_fault fault.Write = 109
 

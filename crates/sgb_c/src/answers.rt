@@ -27,7 +27,7 @@ fn number_of_wrong(wrong: Wrong) -> u64
     }
 }
 
-// The number of why a text has no graph.
+// The number of why there is no graph, or no chunk of one.
 pub(crate) fn number_of_fault(fault: &Fault) -> u64
     ensures { result ≡ number_of_fault fault.now }
 {
@@ -35,6 +35,7 @@ pub(crate) fn number_of_fault(fault: &Fault) -> u64
         Fault::Panic(panic) => u64::from(panic.code()),
         Fault::TooLarge => 100,
         Fault::Expr(k) => 1000 + u64::from(*k),
-        Fault::Usage | Fault::NoVertex | Fault::Read | Fault::Write => 109,
+        Fault::NoVertex => 106,
+        Fault::Usage | Fault::Read | Fault::Write => 109,
     }
 }

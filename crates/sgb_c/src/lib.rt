@@ -5,16 +5,21 @@
 
 ghost use Rattle.std.specs.Prelude.{◌≡◌, ◌⊎◌, ◌≤◌, ◌-◌, ◌^◌, length, map, min, None};
 ghost use Rattle.sgb_file.specs.Saving.{letter_of, text_of_graph};
+ghost use Rattle.sgb_graph.specs.Graphs.{chain_of};
 ghost use Rattle.sgb_graph.specs.Draws.{modulus, plain_draws, seed_of, uniform_draws};
 ghost use Rattle.sgb_arrays.specs.Fields.{HoldsInts, IsIntsRefusal, ints_of};
 ghost use Rattle.sgb_arrays.specs.Names.{AreNames, HaveNameLengths};
 ghost use Rattle.sgb_arrays.specs.Rows.{AreRows, HaveRowLengths};
 ghost use Rattle.sgb_c.specs.Answers.{AreSizes, IsFound, number_of_wrong};
+ghost use Rattle.sgb_chunks.specs.Chunks.{AreChunkNames, AreChunkRows, HaveChunkNameLengths, HaveChunkRowLengths, IsThere, chunk_of, name_at};
+ghost use Rattle.sgb_c.specs.Families.{IsAnswerOfCall, IsMisfit, not_there};
 ghost use Rattle.sgb_c.specs.Handles.{IsAnswerOn, IsOpened, graph_in};
 ghost use Rattle.sgb_arrays.specs.declared.refusals.Wrong.TheVariants as wrong;
 
 // The answers, as numbers.
 mod answers;
+// The graph of a generator's call, which is not built.
+mod families;
 // The handle of a graph.
 mod graphs;
 // A graph that C holds.
@@ -23,6 +28,10 @@ mod handles;
 mod texts;
 
 use answers::{number_of, number_of_fault};
+use families::{
+    arcs_of_call, copy_names, copy_rows, names_of_call, rows_of_call, sizes_of_chunk,
+    vertices_of_call,
+};
 use graphs::GraphHandle;
 use sgb_arrays::{
     arcs_len, file_len, fill_draws, fill_file, fill_id, fill_ints, fill_kinds, fill_names,
@@ -246,6 +255,111 @@ pub extern "C" fn sgb_file(alloc: Global, graph: &mut GraphHandle, bytes: &mut [
             number
         }
         None => NOT_OPEN,
+    }
+}
+
+/// How many vertices the graph of a generator's call has. The graph is not built.
+#[unsafe(no_mangle)]
+pub extern "C" fn sgb_family_vertices(alloc: Global, text: &[u8], vertices: &mut u64) -> u64
+    ensures { IsAnswerOfCall text.now (λ g. vertices.new ≡ length g.vertices) (λ g number. ⊥)
+        (vertices.new ≡ vertices.old) result }
+{
+    match vertices_of_call(alloc, text) {
+        Ok(n) => {
+            *vertices = n;
+            0
+        }
+        Err(number) => number,
+    }
+}
+
+/// How many arcs it has, where an edge counts as two: 2^64 - 1 also where there are more. The graph is not built.
+#[unsafe(no_mangle)]
+pub extern "C" fn sgb_family_arcs(alloc: Global, text: &[u8], arcs: &mut u64) -> u64
+    ensures { IsAnswerOfCall text.now (λ g. arcs.new ≡ min g.m (2 ^ 64 - 1)) (λ g number. ⊥)
+        (arcs.new ≡ arcs.old) result }
+{
+    match arcs_of_call(alloc, text) {
+        Ok(m) => {
+            *arcs = m;
+            0
+        }
+        Err(number) => number,
+    }
+}
+
+/// How many arcs are on the lists of a chunk of such a graph, which are its `count` vertices from `first` on, and how many
+/// bytes their names have.
+#[unsafe(no_mangle)]
+pub extern "C" fn sgb_chunk_sizes(
+    alloc: Global,
+    text: &[u8],
+    first: u32,
+    count: u32,
+    listed: &mut u64,
+    names: &mut u64,
+) -> u64
+    ensures { IsAnswerOfCall text.now
+        (λ g. IsThere g first count × (listed.new ≡ length (chunk_of (chain_of g) first count))
+        × (names.new ≡ length (chunk_of (name_at g) first count)))
+        (λ g number. (number ≡ not_there) × (IsThere g first count → ⊥))
+        ((listed.new ≡ listed.old) × (names.new ≡ names.old)) result }
+{
+    match sizes_of_chunk(alloc, text, first, count) {
+        Ok((arcs, bytes)) => {
+            *listed = arcs;
+            *names = bytes;
+            0
+        }
+        Err(number) => number,
+    }
+}
+
+/// The lists of a chunk, in compressed sparse rows.
+#[unsafe(no_mangle)]
+pub extern "C" fn sgb_chunk_rows(
+    alloc: Global,
+    text: &[u8],
+    first: u32,
+    count: u32,
+    starts: &mut [u64],
+    tips: &mut [u32],
+    lengths: &mut [i64],
+) -> u64
+    ensures { IsAnswerOfCall text.now
+        (λ g. IsThere g first count
+        × HaveChunkRowLengths g first count starts.old tips.old lengths.old
+        × AreChunkRows g first count starts.new tips.new lengths.new)
+        (λ g number. IsMisfit (HaveChunkRowLengths g first count starts.old tips.old lengths.old) g
+        first count number)
+        ((starts.new ≡ starts.old) × (tips.new ≡ tips.old) × (lengths.new ≡ lengths.old)) result }
+{
+    match rows_of_call(alloc, text, first, count) {
+        Ok(rows) => copy_rows(&rows, starts, tips, lengths),
+        Err(number) => number,
+    }
+}
+
+/// The names of a chunk's vertices.
+#[unsafe(no_mangle)]
+pub extern "C" fn sgb_chunk_names(
+    alloc: Global,
+    text: &[u8],
+    first: u32,
+    count: u32,
+    starts: &mut [u64],
+    bytes: &mut [u8],
+) -> u64
+    ensures { IsAnswerOfCall text.now
+        (λ g. IsThere g first count × HaveChunkNameLengths g first count starts.old bytes.old
+        × AreChunkNames g first count starts.new bytes.new)
+        (λ g number. IsMisfit (HaveChunkNameLengths g first count starts.old bytes.old) g first
+        count number)
+        ((starts.new ≡ starts.old) × (bytes.new ≡ bytes.old)) result }
+{
+    match names_of_call(alloc, text, first, count) {
+        Ok(names) => copy_names(&names, starts, bytes),
+        Err(number) => number,
     }
 }
 

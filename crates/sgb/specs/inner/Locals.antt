@@ -3,19 +3,10 @@ use Rattle.std.specs.Prelude.{ℕ, List, ◌++◌, codes}
 use Rattle.std.specs.Fmt.{signed_decimal}
 use Rattle.std.specs.List.{flat_map}
 use Rattle.sgb_vec.specs.Names.{name_of_vector}
-use Rattle.sgb_gen.specs.Boards.{board_vectors, moves_of_board}
-use Rattle.sgb_gen.specs.LocalLists.{LocalArc, list_at}
-use Rattle.sgb_gen.specs.Simplexes.{moves_of_simplex, simplex_vectors}
-use Rattle.sgb_gen.specs.Subsets.{moves_of_subsets, subsets_vectors}
+use Rattle.sgb_gen.specs.LocalLists.{LocalArc}
+use Rattle.sgb.specs.Locals.{links_of}
 use Rattle.sgb.specs.Texts.{name_line}
 use Rattle.sgb.specs.declared.locals.Local.{Local}
-use Rattle.sgb.specs.declared.locals.Local.TheVariants as local
-
--- the arcs of a vector, in the order of its list
-abbrev pub links_of : Local → List ℕ → List LocalArc
-links_of (local.Board b) x = list_at b.directed (board_vectors b) (moves_of_board b) x
-links_of (local.Simplex s) x = list_at s.directed (simplex_vectors s) (moves_of_simplex s) x
-links_of (local.Subsets s) x = list_at s.directed (subsets_vectors s) (moves_of_subsets s) x
 
 -- the line of an arc: the name of the vector where it leads, and its length
 unfoldable pub local_line : LocalArc → List ℕ

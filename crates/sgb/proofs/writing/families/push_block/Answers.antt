@@ -4,7 +4,8 @@ use Rattle.sgb_vec.specs.Names.{name_of_vector}
 use Rattle.sgb_gen.specs.LocalLists.{LocalArc}
 use Rattle.sgb.specs.Texts.{name_line}
 use Rattle.sgb.specs.declared.locals.Local.{Local}
-use Rattle.sgb.specs.inner.Locals.{links_of, local_block, local_line}
+use Rattle.sgb.specs.Locals.{links_of}
+use Rattle.sgb.specs.inner.Locals.{local_block, local_line}
 use Rattle.sgb.proofs.TipWidths.{tip_width}
 use Rattle.sgb.proofs.LocalListings.{lines-first, local_block-parts}
 use Rattle.sgb.proofs.Pages.{exit_paged, exit_unput, paged_cut, paged_more, paged_none}

@@ -1,0 +1,123 @@
+-- The lists of a generator's graph, by the arcs of its vectors.
+use Rattle.std.proofs.Common.{◌≡◌, ◌∙◌, ◌<◌, ℕ, suc, ℤ, Bool, true, false, min, max, List, [], ◌∷◌, length, map, get_or, Some, refl, sym, ap, ap₂, subst, arith}
+use Rattle.std.specs.List.{All, Contains, slice_get}
+use Rattle.std.proofs.lemmas.List.Elements.{All-cons, All-head, All-nil, All-tail}
+use Rattle.std.proofs.lemmas.Option.{get_or_from_slice_get, slice_get-get_or, slice_get_within}
+use Rattle.sgb_vec.specs.Boxes.{box}
+use Rattle.sgb_vec.specs.Lexicographic.{IsRising}
+use Rattle.sgb_vec.specs.inner.Rising.{box_vectors_rise, sum_vectors_rise}
+use Rattle.sgb_vec.proofs.BoxPlaces.{IsBelow-from_Contains}
+use Rattle.sgb_vec.proofs.Lists.{All-flat_map}
+use Rattle.sgb_graph.specs.Events.{Event, IsWithin, Record, all_records, list_of, records_of}
+use Rattle.sgb_graph.specs.Graphs.{GraphData, chain_of}
+use Rattle.sgb_graph.specs.Made.{graph_described}
+use Rattle.sgb_graph.specs.declared.fields.Link.{Link}
+use Rattle.sgb_graph.proofs.ListMembers.{only_on_list}
+use Rattle.sgb_gen.specs.Boards.{BoardData, board_graph, board_id, board_vectors, moves_of_board}
+use Rattle.sgb_gen.specs.LocalLists.{LocalArc, list_at, local_arc}
+use Rattle.sgb_gen.specs.Simplexes.{moves_of_simplex, simplex_graph, simplex_id, simplex_vectors}
+use Rattle.sgb_gen.specs.Subsets.{moves_of_subsets, subsets_graph, subsets_id, subsets_vectors}
+use Rattle.sgb_gen.specs.VectorGraphs.{Move, event_among, vertex_among}
+use Rattle.sgb_gen.proofs.ListsOfBoards.{ends_on_board}
+use Rattle.sgb_gen.proofs.MoveLists.{HasEnds}
+use Rattle.sgb_gen.proofs.RisingVectors.{vertex_in_rising}
+use Rattle.sgb_gen.proofs.SimplexLists.{ends_in_simplex}
+use Rattle.sgb_gen.proofs.SubsetsLists.{moves_have_ends}
+use Rattle.sgb.specs.Locals.{links_of, vectors_of}
+use Rattle.sgb.specs.Values.{described}
+use Rattle.sgb.specs.declared.locals.Local.{Local}
+use Rattle.sgb.specs.declared.locals.Local.TheVariants as local
+use Rattle.sgb.proofs.LocalListings.{events_within, lists_of_family}
+
+-- the vectors of a generator's graph rise, so that each stands once
+pub rising_vectors : (l : Local) → IsRising (vectors_of l)
+rising_vectors (local.Board b) = box_vectors_rise b.sizes
+rising_vectors (local.Simplex s) = sum_vectors_rise s.sum
+rising_vectors (local.Subsets s) = sum_vectors_rise s.sum
+
+-- the arcs of events between vertices lead to vertices
+tips_of_event : (n : ℕ) (directed : Bool) (e : Event) → IsWithin n e → All (λ r. r.tip < n) (records_of directed e)
+tips_of_event n true e within = All-cons (λ (r : Record). r.tip < n) (record { start = e.from; tip = e.to; len = e.len }) [] within.1 (All-nil (λ (r : Record). r.tip < n))
+tips_of_event n false e within =
+    let from = within.0 in
+    let to = within.1 in
+    let smaller : min e.from e.to < n = omega arith in
+    let greater : max e.from e.to < n = omega arith in
+    let lower : Record = record { start = min e.from e.to; tip = max e.from e.to; len = e.len } in
+    let higher : Record = record { start = max e.from e.to; tip = min e.from e.to; len = e.len } in
+    All-cons (λ (r : Record). r.tip < n) lower (higher ∷ []) greater (All-cons (λ (r : Record). r.tip < n) higher [] smaller (All-nil (λ (r : Record). r.tip < n)))
+
+tips_of_events : (n : ℕ) (directed : Bool) (events : List Event) → All (IsWithin n) events → All (λ r. r.tip < n) (all_records directed events)
+tips_of_events n directed events within =
+    All-flat_map (λ (r : Record). r.tip < n) (records_of directed) events (λ k e inside. tips_of_event n directed (get_or events k e) (within k e inside))
+
+tip_of_link : (n : ℕ) (directed : Bool) (events : List Event) (v : ℕ) (l : Link) → All (IsWithin n) events → Contains (list_of directed events v) l → l.tip < n
+tip_of_link n directed events v l within has =
+    let records = all_records directed events in
+    let own : Record = record { start = v; tip = l.tip; len = l.len } in
+    let is : slice_get records l.number ≡ Some own = only_on_list directed events v l has in
+    let all = tips_of_events n directed events within in
+    subst (λ (r : Record). r.tip < n) (get_or_from_slice_get records l.number own own is) (all l.number own (slice_get_within records l.number own is))
+
+-- the vertex of the vector where an arc leads is its tip
+numbers_of_tips : (vectors : List (List ℕ)) (links : List Link) → IsRising vectors → ((l : Link) → Contains links l → l.tip < length vectors)
+    → map (λ a. vertex_among vectors a.tip) (map (local_arc vectors) links) ≡ map (λ l. l.tip) links
+numbers_of_tips vectors [] rise below = refl
+numbers_of_tips vectors (l ∷ links) rise below =
+    let own : l.tip < length vectors = below l (0, omega arith, refl) in
+    let there : slice_get vectors l.tip ≡ Some (get_or vectors l.tip []) = slice_get-get_or vectors l.tip [] own in
+    ap₂ (λ (t : ℕ) ts. t ∷ ts) (vertex_in_rising vectors l.tip (get_or vectors l.tip []) rise there)
+    (numbers_of_tips vectors links rise (λ k has. below k (later k has)))
+  where
+    later : (k : Link) → Contains links k → Contains (l ∷ links) k
+    later k (i, within, at) = (suc i, omega arith, at)
+
+lengths_kept : (vectors : List (List ℕ)) (links : List Link) → map (λ (a : LocalArc). a.len) (map (local_arc vectors) links) ≡ map (λ (l : Link). l.len) links
+lengths_kept vectors [] = refl
+lengths_kept vectors (l ∷ links) = ap (λ ks. l.len ∷ ks) (lengths_kept vectors links)
+
+-- the arcs of a vector say where the arcs of its vertex lead, and how long they are
+pub record SayList (vectors : List (List ℕ)) (arcs : List LocalArc) (chain : List Link) : Type 0 where
+  pub tips : map (λ (a : LocalArc). vertex_among vectors a.tip) arcs ≡ map (λ (l : Link). l.tip) chain
+  pub lengths : map (λ (a : LocalArc). a.len) arcs ≡ map (λ (l : Link). l.len) chain
+
+module _ (id : List ℕ) (directed : Bool) (vectors : List (List ℕ)) (moves : List Move) (rise : IsRising vectors) (ends : All (HasEnds vectors) moves)
+    (g : GraphData) (lists : (v : ℕ) → v < length vectors → chain_of g v ≡ list_of directed (map (event_among vectors) moves) v) where
+  say_list : (v : ℕ) (x : List ℕ) → slice_get vectors v ≡ Some x → SayList vectors (list_at directed vectors moves x) (chain_of g v)
+  unfolding list_at
+  say_list v x there =
+      let events = map (event_among vectors) moves in
+      let within : v < length vectors = slice_get_within vectors v x there in
+      let chain : chain_of g v ≡ list_of directed events v = lists v within in
+      let own : list_at directed vectors moves x ≡ map (local_arc vectors) (list_of directed events v) =
+      ap (λ u. map (local_arc vectors) (list_of directed events u)) (vertex_in_rising vectors v x rise there) in
+      record {
+        tips =
+            ap (map (λ (a : LocalArc). vertex_among vectors a.tip)) own
+            ∙ numbers_of_tips vectors (list_of directed events v) rise (λ l has. tip_of_link (length vectors) directed events v l (events_within vectors moves rise ends) has)
+            ∙ ap (map (λ (l : Link). l.tip)) (sym chain);
+        lengths =
+            ap (map (λ (a : LocalArc). a.len)) own
+            ∙ lengths_kept vectors (list_of directed events v)
+            ∙ ap (map (λ (l : Link). l.len)) (sym chain);
+      }
+
+pub chain_said : (l : Local) (v : ℕ) (x : List ℕ) → slice_get (vectors_of l) v ≡ Some x → SayList (vectors_of l) (links_of l x) (chain_of (graph_described (described l)) v)
+unfolding moves_of_simplex
+chain_said (local.Board b) v x there =
+    let rise = box_vectors_rise b.sizes in
+    say_list (board_id b) b.directed (board_vectors b) (moves_of_board b) rise (ends_on_board b) (graph_described (board_graph b))
+    (lists_of_family (board_id b) b.directed (board_vectors b) (moves_of_board b) rise (ends_on_board b)) v x there
+chain_said (local.Simplex s) v x there =
+    let rise = sum_vectors_rise s.sum in
+    say_list (simplex_id s) s.directed (simplex_vectors s) (moves_of_simplex s) rise (ends_in_simplex s) (graph_described (simplex_graph s))
+    (lists_of_family (simplex_id s) s.directed (simplex_vectors s) (moves_of_simplex s) rise (ends_in_simplex s)) v x there
+chain_said (local.Subsets s) v x there =
+    let rise = sum_vectors_rise s.sum in
+    say_list (subsets_id s) s.directed (subsets_vectors s) (moves_of_subsets s) rise (moves_have_ends s) (graph_described (subsets_graph s))
+    (lists_of_family (subsets_id s) s.directed (subsets_vectors s) (moves_of_subsets s) rise (moves_have_ends s)) v x there
+
+-- the place of a member is its vertex
+pub place_is_vertex : (l : Local) (members : List (List ℕ)) (place : ℕ) (x : List ℕ) → members ≡ vectors_of l → slice_get members place ≡ Some x → place ≡ vertex_among (vectors_of l) x
+place_is_vertex l members place x same at =
+    sym (vertex_in_rising (vectors_of l) place x (rising_vectors l) (ap (λ ms. slice_get ms place) (sym same) ∙ at))

@@ -1,0 +1,97 @@
+-- Chunks, one vertex more, and one chunk after another.
+use Rattle.std.proofs.Common.{◌≡◌, ◌∙◌, ℕ, zero, suc, ◌+◌, List, [], ◌∷◌, ◌++◌, length, map, refl, sym, ap, ap₂, arith}
+use Rattle.std.specs.List.{flat_map, range_with_len, slice_index_or}
+use Rattle.std.proofs.lemmas.Grind.{flat_map-append}
+use Rattle.std.proofs.lemmas.List.{flat_map_more, length-append, map-append}
+use Rattle.std.proofs.lemmas.List.FromFn.{length-map-range_with_len}
+use Rattle.sgb_arrays.specs.Lists.{starts_from}
+use Rattle.sgb_arrays.proofs.ArcsLeft.{length-starts_from}
+use Rattle.sgb_chunks.specs.Chunks.{chunk_of, chunk_starts}
+
+-- one number more
+range-more : (a n : ℕ) → range_with_len a (n + 1) ≡ range_with_len a n ++ (a + n) ∷ []
+range-more a zero = let here : a ≡ a + 0 = omega arith in ap (λ k. k ∷ []) here
+range-more a (suc n) =
+    let more : suc n + 1 ≡ suc (n + 1) = omega arith in
+    let last : a + 1 + n ≡ a + suc n = omega arith in
+    ap (range_with_len a) more ∙ ap (λ ks. a ∷ ks) (range-more (a + 1) n ∙ ap (λ k. range_with_len (a + 1) n ++ k ∷ []) last)
+
+-- some numbers, and those after them
+range-joined : (first a b : ℕ) → range_with_len first (a + b) ≡ range_with_len first a ++ range_with_len (first + a) b
+range-joined first zero b =
+    let none : 0 + b ≡ b = omega arith in
+    let here : first ≡ first + 0 = omega arith in
+    ap (range_with_len first) none ∙ ap (λ k. range_with_len k b) here
+range-joined first (suc a) b =
+    let more : suc a + b ≡ suc (a + b) = omega arith in
+    let after : first + 1 + a ≡ first + suc a = omega arith in
+    ap (range_with_len first) more
+    ∙ ap (λ ks. first ∷ ks) (range-joined (first + 1) a b ∙ ap (λ k. range_with_len (first + 1) a ++ range_with_len k b) after)
+
+-- a chunk, one vertex more
+pub chunk_more : {X : Type 0} (parts : ℕ → List X) (first count : ℕ) → chunk_of parts first (count + 1) ≡ chunk_of parts first count ++ parts (first + count)
+unfolding chunk_of
+chunk_more parts first count =
+    ap (flat_map parts) (range-more first count) ∙ sym (flat_map_more parts [] (range_with_len first count) (first + count))
+
+-- two chunks one after the other
+pub chunk_joined : {X : Type 0} (parts : ℕ → List X) (first a b : ℕ) → chunk_of parts first (a + b) ≡ chunk_of parts first a ++ chunk_of parts (first + a) b
+unfolding chunk_of
+chunk_joined parts first a b =
+    ap (flat_map parts) (range-joined first a b) ∙ flat_map-append parts (range_with_len first a) (range_with_len (first + a) b)
+
+-- no vertices
+pub chunk_none : {X : Type 0} (parts : ℕ → List X) (first : ℕ) → chunk_of parts first 0 ≡ []
+unfolding chunk_of
+chunk_none parts first = refl
+
+pub starts_none : {X : Type 0} (parts : ℕ → List X) (first : ℕ) → chunk_starts parts first 0 ≡ 0 ∷ []
+unfolding chunk_starts
+starts_none parts first = refl
+
+-- starts of parts, one part more: behind them stands where that one ends
+starts_after : {X : Type 0} (parts : ℕ → List X) (at : ℕ) (vs : List ℕ) (v : ℕ)
+    → starts_from at (map (λ u. length (parts u)) (vs ++ v ∷ [])) ≡ starts_from at (map (λ u. length (parts u)) vs) ++ (at + length (flat_map parts (vs ++ v ∷ []))) ∷ []
+starts_after parts at [] v =
+    let last : at + length (parts v) ≡ at + length (parts v ++ []) = omega (arith, length-append (parts v) []) in
+    ap (λ k. at ∷ k ∷ []) last
+starts_after parts at (u ∷ us) v =
+    let rest = flat_map parts (us ++ v ∷ []) in
+    let size = length (parts u) in
+    let last : at + size + length rest ≡ at + length (parts u ++ rest) = omega (arith, length-append (parts u) rest) in
+    ap (λ ks. at ∷ ks) (starts_after parts (at + size) us v ∙ ap (λ k. starts_from (at + size) (map (λ w. length (parts w)) us) ++ k ∷ []) last)
+
+pub starts_more : {X : Type 0} (parts : ℕ → List X) (first count : ℕ)
+    → chunk_starts parts first (count + 1) ≡ chunk_starts parts first count ++ length (chunk_of parts first (count + 1)) ∷ []
+unfolding chunk_starts chunk_of
+starts_more parts first count =
+    let vs = range_with_len first count in
+    ap (λ us. starts_from 0 (map (λ u. length (parts u)) us)) (range-more first count)
+    ∙ starts_after parts 0 vs (first + count)
+    ∙ ap (λ us. starts_from 0 (map (λ u. length (parts u)) vs) ++ (0 + length (flat_map parts us)) ∷ []) (sym (range-more first count))
+    ∙ ap (λ k. starts_from 0 (map (λ u. length (parts u)) vs) ++ k ∷ []) (zero-plus (length (flat_map parts (range_with_len first (count + 1)))))
+  where
+    zero-plus : (k : ℕ) → 0 + k ≡ k
+    zero-plus k = omega arith
+
+-- the same of what was put so far
+pub values_more : {X Y : Type 0} (f : X → Y) (parts : ℕ → List X) (first count : ℕ) (now own after : List Y) → now ≡ map f (chunk_of parts first count)
+    → own ≡ map f (parts (first + count)) → after ≡ now ++ own → after ≡ map f (chunk_of parts first (count + 1))
+values_more f parts first count now own after so_far is put =
+    put ∙ ap₂ (λ xs ys. xs ++ ys) so_far is ∙ sym (map-append f (chunk_of parts first count) (parts (first + count))) ∙ ap (map f) (sym (chunk_more parts first count))
+
+pub bytes_more : {X : Type 0} (parts : ℕ → List X) (first count : ℕ) (now own after : List X) → now ≡ chunk_of parts first count
+    → own ≡ parts (first + count) → after ≡ now ++ own → after ≡ chunk_of parts first (count + 1)
+bytes_more parts first count now own after so_far is put =
+    put ∙ ap₂ (λ xs ys. xs ++ ys) so_far is ∙ sym (chunk_more parts first count)
+
+pub start_more : {X : Type 0} (parts : ℕ → List X) (first count : ℕ) (now after : List ℕ) (size : ℕ) → now ≡ chunk_starts parts first count
+    → size ≡ length (chunk_of parts first (count + 1)) → after ≡ now ++ size ∷ [] → after ≡ chunk_starts parts first (count + 1)
+start_more parts first count now after size so_far is put =
+    put ∙ ap₂ (λ xs k. xs ++ k ∷ []) so_far is ∙ sym (starts_more parts first count)
+
+-- there is a start more than vertices
+pub length-chunk_starts : {X : Type 0} (parts : ℕ → List X) (first count : ℕ) → length (chunk_starts parts first count) ≡ count + 1
+unfolding chunk_starts
+length-chunk_starts parts first count =
+    omega (arith, length-starts_from 0 (map (λ v. length (parts v)) (range_with_len first count)), length-map-range_with_len (λ v. length (parts v)) first count)

@@ -1,0 +1,142 @@
+-- Chunks of a generator's graph.
+use Rattle.std.proofs.Common.{◌≡◌, ◌⊎◌, ◌∙◌, ℕ, suc, ◌+◌, ◌-◌, ◌<◌, ◌≤◌, Bool, true, false, List, [], ◌∷◌, ◌++◌, append_assoc, length, map, drop, drop-cons, add-one, None, Some, refl, sym, ap, ap₂, subst, inl, inr, arith}
+use Rattle.std.specs.Prelude.{Option, IfNone, IfSome, IsSome, Result, Ok, Err, IfOk, IfErr}
+use Rattle.std.specs.Bool.{OnTrue, OnFalse}
+use Rattle.std.specs.List.{Contains, slice_get, slice_index_or}
+use Rattle.std.proofs.lemmas.List.{append-nil, drop-drop, get_or-map, length-drop, length-map}
+use Rattle.std.proofs.lemmas.Option.{get_or_from_slice_get, slice_get_within}
+use Rattle.sgb_vec.specs.Lexicographic.{IsRising}
+use Rattle.sgb_vec.specs.Ranges.{ComeAfter}
+use Rattle.sgb_vec.specs.Names.{name_of_vector}
+use Rattle.sgb_gen.specs.VectorGraphs.{vertex_among}
+use Rattle.sgb_gen.proofs.RisingVectors.{vertex_in_rising}
+use Rattle.sgb_gen.specs.LocalLists.{LocalArc}
+use Rattle.sgb_graph.specs.Graphs.{chain_of}
+use Rattle.sgb_graph.specs.Made.{graph_described}
+use Rattle.sgb_ops.specs.Operands.{names_of}
+use Rattle.sgb.specs.Locals.{links_of, vectors_of}
+use Rattle.sgb.specs.Values.{described}
+use Rattle.sgb.specs.declared.locals.Local.{Local}
+use Rattle.sgb.proofs.LocalListings.{first_in_drop, named_by_members}
+use Rattle.sgb.proofs.LocalChains.{SayList, chain_said}
+use Rattle.sgb.proofs.NamedMembers.{rest_from}
+use Rattle.sgb.proofs.TipWidths.{tip_member}
+use Rattle.sgb_chunks.specs.Chunks.{AreChunkNames, IsChunkRefusal, IsThere, chunk_of, chunk_starts}
+use Rattle.sgb_chunks.specs.inner.VectorNames.{name_there}
+use Rattle.sgb_chunks.specs.declared.names.ChunkNames.{ChunkNames}
+use Rattle.sgb_requests.specs.declared.faults.Fault.{Fault}
+use Rattle.sgb_requests.specs.declared.faults.Fault.TheVariants as fault
+use Rattle.sgb_vec.specs.declared.panics.Panic.TheVariants.{NoRoom}
+
+-- the graph has a vertex for each member
+pub vertices_are_members : (l : Local) (members : List (List ℕ)) → members ≡ vectors_of l → length (graph_described (described l)).vertices ≡ length members
+vertices_are_members l members same =
+    sym (length-map (graph_described (described l)).vertices (λ x. x.name)) ∙ ap length (named_by_members l members same) ∙ length-map members name_of_vector
+
+-- the first of the members from a place on stands there
+pub first_from : (members vectors left : List (List ℕ)) (place : ℕ) (x : List ℕ) → members ≡ vectors → left ≡ drop place members → slice_get left 0 ≡ Some x
+    → slice_get vectors place ≡ Some x
+first_from members vectors left place x same from first =
+    ap (λ ms. slice_get ms place) (sym same) ∙ sym (first_in_drop place members) ∙ ap (λ ms. slice_get ms 0) (sym from) ∙ first
+
+-- its size is theirs
+pub size_of_local : (now l : Local) (members : List (List ℕ)) (size : ℕ) → now ≡ l → members ≡ vectors_of l → size ≡ length members → size ≡ length (graph_described (described now)).vertices
+size_of_local now l members size is same all =
+    all ∙ sym (vertices_are_members l members same) ∙ ap (λ m. length (graph_described (described m)).vertices) (sym is)
+
+-- the members after the one before a place are those from there on
+pub rest_from_place : (members : List (List ℕ)) → IsRising members → (place : ℕ) (x y : List ℕ) (found : Bool) (r : Option (List (List ℕ))) (rest : List (List ℕ))
+    → 0 < place → place ≤ length members → y ≡ x → OnTrue found (slice_get members (place - 1) ≡ Some x) → OnFalse found (length members ≤ place - 1)
+    → r ≡ Some rest → IfSome r (λ after. ComeAfter members y after) → rest ≡ drop place members
+rest_from_place members rise place x y true r rest some within same at none is after =
+    let before : vertex_among members y ≡ place - 1 = ap (vertex_among members) same ∙ vertex_in_rising members (place - 1) x rise at in
+    let next : suc (vertex_among members y) ≡ place = omega (arith, before, some) in
+    rest_from members rise y r rest is after ∙ ap (λ k. drop k members) next
+rest_from_place members rise place x y false r rest some within same at none is after = absurd (omega (arith, some, within, none))
+
+-- a value more is put, of those from a place on
+pub one_put : {X Y : Type 0} (f : X → Y) (xs : List X) (i : ℕ) (x : X) (now after all : List Y) → slice_get xs i ≡ Some x → now ++ map f (drop i xs) ≡ all → after ≡ now ++ f x ∷ []
+    → after ++ map f (drop (i + 1) xs) ≡ all
+one_put f xs i x now after all there whole put =
+    let first : drop i xs ≡ x ∷ drop (i + 1) xs =
+    drop-cons xs i x (slice_get_within xs i x there) ∙ ap₂ (λ y k. y ∷ drop k xs) (get_or_from_slice_get xs i x x there) (sym (add-one i)) in
+    ap (λ ys. ys ++ map f (drop (i + 1) xs)) put ∙ append_assoc now (f x ∷ []) (map f (drop (i + 1) xs)) ∙ ap (λ ys. now ++ map f ys) (sym first) ∙ whole
+
+-- and that is all, where none are left
+pub all_put : {X Y : Type 0} (f : X → Y) (xs : List X) (i : ℕ) (now all : List Y) → length xs ≤ i → now ++ map f (drop i xs) ≡ all → now ≡ all
+all_put f xs i now all past whole = by_rest (drop i xs) (omega (arith, length-drop i xs, past)) whole
+  where
+    by_rest : (rest : List _) → length rest ≡ 0 → now ++ map f rest ≡ all → now ≡ all
+    by_rest [] none is = sym (append-nil now) ∙ is
+    by_rest (x ∷ rest) none is = absurd (omega (arith, none))
+
+-- what is left of the members is not empty before their end
+pub some_front : {X : Type 0} (r : Option X) (left members : List (List ℕ)) (place : ℕ) → left ≡ drop place members → place < length members → IfNone r (left ≡ []) → IsSome r
+some_front None left members place from within none = absurd (omega (arith, within, ap length none, ap length from, length-drop place members))
+some_front (Some x) left members place from within none = search
+
+-- what is said of the value that there is
+pub said_of : {X : Type 0} (P : X → Type 0) (r : Option X) (x : X) → r ≡ Some x → IfSome r P → P x
+said_of P r x is all = subst (λ o. IfSome o P) is all
+
+-- without the first, the members from the next place on are left
+pub left_after : (members left after : List (List ℕ)) (first k : ℕ) → left ≡ drop (first + k) members → after ≡ drop 1 left → after ≡ drop (first + (k + 1)) members
+left_after members left after first k from one =
+    let next : first + k + 1 ≡ first + (k + 1) = omega arith in
+    one ∙ ap (drop 1) from ∙ drop-drop 1 (first + k) members ∙ ap (λ i. drop i members) next
+
+-- what stands at a place is among the vectors, of the same parameters
+pub contained : (l m : Local) (place : ℕ) (x : List ℕ) → m ≡ l → slice_get (vectors_of l) place ≡ Some x → Contains (vectors_of m) x
+contained l m place x same there =
+    subst (λ q. Contains (vectors_of q) x) (sym same) (place, slice_get_within (vectors_of l) place x there, get_or_from_slice_get (vectors_of l) place x x there)
+
+-- the arcs of a vector lead to vectors
+pub tips_contained : (m n : Local) (x : List ℕ) (arcs : List LocalArc) → n ≡ m → arcs ≡ links_of m x → Contains (vectors_of m) x
+    → (k : ℕ) (arc : LocalArc) → slice_get arcs k ≡ Some arc → Contains (vectors_of n) arc.tip
+tips_contained m n x arcs same is member k arc there =
+    subst (λ q. Contains (vectors_of q) arc.tip) (sym same) (tip_member m x k arc member (ap (λ links. slice_get links k) (sym is) ∙ there))
+
+-- and say the list of its vertex
+pub row_said : (l n : Local) (place : ℕ) (x : List ℕ) (arcs : List LocalArc) → n ≡ l → arcs ≡ links_of l x → slice_get (vectors_of l) place ≡ Some x
+    → SayList (vectors_of n) arcs (chain_of (graph_described (described l)) place)
+row_said l n place x arcs same is there =
+    let chain = chain_of (graph_described (described l)) place in
+    subst (λ q. SayList (vectors_of q) arcs chain) (sym same) (subst (λ links. SayList (vectors_of l) links chain) (sym is) (chain_said l place x there))
+
+-- the name of the vector at a place
+pub name_is_there : (members : List (List ℕ)) (place : ℕ) (x : List ℕ) → slice_get members place ≡ Some x → name_of_vector x ≡ name_there members place
+name_is_there members place x there =
+    sym (get_or-map name_of_vector members place x [] (slice_get_within members place x there) ∙ ap name_of_vector (get_or_from_slice_get members place x x there))
+
+-- the names of members are those of the vertices
+pub names_of_chunk : (now l : Local) (members : List (List ℕ)) (first count : ℕ) (begins text : List ℕ) → now ≡ l → members ≡ vectors_of l
+    → (first + count ≤ length members) × (begins ≡ chunk_starts (name_there members) first count) × (text ≡ chunk_of (name_there members) first count)
+    → IsThere (graph_described (described now)) first count × AreChunkNames (graph_described (described now)) first count begins text
+names_of_chunk now l members first count begins text is same (within, starts, bytes) =
+    subst (λ m. IsThere (graph_described (described m)) first count × AreChunkNames (graph_described (described m)) first count begins text) (sym is) (
+      omega (arith, vertices_are_members l members same, within),
+      record {
+        starts = starts ∙ ap (λ names. chunk_starts (λ v. slice_index_or names v []) first count) (sym (named_by_members l members same));
+        bytes = bytes ∙ ap (λ names. chunk_of (λ v. slice_index_or names v []) first count) (sym (named_by_members l members same));
+      },
+    )
+
+-- a chunk of members that is not there is none of the graph
+pub chunk_refused : (now l : Local) (members : List (List ℕ)) (first count : ℕ) (why : Fault) → now ≡ l → members ≡ vectors_of l
+    → ((why ≡ fault.NoVertex) × (first + count ≤ length members → ⊥)) ⊎ (why ≡ fault.Panic NoRoom) → IsChunkRefusal (graph_described (described now)) first count why
+chunk_refused now l members first count why is same (inl (e, out)) =
+    inl (e, λ there. out (omega (arith, vertices_are_members l members same, ap (λ m. length (graph_described (described m)).vertices) is, there)))
+chunk_refused now l members first count why is same (inr none) = inr none
+
+-- so the names of a chunk of members answer for the graph
+pub names_answered : (now l : Local) (members : List (List ℕ)) (first count : ℕ) (r : Result ChunkNames Fault) → now ≡ l → members ≡ vectors_of l
+    → IfOk r (λ names. (first + count ≤ length members) × (names.starts.items ≡ chunk_starts (name_there members) first count) × (names.bytes.items ≡ chunk_of (name_there members) first count))
+    → IfOk r (λ names. IsThere (graph_described (described now)) first count × AreChunkNames (graph_described (described now)) first count names.starts.items names.bytes.items)
+names_answered now l members first count (Ok names) is same said = names_of_chunk now l members first count names.starts.items names.bytes.items is same said
+names_answered now l members first count (Err why) is same said = said
+
+pub refusal_answered : {T : Type 0} (now l : Local) (members : List (List ℕ)) (first count : ℕ) (r : Result T Fault) → now ≡ l → members ≡ vectors_of l
+    → IfErr r (λ why. ((why ≡ fault.NoVertex) × (first + count ≤ length members → ⊥)) ⊎ (why ≡ fault.Panic NoRoom))
+    → IfErr r (IsChunkRefusal (graph_described (described now)) first count)
+refusal_answered now l members first count (Ok x) is same said = said
+refusal_answered now l members first count (Err why) is same said = chunk_refused now l members first count why is same said

@@ -1,0 +1,35 @@
+//! How large a generator's graph is.
+ghost use Rattle.std.specs.Prelude.{◌≡◌, length, IfOk, IsOkUnless};
+ghost use Rattle.sgb_graph.specs.Made.{graph_described};
+ghost use Rattle.sgb.specs.Values.{described};
+
+use sgb::{Listed, ListedBoard, ListedSimplex, ListedSubsets, Local};
+use sgb_gen::Links;
+use sgb_vec::{Family, Panic};
+use std::alloc::Global;
+
+/// How many vertices the graph has. No memory is taken.
+pub fn vertices_of_family(local: &Local) -> u32
+    ensures { result ≡ length (graph_described (described local.now)).vertices }
+{
+    match local {
+        Local::Board(board) => board.family().size(),
+        Local::Simplex(simplex) => simplex.family().size(),
+        Local::Subsets(subsets) => subsets.family().size(),
+    }
+}
+
+/// How many arcs the graph has, where an edge counts as two. They are counted without the graph.
+///
+/// `NoRoom` when out of memory, and nothing else.
+pub fn arcs_of_family(alloc: Global, local: &Local) -> Result<u128, Panic>
+    ensures count { IfOk result (λ m. m ≡ (graph_described (described local.now)).m) }
+    ensures memory { IsOkUnless result Panic.NoRoom }
+{
+    let links = Links::new(alloc);
+    match local {
+        Local::Board(board) => ListedBoard::new(board, &links).arcs_count(&links),
+        Local::Simplex(simplex) => ListedSimplex { simplex }.arcs_count(&links),
+        Local::Subsets(subsets) => ListedSubsets { subsets }.arcs_count(&links),
+    }
+}
