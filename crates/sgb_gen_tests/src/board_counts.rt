@@ -1,11 +1,10 @@
 use sgb_gen::{Board, Links};
-use sgb_vec::{Family, Vectors};
+use sgb_vec::{Family, Panic, Vectors};
 use std::alloc::Global;
-use std::process::Abort;
 use std::test::Fail;
 
 // Parameters of boards whose counts are compared with the lengths of their lists, each with both directions.
-const BOARDS: [[i64; 6]; 25] = [
+static BOARDS: [[i64; 6]; 25] = [
     [2, 3, 0, 0, 1, 0],
     [3, 0, 0, 0, -1, 0],
     [3, 0, 0, 0, -1, 1],
@@ -33,46 +32,55 @@ const BOARDS: [[i64; 6]; 25] = [
     [2, -4, 0, 0, -2, 5],
 ];
 
+/// The board of these sizes, this piece and these sides that wrap around.
+pub(crate) fn board_of(numbers: &[i64; 6], directed: bool) -> Result<Board, Panic> {
+    let [n1, n2, n3, n4, piece, wrap] = *numbers;
+    Board::new(n1, n2, n3, n4, piece, wrap, directed)
+}
+
+// How many arcs the board's lists have, where a walk meets vectors of the family alone.
+fn arcs_of_lists(board: &Board, links: &mut Links) -> Result<u128, Panic> {
+    let mut arcs: u128 = 0;
+    for x in Vectors::all(board.family()) {
+        if !board.family().holds(x.as_slice()) {
+            return Err(Panic::Invalid);
+        }
+        board.arcs_at(x.as_slice(), links)?;
+        arcs = arcs.wrapping_add(links.len() as u128);
+    }
+    Ok(arcs)
+}
+
+/// Whether the count of the board's arcs is that of its lists.
+pub(crate) fn is_counted(alloc: Global, board: &Board) -> Result<bool, Panic> {
+    let counted = board.arcs_count()?;
+    let arcs = arcs_of_lists(board, &mut Links::new(alloc))?;
+    Ok(counted == arcs)
+}
+
 #[test]
 fn counts_of_the_lists(rt: HostRuntime) -> Result<(), Fail> {
-    for [n1, n2, n3, n4, piece, wrap] in BOARDS {
+    for numbers in &BOARDS {
         for directed in [false, true] {
-            let board = Board::new(n1, n2, n3, n4, piece, wrap, directed)?;
-            compare(&rt, rt.alloc(), &board)?;
+            let board = board_of(numbers, directed)?;
+            assert!(rt; is_counted(rt.alloc(), &board)?);
         }
     }
     Ok(())
 }
 
-// The count of this board, and the lengths of its lists.
-fn compare<A: Abort>(rt: &A, alloc: Global, board: &Board) -> Result<(), Fail> {
-    let mut links = Links::new(alloc);
-    let mut arcs: u128 = 0;
-    for x in Vectors::all(board.family()) {
-        assert!(rt; board.family().holds(x.as_slice()));
-        board.arcs_at(x.as_slice(), &mut links)?;
-        arcs = arcs.wrapping_add(links.len() as u128);
-    }
-    let counted = board.arcs_count()?;
-    assert!(rt; counted == arcs);
-    Ok(())
+/// The count of the undirected board with these sizes, this piece and these sides that wrap around.
+pub(crate) fn count_of(board: [i64; 4]) -> Result<u128, Panic> {
+    let [n1, n2, piece, wrap] = board;
+    board_of(&[n1, n2, 0, 0, piece, wrap], false)?.arcs_count()
 }
 
 #[test]
 fn counts_of_great_boards(rt: HostRuntime) -> Result<(), Fail> {
-    count(&rt, &[1_000_000_000, 0, 1, 0], 1_999_999_998)?;
-    count(&rt, &[30_000, 30_000, -1, 0], 53_998_200_000_000)?;
+    assert!(rt; count_of([1_000_000_000, 0, 1, 0])? == 1_999_999_998);
+    assert!(rt; count_of([30_000, 30_000, -1, 0])? == 53_998_200_000_000);
     // from each place to each other one of its row, and of its column
-    count(&rt, &[30_000, 30_000, -1, 3], 107_996_400_000_000)?;
-    count(&rt, &[8, 8, 5, 0], 336)?;
-    Ok(())
-}
-
-// The count of the undirected board with these sizes, this piece and these sides that wrap around.
-fn count<A: Abort>(rt: &A, board: &[i64; 4], arcs: u128) -> Result<(), Fail> {
-    let [n1, n2, piece, wrap] = *board;
-    let board = Board::new(n1, n2, 0, 0, piece, wrap, false)?;
-    let counted = board.arcs_count()?;
-    assert!(rt; counted == arcs);
+    assert!(rt; count_of([30_000, 30_000, -1, 3])? == 107_996_400_000_000);
+    assert!(rt; count_of([8, 8, 5, 0])? == 336);
     Ok(())
 }

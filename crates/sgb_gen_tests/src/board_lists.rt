@@ -1,3 +1,4 @@
+use crate::board_counts::board_of;
 use crate::cases::is_list;
 use sgb_gen::{Board, BoardParams, Links};
 use sgb_graph::Graph;
@@ -7,7 +8,7 @@ use std::test::Fail;
 
 // Parameters of boards whose lists are compared with those of the built graphs, each with both directions: leapers
 // and riders, with sides that wrap around and loops.
-const BOARDS: [[i64; 6]; 14] = [
+static BOARDS: [[i64; 6]; 14] = [
     [2, 2, 0, 0, 1, 0],
     [2, 3, 0, 0, 1, 0],
     [3, 0, 0, 0, -1, 0],
@@ -24,44 +25,37 @@ const BOARDS: [[i64; 6]; 14] = [
     [0, 2, 0, 0, 1, 0],
 ];
 
-#[test]
-fn lists_of_the_built_graph(rt: HostRuntime) -> Result<(), Fail> {
-    for [n1, n2, n3, n4, piece, wrap] in BOARDS {
-        for directed in [false, true] {
-            let params = BoardParams {
-                n1,
-                n2,
-                n3,
-                n4,
-                piece,
-                wrap,
-                directed,
-            };
-            assert!(rt; are_lists(rt.alloc(), &params)?);
-        }
+// The parameters of the board of these numbers.
+fn params_of(numbers: &[i64; 6], directed: bool) -> BoardParams {
+    let [n1, n2, n3, n4, piece, wrap] = *numbers;
+    BoardParams {
+        n1,
+        n2,
+        n3,
+        n4,
+        piece,
+        wrap,
+        directed,
     }
-    Ok(())
 }
 
-// Whether the lists of this board are those of the built graph, each by itself and as one of all of them.
-fn are_lists(alloc: Global, params: &BoardParams) -> Result<bool, Panic> {
-    let graph = params.graph(alloc)?;
-    let board = Board::from_params(params)?;
-    Ok(are_lists_of(alloc, &graph, &board))
+// Whether the list of this vector is that of vertex v of the graph, by itself and as one of all of them.
+fn is_list_at(graph: &Graph, v: u32, board: &Board, x: &[u32], links: &mut Links) -> bool {
+    if !board.family().holds(x) {
+        return false;
+    }
+    if board.arcs_at(x, links).is_err() || !is_list(graph, v, links) {
+        return false;
+    }
+    let mut lists = board.lists(links);
+    lists.arcs_at(x, links).is_ok() && is_list(graph, v, links)
 }
 
-fn are_lists_of(alloc: Global, graph: &Graph, board: &Board) -> bool {
-    let mut links = Links::new(alloc);
+// Whether the lists of the board are those of the graph.
+fn are_lists_of(graph: &Graph, board: &Board, links: &mut Links) -> bool {
     let mut v: u32 = 0;
     for x in Vectors::all(board.family()) {
-        if v >= graph.n() || !board.family().holds(x.as_slice()) {
-            return false;
-        }
-        if board.arcs_at(x.as_slice(), &mut links).is_err() || !is_list(graph, v, &links) {
-            return false;
-        }
-        let mut lists = board.lists(&links);
-        if lists.arcs_at(x.as_slice(), &mut links).is_err() || !is_list(graph, v, &links) {
+        if v >= graph.n() || !is_list_at(graph, v, board, x.as_slice(), links) {
             return false;
         }
         v += 1;
@@ -69,16 +63,39 @@ fn are_lists_of(alloc: Global, graph: &Graph, board: &Board) -> bool {
     v == graph.n()
 }
 
+// Whether the lists of this board are those of the built graph.
+fn are_lists(alloc: Global, params: &BoardParams) -> Result<bool, Panic> {
+    let board = Board::from_params(params)?;
+    let graph = params.graph(alloc)?;
+    Ok(are_lists_of(&graph, &board, &mut Links::new(alloc)))
+}
+
+#[test]
+fn lists_of_the_built_graph(rt: HostRuntime) -> Result<(), Fail> {
+    for numbers in &BOARDS {
+        for directed in [false, true] {
+            assert!(rt; are_lists(rt.alloc(), &params_of(numbers, directed))?);
+        }
+    }
+    Ok(())
+}
+
+// How many arcs lead from a place of this board; none where it has no such place.
+fn arcs_from(board: &Board, place: &[u32], links: &mut Links) -> Result<usize, Panic> {
+    if !board.family().holds(place) {
+        return Ok(0);
+    }
+    let mut lists = board.lists(links);
+    lists.arcs_at(place, links)?;
+    Ok(links.len())
+}
+
 // 19 sides of two: the displacements of four units are too many for a table. From the least place they change four of the
 // 19 entries, which is C(19,4) places.
 #[test]
 fn a_list_by_many_displacements(rt: HostRuntime) -> Result<(), Fail> {
-    let board = Board::new(2, -19, 0, 0, 4, 0, false)?;
-    let place = [0; 19];
-    let mut links = Links::new(rt.alloc());
-    assert!(rt; board.family().holds(&place));
-    let mut lists = board.lists(&links);
-    lists.arcs_at(&place, &mut links)?;
-    assert!(rt; links.len() == 3_876);
+    let board = board_of(&[2, -19, 0, 0, 4, 0], false)?;
+    let count = arcs_from(&board, &[0; 19], &mut Links::new(rt.alloc()))?;
+    assert!(rt; count == 3_876);
     Ok(())
 }

@@ -1,6 +1,7 @@
 //! The displacements of pieces, seen by where they lead on directed boards.
+use crate::board_counts::board_of;
 use sgb_gen::{Board, Links};
-use sgb_vec::Family;
+use sgb_vec::{Family, Panic};
 use std::alloc::Global;
 use std::test::Fail;
 
@@ -49,21 +50,28 @@ const ROWS: &[Row] = &[
     (7, &[3, 3, 3], &[0, 0, 0], &[]),
 ];
 
-// Whether the piece moves from this place to these alone.
-fn is_met(alloc: Global, row: &Row) -> Result<bool, Fail> {
-    let (piece, sides, place, tips) = *row;
-    let mut numbers = [0, 0, 0, 0];
-    for (number, side) in numbers.iter_mut().zip(sides) {
+// The directed board of these sides, with this piece.
+fn board_with(piece: i64, sides: &[i64]) -> Result<Board, Panic> {
+    let mut numbers = [0, 0, 0, 0, piece, 0];
+    for (number, side) in numbers[..4].iter_mut().zip(sides) {
         *number = *side;
     }
-    let [n1, n2, n3, n4] = numbers;
-    let board = Board::new(n1, n2, n3, n4, piece, 0, true)?;
-    let mut links = Links::new(alloc);
+    board_of(&numbers, true)
+}
+
+// Whether the board's piece moves from this place to these alone.
+fn moves_to(board: &Board, place: &[u32], tips: &[&[u32]], links: &mut Links) -> bool {
     if !board.family().holds(place) {
-        return Ok(false);
+        return false;
     }
-    board.arcs_at(place, &mut links)?;
-    Ok(are_tips(&links, tips))
+    board.arcs_at(place, links).is_ok() && are_tips(links, tips)
+}
+
+// Whether the piece moves from this place to these alone.
+fn is_met(alloc: Global, row: &Row) -> Result<bool, Panic> {
+    let (piece, sides, place, tips) = *row;
+    let board = board_with(piece, sides)?;
+    Ok(moves_to(&board, place, tips, &mut Links::new(alloc)))
 }
 
 // Whether the links lead to these, in this order.

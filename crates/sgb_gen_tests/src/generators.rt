@@ -1,10 +1,32 @@
 use sgb_gen::{board, simplex, subsets};
 use sgb_graph::{Graph, Kind};
-use std::process::Abort;
+use sgb_vec::Panic;
+use std::alloc::Global;
 use std::test::Fail;
 
 // A vertex with its name and its list of arcs, each with its tip and length.
 type Block<'a> = (u32, &'a [u8], &'a [(u32, i64)]);
+
+// The parameters of a graph, but for the flag directed.
+#[derive(Clone, Copy)]
+enum Params {
+    // The sizes of a board, its piece and the sides that wrap around.
+    Board([i64; 6]),
+    // The sum of a simplex and its bounds.
+    Simplex([i64; 6]),
+    // The total of subsets and three of their counts, and the sizes of what two have in common.
+    Subsets([i64; 4], u128),
+}
+
+// Parameters with the flag directed, the id of the graph, its numbers of vertices and arcs, and some of its vertices.
+type Row = (
+    Params,
+    bool,
+    &'static [u8],
+    u32,
+    u64,
+    &'static [Block<'static>],
+);
 
 // Whether vertex v has this name, and a list of these arcs, each with its tip and length.
 fn has_block(graph: &Graph, v: u32, name: &[u8], list: &[(u32, i64)]) -> bool {
@@ -23,29 +45,66 @@ fn has_block(graph: &Graph, v: u32, name: &[u8], list: &[(u32, i64)]) -> bool {
     expected.next().is_none()
 }
 
-// Compares the graph with its id, its counts of vertices and arcs and some of its vertices.
-fn compare<A: Abort>(rt: &A, graph: &Graph, id: &[u8], n: u32, m: u64, blocks: &[Block]) {
-    assert!(rt; graph.id().bytes() == id);
-    assert!(rt; graph.n() == n);
-    assert!(rt; graph.m() == m);
+// Whether the graph has this id, so many vertices and arcs, and these vertices.
+fn is_known(graph: &Graph, id: &[u8], n: u32, m: u64, blocks: &[Block]) -> bool {
+    if graph.id().bytes() != id || graph.n() != n || graph.m() != m {
+        return false;
+    }
     // where there is a vertex, its coordinates are kept as numbers
-    assert!(rt; (graph.kinds()[3] == Kind::Z) == (n == 0));
+    if (graph.kinds()[3] == Kind::Z) != (n == 0) {
+        return false;
+    }
     for (v, name, list) in blocks {
-        assert!(rt; has_block(graph, *v, name, list));
+        if !has_block(graph, *v, name, list) {
+            return false;
+        }
+    }
+    true
+}
+
+// The graph of the board of these numbers.
+fn board_graph(alloc: Global, numbers: [i64; 6], directed: bool) -> Result<Graph, Panic> {
+    let [n1, n2, n3, n4, piece, wrap] = numbers;
+    board(alloc, n1, n2, n3, n4, piece, wrap, directed)
+}
+
+// The graph of the simplex of these numbers.
+fn simplex_graph(alloc: Global, numbers: [i64; 6], directed: bool) -> Result<Graph, Panic> {
+    let [n, n0, n1, n2, n3, n4] = numbers;
+    simplex(alloc, n, n0, n1, n2, n3, n4, directed)
+}
+
+// The graph of the subsets of these numbers, with these sizes of what two have in common.
+fn subsets_graph(
+    alloc: Global,
+    numbers: [i64; 4],
+    size_bits: u128,
+    directed: bool,
+) -> Result<Graph, Panic> {
+    let [total, n0, n1, n2] = numbers;
+    subsets(alloc, total, n0, n1, n2, 0, 0, size_bits, directed)
+}
+
+// The graph of these parameters.
+fn graph_of(alloc: Global, params: Params, directed: bool) -> Result<Graph, Panic> {
+    match params {
+        Params::Board(numbers) => board_graph(alloc, numbers, directed),
+        Params::Simplex(numbers) => simplex_graph(alloc, numbers, directed),
+        Params::Subsets(numbers, size_bits) => subsets_graph(alloc, numbers, size_bits, directed),
     }
 }
 
-const BOARDS: [(
-    [i64; 6],
-    bool,
-    &'static [u8],
-    u32,
-    u64,
-    &'static [Block<'static>],
-); 8] = [
+// Whether the row's parameters make the graph that it tells of.
+fn is_made(alloc: Global, row: &Row) -> Result<bool, Panic> {
+    let (params, directed, id, n, m, blocks) = *row;
+    let graph = graph_of(alloc, params, directed)?;
+    Ok(is_known(&graph, id, n, m, blocks))
+}
+
+static BOARDS: [Row; 8] = [
     // no displacement is within the board
     (
-        [2, -5, 0, 0, 400, 0],
+        Params::Board([2, -5, 0, 0, 400, 0]),
         false,
         b"board(2,-5,0,0,400,0,0)",
         32,
@@ -53,7 +112,7 @@ const BOARDS: [(
         &[],
     ),
     (
-        [3, 3, 3, 0, 2_147_483_647, 0],
+        Params::Board([3, 3, 3, 0, 2_147_483_647, 0]),
         false,
         b"board(3,3,3,0,2147483647,0,0)",
         27,
@@ -62,7 +121,7 @@ const BOARDS: [(
     ),
     // the knight's moves on 2 by 3, and where the first side wraps around
     (
-        [2, 3, 0, 0, 5, 0],
+        Params::Board([2, 3, 0, 0, 5, 0]),
         false,
         b"board(2,3,0,0,5,0,0)",
         6,
@@ -76,7 +135,7 @@ const BOARDS: [(
         ],
     ),
     (
-        [2, 3, 0, 0, 5, 1],
+        Params::Board([2, 3, 0, 0, 5, 1]),
         false,
         b"board(2,3,0,0,5,1,0)",
         6,
@@ -85,7 +144,7 @@ const BOARDS: [(
     ),
     // the king's diagonal, the knight's and the queen's diagonal moves on 8 by 8
     (
-        [0, 5, 5, 5, 2, 0],
+        Params::Board([0, 5, 5, 5, 2, 0]),
         false,
         b"board(8,8,0,0,2,0,0)",
         64,
@@ -93,7 +152,7 @@ const BOARDS: [(
         &[],
     ),
     (
-        [0, 5, 5, 5, 5, 0],
+        Params::Board([0, 5, 5, 5, 5, 0]),
         false,
         b"board(8,8,0,0,5,0,0)",
         64,
@@ -101,7 +160,7 @@ const BOARDS: [(
         &[],
     ),
     (
-        [0, 5, 5, 5, -2, 0],
+        Params::Board([0, 5, 5, 5, -2, 0]),
         false,
         b"board(8,8,0,0,-2,0,0)",
         64,
@@ -110,7 +169,7 @@ const BOARDS: [(
     ),
     // each of 600 places has two neighbours in each of two dimensions, at one edge each
     (
-        [20, 30, 0, 0, 1, -1],
+        Params::Board([20, 30, 0, 0, 1, -1]),
         true,
         b"board(20,30,0,0,1,-1,1)",
         600,
@@ -121,41 +180,31 @@ const BOARDS: [(
 
 #[test]
 fn boards(rt: HostRuntime) -> Result<(), Fail> {
-    for ([n1, n2, n3, n4, piece, wrap], directed, id, n, m, blocks) in BOARDS {
-        let graph = board(rt.alloc(), n1, n2, n3, n4, piece, wrap, directed)?;
-        compare(&rt, &graph, id, n, m, blocks);
+    for row in &BOARDS {
+        assert!(rt; is_made(rt.alloc(), row)?);
     }
     Ok(())
 }
 
+static SIMPLEX: Row = (
+    Params::Simplex([2, 0, 0, 0, 0, 0]),
+    false,
+    b"simplex(2,-2,0,0,0,0,0)",
+    6,
+    18,
+    &[(1, b"0.1.1", &[(4, 1), (3, 1), (2, 1), (0, 1)])],
+);
+
 #[test]
 fn simplex_of_three_entries(rt: HostRuntime) -> Result<(), Fail> {
-    let graph = simplex(rt.alloc(), 2, 0, 0, 0, 0, 0, false)?;
-    let list = [(4, 1), (3, 1), (2, 1), (0, 1)];
-    compare(
-        &rt,
-        &graph,
-        b"simplex(2,-2,0,0,0,0,0)",
-        6,
-        18,
-        &[(1, b"0.1.1", &list)],
-    );
+    assert!(rt; is_made(rt.alloc(), &SIMPLEX)?);
     Ok(())
 }
 
-const SUBSETS: [(
-    [i64; 4],
-    u128,
-    bool,
-    &'static [u8],
-    u32,
-    u64,
-    &'static [Block<'static>],
-); 4] = [
+static SUBSETS: [Row; 4] = [
     // loops, as edges and as arcs
     (
-        [1, 1, 1, 0],
-        2,
+        Params::Subsets([1, 1, 1, 0], 2),
         false,
         b"subsets(1,1,1,0,0,0,0x2,0)",
         2,
@@ -166,8 +215,7 @@ const SUBSETS: [(
         ],
     ),
     (
-        [1, 1, 1, 0],
-        2,
+        Params::Subsets([1, 1, 1, 0], 2),
         true,
         b"subsets(1,1,1,0,0,0,0x2,1)",
         2,
@@ -176,8 +224,7 @@ const SUBSETS: [(
     ),
     // the greatest size that has a bit, and one above it
     (
-        [127, 127, 0, 0],
-        1 << 127,
+        Params::Subsets([127, 127, 0, 0], 1 << 127),
         false,
         b"subsets(127,127,0,0,0,0,0x80000000000000000000000000000000,0)",
         1,
@@ -185,8 +232,7 @@ const SUBSETS: [(
         &[(0, b"127", &[(0, 1), (0, 1)])],
     ),
     (
-        [128, 128, 0, 0],
-        u128::MAX,
+        Params::Subsets([128, 128, 0, 0], u128::MAX),
         false,
         b"subsets(128,128,0,0,0,0,0xffffffffffffffffffffffffffffffff,0)",
         1,
@@ -197,9 +243,8 @@ const SUBSETS: [(
 
 #[test]
 fn graphs_of_subsets(rt: HostRuntime) -> Result<(), Fail> {
-    for ([total, n0, n1, n2], size_bits, directed, id, n, m, blocks) in SUBSETS {
-        let graph = subsets(rt.alloc(), total, n0, n1, n2, 0, 0, size_bits, directed)?;
-        compare(&rt, &graph, id, n, m, blocks);
+    for row in &SUBSETS {
+        assert!(rt; is_made(rt.alloc(), row)?);
     }
     Ok(())
 }

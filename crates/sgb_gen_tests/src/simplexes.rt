@@ -1,9 +1,10 @@
+use crate::simplex_counts::simplex_of;
 use sgb_gen::Simplex;
 use sgb_vec::Family;
 use std::test::Fail;
 
 // Parameters with the count of dimensions, the count of vectors and the id that they give.
-const ACCEPTED: [([i64; 6], bool, usize, u32, &'static [u8]); 2] = [
+static ACCEPTED: [([i64; 6], bool, usize, u32, &'static [u8]); 2] = [
     ([2, 0, 0, 0, 0, 0], true, 3, 6, b"simplex(2,-2,0,0,0,0,1)"),
     (
         [4, 9, 2, -5, 7, 7],
@@ -14,13 +15,16 @@ const ACCEPTED: [([i64; 6], bool, usize, u32, &'static [u8]); 2] = [
     ),
 ];
 
+// Whether the simplex has so many dimensions and vectors, and this id.
+fn is_known(simplex: &Simplex, dims: usize, size: u32, id: &[u8]) -> bool {
+    simplex.family().dims() == dims && simplex.family().size() == size && simplex.id().bytes() == id
+}
+
 #[test]
 fn family_and_id(rt: HostRuntime) -> Result<(), Fail> {
-    for ([n, n0, n1, n2, n3, n4], directed, dims, size, id) in ACCEPTED {
-        let simplex = Simplex::new(rt.alloc(), n, n0, n1, n2, n3, n4, directed)?;
-        assert!(rt; simplex.family().dims() == dims);
-        assert!(rt; simplex.family().size() == size);
-        assert!(rt; simplex.id().bytes() == id);
+    for (numbers, directed, dims, size, id) in &ACCEPTED {
+        let simplex = simplex_of(rt.alloc(), numbers, *directed)?;
+        assert!(rt; is_known(&simplex, *dims, *size, id));
     }
     Ok(())
 }

@@ -1,4 +1,5 @@
 use crate::cases::is_list;
+use crate::subsets_counts::subsets_of;
 use sgb_gen::{Links, Subsets, SubsetsParams};
 use sgb_graph::Graph;
 use sgb_vec::{Family, Panic, Vectors};
@@ -6,7 +7,7 @@ use std::alloc::Global;
 use std::test::Fail;
 
 // Parameters of subsets whose lists are compared with those of the built graphs, each with both directions.
-const SUBSETS: [([i64; 6], u128); 7] = [
+static SUBSETS: [([i64; 6], u128); 7] = [
     ([2, 1, -4, 0, 0, 0], 0x1),
     ([3, 2, 2, 2, 0, 0], 0x3),
     ([3, 2, 2, 2, 0, 0], 0xf),
@@ -16,41 +17,34 @@ const SUBSETS: [([i64; 6], u128); 7] = [
     ([5, 2, 2, 0, 0, 0], 0x7),
 ];
 
-#[test]
-fn lists_of_the_built_graph(rt: HostRuntime) -> Result<(), Fail> {
-    for ([n, n0, n1, n2, n3, n4], size_bits) in SUBSETS {
-        for directed in [false, true] {
-            let params = SubsetsParams {
-                n,
-                n0,
-                n1,
-                n2,
-                n3,
-                n4,
-                size_bits,
-                directed,
-            };
-            assert!(rt; are_lists(rt.alloc(), &params)?);
-        }
+// The parameters of the subsets of these numbers, with these sizes of what two have in common.
+fn params_of(numbers: &[i64; 6], size_bits: u128, directed: bool) -> SubsetsParams {
+    let [n, n0, n1, n2, n3, n4] = *numbers;
+    SubsetsParams {
+        n,
+        n0,
+        n1,
+        n2,
+        n3,
+        n4,
+        size_bits,
+        directed,
     }
-    Ok(())
 }
 
-// Whether the lists of these subsets are those of the built graph.
-fn are_lists(alloc: Global, params: &SubsetsParams) -> Result<bool, Panic> {
-    let graph = params.graph(alloc)?;
-    let subsets = Subsets::from_params(alloc, params)?;
-    Ok(are_lists_of(alloc, &graph, &subsets))
+// Whether the list of this vector is that of vertex v of the graph.
+fn is_list_at(graph: &Graph, v: u32, subsets: &Subsets, x: &[u32], links: &mut Links) -> bool {
+    if !subsets.family().holds(x) {
+        return false;
+    }
+    subsets.arcs_at(x, links).is_ok() && is_list(graph, v, links)
 }
 
-fn are_lists_of(alloc: Global, graph: &Graph, subsets: &Subsets) -> bool {
-    let mut links = Links::new(alloc);
+// Whether the lists of the subsets are those of the graph.
+fn are_lists_of(graph: &Graph, subsets: &Subsets, links: &mut Links) -> bool {
     let mut v: u32 = 0;
     for x in Vectors::all(subsets.family()) {
-        if v >= graph.n() || !subsets.family().holds(x.as_slice()) {
-            return false;
-        }
-        if subsets.arcs_at(x.as_slice(), &mut links).is_err() || !is_list(graph, v, &links) {
+        if v >= graph.n() || !is_list_at(graph, v, subsets, x.as_slice(), links) {
             return false;
         }
         v += 1;
@@ -58,13 +52,37 @@ fn are_lists_of(alloc: Global, graph: &Graph, subsets: &Subsets) -> bool {
     v == graph.n()
 }
 
+// Whether the lists of these subsets are those of the built graph.
+fn are_lists(alloc: Global, params: &SubsetsParams) -> Result<bool, Panic> {
+    let subsets = Subsets::from_params(alloc, params)?;
+    let graph = params.graph(alloc)?;
+    Ok(are_lists_of(&graph, &subsets, &mut Links::new(alloc)))
+}
+
+#[test]
+fn lists_of_the_built_graph(rt: HostRuntime) -> Result<(), Fail> {
+    for (numbers, size_bits) in &SUBSETS {
+        for directed in [false, true] {
+            assert!(rt; are_lists(rt.alloc(), &params_of(numbers, *size_bits, directed))?);
+        }
+    }
+    Ok(())
+}
+
+// How many arcs lead from this vector, if it is one of the subsets.
+fn arcs_from(subsets: &Subsets, x: &[u32], links: &mut Links) -> Result<Option<usize>, Panic> {
+    if !subsets.family().holds(x) {
+        return Ok(None);
+    }
+    subsets.arcs_at(x, links)?;
+    Ok(Some(links.len()))
+}
+
 // One element of each kind: it has two in common with each other vector, and three with itself.
 #[test]
 fn no_size_wanted(rt: HostRuntime) -> Result<(), Fail> {
-    let subsets = Subsets::new(rt.alloc(), 3, 2, 2, 2, 0, 0, 0x3, false)?;
-    let mut links = Links::new(rt.alloc());
-    assert!(rt; subsets.family().holds(&[1, 1, 1]));
-    subsets.arcs_at(&[1, 1, 1], &mut links)?;
-    assert!(rt; links.len() == 0);
+    let subsets = subsets_of(rt.alloc(), &[3, 2, 2, 2, 0, 0], 0x3, false)?;
+    let count = arcs_from(&subsets, &[1, 1, 1], &mut Links::new(rt.alloc()))?;
+    assert!(rt; count == Some(0));
     Ok(())
 }

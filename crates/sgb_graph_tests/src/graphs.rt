@@ -1,23 +1,11 @@
-ghost use Rattle.std.specs.Prelude.{IfOk};
+ghost use Rattle.std.specs.Prelude.{OnOk};
 ghost use Rattle.sgb_graph.specs.Growth.{HasPlainArcs};
 
-use sgb_graph::{Graph, Id, Kind, Names, Ref, Util, UtilRef};
-use sgb_vec::{Panic, Text};
+use crate::caller::without_arcs;
+use sgb_graph::{Graph, Id, Kind, Ref, Util, UtilRef};
+use sgb_vec::Panic;
 use std::alloc::Global;
 use std::test::Fail;
-
-// A graph whose vertices have these names of one byte.
-fn graph_of(alloc: Global, digits: &[u8]) -> Result<Graph, Panic>
-    ensures { IfOk result HasPlainArcs }
-{
-    let mut names = Names::new(alloc);
-    for digit in digits {
-        if names.push(Text::new(alloc, &[*digit])?).is_err() {
-            return Err(Panic::NoRoom);
-        }
-    }
-    Graph::new(alloc, names)
-}
 
 // Whether the list of v has these arcs, each with its number, tip and length.
 pub(crate) fn has_list(graph: &Graph, v: u32, list: &[(usize, u32, i64)]) -> bool {
@@ -36,25 +24,33 @@ pub(crate) fn has_list(graph: &Graph, v: u32, list: &[(usize, u32, i64)]) -> boo
     expected.next().is_none()
 }
 
-// Such a graph with an arc, or an edge, for each event.
-fn with_events(
-    alloc: Global,
-    digits: &[u8],
-    directed: bool,
-    events: &[(u32, u32, i64)],
-) -> Result<Graph, Panic> {
-    let mut graph = graph_of(alloc, digits)?;
-    graph.reserve(events.len())?;
-    for (u, v, len) in events {
-        if *u >= graph.n() || *v >= graph.n() {
-            return Err(Panic::Bad);
-        }
-        graph.add_event(directed, *u, *v, *len)?;
+// A new arc, or edge, for the event, where there are such vertices.
+fn add(graph: &mut Graph, directed: bool, event: (u32, u32, i64)) -> Result<(), Panic>
+    requires { HasPlainArcs graph.old }
+    ensures { OnOk result (HasPlainArcs graph.new) }
+{
+    let (u, v, len) = event;
+    if u >= graph.n() || v >= graph.n() {
+        return Err(Panic::Bad);
     }
-    Ok(graph)
+    graph.add_event(directed, u, v, len)
 }
 
-// Events on four vertices: the third is a loop.
+// A new arc, or edge, for each event.
+fn add_all(graph: &mut Graph, directed: bool, events: &[(u32, u32, i64)]) -> Result<(), Panic>
+    requires { HasPlainArcs graph.old }
+{
+    graph.reserve(events.len())?;
+    for event in events {
+        add(graph, directed, *event)?;
+    }
+    Ok(())
+}
+
+// The names of four vertices.
+const FOUR_NAMES: [&'static [u8]; 4] = [b"a", b"b", b"c", b"d"];
+
+// Events on them: the third is a loop.
 const FOUR: [(u32, u32, i64); 4] = [(0, 1, 4), (2, 0, 5), (1, 1, 6), (1, 0, 7)];
 
 // Whether the lists are those of the four events as arcs, the later ones first.
@@ -77,21 +73,10 @@ fn has_lists_of_edges(graph: &Graph) -> bool {
         && has_list(graph, 3, &[])
 }
 
-#[test]
-fn later_arcs_come_first(rt: HostRuntime) -> Result<(), Fail> {
-    let graph = with_events(rt.alloc(), b"abcd", true, &FOUR)?;
-    assert!(rt; has_lists_of_arcs(&graph));
-    Ok(())
-}
+// The names of nine vertices.
+const NINE_NAMES: [&'static [u8]; 9] = [b"a", b"b", b"c", b"d", b"e", b"f", b"g", b"h", b"i"];
 
-#[test]
-fn an_edge_has_a_record_at_each_end(rt: HostRuntime) -> Result<(), Fail> {
-    let graph = with_events(rt.alloc(), b"abcd", false, &FOUR)?;
-    assert!(rt; has_lists_of_edges(&graph));
-    Ok(())
-}
-
-// The arcs from 1, 8, 4, 1, 1 and 0 to 0 on nine vertices.
+// The arcs from 1, 8, 4, 1, 1 and 0 to 0 on them.
 const TO_0: [(u32, u32, i64); 6] = [
     (1, 0, 1),
     (8, 0, 1),
@@ -110,36 +95,33 @@ fn has_degrees(graph: &Graph, v: u32, expected: &[usize; 8]) -> bool {
     graph.degrees(v) == *expected
 }
 
-#[test]
-fn lists_are_counted_side_by_side(rt: HostRuntime) -> Result<(), Fail> {
-    let graph = with_events(rt.alloc(), b"abcdefghi", true, &TO_0)?;
-    assert!(rt; has_degrees(&graph, 0, &[1, 3, 0, 0, 1, 0, 0, 0]));
-    assert!(rt; has_degrees(&graph, 1, &[3, 0, 0, 1, 0, 0, 0, 1]));
-    Ok(())
+// Whether all nine lists have the lengths that they should.
+fn has_degrees_of_nine(graph: &Graph) -> bool {
+    has_degrees(graph, 0, &[1, 3, 0, 0, 1, 0, 0, 0])
+        && has_degrees(graph, 1, &[3, 0, 0, 1, 0, 0, 0, 1])
 }
 
-// A graph of one name with a loop, as an arc or as an edge.
-fn looped(alloc: Global, directed: bool) -> Result<Graph, Panic> {
-    let mut graph = graph_of(alloc, b"x")?;
+// A loop for a graph of one vertex, as an arc or as an edge.
+fn add_loop(graph: &mut Graph, directed: bool) -> Result<(), Panic>
+    requires { HasPlainArcs graph.old }
+{
     if graph.n() != 1 {
         return Err(Panic::Bad);
     }
     if directed {
-        graph.new_arc(0, 0, 5)?;
-    } else {
-        graph.new_edge(0, 0, 5)?;
+        return graph.new_arc(0, 0, 5);
     }
-    Ok(graph)
+    graph.new_edge(0, 0, 5)
 }
 
-#[test]
-fn a_loop_has_one_record_or_two(rt: HostRuntime) -> Result<(), Fail> {
-    let arc = looped(rt.alloc(), true)?;
-    assert!(rt; arc.m() == 1 && has_list(&arc, 0, &[(0, 0, 5)]));
-    let edge = looped(rt.alloc(), false)?;
-    assert!(rt; edge.m() == 2 && has_list(&edge, 0, &[(0, 0, 5), (1, 0, 5)]));
-    assert!(rt; leads_to_its_vertex(&edge));
-    Ok(())
+// Whether the loop is an arc.
+fn has_loop_of_an_arc(graph: &Graph) -> bool {
+    graph.m() == 1 && has_list(graph, 0, &[(0, 0, 5)])
+}
+
+// Whether it is an edge.
+fn has_loop_of_an_edge(graph: &Graph) -> bool {
+    graph.m() == 2 && has_list(graph, 0, &[(0, 0, 5), (1, 0, 5)]) && leads_to_its_vertex(graph)
 }
 
 // Whether both records of the loop lead to vertex 0, the second after the first.
@@ -167,22 +149,14 @@ fn is_new(graph: &Graph) -> bool {
         && graph.vertex(1).arcs.is_none()
 }
 
-#[test]
-fn a_new_graph_has_no_arcs(rt: HostRuntime) -> Result<(), Fail> {
-    let graph = graph_of(rt.alloc(), b"ab")?;
-    assert!(rt; is_new(&graph));
-    Ok(())
-}
-
 // Three numbers for vertex 1 of two, and another id.
-fn numbered(alloc: Global) -> Result<Graph, Panic> {
-    let mut graph = graph_of(alloc, b"ab")?;
+fn number(graph: &mut Graph) -> Result<(), Panic> {
     if graph.n() != 2 {
         return Err(Panic::Bad);
     }
     graph.set_id(Id::new(b"numbered")?);
     graph.set_vertex_ints(1, -3, 0, 907);
-    Ok(graph)
+    Ok(())
 }
 
 // Whether the utility field holds this number.
@@ -212,29 +186,7 @@ fn is_numbered(graph: &Graph) -> bool {
         && has_numbers(graph, 1, &[-3, 0, 907])
 }
 
-#[test]
-fn the_other_vertices_get_zeros(rt: HostRuntime) -> Result<(), Fail> {
-    let graph = numbered(rt.alloc())?;
-    assert!(rt; is_numbered(&graph));
-    Ok(())
-}
-
-#[test]
-fn a_value_is_seen_where_it_stands(rt: HostRuntime) {
-    let number = Util::Int(-5);
-    assert!(rt; holds(number.seen(), -5) && !holds(number.seen(), 5));
-    let vertex = Util::Vertex(Ref::At(7));
-    assert!(rt; matches!(vertex.seen(), UtilRef::Vertex(Ref::At(7))));
-}
-
-// A number for the field uu of a graph of two vertices.
-fn with_own_number(alloc: Global) -> Result<Graph, Panic> {
-    let mut graph = graph_of(alloc, b"ab")?;
-    graph.set_uu(-5);
-    Ok(graph)
-}
-
-// Whether the number stands in the field uu alone.
+// Whether -5 stands in the field uu alone.
 fn has_own_number(graph: &Graph) -> bool {
     graph.n() == 2
         && graph.kinds()[..8].iter().all(|kind| *kind == Kind::Z)
@@ -245,9 +197,116 @@ fn has_own_number(graph: &Graph) -> bool {
         && matches!(graph.graph_util(1), Util::Nothing)
 }
 
+// What is done with a graph that has no arcs.
+#[derive(Clone, Copy)]
+enum Growth {
+    // Nothing.
+    Nothing,
+    // Arcs, or edges, for the four events.
+    Four { directed: bool },
+    // Arcs to vertex 0 of nine.
+    To0,
+    // A loop, as an arc or as an edge.
+    Loop { directed: bool },
+    // Numbers for a vertex.
+    Numbers,
+    // A number of the graph's own.
+    OwnNumber,
+}
+
+// Does this with the graph.
+fn grow(graph: &mut Graph, growth: Growth) -> Result<(), Panic>
+    requires { HasPlainArcs graph.old }
+{
+    match growth {
+        Growth::Nothing => Ok(()),
+        Growth::Four { directed } => add_all(graph, directed, &FOUR),
+        Growth::To0 => add_all(graph, true, &TO_0),
+        Growth::Loop { directed } => add_loop(graph, directed),
+        Growth::Numbers => number(graph),
+        Growth::OwnNumber => {
+            graph.set_uu(-5);
+            Ok(())
+        }
+    }
+}
+
+// Whether the graph is as it should be after this.
+fn has_grown(graph: &Graph, growth: Growth) -> bool {
+    match growth {
+        Growth::Nothing => is_new(graph),
+        Growth::Four { directed: true } => has_lists_of_arcs(graph),
+        Growth::Four { directed: false } => has_lists_of_edges(graph),
+        Growth::To0 => has_degrees_of_nine(graph),
+        Growth::Loop { directed: true } => has_loop_of_an_arc(graph),
+        Growth::Loop { directed: false } => has_loop_of_an_edge(graph),
+        Growth::Numbers => is_numbered(graph),
+        Growth::OwnNumber => has_own_number(graph),
+    }
+}
+
+// Does this, and tells whether the graph is then as it should be.
+fn grows(graph: &mut Graph, growth: Growth) -> Result<bool, Panic>
+    requires { HasPlainArcs graph.old }
+{
+    grow(graph, growth)?;
+    Ok(has_grown(graph, growth))
+}
+
+// Whether a graph of vertices with these names is as it should be after this. It alone owns the graph, and no `?` drops it
+// here: that would take long to prove.
+fn is_met(alloc: Global, names: &[&[u8]], growth: Growth) -> Result<bool, Panic> {
+    let mut graph = without_arcs(alloc, names)?;
+    grows(&mut graph, growth)
+}
+
+#[test]
+fn a_new_graph_has_no_arcs(rt: HostRuntime) -> Result<(), Fail> {
+    assert!(rt; is_met(rt.alloc(), &[b"a", b"b"], Growth::Nothing)?);
+    Ok(())
+}
+
+#[test]
+fn later_arcs_come_first(rt: HostRuntime) -> Result<(), Fail> {
+    assert!(rt; is_met(rt.alloc(), &FOUR_NAMES, Growth::Four { directed: true })?);
+    Ok(())
+}
+
+#[test]
+fn an_edge_has_a_record_at_each_end(rt: HostRuntime) -> Result<(), Fail> {
+    assert!(rt; is_met(rt.alloc(), &FOUR_NAMES, Growth::Four { directed: false })?);
+    Ok(())
+}
+
+#[test]
+fn lists_are_counted_side_by_side(rt: HostRuntime) -> Result<(), Fail> {
+    assert!(rt; is_met(rt.alloc(), &NINE_NAMES, Growth::To0)?);
+    Ok(())
+}
+
+#[test]
+fn a_loop_has_one_record_or_two(rt: HostRuntime) -> Result<(), Fail> {
+    assert!(rt; is_met(rt.alloc(), &[b"x"], Growth::Loop { directed: true })?);
+    assert!(rt; is_met(rt.alloc(), &[b"x"], Growth::Loop { directed: false })?);
+    Ok(())
+}
+
+#[test]
+fn the_other_vertices_get_zeros(rt: HostRuntime) -> Result<(), Fail> {
+    assert!(rt; is_met(rt.alloc(), &[b"a", b"b"], Growth::Numbers)?);
+    Ok(())
+}
+
 #[test]
 fn the_graph_has_a_number_of_its_own(rt: HostRuntime) -> Result<(), Fail> {
-    let graph = with_own_number(rt.alloc())?;
-    assert!(rt; has_own_number(&graph));
+    assert!(rt; is_met(rt.alloc(), &[b"a", b"b"], Growth::OwnNumber)?);
     Ok(())
+}
+
+#[test]
+fn a_value_is_seen_where_it_stands(rt: HostRuntime) {
+    let number = Util::Int(-5);
+    assert!(rt; holds(number.seen(), -5) && !holds(number.seen(), 5));
+    let vertex = Util::Vertex(Ref::At(7));
+    assert!(rt; matches!(vertex.seen(), UtilRef::Vertex(Ref::At(7))));
 }

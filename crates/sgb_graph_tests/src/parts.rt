@@ -4,10 +4,29 @@ use sgb_vec::{Panic, Text};
 use std::alloc::Global;
 use std::test::Fail;
 
-// Six utility fields, of which the first has this value.
-fn fields(first: Util) -> [Util; 6] {
+// What a utility field holds, where that is no text: it can be copied.
+#[derive(Clone, Copy)]
+enum Value {
+    Nothing,
+    Int(i64),
+    Vertex(Ref),
+}
+
+impl Value {
+    // The field.
+    fn field(self) -> Util {
+        match self {
+            Value::Nothing => Util::Nothing,
+            Value::Int(number) => Util::Int(number),
+            Value::Vertex(vertex) => Util::Vertex(vertex),
+        }
+    }
+}
+
+// Six utility fields, of which the first holds this.
+fn fields(first: Value) -> [Util; 6] {
     [
-        first,
+        first.field(),
         Util::Nothing,
         Util::Nothing,
         Util::Nothing,
@@ -16,10 +35,10 @@ fn fields(first: Util) -> [Util; 6] {
     ]
 }
 
-// Parts of a graph with three arcs whose fields are not used.
-fn plain_parts(alloc: Global) -> Result<Parts, Panic> {
+// Parts of a graph with so many arcs and fields of these kinds; its own are not used.
+fn parts_of(alloc: Global, m: u32, kinds: [Kind; 14]) -> Result<Parts, Panic> {
     let id = Id::new(b"g")?;
-    Ok(Parts::new(alloc, id, 3, [Kind::Z; 14], fields(Util::Nothing)))
+    Ok(Parts::new(alloc, id, u64::from(m), kinds, fields(Value::Nothing)))
 }
 
 // Adds a vertex with this first arc, and this value in its first field.
@@ -27,7 +46,7 @@ fn add_vertex(
     parts: &mut Parts,
     alloc: Global,
     first: Option<usize>,
-    value: Util,
+    value: Value,
 ) -> Result<(), Panic> {
     let name = Text::new(alloc, b"x")?;
     parts.add_vertex(Vertex {
@@ -38,54 +57,92 @@ fn add_vertex(
 }
 
 // Adds a record with this tip and next one, and this value in its first field.
-fn add_record(parts: &mut Parts, tip: Ref, next: Option<usize>, value: Util) -> Result<(), Panic> {
+fn add_record(parts: &mut Parts, tip: Ref, next: Option<usize>, value: Value) -> Result<(), Panic> {
     parts.add_arc(ArcRec {
         tip,
         next,
         len: 1,
-        a: value,
+        a: value.field(),
         b: Util::Nothing,
     })
 }
 
-// The graph that has a vertex for each first arc here, and a record for each tip and next one.
-fn checked(
+// Adds a vertex for each first arc here, and a record for each tip and next one.
+fn fill(
+    parts: &mut Parts,
     alloc: Global,
     firsts: &[Option<usize>],
     records: &[(Ref, Option<usize>)],
-) -> Result<Graph, Panic> {
-    let mut parts = plain_parts(alloc)?;
+) -> Result<(), Panic> {
     for first in firsts {
-        add_vertex(&mut parts, alloc, *first, Util::Nothing)?;
+        add_vertex(parts, alloc, *first, Value::Nothing)?;
     }
     for (tip, next) in records {
-        add_record(&mut parts, *tip, *next, Util::Nothing)?;
+        add_record(parts, *tip, *next, Value::Nothing)?;
     }
-    parts.check()
+    Ok(())
 }
 
-// Whether this is the graph of one vertex with a loop.
-fn is_looped(graph: &Graph) -> bool {
-    graph.n() == 1
+// The parts that have a vertex for each first arc here, and a record for each tip and next one.
+fn parts_with(
+    alloc: Global,
+    firsts: &[Option<usize>],
+    records: &[(Ref, Option<usize>)],
+) -> Result<Parts, Panic> {
+    let mut parts = parts_of(alloc, 3, [Kind::Z; 14])?;
+    fill(&mut parts, alloc, firsts, records)?;
+    Ok(parts)
+}
+
+// Whether this is the graph of three arcs of these parts, so many vertices and records.
+fn is_graph_of(graph: &Graph, vertices: usize, records: usize) -> bool {
+    graph.n() as usize == vertices
         && graph.m() == 3
-        && graph.records_len() == 1
+        && graph.records_len() == records
         && graph.id().bytes() == b"g".as_slice()
-        && has_list(graph, 0, &[(0, 0, 1)])
+}
+
+// Whether the vertices have these lists, each arc with its number, tip and length.
+fn has_lists(graph: &Graph, lists: &[&[(usize, u32, i64)]]) -> bool {
+    let mut v: u32 = 0;
+    for list in lists {
+        if v >= graph.n() || !has_list(graph, v, list) {
+            return false;
+        }
+        v += 1;
+    }
+    v == graph.n()
+}
+
+// Whether these parts are a graph that has these lists.
+fn are_graph(
+    alloc: Global,
+    firsts: &[Option<usize>],
+    records: &[(Ref, Option<usize>)],
+    lists: &[&[(usize, u32, i64)]],
+) -> Result<bool, Panic> {
+    let graph = parts_with(alloc, firsts, records)?.check()?;
+    Ok(is_graph_of(&graph, firsts.len(), records.len()) && has_lists(&graph, lists))
 }
 
 #[test]
 fn the_parts_are_those_of_the_graph(rt: HostRuntime) -> Result<(), Fail> {
-    let graph = checked(rt.alloc(), &[Some(0)], &[(Ref::At(0), None)])?;
-    assert!(rt; is_looped(&graph));
+    assert!(rt;
+        are_graph(
+            rt.alloc(),
+            &[Some(0)],
+            &[(Ref::At(0), None)],
+            &[&[(0, 0, 1)]]
+        )?
+    );
     Ok(())
 }
 
 #[test]
 fn lists_may_share_records(rt: HostRuntime) -> Result<(), Fail> {
     let records = [(Ref::At(1), None), (Ref::At(0), Some(0))];
-    let graph = checked(rt.alloc(), &[Some(0), Some(1)], &records)?;
-    assert!(rt; has_list(&graph, 0, &[(0, 1, 1)]));
-    assert!(rt; has_list(&graph, 1, &[(1, 0, 1), (0, 1, 1)]));
+    let lists: [&[(usize, u32, i64)]; 2] = [&[(0, 1, 1)], &[(1, 0, 1), (0, 1, 1)]];
+    assert!(rt; are_graph(rt.alloc(), &[Some(0), Some(1)], &records, &lists)?);
     Ok(())
 }
 
@@ -102,95 +159,114 @@ const REFUSED: [(&[Option<usize>], &[(Ref, Option<usize>)]); 9] = [
     (&[], &[(Ref::Null, Some(usize::MAX)), (Ref::Null, None)]),
 ];
 
-// What the check says of such parts: the code of a refusal, or none.
+// What the check says of the parts: the code of a refusal, or none.
+fn refusal_of(parts: Parts) -> Option<Panic> {
+    parts.check().err()
+}
+
+// What it says of such parts.
 fn refusal(
     alloc: Global,
     firsts: &[Option<usize>],
     records: &[(Ref, Option<usize>)],
-) -> Option<Panic> {
-    checked(alloc, firsts, records).err()
+) -> Result<Option<Panic>, Panic> {
+    Ok(refusal_of(parts_with(alloc, firsts, records)?))
 }
 
 #[test]
 fn chains_end_and_lists_lead_to_vertices(rt: HostRuntime) {
     for (firsts, records) in &REFUSED {
-        assert!(rt; refusal(rt.alloc(), firsts, records) == Some(Panic::Syntax));
+        assert!(rt; refusal(rt.alloc(), firsts, records) == Ok(Some(Panic::Syntax)));
     }
-    assert!(rt; refusal(rt.alloc(), &[None], &[(Ref::Null, None)]).is_none());
+    assert!(rt; refusal(rt.alloc(), &[None], &[(Ref::Null, None)]) == Ok(None));
 }
 
-// The graph of one vertex with this value in its field u, which is of this kind.
-fn with_field(alloc: Global, kind: Kind, value: Util) -> Result<Graph, Panic> {
+// Adds a vertex for each value here, in its first field, and so a record for each.
+fn add_values(
+    parts: &mut Parts,
+    alloc: Global,
+    vertices: &[Value],
+    records: &[Value],
+) -> Result<(), Panic> {
+    for value in vertices {
+        add_vertex(parts, alloc, None, *value)?;
+    }
+    for value in records {
+        add_record(parts, Ref::Null, None, *value)?;
+    }
+    Ok(())
+}
+
+// What the check says of vertices and records with these values, where the fields are of these kinds.
+fn refusal_with(
+    alloc: Global,
+    kinds: [Kind; 14],
+    vertices: &[Value],
+    records: &[Value],
+) -> Result<Option<Panic>, Panic> {
+    let mut parts = parts_of(alloc, 0, kinds)?;
+    add_values(&mut parts, alloc, vertices, records)?;
+    Ok(refusal_of(parts))
+}
+
+// What it says of one vertex with this value in its field u, which is of this kind.
+fn refusal_of_field(alloc: Global, kind: Kind, value: Value) -> Result<Option<Panic>, Panic> {
     let mut kinds = [Kind::Z; 14];
     kinds[0] = kind;
-    let id = Id::new(b"g")?;
-    let mut parts = Parts::new(alloc, id, 0, kinds, fields(Util::Nothing));
-    add_vertex(&mut parts, alloc, None, value)?;
-    parts.check()
+    refusal_with(alloc, kinds, &[value], &[])
 }
 
 // Whether the value is let through.
-fn fits(alloc: Global, kind: Kind, value: Util) -> bool {
-    with_field(alloc, kind, value).is_ok()
+fn fits(alloc: Global, kind: Kind, value: Value) -> bool {
+    refusal_of_field(alloc, kind, value) == Ok(None)
 }
 
 // Whether it is refused as a wrong record.
-fn is_unfit(alloc: Global, kind: Kind, value: Util) -> bool {
-    with_field(alloc, kind, value).err() == Some(Panic::Syntax)
+fn is_unfit(alloc: Global, kind: Kind, value: Value) -> bool {
+    refusal_of_field(alloc, kind, value) == Ok(Some(Panic::Syntax))
 }
 
 #[test]
 fn fields_fit_their_kinds(rt: HostRuntime) {
     let alloc = rt.alloc();
-    assert!(rt; fits(alloc, Kind::I, Util::Int(7)));
-    assert!(rt; fits(alloc, Kind::V, Util::Vertex(Ref::At(0))));
-    assert!(rt; is_unfit(alloc, Kind::I, Util::Nothing));
-    assert!(rt; is_unfit(alloc, Kind::Z, Util::Int(7)));
-    assert!(rt; is_unfit(alloc, Kind::V, Util::Vertex(Ref::At(1))));
-    assert!(rt; is_unfit(alloc, Kind::S, Util::Int(7)));
-    assert!(rt; is_unfit(alloc, Kind::A, Util::Vertex(Ref::Null)));
+    assert!(rt; fits(alloc, Kind::I, Value::Int(7)));
+    assert!(rt; fits(alloc, Kind::V, Value::Vertex(Ref::At(0))));
+    assert!(rt; is_unfit(alloc, Kind::I, Value::Nothing));
+    assert!(rt; is_unfit(alloc, Kind::Z, Value::Int(7)));
+    assert!(rt; is_unfit(alloc, Kind::V, Value::Vertex(Ref::At(1))));
+    assert!(rt; is_unfit(alloc, Kind::S, Value::Int(7)));
+    assert!(rt; is_unfit(alloc, Kind::A, Value::Vertex(Ref::Null)));
 }
 
-// The parts of a graph whose fields u and a are integers.
-fn parts_of_integers(alloc: Global) -> Result<Parts, Panic> {
+// What the check says of vertices and records with these values, where the fields u and a are integers.
+fn refusal_of_integers(
+    alloc: Global,
+    vertices: &[Value],
+    records: &[Value],
+) -> Result<Option<Panic>, Panic> {
     let mut kinds = [Kind::Z; 14];
     kinds[0] = Kind::I;
     kinds[6] = Kind::I;
-    Ok(Parts::new(alloc, Id::new(b"g")?, 0, kinds, fields(Util::Nothing)))
+    refusal_with(alloc, kinds, vertices, records)
 }
 
-// An integer, but at this place nothing.
-fn value_but_at(place: usize, here: usize) -> Util {
-    if here == place {
-        return Util::Nothing;
+// Three integers, but at this place nothing.
+fn three_but_at(place: usize) -> [Value; 3] {
+    let mut values = [Value::Int(7); 3];
+    if place < 3 {
+        values[place] = Value::Nothing;
     }
-    Util::Int(7)
-}
-
-// What the check says of three vertices, of which that at this place has no integer.
-fn refusal_of_vertex(alloc: Global, place: usize) -> Result<Option<Panic>, Panic> {
-    let mut parts = parts_of_integers(alloc)?;
-    for v in 0..3 {
-        add_vertex(&mut parts, alloc, None, value_but_at(place, v))?;
-    }
-    Ok(parts.check().err())
-}
-
-// What it says of three arc records, of which that at this place has no integer.
-fn refusal_of_record(alloc: Global, place: usize) -> Result<Option<Panic>, Panic> {
-    let mut parts = parts_of_integers(alloc)?;
-    for k in 0..3 {
-        add_record(&mut parts, Ref::Null, None, value_but_at(place, k))?;
-    }
-    Ok(parts.check().err())
+    values
 }
 
 #[test]
 fn a_field_that_does_not_fit_is_seen_at_each_place(rt: HostRuntime) {
     for place in 0..3 {
-        assert!(rt; refusal_of_vertex(rt.alloc(), place) == Ok(Some(Panic::Syntax)));
-        assert!(rt; refusal_of_record(rt.alloc(), place) == Ok(Some(Panic::Syntax)));
+        let values = three_but_at(place);
+        assert!(rt; refusal_of_integers(rt.alloc(), &values, &[]) == Ok(Some(Panic::Syntax)));
+        assert!(rt; refusal_of_integers(rt.alloc(), &[], &values) == Ok(Some(Panic::Syntax)));
     }
-    assert!(rt; refusal_of_vertex(rt.alloc(), 3) == Ok(None));
-    assert!(rt; refusal_of_record(rt.alloc(), 3) == Ok(None));
+    let values = three_but_at(3);
+    assert!(rt; refusal_of_integers(rt.alloc(), &values, &[]) == Ok(None));
+    assert!(rt; refusal_of_integers(rt.alloc(), &[], &values) == Ok(None));
 }

@@ -1,8 +1,8 @@
 //! What the tests of the operations share: small operands, and what is known of a graph.
 //!
 //! No function here has a contract, so that a test that calls one is proved with no more than what it does itself.
-use sgb_gen::{board, simplex};
-use sgb_graph::Graph;
+use sgb_gen::{board, petersen, simplex};
+use sgb_graph::{Graph, Kind, Util};
 use sgb_vec::Panic;
 use std::alloc::Global;
 
@@ -13,6 +13,8 @@ pub(crate) enum Operand {
     Board([i64; 6], bool),
     /// A simplex with no vertex.
     Nothing,
+    /// The petersen graph.
+    Petersen,
 }
 
 /// Two vertices and an edge.
@@ -42,6 +44,7 @@ impl Operand {
         match self {
             Operand::Board(numbers, directed) => board_of(alloc, numbers, directed),
             Operand::Nothing => simplex(alloc, 5, 2, 2, 0, 0, 0, false),
+            Operand::Petersen => petersen().graph(alloc),
         }
     }
 }
@@ -52,23 +55,75 @@ fn board_of(alloc: Global, numbers: [i64; 6], directed: bool) -> Result<Graph, P
     board(alloc, n1, n2, n3, n4, piece, wrap, directed)
 }
 
-/// Both graphs.
-pub(crate) fn two_graphs(alloc: Global, operands: [Operand; 2]) -> Result<(Graph, Graph), Panic> {
-    let [first, second] = operands;
-    Ok((first.graph(alloc)?, second.graph(alloc)?))
-}
-
 /// The list of a vertex: its number, its name, and the tip and length of each arc.
 pub(crate) type Block = (u32, &'static str, &'static [(u32, i64)]);
 
 /// What is known of a graph: how many vertices and arcs it has, and the lists of some vertices.
 pub(crate) type Known = (u32, u64, &'static [Block]);
 
-/// Operands with the flags multi and directed, the id of what an operation makes of them, and what is known of it.
-pub(crate) type Row = ([Operand; 2], [bool; 2], &'static str, Known);
+/// What is expected of an operation.
+#[derive(Clone, Copy)]
+pub(crate) enum Expected {
+    /// A graph with this id, of which this is known.
+    Graph(&'static str, Known),
+    /// A graph of so many arcs.
+    Arcs(u64),
+    /// A graph whose vertices have these names, and which has no other vertices.
+    Names(&'static [&'static str]),
+    /// A graph with this number in its field uu.
+    Number(i64),
+    /// This refusal.
+    Refusal(Panic),
+}
 
-/// Whether the graph has this id, and what is known.
-pub(crate) fn is_known(graph: &Graph, id: &str, known: Known) -> bool {
+/// Whether the answer is as expected.
+pub(crate) fn is_answer(answer: &Result<Graph, Panic>, expected: Expected) -> bool {
+    match answer {
+        Ok(graph) => is_graph(graph, expected),
+        Err(error) => is_refusal(*error, expected),
+    }
+}
+
+/// Whether the graph is as expected.
+pub(crate) fn is_graph(graph: &Graph, expected: Expected) -> bool {
+    match expected {
+        Expected::Graph(id, known) => is_known(graph, id, known),
+        Expected::Arcs(m) => graph.m() == m,
+        Expected::Names(names) => has_names(graph, names),
+        Expected::Number(number) => has_number(graph, number),
+        Expected::Refusal(_) => false,
+    }
+}
+
+// Whether this refusal is expected.
+fn is_refusal(error: Panic, expected: Expected) -> bool {
+    match expected {
+        Expected::Refusal(why) => error == why,
+        _ => false,
+    }
+}
+
+// Whether these are the names of all vertices.
+fn has_names(graph: &Graph, names: &[&str]) -> bool {
+    let mut expected = names.iter();
+    for v in 0..graph.n() {
+        let Some(name) = expected.next() else {
+            return false;
+        };
+        if graph.name(v).bytes() != name.as_bytes() {
+            return false;
+        }
+    }
+    expected.next().is_none()
+}
+
+// Whether the utility field uu of the graph has this number.
+fn has_number(graph: &Graph, number: i64) -> bool {
+    graph.kinds()[8] == Kind::I && matches!(graph.graph_util(0), Util::Int(k) if *k == number)
+}
+
+// Whether the graph has this id, and what is known.
+fn is_known(graph: &Graph, id: &str, known: Known) -> bool {
     let (n, m, blocks) = known;
     if graph.id().bytes() != id.as_bytes() || graph.n() != n || graph.m() != m {
         return false;
@@ -97,9 +152,4 @@ fn has_block(graph: &Graph, block: Block) -> bool {
         }
     }
     expected.next().is_none()
-}
-
-/// Whether the answer is this refusal.
-pub(crate) fn is_refused(answer: Result<Graph, Panic>, why: Panic) -> bool {
-    answer.is_err_and(|error| error == why)
 }

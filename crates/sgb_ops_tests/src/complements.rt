@@ -1,21 +1,6 @@
-use crate::cases::{CYCLE, Known, LOOP, Operand, PATH, RIDERS, is_known};
-use sgb_gen::petersen;
-use sgb_graph::Graph;
-use sgb_ops::complement;
+use crate::cases::{CYCLE, Expected, Known, LOOP, Operand, PATH, RIDERS};
+use crate::operations::{OfOne, answers, answers_at_last};
 use sgb_vec::Panic;
-use std::alloc::Global;
-
-// The complement with the flags copy, self_loops and directed.
-fn with_flags(alloc: Global, graph: &Graph, flags: [bool; 3]) -> Result<Graph, Panic> {
-    let [copy, self_loops, directed] = flags;
-    complement(alloc, graph, copy, self_loops, directed)
-}
-
-// The complement of this operand.
-fn complement_of(alloc: Global, operand: Operand, flags: [bool; 3]) -> Result<Graph, Panic> {
-    let graph = operand.graph(alloc)?;
-    with_flags(alloc, &graph, flags)
-}
 
 /// Operands with the flags copy, self_loops and directed, each with the id of the complement and what is known of it.
 static COMPLEMENTS: [(Operand, [bool; 3], &str, Known); 10] = [
@@ -121,43 +106,30 @@ static COMPLEMENTS: [(Operand, [bool; 3], &str, Known); 10] = [
 fn complements_of_small_graphs(rt: HostRuntime) -> Result<(), Panic> {
     for row in &COMPLEMENTS {
         let (operand, flags, id, known) = *row;
-        let graph = complement_of(rt.alloc(), operand, flags)?;
-        assert!(rt; is_known(&graph, id, known), "at {id}");
+        let expected = Expected::Graph(id, known);
+        assert!(rt;
+            answers(rt.alloc(), operand, OfOne::Complement(flags), expected)?,
+            "at {id}"
+        );
     }
     Ok(())
 }
+
+// The complement of edges, with no loops and no copy.
+const PLAIN: OfOne = OfOne::Complement([false, false, false]);
 
 #[test]
 fn riders_have_parallel_edges(rt: HostRuntime) -> Result<(), Panic> {
-    assert!(rt; RIDERS.graph(rt.alloc())?.m() == 12);
+    assert!(rt; answers_at_last(rt.alloc(), RIDERS, PLAIN, 0, Expected::Arcs(12))?);
     Ok(())
-}
-
-// So many complements, of the petersen graph first.
-fn complements(alloc: Global, count: usize) -> Result<Graph, Panic> {
-    let mut graph = petersen().graph(alloc)?;
-    for _k in 0..count {
-        graph = with_flags(alloc, &graph, [false, false, false])?;
-    }
-    Ok(graph)
-}
-
-// How many arcs the last of them has.
-fn arcs_of_last(alloc: Global, count: usize) -> Result<u64, Panic> {
-    Ok(complements(alloc, count)?.m())
-}
-
-// Whether the last of eight has the arcs of the petersen graph.
-fn is_last_of_eight(alloc: Global) -> Result<bool, Panic> {
-    Ok(is_known(&complements(alloc, 8)?, EIGHT_COMPLEMENTS, PETERSEN))
 }
 
 #[test]
 fn eight_complements(rt: HostRuntime) -> Result<(), Panic> {
-    for (count, m) in [(0, 30), (7, 60)] {
-        assert!(rt; arcs_of_last(rt.alloc(), count)? == m);
+    let last = Expected::Graph(EIGHT_COMPLEMENTS, PETERSEN);
+    for (count, expected) in [(0, Expected::Arcs(30)), (7, Expected::Arcs(60)), (8, last)] {
+        assert!(rt; answers_at_last(rt.alloc(), Operand::Petersen, PLAIN, count, expected)?);
     }
-    assert!(rt; is_last_of_eight(rt.alloc())?);
     Ok(())
 }
 

@@ -1,8 +1,6 @@
-use crate::cases::{CYCLE, LOOP, Operand, Row, SQUARE, TRIANGLE, is_known, two_graphs};
-use sgb_graph::Graph;
-use sgb_ops::gunion;
+use crate::cases::{CYCLE, Expected, Known, LOOP, Operand, SQUARE, TRIANGLE};
+use crate::operations::{OfOne, OfTwo, answers_at_last, answers_both};
 use sgb_vec::Panic;
-use std::alloc::Global;
 
 // The undirected cycle of three vertices.
 const RING: Operand = Operand::Board([3, 0, 0, 0, 1, 1], false);
@@ -12,15 +10,8 @@ const ROOK: Operand = Operand::Board([3, 4, 0, 0, -1, 0], false);
 
 const BISHOP: Operand = Operand::Board([3, 4, 0, 0, -2, 0], false);
 
-// The union of these operands, with the flags multi and directed.
-fn union_of(alloc: Global, operands: [Operand; 2], flags: [bool; 2]) -> Result<Graph, Panic> {
-    let (first, second) = two_graphs(alloc, operands)?;
-    let [multi, directed] = flags;
-    gunion(alloc, &first, &second, multi, directed)
-}
-
-/// Unions of small graphs.
-static UNIONS: [Row; 12] = [
+/// Operands with the flags multi and directed, each with the id of the union and what is known of it.
+static UNIONS: [([Operand; 2], [bool; 2], &str, Known); 12] = [
     (
         [TRIANGLE, RING],
         [false, false],
@@ -124,24 +115,20 @@ static UNIONS: [Row; 12] = [
 fn unions_of_small_graphs(rt: HostRuntime) -> Result<(), Panic> {
     for row in &UNIONS {
         let (operands, flags, id, known) = *row;
-        let graph = union_of(rt.alloc(), operands, flags)?;
-        assert!(rt; is_known(&graph, id, known), "at {id}");
+        let union = Expected::Graph(id, known);
+        assert!(rt;
+            answers_both(rt.alloc(), operands, OfTwo::Gunion(flags), union)?,
+            "at {id}"
+        );
     }
     Ok(())
 }
 
 // Three unions of a graph with itself, one of the other, of the triangle first.
-fn three_unions(alloc: Global) -> Result<Graph, Panic> {
-    let mut graph = TRIANGLE.graph(alloc)?;
-    for _k in 0..3 {
-        graph = gunion(alloc, &graph, &graph, false, false)?;
-    }
-    Ok(graph)
-}
-
 #[test]
 fn unions_of_unions(rt: HostRuntime) -> Result<(), Panic> {
-    assert!(rt; is_known(&three_unions(rt.alloc())?, THREE_UNIONS, (3, 6, &[])));
+    let union = Expected::Graph(THREE_UNIONS, (3, 6, &[]));
+    assert!(rt; answers_at_last(rt.alloc(), TRIANGLE, OfOne::Twins, 3, union)?);
     Ok(())
 }
 

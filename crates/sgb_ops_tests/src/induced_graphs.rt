@@ -1,30 +1,6 @@
-use crate::cases::{EDGE, Known, LOOP, Operand, is_known, is_refused};
-use sgb_graph::Graph;
-use sgb_ops::{Entry, induced, induced_from};
+use crate::cases::{EDGE, Expected, Known, LOOP, Operand, SQUARE};
+use crate::operations::{OfOne, Places, answers};
 use sgb_vec::Panic;
-use std::alloc::Global;
-
-// The entries of so many copies each.
-fn copies(alloc: Global, counts: &[u32]) -> Result<Vec<Entry>, Panic> {
-    let mut entries = Vec::new(alloc);
-    for count in counts {
-        entries.push(Entry::Copies(*count))?;
-    }
-    Ok(entries)
-}
-
-// The graph that so many copies induce, with the flags self_loops, multi and directed.
-fn induced_by_copies(
-    alloc: Global,
-    operand: Operand,
-    counts: &[u32],
-    flags: [bool; 3],
-) -> Result<Graph, Panic> {
-    let [self_loops, multi, directed] = flags;
-    let entries = copies(alloc, counts)?;
-    let graph = operand.graph(alloc)?;
-    induced(alloc, &graph, &entries, self_loops, multi, directed)
-}
 
 /// Operands with the counts of copies and the flags self_loops, multi and directed, each with the id of the graph
 /// that they induce and what is known of it.
@@ -87,8 +63,11 @@ static COPIES: [(Operand, &[u32], [bool; 3], &str, Known); 5] = [
 fn copies_of_vertices(rt: HostRuntime) -> Result<(), Panic> {
     for row in &COPIES {
         let (operand, counts, flags, id, known) = *row;
-        let graph = induced_by_copies(rt.alloc(), operand, counts, flags)?;
-        assert!(rt; is_known(&graph, id, known), "at {id}");
+        let operation = OfOne::Induced(Places::Copies(counts), flags);
+        assert!(rt;
+            answers(rt.alloc(), operand, operation, Expected::Graph(id, known))?,
+            "at {id}"
+        );
     }
     Ok(())
 }
@@ -101,32 +80,13 @@ static REFUSED: [(&[u32], Panic); 3] = [
 ];
 
 #[test]
-fn entries_that_are_refused(rt: HostRuntime) {
+fn entries_that_are_refused(rt: HostRuntime) -> Result<(), Panic> {
     for row in &REFUSED {
         let (counts, why) = *row;
-        let answer = induced_by_copies(rt.alloc(), EDGE, counts, [false, false, false]);
-        assert!(rt; is_refused(answer, why));
+        let operation = OfOne::Induced(Places::Copies(counts), [false, false, false]);
+        assert!(rt; answers(rt.alloc(), EDGE, operation, Expected::Refusal(why))?);
     }
-}
-
-// The graph that merged vertices of these numbers induce, 0 standing for one copy.
-fn induced_by_merging(
-    alloc: Global,
-    operand: Operand,
-    numbers: &[u32],
-    multi: bool,
-) -> Result<Graph, Panic> {
-    let mut entries = Vec::new(alloc);
-    for number in numbers {
-        let entry = if *number == 0 {
-            Entry::Copies(1)
-        } else {
-            Entry::Merged(*number)
-        };
-        entries.push(entry)?;
-    }
-    let graph = operand.graph(alloc)?;
-    induced_from(alloc, &graph, entries, false, multi, false)
+    Ok(())
 }
 
 /// What is known of a circuit of four whose vertices 0 and 2 are merged.
@@ -140,45 +100,36 @@ static MERGED: Known = (
     ],
 );
 
+// The circuit's vertices 0 and 2 merged by the number 1.
+static EVEN: [Option<u32>; 4] = [Some(1), None, Some(1), None];
+
 #[test]
 fn vertices_that_are_merged(rt: HostRuntime) -> Result<(), Panic> {
-    let circuit = Operand::Board([4, 0, 0, 0, 1, 1], false);
-    let graph = induced_by_merging(rt.alloc(), circuit, &[1, 0, 1, 0], true)?;
-    assert!(rt; is_known(&graph, "induced(board(4,0,0,0,1,1,0),,0,1,0)", MERGED));
+    let operation = OfOne::InducedFrom(Places::Merged(&EVEN), [false, true, false]);
+    let expected = Expected::Graph("induced(board(4,0,0,0,1,1,0),,0,1,0)", MERGED);
+    assert!(rt; answers(rt.alloc(), SQUARE, operation, expected)?);
     Ok(())
 }
+
+// Both ends of an edge merged by the number 0.
+static BY_0: [Option<u32>; 2] = [Some(0), Some(0)];
 
 #[test]
 fn merged_vertex_0_is_refused(rt: HostRuntime) -> Result<(), Panic> {
-    let edge = EDGE.graph(rt.alloc())?;
-    let entries = [Entry::Merged(0), Entry::Merged(0)];
-    let answer = induced(rt.alloc(), &edge, &entries, false, false, false);
-    assert!(rt; is_refused(answer, Panic::Bad));
+    let operation = OfOne::Induced(Places::Merged(&BY_0), [false, false, false]);
+    assert!(rt; answers(rt.alloc(), EDGE, operation, Expected::Refusal(Panic::Bad))?);
     Ok(())
 }
 
-// The ends of an edge replaced by these graphs, with arcs.
-fn induced_by_graphs(alloc: Global, graphs: [Operand; 2]) -> Result<Graph, Panic> {
-    let [first, second] = graphs;
-    let entries = [
-        Entry::Graph(first.graph(alloc)?),
-        Entry::Graph(second.graph(alloc)?),
-    ];
-    induced(alloc, &EDGE.graph(alloc)?, &entries, false, false, true)
-}
+// Nothing in the place of an edge's first end, and a ring of three in that of the other.
+static RING: [Operand; 2] = [Operand::Nothing, Operand::Board([3, 0, 0, 0, 1, 1], false)];
+
+const FIRST_OF_THREE: Known = (3, 6, &[(0, "1:0", &[(1, 1), (2, 1)])]);
 
 #[test]
 fn graphs_in_the_places_of_vertices(rt: HostRuntime) -> Result<(), Panic> {
-    let triangle = Operand::Board([3, 0, 0, 0, 1, 1], false);
-    let graph = induced_by_graphs(rt.alloc(), [Operand::Nothing, triangle])?;
-    assert!(rt;
-        is_known(
-            &graph,
-            "induced(board(2,0,0,0,-1,0,0),,0,0,1)",
-            FIRST_OF_THREE
-        )
-    );
+    let operation = OfOne::Induced(Places::Graphs(&RING), [false, false, true]);
+    let expected = Expected::Graph("induced(board(2,0,0,0,-1,0,0),,0,0,1)", FIRST_OF_THREE);
+    assert!(rt; answers(rt.alloc(), EDGE, operation, expected)?);
     Ok(())
 }
-
-const FIRST_OF_THREE: Known = (3, 6, &[(0, "1:0", &[(1, 1), (2, 1)])]);

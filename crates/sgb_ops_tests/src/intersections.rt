@@ -1,21 +1,12 @@
-use crate::cases::{CYCLE, LOOP, Operand, RIDERS, Row, SQUARE, TRIANGLE, is_known, two_graphs};
-use sgb_graph::Graph;
-use sgb_ops::intersection;
+use crate::cases::{CYCLE, Expected, Known, LOOP, Operand, RIDERS, SQUARE, TRIANGLE};
+use crate::operations::{OfTwo, answers_both};
 use sgb_vec::Panic;
-use std::alloc::Global;
 
 // The complete graph of four vertices.
 const ALL: Operand = Operand::Board([4, 0, 0, 0, -1, 0], false);
 
-// The intersection of these operands, with the flags multi and directed.
-fn common_part(alloc: Global, operands: [Operand; 2], flags: [bool; 2]) -> Result<Graph, Panic> {
-    let (first, second) = two_graphs(alloc, operands)?;
-    let [multi, directed] = flags;
-    intersection(alloc, &first, &second, multi, directed)
-}
-
-/// Intersections of small graphs.
-static INTERSECTIONS: [Row; 14] = [
+/// Operands with the flags multi and directed, each with the id of the intersection and what is known of it.
+static INTERSECTIONS: [([Operand; 2], [bool; 2], &str, Known); 14] = [
     (
         [SQUARE, ALL],
         [false, false],
@@ -109,8 +100,11 @@ static INTERSECTIONS: [Row; 14] = [
 fn intersections_of_small_graphs(rt: HostRuntime) -> Result<(), Panic> {
     for row in &INTERSECTIONS {
         let (operands, flags, id, known) = *row;
-        let graph = common_part(rt.alloc(), operands, flags)?;
-        assert!(rt; is_known(&graph, id, known), "at {id}");
+        let part = Expected::Graph(id, known);
+        assert!(rt;
+            answers_both(rt.alloc(), operands, OfTwo::Intersection(flags), part)?,
+            "at {id}"
+        );
     }
     Ok(())
 }

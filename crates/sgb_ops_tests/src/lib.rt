@@ -25,6 +25,9 @@ mod intersections;
 // lines
 #[cfg(test)]
 mod line_graphs;
+// the operations as values
+#[cfg(test)]
+mod operations;
 // product
 #[cfg(test)]
 mod products;

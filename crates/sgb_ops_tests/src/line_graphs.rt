@@ -1,25 +1,6 @@
-use crate::cases::{CYCLE, Known, Operand, RIDERS, TRIANGLE, is_known, is_refused};
-use sgb_graph::Graph;
-use sgb_ops::lines;
+use crate::cases::{CYCLE, Expected, Known, Operand, RIDERS, TRIANGLE};
+use crate::operations::{OfOne, answers};
 use sgb_vec::Panic;
-use std::alloc::Global;
-
-// The line graph.
-fn lines_of(alloc: Global, operand: Operand, directed: bool) -> Result<Graph, Panic> {
-    lines(alloc, &operand.graph(alloc)?, directed)
-}
-
-// Whether the line graph has this id, and what is known.
-fn is_line_graph(
-    alloc: Global,
-    operand: Operand,
-    directed: bool,
-    id: &str,
-    known: Known,
-) -> Result<bool, Panic> {
-    let graph = lines_of(alloc, operand, directed)?;
-    Ok(is_known(&graph, id, known))
-}
 
 // An arc from each of four vertices to each later one: none begins at the last.
 const FORWARD: Operand = Operand::Board([4, 0, 0, 0, -1, 0], true);
@@ -109,8 +90,9 @@ static LINES: [(Operand, bool, &str, Known); 6] = [
 fn line_graphs_of_small_graphs(rt: HostRuntime) -> Result<(), Panic> {
     for row in &LINES {
         let (operand, directed, id, known) = *row;
+        let expected = Expected::Graph(id, known);
         assert!(rt;
-            is_line_graph(rt.alloc(), operand, directed, id, known)?,
+            answers(rt.alloc(), operand, OfOne::Lines(directed), expected)?,
             "at {id}"
         );
     }
@@ -118,27 +100,24 @@ fn line_graphs_of_small_graphs(rt: HostRuntime) -> Result<(), Panic> {
 }
 
 #[test]
-fn arcs_are_no_edges(rt: HostRuntime) {
-    assert!(rt; is_refused(lines_of(rt.alloc(), CYCLE, false), Panic::Invalid));
+fn arcs_are_no_edges(rt: HostRuntime) -> Result<(), Panic> {
+    let refusal = Expected::Refusal(Panic::Invalid);
+    assert!(rt; answers(rt.alloc(), CYCLE, OfOne::Lines(false), refusal)?);
+    Ok(())
 }
 
-// Whether these are the names of all vertices.
-fn has_names(graph: &Graph, names: &[&str]) -> bool {
-    let mut expected = names.iter();
-    for v in 0..graph.n() {
-        let same = expected
-            .next()
-            .is_some_and(|name| graph.name(v).bytes() == name.as_bytes());
-        if !same {
-            return false;
-        }
-    }
-    expected.next().is_none()
-}
+// The names of the vertices of the line graph of two edges between each two vertices.
+static NAMES: [&str; 6] = ["1--2", "1--2", "0--2", "0--1", "0--2", "0--1"];
 
 #[test]
 fn names_that_repeat(rt: HostRuntime) -> Result<(), Panic> {
-    let names = ["1--2", "1--2", "0--2", "0--1", "0--2", "0--1"];
-    assert!(rt; has_names(&lines_of(rt.alloc(), RIDERS, false)?, &names));
+    assert!(rt;
+        answers(
+            rt.alloc(),
+            RIDERS,
+            OfOne::Lines(false),
+            Expected::Names(&NAMES)
+        )?
+    );
     Ok(())
 }

@@ -1,25 +1,12 @@
-use crate::cases::{EDGE, Known, Operand, PATH, is_known, is_refused, two_graphs};
-use sgb_graph::Graph;
-use sgb_ops::product;
+use crate::cases::{EDGE, Expected, Known, Operand, PATH};
+use crate::operations::{OfTwo, answers_both};
 use sgb_vec::Panic;
-use std::alloc::Global;
 
 // 40,000 vertices with no arcs.
 const MANY: Operand = Operand::Board([40_000, 0, 0, 0, 2, 0], false);
 
 // Two vertices in a row.
 const SHORT_PATH: Operand = Operand::Board([2, 0, 0, 0, 1, 0], false);
-
-// The product of this kind.
-fn product_of(
-    alloc: Global,
-    operands: [Operand; 2],
-    kind: i64,
-    directed: bool,
-) -> Result<Graph, Panic> {
-    let (first, second) = two_graphs(alloc, operands)?;
-    product(alloc, &first, &second, kind, directed)
-}
 
 /// Operands with the kind and the flag directed, each with the id of the product and what is known of it.
 static PRODUCTS: [([Operand; 2], i64, bool, &str, Known); 7] = [
@@ -92,14 +79,19 @@ static PRODUCTS: [([Operand; 2], i64, bool, &str, Known); 7] = [
 fn products_of_small_graphs(rt: HostRuntime) -> Result<(), Panic> {
     for row in &PRODUCTS {
         let (operands, kind, directed, id, known) = *row;
-        let graph = product_of(rt.alloc(), operands, kind, directed)?;
-        assert!(rt; is_known(&graph, id, known), "at {id}");
+        let operation = OfTwo::Product(kind, directed);
+        assert!(rt;
+            answers_both(rt.alloc(), operands, operation, Expected::Graph(id, known))?,
+            "at {id}"
+        );
     }
     Ok(())
 }
 
 #[test]
-fn too_many_pairs_are_refused(rt: HostRuntime) {
-    let refused = product_of(rt.alloc(), [MANY, MANY], 0, false);
-    assert!(rt; is_refused(refused, Panic::VeryBad));
+fn too_many_pairs_are_refused(rt: HostRuntime) -> Result<(), Panic> {
+    let refusal = Expected::Refusal(Panic::VeryBad);
+    let operation = OfTwo::Product(0, false);
+    assert!(rt; answers_both(rt.alloc(), [MANY, MANY], operation, refusal)?);
+    Ok(())
 }

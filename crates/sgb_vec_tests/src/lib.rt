@@ -31,3 +31,6 @@ mod texts;
 // walks over vectors
 #[cfg(test)]
 mod vectors;
+// families walked from both ends, and by places
+#[cfg(test)]
+mod walks;

@@ -1,28 +1,26 @@
 use sgb_vec::vector_of;
-use std::test::Fail;
 
-#[test]
-fn a_name_stands_for_its_vector(rt: HostRuntime) -> Result<(), Fail> {
-    let cases: [(&[u8], &[u32]); 7] = [
-        (b"", &[]),
-        (b"0", &[0]),
-        (b"0.0", &[0, 0]),
-        (b"1.20.300", &[1, 20, 300]),
-        (b"4294967295", &[4_294_967_295]),
-        (b"10.0.9", &[10, 0, 9]),
-        (b"7", &[7]),
-    ];
-    for (name, entries) in cases {
-        match vector_of(name) {
-            Some(vector) => assert!(rt; vector.as_slice() == entries),
-            None => assert!(rt; false),
-        }
-    }
-    Ok(())
+// Whether the name stands for the vector of these entries.
+fn is_name_of(name: &[u8], entries: &[u32]) -> bool {
+    let Some(vector) = vector_of(name) else {
+        return false;
+    };
+    vector.as_slice() == entries
 }
 
 #[test]
-fn other_texts_stand_for_none(rt: HostRuntime) -> Result<(), Fail> {
+fn a_name_stands_for_its_vector(rt: HostRuntime) {
+    assert!(rt; is_name_of(b"", &[]));
+    assert!(rt; is_name_of(b"0", &[0]));
+    assert!(rt; is_name_of(b"0.0", &[0, 0]));
+    assert!(rt; is_name_of(b"1.20.300", &[1, 20, 300]));
+    assert!(rt; is_name_of(b"4294967295", &[4_294_967_295]));
+    assert!(rt; is_name_of(b"10.0.9", &[10, 0, 9]));
+    assert!(rt; is_name_of(b"7", &[7]));
+}
+
+#[test]
+fn other_texts_stand_for_none(rt: HostRuntime) {
     let texts: [&[u8]; 16] = [
         b"01.2",
         b"00",
@@ -44,29 +42,29 @@ fn other_texts_stand_for_none(rt: HostRuntime) -> Result<(), Fail> {
     for text in texts {
         assert!(rt; vector_of(text).is_none());
     }
-    Ok(())
 }
 
-// A text of so many zeros joined by dots.
-fn zeros(alloc: std::alloc::Global, count: usize) -> Result<Vec<u8>, Fail> {
-    let mut text = Vec::new(alloc);
-    for place in 0..count {
-        if place > 0 {
-            text.push(b'.')?;
-        }
-        text.push(b'0')?;
-    }
-    Ok(text)
+// The number of entries of the vector that a name stands for.
+fn count_of(name: &[u8]) -> Option<usize> {
+    let vector = vector_of(name)?;
+    Some(vector.len())
 }
 
 #[test]
-fn at_most_251_entries(rt: HostRuntime) -> Result<(), Fail> {
-    let most = zeros(rt.alloc(), 251)?;
-    match vector_of(most.as_slice()) {
-        Some(vector) => assert!(rt; vector.len() == 251),
-        None => assert!(rt; false),
+fn as_many_as_251_entries(rt: HostRuntime) {
+    // zeros joined by dots
+    let mut most = [b'0'; 501];
+    for place in 0..250 {
+        most[2 * place + 1] = b'.';
     }
-    let more = zeros(rt.alloc(), 252)?;
-    assert!(rt; vector_of(more.as_slice()).is_none());
-    Ok(())
+    assert!(rt; count_of(&most) == Some(251));
+}
+
+#[test]
+fn no_more_than_251_entries(rt: HostRuntime) {
+    let mut more = [b'0'; 503];
+    for place in 0..251 {
+        more[2 * place + 1] = b'.';
+    }
+    assert!(rt; count_of(&more).is_none());
 }

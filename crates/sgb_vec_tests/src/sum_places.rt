@@ -3,7 +3,7 @@ use std::alloc::Global;
 use std::test::Fail;
 
 // Sums and bounds, even and uneven, of no vector, of one and of many.
-const FAMILIES: [(i64, &[u32]); 44] = [
+static FAMILIES: [(i64, &[u32]); 44] = [
     (0, &[]),
     (1, &[]),
     (0, &[0]),
@@ -51,7 +51,7 @@ const FAMILIES: [(i64, &[u32]); 44] = [
 ];
 
 // The same of families that are too great to be walked.
-const GREAT_FAMILIES: [(i64, &[u32]); 9] = [
+static GREAT_FAMILIES: [(i64, &[u32]); 9] = [
     (44_000, &[44_000; 3]),
     (50_000, &[36_000; 3]),
     (20_000, &[1, 1, 15_000, 15_000, 15_000]),
@@ -129,17 +129,19 @@ fn goes_back(family: &SumFamily, place: u32) -> bool {
 }
 
 #[test]
-fn walked_vectors_are_found(rt: HostRuntime) {
-    for (total, bounds) in FAMILIES {
-        assert!(rt; all_found(rt.alloc(), total, bounds) == Ok(true));
+fn walked_vectors_are_found(rt: HostRuntime) -> Result<(), Fail> {
+    for (total, bounds) in &FAMILIES {
+        assert!(rt; all_found(rt.alloc(), *total, bounds)?);
     }
+    Ok(())
 }
 
 #[test]
-fn vectors_of_great_families_have_their_places(rt: HostRuntime) {
-    for (total, bounds) in GREAT_FAMILIES {
-        assert!(rt; ends_found(rt.alloc(), total, bounds) == Ok(true));
+fn vectors_of_great_families_have_their_places(rt: HostRuntime) -> Result<(), Fail> {
+    for (total, bounds) in &GREAT_FAMILIES {
+        assert!(rt; ends_found(rt.alloc(), *total, bounds)?);
     }
+    Ok(())
 }
 
 #[test]

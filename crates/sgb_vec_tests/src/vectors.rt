@@ -1,62 +1,62 @@
 use sgb_vec::{BoxFamily, Family, SumFamily, Vectors};
-use std::process::Abort;
 use std::test::Fail;
 
-// The vectors that are left are those of the list, taken from the front.
-fn from_front<F: Family, A: Abort>(rt: &A, mut vectors: Vectors<'_, F>, expected: &[&[u32]]) {
+// Whether the vectors that are left are those of the list, taken from the front.
+fn are_left<F: Family>(mut vectors: Vectors<'_, F>, expected: &[&[u32]]) -> bool {
     for entries in expected {
-        match vectors.next() {
-            Some(vector) => assert!(rt; vector.as_slice() == *entries),
-            None => assert!(rt; false),
+        let Some(vector) = vectors.next() else {
+            return false;
+        };
+        if vector.as_slice() != *entries {
+            return false;
         }
     }
-    assert!(rt; vectors.next().is_none());
-    assert!(rt; vectors.next_back().is_none());
+    vectors.next().is_none() && vectors.next_back().is_none()
 }
 
 // The same from the back: the list has the last one first.
-fn from_back<F: Family, A: Abort>(rt: &A, mut vectors: Vectors<'_, F>, expected: &[&[u32]]) {
+fn are_left_back<F: Family>(mut vectors: Vectors<'_, F>, expected: &[&[u32]]) -> bool {
     for entries in expected {
-        match vectors.next_back() {
-            Some(vector) => assert!(rt; vector.as_slice() == *entries),
-            None => assert!(rt; false),
+        let Some(vector) = vectors.next_back() else {
+            return false;
+        };
+        if vector.as_slice() != *entries {
+            return false;
         }
     }
-    assert!(rt; vectors.next_back().is_none());
-    assert!(rt; vectors.next().is_none());
+    vectors.next_back().is_none() && vectors.next().is_none()
 }
 
 #[test]
 fn all_of_a_box(rt: HostRuntime) -> Result<(), Fail> {
     let family = BoxFamily::new(&[2, 2])?;
-    from_front(
-        &rt,
-        Vectors::all(&family),
-        &[&[0, 0], &[0, 1], &[1, 0], &[1, 1]],
-    );
-    from_back(
-        &rt,
-        Vectors::all(&family),
-        &[&[1, 1], &[1, 0], &[0, 1], &[0, 0]],
-    );
+    assert!(rt; are_left(Vectors::all(&family), &[&[0, 0], &[0, 1], &[1, 0], &[1, 1]]));
+    assert!(rt; are_left_back(Vectors::all(&family), &[&[1, 1], &[1, 0], &[0, 1], &[0, 0]]));
     Ok(())
+}
+
+// Whether the vectors after this one are those of the list.
+fn are_after(family: &BoxFamily, vector: &[u32], expected: &[&[u32]]) -> bool {
+    let Some(vectors) = Vectors::after(family, vector) else {
+        return false;
+    };
+    are_left(vectors, expected)
+}
+
+// The same from the back.
+fn are_after_back(family: &BoxFamily, vector: &[u32], expected: &[&[u32]]) -> bool {
+    let Some(vectors) = Vectors::after(family, vector) else {
+        return false;
+    };
+    are_left_back(vectors, expected)
 }
 
 #[test]
 fn those_after_one_of_a_box(rt: HostRuntime) -> Result<(), Fail> {
     let family = BoxFamily::new(&[2, 3])?;
-    match Vectors::after(&family, &[1, 0]) {
-        Some(vectors) => from_back(&rt, vectors, &[&[1, 2], &[1, 1]]),
-        None => assert!(rt; false),
-    }
-    match Vectors::after(&family, &[1, 1]) {
-        Some(vectors) => from_front(&rt, vectors, &[&[1, 2]]),
-        None => assert!(rt; false),
-    }
-    match Vectors::after(&family, &[1, 2]) {
-        Some(vectors) => from_front(&rt, vectors, &[]),
-        None => assert!(rt; false),
-    }
+    assert!(rt; are_after_back(&family, &[1, 0], &[&[1, 2], &[1, 1]]));
+    assert!(rt; are_after(&family, &[1, 1], &[&[1, 2]]));
+    assert!(rt; are_after(&family, &[1, 2], &[]));
     let strangers: [&[u32]; 5] = [&[2, 0], &[0, 3], &[0], &[], &[0, 0, 0]];
     for stranger in strangers {
         assert!(rt; Vectors::after(&family, stranger).is_none());
@@ -64,36 +64,56 @@ fn those_after_one_of_a_box(rt: HostRuntime) -> Result<(), Fail> {
     Ok(())
 }
 
+// Whether the vectors are those of the pairs, the first one of each taken from the front and the other from the back.
+fn are_pairs<F: Family>(mut vectors: Vectors<'_, F>, pairs: &[[&[u32]; 2]]) -> bool {
+    for [front, back] in pairs {
+        let Some(first) = vectors.next() else {
+            return false;
+        };
+        let Some(last) = vectors.next_back() else {
+            return false;
+        };
+        if first.as_slice() != *front || last.as_slice() != *back {
+            return false;
+        }
+    }
+    vectors.next().is_none()
+}
+
 #[test]
 fn both_ends_in_turn(rt: HostRuntime) -> Result<(), Fail> {
     let family = SumFamily::new(rt.alloc(), 2, &[2, 2, 2])?;
-    let mut vectors = Vectors::all(&family);
-    let pairs: [(&[u32], &[u32]); 3] = [
-        (&[0, 0, 2], &[2, 0, 0]),
-        (&[0, 1, 1], &[1, 1, 0]),
-        (&[0, 2, 0], &[1, 0, 1]),
-    ];
-    for (front, back) in pairs {
-        match (vectors.next(), vectors.next_back()) {
-            (Some(first), Some(last)) => {
-                assert!(rt; first.as_slice() == front);
-                assert!(rt; last.as_slice() == back);
-            }
-            _ => assert!(rt; false),
-        }
-    }
-    assert!(rt; vectors.next().is_none());
+    assert!(rt;
+        are_pairs(
+            Vectors::all(&family),
+            &[
+                [&[0, 0, 2], &[2, 0, 0]],
+                [&[0, 1, 1], &[1, 1, 0]],
+                [&[0, 2, 0], &[1, 0, 1]],
+            ]
+        )
+    );
     Ok(())
 }
 
 #[test]
 fn families_without_vectors(rt: HostRuntime) -> Result<(), Fail> {
     let family = BoxFamily::new(&[2, 0])?;
-    from_front(&rt, Vectors::all(&family), &[]);
+    assert!(rt; are_left(Vectors::all(&family), &[]));
     assert!(rt; Vectors::after(&family, &[0, 0]).is_none());
     let none = SumFamily::new(rt.alloc(), 4, &[1, 1])?;
-    from_back(&rt, Vectors::all(&none), &[]);
+    assert!(rt; are_left_back(Vectors::all(&none), &[]));
     Ok(())
+}
+
+// Whether the vectors of the list stand at the front one after another, and then there is none.
+fn stand_in_front<F: Family>(vectors: &mut Vectors<'_, F>, expected: &[&[u32]]) -> bool {
+    for vector in expected {
+        if vectors.front() != Some(*vector) || !vectors.advance() {
+            return false;
+        }
+    }
+    vectors.front().is_none() && !vectors.advance()
 }
 
 #[test]
@@ -102,26 +122,24 @@ fn the_front_one_where_it_stands(rt: HostRuntime) -> Result<(), Fail> {
     let mut vectors = Vectors::all(&family);
     let last = vectors.next_back();
     assert!(rt; last.is_some_and(|vector| vector.as_slice() == [1, 1].as_slice()));
-    let expected: [&[u32]; 3] = [&[0, 0], &[0, 1], &[1, 0]];
-    for vector in expected {
-        assert!(rt; vectors.front() == Some(vector));
-        assert!(rt; vectors.advance());
-    }
-    assert!(rt; vectors.front().is_none());
-    assert!(rt; !vectors.advance());
+    assert!(rt; stand_in_front(&mut vectors, &[&[0, 0], &[0, 1], &[1, 0]]));
     Ok(())
+}
+
+// Whether the vectors of the list stand at the back one after another, and then there is none.
+fn stand_at_the_back<F: Family>(vectors: &mut Vectors<'_, F>, expected: &[&[u32]]) -> bool {
+    for vector in expected {
+        if vectors.back() != Some(*vector) || !vectors.retreat() {
+            return false;
+        }
+    }
+    vectors.back().is_none() && !vectors.retreat()
 }
 
 #[test]
 fn the_back_one_where_it_stands(rt: HostRuntime) -> Result<(), Fail> {
     let family = SumFamily::new(rt.alloc(), 2, &[2, 2])?;
     let mut vectors = Vectors::all(&family);
-    let expected: [&[u32]; 3] = [&[2, 0], &[1, 1], &[0, 2]];
-    for vector in expected {
-        assert!(rt; vectors.back() == Some(vector));
-        assert!(rt; vectors.retreat());
-    }
-    assert!(rt; vectors.back().is_none());
-    assert!(rt; !vectors.retreat());
+    assert!(rt; stand_at_the_back(&mut vectors, &[&[2, 0], &[1, 1], &[0, 2]]));
     Ok(())
 }
