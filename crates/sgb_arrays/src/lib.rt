@@ -2,6 +2,8 @@
 //! random numbers, each put into slices that the caller hands in.
 #![tactic(auto)]
 
+// A graph whose arcs are counted once.
+mod counted;
 // Random numbers in an array.
 mod draws;
 // Utility fields of vertices as arrays.
@@ -23,6 +25,7 @@ mod names;
 // Values put from a place on.
 mod puts;
 
+pub use counted::Counted;
 pub use draws::{fill_draws, fill_uniform_draws};
 pub use fields::fill_ints;
 pub use files::{file_len, fill_file};

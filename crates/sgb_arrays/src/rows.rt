@@ -52,19 +52,44 @@ pub fn fill_rows(
         × (HaveRowLengths graph.now starts.old tips.old lengths.old → ⊥)
         × (starts.new ≡ starts.old) × (tips.new ≡ tips.old) × (lengths.new ≡ lengths.old)) }
 {
-    if !have_row_lengths(graph, starts, tips, lengths) {
+    let arcs = arcs_len(graph);
+    fill_counted_rows(graph, arcs, starts, tips, lengths)
+}
+
+/// The same where the arcs on the lists are counted already.
+pub(crate) fn fill_counted_rows(
+    graph: &Graph,
+    arcs: u128,
+    starts: &mut [u64],
+    tips: &mut [u32],
+    lengths: &mut [i64],
+) -> Result<(), Wrong>
+    requires { arcs ≡ length (arcs_of graph.now) }
+    ensures filled { OnOk result (HaveRowLengths graph.now starts.old tips.old lengths.old
+        × AreRows graph.now starts.new tips.new lengths.new) }
+    ensures refused { IfErr result (λ why. (why ≡ wrong.Length)
+        × (HaveRowLengths graph.now starts.old tips.old lengths.old → ⊥)
+        × (starts.new ≡ starts.old) × (tips.new ≡ tips.old) × (lengths.new ≡ lengths.old)) }
+{
+    if !have_row_lengths(graph, arcs, starts, tips, lengths) {
         return Err(Wrong::Length);
     }
     put_rows(graph, starts, tips, lengths);
     Ok(())
 }
 
-// Whether these arrays have the lengths that the lists of the graph must have.
-fn have_row_lengths(graph: &Graph, starts: &[u64], tips: &[u32], lengths: &[i64]) -> bool
+// Whether these arrays have the lengths that the lists of the graph must have, which have so many arcs.
+fn have_row_lengths(
+    graph: &Graph,
+    arcs: u128,
+    starts: &[u64],
+    tips: &[u32],
+    lengths: &[i64],
+) -> bool
+    requires { arcs ≡ length (arcs_of graph.now) }
     ensures fits { OnTrue result (HaveRowLengths graph.now starts.now tips.now lengths.now) }
     ensures other { OnFalse result (HaveRowLengths graph.now starts.now tips.now lengths.now → ⊥) }
 {
-    let arcs = arcs_len(graph);
     starts.len() as u64 == u64::from(graph.n()) + 1
         && u128::from(tips.len() as u64) == arcs
         && u128::from(lengths.len() as u64) == arcs

@@ -2,15 +2,15 @@
 ghost use Rattle.std.specs.Prelude.{◌≡◌, Option, Some, None, is_some, true};
 ghost use Rattle.sgb_c.specs.declared.handles.Held.{Held};
 
-use sgb_graph::Graph;
+use sgb_arrays::Counted;
 use std::alloc::Global;
 use std::marker::Model;
 
 /// A graph in a block of its own.
 #[derive(Drop)]
 pub struct Held {
-    /// The graph.
-    pub graph: Graph,
+    /// The graph, with its arcs on lists counted.
+    pub graph: Counted,
 }
 
 /// The pointer to a graph that is held, or to none. Only the ghost field says which: code that needs to know keeps a flag

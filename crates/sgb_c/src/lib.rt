@@ -34,10 +34,9 @@ use families::{
 };
 use graphs::GraphHandle;
 use sgb_arrays::{
-    arcs_len, file_len, fill_draws, fill_file, fill_id, fill_ints, fill_kinds, fill_names,
-    fill_rows, fill_uniform_draws, names_len,
+    Counted, file_len, fill_draws, fill_file, fill_id, fill_ints, fill_kinds, fill_names,
+    fill_uniform_draws, names_len,
 };
-use sgb_graph::Graph;
 use std::alloc::Global;
 use texts::held_graph;
 
@@ -123,7 +122,7 @@ pub extern "C" fn sgb_rows(
 {
     match graph.take(alloc) {
         Some(held) => {
-            let number = number_of(fill_rows(&held.graph, starts, tips, lengths));
+            let number = number_of(held.graph.fill_rows(starts, tips, lengths));
             graph.put(held);
             number
         }
@@ -148,7 +147,7 @@ pub extern "C" fn sgb_names(
 {
     match graph.take(alloc) {
         Some(held) => {
-            let number = number_of(fill_names(&held.graph, starts, bytes));
+            let number = number_of(fill_names(held.graph.graph(), starts, bytes));
             graph.put(held);
             number
         }
@@ -174,7 +173,7 @@ pub extern "C" fn sgb_ints(
 {
     match graph.take(alloc) {
         Some(held) => {
-            let number = number_of(fill_ints(&held.graph, field, values));
+            let number = number_of(fill_ints(held.graph.graph(), field, values));
             graph.put(held);
             number
         }
@@ -193,7 +192,7 @@ pub extern "C" fn sgb_id(alloc: Global, graph: &mut GraphHandle, bytes: &mut [u8
 {
     match graph.take(alloc) {
         Some(held) => {
-            let number = number_of(fill_id(&held.graph, bytes));
+            let number = number_of(fill_id(held.graph.graph(), bytes));
             graph.put(held);
             number
         }
@@ -212,7 +211,7 @@ pub extern "C" fn sgb_kinds(alloc: Global, graph: &mut GraphHandle, letters: &mu
 {
     match graph.take(alloc) {
         Some(held) => {
-            let number = number_of(fill_kinds(&held.graph, letters));
+            let number = number_of(fill_kinds(held.graph.graph(), letters));
             graph.put(held);
             number
         }
@@ -230,7 +229,7 @@ pub extern "C" fn sgb_file_size(alloc: Global, graph: &mut GraphHandle, size: &m
 {
     match graph.take(alloc) {
         Some(held) => {
-            *size = file_len(&held.graph);
+            *size = file_len(held.graph.graph());
             graph.put(held);
             0
         }
@@ -250,7 +249,7 @@ pub extern "C" fn sgb_file(alloc: Global, graph: &mut GraphHandle, bytes: &mut [
 {
     match graph.take(alloc) {
         Some(held) => {
-            let number = number_of(fill_file(&held.graph, bytes));
+            let number = number_of(fill_file(held.graph.graph(), bytes));
             graph.put(held);
             number
         }
@@ -384,13 +383,14 @@ pub extern "C" fn sgb_uniform_draws(start: i64, skip: u64, m: u32, out: &mut [u3
 }
 
 // The sizes of a graph.
-fn sizes_of(graph: &Graph) -> Sizes
-    ensures { AreSizes graph.now result }
+fn sizes_of(counted: &Counted) -> Sizes
+    ensures { AreSizes counted.now result }
 {
+    let graph = counted.graph();
     Sizes {
         vertices: u64::from(graph.n()),
         arcs: graph.m(),
-        listed: arcs_len(graph).min(u128::from(u64::MAX)) as u64,
+        listed: counted.arcs_len().min(u128::from(u64::MAX)) as u64,
         names: names_len(graph),
         id: graph.id().bytes().len() as u64,
     }

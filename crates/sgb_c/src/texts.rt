@@ -4,6 +4,7 @@ ghost use Rattle.sgb_c.specs.Answers.{IsGraphNamed};
 
 use crate::handles::Held;
 use sgb::{Fault, graph_of, parse_expr};
+use sgb_arrays::Counted;
 use sgb_graph::Graph;
 use sgb_vec::Panic;
 use std::alloc::Global;
@@ -14,6 +15,7 @@ pub(crate) fn held_graph(alloc: Global, text: &[u8], input: &[u8]) -> Result<Box
     ensures refused { IfErr result (λ f. IsGraphNamed text.now input.now (Err f)) }
 {
     let graph = graph_named(alloc, text, input)?;
+    let graph = Counted::new(graph);
     Box::new(alloc, Held { graph }).map_err(|_| Fault::Panic(Panic::NoRoom))
 }
 

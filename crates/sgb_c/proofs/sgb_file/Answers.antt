@@ -1,5 +1,7 @@
-use Rattle.std.proofs.Common.{◌≡◌, ◌∙◌, Some, ap, length}
+use Rattle.std.proofs.Common.{◌≡◌, ◌∙◌, Some, ap, length, subst}
+use Rattle.std.specs.Prelude.{IfErr, OnOk}
 use Rattle.sgb_file.specs.Saving.{text_of_graph}
+use Rattle.sgb_graph.specs.Graphs.{GraphData}
 use Rattle.sgb_arrays.specs.declared.refusals.Wrong.TheVariants as wrong
 use Rattle.sgb_c.specs.Answers.{number_of_wrong}
 use Rattle.sgb_c.proofs.OnHandles.{list_answered, on_held}
@@ -10,8 +12,12 @@ returns-in-Some-clause-answer c =
     let held = c.deref.result.now in
     let old = c.args.bytes.now in
     let new = c.fill_file.new.bytes in
+    let filled =
+    subst (λ (g : GraphData). OnOk c.fill_file.result ((length old ≡ length (text_of_graph g)) × (new ≡ text_of_graph g))) c.graph.ensures c.fill_file.ensures.filled in
+    let refused =
+    subst (λ (g : GraphData). IfErr c.fill_file.result (λ why. (why ≡ wrong.Length) × (length old ≡ length (text_of_graph g) → ⊥) × (new ≡ old))) c.graph.ensures c.fill_file.ensures.refused in
     on_held c.args.graph.now.held.value held
     (λ g. (length old ≡ length (text_of_graph g)) × (new ≡ text_of_graph g))
     (λ g number. (number ≡ number_of_wrong wrong.Length) × (length old ≡ length (text_of_graph g) → ⊥))
     (new ≡ old) c.number_of-number.result (ap Some c.deref.ensures ∙ c.in-Some.ensures.taken)
-    (list_answered c.fill_file.result c.number_of-number.result (text_of_graph held.graph) old new c.number_of-number.ensures c.fill_file.ensures.filled c.fill_file.ensures.refused)
+    (list_answered c.fill_file.result c.number_of-number.result (text_of_graph held.graph) old new c.number_of-number.ensures filled refused)

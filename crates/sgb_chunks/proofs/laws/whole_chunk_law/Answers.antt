@@ -1,7 +1,4 @@
-use Rattle.std.proofs.Common.{◌∙◌, refl, ap, ap₂, sym, length, map}
-use Rattle.std.specs.List.{flat_map, range_with_len}
-use Rattle.sgb_arrays.specs.Lists.{names_of, starts_from}
-use Rattle.sgb_arrays.specs.Names.{name_bytes, name_starts}
+use Rattle.std.proofs.Common.{refl}
 use Rattle.sgb_arrays.specs.Rows.{arcs_of, starts_of}
 use Rattle.sgb_chunks.specs.Chunks.{chunk_of, chunk_starts}
 use Rattle.sgb_chunks.proofs.NamesInOrder.{names_parts, names_sizes}
