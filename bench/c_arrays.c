@@ -523,7 +523,8 @@ static void chunk_wrong(void) {
             must(get_chunk_rows(0, 0, by), SGB_WRONG_LENGTH, "sgb_chunk_rows with wrong lengths");
         }
         must(get_chunk_names(by, 0), SGB_WRONG_LENGTH, "sgb_chunk_names with wrong starts");
-        must(get_chunk_names(0, by), SGB_WRONG_LENGTH, "sgb_chunk_names with wrong bytes");
+        if (by > 0 || sizes.names > 0)
+            must(get_chunk_names(0, by), SGB_WRONG_LENGTH, "sgb_chunk_names with wrong bytes");
         all_untouched("an array of a wrong length is written to");
     }
     is_not_there(n / 3, n - n / 3 + 1);
@@ -536,8 +537,8 @@ static void chunk_wrong(void) {
     is_not_there(UINT32_MAX, UINT32_MAX);
     free_arrays();
     /* no vertices, at the start and at the end */
-    for (uint64_t from = 0; from <= n; from += n) {
-        begin_chunk(from, 0);
+    for (int is_end = 0; is_end < 2; is_end++) {
+        begin_chunk(is_end ? n : 0, 0);
         if (sizes.listed != 0 || sizes.names != 0) fail("a chunk of no vertices has arcs or names");
         list_chunk();
         free_arrays();
