@@ -129,8 +129,9 @@ uint64_t sgb_file(sgb_graph *graph, char *bytes, size_t bytes_len);
 /* The number of vertices, n. This is at once. */
 uint64_t sgb_family_vertices(const char *text, size_t text_len, uint64_t *vertices);
 
-/* The number of arcs, m; 2^64 - 1 also where there are more. An edge counts as two. They are counted without their lists: at
- * once for boards and simplexes; subsets of a sum of 20 or more are walked over, which takes long where there are many. */
+/* The number of arcs, m; 2^64 - 1 also where there are more. An edge counts as two. They are counted without their lists: of a
+ * board by its displacements, of a simplex at once; subsets of a sum of 20 or more are walked over, which takes long where
+ * there are many. */
 uint64_t sgb_family_arcs(const char *text, size_t text_len, uint64_t *arcs);
 
 /* A chunk is `count` vertices of the graph, one after another from vertex `first` on; all of them have to be there, or the
@@ -138,7 +139,7 @@ uint64_t sgb_family_arcs(const char *text, size_t text_len, uint64_t *arcs);
  * calls.
  *
  * Each of the three takes as long as its chunk, and for a board as its displacements once more; this one as long as the other
- * two. Chunks of some ten thousand vertices are right. */
+ * two. Chunks of some ten thousand vertices are right, of fewer where lists are long. */
 uint64_t sgb_chunk_sizes(const char *text, size_t text_len, uint32_t first, uint32_t count, uint64_t *listed,
                          uint64_t *names);
 

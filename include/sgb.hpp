@@ -1,4 +1,4 @@
-// The library of sgb.h for C++20: a graph by its official name, with its arrays.
+// The library of sgb.h for C++20: a graph by its official name, with its arrays; a great one in chunks.
 //
 //     sgb::graph g("petersen()");
 //     for (std::uint32_t v : g.tips(0)) ...

@@ -7,6 +7,7 @@ SGB_WITHOUT_NUMPY=1 the package does without numpy.
 
 import collections
 import gc
+import math
 import os
 import subprocess
 import sys
@@ -215,6 +216,9 @@ class Chunks(unittest.TestCase):
         self.assertEqual(part.names, [str(n - 2), str(n - 1)])
         self.assertEqual([list(part.neighbors(v)) for v in (n - 2, n - 1)], [[n - 1, n - 3], [n - 2]])
         self.assertEqual(next(sgb.chunks(text)).n, 65_536)
+        # a unit goes from one place to another, in either direction; one of 6 is exchanged for one of the other 54
+        self.assertEqual(sgb.arcs("simplex(44000,-2,0,0,0,0,0)"), 3 * 44_000 * 44_001)
+        self.assertEqual(sgb.arcs("subsets(6,1,-59,0,0,0,0x20,0)"), math.comb(60, 6) * 6 * 54)
         parts = sgb.chunks(text, 10)
         self.assertEqual([next(parts).first, next(parts).first], [0, 10])
 
