@@ -114,7 +114,8 @@ fn a_great_graph_has_a_last_chunk() {
     assert_eq!((vertices_of(text), arcs_of(text)), (Ok(1_000_000_000), Ok(1_999_999_998)));
     let chunk = Chunk::new(text, 999_999_998, 2).unwrap();
     assert_eq!(chunk.names().unwrap(), ["999999998", "999999999"]);
-    assert_eq!((chunk.starts, chunk.tips, chunk.lengths), (vec![0, 2, 3], vec![999_999_999, 999_999_997, 999_999_998], vec![1; 3]));
+    assert_eq!((chunk.starts, chunk.lengths), (vec![0, 2, 3], vec![1; 3]));
+    assert_eq!(chunk.tips, [999_999_999, 999_999_997, 999_999_998]);
 }
 
 #[test]
