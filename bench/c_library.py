@@ -5,6 +5,8 @@ bench/c_arrays.c is compiled against include/sgb.h, once with libsgb.a and once 
 with OUTSIDE_WITHOUT_LIBRARY=1 are they left out, and a line says so.
 """
 
+import itertools
+import math
 import os
 import re
 import shutil
@@ -45,6 +47,17 @@ induced(circuit(4),[-1,1,-1,1],0,0,0) induced(complete(3),[1,2,circuit(3)],0,0,0
 bi_complete(2,3,0) bi_complete(3,1,1) wheel(5,1,0) wheel(4,2,1)
 stdin gunion(stdin,stdin,1,1) lines(stdin,1)
 """.split()
+
+# whose calls name graphs that need not be built
+GENERATORS = "board simplex subsets complete transitive empty circuit cycle disjoint_subsets petersen".split()
+
+# graphs that no memory would hold, with how many vertices each has, and how many are looked at at once
+GREAT = [
+    ("board(1000000000,0,0,0,1,0,0)", 10**9, 1000),
+    ("board(1000,1000,1000,0,-3,3,0)", 10**9, 3),
+    ("simplex(44000,-2,0,0,0,0,0)", 44001 * 44002 // 2, 30),
+    ("subsets(6,1,-59,0,0,0,0x20,0)", math.comb(60, 6), 2),
+]
 
 # texts and inputs with the answer of each
 ANSWERS = [
@@ -101,6 +114,10 @@ def input_of(expression):
     return SHARED if "stdin" in expression else b""
 
 
+def is_generator(expression):
+    return expression.split("(")[0] in GENERATORS
+
+
 KEPT = {}
 
 
@@ -148,6 +165,46 @@ def tables(tally, program, path):
             tally.same((path, word, expression), ran(path, word, expression, given=given), (0, b"right\n", b""))
 
 
+def chunks(tally, program, path):
+    """Graphs that are not built, by chunks of several sizes; wrong lengths, and chunks that are not there."""
+    for expression in filter(is_generator, EXPRESSIONS):
+        wanted = ran(program, "list", expression, "--skip", "0")
+        for size in ("1", "3", "7", "1000"):
+            tally.same((path, "chunks", expression, size), ran(path, "chunks", expression, size), wanted)
+        tally.same((path, "chunk_wrong", expression), ran(path, "chunk_wrong", expression), (0, b"right\n", b""))
+        # where there is no vertex 0, there is no chunk of it
+        answers = b"0 0 0 101 101\n" if wanted[1] else b"0 0 106 106 106\n"
+        tally.same((path, "chunk_answer", expression), ran(path, "chunk_answer", expression), (0, answers, b""))
+    for expression, n, count in GREAT:
+        for first in (0, n // 2, n - count):
+            words = (expression, str(first), str(count))
+            status, seen, err = ran(path, "chunk", *words)
+            tally.check(status == 0 and not err, path, "chunk", *words, "gave", (status, err))
+            lines, after = begun(program, expression, first, seen.count(b"\n"))
+            tally.same((path, "chunk", *words), seen, lines)
+            # the next line begins another block, where there is one
+            is_whole = not after.startswith(b" ") and (after == b"") == (first + count == n)
+            tally.check(is_whole, program, expression, "goes on after vertex", first + count - 1, "with", after)
+    # another expression, a text that is refused, and parameters that are: each of the five calls says so
+    others = [(expression, 107) for expression in EXPRESSIONS if not is_generator(expression)]
+    for text, _, number in ANSWERS:
+        is_refused = is_generator(text) or number == 100 or number >= 1000
+        others.append((text, number if is_refused else 107))
+    for text, number in others:
+        answers = " ".join([str(number)] * 5) + "\n"
+        tally.same((path, "chunk_answer", text[:40]), ran(path, "chunk_answer", text), (0, answers.encode(), b""))
+
+
+def begun(program, expression, first, count):
+    """So many lines of the listing from that vertex on, and the next line, if there is one. The program stops there."""
+    words = [program, "list", expression, "--skip", str(first)]
+    with subprocess.Popen(words, stdout=subprocess.PIPE, stderr=subprocess.DEVNULL) as process:
+        lines = b"".join(itertools.islice(process.stdout, count))
+        after = process.stdout.readline()
+        process.stdout.close()
+    return lines, after
+
+
 def refusals(tally, program, path):
     """Texts and files that are no graph: the answer, after which the handle holds none."""
     # a file that ends too early, wherever it does
@@ -181,6 +238,7 @@ def checks_of(program, name):
         path = is_there(tally, name) and compiled(runs, tally, LIBRARIES[name], "c_" + name)
         if path:
             tables(tally, program, path)
+            chunks(tally, program, path)
             refusals(tally, program, path)
             draws(tally, program, path)
 
@@ -192,9 +250,10 @@ def memory(runs, tally):
     path = is_there(tally, "libsgb.a") and compiled(runs, tally, LIBRARIES["libsgb.a"], "c_counted", WRAPPED)
     for expression in EXPRESSIONS if path else ():
         if "60,60" not in expression:
-            status, out, err = ran(path, "refuse", expression, given=SHARED)
-            is_right = status == 0 and re.fullmatch(rb"right [1-9][0-9]*\n", out) and not err
-            tally.check(is_right, path, "refuse", expression, "gave", (status, out, err))
+            for word in ("refuse", "chunk_refuse")[: 1 + is_generator(expression)]:
+                status, out, err = ran(path, word, expression, given=SHARED)
+                is_right = status == 0 and re.fullmatch(rb"right [1-9][0-9]*\n", out) and not err
+                tally.check(is_right, path, word, expression, "gave", (status, out, err))
 
 
 def structures(program):
@@ -291,7 +350,7 @@ def page(document):
     def checks(runs, tally):
         """The commands of docs/CALLING_FROM_C.md give what stands there."""
         if is_there(tally, *LIBRARIES):
-            document("docs/CALLING_FROM_C.md", 9)(runs, tally)
+            document("docs/CALLING_FROM_C.md", 13)(runs, tally)
 
     return checks
 

@@ -7,7 +7,8 @@
  *
  * Link with libsgb.a or libsgb.so. The library calls malloc, realloc and free of the program, with memcpy, memmove and
  * memset, and nothing else; it has no state of its own, and writes nothing. What it holds is in the handles that are open:
- * sgb_close gives it back, and a call that answers out of memory holds nothing more than before.
+ * sgb_close gives it back, and a call that answers out of memory holds nothing more than before. A call without a handle
+ * holds nothing when it has answered.
  *
  * A graph is named by an expression, as `sgb` takes it: "board(8,8,0,0,-1,0,0)", "petersen()", "lines(stdin,0)". The
  * expression `stdin` is the graph of the `.gb` file whose bytes are handed in as `input`; else these are not looked at. A
@@ -15,7 +16,9 @@
  *
  * Arrays belong to the caller, who hands in each with its length. A call fills all of its arrays, or leaves all of them as
  * they were: an array of another length than it must have is never written to (SGB_WRONG_LENGTH). sgb_sizes says which
- * lengths these are, sgb_file_size that of a file.
+ * lengths these are, sgb_file_size that of a file, sgb_chunk_sizes those of a chunk.
+ *
+ * A graph that is too great to be built is gone through in chunks, which need no handle: see sgb_chunk_sizes.
  *
  * What a caller owes: each pointer leads to as many values as its length says, which are no other argument's, and is not
  * NULL, also where the length is 0 (any address that fits the type does then). A handle begins as SGB_NO_GRAPH, is changed
@@ -51,6 +54,8 @@ extern "C" {
 #define SGB_BAD_BOUND 103         /* a uniform draw has a bound from 1 to 2^31 */
 #define SGB_ALREADY_OPEN 104      /* the handle holds a graph, which stays: close it first */
 #define SGB_NOT_OPEN 105          /* the handle holds no graph */
+#define SGB_NO_VERTEX 106         /* some of the chunk's vertices are none of the graph */
+#define SGB_NO_GENERATOR 107      /* the expression is no call of a generator: it has to be opened */
 #define SGB_BAD_EXPRESSION 1000   /* this and more: the text is no expression; what is above 1000 is the length of the
                                      longest prefix of it that begins one */
 
@@ -78,7 +83,7 @@ uint64_t sgb_open(const char *text, size_t text_len, const char *input, size_t i
 /* Gives the graph back, if one is open. */
 void sgb_close(sgb_graph *graph);
 
-/* The sizes of the graph that is open. No memory is taken, by this call and those below. */
+/* The sizes of the graph that is open. No memory is taken, by this call and the others on a graph that is open. */
 uint64_t sgb_sizes(sgb_graph *graph, sgb_graph_sizes *sizes);
 
 /* The lists of arcs of all vertices, one after another, each in its order. The list of vertex v is what stands in `tips` and
@@ -113,6 +118,42 @@ uint64_t sgb_file_size(sgb_graph *graph, uint64_t *size);
 /* The graph's `.gb` file (GB_SAVE, save_graph), as `sgb save` writes it.
  * `bytes` has as many places as sgb_file_size says. */
 uint64_t sgb_file(sgb_graph *graph, char *bytes, size_t bytes_len);
+
+/* Graphs that are not built: those of generators' calls. Such a call is board, simplex or subsets with its parameters, or a
+ * name for one, as complete(5), circuit(5) or petersen(). Other expressions have to be opened, and are answered with
+ * SGB_NO_GENERATOR here: operations, bi_complete and wheel among them, and `stdin`.
+ *
+ * These calls have no handle. Each reads the text anew, takes memory while it runs (a chunk's arrays once more), and holds
+ * none afterwards. Where it answers another number than 0, out of memory too, all arrays and numbers are as they were. */
+
+/* The number of vertices, n. This is at once. */
+uint64_t sgb_family_vertices(const char *text, size_t text_len, uint64_t *vertices);
+
+/* The number of arcs, m; 2^64 - 1 also where there are more. An edge counts as two. They are counted without their lists: of a
+ * board by its displacements, of a simplex at once; subsets of a sum of 20 or more are walked over, which takes long where
+ * there are many. */
+uint64_t sgb_family_arcs(const char *text, size_t text_len, uint64_t *arcs);
+
+/* A chunk is `count` vertices of the graph, one after another from vertex `first` on; all of them have to be there, or the
+ * answer is SGB_NO_VERTEX. These are the arcs on its lists, and the bytes of its names: so long are the arrays of the next two
+ * calls.
+ *
+ * Each of the three takes as long as its chunk, and for a board as its displacements once more; this one as long as the other
+ * two. Chunks of some ten thousand vertices are right, of fewer where lists are long. */
+uint64_t sgb_chunk_sizes(const char *text, size_t text_len, uint32_t first, uint32_t count, uint64_t *listed,
+                         uint64_t *names);
+
+/* The lists of arcs of a chunk, one after another, each in its order. The list of vertex first + k is what stands in `tips` and
+ * `lengths` from starts[k] up to starts[k + 1]; starts[0] is 0. A tip is a vertex of the whole graph.
+ * `starts` has count + 1 places, `tips` and `lengths` have `listed` ones. */
+uint64_t sgb_chunk_rows(const char *text, size_t text_len, uint32_t first, uint32_t count, uint64_t *starts,
+                        size_t starts_len, uint32_t *tips, size_t tips_len, int64_t *lengths, size_t lengths_len);
+
+/* The names of a chunk, one after another, with nothing between them. The name of vertex first + k is what stands in `bytes`
+ * from starts[k] up to starts[k + 1]; starts[0] is 0.
+ * `starts` has count + 1 places, `bytes` has `names` ones. */
+uint64_t sgb_chunk_names(const char *text, size_t text_len, uint32_t first, uint32_t count, uint64_t *starts,
+                         size_t starts_len, char *bytes, size_t bytes_len);
 
 /* Random numbers of GB_FLIP: a generator is started from `start`, its first `skip` draws are left out, and the next ones fill
  * `out`. No memory is taken. */

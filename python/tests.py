@@ -7,6 +7,7 @@ SGB_WITHOUT_NUMPY=1 the package does without numpy.
 
 import collections
 import gc
+import math
 import os
 import subprocess
 import sys
@@ -27,6 +28,8 @@ GRAPHS = [
     "simplex(3,-3,0,0,0,0,0)", "disjoint_subsets(6,3)", "gunion(complete(3),circuit(3),1,1)", "lines(complete(4),0)",
     "product(complete(2),complete(3),0,0)", "wheel(5,1,0)", "board(60,60,0,0,1,0,0)",
 ]
+# those of generators: what else there is has to be built
+FAMILIES = [text for text in GRAPHS if text.split("(")[0] not in ("gunion", "lines", "product", "wheel")]
 FILE = b"""\
 * GraphBase graph (util_types ZZZZZZZZZZZZZZ,2V,2A)
 "two",2,2
@@ -156,6 +159,111 @@ class Arrays(unittest.TestCase):
         with self.assertRaises(sgb.GraphError) as why:
             sgb.flip(0, 0, 1, 2**31 + 1)
         self.assertEqual(why.exception.code, 103)
+
+
+class Chunks(unittest.TestCase):
+    def test_whole(self):
+        """The chunks of a graph, put together, are its arrays."""
+        for text in FAMILIES:
+            graph = sgb.graph(text)
+            self.assertEqual((sgb.vertices(text), sgb.arcs(text)), (graph.n, graph.m))
+            for size in (1, 3, 7, 1000, 10**12):
+                with self.subTest(text, size=size):
+                    self.is_joined(graph, list(sgb.chunks(text, size)), size)
+
+    def is_joined(self, graph, parts, size):
+        self.assertEqual([part.first for part in parts], list(range(0, graph.n, size)))
+        starts, tips, lengths, names = [0], [], [], []
+        for part in parts:
+            self.assertEqual((part.n, len(part)), (len(part.starts) - 1,) * 2)
+            self.assertEqual(part.starts[0], 0)
+            starts += [len(tips) + int(start) for start in part.starts[1:]]
+            tips += part.tips.tolist()
+            lengths += part.lengths.tolist()
+            names += part.names
+        seen = (starts, tips, lengths, names)
+        self.assertEqual(seen, (graph.starts.tolist(), graph.tips.tolist(), graph.lengths.tolist(), graph.names))
+
+    def test_part(self):
+        graph = sgb.graph(BOARD)
+        for first, count in ((0, 12), (5, 4), (7, None), (12, None), (12, 0), (3, 0)):
+            parts = list(sgb.chunks(BOARD, 3, first, count))
+            last = graph.n if count is None else first + count
+            self.assertEqual([name for part in parts for name in part.names], graph.names[first:last])
+            for part in parts:
+                self.assertEqual(part.text, BOARD)
+                for v in range(part.first, part.first + part.n):
+                    self.assertEqual(list(part.neighbors(v)), list(graph.neighbors(v)))
+                for wrong in (part.first - 1, part.first + part.n, -1):
+                    with self.assertRaises(IndexError):
+                        part.neighbors(wrong)
+
+    def test_arrays(self):
+        (part,) = sgb.chunks("petersen()", first=8)
+        self.assertEqual((part.first, part.n, list(part.starts)), (8, 2, [0, 3, 6]))
+        wanted = memoryview if sgb.numpy is None else sgb.numpy.ndarray
+        for array, size in ((part.starts, 8), (part.tips, 4), (part.lengths, 8)):
+            self.assertIsInstance(array, wanted)
+            self.assertEqual(array.itemsize, size)
+        self.assertIs(part.names, part.names)
+
+    def test_great(self):
+        """The last vertices of a graph that no memory would hold, and what is asked for is made alone."""
+        n = 10**9
+        text = f"board({n},0,0,0,1,0,0)"
+        self.assertEqual((sgb.vertices(text), sgb.arcs(text)), (n, 2 * n - 2))
+        (part,) = sgb.chunks(text, first=n - 2)
+        self.assertEqual(part.names, [str(n - 2), str(n - 1)])
+        self.assertEqual([list(part.neighbors(v)) for v in (n - 2, n - 1)], [[n - 1, n - 3], [n - 2]])
+        self.assertEqual(next(sgb.chunks(text)).n, 65_536)
+        # a unit goes from one place to another, in either direction; one of 6 is exchanged for one of the other 54
+        self.assertEqual(sgb.arcs("simplex(44000,-2,0,0,0,0,0)"), 3 * 44_000 * 44_001)
+        self.assertEqual(sgb.arcs("subsets(6,1,-59,0,0,0,0x20,0)"), math.comb(60, 6) * 6 * 54)
+        parts = sgb.chunks(text, 10)
+        self.assertEqual([next(parts).first, next(parts).first], [0, 10])
+
+    def test_errors(self):
+        for text, given, code, byte in ERRORS:
+            with self.subTest(text[:40]):
+                # `stdin` is no call of a generator: nothing is read
+                wanted = (107, None) if text == "stdin" else (code, byte)
+                for call in (sgb.chunks, sgb.vertices, sgb.arcs, lambda text: sgb.Chunk(text, 0, 1)):
+                    with self.assertRaises(sgb.GraphError) as why:
+                        call(text)
+                    self.assertEqual((why.exception.code, why.exception.byte), wanted)
+        for text in set(GRAPHS) - set(FAMILIES):
+            with self.assertRaises(sgb.GraphError) as why:
+                sgb.chunks(text)
+            self.assertEqual(why.exception.code, 107)
+        with self.assertRaises(sgb.GraphError) as why:
+            sgb.Chunk(BOARD, 12, 1)
+        self.assertEqual(why.exception.code, 106)
+
+    def test_bad_arguments(self):
+        """They are refused at once, before the first chunk is asked for."""
+        for size in (0, -1):
+            with self.assertRaises(ValueError) as why:
+                sgb.chunks(BOARD, size)
+            self.assertNotIsInstance(why.exception, sgb.GraphError)
+        for first, count in ((-1, None), (13, None), (0, -1), (0, 13), (12, 1), (2**32, 0), (0, 2**32 + 1)):
+            with self.assertRaises(IndexError):
+                sgb.chunks(BOARD, 3, first, count)
+        # a number of more than 32 bits is not taken for another one
+        for first, n in ((2**32, 1), (0, 2**32 + 1), (-(2**32), 1), (0, 1 - 2**32)):
+            with self.assertRaises(IndexError):
+                sgb.Chunk(BOARD, first, n)
+        for words in ((1.5,), (3, 1.5), (3, 0, 1.5)):
+            with self.assertRaises(TypeError):
+                sgb.chunks(BOARD, *words)
+
+    def test_memory(self):
+        """Arrays that are refused memory are an error, and no chunk."""
+        array, sgb._Array = sgb._Array, lambda *_: (_ for _ in ()).throw(MemoryError())
+        try:
+            with self.assertRaises(MemoryError):
+                next(sgb.chunks(BOARD))
+        finally:
+            sgb._Array = array
 
 
 class Handles(unittest.TestCase):

@@ -7,6 +7,11 @@
     graph.tips[graph.starts[0]:graph.starts[1]]   # where the arcs of vertex 0 lead
     graph.names[0]                                # '0.0.0.1.1'
 
+A graph that is too great to be built is gone through in chunks of its vertices, where it is a generator's:
+
+    for chunk in sgb.chunks("board(1000000000,0,0,0,1,0,0)"):
+        chunk.first, chunk.n, chunk.starts, chunk.tips, chunk.lengths
+
 It calls the library for C, libsgb.so, which `make lib` leaves: the file that the variable SGB_LIBRARY names, else the one
 in the repository that this file stands in, else the one that the system finds. It needs Python's own library alone; where
 numpy is installed, arrays are numpy's, else memory views. Both look at the same memory: nothing is copied.
@@ -15,6 +20,7 @@ numpy is installed, arrays are numpy's, else memory views. Both look at the same
 import contextlib
 import ctypes
 import gc
+import operator
 import os
 import threading
 
@@ -23,7 +29,7 @@ try:
 except ImportError:
     numpy = None
 
-__all__ = ["Graph", "GraphError", "flip", "graph"]
+__all__ = ["Chunk", "Graph", "GraphError", "arcs", "chunks", "flip", "graph", "vertices"]
 
 FIELDS = "uvwxyz"
 NO_INTEGERS = 102
@@ -41,6 +47,8 @@ ANSWERS = {
     103: "a uniform draw has a bound from 1 to 2**31",
     104: "a graph is open",
     105: "no graph is open",
+    106: "there are not so many vertices",
+    107: "no call of a generator: sgb.graph makes it",
 }
 
 
@@ -68,6 +76,8 @@ class _Handle(ctypes.Structure):
 _ARRAY = [ctypes.c_void_p, ctypes.c_size_t]
 _TEXT = [ctypes.c_char_p, ctypes.c_size_t]
 _ON = [ctypes.POINTER(_Handle)]
+_NUMBER = [ctypes.POINTER(ctypes.c_uint64)]
+_CHUNK = _TEXT + 2 * [ctypes.c_uint32]
 # the calls of sgb.h: what each takes, and what it answers
 _CALLS = {
     "sgb_open": (_TEXT + _TEXT + _ON, ctypes.c_uint64),
@@ -78,8 +88,13 @@ _CALLS = {
     "sgb_ints": (_ON + [ctypes.c_uint32] + _ARRAY, ctypes.c_uint64),
     "sgb_id": (_ON + _ARRAY, ctypes.c_uint64),
     "sgb_kinds": (_ON + _ARRAY, ctypes.c_uint64),
-    "sgb_file_size": (_ON + [ctypes.POINTER(ctypes.c_uint64)], ctypes.c_uint64),
+    "sgb_file_size": (_ON + _NUMBER, ctypes.c_uint64),
     "sgb_file": (_ON + _ARRAY, ctypes.c_uint64),
+    "sgb_family_vertices": (_TEXT + _NUMBER, ctypes.c_uint64),
+    "sgb_family_arcs": (_TEXT + _NUMBER, ctypes.c_uint64),
+    "sgb_chunk_sizes": (_CHUNK + 2 * _NUMBER, ctypes.c_uint64),
+    "sgb_chunk_rows": (_CHUNK + 3 * _ARRAY, ctypes.c_uint64),
+    "sgb_chunk_names": (_CHUNK + 2 * _ARRAY, ctypes.c_uint64),
     "sgb_draws": ([ctypes.c_int64, ctypes.c_uint64] + _ARRAY, None),
     "sgb_uniform_draws": ([ctypes.c_int64, ctypes.c_uint64, ctypes.c_uint32] + _ARRAY, ctypes.c_uint64),
 }
@@ -145,6 +160,15 @@ def _must(answer):
         raise MemoryError("out of memory (code 1)")
     if answer:
         raise GraphError(answer)
+
+
+def _texts(begins, names):
+    """The names that these bytes hold, one from each of the places up to the next one."""
+    whole, at = bytes(names.seen()), begins.seen().tolist()
+    if whole.isascii():
+        whole = whole.decode()
+        return [whole[a:b] for a, b in zip(at, at[1:])]
+    return [whole[a:b].decode(errors="surrogateescape") for a, b in zip(at, at[1:])]
 
 
 class Graph:
@@ -218,11 +242,7 @@ class Graph:
     def _fetch_names(self):
         begins, names = _Array("Q", self.n + 1), _Array("B", self._sizes.names)
         _must(_lib.sgb_names(self._handle, *begins.words, *names.words))
-        whole, at = bytes(names.seen()), begins.seen().tolist()
-        if whole.isascii():
-            whole = whole.decode()
-            return [whole[a:b] for a, b in zip(at, at[1:])]
-        return [whole[a:b].decode(errors="surrogateescape") for a, b in zip(at, at[1:])]
+        return _texts(begins, names)
 
     def ints(self, field):
         """The integers in a utility field of the vertices, "u" to "z": of a board x, y and z are the coordinates."""
@@ -309,6 +329,85 @@ class Graph:
 def graph(text, input=b""):
     """The graph that an expression names. `input` are the bytes of a .gb file, for the expression `stdin`."""
     return Graph(text, input)
+
+
+class Chunk:
+    """Some vertices of a graph that is not built: `n` of them, one after another from vertex `first` on.
+
+    Their lists of arcs stand one after another in `tips` and `lengths`: that of vertex first + k is what stands from starts[k]
+    up to starts[k + 1]. Tips are vertices of the whole graph. The library holds nothing of a chunk."""
+
+    def __init__(self, text, first, n):
+        first, n = operator.index(first), operator.index(n)
+        if not (0 <= first < 2**32 and 0 <= n < 2**32):
+            raise IndexError(f"no {n} vertices from vertex {first} on")
+        #: the expression, the first vertex, and how many there are
+        self.text, self.first, self.n = text, first, n
+        words = text.encode()
+        self._asked, self._kept = (words, len(words), first, n), None
+        listed, named = ctypes.c_uint64(), ctypes.c_uint64()
+        _must(_lib.sgb_chunk_sizes(*self._asked, listed, named))
+        self._named = named.value
+        starts, tips, lengths = _Array("Q", n + 1), _Array("I", listed.value), _Array("q", listed.value)
+        _must(_lib.sgb_chunk_rows(*self._asked, *starts.words, *tips.words, *lengths.words))
+        self.starts, self.tips, self.lengths = starts.seen(), tips.seen(), lengths.seen()
+
+    def __len__(self):
+        return self.n
+
+    def __repr__(self):
+        return f"sgb.Chunk({self.text!r}, {self.first}, {self.n})"
+
+    def neighbors(self, v):
+        """Where the arcs of vertex v of the graph lead, in the order of its list. It has to be one of the chunk."""
+        k = v - self.first
+        if not 0 <= k < self.n:
+            raise IndexError(v)
+        return self.tips[int(self.starts[k]) : int(self.starts[k + 1])]
+
+    @property
+    def names(self):
+        """The names of the chunk's vertices, a list that is made when it is asked for."""
+        if self._kept is None:
+            begins, names = _Array("Q", self.n + 1), _Array("B", self._named)
+            _must(_lib.sgb_chunk_names(*self._asked, *begins.words, *names.words))
+            self._kept = _texts(begins, names)
+        return self._kept
+
+
+def chunks(text, size=65536, first=0, count=None):
+    """The vertices of a generator's graph in chunks of `size`, the last of which may be smaller: each a Chunk that is made when
+    its turn comes. The graph is not built. With `first` and `count` so many vertices from that one on; without, all of them.
+
+    A generator's graph is board, simplex or subsets with its parameters, or a name for one, as complete(5) or petersen()."""
+    size, first = operator.index(size), operator.index(first)
+    if size < 1:
+        raise ValueError(f"no chunks of {size} vertices")
+    n = vertices(text)
+    if not 0 <= first <= n:
+        raise IndexError(f"no vertex {first}: there are {n}")
+    count = n - first if count is None else operator.index(count)
+    if not 0 <= count <= n - first:
+        raise IndexError(f"no {count} vertices from vertex {first} on: there are {n}")
+    end = first + count
+    return (Chunk(text, begin, min(size, end - begin)) for begin in range(first, end, size))
+
+
+def vertices(text):
+    """How many vertices a generator's graph has. It is not built."""
+    return _counted(_lib.sgb_family_vertices, text)
+
+
+def arcs(text):
+    """How many arcs a generator's graph has, where an edge counts as two: 2**64 - 1 also where there are more. It is not built,
+    and the arcs are counted without their lists."""
+    return _counted(_lib.sgb_family_arcs, text)
+
+
+def _counted(call, text):
+    words, number = text.encode(), ctypes.c_uint64()
+    _must(call(words, len(words), number))
+    return number.value
 
 
 def flip(start, skip=0, count=1, m=0):

@@ -47,6 +47,19 @@ mod ffi {
         pub fn sgb_kinds(graph: *mut Handle, letters: *mut u8, letters_len: usize) -> u64;
         pub fn sgb_file_size(graph: *mut Handle, size: *mut u64) -> u64;
         pub fn sgb_file(graph: *mut Handle, bytes: *mut u8, bytes_len: usize) -> u64;
+        pub fn sgb_family_vertices(text: *const u8, text_len: usize, vertices: *mut u64) -> u64;
+        pub fn sgb_family_arcs(text: *const u8, text_len: usize, arcs: *mut u64) -> u64;
+        pub fn sgb_chunk_sizes(
+            text: *const u8, text_len: usize, first: u32, count: u32, listed: *mut u64, names: *mut u64,
+        ) -> u64;
+        pub fn sgb_chunk_rows(
+            text: *const u8, text_len: usize, first: u32, count: u32, starts: *mut u64, starts_len: usize, tips: *mut u32,
+            tips_len: usize, lengths: *mut i64, lengths_len: usize,
+        ) -> u64;
+        pub fn sgb_chunk_names(
+            text: *const u8, text_len: usize, first: u32, count: u32, starts: *mut u64, starts_len: usize, bytes: *mut u8,
+            bytes_len: usize,
+        ) -> u64;
         pub fn sgb_draws(start: i64, skip: u64, out: *mut u32, out_len: usize);
         pub fn sgb_uniform_draws(start: i64, skip: u64, m: u32, out: *mut u32, out_len: usize) -> u64;
     }
@@ -167,8 +180,7 @@ impl Graph {
         answer(unsafe {
             ffi::sgb_names(self.held.at(), starts.as_mut_ptr(), starts.len(), bytes.as_mut_ptr(), bytes.len())
         })?;
-        let name = |at: &[u64]| String::from_utf8_lossy(&bytes[at[0] as usize..at[1] as usize]).into_owned();
-        Ok(starts.windows(2).map(name).collect())
+        Ok(names_in(&starts, &bytes))
     }
 
     /// The integers in a utility field of the vertices: u v w x y z are 0 to 5.
@@ -207,6 +219,92 @@ impl Graph {
             }
         }
         Ok(text)
+    }
+}
+
+/// The names that these bytes hold, one from each start up to the next one.
+fn names_in(starts: &[u64], bytes: &[u8]) -> Vec<String> {
+    let name = |at: &[u64]| String::from_utf8_lossy(&bytes[at[0] as usize..at[1] as usize]).into_owned();
+    starts.windows(2).map(name).collect()
+}
+
+/// The number of vertices of a generator's graph, which is not built.
+pub fn vertices_of(text: &str) -> Result<u64, Error> {
+    let mut vertices = 0;
+    answer(unsafe { ffi::sgb_family_vertices(text.as_ptr(), text.len(), &mut vertices) })?;
+    Ok(vertices)
+}
+
+/// The number of its arcs, where an edge counts as two: 2^64 - 1 also where there are more.
+pub fn arcs_of(text: &str) -> Result<u64, Error> {
+    let mut arcs = 0;
+    answer(unsafe { ffi::sgb_family_arcs(text.as_ptr(), text.len(), &mut arcs) })?;
+    Ok(arcs)
+}
+
+/// A chunk of a generator's graph, which is not built: some vertices, one after another. The list of its vertex k, which is
+/// vertex first + k of the graph, is what stands in `tips` and `lengths` from `starts[k]` up to `starts[k + 1]`.
+///
+/// ```
+/// let chunk = sgb::Chunk::new("board(1000000000,0,0,0,1,0,0)", 999_999_999, 1)?;
+/// assert_eq!(chunk.tips_of(0), [999_999_998]);
+/// # Ok::<(), sgb::Error>(())
+/// ```
+#[derive(Clone, Debug)]
+pub struct Chunk {
+    text: String,
+    first: u32,
+    count: u32,
+    names_len: u64,
+    /// Where the lists begin, a number more than there are vertices in the chunk.
+    pub starts: Vec<u64>,
+    /// Where the arcs lead: vertices of the whole graph.
+    pub tips: Vec<u32>,
+    /// Their lengths.
+    pub lengths: Vec<i64>,
+}
+
+impl Chunk {
+    /// The `count` vertices of the graph from vertex `first` on. All of them have to be there.
+    pub fn new(text: &str, first: u32, count: u32) -> Result<Chunk, Error> {
+        let (mut listed, mut names_len) = (0, 0);
+        answer(unsafe { ffi::sgb_chunk_sizes(text.as_ptr(), text.len(), first, count, &mut listed, &mut names_len) })?;
+        let mut starts = vec![0; count as usize + 1];
+        let (mut tips, mut lengths) = (vec![0; listed as usize], vec![0; listed as usize]);
+        answer(unsafe {
+            ffi::sgb_chunk_rows(
+                text.as_ptr(), text.len(), first, count, starts.as_mut_ptr(), starts.len(), tips.as_mut_ptr(), tips.len(),
+                lengths.as_mut_ptr(), lengths.len(),
+            )
+        })?;
+        Ok(Chunk { text: text.to_owned(), first, count, names_len, starts, tips, lengths })
+    }
+
+    /// The first vertex.
+    pub fn first(&self) -> u32 {
+        self.first
+    }
+
+    /// The number of vertices.
+    pub fn count(&self) -> u32 {
+        self.count
+    }
+
+    /// Where the arcs of vertex `k` of the chunk lead.
+    pub fn tips_of(&self, k: usize) -> &[u32] {
+        &self.tips[self.starts[k] as usize..self.starts[k + 1] as usize]
+    }
+
+    /// The names of the vertices, which are made when they are asked for.
+    pub fn names(&self) -> Result<Vec<String>, Error> {
+        let (mut starts, mut bytes) = (vec![0; self.count as usize + 1], vec![0; self.names_len as usize]);
+        answer(unsafe {
+            ffi::sgb_chunk_names(
+                self.text.as_ptr(), self.text.len(), self.first, self.count, starts.as_mut_ptr(), starts.len(),
+                bytes.as_mut_ptr(), bytes.len(),
+            )
+        })?;
+        Ok(names_in(&starts, &bytes))
     }
 }
 

@@ -1,4 +1,4 @@
-use sgb::{draws, uniform_draws, Error, Graph};
+use sgb::{arcs_of, draws, uniform_draws, vertices_of, Chunk, Error, Graph};
 
 const FILE: &[u8] = b"* GraphBase graph (util_types ZZZZZZZZZZZZZZ,2V,2A)\n\"two\",2,2\n* Vertices\n\"left\",A0\n\"right\",A1\n\
                       * Arcs\nV1,0,7\nV0,0,-3\n* Checksum -1\n";
@@ -84,6 +84,51 @@ fn what_is_no_graph_is_refused() {
     assert_eq!(refusal("simplex(-1,0,0,0,0,0,0)"), Some(Error::Code(30)));
     assert_eq!(refusal("stdin"), Some(Error::Code(10)));
     assert_eq!(refusal(&"x".repeat(65_537)), Some(Error::Code(100)));
+}
+
+#[test]
+fn the_chunks_of_a_graph_are_its_arrays() {
+    for text in ["petersen()", "board(3,4,0,0,-2,0,0)", "simplex(3,-3,0,0,0,0,0)", "simplex(3,1,1,0,0,0,0)"] {
+        let graph = Graph::new(text, b"").unwrap();
+        let names = graph.names().unwrap();
+        assert_eq!((vertices_of(text), arcs_of(text)), (Ok(graph.n() as u64), Ok(graph.m())));
+        for size in [1, 3, 1000] {
+            let mut found = (vec![], vec![], vec![]);
+            for first in (0..graph.n()).step_by(size) {
+                let count = size.min(graph.n() - first);
+                let chunk = Chunk::new(text, first as u32, count as u32).unwrap();
+                assert_eq!((chunk.first() as usize, chunk.count() as usize), (first, count));
+                assert!((0..count).all(|k| chunk.tips_of(k) == graph.tips_of(first + k)));
+                found.0.extend_from_slice(&chunk.tips);
+                found.1.extend_from_slice(&chunk.lengths);
+                found.2.extend(chunk.names().unwrap());
+            }
+            assert_eq!((&found.0, &found.1, &found.2), (&graph.tips, &graph.lengths, &names));
+        }
+    }
+}
+
+#[test]
+fn a_great_graph_has_a_last_chunk() {
+    let text = "board(1000000000,0,0,0,1,0,0)";
+    assert_eq!((vertices_of(text), arcs_of(text)), (Ok(1_000_000_000), Ok(1_999_999_998)));
+    let chunk = Chunk::new(text, 999_999_998, 2).unwrap();
+    assert_eq!(chunk.names().unwrap(), ["999999998", "999999999"]);
+    assert_eq!((chunk.starts, chunk.lengths), (vec![0, 2, 3], vec![1; 3]));
+    assert_eq!(chunk.tips, [999_999_999, 999_999_997, 999_999_998]);
+}
+
+#[test]
+fn what_is_no_chunk_is_refused() {
+    let refusal = |text: &str, first, count| Chunk::new(text, first, count).err();
+    assert_eq!(refusal("petersen()", 0, 10), None);
+    assert_eq!(refusal("petersen()", 10, 0), None);
+    assert_eq!(refusal("petersen()", 1, 10), Some(Error::Code(106)));
+    assert_eq!(refusal("petersen()", u32::MAX, u32::MAX), Some(Error::Code(106)));
+    assert_eq!(refusal("stdin", 0, 0), Some(Error::Code(107)));
+    assert_eq!(refusal("board(3,", 0, 0), Some(Error::Expression(8)));
+    assert_eq!(vertices_of("wheel(5,1,0)"), Err(Error::Code(107)));
+    assert_eq!(arcs_of("simplex(-1,0,0,0,0,0,0)"), Err(Error::Code(30)));
 }
 
 #[test]
