@@ -4,7 +4,7 @@
 `rt lib` proves each crate below sgb_c once more, which takes half as long as the gate itself. This proves sgb_c alone, over the
 libraries that `rt ci` left in crates/NAME/out/rlib, and compiles it with them, as `rt ci` does with programs. Where one of these
 libraries is not there, or this toolchain's rattle does not take the words, `rt lib` makes the archive. An archive that was there
-before is removed first; the status is 0 where the new one is there.
+before is removed first. The last line is `N passed, M failed`, and the status 0 where the new one is there.
 """
 
 import os
@@ -68,4 +68,6 @@ def main():
 
 
 if __name__ == "__main__":
-    sys.exit(main())
+    failed = main()
+    print(f"{1 - failed} passed, {failed} failed")
+    sys.exit(failed)
