@@ -3,6 +3,7 @@
  *     hand_over open EXPR      makes the graph and closes it
  *     hand_over rows EXPR      and hands its lists over in between
  *     hand_over all EXPR       and its names, id and integers
+ *     hand_over chunk EXPR FIRST COUNT     the lists and names of so many vertices, with no graph
  *
  * It prints how many bytes the arrays have. */
 #include <stdio.h>
@@ -26,7 +27,19 @@ static void must(uint64_t answer) {
     exit(1);
 }
 
+static int chunk(const char *text, uint32_t first, uint32_t count) {
+    uint64_t listed, bytes;
+    size_t len = strlen(text), starts = (size_t)count + 1;
+    must(sgb_chunk_sizes(text, len, first, count, &listed, &bytes));
+    must(sgb_chunk_rows(text, len, first, count, array(starts, 8), starts, array(listed, 4), listed, array(listed, 8), listed));
+    must(sgb_chunk_names(text, len, first, count, array(starts, 8), starts, array(bytes, 1), bytes));
+    printf("%zu\n", handed);
+    return 0;
+}
+
 int main(int count, char **words) {
+    if (count == 5 && strcmp(words[1], "chunk") == 0)
+        return chunk(words[2], strtoul(words[3], NULL, 10), strtoul(words[4], NULL, 10));
     sgb_graph graph = SGB_NO_GRAPH;
     sgb_graph_sizes sizes;
     if (count != 3) return 2;

@@ -6,7 +6,8 @@
 Each request is a run of ./sgb with its output read and counted; with words, only the requests that hold one of
 them are made. Where a request reads a file, another one writes it first, which is not counted. Where `make lib` has left
 libsgb.a, there are rows of a program in C (bench/hand_over.c) that opens a graph, and fetches its lists, or all of its
-arrays, with the bytes of these as output: to compare with the `save` of the same graph. It is no part of the gate.
+arrays, with the bytes of these as output: to compare with the `save` of the same graph; and rows of chunks of great graphs.
+It is no part of the gate.
 docs/PERFORMANCE.md has figures.
 """
 
@@ -43,6 +44,7 @@ REQUESTS = [
     ["list", "board(64,64,64,0,1,7,0)"],
     ["list", "board(7,-6,0,0,2,0,0)"],
     ["list", "board(100,100,0,0,-1,0,0)"],
+    ["list", "board(120,120,0,0,-2,0,0)"],
     ["list", "board(2,-18,0,0,1,0,0)"],
     ["list", "board(1000,1000,0,0,1,0,0)", "--skip", "999990"],
     ["list", "complete(2000)"],
@@ -88,6 +90,7 @@ HEADS = [
     ["list", "board(1000000000,0,0,0,1,0,0)"],
     ["list", "board(30000,30000,0,0,-1,0,0)"],
     ["list", "simplex(44000,-2,0,0,0,0,0)"],
+    ["list", "subsets(6,1,-59,0,0,0,0x8,0)"],
     ["names", "board(1000000000,0,0,0,1,0,0)", "--skip", "500000000"],
 ]
 
@@ -105,6 +108,13 @@ HANDED = [
     "disjoint_subsets(15,6)",
     "simplex(25,-5,0,0,0,0,0)",
     "gunion(board(80,80,0,0,-1,0,0),board(80,80,0,0,-2,0,0),0,0)",
+]
+
+# chunks of great graphs that C is handed: the first vertex, and how many
+CHUNKS = [
+    ("board(1000000000,0,0,0,1,0,0)", "999934464", "65536"),
+    ("simplex(44000,-2,0,0,0,0,0)", "500000000", "65536"),
+    ("subsets(6,1,-59,0,0,0,0x20,0)", "25000000", "1000"),
 ]
 
 
@@ -155,6 +165,7 @@ def main():
 def handed_over(wanted):
     """Rows of graphs that C is handed, each beside the `save` of the same graph."""
     rows = [(word, text) for text in HANDED for word in ("open", "rows", "all", "save")]
+    rows += [("chunk", *chunk) for chunk in CHUNKS]
     rows = [row for row in rows if not wanted or any(word in "C " + " ".join(row) for word in wanted)]
     if rows and not os.path.exists(LIBRARY):
         print("left out, without libsgb.a, which `make lib` leaves: graphs in the memory of C")
@@ -164,13 +175,13 @@ def handed_over(wanted):
         source = os.path.join(TOP, "bench/hand_over.c")
         if rows:
             subprocess.run(["cc", "-O2", "-I", os.path.join(TOP, "include"), source, LIBRARY, "-o", program], check=True)
-        for word, text in rows:
-            if word == "save":
-                show(f"save {text}", *cost([word, text]))
+        for row in rows:
+            if row[0] == "save":
+                show(" ".join(row), *cost(row))
                 continue
-            status, seconds, peak, _ = cost([word, text], program=program)
-            size = int(subprocess.run([program, word, text], stdout=subprocess.PIPE, check=True).stdout)
-            show(f"C {word} {text}", status, seconds, peak, size)
+            status, seconds, peak, _ = cost(row, program=program)
+            size = int(subprocess.run([program, *row], stdout=subprocess.PIPE, check=True).stdout)
+            show("C " + " ".join(row), status, seconds, peak, size)
 
 
 if __name__ == "__main__":
