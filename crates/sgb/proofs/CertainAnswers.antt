@@ -25,6 +25,7 @@ use Rattle.sgb_requests.specs.declared.requests.Resume.{Resume}
 use Rattle.sgb.specs.Certain.{BeginsNowhere, BeginsNowhereOn, IsBoard, IsCertain, IsGeneratorRefused, IsRefusedAtOnce, IsRefusedFirst, NeedsNoMemory}
 use Rattle.sgb.specs.Outcomes.{answer_of, left_out, outcome_of, reads_input}
 use Rattle.sgb.specs.Runs.{IsGiven}
+use Rattle.sgb.specs.Locals.{IsLocalOf}
 use Rattle.sgb.specs.Values.{described, generator_value, made}
 use Rattle.sgb.specs.declared.locals.Local.{Local}
 use Rattle.sgb.specs.inner.Certain.{HasListingAtOnce, HasNamesAtOnce, IsRefusedGenerator}
