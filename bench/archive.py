@@ -59,9 +59,10 @@ def main():
     said = words(os.path.dirname(page))
     if said:
         got = subprocess.run(said, cwd=CRATE, stdin=subprocess.DEVNULL, capture_output=True, text=True, check=False)
-        if got.returncode == 0 and "\nlogic=proved" in got.stdout and os.path.exists(path):
+        told = got.stdout + got.stderr
+        if got.returncode == 0 and "\nlogic=proved" in told and os.path.exists(path):
             return 0
-        print(f"archive.py: rattle gave {got.returncode}: {(got.stdout + got.stderr)[-600:]}", file=sys.stderr)
+        print(f"archive.py: rattle gave {got.returncode}: {told[-600:]}", file=sys.stderr)
     print("archive.py: rt lib makes the archive, and proves the crates below once more", file=sys.stderr)
     done = subprocess.run(["rt", "lib"], cwd=CRATE, stdin=subprocess.DEVNULL, stdout=subprocess.DEVNULL, check=False)
     return 0 if done.returncode == 0 and os.path.exists(path) else 1
