@@ -76,13 +76,24 @@ LIBRARIES = {
 }
 
 
-def library(runs, tally):
-    """libsgb.a and libsgb.so are made of the archive that was proved and built, where it is there."""
-    if os.path.exists(ARCHIVE):
-        got = ran("make", "-s", "-C", TOP, "archives")
-        tally.check(got[0] == 0, "make archives gave", got)
-    for name in LIBRARIES:
-        tally.check(os.path.exists(os.path.join(TOP, name)), name, "is not there: make lib")
+def archives():
+    """Makes libsgb.a and libsgb.so of the archive that was proved and built, where that is newer; the status and what make says.
+    This is done before the first check begins, since they are made side by side, and many look at the libraries."""
+    paths = [os.path.join(TOP, name) for name in LIBRARIES]
+    is_new = os.path.exists(ARCHIVE) and not all(
+        os.path.exists(path) and os.path.getmtime(path) > os.path.getmtime(ARCHIVE) for path in paths
+    )
+    return ran("make", "-s", "-C", TOP, "archives") if is_new else (0, b"", b"")
+
+
+def library(made):
+    def checks(runs, tally):
+        """The libraries are there, made of the archive where that is."""
+        tally.check(made[0] == 0, "make archives gave", made)
+        for name in LIBRARIES:
+            tally.check(os.path.exists(os.path.join(TOP, name)), name, "is not there: make lib")
+
+    return checks
 
 
 def is_there(tally, *names):
@@ -379,7 +390,7 @@ def all_checks(program, document):
     if os.environ.get("OUTSIDE_WITHOUT_LIBRARY") == "1":
         print("  skipped, as OUTSIDE_WITHOUT_LIBRARY says: the library for C")
         return
-    yield "library", library
+    yield "library", library(archives())
     for name in LIBRARIES:
         yield f"library {name}", checks_of(program, name)
     yield "library memory", memory
