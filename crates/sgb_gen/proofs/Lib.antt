@@ -24,6 +24,10 @@ pub mod DisplacementWalk
 pub mod WrapBits
 -- a place, coordinate by coordinate
 pub mod Places
+-- a place, by the coordinates that a displacement moves
+pub mod MovedCoordinates
+-- how far the coordinates stay that a displacement moves
+pub mod PartReaches
 -- where a move leads
 pub mod Destinations
 -- how far a piece moves

@@ -19,14 +19,14 @@ abbrev pub after_known : List ℕ → Option (List ℕ) → Option (List ℕ)
 after_known known rest = option_map (λ v. known ++ v) rest
 
 -- the coordinates from number k on: that one in front of the others
-coordinates-step : (sizes : List ℕ) (wrap : ℤ) (x : List ℕ) (t : List ℤ) (l k : ℕ) → k < length sizes → k < length x → k < length t → coordinates_from sizes wrap x t l k ≡ in_front (coordinate_at sizes wrap x t l k) (coordinates_from sizes wrap x t l (k + 1))
+pub coordinates-step : (sizes : List ℕ) (wrap : ℤ) (x : List ℕ) (t : List ℤ) (l k : ℕ) → k < length sizes → k < length x → k < length t → coordinates_from sizes wrap x t l k ≡ in_front (coordinate_at sizes wrap x t l k) (coordinates_from sizes wrap x t l (k + 1))
 coordinates-step sizes wrap x t l k h i j =
     at_drop_more (λ s. place (sides_from_bit k s wrap) (drop k x) (drop k t) l) sizes k 0 h
     ∙ at_drop_more (λ v. place (sides_from_bit k (get_or sizes k 0 ∷ drop (k + 1) sizes) wrap) v (drop k t) l) x k 0 i
     ∙ at_drop_more (λ u. place (sides_from_bit k (get_or sizes k 0 ∷ drop (k + 1) sizes) wrap) (get_or x k 0 ∷ drop (k + 1) x) u l) t k (pos 0) j
 
 -- a known coordinate
-after_known-push : (known : List ℕ) (c : ℕ) (rest : Option (List ℕ)) → after_known known (in_front (Some c) rest) ≡ after_known (known ++ c ∷ []) rest
+pub after_known-push : (known : List ℕ) (c : ℕ) (rest : Option (List ℕ)) → after_known known (in_front (Some c) rest) ≡ after_known (known ++ c ∷ []) rest
 after_known-push known c (Some v) = ap Some (sym (append_assoc known (c ∷ []) v))
 after_known-push known c None = refl
 
@@ -35,7 +35,7 @@ pub record IsPlaceSoFar (sizes : List ℕ) (wrap : ℤ) (x : List ℕ) (t : List
   pub count : length known ≡ k
   pub whole : after_known known (coordinates_from sizes wrap x t l k) ≡ place (sides_of sizes wrap) x t l
 
-after_known-none : (rest : Option (List ℕ)) → after_known [] rest ≡ rest
+pub after_known-none : (rest : Option (List ℕ)) → after_known [] rest ≡ rest
 after_known-none (Some v) = refl
 after_known-none None = refl
 

@@ -124,7 +124,7 @@ place_turned (s ∷ sides) (z ∷ y) (u ∷ t) (w ∷ x) a b h e =
     ap₂ in_front (side_turned s.wraps s.size w (pos z) u a b (omega (arith, h.0)) parts.0) (place_turned sides y t x a b h.1 parts.1)
 
 -- a coordinate on a side is itself
-side_itself : (wraps : Bool) (n z : ℕ) → z < n → on_side wraps n (pos z) ≡ Some z
+pub side_itself : (wraps : Bool) (n z : ℕ) → z < n → on_side wraps n (pos z) ≡ Some z
 side_itself true n z h = ap Some (mod-eq_of_lt h)
 side_itself false n z h = cond-true (ltb z n) (Some z) None (lt-ltb z n h)
 

@@ -21,6 +21,8 @@ mod params;
 mod shifts;
 // The short names of some boards and subsets.
 mod shorthands;
+// Displacements with the coordinates that they move.
+mod steps;
 // The vectors of a family, found by search.
 mod tables;
 // The names and the coordinates of a family's graph.

@@ -1,12 +1,14 @@
-ghost use Rattle.std.specs.Prelude.{◌≡◌, pos, ◌+ℤ◌, ◌*ℤ◌, ◌<◌, ◌≤◌, length, None, Some};
+ghost use Rattle.std.specs.Prelude.{◌≡◌, ℕ, ◌+◌, pos, ◌+ℤ◌, ◌*ℤ◌, ◌<◌, ◌≤◌, length, true, false, is_some, All, None, Some};
 ghost use Rattle.std.specs.Bool.{OnTrue, OnFalse};
 ghost use Rattle.sgb_vec.specs.Limits.{most_dimensions};
 ghost use Rattle.sgb_vec.specs.Lexicographic.{IsBelow};
 ghost use Rattle.sgb_gen.specs.inner.Moves.{destination, leads_onward};
 ghost use Rattle.sgb_gen.specs.Moves.{is_bit_set, coordinate_on, sides_of, place};
+ghost use Rattle.sgb_gen.specs.inner.MovedCoordinates.{part_at, parts_put, parts_stay};
 ghost use Rattle.sgb_gen.specs.inner.EntryBounds.{entry_bound, entry_bounds};
 
 use crate::displacements::EntrySizes;
+use crate::steps::{Part, Step};
 use arrayvec::ArrayVec;
 use sgb_vec::Vector;
 
@@ -83,6 +85,141 @@ pub(crate) fn destination(
     if piece < 0 && there.as_slice() == x {
         return false;
     }
+    true
+}
+
+// How many steps of `t` from the coordinate `x` on stay on a side, of `most` at most.
+fn steps_on(size: u32, wraps: bool, x: u32, t: i32, most: u32) -> u32
+    requires { x < size }
+    ensures within { result ≤ most }
+    ensures stay { (l : ℕ) → l ≤ result
+        → is_some (coordinate_on (record { size = size; wraps = wraps }) (pos x +ℤ pos l *ℤ t))
+        ≡ true }
+    ensures end { result < most
+        → is_some (coordinate_on (record { size = size; wraps = wraps })
+        (pos x +ℤ pos (result + 1) *ℤ t)) ≡ false }
+{
+    if wraps || t == 0 {
+        return most;
+    }
+    if t > 0 {
+        return most.min((size - 1 - x) / t.unsigned_abs());
+    }
+    most.min(x / t.unsigned_abs())
+}
+
+/// How many steps from `x` on, by a displacement that moves these coordinates, lead to a place of the board, of `most` at
+/// most.
+pub(crate) fn reach(sizes: &[u32], wrap: i64, x: &[u32], parts: &[Part], most: u32) -> u32
+    requires below { IsBelow x.now sizes.now }
+    requires parts { All (λ p. p.0 < length sizes.now) parts.now }
+    ensures within { result ≤ most }
+    ensures stay { (l : ℕ) → l ≤ result
+        → parts_stay sizes.now wrap x.now l parts.now ≡ true }
+    ensures end { result < most
+        → parts_stay sizes.now wrap x.now (result + 1) parts.now ≡ false }
+{
+    let mut reach = most;
+    for (k, amount) in parts {
+        reach = steps_on(sizes[*k], wraps(wrap, *k), x[*k], *amount, reach);
+    }
+    reach
+}
+
+// Where coordinate number `k` leads at length `l` from `x`, if it does, where it moves so far for each unit of length.
+fn part_at(sizes: &[u32], wrap: i64, x: &[u32], l: u32, k: usize, amount: i32) -> Option<u32>
+    requires below { IsBelow x.now sizes.now }
+    requires within { k < length sizes.now }
+    ensures { result ≡ part_at sizes.now wrap x.now l (k, amount) }
+{
+    coordinate_on(sizes[k], wraps(wrap, k), moved(x[k], amount, l))
+}
+
+// Whether all of these coordinates lead to coordinates at length `l` from `x`.
+fn stay(sizes: &[u32], wrap: i64, x: &[u32], parts: &[Part], l: u32) -> bool
+    requires below { IsBelow x.now sizes.now }
+    requires parts { All (λ p. p.0 < length sizes.now) parts.now }
+    ensures { result ≡ parts_stay sizes.now wrap x.now l parts.now }
+{
+    for (k, amount) in parts {
+        if part_at(sizes, wrap, x, l, *k, *amount).is_none() {
+            return false;
+        }
+    }
+    true
+}
+
+/// Puts these coordinates where they lead at length `l` from `x` into their places of `there`.
+pub(crate) fn put_parts(
+    sizes: &[u32],
+    wrap: i64,
+    x: &[u32],
+    parts: &[Part],
+    l: u32,
+    there: &mut [u32],
+)
+    requires below { IsBelow x.now sizes.now }
+    requires parts { All (λ p. p.0 < length sizes.now) parts.now }
+    requires there { length there.old ≡ length sizes.now }
+    ensures { there.new ≡ parts_put sizes.now wrap x.now l parts.now there.old }
+{
+    for (k, amount) in parts {
+        there[*k] = part_at(sizes, wrap, x, l, *k, *amount).unwrap_or(0);
+    }
+}
+
+// Puts the vector `x` into `there`.
+fn put_vector(x: &[u32], there: &mut Vector)
+    requires { length x.now ≤ most_dimensions }
+    ensures { there.new.items ≡ x.now }
+{
+    there.clear();
+    let _written = there.try_extend_from_slice(x);
+}
+
+/// Puts the vector where a piece moves from `x` by the displacement `t` at length `l` into `there`, as `destination` does,
+/// with a look at the coordinates alone that it moves.
+pub(crate) fn step_destination(
+    sizes: &[u32],
+    wrap: i64,
+    piece: i64,
+    x: &[u32],
+    t: &Step,
+    l: u32,
+    there: &mut Vector,
+) -> bool
+    requires few { length sizes.now ≤ most_dimensions }
+    requires below { IsBelow x.now sizes.now }
+    requires dimensions { length t.now ≡ length sizes.now }
+    ensures leads { OnTrue result (destination (sides_of sizes.now wrap) piece x.now t.now l
+        ≡ Some there.new.items) }
+    ensures nowhere { OnFalse result
+        (destination (sides_of sizes.now wrap) piece x.now t.now l ≡ None) }
+{
+    if !step_place(sizes, wrap, x, t, l, there) {
+        return false;
+    }
+    if piece < 0 && there.as_slice() == x {
+        return false;
+    }
+    true
+}
+
+// Puts the place at length `l` from `x` by the displacement `t` into `there`, as `place` does.
+fn step_place(sizes: &[u32], wrap: i64, x: &[u32], t: &Step, l: u32, there: &mut Vector) -> bool
+    requires few { length sizes.now ≤ most_dimensions }
+    requires below { IsBelow x.now sizes.now }
+    requires dimensions { length t.now ≡ length sizes.now }
+    ensures leads { OnTrue result (place (sides_of sizes.now wrap) x.now t.now l
+        ≡ Some there.new.items) }
+    ensures nowhere { OnFalse result (place (sides_of sizes.now wrap) x.now t.now l ≡ None) }
+{
+    let parts = t.parts();
+    if !stay(sizes, wrap, x, parts, l) {
+        return false;
+    }
+    put_vector(x, there);
+    put_parts(sizes, wrap, x, parts, l, there.as_mut_slice());
     true
 }
 

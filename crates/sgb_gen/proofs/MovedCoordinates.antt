@@ -1,0 +1,103 @@
+-- A place, by the coordinates that a displacement moves.
+use Rattle.std.proofs.Common.{◌≡◌, ℕ, zero, suc, ◌+◌, ◌<◌, ℤ, pos, negsuc, ◌+ℤ◌, ◌*ℤ◌, Bool, ◌&&◌, cond, List, [], ◌∷◌, ◌++◌, length, get_or, drop, set, Option, Some, None, refl, sym, ap, ap₂, ◌∙◌, arith, append_assoc, length-append}
+use Rattle.std.specs.List.{All}
+use Rattle.std.specs.Option.{is_some, option_map_or, unwrap_or}
+use Rattle.std.proofs.Math.Seq.{set-append_seam}
+use Rattle.std.proofs.lemmas.Int.{ints}
+use Rattle.std.proofs.lemmas.List.{at_drop_more, drop_all}
+use Rattle.std.proofs.lemmas.List.Elements.{All-cons, All-nil, AllZip-get_or, length_all_zip}
+use Rattle.sgb_vec.specs.Lexicographic.{IsBelow}
+use Rattle.sgb_gen.specs.Moves.{is_bit_set, sides_from_bit, sides_of, coordinate_on, in_front, place}
+use Rattle.sgb_gen.specs.inner.MovedCoordinates.{part_at, parts_from, parts_of, parts_put, parts_stay}
+use Rattle.sgb_gen.proofs.Places.{after_known, after_known-none, after_known-push, coordinates_from, coordinates-step}
+use Rattle.sgb_gen.proofs.TurnedMoves.{side_itself}
+
+-- a coordinate that is not moved
+unmoved : (x l : ℕ) → pos x +ℤ pos l *ℤ pos 0 ≡ pos x
+unmoved x l = omega (arith, ints)
+
+-- ---- the parts, one after another
+
+-- the parts put in their places, where all of them lead somewhere
+abbrev moved_by : List ℕ → ℤ → List ℕ → ℕ → List (ℕ × ℤ) → List ℕ → Option (List ℕ)
+moved_by sizes wrap x l [] there = Some there
+moved_by sizes wrap x l (p ∷ parts) there =
+    option_map_or (λ c. moved_by sizes wrap x l parts (set there p.0 c)) (part_at sizes wrap x l p) None
+
+abbrev chosen : Bool → List ℕ → Option (List ℕ)
+chosen b v = cond b (Some v) None
+
+module _ (sizes : List ℕ) (wrap : ℤ) (x : List ℕ) (l : ℕ) where
+  one_put : (p : ℕ × ℤ) (parts : List (ℕ × ℤ)) (there : List ℕ) (o : Option ℕ)
+      → ((w : List ℕ) → moved_by sizes wrap x l parts w ≡ chosen (parts_stay sizes wrap x l parts) (parts_put sizes wrap x l parts w))
+      → option_map_or (λ c. moved_by sizes wrap x l parts (set there p.0 c)) o None
+      ≡ chosen (is_some o && parts_stay sizes wrap x l parts) (parts_put sizes wrap x l parts (set there p.0 (unwrap_or o 0)))
+  one_put p parts there None rest = refl
+  one_put p parts there (Some c) rest = rest (set there p.0 c)
+
+  all_put : (parts : List (ℕ × ℤ)) (there : List ℕ) → moved_by sizes wrap x l parts there ≡ chosen (parts_stay sizes wrap x l parts) (parts_put sizes wrap x l parts there)
+  all_put [] there = refl
+  all_put (p ∷ parts) there = one_put p parts there (part_at sizes wrap x l p) (all_put parts)
+
+  -- ---- a place, coordinate by coordinate
+
+  -- where coordinate number k leads to c, that stands in its place
+  part_put : (k : ℕ) (known xs : List ℕ) (parts : List (ℕ × ℤ)) (a : ℕ) (o : Option ℕ) (others : Option (List ℕ)) → length known ≡ k
+      → ((c : ℕ) → after_known (known ++ c ∷ []) others ≡ moved_by sizes wrap x l parts ((known ++ c ∷ []) ++ xs))
+      → after_known known (in_front o others) ≡ option_map_or (λ c. moved_by sizes wrap x l parts (set (known ++ a ∷ xs) k c)) o None
+  part_put k known xs parts a None others e rest = refl
+  part_put k known xs parts a (Some c) others e rest =
+      after_known-push known c others ∙ rest c
+      ∙ ap (moved_by sizes wrap x l parts)
+      (append_assoc known (c ∷ []) xs ∙ sym (set-append_seam known a xs c) ∙ ap (λ j. set (known ++ a ∷ xs) j c) e)
+
+  next_there : (u : ℤ) (k : ℕ) (known xs : List ℕ) (t : List ℤ) (others : Option (List ℕ)) → length known ≡ k → get_or x k 0 < get_or sizes k 0
+      → ((c : ℕ) → after_known (known ++ c ∷ []) others ≡ moved_by sizes wrap x l (parts_from (k + 1) t) ((known ++ c ∷ []) ++ xs))
+      → after_known known (in_front (part_at sizes wrap x l (k, u)) others) ≡ moved_by sizes wrap x l (parts_from k (u ∷ t)) (known ++ get_or x k 0 ∷ xs)
+  next_there (pos zero) k known xs t others e below rest =
+      let still : part_at sizes wrap x l (k, pos 0) ≡ Some (get_or x k 0) =
+      ap (coordinate_on (record { size = get_or sizes k 0; wraps = is_bit_set wrap k })) (unmoved (get_or x k 0) l)
+      ∙ side_itself (is_bit_set wrap k) (get_or sizes k 0) (get_or x k 0) below in
+      ap (λ o. after_known known (in_front o others)) still
+      ∙ after_known-push known (get_or x k 0) others ∙ rest (get_or x k 0)
+      ∙ ap (moved_by sizes wrap x l (parts_from (k + 1) t)) (append_assoc known (get_or x k 0 ∷ []) xs)
+  next_there (pos (suc c)) k known xs t others e below rest =
+      part_put k known xs (parts_from (k + 1) t) (get_or x k 0) (part_at sizes wrap x l (k, pos (suc c))) others e rest
+  next_there (negsuc c) k known xs t others e below rest =
+      part_put k known xs (parts_from (k + 1) t) (get_or x k 0) (part_at sizes wrap x l (k, negsuc c)) others e rest
+
+  all_there : (t : List ℤ) (n k : ℕ) (known : List ℕ) → k + n ≡ length sizes → length x ≡ length sizes → length t ≡ length sizes → length known ≡ k
+      → ((j : ℕ) → j < length sizes → get_or x j 0 < get_or sizes j 0)
+      → after_known known (coordinates_from sizes wrap x t l k) ≡ moved_by sizes wrap x l (parts_from k (drop k t)) (known ++ drop k x)
+  all_there t zero k known sum long_x long_t e below =
+      ap (λ s. after_known known (place (sides_from_bit k s wrap) (drop k x) (drop k t) l)) (drop_all k sizes (omega (arith, sum)))
+      ∙ ap₂ (λ ts xs. moved_by sizes wrap x l (parts_from k ts) (known ++ xs)) (sym (drop_all k t (omega (arith, sum, long_t)))) (sym (drop_all k x (omega (arith, sum, long_x))))
+  all_there t (suc n) k known sum long_x long_t e below =
+      let u = get_or t k (pos 0) in
+      let here : k < length sizes = omega (arith, sum) in
+      ap (after_known known) (coordinates-step sizes wrap x t l k here (omega (arith, here, long_x)) (omega (arith, here, long_t)))
+      ∙ next_there u k known (drop (k + 1) x) (drop (k + 1) t) (coordinates_from sizes wrap x t l (k + 1)) e (below k here)
+      (λ c. all_there t n (k + 1) (known ++ c ∷ []) (omega (arith, sum)) long_x long_t (length-append known (c ∷ []) ∙ omega (arith, e)) below)
+      ∙ ap₂ (λ ts xs. moved_by sizes wrap x l (parts_from k ts) (known ++ xs))
+      (sym (at_drop_more (λ ts. ts) t k (pos 0) (omega (arith, here, long_t)))) (sym (at_drop_more (λ xs. xs) x k 0 (omega (arith, here, long_x))))
+
+-- a place of the board from x on is x with the moved coordinates put in their places, where all of these exist
+pub place_by_parts : (sizes : List ℕ) (wrap : ℤ) (x : List ℕ) (t : List ℤ) (l : ℕ) → IsBelow x sizes → length t ≡ length sizes
+    → place (sides_of sizes wrap) x t l ≡ cond (parts_stay sizes wrap x l (parts_of t)) (Some (parts_put sizes wrap x l (parts_of t) x)) None
+place_by_parts sizes wrap x t l below long =
+    let long_x : length x ≡ length sizes = length_all_zip (λ a s. a < s) x sizes below in
+    sym (after_known-none (place (sides_of sizes wrap) x t l))
+    ∙ all_there sizes wrap x l t (length sizes) 0 [] (omega arith) long_x long refl (λ j h. AllZip-get_or (λ a s. a < s) x sizes j 0 0 below (omega (arith, h, long_x)))
+    ∙ all_put sizes wrap x l (parts_of t) x
+
+-- ---- their numbers
+
+parts-within : (k n : ℕ) (t : List ℤ) → k + length t ≡ n → All (λ p. p.0 < n) (parts_from k t)
+parts-within k n [] e = All-nil (λ (p : ℕ × ℤ). p.0 < n)
+parts-within k n (pos zero ∷ t) e = parts-within (k + 1) n t (omega (arith, e))
+parts-within k n (pos (suc c) ∷ t) e = All-cons (λ (p : ℕ × ℤ). p.0 < n) (k, pos (suc c)) (parts_from (k + 1) t) (omega (arith, e)) (parts-within (k + 1) n t (omega (arith, e)))
+parts-within k n (negsuc c ∷ t) e = All-cons (λ (p : ℕ × ℤ). p.0 < n) (k, negsuc c) (parts_from (k + 1) t) (omega (arith, e)) (parts-within (k + 1) n t (omega (arith, e)))
+
+-- each is that of a coordinate
+pub parts_within : (t : List ℤ) → All (λ p. p.0 < length t) (parts_of t)
+parts_within t = parts-within 0 (length t) t (omega arith)

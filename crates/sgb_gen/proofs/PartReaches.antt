@@ -1,0 +1,103 @@
+-- How far the coordinates that a displacement moves stay on a board, and where they stand then.
+use lib.Signed.{lt_z}
+use Rattle.std.proofs.Common.{◌≡◌, ℕ, zero, suc, ◌+◌, ◌-◌, ◌*◌, ◌/◌, ◌<◌, ◌≤◌, ℤ, pos, negsuc, ◌+ℤ◌, ◌*ℤ◌, nat_abs, of_z, w32, Bool, true, false, ◌&&◌, cond, ltb, List, [], ◌∷◌, ◌++◌, length, get_or, set, drop, take, Option, Some, None, refl, sym, ap, ap₂, ◌∙◌, inl, inr, arith, true≢false}
+use Rattle.std.specs.Option.{is_some, unwrap_or}
+use Rattle.std.proofs.Math.Nat.{le-div_iff_mul-le}
+use Rattle.std.proofs.Math.Bool.{and-false}
+use Rattle.std.proofs.lemmas.Bool.{cases_lt, cond-true, lt-ltb, ltb-false}
+use Rattle.std.proofs.lemmas.Int.{ints}
+use Rattle.std.proofs.lemmas.List.{at_drop_more, take_more}
+use Rattle.std.proofs.lemmas.List.Folds.{list_all-append, list_all_kept}
+use Rattle.std.specs.List.{list_all}
+use Rattle.sgb_gen.specs.Moves.{Side, coordinate_on, within_size}
+use Rattle.sgb_gen.specs.inner.MovedCoordinates.{part_at, parts_put, parts_stay}
+
+on_side : (n y : ℕ) → y < n → is_some (within_size n (pos y)) ≡ true
+on_side n y h = ap is_some (cond-true (ltb y n) (Some y) None (lt-ltb y n h))
+
+-- on a side that does not wrap, as many steps ahead as fit into what is left of it
+pub ahead_stays : (w : Bool) (n x l : ℕ) (t : ℤ) → w ≡ false → x < n → lt_z (pos 0) t ≡ true → l ≤ (n - 1 - x) / nat_abs t
+    → is_some (coordinate_on (record { size = n; wraps = w }) (pos x +ℤ pos l *ℤ t)) ≡ true
+ahead_stays true n x l t clear below ahead fits = absurd (true≢false clear)
+ahead_stays false n x l (pos zero) clear below ahead fits = absurd (cc)
+ahead_stays false n x l (pos (suc a)) clear below ahead fits =
+    let some : 0 < suc a = omega arith in
+    on_side n (x + l * suc a) (omega (arith, below, (le-div_iff_mul-le some).0 fits))
+ahead_stays false n x l (negsuc a) clear below ahead fits = absurd (true≢false (sym ahead))
+
+-- an amount other than 0
+pub some_amount : (t : ℤ) → (of_z w32 t ≡ 0 → ⊥) → 0 < nat_abs t
+some_amount (pos zero) h = absurd (h refl)
+some_amount (pos (suc a)) h = omega arith
+some_amount (negsuc a) h = omega arith
+
+-- and as many back as fit into what is behind
+pub back_stays : (w : Bool) (n x l : ℕ) (t : ℤ) → w ≡ false → x < n → lt_z (pos 0) t ≡ false → l ≤ x / nat_abs t → 0 < nat_abs t
+    → is_some (coordinate_on (record { size = n; wraps = w }) (pos x +ℤ pos l *ℤ t)) ≡ true
+back_stays true n x l t clear below back fits some = absurd (true≢false clear)
+back_stays false n x l (pos zero) clear below back fits some = absurd (omega arith)
+back_stays false n x l (pos (suc a)) clear below back fits some = absurd (omega (arith, ltb-false 0 (suc a) back))
+back_stays false n x l (negsuc a) clear below back fits some =
+    let room : l * suc a ≤ x = (le-div_iff_mul-le some).0 fits in
+    let there : pos x +ℤ pos l *ℤ negsuc a ≡ pos (x - l * suc a) = omega (arith, ints, room) in
+    ap (λ y. is_some (within_size n y)) there ∙ on_side n (x - l * suc a) (omega (arith, below))
+
+-- ---- one of the parts after another
+
+-- the part at a place
+abbrev pub part_of : List (ℕ × ℤ) → ℕ → ℕ × ℤ
+part_of parts i = get_or parts i (0, pos 0)
+
+module _ (sizes : List ℕ) (wrap : ℤ) (x : List ℕ) (l : ℕ) (parts : List (ℕ × ℤ)) (i : ℕ) where
+  pub stay_out : i < length parts → is_some (part_at sizes wrap x l (part_of parts i)) ≡ false → parts_stay sizes wrap x l (drop i parts) ≡ false
+  stay_out within out =
+      at_drop_more (parts_stay sizes wrap x l) parts i (0, pos 0) within
+      ∙ ap (λ b. b && parts_stay sizes wrap x l (drop (i + 1) parts)) out
+
+  pub stay_more : i < length parts → is_some (part_at sizes wrap x l (part_of parts i)) ≡ true → parts_stay sizes wrap x l (drop (i + 1) parts) ≡ parts_stay sizes wrap x l (drop i parts)
+  stay_more within on =
+      sym (at_drop_more (parts_stay sizes wrap x l) parts i (0, pos 0) within
+      ∙ ap (λ b. b && parts_stay sizes wrap x l (drop (i + 1) parts)) on)
+
+  pub put_more : (there : List ℕ) → i < length parts
+      → parts_put sizes wrap x l (drop (i + 1) parts) (set there (part_of parts i).0 (unwrap_or (part_at sizes wrap x l (part_of parts i)) 0)) ≡ parts_put sizes wrap x l (drop i parts) there
+  put_more there within = sym (at_drop_more (λ ps. parts_put sizes wrap x l ps there) parts i (0, pos 0) within)
+
+-- ---- how many steps all parts stay
+
+-- what is known once the parts before one place are seen: up to this length they stay, and at the next one not
+pub record IsReachSoFar (sizes : List ℕ) (wrap : ℤ) (x : List ℕ) (most i reach : ℕ) (parts : List (ℕ × ℤ)) : Type 0 where
+  pub within : reach ≤ most
+  pub stay : (m : ℕ) → m ≤ reach → parts_stay sizes wrap x m (take i parts) ≡ true
+  pub end : reach < most → parts_stay sizes wrap x (reach + 1) (take i parts) ≡ false
+
+module _ (sizes : List ℕ) (wrap : ℤ) (x : List ℕ) (most : ℕ) (parts : List (ℕ × ℤ)) where
+  on : ℕ → ℕ × ℤ → Bool
+  on m p = is_some (part_at sizes wrap x m p)
+
+  pub reach-none : IsReachSoFar sizes wrap x most 0 most parts
+  reach-none = record { within = omega arith; stay = λ m h. refl; end = λ h. absurd (omega (arith, h)) }
+
+  -- one part more
+  pub reach-more : (i old new : ℕ) → i < length parts → IsReachSoFar sizes wrap x most i old parts → new ≤ old
+      → ((m : ℕ) → m ≤ new → is_some (part_at sizes wrap x m (part_of parts i)) ≡ true)
+      → (new < old → is_some (part_at sizes wrap x (new + 1) (part_of parts i)) ≡ false)
+      → IsReachSoFar sizes wrap x most (i + 1) new parts
+  reach-more i old new within so less stay end = record {
+    within = omega (arith, less, so.within);
+    stay = λ m h.
+    ap (parts_stay sizes wrap x m) (take_more parts i (0, pos 0) within)
+    ∙ list_all-append (λ p. is_some (part_at sizes wrap x m p)) (take i parts) (part_of parts i ∷ [])
+    ∙ ap₂ (λ a b. a && (b && true)) (so.stay m (omega (arith, h, less))) (stay m h);
+    end = λ h. elim (cases_lt new old) [
+      | inl fewer ↦
+          ap (parts_stay sizes wrap x (new + 1)) (take_more parts i (0, pos 0) within)
+          ∙ list_all-append (λ p. is_some (part_at sizes wrap x (new + 1) p)) (take i parts) (part_of parts i ∷ [])
+          ∙ ap (λ b. parts_stay sizes wrap x (new + 1) (take i parts) && (b && true)) (end fewer)
+          ∙ and-false (parts_stay sizes wrap x (new + 1) (take i parts))
+      | inr same ↦
+          let e : new ≡ old = omega (arith, same, less) in
+          list_all_kept (λ p. is_some (part_at sizes wrap x (new + 1) p)) parts i
+          (ap (λ n. parts_stay sizes wrap x (n + 1) (take i parts)) e ∙ so.end (omega (arith, e, h)))
+    ];
+  }

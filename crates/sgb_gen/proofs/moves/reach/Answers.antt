@@ -1,0 +1,27 @@
+use Rattle.std.proofs.Common.{◌≡◌, ◌≤◌, ◌<◌, ◌+◌, ◌+ℤ◌, ◌*ℤ◌, ℕ, ℤ, Bool, true, false, pos, get_or, w32, w64, to_z, of_z, sym, ap, ap₂, ◌∙◌, arith, rules, take, length}
+use Rattle.std.proofs.lemmas.Int.{to_z-of_z}
+use Rattle.std.proofs.lemmas.List.{take_all}
+use Rattle.std.specs.Option.{is_some}
+use Rattle.sgb_gen.specs.Moves.{coordinate_on}
+use Rattle.sgb_gen.specs.inner.MovedCoordinates.{part_at, parts_stay}
+use Rattle.sgb_gen.proofs.PartReaches.{part_of, reach-more, reach-none}
+use Rattle.sgb_gen.proofs.moves.reach.Goals as goal
+
+pub loop-k-init : goal.loop-k-init
+loop-k-init c = reach-none c.args.sizes.now (to_z w64 (of_z w64 c.args.wrap)) c.args.x.now c.args.most c.args.parts.now
+
+pub loop-k-preserved : goal.loop-k-preserved
+loop-k-preserved c =
+    let sizes = c.args.sizes.now in
+    let x = c.args.x.now in
+    let wrap : ℤ = to_z w64 (of_z w64 c.args.wrap) in
+    let p = part_of c.args.parts.now c.loop-k.k-index in
+    let read = λ (m : ℕ). ap₂ (λ a b. is_some (coordinate_on (record { size = get_or sizes p.0 0; wraps = b }) (pos (get_or x p.0 0) +ℤ pos m *ℤ a))) (to_z-of_z w32 p.1 (search rules)) c.wraps.ensures in
+    reach-more sizes wrap x c.args.most c.args.parts.now c.loop-k.k-index c.loop-k.reach c.steps_on-reach.result (omega arith) c.loop-k.invariant c.steps_on-reach.ensures.within
+    (λ m h. sym (read m) ∙ c.steps_on-reach.ensures.stay m h)
+    (λ h. sym (read (c.steps_on-reach.result + 1)) ∙ c.steps_on-reach.ensures.end h)
+
+pub returns-clause-stay : goal.returns-clause-stay
+returns-clause-stay c l within =
+    ap₂ (λ w ps. parts_stay c.args.sizes.now w c.args.x.now l ps) (sym (to_z-of_z w64 c.args.wrap c.ranges.wrap)) (sym (take_all c.loop-k.k-index c.args.parts.now (omega arith)))
+    ∙ c.loop-k.invariant.stay l within

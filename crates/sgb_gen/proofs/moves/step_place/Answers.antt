@@ -1,0 +1,46 @@
+use Rattle.std.proofs.Common.{◌≡◌, ◌<◌, ℕ, ℤ, Bool, true, false, cond, List, Some, None, length, w64, to_z, of_z, take, drop, ◌++◌, sym, ap, ◌∙◌, arith, rules}
+use Rattle.std.proofs.Math.Seq.{take-append_seam}
+use Rattle.std.proofs.lemmas.Int.{to_z-of_z}
+use Rattle.std.proofs.lemmas.List.Elements.{length_all_zip}
+use Rattle.sgb_gen.specs.Moves.{place, sides_of}
+use Rattle.sgb_gen.specs.inner.MovedCoordinates.{parts_of, parts_put, parts_stay}
+use Rattle.sgb_gen.proofs.MovedCoordinates.{place_by_parts}
+use Rattle.sgb_gen.proofs.moves.step_place.Goals as goal
+
+-- what is put anew into as many elements
+refilled : (n : ℕ) (xs ys : List ℕ) → length xs ≡ n → take n (xs ++ drop (length xs) ys) ≡ xs
+refilled n xs ys long = rw (← long) (take-append_seam xs (drop (length xs) ys))
+
+pub returns-then-not-stay-clause-nowhere : goal.returns-then-not-stay-clause-nowhere
+returns-then-not-stay-clause-nowhere c =
+    let sizes = c.args.sizes.now in
+    let x = c.args.x.now in
+    let t = c.args.t.now in
+    let l = c.args.l in
+    let out : parts_stay sizes c.args.wrap x l (parts_of t) ≡ false =
+    ap (parts_stay sizes c.args.wrap x l) (sym c.parts-parts.ensures.parts) ∙ ap (λ w. parts_stay sizes w x l c.parts-parts.result.now) (sym (to_z-of_z w64 c.args.wrap c.ranges.wrap)) ∙ sym c.stay.ensures ∙ c.if-not-stay.true in
+    place_by_parts sizes c.args.wrap x t l c.requires.below c.requires.dimensions
+    ∙ ap (λ b. cond b (Some (parts_put sizes c.args.wrap x l (parts_of t) x)) None) out
+
+pub put_parts-requires-clause-there : goal.put_parts-requires-clause-there
+put_parts-requires-clause-there c =
+    ap length (c.as_mut_slice.ensures.value ∙ c.put_vector.ensures) ∙ length_all_zip (λ a s. a < s) c.args.x.now c.args.sizes.now c.requires.below
+
+pub returns-clause-leads : goal.returns-clause-leads
+returns-clause-leads c =
+    let sizes = c.args.sizes.now in
+    let x = c.args.x.now in
+    let t = c.args.t.now in
+    let l = c.args.l in
+    let same = to_z-of_z w64 c.args.wrap c.ranges.wrap in
+    let on : parts_stay sizes c.args.wrap x l (parts_of t) ≡ true =
+    ap (parts_stay sizes c.args.wrap x l) (sym c.parts-parts.ensures.parts) ∙ ap (λ w. parts_stay sizes w x l c.parts-parts.result.now) (sym same) ∙ sym c.stay.ensures ∙ c.if-not-stay.false in
+    let put : c.put_parts.new.there ≡ parts_put sizes c.args.wrap x l (parts_of t) x =
+    c.put_parts.ensures
+    ∙ ap (λ w. parts_put sizes w x l c.parts-parts.result.now c.as_mut_slice.result.now) same
+    ∙ ap (λ ps. parts_put sizes c.args.wrap x l ps c.as_mut_slice.result.now) c.parts-parts.ensures.parts
+    ∙ ap (parts_put sizes c.args.wrap x l (parts_of t)) (c.as_mut_slice.ensures.value ∙ c.put_vector.ensures) in
+    place_by_parts sizes c.args.wrap x t l c.requires.below c.requires.dimensions
+    ∙ ap (λ b. cond b (Some (parts_put sizes c.args.wrap x l (parts_of t) x)) None) on
+    ∙ ap Some (sym put)
+    ∙ ap Some (sym (refilled (length c.put_vector.new.there.items) c.put_parts.new.there c.put_vector.new.there.items (c.put_parts.auto.there ∙ ap length c.as_mut_slice.ensures.value)))

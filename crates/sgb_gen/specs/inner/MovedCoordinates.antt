@@ -1,0 +1,30 @@
+-- Displacements by the coordinates that they move: where these lead alone, since all others stay.
+use Rattle.std.specs.Prelude.{ℕ, zero, suc, ◌+◌, ℤ, pos, negsuc, ◌+ℤ◌, ◌*ℤ◌, Bool, List, [], ◌∷◌, get_or, set, Option, is_some, unwrap_or}
+use Rattle.std.specs.List.{list_all}
+use Rattle.sgb_gen.specs.Moves.{is_bit_set, coordinate_on}
+
+-- the coordinates that a displacement moves whose entries are those from number k on: their numbers, and how far
+abbrev pub parts_from : ℕ → List ℤ → List (ℕ × ℤ)
+parts_from k [] = []
+parts_from k (pos zero ∷ t) = parts_from (k + 1) t
+parts_from k (pos (suc c) ∷ t) = (k, pos (suc c)) ∷ parts_from (k + 1) t
+parts_from k (negsuc c ∷ t) = (k, negsuc c) ∷ parts_from (k + 1) t
+
+-- the coordinates that a displacement moves
+abbrev pub parts_of : List ℤ → List (ℕ × ℤ)
+parts_of t = parts_from 0 t
+
+-- where a moved coordinate leads at length l from x, if it does
+abbrev pub part_at : List ℕ → ℤ → List ℕ → ℕ → ℕ × ℤ → Option ℕ
+part_at sizes wrap x l p =
+    coordinate_on (record { size = get_or sizes p.0 0; wraps = is_bit_set wrap p.0 }) (pos (get_or x p.0 0) +ℤ pos l *ℤ p.1)
+
+-- all of them lead to coordinates
+abbrev pub parts_stay : List ℕ → ℤ → List ℕ → ℕ → List (ℕ × ℤ) → Bool
+parts_stay sizes wrap x l parts = list_all (λ p. is_some (part_at sizes wrap x l p)) parts
+
+-- a vector in which they stand where they lead
+abbrev pub parts_put : List ℕ → ℤ → List ℕ → ℕ → List (ℕ × ℤ) → List ℕ → List ℕ
+parts_put sizes wrap x l [] there = there
+parts_put sizes wrap x l (p ∷ parts) there =
+    parts_put sizes wrap x l parts (set there p.0 (unwrap_or (part_at sizes wrap x l p) 0))

@@ -1,0 +1,121 @@
+//! Displacements with the coordinates that they move.
+ghost use Rattle.std.specs.Prelude.{◌≡◌, ◌<◌, ◌≤◌, length, All, IfSome};
+ghost use Rattle.sgb_vec.specs.Limits.{most_dimensions};
+ghost use Rattle.sgb_gen.specs.inner.MovedCoordinates.{parts_of};
+
+use arrayvec::ArrayVec;
+use std::alloc::Global;
+use std::marker::Model;
+
+/// A coordinate that a displacement moves: its number, counted from 0, and how far it goes for each unit of length.
+pub(crate) type Part = (usize, i32);
+
+/// The coordinates that a displacement moves.
+pub(crate) type Parts = ArrayVec<Part, 250>;
+
+/// A displacement, with the coordinates that it moves, so that no other is looked at. Contracts see the displacement.
+#[derive(Drop)]
+pub(crate) struct Step<'a> {
+    entries: &'a [i32],
+    parts: &'a [Part],
+}
+
+impl<'a> Model for Step<'a> {
+    ghost use Rattle.std.specs.Prelude.{◌≡◌, List, ℤ};
+    ghost use Rattle.sgb_gen.specs.inner.MovedCoordinates.{parts_of};
+
+    ghost Value = { List ℤ };
+
+    ghost view = { λ s. s.entries.now };
+
+    ghost invariant = { λ s. s.parts.now ≡ parts_of s.entries.now };
+}
+
+impl<'a> Step<'a> {
+    /// The displacement of these entries, which moves these coordinates.
+    pub(crate) fn of(entries: &'a [i32], parts: &'a [Part]) -> Step<'a>
+        requires { parts.now ≡ parts_of entries.now }
+        ensures { result ≡ entries.now }
+    {
+        Step { entries, parts }
+    }
+
+    /// All entries.
+    pub(crate) fn entries(&self) -> &[i32]
+        ensures { result.now ≡ self.now }
+    {
+        self.entries
+    }
+
+    /// The coordinates that it moves.
+    pub(crate) fn parts(&self) -> &[Part]
+        ensures parts { result.now ≡ parts_of self.now }
+        ensures within { All (λ p. p.0 < length self.now) result.now }
+    {
+        self.parts
+    }
+}
+
+/// A displacement that is kept. Contracts see it as its entries.
+#[derive(Drop)]
+pub(crate) struct KeptStep {
+    entries: Vec<i32>,
+    parts: Vec<Part>,
+}
+
+impl Model for KeptStep {
+    ghost use Rattle.std.specs.Prelude.{◌≡◌, List, ℤ};
+    ghost use Rattle.sgb_gen.specs.inner.MovedCoordinates.{parts_of};
+
+    ghost Value = { List ℤ };
+
+    ghost view = { λ s. s.entries.items };
+
+    ghost invariant = { λ s. s.parts.items ≡ parts_of s.entries.items };
+}
+
+impl KeptStep {
+    /// The displacement of these entries. `None` out of memory. `parts` is what it is found with: what it holds is open.
+    pub(crate) fn new(alloc: Global, entries: &[i32], parts: &mut Parts) -> Option<KeptStep>
+        requires { length entries.now ≤ most_dimensions }
+        ensures { IfSome result (λ s. s ≡ entries.now) }
+    {
+        put_parts_of(entries, parts);
+        let entries = kept(alloc, entries)?;
+        let parts = kept(alloc, parts.as_slice())?;
+        Some(KeptStep { entries, parts })
+    }
+
+    /// The displacement.
+    pub(crate) fn step(&self) -> Step<'_>
+        ensures { result ≡ self.now }
+    {
+        Step {
+            entries: self.entries.as_slice(),
+            parts: self.parts.as_slice(),
+        }
+    }
+}
+
+// These elements, kept. `None` out of memory.
+fn kept<T: Copy>(alloc: Global, items: &[T]) -> Option<Vec<T>>
+    ensures { IfSome result (λ v. v.items ≡ items.now) }
+{
+    let mut kept = Vec::with_capacity(alloc, items.len()).ok()?;
+    kept.extend_from_slice(items).ok()?;
+    Some(kept)
+}
+
+/// Puts the coordinates that a displacement moves into `parts`.
+pub(crate) fn put_parts_of(entries: &[i32], parts: &mut Parts)
+    requires { length entries.now ≤ most_dimensions }
+    ensures { parts.new.items ≡ parts_of entries.now }
+{
+    parts.clear();
+    for (k, entry) in entries.iter().enumerate() {
+        if *entry == 0 {
+            continue;
+        }
+        parts.push((k, *entry));
+    }
+}
