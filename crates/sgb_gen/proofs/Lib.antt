@@ -86,6 +86,8 @@ pub mod OnwardMoves
 pub mod OnwardStarts
 -- moves from a vector, length by length
 pub mod BoardWalks
+-- moves that never come home, at one look
+pub mod StraightMoves
 -- the list of a vector of a board
 pub mod ListsOfBoards
 -- the list of a vector of a simplex

@@ -7,9 +7,7 @@ use Rattle.std.proofs.lemmas.List.{append-nil, drop_all, take_all, take-append-l
 use Rattle.std.proofs.lemmas.List.{with_items_is}
 use Rattle.std.specs.Prelude.{Vec}
 use Rattle.std.specs.Vec.{vec_len, with_items}
-use Rattle.sgb_gen.specs.Simplexes.{unit_moved}
 use Rattle.sgb_gen.specs.inner.LocalArcs.{arcs_in}
-use Rattle.sgb_gen.proofs.ShiftedEntries.{length-moved}
 
 -- as many arcs as lengths
 pub length-arcs_in : (width : ℕ) (tips lens : List ℕ) → length (arcs_in width tips lens) ≡ length lens
@@ -53,23 +51,27 @@ rows-push width n kept lens tip tips news tips_are news_are long wide =
     let more : length news ≡ length lens + 1 = ap length news_are ∙ length-append lens (n ∷ []) in
     omega (arith, ap length tips_are, length-append kept tip, long, wide, ap (λ k. k * width) more)
 
--- of entries that are kept, the last vector is changed in place: a unit of it goes from one place to another
-put-moved : (kept x all moved : List ℕ) (start from to : ℕ) → all ≡ kept ++ x → start ≡ length kept
-    → moved ≡ unit_moved (take (length all - start) (drop start all)) from to
-    → put_mid start (length all - start) all moved ≡ kept ++ unit_moved x from to
-put-moved kept x all moved start from to all_is start_is moved_is =
-    let last : drop start all ≡ x = ap (drop start) all_is ∙ ap (λ k. drop k (kept ++ x)) start_is ∙ drop-append_seam kept x in
+-- the last vector of entries that are kept
+pub last_row : (kept x all : List ℕ) (start : ℕ) → all ≡ kept ++ x → start ≡ length kept → take (length all - start) (drop start all) ≡ x
+last_row kept x all start all_is start_is =
+    take_rest all start ∙ ap (drop start) all_is ∙ ap (λ k. drop k (kept ++ x)) start_is ∙ drop-append_seam kept x
+
+-- it is changed in place, and stays as long
+put-moved : (f : List ℕ → List ℕ) (kept x all moved : List ℕ) (start : ℕ) → all ≡ kept ++ x → start ≡ length kept
+    → moved ≡ f (take (length all - start) (drop start all))
+    → put_mid start (length all - start) all moved ≡ kept ++ f x
+put-moved f kept x all moved start all_is start_is moved_is =
     let before : take start all ≡ kept = ap (take start) all_is ∙ ap (λ k. take k (kept ++ x)) start_is ∙ take-append_seam kept x in
     let after : drop (length all - start) (drop start all) ≡ [] = drop_all (length all - start) (drop start all) (omega (arith, length-drop start all)) in
     ap (λ front. front ++ (moved ++ drop (length all - start) (drop start all))) before
     ∙ ap (λ back. kept ++ (moved ++ back)) after
-    ∙ ap (λ row. kept ++ row) (append-nil moved ∙ moved_is ∙ ap (λ row. unit_moved row from to) (take_rest all start ∙ last))
+    ∙ ap (λ row. kept ++ row) (append-nil moved ∙ moved_is ∙ ap f (last_row kept x all start all_is start_is))
 
-pub last_moved : {Z : Type 0} (v : Vec ℕ Z) (kept x all moved : List ℕ) (start from to : ℕ) → v.items ≡ kept ++ x → all ≡ v.items → vec_len v ≡ length v.items → start ≡ length kept
-    → moved ≡ unit_moved (take (length all - start) (drop start all)) from to
-    → (with_items v (put_mid start (length all - start) all moved)).items ≡ kept ++ unit_moved x from to
-last_moved v kept x all moved start from to items_are all_is count start_is moved_is =
-    let written = put-moved kept x all moved start from to (all_is ∙ items_are) start_is moved_is in
+pub last_moved : {Z : Type 0} (f : List ℕ → List ℕ) (v : Vec ℕ Z) (kept x all moved : List ℕ) (start : ℕ) → ((row : List ℕ) → length (f row) ≡ length row) → v.items ≡ kept ++ x → all ≡ v.items → vec_len v ≡ length v.items → start ≡ length kept
+    → moved ≡ f (take (length all - start) (drop start all))
+    → (with_items v (put_mid start (length all - start) all moved)).items ≡ kept ++ f x
+last_moved f v kept x all moved start as_long items_are all_is count start_is moved_is =
+    let written = put-moved f kept x all moved start (all_is ∙ items_are) start_is moved_is in
     with_items_is v (put_mid start (length all - start) all moved)
-    (omega (arith, ap length written, length-append kept (unit_moved x from to), length-moved x from to, ap length items_are, length-append kept x, count))
+    (omega (arith, ap length written, length-append kept (f x), as_long x, ap length items_are, length-append kept x, count))
     ∙ written

@@ -1,5 +1,5 @@
 -- A place, by the coordinates that a displacement moves.
-use Rattle.std.proofs.Common.{◌≡◌, ℕ, zero, suc, ◌+◌, ◌<◌, ℤ, pos, negsuc, ◌+ℤ◌, ◌*ℤ◌, Bool, ◌&&◌, cond, List, [], ◌∷◌, ◌++◌, length, get_or, drop, set, Option, Some, None, refl, sym, ap, ap₂, ◌∙◌, arith, append_assoc, length-append}
+use Rattle.std.proofs.Common.{◌≡◌, ℕ, zero, suc, ◌+◌, ◌<◌, ℤ, pos, negsuc, ◌+ℤ◌, ◌*ℤ◌, Bool, ◌&&◌, cond, List, [], ◌∷◌, ◌++◌, length, get_or, drop, set, Option, Some, None, refl, sym, ap, ap₂, ◌∙◌, arith, append_assoc, length-append, length-set}
 use Rattle.std.specs.List.{All}
 use Rattle.std.specs.Option.{is_some, option_map_or, unwrap_or}
 use Rattle.std.proofs.Math.Seq.{set-append_seam}
@@ -89,6 +89,13 @@ place_by_parts sizes wrap x t l below long =
     sym (after_known-none (place (sides_of sizes wrap) x t l))
     ∙ all_there sizes wrap x l t (length sizes) 0 [] (omega arith) long_x long refl (λ j h. AllZip-get_or (λ a s. a < s) x sizes j 0 0 below (omega (arith, h, long_x)))
     ∙ all_put sizes wrap x l (parts_of t) x
+
+-- it has as many entries
+pub length-put : (sizes : List ℕ) (wrap : ℤ) (x : List ℕ) (l : ℕ) (parts : List (ℕ × ℤ)) (there : List ℕ) → length (parts_put sizes wrap x l parts there) ≡ length there
+length-put sizes wrap x l [] there = refl
+length-put sizes wrap x l (p ∷ parts) there =
+    let c = unwrap_or (part_at sizes wrap x l p) 0 in
+    length-put sizes wrap x l parts (set there p.0 c) ∙ length-set there p.0 c
 
 -- ---- their numbers
 

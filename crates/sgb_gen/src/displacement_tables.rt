@@ -1,106 +1,121 @@
 //! Displacements that are kept, for walks that are made again and again.
-ghost use Rattle.std.specs.Prelude.{◌≡◌, ◌<◌, ◌≤◌, length, map, nat_abs, slice_get, Some, All, IfSome};
+ghost use Rattle.std.specs.Prelude.{◌≡◌, ◌<◌, ◌≤◌, length, nat_abs, slice_get, Some, All, IfSome};
+ghost use Rattle.sgb_vec.specs.Limits.{most_dimensions};
 ghost use Rattle.sgb_gen.specs.Limits.{most_piece};
 ghost use Rattle.sgb_gen.specs.Moves.{opposite};
 
-use crate::displacements::Displacements;
+use crate::displacements::{Displacement, Displacements, put_opposite};
+use crate::steps::{KeptStep, Parts, Step};
 use std::alloc::Global;
 use std::marker::Model;
 
 // At most so many entries of displacements are kept.
 const MOST_ENTRIES: usize = 65_536;
 
-/// Displacements, kept one after another, each with its opposite. Contracts see them as a list.
+/// A displacement and its opposite. Contracts see the displacement.
+#[derive(Drop)]
+pub(crate) struct KeptPair {
+    ahead: KeptStep,
+    back: KeptStep,
+}
+
+impl Model for KeptPair {
+    ghost use Rattle.std.specs.Prelude.{◌≡◌, List, ℤ};
+    ghost use Rattle.sgb_gen.specs.Moves.{opposite};
+
+    ghost Value = { List ℤ };
+
+    ghost view = { λ p. p.ahead };
+
+    ghost invariant = { λ p. p.back ≡ opposite p.ahead };
+}
+
+impl KeptPair {
+    // This displacement and its opposite. `None` out of memory. `turned` and `parts` are what they are found with: what
+    // they hold is open.
+    fn new(
+        alloc: Global,
+        t: &[i32],
+        turned: &mut Displacement,
+        parts: &mut Parts,
+    ) -> Option<KeptPair>
+        requires few { length t.now ≤ most_dimensions }
+        requires small { All (λ e. nat_abs e ≤ most_piece) t.now }
+        ensures { IfSome result (λ p. p ≡ t.now) }
+    {
+        put_opposite(t, turned);
+        let ahead = KeptStep::new(alloc, t, parts)?;
+        let back = KeptStep::new(alloc, turned.as_slice(), parts)?;
+        Some(KeptPair { ahead, back })
+    }
+
+    /// The displacement.
+    pub(crate) fn ahead(&self) -> Step<'_>
+        ensures { result ≡ self.now }
+    {
+        self.ahead.step()
+    }
+
+    /// Its opposite.
+    pub(crate) fn back(&self) -> Step<'_>
+        ensures { result ≡ opposite self.now }
+    {
+        self.back.step()
+    }
+}
+
+/// Displacements, each with its opposite. Contracts see them as a list.
 #[derive(Drop)]
 pub(crate) struct DisplacementTable {
-    // The entries of all displacements, those of their opposites, how many each has, and how many displacements there are.
-    entries: Vec<i32>,
-    opposites: Vec<i32>,
-    width: usize,
-    count: usize,
+    kept: Vec<KeptPair>,
 }
 
 impl Model for DisplacementTable {
-    ghost use Rattle.std.specs.Prelude.{◌≡◌, ◌*◌, List, ℤ, length};
-    ghost use Rattle.sgb_gen.specs.Moves.{opposite};
-    ghost use Rattle.sgb_gen.specs.inner.Tables.{rows};
+    ghost use Rattle.std.specs.Prelude.{List, ℤ};
 
     ghost Value = { List (List ℤ) };
 
-    ghost view = { λ d. rows d.width d.count d.entries.items };
-
-    ghost invariant = { λ d. (length d.entries.items ≡ d.count * d.width)
-        × (d.opposites.items ≡ opposite d.entries.items) };
+    ghost view = { λ d. d.kept.items };
 }
 
 impl DisplacementTable {
     /// These displacements, each of so many entries. `None` where they have more than 65,536 entries, or out of memory.
     pub(crate) fn new(alloc: Global, width: usize, left: Displacements) -> Option<DisplacementTable>
-        requires width { All (λ t. length t ≡ width) left }
         requires small { All (λ t. All (λ e. nat_abs e ≤ most_piece) t) left }
         ensures { IfSome result (λ d. d ≡ left) }
     {
         let most = MOST_ENTRIES / width.max(1);
+        let mut turned = Displacement::new();
+        let mut parts = Parts::new();
         let mut left = left;
-        let mut entries = Vec::new(alloc);
-        let mut count: usize = 0;
+        let mut kept = Vec::new(alloc);
         while let Some(t) = left.front() {
-            if count >= most {
+            if kept.len() >= most {
                 return None;
             }
-            let Ok(()) = entries.extend_from_slice(t) else {
+            let Some(pair) = KeptPair::new(alloc, t, &mut turned, &mut parts) else {
                 return None;
             };
-            count += 1;
+            let Ok(()) = kept.push(pair) else {
+                return None;
+            };
             let _some = left.advance();
         }
-        let Some(opposites) = opposites_of(alloc, entries.as_slice()) else {
-            return None;
-        };
-        Some(DisplacementTable {
-            entries,
-            opposites,
-            width,
-            count,
-        })
+        Some(DisplacementTable { kept })
     }
 
     /// How many displacements there are.
     pub(crate) fn len(&self) -> usize
         ensures { result ≡ length self.now }
     {
-        self.count
+        self.kept.len()
     }
 
     /// The displacement at this place, counted from 0.
-    pub(crate) fn displacement(&self, place: usize) -> &[i32]
+    pub(crate) fn at(&self, place: usize) -> &KeptPair
         requires { place < length self.now }
         ensures { slice_get self.now place ≡ Some result.now }
     {
-        let entries = self.entries.as_slice();
-        let start = place * self.width;
-        &entries[start..start + self.width]
+        &self.kept[place]
     }
-
-    /// The opposite of the displacement at this place.
-    pub(crate) fn opposite(&self, place: usize) -> &[i32]
-        requires { place < length self.now }
-        ensures { slice_get (map opposite self.now) place ≡ Some result.now }
-    {
-        let entries = self.opposites.as_slice();
-        let start = place * self.width;
-        &entries[start..start + self.width]
-    }
-}
-
-// The entries turned the other way. `None` out of memory.
-fn opposites_of(alloc: Global, entries: &[i32]) -> Option<Vec<i32>>
-    requires { All (λ e. nat_abs e ≤ most_piece) entries.now }
-    ensures { IfSome result (λ v. v.items ≡ opposite entries.now) }
-{
-    let mut turned = Vec::with_capacity(alloc, entries.len()).ok()?;
-    for entry in entries {
-        turned.push(-*entry).ok()?;
-    }
-    Some(turned)
 }

@@ -1,5 +1,5 @@
 //! Displacements with the coordinates that they move.
-ghost use Rattle.std.specs.Prelude.{◌≡◌, ◌<◌, ◌≤◌, length, All, IfSome};
+ghost use Rattle.std.specs.Prelude.{◌≡◌, ◌<◌, ◌≤◌, length, All, IfSome, if◌then◌else◌};
 ghost use Rattle.sgb_vec.specs.Limits.{most_dimensions};
 ghost use Rattle.sgb_gen.specs.inner.MovedCoordinates.{parts_of};
 
@@ -54,6 +54,16 @@ impl<'a> Step<'a> {
     {
         self.parts
     }
+}
+
+/// The first of two displacements where `first`, and else the second.
+pub(crate) fn either<'s>(first: bool, one: &'s Step<'_>, other: &'s Step<'_>) -> Step<'s>
+    ensures { result ≡ if first then one.now else other.now }
+{
+    if first {
+        return Step::of(one.entries(), one.parts());
+    }
+    Step::of(other.entries(), other.parts())
 }
 
 /// A displacement that is kept. Contracts see it as its entries.

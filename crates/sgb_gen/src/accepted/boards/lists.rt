@@ -1,5 +1,5 @@
 //! The list of one vector of a board.
-ghost use Rattle.std.specs.Prelude.{◌≡◌, ◌≤◌, ◌<◌, [], ◌++◌, ◌==◌, ℕ, true, false, length, map, nat_abs, None, Some, if◌then◌else◌, All, Contains, OnOk, OnErr, IsOkUnless};
+ghost use Rattle.std.specs.Prelude.{◌≡◌, ◌≤◌, ◌<◌, [], ◌++◌, ◌==◌, ℕ, List, true, false, length, map, nat_abs, None, Some, if◌then◌else◌, All, option_map, Contains, OnOk, OnErr, IsOkUnless};
 ghost use Rattle.std.specs.Bool.{OnTrue, OnFalse};
 ghost use Rattle.sgb_vec.specs.Boxes.{box};
 ghost use Rattle.sgb_vec.specs.Lexicographic.{IsBelow};
@@ -7,14 +7,15 @@ ghost use Rattle.sgb_gen.specs.Limits.{most_piece};
 ghost use Rattle.sgb_gen.specs.Boards.{moves_of_board};
 ghost use Rattle.sgb_gen.specs.LocalLists.{list_at};
 ghost use Rattle.sgb_gen.specs.inner.LocalBoards.{move_arc, edge_arcs, own_starts, other_starts, starts_of, arcs_of_starts, arcs_onward, moves_by};
-ghost use Rattle.sgb_gen.specs.Moves.{moves_from, sides_of, opposite};
+ghost use Rattle.sgb_gen.specs.Moves.{moves_from, sides_of, place, opposite};
 ghost use Rattle.sgb_gen.specs.inner.Moves.{destination, leads_onward};
 ghost use Rattle.sgb_gen.specs.VectorGraphs.{vertex_among};
 
 use super::Board;
 use crate::displacements::{Displacement, put_opposite};
 use crate::links::Links;
-use crate::moves::{destination, leads_onward};
+use crate::moves::{leads_onward, reach, step_destination};
+use crate::steps::{Parts, Step, either, put_parts_of};
 use sgb_vec::{Panic, Vector};
 
 impl Board {
@@ -55,10 +56,16 @@ impl Board {
     {
         let mut there = Vector::new();
         let mut back = Displacement::new();
+        let mut parts = Parts::new();
+        let mut back_parts = Parts::new();
         let mut left = self.displacements();
         while let Some(t) = left.front() {
             put_opposite(t, &mut back);
-            self.push_by(x, t, back.as_slice(), &mut there, links)?;
+            put_parts_of(t, &mut parts);
+            put_parts_of(back.as_slice(), &mut back_parts);
+            let ahead = Step::of(t, parts.as_slice());
+            let behind = Step::of(back.as_slice(), back_parts.as_slice());
+            self.push_by(x, &ahead, &behind, &mut there, links)?;
             let _some = left.advance();
         }
         Ok(())
@@ -69,8 +76,8 @@ impl Board {
     pub(super) fn push_by(
         &self,
         x: &[u32],
-        t: &[i32],
-        back: &[i32],
+        t: &Step,
+        back: &Step,
         there: &mut Vector,
         links: &mut Links,
     ) -> Result<(), Panic>
@@ -88,10 +95,13 @@ impl Board {
         ensures memory { IsOkUnless result Panic.NoRoom }
     {
         if self.directed {
+            if self.is_straight(t, back) {
+                return self.push_straight(x, t, links);
+            }
             return self.push_moves(x, t, there, links);
         }
-        if leads_onward(self.wrap, t) {
-            return self.push_in_order(x, t, back, there, links);
+        if leads_onward(self.wrap, t.entries()) {
+            return self.push_in_order(x, t, back, links);
         }
         self.push_sorted(x, t, back, there, links)
     }
@@ -101,9 +111,8 @@ impl Board {
     fn push_in_order(
         &self,
         x: &[u32],
-        t: &[i32],
-        back: &[i32],
-        there: &mut Vector,
+        t: &Step,
+        back: &Step,
         links: &mut Links,
     ) -> Result<(), Panic>
         requires below { IsBelow x.now self.now.sizes }
@@ -121,17 +130,17 @@ impl Board {
         ensures memory { IsOkUnless result Panic.NoRoom }
     {
         let first = links.len();
-        self.push_moves(x, back, there, links)?;
+        self.push_straight(x, back, links)?;
         links.reverse_from(first);
-        self.push_moves(x, t, there, links)
+        self.push_straight(x, t, links)
     }
 
     // Puts the arcs of `x` by the edges of the displacement `t` behind the others, which are sorted by their starts.
     fn push_sorted(
         &self,
         x: &[u32],
-        t: &[i32],
-        back: &[i32],
+        t: &Step,
+        back: &Step,
         there: &mut Vector,
         links: &mut Links,
     ) -> Result<(), Panic>
@@ -156,11 +165,54 @@ impl Board {
         Ok(())
     }
 
+    // Whether no move by the displacement `t`, whose opposite is `back`, comes home. `false` where it may.
+    fn is_straight(&self, t: &Step, back: &Step) -> bool
+        requires dimensions { length t.now ≡ length self.now.sizes }
+        requires back { back.now ≡ opposite t.now }
+        ensures { OnTrue result ((x : List ℕ) (l : ℕ) → IsBelow x self.now.sizes → 0 < l
+            → destination (sides_of self.now.sizes self.now.wrap) self.now.piece x t.now l
+            ≡ place (sides_of self.now.sizes self.now.wrap) x t.now l) }
+    {
+        if self.piece > 0 {
+            return true;
+        }
+        if leads_onward(self.wrap, t.entries()) {
+            return true;
+        }
+        leads_onward(self.wrap, back.entries())
+    }
+
+    // Puts the arcs by the moves from `x` by `t` behind the others, where these never come home: one look tells how many
+    // there are.
+    fn push_straight(&self, x: &[u32], t: &Step, links: &mut Links) -> Result<(), Panic>
+        requires below { IsBelow x.now self.now.sizes }
+        requires dimensions { length t.now ≡ length self.now.sizes }
+        requires away { (l : ℕ) → 0 < l
+            → destination (sides_of self.now.sizes self.now.wrap) self.now.piece x.now t.now l
+            ≡ place (sides_of self.now.sizes self.now.wrap) x.now t.now l }
+        requires width { length x.now ≡ links.old.width }
+        ensures ok { OnOk result (links.new
+            ≡ record links.old {
+              arcs = links.old.arcs
+                  ++ map move_arc (moves_from (sides_of self.now.sizes self.now.wrap)
+                  self.now.piece x.now t.now);
+            }) }
+        ensures memory { IsOkUnless result Panic.NoRoom }
+    {
+        let sizes = self.shape.sizes();
+        let parts = t.parts();
+        let farthest = reach(sizes, self.wrap, x, parts, self.longest_move());
+        for l in 1..=farthest {
+            links.push_placed(sizes, self.wrap, x, parts, l)?;
+        }
+        Ok(())
+    }
+
     // Puts the arcs by the moves from `x` by `t` behind the others.
     fn push_moves(
         &self,
         x: &[u32],
-        t: &[i32],
+        t: &Step,
         there: &mut Vector,
         links: &mut Links,
     ) -> Result<(), Panic>
@@ -189,8 +241,8 @@ impl Board {
     fn add_starts(
         &self,
         x: &[u32],
-        t: &[i32],
-        back: &[i32],
+        t: &Step,
+        back: &Step,
         there: &mut Vector,
         starts: &mut Vec<(u32, u32)>,
     ) -> Result<(), Panic>
@@ -213,7 +265,7 @@ impl Board {
         &self,
         u: u32,
         x: &[u32],
-        t: &[i32],
+        t: &Step,
         there: &mut Vector,
         starts: &mut Vec<(u32, u32)>,
     ) -> Result<(), Panic>
@@ -238,7 +290,7 @@ impl Board {
         &self,
         u: u32,
         x: &[u32],
-        back: &[i32],
+        back: &Step,
         there: &mut Vector,
         starts: &mut Vec<(u32, u32)>,
     ) -> Result<(), Panic>
@@ -250,7 +302,7 @@ impl Board {
         ensures memory { IsOkUnless result Panic.NoRoom }
     {
         for l in 1..=self.longest_move() {
-            let Some(v) = self.vertex_at(x, back, l, there) else {
+            let Some(v) = self.start_at(x, back, l, there) else {
                 return Ok(());
             };
             if v != u {
@@ -261,11 +313,11 @@ impl Board {
     }
 
     // Puts the arcs by the edges that start at these vertices behind the others.
-    fn push_edges(
+    fn push_edges<'s>(
         &self,
         x: &[u32],
-        t: &[i32],
-        back: &[i32],
+        t: &'s Step<'_>,
+        back: &'s Step<'_>,
         starts: &[(u32, u32)],
         there: &mut Vector,
         links: &mut Links,
@@ -284,7 +336,8 @@ impl Board {
     {
         let u = self.family.place_of(x);
         for (v, l) in starts {
-            self.push_edge(x, if *v == u { t } else { back }, *l, there, links)?;
+            let step = either(*v == u, t, back);
+            self.push_edge(x, &step, *l, there, links)?;
         }
         Ok(())
     }
@@ -293,7 +346,7 @@ impl Board {
     fn push_edge(
         &self,
         x: &[u32],
-        t: &[i32],
+        t: &Step,
         l: u32,
         there: &mut Vector,
         links: &mut Links,
@@ -319,8 +372,21 @@ impl Board {
         Ok(())
     }
 
+    // The vertex where the piece moves from `x` by the displacement `t` at length `l`, if it does.
+    fn start_at(&self, x: &[u32], t: &Step, l: u32, there: &mut Vector) -> Option<u32>
+        requires below { IsBelow x.now self.now.sizes }
+        requires dimensions { length t.now ≡ length self.now.sizes }
+        ensures vertex { result ≡ option_map (vertex_among (box self.now.sizes))
+            (destination (sides_of self.now.sizes self.now.wrap) self.now.piece x.now t.now l) }
+    {
+        if !self.lands(x, t, l, there) {
+            return None;
+        }
+        Some(self.family.place_of(there.as_slice()))
+    }
+
     // Puts the vector where the piece moves from `x` by the displacement `t` at length `l` into `there`, if it moves there.
-    fn lands(&self, x: &[u32], t: &[i32], l: u32, there: &mut Vector) -> bool
+    fn lands(&self, x: &[u32], t: &Step, l: u32, there: &mut Vector) -> bool
         requires below { IsBelow x.now self.now.sizes }
         requires dimensions { length t.now ≡ length self.now.sizes }
         ensures leads { OnTrue result (destination (sides_of self.now.sizes self.now.wrap)
@@ -329,6 +395,6 @@ impl Board {
             (destination (sides_of self.now.sizes self.now.wrap) self.now.piece x.now t.now l
             ≡ None) }
     {
-        destination(self.shape.sizes(), self.wrap, self.piece, x, t, l, there)
+        step_destination(self.shape.sizes(), self.wrap, self.piece, x, t, l, there)
     }
 }

@@ -75,7 +75,8 @@ impl Board {
         ensures memory { IsOkUnless result Panic.NoRoom }
     {
         for k in 0..table.len() {
-            self.push_by(x, table.displacement(k), table.opposite(k), there, links)?;
+            let pair = table.at(k);
+            self.push_by(x, &pair.ahead(), &pair.back(), there, links)?;
         }
         Ok(())
     }

@@ -12,8 +12,8 @@ invariant_of-self-2 c =
     let x = c.args.x.now in
     let kept : vec_len l.tips ≡ length l.tips.items = search rules in
     let count : vec_len c.extend_from_slice.new.self ≡ length c.extend_from_slice.new.self.items = search rules in
-    let tips = last_moved c.extend_from_slice.new.self l.tips.items x _ _ _ c.args.from c.args.to
-    c.in_ok-extend_from_slice.ensures.items c.as_mut_slice.ensures.value count (c.len-start.ensures ∙ kept) c.move_unit.ensures in
+    let tips = last_moved (λ row. unit_moved row c.args.from c.args.to) c.extend_from_slice.new.self l.tips.items x _ _ _
+    (λ row. length-moved row c.args.from c.args.to) c.in_ok-extend_from_slice.ensures.items c.as_mut_slice.ensures.value count (c.len-start.ensures ∙ kept) c.move_unit.ensures in
     let lens = c.in_ok-push.ensures.items ∙ ap (λ ns. ns ++ 1 ∷ []) c.in_ok-reserve.ensures.items in
     let wide = length-moved x c.args.from c.args.to ∙ c.requires.width ∙ sym (ap (λ d. d.width) c.self.view_is) in
     rows-push l.width 1 l.tips.items l.lens.items (unit_moved x c.args.from c.args.to) _ _ tips lens c.self.invariant wide
@@ -25,8 +25,8 @@ returns-clause-ok c =
     let tip = unit_moved x c.args.from c.args.to in
     let kept : vec_len l.tips ≡ length l.tips.items = search rules in
     let count : vec_len c.extend_from_slice.new.self ≡ length c.extend_from_slice.new.self.items = search rules in
-    let tips = last_moved c.extend_from_slice.new.self l.tips.items x _ _ _ c.args.from c.args.to
-    c.in_ok-extend_from_slice.ensures.items c.as_mut_slice.ensures.value count (c.len-start.ensures ∙ kept) c.move_unit.ensures in
+    let tips = last_moved (λ row. unit_moved row c.args.from c.args.to) c.extend_from_slice.new.self l.tips.items x _ _ _
+    (λ row. length-moved row c.args.from c.args.to) c.in_ok-extend_from_slice.ensures.items c.as_mut_slice.ensures.value count (c.len-start.ensures ∙ kept) c.move_unit.ensures in
     let lens = c.in_ok-push.ensures.items ∙ ap (λ ns. ns ++ 1 ∷ []) c.in_ok-reserve.ensures.items in
     let wide = length-moved x c.args.from c.args.to ∙ c.requires.width ∙ sym (ap (λ d. d.width) c.self.view_is) in
     ap (λ ts. record { width = l.width; arcs = arcs_in l.width ts c.push.new.self.items }) tips

@@ -21,7 +21,7 @@ loop-t-init c =
     )
 
 pub push_by-requires-clause-dimensions : goal.push_by-requires-clause-dimensions
-push_by-requires-clause-dimensions c = first_has (λ t. length t ≡ length c.args.self.now.sizes) c.loop-t.left c.in-Some.t.now c.loop-t.invariant.0 c.in-Some.ensures.first
+push_by-requires-clause-dimensions c = ap length c.of-ahead.ensures ∙ first_has (λ t. length t ≡ length c.args.self.now.sizes) c.loop-t.left c.in-Some.t.now c.loop-t.invariant.0 c.in-Some.ensures.first
 
 pub put_opposite-requires-clause-few : goal.put_opposite-requires-clause-few
 put_opposite-requires-clause-few c = c.in-Some.ensures.few
@@ -41,7 +41,7 @@ loop-t-preserved c =
     let own = λ (d : List ℤ). arcs_onward b.directed x (moves_by sides b.piece vectors d) in
     let step : c.loop-t.left ≡ t ∷ left = first_and_others c.loop-t.left left t t c.in-Some.ensures.first refl c.advance-some.ensures.rest in
     let Small : List ℤ → Type 0 = λ u. All (λ e. nat_abs e ≤ most_piece) u in
-    let added : c.push_by.new.links.arcs ≡ c.loop-t.links.arcs ++ own t = ap (λ d. d.arcs) c.in_ok-push_by.ensures.ok in (
+    let added : c.push_by.new.links.arcs ≡ c.loop-t.links.arcs ++ own t = ap (λ d. d.arcs) c.in_ok-push_by.ensures.ok ∙ ap (λ u. c.loop-t.links.arcs ++ own u) c.of-ahead.ensures in (
       All-tail (λ u. length u ≡ length b.sizes) t left (subst (All (λ u. length u ≡ length b.sizes)) step c.loop-t.invariant.0),
       All-tail Small t left (subst (All Small) step c.loop-t.invariant.1),
       ap (λ d. d.width) c.in_ok-push_by.ensures.ok ∙ c.loop-t.invariant.2,

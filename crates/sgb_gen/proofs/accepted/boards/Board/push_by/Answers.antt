@@ -1,25 +1,32 @@
-use Rattle.std.proofs.Common.{◌≡◌, ◌++◌, ◌∙◌, List, true, false, map, sym, ap, subst}
+use Rattle.std.proofs.Common.{◌≡◌, ◌++◌, ◌∙◌, ℕ, ℤ, List, true, false, map, sym, ap, subst}
 use Rattle.std.specs.Result.{OnOk}
 use Rattle.sgb_vec.specs.Boxes.{box}
+use Rattle.sgb_vec.specs.Lexicographic.{IsBelow}
 use Rattle.sgb_vec.specs.inner.Rising.{box_vectors_rise}
 use Rattle.sgb_vec.proofs.BoxPlaces.{Contains-from_IsBelow}
+use Rattle.sgb_gen.specs.Boards.{BoardData}
 use Rattle.sgb_gen.specs.inner.LocalBoards.{arcs_onward, move_arc, moves_by}
 use Rattle.sgb_gen.specs.LocalLists.{LocalArc}
 use Rattle.sgb_gen.specs.Moves.{moves_from, sides_of}
 use Rattle.sgb_gen.proofs.ListsOfBoards.{onward_by_own}
 use Rattle.sgb_gen.proofs.accepted.boards.Board.push_by.Goals as goal
 
+-- where the arcs are directed, they are those by the moves from x
+own : (b : BoardData) (x : List ℕ) (t : List ℤ) → IsBelow x b.sizes → true ≡ b.directed
+    → map move_arc (moves_from (sides_of b.sizes b.wrap) b.piece x t) ≡ arcs_onward b.directed x (moves_by (sides_of b.sizes b.wrap) b.piece (box b.sizes) t)
+own b x t below directed =
+    let sides = sides_of b.sizes b.wrap in
+    sym (onward_by_own sides b.piece t x (box b.sizes) (box_vectors_rise b.sizes) (Contains-from_IsBelow b.sizes x below))
+    ∙ ap (λ d. arcs_onward d x (moves_by sides b.piece (box b.sizes) t)) directed
+
+pub returns-then-is_straight-clause-ok : goal.returns-then-is_straight-clause-ok
+returns-then-is_straight-clause-ok c =
+    let same = own c.args.self.now c.args.x.now c.args.t.now c.requires.below (sym c.if-self.true ∙ ap (λ d. d.directed) c.self.view_is) in
+    subst (λ (arcs : List LocalArc). OnOk c.push_straight.result (c.push_straight.new.links ≡ record { width = c.args.links.now.width; arcs = c.args.links.now.arcs ++ arcs })) same c.push_straight.ensures.ok
+
 pub returns-then-self-clause-ok : goal.returns-then-self-clause-ok
 returns-then-self-clause-ok c =
-    let b = c.args.self.now in
-    let x = c.args.x.now in
-    let t = c.args.t.now in
-    let sides = sides_of b.sizes b.wrap in
-    let vectors = box b.sizes in
-    let directed : true ≡ b.directed = sym c.if-self.true ∙ ap (λ d. d.directed) c.self.view_is in
-    let same : map move_arc (moves_from sides b.piece x t) ≡ arcs_onward b.directed x (moves_by sides b.piece vectors t) =
-    sym (onward_by_own sides b.piece t x vectors (box_vectors_rise b.sizes) (Contains-from_IsBelow b.sizes x c.requires.below))
-    ∙ ap (λ d. arcs_onward d x (moves_by sides b.piece vectors t)) directed in
+    let same = own c.args.self.now c.args.x.now c.args.t.now c.requires.below (sym c.if-self.true ∙ ap (λ d. d.directed) c.self.view_is) in
     subst (λ (arcs : List LocalArc). OnOk c.push_moves.result (c.push_moves.new.links ≡ record { width = c.args.links.now.width; arcs = c.args.links.now.arcs ++ arcs })) same c.push_moves.ensures.ok
 
 pub returns-then-leads_onward-clause-ok : goal.returns-then-leads_onward-clause-ok

@@ -5,8 +5,10 @@ use Rattle.sgb_vec.specs.Boxes.{box}
 use Rattle.sgb_vec.proofs.BoxPlaces.{Contains-from_IsBelow}
 use Rattle.sgb_gen.specs.inner.LocalBoards.{arcs_onward, move_arc, moves_by}
 use Rattle.sgb_gen.specs.LocalLists.{LinksData, LocalArc}
-use Rattle.sgb_gen.specs.Moves.{moves_from, sides_of}
+use Rattle.sgb_gen.specs.Moves.{moves_from, place, sides_of}
+use Rattle.sgb_gen.proofs.BoardWalks.{leads}
 use Rattle.sgb_gen.proofs.OnwardStarts.{onward_in_order}
+use Rattle.sgb_gen.proofs.StraightMoves.{back_away, onward_away}
 use Rattle.sgb_gen.proofs.accepted.boards.Board.push_in_order.Goals as goal
 
 -- arcs behind others, and then turned round
@@ -25,6 +27,17 @@ joined old between behind ahead whole is e =
     ap (λ d. record { width = d.width; arcs = d.arcs ++ ahead }) is
     ∙ ap (λ ls. record { width = old.width; arcs = ls }) (append_assoc old.arcs behind ahead ∙ ap (λ ls. old.arcs ++ ls) e)
 
+pub push_straight-requires-clause-away : goal.push_straight-requires-clause-away
+push_straight-requires-clause-away c l some =
+    let b = c.args.self.now in
+    let x = c.args.x.now in
+    ap (λ ts. leads b x ts l) c.requires.back
+    ∙ back_away b c.args.t.now c.requires.dimensions c.requires.onward x l c.requires.below some
+    ∙ ap (λ ts. place (sides_of b.sizes b.wrap) x ts l) (sym c.requires.back)
+
+pub push_straight-requires-2-clause-away : goal.push_straight-requires-2-clause-away
+push_straight-requires-2-clause-away c l some = onward_away c.args.self.now c.args.t.now c.requires.dimensions c.requires.onward c.args.x.now l c.requires.below some
+
 pub returns-clause-ok : goal.returns-clause-ok
 returns-clause-ok c =
     let b = c.args.self.now in
@@ -37,5 +50,5 @@ returns-clause-ok c =
     let whole : reverse behind ++ ahead ≡ arcs_onward false x (moves_by sides b.piece (box b.sizes) t) =
     ap (λ ts. reverse (map move_arc (moves_from sides b.piece x ts)) ++ ahead) c.requires.back
     ∙ sym (onward_in_order b t x there c.requires.dimensions c.requires.onward) in
-    let between = turned c.args.links.now c.push_moves.new.links c.reverse_from.new.self c.len-first.result behind c.in_ok-push_moves.ensures.ok c.len-first.ensures c.reverse_from.ensures in
-    subst (λ d. OnOk c.push_moves-2.result (c.push_moves-2.new.links ≡ d)) (joined c.args.links.now c.reverse_from.new.self (reverse behind) ahead _ between whole) c.push_moves-2.ensures.ok
+    let between = turned c.args.links.now c.push_straight.new.links c.reverse_from.new.self c.len-first.result behind c.in_ok-push_straight.ensures.ok c.len-first.ensures c.reverse_from.ensures in
+    subst (λ d. OnOk c.push_straight-2.result (c.push_straight-2.new.links ≡ d)) (joined c.args.links.now c.reverse_from.new.self (reverse behind) ahead _ between whole) c.push_straight-2.ensures.ok

@@ -21,12 +21,6 @@ from_it : (ts : List (List ℤ)) (k : ℕ) (t : List ℤ) → slice_get ts k ≡
 from_it ts k t at =
     at_drop_more (λ us. us) ts k t (slice_get_within ts k t at) ∙ ap (λ u. u ∷ drop (k + 1) ts) (get_or_from_slice_get ts k t t at)
 
--- what stands beside it among the opposites
-beside : (ts : List (List ℤ)) (k : ℕ) (t back : List ℤ) → slice_get ts k ≡ Some t → slice_get (map opposite ts) k ≡ Some back → back ≡ opposite t
-beside ts k t back at there =
-    let e : ◌≡◌ {A = Option (List ℤ)} (Some back) (Some (opposite t)) = sym there ∙ slice_get-map opposite ts k ∙ ap (option_map opposite) at in
-    cc
-
 pub loop-k-init : goal.loop-k-init
 loop-k-init c =
     let b = c.args.self.now in
@@ -40,23 +34,20 @@ push_by-requires-clause-dimensions c =
     let b = c.args.self.now in
     let p = nat_abs b.piece in
     let wide = subst (λ n. All (λ t. length t ≡ n) (displacements_within p (bounds_of b))) (length-entry_bounds p b.sizes b.wrap) (displacement_lengths p (bounds_of b)) in
-    at_has (λ t. length t ≡ length b.sizes) c.args.table.now c.loop-k.k c.displacement.result.now (subst (All (λ t. length t ≡ length b.sizes)) (sym c.requires.table) wide) c.displacement.ensures
-
-pub push_by-requires-clause-back : goal.push_by-requires-clause-back
-push_by-requires-clause-back c = beside c.args.table.now c.loop-k.k c.displacement.result.now c.opposite.result.now c.displacement.ensures c.opposite.ensures
+    ap length c.ahead.ensures ∙ at_has (λ t. length t ≡ length b.sizes) c.args.table.now c.loop-k.k c.at-pair.result.now (subst (All (λ t. length t ≡ length b.sizes)) (sym c.requires.table) wide) c.at-pair.ensures
 
 pub loop-k-preserved : goal.loop-k-preserved
 loop-k-preserved c =
     let b = c.args.self.now in
     let x = c.args.x.now in
-    let t = c.displacement.result.now in
+    let t = c.at-pair.result.now in
     let left = drop (c.loop-k.k + 1) c.args.table.now in
     let sides = sides_of b.sizes b.wrap in
     let vectors = box b.sizes in
     let made = λ (ts : List (List ℤ)). arcs_onward b.directed x (flat_map (moves_by sides b.piece vectors) ts) in
     let own = λ (d : List ℤ). arcs_onward b.directed x (moves_by sides b.piece vectors d) in
-    let step : drop c.loop-k.k c.args.table.now ≡ t ∷ left = from_it c.args.table.now c.loop-k.k t c.displacement.ensures in
-    let added : c.push_by.new.links.arcs ≡ c.loop-k.links.arcs ++ own t = ap (λ d. d.arcs) c.in_ok-push_by.ensures.ok in (
+    let step : drop c.loop-k.k c.args.table.now ≡ t ∷ left = from_it c.args.table.now c.loop-k.k t c.at-pair.ensures in
+    let added : c.push_by.new.links.arcs ≡ c.loop-k.links.arcs ++ own t = ap (λ d. d.arcs) c.in_ok-push_by.ensures.ok ∙ ap (λ u. c.loop-k.links.arcs ++ own u) c.ahead.ensures in (
       ap (λ d. d.width) c.in_ok-push_by.ensures.ok ∙ c.loop-k.invariant.0,
       ap (λ ls. ls ++ made left) added
           ∙ append_assoc c.loop-k.links.arcs (own t) (made left)

@@ -1,0 +1,74 @@
+-- Moves from a vector that never come home, of as many lengths as the moved coordinates stay on the board.
+use lib.Signed.{lt_z}
+use Rattle.std.proofs.Common.{◌≡◌, ◌≢◌, ℕ, ◌+◌, ◌<◌, ◌≤◌, ℤ, pos, negsuc, SFits, to_z, of_z, w64, true, false, not, cond, List, [], ◌∷◌, length, map, Option, Some, None, refl, sym, ap, ap₂, subst, ◌∙◌, inl, inr, arith, true≢false}
+use Rattle.std.specs.Cmp.Lexicographic.{bytes_decides}
+use Rattle.std.proofs.lemmas.Bool.{cases_Bool, cases_lt}
+use Rattle.std.proofs.lemmas.Int.{to_z-of_z}
+use Rattle.sgb_vec.specs.Lexicographic.{IsBelow}
+use Rattle.sgb_gen.specs.Boards.{BoardData}
+use Rattle.sgb_gen.specs.Moves.{Side, is_elsewhere, opposite, place, sides_of}
+use Rattle.sgb_gen.specs.VectorGraphs.{same_vector}
+use Rattle.sgb_gen.specs.inner.Moves.{destination, leads_onward}
+use Rattle.sgb_gen.specs.inner.MovedCoordinates.{parts_of, parts_put, parts_stay}
+use Rattle.sgb_gen.proofs.BoardWalks.{leads, left-none, left-out, longest, moves_left}
+use Rattle.sgb_gen.proofs.MovedCoordinates.{place_by_parts}
+use Rattle.sgb_gen.proofs.OnwardMoves.{back_earlier, onward_elsewhere}
+use Rattle.sgb_gen.proofs.OrderedLists.{before_none}
+use Rattle.sgb_gen.proofs.Reaches.{sizes_of_sides}
+
+-- a piece leads to each place there is
+abbrev pub NeverHome : BoardData → List ℕ → List ℤ → Type 0
+NeverHome b x t = (l : ℕ) → 0 < l → leads b x t l ≡ place (sides_of b.sizes b.wrap) x t l
+
+module _ (b : BoardData) (x : List ℕ) (t : List ℤ) (below : IsBelow x b.sizes) (long : length t ≡ length b.sizes) (away : NeverHome b x t) where
+  pub leads_on : (l : ℕ) → 0 < l → parts_stay b.sizes b.wrap x l (parts_of t) ≡ true → leads b x t l ≡ Some (parts_put b.sizes b.wrap x l (parts_of t) x)
+  leads_on l some stay =
+      away l some ∙ place_by_parts b.sizes b.wrap x t l below long
+      ∙ ap (λ c. cond c (Some (parts_put b.sizes b.wrap x l (parts_of t) x)) None) stay
+
+  leads_out : (l : ℕ) → 0 < l → parts_stay b.sizes b.wrap x l (parts_of t) ≡ false → leads b x t l ≡ None
+  leads_out l some out =
+      away l some ∙ place_by_parts b.sizes b.wrap x t l below long
+      ∙ ap (λ c. cond c (Some (parts_put b.sizes b.wrap x l (parts_of t) x)) None) out
+
+  -- where the next length leads out, no moves are left after it
+  pub left-past : (n l : ℕ) → n ≤ longest b → l ≡ n + 1 → (n < longest b → parts_stay b.sizes b.wrap x (n + 1) (parts_of t) ≡ false) → moves_left b t x l ≡ []
+  left-past n l most next end =
+      ap (moves_left b t x) next
+      ∙ elim (cases_lt n (longest b)) [
+        | inl less ↦ left-out b t x (n + 1) (omega (arith, less)) (leads_out (n + 1) (omega arith) (end less))
+        | inr all ↦ left-none b t x (n + 1) (omega (arith, all))
+      ]
+
+-- ---- when a piece never comes home
+
+-- what is not x is elsewhere
+not_home : (x : List ℕ) (o : Option (List ℕ)) → o ≢ Some x → cond (is_elsewhere x o) o None ≡ o
+not_home x None h = refl
+not_home x (Some y) h = elim (cases_Bool (same_vector y x)) [
+  | inl same ↦ absurd (h (ap Some ((bytes_decides y x).0 same)))
+  | inr other ↦ ap (λ c. cond (not c) (Some y) None) other
+]
+
+pub destination_away : (sides : List Side) (piece : ℤ) (x : List ℕ) (t : List ℤ) (l : ℕ) → place sides x t l ≢ Some x → destination sides piece x t l ≡ place sides x t l
+destination_away sides (pos p) x t l away = refl
+destination_away sides (negsuc p) x t l away = not_home x (place sides x t l) away
+
+module _ (b : BoardData) (t : List ℤ) (long : length t ≡ length b.sizes) (onward : leads_onward b.wrap 0 t ≡ true) where
+  on_sides : (x : List ℕ) → IsBelow x b.sizes → IsBelow x (map (λ s. s.size) (sides_of b.sizes b.wrap))
+  on_sides x below = subst (IsBelow x) (sym (sizes_of_sides 0 b.sizes b.wrap)) below
+
+  -- a displacement that leads onward does not lead home, nor does its opposite
+  pub onward_away : (x : List ℕ) (l : ℕ) → IsBelow x b.sizes → 0 < l → leads b x t l ≡ place (sides_of b.sizes b.wrap) x t l
+  onward_away x l below some =
+      destination_away (sides_of b.sizes b.wrap) b.piece x t l (onward_elsewhere b.sizes b.wrap x t l (on_sides x below) long onward some)
+
+  pub back_away : (x : List ℕ) (l : ℕ) → IsBelow x b.sizes → 0 < l → leads b x (opposite t) l ≡ place (sides_of b.sizes b.wrap) x (opposite t) l
+  back_away x l below some =
+      destination_away (sides_of b.sizes b.wrap) b.piece x (opposite t) l
+      (λ home. before_none x (back_earlier b.sizes b.wrap x t l x (on_sides x below) long onward some home))
+
+-- a leaper leads to each place there is
+pub leaper_away : (sides : List Side) (piece : ℤ) (x : List ℕ) (t : List ℤ) (l : ℕ) → SFits w64 piece → lt_z (pos 0) (to_z w64 (of_z w64 piece)) ≡ true → destination sides piece x t l ≡ place sides x t l
+leaper_away sides (pos p) x t l fits leaps = refl
+leaper_away sides (negsuc p) x t l fits leaps = absurd (true≢false (sym (ap (lt_z (pos 0)) (sym (to_z-of_z w64 (negsuc p) fits)) ∙ leaps)))

@@ -1,8 +1,0 @@
-use Rattle.std.proofs.Common.{length, sym, ap, ◌∙◌}
-use Rattle.sgb_gen.proofs.TableRows.{length-rows}
-use Rattle.sgb_gen.proofs.displacement_tables.DisplacementTable.len.Goals as goal
-
-pub returns : goal.returns
-returns c =
-    let t = c.self.inside in
-    sym (length-rows t.width t.count t.entries.items) ∙ ap length c.self.view_is
