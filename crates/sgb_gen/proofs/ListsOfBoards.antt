@@ -121,6 +121,14 @@ module _ (sides : List Side) (piece : ℤ) (t : List ℤ) (x : List ℕ) where
   pub onward_by_own : (vectors : List (List ℕ)) → IsRising vectors → Contains vectors x → arcs_onward true x (moves_by sides piece vectors t) ≡ map move_arc (moves_from sides piece x t)
   onward_by_own vectors rise there = arcs_onward-own (moves_by sides piece vectors t) ∙ ap (map move_arc) (own_moves vectors rise there)
 
+-- where the arcs are directed, those by one displacement are those by the moves from x
+pub directed_onward : (b : BoardData) (x : List ℕ) (t : List ℤ) → IsBelow x b.sizes → true ≡ b.directed
+    → map move_arc (moves_from (sides_of b.sizes b.wrap) b.piece x t) ≡ arcs_onward b.directed x (moves_by (sides_of b.sizes b.wrap) b.piece (box b.sizes) t)
+directed_onward b x t below directed =
+    let sides = sides_of b.sizes b.wrap in
+    sym (onward_by_own sides b.piece t x (box b.sizes) (box_vectors_rise b.sizes) (Contains-from_IsBelow b.sizes x below))
+    ∙ ap (λ d. arcs_onward d x (moves_by sides b.piece (box b.sizes) t)) directed
+
 -- ---- the moves of a board have their ends on it
 
 moves_end : (vectors : List (List ℕ)) (x : List ℕ) (leads : ℕ → Option (List ℕ)) (ls : List ℕ) → Contains vectors x → ((l : ℕ) (y : List ℕ) → leads l ≡ Some y → Contains vectors y) → All (HasEnds vectors) (moves_until x leads ls)

@@ -1,16 +1,21 @@
 -- Moves from a vector that never come home, of as many lengths as the moved coordinates stay on the board.
 use lib.Signed.{lt_z}
-use Rattle.std.proofs.Common.{◌≡◌, ◌≢◌, ℕ, ◌+◌, ◌<◌, ◌≤◌, ℤ, pos, negsuc, SFits, to_z, of_z, w64, true, false, not, cond, List, [], ◌∷◌, length, map, Option, Some, None, refl, sym, ap, ap₂, subst, ◌∙◌, inl, inr, arith, true≢false}
+use Rattle.std.proofs.Common.{◌≡◌, ◌≢◌, ℕ, zero, suc, ◌+◌, ◌-◌, ◌++◌, reverse, append_assoc, ◌<◌, ◌≤◌, ℤ, pos, negsuc, SFits, to_z, of_z, w64, true, false, not, cond, List, [], ◌∷◌, length, map, Option, Some, None, refl, sym, ap, ap₂, subst, ◌∙◌, inl, inr, arith, true≢false}
 use Rattle.std.specs.Cmp.Lexicographic.{bytes_decides}
 use Rattle.std.proofs.lemmas.Bool.{cases_Bool, cases_lt}
 use Rattle.std.proofs.lemmas.Int.{to_z-of_z}
+use Rattle.std.proofs.lemmas.List.{reverse-append}
+use Rattle.std.proofs.lemmas.List.FromFn.{map-range_with_len_more}
+use Rattle.std.specs.List.{range_with_len}
 use Rattle.sgb_vec.specs.Lexicographic.{IsBelow}
 use Rattle.sgb_gen.specs.Boards.{BoardData}
 use Rattle.sgb_gen.specs.Moves.{Side, is_elsewhere, opposite, place, sides_of}
 use Rattle.sgb_gen.specs.VectorGraphs.{same_vector}
+use Rattle.sgb_gen.specs.LocalLists.{LocalArc}
+use Rattle.sgb_gen.specs.inner.LocalBoards.{move_arc}
 use Rattle.sgb_gen.specs.inner.Moves.{destination, leads_onward}
 use Rattle.sgb_gen.specs.inner.MovedCoordinates.{parts_of, parts_put, parts_stay}
-use Rattle.sgb_gen.proofs.BoardWalks.{leads, left-none, left-out, longest, moves_left}
+use Rattle.sgb_gen.proofs.BoardWalks.{leads, left-all, left-next, left-none, left-out, longest, moves_left, moves_of}
 use Rattle.sgb_gen.proofs.MovedCoordinates.{place_by_parts}
 use Rattle.sgb_gen.proofs.OnwardMoves.{back_earlier, onward_elsewhere}
 use Rattle.sgb_gen.proofs.OrderedLists.{before_none}
@@ -19,6 +24,10 @@ use Rattle.sgb_gen.proofs.Reaches.{sizes_of_sides}
 -- a piece leads to each place there is
 abbrev pub NeverHome : BoardData → List ℕ → List ℤ → Type 0
 NeverHome b x t = (l : ℕ) → 0 < l → leads b x t l ≡ place (sides_of b.sizes b.wrap) x t l
+
+-- the arc to the place at a length
+abbrev pub arc_placed : BoardData → List ℕ → List ℤ → ℕ → LocalArc
+arc_placed b x t l = record { tip = parts_put b.sizes b.wrap x l (parts_of t) x; len = pos l }
 
 module _ (b : BoardData) (x : List ℕ) (t : List ℤ) (below : IsBelow x b.sizes) (long : length t ≡ length b.sizes) (away : NeverHome b x t) where
   pub leads_on : (l : ℕ) → 0 < l → parts_stay b.sizes b.wrap x l (parts_of t) ≡ true → leads b x t l ≡ Some (parts_put b.sizes b.wrap x l (parts_of t) x)
@@ -39,6 +48,38 @@ module _ (b : BoardData) (x : List ℕ) (t : List ℤ) (below : IsBelow x b.size
         | inl less ↦ left-out b t x (n + 1) (omega (arith, less)) (leads_out (n + 1) (omega arith) (end less))
         | inr all ↦ left-none b t x (n + 1) (omega (arith, all))
       ]
+
+  -- ---- the arcs by all of them
+
+  arcs_on : (n k l : ℕ) → 0 < l → l + k ≡ n + 1 → n ≤ longest b
+      → ((m : ℕ) → m ≤ n → parts_stay b.sizes b.wrap x m (parts_of t) ≡ true)
+      → (n < longest b → parts_stay b.sizes b.wrap x (n + 1) (parts_of t) ≡ false)
+      → map move_arc (moves_left b t x l) ≡ map (arc_placed b x t) (range_with_len l k)
+  arcs_on n zero l some sum most on end = ap (map move_arc) (left-past n l most (omega (arith, sum)) end)
+  arcs_on n (suc k) l some sum most on end =
+      ap (map move_arc) (left-next b t x l (parts_put b.sizes b.wrap x l (parts_of t) x) (omega (arith, sum, most)) (leads_on l some (on l (omega (arith, sum)))))
+      ∙ ap (λ ls. arc_placed b x t l ∷ ls) (arcs_on n k (l + 1) (omega arith) (omega (arith, sum)) most on end)
+
+  -- one for each length up to the farthest one
+  pub straight_arcs : (n : ℕ) → n ≤ longest b
+      → ((m : ℕ) → m ≤ n → parts_stay b.sizes b.wrap x m (parts_of t) ≡ true)
+      → (n < longest b → parts_stay b.sizes b.wrap x (n + 1) (parts_of t) ≡ false)
+      → map move_arc (moves_of b t x) ≡ map (arc_placed b x t) (range_with_len 1 n)
+  straight_arcs n most on end = ap (map move_arc) (sym (left-all b t x)) ∙ arcs_on n n 1 (omega arith) (omega arith) most on end
+
+-- ---- those of the lengths that are left, the longest first
+
+pub one_shorter : (f : ℕ → LocalArc) (done new whole : List LocalArc) (n m : ℕ) → 0 < n → m ≡ n → new ≡ done ++ f m ∷ []
+    → done ++ reverse (map f (range_with_len 1 n)) ≡ whole → new ++ reverse (map f (range_with_len 1 (n - 1))) ≡ whole
+one_shorter f done new whole n m some same is so_far =
+    let k = n - 1 in
+    let next : k + 1 ≡ n = omega (arith, some) in
+    let left = reverse (map f (range_with_len 1 k)) in
+    let first : reverse (map f (range_with_len 1 n)) ≡ f m ∷ left =
+    ap (λ i. reverse (map f (range_with_len 1 i))) (sym next)
+    ∙ ap reverse (map-range_with_len_more f 1 k m (omega (arith, next, same)))
+    ∙ reverse-append (map f (range_with_len 1 k)) (f m ∷ []) in
+    ap (λ ls. ls ++ left) is ∙ append_assoc done (f m ∷ []) left ∙ sym (ap (λ ls. done ++ ls) first) ∙ so_far
 
 -- ---- when a piece never comes home
 

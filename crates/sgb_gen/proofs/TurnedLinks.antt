@@ -3,6 +3,7 @@ use Rattle.std.proofs.Common.{◌≡◌, ℕ, zero, suc, ◌+◌, ◌*◌, ◌�
 use Rattle.std.proofs.Math.Seq.{take-append-add, drop-append-add}
 use Rattle.std.proofs.lemmas.List.{append_assoc, drop_at, take_at, take_all, take-append-le, drop-append-le, length-take-le, take-append-drop, length-reverse, reverse-append, reverse-reverse}
 use Rattle.std.proofs.lemmas.Nat.{mul-le}
+use Rattle.sgb_gen.specs.LocalLists.{LinksData, LocalArc}
 use Rattle.sgb_gen.specs.inner.LocalArcs.{arcs_in, rows_turned}
 use Rattle.sgb_gen.proofs.LinkRows.{arcs_in-push, length-arcs_in}
 
@@ -109,3 +110,12 @@ arcs_in-turned w first start tips lens long within at =
     ∙ ap (λ arcs. arcs_in w ts ns ++ arcs) (arcs_in-reverse w us ms left)
     ∙ sym (ap (λ arcs. take first arcs ++ reverse (drop first arcs)) whole
     ∙ ap₂ (λ p q. p ++ reverse q) (take_at (arcs_in w ts ns) (arcs_in w us ms) first number) (drop_at (arcs_in w ts ns) (arcs_in w us ms) first number))
+
+-- arcs that are put behind others, and then turned round
+pub turned_behind : (old pushed between : LinksData) (first : ℕ) (behind : List LocalArc) → pushed ≡ record { width = old.width; arcs = old.arcs ++ behind } → first ≡ length old.arcs
+    → between ≡ record { width = pushed.width; arcs = take first pushed.arcs ++ reverse (drop first pushed.arcs) } → between ≡ record { width = old.width; arcs = old.arcs ++ reverse behind }
+turned_behind old pushed between first behind is at e =
+    let arcs : take first pushed.arcs ++ reverse (drop first pushed.arcs) ≡ old.arcs ++ reverse behind =
+    ap (λ d. take first d.arcs ++ reverse (drop first d.arcs)) is
+    ∙ ap₂ (λ p q. p ++ reverse q) (take_at old.arcs behind first (sym at)) (drop_at old.arcs behind first (sym at)) in
+    e ∙ ap₂ (λ w ls. record { width = w; arcs = ls }) (ap (λ d. d.width) is) arcs

@@ -1,5 +1,5 @@
 //! The list of one vector of a board.
-ghost use Rattle.std.specs.Prelude.{◌≡◌, ◌≤◌, ◌<◌, [], ◌++◌, ◌==◌, ℕ, List, true, false, length, map, nat_abs, None, Some, if◌then◌else◌, All, option_map, Contains, OnOk, OnErr, IsOkUnless};
+ghost use Rattle.std.specs.Prelude.{◌≡◌, ◌≤◌, ◌<◌, [], ◌++◌, ◌==◌, ℕ, List, true, false, length, map, reverse, nat_abs, None, Some, if◌then◌else◌, All, option_map, Contains, OnOk, OnErr, IsOkUnless};
 ghost use Rattle.std.specs.Bool.{OnTrue, OnFalse};
 ghost use Rattle.sgb_vec.specs.Boxes.{box};
 ghost use Rattle.sgb_vec.specs.Lexicographic.{IsBelow};
@@ -65,15 +65,69 @@ impl Board {
             put_parts_of(back.as_slice(), &mut back_parts);
             let ahead = Step::of(t, parts.as_slice());
             let behind = Step::of(back.as_slice(), back_parts.as_slice());
+            let first = links.len();
             self.push_by(x, &ahead, &behind, &mut there, links)?;
+            links.reverse_from(first);
             let _some = left.advance();
         }
         Ok(())
     }
 
-    // Puts the arcs of `x` by the displacement `t`, whose opposite is `back`, behind the others. `there` is room for a place,
-    // here and below: what it holds does not count.
+    // Puts the arcs of `x` behind the others, as `push_all` does, but in the order of its list: those by later moves first.
+    pub(super) fn push_listed(&self, x: &[u32], links: &mut Links) -> Result<(), Panic>
+        requires below { IsBelow x.now self.now.sizes }
+        requires width { length x.now ≡ links.old.width }
+        ensures ok { OnOk result (links.new
+            ≡ record links.old {
+              arcs = links.old.arcs
+                  ++ reverse (arcs_onward self.now.directed x.now (moves_of_board self.now));
+            }) }
+        ensures memory { IsOkUnless result Panic.NoRoom }
+    {
+        let first = links.len();
+        self.push_all(x, links)?;
+        links.reverse_from(first);
+        Ok(())
+    }
+
+    // Puts the arcs of `x` by the displacement `t`, whose opposite is `back`, behind the others, in the order of its list:
+    // those by later moves first. `there` is room for a place, here and below: what it holds does not count.
     pub(super) fn push_by(
+        &self,
+        x: &[u32],
+        t: &Step,
+        back: &Step,
+        there: &mut Vector,
+        links: &mut Links,
+    ) -> Result<(), Panic>
+        requires below { IsBelow x.now self.now.sizes }
+        requires dimensions { length t.now ≡ length self.now.sizes }
+        requires back { back.now ≡ opposite t.now }
+        requires width { length x.now ≡ links.old.width }
+        ensures ok { OnOk result (links.new
+            ≡ record links.old {
+              arcs = links.old.arcs
+                  ++ reverse (arcs_onward self.now.directed x.now
+                  (moves_by (sides_of self.now.sizes self.now.wrap) self.now.piece
+                  (box self.now.sizes) t.now));
+            }) }
+        ensures memory { IsOkUnless result Panic.NoRoom }
+    {
+        if self.directed {
+            if self.is_straight(t, back) {
+                return self.push_straight_down(x, t, links);
+            }
+        } else if leads_onward(self.wrap, t.entries()) {
+            return self.push_in_order(x, t, back, links);
+        }
+        let first = links.len();
+        self.push_tried(x, t, back, there, links)?;
+        links.reverse_from(first);
+        Ok(())
+    }
+
+    // Puts the arcs of `x` by the displacement `t` behind the others, those by earlier moves first: each length is tried.
+    fn push_tried(
         &self,
         x: &[u32],
         t: &Step,
@@ -95,19 +149,13 @@ impl Board {
         ensures memory { IsOkUnless result Panic.NoRoom }
     {
         if self.directed {
-            if self.is_straight(t, back) {
-                return self.push_straight(x, t, links);
-            }
             return self.push_moves(x, t, there, links);
-        }
-        if leads_onward(self.wrap, t.entries()) {
-            return self.push_in_order(x, t, back, links);
         }
         self.push_sorted(x, t, back, there, links)
     }
 
-    // Puts the arcs of `x` by the edges of the displacement `t`, which leads onward, behind the others. They come in order:
-    // those from farther vertices first, and then those from `x`, the shorter first.
+    // Puts the arcs of `x` by the edges of the displacement `t`, which leads onward, behind the others: those from `x`, the
+    // longer first, and then those from other vertices, the farther last.
     fn push_in_order(
         &self,
         x: &[u32],
@@ -123,16 +171,14 @@ impl Board {
         ensures ok { OnOk result (links.new
             ≡ record links.old {
               arcs = links.old.arcs
-                  ++ arcs_onward false x.now
+                  ++ reverse (arcs_onward false x.now
                   (moves_by (sides_of self.now.sizes self.now.wrap) self.now.piece
-                  (box self.now.sizes) t.now);
+                  (box self.now.sizes) t.now));
             }) }
         ensures memory { IsOkUnless result Panic.NoRoom }
     {
-        let first = links.len();
-        self.push_straight(x, back, links)?;
-        links.reverse_from(first);
-        self.push_straight(x, t, links)
+        self.push_straight_down(x, t, links)?;
+        self.push_straight(x, back, links)
     }
 
     // Puts the arcs of `x` by the edges of the displacement `t` behind the others, which are sorted by their starts.
@@ -204,6 +250,31 @@ impl Board {
         let farthest = reach(sizes, self.wrap, x, parts, self.longest_move());
         for l in 1..=farthest {
             links.push_placed(sizes, self.wrap, x, parts, l)?;
+        }
+        Ok(())
+    }
+
+    // As `push_straight`, but the longest move first.
+    fn push_straight_down(&self, x: &[u32], t: &Step, links: &mut Links) -> Result<(), Panic>
+        requires below { IsBelow x.now self.now.sizes }
+        requires dimensions { length t.now ≡ length self.now.sizes }
+        requires away { (l : ℕ) → 0 < l
+            → destination (sides_of self.now.sizes self.now.wrap) self.now.piece x.now t.now l
+            ≡ place (sides_of self.now.sizes self.now.wrap) x.now t.now l }
+        requires width { length x.now ≡ links.old.width }
+        ensures ok { OnOk result (links.new
+            ≡ record links.old {
+              arcs = links.old.arcs
+                  ++ reverse (map move_arc (moves_from (sides_of self.now.sizes self.now.wrap)
+                  self.now.piece x.now t.now));
+            }) }
+        ensures memory { IsOkUnless result Panic.NoRoom }
+    {
+        let sizes = self.shape.sizes();
+        let parts = t.parts();
+        let farthest = reach(sizes, self.wrap, x, parts, self.longest_move());
+        for shorter in (0..farthest).rev() {
+            links.push_placed(sizes, self.wrap, x, parts, shorter + 1)?;
         }
         Ok(())
     }

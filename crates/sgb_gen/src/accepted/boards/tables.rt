@@ -1,5 +1,5 @@
 //! The lists of a board's vertices, one after another.
-ghost use Rattle.std.specs.Prelude.{◌≡◌, [], ◌++◌, length, nat_abs, Contains, OnOk, OnErr, IsOkUnless};
+ghost use Rattle.std.specs.Prelude.{◌≡◌, [], ◌++◌, length, reverse, nat_abs, Contains, OnOk, OnErr, IsOkUnless};
 ghost use Rattle.sgb_vec.specs.Boxes.{box};
 ghost use Rattle.sgb_vec.specs.Lexicographic.{IsBelow};
 ghost use Rattle.sgb_gen.specs.Boards.{moves_of_board};
@@ -55,7 +55,8 @@ impl Board {
         }
     }
 
-    // Puts the arcs of `x` behind the others, as `push_all` does, where the displacements are in a table.
+    // Puts the arcs of `x` behind the others, as `push_listed` does, where the displacements are in a table: from the last
+    // of them on.
     fn push_kept(
         &self,
         x: &[u32],
@@ -70,11 +71,11 @@ impl Board {
         ensures ok { OnOk result (links.new
             ≡ record links.old {
               arcs = links.old.arcs
-                  ++ arcs_onward self.now.directed x.now (moves_of_board self.now);
+                  ++ reverse (arcs_onward self.now.directed x.now (moves_of_board self.now));
             }) }
         ensures memory { IsOkUnless result Panic.NoRoom }
     {
-        for k in 0..table.len() {
+        for k in (0..table.len()).rev() {
             let pair = table.at(k);
             self.push_by(x, &pair.ahead(), &pair.back(), there, links)?;
         }
@@ -96,11 +97,8 @@ impl<'a> BoardLists<'a> {
         ensures same { self.new ≡ self.old }
     {
         links.clear(x.len());
-        match self.push_all(x, links) {
-            Ok(()) => {
-                links.reverse();
-                Ok(())
-            }
+        match self.push_listed(x, links) {
+            Ok(()) => Ok(()),
             Err(refused) => {
                 links.clear(x.len());
                 Err(refused)
@@ -108,21 +106,21 @@ impl<'a> BoardLists<'a> {
         }
     }
 
-    // Puts the arcs of `x` behind the others, those by earlier moves first.
-    fn push_all(&mut self, x: &[u32], links: &mut Links) -> Result<(), Panic>
+    // Puts the arcs of `x` behind the others, those by later moves first.
+    fn push_listed(&mut self, x: &[u32], links: &mut Links) -> Result<(), Panic>
         requires below { IsBelow x.now self.old.sizes }
         requires width { length x.now ≡ links.old.width }
         ensures ok { OnOk result (links.new
             ≡ record links.old {
               arcs = links.old.arcs
-                  ++ arcs_onward self.old.directed x.now (moves_of_board self.old);
+                  ++ reverse (arcs_onward self.old.directed x.now (moves_of_board self.old));
             }) }
         ensures memory { IsOkUnless result Panic.NoRoom }
         ensures same { self.new ≡ self.old }
     {
         match &self.table {
             Some(table) => self.board.push_kept(x, table, &mut self.there, links),
-            None => self.board.push_all(x, links),
+            None => self.board.push_listed(x, links),
         }
     }
 }

@@ -1,5 +1,6 @@
 use Rattle.std.proofs.Common.{◌≡◌, ◌≤◌, ◌++◌, List, ℤ, nat_abs, ◌∷◌, length, refl, sym, ap, subst, ◌∙◌, append_assoc}
 use Rattle.std.specs.List.{All, flat_map}
+use Rattle.std.proofs.lemmas.List.{reverse-reverse}
 use Rattle.std.proofs.lemmas.List.Elements.{All-tail}
 use Rattle.sgb_vec.specs.Boxes.{box}
 use Rattle.sgb_gen.specs.Limits.{most_piece}
@@ -8,6 +9,7 @@ use Rattle.sgb_gen.specs.Moves.{sides_of}
 use Rattle.sgb_gen.proofs.ListsOfBoards.{onward-first}
 use Rattle.sgb_gen.proofs.BoundedMoves.{moves_within}
 use Rattle.sgb_gen.proofs.DisplacementWalk.{first_and_others, first_has}
+use Rattle.sgb_gen.proofs.TurnedLinks.{turned_behind}
 use Rattle.sgb_gen.proofs.accepted.boards.Board.push_all.Goals as goal
 
 pub loop-t-init : goal.loop-t-init
@@ -41,10 +43,12 @@ loop-t-preserved c =
     let own = λ (d : List ℤ). arcs_onward b.directed x (moves_by sides b.piece vectors d) in
     let step : c.loop-t.left ≡ t ∷ left = first_and_others c.loop-t.left left t t c.in-Some.ensures.first refl c.advance-some.ensures.rest in
     let Small : List ℤ → Type 0 = λ u. All (λ e. nat_abs e ≤ most_piece) u in
-    let added : c.push_by.new.links.arcs ≡ c.loop-t.links.arcs ++ own t = ap (λ d. d.arcs) c.in_ok-push_by.ensures.ok ∙ ap (λ u. c.loop-t.links.arcs ++ own u) c.of-ahead.ensures in (
+    let turned = turned_behind c.loop-t.links c.push_by.new.links c.reverse_from.new.self c.len-first.result _ c.in_ok-push_by.ensures.ok c.len-first.ensures c.reverse_from.ensures in
+    let added : c.reverse_from.new.self.arcs ≡ c.loop-t.links.arcs ++ own t =
+    ap (λ d. d.arcs) turned ∙ ap (λ ls. c.loop-t.links.arcs ++ ls) (reverse-reverse (own c.of-ahead.result)) ∙ ap (λ u. c.loop-t.links.arcs ++ own u) c.of-ahead.ensures in (
       All-tail (λ u. length u ≡ length b.sizes) t left (subst (All (λ u. length u ≡ length b.sizes)) step c.loop-t.invariant.0),
       All-tail Small t left (subst (All Small) step c.loop-t.invariant.1),
-      ap (λ d. d.width) c.in_ok-push_by.ensures.ok ∙ c.loop-t.invariant.2,
+      ap (λ d. d.width) turned ∙ c.loop-t.invariant.2,
       ap (λ ls. ls ++ made left) added
           ∙ append_assoc c.loop-t.links.arcs (own t) (made left)
           ∙ ap (λ ls. c.loop-t.links.arcs ++ ls) (sym (onward-first b.directed x sides b.piece vectors t left) ∙ ap made (sym step))
