@@ -4,7 +4,7 @@ use Rattle.std.proofs.Common.{◌≡◌, ℕ, zero, suc, ◌+◌, ◌-◌, ◌*�
 use Rattle.std.specs.Option.{is_some, unwrap_or}
 use Rattle.std.proofs.Math.Nat.{le-div_iff_mul-le}
 use Rattle.std.proofs.Math.Bool.{and-false}
-use Rattle.std.proofs.lemmas.Bool.{cases_lt, cond-true, lt-ltb, ltb-false}
+use Rattle.std.proofs.lemmas.Bool.{cases_lt, cond-true, cond-false, le-ltb, lt-ltb, ltb-false}
 use Rattle.std.proofs.lemmas.Int.{ints}
 use Rattle.std.proofs.lemmas.List.{at_drop_more, take_more}
 use Rattle.std.proofs.lemmas.List.Folds.{list_all-append, list_all_kept}
@@ -41,6 +41,38 @@ back_stays false n x l (negsuc a) clear below back fits some =
     let room : l * suc a ≤ x = (le-div_iff_mul-le some).0 fits in
     let there : pos x +ℤ pos l *ℤ negsuc a ≡ pos (x - l * suc a) = omega (arith, ints, room) in
     ap (λ y. is_some (within_size n y)) there ∙ on_side n (x - l * suc a) (omega (arith, below))
+
+off_side : (n : ℕ) (y : ℤ) → ((c : ℕ) → y ≡ pos c → n ≤ c) → is_some (within_size n y) ≡ false
+off_side n (pos c) h = ap is_some (cond-false (ltb c n) (Some c) None (le-ltb c n (h c refl)))
+off_side n (negsuc c) h = refl
+
+-- one step more leaves it
+pub ahead_leaves : (w : Bool) (n x q : ℕ) (t : ℤ) → w ≡ false → x < n → lt_z (pos 0) t ≡ true → q ≡ (n - 1 - x) / nat_abs t
+    → is_some (coordinate_on (record { size = n; wraps = w }) (pos x +ℤ pos (q + 1) *ℤ t)) ≡ false
+ahead_leaves true n x q t clear below ahead is = absurd (true≢false clear)
+ahead_leaves false n x q (pos zero) clear below ahead is = absurd (cc)
+ahead_leaves false n x q (pos (suc a)) clear below ahead is =
+    let some : 0 < suc a = omega arith in
+    let far : n - 1 - x < (q + 1) * suc a =
+    elim (cases_lt (n - 1 - x) ((q + 1) * suc a)) [
+      | inl less ↦ less
+      | inr fits ↦ absurd (omega (arith, is, (le-div_iff_mul-le some).1 fits))
+    ] in
+    off_side n (pos x +ℤ pos (q + 1) *ℤ pos (suc a)) (λ c e. omega (arith, ints, e, far, below))
+ahead_leaves false n x q (negsuc a) clear below ahead is = absurd (true≢false (sym ahead))
+
+pub back_leaves : (w : Bool) (n x q : ℕ) (t : ℤ) → w ≡ false → x < n → lt_z (pos 0) t ≡ false → q ≡ x / nat_abs t → 0 < nat_abs t
+    → is_some (coordinate_on (record { size = n; wraps = w }) (pos x +ℤ pos (q + 1) *ℤ t)) ≡ false
+back_leaves true n x q t clear below back is some = absurd (true≢false clear)
+back_leaves false n x q (pos zero) clear below back is some = absurd (omega arith)
+back_leaves false n x q (pos (suc a)) clear below back is some = absurd (omega (arith, ltb-false 0 (suc a) back))
+back_leaves false n x q (negsuc a) clear below back is some =
+    let far : x < (q + 1) * suc a =
+    elim (cases_lt x ((q + 1) * suc a)) [
+      | inl less ↦ less
+      | inr fits ↦ absurd (omega (arith, is, (le-div_iff_mul-le some).1 fits))
+    ] in
+    off_side n (pos x +ℤ pos (q + 1) *ℤ negsuc a) (λ c e. absurd (omega (arith, ints, e, far)))
 
 -- ---- one of the parts after another
 

@@ -1,4 +1,4 @@
-ghost use Rattle.std.specs.Prelude.{◌≡◌, ℕ, ◌+◌, pos, ◌+ℤ◌, ◌*ℤ◌, ◌<◌, ◌≤◌, length, true, false, is_some, All, None, Some};
+ghost use Rattle.std.specs.Prelude.{◌≡◌, ℕ, ◌+◌, pos, ◌+ℤ◌, ◌*ℤ◌, ◌<◌, ◌≤◌, ◌/◌, min, length, true, false, is_some, All, None, Some};
 ghost use Rattle.std.specs.Bool.{OnTrue, OnFalse};
 ghost use Rattle.sgb_vec.specs.Limits.{most_dimensions};
 ghost use Rattle.sgb_vec.specs.Lexicographic.{IsBelow};
@@ -37,57 +37,6 @@ fn moved(x: u32, t: i32, l: u32) -> i64
     i64::from(x) + i64::from(l) * i64::from(t)
 }
 
-// Puts the place at length `l` from `x` by the displacement `t` into `there`, where it exists (GB_BASIC, board): each
-// coordinate is modulo its size where it wraps around, and has to be within it elsewhere. `false` where it does not
-// exist; what `there` holds is then open.
-fn place(sizes: &[u32], wrap: i64, x: &[u32], t: &[i32], l: u32, there: &mut Vector) -> bool
-    requires few { length sizes.now ≤ most_dimensions }
-    requires below { IsBelow x.now sizes.now }
-    requires dimensions { length t.now ≡ length sizes.now }
-    ensures leads { OnTrue result (place (sides_of sizes.now wrap) x.now t.now l
-        ≡ Some there.new.items) }
-    ensures nowhere { OnFalse result (place (sides_of sizes.now wrap) x.now t.now l ≡ None) }
-{
-    there.clear();
-    for (k, size) in sizes.iter().enumerate() {
-        let y = moved(x[k], t[k], l);
-        let Some(coordinate) = coordinate_on(*size, wraps(wrap, k), y) else {
-            return false;
-        };
-        there.push(coordinate);
-    }
-    true
-}
-
-/// Puts the vector where a piece moves from `x` by the displacement `t` at length `l` into `there`, if it moves there
-/// (GB_BASIC, board): a leaper to the place there, where it exists; a rider, which is a negative piece, only where that
-/// is not `x` again. `false` where it does not; what `there` holds is then open.
-pub(crate) fn destination(
-    sizes: &[u32],
-    wrap: i64,
-    piece: i64,
-    x: &[u32],
-    t: &[i32],
-    l: u32,
-    there: &mut Vector,
-) -> bool
-    requires few { length sizes.now ≤ most_dimensions }
-    requires below { IsBelow x.now sizes.now }
-    requires dimensions { length t.now ≡ length sizes.now }
-    ensures leads { OnTrue result (destination (sides_of sizes.now wrap) piece x.now t.now l
-        ≡ Some there.new.items) }
-    ensures nowhere { OnFalse result
-        (destination (sides_of sizes.now wrap) piece x.now t.now l ≡ None) }
-{
-    if !place(sizes, wrap, x, t, l, there) {
-        return false;
-    }
-    if piece < 0 && there.as_slice() == x {
-        return false;
-    }
-    true
-}
-
 // How many steps of `t` from the coordinate `x` on stay on a side, of `most` at most.
 fn steps_on(size: u32, wraps: bool, x: u32, t: i32, most: u32) -> u32
     requires { x < size }
@@ -103,9 +52,23 @@ fn steps_on(size: u32, wraps: bool, x: u32, t: i32, most: u32) -> u32
         return most;
     }
     if t > 0 {
-        return most.min((size - 1 - x) / t.unsigned_abs());
+        return times_within(size - 1 - x, t.unsigned_abs(), most);
     }
-    most.min(x / t.unsigned_abs())
+    times_within(x, t.unsigned_abs(), most)
+}
+
+// How many times `step` fits into `room`, of `most` at most. One time is told with no division.
+fn times_within(room: u32, step: u32, most: u32) -> u32
+    requires { 0 < step }
+    ensures { result ≡ min most (room / step) }
+{
+    if room < step {
+        return 0;
+    }
+    if most == 1 {
+        return 1;
+    }
+    most.min(room / step)
 }
 
 /// How many steps from `x` on, by a displacement that moves these coordinates, lead to a place of the board, of `most` at
@@ -135,20 +98,6 @@ fn part_at(sizes: &[u32], wrap: i64, x: &[u32], l: u32, k: usize, amount: i32) -
     coordinate_on(sizes[k], wraps(wrap, k), moved(x[k], amount, l))
 }
 
-// Whether all of these coordinates lead to coordinates at length `l` from `x`.
-fn stay(sizes: &[u32], wrap: i64, x: &[u32], parts: &[Part], l: u32) -> bool
-    requires below { IsBelow x.now sizes.now }
-    requires parts { All (λ p. p.0 < length sizes.now) parts.now }
-    ensures { result ≡ parts_stay sizes.now wrap x.now l parts.now }
-{
-    for (k, amount) in parts {
-        if part_at(sizes, wrap, x, l, *k, *amount).is_none() {
-            return false;
-        }
-    }
-    true
-}
-
 /// Puts these coordinates where they lead at length `l` from `x` into their places of `there`.
 pub(crate) fn put_parts(
     sizes: &[u32],
@@ -168,6 +117,32 @@ pub(crate) fn put_parts(
     }
 }
 
+// Puts these coordinates where they lead at length `l` from `x` into their places of `there`, where all of them lead to
+// coordinates. `false` where one does not; what `there` holds is then open.
+fn move_parts(
+    sizes: &[u32],
+    wrap: i64,
+    x: &[u32],
+    parts: &[Part],
+    l: u32,
+    there: &mut [u32],
+) -> bool
+    requires below { IsBelow x.now sizes.now }
+    requires parts { All (λ p. p.0 < length sizes.now) parts.now }
+    requires there { length there.old ≡ length sizes.now }
+    ensures stay { result ≡ parts_stay sizes.now wrap x.now l parts.now }
+    ensures put { OnTrue result
+        (there.new ≡ parts_put sizes.now wrap x.now l parts.now there.old) }
+{
+    for (k, amount) in parts {
+        let Some(coordinate) = part_at(sizes, wrap, x, l, *k, *amount) else {
+            return false;
+        };
+        there[*k] = coordinate;
+    }
+    true
+}
+
 // Puts the vector `x` into `there`.
 fn put_vector(x: &[u32], there: &mut Vector)
     requires { length x.now ≤ most_dimensions }
@@ -177,9 +152,28 @@ fn put_vector(x: &[u32], there: &mut Vector)
     let _written = there.try_extend_from_slice(x);
 }
 
-/// Puts the vector where a piece moves from `x` by the displacement `t` at length `l` into `there`, as `destination` does,
-/// with a look at the coordinates alone that it moves.
-pub(crate) fn step_destination(
+// Puts the place at length `l` from `x` by the displacement `t` into `there`, where it exists (GB_BASIC, board): each
+// coordinate is modulo its size where it wraps around, and has to be within it elsewhere. Those that `t` does not move
+// stay as they are. `false` where it does not exist; what `there` holds is then open.
+fn place(sizes: &[u32], wrap: i64, x: &[u32], t: &Step, l: u32, there: &mut Vector) -> bool
+    requires few { length sizes.now ≤ most_dimensions }
+    requires below { IsBelow x.now sizes.now }
+    requires dimensions { length t.now ≡ length sizes.now }
+    ensures leads { OnTrue result (place (sides_of sizes.now wrap) x.now t.now l
+        ≡ Some there.new.items) }
+    ensures nowhere { OnFalse result (place (sides_of sizes.now wrap) x.now t.now l ≡ None) }
+{
+    put_vector(x, there);
+    if !move_parts(sizes, wrap, x, t.parts(), l, there.as_mut_slice()) {
+        return false;
+    }
+    true
+}
+
+/// Puts the vector where a piece moves from `x` by the displacement `t` at length `l` into `there`, if it moves there
+/// (GB_BASIC, board): a leaper to the place there, where it exists; a rider, which is a negative piece, only where that
+/// is not `x` again. `false` where it does not; what `there` holds is then open.
+pub(crate) fn destination(
     sizes: &[u32],
     wrap: i64,
     piece: i64,
@@ -196,30 +190,12 @@ pub(crate) fn step_destination(
     ensures nowhere { OnFalse result
         (destination (sides_of sizes.now wrap) piece x.now t.now l ≡ None) }
 {
-    if !step_place(sizes, wrap, x, t, l, there) {
+    if !place(sizes, wrap, x, t, l, there) {
         return false;
     }
     if piece < 0 && there.as_slice() == x {
         return false;
     }
-    true
-}
-
-// Puts the place at length `l` from `x` by the displacement `t` into `there`, as `place` does.
-fn step_place(sizes: &[u32], wrap: i64, x: &[u32], t: &Step, l: u32, there: &mut Vector) -> bool
-    requires few { length sizes.now ≤ most_dimensions }
-    requires below { IsBelow x.now sizes.now }
-    requires dimensions { length t.now ≡ length sizes.now }
-    ensures leads { OnTrue result (place (sides_of sizes.now wrap) x.now t.now l
-        ≡ Some there.new.items) }
-    ensures nowhere { OnFalse result (place (sides_of sizes.now wrap) x.now t.now l ≡ None) }
-{
-    let parts = t.parts();
-    if !stay(sizes, wrap, x, parts, l) {
-        return false;
-    }
-    put_vector(x, there);
-    put_parts(sizes, wrap, x, parts, l, there.as_mut_slice());
     true
 }
 

@@ -18,6 +18,7 @@ mod tables;
 use crate::displacements::Displacements;
 use crate::moves::{destination, entry_bounds};
 use crate::params::BoardParams;
+use crate::steps::{Parts, Step, put_parts_of};
 use crate::vector_graphs::{put_coordinates, vector_names};
 use sgb_graph::{Graph, Id, IdWriter};
 use sgb_vec::{BoxFamily, Family, Panic, Shape, Vector, Vectors, board_sizes};
@@ -172,7 +173,7 @@ impl Board {
 
     // The vertex where the piece moves from `x` by the displacement `t` at length `l`, if it does.
     // `there` is what it is found with: what it holds is open.
-    fn vertex_at(&self, x: &[u32], t: &[i32], l: u32, there: &mut Vector) -> Option<u32>
+    fn vertex_at(&self, x: &[u32], t: &Step, l: u32, there: &mut Vector) -> Option<u32>
         requires below { IsBelow x.now self.now.sizes }
         requires dimensions { length t.now ≡ length self.now.sizes }
         ensures vertex { result ≡ option_map (vertex_among (box self.now.sizes))
@@ -186,7 +187,7 @@ impl Board {
     }
 
     // Adds the moves from vertex `u`, which is the vector `x`, by the displacement `t`.
-    fn add_moves(&self, graph: &mut Graph, u: u32, x: &[u32], t: &[i32]) -> Result<(), Panic>
+    fn add_moves(&self, graph: &mut Graph, u: u32, x: &[u32], t: &Step) -> Result<(), Panic>
         requires vertex { slice_get (box self.now.sizes) u ≡ Some x.now }
         requires dimensions { length t.now ≡ length self.now.sizes }
         requires vertices { length graph.old.vertices ≡ length (box self.now.sizes) }
@@ -207,7 +208,7 @@ impl Board {
     }
 
     // Adds the moves by the displacement `t`, from each vertex in order.
-    fn add_moves_by(&self, graph: &mut Graph, t: &[i32]) -> Result<(), Panic>
+    fn add_moves_by(&self, graph: &mut Graph, t: &Step) -> Result<(), Panic>
         requires dimensions { length t.now ≡ length self.now.sizes }
         requires vertices { length graph.old.vertices ≡ length (box self.now.sizes) }
         requires plain { HasPlainArcs graph.old }
@@ -236,9 +237,12 @@ impl Board {
             (map (event_among (box self.now.sizes)) (moves_of_board self.now))) }
         ensures memory { IsOkUnless result Panic.NoRoom }
     {
+        let mut parts = Parts::new();
         let mut left = self.displacements();
         while let Some(t) = left.front() {
-            self.add_moves_by(graph, t)?;
+            put_parts_of(t, &mut parts);
+            let step = Step::of(t, parts.as_slice());
+            self.add_moves_by(graph, &step)?;
             let _some = left.advance();
         }
         Ok(())

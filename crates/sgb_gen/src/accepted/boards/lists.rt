@@ -1,5 +1,5 @@
 //! The list of one vector of a board.
-ghost use Rattle.std.specs.Prelude.{◌≡◌, ◌≤◌, ◌<◌, [], ◌++◌, ◌==◌, ℕ, List, true, false, length, map, reverse, nat_abs, None, Some, if◌then◌else◌, All, option_map, Contains, OnOk, OnErr, IsOkUnless};
+ghost use Rattle.std.specs.Prelude.{◌≡◌, ◌≤◌, ◌<◌, [], ◌++◌, ◌==◌, ℕ, List, true, false, length, map, reverse, nat_abs, None, Some, if◌then◌else◌, All, Contains, OnOk, OnErr, IsOkUnless};
 ghost use Rattle.std.specs.Bool.{OnTrue, OnFalse};
 ghost use Rattle.sgb_vec.specs.Boxes.{box};
 ghost use Rattle.sgb_vec.specs.Lexicographic.{IsBelow};
@@ -14,7 +14,7 @@ ghost use Rattle.sgb_gen.specs.VectorGraphs.{vertex_among};
 use super::Board;
 use crate::displacements::{Displacement, put_opposite};
 use crate::links::Links;
-use crate::moves::{leads_onward, reach, step_destination};
+use crate::moves::{destination, leads_onward, reach};
 use crate::steps::{Parts, Step, either, put_parts_of};
 use sgb_vec::{Panic, Vector};
 
@@ -373,7 +373,7 @@ impl Board {
         ensures memory { IsOkUnless result Panic.NoRoom }
     {
         for l in 1..=self.longest_move() {
-            let Some(v) = self.start_at(x, back, l, there) else {
+            let Some(v) = self.vertex_at(x, back, l, there) else {
                 return Ok(());
             };
             if v != u {
@@ -443,19 +443,6 @@ impl Board {
         Ok(())
     }
 
-    // The vertex where the piece moves from `x` by the displacement `t` at length `l`, if it does.
-    fn start_at(&self, x: &[u32], t: &Step, l: u32, there: &mut Vector) -> Option<u32>
-        requires below { IsBelow x.now self.now.sizes }
-        requires dimensions { length t.now ≡ length self.now.sizes }
-        ensures vertex { result ≡ option_map (vertex_among (box self.now.sizes))
-            (destination (sides_of self.now.sizes self.now.wrap) self.now.piece x.now t.now l) }
-    {
-        if !self.lands(x, t, l, there) {
-            return None;
-        }
-        Some(self.family.place_of(there.as_slice()))
-    }
-
     // Puts the vector where the piece moves from `x` by the displacement `t` at length `l` into `there`, if it moves there.
     fn lands(&self, x: &[u32], t: &Step, l: u32, there: &mut Vector) -> bool
         requires below { IsBelow x.now self.now.sizes }
@@ -466,6 +453,6 @@ impl Board {
             (destination (sides_of self.now.sizes self.now.wrap) self.now.piece x.now t.now l
             ≡ None) }
     {
-        step_destination(self.shape.sizes(), self.wrap, self.piece, x, t, l, there)
+        destination(self.shape.sizes(), self.wrap, self.piece, x, t, l, there)
     }
 }

@@ -17,7 +17,7 @@ pub returns-in_default-clause-ok : goal.returns-in_default-clause-ok
 returns-in_default-clause-ok c =
     let b = c.args.self.now in
     let far = λ (m : Move). not (vertex_among (box b.sizes) m.to == c.args.u) in
-    let out = led_nowhere (vertex_among (box b.sizes)) (leads b c.args.x.now c.args.back.now c.loop-l.l) (sym c.start_at.ensures.vertex ∙ c.in_default.is) in
+    let out = led_nowhere (vertex_among (box b.sizes)) (leads b c.args.x.now c.args.back.now c.loop-l.l) (sym c.vertex_at.ensures.vertex ∙ c.in_default.is) in
     no_more (λ (m : Move). (vertex_among (box b.sizes) m.to, m.len)) c.loop-l.starts.items _ (filter far (moves_left b c.args.back.now c.args.x.now c.loop-l.l)) c.loop-l.invariant
     (ap (filter far) (left-out b c.args.back.now c.args.x.now c.loop-l.l (omega (arith, c.longest_move-l-end.ensures)) out))
 
@@ -30,7 +30,7 @@ loop-l-preserved c =
     let v = c.in-Some.v in
     let far : Move → Bool = λ m. not (vertex_among (box b.sizes) m.to == c.args.u) in
     let pairs : Move → ℕ × ℕ = λ m. (vertex_among (box b.sizes) m.to, m.len) in
-    let led = led_to (vertex_among (box b.sizes)) (leads b x t l) v (sym c.start_at.ensures.vertex ∙ c.in-Some.is) in
+    let led = led_to (vertex_among (box b.sizes)) (leads b x t l) v (sym c.vertex_at.ensures.vertex ∙ c.in-Some.is) in
     let y = led.0 in
     let m = move x l y in
     let ms = moves_left b t x l in
