@@ -30,38 +30,6 @@ pub after_known-push : (known : List ℕ) (c : ℕ) (rest : Option (List ℕ)) �
 after_known-push known c (Some v) = ap Some (sym (append_assoc known (c ∷ []) v))
 after_known-push known c None = refl
 
--- the coordinates that are known and those after them make up the place
-pub record IsPlaceSoFar (sizes : List ℕ) (wrap : ℤ) (x : List ℕ) (t : List ℤ) (l k : ℕ) (known : List ℕ) : Type 0 where
-  pub count : length known ≡ k
-  pub whole : after_known known (coordinates_from sizes wrap x t l k) ≡ place (sides_of sizes wrap) x t l
-
 pub after_known-none : (rest : Option (List ℕ)) → after_known [] rest ≡ rest
 after_known-none (Some v) = refl
 after_known-none None = refl
-
--- none is known at first
-pub so_far-none : (sizes : List ℕ) (wrap : ℤ) (x : List ℕ) (t : List ℤ) (l : ℕ) → IsPlaceSoFar sizes wrap x t l 0 []
-so_far-none sizes wrap x t l = record { count = refl; whole = after_known-none (place (sides_of sizes wrap) x t l) }
-
--- one more is known
-pub so_far-more : (sizes : List ℕ) (wrap : ℤ) (x : List ℕ) (t : List ℤ) (l k : ℕ) (known : List ℕ) (c : ℕ) → IsPlaceSoFar sizes wrap x t l k known → k < length sizes → k < length x → k < length t → coordinate_at sizes wrap x t l k ≡ Some c → IsPlaceSoFar sizes wrap x t l (k + 1) (known ++ c ∷ [])
-so_far-more sizes wrap x t l k known c so h i j e = record {
-  count = length-append known (c ∷ []) ∙ omega (arith, so.count);
-  whole = sym (after_known-push known c (coordinates_from sizes wrap x t l (k + 1))) ∙ ap (λ o. after_known known (in_front o (coordinates_from sizes wrap x t l (k + 1)))) (sym e) ∙ ap (after_known known) (sym (coordinates-step sizes wrap x t l k h i j)) ∙ so.whole;
-}
-
--- one does not exist
-pub so_far-out : (sizes : List ℕ) (wrap : ℤ) (x : List ℕ) (t : List ℤ) (l k : ℕ) (known : List ℕ) → IsPlaceSoFar sizes wrap x t l k known → k < length sizes → k < length x → k < length t → coordinate_at sizes wrap x t l k ≡ None → place (sides_of sizes wrap) x t l ≡ None
-so_far-out sizes wrap x t l k known so h i j e =
-    sym so.whole ∙ ap (after_known known) (coordinates-step sizes wrap x t l k h i j) ∙ ap (λ o. after_known known (in_front o (coordinates_from sizes wrap x t l (k + 1)))) e
-
--- all are known
-pub so_far-all : (sizes : List ℕ) (wrap : ℤ) (x : List ℕ) (t : List ℤ) (l k : ℕ) (known : List ℕ) → IsPlaceSoFar sizes wrap x t l k known → length sizes ≤ k → place (sides_of sizes wrap) x t l ≡ Some known
-so_far-all sizes wrap x t l k known so h =
-    sym so.whole ∙ ap (λ s. after_known known (place (sides_from_bit k s wrap) (drop k x) (drop k t) l)) (drop_all k sizes h) ∙ ap Some (append-nil known)
-
--- coordinate number k as the code computes it
-pub coordinate_read : (sizes : List ℕ) (wrap : ℤ) (x : List ℕ) (t : List ℤ) (l k : ℕ) (wraps : Bool) (y : ℤ) → SFits w64 y → SFits w32 (get_or t k (pos 0)) → wraps ≡ is_bit_set wrap k → y ≡ pos (get_or x k 0) +ℤ pos l *ℤ to_z w32 (of_z w32 (get_or t k (pos 0))) → coordinate_on (record { size = get_or sizes k 0; wraps = wraps }) (to_z w64 (of_z w64 y)) ≡ coordinate_at sizes wrap x t l k
-coordinate_read sizes wrap x t l k wraps y f g e h =
-    ap (λ z. coordinate_on (record { size = get_or sizes k 0; wraps = wraps }) z) (to_z-of_z w64 y f ∙ h ∙ ap (λ z. pos (get_or x k 0) +ℤ pos l *ℤ z) (to_z-of_z w32 (get_or t k (pos 0)) g))
-    ∙ ap (λ b. coordinate_on (record { size = get_or sizes k 0; wraps = b }) (pos (get_or x k 0) +ℤ pos l *ℤ get_or t k (pos 0))) e
