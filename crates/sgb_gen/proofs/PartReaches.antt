@@ -118,9 +118,9 @@ module _ (sizes : List ℕ) (wrap : ℤ) (x : List ℕ) (most : ℕ) (parts : Li
   reach-more i old new within so less stay end = record {
     within = omega (arith, less, so.within);
     stay = λ m h.
-    ap (parts_stay sizes wrap x m) (take_more parts i (0, pos 0) within)
-    ∙ list_all-append (λ p. is_some (part_at sizes wrap x m p)) (take i parts) (part_of parts i ∷ [])
-    ∙ ap₂ (λ a b. a && (b && true)) (so.stay m (omega (arith, h, less))) (stay m h);
+        ap (parts_stay sizes wrap x m) (take_more parts i (0, pos 0) within)
+        ∙ list_all-append (λ p. is_some (part_at sizes wrap x m p)) (take i parts) (part_of parts i ∷ [])
+        ∙ ap₂ (λ a b. a && (b && true)) (so.stay m (omega (arith, h, less))) (stay m h);
     end = λ h. elim (cases_lt new old) [
       | inl fewer ↦
           ap (parts_stay sizes wrap x (new + 1)) (take_more parts i (0, pos 0) within)

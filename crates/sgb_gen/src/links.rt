@@ -182,7 +182,14 @@ impl Links {
         let start = self.tips.len();
         self.lens.reserve(1)?;
         self.tips.extend_from_slice(x)?;
-        put_parts(sizes, wrap, x, parts, l, &mut self.tips.as_mut_slice()[start..]);
+        put_parts(
+            sizes,
+            wrap,
+            x,
+            parts,
+            l,
+            &mut self.tips.as_mut_slice()[start..],
+        );
         self.lens.push(l)?;
         Ok(())
     }

@@ -12,7 +12,7 @@ loop-k-preserved c =
     let here : c.part_at.result ≡ part_at c.args.sizes.now wrap c.args.x.now c.args.l p = c.part_at.ensures ∙ ap (λ a. part_at c.args.sizes.now wrap c.args.x.now c.args.l (p.0, a)) (to_z-of_z w32 p.1 (search rules)) in
     let value : c.unwrap_or.result ≡ unwrap_or (part_at c.args.sizes.now wrap c.args.x.now c.args.l p) 0 = c.unwrap_or.ensures ∙ ap (λ o. unwrap_or o 0) here in (
       ap (λ v. parts_put c.args.sizes.now wrap c.args.x.now c.args.l (drop (c.loop-k.k-index + 1) c.args.parts.now) (set c.loop-k.there p.0 v)) value
-      ∙ put_more c.args.sizes.now wrap c.args.x.now c.args.l c.args.parts.now c.loop-k.k-index c.loop-k.there (omega arith)
-      ∙ c.loop-k.invariant.0,
+          ∙ put_more c.args.sizes.now wrap c.args.x.now c.args.l c.args.parts.now c.loop-k.k-index c.loop-k.there (omega arith)
+          ∙ c.loop-k.invariant.0,
       length-set c.loop-k.there p.0 c.unwrap_or.result ∙ c.loop-k.invariant.1,
     )
