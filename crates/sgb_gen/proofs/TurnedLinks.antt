@@ -1,10 +1,14 @@
 -- Arcs that are turned round: their entries as a whole, and then each row by itself.
-use Rattle.std.proofs.Common.{◌≡◌, ℕ, zero, suc, ◌+◌, ◌*◌, ◌≤◌, pos, List, [], ◌∷◌, ◌++◌, length, reverse, take, drop, refl, sym, ap, ap₂, ◌∙◌, arith, append-nil, length-append, length-drop}
+use Rattle.std.proofs.Common.{◌≡◌, Option, Some, None, cond, inl, inr, ℕ, zero, suc, ◌+◌, ◌*◌, ◌≤◌, pos, List, [], ◌∷◌, ◌++◌, length, reverse, take, drop, refl, sym, ap, ap₂, ◌∙◌, arith, append-nil, length-append, length-drop}
 use Rattle.std.proofs.Math.Seq.{take-append-add, drop-append-add}
 use Rattle.std.proofs.lemmas.List.{append_assoc, drop_at, take_at, take_all, take-append-le, drop-append-le, length-take-le, take-append-drop, length-reverse, reverse-append, reverse-reverse}
+use Rattle.std.specs.Cmp.Lexicographic.{bytes_decides}
+use Rattle.std.proofs.lemmas.Bool.{cases_Bool}
 use Rattle.std.proofs.lemmas.Nat.{mul-le}
 use Rattle.sgb_gen.specs.LocalLists.{LinksData, LocalArc}
+use Rattle.sgb_gen.specs.VectorGraphs.{same_vector}
 use Rattle.sgb_gen.specs.inner.LocalArcs.{arcs_in, rows_turned}
+use Rattle.sgb_gen.specs.inner.LocalBoards.{edge_arcs}
 use Rattle.sgb_gen.proofs.LinkRows.{arcs_in-push, length-arcs_in}
 
 -- entries keep their number
@@ -119,3 +123,18 @@ turned_behind old pushed between first behind is at e =
     ap (λ d. take first d.arcs ++ reverse (drop first d.arcs)) is
     ∙ ap₂ (λ p q. p ++ reverse q) (take_at old.arcs behind first (sym at)) (drop_at old.arcs behind first (sym at)) in
     e ∙ ap₂ (λ w ls. record { width = w; arcs = ls }) (ap (λ d. d.width) is) arcs
+
+-- the arcs by one edge: both of them are the same where it leads to x itself
+pub edge_turned : (x : List ℕ) (l : ℕ) (o : Option (List ℕ)) → reverse (edge_arcs x l o) ≡ edge_arcs x l o
+edge_turned x l None = refl
+edge_turned x l (Some y) = elim (cases_Bool (same_vector y x)) [
+  | inl same ↦
+      let home : y ≡ x = (bytes_decides y x).0 same in
+      let both : edge_arcs x l (Some y) ≡ record { tip = x; len = pos l } ∷ record { tip = x; len = pos l } ∷ [] =
+      ap (λ c. record { tip = y; len = pos l } ∷ (cond c (record { tip = x; len = pos l } ∷ []) [])) same ∙ ap (λ z. record { tip = z; len = pos l } ∷ record { tip = x; len = pos l } ∷ []) home in
+      ap reverse both ∙ sym both
+  | inr other ↦
+      let one : edge_arcs x l (Some y) ≡ record { tip = y; len = pos l } ∷ [] =
+      ap (λ c. record { tip = y; len = pos l } ∷ (cond c (record { tip = x; len = pos l } ∷ []) [])) other in
+      ap reverse one ∙ sym one
+]

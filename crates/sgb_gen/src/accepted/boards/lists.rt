@@ -117,41 +117,37 @@ impl Board {
             if self.is_straight(t, back) {
                 return self.push_straight_down(x, t, links);
             }
-        } else if leads_onward(self.wrap, t.entries()) {
+            return self.push_moves_down(x, t, there, links);
+        }
+        if leads_onward(self.wrap, t.entries()) {
             return self.push_in_order(x, t, back, links);
         }
-        let first = links.len();
-        self.push_tried(x, t, back, there, links)?;
-        links.reverse_from(first);
-        Ok(())
+        self.push_sorted(x, t, back, there, links)
     }
 
-    // Puts the arcs of `x` by the displacement `t` behind the others, those by earlier moves first: each length is tried.
-    fn push_tried(
+    // Puts the arcs by the moves from `x` by `t` behind the others, the longest move first.
+    fn push_moves_down(
         &self,
         x: &[u32],
         t: &Step,
-        back: &Step,
         there: &mut Vector,
         links: &mut Links,
     ) -> Result<(), Panic>
         requires below { IsBelow x.now self.now.sizes }
         requires dimensions { length t.now ≡ length self.now.sizes }
-        requires back { back.now ≡ opposite t.now }
         requires width { length x.now ≡ links.old.width }
         ensures ok { OnOk result (links.new
             ≡ record links.old {
               arcs = links.old.arcs
-                  ++ arcs_onward self.now.directed x.now
-                  (moves_by (sides_of self.now.sizes self.now.wrap) self.now.piece
-                  (box self.now.sizes) t.now);
+                  ++ reverse (map move_arc (moves_from (sides_of self.now.sizes self.now.wrap)
+                  self.now.piece x.now t.now));
             }) }
         ensures memory { IsOkUnless result Panic.NoRoom }
     {
-        if self.directed {
-            return self.push_moves(x, t, there, links);
-        }
-        self.push_sorted(x, t, back, there, links)
+        let first = links.len();
+        self.push_moves(x, t, there, links)?;
+        links.reverse_from(first);
+        Ok(())
     }
 
     // Puts the arcs of `x` by the edges of the displacement `t`, which leads onward, behind the others: those from `x`, the
@@ -181,7 +177,8 @@ impl Board {
         self.push_straight(x, back, links)
     }
 
-    // Puts the arcs of `x` by the edges of the displacement `t` behind the others, which are sorted by their starts.
+    // Puts the arcs of `x` by the edges of the displacement `t` behind the others, the last of their starts
+    // first.
     fn push_sorted(
         &self,
         x: &[u32],
@@ -197,9 +194,9 @@ impl Board {
         ensures ok { OnOk result (links.new
             ≡ record links.old {
               arcs = links.old.arcs
-                  ++ arcs_onward false x.now
+                  ++ reverse (arcs_onward false x.now
                   (moves_by (sides_of self.now.sizes self.now.wrap) self.now.piece
-                  (box self.now.sizes) t.now);
+                  (box self.now.sizes) t.now));
             }) }
         ensures memory { IsOkUnless result Panic.NoRoom }
     {
@@ -383,7 +380,7 @@ impl Board {
         Ok(())
     }
 
-    // Puts the arcs by the edges that start at these vertices behind the others.
+    // Puts the arcs by the edges that start at these vertices behind the others, those of the last start first.
     fn push_edges<'s>(
         &self,
         x: &[u32],
@@ -400,15 +397,17 @@ impl Board {
         ensures ok { OnOk result (links.new
             ≡ record links.old {
               arcs = links.old.arcs
-                  ++ arcs_of_starts (sides_of self.now.sizes self.now.wrap) self.now.piece
-                  (vertex_among (box self.now.sizes) x.now) x.now t.now back.now starts.now;
+                  ++ reverse (arcs_of_starts (sides_of self.now.sizes self.now.wrap)
+                  self.now.piece (vertex_among (box self.now.sizes) x.now) x.now t.now back.now
+                  starts.now);
             }) }
         ensures memory { IsOkUnless result Panic.NoRoom }
     {
         let u = self.family.place_of(x);
-        for (v, l) in starts {
-            let step = either(*v == u, t, back);
-            self.push_edge(x, &step, *l, there, links)?;
+        for k in (0..starts.len()).rev() {
+            let (v, l) = starts[k];
+            let step = either(v == u, t, back);
+            self.push_edge(x, &step, l, there, links)?;
         }
         Ok(())
     }

@@ -1,4 +1,4 @@
-use Rattle.std.proofs.Common.{◌≡◌, ◌++◌, ◌∙◌, ℕ, List, false, sym, ap, subst}
+use Rattle.std.proofs.Common.{◌≡◌, ◌++◌, ◌∙◌, ℕ, List, false, reverse, sym, ap, subst}
 use Rattle.std.specs.List.Sorted.{IsPermutation}
 use Rattle.sgb_vec.specs.Boxes.{box}
 use Rattle.sgb_vec.proofs.BoxPlaces.{Contains-from_IsBelow}
@@ -29,5 +29,5 @@ returns-clause-ok c =
     ∙ sym (onward_by_touching b t x there) in
     let with_arcs : LinksData → List LocalArc → LinksData = λ d arcs. record { width = d.width; arcs = d.arcs ++ arcs } in
     c.keep_starts.ensures ∙ c.in_ok-push_edges.ensures.ok
-    ∙ ap (λ d. with_arcs d (arcs_of_starts sides b.piece u x t c.args.back.now c.as_slice.result.now)) c.take_starts-starts.ensures.same
-    ∙ ap (with_arcs c.args.links.now) same
+    ∙ ap (λ d. with_arcs d (reverse (arcs_of_starts sides b.piece u x t c.args.back.now c.as_slice.result.now))) c.take_starts-starts.ensures.same
+    ∙ ap (λ ls. with_arcs c.args.links.now (reverse ls)) same
