@@ -1,6 +1,6 @@
 -- How far the coordinates that a displacement moves stay on a board, and where they stand then.
 use lib.Signed.{lt_z}
-use Rattle.std.proofs.Common.{◌≡◌, ℕ, zero, suc, ◌+◌, ◌-◌, ◌*◌, ◌/◌, ◌<◌, ◌≤◌, ℤ, pos, negsuc, ◌+ℤ◌, ◌*ℤ◌, nat_abs, of_z, w32, Bool, true, false, ◌&&◌, cond, ltb, List, [], ◌∷◌, ◌++◌, length, get_or, set, drop, take, Option, Some, None, refl, sym, ap, ap₂, ◌∙◌, inl, inr, arith, true≢false}
+use Rattle.std.proofs.Common.{◌≡◌, ℕ, zero, suc, ◌+◌, ◌-◌, ◌*◌, ◌/◌, ◌<◌, ◌≤◌, ℤ, pos, negsuc, ◌+ℤ◌, ◌*ℤ◌, nat_abs, of_z, w32, Bool, true, false, ◌&&◌, ltb, List, [], ◌∷◌, length, get_or, set, drop, take, Some, None, refl, sym, ap, ap₂, ◌∙◌, inl, inr, arith, true≢false}
 use Rattle.std.specs.Option.{is_some, unwrap_or}
 use Rattle.std.proofs.Math.Nat.{le-div_iff_mul-le}
 use Rattle.std.proofs.Math.Bool.{and-false}
@@ -8,8 +8,7 @@ use Rattle.std.proofs.lemmas.Bool.{cases_lt, cond-true, cond-false, le-ltb, lt-l
 use Rattle.std.proofs.lemmas.Int.{ints}
 use Rattle.std.proofs.lemmas.List.{at_drop_more, take_more}
 use Rattle.std.proofs.lemmas.List.Folds.{list_all-append, list_all_kept}
-use Rattle.std.specs.List.{list_all}
-use Rattle.sgb_gen.specs.Moves.{Side, coordinate_on, within_size}
+use Rattle.sgb_gen.specs.Moves.{coordinate_on, within_size}
 use Rattle.sgb_gen.specs.inner.MovedCoordinates.{part_at, parts_put, parts_stay}
 
 on_side : (n y : ℕ) → y < n → is_some (within_size n (pos y)) ≡ true

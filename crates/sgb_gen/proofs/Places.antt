@@ -1,9 +1,8 @@
 -- A place, coordinate by coordinate.
-use Rattle.std.proofs.Common.{◌≡◌, ℕ, ◌+◌, ◌<◌, ◌≤◌, ℤ, pos, ◌+ℤ◌, ◌*ℤ◌, Bool, to_z, of_z, w32, w64, SFits, List, [], ◌∷◌, ◌++◌, length, get_or, drop, Option, Some, None, refl, sym, ap, ◌∙◌, append_assoc, append-nil, length-append, arith}
+use Rattle.std.proofs.Common.{◌≡◌, ℕ, ◌+◌, ◌<◌, ℤ, pos, ◌+ℤ◌, ◌*ℤ◌, List, [], ◌∷◌, ◌++◌, length, get_or, drop, Option, Some, None, refl, sym, ap, ◌∙◌, append_assoc}
 use Rattle.std.specs.Option.{option_map}
-use Rattle.std.proofs.lemmas.Int.{to_z-of_z}
-use Rattle.std.proofs.lemmas.List.{at_drop_more, drop_all}
-use Rattle.sgb_gen.specs.Moves.{is_bit_set, sides_from_bit, sides_of, coordinate_on, in_front, place}
+use Rattle.std.proofs.lemmas.List.{at_drop_more}
+use Rattle.sgb_gen.specs.Moves.{is_bit_set, sides_from_bit, coordinate_on, in_front, place}
 
 -- the coordinates from number k on of a place
 abbrev pub coordinates_from : List ℕ → ℤ → List ℕ → List ℤ → ℕ → ℕ → Option (List ℕ)

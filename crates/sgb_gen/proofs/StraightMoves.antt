@@ -1,6 +1,6 @@
 -- Moves from a vector that never come home, of as many lengths as the moved coordinates stay on the board.
 use lib.Signed.{lt_z}
-use Rattle.std.proofs.Common.{◌≡◌, ◌≢◌, ℕ, zero, suc, ◌+◌, ◌-◌, ◌++◌, reverse, append_assoc, ◌<◌, ◌≤◌, ℤ, pos, negsuc, SFits, to_z, of_z, w64, true, false, not, cond, List, [], ◌∷◌, length, map, Option, Some, None, refl, sym, ap, ap₂, subst, ◌∙◌, inl, inr, arith, true≢false}
+use Rattle.std.proofs.Common.{◌≡◌, ◌≢◌, ℕ, zero, suc, ◌+◌, ◌-◌, ◌++◌, reverse, append_assoc, ◌<◌, ◌≤◌, ℤ, pos, negsuc, SFits, to_z, of_z, w64, true, false, not, cond, List, [], ◌∷◌, length, map, Option, Some, None, refl, sym, ap, subst, ◌∙◌, inl, inr, arith, true≢false}
 use Rattle.std.specs.Cmp.Lexicographic.{bytes_decides}
 use Rattle.std.proofs.lemmas.Bool.{cases_Bool, cases_lt}
 use Rattle.std.proofs.lemmas.Int.{to_z-of_z}

@@ -1,4 +1,4 @@
-use Rattle.std.proofs.Common.{◌≡◌, ◌+◌, ℕ, ℤ, Option, None, Some, drop, set, w32, w64, to_z, of_z, sym, ap, ◌∙◌, arith, rules, length-set}
+use Rattle.std.proofs.Common.{◌≡◌, ◌+◌, ℤ, Some, drop, set, w32, w64, to_z, of_z, sym, ap, ◌∙◌, arith, rules, length-set}
 use Rattle.std.proofs.lemmas.Int.{to_z-of_z}
 use Rattle.std.specs.Option.{is_some, unwrap_or}
 use Rattle.sgb_gen.specs.inner.MovedCoordinates.{part_at, parts_put, parts_stay}

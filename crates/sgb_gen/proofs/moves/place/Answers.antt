@@ -1,8 +1,7 @@
-use Rattle.std.proofs.Common.{◌≡◌, ◌<◌, ℕ, ℤ, Bool, true, false, cond, List, Some, None, length, w64, to_z, of_z, take, drop, ◌++◌, sym, ap, ◌∙◌, arith, rules}
+use Rattle.std.proofs.Common.{◌≡◌, ◌<◌, ℕ, true, false, cond, List, Some, None, length, w64, take, drop, ◌++◌, sym, ap, ◌∙◌}
 use Rattle.std.proofs.Math.Seq.{take-append_seam}
 use Rattle.std.proofs.lemmas.Int.{to_z-of_z}
 use Rattle.std.proofs.lemmas.List.Elements.{length_all_zip}
-use Rattle.sgb_gen.specs.Moves.{place, sides_of}
 use Rattle.sgb_gen.specs.inner.MovedCoordinates.{parts_of, parts_put, parts_stay}
 use Rattle.sgb_gen.proofs.MovedCoordinates.{place_by_parts}
 use Rattle.sgb_gen.proofs.moves.place.Goals as goal

@@ -1,9 +1,9 @@
-use Rattle.std.proofs.Common.{◌≡◌, ◌≤◌, ◌<◌, ◌+◌, ◌+ℤ◌, ◌*ℤ◌, ℕ, ℤ, Bool, true, false, pos, get_or, w32, w64, to_z, of_z, sym, ap, ap₂, ◌∙◌, arith, rules, take, length}
+use Rattle.std.proofs.Common.{◌+◌, ◌+ℤ◌, ◌*ℤ◌, ℕ, ℤ, pos, get_or, w32, w64, to_z, of_z, sym, ap₂, ◌∙◌, arith, rules}
 use Rattle.std.proofs.lemmas.Int.{to_z-of_z}
 use Rattle.std.proofs.lemmas.List.{take_all}
 use Rattle.std.specs.Option.{is_some}
 use Rattle.sgb_gen.specs.Moves.{coordinate_on}
-use Rattle.sgb_gen.specs.inner.MovedCoordinates.{part_at, parts_stay}
+use Rattle.sgb_gen.specs.inner.MovedCoordinates.{parts_stay}
 use Rattle.sgb_gen.proofs.PartReaches.{part_of, reach-more, reach-none}
 use Rattle.sgb_gen.proofs.moves.reach.Goals as goal
 

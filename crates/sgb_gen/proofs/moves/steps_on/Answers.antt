@@ -1,4 +1,4 @@
-use Rattle.std.proofs.Common.{ap, ◌∙◌, sym, w32, to_z, of_z, pos, arith, nat_abs, ◌-◌, ◌/◌}
+use Rattle.std.proofs.Common.{ap, ◌∙◌, sym, w32, pos, arith, nat_abs, ◌-◌, ◌/◌}
 use lib.Signed.{lt_z}
 use Rattle.std.proofs.lemmas.Int.{to_z-of_z}
 use Rattle.sgb_gen.proofs.PartReaches.{ahead_leaves, ahead_stays, back_leaves, back_stays, some_amount}

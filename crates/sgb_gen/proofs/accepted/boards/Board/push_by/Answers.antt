@@ -1,4 +1,4 @@
-use Rattle.std.proofs.Common.{◌≡◌, ◌++◌, ◌∙◌, List, true, false, reverse, sym, ap, subst}
+use Rattle.std.proofs.Common.{◌≡◌, ◌++◌, ◌∙◌, List, false, reverse, sym, ap, subst}
 use Rattle.std.specs.Result.{OnOk}
 use Rattle.sgb_vec.specs.Boxes.{box}
 use Rattle.sgb_gen.specs.inner.LocalBoards.{arcs_onward, moves_by}

@@ -1,6 +1,6 @@
-use Rattle.std.proofs.Common.{◌≡◌, ◌++◌, ◌∷◌, ◌∙◌, ◌+◌, ◌-◌, [], Some, None, append-nil, append_assoc, cond, drop, get_or, length, reverse, refl, ℕ, ℤ, Bool, List, sym, ap, ap₂, arith}
+use Rattle.std.proofs.Common.{◌≡◌, ◌++◌, ◌∷◌, ◌∙◌, ◌+◌, ◌-◌, Some, append-nil, append_assoc, cond, drop, get_or, length, reverse, refl, ℕ, List, sym, ap, ap₂, arith}
 use Rattle.std.specs.Prelude.{◌==◌}
-use Rattle.std.specs.List.{flat_map, slice_get}
+use Rattle.std.specs.List.{slice_get}
 use Rattle.std.proofs.lemmas.List.{at_drop_more, drop_all, reverse-append}
 use Rattle.sgb_vec.specs.Boxes.{box}
 use Rattle.sgb_gen.specs.inner.LocalBoards.{arcs_of_starts, edge_arcs}

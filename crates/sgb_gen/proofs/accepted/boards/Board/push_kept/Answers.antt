@@ -1,12 +1,11 @@
-use Rattle.std.proofs.Common.{◌≡◌, ◌+◌, ◌-◌, ◌++◌, ap₂, reverse, arith, append-nil, ℕ, List, ℤ, nat_abs, ◌∷◌, drop, length, map, Option, Some, refl, sym, ap, subst, ◌∙◌, append_assoc}
+use Rattle.std.proofs.Common.{◌≡◌, ◌+◌, ◌-◌, ◌++◌, ap₂, reverse, arith, append-nil, ℕ, List, ℤ, nat_abs, ◌∷◌, drop, length, Some, refl, sym, ap, subst, ◌∙◌, append_assoc}
 use Rattle.std.specs.List.{All, flat_map, slice_get}
-use Rattle.std.specs.Option.{option_map}
 use Rattle.std.proofs.lemmas.List.{at_drop_more, drop_all, reverse-append}
-use Rattle.std.proofs.lemmas.Option.{get_or_from_slice_get, slice_get-map, slice_get_within}
+use Rattle.std.proofs.lemmas.Option.{get_or_from_slice_get, slice_get_within}
 use Rattle.sgb_vec.specs.Boxes.{box}
 use Rattle.sgb_gen.specs.inner.EntryBounds.{displacements_within}
 use Rattle.sgb_gen.specs.inner.LocalBoards.{arcs_onward, moves_by}
-use Rattle.sgb_gen.specs.Moves.{opposite, sides_of}
+use Rattle.sgb_gen.specs.Moves.{sides_of}
 use Rattle.sgb_gen.proofs.BoundedMoves.{bounds_of, length-entry_bounds, moves_within}
 use Rattle.sgb_gen.proofs.DisplacementLengths.{displacement_lengths}
 use Rattle.sgb_gen.proofs.ListsOfBoards.{onward-first}

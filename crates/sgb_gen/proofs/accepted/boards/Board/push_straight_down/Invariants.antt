@@ -1,4 +1,4 @@
-use Rattle.std.proofs.Common.{◌≡◌, ◌≤◌, ◌++◌, map, reverse}
+use Rattle.std.proofs.Common.{◌≡◌, ◌++◌, map, reverse}
 use Rattle.std.specs.List.{range_with_len}
 use Rattle.sgb_gen.specs.inner.LocalBoards.{move_arc}
 use Rattle.sgb_gen.proofs.BoardWalks.{moves_of}
