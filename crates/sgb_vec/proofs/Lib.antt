@@ -17,13 +17,15 @@ pub mod BoxSuccessors
 pub mod Convolutions
 -- worked examples of the definitions
 pub mod Examples
+-- the vectors of the families rise, and are of one length
+pub mod FamilyLaws
 -- members of the families have names
 pub mod FamilyVectors
 -- counts above the most vertices, told from the rows of counts
 pub mod GreatCounts
 -- sequences that rise and then fall, and their windows
 pub mod Hills
--- plain lists
+-- plain lists, and walks over them
 pub mod Lists
 -- the name of a vector read back
 pub mod NameReading

@@ -1,7 +1,9 @@
--- Plain lists: pairs of elements in order, what stands in a list that is made of others, and what passes a test.
-use Rattle.std.proofs.Common.{◌≡◌, ℕ, zero, suc, ◌+◌, ◌-◌, ◌<◌, ◌≤◌, ◌⊎◌, Bool, true, false, cond, List, [], ◌∷◌, ◌++◌, length, map, reverse, get_or, refl, sym, ap, subst, subst₂, ◌∙◌, inl, inr, arith}
-use Rattle.std.specs.List.{All, AllPairs, Contains, filter, flat_map, range_with_len}
-use Rattle.std.proofs.lemmas.Bool.{cases_order, cond_both}
+-- Plain lists: pairs of elements in order, what stands in a list that is made of others, what passes a test, numbers one
+-- after another, and walks.
+use Rattle.std.proofs.Common.{◌≡◌, ℕ, zero, suc, ◌+◌, ◌-◌, ◌<◌, ◌≤◌, ◌==◌, ◌⊎◌, Bool, true, false, cond, List, [], ◌∷◌, ◌++◌, length, map, reverse, get_or, Option, Some, refl, sym, ap, subst, subst₂, ◌∙◌, inl, inr, arith}
+use Rattle.std.specs.Iterator.{YieldsFirst}
+use Rattle.std.specs.List.{All, AllPairs, Contains, filter, flat_map, range_with_len, slice_get}
+use Rattle.std.proofs.lemmas.Bool.{cases_order, cond_both, eq-eqb, eqb-true}
 use Rattle.std.proofs.lemmas.List.{get_or-reverse, length-reverse, map-append, reverse-append}
 use Rattle.std.proofs.lemmas.List.Elements.{All-append, All-get_or, All-head, All-map, All-nil, All-tail, Contains-append_left, Contains-append_right, filter-append}
 use Rattle.std.proofs.lemmas.List.FromFn.{get_or-range_with_len, length-range_with_len}
@@ -162,3 +164,43 @@ same_tests false false on back = refl
 pub never_true : (b : Bool) → (b ≡ true → ⊥) → b ≡ false
 never_true true h = absurd (h refl)
 never_true false h = refl
+
+pub eqb-turned : (a b : ℕ) → (a == b) ≡ (b == a)
+eqb-turned a b = same_tests (a == b) (b == a) (λ e. eq-eqb b a (sym (eqb-true a b e))) (λ e. eq-eqb a b (sym (eqb-true b a e)))
+
+-- where all elements pass, all stay; a first one that passes is one more
+pub filter-all : {X : Type 0} (t : X → Bool) (xs : List X) → All (λ x. t x ≡ true) xs → filter t xs ≡ xs
+filter-all t [] h = refl
+filter-all t (x ∷ xs) h =
+    ap (λ b. cond b (x ∷ filter t xs) (filter t xs)) (All-head (λ y. t y ≡ true) x xs h)
+    ∙ ap (λ ys. x ∷ ys) (filter-all t xs (All-tail (λ y. t y ≡ true) x xs h))
+
+pub passing_first : {X : Type 0} (b : Bool) (x : X) (xs : List X) → length (cond b (x ∷ xs) xs) ≡ cond b 1 0 + length xs
+passing_first true x xs = omega arith
+passing_first false x xs = omega arith
+
+-- an element of the first of two lists
+pub slice_get-left : {X : Type 0} (xs ys : List X) (k : ℕ) (x : X) → slice_get xs k ≡ Some x → slice_get (xs ++ ys) k ≡ Some x
+slice_get-left [] ys k x is = absurd cc
+slice_get-left (a ∷ xs) ys zero x is = is
+slice_get-left (a ∷ xs) ys (suc k) x is = slice_get-left xs ys k x is
+
+-- numbers, and those after them
+pub range-joined : (start m n : ℕ) → range_with_len start (m + n) ≡ range_with_len start m ++ range_with_len (start + m) n
+range-joined start zero n =
+    let none : 0 + n ≡ n = omega arith in
+    let here : start ≡ start + 0 = omega arith in
+    ap (range_with_len start) none ∙ ap (λ k. range_with_len k n) here
+range-joined start (suc m) n =
+    let more : suc m + n ≡ suc (m + n) = omega arith in
+    let after : start + 1 + m ≡ start + suc m = omega arith in
+    ap (range_with_len start) more
+    ∙ ap (λ ks. start ∷ ks) (range-joined (start + 1) m n ∙ ap (λ k. range_with_len (start + 1) m ++ range_with_len k n) after)
+
+-- one number more
+pub range-more : (start n : ℕ) → range_with_len start (n + 1) ≡ range_with_len start n ++ (start + n) ∷ []
+range-more start n = range-joined start n 1
+
+-- what a walk gives stands before what it leaves
+pub steps_to : {X : Type 0} (s rest : List X) (r : Option X) (x : X) → r ≡ Some x → YieldsFirst (λ l. l) s r rest → s ≡ x ∷ rest
+steps_to s rest r x is h = subst (λ o. YieldsFirst (λ l. l) s o rest) is h

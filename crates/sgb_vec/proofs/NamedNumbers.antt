@@ -22,7 +22,7 @@ digit_cases radix byte = elim (cases_lt (digit_value byte) radix) [
 ]
 
 -- one byte more
-first_byte : (radix most byte : ℕ) (text : List ℕ) → leading_digits radix (suc most) (byte ∷ text) ≡ cond (is_digit byte radix) (byte ∷ leading_digits radix most text) []
+pub first_byte : (radix most byte : ℕ) (text : List ℕ) → leading_digits radix (suc most) (byte ∷ text) ≡ cond (is_digit byte radix) (byte ∷ leading_digits radix most text) []
 first_byte radix most byte text = take_while-cons (λ b. is_digit b radix) byte (take most text)
 
 -- what a text begins with are digits

@@ -11,18 +11,14 @@ use Rattle.sgb_vec.specs.Lexicographic.{IsWithin}
 use Rattle.sgb_vec.specs.Order.{IsLast, IsNext}
 use Rattle.sgb_vec.specs.Sums.{bounded_sums, count_of_sum}
 use Rattle.sgb_vec.specs.inner.SumPlaces.{count_below}
+use Rattle.sgb_vec.proofs.Lists.{slice_get-left}
 use Rattle.sgb_vec.proofs.SumCounts.{eqb_like, tally, count_of_sum-nil, count_of_sum-cons}
 use Rattle.sgb_vec.proofs.SumMembers.{Contains-bounded_sums, IsWithin-length}
 use Rattle.sgb_vec.proofs.SumSuccessors.{sum-cons}
 use Rattle.sgb_vec.proofs.SumTails.{IsWithin-drop}
 use Rattle.sgb_vec.proofs.Windows.{window_prefix, window-wider}
 
--- an element of the first of two lists, and of the second
-slice_get-left : {X : Type 0} (xs ys : List X) (j : ℕ) (u : X) → slice_get xs j ≡ Some u → slice_get (xs ++ ys) j ≡ Some u
-slice_get-left [] ys j u e = absurd (cc e)
-slice_get-left (x ∷ xs) ys zero u e = e
-slice_get-left (x ∷ xs) ys (suc j) u e = slice_get-left xs ys j u e
-
+-- an element of the second of two lists
 slice_get-right : {X : Type 0} (xs ys : List X) (m j : ℕ) (u : X) → m ≡ length xs + j → slice_get ys j ≡ Some u → slice_get (xs ++ ys) m ≡ Some u
 slice_get-right [] ys m j u e h = let same : m ≡ j = omega arith in ap (slice_get ys) same ∙ h
 slice_get-right (x ∷ xs) ys zero j u e h = absurd (omega arith)

@@ -59,7 +59,7 @@ name_of_vector_is_text (x ∷ y ∷ rest) h =
     rw name_of_more (All-append IsTextByte (decimal x) (46 ∷ name_of_vector (y ∷ rest)) first (All-cons IsTextByte 46 (name_of_vector (y ∷ rest)) dot others))
 
 -- a name has at most eleven bytes for each entry
-length-name_of_vector-le : (v : List ℕ) → All (λ n. n < 2 ^ 32) v → length (name_of_vector v) ≤ 11 * length v
+pub length-name_of_vector-le : (v : List ℕ) → All (λ n. n < 2 ^ 32) v → length (name_of_vector v) ≤ 11 * length v
 length-name_of_vector-le [] h = rw name_of_none (omega arith)
 length-name_of_vector-le (x ∷ []) h = rw name_of_one (omega (arith, length-decimal-le 10 x (omega arith) (omega (arith, h 0 0 (omega arith))) (omega (arith, h 0 0 (omega arith)))))
 length-name_of_vector-le (x ∷ y ∷ rest) h =
