@@ -10,7 +10,8 @@ use Rattle.sgb_graph.specs.Sound.{is_vertex, leads_to_vertex}
 use Rattle.sgb_graph.specs.Growth.{link}
 use Rattle.sgb_graph.specs.declared.fields.ArcRec.{ArcRec}
 use Rattle.sgb_graph.specs.declared.fields.Link.{Link}
-use Rattle.sgb_graph.proofs.Lists.{slice_get-more, list_all-weaker, list_all-both, flat_map-agree}
+use Rattle.sgb_vec.proofs.Lists.{slice_get-left}
+use Rattle.sgb_graph.proofs.Lists.{list_all-weaker, list_all-both, flat_map-agree}
 
 -- the way from no record ends at once
 pub ends_none : (fuel : ℕ) (records : List ArcRec) → ends_from fuel records None ≡ true
@@ -61,7 +62,7 @@ ends_more zero steps records more (Some k) le e = absurd (no_start records k e)
 ends_more (suc fuel) zero records more (Some k) le e = absurd (omega arith)
 ends_more (suc fuel) (suc steps) records more (Some k) le e =
     let b = ends_after fuel records k e in
-    ends_step steps (records ++ more) k b.here (slice_get-more records more k b.here b.is) ∙ ends_more fuel steps records more b.here.next (omega arith) b.ends
+    ends_step steps (records ++ more) k b.here (slice_get-left records more k b.here b.is) ∙ ends_more fuel steps records more b.here.next (omega arith) b.ends
 
 -- and meets the same records
 pub numbers_more : (fuel steps : ℕ) (records more : List ArcRec) (first : Option ℕ) → fuel ≤ steps → ends_from fuel records first ≡ true → numbers_from steps (records ++ more) first ≡ numbers_from fuel records first
@@ -70,7 +71,7 @@ numbers_more zero steps records more (Some k) le e = absurd (no_start records k 
 numbers_more (suc fuel) zero records more (Some k) le e = absurd (omega arith)
 numbers_more (suc fuel) (suc steps) records more (Some k) le e =
     let b = ends_after fuel records k e in
-    numbers_step steps (records ++ more) k b.here (slice_get-more records more k b.here b.is)
+    numbers_step steps (records ++ more) k b.here (slice_get-left records more k b.here b.is)
     ∙ (ap (λ ks. k ∷ ks) (numbers_more fuel steps records more b.here.next (omega arith) b.ends) ∙ sym (numbers_step fuel records k b.here b.is))
 
 -- each record on a way is one
@@ -96,7 +97,7 @@ record_more records more k e = by_record (slice_get records k) refl e
   where
     by_record : (o : Option ArcRec) → slice_get records k ≡ o → is_some o ≡ true → slice_get (records ++ more) k ≡ slice_get records k
     by_record None is h = absurd cc
-    by_record (Some r) is h = slice_get-more records more k r is ∙ sym is
+    by_record (Some r) is h = slice_get-left records more k r is ∙ sym is
 
 -- so is its arc
 link_more : (records more : List ArcRec) (k : ℕ) → is_record records k ≡ true → link_of (records ++ more) k ≡ link_of records k

@@ -61,6 +61,8 @@ pub mod NewGraphs
 pub mod Numbers
 -- a number in the graph's own field uu
 pub mod OwnNumbers
+-- the graph of a list of events, for examples
+pub mod PlainGraphs
 -- a generator at a draw, and what it hands out
 pub mod Standing
 -- tables, given by their columns

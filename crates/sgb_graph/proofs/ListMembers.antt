@@ -12,7 +12,8 @@ use Rattle.sgb_vec.proofs.Lists.{AllPairs-append, Contains-cases, Contains-first
 use Rattle.sgb_graph.specs.Events.{Event, Record, all_records, links_at, list_from, list_of, records_of}
 use Rattle.sgb_graph.specs.Growth.{link, record_from}
 use Rattle.sgb_graph.specs.declared.fields.Link.{Link}
-use Rattle.sgb_graph.proofs.Lists.{slice_get-more, slice_get-prefix, slice_get-after}
+use Rattle.sgb_vec.proofs.Lists.{slice_get-left}
+use Rattle.sgb_graph.proofs.Lists.{slice_get-prefix, slice_get-after}
 use Rattle.sgb_graph.proofs.EventLemmas.{list_none, list_first, link_here, no_link_here}
 
 -- each record that starts at a vertex has its link there
@@ -109,7 +110,7 @@ only_from directed k (e ∷ events) v l has =
     later = all_records directed events
 
     in_own : IsRecordAt k v own l → IsRecordAt k v (own ++ later) l
-    in_own at = record { place = at.place; number = at.number; is = slice_get-more own later at.place (record_from v l.tip l.len) at.is }
+    in_own at = record { place = at.place; number = at.number; is = slice_get-left own later at.place (record_from v l.tip l.len) at.is }
 
     in_later : IsRecordAt (k + length own) v later l → IsRecordAt k v (own ++ later) l
     in_later at = record { place = length own + at.place; number = omega (arith, at.number); is = slice_get-after own later at.place ∙ at.is }

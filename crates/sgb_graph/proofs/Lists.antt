@@ -6,12 +6,6 @@ use Rattle.std.proofs.lemmas.Bool.{and_parts, and_from}
 use Rattle.std.proofs.lemmas.List.Folds.{list_all-map}
 use Rattle.sgb_graph.specs.Growth.{at_place}
 
--- an element is at its place in a longer list too
-pub slice_get-more : {X : Type 0} (xs ys : List X) (k : ℕ) (x : X) → slice_get xs k ≡ Some x → slice_get (xs ++ ys) k ≡ Some x
-slice_get-more [] ys k x is = absurd cc
-slice_get-more (a ∷ xs) ys zero x is = is
-slice_get-more (a ∷ xs) ys (suc k) x is = slice_get-more xs ys k x is
-
 -- what stands in a prefix of a list
 pub slice_get-prefix : {X : Type 0} (xs ys : List X) (k : ℕ) → k < length xs → slice_get (xs ++ ys) k ≡ slice_get xs k
 slice_get-prefix [] ys k below = absurd (omega arith)

@@ -17,7 +17,5 @@ pub mod Kept
 pub mod KeptRecords
 -- vertices as they are kept
 pub mod KeptVertices
--- the graph of a description's parts
-pub mod Made
 -- walks that mark the records they pass
 pub mod Walks

@@ -2,7 +2,7 @@
 use Rattle.std.specs.Prelude.{◌≡◌, ℕ, pos, Bool, true, false, List, [], ◌∷◌, map, codes, refl}
 use Rattle.sgb_graph.specs.Graphs.{GraphData, numbers_from, ends_from, chain_of, ends_of}
 use Rattle.sgb_graph.specs.Events.{Event, list_from, list_of}
-use Rattle.sgb_graph.specs.inner.Made.{graph_of}
+use Rattle.sgb_graph.proofs.PlainGraphs.{plain_graph}
 use Rattle.sgb_graph.specs.declared.fields.Link.{Link}
 
 abbrev arc : ℕ → ℕ → ℕ → Event
@@ -16,7 +16,7 @@ abbrev events : List Event
 events = arc 0 1 4 ∷ arc 2 0 5 ∷ arc 1 1 6 ∷ arc 1 0 7 ∷ []
 
 abbrev made : Bool → GraphData
-made directed = graph_of directed events (codes "a" ∷ codes "b" ∷ codes "c" ∷ codes "d" ∷ []) (codes "g")
+made directed = plain_graph directed events (codes "a" ∷ codes "b" ∷ codes "c" ∷ codes "d" ∷ []) (codes "g")
 
 -- the lists of the edges: later ones first, of the loop the even record first
 pub lists_of_edges : map (list_of false events) (0 ∷ 1 ∷ 2 ∷ 3 ∷ [])

@@ -6,7 +6,7 @@ use Rattle.sgb_vec.specs.declared.panics.Panic.{Panic}
 use Rattle.sgb_graph.specs.Graphs.{GraphData}
 use Rattle.sgb_graph.specs.Events.{Event, all_records, list_of}
 use Rattle.sgb_graph.specs.Descriptions.{Description}
-use Rattle.sgb_graph.specs.inner.Made.{graph_of}
+use Rattle.sgb_graph.proofs.PlainGraphs.{plain_graph}
 use Rattle.sgb_graph.specs.declared.fields.Kind.{Kind}
 use Rattle.sgb_graph.specs.declared.fields.Util.{Util}
 use Rattle.sgb_graph.specs.declared.fields.Link.{Link}
@@ -24,34 +24,34 @@ abbrev pub numbers : ℕ → List (List ℕ)
 numbers n = map decimal (range_with_len 0 n)
 
 abbrev pub complete_2 : GraphData
-complete_2 = graph_of false (event 0 1 1 ∷ []) (numbers 2) (codes "board(2,0,0,0,-1,0,0)")
+complete_2 = plain_graph false (event 0 1 1 ∷ []) (numbers 2) (codes "board(2,0,0,0,-1,0,0)")
 
 abbrev pub complete_3 : GraphData
-complete_3 = graph_of false (event 0 1 1 ∷ event 0 2 2 ∷ event 1 2 1 ∷ []) (numbers 3) (codes "board(3,0,0,0,-1,0,0)")
+complete_3 = plain_graph false (event 0 1 1 ∷ event 0 2 2 ∷ event 1 2 1 ∷ []) (numbers 3) (codes "board(3,0,0,0,-1,0,0)")
 
 abbrev pub complete_4 : GraphData
-complete_4 = graph_of false (event 0 1 1 ∷ event 0 2 2 ∷ event 0 3 3 ∷ event 1 2 1 ∷ event 1 3 2 ∷ event 2 3 1 ∷ []) (numbers 4) (codes "board(4,0,0,0,-1,0,0)")
+complete_4 = plain_graph false (event 0 1 1 ∷ event 0 2 2 ∷ event 0 3 3 ∷ event 1 2 1 ∷ event 1 3 2 ∷ event 2 3 1 ∷ []) (numbers 4) (codes "board(4,0,0,0,-1,0,0)")
 
 abbrev pub circuit_3 : GraphData
-circuit_3 = graph_of false (event 0 1 1 ∷ event 1 2 1 ∷ event 2 0 1 ∷ []) (numbers 3) (codes "board(3,0,0,0,1,1,0)")
+circuit_3 = plain_graph false (event 0 1 1 ∷ event 1 2 1 ∷ event 2 0 1 ∷ []) (numbers 3) (codes "board(3,0,0,0,1,1,0)")
 
 abbrev pub circuit_4 : GraphData
-circuit_4 = graph_of false (event 0 1 1 ∷ event 1 2 1 ∷ event 2 3 1 ∷ event 3 0 1 ∷ []) (numbers 4) (codes "board(4,0,0,0,1,1,0)")
+circuit_4 = plain_graph false (event 0 1 1 ∷ event 1 2 1 ∷ event 2 3 1 ∷ event 3 0 1 ∷ []) (numbers 4) (codes "board(4,0,0,0,1,1,0)")
 
 abbrev pub cycle_3 : GraphData
-cycle_3 = graph_of true (event 0 1 1 ∷ event 1 2 1 ∷ event 2 0 1 ∷ []) (numbers 3) (codes "board(3,0,0,0,1,1,1)")
+cycle_3 = plain_graph true (event 0 1 1 ∷ event 1 2 1 ∷ event 2 0 1 ∷ []) (numbers 3) (codes "board(3,0,0,0,1,1,1)")
 
 -- board(3,0,0,0,1,0,0)
 abbrev pub path_3 : GraphData
-path_3 = graph_of false (event 0 1 1 ∷ event 1 2 1 ∷ []) (numbers 3) (codes "board(3,0,0,0,1,0,0)")
+path_3 = plain_graph false (event 0 1 1 ∷ event 1 2 1 ∷ []) (numbers 3) (codes "board(3,0,0,0,1,0,0)")
 
 -- board(3,0,0,0,-1,1,0): a rider that goes round
 abbrev pub rider_3 : GraphData
-rider_3 = graph_of false (event 0 1 1 ∷ event 0 2 2 ∷ event 1 2 1 ∷ event 1 0 2 ∷ event 2 0 1 ∷ event 2 1 2 ∷ []) (numbers 3) (codes "board(3,0,0,0,-1,1,0)")
+rider_3 = plain_graph false (event 0 1 1 ∷ event 0 2 2 ∷ event 1 2 1 ∷ event 1 0 2 ∷ event 2 0 1 ∷ event 2 1 2 ∷ []) (numbers 3) (codes "board(3,0,0,0,-1,1,0)")
 
 -- board(1,0,0,0,1,1,0): one vertex with a loop
 abbrev pub loop_1 : GraphData
-loop_1 = graph_of false (event 0 0 1 ∷ []) (numbers 1) (codes "board(1,0,0,0,1,1,0)")
+loop_1 = plain_graph false (event 0 0 1 ∷ []) (numbers 1) (codes "board(1,0,0,0,1,1,0)")
 
 -- a tip by its name, and the length
 abbrev pub named_tip : Description → Link → List ℕ × ℤ

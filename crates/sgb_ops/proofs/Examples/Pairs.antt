@@ -4,7 +4,7 @@ use Rattle.std.specs.Fmt.{digits}
 use Rattle.sgb_graph.specs.Graphs.{GraphData, numbers_from}
 use Rattle.sgb_graph.specs.Events.{list_from}
 use Rattle.sgb_graph.specs.Ids.{compound_id, double_compound_id}
-use Rattle.sgb_graph.specs.inner.Made.{graph_of}
+use Rattle.sgb_graph.proofs.PlainGraphs.{plain_graph}
 use Rattle.sgb_ops.specs.Taken.{each_edge_once}
 use Rattle.sgb_ops.specs.Merged.{merged}
 use Rattle.sgb_ops.specs.Complement.{complement_of, complement_events}
@@ -53,7 +53,7 @@ copied_edges_of_cycle = refl
 
 -- of a graph of no vertices
 abbrev nothing : GraphData
-nothing = graph_of false [] [] (codes "simplex(5,2,2,0,0,0,0)")
+nothing = plain_graph false [] [] (codes "simplex(5,2,2,0,0,0,0)")
 
 pub complement_of_nothing : names (complement_of nothing false true false) ≡ []
 complement_of_nothing = refl
@@ -93,7 +93,7 @@ union_with_larger_arcs = refl
 
 -- a loop that is one arc, as a file may have it, united with itself: multi and directed 1
 abbrev ring : GraphData
-ring = graph_of true (event 0 0 1 ∷ []) (codes "x" ∷ []) (codes "ring")
+ring = plain_graph true (event 0 0 1 ∷ []) (codes "x" ∷ []) (codes "ring")
 
 pub union_of_ring : blocks (gunion_of ring ring true true) ≡ ((codes "x", pos 1) ∷ (codes "x", pos 1) ∷ []) ∷ []
 unfolding numbers_from list_from

@@ -3,7 +3,7 @@ use Rattle.std.specs.Prelude.{◌≡◌, true, false, [], ◌∷◌, codes, refl
 use Rattle.sgb_graph.specs.Graphs.{GraphData, numbers_from}
 use Rattle.sgb_graph.specs.Events.{list_from}
 use Rattle.sgb_graph.specs.Ids.{double_compound_id}
-use Rattle.sgb_graph.specs.inner.Made.{graph_of}
+use Rattle.sgb_graph.proofs.PlainGraphs.{plain_graph}
 use Rattle.sgb_ops.specs.Taken.{each_edge_once}
 use Rattle.sgb_ops.specs.Merged.{merged, merged_unless}
 use Rattle.sgb_ops.specs.Gunion.{gunion_of, union_events}
@@ -12,10 +12,10 @@ use Rattle.sgb_ops.proofs.Examples.Operands.{event, numbers, complete_3, cycle_3
 
 -- two edges between 0 and 1, the shorter one last; and graphs with one that is shorter still
 abbrev first : GraphData
-first = graph_of false (event 0 1 6 ∷ event 0 2 1 ∷ event 0 1 4 ∷ []) (numbers 3) (codes "first")
+first = plain_graph false (event 0 1 6 ∷ event 0 2 1 ∷ event 0 1 4 ∷ []) (numbers 3) (codes "first")
 
 abbrev second : GraphData
-second = graph_of false (event 0 1 2 ∷ event 2 1 7 ∷ []) (numbers 3) (codes "second")
+second = plain_graph false (event 0 1 2 ∷ event 2 1 7 ∷ []) (numbers 3) (codes "second")
 
 -- for each vertex the edges of the first graph and then those of the second, each at its smaller end
 pub union_of_edges : union_events first second false
@@ -77,7 +77,7 @@ intersection_count = refl
 
 -- of each loop one record counts in either graph
 abbrev loops : GraphData
-loops = graph_of false (event 0 0 1 ∷ event 0 0 2 ∷ []) (numbers 1) (codes "loops")
+loops = plain_graph false (event 0 0 1 ∷ event 0 0 2 ∷ []) (numbers 1) (codes "loops")
 
 pub intersection_with_loops : intersection_events loop_1 loops true false ≡ event 0 0 2 ∷ []
 unfolding numbers_from list_from each_edge_once

@@ -3,7 +3,7 @@ use Rattle.std.specs.Prelude.{◌≡◌, ℕ, false, List, [], ◌∷◌, map, c
 use Rattle.sgb_vec.specs.Names.{name_of_vector}
 use Rattle.sgb_graph.specs.Graphs.{GraphData, numbers_from}
 use Rattle.sgb_graph.specs.Events.{Event, list_from}
-use Rattle.sgb_graph.specs.inner.Made.{graph_of}
+use Rattle.sgb_graph.proofs.PlainGraphs.{plain_graph}
 use Rattle.sgb_ops.specs.Complement.{complement_of, complement_events}
 use Rattle.sgb_ops.proofs.Examples.Operands.{event, arcs}
 
@@ -20,11 +20,11 @@ pairs = map name_of_vector (
     ∷ (0 ∷ 1 ∷ 1 ∷ 0 ∷ 0 ∷ []) ∷ (1 ∷ 0 ∷ 0 ∷ 0 ∷ 1 ∷ []) ∷ (1 ∷ 0 ∷ 0 ∷ 1 ∷ 0 ∷ []) ∷ (1 ∷ 0 ∷ 1 ∷ 0 ∷ 0 ∷ []) ∷ (1 ∷ 1 ∷ 0 ∷ 0 ∷ 0 ∷ []) ∷ [])
 
 abbrev petersen : GraphData
-petersen = graph_of false disjoint pairs (codes "subsets(2,1,-4,0,0,0,0x1,0)")
+petersen = plain_graph false disjoint pairs (codes "subsets(2,1,-4,0,0,0,0x1,0)")
 
 -- a complement, as a graph with the same names
 abbrev again : GraphData → GraphData
-again g = graph_of false (complement_events g false false false) pairs (codes "")
+again g = plain_graph false (complement_events g false false false) pairs (codes "")
 
 -- a complement has the 30 edges that petersen() has not, its complement the 15 again, and so on
 pub one_complement : arcs (complement_of petersen false false false) ≡ 60

@@ -7,7 +7,7 @@ use Rattle.sgb_vec.specs.Names.{name_of_vector}
 use Rattle.sgb_graph.specs.Graphs.{GraphData, numbers_from}
 use Rattle.sgb_graph.specs.Events.{Event, list_from}
 use Rattle.sgb_graph.specs.Ids.{double_compound_id}
-use Rattle.sgb_graph.specs.inner.Made.{graph_of}
+use Rattle.sgb_graph.proofs.PlainGraphs.{plain_graph}
 use Rattle.sgb_ops.specs.Taken.{each_edge_once}
 use Rattle.sgb_ops.specs.Merged.{merged}
 use Rattle.sgb_ops.specs.Gunion.{gunion_of}
@@ -31,10 +31,10 @@ abbrev squares : List (List ℕ)
 squares = map name_of_vector (box (3 ∷ 4 ∷ []))
 
 abbrev rook_graph : GraphData
-rook_graph = graph_of false rook squares (codes "board(3,4,0,0,-1,0,0)")
+rook_graph = plain_graph false rook squares (codes "board(3,4,0,0,-1,0,0)")
 
 abbrev bishop_graph : GraphData
-bishop_graph = graph_of false bishop squares (codes "board(3,4,0,0,-2,0,0)")
+bishop_graph = plain_graph false bishop squares (codes "board(3,4,0,0,-2,0,0)")
 
 pub queen_arcs : arcs (gunion_of rook_graph bishop_graph false false) ≡ 92
 unfolding box numbers_from list_from each_edge_once merged
