@@ -12,6 +12,7 @@ use Rattle.sgb_graph.specs.Events.{Event, all_records}
 use Rattle.sgb_graph.specs.Made.{graph_described}
 use Rattle.sgb_vec.specs.Boxes.{box, product_of}
 use Rattle.sgb_vec.specs.Lexicographic.{IsBelow}
+use Rattle.sgb_vec.proofs.Lists.{passing_first}
 use Rattle.sgb_vec.specs.Limits.{most_vertices}
 use Rattle.sgb_vec.proofs.BoxPlaces.{IsBelow-from_Contains, length-box}
 use Rattle.sgb_vec.proofs.Products.{factors-pos}
@@ -23,7 +24,7 @@ use Rattle.sgb_gen.specs.inner.LocalBoards.{moves_by}
 use Rattle.sgb_gen.specs.inner.Moves.{destination, longest_move}
 use Rattle.sgb_gen.proofs.AllVectors.{flat_map-same}
 use Rattle.sgb_gen.proofs.BoardCountsLengths.{moves_left, starts-home, starts-going, left-first, left-none, onward-end}
-use Rattle.sgb_gen.proofs.BoardCountsStarts.{passing, one_more, starts-product}
+use Rattle.sgb_gen.proofs.BoardCountsStarts.{passing, starts-product}
 use Rattle.sgb_gen.proofs.Reaches.{sizes_of_sides, moves_until, moves_from-until, rides}
 
 -- ---- the product over the sides
@@ -124,7 +125,7 @@ passing-le : {X : Type 0} (p : X → Bool) (xs : List X) → passing p xs ≤ le
 passing-le p [] = omega arith
 passing-le p (x ∷ xs) =
     let rest = passing-le p xs in
-    let here = one_more (p x) x (filter p xs) in
+    let here = passing_first (p x) x (filter p xs) in
     elim (p x) as (λ b. length (cond b (x ∷ filter p xs) (filter p xs)) ≤ length (x ∷ xs)) [
       | true ↦ omega (arith, rest)
       | false ↦ omega (arith, rest)

@@ -1,10 +1,11 @@
 -- From a place of a board, where l steps of a displacement lead out of it, so does one step more.
 use Rattle.std.proofs.Common.{◌≡◌, ℕ, ◌+◌, ◌*◌, ◌<◌, ◌≤◌, ◌⊎◌, ℤ, pos, negsuc, ◌+ℤ◌, ◌*ℤ◌, nat_abs, Bool, true, false, suc, cond, ltb, List, [], ◌∷◌, map, Option, Some, None, refl, sym, ap, ◌∙◌, inl, inr, arith}
 use Rattle.std.specs.Int.{int_rem_euclid}
-use Rattle.std.proofs.lemmas.Bool.{cases_lt, cond-true, cond-false, lt-ltb, le-ltb}
+use Rattle.std.proofs.lemmas.Bool.{cases_lt, cond-true, lt-ltb}
 use Rattle.std.proofs.lemmas.Int.{ints}
 use Rattle.sgb_vec.specs.Lexicographic.{IsBelow}
 use Rattle.sgb_gen.specs.Moves.{Side, within_size, coordinate_on, in_front, place}
+use Rattle.sgb_gen.proofs.BoundedMoves.{in_front-none, past_size}
 
 -- what is not within a side
 outside : (n y : ℕ) → within_size n (pos y) ≡ None → n ≤ y
@@ -14,19 +15,15 @@ outside n y e =
       | inr more ↦ more
     ]
 
-outside-from : (n : ℕ) (y : ℤ) → ((c : ℕ) → y ≡ pos c → n ≤ c) → within_size n y ≡ None
-outside-from n (pos c) h = cond-false (ltb c n) (Some c) None (le-ltb c n (h c refl))
-outside-from n (negsuc c) h = refl
-
 -- one step more on a side that does not wrap
 farther_on : (n x l : ℕ) (u : ℤ) → x < n → within_size n (pos x +ℤ pos l *ℤ u) ≡ None → within_size n (pos x +ℤ pos (l + 1) *ℤ u) ≡ None
 farther_on n x l (pos a) h e =
     let far : n ≤ x + l * a = outside n (x + l * a) e in
     let more : (l + 1) * a ≡ l * a + a = omega arith in
-    outside-from n (pos x +ℤ pos (l + 1) *ℤ pos a) (λ c f. omega (arith, ints, f, far, more))
+    past_size n (pos x +ℤ pos (l + 1) *ℤ pos a) (λ c f. omega (arith, ints, f, far, more))
 farther_on n x l (negsuc a) h e =
     let more : (l + 1) * suc a ≡ l * suc a + suc a = omega arith in
-    outside-from n (pos x +ℤ pos (l + 1) *ℤ negsuc a) (λ c f.
+    past_size n (pos x +ℤ pos (l + 1) *ℤ negsuc a) (λ c f.
     let there : pos x +ℤ pos l *ℤ negsuc a ≡ pos (c + suc a) = omega (arith, ints, f, more) in
     let far : n ≤ c + suc a = outside n (c + suc a) (ap (within_size n) (sym there) ∙ e) in
     absurd (omega (arith, ints, f, far, more)))
@@ -39,10 +36,6 @@ none_parts : (o : Option ℕ) (p : Option (List ℕ)) → in_front o p ≡ None 
 none_parts (Some c) (Some w) e = absurd (cc)
 none_parts (Some c) None e = inr refl
 none_parts None p e = inl refl
-
-in_front-none : (o : Option ℕ) → in_front o None ≡ None
-in_front-none (Some x) = refl
-in_front-none None = refl
 
 pub farther : (sides : List Side) (x : List ℕ) (t : List ℤ) (l : ℕ) → IsBelow x (map (λ s. s.size) sides) → place sides x t l ≡ None → place sides x t (l + 1) ≡ None
 farther [] x t l b e = absurd (cc)

@@ -1,13 +1,13 @@
 -- Steps of a displacement that lead from a place back to it: whether they do does not depend on the place.
-use Rattle.std.proofs.Common.{◌≡◌, ℕ, ◌+◌, ◌<◌, ◌%◌, ℤ, pos, negsuc, ◌+ℤ◌, ◌*ℤ◌, neg_ℤ, nat_abs, Bool, true, false, cond, eqb, ltb, List, [], ◌∷◌, map, Option, Some, None, refl, sym, ap, ap₂, ◌∙◌, inl, inr, arith, zero-add}
+use Rattle.std.proofs.Common.{◌≡◌, ℕ, ◌+◌, ◌<◌, ◌%◌, ℤ, pos, negsuc, ◌+ℤ◌, ◌*ℤ◌, neg_ℤ, nat_abs, Bool, true, false, cond, eqb, ltb, List, [], ◌∷◌, map, Some, None, refl, sym, ap, ap₂, ◌∙◌, arith, zero-add}
 use Rattle.std.proofs.Math.Nat.{mod-eq_of_lt}
 use Rattle.std.specs.Int.{int_rem_euclid}
-use Rattle.std.proofs.lemmas.Bool.{cases_lt, cond-true, cond-false, lt-ltb, le-ltb, eqb-true, eq-eqb, and_parts, and_from}
+use Rattle.std.proofs.lemmas.Bool.{cond-true, lt-ltb, eqb-true, eq-eqb, and_parts, and_from}
 use Rattle.std.proofs.lemmas.Int.{ints}
 use Rattle.sgb_vec.specs.Lexicographic.{IsBelow}
 use Rattle.sgb_gen.specs.Moves.{Side, within_size, coordinate_on, in_front, place}
 use Rattle.sgb_gen.specs.inner.BoardCounts.{is_home_on, is_home}
-use Rattle.sgb_gen.proofs.TurnedMoves.{rem-moved}
+use Rattle.sgb_gen.proofs.TurnedMoves.{in_front-parts, rem-moved, within_is}
 
 -- ---- one side
 
@@ -34,17 +34,6 @@ inside-to n x (pos a) h e =
     ap (λ m. within_size n (pos m)) still ∙ cond-true (ltb x n) (Some x) None (lt-ltb x n h)
 inside-to n x (negsuc a) h e = absurd (omega (arith, e))
 
--- what is within a side is the number itself
-within_is : (n : ℕ) (y : ℤ) (c : ℕ) → within_size n y ≡ Some c → y ≡ pos c
-within_is n (pos y) c e =
-    elim (cases_lt y n) [
-      | inl less ↦
-          let same : y ≡ c = cc (cond-true (ltb y n) (Some y) None (lt-ltb y n less)) in
-          ap pos same
-      | inr more ↦ absurd (cc (cond-false (ltb y n) (Some y) None (le-ltb y n more)))
-    ]
-within_is n (negsuc y) c e = absurd (cc)
-
 inside-from : (n x : ℕ) (u : ℤ) → within_size n (pos x +ℤ u) ≡ Some x → nat_abs u ≡ 0
 inside-from n x (pos a) e = let is = within_is n (pos x +ℤ pos a) x e in omega (arith, ints, is)
 inside-from n x (negsuc a) e = let is = within_is n (pos x +ℤ negsuc a) x e in absurd (omega (arith, ints, is))
@@ -60,14 +49,6 @@ chosen-from true n x u h e =
 chosen-from false n x u h e = eq-eqb (nat_abs u) 0 (inside-from n x u e)
 
 -- ---- all sides
-
-front_parts : (o : Option ℕ) (p : Option (List ℕ)) (x : ℕ) (v : List ℕ) → in_front o p ≡ Some (x ∷ v) → (o ≡ Some x) × (p ≡ Some v)
-front_parts (Some c) (Some w) x v e =
-    let first : c ≡ x = cc in
-    let rest : w ≡ v = cc in
-    (ap Some first, ap Some rest)
-front_parts (Some c) None x v e = absurd (cc)
-front_parts None p x v e = absurd (cc)
 
 -- where the steps lead home, they do from each place
 pub home-to : (sides : List Side) (x : List ℕ) (t : List ℤ) (l : ℕ) → IsBelow x (map (λ s. s.size) sides) → is_home sides t l ≡ true → place sides x t l ≡ Some x
@@ -85,5 +66,5 @@ home-from [] x t l b e = refl
 home-from (s ∷ sides) [] t l b e = absurd b
 home-from (s ∷ sides) (y ∷ x) [] l b e = absurd (cc)
 home-from (s ∷ sides) (y ∷ x) (u ∷ t) l b e =
-    let parts = front_parts (coordinate_on s (pos y +ℤ pos l *ℤ u)) (place sides x t l) y x e in
+    let parts = in_front-parts (coordinate_on s (pos y +ℤ pos l *ℤ u)) (place sides x t l) y x e in
     and_from (is_home_on s (pos l *ℤ u)) (is_home sides t l) (chosen-from s.wraps s.size y (pos l *ℤ u) b.0 parts.0) (home-from sides x t l b.1 parts.1)

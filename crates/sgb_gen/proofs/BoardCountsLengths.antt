@@ -7,13 +7,15 @@ use Rattle.std.specs.Option.{is_some, option_map_or}
 use Rattle.std.proofs.lemmas.Bool.{cases_Bool}
 use Rattle.std.proofs.lemmas.List.Elements.{All-head, All-tail, All-weaker}
 use Rattle.sgb_vec.specs.Lexicographic.{IsBelow}
+use Rattle.sgb_vec.proofs.Lists.{passing_first}
 use Rattle.sgb_gen.specs.Moves.{Side, place, is_elsewhere}
 use Rattle.sgb_gen.specs.VectorGraphs.{same_vector}
 use Rattle.sgb_gen.specs.inner.BoardCounts.{is_home, comes_home, starts_count}
 use Rattle.sgb_gen.specs.inner.Moves.{destination}
 use Rattle.sgb_gen.proofs.BoardCountsFarther.{farther}
 use Rattle.sgb_gen.proofs.BoardCountsHome.{home-to, home-from}
-use Rattle.sgb_gen.proofs.BoardCountsStarts.{passing, one_more}
+use Rattle.sgb_gen.proofs.BoardCountsStarts.{passing}
+use Rattle.sgb_gen.proofs.BoundedMoves.{destination-none}
 use Rattle.sgb_gen.proofs.Reaches.{move, moves_until}
 
 -- ---- any way from places
@@ -41,7 +43,7 @@ onward-first g m n (x ∷ xs) h =
     let Stops = λ (y : List ℕ). g y m ≡ None → g y (m + 1) ≡ None in
     let own = until-first x (g x) m n (g x m) refl (All-head Stops x xs h) in
     let others = onward-first g m n xs (All-tail Stops x xs h) in
-    let here = one_more (is_some (g x m)) x (filter (λ y. is_some (g y m)) xs) in
+    let here = passing_first (is_some (g x m)) x (filter (λ y. is_some (g y m)) xs) in
     let before = length-append (moves_until x (g x) (range_with_len m (suc n))) (flat_map (λ y. moves_until y (g y) (range_with_len m (suc n))) xs) in
     let after = length-append (moves_until x (g x) (range_with_len (m + 1) n)) (flat_map (λ y. moves_until y (g y) (range_with_len (m + 1) n)) xs) in
     omega (arith, own, others, here, before, after)
@@ -54,7 +56,7 @@ none_first g m n x None others e h = until-out x (g x) m n e
 onward-none : (g : List ℕ → ℕ → Option (List ℕ)) (m n : ℕ) (xs : List (List ℕ)) → passing (λ x. is_some (g x m)) xs ≡ 0 → moves_onward g xs m n ≡ 0
 onward-none g m n [] h = refl
 onward-none g m n (x ∷ xs) h =
-    let here = one_more (is_some (g x m)) x (filter (λ y. is_some (g y m)) xs) in
+    let here = passing_first (is_some (g x m)) x (filter (λ y. is_some (g y m)) xs) in
     let own = none_first g m n x (g x m) (passing (λ y. is_some (g y m)) xs) refl (sym here ∙ h) in
     let rest = flat_map (λ y. moves_until y (g y) (range_with_len m n)) xs in
     ap (λ ms. length (ms ++ rest)) own ∙ onward-none g m n xs (omega (arith, here, h))
@@ -90,19 +92,15 @@ pub going : (sides : List Side) (piece : ℤ) (x : List ℕ) (t : List ℤ) (l :
 going sides (pos p) x t l b e = refl
 going sides (negsuc p) x t l b e = away_leads x (place sides x t l) (λ h. sym (home-from sides x t l b h) ∙ e)
 
-nowhere : (sides : List Side) (piece : ℤ) (x : List ℕ) (t : List ℤ) (l : ℕ) → place sides x t l ≡ None → destination sides piece x t l ≡ None
-nowhere sides (pos p) x t l h = h
-nowhere sides (negsuc p) x t l h = ap (λ o. cond (is_elsewhere x o) o None) h
-
 stops : (sides : List Side) (piece : ℤ) (x : List ℕ) (t : List ℤ) (l : ℕ) → IsBelow x (map (λ s. s.size) sides) → comes_home sides piece t l ≡ false → destination sides piece x t l ≡ None → destination sides piece x t (l + 1) ≡ None
 stops sides piece x t l b e h =
-    nowhere sides piece x t (l + 1) (farther sides x t l b (sym (going sides piece x t l b e) ∙ h))
+    destination-none sides piece x t (l + 1) (farther sides x t l b (sym (going sides piece x t l b e) ∙ h))
 
 -- at home no place leads anywhere
 some_none : {X : Type 0} (p : X → Bool) (xs : List X) → All (λ x. p x ≡ false) xs → passing p xs ≡ 0
 some_none p [] h = refl
 some_none p (x ∷ xs) h =
-    let here = one_more (p x) x (filter p xs) in
+    let here = passing_first (p x) x (filter p xs) in
     let first = ap {B = ℕ} (λ b. cond b 1 0) (All-head (λ y. p y ≡ false) x xs h) in
     omega (arith, here, first, some_none p xs (All-tail (λ y. p y ≡ false) x xs h))
 
@@ -116,8 +114,8 @@ starts-home sides (negsuc p) xs t l b e =
 same_passing : {X : Type 0} (p q : X → Bool) (xs : List X) → All (λ x. p x ≡ q x) xs → passing p xs ≡ passing q xs
 same_passing p q [] h = refl
 same_passing p q (x ∷ xs) h =
-    let here = one_more (p x) x (filter p xs) in
-    let there = one_more (q x) x (filter q xs) in
+    let here = passing_first (p x) x (filter p xs) in
+    let there = passing_first (q x) x (filter q xs) in
     let first = ap {B = ℕ} (λ b. cond b 1 0) (All-head (λ y. p y ≡ q y) x xs h) in
     omega (arith, here, there, first, same_passing p q xs (All-tail (λ y. p y ≡ q y) x xs h))
 

@@ -3,30 +3,25 @@ use Rattle.std.proofs.Common.{◌≡◌, ℕ, zero, suc, ◌+◌, ◌-◌, ◌*�
 use Rattle.std.specs.Int.{int_rem_euclid}
 use Rattle.std.specs.List.{filter, flat_map, range_with_len}
 use Rattle.std.specs.Option.{is_some}
-use Rattle.std.proofs.lemmas.Bool.{cases_lt, cond-true, cond-false, lt-ltb, le-ltb}
+use Rattle.std.proofs.lemmas.Bool.{cases_lt, cond-false, le-ltb}
 use Rattle.std.proofs.lemmas.Int.{ints}
 use Rattle.std.proofs.lemmas.List.Elements.{filter-append}
 use Rattle.std.proofs.lemmas.List.FromFn.{length-range_with_len}
 use Rattle.sgb_vec.specs.Boxes.{box}
+use Rattle.sgb_vec.proofs.Lists.{passing_first}
 use Rattle.sgb_gen.specs.Moves.{Side, within_size, coordinate_on, in_front, place}
 use Rattle.sgb_gen.specs.inner.BoardCounts.{starts_on, starts_product}
+use Rattle.sgb_gen.proofs.BoundedMoves.{on_side}
 
 -- how many of them pass
 abbrev pub passing : {X : Type 0} → (X → Bool) → List X → ℕ
 passing p xs = length (filter p xs)
-
-pub one_more : {X : Type 0} (b : Bool) (x : X) (xs : List X) → length (cond b (x ∷ xs) xs) ≡ cond b 1 0 + length xs
-one_more true x xs = omega arith
-one_more false x xs = omega arith
 
 -- ---- one side
 
 all_pass : {X : Type 0} (xs : List X) → passing (λ x. true) xs ≡ length xs
 all_pass [] = refl
 all_pass (x ∷ xs) = ap suc (all_pass xs)
-
-left-some : (n y : ℕ) → y < n → is_some (within_size n (pos y)) ≡ true
-left-some n y h = ap is_some (cond-true (ltb y n) (Some y) None (lt-ltb y n h))
 
 left-none : (n y : ℕ) → n ≤ y → is_some (within_size n (pos y)) ≡ false
 left-none n y h = ap is_some (cond-false (ltb y n) (Some y) None (le-ltb y n h))
@@ -37,9 +32,9 @@ forward n m zero a e = omega arith
 forward n m (suc k) a e =
     let p : ℕ → Bool = λ x. is_some (within_size n (pos x +ℤ pos a)) in
     let rest = forward n (m + 1) k a (omega arith) in
-    let first = one_more (p m) m (filter p (range_with_len (m + 1) k)) in
+    let first = passing_first (p m) m (filter p (range_with_len (m + 1) k)) in
     elim (cases_lt a (suc k)) [
-      | inl less ↦ first ∙ ap (λ b. cond b 1 0 + passing p (range_with_len (m + 1) k)) (left-some n (m + a) (omega arith)) ∙ omega (arith, rest)
+      | inl less ↦ first ∙ ap (λ b. cond b 1 0 + passing p (range_with_len (m + 1) k)) (on_side n (m + a) (omega arith)) ∙ omega (arith, rest)
       | inr more ↦ first ∙ ap (λ b. cond b 1 0 + passing p (range_with_len (m + 1) k)) (left-none n (m + a) (omega arith)) ∙ omega (arith, rest)
     ]
 
@@ -47,7 +42,7 @@ forward n m (suc k) a e =
 back-some : (n x a : ℕ) → x < n → a < x → is_some (within_size n (pos x +ℤ negsuc a)) ≡ true
 back-some n x a h g =
     let there : pos x +ℤ negsuc a ≡ pos (x - suc a) = omega (arith, ints) in
-    ap (λ z. is_some (within_size n z)) there ∙ left-some n (x - suc a) (omega arith)
+    ap (λ z. is_some (within_size n z)) there ∙ on_side n (x - suc a) (omega arith)
 
 back-none : (n x a : ℕ) → x ≤ a → is_some (within_size n (pos x +ℤ negsuc a)) ≡ false
 back-none n x a g =
@@ -59,7 +54,7 @@ backward n m zero a e = omega arith
 backward n m (suc k) a e =
     let p : ℕ → Bool = λ x. is_some (within_size n (pos x +ℤ negsuc a)) in
     let rest = backward n (m + 1) k a (omega arith) in
-    let first = one_more (p m) m (filter p (range_with_len (m + 1) k)) in
+    let first = passing_first (p m) m (filter p (range_with_len (m + 1) k)) in
     elim (cases_lt a m) [
       | inl less ↦ first ∙ ap (λ b. cond b 1 0 + passing p (range_with_len (m + 1) k)) (back-some n m a (omega arith) less) ∙ omega (arith, rest)
       | inr more ↦ first ∙ ap (λ b. cond b 1 0 + passing p (range_with_len (m + 1) k)) (back-none n m a more) ∙ omega (arith, rest)
@@ -78,11 +73,11 @@ row_passing p true r x e [] = refl
 row_passing p false r x e [] = refl
 row_passing p true r x e (v ∷ vs) =
     let rest = row_passing p true r x e vs in
-    one_more (p (x ∷ v)) (x ∷ v) (filter p (map (λ w. x ∷ w) vs)) ∙ ap (λ b. cond b 1 0 + passing p (map (λ w. x ∷ w) vs)) (e v)
-    ∙ ap (λ n. cond (r v) 1 0 + n) rest ∙ sym (one_more (r v) v (filter r vs))
+    passing_first (p (x ∷ v)) (x ∷ v) (filter p (map (λ w. x ∷ w) vs)) ∙ ap (λ b. cond b 1 0 + passing p (map (λ w. x ∷ w) vs)) (e v)
+    ∙ ap (λ n. cond (r v) 1 0 + n) rest ∙ sym (passing_first (r v) v (filter r vs))
 row_passing p false r x e (v ∷ vs) =
     let rest = row_passing p false r x e vs in
-    one_more (p (x ∷ v)) (x ∷ v) (filter p (map (λ w. x ∷ w) vs)) ∙ ap (λ b. cond b 1 0 + passing p (map (λ w. x ∷ w) vs)) (e v)
+    passing_first (p (x ∷ v)) (x ∷ v) (filter p (map (λ w. x ∷ w) vs)) ∙ ap (λ b. cond b 1 0 + passing p (map (λ w. x ∷ w) vs)) (e v)
     ∙ omega (arith, rest)
 
 row_times : (b : Bool) (n m : ℕ) → cond b m 0 + n * m ≡ (cond b 1 0 + n) * m
@@ -98,7 +93,7 @@ rows_passing p q r e vs (x ∷ xs) =
     ∙ ap (λ n. n + passing p rest) (row_passing p (q x) r x (e x) vs)
     ∙ ap (λ n. cond (q x) (passing r vs) 0 + n) (rows_passing p q r e vs xs)
     ∙ row_times (q x) (passing q xs) (passing r vs)
-    ∙ ap (λ n. n * passing r vs) (sym (one_more (q x) x (filter q xs)))
+    ∙ ap (λ n. n * passing r vs) (sym (passing_first (q x) x (filter q xs)))
 
 front_test : (o : Option ℕ) (p : Option (List ℕ)) → is_some (in_front o p) ≡ (is_some o && is_some p)
 front_test (Some x) (Some v) = refl

@@ -3,8 +3,8 @@
 use Rattle.std.proofs.Common.{◌≡◌, ℕ, zero, suc, ◌+◌, ◌-◌, ◌<◌, ◌≤◌, min, ℤ, pos, negsuc, ◌+ℤ◌, ◌*ℤ◌, nat_abs, Bool, true, false, cond, eqb, ltb, List, [], ◌∷◌, ◌++◌, length, map, replicate, get_or, drop, Option, Some, None, refl, sym, ap, subst, ◌∙◌, inl, inr, arith, append_assoc, append-nil, length-append}
 use Rattle.std.specs.Int.{int_rem_euclid}
 use Rattle.std.specs.List.{filter, flat_map, range_with_len}
-use Rattle.std.specs.Option.{option_map_or}
-use Rattle.std.proofs.lemmas.Bool.{cases_Bool, cases_lt, cond-false, le-ltb, eqb-true}
+use Rattle.std.specs.Option.{is_some, option_map_or}
+use Rattle.std.proofs.lemmas.Bool.{cases_Bool, cases_lt, cond-true, cond-false, lt-ltb, le-ltb, eqb-true}
 use Rattle.std.proofs.lemmas.Bool.Decides.{nat_tests}
 use Rattle.std.proofs.lemmas.Grind.{flat_map-append}
 use Rattle.std.proofs.lemmas.Int.{ints}
@@ -62,8 +62,11 @@ length-entry_bounds p sizes wrap =
 
 -- ---- off the board
 
--- a coordinate that is not below the size
-past_size : (n : ℕ) (y : ℤ) → ((c : ℕ) → y ≡ pos c → n ≤ c) → within_size n y ≡ None
+-- a coordinate that is below the size, and one that is not
+pub on_side : (n y : ℕ) → y < n → is_some (within_size n (pos y)) ≡ true
+on_side n y h = ap is_some (cond-true (ltb y n) (Some y) None (lt-ltb y n h))
+
+pub past_size : (n : ℕ) (y : ℤ) → ((c : ℕ) → y ≡ pos c → n ≤ c) → within_size n y ≡ None
 past_size n (pos c) h = cond-false (ltb c n) (Some c) None (le-ltb c n (h c refl))
 past_size n (negsuc c) h = refl
 
@@ -77,7 +80,7 @@ off_wrapped : (wraps : Bool) (n p z : ℕ) (u : ℤ) → z < n → cond wraps p 
 off_wrapped true n p z u h far small = absurd (omega arith)
 off_wrapped false n p z u h far small = off_side n z u h far
 
-in_front-none : (o : Option ℕ) → in_front o None ≡ None
+pub in_front-none : (o : Option ℕ) → in_front o None ≡ None
 in_front-none (Some x) = refl
 in_front-none None = refl
 
@@ -93,7 +96,7 @@ place-off p (s ∷ sides) (z ∷ x) (u ∷ t) (suc k) b h far small =
     ∙ in_front-none (coordinate_on s (pos z +ℤ pos 1 *ℤ u))
 
 -- a piece with no place at length 1 makes no move
-destination-none : (sides : List Side) (piece : ℤ) (x : List ℕ) (t : List ℤ) (l : ℕ) → place sides x t l ≡ None → destination sides piece x t l ≡ None
+pub destination-none : (sides : List Side) (piece : ℤ) (x : List ℕ) (t : List ℤ) (l : ℕ) → place sides x t l ≡ None → destination sides piece x t l ≡ None
 destination-none sides (pos p) x t l h = h
 destination-none sides (negsuc p) x t l h = ap (λ o. cond (is_elsewhere x o) o None) h
 

@@ -8,10 +8,10 @@ use Rattle.std.proofs.lemmas.Bool.{cases_Bool}
 use Rattle.std.proofs.lemmas.Bool.Decides.{Decides-eqb}
 use Rattle.std.proofs.lemmas.Grind.{flat_map-append}
 use Rattle.std.proofs.lemmas.List.{reverse-append}
-use Rattle.std.proofs.lemmas.List.Elements.{All-cons, All-contains, All-contains_itself, All-head, All-nil, All-tail, filter-append, filter_passes}
+use Rattle.std.proofs.lemmas.List.Elements.{All-cons, All-contains, All-contains_itself, All-nil, filter-append, filter_passes}
 use Rattle.sgb_vec.specs.Boxes.{box}
 use Rattle.sgb_vec.specs.Lexicographic.{IsBefore, IsBelow, IsRising}
-use Rattle.sgb_vec.specs.inner.Rising.{box_vectors_rise}
+use Rattle.sgb_vec.proofs.FamilyLaws.{box_vectors_rise}
 use Rattle.sgb_vec.proofs.BoxPlaces.{Contains-from_IsBelow, IsBelow-from_Contains}
 use Rattle.sgb_gen.specs.Boards.{BoardData, board_vectors, moves_of_board}
 use Rattle.sgb_gen.specs.Displacements.{displacements, signings, sum_of_squares}
@@ -27,7 +27,7 @@ use Rattle.sgb_gen.proofs.DisplacementWalk.{entries-small}
 use Rattle.sgb_gen.proofs.MoveLists.{HasEnds, list_at-moves}
 use Rattle.sgb_gen.proofs.MovesInOrder.{all_lead, all_start}
 use Rattle.sgb_gen.proofs.NextSignings.{sizes_of}
-use Rattle.sgb_vec.proofs.Lists.{All-flat_map, AllPairs-first, AllPairs-others, Contains-cases, Contains-none, filter-none}
+use Rattle.sgb_vec.proofs.Lists.{All-flat_map, AllPairs-first, AllPairs-others, Contains-cases, Contains-none, filter-all, filter-none}
 use Rattle.sgb_gen.proofs.OrderedLists.{before_none}
 use Rattle.sgb_gen.proofs.Reaches.{destination-below, move, moves_from-until, moves_until}
 
@@ -68,10 +68,6 @@ list_turned directed x (m ∷ ms) =
 
 -- ---- the moves from one vector
 
-pub passing_all : {X : Type 0} (p : X → Bool) (xs : List X) → All (λ x. p x ≡ true) xs → filter p xs ≡ xs
-passing_all p [] h = refl
-passing_all p (x ∷ xs) h = ap (λ c. cond c (x ∷ filter p xs) (filter p xs)) (All-head (λ y. p y ≡ true) x xs h) ∙ ap (λ ys. x ∷ ys) (passing_all p xs (All-tail (λ y. p y ≡ true) x xs h))
-
 module _ (sides : List Side) (piece : ℤ) (t : List ℤ) (x : List ℕ) where
   abbrev starts_here : Move → Bool
   starts_here m = same_vector m.from x
@@ -92,7 +88,7 @@ module _ (sides : List Side) (piece : ℤ) (t : List ℤ) (x : List ℕ) where
       ∙ elim (cases_Bool (same_vector v x)) [
         | inl same ↦
             let is : v ≡ x = (bytes_decides v x).0 same in
-            let all : filter starts_here own ≡ own = passing_all starts_here own
+            let all : filter starts_here own ≡ own = filter-all starts_here own
             (λ k d within. ap (λ w. same_vector w x) (all_lead sides piece t v k d within).0 ∙ same) in
             let none : filter starts_here rest ≡ [] = filter-none starts_here rest
             (λ k d within.

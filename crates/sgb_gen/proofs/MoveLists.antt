@@ -1,19 +1,19 @@
 -- The list of a vector, as the moves that touch it make it.
-use Rattle.std.proofs.Common.{◌≡◌, ℕ, ◌+◌, min, max, ℤ, pos, Bool, true, false, cond, List, [], ◌∷◌, ◌++◌, length, map, get_or, refl, sym, ap, ap₂, ◌∙◌, inl, inr, arith, append-nil, append_assoc}
+use Rattle.std.proofs.Common.{◌≡◌, ℕ, ◌+◌, min, max, ℤ, pos, Bool, true, false, cond, List, [], ◌∷◌, ◌++◌, length, map, get_or, Some, refl, sym, ap, ap₂, subst, ◌∙◌, inl, inr, arith, append-nil, append_assoc}
 use Rattle.std.specs.Prelude.{◌==◌}
 use Rattle.std.specs.Cmp.Lexicographic.{bytes_decides}
-use Rattle.std.specs.List.{All, Contains}
+use Rattle.std.specs.List.{All, Contains, slice_get}
 use Rattle.std.proofs.lemmas.Bool.{cases_lt}
 use Rattle.std.proofs.lemmas.Bool.Decides.{Decides-eqb}
 use Rattle.std.proofs.lemmas.List.{map-append}
-use Rattle.std.proofs.lemmas.List.Elements.{All-head, All-tail}
-use Rattle.std.proofs.lemmas.Option.{get_or_from_slice_get}
+use Rattle.std.proofs.lemmas.List.Elements.{All-append, All-cons, All-head, All-nil, All-tail}
+use Rattle.std.proofs.lemmas.Option.{get_or_from_slice_get, slice_get_within}
 use Rattle.sgb_vec.specs.Lexicographic.{IsRising}
 use Rattle.sgb_graph.specs.Events.{links_at, list_from, records_of}
 use Rattle.sgb_graph.specs.declared.fields.Link.{Link}
 use Rattle.sgb_graph.proofs.EventLemmas.{list_none, list_first}
 use Rattle.sgb_gen.specs.VectorGraphs.{Move, event_among, same_vector, vertex_among}
-use Rattle.sgb_gen.specs.inner.LocalArcs.{arcs_by, arcs_of_moves}
+use Rattle.sgb_gen.specs.inner.LocalArcs.{arc_if, arcs_by, arcs_of_moves}
 use Rattle.sgb_gen.specs.LocalLists.{LocalArc, local_arc, list_at}
 use Rattle.sgb_gen.proofs.RisingVectors.{at_vertex}
 use Rattle.sgb_vec.proofs.Lists.{same_tests}
@@ -109,3 +109,33 @@ module _ (vectors : List (List ℕ)) (rise : IsRising vectors) where
   pub list_at-moves : (directed : Bool) (x : List ℕ) (moves : List Move) → Contains vectors x → All (HasEnds vectors) moves → list_at directed vectors moves x ≡ arcs_of_moves directed x moves
   unfolding list_at
   list_at-moves directed x moves hx ends = from_moves directed x 0 moves hx ends
+
+-- an arc leads to one of these vectors
+abbrev HasTipIn : List (List ℕ) → LocalArc → Type 0
+HasTipIn vectors arc = Contains vectors arc.tip
+
+-- so do the arcs that moves between them make
+tip_if : (vectors : List (List ℕ)) (touches : Bool) (tip : List ℕ) (len : ℕ) → Contains vectors tip → All (HasTipIn vectors) (arc_if touches tip len)
+tip_if vectors true tip len there = All-cons (HasTipIn vectors) _ [] there (All-nil (HasTipIn vectors))
+tip_if vectors false tip len there = All-nil (HasTipIn vectors)
+
+tips_by : (vectors : List (List ℕ)) (directed : Bool) (x : List ℕ) (m : Move) → HasEnds vectors m → All (HasTipIn vectors) (arcs_by directed x m)
+tips_by vectors true x m ends = tip_if vectors (same_vector m.from x) m.to m.len ends.1
+tips_by vectors false x m ends =
+    All-append (HasTipIn vectors) (arc_if (same_vector m.from x) m.to m.len) (arc_if (same_vector m.to x) m.from m.len)
+    (tip_if vectors (same_vector m.from x) m.to m.len ends.1) (tip_if vectors (same_vector m.to x) m.from m.len ends.0)
+
+tips_of_moves : (vectors : List (List ℕ)) (directed : Bool) (x : List ℕ) (moves : List Move) → All (HasEnds vectors) moves → All (HasTipIn vectors) (arcs_of_moves directed x moves)
+tips_of_moves vectors directed x [] ends = All-nil (HasTipIn vectors)
+tips_of_moves vectors directed x (m ∷ moves) ends =
+    All-append (HasTipIn vectors) (arcs_of_moves directed x moves) (arcs_by directed x m)
+    (tips_of_moves vectors directed x moves (All-tail (HasEnds vectors) m moves ends)) (tips_by vectors directed x m (All-head (HasEnds vectors) m moves ends))
+
+-- and each arc of a list
+pub tip_at : (vectors : List (List ℕ)) (directed : Bool) (x : List ℕ) (moves : List Move) (k : ℕ) (arc : LocalArc) → IsRising vectors → All (HasEnds vectors) moves → Contains vectors x
+    → slice_get (list_at directed vectors moves x) k ≡ Some arc → Contains vectors arc.tip
+tip_at vectors directed x moves k arc rise ends member there =
+    let all = list_at directed vectors moves x in
+    let each : All (HasTipIn vectors) all =
+    subst (All (HasTipIn vectors)) (sym (list_at-moves vectors rise directed x moves member ends)) (tips_of_moves vectors directed x moves ends) in
+    subst (HasTipIn vectors) (get_or_from_slice_get all k arc arc there) (each k arc (slice_get_within all k arc there))

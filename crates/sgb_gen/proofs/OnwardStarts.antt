@@ -11,15 +11,14 @@ use Rattle.std.proofs.lemmas.List.Elements.{All-head, All-map, All-tail, All-wea
 use Rattle.std.proofs.lemmas.List.Sorted.{All-permutation, Contains-permutation, IsPermutation-append, IsPermutation-append_comm, IsPermutation-refl, IsPermutation-reverse, IsPermutation-trans}
 use Rattle.sgb_vec.specs.Boxes.{box}
 use Rattle.sgb_vec.specs.Lexicographic.{IsBefore, IsBelow}
-use Rattle.sgb_vec.specs.inner.Rising.{box_vectors_rise}
-use Rattle.sgb_vec.proofs.Lists.{All-reverse, AllPairs-append, AllPairs-follows, AllPairs-map, AllPairs-reverse, reverse-first}
+use Rattle.sgb_vec.proofs.FamilyLaws.{box_vectors_rise}
+use Rattle.sgb_vec.proofs.Lists.{All-reverse, AllPairs-append, AllPairs-follows, AllPairs-map, AllPairs-reverse, filter-all, reverse-first}
 use Rattle.sgb_gen.specs.Boards.{BoardData}
 use Rattle.sgb_gen.specs.inner.LocalBoards.{arcs_onward, edge_arcs, move_arc, moves_by, other_starts, starts_of}
 use Rattle.sgb_gen.specs.LocalLists.{LocalArc}
 use Rattle.sgb_gen.specs.Moves.{LeadsTo, Side, moves_from, opposite, sides_of}
 use Rattle.sgb_gen.specs.inner.Moves.{destination, leads_onward}
 use Rattle.sgb_gen.specs.VectorGraphs.{Move, vertex_among}
-use Rattle.sgb_gen.proofs.ListsOfBoards.{passing_all}
 use Rattle.sgb_gen.proofs.MovesInOrder.{all_lead, lengths_rise, vertices_in_order}
 use Rattle.sgb_gen.proofs.OnwardMoves.{back_earlier, farther_earlier, onward_elsewhere, some_length}
 use Rattle.sgb_gen.proofs.TouchingMoves.{IsEarlier, below, first_less, in_order_same, leads_there, onward_by_touching, second_less, starts_touch, touching, touching_found, vector_there}
@@ -108,7 +107,7 @@ module _ (b : BoardData) (t : List ℤ) (x : List ℕ) (there : Contains (box b.
   all_others =
       let far : Move → Bool = λ m. not (vertex_among vectors m.to == u) in
       ap (map from_behind)
-      (passing_all far behind
+      (filter-all far behind
       (λ k d within.
       let m = get_or behind k d in
       let less = behind_less m (all_lead sides b.piece (opposite t) x k d within) in

@@ -1,12 +1,12 @@
 -- Arcs that are put behind others, pair of places by pair.
-use Rattle.std.proofs.Common.{◌≡◌, ℕ, zero, suc, pos, Bool, true, false, cond, if◌then◌else◌, ◌+◌, ◌<◌, ◌≤◌, List, [], ◌∷◌, ◌++◌, map, reverse, refl, sym, ap, ◌∙◌, arith, append-nil, append_assoc, ◌-◌}
+use Rattle.std.proofs.Common.{◌≡◌, ℕ, pos, Bool, true, false, cond, if◌then◌else◌, ◌+◌, ◌<◌, ◌≤◌, List, [], ◌∷◌, ◌++◌, map, reverse, refl, sym, ap, ◌∙◌, arith, append-nil, append_assoc, ◌-◌}
 use Rattle.std.specs.List.{flat_map, range_with_len}
 use Rattle.std.proofs.lemmas.List.{reverse-append}
 use Rattle.std.proofs.lemmas.List.Concat.{flat_map-append}
 use Rattle.sgb_gen.specs.LocalLists.{LocalArc, LinksData}
 use Rattle.sgb_gen.specs.inner.LocalSimplexes.{arc_by_unit, can_return, returned, arcs_back, arcs_on, pairs_down, with_arcs}
 use Rattle.sgb_gen.specs.Simplexes.{Places, can_move_unit, unit_moved, can_shift, shifted, pairs_from, pairs_of_places}
-use Rattle.sgb_vec.proofs.Lists.{made-append}
+use Rattle.sgb_vec.proofs.Lists.{made-append, range-more}
 use Rattle.sgb_gen.proofs.SimplexEvents.{pairs_left, pairs_left-next, pairs_left-none, pairs_after, pairs_after-all, pairs_after-next, pairs_after-none}
 
 -- no arcs
@@ -63,16 +63,6 @@ after-all n = ap reverse (pairs_after-all n)
 -- those of the places below j
 abbrev pub pairs_below : ℕ → ℕ → List Places
 pairs_below n j = flat_map (pairs_down n) (range_with_len 0 j)
-
-range-more : (start count : ℕ) → range_with_len start (count + 1) ≡ range_with_len start count ++ (start + count) ∷ []
-range-more start zero =
-    let end : start ≡ start + 0 = omega arith in
-    ap (λ k. k ∷ []) end
-range-more start (suc count) =
-    let longer : suc count + 1 ≡ suc (count + 1) = omega arith in
-    let end : start + 1 + count ≡ start + suc count = omega arith in
-    ap (range_with_len start) longer ∙ ap (λ l. start ∷ l) (range-more (start + 1) count)
-    ∙ ap (λ k. start ∷ range_with_len (start + 1) count ++ k ∷ []) end
 
 pub below-next : (n j : ℕ) → pairs_below n (j + 1) ≡ pairs_below n j ++ pairs_down n j
 below-next n j =

@@ -4,15 +4,13 @@ use Rattle.std.proofs.Common.{◌≡◌, ℕ, zero, suc, ◌+◌, ◌-◌, ◌*�
 use Rattle.std.specs.Option.{is_some, unwrap_or}
 use Rattle.std.proofs.Math.Nat.{le-div_iff_mul-le}
 use Rattle.std.proofs.Math.Bool.{and-false}
-use Rattle.std.proofs.lemmas.Bool.{cases_lt, cond-true, cond-false, le-ltb, lt-ltb, ltb-false}
+use Rattle.std.proofs.lemmas.Bool.{cases_lt, cond-false, le-ltb, ltb-false}
 use Rattle.std.proofs.lemmas.Int.{ints}
 use Rattle.std.proofs.lemmas.List.{at_drop_more, take_more}
 use Rattle.std.proofs.lemmas.List.Folds.{list_all-append, list_all_kept}
 use Rattle.sgb_gen.specs.Moves.{coordinate_on, within_size}
 use Rattle.sgb_gen.specs.inner.MovedCoordinates.{part_at, parts_put, parts_stay}
-
-on_side : (n y : ℕ) → y < n → is_some (within_size n (pos y)) ≡ true
-on_side n y h = ap is_some (cond-true (ltb y n) (Some y) None (lt-ltb y n h))
+use Rattle.sgb_gen.proofs.BoundedMoves.{on_side}
 
 -- on a side that does not wrap, as many steps ahead as fit into what is left of it
 pub ahead_stays : (w : Bool) (n x l : ℕ) (t : ℤ) → w ≡ false → x < n → lt_z (pos 0) t ≡ true → l ≤ (n - 1 - x) / nat_abs t

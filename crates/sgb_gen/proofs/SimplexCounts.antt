@@ -14,7 +14,7 @@ use Rattle.sgb_vec.specs.Sums.{BoundedSum, bounded_sums, count_of_sum, has_great
 use Rattle.sgb_vec.specs.Limits.{most_vertices}
 use Rattle.sgb_vec.specs.declared.panics.Panic.{Panic}
 use Rattle.sgb_vec.specs.declared.panics.Panic.TheVariants.{NoRoom}
-use Rattle.sgb_vec.proofs.Lists.{AllPairs-follows, AllPairs-map, Contains-image, Contains-passing, filter-none, never_true}
+use Rattle.sgb_vec.proofs.Lists.{AllPairs-follows, AllPairs-map, Contains-image, Contains-passing, filter-none, never_true, passing_first}
 use Rattle.sgb_vec.proofs.SumMembers.{Contains-bounded_sums, IsWithin-length, bounded_sums-rise}
 use Rattle.sgb_gen.specs.VectorGraphs.{Move, event_among, family_graph}
 use Rattle.sgb_gen.specs.Simplexes.{SimplexData, Places, can_shift, shifted, pairs_of_places, moves_by, moves_to, moves_of_simplex, simplex_graph, simplex_vectors}
@@ -125,11 +125,6 @@ module _ (s : BoundedSum) (at : Places) (order : at.lower < at.higher) where
 pub shifts_by-append : (s : BoundedSum) (ps qs : List Places) → shifts_by s (ps ++ qs) ≡ shifts_by s ps + shifts_by s qs
 shifts_by-append s [] qs = omega arith
 shifts_by-append s (at ∷ ps) qs = omega (arith, shifts_by-append s ps qs)
-
--- a first element that passes, or does not
-passing_first : {X : Type 0} (b : Bool) (x : X) (xs : List X) → length (cond b (x ∷ xs) xs) ≡ cond b 1 0 + length xs
-passing_first true x xs = omega arith
-passing_first false x xs = omega arith
 
 moves_first : (bounds x : List ℕ) (at : Places) (ps : List Places) → length (moves_by bounds x (at ∷ ps)) ≡ cond (can_shift bounds x at) 1 0 + length (moves_by bounds x ps)
 moves_first bounds x at ps =

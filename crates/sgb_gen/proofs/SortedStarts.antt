@@ -7,7 +7,8 @@ use Rattle.std.specs.List.Sorted.{IsPermutation, IsSorted}
 use Rattle.std.specs.Ordering.{is_lt, nat_cmp, ordering_then}
 use Rattle.std.specs.declared.cmp.Ordering.{Ordering}
 use Rattle.std.specs.declared.cmp.Ordering.TheVariants.{Less, Equal}
-use Rattle.std.proofs.lemmas.Bool.{cases_eq, cases_lt, eq-eqb, ne_eqb}
+use Rattle.std.proofs.Math.Bool.{and-false}
+use Rattle.std.proofs.lemmas.Bool.{cases_eq, cases_lt, eq-eqb, ne_eqb, not-true}
 use Rattle.std.proofs.lemmas.List.Elements.{All-from_recursion, All-map, All-nil, All-cons, All-weaker, filter_passes, recursion_from_All}
 use Rattle.std.proofs.lemmas.List.Kept.{AllPairs-cons, AllPairs-filter}
 use Rattle.std.proofs.lemmas.List.Sorted.{All-permutation, Contains-permutation}
@@ -18,7 +19,7 @@ use Rattle.sgb_gen.specs.inner.LocalBoards.{other_starts, own_starts, starts_of}
 use Rattle.sgb_gen.specs.Moves.{moves_from, opposite, sides_of}
 use Rattle.sgb_gen.specs.VectorGraphs.{Move, vertex_among}
 use Rattle.sgb_gen.proofs.MovesInOrder.{lengths_rise}
-use Rattle.sgb_vec.proofs.Lists.{AllPairs-append, AllPairs-first, AllPairs-follows, AllPairs-map, AllPairs-none, AllPairs-others}
+use Rattle.sgb_vec.proofs.Lists.{AllPairs-append, AllPairs-first, AllPairs-follows, AllPairs-map, AllPairs-none, AllPairs-others, eqb-turned}
 use Rattle.sgb_gen.proofs.OrderedLists.{before_trans}
 use Rattle.sgb_gen.proofs.TouchingMoves.{IsEarlier, first_less, in_order_same, pair, second_less, starts_touch, touching, touching_found}
 
@@ -30,14 +31,8 @@ pair_cmp p q = ordering_then (nat_cmp p.0 q.0) (nat_cmp p.1 q.1)
 abbrev same_pair : ℕ × ℕ → ℕ × ℕ → Bool
 same_pair p q = (p.0 == q.0) && (p.1 == q.1)
 
-eqb_turned : (m n : ℕ) → (m == n) ≡ (n == m)
-eqb_turned m n = elim (cases_eq m n) [
-  | inl same ↦ eq-eqb m n same ∙ sym (eq-eqb n m (sym same))
-  | inr other ↦ ne_eqb m n other ∙ sym (ne_eqb n m (λ e. other (sym e)))
-]
-
 same_turned : (p q : ℕ × ℕ) → same_pair p q ≡ same_pair q p
-same_turned p q = ap₂ (λ c d. c && d) (eqb_turned p.0 q.0) (eqb_turned p.1 q.1)
+same_turned p q = ap₂ (λ c d. c && d) (eqb-turned p.0 q.0) (eqb-turned p.1 q.1)
 
 -- pairs of which no two are the same, by recursion and by places
 distinct_of : (ps : List (ℕ × ℕ)) → AllPairs (λ p q. same_pair p q ≡ false) ps → IsDistinct same_pair ps
@@ -130,19 +125,11 @@ module _ (b : BoardData) (t : List ℤ) (x : List ℕ) (there : Contains (box b.
       All-map (Differ (u, (get_or moves k d).len)) (λ n. (vertex_among vectors n.to, n.len)) (filter far back)
       (λ i e inside. starts_differ u (vertex_among vectors (get_or (filter far back) i e).to) (get_or moves k d).len (get_or (filter far back) i e).len (filter_passes far back i e inside))))
     where
-      and_false : (c : Bool) → (c && false) ≡ false
-      and_false true = refl
-      and_false false = refl
-
       lens_differ : (v w l m : ℕ) → l < m → same_pair (v, l) (w, m) ≡ false
-      lens_differ v w l m less = ap (λ c. (v == w) && c) (ne_eqb l m (λ e. omega (arith, less, e))) ∙ and_false (v == w)
+      lens_differ v w l m less = ap (λ c. (v == w) && c) (ne_eqb l m (λ e. omega (arith, less, e))) ∙ and-false (v == w)
 
       starts_differ : (u v l m : ℕ) → not (v == u) ≡ true → same_pair (u, l) (v, m) ≡ false
-      starts_differ u v l m passes = ap (λ c. c && (l == m)) (eqb_turned u v ∙ not_true (v == u) passes)
-        where
-          not_true : (c : Bool) → not c ≡ true → c ≡ false
-          not_true true e = sym e
-          not_true false e = refl
+      starts_differ u v l m passes = ap (λ c. c && (l == m)) (eqb-turned u v ∙ not-true (v == u) passes)
 
   -- sorted, they are those of the touching moves in order
   pub sorted_starts : (ps : List (ℕ × ℕ)) → IsPermutation (starts_of (sides_of b.sizes b.wrap) b.piece (box b.sizes) x t) ps → IsSorted pair_cmp ps → ps ≡ touching b t x there

@@ -3,7 +3,7 @@ use Rattle.std.proofs.Common.{◌≡◌, ℕ, suc, ◌+◌, ◌-◌, ◌<◌, �
 use Rattle.std.specs.List.{flat_map, range_with_len, slice_get, Contains}
 use Rattle.std.proofs.lemmas.List.{drop_all, length-take, get_or-take}
 use Rattle.std.proofs.lemmas.Option.{slice_get_within, slice_get_read, get_or_from_slice_get}
-use Rattle.sgb_vec.specs.inner.SumWidth.{length-sum_member}
+use Rattle.sgb_vec.proofs.FamilyLaws.{length-sum_member}
 use Rattle.sgb_vec.proofs.SumMembers.{bounded_sums-rise}
 use Rattle.sgb_graph.specs.Events.{Event}
 use Rattle.sgb_gen.specs.VectorGraphs.{event_among, vertex_among}
