@@ -8,14 +8,13 @@ use Rattle.std.proofs.lemmas.Bool.Decides.{nat_tests}
 use Rattle.std.proofs.lemmas.Grind.{flat_map-append}
 use Rattle.std.proofs.lemmas.List.{take_all}
 use Rattle.std.proofs.lemmas.List.Elements.{All-contains}
-use Rattle.sgb_vec.proofs.Lists.{range-within}
+use Rattle.sgb_vec.proofs.Lists.{range-within, filter-all, range-joined, range-more}
 use Rattle.sgb_ops.specs.declared.entries.Entry.{Entry}
 use Rattle.sgb_ops.specs.Copies.{CopiesAreAll, CopiesAreApart, own_copies}
 use Rattle.sgb_ops.specs.Entries.{copies_by, copies_of, first_copy, is_unnumbered, merged_count, merged_number, own_total, size_of_entry}
 use Rattle.sgb_ops.specs.Operands.{order_of}
 use Rattle.sgb_ops.specs.declared.entries.Entry.TheVariants as entry
 use Rattle.sgb_ops.proofs.EntryTotals.{next_first, number_below, numbered_one}
-use Rattle.sgb_ops.proofs.PlainLists.{filter-all, range_on, range_more}
 
 -- a number of a range
 in_range : (start n u : ℕ) → Contains (range_with_len start n) u → (start ≤ u) × (u < start + n)
@@ -49,14 +48,15 @@ copies_before entries zero numbered = refl
 copies_before entries (suc v) numbered =
     let k = merged_count entries in
     let before = copies_before entries v numbered in
+    let more : suc v ≡ v + 1 = omega arith in
     let place : 0 + v ≡ v = omega arith in
     let next : own_total (take v entries) + size_at entries v ≡ own_total (take (suc v) entries) = omega (arith, next_first entries v) in
-    ap (flat_map (own_copies entries)) (range_more 0 v)
+    ap (λ n. flat_map (own_copies entries) (range_with_len 0 n)) more ∙ ap (flat_map (own_copies entries)) (range-more 0 v)
     ∙ (flat_map-append (own_copies entries) (range_with_len 0 v) ((0 + v) ∷ [])
     ∙ (ap (λ ks. ks ++ flat_map (own_copies entries) ((0 + v) ∷ [])) before
     ∙ (ap (λ (i : ℕ). range_with_len k (own_total (take v entries)) ++ flat_map (own_copies entries) (i ∷ [])) place
     ∙ (ap (λ ks. range_with_len k (own_total (take v entries)) ++ ks) (append-nil (own_copies entries v) ∙ own_range entries v numbered)
-    ∙ (sym (range_on k (own_total (take v entries)) (size_at entries v)) ∙ ap (range_with_len k) next)))))
+    ∙ (sym (range-joined k (own_total (take v entries)) (size_at entries v)) ∙ ap (range_with_len k) next)))))
 
 pub copies_are_all : CopiesAreAll
 copies_are_all entries numbered =

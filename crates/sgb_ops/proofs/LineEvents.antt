@@ -13,13 +13,14 @@ use Rattle.sgb_ops.specs.Operands.{order_of}
 use Rattle.sgb_ops.specs.Taken.{taken}
 use Rattle.sgb_ops.specs.declared.line_graphs.Line.{Line}
 use Rattle.sgb_ops.proofs.EventsWithin.{taken_tips}
-use Rattle.sgb_ops.proofs.PlainLists.{range_more}
+use Rattle.sgb_vec.proofs.Lists.{range-more}
 
 -- the numbers below k + 1, k first
 pub below_more : (k : ℕ) → reverse (range_with_len 0 (suc k)) ≡ k ∷ reverse (range_with_len 0 k)
 below_more k =
+    let more : suc k ≡ k + 1 = omega arith in
     let last : 0 + k ≡ k = omega arith in
-    ap reverse (range_more 0 k) ∙ (reverse-append (range_with_len 0 k) ((0 + k) ∷ []) ∙ ap (λ (j : ℕ). j ∷ reverse (range_with_len 0 k)) last)
+    ap (λ n. reverse (range_with_len 0 n)) more ∙ ap reverse (range-more 0 k) ∙ (reverse-append (range_with_len 0 k) ((0 + k) ∷ []) ∙ ap (λ (j : ℕ). j ∷ reverse (range_with_len 0 k)) last)
 
 -- the lines that begin at v
 abbrev pub lines_at : GraphData → Bool → ℕ → List Line

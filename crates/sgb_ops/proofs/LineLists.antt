@@ -2,12 +2,12 @@
 use Rattle.std.proofs.Common.{◌≡◌, ◌≢◌, ◌<◌, ◌≤◌, ◌+◌, ◌==◌, ℕ, zero, suc, pos, Bool, true, false, not, ◌&&◌, ◌||◌, cond, List, [], ◌∷◌, ◌++◌, map, take, length, set, get_or, Vec, Global, append-nil, refl, sym, ap, subst, ◌∙◌, inl, inr, arith}
 use Rattle.std.specs.Prelude.{All, filter, if◌then◌else◌, slice_index_or, slice_set}
 use Rattle.std.specs.List.{enumerate_from}
-use Rattle.std.proofs.lemmas.Bool.{cases_eq, eq-eqb, eqb-true, ne_eqb}
+use Rattle.std.proofs.lemmas.Bool.{cases_eq, eq-eqb, ne_eqb}
 use Rattle.std.proofs.lemmas.List.{map-append, take_more, length-take-le, get_or-take, get_or_default, get_or-set_same, get_or-set_other, map-set, length-map, get_or-map}
 use Rattle.std.proofs.lemmas.List.Elements.{All-nil, All-head, All-tail, All-append, All-map, All-filter, All-weaker}
 use Rattle.std.proofs.lemmas.List.FromFn.{length-enumerate_from, get_or-enumerate_from}
 use Rattle.std.proofs.Math.Bool.{and-false, and-true}
-use Rattle.sgb_vec.proofs.Lists.{made-append, same_tests}
+use Rattle.sgb_vec.proofs.Lists.{eqb-turned, made-append}
 use Rattle.sgb_graph.specs.Graphs.{GraphData, chain_of}
 use Rattle.sgb_graph.specs.declared.fields.Link.{Link}
 use Rattle.sgb_ops.specs.Lines.{events_to, line_of, lines_of_graph, share_vertex}
@@ -87,9 +87,6 @@ at_end line x = touches line.to x && not (x.from == line.from)
 abbrev at_beginning : Line → Line → Bool
 at_beginning line x = touches line.from x && true
 
-same_eq : (a b : ℕ) → (a == b) ≡ (b == a)
-same_eq a b = same_tests (a == b) (b == a) (λ e. eq-eqb b a (sym (eqb-true a b e))) (λ e. eq-eqb a b (sym (eqb-true b a e)))
-
 step : (b c d : Bool) (q : ℕ × Line) (all first second : List (ℕ × Line)) → b ≡ c → d ≡ false → all ≡ first ++ second
     → cond b (q ∷ all) all ≡ cond c (q ∷ first) first ++ cond d (q ∷ second) second
 step b true d q all first second e h next = rw (e, h) (ap (λ qs. q ∷ qs) next)
@@ -115,7 +112,7 @@ split line top k (x ∷ lines) falls = elim (cases_eq x.from line.from) [
       let far : (line.from == x.to) ≡ false = ne_eqb line.from x.to (λ e. absurd (omega (arith, e, up))) in
       let off_back : (x.from == line.from) ≡ false = ne_eqb x.from line.from other in
       let far_back : (x.to == line.from) ≡ false = ne_eqb x.to line.from (λ e. absurd (omega (arith, e, up))) in
-      let shared : share_vertex line x ≡ touches line.to x = rw (off, far) (ap (λ b. b || (line.to == x.to)) (same_eq line.to x.from) ∙ ap (λ b. (x.from == line.to) || b) (same_eq line.to x.to)) in
+      let shared : share_vertex line x ≡ touches line.to x = rw (off, far) (ap (λ b. b || (line.to == x.to)) (eqb-turned line.to x.from) ∙ ap (λ b. (x.from == line.to) || b) (eqb-turned line.to x.to)) in
       let ends : at_end line x ≡ touches line.to x = ap (λ b. touches line.to x && not b) off_back ∙ and-true (touches line.to x) in
       let begins : at_beginning line x ≡ false = rw (off_back, far_back) refl in
       step (share_vertex line x) (at_end line x) (at_beginning line x) (k, x) _ _ _ (shared ∙ sym ends) begins (split line x.from (k + 1) lines falls.3)

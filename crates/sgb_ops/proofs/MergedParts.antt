@@ -4,11 +4,10 @@ use Rattle.std.specs.Prelude.{All, filter, flat_map}
 use Rattle.std.specs.List.{range_with_len}
 use Rattle.std.proofs.lemmas.Bool.{not_from_false}
 use Rattle.std.proofs.lemmas.List.Elements.{All-nil, All-head, All-tail, All-append, filter-append}
-use Rattle.sgb_vec.proofs.Lists.{filter-none}
+use Rattle.sgb_vec.proofs.Lists.{filter-none, filter-all}
 use Rattle.sgb_graph.specs.Events.{Event}
 use Rattle.sgb_ops.specs.Merged.{has_ends_of, merged, merged_unless}
 use Rattle.sgb_ops.proofs.Merging.{apart, merged_keeps}
-use Rattle.sgb_ops.proofs.PlainLists.{filter-all}
 
 -- no event of the first list has the ends of one of the second
 abbrev pub AreApart : Bool → List Event → List Event → Type 0

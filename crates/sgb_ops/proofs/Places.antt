@@ -3,6 +3,7 @@ use Rattle.std.proofs.Common.{◌≡◌, ℕ, ℤ, Option, Some, ◌+◌, ◌<�
 use Rattle.std.specs.Iterator.{YieldsFirst}
 use Rattle.std.specs.List.{All, range_with_len}
 use Rattle.std.proofs.lemmas.List.Elements.{All-head, All-tail}
+use Rattle.sgb_vec.proofs.Lists.{steps_to}
 use Rattle.sgb_graph.specs.Graphs.{GraphData}
 use Rattle.sgb_graph.specs.Events.{Event}
 use Rattle.sgb_graph.specs.Growth.{AddsEvents}
@@ -10,10 +11,6 @@ use Rattle.sgb_graph.specs.declared.fields.Link.{Link}
 use Rattle.sgb_graph.proofs.AddedEvents.{AddsUpTo, up_to-none, up_to-more, up_to-all}
 use Rattle.sgb_ops.proofs.EventsWithin.{TipBelow}
 use Rattle.sgb_ops.proofs.PlainLists.{places_from, places-all, places-next, places-none}
-
--- what a walk over arcs gives
-pub steps_to : (s rest : List Link) (r : Option Link) (l : Link) → r ≡ Some l → YieldsFirst (λ x. x) s r rest → s ≡ l ∷ rest
-steps_to s rest r l is h = subst (λ o. YieldsFirst (λ x. x) s o rest) is h
 
 -- the same event, told in other words
 pub same_event : (directed : Bool) (old new : GraphData) (u v x y : ℕ) (far len : ℤ) → u ≡ x → v ≡ y → far ≡ len → AddsEvents directed old new (record { from = u; to = v; len = far } ∷ []) → AddsEvents directed old new (record { from = x; to = y; len = len } ∷ [])

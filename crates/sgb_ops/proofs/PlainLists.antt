@@ -1,24 +1,7 @@
--- Plain lists: numbers one after another, a list that grows part by part, and what a filter keeps whole.
-use Rattle.std.proofs.Common.{◌≡◌, ℕ, zero, suc, ◌+◌, ◌-◌, ◌<◌, ◌≤◌, Bool, true, cond, List, [], ◌∷◌, ◌++◌, map, sym, ap, ◌∙◌, refl, append_assoc, append-nil, arith}
-use Rattle.std.specs.List.{All, filter, range_with_len}
-use Rattle.std.proofs.lemmas.List.Elements.{All-head, All-tail}
+-- Plain lists: places one after another, and a list that grows part by part.
+use Rattle.std.proofs.Common.{◌≡◌, ℕ, suc, ◌+◌, ◌-◌, ◌<◌, ◌≤◌, List, [], ◌∷◌, ◌++◌, map, sym, ap, ◌∙◌, append_assoc, append-nil, arith}
+use Rattle.std.specs.List.{range_with_len}
 use Rattle.std.proofs.lemmas.List.FromFn.{map-range_with_len_more}
-
--- numbers, and those that come after them
-pub range_on : (a n k : ℕ) → range_with_len a (n + k) ≡ range_with_len a n ++ range_with_len (a + n) k
-range_on a zero k =
-    let count : zero + k ≡ k = omega arith in
-    let start : a ≡ a + zero = omega arith in
-    ap (range_with_len a) count ∙ ap (λ i. range_with_len i k) start
-range_on a (suc n) k =
-    let count : suc n + k ≡ suc (n + k) = omega arith in
-    let start : a + 1 + n ≡ a + suc n = omega arith in
-    ap (range_with_len a) count ∙ ap (λ ks. a ∷ ks) (range_on (a + 1) n k ∙ ap (λ i. range_with_len (a + 1) n ++ range_with_len i k) start)
-
-pub range_more : (a n : ℕ) → range_with_len a (suc n) ≡ range_with_len a n ++ (a + n) ∷ []
-range_more a n =
-    let count : suc n ≡ n + 1 = omega arith in
-    ap (range_with_len a) count ∙ range_on a n 1
 
 -- the places from i on, of n
 abbrev pub places_from : ℕ → ℕ → List ℕ
@@ -53,10 +36,3 @@ pub numbers_more : {X : Type 0} (f : ℕ → X) (a k j : ℕ) (before now new : 
 numbers_more f a k j before now new x place is grown same =
     grown ∙ (ap (λ y. now ++ y ∷ []) same ∙ (ap (λ xs. xs ++ f j ∷ []) is
     ∙ (append_assoc before (map f (range_with_len a k)) (f j ∷ []) ∙ ap (λ xs. before ++ xs) (sym (map-range_with_len_more f a k j place)))))
-
--- where all pass, all stay
-pub filter-all : {X : Type 0} (t : X → Bool) (xs : List X) → All (λ x. t x ≡ true) xs → filter t xs ≡ xs
-filter-all t [] all = refl
-filter-all t (x ∷ xs) all =
-    ap (λ b. cond b (x ∷ filter t xs) (filter t xs)) (All-head (λ y. t y ≡ true) x xs all)
-    ∙ ap (λ ys. x ∷ ys) (filter-all t xs (All-tail (λ y. t y ≡ true) x xs all))

@@ -4,6 +4,7 @@ use Rattle.std.specs.Prelude.{All, filter, flat_map, nat_lt, if◌then◌else◌
 use Rattle.std.proofs.lemmas.Bool.{lt-ltb, le-ltb, ltb-true, ne_eqb, and_right}
 use Rattle.std.proofs.lemmas.List.{map-append}
 use Rattle.std.proofs.lemmas.List.Elements.{All-append, All-filter, All-map, All-nil, filter_passes}
+use Rattle.sgb_vec.proofs.Lists.{filter-all}
 use Rattle.sgb_graph.specs.Graphs.{GraphData, chain_of}
 use Rattle.sgb_graph.specs.Events.{Event}
 use Rattle.sgb_graph.specs.Growth.{IsKept}
@@ -15,7 +16,6 @@ use Rattle.sgb_ops.specs.Taken.{taken}
 use Rattle.sgb_ops.specs.Merged.{has_ends_of, merged_unless}
 use Rattle.sgb_ops.proofs.EventsWithin.{TipBelow, taken_tips, events_of_within, merged_unless_within}
 use Rattle.sgb_ops.proofs.MergedParts.{AreApart, merged_parts}
-use Rattle.sgb_ops.proofs.PlainLists.{filter-all}
 use Rattle.sgb_ops.proofs.Taking.{each_edge_once_leads_up}
 
 -- the arcs that lead to vertices below n

@@ -4,7 +4,7 @@ use Rattle.std.proofs.lemmas.List.{length-set}
 use Rattle.std.proofs.lemmas.List.Elements.{All-head, All-tail}
 use Rattle.sgb_graph.specs.declared.fields.Link.{Link}
 use Rattle.sgb_ops.proofs.Marks.{mark_at, mark_at-next}
-use Rattle.sgb_ops.proofs.Places.{steps_to}
+use Rattle.sgb_vec.proofs.Lists.{steps_to}
 use Rattle.sgb_ops.proofs.complements.mark_tips.Goals as goal
 
 pub loop-link-preserved : goal.loop-link-preserved

@@ -5,7 +5,7 @@ use Rattle.sgb_ops.specs.inner.Copies.{leads_to_copies}
 use Rattle.sgb_ops.specs.Taken.{taken}
 use Rattle.sgb_ops.proofs.EventsWithin.{TipBelow}
 use Rattle.sgb_ops.proofs.PlainLists.{part_more, parts_all}
-use Rattle.sgb_ops.proofs.Places.{steps_to}
+use Rattle.sgb_vec.proofs.Lists.{steps_to}
 use Rattle.sgb_ops.proofs.induced_events.arcs_to_copies.Goals as goal
 
 pub loop-arc-init : goal.loop-arc-init

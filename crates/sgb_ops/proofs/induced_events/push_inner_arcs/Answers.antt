@@ -5,7 +5,7 @@ use Rattle.std.proofs.lemmas.List.Elements.{All-tail}
 use Rattle.sgb_ops.specs.Entries.{inner_event, inner_events_from}
 use Rattle.sgb_ops.specs.Induced.{wanted}
 use Rattle.sgb_ops.proofs.EventsWithin.{TipBelow}
-use Rattle.sgb_ops.proofs.Places.{steps_to}
+use Rattle.sgb_vec.proofs.Lists.{steps_to}
 use Rattle.sgb_ops.proofs.WantedEvents.{wanted_more}
 use Rattle.sgb_ops.proofs.induced_events.push_inner_arcs.Goals as goal
 
