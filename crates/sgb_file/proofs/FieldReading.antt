@@ -6,7 +6,7 @@ use Rattle.std.specs.List.{list_all, position_or_len}
 use Rattle.std.specs.Str.Parse.{AllDigits, digits_value}
 use Rattle.std.proofs.Common.{ap, ◌∙◌, append_assoc, arith, length-append, take-append-drop}
 use Rattle.std.proofs.Math.Seq.{take-append_seam, drop-append_seam}
-use Rattle.std.proofs.lemmas.Bool.{and_parts, and_from}
+use Rattle.std.proofs.lemmas.Bool.{and_parts, and_from, not-true}
 use Rattle.std.proofs.lemmas.Bool.Decides.{nat_tests}
 use Rattle.std.proofs.lemmas.Fmt.{decimal_is_IsNumeral, length-decimal-le}
 use Rattle.std.proofs.lemmas.Str.Parse.{digit_at}
@@ -17,7 +17,7 @@ use Rattle.sgb_graph.proofs.Lists.{list_all-weaker}
 use Rattle.sgb_graph.specs.Sound.{ref_fits, chain_fits}
 use Rattle.sgb_file.specs.Fields.{is_decimal_digit, number_of, number_below, most_number_digits, most_integer_digits, integer_of, ref_of, record_number_of, is_string_byte, unbroken, string_at, plain_text, plain_at, after_prefix}
 use Rattle.sgb_file.specs.Saving.{quoted, ref_text, record_number_text}
-use Rattle.sgb_file.proofs.LineLemmas.{not_true, is_line, is_one_line, is_within_line, ends_well, ends_well-last, list_all-drop, list_all-take, list_all-join}
+use Rattle.sgb_file.proofs.LineLemmas.{is_line, is_one_line, is_within_line, ends_well, ends_well-last, list_all-drop, list_all-take, list_all-join}
 use Rattle.sgb_file.specs.Files.{IsStringText}
 use Rattle.std.proofs.lemmas.List.Sums.{AllPass-from_list_all, list_all-from_AllPass}
 use Rattle.sgb_file.proofs.LeftTexts.{first_beyond, any_beyond}
@@ -207,7 +207,7 @@ unbroken_same [] h = refl
 unbroken_same (b ∷ []) h = refl
 unbroken_same (b ∷ c ∷ text) h =
     let parts = and_parts (not (b == 92)) (no_slashes (c ∷ text)) h in
-    rw (not_true (b == 92) parts.0) (ap (λ x. b ∷ x) (unbroken_same (c ∷ text) parts.1))
+    rw (not-true (b == 92) parts.0) (ap (λ x. b ∷ x) (unbroken_same (c ∷ text) parts.1))
 
 -- a break after such a text counts as nothing
 unbroken_break : (text more : List ℕ) → no_slashes text ≡ true → unbroken (text ++ 92 ∷ 10 ∷ more) ≡ text ++ unbroken more
@@ -215,10 +215,10 @@ unfolding unbroken
 unbroken_break [] more h = refl
 unbroken_break (b ∷ []) more h =
     let parts = and_parts (not (b == 92)) true h in
-    rw (not_true (b == 92) parts.0) refl
+    rw (not-true (b == 92) parts.0) refl
 unbroken_break (b ∷ c ∷ text) more h =
     let parts = and_parts (not (b == 92)) (no_slashes (c ∷ text)) h in
-    rw (not_true (b == 92) parts.0) (ap (λ x. b ∷ x) (unbroken_break (c ∷ text) more parts.1))
+    rw (not-true (b == 92) parts.0) (ap (λ x. b ∷ x) (unbroken_break (c ∷ text) more parts.1))
 
 -- the breaks of a text undone
 unbroken_breaks : (n first : ℕ) (text : List ℕ) → no_slashes text ≡ true → unbroken (with_breaks n first text) ≡ text

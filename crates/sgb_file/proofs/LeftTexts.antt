@@ -3,14 +3,13 @@ use Rattle.std.specs.Prelude.{◌≡◌, ℕ, suc, ◌+◌, ◌<◌, ◌≤◌, 
 use Rattle.std.specs.List.{list_any, list_all, position_or_len, before_first}
 use Rattle.std.specs.Option.{option_map_or}
 use Rattle.std.proofs.Common.{ap, sym, ◌∙◌, append_assoc, arith}
-use Rattle.std.proofs.lemmas.Bool.{and_parts}
+use Rattle.std.proofs.lemmas.Bool.{and_parts, not-true}
 use Rattle.std.proofs.lemmas.Bool.Decides.{nat_tests}
 use Rattle.std.proofs.lemmas.List.{drop-append-le, take-append-le, length-take}
 use Rattle.std.proofs.lemmas.List.Sums.{prefix_len-le-length}
 use Rattle.sgb_file.specs.FileLines.{text_of_lines}
 use Rattle.sgb_file.specs.Fields.{plain_text, after_prefix}
 use Rattle.sgb_file.specs.inner.LinesLeft.{LinesLeft, text_left, skipped, next_begun, has_no_newline}
-use Rattle.sgb_file.proofs.LineLemmas.{not_true}
 
 -- the text of a line under way, and of those after it
 pub under_way : (s : LinesLeft) (line : List ℕ) → Some line ≡ s.line → text_left s ≡ line ++ 10 ∷ text_of_lines s.others
@@ -31,7 +30,7 @@ pub no_line_end : (line more : List ℕ) → has_no_newline line ≡ true → 0 
 no_line_end [] more h some = absurd (omega (arith, some))
 no_line_end (b ∷ line) more h some =
     let byte = and_parts (not (b == 10)) (has_no_newline line) h in
-    let same = not_true (b == 10) byte.0 in
+    let same = not-true (b == 10) byte.0 in
     let e : (10 == b) ≡ false = grind (arith, nat_tests) in rw e refl
 
 pub line_goes_on : (s : LinesLeft) (line : List ℕ) → Some line ≡ s.line → has_no_newline line ≡ true → 0 < length line → after_prefix (codes "\n") (text_left s) ≡ None
@@ -57,7 +56,7 @@ pub any_beyond : (p : ℕ → Bool) (x y : List ℕ) → list_all (λ c. not (p 
 any_beyond p [] y h = refl
 any_beyond p (b ∷ x) y h =
     let parts = and_parts (not (p b)) (list_all (λ c. not (p c)) x) h in
-    rw (not_true (p b) parts.0) (any_beyond p x y parts.1)
+    rw (not-true (p b) parts.0) (any_beyond p x y parts.1)
 
 -- the first place that passes, where it is in the first of two lists
 within_step : (t : Bool) (n k m : ℕ) → (k < n → m ≡ k) → cond t (1 + k) 0 < suc n → cond t (1 + m) 0 ≡ cond t (1 + k) 0
@@ -85,7 +84,7 @@ plain_length : (line more : List ℕ) → has_no_newline line ≡ true → posit
 plain_length [] more h = refl
 plain_length (b ∷ line) more h =
     let parts = and_parts (not (b == 10)) (has_no_newline line) h in
-    rw (not_true (b == 10) parts.0) (plain_step (b == 44) (position_or_len (λ c. c == 44 || c == 10) (line ++ 10 ∷ more)) (position_or_len (λ c. c == 44) line) (plain_length line more parts.1))
+    rw (not-true (b == 10) parts.0) (plain_step (b == 44) (position_or_len (λ c. c == 44 || c == 10) (line ++ 10 ∷ more)) (position_or_len (λ c. c == 44) line) (plain_length line more parts.1))
 
 pub plain_of_line : (line more : List ℕ) → has_no_newline line ≡ true → before_first (λ b. b == 44) line ≡ plain_text (line ++ 10 ∷ more)
 plain_of_line line more h =

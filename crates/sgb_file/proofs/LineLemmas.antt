@@ -2,7 +2,7 @@
 use Rattle.std.specs.Prelude.{◌≡◌, ℕ, Bool, true, false, cond, not, ◌&&◌, List, [], ◌∷◌, ◌++◌, map, length, take, drop, ◌==◌, refl, zero, suc}
 use Rattle.std.specs.List.{list_all, slice_split, onto_first}
 use Rattle.std.proofs.Common.{ap, sym, ◌∙◌, append_assoc, append-nil, arith}
-use Rattle.std.proofs.lemmas.Bool.{and_parts, and_from}
+use Rattle.std.proofs.lemmas.Bool.{and_parts, and_from, not-true}
 use Rattle.std.proofs.lemmas.List.{map-append}
 use Rattle.std.proofs.lemmas.List.Folds.{list_all-append}
 use Rattle.std.proofs.lemmas.Bool.Decides.{nat_tests, Decides-eqb}
@@ -27,11 +27,6 @@ ends_well (b ∷ c ∷ line) = ends_well (c ∷ line)
 abbrev pub is_line : List ℕ → Bool
 is_line line = is_one_line line && ends_well line
 
--- of a test that is turned
-pub not_true : (t : Bool) → not t ≡ true → t ≡ false
-not_true true h = absurd cc
-not_true false h = refl
-
 -- what the test for no bytes says
 pub no_bytes : (bytes : List ℕ) → (length bytes == 0) ≡ true → bytes ≡ []
 no_bytes [] e = refl
@@ -42,7 +37,7 @@ cut_line : (line rest : List ℕ) → is_one_line line ≡ true → slice_split 
 cut_line [] rest h = refl
 cut_line (b ∷ line) rest h =
     let parts = and_parts (is_within_line b) (is_one_line line) h in
-    rw (not_true (b == 10) parts.0) (ap (onto_first b) (cut_line line rest parts.1))
+    rw (not-true (b == 10) parts.0) (ap (onto_first b) (cut_line line rest parts.1))
 
 -- a text has at least one part
 pub record HasPart (parts : List (List ℕ)) : Type 0 where
@@ -94,7 +89,7 @@ not_empty false b c line = refl
 pub stays_clean : (line : List ℕ) → ends_well line ≡ true → without_end_spaces line ≡ line
 unfolding ends_well without_end_spaces
 stays_clean [] h = refl
-stays_clean (b ∷ []) h = rw (not_true (b == 32) h) refl
+stays_clean (b ∷ []) h = rw (not-true (b == 32) h) refl
 stays_clean (b ∷ c ∷ line) h = rw (stays_clean (c ∷ line) h) (not_empty (b == 32) b c line)
 
 -- lines that end with no space stay as they are

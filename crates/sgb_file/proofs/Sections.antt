@@ -2,7 +2,7 @@
 use Rattle.std.proofs.Common.{◌≡◌, ◌∙◌, ◌++◌, ◌<◌, ◌-◌, ◌+◌, ℕ, suc, Bool, true, false, List, [], ◌∷◌, Option, Some, None, Err, refl, sym, ap, subst, append_assoc, append-nil, arith, codes, cond, not, ◌==◌}
 use Rattle.std.specs.List.{starts_with}
 use Rattle.std.proofs.Math.Seq.{drop-append_seam}
-use Rattle.std.proofs.lemmas.Bool.{and_parts, and_from}
+use Rattle.std.proofs.lemmas.Bool.{and_parts, and_from, not-true}
 use Rattle.std.proofs.lemmas.Bool.Decides.{nat_tests, Decides-eqb}
 use Rattle.sgb_graph.specs.Graphs.{GraphData}
 use Rattle.sgb_graph.specs.Parts.{with_vertex, with_record}
@@ -17,7 +17,6 @@ use Rattle.sgb_vec.specs.declared.panics.Panic.{Panic}
 use Rattle.sgb_file.specs.inner.Reading.{vertices_at, arcs_at, with_vertices, with_records}
 use Rattle.sgb_file.specs.inner.LinesLeft.{LinesLeft, text_left, has_no_newline}
 use Rattle.sgb_file.specs.FileLines.{text_of_lines}
-use Rattle.sgb_file.proofs.LineLemmas.{not_true}
 
 -- one more record, and then the others
 one_more : {X Y : Type 0} (one_at : List ℕ → Option (Found X)) (f : List X → Y) (g : List X → Y) (n : ℕ) (x : X) (text rest : List ℕ) → one_at text ≡ Some (record { value = x; rest = rest })
@@ -88,11 +87,11 @@ same_title title more = ap (after_prefix (title ++ 10 ∷ [])) (sym (append_asso
 titled : (title line more : List ℕ) → has_no_newline title ≡ true → has_no_newline line ≡ true → starts_with (λ b c. b == c) (line ++ 10 ∷ more) (title ++ 10 ∷ []) ≡ true → title ≡ line
 titled [] [] more h l e = refl
 titled [] (b ∷ line) more h l e =
-    let byte = not_true (b == 10) (and_parts (not (b == 10)) (has_no_newline line) l).0 in
+    let byte = not-true (b == 10) (and_parts (not (b == 10)) (has_no_newline line) l).0 in
     let same = (and_parts (10 == b) _ e).0 in
     absurd (grind (arith, nat_tests))
 titled (t ∷ title) [] more h l e =
-    let byte = not_true (t == 10) (and_parts (not (t == 10)) (has_no_newline title) h).0 in
+    let byte = not-true (t == 10) (and_parts (not (t == 10)) (has_no_newline title) h).0 in
     let same = (and_parts (t == 10) _ e).0 in
     absurd cc
 titled (t ∷ title) (b ∷ line) more h l e =

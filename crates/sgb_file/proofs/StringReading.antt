@@ -3,7 +3,7 @@ use Rattle.std.specs.Prelude.{◌≡◌, ℕ, zero, suc, ◌+◌, ◌-◌, ◌<�
 use Rattle.std.specs.List.{list_any, list_all, position, position_or_len, before_first, after_first}
 use Rattle.std.proofs.Common.{ap, sym, ◌∙◌, append_assoc, arith}
 use Rattle.std.proofs.Math.Seq.{take-append-add, drop-append-add}
-use Rattle.std.proofs.lemmas.Bool.{and_parts}
+use Rattle.std.proofs.lemmas.Bool.{and_parts, not-true}
 use Rattle.std.proofs.lemmas.Bool.Decides.{nat_tests}
 use Rattle.std.proofs.lemmas.List.{take-append-le}
 use Rattle.sgb_vec.specs.Limits.{most_bytes}
@@ -14,7 +14,7 @@ use Rattle.sgb_graph.specs.Ids.{most_id_bytes, IsId}
 use Rattle.sgb_file.specs.Fields.{after_prefix, is_string_byte, string_at, unbroken}
 use Rattle.sgb_file.specs.inner.Found.{IsFoundBy, IsPartOf, IsNoString, checked_text, goes_on, is_broken, string_before, string_from}
 use Rattle.sgb_file.specs.inner.LinesLeft.{has_no_newline}
-use Rattle.sgb_file.proofs.LineLemmas.{not_true, list_all-take}
+use Rattle.sgb_file.proofs.LineLemmas.{list_all-take}
 use Rattle.sgb_file.proofs.FieldReading.{string_bytes, text_bytes}
 use Rattle.sgb_file.proofs.FoundParts.{was_let_through}
 use Rattle.sgb_file.proofs.LeftTexts.{none_before, first_beyond, any_beyond, first_within, any_within}
@@ -59,7 +59,7 @@ unbroken_line (b ∷ []) h = refl
 unbroken_line (b ∷ c ∷ x) h =
     let parts = and_parts (not (b == 10)) (has_no_newline (c ∷ x)) h in
     let second = and_parts (not (c == 10)) (has_no_newline x) parts.1 in
-    rw (and_false (b == 92) (c == 10) (not_true (c == 10) second.0)) (ap (λ y. b ∷ y) (unbroken_line (c ∷ x) parts.1))
+    rw (and_false (b == 92) (c == 10) (not-true (c == 10) second.0)) (ap (λ y. b ∷ y) (unbroken_line (c ∷ x) parts.1))
 
 -- where the place of a quote was found
 pub record HasQuote (line : List ℕ) (end : ℕ) : Type 0 where
@@ -99,7 +99,7 @@ broken_bytes (b ∷ c ∷ line) y zero e h last = absurd (omega (arith, e))
 broken_bytes (b ∷ c ∷ line) y (suc k) e h last =
     let parts = and_parts (not (b == 10)) (has_no_newline (c ∷ line)) h in
     let second = and_parts (not (c == 10)) (has_no_newline line) parts.1 in
-    rw (and_false (b == 92) (c == 10) (not_true (c == 10) second.0)) (ap (λ x. b ∷ x) (broken_bytes (c ∷ line) y k (omega (arith, e)) parts.1 last))
+    rw (and_false (b == 92) (c == 10) (not-true (c == 10) second.0)) (ap (λ x. b ∷ x) (broken_bytes (c ∷ line) y k (omega (arith, e)) parts.1 last))
 
 some_byte : (line : List ℕ) → is_broken line ≡ true → 0 < length line
 some_byte [] h = absurd cc
@@ -135,7 +135,7 @@ ended_refused (b ∷ c ∷ line) y zero e h last = absurd (omega (arith, e))
 ended_refused (b ∷ c ∷ line) y (suc k) e h last =
     let parts = and_parts (not (b == 10)) (has_no_newline (c ∷ line)) h in
     let second = and_parts (not (c == 10)) (has_no_newline line) parts.1 in
-    rw (and_false (b == 92) (c == 10) (not_true (c == 10) second.0))
+    rw (and_false (b == 92) (c == 10) (not-true (c == 10) second.0))
     (and_false (is_string_byte b) (list_all is_string_byte (unbroken (c ∷ line ++ 10 ∷ y))) (ended_refused (c ∷ line) y k (omega (arith, e)) parts.1 last))
 
 line_refused : (line y : List ℕ) → has_no_newline line ≡ true → is_broken line ≡ false → list_all is_string_byte (unbroken (line ++ 10 ∷ y)) ≡ false
