@@ -1,15 +1,15 @@
 -- A reader of numbers in a radix.
 use Rattle.std.proofs.lemmas.Int.Digits.{digits_value-lt}
 use native.Mathlib.Nat.{pow-le-pow_right}
-use Rattle.std.proofs.Common.{◌^◌, lt_of_lt_of_le, ◌≡◌, ℕ, zero, suc, ◌<◌, ◌≤◌, ◌⊎◌, true, false, cond, List, [], ◌∷◌, ◌++◌, length, take, drop, Option, Some, Ok, Err, refl, sym, ◌∙◌, ap, subst, inl, inr, arith}
+use Rattle.std.proofs.Common.{◌^◌, lt_of_lt_of_le, ◌≡◌, ℕ, zero, suc, ◌<◌, ◌≤◌, ◌⊎◌, true, false, List, [], ◌∷◌, ◌++◌, length, drop, Option, Some, Ok, Err, refl, sym, ◌∙◌, ap, subst, inl, inr, arith}
 use Rattle.std.specs.Char.{digit_value, is_digit}
 use Rattle.std.specs.Str.Parse.{AllDigits, digits_value}
 use Rattle.std.proofs.Math.Seq.{drop-append_seam}
 use Rattle.std.proofs.lemmas.Bool.{cases_lt, lt-ltb, le-ltb}
 use Rattle.std.proofs.lemmas.List.{nil_from_length}
-use Rattle.std.proofs.lemmas.List.Sums.{take_while-cons}
 use Rattle.sgb_expr.specs.Numbers.{IsNumber}
 use Rattle.sgb_vec.specs.Digits.{leading_digits}
+use Rattle.sgb_vec.proofs.NamedNumbers.{first_byte}
 use Rattle.sgb_expr.specs.inner.Readings.{number_of_digits, number_at}
 use Rattle.sgb_expr.proofs.Readers.{next, Found, Wrong, Reads, no_ok, ok_same}
 use Rattle.sgb_expr.proofs.Words.{err_same}
@@ -17,10 +17,6 @@ use Rattle.sgb_expr.proofs.Words.{err_same}
 -- the text does not begin with a digit in the radix
 abbrev pub NoDigit : ℕ → List ℕ → Type 0
 NoDigit radix text = (byte : ℕ) → next text ≡ Some byte → digit_value byte < radix → ⊥
-
--- one digit more, or none
-pub leading_more : (radix most byte : ℕ) (text : List ℕ) → leading_digits radix (suc most) (byte ∷ text) ≡ cond (is_digit byte radix) (byte ∷ leading_digits radix most text) []
-leading_more radix most byte text = take_while-cons (λ b. is_digit b radix) byte (take most text)
 
 -- a byte is a digit or none
 digit_cases : (radix byte : ℕ) → ((is_digit byte radix ≡ true) × (digit_value byte < radix)) ⊎ ((is_digit byte radix ≡ false) × (radix ≤ digit_value byte))
@@ -35,11 +31,11 @@ leading_again radix zero [] rest all short none = refl
 leading_again radix (suc most) [] [] all short none = refl
 leading_again radix (suc most) [] (byte ∷ rest) all short none = elim (digit_cases radix byte) [
   | inl h ↦ absurd (none (omega arith) byte refl h.1)
-  | inr h ↦ leading_more radix most byte rest ∙ rw h.0 refl
+  | inr h ↦ first_byte radix most byte rest ∙ rw h.0 refl
 ]
 leading_again radix zero (byte ∷ digits) rest all short none = absurd (omega (arith, short))
 leading_again radix (suc most) (byte ∷ digits) rest all short none = elim (digit_cases radix byte) [
-  | inl h ↦ leading_more radix most byte (digits ++ rest) ∙ rw h.0 (ap (λ u. byte ∷ u) (leading_again radix most digits rest all.1 (omega (arith, short)) (λ lt. none (omega (arith, lt)))))
+  | inl h ↦ first_byte radix most byte (digits ++ rest) ∙ rw h.0 (ap (λ u. byte ∷ u) (leading_again radix most digits rest all.1 (omega (arith, short)) (λ lt. none (omega (arith, lt)))))
   | inr h ↦ absurd (omega (arith, h.1, all.0))
 ]
 
@@ -68,7 +64,7 @@ leading radix (suc most) (byte ∷ text) = elim (digit_cases radix byte) [
     digits = byte ∷ t.digits;
     rest = t.rest;
     whole = ap (λ u. byte ∷ u) t.whole;
-    are = leading_more radix most byte text ∙ rw h.0 (ap (λ u. byte ∷ u) t.are);
+    are = first_byte radix most byte text ∙ rw h.0 (ap (λ u. byte ∷ u) t.are);
     all = (h.1, t.all);
     short = omega (arith, t.short);
     none = λ lt. t.none (omega (arith, lt));
@@ -77,7 +73,7 @@ leading radix (suc most) (byte ∷ text) = elim (digit_cases radix byte) [
     digits = [];
     rest = byte ∷ text;
     whole = refl;
-    are = leading_more radix most byte text ∙ rw h.0 refl;
+    are = first_byte radix most byte text ∙ rw h.0 refl;
     all = tt;
     short = omega arith;
     none = λ lt other e digit. absurd (other_digit radix byte other h.1 e digit);

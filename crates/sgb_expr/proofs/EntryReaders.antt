@@ -12,7 +12,8 @@ use Rattle.sgb_expr.specs.inner.Readings.{◌>>=◌, either, or_else, then_read,
 use Rattle.sgb_expr.specs.inner.Reading.{entry_at, entries_then, entries_for, entries_at}
 use Rattle.sgb_expr.proofs.Readers.{next, Reads, bind_ok, bind_stops, ok_same, either_found, either_stops, by_first, by_second, cut_in, no_ok, reads_then, reads_as, reads_or, reads_before}
 use Rattle.sgb_expr.proofs.Words.{Anything, Fixed, fixed_other, reads_after, reads_fixed, reads_same, err_same}
-use Rattle.sgb_expr.proofs.Digits.{leading_more, number_stops}
+use Rattle.sgb_vec.proofs.NamedNumbers.{first_byte}
+use Rattle.sgb_expr.proofs.Digits.{number_stops}
 use Rattle.sgb_expr.proofs.NumberReaders.{Clear, reads_integer}
 use Rattle.sgb_expr.proofs.Lengths.{Language, Reader, Within, Agree, no_longer, fixed_takes, bind_agrees}
 use Rattle.sgb_expr.proofs.GeneratorReaders.{clear_byte}
@@ -41,7 +42,7 @@ lettered_no_integer [] tail e = absurd (cc)
 lettered_no_integer (byte ∷ text) tail e =
     let all = and_parts (not (is_digit byte 10)) (not (45 == byte) && not (93 == byte)) e in
     let sign = and_parts (not (45 == byte)) (not (93 == byte)) all.1 in
-    let none = leading_more 10 17 byte (text ++ tail) ∙ rw (not-true (is_digit byte 10) all.0) refl in
+    let none = first_byte 10 17 byte (text ++ tail) ∙ rw (not-true (is_digit byte 10) all.0) refl in
     let number = bind_stops (number_at 10 most_digits (byte ∷ text ++ tail)) (λ x. Ok (pos x.0, x.1)) (length (byte ∷ text ++ tail)) (number_stops 10 most_digits (byte ∷ text ++ tail) none) in
     let signed = bind_stops (fixed_at (codes "-") (byte ∷ text ++ tail)) (λ rest. number_at 10 most_digits rest >>= λ x. Ok (neg_ℤ (pos x.0), x.1)) (length (byte ∷ text ++ tail)) (fixed_other 45 byte [] (text ++ tail) (not-true (45 == byte) sign.0)) in
     (min (length (byte ∷ text ++ tail)) (length (byte ∷ text ++ tail)), either_stops _ _ _ _ signed number)

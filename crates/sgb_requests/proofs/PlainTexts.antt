@@ -1,11 +1,9 @@
 -- Texts that do not begin with a hyphen.
-use Rattle.std.proofs.Common.{◌≡◌, ◌≢◌, ◌∙◌, ◌<◌, ◌==◌, ℕ, false, true≢false, List, [], ◌∷◌, Result, Ok, is_ok, refl, sym, ap, subst, arith}
+use Rattle.std.proofs.Common.{◌≡◌, ◌≢◌, ◌∙◌, ◌<◌, ◌==◌, ℕ, false, true≢false, List, [], ◌∷◌, Ok, refl, sym, ap, subst, arith}
 use Rattle.std.specs.Char.{digit_value}
 use Rattle.sgb_expr.specs.Expression.{Expression, expression_of}
 use Rattle.sgb_expr.specs.Expressions.{IsExpression}
-use Rattle.sgb_expr.specs.inner.Names.{generator_openings, openings}
-use Rattle.sgb_expr.specs.inner.Reading.{expression_at, whole_at}
-use Rattle.sgb_expr.proofs.WholeReading.{whole_again}
+use Rattle.sgb_expr.proofs.WholeReading.{no_hyphen}
 use Rattle.sgb_expr.specs.declared.expressions.Expr.{Expr}
 use Rattle.sgb_expr.specs.declared.flips.FlipParams.{FlipParams}
 use Rattle.sgb_requests.specs.Counts.{IsDigits}
@@ -21,17 +19,11 @@ digits_plain (c ∷ cs) is = λ e. let bad : digit_value 45 < 10 = subst (λ (x 
 pub letter : (n : ℕ) → (n == 45) ≡ false → n ≢ 45
 letter n other e = true≢false (sym (ap (λ (x : ℕ). x == 45) e) ∙ other)
 
--- reading a text that begins with the hyphen finds no expression
-hyphen_read : (rest : List ℕ) → is_ok (whole_at (45 ∷ rest)) ≡ false
-unfolding expression_at openings generator_openings
-hyphen_read rest = refl
-
 -- an expression begins with its name
 named : (text : List ℕ) (e : Expression) → IsExpression text e → IsPlain text
 named [] e h = letter 0 refl
 named (x ∷ rest) e h =
-    λ first. let whole = whole_again (45 ∷ rest) e (subst (λ (x : ℕ). IsExpression (x ∷ rest) e) first h) in
-    true≢false (sym (ap (λ (read : Result Expression ℕ). is_ok read) whole) ∙ hyphen_read rest)
+    λ first. no_hyphen rest e (subst (λ (x : ℕ). IsExpression (x ∷ rest) e) first h)
 
 pub expression_plain : (text : List ℕ) (e : Expr) → IsReadAs text (Ok e) → IsPlain text
 expression_plain text e h = named text (expression_of e) h.1
