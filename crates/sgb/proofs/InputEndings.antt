@@ -3,7 +3,7 @@ use Rattle.std.proofs.Common.{◌≡◌, ◌+◌, ℕ, Bool, true, false, List, 
 use Rattle.std.proofs.lemmas.Bool.{both_ways}
 use Rattle.sgb_file.specs.Devices.{AppendsUnlessFailed, Change}
 use Rattle.sgb_requests.specs.Faults.{line_of, status_of}
-use Rattle.sgb.specs.Inputs.{IsKept, IsReadFault}
+use Rattle.sgb.specs.Inputs.{IsKeptOfInput, IsReadFault}
 use Rattle.sgb.specs.Runs.{IsRunFrom}
 use Rattle.sgb.specs.Values.{most_input}
 use Rattle.sgb.specs.inner.Writing.{IsEnded, IsEndedFrom}
@@ -12,7 +12,7 @@ use Rattle.sgb_requests.specs.declared.faults.Fault.TheVariants as fault
 use Rattle.sgb.proofs.Endings.{answers_err, answers_ok, change_of, memory_at_once}
 
 -- something is kept
-pub some_kept : (told : Option (List ℕ)) → (kept : List ℕ) × IsKept told kept
+pub some_kept : (told : Option (List ℕ)) → (kept : List ℕ) × IsKeptOfInput told kept
 some_kept None = ([], tt)
 some_kept (Some bytes) = (take (most_input + 1) bytes, refl)
 

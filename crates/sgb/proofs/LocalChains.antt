@@ -8,7 +8,7 @@ use Rattle.sgb_vec.specs.Lexicographic.{IsRising}
 use Rattle.sgb_vec.specs.inner.Rising.{box_vectors_rise, sum_vectors_rise}
 use Rattle.sgb_vec.proofs.BoxPlaces.{IsBelow-from_Contains}
 use Rattle.sgb_vec.proofs.Lists.{All-flat_map}
-use Rattle.sgb_graph.specs.Events.{Event, IsWithin, Record, all_records, list_of, records_of}
+use Rattle.sgb_graph.specs.Events.{Event, HasEndsBelow, Record, all_records, list_of, records_of}
 use Rattle.sgb_graph.specs.Graphs.{GraphData, chain_of}
 use Rattle.sgb_graph.specs.Made.{graph_described}
 use Rattle.sgb_graph.specs.declared.fields.Link.{Link}
@@ -36,7 +36,7 @@ rising_vectors (local.Simplex s) = sum_vectors_rise s.sum
 rising_vectors (local.Subsets s) = sum_vectors_rise s.sum
 
 -- the arcs of events between vertices lead to vertices
-tips_of_event : (n : ℕ) (directed : Bool) (e : Event) → IsWithin n e → All (λ r. r.tip < n) (records_of directed e)
+tips_of_event : (n : ℕ) (directed : Bool) (e : Event) → HasEndsBelow n e → All (λ r. r.tip < n) (records_of directed e)
 tips_of_event n true e within = All-cons (λ (r : Record). r.tip < n) (record { start = e.from; tip = e.to; len = e.len }) [] within.1 (All-nil (λ (r : Record). r.tip < n))
 tips_of_event n false e within =
     let from = within.0 in
@@ -47,11 +47,11 @@ tips_of_event n false e within =
     let higher : Record = record { start = max e.from e.to; tip = min e.from e.to; len = e.len } in
     All-cons (λ (r : Record). r.tip < n) lower (higher ∷ []) greater (All-cons (λ (r : Record). r.tip < n) higher [] smaller (All-nil (λ (r : Record). r.tip < n)))
 
-tips_of_events : (n : ℕ) (directed : Bool) (events : List Event) → All (IsWithin n) events → All (λ r. r.tip < n) (all_records directed events)
+tips_of_events : (n : ℕ) (directed : Bool) (events : List Event) → All (HasEndsBelow n) events → All (λ r. r.tip < n) (all_records directed events)
 tips_of_events n directed events within =
     All-flat_map (λ (r : Record). r.tip < n) (records_of directed) events (λ k e inside. tips_of_event n directed (get_or events k e) (within k e inside))
 
-tip_of_link : (n : ℕ) (directed : Bool) (events : List Event) (v : ℕ) (l : Link) → All (IsWithin n) events → Contains (list_of directed events v) l → l.tip < n
+tip_of_link : (n : ℕ) (directed : Bool) (events : List Event) (v : ℕ) (l : Link) → All (HasEndsBelow n) events → Contains (list_of directed events v) l → l.tip < n
 tip_of_link n directed events v l within has =
     let records = all_records directed events in
     let own : Record = record { start = v; tip = l.tip; len = l.len } in

@@ -11,7 +11,7 @@ use Rattle.sgb_vec.specs.inner.Rising.{box_vectors_rise, sum_vectors_rise}
 use Rattle.sgb_graph.specs.declared.fields.Link.{Link}
 use Rattle.sgb_vec.specs.declared.panics.Panic.{Panic}
 use Rattle.sgb_graph.specs.Descriptions.{Description, IsGraphOf}
-use Rattle.sgb_graph.specs.Events.{IsWithin, list_of}
+use Rattle.sgb_graph.specs.Events.{HasEndsBelow, list_of}
 use Rattle.sgb_graph.specs.Graphs.{GraphData, chain_of}
 use Rattle.sgb_graph.specs.Made.{graph_described}
 use Rattle.sgb_graph.proofs.Described.{described_is, described_names}
@@ -107,9 +107,9 @@ vertex_within vectors a rise (k, within, there) =
     subst (λ i. i < length vectors) (sym (vertex_in_rising vectors k a rise here)) within
 
 -- moves between vectors are events between their vertices
-pub events_within : (vectors : List (List ℕ)) (moves : List Move) → IsRising vectors → All (HasEnds vectors) moves → All (IsWithin (length vectors)) (map (event_among vectors) moves)
+pub events_within : (vectors : List (List ℕ)) (moves : List Move) → IsRising vectors → All (HasEnds vectors) moves → All (HasEndsBelow (length vectors)) (map (event_among vectors) moves)
 events_within vectors moves rise ends =
-    All-map (IsWithin (length vectors)) (event_among vectors) moves
+    All-map (HasEndsBelow (length vectors)) (event_among vectors) moves
     (λ k d within. let e = ends k d within in (vertex_within vectors (get_or moves k d).from rise e.0, vertex_within vectors (get_or moves k d).to rise e.1))
 
 -- vectors, names and fields of a generator's graph
@@ -124,8 +124,8 @@ lists_of_family id directed vectors moves rise ends v within =
     let d = family_graph id directed vectors moves in
     let g = graph_described d in
     let names : length (map name_of_vector vectors) ≡ length vectors = length-map vectors name_of_vector in
-    let inside : All (IsWithin (length (map name_of_vector vectors))) (map (event_among vectors) moves) =
-    subst (λ n. All (IsWithin n) (map (event_among vectors) moves)) (sym names) (events_within vectors moves rise ends) in
+    let inside : All (HasEndsBelow (length (map name_of_vector vectors))) (map (event_among vectors) moves) =
+    subst (λ n. All (HasEndsBelow n) (map (event_among vectors) moves)) (sym names) (events_within vectors moves rise ends) in
     let is : IsGraphOf d g = described_is d inside (named_vectors vectors) in
     let count : length g.vertices ≡ length vectors = sym (length-map g.vertices (λ x. x.name)) ∙ ap length is.names ∙ names in
     is.arcs.lists v (subst (λ n. v < n) (sym count) within)

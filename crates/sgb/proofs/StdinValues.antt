@@ -20,7 +20,7 @@ use Rattle.sgb_expr.specs.StdinUses.{entries_have_stdin, entry_has_stdin, has_st
 use Rattle.sgb_file.specs.Reading.{IsReadOf}
 use Rattle.sgb_file.specs.Saving.{text_of_graph}
 use Rattle.sgb_file.specs.Devices.{Change}
-use Rattle.sgb.specs.Inputs.{IsKept}
+use Rattle.sgb.specs.Inputs.{IsKeptOfInput}
 use Rattle.sgb.specs.Outcomes.{answer_from, answer_of, list_answer, names_answer, reads_input}
 use Rattle.sgb.specs.Runs.{Input, IsRunFrom, IsRunOn, fails_to_read}
 use Rattle.sgb.specs.Values.{IsValue, both, entry_value, made, most_input, stdin_value, value_of, values_of}
@@ -120,11 +120,11 @@ pub answer_unread : (r : Request) (a b : List ℕ) → reads_input r ≡ false �
 answer_unread r a b unread = answer_same r a b (λ reads. absurd (both_ways (reads_input r) unread reads))
 
 -- what is kept of standard input is as good as all of it
-pub run_on : (r : Request) (source : Input) (kept : List ℕ) (same : Type 0) (out err : Change) (status : ℕ) → (reads_input r ≡ true → IsKept source.bytes kept)
+pub run_on : (r : Request) (source : Input) (kept : List ℕ) (same : Type 0) (out err : Change) (status : ℕ) → (reads_input r ≡ true → IsKeptOfInput source.bytes kept)
     → IsRunFrom (fails_to_read r source) (answer_of r kept) same out err status → IsRunOn r source same out err status
 run_on r source kept same out err status is run = by_told source.bytes is
   where
-    by_told : (told : Option (List ℕ)) → (reads_input r ≡ true → IsKept told kept)
+    by_told : (told : Option (List ℕ)) → (reads_input r ≡ true → IsKeptOfInput told kept)
         → (held : List ℕ) × IfSome told (λ bytes. held ≡ bytes) × IsRunFrom (fails_to_read r source) (answer_of r held) same out err status
     by_told None is = (kept, tt, run)
     by_told (Some bytes) is =

@@ -20,5 +20,5 @@ IsReadFrom failed (Ok x) = failed ≡ false
 IsReadFrom failed (Err f) = IsReadFault failed f
 
 -- what is kept of standard input, where that tells its bytes: these up to the first that is too many
-abbrev pub IsKept : Option (List ℕ) → List ℕ → Type 0
-IsKept told kept = IfSome told (λ input. kept ≡ take (most_input + 1) input)
+abbrev pub IsKeptOfInput : Option (List ℕ) → List ℕ → Type 0
+IsKeptOfInput told kept = IfSome told (λ input. kept ≡ take (most_input + 1) input)

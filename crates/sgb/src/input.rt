@@ -2,7 +2,7 @@
 ghost use Rattle.std.specs.Prelude.{◌≡◌, ◌≤◌, ◌<◌, ◌+◌, ◌-◌, ◌++◌, ◌&&◌, ℕ, List, false, true, length, nat_le, Err, IfOk, IsOk};
 ghost use Rattle.std.specs.Io.KnownBytes.{Consumes, IsAtEnd};
 ghost use Rattle.sgb.specs.Certain.{IsInputRefused};
-ghost use Rattle.sgb.specs.Inputs.{IsKept, IsReadFrom, LosesAtMost};
+ghost use Rattle.sgb.specs.Inputs.{IsKeptOfInput, IsReadFrom, LosesAtMost};
 ghost use Rattle.sgb.specs.Outcomes.{reads_input};
 ghost use Rattle.sgb.specs.Values.{IsValue, most_input, stdin_value};
 ghost use Rattle.sgb.specs.inner.Inputs.{left_after};
@@ -44,7 +44,7 @@ pub(crate) fn input_for<R: Source>(
     source: &mut R,
 ) -> Result<Vec<u8>, Fault>
     ensures kept { IfOk result (λ bytes. reads_input request.now ≡ true
-        → IsKept (R.remaining source.old) bytes.items) }
+        → IsKeptOfInput (R.remaining source.old) bytes.items) }
     ensures ended { IsReadFrom (reads_input request.now && R.has_failed source.new) result }
     ensures unread { reads_input request.now ≡ false → source.new ≡ source.old }
     ensures none { reads_input request.now ≡ false → IsOk result }
@@ -61,7 +61,7 @@ pub(crate) fn input_for<R: Source>(
 ///
 /// `Read` where the source fails, `Panic(NoRoom)` when out of memory.
 pub fn read_input<R: Source>(alloc: Global, source: &mut R) -> Result<Vec<u8>, Fault>
-    ensures kept { IfOk result (λ bytes. IsKept (R.remaining source.old) bytes.items) }
+    ensures kept { IfOk result (λ bytes. IsKeptOfInput (R.remaining source.old) bytes.items) }
     ensures ended { IsReadFrom (R.has_failed source.new) result }
     ensures bounded { LosesAtMost (most_input + 1) (R.remaining source.old)
         (R.remaining source.new) }

@@ -9,7 +9,7 @@ ghost use Rattle.sgb_ops.specs.Operands.{names_of};
 ghost use Rattle.sgb.specs.Certain.{BeginsNowhereOn, IsBoard, IsCertain, IsRefusedAtOnce, NeedsNoMemory};
 ghost use Rattle.sgb.specs.inner.Certain.{HasListingAtOnce, HasNamesAtOnce};
 ghost use Rattle.sgb.specs.Outcomes.{answer_from, answer_of, list_answer, names_answer, queen_moves, queen_title, reads_input};
-ghost use Rattle.sgb.specs.Inputs.{IsKept, LosesAtMost};
+ghost use Rattle.sgb.specs.Inputs.{IsKeptOfInput, LosesAtMost};
 ghost use Rattle.sgb.specs.Runs.{IsRunOn};
 ghost use Rattle.sgb.specs.Texts.{blocks, head};
 ghost use Rattle.sgb.specs.Values.{generator_value, made, most_input, value_of};
@@ -79,7 +79,7 @@ fn answer<R: Source, W: Sink>(
 ) -> Result<(), Fault>
     requires { W.has_failed out.old ≡ false }
     ensures ended { (kept : List ℕ)
-        × (reads_input request.now ≡ true → IsKept (R.remaining source.old) kept)
+        × (reads_input request.now ≡ true → IsKeptOfInput (R.remaining source.old) kept)
         × IsEndedFrom (reads_input request.now && R.has_failed source.new)
         (answer_of request.now kept) (out.new ≡ out.old)
         (change W.written W.has_failed out.old out.new) result }

@@ -4,7 +4,7 @@ use Rattle.std.proofs.Common.{◌≡◌, ℤ, Bool, List, Box, Global, refl, ◌
 use Rattle.sgb_expr.specs.inner.CodeEntries.{list_of}
 use Rattle.sgb_expr.specs.Listed.{listed}
 use Rattle.sgb_expr.specs.Expression.{Expression, entries_of, entry_of, expression_of, row_entries, EntryThen}
-use Rattle.sgb_expr.specs.Operations.{flag_at, induced_of}
+use Rattle.sgb_expr.specs.Operations.{flag_at, induced_call}
 use Rattle.sgb_expr.specs.declared.entries.Entries.{Entries}
 use Rattle.sgb_expr.specs.declared.expressions.Expr.{Expr, Row_of-EntryExpr, end_of-EntryExpr, more_of-EntryExpr, items-the_row-EntryExpr, items_hidden-the_row-EntryExpr-0}
 use Rattle.sgb_expr.specs.declared.expressions.Expr.TheVariants as expr
@@ -29,6 +29,6 @@ induced_is graph entries self_loops multi directed =
 
 -- and with flags that integers are
 pub induced_made : (graph : Box Expr Global) (entries : Entries) (numbers : List ℤ) (self_loops multi directed : Bool) → self_loops ≡ flag_at numbers 0 → multi ≡ flag_at numbers 1 → directed ≡ flag_at numbers 2
-    → expression_of (expr.Induced graph entries self_loops multi directed) ≡ induced_of (expression_of graph.value) (list_of entries) numbers
+    → expression_of (expr.Induced graph entries self_loops multi directed) ≡ induced_call (expression_of graph.value) (list_of entries) numbers
 induced_made graph entries numbers self_loops multi directed e f g =
     rw (e, f, g) (induced_is graph entries (flag_at numbers 0) (flag_at numbers 1) (flag_at numbers 2))

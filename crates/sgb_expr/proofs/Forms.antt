@@ -3,7 +3,7 @@ use Rattle.std.proofs.Common.{ℕ, List, [], codes, Result, Ok, refl, ◌∙◌,
 use Rattle.sgb_expr.specs.Expression.{Expression}
 use Rattle.sgb_expr.specs.Forms.{AreNumbers}
 use Rattle.sgb_expr.specs.Languages.{Then, After, As}
-use Rattle.sgb_expr.specs.Operations.{AreEntries, AreOperands, IsCallOf, IsEntryList, complement_of, gunion_of, intersection_of, product_of, lines_of, induced_of, bi_complete_of, wheel_of}
+use Rattle.sgb_expr.specs.Operations.{AreEntries, AreOperands, IsCallOf, IsEntryList, complement_call, gunion_call, intersection_call, product_call, lines_call, induced_call, bi_complete_call, wheel_call}
 use Rattle.sgb_expr.specs.inner.Readings.{◌>>=◌, then_read, read_after, read_as, fixed_at, integers_at}
 use Rattle.sgb_expr.specs.inner.Reading.{arguments_with, entries_at, entry_list_at, operands_with}
 use Rattle.sgb_expr.specs.declared.names.Name.{Name}
@@ -83,20 +83,20 @@ entries_form = record {
 }
 
 -- a graph, entries and three integers
-induced_form : (graph : Expression) → Form (λ Inner. After (codes ",") (Then (IsEntryList Inner) (λ entries. As (induced_of graph entries) (AreNumbers (codes ",") 3 (codes ")"))))) (λ inner. read_after (codes ",") (then_read (entry_list_at inner) (λ entries. read_as (induced_of graph entries) (integers_at (codes ",") 3 (codes ")")))))
+induced_form : (graph : Expression) → Form (λ Inner. After (codes ",") (Then (IsEntryList Inner) (λ entries. As (induced_call graph entries) (AreNumbers (codes ",") 3 (codes ")"))))) (λ inner. read_after (codes ",") (then_read (entry_list_at inner) (λ entries. read_as (induced_call graph entries) (integers_at (codes ",") 3 (codes ")")))))
 induced_form graph =
     form_after (codes ",") (form_then (form_after (codes "[") entries_form) (λ entries.
-    plain (reads_as (induced_of graph entries) (reads_integers (codes ",") 3 (codes ")") close_end))))
+    plain (reads_as (induced_call graph entries) (reads_integers (codes ",") 3 (codes ")") close_end))))
 
 -- the form of each name
 pub form_of : (name : Name) → Form (λ Inner. IsCallOf Inner name) (λ inner. arguments_with inner name)
 form_of (Generator name) = plain (reads_as Expression.Generated (reads_generator name))
-form_of Complement = form_then inside (λ graph. plain (reads_as (complement_of graph) (reads_integers (codes ",") 3 (codes ")") close_end)))
-form_of Gunion = form_as gunion_of operands_form
-form_of Intersection = form_as intersection_of operands_form
-form_of Lines = form_then inside (λ graph. plain (reads_as (lines_of graph) (reads_integers (codes ",") 1 (codes ")") close_end)))
-form_of Product = form_as product_of operands_form
+form_of Complement = form_then inside (λ graph. plain (reads_as (complement_call graph) (reads_integers (codes ",") 3 (codes ")") close_end)))
+form_of Gunion = form_as gunion_call operands_form
+form_of Intersection = form_as intersection_call operands_form
+form_of Lines = form_then inside (λ graph. plain (reads_as (lines_call graph) (reads_integers (codes ",") 1 (codes ")") close_end)))
+form_of Product = form_as product_call operands_form
 form_of Induced = form_then inside induced_form
-form_of BiComplete = plain (reads_as bi_complete_of (reads_integers [] 3 (codes ")") close_end))
-form_of Wheel = plain (reads_as wheel_of (reads_integers [] 3 (codes ")") close_end))
+form_of BiComplete = plain (reads_as bi_complete_call (reads_integers [] 3 (codes ")") close_end))
+form_of Wheel = plain (reads_as wheel_call (reads_integers [] 3 (codes ")") close_end))
 form_of Stdin = plain (reads_fixed Expression.Stdin [])

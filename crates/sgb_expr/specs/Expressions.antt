@@ -12,8 +12,8 @@ use Rattle.sgb_expr.specs.declared.names.Name.{Name}
 use Rattle.sgb_expr.specs.declared.names.Name.TheVariants as form
 
 -- a text that is read has at most this many bytes
-abbrev pub most_bytes : ℕ
-most_bytes = 65_536
+abbrev pub most_expression_bytes : ℕ
+most_expression_bytes = 65_536
 
 -- parentheses are nested at most this deep
 abbrev pub most_depth : ℕ
@@ -52,7 +52,7 @@ IsDeep text = (k : ℕ) × (k ≤ length text) × (closed_count (take k text) + 
 
 -- the text is too large, whatever it says
 abbrev pub IsTooLarge : List ℕ → Type 0
-IsTooLarge text = (most_bytes < length text) ⊎ IsDeep text
+IsTooLarge text = (most_expression_bytes < length text) ⊎ IsDeep text
 
 -- why the text is not read: too large before all else, then no expression, with the length of the longest prefix that
 -- begins one; out of memory
@@ -62,6 +62,6 @@ IsUnread text (unread.At k) = (IsTooLarge text → ⊥) × IsNoExpression text �
 IsUnread text unread.NoRoom = Unit {0}
 
 -- the text is read as this expression, or not read for this cause
-abbrev pub IsReadAs : List ℕ → Result Expr Unread → Type 0
-IsReadAs text (Ok e) = (IsTooLarge text → ⊥) × IsExpression text (expression_of e)
-IsReadAs text (Err cause) = IsUnread text cause
+abbrev pub IsExpressionRead : List ℕ → Result Expr Unread → Type 0
+IsExpressionRead text (Ok e) = (IsTooLarge text → ⊥) × IsExpression text (expression_of e)
+IsExpressionRead text (Err cause) = IsUnread text cause

@@ -22,8 +22,8 @@ abbrev pub number_of : List ℤ → ℕ → ℤ
 number_of numbers k = slice_index_or numbers k (pos 0)
 
 -- board(n1,n2,n3,n4,piece,wrap,directed)
-abbrev pub board_of : List ℤ → BoardParams
-board_of numbers = record {
+abbrev pub board_params : List ℤ → BoardParams
+board_params numbers = record {
   n1 = number_of numbers 0;
   n2 = number_of numbers 1;
   n3 = number_of numbers 2;
@@ -34,8 +34,8 @@ board_of numbers = record {
 }
 
 -- simplex(n,n0,n1,n2,n3,n4,directed)
-abbrev pub simplex_of : List ℤ → SimplexParams
-simplex_of numbers = record {
+abbrev pub simplex_params : List ℤ → SimplexParams
+simplex_params numbers = record {
   n = number_of numbers 0;
   n0 = number_of numbers 1;
   n1 = number_of numbers 2;
@@ -46,8 +46,8 @@ simplex_of numbers = record {
 }
 
 -- subsets(n,n0,n1,n2,n3,n4,size_bits,directed)
-abbrev pub subsets_of : List ℤ → ℕ → ℤ → SubsetsParams
-subsets_of numbers size_bits directed = record {
+abbrev pub subsets_params : List ℤ → ℕ → ℤ → SubsetsParams
+subsets_params numbers size_bits directed = record {
   n = number_of numbers 0;
   n0 = number_of numbers 1;
   n1 = number_of numbers 2;
@@ -72,12 +72,12 @@ AreArguments n = AreNumbers [] n (codes ")")
 
 -- the text is the arguments of the generator's form of this name, to its `)`, and with them it names this graph
 abbrev pub IsGeneratorCall : GeneratorName → List ℕ → Generator → Type 0
-IsGeneratorCall Board text f = (numbers : List ℤ) × AreArguments 7 text numbers × (f ≡ generator.Board (board_of numbers))
-IsGeneratorCall Simplex text f = (numbers : List ℤ) × AreArguments 7 text numbers × (f ≡ generator.Simplex (simplex_of numbers))
+IsGeneratorCall Board text f = (numbers : List ℤ) × AreArguments 7 text numbers × (f ≡ generator.Board (board_params numbers))
+IsGeneratorCall Simplex text f = (numbers : List ℤ) × AreArguments 7 text numbers × (f ≡ generator.Simplex (simplex_params numbers))
 IsGeneratorCall Subsets text f =
     (numbers : List ℤ) × (size_bits : ℕ) × (directed : List ℤ) × (first bits last : List ℕ)
     × (text ≡ first ++ bits ++ last) × AreNumbers [] 6 (codes ",") first numbers × IsBits bits size_bits
-    × AreNumbers (codes ",") 1 (codes ")") last directed × (f ≡ generator.Subsets (subsets_of numbers size_bits (number_of directed 0)))
+    × AreNumbers (codes ",") 1 (codes ")") last directed × (f ≡ generator.Subsets (subsets_params numbers size_bits (number_of directed 0)))
 IsGeneratorCall Complete text f = (numbers : List ℤ) × AreArguments 1 text numbers × (f ≡ generator.Board (complete (number_of numbers 0)))
 IsGeneratorCall Transitive text f = (numbers : List ℤ) × AreArguments 1 text numbers × (f ≡ generator.Board (transitive (number_of numbers 0)))
 IsGeneratorCall Empty text f = (numbers : List ℤ) × AreArguments 1 text numbers × (f ≡ generator.Board (empty (number_of numbers 0)))

@@ -13,8 +13,8 @@ abbrev pub flag_at : List ℤ → ℕ → Bool
 flag_at numbers k = flag_of (number_of numbers k)
 
 -- complement(graph,copy,self_loops,directed)
-abbrev pub complement_of : Expression → List ℤ → Expression
-complement_of graph numbers = Expression.Complement graph (flag_at numbers 0) (flag_at numbers 1) (flag_at numbers 2)
+abbrev pub complement_call : Expression → List ℤ → Expression
+complement_call graph numbers = Expression.Complement graph (flag_at numbers 0) (flag_at numbers 1) (flag_at numbers 2)
 
 -- two graphs, and two integers after them
 pub record Operands : Type 0 where
@@ -23,32 +23,32 @@ pub record Operands : Type 0 where
   pub numbers : List ℤ
 
 -- gunion(first,second,multi,directed)
-abbrev pub gunion_of : Operands → Expression
-gunion_of o = Expression.Gunion o.first o.second (flag_at o.numbers 0) (flag_at o.numbers 1)
+abbrev pub gunion_call : Operands → Expression
+gunion_call o = Expression.Gunion o.first o.second (flag_at o.numbers 0) (flag_at o.numbers 1)
 
 -- intersection(first,second,multi,directed)
-abbrev pub intersection_of : Operands → Expression
-intersection_of o = Expression.Intersection o.first o.second (flag_at o.numbers 0) (flag_at o.numbers 1)
+abbrev pub intersection_call : Operands → Expression
+intersection_call o = Expression.Intersection o.first o.second (flag_at o.numbers 0) (flag_at o.numbers 1)
 
 -- product(first,second,kind,directed)
-abbrev pub product_of : Operands → Expression
-product_of o = Expression.Product o.first o.second (number_of o.numbers 0) (flag_at o.numbers 1)
+abbrev pub product_call : Operands → Expression
+product_call o = Expression.Product o.first o.second (number_of o.numbers 0) (flag_at o.numbers 1)
 
 -- lines(graph,directed)
-abbrev pub lines_of : Expression → List ℤ → Expression
-lines_of graph numbers = Expression.Lines graph (flag_at numbers 0)
+abbrev pub lines_call : Expression → List ℤ → Expression
+lines_call graph numbers = Expression.Lines graph (flag_at numbers 0)
 
 -- induced(graph,entries,self_loops,multi,directed)
-abbrev pub induced_of : Expression → List Entry → List ℤ → Expression
-induced_of graph entries numbers = Expression.Induced graph (entries_of entries) (flag_at numbers 0) (flag_at numbers 1) (flag_at numbers 2)
+abbrev pub induced_call : Expression → List Entry → List ℤ → Expression
+induced_call graph entries numbers = Expression.Induced graph (entries_of entries) (flag_at numbers 0) (flag_at numbers 1) (flag_at numbers 2)
 
 -- bi_complete(n1,n2,directed)
-abbrev pub bi_complete_of : List ℤ → Expression
-bi_complete_of numbers = Expression.BiComplete (number_of numbers 0) (number_of numbers 1) (flag_at numbers 2)
+abbrev pub bi_complete_call : List ℤ → Expression
+bi_complete_call numbers = Expression.BiComplete (number_of numbers 0) (number_of numbers 1) (flag_at numbers 2)
 
 -- wheel(n,n1,directed)
-abbrev pub wheel_of : List ℤ → Expression
-wheel_of numbers = Expression.Wheel (number_of numbers 0) (number_of numbers 1) (flag_at numbers 2)
+abbrev pub wheel_call : List ℤ → Expression
+wheel_call numbers = Expression.Wheel (number_of numbers 0) (number_of numbers 1) (flag_at numbers 2)
 
 -- the text is the arguments of the generator's form of this name, and with them it is this expression
 abbrev pub IsGenerator : GeneratorName → List ℕ → Expression → Type 0
@@ -78,14 +78,14 @@ IsEntryList Inner = After (codes "[") (AreEntries Inner [])
 -- expressions inside; nothing after `stdin`
 abbrev pub IsCallOf : (List ℕ → Expression → Type 0) → Name → List ℕ → Expression → Type 0
 IsCallOf Inner (Generator name) = IsGenerator name
-IsCallOf Inner Complement = Then Inner (λ graph. As (complement_of graph) (AreNumbers (codes ",") 3 (codes ")")))
-IsCallOf Inner Gunion = As gunion_of (AreOperands Inner)
-IsCallOf Inner Intersection = As intersection_of (AreOperands Inner)
-IsCallOf Inner Lines = Then Inner (λ graph. As (lines_of graph) (AreNumbers (codes ",") 1 (codes ")")))
-IsCallOf Inner Product = As product_of (AreOperands Inner)
+IsCallOf Inner Complement = Then Inner (λ graph. As (complement_call graph) (AreNumbers (codes ",") 3 (codes ")")))
+IsCallOf Inner Gunion = As gunion_call (AreOperands Inner)
+IsCallOf Inner Intersection = As intersection_call (AreOperands Inner)
+IsCallOf Inner Lines = Then Inner (λ graph. As (lines_call graph) (AreNumbers (codes ",") 1 (codes ")")))
+IsCallOf Inner Product = As product_call (AreOperands Inner)
 IsCallOf Inner Induced =
     Then Inner (λ graph. After (codes ",") (Then (IsEntryList Inner) (λ entries.
-    As (induced_of graph entries) (AreNumbers (codes ",") 3 (codes ")")))))
-IsCallOf Inner BiComplete = As bi_complete_of (AreArguments 3)
-IsCallOf Inner Wheel = As wheel_of (AreArguments 3)
+    As (induced_call graph entries) (AreNumbers (codes ",") 3 (codes ")")))))
+IsCallOf Inner BiComplete = As bi_complete_call (AreArguments 3)
+IsCallOf Inner Wheel = As wheel_call (AreArguments 3)
 IsCallOf Inner Stdin = λ text e. (text ≡ []) × (e ≡ Expression.Stdin)

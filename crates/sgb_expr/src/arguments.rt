@@ -1,7 +1,7 @@
 //! The arguments of each generator's form, and the graph that they name.
 ghost use Rattle.std.specs.Prelude.{◌≡◌, ◌<◌, ◌^◌, IfOk, [], ◌∷◌, codes, length, nat_abs};
 ghost use Rattle.sgb_gen.specs.Shorthands.{complete, transitive, empty, circuit, cycle, disjoint_subsets, petersen};
-ghost use Rattle.sgb_expr.specs.Forms.{board_of, simplex_of, subsets_of, number_of};
+ghost use Rattle.sgb_expr.specs.Forms.{board_params, simplex_params, subsets_params, number_of};
 ghost use Rattle.sgb_expr.specs.inner.Gives.{Finds};
 ghost use Rattle.sgb_expr.specs.inner.Reading.{generator_at, subsets_at};
 ghost use Rattle.sgb_expr.specs.inner.Readings.{integers_at};
@@ -72,7 +72,7 @@ fn subsets_arguments(text: &[u8]) -> Result<(Generator, &[u8]), Mismatch>
 
 // The board of these numbers, in the order of its name.
 fn board(numbers: [i64; 7]) -> BoardParams
-    ensures { result ≡ board_of numbers }
+    ensures { result ≡ board_params numbers }
 {
     let [n1, n2, n3, n4, piece, wrap, directed] = numbers;
     BoardParams {
@@ -88,7 +88,7 @@ fn board(numbers: [i64; 7]) -> BoardParams
 
 // The simplex of these numbers, in the order of its name.
 fn simplex(numbers: [i64; 7]) -> SimplexParams
-    ensures { result ≡ simplex_of numbers }
+    ensures { result ≡ simplex_params numbers }
 {
     let [n, n0, n1, n2, n3, n4, directed] = numbers;
     SimplexParams {
@@ -104,7 +104,7 @@ fn simplex(numbers: [i64; 7]) -> SimplexParams
 
 // The subsets of these numbers, in the order of their name.
 fn subsets(numbers: [i64; 6], size_bits: u128, directed: i64) -> SubsetsParams
-    ensures { result ≡ subsets_of numbers size_bits directed }
+    ensures { result ≡ subsets_params numbers size_bits directed }
 {
     let [n, n0, n1, n2, n3, n4] = numbers;
     SubsetsParams {

@@ -1,7 +1,7 @@
 //! The expressions that name a graph, and reading them.
 ghost use Rattle.std.specs.Prelude.{◌≡◌, Err, IfOk};
 ghost use Rattle.sgb_expr.specs.Expression.{Expression, expression_of};
-ghost use Rattle.sgb_expr.specs.Expressions.{IsExpression, IsReadAs, IsTooLarge};
+ghost use Rattle.sgb_expr.specs.Expressions.{IsExpression, IsExpressionRead, IsTooLarge};
 ghost use Rattle.sgb_expr.specs.inner.Gives.{Gives};
 ghost use Rattle.sgb_expr.specs.inner.Reading.{whole_at};
 
@@ -108,7 +108,7 @@ pub enum Unread {
 /// than `)`. `At(k)` where it is no expression; its first k bytes are its longest prefix that begins one. `NoRoom`
 /// when out of memory.
 pub fn read_expr(alloc: Global, text: &[u8]) -> Result<Expr, Unread>
-    ensures read { IsReadAs text.now result }
+    ensures read { IsExpressionRead text.now result }
     ensures only { (e : Expression) → IsExpression text.now e
         → IfOk result (λ read. expression_of read ≡ e) }
     ensures large { IsTooLarge text.now → result ≡ Err Unread.TooLarge }

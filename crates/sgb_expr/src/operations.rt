@@ -5,7 +5,7 @@ ghost use Rattle.sgb_expr.specs.Expression.{entry_of, expression_of};
 ghost use Rattle.sgb_expr.specs.inner.Gives.{Finds, Gives};
 ghost use Rattle.sgb_expr.specs.inner.TwoGraphs.{operands_of};
 ghost use Rattle.sgb_expr.specs.declared.wrong.Wrong.TheVariants.{NoRoom};
-ghost use Rattle.sgb_expr.specs.Operations.{bi_complete_of, gunion_of, induced_of, intersection_of, product_of, wheel_of};
+ghost use Rattle.sgb_expr.specs.Operations.{bi_complete_call, gunion_call, induced_call, intersection_call, product_call, wheel_call};
 ghost use Rattle.sgb_expr.specs.inner.Readings.{integers_at, read_as};
 ghost use Rattle.sgb_expr.specs.inner.Reading.{arguments_with, complement_with, entry_at, entry_list_at, expression_at, induced_with, lines_with, operands_with};
 
@@ -132,7 +132,7 @@ fn induced(alloc: Global, text: &[u8]) -> Result<(Expr, &[u8]), Wrong>
 // The graph that entries induce, by whether it keeps self-loops and parallel edges and is directed.
 fn induced_graph(graph: Box<Expr>, entries: Entries, numbers: [i64; 3]) -> Expr
     ensures { expression_of result
-        ≡ induced_of (expression_of graph.value) (list_of entries) numbers }
+        ≡ induced_call (expression_of graph.value) (list_of entries) numbers }
 {
     let [self_loops, multi, directed] = numbers;
     Expr::Induced {
@@ -188,7 +188,7 @@ fn entry(alloc: Global, text: &[u8]) -> Result<(EntryExpr, &[u8]), Wrong>
 
 // The union of two graphs, by whether it keeps parallel edges and is directed.
 fn gunion(graphs: TwoGraphs) -> Expr
-    ensures { expression_of result ≡ gunion_of (operands_of graphs) }
+    ensures { expression_of result ≡ gunion_call (operands_of graphs) }
 {
     let [multi, directed] = graphs.numbers;
     Expr::Gunion {
@@ -201,7 +201,7 @@ fn gunion(graphs: TwoGraphs) -> Expr
 
 // The intersection of two graphs, by whether it keeps parallel edges and is directed.
 fn intersection(graphs: TwoGraphs) -> Expr
-    ensures { expression_of result ≡ intersection_of (operands_of graphs) }
+    ensures { expression_of result ≡ intersection_call (operands_of graphs) }
 {
     let [multi, directed] = graphs.numbers;
     Expr::Intersection {
@@ -214,7 +214,7 @@ fn intersection(graphs: TwoGraphs) -> Expr
 
 // The product of two graphs, by its kind and whether it is directed.
 fn product(graphs: TwoGraphs) -> Expr
-    ensures { expression_of result ≡ product_of (operands_of graphs) }
+    ensures { expression_of result ≡ product_call (operands_of graphs) }
 {
     let [kind, directed] = graphs.numbers;
     Expr::Product {
@@ -228,7 +228,7 @@ fn product(graphs: TwoGraphs) -> Expr
 // The arguments of a complete bipartite graph.
 fn bi_complete(text: &[u8]) -> Result<(Expr, &[u8]), Mismatch>
     ensures { Finds (λ x. (expression_of x.0, x.1.now)) result
-        (read_as bi_complete_of (integers_at [] 3 (codes ")")) text.now) }
+        (read_as bi_complete_call (integers_at [] 3 (codes ")")) text.now) }
 {
     let ([n1, n2, directed], rest) = integers::<3>(b"", text, b")")?;
     let graph = Expr::BiComplete {
@@ -242,7 +242,7 @@ fn bi_complete(text: &[u8]) -> Result<(Expr, &[u8]), Mismatch>
 // The arguments of a wheel.
 fn wheel(text: &[u8]) -> Result<(Expr, &[u8]), Mismatch>
     ensures { Finds (λ x. (expression_of x.0, x.1.now)) result
-        (read_as wheel_of (integers_at [] 3 (codes ")")) text.now) }
+        (read_as wheel_call (integers_at [] 3 (codes ")")) text.now) }
 {
     let ([n, n1, directed], rest) = integers::<3>(b"", text, b")")?;
     let graph = Expr::Wheel {

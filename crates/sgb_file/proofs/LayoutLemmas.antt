@@ -8,11 +8,11 @@ use Rattle.std.proofs.lemmas.List.Sums.{AllPass-from_list_all}
 use Rattle.std.proofs.lemmas.List.Folds.{list_all-append}
 use Rattle.sgb_graph.proofs.Lists.{list_all-made}
 use Rattle.std.proofs.lemmas.Bool.Decides.{nat_tests}
-use Rattle.sgb_file.specs.Saving.{most_line_bytes, breaks_of, broken_lines, last_part, fits_on, part_from_break, lines_ended, line_begun, laid_out}
+use Rattle.sgb_file.specs.Saving.{most_file_line_bytes, breaks_of, broken_lines, last_part, fits_on, part_from_break, lines_ended, line_begun, laid_out}
 
 -- the line has at most 79 bytes
 abbrev pub is_short : List ℕ → Bool
-is_short line = nat_le (length line) most_line_bytes
+is_short line = nat_le (length line) most_file_line_bytes
 
 -- the test of at most 79 bytes
 short_by_length : (line : List ℕ) → length line ≤ 79 → is_short line ≡ true
@@ -57,11 +57,11 @@ laid_out_are_short line (piece ∷ pieces) h =
     (laid_out_are_short (line_begun line piece) pieces (begun_is_short (fits_on line piece) line piece refl)))
 
 -- lines that all pass the test are short
-pub short_lines : (lines : List (List ℕ)) → list_all is_short lines ≡ true → All (λ line. length line ≤ most_line_bytes) lines
+pub short_lines : (lines : List (List ℕ)) → list_all is_short lines ≡ true → All (λ line. length line ≤ most_file_line_bytes) lines
 short_lines lines e = λ k d below. length_by_short _ (AllPass-from_list_all is_short lines e k d below)
 
 -- a piece is broken as long as more than 79 bytes are left of it
-pub broken_further : (piece : List ℕ) (k : ℕ) → (k < breaks_of piece) ↔ (most_line_bytes < length (part_from_break piece k))
+pub broken_further : (piece : List ℕ) (k : ℕ) → (k < breaks_of piece) ↔ (most_file_line_bytes < length (part_from_break piece k))
 broken_further piece k = (
   (λ h. rw length-drop (omega arith)),
   (λ h. let left : 79 < length piece - 78 * k = rw length-drop at h in omega arith),

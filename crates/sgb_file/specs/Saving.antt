@@ -15,8 +15,8 @@ use Rattle.sgb_file.specs.FileLines.{text_of_lines}
 use Rattle.sgb_file.specs.Checksum.{checksum_of_lines}
 
 -- a line has at most this many bytes
-abbrev pub most_line_bytes : ℕ
-most_line_bytes = 79
+abbrev pub most_file_line_bytes : ℕ
+most_file_line_bytes = 79
 
 -- the letter of a kind
 abbrev pub letter_of : Kind → ℕ
@@ -72,7 +72,7 @@ broken_line_bytes = 78
 
 -- how often a piece is broken: the bytes past the first 79 in parts of 78, rounded up
 abbrev pub breaks_of : List ℕ → ℕ
-breaks_of piece = (length piece - most_line_bytes + (broken_line_bytes - 1)) / broken_line_bytes
+breaks_of piece = (length piece - most_file_line_bytes + (broken_line_bytes - 1)) / broken_line_bytes
 
 -- the part of a piece from its k-th break on
 abbrev pub part_from_break : List ℕ → ℕ → List ℕ
@@ -89,7 +89,7 @@ last_part piece = part_from_break piece (breaks_of piece)
 
 -- the piece fits on a line that begins with these bytes
 abbrev pub fits_on : List ℕ → List ℕ → Bool
-fits_on line piece = nat_le (length line + length piece) most_line_bytes
+fits_on line piece = nat_le (length line + length piece) most_file_line_bytes
 
 -- the lines that end where a piece is laid out after a line's beginning, before the piece or within it
 abbrev pub lines_ended : List ℕ → List ℕ → List (List ℕ)

@@ -9,9 +9,9 @@ mod cut_sink;
 mod cut_source;
 mod from_read;
 mod memory;
-mod parts;
+mod single_calls;
 mod to_write;
-mod whole;
+mod whole_puts;
 
 pub use buffered::Buffered;
 pub use cut_sink::CutSink;
@@ -19,7 +19,7 @@ pub use cut_source::CutSource;
 pub use from_read::FromRead;
 pub use memory::{MemSink, MemSource};
 pub use to_write::ToWrite;
-pub use whole::put_all;
+pub use whole_puts::put_all;
 
 /// A device gave up. It stays so.
 #[derive(Clone, Copy, Debug, PartialEq, Eq)]

@@ -8,7 +8,7 @@ ghost use Rattle.sgb_file.specs.Records.{Head, records_at};
 ghost use Rattle.sgb_file.specs.Refused.{HasNoClosing, HasNoOpening, HasNoRecords, HasUnsoundLists};
 ghost use Rattle.sgb_file.specs.Restoring.{graph_of_text, head_of_line};
 ghost use Rattle.sgb_file.specs.Saved.{CanBeChecked, CanBeSaved};
-ghost use Rattle.sgb_file.specs.Saving.{breaks_of, most_line_bytes, part_from_break, record_lines, text_of_graph};
+ghost use Rattle.sgb_file.specs.Saving.{breaks_of, most_file_line_bytes, part_from_break, record_lines, text_of_graph};
 
 mod saved_graphs;
 
@@ -54,9 +54,9 @@ pub fn file_parts_law()
 /// it, and not further (GB_SAVE, save_graph).
 pub fn line_bytes_law()
     ensures lines { (texts : List (List ℕ))
-        → All (λ line. length line ≤ most_line_bytes) (record_lines texts) }
+        → All (λ line. length line ≤ most_file_line_bytes) (record_lines texts) }
     ensures broken { (piece : List ℕ) (k : ℕ) → (k < breaks_of piece)
-        ↔ (most_line_bytes < length (part_from_break piece k)) }
+        ↔ (most_file_line_bytes < length (part_from_break piece k)) }
 {}
 
 /// What is written is read again as the same graph, whatever follows it (GB_SAVE, save_graph and restore_graph).

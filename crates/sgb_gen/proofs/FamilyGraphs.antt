@@ -8,7 +8,7 @@ use Rattle.sgb_vec.specs.Names.{name_of_vector}
 use Rattle.sgb_vec.specs.declared.panics.Panic.{Panic}
 use Rattle.sgb_vec.specs.declared.panics.Panic.TheVariants.{NoRoom}
 use Rattle.sgb_graph.specs.Graphs.{GraphData, ends_of}
-use Rattle.sgb_graph.specs.Events.{Event, HasArcsOf, IsWithin}
+use Rattle.sgb_graph.specs.Events.{Event, HasArcsOf, HasEndsBelow}
 use Rattle.sgb_graph.specs.Descriptions.{Description, IsAnswerOf, IsGraphOf}
 use Rattle.sgb_graph.specs.Growth.{new_graph, with_id}
 use Rattle.sgb_graph.specs.Made.{no_fields}
@@ -38,7 +38,7 @@ arcs_stay directed events vectors old new id h k =
       tips = ap (map (λ r. r.tip)) k.records ∙ h.tips;
       lengths = ap (map (λ r. r.len)) k.records ∙ h.lengths;
       lists = λ v within. k.chains v ∙ h.lists v (omega arith);
-      within = subst (λ n. All (IsWithin n) events) (sym size) h.within;
+      within = subst (λ n. All (HasEndsBelow n) events) (sym size) h.within;
       ends = All-from_map (λ first. ends_of new.records first ≡ true) (λ v. v.arcs) new.vertices
           (subst (All (λ first. ends_of new.records first ≡ true)) (sym k.firsts)
           (subst (λ rs. All (λ first. ends_of rs first ≡ true) (map (λ v. v.arcs) old.vertices)) (sym k.records)

@@ -23,10 +23,10 @@ mod shifts;
 mod shorthands;
 // Displacements with the coordinates that they move.
 mod steps;
-// The vectors of a family, found by search.
-mod tables;
 // The names and the coordinates of a family's graph.
 mod vector_graphs;
+// The vectors of a family, found by search.
+mod vector_tables;
 
 pub use accepted::{Board, BoardLists, Simplex, Subsets, common};
 pub use generators::{board, simplex, subsets};

@@ -9,7 +9,7 @@ use Rattle.std.proofs.lemmas.List.FromFn.{length-enumerate_from}
 use Rattle.std.proofs.lemmas.Option.{slice_get_within, get_or_from_slice_get}
 use Rattle.sgb_vec.proofs.Lists.{All-flat_map, Contains-cases, Contains-first, Contains-none, Contains-other}
 use Rattle.sgb_graph.specs.Graphs.{GraphData, HasNoFields, ends_from, ends_of, link_of, links_of, vertex_of}
-use Rattle.sgb_graph.specs.Events.{Event, IsWithin, Record, all_records, list_of, records_of}
+use Rattle.sgb_graph.specs.Events.{Event, HasEndsBelow, Record, all_records, list_of, records_of}
 use Rattle.sgb_graph.specs.Descriptions.{Description, IsGraphOf}
 use Rattle.sgb_graph.specs.Made.{first_number, graph_described, number_after, record_in, records_of_events, vertex_with, vertices_of}
 use Rattle.sgb_graph.specs.Growth.{graph_data, link, record_from}
@@ -95,7 +95,7 @@ records_are lists k (r ∷ records) (a ∷ wanted) tips lengths none nexts =
     same_first e = cc
 
 -- an event within the vertices has its records there
-pub records_within : (n : ℕ) (directed : Bool) (e : Event) → IsWithin n e → All (λ r. r.start < n) (records_of directed e)
+pub records_within : (n : ℕ) (directed : Bool) (e : Event) → HasEndsBelow n e → All (λ r. r.start < n) (records_of directed e)
 records_within n true e within = All-cons (λ (r : Record). r.start < n) (record_from e.from e.to e.len) [] within.0 (All-nil (λ (r : Record). r.start < n))
 records_within n false e within =
     let from = within.0 in
@@ -107,7 +107,7 @@ records_within n false e within =
     All-cons (λ (r : Record). r.start < n) lower (higher ∷ []) smaller (All-cons (λ (r : Record). r.start < n) higher [] greater (All-nil (λ (r : Record). r.start < n)))
 
 -- so have all
-all_records_within : (n : ℕ) (directed : Bool) (events : List Event) → All (IsWithin n) events → All (λ r. r.start < n) (all_records directed events)
+all_records_within : (n : ℕ) (directed : Bool) (events : List Event) → All (HasEndsBelow n) events → All (λ r. r.start < n) (all_records directed events)
 all_records_within n directed events within =
     All-flat_map (λ (r : Record). r.start < n) (records_of directed) events (λ k e inside. records_within n directed (get_or events k e) (within k e inside))
 
@@ -250,7 +250,7 @@ way_is (suc fuel) records (l ∷ links) short apart stand =
         record { here = stands.here; is = stands.is; tip = stands.tip; len = stands.len; next = stands.next ∙ rw (ne_eqb l.number m.number other) refl }
 
 -- the graph that a description makes is described
-pub described_is : (d : Description) → All (IsWithin (length d.names)) d.events → length d.fields ≡ length d.names → IsGraphOf d (graph_described d)
+pub described_is : (d : Description) → All (HasEndsBelow (length d.names)) d.events → length d.fields ≡ length d.names → IsGraphOf d (graph_described d)
 described_is d within same = record {
   id = refl;
   kinds = refl;
@@ -262,7 +262,7 @@ described_is d within same = record {
     tips = record_tips lists 0 wanted;
     lengths = record_lengths lists 0 wanted;
     lists = λ v below. let x = element_at (vertices_of d) v below in chain_at (graph_described d) v x.element x.is ∙ ap (links_of records) (first_at v x.element x.is) ∙ (way v).arcs;
-    within = subst (λ n. All (IsWithin n) d.events) (sym size) within;
+    within = subst (λ n. All (HasEndsBelow n) d.events) (sym size) within;
     ends = λ v x below. let y = element_at (vertices_of d) v below in
         subst (λ z. ends_of records z.arcs ≡ true) (sym (get_or_from_slice_get (vertices_of d) v y.element x y.is))
         (ap (ends_of records) (first_at v y.element y.is) ∙ (way v).ends);

@@ -9,7 +9,7 @@ use Rattle.std.proofs.lemmas.List.Elements.{All-nil, All-cons, All-append, All-m
 use Rattle.std.proofs.lemmas.List.Concat.{flat_map-append}
 use Rattle.std.proofs.lemmas.Option.{slice_get-map}
 use Rattle.sgb_graph.specs.Graphs.{GraphData, ListsEnd, chain_of, ends_of, links_of}
-use Rattle.sgb_graph.specs.Events.{Event, Record, HasArcsOf, IsWithin, all_records, links_at, list_from, list_of, records_of}
+use Rattle.sgb_graph.specs.Events.{Event, Record, HasArcsOf, HasEndsBelow, all_records, links_at, list_from, list_of, records_of}
 use Rattle.sgb_graph.specs.Growth.{AddsArc, AddsEdge, ArcsLead, EdgesLead, link, new_graph, new_vertex, record_from}
 use Rattle.sgb_graph.specs.declared.fields.Ref.TheVariants.{At}
 use Rattle.sgb_graph.specs.declared.fields.Vertex.{Vertex}
@@ -53,7 +53,7 @@ record AddsRecords (directed : Bool) (old new : GraphData) (e : Event) : Type 0 
   tips : map (λ r. r.tip) new.records ≡ map (λ r. r.tip) old.records ++ map (λ r. At r.tip) (records_of directed e)
   lengths : map (λ r. r.len) new.records ≡ map (λ r. r.len) old.records ++ map (λ r. r.len) (records_of directed e)
   lists : (w : ℕ) → chain_of new w ≡ links_at w (length old.records) (records_of directed e) ++ chain_of old w
-  within : IsWithin (length old.vertices) e
+  within : HasEndsBelow (length old.vertices) e
   ends : ListsEnd new
   size : length new.vertices ≡ length old.vertices
 
@@ -66,8 +66,8 @@ records_added directed events e old new has adds = record {
   lists = λ v below. adds.lists v
       ∙ (ap (λ ls. links_at v (length old.records) own ++ ls) (has.lists v (omega (arith, adds.size)))
       ∙ (ap (λ j. links_at v j own ++ list_of directed events v) place ∙ sym (list_push directed 0 events e v)));
-  within = subst (λ n. All (IsWithin n) (events ++ e ∷ [])) (sym adds.size)
-      (All-append (IsWithin (length old.vertices)) events (e ∷ []) has.within (All-cons (IsWithin (length old.vertices)) e [] adds.within (All-nil (IsWithin (length old.vertices)))));
+  within = subst (λ n. All (HasEndsBelow n) (events ++ e ∷ [])) (sym adds.size)
+      (All-append (HasEndsBelow (length old.vertices)) events (e ∷ []) has.within (All-cons (HasEndsBelow (length old.vertices)) e [] adds.within (All-nil (HasEndsBelow (length old.vertices)))));
   ends = adds.ends;
 }
   where
@@ -91,7 +91,7 @@ new_has_none directed names = record {
   tips = refl;
   lengths = refl;
   lists = λ v below. none_at v;
-  within = All-nil (IsWithin (length (map new_vertex names)));
+  within = All-nil (HasEndsBelow (length (map new_vertex names)));
   ends = All-map (λ (x : Vertex). ends_of [] x.arcs ≡ true) new_vertex names (none_ends names);
 }
   where

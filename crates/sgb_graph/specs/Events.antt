@@ -46,8 +46,8 @@ abbrev pub list_of : Bool → List Event → ℕ → List Link
 list_of directed events v = list_from directed 0 events v
 
 -- the event is between two of n vertices
-abbrev pub IsWithin : ℕ → Event → Type 0
-IsWithin n e = (e.from < n) × (e.to < n)
+abbrev pub HasEndsBelow : ℕ → Event → Type 0
+HasEndsBelow n e = (e.from < n) × (e.to < n)
 
 -- the graph's arcs are those of the events: its number of arcs, its records and each vertex's list, which comes
 -- to an end; the events are between its vertices
@@ -56,5 +56,5 @@ pub record HasArcsOf (directed : Bool) (events : List Event) (g : GraphData) : T
   pub tips : map (λ r. r.tip) g.records ≡ map (λ r. At r.tip) (all_records directed events)
   pub lengths : map (λ r. r.len) g.records ≡ map (λ r. r.len) (all_records directed events)
   pub lists : (v : ℕ) → v < length g.vertices → chain_of g v ≡ list_of directed events v
-  pub within : All (IsWithin (length g.vertices)) events
+  pub within : All (HasEndsBelow (length g.vertices)) events
   pub ends : ListsEnd g

@@ -2,7 +2,7 @@
 use Rattle.std.specs.Prelude.{◌≡◌, ℕ, ◌==◌, Bool, List, [], ◌∷◌, length, map, All, zip, replicate, Option, Some, None, if◌then◌else◌}
 use Rattle.std.specs.List.{enumerate_from}
 use Rattle.sgb_graph.specs.Graphs.{GraphData}
-use Rattle.sgb_graph.specs.Events.{Event, IsWithin, Record, all_records, list_of}
+use Rattle.sgb_graph.specs.Events.{Event, HasEndsBelow, Record, all_records, list_of}
 use Rattle.sgb_graph.specs.Descriptions.{Description, IsGraphOf}
 use Rattle.sgb_graph.specs.declared.fields.Kind.{Kind}
 use Rattle.sgb_graph.specs.declared.fields.Kind.TheVariants.{Z}
@@ -78,5 +78,5 @@ DescribedIsOnly = (d : Description) (g : GraphData) → IsGraphOf d g → g ≡ 
 
 -- and that one is described, where the events are between its vertices and each vertex has its fields
 abbrev pub DescribedIs : Type 0
-DescribedIs = (d : Description) → All (IsWithin (length d.names)) d.events → length d.fields ≡ length d.names
+DescribedIs = (d : Description) → All (HasEndsBelow (length d.names)) d.events → length d.fields ≡ length d.names
     → IsGraphOf d (graph_described d)

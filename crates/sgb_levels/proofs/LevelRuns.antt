@@ -8,7 +8,7 @@ use Rattle.sgb_expr.specs.Expression.{Expression, expression_of}
 use Rattle.sgb_expr.specs.StdinUses.{has_stdin}
 use Rattle.sgb_expr.specs.declared.expressions.Expr.{Expr}
 use Rattle.sgb_requests.specs.declared.faults.Fault.{Fault}
-use Rattle.sgb.specs.Inputs.{IsKept}
+use Rattle.sgb.specs.Inputs.{IsKeptOfInput}
 use Rattle.sgb.specs.Program.{unread_fault}
 use Rattle.sgb.specs.Runs.{Input, IsRunFrom}
 use Rattle.sgb.specs.Values.{stdin_value, value_of}
@@ -35,12 +35,12 @@ levels_refused (Err x) texts kind f source same out err status asked refused =
     subst (λ (h : Fault). IsRefused h same out err status) alike refused
 
 -- what is kept of standard input is as good as all of it
-pub levels_written : (e : Expression) (source : Input) (kept : List ℕ) (same : Type 0) (out err : Change) (status : ℕ) → (has_stdin e ≡ true → IsKept source.bytes kept)
+pub levels_written : (e : Expression) (source : Input) (kept : List ℕ) (same : Type 0) (out err : Change) (status : ℕ) → (has_stdin e ≡ true → IsKeptOfInput source.bytes kept)
     → ((a : Result (List ℕ) Fault) → IsLevelsAnswer (value_of kept e) a → IsRunFrom (has_stdin e && source.failed) a same out err status)
     → AreLevelsWritten e source same out err status
 levels_written e source kept same out err status is run = by_told source.bytes is
   where
-    by_told : (told : Option (List ℕ)) → (has_stdin e ≡ true → IsKept told kept)
+    by_told : (told : Option (List ℕ)) → (has_stdin e ≡ true → IsKeptOfInput told kept)
         → (held : List ℕ) × IfSome told (λ bytes. held ≡ bytes)
         × ((a : Result (List ℕ) Fault) → IsLevelsAnswer (value_of held e) a → IsRunFrom (has_stdin e && source.failed) a same out err status)
     by_told None is = (kept, tt, run)

@@ -10,7 +10,7 @@ ghost use Rattle.sgb_expr.specs.Expression.{expression_of};
 ghost use Rattle.sgb_expr.specs.StdinUses.{has_stdin};
 ghost use Rattle.sgb_requests.specs.Faults.{status_of};
 ghost use Rattle.sgb_requests.specs.declared.faults.Fault.{Fault};
-ghost use Rattle.sgb.specs.Inputs.{IsKept, IsReadFrom, LosesAtMost};
+ghost use Rattle.sgb.specs.Inputs.{IsKeptOfInput, IsReadFrom, LosesAtMost};
 ghost use Rattle.sgb.specs.Program.{unread_fault};
 ghost use Rattle.sgb.specs.Values.{most_input, value_of};
 ghost use Rattle.sgb.specs.Writing.{IsWritten};
@@ -125,7 +125,7 @@ fn answer<R: Source, W: Sink>(
     requires { W.has_failed out.old ≡ false }
     ensures ended { (kept : List ℕ)
         × (has_stdin (expression_of expression.now) ≡ true
-        → IsKept (R.remaining source.old) kept)
+        → IsKeptOfInput (R.remaining source.old) kept)
         × ((a : Result (List ℕ) Fault)
         → IsLevelsAnswer (value_of kept (expression_of expression.now)) a
         → IsEndedFrom (has_stdin (expression_of expression.now) && R.has_failed source.new) a
@@ -189,7 +189,7 @@ fn unread_fault(error: &io::Error) -> Fault
 // The bytes of standard input, if the expression reads it.
 fn input_for<R: Source>(alloc: Global, expression: &Expr, source: &mut R) -> Result<Vec<u8>, Fault>
     ensures kept { IfOk result (λ bytes. has_stdin (expression_of expression.now) ≡ true
-        → IsKept (R.remaining source.old) bytes.items) }
+        → IsKeptOfInput (R.remaining source.old) bytes.items) }
     ensures ended { IsReadFrom
         (has_stdin (expression_of expression.now) && R.has_failed source.new) result }
     ensures unread { has_stdin (expression_of expression.now) ≡ false → source.new ≡ source.old }

@@ -7,7 +7,7 @@ use Rattle.std.proofs.lemmas.List.Elements.{All-filter, filter-append}
 use Rattle.sgb_vec.specs.declared.panics.Panic.{Panic}
 use Rattle.sgb_vec.specs.declared.panics.Panic.TheVariants.{NoRoom}
 use Rattle.sgb_graph.specs.Descriptions.{IsAnswerOf, IsGraphOf}
-use Rattle.sgb_graph.specs.Events.{Event, IsWithin}
+use Rattle.sgb_graph.specs.Events.{Event, HasEndsBelow}
 use Rattle.sgb_graph.specs.Graphs.{GraphData}
 use Rattle.sgb_graph.specs.Growth.{AddsEvents, new_vertex}
 use Rattle.sgb_graph.proofs.AddedEvents.{adds-then}
@@ -44,7 +44,7 @@ module _ (g : GraphData) (entries : List Entry) (self multi directed : Bool) whe
   inside_within true kept built numbered sound inside is = absurd cc
   inside_within false kept built numbered sound inside is =
       subst (AllWithin (total_of entries)) (sym inside.0)
-      (All-filter (is_wanted self) (IsWithin (total_of entries)) (events_within entries directed) (events_inside entries directed numbered sound))
+      (All-filter (is_wanted self) (HasEndsBelow (total_of entries)) (events_within entries directed) (events_inside entries directed numbered sound))
 
   -- with the events that are still to come it has all
   inside_all : (in_parts : Bool) (kept : List Event) (built grown : GraphData) → list_any is_unnumbered entries ≡ false → All IsKeptEntry entries → HasInside g entries self multi directed in_parts kept built

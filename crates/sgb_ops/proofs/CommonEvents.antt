@@ -7,7 +7,7 @@ use Rattle.std.proofs.lemmas.List.{length-append, take_at}
 use Rattle.std.proofs.lemmas.List.Elements.{All-nil, All-cons, All-append}
 use Rattle.std.proofs.lemmas.List.Sums.{length-filter}
 use Rattle.sgb_graph.specs.Graphs.{GraphData}
-use Rattle.sgb_graph.specs.Events.{Event, IsWithin}
+use Rattle.sgb_graph.specs.Events.{Event, HasEndsBelow}
 use Rattle.sgb_graph.specs.Growth.{IsKept}
 use Rattle.sgb_graph.specs.declared.fields.Link.{Link}
 use Rattle.sgb_ops.specs.inner.Ends.{AllWithin}
@@ -174,9 +174,9 @@ event_there multi v gs hs before links l is =
 
 -- the ends of the events of v are below n
 pub commons_within : (n : ℕ) (multi : Bool) (v : ℕ) (gs hs before links : List Link) → v < n → All (TipBelow n) gs → AllWithin n (commons_after multi v gs hs before links)
-commons_within n multi v gs hs before [] below all = All-nil (IsWithin n)
+commons_within n multi v gs hs before [] below all = All-nil (HasEndsBelow n)
 commons_within n multi v gs hs before (l ∷ links) below all =
-    All-append (IsWithin n) (common_event multi v gs hs before l) (commons_after multi v gs hs (before ++ l ∷ []) links) (by_test (cases_Bool (nat_lt (count_to l.tip before) (common_count multi l.tip gs hs))))
+    All-append (HasEndsBelow n) (common_event multi v gs hs before l) (commons_after multi v gs hs (before ++ l ∷ []) links) (by_test (cases_Bool (nat_lt (count_to l.tip before) (common_count multi l.tip gs hs))))
     (commons_within n multi v gs hs (before ++ l ∷ []) links below all)
   where
     some : (m : Bool) → count_to l.tip before < common_count m l.tip gs hs → 0 < count_to l.tip gs
@@ -187,8 +187,8 @@ commons_within n multi v gs hs before (l ∷ links) below all =
         → AllWithin n (common_event multi v gs hs before l)
     by_test (inl wanted) =
         let tip : l.tip < n = tip_counted n l.tip gs all (some multi (ltb-true _ _ wanted)) in
-        rw wanted (All-cons (IsWithin n) (record { from = v; to = l.tip; len = common_length multi gs hs l }) [] (below, tip) (All-nil (IsWithin n)))
-    by_test (inr unwanted) = rw unwanted (All-nil (IsWithin n))
+        rw wanted (All-cons (HasEndsBelow n) (record { from = v; to = l.tip; len = common_length multi gs hs l }) [] (below, tip) (All-nil (HasEndsBelow n)))
+    by_test (inr unwanted) = rw unwanted (All-nil (HasEndsBelow n))
 
 -- and so are those of all vertices
 pub intersection_within : (g h : GraphData) (multi directed : Bool) → IsKept g → AllWithin (order_of g) (intersection_events g h multi directed)

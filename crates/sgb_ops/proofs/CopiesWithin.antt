@@ -8,7 +8,7 @@ use Rattle.std.proofs.lemmas.List.Elements.{All-nil, All-map, All-filter, All-we
 use Rattle.std.proofs.lemmas.List.FromFn.{length-range_with_len, length-enumerate_from, get_or-enumerate_from}
 use Rattle.std.proofs.lemmas.List.Sums.{sum_by-cons, sum_by-take-le}
 use Rattle.sgb_vec.proofs.Lists.{All-flat_map, range-within}
-use Rattle.sgb_graph.specs.Events.{IsWithin}
+use Rattle.sgb_graph.specs.Events.{HasEndsBelow}
 use Rattle.sgb_graph.specs.Graphs.{GraphData}
 use Rattle.sgb_graph.specs.declared.fields.Link.{Link}
 use Rattle.sgb_ops.specs.declared.entries.Entry.{Entry}
@@ -63,28 +63,28 @@ module _ (entries : List Entry) (directed : Bool) (numbered : list_any is_unnumb
 
   of_arc : (v u : ℕ) (a : Link) → u < total_of entries → AllWithin (total_of entries) (events_of_arc entries directed v u a)
   of_arc v u a below =
-      All-map (IsWithin (total_of entries)) (event_between u a.len) (copies_met entries directed v u a.tip)
+      All-map (HasEndsBelow (total_of entries)) (event_between u a.len) (copies_met entries directed v u a.tip)
       (λ k d h. (below, All-filter (is_met directed v u a.tip) (Below (total_of entries)) (copies_of entries a.tip) (all_copies a.tip) k d h))
 
   pub of_copy : (g : GraphData) (v u : ℕ) → u < total_of entries → AllWithin (total_of entries) (events_of_copy g entries directed v u)
-  of_copy g v u below = All-flat_map (IsWithin (total_of entries)) (events_of_arc entries directed v u) (taken directed g v) (λ k d h. of_arc v u (get_or (taken directed g v) k d) below)
+  of_copy g v u below = All-flat_map (HasEndsBelow (total_of entries)) (events_of_arc entries directed v u) (taken directed g v) (λ k d h. of_arc v u (get_or (taken directed g v) k d) below)
 
   of_copies : (g : GraphData) (v : ℕ) → AllWithin (total_of entries) (events_of_copies g entries directed v)
-  of_copies g v = All-flat_map (IsWithin (total_of entries)) (events_of_copy g entries directed v) (copies_of entries v) (λ k d h. of_copy g v (get_or (copies_of entries v) k d) (all_copies v k d h))
+  of_copies g v = All-flat_map (HasEndsBelow (total_of entries)) (events_of_copy g entries directed v) (copies_of entries v) (λ k d h. of_copy g v (get_or (copies_of entries v) k d) (all_copies v k d h))
 
   -- the events between copies are between vertices of the result
   pub between_within : (g : GraphData) → AllWithin (total_of entries) (events_between g entries directed)
-  between_within g = All-flat_map (IsWithin (total_of entries)) (events_of_copies g entries directed) (places_of g) (λ k d h. of_copies g (get_or (places_of g) k d))
+  between_within g = All-flat_map (HasEndsBelow (total_of entries)) (events_of_copies g entries directed) (places_of g) (λ k d h. of_copies g (get_or (places_of g) k d))
 
   -- those inside an entry are between its vertices
   inner_within : (start : ℕ) (e : Entry) → start + size_of_entry e ≤ total_of entries → IsKeptEntry e → AllWithin (total_of entries) (inner_events directed start e)
-  inner_within start (entry.Copies k) few kept = All-nil (IsWithin (total_of entries))
-  inner_within start (entry.Merged k) few kept = All-nil (IsWithin (total_of entries))
+  inner_within start (entry.Copies k) few kept = All-nil (HasEndsBelow (total_of entries))
+  inner_within start (entry.Merged k) few kept = All-nil (HasEndsBelow (total_of entries))
   inner_within start (entry.Graph inner) few kept =
       events_after_within (total_of entries) (inner_events_from directed start inner) 0 (order_of inner)
       (λ w low high.
       let below : w < order_of inner = omega (arith, high) in
-      All-map (IsWithin (total_of entries)) (inner_event start w) (taken directed inner w)
+      All-map (HasEndsBelow (total_of entries)) (inner_event start w) (taken directed inner w)
       (λ k d h. let tip = taken_tips directed inner w kept below k d h in (omega (arith, few, below), omega (arith, few, tip))))
 
   -- an entry with its place
@@ -102,5 +102,5 @@ module _ (entries : List Entry) (directed : Bool) (numbered : list_any is_unnumb
 
   pub events_inside : All IsKeptEntry entries → AllWithin (total_of entries) (events_within entries directed)
   events_inside kept =
-      All-flat_map (IsWithin (total_of entries)) (λ p. inner_events directed (first_copy entries p.0) p.1) (enumerate_from 0 entries)
+      All-flat_map (HasEndsBelow (total_of entries)) (λ p. inner_events directed (first_copy entries p.0) p.1) (enumerate_from 0 entries)
       (λ k d h. let p = get_or (enumerate_from 0 entries) k d in let fits = all_fit kept k d h in inner_within (first_copy entries p.0) p.1 fits.0 fits.1)

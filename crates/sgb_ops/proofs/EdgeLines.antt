@@ -13,7 +13,7 @@ use Rattle.sgb_vec.specs.Results.{and_then}
 use Rattle.sgb_vec.specs.declared.panics.Panic.TheVariants.{VeryBad, Invalid}
 use Rattle.sgb_graph.specs.Graphs.{GraphData}
 use Rattle.sgb_graph.specs.Descriptions.{Description}
-use Rattle.sgb_graph.specs.Events.{Event, HasArcsOf, IsWithin, all_records}
+use Rattle.sgb_graph.specs.Events.{Event, HasArcsOf, HasEndsBelow, all_records}
 use Rattle.sgb_graph.specs.declared.fields.ArcRec.{ArcRec}
 use Rattle.sgb_graph.specs.declared.fields.Link.{Link}
 use Rattle.sgb_graph.specs.declared.fields.Ref.{Ref}
@@ -67,12 +67,12 @@ edges_below_none [] = refl
 edges_below_none (e ∷ events) = rw (le-ltb (min e.from e.to) 0 (omega arith)) (edges_below_none events)
 
 -- all edges have a smaller end that is a vertex
-edges_below_all : (n : ℕ) (events : List Event) → All (IsWithin n) events → length (edges_below n events) ≡ length events
+edges_below_all : (n : ℕ) (events : List Event) → All (HasEndsBelow n) events → length (edges_below n events) ≡ length events
 edges_below_all n [] within = refl
 edges_below_all n (e ∷ events) within =
-    let ends = All-head (IsWithin n) e events within in
+    let ends = All-head (HasEndsBelow n) e events within in
     let low : min e.from e.to < n = omega (arith, ends.0) in
-    rw (lt-ltb (min e.from e.to) n low) (ap suc (edges_below_all n events (All-tail (IsWithin n) e events within)))
+    rw (lt-ltb (min e.from e.to) n low) (ap suc (edges_below_all n events (All-tail (HasEndsBelow n) e events within)))
 
 -- each edge has two records
 two_each : (events : List Event) → length (all_records false events) ≡ 2 * length events

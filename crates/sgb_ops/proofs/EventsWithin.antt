@@ -7,7 +7,7 @@ use Rattle.std.proofs.lemmas.Bool.{cond_both}
 use Rattle.std.proofs.lemmas.List.Elements.{All-nil, All-cons, All-head, All-tail, All-map, All-weaker}
 use Rattle.sgb_graph.specs.Graphs.{GraphData, chain_of, links_of}
 use Rattle.sgb_vec.proofs.Lists.{All-flat_map, range-within}
-use Rattle.sgb_graph.specs.Events.{Event, IsWithin}
+use Rattle.sgb_graph.specs.Events.{Event, HasEndsBelow}
 use Rattle.sgb_graph.specs.Growth.{IsKept}
 use Rattle.sgb_graph.specs.declared.fields.Link.{Link}
 use Rattle.sgb_graph.specs.declared.fields.Vertex.{Vertex}
@@ -26,7 +26,7 @@ TipBelow n l = l.tip < n
 -- merged events keep their ends
 pub merged_unless_within : (n : ℕ) (multi directed : Bool) (events : List Event) → AllWithin n events → AllWithin n (merged_unless multi directed events)
 merged_unless_within n true directed events all = all
-merged_unless_within n false directed events all = merged_keeps (IsWithin n) (λ e far h. h) directed events all
+merged_unless_within n false directed events all = merged_keeps (HasEndsBelow n) (λ e far h. h) directed events all
 
 -- the arcs of a graph lead to its vertices
 chain_tips : (g : GraphData) (v : ℕ) → IsKept g → v < length g.vertices → All (TipBelow (length g.vertices)) (chain_of g v)
@@ -62,10 +62,10 @@ taken_tips false g v kept below = all_met (TipBelow (length g.vertices)) v (chai
 
 -- the events of arcs on the list of a vertex
 pub events_of_within : (n v : ℕ) (links : List Link) → v < n → All (TipBelow n) links → AllWithin n (map (event_of v) links)
-events_of_within n v links below all = All-map (IsWithin n) (event_of v) links (λ k d h. (below, all k d h))
+events_of_within n v links below all = All-map (HasEndsBelow n) (event_of v) links (λ k d h. (below, all k d h))
 
 -- the events of several vertices
 pub events_after_within : (n : ℕ) (f : ℕ → List Event) (v count : ℕ) → ((u : ℕ) → v ≤ u → u < v + count → AllWithin n (f u)) → AllWithin n (flat_map f (range_with_len v count))
 events_after_within n f v count each =
-    All-flat_map (IsWithin n) f (range_with_len v count)
+    All-flat_map (HasEndsBelow n) f (range_with_len v count)
     (All-weaker (λ u. (v ≤ u) × (u < v + count)) (λ u. AllWithin n (f u)) (λ u p. each u p.0 p.1) (range_with_len v count) (range-within v count))

@@ -9,7 +9,7 @@ use Rattle.std.proofs.lemmas.Bool.Decides.{nat_tests}
 use Rattle.std.proofs.lemmas.List.Elements.{All-nil, All-map, All-filter, All-weaker, All-contains_itself, All-head, All-tail, filter_passes, filter-append}
 use Rattle.sgb_vec.proofs.Lists.{All-flat_map, Contains-range, never_true, range-within}
 use Rattle.sgb_graph.specs.Graphs.{GraphData, chain_of}
-use Rattle.sgb_graph.specs.Events.{Event, IsWithin}
+use Rattle.sgb_graph.specs.Events.{Event, HasEndsBelow}
 use Rattle.sgb_graph.specs.Growth.{AddsEvents, IsKept}
 use Rattle.sgb_graph.proofs.AddedEvents.{adds-none}
 use Rattle.sgb_graph.specs.declared.fields.Link.{Link}
@@ -55,8 +55,8 @@ module _ (directed : Bool) (start : ℕ) (inner : GraphData) where
   -- they are between vertices of the result
   pub part_within : (self : Bool) (w n : ℕ) → IsKept inner → w < order_of inner → start + order_of inner ≤ n → AllWithin n (wanted self (inner_events_from directed start inner w))
   part_within self w n kept below few =
-      All-filter (is_wanted self) (IsWithin n) (inner_events_from directed start inner w)
-      (All-weaker (Inside start (start + order_of inner)) (IsWithin n) (λ e p. (omega (arith, few, p.1), omega (arith, few, p.3))) (inner_events_from directed start inner w) (inside_from w kept below))
+      All-filter (is_wanted self) (HasEndsBelow n) (inner_events_from directed start inner w)
+      (All-weaker (Inside start (start + order_of inner)) (HasEndsBelow n) (λ e p. (omega (arith, few, p.1), omega (arith, few, p.3))) (inner_events_from directed start inner w) (inside_from w kept below))
 
   inner_rises : (w : ℕ) → All (Rises directed (start + w) (start + (w + 1))) (inner_events_from directed start inner w)
   inner_rises w =
@@ -301,7 +301,7 @@ module _ (g : GraphData) (entries : List Entry) (directed : Bool) (numbered : li
 pub copy_within : (g : GraphData) (entries : List Entry) (directed : Bool) (numbered : list_any is_unnumbered entries ≡ false) (self : Bool) (v u : ℕ) → u < total_of entries
     → AllWithin (total_of entries) (wanted self (events_of_copy g entries directed v u))
 copy_within g entries directed numbered self v u below =
-    All-filter (is_wanted self) (IsWithin (total_of entries)) (events_of_copy g entries directed v u) (copy_events_within entries directed numbered g v u below)
+    All-filter (is_wanted self) (HasEndsBelow (total_of entries)) (events_of_copy g entries directed v u) (copy_events_within entries directed numbered g v u below)
 
 -- of no events none are left
 pub none_left : (multi directed : Bool) → merged_unless multi directed [] ≡ []

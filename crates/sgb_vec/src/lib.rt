@@ -5,6 +5,8 @@
 mod boxes;
 // Digits, and the number that they write.
 mod digits;
+// All zeros in a vector; how many entries there are.
+mod entries;
 // What a family of vectors is.
 mod families;
 // What holds of all families and names.
@@ -17,8 +19,6 @@ mod named;
 mod panics;
 // The sizes of a board and the bounds of a simplex.
 mod shapes;
-// Small things that the families share.
-mod shared;
 // How many entries a walk visits.
 mod steps;
 // The vectors of a bounded sum.

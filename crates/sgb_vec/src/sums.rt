@@ -7,10 +7,10 @@ ghost use Rattle.sgb_vec.specs.Order.{HasNoneBefore, IsFinal, IsFirst, IsLast, I
 ghost use Rattle.sgb_vec.specs.Visits.{HasVisited, changed_entries};
 ghost use Rattle.sgb_vec.specs.Sums.{bounded_sums};
 
+use crate::entries::{count_of, put_zeros};
 use crate::families::{Family, Vector};
 use crate::limits::MOST_VERTICES;
 use crate::panics::Panic;
-use crate::shared::{count_of, put_zeros};
 use crate::steps::Steps;
 use arrayvec::ArrayVec;
 use counts::count_vectors;

@@ -2,8 +2,8 @@
 use Rattle.std.specs.Prelude.{ℕ, ℤ, zero, suc, List, [], ◌∷◌, length, codes, Result, Ok}
 use Rattle.sgb_gen.specs.Shorthands.{complete, transitive, empty, circuit, cycle, disjoint_subsets, petersen}
 use Rattle.sgb_expr.specs.Expression.{Expression, Entry}
-use Rattle.sgb_expr.specs.Forms.{number_of, board_of, simplex_of, subsets_of}
-use Rattle.sgb_expr.specs.Operations.{Operands, complement_of, gunion_of, intersection_of, product_of, lines_of, induced_of, bi_complete_of, wheel_of}
+use Rattle.sgb_expr.specs.Forms.{number_of, board_params, simplex_params, subsets_params}
+use Rattle.sgb_expr.specs.Operations.{Operands, complement_call, gunion_call, intersection_call, product_call, lines_call, induced_call, bi_complete_call, wheel_call}
 use Rattle.sgb_expr.specs.inner.Names.{generator_openings, openings}
 use Rattle.sgb_expr.specs.inner.Readings.{◌>>=◌, either, or_else, then_read, read_after, read_as, fixed_as, word_at, bits_at, integer_at, integers_at, whole_by}
 use Rattle.sgb_expr.specs.declared.expressions.Generator.{Generator}
@@ -23,12 +23,12 @@ subsets_at text =
     integers_at [] 6 (codes ",") text >>= λ numbers.
     bits_at numbers.1 >>= λ bits.
     integers_at (codes ",") 1 (codes ")") bits.1 >>= λ directed.
-    Ok (generator.Subsets (subsets_of numbers.0 bits.0 (number_of directed.0 0)), directed.1)
+    Ok (generator.Subsets (subsets_params numbers.0 bits.0 (number_of directed.0 0)), directed.1)
 
 -- the arguments of the generator's form of this name
 abbrev pub generator_at : GeneratorName → List ℕ → Result (Generator × List ℕ) ℕ
-generator_at Board = integers_as (λ numbers. generator.Board (board_of numbers)) 7
-generator_at Simplex = integers_as (λ numbers. generator.Simplex (simplex_of numbers)) 7
+generator_at Board = integers_as (λ numbers. generator.Board (board_params numbers)) 7
+generator_at Simplex = integers_as (λ numbers. generator.Simplex (simplex_params numbers)) 7
 generator_at Subsets = subsets_at
 generator_at Complete = integers_as (λ numbers. generator.Board (complete (number_of numbers 0))) 1
 generator_at Transitive = integers_as (λ numbers. generator.Board (transitive (number_of numbers 0))) 1
@@ -44,11 +44,11 @@ generator_expression_at name = read_as Expression.Generated (generator_at name)
 
 -- a graph and three integers, to a `)`, where `inner` reads the expressions inside
 abbrev pub complement_with : (List ℕ → Result (Expression × List ℕ) ℕ) → List ℕ → Result (Expression × List ℕ) ℕ
-complement_with inner = then_read inner (λ graph. read_as (complement_of graph) (integers_at (codes ",") 3 (codes ")")))
+complement_with inner = then_read inner (λ graph. read_as (complement_call graph) (integers_at (codes ",") 3 (codes ")")))
 
 -- a graph and an integer, to a `)`, where `inner` reads the expressions inside
 abbrev pub lines_with : (List ℕ → Result (Expression × List ℕ) ℕ) → List ℕ → Result (Expression × List ℕ) ℕ
-lines_with inner = then_read inner (λ graph. read_as (lines_of graph) (integers_at (codes ",") 1 (codes ")")))
+lines_with inner = then_read inner (λ graph. read_as (lines_call graph) (integers_at (codes ",") 1 (codes ")")))
 
 -- two graphs and two integers, to a `)`, where `inner` reads the expressions inside
 abbrev pub operands_with : (List ℕ → Result (Expression × List ℕ) ℕ) → List ℕ → Result (Operands × List ℕ) ℕ
@@ -83,19 +83,19 @@ entry_list_at inner = read_after (codes "[") (entries_at inner [])
 abbrev pub induced_with : (List ℕ → Result (Expression × List ℕ) ℕ) → List ℕ → Result (Expression × List ℕ) ℕ
 induced_with inner =
     then_read inner (λ graph. read_after (codes ",") (then_read (entry_list_at inner) (λ entries.
-    read_as (induced_of graph entries) (integers_at (codes ",") 3 (codes ")")))))
+    read_as (induced_call graph entries) (integers_at (codes ",") 3 (codes ")")))))
 
 -- the arguments of the form of this name, where `inner` reads the expressions inside; `stdin` has none
 abbrev pub arguments_with : (List ℕ → Result (Expression × List ℕ) ℕ) → Name → List ℕ → Result (Expression × List ℕ) ℕ
 arguments_with inner (name.Generator generator) = generator_expression_at generator
 arguments_with inner name.Complement = complement_with inner
-arguments_with inner name.Gunion = read_as gunion_of (operands_with inner)
-arguments_with inner name.Intersection = read_as intersection_of (operands_with inner)
+arguments_with inner name.Gunion = read_as gunion_call (operands_with inner)
+arguments_with inner name.Intersection = read_as intersection_call (operands_with inner)
 arguments_with inner name.Lines = lines_with inner
-arguments_with inner name.Product = read_as product_of (operands_with inner)
+arguments_with inner name.Product = read_as product_call (operands_with inner)
 arguments_with inner name.Induced = induced_with inner
-arguments_with inner name.BiComplete = read_as bi_complete_of (integers_at [] 3 (codes ")"))
-arguments_with inner name.Wheel = read_as wheel_of (integers_at [] 3 (codes ")"))
+arguments_with inner name.BiComplete = read_as bi_complete_call (integers_at [] 3 (codes ")"))
+arguments_with inner name.Wheel = read_as wheel_call (integers_at [] 3 (codes ")"))
 arguments_with inner name.Stdin = fixed_as Expression.Stdin []
 
 -- the expression with which the text begins, where operations stand one in another at most so deep

@@ -5,7 +5,7 @@ ghost use Rattle.std.specs.Io.Buffered.{writer_buffer, writer_contents, writer_i
 ghost use Rattle.std.specs.Io.KnownBytes.{WriteAppends, Keeps};
 ghost use Rattle.std.specs.IoError.{error_kind};
 
-use super::parts::{keep_fault, write_once};
+use super::single_calls::{keep_fault, write_once};
 use super::{Failed, Sink};
 use std::alloc::Global;
 use std::io::{self, BufWriter, ErrorKind, Write};

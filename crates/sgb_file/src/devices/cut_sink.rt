@@ -4,7 +4,7 @@ ghost use Rattle.std.specs.Io.{WritesAtMost};
 ghost use Rattle.std.specs.Io.KnownBytes.{WriteAppends, Keeps};
 ghost use Rattle.sgb_file.specs.Devices.{nothing_held, put_fails, put_count, after_put};
 
-use super::parts::give_up;
+use super::single_calls::give_up;
 use super::{Failed, Sink};
 use arrayvec::ArrayVec;
 use std::marker::Model;

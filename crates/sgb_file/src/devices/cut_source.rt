@@ -4,7 +4,7 @@ ghost use Rattle.std.specs.Io.{ReadsAtMost};
 ghost use Rattle.std.specs.Io.KnownBytes.{ReadConsumes};
 ghost use Rattle.sgb_file.specs.Devices.{take_fails, take_count, after_take};
 
-use super::parts::{copy_prefix, give_up};
+use super::single_calls::{copy_prefix, give_up};
 use super::{Failed, Source};
 use std::marker::Model;
 

@@ -3,7 +3,7 @@ ghost use Rattle.std.specs.Prelude.{◌≡◌, true, false, is_err};
 ghost use Rattle.std.specs.Io.{ReadsAtMost};
 ghost use Rattle.std.specs.Io.KnownBytes.{ReadConsumes};
 
-use super::parts::keep_fault;
+use super::single_calls::keep_fault;
 use super::{Failed, Source};
 use std::io::Read;
 use std::marker::Model;

@@ -4,7 +4,7 @@ ghost use Rattle.std.specs.Io.{ReadsAtMost, WritesAtMost};
 ghost use Rattle.std.specs.Io.KnownBytes.{ReadConsumes, WriteAppends, Keeps};
 ghost use Rattle.sgb_file.specs.Devices.{nothing_held};
 
-use super::parts::{copy_prefix, give_up};
+use super::single_calls::{copy_prefix, give_up};
 use super::{Failed, Sink, Source};
 use std::alloc::Global;
 use std::marker::Model;

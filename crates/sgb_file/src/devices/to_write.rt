@@ -4,7 +4,7 @@ ghost use Rattle.std.specs.Io.{WritesAtMost};
 ghost use Rattle.std.specs.Io.KnownBytes.{WriteAppends, Keeps};
 ghost use Rattle.sgb_file.specs.Devices.{nothing_held};
 
-use super::parts::{keep_fault, write_once};
+use super::single_calls::{keep_fault, write_once};
 use super::{Failed, Sink};
 use std::io::Write;
 use std::marker::Model;

@@ -1,7 +1,7 @@
 //! Pieces laid out on lines of at most 79 bytes (GB_SAVE, save_graph).
 ghost use Rattle.std.specs.Prelude.{◌≡◌, ◌+◌, ◌≤◌, ◌++◌, ◌∷◌, [], false, length};
 ghost use Rattle.sgb_file.specs.inner.Layouts.{IsFilled, IsLaid, IsPlaced, lines_before, stage};
-ghost use Rattle.sgb_file.specs.Saving.{fits_on, most_line_bytes};
+ghost use Rattle.sgb_file.specs.Saving.{fits_on, most_file_line_bytes};
 
 use super::lines::{Line, MOST_LINE_BYTES};
 use crate::devices::{Failed, Sink};
@@ -149,14 +149,14 @@ impl Layout {
 
     // How many bytes more the line may have.
     fn room(&self) -> usize
-        ensures { length self.now.line + result ≡ most_line_bytes }
+        ensures { length self.now.line + result ≡ most_file_line_bytes }
     {
         MOST_LINE_BYTES - self.line.len()
     }
 
     // Fills the line up with all of these bytes but the last, which breaks it.
     fn fill_up<W: Sink>(&mut self, sink: &mut W, bytes: &[u8]) -> Result<(), Failed>
-        requires { length self.old.line + length bytes.now ≡ most_line_bytes + 1 }
+        requires { length self.old.line + length bytes.now ≡ most_file_line_bytes + 1 }
         ensures { IsFilled bytes.now (stage W.written W.has_failed sink.old self.old)
             (stage W.written W.has_failed sink.new self.new) result }
     {

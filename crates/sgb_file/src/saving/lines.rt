@@ -2,7 +2,7 @@
 ghost use Rattle.std.specs.Prelude.{◌≡◌, ◌+◌, ◌≤◌, ◌++◌, ◌∷◌, [], length, take, drop, OnOk};
 ghost use Rattle.sgb_file.specs.Devices.{change, IsPut};
 ghost use Rattle.sgb_file.specs.inner.Layouts.{checksum_from, counted_bytes};
-ghost use Rattle.sgb_file.specs.Saving.{broken_line_bytes, most_line_bytes};
+ghost use Rattle.sgb_file.specs.Saving.{broken_line_bytes, most_file_line_bytes};
 
 use crate::checksums::checksum_after_line;
 use crate::devices::{Failed, Sink, put_all};
@@ -20,13 +20,13 @@ pub(super) struct Line {
 
 impl Model for Line {
     ghost use Rattle.std.specs.Prelude.{List, ℕ, length, take, ◌≡◌, ◌≤◌};
-    ghost use Rattle.sgb_file.specs.Saving.{most_line_bytes};
+    ghost use Rattle.sgb_file.specs.Saving.{most_file_line_bytes};
 
     ghost Value = { List ℕ };
 
     ghost view = { λ line. take line.len line.bytes };
 
-    ghost invariant = { λ line. (line.len ≤ most_line_bytes) × (length line.bytes ≡ 80) };
+    ghost invariant = { λ line. (line.len ≤ most_file_line_bytes) × (length line.bytes ≡ 80) };
 }
 
 impl Line {
@@ -43,7 +43,7 @@ impl Line {
     // The number of bytes.
     pub(super) fn len(&self) -> usize
         ensures value { result ≡ length self.now }
-        ensures short { length self.now ≤ most_line_bytes }
+        ensures short { length self.now ≤ most_file_line_bytes }
     {
         self.len
     }
@@ -51,7 +51,7 @@ impl Line {
     // Appends a piece in three parts, for which there is room.
     pub(super) fn push_piece(&mut self, front: &[u8], body: &[u8], back: &[u8])
         requires room { length self.old + length (front.now ++ body.now ++ back.now)
-            ≤ most_line_bytes }
+            ≤ most_file_line_bytes }
         requires front { length front.now ≤ 2 }
         requires back { length back.now ≤ 2 }
         ensures { self.new ≡ self.old ++ (front.now ++ body.now ++ back.now) }
@@ -63,7 +63,7 @@ impl Line {
 
     // Appends at most two bytes, for which there is room.
     fn push_few(&mut self, bytes: &[u8])
-        requires room { length self.old + length bytes.now ≤ most_line_bytes }
+        requires room { length self.old + length bytes.now ≤ most_file_line_bytes }
         requires few { length bytes.now ≤ 2 }
         ensures { self.new ≡ self.old ++ bytes.now }
     {
@@ -79,7 +79,7 @@ impl Line {
 
     // Appends bytes, for which there is room.
     pub(super) fn push(&mut self, bytes: &[u8])
-        requires { length self.old + length bytes.now ≤ most_line_bytes }
+        requires { length self.old + length bytes.now ≤ most_file_line_bytes }
         ensures { self.new ≡ self.old ++ bytes.now }
     {
         write_at(&mut self.bytes, self.len, bytes);
@@ -88,7 +88,7 @@ impl Line {
 
     // Appends a byte, for which there is room.
     pub(super) fn push_byte(&mut self, byte: u8)
-        requires { length self.old + 1 ≤ most_line_bytes }
+        requires { length self.old + 1 ≤ most_file_line_bytes }
         ensures { self.new ≡ self.old ++ byte ∷ [] }
     {
         self.bytes[self.len] = byte;
@@ -97,7 +97,7 @@ impl Line {
 
     // Puts another byte in the place of the last one of a full line, which it returns.
     pub(super) fn replace_last(&mut self, byte: u8) -> u8
-        requires { length self.old ≡ most_line_bytes }
+        requires { length self.old ≡ most_file_line_bytes }
         ensures line { self.new ≡ take broken_line_bytes self.old ++ byte ∷ [] }
         ensures last { drop broken_line_bytes self.old ≡ result ∷ [] }
     {

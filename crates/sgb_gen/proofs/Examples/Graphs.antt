@@ -6,7 +6,7 @@ use Rattle.std.specs.Fmt.{digits}
 use Rattle.sgb_vec.specs.Boxes.{box}
 use Rattle.sgb_vec.specs.Names.{name_of_vector}
 use Rattle.sgb_graph.specs.Graphs.{GraphData, chain_of, ends_from, ends_of, numbers_from}
-use Rattle.sgb_graph.specs.Events.{Event, HasArcsOf, IsWithin, list_from, list_of}
+use Rattle.sgb_graph.specs.Events.{Event, HasArcsOf, HasEndsBelow, list_from, list_of}
 use Rattle.sgb_graph.specs.Descriptions.{IsGraphOf}
 use Rattle.sgb_graph.specs.declared.fields.Kind.TheVariants.{Z, I}
 use Rattle.sgb_graph.specs.declared.fields.Ref.TheVariants.{At}
@@ -52,7 +52,7 @@ arcs = record {
   tips = refl;
   lengths = refl;
   lists = lists;
-  within = All-from_recursion (IsWithin 2) edges ((omega arith, omega arith), tt);
+  within = All-from_recursion (HasEndsBelow 2) edges ((omega arith, omega arith), tt);
   ends = All-from_recursion (λ x. ends_of pair.records x.arcs ≡ true) pair.vertices (refl, (refl, tt));
 }
 

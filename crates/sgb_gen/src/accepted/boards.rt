@@ -11,20 +11,20 @@ ghost use Rattle.sgb_gen.specs.Moves.{sides_of, moves_from};
 ghost use Rattle.sgb_gen.specs.inner.EntryBounds.{displacements_within, entry_bounds};
 ghost use Rattle.sgb_gen.specs.inner.Moves.{destination, longest_move};
 
+mod board_lists;
 mod counts;
 mod lists;
-mod tables;
 
 use crate::displacements::Displacements;
 use crate::moves::{destination, entry_bounds};
 use crate::params::BoardParams;
 use crate::steps::{Parts, Step, put_parts_of};
 use crate::vector_graphs::{put_coordinates, vector_names};
+pub use board_lists::BoardLists;
 use sgb_graph::{Graph, Id, IdWriter};
 use sgb_vec::{BoxFamily, Family, Panic, Shape, Vector, Vectors, board_sizes};
 use std::alloc::Global;
 use std::marker::Model;
-pub use tables::BoardLists;
 
 // The piece of a board is at most this number, and at least its negative.
 const MOST_PIECE: u64 = 2_147_483_647;

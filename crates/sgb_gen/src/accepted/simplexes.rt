@@ -11,8 +11,8 @@ mod lists;
 
 use crate::params::SimplexParams;
 use crate::shifts::{can_move_unit, unit_moved};
-use crate::tables::VectorTable;
 use crate::vector_graphs::{put_coordinates, vector_names};
+use crate::vector_tables::VectorTable;
 use sgb_graph::{Graph, Id, IdWriter};
 use sgb_vec::{Panic, Shape, SumFamily, simplex_bounds};
 use std::alloc::Global;

@@ -1,6 +1,6 @@
 -- The ends of events, and events that are merged one by one [GB_BASIC, gunion].
 use Rattle.std.specs.Prelude.{◌+◌, ◌%◌, ℕ, min, max, All, Bool, true, false, List, [], ◌∷◌, if◌then◌else◌}
-use Rattle.sgb_graph.specs.Events.{Event, IsWithin}
+use Rattle.sgb_graph.specs.Events.{Event, HasEndsBelow}
 use Rattle.sgb_graph.specs.declared.fields.Link.{Link}
 use Rattle.sgb_ops.specs.Lengths.{lesser}
 use Rattle.sgb_ops.specs.Merged.{has_ends_of}
@@ -11,7 +11,7 @@ event_of v l = record { from = v; to = l.tip; len = l.len }
 
 -- the ends of the events are vertices of a graph that has n of them
 abbrev pub AllWithin : ℕ → List Event → Type 0
-AllWithin n events = All (IsWithin n) events
+AllWithin n events = All (HasEndsBelow n) events
 
 -- the two ends, those of edges with the smaller one first
 abbrev pub ends_key : Bool → Event → ℕ × ℕ

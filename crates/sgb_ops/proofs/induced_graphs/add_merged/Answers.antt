@@ -1,6 +1,6 @@
 use Rattle.std.proofs.Common.{◌∙◌, ◌++◌, sym, ap, subst}
 use Rattle.std.proofs.lemmas.List.Elements.{All-append, All-filter}
-use Rattle.sgb_graph.specs.Events.{IsWithin}
+use Rattle.sgb_graph.specs.Events.{HasEndsBelow}
 use Rattle.sgb_ops.specs.Entries.{total_of}
 use Rattle.sgb_ops.specs.Induced.{events_between, is_wanted, wanted}
 use Rattle.sgb_ops.specs.Merged.{merged_unless}
@@ -20,6 +20,6 @@ add_events-requires-clause-within c =
     let kept = c.args.kept.items in
     let between = events_between g copies d in
     let same = c.deref.ensures.value ∙ (c.in_ok-events.ensures.ok ∙ ap (merged_unless multi d) c.in_ok-push_events_between.ensures.ok) in
-    let all = All-append (IsWithin n) kept (wanted self between) c.requires.within (All-filter (is_wanted self) (IsWithin n) between (between_within copies d c.requires.numbered g)) in
+    let all = All-append (HasEndsBelow n) kept (wanted self between) c.requires.within (All-filter (is_wanted self) (HasEndsBelow n) between (between_within copies d c.requires.numbered g)) in
     subst (λ k. AllWithin k c.deref.result.now) (sym c.requires.size)
     (subst (AllWithin n) (sym same) (merged_unless_within n multi d (kept ++ wanted self between) all))

@@ -2,7 +2,7 @@ use Rattle.std.proofs.Common.{◌≡◌, ℕ, ◌+◌, ◌-◌, ◌*◌, ◌<◌
 use Rattle.std.specs.List.{slice_get}
 use Rattle.sgb_gen.specs.inner.Tables.{rows}
 use Rattle.sgb_gen.proofs.TableRows.{length-rows, slice_get-rows, row_within}
-use Rattle.sgb_gen.proofs.tables.VectorTable.vector.Goals as goal
+use Rattle.sgb_gen.proofs.vector_tables.VectorTable.vector.Goals as goal
 
 -- the row of a place stands within the entries that are read
 row_read : (width count place : ℕ) (vectors : List (List ℕ)) (entries read : List ℕ) → rows width count entries ≡ vectors → length entries ≡ count * width → read ≡ entries → place < length vectors → place * width + width ≤ length read

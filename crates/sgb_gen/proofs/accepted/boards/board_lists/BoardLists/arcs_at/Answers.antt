@@ -3,7 +3,7 @@ use Rattle.sgb_vec.proofs.BoxPlaces.{IsBelow-from_Contains}
 use Rattle.sgb_gen.specs.Boards.{moves_of_board}
 use Rattle.sgb_gen.specs.inner.LocalBoards.{arcs_onward}
 use Rattle.sgb_gen.proofs.ListsOfBoards.{list_of_board}
-use Rattle.sgb_gen.proofs.accepted.boards.tables.BoardLists.arcs_at.Goals as goal
+use Rattle.sgb_gen.proofs.accepted.boards.board_lists.BoardLists.arcs_at.Goals as goal
 
 pub push_listed-requires-clause-below : goal.push_listed-requires-clause-below
 push_listed-requires-clause-below c = IsBelow-from_Contains c.args.self.now.sizes c.args.x.now c.requires

@@ -2,7 +2,7 @@ use Rattle.std.proofs.Common.{◌≡◌, ◌+◌, ◌-◌, ◌/◌, length, sym,
 use Rattle.std.specs.Ordering.{is_gt}
 use Rattle.sgb_gen.proofs.RisingVectors.{between-all, between-lower, between-upper}
 use Rattle.sgb_gen.proofs.TableRows.{length-rows}
-use Rattle.sgb_gen.proofs.tables.VectorTable.place_of.Goals as goal
+use Rattle.sgb_gen.proofs.vector_tables.VectorTable.place_of.Goals as goal
 
 pub loop-high-init : goal.loop-high-init
 loop-high-init c =

@@ -2,7 +2,7 @@ use Rattle.std.proofs.Common.{◌*◌, length, refl, sym, ap, ap₂, ◌∙◌}
 use Rattle.sgb_gen.specs.inner.Tables.{rows}
 use Rattle.sgb_gen.proofs.FamilyWalks.{walked-all, walked-more}
 use Rattle.sgb_gen.proofs.TableRows.{joined, HasWidth-from_members, length-joined, rows-joined}
-use Rattle.sgb_gen.proofs.tables.VectorTable.new.Goals as goal
+use Rattle.sgb_gen.proofs.vector_tables.VectorTable.new.Goals as goal
 
 pub loop-vector-preserved : goal.loop-vector-preserved
 loop-vector-preserved g c =

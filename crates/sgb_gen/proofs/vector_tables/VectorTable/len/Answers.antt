@@ -1,6 +1,6 @@
 use Rattle.std.proofs.Common.{length, sym, ap, ◌∙◌}
 use Rattle.sgb_gen.proofs.TableRows.{length-rows}
-use Rattle.sgb_gen.proofs.tables.VectorTable.len.Goals as goal
+use Rattle.sgb_gen.proofs.vector_tables.VectorTable.len.Goals as goal
 
 pub returns : goal.returns
 returns c =

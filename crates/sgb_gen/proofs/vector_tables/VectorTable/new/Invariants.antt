@@ -1,6 +1,6 @@
 use Rattle.std.proofs.Common.{◌≡◌, ◌++◌, length}
 use Rattle.sgb_gen.proofs.TableRows.{joined}
-use Rattle.sgb_gen.proofs.tables.VectorTable.new.Given as goal
+use Rattle.sgb_gen.proofs.vector_tables.VectorTable.new.Given as goal
 
 -- behind the entries that are there come those of the vectors that are left
 abbrev pub invariant-loop-vector : goal.invariant-loop-vector

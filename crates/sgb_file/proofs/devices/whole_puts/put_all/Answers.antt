@@ -1,7 +1,7 @@
 use Rattle.std.proofs.Common.{rules, ◌++◌, take, ◌∙◌}
 use Rattle.std.proofs.KnownBytes.{Appends-trans}
 use Rattle.sgb_file.proofs.PartialWrites.{moves_prefix, some_done, sound_before}
-use Rattle.sgb_file.proofs.devices.whole.put_all.Goals as goal
+use Rattle.sgb_file.proofs.devices.whole_puts.put_all.Goals as goal
 
 pub loop-rest-preserved : goal.loop-rest-preserved
 loop-rest-preserved g c =

@@ -1,6 +1,6 @@
 use Rattle.std.proofs.Common.{◌-◌, ◌≤◌, length}
 use Rattle.sgb_gen.proofs.RisingVectors.{IsBetween}
-use Rattle.sgb_gen.proofs.tables.VectorTable.place_of.Given as goal
+use Rattle.sgb_gen.proofs.vector_tables.VectorTable.place_of.Given as goal
 
 -- the vector stands from `low` on and below `high`
 abbrev pub invariant-loop-high : goal.invariant-loop-high

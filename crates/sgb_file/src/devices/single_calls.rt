@@ -1,4 +1,4 @@
-//! What several devices do: copy bytes, give up, keep a fault of std's, and write once.
+//! What one call of a device does: copies bytes, gives up, keeps a fault of std's, or writes once.
 ghost use Rattle.std.specs.Prelude.{◌≡◌, ◌<◌, ◌++◌, true, length, min, take, drop, is_err, is_ok, IfOk, IsErr, if◌then◌else◌};
 ghost use Rattle.std.specs.Io.{WritesAtMost};
 ghost use Rattle.std.specs.Io.KnownBytes.{WriteAppends};

@@ -1,4 +1,4 @@
-//! Small things that the families share.
+//! The entries of a vector: all of them 0, and how many there are.
 ghost use Rattle.std.specs.Prelude.{◌≡◌, ◌+◌, ◌<◌, ◌≤◌, ◌^◌, ℕ, length, replicate, slice_index};
 
 use crate::families::Vector;
