@@ -5,8 +5,9 @@ use Rattle.sgb_vec.specs.declared.panics.Panic.{Panic}
 use Rattle.sgb_graph.specs.Graphs.{GraphData}
 use Rattle.sgb_ops.specs.Induced.{induced_of}
 use Rattle.sgb_expr.proofs.CodeExpressions.{induced_is}
-use Rattle.sgb_expr.specs.inner.CodeEntries.{list_of}
+use Rattle.sgb_expr.specs.CodeEntries.{items_of}
 use Rattle.sgb_expr.specs.Expression.{entries_of, expression_of}
+use Rattle.sgb_expr.specs.Listed.{listed}
 use Rattle.sgb_expr.specs.StdinUses.{entries_have_stdin, has_stdin}
 use Rattle.sgb_expr.specs.declared.entries.Entries.{Entries}
 use Rattle.sgb_expr.specs.declared.expressions.Expr.{Expr}
@@ -37,19 +38,19 @@ induced_from graph entries self_loops multi directed =
 
 -- of an expression of the code
 pub induced_value : (input : List ℕ) (e : Expr) (graph : Box Expr Global) (entries : Entries) (self_loops multi directed : Bool) → e ≡ expr.Induced graph entries self_loops multi directed
-    → value_of input (expression_of e) ≡ induced_from (value_of input (expression_of graph.value)) (values_of input (entries_of (list_of entries))) self_loops multi directed
+    → value_of input (expression_of e) ≡ induced_from (value_of input (expression_of graph.value)) (values_of input (entries_of (listed (items_of entries)))) self_loops multi directed
 induced_value input e graph entries self_loops multi directed is =
     ap (λ x. value_of input (expression_of x)) is ∙ ap (value_of input) (induced_is graph entries self_loops multi directed)
 
 -- its size
 pub induced_size : (e : Expr) (graph : Box Expr Global) (entries : Entries) (self_loops multi directed : Bool) → e ≡ expr.Induced graph entries self_loops multi directed
-    → size_of (expression_of e) ≡ size_of (expression_of graph.value) + size_of_entries (entries_of (list_of entries)) + 2
+    → size_of (expression_of e) ≡ size_of (expression_of graph.value) + size_of_entries (entries_of (listed (items_of entries))) + 2
 induced_size e graph entries self_loops multi directed is =
     ap (λ x. size_of (expression_of x)) is ∙ ap size_of (induced_is graph entries self_loops multi directed)
 
 -- whether it reads standard input
 pub induced_reads : (e : Expr) (graph : Box Expr Global) (entries : Entries) (self_loops multi directed : Bool) → e ≡ expr.Induced graph entries self_loops multi directed
-    → has_stdin (expression_of e) ≡ (has_stdin (expression_of graph.value) || entries_have_stdin (entries_of (list_of entries)))
+    → has_stdin (expression_of e) ≡ (has_stdin (expression_of graph.value) || entries_have_stdin (entries_of (listed (items_of entries))))
 induced_reads e graph entries self_loops multi directed is =
     ap (λ x. has_stdin (expression_of x)) is ∙ ap has_stdin (induced_is graph entries self_loops multi directed)
 

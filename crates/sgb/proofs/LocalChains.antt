@@ -5,7 +5,7 @@ use Rattle.std.proofs.lemmas.List.Elements.{All-cons, All-head, All-nil, All-tai
 use Rattle.std.proofs.lemmas.Option.{get_or_from_slice_get, slice_get-get_or, slice_get_within}
 use Rattle.sgb_vec.specs.Boxes.{box}
 use Rattle.sgb_vec.specs.Lexicographic.{IsRising}
-use Rattle.sgb_vec.specs.inner.Rising.{box_vectors_rise, sum_vectors_rise}
+use Rattle.sgb_vec.proofs.FamilyLaws.{box_vectors_rise, sum_vectors_rise}
 use Rattle.sgb_vec.proofs.BoxPlaces.{IsBelow-from_Contains}
 use Rattle.sgb_vec.proofs.Lists.{All-flat_map}
 use Rattle.sgb_graph.specs.Events.{Event, HasEndsBelow, Record, all_records, list_of, records_of}

@@ -6,7 +6,7 @@ use Rattle.std.specs.List.{All, Contains, flat_map}
 use Rattle.std.proofs.lemmas.Bool.{cases_eq}
 use Rattle.std.proofs.lemmas.List.{at_drop_more, get_or-set_same, get_or-set_other, length-append, length-set, take-append-le, take_all}
 use Rattle.std.proofs.lemmas.List.Elements.{All-head, All-tail, Contains-append_left, Contains-push, Contains-push_cases}
-use Rattle.sgb_vec.proofs.Lists.{Contains-cases, Contains-first, Contains-none, Contains-other}
+use Rattle.sgb_vec.proofs.Lists.{Contains-cases, Contains-first, Contains-none, Contains-other, steps_to}
 use Rattle.sgb_graph.specs.declared.fields.Link.{Link}
 use Rattle.sgb_levels.specs.inner.Marks.{Marks, all_marked, marked, marked_if, marks}
 use Rattle.sgb_levels.specs.inner.Searches.{IsFoundAt, unmarked}
@@ -159,10 +159,6 @@ marking-all d n (v ∷ vs) m size within =
 pub all_marked-append : (d : ℕ) (us vs : List ℕ) (m : Marks) → all_marked d (us ++ vs) m ≡ all_marked d vs (all_marked d us m)
 all_marked-append d [] vs m = refl
 all_marked-append d (u ∷ us) vs m = all_marked-append d us vs (marked d u m)
-
--- what a walk over arcs gives
-pub steps_to : (s rest : List Link) (r : Option Link) (l : Link) → r ≡ Some l → YieldsFirst (λ x. x) s r rest → s ≡ l ∷ rest
-steps_to s rest r l is h = subst (λ o. YieldsFirst (λ x. x) s o rest) is h
 
 -- the vertex where the next arc leads is marked, of those that are left
 pub tip_marked : (d : ℕ) (left rest : List Link) (r : Option Link) (l : Link) (old new all : Marks) → r ≡ Some l → YieldsFirst (λ x. x) left r rest

@@ -2,7 +2,8 @@ use Rattle.std.proofs.Common.{◌<◌, ◌∙◌, length, subst}
 use Rattle.std.specs.List.{All}
 use Rattle.std.proofs.lemmas.List.Elements.{All-tail}
 use Rattle.sgb_graph.specs.declared.fields.Link.{Link}
-use Rattle.sgb_levels.proofs.Marking.{steps_to, tip_marked}
+use Rattle.sgb_vec.proofs.Lists.{steps_to}
+use Rattle.sgb_levels.proofs.Marking.{tip_marked}
 use Rattle.sgb_levels.proofs.levels.mark_tips.Goals as goal
 
 pub loop-link-preserved : goal.loop-link-preserved

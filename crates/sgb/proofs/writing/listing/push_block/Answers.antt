@@ -1,17 +1,15 @@
-use Rattle.std.proofs.Common.{◌≡◌, ◌<◌, ◌∙◌, List, [], ◌∷◌, Option, Some, None, refl, sym, ap, subst, map, length}
+use Rattle.std.proofs.Common.{◌≡◌, ◌<◌, ◌∙◌, List, [], Option, None, refl, sym, ap, subst, map, length}
 use Rattle.std.specs.Iterator.{YieldsFirst}
 use Rattle.std.specs.List.{All, flat_map}
 use Rattle.std.proofs.lemmas.List.Elements.{All-tail}
+use Rattle.sgb_vec.proofs.Lists.{steps_to}
 use Rattle.sgb_graph.specs.declared.fields.Link.{Link}
 use Rattle.sgb.specs.Texts.{arc_line, block}
 use Rattle.sgb.proofs.Listings.{block-parts}
 use Rattle.sgb.proofs.Pages.{exit_paged, paged_all, paged_cut, paged_more, paged_none}
 use Rattle.sgb.proofs.writing.listing.push_block.Goals as goal
 
--- what the walk over arcs gives
-step_some : (s u : List Link) (r : Option Link) (link : Link) → r ≡ Some link → YieldsFirst (λ x. x) s r u → s ≡ link ∷ u
-step_some s u r link e h = subst (λ o. YieldsFirst (λ x. x) s o u) e h
-
+-- the walk over arcs gives no more
 step_none : (s u : List Link) (r : Option Link) → r ≡ None → YieldsFirst (λ x. x) s r u → s ≡ []
 step_none s u r e h = (subst (λ o. YieldsFirst (λ x. x) s o u) e h).0
 
@@ -32,14 +30,14 @@ loop-link-init g c =
 pub returns-in_err-push_arc : goal.returns-in_err-push_arc
 returns-in_err-push_arc g c =
     let names = map (λ v. v.name) c.args.graph.now.vertices in
-    let step = step_some c.loop-link.link-iterator c.next.new.self c.next.result c.in-Some.link c.in-Some.is c.next.ensures.steps in
+    let step = steps_to c.loop-link.link-iterator c.next.new.self c.next.result c.in-Some.link c.in-Some.is c.next.ensures.steps in
     exit_paged c.args.page.now (block c.args.graph.now c.args.v) _ _ _ _ c.from_residual-in_err-push_arc.ensures.1 (paged_cut _ _ _ _ _ _ _ _ _ _ _ (ap (flat_map (arc_line names)) step) c.loop-link.invariant.0 c.in_err-push_arc.ensures)
 
 pub loop-link-preserved : goal.loop-link-preserved
 loop-link-preserved g c =
     let names = map (λ v. v.name) c.args.graph.now.vertices in
     let left = c.next.new.self in
-    let step = step_some c.loop-link.link-iterator left c.next.result c.in-Some.link c.in-Some.is c.next.ensures.steps in
+    let step = steps_to c.loop-link.link-iterator left c.next.result c.in-Some.link c.in-Some.is c.next.ensures.steps in
     let Within = λ (link : Link). link.tip < length c.args.graph.now.vertices in (
       paged_more _ _ _ _ _ _ _ _ _ _ (ap (flat_map (arc_line names)) step) c.loop-link.invariant.0 c.in_ok-push_arc.ensures.output,
       All-tail Within c.in-Some.link left (subst (All Within) step c.loop-link.invariant.1),
