@@ -29,7 +29,7 @@ use Rattle.sgb.specs.Locals.{IsLocalOf}
 use Rattle.sgb.specs.Values.{described, generator_value, made}
 use Rattle.sgb.specs.declared.locals.Local.{Local}
 use Rattle.sgb.specs.inner.Certain.{HasListingAtOnce, HasNamesAtOnce, IsRefusedGenerator}
-use Rattle.sgb.specs.inner.Writing.{IsEnded, IsEndedFrom}
+use Rattle.sgb.specs.Writing.{IsEnded, IsEndedFrom}
 use Rattle.sgb.proofs.Endings.{change_of, no_line}
 use Rattle.sgb.proofs.FirstRefusals.{first_other, generator_other}
 use Rattle.sgb.proofs.Refusals.{left_out_own}

@@ -13,8 +13,7 @@ use Rattle.sgb.specs.Outcomes.{answer_after, answer_from, outcome_of}
 use Rattle.sgb_file.specs.Devices.{AppendsUnlessFailed, Change}
 use Rattle.sgb_requests.specs.Faults.{line_of, status_of}
 use Rattle.sgb.specs.Runs.{IsRunOf}
-use Rattle.sgb.specs.Writing.{IsWhole, IsWritten, IsCutOff}
-use Rattle.sgb.specs.inner.Writing.{IsEnded}
+use Rattle.sgb.specs.Writing.{IsCutOff, IsEnded, IsWhole, IsWritten}
 use Rattle.sgb_requests.specs.declared.faults.Fault.{Fault}
 use Rattle.sgb_requests.specs.declared.faults.Fault.TheVariants as fault
 use Rattle.sgb_file.proofs.WrittenPrefixes.{prefix_all, prefix_none}

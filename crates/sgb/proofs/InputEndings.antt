@@ -6,7 +6,7 @@ use Rattle.sgb_requests.specs.Faults.{line_of, status_of}
 use Rattle.sgb.specs.Inputs.{IsKeptOfInput, IsReadFault}
 use Rattle.sgb.specs.Runs.{IsRunFrom}
 use Rattle.sgb.specs.Values.{most_input}
-use Rattle.sgb.specs.inner.Writing.{IsEnded, IsEndedFrom}
+use Rattle.sgb.specs.Writing.{IsEnded, IsEndedFrom}
 use Rattle.sgb_requests.specs.declared.faults.Fault.{Fault}
 use Rattle.sgb_requests.specs.declared.faults.Fault.TheVariants as fault
 use Rattle.sgb.proofs.Endings.{answers_err, answers_ok, change_of, memory_at_once}

@@ -7,7 +7,7 @@ use Rattle.std.proofs.lemmas.List.Elements.{All-map}
 use Rattle.std.proofs.lemmas.Option.{get_or_from_slice_get, slice_get_read, slice_get_within}
 use Rattle.sgb_vec.specs.Lexicographic.{IsRising}
 use Rattle.sgb_vec.specs.Names.{name_of_vector}
-use Rattle.sgb_vec.specs.inner.Rising.{box_vectors_rise, sum_vectors_rise}
+use Rattle.sgb_vec.proofs.FamilyLaws.{box_vectors_rise, sum_vectors_rise}
 use Rattle.sgb_graph.specs.declared.fields.Link.{Link}
 use Rattle.sgb_vec.specs.declared.panics.Panic.{Panic}
 use Rattle.sgb_graph.specs.Descriptions.{Description, IsGraphOf}
@@ -32,7 +32,7 @@ use Rattle.sgb.specs.inner.Remaining.{IsRest}
 use Rattle.sgb.specs.Texts.{arc_line, block, blocks, head, head_text, name_line}
 use Rattle.sgb.specs.Outcomes.{answer_from, names_answer}
 use Rattle.sgb.specs.Values.{described, made}
-use Rattle.sgb.specs.inner.Writing.{IsEnded}
+use Rattle.sgb.specs.Writing.{IsEnded}
 use Rattle.sgb_file.specs.Devices.{Change}
 use Rattle.sgb_requests.specs.declared.faults.Fault.{Fault}
 use Rattle.sgb_requests.specs.declared.requests.Resume.{Resume}

@@ -17,7 +17,7 @@ pub mod Texts
 pub mod Values
 -- listings from a generator's vectors
 pub mod Locals
--- what writing a text leaves
+-- what writing a text leaves, and how an answer ends
 pub mod Writing
 -- what no public contract needs
 pub mod inner

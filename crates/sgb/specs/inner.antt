@@ -15,5 +15,3 @@ pub mod Pages
 pub mod Remaining
 -- the entries of a name, and how long lines are
 pub mod Texts
--- how an answer ends
-pub mod Writing

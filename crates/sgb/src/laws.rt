@@ -1,9 +1,27 @@
-//! What holds of all answers: a function with nothing in it, whose contract says so.
-ghost use Rattle.std.specs.Prelude.{◌≡◌, ℕ, List, false};
+//! What holds of all answers: functions with nothing in them, whose contracts say so.
+ghost use Rattle.std.specs.Prelude.{◌≡◌, ℕ, Bool, List, Result, Ok, Err, false};
+ghost use Rattle.sgb_file.specs.Devices.{AppendsUnlessFailed, Change};
+ghost use Rattle.sgb_requests.specs.Faults.{line_of, status_of};
+ghost use Rattle.sgb_requests.specs.declared.faults.Fault.{Fault};
 ghost use Rattle.sgb_requests.specs.declared.requests.Request.{Request};
 ghost use Rattle.sgb.specs.Outcomes.{answer_of, reads_input};
+ghost use Rattle.sgb.specs.Runs.{IsRunFrom};
+ghost use Rattle.sgb.specs.Writing.{IsEndedFrom};
 
 /// A request that reads no input has the same answer on every input.
 pub fn input_unread_law()
     ensures { (r : Request) (a b : List ℕ) → reads_input r ≡ false → answer_of r a ≡ answer_of r b }
+{}
+
+/// How a program over this library shows that a call of it is a run: answering ended so, with standard error left alone;
+/// or with a fault, whose line was then written to standard error, and whose status is returned.
+pub fn run_endings_law()
+    ensures answered { (failed : Bool) (answer : Result (List ℕ) Fault) (out err : Change)
+        → err.after ≡ err.before
+        → IsEndedFrom {T = ℕ} failed answer (out.after ≡ out.before) out (Ok 0)
+        → IsRunFrom failed answer (out.after ≡ out.before) out err 0 }
+    ensures reported { (failed : Bool) (answer : Result (List ℕ) Fault) (fault : Fault) (out err : Change)
+        → AppendsUnlessFailed err (line_of fault)
+        → IsEndedFrom {T = ℕ} failed answer (out.after ≡ out.before) out (Err fault)
+        → IsRunFrom failed answer (out.after ≡ out.before) out err (status_of fault) }
 {}

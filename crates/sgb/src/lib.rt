@@ -21,7 +21,7 @@ mod writing;
 
 pub use evaluation::graph_of;
 pub use input::read_input;
-pub use laws::input_unread_law;
+pub use laws::{input_unread_law, run_endings_law};
 pub use listed::{Listed, ListedBoard, ListedSimplex, ListedSubsets};
 pub use locals::{Local, local_of};
 pub use program::run_program;

@@ -13,7 +13,7 @@ ghost use Rattle.sgb.specs.Inputs.{IsKeptOfInput, LosesAtMost};
 ghost use Rattle.sgb.specs.Runs.{IsRunOn};
 ghost use Rattle.sgb.specs.Texts.{blocks, head};
 ghost use Rattle.sgb.specs.Values.{generator_value, made, most_input, value_of};
-ghost use Rattle.sgb.specs.inner.Writing.{IsEnded, IsEndedFrom};
+ghost use Rattle.sgb.specs.Writing.{IsEnded, IsEndedFrom};
 
 use crate::evaluation::{graph_from, queen_moves};
 use crate::input::input_for;

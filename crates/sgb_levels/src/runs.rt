@@ -13,8 +13,7 @@ ghost use Rattle.sgb_requests.specs.declared.faults.Fault.{Fault};
 ghost use Rattle.sgb.specs.Inputs.{IsKeptOfInput, IsReadFrom, LosesAtMost};
 ghost use Rattle.sgb.specs.Program.{unread_fault};
 ghost use Rattle.sgb.specs.Values.{most_input, value_of};
-ghost use Rattle.sgb.specs.Writing.{IsWritten};
-ghost use Rattle.sgb.specs.inner.Writing.{IsEnded, IsEndedFrom};
+ghost use Rattle.sgb.specs.Writing.{IsEnded, IsEndedFrom, IsWritten};
 ghost use Rattle.sgb_levels.specs.Lines.{IsLevelsAnswer, distance_text, level_line, level_lines, line_of_level};
 ghost use Rattle.sgb_levels.specs.Program.{AreLevelsWritten, AskFor, AskForNoInput, IsLevelsRun, IsRefused, refusal_line, usage_line};
 

@@ -4,10 +4,9 @@ ghost use Rattle.sgb_file.specs.Devices.{change};
 ghost use Rattle.sgb_ops.specs.Operands.{names_of};
 ghost use Rattle.sgb.specs.Outcomes.{head_for, left_out, list_answer};
 ghost use Rattle.sgb.specs.Texts.{arc_line, block, blocks, head, head_text};
-ghost use Rattle.sgb.specs.Writing.{IsWritten};
+ghost use Rattle.sgb.specs.Writing.{IsEnded, IsWritten};
 ghost use Rattle.sgb.specs.inner.Pages.{IsPaged, page_bytes};
 ghost use Rattle.sgb.specs.inner.Texts.{most_line_bytes};
-ghost use Rattle.sgb.specs.inner.Writing.{IsEnded};
 
 use super::pages::{Page, make_room, put_page};
 use super::vertices::{push_name_line, vertices_left_out};

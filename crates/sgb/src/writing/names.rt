@@ -6,8 +6,7 @@ ghost use Rattle.sgb_file.specs.Devices.{change};
 ghost use Rattle.sgb_vec.specs.Names.{name_of_vector};
 ghost use Rattle.sgb.specs.Outcomes.{names_answer};
 ghost use Rattle.sgb.specs.Texts.{name_line};
-ghost use Rattle.sgb.specs.Writing.{IsWritten};
-ghost use Rattle.sgb.specs.inner.Writing.{IsEnded};
+ghost use Rattle.sgb.specs.Writing.{IsEnded, IsWritten};
 
 use super::kept_names::KeptName;
 use super::pages::{Page, put_page};

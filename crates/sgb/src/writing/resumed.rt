@@ -11,7 +11,7 @@ ghost use Rattle.sgb.specs.Outcomes.{head_for, left_out, list_answer};
 ghost use Rattle.sgb.specs.Texts.{head};
 ghost use Rattle.sgb.specs.Values.{described};
 ghost use Rattle.sgb.specs.inner.Remaining.{BeginsAfter, IsLastSkipped, IsMemberNamed};
-ghost use Rattle.sgb.specs.inner.Writing.{IsEnded};
+ghost use Rattle.sgb.specs.Writing.{IsEnded};
 
 use super::families::list_vectors;
 use crate::listed::Listed;

@@ -5,9 +5,8 @@ ghost use Rattle.sgb_file.specs.Devices.{change};
 ghost use Rattle.sgb_ops.specs.Operands.{names_of};
 ghost use Rattle.sgb.specs.Outcomes.{left_out, names_answer, vertex_named};
 ghost use Rattle.sgb.specs.Texts.{name_line, name_lines};
-ghost use Rattle.sgb.specs.Writing.{IsWritten};
+ghost use Rattle.sgb.specs.Writing.{IsEnded, IsWritten};
 ghost use Rattle.sgb.specs.inner.Pages.{IsPaged};
-ghost use Rattle.sgb.specs.inner.Writing.{IsEnded};
 
 use super::pages::{Page, make_room, put_page};
 use sgb_file::Sink;
