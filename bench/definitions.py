@@ -10,13 +10,13 @@ type's `view`, `invariant` and `coded`, which tie private fields to what callers
 the proofs that an impl gives of a trait's laws.
 
 It prints, of the lines that are reached, those of the tool (from `run_program`), of the libraries (from all public calls)
-and of laws alone (from functions of the module `laws` or of an empty body, and from no other call); how much of clap's
-own definitions stands under the two that say which words clap takes; and where a crate cites `specs/inner` of another.
-With -v the table has a row for each file: its lines that are reached, those that the tool reaches, and the others.
+and of laws alone (from functions of the module `laws` or of an empty body, and from no other call); and how much of clap's
+own definitions stands under the two that say which words clap takes. With -v the table has a row for each file: its lines that are reached, those that the tool reaches, and the others.
 
 The status is 1 where a definition stands in the wrong folder (those that are reached belong in specs/, all others in
 specs/inner/), or where docs/DEFINITIONS.md does not name a file that has a reached one, or has a name in its tables that
-is not there. The last line counts these two as passed or failed. The status is 2 where a file cannot be read. The search
+is not there, or where a crate cites specs/inner of another. The last line counts these three as passed or failed. The
+status is 2 where a file cannot be read. The search
 is by names in the text: it proves nothing.
 """
 
@@ -371,7 +371,7 @@ def main():
     library = from_those(lambda public: not public.is_law)
     reached = from_those(lambda public: True)
 
-    misplaced = unnamed = 0
+    misplaced = unnamed = foreign = 0
     page, tabled = page_parts("docs/DEFINITIONS.md")
     for crate in order:
         rows = collections.defaultdict(lambda: [0, 0, 0])
@@ -407,6 +407,7 @@ def main():
             cites["its proofs"].update(re.findall(r"\bRattle\.(sgb\w*)\.specs\.inner\b", read(path)))
         for where, others in cites.items():
             if others - {crate}:
+                foreign += 1
                 print(f"{crate}: {where} cite specs/inner of {', '.join(sorted(others - {crate}))}")
 
     print(f"Definitions of the tool:          {definitions.lines(tool):5} lines")
@@ -419,8 +420,8 @@ def main():
         print(f"clap's own, under {' and '.join(CLAP)}: {share[0]} lines of {share[1]}")
     else:
         print(f"clap's own, under {' and '.join(CLAP)}: not counted, since rt doc tells of no folder that has them")
-    failed = (misplaced > 0) + (unnamed > 0)
-    print(f"{2 - failed} passed, {failed} failed")
+    failed = (misplaced > 0) + (unnamed > 0) + (foreign > 0)
+    print(f"{3 - failed} passed, {failed} failed")
     return 1 if failed else 0
 
 
