@@ -2,7 +2,7 @@
 use Rattle.std.proofs.Common.{◌≡◌, ◌∙◌, ◌+◌, ◌-◌, ◌*◌, ◌^◌, ◌<◌, ◌≤◌, ℕ, Bool, List, [], ◌∷◌, ◌++◌, nat_lt, length, take, drop, get_or, refl, sym, ap, ap₂, inl, inr, arith, append_assoc, length-append}
 use Rattle.std.specs.List.{All}
 use Rattle.std.proofs.lemmas.Bool.{cases_lt}
-use Rattle.std.proofs.lemmas.List.{drop_at, get_or-append_right, get_or-take, get_or_append_left, length-drop, length-take-le, take-append-le, take-take, take_all, take_at, take_rest}
+use Rattle.std.proofs.lemmas.List.{drop_at, get_or-append_right, get_or-take, get_or_append_left, length-drop, length-take-le, take-append-le, take-take, take_all, take_at}
 use Rattle.std.proofs.lemmas.List.Elements.{All-drop, All-nil, All-push, All-take}
 use Rattle.sgb_vec.specs.Names.{name_of_vector}
 use Rattle.sgb.specs.inner.KeptNames.{IsKeptName}
@@ -106,11 +106,11 @@ name-other v w from to order within width first last =
 module _ (v w line name : List ℕ) (from to start end : ℕ) (is : name ≡ name_of_vector v) (order : from ≤ to) (within : to ≤ length v)
     (starts : start ≡ length (name_of_vector (take from v))) (ends : end ≡ length (name_of_vector (take to v))) where
   -- what is put after the entries that are new
-  put-back : take (length name - end) (drop end name) ≡ entries_text (nat_lt 0 to) (drop to v)
-  put-back = take_rest name end ∙ ap₂ drop ends is ∙ name-back v to within
+  put-back : drop end name ≡ entries_text (nat_lt 0 to) (drop to v)
+  put-back = ap₂ drop ends is ∙ name-back v to within
 
   pub other-text : length w ≡ length v → take from v ≡ take from w → drop to v ≡ drop to w
-      → ((line ++ take start name) ++ entries_text (nat_lt 0 from) (take (to - from) (drop from w))) ++ take (length name - end) (drop end name) ≡ line ++ name_of_vector w
+      → ((line ++ take start name) ++ entries_text (nat_lt 0 from) (take (to - from) (drop from w))) ++ drop end name ≡ line ++ name_of_vector w
   other-text width first last =
       let front : take start name ≡ name_of_vector (take from v) = ap₂ take starts is ∙ name-front v from (omega arith) in
       let middle : List ℕ = entries_text (nat_lt 0 from) (take (to - from) (drop from w)) in
@@ -120,8 +120,8 @@ module _ (v w line name : List ℕ) (from to start end : ℕ) (is : name ≡ nam
       ∙ append_assoc line (name_of_vector (take from v) ++ middle) back
       ∙ ap (λ xs. line ++ xs) (name-other v w from to order within width first last)
 
-  pub back-bound : All IsSmall v → length (take (length name - end) (drop end name)) ≤ 11 * (length v - to)
-  back-bound small = omega (arith, ap length (take_rest name end ∙ ap₂ drop ends is), back-short v to within small)
+  pub back-bound : All IsSmall v → length (drop end name) ≤ 11 * (length v - to)
+  back-bound small = omega (arith, ap length (ap₂ drop ends is), back-short v to within small)
 
   pub front-bound : All IsSmall v → length (line ++ take start name) ≤ length line + 11 * from
   front-bound small =

@@ -25,6 +25,8 @@ pub mod InputsLeft
 pub mod KeptNames
 -- what is kept of a source
 pub mod KeptInput
+-- bytes that are moved a word at once
+mod MovedWords
 -- parts of a listing
 pub mod Listings
 -- lists of a generator's graph, by the arcs of its vectors

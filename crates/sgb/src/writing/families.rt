@@ -196,6 +196,6 @@ fn push_arc<W: Sink>(
     make_room(page, out)?;
     page.begin_arc();
     name.push_other(tip, page);
-    page.end_arc(i64::from(len));
+    page.end_counted_arc(len);
     Ok(())
 }

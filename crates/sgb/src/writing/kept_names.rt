@@ -117,10 +117,9 @@ impl KeptName {
         let vector = self.vector.as_slice();
         let from = equal_from_start(vector, other);
         let to = equal_to_end(vector, other, from);
-        let name = self.text.bytes();
-        page.push_text(&name[..self.end_of(from)]);
+        page.push_start_of(&self.text, self.end_of(from));
         page.push_entries(other, from, to);
-        page.push_text(&name[self.end_of(to)..]);
+        page.push_rest_of(&self.text, self.end_of(to));
     }
 }
 

@@ -15,6 +15,9 @@ use std::marker::Model;
 // A page of output has this many bytes: more than the buffer of std's BufWriter, so that a page goes past it.
 const PAGE_BYTES: usize = 32_768;
 
+// So many bytes are moved at once.
+const WORD_BYTES: usize = 16;
+
 // A line has at most this many bytes: those of a name, at most 4,095, and what the line of an arc has beside it.
 const MOST_LINE_BYTES: usize = 4_160;
 
@@ -83,6 +86,48 @@ impl<const N: usize> Filled<N> {
         let bytes = &mut self.bytes[..];
         bytes[start..end].copy_from_slice(text);
         self.len = end;
+    }
+
+    /// Appends the first `end` bytes of another text.
+    pub(super) fn push_start_of<const M: usize>(&mut self, text: &Filled<M>, end: usize)
+        requires within { end ≤ length text.now }
+        requires room { length self.old + end ≤ N }
+        ensures { self.new ≡ self.old ++ take end text.now }
+    {
+        if end <= WORD_BYTES && M >= WORD_BYTES && self.len + WORD_BYTES <= N {
+            self.push_word(&text.bytes, 0, end);
+        } else {
+            self.push_text(&text.bytes()[..end]);
+        }
+    }
+
+    /// Appends the bytes of another text from place `start` on.
+    pub(super) fn push_rest_of<const M: usize>(&mut self, text: &Filled<M>, start: usize)
+        requires within { start ≤ length text.now }
+        requires room { length self.old + (length text.now - start) ≤ N }
+        ensures { self.new ≡ self.old ++ drop start text.now }
+    {
+        let count = text.len - start;
+        if count <= WORD_BYTES && start + WORD_BYTES <= M && self.len + WORD_BYTES <= N {
+            self.push_word(&text.bytes, start, count);
+        } else {
+            self.push_text(&text.bytes()[start..]);
+        }
+    }
+
+    // Appends `count` bytes from place `start` on. A whole word is moved at once: what of it is no part of the text is
+    // written over by what is appended next.
+    fn push_word(&mut self, bytes: &[u8], start: usize, count: usize)
+        requires few { count ≤ 16 }
+        requires within { start + 16 ≤ length bytes.now }
+        requires room { length self.old + 16 ≤ N }
+        ensures { self.new ≡ self.old ++ take count (drop start bytes.now) }
+    {
+        let at = self.len;
+        let word = &bytes[start..start + WORD_BYTES];
+        let all = &mut self.bytes[..];
+        all[at..at + WORD_BYTES].copy_from_slice(word);
+        self.len = at + count;
     }
 
     /// Appends a number in decimal, at most 40 bytes.
@@ -198,6 +243,41 @@ impl<const N: usize> Filled<N> {
     {
         self.push_text(b", length ");
         self.push_length(len);
+        self.push_text(b"\n");
+    }
+
+    /// The same of a length that no file brought.
+    pub(super) fn end_counted_arc(&mut self, len: u32)
+        requires { length self.old + 50 ≤ N }
+        ensures { self.new ≡ self.old ++ (codes ", length " ++ (decimal len ++ codes "\n")) }
+    {
+        if len < 10 {
+            self.end_short_arc(len);
+        } else {
+            self.end_long_arc(len);
+        }
+    }
+
+    // Ends the line of an arc whose length has one digit.
+    fn end_short_arc(&mut self, len: u32)
+        requires few { len < 10 }
+        requires room { length self.old + 11 ≤ N }
+        ensures { self.new ≡ self.old ++ (codes ", length " ++ (decimal len ++ codes "\n")) }
+    {
+        let digit = b'0' + len as u8;
+        self.push_text(&[
+            b',', b' ', b'l', b'e', b'n', b'g', b't', b'h', b' ', digit, b'\n',
+        ]);
+    }
+
+    // Ends the line of an arc of any length.
+    #[inline(never)]
+    fn end_long_arc(&mut self, len: u32)
+        requires { length self.old + 50 ≤ N }
+        ensures { self.new ≡ self.old ++ (codes ", length " ++ (decimal len ++ codes "\n")) }
+    {
+        self.push_text(b", length ");
+        self.push_count(len);
         self.push_text(b"\n");
     }
 

@@ -1,6 +1,4 @@
-use Rattle.std.proofs.Common.{◌≡◌, ◌+◌, ◌∙◌, ◌++◌, List, ℕ, codes, length, length-append, pos, sym, ap, arith, rules, w64, to_z, of_z}
-use Rattle.std.specs.Fmt.{signed_decimal}
-use Rattle.std.proofs.lemmas.Int.{to_z-of_z}
+use Rattle.std.proofs.Common.{◌≡◌, ◌+◌, ◌∙◌, ◌++◌, List, ℕ, codes, length, length-append, pos, sym, ap, arith, rules, w64}
 use Rattle.sgb_vec.specs.Names.{name_of_vector}
 use Rattle.sgb.specs.inner.Locals.{local_line}
 use Rattle.sgb.proofs.LocalListings.{line-parts}
@@ -17,8 +15,8 @@ pub push_other-requires-clause-room : goal.push_other-requires-clause-room
 push_other-requires-clause-room g c =
     omega (arith, c.in_ok-make_room.ensures.room, ap length c.begin_arc.ensures, length-append c.make_room.new.page (codes "  -> "), c.requires.width, c.requires.short)
 
-pub end_arc-requires : goal.end_arc-requires
-end_arc-requires g c =
+pub end_counted_arc-requires : goal.end_counted_arc-requires
+end_counted_arc-requires g c =
     omega (
       arith,
       c.in_ok-make_room.ensures.room,
@@ -33,10 +31,8 @@ pub returns : goal.returns
 returns g c =
     let tip = c.args.tip.now in
     let page : List ℕ = c.make_room.new.page in
-    let len : signed_decimal (to_z w64 (of_z w64 c.from.result)) ≡ signed_decimal (pos c.args.len) =
-    ap signed_decimal (to_z-of_z w64 c.from.result (search rules) ∙ c.from.ensures) in
-    let text : c.end_arc.new.self ≡ page ++ local_line (record { tip = tip; len = pos c.args.len }) =
+    let text : c.end_counted_arc.new.self ≡ page ++ local_line (record { tip = tip; len = pos c.args.len }) =
     put_together _ _ (codes "  -> ") (name_of_vector tip) _ _ _ c.begin_arc.ensures c.push_other.ensures.text
-    (c.end_arc.ensures ∙ ap (λ (digits : List ℕ). c.push_other.new.page ++ (codes ", length " ++ (digits ++ codes "\n"))) len)
+    c.end_counted_arc.ensures
     ∙ ap (λ (line : List ℕ). page ++ line) (sym (line-parts tip (pos c.args.len))) in
     record { output = held_line _ _ _ _ _ _ c.in_ok-make_room.ensures.paged.output text; sound = c.in_ok-make_room.ensures.paged.sound }
