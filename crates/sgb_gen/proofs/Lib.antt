@@ -82,6 +82,8 @@ pub mod TouchingMoves
 pub mod SortedStarts
 -- moves by a displacement that leads to later vectors
 pub mod OnwardMoves
+-- whether displacements lead onward, by the coordinates that they move
+mod OnwardParts
 -- where those start that touch a vector, with no sorting
 pub mod OnwardStarts
 -- moves from a vector, length by length

@@ -201,15 +201,15 @@ pub(crate) fn destination(
 
 /// Whether the first entry of a displacement that is not 0 is positive, and its side does not wrap around: each step then
 /// leads to a later vector.
-pub(crate) fn leads_onward(wrap: i64, t: &[i32]) -> bool
+pub(crate) fn leads_onward(wrap: i64, t: &Step) -> bool
     ensures { result ≡ leads_onward wrap 0 t.now }
 {
-    for (k, entry) in t.iter().enumerate() {
-        if *entry != 0 {
-            return *entry > 0 && !wraps(wrap, k);
-        }
+    let parts = t.parts();
+    if parts.is_empty() {
+        return false;
     }
-    false
+    let (k, entry) = parts[0];
+    entry > 0 && !wraps(wrap, k)
 }
 
 // The greatest entry of a displacement on a side that leads to a place: less than its size where it does not wrap

@@ -119,7 +119,7 @@ impl Board {
             }
             return self.push_moves_down(x, t, there, links);
         }
-        if leads_onward(self.wrap, t.entries()) {
+        if leads_onward(self.wrap, t) {
             return self.push_in_order(x, t, back, links);
         }
         self.push_sorted(x, t, back, there, links)
@@ -219,10 +219,10 @@ impl Board {
         if self.piece > 0 {
             return true;
         }
-        if leads_onward(self.wrap, t.entries()) {
+        if leads_onward(self.wrap, t) {
             return true;
         }
-        leads_onward(self.wrap, back.entries())
+        leads_onward(self.wrap, back)
     }
 
     // Puts the arcs by the moves from `x` by `t` behind the others, where these never come home: one look tells how many

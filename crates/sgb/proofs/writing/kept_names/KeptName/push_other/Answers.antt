@@ -16,17 +16,23 @@ push_rest_of-requires c =
     let within : to ≤ length v = omega (arith, order.1, ap length slice) in
     let ends : c.end_of-2.result ≤ length c.self.inside.text = omega (arith, c.end_of-2.ensures.within, ap length name) in (
       omega arith,
-      (omega arith, (ends, omega (
-        arith,
-        c.requires.room,
-        length-drop c.end_of-2.result c.self.inside.text,
-        c.push_entries.ensures.short,
-        ap length c.push_start_of.ensures,
-        within,
-        order.0,
-        front-bound v c.args.other.now c.args.page.now c.self.inside.text from to c.end_of.result c.end_of-2.result name order.0 within c.end_of.ensures.value c.end_of-2.ensures.value small,
-        back-bound v c.args.other.now c.args.page.now c.self.inside.text from to c.end_of.result c.end_of-2.result name order.0 within c.end_of.ensures.value c.end_of-2.ensures.value small,
-      ))),
+      (
+        omega arith,
+        (
+          ends,
+          omega (
+            arith,
+            c.requires.room,
+            length-drop c.end_of-2.result c.self.inside.text,
+            c.push_entries.ensures.short,
+            ap length c.push_start_of.ensures,
+            within,
+            order.0,
+            front-bound v c.args.other.now c.args.page.now c.self.inside.text from to c.end_of.result c.end_of-2.result name order.0 within c.end_of.ensures.value c.end_of-2.ensures.value small,
+            back-bound v c.args.other.now c.args.page.now c.self.inside.text from to c.end_of.result c.end_of-2.result name order.0 within c.end_of.ensures.value c.end_of-2.ensures.value small,
+          ),
+        ),
+      ),
     )
 
 pub returns-clause-text : goal.returns-clause-text

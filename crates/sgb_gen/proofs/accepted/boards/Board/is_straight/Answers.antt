@@ -15,7 +15,7 @@ returns-then-leads_onward c x l below some =
     let b = c.args.self.now in
     let wrap : to_z w64 (of_z w64 c.self.inside.wrap) ≡ b.wrap = to_z-of_z w64 c.self.inside.wrap (search rules) ∙ ap (λ d. d.wrap) c.self.view_is in
     let onward : leads_onward b.wrap 0 c.args.t.now ≡ true =
-    ap (λ w. leads_onward w 0 c.args.t.now) (sym wrap) ∙ ap (leads_onward (to_z w64 (of_z w64 c.self.inside.wrap)) 0) (sym c.entries.ensures) ∙ sym c.leads_onward.ensures ∙ c.if-leads_onward.true in
+    ap (λ w. leads_onward w 0 c.args.t.now) (sym wrap) ∙ sym c.leads_onward.ensures ∙ c.if-leads_onward.true in
     onward_away b c.args.t.now c.requires.dimensions onward x l below some
 
 if_true : (P : Type 0) (r : Bool) → (r ≡ true → P) → OnTrue r P
@@ -33,5 +33,5 @@ returns c =
     if_true ((x : List ℕ) (l : ℕ) → IsBelow x b.sizes → 0 < l → leads b x t l ≡ place (sides_of b.sizes b.wrap) x t l) c.leads_onward-2.result
     (λ found x l below some.
     let onward : leads_onward b.wrap 0 back ≡ true =
-    ap (λ w. leads_onward w 0 back) (sym wrap) ∙ ap (leads_onward (to_z w64 (of_z w64 c.self.inside.wrap)) 0) (sym c.entries-2.ensures) ∙ sym c.leads_onward-2.ensures ∙ found in
+    ap (λ w. leads_onward w 0 back) (sym wrap) ∙ sym c.leads_onward-2.ensures ∙ found in
     ap (λ ts. leads b x ts l) (sym turned) ∙ back_away b back long onward x l below some ∙ ap (λ ts. place (sides_of b.sizes b.wrap) x ts l) turned)
