@@ -7,3 +7,5 @@ pub mod ArcsLeft
 pub mod NamesLeft
 -- kinds of fields
 pub mod Kinds
+-- how long some lists are
+pub mod Sizes

@@ -4,6 +4,7 @@ ghost use Rattle.std.specs.Bool.{OnTrue, OnFalse};
 ghost use Rattle.sgb_graph.specs.Graphs.{chain_of};
 ghost use Rattle.sgb_arrays.specs.Rows.{AreRows, HaveRowLengths, arcs_of};
 ghost use Rattle.sgb_arrays.specs.inner.Puts.{put_from};
+ghost use Rattle.sgb_arrays.specs.inner.Sizes.{AreSizesFrom};
 ghost use Rattle.sgb_arrays.specs.declared.refusals.Wrong.TheVariants as wrong;
 
 use crate::refusals::Wrong;
@@ -14,11 +15,70 @@ pub fn arcs_len(graph: &Graph) -> u128
     ensures { result ≡ length (arcs_of graph.now) }
 {
     let mut count = 0;
+    let mut sizes = Sizes::from(graph, 0);
     for v in 0..graph.n() {
-        graph.read_ahead(v);
-        count += u128::from(degree(graph, v) as u64);
+        count += u128::from(sizes.at(graph, v) as u64);
     }
     count
+}
+
+// How many arcs are on the lists of a vertex and the seven after it, of which there may be fewer.
+#[derive(Drop)]
+struct Sizes {
+    first: u32,
+    known: [usize; 8],
+}
+
+impl Sizes {
+    // Those from vertex v on.
+    fn from(graph: &Graph, v: u32) -> Sizes
+        ensures first { result.first ≡ v }
+        ensures known { AreSizesFrom graph.now v result.known }
+    {
+        Sizes {
+            first: v,
+            known: sizes_from(graph, v),
+        }
+    }
+
+    // How many arcs are on the list of vertex v, which is one of the eight, or the next one: then the next eight are had.
+    fn at(&mut self, graph: &Graph, v: u32) -> usize
+        requires vertex { v < length graph.now.vertices }
+        requires known { AreSizesFrom graph.now self.old.first self.old.known }
+        requires after { self.old.first ≤ v }
+        requires before { v ≤ self.old.first + 8 }
+        ensures size { result ≡ length (chain_of graph.now v) }
+        ensures known { AreSizesFrom graph.now self.new.first self.new.known }
+        ensures after { self.new.first ≤ v }
+        ensures before { v + 1 ≤ self.new.first + 8 }
+    {
+        if v - self.first > 7 {
+            *self = Sizes::from(graph, v);
+        }
+        self.known[(v - self.first) as usize]
+    }
+}
+
+// How many arcs are on the lists of vertex v and the seven after it. Where there are so many, they are followed side by side.
+fn sizes_from(graph: &Graph, v: u32) -> [usize; 8]
+    ensures { AreSizesFrom graph.now v result }
+{
+    let n = graph.n();
+    if v < n && n - v > 7 {
+        return graph.degrees(v);
+    }
+    last_sizes(graph, v)
+}
+
+// The same, one list after another.
+fn last_sizes(graph: &Graph, v: u32) -> [usize; 8]
+    ensures { AreSizesFrom graph.now v result }
+{
+    let mut sizes = [0; 8];
+    for u in v..graph.n().min(v.saturating_add(8)) {
+        sizes[(u - v) as usize] = degree(graph, u);
+    }
+    sizes
 }
 
 // How many arcs are on the list of vertex v.
