@@ -1,5 +1,5 @@
 //! The lists of arcs of a graph, one after another: compressed sparse rows.
-ghost use Rattle.std.specs.Prelude.{◌≡◌, ◌≤◌, ◌<◌, ◌+◌, length, map, OnOk, IfErr};
+ghost use Rattle.std.specs.Prelude.{◌≡◌, ◌≤◌, ◌<◌, ◌+◌, ◌^◌, length, map, OnOk, IfErr};
 ghost use Rattle.std.specs.Bool.{OnTrue, OnFalse};
 ghost use Rattle.sgb_graph.specs.Graphs.{chain_of};
 ghost use Rattle.sgb_arrays.specs.Rows.{AreRows, HaveRowLengths, arcs_of};
@@ -24,14 +24,14 @@ pub fn arcs_len(graph: &Graph) -> u128
 
 // How many arcs are on the lists of a vertex and the seven after it, of which there may be fewer.
 #[derive(Drop)]
-struct Sizes {
+pub(crate) struct Sizes {
     first: u32,
     known: [usize; 8],
 }
 
 impl Sizes {
     // Those from vertex v on.
-    fn from(graph: &Graph, v: u32) -> Sizes
+    pub(crate) fn from(graph: &Graph, v: u32) -> Sizes
         ensures first { result.first ≡ v }
         ensures known { AreSizesFrom graph.now v result.known }
     {
@@ -42,7 +42,7 @@ impl Sizes {
     }
 
     // How many arcs are on the list of vertex v, which is one of the eight, or the next one: then the next eight are had.
-    fn at(&mut self, graph: &Graph, v: u32) -> usize
+    pub(crate) fn at(&mut self, graph: &Graph, v: u32) -> usize
         requires vertex { v < length graph.now.vertices }
         requires known { AreSizesFrom graph.now self.old.first self.old.known }
         requires after { self.old.first ≤ v }
@@ -113,24 +113,6 @@ pub fn fill_rows(
         × (starts.new ≡ starts.old) × (tips.new ≡ tips.old) × (lengths.new ≡ lengths.old)) }
 {
     let arcs = arcs_len(graph);
-    fill_counted_rows(graph, arcs, starts, tips, lengths)
-}
-
-/// The same where the arcs on the lists are counted already.
-pub(crate) fn fill_counted_rows(
-    graph: &Graph,
-    arcs: u128,
-    starts: &mut [u64],
-    tips: &mut [u32],
-    lengths: &mut [i64],
-) -> Result<(), Wrong>
-    requires { arcs ≡ length (arcs_of graph.now) }
-    ensures filled { OnOk result (HaveRowLengths graph.now starts.old tips.old lengths.old
-        × AreRows graph.now starts.new tips.new lengths.new) }
-    ensures refused { IfErr result (λ why. (why ≡ wrong.Length)
-        × (HaveRowLengths graph.now starts.old tips.old lengths.old → ⊥)
-        × (starts.new ≡ starts.old) × (tips.new ≡ tips.old) × (lengths.new ≡ lengths.old)) }
-{
     if !have_row_lengths(graph, arcs, starts, tips, lengths) {
         return Err(Wrong::Length);
     }
@@ -139,7 +121,7 @@ pub(crate) fn fill_counted_rows(
 }
 
 // Whether these arrays have the lengths that the lists of the graph must have, which have so many arcs.
-fn have_row_lengths(
+pub(crate) fn have_row_lengths(
     graph: &Graph,
     arcs: u128,
     starts: &[u64],
@@ -149,6 +131,7 @@ fn have_row_lengths(
     requires { arcs ≡ length (arcs_of graph.now) }
     ensures fits { OnTrue result (HaveRowLengths graph.now starts.now tips.now lengths.now) }
     ensures other { OnFalse result (HaveRowLengths graph.now starts.now tips.now lengths.now → ⊥) }
+    ensures few { OnTrue result (arcs < 2 ^ 64) }
 {
     starts.len() as u64 == u64::from(graph.n()) + 1
         && u128::from(tips.len() as u64) == arcs
