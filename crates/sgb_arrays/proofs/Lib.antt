@@ -13,5 +13,9 @@ pub mod FieldValues
 pub mod FilledFiles
 -- parts by their starts
 pub mod Parts
+-- arcs that are put into arrays, each at its place
+pub mod Placed
+-- where lists start, as far as 64 bits tell
+pub mod KnownStarts
 -- worked examples
 pub mod Examples

@@ -12,7 +12,7 @@ use Rattle.sgb_arrays.specs.Names.{name_bytes, name_starts}
 use Rattle.sgb_arrays.specs.Rows.{arcs_of, lengths_of, starts_of, tips_of}
 
 -- the first start
-first_start : (at : ℕ) (sizes : List ℕ) → slice_index (starts_from at sizes) 0 ≡ at
+pub first_start : (at : ℕ) (sizes : List ℕ) → slice_index (starts_from at sizes) 0 ≡ at
 first_start at [] = refl
 first_start at (size ∷ sizes) = refl
 

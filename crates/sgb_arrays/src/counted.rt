@@ -1,40 +1,55 @@
-//! A graph whose arcs on lists are counted once.
-ghost use Rattle.std.specs.Prelude.{◌≡◌, length, OnOk, IfErr};
+//! A graph of which it is known where each list goes.
+ghost use Rattle.std.specs.Prelude.{◌≡◌, length, OnOk, IfErr, IfOk, IsOkUnless};
 ghost use Rattle.sgb_arrays.specs.Rows.{AreRows, HaveRowLengths, arcs_of};
+ghost use Rattle.sgb_vec.specs.declared.panics.Panic.TheVariants as Panic;
 ghost use Rattle.sgb_arrays.specs.declared.refusals.Wrong.TheVariants as wrong;
 
+use crate::known_rows::{put_known_rows, put_starts};
 use crate::refusals::Wrong;
-use crate::rows::{arcs_len, fill_counted_rows};
+use crate::rows::have_row_lengths;
 use sgb_graph::Graph;
+use sgb_vec::Panic;
+use std::alloc::Global;
 use std::marker::Model;
 
-/// A graph with the number of arcs on the lists of its vertices, which is counted once: its lists are then put into arrays
-/// without a walk that counts them. Contracts see the graph.
+/// A graph with the number of arcs on the lists of its vertices, and where each list starts, which is found once: its lists are
+/// then put into arrays by one walk, eight lists side by side. Contracts see the graph.
 #[derive(Drop)]
 pub struct Counted {
     graph: Graph,
     arcs: u128,
+    starts: Vec<u64>,
 }
 
 impl Model for Counted {
-    ghost use Rattle.std.specs.Prelude.{◌≡◌, length};
+    ghost use Rattle.std.specs.Prelude.{◌≡◌, length, map};
     ghost use Rattle.sgb_graph.specs.Graphs.{GraphData};
-    ghost use Rattle.sgb_arrays.specs.Rows.{arcs_of};
+    ghost use Rattle.sgb_arrays.specs.Rows.{arcs_of, starts_of};
+    ghost use Rattle.sgb_arrays.specs.inner.Starts.{at_most};
 
     ghost Value = { GraphData };
 
     ghost view = { λ c. c.graph };
 
-    ghost invariant = { λ c. c.arcs ≡ length (arcs_of c.graph) };
+    ghost invariant = { λ c. (c.arcs ≡ length (arcs_of c.graph))
+        × (c.starts.items ≡ map at_most (starts_of c.graph)) };
 }
 
 impl Counted {
-    /// Counts the arcs on the lists of the graph. No memory is taken.
-    pub fn new(graph: Graph) -> Counted
-        ensures { result ≡ graph }
+    /// Counts the arcs on the lists of the graph, and keeps where each list starts: eight bytes for each vertex.
+    ///
+    /// `NoRoom` out of memory.
+    pub fn new(alloc: Global, graph: Graph) -> Result<Counted, Panic>
+        ensures graph { IfOk result (λ c. c ≡ graph) }
+        ensures memory { IsOkUnless result Panic.NoRoom }
     {
-        let arcs = arcs_len(&graph);
-        Counted { graph, arcs }
+        let mut starts = vec![in alloc; 0; graph.n() as usize + 1]?;
+        let arcs = put_starts(&graph, starts.as_mut_slice());
+        Ok(Counted {
+            graph,
+            arcs,
+            starts,
+        })
     }
 
     /// The graph.
@@ -66,6 +81,10 @@ impl Counted {
             × (HaveRowLengths self.now starts.old tips.old lengths.old → ⊥)
             × (starts.new ≡ starts.old) × (tips.new ≡ tips.old) × (lengths.new ≡ lengths.old)) }
     {
-        fill_counted_rows(&self.graph, self.arcs, starts, tips, lengths)
+        if !have_row_lengths(&self.graph, self.arcs, starts, tips, lengths) {
+            return Err(Wrong::Length);
+        }
+        put_known_rows(&self.graph, self.starts.as_slice(), starts, tips, lengths);
+        Ok(())
     }
 }

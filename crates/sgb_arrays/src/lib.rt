@@ -2,7 +2,7 @@
 //! random numbers, each put into slices that the caller hands in.
 #![tactic(auto)]
 
-// A graph whose arcs are counted once.
+// A graph of which it is known where each list goes.
 mod counted;
 // Random numbers in an array.
 mod draws;
@@ -18,6 +18,8 @@ mod kinds;
 mod laws;
 // Why an array is not filled.
 mod refusals;
+// Lists of arcs put side by side, where it is known where each goes.
+mod known_rows;
 // The lists of arcs, one after another.
 mod rows;
 // Names, one after another.

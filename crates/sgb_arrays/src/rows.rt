@@ -1,9 +1,10 @@
 //! The lists of arcs of a graph, one after another: compressed sparse rows.
-ghost use Rattle.std.specs.Prelude.{◌≡◌, ◌≤◌, ◌<◌, ◌+◌, length, map, OnOk, IfErr};
+ghost use Rattle.std.specs.Prelude.{◌≡◌, ◌≤◌, ◌<◌, ◌+◌, ◌^◌, length, map, OnOk, IfErr};
 ghost use Rattle.std.specs.Bool.{OnTrue, OnFalse};
 ghost use Rattle.sgb_graph.specs.Graphs.{chain_of};
 ghost use Rattle.sgb_arrays.specs.Rows.{AreRows, HaveRowLengths, arcs_of};
 ghost use Rattle.sgb_arrays.specs.inner.Puts.{put_from};
+ghost use Rattle.sgb_arrays.specs.inner.Sizes.{AreSizesFrom};
 ghost use Rattle.sgb_arrays.specs.declared.refusals.Wrong.TheVariants as wrong;
 
 use crate::refusals::Wrong;
@@ -14,11 +15,70 @@ pub fn arcs_len(graph: &Graph) -> u128
     ensures { result ≡ length (arcs_of graph.now) }
 {
     let mut count = 0;
+    let mut sizes = Sizes::from(graph, 0);
     for v in 0..graph.n() {
-        graph.read_ahead(v);
-        count += u128::from(degree(graph, v) as u64);
+        count += u128::from(sizes.at(graph, v) as u64);
     }
     count
+}
+
+// How many arcs are on the lists of a vertex and the seven after it, of which there may be fewer.
+#[derive(Drop)]
+pub(crate) struct Sizes {
+    first: u32,
+    known: [usize; 8],
+}
+
+impl Sizes {
+    // Those from vertex v on.
+    pub(crate) fn from(graph: &Graph, v: u32) -> Sizes
+        ensures first { result.first ≡ v }
+        ensures known { AreSizesFrom graph.now v result.known }
+    {
+        Sizes {
+            first: v,
+            known: sizes_from(graph, v),
+        }
+    }
+
+    // How many arcs are on the list of vertex v, which is one of the eight, or the next one: then the next eight are had.
+    pub(crate) fn at(&mut self, graph: &Graph, v: u32) -> usize
+        requires vertex { v < length graph.now.vertices }
+        requires known { AreSizesFrom graph.now self.old.first self.old.known }
+        requires after { self.old.first ≤ v }
+        requires before { v ≤ self.old.first + 8 }
+        ensures size { result ≡ length (chain_of graph.now v) }
+        ensures known { AreSizesFrom graph.now self.new.first self.new.known }
+        ensures after { self.new.first ≤ v }
+        ensures before { v + 1 ≤ self.new.first + 8 }
+    {
+        if v - self.first > 7 {
+            *self = Sizes::from(graph, v);
+        }
+        self.known[(v - self.first) as usize]
+    }
+}
+
+// How many arcs are on the lists of vertex v and the seven after it. Where there are so many, they are followed side by side.
+fn sizes_from(graph: &Graph, v: u32) -> [usize; 8]
+    ensures { AreSizesFrom graph.now v result }
+{
+    let n = graph.n();
+    if v < n && n - v > 7 {
+        return graph.degrees(v);
+    }
+    last_sizes(graph, v)
+}
+
+// The same, one list after another.
+fn last_sizes(graph: &Graph, v: u32) -> [usize; 8]
+    ensures { AreSizesFrom graph.now v result }
+{
+    let mut sizes = [0; 8];
+    for u in v..graph.n().min(v.saturating_add(8)) {
+        sizes[(u - v) as usize] = degree(graph, u);
+    }
+    sizes
 }
 
 // How many arcs are on the list of vertex v.
@@ -53,24 +113,6 @@ pub fn fill_rows(
         × (starts.new ≡ starts.old) × (tips.new ≡ tips.old) × (lengths.new ≡ lengths.old)) }
 {
     let arcs = arcs_len(graph);
-    fill_counted_rows(graph, arcs, starts, tips, lengths)
-}
-
-/// The same where the arcs on the lists are counted already.
-pub(crate) fn fill_counted_rows(
-    graph: &Graph,
-    arcs: u128,
-    starts: &mut [u64],
-    tips: &mut [u32],
-    lengths: &mut [i64],
-) -> Result<(), Wrong>
-    requires { arcs ≡ length (arcs_of graph.now) }
-    ensures filled { OnOk result (HaveRowLengths graph.now starts.old tips.old lengths.old
-        × AreRows graph.now starts.new tips.new lengths.new) }
-    ensures refused { IfErr result (λ why. (why ≡ wrong.Length)
-        × (HaveRowLengths graph.now starts.old tips.old lengths.old → ⊥)
-        × (starts.new ≡ starts.old) × (tips.new ≡ tips.old) × (lengths.new ≡ lengths.old)) }
-{
     if !have_row_lengths(graph, arcs, starts, tips, lengths) {
         return Err(Wrong::Length);
     }
@@ -79,7 +121,7 @@ pub(crate) fn fill_counted_rows(
 }
 
 // Whether these arrays have the lengths that the lists of the graph must have, which have so many arcs.
-fn have_row_lengths(
+pub(crate) fn have_row_lengths(
     graph: &Graph,
     arcs: u128,
     starts: &[u64],
@@ -89,6 +131,7 @@ fn have_row_lengths(
     requires { arcs ≡ length (arcs_of graph.now) }
     ensures fits { OnTrue result (HaveRowLengths graph.now starts.now tips.now lengths.now) }
     ensures other { OnFalse result (HaveRowLengths graph.now starts.now tips.now lengths.now → ⊥) }
+    ensures few { OnTrue result (arcs < 2 ^ 64) }
 {
     starts.len() as u64 == u64::from(graph.n()) + 1
         && u128::from(tips.len() as u64) == arcs

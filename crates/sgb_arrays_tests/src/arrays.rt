@@ -1,8 +1,9 @@
 use sgb_arrays::{
-    Wrong, arcs_len, file_len, fill_draws, fill_file, fill_id, fill_ints, fill_kinds, fill_names,
-    fill_rows, fill_uniform_draws, names_len,
+    Counted, Wrong, arcs_len, file_len, fill_draws, fill_file, fill_id, fill_ints, fill_kinds,
+    fill_names, fill_rows, fill_uniform_draws, names_len,
 };
 use sgb_gen::complete;
+use sgb_graph::Graph;
 use std::test::Fail;
 
 #[test]
@@ -14,6 +15,27 @@ fn rows_of_a_triangle(rt: HostRuntime) -> Result<(), Fail> {
     assert!(rt; starts == [0, 2, 4, 6]);
     assert!(rt; lengths == [2, 1, 1, 1, 1, 2]);
     Ok(())
+}
+
+// eight lists side by side, and one after them
+#[test]
+fn rows_of_nine_vertices(rt: HostRuntime) -> Result<(), Fail> {
+    let counted = Counted::new(rt.alloc(), complete(9).graph(rt.alloc())?)?;
+    let (mut starts, mut tips, mut lengths) = ([0; 10], [0; 72], [0; 72]);
+    assert!(rt; counted.fill_rows(&mut starts, &mut tips, &mut lengths) == Ok(()));
+    assert!(rt; are_rows_of(counted.graph(), &starts, &tips, &lengths));
+    assert!(rt; counted.arcs_len() == 72);
+    assert!(rt; starts == [0, 8, 16, 24, 32, 40, 48, 56, 64, 72]);
+    Ok(())
+}
+
+// Whether these are the rows of the graph, put one list after another.
+fn are_rows_of(graph: &Graph, starts: &[u64; 10], tips: &[u32; 72], lengths: &[i64; 72]) -> bool {
+    let (mut begins, mut leads, mut weights) = ([0; 10], [0; 72], [0; 72]);
+    fill_rows(graph, &mut begins, &mut leads, &mut weights) == Ok(())
+        && begins == *starts
+        && leads == *tips
+        && weights == *lengths
 }
 
 #[test]

@@ -15,7 +15,7 @@ pub(crate) fn held_graph(alloc: Global, text: &[u8], input: &[u8]) -> Result<Box
     ensures refused { IfErr result (λ f. IsGraphNamed text.now input.now (Err f)) }
 {
     let graph = graph_named(alloc, text, input)?;
-    let graph = Counted::new(graph);
+    let graph = Counted::new(alloc, graph)?;
     Box::new(alloc, Held { graph }).map_err(|_| Fault::Panic(Panic::NoRoom))
 }
 

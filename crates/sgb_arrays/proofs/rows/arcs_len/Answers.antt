@@ -1,19 +1,28 @@
-use Rattle.std.proofs.Common.{◌≡◌, ◌≤◌, ◌<◌, length, ap, arith}
+use Rattle.std.proofs.Common.{◌≡◌, ◌≤◌, ◌<◌, length, ap, arith, rules}
 use Rattle.sgb_graph.specs.Graphs.{chain_of}
 use Rattle.sgb_arrays.proofs.ArcsLeft.{arcs_left-none, arcs_left-whole, list_counted}
 use Rattle.sgb_arrays.proofs.rows.arcs_len.Goals as goal
 
 pub loop-v-init : goal.loop-v-init
-loop-v-init c = record { count = omega (arith, ap length (arcs_left-whole c.args.graph.now)); few = omega arith }
+loop-v-init c = record {
+  count = omega (arith, ap length (arcs_left-whole c.args.graph.now));
+  few = omega arith;
+  sizes = search rules;
+  after = search rules;
+  before = search rules;
+}
 
 pub loop-v-preserved : goal.loop-v-preserved
 loop-v-preserved c =
     let g = c.args.graph.now in
     let within : c.loop-v.v < length g.vertices = omega (arith, c.n-v-end.ensures.count) in
-    let size : c.from-count.result ≡ length (chain_of g c.loop-v.v) = omega (arith, c.from-count.ensures, c.degree.ensures) in
+    let size : c.from-count.result ≡ length (chain_of g c.loop-v.v) = omega (arith, c.from-count.ensures, c.at.ensures.size) in
     record {
       count = list_counted g c.loop-v.v c.loop-v.count c.from-count.result _ within size c.loop-v.invariant.count;
       few = omega (arith, c.from-count.ensures, c.loop-v.invariant.few);
+      sizes = c.at.ensures.known;
+      after = omega (arith, c.at.ensures.after);
+      before = c.at.ensures.before;
     }
 
 pub returns : goal.returns
