@@ -3,24 +3,24 @@
 //! No function here has a contract, so that a test that calls one is proved with no more than what it does itself.
 use sgb_expr::{Expr, Unread, read_expr};
 use std::alloc::{AllocError, Global};
+use std::process::Abort;
 
 /// The expression that the text is, if it is one.
 pub(crate) fn read(alloc: Global, text: &str) -> Option<Expr> {
     read_expr(alloc, text.as_bytes()).ok()
 }
 
-/// The first line whose text is not read as the expression that the line shows. Each line is a text, a space, and the
+/// Reads the text of each line, which has to be the expression that the line shows: a line is a text, a space, and the
 /// expression as `{:?}` shows it.
-pub(crate) fn first_unread(
+pub(crate) fn check_read(
+    rt: &impl Abort,
     alloc: Global,
     lines: &'static str,
-) -> Result<Option<&'static str>, AllocError> {
+) -> Result<(), AllocError> {
     for line in lines.lines() {
-        if !is_read_as_shown(alloc, line)? {
-            return Ok(Some(line));
-        }
+        assert!(rt; is_read_as_shown(alloc, line)?, "at {line}");
     }
-    Ok(None)
+    Ok(())
 }
 
 // Whether the text of the line is read as the expression that it shows.
@@ -40,18 +40,17 @@ pub(crate) fn is_answer(alloc: Global, text: &[u8], refusal: Option<Unread>) -> 
     read_expr(alloc, text).err() == refusal
 }
 
-/// The first line that goes wrong elsewhere than at its mark, if one does. Each line is a text that is no expression,
-/// with a `|` after its longest prefix that begins one.
-pub(crate) fn first_unmet(
+/// Reads the text of each line, which has to go wrong at its mark: a line is a text that is no expression, with a `|` after
+/// its longest prefix that begins one.
+pub(crate) fn check_cut(
+    rt: &impl Abort,
     alloc: Global,
     lines: &'static str,
-) -> Result<Option<&'static str>, AllocError> {
+) -> Result<(), AllocError> {
     for line in lines.lines() {
-        if !goes_wrong_at_mark(alloc, line)? {
-            return Ok(Some(line));
-        }
+        assert!(rt; goes_wrong_at_mark(alloc, line)?, "at {line}");
     }
-    Ok(None)
+    Ok(())
 }
 
 // Whether the text of the line is no expression, with the mark after its longest prefix that begins one.

@@ -1,4 +1,4 @@
-use crate::cases::{first_unmet, first_unread, read};
+use crate::cases::{check_cut, check_read, read};
 use sgb_expr::*;
 use std::alloc::{AllocError, Global};
 
@@ -11,9 +11,7 @@ induced(stdin,[induced(wheel(5,1,0),[3],0,1,0),-4],0,9,0) Induced { graph: Stdin
 
 #[test]
 fn entries_are_read_in_order(rt: HostRuntime) -> Result<(), AllocError> {
-    let unread = first_unread(rt.alloc(), INDUCED)?;
-    assert!(rt; unread.is_none(), "at {}", unread.unwrap_or(""));
-    Ok(())
+    check_read(&rt, rt.alloc(), INDUCED)
 }
 
 /// Texts that are no expressions, each with a `|` after its longest prefix that begins one.
@@ -42,9 +40,7 @@ induced(petersen(),[],0,0,0|";
 
 #[test]
 fn entries_go_wrong_somewhere(rt: HostRuntime) -> Result<(), AllocError> {
-    let unmet = first_unmet(rt.alloc(), CUT)?;
-    assert!(rt; unmet.is_none(), "at {}", unmet.unwrap_or(""));
-    Ok(())
+    check_cut(&rt, rt.alloc(), CUT)
 }
 
 // An induced graph of so many entries 1, and then -2.
@@ -57,14 +53,17 @@ fn many_entries(alloc: Global, count: usize) -> Result<String, AllocError> {
     Ok(text)
 }
 
+// Whether there are so many entries, of which the last is this number.
+fn end_with(entries: &Entries, count: usize, number: i64) -> bool {
+    entries.len() == count
+        && !entries.is_empty()
+        && matches!(entries.as_slice().last(), Some(EntryExpr::Number(last)) if *last == number)
+}
+
 // Whether the text is read with so many entries, of which the last is -2.
 fn has_entries(alloc: Global, text: &str, count: usize) -> bool {
     match read(alloc, text) {
-        Some(Expr::Induced { entries, .. }) => {
-            entries.len() == count
-                && !entries.is_empty()
-                && matches!(entries.as_slice().last(), Some(EntryExpr::Number(-2)))
-        }
+        Some(Expr::Induced { entries, .. }) => end_with(&entries, count, -2),
         _ => false,
     }
 }
@@ -76,12 +75,15 @@ fn thirty_thousand_entries_are_read(rt: HostRuntime) -> Result<(), AllocError> {
     Ok(())
 }
 
+// Whether the entries are those of a list that is not empty.
+fn are(entries: &Entries, list: &[EntryExpr]) -> bool {
+    entries.len() == list.len() && !entries.is_empty() && entries.as_slice() == list
+}
+
 #[test]
 fn entries_are_those_of_their_list(rt: HostRuntime) -> Result<(), AllocError> {
     let mut list = Vec::new(rt.alloc());
     list.push(EntryExpr::Number(7))?;
-    let entries = Entries::new(list);
-    assert!(rt; entries.len() == 1 && !entries.is_empty());
-    assert!(rt; entries.as_slice() == [EntryExpr::Number(7)].as_slice());
+    assert!(rt; are(&Entries::new(list), &[EntryExpr::Number(7)]));
     Ok(())
 }

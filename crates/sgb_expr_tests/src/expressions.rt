@@ -1,4 +1,4 @@
-use crate::cases::{first_unmet, first_unread, is_answer};
+use crate::cases::{check_cut, check_read, is_answer};
 use sgb_expr::*;
 use std::alloc::{AllocError, Global};
 
@@ -26,9 +26,7 @@ petersen() Generator(Subsets(SubsetsParams { n: 2, n0: 1, n1: -4, n2: 0, n3: 0, 
 
 #[test]
 fn generators_are_read(rt: HostRuntime) -> Result<(), AllocError> {
-    let unread = first_unread(rt.alloc(), GENERATORS)?;
-    assert!(rt; unread.is_none(), "at {}", unread.unwrap_or(""));
-    Ok(())
+    check_read(&rt, rt.alloc(), GENERATORS)
 }
 
 /// Operations, and standard input.
@@ -48,9 +46,7 @@ intersection(gunion(stdin,petersen(),0,0),complement(stdin,0,1,0),1,1) Intersect
 
 #[test]
 fn operations_are_read(rt: HostRuntime) -> Result<(), AllocError> {
-    let unread = first_unread(rt.alloc(), OPERATIONS)?;
-    assert!(rt; unread.is_none(), "at {}", unread.unwrap_or(""));
-    Ok(())
+    check_read(&rt, rt.alloc(), OPERATIONS)
 }
 
 /// Texts that are no expressions, each with a `|` after its longest prefix that begins one.
@@ -78,9 +74,7 @@ board(1,2,3,4,5,6,7)|)";
 
 #[test]
 fn other_texts_go_wrong_somewhere(rt: HostRuntime) -> Result<(), AllocError> {
-    let unmet = first_unmet(rt.alloc(), WRONG_BOARDS)?;
-    assert!(rt; unmet.is_none(), "at {}", unmet.unwrap_or(""));
-    Ok(())
+    check_cut(&rt, rt.alloc(), WRONG_BOARDS)
 }
 
 /// Texts that are no expressions, each with a `|` after its longest prefix that begins one.
@@ -107,9 +101,7 @@ subsets(64,64,64,0,0,0,0x00000000000000000000000000000000|1,0)";
 
 #[test]
 fn bad_bits_go_wrong_somewhere(rt: HostRuntime) -> Result<(), AllocError> {
-    let unmet = first_unmet(rt.alloc(), WRONG_BITS)?;
-    assert!(rt; unmet.is_none(), "at {}", unmet.unwrap_or(""));
-    Ok(())
+    check_cut(&rt, rt.alloc(), WRONG_BITS)
 }
 
 /// Texts that are no expressions, each with a `|` after its longest prefix that begins one of some form.
@@ -139,9 +131,7 @@ petersen()| ";
 
 #[test]
 fn the_longest_prefix_is_that_of_some_form(rt: HostRuntime) -> Result<(), AllocError> {
-    let unmet = first_unmet(rt.alloc(), WRONG_NAMES)?;
-    assert!(rt; unmet.is_none(), "at {}", unmet.unwrap_or(""));
-    Ok(())
+    check_cut(&rt, rt.alloc(), WRONG_NAMES)
 }
 
 /// Texts that are no expressions, each with a `|` after its longest prefix that begins one.
@@ -175,9 +165,7 @@ petersen()|,0,0)";
 
 #[test]
 fn operations_go_wrong_somewhere(rt: HostRuntime) -> Result<(), AllocError> {
-    let unmet = first_unmet(rt.alloc(), WRONG_OPERATIONS)?;
-    assert!(rt; unmet.is_none(), "at {}", unmet.unwrap_or(""));
-    Ok(())
+    check_cut(&rt, rt.alloc(), WRONG_OPERATIONS)
 }
 
 /// Texts that are no expressions, each with a `|` after its longest prefix that begins one.
@@ -205,9 +193,7 @@ wheel(5,1,0|,0)";
 
 #[test]
 fn lines_products_and_short_forms_go_wrong_somewhere(rt: HostRuntime) -> Result<(), AllocError> {
-    let unmet = first_unmet(rt.alloc(), WRONG_LINES)?;
-    assert!(rt; unmet.is_none(), "at {}", unmet.unwrap_or(""));
-    Ok(())
+    check_cut(&rt, rt.alloc(), WRONG_LINES)
 }
 
 /// So many complements one in another, the innermost of the petersen graph; without their ends if not `ended`.

@@ -24,19 +24,18 @@ static GOOD: [(&str, [i64; 4]); 6] = [
 // Whether the text asks for these integers.
 fn is_read_as(text: &str, numbers: [i64; 4]) -> bool {
     let [start, skip, count, m] = numbers;
-    read_flip(text.as_bytes()).is_ok_and(|read| {
-        read == FlipParams {
-            start,
-            skip,
-            count,
-            m,
-        }
-    })
+    let wanted = FlipParams {
+        start,
+        skip,
+        count,
+        m,
+    };
+    read_flip(text.as_bytes()) == Ok(wanted)
 }
 
 // Whether the text is not read, for this reason.
 fn is_refused(text: &[u8], why: Unread) -> bool {
-    read_flip(text).is_err_and(|unread| unread == why)
+    read_flip(text) == Err(why)
 }
 
 #[test]
@@ -96,14 +95,18 @@ fn other_texts_go_wrong_somewhere(rt: HostRuntime) -> Result<(), AllocError> {
     Ok(())
 }
 
+// Whether so many bytes `f` are refused for this reason.
+fn are_refused(alloc: Global, count: usize, why: Unread) -> Result<bool, AllocError> {
+    let text = vec![in alloc; b'f'; count]?;
+    Ok(is_refused(&text, why))
+}
+
 #[test]
 fn large_texts_are_not_read(rt: HostRuntime) -> Result<(), AllocError> {
     let deep = [b'('; 65];
     assert!(rt; is_refused(&deep[..64], Unread::At(0)));
     assert!(rt; is_refused(&deep, Unread::TooLarge));
-    for (length, why) in [(65_536, Unread::At(1)), (65_537, Unread::TooLarge)] {
-        let text = vec![in rt.alloc(); b'f'; length]?;
-        assert!(rt; is_refused(&text, why));
-    }
+    assert!(rt; are_refused(rt.alloc(), 65_536, Unread::At(1))?);
+    assert!(rt; are_refused(rt.alloc(), 65_537, Unread::TooLarge)?);
     Ok(())
 }

@@ -1,4 +1,4 @@
-use crate::cases::{first_unmet, read};
+use crate::cases::{check_cut, read};
 use sgb_expr::*;
 use std::alloc::{AllocError, Global};
 
@@ -79,7 +79,5 @@ induced(stdin,[stdin|1],0,0,0)";
 
 #[test]
 fn stdin_is_the_whole_word(rt: HostRuntime) -> Result<(), AllocError> {
-    let unmet = first_unmet(rt.alloc(), CUT)?;
-    assert!(rt; unmet.is_none(), "at {}", unmet.unwrap_or(""));
-    Ok(())
+    check_cut(&rt, rt.alloc(), CUT)
 }

@@ -3,75 +3,110 @@ use sgb_file::read_gb;
 use sgb_graph::{Graph, Ref, UtilRef};
 use std::alloc::{AllocError, Global};
 
-// An integer of the first vertex, and its value where it is one.
-const INTEGERS: &[(&str, Option<i64>)] = &[
-    ("5", Some(5)),
-    ("-5", Some(-5)),
-    ("-0", Some(0)),
-    ("007", Some(7)),
-    ("00000000000000000005", Some(5)),
-    ("000000000000000000005", None),
-    ("9223372036854775807", Some(9223372036854775807)),
-    ("9223372036854775808", None),
-    ("-9223372036854775808", Some(-9223372036854775808)),
-    ("-9223372036854775809", None),
-    ("99999999999999999999", None),
-    ("", None),
-    ("-", None),
-    ("+5", None),
-    ("5x", None),
-    (" 5", None),
+// What is to be read.
+#[derive(Clone, Copy)]
+enum Wanted<'a> {
+    // No file.
+    Refusal,
+    // An integer of the first vertex.
+    Integer(i64),
+    // A vertex in a field of the first arc record.
+    Vertex(Ref),
+    // The first record of the first vertex.
+    First(Option<usize>),
+    // A string of the first vertex.
+    Text(&'a [u8]),
+    // The id.
+    Id(&'a [u8]),
+}
+
+// An integer of the first vertex.
+const INTEGERS: &[(&str, Wanted)] = &[
+    ("5", Wanted::Integer(5)),
+    ("-5", Wanted::Integer(-5)),
+    ("-0", Wanted::Integer(0)),
+    ("007", Wanted::Integer(7)),
+    ("00000000000000000005", Wanted::Integer(5)),
+    ("000000000000000000005", Wanted::Refusal),
+    ("9223372036854775807", Wanted::Integer(9223372036854775807)),
+    ("9223372036854775808", Wanted::Refusal),
+    (
+        "-9223372036854775808",
+        Wanted::Integer(-9223372036854775808),
+    ),
+    ("-9223372036854775809", Wanted::Refusal),
+    ("99999999999999999999", Wanted::Refusal),
+    ("", Wanted::Refusal),
+    ("-", Wanted::Refusal),
+    ("+5", Wanted::Refusal),
+    ("5x", Wanted::Refusal),
+    (" 5", Wanted::Refusal),
 ];
 
-// A vertex in a field of the first arc record, and what it is where it is one.
-const REFS: &[(&str, Option<Ref>)] = &[
-    ("V0", Some(Ref::At(0))),
-    ("V002", Some(Ref::At(2))),
-    ("V3", None),
-    ("V", None),
-    ("0", Some(Ref::Null)),
-    ("1", Some(Ref::One)),
-    ("00", None),
-    ("2", None),
-    ("", None),
-    ("A0", None),
+// A vertex in a field of the first arc record.
+const REFS: &[(&str, Wanted)] = &[
+    ("V0", Wanted::Vertex(Ref::At(0))),
+    ("V002", Wanted::Vertex(Ref::At(2))),
+    ("V3", Wanted::Refusal),
+    ("V", Wanted::Refusal),
+    ("0", Wanted::Vertex(Ref::Null)),
+    ("1", Wanted::Vertex(Ref::One)),
+    ("00", Wanted::Refusal),
+    ("2", Wanted::Refusal),
+    ("", Wanted::Refusal),
+    ("A0", Wanted::Refusal),
 ];
 
-// The first record of the first vertex, and what it is where it is one.
-const RECORD_NUMBERS: &[(&str, Option<Option<usize>>)] = &[
-    ("A1", Some(Some(1))),
-    ("A2", None),
-    ("0", Some(None)),
-    ("1", None),
-    ("00", None),
-    ("", None),
+// The first record of the first vertex.
+const RECORD_NUMBERS: &[(&str, Wanted)] = &[
+    ("A1", Wanted::First(Some(1))),
+    ("A2", Wanted::Refusal),
+    ("0", Wanted::First(None)),
+    ("1", Wanted::Refusal),
+    ("00", Wanted::Refusal),
+    ("", Wanted::Refusal),
 ];
 
-// A string of the first vertex, and its bytes where it is one.
-const STRINGS: &[(&str, Option<&[u8]>)] = &[
-    ("\"ab\"", Some(b"ab")),
-    ("\"\"", Some(b"")),
-    ("\"a\\\nb\"", Some(b"ab")),
-    ("\"a\\\n\\\nb,\\\nc\"", Some(b"ab,c")),
-    ("\"ab\",7", None),
-    ("\"a\nb\"", None),
-    ("\"a\\b\"", None),
-    ("\"a\\", None),
-    ("\"a", None),
-    ("a\"", None),
-    ("", None),
+// A string of the first vertex.
+const STRINGS: &[(&str, Wanted)] = &[
+    ("\"ab\"", Wanted::Text(b"ab")),
+    ("\"\"", Wanted::Text(b"")),
+    ("\"a\\\nb\"", Wanted::Text(b"ab")),
+    ("\"a\\\n\\\nb,\\\nc\"", Wanted::Text(b"ab,c")),
+    ("\"ab\",7", Wanted::Refusal),
+    ("\"a\nb\"", Wanted::Refusal),
+    ("\"a\\b\"", Wanted::Refusal),
+    ("\"a\\", Wanted::Refusal),
+    ("\"a", Wanted::Refusal),
+    ("a\"", Wanted::Refusal),
+    ("", Wanted::Refusal),
 ];
 
-// A file with these fields: the id, the first record, the integer and the string of the first vertex, and the vertex of
-// the first arc record.
-fn file(
-    alloc: Global,
-    id: &str,
-    first: &str,
-    integer: &str,
-    string: &str,
-    vertex: &str,
-) -> Result<String, AllocError> {
+// A field of a file.
+#[derive(Clone, Copy)]
+enum Field {
+    Id,
+    First,
+    Integer,
+    Text,
+    Vertex,
+}
+
+// The id, the first record, the integer and the string of the first vertex, and the vertex of the first arc record,
+// with this text in one of these fields.
+fn texts(field: Field, text: &str) -> [&str; 5] {
+    match field {
+        Field::Id => [text, "A1", "5", "\"\"", "0"],
+        Field::First => ["x", text, "5", "\"\"", "0"],
+        Field::Integer => ["x", "A1", text, "\"\"", "0"],
+        Field::Text => ["x", "A1", "5", text, "0"],
+        Field::Vertex => ["x", "A1", "5", "\"\"", text],
+    }
+}
+
+// A file with these fields.
+fn file(alloc: Global, texts: [&str; 5]) -> Result<String, AllocError> {
+    let [id, first, integer, string, vertex] = texts;
     format!(in alloc;
         "* GraphBase graph (util_types IZZZZSZVZZZZZZ,3V,2A)
 \"{id}\",3,2
@@ -87,148 +122,122 @@ V1,A0,-7,0
     )
 }
 
-// The graph of a file, if it is one.
-fn read(alloc: Global, text: &str) -> Option<Graph> {
-    read_gb(alloc, text.as_bytes()).ok()
-}
-
-// The integer of the first vertex.
-fn integer_of(graph: &Graph) -> Option<i64> {
-    if graph.n() == 0 {
-        return None;
-    }
-    let fields = graph.vertex(0).util;
-    integer_in(fields[0])
-}
-
-// The integer in a field.
-fn integer_in(field: UtilRef<'_>) -> Option<i64> {
-    match field {
-        UtilRef::Int(number) => Some(number),
-        _ => None,
+// Whether the field holds this.
+fn holds(field: UtilRef<'_>, wanted: Wanted<'_>) -> bool {
+    match (field, wanted) {
+        (UtilRef::Int(number), Wanted::Integer(expected)) => number == expected,
+        (UtilRef::Vertex(vertex), Wanted::Vertex(expected)) => vertex == expected,
+        (UtilRef::Str(text), Wanted::Text(expected)) => text.bytes() == expected,
+        _ => false,
     }
 }
 
-// Whether the string of the first vertex has these bytes.
-fn has_string(graph: &Graph, bytes: &[u8]) -> bool {
+// Whether the first field of the first vertex holds this.
+fn holds_first(graph: &Graph, wanted: Wanted<'_>) -> bool {
     if graph.n() == 0 {
         return false;
     }
     let fields = graph.vertex(0).util;
-    holds(fields[5], bytes)
+    holds(fields[0], wanted)
 }
 
-// Whether the field holds a string of these bytes.
-fn holds(field: UtilRef<'_>, bytes: &[u8]) -> bool {
-    match field {
-        UtilRef::Str(text) => text.bytes() == bytes,
-        _ => false,
-    }
-}
-
-// The vertex of the first arc record.
-fn vertex_of(graph: &Graph) -> Option<Ref> {
-    if graph.records_len() == 0 {
-        return None;
-    }
-    match graph.arc_rec(0).b {
-        UtilRef::Vertex(vertex) => Some(vertex),
-        _ => None,
-    }
-}
-
-// The first record of the first vertex.
-fn first_of(graph: &Graph) -> Option<usize> {
+// Whether its last field does.
+fn holds_last(graph: &Graph, wanted: Wanted<'_>) -> bool {
     if graph.n() == 0 {
-        return None;
+        return false;
     }
-    graph.vertex(0).arcs
+    let fields = graph.vertex(0).util;
+    holds(fields[5], wanted)
 }
 
-// Whether the integer is read as it has to be.
-fn is_integer(alloc: Global, text: &str, value: Option<i64>) -> Result<bool, AllocError> {
-    let file = file(alloc, "x", "A1", text, "\"\"", "0")?;
-    let found = match read(alloc, file.as_str()) {
-        Some(graph) => integer_of(&graph),
-        None => None,
-    };
-    Ok(found == value)
+// Whether the graph has this.
+fn has(graph: &Graph, wanted: Wanted<'_>) -> bool {
+    if graph.n() == 0 || graph.records_len() == 0 {
+        return false;
+    }
+    match wanted {
+        Wanted::Refusal => false,
+        Wanted::Integer(_) => holds_first(graph, wanted),
+        Wanted::Text(_) => holds_last(graph, wanted),
+        Wanted::Vertex(_) => holds(graph.arc_rec(0).b, wanted),
+        Wanted::First(first) => graph.vertex(0).arcs == first,
+        Wanted::Id(id) => graph.id().bytes() == id,
+    }
+}
+
+// Whether the file is read so.
+fn is_read(alloc: Global, file: &[u8], wanted: Wanted<'_>) -> bool {
+    match read_gb(alloc, file) {
+        Ok(graph) => has(&graph, wanted),
+        Err(_) => matches!(wanted, Wanted::Refusal),
+    }
+}
+
+// Whether a file with this text in the field is read so.
+fn is_field(
+    alloc: Global,
+    field: Field,
+    text: &str,
+    wanted: Wanted<'_>,
+) -> Result<bool, AllocError> {
+    let file = file(alloc, texts(field, text))?;
+    Ok(is_read(alloc, file.as_bytes(), wanted))
 }
 
 #[test]
 fn integers_are_read(rt: HostRuntime) -> Result<(), AllocError> {
-    for (text, value) in INTEGERS {
-        assert!(rt; is_integer(rt.alloc(), text, *value)?, "at {text}");
+    for (text, wanted) in INTEGERS {
+        assert!(rt;
+            is_field(rt.alloc(), Field::Integer, text, *wanted)?,
+            "at {text}"
+        );
     }
     Ok(())
-}
-
-// Whether the vertex is read as it has to be.
-fn is_vertex(alloc: Global, text: &str, value: Option<Ref>) -> Result<bool, AllocError> {
-    let file = file(alloc, "x", "A1", "5", "\"\"", text)?;
-    let found = match read(alloc, file.as_str()) {
-        Some(graph) => vertex_of(&graph),
-        None => None,
-    };
-    Ok(found == value)
-}
-
-// Whether the number of a record is read as it has to be.
-fn is_record(alloc: Global, text: &str, value: Option<Option<usize>>) -> Result<bool, AllocError> {
-    let file = file(alloc, "x", text, "5", "\"\"", "0")?;
-    let found = match read(alloc, file.as_str()) {
-        Some(graph) => Some(first_of(&graph)),
-        None => None,
-    };
-    Ok(found == value)
 }
 
 #[test]
 fn vertices_and_arc_records_are_read(rt: HostRuntime) -> Result<(), AllocError> {
-    for (text, vertex) in REFS {
-        assert!(rt; is_vertex(rt.alloc(), text, *vertex)?, "at {text}");
+    for (text, wanted) in REFS {
+        assert!(rt;
+            is_field(rt.alloc(), Field::Vertex, text, *wanted)?,
+            "at {text}"
+        );
     }
-    for (text, number) in RECORD_NUMBERS {
-        assert!(rt; is_record(rt.alloc(), text, *number)?, "at {text}");
+    for (text, wanted) in RECORD_NUMBERS {
+        assert!(rt;
+            is_field(rt.alloc(), Field::First, text, *wanted)?,
+            "at {text}"
+        );
     }
     Ok(())
-}
-
-// Whether the string is read as it has to be.
-fn is_string(alloc: Global, text: &str, value: Option<&[u8]>) -> Result<bool, AllocError> {
-    let file = file(alloc, "x", "A1", "5", text, "0")?;
-    let found = read(alloc, file.as_str());
-    Ok(match (&found, value) {
-        (Some(graph), Some(bytes)) => has_string(graph, bytes),
-        (None, None) => true,
-        _ => false,
-    })
 }
 
 #[test]
 fn strings_are_read(rt: HostRuntime) -> Result<(), AllocError> {
-    for (text, bytes) in STRINGS {
-        assert!(rt; is_string(rt.alloc(), text, *bytes)?, "at {text}");
+    for (text, wanted) in STRINGS {
+        assert!(rt;
+            is_field(rt.alloc(), Field::Text, text, *wanted)?,
+            "at {text}"
+        );
     }
     Ok(())
 }
 
-// Whether a file with an id of so many bytes is read with it.
-fn has_id(alloc: Global, count: usize) -> Result<bool, AllocError> {
-    let mut id = String::new(alloc);
-    for _ in 0..count {
-        id.push('x')?;
-    }
-    let file = file(alloc, id.as_str(), "A1", "5", "\"\"", "0")?;
-    Ok(match read(alloc, file.as_str()) {
-        Some(graph) => graph.id().bytes() == id.as_bytes(),
-        None => false,
-    })
-}
+// An id of 160 bytes.
+const LONGEST_ID: &str = "\
+xxxxxxxxxxxxxxxxxxxxxxxxxxxxxxxxxxxxxxxxxxxxxxxxxxxxxxxxxxxxxxxxxxxxxxxxxxxxxxxx\
+xxxxxxxxxxxxxxxxxxxxxxxxxxxxxxxxxxxxxxxxxxxxxxxxxxxxxxxxxxxxxxxxxxxxxxxxxxxxxxxx";
+
+// One of 161.
+const TOO_LONG_ID: &str = "\
+xxxxxxxxxxxxxxxxxxxxxxxxxxxxxxxxxxxxxxxxxxxxxxxxxxxxxxxxxxxxxxxxxxxxxxxxxxxxxxxx\
+xxxxxxxxxxxxxxxxxxxxxxxxxxxxxxxxxxxxxxxxxxxxxxxxxxxxxxxxxxxxxxxxxxxxxxxxxxxxxxxxx";
 
 #[test]
 fn an_id_has_at_most_160_bytes(rt: HostRuntime) -> Result<(), AllocError> {
-    assert!(rt; has_id(rt.alloc(), 160)?);
-    assert!(rt; !has_id(rt.alloc(), 161)?);
+    let read = Wanted::Id(LONGEST_ID.as_bytes());
+    assert!(rt; LONGEST_ID.len() == 160 && TOO_LONG_ID.len() == 161);
+    assert!(rt; is_field(rt.alloc(), Field::Id, LONGEST_ID, read)?);
+    assert!(rt; is_field(rt.alloc(), Field::Id, TOO_LONG_ID, Wanted::Refusal)?);
     Ok(())
 }

@@ -7,6 +7,9 @@ mod adapters;
 // the caller that the page for callers shows
 #[cfg(test)]
 mod caller;
+// calls of devices
+#[cfg(test)]
+mod device_calls;
 // sources and sinks
 #[cfg(test)]
 mod devices;
