@@ -6,5 +6,5 @@ use Rattle.sgb_c.proofs.texts.held_graph.Goals as goal
 pub returns-clause-held : goal.returns-clause-held
 returns-clause-held c =
     let named : IsGraphNamed c.args.text.now c.args.input.now (Ok c.in_ok-graph-2.graph) =
-        subst (λ (g : GraphData). IsGraphNamed c.args.text.now c.args.input.now (Ok g)) (sym c.in_ok-graph-2.ensures.graph) c.in_ok-graph.ensures in
+    subst (λ (g : GraphData). IsGraphNamed c.args.text.now c.args.input.now (Ok g)) (sym c.in_ok-graph-2.ensures.graph) c.in_ok-graph.ensures in
     search (rules, named)
