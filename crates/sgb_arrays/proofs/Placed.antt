@@ -9,7 +9,8 @@ use Rattle.std.proofs.lemmas.List.FromFn.{get_or-range_with_len, length-range_wi
 use Rattle.std.proofs.lemmas.Option.{get_or_from_slice_get, slice_get-map}
 use Rattle.sgb_graph.specs.Graphs.{GraphData, chain_of}
 use Rattle.sgb_graph.specs.declared.fields.Link.{Link}
-use Rattle.sgb_graph.proofs.Lists.{slice_get-after, slice_get-more}
+use Rattle.sgb_vec.proofs.Lists.{slice_get-left}
+use Rattle.sgb_graph.proofs.Lists.{slice_get-after}
 use Rattle.sgb_arrays.specs.Lists.{starts_from}
 use Rattle.sgb_arrays.specs.Rows.{arcs_of, lengths_of, starts_of, tips_of}
 use Rattle.sgb_arrays.proofs.Parts.{first_start}
@@ -138,7 +139,7 @@ each_list parts [] v at before size within = absurd (omega arith)
 each_list parts (u ∷ us) zero at before size within =
     let rest = flat_map parts us in
     record {
-      from = λ k l there. ap (λ (j : ℕ). slice_get (before ++ (parts u ++ rest)) (j + k)) (sym size) ∙ slice_get-after before (parts u ++ rest) k ∙ slice_get-more (parts u) rest k l there;
+      from = λ k l there. ap (λ (j : ℕ). slice_get (before ++ (parts u ++ rest)) (j + k)) (sym size) ∙ slice_get-after before (parts u ++ rest) k ∙ slice_get-left (parts u) rest k l there;
       ends = sym (first_start (at + length (parts u)) (map (λ w. length (parts w)) us));
       within = omega (arith, size, length-append before (parts u ++ rest), length-append (parts u) rest);
     }
