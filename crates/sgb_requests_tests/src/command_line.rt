@@ -1,16 +1,25 @@
 use sgb_expr::{Expr, FlipParams, Generator};
 use sgb_gen::BoardParams;
 use sgb_requests::{Fault, Name, Request, Resume, request};
+use std::alloc::Global;
+use std::process::Abort;
 use std::test::Fail;
 
-// What the program's words are read as.
-fn read(rt: &HostRuntime, texts: &[&str]) -> Result<Result<Request, Fault>, Fail> {
-    let alloc = rt.alloc();
-    let mut words = Vec::new(alloc);
-    for text in texts {
-        words.push(String::from_str(alloc, text)?)?;
+// Appends the words.
+fn push_words(all: &mut Vec<String>, alloc: Global, words: &[&str]) -> Result<(), Fail> {
+    for word in words {
+        let owned = String::from_str(alloc, word)?;
+        all.push(owned)?;
     }
-    Ok(request(alloc, words.as_slice()))
+    Ok(())
+}
+
+// The words that begin a command line, and those after them.
+fn words_of(alloc: Global, begun: &[&str], rest: &[&str]) -> Result<Vec<String>, Fail> {
+    let mut words = Vec::new(alloc);
+    push_words(&mut words, alloc, begun)?;
+    push_words(&mut words, alloc, rest)?;
+    Ok(words)
 }
 
 // Where an answer begins.
@@ -31,29 +40,19 @@ fn begins(resume: &Resume, start: Start) -> bool {
     }
 }
 
-// The command of a request.
-#[derive(Clone, Copy, PartialEq, Eq)]
-enum Command {
-    Names,
-    List,
-}
-
-// Whether the words ask this command for the board and for an answer that begins there.
-fn asks(request: &Request, command: Command, start: Start) -> bool {
-    let (asked, graph, resume) = match request {
-        Request::Names(graph, resume) => (Command::Names, graph, resume),
-        Request::List(graph, resume) => (Command::List, graph, resume),
-        Request::Save(_) | Request::Queen | Request::Flip(_) => return false,
-    };
-    asked == command && *graph == small_board() && begins(resume, start)
-}
-
-// Whether the words ask for the board's file.
-fn saves(request: &Request) -> bool {
-    match request {
-        Request::Save(graph) => *graph == small_board(),
-        _ => false,
-    }
+// What a command line is to make.
+#[derive(Clone, Copy)]
+enum Wanted<'a> {
+    // A request for the board's names that begins there.
+    Names(Start<'a>),
+    // One for its listing.
+    List(Start<'a>),
+    // One for its file.
+    Save,
+    // One for these random numbers.
+    Flip(FlipParams),
+    // None: it is invalid.
+    Usage,
 }
 
 // `board(2,3,0,0,1,0,0)`.
@@ -67,6 +66,52 @@ fn small_board() -> Expr {
         wrap: 0,
         directed: false,
     }))
+}
+
+// Whether the expression is the board.
+fn is_board(expression: &Expr) -> bool {
+    *expression == small_board()
+}
+
+// Whether this is the request.
+fn asks(request: &Request, wanted: Wanted<'_>) -> bool {
+    match (request, wanted) {
+        (Request::Names(graph, resume), Wanted::Names(start)) => {
+            is_board(graph) && begins(resume, start)
+        }
+        (Request::List(graph, resume), Wanted::List(start)) => {
+            is_board(graph) && begins(resume, start)
+        }
+        (Request::Save(graph), Wanted::Save) => is_board(graph),
+        (Request::Flip(params), Wanted::Flip(expected)) => *params == expected,
+        _ => false,
+    }
+}
+
+// Whether the words make this.
+fn make(alloc: Global, words: &[String], wanted: Wanted<'_>) -> bool {
+    match request(alloc, words) {
+        Ok(request) => asks(&request, wanted),
+        Err(fault) => fault == Fault::Usage && matches!(wanted, Wanted::Usage),
+    }
+}
+
+// Whether a command line of these words, and of those after them, makes this.
+fn is_read(alloc: Global, begun: &[&str], rest: &[&str], wanted: Wanted<'_>) -> Result<bool, Fail> {
+    let words = words_of(alloc, begun, rest)?;
+    Ok(make(alloc, &words, wanted))
+}
+
+// Says which command line does not make this.
+fn check(
+    rt: &impl Abort,
+    alloc: Global,
+    begun: &[&str],
+    rest: &[&str],
+    wanted: Wanted<'_>,
+) -> Result<(), Fail> {
+    assert!(rt; is_read(alloc, begun, rest, wanted)?, "{begun:?}, {rest:?}");
+    Ok(())
 }
 
 const BOARD: &str = "board(2,3,0,0,1,0,0)";
@@ -96,53 +141,58 @@ static VALID_WORDS: [(&[&str], Start); 14] = [
 
 #[test]
 fn valid_command_lines(rt: HostRuntime) -> Result<(), Fail> {
-    let commands = [("names", Command::Names), ("list", Command::List)];
-    for (name, command) in commands {
-        for (after, start) in VALID_WORDS {
-            let mut words = vec![in rt.alloc(); "sgb", name]?;
-            words.extend_from_slice(after)?;
-            let request = read(&rt, &words)?;
-            assert!(rt;
-                request.is_ok_and(|request| asks(&request, command, start)),
-                "{words:?}"
-            );
-        }
+    for (words, start) in VALID_WORDS {
+        check(
+            &rt,
+            rt.alloc(),
+            &["sgb", "names"],
+            words,
+            Wanted::Names(start),
+        )?;
+        check(
+            &rt,
+            rt.alloc(),
+            &["sgb", "list"],
+            words,
+            Wanted::List(start),
+        )?;
     }
     Ok(())
 }
 
 #[test]
 fn save_takes_an_expression(rt: HostRuntime) -> Result<(), Fail> {
-    let request = read(&rt, &["sgb", "save", BOARD])?;
-    assert!(rt; request.is_ok_and(|request| saves(&request)));
-    Ok(())
+    check(&rt, rt.alloc(), &["sgb", "save"], &[BOARD], Wanted::Save)
 }
 
 #[test]
 fn flip_takes_its_numbers(rt: HostRuntime) -> Result<(), Fail> {
-    let wanted = FlipParams {
+    let wanted = Wanted::Flip(FlipParams {
         start: -1,
         skip: 2,
         count: 3,
         m: 4,
-    };
-    for words in [
-        ["sgb", "flip", "flip(-1,2,3,4)"].as_slice(),
-        &["sgb", "flip", "--", "flip(-1,2,3,4)"],
-    ] {
-        let found = match read(&rt, words)? {
-            Ok(Request::Flip(params)) => Some(params),
-            _ => None,
-        };
-        assert_eq!(rt; found, Some(wanted), "{words:?}");
-    }
-    Ok(())
+    });
+    check(
+        &rt,
+        rt.alloc(),
+        &["sgb", "flip"],
+        &["flip(-1,2,3,4)"],
+        wanted,
+    )?;
+    check(
+        &rt,
+        rt.alloc(),
+        &["sgb", "flip"],
+        &["--", "flip(-1,2,3,4)"],
+        wanted,
+    )
 }
 
 #[test]
 fn a_name_is_its_bytes(rt: HostRuntime) -> Result<(), Fail> {
     let name = Name::new(rt.alloc(), &[0, 255, b'.', 10])?;
-    assert_eq!(rt; name.bytes(), [0, 255, b'.', 10].as_slice());
+    assert!(rt; name.bytes() == [0, 255, b'.', 10].as_slice());
     Ok(())
 }
 
@@ -203,7 +253,7 @@ static INVALID_COMMAND_LINES: [&[&str]; 50] = [
 #[test]
 fn invalid_command_lines(rt: HostRuntime) -> Result<(), Fail> {
     for words in INVALID_COMMAND_LINES {
-        assert_eq!(rt; read(&rt, words)?.err(), Some(Fault::Usage), "{words:?}");
+        check(&rt, rt.alloc(), words, &[], Wanted::Usage)?;
     }
     Ok(())
 }
