@@ -8,9 +8,6 @@ mod caller;
 // calls, and what they leave
 #[cfg(test)]
 mod calls;
-// operations, their forms and refusals
-#[cfg(test)]
-mod derived;
 // sinks that count, and fail
 #[cfg(test)]
 mod devices;
@@ -29,15 +26,18 @@ mod inputs;
 // each public name of the library
 #[cfg(test)]
 mod library;
+// line graphs, products, induced graphs and the graphs of two numbers
+#[cfg(test)]
+mod lines_and_products;
 // listings
 #[cfg(test)]
 mod listings;
 // names
 #[cfg(test)]
 mod names;
-// operations on graphs
+// expressions in expressions
 #[cfg(test)]
-mod operations;
+mod nested_expressions;
 // output that leaves page by page
 #[cfg(test)]
 mod pages;
