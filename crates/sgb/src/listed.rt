@@ -8,6 +8,11 @@ ghost use Rattle.sgb.specs.Values.{described};
 ghost use Rattle.sgb.specs.declared.locals.Local.{Local};
 ghost use Rattle.sgb.specs.declared.locals.Local.TheVariants as local;
 
+use crate::writing::families::{push_board_arcs, push_links};
+use crate::writing::kept_names::KeptName;
+use crate::writing::pages::Page;
+use sgb_file::Sink;
+use sgb_requests::Fault;
 use sgb_gen::{Board, BoardLists, Links, Simplex, Subsets};
 use sgb_graph::Id;
 use sgb_vec::Panic;
@@ -38,6 +43,15 @@ pub trait Listed {
         ensures ok { OnOk result (links.new.arcs ≡ links_of (parameters self.old) x.now) }
         ensures memory { IsOkUnless result Panic.NoRoom }
         ensures same { parameters self.new ≡ parameters self.old };
+
+    fn push_arcs<W: Sink>(
+        &mut self,
+        x: &[u32],
+        links: &mut Links,
+        name: &KeptName,
+        page: &mut Page,
+        out: &mut W,
+    ) -> Result<(), Fault>;
 
     /// The vertex of a vector: its place among the vectors, counted from 0. No memory is taken.
     fn place_of(&self, x: &[u32]) -> u32
@@ -88,6 +102,17 @@ impl<'a> Listed for ListedBoard<'a> {
         self.lists.arcs_at(x, links)
     }
 
+    fn push_arcs<W: Sink>(
+        &mut self,
+        x: &[u32],
+        links: &mut Links,
+        name: &KeptName,
+        page: &mut Page,
+        out: &mut W,
+    ) -> Result<(), Fault> {
+        push_board_arcs(&mut self.lists, x, links, name, page, out)
+    }
+
     fn place_of(&self, x: &[u32]) -> u32 {
         self.board.family().place_of(x)
     }
@@ -115,6 +140,18 @@ impl<'a> Listed for ListedSimplex<'a> {
         self.simplex.arcs_at(x, links)
     }
 
+    fn push_arcs<W: Sink>(
+        &mut self,
+        x: &[u32],
+        links: &mut Links,
+        name: &KeptName,
+        page: &mut Page,
+        out: &mut W,
+    ) -> Result<(), Fault> {
+        self.arcs_at(x, links)?;
+        push_links(links, name, page, out)
+    }
+
     fn place_of(&self, x: &[u32]) -> u32 {
         self.simplex.family().place_of(x)
     }
@@ -140,6 +177,18 @@ impl<'a> Listed for ListedSubsets<'a> {
 
     fn arcs_at(&mut self, x: &[u32], links: &mut Links) -> Result<(), Panic> {
         self.subsets.arcs_at(x, links)
+    }
+
+    fn push_arcs<W: Sink>(
+        &mut self,
+        x: &[u32],
+        links: &mut Links,
+        name: &KeptName,
+        page: &mut Page,
+        out: &mut W,
+    ) -> Result<(), Fault> {
+        self.arcs_at(x, links)?;
+        push_links(links, name, page, out)
     }
 
     fn place_of(&self, x: &[u32]) -> u32 {

@@ -10,13 +10,13 @@ pub(crate) mod files;
 // Random numbers.
 pub(crate) mod flips;
 // Names of vectors that are kept.
-mod kept_names;
+pub(crate) mod kept_names;
 // Listings of graphs.
 pub(crate) mod listing;
 // Names of a generator's vectors.
 pub(crate) mod names;
 // Pages of output.
-mod pages;
+pub(crate) mod pages;
 // Where the names and the listing of a generator's vectors begin.
 pub(crate) mod resumed;
 // Names of a graph's vertices.

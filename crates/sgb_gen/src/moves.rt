@@ -234,3 +234,15 @@ pub(crate) fn entry_bounds(sizes: &[u32], wrap: i64, piece: u32) -> EntrySizes
     }
     bounds
 }
+
+pub(crate) fn entry_at(sizes: &[u32], wrap: i64, x: &[u32], l: u32, k: usize, amount: i32) -> u32 {
+    part_at(sizes, wrap, x, l, k, amount).unwrap_or(0)
+}
+
+pub(crate) fn parts_lead_onward(wrap: i64, parts: &[(usize, i32)]) -> bool {
+    if parts.is_empty() {
+        return false;
+    }
+    let (k, entry) = parts[0];
+    entry > 0 && !wraps(wrap, k)
+}

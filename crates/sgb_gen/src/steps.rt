@@ -47,6 +47,10 @@ impl<'a> Step<'a> {
         self.entries
     }
 
+    pub(crate) fn into_parts(self) -> &'a [Part] {
+        self.parts
+    }
+
     /// The coordinates that it moves.
     pub(crate) fn parts(&self) -> &[Part]
         ensures parts { result.now ≡ parts_of self.now }

@@ -20,7 +20,7 @@ use super::resumed::vectors_after;
 use crate::listed::{Listed, ListedBoard, ListedSimplex, ListedSubsets};
 use crate::locals::Local;
 use sgb_file::Sink;
-use sgb_gen::Links;
+use sgb_gen::{BoardLists, Links};
 use sgb_requests::Fault;
 use sgb_vec::{Family, Panic, Vectors};
 
@@ -170,13 +170,8 @@ fn push_block<L: Listed, W: Sink>(
         (change W.written W.has_failed out.old out.new) result }
     ensures same { L.parameters listed.new ≡ L.parameters listed.old }
 {
-    listed.arcs_at(x, links)?;
     name.push_line(page, out)?;
-    for i in 0..links.len() {
-        let link = links.get(i);
-        push_arc(name, link.tip, link.len, page, out)?;
-    }
-    Ok(())
+    listed.push_arcs(x, links, name, page, out)
 }
 
 // Hands the line of an arc to this vector, from one whose name is known, to a page.
@@ -197,5 +192,74 @@ fn push_arc<W: Sink>(
     page.begin_arc();
     name.push_other(tip, page);
     page.end_counted_arc(len);
+    Ok(())
+}
+
+pub(crate) fn push_links<W: Sink>(
+    links: &Links,
+    name: &KeptName,
+    page: &mut Page,
+    out: &mut W,
+) -> Result<(), Fault> {
+    for i in 0..links.len() {
+        let link = links.get(i);
+        push_arc(name, link.tip, link.len, page, out)?;
+    }
+    Ok(())
+}
+
+pub(crate) fn push_board_arcs<W: Sink>(
+    lists: &mut BoardLists<'_>,
+    x: &[u32],
+    links: &mut Links,
+    name: &KeptName,
+    page: &mut Page,
+    out: &mut W,
+) -> Result<(), Fault> {
+    let Some(count) = lists.pairs() else {
+        lists.arcs_at(x, links)?;
+        return push_links(links, name, page, out);
+    };
+    for k in (0..count).rev() {
+        push_pair(lists, k, x, links, name, page, out)?;
+    }
+    Ok(())
+}
+
+fn push_pair<W: Sink>(
+    lists: &mut BoardLists<'_>,
+    k: usize,
+    x: &[u32],
+    links: &mut Links,
+    name: &KeptName,
+    page: &mut Page,
+    out: &mut W,
+) -> Result<(), Fault> {
+    if let Some(moves) = lists.straight(k, x) {
+        for shorter in (0..moves.farthest).rev() {
+            push_moved_arc(lists, name, x, moves.ahead, shorter + 1, page, out)?;
+        }
+        for l in 1..=moves.farthest_back {
+            push_moved_arc(lists, name, x, moves.back, l, page, out)?;
+        }
+        return Ok(());
+    }
+    lists.push_pair(k, x, links)?;
+    push_links(links, name, page, out)
+}
+
+fn push_moved_arc<W: Sink>(
+    lists: &BoardLists<'_>,
+    name: &KeptName,
+    x: &[u32],
+    parts: &[(usize, i32)],
+    l: u32,
+    page: &mut Page,
+    out: &mut W,
+) -> Result<(), Fault> {
+    make_room(page, out)?;
+    page.begin_arc();
+    name.push_moved(lists, x, parts, l, page);
+    page.end_counted_arc(l);
     Ok(())
 }

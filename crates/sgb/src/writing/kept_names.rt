@@ -9,6 +9,7 @@ ghost use Rattle.sgb.specs.inner.Pages.{IsPaged, page_bytes};
 use super::pages::{Filled, Page, make_room};
 use sgb_file::Sink;
 use sgb_requests::Fault;
+use sgb_gen::BoardLists;
 use sgb_vec::Vector;
 use std::marker::Model;
 
@@ -17,7 +18,7 @@ const MOST_NAME_BYTES: usize = 2_816;
 
 /// The name of a vector, with the places where its entries end. Contracts see it as the vector.
 #[derive(Drop)]
-pub(super) struct KeptName {
+pub struct KeptName {
     vector: Vector,
     // How many bytes each entry takes in the name together with those before it.
     ends: Vector,
@@ -37,7 +38,7 @@ impl Model for KeptName {
 
 impl KeptName {
     /// The name of the vector with no entries.
-    pub(super) fn new() -> KeptName
+    pub(crate) fn new() -> KeptName
         ensures { result ≡ [] }
     {
         KeptName {
@@ -48,7 +49,7 @@ impl KeptName {
     }
 
     /// Makes it the name of this vector. The entries before the first one that is new keep their bytes.
-    pub(super) fn turn_to(&mut self, vector: &[u32])
+    pub(crate) fn turn_to(&mut self, vector: &[u32])
         requires { length vector.now ≤ most_dimensions + 1 }
         ensures { self.new ≡ vector.now }
     {
@@ -94,7 +95,7 @@ impl KeptName {
     }
 
     /// Hands the line of the vector to a page: its name and a newline.
-    pub(super) fn push_line<W: Sink>(&self, page: &mut Page, out: &mut W) -> Result<(), Fault>
+    pub(crate) fn push_line<W: Sink>(&self, page: &mut Page, out: &mut W) -> Result<(), Fault>
         requires { W.has_failed out.old ≡ false }
         ensures paged { IsPaged page.old (name_line (name_of_vector self.now)) page.new
             (change W.written W.has_failed out.old out.new) result }
@@ -106,9 +107,19 @@ impl KeptName {
         Ok(())
     }
 
+    pub(crate) fn push_moved(&self, lists: &BoardLists<'_>, x: &[u32], parts: &[(usize, i32)], l: u32, page: &mut Page) {
+        let mut place = 0;
+        for (k, amount) in parts {
+            page.push_part_of(&self.text, self.end_of(place), self.end_of(*k));
+            page.push_entry(*k > 0, lists.entry_at(x, *k, *amount, l));
+            place = *k + 1;
+        }
+        page.push_rest_of(&self.text, self.end_of(place));
+    }
+
     /// Appends the name of a vector of as many entries to a page. Only the entries between those that both vectors have
     /// alike, at the start and at the end, are put in digits anew.
-    pub(super) fn push_other(&self, other: &[u32], page: &mut Page)
+    pub(crate) fn push_other(&self, other: &[u32], page: &mut Page)
         requires width { length other.now ≡ length self.now }
         requires room { length page.old + (11 * length self.now + 41) ≤ page_bytes }
         ensures text { page.new ≡ page.old ++ name_of_vector other.now }

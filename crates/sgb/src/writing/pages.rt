@@ -22,11 +22,11 @@ const WORD_BYTES: usize = 16;
 const MOST_LINE_BYTES: usize = 4_160;
 
 /// A page of output.
-pub(super) type Page = Filled<PAGE_BYTES>;
+pub type Page = Filled<PAGE_BYTES>;
 
 /// A text of at most `N` bytes that is put together, in a value of fixed size. Contracts see it as the list of its bytes.
 #[derive(Drop)]
-pub(super) struct Filled<const N: usize> {
+pub struct Filled<const N: usize> {
     bytes: [u8; N],
     // How many of them are the text's.
     len: usize,
@@ -44,7 +44,7 @@ impl<const N: usize> Model for Filled<N> {
 
 impl<const N: usize> Filled<N> {
     /// No bytes yet.
-    pub(super) fn new() -> Filled<N>
+    pub(crate) fn new() -> Filled<N>
         ensures { result ≡ [] }
     {
         Filled {
@@ -54,7 +54,7 @@ impl<const N: usize> Filled<N> {
     }
 
     /// How many bytes the text has.
-    pub(super) fn len(&self) -> usize
+    pub(crate) fn len(&self) -> usize
         ensures value { result ≡ length self.now }
         ensures short { length self.now ≤ N }
     {
@@ -62,14 +62,14 @@ impl<const N: usize> Filled<N> {
     }
 
     /// The bytes of the text.
-    pub(super) fn bytes(&self) -> &[u8]
+    pub(crate) fn bytes(&self) -> &[u8]
         ensures { result.now ≡ self.now }
     {
         &self.bytes[..self.len]
     }
 
     /// Keeps the first `count` bytes.
-    pub(super) fn cut(&mut self, count: usize)
+    pub(crate) fn cut(&mut self, count: usize)
         requires { count ≤ length self.old }
         ensures { self.new ≡ take count self.old }
     {
@@ -77,7 +77,7 @@ impl<const N: usize> Filled<N> {
     }
 
     /// Appends a text, for which there is room.
-    pub(super) fn push_text(&mut self, text: &[u8])
+    pub(crate) fn push_text(&mut self, text: &[u8])
         requires { length self.old + length text.now ≤ N }
         ensures { self.new ≡ self.old ++ text.now }
     {
@@ -89,7 +89,7 @@ impl<const N: usize> Filled<N> {
     }
 
     /// Appends the first `end` bytes of another text.
-    pub(super) fn push_start_of<const M: usize>(&mut self, text: &Filled<M>, end: usize)
+    pub(crate) fn push_start_of<const M: usize>(&mut self, text: &Filled<M>, end: usize)
         requires within { end ≤ length text.now }
         requires room { length self.old + end ≤ N }
         ensures { self.new ≡ self.old ++ take end text.now }
@@ -102,7 +102,7 @@ impl<const N: usize> Filled<N> {
     }
 
     /// Appends the bytes of another text from place `start` on.
-    pub(super) fn push_rest_of<const M: usize>(&mut self, text: &Filled<M>, start: usize)
+    pub(crate) fn push_rest_of<const M: usize>(&mut self, text: &Filled<M>, start: usize)
         requires within { start ≤ length text.now }
         requires room { length self.old + (length text.now - start) ≤ N }
         ensures { self.new ≡ self.old ++ drop start text.now }
@@ -112,6 +112,15 @@ impl<const N: usize> Filled<N> {
             self.push_word(&text.bytes, start, count);
         } else {
             self.push_text(&text.bytes()[start..]);
+        }
+    }
+
+    pub(crate) fn push_part_of<const M: usize>(&mut self, text: &Filled<M>, start: usize, end: usize) {
+        let count = end - start;
+        if count <= WORD_BYTES && start + WORD_BYTES <= M && self.len + WORD_BYTES <= N {
+            self.push_word(&text.bytes, start, count);
+        } else {
+            self.push_text(&text.bytes()[start..end]);
         }
     }
 
@@ -131,7 +140,7 @@ impl<const N: usize> Filled<N> {
     }
 
     /// Appends a number in decimal, at most 40 bytes.
-    pub(super) fn push_number<I: Integer>(&mut self, number: I)
+    pub(crate) fn push_number<I: Integer>(&mut self, number: I)
         requires { length self.old + 40 ≤ N }
         ensures text { self.new ≡ self.old ++ I.text number }
         ensures short { length self.new ≤ length self.old + 40 }
@@ -141,7 +150,7 @@ impl<const N: usize> Filled<N> {
     }
 
     /// Appends an entry of a vector, after a dot where it is not the first: at most 11 bytes.
-    pub(super) fn push_entry(&mut self, dotted: bool, entry: u32)
+    pub(crate) fn push_entry(&mut self, dotted: bool, entry: u32)
         requires { length self.old + 41 ≤ N }
         ensures text { self.new ≡ self.old ++ entry_text dotted entry }
         ensures short { length self.new ≤ length self.old + 11 }
@@ -215,7 +224,7 @@ impl<const N: usize> Filled<N> {
     }
 
     /// Appends the entries of a vector from place `from` on and before `to`, as they stand in its name.
-    pub(super) fn push_entries(&mut self, vector: &[u32], from: usize, to: usize)
+    pub(crate) fn push_entries(&mut self, vector: &[u32], from: usize, to: usize)
         requires places { (from ≤ to) × (to ≤ length vector.now) }
         requires room { length self.old + (11 * (to - from) + 41) ≤ N }
         ensures text { self.new ≡ self.old
@@ -228,7 +237,7 @@ impl<const N: usize> Filled<N> {
     }
 
     /// Begins the line of an arc: what stands before the name of the vertex where it leads.
-    pub(super) fn begin_arc(&mut self)
+    pub(crate) fn begin_arc(&mut self)
         requires { length self.old + 5 ≤ N }
         ensures { self.new ≡ self.old ++ codes "  -> " }
     {
@@ -236,7 +245,7 @@ impl<const N: usize> Filled<N> {
     }
 
     /// Ends the line of an arc: what stands after that name.
-    pub(super) fn end_arc(&mut self, len: i64)
+    pub(crate) fn end_arc(&mut self, len: i64)
         requires { length self.old + 50 ≤ N }
         ensures { self.new ≡ self.old
             ++ (codes ", length " ++ (signed_decimal len ++ codes "\n")) }
@@ -247,7 +256,7 @@ impl<const N: usize> Filled<N> {
     }
 
     /// The same of a length that no file brought.
-    pub(super) fn end_counted_arc(&mut self, len: u32)
+    pub(crate) fn end_counted_arc(&mut self, len: u32)
         requires { length self.old + 50 ≤ N }
         ensures { self.new ≡ self.old ++ (codes ", length " ++ (decimal len ++ codes "\n")) }
     {
@@ -295,7 +304,7 @@ impl<const N: usize> Filled<N> {
 }
 
 /// Makes room on a page for a line: where there may be too little, what the page holds is put.
-pub(super) fn make_room<W: Sink>(page: &mut Page, out: &mut W) -> Result<(), Fault>
+pub(crate) fn make_room<W: Sink>(page: &mut Page, out: &mut W) -> Result<(), Fault>
     requires { W.has_failed out.old ≡ false }
     ensures room { OnOk result (length page.new + most_line_bytes ≤ page_bytes) }
     ensures paged { IsPaged page.old [] page.new (change W.written W.has_failed out.old out.new)
@@ -309,7 +318,7 @@ pub(super) fn make_room<W: Sink>(page: &mut Page, out: &mut W) -> Result<(), Fau
 }
 
 /// Puts what a page holds, and leaves it empty.
-pub(super) fn put_page<W: Sink>(page: &mut Page, out: &mut W) -> Result<(), Fault>
+pub(crate) fn put_page<W: Sink>(page: &mut Page, out: &mut W) -> Result<(), Fault>
     requires { W.has_failed out.old ≡ false }
     ensures written { IsWritten page.old (change W.written W.has_failed out.old out.new) result }
     ensures fault { IfErr result (λ f. f ≡ Fault.Write) }

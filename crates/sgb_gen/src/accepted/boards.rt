@@ -20,7 +20,7 @@ use crate::moves::{destination, entry_bounds};
 use crate::params::BoardParams;
 use crate::steps::{Parts, Step, put_parts_of};
 use crate::vector_graphs::{put_coordinates, vector_names};
-pub use board_lists::BoardLists;
+pub use board_lists::{BoardLists, StraightMoves};
 use sgb_graph::{Graph, Id, IdWriter};
 use sgb_vec::{BoxFamily, Family, Panic, Shape, Vector, Vectors, board_sizes};
 use std::alloc::Global;

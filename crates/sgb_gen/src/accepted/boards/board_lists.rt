@@ -11,6 +11,7 @@ ghost use Rattle.sgb_gen.specs.inner.LocalBoards.{arcs_onward};
 use super::Board;
 use crate::displacement_tables::DisplacementTable;
 use crate::links::Links;
+use crate::moves::{entry_at, parts_lead_onward, reach};
 use sgb_vec::{Family, Panic, Vector};
 use std::marker::Model;
 
@@ -122,5 +123,59 @@ impl<'a> BoardLists<'a> {
             Some(table) => self.board.push_kept(x, table, &mut self.there, links),
             None => self.board.push_listed(x, links),
         }
+    }
+
+    pub fn pairs(&self) -> Option<usize> {
+        match &self.table {
+            Some(table) => Some(table.len()),
+            None => None,
+        }
+    }
+
+    pub fn straight(&self, k: usize, x: &[u32]) -> Option<StraightMoves<'_>> {
+        let Some(table) = &self.table else {
+            return None;
+        };
+        let pair = table.at(k);
+        let t = pair.ahead();
+        let back = pair.back();
+        self.board.straight(x, t.into_parts(), back.into_parts())
+    }
+
+    pub fn push_pair(&mut self, k: usize, x: &[u32], links: &mut Links) -> Result<(), Panic> {
+        links.clear(x.len());
+        let Some(table) = &self.table else {
+            return Ok(());
+        };
+        let pair = table.at(k);
+        self.board.push_by(x, &pair.ahead(), &pair.back(), &mut self.there, links)
+    }
+
+    pub fn entry_at(&self, x: &[u32], k: usize, amount: i32, l: u32) -> u32 {
+        entry_at(self.board.shape.sizes(), self.board.wrap, x, l, k, amount)
+    }
+}
+
+#[derive(Drop)]
+pub struct StraightMoves<'b> {
+    pub ahead: &'b [(usize, i32)],
+    pub farthest: u32,
+    pub back: &'b [(usize, i32)],
+    pub farthest_back: u32,
+}
+
+impl Board {
+    fn straight<'b>(&self, x: &[u32], ahead: &'b [(usize, i32)], back: &'b [(usize, i32)]) -> Option<StraightMoves<'b>> {
+        if !parts_lead_onward(self.wrap, ahead) {
+            return None;
+        }
+        let sizes = self.shape.sizes();
+        let most = self.longest_move();
+        let farthest = reach(sizes, self.wrap, x, ahead, most);
+        let mut farthest_back = 0;
+        if !self.directed {
+            farthest_back = reach(sizes, self.wrap, x, back, most);
+        }
+        Some(StraightMoves { ahead, farthest, back, farthest_back })
     }
 }
