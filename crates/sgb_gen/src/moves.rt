@@ -236,7 +236,10 @@ pub(crate) fn entry_bounds(sizes: &[u32], wrap: i64, piece: u32) -> EntrySizes
 }
 
 pub(crate) fn entry_at(sizes: &[u32], wrap: i64, x: &[u32], l: u32, k: usize, amount: i32) -> u32 {
-    part_at(sizes, wrap, x, l, k, amount).unwrap_or(0)
+    if wraps(wrap, k) {
+        return part_at(sizes, wrap, x, l, k, amount).unwrap_or(0);
+    }
+    (i64::from(x[k]) + i64::from(amount) * i64::from(l)) as u32
 }
 
 pub(crate) fn parts_lead_onward(wrap: i64, parts: &[(usize, i32)]) -> bool {

@@ -94,7 +94,7 @@ impl<const N: usize> Filled<N> {
         requires room { length self.old + end ≤ N }
         ensures { self.new ≡ self.old ++ take end text.now }
     {
-        if end <= WORD_BYTES && M >= WORD_BYTES && self.len + WORD_BYTES <= N {
+        if end <= WORD_BYTES {
             self.push_word(&text.bytes, 0, end);
         } else {
             self.push_text(&text.bytes()[..end]);
@@ -108,7 +108,7 @@ impl<const N: usize> Filled<N> {
         ensures { self.new ≡ self.old ++ drop start text.now }
     {
         let count = text.len - start;
-        if count <= WORD_BYTES && start + WORD_BYTES <= M && self.len + WORD_BYTES <= N {
+        if count <= WORD_BYTES {
             self.push_word(&text.bytes, start, count);
         } else {
             self.push_text(&text.bytes()[start..]);
@@ -117,7 +117,7 @@ impl<const N: usize> Filled<N> {
 
     pub(crate) fn push_part_of<const M: usize>(&mut self, text: &Filled<M>, start: usize, end: usize) {
         let count = end - start;
-        if count <= WORD_BYTES && start + WORD_BYTES <= M && self.len + WORD_BYTES <= N {
+        if count <= WORD_BYTES {
             self.push_word(&text.bytes, start, count);
         } else {
             self.push_text(&text.bytes()[start..end]);
