@@ -13,9 +13,7 @@ pub mod FieldValues
 pub mod FilledFiles
 -- parts by their starts
 pub mod Parts
--- arcs that are put into arrays, each at its place
-pub mod Placed
--- where lists start, as far as 64 bits tell
-pub mod KnownStarts
+-- lists that are put into arrays one behind the other
+pub mod RowsInOrder
 -- worked examples
 pub mod Examples

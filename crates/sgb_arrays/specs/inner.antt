@@ -9,7 +9,3 @@ pub mod NamesLeft
 pub mod Kinds
 -- how long some lists are
 pub mod Sizes
--- arcs that are put into arrays, each at its place
-pub mod Placed
--- where lists start, as far as 64 bits tell
-pub mod Starts

@@ -1,55 +1,53 @@
-//! A graph of which it is known where each list goes.
-ghost use Rattle.std.specs.Prelude.{◌≡◌, length, OnOk, IfErr, IfOk, IsOkUnless};
+//! A graph with its lists of arcs as arrays.
+ghost use Rattle.std.specs.Prelude.{◌≡◌, length, OnOk, IfErr, IfOk, IfSome, IsOkUnless};
 ghost use Rattle.sgb_arrays.specs.Rows.{AreRows, HaveRowLengths, arcs_of};
 ghost use Rattle.sgb_vec.specs.declared.panics.Panic.TheVariants as Panic;
 ghost use Rattle.sgb_arrays.specs.declared.refusals.Wrong.TheVariants as wrong;
 
-use crate::known_rows::{put_known_rows, put_starts};
+use crate::kept_rows::KeptRows;
 use crate::refusals::Wrong;
-use crate::rows::have_row_lengths;
+use crate::rows::{arcs_len, have_row_lengths, put_rows};
 use sgb_graph::Graph;
 use sgb_vec::Panic;
 use std::alloc::Global;
 use std::marker::Model;
 
-/// A graph with the number of arcs on the lists of its vertices, and where each list starts, which is found once: its lists are
-/// then put into arrays by one walk, eight lists side by side. Contracts see the graph.
+/// A graph with the number of arcs on the lists of its vertices, which is found once, and with these lists as arrays: so they
+/// are walked once, and then copied to whoever asks for them. Contracts see the graph.
 #[derive(Drop)]
 pub struct Counted {
     graph: Graph,
     arcs: u128,
-    starts: Vec<u64>,
+    // Its lists, unless vertices share records so that more arcs are on lists than there are records.
+    rows: Option<KeptRows>,
 }
 
 impl Model for Counted {
-    ghost use Rattle.std.specs.Prelude.{◌≡◌, length, map};
+    ghost use Rattle.std.specs.Prelude.{◌≡◌, length, IfSome};
     ghost use Rattle.sgb_graph.specs.Graphs.{GraphData};
-    ghost use Rattle.sgb_arrays.specs.Rows.{arcs_of, starts_of};
-    ghost use Rattle.sgb_arrays.specs.inner.Starts.{at_most};
+    ghost use Rattle.sgb_arrays.specs.Rows.{AreRows, arcs_of};
 
     ghost Value = { GraphData };
 
     ghost view = { λ c. c.graph };
 
     ghost invariant = { λ c. (c.arcs ≡ length (arcs_of c.graph))
-        × (c.starts.items ≡ map at_most (starts_of c.graph)) };
+        × IfSome c.rows (λ rows. AreRows c.graph rows.starts.items rows.tips.items
+        rows.lengths.items) };
 }
 
 impl Counted {
-    /// Counts the arcs on the lists of the graph, and keeps where each list starts: eight bytes for each vertex.
+    /// Counts the arcs on the lists of the graph, and puts them into arrays: twelve bytes for each arc, and eight for each
+    /// vertex. Lists that share so many records that they have more arcs than the graph has records are not put there.
     ///
     /// `NoRoom` out of memory.
     pub fn new(alloc: Global, graph: Graph) -> Result<Counted, Panic>
         ensures graph { IfOk result (λ c. c ≡ graph) }
         ensures memory { IsOkUnless result Panic.NoRoom }
     {
-        let mut starts = vec![in alloc; 0; graph.n() as usize + 1]?;
-        let arcs = put_starts(&graph, starts.as_mut_slice());
-        Ok(Counted {
-            graph,
-            arcs,
-            starts,
-        })
+        let rows = KeptRows::of(alloc, &graph)?;
+        let arcs = count_of(&graph, &rows);
+        Ok(Counted { graph, arcs, rows })
     }
 
     /// The graph.
@@ -84,7 +82,22 @@ impl Counted {
         if !have_row_lengths(&self.graph, self.arcs, starts, tips, lengths) {
             return Err(Wrong::Length);
         }
-        put_known_rows(&self.graph, self.starts.as_slice(), starts, tips, lengths);
+        match &self.rows {
+            Some(rows) => rows.copy_to(starts, tips, lengths),
+            None => put_rows(&self.graph, starts, tips, lengths),
+        }
         Ok(())
+    }
+}
+
+// How many arcs are on the lists of a graph: where they are kept, as many as are.
+fn count_of(graph: &Graph, rows: &Option<KeptRows>) -> u128
+    requires { IfSome rows.now (λ kept. AreRows graph.now kept.starts.items kept.tips.items
+        kept.lengths.items) }
+    ensures { result ≡ length (arcs_of graph.now) }
+{
+    match rows {
+        Some(rows) => u128::from(rows.tips.len() as u64),
+        None => arcs_len(graph),
     }
 }

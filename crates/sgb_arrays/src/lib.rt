@@ -2,7 +2,7 @@
 //! random numbers, each put into slices that the caller hands in.
 #![tactic(auto)]
 
-// A graph of which it is known where each list goes.
+// A graph with its lists of arcs as arrays.
 mod counted;
 // Random numbers in an array.
 mod draws;
@@ -18,8 +18,8 @@ mod kinds;
 mod laws;
 // Why an array is not filled.
 mod refusals;
-// Lists of arcs put side by side, where it is known where each goes.
-mod known_rows;
+// Lists of arcs that are kept as arrays.
+mod kept_rows;
 // The lists of arcs, one after another.
 mod rows;
 // Names, one after another.

@@ -24,14 +24,14 @@ pub fn arcs_len(graph: &Graph) -> u128
 
 // How many arcs are on the lists of a vertex and the seven after it, of which there may be fewer.
 #[derive(Drop)]
-pub(crate) struct Sizes {
+struct Sizes {
     first: u32,
     known: [usize; 8],
 }
 
 impl Sizes {
     // Those from vertex v on.
-    pub(crate) fn from(graph: &Graph, v: u32) -> Sizes
+    fn from(graph: &Graph, v: u32) -> Sizes
         ensures first { result.first ≡ v }
         ensures known { AreSizesFrom graph.now v result.known }
     {
@@ -42,7 +42,7 @@ impl Sizes {
     }
 
     // How many arcs are on the list of vertex v, which is one of the eight, or the next one: then the next eight are had.
-    pub(crate) fn at(&mut self, graph: &Graph, v: u32) -> usize
+    fn at(&mut self, graph: &Graph, v: u32) -> usize
         requires vertex { v < length graph.now.vertices }
         requires known { AreSizesFrom graph.now self.old.first self.old.known }
         requires after { self.old.first ≤ v }
@@ -139,7 +139,7 @@ pub(crate) fn have_row_lengths(
 }
 
 // Puts the lists of arcs into arrays of the right lengths.
-fn put_rows(graph: &Graph, starts: &mut [u64], tips: &mut [u32], lengths: &mut [i64])
+pub(crate) fn put_rows(graph: &Graph, starts: &mut [u64], tips: &mut [u32], lengths: &mut [i64])
     requires { HaveRowLengths graph.now starts.old tips.old lengths.old }
     ensures { AreRows graph.now starts.new tips.new lengths.new }
 {
