@@ -3,11 +3,11 @@ ghost use Rattle.std.specs.Prelude.{◌≡◌, ◌<◌, ◌≤◌, ◌++◌, [],
 ghost use Rattle.std.specs.List.{range_with_len};
 ghost use Rattle.sgb_vec.specs.Limits.{most_vertices};
 ghost use Rattle.sgb_ops.specs.declared.entries.Entry.TheVariants as entry;
-ghost use Rattle.sgb_ops.specs.Entries.{merged_name, names_by_entries, names_of_copies, own_names};
+ghost use Rattle.sgb_ops.specs.Entries.{merged_count, merged_name, names_by_entries, names_of_copies, own_names};
 ghost use Rattle.sgb_ops.specs.Operands.{names_of};
 ghost use Rattle.sgb_ops.specs.Titles.{numbered_name, primed_name, substituted_name};
 
-use crate::entries::{Entry, merged_count};
+use crate::entries::Entry;
 use crate::titles::{ended_name, joined_name};
 use sgb_graph::{Graph, Names};
 use sgb_vec::{Panic, Text, name_of};
@@ -24,20 +24,23 @@ const MOST_NUMBER: usize = 10;
 // How many bytes of each name stay in the name of a vertex that stands in another's place.
 const MOST_PART: usize = 2_047;
 
-/// The names of the vertices that stand in the places of those of `graph`, by the entries, one for each vertex.
+/// The names of the vertices that stand in the places of those of `graph`, by the entries, one for each vertex: so many
+/// merged vertices come first.
 ///
 /// `NoRoom` when out of memory, and nothing else.
 pub(crate) fn names_by_entries(
     alloc: Global,
     graph: &Graph,
     entries: &[Entry],
+    merged: u32,
 ) -> Result<Names, Panic>
-    requires { length entries.now ≡ length graph.now.vertices }
+    requires count { length entries.now ≡ length graph.now.vertices }
+    requires merged { merged ≡ merged_count entries.now }
     ensures ok { IfOk result (λ names. names ≡ names_by_entries (names_of graph.now) entries.now) }
     ensures memory { IsOkUnless result Panic.NoRoom }
 {
     let mut names = Names::new(alloc);
-    push_merged(alloc, &mut names, merged_count(entries))?;
+    push_merged(alloc, &mut names, merged)?;
     push_own(alloc, &mut names, graph, entries)?;
     Ok(names)
 }

@@ -54,9 +54,11 @@ impl Entry {
 }
 
 /// Refuses the entries for a graph of `n` vertices that are not one for each of them, and those with a merged vertex 0
-/// (`Bad`), and then those that make more than 1,000,000,000 vertices (`VeryBad`).
-pub(crate) fn accept_entries(n: u32, entries: &[Entry]) -> Result<(), Panic>
+/// (`Bad`), and then those that make more than 1,000,000,000 vertices (`VeryBad`). Of others it tells how many merged
+/// vertices they make.
+pub(crate) fn accept_entries(n: u32, entries: &[Entry]) -> Result<u32, Panic>
     ensures ok { OnOk result (accepted_entries n entries.now ≡ Ok entries.now) }
+    ensures merged { IfOk result (λ merged. merged ≡ merged_count entries.now) }
     ensures refused { IfErr result (λ e. accepted_entries n entries.now ≡ Err e) }
     ensures count { OnOk result (length entries.now ≡ n) }
     ensures numbered { OnOk result (list_any is_unnumbered entries.now ≡ false) }
@@ -69,10 +71,11 @@ pub(crate) fn accept_entries(n: u32, entries: &[Entry]) -> Result<(), Panic>
     if has_unnumbered(entries) {
         return Err(Panic::Bad);
     }
-    if u64::from(merged_count(entries)) + own_total(entries) > u64::from(MOST_VERTICES) {
+    let merged = merged_count(entries);
+    if u64::from(merged) + own_total(entries) > u64::from(MOST_VERTICES) {
         return Err(Panic::VeryBad);
     }
-    Ok(())
+    Ok(merged)
 }
 
 // Whether some merged vertex has the number 0.
@@ -87,8 +90,8 @@ fn has_unnumbered(entries: &[Entry]) -> bool
     false
 }
 
-/// How many merged vertices the entries make: the greatest number of all.
-pub(crate) fn merged_count(entries: &[Entry]) -> u32
+// How many merged vertices the entries make: the greatest number of all.
+fn merged_count(entries: &[Entry]) -> u32
     ensures { result ≡ merged_count entries.now }
 {
     let mut greatest = 0;
@@ -198,17 +201,18 @@ impl Model for Copies {
 }
 
 impl Copies {
-    /// The copies that these entries make, without the graphs that they put in.
+    /// The copies that these entries make, so many merged vertices among them, without the graphs that they put in.
     ///
     /// `NoRoom` when out of memory, and nothing else.
-    pub(crate) fn new(alloc: Global, entries: &[Entry]) -> Result<Copies, Panic>
+    pub(crate) fn new(alloc: Global, entries: &[Entry], merged: u32) -> Result<Copies, Panic>
+        requires merged { merged ≡ merged_count entries.now }
         requires numbered { list_any is_unnumbered entries.now ≡ false }
         requires few { total_of entries.now ≤ most_vertices }
         ensures ok { IfOk result (λ copies. copies ≡ map sized entries.now) }
         ensures memory { IsOkUnless result Panic.NoRoom }
     {
         let places = places_of(alloc, entries)?;
-        let firsts = first_copies(alloc, merged_count(entries), &places)?;
+        let firsts = first_copies(alloc, merged, &places)?;
         Ok(Copies { places, firsts })
     }
 

@@ -57,8 +57,8 @@ pub fn induced(
         multi,
         directed,
     };
-    accept_entries(graph.n(), entries)?;
-    let begun = begun_by(alloc, graph, entries, flags)?;
+    let merged = accept_entries(graph.n(), entries)?;
+    let begun = begun_by(alloc, graph, entries, merged, flags)?;
     finished(alloc, graph, begun, flags)
 }
 
@@ -82,8 +82,8 @@ pub fn induced_from(
         multi,
         directed,
     };
-    accept_entries(graph.n(), &entries)?;
-    let begun = begun_by(alloc, graph, &entries, flags)?;
+    let merged = accept_entries(graph.n(), &entries)?;
+    let begun = begun_by(alloc, graph, &entries, merged, flags)?;
     drop(entries);
     finished(alloc, graph, begun, flags)
 }
@@ -98,9 +98,17 @@ struct Begun {
     kept: Vec<Event>,
 }
 
-// The graph that is induced by these entries, which are accepted, as far as the entries themselves are needed.
-fn begun_by(alloc: Global, graph: &Graph, entries: &[Entry], flags: Flags) -> Result<Begun, Panic>
+// The graph that is induced by these entries, which are accepted and make so many merged vertices, as far as the entries
+// themselves are needed.
+fn begun_by(
+    alloc: Global,
+    graph: &Graph,
+    entries: &[Entry],
+    merged: u32,
+    flags: Flags,
+) -> Result<Begun, Panic>
     requires count { length entries.now ≡ order_of graph.now }
+    requires merged { merged ≡ merged_count entries.now }
     requires numbered { list_any is_unnumbered entries.now ≡ false }
     requires few { total_of entries.now ≤ most_vertices }
     requires kept { All IsKeptEntry entries.now }
@@ -108,10 +116,10 @@ fn begun_by(alloc: Global, graph: &Graph, entries: &[Entry], flags: Flags) -> Re
         flags.directed b.copies b.in_parts b.kept.items b.built) }
     ensures memory { IsOkUnless result Panic.NoRoom }
 {
-    let copies = Copies::new(alloc, entries)?;
-    let names = names_by_entries(alloc, graph, entries)?;
+    let copies = Copies::new(alloc, entries, merged)?;
+    let names = names_by_entries(alloc, graph, entries, merged)?;
     let built = Graph::new(alloc, names)?;
-    if are_in_parts(graph, entries, flags.directed) {
+    if are_in_parts(graph, entries, merged, flags.directed) {
         return begun_in_parts(alloc, graph.n(), entries, copies, built, flags);
     }
     let kept = events_within(alloc, graph.n(), entries, &copies, flags)?;

@@ -13,7 +13,7 @@ ghost use Rattle.sgb_ops.specs.inner.Copies.{IsKeptEntry, sized};
 ghost use Rattle.sgb_ops.specs.inner.Ends.{AllWithin};
 ghost use Rattle.sgb_ops.specs.inner.Parts.{AreInParts, has_loop_inside, has_loops_inside};
 
-use crate::entries::{Copies, Entry, merged_count};
+use crate::entries::{Copies, Entry};
 use crate::events::{Event, add_events};
 use crate::induced_events::{Flags, arcs_to_copies, push_from_copy, push_inner_arcs};
 use crate::merged::merged_unless;
@@ -22,13 +22,14 @@ use sgb_graph::{Graph, Link};
 use sgb_vec::Panic;
 use std::alloc::Global;
 
-/// Whether no vertices are merged, and no vertex with a graph in its place has a loop. Then events from different copies
+/// Whether none of the entries, which make so many merged vertices, merges any, and no vertex with a graph in its place has a loop. Then events from different copies
 /// never have the same ends, nor has one inside a graph the ends of one between copies.
-pub(crate) fn are_in_parts(graph: &Graph, entries: &[Entry], directed: bool) -> bool
-    requires { length entries.now ≡ length graph.now.vertices }
+pub(crate) fn are_in_parts(graph: &Graph, entries: &[Entry], merged: u32, directed: bool) -> bool
+    requires count { length entries.now ≡ length graph.now.vertices }
+    requires merged { merged ≡ merged_count entries.now }
     ensures { OnTrue result (AreInParts graph.now entries.now directed) }
 {
-    merged_count(entries) == 0 && !has_loops_inside(graph, entries, directed)
+    merged == 0 && !has_loops_inside(graph, entries, directed)
 }
 
 // Whether a vertex with a graph in its place has a loop.

@@ -12,44 +12,44 @@ use Rattle.sgb_ops.proofs.induced_graphs.induced_from.Goals as goal
 pub finished-requires-clause-numbered : goal.finished-requires-clause-numbered
 finished-requires-clause-numbered c =
     let b = c.in_ok-begun.begun in
-    begun_numbered c.args.graph.now c.args.entries.items c.args.self_loops c.args.multi c.args.directed b.copies b.in_parts b.kept.items b.built (ap (list_any is_unnumbered) (sym c.deref.ensures.value) ∙ c.in_ok-accept_entries.ensures.numbered)
+    begun_numbered c.args.graph.now c.args.entries.items c.args.self_loops c.args.multi c.args.directed b.copies b.in_parts b.kept.items b.built (ap (list_any is_unnumbered) (sym c.deref.ensures.value) ∙ c.in_ok-merged.ensures.numbered)
     (subst (λ es. IsBegun c.args.graph.now es c.args.self_loops c.args.multi c.args.directed b.copies b.in_parts b.kept.items b.built) c.deref-2.ensures.value c.in_ok-begun.ensures.ok)
 
 pub finished-requires-clause-parts : goal.finished-requires-clause-parts
 finished-requires-clause-parts c =
     let b = c.in_ok-begun.begun in
-    begun_own c.args.graph.now c.args.entries.items c.args.self_loops c.args.multi c.args.directed b.copies b.in_parts b.kept.items b.built (ap (list_any is_unnumbered) (sym c.deref.ensures.value) ∙ c.in_ok-accept_entries.ensures.numbered)
+    begun_own c.args.graph.now c.args.entries.items c.args.self_loops c.args.multi c.args.directed b.copies b.in_parts b.kept.items b.built (ap (list_any is_unnumbered) (sym c.deref.ensures.value) ∙ c.in_ok-merged.ensures.numbered)
     (subst (λ es. IsBegun c.args.graph.now es c.args.self_loops c.args.multi c.args.directed b.copies b.in_parts b.kept.items b.built) c.deref-2.ensures.value c.in_ok-begun.ensures.ok)
 
 pub finished-requires-clause-size : goal.finished-requires-clause-size
 finished-requires-clause-size c =
     let b = c.in_ok-begun.begun in
-    begun_size c.args.graph.now c.args.entries.items c.args.self_loops c.args.multi c.args.directed b.copies b.in_parts b.kept.items b.built (ap (list_any is_unnumbered) (sym c.deref.ensures.value) ∙ c.in_ok-accept_entries.ensures.numbered)
+    begun_size c.args.graph.now c.args.entries.items c.args.self_loops c.args.multi c.args.directed b.copies b.in_parts b.kept.items b.built (ap (list_any is_unnumbered) (sym c.deref.ensures.value) ∙ c.in_ok-merged.ensures.numbered)
     (subst (λ es. IsBegun c.args.graph.now es c.args.self_loops c.args.multi c.args.directed b.copies b.in_parts b.kept.items b.built) c.deref-2.ensures.value c.in_ok-begun.ensures.ok)
-    (ap length (sym c.deref.ensures.value) ∙ (c.in_ok-accept_entries.ensures.count ∙ c.n.ensures.count))
+    (ap length (sym c.deref.ensures.value) ∙ (c.in_ok-merged.ensures.count ∙ c.n.ensures.count))
 
 pub finished-requires-clause-within : goal.finished-requires-clause-within
 finished-requires-clause-within c =
     let b = c.in_ok-begun.begun in
-    begun_within c.args.graph.now c.args.entries.items c.args.self_loops c.args.multi c.args.directed b.copies b.in_parts b.kept.items b.built (ap (list_any is_unnumbered) (sym c.deref.ensures.value) ∙ c.in_ok-accept_entries.ensures.numbered)
+    begun_within c.args.graph.now c.args.entries.items c.args.self_loops c.args.multi c.args.directed b.copies b.in_parts b.kept.items b.built (ap (list_any is_unnumbered) (sym c.deref.ensures.value) ∙ c.in_ok-merged.ensures.numbered)
     (subst (λ es. IsBegun c.args.graph.now es c.args.self_loops c.args.multi c.args.directed b.copies b.in_parts b.kept.items b.built) c.deref-2.ensures.value c.in_ok-begun.ensures.ok)
-    (subst (All IsKeptEntry) c.deref.ensures.value c.in_ok-accept_entries.ensures.kept)
+    (subst (All IsKeptEntry) c.deref.ensures.value c.in_ok-merged.ensures.kept)
 
 pub returns-clause-answer : goal.returns-clause-answer
 returns-clause-answer c =
     let b = c.in_ok-begun.begun in
     let accepted : accepted_entries (order_of c.args.graph.now) c.args.entries.items ≡ Ok c.args.entries.items =
     ap (λ n. accepted_entries n c.args.entries.items) (sym c.n.ensures.count)
-    ∙ subst (λ es. accepted_entries c.n.result es ≡ Ok es) c.deref.ensures.value c.in_ok-accept_entries.ensures.ok in
-    finished_answer c.args.graph.now c.args.entries.items c.args.self_loops c.args.multi c.args.directed b.copies b.in_parts b.kept.items b.built (ap (list_any is_unnumbered) (sym c.deref.ensures.value) ∙ c.in_ok-accept_entries.ensures.numbered)
+    ∙ subst (λ es. accepted_entries c.n.result es ≡ Ok es) c.deref.ensures.value c.in_ok-merged.ensures.ok in
+    finished_answer c.args.graph.now c.args.entries.items c.args.self_loops c.args.multi c.args.directed b.copies b.in_parts b.kept.items b.built (ap (list_any is_unnumbered) (sym c.deref.ensures.value) ∙ c.in_ok-merged.ensures.numbered)
     (subst (λ es. IsBegun c.args.graph.now es c.args.self_loops c.args.multi c.args.directed b.copies b.in_parts b.kept.items b.built) c.deref-2.ensures.value c.in_ok-begun.ensures.ok)
-    c.finished.result (subst (All IsKeptEntry) c.deref.ensures.value c.in_ok-accept_entries.ensures.kept) accepted c.finished.ensures.ok c.finished.ensures.memory
+    c.finished.result (subst (All IsKeptEntry) c.deref.ensures.value c.in_ok-merged.ensures.kept) accepted c.finished.ensures.ok c.finished.ensures.memory
 
 pub returns-clause-refused : goal.returns-clause-refused
 returns-clause-refused c =
-    λ e is. absurd (not_refused _ _ e c.in_ok-accept_entries.ensures.ok (ap (λ es. accepted_entries c.n.result es) c.deref.ensures.value ∙ (ap (λ n. accepted_entries n c.args.entries.items) c.n.ensures.count ∙ is)))
+    λ e is. absurd (not_refused _ _ e c.in_ok-merged.ensures.ok (ap (λ es. accepted_entries c.n.result es) c.deref.ensures.value ∙ (ap (λ n. accepted_entries n c.args.entries.items) c.n.ensures.count ∙ is)))
 
-pub returns-in_err-accept_entries-clause-refused : goal.returns-in_err-accept_entries-clause-refused
-returns-in_err-accept_entries-clause-refused c =
+pub returns-in_err-merged-clause-refused : goal.returns-in_err-merged-clause-refused
+returns-in_err-merged-clause-refused c =
     let p = err_from_is_err_and c.from_residual.result c.from_residual.ensures.1 in
-    λ e is. same_refusal _ _ e _ c.in_err-accept_entries.ensures.refused (p.1 ∙ ap (λ x. Err x) p.2) (ap (λ es. accepted_entries c.n.result es) c.deref.ensures.value ∙ (ap (λ n. accepted_entries n c.args.entries.items) c.n.ensures.count ∙ is))
+    λ e is. same_refusal _ _ e _ c.in_err-merged.ensures.refused (p.1 ∙ ap (λ x. Err x) p.2) (ap (λ es. accepted_entries c.n.result es) c.deref.ensures.value ∙ (ap (λ n. accepted_entries n c.args.entries.items) c.n.ensures.count ∙ is))

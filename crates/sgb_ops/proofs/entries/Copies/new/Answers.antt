@@ -8,7 +8,7 @@ pub first_copies-requires-clause-merged : goal.first_copies-requires-clause-merg
 first_copies-requires-clause-merged c =
     let entries = c.args.entries.now in
     let items = c.deref.ensures.value ∙ c.in_ok-places.ensures.ok in
-    c.merged_count.ensures ∙ sym (ap merged_count items ∙ merged_sized entries)
+    c.requires.merged ∙ sym (ap merged_count items ∙ merged_sized entries)
 
 pub first_copies-requires-clause-few : goal.first_copies-requires-clause-few
 first_copies-requires-clause-few c =
