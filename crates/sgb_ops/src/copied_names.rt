@@ -8,7 +8,7 @@ ghost use Rattle.sgb_ops.specs.Operands.{names_of};
 ghost use Rattle.sgb_ops.specs.Titles.{numbered_name, primed_name, substituted_name};
 
 use crate::entries::Entry;
-use crate::titles::{ended_name, joined_name};
+use crate::titles::{ended_name, joined_name, name_of_parts};
 use sgb_graph::{Graph, Names};
 use sgb_vec::{Panic, Text, name_of};
 use std::alloc::Global;
@@ -62,7 +62,7 @@ fn merged_name(alloc: Global, k: u32) -> Result<Text, Panic>
     ensures memory { IsOkUnless result Panic.NoRoom }
 {
     let number = name_of(alloc, &[k])?;
-    joined_name(alloc, &number, 0, b"-", &number, MOST_NUMBER)
+    name_of_parts(alloc, b"", b"-", number.bytes())
 }
 
 // Appends the names of the vertices that are not merged.

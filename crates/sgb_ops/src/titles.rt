@@ -51,13 +51,12 @@ pub(crate) fn joined_name(
         ++ take most_second second.now) }
     ensures memory { IsOkUnless result Panic.NoRoom }
 {
-    let start = front(first.bytes(), most_first);
-    let end = front(second.bytes(), most_second);
-    let mut bytes = Vec::with_capacity(alloc, start.len() + separator.len() + end.len())?;
-    bytes.extend_from_slice(start)?;
-    bytes.extend_from_slice(separator)?;
-    bytes.extend_from_slice(end)?;
-    Text::from_bytes(bytes)
+    name_of_parts(
+        alloc,
+        front(first.bytes(), most_first),
+        separator,
+        front(second.bytes(), most_second),
+    )
 }
 
 /// The first `most` bytes of the name, and `end` after them.
@@ -69,10 +68,29 @@ pub(crate) fn ended_name(alloc: Global, name: &Text, most: usize, end: &[u8]) ->
     ensures ok { IfOk result (λ text. text ≡ take most name.now ++ end.now) }
     ensures memory { IsOkUnless result Panic.NoRoom }
 {
-    let start = front(name.bytes(), most);
-    let mut bytes = Vec::with_capacity(alloc, start.len() + end.len())?;
-    bytes.extend_from_slice(start)?;
-    bytes.extend_from_slice(end)?;
+    name_of_parts(alloc, b"", front(name.bytes(), most), end)
+}
+
+/// Three texts, one after another.
+///
+/// `NoRoom` when out of memory, and nothing else.
+pub(crate) fn name_of_parts(
+    alloc: Global,
+    first: &[u8],
+    second: &[u8],
+    third: &[u8],
+) -> Result<Text, Panic>
+    requires short { length first.now + length second.now + length third.now ≤ most_bytes }
+    requires first { All IsTextByte first.now }
+    requires second { All IsTextByte second.now }
+    requires third { All IsTextByte third.now }
+    ensures ok { IfOk result (λ text. text ≡ first.now ++ second.now ++ third.now) }
+    ensures memory { IsOkUnless result Panic.NoRoom }
+{
+    let mut bytes = Vec::with_capacity(alloc, first.len() + second.len() + third.len())?;
+    bytes.extend_from_slice(first)?;
+    bytes.extend_from_slice(second)?;
+    bytes.extend_from_slice(third)?;
     Text::from_bytes(bytes)
 }
 

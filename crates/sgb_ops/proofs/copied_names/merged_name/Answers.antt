@@ -1,8 +1,13 @@
-use Rattle.std.proofs.Common.{◌∙◌, take, ap}
-use Rattle.sgb_ops.proofs.JoinedNames.{whole_number}
+use Rattle.std.proofs.Common.{◌≡◌, ◌++◌, ◌∙◌, length, ap, subst, arith}
+use Rattle.std.specs.Prelude.{IfOk, codes}
+use Rattle.sgb_ops.proofs.JoinedNames.{number_is_short, number_text}
 use Rattle.sgb_ops.proofs.copied_names.merged_name.Goals as goal
+
+pub name_of_parts-requires-clause-short : goal.name_of_parts-requires-clause-short
+name_of_parts-requires-clause-short c =
+    omega (arith, ap length (c.bytes.ensures.value ∙ c.in_ok-number.ensures.ok), number_is_short c.args.k c.ranges.k.fits)
 
 pub returns-clause-ok : goal.returns-clause-ok
 returns-clause-ok c =
-    let number = ap (take 10) c.in_ok-number.ensures.ok ∙ whole_number c.args.k c.ranges.k.fits in
-    rw number at c.joined_name.ensures.ok
+    let number = c.bytes.ensures.value ∙ (c.in_ok-number.ensures.ok ∙ number_text c.args.k) in
+    subst (λ bs. IfOk c.name_of_parts.result (λ text. text ≡ codes "-" ++ bs)) number c.name_of_parts.ensures.ok
