@@ -3,3 +3,5 @@
 pub mod Numbers
 -- chunks that are not there
 pub mod ChunkNumbers
+-- a graph that a handle lends
+pub mod Lending

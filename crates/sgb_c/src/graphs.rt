@@ -18,6 +18,9 @@ pub struct GraphHandle {
 }
 
 impl GraphHandle {
+    ghost use types.Logic.{sem};
+    ghost use Rattle.sgb_c.specs.inner.Lending.{LendsGraph};
+
     // No graph.
     fn closed() -> GraphHandle
         ensures { result.held.value ≡ None }
@@ -55,5 +58,17 @@ impl GraphHandle {
             held: Loose::of(boxed),
             is_open: true,
         };
+    }
+
+    // Lends the graph where it lies, if one is open.
+    pub(crate) fn lend(&mut self) -> Option<&mut Held>
+        ensures* writes_back { sem 𝓛 (LendsGraph self.entry result) }
+        ensures value { option_map (λ h. h.now) result ≡ self.old.held.value }
+    {
+        if self.is_open {
+            Some(self.held.lend())
+        } else {
+            None
+        }
     }
 }

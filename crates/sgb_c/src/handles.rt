@@ -30,6 +30,9 @@ impl Model for Loose {
 }
 
 impl Loose {
+    ghost use types.Logic.{sem};
+    ghost use Rattle.sgb_c.specs.inner.Lending.{LendsHeld};
+
     /// Holds nothing.
     pub(crate) fn none() -> Loose
         ensures { result.value ≡ None }
@@ -53,5 +56,14 @@ impl Loose {
         ensures { Some result.value ≡ self.value }
     {
         unsafe { Box::from_raw(alloc, self.at as *mut Held) }
+    }
+
+    /// What is held, lent where it lies. There is something only where something is held.
+    pub(crate) fn lend(&mut self) -> &mut Held
+        requires { is_some self.old.value ≡ true }
+        ensures* writes_back { sem 𝓛 (LendsHeld self.entry result) }
+        ensures value { Some result.now ≡ self.old.value }
+    {
+        unsafe { &mut *(self.at as *mut Held) }
     }
 }

@@ -88,15 +88,14 @@ pub extern "C" fn sgb_close(alloc: Global, graph: &mut GraphHandle)
 
 /// The sizes of the graph that is open.
 #[unsafe(no_mangle)]
-pub extern "C" fn sgb_sizes(alloc: Global, graph: &mut GraphHandle, sizes: &mut Sizes) -> u64
+pub extern "C" fn sgb_sizes(graph: &mut GraphHandle, sizes: &mut Sizes) -> u64
     ensures answer { IsAnswerOn (graph_in graph.old) (λ g. AreSizes g sizes.new) (λ g number. ⊥)
         (sizes.new ≡ sizes.old) result }
     ensures kept { graph_in graph.new ≡ graph_in graph.old }
 {
-    match graph.take(alloc) {
+    match graph.lend() {
         Some(held) => {
             *sizes = sizes_of(&held.graph);
-            graph.put(held);
             0
         }
         None => NOT_OPEN,
@@ -106,7 +105,6 @@ pub extern "C" fn sgb_sizes(alloc: Global, graph: &mut GraphHandle, sizes: &mut 
 /// The lists of the graph that is open, in compressed sparse rows.
 #[unsafe(no_mangle)]
 pub extern "C" fn sgb_rows(
-    alloc: Global,
     graph: &mut GraphHandle,
     starts: &mut [u64],
     tips: &mut [u32],
@@ -120,24 +118,15 @@ pub extern "C" fn sgb_rows(
         ((starts.new ≡ starts.old) × (tips.new ≡ tips.old) × (lengths.new ≡ lengths.old)) result }
     ensures kept { graph_in graph.new ≡ graph_in graph.old }
 {
-    match graph.take(alloc) {
-        Some(held) => {
-            let number = number_of(held.graph.fill_rows(starts, tips, lengths));
-            graph.put(held);
-            number
-        }
+    match graph.lend() {
+        Some(held) => number_of(held.graph.fill_rows(starts, tips, lengths)),
         None => NOT_OPEN,
     }
 }
 
 /// The names of the vertices of the graph that is open.
 #[unsafe(no_mangle)]
-pub extern "C" fn sgb_names(
-    alloc: Global,
-    graph: &mut GraphHandle,
-    starts: &mut [u64],
-    bytes: &mut [u8],
-) -> u64
+pub extern "C" fn sgb_names(graph: &mut GraphHandle, starts: &mut [u64], bytes: &mut [u8]) -> u64
     ensures answer { IsAnswerOn (graph_in graph.old)
         (λ g. HaveNameLengths g starts.old bytes.old × AreNames g starts.new bytes.new)
         (λ g number. (number ≡ number_of_wrong wrong.Length)
@@ -145,24 +134,15 @@ pub extern "C" fn sgb_names(
         ((starts.new ≡ starts.old) × (bytes.new ≡ bytes.old)) result }
     ensures kept { graph_in graph.new ≡ graph_in graph.old }
 {
-    match graph.take(alloc) {
-        Some(held) => {
-            let number = number_of(fill_names(held.graph.graph(), starts, bytes));
-            graph.put(held);
-            number
-        }
+    match graph.lend() {
+        Some(held) => number_of(fill_names(held.graph.graph(), starts, bytes)),
         None => NOT_OPEN,
     }
 }
 
 /// The integers in a utility field of the vertices of the graph that is open: of u v w x y z, from 0.
 #[unsafe(no_mangle)]
-pub extern "C" fn sgb_ints(
-    alloc: Global,
-    graph: &mut GraphHandle,
-    field: u32,
-    values: &mut [i64],
-) -> u64
+pub extern "C" fn sgb_ints(graph: &mut GraphHandle, field: u32, values: &mut [i64]) -> u64
     ensures answer { IsAnswerOn (graph_in graph.old)
         (λ g. HoldsInts g field × (length values.old ≡ length g.vertices)
         × (values.new ≡ ints_of g field))
@@ -171,66 +151,53 @@ pub extern "C" fn sgb_ints(
         (values.new ≡ values.old) result }
     ensures kept { graph_in graph.new ≡ graph_in graph.old }
 {
-    match graph.take(alloc) {
-        Some(held) => {
-            let number = number_of(fill_ints(held.graph.graph(), field, values));
-            graph.put(held);
-            number
-        }
+    match graph.lend() {
+        Some(held) => number_of(fill_ints(held.graph.graph(), field, values)),
         None => NOT_OPEN,
     }
 }
 
 /// The id of the graph that is open.
 #[unsafe(no_mangle)]
-pub extern "C" fn sgb_id(alloc: Global, graph: &mut GraphHandle, bytes: &mut [u8]) -> u64
+pub extern "C" fn sgb_id(graph: &mut GraphHandle, bytes: &mut [u8]) -> u64
     ensures answer { IsAnswerOn (graph_in graph.old)
         (λ g. (length bytes.old ≡ length g.id) × (bytes.new ≡ g.id))
         (λ g number. (number ≡ number_of_wrong wrong.Length) × (length bytes.old ≡ length g.id → ⊥))
         (bytes.new ≡ bytes.old) result }
     ensures kept { graph_in graph.new ≡ graph_in graph.old }
 {
-    match graph.take(alloc) {
-        Some(held) => {
-            let number = number_of(fill_id(held.graph.graph(), bytes));
-            graph.put(held);
-            number
-        }
+    match graph.lend() {
+        Some(held) => number_of(fill_id(held.graph.graph(), bytes)),
         None => NOT_OPEN,
     }
 }
 
 /// What the utility fields of the graph that is open hold, a letter each: of vertices, of arcs, of the graph.
 #[unsafe(no_mangle)]
-pub extern "C" fn sgb_kinds(alloc: Global, graph: &mut GraphHandle, letters: &mut [u8]) -> u64
+pub extern "C" fn sgb_kinds(graph: &mut GraphHandle, letters: &mut [u8]) -> u64
     ensures answer { IsAnswerOn (graph_in graph.old)
         (λ g. (length letters.old ≡ 14) × (letters.new ≡ map letter_of g.kinds))
         (λ g number. (number ≡ number_of_wrong wrong.Length) × (length letters.old ≡ 14 → ⊥))
         (letters.new ≡ letters.old) result }
     ensures kept { graph_in graph.new ≡ graph_in graph.old }
 {
-    match graph.take(alloc) {
-        Some(held) => {
-            let number = number_of(fill_kinds(held.graph.graph(), letters));
-            graph.put(held);
-            number
-        }
+    match graph.lend() {
+        Some(held) => number_of(fill_kinds(held.graph.graph(), letters)),
         None => NOT_OPEN,
     }
 }
 
 /// The size of the `.gb` file of the graph that is open, or 2^64 - 1 where it is larger.
 #[unsafe(no_mangle)]
-pub extern "C" fn sgb_file_size(alloc: Global, graph: &mut GraphHandle, size: &mut u64) -> u64
+pub extern "C" fn sgb_file_size(graph: &mut GraphHandle, size: &mut u64) -> u64
     ensures answer { IsAnswerOn (graph_in graph.old)
         (λ g. size.new ≡ min (length (text_of_graph g)) (2 ^ 64 - 1)) (λ g number. ⊥)
         (size.new ≡ size.old) result }
     ensures kept { graph_in graph.new ≡ graph_in graph.old }
 {
-    match graph.take(alloc) {
+    match graph.lend() {
         Some(held) => {
             *size = file_len(held.graph.graph());
-            graph.put(held);
             0
         }
         None => NOT_OPEN,
@@ -239,7 +206,7 @@ pub extern "C" fn sgb_file_size(alloc: Global, graph: &mut GraphHandle, size: &m
 
 /// The `.gb` file of the graph that is open.
 #[unsafe(no_mangle)]
-pub extern "C" fn sgb_file(alloc: Global, graph: &mut GraphHandle, bytes: &mut [u8]) -> u64
+pub extern "C" fn sgb_file(graph: &mut GraphHandle, bytes: &mut [u8]) -> u64
     ensures answer { IsAnswerOn (graph_in graph.old)
         (λ g. (length bytes.old ≡ length (text_of_graph g)) × (bytes.new ≡ text_of_graph g))
         (λ g number. (number ≡ number_of_wrong wrong.Length)
@@ -247,12 +214,8 @@ pub extern "C" fn sgb_file(alloc: Global, graph: &mut GraphHandle, bytes: &mut [
         (bytes.new ≡ bytes.old) result }
     ensures kept { graph_in graph.new ≡ graph_in graph.old }
 {
-    match graph.take(alloc) {
-        Some(held) => {
-            let number = number_of(fill_file(held.graph.graph(), bytes));
-            graph.put(held);
-            number
-        }
+    match graph.lend() {
+        Some(held) => number_of(fill_file(held.graph.graph(), bytes)),
         None => NOT_OPEN,
     }
 }

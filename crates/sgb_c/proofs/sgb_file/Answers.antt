@@ -1,4 +1,4 @@
-use Rattle.std.proofs.Common.{◌≡◌, ◌∙◌, Some, ap, length, subst}
+use Rattle.std.proofs.Common.{◌≡◌, length, subst}
 use Rattle.std.specs.Prelude.{IfErr, OnOk}
 use Rattle.sgb_file.specs.Saving.{text_of_graph}
 use Rattle.sgb_graph.specs.Graphs.{GraphData}
@@ -9,7 +9,7 @@ use Rattle.sgb_c.proofs.sgb_file.Goals as goal
 
 pub returns-in-Some-clause-answer : goal.returns-in-Some-clause-answer
 returns-in-Some-clause-answer c =
-    let held = c.deref.result.now in
+    let held = c.in-Some.held.now in
     let old = c.args.bytes.now in
     let new = c.fill_file.new.bytes in
     let filled =
@@ -19,5 +19,5 @@ returns-in-Some-clause-answer c =
     on_held c.args.graph.now.held.value held
     (λ g. (length old ≡ length (text_of_graph g)) × (new ≡ text_of_graph g))
     (λ g number. (number ≡ number_of_wrong wrong.Length) × (length old ≡ length (text_of_graph g) → ⊥))
-    (new ≡ old) c.number_of-number.result (ap Some c.deref.ensures ∙ c.in-Some.ensures.taken)
-    (list_answered c.fill_file.result c.number_of-number.result (text_of_graph held.graph) old new c.number_of-number.ensures filled refused)
+    (new ≡ old) c.number_of.result c.in-Some.ensures.value
+    (list_answered c.fill_file.result c.number_of.result (text_of_graph held.graph) old new c.number_of.ensures filled refused)
