@@ -9,7 +9,7 @@ use std::marker::Model;
 /// A graph in a block of its own.
 #[derive(Drop)]
 pub struct Held {
-    /// The graph, with its arcs on lists counted.
+    /// The graph, with its lists of arcs as arrays.
     pub graph: Counted,
 }
 
