@@ -41,12 +41,11 @@ pub trait Answer {
         ensures memory { certain self.now → IfErr result (λ f. f ≢ Fault.Panic NoRoom) };
 }
 
-/// Answers: writes the output to `out`, or the line of a fault to `errors`, and returns the exit status. An answer that is
-/// given in full ends with one flush of `out`, which then holds nothing back. What is refused, or whose input fails,
-/// leaves `out` as it was, with no put and no flush.
+/// Gives an answer as `run` gives that of a request: writes its output to `out`, with one flush at its end, or the line of a
+/// fault to `errors`, and returns the exit status. What is refused, or whose input fails, leaves `out` as it was.
 ///
-/// `source` is standard input. It is read, once and whole, only if the answer reads it, and before all else; where it fails
-/// nothing is written (3). Of more than 2^30 bytes only so many and one more are read.
+/// `source` is standard input. It is read only if the answer reads it, before all else, and whole, but of more than 2^30
+/// bytes only so many and one more.
 pub fn run_answer<A: Answer, R: Source, W: Sink, E: Sink>(
     alloc: Global,
     answer: &A,
@@ -97,10 +96,7 @@ fn give<A: Answer, R: Source, W: Sink>(
     pass_on(out)
 }
 
-// The bytes of standard input that are kept for an answer: none where it does not read them, and then `source` is left
-// alone.
-//
-// `Read` where the source fails, `Panic(NoRoom)` when out of memory.
+// The bytes of standard input that are kept for an answer: none where it does not read them.
 fn input_for<A: Answer, R: Source>(
     alloc: Global,
     answer: &A,
