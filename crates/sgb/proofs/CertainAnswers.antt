@@ -1,5 +1,5 @@
 -- What needs no memory is never out of memory.
-use Rattle.std.proofs.Common.{◌≡◌, ◌≢◌, ◌⊎◌, ◌&&◌, ◌∙◌, ℕ, List, [], Bool, true, false, Option, Result, Ok, Err, IfErr, inl, inr, refl, sym, ap, subst}
+use Rattle.std.proofs.Common.{◌≡◌, ◌≢◌, ◌⊎◌, ◌&&◌, ◌∙◌, ℕ, List, [], Bool, false, Option, Result, Ok, Err, IfErr, inl, inr, refl, sym, ap, subst}
 use Rattle.std.specs.Result.{IsErrAnd}
 use Rattle.std.proofs.lemmas.Bool.{both_ways}
 use Rattle.std.proofs.lemmas.Result.{err_from_is_err_and}
@@ -28,7 +28,7 @@ use Rattle.sgb.specs.Runs.{IsGiven}
 use Rattle.sgb.specs.Locals.{IsLocalOf}
 use Rattle.sgb.specs.Values.{described, generator_value, made}
 use Rattle.sgb.specs.declared.locals.Local.{Local}
-use Rattle.sgb.specs.inner.Certain.{HasListingAtOnce, HasNamesAtOnce, IsRefusedGenerator}
+use Rattle.sgb.specs.inner.Certain.{HasListingAtOnce, HasNamesAtOnce}
 use Rattle.sgb.specs.Writing.{IsEnded, IsEndedFrom}
 use Rattle.sgb.proofs.Endings.{change_of, no_line}
 use Rattle.sgb.proofs.FirstRefusals.{first_other, generator_other}
@@ -183,19 +183,21 @@ given_err T (Err g) same f w v e d wf ef p other sound line = elim p.0 [
   | inr memory ↦ absurd (other memory)
 ]
 
-pub certain_ok : {T : Type 0} (r : Request) (failed : Bool) (kept : List ℕ) (same : Type 0) (x : T) (w v e : Option (List ℕ)) (wf ef : Bool)
-    → IsEndedFrom (reads_input r && failed) (answer_of r kept) same (change_of w v wf) (Ok x) → IsCertain r (change_of w v wf) (change_of e e ef) 0
-certain_ok r failed kept same x w v e wf ef ended needs sound input =
-    let unread = certain_unread r needs in
-    let here = ended_from _ (answer_of r kept) same _ (Ok x) (ap (λ b. b && failed) unread) ended in
-    subst (λ a. IsGiven (outcome_of a) (change_of w v wf) (change_of e e ef) 0) (answer_unread r kept input unread)
-    (given_ok (answer_of r kept) same x w v e wf ef here)
+-- so it is in a run that reads no input
+pub certain_ok : {T : Type 0} (reads failed : Bool) (a : Result (List ℕ) Fault) (same : Type 0) (x : T) (w v e : Option (List ℕ)) (wf ef : Bool)
+    → IsEndedFrom (reads && failed) a same (change_of w v wf) (Ok x) → reads ≡ false → IsGiven (outcome_of a) (change_of w v wf) (change_of e e ef) 0
+certain_ok reads failed a same x w v e wf ef ended unread =
+    given_ok a same x w v e wf ef (ended_from _ a same _ (Ok x) (ap (λ b. b && failed) unread) ended)
 
-pub certain_err : (T : Type 0) (r : Request) (failed : Bool) (kept : List ℕ) (same : Type 0) (f : Fault) (w v e d : Option (List ℕ)) (wf ef : Bool)
-    → IsEndedFrom {T = T} (reads_input r && failed) (answer_of r kept) same (change_of w v wf) (Err f) → (NeedsNoMemory r → f ≢ fault.Panic NoRoom)
-    → AppendsUnlessFailed (change_of e d ef) (line_of f) → IsCertain r (change_of w v wf) (change_of e d ef) (status_of f)
-certain_err T r failed kept same f w v e d wf ef ended other line needs sound input =
+pub certain_err : (T : Type 0) (reads failed : Bool) (a : Result (List ℕ) Fault) (same : Type 0) (f : Fault) (w v e d : Option (List ℕ)) (wf ef : Bool)
+    → IsEndedFrom {T = T} (reads && failed) a same (change_of w v wf) (Err f) → f ≢ fault.Panic NoRoom → AppendsUnlessFailed (change_of e d ef) (line_of f)
+    → reads ≡ false → wf ≡ false → IsGiven (outcome_of a) (change_of w v wf) (change_of e d ef) (status_of f)
+certain_err T reads failed a same f w v e d wf ef ended other line unread sound =
+    given_err T a same f w v e d wf ef (ended_from {T = T} _ a same _ (Err f) (ap (λ b. b && failed) unread) ended) other sound line
+
+-- a request whose answer takes no memory was answered so on each input
+pub certain_run : (r : Request) (kept : List ℕ) (out err : Change) (status : ℕ)
+    → (reads_input r ≡ false → NeedsNoMemory r → out.failed ≡ false → IsGiven (outcome_of (answer_of r kept)) out err status) → IsCertain r out err status
+certain_run r kept out err status given needs sound input =
     let unread = certain_unread r needs in
-    let here = ended_from {T = T} _ (answer_of r kept) same _ (Err f) (ap (λ b. b && failed) unread) ended in
-    subst (λ a. IsGiven (outcome_of a) (change_of w v wf) (change_of e d ef) (status_of f)) (answer_unread r kept input unread)
-    (given_err T (answer_of r kept) same f w v e d wf ef here (other needs) sound line)
+    subst (λ a. IsGiven (outcome_of a) out err status) (answer_unread r kept input unread) (given unread needs sound)

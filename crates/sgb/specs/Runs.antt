@@ -1,8 +1,9 @@
 -- What a run leaves in its sinks, by what standard input gives.
-use Rattle.std.specs.Prelude.{◌≡◌, ◌⊎◌, ◌&&◌, ℕ, Bool, false, List, Option, IfSome, IfErr, Result}
+use Rattle.std.specs.Prelude.{◌≡◌, ◌⊎◌, ◌&&◌, ℕ, Bool, true, false, List, Option, IfSome, IfErr, Result}
 use Rattle.std.specs.Bool.{MatchBool}
 use Rattle.std.specs.Io.KnownBytes.{Appends}
 use Rattle.sgb_vec.specs.declared.panics.Panic.TheVariants.{NoRoom}
+use Rattle.sgb.specs.Inputs.{IsKeptOfInput}
 use Rattle.sgb.specs.Outcomes.{Outcome, answer_of, outcome_of, reads_input}
 use Rattle.sgb_file.specs.Devices.{AppendsPrefix, AppendsUnlessFailed, Change}
 use Rattle.sgb_requests.specs.Faults.{status_of, line_of}
@@ -60,3 +61,12 @@ abbrev pub IsRunOn : Request → Input → Type 0 → Change → Change → ℕ 
 IsRunOn r source same out err status =
     (held : List ℕ) × IfSome source.bytes (λ bytes. held ≡ bytes)
     × IsRunFrom (fails_to_read r source) (answer_of r held) same out err status
+
+-- a program that answers leaves this: of standard input these first bytes count, and for each answer on them it was answered so,
+-- in full where no input is read, `certain` says that no memory is wanted, and the output sink is sound
+abbrev pub IsAnswerRun : Bool → (List ℕ → Result (List ℕ) Fault → Type 0) → Type 0 → Input → Type 0 → Change → Change → ℕ → Type 0
+IsAnswerRun reads answers certain source same out err status =
+    (kept : List ℕ) × (reads ≡ true → IsKeptOfInput source.bytes kept)
+    × ((a : Result (List ℕ) Fault) → answers kept a
+    → IsRunFrom (reads && source.failed) a same out err status
+    × (reads ≡ false → certain → out.failed ≡ false → IsGiven (outcome_of a) out err status))

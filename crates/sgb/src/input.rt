@@ -1,9 +1,8 @@
-//! Standard input: who reads it, reading it whole, and the graph that it is a file of.
-ghost use Rattle.std.specs.Prelude.{◌≡◌, ◌≤◌, ◌<◌, ◌+◌, ◌-◌, ◌++◌, ◌&&◌, ℕ, List, false, true, length, nat_le, Err, IfOk, IsOk};
+//! Standard input: reading it whole, and the graph that it is a file of.
+ghost use Rattle.std.specs.Prelude.{◌≡◌, ◌≤◌, ◌<◌, ◌+◌, ◌-◌, ◌++◌, ℕ, List, true, length, nat_le, Err, IfOk};
 ghost use Rattle.std.specs.Io.KnownBytes.{Consumes, IsAtEnd};
 ghost use Rattle.sgb.specs.Certain.{IsInputRefused};
 ghost use Rattle.sgb.specs.Inputs.{IsKeptOfInput, IsReadFrom, LosesAtMost};
-ghost use Rattle.sgb.specs.Outcomes.{reads_input};
 ghost use Rattle.sgb.specs.Values.{IsValue, most_input, stdin_value};
 ghost use Rattle.sgb.specs.inner.Inputs.{left_after};
 
@@ -12,7 +11,7 @@ mod kept;
 pub(crate) use kept::Kept;
 use sgb_file::{Source, read_gb};
 use sgb_graph::Graph;
-use sgb_requests::{Fault, Request};
+use sgb_requests::Fault;
 use sgb_vec::Panic;
 use std::alloc::Global;
 
@@ -21,41 +20,6 @@ const MOST_INPUT: usize = 1 << 30;
 
 // At most this many bytes are read at once.
 const MOST_AT_ONCE: usize = 65_536;
-
-// Whether a request reads standard input.
-fn reads_input(request: &Request) -> bool
-    ensures { result ≡ reads_input request.now }
-{
-    match request {
-        Request::Names(expression, _) => expression.has_stdin(),
-        Request::List(expression, _) => expression.has_stdin(),
-        Request::Save(expression) => expression.has_stdin(),
-        Request::Queen | Request::Flip(_) => false,
-    }
-}
-
-/// The bytes of standard input that are kept for a request: none where it does not read them, and then `source` is left
-/// alone.
-///
-/// `Read` where the source fails, `Panic(NoRoom)` when out of memory.
-pub(crate) fn input_for<R: Source>(
-    alloc: Global,
-    request: &Request,
-    source: &mut R,
-) -> Result<Vec<u8>, Fault>
-    ensures kept { IfOk result (λ bytes. reads_input request.now ≡ true
-        → IsKeptOfInput (R.remaining source.old) bytes.items) }
-    ensures ended { IsReadFrom (reads_input request.now && R.has_failed source.new) result }
-    ensures unread { reads_input request.now ≡ false → source.new ≡ source.old }
-    ensures none { reads_input request.now ≡ false → IsOk result }
-    ensures bounded { LosesAtMost (most_input + 1) (R.remaining source.old)
-        (R.remaining source.new) }
-{
-    if !reads_input(request) {
-        return Ok(Vec::new(alloc));
-    }
-    read_input(alloc, source)
-}
 
 /// The bytes of a source to its end, or up to the first that is too many for a file: 2^30 and one.
 ///

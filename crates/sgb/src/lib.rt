@@ -2,6 +2,8 @@
 //! that answer them, for any source of input and any sink of output.
 #![tactic(auto)]
 
+// A program's answer, from standard input to its exit status.
+mod answers;
 // The graph of an expression.
 mod evaluation;
 // Standard input, read whole.
@@ -19,13 +21,15 @@ mod runs;
 // Names, listings, files and random numbers, written to a sink.
 mod writing;
 
+pub use answers::{Answer, run_answer};
 pub use evaluation::graph_of;
 pub use input::read_input;
 pub use laws::{input_unread_law, run_endings_law};
 pub use listed::{Listed, ListedBoard, ListedSimplex, ListedSubsets};
 pub use locals::{Local, local_of};
-pub use program::run_program;
+pub use program::{run_program, unread_fault};
 pub use runs::run;
 pub use sgb_expr::Expr;
 pub use sgb_requests::{Fault, Request, parse_expr, report, request, status};
 pub use writing::families::list_family;
+pub use writing::write_bytes;

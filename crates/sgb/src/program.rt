@@ -67,8 +67,8 @@ fn request_of(alloc: Global, words: io::Result<Vec<String>>) -> Result<Request, 
     }
 }
 
-// The fault of words that could not be read.
-fn unread_fault(error: &io::Error) -> Fault
+/// The fault of words that could not be read: out of memory, else an invalid command line.
+pub fn unread_fault(error: &io::Error) -> Fault
     ensures { result ≡ unread_fault (error_kind error.now) }
 {
     if error.kind() == ErrorKind::OutOfMemory {

@@ -1,6 +1,5 @@
-//! Requests answered: evaluation, output, the line of a fault and the exit status.
-ghost use Rattle.std.specs.Prelude.{◌≡◌, ◌≢◌, ◌⊎◌, ◌+◌, ◌++◌, ◌&&◌, ℕ, List, [], Ok, Err, IfErr, OnOk, is_err, true, false};
-ghost use Rattle.std.specs.Io.KnownBytes.{Keeps};
+//! Requests answered: evaluation and output.
+ghost use Rattle.std.specs.Prelude.{◌≡◌, ◌≢◌, ◌⊎◌, ◌+◌, ◌++◌, ℕ, List, [], Ok, Err, IfErr, false};
 ghost use Rattle.sgb_file.specs.Devices.{change};
 ghost use Rattle.sgb_vec.specs.declared.panics.Panic.TheVariants.{NoRoom};
 ghost use Rattle.sgb_expr.specs.Expression.{expression_of};
@@ -9,14 +8,14 @@ ghost use Rattle.sgb_ops.specs.Operands.{names_of};
 ghost use Rattle.sgb.specs.Certain.{BeginsNowhereOn, IsBoard, IsCertain, IsRefusedAtOnce, NeedsNoMemory};
 ghost use Rattle.sgb.specs.inner.Certain.{HasListingAtOnce, HasNamesAtOnce};
 ghost use Rattle.sgb.specs.Outcomes.{answer_from, answer_of, list_answer, names_answer, queen_moves, queen_title, reads_input};
-ghost use Rattle.sgb.specs.Inputs.{IsKeptOfInput, LosesAtMost};
+ghost use Rattle.sgb.specs.Inputs.{LosesAtMost};
 ghost use Rattle.sgb.specs.Runs.{IsRunOn};
 ghost use Rattle.sgb.specs.Texts.{blocks, head};
 ghost use Rattle.sgb.specs.Values.{generator_value, made, most_input, value_of};
-ghost use Rattle.sgb.specs.Writing.{IsEnded, IsEndedFrom};
+ghost use Rattle.sgb.specs.Writing.{IsEnded};
 
+use crate::answers::{Answer, run_answer};
 use crate::evaluation::{graph_from, queen_moves};
-use crate::input::input_for;
 use crate::listed::{ListedBoard, ListedSimplex, ListedSubsets};
 use crate::locals::{Local, local_of};
 use crate::writing::files::write_file;
@@ -28,7 +27,7 @@ use crate::writing::vertices::write_vertex_names;
 use sgb_expr::{Expr, Generator};
 use sgb_file::{Sink, Source};
 use sgb_gen::Links;
-use sgb_requests::{Fault, Request, Resume, report};
+use sgb_requests::{Fault, Request, Resume};
 use std::alloc::Global;
 
 /// Answers a request: writes its output to `out`, or the line of a fault to `errors`, and returns the exit status. The
@@ -64,47 +63,27 @@ pub fn run<R: Source, W: Sink, E: Sink>(
     ensures bounded { LosesAtMost (most_input + 1) (R.remaining source.old)
         (R.remaining source.new) }
 {
-    match answer(alloc, request, source, out) {
-        Ok(()) => 0,
-        Err(fault) => report(&fault, errors),
+    run_answer(alloc, request, source, out, errors)
+}
+
+impl Answer for Request {
+    ghost reads = { λ r. reads_input r };
+
+    ghost answers = { λ r input a. a ≡ answer_of r input };
+
+    ghost certain = { λ r. NeedsNoMemory r };
+
+    fn reads_input(&self) -> bool {
+        match self {
+            Request::Names(expression, _) => expression.has_stdin(),
+            Request::List(expression, _) => expression.has_stdin(),
+            Request::Save(expression) => expression.has_stdin(),
+            Request::Queen | Request::Flip(_) => false,
+        }
     }
-}
 
-// Reads standard input where the request does, answers it, and passes the output on.
-fn answer<R: Source, W: Sink>(
-    alloc: Global,
-    request: &Request,
-    source: &mut R,
-    out: &mut W,
-) -> Result<(), Fault>
-    requires { W.has_failed out.old ≡ false }
-    ensures ended { (kept : List ℕ)
-        × (reads_input request.now ≡ true → IsKeptOfInput (R.remaining source.old) kept)
-        × IsEndedFrom (reads_input request.now && R.has_failed source.new)
-        (answer_of request.now kept) (out.new ≡ out.old)
-        (change W.written W.has_failed out.old out.new) result }
-    ensures certain { NeedsNoMemory request.now
-        → IfErr result (λ f. f ≢ Fault.Panic NoRoom) }
-    ensures flushed { OnOk result (W.held out.new ≡ []) }
-    ensures unread { reads_input request.now ≡ false → source.new ≡ source.old }
-    ensures bounded { LosesAtMost (most_input + 1) (R.remaining source.old)
-        (R.remaining source.new) }
-{
-    let input = input_for(alloc, request, source)?;
-    write_answer(alloc, request, input, out)?;
-    pass_on(out)
-}
-
-// Passes on what the sink holds back.
-fn pass_on<W: Sink>(out: &mut W) -> Result<(), Fault>
-    ensures kept { Keeps (W.written out.old) (W.written out.new) }
-    ensures flushed { OnOk result (W.held out.new ≡ []) }
-    ensures failed { W.has_failed out.new ≡ is_err result }
-    ensures fault { IfErr result (λ f. f ≡ Fault.Write) }
-{
-    match out.flush() {
-        Ok(()) => Ok(()),
-        Err(_) => Err(Fault::Write),
+    fn write<W: Sink>(&self, alloc: Global, input: Vec<u8>, out: &mut W) -> Result<(), Fault> {
+        write_answer(alloc, self, input, out)
     }
 }
 

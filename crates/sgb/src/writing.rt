@@ -25,8 +25,10 @@ pub(crate) mod vertices;
 use sgb_file::{Sink, put_all};
 use sgb_requests::Fault;
 
-// Writes bytes.
-fn write_bytes<W: Sink>(out: &mut W, bytes: &[u8]) -> Result<(), Fault>
+/// Writes bytes.
+///
+/// `Write` where the sink fails, with a prefix written.
+pub fn write_bytes<W: Sink>(out: &mut W, bytes: &[u8]) -> Result<(), Fault>
     requires { W.has_failed out.old ≡ false }
     ensures written { IsWritten bytes.now (change W.written W.has_failed out.old out.new) result }
     ensures fault { IfErr result (λ f. f ≡ Fault.Write) }

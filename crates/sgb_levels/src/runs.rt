@@ -1,7 +1,6 @@
 //! The program: the graph of an expression, and the lines of its vertices.
-ghost use Rattle.std.specs.Prelude.{◌≡◌, ◌<◌, ◌+◌, ◌&&◌, List, ℕ, None, Result, [], true, false, length, map, is_err, Err, IfOk, IfErr, OnOk, MatchResult};
+ghost use Rattle.std.specs.Prelude.{◌≡◌, ◌<◌, ◌+◌, None, [], false, length, map, Err, MatchResult};
 ghost use Rattle.std.specs.List.{slice_index_or};
-ghost use Rattle.std.specs.Io.KnownBytes.{Keeps};
 ghost use Rattle.std.specs.IoError.{error_kind};
 ghost use Rattle.std.specs.String.{string_bytes};
 ghost use Rattle.sgb_file.specs.Devices.{AppendsUnlessFailed, change};
@@ -9,22 +8,22 @@ ghost use Rattle.sgb_ops.specs.Operands.{names_of};
 ghost use Rattle.sgb_expr.specs.Expression.{expression_of};
 ghost use Rattle.sgb_expr.specs.StdinUses.{has_stdin};
 ghost use Rattle.sgb_requests.specs.Faults.{status_of};
-ghost use Rattle.sgb_requests.specs.declared.faults.Fault.{Fault};
-ghost use Rattle.sgb.specs.Inputs.{IsKeptOfInput, IsReadFrom, LosesAtMost};
+ghost use Rattle.sgb.specs.Inputs.{LosesAtMost};
 ghost use Rattle.sgb.specs.Program.{unread_fault};
 ghost use Rattle.sgb.specs.Values.{most_input, value_of};
-ghost use Rattle.sgb.specs.Writing.{IsEnded, IsEndedFrom, IsWritten};
+ghost use Rattle.sgb.specs.Writing.{IsWritten};
 ghost use Rattle.sgb_levels.specs.Lines.{IsLevelsAnswer, distance_text, level_line, level_lines, line_of_level};
-ghost use Rattle.sgb_levels.specs.Program.{AreLevelsWritten, AskFor, AskForNoInput, IsLevelsRun, IsRefused, refusal_line, usage_line};
+ghost use Rattle.sgb_levels.specs.Program.{AskFor, AskForNoInput, IsLevelsRun, IsRefused, refusal_line, usage_line};
 
 use crate::levels::levels;
 use itoa::Buffer;
-use sgb::{Expr, Fault, graph_of, parse_expr, read_input, report};
+use sgb::{
+    Answer, Expr, Fault, graph_of, parse_expr, report, run_answer, unread_fault, write_bytes,
+};
 use sgb_file::{Sink, Source, put_all};
 use sgb_graph::Graph;
-use sgb_vec::Panic;
 use std::alloc::Global;
-use std::io::{self, ErrorKind};
+use std::io;
 
 /// Writes the lines of the graph whose expression is the word after the program's name, or the line of a fault, and
 /// returns the exit status, as `sgb` does: 0, or 1 for a refused graph, 2 for words that are none, 3 for a device. Each
@@ -60,34 +59,8 @@ pub fn run_levels<R: Source, W: Sink, E: Sink>(
         (R.remaining source.new) }
 {
     match asked(alloc, words) {
-        Ok(expression) => run(alloc, &expression, source, out, errors),
+        Ok(expression) => run_answer(alloc, &Levels { expression }, source, out, errors),
         Err(fault) => report_refusal(&fault, errors),
-    }
-}
-
-// Answers an expression, or reports the fault that it ends with, and returns the exit status.
-fn run<R: Source, W: Sink, E: Sink>(
-    alloc: Global,
-    expression: &Expr,
-    source: &mut R,
-    out: &mut W,
-    errors: &mut E,
-) -> u8
-    requires { W.has_failed out.old ≡ false }
-    ensures written { AreLevelsWritten (expression_of expression.now)
-        (record { bytes = R.remaining source.old; failed = R.has_failed source.new })
-        (out.new ≡ out.old)
-        (change W.written W.has_failed out.old out.new)
-        (change E.written E.has_failed errors.old errors.new)
-        result }
-    ensures flushed { result ≡ 0 → W.held out.new ≡ [] }
-    ensures unread { has_stdin (expression_of expression.now) ≡ false → source.new ≡ source.old }
-    ensures bounded { LosesAtMost (most_input + 1) (R.remaining source.old)
-        (R.remaining source.new) }
-{
-    match answer(alloc, expression, source, out) {
-        Ok(()) => 0,
-        Err(fault) => report(&fault, errors),
     }
 }
 
@@ -114,44 +87,6 @@ fn report_usage<E: Sink>(errors: &mut E) -> u8
     2
 }
 
-// Reads standard input where the expression does, answers it, and passes the output on.
-fn answer<R: Source, W: Sink>(
-    alloc: Global,
-    expression: &Expr,
-    source: &mut R,
-    out: &mut W,
-) -> Result<(), Fault>
-    requires { W.has_failed out.old ≡ false }
-    ensures ended { (kept : List ℕ)
-        × (has_stdin (expression_of expression.now) ≡ true
-        → IsKeptOfInput (R.remaining source.old) kept)
-        × ((a : Result (List ℕ) Fault)
-        → IsLevelsAnswer (value_of kept (expression_of expression.now)) a
-        → IsEndedFrom (has_stdin (expression_of expression.now) && R.has_failed source.new) a
-        (out.new ≡ out.old) (change W.written W.has_failed out.old out.new) result) }
-    ensures flushed { OnOk result (W.held out.new ≡ []) }
-    ensures unread { has_stdin (expression_of expression.now) ≡ false → source.new ≡ source.old }
-    ensures bounded { LosesAtMost (most_input + 1) (R.remaining source.old)
-        (R.remaining source.new) }
-{
-    let input = input_for(alloc, expression, source)?;
-    write_answer(alloc, expression, input.as_slice(), out)?;
-    pass_on(out)
-}
-
-// Passes on what the sink holds back.
-fn pass_on<W: Sink>(out: &mut W) -> Result<(), Fault>
-    ensures kept { Keeps (W.written out.old) (W.written out.new) }
-    ensures flushed { OnOk result (W.held out.new ≡ []) }
-    ensures failed { W.has_failed out.new ≡ is_err result }
-    ensures fault { IfErr result (λ f. f ≡ Fault.Write) }
-{
-    match out.flush() {
-        Ok(()) => Ok(()),
-        Err(_) => Err(Fault::Write),
-    }
-}
-
 // The expression that the words ask for, if they could be read.
 fn asked(alloc: Global, words: io::Result<Vec<String>>) -> Result<Expr, Fault>
     ensures { MatchResult words
@@ -174,48 +109,28 @@ fn asked_by(alloc: Global, words: &[String]) -> Result<Expr, Fault>
     }
 }
 
-// The fault of words that could not be read.
-fn unread_fault(error: &io::Error) -> Fault
-    ensures { result ≡ unread_fault (error_kind error.now) }
-{
-    if error.kind() == ErrorKind::OutOfMemory {
-        Fault::Panic(Panic::NoRoom)
-    } else {
-        Fault::Usage
-    }
+// The lines of an expression's graph.
+#[derive(Drop)]
+struct Levels {
+    expression: Expr,
 }
 
-// The bytes of standard input, if the expression reads it.
-fn input_for<R: Source>(alloc: Global, expression: &Expr, source: &mut R) -> Result<Vec<u8>, Fault>
-    ensures kept { IfOk result (λ bytes. has_stdin (expression_of expression.now) ≡ true
-        → IsKeptOfInput (R.remaining source.old) bytes.items) }
-    ensures ended { IsReadFrom
-        (has_stdin (expression_of expression.now) && R.has_failed source.new) result }
-    ensures unread { has_stdin (expression_of expression.now) ≡ false → source.new ≡ source.old }
-    ensures bounded { LosesAtMost (most_input + 1) (R.remaining source.old)
-        (R.remaining source.new) }
-{
-    if !expression.has_stdin() {
-        return Ok(Vec::new(alloc));
-    }
-    read_input(alloc, source)
-}
+impl Answer for Levels {
+    ghost reads = { λ l. has_stdin (expression_of l.expression) };
 
-// Writes the lines of an expression's graph.
-fn write_answer<W: Sink>(
-    alloc: Global,
-    expression: &Expr,
-    input: &[u8],
-    out: &mut W,
-) -> Result<(), Fault>
-    requires { W.has_failed out.old ≡ false }
-    ensures { (a : Result (List ℕ) Fault)
-        → IsLevelsAnswer (value_of input.now (expression_of expression.now)) a
-        → IsEnded a (out.new ≡ out.old) (change W.written W.has_failed out.old out.new) result }
-{
-    let graph = graph_of(alloc, expression, input)?;
-    let distances = levels(alloc, &graph)?;
-    write_lines(&graph, distances.as_slice(), out)
+    ghost answers = { λ l input a. IsLevelsAnswer (value_of input (expression_of l.expression)) a };
+
+    ghost certain = { λ l. ⊥ };
+
+    fn reads_input(&self) -> bool {
+        self.expression.has_stdin()
+    }
+
+    fn write<W: Sink>(&self, alloc: Global, input: Vec<u8>, out: &mut W) -> Result<(), Fault> {
+        let graph = graph_of(alloc, &self.expression, &input)?;
+        let distances = levels(alloc, &graph)?;
+        write_lines(&graph, distances.as_slice(), out)
+    }
 }
 
 // Writes the lines of a graph's vertices.
@@ -270,12 +185,4 @@ fn write_distance<W: Sink>(distance: Option<u32>, out: &mut W) -> Result<(), Fau
         Some(d) => write_bytes(out, digits.format(d).as_bytes()),
         None => write_bytes(out, b"-"),
     }
-}
-
-// Writes bytes.
-fn write_bytes<W: Sink>(out: &mut W, bytes: &[u8]) -> Result<(), Fault>
-    requires { W.has_failed out.old ≡ false }
-    ensures { IsWritten bytes.now (change W.written W.has_failed out.old out.new) result }
-{
-    put_all(out, bytes).map_err(|_| Fault::Write)
 }

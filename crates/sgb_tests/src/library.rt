@@ -3,11 +3,12 @@ use crate::calls::words_of;
 use crate::inputs::EMPTY;
 use sgb::{
     Expr, Fault, Local, Request, graph_of, input_unread_law, list_family, parse_expr, read_input,
-    report, request, run, run_program, status,
+    report, request, run, run_answer, run_program, status, unread_fault, write_bytes,
 };
 use sgb_file::{CutSource, MemSink, MemSource};
 use sgb_gen::{Board, BoardParams, Links};
 use std::alloc::Global;
+use std::io::{Error, ErrorKind};
 use std::test::Fail;
 
 const WORDS: [&str; 2] = ["names", "complete(2)"];
@@ -70,7 +71,7 @@ fn asks_for_names(request: &Request) -> bool {
     }
 }
 
-// Whether the words make a request for names, and a run of it leaves this output and ends well.
+// Whether the words make a request for names, and a run of it leaves this output and ends well, also where it is an answer.
 fn is_answered(alloc: Global, words: &[&str], output: &[u8]) -> Result<bool, Fail> {
     let words = words_of(alloc, words)?;
     let Ok(request) = request(alloc, &words) else {
@@ -80,7 +81,10 @@ fn is_answered(alloc: Global, words: &[&str], output: &[u8]) -> Result<bool, Fai
     let mut out = MemSink::new(alloc);
     let mut errors = MemSink::new(alloc);
     let status = run(alloc, &request, &mut source, &mut out, &mut errors);
-    Ok(asks_for_names(&request) && status == 0 && out.bytes() == output)
+    let mut given = MemSink::new(alloc);
+    let other = run_answer(alloc, &request, &mut source, &mut given, &mut errors);
+    let is_run = status == 0 && out.bytes() == output;
+    Ok(asks_for_names(&request) && is_run && other == 0 && given.bytes() == output)
 }
 
 #[test]
@@ -104,6 +108,17 @@ fn is_called(alloc: Global, words: &[&str], output: &[u8]) -> Result<bool, Fail>
 fn a_call_of_the_program(rt: HostRuntime) -> Result<(), Fail> {
     assert!(rt; is_called(rt.alloc(), &WORDS, b"0\n1\n")?);
     Ok(())
+}
+
+#[test]
+fn bytes_are_written(rt: HostRuntime) {
+    let mut out = MemSink::new(rt.alloc());
+    assert!(rt; write_bytes(&mut out, b"ab").is_ok() && out.bytes() == b"ab".as_slice());
+}
+
+#[test]
+fn words_that_could_not_be_read(rt: HostRuntime) {
+    assert!(rt; unread_fault(&Error::from(ErrorKind::InvalidData)) == Fault::Usage);
 }
 
 #[test]

@@ -4,22 +4,22 @@ use Rattle.sgb_levels.proofs.runs.write_line.Goals as goal
 
 pub returns-in_err-write_bytes : goal.returns-in_err-write_bytes
 returns-in_err-write_bytes g c =
-    rw (line-parts c.args.name.now c.args.distance) (exit_cut _ _ _ _ c.from_residual.ensures.1 (cut_more _ _ _ _ c.in_err-write_bytes.ensures))
+    rw (line-parts c.args.name.now c.args.distance) (exit_cut _ _ _ _ c.from_residual.ensures.1 (cut_more _ _ _ _ c.in_err-write_bytes.ensures.written))
 
 pub returns-in_err-write_bytes-2 : goal.returns-in_err-write_bytes-2
 returns-in_err-write_bytes-2 g c =
     rw (line-parts c.args.name.now c.args.distance)
-    (exit_cut _ _ _ _ c.from_residual-in_err-write_bytes-2.ensures.1 (cut_after _ _ _ _ _ _ _ c.in_ok-write_bytes.ensures.output (cut_more _ _ _ _ c.in_err-write_bytes-2.ensures)))
+    (exit_cut _ _ _ _ c.from_residual-in_err-write_bytes-2.ensures.1 (cut_after _ _ _ _ _ _ _ c.in_ok-write_bytes.ensures.written.output (cut_more _ _ _ _ c.in_err-write_bytes-2.ensures.written)))
 
 pub returns-in_err-write_distance : goal.returns-in_err-write_distance
 returns-in_err-write_distance g c =
     rw (line-parts c.args.name.now c.args.distance)
     (exit_cut _ _ _ _ c.from_residual-in_err-write_distance.ensures.1
-    (cut_after _ _ _ _ _ _ _ c.in_ok-write_bytes.ensures.output (cut_after _ _ _ _ _ _ _ c.in_ok-write_bytes-2.ensures.output (cut_more _ _ _ _ c.in_err-write_distance.ensures))))
+    (cut_after _ _ _ _ _ _ _ c.in_ok-write_bytes.ensures.written.output (cut_after _ _ _ _ _ _ _ c.in_ok-write_bytes-2.ensures.written.output (cut_more _ _ _ _ c.in_err-write_distance.ensures))))
 
 pub returns : goal.returns
 returns g c =
     rw (line-parts c.args.name.now c.args.distance)
-    (written_after _ _ _ _ _ _ _ c.in_ok-write_bytes.ensures.output
-    (written_after _ _ _ _ _ _ _ c.in_ok-write_bytes-2.ensures.output
-    (written_after _ _ _ _ _ _ _ c.in_ok-write_distance.ensures.output c.write_bytes-3.ensures)))
+    (written_after _ _ _ _ _ _ _ c.in_ok-write_bytes.ensures.written.output
+    (written_after _ _ _ _ _ _ _ c.in_ok-write_bytes-2.ensures.written.output
+    (written_after _ _ _ _ _ _ _ c.in_ok-write_distance.ensures.output c.write_bytes-3.ensures.written)))
