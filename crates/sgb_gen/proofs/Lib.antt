@@ -90,6 +90,8 @@ pub mod OnwardStarts
 pub mod BoardWalks
 -- moves that never come home, at one look
 pub mod StraightMoves
+-- the list of a vertex, run by run
+pub mod RunsOfLists
 -- the list of a vector of a board
 pub mod ListsOfBoards
 -- the list of a vector of a simplex

@@ -3,7 +3,7 @@ use Rattle.std.proofs.Common.{◌≡◌, ℕ, zero, suc, ◌+◌, ℤ, pos, negs
 use Rattle.std.proofs.lemmas.Bool.Decides.{nat_tests}
 use Rattle.std.specs.Int.Signed.{lt_z}
 use Rattle.sgb_gen.specs.Moves.{is_bit_set}
-use Rattle.sgb_gen.specs.inner.MovedCoordinates.{parts_from, parts_of}
+use Rattle.sgb_gen.specs.MovedCoordinates.{parts_from, parts_of}
 use Rattle.sgb_gen.specs.inner.Moves.{leads_onward}
 
 -- the first of these parts goes ahead, on a side that does not wrap around

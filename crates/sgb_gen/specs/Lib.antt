@@ -16,6 +16,10 @@ pub mod Simplexes
 pub mod Subsets
 -- the list of arcs of one vertex
 pub mod LocalLists
+-- displacements by the coordinates that they move
+pub mod MovedCoordinates
+-- the list of a board's vertex, run by run
+pub mod Runs
 -- the short names
 pub mod Shorthands
 -- what only private contracts and proofs speak of

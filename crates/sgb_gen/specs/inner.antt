@@ -22,8 +22,8 @@ pub mod Moves
 pub mod Simplexes
 -- what the parameters of accepted subsets keep
 pub mod Subsets
--- displacements by the coordinates that they move
-pub mod MovedCoordinates
+-- a list that is had run by run
+pub mod StraightLists
 -- lists of one width, one after another
 pub mod Tables
 -- from how many places a piece moves by a displacement, at one length

@@ -3,6 +3,6 @@ mod boards;
 mod simplexes;
 mod subsets;
 
-pub use boards::{Board, BoardLists};
+pub use boards::{Board, BoardLists, Run, Runs};
 pub use simplexes::Simplex;
 pub use subsets::{Subsets, common};

@@ -28,7 +28,7 @@ mod vector_graphs;
 // The vectors of a family, found by search.
 mod vector_tables;
 
-pub use accepted::{Board, BoardLists, Simplex, Subsets, common};
+pub use accepted::{Board, BoardLists, Run, Runs, Simplex, Subsets, common};
 pub use generators::{board, simplex, subsets};
 pub use laws::{
     displacements_have_their_norm, moves_stay_on_board, moves_turn_back, riders_stop,

@@ -2,7 +2,7 @@
 ghost use Rattle.std.specs.Prelude.{◌≡◌, ◌≢◌, ◌<◌, pos, true, [], ◌∷◌, ◌++◌, ◌*◌, ◌≤◌, length, take, drop, reverse, slice_get, Some, All, OnOk, OnErr, IsOkUnless};
 ghost use Rattle.sgb_gen.specs.LocalLists.{LinksData, LocalArc};
 ghost use Rattle.sgb_gen.specs.inner.LocalArcs.{rows_turned};
-ghost use Rattle.sgb_gen.specs.inner.MovedCoordinates.{parts_put};
+ghost use Rattle.sgb_gen.specs.MovedCoordinates.{parts_put};
 ghost use Rattle.sgb_vec.specs.Lexicographic.{IsBelow};
 ghost use Rattle.sgb_gen.specs.Simplexes.{can_move_unit, unit_moved};
 

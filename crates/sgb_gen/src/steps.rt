@@ -1,7 +1,7 @@
 //! Displacements with the coordinates that they move.
 ghost use Rattle.std.specs.Prelude.{◌≡◌, ◌<◌, ◌≤◌, length, All, IfSome, if◌then◌else◌};
 ghost use Rattle.sgb_vec.specs.Limits.{most_dimensions};
-ghost use Rattle.sgb_gen.specs.inner.MovedCoordinates.{parts_of};
+ghost use Rattle.sgb_gen.specs.MovedCoordinates.{parts_of};
 
 use arrayvec::ArrayVec;
 use std::alloc::Global;
@@ -22,7 +22,7 @@ pub(crate) struct Step<'a> {
 
 impl<'a> Model for Step<'a> {
     ghost use Rattle.std.specs.Prelude.{◌≡◌, List, ℤ};
-    ghost use Rattle.sgb_gen.specs.inner.MovedCoordinates.{parts_of};
+    ghost use Rattle.sgb_gen.specs.MovedCoordinates.{parts_of};
 
     ghost Value = { List ℤ };
 
@@ -45,6 +45,13 @@ impl<'a> Step<'a> {
         ensures { result.now ≡ self.now }
     {
         self.entries
+    }
+
+    /// The coordinates that it moves, for as long as they are kept.
+    pub(crate) fn into_parts(self) -> &'a [Part]
+        ensures { result.now ≡ parts_of self.entry }
+    {
+        self.parts
     }
 
     /// The coordinates that it moves.
@@ -75,7 +82,7 @@ pub(crate) struct KeptStep {
 
 impl Model for KeptStep {
     ghost use Rattle.std.specs.Prelude.{◌≡◌, List, ℤ};
-    ghost use Rattle.sgb_gen.specs.inner.MovedCoordinates.{parts_of};
+    ghost use Rattle.sgb_gen.specs.MovedCoordinates.{parts_of};
 
     ghost Value = { List ℤ };
 

@@ -14,6 +14,7 @@ ghost use Rattle.sgb_gen.specs.inner.Moves.{destination, longest_move};
 mod board_lists;
 mod counts;
 mod lists;
+mod runs;
 
 use crate::displacements::Displacements;
 use crate::moves::{destination, entry_bounds};
@@ -21,6 +22,7 @@ use crate::params::BoardParams;
 use crate::steps::{Parts, Step, put_parts_of};
 use crate::vector_graphs::{put_coordinates, vector_names};
 pub use board_lists::BoardLists;
+pub use runs::{Run, Runs};
 use sgb_graph::{Graph, Id, IdWriter};
 use sgb_vec::{BoxFamily, Family, Panic, Shape, Vector, Vectors, board_sizes};
 use std::alloc::Global;

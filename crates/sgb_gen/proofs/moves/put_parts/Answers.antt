@@ -1,7 +1,7 @@
 use Rattle.std.proofs.Common.{◌≡◌, ◌+◌, ℤ, drop, w32, w64, to_z, of_z, set, ap, ◌∙◌, arith, rules, length-set}
 use Rattle.std.proofs.lemmas.Int.{to_z-of_z}
 use Rattle.std.specs.Option.{unwrap_or}
-use Rattle.sgb_gen.specs.inner.MovedCoordinates.{part_at, parts_put}
+use Rattle.sgb_gen.specs.MovedCoordinates.{part_at, parts_put}
 use Rattle.sgb_gen.proofs.PartReaches.{part_of, put_more}
 use Rattle.sgb_gen.proofs.moves.put_parts.Goals as goal
 

@@ -1,5 +1,5 @@
 use Rattle.std.proofs.Common.{◌≡◌, drop, length}
-use Rattle.sgb_gen.specs.inner.MovedCoordinates.{parts_put}
+use Rattle.sgb_gen.specs.MovedCoordinates.{parts_put}
 use Rattle.sgb_gen.proofs.moves.put_parts.Given as goal
 
 -- those from this one on are still to be put

@@ -1,5 +1,5 @@
 use Rattle.std.proofs.Common.{◌≡◌, ◌≤◌, ◌++◌, drop, length}
-use Rattle.sgb_gen.specs.inner.MovedCoordinates.{parts_from, parts_of}
+use Rattle.sgb_gen.specs.MovedCoordinates.{parts_from, parts_of}
 use Rattle.sgb_gen.proofs.steps.put_parts_of.Given as goal
 
 -- those of the entries from this one on are still to come

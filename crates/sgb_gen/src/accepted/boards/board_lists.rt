@@ -9,6 +9,7 @@ ghost use Rattle.sgb_gen.specs.inner.EntryBounds.{displacements_within, entry_bo
 ghost use Rattle.sgb_gen.specs.inner.LocalBoards.{arcs_onward};
 
 use super::Board;
+use super::runs::lead_onward;
 use crate::displacement_tables::DisplacementTable;
 use crate::links::Links;
 use sgb_vec::{Family, Panic, Vector};
@@ -18,15 +19,19 @@ use std::marker::Model;
 /// Contracts see it as its board.
 #[derive(Drop)]
 pub struct BoardLists<'a> {
-    board: &'a Board,
+    pub(super) board: &'a Board,
     // The displacements by which the piece can move, where they are few.
-    table: Option<DisplacementTable>,
+    pub(super) table: Option<DisplacementTable>,
+    // Whether all of these lead to later vectors.
+    pub(super) straight: bool,
     // Room for a vector.
     there: Vector,
 }
 
 impl<'a> Model for BoardLists<'a> {
     ghost use Rattle.std.specs.Prelude.{◌≡◌, nat_abs, IfSome};
+    ghost use Rattle.std.specs.Bool.{OnTrue};
+    ghost use Rattle.sgb_gen.specs.inner.StraightLists.{AreOnward};
     ghost use Rattle.sgb_gen.specs.Boards.{BoardData};
     ghost use Rattle.sgb_gen.specs.Moves.{sides_of};
     ghost use Rattle.sgb_gen.specs.inner.EntryBounds.{displacements_within, entry_bounds};
@@ -37,7 +42,8 @@ impl<'a> Model for BoardLists<'a> {
 
     ghost invariant = { λ b. IfSome b.table (λ d. d
         ≡ displacements_within (nat_abs b.board.now.piece)
-        (entry_bounds (nat_abs b.board.now.piece) (sides_of b.board.now.sizes b.board.now.wrap))) };
+        (entry_bounds (nat_abs b.board.now.piece) (sides_of b.board.now.sizes b.board.now.wrap)))
+        × OnTrue b.straight (IfSome b.table (AreOnward b.board.now.wrap)) };
 }
 
 impl Board {
@@ -48,9 +54,11 @@ impl Board {
         ensures { result ≡ self.now }
     {
         let table = DisplacementTable::new(links.alloc(), self.family.dims(), self.displacements());
+        let straight = lead_onward(self.wrap, &table);
         BoardLists {
             board: self,
             table,
+            straight,
             there: Vector::new(),
         }
     }

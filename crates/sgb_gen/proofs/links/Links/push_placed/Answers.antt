@@ -3,7 +3,7 @@ use Rattle.std.specs.Vec.{vec_len}
 use Rattle.std.proofs.lemmas.Int.{to_z-of_z}
 use Rattle.std.proofs.lemmas.List.Elements.{length_all_zip}
 use Rattle.sgb_gen.specs.inner.LocalArcs.{arcs_in}
-use Rattle.sgb_gen.specs.inner.MovedCoordinates.{parts_put}
+use Rattle.sgb_gen.specs.MovedCoordinates.{parts_put}
 use Rattle.sgb_gen.proofs.LinkRows.{arcs_in-push, last_moved, last_row, rows-push}
 use Rattle.sgb_gen.proofs.MovedCoordinates.{length-put}
 use Rattle.sgb_gen.proofs.links.Links.push_placed.Goals as goal

@@ -1,6 +1,6 @@
 use Rattle.std.proofs.Common.{◌<◌, ℕ, ℤ, List, length, sym, subst, ap, ◌∙◌}
 use Rattle.std.specs.List.{All}
-use Rattle.sgb_gen.specs.inner.MovedCoordinates.{parts_of}
+use Rattle.sgb_gen.specs.MovedCoordinates.{parts_of}
 use Rattle.sgb_gen.proofs.MovedCoordinates.{parts_within}
 use Rattle.sgb_gen.proofs.steps.Step.parts.Goals as goal
 

@@ -1,0 +1,34 @@
+use Rattle.std.proofs.Common.{◌≡◌, ◌≤◌, ◌∙◌, nat_abs, List, ℤ, reverse, length, sym, ap, subst, arith, rules}
+use Rattle.std.specs.Prelude.{IfSome}
+use Rattle.std.proofs.lemmas.List.{take_all}
+use Rattle.sgb_vec.specs.Lexicographic.{IsBelow}
+use Rattle.sgb_vec.proofs.BoxPlaces.{IsBelow-from_Contains}
+use Rattle.sgb_vec.specs.Boxes.{box}
+use Rattle.sgb_gen.specs.Boards.{moves_of_board}
+use Rattle.sgb_gen.specs.LocalLists.{list_at}
+use Rattle.sgb_gen.specs.Moves.{sides_of}
+use Rattle.sgb_gen.specs.inner.EntryBounds.{displacements_within, entry_bounds}
+use Rattle.sgb_gen.specs.inner.LocalBoards.{arcs_onward}
+use Rattle.sgb_gen.specs.inner.StraightLists.{AreOnward, arcs_by_all}
+use Rattle.sgb_gen.proofs.BoundedMoves.{moves_within}
+use Rattle.sgb_gen.proofs.ListsOfBoards.{list_of_board}
+use Rattle.sgb_gen.proofs.accepted.boards.board_lists.BoardLists.runs.Goals as goal
+
+pub invariant_of-result : goal.invariant_of-result
+invariant_of-result c =
+    let b = c.self.inside.board.now in
+    let kept = subst (λ o. IfSome o (λ d. d ≡ displacements_within (nat_abs b.piece) (entry_bounds (nat_abs b.piece) (sides_of b.sizes b.wrap)))) c.in-Some.is c.self.invariant.0 in
+    let onward = subst (λ o. IfSome o (AreOnward b.wrap)) c.in-Some.is (rw c.if-not-self.false at c.self.invariant.1) in
+    let below : IsBelow c.args.x.now b.sizes = IsBelow-from_Contains b.sizes c.args.x.now (search rules) in
+    (omega (arith, c.len.ensures), kept, onward, below)
+
+pub returns-in-Some-clause-arcs : goal.returns-in-Some-clause-arcs
+returns-in-Some-clause-arcs c =
+    let b = c.self.inside.board.now in
+    let x = c.args.x.now in
+    let table = c.in-Some.table in
+    let kept = subst (λ o. IfSome o (λ d. d ≡ displacements_within (nat_abs b.piece) (entry_bounds (nat_abs b.piece) (sides_of b.sizes b.wrap)))) c.in-Some.is c.self.invariant.0 in
+    ap (arcs_by_all b x) (take_all c.len.result table (omega (arith, c.len.ensures)) ∙ kept)
+    ∙ ap (λ ms. reverse (arcs_onward b.directed x ms)) (moves_within b)
+    ∙ sym (list_of_board b x (search rules))
+    ∙ ap (λ d. list_at d.directed (box d.sizes) (moves_of_board d) x) c.self.view_is

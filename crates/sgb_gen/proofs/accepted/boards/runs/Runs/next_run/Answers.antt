@@ -1,0 +1,51 @@
+use Rattle.std.proofs.Common.{◌≡◌, ◌<◌, ◌+◌, ◌-◌, ◌++◌, ◌∙◌, ℕ, neg_ℤ, true, length, reverse, take, sym, ap, ap₂, subst, arith}
+use Rattle.std.proofs.lemmas.List.{length-map}
+use Rattle.sgb_vec.proofs.BoxPlaces.{IsBelow-length}
+use Rattle.sgb_gen.specs.Moves.{opposite}
+use Rattle.sgb_gen.specs.Runs.{AreMoved, arcs_along, arcs_of_run}
+use Rattle.sgb_gen.specs.inner.Moves.{leads_onward}
+use Rattle.sgb_gen.specs.inner.StraightLists.{arcs_by_all}
+use Rattle.sgb_gen.proofs.RunsOfLists.{at_has, next_run_first, width_in_table}
+use Rattle.sgb_gen.proofs.accepted.boards.runs.Runs.next_run.Goals as goal
+
+pub run_by-run-requires-clause-dimensions : goal.run_by-run-requires-clause-dimensions
+run_by-run-requires-clause-dimensions c =
+    width_in_table c.self.inside.board.now c.self.inside.table.now (c.self.inside.left - 1) c.at.result.now c.self.invariant.1 c.at.ensures
+
+pub run_by-run-requires-clause-onward : goal.run_by-run-requires-clause-onward
+run_by-run-requires-clause-onward c =
+    at_has (λ t. leads_onward c.self.inside.board.now.wrap 0 t ≡ true) c.self.inside.table.now (c.self.inside.left - 1) c.at.result.now c.self.invariant.2 c.at.ensures
+
+pub returns-clause-arcs : goal.returns-clause-arcs
+returns-clause-arcs c =
+    let b = c.self.inside.board.now in
+    let x = c.self.inside.x.now in
+    let table = c.self.inside.table.now in
+    let k = c.self.inside.left - 1 in
+    let t = c.at.result.now in
+    let run = c.run_by-run.result in
+    let rest = arcs_by_all b x (take k table) in
+    let some : 0 < c.self.inside.left = subst (λ d. 0 < d.runs) (sym c.self.view_is) c.requires in
+    let last : c.self.inside.left ≡ k + 1 = omega (arith, some) in
+    let long = width_in_table b table k t c.self.invariant.1 c.at.ensures in
+    let onward = at_has (λ u. leads_onward b.wrap 0 u ≡ true) table k t c.self.invariant.2 c.at.ensures in
+    let ahead = c.run_by-run.ensures.farthest ∙ ap (λ ps. arcs_along b.sizes b.wrap x ps run.farthest) (sym c.run_by-run.ensures.ahead) in
+    let back = c.run_by-run.ensures.farthest_back ∙ ap (λ ps. arcs_along b.sizes b.wrap x ps run.farthest_back) (sym c.run_by-run.ensures.back) in
+    subst (λ d. d.arcs ≡ arcs_of_run d run.ahead.now run.farthest run.back.now run.farthest_back ++ rest) c.self.view_is
+    (ap (λ (n : ℕ). arcs_by_all b x (take n table)) last
+    ∙ next_run_first b x table k t c.at.ensures c.self.invariant.3 long onward
+    ∙ ap₂ (λ p q. reverse p ++ q ++ rest) ahead back)
+
+pub returns-clause-ahead : goal.returns-clause-ahead
+returns-clause-ahead c =
+    let b = c.self.inside.board.now in
+    let long = width_in_table b c.self.inside.table.now (c.self.inside.left - 1) c.at.result.now c.self.invariant.1 c.at.ensures in
+    subst (λ d. AreMoved (length d.x) c.run_by-run.result.ahead.now) c.self.view_is
+    (c.at.result.now, long ∙ sym (IsBelow-length b.sizes c.self.inside.x.now c.self.invariant.3), c.run_by-run.ensures.ahead)
+
+pub returns-clause-back : goal.returns-clause-back
+returns-clause-back c =
+    let b = c.self.inside.board.now in
+    let long = width_in_table b c.self.inside.table.now (c.self.inside.left - 1) c.at.result.now c.self.invariant.1 c.at.ensures in
+    subst (λ d. AreMoved (length d.x) c.run_by-run.result.back.now) c.self.view_is
+    (opposite c.at.result.now, length-map c.at.result.now neg_ℤ ∙ long ∙ sym (IsBelow-length b.sizes c.self.inside.x.now c.self.invariant.3), c.run_by-run.ensures.back)

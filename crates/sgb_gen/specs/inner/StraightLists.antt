@@ -1,0 +1,25 @@
+-- The list of a board's vertex, of which the arcs by the last displacements are taken.
+use Rattle.std.specs.Prelude.{◌≡◌, ℕ, ℤ, true, List, [], reverse, map, if◌then◌else◌}
+use Rattle.std.specs.List.{All, flat_map}
+use Rattle.sgb_vec.specs.Boxes.{box}
+use Rattle.sgb_gen.specs.Boards.{BoardData}
+use Rattle.sgb_gen.specs.LocalLists.{LocalArc}
+use Rattle.sgb_gen.specs.Moves.{moves_from, sides_of}
+use Rattle.sgb_gen.specs.inner.LocalBoards.{arcs_onward, move_arc, moves_by}
+use Rattle.sgb_gen.specs.inner.Moves.{leads_onward}
+
+-- the arcs of x by these displacements, those by later moves first
+abbrev pub arcs_by_all : BoardData → List ℕ → List (List ℤ) → List LocalArc
+arcs_by_all b x ts = reverse (arcs_onward b.directed x (flat_map (moves_by (sides_of b.sizes b.wrap) b.piece (box b.sizes)) ts))
+
+-- the arcs of x by the moves from it by this displacement, the shortest first
+abbrev pub arcs_from : BoardData → List ℕ → List ℤ → List LocalArc
+arcs_from b x t = map move_arc (moves_from (sides_of b.sizes b.wrap) b.piece x t)
+
+-- the same where edges come back, and none where there are arcs alone
+abbrev pub arcs_back : BoardData → List ℕ → List ℤ → List LocalArc
+arcs_back b x t = if b.directed then [] else arcs_from b x t
+
+-- all of these lead onward
+abbrev pub AreOnward : ℤ → List (List ℤ) → Type 0
+AreOnward wrap ts = All (λ t. leads_onward wrap 0 t ≡ true) ts

@@ -1,0 +1,223 @@
+//! The list of a board's vertex where all displacements lead onward, run by run: no list is kept.
+ghost use Rattle.std.specs.Prelude.{◌≡◌, ◌++◌, ◌<◌, ◌≤◌, ◌-◌, ℕ, [], length, nat_abs, true, Contains, IfSome, unwrap_or};
+ghost use Rattle.std.specs.Bool.{OnTrue};
+ghost use Rattle.sgb_vec.specs.Boxes.{box};
+ghost use Rattle.sgb_vec.specs.Lexicographic.{IsBelow};
+ghost use Rattle.sgb_gen.specs.Boards.{moves_of_board};
+ghost use Rattle.sgb_gen.specs.LocalLists.{list_at};
+ghost use Rattle.sgb_gen.specs.MovedCoordinates.{part_at, parts_of};
+ghost use Rattle.sgb_gen.specs.Moves.{opposite, place, sides_of};
+ghost use Rattle.sgb_gen.specs.Runs.{AreMoved, arcs_along, arcs_of_run};
+ghost use Rattle.sgb_gen.specs.inner.Moves.{destination, leads_onward};
+ghost use Rattle.sgb_gen.specs.inner.StraightLists.{AreOnward, arcs_back, arcs_from};
+
+use super::Board;
+use super::board_lists::BoardLists;
+use crate::displacement_tables::{DisplacementTable, KeptPair};
+use crate::moves::{leads_onward, part_at, reach};
+use crate::steps::Step;
+use std::marker::Model;
+
+/// The arcs of a vertex by a displacement and its opposite: those ahead, of the lengths from `farthest` down to 1, and then
+/// those back, of the lengths from 1 up to `farthest_back`. Each coordinate that is moved stands with how far it goes for
+/// each unit of length.
+#[derive(Drop)]
+pub struct Run<'b> {
+    /// The coordinates that are moved ahead.
+    pub ahead: &'b [(usize, i32)],
+    /// The greatest length of an arc ahead.
+    pub farthest: u32,
+    /// The same coordinates, moved back.
+    pub back: &'b [(usize, i32)],
+    /// The greatest length of an arc back, or 0.
+    pub farthest_back: u32,
+}
+
+/// What is left of the list of a board's vertex.
+#[derive(Drop)]
+pub struct Runs<'b> {
+    board: &'b Board,
+    table: &'b DisplacementTable,
+    x: &'b [u32],
+    left: usize,
+}
+
+impl<'b> Model for Runs<'b> {
+    ghost use Rattle.std.specs.Prelude.{◌≡◌, ◌≤◌, length, nat_abs, take};
+    ghost use Rattle.sgb_vec.specs.Lexicographic.{IsBelow};
+    ghost use Rattle.sgb_gen.specs.Moves.{sides_of};
+    ghost use Rattle.sgb_gen.specs.Runs.{RunsData};
+    ghost use Rattle.sgb_gen.specs.inner.EntryBounds.{displacements_within, entry_bounds};
+    ghost use Rattle.sgb_gen.specs.inner.StraightLists.{AreOnward, arcs_by_all};
+
+    ghost Value = { RunsData };
+
+    ghost view = { λ r. record {
+      sizes = r.board.now.sizes;
+      wrap = r.board.now.wrap;
+      x = r.x.now;
+      runs = r.left;
+      arcs = arcs_by_all r.board.now r.x.now (take r.left r.table.now);
+    } };
+
+    ghost invariant = { λ r. (r.left ≤ length r.table.now)
+        × (r.table.now ≡ displacements_within (nat_abs r.board.now.piece)
+        (entry_bounds (nat_abs r.board.now.piece) (sides_of r.board.now.sizes r.board.now.wrap)))
+        × AreOnward r.board.now.wrap r.table.now
+        × IsBelow r.x.now r.board.now.sizes };
+}
+
+impl<'b> Runs<'b> {
+    /// How many runs are left.
+    pub fn len(&self) -> usize
+        ensures count { result ≡ self.now.runs }
+        ensures none { result ≡ 0 → self.now.arcs ≡ [] }
+    {
+        self.left
+    }
+
+    /// The next run, where one is left.
+    pub fn next_run(&mut self) -> Run<'b>
+        requires { 0 < self.old.runs }
+        ensures arcs { self.old.arcs ≡ arcs_of_run self.old result.ahead.now result.farthest
+            result.back.now result.farthest_back ++ self.new.arcs }
+        ensures left { self.new ≡ record self.old {
+          runs = self.old.runs - 1;
+          arcs = self.new.arcs;
+        } }
+        ensures ahead { AreMoved (length self.old.x) result.ahead.now }
+        ensures back { AreMoved (length self.old.x) result.back.now }
+    {
+        let k = self.left - 1;
+        let run = self.board.run_by(self.x, self.table.at(k));
+        self.left = k;
+        run
+    }
+
+    /// Where this coordinate leads at length `l`, where it moves so far for each unit of length.
+    pub fn entry_at(&self, k: usize, amount: i32, l: u32) -> u32
+        requires { k < length self.now.x }
+        ensures { result ≡ unwrap_or (part_at self.now.sizes self.now.wrap self.now.x l (k, amount))
+            0 }
+    {
+        self.board.entry_at(self.x, k, amount, l)
+    }
+}
+
+impl Board {
+    // Where this coordinate of `x` leads at length `l`, where it moves so far for each unit of length; 0 where that is off the
+    // board.
+    fn entry_at(&self, x: &[u32], k: usize, amount: i32, l: u32) -> u32
+        requires below { IsBelow x.now self.now.sizes }
+        requires within { k < length self.now.sizes }
+        ensures { result ≡ unwrap_or (part_at self.now.sizes self.now.wrap x.now l (k, amount)) 0 }
+    {
+        part_at(self.shape.sizes(), self.wrap, x, l, k, amount).unwrap_or(0)
+    }
+
+    // The run of `x` by a displacement and its opposite.
+    fn run_by<'b>(&self, x: &[u32], pair: &'b KeptPair) -> Run<'b>
+        requires below { IsBelow x.now self.now.sizes }
+        requires dimensions { length pair.now ≡ length self.now.sizes }
+        requires onward { leads_onward self.now.wrap 0 pair.now ≡ true }
+        ensures ahead { result.ahead.now ≡ parts_of pair.now }
+        ensures farthest { arcs_from self.now x.now pair.now ≡ arcs_along self.now.sizes
+            self.now.wrap x.now (parts_of pair.now) result.farthest }
+        ensures back { result.back.now ≡ parts_of (opposite pair.now) }
+        ensures farthest_back { arcs_back self.now x.now (opposite pair.now) ≡ arcs_along
+            self.now.sizes self.now.wrap x.now (parts_of (opposite pair.now))
+            result.farthest_back }
+    {
+        let ahead = pair.ahead();
+        let back = pair.back();
+        Run {
+            farthest: self.farthest(x, &ahead),
+            farthest_back: self.farthest_back(x, &back),
+            ahead: ahead.into_parts(),
+            back: back.into_parts(),
+        }
+    }
+
+    // How far the moves from `x` by `t` lead, where these never come home.
+    fn farthest(&self, x: &[u32], t: &Step) -> u32
+        requires below { IsBelow x.now self.now.sizes }
+        requires dimensions { length t.now ≡ length self.now.sizes }
+        requires away { (l : ℕ) → 0 < l
+            → destination (sides_of self.now.sizes self.now.wrap) self.now.piece x.now t.now l
+            ≡ place (sides_of self.now.sizes self.now.wrap) x.now t.now l }
+        ensures { arcs_from self.now x.now t.now ≡ arcs_along self.now.sizes self.now.wrap x.now
+            (parts_of t.now) result }
+    {
+        reach(
+            self.shape.sizes(),
+            self.wrap,
+            x,
+            t.parts(),
+            self.longest_move(),
+        )
+    }
+
+    // How far edges lead back: not at all where there are arcs alone.
+    fn farthest_back(&self, x: &[u32], t: &Step) -> u32
+        requires below { IsBelow x.now self.now.sizes }
+        requires dimensions { length t.now ≡ length self.now.sizes }
+        requires away { (l : ℕ) → 0 < l
+            → destination (sides_of self.now.sizes self.now.wrap) self.now.piece x.now t.now l
+            ≡ place (sides_of self.now.sizes self.now.wrap) x.now t.now l }
+        ensures { arcs_back self.now x.now t.now ≡ arcs_along self.now.sizes self.now.wrap x.now
+            (parts_of t.now) result }
+    {
+        if self.directed {
+            return 0;
+        }
+        self.farthest(x, t)
+    }
+}
+
+impl<'a> BoardLists<'a> {
+    /// The list of the vertex of `x`, which is a vector of the board, run by run: where the displacements are in a table, and
+    /// each leads to later vectors, as all do on a board with no side that wraps around. `None` where one may not.
+    pub fn runs<'b>(&'b self, x: &'b [u32]) -> Option<Runs<'b>>
+        requires { Contains (box self.now.sizes) x.now }
+        ensures sizes { IfSome result (λ r. r.sizes ≡ self.now.sizes) }
+        ensures wrap { IfSome result (λ r. r.wrap ≡ self.now.wrap) }
+        ensures vector { IfSome result (λ r. r.x ≡ x.now) }
+        ensures arcs { IfSome result (λ r. r.arcs ≡ list_at self.now.directed (box self.now.sizes)
+            (moves_of_board self.now) x.now) }
+    {
+        if !self.straight {
+            return None;
+        }
+        match &self.table {
+            Some(table) => Some(Runs {
+                board: self.board,
+                table,
+                x,
+                left: table.len(),
+            }),
+            None => None,
+        }
+    }
+}
+
+/// Whether there are displacements in a table, and all of them lead onward.
+pub(super) fn lead_onward(wrap: i64, table: &Option<DisplacementTable>) -> bool
+    ensures { OnTrue result (IfSome table.now (AreOnward wrap)) }
+{
+    match table {
+        Some(table) => all_lead_onward(wrap, table),
+        None => false,
+    }
+}
+
+// Whether all displacements lead onward.
+fn all_lead_onward(wrap: i64, table: &DisplacementTable) -> bool
+    ensures { OnTrue result (AreOnward wrap table.now) }
+{
+    for k in 0..table.len() {
+        if !leads_onward(wrap, &table.at(k).ahead()) {
+            return false;
+        }
+    }
+    true
+}
