@@ -1,5 +1,5 @@
 -- Refusals that come before memory is taken.
-use Rattle.std.proofs.Common.{◌≡◌, ◌≢◌, ◌<◌, ◌≤◌, ◌⊎◌, ◌∙◌, ℕ, ℤ, List, [], true, false, length, nat_le, Result, Ok, Err, IfErr, inl, inr, refl, sym, ap, subst, arith}
+use Rattle.std.proofs.Common.{◌≡◌, ◌≢◌, ◌∙◌, ℕ, ℤ, List, true, false, length, nat_le, Result, Ok, Err, IfErr, inl, inr, sym, ap, subst, arith}
 use Rattle.std.specs.Result.{IsErrAnd}
 use Rattle.std.proofs.lemmas.Bool.{leb-true, leb-false}
 use Rattle.std.proofs.lemmas.Result.{err_from_is_err_and}

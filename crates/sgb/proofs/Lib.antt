@@ -35,6 +35,10 @@ pub mod LocalChains
 pub mod LocalListings
 -- names of vectors, entry by entry
 pub mod NameEntries
+-- names of vectors of which some entries are moved
+pub mod MovedNames
+-- lines of arcs, run by run
+pub mod RunLines
 -- the first vertex of a name
 pub mod Named
 -- members of a family by their names

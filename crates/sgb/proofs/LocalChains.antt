@@ -1,19 +1,17 @@
 -- The lists of a generator's graph, by the arcs of its vectors.
-use Rattle.std.proofs.Common.{◌≡◌, ◌∙◌, ◌<◌, ℕ, suc, ℤ, Bool, true, false, min, max, List, [], ◌∷◌, length, map, get_or, Some, refl, sym, ap, ap₂, subst, arith}
+use Rattle.std.proofs.Common.{◌≡◌, ◌∙◌, ◌<◌, ℕ, suc, Bool, true, false, min, max, List, [], ◌∷◌, length, map, get_or, Some, refl, sym, ap, ap₂, subst, arith}
 use Rattle.std.specs.List.{All, Contains, slice_get}
-use Rattle.std.proofs.lemmas.List.Elements.{All-cons, All-head, All-nil, All-tail}
+use Rattle.std.proofs.lemmas.List.Elements.{All-cons, All-nil}
 use Rattle.std.proofs.lemmas.Option.{get_or_from_slice_get, slice_get-get_or, slice_get_within}
-use Rattle.sgb_vec.specs.Boxes.{box}
 use Rattle.sgb_vec.specs.Lexicographic.{IsRising}
 use Rattle.sgb_vec.proofs.FamilyLaws.{box_vectors_rise, sum_vectors_rise}
-use Rattle.sgb_vec.proofs.BoxPlaces.{IsBelow-from_Contains}
 use Rattle.sgb_vec.proofs.Lists.{All-flat_map}
 use Rattle.sgb_graph.specs.Events.{Event, HasEndsBelow, Record, all_records, list_of, records_of}
 use Rattle.sgb_graph.specs.Graphs.{GraphData, chain_of}
 use Rattle.sgb_graph.specs.Made.{graph_described}
 use Rattle.sgb_graph.specs.declared.fields.Link.{Link}
 use Rattle.sgb_graph.proofs.ListMembers.{only_on_list}
-use Rattle.sgb_gen.specs.Boards.{BoardData, board_graph, board_id, board_vectors, moves_of_board}
+use Rattle.sgb_gen.specs.Boards.{board_graph, board_id, board_vectors, moves_of_board}
 use Rattle.sgb_gen.specs.LocalLists.{LocalArc, list_at, local_arc}
 use Rattle.sgb_gen.specs.Simplexes.{moves_of_simplex, simplex_graph, simplex_id, simplex_vectors}
 use Rattle.sgb_gen.specs.Subsets.{moves_of_subsets, subsets_graph, subsets_id, subsets_vectors}

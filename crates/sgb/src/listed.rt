@@ -1,5 +1,5 @@
 //! What a listing asks of a generator's graph beside its vectors, with no graph: for each generator in a type of its own.
-ghost use Rattle.std.specs.Prelude.{◌≡◌, Contains, IfOk, OnOk, IsOkUnless};
+ghost use Rattle.std.specs.Prelude.{◌≡◌, Contains, IfOk, IfSome, OnOk, IsOkUnless};
 ghost use Rattle.sgb_gen.specs.Boards.{BoardData};
 ghost use Rattle.sgb_gen.specs.VectorGraphs.{vertex_among};
 ghost use Rattle.sgb_graph.specs.Made.{graph_described};
@@ -8,7 +8,7 @@ ghost use Rattle.sgb.specs.Values.{described};
 ghost use Rattle.sgb.specs.declared.locals.Local.{Local};
 ghost use Rattle.sgb.specs.declared.locals.Local.TheVariants as local;
 
-use sgb_gen::{Board, BoardLists, Links, Simplex, Subsets};
+use sgb_gen::{Board, BoardLists, Links, Runs, Simplex, Subsets};
 use sgb_graph::Id;
 use sgb_vec::Panic;
 use std::marker::Model;
@@ -38,6 +38,12 @@ pub trait Listed {
         ensures ok { OnOk result (links.new.arcs ≡ links_of (parameters self.old) x.now) }
         ensures memory { IsOkUnless result Panic.NoRoom }
         ensures same { parameters self.new ≡ parameters self.old };
+
+    /// The list of the vertex of `x` run by run, where it can be had so: no list is then made. No memory is taken.
+    fn runs<'b>(&'b self, x: &'b [u32]) -> Option<Runs<'b>>
+        requires { Contains (vectors_of (parameters self.now)) x.now }
+        ensures vector { IfSome result (λ r. r.x ≡ x.now) }
+        ensures arcs { IfSome result (λ r. r.arcs ≡ links_of (parameters self.now) x.now) };
 
     /// The vertex of a vector: its place among the vectors, counted from 0. No memory is taken.
     fn place_of(&self, x: &[u32]) -> u32
@@ -88,6 +94,10 @@ impl<'a> Listed for ListedBoard<'a> {
         self.lists.arcs_at(x, links)
     }
 
+    fn runs<'b>(&'b self, x: &'b [u32]) -> Option<Runs<'b>> {
+        self.lists.runs(x)
+    }
+
     fn place_of(&self, x: &[u32]) -> u32 {
         self.board.family().place_of(x)
     }
@@ -115,6 +125,10 @@ impl<'a> Listed for ListedSimplex<'a> {
         self.simplex.arcs_at(x, links)
     }
 
+    fn runs<'b>(&'b self, _x: &'b [u32]) -> Option<Runs<'b>> {
+        None
+    }
+
     fn place_of(&self, x: &[u32]) -> u32 {
         self.simplex.family().place_of(x)
     }
@@ -140,6 +154,10 @@ impl<'a> Listed for ListedSubsets<'a> {
 
     fn arcs_at(&mut self, x: &[u32], links: &mut Links) -> Result<(), Panic> {
         self.subsets.arcs_at(x, links)
+    }
+
+    fn runs<'b>(&'b self, _x: &'b [u32]) -> Option<Runs<'b>> {
+        None
     }
 
     fn place_of(&self, x: &[u32]) -> u32 {

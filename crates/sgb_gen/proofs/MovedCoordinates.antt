@@ -8,7 +8,8 @@ use Rattle.std.proofs.lemmas.List.{at_drop_more, drop_all}
 use Rattle.std.proofs.lemmas.List.Elements.{All-cons, All-nil, AllZip-get_or, length_all_zip}
 use Rattle.sgb_vec.specs.Lexicographic.{IsBelow}
 use Rattle.sgb_gen.specs.Moves.{is_bit_set, sides_from_bit, sides_of, coordinate_on, in_front, place}
-use Rattle.sgb_gen.specs.MovedCoordinates.{part_at, parts_from, parts_of, parts_put, parts_stay}
+use Rattle.sgb_gen.specs.MovedCoordinates.{part_at, parts_from, parts_of, parts_put}
+use Rattle.sgb_gen.specs.inner.MovedCoordinates.{parts_stay}
 use Rattle.sgb_gen.proofs.Places.{after_known, after_known-none, after_known-push, coordinates_from, coordinates-step}
 use Rattle.sgb_gen.proofs.TurnedMoves.{side_itself}
 

@@ -9,7 +9,8 @@ use Rattle.std.proofs.lemmas.Int.{ints}
 use Rattle.std.proofs.lemmas.List.{at_drop_more, take_more}
 use Rattle.std.proofs.lemmas.List.Folds.{list_all-append, list_all_kept}
 use Rattle.sgb_gen.specs.Moves.{coordinate_on, within_size}
-use Rattle.sgb_gen.specs.MovedCoordinates.{part_at, parts_put, parts_stay}
+use Rattle.sgb_gen.specs.MovedCoordinates.{part_at, parts_put}
+use Rattle.sgb_gen.specs.inner.MovedCoordinates.{parts_stay}
 use Rattle.sgb_gen.proofs.BoundedMoves.{on_side}
 
 -- on a side that does not wrap, as many steps ahead as fit into what is left of it

@@ -1,19 +1,18 @@
 -- The list of a board's vertex, run by run.
-use Rattle.std.proofs.Common.{◌≡◌, ◌<◌, ◌≤◌, ℕ, zero, suc, ◌+◌, ℤ, nat_abs, true, false, Bool, List, [], ◌∷◌, ◌++◌, length, map, reverse, take, get_or, refl, sym, ap, ap₂, subst, ◌∙◌, append_assoc, append-nil, arith}
+use Rattle.std.proofs.Common.{◌≡◌, ℕ, ◌+◌, ℤ, nat_abs, true, false, Bool, List, [], ◌∷◌, ◌++◌, length, reverse, take, refl, sym, ap, subst, ◌∙◌, append-nil}
 use Rattle.std.specs.Prelude.{if◌then◌else◌}
-use Rattle.std.specs.List.{All, flat_map, slice_get, range_with_len}
+use Rattle.std.specs.List.{All, flat_map, slice_get}
 use Rattle.std.specs.Prelude.{Some}
 use Rattle.std.proofs.lemmas.Grind.{flat_map-append}
-use Rattle.std.proofs.lemmas.List.{reverse-append, reverse-reverse, take_all, take_more}
+use Rattle.std.proofs.lemmas.List.{reverse-append, reverse-reverse, take_more}
 use Rattle.std.proofs.lemmas.Option.{get_or_from_slice_get, slice_get_within}
 use Rattle.sgb_vec.specs.Boxes.{box}
 use Rattle.sgb_vec.specs.Lexicographic.{IsBelow}
 use Rattle.sgb_vec.proofs.BoxPlaces.{Contains-from_IsBelow}
 use Rattle.sgb_gen.specs.Boards.{BoardData}
-use Rattle.sgb_gen.specs.LocalLists.{LocalArc}
 use Rattle.sgb_gen.specs.Moves.{opposite, sides_of}
 use Rattle.sgb_gen.specs.inner.LocalArcs.{arcs_by}
-use Rattle.sgb_gen.specs.inner.LocalBoards.{arcs_onward, move_arc, moves_by}
+use Rattle.sgb_gen.specs.inner.LocalBoards.{arcs_onward, moves_by}
 use Rattle.sgb_gen.specs.inner.Moves.{leads_onward}
 use Rattle.sgb_gen.specs.inner.StraightLists.{arcs_back, arcs_by_all, arcs_from}
 use Rattle.sgb_gen.specs.inner.EntryBounds.{displacements_within}
@@ -68,3 +67,7 @@ width_in_table b ts k t is at =
     let p = nat_abs b.piece in
     let wide = subst (λ n. All (λ u. length u ≡ n) (displacements_within p (bounds_of b))) (length-entry_bounds p b.sizes b.wrap) (displacement_lengths p (bounds_of b)) in
     at_has (λ u. length u ≡ length b.sizes) ts k t (subst (All (λ u. length u ≡ length b.sizes)) (sym is) wide) at
+
+-- none of them have no arcs
+pub none_first : (b : BoardData) (x : List ℕ) (ts : List (List ℤ)) (k : ℕ) → k ≡ 0 → arcs_by_all b x (take k ts) ≡ []
+none_first b x ts k none = ap (λ (n : ℕ). arcs_by_all b x (take n ts)) none

@@ -1,17 +1,13 @@
 -- Pairs of subsets counted by a table: by the first entries of both vectors.
-use Rattle.std.proofs.Common.{◌≡◌, ℕ, zero, suc, ◌+◌, ◌-◌, ◌*◌, ◌<◌, ◌≤◌, min, max, Bool, true, false, cond, ◌⊎◌, inl, inr, ◌/◌, ◌%◌, List, [], ◌∷◌, ◌++◌, length, map, filter, reverse, refl, sym, ap, ap₂, subst, ◌∙◌, arith, get_or}
+use Rattle.std.proofs.Common.{◌≡◌, ℕ, zero, suc, ◌+◌, ◌-◌, ◌*◌, ◌<◌, ◌≤◌, min, max, Bool, true, false, cond, ◌/◌, ◌%◌, List, [], ◌∷◌, ◌++◌, length, map, reverse, refl, sym, ap, ap₂, ◌∙◌, arith, get_or}
 use Rattle.std.specs.Prelude.{nat_lt}
-use Rattle.std.proofs.Math.Path.{fun_ext}
 use Rattle.std.proofs.lemmas.Bool.{le-ltb}
-use Rattle.std.proofs.lemmas.Bool.Decides.{Decides-ltb}
-use Rattle.std.proofs.lemmas.List.{length-map}
 use Rattle.std.proofs.lemmas.List.FromFn.{get_or-map-range_with_len, length-map-range_with_len}
 use Rattle.sgb_vec.specs.Limits.{most_vertices}
 use Rattle.sgb_vec.specs.Sums.{bounded_sums}
 use Rattle.sgb_vec.proofs.Lists.{reverse-first}
-use Rattle.sgb_gen.specs.Subsets.{common_size, is_wanted_size}
+use Rattle.sgb_gen.specs.Subsets.{is_wanted_size}
 use Rattle.sgb_gen.specs.inner.Descents.{row, rows}
-use Rattle.sgb_gen.specs.inner.SubsetsCounts.{wanted_among}
 use Rattle.sgb_gen.specs.inner.SubsetsPairs.{cell_at, cell_of, kept, pairs_among, pairs_of_sums, table_of}
 use Rattle.sgb_gen.proofs.Descents.{row-within, rows-end, sums-end, sums-past, sums-rows}
 use Rattle.sgb_gen.proofs.SubsetsCounts.{among-append, among-most, among-reverse, among-row}

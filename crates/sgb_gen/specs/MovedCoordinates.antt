@@ -1,6 +1,5 @@
 -- Displacements by the coordinates that they move: where these lead alone, since all others stay.
-use Rattle.std.specs.Prelude.{ℕ, zero, suc, ◌+◌, ℤ, pos, negsuc, ◌+ℤ◌, ◌*ℤ◌, Bool, List, [], ◌∷◌, get_or, set, Option, is_some, unwrap_or}
-use Rattle.std.specs.List.{list_all}
+use Rattle.std.specs.Prelude.{ℕ, zero, suc, ◌+◌, ℤ, pos, negsuc, ◌+ℤ◌, ◌*ℤ◌, List, [], ◌∷◌, get_or, set, Option, unwrap_or}
 use Rattle.sgb_gen.specs.Moves.{is_bit_set, coordinate_on}
 
 -- the coordinates that a displacement moves whose entries are those from number k on: their numbers, and how far
@@ -18,10 +17,6 @@ parts_of t = parts_from 0 t
 abbrev pub part_at : List ℕ → ℤ → List ℕ → ℕ → ℕ × ℤ → Option ℕ
 part_at sizes wrap x l p =
     coordinate_on (record { size = get_or sizes p.0 0; wraps = is_bit_set wrap p.0 }) (pos (get_or x p.0 0) +ℤ pos l *ℤ p.1)
-
--- all of them lead to coordinates
-abbrev pub parts_stay : List ℕ → ℤ → List ℕ → ℕ → List (ℕ × ℤ) → Bool
-parts_stay sizes wrap x l parts = list_all (λ p. is_some (part_at sizes wrap x l p)) parts
 
 -- a vector in which they stand where they lead
 abbrev pub parts_put : List ℕ → ℤ → List ℕ → ℕ → List (ℕ × ℤ) → List ℕ → List ℕ

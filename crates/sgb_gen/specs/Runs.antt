@@ -12,9 +12,13 @@ pub record RunsData : Type 0 where
   pub runs : ℕ
   pub arcs : List LocalArc
 
--- the arcs from x by a displacement that moves these coordinates, of the lengths from 1 up to n
+-- the arc from x by a displacement that moves these coordinates, of length l
+abbrev pub arc_along : List ℕ → ℤ → List ℕ → List (ℕ × ℤ) → ℕ → LocalArc
+arc_along sizes wrap x parts l = record { tip = parts_put sizes wrap x l parts x; len = pos l }
+
+-- those of the lengths from 1 up to n
 abbrev pub arcs_along : List ℕ → ℤ → List ℕ → List (ℕ × ℤ) → ℕ → List LocalArc
-arcs_along sizes wrap x parts n = map (λ l. record { tip = parts_put sizes wrap x l parts x; len = pos l }) (range_with_len 1 n)
+arcs_along sizes wrap x parts n = map (arc_along sizes wrap x parts) (range_with_len 1 n)
 
 -- those of a run: ahead, the longest first, and then back
 abbrev pub arcs_of_run : RunsData → List (ℕ × ℤ) → ℕ → List (ℕ × ℤ) → ℕ → List LocalArc

@@ -22,6 +22,8 @@ pub mod Moves
 pub mod Simplexes
 -- what the parameters of accepted subsets keep
 pub mod Subsets
+-- moved coordinates that stay on the board
+pub mod MovedCoordinates
 -- a list that is had run by run
 pub mod StraightLists
 -- lists of one width, one after another

@@ -4,7 +4,8 @@ ghost use Rattle.sgb_vec.specs.Limits.{most_dimensions};
 ghost use Rattle.sgb_vec.specs.Lexicographic.{IsBelow};
 ghost use Rattle.sgb_gen.specs.inner.Moves.{destination, leads_onward};
 ghost use Rattle.sgb_gen.specs.Moves.{is_bit_set, coordinate_on, sides_of, place};
-ghost use Rattle.sgb_gen.specs.MovedCoordinates.{part_at, parts_put, parts_stay};
+ghost use Rattle.sgb_gen.specs.MovedCoordinates.{part_at, parts_put};
+ghost use Rattle.sgb_gen.specs.inner.MovedCoordinates.{parts_stay};
 ghost use Rattle.sgb_gen.specs.inner.EntryBounds.{entry_bound, entry_bounds};
 
 use crate::displacements::EntrySizes;
@@ -90,7 +91,14 @@ pub(crate) fn reach(sizes: &[u32], wrap: i64, x: &[u32], parts: &[Part], most: u
 }
 
 /// Where coordinate number `k` leads at length `l` from `x`, if it does, where it moves so far for each unit of length.
-pub(crate) fn part_at(sizes: &[u32], wrap: i64, x: &[u32], l: u32, k: usize, amount: i32) -> Option<u32>
+pub(crate) fn part_at(
+    sizes: &[u32],
+    wrap: i64,
+    x: &[u32],
+    l: u32,
+    k: usize,
+    amount: i32,
+) -> Option<u32>
     requires below { IsBelow x.now sizes.now }
     requires within { k < length sizes.now }
     ensures { result ≡ part_at sizes.now wrap x.now l (k, amount) }

@@ -1,15 +1,17 @@
 //! The listing of a generator's graph, written from its vectors: one list of arcs after another, and no graph is built.
-ghost use Rattle.std.specs.Prelude.{◌≡◌, ◌≢◌, ◌≤◌, ◌+◌, [], ◌++◌, false, pos, drop, length, option_map, Contains, IfErr, IfOk, IfSome, IsOkUnless, OnOk};
+ghost use Rattle.std.specs.Prelude.{◌≡◌, ◌≢◌, ◌≤◌, ◌+◌, [], ◌++◌, false, pos, drop, length, option_map, reverse, Contains, IfErr, IfOk, IfSome, IsOkUnless, OnOk};
 ghost use Rattle.std.specs.List.{flat_map};
 ghost use Rattle.sgb_file.specs.Devices.{change};
 ghost use Rattle.sgb_vec.specs.Limits.{most_dimensions};
+ghost use Rattle.sgb_vec.specs.Names.{name_of_vector};
+ghost use Rattle.sgb_gen.specs.Runs.{AreMoved, arc_along, arcs_along};
 ghost use Rattle.sgb_graph.specs.Made.{graph_described};
 ghost use Rattle.sgb.specs.Locals.{family_text, head_if, start_after, vectors_of};
 ghost use Rattle.sgb.specs.inner.Locals.{local_block, local_line};
 ghost use Rattle.sgb.specs.inner.Pages.{IsPaged, page_bytes};
 ghost use Rattle.sgb.specs.inner.Remaining.{IsRest};
 ghost use Rattle.sgb.specs.inner.Texts.{most_line_bytes};
-ghost use Rattle.sgb.specs.Texts.{head};
+ghost use Rattle.sgb.specs.Texts.{head, name_line};
 ghost use Rattle.sgb.specs.Values.{described};
 ghost use Rattle.sgb.specs.Writing.{IsLeftOrBegun, IsWritten};
 
@@ -20,7 +22,7 @@ use super::resumed::vectors_after;
 use crate::listed::{Listed, ListedBoard, ListedSimplex, ListedSubsets};
 use crate::locals::Local;
 use sgb_file::Sink;
-use sgb_gen::Links;
+use sgb_gen::{Links, Runs};
 use sgb_requests::Fault;
 use sgb_vec::{Family, Panic, Vectors};
 
@@ -155,6 +157,140 @@ fn write_blocks<L: Listed, F: Family, W: Sink>(
 
 // Hands the block of a vector to a page: its name, and a line for each of its arcs. Out of memory the page is left as it is.
 fn push_block<L: Listed, W: Sink>(
+    listed: &mut L,
+    x: &[u32],
+    links: &mut Links,
+    name: &KeptName,
+    page: &mut Page,
+    out: &mut W,
+) -> Result<(), Fault>
+    requires member { Contains (vectors_of (L.parameters listed.old)) x.now }
+    requires short { length x.now ≤ most_dimensions + 1 }
+    requires named { name.now ≡ x.now }
+    requires sound { W.has_failed out.old ≡ false }
+    ensures paged { IsPaged page.old (local_block (L.parameters listed.old) x.now) page.new
+        (change W.written W.has_failed out.old out.new) result }
+    ensures same { L.parameters listed.new ≡ L.parameters listed.old }
+{
+    if let Some(runs) = listed.runs(x) {
+        return push_block_of_runs(runs, name, page, out);
+    }
+    push_listed_block(listed, x, links, name, page, out)
+}
+
+// The same of the vector of this name, where its list is had run by run.
+fn push_block_of_runs<W: Sink>(
+    runs: Runs<'_>,
+    name: &KeptName,
+    page: &mut Page,
+    out: &mut W,
+) -> Result<(), Fault>
+    requires named { name.now ≡ runs.x }
+    requires short { length name.now ≤ most_dimensions + 1 }
+    requires sound { W.has_failed out.old ≡ false }
+    ensures { IsPaged page.old
+        (name_line (name_of_vector name.now) ++ flat_map local_line runs.entry.arcs) page.new
+        (change W.written W.has_failed out.old out.new) result }
+{
+    name.push_line(page, out)?;
+    push_runs(runs, name, page, out)?;
+    Ok(())
+}
+
+// Hands the lines of a list's arcs to a page, run by run.
+fn push_runs<W: Sink>(
+    runs: Runs<'_>,
+    name: &KeptName,
+    page: &mut Page,
+    out: &mut W,
+) -> Result<(), Fault>
+    requires named { name.now ≡ runs.x }
+    requires short { length name.now ≤ most_dimensions + 1 }
+    requires sound { W.has_failed out.old ≡ false }
+    ensures { IsPaged page.old (flat_map local_line runs.entry.arcs) page.new
+        (change W.written W.has_failed out.old out.new) result }
+{
+    let mut left = runs;
+    for _run in 0..left.len() {
+        let run = left.next_run();
+        push_ahead(&left, run.ahead, run.farthest, name, page, out)?;
+        push_back(&left, run.back, run.farthest_back, name, page, out)?;
+    }
+    Ok(())
+}
+
+// Hands the lines of the arcs by a displacement that moves these coordinates to a page: those of the lengths up to `farthest`,
+// the longest first.
+fn push_ahead<W: Sink>(
+    runs: &Runs,
+    parts: &[(usize, i32)],
+    farthest: u32,
+    name: &KeptName,
+    page: &mut Page,
+    out: &mut W,
+) -> Result<(), Fault>
+    requires named { name.now ≡ runs.now.x }
+    requires parts { AreMoved (length name.now) parts.now }
+    requires short { length name.now ≤ most_dimensions + 1 }
+    requires sound { W.has_failed out.old ≡ false }
+    ensures { IsPaged page.old (flat_map local_line
+        (reverse (arcs_along runs.now.sizes runs.now.wrap name.now parts.now farthest))) page.new
+        (change W.written W.has_failed out.old out.new) result }
+{
+    for shorter in (0..farthest).rev() {
+        push_moved_arc(runs, parts, shorter + 1, name, page, out)?;
+    }
+    Ok(())
+}
+
+// The same, the shortest first.
+fn push_back<W: Sink>(
+    runs: &Runs,
+    parts: &[(usize, i32)],
+    farthest: u32,
+    name: &KeptName,
+    page: &mut Page,
+    out: &mut W,
+) -> Result<(), Fault>
+    requires named { name.now ≡ runs.now.x }
+    requires parts { AreMoved (length name.now) parts.now }
+    requires short { length name.now ≤ most_dimensions + 1 }
+    requires sound { W.has_failed out.old ≡ false }
+    ensures { IsPaged page.old (flat_map local_line
+        (arcs_along runs.now.sizes runs.now.wrap name.now parts.now farthest)) page.new
+        (change W.written W.has_failed out.old out.new) result }
+{
+    for shorter in 0..farthest {
+        push_moved_arc(runs, parts, shorter + 1, name, page, out)?;
+    }
+    Ok(())
+}
+
+// Hands the line of the arc of length `l` by a displacement that moves these coordinates to a page.
+fn push_moved_arc<W: Sink>(
+    runs: &Runs,
+    parts: &[(usize, i32)],
+    l: u32,
+    name: &KeptName,
+    page: &mut Page,
+    out: &mut W,
+) -> Result<(), Fault>
+    requires named { name.now ≡ runs.now.x }
+    requires parts { AreMoved (length name.now) parts.now }
+    requires short { length name.now ≤ most_dimensions + 1 }
+    requires sound { W.has_failed out.old ≡ false }
+    ensures { IsPaged page.old (local_line (arc_along runs.now.sizes runs.now.wrap name.now
+        parts.now l)) page.new (change W.written W.has_failed out.old out.new) result }
+{
+    make_room(page, out)?;
+    page.begin_arc();
+    name.push_moved(runs, parts, l, page);
+    page.end_counted_arc(l);
+    Ok(())
+}
+
+// The same of a vector's list that is kept.
+fn push_listed_block<L: Listed, W: Sink>(
     listed: &mut L,
     x: &[u32],
     links: &mut Links,

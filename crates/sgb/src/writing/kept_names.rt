@@ -1,13 +1,17 @@
 //! The name of a vector, of which the next name keeps what it has in common with it.
-ghost use Rattle.std.specs.Prelude.{◌≡◌, ◌≤◌, ◌+◌, ◌*◌, [], ◌∷◌, ◌++◌, drop, false, length, take, IfErr};
+ghost use Rattle.std.specs.Prelude.{◌≡◌, ◌≤◌, ◌<◌, ◌+◌, ◌-◌, ◌*◌, [], ◌∷◌, ◌++◌, drop, false, length, nat_lt, take, IfErr};
 ghost use Rattle.sgb_file.specs.Devices.{change};
 ghost use Rattle.sgb_vec.specs.Limits.{most_dimensions};
 ghost use Rattle.sgb_vec.specs.Names.{name_of_vector};
+ghost use Rattle.sgb_gen.specs.MovedCoordinates.{parts_put};
+ghost use Rattle.sgb_gen.specs.Runs.{AreMoved};
 ghost use Rattle.sgb.specs.Texts.{name_line};
 ghost use Rattle.sgb.specs.inner.Pages.{IsPaged, page_bytes};
+ghost use Rattle.sgb.specs.inner.Texts.{entries_text, entry_text};
 
 use super::pages::{Filled, Page, make_room};
 use sgb_file::Sink;
+use sgb_gen::Runs;
 use sgb_requests::Fault;
 use sgb_vec::Vector;
 use std::marker::Model;
@@ -120,6 +124,38 @@ impl KeptName {
         page.push_start_of(&self.text, self.end_of(from));
         page.push_entries(other, from, to);
         page.push_rest_of(&self.text, self.end_of(to));
+    }
+
+    /// Appends the name of the vector that lies at length `l` from this one, by a displacement that moves these coordinates,
+    /// to a page. Only their entries are put in digits anew, and no vector is made. `runs` is a list of this vector's arcs.
+    pub(super) fn push_moved(&self, runs: &Runs, parts: &[(usize, i32)], l: u32, page: &mut Page)
+        requires named { self.now ≡ runs.now.x }
+        requires parts { AreMoved (length self.now) parts.now }
+        requires room { length page.old + (11 * length self.now + 41) ≤ page_bytes }
+        ensures text { page.new ≡ page.old ++ name_of_vector (parts_put runs.now.sizes runs.now.wrap
+            self.now l parts.now self.now) }
+        ensures short { length page.new ≤ length page.old + 11 * length self.now }
+    {
+        let mut place = 0;
+        for (k, amount) in parts {
+            self.push_through(place, *k, runs.entry_at(*k, *amount, l), page);
+            place = *k + 1;
+        }
+        page.push_rest_of(&self.text, self.end_of(place));
+    }
+
+    // Appends its entries from place `from` on and before `to`, as they stand in its name, and then this entry.
+    fn push_through(&self, from: usize, to: usize, entry: u32, page: &mut Page)
+        requires order { from ≤ to }
+        requires within { to < length self.now }
+        requires room { length page.old + (11 * (to - from) + 41) ≤ page_bytes }
+        ensures text { page.new ≡ page.old
+            ++ (entries_text (nat_lt 0 from) (take (to - from) (drop from self.now))
+            ++ entry_text (nat_lt 0 to) entry) }
+        ensures short { length page.new ≤ length page.old + 11 * (to + 1 - from) }
+    {
+        page.push_part_of(&self.text, self.end_of(from), self.end_of(to));
+        page.push_entry(to > 0, entry);
     }
 }
 

@@ -115,6 +115,26 @@ impl<const N: usize> Filled<N> {
         }
     }
 
+    /// Appends the bytes of another text from place `start` on and before `end`.
+    pub(super) fn push_part_of<const M: usize>(
+        &mut self,
+        text: &Filled<M>,
+        start: usize,
+        end: usize,
+    )
+        requires order { start ≤ end }
+        requires within { end ≤ length text.now }
+        requires room { length self.old + (end - start) ≤ N }
+        ensures { self.new ≡ self.old ++ take (end - start) (drop start text.now) }
+    {
+        let count = end - start;
+        if count <= WORD_BYTES && start + WORD_BYTES <= M && self.len + WORD_BYTES <= N {
+            self.push_word(&text.bytes, start, count);
+        } else {
+            self.push_text(&text.bytes()[start..end]);
+        }
+    }
+
     // Appends `count` bytes from place `start` on. A whole word is moved at once: what of it is no part of the text is
     // written over by what is appended next.
     fn push_word(&mut self, bytes: &[u8], start: usize, count: usize)

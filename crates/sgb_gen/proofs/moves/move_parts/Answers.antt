@@ -1,7 +1,8 @@
 use Rattle.std.proofs.Common.{◌≡◌, ◌+◌, ℤ, Some, drop, set, w32, w64, to_z, of_z, sym, ap, ◌∙◌, arith, rules, length-set}
 use Rattle.std.proofs.lemmas.Int.{to_z-of_z}
 use Rattle.std.specs.Option.{is_some, unwrap_or}
-use Rattle.sgb_gen.specs.MovedCoordinates.{part_at, parts_put, parts_stay}
+use Rattle.sgb_gen.specs.MovedCoordinates.{part_at, parts_put}
+use Rattle.sgb_gen.specs.inner.MovedCoordinates.{parts_stay}
 use Rattle.sgb_gen.proofs.PartReaches.{part_of, put_more, stay_more, stay_out}
 use Rattle.sgb_gen.proofs.moves.move_parts.Goals as goal
 

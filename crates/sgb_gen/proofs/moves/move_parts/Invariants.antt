@@ -1,5 +1,6 @@
 use Rattle.std.proofs.Common.{◌≡◌, drop, length}
-use Rattle.sgb_gen.specs.MovedCoordinates.{parts_put, parts_stay}
+use Rattle.sgb_gen.specs.MovedCoordinates.{parts_put}
+use Rattle.sgb_gen.specs.inner.MovedCoordinates.{parts_stay}
 use Rattle.sgb_gen.proofs.moves.move_parts.Given as goal
 
 -- those before this one lead to coordinates, which are put; those from it on are still to be

@@ -2,7 +2,8 @@ use Rattle.std.proofs.Common.{◌≡◌, ◌<◌, ℕ, true, false, cond, List, 
 use Rattle.std.proofs.Math.Seq.{take-append_seam}
 use Rattle.std.proofs.lemmas.Int.{to_z-of_z}
 use Rattle.std.proofs.lemmas.List.Elements.{length_all_zip}
-use Rattle.sgb_gen.specs.MovedCoordinates.{parts_of, parts_put, parts_stay}
+use Rattle.sgb_gen.specs.MovedCoordinates.{parts_of, parts_put}
+use Rattle.sgb_gen.specs.inner.MovedCoordinates.{parts_stay}
 use Rattle.sgb_gen.proofs.MovedCoordinates.{place_by_parts}
 use Rattle.sgb_gen.proofs.moves.place.Goals as goal
 

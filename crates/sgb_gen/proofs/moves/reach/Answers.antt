@@ -3,7 +3,7 @@ use Rattle.std.proofs.lemmas.Int.{to_z-of_z}
 use Rattle.std.proofs.lemmas.List.{take_all}
 use Rattle.std.specs.Option.{is_some}
 use Rattle.sgb_gen.specs.Moves.{coordinate_on}
-use Rattle.sgb_gen.specs.MovedCoordinates.{parts_stay}
+use Rattle.sgb_gen.specs.inner.MovedCoordinates.{parts_stay}
 use Rattle.sgb_gen.proofs.PartReaches.{part_of, reach-more, reach-none}
 use Rattle.sgb_gen.proofs.moves.reach.Goals as goal
 

@@ -85,6 +85,7 @@ impl<'b> Runs<'b> {
           runs = self.old.runs - 1;
           arcs = self.new.arcs;
         } }
+        ensures none { self.new.runs ≡ 0 → self.new.arcs ≡ [] }
         ensures ahead { AreMoved (length self.old.x) result.ahead.now }
         ensures back { AreMoved (length self.old.x) result.back.now }
     {

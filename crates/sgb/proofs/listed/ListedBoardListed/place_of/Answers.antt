@@ -1,5 +1,4 @@
 use Rattle.std.proofs.Common.{◌∙◌, ap, sym, subst}
-use Rattle.std.specs.List.{Contains}
 use Rattle.sgb_vec.specs.Boxes.{box}
 use Rattle.sgb_vec.specs.Lexicographic.{IsBelow}
 use Rattle.sgb_vec.proofs.BoxPlaces.{IsBelow-from_Contains}

@@ -1,63 +1,11 @@
-use Rattle.std.proofs.Common.{◌≡◌, ◌∙◌, ◌++◌, List, ℕ, length, Some, pos, sym, ap, arith}
-use Rattle.std.specs.List.{flat_map, slice_get}
-use Rattle.sgb_vec.specs.Names.{name_of_vector}
-use Rattle.sgb_gen.specs.LocalLists.{LocalArc}
-use Rattle.sgb.specs.Texts.{name_line}
-use Rattle.sgb.specs.declared.locals.Local.{Local}
-use Rattle.sgb.specs.Locals.{links_of}
-use Rattle.sgb.specs.inner.Locals.{local_block, local_line}
-use Rattle.sgb.proofs.TipWidths.{tip_width}
-use Rattle.sgb.proofs.LocalListings.{lines-first, local_block-parts}
-use Rattle.sgb.proofs.Pages.{exit_paged, exit_unput, paged_cut, paged_more, paged_none}
+use Rattle.std.proofs.Common.{List, ℕ, sym, subst}
+use Rattle.sgb_file.specs.Devices.{change}
+use Rattle.sgb.specs.inner.Pages.{IsPaged}
+use Rattle.sgb.proofs.RunLines.{parts-named}
 use Rattle.sgb.proofs.writing.families.push_block.Goals as goal
 
--- a block in parts, by the vector whose name is kept
-parts_named : (l : Local) (x name : List ℕ) (arcs : List LocalArc) → arcs ≡ links_of l x → name ≡ x → local_block l x ≡ name_line (name_of_vector name) ++ flat_map local_line arcs
-parts_named l x name arcs same named =
-    local_block-parts l x arcs same ∙ ap (λ w. name_line (name_of_vector w) ++ flat_map local_line arcs) (sym named)
-
-pub returns-in_err-arcs_at-clause-paged : goal.returns-in_err-arcs_at-clause-paged
-returns-in_err-arcs_at-clause-paged g c =
-    exit_unput c.args.page.now (local_block (g.L.Listed.parameters c.args.listed.now) c.args.x.now) _ _ _ _ _ c.from_residual.ensures.1 c.in_err-arcs_at.ensures.memory c.requires.sound
-
-pub returns-in_err-push_line-clause-paged : goal.returns-in_err-push_line-clause-paged
-returns-in_err-push_line-clause-paged g c =
-    let parts = parts_named (g.L.Listed.parameters c.args.listed.now) c.args.x.now c.args.name.now c.arcs_at.new.links.arcs c.in_ok-arcs_at.ensures.ok c.requires.named in
-    exit_paged c.args.page.now (local_block (g.L.Listed.parameters c.args.listed.now) c.args.x.now) _ _ _ _ c.from_residual-in_err-push_line.ensures.1
-    (paged_cut _ _ _ _ _ _ _ _ _ _ _ parts (paged_none _ c.args.page.now _) c.in_err-push_line.ensures.paged)
-
-pub loop-i-init : goal.loop-i-init
-loop-i-init g c =
-    let parts = parts_named (g.L.Listed.parameters c.args.listed.now) c.args.x.now c.args.name.now c.arcs_at.new.links.arcs c.in_ok-arcs_at.ensures.ok c.requires.named in (
-      paged_more _ _ _ _ _ _ _ _ _ _ parts (paged_none _ c.args.page.now _) c.in_ok-push_line.ensures.paged.output,
-      c.in_ok-push_line.ensures.paged.sound,
-    )
-
--- the arc that is written leads to a vector as wide as x
-pub push_arc-requires-clause-width : goal.push_arc-requires-clause-width
-push_arc-requires-clause-width g c =
-    let arc : LocalArc = record { tip = c.link.inside.tip.now; len = pos c.link.inside.len } in
-    let there : slice_get c.arcs_at.new.links.arcs c.loop-i.i ≡ Some arc = c.get-link.ensures ∙ ap Some (sym c.link.view_is) in
-    let listed : slice_get (links_of (g.L.Listed.parameters c.args.listed.now) c.args.x.now) c.loop-i.i ≡ Some arc = ap (λ arcs. slice_get arcs c.loop-i.i) (sym c.in_ok-arcs_at.ensures.ok) ∙ there in
-    tip_width (g.L.Listed.parameters c.args.listed.now) c.args.x.now c.loop-i.i arc c.requires.member listed ∙ ap length (sym c.requires.named)
-
-pub push_arc-requires-clause-short : goal.push_arc-requires-clause-short
-push_arc-requires-clause-short g c =
-    let arc : LocalArc = record { tip = c.link.inside.tip.now; len = pos c.link.inside.len } in
-    let there : slice_get c.arcs_at.new.links.arcs c.loop-i.i ≡ Some arc = c.get-link.ensures ∙ ap Some (sym c.link.view_is) in
-    let listed : slice_get (links_of (g.L.Listed.parameters c.args.listed.now) c.args.x.now) c.loop-i.i ≡ Some arc = ap (λ arcs. slice_get arcs c.loop-i.i) (sym c.in_ok-arcs_at.ensures.ok) ∙ there in
-    omega (arith, tip_width (g.L.Listed.parameters c.args.listed.now) c.args.x.now c.loop-i.i arc c.requires.member listed, c.requires.short)
-
-pub returns-in_err-push_arc-clause-paged : goal.returns-in_err-push_arc-clause-paged
-returns-in_err-push_arc-clause-paged g c =
-    let arc : LocalArc = record { tip = c.link.inside.tip.now; len = pos c.link.inside.len } in
-    let there : slice_get c.arcs_at.new.links.arcs c.loop-i.i ≡ Some arc = c.get-link.ensures ∙ ap Some (sym c.link.view_is) in
-    let first = lines-first c.arcs_at.new.links.arcs c.loop-i.i arc there in
-    exit_paged c.args.page.now (local_block (g.L.Listed.parameters c.args.listed.now) c.args.x.now) _ _ _ _ c.from_residual-in_err-push_arc.ensures.1 (paged_cut _ _ _ _ _ _ _ _ _ _ _ first c.loop-i.invariant.0 c.in_err-push_arc.ensures)
-
-pub loop-i-preserved : goal.loop-i-preserved
-loop-i-preserved g c =
-    let arc : LocalArc = record { tip = c.link.inside.tip.now; len = pos c.link.inside.len } in
-    let there : slice_get c.arcs_at.new.links.arcs c.loop-i.i ≡ Some arc = c.get-link.ensures ∙ ap Some (sym c.link.view_is) in
-    let first = lines-first c.arcs_at.new.links.arcs c.loop-i.i arc there in
-    (paged_more _ _ _ _ _ _ _ _ _ _ first c.loop-i.invariant.0 c.in_ok-push_arc.ensures.output, c.in_ok-push_arc.ensures.sound)
+pub returns-in-Some-clause-paged : goal.returns-in-Some-clause-paged
+returns-in-Some-clause-paged g c =
+    let parts = parts-named (g.L.Listed.parameters c.args.listed.now) c.args.x.now c.args.name.now c.in-Some.runs.arcs c.in-Some.ensures.arcs c.requires.named in
+    subst (λ (text : List ℕ). IsPaged c.args.page.now text c.push_block_of_runs.new.page (change g.W.Sink.written g.W.Sink.has_failed c.args.out.now c.push_block_of_runs.new.out) c.push_block_of_runs.result)
+    (sym parts) c.push_block_of_runs.ensures

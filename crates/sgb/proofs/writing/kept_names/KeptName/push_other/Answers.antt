@@ -1,4 +1,4 @@
-use Rattle.std.proofs.Common.{◌≡◌, ◌≤◌, ◌-◌, ◌∙◌, All, ◌<◌, ◌^◌, length, length-append, take, drop, sym, ap, subst, arith}
+use Rattle.std.proofs.Common.{◌≡◌, ◌≤◌, ◌∙◌, All, ◌<◌, ◌^◌, length, length-append, take, drop, sym, ap, subst, arith}
 use Rattle.std.proofs.lemmas.List.{length-drop}
 use Rattle.sgb_vec.specs.Names.{name_of_vector}
 use Rattle.sgb.proofs.KeptNames.{back-bound, front-bound, other-text}

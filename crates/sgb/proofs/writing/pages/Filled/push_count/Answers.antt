@@ -1,4 +1,4 @@
-use Rattle.std.proofs.Common.{◌≡◌, ◌≤◌, ◌+◌, ◌++◌, length, length-append, decimal, ap, arith}
+use Rattle.std.proofs.Common.{length, length-append, decimal, ap, arith}
 use Rattle.std.proofs.lemmas.Fmt.{length-decimal-le}
 use Rattle.sgb.proofs.writing.pages.Filled.push_count.Goals as goal
 

@@ -1,4 +1,4 @@
-use Rattle.std.proofs.Common.{◌≡◌, ◌∙◌, ◌+◌, ◌%◌, ◌/◌, ◌++◌, ◌∷◌, [], ap, arith}
+use Rattle.std.proofs.Common.{◌∙◌, ◌+◌, ◌%◌, ◌/◌, ◌++◌, ◌∷◌, [], ap, arith}
 use Rattle.sgb.proofs.FewDigits.{more_digits}
 use Rattle.sgb.proofs.writing.pages.Filled.push_few_digits.Goals as goal
 

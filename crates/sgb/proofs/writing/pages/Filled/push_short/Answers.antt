@@ -1,4 +1,4 @@
-use Rattle.std.proofs.Common.{◌≡◌, ◌∙◌, ◌+◌, ◌%◌, ◌/◌, ◌++◌, ◌∷◌, [], ap, arith}
+use Rattle.std.proofs.Common.{◌∙◌, ◌+◌, ◌%◌, ◌++◌, ◌∷◌, [], ap, arith}
 use Rattle.sgb.proofs.FewDigits.{one_digit, two_digits}
 use Rattle.sgb.proofs.writing.pages.Filled.push_short.Goals as goal
 use Rattle.sgb.proofs.writing.pages.Filled.push_short.Goals.{then-number-ge10, else-number-ge10}

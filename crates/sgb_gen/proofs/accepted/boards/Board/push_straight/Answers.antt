@@ -1,7 +1,8 @@
 use Rattle.std.proofs.Common.{◌≡◌, ◌++◌, ◌∷◌, ◌+◌, ◌∙◌, [], true, map, pos, refl, sym, ap, ap₂, arith, rules, w64, to_z, of_z}
 use Rattle.std.proofs.lemmas.Int.{to_z-of_z}
 use Rattle.sgb_gen.specs.inner.LocalBoards.{move_arc}
-use Rattle.sgb_gen.specs.MovedCoordinates.{parts_of, parts_put, parts_stay}
+use Rattle.sgb_gen.specs.MovedCoordinates.{parts_of, parts_put}
+use Rattle.sgb_gen.specs.inner.MovedCoordinates.{parts_stay}
 use Rattle.sgb_gen.proofs.BoardWalks.{left-all, left-next, moves_left, moves_of, no_more, one_more}
 use Rattle.sgb_gen.proofs.Reaches.{move}
 use Rattle.sgb_gen.proofs.StraightMoves.{leads_on, left-past}

@@ -1,6 +1,7 @@
 use Rattle.std.proofs.Common.{◌≡◌, ◌++◌, ◌∷◌, ◌+◌, ◌-◌, ◌∙◌, [], ℕ, reverse, pos, refl, sym, ap, ap₂, arith, rules, w64, to_z, of_z}
 use Rattle.std.proofs.lemmas.Int.{to_z-of_z}
-use Rattle.sgb_gen.specs.MovedCoordinates.{parts_of, parts_put, parts_stay}
+use Rattle.sgb_gen.specs.MovedCoordinates.{parts_of, parts_put}
+use Rattle.sgb_gen.specs.inner.MovedCoordinates.{parts_stay}
 use Rattle.sgb_gen.proofs.StraightMoves.{arc_placed, one_shorter, straight_arcs}
 use Rattle.sgb_gen.proofs.accepted.boards.Board.push_straight_down.Goals as goal
 

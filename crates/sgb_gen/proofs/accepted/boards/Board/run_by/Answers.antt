@@ -1,4 +1,4 @@
-use Rattle.std.proofs.Common.{◌≡◌, ◌∙◌, sym, ap}
+use Rattle.std.proofs.Common.{◌∙◌, sym, ap}
 use Rattle.sgb_gen.specs.Moves.{place, sides_of}
 use Rattle.sgb_gen.proofs.BoardWalks.{leads}
 use Rattle.sgb_gen.proofs.StraightMoves.{back_away, onward_away}

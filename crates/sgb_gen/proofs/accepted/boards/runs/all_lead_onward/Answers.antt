@@ -1,4 +1,4 @@
-use Rattle.std.proofs.Common.{◌≡◌, ◌<◌, slice_index_or, subst, true, w64, arith, rules}
+use Rattle.std.proofs.Common.{◌≡◌, slice_index_or, subst, true, w64, arith, rules}
 use Rattle.std.proofs.lemmas.Int.{to_z-of_z}
 use Rattle.std.proofs.lemmas.Option.{slice_get-get_or}
 use Rattle.sgb_gen.specs.inner.Moves.{leads_onward}

@@ -1,4 +1,4 @@
-use Rattle.std.proofs.Common.{◌≡◌, ◌+◌, ◌*◌, ap, ◌∙◌}
+use Rattle.std.proofs.Common.{◌+◌, ◌*◌, ap, ◌∙◌}
 use Rattle.std.specs.Prelude.{slice_index_or}
 use Rattle.sgb_gen.proofs.SubsetsPairs.{cell-there}
 use Rattle.sgb_gen.proofs.accepted.subsets.pairs.cell.Goals as goal

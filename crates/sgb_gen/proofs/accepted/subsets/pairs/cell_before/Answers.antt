@@ -1,4 +1,4 @@
-use Rattle.std.proofs.Common.{◌≡◌, ◌+◌, ◌∷◌, min, sym, ap, ◌∙◌, arith}
+use Rattle.std.proofs.Common.{◌+◌, ◌∷◌, min, sym, ap, ◌∙◌, arith}
 use Rattle.sgb_gen.specs.inner.Descents.{rows}
 use Rattle.sgb_gen.specs.inner.SubsetsPairs.{kept, pairs_among}
 use Rattle.sgb_gen.proofs.SubsetsPairs.{cell-within, entry-counted, pairs-all}

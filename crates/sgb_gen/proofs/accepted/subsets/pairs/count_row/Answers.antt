@@ -1,6 +1,6 @@
-use Rattle.std.proofs.Common.{◌≡◌, ◌+◌, ◌-◌, ◌≤◌, min, sym, ap, ◌∙◌, arith}
+use Rattle.std.proofs.Common.{◌≤◌, ap, ◌∙◌, arith}
 use Rattle.sgb_gen.specs.inner.Descents.{row, rows}
-use Rattle.sgb_gen.specs.inner.SubsetsPairs.{cell_of, kept, pairs_among, pairs_of_sums}
+use Rattle.sgb_gen.specs.inner.SubsetsPairs.{kept, pairs_among}
 use Rattle.sgb_gen.proofs.SubsetsPairs.{cell-found, other-counted, pairs-none}
 use Rattle.sgb_gen.proofs.accepted.subsets.pairs.count_row.Goals as goal
 

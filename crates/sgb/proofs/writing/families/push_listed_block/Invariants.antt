@@ -2,7 +2,7 @@ use Rattle.std.proofs.Common.{◌≡◌, false, drop}
 use Rattle.std.specs.List.{flat_map}
 use Rattle.sgb.specs.inner.Locals.{local_block, local_line}
 use Rattle.sgb.proofs.Pages.{PagedSoFar}
-use Rattle.sgb.proofs.writing.families.push_block.Given as goal
+use Rattle.sgb.proofs.writing.families.push_listed_block.Given as goal
 
 -- the lines of the arcs from this one on are left
 abbrev pub invariant-loop-i : goal.invariant-loop-i

@@ -1,0 +1,66 @@
+-- Lines of the arcs of a list that is had run by run.
+use Rattle.std.proofs.Common.{◌≡◌, ◌∙◌, ◌+◌, ◌-◌, ◌<◌, ◌≤◌, ℕ, suc, ℤ, List, [], ◌∷◌, ◌++◌, map, reverse, sym, ap, subst, arith, append_assoc}
+use Rattle.std.specs.List.{flat_map, range_with_len}
+use Rattle.std.proofs.lemmas.Grind.{flat_map-append}
+use Rattle.std.proofs.lemmas.List.{reverse-append}
+use Rattle.std.proofs.lemmas.List.FromFn.{map-range_with_len_more}
+use Rattle.sgb_gen.specs.LocalLists.{LocalArc}
+use Rattle.sgb_gen.specs.Runs.{RunsData, arcs_along, arcs_of_run}
+use Rattle.sgb_vec.specs.Names.{name_of_vector}
+use Rattle.sgb.specs.Locals.{links_of}
+use Rattle.sgb.specs.Texts.{name_line}
+use Rattle.sgb.specs.declared.locals.Local.{Local}
+use Rattle.sgb.specs.inner.Locals.{local_block, local_line}
+use Rattle.sgb.proofs.LocalListings.{local_block-parts}
+
+-- of the arcs of all lengths up to n, the longest first: that of length n, and then the others
+pub longest-first : (f : ℕ → LocalArc) (n m : ℕ) → 0 < n → m ≡ n
+    → flat_map local_line (reverse (map f (range_with_len 1 n))) ≡ local_line (f m) ++ flat_map local_line (reverse (map f (range_with_len 1 (n - 1))))
+longest-first f n m some same =
+    let k = n - 1 in
+    let next : k + 1 ≡ n = omega (arith, some) in
+    ap (flat_map local_line) (ap (λ (i : ℕ). reverse (map f (range_with_len 1 i))) (sym next)
+    ∙ ap reverse (map-range_with_len_more f 1 k m (omega (arith, next, same)))
+    ∙ reverse-append (map f (range_with_len 1 k)) (f m ∷ []))
+
+-- of those of the lengths after k up to n, the shortest first
+pub shortest-first : (f : ℕ → LocalArc) (n k : ℕ) → k < n
+    → flat_map local_line (map f (range_with_len (k + 1) (n - k))) ≡ local_line (f (k + 1)) ++ flat_map local_line (map f (range_with_len (k + 1 + 1) (n - (k + 1))))
+shortest-first f n k within =
+    let more : n - k ≡ suc (n - (k + 1)) = omega arith in
+    ap (λ (i : ℕ). flat_map local_line (map f (range_with_len (k + 1) i))) more
+
+pub shortest-all : (f : ℕ → LocalArc) (n : ℕ) → flat_map local_line (map f (range_with_len 1 n)) ≡ flat_map local_line (map f (range_with_len (0 + 1) (n - 0)))
+shortest-all f n =
+    let whole : n ≡ n - 0 = omega arith in
+    ap (λ (i : ℕ). flat_map local_line (map f (range_with_len 1 i))) whole
+
+pub shortest-none : (f : ℕ → LocalArc) (n k : ℕ) → n ≤ k → flat_map local_line (map f (range_with_len (k + 1) (n - k))) ≡ []
+shortest-none f n k past =
+    let none : n - k ≡ 0 = omega arith in
+    ap (λ (i : ℕ). flat_map local_line (map f (range_with_len (k + 1) i))) none
+
+-- the lines of a run, and then those of the others
+pub run-first : (whole ahead back rest : List LocalArc) → whole ≡ (ahead ++ back) ++ rest
+    → flat_map local_line whole ≡ flat_map local_line ahead ++ (flat_map local_line back ++ flat_map local_line rest)
+run-first whole ahead back rest is =
+    ap (flat_map local_line) is
+    ∙ flat_map-append local_line (ahead ++ back) rest
+    ∙ ap (λ ls. ls ++ flat_map local_line rest) (flat_map-append local_line ahead back)
+    ∙ append_assoc (flat_map local_line ahead) (flat_map local_line back) (flat_map local_line rest)
+
+pub run-lines : (old new : RunsData) (name : List ℕ) (ahead back : List (ℕ × ℤ)) (n m : ℕ) → new ≡ record old { runs = old.runs - 1; arcs = new.arcs }
+    → name ≡ old.x → old.arcs ≡ arcs_of_run old ahead n back m ++ new.arcs
+    → flat_map local_line old.arcs ≡ flat_map local_line (reverse (arcs_along new.sizes new.wrap name ahead n))
+    ++ (flat_map local_line (arcs_along new.sizes new.wrap name back m) ++ flat_map local_line new.arcs)
+run-lines old new name ahead back n m left named arcs =
+    let own : old.arcs ≡ arcs_of_run new ahead n back m ++ new.arcs =
+    subst (λ (q : RunsData). old.arcs ≡ arcs_of_run q ahead n back m ++ new.arcs) (sym left) arcs in
+    let same : new.x ≡ name = ap (λ (q : RunsData). q.x) left ∙ sym named in
+    run-first old.arcs (reverse (arcs_along new.sizes new.wrap name ahead n)) (arcs_along new.sizes new.wrap name back m) new.arcs
+    (subst (λ (x : List ℕ). old.arcs ≡ (reverse (arcs_along new.sizes new.wrap x ahead n) ++ arcs_along new.sizes new.wrap x back m) ++ new.arcs) same own)
+
+-- a block in parts, by the vector whose name is kept
+pub parts-named : (l : Local) (x name : List ℕ) (arcs : List LocalArc) → arcs ≡ links_of l x → name ≡ x → local_block l x ≡ name_line (name_of_vector name) ++ flat_map local_line arcs
+parts-named l x name arcs same named =
+    local_block-parts l x arcs same ∙ ap (λ w. name_line (name_of_vector w) ++ flat_map local_line arcs) (sym named)
