@@ -9,6 +9,8 @@ pub mod Inputs
 pub mod KeptNames
 -- blocks of a generator's graph
 pub mod Locals
+-- texts of small numbers
+pub mod Numerals
 -- pages of output, and what was put of them
 pub mod Pages
 -- what is left of vectors

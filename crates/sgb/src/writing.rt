@@ -15,6 +15,8 @@ mod kept_names;
 pub(crate) mod listing;
 // Names of a generator's vectors.
 pub(crate) mod names;
+// Texts of small numbers.
+mod numerals;
 // Pages of output.
 mod pages;
 // Where the names and the listing of a generator's vectors begin.

@@ -20,3 +20,5 @@ pub mod LocalSubsets
 pub mod LocalBoards
 -- what the laws say of single cases
 pub mod Laws
+-- those of boards, run by run
+pub mod Runs

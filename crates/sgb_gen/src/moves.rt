@@ -28,7 +28,10 @@ fn coordinate_on(size: u32, wraps: bool, y: i64) -> Option<u32>
     if wraps {
         return Some(y.rem_euclid(i64::from(size)) as u32);
     }
-    u32::try_from(y).ok().filter(|c| *c < size)
+    if y < 0 || y >= i64::from(size) {
+        return None;
+    }
+    Some(y as u32)
 }
 
 // The coordinate at length `l` from `x` by `t` for each unit of length, which may lie outside of a board.

@@ -1,6 +1,6 @@
 use crate::board_counts::board_of;
 use crate::cases::is_list;
-use sgb_gen::{Board, BoardParams, Links};
+use sgb_gen::{Board, BoardLists, BoardParams, Links};
 use sgb_graph::Graph;
 use sgb_vec::{Family, Panic, Vectors};
 use std::alloc::Global;
@@ -97,5 +97,41 @@ fn a_list_by_many_displacements(rt: HostRuntime) -> Result<(), Fail> {
     let board = board_of(&[2, -19, 0, 0, 4, 0], false)?;
     let count = arcs_from(&board, &[0; 19], &mut Links::new(rt.alloc()))?;
     assert!(rt; count == 3_876);
+    Ok(())
+}
+
+// How many arcs the list of a vertex has where it is had run by run. `None` where it is not, or `x` is no vertex.
+fn arcs_of_runs(board: &Board, lists: &BoardLists, x: &[u32]) -> Option<u64> {
+    if !board.family().holds(x) {
+        return None;
+    }
+    let mut runs = lists.runs(x)?;
+    let mut count: u64 = 0;
+    for _run in 0..runs.len() {
+        if runs.len() == 0 {
+            return None;
+        }
+        let run = runs.next_run();
+        count = count.wrapping_add(u64::from(run.farthest));
+        count = count.wrapping_add(u64::from(run.farthest_back));
+    }
+    Some(count)
+}
+
+// Knights of 8 by 8, which move to 2 places from a corner, 4 from a square on an edge and 8 from the middle; rooks of 3 by 5, of which
+// one moves 6 places; one step around a circle, whose list is not had so.
+#[test]
+fn arcs_run_by_run(rt: HostRuntime) -> Result<(), Fail> {
+    let links = Links::new(rt.alloc());
+    let knights = board_of(&[8, 8, 0, 0, 5, 0], false)?;
+    for (x, count) in [([0, 0], 2), ([0, 3], 4), ([4, 4], 8), ([1, 1], 4)] {
+        assert!(rt; arcs_of_runs(&knights, &knights.lists(&links), &x) == Some(count));
+    }
+    let onward = board_of(&[8, 8, 0, 0, 5, 0], true)?;
+    assert!(rt; arcs_of_runs(&onward, &onward.lists(&links), &[4, 4]) == Some(4));
+    let rooks = board_of(&[3, 5, 0, 0, -1, 0], false)?;
+    assert!(rt; arcs_of_runs(&rooks, &rooks.lists(&links), &[2, 1]) == Some(6));
+    let circle = board_of(&[5, 0, 0, 0, 1, 1], false)?;
+    assert!(rt; arcs_of_runs(&circle, &circle.lists(&links), &[2]).is_none());
     Ok(())
 }

@@ -9,6 +9,7 @@ ghost use Rattle.sgb.specs.Texts.{name_line};
 ghost use Rattle.sgb.specs.inner.Pages.{IsPaged, page_bytes};
 ghost use Rattle.sgb.specs.inner.Texts.{entries_text, entry_text};
 
+use super::numerals::Numerals;
 use super::pages::{Filled, Page, make_room};
 use sgb_file::Sink;
 use sgb_gen::Runs;
@@ -26,6 +27,7 @@ pub(super) struct KeptName {
     // How many bytes each entry takes in the name together with those before it.
     ends: Vector,
     text: Filled<MOST_NAME_BYTES>,
+    numerals: Numerals,
 }
 
 impl Model for KeptName {
@@ -48,6 +50,7 @@ impl KeptName {
             vector: Vector::new(),
             ends: Vector::new(),
             text: Filled::new(),
+            numerals: Numerals::new(),
         }
     }
 
@@ -79,7 +82,8 @@ impl KeptName {
         requires { length self.old ≤ most_dimensions }
         ensures { self.new ≡ self.old ++ entry ∷ [] }
     {
-        self.text.push_entry(self.vector.len() > 0, entry);
+        self.text
+            .push_entry(&self.numerals, self.vector.len() > 0, entry);
         self.vector.push(entry);
         self.ends.push(self.text.len() as u32);
     }
@@ -122,7 +126,7 @@ impl KeptName {
         let from = equal_from_start(vector, other);
         let to = equal_to_end(vector, other, from);
         page.push_start_of(&self.text, self.end_of(from));
-        page.push_entries(other, from, to);
+        page.push_entries(&self.numerals, other, from, to);
         page.push_rest_of(&self.text, self.end_of(to));
     }
 
@@ -155,7 +159,7 @@ impl KeptName {
         ensures short { length page.new ≤ length page.old + 11 * (to + 1 - from) }
     {
         page.push_part_of(&self.text, self.end_of(from), self.end_of(to));
-        page.push_entry(to > 0, entry);
+        page.push_entry(&self.numerals, to > 0, entry);
     }
 }
 

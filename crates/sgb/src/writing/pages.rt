@@ -6,6 +6,7 @@ ghost use Rattle.sgb.specs.Writing.{IsWritten};
 ghost use Rattle.sgb.specs.inner.Pages.{IsPaged, page_bytes};
 ghost use Rattle.sgb.specs.inner.Texts.{entries_text, entry_text, most_line_bytes};
 
+use super::numerals::Numerals;
 use super::write_bytes;
 use itoa::{Buffer, Integer};
 use sgb_file::Sink;
@@ -89,6 +90,7 @@ impl<const N: usize> Filled<N> {
     }
 
     /// Appends the first `end` bytes of another text.
+    #[inline(always)]
     pub(super) fn push_start_of<const M: usize>(&mut self, text: &Filled<M>, end: usize)
         requires within { end ≤ length text.now }
         requires room { length self.old + end ≤ N }
@@ -102,12 +104,16 @@ impl<const N: usize> Filled<N> {
     }
 
     /// Appends the bytes of another text from place `start` on.
+    #[inline(always)]
     pub(super) fn push_rest_of<const M: usize>(&mut self, text: &Filled<M>, start: usize)
         requires within { start ≤ length text.now }
         requires room { length self.old + (length text.now - start) ≤ N }
         ensures { self.new ≡ self.old ++ drop start text.now }
     {
         let count = text.len - start;
+        if count == 0 {
+            return;
+        }
         if count <= WORD_BYTES && start + WORD_BYTES <= M && self.len + WORD_BYTES <= N {
             self.push_word(&text.bytes, start, count);
         } else {
@@ -116,6 +122,7 @@ impl<const N: usize> Filled<N> {
     }
 
     /// Appends the bytes of another text from place `start` on and before `end`.
+    #[inline(always)]
     pub(super) fn push_part_of<const M: usize>(
         &mut self,
         text: &Filled<M>,
@@ -128,6 +135,9 @@ impl<const N: usize> Filled<N> {
         ensures { self.new ≡ self.old ++ take (end - start) (drop start text.now) }
     {
         let count = end - start;
+        if count == 0 {
+            return;
+        }
         if count <= WORD_BYTES && start + WORD_BYTES <= M && self.len + WORD_BYTES <= N {
             self.push_word(&text.bytes, start, count);
         } else {
@@ -161,7 +171,7 @@ impl<const N: usize> Filled<N> {
     }
 
     /// Appends an entry of a vector, after a dot where it is not the first: at most 11 bytes.
-    pub(super) fn push_entry(&mut self, dotted: bool, entry: u32)
+    pub(super) fn push_entry(&mut self, numerals: &Numerals, dotted: bool, entry: u32)
         requires { length self.old + 41 ≤ N }
         ensures text { self.new ≡ self.old ++ entry_text dotted entry }
         ensures short { length self.new ≤ length self.old + 11 }
@@ -169,7 +179,32 @@ impl<const N: usize> Filled<N> {
         if dotted {
             self.push_byte(b'.');
         }
-        self.push_count(entry);
+        self.push_kept_count(numerals, entry);
+    }
+
+    // Appends a number of 32 bits in decimal, at most 10 bytes. The text of a small one is known.
+    fn push_kept_count(&mut self, numerals: &Numerals, number: u32)
+        requires { length self.old + 40 ≤ N }
+        ensures text { self.new ≡ self.old ++ decimal number }
+        ensures short { length self.new ≤ length self.old + 10 }
+    {
+        match numerals.get(number) {
+            Some(numeral) => self.push_short_word(&numeral.0[..], usize::from(numeral.1)),
+            None => self.push_count(number),
+        }
+    }
+
+    // Appends the first `count` bytes of a word of four, which is moved at once.
+    fn push_short_word(&mut self, word: &[u8], count: usize)
+        requires whole { length word.now ≡ 4 }
+        requires few { count ≤ 4 }
+        requires room { length self.old + 4 ≤ N }
+        ensures { self.new ≡ self.old ++ take count word.now }
+    {
+        let at = self.len;
+        let all = &mut self.bytes[..];
+        all[at..at + 4].copy_from_slice(word);
+        self.len = at + count;
     }
 
     // Appends a number of 32 bits in decimal, at most 10 bytes. Few digits are put one by one.
@@ -185,8 +220,8 @@ impl<const N: usize> Filled<N> {
         }
     }
 
-    // Appends a number of at most four digits.
-    fn push_few_digits(&mut self, number: u32)
+    /// Appends a number of at most four digits.
+    pub(super) fn push_few_digits(&mut self, number: u32)
         requires few { number < 10_000 }
         requires room { length self.old + 4 ≤ N }
         ensures text { self.new ≡ self.old ++ decimal number }
@@ -235,7 +270,13 @@ impl<const N: usize> Filled<N> {
     }
 
     /// Appends the entries of a vector from place `from` on and before `to`, as they stand in its name.
-    pub(super) fn push_entries(&mut self, vector: &[u32], from: usize, to: usize)
+    pub(super) fn push_entries(
+        &mut self,
+        numerals: &Numerals,
+        vector: &[u32],
+        from: usize,
+        to: usize,
+    )
         requires places { (from ≤ to) × (to ≤ length vector.now) }
         requires room { length self.old + (11 * (to - from) + 41) ≤ N }
         ensures text { self.new ≡ self.old
@@ -243,7 +284,7 @@ impl<const N: usize> Filled<N> {
         ensures short { length self.new ≤ length self.old + 11 * (to - from) }
     {
         for place in from..to {
-            self.push_entry(place > 0, vector[place]);
+            self.push_entry(numerals, place > 0, vector[place]);
         }
     }
 
