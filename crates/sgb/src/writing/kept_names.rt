@@ -73,8 +73,8 @@ impl KeptName {
     {
         let end = self.end_of(count);
         self.text.cut(end);
-        self.vector.truncate(count);
-        self.ends.truncate(count);
+        shorten(&mut self.vector, count);
+        shorten(&mut self.ends, count);
     }
 
     // The name with one more entry.
@@ -160,6 +160,15 @@ impl KeptName {
     {
         page.push_part_of(&self.text, self.end_of(from), self.end_of(to));
         page.push_entry(&self.numerals, to > 0, entry);
+    }
+}
+
+// Keeps the first `count` entries. The others, of which there are few as a rule, go one by one.
+fn shorten(entries: &mut Vector, count: usize)
+    ensures { entries.new.items ≡ take count entries.old.items }
+{
+    while entries.len() > count {
+        let _last = entries.pop();
     }
 }
 
