@@ -26,6 +26,8 @@ pub mod WrapBits
 pub mod Places
 -- a place, by the coordinates that a displacement moves
 pub mod MovedCoordinates
+-- vertices from which no side is near
+mod InsideVertices
 -- how far the coordinates stay that a displacement moves
 pub mod PartReaches
 -- where a move leads

@@ -61,12 +61,15 @@ pub at_has : (P : List ℤ → Type 0) (ts : List (List ℤ)) (k : ℕ) (t : Lis
 at_has P ts k t all at = subst P (get_or_from_slice_get ts k t t at) (all k t (slice_get_within ts k t at))
 
 -- a displacement of a board has an entry for each side
-pub width_in_table : (b : BoardData) (ts : List (List ℤ)) (k : ℕ) (t : List ℤ) → ts ≡ displacements_within (nat_abs b.piece) (bounds_of b)
-    → slice_get ts k ≡ Some t → length t ≡ length b.sizes
-width_in_table b ts k t is at =
+pub widths_in_table : (b : BoardData) (ts : List (List ℤ)) → ts ≡ displacements_within (nat_abs b.piece) (bounds_of b) → All (λ u. length u ≡ length b.sizes) ts
+widths_in_table b ts is =
     let p = nat_abs b.piece in
     let wide = subst (λ n. All (λ u. length u ≡ n) (displacements_within p (bounds_of b))) (length-entry_bounds p b.sizes b.wrap) (displacement_lengths p (bounds_of b)) in
-    at_has (λ u. length u ≡ length b.sizes) ts k t (subst (All (λ u. length u ≡ length b.sizes)) (sym is) wide) at
+    subst (All (λ u. length u ≡ length b.sizes)) (sym is) wide
+
+pub width_in_table : (b : BoardData) (ts : List (List ℤ)) (k : ℕ) (t : List ℤ) → ts ≡ displacements_within (nat_abs b.piece) (bounds_of b)
+    → slice_get ts k ≡ Some t → length t ≡ length b.sizes
+width_in_table b ts k t is at = at_has (λ u. length u ≡ length b.sizes) ts k t (widths_in_table b ts is) at
 
 -- none of them have no arcs
 pub none_first : (b : BoardData) (x : List ℕ) (ts : List (List ℤ)) (k : ℕ) → k ≡ 0 → arcs_by_all b x (take k ts) ≡ []

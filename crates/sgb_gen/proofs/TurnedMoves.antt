@@ -129,7 +129,7 @@ side_itself true n z h = ap Some (mod-eq_of_lt h)
 side_itself false n z h = cond-true (ltb z n) (Some z) None (lt-ltb z n h)
 
 -- no step leads to the start
-side_start : (wraps : Bool) (n z : ℕ) (u : ℤ) → z < n → on_side wraps n (pos z +ℤ pos 0 *ℤ u) ≡ Some z
+pub side_start : (wraps : Bool) (n z : ℕ) (u : ℤ) → z < n → on_side wraps n (pos z +ℤ pos 0 *ℤ u) ≡ Some z
 side_start wraps n z u h =
     ap (on_side wraps n) (ap (λ m. pos z +ℤ m) (zero-*ℤ u) ∙ +ℤ_idr (pos z)) ∙ side_itself wraps n z h
 

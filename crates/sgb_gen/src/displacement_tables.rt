@@ -56,6 +56,17 @@ impl KeptPair {
         self.ahead.step()
     }
 
+    /// The greatest size of its entries.
+    pub(crate) fn widest(&self) -> u32
+        ensures { All (λ e. nat_abs e ≤ result) self.now }
+    {
+        let mut widest = 0;
+        for entry in self.ahead.step().entries() {
+            widest = widest.max(entry.unsigned_abs());
+        }
+        widest
+    }
+
     /// Its opposite.
     pub(crate) fn back(&self) -> Step<'_>
         ensures { result ≡ opposite self.now }

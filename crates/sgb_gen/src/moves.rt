@@ -5,7 +5,7 @@ ghost use Rattle.sgb_vec.specs.Lexicographic.{IsBelow};
 ghost use Rattle.sgb_gen.specs.inner.Moves.{destination, leads_onward};
 ghost use Rattle.sgb_gen.specs.Moves.{is_bit_set, coordinate_on, sides_of, place};
 ghost use Rattle.sgb_gen.specs.MovedCoordinates.{part_at, parts_put};
-ghost use Rattle.sgb_gen.specs.inner.MovedCoordinates.{parts_stay};
+ghost use Rattle.sgb_gen.specs.inner.MovedCoordinates.{IsInside, parts_stay};
 ghost use Rattle.sgb_gen.specs.inner.EntryBounds.{entry_bound, entry_bounds};
 
 use crate::displacements::EntrySizes;
@@ -91,6 +91,43 @@ pub(crate) fn reach(sizes: &[u32], wrap: i64, x: &[u32], parts: &[Part], most: u
         reach = steps_on(sizes[*k], wraps(wrap, *k), x[*k], *amount, reach);
     }
     reach
+}
+
+/// The same, where `near` tells that the steps of length 1 lead to a place: it is then not looked at once more.
+pub(crate) fn reach_from(
+    near: bool,
+    sizes: &[u32],
+    wrap: i64,
+    x: &[u32],
+    parts: &[Part],
+    most: u32,
+) -> u32
+    requires below { IsBelow x.now sizes.now }
+    requires parts { All (λ p. p.0 < length sizes.now) parts.now }
+    requires near { OnTrue near (parts_stay sizes.now wrap x.now 1 parts.now ≡ true) }
+    ensures within { result ≤ most }
+    ensures stay { (l : ℕ) → l ≤ result
+        → parts_stay sizes.now wrap x.now l parts.now ≡ true }
+    ensures end { result < most
+        → parts_stay sizes.now wrap x.now (result + 1) parts.now ≡ false }
+{
+    if near && most == 1 {
+        return 1;
+    }
+    reach(sizes, wrap, x, parts, most)
+}
+
+/// Whether each coordinate of `x` has this much room on both sides.
+pub(crate) fn is_inside(sizes: &[u32], x: &[u32], room: u32) -> bool
+    requires { IsBelow x.now sizes.now }
+    ensures { OnTrue result (IsInside room sizes.now x.now) }
+{
+    for (k, size) in sizes.iter().enumerate() {
+        if x[k] < room || size - 1 - x[k] < room {
+            return false;
+        }
+    }
+    true
 }
 
 /// Where coordinate number `k` leads at length `l` from `x`, if it does, where it moves so far for each unit of length.

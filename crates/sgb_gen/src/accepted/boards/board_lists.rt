@@ -9,7 +9,7 @@ ghost use Rattle.sgb_gen.specs.inner.EntryBounds.{displacements_within, entry_bo
 ghost use Rattle.sgb_gen.specs.inner.LocalBoards.{arcs_onward};
 
 use super::Board;
-use super::runs::lead_onward;
+use super::runs::{lead_onward, widest_of};
 use crate::displacement_tables::DisplacementTable;
 use crate::links::Links;
 use sgb_vec::{Family, Panic, Vector};
@@ -24,12 +24,14 @@ pub struct BoardLists<'a> {
     pub(super) table: Option<DisplacementTable>,
     // Whether all of these lead to later vectors.
     pub(super) straight: bool,
+    // No entry of theirs is greater.
+    pub(super) widest: u32,
     // Room for a vector.
     there: Vector,
 }
 
 impl<'a> Model for BoardLists<'a> {
-    ghost use Rattle.std.specs.Prelude.{◌≡◌, nat_abs, IfSome};
+    ghost use Rattle.std.specs.Prelude.{◌≡◌, ◌≤◌, nat_abs, All, IfSome};
     ghost use Rattle.std.specs.Bool.{OnTrue};
     ghost use Rattle.sgb_gen.specs.inner.StraightLists.{AreOnward};
     ghost use Rattle.sgb_gen.specs.Boards.{BoardData};
@@ -43,7 +45,8 @@ impl<'a> Model for BoardLists<'a> {
     ghost invariant = { λ b. IfSome b.table (λ d. d
         ≡ displacements_within (nat_abs b.board.now.piece)
         (entry_bounds (nat_abs b.board.now.piece) (sides_of b.board.now.sizes b.board.now.wrap)))
-        × OnTrue b.straight (IfSome b.table (AreOnward b.board.now.wrap)) };
+        × OnTrue b.straight (IfSome b.table (AreOnward b.board.now.wrap))
+        × IfSome b.table (All (All (λ e. nat_abs e ≤ b.widest))) };
 }
 
 impl Board {
@@ -55,10 +58,12 @@ impl Board {
     {
         let table = DisplacementTable::new(links.alloc(), self.family.dims(), self.displacements());
         let straight = lead_onward(self.wrap, &table);
+        let widest = widest_of(&table);
         BoardLists {
             board: self,
             table,
             straight,
+            widest,
             there: Vector::new(),
         }
     }

@@ -1,5 +1,5 @@
 //! The list of a board's vertex where all displacements lead onward, run by run: no list is kept.
-ghost use Rattle.std.specs.Prelude.{◌≡◌, ◌++◌, ◌<◌, ◌≤◌, ◌-◌, ℕ, [], length, nat_abs, true, Contains, IfSome, unwrap_or};
+ghost use Rattle.std.specs.Prelude.{◌≡◌, ◌++◌, ◌<◌, ◌≤◌, ◌-◌, ℕ, [], length, nat_abs, true, All, Contains, IfSome, unwrap_or};
 ghost use Rattle.std.specs.Bool.{OnTrue};
 ghost use Rattle.sgb_vec.specs.Boxes.{box};
 ghost use Rattle.sgb_vec.specs.Lexicographic.{IsBelow};
@@ -9,12 +9,13 @@ ghost use Rattle.sgb_gen.specs.MovedCoordinates.{part_at, parts_of};
 ghost use Rattle.sgb_gen.specs.Moves.{opposite, place, sides_of};
 ghost use Rattle.sgb_gen.specs.Runs.{AreMoved, arcs_along, arcs_of_run};
 ghost use Rattle.sgb_gen.specs.inner.Moves.{destination, leads_onward};
+ghost use Rattle.sgb_gen.specs.inner.MovedCoordinates.{IsInside, StayAtOne, parts_stay};
 ghost use Rattle.sgb_gen.specs.inner.StraightLists.{AreOnward, arcs_back, arcs_from};
 
 use super::Board;
 use super::board_lists::BoardLists;
 use crate::displacement_tables::{DisplacementTable, KeptPair};
-use crate::moves::{leads_onward, part_at, reach};
+use crate::moves::{is_inside, leads_onward, part_at, reach_from};
 use crate::steps::Step;
 use std::marker::Model;
 
@@ -40,14 +41,18 @@ pub struct Runs<'b> {
     table: &'b DisplacementTable,
     x: &'b [u32],
     left: usize,
+    // Whether all moves of length 1 stay on the board, which is then looked at once for all of them.
+    near: bool,
 }
 
 impl<'b> Model for Runs<'b> {
-    ghost use Rattle.std.specs.Prelude.{◌≡◌, ◌≤◌, length, nat_abs, take};
+    ghost use Rattle.std.specs.Prelude.{◌≡◌, ◌≤◌, length, nat_abs, take, All};
+    ghost use Rattle.std.specs.Bool.{OnTrue};
     ghost use Rattle.sgb_vec.specs.Lexicographic.{IsBelow};
     ghost use Rattle.sgb_gen.specs.Moves.{sides_of};
     ghost use Rattle.sgb_gen.specs.Runs.{RunsData};
     ghost use Rattle.sgb_gen.specs.inner.EntryBounds.{displacements_within, entry_bounds};
+    ghost use Rattle.sgb_gen.specs.inner.MovedCoordinates.{StayAtOne};
     ghost use Rattle.sgb_gen.specs.inner.StraightLists.{AreOnward, arcs_by_all};
 
     ghost Value = { RunsData };
@@ -64,7 +69,9 @@ impl<'b> Model for Runs<'b> {
         × (r.table.now ≡ displacements_within (nat_abs r.board.now.piece)
         (entry_bounds (nat_abs r.board.now.piece) (sides_of r.board.now.sizes r.board.now.wrap)))
         × AreOnward r.board.now.wrap r.table.now
-        × IsBelow r.x.now r.board.now.sizes };
+        × IsBelow r.x.now r.board.now.sizes
+        × OnTrue r.near
+        (All (StayAtOne r.board.now.sizes r.board.now.wrap r.x.now) r.table.now) };
 }
 
 impl<'b> Runs<'b> {
@@ -90,7 +97,7 @@ impl<'b> Runs<'b> {
         ensures back { AreMoved (length self.old.x) result.back.now }
     {
         let k = self.left - 1;
-        let run = self.board.run_by(self.x, self.table.at(k));
+        let run = self.board.run_by(self.x, self.table.at(k), self.near);
         self.left = k;
         run
     }
@@ -116,11 +123,20 @@ impl Board {
         part_at(self.shape.sizes(), self.wrap, x, l, k, amount).unwrap_or(0)
     }
 
+    // Whether each coordinate of `x` has this much room on both sides.
+    fn is_inside(&self, x: &[u32], room: u32) -> bool
+        requires { IsBelow x.now self.now.sizes }
+        ensures { OnTrue result (IsInside room self.now.sizes x.now) }
+    {
+        is_inside(self.shape.sizes(), x, room)
+    }
+
     // The run of `x` by a displacement and its opposite.
-    fn run_by<'b>(&self, x: &[u32], pair: &'b KeptPair) -> Run<'b>
+    fn run_by<'b>(&self, x: &[u32], pair: &'b KeptPair, near: bool) -> Run<'b>
         requires below { IsBelow x.now self.now.sizes }
         requires dimensions { length pair.now ≡ length self.now.sizes }
         requires onward { leads_onward self.now.wrap 0 pair.now ≡ true }
+        requires near { OnTrue near (StayAtOne self.now.sizes self.now.wrap x.now pair.now) }
         ensures ahead { result.ahead.now ≡ parts_of pair.now }
         ensures farthest { arcs_from self.now x.now pair.now ≡ arcs_along self.now.sizes
             self.now.wrap x.now (parts_of pair.now) result.farthest }
@@ -132,24 +148,27 @@ impl Board {
         let ahead = pair.ahead();
         let back = pair.back();
         Run {
-            farthest: self.farthest(x, &ahead),
-            farthest_back: self.farthest_back(x, &back),
+            farthest: self.farthest(x, &ahead, near),
+            farthest_back: self.farthest_back(x, &back, near),
             ahead: ahead.into_parts(),
             back: back.into_parts(),
         }
     }
 
     // How far the moves from `x` by `t` lead, where these never come home.
-    fn farthest(&self, x: &[u32], t: &Step) -> u32
+    fn farthest(&self, x: &[u32], t: &Step, near: bool) -> u32
         requires below { IsBelow x.now self.now.sizes }
         requires dimensions { length t.now ≡ length self.now.sizes }
         requires away { (l : ℕ) → 0 < l
             → destination (sides_of self.now.sizes self.now.wrap) self.now.piece x.now t.now l
             ≡ place (sides_of self.now.sizes self.now.wrap) x.now t.now l }
+        requires near { OnTrue near
+            (parts_stay self.now.sizes self.now.wrap x.now 1 (parts_of t.now) ≡ true) }
         ensures { arcs_from self.now x.now t.now ≡ arcs_along self.now.sizes self.now.wrap x.now
             (parts_of t.now) result }
     {
-        reach(
+        reach_from(
+            near,
             self.shape.sizes(),
             self.wrap,
             x,
@@ -159,19 +178,21 @@ impl Board {
     }
 
     // How far edges lead back: not at all where there are arcs alone.
-    fn farthest_back(&self, x: &[u32], t: &Step) -> u32
+    fn farthest_back(&self, x: &[u32], t: &Step, near: bool) -> u32
         requires below { IsBelow x.now self.now.sizes }
         requires dimensions { length t.now ≡ length self.now.sizes }
         requires away { (l : ℕ) → 0 < l
             → destination (sides_of self.now.sizes self.now.wrap) self.now.piece x.now t.now l
             ≡ place (sides_of self.now.sizes self.now.wrap) x.now t.now l }
+        requires near { OnTrue near
+            (parts_stay self.now.sizes self.now.wrap x.now 1 (parts_of t.now) ≡ true) }
         ensures { arcs_back self.now x.now t.now ≡ arcs_along self.now.sizes self.now.wrap x.now
             (parts_of t.now) result }
     {
         if self.directed {
             return 0;
         }
-        self.farthest(x, t)
+        self.farthest(x, t, near)
     }
 }
 
@@ -195,10 +216,32 @@ impl<'a> BoardLists<'a> {
                 table,
                 x,
                 left: table.len(),
+                near: self.board.is_inside(x, self.widest),
             }),
             None => None,
         }
     }
+}
+
+/// The greatest size of the entries of displacements in a table.
+pub(super) fn widest_of(table: &Option<DisplacementTable>) -> u32
+    ensures { IfSome table.now (All (All (λ e. nat_abs e ≤ result))) }
+{
+    match table {
+        Some(table) => widest_in(table),
+        None => 0,
+    }
+}
+
+// The greatest size of the entries of these displacements.
+fn widest_in(table: &DisplacementTable) -> u32
+    ensures { All (All (λ e. nat_abs e ≤ result)) table.now }
+{
+    let mut widest = 0;
+    for k in 0..table.len() {
+        widest = widest.max(table.at(k).widest());
+    }
+    widest
 }
 
 /// Whether there are displacements in a table, and all of them lead onward.

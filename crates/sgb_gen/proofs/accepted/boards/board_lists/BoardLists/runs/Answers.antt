@@ -1,4 +1,5 @@
-use Rattle.std.proofs.Common.{◌≡◌, ◌∙◌, nat_abs, reverse, sym, ap, subst, arith, rules}
+use Rattle.std.proofs.Common.{◌≡◌, ◌≤◌, ◌∙◌, All, get_or, nat_abs, reverse, sym, ap, subst, arith, rules}
+use Rattle.std.proofs.lemmas.Bool.{OnTrue_at, OnTrue_from}
 use Rattle.std.specs.Prelude.{IfSome}
 use Rattle.std.proofs.lemmas.List.{take_all}
 use Rattle.sgb_vec.specs.Lexicographic.{IsBelow}
@@ -9,10 +10,16 @@ use Rattle.sgb_gen.specs.LocalLists.{list_at}
 use Rattle.sgb_gen.specs.Moves.{sides_of}
 use Rattle.sgb_gen.specs.inner.EntryBounds.{displacements_within, entry_bounds}
 use Rattle.sgb_gen.specs.inner.LocalBoards.{arcs_onward}
+use Rattle.sgb_gen.specs.inner.MovedCoordinates.{StayAtOne}
 use Rattle.sgb_gen.specs.inner.StraightLists.{AreOnward, arcs_by_all}
 use Rattle.sgb_gen.proofs.BoundedMoves.{moves_within}
+use Rattle.sgb_gen.proofs.InsideVertices.{stay_inside}
 use Rattle.sgb_gen.proofs.ListsOfBoards.{list_of_board}
+use Rattle.sgb_gen.proofs.RunsOfLists.{widths_in_table}
 use Rattle.sgb_gen.proofs.accepted.boards.board_lists.BoardLists.runs.Goals as goal
+
+pub is_inside-requires : goal.is_inside-requires
+is_inside-requires c = IsBelow-from_Contains c.self.inside.board.now.sizes c.args.x.now (search rules)
 
 pub invariant_of-result : goal.invariant_of-result
 invariant_of-result c =
@@ -20,7 +27,11 @@ invariant_of-result c =
     let kept = subst (λ o. IfSome o (λ d. d ≡ displacements_within (nat_abs b.piece) (entry_bounds (nat_abs b.piece) (sides_of b.sizes b.wrap)))) c.in-Some.is c.self.invariant.0 in
     let onward = subst (λ o. IfSome o (AreOnward b.wrap)) c.in-Some.is (rw c.if-not-self.false at c.self.invariant.1) in
     let below : IsBelow c.args.x.now b.sizes = IsBelow-from_Contains b.sizes c.args.x.now (search rules) in
-    (omega (arith, c.len.ensures), kept, onward, below)
+    let small = subst (λ o. IfSome o (All (All (λ e. nat_abs e ≤ c.self.inside.widest)))) c.in-Some.is c.self.invariant.2 in
+    let wide = widths_in_table b c.in-Some.table kept in
+    let near = OnTrue_from c.is_inside.result (All (StayAtOne b.sizes b.wrap c.args.x.now) c.in-Some.table)
+    (λ yes k d h. stay_inside b.sizes b.wrap c.args.x.now c.self.inside.widest (OnTrue_at yes c.is_inside.ensures) (get_or c.in-Some.table k d) (wide k d h) (small k d h)) in
+    (omega (arith, c.len.ensures), kept, onward, below, near)
 
 pub returns-in-Some-clause-arcs : goal.returns-in-Some-clause-arcs
 returns-in-Some-clause-arcs c =
