@@ -201,10 +201,10 @@ impl<const N: usize> Filled<N> {
         requires room { length self.old + 4 ≤ N }
         ensures { self.new ≡ self.old ++ take count word.now }
     {
-        let at = self.len;
+        let start = self.len;
         let all = &mut self.bytes[..];
-        all[at..at + 4].copy_from_slice(word);
-        self.len = at + count;
+        all[start..start + 4].copy_from_slice(word);
+        self.len = start + count;
     }
 
     // Appends a number of 32 bits in decimal, at most 10 bytes. Few digits are put one by one.
