@@ -191,11 +191,15 @@ fn move_parts(
     true
 }
 
-// Puts the vector `x` into `there`.
+// Puts the vector `x` into `there`, which is as long as it as a rule.
 fn put_vector(x: &[u32], there: &mut Vector)
     requires { length x.now ≤ most_dimensions }
     ensures { there.new.items ≡ x.now }
 {
+    if there.len() == x.len() {
+        there.as_mut_slice().copy_from_slice(x);
+        return;
+    }
     there.clear();
     let _written = there.try_extend_from_slice(x);
 }
