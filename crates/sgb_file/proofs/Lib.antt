@@ -54,6 +54,7 @@ pub mod BrokenLines
 pub mod LaidLines
 -- bytes put on lines, and pieces laid out
 pub mod PlacedPieces
+pub mod PlainFields
 -- the first bytes of a full line, and the last one
 pub mod FullLines
 -- fields laid out one by one

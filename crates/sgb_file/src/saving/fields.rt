@@ -1,5 +1,5 @@
 //! The fields of records, laid out (GB_SAVE, save_graph).
-ghost use Rattle.std.specs.Prelude.{◌≡◌, ◌≤◌, ◌++◌, length, map, codes, decimal, true, false};
+ghost use Rattle.std.specs.Prelude.{◌≡◌, ◌≤◌, ◌≤ℤ◌, pos, ◌++◌, ◌∷◌, [], length, map, codes, decimal, true, false};
 ghost use Rattle.std.specs.Fmt.{signed_decimal};
 ghost use Rattle.std.specs.List.{flat_map};
 ghost use Rattle.sgb_graph.specs.Columns.{util_seen};
@@ -11,8 +11,26 @@ use crate::devices::{Failed, Sink};
 use itoa::Buffer;
 use sgb_graph::{Ref, UtilRef};
 
-// Lays out the fields that are used, which end the record.
+// Lays out the fields that are used, which end the record. Most records have none.
+#[inline(always)]
 pub(super) fn put_fields<W: Sink>(
+    layout: &mut Layout,
+    sink: &mut W,
+    fields: &[UtilRef<'_>],
+) -> Result<(), Failed>
+    ensures { AreLaidOut (flat_map field_texts (map util_seen fields.now))
+        (stage W.written W.has_failed sink.old layout.old)
+        (stage W.written W.has_failed sink.new layout.new) result }
+{
+    if !any_used(fields) {
+        return layout.end_line(sink);
+    }
+    put_each_field(layout, sink, fields)
+}
+
+// Lays out the fields that are used, one by one, and ends the line.
+#[inline(never)]
+fn put_each_field<W: Sink>(
     layout: &mut Layout,
     sink: &mut W,
     fields: &[UtilRef<'_>],
@@ -93,8 +111,20 @@ pub(super) fn put_integer<W: Sink>(
         (stage W.written W.has_failed sink.old layout.old)
         (stage W.written W.has_failed sink.new layout.new) result }
 {
+    if 0 <= number && number <= 9 {
+        return layout.place(sink, b"", &[digit_of(number)], comma(more));
+    }
     let mut digits = Buffer::new();
     layout.place(sink, b"", digits.format(number).as_bytes(), comma(more))
+}
+
+// The digit of a number below ten.
+fn digit_of(number: i64) -> u8
+    requires low { pos 0 ≤ℤ number }
+    requires high { number ≤ℤ pos 9 }
+    ensures { signed_decimal number ≡ result ∷ [] }
+{
+    b'0' + number as u8
 }
 
 // Lays out a number.
