@@ -31,6 +31,7 @@ const PLACES: [u8; 256] = [
 ];
 
 // The checksum after a line more, from the checksum before it: where the line begins with a star, it does not count.
+#[inline(always)]
 pub(crate) fn checksum_after_line(sum: u32, line: &[u8]) -> u32
     ensures { result ≡ checksum_from sum (counted_bytes (line.now ∷ [])) }
 {

@@ -1,5 +1,5 @@
 //! The fields of records, laid out (GB_SAVE, save_graph).
-ghost use Rattle.std.specs.Prelude.{◌≡◌, ◌≤◌, ◌≤ℤ◌, pos, ◌++◌, ◌∷◌, [], length, map, codes, decimal, true, false};
+ghost use Rattle.std.specs.Prelude.{◌≡◌, ◌≤◌, ◌≤ℤ◌, pos, ◌++◌, ◌∷◌, [], Some, length, map, codes, decimal, true, false};
 ghost use Rattle.std.specs.Fmt.{signed_decimal};
 ghost use Rattle.std.specs.List.{flat_map};
 ghost use Rattle.sgb_graph.specs.Columns.{util_seen};
@@ -114,8 +114,10 @@ pub(super) fn put_integer<W: Sink>(
     if 0 <= number && number <= 9 {
         return layout.place(sink, b"", &[digit_of(number)], comma(more));
     }
-    let mut digits = Buffer::new();
-    layout.place(sink, b"", digits.format(number).as_bytes(), comma(more))
+    match u32::try_from(number) {
+        Ok(count) => layout.place_number(sink, b"", count, comma(more)),
+        Err(_) => put_long_integer(layout, sink, number, more),
+    }
 }
 
 // The digit of a number below ten.
@@ -125,6 +127,22 @@ fn digit_of(number: i64) -> u8
     ensures { signed_decimal number ≡ result ∷ [] }
 {
     b'0' + number as u8
+}
+
+// Lays out any integer.
+#[inline(never)]
+fn put_long_integer<W: Sink>(
+    layout: &mut Layout,
+    sink: &mut W,
+    number: i64,
+    more: bool,
+) -> Result<(), Failed>
+    ensures { IsPlaced (piece_of more (signed_decimal number))
+        (stage W.written W.has_failed sink.old layout.old)
+        (stage W.written W.has_failed sink.new layout.new) result }
+{
+    let mut digits = Buffer::new();
+    layout.place(sink, b"", digits.format(number).as_bytes(), comma(more))
 }
 
 // Lays out a number.
@@ -156,10 +174,7 @@ pub(super) fn put_ref<W: Sink>(
     match vertex {
         Ref::Null => layout.place(sink, b"", b"0", comma(more)),
         Ref::One => layout.place(sink, b"", b"1", comma(more)),
-        Ref::At(number) => {
-            let mut digits = Buffer::new();
-            layout.place(sink, b"V", digits.format(number).as_bytes(), comma(more))
-        }
+        Ref::At(number) => layout.place_number(sink, b"V", number, comma(more)),
     }
 }
 
@@ -176,11 +191,27 @@ pub(super) fn put_record_number<W: Sink>(
 {
     match first {
         None => layout.place(sink, b"", b"0", comma(more)),
-        Some(number) => {
-            let mut digits = Buffer::new();
-            layout.place(sink, b"A", digits.format(number).as_bytes(), comma(more))
-        }
+        Some(number) => match u32::try_from(number) {
+            Ok(count) => layout.place_number(sink, b"A", count, comma(more)),
+            Err(_) => put_long_record_number(layout, sink, number, more),
+        },
     }
+}
+
+// Lays out any arc record's number.
+#[inline(never)]
+fn put_long_record_number<W: Sink>(
+    layout: &mut Layout,
+    sink: &mut W,
+    number: usize,
+    more: bool,
+) -> Result<(), Failed>
+    ensures { IsPlaced (piece_of more (record_number_text (Some number)))
+        (stage W.written W.has_failed sink.old layout.old)
+        (stage W.written W.has_failed sink.new layout.new) result }
+{
+    let mut digits = Buffer::new();
+    layout.place(sink, b"A", digits.format(number).as_bytes(), comma(more))
 }
 
 // The comma after a field where more follow.
