@@ -49,6 +49,7 @@ pub(crate) fn has_star(line: &[u8]) -> bool
 }
 
 // The checksum after these bytes and a newline, from the checksum before them: a remainder is taken for many bytes at once.
+#[inline(always)]
 fn checksum_with_newline(sum: u32, bytes: &[u8]) -> u32
     ensures { result ≡ checksum_from sum (bytes.now ++ 10 ∷ []) }
 {

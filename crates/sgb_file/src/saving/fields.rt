@@ -101,6 +101,7 @@ pub(super) fn put_string<W: Sink>(
 }
 
 // Lays out an integer.
+#[inline(always)]
 pub(super) fn put_integer<W: Sink>(
     layout: &mut Layout,
     sink: &mut W,
@@ -161,6 +162,7 @@ pub(super) fn put_number<W: Sink>(
 }
 
 // Lays out a vertex.
+#[inline(always)]
 pub(super) fn put_ref<W: Sink>(
     layout: &mut Layout,
     sink: &mut W,
@@ -179,6 +181,7 @@ pub(super) fn put_ref<W: Sink>(
 }
 
 // Lays out an arc record's number.
+#[inline(always)]
 pub(super) fn put_record_number<W: Sink>(
     layout: &mut Layout,
     sink: &mut W,
