@@ -103,6 +103,7 @@ ends_with_digits (suc most) (b ∷ text) e = by_digit (ends_with_digits most tex
   where
     at_end : (f : List ℕ) → front (suc most) (b ∷ text) ≡ f → is_at_end (drop (length f) (b ∷ text)) ≡ true
     at_end f p = subst (λ (x : List ℕ). is_at_end (drop (length x) (b ∷ text)) ≡ true) p e
+
     by_digit : (is_at_end (drop (length (front most text)) text) ≡ true → comma_free text ≡ front most text)
         → (d : Bool) → is_decimal_digit b ≡ d → comma_free (b ∷ text) ≡ front (suc most) (b ∷ text)
     by_digit later true h =
@@ -132,6 +133,7 @@ goes_past_digits (suc most) (b ∷ text) e = by_digit (goes_past_digits most tex
   where
     at_end : (f : List ℕ) → front (suc most) (b ∷ text) ≡ f → is_at_end (drop (length f) (b ∷ text)) ≡ false
     at_end f p = subst (λ (x : List ℕ). is_at_end (drop (length x) (b ∷ text)) ≡ false) p e
+
     by_digit : (is_at_end (drop (length (front most text)) text) ≡ false → (nat_le (length (comma_free text)) most && list_all is_decimal_digit (comma_free text)) ≡ false)
         → (d : Bool) → is_decimal_digit b ≡ d → (nat_le (length (comma_free (b ∷ text))) (suc most) && list_all is_decimal_digit (comma_free (b ∷ text))) ≡ false
     by_digit later true h =
@@ -164,7 +166,7 @@ no_number most text none = by_end (is_at_end (drop (length (front most text)) te
     by_end : (t : Bool) → is_at_end (drop (length (front most text)) text) ≡ t → number_of most (comma_free text) ≡ None
     by_end true e =
         let empty : nat_lt 0 (length (comma_free text)) ≡ false =
-            let same = ap length (ends_with_digits most text e) in grind (arith, nat_tests) in
+        let same = ap length (ends_with_digits most text e) in grind (arith, nat_tests) in
         rw empty refl
     by_end false e = number_goes_on most text e
 

@@ -63,16 +63,16 @@ impl Line {
 
     // Appends a number of at most eight digits between two short texts, for which there is room.
     #[inline(always)]
-    pub(super) fn push_number_piece(&mut self, front: &[u8], number: u32, back: &[u8])
+    pub(super) fn push_number_piece(&mut self, before: &[u8], number: u32, after: &[u8])
         requires room { length self.old ≤ 67 }
         requires few { number < 100_000_000 }
-        requires front { length front.now ≤ 2 }
-        requires back { length back.now ≤ 2 }
-        ensures { self.new ≡ self.old ++ (front.now ++ decimal number ++ back.now) }
+        requires before { length before.now ≤ 2 }
+        requires after { length after.now ≤ 2 }
+        ensures { self.new ≡ self.old ++ (before.now ++ decimal number ++ after.now) }
     {
-        self.push_few(front);
+        self.push_few(before);
         self.push_number(number);
-        self.push_few(back);
+        self.push_few(after);
     }
 
     // Appends a number of at most eight digits.
