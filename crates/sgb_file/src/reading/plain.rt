@@ -121,7 +121,7 @@ fn first_digits(text: &[u8]) -> (u64, usize)
         if !is_digit(byte) {
             return (value, place);
         }
-        value = 10 * value + u64::from(byte - b'0');
+        value = 10 * value + (u64::from(byte) - 48);
     }
     (value, text.len())
 }
