@@ -36,7 +36,7 @@ pub(super) fn read_next_field(
 
 // The value of the field of this kind that stands after a comma.
 #[inline(never)]
-fn read_field_after_comma(
+pub(super) fn read_field_after_comma(
     alloc: Global,
     counts: &Counts,
     kind: Kind,
@@ -51,7 +51,7 @@ fn read_field_after_comma(
 }
 
 // Whether a field of this kind has a text.
-fn is_used(kind: Kind) -> bool
+pub(super) fn is_used(kind: Kind) -> bool
     ensures { result ≡ is_used kind }
 {
     !matches!(kind, Kind::Z)
