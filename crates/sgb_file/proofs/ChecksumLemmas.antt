@@ -1,7 +1,7 @@
 -- Lemmas on the order of bytes in the checksum, and on the sum made byte by byte.
-use Rattle.std.specs.Prelude.{◌≡◌, ℕ, suc, ◌+◌, ◌*◌, ◌/◌, ◌%◌, ◌^◌, ◌<◌, ◌≤◌, Bool, true, not, ◌&&◌, ◌||◌, List, [], ◌∷◌, length, take, drop, fold, refl, nat_lt, ◌==◌, slice_index}
+use Rattle.std.specs.Prelude.{◌≡◌, ℕ, suc, ◌+◌, ◌*◌, ◌/◌, ◌%◌, ◌^◌, ◌<◌, ◌≤◌, Bool, true, not, ◌&&◌, ◌||◌, List, [], ◌∷◌, ◌++◌, length, take, drop, fold, refl, nat_lt, ◌==◌, slice_index}
 use Rattle.std.specs.List.{list_all, range_with_len}
-use Rattle.std.proofs.Common.{arith, ap, sym, ◌∙◌}
+use Rattle.std.proofs.Common.{arith, ap, sym, ◌∙◌, length-append}
 use Rattle.std.proofs.Math.Nat.{mul_assoc, mul_comm, add-mul, pow-suc, add-mul-mod_self_right, mod-add-div', mod-eq_of_lt, two-pow-succ}
 use Rattle.std.proofs.lemmas.List.{drop_all, drop_more, take-append-drop}
 use Rattle.std.proofs.lemmas.List.Sums.{fold-append}
@@ -92,6 +92,24 @@ unfolding checksum_from
 bytes_counted sum value k bytes some counted =
     ap (λ x. checksum_from x (drop k bytes)) (counted ∙ from_remainder sum (take k bytes) some)
     ∙ (sym (fold-append checksum_after sum (take k bytes) (drop k bytes)) ∙ ap (checksum_from sum) (take-append-drop k bytes))
+
+-- a newline more
+pub newline_counted : (sum value place : ℕ) (bytes : List ℕ) → value % checksum_prime ≡ checksum_from sum bytes → place ≡ place_of 10
+    → (2 * value + place) % checksum_prime ≡ checksum_from sum (bytes ++ 10 ∷ [])
+unfolding checksum_from checksum_after
+newline_counted sum value place bytes counted e =
+    ap (λ (p : ℕ). (2 * value + p) % checksum_prime) e
+    ∙ (sym (remainder_doubled value (place_of 10) checksum_prime)
+    ∙ (ap (λ (s : ℕ). (2 * s + place_of 10) % checksum_prime) counted ∙ sym (fold-append checksum_after sum bytes (10 ∷ []))))
+
+-- the last bytes of a text and a newline, with the remainder taken at their end
+pub end_counted : (sum after value : ℕ) (rest bytes : List ℕ) → checksum_from after rest ≡ checksum_from sum bytes
+    → value % checksum_prime ≡ checksum_from (after % checksum_prime) (rest ++ 10 ∷ []) → value % checksum_prime ≡ checksum_from sum (bytes ++ 10 ∷ [])
+unfolding checksum_from
+end_counted sum after value rest bytes so_far counted =
+    let some : 0 < length (rest ++ 10 ∷ []) = omega (arith, length-append rest (10 ∷ [])) in
+    counted ∙ from_remainder after (rest ++ 10 ∷ []) some
+    ∙ (fold-append checksum_after after rest (10 ∷ []) ∙ (ap (λ (s : ℕ). checksum_after s 10) so_far ∙ sym (fold-append checksum_after sum bytes (10 ∷ []))))
 
 -- no bytes are left
 pub nothing_counted : (sum i : ℕ) (bytes : List ℕ) → length bytes ≤ i → checksum_from sum (drop i bytes) ≡ sum

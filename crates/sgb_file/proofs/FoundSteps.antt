@@ -1,5 +1,5 @@
 -- Lemmas on readers one after another: a record is read field by field.
-use Rattle.std.specs.Prelude.{◌≡◌, ℕ, ◌+◌, ◌<◌, ◌≤◌, true, List, [], ◌∷◌, ◌++◌, length, take, drop, codes, Option, Some, None, Err, option_map, ◌==◌, refl}
+use Rattle.std.specs.Prelude.{◌≡◌, ℕ, zero, ◌+◌, ◌<◌, ◌≤◌, true, false, List, [], ◌∷◌, ◌++◌, length, take, drop, codes, Option, Some, None, Err, option_map, ◌==◌, refl}
 use Rattle.std.proofs.Common.{ap, sym, suc, ◌∙◌, append_assoc, append-nil, arith, get_or}
 use Rattle.std.proofs.Common.{set}
 use Rattle.std.proofs.Math.Seq.{drop-cons}
@@ -14,9 +14,10 @@ use Rattle.sgb_graph.specs.Sound.{vertex_kinds, arc_kinds, graph_kinds}
 use Rattle.sgb_graph.specs.declared.fields.Kind.{Kind}
 use Rattle.sgb_graph.specs.declared.fields.Kind.TheVariants.{Z, I, V, S, A}
 use Rattle.sgb_graph.specs.declared.fields.Util.{Util}
+use Rattle.sgb_graph.specs.declared.fields.Util.TheVariants.{Nothing}
 use Rattle.sgb_file.specs.Fields.{Counts, Found, given, found_as, field_at, most_number_digits, number_of, plain_at, string_at, after_prefix}
 use Rattle.sgb_file.specs.Records.{Head, after_comma, graph_record_at, more_fields_at, record_at, vertex_record_at, vertex_of_fields, arc_record_at, arc_of_fields}
-use Rattle.sgb_file.specs.inner.Found.{IsFoundBy, IsPassedBy, next_field_at}
+use Rattle.sgb_file.specs.inner.Found.{IsFoundBy, IsPassedBy, is_used, next_at, next_field_at}
 
 -- a reader that stops because another one stopped
 pub stops : {X Y : Type 0} (first : Option (Found X)) (all : Option (Found Y)) (p : Panic) (left later : List ℕ) → IsFoundBy first (Err p) left → (first ≡ None → all ≡ None) → IsFoundBy all (Err p) later
@@ -129,6 +130,23 @@ this_field counts kinds i kind d text h e =
     let parts : drop i kinds ≡ kind ∷ drop (i + 1) kinds =
     drop-cons kinds i d h ∙ ap (λ (k : Kind). k ∷ drop (suc i) kinds) (sym e) ∙ ap (λ (ks : List Kind). kind ∷ ks) tail in
     ap (λ (ks : List Kind). more_fields_at counts ks text) parts ∙ first_field counts kind (drop (i + 1) kinds) text
+
+-- no field is used yet
+pub none_used : (k : ℕ) → get_or (Nothing ∷ Nothing ∷ Nothing ∷ Nothing ∷ Nothing ∷ Nothing ∷ []) k Nothing ≡ Nothing
+none_used zero = refl
+none_used (suc zero) = refl
+none_used (suc (suc zero)) = refl
+none_used (suc (suc (suc zero))) = refl
+none_used (suc (suc (suc (suc zero)))) = refl
+none_used (suc (suc (suc (suc (suc zero))))) = refl
+none_used (suc (suc (suc (suc (suc (suc k)))))) = refl
+
+-- a field that is used stands after a comma; one that is not has no text
+pub used_at : (counts : Counts) (kind : Kind) (text : List ℕ) → is_used kind ≡ true → next_at (field_at counts kind) text ≡ next_field_at counts kind text
+used_at counts kind text e = rw e refl
+
+pub unused_at : (counts : Counts) (kind : Kind) (text : List ℕ) → is_used kind ≡ false → next_field_at counts kind text ≡ Some (record { value = Nothing; rest = text })
+unused_at counts kind text e = rw e refl
 
 pub field_stops : (counts : Counts) (kinds : List Kind) (i : ℕ) (kind d : Kind) (first : List Util) (whole : Option (Found (List Util))) (text left after : List ℕ) (e : Panic)
     → i < length kinds → kind ≡ get_or kinds i d → whole ≡ with_first first (more_fields_at counts (drop i kinds) text)

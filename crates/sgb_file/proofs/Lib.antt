@@ -54,6 +54,8 @@ pub mod BrokenLines
 pub mod LaidLines
 -- bytes put on lines, and pieces laid out
 pub mod PlacedPieces
+pub mod PlainFields
+pub mod FewDigits
 -- the first bytes of a full line, and the last one
 pub mod FullLines
 -- fields laid out one by one

@@ -1,13 +1,13 @@
 //! The checksum of a file, made byte by byte (GB_IO, new_checksum).
-ghost use Rattle.std.specs.Prelude.{◌≡◌, ◌≤◌, ◌%◌, ◌∷◌, [], length};
+ghost use Rattle.std.specs.Prelude.{◌≡◌, ◌≤◌, ◌+◌, ◌^◌, ◌%◌, ◌++◌, ◌∷◌, [], length};
 ghost use Rattle.sgb_file.specs.Checksum.{checksum_prime, has_star};
 ghost use Rattle.sgb_file.specs.inner.Layouts.{checksum_from, counted_bytes, place_of, places};
 
 // The checksum is taken modulo this prime.
 const PRIME: u64 = 1_073_741_741;
 
-// A value below 2^32, doubled this often with a byte's place added each time, is below 2^64.
-const MOST_AT_ONCE: usize = 31;
+// A value below 2^32, doubled once more than this often with a byte's place added each time, is below 2^64.
+const MOST_AT_ONCE: usize = 30;
 
 // The place of each byte among the 96 characters of a file, and 96 where it is none of them (GB_IO, imap_chr).
 #[rattlefmt::skip]
@@ -31,13 +31,14 @@ const PLACES: [u8; 256] = [
 ];
 
 // The checksum after a line more, from the checksum before it: where the line begins with a star, it does not count.
+#[inline(always)]
 pub(crate) fn checksum_after_line(sum: u32, line: &[u8]) -> u32
     ensures { result ≡ checksum_from sum (counted_bytes (line.now ∷ [])) }
 {
     if has_star(line) {
         return sum;
     }
-    checksum_from(checksum_from(sum, line), b"\n")
+    checksum_with_newline(sum, line)
 }
 
 // Whether the line begins with a star.
@@ -47,24 +48,35 @@ pub(crate) fn has_star(line: &[u8]) -> bool
     !line.is_empty() && line[0] == b'*'
 }
 
-// The checksum after these bytes, from the checksum before them: a remainder is taken for many bytes at once.
-fn checksum_from(sum: u32, bytes: &[u8]) -> u32
-    ensures { result ≡ checksum_from sum bytes.now }
+// The checksum after these bytes and a newline, from the checksum before them: a remainder is taken for many bytes at once.
+#[inline(always)]
+fn checksum_with_newline(sum: u32, bytes: &[u8]) -> u32
+    ensures { result ≡ checksum_from sum (bytes.now ++ 10 ∷ []) }
 {
     let mut after = sum;
     let mut rest = bytes;
-    while !rest.is_empty() {
-        let (few, others) = rest.split_at(rest.len().min(MOST_AT_ONCE));
+    while rest.len() > MOST_AT_ONCE {
+        let (few, others) = rest.split_at(MOST_AT_ONCE);
         after = remainder(value_after(after, few));
         rest = others;
     }
-    after
+    remainder(value_with_newline(after, rest))
+}
+
+// The same as the next one, with a newline after the bytes.
+fn value_with_newline(sum: u32, bytes: &[u8]) -> u64
+    requires { length bytes.now ≤ 30 }
+    ensures { result % checksum_prime ≡ checksum_from (sum % checksum_prime)
+        (bytes.now ++ 10 ∷ []) }
+{
+    2 * value_after(sum, bytes) + u64::from(place_of(b'\n'))
 }
 
 // A number with this remainder, and that of the checksum after these bytes: as it is made with no remainder taken.
 fn value_after(sum: u32, bytes: &[u8]) -> u64
-    requires { length bytes.now ≤ 31 }
-    ensures { result % checksum_prime ≡ checksum_from (sum % checksum_prime) bytes.now }
+    requires { length bytes.now ≤ 30 }
+    ensures value { result % checksum_prime ≡ checksum_from (sum % checksum_prime) bytes.now }
+    ensures room { result + 256 ≤ 2 ^ (33 + length bytes.now) }
 {
     let mut value = u64::from(sum);
     for byte in bytes {

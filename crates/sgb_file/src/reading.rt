@@ -9,6 +9,7 @@ mod heads;
 mod lines;
 mod numbers;
 mod openings;
+mod plain;
 mod records;
 mod sections;
 mod separators;

@@ -28,6 +28,8 @@ const INTEGERS: &[(&str, Wanted)] = &[
     ("007", Wanted::Integer(7)),
     ("00000000000000000005", Wanted::Integer(5)),
     ("000000000000000000005", Wanted::Refusal),
+    ("999999999999999999", Wanted::Integer(999999999999999999)),
+    ("1000000000000000000", Wanted::Integer(1000000000000000000)),
     ("9223372036854775807", Wanted::Integer(9223372036854775807)),
     ("9223372036854775808", Wanted::Refusal),
     (
@@ -47,6 +49,8 @@ const INTEGERS: &[(&str, Wanted)] = &[
 const REFS: &[(&str, Wanted)] = &[
     ("V0", Wanted::Vertex(Ref::At(0))),
     ("V002", Wanted::Vertex(Ref::At(2))),
+    ("V000000000000000002", Wanted::Vertex(Ref::At(2))),
+    ("V0000000000000000002", Wanted::Refusal),
     ("V3", Wanted::Refusal),
     ("V", Wanted::Refusal),
     ("0", Wanted::Vertex(Ref::Null)),

@@ -1,5 +1,5 @@
 -- What a reader returns, and the text that it leaves [GB_SAVE, fill_field].
-use Rattle.std.specs.Prelude.{◌≡◌, ◌≤◌, ◌==◌, ◌&&◌, ◌++◌, ◌-◌, ℕ, Bool, true, false, ℤ, pos, neg_ℤ, ◌^◌, List, length, option_map, Option, Some, None, Result, Ok, Err, nat_lt, nat_le, slice_index_or, if◌then◌else◌}
+use Rattle.std.specs.Prelude.{◌≡◌, ◌≤◌, ◌==◌, ◌&&◌, ◌++◌, ◌-◌, ℕ, Bool, true, false, ℤ, pos, neg_ℤ, ◌^◌, List, [], ◌∷◌, length, option_map, Option, Some, None, Result, Ok, Err, nat_lt, nat_le, slice_index_or, if◌then◌else◌}
 use Rattle.std.specs.List.{list_any, list_all, before_first, after_first}
 use Rattle.std.specs.Str.Parse.{digits_value}
 use Rattle.sgb_vec.specs.Limits.{most_bytes}
@@ -49,6 +49,11 @@ positive_of n = if nat_lt n (2 ^ 63) then Some (pos n) else None
 
 abbrev pub negative_of : ℕ → Option ℤ
 negative_of n = if nat_le n (2 ^ 63) then Some (neg_ℤ (pos n)) else None
+
+-- a field ends where nothing is left of a text, or it goes on with a comma (44)
+abbrev pub is_at_end : List ℕ → Bool
+is_at_end [] = true
+is_at_end (b ∷ text) = b == 44
 
 -- a text that is at most so long, of bytes that may stand in a string
 abbrev pub checked_text : ℕ → List ℕ → Option (List ℕ)

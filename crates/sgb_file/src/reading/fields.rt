@@ -2,12 +2,14 @@
 ghost use Rattle.std.specs.Prelude.{◌≡◌, ◌==◌, ◌<◌, ◌^◌, drop, length, IfOk};
 ghost use Rattle.std.specs.List.{before_first, position};
 ghost use Rattle.sgb_file.specs.Fields.{field_at, integer_of, most_number_digits, number_of, plain_at, plain_text, record_number_of, ref_of};
-ghost use Rattle.sgb_file.specs.inner.Found.{IsFoundBy, is_used, next_field_at};
+ghost use Rattle.sgb_file.specs.inner.Found.{IsFoundBy, is_used, next_at, next_field_at};
 ghost use Rattle.sgb_file.specs.inner.LinesLeft.{text_left};
 
 use super::heads::Counts;
 use super::lines::Lines;
-use super::numbers::{integer_of, number_of, record_number_of, ref_of};
+use super::plain::{
+    integer_before_comma, number_before_comma, record_number_before_comma, ref_before_comma,
+};
 use super::separators::pass_comma;
 use super::strings::read_text;
 use sgb_graph::{Kind, Ref, Util};
@@ -15,6 +17,7 @@ use sgb_vec::Panic;
 use std::alloc::Global;
 
 // The value of the next field, of this kind; a field that is not used has no text, not even a comma before it.
+#[inline(always)]
 pub(super) fn read_next_field(
     alloc: Global,
     counts: &Counts,
@@ -28,12 +31,27 @@ pub(super) fn read_next_field(
     if !is_used(kind) {
         return Ok(Util::Nothing);
     }
+    read_field_after_comma(alloc, counts, kind, lines)
+}
+
+// The value of the field of this kind that stands after a comma.
+#[inline(never)]
+pub(super) fn read_field_after_comma(
+    alloc: Global,
+    counts: &Counts,
+    kind: Kind,
+    lines: &mut Lines<'_>,
+) -> Result<Util, Panic>
+    ensures found { IsFoundBy (next_at (field_at counts.now kind) (text_left lines.old)) result
+        (text_left lines.new) }
+    ensures all { lines.new.all ≡ lines.old.all }
+{
     pass_comma(lines)?;
     read_field(alloc, counts, kind, lines)
 }
 
 // Whether a field of this kind has a text.
-fn is_used(kind: Kind) -> bool
+pub(super) fn is_used(kind: Kind) -> bool
     ensures { result ≡ is_used kind }
 {
     !matches!(kind, Kind::Z)
@@ -60,12 +78,20 @@ pub(super) fn read_field(
 }
 
 // The integer that stands next.
+#[inline(always)]
 pub(super) fn read_integer(lines: &mut Lines<'_>) -> Result<i64, Panic>
     ensures found { IsFoundBy (plain_at integer_of (text_left lines.old)) result
         (text_left lines.new) }
     ensures all { lines.new.all ≡ lines.old.all }
 {
-    integer_of(take_plain(lines)).ok_or(Panic::Syntax)
+    let Some(line) = lines.line() else {
+        return Err(Panic::Syntax);
+    };
+    let Some((number, len)) = integer_before_comma(line) else {
+        return Err(Panic::Syntax);
+    };
+    lines.skip(len);
+    Ok(number)
 }
 
 // The number that stands next, of 1 to 18 digits.
@@ -75,7 +101,14 @@ pub(super) fn read_number(lines: &mut Lines<'_>) -> Result<u64, Panic>
     ensures bound { IfOk result (λ n. n < 10 ^ 18) }
     ensures all { lines.new.all ≡ lines.old.all }
 {
-    number_of(take_plain(lines)).ok_or(Panic::Syntax)
+    let Some(line) = lines.line() else {
+        return Err(Panic::Syntax);
+    };
+    let Some((number, len)) = number_before_comma(line) else {
+        return Err(Panic::Syntax);
+    };
+    lines.skip(len);
+    Ok(number)
 }
 
 // The vertex that stands next, or none.
@@ -84,7 +117,14 @@ pub(super) fn read_ref(counts: &Counts, lines: &mut Lines<'_>) -> Result<Ref, Pa
         (text_left lines.new) }
     ensures all { lines.new.all ≡ lines.old.all }
 {
-    ref_of(counts, take_plain(lines)).ok_or(Panic::Syntax)
+    let Some(line) = lines.line() else {
+        return Err(Panic::Syntax);
+    };
+    let Some((vertex, len)) = ref_before_comma(counts, line) else {
+        return Err(Panic::Syntax);
+    };
+    lines.skip(len);
+    Ok(vertex)
 }
 
 // The arc record that stands next, by its number, or none.
@@ -96,37 +136,12 @@ pub(super) fn read_record_number(
         result (text_left lines.new) }
     ensures all { lines.new.all ≡ lines.old.all }
 {
-    record_number_of(counts, take_plain(lines)).ok_or(Panic::Syntax)
-}
-
-// Takes the bytes up to the next comma or the end of the line.
-fn take_plain<'a>(lines: &mut Lines<'a>) -> &'a [u8]
-    ensures text { result.now ≡ plain_text (text_left lines.old) }
-    ensures left { text_left lines.new
-        ≡ drop (length (plain_text (text_left lines.old))) (text_left lines.old) }
-    ensures all { lines.new.all ≡ lines.old.all }
-{
     let Some(line) = lines.line() else {
-        return b"";
+        return Err(Panic::Syntax);
     };
-    let text = before_comma(line);
-    lines.skip(text.len());
-    text
-}
-
-// The bytes before the first comma, or all.
-fn before_comma(line: &[u8]) -> &[u8]
-    ensures { result.now ≡ before_first (λ b. b == 44) line.now }
-{
-    match place_of_comma(line) {
-        Some(end) => &line[..end],
-        None => line,
-    }
-}
-
-// Where the first comma stands.
-fn place_of_comma(line: &[u8]) -> Option<usize>
-    ensures { result ≡ position (λ b. b == 44) line.now }
-{
-    line.iter().position(|byte| *byte == b',')
+    let Some((first, len)) = record_number_before_comma(counts, line) else {
+        return Err(Panic::Syntax);
+    };
+    lines.skip(len);
+    Ok(first)
 }

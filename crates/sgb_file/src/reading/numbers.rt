@@ -9,7 +9,7 @@ use super::heads::Counts;
 use sgb_graph::Ref;
 
 // A number of the file's own has at most this many digits.
-const MOST_NUMBER_DIGITS: usize = 18;
+pub(super) const MOST_NUMBER_DIGITS: usize = 18;
 
 // An integer field has at most this many digits.
 const MOST_INTEGER_DIGITS: usize = 20;
@@ -41,7 +41,7 @@ fn value_if_digits(text: &[u8]) -> Option<u64>
 }
 
 // Whether the byte is a decimal digit.
-fn is_digit(byte: u8) -> bool
+pub(super) fn is_digit(byte: u8) -> bool
     ensures { result ≡ is_decimal_digit byte }
 {
     b'0' <= byte && byte <= b'9'

@@ -5,7 +5,10 @@ ghost use Rattle.sgb_file.specs.inner.Found.{IsFoundBy};
 ghost use Rattle.sgb_file.specs.inner.LinesLeft.{text_left};
 ghost use Rattle.sgb_file.specs.Records.{arc_record_at, graph_record_at, more_fields_at, vertex_record_at};
 
-use super::fields::{read_integer, read_next_field, read_number, read_record_number, read_ref};
+use super::fields::{
+    is_used, read_field_after_comma, read_integer, read_next_field, read_number,
+    read_record_number, read_ref,
+};
 use super::heads::{Counts, Head};
 use super::lines::Lines;
 use super::separators::{end_record, pass_comma};
@@ -107,7 +110,10 @@ fn read_fields(
         Util::Nothing,
     ];
     for place in 0..6 {
-        fields[place] = read_next_field(alloc, counts, kinds[place], lines)?;
+        if !is_used(kinds[place]) {
+            continue;
+        }
+        fields[place] = read_field_after_comma(alloc, counts, kinds[place], lines)?;
     }
     end_record(lines)?;
     Ok(fields)

@@ -1,5 +1,5 @@
 //! The fields of records, laid out (GB_SAVE, save_graph).
-ghost use Rattle.std.specs.Prelude.{◌≡◌, ◌≤◌, ◌++◌, length, map, codes, decimal, true, false};
+ghost use Rattle.std.specs.Prelude.{◌≡◌, ◌≤◌, ◌≤ℤ◌, pos, ◌++◌, ◌∷◌, [], Some, length, map, codes, decimal, true, false};
 ghost use Rattle.std.specs.Fmt.{signed_decimal};
 ghost use Rattle.std.specs.List.{flat_map};
 ghost use Rattle.sgb_graph.specs.Columns.{util_seen};
@@ -11,8 +11,26 @@ use crate::devices::{Failed, Sink};
 use itoa::Buffer;
 use sgb_graph::{Ref, UtilRef};
 
-// Lays out the fields that are used, which end the record.
+// Lays out the fields that are used, which end the record. Most records have none.
+#[inline(always)]
 pub(super) fn put_fields<W: Sink>(
+    layout: &mut Layout,
+    sink: &mut W,
+    fields: &[UtilRef<'_>],
+) -> Result<(), Failed>
+    ensures { AreLaidOut (flat_map field_texts (map util_seen fields.now))
+        (stage W.written W.has_failed sink.old layout.old)
+        (stage W.written W.has_failed sink.new layout.new) result }
+{
+    if !any_used(fields) {
+        return layout.end_line(sink);
+    }
+    put_each_field(layout, sink, fields)
+}
+
+// Lays out the fields that are used, one by one, and ends the line.
+#[inline(never)]
+fn put_each_field<W: Sink>(
     layout: &mut Layout,
     sink: &mut W,
     fields: &[UtilRef<'_>],
@@ -83,7 +101,38 @@ pub(super) fn put_string<W: Sink>(
 }
 
 // Lays out an integer.
+#[inline(always)]
 pub(super) fn put_integer<W: Sink>(
+    layout: &mut Layout,
+    sink: &mut W,
+    number: i64,
+    more: bool,
+) -> Result<(), Failed>
+    ensures { IsPlaced (piece_of more (signed_decimal number))
+        (stage W.written W.has_failed sink.old layout.old)
+        (stage W.written W.has_failed sink.new layout.new) result }
+{
+    if 0 <= number && number <= 9 {
+        return layout.place(sink, b"", &[digit_of(number)], comma(more));
+    }
+    match u32::try_from(number) {
+        Ok(count) => layout.place_number(sink, b"", count, comma(more)),
+        Err(_) => put_long_integer(layout, sink, number, more),
+    }
+}
+
+// The digit of a number below ten.
+fn digit_of(number: i64) -> u8
+    requires low { pos 0 ≤ℤ number }
+    requires high { number ≤ℤ pos 9 }
+    ensures { signed_decimal number ≡ result ∷ [] }
+{
+    b'0' + number as u8
+}
+
+// Lays out any integer.
+#[inline(never)]
+fn put_long_integer<W: Sink>(
     layout: &mut Layout,
     sink: &mut W,
     number: i64,
@@ -113,6 +162,7 @@ pub(super) fn put_number<W: Sink>(
 }
 
 // Lays out a vertex.
+#[inline(always)]
 pub(super) fn put_ref<W: Sink>(
     layout: &mut Layout,
     sink: &mut W,
@@ -126,14 +176,12 @@ pub(super) fn put_ref<W: Sink>(
     match vertex {
         Ref::Null => layout.place(sink, b"", b"0", comma(more)),
         Ref::One => layout.place(sink, b"", b"1", comma(more)),
-        Ref::At(number) => {
-            let mut digits = Buffer::new();
-            layout.place(sink, b"V", digits.format(number).as_bytes(), comma(more))
-        }
+        Ref::At(number) => layout.place_number(sink, b"V", number, comma(more)),
     }
 }
 
 // Lays out an arc record's number.
+#[inline(always)]
 pub(super) fn put_record_number<W: Sink>(
     layout: &mut Layout,
     sink: &mut W,
@@ -146,11 +194,27 @@ pub(super) fn put_record_number<W: Sink>(
 {
     match first {
         None => layout.place(sink, b"", b"0", comma(more)),
-        Some(number) => {
-            let mut digits = Buffer::new();
-            layout.place(sink, b"A", digits.format(number).as_bytes(), comma(more))
-        }
+        Some(number) => match u32::try_from(number) {
+            Ok(count) => layout.place_number(sink, b"A", count, comma(more)),
+            Err(_) => put_long_record_number(layout, sink, number, more),
+        },
     }
+}
+
+// Lays out any arc record's number.
+#[inline(never)]
+fn put_long_record_number<W: Sink>(
+    layout: &mut Layout,
+    sink: &mut W,
+    number: usize,
+    more: bool,
+) -> Result<(), Failed>
+    ensures { IsPlaced (piece_of more (record_number_text (Some number)))
+        (stage W.written W.has_failed sink.old layout.old)
+        (stage W.written W.has_failed sink.new layout.new) result }
+{
+    let mut digits = Buffer::new();
+    layout.place(sink, b"A", digits.format(number).as_bytes(), comma(more))
 }
 
 // The comma after a field where more follow.

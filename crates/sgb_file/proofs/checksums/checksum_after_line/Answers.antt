@@ -1,6 +1,5 @@
-use Rattle.std.proofs.Common.{◌∙◌, sym, ap, [], ◌∷◌}
-use Rattle.sgb_file.specs.inner.Layouts.{checksum_from}
-use Rattle.sgb_file.proofs.LaidLines.{checksum-starred, checksum-counted}
+use Rattle.std.proofs.Common.{◌∙◌, sym, [], ◌∷◌}
+use Rattle.sgb_file.proofs.LaidLines.{checksum-starred, checksum-counted, checksum_from-append}
 use Rattle.sgb_file.proofs.checksums.checksum_after_line.Goals as goal
 
 pub returns-then-has_star : goal.returns-then-has_star
@@ -8,5 +7,5 @@ returns-then-has_star c = sym (checksum-starred c.args.sum c.args.line.now (sym 
 
 pub returns : goal.returns
 returns c =
-    c.checksum_from-2.ensures ∙ (ap (λ sum. checksum_from sum (10 ∷ [])) c.checksum_from.ensures
+    c.checksum_with_newline.ensures ∙ (checksum_from-append c.args.sum c.args.line.now (10 ∷ [])
     ∙ checksum-counted c.args.sum c.args.line.now (sym c.has_star.ensures ∙ c.if-has_star.false))

@@ -1,6 +1,6 @@
 use Rattle.std.proofs.Common.{◌≡◌, length}
 use Rattle.sgb_file.specs.inner.Layouts.{checksum_from}
-use Rattle.sgb_file.proofs.checksums.checksum_from.Given as goal
+use Rattle.sgb_file.proofs.checksums.checksum_with_newline.Given as goal
 
 -- the checksum goes on with the bytes that are left
 abbrev pub invariant-loop-rest : goal.invariant-loop-rest

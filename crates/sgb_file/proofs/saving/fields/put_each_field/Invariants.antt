@@ -3,7 +3,7 @@ use Rattle.sgb_file.specs.inner.Layouts.{stage}
 use Rattle.sgb_file.specs.Saving.{laid_out, pieces_of}
 use Rattle.sgb_file.proofs.FieldTexts.{texts_of}
 use Rattle.sgb_file.proofs.LaidLines.{LinesSoFar}
-use Rattle.sgb_file.proofs.saving.fields.put_fields.Given as goal
+use Rattle.sgb_file.proofs.saving.fields.put_each_field.Given as goal
 
 -- the lines of the fields from this place on are left
 abbrev pub invariant-loop-place : goal.invariant-loop-place

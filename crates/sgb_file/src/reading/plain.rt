@@ -1,0 +1,144 @@
+//! What the bytes before the first comma of a line say, and how many they are (GB_SAVE, fill_field).
+ghost use Rattle.std.specs.Prelude.{◌≡◌, ◌≤◌, ◌<◌, ◌==◌, ◌^◌, length, IfSome, option_map};
+ghost use Rattle.std.specs.List.{before_first, position, take_while};
+ghost use Rattle.std.specs.Str.Parse.{digits_value};
+ghost use Rattle.sgb_file.specs.Fields.{integer_of, is_decimal_digit, most_number_digits, number_below, number_of, record_number_of, ref_of};
+ghost use Rattle.sgb_file.specs.inner.Found.{is_at_end};
+
+use super::heads::Counts;
+use super::numbers::{MOST_NUMBER_DIGITS, integer_of, is_digit, record_number_of, ref_of};
+use sgb_graph::Ref;
+
+// The integer of 64 bits that the bytes before the first comma write, and how many they are.
+#[inline(always)]
+pub(super) fn integer_before_comma(line: &[u8]) -> Option<(i64, usize)>
+    ensures value { option_map (λ x. x.0) result ≡ integer_of (before_first (λ b. b == 44) line.now) }
+    ensures len { IfSome result (λ x. x.1 ≡ length (before_first (λ b. b == 44) line.now)) }
+{
+    match number_before_comma(line) {
+        Some((number, len)) => Some((number as i64, len)),
+        None => other_integer_before_comma(line),
+    }
+}
+
+// The same of any integer, with a `-` or with more than 18 digits too.
+#[inline(never)]
+fn other_integer_before_comma(line: &[u8]) -> Option<(i64, usize)>
+    ensures value { option_map (λ x. x.0) result ≡ integer_of (before_first (λ b. b == 44) line.now) }
+    ensures len { IfSome result (λ x. x.1 ≡ length (before_first (λ b. b == 44) line.now)) }
+{
+    let text = before_comma(line);
+    let number = integer_of(text)?;
+    Some((number, text.len()))
+}
+
+// The vertex that the bytes before the first comma stand for, or none, and how many they are.
+#[inline(always)]
+pub(super) fn ref_before_comma(counts: &Counts, line: &[u8]) -> Option<(Ref, usize)>
+    ensures value { option_map (λ x. x.0) result ≡ ref_of counts.now.vertices
+        (before_first (λ b. b == 44) line.now) }
+    ensures len { IfSome result (λ x. x.1 ≡ length (before_first (λ b. b == 44) line.now)) }
+{
+    if let Some(digits) = line.strip_prefix(b"V") {
+        let (v, len) = number_below_before_comma(counts.vertices, digits)?;
+        return Some((Ref::At(v as u32), len + 1));
+    }
+    let text = before_comma(line);
+    let vertex = ref_of(counts, text)?;
+    Some((vertex, text.len()))
+}
+
+// The arc record that the bytes before the first comma stand for, or none, and how many they are.
+#[inline(always)]
+pub(super) fn record_number_before_comma(
+    counts: &Counts,
+    line: &[u8],
+) -> Option<(Option<usize>, usize)>
+    ensures value { option_map (λ x. x.0) result ≡ record_number_of counts.now.arcs
+        (before_first (λ b. b == 44) line.now) }
+    ensures len { IfSome result (λ x. x.1 ≡ length (before_first (λ b. b == 44) line.now)) }
+{
+    if let Some(digits) = line.strip_prefix(b"A") {
+        let (k, len) = number_below_before_comma(counts.arcs, digits)?;
+        return Some((Some(k as usize), len + 1));
+    }
+    let text = before_comma(line);
+    let first = record_number_of(counts, text)?;
+    Some((first, text.len()))
+}
+
+// The number below a limit that the bytes before the first comma write, and how many they are.
+#[inline(always)]
+fn number_below_before_comma(limit: u64, text: &[u8]) -> Option<(u64, usize)>
+    ensures value { option_map (λ x. x.0) result ≡ number_below limit
+        (before_first (λ b. b == 44) text.now) }
+    ensures bound { IfSome result (λ x. x.0 < limit) }
+    ensures len { IfSome result (λ x. x.1 ≡ length (before_first (λ b. b == 44) text.now)) }
+{
+    let (number, len) = number_before_comma(text)?;
+    if number < limit {
+        Some((number, len))
+    } else {
+        None
+    }
+}
+
+// The number of 1 to 18 digits that the bytes before the first comma write, and how many they are: in one pass.
+#[inline(always)]
+pub(super) fn number_before_comma(text: &[u8]) -> Option<(u64, usize)>
+    ensures value { option_map (λ x. x.0) result ≡ number_of most_number_digits
+        (before_first (λ b. b == 44) text.now) }
+    ensures bound { IfSome result (λ x. x.0 < 10 ^ 18) }
+    ensures len { IfSome result (λ x. x.1 ≡ length (before_first (λ b. b == 44) text.now)) }
+{
+    let (number, len) = first_digits(&text[..MOST_NUMBER_DIGITS.min(text.len())]);
+    if len == 0 {
+        return None;
+    }
+    if !is_at_end(&text[len..]) {
+        return None;
+    }
+    Some((number, len))
+}
+
+// Whether nothing is left of a text, or it goes on with a comma.
+fn is_at_end(text: &[u8]) -> bool
+    ensures { result ≡ is_at_end text.now }
+{
+    text.is_empty() || text[0] == b','
+}
+
+// The number that the digits write which a text of at most 18 bytes begins with, and how many they are.
+#[inline(always)]
+fn first_digits(text: &[u8]) -> (u64, usize)
+    requires { length text.now ≤ 18 }
+    ensures value { result.0 ≡ digits_value 10 (take_while is_decimal_digit text.now) }
+    ensures count { result.1 ≡ length (take_while is_decimal_digit text.now) }
+{
+    let mut value = 0;
+    for place in 0..text.len() {
+        let byte = text[place];
+        if !is_digit(byte) {
+            return (value, place);
+        }
+        value = 10 * value + (u64::from(byte) - 48);
+    }
+    (value, text.len())
+}
+
+// The bytes before the first comma, or all.
+fn before_comma(line: &[u8]) -> &[u8]
+    ensures { result.now ≡ before_first (λ b. b == 44) line.now }
+{
+    match place_of_comma(line) {
+        Some(end) => &line[..end],
+        None => line,
+    }
+}
+
+// Where the first comma stands.
+fn place_of_comma(line: &[u8]) -> Option<usize>
+    ensures { result ≡ position (λ b. b == 44) line.now }
+{
+    line.iter().position(|byte| *byte == b',')
+}
