@@ -19,7 +19,7 @@ const SIDE: usize = 20;
 const CELLS: usize = SIDE * SIDE * SIDE;
 
 // No more vectors than these are walked: that is as quick.
-const MOST_WALKED: u32 = 8_000;
+const MOST_WALKED: u32 = 1_000;
 
 type PairTable = ArrayVec<u64, CELLS>;
 
