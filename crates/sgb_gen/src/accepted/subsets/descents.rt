@@ -10,7 +10,7 @@ ghost use Rattle.sgb_gen.specs.inner.LocalSimplexes.{with_arcs};
 
 use super::Subsets;
 use super::last_entries::{push_last, push_zeros};
-use super::sizes::{WantedSizes, all_but_the_least, may_be_among, wanted_entries};
+use super::sizes::{WantedSizes, may_be_among, wanted_entries};
 use crate::links::Links;
 use sgb_vec::Panic;
 
@@ -167,14 +167,14 @@ fn push_all(
         if entries.count == 0 {
             return Ok(());
         }
-        push_rows(
+        push_greater(
             sizes,
             state,
             bounds[i],
             x[i],
             &bounds[i + 1..],
             &x[i + 1..],
-            all_but_the_least(entries),
+            entries,
             tip,
             links,
         )?;
@@ -183,6 +183,43 @@ fn push_all(
         i += 1;
     }
     push_last(state, &bounds[i..], &x[i..], tip, links)
+}
+
+// Puts the arcs to the vectors that go on with one of these entries, but not with the least, behind the others.
+#[cycle(descent)]
+fn push_greater(
+    sizes: &WantedSizes,
+    begun: Begun,
+    bound: u32,
+    own: u32,
+    bounds: &[u32],
+    x: &[u32],
+    entries: Entries,
+    tip: &mut [u32],
+    links: &mut Links,
+) -> Result<(), Panic>
+    requires begun { IsBegun (bound ∷ bounds.now) (own ∷ x.now) begun.room begun.shared begun.left
+        begun.common }
+    requires entries { entries.least + entries.count ≤ begun.left + 1 }
+    requires sizes { AreBetween begun.size_bits sizes.now.first sizes.now.last }
+    requires width { length tip.old ≡ links.old.width }
+    requires place { length x.now < length tip.old }
+    ensures same { OnOk result (front_of tip.new (own ∷ x.now) ≡ front_of tip.old (own ∷ x.now)) }
+    ensures ok { OnOk result (links.new
+        ≡ with_arcs links.old (arcs_under begun.size_bits (front_of tip.old (own ∷ x.now)) begun.common
+        (own ∷ x.now) (rows begun.left bounds.now (entries.least + 1) (entries.count - 1)))) }
+    ensures memory { IsOkUnless result Panic.NoRoom }
+{
+    if entries.count < 2 {
+        return Ok(());
+    }
+    let greater = Entries {
+        least: entries.least + 1,
+        count: entries.count - 1,
+    };
+    push_rows(
+        sizes, begun, bound, own, bounds, x, greater, tip, links,
+    )
 }
 
 // Puts the arcs to the vectors that go on with one of these entries behind the others.

@@ -49,19 +49,6 @@ pub(super) fn may_be_among(sizes: &WantedSizes, begun: Begun) -> bool
         && (sizes.is_run || any_wanted(begun.size_bits, least, most))
 }
 
-// Those after the least of some entries.
-pub(super) fn all_but_the_least(entries: Entries) -> Entries
-    requires some { 0 < entries.count }
-    requires few { entries.least + entries.count < 2 ^ 32 }
-    ensures least { result.least ≡ entries.least + 1 }
-    ensures count { result.count + 1 ≡ entries.count }
-{
-    Entries {
-        least: entries.least + 1,
-        count: entries.count - 1,
-    }
-}
-
 // The entries with which a vector that begins so may have a wanted size in common, and what is between them.
 pub(super) fn wanted_entries(sizes: &WantedSizes, begun: Begun, bound: u32, own: u32) -> Entries
     requires sizes { AreBetween begun.size_bits sizes.now.first sizes.now.last }

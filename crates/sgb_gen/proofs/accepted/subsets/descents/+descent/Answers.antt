@@ -26,7 +26,7 @@ push_all-loop-state-preserved t c =
     let bounds = c.args.bounds.now in
     let i = c.loop-state.i in
     let tip = c.loop-state.tip in
-    let new = c.push_rows.new.tip in
+    let new = c.push_greater.new.tip in
     let entries = c.wanted_entries-entries.result in
     let h = get_or x i 0 in
     let b = get_or bounds i 0 in
@@ -37,7 +37,7 @@ push_all-loop-state-preserved t c =
     let bounds_are : drop i bounds ≡ b ∷ bs = drop_more bounds i 0 (omega (arith, here, c.loop-state.invariant.1)) in
     let within : entries.least ≤ s.left = omega (arith, c.wanted_entries-entries.ensures.few, c.if-entries-eq0.false) in
     let kept : front_of new (h ∷ xs) ≡ front_of tip (h ∷ xs) =
-    sym (ap (λ v. front_of new (h ∷ v)) (take_rest x (i + 1))) ∙ c.in_ok-push_rows.ensures.same ∙ ap (λ v. front_of tip (h ∷ v)) (take_rest x (i + 1)) in
+    sym (ap (λ v. front_of new (h ∷ v)) (take_rest x (i + 1))) ∙ c.in_ok-push_greater.ensures.same ∙ ap (λ v. front_of tip (h ∷ v)) (take_rest x (i + 1)) in
     let begun = c.loop-state.invariant.3 in (
       here,
       c.loop-state.invariant.1,
@@ -46,13 +46,13 @@ push_all-loop-state-preserved t c =
       front-kept new x (length c.args.tip.now - length x + i) entries.least (omega arith)
           ∙ front-shorter new tip x (h ∷ xs) (omega arith) (omega (arith, length-drop (i + 1) x)) kept
           ∙ c.loop-state.invariant.4,
-      rw c.placed-state.ensures (least-placed c.loop-state.links c.push_rows.new.links c.args.links.now s.size_bits s.common s.left b h entries.least entries.count c.all_but_the_least.result.least c.all_but_the_least.result.count
+      rw c.placed-state.ensures (least-placed c.loop-state.links c.push_greater.new.links c.args.links.now s.size_bits s.common s.left b h entries.least entries.count (entries.least + 1) (entries.count - 1)
           (length c.args.tip.now - length x + i) tip new bs xs (drop i bounds) (drop i x) _
-          bounds_are x_is (omega (arith, length-drop i x)) (omega arith) (omega (arith, length-drop i x)) c.all_but_the_least.ensures.least c.all_but_the_least.ensures.count within
+          bounds_are x_is (omega (arith, length-drop i x)) (omega arith) (omega (arith, length-drop i x)) refl (omega (arith, c.if-entries-eq0.false)) within
           (λ front. c.wanted_entries-entries.ensures.same front bs xs (rw (← bounds_are, ← x_is) begun))
           kept
-          (c.in_ok-push_rows.ensures.ok
-          ∙ ap₂ (λ v cs. with_arcs c.loop-state.links (arcs_under s.size_bits (front_of tip (h ∷ v)) s.common (h ∷ v) (rows s.left cs c.all_but_the_least.result.least c.all_but_the_least.result.count))) (take_rest x (i + 1)) (take_rest bounds (i + 1)))
+          (c.in_ok-push_greater.ensures.ok
+          ∙ ap₂ (λ v cs. with_arcs c.loop-state.links (arcs_under s.size_bits (front_of tip (h ∷ v)) s.common (h ∷ v) (rows s.left cs (entries.least + 1) (entries.count - 1)))) (take_rest x (i + 1)) (take_rest bounds (i + 1)))
           c.loop-state.invariant.5),
     )
 

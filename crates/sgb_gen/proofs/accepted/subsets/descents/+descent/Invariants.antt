@@ -5,13 +5,16 @@ use Rattle.sgb_gen.specs.inner.LocalSimplexes.{with_arcs}
 use Rattle.sgb_gen.proofs.accepted.subsets.descents.+descent.Given as goal
 
 abbrev pub decreases-push_all : goal.decreases-push_all
-decreases-push_all l = 3 * length l.x.now
+decreases-push_all l = 4 * length l.x.now
+
+abbrev pub decreases-push_greater : goal.decreases-push_greater
+decreases-push_greater l = 4 * length l.x.now + 3
 
 abbrev pub decreases-push_rows : goal.decreases-push_rows
-decreases-push_rows l = 3 * length l.x.now + 2
+decreases-push_rows l = 4 * length l.x.now + 2
 
 abbrev pub decreases-push_row : goal.decreases-push_row
-decreases-push_row l = 3 * length l.x.now + 1
+decreases-push_row l = 4 * length l.x.now + 1
 
 -- what is there, and then the arcs by the entries that are left, are all
 abbrev pub invariant-push_rows-loop-k : goal.invariant-push_rows-loop-k
