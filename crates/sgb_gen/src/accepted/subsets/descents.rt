@@ -217,9 +217,7 @@ fn push_greater(
         least: entries.least + 1,
         count: entries.count - 1,
     };
-    push_rows(
-        sizes, begun, bound, own, bounds, x, greater, tip, links,
-    )
+    push_rows(sizes, begun, bound, own, bounds, x, greater, tip, links)
 }
 
 // Puts the arcs to the vectors that go on with one of these entries behind the others.
