@@ -1,5 +1,5 @@
 //! The arcs of one vector of the subsets to those that begin alike, where at most 1 is left to be placed: no descent is needed.
-ghost use Rattle.std.specs.Prelude.{◌≡◌, ◌+◌, ◌-◌, ◌^◌, ◌≤◌, ◌<◌, ◌&&◌, min, nat_lt, ℕ, pos, [], ◌∷◌, ◌++◌, length, take, drop, replicate, reverse, set, slice_get, Some, if◌then◌else◌, OnOk, IsOkUnless};
+ghost use Rattle.std.specs.Prelude.{◌≡◌, ◌+◌, ◌-◌, ◌^◌, ◌≤◌, ◌<◌, ◌&&◌, min, nat_lt, pos, [], ◌∷◌, ◌++◌, length, take, drop, replicate, reverse, set, slice_get, Some, if◌then◌else◌, OnOk, IsOkUnless};
 ghost use Rattle.sgb_vec.specs.Lexicographic.{IsWithin};
 ghost use Rattle.sgb_vec.specs.Sums.{bounded_sums};
 ghost use Rattle.sgb_gen.specs.Subsets.{is_wanted_size};
@@ -56,27 +56,22 @@ fn push_units(
         (reverse (bounded_sums begun.left bounds.now)))) }
     ensures memory { IsOkUnless result Panic.NoRoom }
 {
-    let new = is_wanted(begun.size_bits, u64::from(begun.common));
-    let kept = is_wanted(begun.size_bits, u64::from(begun.common) + 1);
     let start = tip.len() - x.len();
     for i in 0..x.len() {
-        let wanted = is_unit_wanted(bounds[i], x[i], new, kept);
+        let wanted = is_unit_wanted(begun, bounds[i], x[i]);
         push_unit(wanted, tip, start + i, links)?;
     }
     Ok(())
 }
 
-// Whether the vector that has a 1 at a place with this bound and this entry of `x` is one of those that are joined, where it
-// is told of a unit that is new, and of one that `x` has as well.
-fn is_unit_wanted(bound: u32, own: u32, new: bool, kept: bool) -> bool
-    ensures { (size_bits common : ℕ) → new ≡ is_wanted_size size_bits common
-        → kept ≡ is_wanted_size size_bits (common + 1)
-        → result ≡ (nat_lt 0 bound && is_wanted_size size_bits (common + min own 1)) }
+// Whether a vector that goes on with a single 1, at a place with this bound and this entry of `x`, is one of those that are
+// joined.
+fn is_unit_wanted(begun: Begun, bound: u32, own: u32) -> bool
+    requires few { begun.common + 1 < 2 ^ 32 }
+    ensures { result
+        ≡ (nat_lt 0 bound && is_wanted_size begun.size_bits (begun.common + min own 1)) }
 {
-    if own == 0 {
-        return bound > 0 && new;
-    }
-    bound > 0 && kept
+    bound > 0 && is_wanted(begun.size_bits, u64::from(begun.common + own.min(1)))
 }
 
 // Puts the arc to the vector that has a 1 at this place behind the others, if it is wanted. `tip` has a 0 there.

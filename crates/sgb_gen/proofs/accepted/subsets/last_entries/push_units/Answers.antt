@@ -1,16 +1,9 @@
 use Rattle.std.proofs.Common.{◌-◌, ◌+◌, length, take, get_or, refl, sym, ap, ◌∙◌, arith}
-use Rattle.sgb_gen.specs.Subsets.{is_wanted_size}
 use Rattle.sgb_vec.proofs.SumMembers.{IsWithin-length}
 use Rattle.sgb_gen.specs.inner.LocalSimplexes.{with_arcs}
-use Rattle.sgb_gen.proofs.LastEntries.{none-left, units-more, zero-read}
+use Rattle.sgb_gen.proofs.LastEntries.{none-left, units-more}
 use Rattle.sgb_gen.proofs.PairWalks.{with_none}
 use Rattle.sgb_gen.proofs.accepted.subsets.last_entries.push_units.Goals as goal
-
-pub push_unit-requires-clause-zero : goal.push_unit-requires-clause-zero
-push_unit-requires-clause-zero c =
-    let tip = c.args.tip.now in
-    let n = length c.args.x.now in
-    rw c.loop-i.invariant.0 (zero-read tip (length tip - n) n c.loop-i.i (omega (arith, c.requires.place)) c.requires.zeros c.loop-i-test.true)
 
 pub loop-i-preserved : goal.loop-i-preserved
 loop-i-preserved c =
@@ -19,14 +12,12 @@ loop-i-preserved c =
     let bounds = c.args.bounds.now in
     let tip = c.args.tip.now in
     let i = c.loop-i.i in
-    let new = c.is_wanted-new.ensures ∙ ap (is_wanted_size b.size_bits) c.from.ensures in
-    let kept = c.is_wanted-kept.ensures ∙ ap (λ n. is_wanted_size b.size_bits (n + 1)) c.from-2.ensures in
     let new_is = c.in_ok-push_unit.ensures.ok in
     let same = IsWithin-length bounds x c.requires.begun.within in (
       c.in_ok-push_unit.ensures.same ∙ c.loop-i.invariant.0,
       units-more c.loop-i.links c.push_unit.new.links c.args.links.now b.size_bits tip b.common (length tip - length x) i (length x) (get_or bounds i 0) (get_or x i 0) c.is_unit_wanted-wanted.result bounds x _
           (omega (arith, c.requires.place)) c.requires.zeros refl (omega (arith, same)) c.loop-i-test.true refl refl
-          (c.is_unit_wanted-wanted.ensures b.size_bits b.common new kept)
+          c.is_unit_wanted-wanted.ensures
           (rw c.loop-i.invariant.0 at new_is)
           c.loop-i.invariant.1,
     )

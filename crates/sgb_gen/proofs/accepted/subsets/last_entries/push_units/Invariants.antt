@@ -8,5 +8,5 @@ use Rattle.sgb_gen.proofs.accepted.subsets.last_entries.push_units.Given as goal
 abbrev pub invariant-loop-i : goal.invariant-loop-i
 invariant-loop-i l =
     (l.tip ≡ l.fn.tip)
-    × (with_arcs l.links (arcs_under l.fn.begun.size_bits (take (l.start + l.i) l.fn.tip) l.fn.begun.common (drop l.i l.x) (reverse (bounded_sums 1 (drop l.i l.bounds))))
-    ≡ with_arcs l.fn.links (arcs_under l.fn.begun.size_bits (front_of l.fn.tip l.x) l.fn.begun.common l.x (reverse (bounded_sums l.fn.begun.left l.bounds))))
+    × (with_arcs l.links (arcs_under l.begun.size_bits (take (l.start + l.i) l.fn.tip) l.begun.common (drop l.i l.x) (reverse (bounded_sums 1 (drop l.i l.bounds))))
+    ≡ with_arcs l.fn.links (arcs_under l.begun.size_bits (front_of l.fn.tip l.x) l.begun.common l.x (reverse (bounded_sums l.begun.left l.bounds))))
