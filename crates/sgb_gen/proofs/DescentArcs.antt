@@ -1,7 +1,7 @@
 -- The arcs to vectors that begin alike; sizes that they cannot have in common; and the vectors down to one and from it.
-use Rattle.std.proofs.Common.{◌≡◌, ℕ, suc, ◌+◌, ◌-◌, ◌<◌, ◌≤◌, ◌⊎◌, min, pos, Bool, true, false, cond, List, [], ◌∷◌, ◌++◌, length, map, filter, replicate, reverse, take, drop, sum, get_or, refl, sym, ap, ap₂, subst, ◌∙◌, inl, inr, arith, append-nil, append_assoc}
+use Rattle.std.proofs.Common.{◌≡◌, ℕ, suc, ◌+◌, ◌-◌, ◌<◌, ◌≤◌, ◌⊎◌, min, pos, Bool, true, false, cond, List, [], ◌∷◌, ◌++◌, length, map, filter, reverse, take, drop, sum, get_or, refl, sym, ap, ap₂, subst, ◌∙◌, inl, inr, arith, append-nil, append_assoc}
 use Rattle.std.specs.List.{Contains}
-use Rattle.std.proofs.lemmas.List.{drop_at, length-append, map-append, reverse-append, reverse-reverse, take_all, take_at}
+use Rattle.std.proofs.lemmas.List.{drop_at, length-append, map-append, reverse-append, reverse-reverse, take_at}
 use Rattle.std.proofs.lemmas.List.Elements.{All-contains_itself}
 use Rattle.std.proofs.lemmas.Option.{slice_get_read}
 use Rattle.std.proofs.Math.Seq.{get_or-append_seam}
@@ -11,8 +11,7 @@ use Rattle.sgb_vec.specs.Lexicographic.{IsWithin}
 use Rattle.sgb_vec.specs.Limits.{most_vertices}
 use Rattle.sgb_vec.specs.Sums.{BoundedSum, bounded_sums}
 use Rattle.sgb_vec.proofs.Lists.{All-reverse, filter-none, made-append, reverse-first}
-use Rattle.std.proofs.lemmas.Simd.{splat_is_map}
-use Rattle.sgb_vec.proofs.SumMembers.{IsWithin-length, Contains-bounded_sums, bounded_sums-rise}
+use Rattle.sgb_vec.proofs.SumMembers.{Contains-bounded_sums, bounded_sums-rise}
 use Rattle.sgb_vec.proofs.SumSuccessors.{sum-cons}
 use Rattle.sgb_gen.specs.LocalLists.{LinksData, LocalArc}
 use Rattle.sgb_gen.specs.Subsets.{common_size, is_wanted_size}
@@ -162,6 +161,25 @@ parted (b ∷ bs) (x ∷ xs) h =
       own_row : {l : List (List ℕ)} (k : ℕ) → row (x + sum xs) bs k ≡ l → rows (x + sum xs) bs 0 (k + 1) ≡ l ++ rows (x + sum xs) bs 0 k
       own_row k is = ap (rows (x + sum xs) bs 0) {y = suc k} (omega arith) ∙ ap (λ e. row (x + sum xs) bs e ++ rows (x + sum xs) bs 0 k) (omega arith) ∙ ap (λ m. m ++ rows (x + sum xs) bs 0 k) is
 
+-- where no vector has a wanted size in common, none of those has one
+no_parts : {X : Type 0} (l m : List X) → l ++ m ≡ [] → (l ≡ []) × (m ≡ [])
+no_parts [] m e = (refl, e)
+no_parts (v ∷ l) m e = absurd (omega (arith, ap length e))
+
+pub unwanted-to : (sb : ℕ) (front : List ℕ) (c left : ℕ) (bs x : List ℕ) → IsWithin x bs → left ≡ sum x → arcs_under sb front c x (reverse (bounded_sums left bs)) ≡ [] → arcs_under sb front c x (down_to bs x) ≡ []
+unwanted-to sb front c left bs x h all none =
+    (no_parts (arcs_under sb front c x (down_to bs x)) (arcs_under sb front c x (below bs x))
+    (sym (under-append sb front c x (down_to bs x) (below bs x))
+    ∙ ap (arcs_under sb front c x) (ap (λ l. l ++ below bs x) (to-above bs x h) ∙ append_assoc (above bs x) (x ∷ []) (below bs x) ∙ sym (parted bs x h) ∙ ap (λ n. reverse (bounded_sums n bs)) (sym all))
+    ∙ none)).0
+
+pub unwanted-from : (sb : ℕ) (front : List ℕ) (c left : ℕ) (bs x : List ℕ) → IsWithin x bs → left ≡ sum x → arcs_under sb front c x (reverse (bounded_sums left bs)) ≡ [] → arcs_under sb front c x (down_from bs x) ≡ []
+unwanted-from sb front c left bs x h all none =
+    (no_parts (arcs_under sb front c x (above bs x)) (arcs_under sb front c x (down_from bs x))
+    (sym (under-append sb front c x (above bs x) (down_from bs x))
+    ∙ ap (arcs_under sb front c x) (ap (λ l. above bs x ++ l) (from-below bs x h) ∙ sym (parted bs x h) ∙ ap (λ n. reverse (bounded_sums n bs)) (sym all))
+    ∙ none)).1
+
 -- so those from x on, and those up to it, are these
 module _ (bs x : List ℕ) (h : IsWithin x bs) where
   abbrev vectors : List (List ℕ)
@@ -270,18 +288,6 @@ rows-done start links new sb front at c x left bs low k all same some new_is so_
     ∙ ap (λ arcs. record { width = links.width; arcs = arcs }) (append_assoc links.arcs first rest)
     ∙ ap (with_arcs links) (sym (under-append sb front c x (row left bs (low + (k - 1))) (rows left bs low (k - 1))) ∙ ap (arcs_under sb front c x) (sym (rows-next left bs low k some)))
     ∙ so_far
-
--- zeros are taken off again, and are as many as x has entries
-pub zeros_written : (front items : List ℕ) (bs x : List ℕ) (placed long : ℕ) → placed ≡ long → long ≡ length front → IsWithin x bs → items ≡ take (placed + length x) front ++ replicate (placed + length x - long) 0 → items ≡ front ++ zeros bs
-zeros_written front items bs x placed long same count h is =
-    let count_of : placed + length x - long ≡ length bs = omega (arith, same, IsWithin-length bs x h) in
-    is ∙ ap (λ l. l ++ replicate (placed + length x - long) 0) (take_all (placed + length x) front (omega arith)) ∙ ap (λ n. front ++ replicate n 0) count_of
-    ∙ ap (λ l. front ++ l) (splat_is_map bs (length bs) 0 refl)
-
--- an entry is taken off again
-pub last_taken : (front : List ℕ) (e : ℕ) (items left : List ℕ) (n : ℕ) → n ≡ length items → left ≡ take (n - 1) items → items ≡ front ++ e ∷ [] → left ≡ front
-last_taken front e items left n count is items_are =
-    is ∙ ap (take (n - 1)) items_are ∙ take_at front (e ∷ []) (n - 1) (omega (arith, count, ap length items_are, length-append front (e ∷ [])))
 
 -- down to x: the rows above its first entry, and then on with that
 pub to-more : (links mid new : LinksData) (sb : ℕ) (front : List ℕ) (c left b h most : ℕ) (bs xs bounds x : List ℕ) → bounds ≡ b ∷ bs → x ≡ h ∷ xs → left ≡ sum x → most ≡ min left b

@@ -60,7 +60,7 @@ row-filtered r e bs =
     ]
 
 -- the row of the least entry comes last
-rows-first : (r : ℕ) (bs : List ℕ) (a n : ℕ) → rows r bs a (suc n) ≡ rows r bs (a + 1) n ++ row r bs a
+pub rows-first : (r : ℕ) (bs : List ℕ) (a n : ℕ) → rows r bs a (suc n) ≡ rows r bs (a + 1) n ++ row r bs a
 rows-first r bs a zero = ap (λ e. row r bs e ++ []) (omega arith) ∙ append-nil (row r bs a)
 rows-first r bs a (suc n) =
     ap₂ (λ e l. row r bs e ++ l) (omega arith) (rows-first r bs a n)
@@ -89,7 +89,7 @@ sums-past r bs h = none_there (bounded_sums r bs) (λ v there. let is = (Contain
   none_there [] never = refl
   none_there (v ∷ vs) never = absurd (never v (Contains-first v vs))
 
-row-far : (r e : ℕ) (bs : List ℕ) → sum bs + e < r → row r bs e ≡ []
+pub row-far : (r e : ℕ) (bs : List ℕ) → sum bs + e < r → row r bs e ≡ []
 row-far r e bs h = row-within r e bs (omega arith) ∙ ap (λ vs. map (λ v. e ∷ v) (reverse vs)) (sums-past (r - e) bs (omega arith))
 
 -- rows above

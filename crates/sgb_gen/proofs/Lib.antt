@@ -106,6 +106,10 @@ pub mod SubsetsLists
 pub mod Descents
 -- the arcs to vectors that begin alike, and the vectors down to one and from it
 pub mod DescentArcs
+-- entries with which no size in common is wanted, and a vector made entry by entry
+pub mod DescentSteps
+-- the arcs where a single 1 is left to be placed
+pub mod LastEntries
 -- sizes below the least wanted one
 pub mod WantedSizes
 -- worked examples, evaluated

@@ -1,10 +1,10 @@
 -- Sizes below the least wanted one.
-use Rattle.std.proofs.Common.{◌≡◌, ℕ, ◌+◌, ◌-◌, ◌/◌, ◌%◌, ◌^◌, ◌<◌, ◌≤◌, Bool, true, false, ◌&&◌, refl, sym, ap, ◌∙◌, inl, inr, arith}
+use Rattle.std.proofs.Common.{◌≡◌, ℕ, suc, ◌+◌, ◌-◌, ◌/◌, ◌%◌, ◌^◌, ◌<◌, ◌≤◌, Bool, true, false, ◌&&◌, refl, sym, ap, ◌∙◌, inl, inr, arith}
 use Rattle.std.specs.Prelude.{◌==◌, nat_lt}
-use Rattle.std.specs.Int.{trailing_zeros, w128}
-use Rattle.std.proofs.Math.Nat.{div-div-eq-div-mul}
+use Rattle.std.specs.Int.{leading_zeros, trailing_zeros, w128}
+use Rattle.std.proofs.Math.Nat.{div-div-eq-div-mul, div-eq_of_lt}
 use Rattle.std.proofs.lemmas.Bool.{cases_lt, le-ltb}
-use Rattle.std.proofs.lemmas.Nat.{pow-add}
+use Rattle.std.proofs.lemmas.Nat.{leading_top, pow-add}
 use Rattle.std.proofs.lemmas.Nat.Bits.{bit_at-trailing_zeros}
 use Rattle.sgb_gen.specs.Subsets.{is_wanted_size}
 
@@ -33,3 +33,29 @@ unwanted-below sb from k later is small h below =
     ]) where
       zero_bits : (j : ℕ) → 0 / 2 ^ j % 2 ≡ 0
       zero_bits j = omega arith
+
+never : {X : Type 0} → true ≡ false → X
+never e = cc
+
+-- a wanted size is none below the least bit of 1
+pub wanted-from : (sb k : ℕ) → sb < 2 ^ 128 → is_wanted_size sb k ≡ true → trailing_zeros w128 sb ≤ k
+wanted-from sb k small wanted =
+    elim (cases_lt k (trailing_zeros w128 sb)) [
+      | inl below ↦ never (sym wanted ∙ unwanted-below sb 0 k sb (omega arith) small (omega arith) (omega arith))
+      | inr within ↦ within
+    ]
+
+-- nor one above the greatest
+pub wanted-to : (sb k : ℕ) → sb < 2 ^ 128 → is_wanted_size sb k ≡ true → k ≤ 127 - leading_zeros w128 sb
+wanted-to sb k small wanted =
+    elim (cases_lt 0 sb) [
+      | inl some ↦
+          let (j, count, _, top) = leading_top 128 sb some small in
+          elim (cases_lt j k) [
+            | inl above ↦ never (sym wanted ∙ unwanted sb k (ap (λ n. n % 2) (later_bit sb (suc j) k (omega arith) ∙ ap (λ n. n / 2 ^ (k - suc j)) (div-eq_of_lt top)) ∙ zero_bit (k - suc j)))
+            | inr within ↦ omega (arith, count, within)
+          ]
+      | inr none ↦ never (sym wanted ∙ unwanted sb k (ap (λ n. n / 2 ^ k % 2) {y = 0} (omega (arith, none)) ∙ zero_bit k))
+    ] where
+      zero_bit : (j : ℕ) → 0 / 2 ^ j % 2 ≡ 0
+      zero_bit j = omega arith

@@ -4,7 +4,7 @@ use std::alloc::Global;
 use std::test::Fail;
 
 // Parameters of subsets whose counts are compared with the lengths of their lists, each with both directions.
-static SUBSETS: [([i64; 6], u128); 15] = [
+static SUBSETS: [([i64; 6], u128); 18] = [
     ([2, 1, -4, 0, 0, 0], 0x1),
     ([3, 2, 2, 2, 0, 0], 0xf),
     ([4, 3, 9, -3, 7, 7], 0x1c),
@@ -17,6 +17,10 @@ static SUBSETS: [([i64; 6], u128); 15] = [
     ([3, 1, 1, 1, 0, 0], 0x8),
     ([9, 5, 1, 4, 2, 0], 0x1a0),
     ([7, 7, 7, 0, 0, 0], 0x81),
+    // enough vectors of a small sum to be counted by pairs, and no more than are walked
+    ([4, 1, -11, 0, 0, 0], 0x1),
+    ([4, 2, 1, -8, 0, 0], 0x6),
+    ([2, 1, -3, 0, 0, 0], 0x2),
     // more than 8,000 vectors of a small sum, which are counted by pairs
     ([5, 2, 1, -17, 0, 0], 0x28),
     ([4, 4, 1, 2, -22, 0], 0x18),

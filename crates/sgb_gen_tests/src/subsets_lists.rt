@@ -7,7 +7,7 @@ use std::alloc::Global;
 use std::test::Fail;
 
 // Parameters of subsets whose lists are compared with those of the built graphs, each with both directions.
-static SUBSETS: [([i64; 6], u128); 7] = [
+static SUBSETS: [([i64; 6], u128); 11] = [
     ([2, 1, -4, 0, 0, 0], 0x1),
     ([3, 2, 2, 2, 0, 0], 0x3),
     ([3, 2, 2, 2, 0, 0], 0xf),
@@ -15,6 +15,11 @@ static SUBSETS: [([i64; 6], u128); 7] = [
     ([3, 0, 0, 0, 0, 0], 0xa),
     ([0, 3, 0, 0, 0, 0], 0x1),
     ([5, 2, 2, 0, 0, 0], 0x7),
+    // sizes with others between them, and lists that end with a single 1
+    ([4, 1, 3, 5, 2, 0], 0x15),
+    ([4, 1, -6, 0, 0, 0], 0x8),
+    ([3, 1, -5, 0, 0, 0], 0x9),
+    ([5, 2, 1, -4, 0, 0], 0x29),
 ];
 
 // The parameters of the subsets of these numbers, with these sizes of what two have in common.

@@ -1,5 +1,5 @@
 -- The list of one vector of subsets, by a descent: the vectors entry by entry, the greatest entry first.
-use Rattle.std.specs.Prelude.{◌≡◌, ◌≤◌, ℕ, ◌+◌, ◌-◌, nat_le, zero, suc, pos, List, [], ◌∷◌, ◌++◌, map, filter, reverse, sum, if◌then◌else◌}
+use Rattle.std.specs.Prelude.{◌≡◌, ◌≤◌, ℕ, ◌+◌, ◌-◌, nat_le, zero, suc, pos, true, List, [], ◌∷◌, ◌++◌, length, map, filter, reverse, take, sum, if◌then◌else◌}
 use Rattle.sgb_vec.specs.Lexicographic.{IsWithin}
 use Rattle.sgb_vec.specs.Limits.{most_vertices}
 use Rattle.sgb_vec.specs.Sums.{bounded_sums}
@@ -11,6 +11,10 @@ use Rattle.sgb_gen.specs.Subsets.{common_size, is_wanted_size}
 abbrev pub arcs_under : ℕ → List ℕ → ℕ → List ℕ → List (List ℕ) → List LocalArc
 arcs_under size_bits front common x ends =
     map (λ v. record { tip = front ++ v; len = pos 1 }) (filter (λ v. is_wanted_size size_bits (common_size x v + common)) ends)
+
+-- the entries of a vector before those that stand where the last ones, x, do
+abbrev pub front_of : List ℕ → List ℕ → List ℕ
+front_of tip x = take (length tip - length x) tip
 
 -- the vectors that add to `left` and begin with e, the other entries being within the bounds, the last one first
 abbrev pub row : ℕ → List ℕ → ℕ → List (List ℕ)
@@ -40,3 +44,13 @@ pub record IsBegun (bounds x : List ℕ) (room shared left common : ℕ) : Type 
   pub bounds_add : room ≡ sum bounds
   pub own_add : shared ≡ sum x
   pub few : common + left ≤ most_vertices
+
+-- each wanted size is one of those from the first to the last
+abbrev pub AreBetween : ℕ → ℕ → ℕ → Type 0
+AreBetween size_bits first last = (k : ℕ) → is_wanted_size size_bits k ≡ true → (first ≤ k) × (k ≤ last)
+
+-- no vector that goes on with this entry, where x goes on with its own one, has a wanted size in common
+abbrev pub HasNoArcs : ℕ → ℕ → ℕ → ℕ → ℕ → ℕ → ℕ → ℕ → Type 0
+HasNoArcs size_bits room shared left common bound own entry =
+    (front bounds x : List ℕ) → IsBegun (bound ∷ bounds) (own ∷ x) room shared left common
+    → arcs_under size_bits front common (own ∷ x) (row left bounds entry) ≡ []

@@ -8,8 +8,10 @@ ghost use Rattle.std.specs.Simd.Lanes.{sum_l, zip2};
 
 mod counts;
 mod descents;
+mod last_entries;
 mod lists;
 mod pairs;
+mod sizes;
 
 use crate::params::SubsetsParams;
 use crate::vector_graphs::{put_coordinates, vector_names};

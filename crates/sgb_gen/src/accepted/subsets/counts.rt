@@ -15,9 +15,9 @@ use sgb_vec::Vectors;
 
 impl Subsets {
     /// The number of arcs of the graph of the subsets (GB_BASIC, subsets), where an edge counts as two. No arc is made, and no
-    /// memory taken. Of more than 8,000 vectors whose sum is below 20 the pairs are counted, bound by bound, in a table in
-    /// place, within some milliseconds. Else the vectors are walked, and of each the joined ones up to it are counted, by
-    /// their beginnings.
+    /// memory taken. Of many vectors whose sum is below 20, always of more than 8,000, the pairs are counted, bound by bound,
+    /// in a table in place, within some milliseconds. Else the vectors are walked, and of each the joined ones up to it are
+    /// counted, by their beginnings.
     pub fn arcs_count(&self) -> u128
         ensures { result ≡ (graph_described (subsets_graph self.now)).m }
     {

@@ -1,15 +1,16 @@
 //! The arcs of one vector of the subsets, by a descent: the vectors are taken entry by entry, the greatest entry first, and
 //! a beginning is left as soon as no vector that has it can have a wanted size in common.
-ghost use Rattle.std.specs.Prelude.{◌≡◌, ◌+◌, ◌-◌, ◌^◌, ◌≤◌, ◌<◌, min, ℕ, List, Bool, false, [], ◌∷◌, ◌++◌, length, reverse, sum, if◌then◌else◌, OnOk, IsOkUnless};
+ghost use Rattle.std.specs.Prelude.{◌≡◌, ◌+◌, ◌-◌, ◌^◌, ◌≤◌, ◌<◌, min, ℕ, List, Bool, false, [], ◌∷◌, length, reverse, sum, if◌then◌else◌, OnOk, IsOkUnless};
 ghost use Rattle.std.specs.Bool.{OnFalse};
-ghost use Rattle.sgb_vec.specs.Lexicographic.{IsWithin};
 ghost use Rattle.sgb_vec.specs.Limits.{most_dimensions, most_vertices};
 ghost use Rattle.sgb_vec.specs.Sums.{bounded_sums};
 ghost use Rattle.sgb_gen.specs.Subsets.{is_wanted_size};
-ghost use Rattle.sgb_gen.specs.inner.Descents.{IsBegun, arcs_under, down_from, down_to, row, rows};
+ghost use Rattle.sgb_gen.specs.inner.Descents.{AreBetween, IsBegun, arcs_under, down_from, down_to, front_of, row, rows};
 ghost use Rattle.sgb_gen.specs.inner.LocalSimplexes.{with_arcs};
 
-use super::{Subsets, is_wanted};
+use super::Subsets;
+use super::last_entries::{push_last, push_zeros};
+use super::sizes::{WantedSizes, may_be_among, wanted_entries};
 use crate::links::Links;
 use sgb_vec::Panic;
 
@@ -53,125 +54,207 @@ impl Subsets {
     }
 }
 
-// Puts the arcs to the vectors down to `x`, or to what is left of them, behind the others; they begin with `front`.
+// Puts the arcs to the vectors down to `x`, or to what is left of them, behind the others. They begin as `tip` does.
 pub(super) fn push_to(
+    sizes: &WantedSizes,
     begun: Begun,
     bounds: &[u32],
     x: &[u32],
-    front: &mut Vec<u32>,
+    tip: &mut [u32],
     links: &mut Links,
 ) -> Result<(), Panic>
     requires begun { IsBegun bounds.now x.now begun.room begun.shared begun.left begun.common }
     requires all { begun.left ≡ sum x.now }
-    requires width { length front.old.items + length x.now ≡ links.old.width }
-    ensures same { OnOk result (front.new.items ≡ front.old.items) }
+    requires sizes { AreBetween begun.size_bits sizes.now.first sizes.now.last }
+    requires width { length tip.old ≡ links.old.width }
+    requires place { length x.now ≤ length tip.old }
+    ensures same { OnOk result (front_of tip.new x.now ≡ front_of tip.old x.now) }
     ensures ok { OnOk result (links.new
-        ≡ with_arcs links.old (arcs_under begun.size_bits front.old.items begun.common x.now
+        ≡ with_arcs links.old (arcs_under begun.size_bits (front_of tip.old x.now) begun.common x.now
         (down_to bounds.now x.now))) }
     ensures memory { IsOkUnless result Panic.NoRoom }
 {
+    if !may_be_among(sizes, begun) {
+        return Ok(());
+    }
+    let place = tip.len() - x.len();
     let (Some((bound, bounds)), Some((own, x))) = (bounds.split_first(), x.split_first()) else {
-        return push_zeros(begun, bounds, x, front, links);
+        return push_zeros(begun, bounds, x, tip, links);
     };
     let end = begun.left.min(*bound) + 1;
-    push_rows(begun, *bound, *own, bounds, x, *own + 1, end, front, links)?;
-    front.push(*own)?;
-    push_to(placed(begun, *bound, *own, *own), bounds, x, front, links)?;
-    let _own = front.pop();
-    Ok(())
+    let entries = with_room(begun.left, begun.room - u64::from(*bound), *own + 1, end);
+    push_rows(sizes, begun, *bound, *own, bounds, x, entries, tip, links)?;
+    tip[place] = *own;
+    push_to(
+        sizes,
+        placed(begun, *bound, *own, *own),
+        bounds,
+        x,
+        tip,
+        links,
+    )
 }
 
-// Puts the arcs to the vectors from `x` on down, or to what is left of them, behind the others; they begin with `front`.
+// Puts the arcs to the vectors from `x` on down, or to what is left of them, behind the others. They begin as `tip` does.
 pub(super) fn push_from(
+    sizes: &WantedSizes,
     begun: Begun,
     bounds: &[u32],
     x: &[u32],
-    front: &mut Vec<u32>,
+    tip: &mut [u32],
     links: &mut Links,
 ) -> Result<(), Panic>
     requires begun { IsBegun bounds.now x.now begun.room begun.shared begun.left begun.common }
     requires all { begun.left ≡ sum x.now }
-    requires width { length front.old.items + length x.now ≡ links.old.width }
-    ensures same { OnOk result (front.new.items ≡ front.old.items) }
+    requires sizes { AreBetween begun.size_bits sizes.now.first sizes.now.last }
+    requires width { length tip.old ≡ links.old.width }
+    requires place { length x.now ≤ length tip.old }
+    ensures same { OnOk result (front_of tip.new x.now ≡ front_of tip.old x.now) }
     ensures ok { OnOk result (links.new
-        ≡ with_arcs links.old (arcs_under begun.size_bits front.old.items begun.common x.now
+        ≡ with_arcs links.old (arcs_under begun.size_bits (front_of tip.old x.now) begun.common x.now
         (down_from bounds.now x.now))) }
     ensures memory { IsOkUnless result Panic.NoRoom }
 {
+    if !may_be_among(sizes, begun) {
+        return Ok(());
+    }
+    let place = tip.len() - x.len();
     let (Some((bound, bounds)), Some((own, x))) = (bounds.split_first(), x.split_first()) else {
-        return push_zeros(begun, bounds, x, front, links);
+        return push_zeros(begun, bounds, x, tip, links);
     };
-    front.push(*own)?;
-    push_from(placed(begun, *bound, *own, *own), bounds, x, front, links)?;
-    let _own = front.pop();
-    push_rows(begun, *bound, *own, bounds, x, 0, *own, front, links)?;
-    Ok(())
+    tip[place] = *own;
+    push_from(
+        sizes,
+        placed(begun, *bound, *own, *own),
+        bounds,
+        x,
+        tip,
+        links,
+    )?;
+    let entries = with_room(begun.left, begun.room - u64::from(*bound), 0, *own);
+    push_rows(sizes, begun, *bound, *own, bounds, x, entries, tip, links)
 }
 
-// Puts the arcs to all vectors that begin with `front` behind the others.
+// Puts the arcs to all vectors that begin as `tip` does behind the others. Of the entries with which a vector may go on, the
+// least comes last: with that one the loop goes on, and into each greater one it descends.
 #[cycle(descent)]
 fn push_all(
+    sizes: &WantedSizes,
     begun: Begun,
     bounds: &[u32],
     x: &[u32],
-    front: &mut Vec<u32>,
+    tip: &mut [u32],
     links: &mut Links,
 ) -> Result<(), Panic>
     requires begun { IsBegun bounds.now x.now begun.room begun.shared begun.left begun.common }
-    requires width { length front.old.items + length x.now ≡ links.old.width }
-    ensures same { OnOk result (front.new.items ≡ front.old.items) }
+    requires sizes { AreBetween begun.size_bits sizes.now.first sizes.now.last }
+    requires width { length tip.old ≡ links.old.width }
+    requires place { length x.now ≤ length tip.old }
+    ensures same { OnOk result (front_of tip.new x.now ≡ front_of tip.old x.now) }
     ensures ok { OnOk result (links.new
-        ≡ with_arcs links.old (arcs_under begun.size_bits front.old.items begun.common x.now
+        ≡ with_arcs links.old (arcs_under begun.size_bits (front_of tip.old x.now) begun.common x.now
         (reverse (bounded_sums begun.left bounds.now)))) }
     ensures memory { IsOkUnless result Panic.NoRoom }
 {
-    if begun.left == 0 {
-        return push_zeros(begun, bounds, x, front, links);
+    let start = tip.len() - x.len();
+    let mut state = begun;
+    let mut i = 0;
+    while state.left > 1 {
+        if i == x.len() {
+            return Ok(());
+        }
+        let entries = wanted_entries(sizes, state, bounds[i], x[i]);
+        if entries.count == 0 {
+            return Ok(());
+        }
+        push_greater(
+            sizes,
+            state,
+            bounds[i],
+            x[i],
+            &bounds[i + 1..],
+            &x[i + 1..],
+            entries,
+            tip,
+            links,
+        )?;
+        tip[start + i] = entries.least;
+        state = placed(state, bounds[i], x[i], entries.least);
+        i += 1;
     }
-    if !may_be_wanted(begun) {
-        return Ok(());
-    }
-    let (Some((bound, bounds)), Some((own, x))) = (bounds.split_first(), x.split_first()) else {
-        return Ok(());
-    };
-    let end = begun.left.min(*bound) + 1;
-    push_rows(begun, *bound, *own, bounds, x, 0, end, front, links)
+    push_last(state, &bounds[i..], &x[i..], tip, links)
 }
 
-// Puts the arcs to the vectors that go on with an entry from `low` on, and below `end`, behind the others.
+// Puts the arcs to the vectors that go on with one of these entries, but not with the least, behind the others.
 #[cycle(descent)]
-fn push_rows(
+fn push_greater(
+    sizes: &WantedSizes,
     begun: Begun,
     bound: u32,
     own: u32,
     bounds: &[u32],
     x: &[u32],
-    low: u32,
-    end: u32,
-    front: &mut Vec<u32>,
+    entries: Entries,
+    tip: &mut [u32],
     links: &mut Links,
 ) -> Result<(), Panic>
     requires begun { IsBegun (bound ∷ bounds.now) (own ∷ x.now) begun.room begun.shared begun.left
         begun.common }
-    requires low { low ≤ begun.left + 1 }
-    requires end { end ≤ begun.left + 1 }
-    requires width { length front.old.items + length x.now + 1 ≡ links.old.width }
-    ensures same { OnOk result (front.new.items ≡ front.old.items) }
+    requires entries { entries.least + entries.count ≤ begun.left + 1 }
+    requires sizes { AreBetween begun.size_bits sizes.now.first sizes.now.last }
+    requires width { length tip.old ≡ links.old.width }
+    requires place { length x.now < length tip.old }
+    ensures same { OnOk result (front_of tip.new (own ∷ x.now) ≡ front_of tip.old (own ∷ x.now)) }
     ensures ok { OnOk result (links.new
-        ≡ with_arcs links.old (arcs_under begun.size_bits front.old.items begun.common
-        (own ∷ x.now) (rows begun.left bounds.now low (end - low)))) }
+        ≡ with_arcs links.old (arcs_under begun.size_bits (front_of tip.old (own ∷ x.now)) begun.common
+        (own ∷ x.now) (rows begun.left bounds.now (entries.least + 1) (entries.count - 1)))) }
     ensures memory { IsOkUnless result Panic.NoRoom }
 {
-    let entries = with_room(begun.left, begun.room - u64::from(bound), low, end);
+    if entries.count < 2 {
+        return Ok(());
+    }
+    let greater = Entries {
+        least: entries.least + 1,
+        count: entries.count - 1,
+    };
+    push_rows(sizes, begun, bound, own, bounds, x, greater, tip, links)
+}
+
+// Puts the arcs to the vectors that go on with one of these entries behind the others.
+#[cycle(descent)]
+fn push_rows(
+    sizes: &WantedSizes,
+    begun: Begun,
+    bound: u32,
+    own: u32,
+    bounds: &[u32],
+    x: &[u32],
+    entries: Entries,
+    tip: &mut [u32],
+    links: &mut Links,
+) -> Result<(), Panic>
+    requires begun { IsBegun (bound ∷ bounds.now) (own ∷ x.now) begun.room begun.shared begun.left
+        begun.common }
+    requires entries { entries.least + entries.count ≤ begun.left + 1 }
+    requires sizes { AreBetween begun.size_bits sizes.now.first sizes.now.last }
+    requires width { length tip.old ≡ links.old.width }
+    requires place { length x.now < length tip.old }
+    ensures same { OnOk result (front_of tip.new (own ∷ x.now) ≡ front_of tip.old (own ∷ x.now)) }
+    ensures ok { OnOk result (links.new
+        ≡ with_arcs links.old (arcs_under begun.size_bits (front_of tip.old (own ∷ x.now)) begun.common
+        (own ∷ x.now) (rows begun.left bounds.now entries.least entries.count))) }
+    ensures memory { IsOkUnless result Panic.NoRoom }
+{
     for k in (0..entries.count).rev() {
         push_row(
+            sizes,
             begun,
             bound,
             own,
             bounds,
             x,
             entries.least + k,
-            front,
+            tip,
             links,
         )?;
     }
@@ -181,56 +264,35 @@ fn push_rows(
 // Puts the arcs to the vectors that go on with this entry behind the others.
 #[cycle(descent)]
 fn push_row(
+    sizes: &WantedSizes,
     begun: Begun,
     bound: u32,
     own: u32,
     bounds: &[u32],
     x: &[u32],
     entry: u32,
-    front: &mut Vec<u32>,
+    tip: &mut [u32],
     links: &mut Links,
 ) -> Result<(), Panic>
     requires begun { IsBegun (bound ∷ bounds.now) (own ∷ x.now) begun.room begun.shared begun.left
         begun.common }
     requires entry { entry ≤ begun.left }
-    requires width { length front.old.items + length x.now + 1 ≡ links.old.width }
-    ensures same { OnOk result (front.new.items ≡ front.old.items) }
+    requires sizes { AreBetween begun.size_bits sizes.now.first sizes.now.last }
+    requires width { length tip.old ≡ links.old.width }
+    requires place { length x.now < length tip.old }
+    ensures same { OnOk result (front_of tip.new (own ∷ x.now) ≡ front_of tip.old (own ∷ x.now)) }
     ensures ok { OnOk result (links.new
-        ≡ with_arcs links.old (arcs_under begun.size_bits front.old.items begun.common
+        ≡ with_arcs links.old (arcs_under begun.size_bits (front_of tip.old (own ∷ x.now)) begun.common
         (own ∷ x.now) (row begun.left bounds.now entry))) }
     ensures memory { IsOkUnless result Panic.NoRoom }
 {
-    front.push(entry)?;
-    push_all(placed(begun, bound, own, entry), bounds, x, front, links)?;
-    let _entry = front.pop();
-    Ok(())
-}
-
-// Puts the arc to the vector whose other entries are 0 behind the others, if it has a wanted size in common.
-fn push_zeros(
-    begun: Begun,
-    bounds: &[u32],
-    x: &[u32],
-    front: &mut Vec<u32>,
-    links: &mut Links,
-) -> Result<(), Panic>
-    requires within { IsWithin x.now bounds.now }
-    requires none { begun.left ≡ 0 }
-    requires width { length front.old.items + length x.now ≡ links.old.width }
-    ensures same { OnOk result (front.new.items ≡ front.old.items) }
-    ensures ok { OnOk result (links.new
-        ≡ with_arcs links.old (arcs_under begun.size_bits front.old.items begun.common x.now
-        (reverse (bounded_sums begun.left bounds.now)))) }
-    ensures memory { IsOkUnless result Panic.NoRoom }
-{
-    if !is_wanted(begun.size_bits, u64::from(begun.common)) {
+    let further = placed(begun, bound, own, entry);
+    if !may_be_among(sizes, further) {
         return Ok(());
     }
-    let placed = front.len();
-    front.resize(placed + x.len(), 0)?;
-    links.push(front.as_slice(), 1)?;
-    front.truncate(placed);
-    Ok(())
+    let place = tip.len() - x.len() - 1;
+    tip[place] = entry;
+    push_all(sizes, further, bounds, x, tip, links)
 }
 
 // What is known with one more entry, whose bound and whose own entry of `x` these are.
@@ -288,7 +350,7 @@ pub(super) fn may_be_wanted(begun: Begun) -> bool
 
 // Whether a size from one to another is wanted: the least wanted one that is not below the first tells. Where none is,
 // the answer may still be yes, which costs time alone.
-fn any_wanted(size_bits: u128, from: u64, to: u64) -> bool
+pub(super) fn any_wanted(size_bits: u128, from: u64, to: u64) -> bool
     requires { from + 128 < 2 ^ 64 }
     ensures { OnFalse result ((k : ℕ) → from ≤ k → k ≤ to → is_wanted_size size_bits k ≡ false) }
 {

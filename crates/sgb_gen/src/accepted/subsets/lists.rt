@@ -9,6 +9,7 @@ ghost use Rattle.sgb_gen.specs.Subsets.{subsets_vectors, moves_of_subsets};
 
 use super::Subsets;
 use super::descents::{Begun, push_from, push_to};
+use super::sizes::WantedSizes;
 use crate::links::Links;
 use sgb_vec::Panic;
 
@@ -48,16 +49,17 @@ impl Subsets {
             }) }
         ensures memory { IsOkUnless result Panic.NoRoom }
     {
-        let mut front = links.take_entries();
+        let mut tip = links.take_entries();
+        tip.resize(x.len(), 0)?;
         push_both(
             self.directed,
             self.begun(),
             self.shape.sizes(),
             x,
-            &mut front,
+            tip.as_mut_slice(),
             links,
         )?;
-        links.keep_entries(front);
+        links.keep_entries(tip);
         Ok(())
     }
 }
@@ -68,22 +70,23 @@ fn push_both(
     begun: Begun,
     bounds: &[u32],
     x: &[u32],
-    front: &mut Vec<u32>,
+    tip: &mut [u32],
     links: &mut Links,
 ) -> Result<(), Panic>
     requires begun { IsBegun bounds.now x.now begun.room begun.shared begun.left begun.common }
     requires none { begun.common ≡ 0 }
     requires all { begun.left ≡ sum x.now }
-    requires empty { front.old.items ≡ [] }
+    requires place { length tip.old ≡ length x.now }
     requires width { length x.now ≡ links.old.width }
     ensures ok { OnOk result (links.new
         ≡ with_arcs links.old (arcs_by_walk directed begun.size_bits
         (bounded_sums begun.left bounds.now) x.now)) }
     ensures memory { IsOkUnless result Panic.NoRoom }
 {
-    push_to(begun, bounds, x, front, links)?;
+    let sizes = WantedSizes::of(begun.size_bits);
+    push_to(&sizes, begun, bounds, x, tip, links)?;
     if directed {
         return Ok(());
     }
-    push_from(begun, bounds, x, front, links)
+    push_from(&sizes, begun, bounds, x, tip, links)
 }

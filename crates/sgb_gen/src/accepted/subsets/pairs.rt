@@ -18,7 +18,7 @@ const SIDE: usize = 20;
 // The cells of a table: two sums, and what is in common before.
 const CELLS: usize = SIDE * SIDE * SIDE;
 
-// No more vectors than these are walked: that is as quick.
+// More vectors than these are never walked.
 const MOST_WALKED: u32 = 8_000;
 
 type PairTable = ArrayVec<u64, CELLS>;
@@ -28,7 +28,8 @@ impl Subsets {
     pub(super) fn has_many_pairs(&self) -> bool
         ensures { OnTrue result (self.now.sum.total < 20) }
     {
-        self.family.total() < SIDE as u32 && self.family.size() > MOST_WALKED
+        let total = self.family.total();
+        total < SIDE as u32 && self.family.size() > most_walked(total, self.shape.sizes())
     }
 
     // The number of moves, by pairs: a move from one vector to another one is of two pairs, and one of a vector to itself
@@ -67,6 +68,16 @@ impl Subsets {
         }
         0
     }
+}
+
+// As many vectors are walked as quickly as the tables are made, which takes some time for each pair of entries of a place.
+fn most_walked(total: u32, bounds: &[u32]) -> u32 {
+    let mut most: u32 = 0;
+    for bound in bounds {
+        let entries = (*bound).min(total).saturating_add(1);
+        most = most.saturating_add(entries.saturating_mul(entries).saturating_mul(8));
+    }
+    most.min(MOST_WALKED)
 }
 
 // The table of no bounds.

@@ -1,49 +1,96 @@
-use Rattle.std.proofs.Common.{◌+◌, ◌-◌, ◌∷◌, min, reverse, sym, ap, ◌∙◌, inl, inr, arith}
+use Rattle.std.proofs.Common.{◌≡◌, ◌+◌, ◌-◌, ◌≤◌, ◌∷◌, length, drop, get_or, reverse, set, refl, sym, ap, ap₂, ◌∙◌, arith}
+use Rattle.std.proofs.lemmas.List.{drop_more, length-drop, length-set, take_rest}
 use Rattle.std.proofs.lemmas.Result.{on_ok_weaker}
 use Rattle.sgb_vec.specs.Sums.{bounded_sums}
-use Rattle.sgb_gen.specs.inner.Descents.{arcs_under}
+use Rattle.sgb_gen.specs.inner.Descents.{arcs_under, front_of, rows}
 use Rattle.sgb_gen.specs.inner.LocalSimplexes.{with_arcs}
-use Rattle.sgb_gen.proofs.DescentArcs.{all-rows, ended-all, row-under, rows-done, under-unwanted}
+use Rattle.sgb_gen.proofs.DescentArcs.{row-under}
+use Rattle.sgb_gen.proofs.DescentSteps.{entry-unwanted, front-kept, front-placed, front-shorter, least-placed}
+use Rattle.sgb_gen.proofs.LastEntries.{none-left}
 use Rattle.sgb_gen.proofs.PairWalks.{with_none}
+use Rattle.sgb_gen.proofs.SubsetsCounts.{begun-on}
 use Rattle.sgb_gen.proofs.accepted.subsets.descents.+descent.Goals as goal
 
-pub push_all-returns-then-not-may_be_wanted-clause-ok : goal.push_all-returns-then-not-may_be_wanted-clause-ok
-push_all-returns-then-not-may_be_wanted-clause-ok t c =
-    let b = c.args.begun in
-    with_none c.args.links.now
-    ∙ ap (with_arcs c.args.links.now) (sym (under-unwanted b.size_bits c.args.front.now.items b.common c.args.bounds.now c.args.x.now b.room b.shared b.left c.requires.begun c.if-not-may_be_wanted.ensures))
+pub push_all-returns-then-i-x-clause-ok : goal.push_all-returns-then-i-x-clause-ok
+push_all-returns-then-i-x-clause-ok t c =
+    let s = c.loop-state.state in
+    let x = c.args.x.now in
+    let i = c.loop-state.i in
+    let none = none-left s.size_bits (front_of c.loop-state.tip (drop i x)) s.common s.left i c.args.bounds.now x (omega (arith, c.loop-state-test.true)) (omega (arith, c.if-i-x.true)) (omega (arith, c.if-i-x.true, c.loop-state.invariant.1)) in
+    with_none c.loop-state.links ∙ ap (with_arcs c.loop-state.links) (sym none) ∙ c.loop-state.invariant.5
 
-pub push_all-returns-in_default-clause-ok : goal.push_all-returns-in_default-clause-ok
-push_all-returns-in_default-clause-ok t c =
-    let b = c.args.begun in
-    with_none c.args.links.now
-    ∙ ap (with_arcs c.args.links.now) (sym (ended-all b.size_bits c.args.front.now.items b.common b.left c.args.bounds.now c.args.x.now c.requires.begun.within (inl c.in_default.ensures'.cases) (omega (arith, c.if-begun-eq0.false))))
+pub push_all-loop-state-preserved : goal.push_all-loop-state-preserved
+push_all-loop-state-preserved t c =
+    let s = c.loop-state.state in
+    let x = c.args.x.now in
+    let bounds = c.args.bounds.now in
+    let i = c.loop-state.i in
+    let tip = c.loop-state.tip in
+    let new = c.push_greater.new.tip in
+    let entries = c.wanted_entries-entries.result in
+    let h = get_or x i 0 in
+    let b = get_or bounds i 0 in
+    let xs = drop (i + 1) x in
+    let bs = drop (i + 1) bounds in
+    let here : i + 1 ≤ length x = omega (arith, c.loop-state.invariant.0, c.if-i-x.false) in
+    let x_is : drop i x ≡ h ∷ xs = drop_more x i 0 (omega (arith, here)) in
+    let bounds_are : drop i bounds ≡ b ∷ bs = drop_more bounds i 0 (omega (arith, here, c.loop-state.invariant.1)) in
+    let within : entries.least ≤ s.left = omega (arith, c.wanted_entries-entries.ensures.few, c.if-entries-eq0.false) in
+    let kept : front_of new (h ∷ xs) ≡ front_of tip (h ∷ xs) =
+    sym (ap (λ v. front_of new (h ∷ v)) (take_rest x (i + 1))) ∙ c.in_ok-push_greater.ensures.same ∙ ap (λ v. front_of tip (h ∷ v)) (take_rest x (i + 1)) in
+    let begun = c.loop-state.invariant.3 in (
+      here,
+      c.loop-state.invariant.1,
+      ap (λ q. q.size_bits) c.placed-state.ensures ∙ c.loop-state.invariant.2,
+      rw c.placed-state.ensures (begun-on s.room s.shared s.left s.common b h entries.least bs xs (drop i bounds) (drop i x) bounds_are x_is within begun),
+      front-kept new x (length c.args.tip.now - length x + i) entries.least (omega arith)
+          ∙ front-shorter new tip x (h ∷ xs) (omega arith) (omega (arith, length-drop (i + 1) x)) kept
+          ∙ c.loop-state.invariant.4,
+      rw c.placed-state.ensures (least-placed c.loop-state.links c.push_greater.new.links c.args.links.now s.size_bits s.common s.left b h entries.least entries.count (entries.least + 1) (entries.count - 1)
+          (length c.args.tip.now - length x + i) tip new bs xs (drop i bounds) (drop i x) _
+          bounds_are x_is (omega (arith, length-drop i x)) (omega arith) (omega (arith, length-drop i x)) refl (omega (arith, c.if-entries-eq0.false)) within
+          (λ front. c.wanted_entries-entries.ensures.same front bs xs (rw (← bounds_are, ← x_is) begun))
+          kept
+          (c.in_ok-push_greater.ensures.ok
+          ∙ ap₂ (λ v cs. with_arcs c.loop-state.links (arcs_under s.size_bits (front_of tip (h ∷ v)) s.common (h ∷ v) (rows s.left cs (entries.least + 1) (entries.count - 1)))) (take_rest x (i + 1)) (take_rest bounds (i + 1)))
+          c.loop-state.invariant.5),
+    )
 
-pub push_all-returns-in_default-2-clause-ok : goal.push_all-returns-in_default-2-clause-ok
-push_all-returns-in_default-2-clause-ok t c =
-    let b = c.args.begun in
-    with_none c.args.links.now
-    ∙ ap (with_arcs c.args.links.now) (sym (ended-all b.size_bits c.args.front.now.items b.common b.left c.args.bounds.now c.args.x.now c.requires.begun.within (inr c.in_default.ensures.cases) (omega (arith, c.if-begun-eq0.false))))
+pub push_all-returns-clause-same : goal.push_all-returns-clause-same
+push_all-returns-clause-same t c =
+    let x = c.args.x.now in
+    let i = c.loop-state.i in
+    let last = rw take_rest at c.push_last.ensures.same in
+    on_ok_weaker c.push_last.result (λ same. front-shorter c.push_last.new.tip c.loop-state.tip x (drop i x) (omega arith) (omega (arith, length-drop i x)) same ∙ c.loop-state.invariant.4) last
 
-pub push_all-returns-clause-ok : goal.push_all-returns-clause-ok
-push_all-returns-clause-ok t c =
+pub push_row-returns-then-not-may_be_among-clause-ok : goal.push_row-returns-then-not-may_be_among-clause-ok
+push_row-returns-then-not-may_be_among-clause-ok t c =
     let b = c.args.begun in
-    let s = c.in-Some-Some in
-    let arcs = all-rows b.size_bits c.args.front.now.items b.common b.left s.bound.now s.own.now c.min-end.result s.bounds.now s.x.now c.args.bounds.now c.args.x.now c.in-Some-Some.ensures.cases.0 c.in-Some-Some.ensures'.cases.0 c.min-end.ensures in
-    on_ok_weaker c.push_rows.result (λ is. is ∙ ap (with_arcs c.args.links.now) arcs) c.push_rows.ensures.ok
+    let none = rw c.placed-further.ensures at c.if-not-may_be_among.ensures in
+    with_none c.args.links.now
+    ∙ ap (with_arcs c.args.links.now) (sym (entry-unwanted b.size_bits b.room b.shared b.left b.common c.args.bound c.args.own c.args.entry c.requires.entry none (front_of c.args.tip.now (c.args.own ∷ c.args.x.now)) c.args.bounds.now c.args.x.now c.requires.begun))
+
+pub push_row-returns-clause-same : goal.push_row-returns-clause-same
+push_row-returns-clause-same t c =
+    let x = c.args.x.now in
+    let own = c.args.own ∷ x in
+    let tip = c.args.tip.now in
+    let place = length tip - length x - 1 in
+    let long = length-set tip place c.args.entry in
+    on_ok_weaker c.push_all.result (λ same. front-shorter c.push_all.new.tip (set tip place c.args.entry) own x (omega arith) (omega arith) same ∙ front-kept tip own place c.args.entry (omega arith)) c.push_all.ensures.same
 
 pub push_row-returns-clause-ok : goal.push_row-returns-clause-ok
 push_row-returns-clause-ok t c =
     let b = c.args.begun in
-    let p = c.placed.ensures in
-    c.in_ok-push_all.ensures.ok
-    ∙ ap (λ q. with_arcs c.args.links.now (arcs_under q.size_bits c.push.new.self.items q.common c.args.x.now (reverse (bounded_sums q.left c.args.bounds.now)))) p
-    ∙ ap (λ front. with_arcs c.args.links.now (arcs_under b.size_bits front (b.common + min c.args.own c.args.entry) c.args.x.now (reverse (bounded_sums (b.left - c.args.entry) c.args.bounds.now)))) c.in_ok-push.ensures.items
-    ∙ ap (with_arcs c.args.links.now) (row-under b.size_bits c.args.front.now.items b.common b.left c.args.own c.args.entry c.args.bounds.now c.args.x.now c.requires.entry)
-
-pub push_rows-loop-k-preserved : goal.push_rows-loop-k-preserved
-push_rows-loop-k-preserved t c = (
-  c.in_ok-push_row.ensures.same ∙ c.loop-k.invariant.0,
-  rows-done c.args.links.now c.loop-k.links c.push_row.new.links c.args.begun.size_bits c.args.front.now.items c.loop-k.front.items c.args.begun.common (c.args.own ∷ c.args.x.now) c.args.begun.left c.args.bounds.now c.with_room-entries.result.least c.loop-k.k _
-      c.loop-k.invariant.0 (omega arith) c.in_ok-push_row.ensures.ok c.loop-k.invariant.1,
-)
+    let x = c.args.x.now in
+    let bounds = c.args.bounds.now in
+    let own = c.args.own ∷ x in
+    let tip = c.args.tip.now in
+    let place = length tip - length x - 1 in
+    let front = front-placed tip own x c.args.own c.args.entry place refl (omega (arith, c.requires.place)) (omega arith) in
+    let arcs = row-under b.size_bits (front_of tip own) b.common b.left c.args.own c.args.entry bounds x c.requires.entry in
+    on_ok_weaker c.push_all.result (λ is.
+    is
+    ∙ ap₂ (λ q f. with_arcs c.args.links.now (arcs_under q.size_bits f q.common x (reverse (bounded_sums q.left bounds)))) c.placed-further.ensures front
+    ∙ ap (with_arcs c.args.links.now) arcs)
+    c.push_all.ensures.ok

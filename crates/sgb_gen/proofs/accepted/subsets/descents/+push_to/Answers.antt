@@ -1,10 +1,23 @@
-use Rattle.std.proofs.Common.{◌∷◌, ◌++◌, [], ap, ap₂, ◌∙◌, inl, inr}
+use Rattle.std.proofs.Common.{◌≡◌, ◌+◌, ◌-◌, [], ◌∷◌, ◌++◌, length, set, sym, ap, ap₂, ◌∙◌, inl, inr, arith}
+use Rattle.std.proofs.lemmas.List.{length-set}
 use Rattle.std.proofs.lemmas.Result.{on_ok_weaker}
-use Rattle.sgb_gen.specs.inner.Descents.{arcs_under, down_to}
+use Rattle.sgb_gen.specs.inner.Descents.{arcs_under, down_to, front_of}
 use Rattle.sgb_gen.specs.inner.LocalSimplexes.{with_arcs}
-use Rattle.sgb_gen.proofs.DescentArcs.{HasEnded, ended-zero, ended-to, to-more}
+use Rattle.sgb_gen.proofs.DescentArcs.{HasEnded, ended-zero, ended-to, to-more, under-unwanted, unwanted-to}
+use Rattle.sgb_gen.proofs.DescentSteps.{front-kept, front-placed, front-shorter, others-add}
+use Rattle.sgb_gen.proofs.PairWalks.{with_none}
 use Rattle.sgb_gen.proofs.accepted.subsets.descents.+push_to.Goals as goal
 use Rattle.sgb_gen.proofs.accepted.subsets.descents.+push_to.Goals.{in_default-via-in-Some+in_default, in_default-via-in_default}
+
+pub returns-then-not-may_be_among-clause-ok : goal.returns-then-not-may_be_among-clause-ok
+returns-then-not-may_be_among-clause-ok t c =
+    let b = c.args.begun in
+    let x = c.args.x.now in
+    let bounds = c.args.bounds.now in
+    let front = front_of c.args.tip.now x in
+    let none = under-unwanted b.size_bits front b.common bounds x b.room b.shared b.left c.requires.begun c.if-not-may_be_among.ensures in
+    with_none c.args.links.now
+    ∙ ap (with_arcs c.args.links.now) (sym (unwanted-to b.size_bits front b.common b.left bounds x c.requires.begun.within c.requires.all none))
 
 pub push_zeros-requires-clause-none : goal.push_zeros-requires-clause-none
 push_zeros-requires-clause-none t c =
@@ -21,15 +34,39 @@ returns-in_default-clause-ok t c =
       | in_default-via-in-Some+in_default w ↦ inl w.in_default.ensures'.cases
       | in_default-via-in_default w ↦ inr w.in_default.ensures.cases
     ] in
-    let same = ended-to b.size_bits c.args.front.now.items b.common b.left c.args.bounds.now c.args.x.now c.requires.begun.within none c.requires.all in
+    let same = ended-to b.size_bits (front_of c.args.tip.now c.args.x.now) b.common b.left c.args.bounds.now c.args.x.now c.requires.begun.within none c.requires.all in
     on_ok_weaker c.push_zeros.result (λ is. is ∙ ap (with_arcs c.args.links.now) same) c.push_zeros.ensures.ok
+
+pub returns-clause-same : goal.returns-clause-same
+returns-clause-same t c =
+    let s = c.in-Some-Some in
+    let x = c.args.x.now in
+    let x_is = s.ensures'.cases.0 in
+    let mid = c.push_rows.new.tip in
+    let place = length c.args.tip.now - length x in
+    let long : length x ≡ length s.x.now + 1 = ap length x_is ∙ omega arith in
+    let count = length-set mid place s.own.now in
+    let kept : front_of mid x ≡ front_of c.args.tip.now x = ap (front_of mid) x_is ∙ c.in_ok-push_rows.ensures.same ∙ ap (front_of c.args.tip.now) (sym x_is) in
+    on_ok_weaker c.push_to.result (λ same. front-shorter c.push_to.new.tip (set mid place s.own.now) x s.x.now (omega arith) (omega (arith, long)) same ∙ front-kept mid x place s.own.now (omega arith) ∙ kept) c.push_to.ensures.same
 
 pub returns-clause-ok : goal.returns-clause-ok
 returns-clause-ok t c =
     let b = c.args.begun in
     let s = c.in-Some-Some in
-    let front = c.in_ok-push.ensures.items ∙ ap (λ items. items ++ s.own.now ∷ []) c.in_ok-push_rows.ensures.same in
-    to-more c.args.links.now c.push_rows.new.links c.push_to.new.links b.size_bits c.args.front.now.items b.common b.left s.bound.now s.own.now c.min-end.result s.bounds.now s.x.now c.args.bounds.now c.args.x.now
-    c.in-Some-Some.ensures.cases.0 c.in-Some-Some.ensures'.cases.0 c.requires.all c.min-end.ensures c.in_ok-push_rows.ensures.ok
-    (c.in_ok-push_to.ensures.ok
-    ∙ ap₂ (λ q items. with_arcs c.push_rows.new.links (arcs_under q.size_bits items q.common s.x.now (down_to s.bounds.now s.x.now))) c.placed.ensures front)
+    let x = c.args.x.now in
+    let x_is = s.ensures'.cases.0 in
+    let tip = c.args.tip.now in
+    let mid = c.push_rows.new.tip in
+    let place = length tip - length x in
+    let adds = others-add c.args.bounds.now x b.room b.shared b.left b.common s.bound.now s.bounds.now s.ensures.cases.0 c.requires.begun in
+    let entries = c.with_room-entries.ensures.same s.bounds.now (adds ∙ ap (λ n. b.room - n) (sym c.from.ensures)) in
+    let kept : front_of mid x ≡ front_of tip x = ap (front_of mid) x_is ∙ c.in_ok-push_rows.ensures.same ∙ ap (front_of tip) (sym x_is) in
+    let front : front_of (set mid place s.own.now) s.x.now ≡ front_of tip x ++ s.own.now ∷ [] =
+    front-placed mid x s.x.now s.own.now s.own.now place x_is (omega (arith, c.requires.place)) (omega arith) ∙ ap (λ f. f ++ s.own.now ∷ []) kept in
+    on_ok_weaker c.push_to.result (λ is.
+    to-more c.args.links.now c.push_rows.new.links c.push_to.new.links b.size_bits (front_of tip x) b.common b.left s.bound.now s.own.now c.min-end.result s.bounds.now s.x.now c.args.bounds.now x
+    s.ensures.cases.0 x_is c.requires.all c.min-end.ensures
+    (c.in_ok-push_rows.ensures.ok
+    ∙ ap₂ (λ f r. with_arcs c.args.links.now (arcs_under b.size_bits f b.common (s.own.now ∷ s.x.now) r)) (ap (front_of tip) (sym x_is)) (sym entries))
+    (is ∙ ap₂ (λ q f. with_arcs c.push_rows.new.links (arcs_under q.size_bits f q.common s.x.now (down_to s.bounds.now s.x.now))) c.placed.ensures front))
+    c.push_to.ensures.ok

@@ -1,0 +1,139 @@
+-- Entries with which no vector that begins alike has a wanted size in common; and wanted sizes by the least and the greatest one.
+use Rattle.std.proofs.Common.{◌≡◌, ℕ, zero, suc, ◌+◌, ◌-◌, ◌<◌, ◌≤◌, min, false, List, [], ◌∷◌, ◌++◌, length, reverse, take, set, sum, refl, sym, ap, ap₂, subst, ◌∙◌, inl, inr, arith, append-nil, append_assoc}
+use Rattle.std.proofs.lemmas.Bool.{cases_lt}
+use Rattle.std.proofs.lemmas.Grind.{take-set_at}
+use Rattle.std.proofs.lemmas.List.{length-set, take-set-le, take-take}
+use Rattle.sgb_vec.specs.Sums.{bounded_sums}
+use Rattle.sgb_vec.proofs.SumSuccessors.{sum-cons}
+use Rattle.sgb_gen.specs.LocalLists.{LinksData, LocalArc}
+use Rattle.sgb_gen.specs.Subsets.{is_wanted_size}
+use Rattle.sgb_gen.specs.inner.Descents.{HasNoArcs, IsBegun, arcs_under, front_of, row, rows}
+use Rattle.sgb_gen.specs.inner.LocalSimplexes.{with_arcs}
+use Rattle.sgb_gen.proofs.Descents.{rows-first, rows-parts, rows-end, sums-rows}
+use Rattle.sgb_gen.proofs.DescentArcs.{row-under, under-append, under-unwanted}
+use Rattle.sgb_gen.proofs.SubsetsCounts.{begun-on}
+
+-- ---- entries without arcs
+
+-- an entry with which no size in common can be wanted
+pub entry-unwanted : (sb room shared left c b h e : ℕ) → e ≤ left
+    → ((k : ℕ) → left - e ≤ k + (room - b - (shared - h)) → k ≤ left - e → k ≤ shared - h → is_wanted_size sb (k + (c + min h e)) ≡ false)
+    → HasNoArcs sb room shared left c b h e
+entry-unwanted sb room shared left c b h e within none front bounds x begun =
+    sym (row-under sb front c left h e bounds x within)
+    ∙ under-unwanted sb (front ++ e ∷ []) (c + min h e) bounds x (room - b) (shared - h) (left - e)
+    (begun-on room shared left c b h e bounds x (b ∷ bounds) (h ∷ x) refl refl within begun) none
+
+-- the entries from one on that have none may be left out
+module _ (sb room shared left c b h : ℕ) (front bounds x : List ℕ) (begun : IsBegun (b ∷ bounds) (h ∷ x) room shared left c) where
+  abbrev arcs_of : ℕ → ℕ → List LocalArc
+  arcs_of low n = arcs_under sb front c (h ∷ x) (rows left bounds low n)
+
+  none_of : (low n : ℕ) → ((e : ℕ) → low ≤ e → e < low + n → HasNoArcs sb room shared left c b h e) → arcs_of low n ≡ []
+  none_of low zero none = refl
+  none_of low (suc n) none =
+      under-append sb front c (h ∷ x) (row left bounds (low + n)) (rows left bounds low n)
+      ∙ ap₂ (λ l m. l ++ m) (none (low + n) (omega arith) (omega arith) front bounds x begun) (none_of low n (λ e from to. none e from (omega arith)))
+
+  pub none-below : (low least end : ℕ) → low ≤ least → least ≤ end → ((e : ℕ) → low ≤ e → e < least → HasNoArcs sb room shared left c b h e) → arcs_of low (end - low) ≡ arcs_of least (end - least)
+  none-below low least end more within none =
+      ap (arcs_of low) {y = (least - low) + (end - least)} (omega arith)
+      ∙ ap (arcs_under sb front c (h ∷ x)) (rows-parts left bounds low (least - low) (end - least))
+      ∙ under-append sb front c (h ∷ x) (rows left bounds (low + (least - low)) (end - least)) (rows left bounds low (least - low))
+      ∙ ap₂ (λ l m. l ++ m) (ap (λ a. arcs_of a (end - least)) (omega arith)) (none_of low (least - low) (λ e from to. none e from (omega arith)))
+      ∙ append-nil (arcs_of least (end - least))
+
+  pub none-above : (low after end : ℕ) → low ≤ after → after ≤ end → ((e : ℕ) → after ≤ e → e < end → HasNoArcs sb room shared left c b h e) → arcs_of low (end - low) ≡ arcs_of low (after - low)
+  none-above low after end more within none =
+      ap (arcs_of low) {y = (after - low) + (end - after)} (omega arith)
+      ∙ ap (arcs_under sb front c (h ∷ x)) (rows-parts left bounds low (after - low) (end - after))
+      ∙ under-append sb front c (h ∷ x) (rows left bounds (low + (after - low)) (end - after)) (rows left bounds low (after - low))
+      ∙ ap₂ (λ l m. l ++ m) (none_of (low + (after - low)) (end - after) (λ e from to. none e (omega arith) (omega arith))) refl
+
+  -- so all arcs are those by the wanted entries
+  pub wanted-rows : (end at count least after : ℕ) → end ≡ min left b + 1 → ((bs : List ℕ) → sum bs ≡ room - b → rows left bs 0 (end - 0) ≡ rows left bs at count)
+      → at ≤ least → least ≤ at + count → ((e : ℕ) → at ≤ e → e < least → HasNoArcs sb room shared left c b h e)
+      → least ≤ after → after ≤ at + count → ((e : ℕ) → after ≤ e → e < at + count → HasNoArcs sb room shared left c b h e)
+      → arcs_under sb front c (h ∷ x) (reverse (bounded_sums left (b ∷ bounds))) ≡ arcs_of least (after - least)
+  wanted-rows end at count least after end_is kept from to none_before more within none_after =
+      ap (arcs_under sb front c (h ∷ x)) (sums-rows left b bounds ∙ ap (rows left bounds 0) {x = b + 1} {y = b + 1 - 0} (omega arith) ∙ rows-end left bounds 0 b (omega arith) ∙ ap (λ n. rows left bounds 0 (n - 0)) (sym end_is)
+      ∙ kept bounds (omega (arith, begun.bounds_add, sum-cons b bounds)))
+      ∙ ap (arcs_of at) {x = count} {y = at + count - at} (omega arith)
+      ∙ none-below at least (at + count) from to none_before
+      ∙ none-above least after (at + count) more within none_after
+
+-- ---- the vector where an arc leads, entry by entry
+
+-- an entry is placed
+pub front-placed : (tip x xs : List ℕ) (h e place : ℕ) → x ≡ h ∷ xs → length x ≤ length tip → place ≡ length tip - length x → front_of (set tip place e) xs ≡ front_of tip x ++ e ∷ []
+front-placed tip x xs h e place x_is fits at =
+    let long : length x ≡ length xs + 1 = ap length x_is ∙ omega arith in
+    ap (λ n. take (n - length xs) (set tip place e)) (length-set tip place e)
+    ∙ take-set_at tip place (length tip - length xs) e (omega (arith, at, long, fits)) (omega (arith, at, long, fits))
+    ∙ ap (λ n. take n tip ++ e ∷ []) at
+
+-- what stands before it stays
+pub front-kept : (tip x : List ℕ) (place e : ℕ) → length tip - length x ≤ place → front_of (set tip place e) x ≡ front_of tip x
+front-kept tip x place e from =
+    ap (λ n. take (n - length x) (set tip place e)) (length-set tip place e)
+    ∙ take-set-le (length tip - length x) tip place e from
+
+-- what begins alike begins alike with an entry less
+pub front-shorter : (new tip x xs : List ℕ) → length new ≡ length tip → length xs ≤ length x → front_of new xs ≡ front_of tip xs → front_of new x ≡ front_of tip x
+front-shorter new tip x xs same shorter alike =
+    sym (take-take (length new - length x) (length new - length xs) new (omega arith))
+    ∙ ap₂ (λ n l. take (n - length x) l) same alike
+    ∙ take-take (length tip - length x) (length tip - length xs) tip (omega arith)
+
+-- ---- ranges of entries, one entry more
+
+pub range_above : (P : ℕ → Type 0) (low e : ℕ) → ((k : ℕ) → low ≤ k → k < e → P k) → P e → (k : ℕ) → low ≤ k → k < e + 1 → P k
+range_above P low e all here k from to =
+    elim (cases_lt k e) [
+      | inl less ↦ all k from less
+      | inr other ↦ subst P {x = e} {y = k} (omega arith) here
+    ]
+
+pub range_below : (P : ℕ → Type 0) (after end : ℕ) → 0 < after → ((k : ℕ) → after ≤ k → k < end → P k) → P (after - 1) → (k : ℕ) → after - 1 ≤ k → k < end → P k
+range_below P after end some all here k from to =
+    elim (cases_lt k after) [
+      | inl less ↦ subst P {x = after - 1} {y = k} (omega arith) here
+      | inr other ↦ all k other to
+    ]
+
+-- ---- a step of the descent
+
+-- the greater entries are done, and the least one is placed
+pub least-placed : (links mid start : LinksData) (sb c left b h least count low n place : ℕ) (tip new bs xs bounds x : List ℕ) (all : List LocalArc)
+    → bounds ≡ b ∷ bs → x ≡ h ∷ xs → length x ≤ length tip → length new ≡ length tip → place ≡ length tip - length x → low ≡ least + 1 → n + 1 ≡ count → least ≤ left
+    → ((front : List ℕ) → arcs_under sb front c (h ∷ xs) (reverse (bounded_sums left (b ∷ bs))) ≡ arcs_under sb front c (h ∷ xs) (rows left bs least count))
+    → front_of new (h ∷ xs) ≡ front_of tip (h ∷ xs)
+    → mid ≡ with_arcs links (arcs_under sb (front_of tip (h ∷ xs)) c (h ∷ xs) (rows left bs low n))
+    → with_arcs links (arcs_under sb (front_of tip x) c x (reverse (bounded_sums left bounds))) ≡ with_arcs start all
+    → with_arcs mid (arcs_under sb (front_of (set new place least) xs) (c + min h least) xs (reverse (bounded_sums (left - least) bs))) ≡ with_arcs start all
+least-placed links mid start sb c left b h least count low n place tip new bs xs bounds x all bounds_are x_is fits long at low_is count_is within same kept mid_is so_far =
+    let front = front_of tip (h ∷ xs) in
+    let greater = arcs_under sb front c (h ∷ xs) (rows left bs (least + 1) n) in
+    let own = arcs_under sb front c (h ∷ xs) (row left bs least) in
+    let fits_new : length (h ∷ xs) ≤ length new = omega (arith, fits, ap length x_is, long) in
+    let at_new : place ≡ length new - length (h ∷ xs) = at ∙ ap₂ (λ k v. k - length v) (sym long) x_is in
+    let placed_front : front_of (set new place least) xs ≡ front ++ least ∷ [] = front-placed new (h ∷ xs) xs h least place refl fits_new at_new ∙ ap (λ f. f ++ least ∷ []) kept in
+    ap₂ (λ l f. with_arcs l (arcs_under sb f (c + min h least) xs (reverse (bounded_sums (left - least) bs))))
+    (mid_is ∙ ap (λ k. with_arcs links (arcs_under sb front c (h ∷ xs) (rows left bs k n))) low_is) placed_front
+    ∙ ap (with_arcs (with_arcs links greater)) (row-under sb front c left h least bs xs within)
+    ∙ ap (λ arcs. record { width = links.width; arcs = arcs }) (append_assoc links.arcs greater own)
+    ∙ ap (with_arcs links)
+    (sym (under-append sb front c (h ∷ xs) (rows left bs (least + 1) n) (row left bs least))
+    ∙ ap (arcs_under sb front c (h ∷ xs)) (sym (rows-first left bs least n))
+    ∙ ap (λ k. arcs_under sb front c (h ∷ xs) (rows left bs least k)) {x = suc n} {y = count} (omega (arith, count_is))
+    ∙ sym (same front)
+    ∙ ap₂ (λ v cs. arcs_under sb (front_of tip v) c v (reverse (bounded_sums left cs))) (sym x_is) (sym bounds_are))
+    ∙ so_far
+
+-- what the other bounds add to
+pub others-add : (bounds x : List ℕ) (room shared left c b : ℕ) (bs : List ℕ) → bounds ≡ b ∷ bs → IsBegun bounds x room shared left c → sum bs ≡ room - b
+others-add bounds x room shared left c b bs is begun = omega (arith, begun.bounds_add, ap sum is, sum-cons b bs)
+
+-- before all entries of a vector there is none
+pub front-none : (tip x : List ℕ) → length tip ≡ length x → front_of tip x ≡ []
+front-none tip x same = ap (λ n. take n tip) {y = 0} (omega (arith, same))
