@@ -19,7 +19,7 @@ use Rattle.sgb_gen.specs.VectorGraphs.{vertex_among}
 use Rattle.sgb_gen.specs.inner.Descents.{IsBegun, arcs_under, down_from, down_to, row, rows}
 use Rattle.sgb_gen.specs.inner.LocalSimplexes.{with_arcs}
 use Rattle.sgb_gen.specs.inner.LocalSubsets.{arcs_by_walk, arcs_to}
-use Rattle.sgb_gen.proofs.Descents.{row-within, rows-end, rows-next, rows-parts, sums-end, sums-past, sums-rows}
+use Rattle.sgb_gen.proofs.Descents.{row-within, rows-end, rows-parts, sums-end, sums-past, sums-rows}
 use Rattle.sgb_gen.proofs.PairWalks.{with_more}
 use Rattle.sgb_gen.proofs.RisingVectors.{vertex_in_rising}
 
@@ -275,19 +275,6 @@ all-rows sb front c left b h most bs xs bounds x bounds_are x_is most_is =
 pub row-under : (sb : ℕ) (front : List ℕ) (c left h e : ℕ) (bs x : List ℕ) → e ≤ left → arcs_under sb (front ++ e ∷ []) (c + min h e) x (reverse (bounded_sums (left - e) bs)) ≡ arcs_under sb front c (h ∷ x) (row left bs e)
 row-under sb front c left h e bs x within =
     sym (under-front sb front c h x e (reverse (bounded_sums (left - e) bs))) ∙ ap (arcs_under sb front c (h ∷ x)) (sym (row-within left e bs within))
-
--- a row more is done
-pub rows-done : (start links new : LinksData) (sb : ℕ) (front at : List ℕ) (c : ℕ) (x : List ℕ) (left : ℕ) (bs : List ℕ) (low k : ℕ) (all : List LocalArc) → at ≡ front → 0 < k
-    → new ≡ with_arcs links (arcs_under sb at c x (row left bs (low + (k - 1))))
-    → with_arcs links (arcs_under sb front c x (rows left bs low k)) ≡ with_arcs start all
-    → with_arcs new (arcs_under sb front c x (rows left bs low (k - 1))) ≡ with_arcs start all
-rows-done start links new sb front at c x left bs low k all same some new_is so_far =
-    let first = arcs_under sb front c x (row left bs (low + (k - 1))) in
-    let rest = arcs_under sb front c x (rows left bs low (k - 1)) in
-    ap (λ l. with_arcs l rest) (new_is ∙ ap (λ f. with_arcs links (arcs_under sb f c x (row left bs (low + (k - 1))))) same)
-    ∙ ap (λ arcs. record { width = links.width; arcs = arcs }) (append_assoc links.arcs first rest)
-    ∙ ap (with_arcs links) (sym (under-append sb front c x (row left bs (low + (k - 1))) (rows left bs low (k - 1))) ∙ ap (arcs_under sb front c x) (sym (rows-next left bs low k some)))
-    ∙ so_far
 
 -- down to x: the rows above its first entry, and then on with that
 pub to-more : (links mid new : LinksData) (sb : ℕ) (front : List ℕ) (c left b h most : ℕ) (bs xs bounds x : List ℕ) → bounds ≡ b ∷ bs → x ≡ h ∷ xs → left ≡ sum x → most ≡ min left b

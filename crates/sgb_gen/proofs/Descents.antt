@@ -144,10 +144,6 @@ rows-parts r bs low m (suc n) =
       more : {k : ℕ} → k ≡ suc (m + n) → rows r bs low k ≡ row r bs (low + (m + n)) ++ rows r bs low (m + n)
       more is = ap (rows r bs low) is
 
--- the row of the greatest entry comes first
-pub rows-next : (r : ℕ) (bs : List ℕ) (low k : ℕ) → 0 < k → rows r bs low k ≡ row r bs (low + (k - 1)) ++ rows r bs low (k - 1)
-rows-next r bs low k some = ap (rows r bs low) {y = suc (k - 1)} (omega arith)
-
 -- and where nothing more is to be placed there is one end
 pub sums-end : bounded_sums 0 [] ≡ [] ∷ []
 unfolding bounded_sums box
