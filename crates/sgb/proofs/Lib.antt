@@ -35,6 +35,8 @@ pub mod LocalChains
 pub mod LocalListings
 -- names of vectors, entry by entry
 pub mod NameEntries
+-- names in which digits are written over
+pub mod WrittenDigits
 -- names of vectors of which some entries are moved
 pub mod MovedNames
 -- lines of arcs, run by run

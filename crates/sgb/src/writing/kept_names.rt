@@ -1,5 +1,6 @@
 //! The name of a vector, of which the next name keeps what it has in common with it.
 ghost use Rattle.std.specs.Prelude.{◌≡◌, ◌≤◌, ◌<◌, ◌+◌, ◌-◌, ◌*◌, [], ◌∷◌, ◌++◌, drop, false, length, nat_lt, take, IfErr};
+ghost use Rattle.std.specs.Bool.{OnFalse, OnTrue};
 ghost use Rattle.sgb_file.specs.Devices.{change};
 ghost use Rattle.sgb_vec.specs.Limits.{most_dimensions};
 ghost use Rattle.sgb_vec.specs.Names.{name_of_vector};
@@ -114,9 +115,49 @@ impl KeptName {
         Ok(())
     }
 
-    /// Appends the name of a vector of as many entries to a page. Only the entries between those that both vectors have
-    /// alike, at the start and at the end, are put in digits anew.
+    /// Appends the name of a vector of as many entries to a page. Only digits that differ are put anew, or the entries between
+    /// those that both vectors have alike, at the start and at the end.
     pub(super) fn push_other(&self, other: &[u32], page: &mut Page)
+        requires width { length other.now ≡ length self.now }
+        requires room { length page.old + (11 * length self.now + 41) ≤ page_bytes }
+        ensures text { page.new ≡ page.old ++ name_of_vector other.now }
+        ensures short { length page.new ≤ length page.old + 11 * length self.now }
+    {
+        if !self.push_with_digits(other, page) {
+            self.push_between_ends(other, page);
+        }
+    }
+
+    // The same by this name, in which the digits that differ are written over. `false`, and nothing is appended, where an entry
+    // that differs has more than one digit, or this name seems to have such entries.
+    fn push_with_digits(&self, other: &[u32], page: &mut Page) -> bool
+        requires width { length other.now ≡ length self.now }
+        requires room { length page.old + (11 * length self.now + 41) ≤ page_bytes }
+        ensures text { OnTrue result (page.new ≡ page.old ++ name_of_vector other.now) }
+        ensures short { OnTrue result (length page.new ≤ length page.old + 11 * length self.now) }
+        ensures none { OnFalse result (page.new ≡ page.old) }
+    {
+        if self.text.len() >= 2 * self.vector.len() {
+            return false;
+        }
+        let start = page.len();
+        page.push_start_of(&self.text, self.text.len());
+        let vector = self.vector.as_slice();
+        for (k, entry) in other.iter().enumerate() {
+            if *entry == vector[k] {
+                continue;
+            }
+            if *entry > 9 || vector[k] > 9 {
+                page.cut(start);
+                return false;
+            }
+            page.put_digit(start + self.end_of(k + 1) - 1, *entry);
+        }
+        true
+    }
+
+    // The same with the entries put in digits anew from the first one that differs to the last.
+    fn push_between_ends(&self, other: &[u32], page: &mut Page)
         requires width { length other.now ≡ length self.now }
         requires room { length page.old + (11 * length self.now + 41) ≤ page_bytes }
         ensures text { page.new ≡ page.old ++ name_of_vector other.now }

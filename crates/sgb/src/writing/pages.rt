@@ -1,5 +1,5 @@
 //! Texts put together in place, and pages of output: lines are put together where they leave.
-ghost use Rattle.std.specs.Prelude.{◌≡◌, ◌≤◌, ◌<◌, ◌+◌, ◌*◌, ◌-◌, [], ◌∷◌, ◌++◌, codes, decimal, drop, false, length, nat_lt, take, IfErr, OnOk};
+ghost use Rattle.std.specs.Prelude.{◌≡◌, ◌≤◌, ◌<◌, ◌+◌, ◌*◌, ◌-◌, [], ◌∷◌, ◌++◌, codes, decimal, drop, false, length, nat_lt, set, take, IfErr, OnOk};
 ghost use Rattle.std.specs.Fmt.{signed_decimal};
 ghost use Rattle.sgb_file.specs.Devices.{change};
 ghost use Rattle.sgb.specs.Writing.{IsWritten};
@@ -67,6 +67,15 @@ impl<const N: usize> Filled<N> {
         ensures { result.now ≡ self.now }
     {
         &self.bytes[..self.len]
+    }
+
+    /// Writes a digit over the byte at this place.
+    pub(super) fn put_digit(&mut self, place: usize, digit: u32)
+        requires digit { digit < 10 }
+        requires within { place < length self.old }
+        ensures { self.new ≡ set self.old place (48 + digit) }
+    {
+        self.bytes[place] = b'0' + digit as u8;
     }
 
     /// Keeps the first `count` bytes.

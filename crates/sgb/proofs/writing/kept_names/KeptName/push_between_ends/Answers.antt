@@ -2,7 +2,7 @@ use Rattle.std.proofs.Common.{◌≡◌, ◌≤◌, ◌∙◌, All, ◌<◌, ◌
 use Rattle.std.proofs.lemmas.List.{length-drop}
 use Rattle.sgb_vec.specs.Names.{name_of_vector}
 use Rattle.sgb.proofs.KeptNames.{back-bound, front-bound, other-text}
-use Rattle.sgb.proofs.writing.kept_names.KeptName.push_other.Goals as goal
+use Rattle.sgb.proofs.writing.kept_names.KeptName.push_between_ends.Goals as goal
 
 pub push_rest_of-requires : goal.push_rest_of-requires
 push_rest_of-requires c =
