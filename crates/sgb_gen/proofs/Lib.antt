@@ -36,6 +36,8 @@ pub mod Destinations
 pub mod Reaches
 -- a rider stops
 pub mod Riders
+-- lists by displacements where no move is longer than 1
+mod Leaps
 -- moves turned back
 pub mod TurnedMoves
 -- displacements above the bounds lead nowhere

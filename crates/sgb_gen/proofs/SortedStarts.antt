@@ -131,11 +131,17 @@ module _ (b : BoardData) (t : List ℤ) (x : List ℕ) (there : Contains (box b.
       starts_differ : (u v l m : ℕ) → not (v == u) ≡ true → same_pair (u, l) (v, m) ≡ false
       starts_differ u v l m passes = ap (λ c. c && (l == m)) (eqb-turned u v ∙ not-true (v == u) passes)
 
-  -- sorted, they are those of the touching moves in order
+  -- in an order in which they rise, they are those of the touching moves
+  pub rising_starts : (ps : List (ℕ × ℕ)) → IsPermutation (starts_of (sides_of b.sizes b.wrap) b.piece (box b.sizes) x t) ps → AllPairs IsEarlier ps → ps ≡ touching b t x there
+  rising_starts ps changed rise =
+      let starts = starts_of (sides_of b.sizes b.wrap) b.piece (box b.sizes) x t in
+      in_order_same b t x there ps rise
+      (All-permutation (Contains (touching b t x there)) starts ps changed (starts_touch b t x there))
+      (All-weaker (Contains starts) (Contains ps) (λ s found. Contains-permutation starts ps s changed found) (touching b t x there) (touching_found b t x there))
+
+  -- sorted, they rise
   pub sorted_starts : (ps : List (ℕ × ℕ)) → IsPermutation (starts_of (sides_of b.sizes b.wrap) b.piece (box b.sizes) x t) ps → IsSorted pair_cmp ps → ps ≡ touching b t x there
   sorted_starts ps changed sorted =
       let starts = starts_of (sides_of b.sizes b.wrap) b.piece (box b.sizes) x t in
       let distinct = pairs_of_distinct ps (IsDistinct-IsPermutation same_pair same_turned starts ps changed (distinct_of starts starts_distinct)) in
-      in_order_same b t x there ps (sorted_rise ps sorted distinct)
-      (All-permutation (Contains (touching b t x there)) starts ps changed (starts_touch b t x there))
-      (All-weaker (Contains starts) (Contains ps) (λ s found. Contains-permutation starts ps s changed found) (touching b t x there) (touching_found b t x there))
+      rising_starts ps changed (sorted_rise ps sorted distinct)

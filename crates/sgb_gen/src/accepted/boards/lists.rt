@@ -8,7 +8,7 @@ ghost use Rattle.sgb_gen.specs.Boards.{moves_of_board};
 ghost use Rattle.sgb_gen.specs.LocalLists.{list_at};
 ghost use Rattle.sgb_gen.specs.inner.LocalBoards.{move_arc, edge_arcs, own_starts, other_starts, starts_of, arcs_of_starts, arcs_onward, moves_by};
 ghost use Rattle.sgb_gen.specs.Moves.{moves_from, sides_of, place, opposite};
-ghost use Rattle.sgb_gen.specs.inner.Moves.{destination, leads_onward};
+ghost use Rattle.sgb_gen.specs.inner.Moves.{destination, leads_onward, longest_move};
 ghost use Rattle.sgb_gen.specs.VectorGraphs.{vertex_among};
 
 use super::Board;
@@ -122,6 +122,9 @@ impl Board {
         if leads_onward(self.wrap, t) {
             return self.push_in_order(x, t, back, links);
         }
+        if self.longest_move() == 1 {
+            return self.push_leaps(x, t, back, there, links);
+        }
         self.push_sorted(x, t, back, there, links)
     }
 
@@ -205,6 +208,44 @@ impl Board {
         starts.sort_unstable();
         self.push_edges(x, t, back, starts.as_slice(), there, links)?;
         links.keep_starts(starts);
+        Ok(())
+    }
+
+    // The same where no move is longer than 1: of the edge that starts at `x` and the one that comes to it the later first.
+    fn push_leaps(
+        &self,
+        x: &[u32],
+        t: &Step,
+        back: &Step,
+        there: &mut Vector,
+        links: &mut Links,
+    ) -> Result<(), Panic>
+        requires below { IsBelow x.now self.now.sizes }
+        requires dimensions { length t.now ≡ length self.now.sizes }
+        requires back { back.now ≡ opposite t.now }
+        requires width { length x.now ≡ links.old.width }
+        requires short { longest_move (sides_of self.now.sizes self.now.wrap) self.now.piece ≡ 1 }
+        ensures ok { OnOk result (links.new
+            ≡ record links.old {
+              arcs = links.old.arcs
+                  ++ reverse (arcs_onward false x.now
+                  (moves_by (sides_of self.now.sizes self.now.wrap) self.now.piece
+                  (box self.now.sizes) t.now));
+            }) }
+        ensures memory { IsOkUnless result Panic.NoRoom }
+    {
+        let u = self.family.place_of(x);
+        let Some(v) = self.vertex_at(x, back, 1, there) else {
+            return self.push_edge(x, t, 1, there, links);
+        };
+        if v > u {
+            self.push_edge(x, back, 1, there, links)?;
+            return self.push_edge(x, t, 1, there, links);
+        }
+        self.push_edge(x, t, 1, there, links)?;
+        if v < u {
+            return self.push_edge(x, back, 1, there, links);
+        }
         Ok(())
     }
 
