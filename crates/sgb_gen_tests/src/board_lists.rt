@@ -1,6 +1,6 @@
 use crate::board_counts::board_of;
 use crate::cases::is_list;
-use sgb_gen::{Board, BoardLists, BoardParams, Links};
+use sgb_gen::{Board, BoardParams, Links};
 use sgb_graph::Graph;
 use sgb_vec::{Family, Panic, Vectors};
 use std::alloc::Global;
@@ -101,10 +101,11 @@ fn a_list_by_many_displacements(rt: HostRuntime) -> Result<(), Fail> {
 }
 
 // How many arcs the list of a vertex has where it is had run by run. `None` where it is not, or `x` is no vertex.
-fn arcs_of_runs(board: &Board, lists: &BoardLists, x: &[u32]) -> Option<u64> {
+fn arcs_of_runs(board: &Board, links: &Links, x: &[u32]) -> Option<u64> {
     if !board.family().holds(x) {
         return None;
     }
+    let lists = board.lists(links);
     let mut runs = lists.runs(x)?;
     let mut count: u64 = 0;
     for _run in 0..runs.len() {
@@ -125,13 +126,13 @@ fn arcs_run_by_run(rt: HostRuntime) -> Result<(), Fail> {
     let links = Links::new(rt.alloc());
     let knights = board_of(&[8, 8, 0, 0, 5, 0], false)?;
     for (x, count) in [([0, 0], 2), ([0, 3], 4), ([4, 4], 8), ([1, 1], 4)] {
-        assert!(rt; arcs_of_runs(&knights, &knights.lists(&links), &x) == Some(count));
+        assert!(rt; arcs_of_runs(&knights, &links, &x) == Some(count));
     }
     let onward = board_of(&[8, 8, 0, 0, 5, 0], true)?;
-    assert!(rt; arcs_of_runs(&onward, &onward.lists(&links), &[4, 4]) == Some(4));
+    assert!(rt; arcs_of_runs(&onward, &links, &[4, 4]) == Some(4));
     let rooks = board_of(&[3, 5, 0, 0, -1, 0], false)?;
-    assert!(rt; arcs_of_runs(&rooks, &rooks.lists(&links), &[2, 1]) == Some(6));
+    assert!(rt; arcs_of_runs(&rooks, &links, &[2, 1]) == Some(6));
     let circle = board_of(&[5, 0, 0, 0, 1, 1], false)?;
-    assert!(rt; arcs_of_runs(&circle, &circle.lists(&links), &[2]).is_none());
+    assert!(rt; arcs_of_runs(&circle, &links, &[2]).is_none());
     Ok(())
 }
