@@ -92,7 +92,7 @@ passes_if_met p (k ∷ ks) q all met =
     by_place here later (inr after) = later after
 
 -- the number of a record is below theirs
-record_within : (records : List ArcRec) (q : ℕ) → is_record records q ≡ true → q < length records
+pub record_within : (records : List ArcRec) (q : ℕ) → is_record records q ≡ true → q < length records
 unfolding is_record
 record_within records q is = by_record (slice_get records q) refl is
   where

@@ -51,6 +51,8 @@ pub mod KeptVertices
 pub mod ListMembers
 -- places of lists, and tests that each element passes
 pub mod Lists
+-- records that lead back, and records that all lead to vertices
+pub mod BackwardWays
 -- walks along chains, and the marks that they set
 pub mod MarkedWays
 -- parts with some that can stand in no graph

@@ -108,17 +108,25 @@ one_more_marked P marks k here before j marked = by_place (cases_eq j k)
     by_place (inl same) = subst P (sym same) here
     by_place (inr other) = before j (rw (get_or-set_other marks k j true false other) at marked)
 
+-- some number below n does not pass
+pub not_each_below : (p : ℕ → Bool) (n k : ℕ) → k < n → p k ≡ false → list_all p (range_with_len 0 n) ≡ false
+not_each_below p n k below fails =
+    let inside : k < length (range_with_len 0 n) = rw length-range_with_len below in
+    let from_zero : 0 + k ≡ k = omega arith in
+    let place = get_or-range_with_len 0 n k 0 below ∙ from_zero in
+    list_all_at p (range_with_len 0 n) k 0 inside (ap p place ∙ fails)
+
+-- all do
+pub each_below : (p : ℕ → Bool) (n : ℕ) → ((k : ℕ) → k < n → p k ≡ true) → list_all p (range_with_len 0 n) ≡ true
+each_below p n each = list_all-range p 0 n (λ k below. each k (omega arith))
+
 -- some chain does not end
 pub not_all_end : (records : List ArcRec) (k : ℕ) → k < length records → ends_of records (Some k) ≡ false → chains_end records ≡ false
-not_all_end records k below endless =
-    let inside : k < length (range_with_len 0 (length records)) = rw length-range_with_len below in
-    let from_zero : 0 + k ≡ k = omega arith in
-    let place = get_or-range_with_len 0 (length records) k 0 below ∙ from_zero in
-    list_all_at (λ j. ends_of records (Some j)) (range_with_len 0 (length records)) k 0 inside (ap (λ j. ends_of records (Some j)) place ∙ endless)
+not_all_end records k below endless = not_each_below (λ j. ends_of records (Some j)) (length records) k below endless
 
 -- all do
 pub all_end : (records : List ArcRec) → ((k : ℕ) → k < length records → ends_of records (Some k) ≡ true) → chains_end records ≡ true
-all_end records each = list_all-range (λ j. ends_of records (Some j)) 0 (length records) (λ k below. each k (omega arith))
+all_end records each = each_below (λ j. ends_of records (Some j)) (length records) each
 
 -- the record after a marked one is marked, or it is the next one of the walk
 abbrev pub MarksReach : List ArcRec → List Bool → Option ℕ → Type 0

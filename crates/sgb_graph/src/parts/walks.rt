@@ -1,12 +1,13 @@
 //! Walks along the chains of records. Records that were passed are marked, so that each is passed twice at most.
 ghost use Rattle.std.specs.Prelude.{◌≡◌, ◌≤◌, length, IsTrue, IfOk};
 ghost use Rattle.sgb_vec.specs.Limits.{most_vertices};
-ghost use Rattle.std.specs.List.{list_all};
+ghost use Rattle.std.specs.List.{list_all, range_with_len};
 ghost use Rattle.sgb_graph.specs.Graphs.{ends_of};
-ghost use Rattle.sgb_graph.specs.Sound.{chains_end, is_vertex, lists_lead_to_vertices};
-ghost use Rattle.sgb_graph.specs.inner.Walks.{MarksEnd, MarksGoOn, MarksLead, is_marked, leads_of};
+ghost use Rattle.sgb_graph.specs.Sound.{chains_end, is_vertex, leads_to_vertex, lists_lead_to_vertices};
+ghost use Rattle.sgb_graph.specs.inner.Walks.{MarksEnd, MarksGoOn, MarksLead, is_marked, leads_back, leads_of};
 
 use crate::fields::Ref;
+use crate::ranges::chain_fits;
 use crate::records::Records;
 use crate::vertices::Vertices;
 use std::alloc::{AllocError, Global};
@@ -15,6 +16,9 @@ use std::alloc::{AllocError, Global};
 pub(super) fn chains_end(alloc: Global, records: &Records) -> Result<bool, AllocError>
     ensures { IfOk result (λ b. b ≡ chains_end records.now.items) }
 {
+    if lead_back(records) {
+        return Ok(true);
+    }
     let mut marks = vec![in alloc; false; records.len()]?;
     for k in 0..records.len() {
         if !way_ends(records, &marks, Some(k)) {
@@ -35,6 +39,9 @@ pub(super) fn lists_lead_to_vertices(
     requires ends { IsTrue (list_all (λ v. ends_of records.now.items v.arcs) vertices.now.items) }
     ensures { IfOk result (λ b. b ≡ lists_lead_to_vertices vertices.now.items records.now.items) }
 {
+    if lead_to_vertices(records) {
+        return Ok(true);
+    }
     let mut marks = vec![in alloc; false; records.len()]?;
     for v in 0..vertices.len() as u32 {
         let first = vertices.first(v);
@@ -44,6 +51,32 @@ pub(super) fn lists_lead_to_vertices(
         mark_way(records, &mut marks, first);
     }
     Ok(true)
+}
+
+// Whether each record leads on to an earlier one, or to none, as where each was put in front of its list.
+fn lead_back(records: &Records) -> bool
+    ensures { result ≡ list_all (leads_back records.now.items)
+        (range_with_len 0 (length records.now.items)) }
+{
+    for k in 0..records.len() {
+        if !chain_fits(k, records.get(k).next) {
+            return false;
+        }
+    }
+    true
+}
+
+// Whether each record, on a list or not, leads to a vertex.
+fn lead_to_vertices(records: &Records) -> bool
+    ensures { result ≡ list_all (leads_to_vertex records.now.items)
+        (range_with_len 0 (length records.now.items)) }
+{
+    for k in 0..records.len() {
+        if !is_vertex(records.get(k).tip) {
+            return false;
+        }
+    }
+    true
 }
 
 // Whether the way from a first record comes to an end, where it does from each marked one. A way of more steps than

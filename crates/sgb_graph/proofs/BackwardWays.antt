@@ -1,0 +1,65 @@
+-- Records of which each leads back to an earlier one, and records that all lead to vertices: no way of theirs has to be walked.
+use Rattle.std.proofs.Common.{◌≡◌, ◌<◌, ◌⊎◌, ◌∙◌, ℕ, zero, suc, Bool, true, false, true≢false, List, [], ◌∷◌, length, Option, Some, None, refl, sym, inl, inr, arith}
+use Rattle.std.specs.Prelude.{slice_get}
+use Rattle.std.specs.List.{list_all, range_with_len}
+use Rattle.std.specs.Option.{option_map_or}
+use Rattle.std.proofs.lemmas.Bool.{and_from, cases_Bool}
+use Rattle.std.proofs.lemmas.Bool.Decides.{nat_tests}
+use Rattle.sgb_graph.specs.Graphs.{ends_from, numbers_of}
+use Rattle.sgb_graph.specs.Sound.{chain_fits, chains_end, leads_to_vertex, lists_lead_to_vertices}
+use Rattle.sgb_graph.specs.inner.Walks.{leads_back, leads_of}
+use Rattle.sgb_graph.specs.declared.fields.ArcRec.{ArcRec}
+use Rattle.sgb_graph.specs.declared.fields.Vertex.{Vertex}
+use Rattle.sgb_graph.proofs.Chains.{ends_longer, ends_none, ends_step, is_record, numbers_are_records}
+use Rattle.sgb_graph.proofs.EndingWays.{record_within}
+use Rattle.sgb_graph.proofs.Lists.{list_all-weaker}
+use Rattle.sgb_graph.proofs.MarkedWays.{all_end, not_each_below}
+
+-- what all numbers below n pass, each does
+passed_below : (p : ℕ → Bool) (n k : ℕ) → list_all p (range_with_len 0 n) ≡ true → k < n → p k ≡ true
+passed_below p n k all below = by_test (cases_Bool (p k))
+  where
+    by_test : (p k ≡ true) ⊎ (p k ≡ false) → p k ≡ true
+    by_test (inl passes) = passes
+    by_test (inr fails) = absurd (true≢false (sym all ∙ not_each_below p n k below fails))
+
+-- a number below another
+is_below : (j k : ℕ) → chain_fits k (Some j) ≡ true → j < k
+is_below j k fits = grind (arith, nat_tests)
+
+-- where each record leads back, the way from record k ends within k steps more
+ends_back : (records : List ArcRec) → ((k : ℕ) → k < length records → leads_back records k ≡ true)
+    → (bound k : ℕ) → k < bound → k < length records → ends_from (suc k) records (Some k) ≡ true
+ends_back records back zero k low below = absurd (omega (arith, low))
+ends_back records back (suc bound) k low below =
+    by_record (λ j earlier. ends_back records back bound j (omega (arith, earlier, low)) (omega (arith, earlier, below))) (slice_get records k) refl (back k below)
+  where
+    by_next : ((j : ℕ) → j < k → ends_from (suc j) records (Some j) ≡ true) → (next : Option ℕ) → chain_fits k next ≡ true → ends_from k records next ≡ true
+    by_next sooner None fits = ends_none k records
+    by_next sooner (Some j) fits =
+        let earlier = is_below j k fits in
+        ends_longer (suc j) k records (Some j) (omega (arith, earlier)) (sooner j earlier)
+
+    by_record : ((j : ℕ) → j < k → ends_from (suc j) records (Some j) ≡ true)
+        → (o : Option ArcRec) → slice_get records k ≡ o → option_map_or (λ (r : ArcRec). chain_fits k r.next) o false ≡ true → ends_from (suc k) records (Some k) ≡ true
+    by_record sooner None is fits = absurd cc
+    by_record sooner (Some r) is fits = ends_step k records k r is ∙ by_next sooner r.next fits
+
+pub all_back : (records : List ArcRec) → list_all (leads_back records) (range_with_len 0 (length records)) ≡ true → chains_end records ≡ true
+all_back records all =
+    all_end records (λ k below.
+    ends_longer (suc k) (length records) records (Some k) (omega (arith, below))
+    (ends_back records (λ j there. passed_below (leads_back records) (length records) j all there) (suc k) k (omega arith) below))
+
+-- where each record leads to a vertex, those on a list do
+list_leads : (records : List ArcRec) (first : Option ℕ) → list_all (leads_to_vertex records) (range_with_len 0 (length records)) ≡ true → leads_of records first ≡ true
+list_leads records first all =
+    list_all-weaker (is_record records) (leads_to_vertex records) (numbers_of records first)
+    (λ k is. passed_below (leads_to_vertex records) (length records) k all (record_within records k is))
+    (numbers_are_records (length records) records first)
+
+pub all_lead : (vertices : List Vertex) (records : List ArcRec) → list_all (leads_to_vertex records) (range_with_len 0 (length records)) ≡ true
+    → lists_lead_to_vertices vertices records ≡ true
+all_lead [] records all = refl
+all_lead (v ∷ vertices) records all =
+    and_from (leads_of records v.arcs) (lists_lead_to_vertices vertices records) (list_leads records v.arcs all) (all_lead vertices records all)
