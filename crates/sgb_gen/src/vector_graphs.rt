@@ -15,7 +15,7 @@ pub(crate) fn vector_names<F: Family>(alloc: Global, family: &F) -> Result<Names
     ensures ok { IfOk result (λ names. names ≡ map name_of_vector (F.members family.now)) }
     ensures memory { IsOkUnless result Panic.NoRoom }
 {
-    let mut names = Names::new(alloc);
+    let mut names = Names::with_capacity(alloc, family.size() as usize)?;
     let mut left = Vectors::all(family);
     while let Some(vector) = left.front() {
         let name = name_of(alloc, vector)?;

@@ -6,6 +6,7 @@ ghost use Rattle.sgb_vec.specs.Boxes.{box};
 ghost use Rattle.sgb_vec.specs.Lexicographic.{IsBelow};
 ghost use Rattle.sgb_graph.specs.Descriptions.{IsAnswerOf};
 ghost use Rattle.sgb_graph.specs.Growth.{AddsEvents, HasPlainArcs};
+ghost use Rattle.sgb_graph.specs.Made.{graph_described};
 ghost use Rattle.sgb_gen.specs.VectorGraphs.{event_among, vertex_among};
 ghost use Rattle.sgb_gen.specs.Moves.{sides_of, moves_from};
 ghost use Rattle.sgb_gen.specs.inner.EntryBounds.{displacements_within, entry_bounds};
@@ -65,8 +66,7 @@ impl Board {
     /// The board of these parameters (GB_BASIC, board). `n1` to `n4` tell the sizes, `piece` the moves, where 0
     /// stands for 1 and a negative piece rides, and bit k-1 of `wrap` whether coordinate k wraps around.
     ///
-    /// `Bad` above 250 dimensions; else `VeryBad` above 1,000,000,000 vertices, or where `piece` is above
-    /// 2,147,483,647 or below its negative.
+    /// Refused as `BoardParams` tells.
     pub fn new(
         n1: i64,
         n2: i64,
@@ -100,8 +100,7 @@ impl Board {
 
     /// The board of these parameters (GB_BASIC, board).
     ///
-    /// `Bad` above 250 dimensions; else `VeryBad` above 1,000,000,000 vertices, or where `piece` is above
-    /// 2,147,483,647 or below its negative.
+    /// Refused as `BoardParams` tells.
     pub fn from_params(params: &BoardParams) -> Result<Board, Panic>
         ensures { result ≡ accepted_board params.now }
     {
@@ -144,10 +143,20 @@ impl Board {
     {
         let names = vector_names(alloc, &self.family)?;
         let mut graph = Graph::new(alloc, names)?;
+        graph.reserve(self.records_count()?)?;
         self.add_arcs(&mut graph)?;
         put_coordinates(&mut graph, &self.family);
         graph.set_id(self.id());
         Ok(graph)
+    }
+
+    // How many arc records the board's graph has. `NoRoom` where no memory holds so many, and nothing else.
+    fn records_count(&self) -> Result<usize, Panic>
+        ensures count { IfOk result (λ m. m ≡ (graph_described (board_graph self.now)).m) }
+        ensures memory { IsOkUnless result Panic.NoRoom }
+    {
+        let arcs = self.arcs_count()?;
+        usize::try_from(arcs).map_err(|_great| Panic::NoRoom)
     }
 
     // The displacements by which the piece can move on the board.

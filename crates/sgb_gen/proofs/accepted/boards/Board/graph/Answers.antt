@@ -21,14 +21,15 @@ pub put_coordinates-requires-clause-fields : goal.put_coordinates-requires-claus
 put_coordinates-requires-clause-fields c =
     let b = c.args.self.now in
     let vectors = box c.self.inside.family in
-    let fresh : c.in_ok-graph.graph ≡ new_graph (map name_of_vector vectors) = c.in_ok-graph.ensures.ok ∙ ap new_graph c.in_ok-names.ensures.ok in
-    fields_unused vectors b.directed c.in_ok-graph.graph c.add_arcs.new.graph _ fresh c.in_ok-add_arcs.ensures.ok
+    let fresh : c.reserve.new.self ≡ new_graph (map name_of_vector vectors) = c.reserve.ensures.kept ∙ (c.in_ok-graph.ensures.ok ∙ ap new_graph c.in_ok-names.ensures.ok) in
+    fields_unused vectors b.directed c.reserve.new.self c.add_arcs.new.graph _ fresh c.in_ok-add_arcs.ensures.ok
 
 pub returns : goal.returns
 returns c =
     let b = c.args.self.now in
     let family : c.self.inside.family ≡ b.sizes = ap (λ d. d.sizes) c.self.view_is in
-    let fresh : c.in_ok-graph.graph ≡ new_graph (map name_of_vector (box b.sizes)) = c.in_ok-graph.ensures.ok ∙ ap new_graph (c.in_ok-names.ensures.ok ∙ ap (λ s. map name_of_vector (box s)) family) in
+    let fresh : c.reserve.new.self ≡ new_graph (map name_of_vector (box b.sizes)) =
+    c.reserve.ensures.kept ∙ (c.in_ok-graph.ensures.ok ∙ ap new_graph (c.in_ok-names.ensures.ok ∙ ap (λ s. map name_of_vector (box s)) family)) in
     let placed = subst (λ s. HasCoordinates (box s) c.add_arcs.new.graph c.put_coordinates.new.graph) family c.put_coordinates.ensures in
-    let made = family_made (board_id b) b.directed (box b.sizes) (moves_of_board b) c.in_ok-graph.graph c.add_arcs.new.graph c.put_coordinates.new.graph fresh c.in_ok-add_arcs.ensures.ok placed in
+    let made = family_made (board_id b) b.directed (box b.sizes) (moves_of_board b) c.reserve.new.self c.add_arcs.new.graph c.put_coordinates.new.graph fresh c.in_ok-add_arcs.ensures.ok placed in
     subst (IsGraphOf (board_graph b)) (sym (c.set_id.ensures ∙ ap (λ id. with_id id c.put_coordinates.new.graph) c.id.ensures)) made
