@@ -16,8 +16,7 @@ use std::alloc::Global;
 /// names and in the utility fields x, y, z; an arc, or an edge, for each move of the piece, whose length is the
 /// number of steps.
 ///
-/// `Bad` above 250 dimensions; else `VeryBad` above 1,000,000,000 vertices, or where `piece` is above
-/// 2,147,483,647 or below its negative. `NoRoom` when out of memory.
+/// Refused as `BoardParams` tells. `NoRoom` when out of memory.
 pub fn board(
     alloc: Global,
     n1: i64,
@@ -52,9 +51,7 @@ pub fn board(
 /// their coordinates as names and in the utility fields x, y, z; an arc, or an edge, of length 1 to each vertex
 /// from each one that it becomes when a unit of a coordinate goes to a later one.
 ///
-/// `Bad` where `n` is negative, else above 250 dimensions; else `VeryBad` where `n` is above 1,000,000,000, or where
-/// for some j from 1 to the last dimension and some k up to `n` more than 1,000,000,000 vectors within the first
-/// j+1 bounds add to k. `NoRoom` when out of memory.
+/// Refused as `SimplexParams` tells. `NoRoom` when out of memory.
 pub fn simplex(
     alloc: Global,
     n: i64,
@@ -86,9 +83,7 @@ pub fn simplex(
 /// length 1, or an edge, from each vertex to each that is not before it, itself too, where bit c of `size_bits` is 1
 /// and c is how many elements the two have in common.
 ///
-/// `Bad` where `n` is negative, else above 250 dimensions; else `VeryBad` where `n` is above 1,000,000,000, or where
-/// for some j from 1 to the last dimension and some k up to `n` more than 1,000,000,000 vectors within the first
-/// j+1 bounds add to k. `NoRoom` when out of memory.
+/// Refused as `SimplexParams` tells. `NoRoom` when out of memory.
 pub fn subsets(
     alloc: Global,
     n: i64,
@@ -128,8 +123,7 @@ pub fn subsets(
 impl BoardParams {
     /// The graph of the board of these parameters, as `board` returns it (GB_BASIC, board).
     ///
-    /// `Bad` above 250 dimensions; else `VeryBad` above 1,000,000,000 vertices, or where `piece` is above
-    /// 2,147,483,647 or below its negative. `NoRoom` when out of memory.
+    /// Refused as `BoardParams` tells. `NoRoom` when out of memory.
     pub fn graph(&self, alloc: Global) -> Result<Graph, Panic>
         ensures answer { IsAnswerOf (board self.now) result }
         ensures refused { (e : Panic) → board self.now ≡ Err e → result ≡ Err e }
@@ -141,9 +135,7 @@ impl BoardParams {
 impl SimplexParams {
     /// The graph of the simplex of these parameters, as `simplex` returns it (GB_BASIC, simplex).
     ///
-    /// `Bad` where `n` is negative, else above 250 dimensions; else `VeryBad` where `n` is above 1,000,000,000, or
-    /// where for some j from 1 to the last dimension and some k up to `n` more than 1,000,000,000 vectors within the
-    /// first j+1 bounds add to k. `NoRoom` when out of memory.
+    /// Refused as `SimplexParams` tells. `NoRoom` when out of memory.
     pub fn graph(&self, alloc: Global) -> Result<Graph, Panic>
         ensures answer { IsAnswerOf (simplex self.now) result }
         ensures refused { (e : Panic) → simplex_of self.now.n self.now.n0 self.now.n1 self.now.n2
@@ -157,9 +149,7 @@ impl SimplexParams {
 impl SubsetsParams {
     /// The graph of the subsets of these parameters, as `subsets` returns it (GB_BASIC, subsets).
     ///
-    /// `Bad` where `n` is negative, else above 250 dimensions; else `VeryBad` where `n` is above 1,000,000,000, or
-    /// where for some j from 1 to the last dimension and some k up to `n` more than 1,000,000,000 vectors within the
-    /// first j+1 bounds add to k. `NoRoom` when out of memory.
+    /// Refused as `SimplexParams` tells. `NoRoom` when out of memory.
     pub fn graph(&self, alloc: Global) -> Result<Graph, Panic>
         ensures answer { IsAnswerOf (subsets self.now) result }
         ensures refused { (e : Panic) → simplex_of self.now.n self.now.n0 self.now.n1 self.now.n2

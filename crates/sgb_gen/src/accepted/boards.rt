@@ -65,8 +65,7 @@ impl Board {
     /// The board of these parameters (GB_BASIC, board). `n1` to `n4` tell the sizes, `piece` the moves, where 0
     /// stands for 1 and a negative piece rides, and bit k-1 of `wrap` whether coordinate k wraps around.
     ///
-    /// `Bad` above 250 dimensions; else `VeryBad` above 1,000,000,000 vertices, or where `piece` is above
-    /// 2,147,483,647 or below its negative.
+    /// Refused as `BoardParams` tells.
     pub fn new(
         n1: i64,
         n2: i64,
@@ -100,8 +99,7 @@ impl Board {
 
     /// The board of these parameters (GB_BASIC, board).
     ///
-    /// `Bad` above 250 dimensions; else `VeryBad` above 1,000,000,000 vertices, or where `piece` is above
-    /// 2,147,483,647 or below its negative.
+    /// Refused as `BoardParams` tells.
     pub fn from_params(params: &BoardParams) -> Result<Board, Panic>
         ensures { result ≡ accepted_board params.now }
     {

@@ -50,9 +50,7 @@ impl Simplex {
     /// The simplex of these parameters (GB_BASIC, simplex): the vectors of the sum `n`, whose bounds `n0` to
     /// `n4` tell.
     ///
-    /// `Bad` where `n` is negative, else above 250 dimensions; else `VeryBad` where `n` is above 1,000,000,000,
-    /// or where for some j from 1 to the last dimension and some k up to `n` more than 1,000,000,000 vectors
-    /// within the first j+1 bounds add to k. `NoRoom` when out of memory.
+    /// Refused as `SimplexParams` tells. `NoRoom` when out of memory.
     pub fn new(
         alloc: Global,
         n: i64,
@@ -82,9 +80,7 @@ impl Simplex {
 
     /// The simplex of these parameters (GB_BASIC, simplex).
     ///
-    /// `Bad` where `n` is negative, else above 250 dimensions; else `VeryBad` where `n` is above 1,000,000,000,
-    /// or where for some j from 1 to the last dimension and some k up to `n` more than 1,000,000,000 vectors
-    /// within the first j+1 bounds add to k. `NoRoom` when out of memory.
+    /// Refused as `SimplexParams` tells. `NoRoom` when out of memory.
     pub fn from_params(alloc: Global, params: &SimplexParams) -> Result<Simplex, Panic>
         ensures value { (result ≡ accepted_simplex params.now) ⊎ (result ≡ Err Panic.NoRoom) }
         ensures refused { (e : Panic) → simplex_of params.now.n params.now.n0 params.now.n1

@@ -55,9 +55,7 @@ impl Subsets {
     /// `n4` tell, as multisets of `n` elements. Two of them are joined where bit c of `size_bits` is 1, c being how many
     /// elements they have in common.
     ///
-    /// `Bad` where `n` is negative, else above 250 dimensions; else `VeryBad` where `n` is above 1,000,000,000, or
-    /// where for some j from 1 to the last dimension and some k up to `n` more than 1,000,000,000 vectors within the
-    /// first j+1 bounds add to k. `NoRoom` when out of memory.
+    /// Refused as `SimplexParams` tells. `NoRoom` when out of memory.
     pub fn new(
         alloc: Global,
         n: i64,
@@ -97,9 +95,7 @@ impl Subsets {
 
     /// The subsets of these parameters (GB_BASIC, subsets).
     ///
-    /// `Bad` where `n` is negative, else above 250 dimensions; else `VeryBad` where `n` is above 1,000,000,000, or
-    /// where for some j from 1 to the last dimension and some k up to `n` more than 1,000,000,000 vectors within the
-    /// first j+1 bounds add to k. `NoRoom` when out of memory.
+    /// Refused as `SimplexParams` tells. `NoRoom` when out of memory.
     pub fn from_params(alloc: Global, params: &SubsetsParams) -> Result<Subsets, Panic>
         ensures value { (result ≡ accepted_subsets params.now) ⊎ (result ≡ Err Panic.NoRoom) }
         ensures refused { (e : Panic) → simplex_of params.now.n params.now.n0 params.now.n1
