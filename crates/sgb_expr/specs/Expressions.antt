@@ -31,14 +31,6 @@ IsNested (suc depth) text e =
 abbrev pub IsExpression : List ℕ → Expression → Type 0
 IsExpression text e = (depth : ℕ) × IsNested depth text e
 
--- the first k bytes of the text are its longest prefix that begins some expression
-abbrev pub IsLongestPrefix : List ℕ → ℕ → Type 0
-IsLongestPrefix = IsLongestPrefixOf IsExpression
-
--- the text is no expression
-abbrev pub IsNoExpression : List ℕ → Type 0
-IsNoExpression = IsNoWord IsExpression
-
 -- how many `(` (40) and how many `)` (41)
 abbrev pub opened_count : List ℕ → ℕ
 opened_count text = count_by (λ byte. byte == 40) text
