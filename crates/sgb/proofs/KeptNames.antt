@@ -7,7 +7,8 @@ use Rattle.std.proofs.lemmas.List.Elements.{All-drop, All-nil, All-push, All-tak
 use Rattle.sgb_vec.specs.Names.{name_of_vector}
 use Rattle.sgb.specs.inner.KeptNames.{IsKeptName}
 use Rattle.sgb.specs.inner.Texts.{entries_text, entry_text}
-use Rattle.sgb.proofs.NameEntries.{entries-parts, length-entries, length-name, name-entries, name-more, name-parts}
+use Rattle.sgb_vec.proofs.VectorNames.{length-name_of_vector-le}
+use Rattle.sgb.proofs.NameEntries.{entries-parts, length-entries, name-entries, name-more, name-parts}
 
 -- a number of 32 bits
 abbrev IsSmall : ℕ → Type 0
@@ -42,7 +43,7 @@ name-within v k within =
 
 -- the first entries take at most eleven bytes each
 pub front-short : (v : List ℕ) (k : ℕ) → k ≤ length v → All IsSmall v → length (name_of_vector (take k v)) ≤ 11 * k
-front-short v k within small = omega (arith, length-name (take k v) (All-take IsSmall k v small), length-take-le k v within)
+front-short v k within small = omega (arith, length-name_of_vector-le (take k v) (All-take IsSmall k v small), length-take-le k v within)
 
 -- and so do the others
 back-short : (v : List ℕ) (k : ℕ) → k ≤ length v → All IsSmall v → length (drop (length (name_of_vector (take k v))) (name_of_vector v)) ≤ 11 * (length v - k)

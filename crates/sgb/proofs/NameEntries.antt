@@ -92,7 +92,3 @@ length-entries dotted (entry ∷ v) small =
       length-entry dotted entry (All-head (λ n. n < 2 ^ 32) entry v small),
       length-entries true v (All-tail (λ n. n < 2 ^ 32) entry v small),
     )
-
--- and so a name
-pub length-name : (v : List ℕ) → All (λ n. n < 2 ^ 32) v → length (name_of_vector v) ≤ 11 * length v
-length-name v small = omega (arith, length-entries false v small, ap length (name-entries v))

@@ -5,7 +5,7 @@ use Rattle.sgb_graph.specs.Graphs.{GraphData}
 use Rattle.sgb_expr.specs.Expression.{Expression}
 use Rattle.sgb_expr.specs.Expressions.{IsExpression, IsTooLarge}
 use Rattle.sgb_vec.specs.declared.panics.Panic.{Panic}
-use Rattle.sgb_requests.specs.Reading.{IsRefusedText}
+use Rattle.sgb_requests.specs.Reading.{IsReadAs}
 use Rattle.sgb_requests.specs.declared.faults.Fault.{Fault}
 use Rattle.sgb_requests.specs.declared.faults.Fault.TheVariants as fault
 use Rattle.sgb.specs.Values.{value_of}
@@ -40,7 +40,7 @@ IsValueOfText text input value = (e : Expression) × (IsTooLarge text → ⊥) �
 -- the graph that a text names, or why there is none: the text is refused, or its value is a refusal, or memory ran out
 abbrev pub IsGraphNamed : List ℕ → List ℕ → Result GraphData Fault → Type 0
 IsGraphNamed text input (Ok g) = IsValueOfText text input (Ok g)
-IsGraphNamed text input (Err f) = IsRefusedText text f ⊎ ((p : Panic) × (f ≡ fault.Panic p) × IsValueOfText text input (Err p))
+IsGraphNamed text input (Err f) = IsReadAs text (Err f) ⊎ ((p : Panic) × (f ≡ fault.Panic p) × IsValueOfText text input (Err p))
 
 -- something has both properties
 abbrev pub IsFound : (Wrong → Type 0) → (Wrong → Type 0) → Type 0

@@ -7,7 +7,7 @@ use Rattle.sgb_graph.specs.Graphs.{GraphData}
 use Rattle.sgb_expr.specs.Expression.{Expression, Generated}
 use Rattle.sgb_expr.specs.Expressions.{IsExpression, IsTooLarge}
 use Rattle.sgb_expr.specs.declared.expressions.Generator.{Generator}
-use Rattle.sgb_requests.specs.Reading.{IsRefusedText}
+use Rattle.sgb_requests.specs.Reading.{IsReadAs}
 use Rattle.sgb_requests.specs.declared.faults.Fault.{Fault}
 use Rattle.sgb.specs.Values.{generator_value, made}
 use Rattle.sgb_arrays.specs.declared.refusals.Wrong.TheVariants as wrong
@@ -34,7 +34,7 @@ IsGraphOfCall text g = (f : Generator) × IsGeneratorCall text f × (made (gener
 -- parameters, or memory ran out
 abbrev pub IsCallRefusal : List ℕ → ℕ → Type 0
 IsCallRefusal text number =
-    ((why : Fault) × IsRefusedText text why × (number ≡ number_of_fault why))
+    ((why : Fault) × IsReadAs text (Err why) × (number ≡ number_of_fault why))
     ⊎ (((e : Expression) × (IsTooLarge text → ⊥) × IsExpression text e × ((f : Generator) → e ≡ Generated f → ⊥)) × (number ≡ no_generator))
     ⊎ ((f : Generator) × (p : Panic) × IsGeneratorCall text f × ((generator_value f ≡ Err p) ⊎ (p ≡ NoRoom)) × (number ≡ code_of p))
 

@@ -4,29 +4,10 @@ use Rattle.std.specs.List.{flat_map, range_with_len, slice_index_or}
 use Rattle.std.proofs.lemmas.Grind.{flat_map-append}
 use Rattle.std.proofs.lemmas.List.{flat_map_more, length-append, map-append}
 use Rattle.std.proofs.lemmas.List.FromFn.{length-map-range_with_len}
+use Rattle.sgb_vec.proofs.Lists.{range-joined, range-more}
 use Rattle.sgb_arrays.specs.Lists.{starts_from}
 use Rattle.sgb_arrays.proofs.ArcsLeft.{length-starts_from}
 use Rattle.sgb_chunks.specs.Chunks.{chunk_of, chunk_starts}
-
--- one number more
-range-more : (a n : ℕ) → range_with_len a (n + 1) ≡ range_with_len a n ++ (a + n) ∷ []
-range-more a zero = let here : a ≡ a + 0 = omega arith in ap (λ k. k ∷ []) here
-range-more a (suc n) =
-    let more : suc n + 1 ≡ suc (n + 1) = omega arith in
-    let last : a + 1 + n ≡ a + suc n = omega arith in
-    ap (range_with_len a) more ∙ ap (λ ks. a ∷ ks) (range-more (a + 1) n ∙ ap (λ k. range_with_len (a + 1) n ++ k ∷ []) last)
-
--- some numbers, and those after them
-range-joined : (first a b : ℕ) → range_with_len first (a + b) ≡ range_with_len first a ++ range_with_len (first + a) b
-range-joined first zero b =
-    let none : 0 + b ≡ b = omega arith in
-    let here : first ≡ first + 0 = omega arith in
-    ap (range_with_len first) none ∙ ap (λ k. range_with_len k b) here
-range-joined first (suc a) b =
-    let more : suc a + b ≡ suc (a + b) = omega arith in
-    let after : first + 1 + a ≡ first + suc a = omega arith in
-    ap (range_with_len first) more
-    ∙ ap (λ ks. first ∷ ks) (range-joined (first + 1) a b ∙ ap (λ k. range_with_len (first + 1) a ++ range_with_len k b) after)
 
 -- a chunk, one vertex more
 pub chunk_more : {X : Type 0} (parts : ℕ → List X) (first count : ℕ) → chunk_of parts first (count + 1) ≡ chunk_of parts first count ++ parts (first + count)

@@ -31,14 +31,6 @@ IsNested (suc depth) text e =
 abbrev pub IsExpression : List ℕ → Expression → Type 0
 IsExpression text e = (depth : ℕ) × IsNested depth text e
 
--- the first k bytes of the text are its longest prefix that begins some expression
-abbrev pub IsLongestPrefix : List ℕ → ℕ → Type 0
-IsLongestPrefix = IsLongestPrefixOf IsExpression
-
--- the text is no expression
-abbrev pub IsNoExpression : List ℕ → Type 0
-IsNoExpression = IsNoWord IsExpression
-
 -- how many `(` (40) and how many `)` (41)
 abbrev pub opened_count : List ℕ → ℕ
 opened_count text = count_by (λ byte. byte == 40) text
@@ -54,14 +46,18 @@ IsDeep text = (k : ℕ) × (k ≤ length text) × (closed_count (take k text) + 
 abbrev pub IsTooLarge : List ℕ → Type 0
 IsTooLarge text = (most_expression_bytes < length text) ⊎ IsDeep text
 
--- why the text is not read: too large before all else, then no expression, with the length of the longest prefix that
--- begins one; out of memory
-abbrev pub IsUnread : List ℕ → Unread → Type 0
-IsUnread text unread.TooLarge = IsTooLarge text
-IsUnread text (unread.At k) = (IsTooLarge text → ⊥) × IsNoExpression text × IsLongestPrefix text k
-IsUnread text unread.NoRoom = Unit {0}
+-- why a text of a language is not read: too large before all else, then no word, with the length of the longest prefix that
+-- begins one; or out of memory, where reading takes some
+abbrev pub IsUnread : {V : Type 0} → (List ℕ → V → Type 0) → (memory : Type 0) → List ℕ → Unread → Type 0
+IsUnread Word memory text unread.TooLarge = IsTooLarge text
+IsUnread Word memory text (unread.At k) = (IsTooLarge text → ⊥) × IsNoWord Word text × IsLongestPrefixOf Word text k
+IsUnread Word memory text unread.NoRoom = memory
+
+-- the text is read as this, the word of which it stands for, or not read for this cause
+abbrev pub IsTextRead : {V T : Type 0} → (List ℕ → V → Type 0) → (memory : Type 0) → (T → V) → List ℕ → Result T Unread → Type 0
+IsTextRead Word memory stands_for text (Ok x) = (IsTooLarge text → ⊥) × Word text (stands_for x)
+IsTextRead Word memory stands_for text (Err cause) = IsUnread Word memory text cause
 
 -- the text is read as this expression, or not read for this cause
 abbrev pub IsExpressionRead : List ℕ → Result Expr Unread → Type 0
-IsExpressionRead text (Ok e) = (IsTooLarge text → ⊥) × IsExpression text (expression_of e)
-IsExpressionRead text (Err cause) = IsUnread text cause
+IsExpressionRead = IsTextRead IsExpression (Unit {0}) expression_of

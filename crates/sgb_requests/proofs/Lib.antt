@@ -17,6 +17,8 @@ pub mod PlainCommands
 pub mod PlainReadings
 -- texts that do not begin with a hyphen
 pub mod PlainTexts
+-- the faults of texts that are not read
+pub mod RefusedTexts
 -- the plain forms of words
 pub mod PlainWords
 -- words and what they ask, by evaluation

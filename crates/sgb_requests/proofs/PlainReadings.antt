@@ -4,6 +4,9 @@ use Rattle.std.specs.Str.{bytes_eq}
 use Rattle.std.proofs.lemmas.Slice.Eq.{bytes_eq-Decides}
 use Rattle.clap.specs.Words.{Row, Text, subcommand_of}
 use Rattle.sgb_requests.specs.CommandLine.{Asked, Asks, AsksAlone, Enters, asked_by, asked_of, called_by, command_line}
+use Rattle.sgb_expr.specs.Expressions.{IsExpressionRead}
+use Rattle.sgb_expr.specs.FlipTexts.{IsFlipReadAs as IsFlipRead}
+use Rattle.sgb_expr.specs.declared.expressions.Unread.TheVariants as unread
 use Rattle.sgb_requests.specs.PlainWords.{IsFlipReadBy, IsQueenRead, IsReadBy}
 use Rattle.sgb_requests.specs.Reading.{IsFlipReadAs, IsReadAs}
 use Rattle.sgb_requests.specs.Requests.{GoTogether, IsAskedOf, IsCommandLineReadAs, IsInvalidCommandLine, IsRequest, IsResumeOf, TakesOptions, resume_of}
@@ -14,6 +17,7 @@ use Rattle.sgb_requests.specs.declared.faults.Fault.TheVariants as fault
 use Rattle.sgb_requests.specs.declared.requests.Request.{Request}
 use Rattle.sgb_requests.specs.declared.requests.Request.TheVariants as request
 use Rattle.sgb_requests.specs.declared.requests.Resume.{Resume}
+use Rattle.sgb_requests.proofs.RefusedTexts.{no_refusal, panic_is_no_room}
 
 -- a value is there or not
 no_some : {X : Type 0} (x : X) → Some x ≡ None → ⊥
@@ -103,22 +107,22 @@ module _ (words : List Text) (name text : Text) (after skip : Option Text) (asks
 
   -- the refusals of the words
   fault_there : (f : Fault) → IsCommandLineReadAs words (Err f) → IsReadAs text (Err f)
-  fault_there fault.Usage h = valid words name text after skip asks begins.0 h
+  fault_there fault.Usage h = absurd (valid words name text after skip asks begins.0 h)
   fault_there fault.TooLarge h = refused_same fault.TooLarge h
   fault_there (fault.Expr k) h = refused_same (fault.Expr k) h
-  fault_there (fault.Panic p) h = h
+  fault_there (fault.Panic p) h = (unread.NoRoom, tt, ap fault.Panic h)
   fault_there fault.NoVertex h = refused_same fault.NoVertex h
   fault_there fault.Read h = refused_same fault.Read h
   fault_there fault.Write h = refused_same fault.Write h
 
   fault_here : TakesOptions name → (f : Fault) → IsReadAs text (Err f) → IsCommandLineReadAs words (Err f)
-  fault_here takes fault.Usage h = absurd h
+  fault_here takes fault.Usage h = absurd (no_refusal (IsExpressionRead text) fault.Usage refl h)
   fault_here takes fault.TooLarge h = inl (name, text, after, skip, takes, asks, begins.0, h)
   fault_here takes (fault.Expr k) h = inl (name, text, after, skip, takes, asks, begins.0, h)
-  fault_here takes (fault.Panic p) h = h
-  fault_here takes fault.NoVertex h = absurd h
-  fault_here takes fault.Read h = absurd h
-  fault_here takes fault.Write h = absurd h
+  fault_here takes (fault.Panic p) h = panic_is_no_room (IsExpressionRead text) p h
+  fault_here takes fault.NoVertex h = absurd (no_refusal (IsExpressionRead text) fault.NoVertex refl h)
+  fault_here takes fault.Read h = absurd (no_refusal (IsExpressionRead text) fault.Read refl h)
+  fault_here takes fault.Write h = absurd (no_refusal (IsExpressionRead text) fault.Write refl h)
 
 -- `names`
 module _ (words : List Text) (text : Text) (after skip : Option Text) (asks : Asks words (codes "names") text after skip) (resume : Resume) (begins : IsResumeOf after skip resume) where
@@ -191,22 +195,22 @@ module _ (words : List Text) (text : Text) (asks : Asks words (codes "save") tex
   save_text f (inr (inr h)) = absurd (alone_other words (codes "save") text asks alone refl refl (codes "flip") h.0 refl h.1)
 
   save_fault : (f : Fault) → IsCommandLineReadAs words (Err f) → IsReadAs text (Err f)
-  save_fault fault.Usage h = valid words (codes "save") text None None asks tt h
+  save_fault fault.Usage h = absurd (valid words (codes "save") text None None asks tt h)
   save_fault fault.TooLarge h = save_text fault.TooLarge h
   save_fault (fault.Expr k) h = save_text (fault.Expr k) h
-  save_fault (fault.Panic p) h = h
+  save_fault (fault.Panic p) h = (unread.NoRoom, tt, ap fault.Panic h)
   save_fault fault.NoVertex h = save_text fault.NoVertex h
   save_fault fault.Read h = save_text fault.Read h
   save_fault fault.Write h = save_text fault.Write h
 
   save_refused : (f : Fault) → IsReadAs text (Err f) → IsCommandLineReadAs words (Err f)
-  save_refused fault.Usage h = absurd h
+  save_refused fault.Usage h = absurd (no_refusal (IsExpressionRead text) fault.Usage refl h)
   save_refused fault.TooLarge h = inr (inl (text, alone, h))
   save_refused (fault.Expr k) h = inr (inl (text, alone, h))
-  save_refused (fault.Panic p) h = h
-  save_refused fault.NoVertex h = absurd h
-  save_refused fault.Read h = absurd h
-  save_refused fault.Write h = absurd h
+  save_refused (fault.Panic p) h = panic_is_no_room (IsExpressionRead text) p h
+  save_refused fault.NoVertex h = absurd (no_refusal (IsExpressionRead text) fault.NoVertex refl h)
+  save_refused fault.Read h = absurd (no_refusal (IsExpressionRead text) fault.Read refl h)
+  save_refused fault.Write h = absurd (no_refusal (IsExpressionRead text) fault.Write refl h)
 
   pub save_read : (result : Result Request Fault) → IsCommandLineReadAs words result ↔ IsReadBy (λ e. request.Save e) text result
   save_read (Ok r) = (save_there r, λ h. subst (IsRequest words) (sym h.2) (text, alone, h.1))
@@ -234,19 +238,19 @@ module _ (words : List Text) (text : Text) (asks : Asks words (codes "flip") tex
   flip_fault fault.TooLarge h = inl (flip_text fault.TooLarge h)
   flip_fault (fault.Expr k) h = inl (flip_text (fault.Expr k) h)
   flip_fault (fault.Panic p) h = inr (ap fault.Panic h)
-  flip_fault fault.NoVertex h = absurd (flip_text fault.NoVertex h)
-  flip_fault fault.Read h = absurd (flip_text fault.Read h)
-  flip_fault fault.Write h = absurd (flip_text fault.Write h)
+  flip_fault fault.NoVertex h = inl (flip_text fault.NoVertex h)
+  flip_fault fault.Read h = inl (flip_text fault.Read h)
+  flip_fault fault.Write h = inl (flip_text fault.Write h)
 
   flip_refused : (f : Fault) → IsFlipReadBy text (Err f) → IsCommandLineReadAs words (Err f)
   flip_refused f (inr e) = subst (λ (f : Fault). IsCommandLineReadAs words (Err f)) (sym e) refl
-  flip_refused fault.Usage (inl h) = absurd h
+  flip_refused fault.Usage (inl h) = absurd (no_refusal (IsFlipRead text) fault.Usage refl h)
   flip_refused fault.TooLarge (inl h) = inr (inr (text, alone, h))
   flip_refused (fault.Expr k) (inl h) = inr (inr (text, alone, h))
-  flip_refused (fault.Panic p) (inl h) = absurd h
-  flip_refused fault.NoVertex (inl h) = absurd h
-  flip_refused fault.Read (inl h) = absurd h
-  flip_refused fault.Write (inl h) = absurd h
+  flip_refused (fault.Panic p) (inl h) = panic_is_no_room (IsFlipRead text) p h
+  flip_refused fault.NoVertex (inl h) = absurd (no_refusal (IsFlipRead text) fault.NoVertex refl h)
+  flip_refused fault.Read (inl h) = absurd (no_refusal (IsFlipRead text) fault.Read refl h)
+  flip_refused fault.Write (inl h) = absurd (no_refusal (IsFlipRead text) fault.Write refl h)
 
   pub flip_read : (result : Result Request Fault) → IsCommandLineReadAs words result ↔ IsFlipReadBy text result
   flip_read (Ok r) = (flip_there r, λ h. subst (IsRequest words) (sym h.2) (text, alone, h.1))

@@ -2,14 +2,14 @@ use Rattle.std.proofs.Common.{◌≡◌, ◌∙◌, ◌++◌, List, ℕ, [], ◌
 use Rattle.sgb_vec.specs.Names.{name_of_vector}
 use Rattle.sgb.specs.Texts.{name_line}
 use Rattle.sgb.proofs.CutOff.{exit_write}
-use Rattle.sgb.proofs.NameEntries.{length-name}
+use Rattle.sgb_vec.proofs.VectorNames.{length-name_of_vector-le}
 use Rattle.sgb.proofs.Pages.{exit_untaken, held_line}
 use Rattle.sgb.proofs.writing.kept_names.KeptName.push_line.Goals as goal
 
 pub push_text-requires : goal.push_text-requires
 push_text-requires g c =
     let kept = c.self.invariant in
-    omega (arith, c.in_ok-make_room.ensures.room, ap length c.bytes.ensures, ap length kept.name, length-name c.self.inside.vector.items kept.small, kept.few)
+    omega (arith, c.in_ok-make_room.ensures.room, ap length c.bytes.ensures, ap length kept.name, length-name_of_vector-le c.self.inside.vector.items kept.small, kept.few)
 
 pub push_text-requires-2 : goal.push_text-requires-2
 push_text-requires-2 g c =
@@ -21,7 +21,7 @@ push_text-requires-2 g c =
       length-append c.make_room.new.page c.bytes.result.now,
       ap length c.bytes.ensures,
       ap length kept.name,
-      length-name c.self.inside.vector.items kept.small,
+      length-name_of_vector-le c.self.inside.vector.items kept.small,
       kept.few,
     )
 

@@ -1,0 +1,40 @@
+-- The faults of texts that are not read.
+use Rattle.std.proofs.Common.{◌≡◌, ◌∙◌, Bool, true, false, true≢false, Result, Err, refl, sym, ap, subst}
+use Rattle.sgb_vec.specs.declared.panics.Panic.{Panic}
+use Rattle.sgb_vec.specs.declared.panics.Panic.TheVariants.{NoRoom}
+use Rattle.sgb_expr.specs.declared.expressions.Unread.{Unread}
+use Rattle.sgb_expr.specs.declared.expressions.Unread.TheVariants as unread
+use Rattle.sgb_requests.specs.Faults.{fault_of_unread}
+use Rattle.sgb_requests.specs.Reading.{IsReadOrRefused}
+use Rattle.sgb_requests.specs.declared.faults.Fault.{Fault}
+use Rattle.sgb_requests.specs.declared.faults.Fault.TheVariants as fault
+
+-- the faults that a text may be refused with
+abbrev is_of_text : Fault → Bool
+is_of_text fault.TooLarge = true
+is_of_text (fault.Expr k) = true
+is_of_text (fault.Panic p) = true
+is_of_text _ = false
+
+is_of_unread : (cause : Unread) → is_of_text (fault_of_unread cause) ≡ true
+is_of_unread unread.TooLarge = refl
+is_of_unread (unread.At k) = refl
+is_of_unread unread.NoRoom = refl
+
+-- it is refused with no other
+pub no_refusal : {T : Type 0} (IsRead : Result T Unread → Type 0) (f : Fault) → is_of_text f ≡ false → IsReadOrRefused IsRead (Err f) → ⊥
+no_refusal IsRead f none (cause, is, e) = true≢false (sym (sym none ∙ ap is_of_text e ∙ is_of_unread cause))
+
+-- a panic is want of memory
+panic_of_unread : (p : Panic) (cause : Unread) → fault.Panic p ≡ fault_of_unread cause → p ≡ NoRoom
+panic_of_unread p unread.TooLarge e = absurd cc
+panic_of_unread p (unread.At k) e = absurd cc
+panic_of_unread p unread.NoRoom e = cc
+
+pub panic_is_no_room : {T : Type 0} (IsRead : Result T Unread → Type 0) (p : Panic) → IsReadOrRefused IsRead (Err (fault.Panic p)) → p ≡ NoRoom
+panic_is_no_room IsRead p (cause, is, e) = panic_of_unread p cause e
+
+-- what holds of the fault of each cause holds of a refusal
+pub refusal_by_cause : {T : Type 0} (IsRead : Result T Unread → Type 0) (P : Fault → Type 0) → ((cause : Unread) → IsRead (Err cause) → P (fault_of_unread cause))
+    → (f : Fault) → IsReadOrRefused IsRead (Err f) → P f
+refusal_by_cause IsRead P by_cause f (cause, is, e) = subst P (sym e) (by_cause cause is)
