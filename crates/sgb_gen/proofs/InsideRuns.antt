@@ -1,5 +1,5 @@
 -- The list of a vertex from which no side is near, by leaps: sides that wrap around make no difference.
-use Rattle.std.proofs.Common.{◌≡◌, ◌≢◌, ℕ, zero, suc, ◌+◌, ◌-◌, ◌++◌, ◌<◌, ◌≤◌, ◌&&◌, ℤ, pos, negsuc, neg_ℤ, ◌+ℤ◌, ◌*ℤ◌, nat_abs, Bool, true, false, cond, List, [], ◌∷◌, length, get_or, map, reverse, Option, Some, None, refl, sym, ap, ap₂, subst, ◌∙◌, arith, true≢false}
+use Rattle.std.proofs.Common.{◌≡◌, ◌≢◌, ℕ, suc, ◌+◌, ◌-◌, ◌++◌, ◌<◌, ◌≤◌, ◌&&◌, ℤ, pos, negsuc, neg_ℤ, ◌+ℤ◌, ◌*ℤ◌, nat_abs, Bool, true, false, cond, List, [], ◌∷◌, length, get_or, map, reverse, Some, refl, sym, ap, ap₂, subst, ◌∙◌, arith, true≢false}
 use Rattle.std.specs.Prelude.{◌||◌}
 use Rattle.std.specs.Bool.{OnTrue}
 use Rattle.std.specs.List.{All, Contains}
@@ -11,7 +11,6 @@ use Rattle.sgb_vec.specs.Lexicographic.{IsBefore, IsBelow}
 use Rattle.sgb_vec.proofs.BoxPlaces.{Contains-from_IsBelow}
 use Rattle.sgb_vec.proofs.FamilyLaws.{box_vectors_rise}
 use Rattle.sgb_gen.specs.Boards.{BoardData}
-use Rattle.sgb_gen.specs.LocalLists.{LocalArc}
 use Rattle.sgb_gen.specs.MovedCoordinates.{parts_of, parts_put}
 use Rattle.sgb_gen.specs.Moves.{coordinate_on, in_front, is_bit_set, opposite, place, sides_from_bit, sides_of}
 use Rattle.sgb_gen.specs.VectorGraphs.{vertex_among}
@@ -28,7 +27,7 @@ use Rattle.sgb_gen.proofs.MovesInOrder.{vertices_in_order}
 use Rattle.sgb_gen.proofs.OnwardMoves.{back_earlier, onward_elsewhere}
 use Rattle.sgb_gen.proofs.Reaches.{sizes_of_sides}
 use Rattle.sgb_gen.proofs.RunsOfLists.{directed_run, edges_run, onward_run}
-use Rattle.sgb_gen.proofs.StraightMoves.{arc_placed, back_away, leads_on, leaps_there, onward_away, straight_arcs}
+use Rattle.sgb_gen.proofs.StraightMoves.{back_away, leads_on, leaps_there, onward_away, straight_arcs}
 use Rattle.sgb_gen.proofs.TurnedMoves.{side_itself}
 use Rattle.sgb_gen.proofs.Vertices.{other_is}
 

@@ -1,5 +1,5 @@
 -- The list of a board's vertex, run by run.
-use Rattle.std.proofs.Common.{◌≡◌, ℕ, ◌+◌, ℤ, nat_abs, true, false, Bool, List, [], ◌∷◌, ◌++◌, length, reverse, take, refl, sym, ap, subst, ◌∙◌, append-nil}
+use Rattle.std.proofs.Common.{◌≡◌, ℕ, ◌+◌, ℤ, nat_abs, true, false, Bool, List, [], ◌∷◌, ◌++◌, length, reverse, take, sym, ap, subst, ◌∙◌, append-nil}
 use Rattle.std.specs.Prelude.{if◌then◌else◌}
 use Rattle.std.specs.List.{All, flat_map, slice_get}
 use Rattle.std.specs.Prelude.{Some}
