@@ -131,7 +131,7 @@ impl KeptName {
     }
 
     // The same by this name, in which the digits are written over. `false`, and nothing is appended, where an entry that differs
-    // has not as many digits, or more than two.
+    // has not as many digits, or more than two, or this name seems to have such entries.
     #[inline(always)]
     fn push_with_digits(&self, other: &[u32], page: &mut Page) -> bool
         requires width { length other.now ≡ length self.now }
@@ -140,6 +140,9 @@ impl KeptName {
         ensures short { OnTrue result (length page.new ≤ length page.old + 11 * length self.now) }
         ensures none { OnFalse result (page.new ≡ page.old) }
     {
+        if self.text.len() >= 3 * self.vector.len() {
+            return false;
+        }
         let start = page.len();
         page.push_start_of(&self.text, self.text.len());
         let vector = self.vector.as_slice();
