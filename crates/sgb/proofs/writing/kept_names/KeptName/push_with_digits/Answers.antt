@@ -1,4 +1,4 @@
-use Rattle.std.proofs.Common.{◌≡◌, ◌<◌, ◌≤◌, ◌+◌, ◌*◌, ◌^◌, ◌∙◌, ℕ, All, get_or, length, take, ap, subst, arith}
+use Rattle.std.proofs.Common.{◌≡◌, ◌<◌, ◌^◌, ◌∙◌, All, get_or, length, ap, subst, arith}
 use Rattle.sgb_vec.specs.Names.{name_of_vector}
 use Rattle.sgb.proofs.NameEntries.{length-name}
 use Rattle.sgb.proofs.WrittenDigits.{digit-end, turned-digit, turned-same, turned-two, two-end}
