@@ -1,4 +1,4 @@
-//! The list of a board's vertex where all displacements lead onward, run by run: no list is kept.
+//! The list of a board's vertex where all displacements lead onward from it, run by run: no list is kept.
 ghost use Rattle.std.specs.Prelude.{◌≡◌, ◌++◌, ◌<◌, ◌≤◌, ◌-◌, ◌&&◌, ◌||◌, ℕ, [], length, nat_abs, pos, true, All, Contains, IfSome, unwrap_or};
 ghost use Rattle.std.specs.Bool.{OnTrue};
 ghost use Rattle.sgb_vec.specs.Boxes.{box};
@@ -123,6 +123,17 @@ impl Board {
         part_at(self.shape.sizes(), self.wrap, x, l, k, amount).unwrap_or(0)
     }
 
+    /// Whether the piece is a leaper, and all displacements in this table lead onward where no side wraps around.
+    pub(super) fn is_leaping(&self, table: &Option<DisplacementTable>) -> bool
+        ensures leaper { OnTrue result (IsLeaper self.now) }
+        ensures onward { OnTrue result (IfSome table.now (AreOnward (pos 0))) }
+    {
+        if self.piece <= 0 {
+            return false;
+        }
+        lead_onward(0, table)
+    }
+
     // Whether each coordinate of `x` has this much room on both sides.
     fn is_inside(&self, x: &[u32], room: u32) -> bool
         requires { IsBelow x.now self.now.sizes }
@@ -193,19 +204,6 @@ impl Board {
             return 0;
         }
         self.farthest(x, t, near)
-    }
-}
-
-impl Board {
-    /// Whether the piece is a leaper, and all displacements in this table lead onward where no side wraps around.
-    pub(super) fn is_leaping(&self, table: &Option<DisplacementTable>) -> bool
-        ensures leaper { OnTrue result (IsLeaper self.now) }
-        ensures onward { OnTrue result (IfSome table.now (AreOnward (pos 0))) }
-    {
-        if self.piece <= 0 {
-            return false;
-        }
-        lead_onward(0, table)
     }
 }
 
