@@ -1,10 +1,11 @@
 -- Names in which digits are written over.
-use Rattle.std.proofs.Common.{◌≡◌, ◌∙◌, ◌+◌, ◌-◌, ◌<◌, ◌≤◌, ℕ, Bool, true, false, List, [], ◌∷◌, ◌++◌, nat_lt, length, take, drop, get_or, set, refl, sym, ap, ap₂, arith, append-nil, append_assoc, length-append, length-set}
+use Rattle.std.proofs.Common.{◌≡◌, ◌∙◌, ◌+◌, ◌-◌, ◌/◌, ◌%◌, ◌<◌, ◌≤◌, ℕ, Bool, true, false, List, [], ◌∷◌, ◌++◌, decimal, nat_lt, length, take, drop, get_or, set, refl, sym, ap, ap₂, arith, append-nil, append_assoc, length-append, length-set}
 use Rattle.std.proofs.Math.Seq.{set-append_seam}
 use Rattle.std.proofs.lemmas.Fmt.{decimal_digit}
 use Rattle.std.proofs.lemmas.List.{at_drop_more, drop_all, drop_at, length-take-le, set-append_right, take_all, take_at, take_more}
 use Rattle.sgb_vec.specs.Names.{name_of_vector}
 use Rattle.sgb.specs.inner.Texts.{entries_text, entry_text}
+use Rattle.sgb.proofs.FewDigits.{two_digits}
 use Rattle.sgb.proofs.NameEntries.{name-more, name-parts}
 
 -- what stands before the digit of an entry
@@ -12,34 +13,58 @@ abbrev pub dot : Bool → List ℕ
 dot true = 46 ∷ []
 dot false = []
 
-digit-text : (dotted : Bool) (e : ℕ) → e < 10 → entry_text dotted e ≡ dot dotted ++ (48 + e) ∷ []
-digit-text true e few = ap (λ t. 46 ∷ t) (decimal_digit e few)
-digit-text false e few = decimal_digit e few
+-- the text of an entry by its digits
+shown : (dotted : Bool) (e : ℕ) (digits : List ℕ) → decimal e ≡ digits → entry_text dotted e ≡ dot dotted ++ digits
+shown true e digits is = ap (λ t. 46 ∷ t) is
+shown false e digits is = is
 
--- a name up to the digit of an entry
+-- a name up to the digits of an entry
 abbrev pub front : List ℕ → List ℕ
 front a = name_of_vector a ++ dot (nat_lt 0 (length a))
 
--- a digit in a name
-name-digit : (a rest : List ℕ) (e : ℕ) → e < 10 → name_of_vector (a ++ e ∷ rest) ≡ front a ++ (48 + e) ∷ entries_text true rest
-name-digit a rest e few =
+-- these digits in a name
+name-digits : (a rest : List ℕ) (e : ℕ) (digits : List ℕ) → decimal e ≡ digits → name_of_vector (a ++ e ∷ rest) ≡ front a ++ (digits ++ entries_text true rest)
+name-digits a rest e digits is =
     let d = nat_lt 0 (length a) in
     let tail = entries_text true rest in
     name-parts (a ++ e ∷ rest) (length a) (omega (arith, length-append a (e ∷ rest)))
     ∙ ap₂ (λ p q. name_of_vector p ++ entries_text d q) (take_at a (e ∷ rest) (length a) refl) (drop_at a (e ∷ rest) (length a) refl)
-    ∙ ap (λ t. name_of_vector a ++ (t ++ tail)) (digit-text d e few)
-    ∙ ap (λ t. name_of_vector a ++ t) (append_assoc (dot d) ((48 + e) ∷ []) tail)
-    ∙ sym (append_assoc (name_of_vector a) (dot d) ((48 + e) ∷ tail))
+    ∙ ap (λ t. name_of_vector a ++ (t ++ tail)) (shown d e digits is)
+    ∙ ap (λ t. name_of_vector a ++ t) (append_assoc (dot d) digits tail)
+    ∙ sym (append_assoc (name_of_vector a) (dot d) (digits ++ tail))
 
--- how long it is up to there
-length-digit : (a : List ℕ) (e : ℕ) → e < 10 → length (name_of_vector (a ++ e ∷ [])) ≡ length (front a) + 1
-length-digit a e few = ap length (name-digit a [] e few) ∙ length-append (front a) ((48 + e) ∷ [])
+-- how long it is up to their end
+length-digits : (a : List ℕ) (e : ℕ) (digits : List ℕ) → decimal e ≡ digits → length (name_of_vector (a ++ e ∷ [])) ≡ length (front a) + length digits
+length-digits a e digits is =
+    ap length (name-digits a [] e digits is ∙ ap (λ t. front a ++ t) (append-nil digits)) ∙ length-append (front a) digits
 
 length-front : (a b : List ℕ) → length a ≡ length b → length (name_of_vector a) ≡ length (name_of_vector b) → length (front a) ≡ length (front b)
 length-front a b same names =
     length-append (name_of_vector a) (dot (nat_lt 0 (length a)))
     ∙ ap₂ (λ (m n : ℕ). m + length (dot (nat_lt 0 n))) names same
     ∙ sym (length-append (name_of_vector b) (dot (nat_lt 0 (length b))))
+
+-- ---- bytes written over
+
+-- one
+over-one : (old a tail : List ℕ) (x y place : ℕ) → place ≡ length old + length a → set (old ++ (a ++ x ∷ tail)) place y ≡ old ++ (a ++ y ∷ tail)
+over-one old a tail x y place at =
+    let here : place - length old ≡ length a = omega (arith, at) in
+    set-append_right old (a ++ x ∷ tail) (length old) place y refl (omega (arith, at))
+    ∙ ap (λ (n : ℕ). old ++ set (a ++ x ∷ tail) n y) here
+    ∙ ap (λ t. old ++ t) (set-append_seam a x tail y)
+
+-- two
+over-two : (old a tail : List ℕ) (x z y w place : ℕ) → place ≡ length old + length a → set (set (old ++ (a ++ x ∷ z ∷ tail)) place y) (place + 1) w ≡ old ++ (a ++ y ∷ w ∷ tail)
+over-two old a tail x z y w place at =
+    let more : (u : ℕ) → old ++ (a ++ y ∷ u ∷ tail) ≡ old ++ ((a ++ y ∷ []) ++ u ∷ tail) = λ u. ap (λ t. old ++ t) (sym (append_assoc a (y ∷ []) (u ∷ tail))) in
+    ap (λ t. set t (place + 1) w) (over-one old a (z ∷ tail) x y place at ∙ more z)
+    ∙ over-one old (a ++ y ∷ []) tail z w (place + 1) (omega (arith, at, length-append a (y ∷ [])))
+    ∙ sym (more w)
+
+-- two digits
+two-digits : (n : ℕ) → 10 ≤ n → n < 100 → decimal n ≡ (48 + n / 10) ∷ (48 + n % 10) ∷ []
+two-digits n more few = sym (two_digits [] n more few)
 
 -- the name of this vector, in which the first entries are those of another, stands after what was there
 pub record IsTurnedTo (old v other : List ℕ) (k : ℕ) (page : List ℕ) : Type 0 where
@@ -93,28 +118,55 @@ module _ (old v other : List ℕ) (k : ℕ) (page : List ℕ) (width : length ot
     size = so.size;
   }
 
+  -- where the digits of this entry end
+  digits-end : (mine : List ℕ) → decimal before ≡ mine → length (name_of_vector (take (k + 1) v)) ≡ length (front first) + length mine
+  digits-end mine is =
+      ap (λ w. length (name_of_vector w)) (take_more v k 0 within) ∙ length-digits (take k v) before mine is
+      ∙ ap (λ (n : ℕ). n + length mine) (sym (length-front first (take k v) long so.fronts))
+
+  digits-before : (mine : List ℕ) → decimal before ≡ mine → page ≡ old ++ (front first ++ (mine ++ entries_text true rest))
+  digits-before mine is = so.text ∙ ap (λ t. old ++ t) (ap name_of_vector turned-now ∙ name-digits first rest before mine is)
+
+  -- digits that are written over by as many
+  turned-digits : (mine theirs after : List ℕ) → decimal before ≡ mine → decimal entry ≡ theirs → length theirs ≡ length mine
+      → length after ≡ length page → after ≡ old ++ (front first ++ (theirs ++ entries_text true rest)) → IsTurnedTo old v other (k + 1) after
+  turned-digits mine theirs after is are same size over = record {
+    text = over ∙ ap (λ t. old ++ t) (sym (ap name_of_vector turned-next ∙ name-digits first rest entry theirs are));
+    fronts = ap (λ w. length (name_of_vector w)) first-more ∙ length-digits first entry theirs are ∙ ap (λ (n : ℕ). length (front first) + n) same ∙ sym (digits-end mine is);
+    size = size ∙ so.size;
+  }
+
   -- where the digit of this entry ends
   pub digit-end : before < 10 → length (name_of_vector (take (k + 1) v)) ≡ length (front first) + 1
-  digit-end few =
-      ap (λ w. length (name_of_vector w)) (take_more v k 0 within) ∙ length-digit (take k v) before few
-      ∙ ap (λ (n : ℕ). n + 1) (sym (length-front first (take k v) long so.fronts))
+  digit-end few = digits-end ((48 + before) ∷ []) (decimal_digit before few)
 
   -- a digit that is written over
   pub turned-digit : (start end : ℕ) (after : List ℕ) → before < 10 → entry < 10 → start ≡ length old → end ≡ length (name_of_vector (take (k + 1) v))
       → after ≡ set page (start + end - 1) (48 + entry) → IsTurnedTo old v other (k + 1) after
   turned-digit start end after few less starts ends is =
-      let tail = entries_text true rest in
-      let here : start + end - 1 - length old ≡ length (front first) = omega (arith, starts, ends, digit-end few) in
-      let name : name_of_vector (first ++ drop k v) ≡ front first ++ (48 + before) ∷ tail = ap name_of_vector turned-now ∙ name-digit first rest before few in
-      let next : name_of_vector (take (k + 1) other ++ rest) ≡ front first ++ (48 + entry) ∷ tail = ap name_of_vector turned-next ∙ name-digit first rest entry less in
-      record {
-        text = is ∙ ap (λ p. set p (start + end - 1) (48 + entry)) (so.text ∙ ap (λ t. old ++ t) name)
-            ∙ set-append_right old (front first ++ (48 + before) ∷ tail) (length old) (start + end - 1) (48 + entry) refl (omega (arith, starts, ends, digit-end few))
-            ∙ ap (λ (n : ℕ). old ++ set (front first ++ (48 + before) ∷ tail) n (48 + entry)) here
-            ∙ ap (λ t. old ++ t) (set-append_seam (front first) (48 + before) tail (48 + entry) ∙ sym next);
-        fronts = ap (λ w. length (name_of_vector w)) first-more ∙ length-digit first entry less ∙ sym (digit-end few);
-        size = ap length is ∙ length-set page (start + end - 1) (48 + entry) ∙ so.size;
-      }
+      let mine = decimal_digit before few in
+      turned-digits ((48 + before) ∷ []) ((48 + entry) ∷ []) after mine (decimal_digit entry less) refl
+      (ap length is ∙ length-set page (start + end - 1) (48 + entry))
+      (is ∙ ap (λ p. set p (start + end - 1) (48 + entry)) (digits-before ((48 + before) ∷ []) mine)
+      ∙ over-one old (front first) (entries_text true rest) (48 + before) (48 + entry) (start + end - 1) (omega (arith, starts, ends, digit-end few)))
+
+  -- and two digits
+  pub two-end : 10 ≤ before → before < 100 → length (name_of_vector (take (k + 1) v)) ≡ length (front first) + 2
+  two-end more few = digits-end ((48 + before / 10) ∷ (48 + before % 10) ∷ []) (two-digits before more few)
+
+  pub turned-two : (start end : ℕ) (after : List ℕ) → 10 ≤ before → before < 100 → 10 ≤ entry → entry < 100
+      → start ≡ length old → end ≡ length (name_of_vector (take (k + 1) v))
+      → after ≡ set (set page (start + end - 2) (48 + entry / 10)) (start + end - 2 + 1) (48 + entry % 10) → IsTurnedTo old v other (k + 1) after
+  turned-two start end after more few over less starts ends is =
+      let place = start + end - 2 in
+      let mine = two-digits before more few in
+      let one = (48 + before / 10) ∷ (48 + before % 10) ∷ [] in
+      let two = (48 + entry / 10) ∷ (48 + entry % 10) ∷ [] in
+      turned-digits one two after mine (two-digits entry over less) refl
+      (ap length is ∙ length-set (set page place (48 + entry / 10)) (place + 1) (48 + entry % 10) ∙ length-set page place (48 + entry / 10))
+      (is ∙ ap (λ p. set (set p place (48 + entry / 10)) (place + 1) (48 + entry % 10)) (digits-before one mine)
+      ∙ over-two old (front first) (entries_text true rest) (48 + before / 10) (48 + before % 10) (48 + entry / 10) (48 + entry % 10) place
+      (omega (arith, starts, ends, two-end more few)))
 
 -- at the end it is the name of the other
 pub turned-all : (old v other : List ℕ) (k : ℕ) (page : List ℕ) → length other ≡ length v → k ≡ length v → IsTurnedTo old v other k page → page ≡ old ++ name_of_vector other

@@ -1,5 +1,5 @@
 -- Vertices from which no side is near: moves of length 1 lead to places of the board.
-use Rattle.std.proofs.Common.{◌≡◌, ℕ, zero, suc, ◌+◌, ◌-◌, ◌<◌, ◌≤◌, ℤ, pos, negsuc, neg_ℤ, ◌+ℤ◌, ◌*ℤ◌, nat_abs, Bool, true, false, ◌&&◌, List, [], ◌∷◌, length, get_or, map, refl, ap, ap₂, ◌∙◌, arith}
+use Rattle.std.proofs.Common.{◌≡◌, ℕ, zero, suc, ◌+◌, ◌-◌, ◌<◌, ◌≤◌, ℤ, pos, negsuc, neg_ℤ, ◌+ℤ◌, ◌*ℤ◌, nat_abs, Bool, true, false, ◌&&◌, List, [], ◌∷◌, length, get_or, refl, ap, ap₂, ◌∙◌, arith}
 use Rattle.std.specs.List.{All}
 use Rattle.std.specs.Option.{is_some}
 use Rattle.std.proofs.lemmas.Int.{ints}
@@ -27,6 +27,10 @@ side_inside false n x d (negsuc c) small behind ahead =
 abbrev AreWithin : ℕ → List ℤ → Type 0
 AreWithin d t = All (λ e. nat_abs e ≤ d) t
 
+-- nor is one of the opposite
+pub opposite_within : (d : ℕ) (t : List ℤ) → AreWithin d t → AreWithin d (opposite t)
+opposite_within d t small = All-map (λ e. nat_abs e ≤ d) neg_ℤ t (λ j e h. omega (arith, size-neg (get_or t j e), small j e h))
+
 module _ (sizes : List ℕ) (wrap : ℤ) (x : List ℕ) (d : ℕ) (inside : IsInside d sizes x) where
   one_inside : (k : ℕ) (a : ℤ) → k < length sizes → nat_abs a ≤ d
       → is_some (coordinate_on (record { size = get_or sizes k 0; wraps = is_bit_set wrap k }) (pos (get_or x k 0) +ℤ pos 1 *ℤ a)) ≡ true
@@ -47,7 +51,7 @@ module _ (sizes : List ℕ) (wrap : ℤ) (x : List ℕ) (d : ℕ) (inside : IsIn
   pub stay_inside : (t : List ℤ) → length t ≡ length sizes → AreWithin d t → StayAtOne sizes wrap x t
   stay_inside t long small = (
     parts_inside t 0 (omega (arith, long)) small,
-    parts_inside (opposite t) 0 (omega (arith, long, length-map t neg_ℤ)) (All-map (λ e. nat_abs e ≤ d) neg_ℤ t (λ j e h. omega (arith, size-neg (get_or t j e), small j e h))),
+    parts_inside (opposite t) 0 (omega (arith, long, length-map t neg_ℤ)) (opposite_within d t small),
   )
 
 -- ---- lengths of at most 1

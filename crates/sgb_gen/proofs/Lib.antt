@@ -28,6 +28,8 @@ pub mod Places
 pub mod MovedCoordinates
 -- vertices from which no side is near
 mod InsideVertices
+-- their lists, by leaps
+mod InsideRuns
 -- how far the coordinates stay that a displacement moves
 pub mod PartReaches
 -- where a move leads

@@ -1,6 +1,6 @@
 -- Moves from a vector that never come home, of as many lengths as the moved coordinates stay on the board.
 use lib.Signed.{lt_z}
-use Rattle.std.proofs.Common.{◌≡◌, ◌≢◌, ℕ, zero, suc, ◌+◌, ◌-◌, ◌++◌, reverse, append_assoc, ◌<◌, ◌≤◌, ℤ, pos, negsuc, SFits, to_z, of_z, w64, true, false, not, cond, List, [], ◌∷◌, length, map, Option, Some, None, refl, sym, ap, subst, ◌∙◌, inl, inr, arith, true≢false}
+use Rattle.std.proofs.Common.{◌≡◌, ◌≢◌, ℕ, zero, suc, ◌+◌, ◌-◌, ◌++◌, reverse, append_assoc, ◌<◌, ◌≤◌, ℤ, pos, negsuc, SFits, to_z, of_z, w64, nat_abs, true, false, not, cond, List, [], ◌∷◌, length, map, Option, Some, None, refl, sym, ap, subst, ◌∙◌, inl, inr, arith, true≢false}
 use Rattle.std.specs.Cmp.Lexicographic.{bytes_decides}
 use Rattle.std.proofs.lemmas.Bool.{cases_Bool, cases_lt}
 use Rattle.std.proofs.lemmas.Int.{to_z-of_z}
@@ -16,15 +16,12 @@ use Rattle.sgb_gen.specs.inner.LocalBoards.{move_arc}
 use Rattle.sgb_gen.specs.inner.Moves.{destination, leads_onward}
 use Rattle.sgb_gen.specs.MovedCoordinates.{parts_of, parts_put}
 use Rattle.sgb_gen.specs.inner.MovedCoordinates.{parts_stay}
+use Rattle.sgb_gen.specs.inner.StraightLists.{IsLeaper, NeverHome}
 use Rattle.sgb_gen.proofs.BoardWalks.{leads, left-all, left-next, left-none, left-out, longest, moves_left, moves_of}
 use Rattle.sgb_gen.proofs.MovedCoordinates.{place_by_parts}
 use Rattle.sgb_gen.proofs.OnwardMoves.{back_earlier, onward_elsewhere}
 use Rattle.sgb_gen.proofs.OrderedLists.{before_none}
 use Rattle.sgb_gen.proofs.Reaches.{sizes_of_sides}
-
--- a piece leads to each place there is
-abbrev pub NeverHome : BoardData → List ℕ → List ℤ → Type 0
-NeverHome b x t = (l : ℕ) → 0 < l → leads b x t l ≡ place (sides_of b.sizes b.wrap) x t l
 
 -- the arc to the place at a length
 abbrev pub arc_placed : BoardData → List ℕ → List ℤ → ℕ → LocalArc
@@ -111,6 +108,12 @@ module _ (b : BoardData) (t : List ℤ) (long : length t ≡ length b.sizes) (on
       (λ home. before_none x (back_earlier b.sizes b.wrap x t l x (on_sides x below) long onward some home))
 
 -- a leaper leads to each place there is
+pub leaps_there : (b : BoardData) → IsLeaper b → (x : List ℕ) (t : List ℤ) → NeverHome b x t
+leaps_there b leaper x t l some = ap (λ p. destination (sides_of b.sizes b.wrap) p x t l) leaper
+
+pub leaper_is : (piece : ℤ) → SFits w64 piece → lt_z (pos 0) (to_z w64 (of_z w64 piece)) ≡ true → piece ≡ pos (nat_abs piece)
+leaper_is (pos p) fits leaps = refl
+leaper_is (negsuc p) fits leaps = absurd (true≢false (sym (ap (lt_z (pos 0)) (sym (to_z-of_z w64 (negsuc p) fits)) ∙ leaps)))
+
 pub leaper_away : (sides : List Side) (piece : ℤ) (x : List ℕ) (t : List ℤ) (l : ℕ) → SFits w64 piece → lt_z (pos 0) (to_z w64 (of_z w64 piece)) ≡ true → destination sides piece x t l ≡ place sides x t l
-leaper_away sides (pos p) x t l fits leaps = refl
-leaper_away sides (negsuc p) x t l fits leaps = absurd (true≢false (sym (ap (lt_z (pos 0)) (sym (to_z-of_z w64 (negsuc p) fits)) ∙ leaps)))
+leaper_away sides piece x t l fits leaps = ap (λ p. destination sides p x t l) (leaper_is piece fits leaps)

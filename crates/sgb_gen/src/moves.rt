@@ -25,13 +25,13 @@ fn coordinate_on(size: u32, wraps: bool, y: i64) -> Option<u32>
     requires { 0 < size }
     ensures { result ≡ coordinate_on (record { size = size; wraps = wraps }) y }
 {
+    if y >= 0 && y < i64::from(size) {
+        return Some(y as u32);
+    }
     if wraps {
         return Some(y.rem_euclid(i64::from(size)) as u32);
     }
-    if y < 0 || y >= i64::from(size) {
-        return None;
-    }
-    Some(y as u32)
+    None
 }
 
 // The coordinate at length `l` from `x` by `t` for each unit of length, which may lie outside of a board.

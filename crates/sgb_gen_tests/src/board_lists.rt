@@ -120,7 +120,7 @@ fn arcs_of_runs(board: &Board, links: &Links, x: &[u32]) -> Option<u64> {
 }
 
 // Knights of 8 by 8, which move to 2 places from a corner, 4 from a square on an edge and 8 from the middle; rooks of 3 by 5, of which
-// one moves 6 places; one step around a circle, whose list is not had so.
+// one moves 6 places. Where sides wrap around, the lists of leapers are had so that no side is near, and no others.
 #[test]
 fn arcs_run_by_run(rt: HostRuntime) -> Result<(), Fail> {
     let links = Links::new(rt.alloc());
@@ -133,6 +133,12 @@ fn arcs_run_by_run(rt: HostRuntime) -> Result<(), Fail> {
     let rooks = board_of(&[3, 5, 0, 0, -1, 0], false)?;
     assert!(rt; arcs_of_runs(&rooks, &links, &[2, 1]) == Some(6));
     let circle = board_of(&[5, 0, 0, 0, 1, 1], false)?;
-    assert!(rt; arcs_of_runs(&circle, &links, &[2]).is_none());
+    assert!(rt; arcs_of_runs(&circle, &links, &[2]) == Some(2));
+    assert!(rt; arcs_of_runs(&circle, &links, &[4]).is_none());
+    let around = board_of(&[5, 0, 0, 0, -1, 1], false)?;
+    assert!(rt; arcs_of_runs(&around, &links, &[2]).is_none());
+    let torus = board_of(&[8, 8, 0, 0, 5, 3], false)?;
+    assert!(rt; arcs_of_runs(&torus, &links, &[2, 5]) == Some(8));
+    assert!(rt; arcs_of_runs(&torus, &links, &[1, 4]).is_none());
     Ok(())
 }

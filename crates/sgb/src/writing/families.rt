@@ -316,6 +316,7 @@ fn push_listed_block<L: Listed, W: Sink>(
 }
 
 // Hands the line of an arc to this vector, from one whose name is known, to a page.
+#[inline(always)]
 fn push_arc<W: Sink>(
     name: &KeptName,
     tip: &[u32],

@@ -90,6 +90,7 @@ impl KeptName {
     }
 
     // How many bytes the first `count` entries take.
+    #[inline(always)]
     fn end_of(&self, count: usize) -> usize
         requires { count ≤ length self.now }
         ensures value { result ≡ length (name_of_vector (take count self.now)) }
@@ -115,8 +116,9 @@ impl KeptName {
         Ok(())
     }
 
-    /// Appends the name of a vector of as many entries to a page. Only digits that differ are put anew, or the entries between
-    /// those that both vectors have alike, at the start and at the end.
+    /// Appends the name of a vector of as many entries to a page. Only digits are put anew, or the entries between those that
+    /// both vectors have alike, at the start and at the end.
+    #[inline(always)]
     pub(super) fn push_other(&self, other: &[u32], page: &mut Page)
         requires width { length other.now ≡ length self.now }
         requires room { length page.old + (11 * length self.now + 41) ≤ page_bytes }
@@ -128,8 +130,9 @@ impl KeptName {
         }
     }
 
-    // The same by this name, in which the digits that differ are written over. `false`, and nothing is appended, where an entry
-    // that differs has more than one digit, or this name seems to have such entries.
+    // The same by this name, in which the digits are written over. `false`, and nothing is appended, where an entry that differs
+    // has not as many digits, or more than two, or this name seems to have such entries.
+    #[inline(always)]
     fn push_with_digits(&self, other: &[u32], page: &mut Page) -> bool
         requires width { length other.now ≡ length self.now }
         requires room { length page.old + (11 * length self.now + 41) ≤ page_bytes }
@@ -137,26 +140,32 @@ impl KeptName {
         ensures short { OnTrue result (length page.new ≤ length page.old + 11 * length self.now) }
         ensures none { OnFalse result (page.new ≡ page.old) }
     {
-        if self.text.len() >= 2 * self.vector.len() {
+        if self.text.len() >= 3 * self.vector.len() {
             return false;
         }
         let start = page.len();
         page.push_start_of(&self.text, self.text.len());
         let vector = self.vector.as_slice();
         for (k, entry) in other.iter().enumerate() {
+            let end = start + self.end_of(k + 1);
+            if *entry < 10 && vector[k] < 10 {
+                page.put_digit(end - 1, *entry);
+                continue;
+            }
             if *entry == vector[k] {
                 continue;
             }
-            if *entry > 9 || vector[k] > 9 {
+            if *entry < 10 || vector[k] < 10 || *entry > 99 || vector[k] > 99 {
                 page.cut(start);
                 return false;
             }
-            page.put_digit(start + self.end_of(k + 1) - 1, *entry);
+            page.put_two_digits(end - 2, *entry);
         }
         true
     }
 
     // The same with the entries put in digits anew from the first one that differs to the last.
+    #[inline(never)]
     fn push_between_ends(&self, other: &[u32], page: &mut Page)
         requires width { length other.now ≡ length self.now }
         requires room { length page.old + (11 * length self.now + 41) ≤ page_bytes }

@@ -1,5 +1,5 @@
 //! Texts put together in place, and pages of output: lines are put together where they leave.
-ghost use Rattle.std.specs.Prelude.{◌≡◌, ◌≤◌, ◌<◌, ◌+◌, ◌*◌, ◌-◌, [], ◌∷◌, ◌++◌, codes, decimal, drop, false, length, nat_lt, set, take, IfErr, OnOk};
+ghost use Rattle.std.specs.Prelude.{◌≡◌, ◌≤◌, ◌<◌, ◌+◌, ◌*◌, ◌-◌, ◌/◌, ◌%◌, [], ◌∷◌, ◌++◌, codes, decimal, drop, false, length, nat_lt, set, take, IfErr, OnOk};
 ghost use Rattle.std.specs.Fmt.{signed_decimal};
 ghost use Rattle.sgb_file.specs.Devices.{change};
 ghost use Rattle.sgb.specs.Writing.{IsWritten};
@@ -76,6 +76,18 @@ impl<const N: usize> Filled<N> {
         ensures { self.new ≡ set self.old place (48 + digit) }
     {
         self.bytes[place] = b'0' + digit as u8;
+    }
+
+    /// Writes two digits over the bytes from this place on.
+    pub(super) fn put_two_digits(&mut self, place: usize, number: u32)
+        requires digits { number < 100 }
+        requires within { place + 1 < length self.old }
+        ensures { self.new ≡ set (set self.old place (48 + number / 10)) (place + 1)
+            (48 + number % 10) }
+    {
+        prove!(self.len() <= N);
+        self.put_digit(place, number / 10);
+        self.put_digit(place + 1, number % 10);
     }
 
     /// Keeps the first `count` bytes.
@@ -298,6 +310,7 @@ impl<const N: usize> Filled<N> {
     }
 
     /// Begins the line of an arc: what stands before the name of the vertex where it leads.
+    #[inline(always)]
     pub(super) fn begin_arc(&mut self)
         requires { length self.old + 5 ≤ N }
         ensures { self.new ≡ self.old ++ codes "  -> " }
@@ -317,6 +330,7 @@ impl<const N: usize> Filled<N> {
     }
 
     /// The same of a length that no file brought.
+    #[inline(always)]
     pub(super) fn end_counted_arc(&mut self, len: u32)
         requires { length self.old + 50 ≤ N }
         ensures { self.new ≡ self.old ++ (codes ", length " ++ (decimal len ++ codes "\n")) }
@@ -329,6 +343,7 @@ impl<const N: usize> Filled<N> {
     }
 
     // Ends the line of an arc whose length has one digit.
+    #[inline(always)]
     fn end_short_arc(&mut self, len: u32)
         requires few { len < 10 }
         requires room { length self.old + 11 ≤ N }
@@ -365,6 +380,7 @@ impl<const N: usize> Filled<N> {
 }
 
 /// Makes room on a page for a line: where there may be too little, what the page holds is put.
+#[inline(always)]
 pub(super) fn make_room<W: Sink>(page: &mut Page, out: &mut W) -> Result<(), Fault>
     requires { W.has_failed out.old ≡ false }
     ensures room { OnOk result (length page.new + most_line_bytes ≤ page_bytes) }

@@ -1,6 +1,5 @@
 -- Lists that are had run by run, evaluated.
-use Rattle.std.specs.Prelude.{◌≡◌, ℕ, ℤ, pos, negsuc, List, [], ◌∷◌, None, Some, refl}
-use Rattle.sgb_gen.specs.LocalLists.{LocalArc}
+use Rattle.std.specs.Prelude.{◌≡◌, ℕ, pos, negsuc, List, [], ◌∷◌, None, Some, refl}
 use Rattle.sgb_gen.specs.MovedCoordinates.{part_at, parts_of, parts_put}
 use Rattle.sgb_gen.specs.Runs.{RunsData, arc_along, arcs_along, arcs_of_run}
 

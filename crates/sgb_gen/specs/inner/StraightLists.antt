@@ -1,12 +1,12 @@
 -- The list of a board's vertex, of which the arcs by the last displacements are taken.
-use Rattle.std.specs.Prelude.{◌≡◌, ℕ, ℤ, true, List, [], reverse, map, if◌then◌else◌}
+use Rattle.std.specs.Prelude.{◌≡◌, ◌<◌, ◌++◌, ℕ, ℤ, pos, nat_abs, true, List, [], reverse, map, if◌then◌else◌}
 use Rattle.std.specs.List.{All, flat_map}
 use Rattle.sgb_vec.specs.Boxes.{box}
 use Rattle.sgb_gen.specs.Boards.{BoardData}
 use Rattle.sgb_gen.specs.LocalLists.{LocalArc}
-use Rattle.sgb_gen.specs.Moves.{moves_from, sides_of}
+use Rattle.sgb_gen.specs.Moves.{moves_from, opposite, place, sides_of}
 use Rattle.sgb_gen.specs.inner.LocalBoards.{arcs_onward, move_arc, moves_by}
-use Rattle.sgb_gen.specs.inner.Moves.{leads_onward}
+use Rattle.sgb_gen.specs.inner.Moves.{destination, leads_onward}
 
 -- the arcs of x by these displacements, those by later moves first
 abbrev pub arcs_by_all : BoardData → List ℕ → List (List ℤ) → List LocalArc
@@ -23,3 +23,17 @@ arcs_back b x t = if b.directed then [] else arcs_from b x t
 -- all of these lead onward
 abbrev pub AreOnward : ℤ → List (List ℤ) → Type 0
 AreOnward wrap ts = All (λ t. leads_onward wrap 0 t ≡ true) ts
+
+-- from x by this displacement a piece leads to each place there is
+abbrev pub NeverHome : BoardData → List ℕ → List ℤ → Type 0
+NeverHome b x t = (l : ℕ) → 0 < l → destination (sides_of b.sizes b.wrap) b.piece x t l ≡ place (sides_of b.sizes b.wrap) x t l
+
+-- the arcs of x by this displacement are those ahead, the longest first, and then those back; neither lead home
+pub record IsRun (b : BoardData) (x : List ℕ) (t : List ℤ) : Type 0 where
+  pub arcs : reverse (arcs_onward b.directed x (moves_by (sides_of b.sizes b.wrap) b.piece (box b.sizes) t)) ≡ reverse (arcs_from b x t) ++ arcs_back b x (opposite t)
+  pub ahead : NeverHome b x t
+  pub back : NeverHome b x (opposite t)
+
+-- the piece is a leaper
+abbrev pub IsLeaper : BoardData → Type 0
+IsLeaper b = b.piece ≡ pos (nat_abs b.piece)

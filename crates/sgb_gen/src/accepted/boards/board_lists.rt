@@ -24,6 +24,8 @@ pub struct BoardLists<'a> {
     pub(super) table: Option<DisplacementTable>,
     // Whether all of these lead to later vectors.
     pub(super) straight: bool,
+    // Whether the piece is a leaper, and all of these lead to later vectors from where no side is near.
+    pub(super) leaping: bool,
     // No entry of theirs is greater.
     pub(super) widest: u32,
     // Room for a vector.
@@ -31,9 +33,9 @@ pub struct BoardLists<'a> {
 }
 
 impl<'a> Model for BoardLists<'a> {
-    ghost use Rattle.std.specs.Prelude.{◌≡◌, ◌≤◌, nat_abs, All, IfSome};
+    ghost use Rattle.std.specs.Prelude.{◌≡◌, ◌≤◌, nat_abs, pos, All, IfSome};
     ghost use Rattle.std.specs.Bool.{OnTrue};
-    ghost use Rattle.sgb_gen.specs.inner.StraightLists.{AreOnward};
+    ghost use Rattle.sgb_gen.specs.inner.StraightLists.{AreOnward, IsLeaper};
     ghost use Rattle.sgb_gen.specs.Boards.{BoardData};
     ghost use Rattle.sgb_gen.specs.Moves.{sides_of};
     ghost use Rattle.sgb_gen.specs.inner.EntryBounds.{displacements_within, entry_bounds};
@@ -46,7 +48,9 @@ impl<'a> Model for BoardLists<'a> {
         ≡ displacements_within (nat_abs b.board.now.piece)
         (entry_bounds (nat_abs b.board.now.piece) (sides_of b.board.now.sizes b.board.now.wrap)))
         × OnTrue b.straight (IfSome b.table (AreOnward b.board.now.wrap))
-        × IfSome b.table (All (All (λ e. nat_abs e ≤ b.widest))) };
+        × IfSome b.table (All (All (λ e. nat_abs e ≤ b.widest)))
+        × OnTrue b.leaping (IsLeaper b.board.now)
+        × OnTrue b.leaping (IfSome b.table (AreOnward (pos 0))) };
 }
 
 impl Board {
@@ -58,11 +62,13 @@ impl Board {
     {
         let table = DisplacementTable::new(links.alloc(), self.family.dims(), self.displacements());
         let straight = lead_onward(self.wrap, &table);
+        let leaping = self.is_leaping(&table);
         let widest = widest_of(&table);
         BoardLists {
             board: self,
             table,
             straight,
+            leaping,
             widest,
             there: Vector::new(),
         }

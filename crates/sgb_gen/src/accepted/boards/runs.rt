@@ -1,5 +1,5 @@
-//! The list of a board's vertex where all displacements lead onward, run by run: no list is kept.
-ghost use Rattle.std.specs.Prelude.{◌≡◌, ◌++◌, ◌<◌, ◌≤◌, ◌-◌, ℕ, [], length, nat_abs, true, All, Contains, IfSome, unwrap_or};
+//! The list of a board's vertex where all displacements lead onward from it, run by run: no list is kept.
+ghost use Rattle.std.specs.Prelude.{◌≡◌, ◌++◌, ◌<◌, ◌≤◌, ◌-◌, ◌&&◌, ◌||◌, ℕ, [], length, nat_abs, pos, true, All, Contains, IfSome, unwrap_or};
 ghost use Rattle.std.specs.Bool.{OnTrue};
 ghost use Rattle.sgb_vec.specs.Boxes.{box};
 ghost use Rattle.sgb_vec.specs.Lexicographic.{IsBelow};
@@ -8,9 +8,9 @@ ghost use Rattle.sgb_gen.specs.LocalLists.{list_at};
 ghost use Rattle.sgb_gen.specs.MovedCoordinates.{part_at, parts_of};
 ghost use Rattle.sgb_gen.specs.Moves.{opposite, place, sides_of};
 ghost use Rattle.sgb_gen.specs.Runs.{AreMoved, arcs_along, arcs_of_run};
-ghost use Rattle.sgb_gen.specs.inner.Moves.{destination, leads_onward};
+ghost use Rattle.sgb_gen.specs.inner.Moves.{destination};
 ghost use Rattle.sgb_gen.specs.inner.MovedCoordinates.{IsInside, StayAtOne, parts_stay};
-ghost use Rattle.sgb_gen.specs.inner.StraightLists.{AreOnward, arcs_back, arcs_from};
+ghost use Rattle.sgb_gen.specs.inner.StraightLists.{AreOnward, IsLeaper, IsRun, arcs_back, arcs_from};
 
 use super::Board;
 use super::board_lists::BoardLists;
@@ -53,7 +53,7 @@ impl<'b> Model for Runs<'b> {
     ghost use Rattle.sgb_gen.specs.Runs.{RunsData};
     ghost use Rattle.sgb_gen.specs.inner.EntryBounds.{displacements_within, entry_bounds};
     ghost use Rattle.sgb_gen.specs.inner.MovedCoordinates.{StayAtOne};
-    ghost use Rattle.sgb_gen.specs.inner.StraightLists.{AreOnward, arcs_by_all};
+    ghost use Rattle.sgb_gen.specs.inner.StraightLists.{IsRun, arcs_by_all};
 
     ghost Value = { RunsData };
 
@@ -68,7 +68,7 @@ impl<'b> Model for Runs<'b> {
     ghost invariant = { λ r. (r.left ≤ length r.table.now)
         × (r.table.now ≡ displacements_within (nat_abs r.board.now.piece)
         (entry_bounds (nat_abs r.board.now.piece) (sides_of r.board.now.sizes r.board.now.wrap)))
-        × AreOnward r.board.now.wrap r.table.now
+        × All (IsRun r.board.now r.x.now) r.table.now
         × IsBelow r.x.now r.board.now.sizes
         × OnTrue r.near
         (All (StayAtOne r.board.now.sizes r.board.now.wrap r.x.now) r.table.now) };
@@ -123,6 +123,17 @@ impl Board {
         part_at(self.shape.sizes(), self.wrap, x, l, k, amount).unwrap_or(0)
     }
 
+    /// Whether the piece is a leaper, and all displacements in this table lead onward where no side wraps around.
+    pub(super) fn is_leaping(&self, table: &Option<DisplacementTable>) -> bool
+        ensures leaper { OnTrue result (IsLeaper self.now) }
+        ensures onward { OnTrue result (IfSome table.now (AreOnward (pos 0))) }
+    {
+        if self.piece <= 0 {
+            return false;
+        }
+        lead_onward(0, table)
+    }
+
     // Whether each coordinate of `x` has this much room on both sides.
     fn is_inside(&self, x: &[u32], room: u32) -> bool
         requires { IsBelow x.now self.now.sizes }
@@ -135,7 +146,7 @@ impl Board {
     fn run_by<'b>(&self, x: &[u32], pair: &'b KeptPair, near: bool) -> Run<'b>
         requires below { IsBelow x.now self.now.sizes }
         requires dimensions { length pair.now ≡ length self.now.sizes }
-        requires onward { leads_onward self.now.wrap 0 pair.now ≡ true }
+        requires run { IsRun self.now x.now pair.now }
         requires near { OnTrue near (StayAtOne self.now.sizes self.now.wrap x.now pair.now) }
         ensures ahead { result.ahead.now ≡ parts_of pair.now }
         ensures farthest { arcs_from self.now x.now pair.now ≡ arcs_along self.now.sizes
@@ -198,7 +209,8 @@ impl Board {
 
 impl<'a> BoardLists<'a> {
     /// The list of the vertex of `x`, which is a vector of the board, run by run: where the displacements are in a table, and
-    /// each leads to later vectors, as all do on a board with no side that wraps around. `None` where one may not.
+    /// each leads to later vectors, as all do on a board with no side that wraps around, and those of a leaper from where no
+    /// side is near. `None` where one may not.
     pub fn runs<'b>(&'b self, x: &'b [u32]) -> Option<Runs<'b>>
         requires { Contains (box self.now.sizes) x.now }
         ensures sizes { IfSome result (λ r. r.sizes ≡ self.now.sizes) }
@@ -207,7 +219,8 @@ impl<'a> BoardLists<'a> {
         ensures arcs { IfSome result (λ r. r.arcs ≡ list_at self.now.directed (box self.now.sizes)
             (moves_of_board self.now) x.now) }
     {
-        if !self.straight {
+        let near = self.board.is_inside(x, self.widest);
+        if !have_runs(self.straight, self.leaping, near) {
             return None;
         }
         match &self.table {
@@ -216,11 +229,18 @@ impl<'a> BoardLists<'a> {
                 table,
                 x,
                 left: table.len(),
-                near: self.board.is_inside(x, self.widest),
+                near,
             }),
             None => None,
         }
     }
+}
+
+// Whether lists are had run by run: all of them, or those of vertices that no side is near.
+fn have_runs(straight: bool, leaping: bool, near: bool) -> bool
+    ensures { result ≡ straight || (leaping && near) }
+{
+    straight || (leaping && near)
 }
 
 /// The greatest size of the entries of displacements in a table.

@@ -70,8 +70,8 @@ pub(super) fn push_to(
     requires place { length x.now ≤ length tip.old }
     ensures same { OnOk result (front_of tip.new x.now ≡ front_of tip.old x.now) }
     ensures ok { OnOk result (links.new
-        ≡ with_arcs links.old (arcs_under begun.size_bits (front_of tip.old x.now) begun.common x.now
-        (down_to bounds.now x.now))) }
+        ≡ with_arcs links.old (arcs_under begun.size_bits (front_of tip.old x.now) begun.common
+        x.now (down_to bounds.now x.now))) }
     ensures memory { IsOkUnless result Panic.NoRoom }
 {
     if !may_be_among(sizes, begun) {
@@ -111,8 +111,8 @@ pub(super) fn push_from(
     requires place { length x.now ≤ length tip.old }
     ensures same { OnOk result (front_of tip.new x.now ≡ front_of tip.old x.now) }
     ensures ok { OnOk result (links.new
-        ≡ with_arcs links.old (arcs_under begun.size_bits (front_of tip.old x.now) begun.common x.now
-        (down_from bounds.now x.now))) }
+        ≡ with_arcs links.old (arcs_under begun.size_bits (front_of tip.old x.now) begun.common
+        x.now (down_from bounds.now x.now))) }
     ensures memory { IsOkUnless result Panic.NoRoom }
 {
     if !may_be_among(sizes, begun) {
@@ -152,8 +152,8 @@ fn push_all(
     requires place { length x.now ≤ length tip.old }
     ensures same { OnOk result (front_of tip.new x.now ≡ front_of tip.old x.now) }
     ensures ok { OnOk result (links.new
-        ≡ with_arcs links.old (arcs_under begun.size_bits (front_of tip.old x.now) begun.common x.now
-        (reverse (bounded_sums begun.left bounds.now)))) }
+        ≡ with_arcs links.old (arcs_under begun.size_bits (front_of tip.old x.now) begun.common
+        x.now (reverse (bounded_sums begun.left bounds.now)))) }
     ensures memory { IsOkUnless result Panic.NoRoom }
 {
     let start = tip.len() - x.len();
@@ -206,8 +206,9 @@ fn push_greater(
     requires place { length x.now < length tip.old }
     ensures same { OnOk result (front_of tip.new (own ∷ x.now) ≡ front_of tip.old (own ∷ x.now)) }
     ensures ok { OnOk result (links.new
-        ≡ with_arcs links.old (arcs_under begun.size_bits (front_of tip.old (own ∷ x.now)) begun.common
-        (own ∷ x.now) (rows begun.left bounds.now (entries.least + 1) (entries.count - 1)))) }
+        ≡ with_arcs links.old (arcs_under begun.size_bits (front_of tip.old (own ∷ x.now))
+        begun.common (own ∷ x.now)
+        (rows begun.left bounds.now (entries.least + 1) (entries.count - 1)))) }
     ensures memory { IsOkUnless result Panic.NoRoom }
 {
     if entries.count < 2 {
@@ -241,8 +242,8 @@ fn push_rows(
     requires place { length x.now < length tip.old }
     ensures same { OnOk result (front_of tip.new (own ∷ x.now) ≡ front_of tip.old (own ∷ x.now)) }
     ensures ok { OnOk result (links.new
-        ≡ with_arcs links.old (arcs_under begun.size_bits (front_of tip.old (own ∷ x.now)) begun.common
-        (own ∷ x.now) (rows begun.left bounds.now entries.least entries.count))) }
+        ≡ with_arcs links.old (arcs_under begun.size_bits (front_of tip.old (own ∷ x.now))
+        begun.common (own ∷ x.now) (rows begun.left bounds.now entries.least entries.count))) }
     ensures memory { IsOkUnless result Panic.NoRoom }
 {
     for k in (0..entries.count).rev() {
@@ -282,8 +283,8 @@ fn push_row(
     requires place { length x.now < length tip.old }
     ensures same { OnOk result (front_of tip.new (own ∷ x.now) ≡ front_of tip.old (own ∷ x.now)) }
     ensures ok { OnOk result (links.new
-        ≡ with_arcs links.old (arcs_under begun.size_bits (front_of tip.old (own ∷ x.now)) begun.common
-        (own ∷ x.now) (row begun.left bounds.now entry))) }
+        ≡ with_arcs links.old (arcs_under begun.size_bits (front_of tip.old (own ∷ x.now))
+        begun.common (own ∷ x.now) (row begun.left bounds.now entry))) }
     ensures memory { IsOkUnless result Panic.NoRoom }
 {
     let further = placed(begun, bound, own, entry);

@@ -25,8 +25,8 @@ pub(super) fn push_last(
     requires place { length x.now ≤ length tip.old }
     ensures same { OnOk result (front_of tip.new x.now ≡ front_of tip.old x.now) }
     ensures ok { OnOk result (links.new
-        ≡ with_arcs links.old (arcs_under begun.size_bits (front_of tip.old x.now) begun.common x.now
-        (reverse (bounded_sums begun.left bounds.now)))) }
+        ≡ with_arcs links.old (arcs_under begun.size_bits (front_of tip.old x.now) begun.common
+        x.now (reverse (bounded_sums begun.left bounds.now)))) }
     ensures memory { IsOkUnless result Panic.NoRoom }
 {
     if begun.left == 0 {
@@ -52,8 +52,8 @@ fn push_units(
     requires zeros { drop (length tip.old - length x.now) tip.old ≡ replicate (length x.now) 0 }
     ensures same { OnOk result (tip.new ≡ tip.old) }
     ensures ok { OnOk result (links.new
-        ≡ with_arcs links.old (arcs_under begun.size_bits (front_of tip.old x.now) begun.common x.now
-        (reverse (bounded_sums begun.left bounds.now)))) }
+        ≡ with_arcs links.old (arcs_under begun.size_bits (front_of tip.old x.now) begun.common
+        x.now (reverse (bounded_sums begun.left bounds.now)))) }
     ensures memory { IsOkUnless result Panic.NoRoom }
 {
     let start = tip.len() - x.len();
@@ -80,7 +80,8 @@ fn push_unit(wanted: bool, tip: &mut [u32], place: usize, links: &mut Links) -> 
     requires zero { slice_get tip.old place ≡ Some 0 }
     ensures same { OnOk result (tip.new ≡ tip.old) }
     ensures ok { OnOk result (links.new
-        ≡ with_arcs links.old (if wanted then record { tip = set tip.old place 1; len = pos 1 } ∷ [] else [])) }
+        ≡ with_arcs links.old
+        (if wanted then record { tip = set tip.old place 1; len = pos 1 } ∷ [] else [])) }
     ensures memory { IsOkUnless result Panic.NoRoom }
 {
     if !wanted {
@@ -106,8 +107,8 @@ pub(super) fn push_zeros(
     requires place { length x.now ≤ length tip.old }
     ensures same { OnOk result (front_of tip.new x.now ≡ front_of tip.old x.now) }
     ensures ok { OnOk result (links.new
-        ≡ with_arcs links.old (arcs_under begun.size_bits (front_of tip.old x.now) begun.common x.now
-        (reverse (bounded_sums begun.left bounds.now)))) }
+        ≡ with_arcs links.old (arcs_under begun.size_bits (front_of tip.old x.now) begun.common
+        x.now (reverse (bounded_sums begun.left bounds.now)))) }
     ensures memory { IsOkUnless result Panic.NoRoom }
 {
     if !is_wanted(begun.size_bits, u64::from(begun.common)) {

@@ -58,8 +58,10 @@ pub(super) fn wanted_entries(sizes: &WantedSizes, begun: Begun, bound: u32, own:
     ensures few { result.least + result.count ≤ begun.left + 1 }
     ensures same { (front bounds x : List ℕ) →
         IsBegun (bound ∷ bounds) (own ∷ x) begun.room begun.shared begun.left begun.common →
-        arcs_under begun.size_bits front begun.common (own ∷ x) (reverse (bounded_sums begun.left (bound ∷ bounds)))
-        ≡ arcs_under begun.size_bits front begun.common (own ∷ x) (rows begun.left bounds result.least result.count) }
+        arcs_under begun.size_bits front begun.common (own ∷ x)
+        (reverse (bounded_sums begun.left (bound ∷ bounds)))
+        ≡ arcs_under begun.size_bits front begun.common (own ∷ x)
+        (rows begun.left bounds result.least result.count) }
 {
     let end = begun.left.min(bound) + 1;
     let entries = with_room(begun.left, begun.room - u64::from(bound), 0, end);

@@ -1,4 +1,4 @@
-use Rattle.std.proofs.Common.{◌≡◌, ◌≤◌, length, take}
+use Rattle.std.proofs.Common.{◌≡◌, length, take}
 use Rattle.sgb.proofs.writing.kept_names.shorten.Given as goal
 
 abbrev pub invariant-loop-entries : goal.invariant-loop-entries

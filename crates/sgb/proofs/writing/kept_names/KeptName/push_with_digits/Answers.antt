@@ -1,7 +1,15 @@
-use Rattle.std.proofs.Common.{◌≡◌, ◌<◌, ◌+◌, ◌∙◌, get_or, length, take, ap, arith}
+use Rattle.std.proofs.Common.{◌≡◌, ◌<◌, ◌^◌, ◌∙◌, All, get_or, length, ap, subst, arith}
 use Rattle.sgb_vec.specs.Names.{name_of_vector}
-use Rattle.sgb.proofs.WrittenDigits.{digit-end, turned-digit, turned-same}
+use Rattle.sgb.proofs.NameEntries.{length-name}
+use Rattle.sgb.proofs.WrittenDigits.{digit-end, turned-digit, turned-same, turned-two, two-end}
 use Rattle.sgb.proofs.writing.kept_names.KeptName.push_with_digits.Goals as goal
+
+pub push_start_of-requires : goal.push_start_of-requires
+push_start_of-requires c =
+    let v = c.args.self.now in
+    let name : c.self.inside.text ≡ name_of_vector v = c.self.invariant.name ∙ ap name_of_vector c.self.view_is in
+    let small : All (λ n. n < 2 ^ 32) v = subst (All (λ n. n < 2 ^ 32)) c.self.view_is c.self.invariant.small in
+    (omega arith, (omega arith, (omega (arith, c.len.ensures.value), omega (arith, c.len.ensures.value, ap length name, length-name v small, c.requires.room))))
 
 pub loop-k-preserved-then-entry-vector : goal.loop-k-preserved-then-entry-vector
 loop-k-preserved-then-entry-vector c =
@@ -10,12 +18,12 @@ loop-k-preserved-then-entry-vector c =
     turned-same c.args.page.now v c.args.other.now c.loop-k.k c.loop-k.page c.requires.width (omega (arith, c.requires.width)) c.loop-k.invariant
     (c.if-entry-vector.true ∙ ap (λ l. get_or l c.loop-k.k 0) slice)
 
-pub overflow_sub-start : goal.overflow_sub-start
-overflow_sub-start c =
+pub overflow_sub-end : goal.overflow_sub-end
+overflow_sub-end c =
     let v = c.args.self.now in
     let k = c.loop-k.k in
     let slice : c.as_slice-vector.result.now ≡ v = c.as_slice-vector.ensures.value ∙ c.self.view_is in
-    let few : get_or v k 0 < 10 = omega (arith, c.if-vector-k-gt9.false, ap (λ l. get_or l k 0) slice) in
+    let few : get_or v k 0 < 10 = omega (arith, c.if-vector-k-lt10.true, ap (λ l. get_or l k 0) slice) in
     omega (arith, c.end_of.ensures.value, digit-end c.args.page.now v c.args.other.now k c.loop-k.page c.requires.width (omega (arith, c.requires.width)) c.loop-k.invariant few)
 
 pub put_digit-requires : goal.put_digit-requires
@@ -23,15 +31,53 @@ put_digit-requires c =
     let v = c.args.self.now in
     let k = c.loop-k.k in
     let slice : c.as_slice-vector.result.now ≡ v = c.as_slice-vector.ensures.value ∙ c.self.view_is in
-    let few : get_or v k 0 < 10 = omega (arith, c.if-vector-k-gt9.false, ap (λ l. get_or l k 0) slice) in
+    let few : get_or v k 0 < 10 = omega (arith, c.if-vector-k-lt10.true, ap (λ l. get_or l k 0) slice) in
     let end = digit-end c.args.page.now v c.args.other.now k c.loop-k.page c.requires.width (omega (arith, c.requires.width)) c.loop-k.invariant few in
-    (omega arith, (omega (arith, c.if-entry-gt9.false), omega (arith, c.end_of.ensures.value, c.end_of.ensures.within, c.len-start.ensures.value, c.loop-k.invariant.size, end)))
+    (omega arith, (c.if-entry-lt10.true, omega (arith, c.end_of.ensures.value, c.end_of.ensures.within, c.len-start.ensures.value, c.loop-k.invariant.size, end)))
+
+pub loop-k-preserved-then-vector-k-lt10 : goal.loop-k-preserved-then-vector-k-lt10
+loop-k-preserved-then-vector-k-lt10 c =
+    let v = c.args.self.now in
+    let k = c.loop-k.k in
+    let slice : c.as_slice-vector.result.now ≡ v = c.as_slice-vector.ensures.value ∙ c.self.view_is in
+    let few : get_or v k 0 < 10 = omega (arith, c.if-vector-k-lt10.true, ap (λ l. get_or l k 0) slice) in
+    turned-digit c.args.page.now v c.args.other.now k c.loop-k.page c.requires.width (omega (arith, c.requires.width)) c.loop-k.invariant
+    c.len-start.result c.end_of.result c.put_digit.new.self few c.if-entry-lt10.true c.len-start.ensures.value c.end_of.ensures.value c.put_digit.ensures
+
+pub overflow_sub-end-in-loop-k : goal.overflow_sub-end-in-loop-k
+overflow_sub-end-in-loop-k c =
+    let v = c.args.self.now in
+    let k = c.loop-k.k in
+    let slice : c.as_slice-vector.result.now ≡ v = c.as_slice-vector.ensures.value ∙ c.self.view_is in
+    let at = ap (λ l. get_or l k 0) slice in
+    let end = two-end c.args.page.now v c.args.other.now k c.loop-k.page c.requires.width (omega (arith, c.requires.width)) c.loop-k.invariant
+    (omega (arith, c.if-vector-k-lt10-2.false, at)) (omega (arith, c.if-vector-k-gt99.false, at)) in
+    omega (arith, c.end_of.ensures.value, end)
+
+pub put_two_digits-requires : goal.put_two_digits-requires
+put_two_digits-requires c =
+    let v = c.args.self.now in
+    let k = c.loop-k.k in
+    let slice : c.as_slice-vector.result.now ≡ v = c.as_slice-vector.ensures.value ∙ c.self.view_is in
+    let at = ap (λ l. get_or l k 0) slice in
+    let end = two-end c.args.page.now v c.args.other.now k c.loop-k.page c.requires.width (omega (arith, c.requires.width)) c.loop-k.invariant
+    (omega (arith, c.if-vector-k-lt10-2.false, at)) (omega (arith, c.if-vector-k-gt99.false, at)) in
+    (omega arith, (omega (arith, c.if-entry-gt99.false), omega (arith, c.end_of.ensures.value, c.end_of.ensures.within, c.len-start.ensures.value, c.loop-k.invariant.size, end)))
 
 pub loop-k-preserved : goal.loop-k-preserved
 loop-k-preserved c =
     let v = c.args.self.now in
     let k = c.loop-k.k in
     let slice : c.as_slice-vector.result.now ≡ v = c.as_slice-vector.ensures.value ∙ c.self.view_is in
-    let few : get_or v k 0 < 10 = omega (arith, c.if-vector-k-gt9.false, ap (λ l. get_or l k 0) slice) in
-    turned-digit c.args.page.now v c.args.other.now k c.loop-k.page c.requires.width (omega (arith, c.requires.width)) c.loop-k.invariant
-    c.len-start.result c.end_of.result c.put_digit.new.self few (omega (arith, c.if-entry-gt9.false)) c.len-start.ensures.value c.end_of.ensures.value c.put_digit.ensures
+    let at = ap (λ l. get_or l k 0) slice in
+    turned-two c.args.page.now v c.args.other.now k c.loop-k.page c.requires.width (omega (arith, c.requires.width)) c.loop-k.invariant
+    c.len-start.result c.end_of.result c.put_two_digits.new.self
+    (omega (arith, c.if-vector-k-lt10-2.false, at)) (omega (arith, c.if-vector-k-gt99.false, at))
+    (omega (arith, c.if-entry-lt10-2.false)) (omega (arith, c.if-entry-gt99.false))
+    c.len-start.ensures.value c.end_of.ensures.value c.put_two_digits.ensures
+
+pub returns-clause-short : goal.returns-clause-short
+returns-clause-short c =
+    let v = c.args.self.now in
+    let small : All (λ n. n < 2 ^ 32) v = subst (All (λ n. n < 2 ^ 32)) c.self.view_is c.self.invariant.small in
+    omega (arith, c.loop-k.invariant.size, length-name v small)

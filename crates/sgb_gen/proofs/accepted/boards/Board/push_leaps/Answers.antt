@@ -1,4 +1,4 @@
-use Rattle.std.proofs.Common.{◌≡◌, ◌++◌, ◌∙◌, ℕ, ℤ, List, Some, reverse, sym, ap, ap₂, subst, append_assoc, arith}
+use Rattle.std.proofs.Common.{◌≡◌, ◌++◌, ◌∙◌, ℤ, List, Some, reverse, sym, ap, subst, append_assoc, arith}
 use Rattle.std.specs.List.{slice_get}
 use Rattle.std.specs.Result.{OnOk}
 use Rattle.sgb_vec.specs.Boxes.{box}
@@ -7,7 +7,7 @@ use Rattle.sgb_gen.specs.LocalLists.{LinksData, LocalArc}
 use Rattle.sgb_gen.specs.VectorGraphs.{vertex_among}
 use Rattle.sgb_gen.specs.inner.LocalBoards.{edge_arcs}
 use Rattle.sgb_gen.proofs.BoardWalks.{leads}
-use Rattle.sgb_gen.proofs.Leaps.{all_arcs, comes_from, comes_home, comes_nowhere, leaps_alone, leaps_earlier, leaps_later, own_vertex}
+use Rattle.sgb_gen.proofs.Leaps.{all_arcs, comes_from, comes_home, comes_nowhere, leaps_alone, leaps_earlier, leaps_later}
 use Rattle.sgb_gen.proofs.Vertices.{vertex_in_box}
 use Rattle.std.specs.Option.{option_map}
 use Rattle.sgb_gen.proofs.accepted.boards.Board.push_leaps.Goals as goal

@@ -1,10 +1,9 @@
-use Rattle.std.proofs.Common.{◌≡◌, ◌<◌, ◌+◌, ◌-◌, ◌++◌, ◌∙◌, ℕ, neg_ℤ, true, length, reverse, take, sym, ap, ap₂, subst, arith}
+use Rattle.std.proofs.Common.{◌≡◌, ◌<◌, ◌+◌, ◌-◌, ◌++◌, ◌∙◌, ℕ, neg_ℤ, length, reverse, take, sym, ap, ap₂, subst, arith}
 use Rattle.std.proofs.lemmas.List.{length-map}
 use Rattle.sgb_vec.proofs.BoxPlaces.{IsBelow-length}
 use Rattle.sgb_gen.specs.Moves.{opposite}
 use Rattle.sgb_gen.specs.Runs.{AreMoved, arcs_along, arcs_of_run}
-use Rattle.sgb_gen.specs.inner.Moves.{leads_onward}
-use Rattle.sgb_gen.specs.inner.StraightLists.{arcs_by_all}
+use Rattle.sgb_gen.specs.inner.StraightLists.{IsRun, arcs_by_all}
 use Rattle.sgb_gen.proofs.RunsOfLists.{at_has, next_run_first, none_first, width_in_table}
 use Rattle.sgb_gen.proofs.accepted.boards.runs.Runs.next_run.Goals as goal
 
@@ -12,9 +11,9 @@ pub run_by-run-requires-clause-dimensions : goal.run_by-run-requires-clause-dime
 run_by-run-requires-clause-dimensions c =
     width_in_table c.self.inside.board.now c.self.inside.table.now (c.self.inside.left - 1) c.at.result.now c.self.invariant.1 c.at.ensures
 
-pub run_by-run-requires-clause-onward : goal.run_by-run-requires-clause-onward
-run_by-run-requires-clause-onward c =
-    at_has (λ t. leads_onward c.self.inside.board.now.wrap 0 t ≡ true) c.self.inside.table.now (c.self.inside.left - 1) c.at.result.now c.self.invariant.2 c.at.ensures
+pub run_by-run-requires-clause-run : goal.run_by-run-requires-clause-run
+run_by-run-requires-clause-run c =
+    at_has (IsRun c.self.inside.board.now c.self.inside.x.now) c.self.inside.table.now (c.self.inside.left - 1) c.at.result.now c.self.invariant.2 c.at.ensures
 
 pub returns-clause-arcs : goal.returns-clause-arcs
 returns-clause-arcs c =
@@ -27,13 +26,12 @@ returns-clause-arcs c =
     let rest = arcs_by_all b x (take k table) in
     let some : 0 < c.self.inside.left = subst (λ d. 0 < d.runs) (sym c.self.view_is) c.requires in
     let last : c.self.inside.left ≡ k + 1 = omega (arith, some) in
-    let long = width_in_table b table k t c.self.invariant.1 c.at.ensures in
-    let onward = at_has (λ u. leads_onward b.wrap 0 u ≡ true) table k t c.self.invariant.2 c.at.ensures in
+    let is_run = at_has (IsRun b x) table k t c.self.invariant.2 c.at.ensures in
     let ahead = c.run_by-run.ensures.farthest ∙ ap (λ ps. arcs_along b.sizes b.wrap x ps run.farthest) (sym c.run_by-run.ensures.ahead) in
     let back = c.run_by-run.ensures.farthest_back ∙ ap (λ ps. arcs_along b.sizes b.wrap x ps run.farthest_back) (sym c.run_by-run.ensures.back) in
     subst (λ d. d.arcs ≡ arcs_of_run d run.ahead.now run.farthest run.back.now run.farthest_back ++ rest) c.self.view_is
     (ap (λ (n : ℕ). arcs_by_all b x (take n table)) last
-    ∙ next_run_first b x table k t c.at.ensures c.self.invariant.3 long onward
+    ∙ next_run_first b x table k t c.at.ensures is_run
     ∙ ap₂ (λ p q. reverse p ++ q ++ rest) ahead back)
 
 pub returns-clause-ahead : goal.returns-clause-ahead
