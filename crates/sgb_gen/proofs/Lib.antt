@@ -98,6 +98,8 @@ pub mod BoardWalks
 pub mod StraightMoves
 -- the list of a vertex, run by run
 pub mod RunsOfLists
+-- lists of arcs that were put into links, or refused
+pub mod EndedLists
 -- the list of a vector of a board
 pub mod ListsOfBoards
 -- the list of a vector of a simplex

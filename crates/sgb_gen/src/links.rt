@@ -109,6 +109,18 @@ impl Links {
         self.width = width;
     }
 
+    // What putting the arcs of a list ended with: where that was refused, all arcs are dropped.
+    pub(crate) fn ended(&mut self, put: Result<(), Panic>) -> Result<(), Panic>
+        ensures result { result ≡ put }
+        ensures ok { OnOk put (self.new ≡ self.old) }
+        ensures err { OnErr put (self.new.arcs ≡ []) }
+    {
+        if put.is_err() {
+            self.clear(self.width);
+        }
+        put
+    }
+
     // Puts an arc behind the others. An error means out of memory: the arcs stay as they were.
     pub(crate) fn push(&mut self, tip: &[u32], len: u32) -> Result<(), Panic>
         requires width { length tip.now ≡ self.old.width }
@@ -192,16 +204,6 @@ impl Links {
         );
         self.lens.push(l)?;
         Ok(())
-    }
-
-    // Turns the arcs round: the last comes first.
-    pub(crate) fn reverse(&mut self)
-        ensures { self.new ≡ record self.old { arcs = reverse self.old.arcs } }
-    {
-        self.lens.reverse();
-        self.tips.reverse();
-        let count = self.len();
-        turn_rows(self.tips.as_mut_slice(), self.width, count);
     }
 
     // Turns the arcs from this one on round: the last comes first of them.

@@ -116,13 +116,8 @@ impl<'a> BoardLists<'a> {
         ensures same { self.new ≡ self.old }
     {
         links.clear(x.len());
-        match self.push_listed(x, links) {
-            Ok(()) => Ok(()),
-            Err(refused) => {
-                links.clear(x.len());
-                Err(refused)
-            }
-        }
+        let put = self.push_listed(x, links);
+        links.ended(put)
     }
 
     // Puts the arcs of `x` behind the others, those by later moves first.

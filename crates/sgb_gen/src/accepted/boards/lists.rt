@@ -31,16 +31,8 @@ impl Board {
         ensures memory { IsOkUnless result Panic.NoRoom }
     {
         links.clear(x.len());
-        match self.push_all(x, links) {
-            Ok(()) => {
-                links.reverse();
-                Ok(())
-            }
-            Err(refused) => {
-                links.clear(x.len());
-                Err(refused)
-            }
-        }
+        let put = self.push_listed(x, links);
+        links.ended(put)
     }
 
     // Puts the arcs of `x` behind the others, those by earlier moves first.

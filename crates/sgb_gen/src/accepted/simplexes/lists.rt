@@ -25,13 +25,8 @@ impl Simplex {
     {
         links.clear(x.len());
         let bounds = self.shape.sizes();
-        match push_all(self.directed, bounds, x, links) {
-            Ok(()) => Ok(()),
-            Err(refused) => {
-                links.clear(x.len());
-                Err(refused)
-            }
-        }
+        let put = push_all(self.directed, bounds, x, links);
+        links.ended(put)
     }
 }
 

@@ -28,13 +28,8 @@ impl Subsets {
         ensures memory { IsOkUnless result Panic.NoRoom }
     {
         links.clear(x.len());
-        match self.push_all(x, links) {
-            Ok(()) => Ok(()),
-            Err(refused) => {
-                links.clear(x.len());
-                Err(refused)
-            }
-        }
+        let put = self.push_all(x, links);
+        links.ended(put)
     }
 
     // Puts the arcs of `x` behind the others.

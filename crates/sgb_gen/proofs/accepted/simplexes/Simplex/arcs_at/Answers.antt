@@ -1,30 +1,31 @@
 use Rattle.std.proofs.Common.{◌≡◌, ◌++◌, length, sym, ap, ◌∙◌, arith}
 use Rattle.sgb_gen.specs.inner.LocalSimplexes.{arcs_by_pairs}
+use Rattle.sgb_gen.proofs.EndedLists.{list_ended}
 use Rattle.sgb_gen.proofs.SimplexEvents.{length_in_sum}
 use Rattle.sgb_gen.proofs.SimplexLists.{list_by_pairs}
 use Rattle.sgb_gen.proofs.accepted.simplexes.Simplex.arcs_at.Goals as goal
 
-pub push_all-requires-clause-few : goal.push_all-requires-clause-few
-push_all-requires-clause-few c =
+pub push_all-put-requires-clause-few : goal.push_all-put-requires-clause-few
+push_all-put-requires-clause-few c =
     let s = c.args.self.now in
     omega (arith, length_in_sum s c.args.x.now c.requires, ap (λ d. length d.sum.bounds) c.self.view_is, c.self.invariant.1.dimensions)
 
-pub push_all-requires-clause-bounds : goal.push_all-requires-clause-bounds
-push_all-requires-clause-bounds c =
+pub push_all-put-requires-clause-bounds : goal.push_all-put-requires-clause-bounds
+push_all-put-requires-clause-bounds c =
     let s = c.args.self.now in
     let sizes : c.sizes-bounds.result.now ≡ s.sum.bounds = c.sizes-bounds.ensures ∙ c.self.invariant.0 ∙ ap (λ d. d.sum.bounds) c.self.view_is in
     length_in_sum s c.args.x.now c.requires ∙ sym (ap length sizes)
 
-pub push_all-requires-clause-width : goal.push_all-requires-clause-width
-push_all-requires-clause-width c = sym (ap (λ d. d.width) c.clear.ensures)
+pub push_all-put-requires-clause-width : goal.push_all-put-requires-clause-width
+push_all-put-requires-clause-width c = sym (ap (λ d. d.width) c.clear.ensures)
 
-pub returns-in-Ok-clause-ok : goal.returns-in-Ok-clause-ok
-returns-in-Ok-clause-ok c =
+pub returns-clause-ok : goal.returns-clause-ok
+returns-clause-ok c =
     let s = c.args.self.now in
     let x = c.args.x.now in
     let sizes : c.sizes-bounds.result.now ≡ s.sum.bounds = c.sizes-bounds.ensures ∙ c.self.invariant.0 ∙ ap (λ d. d.sum.bounds) c.self.view_is in
-    ap (λ d. d.arcs) c.in-Ok.ensures.ok
-    ∙ ap (λ d. d.arcs ++ arcs_by_pairs c.self.inside.directed c.sizes-bounds.result.now x) c.clear.ensures
+    list_ended _ _ _ _ _ _ c.ended.ensures.result c.push_all-put.ensures.ok c.ended.ensures.ok
+    (ap (λ d. d.arcs ++ arcs_by_pairs c.self.inside.directed c.sizes-bounds.result.now x) c.clear.ensures
     ∙ ap (λ bs. arcs_by_pairs c.self.inside.directed bs x) sizes
     ∙ ap (λ d. arcs_by_pairs d.directed s.sum.bounds x) c.self.view_is
-    ∙ sym (list_by_pairs s x c.requires)
+    ∙ sym (list_by_pairs s x c.requires))
