@@ -55,6 +55,8 @@ pub mod LaidLines
 -- bytes put on lines, and pieces laid out
 pub mod PlacedPieces
 pub mod PlainFields
+-- arc records that are one line
+pub mod ArcLines
 pub mod FewDigits
 -- the first bytes of a full line, and the last one
 pub mod FullLines

@@ -1,6 +1,7 @@
 //! The records of a `.gb` file (GB_SAVE, restore_graph).
-ghost use Rattle.std.specs.Prelude.{◌≡◌, length};
-ghost use Rattle.sgb_graph.specs.Sound.{graph_kinds};
+ghost use Rattle.std.specs.Prelude.{◌≡◌, ◌∷◌, [], IfSome, None, Some, length, true};
+ghost use Rattle.sgb_graph.specs.Sound.{arc_kinds, graph_kinds};
+ghost use Rattle.sgb_graph.specs.declared.fields.Kind.TheVariants.{Z};
 ghost use Rattle.sgb_file.specs.inner.Found.{IsFoundBy};
 ghost use Rattle.sgb_file.specs.inner.LinesLeft.{text_left};
 ghost use Rattle.sgb_file.specs.Records.{arc_record_at, graph_record_at, more_fields_at, vertex_record_at};
@@ -11,6 +12,7 @@ use super::fields::{
 };
 use super::heads::{Counts, Head};
 use super::lines::Lines;
+use super::plain::arc_of_line;
 use super::separators::{end_record, pass_comma};
 use super::strings::{read_id, read_text};
 use sgb_graph::{ArcRec, Kind, Parts, Util, Vertex};
@@ -50,6 +52,7 @@ fn read_graph_fields(alloc: Global, head: &Head, lines: &mut Lines<'_>) -> Resul
 }
 
 // The record of a vertex.
+#[inline(never)]
 pub(super) fn read_vertex(
     alloc: Global,
     head: &Head,
@@ -67,7 +70,51 @@ pub(super) fn read_vertex(
 }
 
 // An arc record. Without strings in it, it takes no memory.
+#[inline(never)]
 pub(super) fn read_arc(alloc: Global, head: &Head, lines: &mut Lines<'_>) -> Result<ArcRec, Panic>
+    ensures found { IsFoundBy (arc_record_at head.now (text_left lines.old)) result
+        (text_left lines.new) }
+    ensures all { lines.new.all ≡ lines.old.all }
+{
+    if let Some(arc) = read_plain_arc(head, lines) {
+        return Ok(arc);
+    }
+    read_any_arc(alloc, head, lines)
+}
+
+// The arc record that stands next, where it is one line with no utility fields; or none, and then no line was passed.
+#[inline(always)]
+fn read_plain_arc(head: &Head, lines: &mut Lines<'_>) -> Option<ArcRec>
+    ensures found { IfSome result (λ arc. arc_record_at head.now (text_left lines.old)
+        ≡ Some (record { value = arc; rest = text_left lines.new })) }
+    ensures none { result ≡ None → lines.new ≡ lines.old }
+    ensures all { lines.new.all ≡ lines.old.all }
+{
+    if !are_arcs_plain(head) {
+        return None;
+    }
+    let line = lines.line()?;
+    let (tip, next, len) = arc_of_line(&head.counts, line)?;
+    lines.next_line();
+    Some(ArcRec {
+        tip,
+        next,
+        len,
+        a: Util::Nothing,
+        b: Util::Nothing,
+    })
+}
+
+// Whether arc records have no utility fields.
+fn are_arcs_plain(head: &Head) -> bool
+    ensures { result ≡ true → arc_kinds head.now.kinds ≡ Z ∷ Z ∷ [] }
+{
+    !is_used(head.kinds[6]) && !is_used(head.kinds[7])
+}
+
+// Any arc record, field by field.
+#[inline(never)]
+fn read_any_arc(alloc: Global, head: &Head, lines: &mut Lines<'_>) -> Result<ArcRec, Panic>
     ensures found { IsFoundBy (arc_record_at head.now (text_left lines.old)) result
         (text_left lines.new) }
     ensures all { lines.new.all ≡ lines.old.all }
