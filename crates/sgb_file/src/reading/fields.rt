@@ -47,6 +47,9 @@ pub(super) fn read_field_after_comma(
     ensures all { lines.new.all ≡ lines.old.all }
 {
     pass_comma(lines)?;
+    if let Kind::I = kind {
+        return Ok(Util::Int(read_integer(lines)?));
+    }
     read_field(alloc, counts, kind, lines)
 }
 
@@ -58,6 +61,7 @@ pub(super) fn is_used(kind: Kind) -> bool
 }
 
 // The value of the field of this kind that stands next.
+#[inline(never)]
 pub(super) fn read_field(
     alloc: Global,
     counts: &Counts,

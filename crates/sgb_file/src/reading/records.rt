@@ -1,9 +1,10 @@
 //! The records of a `.gb` file (GB_SAVE, restore_graph).
-ghost use Rattle.std.specs.Prelude.{◌≡◌, ◌∷◌, [], IfSome, None, Some, length, true};
+ghost use Rattle.std.specs.Prelude.{◌≡◌, ◌∷◌, [], Err, IfErr, IfSome, None, OnOk, Some, length, true};
 ghost use Rattle.sgb_graph.specs.Sound.{arc_kinds, graph_kinds};
 ghost use Rattle.sgb_graph.specs.declared.fields.Kind.TheVariants.{Z};
 ghost use Rattle.sgb_file.specs.inner.Found.{IsFoundBy};
 ghost use Rattle.sgb_file.specs.inner.LinesLeft.{text_left};
+ghost use Rattle.sgb_file.specs.inner.Reading.{IsNextVertex};
 ghost use Rattle.sgb_file.specs.Records.{arc_record_at, graph_record_at, more_fields_at, vertex_record_at};
 
 use super::fields::{
@@ -51,22 +52,30 @@ fn read_graph_fields(alloc: Global, head: &Head, lines: &mut Lines<'_>) -> Resul
     read_fields(alloc, &head.counts, &head.kinds[8..], lines)
 }
 
-// The record of a vertex.
+// The record of a vertex, which is put after those that the parts have.
 #[inline(never)]
 pub(super) fn read_vertex(
     alloc: Global,
     head: &Head,
     lines: &mut Lines<'_>,
-) -> Result<Vertex, Panic>
-    ensures found { IsFoundBy (vertex_record_at head.now (text_left lines.old)) result
-        (text_left lines.new) }
+    parts: &mut Parts,
+) -> Result<(), Panic>
+    ensures ok { OnOk result (IsNextVertex head.now (text_left lines.old) parts.old parts.new
+        (text_left lines.new)) }
+    ensures err { IfErr result (λ error. IsFoundBy (vertex_record_at head.now
+        (text_left lines.old)) (Err error) (text_left lines.new)) }
     ensures all { lines.new.all ≡ lines.old.all }
 {
     let name = read_text(alloc, lines)?;
     pass_comma(lines)?;
     let arcs = read_record_number(&head.counts, lines)?;
-    let util = read_fields(alloc, &head.counts, &head.kinds[..6], lines)?;
-    Ok(Vertex { name, arcs, util })
+    match read_fields(alloc, &head.counts, &head.kinds[..6], lines) {
+        Ok(util) => {
+            parts.add_vertex(Vertex { name, arcs, util })?;
+            Ok(())
+        }
+        Err(error) => Err(error),
+    }
 }
 
 // An arc record. Without strings in it, it takes no memory.

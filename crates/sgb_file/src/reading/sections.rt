@@ -56,8 +56,7 @@ fn read_vertices(
     ensures all { lines.new.all ≡ lines.old.all }
 {
     for _v in 0..head.counts.vertices {
-        let vertex = read_vertex(alloc, head, lines)?;
-        parts.add_vertex(vertex)?;
+        read_vertex(alloc, head, lines, &mut parts)?;
     }
     Ok(parts)
 }
