@@ -1,5 +1,5 @@
 //! What the bytes before the first comma of a line say, and how many they are (GB_SAVE, fill_field).
-ghost use Rattle.std.specs.Prelude.{◌≡◌, ◌≤◌, ◌<◌, ◌==◌, ◌^◌, ◌∷◌, drop, length, IfSome, IsTrue, option_map};
+ghost use Rattle.std.specs.Prelude.{◌≡◌, ◌≤◌, ◌<◌, ◌==◌, ◌^◌, ◌+◌, ◌∷◌, drop, length, nat_le, true, IfSome, IsTrue, option_map};
 ghost use Rattle.std.specs.List.{before_first, position, take_while};
 ghost use Rattle.std.specs.Str.Parse.{digits_value};
 ghost use Rattle.sgb_file.specs.Fields.{integer_of, is_decimal_digit, most_number_digits, number_below, number_of, record_number_of, ref_of};
@@ -8,7 +8,7 @@ ghost use Rattle.sgb_file.specs.inner.ArcLines.{IsArcLine};
 ghost use Rattle.sgb_file.specs.inner.LinesLeft.{has_no_newline};
 
 use super::heads::Counts;
-use super::numbers::{MOST_NUMBER_DIGITS, integer_of, is_digit, record_number_of, ref_of};
+use super::numbers::{MOST_NUMBER_DIGITS, integer_of, record_number_of, ref_of};
 use sgb_graph::Ref;
 
 // The tip, the next record and the length of an arc record that is one line with no utility fields; or none, which says
@@ -150,13 +150,21 @@ fn first_digits(text: &[u8]) -> (u64, usize)
 {
     let mut value = 0;
     for place in 0..text.len() {
-        let byte = text[place];
-        if !is_digit(byte) {
+        let digit = digit_of(text[place]);
+        if digit > 9 {
             return (value, place);
         }
-        value = 10 * value + (u64::from(byte) - 48);
+        value = 10 * value + digit;
     }
     (value, text.len())
+}
+
+// The digit that a byte is, or else a number above 9.
+fn digit_of(byte: u8) -> u64
+    ensures digit { nat_le result 9 ≡ is_decimal_digit byte }
+    ensures value { is_decimal_digit byte ≡ true → result + 48 ≡ byte }
+{
+    u64::from(byte).wrapping_sub(48)
 }
 
 // The bytes before the first comma, or all.
