@@ -5,11 +5,10 @@ use Rattle.std.proofs.lemmas.Bool.{and_parts}
 use Rattle.std.proofs.lemmas.List.{drop-append-le, drop_all}
 use Rattle.sgb_graph.specs.declared.fields.Ref.{Ref}
 use Rattle.sgb_graph.specs.declared.fields.Kind.TheVariants.{Z}
-use Rattle.sgb_graph.specs.declared.fields.Util.TheVariants.{Nothing}
 use Rattle.sgb_graph.specs.Sound.{arc_kinds}
 use Rattle.sgb_file.specs.Fields.{Counts, Found, integer_of, plain_at, plain_text, record_number_of, ref_of, after_prefix}
 use Rattle.sgb_file.specs.Records.{Head, after_comma, arc_record_at}
-use Rattle.sgb_file.specs.inner.ArcLines.{IsArcLine}
+use Rattle.sgb_file.specs.inner.ArcLines.{IsArcLine, plain_record}
 use Rattle.sgb_file.specs.inner.LinesLeft.{LinesLeft, has_no_newline, next_begun, text_left}
 use Rattle.sgb_file.specs.FileLines.{text_of_lines}
 use Rattle.sgb_file.proofs.FoundSteps.{arc_steps}
@@ -49,17 +48,17 @@ some_integer (b ∷ line) x e = omega arith
 -- the arc record of the line under way
 pub plain_arc_read : (head : Head) (s : LinesLeft) (line : List ℕ) (tip : Ref) (next : Option ℕ) (len : ℤ) → Some line ≡ s.line → arc_kinds head.kinds ≡ Z ∷ Z ∷ []
     → IsArcLine head.counts line tip next len
-    → arc_record_at head (text_left s) ≡ Some (record { value = record { tip = tip; next = next; len = len; a = Nothing; b = Nothing }; rest = text_left (next_begun s) })
+    → arc_record_at head (text_left s) ≡ Some (record { value = plain_record tip next len; rest = text_left (next_begun s) })
 plain_arc_read head s line tip next len e kinds is =
     ap (arc_record_at head) (under_way s line e) ∙ is head (text_of_lines s.others) refl kinds
-    ∙ ap (λ (t : List ℕ). Some (record { value = record { tip = tip; next = next; len = len; a = Nothing; b = Nothing }; rest = t })) (sym (next_left s))
+    ∙ ap (λ (t : List ℕ). Some (record { value = plain_record tip next len; rest = t })) (sym (next_left s))
 
 -- an arc record with no utility fields, of what is found one after another
 arc_found : (head : Head) (t0 t1 t2 t3 t4 t5 left : List ℕ) (tip : Ref) (next : Option ℕ) (len : ℤ) → arc_kinds head.kinds ≡ Z ∷ Z ∷ []
     → plain_at (ref_of head.counts.vertices) t0 ≡ Some (record { value = tip; rest = t1 }) → after_comma t1 ≡ Some t2
     → plain_at (record_number_of head.counts.arcs) t2 ≡ Some (record { value = next; rest = t3 }) → after_comma t3 ≡ Some t4
     → plain_at integer_of t4 ≡ Some (record { value = len; rest = t5 }) → after_prefix (codes "\n") t5 ≡ Some left
-    → arc_record_at head t0 ≡ Some (record { value = record { tip = tip; next = next; len = len; a = Nothing; b = Nothing }; rest = left })
+    → arc_record_at head t0 ≡ Some (record { value = plain_record tip next len; rest = left })
 arc_found head t0 t1 t2 t3 t4 t5 left tip next len kinds a b c d e f =
     arc_steps head Z Z t0 kinds ∙ rw a (rw b (rw c (rw d (rw e (rw f refl)))))
 

@@ -1,7 +1,7 @@
 -- Parts with the vertices or the arc records that a text begins with.
 use Rattle.std.specs.Prelude.{◌≡◌, ◌++◌, ℕ, List, Option, Some}
 use Rattle.sgb_graph.specs.Graphs.{GraphData}
-use Rattle.sgb_graph.specs.Parts.{with_vertex}
+use Rattle.sgb_graph.specs.Parts.{with_record, with_vertex}
 use Rattle.sgb_graph.specs.declared.fields.Vertex.{Vertex}
 use Rattle.sgb_graph.specs.declared.fields.ArcRec.{ArcRec}
 use Rattle.sgb_file.specs.Fields.{Found, found_as}
@@ -26,3 +26,8 @@ arcs_at head parts n text = found_as (with_records parts) (all_at (arc_record_at
 abbrev pub IsNextVertex : Head → List ℕ → GraphData → GraphData → List ℕ → Type 0
 IsNextVertex head text before after left =
     (x : Vertex) × (vertex_record_at head text ≡ Some (record { value = x; rest = left })) × (after ≡ with_vertex x before)
+
+-- the same of an arc's record
+abbrev pub IsNextArc : Head → List ℕ → GraphData → GraphData → List ℕ → Type 0
+IsNextArc head text before after left =
+    (x : ArcRec) × (arc_record_at head text ≡ Some (record { value = x; rest = left })) × (after ≡ with_record x before)

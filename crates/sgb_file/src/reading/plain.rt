@@ -13,7 +13,7 @@ use sgb_graph::Ref;
 
 // The tip, the next record and the length of an arc record that is one line with no utility fields; or none, which says
 // nothing of the line.
-#[inline(always)]
+#[inline(never)]
 pub(super) fn arc_of_line(counts: &Counts, line: &[u8]) -> Option<(Ref, Option<usize>, i64)>
     requires { IsTrue (has_no_newline line.now) }
     ensures { IfSome result (λ x. IsArcLine counts.now line.now x.0 x.1 x.2) }

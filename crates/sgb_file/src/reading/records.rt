@@ -4,7 +4,8 @@ ghost use Rattle.sgb_graph.specs.Sound.{arc_kinds, graph_kinds};
 ghost use Rattle.sgb_graph.specs.declared.fields.Kind.TheVariants.{Z};
 ghost use Rattle.sgb_file.specs.inner.Found.{IsFoundBy};
 ghost use Rattle.sgb_file.specs.inner.LinesLeft.{text_left};
-ghost use Rattle.sgb_file.specs.inner.Reading.{IsNextVertex};
+ghost use Rattle.sgb_file.specs.inner.ArcLines.{plain_record};
+ghost use Rattle.sgb_file.specs.inner.Reading.{IsNextArc, IsNextVertex};
 ghost use Rattle.sgb_file.specs.Records.{arc_record_at, graph_record_at, more_fields_at, vertex_record_at};
 
 use super::fields::{
@@ -16,7 +17,7 @@ use super::lines::Lines;
 use super::plain::arc_of_line;
 use super::separators::{end_record, pass_comma};
 use super::strings::{read_id, read_text};
-use sgb_graph::{ArcRec, Kind, Parts, Util, Vertex};
+use sgb_graph::{ArcRec, Kind, Parts, Ref, Util, Vertex};
 use sgb_vec::Panic;
 use std::alloc::Global;
 
@@ -78,24 +79,39 @@ pub(super) fn read_vertex(
     }
 }
 
-// An arc record. Without strings in it, it takes no memory.
-#[inline(never)]
-pub(super) fn read_arc(alloc: Global, head: &Head, lines: &mut Lines<'_>) -> Result<ArcRec, Panic>
-    ensures found { IsFoundBy (arc_record_at head.now (text_left lines.old)) result
-        (text_left lines.new) }
+// An arc record, which is put after those that the parts have. Without strings in it, it takes no memory of its own.
+#[inline(always)]
+pub(super) fn read_arc(
+    alloc: Global,
+    head: &Head,
+    lines: &mut Lines<'_>,
+    parts: &mut Parts,
+) -> Result<(), Panic>
+    ensures ok { OnOk result (IsNextArc head.now (text_left lines.old) parts.old parts.new
+        (text_left lines.new)) }
+    ensures err { IfErr result (λ error. IsFoundBy (arc_record_at head.now
+        (text_left lines.old)) (Err error) (text_left lines.new)) }
     ensures all { lines.new.all ≡ lines.old.all }
 {
-    if let Some(arc) = read_plain_arc(head, lines) {
-        return Ok(arc);
-    }
-    read_any_arc(alloc, head, lines)
+    let Some((tip, next, len)) = read_plain_arc(head, lines) else {
+        return read_any_arc(alloc, head, lines, parts);
+    };
+    parts.add_arc(ArcRec {
+        tip,
+        next,
+        len,
+        a: Util::Nothing,
+        b: Util::Nothing,
+    })?;
+    Ok(())
 }
 
-// The arc record that stands next, where it is one line with no utility fields; or none, and then no line was passed.
+// The tip, the next record and the length of the arc record that stands next, where it is one line with no utility fields;
+// or none, and then no line was passed.
 #[inline(always)]
-fn read_plain_arc(head: &Head, lines: &mut Lines<'_>) -> Option<ArcRec>
-    ensures found { IfSome result (λ arc. arc_record_at head.now (text_left lines.old)
-        ≡ Some (record { value = arc; rest = text_left lines.new })) }
+fn read_plain_arc(head: &Head, lines: &mut Lines<'_>) -> Option<(Ref, Option<usize>, i64)>
+    ensures found { IfSome result (λ x. arc_record_at head.now (text_left lines.old)
+        ≡ Some (record { value = plain_record x.0 x.1 x.2; rest = text_left lines.new })) }
     ensures none { result ≡ None → lines.new ≡ lines.old }
     ensures all { lines.new.all ≡ lines.old.all }
 {
@@ -103,15 +119,9 @@ fn read_plain_arc(head: &Head, lines: &mut Lines<'_>) -> Option<ArcRec>
         return None;
     }
     let line = lines.line()?;
-    let (tip, next, len) = arc_of_line(&head.counts, line)?;
+    let arc = arc_of_line(&head.counts, line)?;
     lines.next_line();
-    Some(ArcRec {
-        tip,
-        next,
-        len,
-        a: Util::Nothing,
-        b: Util::Nothing,
-    })
+    Some(arc)
 }
 
 // Whether arc records have no utility fields.
@@ -121,9 +131,27 @@ fn are_arcs_plain(head: &Head) -> bool
     !is_used(head.kinds[6]) && !is_used(head.kinds[7])
 }
 
-// Any arc record, field by field.
+// The same of any arc record, field by field.
 #[inline(never)]
-fn read_any_arc(alloc: Global, head: &Head, lines: &mut Lines<'_>) -> Result<ArcRec, Panic>
+fn read_any_arc(
+    alloc: Global,
+    head: &Head,
+    lines: &mut Lines<'_>,
+    parts: &mut Parts,
+) -> Result<(), Panic>
+    ensures ok { OnOk result (IsNextArc head.now (text_left lines.old) parts.old parts.new
+        (text_left lines.new)) }
+    ensures err { IfErr result (λ error. IsFoundBy (arc_record_at head.now
+        (text_left lines.old)) (Err error) (text_left lines.new)) }
+    ensures all { lines.new.all ≡ lines.old.all }
+{
+    let arc = read_arc_fields(alloc, head, lines)?;
+    parts.add_arc(arc)?;
+    Ok(())
+}
+
+// The fields of an arc record.
+fn read_arc_fields(alloc: Global, head: &Head, lines: &mut Lines<'_>) -> Result<ArcRec, Panic>
     ensures found { IsFoundBy (arc_record_at head.now (text_left lines.old)) result
         (text_left lines.new) }
     ensures all { lines.new.all ≡ lines.old.all }

@@ -62,6 +62,7 @@ fn read_vertices(
 }
 
 // The parts with the arc records of the file after those that they have.
+#[inline(never)]
 fn read_arcs(
     alloc: Global,
     head: &Head,
@@ -73,8 +74,7 @@ fn read_arcs(
     ensures all { lines.new.all ≡ lines.old.all }
 {
     for _k in 0..head.counts.arcs {
-        let arc = read_arc(alloc, head, lines)?;
-        parts.add_arc(arc)?;
+        read_arc(alloc, head, lines, &mut parts)?;
     }
     Ok(parts)
 }

@@ -25,8 +25,8 @@ returns-in-Err-clause-err c =
 
 pub returns-in_ok-add_vertex-in-Ok-clause-ok : goal.returns-in_ok-add_vertex-in-Ok-clause-ok
 returns-in_ok-add_vertex-in-Ok-clause-ok c = (
-    record { name = c.in_ok-name.name; arcs = c.in_ok-arcs.arcs; util = c.in-Ok.util },
-    vertex_found c.args.head.now (text_left c.args.lines.now) (text_left c.read_text.new.lines) (text_left c.pass_comma.new.lines) (text_left c.read_record_number.new.lines) (text_left c.read_fields.new.lines)
-        c.in_ok-name.name c.in_ok-arcs.arcs c.in-Ok.util c.in_ok-name.ensures.found c.in_ok-pass_comma.ensures.passed (search rules) (search rules),
-    search rules,
-  )
+  record { name = c.in_ok-name.name; arcs = c.in_ok-arcs.arcs; util = c.in-Ok.util },
+  vertex_found c.args.head.now (text_left c.args.lines.now) (text_left c.read_text.new.lines) (text_left c.pass_comma.new.lines) (text_left c.read_record_number.new.lines) (text_left c.read_fields.new.lines)
+      c.in_ok-name.name c.in_ok-arcs.arcs c.in-Ok.util c.in_ok-name.ensures.found c.in_ok-pass_comma.ensures.passed (search rules) (search rules),
+  search rules,
+)
