@@ -47,10 +47,18 @@ pub(super) fn read_field_after_comma(
     ensures all { lines.new.all ≡ lines.old.all }
 {
     pass_comma(lines)?;
-    if let Kind::I = kind {
-        return Ok(Util::Int(read_integer(lines)?));
-    }
     read_field(alloc, counts, kind, lines)
+}
+
+// The integer that stands after a comma.
+#[inline(always)]
+pub(super) fn read_integer_after_comma(lines: &mut Lines<'_>) -> Result<i64, Panic>
+    ensures found { IsFoundBy (next_at (plain_at integer_of) (text_left lines.old)) result
+        (text_left lines.new) }
+    ensures all { lines.new.all ≡ lines.old.all }
+{
+    pass_comma(lines)?;
+    read_integer(lines)
 }
 
 // Whether a field of this kind has a text.
@@ -61,7 +69,6 @@ pub(super) fn is_used(kind: Kind) -> bool
 }
 
 // The value of the field of this kind that stands next.
-#[inline(never)]
 pub(super) fn read_field(
     alloc: Global,
     counts: &Counts,

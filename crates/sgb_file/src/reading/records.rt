@@ -9,8 +9,8 @@ ghost use Rattle.sgb_file.specs.inner.Reading.{IsNextArc, IsNextVertex};
 ghost use Rattle.sgb_file.specs.Records.{arc_record_at, graph_record_at, more_fields_at, vertex_record_at};
 
 use super::fields::{
-    is_used, read_field_after_comma, read_integer, read_next_field, read_number,
-    read_record_number, read_ref,
+    is_used, read_field_after_comma, read_integer, read_integer_after_comma, read_next_field,
+    read_number, read_record_number, read_ref,
 };
 use super::heads::{Counts, Head};
 use super::lines::Lines;
@@ -195,6 +195,10 @@ fn read_fields(
     ];
     for place in 0..6 {
         if !is_used(kinds[place]) {
+            continue;
+        }
+        if let Kind::I = kinds[place] {
+            fields[place] = Util::Int(read_integer_after_comma(lines)?);
             continue;
         }
         fields[place] = read_field_after_comma(alloc, counts, kinds[place], lines)?;
