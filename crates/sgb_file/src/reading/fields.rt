@@ -139,6 +139,7 @@ pub(super) fn read_ref(counts: &Counts, lines: &mut Lines<'_>) -> Result<Ref, Pa
 }
 
 // The arc record that stands next, by its number, or none.
+#[inline(always)]
 pub(super) fn read_record_number(
     counts: &Counts,
     lines: &mut Lines<'_>,
