@@ -1,12 +1,12 @@
 -- Arc records that are one line with no utility fields: they are read of the line alone.
-use Rattle.std.specs.Prelude.{◌≡◌, ◌==◌, ◌+◌, ◌≤◌, ◌<◌, ◌++◌, ℕ, ℤ, true, not, List, [], ◌∷◌, length, drop, codes, Option, Some, None, option_map, unwrap_or, refl}
+use Rattle.std.specs.Prelude.{◌≡◌, ◌==◌, ◌≤◌, ◌<◌, ◌++◌, ℕ, ℤ, true, not, List, [], ◌∷◌, length, drop, codes, Option, Some, option_map, unwrap_or, refl}
 use Rattle.std.proofs.Common.{ap, sym, ◌∙◌, subst, arith}
 use Rattle.std.proofs.lemmas.Bool.{and_parts}
 use Rattle.std.proofs.lemmas.List.{drop-append-le, drop_all}
 use Rattle.sgb_graph.specs.declared.fields.Ref.{Ref}
 use Rattle.sgb_graph.specs.declared.fields.Kind.TheVariants.{Z}
 use Rattle.sgb_graph.specs.Sound.{arc_kinds}
-use Rattle.sgb_file.specs.Fields.{Counts, Found, integer_of, plain_at, plain_text, record_number_of, ref_of, after_prefix}
+use Rattle.sgb_file.specs.Fields.{Counts, Found, integer_of, plain_at, record_number_of, ref_of, after_prefix}
 use Rattle.sgb_file.specs.Records.{Head, after_comma, arc_record_at}
 use Rattle.sgb_file.specs.inner.ArcLines.{IsArcLine, plain_record}
 use Rattle.sgb_file.specs.inner.LinesLeft.{LinesLeft, has_no_newline, next_begun, text_left}

@@ -95,7 +95,9 @@ pub(super) fn record_number_before_comma(
         let (k, len) = number_below_before_comma(counts.arcs, digits)?;
         return Some((Some(k as usize), len + 1));
     }
-    if let Some(rest) = line.strip_prefix(b"0") && is_at_end(rest) {
+    if let Some(rest) = line.strip_prefix(b"0")
+        && is_at_end(rest)
+    {
         return Some((None, 1));
     }
     let text = before_comma(line);

@@ -1,4 +1,4 @@
-use Rattle.std.proofs.Common.{ap, ◌∙◌, [], option_map}
+use Rattle.std.proofs.Common.{ap, ◌∙◌, option_map}
 use Rattle.sgb_file.specs.FileLines.{clean_lines}
 use Rattle.sgb_file.proofs.LinesLeftLemmas.{passes_line, passed_line}
 use Rattle.sgb_file.proofs.reading.lines.Lines.next_line.Goals as goal
