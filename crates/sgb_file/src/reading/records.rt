@@ -53,7 +53,8 @@ fn read_graph_fields(alloc: Global, head: &Head, lines: &mut Lines<'_>) -> Resul
     read_fields(alloc, &head.counts, &head.kinds[8..], lines)
 }
 
-// The record of a vertex, which is put after those that the parts have.
+// The record of a vertex, which is put after those that the parts have. The fields are taken by a `match`: a `?` would move
+// the six of them once more.
 #[inline(never)]
 pub(super) fn read_vertex(
     alloc: Global,
