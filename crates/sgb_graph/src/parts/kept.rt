@@ -80,6 +80,7 @@ impl KeptParts {
     }
 
     // Whether a record may be one of a graph of these kinds. No other can be kept.
+    #[inline(always)]
     pub(super) fn takes_record(&self, arc: &ArcRec) -> bool
         ensures { result ≡ record_may_fit self.now.kinds arc.now }
     {
@@ -96,6 +97,7 @@ impl KeptParts {
     }
 
     // Puts a record after the others.
+    #[inline(always)]
     pub(super) fn push_record(&mut self, arc: ArcRec) -> Result<(), AllocError>
         requires { IsTrue (record_may_fit self.old.kinds arc) }
         ensures ok { OnOk result (self.new ≡ with_record arc self.old) }
