@@ -8,7 +8,7 @@ ghost use Rattle.sgb_graph.specs.Sound.{IsGraph, fields_fit, graph_kinds, is_sou
 ghost use Rattle.sgb_graph.specs.inner.Fitting.{record_may_fit, vertex_may_fit};
 
 use super::fitting::{record_fits, utils_fit, vertex_fits};
-use super::walks::{chains_end, lists_lead_to_vertices};
+use super::walks::{chains_end, lead_back, lists_lead_to_vertices};
 use crate::fields::{ArcRec, Kind, Util, Vertex};
 use crate::graphs::Graph;
 use crate::ids::Id;
@@ -180,6 +180,9 @@ impl KeptParts {
         requires fit { IsTrue (fields_fit self.now) }
         ensures { IfOk result (λ b. b ≡ is_sound self.now) }
     {
+        if lead_back(&self.records) {
+            return Ok(true);
+        }
         if !chains_end(self.alloc, &self.records)? {
             return Ok(false);
         }
