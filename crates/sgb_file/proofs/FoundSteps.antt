@@ -1,5 +1,5 @@
 -- Lemmas on readers one after another: a record is read field by field.
-use Rattle.std.specs.Prelude.{◌≡◌, ℕ, zero, ◌+◌, ◌<◌, ◌≤◌, true, false, List, [], ◌∷◌, ◌++◌, length, take, drop, codes, Option, Some, None, Err, option_map, ◌==◌, refl}
+use Rattle.std.specs.Prelude.{◌≡◌, ℕ, ℤ, zero, ◌+◌, ◌<◌, ◌≤◌, true, false, List, [], ◌∷◌, ◌++◌, length, take, drop, codes, Option, Some, None, Err, option_map, ◌==◌, refl}
 use Rattle.std.proofs.Common.{ap, sym, suc, ◌∙◌, append_assoc, append-nil, arith, get_or}
 use Rattle.std.proofs.Common.{set}
 use Rattle.std.proofs.Math.Seq.{drop-cons}
@@ -14,8 +14,8 @@ use Rattle.sgb_graph.specs.Sound.{vertex_kinds, arc_kinds, graph_kinds}
 use Rattle.sgb_graph.specs.declared.fields.Kind.{Kind}
 use Rattle.sgb_graph.specs.declared.fields.Kind.TheVariants.{Z, I, V, S, A}
 use Rattle.sgb_graph.specs.declared.fields.Util.{Util}
-use Rattle.sgb_graph.specs.declared.fields.Util.TheVariants.{Nothing}
-use Rattle.sgb_file.specs.Fields.{Counts, Found, given, found_as, field_at, most_number_digits, number_of, plain_at, string_at, after_prefix}
+use Rattle.sgb_graph.specs.declared.fields.Util.TheVariants.{Int, Nothing}
+use Rattle.sgb_file.specs.Fields.{Counts, Found, given, found_as, field_at, integer_of, most_number_digits, number_of, plain_at, string_at, after_prefix}
 use Rattle.sgb_file.specs.Records.{Head, after_comma, graph_record_at, more_fields_at, record_at, vertex_record_at, vertex_of_fields, arc_record_at, arc_of_fields}
 use Rattle.sgb_file.specs.inner.Found.{IsFoundBy, IsPassedBy, is_used, next_at, next_field_at}
 
@@ -147,6 +147,23 @@ used_at counts kind text e = rw e refl
 
 pub unused_at : (counts : Counts) (kind : Kind) (text : List ℕ) → is_used kind ≡ false → next_field_at counts kind text ≡ Some (record { value = Nothing; rest = text })
 unused_at counts kind text e = rw e refl
+
+-- an integer after a comma is a field of its kind
+int_at : (counts : Counts) (text : List ℕ) → next_field_at counts I text ≡ found_as Int (next_at (plain_at integer_of) text)
+int_at counts text = by_comma (after_comma text) where
+  by_comma : (o : Option (List ℕ)) → given o (λ start. found_as Int (plain_at integer_of start)) ≡ found_as Int (given o (plain_at integer_of))
+  by_comma None = refl
+  by_comma (Some start) = refl
+
+pub int_stops : (counts : Counts) (kind : Kind) (text left : List ℕ) (e : Panic) → kind ≡ I → IsFoundBy (next_at (plain_at integer_of) text) (Err e) left
+    → IsFoundBy {X = Util} (next_field_at counts kind text) (Err e) left
+int_stops counts kind text left e is h =
+    stops (next_at (plain_at integer_of) text) (next_field_at counts kind text) e left left h
+    (λ none. ap (λ (k : Kind). next_field_at counts k text) is ∙ int_at counts text ∙ ap (λ o. found_as Int o) none)
+
+pub int_read : (counts : Counts) (kind : Kind) (text left : List ℕ) (i n : ℤ) → i ≡ n → kind ≡ I → next_at (plain_at integer_of) text ≡ Some (record { value = n; rest = left })
+    → next_field_at counts kind text ≡ Some (record { value = Int i; rest = left })
+int_read counts kind text left i n same is e = rw same (ap (λ (k : Kind). next_field_at counts k text) is ∙ int_at counts text ∙ ap (λ o. found_as Int o) e)
 
 pub field_stops : (counts : Counts) (kinds : List Kind) (i : ℕ) (kind d : Kind) (first : List Util) (whole : Option (Found (List Util))) (text left after : List ℕ) (e : Panic)
     → i < length kinds → kind ≡ get_or kinds i d → whole ≡ with_first first (more_fields_at counts (drop i kinds) text)

@@ -38,6 +38,8 @@ pub mod NumberReading
 pub mod LeftTexts
 -- a record, read field by field in the words of the code
 pub mod FoundSteps
+-- a vertex's record, field by field
+pub mod VertexSteps
 -- strings, read part by part
 pub mod StringReading
 -- the lines of a record are a record of the graph's
@@ -55,6 +57,8 @@ pub mod LaidLines
 -- bytes put on lines, and pieces laid out
 pub mod PlacedPieces
 pub mod PlainFields
+-- arc records that are one line
+pub mod ArcLines
 pub mod FewDigits
 -- the first bytes of a full line, and the last one
 pub mod FullLines

@@ -54,6 +54,13 @@ one_more b text e = rw e (taken true (position_or_len (λ c. c == 44) text) b te
 digit_no_comma : (b : ℕ) → is_decimal_digit b ≡ true → (b == 44) ≡ false
 digit_no_comma b h = grind (arith, nat_tests)
 
+-- a byte is a digit where what it counts is no more than 9
+pub digit_counts : (b d : ℕ) → nat_le d 9 ≡ is_decimal_digit b → d ≤ 9 → is_decimal_digit b ≡ true
+digit_counts b d e h = let few : nat_le d 9 ≡ true = grind (arith, nat_tests) in sym e ∙ few
+
+pub no_digit_counts : (b d : ℕ) → nat_le d 9 ≡ is_decimal_digit b → 9 < d → is_decimal_digit b ≡ false
+no_digit_counts b d e h = let many : nat_le d 9 ≡ false = grind (arith, nat_tests) in sym e ∙ many
+
 -- a digit that stands first, or none
 digit_front : (most b : ℕ) (text : List ℕ) → is_decimal_digit b ≡ true → front (suc most) (b ∷ text) ≡ b ∷ front most text
 digit_front most b text h = take_while-cons is_decimal_digit b (take most text) ∙ rw h refl

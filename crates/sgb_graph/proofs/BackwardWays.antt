@@ -1,12 +1,12 @@
--- Records of which each leads back to an earlier one, and records that all lead to vertices: no way of theirs has to be walked.
-use Rattle.std.proofs.Common.{◌≡◌, ◌<◌, ◌⊎◌, ◌∙◌, ℕ, zero, suc, Bool, true, false, true≢false, List, [], ◌∷◌, length, Option, Some, None, refl, sym, inl, inr, arith}
+-- Records of which each leads back to an earlier one, and leads to a vertex: no way of theirs has to be walked.
+use Rattle.std.proofs.Common.{◌≡◌, ◌<◌, ◌⊎◌, ◌∙◌, ◌&&◌, ℕ, zero, suc, Bool, true, false, true≢false, List, [], ◌∷◌, length, Option, Some, None, refl, sym, inl, inr, arith}
 use Rattle.std.specs.Prelude.{slice_get}
 use Rattle.std.specs.List.{list_all, range_with_len}
 use Rattle.std.specs.Option.{option_map_or}
-use Rattle.std.proofs.lemmas.Bool.{and_from, cases_Bool}
+use Rattle.std.proofs.lemmas.Bool.{and_from, and_parts, cases_Bool}
 use Rattle.std.proofs.lemmas.Bool.Decides.{nat_tests}
-use Rattle.sgb_graph.specs.Graphs.{ends_from, numbers_of}
-use Rattle.sgb_graph.specs.Sound.{chain_fits, chains_end, leads_to_vertex, lists_lead_to_vertices}
+use Rattle.sgb_graph.specs.Graphs.{GraphData, ends_from, numbers_of}
+use Rattle.sgb_graph.specs.Sound.{chain_fits, chains_end, is_sound, is_vertex, leads_to_vertex, lists_lead_to_vertices}
 use Rattle.sgb_graph.specs.inner.Walks.{leads_back, leads_of}
 use Rattle.sgb_graph.specs.declared.fields.ArcRec.{ArcRec}
 use Rattle.sgb_graph.specs.declared.fields.Vertex.{Vertex}
@@ -40,26 +40,39 @@ ends_back records back (suc bound) k low below =
         let earlier = is_below j k fits in
         ends_longer (suc j) k records (Some j) (omega (arith, earlier)) (sooner j earlier)
 
-    by_record : ((j : ℕ) → j < k → ends_from (suc j) records (Some j) ≡ true)
-        → (o : Option ArcRec) → slice_get records k ≡ o → option_map_or (λ (r : ArcRec). chain_fits k r.next) o false ≡ true → ends_from (suc k) records (Some k) ≡ true
+    by_record : ((j : ℕ) → j < k → ends_from (suc j) records (Some j) ≡ true) → (o : Option ArcRec) → slice_get records k ≡ o
+        → option_map_or (λ (r : ArcRec). chain_fits k r.next && is_vertex r.tip) o false ≡ true → ends_from (suc k) records (Some k) ≡ true
     by_record sooner None is fits = absurd cc
-    by_record sooner (Some r) is fits = ends_step k records k r is ∙ by_next sooner r.next fits
+    by_record sooner (Some r) is back = ends_step k records k r is ∙ by_next sooner r.next (and_parts (chain_fits k r.next) (is_vertex r.tip) back).0
 
-pub all_back : (records : List ArcRec) → list_all (leads_back records) (range_with_len 0 (length records)) ≡ true → chains_end records ≡ true
+all_back : (records : List ArcRec) → list_all (leads_back records) (range_with_len 0 (length records)) ≡ true → chains_end records ≡ true
 all_back records all =
     all_end records (λ k below.
     ends_longer (suc k) (length records) records (Some k) (omega (arith, below))
     (ends_back records (λ j there. passed_below (leads_back records) (length records) j all there) (suc k) k (omega arith) below))
 
 -- where each record leads to a vertex, those on a list do
-list_leads : (records : List ArcRec) (first : Option ℕ) → list_all (leads_to_vertex records) (range_with_len 0 (length records)) ≡ true → leads_of records first ≡ true
-list_leads records first all =
-    list_all-weaker (is_record records) (leads_to_vertex records) (numbers_of records first)
-    (λ k is. passed_below (leads_to_vertex records) (length records) k all (record_within records k is))
+list_leads : (records : List ArcRec) (first : Option ℕ) → ((k : ℕ) → k < length records → leads_to_vertex records k ≡ true) → leads_of records first ≡ true
+list_leads records first each =
+    list_all-weaker (is_record records) (leads_to_vertex records) (numbers_of records first) (λ k is. each k (record_within records k is))
     (numbers_are_records (length records) records first)
 
-pub all_lead : (vertices : List Vertex) (records : List ArcRec) → list_all (leads_to_vertex records) (range_with_len 0 (length records)) ≡ true
+all_lead : (vertices : List Vertex) (records : List ArcRec) → ((k : ℕ) → k < length records → leads_to_vertex records k ≡ true)
     → lists_lead_to_vertices vertices records ≡ true
-all_lead [] records all = refl
-all_lead (v ∷ vertices) records all =
-    and_from (leads_of records v.arcs) (lists_lead_to_vertices vertices records) (list_leads records v.arcs all) (all_lead vertices records all)
+all_lead [] records each = refl
+all_lead (v ∷ vertices) records each =
+    and_from (leads_of records v.arcs) (lists_lead_to_vertices vertices records) (list_leads records v.arcs each) (all_lead vertices records each)
+
+-- of a record that leads back, where it leads
+record_leads : (records : List ArcRec) (k : ℕ) → leads_back records k ≡ true → leads_to_vertex records k ≡ true
+record_leads records k back = by_record (slice_get records k) back
+  where
+    by_record : (o : Option ArcRec) → option_map_or (λ (r : ArcRec). chain_fits k r.next && is_vertex r.tip) o false ≡ true → option_map_or (λ (r : ArcRec). is_vertex r.tip) o false ≡ true
+    by_record None b = b
+    by_record (Some r) b = (and_parts (chain_fits k r.next) (is_vertex r.tip) b).1
+
+-- records that lead back are sound lists, whatever vertices there are
+pub back_is_sound : (g : GraphData) → list_all (leads_back g.records) (range_with_len 0 (length g.records)) ≡ true → is_sound g ≡ true
+back_is_sound g all =
+    and_from (chains_end g.records) (lists_lead_to_vertices g.vertices g.records) (all_back g.records all)
+    (all_lead g.vertices g.records (λ k below. record_leads g.records k (passed_below (leads_back g.records) (length g.records) k all below)))

@@ -51,7 +51,7 @@ pub mod KeptVertices
 pub mod ListMembers
 -- places of lists, and tests that each element passes
 pub mod Lists
--- records that lead back, and records that all lead to vertices
+-- records that lead back, and lead to vertices
 pub mod BackwardWays
 -- walks along chains, and the marks that they set
 pub mod MarkedWays

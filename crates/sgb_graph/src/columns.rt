@@ -50,6 +50,7 @@ impl Column {
     }
 
     // Takes room for one value more. The values stay, whether there is room or not.
+    #[inline(always)]
     pub(crate) fn reserve(&mut self) -> Result<(), AllocError>
         ensures kind { column_kind self.new ≡ column_kind self.old }
         ensures values { (n : ℕ) → values n self.new ≡ values n self.old }
@@ -66,6 +67,7 @@ impl Column {
     }
 
     // Puts a value of the column's kind after the others, for which there is room. It takes no memory.
+    #[inline(always)]
     pub(crate) fn push(&mut self, value: Util)
         requires kind { util_kind value ≡ column_kind self.old }
         requires room { HasRoom self.old }

@@ -77,6 +77,7 @@ impl Parts {
     /// Puts an arc record after the others (GB_SAVE, restore_graph).
     ///
     /// `NoRoom` when out of memory, and nothing else; the parts are then as they were, and the record is dropped.
+    #[inline(always)]
     pub fn add_arc(&mut self, arc: ArcRec) -> Result<(), Panic>
         ensures ok { OnOk result (self.new ≡ with_record arc self.old) }
         ensures err { OnErr result (self.new ≡ self.old) }

@@ -128,6 +128,7 @@ impl Records {
     }
 
     // Puts a record, whose utility fields are of the kinds here, after the others.
+    #[inline(always)]
     pub(crate) fn push(&mut self, arc: ArcRec) -> Result<(), AllocError>
         requires kinds { (util_kind arc.a ≡ self.old.a) × (util_kind arc.b ≡ self.old.b) }
         requires next { IfSome arc.next (λ k. k + 1 < 2 ^ 64) }

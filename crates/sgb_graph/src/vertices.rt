@@ -265,6 +265,7 @@ impl Numbers {
 
     // Puts a value of the field's kind after the others, for which there is room, or hands out the integer that the
     // vertex is to have. It takes no memory.
+    #[inline(always)]
     fn push(&mut self, value: Util) -> i64
         requires kind { util_kind value ≡ numbers_kind self.old }
         requires room { HasNumberRoom self.old }

@@ -50,6 +50,17 @@ pub(super) fn read_field_after_comma(
     read_field(alloc, counts, kind, lines)
 }
 
+// The integer that stands after a comma.
+#[inline(always)]
+pub(super) fn read_integer_after_comma(lines: &mut Lines<'_>) -> Result<i64, Panic>
+    ensures found { IsFoundBy (next_at (plain_at integer_of) (text_left lines.old)) result
+        (text_left lines.new) }
+    ensures all { lines.new.all ≡ lines.old.all }
+{
+    pass_comma(lines)?;
+    read_integer(lines)
+}
+
 // Whether a field of this kind has a text.
 pub(super) fn is_used(kind: Kind) -> bool
     ensures { result ≡ is_used kind }
@@ -128,6 +139,7 @@ pub(super) fn read_ref(counts: &Counts, lines: &mut Lines<'_>) -> Result<Ref, Pa
 }
 
 // The arc record that stands next, by its number, or none.
+#[inline(always)]
 pub(super) fn read_record_number(
     counts: &Counts,
     lines: &mut Lines<'_>,

@@ -82,9 +82,9 @@ impl<'a> Lines<'a> {
         }
     }
 
-    // Ends the line under way, of which nothing may be left, and begins the next one.
+    // Ends the line under way, also where something is left of it, and begins the next one.
     pub(super) fn next_line(&mut self)
-        requires { self.old.line ≡ Some [] }
+        requires { (line : List ℕ) × (self.old.line ≡ Some line) }
         ensures { self.new ≡ next_begun self.old }
     {
         let sum = checksum_after_line(self.sum, self.begun);

@@ -41,7 +41,7 @@ fn value_if_digits(text: &[u8]) -> Option<u64>
 }
 
 // Whether the byte is a decimal digit.
-pub(super) fn is_digit(byte: u8) -> bool
+fn is_digit(byte: u8) -> bool
     ensures { result ≡ is_decimal_digit byte }
 {
     b'0' <= byte && byte <= b'9'

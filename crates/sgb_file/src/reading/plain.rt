@@ -1,18 +1,50 @@
 //! What the bytes before the first comma of a line say, and how many they are (GB_SAVE, fill_field).
-ghost use Rattle.std.specs.Prelude.{◌≡◌, ◌≤◌, ◌<◌, ◌==◌, ◌^◌, length, IfSome, option_map};
+ghost use Rattle.std.specs.Prelude.{◌≡◌, ◌≤◌, ◌<◌, ◌==◌, ◌^◌, ◌+◌, ◌∷◌, drop, length, nat_le, true, IfSome, IsTrue, option_map};
 ghost use Rattle.std.specs.List.{before_first, position, take_while};
 ghost use Rattle.std.specs.Str.Parse.{digits_value};
 ghost use Rattle.sgb_file.specs.Fields.{integer_of, is_decimal_digit, most_number_digits, number_below, number_of, record_number_of, ref_of};
 ghost use Rattle.sgb_file.specs.inner.Found.{is_at_end};
+ghost use Rattle.sgb_file.specs.inner.ArcLines.{IsArcLine};
+ghost use Rattle.sgb_file.specs.inner.LinesLeft.{has_no_newline};
 
 use super::heads::Counts;
-use super::numbers::{MOST_NUMBER_DIGITS, integer_of, is_digit, record_number_of, ref_of};
+use super::numbers::{MOST_NUMBER_DIGITS, integer_of, record_number_of, ref_of};
 use sgb_graph::Ref;
+
+// The tip, the next record and the length of an arc record that is one line with no utility fields; or none, which says
+// nothing of the line.
+#[inline(never)]
+pub(super) fn arc_of_line(counts: &Counts, line: &[u8]) -> Option<(Ref, Option<usize>, i64)>
+    requires { IsTrue (has_no_newline line.now) }
+    ensures { IfSome result (λ x. IsArcLine counts.now line.now x.0 x.1 x.2) }
+{
+    let (tip, tip_end) = ref_before_comma(counts, line)?;
+    let second = after_comma(line, tip_end)?;
+    let (next, next_end) = record_number_before_comma(counts, second)?;
+    let third = after_comma(second, next_end)?;
+    let (len, end) = integer_before_comma(third)?;
+    if end < third.len() {
+        return None;
+    }
+    Some((tip, next, len))
+}
+
+// What follows a comma at this place of a text.
+#[inline(always)]
+fn after_comma(text: &[u8], place: usize) -> Option<&[u8]>
+    ensures { IfSome result (λ rest. drop place text.now ≡ 44 ∷ rest.now) }
+{
+    if place >= text.len() || text[place] != b',' {
+        return None;
+    }
+    Some(&text[place + 1..])
+}
 
 // The integer of 64 bits that the bytes before the first comma write, and how many they are.
 #[inline(always)]
 pub(super) fn integer_before_comma(line: &[u8]) -> Option<(i64, usize)>
-    ensures value { option_map (λ x. x.0) result ≡ integer_of (before_first (λ b. b == 44) line.now) }
+    ensures value { option_map (λ x. x.0) result ≡ integer_of
+        (before_first (λ b. b == 44) line.now) }
     ensures len { IfSome result (λ x. x.1 ≡ length (before_first (λ b. b == 44) line.now)) }
 {
     match number_before_comma(line) {
@@ -24,7 +56,8 @@ pub(super) fn integer_before_comma(line: &[u8]) -> Option<(i64, usize)>
 // The same of any integer, with a `-` or with more than 18 digits too.
 #[inline(never)]
 fn other_integer_before_comma(line: &[u8]) -> Option<(i64, usize)>
-    ensures value { option_map (λ x. x.0) result ≡ integer_of (before_first (λ b. b == 44) line.now) }
+    ensures value { option_map (λ x. x.0) result ≡ integer_of
+        (before_first (λ b. b == 44) line.now) }
     ensures len { IfSome result (λ x. x.1 ≡ length (before_first (λ b. b == 44) line.now)) }
 {
     let text = before_comma(line);
@@ -61,6 +94,11 @@ pub(super) fn record_number_before_comma(
     if let Some(digits) = line.strip_prefix(b"A") {
         let (k, len) = number_below_before_comma(counts.arcs, digits)?;
         return Some((Some(k as usize), len + 1));
+    }
+    if let Some(rest) = line.strip_prefix(b"0")
+        && is_at_end(rest)
+    {
+        return Some((None, 1));
     }
     let text = before_comma(line);
     let first = record_number_of(counts, text)?;
@@ -117,13 +155,21 @@ fn first_digits(text: &[u8]) -> (u64, usize)
 {
     let mut value = 0;
     for place in 0..text.len() {
-        let byte = text[place];
-        if !is_digit(byte) {
+        let digit = digit_of(text[place]);
+        if digit > 9 {
             return (value, place);
         }
-        value = 10 * value + (u64::from(byte) - 48);
+        value = 10 * value + digit;
     }
     (value, text.len())
+}
+
+// The digit that a byte is, or else a number above 9.
+fn digit_of(byte: u8) -> u64
+    ensures digit { nat_le result 9 ≡ is_decimal_digit byte }
+    ensures value { is_decimal_digit byte ≡ true → result + 48 ≡ byte }
+{
+    u64::from(byte).wrapping_sub(48)
 }
 
 // The bytes before the first comma, or all.

@@ -56,13 +56,13 @@ fn read_vertices(
     ensures all { lines.new.all ≡ lines.old.all }
 {
     for _v in 0..head.counts.vertices {
-        let vertex = read_vertex(alloc, head, lines)?;
-        parts.add_vertex(vertex)?;
+        read_vertex(alloc, head, lines, &mut parts)?;
     }
     Ok(parts)
 }
 
 // The parts with the arc records of the file after those that they have.
+#[inline(never)]
 fn read_arcs(
     alloc: Global,
     head: &Head,
@@ -74,8 +74,7 @@ fn read_arcs(
     ensures all { lines.new.all ≡ lines.old.all }
 {
     for _k in 0..head.counts.arcs {
-        let arc = read_arc(alloc, head, lines)?;
-        parts.add_arc(arc)?;
+        read_arc(alloc, head, lines, &mut parts)?;
     }
     Ok(parts)
 }

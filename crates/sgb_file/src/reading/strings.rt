@@ -75,6 +75,7 @@ fn broken_id(first: &[u8], lines: &mut Lines<'_>) -> Result<Id, Panic>
 }
 
 // The first part of the string that stands next.
+#[inline(always)]
 fn first_part<'a>(lines: &mut Lines<'a>) -> Result<Part<'a>, Panic>
     ensures part { IfOk result (λ part. BeginsWith (text_left lines.old) part.bytes.now part.closed
         (text_left lines.new)) }

@@ -1,18 +1,18 @@
 -- Walks along the chains of records, which mark the records that they passed.
-use Rattle.std.specs.Prelude.{◌≡◌, ℕ, Bool, true, false, List, get_or, Option, Some, IsTrue, slice_get}
+use Rattle.std.specs.Prelude.{◌≡◌, ◌&&◌, ℕ, Bool, true, false, List, get_or, Option, Some, IsTrue, slice_get}
 use Rattle.std.specs.List.{list_all}
 use Rattle.std.specs.Option.{option_map_or}
 use Rattle.sgb_graph.specs.Graphs.{ends_of, numbers_of}
-use Rattle.sgb_graph.specs.Sound.{chain_fits, leads_to_vertex}
+use Rattle.sgb_graph.specs.Sound.{chain_fits, is_vertex, leads_to_vertex}
 use Rattle.sgb_graph.specs.declared.fields.ArcRec.{ArcRec}
 
 -- each arc on the way from a first record leads to a vertex
 abbrev pub leads_of : List ArcRec → Option ℕ → Bool
 leads_of records first = list_all (leads_to_vertex records) (numbers_of records first)
 
--- the record leads on to an earlier one, or to none
+-- the record leads on to an earlier one, or to none, and leads to a vertex
 abbrev pub leads_back : List ArcRec → ℕ → Bool
-leads_back records k = option_map_or (λ r. chain_fits k r.next) (slice_get records k) false
+leads_back records k = option_map_or (λ r. chain_fits k r.next && is_vertex r.tip) (slice_get records k) false
 
 -- the way from each marked record comes to an end
 abbrev pub MarksEnd : List ArcRec → List Bool → Type 0

@@ -16,6 +16,7 @@ pub(super) fn vertex_fits(n: usize, m: usize, kinds: &[Kind], vertex: &Vertex) -
 }
 
 // Whether an arc record's fields fit n vertices and m records.
+#[inline(always)]
 pub(super) fn record_fits(n: usize, m: usize, kinds: &[Kind], arc: &ArcRec) -> bool
     requires { length kinds.now ≡ 2 }
     ensures { result ≡ record_fits_by n m kinds.now arc.now }
@@ -24,6 +25,7 @@ pub(super) fn record_fits(n: usize, m: usize, kinds: &[Kind], arc: &ArcRec) -> b
 }
 
 // Whether an arc record's two utility fields are of these kinds.
+#[inline(always)]
 fn arc_utils_fit(n: usize, m: usize, kinds: &[Kind], arc: &ArcRec) -> bool
     requires { length kinds.now ≡ 2 }
     ensures { result ≡ utils_fit n m kinds.now (arc.now.a ∷ arc.now.b ∷ []) }
@@ -50,6 +52,7 @@ fn each_fits(n: usize, m: usize, kinds: &[Kind], utils: &[Util]) -> bool
 }
 
 // Whether the value is one of this kind, of n vertices and m records.
+#[inline(always)]
 fn util_fits(n: usize, m: usize, kind: Kind, util: &Util) -> bool
     ensures { result ≡ util_fits n m kind util.now }
 {

@@ -8,7 +8,7 @@ ghost use Rattle.sgb_graph.specs.Sound.{IsGraph, fields_fit, graph_kinds, is_sou
 ghost use Rattle.sgb_graph.specs.inner.Fitting.{record_may_fit, vertex_may_fit};
 
 use super::fitting::{record_fits, utils_fit, vertex_fits};
-use super::walks::{chains_end, lists_lead_to_vertices};
+use super::walks::{chains_end, lead_back, lists_lead_to_vertices};
 use crate::fields::{ArcRec, Kind, Util, Vertex};
 use crate::graphs::Graph;
 use crate::ids::Id;
@@ -80,6 +80,7 @@ impl KeptParts {
     }
 
     // Whether a record may be one of a graph of these kinds. No other can be kept.
+    #[inline(always)]
     pub(super) fn takes_record(&self, arc: &ArcRec) -> bool
         ensures { result ≡ record_may_fit self.now.kinds arc.now }
     {
@@ -96,6 +97,7 @@ impl KeptParts {
     }
 
     // Puts a record after the others.
+    #[inline(always)]
     pub(super) fn push_record(&mut self, arc: ArcRec) -> Result<(), AllocError>
         requires { IsTrue (record_may_fit self.old.kinds arc) }
         ensures ok { OnOk result (self.new ≡ with_record arc self.old) }
@@ -178,6 +180,9 @@ impl KeptParts {
         requires fit { IsTrue (fields_fit self.now) }
         ensures { IfOk result (λ b. b ≡ is_sound self.now) }
     {
+        if lead_back(&self.records) {
+            return Ok(true);
+        }
         if !chains_end(self.alloc, &self.records)? {
             return Ok(false);
         }

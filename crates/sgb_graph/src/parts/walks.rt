@@ -1,9 +1,9 @@
 //! Walks along the chains of records. Records that were passed are marked, so that each is passed twice at most.
-ghost use Rattle.std.specs.Prelude.{◌≡◌, ◌≤◌, length, IsTrue, IfOk};
+ghost use Rattle.std.specs.Prelude.{◌≡◌, ◌≤◌, ◌&&◌, length, IsTrue, IfOk};
 ghost use Rattle.sgb_vec.specs.Limits.{most_vertices};
 ghost use Rattle.std.specs.List.{list_all, range_with_len};
 ghost use Rattle.sgb_graph.specs.Graphs.{ends_of};
-ghost use Rattle.sgb_graph.specs.Sound.{chains_end, is_vertex, leads_to_vertex, lists_lead_to_vertices};
+ghost use Rattle.sgb_graph.specs.Sound.{chain_fits, chains_end, is_vertex, lists_lead_to_vertices};
 ghost use Rattle.sgb_graph.specs.inner.Walks.{MarksEnd, MarksGoOn, MarksLead, is_marked, leads_back, leads_of};
 
 use crate::fields::Ref;
@@ -12,13 +12,31 @@ use crate::records::Records;
 use crate::vertices::Vertices;
 use std::alloc::{AllocError, Global};
 
+// Whether each record leads on to an earlier one, or to none, as where each was put in front of its list, and leads to a vertex.
+pub(super) fn lead_back(records: &Records) -> bool
+    ensures { result ≡ list_all (leads_back records.now.items)
+        (range_with_len 0 (length records.now.items)) }
+{
+    for k in 0..records.len() {
+        let arc = records.get(k);
+        if !leads_back(k, arc.next, arc.tip) {
+            return false;
+        }
+    }
+    true
+}
+
+// Whether the next record, if there is one, stands before record k, and the tip is a vertex.
+fn leads_back(k: usize, next: Option<usize>, tip: Ref) -> bool
+    ensures { result ≡ (chain_fits k next && is_vertex tip) }
+{
+    chain_fits(k, next) && is_vertex(tip)
+}
+
 // Whether the way by next comes to an end from every record.
 pub(super) fn chains_end(alloc: Global, records: &Records) -> Result<bool, AllocError>
     ensures { IfOk result (λ b. b ≡ chains_end records.now.items) }
 {
-    if lead_back(records) {
-        return Ok(true);
-    }
     let mut marks = vec![in alloc; false; records.len()]?;
     for k in 0..records.len() {
         if !way_ends(records, &marks, Some(k)) {
@@ -39,9 +57,6 @@ pub(super) fn lists_lead_to_vertices(
     requires ends { IsTrue (list_all (λ v. ends_of records.now.items v.arcs) vertices.now.items) }
     ensures { IfOk result (λ b. b ≡ lists_lead_to_vertices vertices.now.items records.now.items) }
 {
-    if lead_to_vertices(records) {
-        return Ok(true);
-    }
     let mut marks = vec![in alloc; false; records.len()]?;
     for v in 0..vertices.len() as u32 {
         let first = vertices.first(v);
@@ -51,32 +66,6 @@ pub(super) fn lists_lead_to_vertices(
         mark_way(records, &mut marks, first);
     }
     Ok(true)
-}
-
-// Whether each record leads on to an earlier one, or to none, as where each was put in front of its list.
-fn lead_back(records: &Records) -> bool
-    ensures { result ≡ list_all (leads_back records.now.items)
-        (range_with_len 0 (length records.now.items)) }
-{
-    for k in 0..records.len() {
-        if !chain_fits(k, records.get(k).next) {
-            return false;
-        }
-    }
-    true
-}
-
-// Whether each record, on a list or not, leads to a vertex.
-fn lead_to_vertices(records: &Records) -> bool
-    ensures { result ≡ list_all (leads_to_vertex records.now.items)
-        (range_with_len 0 (length records.now.items)) }
-{
-    for k in 0..records.len() {
-        if !is_vertex(records.get(k).tip) {
-            return false;
-        }
-    }
-    true
 }
 
 // Whether the way from a first record comes to an end, where it does from each marked one. A way of more steps than

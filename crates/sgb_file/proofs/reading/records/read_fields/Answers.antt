@@ -1,5 +1,6 @@
-use Rattle.std.proofs.Common.{arith, refl, sym, subst, ap, take, drop, set, ◌+◌, ◌∙◌, ◌≡◌, List, Option, length-set, Err, rules}
+use Rattle.std.proofs.Common.{arith, refl, sym, subst, ap, take, drop, set, ◌+◌, ◌∙◌, ◌≡◌, List, Option, length-set, Err, rules, w64}
 use Rattle.std.proofs.lemmas.List.{set-get_or, get_or-set_other}
+use Rattle.std.proofs.lemmas.Int.{to_z-of_z}
 use Rattle.std.proofs.lemmas.Result.{err_from_is_err_and}
 use Rattle.sgb_graph.specs.declared.fields.Util.{Util}
 use Rattle.sgb_graph.specs.declared.fields.Util.TheVariants.{Nothing}
@@ -7,7 +8,7 @@ use Rattle.sgb_file.specs.Fields.{Found}
 use Rattle.sgb_file.specs.inner.Found.{IsFoundBy}
 use Rattle.sgb_file.specs.inner.LinesLeft.{text_left}
 use Rattle.sgb_file.specs.Records.{more_fields_at}
-use Rattle.sgb_file.proofs.FoundSteps.{field_stops, field_read, end_stops, end_read, none_used, used_at, unused_at, with_first}
+use Rattle.sgb_file.proofs.FoundSteps.{field_stops, field_read, int_read, int_stops, end_stops, end_read, none_used, used_at, unused_at, with_first}
 use Rattle.sgb_file.proofs.reading.records.read_fields.Goals as goal
 
 pub loop-place-init : goal.loop-place-init
@@ -37,9 +38,35 @@ loop-place-preserved-then-not-is_used c =
       blank = λ k from. c.loop-place.invariant.blank k (omega (arith, from));
     }
 
+pub returns-in_err-read_integer_after_comma-clause-found : goal.returns-in_err-read_integer_after_comma-clause-found
+returns-in_err-read_integer_after_comma-clause-found c =
+    let p = err_from_is_err_and c.from_residual.result c.from_residual.ensures.1 in
+    let within = c.loop-place-test.true in
+    let kinds = c.requires in
+    let after = text_left c.read_integer_after_comma.new.lines in
+    rw (p.1, p.2)
+    (field_stops c.args.counts.now c.args.kinds.now c.loop-place.place _ _ (take c.loop-place.place c.loop-place.fields) (more_fields_at c.args.counts.now c.args.kinds.now (text_left c.args.lines.now))
+    (text_left c.loop-place.lines) after after c.in_err-read_integer_after_comma.field-0.0 (omega (arith, kinds, within)) refl c.loop-place.invariant.so_far
+    (int_stops c.args.counts.now _ (text_left c.loop-place.lines) after c.in_err-read_integer_after_comma.field-0.0 c.in-I.is c.in_err-read_integer_after_comma.ensures.found))
+
+pub loop-place-preserved-in-I : goal.loop-place-preserved-in-I
+loop-place-preserved-in-I c =
+    let within = c.loop-place-test.true in
+    let kinds = c.requires in
+    let fields = c.loop-place.fields in
+    let count = c.loop-place.invariant.count in
+    let n = c.in_ok-read_integer_after_comma.field-0 in
+    let found = int_read c.args.counts.now _ (text_left c.loop-place.lines) (text_left c.read_integer_after_comma.new.lines) _ n (to_z-of_z w64 n (search rules)) c.in-I.is c.in_ok-read_integer_after_comma.ensures.found in record {
+      count = length-set _ _ _ ∙ count;
+      so_far = field_read c.args.counts.now c.args.kinds.now c.loop-place.place _ _ fields _ (more_fields_at c.args.counts.now c.args.kinds.now (text_left c.args.lines.now))
+          (text_left c.loop-place.lines) (text_left c.read_integer_after_comma.new.lines) (omega (arith, kinds, within)) (omega (arith, count, within)) refl c.loop-place.invariant.so_far found;
+      all = c.in_ok-read_integer_after_comma.ensures.all ∙ c.loop-place.invariant.all;
+      blank = λ k from. get_or-set_other fields c.loop-place.place k _ Nothing (omega (arith, from)) ∙ c.loop-place.invariant.blank k (omega (arith, from));
+    }
+
 pub returns-in_err-fields-clause-found : goal.returns-in_err-fields-clause-found
 returns-in_err-fields-clause-found c =
-    let p = err_from_is_err_and c.from_residual.result c.from_residual.ensures.1 in
+    let p = err_from_is_err_and c.from_residual-in_err-fields.result c.from_residual-in_err-fields.ensures.1 in
     let within = c.loop-place-test.true in
     let kinds = c.requires in
     let after = text_left c.read_field_after_comma.new.lines in

@@ -6,22 +6,22 @@ use Rattle.sgb_file.specs.Records.{arc_record_at}
 use Rattle.sgb_file.proofs.Sections.{next_arc, next_stops, arcs_read}
 use Rattle.sgb_file.proofs.reading.sections.read_arcs.Goals as goal
 
-pub returns-in_err-arc-clause-found : goal.returns-in_err-arc-clause-found
-returns-in_err-arc-clause-found c =
+pub returns-in_err-read_arc-clause-found : goal.returns-in_err-read_arc-clause-found
+returns-in_err-read_arc-clause-found c =
     let p = err_from_is_err_and c.from_residual.result c.from_residual.ensures.1 in
     let head = c.args.head.now in
     let count = ap (λ h. h.counts.arcs) c.head-inside.view_is ∙ ap (λ h. h.counts.arcs) c.head.view_is in
-    rw (p.1, p.2) (next_stops (arc_record_at head) (with_records c.loop-k.parts) head.counts.arcs c.loop-k._k _ c.in_err-arc.field-0.0 (text_left c.loop-k.lines) (text_left c.read_arc.new.lines) (text_left c.read_arc.new.lines)
-    (omega (arith, count, c.loop-k-test.true)) c.loop-k.invariant.0 c.in_err-arc.ensures.found)
+    rw (p.1, p.2) (next_stops (arc_record_at head) (with_records c.loop-k.parts) head.counts.arcs c.loop-k._k _ c.in_err-read_arc.field-0.0 (text_left c.loop-k.lines) (text_left c.read_arc.new.lines) (text_left c.read_arc.new.lines)
+    (omega (arith, count, c.loop-k-test.true)) c.loop-k.invariant.0 c.in_err-read_arc.ensures.err)
 
 pub loop-k-preserved : goal.loop-k-preserved
 loop-k-preserved c =
     let head = c.args.head.now in
     let count = ap (λ h. h.counts.arcs) c.head-inside.view_is ∙ ap (λ h. h.counts.arcs) c.head.view_is in
     let within : c.loop-k._k < head.counts.arcs = omega (arith, count, c.loop-k-test.true) in (
-      next_arc head c.loop-k.parts c.add_arc.new.self head.counts.arcs c.loop-k._k c.in_ok-arc.arc (text_left c.loop-k.lines) (text_left c.read_arc.new.lines)
-          within c.in_ok-arc.ensures.found c.in_ok-add_arc.ensures.ok ∙ c.loop-k.invariant.0,
-      c.in_ok-arc.ensures.all ∙ c.loop-k.invariant.1,
+      next_arc head c.loop-k.parts c.read_arc.new.parts head.counts.arcs c.loop-k._k c.in_ok-read_arc.ensures.ok.0 (text_left c.loop-k.lines) (text_left c.read_arc.new.lines)
+          within c.in_ok-read_arc.ensures.ok.1 c.in_ok-read_arc.ensures.ok.2 ∙ c.loop-k.invariant.0,
+      c.in_ok-read_arc.ensures.all ∙ c.loop-k.invariant.1,
       omega (arith, within),
     )
 

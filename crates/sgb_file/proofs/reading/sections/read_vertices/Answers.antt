@@ -6,22 +6,22 @@ use Rattle.sgb_file.specs.Records.{vertex_record_at}
 use Rattle.sgb_file.proofs.Sections.{next_vertex, next_stops, vertices_read}
 use Rattle.sgb_file.proofs.reading.sections.read_vertices.Goals as goal
 
-pub returns-in_err-vertex-clause-found : goal.returns-in_err-vertex-clause-found
-returns-in_err-vertex-clause-found c =
+pub returns-in_err-read_vertex-clause-found : goal.returns-in_err-read_vertex-clause-found
+returns-in_err-read_vertex-clause-found c =
     let p = err_from_is_err_and c.from_residual.result c.from_residual.ensures.1 in
     let head = c.args.head.now in
     let count = ap (λ h. h.counts.vertices) c.head-inside.view_is ∙ ap (λ h. h.counts.vertices) c.head.view_is in
-    rw (p.1, p.2) (next_stops (vertex_record_at head) (with_vertices c.loop-v.parts) head.counts.vertices c.loop-v._v _ c.in_err-vertex.field-0.0 (text_left c.loop-v.lines) (text_left c.read_vertex.new.lines) (text_left c.read_vertex.new.lines)
-    (omega (arith, count, c.loop-v-test.true)) c.loop-v.invariant.0 c.in_err-vertex.ensures.found)
+    rw (p.1, p.2) (next_stops (vertex_record_at head) (with_vertices c.loop-v.parts) head.counts.vertices c.loop-v._v _ c.in_err-read_vertex.field-0.0 (text_left c.loop-v.lines) (text_left c.read_vertex.new.lines) (text_left c.read_vertex.new.lines)
+    (omega (arith, count, c.loop-v-test.true)) c.loop-v.invariant.0 c.in_err-read_vertex.ensures.err)
 
 pub loop-v-preserved : goal.loop-v-preserved
 loop-v-preserved c =
     let head = c.args.head.now in
     let count = ap (λ h. h.counts.vertices) c.head-inside.view_is ∙ ap (λ h. h.counts.vertices) c.head.view_is in
     let within : c.loop-v._v < head.counts.vertices = omega (arith, count, c.loop-v-test.true) in (
-      next_vertex head c.loop-v.parts c.add_vertex.new.self head.counts.vertices c.loop-v._v c.in_ok-vertex.vertex (text_left c.loop-v.lines) (text_left c.read_vertex.new.lines)
-          within c.in_ok-vertex.ensures.found c.in_ok-add_vertex.ensures.ok ∙ c.loop-v.invariant.0,
-      c.in_ok-vertex.ensures.all ∙ c.loop-v.invariant.1,
+      next_vertex head c.loop-v.parts c.read_vertex.new.parts head.counts.vertices c.loop-v._v c.in_ok-read_vertex.ensures.ok.0 (text_left c.loop-v.lines) (text_left c.read_vertex.new.lines)
+          within c.in_ok-read_vertex.ensures.ok.1 c.in_ok-read_vertex.ensures.ok.2 ∙ c.loop-v.invariant.0,
+      c.in_ok-read_vertex.ensures.all ∙ c.loop-v.invariant.1,
       omega (arith, within),
     )
 

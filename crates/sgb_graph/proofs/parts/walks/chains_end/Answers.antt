@@ -1,10 +1,6 @@
 use Rattle.std.proofs.Common.{sym, ◌∙◌, arith}
 use Rattle.sgb_graph.proofs.MarkedWays.{not_all_end, all_end}
-use Rattle.sgb_graph.proofs.BackwardWays.{all_back}
 use Rattle.sgb_graph.proofs.parts.walks.chains_end.Goals as goal
-
-pub returns-then-lead_back : goal.returns-then-lead_back
-returns-then-lead_back c = sym (all_back c.args.records.now.items (sym c.lead_back.ensures ∙ c.if-lead_back.true))
 
 pub returns-then-not-way_ends : goal.returns-then-not-way_ends
 returns-then-not-way_ends c = sym (not_all_end c.args.records.now.items c.loop-k.k (omega (arith, c.loop-k-test.true, c.len-k-end.ensures.count)) (sym c.way_ends.ensures ∙ c.if-not-way_ends.true))

@@ -1,12 +1,7 @@
 use Rattle.std.proofs.Common.{◌<◌, ◌∙◌, ap, length, subst, sym, rules, arith}
 use Rattle.sgb_graph.specs.inner.Walks.{MarksLead}
 use Rattle.sgb_graph.proofs.WalkedLists.{list_ends, marked_anew, one_leads_astray, one_more_leads}
-use Rattle.sgb_graph.proofs.BackwardWays.{all_lead}
 use Rattle.sgb_graph.proofs.parts.walks.lists_lead_to_vertices.Goals as goal
-
-pub returns-then-lead_to_vertices : goal.returns-then-lead_to_vertices
-returns-then-lead_to_vertices c =
-    sym (all_lead c.args.vertices.now.items c.args.records.now.items (sym c.lead_to_vertices.ensures ∙ c.if-lead_to_vertices.true))
 
 pub way_leads-requires-clause-ends : goal.way_leads-requires-clause-ends
 way_leads-requires-clause-ends c =
