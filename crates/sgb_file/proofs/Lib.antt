@@ -74,3 +74,7 @@ pub mod PartialWrites
 pub mod SoFar
 -- what a sink has of a text where a write failed
 pub mod WrittenPrefixes
+-- short lines that are put together
+pub mod ShortLines
+-- arc records whose lines are put together
+pub mod ShortArcs

@@ -24,7 +24,7 @@ pub title-cut : {X : Type 0} (title : List ℕ) (texts : X → List (List ℕ)) 
 title-cut title texts xs a b p = stopped-first _ (title ∷ []) (flat_map (λ x. record_lines (texts x)) xs) a b refl p
 
 -- the first of the records that are left
-first_record : {X : Type 0} (texts : X → List (List ℕ)) (xs : List X) (i : ℕ) (x : X) → i < length xs → slice_get xs i ≡ Some x
+pub first_record : {X : Type 0} (texts : X → List (List ℕ)) (xs : List X) (i : ℕ) (x : X) → i < length xs → slice_get xs i ≡ Some x
     → flat_map (λ y. record_lines (texts y)) (drop i xs) ≡ record_lines (texts x) ++ flat_map (λ y. record_lines (texts y)) (drop (i + 1) xs)
 first_record texts xs i x h e =
     at_drop_more (flat_map (λ y. record_lines (texts y))) xs i x h

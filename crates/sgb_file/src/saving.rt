@@ -9,12 +9,16 @@ mod fields;
 mod layouts;
 mod lines;
 mod records;
+mod short_arcs;
+mod short_lines;
 
 use crate::devices::{Failed, Sink, put_all};
 use itoa::Buffer;
 use layouts::Layout;
-use records::{put_arc, put_graph, put_vertex};
+use records::{put_graph, put_vertex};
 use sgb_graph::{Graph, Kind};
+use short_arcs::put_next_arcs;
+use short_lines::ShortLines;
 
 /// Writes a graph as a `.gb` file (GB_SAVE, save_graph). It takes no memory.
 ///
@@ -127,8 +131,10 @@ fn put_arcs<W: Sink>(layout: &mut Layout, sink: &mut W, graph: &Graph) -> Result
         (stage W.written W.has_failed sink.new layout.new) result }
 {
     put_all(sink, b"* Arcs\n")?;
-    for k in 0..graph.records_len() {
-        put_arc(layout, sink, graph.arc_rec(k))?;
+    let mut lines = ShortLines::new();
+    let mut k = 0;
+    while k < graph.records_len() {
+        k = put_next_arcs(layout, sink, graph, &mut lines, k)?;
     }
     Ok(())
 }

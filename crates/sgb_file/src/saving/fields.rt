@@ -58,7 +58,7 @@ pub(super) fn any_used(fields: &[UtilRef<'_>]) -> bool
 }
 
 // Whether the field is used.
-fn is_used(field: UtilRef<'_>) -> bool
+pub(super) fn is_used(field: UtilRef<'_>) -> bool
     ensures { result ≡ has_any (field_texts (util_seen field.entry)) }
 {
     !matches!(field, UtilRef::Nothing)

@@ -48,6 +48,13 @@ impl Layout {
         self.checksum
     }
 
+    // Makes this the checksum of the lines so far.
+    pub(super) fn set_checksum(&mut self, checksum: u32)
+        ensures { self.new ≡ record self.old { checksum = checksum } }
+    {
+        self.checksum = checksum;
+    }
+
     // Ends the line.
     pub(super) fn end_line<W: Sink>(&mut self, sink: &mut W) -> Result<(), Failed>
         ensures { IsLaid (self.old.line ∷ []) []
