@@ -76,5 +76,5 @@ pub mod SoFar
 pub mod WrittenPrefixes
 -- short lines that are put together
 pub mod ShortLines
--- arc records whose lines are put together
-pub mod ShortArcs
+-- records whose lines are put together
+pub mod ShortRecords

@@ -1,10 +1,12 @@
 //! Pieces laid out on lines of at most 79 bytes (GB_SAVE, save_graph).
-ghost use Rattle.std.specs.Prelude.{◌≡◌, ◌+◌, ◌≤◌, ◌++◌, ◌∷◌, [], decimal, false, length};
+ghost use Rattle.std.specs.Prelude.{◌≡◌, ◌+◌, ◌<◌, ◌≤◌, ◌^◌, ◌++◌, ◌∷◌, [], OnOk, decimal, false, length};
+ghost use Rattle.sgb_file.specs.Devices.{IsPut, change};
 ghost use Rattle.sgb_file.specs.inner.Layouts.{IsFilled, IsLaid, IsPlaced, lines_before, stage};
 ghost use Rattle.sgb_file.specs.Saving.{fits_on, most_file_line_bytes};
 
 use super::lines::{Line, MOST_LINE_BYTES};
-use crate::devices::{Failed, Sink};
+use super::short_lines::ShortLines;
+use crate::devices::{Failed, Sink, put_all};
 use itoa::Buffer;
 use std::marker::Model;
 
@@ -48,11 +50,20 @@ impl Layout {
         self.checksum
     }
 
-    // Makes this the checksum of the lines so far.
-    pub(super) fn set_checksum(&mut self, checksum: u32)
-        ensures { self.new ≡ record self.old { checksum = checksum } }
+    // Writes lines that were put together.
+    pub(super) fn put_lines<W: Sink>(
+        &mut self,
+        sink: &mut W,
+        lines: &ShortLines,
+    ) -> Result<(), Failed>
+        requires { lines.now.value < 2 ^ 32 }
+        ensures put { IsPut lines.now.text (change W.written W.has_failed sink.old sink.new)
+            result }
+        ensures sound { OnOk result (W.has_failed sink.new ≡ W.has_failed sink.old) }
+        ensures layout { self.new ≡ record self.old { checksum = lines.now.value } }
     {
-        self.checksum = checksum;
+        self.checksum = lines.checksum();
+        put_all(sink, lines.bytes())
     }
 
     // Ends the line.

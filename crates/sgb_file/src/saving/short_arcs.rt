@@ -6,13 +6,13 @@ ghost use Rattle.sgb_graph.specs.Columns.{arc_seen};
 ghost use Rattle.sgb_graph.specs.declared.fields.Ref.TheVariants.{At};
 ghost use Rattle.sgb_file.specs.Saving.{arc_texts, record_lines};
 ghost use Rattle.sgb_file.specs.inner.Layouts.{HasLaid, IsStopped, stage};
-ghost use Rattle.sgb_file.specs.inner.ShortLines.{AreShort, HasLaidArcs, lines_of_arcs, short_stage, short_texts};
+ghost use Rattle.sgb_file.specs.inner.ShortLines.{AreShort, HasLaidRecords, lines_of, short_stage, short_texts};
 
 use super::fields::is_used;
 use super::layouts::Layout;
 use super::records::put_arc;
 use super::short_lines::ShortLines;
-use crate::devices::{Failed, Sink, put_all};
+use crate::devices::{Failed, Sink};
 use sgb_graph::{ArcRef, Graph, Ref};
 
 // A number below this one has at most eight digits.
@@ -30,11 +30,11 @@ pub(super) fn put_next_arcs<W: Sink>(
     requires line { layout.old.line ≡ [] }
     ensures more { IfOk result (λ to. from < to) }
     ensures within { IfOk result (λ to. to ≤ length graph.now.records) }
-    ensures laid { IfOk result (λ to. HasLaidArcs graph.now.records from to
+    ensures laid { IfOk result (λ to. HasLaidRecords (λ r. arc_texts r) graph.now.records from to
         (stage W.written W.has_failed sink.old layout.old)
         (stage W.written W.has_failed sink.new layout.new)) }
     ensures line { IfOk result (λ to. layout.new.line ≡ []) }
-    ensures cut { OnErr result (IsStopped (lines_of_arcs (drop from graph.now.records))
+    ensures cut { OnErr result (IsStopped (lines_of (λ r. arc_texts r) (drop from graph.now.records))
         (stage W.written W.has_failed sink.old layout.old)
         (stage W.written W.has_failed sink.new layout.new)) }
 {
@@ -45,8 +45,7 @@ pub(super) fn put_next_arcs<W: Sink>(
         put_arc(layout, sink, graph.arc_rec(from))?;
         return Ok(from + 1);
     }
-    layout.set_checksum(lines.checksum());
-    put_all(sink, lines.bytes())?;
+    layout.put_lines(sink, lines)?;
     Ok(to)
 }
 
@@ -58,7 +57,7 @@ fn put_short_arcs(lines: &mut ShortLines, graph: &Graph, from: usize) -> usize
     requires value { lines.old.value < 2 ^ 32 }
     ensures from { from ≤ result }
     ensures within { result ≤ length graph.now.records }
-    ensures laid { HasLaidArcs graph.now.records from result (short_stage lines.old)
+    ensures laid { HasLaidRecords (λ r. arc_texts r) graph.now.records from result (short_stage lines.old)
         (short_stage lines.new) }
     ensures value { lines.new.value < 2 ^ 32 }
 {
@@ -101,7 +100,7 @@ fn short_numbers(arc: ArcRef<'_>) -> Option<(u32, Option<u32>, u32)>
     }
     let tip = short_tip(arc.tip)?;
     let next = short_next(arc.next)?;
-    let len = short_len(arc.len)?;
+    let len = short_integer(arc.len)?;
     Some((tip, next, len))
 }
 
@@ -116,9 +115,9 @@ fn short_tip(tip: Ref) -> Option<u32>
     }
 }
 
-// The number of the next record, if there is one, where it has few digits.
+// The number of a record, if there is one, where it has few digits.
 #[inline(always)]
-fn short_next(next: Option<usize>) -> Option<Option<u32>>
+pub(super) fn short_next(next: Option<usize>) -> Option<Option<u32>>
     ensures { IfSome result (λ short. (short ≡ next) × IfSome short (λ k. k < 100_000_000)) }
 {
     match next {
@@ -128,13 +127,13 @@ fn short_next(next: Option<usize>) -> Option<Option<u32>>
     }
 }
 
-// The length of an arc, where it is one digit.
+// An integer, where it is not negative and has few digits.
 #[inline(always)]
-fn short_len(len: i64) -> Option<u32>
-    ensures { IfSome result (λ digit. (signed_decimal len ≡ decimal digit) × (digit < 10)) }
+pub(super) fn short_integer(integer: i64) -> Option<u32>
+    ensures { IfSome result (λ short. (signed_decimal integer ≡ decimal short) × (short < 10_000)) }
 {
-    if 0 <= len && len <= 9 {
-        Some(len as u32)
+    if 0 <= integer && integer < 10_000 {
+        Some(integer as u32)
     } else {
         None
     }

@@ -4,7 +4,7 @@ ghost use Rattle.std.specs.Bool.{OnTrue};
 ghost use Rattle.sgb_file.specs.Checksum.{checksum_prime};
 ghost use Rattle.sgb_file.specs.Saving.{record_number_text};
 ghost use Rattle.sgb_file.specs.inner.Layouts.{HasLaid, place_of};
-ghost use Rattle.sgb_file.specs.inner.ShortLines.{AreShort, put_after, short_line, short_stage, value_from};
+ghost use Rattle.sgb_file.specs.inner.ShortLines.{AreShort, AreShortFields, bare_vertex_line, name_piece, put_after, short_fields, short_line, short_stage, short_vertex_line};
 
 use crate::checksums::{place_of, remainder};
 use std::marker::Model;
@@ -12,8 +12,8 @@ use std::marker::Model;
 // So many bytes of lines are put together.
 const MOST_BYTES: usize = 4_096;
 
-// A short line and its newline have at most this many.
-const MOST_LINE_BYTES: usize = 30;
+// A line that is put together and its newline have at most this many.
+const MOST_LINE_BYTES: usize = 60;
 
 // Lines put together in place, and a value: the checksum after them is its remainder. Contracts see the bytes as a list.
 #[derive(Drop)]
@@ -57,7 +57,7 @@ impl ShortLines {
 
     // Whether there is room for a line more.
     pub(super) fn has_room(&self) -> bool
-        ensures { OnTrue result (length self.now.text + 30 ≤ 4096) }
+        ensures { OnTrue result (length self.now.text + 60 ≤ 4096) }
     {
         self.len <= MOST_BYTES - MOST_LINE_BYTES
     }
@@ -97,14 +97,91 @@ impl ShortLines {
         requires short { AreShort tip next len }
         requires room { length self.old.text + 29 ≤ 4096 }
         ensures put { self.new ≡ put_after self.old (short_line tip next len) }
-        ensures short { length self.new.text ≤ length self.old.text + 21 }
+        ensures short { length self.new.text ≤ length self.old.text + 24 }
     {
         self.push_byte(b'V');
         self.push_number(tip);
         self.push_byte(b',');
         self.push_next(next);
         self.push_byte(b',');
-        self.push_digit(len);
+        self.push_four(len);
+    }
+
+    // Puts the line of a vertex.
+    #[inline(always)]
+    pub(super) fn put_vertex(&mut self, name: &[u8], first: Option<u32>, x: u32, y: u32, z: u32)
+        requires name { length name.now ≤ 28 }
+        requires short { AreShortFields first x y z }
+        requires room { length self.old.text + 60 ≤ 4096 }
+        requires value { self.old.value < 2 ^ 32 }
+        ensures laid { HasLaid (short_vertex_line name.now first x y z ∷ [])
+            (short_stage self.old) (short_stage self.new) }
+        ensures value { self.new.value < 2 ^ 32 }
+    {
+        self.push_name(name);
+        self.settle();
+        self.push_fields(first, x, y, z);
+        self.end_line();
+    }
+
+    // Puts the line of a vertex without integers.
+    #[inline(always)]
+    pub(super) fn put_bare_vertex(&mut self, name: &[u8], first: Option<u32>)
+        requires name { length name.now ≤ 28 }
+        requires few { IfSome first (λ k. k < 100_000_000) }
+        requires room { length self.old.text + 60 ≤ 4096 }
+        requires value { self.old.value < 2 ^ 32 }
+        ensures laid { HasLaid (bare_vertex_line name.now first ∷ []) (short_stage self.old)
+            (short_stage self.new) }
+        ensures value { self.new.value < 2 ^ 32 }
+    {
+        self.push_name(name);
+        self.settle();
+        self.push_next(first);
+        self.end_line();
+    }
+
+    // Appends the name of a vertex.
+    #[inline(always)]
+    fn push_name(&mut self, name: &[u8])
+        requires name { length name.now ≤ 28 }
+        requires room { length self.old.text + 31 ≤ 4096 }
+        ensures put { self.new ≡ put_after self.old (name_piece name.now) }
+        ensures len { length self.new.text ≡ length self.old.text + (length name.now + 3) }
+    {
+        self.push_byte(b'"');
+        self.push_bytes(name);
+        self.push_byte(b'"');
+        self.push_byte(b',');
+    }
+
+    // Appends the fields of a vertex after its name.
+    #[inline(always)]
+    fn push_fields(&mut self, first: Option<u32>, x: u32, y: u32, z: u32)
+        requires short { AreShortFields first x y z }
+        requires room { length self.old.text + 24 ≤ 4096 }
+        ensures put { self.new ≡ put_after self.old (short_fields first x y z) }
+        ensures short { length self.new.text ≤ length self.old.text + 24 }
+    {
+        self.push_next(first);
+        self.push_byte(b',');
+        self.push_four(x);
+        self.push_byte(b',');
+        self.push_four(y);
+        self.push_byte(b',');
+        self.push_four(z);
+    }
+
+    // Appends bytes.
+    #[inline(always)]
+    fn push_bytes(&mut self, bytes: &[u8])
+        requires { length self.old.text + length bytes.now ≤ 4096 }
+        ensures put { self.new ≡ put_after self.old bytes.now }
+        ensures len { length self.new.text ≡ length self.old.text + length bytes.now }
+    {
+        for byte in bytes {
+            self.push_byte(*byte);
+        }
     }
 
     // Appends the number of the next record, if there is one.
@@ -234,11 +311,19 @@ impl ShortLines {
     #[inline(always)]
     fn end_line(&mut self)
         requires { length self.old.text + 1 ≤ 4096 }
-        ensures { self.new ≡ record (put_after self.old (10 ∷ [])) {
-          value = value_from self.old.value (10 ∷ []) % checksum_prime;
-        } }
+        ensures text { self.new.text ≡ (put_after self.old (10 ∷ [])).text }
+        ensures value { self.new.value ≡ (put_after self.old (10 ∷ [])).value % checksum_prime }
     {
         self.push_byte(b'\n');
+        self.settle();
+    }
+
+    // Takes the remainder of the value: there is then room for the places of many bytes more.
+    #[inline(always)]
+    fn settle(&mut self)
+        ensures text { self.new.text ≡ self.old.text }
+        ensures value { self.new.value ≡ self.old.value % checksum_prime }
+    {
         self.value = u64::from(remainder(self.value));
     }
 }

@@ -3,7 +3,7 @@ use Rattle.std.proofs.lemmas.Result.{err_from_is_err_and}
 use Rattle.sgb_file.specs.inner.Layouts.{arc_lines, stage}
 use Rattle.sgb_file.specs.Saving.{arc_texts}
 use Rattle.sgb_file.proofs.RecordLines.{records-all, title-cut, title-written}
-use Rattle.sgb_file.proofs.ShortArcs.{section-cut, section-more}
+use Rattle.sgb_file.proofs.ShortRecords.{section-cut, section-more}
 use Rattle.sgb_file.proofs.WholeText.{starred-laid, starred-stopped}
 use Rattle.sgb_file.proofs.saving.put_arcs.Goals as goal
 
@@ -24,11 +24,11 @@ pub returns-in_err-k : goal.returns-in_err-k
 unfolding arc_lines
 returns-in_err-k g c =
     let p = err_from_is_err_and c.from_residual-in_err-k.result c.from_residual-in_err-k.ensures.1 in
-    rw p.1 (section-cut (codes "* Arcs") c.args.graph.now.records c.loop-k.k _ _ _ c.loop-k.invariant c.in_err-k.ensures.cut)
+    rw p.1 (section-cut (codes "* Arcs") (λ x. arc_texts x) c.args.graph.now.records c.loop-k.k _ _ _ c.loop-k.invariant c.in_err-k.ensures.cut)
 
 pub loop-k-preserved : goal.loop-k-preserved
 loop-k-preserved g c =
-    section-more (codes "* Arcs") c.args.graph.now.records c.loop-k.k _ _ _ _ c.loop-k.invariant c.in_ok-k.ensures.laid c.in_ok-k.ensures.line
+    section-more (codes "* Arcs") (λ x. arc_texts x) c.args.graph.now.records c.loop-k.k _ _ _ _ c.loop-k.invariant c.in_ok-k.ensures.laid c.in_ok-k.ensures.line
 
 pub returns : goal.returns
 unfolding arc_lines

@@ -1,4 +1,4 @@
-use Rattle.sgb_file.proofs.ShortArcs.{short-texts-laid}
+use Rattle.sgb_file.proofs.ShortRecords.{short-texts-laid}
 use Rattle.sgb_file.proofs.saving.short_arcs.put_short_arc.Goals as goal
 
 pub returns-clause-laid : goal.returns-clause-laid

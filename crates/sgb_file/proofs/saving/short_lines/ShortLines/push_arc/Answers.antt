@@ -7,4 +7,4 @@ returns-clause-put c =
     let tip = put-then s _ _ _ _ c.push_byte.ensures.put c.push_number.ensures.put in
     let comma = put-then s _ _ _ _ tip c.push_byte-2.ensures.put in
     let next = put-then s _ _ _ _ comma c.push_next.ensures.put in
-    put-then s _ _ _ _ (put-then s _ _ _ _ next c.push_byte-3.ensures.put) c.push_digit.ensures.text
+    put-then s _ _ _ _ (put-then s _ _ _ _ next c.push_byte-3.ensures.put) c.push_four.ensures.put
