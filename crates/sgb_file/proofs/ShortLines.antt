@@ -17,7 +17,8 @@ use Rattle.sgb_file.proofs.FewDigits.{pair_after}
 use Rattle.sgb_file.proofs.LaidLines.{checksum-counted, checksum_from-append}
 
 -- a byte was put after the bytes that are kept
-pub byte_put : (s : ShortText) (bytes : List ℕ) (len byte place value new : ℕ) → record { text = take len bytes; value = value } ≡ s → length bytes ≡ 4096
+pub byte_put : (s : ShortText) (bytes : List ℕ) (len byte place value new : ℕ) → record { text = take len bytes; value = value } ≡ s
+    → length bytes ≡ 4096
     → length s.text + 1 ≤ 4096 → len ≤ 4096 → place ≡ place_of byte → new ≡ (2 * value + place) % 2 ^ 64
     → record { text = take (len + 1) (set bytes (len % 4096) byte); value = new } ≡ put_after s (byte ∷ [])
 unfolding put_after value_from
@@ -46,7 +47,8 @@ pub put-none : (s : ShortText) (bytes : List ℕ) → s ≡ put_after s (take 0 
 unfolding put_after value_from
 put-none s bytes = ap (λ t. kept_text t s.value) (sym (append-nil s.text))
 
-pub put-next : (s before after : ShortText) (bytes : List ℕ) (i byte : ℕ) → i < length bytes → byte ≡ get_or bytes i 0 → before ≡ put_after s (take i bytes)
+pub put-next : (s before after : ShortText) (bytes : List ℕ) (i byte : ℕ) → i < length bytes → byte ≡ get_or bytes i 0
+    → before ≡ put_after s (take i bytes)
     → after ≡ put_after before (byte ∷ []) → after ≡ put_after s (take (i + 1) bytes)
 put-next s before after bytes i byte within is e f =
     f ∙ (ap (λ t. put_after t (byte ∷ [])) e ∙ (put-append s (take i bytes) (byte ∷ [])
@@ -60,7 +62,8 @@ pair_put_after s before after n more few e f =
     f ∙ (ap (λ t. put_after t pair) e ∙ (put-append s (decimal (n / 100)) pair ∙ ap (put_after s) (pair_after n more few)))
 
 -- bytes were put after others
-pub put-then : (s before after : ShortText) (xs ys : List ℕ) → before ≡ put_after s xs → after ≡ put_after before ys → after ≡ put_after s (xs ++ ys)
+pub put-then : (s before after : ShortText) (xs ys : List ℕ) → before ≡ put_after s xs → after ≡ put_after before ys
+    → after ≡ put_after s (xs ++ ys)
 put-then s before after xs ys e f = f ∙ (ap (λ t. put_after t ys) e ∙ put-append s xs ys)
 
 -- a value of few bits has room for few bytes, and then the checksum is its remainder
@@ -83,7 +86,8 @@ pub remainder_small : (s : ShortText) (n : ℕ) → s.value ≡ n % checksum_pri
 remainder_small s n e = omega (arith, e, mod_below n checksum_prime (omega arith))
 
 -- the checksum after few bytes more
-counted : (s : ShortText) (value : ℕ) (bytes : List ℕ) → s.value < 2 ^ 32 → 0 < length bytes → length bytes ≤ 31 → value ≡ value_from s.value bytes % checksum_prime
+counted : (s : ShortText) (value : ℕ) (bytes : List ℕ) → s.value < 2 ^ 32 → 0 < length bytes → length bytes ≤ 31
+    → value ≡ value_from s.value bytes % checksum_prime
     → value ≡ checksum_from s.value bytes
 counted s value bytes small some few e =
     e ∙ (value_counts bytes s.value 0 (omega (arith, small)) (omega (arith, few)) ∙ from_remainder s.value bytes some)
@@ -101,7 +105,8 @@ ended s mid new line small short e text value =
     )
 
 -- a short line and its newline were put after others
-pub short-laid : (old mid new : ShortText) (line : List ℕ) → old.value < 2 ^ 32 → length line ≤ 29 → has_star line ≡ false → mid ≡ put_after old line
+pub short-laid : (old mid new : ShortText) (line : List ℕ) → old.value < 2 ^ 32 → length line ≤ 29 → has_star line ≡ false
+    → mid ≡ put_after old line
     → new.text ≡ (put_after mid (10 ∷ [])).text → new.value ≡ (put_after mid (10 ∷ [])).value % checksum_prime
     → HasLaid (line ∷ []) (short_stage old) (short_stage new)
 short-laid old mid new line small short plain e text value =
@@ -113,9 +118,12 @@ short-laid old mid new line small short plain e text value =
     }
 
 -- the same of a line in two parts, with the remainder taken between them
-pub parts-laid : (old first between mid new : ShortText) (front back : List ℕ) → old.value < 2 ^ 32 → 0 < length front → length front ≤ 31 → length back ≤ 29
-    → has_star (front ++ back) ≡ false → first ≡ put_after old front → between.text ≡ first.text → between.value ≡ first.value % checksum_prime
-    → mid ≡ put_after between back → new.text ≡ (put_after mid (10 ∷ [])).text → new.value ≡ (put_after mid (10 ∷ [])).value % checksum_prime
+pub parts-laid : (old first between mid new : ShortText) (front back : List ℕ) → old.value < 2 ^ 32 → 0 < length front
+    → length front ≤ 31 → length back ≤ 29
+    → has_star (front ++ back) ≡ false → first ≡ put_after old front → between.text ≡ first.text
+    → between.value ≡ first.value % checksum_prime
+    → mid ≡ put_after between back → new.text ≡ (put_after mid (10 ∷ [])).text
+    → new.value ≡ (put_after mid (10 ∷ [])).value % checksum_prime
     → HasLaid ((front ++ back) ∷ []) (short_stage old) (short_stage new)
 unfolding put_after
 parts-laid old first between mid new front back small some few short plain e t v f text value =
@@ -143,7 +151,8 @@ next_short (Some k) h =
     omega (arith, few)
 
 -- the lines of pieces that fit on one
-pieces_fit : (line a b c : List ℕ) → length line + length a + length b + length c ≤ 79 → laid_out line (a ∷ b ∷ c ∷ []) ≡ (line ++ a ++ b ++ c) ∷ []
+pieces_fit : (line a b c : List ℕ) → length line + length a + length b + length c ≤ 79
+    → laid_out line (a ∷ b ∷ c ∷ []) ≡ (line ++ a ++ b ++ c) ∷ []
 unfolding laid_out
 pieces_fit line a b c few =
     let first : fits_on line a ≡ true = grind (arith, nat_tests) in
@@ -152,7 +161,8 @@ pieces_fit line a b c few =
     rw first (rw second (rw third refl))
 
 -- the line of a short record
-pub short_record : (tip : ℕ) (next : Option ℕ) (len : ℕ) → AreShort tip next len → record_lines (short_texts tip next len) ≡ short_line tip next len ∷ []
+pub short_record : (tip : ℕ) (next : Option ℕ) (len : ℕ) → AreShort tip next len
+    → record_lines (short_texts tip next len) ≡ short_line tip next len ∷ []
 unfolding pieces_of
 short_record tip next len short =
     let v : length (decimal tip) ≤ 8 = length-decimal-le 8 tip (omega arith) (omega (arith, short.0)) (omega (arith, short.0)) in
@@ -176,7 +186,8 @@ short_length tip next len short =
     omega (arith, v, d, r, length-append (codes "V") (decimal tip), length-append a (codes ","), length-append b (record_number_text next), length-append c (codes ","), length-append (c ++ codes ",") (decimal len))
 
 -- the same of a vertex
-five_fit : (a b c d e : List ℕ) → length a + length b + length c + length d + length e ≤ 79 → laid_out [] (a ∷ b ∷ c ∷ d ∷ e ∷ []) ≡ (a ++ b ++ c ++ d ++ e) ∷ []
+five_fit : (a b c d e : List ℕ) → length a + length b + length c + length d + length e ≤ 79
+    → laid_out [] (a ∷ b ∷ c ∷ d ∷ e ∷ []) ≡ (a ++ b ++ c ++ d ++ e) ∷ []
 unfolding laid_out
 five_fit a b c d e few =
     let first : fits_on [] a ≡ true = grind (arith, nat_tests) in

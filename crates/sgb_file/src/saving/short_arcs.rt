@@ -18,7 +18,8 @@ use sgb_graph::{ArcRef, Graph, Ref};
 // A number below this one has at most eight digits.
 const FIRST_LONG_NUMBER: u32 = 100_000_000;
 
-// Writes arc records from number `from` on: those whose lines are put together, or one. Returns the number of the next one.
+// Writes arc records from number `from` on: those whose lines are put together, or one. Returns
+// the number of the next one.
 pub(super) fn put_next_arcs<W: Sink>(
     layout: &mut Layout,
     sink: &mut W,
@@ -49,8 +50,8 @@ pub(super) fn put_next_arcs<W: Sink>(
     Ok(to)
 }
 
-// Puts the lines of arc records together, from number `from` on, up to the first one whose line is not short or has no
-// room. Returns its number.
+// Puts the lines of arc records together, from number `from` on, up to the first one whose line
+// is not short or has no room. Returns its number.
 #[inline(never)]
 fn put_short_arcs(lines: &mut ShortLines, graph: &Graph, from: usize) -> usize
     requires from { from ≤ length graph.now.records }

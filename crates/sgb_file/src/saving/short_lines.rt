@@ -15,7 +15,8 @@ const MOST_BYTES: usize = 4_096;
 // A line that is put together and its newline have at most this many.
 const MOST_LINE_BYTES: usize = 60;
 
-// Lines put together in place, and a value: the checksum after them is its remainder. Contracts see the bytes as a list.
+// Lines put together in place, and a value: the checksum after them is its remainder. Contracts
+// see the bytes as a list.
 #[derive(Drop)]
 pub(super) struct ShortLines {
     bytes: [u8; 4096],
@@ -293,8 +294,8 @@ impl ShortLines {
         self.push_placed(byte, place_of(byte));
     }
 
-    // Appends a byte with its place. By the remainder, which changes nothing, the compiler knows that only the bytes are
-    // written over, and keeps the other fields at hand.
+    // Appends a byte with its place. By the remainder, which changes nothing, the compiler knows that
+    // only the bytes are written over, and keeps the other fields at hand.
     #[inline(always)]
     fn push_placed(&mut self, byte: u8, place: u8)
         requires place { place ≡ place_of byte }

@@ -1,4 +1,4 @@
-//! The records of vertices whose lines are short: their lines are put together before they are written.
+//! The records of vertices whose lines are short: these are put together before they are written.
 ghost use Rattle.std.specs.Prelude.{◌≡◌, ◌+◌, ◌^◌, ◌<◌, ◌≤◌, [], ◌∷◌, decimal, drop, false, length, map, IfOk, IfSome, OnErr};
 ghost use Rattle.std.specs.Bool.{OnFalse, OnTrue};
 ghost use Rattle.std.specs.List.{flat_map};
@@ -18,11 +18,12 @@ use sgb_graph::{Graph, UtilRef, VertexRef};
 // A short name has at most this many bytes.
 const MOST_NAME_BYTES: usize = 28;
 
-// The numbers of a vertex: that of the first record of its list, if there is one, and the integers of its fields x, y, z.
+// The numbers of a vertex: that of the first record of its list, if there is one, and the integers
+// of its fields x, y, z.
 type Numbers = (Option<u32>, u32, u32, u32);
 
-// Writes the records of vertices from number `from` on: those whose lines are put together, or one. Returns the number of
-// the next one.
+// Writes the records of vertices from number `from` on: those whose lines are put together, or
+// one. Returns the number of the next one.
 pub(super) fn put_next_vertices<W: Sink>(
     layout: &mut Layout,
     sink: &mut W,
@@ -54,8 +55,8 @@ pub(super) fn put_next_vertices<W: Sink>(
     Ok(to)
 }
 
-// Puts the lines of vertices together, from number `from` on, up to the first one whose line is not short or has no room.
-// Returns its number.
+// Puts the lines of vertices together, from number `from` on, up to the first one whose line is
+// not short or has no room. Returns its number.
 #[inline(never)]
 fn put_short_vertices(lines: &mut ShortLines, graph: &Graph, from: u32) -> u32
     requires from { from ≤ length graph.now.vertices }
