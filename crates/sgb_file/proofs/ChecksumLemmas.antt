@@ -4,7 +4,7 @@ use Rattle.std.specs.List.{list_all, range_with_len}
 use Rattle.std.proofs.Common.{arith, ap, sym, ◌∙◌, length-append}
 use Rattle.std.proofs.Math.Nat.{mul_assoc, mul_comm, add-mul, pow-suc, add-mul-mod_self_right, mod-add-div', mod-eq_of_lt, two-pow-succ}
 use Rattle.std.proofs.lemmas.List.{drop_all, drop_more, take-append-drop}
-use Rattle.std.proofs.lemmas.List.Sums.{fold-append}
+use Rattle.std.proofs.lemmas.List.Sums.{fold-append, prefix_len-le-length}
 use Rattle.std.proofs.lemmas.Nat.{mod_below}
 use native.Mathlib.Nat.{pow-le-pow_right}
 use Rattle.std.proofs.lemmas.Bool.Decides.{Decides-eqb, Decides-ltb, nat_tests}
@@ -64,7 +64,7 @@ remainder_in_sum n k w p =
     sym (ap (λ (x : ℕ). x % p) whole ∙ add-mul-mod_self_right (n % p * k + w) (n / p * k) p)
 
 -- a number that is doubled and added to may stand for its remainder
-remainder_doubled : (n v p : ℕ) → (2 * (n % p) + v) % p ≡ (2 * n + v) % p
+pub remainder_doubled : (n v p : ℕ) → (2 * (n % p) + v) % p ≡ (2 * n + v) % p
 remainder_doubled n v p =
     ap (λ (x : ℕ). (x + v) % p) (mul_comm 2 (n % p))
     ∙ (remainder_in_sum n 2 v p ∙ ap (λ (x : ℕ). (x + v) % p) (mul_comm n 2))
@@ -79,7 +79,7 @@ byte_counted value bytes i within =
     ∙ ap (λ sum. checksum_from sum (drop (i + 1) bytes)) (remainder_doubled value (place_of (get_or bytes i 0)) checksum_prime)
 
 -- the checksum after some bytes may begin at the remainder
-from_remainder : (sum : ℕ) (few : List ℕ) → 0 < length few → checksum_from (sum % checksum_prime) few ≡ checksum_from sum few
+pub from_remainder : (sum : ℕ) (few : List ℕ) → 0 < length few → checksum_from (sum % checksum_prime) few ≡ checksum_from sum few
 unfolding checksum_from checksum_after
 from_remainder sum [] some = absurd (omega (arith, some))
 from_remainder sum (b ∷ few) some = ap (λ x. checksum_from x few) (remainder_doubled sum (place_of b) checksum_prime)
@@ -163,3 +163,13 @@ unfolding places place_of
 place_in_table byte d h =
     get_or_default_zero places byte d (rw length-places h)
     ∙ (Decides-eqb _ _).0 (at_each_below (λ b. get_or places b 0 == place_of b) 256 refl byte h)
+
+-- a place is at most the number of characters
+pub place_small : (byte : ℕ) → place_of byte < 256
+unfolding place_of
+place_small byte = omega (arith, prefix_len-le-length (λ c. not (c == byte)) characters)
+
+-- the place of a digit
+pub digit_place : (digit : ℕ) → digit < 10 → place_of (48 + digit) ≡ digit
+unfolding place_of
+digit_place digit h = (Decides-eqb _ digit).0 (at_each_below (λ d. place_of (48 + d) == d) 10 refl digit h)

@@ -1,16 +1,13 @@
 -- The texts of fields, laid out as pieces one after another.
-use Rattle.std.proofs.Common.{ℤ, pos, negsuc, nat_abs, ◌≤ℤ◌, ◌≡◌, ◌<◌, ◌≤◌, ◌+◌, ◌++◌, ◌∙◌, ℕ, Bool, true, false, List, [], ◌∷◌, Result, Ok, Err, length, drop, map, slice_index_or, refl, sym, ap, subst, append-nil, Some, arith, slice_get}
+use Rattle.std.proofs.Common.{◌≡◌, ◌<◌, ◌≤◌, ◌+◌, ◌++◌, ◌∙◌, ℕ, Bool, true, false, List, [], ◌∷◌, Result, Ok, Err, length, drop, map, slice_index_or, refl, sym, ap, subst, append-nil, Some, arith, slice_get}
 use Rattle.sgb_graph.specs.Columns.{util_seen}
 use Rattle.sgb_graph.specs.declared.fields.UtilRef.{UtilRef}
 use Rattle.std.specs.List.{flat_map}
-use Rattle.std.specs.Fmt.{signed_decimal}
-use Rattle.std.proofs.lemmas.Fmt.{decimal_digit}
-use Rattle.std.proofs.lemmas.Int.{ints}
 use Rattle.std.proofs.lemmas.List.{at_drop_more, drop_all}
 use Rattle.sgb_graph.specs.declared.fields.Util.{Util}
 use Rattle.sgb_graph.specs.declared.fields.Util.TheVariants.{Nothing}
 use Rattle.sgb_file.specs.Saving.{field_texts, pieces_of, laid_out, lines_ended, line_begun}
-use Rattle.sgb_file.specs.inner.Layouts.{Stage, HasLaid, IsStopped, IsLaid, IsPlaced, IsNextPlaced, AreLaidOut, comma_of, has_any, piece_of}
+use Rattle.sgb_file.specs.inner.Layouts.{Stage, HasLaid, IsStopped, IsLaid, IsPlaced, IsNextPlaced, AreLaidOut, has_any, piece_of}
 use Rattle.sgb_file.proofs.LaidLines.{LinesSoFar, lines-more, lines-cut, lines-last, stopped-first, laid-after}
 
 -- the texts of fields
@@ -98,16 +95,6 @@ fields-end fields i all a b c r h p q =
 pub fields-unused : {T E : Type 0} (texts : List (List ℕ)) (a b : Stage) (r : Result T E) → has_any texts ≡ false → IsLaid (a.layout.line ∷ []) [] a b r → AreLaidOut texts a b r
 fields-unused [] a b r e p = subst (λ lines. IsLaid lines [] a b r) (sym (no_texts a.layout.line)) p
 fields-unused (text ∷ texts) a b r e p = absurd cc
-
--- the digit of a number below ten, and its piece
-pub digit_text : (number : ℤ) → pos 0 ≤ℤ number → number ≤ℤ pos 9 → signed_decimal number ≡ (48 + nat_abs number) ∷ []
-digit_text (pos n) low high = decimal_digit n (omega (arith, ints, high))
-digit_text (negsuc n) low high = absurd low.le
-
-pub digit-placed : {T E : Type 0} (text : List ℕ) (digit : ℕ) (comma : List ℕ) (more : Bool) (a b : Stage) (r : Result T E) → digit ∷ [] ≡ text
-    → comma ≡ comma_of more → IsPlaced (digit ∷ comma) a b r → IsPlaced (piece_of more text) a b r
-digit-placed text digit comma more a b r e f p =
-    subst (λ (piece : List ℕ). IsPlaced piece a b r) (ap (λ (t : List ℕ). digit ∷ t) f ∙ ap (λ (t : List ℕ). t ++ comma_of more) e) p
 
 -- a piece was laid out
 abbrev pub HasPlaced : List ℕ → Stage → Stage → Type 0

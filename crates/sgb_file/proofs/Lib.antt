@@ -78,3 +78,7 @@ pub mod PartialWrites
 pub mod SoFar
 -- what a sink has of a text where a write failed
 pub mod WrittenPrefixes
+-- short lines that are put together
+pub mod ShortLines
+-- records whose lines are put together
+pub mod ShortRecords

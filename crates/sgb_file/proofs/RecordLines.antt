@@ -1,11 +1,11 @@
 -- A section of a file: its title, and records that are written one after another.
-use Rattle.std.proofs.Common.{◌≡◌, ◌<◌, ◌≤◌, ◌+◌, ◌++◌, ◌∙◌, ℕ, List, [], ◌∷◌, Some, refl, length, drop, ap, subst, slice_get}
+use Rattle.std.proofs.Common.{◌≡◌, ◌<◌, ◌≤◌, ◌+◌, ◌++◌, ◌∙◌, ℕ, List, [], ◌∷◌, Some, refl, length, drop, ap, slice_get}
 use Rattle.std.specs.List.{flat_map}
 use Rattle.std.proofs.lemmas.List.{at_drop_more, drop_all}
 use Rattle.std.proofs.lemmas.Option.{get_or_from_slice_get}
-use Rattle.sgb_file.specs.Saving.{record_lines, laid_out, pieces_of}
+use Rattle.sgb_file.specs.Saving.{record_lines}
 use Rattle.sgb_file.specs.inner.Layouts.{Stage, HasLaid, IsStopped}
-use Rattle.sgb_file.proofs.LaidLines.{LinesSoFar, lines-more, lines-cut, lines-all, stopped-first}
+use Rattle.sgb_file.proofs.LaidLines.{LinesSoFar, lines-all, stopped-first}
 
 -- the lines of a section
 abbrev pub section : {X : Type 0} → List ℕ → (X → List (List ℕ)) → List X → List (List ℕ)
@@ -24,22 +24,11 @@ pub title-cut : {X : Type 0} (title : List ℕ) (texts : X → List (List ℕ)) 
 title-cut title texts xs a b p = stopped-first _ (title ∷ []) (flat_map (λ x. record_lines (texts x)) xs) a b refl p
 
 -- the first of the records that are left
-first_record : {X : Type 0} (texts : X → List (List ℕ)) (xs : List X) (i : ℕ) (x : X) → i < length xs → slice_get xs i ≡ Some x
+pub first_record : {X : Type 0} (texts : X → List (List ℕ)) (xs : List X) (i : ℕ) (x : X) → i < length xs → slice_get xs i ≡ Some x
     → flat_map (λ y. record_lines (texts y)) (drop i xs) ≡ record_lines (texts x) ++ flat_map (λ y. record_lines (texts y)) (drop (i + 1) xs)
 first_record texts xs i x h e =
     at_drop_more (flat_map (λ y. record_lines (texts y))) xs i x h
     ∙ ap (λ y. record_lines (texts y) ++ flat_map (λ y. record_lines (texts y)) (drop (i + 1) xs)) (get_or_from_slice_get xs i x x e)
-
--- the next record was written, or the writing stopped there
-pub records-more : {X : Type 0} (title : List ℕ) (texts : X → List (List ℕ)) (xs : List X) (i : ℕ) (x : X) (a b c : Stage) → i < length xs → slice_get xs i ≡ Some x
-    → RecordsSoFar title texts xs i a b → HasLaid (laid_out b.layout.line (pieces_of (texts x))) b c × (c.layout.line ≡ []) → RecordsSoFar title texts xs (i + 1) a c
-records-more title texts xs i x a b c h e p q =
-    (lines-more _ _ _ _ a b c (first_record texts xs i x h e) p.0 (subst (λ line. HasLaid (laid_out line (pieces_of (texts x))) b c) p.1 q.0), q.1)
-
-pub records-cut : {X : Type 0} (title : List ℕ) (texts : X → List (List ℕ)) (xs : List X) (i : ℕ) (x : X) (a b c : Stage) → i < length xs → slice_get xs i ≡ Some x
-    → RecordsSoFar title texts xs i a b → IsStopped (laid_out b.layout.line (pieces_of (texts x))) b c → IsStopped (section title texts xs) a c
-records-cut title texts xs i x a b c h e p q =
-    lines-cut _ _ _ _ a b c (first_record texts xs i x h e) p.0 (subst (λ line. IsStopped (laid_out line (pieces_of (texts x))) b c) p.1 q)
 
 -- all records were written
 pub records-all : {X : Type 0} (title : List ℕ) (texts : X → List (List ℕ)) (xs : List X) (i : ℕ) (a b : Stage) → length xs ≤ i → RecordsSoFar title texts xs i a b

@@ -13,3 +13,5 @@ pub mod Layouts
 pub mod LinesLeft
 -- parts with the records that a text begins with
 pub mod Reading
+-- short lines that are put together, with their checksum
+pub mod ShortLines

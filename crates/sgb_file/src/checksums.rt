@@ -86,14 +86,16 @@ fn value_after(sum: u32, bytes: &[u8]) -> u64
 }
 
 // The remainder of a number.
-fn remainder(value: u64) -> u32
+#[inline(always)]
+pub(crate) fn remainder(value: u64) -> u32
     ensures { result ≡ value % checksum_prime }
 {
     (value % PRIME) as u32
 }
 
 // The place of a byte.
-fn place_of(byte: u8) -> u8
+#[inline(always)]
+pub(crate) fn place_of(byte: u8) -> u8
     ensures { result ≡ place_of byte }
 {
     places()[usize::from(byte)]

@@ -9,12 +9,18 @@ mod fields;
 mod layouts;
 mod lines;
 mod records;
+mod short_arcs;
+mod short_lines;
+mod short_vertices;
 
 use crate::devices::{Failed, Sink, put_all};
 use itoa::Buffer;
 use layouts::Layout;
-use records::{put_arc, put_graph, put_vertex};
+use records::put_graph;
 use sgb_graph::{Graph, Kind};
+use short_arcs::put_next_arcs;
+use short_lines::ShortLines;
+use short_vertices::put_next_vertices;
 
 /// Writes a graph as a `.gb` file (GB_SAVE, save_graph). It takes no memory.
 ///
@@ -113,8 +119,10 @@ fn put_vertices<W: Sink>(
         (stage W.written W.has_failed sink.new layout.new) result }
 {
     put_all(sink, b"* Vertices\n")?;
-    for v in 0..n {
-        put_vertex(layout, sink, graph.vertex(v))?;
+    let mut lines = ShortLines::new();
+    let mut v = 0;
+    while v < n {
+        v = put_next_vertices(layout, sink, graph, &mut lines, v)?;
     }
     Ok(())
 }
@@ -127,8 +135,10 @@ fn put_arcs<W: Sink>(layout: &mut Layout, sink: &mut W, graph: &Graph) -> Result
         (stage W.written W.has_failed sink.new layout.new) result }
 {
     put_all(sink, b"* Arcs\n")?;
-    for k in 0..graph.records_len() {
-        put_arc(layout, sink, graph.arc_rec(k))?;
+    let mut lines = ShortLines::new();
+    let mut k = 0;
+    while k < graph.records_len() {
+        k = put_next_arcs(layout, sink, graph, &mut lines, k)?;
     }
     Ok(())
 }

@@ -8,7 +8,6 @@ ghost use Rattle.sgb_file.specs.Saving.{field_texts, pieces_of, quoted, record_n
 
 use super::layouts::Layout;
 use crate::devices::{Failed, Sink};
-use itoa::Buffer;
 use sgb_graph::{Ref, UtilRef};
 
 // Lays out the fields that are used, which end the record. Most records have none.
@@ -58,7 +57,7 @@ pub(super) fn any_used(fields: &[UtilRef<'_>]) -> bool
 }
 
 // Whether the field is used.
-fn is_used(field: UtilRef<'_>) -> bool
+pub(super) fn is_used(field: UtilRef<'_>) -> bool
     ensures { result ≡ has_any (field_texts (util_seen field.entry)) }
 {
     !matches!(field, UtilRef::Nothing)
@@ -101,7 +100,6 @@ pub(super) fn put_string<W: Sink>(
 }
 
 // Lays out an integer.
-#[inline(always)]
 pub(super) fn put_integer<W: Sink>(
     layout: &mut Layout,
     sink: &mut W,
@@ -112,38 +110,7 @@ pub(super) fn put_integer<W: Sink>(
         (stage W.written W.has_failed sink.old layout.old)
         (stage W.written W.has_failed sink.new layout.new) result }
 {
-    if 0 <= number && number <= 9 {
-        return layout.place(sink, b"", &[digit_of(number)], comma(more));
-    }
-    match u32::try_from(number) {
-        Ok(count) => layout.place_number(sink, b"", count, comma(more)),
-        Err(_) => put_long_integer(layout, sink, number, more),
-    }
-}
-
-// The digit of a number below ten.
-fn digit_of(number: i64) -> u8
-    requires low { pos 0 ≤ℤ number }
-    requires high { number ≤ℤ pos 9 }
-    ensures { signed_decimal number ≡ result ∷ [] }
-{
-    b'0' + number as u8
-}
-
-// Lays out any integer.
-#[inline(never)]
-fn put_long_integer<W: Sink>(
-    layout: &mut Layout,
-    sink: &mut W,
-    number: i64,
-    more: bool,
-) -> Result<(), Failed>
-    ensures { IsPlaced (piece_of more (signed_decimal number))
-        (stage W.written W.has_failed sink.old layout.old)
-        (stage W.written W.has_failed sink.new layout.new) result }
-{
-    let mut digits = Buffer::new();
-    layout.place(sink, b"", digits.format(number).as_bytes(), comma(more))
+    layout.place_number(sink, b"", number, comma(more))
 }
 
 // Lays out a number.
@@ -157,12 +124,10 @@ pub(super) fn put_number<W: Sink>(
         (stage W.written W.has_failed sink.old layout.old)
         (stage W.written W.has_failed sink.new layout.new) result }
 {
-    let mut digits = Buffer::new();
-    layout.place(sink, b"", digits.format(number).as_bytes(), comma(more))
+    layout.place_number(sink, b"", number, comma(more))
 }
 
 // Lays out a vertex.
-#[inline(always)]
 pub(super) fn put_ref<W: Sink>(
     layout: &mut Layout,
     sink: &mut W,
@@ -181,7 +146,6 @@ pub(super) fn put_ref<W: Sink>(
 }
 
 // Lays out an arc record's number.
-#[inline(always)]
 pub(super) fn put_record_number<W: Sink>(
     layout: &mut Layout,
     sink: &mut W,
@@ -194,27 +158,8 @@ pub(super) fn put_record_number<W: Sink>(
 {
     match first {
         None => layout.place(sink, b"", b"0", comma(more)),
-        Some(number) => match u32::try_from(number) {
-            Ok(count) => layout.place_number(sink, b"A", count, comma(more)),
-            Err(_) => put_long_record_number(layout, sink, number, more),
-        },
+        Some(number) => layout.place_number(sink, b"A", number, comma(more)),
     }
-}
-
-// Lays out any arc record's number.
-#[inline(never)]
-fn put_long_record_number<W: Sink>(
-    layout: &mut Layout,
-    sink: &mut W,
-    number: usize,
-    more: bool,
-) -> Result<(), Failed>
-    ensures { IsPlaced (piece_of more (record_number_text (Some number)))
-        (stage W.written W.has_failed sink.old layout.old)
-        (stage W.written W.has_failed sink.new layout.new) result }
-{
-    let mut digits = Buffer::new();
-    layout.place(sink, b"A", digits.format(number).as_bytes(), comma(more))
 }
 
 // The comma after a field where more follow.

@@ -1,18 +1,14 @@
 //! Pieces laid out on lines of at most 79 bytes (GB_SAVE, save_graph).
-ghost use Rattle.std.specs.Prelude.{◌≡◌, ◌+◌, ◌≤◌, ◌++◌, ◌∷◌, [], decimal, false, length};
+ghost use Rattle.std.specs.Prelude.{◌≡◌, ◌+◌, ◌<◌, ◌≤◌, ◌^◌, ◌++◌, ◌∷◌, [], OnOk, false, length};
+ghost use Rattle.sgb_file.specs.Devices.{IsPut, change};
 ghost use Rattle.sgb_file.specs.inner.Layouts.{IsFilled, IsLaid, IsPlaced, lines_before, stage};
 ghost use Rattle.sgb_file.specs.Saving.{fits_on, most_file_line_bytes};
 
 use super::lines::{Line, MOST_LINE_BYTES};
-use crate::devices::{Failed, Sink};
-use itoa::Buffer;
+use super::short_lines::ShortLines;
+use crate::devices::{Failed, Sink, put_all};
+use itoa::{Buffer, Integer};
 use std::marker::Model;
-
-// A number below this one has at most eight digits.
-const FIRST_LONG_NUMBER: u32 = 100_000_000;
-
-// After this many bytes a line has room for eight digits and a short text before and after them.
-const MOST_BYTES_BEFORE_NUMBER: usize = 67;
 
 // A layout under way: the checksum of the lines so far, and the beginning of the next line.
 #[derive(Drop)]
@@ -48,6 +44,22 @@ impl Layout {
         self.checksum
     }
 
+    // Writes lines that were put together.
+    pub(super) fn put_lines<W: Sink>(
+        &mut self,
+        sink: &mut W,
+        lines: &ShortLines,
+    ) -> Result<(), Failed>
+        requires { lines.now.value < 2 ^ 32 }
+        ensures put { IsPut lines.now.text (change W.written W.has_failed sink.old sink.new)
+            result }
+        ensures sound { OnOk result (W.has_failed sink.new ≡ W.has_failed sink.old) }
+        ensures layout { self.new ≡ record self.old { checksum = lines.now.value } }
+    {
+        self.checksum = lines.checksum();
+        put_all(sink, lines.bytes())
+    }
+
     // Ends the line.
     pub(super) fn end_line<W: Sink>(&mut self, sink: &mut W) -> Result<(), Failed>
         ensures { IsLaid (self.old.line ∷ []) []
@@ -80,40 +92,17 @@ impl Layout {
         self.place_anew(sink, front, body, back)
     }
 
-    // Lays out a number between two short texts. Most numbers are put on the line digit by digit.
-    #[inline(always)]
-    pub(super) fn place_number<W: Sink>(
+    // Lays out a number between two short texts.
+    pub(super) fn place_number<W: Sink, I: Integer>(
         &mut self,
         sink: &mut W,
         front: &[u8],
-        number: u32,
+        number: I,
         back: &[u8],
     ) -> Result<(), Failed>
         requires front { length front.now ≤ 1 }
         requires back { length back.now ≤ 2 }
-        ensures { IsPlaced (front.now ++ decimal number ++ back.now)
-            (stage W.written W.has_failed sink.old self.old)
-            (stage W.written W.has_failed sink.new self.new) result }
-    {
-        if number < FIRST_LONG_NUMBER && self.line.len() <= MOST_BYTES_BEFORE_NUMBER {
-            self.line.push_number_piece(front, number, back);
-            return Ok(());
-        }
-        self.place_long_number(sink, front, number, back)
-    }
-
-    // Lays out any number between two short texts.
-    #[inline(never)]
-    fn place_long_number<W: Sink>(
-        &mut self,
-        sink: &mut W,
-        front: &[u8],
-        number: u32,
-        back: &[u8],
-    ) -> Result<(), Failed>
-        requires front { length front.now ≤ 1 }
-        requires back { length back.now ≤ 2 }
-        ensures { IsPlaced (front.now ++ decimal number ++ back.now)
+        ensures { IsPlaced (front.now ++ I.text number ++ back.now)
             (stage W.written W.has_failed sink.old self.old)
             (stage W.written W.has_failed sink.new self.new) result }
     {

@@ -1,5 +1,5 @@
 //! The line under way.
-ghost use Rattle.std.specs.Prelude.{◌≡◌, ◌+◌, ◌/◌, ◌%◌, ◌<◌, ◌≤◌, ◌++◌, ◌∷◌, [], decimal, length, take, drop, OnOk};
+ghost use Rattle.std.specs.Prelude.{◌≡◌, ◌+◌, ◌≤◌, ◌++◌, ◌∷◌, [], length, take, drop, OnOk};
 ghost use Rattle.sgb_file.specs.Devices.{change, IsPut};
 ghost use Rattle.sgb_file.specs.inner.Layouts.{checksum_from, counted_bytes};
 ghost use Rattle.sgb_file.specs.Saving.{broken_line_bytes, most_file_line_bytes};
@@ -59,79 +59,6 @@ impl Line {
         self.push_few(front);
         self.push(body);
         self.push_few(back);
-    }
-
-    // Appends a number of at most eight digits between two short texts, for which there is room.
-    #[inline(always)]
-    pub(super) fn push_number_piece(&mut self, before: &[u8], number: u32, after: &[u8])
-        requires room { length self.old ≤ 67 }
-        requires few { number < 100_000_000 }
-        requires before { length before.now ≤ 2 }
-        requires after { length after.now ≤ 2 }
-        ensures { self.new ≡ self.old ++ (before.now ++ decimal number ++ after.now) }
-    {
-        self.push_few(before);
-        self.push_number(number);
-        self.push_few(after);
-    }
-
-    // Appends a number of at most eight digits.
-    #[inline(always)]
-    fn push_number(&mut self, number: u32)
-        requires few { number < 100_000_000 }
-        requires room { length self.old + 8 ≤ most_file_line_bytes }
-        ensures text { self.new ≡ self.old ++ decimal number }
-        ensures short { length self.new ≤ length self.old + 8 }
-    {
-        if number < 10_000 {
-            self.push_four(number);
-        } else {
-            self.push_four(number / 10_000);
-            self.push_pair(number / 100 % 100);
-            self.push_pair(number % 100);
-        }
-    }
-
-    // Appends a number of at most four digits.
-    #[inline(always)]
-    fn push_four(&mut self, number: u32)
-        requires few { number < 10_000 }
-        requires room { length self.old + 4 ≤ most_file_line_bytes }
-        ensures text { self.new ≡ self.old ++ decimal number }
-        ensures short { length self.new ≤ length self.old + 4 }
-    {
-        if number < 100 {
-            self.push_two(number);
-        } else {
-            self.push_two(number / 100);
-            self.push_pair(number % 100);
-        }
-    }
-
-    // Appends a number of at most two digits.
-    #[inline(always)]
-    fn push_two(&mut self, number: u32)
-        requires few { number < 100 }
-        requires room { length self.old + 2 ≤ most_file_line_bytes }
-        ensures text { self.new ≡ self.old ++ decimal number }
-        ensures short { length self.new ≤ length self.old + 2 }
-    {
-        if number < 10 {
-            self.push_byte(b'0' + number as u8);
-        } else {
-            self.push_pair(number);
-        }
-    }
-
-    // Appends two digits.
-    #[inline(always)]
-    fn push_pair(&mut self, pair: u32)
-        requires few { pair < 100 }
-        requires room { length self.old + 2 ≤ most_file_line_bytes }
-        ensures { self.new ≡ self.old ++ (48 + pair / 10) ∷ (48 + pair % 10) ∷ [] }
-    {
-        self.push_byte(b'0' + (pair / 10) as u8);
-        self.push_byte(b'0' + (pair % 10) as u8);
     }
 
     // Appends at most two bytes, for which there is room.

@@ -198,7 +198,14 @@ impl Board {
     }
 
     // Adds the moves from vertex `u`, which is the vector `x`, by the displacement `t`.
-    fn add_moves(&self, graph: &mut Graph, u: u32, x: &[u32], t: &Step) -> Result<(), Panic>
+    fn add_moves(
+        &self,
+        graph: &mut Graph,
+        u: u32,
+        x: &[u32],
+        t: &Step,
+        there: &mut Vector,
+    ) -> Result<(), Panic>
         requires vertex { slice_get (box self.now.sizes) u ≡ Some x.now }
         requires dimensions { length t.now ≡ length self.now.sizes }
         requires vertices { length graph.old.vertices ≡ length (box self.now.sizes) }
@@ -208,9 +215,8 @@ impl Board {
             (moves_from (sides_of self.now.sizes self.now.wrap) self.now.piece x.now t.now))) }
         ensures memory { IsOkUnless result Panic.NoRoom }
     {
-        let mut there = Vector::new();
         for l in 1..=self.longest_move() {
-            let Some(v) = self.vertex_at(x, t, l, &mut there) else {
+            let Some(v) = self.vertex_at(x, t, l, there) else {
                 return Ok(());
             };
             graph.add_event(self.directed, u, v, i64::from(l))?;
@@ -229,12 +235,13 @@ impl Board {
             t.now) (box self.now.sizes)))) }
         ensures memory { IsOkUnless result Panic.NoRoom }
     {
+        let mut there = Vector::new();
         let mut left = Vectors::all(&self.family);
         for u in 0..self.family.size() {
             let Some(x) = left.front() else {
                 return Ok(());
             };
-            self.add_moves(graph, u, x, t)?;
+            self.add_moves(graph, u, x, t, &mut there)?;
             let _some = left.advance();
         }
         Ok(())

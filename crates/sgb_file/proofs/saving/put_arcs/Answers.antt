@@ -1,8 +1,9 @@
-use Rattle.std.proofs.Common.{arith, ◌<◌, ◌≤◌, codes, length, refl}
+use Rattle.std.proofs.Common.{arith, ◌≤◌, codes, length, refl}
 use Rattle.std.proofs.lemmas.Result.{err_from_is_err_and}
 use Rattle.sgb_file.specs.inner.Layouts.{arc_lines, stage}
 use Rattle.sgb_file.specs.Saving.{arc_texts}
-use Rattle.sgb_file.proofs.RecordLines.{records-more, records-cut, records-all, title-cut, title-written}
+use Rattle.sgb_file.proofs.RecordLines.{records-all, title-cut, title-written}
+use Rattle.sgb_file.proofs.ShortRecords.{section-cut, section-more}
 use Rattle.sgb_file.proofs.WholeText.{starred-laid, starred-stopped}
 use Rattle.sgb_file.proofs.saving.put_arcs.Goals as goal
 
@@ -19,17 +20,15 @@ loop-k-init g c =
     let b = stage g.W.Sink.written g.W.Sink.has_failed c.put_all.new.sink c.args.layout.now in
     title-written (codes "* Arcs") (λ x. arc_texts x) c.args.graph.now.records a b (starred-laid (codes "* Arcs") a b refl c.in_ok-put_all.ensures.put c.in_ok-put_all.ensures.sound refl) c.requires
 
-pub returns-in_err-put_arc : goal.returns-in_err-put_arc
+pub returns-in_err-k : goal.returns-in_err-k
 unfolding arc_lines
-returns-in_err-put_arc g c =
-    let p = err_from_is_err_and c.from_residual-in_err-put_arc.result c.from_residual-in_err-put_arc.ensures.1 in
-    let within : c.loop-k.k < length c.args.graph.now.records = omega arith in
-    rw p.1 (records-cut (codes "* Arcs") (λ x. arc_texts x) c.args.graph.now.records c.loop-k.k _ _ _ _ within c.arc_rec.ensures c.loop-k.invariant c.in_err-put_arc.ensures)
+returns-in_err-k g c =
+    let p = err_from_is_err_and c.from_residual-in_err-k.result c.from_residual-in_err-k.ensures.1 in
+    rw p.1 (section-cut (codes "* Arcs") (λ x. arc_texts x) c.args.graph.now.records c.loop-k.k _ _ _ c.loop-k.invariant c.in_err-k.ensures.cut)
 
 pub loop-k-preserved : goal.loop-k-preserved
 loop-k-preserved g c =
-    let within : c.loop-k.k < length c.args.graph.now.records = omega arith in
-    records-more (codes "* Arcs") (λ x. arc_texts x) c.args.graph.now.records c.loop-k.k _ _ _ _ within c.arc_rec.ensures c.loop-k.invariant c.in_ok-put_arc.ensures
+    section-more (codes "* Arcs") (λ x. arc_texts x) c.args.graph.now.records c.loop-k.k _ _ _ _ c.loop-k.invariant c.in_ok-k.ensures.laid c.in_ok-k.ensures.line
 
 pub returns : goal.returns
 unfolding arc_lines

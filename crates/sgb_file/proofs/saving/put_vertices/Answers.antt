@@ -1,8 +1,9 @@
-use Rattle.std.proofs.Common.{arith, ◌<◌, ◌≤◌, codes, length, refl}
+use Rattle.std.proofs.Common.{arith, ◌≤◌, codes, length, refl}
 use Rattle.std.proofs.lemmas.Result.{err_from_is_err_and}
 use Rattle.sgb_file.specs.inner.Layouts.{vertex_lines, stage}
 use Rattle.sgb_file.specs.Saving.{vertex_texts}
-use Rattle.sgb_file.proofs.RecordLines.{records-more, records-cut, records-all, title-cut, title-written}
+use Rattle.sgb_file.proofs.RecordLines.{records-all, title-cut, title-written}
+use Rattle.sgb_file.proofs.ShortRecords.{section-cut, section-more}
 use Rattle.sgb_file.proofs.WholeText.{starred-laid, starred-stopped}
 use Rattle.sgb_file.proofs.saving.put_vertices.Goals as goal
 
@@ -19,17 +20,15 @@ loop-v-init g c =
     let b = stage g.W.Sink.written g.W.Sink.has_failed c.put_all.new.sink c.args.layout.now in
     title-written (codes "* Vertices") (λ x. vertex_texts x) c.args.graph.now.vertices a b (starred-laid (codes "* Vertices") a b refl c.in_ok-put_all.ensures.put c.in_ok-put_all.ensures.sound refl) c.requires.line
 
-pub returns-in_err-put_vertex : goal.returns-in_err-put_vertex
+pub returns-in_err-v : goal.returns-in_err-v
 unfolding vertex_lines
-returns-in_err-put_vertex g c =
-    let p = err_from_is_err_and c.from_residual-in_err-put_vertex.result c.from_residual-in_err-put_vertex.ensures.1 in
-    let within : c.loop-v.v < length c.args.graph.now.vertices = omega arith in
-    rw p.1 (records-cut (codes "* Vertices") (λ x. vertex_texts x) c.args.graph.now.vertices c.loop-v.v _ _ _ _ within c.vertex.ensures c.loop-v.invariant c.in_err-put_vertex.ensures)
+returns-in_err-v g c =
+    let p = err_from_is_err_and c.from_residual-in_err-v.result c.from_residual-in_err-v.ensures.1 in
+    rw p.1 (section-cut (codes "* Vertices") (λ x. vertex_texts x) c.args.graph.now.vertices c.loop-v.v _ _ _ c.loop-v.invariant c.in_err-v.ensures.cut)
 
 pub loop-v-preserved : goal.loop-v-preserved
 loop-v-preserved g c =
-    let within : c.loop-v.v < length c.args.graph.now.vertices = omega arith in
-    records-more (codes "* Vertices") (λ x. vertex_texts x) c.args.graph.now.vertices c.loop-v.v _ _ _ _ within c.vertex.ensures c.loop-v.invariant c.in_ok-put_vertex.ensures
+    section-more (codes "* Vertices") (λ x. vertex_texts x) c.args.graph.now.vertices c.loop-v.v _ _ _ _ c.loop-v.invariant c.in_ok-v.ensures.laid c.in_ok-v.ensures.line
 
 pub returns : goal.returns
 unfolding vertex_lines
