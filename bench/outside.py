@@ -511,6 +511,66 @@ def long_file(runs, tally):
     tally.check(said(from_file) == said(listed), "list stdin of", len(saved.out), "bytes gave", said(from_file))
 
 
+# the 96 characters of a file in the order of its checksum
+ORDER = (
+    "0123456789ABCDEFGHIJKLMNOPQRSTUVWXYZabcdefghijklmnopqrstuvwxyz_^~&@,;.:?!%#$+-*/|\\<=>()[]{}`'\" \n"
+)
+# integers of as many digits as have a way of their own, and of one more
+INTEGERS = (0, 9, 10, 99, 100, 999, 1_000, 9_999, 10_000, -1, 99_999, 1_000_000)
+LENGTHS = (*INTEGERS, 2**63 - 1, -(2**63))
+
+
+def file_of(kinds, vertices, arcs, closing=0):
+    """A file as it is saved, where each record is one line: of records as texts, with its checksum, or with another one."""
+    records = [f'"{kinds}",{len(vertices)},{len(arcs)}']
+    value = 0
+    for line in [*records, *vertices, *arcs]:
+        for byte in line + "\n":
+            value = (2 * value + ORDER.index(byte)) % 1_073_741_741
+    head = f"* GraphBase graph (util_types {kinds},{len(vertices)}V,{len(arcs)}A)"
+    lines = [head, *records, "* Vertices", *vertices, "* Arcs", *arcs, f"* Checksum {value + closing}"]
+    return "".join(line + "\n" for line in lines).encode()
+
+
+def records_of(kinds, few):
+    """Records of some hundred vertices and as many arcs, each of one line: names of up to 31 bytes, the first few integers."""
+    count = 400 + few
+
+    def field(kind, k):
+        if kind == "I":
+            return str(INTEGERS[k % few])
+        return {"V": f"V{k * 7 % count}", "A": f"A{k * 5 % count}", "S": f'"{k}"'}[kind]
+
+    def fields(some, k):
+        return [field(kind, k + place) for place, kind in enumerate(some) if kind != "Z"]
+
+    names = ["x" * (v % min(3 + 9 * few, 32)) for v in range(count)]
+    vertices = [",".join([f'"{name}"', f"A{v}", *fields(kinds[:6], v)]) for v, name in enumerate(names)]
+    arcs = []
+    for k in range(count):
+        following = f"A{k - 1}" if k % 3 else "0"
+        length = str(LENGTHS[k % (few + 2)])
+        arcs.append(",".join([f"V{k * 3 % count}", following, length, *fields(kinds[6:8], k)]))
+    return names, vertices, arcs
+
+
+def short_records(runs, tally):
+    """Records that are one line each, short ones and longer ones next to them: integers of one digit more than the short ones
+    have, fields in use or not; so many that they fill some pages. They are read and saved again as they are, and refused with
+    another checksum."""
+    for start in ("ZZZIIIZZ", "ZZZZZZZZ", "ZZIIIIZZ", "IZZIIIZZ", "ZZZIIIZI", "ZZZIIVIZ", "SZZIIAZZ"):
+        for few in (1, 2, 3, 4, len(INTEGERS)):
+            kinds = start + "ZZZZZZ"
+            names, vertices, arcs = records_of(kinds, few)
+            file = file_of(kinds, vertices, arcs)
+            what = f"stdin of {len(vertices)} vertices {kinds}"
+            tally.same("save " + what, said(runs.run(("save", "stdin"), file)), (0, file, b""))
+            listed = "".join(name + "\n" for name in names).encode()
+            tally.same("names " + what, said(runs.run(("names", "stdin"), file)), (0, listed, b""))
+            refused = said(runs.run(("save", "stdin"), file_of(kinds, vertices, arcs, 1)))
+            tally.same("save " + what + ", another checksum", refused, (code(11)[0], b"", code(11)[1]))
+
+
 def promises(runs, tally):
     """A first line that promises many arcs or vertices: refused at once, without room for them."""
     for size in ("2V,999999999999999999A", "999999999V,2A", "999999999V,999999999999999999A"):
@@ -681,6 +741,7 @@ def all_checks():
     yield "input short", short_input
     yield "file cut", cut_files
     yield "file long", long_file
+    yield "file of short records", short_records
     yield "file promising", promises
     yield "output failing", no_output
     yield "errors failing", no_errors
