@@ -1,6 +1,6 @@
 use Rattle.std.proofs.Common.{◌≡◌, ◌<◌, ◌^◌, ◌∙◌, All, get_or, length, ap, subst, arith}
 use Rattle.sgb_vec.specs.Names.{name_of_vector}
-use Rattle.sgb.proofs.NameEntries.{length-name}
+use Rattle.sgb_vec.proofs.VectorNames.{length-name_of_vector-le}
 use Rattle.sgb.proofs.WrittenDigits.{digit-end, turned-digit, turned-same, turned-two, two-end}
 use Rattle.sgb.proofs.writing.kept_names.KeptName.push_with_digits.Goals as goal
 
@@ -9,7 +9,7 @@ push_start_of-requires c =
     let v = c.args.self.now in
     let name : c.self.inside.text ≡ name_of_vector v = c.self.invariant.name ∙ ap name_of_vector c.self.view_is in
     let small : All (λ n. n < 2 ^ 32) v = subst (All (λ n. n < 2 ^ 32)) c.self.view_is c.self.invariant.small in
-    (omega arith, (omega arith, (omega (arith, c.len.ensures.value), omega (arith, c.len.ensures.value, ap length name, length-name v small, c.requires.room))))
+    (omega arith, (omega arith, (omega (arith, c.len.ensures.value), omega (arith, c.len.ensures.value, ap length name, length-name_of_vector-le v small, c.requires.room))))
 
 pub loop-k-preserved-then-entry-vector : goal.loop-k-preserved-then-entry-vector
 loop-k-preserved-then-entry-vector c =
@@ -80,4 +80,4 @@ pub returns-clause-short : goal.returns-clause-short
 returns-clause-short c =
     let v = c.args.self.now in
     let small : All (λ n. n < 2 ^ 32) v = subst (All (λ n. n < 2 ^ 32)) c.self.view_is c.self.invariant.small in
-    omega (arith, c.loop-k.invariant.size, length-name v small)
+    omega (arith, c.loop-k.invariant.size, length-name_of_vector-le v small)
