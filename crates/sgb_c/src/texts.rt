@@ -16,7 +16,10 @@ pub(crate) fn held_graph(alloc: Global, text: &[u8], input: &[u8]) -> Result<Box
 {
     let graph = graph_named(alloc, text, input)?;
     let graph = Counted::new(alloc, graph)?;
-    Box::new(alloc, Held { graph }).map_err(|_| Fault::Panic(Panic::NoRoom))
+    match Box::new(alloc, Held { graph }) {
+        Ok(held) => Ok(held),
+        Err(_) => Err(Fault::Panic(Panic::NoRoom)),
+    }
 }
 
 // The graph of the expression that the text is, where `input` is standard input; or why there is none.
