@@ -8,7 +8,7 @@ use Rattle.std.proofs.lemmas.Result.{err_from_is_err_and}
 use Rattle.sgb_vec.specs.declared.panics.Panic.TheVariants.{NoRoom}
 use Rattle.sgb_vec.specs.declared.panics.Panic.{Panic}
 use Rattle.sgb_graph.specs.Graphs.{GraphData}
-use Rattle.sgb.specs.Values.{IsValue}
+use Rattle.sgb_vec.specs.Results.{IsValue}
 use Rattle.sgb.specs.Outcomes.{answer_after, answer_from, outcome_of}
 use Rattle.sgb_file.specs.Devices.{AppendsUnlessFailed, Change}
 use Rattle.sgb_requests.specs.Faults.{line_of, status_of}

@@ -1,6 +1,6 @@
 -- The values of entries, one after another.
 use Rattle.std.proofs.Common.{◌≡◌, ◌||◌, ◌+◌, ◌++◌, ℕ, Bool, Box, Global, List, [], ◌∷◌, length, Result, Ok, Err, inl, inr, refl, ap, ◌∙◌, append_assoc, arith}
-use Rattle.sgb_vec.specs.Results.{and_then}
+use Rattle.sgb_vec.specs.Results.{and_then, IsValue}
 use Rattle.sgb_vec.specs.declared.panics.Panic.{Panic}
 use Rattle.sgb_graph.specs.Graphs.{GraphData}
 use Rattle.sgb_ops.specs.Induced.{induced_of}
@@ -12,7 +12,7 @@ use Rattle.sgb_expr.specs.StdinUses.{entries_have_stdin, has_stdin}
 use Rattle.sgb_expr.specs.declared.entries.Entries.{Entries}
 use Rattle.sgb_expr.specs.declared.expressions.Expr.{Expr}
 use Rattle.sgb_expr.specs.declared.expressions.Expr.TheVariants as expr
-use Rattle.sgb.specs.Values.{IsValue, both, made, value_of, values_of}
+use Rattle.sgb.specs.Values.{both, made, value_of, values_of}
 use Rattle.sgb_ops.specs.declared.entries.Entry.{Entry}
 use Rattle.sgb.proofs.Values.{size_of, size_of_entries}
 

@@ -3,7 +3,7 @@
 use Rattle.std.proofs.Common.{◌≡◌, ◌<◌, ◌+◌, ℕ, true, false, cond, inl, inr, nat_le, List, ◌∷◌, length, take, Option, Some, None, IfSome, Result, Ok, Err, refl, sym, ap, ap₂, subst, ◌∙◌, arith}
 use Rattle.std.proofs.lemmas.Bool.{both_ways, cases_Bool, cond-false, cond-true, leb-true, leb-false, lt-leb, or_left, or_right}
 use Rattle.std.proofs.lemmas.List.{length-take-le, take_all}
-use Rattle.sgb_vec.specs.Results.{and_then}
+use Rattle.sgb_vec.specs.Results.{and_then, IsValue}
 use Rattle.sgb_vec.specs.declared.panics.Panic.{Panic}
 use Rattle.sgb_vec.specs.declared.panics.Panic.TheVariants.{Syntax}
 use Rattle.sgb_graph.specs.Graphs.{GraphData}
@@ -17,13 +17,12 @@ use Rattle.sgb_ops.specs.Induced.{induced_of}
 use Rattle.sgb_ops.specs.Operands.{names_of}
 use Rattle.sgb_expr.specs.Expression.{Expression, Generated, Complement, Gunion, Intersection, Lines, Product, Induced, BiComplete, Wheel, Stdin, Entry, Number, Graph, Entries, NoEntries, EntryThen, expression_of}
 use Rattle.sgb_expr.specs.StdinUses.{entries_have_stdin, entry_has_stdin, has_stdin}
-use Rattle.sgb_file.specs.Reading.{IsReadOf}
 use Rattle.sgb_file.specs.Saving.{text_of_graph}
 use Rattle.sgb_file.specs.Devices.{Change}
 use Rattle.sgb.specs.Inputs.{IsKeptOfInput}
 use Rattle.sgb.specs.Outcomes.{answer_from, answer_of, list_answer, names_answer, reads_input}
 use Rattle.sgb.specs.Runs.{Input, IsRunFrom, IsRunOn, fails_to_read}
-use Rattle.sgb.specs.Values.{IsValue, both, entry_value, made, most_input, stdin_value, value_of, values_of}
+use Rattle.sgb.specs.Values.{both, entry_value, made, most_input, stdin_value, value_of, values_of}
 use Rattle.sgb_ops.specs.declared.entries.Entry.TheVariants as entry
 use Rattle.sgb_requests.specs.declared.requests.Request.{Request}
 use Rattle.sgb_requests.specs.declared.requests.Request.TheVariants as request
@@ -59,16 +58,11 @@ unfolding stdin_value
 stdin_long input more = cond-false (nat_le (length input) most_input) (graph_of_text input) (Err Syntax) more
 
 -- a text that is read
-pub stdin_read : (input : List ℕ) (r : Result GraphData Panic) → nat_le (length input) most_input ≡ true → IsReadOf (graph_of_text input) r → IsValue (stdin_value input) r
+pub stdin_read : (input : List ℕ) (r : Result GraphData Panic) → nat_le (length input) most_input ≡ true → IsValue (graph_of_text input) r → IsValue (stdin_value input) r
 unfolding stdin_value
 stdin_read input r fits is =
     let same : stdin_value input ≡ graph_of_text input = cond-true (nat_le (length input) most_input) (graph_of_text input) (Err Syntax) fits in
-    of_result r (sym same) is
-  where
-    of_result : (r : Result GraphData Panic) → graph_of_text input ≡ stdin_value input → IsReadOf (graph_of_text input) r → IsValue (stdin_value input) r
-    of_result (Ok g) e is = sym e ∙ is
-    of_result (Err p) e (inl is) = inl (sym e ∙ is)
-    of_result (Err p) e (inr is) = inr is
+    subst (λ (v : Result GraphData Panic). IsValue v r) (sym same) is
 
 -- two values that are the same, one after the other
 both_same : {T U : Type 0} (p p' : Result T Panic) (q q' : Result U Panic) → p ≡ p' → q ≡ q' → both p q ≡ both p' q'

@@ -1,12 +1,12 @@
 -- Values of expressions, from those of their operands.
 use Rattle.std.proofs.Common.{◌≡◌, ◌+◌, ℕ, Result, Ok, Err, ap, refl, sym, subst, inl, inr}
-use Rattle.sgb_vec.specs.Results.{and_then}
+use Rattle.sgb_vec.specs.Results.{and_then, IsValue}
 use Rattle.sgb_vec.specs.declared.panics.Panic.{Panic}
 use Rattle.sgb_graph.specs.Descriptions.{Description, IsAnswerOf}
 use Rattle.sgb_graph.proofs.Described.{described_only}
 use Rattle.sgb_graph.specs.Graphs.{GraphData}
 use Rattle.sgb_expr.specs.Expression.{Expression, Generated, Complement, Gunion, Intersection, Lines, Product, Induced, BiComplete, Wheel, Stdin, Entry, Number, Graph, Entries, NoEntries, EntryThen}
-use Rattle.sgb.specs.Values.{IsValue, both, made}
+use Rattle.sgb.specs.Values.{both, made}
 
 -- what an operation or a generator returns is the graph that is described
 pub value_made : (value : Result Description Panic) (r : Result GraphData Panic) → IsAnswerOf value r → IsValue (made value) r

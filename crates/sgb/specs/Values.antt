@@ -1,9 +1,9 @@
 -- The graphs that expressions name [GB_BASIC].
-use Rattle.std.specs.Prelude.{◌≡◌, ◌⊎◌, ℕ, ℤ, ◌^◌, pos, negsuc, min, nat_le, List, [], ◌∷◌, length, Result, Ok, Err, if◌then◌else◌, ◌+◌}
+use Rattle.std.specs.Prelude.{ℕ, ℤ, ◌^◌, pos, negsuc, min, nat_le, List, [], ◌∷◌, length, Result, Ok, Err, if◌then◌else◌, ◌+◌}
 use Rattle.sgb_vec.specs.Limits.{most_entry}
 use Rattle.sgb_vec.specs.Results.{and_then}
 use Rattle.sgb_vec.specs.declared.panics.Panic.{Panic}
-use Rattle.sgb_vec.specs.declared.panics.Panic.TheVariants.{NoRoom, Syntax}
+use Rattle.sgb_vec.specs.declared.panics.Panic.TheVariants.{Syntax}
 use Rattle.sgb_graph.specs.Descriptions.{Description}
 use Rattle.sgb_graph.specs.Graphs.{GraphData}
 use Rattle.sgb_graph.specs.Made.{graph_described}
@@ -44,11 +44,6 @@ most_input = 2 ^ 30
 -- the graph that standard input is a file of, or the code of a text that is a file of none; a longer one is not read
 unfoldable pub stdin_value : List ℕ → Result GraphData Panic
 stdin_value input = if nat_le (length input) most_input then graph_of_text input else Err Syntax
-
--- the result is this value, or this refusal; or it is out of memory
-abbrev pub IsValue : {T : Type 0} → Result T Panic → Result T Panic → Type 0
-IsValue value (Ok x) = value ≡ Ok x
-IsValue value (Err p) = (value ≡ Err p) ⊎ (p ≡ NoRoom)
 
 -- two values, where the first's refusal comes before the second's
 abbrev pub both : {T U : Type 0} → Result T Panic → Result U Panic → Result (T × U) Panic

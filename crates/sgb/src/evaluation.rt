@@ -6,7 +6,8 @@ ghost use Rattle.sgb_expr.specs.Expression.{entries_of, entry_of, expression_of}
 ghost use Rattle.sgb_expr.specs.StdinUses.{entries_have_stdin, entry_has_stdin, has_stdin};
 ghost use Rattle.sgb.specs.Certain.{IsGeneratorRefused, IsRefusedFirst};
 ghost use Rattle.sgb.specs.Outcomes.{moves_of, queen_moves};
-ghost use Rattle.sgb.specs.Values.{IsValue, both, entry_value, generator_value, value_of, values_of};
+ghost use Rattle.sgb_vec.specs.Results.{IsValue};
+ghost use Rattle.sgb.specs.Values.{both, entry_value, generator_value, value_of, values_of};
 ghost use Rattle.sgb.specs.inner.EntryValues.{handed_entry};
 ghost use Rattle.sgb.specs.inner.Inputs.{left_after};
 

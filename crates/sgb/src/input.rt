@@ -3,7 +3,8 @@ ghost use Rattle.std.specs.Prelude.{◌≡◌, ◌≤◌, ◌<◌, ◌+◌, ◌-
 ghost use Rattle.std.specs.Io.KnownBytes.{Consumes, IsAtEnd};
 ghost use Rattle.sgb.specs.Certain.{IsInputRefused};
 ghost use Rattle.sgb.specs.Inputs.{IsKeptOfInput, IsReadFrom, LosesAtMost};
-ghost use Rattle.sgb.specs.Values.{IsValue, most_input, stdin_value};
+ghost use Rattle.sgb_vec.specs.Results.{IsValue};
+ghost use Rattle.sgb.specs.Values.{most_input, stdin_value};
 ghost use Rattle.sgb.specs.inner.Inputs.{left_after};
 
 mod kept;

@@ -9,7 +9,8 @@ use Rattle.sgb_expr.specs.declared.expressions.Unread.TheVariants as unread
 use Rattle.sgb_requests.specs.Reading.{IsReadAs}
 use Rattle.sgb_requests.specs.declared.faults.Fault.{Fault}
 use Rattle.sgb_requests.specs.declared.faults.Fault.TheVariants as fault
-use Rattle.sgb.specs.Values.{IsValue, value_of}
+use Rattle.sgb_vec.specs.Results.{IsValue}
+use Rattle.sgb.specs.Values.{value_of}
 use Rattle.sgb_c.specs.Answers.{IsGraphNamed}
 
 -- the text is refused

@@ -11,10 +11,10 @@ use Rattle.sgb_file.specs.inner.LinesLeft.{LinesLeft, text_left, next_begun, non
 use Rattle.sgb_vec.specs.declared.panics.Panic.{Panic}
 use Rattle.sgb_vec.specs.declared.panics.Panic.TheVariants.{Syntax}
 use Rattle.sgb_graph.specs.Graphs.{GraphData}
-use Rattle.sgb_graph.specs.Parts.{IsCheckOf, checked}
+use Rattle.sgb_graph.specs.Parts.{checked}
 use Rattle.sgb_graph.specs.Sound.{is_sound}
 use Rattle.sgb_file.specs.Checksum.{has_star}
-use Rattle.sgb_file.specs.Reading.{IsReadOf}
+use Rattle.sgb_vec.specs.Results.{IsValue}
 use Rattle.sgb_file.specs.Records.{Head, records_at}
 use Rattle.sgb_file.proofs.FirstLines.{no_more_kinds}
 use Rattle.sgb_file.proofs.LeftTexts.{next_left}
@@ -106,19 +106,15 @@ graph_ended text head s t g closed e begun found all closing =
 
 -- the graph of a text is that of the check of its parts
 pub graph_checked : (text : List ℕ) (head : Head) (s : LinesLeft) (rest : List ℕ) (g : GraphData) (r : Result GraphData Panic) → Some (record { head = head; lines = s.all }) ≡ opening_of (clean_lines text)
-    → s ≡ next_begun (none_begun s.all) → records_at head (text_left s) ≡ Some (record { value = g; rest = rest }) → graph_of_text text ≡ graph_at_end true (is_sound g) g → IsCheckOf (checked g) r
-    → IsReadOf (graph_of_text text) r
+    → s ≡ next_begun (none_begun s.all) → records_at head (text_left s) ≡ Some (record { value = g; rest = rest }) → graph_of_text text ≡ graph_at_end true (is_sound g) g → IsValue (checked g) r
+    → IsValue (graph_of_text text) r
 graph_checked text head s rest g r e begun found is h =
     let says : records_at head (text_of_lines s.all) ≡ Some (record { value = g; rest = rest }) = ap (records_at head) (sym (text_whole s begun)) ∙ found in
     let fit : checked g ≡ (if is_sound g then Ok g else Err Syntax) =
     read_is_checked (clean_lines text) (record { head = head; lines = s.all }) (record { value = g; rest = rest }) (sym e) says in
     let same : graph_of_text text ≡ checked g = is ∙ (at_end (is_sound g) ∙ sym fit) in
-    subst (λ value. IsReadOf value r) (sym same) (as_read (checked g) r h)
+    subst (λ value. IsValue value r) (sym same) h
   where
     at_end : (sound : Bool) → graph_at_end true sound g ≡ (if sound then Ok g else Err Syntax)
     at_end true = refl
     at_end false = refl
-
-    as_read : (value r : Result GraphData Panic) → IsCheckOf value r → IsReadOf value r
-    as_read value (Ok x) h = h
-    as_read value (Err p) h = h

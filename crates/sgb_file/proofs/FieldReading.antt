@@ -10,12 +10,12 @@ use Rattle.std.proofs.lemmas.Bool.{and_parts, and_from, not-true}
 use Rattle.std.proofs.lemmas.Bool.Decides.{nat_tests}
 use Rattle.std.proofs.lemmas.Fmt.{decimal_is_IsNumeral, length-decimal-le}
 use Rattle.std.proofs.lemmas.Str.Parse.{digit_at}
-use Rattle.sgb_vec.specs.Names.{IsTextByte}
+use Rattle.sgb_vec.specs.Names.{IsTextByte, is_text_byte}
 use Rattle.sgb_graph.specs.declared.fields.Ref.{Ref}
 use Rattle.sgb_graph.specs.declared.fields.Ref.TheVariants.{Null, One, At}
 use Rattle.sgb_graph.proofs.Lists.{list_all-weaker}
 use Rattle.sgb_graph.specs.Sound.{ref_fits, chain_fits}
-use Rattle.sgb_file.specs.Fields.{is_decimal_digit, number_of, number_below, most_number_digits, most_integer_digits, integer_of, ref_of, record_number_of, is_string_byte, unbroken, string_at, plain_text, plain_at, after_prefix}
+use Rattle.sgb_file.specs.Fields.{is_decimal_digit, number_of, number_below, most_number_digits, most_integer_digits, integer_of, ref_of, record_number_of, unbroken, string_at, plain_text, plain_at, after_prefix}
 use Rattle.sgb_file.specs.Saving.{quoted, ref_text, record_number_text}
 use Rattle.sgb_file.proofs.LineLemmas.{is_line, is_one_line, is_within_line, ends_well, ends_well-last, list_all-drop, list_all-take, list_all-join}
 use Rattle.sgb_file.specs.Files.{IsStringText}
@@ -156,29 +156,6 @@ record_number_is_said m (Some k) most h =
     let below = test_below k m h in
     record { short = omega (arith, decimal_is_short k (omega (arith, below, most))); said = ap (option_map Some) (below_read m k most below) }
 
--- a byte of a string is no quote and no backslash
-string_byte : (b : ℕ) → IsTextByte b → is_string_byte b ≡ true
-string_byte b h =
-    let low : nat_le 32 b ≡ true = let e = h.from_space in grind (arith, nat_tests) in
-    let high : nat_le b 126 ≡ true = let e = h.to_tilde in grind (arith, nat_tests) in
-    let quote : (b == 34) ≡ false = let e = h.no_quote in grind (arith, nat_tests) in
-    let slash : (b == 92) ≡ false = let e = h.no_backslash in grind (arith, nat_tests) in
-    rw low (rw high (rw quote (rw slash refl)))
-
-pub string_bytes : (text : List ℕ) → All IsTextByte text → list_all is_string_byte text ≡ true
-string_bytes text h = list_all-from_AllPass is_string_byte text (λ k d below. string_byte (get_or text k d) (h k d below))
-
-text_byte : (b : ℕ) → is_string_byte b ≡ true → IsTextByte b
-text_byte b h = record {
-  from_space = grind (arith, nat_tests);
-  to_tilde = grind (arith, nat_tests);
-  no_quote = grind (arith, nat_tests);
-  no_backslash = grind (arith, nat_tests);
-}
-
-pub text_bytes : (s : List ℕ) → list_all is_string_byte s ≡ true → All IsTextByte s
-text_bytes s h k d below = text_byte (get_or s k d) (AllPass-from_list_all is_string_byte s h k d below)
-
 -- no byte of a text is a quote, or a backslash
 abbrev pub no_quotes : List ℕ → Bool
 no_quotes text = list_all (λ b. not (b == 34)) text
@@ -239,7 +216,7 @@ quoted_breaks (suc n) s few =
     ap (λ x. 34 ∷ x) (breaks_within (suc n) 77 s (34 ∷ []) within)
 
 -- a quoted text is read as its string
-pub string_says : (most : ℕ) (inside s more : List ℕ) → no_quotes inside ≡ true → unbroken inside ≡ s → length s ≤ most → list_all is_string_byte s ≡ true
+pub string_says : (most : ℕ) (inside s more : List ℕ) → no_quotes inside ≡ true → unbroken inside ≡ s → length s ≤ most → list_all is_text_byte s ≡ true
     → string_at most (quoted inside ++ more) ≡ Some (record { value = s; rest = more })
 string_says most inside s more quotes says short bytes =
     let after = inside ++ 34 ∷ more in
@@ -257,10 +234,10 @@ string_says most inside s more quotes says short bytes =
 -- a string is said by its quoted text, with any breaks
 pub string_is_said : (most : ℕ) (s : List ℕ) → length s ≤ most → All IsTextByte s → (broken : List ℕ) → IsBroken (quoted s) broken → IsStringText most s broken
 string_is_said most s short printable broken b =
-    let bytes = string_bytes s printable in
+    let bytes = list_all-from_AllPass is_text_byte s printable in
     let inside = with_breaks b.0 77 s in
-    let quotes = list_all-weaker is_string_byte (λ c. not (c == 34)) s (λ c h. grind (arith, nat_tests)) bytes in
-    let slashes = list_all-weaker is_string_byte (λ c. not (c == 92)) s (λ c h. grind (arith, nat_tests)) bytes in
+    let quotes = list_all-weaker is_text_byte (λ c. not (c == 34)) s (λ c h. grind (arith, nat_tests)) bytes in
+    let slashes = list_all-weaker is_text_byte (λ c. not (c == 92)) s (λ c h. grind (arith, nat_tests)) bytes in
     let fits : nat_le (length s) most ≡ true = grind (arith, nat_tests) in
     record {
       inside = inside;
@@ -270,10 +247,10 @@ string_is_said most s short printable broken b =
     }
 
 -- a quoted text is a line as it is written
-string_within : (b : ℕ) → is_string_byte b ≡ true → is_within_line b ≡ true
+string_within : (b : ℕ) → is_text_byte b ≡ true → is_within_line b ≡ true
 string_within b h = grind (arith, nat_tests)
 
 pub quoted_is_line : (s : List ℕ) → All IsTextByte s → is_line (quoted s) ≡ true
 quoted_is_line s h =
-    let bytes = list_all-weaker is_string_byte is_within_line s string_within (string_bytes s h) in
+    let bytes = list_all-weaker is_text_byte is_within_line s string_within (list_all-from_AllPass is_text_byte s h) in
     and_from (is_one_line (quoted s)) (ends_well (quoted s)) (list_all-join is_within_line s (34 ∷ []) bytes refl) (ends_well-last (34 ∷ s) 34 refl)

@@ -15,7 +15,8 @@ use Rattle.sgb_graph.specs.declared.fields.Ref.{Ref}
 use Rattle.sgb_graph.specs.declared.fields.Ref.TheVariants.{Null, One, At}
 use Rattle.sgb_graph.specs.declared.fields.Util.{Util}
 use Rattle.sgb_graph.specs.declared.fields.Util.TheVariants.{Int, Vertex as VertexField, Str, Chain}
-use Rattle.sgb_file.specs.Fields.{Counts, Found, given, found_as, is_decimal_digit, number_of, number_below, most_number_digits, most_integer_digits, integer_of, ref_of, record_number_of, is_string_byte, unbroken, string_of, string_at, plain_text, plain_at, field_at, after_prefix}
+use Rattle.sgb_vec.specs.Names.{is_text_byte}
+use Rattle.sgb_file.specs.Fields.{Counts, Found, given, found_as, is_decimal_digit, number_of, number_below, most_number_digits, most_integer_digits, integer_of, ref_of, record_number_of, unbroken, string_of, string_at, plain_text, plain_at, field_at, after_prefix}
 use Rattle.sgb_file.specs.Files.{IsStringText, IsFieldText}
 use Rattle.sgb_file.specs.Saving.{quoted}
 use Rattle.sgb_file.proofs.FoundParts.{taken_and_left, was_given, was_mapped, was_found_as, was_let_through, was_chosen}
@@ -195,8 +196,8 @@ is_found_as f read text value h = record { reads = λ more e. ap (found_as f) (h
 
 string_again : (most : ℕ) (inside s more : List ℕ) → no_quotes inside ≡ true → string_of most inside ≡ Some s → string_at most (quoted inside ++ more) ≡ Some (record { value = s; rest = more })
 string_again most inside s more quotes said =
-    let p = was_let_through (nat_le (length (unbroken inside)) most && list_all is_string_byte (unbroken inside)) (unbroken inside) s said in
-    let parts = and_parts (nat_le (length (unbroken inside)) most) (list_all is_string_byte (unbroken inside)) p.0 in
+    let p = was_let_through (nat_le (length (unbroken inside)) most && list_all is_text_byte (unbroken inside)) (unbroken inside) s said in
+    let parts = and_parts (nat_le (length (unbroken inside)) most) (list_all is_text_byte (unbroken inside)) p.0 in
     string_says most inside (unbroken inside) more quotes refl (at_most (length (unbroken inside)) most parts.0) parts.1
     ∙ ap (λ (t : List ℕ). Some (record { value = t; rest = more })) p.1
 

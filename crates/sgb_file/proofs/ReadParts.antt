@@ -8,9 +8,9 @@ use Rattle.std.proofs.Common.{ap, sym, subst, ◌∙◌, arith}
 use Rattle.std.proofs.lemmas.Bool.{and_parts, and_from}
 use Rattle.std.proofs.lemmas.Bool.Decides.{nat_tests}
 use Rattle.std.proofs.lemmas.List.Elements.{All-cons, All-nil}
-use Rattle.std.proofs.lemmas.List.Sums.{list_all-from_AllPass}
+use Rattle.std.proofs.lemmas.List.Sums.{AllPass-from_list_all, list_all-from_AllPass}
 use Rattle.sgb_vec.specs.Limits.{most_vertices, most_bytes}
-use Rattle.sgb_vec.specs.Names.{IsTextByte}
+use Rattle.sgb_vec.specs.Names.{IsTextByte, is_text_byte}
 use Rattle.sgb_vec.specs.declared.panics.Panic.TheVariants.{Syntax}
 use Rattle.sgb_graph.specs.Graphs.{GraphData}
 use Rattle.sgb_graph.specs.Ids.{most_id_bytes}
@@ -24,13 +24,12 @@ use Rattle.sgb_graph.specs.declared.fields.Util.{Util}
 use Rattle.sgb_graph.specs.declared.fields.Util.TheVariants.{Nothing, Int, Vertex as VertexField, Str, Chain}
 use Rattle.sgb_file.specs.FileLines.{clean_lines, text_of_lines}
 use Rattle.sgb_file.specs.Checksum.{has_star}
-use Rattle.sgb_file.specs.Fields.{Counts, Found, given, number_of, number_below, most_number_digits, integer_of, ref_of, record_number_of, is_string_byte, unbroken, string_of}
+use Rattle.sgb_file.specs.Fields.{Counts, Found, given, number_of, number_below, most_number_digits, integer_of, ref_of, record_number_of, unbroken, string_of}
 use Rattle.sgb_file.specs.Records.{Head, records_at}
 use Rattle.sgb_file.specs.Restoring.{Opening, head_of_line, opening_of, graph_of_records, graph_of_text}
 use Rattle.sgb_file.specs.Saved.{number_limit, ValueCanBeSaved, CanBeChecked, CanBeSaved}
 use Rattle.sgb_file.specs.Files.{IsFieldText, AreFieldTexts, IsVertexRecord, IsArcRecord, AreRecords, AreRecordsOf, head_of}
 use Rattle.sgb_file.proofs.FoundParts.{was_given, was_let_through, was_chosen}
-use Rattle.sgb_file.proofs.FieldReading.{text_bytes}
 use Rattle.sgb_file.proofs.RestoringLemmas.{parts_of_opening}
 use Rattle.sgb_file.proofs.NumberReading.{at_most, number_is_small}
 use Rattle.sgb_file.proofs.FirstLines.{first_line_found}
@@ -99,9 +98,9 @@ read_integer_fits (b ∷ text) i e = integer_by_sign (b == 45) (number_of 20 tex
 -- a string
 read_string_fits : (most : ℕ) (bytes s : List ℕ) → string_of most bytes ≡ Some s → (length s ≤ most) × All IsTextByte s
 read_string_fits most bytes s e =
-    let p = was_let_through (nat_le (length (unbroken bytes)) most && list_all is_string_byte (unbroken bytes)) (unbroken bytes) s e in
-    let parts = and_parts (nat_le (length (unbroken bytes)) most) (list_all is_string_byte (unbroken bytes)) p.0 in
-    subst (λ (t : List ℕ). (length t ≤ most) × All IsTextByte t) p.1 (at_most (length (unbroken bytes)) most parts.0, text_bytes (unbroken bytes) parts.1)
+    let p = was_let_through (nat_le (length (unbroken bytes)) most && list_all is_text_byte (unbroken bytes)) (unbroken bytes) s e in
+    let parts = and_parts (nat_le (length (unbroken bytes)) most) (list_all is_text_byte (unbroken bytes)) p.0 in
+    subst (λ (t : List ℕ). (length t ≤ most) × All IsTextByte t) p.1 (at_most (length (unbroken bytes)) most parts.0, AllPass-from_list_all is_text_byte (unbroken bytes) parts.1)
 
 -- a value whose text is a field's fits its kind, and can be saved
 record FieldFits (counts : Counts) (kind : Kind) (u : Util) : Type 0 where

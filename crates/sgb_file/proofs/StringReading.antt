@@ -6,16 +6,16 @@ use Rattle.std.proofs.Math.Seq.{take-append-add, drop-append-add}
 use Rattle.std.proofs.lemmas.Bool.{and_parts, not-true}
 use Rattle.std.proofs.lemmas.Bool.Decides.{nat_tests}
 use Rattle.std.proofs.lemmas.List.{take-append-le}
+use Rattle.std.proofs.lemmas.List.Sums.{AllPass-from_list_all, list_all-from_AllPass}
 use Rattle.sgb_vec.specs.Limits.{most_bytes}
-use Rattle.sgb_vec.specs.Names.{IsText, IsTextByte}
+use Rattle.sgb_vec.specs.Names.{IsText, IsTextByte, is_text_byte}
 use Rattle.sgb_vec.specs.declared.panics.Panic.{Panic}
 use Rattle.sgb_vec.specs.declared.panics.Panic.TheVariants.{NoRoom, Syntax}
 use Rattle.sgb_graph.specs.Ids.{most_id_bytes, IsId}
-use Rattle.sgb_file.specs.Fields.{after_prefix, is_string_byte, string_at, unbroken}
+use Rattle.sgb_file.specs.Fields.{after_prefix, string_at, unbroken}
 use Rattle.sgb_file.specs.inner.Found.{IsFoundBy, IsPartOf, IsNoString, checked_text, goes_on, is_broken, string_before, string_from}
 use Rattle.sgb_file.specs.inner.LinesLeft.{has_no_newline}
 use Rattle.sgb_file.proofs.LineLemmas.{list_all-take}
-use Rattle.sgb_file.proofs.FieldReading.{string_bytes, text_bytes}
 use Rattle.sgb_file.proofs.FoundParts.{was_let_through}
 use Rattle.sgb_file.proofs.LeftTexts.{none_before, first_beyond, any_beyond, first_within, any_within}
 
@@ -121,31 +121,31 @@ broken_part line more h none broken most bytes =
     rw (any, said, after) refl
 
 -- a line that does not: its newline would be a byte of the string
-newline_refused : (y : List ℕ) → list_all is_string_byte (unbroken (10 ∷ y)) ≡ false
+newline_refused : (y : List ℕ) → list_all is_text_byte (unbroken (10 ∷ y)) ≡ false
 unfolding unbroken
 newline_refused [] = refl
 newline_refused (c ∷ y) = refl
 
-ended_refused : (line y : List ℕ) (k : ℕ) → suc k ≡ length line → has_no_newline line ≡ true → (slice_index_or line k 0 == 92) ≡ false → list_all is_string_byte (unbroken (line ++ 10 ∷ y)) ≡ false
+ended_refused : (line y : List ℕ) (k : ℕ) → suc k ≡ length line → has_no_newline line ≡ true → (slice_index_or line k 0 == 92) ≡ false → list_all is_text_byte (unbroken (line ++ 10 ∷ y)) ≡ false
 unfolding unbroken
 ended_refused [] y k e h last = absurd (omega (arith, e))
-ended_refused (b ∷ []) y zero e h last = rw last (and_false (is_string_byte b) (list_all is_string_byte (unbroken (10 ∷ y))) (newline_refused y))
+ended_refused (b ∷ []) y zero e h last = rw last (and_false (is_text_byte b) (list_all is_text_byte (unbroken (10 ∷ y))) (newline_refused y))
 ended_refused (b ∷ []) y (suc k) e h last = absurd (omega (arith, e))
 ended_refused (b ∷ c ∷ line) y zero e h last = absurd (omega (arith, e))
 ended_refused (b ∷ c ∷ line) y (suc k) e h last =
     let parts = and_parts (not (b == 10)) (has_no_newline (c ∷ line)) h in
     let second = and_parts (not (c == 10)) (has_no_newline line) parts.1 in
     rw (and_false (b == 92) (c == 10) (not-true (c == 10) second.0))
-    (and_false (is_string_byte b) (list_all is_string_byte (unbroken (c ∷ line ++ 10 ∷ y))) (ended_refused (c ∷ line) y k (omega (arith, e)) parts.1 last))
+    (and_false (is_text_byte b) (list_all is_text_byte (unbroken (c ∷ line ++ 10 ∷ y))) (ended_refused (c ∷ line) y k (omega (arith, e)) parts.1 last))
 
-line_refused : (line y : List ℕ) → has_no_newline line ≡ true → is_broken line ≡ false → list_all is_string_byte (unbroken (line ++ 10 ∷ y)) ≡ false
+line_refused : (line y : List ℕ) → has_no_newline line ≡ true → is_broken line ≡ false → list_all is_text_byte (unbroken (line ++ 10 ∷ y)) ≡ false
 line_refused [] y h last = newline_refused y
 line_refused (b ∷ line) y h last = ended_refused (b ∷ line) y (length (b ∷ line) - 1) (omega arith) h last
 
 -- bytes that are refused are so after others
-after_others : (bytes x : List ℕ) → list_all is_string_byte x ≡ false → list_all is_string_byte (bytes ++ x) ≡ false
+after_others : (bytes x : List ℕ) → list_all is_text_byte x ≡ false → list_all is_text_byte (bytes ++ x) ≡ false
 after_others [] x h = h
-after_others (b ∷ bytes) x h = and_false (is_string_byte b) (list_all is_string_byte (bytes ++ x)) (after_others bytes x h)
+after_others (b ∷ bytes) x h = and_false (is_text_byte b) (list_all is_text_byte (bytes ++ x)) (after_others bytes x h)
 
 none_by : (t u : Bool) (X : Type 0) (x : X) → u ≡ false → cond (t && u) (Some x) None ≡ None
 none_by true u X x h = rw h refl
@@ -164,7 +164,7 @@ ended_line line more h none last most bytes =
     let refused = after_others bytes (unbroken (line ++ 10 ∷ before_first is_quote more)) (line_refused line (before_first is_quote more) h last) in
     let said = bytes ++ unbroken (line ++ 10 ∷ before_first is_quote more) in
     let no : checked_text most (bytes ++ unbroken (before_first is_quote (line ++ 10 ∷ more))) ≡ None =
-    rw before (none_by (nat_le (length said) most) (list_all is_string_byte said) (List ℕ) said refused) in
+    rw before (none_by (nat_le (length said) most) (list_all is_text_byte said) (List ℕ) said refused) in
     either_none (list_any is_quote (line ++ 10 ∷ more)) _ (rw no refl)
 
 -- the parts of a string so far: the string that began with the first one goes on so
@@ -172,28 +172,28 @@ abbrev pub IsGathered : List ℕ → List ℕ → Bool → List ℕ → List ℕ
 IsGathered first text closed bytes left = (most : ℕ) → string_from most first text ≡ goes_on closed most bytes left
 
 -- the test passes just for what is short and printable
-test_passes : (most : ℕ) (bytes : List ℕ) → length bytes ≤ most → All IsTextByte bytes → (nat_le (length bytes) most && list_all is_string_byte bytes) ≡ true
+test_passes : (most : ℕ) (bytes : List ℕ) → length bytes ≤ most → All IsTextByte bytes → (nat_le (length bytes) most && list_all is_text_byte bytes) ≡ true
 test_passes most bytes short h =
     let first : nat_le (length bytes) most ≡ true = grind (arith, nat_tests) in
-    rw (first, string_bytes bytes h) refl
+    rw (first, list_all-from_AllPass is_text_byte bytes h) refl
 
-passes_short : (most : ℕ) (bytes : List ℕ) → (nat_le (length bytes) most && list_all is_string_byte bytes) ≡ true → length bytes ≤ most
+passes_short : (most : ℕ) (bytes : List ℕ) → (nat_le (length bytes) most && list_all is_text_byte bytes) ≡ true → length bytes ≤ most
 passes_short most bytes h =
-    let first = (and_parts (nat_le (length bytes) most) (list_all is_string_byte bytes) h).0 in grind (arith, nat_tests)
+    let first = (and_parts (nat_le (length bytes) most) (list_all is_text_byte bytes) h).0 in grind (arith, nat_tests)
 
-passes_printable : (most : ℕ) (bytes : List ℕ) → (nat_le (length bytes) most && list_all is_string_byte bytes) ≡ true → All IsTextByte bytes
-passes_printable most bytes h = text_bytes bytes (and_parts (nat_le (length bytes) most) (list_all is_string_byte bytes) h).1
+passes_printable : (most : ℕ) (bytes : List ℕ) → (nat_le (length bytes) most && list_all is_text_byte bytes) ≡ true → All IsTextByte bytes
+passes_printable most bytes h = AllPass-from_list_all is_text_byte bytes (and_parts (nat_le (length bytes) most) (list_all is_text_byte bytes) h).1
 
 -- what a maker of texts returns that takes just these bytes
 record Makes (most : ℕ) (bytes : List ℕ) (r : Result (List ℕ) Panic) : Type 0 where
-  ok : IfOk r (λ s. (s ≡ bytes) × ((nat_le (length bytes) most && list_all is_string_byte bytes) ≡ true))
-  refused : (nat_le (length bytes) most && list_all is_string_byte bytes) ≡ false → r ≡ Err Syntax
-  err : (nat_le (length bytes) most && list_all is_string_byte bytes) ≡ true → IsOkUnless r NoRoom
+  ok : IfOk r (λ s. (s ≡ bytes) × ((nat_le (length bytes) most && list_all is_text_byte bytes) ≡ true))
+  refused : (nat_le (length bytes) most && list_all is_text_byte bytes) ≡ false → r ≡ Err Syntax
+  err : (nat_le (length bytes) most && list_all is_text_byte bytes) ≡ true → IsOkUnless r NoRoom
 
 made_found : (most : ℕ) (bytes left : List ℕ) (r : Result (List ℕ) Panic) → Makes most bytes r → IsFoundBy (string_before most bytes left) r left
 made_found most bytes left (Ok s) h = rw (h.ok.1, h.ok.0) refl
-made_found most bytes left (Err e) h = by_test (nat_le (length bytes) most && list_all is_string_byte bytes) refl where
-  by_test : (t : Bool) → (nat_le (length bytes) most && list_all is_string_byte bytes) ≡ t → IsFoundBy (string_before most bytes left) (Err e) left
+made_found most bytes left (Err e) h = by_test (nat_le (length bytes) most && list_all is_text_byte bytes) refl where
+  by_test : (t : Bool) → (nat_le (length bytes) most && list_all is_text_byte bytes) ≡ t → IsFoundBy (string_before most bytes left) (Err e) left
   by_test true q = let same : e ≡ NoRoom = h.err q in rw same tt
   by_test false q = let same : e ≡ Syntax = (let r = h.refused q in cc) in rw same (rw q refl)
 
@@ -204,7 +204,7 @@ text_found bytes left r ok refused err =
       refused = λ q. refused.1 (λ text. false_true q (test_passes most_bytes bytes text.short text.printable));
       err = λ q. err (record { short = passes_short most_bytes bytes q; printable = passes_printable most_bytes bytes q });
     }) where
-      text_ok : (r : Result (List ℕ) Panic) → IfOk r (λ s. (s ≡ bytes) × IsText bytes) → IfOk r (λ s. (s ≡ bytes) × ((nat_le (length bytes) most_bytes && list_all is_string_byte bytes) ≡ true))
+      text_ok : (r : Result (List ℕ) Panic) → IfOk r (λ s. (s ≡ bytes) × IsText bytes) → IfOk r (λ s. (s ≡ bytes) × ((nat_le (length bytes) most_bytes && list_all is_text_byte bytes) ≡ true))
       text_ok (Ok s) h = (h.0, test_passes most_bytes bytes h.1.short h.1.printable)
       text_ok (Err e) h = tt
 
@@ -214,7 +214,7 @@ text_found bytes left r ok refused err =
 pub id_found : (bytes left : List ℕ) (r : Result (List ℕ) Panic) → IfOk r (λ s. (s ≡ bytes) × IsId bytes) → (IsErrOf r Syntax ↔ ¬ IsId bytes) → IsOkUnless r Syntax → IsFoundBy (string_before most_id_bytes bytes left) r left
 id_found bytes left (Ok s) ok refused err = rw (test_passes most_id_bytes bytes ok.1.short ok.1.printable, ok.0) refl
 id_found bytes left (Err e) ok refused err =
-    rw err (no_text (nat_le (length bytes) most_id_bytes && list_all is_string_byte bytes) refl) where
-      no_text : (t : Bool) → (nat_le (length bytes) most_id_bytes && list_all is_string_byte bytes) ≡ t → string_before most_id_bytes bytes left ≡ None
+    rw err (no_text (nat_le (length bytes) most_id_bytes && list_all is_text_byte bytes) refl) where
+      no_text : (t : Bool) → (nat_le (length bytes) most_id_bytes && list_all is_text_byte bytes) ≡ t → string_before most_id_bytes bytes left ≡ None
       no_text true q = absurd (refused.0 (ap (λ (x : Panic). Err x) err) (record { short = passes_short most_id_bytes bytes q; printable = passes_printable most_id_bytes bytes q }))
       no_text false q = rw q refl

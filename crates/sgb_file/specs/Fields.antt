@@ -1,9 +1,10 @@
 -- The fields of a record: how far each one's text goes, and what it says [GB_SAVE, fill_field].
-use Rattle.std.specs.Prelude.{ℕ, ◌^◌, ℤ, pos, neg_ℤ, Bool, not, ◌&&◌, ◌||◌, List, [], ◌∷◌, length, drop, codes, Option, Some, None, option_map, ◌==◌, nat_lt, nat_le, if◌then◌else◌}
+use Rattle.std.specs.Prelude.{ℕ, ◌^◌, ℤ, pos, neg_ℤ, Bool, ◌&&◌, ◌||◌, List, [], ◌∷◌, length, drop, codes, Option, Some, None, option_map, ◌==◌, nat_lt, nat_le, if◌then◌else◌}
 use Rattle.std.specs.List.{list_any, list_all, before_first, after_first, starts_with}
 use Rattle.std.specs.Str.{bytes_eq}
 use Rattle.std.specs.Str.Parse.{digits_value}
 use Rattle.sgb_vec.specs.Limits.{most_bytes}
+use Rattle.sgb_vec.specs.Names.{is_text_byte}
 use Rattle.sgb_graph.specs.declared.fields.Kind.{Kind}
 use Rattle.sgb_graph.specs.declared.fields.Kind.TheVariants.{Z, I, V, S, A}
 use Rattle.sgb_graph.specs.declared.fields.Ref.{Ref}
@@ -75,10 +76,6 @@ record_number_of m (b ∷ text) =
     if b == 65 then option_map Some (number_below m text)
     else (if bytes_eq (b ∷ text) (codes "0") then Some None else None)
 
--- a byte that may stand in a string: printable ASCII but for `"` (34) and `\` (92)
-abbrev pub is_string_byte : ℕ → Bool
-is_string_byte b = nat_le 32 b && nat_le b 126 && not (b == 34) && not (b == 92)
-
 -- bytes between quotes, where a `\` (92) and a newline (10) after it count as nothing
 unfoldable pub unbroken : List ℕ → List ℕ
 unbroken [] = []
@@ -88,7 +85,7 @@ unbroken (b ∷ c ∷ bytes) = if b == 92 && c == 10 then unbroken bytes else b 
 -- the string of at most so many bytes that the bytes between quotes say
 abbrev pub string_of : ℕ → List ℕ → Option (List ℕ)
 string_of most bytes =
-    if nat_le (length (unbroken bytes)) most && list_all is_string_byte (unbroken bytes)
+    if nat_le (length (unbroken bytes)) most && list_all is_text_byte (unbroken bytes)
     then Some (unbroken bytes) else None
 
 -- the string that a text begins with: from a `"` (34) to the next one

@@ -19,7 +19,5 @@ pub mod Files
 pub mod Refused
 -- the graphs that can be saved
 pub mod Saved
--- what reading a file returns
-pub mod Reading
 -- what only private contracts and proofs speak of
 pub mod inner

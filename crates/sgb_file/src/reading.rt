@@ -1,6 +1,6 @@
 //! The graph of a `.gb` file (GB_SAVE, restore_graph).
 ghost use Rattle.std.specs.Prelude.{◌≡◌, Err};
-ghost use Rattle.sgb_file.specs.Reading.{IsReadOf};
+ghost use Rattle.sgb_vec.specs.Results.{IsValue};
 ghost use Rattle.sgb_file.specs.Restoring.{graph_of_text};
 
 mod closings;
@@ -32,7 +32,7 @@ use std::alloc::Global;
 /// does not end, or an arc on a vertex's list leads to no vertex. `NoRoom` when out of memory; `Early` comes whatever
 /// memory there is.
 pub fn read_gb(alloc: Global, bytes: &[u8]) -> Result<Graph, Panic>
-    ensures read { IsReadOf (graph_of_text bytes.now) result }
+    ensures read { IsValue (graph_of_text bytes.now) result }
     ensures early { graph_of_text bytes.now ≡ Err Panic.Early → result ≡ Err Panic.Early }
 {
     let Some((head, mut lines)) = opening(bytes) else {

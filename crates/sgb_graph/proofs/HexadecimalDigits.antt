@@ -4,7 +4,8 @@ use Rattle.std.specs.Fmt.{digit_glyph, digits_onto, digits}
 use Rattle.std.proofs.Math.Nat.{pow-suc}
 use Rattle.std.proofs.lemmas.Bool.{eq-eqb, ne_eqb}
 use Rattle.std.proofs.lemmas.List.{drop_all, drop-set, length-set}
-use Rattle.sgb_graph.specs.IdTexts.{is_id_byte, is_id_text}
+use Rattle.sgb_vec.specs.Names.{is_text_byte}
+use Rattle.sgb_graph.specs.IdTexts.{is_id_text}
 use Rattle.sgb_graph.proofs.TestLemmas.{at_each_below}
 
 -- the digits of a number in front of others: the last one alone, or the others before it
@@ -57,13 +58,13 @@ digits-first number rest start place text h e l none =
     ∙ h.whole
 
 -- a digit may stand in an id
-id_byte-glyph : (d : ℕ) → d < 16 → is_id_byte (digit_glyph false d) ≡ true
-id_byte-glyph d h = at_each_below (λ k. is_id_byte (digit_glyph false k)) 16 refl d h
+text_byte-glyph : (d : ℕ) → d < 16 → is_text_byte (digit_glyph false d) ≡ true
+text_byte-glyph d h = at_each_below (λ k. is_text_byte (digit_glyph false k)) 16 refl d h
 
 id_text-onto : (k n : ℕ) (acc : List ℕ) → is_id_text acc ≡ true → is_id_text (digits_onto k 16 false n acc) ≡ true
 id_text-onto zero n acc h = h
 id_text-onto (suc k) n acc h =
-    let more : is_id_text (digit_glyph false (n % 16) ∷ acc) ≡ true = rw (id_byte-glyph (n % 16) (omega arith)) h in
+    let more : is_id_text (digit_glyph false (n % 16) ∷ acc) ≡ true = rw (text_byte-glyph (n % 16) (omega arith)) h in
     elim (eqb (n / 16) 0) as (λ b. is_id_text (cond b (digit_glyph false (n % 16) ∷ acc) (digits_onto k 16 false (n / 16) (digit_glyph false (n % 16) ∷ acc))) ≡ true) [
       | true ↦ more
       | false ↦ id_text-onto k (n / 16) (digit_glyph false (n % 16) ∷ acc) more

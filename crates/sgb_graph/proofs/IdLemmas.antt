@@ -2,50 +2,23 @@
 use Rattle.std.proofs.Common.{◌≡◌, ℕ, ◌+◌, ◌*◌, ◌^◌, ◌<◌, ◌≤◌, true, List, [], ◌∷◌, ◌++◌, length, decimal, ℤ, pos, negsuc, suc, arith, refl}
 use Rattle.std.specs.Fmt.{signed_decimal}
 use Rattle.std.specs.List.{All}
-use Rattle.std.proofs.lemmas.Bool.{and_parts, and_from}
-use Rattle.std.proofs.lemmas.Bool.Decides.{nat_tests}
 use Rattle.std.proofs.lemmas.Fmt.{length_signed_le}
-use Rattle.std.proofs.lemmas.List.Elements.{All-nil, All-cons, All-head, All-tail, All-append}
+use Rattle.std.proofs.lemmas.List.Elements.{All-cons, All-head, All-tail, All-append}
+use Rattle.std.proofs.lemmas.List.Sums.{AllPass-from_list_all}
 use Rattle.std.proofs.lemmas.List.{length-append}
 use lib.Signed.{mag}
-use Rattle.sgb_vec.specs.Names.{IsTextByte}
+use Rattle.sgb_vec.specs.Names.{is_text_byte, IsTextByte}
 use Rattle.sgb_vec.proofs.VectorNames.{decimal_is_text}
 use Rattle.sgb_graph.specs.Ids.{IsId}
-use Rattle.sgb_graph.specs.IdTexts.{is_id_byte, is_id_text, numbers_text}
+use Rattle.sgb_graph.specs.IdTexts.{is_id_text, numbers_text}
 use Rattle.sgb_vec.specs.Limits.{most_vertices}
 use Rattle.std.specs.Prelude.{nat_abs}
-
--- a byte that passes the test
-pub byte_passes : (b : ℕ) → is_id_byte b ≡ true → IsTextByte b
-byte_passes b e = record {
-  from_space = grind (arith, nat_tests);
-  to_tilde = grind (arith, nat_tests);
-  no_quote = λ same. grind (arith, nat_tests);
-  no_backslash = λ same. grind (arith, nat_tests);
-}
-
--- a text that passes the test
-pub text_passes : (text : List ℕ) → is_id_text text ≡ true → All IsTextByte text
-text_passes [] e = All-nil IsTextByte
-text_passes (b ∷ text) e =
-    let parts = and_parts (is_id_byte b) (is_id_text text) e in
-    All-cons IsTextByte b text (byte_passes b parts.0) (text_passes text parts.1)
-
--- and the other way round
-pub byte_may : (b : ℕ) → IsTextByte b → is_id_byte b ≡ true
-byte_may b is = grind (arith, nat_tests, is.from_space, is.to_tilde, is.no_quote, is.no_backslash)
-
-pub text_may : (text : List ℕ) → All IsTextByte text → is_id_text text ≡ true
-text_may [] is = refl
-text_may (b ∷ text) is =
-    and_from (is_id_byte b) (is_id_text text) (byte_may b (All-head IsTextByte b text is)) (text_may text (All-tail IsTextByte b text is))
 
 -- a number with its sign may stand in an id
 number_passes : (z : ℤ) → mag z < 2 ^ 63 → All IsTextByte (signed_decimal z)
 number_passes (pos n) h = decimal_is_text n (omega arith)
 number_passes (negsuc n) h =
-    let minus : IsTextByte 45 = record { from_space = omega arith; to_tilde = omega arith; no_quote = omega arith; no_backslash = omega arith } in
-    All-cons IsTextByte 45 (decimal (suc n)) minus (decimal_is_text (suc n) (omega arith))
+    All-cons IsTextByte 45 (decimal (suc n)) refl (decimal_is_text (suc n) (omega arith))
 
 -- a number of 64 bits takes at most 20 bytes
 pub length-number : (z : ℤ) → mag z < 2 ^ 63 → length (signed_decimal z) ≤ 20
@@ -55,7 +28,7 @@ length-number z h = length_signed_le 19 z (omega arith) h
 pub IsId-push_text : (bytes text : List ℕ) → IsId bytes → is_id_text text ≡ true → length bytes + length text ≤ 160 → IsId (bytes ++ text)
 IsId-push_text bytes text id passes room = record {
   short = omega (arith, length-append bytes text);
-  printable = All-append IsTextByte bytes text id.printable (text_passes text passes);
+  printable = All-append IsTextByte bytes text id.printable (AllPass-from_list_all is_text_byte text passes);
 }
 
 -- an id with a number after it

@@ -1,15 +1,12 @@
 -- The texts that the ids of graphs are made of [GB_GRAPH, id field], and the test for texts that may stand in an id.
-use Rattle.std.specs.Prelude.{ℕ, ℤ, Bool, true, false, ◌==◌, ◌&&◌, not, List, ◌++◌, codes, nat_le}
+use Rattle.std.specs.Prelude.{ℕ, ℤ, Bool, true, false, List, ◌++◌, codes}
 use Rattle.std.specs.Fmt.{digits, signed_decimal}
 use Rattle.std.specs.List.{flat_map, list_all}
+use Rattle.sgb_vec.specs.Names.{is_text_byte}
 
--- this byte may stand in an id: printable ASCII but for `"` (34) and `\` (92)
-abbrev pub is_id_byte : ℕ → Bool
-is_id_byte byte = (nat_le 32 byte && nat_le byte 126) && (not (byte == 34) && not (byte == 92))
-
--- each byte of the text may
+-- each byte of the text may stand in an id
 abbrev pub is_id_text : List ℕ → Bool
-is_id_text text = list_all is_id_byte text
+is_id_text text = list_all is_text_byte text
 
 -- a flag: 1 or 0
 abbrev pub flag_text : Bool → List ℕ

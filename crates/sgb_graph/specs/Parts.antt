@@ -1,8 +1,8 @@
 -- The parts of a graph that a file brings, and the graph that they make up [GB_SAVE, restore_graph].
-use Rattle.std.specs.Prelude.{◌≡◌, ◌⊎◌, ◌++◌, ◌&&◌, Bool, [], ◌∷◌, length, nat_le, Result, Ok, Err, if◌then◌else◌}
+use Rattle.std.specs.Prelude.{◌++◌, ◌&&◌, Bool, [], ◌∷◌, length, nat_le, Result, Ok, Err, if◌then◌else◌}
 use Rattle.sgb_vec.specs.Limits.{most_vertices}
 use Rattle.sgb_vec.specs.declared.panics.Panic.{Panic}
-use Rattle.sgb_vec.specs.declared.panics.Panic.TheVariants.{NoRoom, Syntax}
+use Rattle.sgb_vec.specs.declared.panics.Panic.TheVariants.{Syntax}
 use Rattle.sgb_graph.specs.Graphs.{GraphData}
 use Rattle.sgb_graph.specs.Sound.{fields_fit, is_sound}
 use Rattle.sgb_graph.specs.declared.fields.Vertex.{Vertex}
@@ -27,8 +27,3 @@ is_graph g = nat_le (length g.vertices) most_vertices && fields_fit g && is_soun
 -- the graph that the parts make up: these parts, or none
 abbrev pub checked : GraphData → Result GraphData Panic
 checked g = if is_graph g then Ok g else Err Syntax
-
--- the result is this graph, or this refusal; or it is out of memory
-abbrev pub IsCheckOf : Result GraphData Panic → Result GraphData Panic → Type 0
-IsCheckOf value (Ok g) = value ≡ Ok g
-IsCheckOf value (Err p) = (value ≡ Err p) ⊎ (p ≡ NoRoom)

@@ -8,7 +8,7 @@ ghost use Rattle.sgb_graph.specs.Made.{DescribedIs, DescribedIsOnly, plain};
 ghost use Rattle.sgb_graph.specs.Events.{Event, HasArcsOf, Record, all_records, list_of};
 ghost use Rattle.sgb_graph.specs.Growth.{AddsArc, AddsEdge, AddsEvents, ArcsLead, EdgesLead, link, new_graph, record_from, with_id};
 ghost use Rattle.sgb_graph.specs.declared.fields.Link.{Link};
-ghost use Rattle.sgb_graph.specs.IdTexts.{is_id_byte, is_id_text};
+ghost use Rattle.sgb_graph.specs.IdTexts.{is_id_text};
 ghost use Rattle.sgb_vec.specs.Names.{IsTextByte};
 ghost use Rattle.sgb_graph.specs.Draws.{IsUniformDraw, difference, draw, first_taken, modulus, most_tried, used_draw, x_number, y_number};
 
@@ -89,10 +89,9 @@ pub fn described_law()
     ensures is { DescribedIs }
 {}
 
-/// A byte, and a text, pass the test for ids exactly where they may stand in a string (GB_SAVE).
+/// A text passes the test for ids exactly where each of its bytes may stand in a string (GB_SAVE).
 pub fn id_texts_law()
-    ensures byte { (byte : ℕ) → IsTrue (is_id_byte byte) ↔ IsTextByte byte }
-    ensures text { (text : List ℕ) → IsTrue (is_id_text text) ↔ All IsTextByte text }
+    ensures { (text : List ℕ) → IsTrue (is_id_text text) ↔ All IsTextByte text }
 {}
 
 /// Parts that make up a graph are that graph, and others are refused (GB_SAVE, restore_graph).

@@ -1,6 +1,7 @@
 ghost use Rattle.std.specs.Prelude.{◌≡◌, ◌≤◌, ◌^◌, [], false, Err, OnOk, OnErr, IfOk, IsOkUnless};
 ghost use Rattle.sgb_graph.specs.Growth.{graph_data};
-ghost use Rattle.sgb_graph.specs.Parts.{IsCheckOf, checked, parts_fit, with_record, with_vertex};
+ghost use Rattle.sgb_vec.specs.Results.{IsValue};
+ghost use Rattle.sgb_graph.specs.Parts.{checked, parts_fit, with_record, with_vertex};
 ghost use Rattle.sgb_graph.specs.Sound.{IsGraph};
 
 // Whether vertices and records fit kinds and numbers.
@@ -99,7 +100,7 @@ impl Parts {
     /// arc on a vertex's list that leads to no vertex. `NoRoom` when out of memory, and never where the first three are so.
     /// The parts are gone after a refusal too.
     pub fn check(self) -> Result<Graph, Panic>
-        ensures value { IsCheckOf (checked self) result }
+        ensures value { IsValue (checked self) result }
         ensures graph { IfOk result IsGraph }
         ensures unfit { parts_fit self ≡ false → result ≡ Err Panic.Syntax }
     {

@@ -9,7 +9,7 @@ use Rattle.sgb_ops.specs.Operands.{names_of}
 use Rattle.sgb_file.specs.Devices.{Change}
 use Rattle.sgb_requests.specs.declared.faults.Fault.{Fault}
 use Rattle.sgb_requests.specs.declared.faults.Fault.TheVariants as fault
-use Rattle.sgb.specs.Values.{IsValue}
+use Rattle.sgb_vec.specs.Results.{IsValue}
 use Rattle.sgb.specs.Writing.{IsEnded, IsWritten}
 use Rattle.sgb.proofs.Endings.{change_of, memory_at_once, refused_at_once}
 use Rattle.sgb.proofs.Listings.{range-first, range-none}

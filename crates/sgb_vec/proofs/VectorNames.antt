@@ -2,6 +2,7 @@
 use Rattle.std.proofs.Common.{◌≡◌, ◌/◌, inl, inr, ℕ, zero, suc, ◌+◌, ◌*◌, ◌%◌, ◌^◌, ◌<◌, ◌≤◌, List, [], ◌∷◌, ◌++◌, length, get_or, take, decimal, refl, ap, ◌∙◌, arith, append_assoc, length-append}
 use Rattle.std.specs.List.{All}
 use Rattle.std.proofs.lemmas.Bool.{cases_lt}
+use Rattle.std.proofs.lemmas.Bool.Decides.{nat_tests}
 use Rattle.std.proofs.lemmas.Fmt.{decimal_by_steps, length-decimal-le}
 use Rattle.itoa.proofs.Decimal.{length_one, length_step_wide}
 use Rattle.std.proofs.lemmas.List.{take_more, length-take-le}
@@ -10,7 +11,7 @@ use Rattle.sgb_vec.specs.Names.{name_of_vector, IsTextByte, IsText}
 
 -- a digit may stand in a text
 pub digit_is_text : (d : ℕ) → d < 10 → IsTextByte (48 + d)
-digit_is_text d h = record { from_space = omega arith; to_tilde = omega arith; no_quote = omega arith; no_backslash = omega arith }
+digit_is_text d h = grind (arith, nat_tests)
 
 -- the digits of a number may stand in a text
 pub decimal_is_text : (n : ℕ) → n < 2 ^ 64 → All IsTextByte (decimal n)
@@ -53,10 +54,9 @@ name_of_vector_is_text : (v : List ℕ) → All (λ n. n < 2 ^ 32) v → All IsT
 name_of_vector_is_text [] h = rw name_of_none (All-nil IsTextByte)
 name_of_vector_is_text (x ∷ []) h = rw name_of_one (decimal_is_text x (omega (arith, h 0 0 (omega arith))))
 name_of_vector_is_text (x ∷ y ∷ rest) h =
-    let dot : IsTextByte 46 = record { from_space = omega arith; to_tilde = omega arith; no_quote = omega arith; no_backslash = omega arith } in
     let first = decimal_is_text x (omega (arith, h 0 0 (omega arith))) in
     let others = name_of_vector_is_text (y ∷ rest) (All-tail (λ n. n < 2 ^ 32) x (y ∷ rest) h) in
-    rw name_of_more (All-append IsTextByte (decimal x) (46 ∷ name_of_vector (y ∷ rest)) first (All-cons IsTextByte 46 (name_of_vector (y ∷ rest)) dot others))
+    rw name_of_more (All-append IsTextByte (decimal x) (46 ∷ name_of_vector (y ∷ rest)) first (All-cons IsTextByte 46 (name_of_vector (y ∷ rest)) refl others))
 
 -- a name has at most eleven bytes for each entry
 pub length-name_of_vector-le : (v : List ℕ) → All (λ n. n < 2 ^ 32) v → length (name_of_vector v) ≤ 11 * length v

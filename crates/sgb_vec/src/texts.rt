@@ -4,15 +4,19 @@ ghost use Rattle.sgb_vec.specs.Names.{name_of_vector, IsTextByte, IsText};
 
 use crate::panics::Panic;
 use itoa::Buffer;
+use smallvec::SmallVec;
 use std::alloc::{AllocError, Global};
 use std::marker::Model;
 
 /// A string of at most 4,095 bytes of printable ASCII (32 to 126) without `"` and `\`, as a `.gb` file
-/// can hold it. Contracts see it as the list of its bytes.
+/// can hold it. Contracts see it as the list of its bytes. One of 16 bytes at most takes no memory of its own.
 #[derive(Drop)]
 pub struct Text {
-    bytes: Vec<u8>,
+    bytes: Bytes,
 }
+
+// Bytes that are kept in place where they are 16 at most: so many most names of vertices have.
+type Bytes = SmallVec<u8, 16>;
 
 impl Model for Text {
     ghost use Rattle.std.specs.Prelude.{List, ℕ};
@@ -41,11 +45,11 @@ impl Text {
         if !is_text(bytes) {
             return Err(Panic::Syntax);
         }
-        let bytes = Vec::from_slice(alloc, bytes)?;
+        let bytes = SmallVec::from_slice(alloc, bytes)?;
         Ok(Text { bytes })
     }
 
-    /// The string of these bytes, which it keeps where they are: it takes no memory.
+    /// The string of these bytes, which it keeps where they are, unless they are few: it takes no memory.
     ///
     /// `Syntax` where they are no string, as for `new`, and nothing else.
     pub fn from_bytes(bytes: Vec<u8>) -> Result<Text, Panic>
@@ -56,7 +60,9 @@ impl Text {
         if !is_text(&bytes) {
             return Err(Panic::Syntax);
         }
-        Ok(Text { bytes })
+        Ok(Text {
+            bytes: SmallVec::from_vec(bytes),
+        })
     }
 
     /// The bytes of the string.
@@ -72,7 +78,7 @@ impl Text {
         ensures ok { IfOk result (λ text. text ≡ self.now) }
         ensures err { OnErr result (IsErrOf result Panic.NoRoom) }
     {
-        let bytes = Vec::from_slice(alloc, self.bytes())?;
+        let bytes = SmallVec::from_slice(alloc, self.bytes())?;
         Ok(Text { bytes })
     }
 }
@@ -100,7 +106,7 @@ pub fn name_of(alloc: Global, vector: &[u32]) -> Result<Text, Panic>
     ensures ok { IfOk result (λ name. name ≡ name_of_vector vector.now) }
     ensures err { OnErr result (IsErrOf result Panic.NoRoom) }
 {
-    let mut bytes = Vec::with_capacity(alloc, name_length(vector))?;
+    let mut bytes = SmallVec::with_capacity(alloc, name_length(vector))?;
     for (place, entry) in vector.iter().enumerate() {
         if place > 0 {
             bytes.push(b'.')?;
@@ -134,7 +140,7 @@ fn digit_count(number: u32) -> usize
 }
 
 // Appends the number in decimal.
-fn push_decimal(bytes: &mut Vec<u8>, number: u32) -> Result<(), AllocError>
+fn push_decimal(bytes: &mut Bytes, number: u32) -> Result<(), AllocError>
     ensures { OnOk result (bytes.new.items ≡ bytes.old.items ++ decimal number) }
 {
     let mut buffer = Buffer::new();

@@ -78,6 +78,22 @@ fn a_text_keeps_bytes_that_are_handed_over(rt: HostRuntime) {
     assert!(rt; !is_kept(rt.alloc(), b"0\\1"));
 }
 
+// Texts of 16 bytes at most stand in place, longer ones do not.
+#[test]
+fn texts_about_16_bytes_long(rt: HostRuntime) {
+    let alloc = rt.alloc();
+    for text in [
+        b"123456789.12345".as_slice(),
+        b"123456789.123456",
+        b"123456789.1234567",
+    ] {
+        assert!(rt; is_accepted(alloc, text) && is_kept(alloc, text));
+    }
+    assert!(rt; is_named(alloc, &[123_456_789, 12_345], b"123456789.12345"));
+    assert!(rt; is_named(alloc, &[123_456_789, 123_456], b"123456789.123456"));
+    assert!(rt; is_named(alloc, &[123_456_789, 1_234_567], b"123456789.1234567"));
+}
+
 #[test]
 fn a_text_has_at_most_4095_bytes(rt: HostRuntime) {
     assert!(rt; is_accepted(rt.alloc(), &[b'a'; 4_095]));

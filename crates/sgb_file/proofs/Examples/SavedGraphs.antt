@@ -3,7 +3,8 @@ use Rattle.std.specs.Prelude.{◌≡◌, ℕ, pos, negsuc, List, [], ◌∷◌, 
 use Rattle.std.specs.Fmt.{digits}
 use Rattle.std.proofs.Common.{arith}
 use Rattle.std.proofs.lemmas.List.Elements.{All-nil, All-cons}
-use Rattle.sgb_vec.specs.Names.{IsText}
+use Rattle.std.proofs.lemmas.List.Sums.{AllPass-from_list_all}
+use Rattle.sgb_vec.specs.Names.{IsText, is_text_byte}
 use Rattle.sgb_vec.specs.declared.panics.Panic.TheVariants.{Early, Syntax}
 use Rattle.sgb_graph.specs.Graphs.{GraphData, ends_from, numbers_from}
 use Rattle.sgb_graph.specs.declared.fields.Kind.{Kind}
@@ -19,7 +20,6 @@ use Rattle.sgb_file.specs.Fields.{unbroken}
 use Rattle.sgb_file.specs.Records.{more_fields_at, all_at}
 use Rattle.sgb_file.specs.Restoring.{opening_of, graph_of_text}
 use Rattle.sgb_file.specs.Saving.{pieces_of, laid_out, text_of_graph}
-use Rattle.sgb_file.proofs.FieldReading.{text_bytes}
 use Rattle.sgb_file.specs.Saved.{CanBeSaved, ValueCanBeSaved, VertexCanBeSaved, ArcCanBeSaved}
 
 -- a name of the most bytes, and an id of the most bytes
@@ -52,7 +52,7 @@ at_limits = record {
 }
 
 name_is_text : IsText longest_name
-name_is_text = record { short = omega arith; printable = text_bytes longest_name refl }
+name_is_text = record { short = omega arith; printable = AllPass-from_list_all is_text_byte longest_name refl }
 
 all_values : (a b c d e f : Util) → ValueCanBeSaved a → ValueCanBeSaved b → ValueCanBeSaved c → ValueCanBeSaved d → ValueCanBeSaved e → ValueCanBeSaved f → All ValueCanBeSaved (a ∷ b ∷ c ∷ d ∷ e ∷ f ∷ [])
 all_values a b c d e f ha hb hc hd he hf =
@@ -69,7 +69,7 @@ limits_can_be_saved = record {
   graph = record { vertices_fit = refl; fields = refl; lists = refl };
   writable = record {
     kinds = refl;
-    id = record { short = omega arith; printable = text_bytes longest_id refl };
+    id = record { short = omega arith; printable = AllPass-from_list_all is_text_byte longest_id refl };
     arcs_counted = omega arith;
     records_counted = omega arith;
     util = all_values (Int (pos 9223372036854775807)) Nothing Nothing Nothing Nothing Nothing (omega arith) tt tt tt tt tt;

@@ -9,7 +9,8 @@ use Rattle.sgb_graph.specs.declared.fields.Kind.{Kind}
 use Rattle.sgb_graph.specs.declared.fields.Kind.TheVariants.{Z}
 use Rattle.sgb_graph.specs.declared.fields.Util.{Util}
 use Rattle.sgb_graph.specs.declared.fields.Util.TheVariants.{Nothing}
-use Rattle.sgb_file.specs.Fields.{Counts, Found, given, field_at, is_decimal_digit, is_string_byte, string_at, unbroken}
+use Rattle.sgb_vec.specs.Names.{is_text_byte}
+use Rattle.sgb_file.specs.Fields.{Counts, Found, given, field_at, is_decimal_digit, string_at, unbroken}
 use Rattle.sgb_file.specs.Records.{after_comma}
 
 -- the result is what was found, with this text after it; `Syntax` where nothing was found; or it is out of memory
@@ -57,7 +58,7 @@ is_at_end (b ∷ text) = b == 44
 
 -- a text that is at most so long, of bytes that may stand in a string
 abbrev pub checked_text : ℕ → List ℕ → Option (List ℕ)
-checked_text most bytes = if nat_le (length bytes) most && list_all is_string_byte bytes then Some bytes else None
+checked_text most bytes = if nat_le (length bytes) most && list_all is_text_byte bytes then Some bytes else None
 
 -- the string that goes on with a text, after these bytes: up to the next `"` (34), a `\` (92) and a newline (10)
 -- counting as nothing

@@ -6,7 +6,8 @@ use Rattle.sgb_vec.specs.declared.panics.Panic.TheVariants.{NoRoom, Syntax}
 use Rattle.sgb_graph.specs.Graphs.{GraphData, ends_from, numbers_from, chain_of}
 use Rattle.sgb_graph.specs.Growth.{graph_data, link}
 use Rattle.sgb_graph.specs.Made.{no_fields, no_kinds}
-use Rattle.sgb_graph.specs.Parts.{IsCheckOf, checked, with_record, with_vertex}
+use Rattle.sgb_vec.specs.Results.{IsValue}
+use Rattle.sgb_graph.specs.Parts.{checked, with_record, with_vertex}
 use Rattle.sgb_graph.specs.declared.fields.Kind.{Kind}
 use Rattle.sgb_graph.specs.declared.fields.Kind.TheVariants.{Z, I, V, S, A}
 use Rattle.sgb_graph.specs.declared.fields.Ref.{Ref}
@@ -173,19 +174,19 @@ unfolding ends_from numbers_from
 arc_too_great = refl
 
 -- the answer is that of the definition, or out of memory
-pub other_graph : IsCheckOf (Ok loop) (Ok shared) → ⊥
+pub other_graph : IsValue (Ok loop) (Ok shared) → ⊥
 other_graph is = let many : 1 ≡ 2 = ap (λ r. lengths r) is in absurd (omega (arith, many))
   where
     lengths : Result GraphData Panic → ℕ
     lengths (Ok g) = length g.vertices
     lengths (Err p) = 0
 
-pub graph_refused : IsCheckOf (Ok loop) (Err Syntax) → ⊥
+pub graph_refused : IsValue (Ok loop) (Err Syntax) → ⊥
 graph_refused (inl is) = absurd cc
 graph_refused (inr is) = absurd cc
 
-pub graph_of_others : IsCheckOf (Err Syntax) (Ok loop) → ⊥
+pub graph_of_others : IsValue (Err Syntax) (Ok loop) → ⊥
 graph_of_others is = absurd cc
 
-pub out_of_memory : IsCheckOf (Ok loop) (Err NoRoom)
+pub out_of_memory : IsValue (Ok loop) (Err NoRoom)
 out_of_memory = inr refl

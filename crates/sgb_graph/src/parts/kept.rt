@@ -3,7 +3,8 @@ ghost use Rattle.std.specs.Prelude.{◌≡◌, ◌<◌, ◌≤◌, ◌+◌, ◌^
 ghost use Rattle.std.specs.List.{list_all};
 ghost use Rattle.sgb_vec.specs.Limits.{most_vertices};
 ghost use Rattle.sgb_graph.specs.Growth.{graph_data};
-ghost use Rattle.sgb_graph.specs.Parts.{IsCheckOf, checked, parts_fit, with_record, with_vertex};
+ghost use Rattle.sgb_vec.specs.Results.{IsValue};
+ghost use Rattle.sgb_graph.specs.Parts.{checked, parts_fit, with_record, with_vertex};
 ghost use Rattle.sgb_graph.specs.Sound.{IsGraph, fields_fit, graph_kinds, is_sound, record_fits, utils_fit, vertex_fits, vertex_kinds};
 ghost use Rattle.sgb_graph.specs.inner.Fitting.{record_may_fit, vertex_may_fit};
 
@@ -118,7 +119,7 @@ impl KeptParts {
 
     // The graph that the parts make up, as `Parts::check` says.
     pub(super) fn check(self) -> Result<Graph, Panic>
-        ensures value { IsCheckOf (checked self) result }
+        ensures value { IsValue (checked self) result }
         ensures graph { IfOk result IsGraph }
         ensures unfit { parts_fit self ≡ false → result ≡ Err Panic.Syntax }
     {

@@ -1,5 +1,6 @@
-use Rattle.sgb_graph.proofs.IdLemmas.{byte_passes, byte_may, text_passes, text_may}
+use Rattle.std.proofs.lemmas.List.Sums.{AllPass-from_list_all, list_all-from_AllPass}
+use Rattle.sgb_vec.specs.Names.{is_text_byte}
 use Rattle.sgb_graph.proofs.laws.id_texts_law.Goals as goal
 
 pub returns : goal.returns
-returns c = record { byte = λ b. (byte_passes b, byte_may b); text = λ t. (text_passes t, text_may t) }
+returns c = λ t. (AllPass-from_list_all is_text_byte t, list_all-from_AllPass is_text_byte t)

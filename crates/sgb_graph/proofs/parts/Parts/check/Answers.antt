@@ -1,6 +1,7 @@
 use Rattle.std.proofs.Common.{◌≡◌, ◌∙◌, ap, sym, subst, inl}
 use Rattle.sgb_graph.specs.Graphs.{GraphData}
-use Rattle.sgb_graph.specs.Parts.{IsCheckOf, checked, parts_fit}
+use Rattle.sgb_vec.specs.Results.{IsValue}
+use Rattle.sgb_graph.specs.Parts.{checked, parts_fit}
 use Rattle.sgb_graph.proofs.Misfits.{are_none, misfits_refused, with_none}
 use Rattle.sgb_graph.proofs.parts.Parts.check.Goals as goal
 
@@ -17,7 +18,7 @@ returns-clause-value c =
     let p = c.self.inside in
     let none = are_none p.more_vertices.items p.more_records.items (rw (c.deref.ensures.value, c.deref-2.ensures.value) at (sym c.are_all.ensures.all ∙ c.if-not-are_all.false)) in
     let same : p.kept ≡ c.args.self = sym (with_none p.more_vertices.items p.more_records.items p.kept none.0 none.1) ∙ c.self.view_is in
-    subst (λ (g : GraphData). IsCheckOf (checked g) c.check.result) same c.check.ensures.value
+    subst (λ (g : GraphData). IsValue (checked g) c.check.result) same c.check.ensures.value
 
 pub returns-clause-unfit : goal.returns-clause-unfit
 returns-clause-unfit c = λ unfit.
