@@ -5,22 +5,11 @@ use Rattle.std.specs.List.{flat_map, range_with_len, slice_get, slice_index_or}
 use Rattle.std.proofs.lemmas.Bool.{cases_lt}
 use Rattle.std.proofs.lemmas.List.{drop_all}
 use Rattle.std.proofs.lemmas.Option.{get_or_from_slice_get}
+use Rattle.sgb_vec.proofs.Lists.{range-first, range-none}
 use Rattle.sgb_graph.specs.declared.fields.Link.{Link}
 use Rattle.sgb_graph.specs.Graphs.{GraphData, chain_of}
 use Rattle.sgb_ops.specs.Operands.{names_of}
 use Rattle.sgb.specs.Texts.{name_line, name_lines, arc_line, block, blocks, head_text}
-
--- the numbers from k to below n, k first
-pub range-first : (k n : ℕ) → k < n → range_with_len k (n - k) ≡ k ∷ range_with_len (k + 1) (n - (k + 1))
-range-first k n h =
-    let more : n - k ≡ suc (n - (k + 1)) = omega arith in
-    ap (range_with_len k) more
-
--- none from n on
-pub range-none : (k n : ℕ) → n ≤ k → range_with_len k (n - k) ≡ []
-range-none k n h =
-    let none : n - k ≡ 0 = omega arith in
-    ap (range_with_len k) none
 
 -- the block of a vertex stands before those after it
 pub blocks-first : (g : GraphData) (v : ℕ) → v < length (names_of g) → blocks g v ≡ block g v ++ blocks g (v + 1)

@@ -3,6 +3,7 @@ use Rattle.std.proofs.Common.{◌≡◌, ℕ, suc, ◌+◌, ◌-◌, ◌<◌, �
 use Rattle.std.specs.List.{flat_map, range_with_len}
 use Rattle.std.proofs.lemmas.List.{length-append, length-map}
 use Rattle.std.proofs.lemmas.List.FromFn.{length-range_with_len}
+use Rattle.sgb_vec.proofs.Lists.{range-first, range-none}
 use Rattle.sgb_graph.specs.Graphs.{GraphData, chain_of}
 use Rattle.sgb_arrays.specs.Rows.{arcs_of, starts_of}
 use Rattle.sgb_arrays.specs.Lists.{starts_from}
@@ -10,17 +11,7 @@ use Rattle.sgb_arrays.specs.inner.ArcsLeft.{arcs_left, starts_left}
 use Rattle.sgb_arrays.specs.inner.Puts.{put_from}
 use Rattle.sgb_arrays.proofs.PutValues.{put_from-all}
 
--- the numbers from k on, below n
-range-first : (k n : ℕ) → k < n → range_with_len k (n - k) ≡ k ∷ range_with_len (k + 1) (n - (k + 1))
-range-first k n h =
-    let more : n - k ≡ suc (n - (k + 1)) = omega arith in
-    ap (range_with_len k) more
-
-range-none : (k n : ℕ) → n ≤ k → range_with_len k (n - k) ≡ []
-range-none k n h =
-    let none : n - k ≡ 0 = omega arith in
-    ap (range_with_len k) none
-
+-- all numbers below n
 range-whole : (n : ℕ) → range_with_len 0 (n - 0) ≡ range_with_len 0 n
 range-whole n = let same : n - 0 ≡ n = omega arith in ap (range_with_len 0) same
 

@@ -12,7 +12,7 @@ use Rattle.sgb_requests.specs.declared.faults.Fault.TheVariants as fault
 use Rattle.sgb_vec.specs.Results.{IsValue}
 use Rattle.sgb.specs.Writing.{IsEnded, IsWritten}
 use Rattle.sgb.proofs.Endings.{change_of, memory_at_once, refused_at_once}
-use Rattle.sgb.proofs.Listings.{range-first, range-none}
+use Rattle.sgb_vec.proofs.Lists.{range-first, range-none}
 use Rattle.sgb_levels.specs.Distances.{AreDistances, IsDistanceIfAny}
 use Rattle.sgb_levels.specs.Lines.{IsLevelsAnswer, distance_text, level_line, level_lines, line_of_level}
 

@@ -30,11 +30,6 @@ pub whole_number : (k : ℕ) → k < 2 ^ 32 → take 10 (name_of_vector (k ∷ [
 unfolding name_of_vector
 whole_number k fits = take_all 10 (decimal k) (number_is_short k fits)
 
--- its name is its digits
-pub number_text : (k : ℕ) → name_of_vector (k ∷ []) ≡ decimal k
-unfolding name_of_vector
-number_text k = refl
-
 -- what is never refused is refused out of memory at most
 pub unless_memory : {T : Type 0} (r : Result T Panic) → IsOk r → IsOkUnless r NoRoom
 unless_memory (Ok x) good = tt

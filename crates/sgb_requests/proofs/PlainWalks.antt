@@ -8,6 +8,7 @@ use Rattle.clap.specs.Kinds.{Kinds, or_else}
 use Rattle.clap.specs.Lexer.{long_of, long_of_rest, short_of, short_of_rest, strip_byte}
 use Rattle.clap.specs.Simple.{App, Shape, entered, label_of, names_of, rows_at}
 use Rattle.clap.specs.Walk.{Held, Names, Step, Text, Waiting, Walk, after_step, answers_to, finished, long_or_other, nothing_held, plain_word, settled, short_or_plain, stop_after, subcommand_met, subcommand_or_other, trailing, walk_from, walked, walked_from, word_met}
+use Rattle.sgb_vec.proofs.Lists.{never_true}
 use Rattle.sgb_requests.specs.PlainWords.{IsPlain}
 
 -- ---- words after a command's name
@@ -33,14 +34,10 @@ module _ (s : Shape) (names : Names) where
 
 -- a first byte is not the hyphen
 no_hyphen : (x : ℕ) → x ≢ 45 → (x == 45) ≡ false
-no_hyphen x other = go (x == 45) (λ e. other (same e))
+no_hyphen x other = never_true (x == 45) (λ e. other (same e))
   where
     same : (x == 45) ≡ true → x ≡ 45
     same e = search (rules, e)
-
-    go : (b : Bool) → (b ≡ true → ⊥) → b ≡ false
-    go true bad = absurd (bad refl)
-    go false bad = refl
 
 -- there is no hyphen to take off
 no_strip : (word : Text) → IsPlain word → strip_byte 45 word ≡ None
@@ -49,11 +46,7 @@ no_strip (x ∷ xs) plain = rw (no_hyphen x plain) refl
 
 -- it is not `--`
 no_trailing : (word : Text) → IsPlain word → bytes_eq word (45 ∷ 45 ∷ []) ≡ false
-no_trailing word plain = go (bytes_eq word (45 ∷ 45 ∷ [])) (λ e. plain (ap (λ (t : Text). slice_index t 0) ((bytes_eq-Decides word (45 ∷ 45 ∷ [])).0 e)))
-  where
-    go : (b : Bool) → (b ≡ true → ⊥) → b ≡ false
-    go true bad = absurd (bad refl)
-    go false bad = refl
+no_trailing word plain = never_true (bytes_eq word (45 ∷ 45 ∷ [])) (λ e. plain (ap (λ (t : Text). slice_index t 0) ((bytes_eq-Decides word (45 ∷ 45 ∷ [])).0 e)))
 
 -- it is no `--name`
 no_long : (word : Text) → IsPlain word → long_of word ≡ None

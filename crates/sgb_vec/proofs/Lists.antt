@@ -204,3 +204,15 @@ range-more start n = range-joined start n 1
 -- what a walk gives stands before what it leaves
 pub steps_to : {X : Type 0} (s rest : List X) (r : Option X) (x : X) → r ≡ Some x → YieldsFirst (λ l. l) s r rest → s ≡ x ∷ rest
 steps_to s rest r x is h = subst (λ o. YieldsFirst (λ l. l) s o rest) is h
+
+-- the numbers from k to below n, k first
+pub range-first : (k n : ℕ) → k < n → range_with_len k (n - k) ≡ k ∷ range_with_len (k + 1) (n - (k + 1))
+range-first k n h =
+    let more : n - k ≡ suc (n - (k + 1)) = omega arith in
+    ap (range_with_len k) more
+
+-- none from n on
+pub range-none : (k n : ℕ) → n ≤ k → range_with_len k (n - k) ≡ []
+range-none k n h =
+    let none : n - k ≡ 0 = omega arith in
+    ap (range_with_len k) none

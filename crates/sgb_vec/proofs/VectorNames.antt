@@ -33,7 +33,7 @@ unfolding name_of_vector
 name_of_none = refl
 
 -- the name of one entry
-name_of_one : (x : ℕ) → name_of_vector (x ∷ []) ≡ decimal x
+pub name_of_one : (x : ℕ) → name_of_vector (x ∷ []) ≡ decimal x
 unfolding name_of_vector
 name_of_one x = refl
 
