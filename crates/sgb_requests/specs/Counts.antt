@@ -1,10 +1,7 @@
 -- The texts of counts on the command line.
 use Rattle.std.specs.Prelude.{◌≤◌, ℕ, List, length}
 use Rattle.std.specs.Str.Parse.{IsNumeral}
-
--- a count has at most this many digits
-abbrev pub most_digits : ℕ
-most_digits = 18
+use Rattle.sgb_expr.specs.Numbers.{most_digits}
 
 -- 1 to 18 decimal digits, leading zeros allowed
 pub record IsDigits (text : List ℕ) : Type 0 where
