@@ -98,6 +98,7 @@ impl Records {
     }
 
     // Record k, below the number of records.
+    #[inline(always)]
     pub(crate) fn get(&self, k: usize) -> ArcRef<'_>
         requires { k < length self.now.items }
         ensures { slice_get self.now.items k ≡ Some (arc_seen result) }

@@ -251,6 +251,7 @@ impl Numbers {
     }
 
     // Takes room for one value more. The values stay, whether there is room or not.
+    #[inline(always)]
     fn reserve(&mut self) -> Result<(), AllocError>
         ensures kind { numbers_kind self.new ≡ numbers_kind self.old }
         ensures values { (place : ℕ) (ps : List PlainVertex) → numbers_values place ps self.new
