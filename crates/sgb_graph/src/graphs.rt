@@ -154,6 +154,7 @@ impl Graph {
     }
 
     /// Arc record `k`, below `records_len()`.
+    #[inline(always)]
     pub fn arc_rec(&self, k: usize) -> ArcRef<'_>
         requires { k < length self.now.records }
         ensures { slice_get self.now.records k ≡ Some (arc_seen result) }
