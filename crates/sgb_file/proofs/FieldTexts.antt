@@ -7,8 +7,8 @@ use Rattle.std.proofs.lemmas.List.{at_drop_more, drop_all}
 use Rattle.sgb_graph.specs.declared.fields.Util.{Util}
 use Rattle.sgb_graph.specs.declared.fields.Util.TheVariants.{Nothing}
 use Rattle.sgb_file.specs.Saving.{field_texts, pieces_of, laid_out, lines_ended, line_begun}
-use Rattle.sgb_file.specs.inner.Layouts.{Stage, HasLaid, IsStopped, IsLaid, IsPlaced, IsNextPlaced, AreLaidOut, has_any, piece_of}
-use Rattle.sgb_file.proofs.LaidLines.{LinesSoFar, lines-more, lines-cut, lines-last, stopped-first, laid-after}
+use Rattle.sgb_file.specs.inner.Layouts.{Stage, HasLaid, IsStopped, IsLaid, IsPlaced, IsNextPlaced, AreLaidOut, LinesSoFar, has_any, piece_of}
+use Rattle.sgb_file.proofs.LaidLines.{lines-more, lines-cut, lines-last, stopped-first, laid-after}
 
 -- the texts of fields
 abbrev pub texts_of : List UtilRef → List (List ℕ)

@@ -1,9 +1,8 @@
 -- Lemmas on readers one after another: a record is read field by field.
 use Rattle.std.specs.Prelude.{◌≡◌, ℕ, ℤ, zero, ◌+◌, ◌<◌, ◌≤◌, true, false, List, [], ◌∷◌, ◌++◌, length, take, drop, codes, Option, Some, None, Err, option_map, ◌==◌, refl}
-use Rattle.std.proofs.Common.{ap, sym, suc, ◌∙◌, append_assoc, append-nil, arith, get_or}
-use Rattle.std.proofs.Common.{set}
+use Rattle.std.proofs.Common.{ap, sym, subst, suc, ◌∙◌, append_assoc, append-nil, arith, get_or, set}
 use Rattle.std.proofs.Math.Seq.{drop-cons}
-use Rattle.std.proofs.lemmas.List.{take_more_set, take_all, drop_all}
+use Rattle.std.proofs.lemmas.List.{take_more_set, take_all, drop_all, set-get_or, get_or-set_other}
 use Rattle.sgb_vec.specs.declared.panics.Panic.{Panic}
 use Rattle.sgb_vec.specs.declared.panics.Panic.TheVariants.{NoRoom, Syntax}
 use Rattle.std.proofs.lemmas.Bool.Decides.{nat_tests}
@@ -18,6 +17,7 @@ use Rattle.sgb_graph.specs.declared.fields.Util.TheVariants.{Int, Nothing}
 use Rattle.sgb_file.specs.Fields.{Counts, Found, given, found_as, field_at, integer_of, most_number_digits, number_of, plain_at, string_at, after_prefix}
 use Rattle.sgb_file.specs.Records.{Head, after_comma, graph_record_at, more_fields_at, record_at, vertex_record_at, vertex_of_fields, arc_record_at, arc_of_fields}
 use Rattle.sgb_file.specs.inner.Found.{IsFoundBy, IsPassedBy, is_used, next_at, next_field_at}
+use Rattle.sgb_file.specs.inner.Reading.{arc_fields_at, vertex_fields_at}
 
 -- a reader that stops because another one stopped
 pub stops : {X Y : Type 0} (first : Option (Found X)) (all : Option (Found Y)) (p : Panic) (left later : List ℕ) → IsFoundBy first (Err p) left → (first ≡ None → all ≡ None) → IsFoundBy all (Err p) later
@@ -81,26 +81,13 @@ whole_record counts kind kinds text make =
     (λ field. given (more_fields_at counts kinds field.rest) (made_of (λ fields. make (field.value ∷ fields))))
     (λ field. given-as (λ fields. field.value ∷ fields) (more_fields_at counts kinds field.rest) (made_of make))
 
--- a vertex's record: its name, its first arc record, and its utility fields
-pub vertex_steps : (head : Head) (text : List ℕ)
-    → vertex_record_at head text
-    ≡ given (field_at head.counts S text) (λ name.
-    given (next_field_at head.counts A name.rest) (λ first.
-    given (more_fields_at head.counts (vertex_kinds head.kinds) first.rest) (made_of (λ fields. vertex_of_fields (name.value ∷ first.value ∷ fields)))))
+-- the record of a vertex, and that of an arc, field by field
+pub vertex_steps : (head : Head) (text : List ℕ) → vertex_record_at head text ≡ vertex_fields_at head text
 vertex_steps head text =
     whole_record head.counts S (A ∷ vertex_kinds head.kinds) text vertex_of_fields
     ∙ given-same (field_at head.counts S text) _ _ (λ name. one_field head.counts A (vertex_kinds head.kinds) name.rest (λ fields. vertex_of_fields (name.value ∷ fields)))
 
--- an arc's record: its tip, the next one, its length, and its two utility fields
-pub arc_steps : (head : Head) (a b : Kind) (text : List ℕ) → arc_kinds head.kinds ≡ a ∷ b ∷ []
-    → arc_record_at head text
-    ≡ given (field_at head.counts V text) (λ tip.
-    given (next_field_at head.counts A tip.rest) (λ next.
-    given (next_field_at head.counts I next.rest) (λ len.
-    given (next_field_at head.counts a len.rest) (λ first.
-    given (next_field_at head.counts b first.rest) (λ second.
-    given (after_prefix (codes "\n") second.rest) (λ rest.
-    option_map (λ r. record { value = r; rest = rest }) (arc_of_fields (tip.value ∷ next.value ∷ len.value ∷ first.value ∷ second.value ∷ []))))))))
+pub arc_steps : (head : Head) (a b : Kind) (text : List ℕ) → arc_kinds head.kinds ≡ a ∷ b ∷ [] → arc_record_at head text ≡ arc_fields_at head.counts a b text
 arc_steps head a b text e =
     ap (λ kinds. given (record_at head.counts V (A ∷ I ∷ kinds) text) (made_of arc_of_fields)) e
     ∙ whole_record head.counts V (A ∷ I ∷ a ∷ b ∷ []) text arc_of_fields
@@ -111,10 +98,10 @@ arc_steps head a b text e =
     ∙ given-same (next_field_at head.counts b first.rest) _ _ (λ second. no_field head.counts second.rest (λ fields. arc_of_fields (tip.value ∷ next.value ∷ len.value ∷ first.value ∷ second.value ∷ fields)))))))
 
 -- the fields so far, of those that end a record
-abbrev pub with_first : List Util → Option (Found (List Util)) → Option (Found (List Util))
+abbrev with_first : List Util → Option (Found (List Util)) → Option (Found (List Util))
 with_first first found = found_as (λ fields. first ++ fields) found
 
-pub none_first : (found : Option (Found (List Util))) → found ≡ with_first [] found
+none_first : (found : Option (Found (List Util))) → found ≡ with_first [] found
 none_first None = refl
 none_first (Some x) = refl
 
@@ -132,7 +119,7 @@ this_field counts kinds i kind d text h e =
     ap (λ (ks : List Kind). more_fields_at counts ks text) parts ∙ first_field counts kind (drop (i + 1) kinds) text
 
 -- no field is used yet
-pub none_used : (k : ℕ) → get_or (Nothing ∷ Nothing ∷ Nothing ∷ Nothing ∷ Nothing ∷ Nothing ∷ []) k Nothing ≡ Nothing
+none_used : (k : ℕ) → get_or (Nothing ∷ Nothing ∷ Nothing ∷ Nothing ∷ Nothing ∷ Nothing ∷ []) k Nothing ≡ Nothing
 none_used zero = refl
 none_used (suc zero) = refl
 none_used (suc (suc zero)) = refl
@@ -145,7 +132,7 @@ none_used (suc (suc (suc (suc (suc (suc k)))))) = refl
 pub used_at : (counts : Counts) (kind : Kind) (text : List ℕ) → is_used kind ≡ true → next_at (field_at counts kind) text ≡ next_field_at counts kind text
 used_at counts kind text e = rw e refl
 
-pub unused_at : (counts : Counts) (kind : Kind) (text : List ℕ) → is_used kind ≡ false → next_field_at counts kind text ≡ Some (record { value = Nothing; rest = text })
+unused_at : (counts : Counts) (kind : Kind) (text : List ℕ) → is_used kind ≡ false → next_field_at counts kind text ≡ Some (record { value = Nothing; rest = text })
 unused_at counts kind text e = rw e refl
 
 -- an integer after a comma is a field of its kind
@@ -165,48 +152,72 @@ pub int_read : (counts : Counts) (kind : Kind) (text left : List ℕ) (i n : ℤ
     → next_field_at counts kind text ≡ Some (record { value = Int i; rest = left })
 int_read counts kind text left i n same is e = rw same (ap (λ (k : Kind). next_field_at counts k text) is ∙ int_at counts text ∙ ap (λ o. found_as Int o) e)
 
-pub field_stops : (counts : Counts) (kinds : List Kind) (i : ℕ) (kind d : Kind) (first : List Util) (whole : Option (Found (List Util))) (text left after : List ℕ) (e : Panic)
-    → i < length kinds → kind ≡ get_or kinds i d → whole ≡ with_first first (more_fields_at counts (drop i kinds) text)
-    → IsFoundBy (next_field_at counts kind text) (Err e) left → IsFoundBy whole (Err e) after
-field_stops counts kinds i kind d first whole text left after e h is so p =
-    stops (next_field_at counts kind text) whole e left after p
-    (λ none. so ∙ ap (with_first first) (this_field counts kinds i kind d text h is ∙ ap (λ o. given o (λ field. found_as (λ fields. field.value ∷ fields) (more_fields_at counts (drop (i + 1) kinds) field.rest))) none))
+-- of the six fields that end a record those before this place are read, and this text is left; the others are not used yet
+pub record AreReadTo (counts : Counts) (kinds : List Kind) (whole : Option (Found (List Util))) (place : ℕ) (fields : List Util) (text : List ℕ) : Type 0 where
+  so_far : whole ≡ with_first (take place fields) (more_fields_at counts (drop place kinds) text)
+  blank : (k : ℕ) → place ≤ k → get_or fields k Nothing ≡ Nothing
 
-pub field_read : (counts : Counts) (kinds : List Kind) (i : ℕ) (kind d : Kind) (fields : List Util) (u : Util) (whole : Option (Found (List Util))) (text left : List ℕ)
-    → i < length kinds → i < length fields → kind ≡ get_or kinds i d → whole ≡ with_first (take i fields) (more_fields_at counts (drop i kinds) text)
-    → next_field_at counts kind text ≡ Some (record { value = u; rest = left })
-    → whole ≡ with_first (take (i + 1) (set fields i u)) (more_fields_at counts (drop (i + 1) kinds) left)
-field_read counts kinds i kind d fields u whole text left h within is so p =
-    so ∙ ap (with_first (take i fields)) (this_field counts kinds i kind d text h is ∙ ap (λ o. given o (λ field. found_as (λ fs. field.value ∷ fs) (more_fields_at counts (drop (i + 1) kinds) field.rest))) p)
-    ∙ first_again (take i fields) u (more_fields_at counts (drop (i + 1) kinds) left)
-    ∙ ap (λ first. with_first first (more_fields_at counts (drop (i + 1) kinds) left)) (sym (take_more_set fields i u within))
+pub none_read : (counts : Counts) (kinds : List Kind) (text : List ℕ) → AreReadTo counts kinds (more_fields_at counts kinds text) 0 (Nothing ∷ Nothing ∷ Nothing ∷ Nothing ∷ Nothing ∷ Nothing ∷ []) text
+none_read counts kinds text = record { so_far = none_first (more_fields_at counts kinds text); blank = λ k from. none_used k }
+
+-- the next field is read, or not used, or the reading stops there
+pub one_read : (counts : Counts) (kinds : List Kind) (whole : Option (Found (List Util))) (place : ℕ) (fields : List Util) (text left : List ℕ) (kind d : Kind) (u : Util)
+    → AreReadTo counts kinds whole place fields text → length kinds ≡ 6 → length fields ≡ 6 → place < 6 → kind ≡ get_or kinds place d
+    → next_field_at counts kind text ≡ Some (record { value = u; rest = left }) → AreReadTo counts kinds whole (place + 1) (set fields place u) left
+one_read counts kinds whole place fields text left kind d u h all six within is p = record {
+  so_far = h.so_far
+      ∙ ap (with_first (take place fields)) (this_field counts kinds place kind d text (omega (arith, all, within)) is
+      ∙ ap (λ o. given o (λ field. found_as (λ fs. field.value ∷ fs) (more_fields_at counts (drop (place + 1) kinds) field.rest))) p)
+      ∙ first_again (take place fields) u (more_fields_at counts (drop (place + 1) kinds) left)
+      ∙ ap (λ first. with_first first (more_fields_at counts (drop (place + 1) kinds) left)) (sym (take_more_set fields place u (omega (arith, six, within))));
+  blank = λ k from. get_or-set_other fields place k u Nothing (omega (arith, from)) ∙ h.blank k (omega (arith, from));
+}
+
+pub one_unused : (counts : Counts) (kinds : List Kind) (whole : Option (Found (List Util))) (place : ℕ) (fields : List Util) (text : List ℕ) (kind d : Kind)
+    → AreReadTo counts kinds whole place fields text → length kinds ≡ 6 → length fields ≡ 6 → place < 6 → kind ≡ get_or kinds place d → is_used kind ≡ false
+    → AreReadTo counts kinds whole (place + 1) fields text
+one_unused counts kinds whole place fields text kind d h all six within is unused =
+    let same = ap (λ (u : Util). set fields place u) (sym (h.blank place (omega arith))) ∙ set-get_or fields place Nothing in
+    subst (λ (fs : List Util). AreReadTo counts kinds whole (place + 1) fs text) same
+    (one_read counts kinds whole place fields text text kind d Nothing h all six within is (unused_at counts kind text unused))
+
+pub one_stops : (counts : Counts) (kinds : List Kind) (whole : Option (Found (List Util))) (place : ℕ) (fields : List Util) (text left after : List ℕ) (kind d : Kind) (e : Panic)
+    → AreReadTo counts kinds whole place fields text → length kinds ≡ 6 → place < 6 → kind ≡ get_or kinds place d → IsFoundBy (next_field_at counts kind text) (Err e) left
+    → IsFoundBy whole (Err e) after
+one_stops counts kinds whole place fields text left after kind d e h all within is p =
+    stops (next_field_at counts kind text) whole e left after p
+    (λ none. h.so_far ∙ ap (with_first (take place fields)) (this_field counts kinds place kind d text (omega (arith, all, within)) is
+    ∙ ap (λ o. given o (λ field. found_as (λ fields. field.value ∷ fields) (more_fields_at counts (drop (place + 1) kinds) field.rest))) none))
 
 -- the end of a record, which its fields are read before
-pub fields_end : (counts : Counts) (text : List ℕ) (first : List Util) → with_first first (more_fields_at counts [] text) ≡ option_map (λ rest. record { value = first; rest = rest }) (after_prefix (codes "\n") text)
+fields_end : (counts : Counts) (text : List ℕ) (first : List Util) → with_first first (more_fields_at counts [] text) ≡ option_map (λ rest. record { value = first; rest = rest }) (after_prefix (codes "\n") text)
 unfolding more_fields_at
 fields_end counts text first = by_end (after_prefix (codes "\n") text) where
   by_end : (o : Option (List ℕ)) → with_first first (option_map (λ rest. record { value = []; rest = rest }) o) ≡ option_map (λ rest. record { value = first; rest = rest }) o
   by_end None = refl
   by_end (Some rest) = ap (λ (fields : List Util). Some (record { value = fields; rest = rest })) (append-nil first)
 
-at_end : (counts : Counts) (kinds : List Kind) (i : ℕ) (first : List Util) (whole : Option (Found (List Util))) (text : List ℕ)
-    → length kinds ≤ i → whole ≡ with_first first (more_fields_at counts (drop i kinds) text) → whole ≡ option_map (λ rest. record { value = first; rest = rest }) (after_prefix (codes "\n") text)
-at_end counts kinds i first whole text h so =
-    so ∙ ap (λ (ks : List Kind). with_first first (more_fields_at counts ks text)) (drop_all i kinds h) ∙ fields_end counts text first
+at_end : (counts : Counts) (kinds : List Kind) (whole : Option (Found (List Util))) (place : ℕ) (fields : List Util) (text : List ℕ)
+    → AreReadTo counts kinds whole place fields text → length kinds ≡ 6 → length fields ≡ 6 → 6 ≤ place
+    → whole ≡ option_map (λ rest. record { value = fields; rest = rest }) (after_prefix (codes "\n") text)
+at_end counts kinds whole place fields text h all six past =
+    h.so_far
+    ∙ ap (λ (us : List Util). with_first us (more_fields_at counts (drop place kinds) text)) (take_all place fields (omega (arith, six, past)))
+    ∙ ap (λ (ks : List Kind). with_first fields (more_fields_at counts ks text)) (drop_all place kinds (omega (arith, all, past)))
+    ∙ fields_end counts text fields
 
-pub end_stops : (counts : Counts) (kinds : List Kind) (i : ℕ) (first : List Util) (whole : Option (Found (List Util))) (text left after : List ℕ) (e : Panic)
-    → length kinds ≤ i → whole ≡ with_first first (more_fields_at counts (drop i kinds) text) → IsPassedBy (after_prefix (codes "\n") text) (Err e) left → IsFoundBy whole (Err e) after
-end_stops counts kinds i first whole text left after e h so p =
+pub end_stops : (counts : Counts) (kinds : List Kind) (whole : Option (Found (List Util))) (place : ℕ) (fields : List Util) (text left after : List ℕ) (e : Panic)
+    → AreReadTo counts kinds whole place fields text → length kinds ≡ 6 → length fields ≡ 6 → 6 ≤ place
+    → IsPassedBy (after_prefix (codes "\n") text) (Err e) left → IsFoundBy whole (Err e) after
+end_stops counts kinds whole place fields text left after e h all six past p =
     let stopped = passing_stopped (after_prefix (codes "\n") text) e left p in
-    rw stopped.0 (at_end counts kinds i first whole text h so ∙ ap (λ (o : Option (List ℕ)). option_map (λ rest. record { value = first; rest = rest }) o) stopped.1)
+    rw stopped.0 (at_end counts kinds whole place fields text h all six past ∙ ap (λ (o : Option (List ℕ)). option_map (λ rest. record { value = fields; rest = rest }) o) stopped.1)
 
-pub end_read : (counts : Counts) (kinds : List Kind) (i : ℕ) (fields : List Util) (whole : Option (Found (List Util))) (text left : List ℕ)
-    → length kinds ≤ i → length fields ≤ i → whole ≡ with_first (take i fields) (more_fields_at counts (drop i kinds) text) → after_prefix (codes "\n") text ≡ Some left
+pub end_read : (counts : Counts) (kinds : List Kind) (whole : Option (Found (List Util))) (place : ℕ) (fields : List Util) (text left : List ℕ)
+    → AreReadTo counts kinds whole place fields text → length kinds ≡ 6 → length fields ≡ 6 → 6 ≤ place → after_prefix (codes "\n") text ≡ Some left
     → whole ≡ Some (record { value = fields; rest = left })
-end_read counts kinds i fields whole text left h all so p =
-    at_end counts kinds i (take i fields) whole text h so
-    ∙ ap (λ (o : Option (List ℕ)). option_map (λ rest. record { value = take i fields; rest = rest }) o) p
-    ∙ ap (λ (us : List Util). Some (record { value = us; rest = left })) (take_all i fields all)
+end_read counts kinds whole place fields text left h all six past p =
+    at_end counts kinds whole place fields text h all six past ∙ ap (λ (o : Option (List ℕ)). option_map (λ rest. record { value = fields; rest = rest }) o) p
 
 -- the kinds of an arc's fields, of fourteen
 pub two_kinds : (kinds : List Kind) (d : Kind) → length kinds ≡ 14 → arc_kinds kinds ≡ get_or kinds 6 d ∷ get_or kinds 7 d ∷ []

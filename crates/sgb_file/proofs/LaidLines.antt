@@ -7,7 +7,7 @@ use Rattle.std.proofs.lemmas.List.Elements.{filter-append}
 use Rattle.std.proofs.lemmas.List.Sums.{fold-append}
 use Rattle.sgb_file.specs.FileLines.{text_of_lines}
 use Rattle.sgb_file.specs.Checksum.{has_star}
-use Rattle.sgb_file.specs.inner.Layouts.{checksum_after, checksum_from, counted_bytes, Stage, HasLaid, IsStopped, IsLaid}
+use Rattle.sgb_file.specs.inner.Layouts.{checksum_after, checksum_from, counted_bytes, Stage, HasLaid, IsStopped, IsLaid, LinesSoFar}
 use Rattle.sgb_file.proofs.WrittenPrefixes.{prefix_more, prefix_after}
 
 -- the checksum after two texts
@@ -67,10 +67,7 @@ pub laid-after : {T E : Type 0} (all part rest : List (List ℕ)) (line : List �
 laid-after all part rest line a b c (Ok x) e p q = (rw e (laid-append part rest a b c p q.0), q.1)
 laid-after all part rest line a b c (Err f) e p q = stopped-after all part rest a b c e p q
 
--- of all lines, these are left, and those before them were written
-abbrev pub LinesSoFar : List (List ℕ) → List (List ℕ) → Stage → Stage → Type 0
-LinesSoFar all left a b = (done : List (List ℕ)) × (all ≡ done ++ left) × HasLaid done a b
-
+-- of all lines nothing was written
 pub lines-none : (all : List (List ℕ)) (a : Stage) → LinesSoFar all all a a
 lines-none all a = ([], refl, laid-none a a refl refl refl)
 
@@ -78,6 +75,10 @@ lines-none all a = ([], refl, laid-none a a refl refl refl)
 pub lines-more : (all left part rest : List (List ℕ)) (a b c : Stage) → left ≡ part ++ rest → LinesSoFar all left a b → HasLaid part b c → LinesSoFar all rest a c
 lines-more all left part rest a b c e p q =
     (p.0 ++ part, p.1 ∙ (ap (λ lines. p.0 ++ lines) e ∙ sym (append_assoc p.0 part rest)), laid-append p.0 part a b c p.2 q)
+
+-- of those that were left others are left now
+pub lines-further : (all left rest : List (List ℕ)) (a b c : Stage) → LinesSoFar all left a b → LinesSoFar left rest b c → LinesSoFar all rest a c
+lines-further all left rest a b c p q = lines-more all left q.0 rest a b c q.1 p q.2
 
 -- the writing stopped within the next lines
 pub lines-cut : (all left part rest : List (List ℕ)) (a b c : Stage) → left ≡ part ++ rest → LinesSoFar all left a b → IsStopped part b c → IsStopped all a c

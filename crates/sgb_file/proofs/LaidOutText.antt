@@ -1,10 +1,10 @@
 -- Lemmas on the text of pieces that are laid out: what stands after a line's beginning.
-use Rattle.std.specs.Prelude.{◌≡◌, ℕ, zero, suc, ◌+◌, ◌-◌, ◌*◌, ◌<◌, ◌≤◌, Bool, true, false, cond, not, List, [], ◌∷◌, ◌++◌, map, length, take, drop, codes, ◌==◌, refl}
+use Rattle.std.specs.Prelude.{◌≡◌, ℕ, zero, suc, ◌+◌, ◌*◌, ◌<◌, ◌≤◌, Bool, true, false, cond, not, List, [], ◌∷◌, ◌++◌, map, length, take, drop, codes, ◌==◌, refl}
 use Rattle.std.specs.List.{list_all, range_with_len}
 use Rattle.std.proofs.Common.{ap, sym, ◌∙◌, append_assoc, append-nil, arith, length-append}
 use Rattle.std.proofs.lemmas.Bool.{and_parts, and_from}
 use Rattle.std.proofs.lemmas.Grind.{flat_map-append}
-use Rattle.std.proofs.lemmas.List.{take-append-le, drop-drop}
+use Rattle.std.proofs.lemmas.List.{take-append-le, drop-append-le, drop-drop, length-drop}
 use Rattle.sgb_graph.proofs.Lists.{list_all-made}
 use Rattle.sgb_file.specs.FileLines.{text_of_lines}
 use Rattle.sgb_file.specs.Saving.{breaks_of, broken_lines, last_part, fits_on, lines_ended, line_begun, laid_out, pieces_of, record_lines}
@@ -113,21 +113,11 @@ unfolding with_breaks
 breaks_within zero first x y h = refl
 breaks_within (suc n) first x y h =
     let room : first ≤ length x = omega (arith, h) in
-    let left : 78 + 78 * n ≤ length (drop first x) + 78 = rw (length_left first x) (omega (arith, h)) in
+    let left : 78 + 78 * n ≤ length (drop first x) + 78 = rw (length-drop first x) (omega (arith, h)) in
     ap (λ t. t ++ 92 ∷ 10 ∷ with_breaks n 78 (drop first (x ++ y))) (take-append-le first x y room)
-    ∙ ap (λ t. take first x ++ 92 ∷ 10 ∷ with_breaks n 78 t) (drop_within first x y room)
+    ∙ ap (λ t. take first x ++ 92 ∷ 10 ∷ with_breaks n 78 t) (drop-append-le first x y room)
     ∙ ap (λ t. take first x ++ 92 ∷ 10 ∷ t) (breaks_within n 78 (drop first x) y left)
     ∙ sym (append_assoc (take first x) (92 ∷ 10 ∷ with_breaks n 78 (drop first x)) y)
-  where
-    length_left : (k : ℕ) (z : List ℕ) → length (drop k z) ≡ length z - k
-    length_left zero z = omega arith
-    length_left (suc k) [] = omega arith
-    length_left (suc k) (b ∷ z) = length_left k z ∙ omega arith
-
-    drop_within : (k : ℕ) (z w : List ℕ) → k ≤ length z → drop k (z ++ w) ≡ drop k z ++ w
-    drop_within zero z w e = refl
-    drop_within (suc k) [] w e = absurd (omega (arith, e))
-    drop_within (suc k) (b ∷ z) w e = drop_within k z w (omega (arith, e))
 
 -- what stands after a field, where others follow on this line: their comma and they, or the end of the line
 abbrev pub after_field : List ℕ → List (List ℕ) → List ℕ

@@ -38,8 +38,6 @@ pub mod NumberReading
 pub mod LeftTexts
 -- a record, read field by field in the words of the code
 pub mod FoundSteps
--- a vertex's record, field by field
-pub mod VertexSteps
 -- strings, read part by part
 pub mod StringReading
 -- the lines of a record are a record of the graph's

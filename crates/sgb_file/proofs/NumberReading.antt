@@ -1,17 +1,16 @@
 -- Lemmas on numbers that are read digit by digit.
-use Rattle.std.specs.Prelude.{◌≡◌, ℕ, zero, suc, ◌+◌, ◌-◌, ◌*◌, ◌^◌, ◌<◌, ◌≤◌, Bool, true, false, ◌&&◌, List, [], ◌∷◌, Option, Some, None, IfSome, length, take, nat_le, nat_lt}
+use Rattle.std.specs.Prelude.{◌≡◌, ℕ, zero, suc, ◌+◌, ◌-◌, ◌*◌, ◌^◌, ◌<◌, ◌≤◌, true, false, ◌&&◌, List, [], ◌∷◌, Option, Some, None, IfSome, length, take, nat_le, nat_lt}
 use Rattle.std.specs.Char.{digit_value}
 use Rattle.std.specs.List.{list_all}
 use Rattle.std.specs.Str.Parse.{AllDigits, digits_value}
-use Rattle.std.proofs.Common.{get_or, arith, subst, refl, sym, ap, ◌∙◌}
+use Rattle.std.proofs.Common.{get_or, arith, subst, sym, ap, ◌∙◌, lt_of_lt_of_le}
 use Rattle.std.proofs.lemmas.Bool.{and_parts, and_from}
-use Rattle.std.proofs.lemmas.List.{length-take, take_all, take_more}
-use Rattle.std.proofs.lemmas.List.Folds.{list_all-append}
+use Rattle.std.proofs.lemmas.List.{length-take, take_all}
+use Rattle.std.proofs.lemmas.List.Folds.{list_all_more}
 use Rattle.std.proofs.lemmas.Bool.Decides.{nat_tests}
 use Rattle.std.proofs.lemmas.Int.Digits.{digits_value_more, digits_value-lt}
 use Rattle.std.proofs.lemmas.Str.Parse.{digits_value-take-le}
 use native.Mathlib.Nat.{pow-le-pow_right}
-use Rattle.std.proofs.Common.{lt_of_lt_of_le}
 use Rattle.sgb_file.specs.Fields.{is_decimal_digit, number_of}
 use Rattle.sgb_file.specs.inner.Found.{value_if_digits}
 use Rattle.sgb_file.proofs.FoundParts.{was_let_through}
@@ -99,25 +98,13 @@ goes_on text i h here short within =
     let value = value_is (get_or text i 0) digit in
     let more = digits_value_more 10 text i within in
     let all : list_all is_decimal_digit (take (i + 1) text) ≡ true =
-    ap (list_all is_decimal_digit) (take_more text i 0 within)
-    ∙ (list_all-append is_decimal_digit (take i text) (get_or text i 0 ∷ [])
-    ∙ and_from (list_all is_decimal_digit (take i text)) (list_all is_decimal_digit (get_or text i 0 ∷ [])) h (and_from (is_decimal_digit (get_or text i 0)) true here refl)) in
+    list_all_more is_decimal_digit text i 0 within ∙ and_from (list_all is_decimal_digit (take i text)) (is_decimal_digit (get_or text i 0)) h here in
     let few : length (take (i + 1) text) ≤ 18 = omega (arith, length-take (i + 1) text, short) in record {
       low = digit.low;
       digits = all;
       more = omega (arith, more, value);
       fits = value_below (take (i + 1) text) 18 all few;
     }
-
--- a byte that is no digit
-pub stops_at : (text : List ℕ) (i : ℕ) → is_decimal_digit (get_or text i 0) ≡ false → i < length text → list_all is_decimal_digit text ≡ false
-stops_at [] i h within = absurd (omega (arith, within))
-stops_at (b ∷ text) zero h within = rw h refl
-stops_at (b ∷ text) (suc i) h within = rw (stops_at text i h (omega (arith, within))) (and_false (is_decimal_digit b))
-  where
-    and_false : (t : Bool) → t && false ≡ false
-    and_false true = refl
-    and_false false = refl
 
 -- all of the bytes are digits
 pub ends_as_digits : (text : List ℕ) (i value : ℕ) → length text ≤ i → list_all is_decimal_digit (take i text) ≡ true → value ≡ digits_value 10 (take i text)

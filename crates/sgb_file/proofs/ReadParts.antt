@@ -1,8 +1,7 @@
 -- What is read of a file's records: fields that fit their kinds, texts and numbers within their limits.
-use Rattle.std.specs.Prelude.{◌≡◌, ℕ, zero, suc, ℤ, pos, neg_ℤ, ◌^◌, ◌<◌, ◌≤◌, Bool, true, false, ◌&&◌, List, [], ◌∷◌, length, codes, Option, Some, None, Ok, Err, option_map, All, FitsSigned, nat_lt, nat_le, ◌==◌, if◌then◌else◌, refl}
+use Rattle.std.specs.Prelude.{◌≡◌, ℕ, zero, suc, ℤ, pos, neg_ℤ, ◌^◌, ◌<◌, ◌≤◌, Bool, true, false, ◌&&◌, List, [], ◌∷◌, length, get_or, codes, Option, Some, None, Ok, Err, option_map, All, FitsSigned, nat_lt, nat_le, ◌==◌, if◌then◌else◌, refl}
 use Rattle.std.specs.Int.{w64}
 use Rattle.std.specs.List.{list_all}
-use Rattle.std.specs.Option.{option_map_or}
 use Rattle.std.specs.Str.{bytes_eq}
 use Rattle.std.proofs.Common.{ap, sym, subst, ◌∙◌, arith}
 use Rattle.std.proofs.lemmas.Bool.{and_parts, and_from}
@@ -23,18 +22,18 @@ use Rattle.sgb_graph.specs.declared.fields.Ref.TheVariants.{Null, One, At}
 use Rattle.sgb_graph.specs.declared.fields.Util.{Util}
 use Rattle.sgb_graph.specs.declared.fields.Util.TheVariants.{Nothing, Int, Vertex as VertexField, Str, Chain}
 use Rattle.sgb_file.specs.FileLines.{clean_lines, text_of_lines}
-use Rattle.sgb_file.specs.Checksum.{has_star}
 use Rattle.sgb_file.specs.Fields.{Counts, Found, given, number_of, number_below, most_number_digits, integer_of, ref_of, record_number_of, unbroken, string_of}
 use Rattle.sgb_file.specs.Records.{Head, records_at}
 use Rattle.sgb_file.specs.Restoring.{Opening, head_of_line, opening_of, graph_of_records, graph_of_text}
 use Rattle.sgb_file.specs.Saved.{number_limit, ValueCanBeSaved, CanBeChecked, CanBeSaved}
-use Rattle.sgb_file.specs.Files.{IsFieldText, AreFieldTexts, IsVertexRecord, IsArcRecord, AreRecords, AreRecordsOf, head_of}
-use Rattle.sgb_file.proofs.FoundParts.{was_given, was_let_through, was_chosen}
+use Rattle.sgb_file.specs.Files.{IsFieldText, AreFieldTexts, IsFirstLine, IsVertexRecord, IsArcRecord, AreRecords, AreRecordsOf, head_of}
+use Rattle.sgb_file.proofs.FoundParts.{was_given, was_let_through}
 use Rattle.sgb_file.proofs.RestoringLemmas.{parts_of_opening}
 use Rattle.sgb_file.proofs.NumberReading.{at_most, number_is_small}
 use Rattle.sgb_file.proofs.FirstLines.{first_line_found}
+use Rattle.sgb_file.proofs.FilesAndTexts.{opening_found}
 use Rattle.sgb_file.proofs.RecordsAndTexts.{records_found}
-use Rattle.sgb_file.proofs.SavedGraphs.{FieldsFit, VertexFits, ArcFits, vertex_of_fields, arc_of_fields}
+use Rattle.sgb_file.proofs.SavedGraphs.{FieldsFit, VertexFits, ArcFits, arc_saved, arc_tests, vertex_saved}
 
 -- a number below a limit
 below_passes : (limit : ℕ) (text : List ℕ) (k : ℕ) → number_below limit text ≡ Some k → nat_lt k limit ≡ true
@@ -142,33 +141,23 @@ pub record IsGoodHead (head : Head) : Type 0 where
   pub arcs : head.counts.arcs < number_limit
 
 -- a first line within the limits
-pub head_is_good : (line : List ℕ) (head : Head) → head_of_line line ≡ Some head → IsGoodHead head
-head_is_good line head e =
-    let says = first_line_found line head e in
+first_is_good : (line : List ℕ) (head : Head) → IsFirstLine head line → IsGoodHead head
+first_is_good line head says =
     record { vertices = says.few; kinds = says.fourteen; arcs = number_is_small most_number_digits says.m head.counts.arcs says.m_says }
 
-opening_is_good : (lines : List (List ℕ)) (opening : Opening) → opening_of lines ≡ Some opening → IsGoodHead opening.head
-unfolding opening_of
-opening_is_good [] opening e = absurd cc
-opening_is_good (line ∷ lines) opening e = by_line (head_of_line line) refl e (opening_is_good lines opening)
-  where
-    by_line : (o : Option Head) → head_of_line line ≡ o → option_map_or (λ head. Some (record { head = head; lines = lines })) o (if has_star line then opening_of lines else None) ≡ Some opening
-        → (opening_of lines ≡ Some opening → IsGoodHead opening.head) → IsGoodHead opening.head
-    by_line None here e later = later (was_chosen (has_star line) e).1
-    by_line (Some head) here e later =
-        let same : record { head = head; lines = lines } ≡ opening = cc in
-        subst (λ (o : Opening). IsGoodHead o.head) same (head_is_good line head here)
+pub head_is_good : (line : List ℕ) (head : Head) → head_of_line line ≡ Some head → IsGoodHead head
+head_is_good line head e = first_is_good line head (first_line_found line head e)
 
 -- what the records of a file say can be checked
 parts_can_be_checked : (g : GraphData) (whole : List ℕ) → IsGoodHead (head_of g) → AreRecordsOf g whole → CanBeChecked g
 parts_can_be_checked g whole good h =
-    let vertices = each_record (IsVertexRecord (head_of g)) (VertexFits g) (λ v text is. vertex_of_fields g v (fields_fit (head_of g).counts _ _ is.0 is.1)) g.vertices h.vertices h.vertex_records in
-    let arcs = each_record (IsArcRecord (head_of g)) (ArcFits g) (λ r text is. arc_of_fields g r (fields_fit (head_of g).counts _ _ is.0 is.1)) g.records h.arcs h.arc_records in
+    let vertices = each_record (IsVertexRecord (head_of g)) (VertexFits g) (λ v text is. fields_fit (head_of g).counts _ _ is.0 is.1) g.vertices h.vertices h.vertex_records in
+    let arcs = each_record (IsArcRecord (head_of g)) (ArcFits g) (λ r text is. fields_fit (head_of g).counts _ _ is.0 is.1) g.records h.arcs h.arc_records in
     let own = fields_fit (head_of g).counts (graph_kinds g.kinds) g.util h.graph_record.fields h.graph_record.fields_say in
     let id = read_string_fits most_id_bytes h.graph_record.id_says.inside g.id h.graph_record.id_says.says in
     let utils = utils_fit (length g.vertices) (length g.records) (graph_kinds g.kinds) g.util in
     let nodes_fit = list_all-from_AllPass (vertex_fits g) g.vertices (λ k d below. (vertices k d below).fits) in
-    let arcs_fit = list_all-from_AllPass (record_fits g) g.records (λ k d below. (arcs k d below).fits) in
+    let arcs_fit = list_all-from_AllPass (record_fits g) g.records (λ k d below. arc_tests g (get_or g.records k d) ∙ (arcs k d below).fits) in
     record {
       vertices_fit = few (length g.vertices) good.vertices;
       fields = and_from (utils && list_all (vertex_fits g) g.vertices) (list_all (record_fits g) g.records) (and_from utils (list_all (vertex_fits g) g.vertices) own.fits nodes_fit) arcs_fit;
@@ -178,8 +167,8 @@ parts_can_be_checked g whole good h =
         arcs_counted = number_is_small most_number_digits h.graph_record.m g.m h.graph_record.m_says;
         records_counted = good.arcs;
         util = own.values;
-        vertices = λ k d below. (vertices k d below).saved;
-        records = λ k d below. (arcs k d below).saved;
+        vertices = λ k d below. vertex_saved g (get_or g.vertices k d) (vertices k d below);
+        records = λ k d below. arc_saved g (get_or g.records k d) (arcs k d below);
       };
     }
   where
@@ -194,7 +183,8 @@ records_can_be_checked head text found good e =
 -- so what is read of records passes the check where its lists are sound, and is refused for nothing else
 opened_can_be_checked : (lines : List (List ℕ)) (opening : Opening) (found : Found GraphData) → opening_of lines ≡ Some opening → graph_of_records opening ≡ Some found → CanBeChecked found.value
 opened_can_be_checked lines opening found opens says =
-    records_can_be_checked opening.head (text_of_lines opening.lines) found (opening_is_good lines opening opens) says
+    let o = opening_found lines opening opens in
+    records_can_be_checked opening.head (text_of_lines opening.lines) found (first_is_good o.first opening.head o.first_says) says
 
 fit_is_checked : (g : GraphData) → CanBeChecked g → checked g ≡ (if is_sound g then Ok g else Err Syntax)
 fit_is_checked g h = rw h.vertices_fit (rw h.fields refl)

@@ -1,9 +1,10 @@
 -- Which code a text that is a file of no graph has, by what its lines are.
-use Rattle.std.specs.Prelude.{◌≡◌, ◌⊎◌, ℕ, Bool, true, false, List, [], ◌∷◌, ◌++◌, Option, Some, None, Ok, Err}
+use Rattle.std.specs.Prelude.{◌≡◌, ◌⊎◌, ℕ, Bool, true, false, List, [], ◌∷◌, ◌++◌, Option, Some, None, Result, Ok, Err}
 use Rattle.std.specs.List.{list_all}
 use Rattle.std.proofs.Common.{ap, sym, subst, ◌∙◌, inl, inr, refl}
 use Rattle.std.proofs.lemmas.Bool.{and_parts}
 use Rattle.std.proofs.lemmas.Grind.{flat_map-append}
+use Rattle.sgb_vec.specs.declared.panics.Panic.{Panic}
 use Rattle.sgb_vec.specs.declared.panics.Panic.TheVariants.{Early, Late, Syntax}
 use Rattle.sgb_graph.specs.Graphs.{GraphData}
 use Rattle.sgb_graph.specs.Sound.{is_sound}
@@ -97,77 +98,70 @@ late_of text h = graph_with_records text h.g h.records h.following h.has ∙ by_
 pub unsound_of : (text : List ℕ) → HasUnsoundLists text → graph_of_text text ≡ Err Syntax
 unsound_of text h = graph_with_records text h.g h.records h.following h.has ∙ rw (line_closed h.records h.following h.closes, h.unsound) refl
 
--- each text is a file of a graph, or one of these
-data TextKind (text : List ℕ) : Type 0 where
-  NoOpening : HasNoOpening text → TextKind text
-  NoRecords : HasNoRecords text → TextKind text
-  NoClosing : HasNoClosing text → TextKind text
-  UnsoundLists : HasUnsoundLists text → TextKind text
-  OfGraph : (g : GraphData) → graph_of_text text ≡ Ok g → TextKind text
+-- what a text is that has this code; a file of a graph has none
+abbrev IsOfCode : List ℕ → Result GraphData Panic → Type 0
+IsOfCode text (Err Early) = HasNoOpening text
+IsOfCode text (Err Late) = HasNoClosing text
+IsOfCode text (Err Syntax) = HasNoRecords text ⊎ HasUnsoundLists text
+IsOfCode text _ = Unit {0}
 
-kind_of : (text : List ℕ) → TextKind text
+code_is : (text : List ℕ) (r : Result GraphData Panic) → graph_of_text text ≡ r → IsOfCode text r → IsOfCode text (graph_of_text text)
+code_is text r e h = subst (IsOfCode text) (sym e) h
+
+-- each text is a file of a graph, or what its code says
+kind_of : (text : List ℕ) → IsOfCode text (graph_of_text text)
 kind_of text = by_opening (opening_of (clean_lines text)) refl
   where
     by_end : (g : GraphData) (records following : List (List ℕ)) → HasRecords text g records following
-        → (c s : Bool) → line_closes records following ≡ c → is_sound g ≡ s → TextKind text
-    by_end g records following has false s e es = NoClosing (record {
-      g = g;
-      records = records;
-      following = following;
-      has = has;
-      none = λ closed. let is = line_closed records following closed in absurd cc;
-    })
+        → (c s : Bool) → line_closes records following ≡ c → is_sound g ≡ s → IsOfCode text (graph_of_text text)
+    by_end g records following has false s e es =
+        let none : HasNoClosing text = record {
+          g = g;
+          records = records;
+          following = following;
+          has = has;
+          none = λ closed. let is = line_closed records following closed in absurd cc;
+        } in
+        code_is text (Err Late) (late_of text none) none
     by_end g records following has true false e es =
-        UnsoundLists (record { g = g; records = records; following = following; has = has; closes = closed_found records following e; unsound = es })
-    by_end g records following has true true e es = OfGraph g (graph_with_records text g records following has ∙ rw (e, es) refl)
+        let unsound : HasUnsoundLists text = record { g = g; records = records; following = following; has = has; closes = closed_found records following e; unsound = es } in
+        code_is text (Err Syntax) (unsound_of text unsound) (inr unsound)
+    by_end g records following has true true e es = code_is text (Ok g) (graph_with_records text g records following has ∙ rw (e, es) refl) tt
 
-    by_records : (o : Opening) → Opens text o.head o.lines → (found : Option (Found GraphData)) → records_at o.head (text_of_lines o.lines) ≡ found → TextKind text
-    by_records o opens None e = NoRecords (record {
-      head = o.head;
-      lines = o.lines;
-      opens = opens;
-      none = λ g records following are. let is = records_read o.head g records following o.lines are in absurd cc;
-    })
+    by_records : (o : Opening) → Opens text o.head o.lines → (found : Option (Found GraphData)) → records_at o.head (text_of_lines o.lines) ≡ found → IsOfCode text (graph_of_text text)
+    by_records o opens None e =
+        let none : HasNoRecords text = record {
+          head = o.head;
+          lines = o.lines;
+          opens = opens;
+          none = λ g records following are. let is = records_read o.head g records following o.lines are in absurd cc;
+        } in
+        code_is text (Err Syntax) (no_records_of text none) (inl none)
     by_records o opens (Some found) e =
         let f = lines_found o.head o.lines found (after_opening text o.head o.lines opens) e in
         by_end found.value f.records (lines_of_text found.rest) (record { head = o.head; lines = o.lines; opens = opens; are = f.are })
         (line_closes f.records (lines_of_text found.rest)) (is_sound found.value) refl refl
 
-    by_opening : (o : Option Opening) → opening_of (clean_lines text) ≡ o → TextKind text
-    by_opening None e = NoOpening (λ head lines opens. let is = opens_read text head lines opens in absurd cc)
+    by_opening : (o : Option Opening) → opening_of (clean_lines text) ≡ o → IsOfCode text (graph_of_text text)
+    by_opening None e =
+        let none : HasNoOpening text = λ head lines opens. let is = opens_read text head lines opens in absurd cc in
+        code_is text (Err Early) (early_of text none) none
     by_opening (Some o) e = by_records o (opens_found text o e) (records_at o.head (text_of_lines o.lines)) refl
 
--- and each code is that of its kind
+-- so a text with one of these codes is of its kind
 pub early_is : (text : List ℕ) → graph_of_text text ≡ Err Early → HasNoOpening text
-early_is text e = by_kind (kind_of text)
-  where
-    by_kind : TextKind text → HasNoOpening text
-    by_kind (NoOpening h) = h
-    by_kind (NoRecords h) = let is = no_records_of text h in let code = e in absurd cc
-    by_kind (NoClosing h) = let is = late_of text h in let code = e in absurd cc
-    by_kind (UnsoundLists h) = let is = unsound_of text h in let code = e in absurd cc
-    by_kind (OfGraph g is) = let code = e in absurd cc
+early_is text e = subst (IsOfCode text) e (kind_of text)
 
 pub late_is : (text : List ℕ) → graph_of_text text ≡ Err Late → HasNoClosing text
-late_is text e = by_kind (kind_of text)
-  where
-    by_kind : TextKind text → HasNoClosing text
-    by_kind (NoOpening h) = let is = early_of text h in let code = e in absurd cc
-    by_kind (NoRecords h) = let is = no_records_of text h in let code = e in absurd cc
-    by_kind (NoClosing h) = h
-    by_kind (UnsoundLists h) = let is = unsound_of text h in let code = e in absurd cc
-    by_kind (OfGraph g is) = let code = e in absurd cc
+late_is text e = subst (IsOfCode text) e (kind_of text)
 
 pub syntax_is : (text : List ℕ) → graph_of_text text ≡ Err Syntax → HasNoRecords text ⊎ HasUnsoundLists text
-syntax_is text e = by_kind (kind_of text)
-  where
-    by_kind : TextKind text → HasNoRecords text ⊎ HasUnsoundLists text
-    by_kind (NoOpening h) = let is = early_of text h in let code = e in absurd cc
-    by_kind (NoRecords h) = inl h
-    by_kind (NoClosing h) = let is = late_of text h in let code = e in absurd cc
-    by_kind (UnsoundLists h) = inr h
-    by_kind (OfGraph g is) = let code = e in absurd cc
+syntax_is text e = subst (IsOfCode text) e (kind_of text)
 
 pub syntax_of : (text : List ℕ) → HasNoRecords text ⊎ HasUnsoundLists text → graph_of_text text ≡ Err Syntax
 syntax_of text (inl h) = no_records_of text h
 syntax_of text (inr h) = unsound_of text h
+
+-- a text that has an opening is not refused for having none
+pub opened_late : (text : List ℕ) (head : Head) (lines : List (List ℕ)) → Some (record { head = head; lines = lines }) ≡ opening_of (clean_lines text) → graph_of_text text ≡ Err Early → ⊥
+opened_late text head lines here e = early_is text e head lines (opens_found text _ (sym here))

@@ -1,13 +1,10 @@
 -- Lemmas on reading: a graph is read from a text exactly where each part of the file is there.
-use Rattle.std.specs.Prelude.{◌≡◌, ℕ, Bool, true, false, List, Option, Some, None, Ok, Err, IsTrue, refl}
+use Rattle.std.specs.Prelude.{◌≡◌, ℕ, Bool, true, false, List, Option, Some, None, Ok, IsTrue, refl}
 use Rattle.std.proofs.Common.{ap}
-use Rattle.sgb_vec.specs.declared.panics.Panic.TheVariants.{Early}
 use Rattle.sgb_graph.specs.Graphs.{GraphData}
 use Rattle.sgb_graph.specs.Sound.{is_sound}
 use Rattle.sgb_file.specs.Fields.{Found}
-use Rattle.sgb_file.specs.FileLines.{clean_lines}
-use Rattle.sgb_file.specs.Records.{Head}
-use Rattle.sgb_file.specs.Restoring.{Opening, opening_of, graph_of_records, closes, graph_at_end, graph_after, graph_of_opening, graph_of_text}
+use Rattle.sgb_file.specs.Restoring.{Opening, graph_of_records, closes, graph_at_end, graph_after, graph_of_opening}
 
 -- the graph of an end is the graph itself, where both tests pass
 pub record PassesBoth (ending lists : Bool) (found g : GraphData) : Type 0 where
@@ -48,23 +45,6 @@ pub parts_of_opening : (opens : Option Opening) (g : GraphData) → graph_of_ope
 parts_of_opening None g e = absurd cc
 parts_of_opening (Some opening) g e =
     record { opening = opening; here = refl; after = parts_after opening (graph_of_records opening) g e }
-
--- a text that has an opening is not refused for having none
-late_end : (ending lists : Bool) (g : GraphData) → graph_at_end ending lists g ≡ Err Early → ⊥
-late_end false lists g e = absurd cc
-late_end true false g e = absurd cc
-late_end true true g e = absurd cc
-
-late_after : (opening : Opening) (records : Option (Found GraphData)) → graph_after opening records ≡ Err Early → ⊥
-late_after opening None e = absurd cc
-late_after opening (Some found) e = late_end (closes opening found.rest) (is_sound found.value) found.value e
-
-late_opening : (opens : Option Opening) (opening : Opening) → Some opening ≡ opens → graph_of_opening opens ≡ Err Early → ⊥
-late_opening None opening here e = absurd cc
-late_opening (Some other) opening here e = late_after other (graph_of_records other) e
-
-pub opened_late : (text : List ℕ) (head : Head) (lines : List (List ℕ)) → Some (record { head = head; lines = lines }) ≡ opening_of (clean_lines text) → graph_of_text text ≡ Err Early → ⊥
-opened_late text head lines here e = late_opening (opening_of (clean_lines text)) _ here e
 
 -- the graph of an opening whose parts are those of a file
 pub read_by_parts : (opens : Option Opening) (opening : Opening) (g : GraphData) (rest : List ℕ) → opens ≡ Some opening → graph_of_records opening ≡ Some (record { value = g; rest = rest }) → IsTrue (closes opening rest) → IsTrue (is_sound g) → graph_of_opening opens ≡ Ok g

@@ -50,50 +50,44 @@ pub record FieldsFit (counts : Counts) (kinds : List Kind) (us : List Util) : Ty
   pub fits : utils_fit counts.vertices counts.arcs kinds us ≡ true
   pub values : All ValueCanBeSaved us
 
--- a vertex and an arc record whose fields fit, and which can be saved
-pub record VertexFits (g : GraphData) (v : Vertex) : Type 0 where
-  pub fits : vertex_fits g v ≡ true
-  pub saved : VertexCanBeSaved v
-
-pub record ArcFits (g : GraphData) (r : ArcRec) : Type 0 where
-  pub fits : record_fits g r ≡ true
-  pub saved : ArcCanBeSaved r
-
--- the fields of their records
+-- the fields of the record of a vertex, and of an arc's
 abbrev pub fields_of_vertex : Vertex → List Util
 fields_of_vertex v = Str v.name ∷ Chain v.arcs ∷ v.util
 
 abbrev pub fields_of_arc : ArcRec → List Util
 fields_of_arc r = VertexField r.tip ∷ Chain r.next ∷ Int r.len ∷ r.a ∷ r.b ∷ []
 
-pub vertex_fields : (g : GraphData) (v : Vertex) → VertexFits g v → FieldsFit (head_of g).counts (S ∷ A ∷ vertex_kinds g.kinds) (fields_of_vertex v)
-vertex_fields g v h = record {
-  fits = h.fits;
-  values = All-cons ValueCanBeSaved (Str v.name) (Chain v.arcs ∷ v.util) h.saved.name (All-cons ValueCanBeSaved (Chain v.arcs) v.util tt h.saved.util);
+-- they fit, and can be saved
+abbrev pub VertexFits : GraphData → Vertex → Type 0
+VertexFits g v = FieldsFit (head_of g).counts (S ∷ A ∷ vertex_kinds g.kinds) (fields_of_vertex v)
+
+abbrev pub ArcFits : GraphData → ArcRec → Type 0
+ArcFits g r = FieldsFit (head_of g).counts (V ∷ A ∷ I ∷ arc_kinds g.kinds) (fields_of_arc r)
+
+vertex_that_fits : (g : GraphData) (v : Vertex) → vertex_fits g v ≡ true → VertexCanBeSaved v → VertexFits g v
+vertex_that_fits g v fits saved = record {
+  fits = fits;
+  values = All-cons ValueCanBeSaved (Str v.name) (Chain v.arcs ∷ v.util) saved.name (All-cons ValueCanBeSaved (Chain v.arcs) v.util tt saved.util);
 }
 
-pub vertex_of_fields : (g : GraphData) (v : Vertex) → FieldsFit (head_of g).counts (S ∷ A ∷ vertex_kinds g.kinds) (fields_of_vertex v) → VertexFits g v
-vertex_of_fields g v h = record {
-  fits = h.fits;
-  saved = record { name = h.values 0 (Str v.name) (omega arith); util = λ k d below. h.values (suc (suc k)) d (omega (arith, below)) };
-}
+pub vertex_saved : (g : GraphData) (v : Vertex) → VertexFits g v → VertexCanBeSaved v
+vertex_saved g v h =
+    record { name = h.values 0 (Str v.name) (omega arith); util = λ k d below. h.values (suc (suc k)) d (omega (arith, below)) }
 
 -- the tests of an arc's fields are grouped in two ways
-arc_tests : (g : GraphData) (r : ArcRec) → record_fits g r ≡ utils_fit (length g.vertices) (length g.records) (V ∷ A ∷ I ∷ arc_kinds g.kinds) (fields_of_arc r)
+pub arc_tests : (g : GraphData) (r : ArcRec) → record_fits g r ≡ utils_fit (length g.vertices) (length g.records) (V ∷ A ∷ I ∷ arc_kinds g.kinds) (fields_of_arc r)
 arc_tests g r = and_assoc (ref_fits (length g.vertices) r.tip) (chain_fits (length g.records) r.next) (utils_fit (length g.vertices) (length g.records) (arc_kinds g.kinds) (r.a ∷ r.b ∷ []))
 
-pub arc_fields : (g : GraphData) (r : ArcRec) → ArcFits g r → FieldsFit (head_of g).counts (V ∷ A ∷ I ∷ arc_kinds g.kinds) (fields_of_arc r)
-arc_fields g r h =
+arc_that_fits : (g : GraphData) (r : ArcRec) → record_fits g r ≡ true → ArcCanBeSaved r → ArcFits g r
+arc_that_fits g r fits saved =
     let fields = r.a ∷ r.b ∷ [] in
-    let own = All-cons ValueCanBeSaved r.a (r.b ∷ []) h.saved.a (All-cons ValueCanBeSaved r.b [] h.saved.b (All-nil ValueCanBeSaved)) in
-    let after = All-cons ValueCanBeSaved (Chain r.next) (Int r.len ∷ fields) tt (All-cons ValueCanBeSaved (Int r.len) fields h.saved.len own) in
-    record { fits = sym (arc_tests g r) ∙ h.fits; values = All-cons ValueCanBeSaved (VertexField r.tip) (Chain r.next ∷ Int r.len ∷ fields) tt after }
+    let own = All-cons ValueCanBeSaved r.a (r.b ∷ []) saved.a (All-cons ValueCanBeSaved r.b [] saved.b (All-nil ValueCanBeSaved)) in
+    let after = All-cons ValueCanBeSaved (Chain r.next) (Int r.len ∷ fields) tt (All-cons ValueCanBeSaved (Int r.len) fields saved.len own) in
+    record { fits = sym (arc_tests g r) ∙ fits; values = All-cons ValueCanBeSaved (VertexField r.tip) (Chain r.next ∷ Int r.len ∷ fields) tt after }
 
-pub arc_of_fields : (g : GraphData) (r : ArcRec) → FieldsFit (head_of g).counts (V ∷ A ∷ I ∷ arc_kinds g.kinds) (fields_of_arc r) → ArcFits g r
-arc_of_fields g r h = record {
-  fits = arc_tests g r ∙ h.fits;
-  saved = record { len = h.values 2 (Int r.len) (omega arith); a = h.values 3 r.a (omega arith); b = h.values 4 r.b (omega arith) };
-}
+pub arc_saved : (g : GraphData) (r : ArcRec) → ArcFits g r → ArcCanBeSaved r
+arc_saved g r h =
+    record { len = h.values 2 (Int r.len) (omega arith); a = h.values 3 r.a (omega arith); b = h.values 4 r.b (omega arith) }
 
 -- as many values as kinds
 pub length_fits : (n m : ℕ) (kinds : List Kind) (utils : List Util) → utils_fit n m kinds utils ≡ true → length utils ≡ length kinds
@@ -142,6 +136,6 @@ ready g h =
       arcs_few = h.writable.arcs_counted;
       id = h.writable.id;
       own = record { fits = first.0; values = h.writable.util };
-      vertices = λ k d below. record { fits = AllPass-from_list_all (vertex_fits g) g.vertices first.1 k d below; saved = h.writable.vertices k d below };
-      records = λ k d below. record { fits = AllPass-from_list_all (record_fits g) g.records parts.1 k d below; saved = h.writable.records k d below };
+      vertices = λ k d below. vertex_that_fits g (get_or g.vertices k d) (AllPass-from_list_all (vertex_fits g) g.vertices first.1 k d below) (h.writable.vertices k d below);
+      records = λ k d below. arc_that_fits g (get_or g.records k d) (AllPass-from_list_all (record_fits g) g.records parts.1 k d below) (h.writable.records k d below);
     }

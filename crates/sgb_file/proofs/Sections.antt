@@ -11,10 +11,10 @@ use Rattle.sgb_graph.specs.declared.fields.ArcRec.{ArcRec}
 use Rattle.sgb_file.specs.Fields.{Found, given, found_as, after_prefix}
 use Rattle.sgb_file.specs.Records.{Head, all_at, arc_record_at, graph_record_at, records_at, vertex_record_at}
 use Rattle.sgb_file.proofs.FoundParts.{was_mapped, own_parts}
-use Rattle.sgb_file.proofs.FoundSteps.{stops}
+use Rattle.sgb_file.proofs.FoundSteps.{stops, vertex_steps}
 use Rattle.sgb_file.specs.inner.Found.{IsFoundBy}
 use Rattle.sgb_vec.specs.declared.panics.Panic.{Panic}
-use Rattle.sgb_file.specs.inner.Reading.{vertices_at, arcs_at, with_vertices, with_records}
+use Rattle.sgb_file.specs.inner.Reading.{vertices_at, arcs_at, vertex_fields_at, with_vertices, with_records}
 use Rattle.sgb_file.specs.inner.LinesLeft.{LinesLeft, text_left, has_no_newline}
 use Rattle.sgb_file.specs.FileLines.{text_of_lines}
 
@@ -51,10 +51,10 @@ unfolding all_at
 all_read one_at f k text e = rw e refl
 
 -- the same of vertices
-pub next_vertex : (head : Head) (parts more : GraphData) (n v : ℕ) (x : Vertex) (text rest : List ℕ) → v < n → vertex_record_at head text ≡ Some (record { value = x; rest = rest })
+pub next_vertex : (head : Head) (parts more : GraphData) (n v : ℕ) (x : Vertex) (text rest : List ℕ) → v < n → vertex_fields_at head text ≡ Some (record { value = x; rest = rest })
     → more ≡ with_vertex x parts → vertices_at head more (n - (v + 1)) rest ≡ vertices_at head parts (n - v) text
 next_vertex head parts more n v x text rest within e is =
-    rw is (next_read (vertex_record_at head) (with_vertices parts) (with_vertices (with_vertex x parts)) n v x text rest within e
+    rw is (next_read (vertex_record_at head) (with_vertices parts) (with_vertices (with_vertex x parts)) n v x text rest within (vertex_steps head text ∙ e)
     (λ xs. ap (λ vs. record parts { vertices = vs }) (sym (append_assoc parts.vertices (x ∷ []) xs))))
 
 pub vertices_read : (head : Head) (parts : GraphData) (k : ℕ) (text : List ℕ) → k ≡ 0 → vertices_at head parts k text ≡ Some (record { value = parts; rest = text })
@@ -135,41 +135,19 @@ start_found : (head : Head) (text : List ℕ) (found : Found GraphData) → grap
 start_found head text found e =
     subst (λ (f : Found GraphData). StartsEmpty f.value) (own_parts head text found e).same (record { vertices = refl; records = refl })
 
--- the records where those of the graph and of the vertices are read
-records_whole : (head : Head) (parts more : GraphData) (t0 t1 t2 t3 t4 : List ℕ) → graph_record_at head t0 ≡ Some (record { value = parts; rest = t1 })
-    → after_prefix (codes "* Vertices\n") t1 ≡ Some t2 → vertices_at head parts head.counts.vertices t2 ≡ Some (record { value = more; rest = t3 })
-    → after_prefix (codes "* Arcs\n") t3 ≡ Some t4 → records_at head t0 ≡ arcs_at head more head.counts.arcs t4
-records_whole head parts more t0 t1 t2 t3 t4 g a v b =
-    let start = start_found head t0 (record { value = parts; rest = t1 }) g in
-    let p = was_mapped (all_at (vertex_record_at head) head.counts.vertices t2) {f = λ x. record { value = record parts { vertices = parts.vertices ++ x.value }; rest = x.rest }} v in
-    let vs = p.first.value in
-    let arcs = all_at (arc_record_at head) head.counts.arcs t4 in
-    ap (λ o. given o (titles_after head)) g
-    ∙ (ap (λ o. given o (vertices_after head parts)) a
-    ∙ (ap (λ o. given o (arcs_after head parts)) p.here
-    ∙ (ap (λ o. given o (λ third. found_as (λ records. record parts { vertices = vs; records = records }) (all_at (arc_record_at head) head.counts.arcs third))) (ap (λ x. after_prefix (codes "* Arcs\n") x.rest) p.same ∙ b)
-    ∙ (ap (λ (xs : List Vertex). found_as (λ rs. record parts { vertices = xs ++ vs; records = rs }) arcs) (sym start.vertices)
-    ∙ (ap (λ (xs : List ArcRec). found_as (λ rs. record parts { vertices = parts.vertices ++ vs; records = xs ++ rs }) arcs) (sym start.records)
-    ∙ ap (λ x. arcs_at head x.value head.counts.arcs t4) p.same)))))
-
--- there are none where no title of the arcs comes after those
-records_none : (head : Head) (parts more : GraphData) (t0 t1 t2 t3 : List ℕ) → graph_record_at head t0 ≡ Some (record { value = parts; rest = t1 })
-    → after_prefix (codes "* Vertices\n") t1 ≡ Some t2 → vertices_at head parts head.counts.vertices t2 ≡ Some (record { value = more; rest = t3 })
-    → after_prefix (codes "* Arcs\n") t3 ≡ None → records_at head t0 ≡ None
-records_none head parts more t0 t1 t2 t3 g a v b =
-    let p = was_mapped (all_at (vertex_record_at head) head.counts.vertices t2) {f = λ x. record { value = record parts { vertices = parts.vertices ++ x.value }; rest = x.rest }} v in
-    let vs = p.first.value in
-    ap (λ o. given o (titles_after head)) g
-    ∙ (ap (λ o. given o (vertices_after head parts)) a
-    ∙ (ap (λ o. given o (arcs_after head parts)) p.here
-    ∙ ap (λ o. given o (λ third. found_as (λ records. record parts { vertices = vs; records = records }) (all_at (arc_record_at head) head.counts.arcs third))) (ap (λ x. after_prefix (codes "* Arcs\n") x.rest) p.same ∙ b)))
-
--- so they are those of the section of the arcs
+-- where the records of the graph and of the vertices are read, the others are those of the section of the arcs
 pub records_sections : (head : Head) (parts more : GraphData) (t0 t1 t2 t3 : List ℕ) → graph_record_at head t0 ≡ Some (record { value = parts; rest = t1 })
     → after_prefix (codes "* Vertices\n") t1 ≡ Some t2 → vertices_at head parts head.counts.vertices t2 ≡ Some (record { value = more; rest = t3 })
     → records_at head t0 ≡ given (after_prefix (codes "* Arcs\n") t3) (arcs_at head more head.counts.arcs)
-records_sections head parts more t0 t1 t2 t3 g a v = by_option (after_prefix (codes "* Arcs\n") t3) refl
-  where
-    by_option : (o : Option (List ℕ)) → after_prefix (codes "* Arcs\n") t3 ≡ o → records_at head t0 ≡ given o (arcs_at head more head.counts.arcs)
-    by_option None b = records_none head parts more t0 t1 t2 t3 g a v b
-    by_option (Some t4) b = records_whole head parts more t0 t1 t2 t3 t4 g a v b
+records_sections head parts more t0 t1 t2 t3 g a v =
+    let start = start_found head t0 (record { value = parts; rest = t1 }) g in
+    let p = was_mapped (all_at (vertex_record_at head) head.counts.vertices t2) {f = λ x. record { value = record parts { vertices = parts.vertices ++ x.value }; rest = x.rest }} v in
+    let vs = p.first.value in
+    ap (λ o. given o (titles_after head)) g
+    ∙ (ap (λ o. given o (vertices_after head parts)) a
+    ∙ (ap (λ o. given o (arcs_after head parts)) p.here
+    ∙ (ap (λ x. arcs_after head parts (record { value = vs; rest = x.rest })) p.same
+    ∙ (ap (λ (xs : List Vertex). arcs_after head parts (record { value = xs ++ vs; rest = t3 })) (sym start.vertices)
+    ∙ (ap (λ (xs : List ArcRec). given (after_prefix (codes "* Arcs\n") t3) (λ third.
+    found_as (λ rs. record parts { vertices = parts.vertices ++ vs; records = xs ++ rs }) (all_at (arc_record_at head) head.counts.arcs third))) (sym start.records)
+    ∙ ap (λ x. given (after_prefix (codes "* Arcs\n") t3) (arcs_at head x.value head.counts.arcs)) p.same)))))

@@ -11,7 +11,7 @@ use Rattle.std.proofs.lemmas.Nat.{mod_below}
 use Rattle.sgb_file.specs.Checksum.{checksum_prime, has_star}
 use Rattle.sgb_file.specs.Saving.{fits_on, laid_out, pieces_of, quoted, record_lines, record_number_text}
 use Rattle.sgb_file.specs.inner.Layouts.{HasLaid, checksum_after, checksum_from, place_of}
-use Rattle.sgb_file.specs.inner.ShortLines.{AreShort, AreShortFields, ShortText, bare_vertex_line, bare_vertex_texts, name_piece, put_after, short_fields, short_line, short_stage, short_texts, short_vertex_line, short_vertex_texts, value_after, value_from}
+use Rattle.sgb_file.specs.inner.ShortLines.{AreShort, AreShortFields, ShortText, field_texts_of, line_of, name_piece, put_after, short_stage, short_texts, value_after, value_from}
 use Rattle.sgb_file.proofs.ChecksumLemmas.{from_remainder, place_small, remainder_doubled, value_doubled}
 use Rattle.sgb_file.proofs.FewDigits.{pair_after}
 use Rattle.sgb_file.proofs.LaidLines.{checksum-counted, checksum_from-append}
@@ -118,7 +118,7 @@ short-laid old mid new line small short plain e text value =
     }
 
 -- the same of a line in two parts, with the remainder taken between them
-pub parts-laid : (old first between mid new : ShortText) (front back : List ℕ) → old.value < 2 ^ 32 → 0 < length front
+parts-laid : (old first between mid new : ShortText) (front back : List ℕ) → old.value < 2 ^ 32 → 0 < length front
     → length front ≤ 31 → length back ≤ 29
     → has_star (front ++ back) ≡ false → first ≡ put_after old front → between.text ≡ first.text
     → between.value ≡ first.value % checksum_prime
@@ -150,121 +150,67 @@ next_short (Some k) h =
     let few : length (decimal k) ≤ 8 = length-decimal-le 8 k (omega arith) (omega (arith, h)) (omega (arith, h)) in
     omega (arith, few)
 
--- the lines of pieces that fit on one
-pieces_fit : (line a b c : List ℕ) → length line + length a + length b + length c ≤ 79
-    → laid_out line (a ∷ b ∷ c ∷ []) ≡ (line ++ a ++ b ++ c) ∷ []
-unfolding laid_out
-pieces_fit line a b c few =
-    let first : fits_on line a ≡ true = grind (arith, nat_tests) in
-    let second : fits_on (line ++ a) b ≡ true = let n = length-append line a in grind (arith, nat_tests) in
-    let third : fits_on (line ++ a ++ b) c ≡ true = let n = length-append line a in let m = length-append (line ++ a) b in grind (arith, nat_tests) in
-    rw first (rw second (rw third refl))
+-- the length of a line of several texts
+line_length : (text next : List ℕ) (texts : List (List ℕ))
+    → length (line_of (text ∷ next ∷ texts)) ≡ length text + 1 + length (line_of (next ∷ texts))
+line_length text next texts = omega (arith, length-append text (44 ∷ line_of (next ∷ texts)))
 
--- the line of a short record
-pub short_record : (tip : ℕ) (next : Option ℕ) (len : ℕ) → AreShort tip next len
-    → record_lines (short_texts tip next len) ≡ short_line tip next len ∷ []
-unfolding pieces_of
-short_record tip next len short =
-    let v : length (decimal tip) ≤ 8 = length-decimal-le 8 tip (omega arith) (omega (arith, short.0)) (omega (arith, short.0)) in
-    let d : length (decimal len) ≤ 4 = four_digits len short.2 in
-    let r = next_short next short.1 in
-    let first = codes "V" ++ decimal tip ++ codes "," in
-    let second = record_number_text next ++ codes "," in
-    let few : 0 + length first + length second + length (decimal len) ≤ 79 =
-    omega (arith, v, d, r, length-append (codes "V" ++ decimal tip) (codes ","), length-append (codes "V") (decimal tip), length-append (record_number_text next) (codes ",")) in
-    pieces_fit [] first second (decimal len) few
-    ∙ ap (λ t. (t ++ decimal len) ∷ []) (sym (append_assoc first (record_number_text next) (codes ",")))
+-- a record whose texts fit on one line
+texts_fit : (line : List ℕ) (texts : List (List ℕ)) → length line + length (line_of texts) ≤ 79
+    → laid_out line (pieces_of texts) ≡ (line ++ line_of texts) ∷ []
+unfolding laid_out pieces_of
+texts_fit line [] few = ap (λ t. t ∷ []) (sym (append-nil line))
+texts_fit line (text ∷ []) few = let fits : fits_on line text ≡ true = grind (arith, nat_tests) in rw fits refl
+texts_fit line (text ∷ next ∷ texts) few =
+    let piece = text ++ codes "," in
+    let others = line_of (next ∷ texts) in
+    let n = length-append text (codes ",") in
+    let m = length-append text (44 ∷ others) in
+    let l = length-append line piece in
+    let fits : fits_on line piece ≡ true = grind (arith, nat_tests) in
+    rw fits (texts_fit (line ++ piece) (next ∷ texts) (omega (arith, few, n, m, l))
+    ∙ ap (λ t. t ∷ []) (append_assoc line piece others ∙ ap (λ t. line ++ t) (append_assoc text (codes ",") others)))
 
-pub short_length : (tip : ℕ) (next : Option ℕ) (len : ℕ) → AreShort tip next len → length (short_line tip next len) ≤ 29
+-- the texts of an arc record are short
+pub short_length : (tip : ℕ) (next : Option ℕ) (len : ℕ) → AreShort tip next len → length (line_of (short_texts tip next len)) ≤ 29
 short_length tip next len short =
     let v : length (decimal tip) ≤ 8 = length-decimal-le 8 tip (omega arith) (omega (arith, short.0)) (omega (arith, short.0)) in
-    let d : length (decimal len) ≤ 4 = four_digits len short.2 in
-    let r = next_short next short.1 in
-    let a = codes "V" ++ decimal tip in
-    let b = a ++ codes "," in
-    let c = b ++ record_number_text next in
-    omega (arith, v, d, r, length-append (codes "V") (decimal tip), length-append a (codes ","), length-append b (record_number_text next), length-append c (codes ","), length-append (c ++ codes ",") (decimal len))
+    let first = codes "V" ++ decimal tip in
+    let second = record_number_text next in
+    omega (arith, v, four_digits len short.2, next_short next short.1, length-append (codes "V") (decimal tip), line_length first second (decimal len ∷ []), line_length second (decimal len) [])
 
--- the same of a vertex
-five_fit : (a b c d e : List ℕ) → length a + length b + length c + length d + length e ≤ 79
-    → laid_out [] (a ∷ b ∷ c ∷ d ∷ e ∷ []) ≡ (a ++ b ++ c ++ d ++ e) ∷ []
-unfolding laid_out
-five_fit a b c d e few =
-    let first : fits_on [] a ≡ true = grind (arith, nat_tests) in
-    let n = length-append a b in
-    let m = length-append (a ++ b) c in
-    let l = length-append (a ++ b ++ c) d in
-    let second : fits_on a b ≡ true = grind (arith, nat_tests) in
-    let third : fits_on (a ++ b) c ≡ true = grind (arith, nat_tests) in
-    let fourth : fits_on (a ++ b ++ c) d ≡ true = grind (arith, nat_tests) in
-    let fifth : fits_on (a ++ b ++ c ++ d) e ≡ true = grind (arith, nat_tests) in
-    rw first (rw second (rw third (rw fourth (rw fifth refl))))
+pub short_record : (tip : ℕ) (next : Option ℕ) (len : ℕ) → AreShort tip next len
+    → record_lines (short_texts tip next len) ≡ line_of (short_texts tip next len) ∷ []
+short_record tip next len short = texts_fit [] (short_texts tip next len) (omega (arith, short_length tip next len short))
 
-pub name_length : (name : List ℕ) → length (name_piece name) ≡ length name + 3
+-- and those of a vertex
+name_length : (name : List ℕ) → length (name_piece name) ≡ length name + 3
 name_length name = omega (arith, length-append name (34 ∷ []), length-append (quoted name) (codes ","))
-
-pub fields_length : (first : Option ℕ) (x y z : ℕ) → AreShortFields first x y z → length (short_fields first x y z) ≤ 29
-fields_length first x y z short =
-    let r = record_number_text first in
-    let a = r ++ codes "," in
-    let b = a ++ decimal x in
-    let c = b ++ codes "," in
-    let d = c ++ decimal y in
-    let e = d ++ codes "," in
-    omega (
-      arith,
-      next_short first short.0,
-      four_digits x short.1,
-      four_digits y short.2,
-      four_digits z short.3,
-      length-append r (codes ","),
-      length-append a (decimal x),
-      length-append b (codes ","),
-      length-append c (decimal y),
-      length-append d (codes ","),
-      length-append e (decimal z),
-    )
-
-pub short_vertex_record : (name : List ℕ) (first : Option ℕ) (x y z : ℕ) → length name ≤ 28 → AreShortFields first x y z
-    → record_lines (short_vertex_texts name first x y z) ≡ short_vertex_line name first x y z ∷ []
-unfolding pieces_of
-short_vertex_record name first x y z few short =
-    let a = name_piece name in
-    let b = record_number_text first ++ codes "," in
-    let c = decimal x ++ codes "," in
-    let d = decimal y ++ codes "," in
-    let e = decimal z in
-    let fits : length a + length b + length c + length d + length e ≤ 79 =
-    omega (
-      arith,
-      few,
-      name_length name,
-      next_short first short.0,
-      four_digits x short.1,
-      four_digits y short.2,
-      four_digits z short.3,
-      length-append (record_number_text first) (codes ","),
-      length-append (decimal x) (codes ","),
-      length-append (decimal y) (codes ","),
-    ) in
-    let inner : (b ++ c) ++ d ≡ b ++ decimal x ++ codes "," ++ decimal y ++ codes "," =
-    ap (λ t. t ++ d) (sym (append_assoc b (decimal x) (codes ","))) ∙ sym (append_assoc (b ++ decimal x ++ codes ",") (decimal y) (codes ",")) in
-    let whole : (((a ++ b) ++ c) ++ d) ++ e ≡ short_vertex_line name first x y z =
-    ap (λ t. (t ++ d) ++ e) (append_assoc a b c)
-    ∙ (ap (λ t. t ++ e) (append_assoc a (b ++ c) d) ∙ (append_assoc a ((b ++ c) ++ d) e ∙ ap (λ t. a ++ (t ++ e)) inner)) in
-    five_fit a b c d e fits ∙ ap (λ t. t ∷ []) whole
-
-pub bare_vertex_record : (name : List ℕ) (first : Option ℕ) → length name ≤ 28 → IfSome first (λ k. k < 100_000_000)
-    → record_lines (bare_vertex_texts name first) ≡ bare_vertex_line name first ∷ []
-unfolding laid_out pieces_of
-bare_vertex_record name first few short =
-    let a = name_piece name in
-    let b = record_number_text first in
-    let n = name_length name in
-    let r = next_short first short in
-    let one : fits_on [] a ≡ true = grind (arith, nat_tests) in
-    let two : fits_on a b ≡ true = grind (arith, nat_tests) in
-    rw one (rw two refl)
 
 pub next_length : (first : Option ℕ) → IfSome first (λ k. k < 100_000_000) → length (record_number_text first) ≤ 29
 next_length first short = omega (arith, next_short first short)
+
+pub fields_length : (first : Option ℕ) (x y z : ℕ) → AreShortFields first x y z → length (line_of (field_texts_of first x y z)) ≤ 29
+fields_length first x y z short =
+    let dx = decimal x in
+    let dy = decimal y in
+    let dz = decimal z in
+    let r = record_number_text first in
+    omega (arith, next_short first short.0, four_digits x short.1, four_digits y short.2, four_digits z short.3, line_length r dx (dy ∷ dz ∷ []), line_length dx dy (dz ∷ []), line_length dy dz [])
+
+vertex_record : (name field : List ℕ) (fields : List (List ℕ)) → length name ≤ 28 → length (line_of (field ∷ fields)) ≤ 29
+    → record_lines (quoted name ∷ field ∷ fields) ≡ (name_piece name ++ line_of (field ∷ fields)) ∷ []
+vertex_record name field fields few short =
+    let n = length-append name (34 ∷ []) in
+    texts_fit [] (quoted name ∷ field ∷ fields) (omega (arith, few, short, n, line_length (quoted name) field fields))
+    ∙ ap (λ t. t ∷ []) (sym (append_assoc (quoted name) (codes ",") (line_of (field ∷ fields))))
+
+pub vertex-laid : (old first between mid new : ShortText) (name field : List ℕ) (fields : List (List ℕ)) → old.value < 2 ^ 32
+    → length name ≤ 28 → length (line_of (field ∷ fields)) ≤ 29 → first ≡ put_after old (name_piece name)
+    → between.text ≡ first.text → between.value ≡ first.value % checksum_prime → mid ≡ put_after between (line_of (field ∷ fields))
+    → new.text ≡ (put_after mid (10 ∷ [])).text → new.value ≡ (put_after mid (10 ∷ [])).value % checksum_prime
+    → HasLaid (record_lines (quoted name ∷ field ∷ fields)) (short_stage old) (short_stage new)
+vertex-laid old first between mid new name field fields small few short e t v f text value =
+    let n = name_length name in
+    rw (vertex_record name field fields few short)
+    (parts-laid old first between mid new (name_piece name) (line_of (field ∷ fields)) small (omega (arith, n)) (omega (arith, n, few)) short refl e t v f text value)

@@ -13,10 +13,6 @@ SoFar all left before after = (done : List ℕ) × (done ++ left ≡ all) × App
 pub so_far-none : (all : List ℕ) (a : Option (List ℕ)) → SoFar all all a a
 so_far-none all a = ([], refl, Appends-nil a)
 
--- the same is left
-pub so_far-same : (all left rest : List ℕ) (a b : Option (List ℕ)) → left ≡ rest → SoFar all left a b → SoFar all rest a b
-so_far-same all left rest a b e p = subst (λ text. SoFar all text a b) e p
-
 -- the next part was written
 pub so_far-more : (all part left rest : List ℕ) (a b c : Option (List ℕ)) → left ≡ part ++ rest → SoFar all left a b → Appends b c part → SoFar all rest a c
 so_far-more all part left rest a b c e p q =

@@ -1,20 +1,12 @@
 -- The text of a graph in three parts, and what stands in each.
-use Rattle.std.proofs.Common.{◌≡◌, ◌+◌, ◌*◌, ◌%◌, ◌^◌, ◌++◌, ◌∙◌, ℕ, true, List, [], ◌∷◌, length, map, codes, decimal, sym, ap, append_assoc, append-nil, arith}
+use Rattle.std.proofs.Common.{◌≡◌, ◌+◌, ◌*◌, ◌%◌, ◌^◌, ◌++◌, ◌∙◌, ℕ, List, [], ◌∷◌, length, map, codes, decimal, sym, ap, append_assoc, append-nil, arith}
 use Rattle.std.proofs.lemmas.List.Concat.{flat_map-append}
-use Rattle.std.specs.Io.KnownBytes.{Appends}
 use Rattle.sgb_graph.specs.Graphs.{GraphData}
 use Rattle.sgb_file.specs.FileLines.{text_of_lines}
-use Rattle.sgb_file.specs.Checksum.{checksum_of_lines, checksum_prime, has_star, weighted_sum}
+use Rattle.sgb_file.specs.Checksum.{checksum_of_lines, checksum_prime, weighted_sum}
 use Rattle.sgb_file.specs.Saving.{letter_of, head_line, middle_lines, checksum_line, text_of_graph}
-use Rattle.sgb_file.specs.inner.Layouts.{checksum_after, checksum_from, checksum_text, counted_bytes, head_text, place_of, Stage, HasLaid, IsStopped}
-use Rattle.sgb_file.specs.Devices.{AppendsPrefix}
+use Rattle.sgb_file.specs.inner.Layouts.{checksum_after, checksum_from, checksum_text, counted_bytes, head_text, place_of}
 use Rattle.sgb_file.proofs.ChecksumLemmas.{running_from}
-use Rattle.sgb_file.proofs.LaidLines.{checksum-starred}
-
--- a line with a star, written as it is
-pub starred-laid : (line : List ℕ) (a b : Stage) → has_star line ≡ true → Appends a.written b.written (text_of_lines (line ∷ [])) → b.failed ≡ a.failed
-    → b.layout.checksum ≡ a.layout.checksum → HasLaid (line ∷ []) a b
-starred-laid line a b e p sound sum = record { written = p; sound = sound; checksum = sum ∙ sym (checksum-starred a.layout.checksum line e) }
 
 -- the checksum byte by byte is the checksum
 pub checksum-whole : (lines : List (List ℕ)) → checksum_from 0 (counted_bytes lines) ≡ checksum_of_lines lines
@@ -35,10 +27,6 @@ text-parts g n records sum h k s =
     flat_map-append (λ line. line ++ 10 ∷ []) (middle_lines g) (checksum_line g ∷ [])
     ∙ ap (λ text. text_of_lines (middle_lines g) ++ text) (append-nil (checksum_line g ++ 10 ∷ []) ∙ ap (λ (x : ℕ). checksum_text x) (sym s)) in
     ap (λ text. text ++ text_of_lines (middle_lines g ++ checksum_line g ∷ [])) first ∙ ap (λ text. head_text (map letter_of g.kinds) n records ++ text) last
-
--- the writing stopped within a line with a star
-pub starred-stopped : (line : List ℕ) (a b : Stage) → AppendsPrefix a.written b.written (text_of_lines (line ∷ [])) → b.failed ≡ true → IsStopped (line ∷ []) a b
-starred-stopped line a b p failed = record { written = p; failed = failed }
 
 -- seven texts, one after another
 pub seven_texts : (a b c d e f g : List ℕ) → a ++ (b ++ (c ++ (d ++ (e ++ (f ++ (g ++ [])))))) ≡ a ++ b ++ c ++ d ++ e ++ f ++ g

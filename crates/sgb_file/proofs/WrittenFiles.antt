@@ -17,8 +17,8 @@ use Rattle.sgb_file.specs.Saving.{letter_of, graph_texts, vertex_texts, arc_text
 use Rattle.sgb_file.specs.Saved.{CanBeSaved}
 use Rattle.sgb_file.proofs.LineLemmas.{is_line, list_all-join, clean_lines_read}
 use Rattle.sgb_file.proofs.FieldReading.{number_read}
-use Rattle.sgb_file.proofs.WrittenRecords.{vertex_written, arc_written, graph_written, all_written}
-use Rattle.sgb_file.proofs.SavedGraphs.{IsReady, VertexFits, ArcFits, ready}
+use Rattle.sgb_file.proofs.WrittenRecords.{fields_stand, graph_written, all_written}
+use Rattle.sgb_file.proofs.SavedGraphs.{IsReady, VertexFits, ArcFits, fields_of_vertex, fields_of_arc, ready}
 use Rattle.sgb_file.proofs.WrittenLines.{middle_are_lines, head_is_line, checksum_is_line}
 
 -- the text of the lines of several records
@@ -54,8 +54,8 @@ records_written g h = record {
   vertices = flat_map vertex_text g.vertices;
   arcs = flat_map arc_text g.records;
   graph_record = graph_written g h;
-  vertex_records = all_written vertex_text (IsVertexRecord (head_of g)) (VertexFits g) (vertex_written g h.small) g.vertices h.vertices;
-  arc_records = all_written arc_text (IsArcRecord (head_of g)) (ArcFits g) (arc_written g h.small) g.records h.records;
+  vertex_records = all_written vertex_text (IsVertexRecord (head_of g)) (VertexFits g) (λ v fits. fields_stand _ h.small _ (fields_of_vertex v) _ _ refl fits) g.vertices h.vertices;
+  arc_records = all_written arc_text (IsArcRecord (head_of g)) (ArcFits g) (λ r fits. fields_stand _ h.small _ (fields_of_arc r) _ _ refl fits) g.records h.records;
   parts = middle_text g;
 }
 

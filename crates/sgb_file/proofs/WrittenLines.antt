@@ -6,13 +6,11 @@ use Rattle.std.proofs.lemmas.Bool.{and_parts, and_from}
 use Rattle.std.proofs.lemmas.Fmt.{decimal_is_IsNumeral}
 use Rattle.std.proofs.lemmas.List.Elements.{All-head, All-tail}
 use Rattle.sgb_graph.specs.Graphs.{GraphData}
-use Rattle.sgb_graph.specs.Sound.{util_fits, utils_fit, vertex_kinds, arc_kinds, graph_kinds}
+use Rattle.sgb_graph.specs.Sound.{util_fits, utils_fit, graph_kinds}
 use Rattle.sgb_graph.specs.declared.fields.Kind.{Kind}
-use Rattle.sgb_graph.specs.declared.fields.Kind.TheVariants.{Z, I, V, S, A}
+use Rattle.sgb_graph.specs.declared.fields.Kind.TheVariants.{Z}
 use Rattle.sgb_graph.specs.declared.fields.Util.{Util}
 use Rattle.sgb_graph.specs.declared.fields.Util.TheVariants.{Nothing}
-use Rattle.sgb_graph.specs.declared.fields.Vertex.{Vertex}
-use Rattle.sgb_graph.specs.declared.fields.ArcRec.{ArcRec}
 use Rattle.sgb_file.specs.Fields.{Counts}
 use Rattle.sgb_file.specs.Files.{head_of}
 use Rattle.sgb_file.specs.Saving.{letter_of, field_texts, graph_texts, vertex_texts, arc_texts, record_lines, head_line, middle_lines}
@@ -21,7 +19,7 @@ use Rattle.sgb_file.proofs.LineLemmas.{is_line, is_one_line, is_within_line, end
 use Rattle.sgb_file.proofs.LaidOutText.{record_are_lines}
 use Rattle.sgb_file.proofs.FieldReading.{quoted_is_line}
 use Rattle.sgb_file.proofs.WrittenRecords.{IsField, decimal_is_line, field_of}
-use Rattle.sgb_file.proofs.SavedGraphs.{AreSmall, IsReady, VertexFits, ArcFits, fields_of_vertex, fields_of_arc, vertex_fields, arc_fields}
+use Rattle.sgb_file.proofs.SavedGraphs.{AreSmall, FieldsFit, IsReady, VertexFits, ArcFits, fields_of_vertex, fields_of_arc}
 
 -- the texts of a field are lines
 field_is_line : (counts : Counts) (kind : Kind) (u : Util) → IsField counts kind u → list_all is_line (field_texts u) ≡ true
@@ -41,16 +39,9 @@ fields_are_lines counts small (kind ∷ kinds) (u ∷ utils) fits h =
     (fields_are_lines counts small kinds utils parts.1 (All-tail ValueCanBeSaved u utils h))
 fields_are_lines counts small _ _ fits h = absurd cc
 
--- the lines of a vertex's record, of an arc's and of the graph's are lines
-vertex_lines : (g : GraphData) → AreSmall (head_of g).counts → (v : Vertex) → VertexFits g v → list_all is_line (record_lines (vertex_texts v)) ≡ true
-vertex_lines g small v h =
-    let fields = vertex_fields g v h in
-    record_are_lines (vertex_texts v) (fields_are_lines (head_of g).counts small (S ∷ A ∷ vertex_kinds g.kinds) (fields_of_vertex v) fields.fits fields.values)
-
-arc_lines : (g : GraphData) → AreSmall (head_of g).counts → (r : ArcRec) → ArcFits g r → list_all is_line (record_lines (arc_texts r)) ≡ true
-arc_lines g small r h =
-    let fields = arc_fields g r h in
-    record_are_lines (arc_texts r) (fields_are_lines (head_of g).counts small (V ∷ A ∷ I ∷ arc_kinds g.kinds) (fields_of_arc r) fields.fits fields.values)
+-- the lines of the record of fields are lines, and those of the graph's
+fields_lines : (counts : Counts) → AreSmall counts → (kinds : List Kind) (us : List Util) → FieldsFit counts kinds us → list_all is_line (record_lines (flat_map field_texts us)) ≡ true
+fields_lines counts small kinds us h = record_are_lines (flat_map field_texts us) (fields_are_lines counts small kinds us h.fits h.values)
 
 graph_lines : (g : GraphData) → IsReady g → list_all is_line (record_lines (graph_texts g)) ≡ true
 graph_lines g h =
@@ -69,8 +60,8 @@ each_lines lines_of IsGood each (x ∷ xs) h =
 pub middle_are_lines : (g : GraphData) → IsReady g → list_all is_line (middle_lines g) ≡ true
 unfolding ends_well
 middle_are_lines g h =
-    let arcs = each_lines (λ r. record_lines (arc_texts r)) (ArcFits g) (arc_lines g h.small) g.records h.records in
-    let nodes = each_lines (λ v. record_lines (vertex_texts v)) (VertexFits g) (vertex_lines g h.small) g.vertices h.vertices in
+    let arcs = each_lines (λ r. record_lines (arc_texts r)) (ArcFits g) (λ r fits. fields_lines _ h.small _ (fields_of_arc r) fits) g.records h.records in
+    let nodes = each_lines (λ v. record_lines (vertex_texts v)) (VertexFits g) (λ v fits. fields_lines _ h.small _ (fields_of_vertex v) fits) g.vertices h.vertices in
     let own = record_lines (graph_texts g) in
     let second = codes "* Vertices" ∷ flat_map (λ v. record_lines (vertex_texts v)) g.vertices in
     let third = codes "* Arcs" ∷ flat_map (λ r. record_lines (arc_texts r)) g.records in

@@ -11,25 +11,23 @@ use Rattle.sgb_vec.specs.Limits.{most_bytes}
 use Rattle.sgb_graph.proofs.Lists.{list_all-weaker}
 use Rattle.sgb_graph.specs.Graphs.{GraphData}
 use Rattle.sgb_graph.specs.Ids.{most_id_bytes}
-use Rattle.sgb_graph.specs.Sound.{ref_fits, chain_fits, util_fits, utils_fit, vertex_kinds, arc_kinds, graph_kinds}
+use Rattle.sgb_graph.specs.Sound.{ref_fits, chain_fits, util_fits, utils_fit, graph_kinds}
 use Rattle.sgb_graph.specs.declared.fields.Kind.{Kind}
 use Rattle.sgb_graph.specs.declared.fields.Kind.TheVariants.{Z, I, V, S, A}
 use Rattle.sgb_graph.specs.declared.fields.Ref.{Ref}
 use Rattle.sgb_graph.specs.declared.fields.Ref.TheVariants.{Null, One, At}
 use Rattle.sgb_graph.specs.declared.fields.Util.{Util}
 use Rattle.sgb_graph.specs.declared.fields.Util.TheVariants.{Nothing, Int, Vertex as VertexField, Str, Chain}
-use Rattle.sgb_graph.specs.declared.fields.Vertex.{Vertex}
-use Rattle.sgb_graph.specs.declared.fields.ArcRec.{ArcRec}
 use Rattle.sgb_file.specs.FileLines.{text_of_lines}
 use Rattle.sgb_file.specs.Fields.{Counts, is_decimal_digit, most_number_digits, number_of, integer_of, ref_of, record_number_of}
-use Rattle.sgb_file.specs.Files.{IsFieldText, AreFieldTexts, IsComma, IsRecord, IsVertexRecord, IsArcRecord, IsGraphRecord, AreRecords, head_of}
-use Rattle.sgb_file.specs.Saving.{quoted, ref_text, record_number_text, field_texts, graph_texts, vertex_texts, arc_texts, pieces_of, record_lines}
+use Rattle.sgb_file.specs.Files.{IsFieldText, AreFieldTexts, IsComma, IsRecord, IsRecordOf, IsGraphRecord, AreRecords, head_of}
+use Rattle.sgb_file.specs.Saving.{quoted, ref_text, record_number_text, field_texts, graph_texts, pieces_of, record_lines}
 use Rattle.sgb_file.specs.Saved.{ValueCanBeSaved}
 use Rattle.sgb_file.proofs.LineLemmas.{is_line, is_one_line, is_within_line, ends_well}
 use Rattle.sgb_file.proofs.LaidOutText.{with_breaks, after_field, lay_out, laid_out_text}
 use Rattle.sgb_file.proofs.FieldReading.{IsBroken, test_below, decimal_digits, said_broken, number_is_said, integer_is_said, ref_is_said, record_number_is_said, string_is_said, quoted_is_line}
 use Rattle.sgb_file.proofs.RecordsAndTexts.{IsTail, record_from_tail, and_others}
-use Rattle.sgb_file.proofs.SavedGraphs.{AreSmall, IsReady, VertexFits, ArcFits, fields_of_vertex, fields_of_arc, vertex_fields, arc_fields}
+use Rattle.sgb_file.proofs.SavedGraphs.{AreSmall, FieldsFit, IsReady}
 
 -- a byte above the space
 abbrev is_visible : ℕ → Bool
@@ -185,20 +183,13 @@ fields_written counts small (kind ∷ kinds) (u ∷ us) fits h broken b =
     (fields_written counts small kinds us parts.1 (All-tail ValueCanBeSaved u us h)) broken b
 fields_written counts small _ _ fits h broken b = absurd cc
 
--- a vertex's record, an arc's and the graph's
-pub vertex_written : (g : GraphData) → AreSmall (head_of g).counts → (v : Vertex) → VertexFits g v → IsVertexRecord (head_of g) v (text_of_lines (record_lines (vertex_texts v)))
-vertex_written g small v h =
-    let fields = vertex_fields g v h in
-    let w = record_written (quoted v.name) (record_number_text v.arcs ∷ flat_map field_texts v.util) in
-    let texts = w.first ∷ w.others in
-    (texts, fields_written (head_of g).counts small (S ∷ A ∷ vertex_kinds g.kinds) (fields_of_vertex v) fields.fits fields.values texts (w.first_is, w.others_are), w.stands)
-
-pub arc_written : (g : GraphData) → AreSmall (head_of g).counts → (r : ArcRec) → ArcFits g r → IsArcRecord (head_of g) r (text_of_lines (record_lines (arc_texts r)))
-arc_written g small r h =
-    let fields = arc_fields g r h in
-    let w = record_written (ref_text r.tip) (record_number_text r.next ∷ signed_decimal r.len ∷ flat_map field_texts (r.a ∷ r.b ∷ [])) in
-    let texts = w.first ∷ w.others in
-    (texts, fields_written (head_of g).counts small (V ∷ A ∷ I ∷ arc_kinds g.kinds) (fields_of_arc r) fields.fits fields.values texts (w.first_is, w.others_are), w.stands)
+-- the record of fields, a vertex's or an arc's, and the graph's
+pub fields_stand : (counts : Counts) → AreSmall counts → (kinds : List Kind) (us : List Util) (text : List ℕ) (texts : List (List ℕ)) → flat_map field_texts us ≡ text ∷ texts
+    → FieldsFit counts kinds us → IsRecordOf counts kinds us (text_of_lines (record_lines (text ∷ texts)))
+fields_stand counts small kinds us text texts e h =
+    let w = record_written text texts in
+    let broken = w.first ∷ w.others in
+    (broken, fields_written counts small kinds us h.fits h.values broken (subst (λ ts. AreBroken ts broken) (sym e) (w.first_is, w.others_are)), w.stands)
 
 pub graph_written : (g : GraphData) → IsReady g → IsGraphRecord (head_of g) g (text_of_lines (record_lines (graph_texts g)))
 graph_written g h =

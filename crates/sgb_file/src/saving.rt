@@ -2,13 +2,14 @@
 ghost use Rattle.std.specs.Prelude.{◌≡◌, [], true, length, map, OnOk};
 ghost use Rattle.std.specs.List.{flat_map};
 ghost use Rattle.sgb_file.specs.Devices.{change, IsPut};
-ghost use Rattle.sgb_file.specs.inner.Layouts.{IsLaid, arc_lines, checksum_text, head_text, stage, vertex_lines};
+ghost use Rattle.sgb_file.specs.inner.Layouts.{IsLaid, checksum_text, head_text, stage};
 ghost use Rattle.sgb_file.specs.Saving.{letter_of, middle_lines, text_of_graph};
 
 mod fields;
 mod layouts;
 mod lines;
 mod records;
+mod sections;
 mod short_arcs;
 mod short_lines;
 mod short_vertices;
@@ -16,11 +17,12 @@ mod short_vertices;
 use crate::devices::{Failed, Sink, put_all};
 use itoa::Buffer;
 use layouts::Layout;
+pub(crate) use records::graph_fields;
 use records::put_graph;
+use sections::put_section;
 use sgb_graph::{Graph, Kind};
-use short_arcs::put_next_arcs;
-use short_lines::ShortLines;
-use short_vertices::put_next_vertices;
+use short_arcs::Arcs;
+use short_vertices::Vertices;
 
 /// Writes a graph as a `.gb` file (GB_SAVE, save_graph). It takes no memory.
 ///
@@ -35,7 +37,7 @@ pub fn write_gb<W: Sink>(graph: &Graph, sink: &mut W) -> Result<(), Failed>
     let kinds = graph.kinds();
     put_head(sink, &kinds, n, graph.records_len())?;
     let mut layout = Layout::new();
-    put_records(&mut layout, sink, graph, n)?;
+    put_records(&mut layout, sink, graph)?;
     put_checksum(sink, layout.checksum())
 }
 
@@ -86,14 +88,8 @@ fn letter(kind: Kind) -> u8
     }
 }
 
-// Writes the records, of the graph, of its `n` vertices and of its arcs.
-fn put_records<W: Sink>(
-    layout: &mut Layout,
-    sink: &mut W,
-    graph: &Graph,
-    n: u32,
-) -> Result<(), Failed>
-    requires n { n ≡ length graph.now.vertices }
+// Writes the records, of the graph, of its vertices and of its arcs.
+fn put_records<W: Sink>(layout: &mut Layout, sink: &mut W, graph: &Graph) -> Result<(), Failed>
     requires fields { length graph.now.util ≡ 6 }
     requires line { layout.old.line ≡ [] }
     ensures { IsLaid (middle_lines graph.now) []
@@ -101,46 +97,8 @@ fn put_records<W: Sink>(
         (stage W.written W.has_failed sink.new layout.new) result }
 {
     put_graph(layout, sink, graph)?;
-    put_vertices(layout, sink, graph, n)?;
-    put_arcs(layout, sink, graph)
-}
-
-// Writes the section of the vertices: its title, and their records.
-fn put_vertices<W: Sink>(
-    layout: &mut Layout,
-    sink: &mut W,
-    graph: &Graph,
-    n: u32,
-) -> Result<(), Failed>
-    requires n { n ≡ length graph.now.vertices }
-    requires line { layout.old.line ≡ [] }
-    ensures { IsLaid (vertex_lines graph.now.vertices) []
-        (stage W.written W.has_failed sink.old layout.old)
-        (stage W.written W.has_failed sink.new layout.new) result }
-{
-    put_all(sink, b"* Vertices\n")?;
-    let mut lines = ShortLines::new();
-    let mut v = 0;
-    while v < n {
-        v = put_next_vertices(layout, sink, graph, &mut lines, v)?;
-    }
-    Ok(())
-}
-
-// Writes the section of the arcs: its title, and the arc records, on lists or not.
-fn put_arcs<W: Sink>(layout: &mut Layout, sink: &mut W, graph: &Graph) -> Result<(), Failed>
-    requires { layout.old.line ≡ [] }
-    ensures { IsLaid (arc_lines graph.now.records) []
-        (stage W.written W.has_failed sink.old layout.old)
-        (stage W.written W.has_failed sink.new layout.new) result }
-{
-    put_all(sink, b"* Arcs\n")?;
-    let mut lines = ShortLines::new();
-    let mut k = 0;
-    while k < graph.records_len() {
-        k = put_next_arcs(layout, sink, graph, &mut lines, k)?;
-    }
-    Ok(())
+    put_section::<Vertices, W>(layout, sink, graph)?;
+    put_section::<Arcs, W>(layout, sink, graph)
 }
 
 // Writes the last line.

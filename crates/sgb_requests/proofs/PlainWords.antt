@@ -55,13 +55,13 @@ pub names_law : (program text : Text) (options : List Text) (resume : Resume) (r
     → IsCommandLineReadAs (program ∷ codes "names" ∷ text ∷ options) result ↔ IsReadBy (λ e. request.Names e resume) text result
 names_law program text options resume result plain is =
     let so = asks_so program (codes "names") text options resume names_enters plain is in
-    names_read (program ∷ codes "names" ∷ text ∷ options) text so.after so.skip so.asks resume so.begins result
+    names_read (program ∷ codes "names" ∷ text ∷ options) text so.after so.skip resume so.begins so.asks result
 
 pub list_law : (program text : Text) (options : List Text) (resume : Resume) (result : Result Request Fault) → IsPlain text → AreOptions options resume
     → IsCommandLineReadAs (program ∷ codes "list" ∷ text ∷ options) result ↔ IsReadBy (λ e. request.List e resume) text result
 list_law program text options resume result plain is =
     let so = asks_so program (codes "list") text options resume list_enters plain is in
-    list_read (program ∷ codes "list" ∷ text ∷ options) text so.after so.skip so.asks resume so.begins result
+    list_read (program ∷ codes "list" ∷ text ∷ options) text so.after so.skip resume so.begins so.asks result
 
 pub save_law : (program text : Text) (result : Result Request Fault) → IsPlain text
     → IsCommandLineReadAs (program ∷ codes "save" ∷ text ∷ []) result ↔ IsReadBy (λ e. request.Save e) text result

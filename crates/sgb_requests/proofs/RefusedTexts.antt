@@ -1,11 +1,14 @@
 -- The faults of texts that are not read.
-use Rattle.std.proofs.Common.{◌≡◌, ◌∙◌, Bool, true, false, true≢false, Result, Err, refl, sym, ap, subst}
+use Rattle.std.proofs.Common.{◌≡◌, ◌∙◌, ◌⊎◌, Bool, true, false, true≢false, List, Option, Result, Err, codes, refl, sym, ap}
+use Rattle.clap.specs.Words.{Text}
 use Rattle.sgb_vec.specs.declared.panics.Panic.{Panic}
 use Rattle.sgb_vec.specs.declared.panics.Panic.TheVariants.{NoRoom}
 use Rattle.sgb_expr.specs.declared.expressions.Unread.{Unread}
 use Rattle.sgb_expr.specs.declared.expressions.Unread.TheVariants as unread
 use Rattle.sgb_requests.specs.Faults.{fault_of_unread}
-use Rattle.sgb_requests.specs.Reading.{IsReadOrRefused}
+use Rattle.sgb_requests.specs.CommandLine.{Asks, AsksAlone}
+use Rattle.sgb_requests.specs.Reading.{IsFlipReadAs, IsReadAs, IsReadOrRefused}
+use Rattle.sgb_requests.specs.Requests.{GoTogether, IsRefusedCommandLine, TakesOptions}
 use Rattle.sgb_requests.specs.declared.faults.Fault.{Fault}
 use Rattle.sgb_requests.specs.declared.faults.Fault.TheVariants as fault
 
@@ -34,7 +37,17 @@ panic_of_unread p unread.NoRoom e = cc
 pub panic_is_no_room : {T : Type 0} (IsRead : Result T Unread → Type 0) (p : Panic) → IsReadOrRefused IsRead (Err (fault.Panic p)) → p ≡ NoRoom
 panic_is_no_room IsRead p (cause, is, e) = panic_of_unread p cause e
 
--- what holds of the fault of each cause holds of a refusal
-pub refusal_by_cause : {T : Type 0} (IsRead : Result T Unread → Type 0) (P : Fault → Type 0) → ((cause : Unread) → IsRead (Err cause) → P (fault_of_unread cause))
-    → (f : Fault) → IsReadOrRefused IsRead (Err f) → P f
-refusal_by_cause IsRead P by_cause f (cause, is, e) = subst P (sym e) (by_cause cause is)
+-- words that are refused with a fault that is neither `Usage` nor want of memory
+abbrev pub IsRefusedWithText : List Text → Fault → Type 0
+IsRefusedWithText words f =
+    ((command text : Text) × (after skip : Option Text) × TakesOptions command
+    × Asks words command text after skip × GoTogether after skip × IsReadAs text (Err f))
+    ⊎ (((text : Text) × AsksAlone words (codes "save") text × IsReadAs text (Err f))
+    ⊎ ((text : Text) × AsksAlone words (codes "flip") text × IsFlipReadAs text (Err f)))
+
+-- a text that is refused refuses the words that gave it
+pub faults_here : {T : Type 0} (words : List Text) (IsRead : Result T Unread → Type 0) → ((f : Fault) → IsReadOrRefused IsRead (Err f) → IsRefusedWithText words f)
+    → (f : Fault) → IsReadOrRefused IsRead (Err f) → IsRefusedCommandLine words f
+faults_here words IsRead given fault.Usage h = absurd (no_refusal IsRead fault.Usage refl h)
+faults_here words IsRead given (fault.Panic p) h = panic_is_no_room IsRead p h
+faults_here words IsRead given f h = given f h

@@ -1,13 +1,13 @@
 -- Lines that are laid out one after another, with the checksum of the lines so far [GB_SAVE, save_graph].
-use Rattle.std.specs.Prelude.{◌≡◌, ℕ, ◌+◌, ◌*◌, ◌%◌, Bool, true, false, not, List, [], ◌∷◌, ◌++◌, fold, filter, codes, Option, Result, Ok, Err, map, length, decimal, ◌==◌, if◌then◌else◌}
+use Rattle.std.specs.Prelude.{◌≡◌, ℕ, ◌+◌, ◌*◌, ◌%◌, ◌≤◌, Bool, true, false, not, List, [], ◌∷◌, ◌++◌, fold, filter, codes, Option, Result, Ok, Err, map, length, drop, decimal, ◌==◌, if◌then◌else◌}
 use Rattle.std.specs.List.{flat_map, range_with_len}
+use Rattle.std.proofs.Common.{ap}
+use Rattle.std.proofs.lemmas.List.{drop_all}
 use Rattle.std.specs.Io.KnownBytes.{Appends}
 use Rattle.sgb_file.specs.Devices.{AppendsPrefix}
 use Rattle.sgb_file.specs.FileLines.{text_of_lines}
 use Rattle.sgb_file.specs.Checksum.{value_of_byte, checksum_prime, has_star}
-use Rattle.sgb_file.specs.Saving.{broken_lines, laid_out, last_part, line_begun, lines_ended, pieces_of, record_lines, vertex_texts, arc_texts}
-use Rattle.sgb_graph.specs.declared.fields.Vertex.{Vertex}
-use Rattle.sgb_graph.specs.declared.fields.ArcRec.{ArcRec}
+use Rattle.sgb_file.specs.Saving.{broken_lines, laid_out, last_part, line_begun, lines_ended, pieces_of, record_lines}
 
 -- the place of a byte in the order of the checksum
 unfoldable pub place_of : ℕ → ℕ
@@ -78,12 +78,22 @@ IsPlaced piece old new result =
 abbrev pub AreLaidOut : {T E : Type 0} → List (List ℕ) → Stage → Stage → Result T E → Type 0
 AreLaidOut texts old new result = IsLaid (laid_out old.layout.line (pieces_of texts)) [] old new result
 
--- the lines of the section of the vertices, and of that of the arcs
-unfoldable pub vertex_lines : List Vertex → List (List ℕ)
-vertex_lines vertices = codes "* Vertices" ∷ flat_map (λ v. record_lines (vertex_texts v)) vertices
+-- the lines of records with these texts
+abbrev pub lines_of : {X : Type 0} → (X → List (List ℕ)) → List X → List (List ℕ)
+lines_of texts xs = flat_map (λ x. record_lines (texts x)) xs
 
-unfoldable pub arc_lines : List ArcRec → List (List ℕ)
-arc_lines records = codes "* Arcs" ∷ flat_map (λ r. record_lines (arc_texts r)) records
+-- there are none after the last record
+pub no_lines : {X : Type 0} (texts : X → List (List ℕ)) (xs : List X) (k : ℕ) → length xs ≤ k → lines_of texts (drop k xs) ≡ []
+no_lines texts xs k past = ap (λ ys. lines_of texts ys) (drop_all k xs past)
+
+-- of all lines, these are left, and those before them were written
+abbrev pub LinesSoFar : List (List ℕ) → List (List ℕ) → Stage → Stage → Type 0
+LinesSoFar all left old new = (done : List (List ℕ)) × (all ≡ done ++ left) × HasLaid done old new
+
+-- the same, and no line was begun; or the writing stopped within all
+abbrev pub AreLaidUpTo : {T E : Type 0} → List (List ℕ) → (T → List (List ℕ)) → Stage → Stage → Result T E → Type 0
+AreLaidUpTo all left old new (Ok x) = LinesSoFar all (left x) old new × (new.layout.line ≡ [])
+AreLaidUpTo all left old new (Err e) = IsStopped all old new
 
 -- the comma after a field where more fields follow
 abbrev pub comma_of : Bool → List ℕ

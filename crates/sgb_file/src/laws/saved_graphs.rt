@@ -2,6 +2,7 @@ ghost use Rattle.std.specs.Prelude.{◌≡◌, ◌<◌, All, length, map};
 ghost use Rattle.sgb_graph.specs.Columns.{arc_seen, util_seen, vertex_seen};
 ghost use Rattle.sgb_file.specs.Saved.{ArcCanBeSaved, CanBeSaved, ValueCanBeSaved, VertexCanBeSaved, number_limit};
 
+use crate::saving::graph_fields;
 use sgb_graph::{ArcRef, Graph, Kind, UtilRef, VertexRef};
 
 /// Every graph can be saved whose numbers of arcs and of arc records have at most 18 digits (GB_SAVE,
@@ -15,7 +16,7 @@ pub fn graphs_can_be_saved(graph: &Graph)
     let _n = graph.n();
     let _id = graph.id().bytes();
     are_fourteen(&graph.kinds());
-    own_fields_can_be_saved(graph);
+    values_can_be_saved(&graph_fields(graph));
     vertices_can_be_saved(graph);
     records_can_be_saved(graph);
 }
@@ -24,16 +25,6 @@ pub fn graphs_can_be_saved(graph: &Graph)
 fn are_fourteen(kinds: &[Kind; 14])
     ensures { length kinds.now ≡ 14 }
 {}
-
-// The graph's own fields can be saved.
-fn own_fields_can_be_saved(graph: &Graph)
-    requires { length graph.now.util ≡ 6 }
-    ensures { All ValueCanBeSaved graph.now.util }
-{
-    for k in 0..6 {
-        value_can_be_saved(graph.graph_util(k).seen());
-    }
-}
 
 // The vertices can be saved.
 fn vertices_can_be_saved(graph: &Graph)

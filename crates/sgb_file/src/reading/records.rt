@@ -1,12 +1,12 @@
 //! The records of a `.gb` file (GB_SAVE, restore_graph).
-ghost use Rattle.std.specs.Prelude.{◌≡◌, ◌∷◌, [], Err, IfErr, IfSome, None, OnOk, Some, length, true};
+ghost use Rattle.std.specs.Prelude.{◌≡◌, ◌∷◌, [], Err, IfErr, IfSome, None, OnOk, Some, length, slice_index_or, true};
 ghost use Rattle.sgb_graph.specs.Sound.{arc_kinds, graph_kinds};
 ghost use Rattle.sgb_graph.specs.declared.fields.Kind.TheVariants.{Z};
 ghost use Rattle.sgb_file.specs.inner.Found.{IsFoundBy};
 ghost use Rattle.sgb_file.specs.inner.LinesLeft.{text_left};
 ghost use Rattle.sgb_file.specs.inner.ArcLines.{plain_record};
-ghost use Rattle.sgb_file.specs.inner.Reading.{IsNextArc, IsNextVertex};
-ghost use Rattle.sgb_file.specs.Records.{arc_record_at, graph_record_at, more_fields_at, vertex_record_at};
+ghost use Rattle.sgb_file.specs.inner.Reading.{IsNextArc, IsNextVertex, arc_fields_at, vertex_fields_at};
+ghost use Rattle.sgb_file.specs.Records.{arc_record_at, graph_record_at, more_fields_at};
 
 use super::fields::{
     is_used, read_field_after_comma, read_integer, read_integer_after_comma, read_next_field,
@@ -64,7 +64,7 @@ pub(super) fn read_vertex(
 ) -> Result<(), Panic>
     ensures ok { OnOk result (IsNextVertex head.now (text_left lines.old) parts.old parts.new
         (text_left lines.new)) }
-    ensures err { IfErr result (λ error. IsFoundBy (vertex_record_at head.now
+    ensures err { IfErr result (λ error. IsFoundBy (vertex_fields_at head.now
         (text_left lines.old)) (Err error) (text_left lines.new)) }
     ensures all { lines.new.all ≡ lines.old.all }
 {
@@ -153,9 +153,10 @@ fn read_any_arc(
 
 // The fields of an arc record.
 fn read_arc_fields(alloc: Global, head: &Head, lines: &mut Lines<'_>) -> Result<ArcRec, Panic>
-    ensures found { IsFoundBy (arc_record_at head.now (text_left lines.old)) result
-        (text_left lines.new) }
+    ensures found { IsFoundBy (arc_fields_at head.now.counts (slice_index_or head.now.kinds 6 Z)
+        (slice_index_or head.now.kinds 7 Z) (text_left lines.old)) result (text_left lines.new) }
     ensures all { lines.new.all ≡ lines.old.all }
+    ensures kinds { length head.now.kinds ≡ 14 }
 {
     let tip = read_ref(&head.counts, lines)?;
     pass_comma(lines)?;

@@ -30,7 +30,7 @@ pub(super) fn put_graph<W: Sink>(
 }
 
 // The graph's own fields.
-fn graph_fields(graph: &Graph) -> [UtilRef<'_>; 6]
+pub(crate) fn graph_fields(graph: &Graph) -> [UtilRef<'_>; 6]
     requires { length graph.now.util ≡ 6 }
     ensures { map util_seen result ≡ graph.now.util }
 {

@@ -2,9 +2,9 @@
 ghost use Rattle.std.specs.Prelude.{◌≡◌, ◌+◌, ◌*◌, ◌/◌, ◌%◌, ◌^◌, ◌<◌, ◌≤◌, ◌∷◌, [], Some, IfSome, decimal, length};
 ghost use Rattle.std.specs.Bool.{OnTrue};
 ghost use Rattle.sgb_file.specs.Checksum.{checksum_prime};
-ghost use Rattle.sgb_file.specs.Saving.{record_number_text};
+ghost use Rattle.sgb_file.specs.Saving.{quoted, record_lines, record_number_text};
 ghost use Rattle.sgb_file.specs.inner.Layouts.{HasLaid, place_of};
-ghost use Rattle.sgb_file.specs.inner.ShortLines.{AreShort, AreShortFields, bare_vertex_line, name_piece, put_after, short_fields, short_line, short_stage, short_vertex_line};
+ghost use Rattle.sgb_file.specs.inner.ShortLines.{AreShort, AreShortFields, field_texts_of, line_of, name_piece, put_after, short_stage, short_texts};
 
 use crate::checksums::{place_of, remainder};
 use std::marker::Model;
@@ -84,7 +84,7 @@ impl ShortLines {
         requires short { AreShort tip next len }
         requires room { length self.old.text + 30 ≤ 4096 }
         requires value { self.old.value < 2 ^ 32 }
-        ensures laid { HasLaid (short_line tip next len ∷ []) (short_stage self.old)
+        ensures laid { HasLaid (record_lines (short_texts tip next len)) (short_stage self.old)
             (short_stage self.new) }
         ensures value { self.new.value < 2 ^ 32 }
     {
@@ -97,7 +97,7 @@ impl ShortLines {
     fn push_arc(&mut self, tip: u32, next: Option<u32>, len: u32)
         requires short { AreShort tip next len }
         requires room { length self.old.text + 29 ≤ 4096 }
-        ensures put { self.new ≡ put_after self.old (short_line tip next len) }
+        ensures put { self.new ≡ put_after self.old (line_of (short_texts tip next len)) }
         ensures short { length self.new.text ≤ length self.old.text + 24 }
     {
         self.push_byte(b'V');
@@ -115,7 +115,7 @@ impl ShortLines {
         requires short { AreShortFields first x y z }
         requires room { length self.old.text + 60 ≤ 4096 }
         requires value { self.old.value < 2 ^ 32 }
-        ensures laid { HasLaid (short_vertex_line name.now first x y z ∷ [])
+        ensures laid { HasLaid (record_lines (quoted name.now ∷ field_texts_of first x y z))
             (short_stage self.old) (short_stage self.new) }
         ensures value { self.new.value < 2 ^ 32 }
     {
@@ -132,8 +132,8 @@ impl ShortLines {
         requires few { IfSome first (λ k. k < 100_000_000) }
         requires room { length self.old.text + 60 ≤ 4096 }
         requires value { self.old.value < 2 ^ 32 }
-        ensures laid { HasLaid (bare_vertex_line name.now first ∷ []) (short_stage self.old)
-            (short_stage self.new) }
+        ensures laid { HasLaid (record_lines (quoted name.now ∷ record_number_text first ∷ []))
+            (short_stage self.old) (short_stage self.new) }
         ensures value { self.new.value < 2 ^ 32 }
     {
         self.push_name(name);
@@ -161,7 +161,7 @@ impl ShortLines {
     fn push_fields(&mut self, first: Option<u32>, x: u32, y: u32, z: u32)
         requires short { AreShortFields first x y z }
         requires room { length self.old.text + 24 ≤ 4096 }
-        ensures put { self.new ≡ put_after self.old (short_fields first x y z) }
+        ensures put { self.new ≡ put_after self.old (line_of (field_texts_of first x y z)) }
         ensures short { length self.new.text ≤ length self.old.text + 24 }
     {
         self.push_next(first);

@@ -1,6 +1,6 @@
 use Rattle.std.proofs.Common.{inl, sym, ◌∙◌, true, false}
 use Rattle.sgb_file.proofs.Endings.{graph_ended, graph_checked}
-use Rattle.sgb_file.proofs.RestoringLemmas.{opened_late}
+use Rattle.sgb_file.proofs.RefusedTexts.{opened_late}
 use Rattle.sgb_file.proofs.reading.read_gb.Goals as goal
 
 pub returns-then-not-closes-clause-read : goal.returns-then-not-closes-clause-read

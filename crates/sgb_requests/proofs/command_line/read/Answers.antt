@@ -3,24 +3,19 @@ use Rattle.std.proofs.Common.{refl, subst}
 use Rattle.std.proofs.lemmas.Result.{err_from_is_err_and}
 use Rattle.clap.specs.Words.{Text}
 use Rattle.sgb_expr.specs.Expressions.{IsExpressionRead}
-use Rattle.sgb_expr.specs.declared.expressions.Unread.{Unread}
-use Rattle.sgb_expr.specs.declared.expressions.Unread.TheVariants as unread
-use Rattle.sgb_requests.specs.Faults.{fault_of_unread}
 use Rattle.sgb_requests.specs.Reading.{IsReadAs}
 use Rattle.sgb_requests.specs.Requests.{GoTogether}
 use Rattle.sgb_requests.specs.inner.Requests.{AreRefused}
 use Rattle.sgb_requests.specs.declared.faults.Fault.{Fault}
-use Rattle.sgb_requests.proofs.RefusedTexts.{refusal_by_cause}
+use Rattle.sgb_requests.specs.declared.faults.Fault.TheVariants as fault
+use Rattle.sgb_requests.proofs.RefusedTexts.{no_refusal, panic_is_no_room}
 use Rattle.sgb_requests.proofs.command_line.read.Goals as goal
 
 -- a text that is refused, after options that go together
 refused : (text : Text) (after skip : Option Text) (f : Fault) → GoTogether after skip → IsReadAs text (Err f) → AreRefused text after skip f
-refused text after skip f t h = refusal_by_cause (IsExpressionRead text) (AreRefused text after skip) by_cause f h
-  where
-    by_cause : (cause : Unread) → IsExpressionRead text (Err cause) → AreRefused text after skip (fault_of_unread cause)
-    by_cause unread.TooLarge is = (t, (unread.TooLarge, is, refl))
-    by_cause (unread.At k) is = (t, (unread.At k, is, refl))
-    by_cause unread.NoRoom is = refl
+refused text after skip fault.Usage t h = absurd (no_refusal (IsExpressionRead text) fault.Usage refl h)
+refused text after skip (fault.Panic p) t h = panic_is_no_room (IsExpressionRead text) p h
+refused text after skip f t h = (t, h)
 
 pub returns-in_err-graph : goal.returns-in_err-graph
 returns-in_err-graph c =

@@ -2,49 +2,24 @@ use Rattle.std.proofs.Common.{List, Option, Err, map, codes, refl, subst, inl, i
 use Rattle.std.proofs.lemmas.Result.{err_from_is_err_and}
 use Rattle.std.specs.String.{string_bytes}
 use Rattle.clap.specs.Words.{Text}
-use Rattle.sgb_requests.specs.CommandLine.{Asks, AsksAlone}
+use Rattle.sgb_requests.specs.CommandLine.{Asks}
 use Rattle.sgb_requests.specs.inner.CommandLine.{EntersSubcommand, bytes_of}
 use Rattle.sgb_expr.specs.Expressions.{IsExpressionRead}
 use Rattle.sgb_expr.specs.FlipTexts.{IsFlipReadAs as IsFlipRead}
-use Rattle.sgb_expr.specs.declared.expressions.Unread.{Unread}
-use Rattle.sgb_expr.specs.declared.expressions.Unread.TheVariants as unread
-use Rattle.sgb_requests.specs.Faults.{fault_of_unread}
 use Rattle.sgb_requests.specs.Reading.{IsFlipReadAs, IsReadAs}
 use Rattle.sgb_requests.specs.Requests.{IsRefusedCommandLine, TakesOptions}
 use Rattle.sgb_requests.specs.inner.Requests.{AreRefused}
 use Rattle.sgb_requests.specs.declared.faults.Fault.{Fault}
 use Rattle.sgb_requests.specs.declared.faults.Fault.TheVariants as fault
-use Rattle.sgb_requests.proofs.RefusedTexts.{no_refusal, refusal_by_cause}
+use Rattle.sgb_requests.proofs.RefusedTexts.{faults_here}
 use Rattle.sgb_requests.proofs.command_line.request.Goals as goal
 
 -- values that are refused refuse the words that gave them
 refused : (words : List Text) (command text : Text) (after skip : Option Text) (f : Fault) → TakesOptions command → Asks words command text after skip
     → AreRefused text after skip f → IsRefusedCommandLine words f
 refused words command text after skip fault.Usage takes asks h = inr (command, text, after, skip, asks, h)
-refused words command text after skip fault.TooLarge takes asks h = inl (command, text, after, skip, takes, asks, h.0, h.1)
-refused words command text after skip (fault.Expr k) takes asks h = inl (command, text, after, skip, takes, asks, h.0, h.1)
 refused words command text after skip (fault.Panic p) takes asks h = h
-refused words command text after skip fault.NoVertex takes asks h = absurd (no_refusal (IsExpressionRead text) fault.NoVertex refl h.1)
-refused words command text after skip fault.Read takes asks h = absurd (no_refusal (IsExpressionRead text) fault.Read refl h.1)
-refused words command text after skip fault.Write takes asks h = absurd (no_refusal (IsExpressionRead text) fault.Write refl h.1)
-
--- a text that is refused refuses the words that gave it to `save`
-refused_alone : (words : List Text) (text : Text) (f : Fault) → AsksAlone words (codes "save") text → IsReadAs text (Err f) → IsRefusedCommandLine words f
-refused_alone words text f asks h = refusal_by_cause (IsExpressionRead text) (IsRefusedCommandLine words) by_cause f h
-  where
-    by_cause : (cause : Unread) → IsExpressionRead text (Err cause) → IsRefusedCommandLine words (fault_of_unread cause)
-    by_cause unread.TooLarge is = inr (inl (text, asks, (unread.TooLarge, is, refl)))
-    by_cause (unread.At k) is = inr (inl (text, asks, (unread.At k, is, refl)))
-    by_cause unread.NoRoom is = refl
-
--- a text that is refused as a flip refuses the words that gave it to `flip`
-refused_flip : (words : List Text) (text : Text) (f : Fault) → AsksAlone words (codes "flip") text → IsFlipReadAs text (Err f) → IsRefusedCommandLine words f
-refused_flip words text f asks h = refusal_by_cause (IsFlipRead text) (IsRefusedCommandLine words) by_cause f h
-  where
-    by_cause : (cause : Unread) → IsFlipRead text (Err cause) → IsRefusedCommandLine words (fault_of_unread cause)
-    by_cause unread.TooLarge is = inr (inr (text, asks, (unread.TooLarge, is, refl)))
-    by_cause (unread.At k) is = inr (inr (text, asks, (unread.At k, is, refl)))
-    by_cause unread.NoRoom is = absurd is
+refused words command text after skip f takes asks h = inl (command, text, after, skip, takes, asks, h.0, h.1)
 
 pub returns-in_err-graph-in-Names : goal.returns-in_err-graph-in-Names
 returns-in_err-graph-in-Names c =
@@ -64,12 +39,12 @@ pub returns-in_err-graph-in-Save : goal.returns-in_err-graph-in-Save
 returns-in_err-graph-in-Save c =
     let p = err_from_is_err_and c.from_residual-in_err-graph-in-Save.result c.from_residual-in_err-graph-in-Save.ensures.1 in
     let asks = subst (EntersSubcommand (map string_bytes c.args.words.now)) c.in-Save.is c.in_ok-values.ensures in
-    rw (p.1, p.2) (refused_alone _ c.in-Save.text.now _ asks
+    rw (p.1, p.2) (faults_here _ (IsExpressionRead c.in-Save.text.now) (λ f h. inr (inl (c.in-Save.text.now, asks, h))) _
     (subst (λ (text : Text). IsReadAs text (Err c.in_err-graph-in-Save.field-0.0)) c.as_bytes.ensures.value c.in_err-graph-in-Save.ensures.read))
 
 pub returns-in_err-params-in-Flip : goal.returns-in_err-params-in-Flip
 returns-in_err-params-in-Flip c =
     let p = err_from_is_err_and c.from_residual-in_err-params-in-Flip.result c.from_residual-in_err-params-in-Flip.ensures.1 in
     let asks = subst (EntersSubcommand (map string_bytes c.args.words.now)) c.in-Flip.is c.in_ok-values.ensures in
-    rw (p.1, p.2) (refused_flip _ c.in-Flip.text.now _ asks
+    rw (p.1, p.2) (faults_here _ (IsFlipRead c.in-Flip.text.now) (λ f h. inr (inr (c.in-Flip.text.now, asks, h))) _
     (subst (λ (text : Text). IsFlipReadAs text (Err c.in_err-params-in-Flip.field-0.0)) c.as_bytes-in-Flip.ensures.value c.in_err-params-in-Flip.ensures.read))

@@ -1,8 +1,12 @@
-use Rattle.std.proofs.Common.{sym, ap, ◌∙◌, ◌-◌, ◌<◌, arith}
+use Rattle.std.proofs.Common.{sym, ap, subst, ◌∙◌, ◌-◌, ◌<◌, Option, Err, arith}
 use Rattle.std.proofs.lemmas.Result.{err_from_is_err_and}
+use Rattle.sgb_graph.specs.declared.fields.Vertex.{Vertex}
+use Rattle.sgb_file.specs.Fields.{Found}
+use Rattle.sgb_file.specs.inner.Found.{IsFoundBy}
 use Rattle.sgb_file.specs.inner.LinesLeft.{text_left}
 use Rattle.sgb_file.specs.inner.Reading.{with_vertices}
 use Rattle.sgb_file.specs.Records.{vertex_record_at}
+use Rattle.sgb_file.proofs.FoundSteps.{vertex_steps}
 use Rattle.sgb_file.proofs.Sections.{next_vertex, next_stops, vertices_read}
 use Rattle.sgb_file.proofs.reading.sections.read_vertices.Goals as goal
 
@@ -12,7 +16,8 @@ returns-in_err-read_vertex-clause-found c =
     let head = c.args.head.now in
     let count = ap (λ h. h.counts.vertices) c.head-inside.view_is ∙ ap (λ h. h.counts.vertices) c.head.view_is in
     rw (p.1, p.2) (next_stops (vertex_record_at head) (with_vertices c.loop-v.parts) head.counts.vertices c.loop-v._v _ c.in_err-read_vertex.field-0.0 (text_left c.loop-v.lines) (text_left c.read_vertex.new.lines) (text_left c.read_vertex.new.lines)
-    (omega (arith, count, c.loop-v-test.true)) c.loop-v.invariant.0 c.in_err-read_vertex.ensures.err)
+    (omega (arith, count, c.loop-v-test.true)) c.loop-v.invariant.0
+    (subst (λ (o : Option (Found Vertex)). IsFoundBy {X = Vertex} o (Err c.in_err-read_vertex.field-0.0) (text_left c.read_vertex.new.lines)) (sym (vertex_steps head (text_left c.loop-v.lines))) c.in_err-read_vertex.ensures.err))
 
 pub loop-v-preserved : goal.loop-v-preserved
 loop-v-preserved c =

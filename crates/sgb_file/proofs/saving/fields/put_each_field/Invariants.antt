@@ -1,8 +1,7 @@
 use Rattle.std.proofs.Common.{drop}
-use Rattle.sgb_file.specs.inner.Layouts.{stage}
+use Rattle.sgb_file.specs.inner.Layouts.{LinesSoFar, stage}
 use Rattle.sgb_file.specs.Saving.{laid_out, pieces_of}
 use Rattle.sgb_file.proofs.FieldTexts.{texts_of}
-use Rattle.sgb_file.proofs.LaidLines.{LinesSoFar}
 use Rattle.sgb_file.proofs.saving.fields.put_each_field.Given as goal
 
 -- the lines of the fields from this place on are left
