@@ -92,16 +92,15 @@ listing_refused f resume p refused board (inl h) = board h.0 h.1
 listing_refused f resume p refused board (inr h) = names_refused f p refused board (inr h)
 
 -- its listing begins nowhere
-pub listing_begun : {T : Type 0} (f : Generator) (resume : Resume) (l m : Local) (r : Result T Fault) → m ≡ l → IsLocalOf (generator_value f) (Ok l)
+pub listing_begun : {T : Type 0} (f : Generator) (resume : Resume) (l : Local) (r : Result T Fault) → IsLocalOf (generator_value f) (Ok l)
     → ((code : Panic) → IsGeneratorRefused f code → Ok l ≡ Err code)
-    → (left_out (names_of (graph_described (described m))) resume ≡ Err fault.NoVertex → r ≡ Err fault.NoVertex)
+    → (left_out (names_of (graph_described (described l))) resume ≡ Err fault.NoVertex → r ≡ Err fault.NoVertex)
     → HasListingAtOnce f resume → IfErr r (λ g. g ≢ fault.Panic NoRoom)
-listing_begun {T = T} f resume l m r alike is refused nowhere (inl (p, same, from)) =
+listing_begun {T = T} f resume l r is refused nowhere (inl (p, same, from)) =
     let value : made (generator_value (generator.Board p)) ≡ Ok (graph_described (described l)) = ap made (ap generator_value (sym same) ∙ is) in
-    let none = subst (λ (x : Local). left_out (names_of (graph_described (described x))) resume ≡ Err fault.NoVertex) (sym alike) (from (graph_described (described l)) value) in
-    let ended = nowhere none in
+    let ended = nowhere (from (graph_described (described l)) value) in
     subst (λ (x : Result T Fault). IfErr x (λ g. g ≢ fault.Panic NoRoom)) (sym ended) (λ e. cc)
-listing_begun f resume l m r alike is refused nowhere (inr h) =
+listing_begun f resume l r is refused nowhere (inr h) =
     let none = refused h.0 h.1 in
     absurd cc
 

@@ -55,7 +55,5 @@ pub mod Refusals
 pub mod ResumedListings
 -- what answers depend on of standard input
 pub mod StdinValues
--- the vectors where arcs lead
-pub mod TipWidths
 -- values of expressions
 pub mod Values

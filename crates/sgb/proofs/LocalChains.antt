@@ -1,37 +1,19 @@
--- The lists of a generator's graph, by the arcs of its vectors.
+-- The lists of a graph of vectors, by the arcs of its vectors.
 use Rattle.std.proofs.Common.{◌≡◌, ◌∙◌, ◌<◌, ℕ, suc, Bool, true, false, min, max, List, [], ◌∷◌, length, map, get_or, Some, refl, sym, ap, ap₂, subst, arith}
 use Rattle.std.specs.List.{All, Contains, slice_get}
 use Rattle.std.proofs.lemmas.List.Elements.{All-cons, All-nil}
 use Rattle.std.proofs.lemmas.Option.{get_or_from_slice_get, slice_get-get_or, slice_get_within}
 use Rattle.sgb_vec.specs.Lexicographic.{IsRising}
-use Rattle.sgb_vec.proofs.FamilyLaws.{box_vectors_rise, sum_vectors_rise}
 use Rattle.sgb_vec.proofs.Lists.{All-flat_map}
 use Rattle.sgb_graph.specs.Events.{Event, HasEndsBelow, Record, all_records, list_of, records_of}
 use Rattle.sgb_graph.specs.Graphs.{GraphData, chain_of}
 use Rattle.sgb_graph.specs.Made.{graph_described}
 use Rattle.sgb_graph.specs.declared.fields.Link.{Link}
 use Rattle.sgb_graph.proofs.ListMembers.{only_on_list}
-use Rattle.sgb_gen.specs.Boards.{board_graph, board_id, board_vectors, moves_of_board}
-use Rattle.sgb_gen.specs.LocalLists.{LocalArc, list_at, local_arc}
-use Rattle.sgb_gen.specs.Simplexes.{moves_of_simplex, simplex_graph, simplex_id, simplex_vectors}
-use Rattle.sgb_gen.specs.Subsets.{moves_of_subsets, subsets_graph, subsets_id, subsets_vectors}
-use Rattle.sgb_gen.specs.VectorGraphs.{Move, event_among, vertex_among}
-use Rattle.sgb_gen.proofs.ListsOfBoards.{ends_on_board}
-use Rattle.sgb_gen.proofs.MoveLists.{HasEnds}
+use Rattle.sgb_gen.specs.LocalLists.{LocalArc, list_at, list_in, local_arc}
+use Rattle.sgb_gen.specs.VectorGraphs.{HasEnds, Move, VectorGraph, described_by, event_among, vertex_among}
 use Rattle.sgb_gen.proofs.RisingVectors.{vertex_in_rising}
-use Rattle.sgb_gen.proofs.SimplexLists.{ends_in_simplex}
-use Rattle.sgb_gen.proofs.SubsetsLists.{moves_have_ends}
-use Rattle.sgb.specs.Locals.{links_of, vectors_of}
-use Rattle.sgb.specs.Values.{described}
-use Rattle.sgb.specs.declared.locals.Local.{Local}
-use Rattle.sgb.specs.declared.locals.Local.TheVariants as local
-use Rattle.sgb.proofs.LocalListings.{events_within, lists_of_family}
-
--- the vectors of a generator's graph rise, so that each stands once
-pub rising_vectors : (l : Local) → IsRising (vectors_of l)
-rising_vectors (local.Board b) = box_vectors_rise b.sizes
-rising_vectors (local.Simplex s) = sum_vectors_rise s.sum
-rising_vectors (local.Subsets s) = sum_vectors_rise s.sum
+use Rattle.sgb.proofs.LocalListings.{events_within, lists_of_graph}
 
 -- the arcs of events between vertices lead to vertices
 tips_of_event : (n : ℕ) (directed : Bool) (e : Event) → HasEndsBelow n e → All (λ r. r.tip < n) (records_of directed e)
@@ -79,7 +61,7 @@ pub record SayList (vectors : List (List ℕ)) (arcs : List LocalArc) (chain : L
   pub tips : map (λ (a : LocalArc). vertex_among vectors a.tip) arcs ≡ map (λ (l : Link). l.tip) chain
   pub lengths : map (λ (a : LocalArc). a.len) arcs ≡ map (λ (l : Link). l.len) chain
 
-module _ (id : List ℕ) (directed : Bool) (vectors : List (List ℕ)) (moves : List Move) (rise : IsRising vectors) (ends : All (HasEnds vectors) moves)
+module _ (directed : Bool) (vectors : List (List ℕ)) (moves : List Move) (rise : IsRising vectors) (ends : All (HasEnds vectors) moves)
     (g : GraphData) (lists : (v : ℕ) → v < length vectors → chain_of g v ≡ list_of directed (map (event_among vectors) moves) v) where
   say_list : (v : ℕ) (x : List ℕ) → slice_get vectors v ≡ Some x → SayList vectors (list_at directed vectors moves x) (chain_of g v)
   unfolding list_at
@@ -100,22 +82,7 @@ module _ (id : List ℕ) (directed : Bool) (vectors : List (List ℕ)) (moves : 
             ∙ ap (map (λ (l : Link). l.len)) (sym chain);
       }
 
-pub chain_said : (l : Local) (v : ℕ) (x : List ℕ) → slice_get (vectors_of l) v ≡ Some x → SayList (vectors_of l) (links_of l x) (chain_of (graph_described (described l)) v)
-unfolding moves_of_simplex
-chain_said (local.Board b) v x there =
-    let rise = box_vectors_rise b.sizes in
-    say_list (board_id b) b.directed (board_vectors b) (moves_of_board b) rise (ends_on_board b) (graph_described (board_graph b))
-    (lists_of_family (board_id b) b.directed (board_vectors b) (moves_of_board b) rise (ends_on_board b)) v x there
-chain_said (local.Simplex s) v x there =
-    let rise = sum_vectors_rise s.sum in
-    say_list (simplex_id s) s.directed (simplex_vectors s) (moves_of_simplex s) rise (ends_in_simplex s) (graph_described (simplex_graph s))
-    (lists_of_family (simplex_id s) s.directed (simplex_vectors s) (moves_of_simplex s) rise (ends_in_simplex s)) v x there
-chain_said (local.Subsets s) v x there =
-    let rise = sum_vectors_rise s.sum in
-    say_list (subsets_id s) s.directed (subsets_vectors s) (moves_of_subsets s) rise (moves_have_ends s) (graph_described (subsets_graph s))
-    (lists_of_family (subsets_id s) s.directed (subsets_vectors s) (moves_of_subsets s) rise (moves_have_ends s)) v x there
-
--- the place of a member is its vertex
-pub place_is_vertex : (l : Local) (members : List (List ℕ)) (place : ℕ) (x : List ℕ) → members ≡ vectors_of l → slice_get members place ≡ Some x → place ≡ vertex_among (vectors_of l) x
-place_is_vertex l members place x same at =
-    sym (vertex_in_rising (vectors_of l) place x (rising_vectors l) (ap (λ ms. slice_get ms place) (sym same) ∙ at))
+pub chain_said : (g : VectorGraph) → IsRising g.vectors → All (HasEnds g.vectors) g.moves → (v : ℕ) (x : List ℕ) → slice_get g.vectors v ≡ Some x
+    → SayList g.vectors (list_in g x) (chain_of (graph_described (described_by g)) v)
+chain_said g rise ends v x there =
+    say_list g.directed g.vectors g.moves rise ends (graph_described (described_by g)) (lists_of_graph g rise ends) v x there

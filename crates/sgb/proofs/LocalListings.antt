@@ -1,4 +1,4 @@
--- The listing of a generator's graph, from its vectors.
+-- The listing of a graph of vectors, from its vectors.
 use Rattle.std.proofs.Common.{◌≡◌, ◌∙◌, ◌+◌, ◌<◌, ℕ, zero, suc, ℤ, Bool, List, [], ◌∷◌, ◌++◌, length, map, drop, drop-cons, add-one, get_or, Some, Result, Ok, refl, sym, ap, ap₂, subst, arith, codes}
 use Rattle.std.specs.Fmt.{signed_decimal}
 use Rattle.std.specs.List.{All, Contains, flat_map, slice_get, slice_index_or}
@@ -7,7 +7,6 @@ use Rattle.std.proofs.lemmas.List.Elements.{All-map}
 use Rattle.std.proofs.lemmas.Option.{get_or_from_slice_get, slice_get_read, slice_get_within}
 use Rattle.sgb_vec.specs.Lexicographic.{IsRising}
 use Rattle.sgb_vec.specs.Names.{name_of_vector}
-use Rattle.sgb_vec.proofs.FamilyLaws.{box_vectors_rise, sum_vectors_rise}
 use Rattle.sgb_graph.specs.declared.fields.Link.{Link}
 use Rattle.sgb_vec.specs.declared.panics.Panic.{Panic}
 use Rattle.sgb_graph.specs.Descriptions.{Description, IsGraphOf}
@@ -15,29 +14,21 @@ use Rattle.sgb_graph.specs.Events.{HasEndsBelow, list_of}
 use Rattle.sgb_graph.specs.Graphs.{GraphData, chain_of}
 use Rattle.sgb_graph.specs.Made.{graph_described}
 use Rattle.sgb_graph.proofs.Described.{described_is, described_names}
-use Rattle.sgb_gen.specs.Boards.{board_graph, board_id, board_vectors, moves_of_board}
-use Rattle.sgb_gen.specs.LocalLists.{LocalArc, list_at, local_arc}
-use Rattle.sgb_gen.specs.Simplexes.{moves_of_simplex, simplex_graph, simplex_id, simplex_vectors}
-use Rattle.sgb_gen.specs.Subsets.{moves_of_subsets, subsets_graph, subsets_id, subsets_vectors}
-use Rattle.sgb_gen.specs.VectorGraphs.{Move, event_among, family_graph, fields_of_vector, vertex_among}
-use Rattle.sgb_gen.proofs.ListsOfBoards.{ends_on_board}
-use Rattle.sgb_gen.proofs.MoveLists.{HasEnds}
+use Rattle.sgb_gen.specs.LocalLists.{LocalArc, list_at, list_in, local_arc}
+use Rattle.sgb_gen.specs.VectorGraphs.{HasEnds, Move, VectorGraph, described_by, event_among, family_graph, fields_of_vector, vertex_among}
 use Rattle.sgb_gen.proofs.RisingVectors.{vertex_in_rising}
-use Rattle.sgb_gen.proofs.SimplexLists.{ends_in_simplex}
-use Rattle.sgb_gen.proofs.SubsetsLists.{moves_have_ends}
 use Rattle.sgb_ops.specs.Operands.{names_of}
-use Rattle.sgb.specs.Locals.{links_of, vectors_of}
 use Rattle.sgb.specs.inner.Locals.{local_block, local_line}
 use Rattle.sgb.specs.inner.Remaining.{IsRest}
 use Rattle.sgb.specs.Texts.{arc_line, block, blocks, head, head_text, name_line}
 use Rattle.sgb.specs.Outcomes.{answer_from, names_answer}
-use Rattle.sgb.specs.Values.{described, made}
+use Rattle.sgb.specs.Locals.{vectors_of}
+use Rattle.sgb.specs.Values.{described, made, vector_graph_of}
 use Rattle.sgb.specs.Writing.{IsEnded}
 use Rattle.sgb_file.specs.Devices.{Change}
 use Rattle.sgb_requests.specs.declared.faults.Fault.{Fault}
 use Rattle.sgb_requests.specs.declared.requests.Resume.{Resume}
 use Rattle.sgb.specs.declared.locals.Local.{Local}
-use Rattle.sgb.specs.declared.locals.Local.TheVariants as local
 use Rattle.sgb.proofs.Listings.{block-parts, blocks-first, blocks-none, five}
 
 -- the name at a place, or the empty one, is that of the vector there, or of the empty one
@@ -112,28 +103,33 @@ events_within vectors moves rise ends =
     All-map (HasEndsBelow (length vectors)) (event_among vectors) moves
     (λ k d within. let e = ends k d within in (vertex_within vectors (get_or moves k d).from rise e.0, vertex_within vectors (get_or moves k d).to rise e.1))
 
--- vectors, names and fields of a generator's graph
+-- a field for each name
 named_vectors : (vectors : List (List ℕ)) → length (map fields_of_vector vectors) ≡ length (map name_of_vector vectors)
 named_vectors vectors = length-map vectors fields_of_vector ∙ sym (length-map vectors name_of_vector)
 
--- the lists of the graph of moves between vectors
-pub lists_of_family : (id : List ℕ) (directed : Bool) (vectors : List (List ℕ)) (moves : List Move) → IsRising vectors → All (HasEnds vectors) moves
-    → (v : ℕ) → v < length vectors → chain_of (graph_described (family_graph id directed vectors moves)) v ≡ list_of directed (map (event_among vectors) moves) v
+-- the lists of the graph
+pub lists_of_graph : (g : VectorGraph) → IsRising g.vectors → All (HasEnds g.vectors) g.moves
+    → (v : ℕ) → v < length g.vectors → chain_of (graph_described (described_by g)) v ≡ list_of g.directed (map (event_among g.vectors) g.moves) v
 unfolding family_graph
-lists_of_family id directed vectors moves rise ends v within =
-    let d = family_graph id directed vectors moves in
-    let g = graph_described d in
-    let names : length (map name_of_vector vectors) ≡ length vectors = length-map vectors name_of_vector in
-    let inside : All (HasEndsBelow (length (map name_of_vector vectors))) (map (event_among vectors) moves) =
-    subst (λ n. All (HasEndsBelow n) (map (event_among vectors) moves)) (sym names) (events_within vectors moves rise ends) in
-    let is : IsGraphOf d g = described_is d inside (named_vectors vectors) in
-    let count : length g.vertices ≡ length vectors = sym (length-map g.vertices (λ x. x.name)) ∙ ap length is.names ∙ names in
+lists_of_graph g rise ends v within =
+    let d = described_by g in
+    let events = map (event_among g.vectors) g.moves in
+    let names : length (map name_of_vector g.vectors) ≡ length g.vectors = length-map g.vectors name_of_vector in
+    let inside : All (HasEndsBelow (length (map name_of_vector g.vectors))) events =
+    subst (λ n. All (HasEndsBelow n) events) (sym names) (events_within g.vectors g.moves rise ends) in
+    let is : IsGraphOf d (graph_described d) = described_is d inside (named_vectors g.vectors) in
+    let count : length (graph_described d).vertices ≡ length g.vectors = sym (length-map (graph_described d).vertices (λ x. x.name)) ∙ ap length is.names ∙ names in
     is.arcs.lists v (subst (λ n. v < n) (sym count) within)
 
 -- a block in parts
-pub local_block-parts : (l : Local) (x : List ℕ) (arcs : List LocalArc) → arcs ≡ links_of l x → local_block l x ≡ name_line (name_of_vector x) ++ flat_map local_line arcs
+pub local_block-parts : (g : VectorGraph) (x : List ℕ) (arcs : List LocalArc) → arcs ≡ list_in g x → local_block g x ≡ name_line (name_of_vector x) ++ flat_map local_line arcs
 unfolding local_block
-local_block-parts l x arcs same = ap (λ links. name_line (name_of_vector x) ++ flat_map local_line links) (sym same)
+local_block-parts g x arcs same = ap (λ links. name_line (name_of_vector x) ++ flat_map local_line links) (sym same)
+
+-- how many entries the vector has where the arc at a place leads
+pub tip_width : (n : ℕ) (arcs : List LocalArc) (i : ℕ) (arc : LocalArc) → All (λ (a : LocalArc). length a.tip ≡ n) arcs → slice_get arcs i ≡ Some arc → length arc.tip ≡ n
+tip_width n arcs i arc wide there =
+    subst (λ (a : LocalArc). length a.tip ≡ n) (get_or_from_slice_get arcs i arc arc there) (wide i arc (slice_get_within arcs i arc there))
 
 -- the line of the arc at a place stands before those after it
 pub lines-first : (arcs : List LocalArc) (i : ℕ) (arc : LocalArc) → slice_get arcs i ≡ Some arc → flat_map local_line (drop i arcs) ≡ local_line arc ++ flat_map local_line (drop (i + 1) arcs)
@@ -141,55 +137,49 @@ lines-first arcs i arc there =
     ap (flat_map local_line) (drop-cons arcs i arc (slice_get_within arcs i arc there) ∙ ap₂ (λ first k. first ∷ drop k arcs) (get_or_from_slice_get arcs i arc arc there) (sym (add-one i)))
 
 -- the vertices have the names of the vectors
-pub named_by_vectors : (l : Local) → names_of (graph_described (described l)) ≡ map name_of_vector (vectors_of l)
+pub named_by_vectors : (g : VectorGraph) → names_of (graph_described (described_by g)) ≡ map name_of_vector g.vectors
 unfolding family_graph
-named_by_vectors (local.Board b) = described_names (board_graph b) (named_vectors (board_vectors b))
-named_by_vectors (local.Simplex s) = described_names (simplex_graph s) (named_vectors (simplex_vectors s))
-named_by_vectors (local.Subsets s) = described_names (subsets_graph s) (named_vectors (subsets_vectors s))
+named_by_vectors g = described_names (described_by g) (named_vectors g.vectors)
 
 -- or of the members of a family that has those vectors
-pub named_by_members : (l : Local) (members : List (List ℕ)) → members ≡ vectors_of l → names_of (graph_described (described l)) ≡ map name_of_vector members
-named_by_members l members same = named_by_vectors l ∙ ap (map name_of_vector) (sym same)
+pub named_by_members : (g : VectorGraph) (members : List (List ℕ)) → members ≡ g.vectors → names_of (graph_described (described_by g)) ≡ map name_of_vector members
+named_by_members g members same = named_by_vectors g ∙ ap (map name_of_vector) (sym same)
+
+-- there are as many
+pub names_count : (g : VectorGraph) → length (names_of (graph_described (described_by g))) ≡ length g.vectors
+names_count g = ap length (named_by_vectors g) ∙ length-map g.vectors name_of_vector
 
 -- the names of a generator's vertices, from the members of its family
 pub named_local : {T : Type 0} (v : Result Description Panic) (l : Local) (members : List (List ℕ)) (resume : Resume) (same : Type 0) (out : Change) (r : Result T Fault)
     → v ≡ Ok (described l) → members ≡ vectors_of l → IsEnded (names_answer (map name_of_vector members) resume) same out r
-    → IsEnded (answer_from (made v) (λ g. names_answer (names_of g) resume)) same out r
+    → IsEnded (answer_from (made v) (λ d. names_answer (names_of d) resume)) same out r
 named_local {T = T} v l members resume same out r e vectors p =
-    subst (λ (u : Result Description Panic). IsEnded {T = T} (answer_from (made u) (λ g. names_answer (names_of g) resume)) same out r) (sym e)
-    (subst (λ (ns : List (List ℕ)). IsEnded {T = T} (names_answer ns resume) same out r) (sym (named_by_members l members vectors)) p)
-
--- the block of a vertex is that of its vector
-block_of_vector : (l : Local) (v : ℕ) (x : List ℕ) → slice_get (vectors_of l) v ≡ Some x → block (graph_described (described l)) v ≡ local_block l x
-unfolding local_block moves_of_simplex
-block_of_vector (local.Board b) v x there =
-    let rise = box_vectors_rise b.sizes in
-    block_there b.directed (board_vectors b) (moves_of_board b) rise (graph_described (board_graph b)) (named_by_vectors (local.Board b))
-    (lists_of_family (board_id b) b.directed (board_vectors b) (moves_of_board b) rise (ends_on_board b)) v x there
-block_of_vector (local.Simplex s) v x there =
-    let rise = sum_vectors_rise s.sum in
-    block_there s.directed (simplex_vectors s) (moves_of_simplex s) rise (graph_described (simplex_graph s)) (named_by_vectors (local.Simplex s))
-    (lists_of_family (simplex_id s) s.directed (simplex_vectors s) (moves_of_simplex s) rise (ends_in_simplex s)) v x there
-block_of_vector (local.Subsets s) v x there =
-    let rise = sum_vectors_rise s.sum in
-    block_there s.directed (subsets_vectors s) (moves_of_subsets s) rise (graph_described (subsets_graph s)) (named_by_vectors (local.Subsets s))
-    (lists_of_family (subsets_id s) s.directed (subsets_vectors s) (moves_of_subsets s) rise (moves_have_ends s)) v x there
+    subst (λ (u : Result Description Panic). IsEnded {T = T} (answer_from (made u) (λ d. names_answer (names_of d) resume)) same out r) (sym e)
+    (subst (λ (ns : List (List ℕ)). IsEnded {T = T} (names_answer ns resume) same out r) (sym (named_by_members (vector_graph_of l) members vectors)) p)
 
 -- the head of the graph
-pub head_of_local : (l : Local) (n m : ℕ) → n ≡ length (vectors_of l) → m ≡ (graph_described (described l)).m → head (graph_described (described l)) ≡ head_text (described l).id n m
-head_of_local l n m size arcs =
-    let names : length (names_of (graph_described (described l))) ≡ n = ap length (named_by_vectors l) ∙ length-map (vectors_of l) name_of_vector ∙ sym size in
-    ap₂ (λ i j. head_text (described l).id i j) names (sym arcs)
+id_told : (g : VectorGraph) → (described_by g).id ≡ g.id
+unfolding family_graph
+id_told g = refl
 
--- the blocks from a vertex on are those of the vectors that are left
-pub blocks_of_rest : (l : Local) (k : ℕ) (rest : List (List ℕ)) → rest ≡ drop k (vectors_of l) → blocks (graph_described (described l)) k ≡ flat_map (local_block l) rest
-blocks_of_rest l k [] left =
-    let count : length (names_of (graph_described (described l))) ≡ length (vectors_of l) = ap length (named_by_vectors l) ∙ length-map (vectors_of l) name_of_vector in
-    blocks-none (graph_described (described l)) k (omega (arith, count, ap length left, length-drop k (vectors_of l)))
-blocks_of_rest l k (x ∷ rest) left =
-    let g = graph_described (described l) in
-    let there : slice_get (vectors_of l) k ≡ Some x = sym (first_in_drop k (vectors_of l)) ∙ ap (λ xs. slice_get xs 0) (sym left) in
-    let within : k < length (names_of g) =
-    omega (arith, slice_get_within (vectors_of l) k x there, ap length (named_by_vectors l), length-map (vectors_of l) name_of_vector) in
-    let after : rest ≡ drop (k + 1) (vectors_of l) = ap (drop 1) left ∙ drop-drop 1 k (vectors_of l) in
-    blocks-first g k within ∙ ap₂ (λ text texts. text ++ texts) (block_of_vector l k x there) (blocks_of_rest l (k + 1) rest after)
+pub head_of_graph : (g : VectorGraph) (n m : ℕ) → n ≡ length g.vectors → m ≡ (graph_described (described_by g)).m → head (graph_described (described_by g)) ≡ head_text g.id n m
+head_of_graph g n m size arcs =
+    ap₂ (λ i j. head_text (described_by g).id i j) (names_count g ∙ sym size) (sym arcs)
+    ∙ ap (λ id. head_text id n m) (id_told g)
+
+module _ (g : VectorGraph) (rise : IsRising g.vectors) (ends : All (HasEnds g.vectors) g.moves) where
+  -- the block of a vertex is that of its vector
+  block_of_vector : (v : ℕ) (x : List ℕ) → slice_get g.vectors v ≡ Some x → block (graph_described (described_by g)) v ≡ local_block g x
+  unfolding local_block
+  block_of_vector v x there =
+      block_there g.directed g.vectors g.moves rise (graph_described (described_by g)) (named_by_vectors g) (lists_of_graph g rise ends) v x there
+
+  -- the blocks from a vertex on are those of the vectors that are left
+  pub blocks_of_rest : (k : ℕ) (rest : List (List ℕ)) → rest ≡ drop k g.vectors → blocks (graph_described (described_by g)) k ≡ flat_map (local_block g) rest
+  blocks_of_rest k [] left =
+      blocks-none (graph_described (described_by g)) k (omega (arith, names_count g, ap length left, length-drop k g.vectors))
+  blocks_of_rest k (x ∷ rest) left =
+      let there : slice_get g.vectors k ≡ Some x = sym (first_in_drop k g.vectors) ∙ ap (λ xs. slice_get xs 0) (sym left) in
+      let within : k < length (names_of (graph_described (described_by g))) = omega (arith, slice_get_within g.vectors k x there, names_count g) in
+      let after : rest ≡ drop (k + 1) g.vectors = ap (drop 1) left ∙ drop-drop 1 k g.vectors in
+      blocks-first (graph_described (described_by g)) k within ∙ ap₂ (λ text texts. text ++ texts) (block_of_vector k x there) (blocks_of_rest (k + 1) rest after)

@@ -1,26 +1,26 @@
 -- Where the answer to a request about a family begins.
-use Rattle.std.proofs.Common.{◌≡◌, ◌∙◌, ◌+◌, ◌<◌, ◌≤◌, min, ℕ, suc, List, Bool, true, false, length, map, drop, Option, Some, None, Result, inl, inr, refl, sym, ap, ap₂, subst, arith}
+use Rattle.std.proofs.Common.{◌≡◌, ◌∙◌, ◌+◌, ◌-◌, ◌<◌, ◌≤◌, min, ℕ, suc, List, Bool, true, false, length, map, drop, Option, Some, None, option_map, Result, Err, inl, inr, refl, sym, ap, subst, arith}
 use Rattle.std.specs.Bool.{OnTrue, OnFalse}
-use Rattle.std.specs.List.{flat_map, slice_get}
+use Rattle.std.specs.List.{slice_get}
+use Rattle.std.specs.Result.{MatchResult}
 use Rattle.std.proofs.lemmas.Bool.{cases_lt}
-use Rattle.std.proofs.lemmas.List.{drop_all}
+use Rattle.std.proofs.lemmas.List.{drop_all, length-drop}
 use Rattle.sgb_vec.specs.Lexicographic.{IsRising}
 use Rattle.sgb_vec.specs.Names.{name_of_vector}
+use Rattle.sgb_graph.specs.Graphs.{GraphData}
 use Rattle.sgb_graph.specs.Made.{graph_described}
-use Rattle.sgb_gen.specs.VectorGraphs.{vertex_among}
+use Rattle.sgb_gen.specs.VectorGraphs.{VectorGraph, described_by, vertex_among}
 use Rattle.sgb_gen.proofs.RisingVectors.{vertex_in_rising}
 use Rattle.sgb_ops.specs.Operands.{names_of}
-use Rattle.sgb.specs.Locals.{start_after, vectors_of}
+use Rattle.sgb.specs.Locals.{start_after}
 use Rattle.sgb.specs.Outcomes.{left_out}
 use Rattle.sgb.specs.Texts.{blocks}
-use Rattle.sgb.specs.Values.{described}
-use Rattle.sgb.specs.declared.locals.Local.{Local}
-use Rattle.sgb.specs.inner.Locals.{local_block}
 use Rattle.sgb.specs.inner.Remaining.{BeginsAfter, IsLastSkipped}
 use Rattle.sgb_requests.specs.declared.faults.Fault.{Fault}
 use Rattle.sgb_requests.specs.declared.requests.Resume.{Resume}
 use Rattle.sgb_requests.specs.declared.requests.Resume.TheVariants as resume
-use Rattle.sgb.proofs.LocalListings.{blocks_of_rest, contains_in_drop, first_in_drop, named_by_members}
+use Rattle.sgb.proofs.Listings.{blocks-none}
+use Rattle.sgb.proofs.LocalListings.{contains_in_drop, first_in_drop, named_by_vectors, names_count}
 
 -- nothing is left out of a list by a number that is its length at least
 pub all_skipped : (members : List (List ℕ)) (count n : ℕ) → n ≡ length members → n ≤ count → drop count members ≡ drop n members
@@ -36,25 +36,34 @@ skipped_begins members rising count (Some x) (k, there, same) =
     let here : slice_get (drop k members) 0 ≡ Some x = first_in_drop k members ∙ there in
     (contains_in_drop k members x here, (count, refl, same ∙ ap (λ j. drop (suc j) members) (sym place)))
 
--- the blocks are the same where the same vectors are left
-pub blocks_alike : (l : Local) (members : List (List ℕ)) (j k : ℕ) → members ≡ vectors_of l → drop j members ≡ drop k members
-    → blocks (graph_described (described l)) j ≡ blocks (graph_described (described l)) k
-blocks_alike l members j k same alike =
-    let left : drop j (vectors_of l) ≡ drop k (vectors_of l) = subst (λ ms. drop j ms ≡ drop k ms) same alike in
-    blocks_of_rest l j (drop j (vectors_of l)) refl ∙ ap (flat_map (local_block l)) left ∙ sym (blocks_of_rest l k (drop k (vectors_of l)) refl)
+-- where an answer begins is the same for the vectors that are the members
+pub begins_alike : {X : Type 0} (r : Result (Option X) Fault) (items : X → List ℕ) (resume : Resume) (members vectors : List (List ℕ)) → members ≡ vectors
+    → MatchResult r (λ start. BeginsAfter members resume (option_map items start)) (λ fault. left_out (map name_of_vector members) resume ≡ Err fault)
+    → MatchResult r (λ start. BeginsAfter vectors resume (option_map items start)) (λ fault. left_out (map name_of_vector vectors) resume ≡ Err fault)
+begins_alike r items resume members vectors same begins =
+    subst (λ vs. MatchResult r (λ start. BeginsAfter vs resume (option_map items start)) (λ fault. left_out (map name_of_vector vs) resume ≡ Err fault)) same begins
+
+-- the blocks are the same where as many are left
+blocks_alike : (g : GraphData) (n j k : ℕ) → length (names_of g) ≡ n → n - j ≡ n - k → blocks g j ≡ blocks g k
+blocks_alike g n j k count alike = elim (cases_lt j n) [
+  | inl less ↦
+      let same : j ≡ k = omega (arith, less, alike) in
+      ap (blocks g) same
+  | inr more ↦ blocks-none g j (omega (arith, count, more)) ∙ sym (blocks-none g k (omega (arith, count, more, alike)))
+]
 
 -- what is left out of the graph's names
-pub left_out_of_graph : (l : Local) (members : List (List ℕ)) (r : Resume) (a : Result ℕ Fault) → members ≡ vectors_of l → left_out (map name_of_vector members) r ≡ a
-    → a ≡ left_out (names_of (graph_described (described l))) r
-left_out_of_graph l members r a same e = sym (ap (λ ns. left_out ns r) (named_by_members l members same) ∙ e)
+pub left_out_of_graph : (g : VectorGraph) (r : Resume) (a : Result ℕ Fault) → left_out (map name_of_vector g.vectors) r ≡ a → a ≡ left_out (names_of (graph_described (described_by g))) r
+left_out_of_graph g r a e = sym (ap (λ ns. left_out ns r) (named_by_vectors g) ∙ e)
 
 -- the blocks after the vector where the listing begins are those that are not left out
-pub blocks_after : (l : Local) (members : List (List ℕ)) (k : ℕ) (start after : Option (List ℕ)) → members ≡ vectors_of l
-    → drop k members ≡ drop (start_after members start) members → after ≡ start
-    → blocks (graph_described (described l)) k ≡ blocks (graph_described (described l)) (start_after (vectors_of l) after)
-blocks_after l members k start after same alike is =
-    blocks_alike l members k (start_after members start) same alike
-    ∙ ap₂ (λ ms o. blocks (graph_described (described l)) (start_after ms o)) same (sym is)
+pub blocks_after : (g : VectorGraph) (k : ℕ) (start after : Option (List ℕ)) → drop k g.vectors ≡ drop (start_after g.vectors start) g.vectors → after ≡ start
+    → blocks (graph_described (described_by g)) k ≡ blocks (graph_described (described_by g)) (start_after g.vectors after)
+blocks_after g k start after alike is =
+    let from = start_after g.vectors start in
+    let left : length g.vectors - k ≡ length g.vectors - from = omega (arith, ap length alike, length-drop k g.vectors, length-drop from g.vectors) in
+    blocks_alike (graph_described (described_by g)) (length g.vectors) k from (names_count g) left
+    ∙ ap (λ o. blocks (graph_described (described_by g)) (start_after g.vectors o)) (sym is)
 
 -- the last of the first so many members, by its place, where there is such a place
 pub skipped_last : (members : List (List ℕ)) (count n skipped place : ℕ) (found : Bool) (v : List ℕ) → n ≡ length members → skipped ≡ min count n → 0 < skipped → place + 1 ≡ skipped

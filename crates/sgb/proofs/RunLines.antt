@@ -4,12 +4,11 @@ use Rattle.std.specs.List.{flat_map, range_with_len}
 use Rattle.std.proofs.lemmas.Grind.{flat_map-append}
 use Rattle.std.proofs.lemmas.List.{reverse-append}
 use Rattle.std.proofs.lemmas.List.FromFn.{map-range_with_len_more}
-use Rattle.sgb_gen.specs.LocalLists.{LocalArc}
+use Rattle.sgb_gen.specs.LocalLists.{LocalArc, list_in}
 use Rattle.sgb_gen.specs.Runs.{RunsData, arcs_along, arcs_of_run}
+use Rattle.sgb_gen.specs.VectorGraphs.{VectorGraph}
 use Rattle.sgb_vec.specs.Names.{name_of_vector}
-use Rattle.sgb.specs.Locals.{links_of}
 use Rattle.sgb.specs.Texts.{name_line}
-use Rattle.sgb.specs.declared.locals.Local.{Local}
 use Rattle.sgb.specs.inner.Locals.{local_block, local_line}
 use Rattle.sgb.proofs.LocalListings.{local_block-parts}
 
@@ -61,6 +60,6 @@ run-lines old new name ahead back n m left named arcs =
     (subst (λ (x : List ℕ). old.arcs ≡ (reverse (arcs_along new.sizes new.wrap x ahead n) ++ arcs_along new.sizes new.wrap x back m) ++ new.arcs) same own)
 
 -- a block in parts, by the vector whose name is kept
-pub parts-named : (l : Local) (x name : List ℕ) (arcs : List LocalArc) → arcs ≡ links_of l x → name ≡ x → local_block l x ≡ name_line (name_of_vector name) ++ flat_map local_line arcs
-parts-named l x name arcs same named =
-    local_block-parts l x arcs same ∙ ap (λ w. name_line (name_of_vector w) ++ flat_map local_line arcs) (sym named)
+pub parts-named : (g : VectorGraph) (x name : List ℕ) (arcs : List LocalArc) → arcs ≡ list_in g x → name ≡ x → local_block g x ≡ name_line (name_of_vector name) ++ flat_map local_line arcs
+parts-named g x name arcs same named =
+    local_block-parts g x arcs same ∙ ap (λ w. name_line (name_of_vector w) ++ flat_map local_line arcs) (sym named)

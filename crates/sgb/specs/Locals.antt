@@ -1,18 +1,13 @@
 -- A generator's graph by its accepted parameters, and its listing from its vectors, one list of arcs at a time.
 use Rattle.std.specs.Prelude.{◌≡◌, ◌⊎◌, ℕ, suc, Bool, true, false, Option, Some, None, Result, Ok, Err, List, [], ◌++◌}
-use Rattle.sgb_gen.specs.Boards.{board_vectors, moves_of_board}
-use Rattle.sgb_gen.specs.LocalLists.{LocalArc, list_at}
-use Rattle.sgb_gen.specs.Simplexes.{moves_of_simplex, simplex_vectors}
-use Rattle.sgb_gen.specs.Subsets.{moves_of_subsets, subsets_vectors}
 use Rattle.sgb_gen.specs.VectorGraphs.{vertex_among}
 use Rattle.sgb_graph.specs.Descriptions.{Description}
 use Rattle.sgb_graph.specs.Graphs.{GraphData}
 use Rattle.sgb_vec.specs.declared.panics.Panic.{Panic}
 use Rattle.sgb_vec.specs.declared.panics.Panic.TheVariants.{NoRoom}
 use Rattle.sgb.specs.Texts.{blocks, head}
-use Rattle.sgb.specs.Values.{described}
+use Rattle.sgb.specs.Values.{described, vector_graph_of}
 use Rattle.sgb.specs.declared.locals.Local.{Local}
-use Rattle.sgb.specs.declared.locals.Local.TheVariants as local
 
 -- the accepted parameters of a graph, or its refusal, or out of memory
 abbrev pub IsLocalOf : Result Description Panic → Result Local Panic → Type 0
@@ -21,15 +16,7 @@ IsLocalOf value (Err p) = (value ≡ Err p) ⊎ (p ≡ NoRoom)
 
 -- the vectors that are the vertices
 abbrev pub vectors_of : Local → List (List ℕ)
-vectors_of (local.Board b) = board_vectors b
-vectors_of (local.Simplex s) = simplex_vectors s
-vectors_of (local.Subsets s) = subsets_vectors s
-
--- the arcs of a vector, in the order of its list
-abbrev pub links_of : Local → List ℕ → List LocalArc
-links_of (local.Board b) x = list_at b.directed (board_vectors b) (moves_of_board b) x
-links_of (local.Simplex s) x = list_at s.directed (simplex_vectors s) (moves_of_simplex s) x
-links_of (local.Subsets s) x = list_at s.directed (subsets_vectors s) (moves_of_subsets s) x
+vectors_of l = (vector_graph_of l).vectors
 
 -- how many first vertices have no block: those up to the vector after which the listing begins, or none
 abbrev pub start_after : List (List ℕ) → Option (List ℕ) → ℕ

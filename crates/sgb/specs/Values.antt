@@ -8,9 +8,10 @@ use Rattle.sgb_graph.specs.Descriptions.{Description}
 use Rattle.sgb_graph.specs.Graphs.{GraphData}
 use Rattle.sgb_graph.specs.Made.{graph_described}
 use Rattle.sgb_file.specs.Restoring.{graph_of_text}
-use Rattle.sgb_gen.specs.Boards.{board, board_graph}
-use Rattle.sgb_gen.specs.Simplexes.{simplex, simplex_graph}
-use Rattle.sgb_gen.specs.Subsets.{subsets, subsets_graph}
+use Rattle.sgb_gen.specs.Boards.{board, board_vector_graph}
+use Rattle.sgb_gen.specs.Simplexes.{simplex, simplex_vector_graph}
+use Rattle.sgb_gen.specs.Subsets.{subsets, subsets_vector_graph}
+use Rattle.sgb_gen.specs.VectorGraphs.{VectorGraph, described_by}
 use Rattle.sgb_ops.specs.Complement.{complement_of}
 use Rattle.sgb_ops.specs.Gunion.{gunion_of}
 use Rattle.sgb_ops.specs.Intersection.{intersection_of}
@@ -83,8 +84,12 @@ abbrev mutual
   values_of input NoEntries = Ok []
   values_of input (EntryThen first others) = and_then (both (entry_value input first) (values_of input others)) (λ p. Ok (p.0 ∷ p.1))
 
+-- the graph of accepted parameters, as one of vectors
+abbrev pub vector_graph_of : Local → VectorGraph
+vector_graph_of (local.Board b) = board_vector_graph b
+vector_graph_of (local.Simplex s) = simplex_vector_graph s
+vector_graph_of (local.Subsets s) = subsets_vector_graph s
+
 -- the graph of accepted parameters
 abbrev pub described : Local → Description
-described (local.Board b) = board_graph b
-described (local.Simplex s) = simplex_graph s
-described (local.Subsets s) = subsets_graph s
+described l = described_by (vector_graph_of l)

@@ -10,8 +10,6 @@ mod evaluation;
 mod input;
 // What holds of all answers.
 mod laws;
-// What a listing asks of a generator's graph, with no graph.
-mod listed;
 // Accepted parameters of a generator.
 mod locals;
 // A call of the program: from its words to its exit status.
@@ -25,7 +23,6 @@ pub use answers::{Answer, run_answer};
 pub use evaluation::graph_of;
 pub use input::read_input;
 pub use laws::{input_unread_law, run_endings_law};
-pub use listed::{Listed, ListedBoard, ListedSimplex, ListedSubsets};
 pub use locals::{Local, local_of};
 pub use program::{run_program, unread_fault};
 pub use runs::run;

@@ -16,7 +16,6 @@ ghost use Rattle.sgb.specs.Writing.{IsEnded};
 
 use crate::answers::{Answer, run_answer};
 use crate::evaluation::{graph_from, queen_moves};
-use crate::listed::{ListedBoard, ListedSimplex, ListedSubsets};
 use crate::locals::{Local, local_of};
 use crate::writing::files::write_file;
 use crate::writing::flips::write_flip;
@@ -191,20 +190,7 @@ fn answer_generator_list<W: Sink>(
 {
     let local = local_of(alloc, generator)?;
     let mut links = Links::new(alloc);
-    match &local {
-        Local::Board(board) => {
-            let mut listed = ListedBoard::new(board, &links);
-            list_resumed(&mut listed, board.family(), resume, &mut links, out)
-        }
-        Local::Simplex(simplex) => {
-            let mut listed = ListedSimplex { simplex };
-            list_resumed(&mut listed, simplex.family(), resume, &mut links, out)
-        }
-        Local::Subsets(subsets) => {
-            let mut listed = ListedSubsets { subsets };
-            list_resumed(&mut listed, subsets.family(), resume, &mut links, out)
-        }
-    }
+    list_resumed(&local, resume, &mut links, out)
 }
 
 // Writes the `.gb` file of an expression's graph.

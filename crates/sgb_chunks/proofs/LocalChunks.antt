@@ -2,25 +2,24 @@
 use Rattle.std.proofs.Common.{◌≡◌, ◌⊎◌, ◌∙◌, ℕ, suc, ◌+◌, ◌-◌, ◌<◌, ◌≤◌, Bool, true, false, List, [], ◌∷◌, ◌++◌, append_assoc, length, map, drop, drop-cons, add-one, None, Some, refl, sym, ap, ap₂, subst, inl, inr, arith}
 use Rattle.std.specs.Prelude.{Option, IfNone, IfSome, IsSome, Result, Ok, Err, IfOk, IfErr}
 use Rattle.std.specs.Bool.{OnTrue, OnFalse}
-use Rattle.std.specs.List.{Contains, slice_get, slice_index_or}
+use Rattle.std.specs.List.{All, Contains, slice_get, slice_index_or}
 use Rattle.std.proofs.lemmas.List.{append-nil, drop-drop, get_or-map, length-drop, length-map}
 use Rattle.std.proofs.lemmas.Option.{get_or_from_slice_get, slice_get_within}
 use Rattle.sgb_vec.specs.Lexicographic.{IsRising}
 use Rattle.sgb_vec.specs.Ranges.{ComeAfter}
 use Rattle.sgb_vec.specs.Names.{name_of_vector}
-use Rattle.sgb_gen.specs.VectorGraphs.{vertex_among}
+use Rattle.sgb_gen.specs.VectorGraphs.{HasEnds, VectorGraph, described_by, vertex_among}
 use Rattle.sgb_gen.proofs.RisingVectors.{vertex_in_rising}
-use Rattle.sgb_gen.specs.LocalLists.{LocalArc}
-use Rattle.sgb_graph.specs.Graphs.{chain_of}
+use Rattle.sgb_gen.specs.LocalLists.{LocalArc, list_in}
+use Rattle.sgb_graph.specs.Graphs.{GraphData, chain_of}
 use Rattle.sgb_graph.specs.Made.{graph_described}
 use Rattle.sgb_ops.specs.Operands.{names_of}
-use Rattle.sgb.specs.Locals.{links_of, vectors_of}
-use Rattle.sgb.specs.Values.{described}
+use Rattle.sgb.specs.Locals.{vectors_of}
+use Rattle.sgb.specs.Values.{described, vector_graph_of}
 use Rattle.sgb.specs.declared.locals.Local.{Local}
 use Rattle.sgb.proofs.LocalListings.{first_in_drop, named_by_members}
 use Rattle.sgb.proofs.LocalChains.{SayList, chain_said}
 use Rattle.sgb.proofs.NamedMembers.{rest_from}
-use Rattle.sgb.proofs.TipWidths.{tip_member}
 use Rattle.sgb_chunks.specs.Chunks.{AreChunkNames, IsChunkRefusal, IsThere, chunk_of, chunk_starts}
 use Rattle.sgb_chunks.specs.inner.VectorNames.{name_there}
 use Rattle.sgb_chunks.specs.declared.names.ChunkNames.{ChunkNames}
@@ -29,20 +28,18 @@ use Rattle.sgb_requests.specs.declared.faults.Fault.TheVariants as fault
 use Rattle.sgb_vec.specs.declared.panics.Panic.TheVariants.{NoRoom}
 
 -- the graph has a vertex for each member
-pub vertices_are_members : (l : Local) (members : List (List ℕ)) → members ≡ vectors_of l → length (graph_described (described l)).vertices ≡ length members
-vertices_are_members l members same =
-    sym (length-map (graph_described (described l)).vertices (λ x. x.name)) ∙ ap length (named_by_members l members same) ∙ length-map members name_of_vector
+pub vertices_are_members : (g : VectorGraph) (members : List (List ℕ)) → members ≡ g.vectors → length (graph_described (described_by g)).vertices ≡ length members
+vertices_are_members g members same =
+    sym (length-map (graph_described (described_by g)).vertices (λ x. x.name)) ∙ ap length (named_by_members g members same) ∙ length-map members name_of_vector
 
 -- the first of the members from a place on stands there
-pub first_from : (members vectors left : List (List ℕ)) (place : ℕ) (x : List ℕ) → members ≡ vectors → left ≡ drop place members → slice_get left 0 ≡ Some x
-    → slice_get vectors place ≡ Some x
-first_from members vectors left place x same from first =
-    ap (λ ms. slice_get ms place) (sym same) ∙ sym (first_in_drop place members) ∙ ap (λ ms. slice_get ms 0) (sym from) ∙ first
+pub first_from : (members left : List (List ℕ)) (place : ℕ) (x : List ℕ) → left ≡ drop place members → slice_get left 0 ≡ Some x → slice_get members place ≡ Some x
+first_from members left place x from first = sym (first_in_drop place members) ∙ ap (λ ms. slice_get ms 0) (sym from) ∙ first
 
 -- its size is theirs
 pub size_of_local : (now l : Local) (members : List (List ℕ)) (size : ℕ) → now ≡ l → members ≡ vectors_of l → size ≡ length members → size ≡ length (graph_described (described now)).vertices
 size_of_local now l members size is same all =
-    all ∙ sym (vertices_are_members l members same) ∙ ap (λ m. length (graph_described (described m)).vertices) (sym is)
+    all ∙ sym (vertices_are_members (vector_graph_of l) members same) ∙ ap (λ m. length (graph_described (described m)).vertices) (sym is)
 
 -- the members after the one before a place are those from there on
 pub rest_from_place : (members : List (List ℕ)) → IsRising members → (place : ℕ) (x y : List ℕ) (found : Bool) (r : Option (List (List ℕ))) (rest : List (List ℕ))
@@ -85,23 +82,25 @@ left_after members left after first k from one =
     let next : first + k + 1 ≡ first + (k + 1) = omega arith in
     one ∙ ap (drop 1) from ∙ drop-drop 1 (first + k) members ∙ ap (λ i. drop i members) next
 
--- what stands at a place is among the vectors, of the same parameters
-pub contained : (l m : Local) (place : ℕ) (x : List ℕ) → m ≡ l → slice_get (vectors_of l) place ≡ Some x → Contains (vectors_of m) x
-contained l m place x same there =
-    subst (λ q. Contains (vectors_of q) x) (sym same) (place, slice_get_within (vectors_of l) place x there, get_or_from_slice_get (vectors_of l) place x x there)
+-- what stands at a place is among the vectors, of the same graph
+pub contained : (g h : VectorGraph) (place : ℕ) (x : List ℕ) → h ≡ g → slice_get g.vectors place ≡ Some x → Contains h.vectors x
+contained g h place x same there =
+    subst (λ (q : VectorGraph). Contains q.vectors x) (sym same) (place, slice_get_within g.vectors place x there, get_or_from_slice_get g.vectors place x x there)
 
 -- the arcs of a vector lead to vectors
-pub tips_contained : (m n : Local) (x : List ℕ) (arcs : List LocalArc) → n ≡ m → arcs ≡ links_of m x → Contains (vectors_of m) x
-    → (k : ℕ) (arc : LocalArc) → slice_get arcs k ≡ Some arc → Contains (vectors_of n) arc.tip
-tips_contained m n x arcs same is member k arc there =
-    subst (λ q. Contains (vectors_of q) arc.tip) (sym same) (tip_member m x k arc member (ap (λ links. slice_get links k) (sym is) ∙ there))
+pub tips_contained : (g h : VectorGraph) (arcs : List LocalArc) → h ≡ g → All (λ (a : LocalArc). Contains g.vectors a.tip) arcs
+    → (k : ℕ) (arc : LocalArc) → slice_get arcs k ≡ Some arc → Contains h.vectors arc.tip
+tips_contained g h arcs same tips k arc there =
+    subst (λ (q : VectorGraph). Contains q.vectors arc.tip) (sym same)
+    (subst (λ (a : LocalArc). Contains g.vectors a.tip) (get_or_from_slice_get arcs k arc arc there) (tips k arc (slice_get_within arcs k arc there)))
 
 -- and say the list of its vertex
-pub row_said : (l n : Local) (place : ℕ) (x : List ℕ) (arcs : List LocalArc) → n ≡ l → arcs ≡ links_of l x → slice_get (vectors_of l) place ≡ Some x
-    → SayList (vectors_of n) arcs (chain_of (graph_described (described l)) place)
-row_said l n place x arcs same is there =
-    let chain = chain_of (graph_described (described l)) place in
-    subst (λ q. SayList (vectors_of q) arcs chain) (sym same) (subst (λ links. SayList (vectors_of l) links chain) (sym is) (chain_said l place x there))
+pub row_said : (g h : VectorGraph) (members : List (List ℕ)) → IsRising members → members ≡ g.vectors → All (HasEnds g.vectors) g.moves → (place : ℕ) (x : List ℕ) (arcs : List LocalArc) → h ≡ g
+    → arcs ≡ list_in g x → slice_get g.vectors place ≡ Some x → SayList h.vectors arcs (chain_of (graph_described (described_by g)) place)
+row_said g h members rise vectors ends place x arcs same is there =
+    let chain = chain_of (graph_described (described_by g)) place in
+    let rising : IsRising g.vectors = subst IsRising vectors rise in
+    subst (λ (q : VectorGraph). SayList q.vectors arcs chain) (sym same) (subst (λ links. SayList g.vectors links chain) (sym is) (chain_said g rising ends place x there))
 
 -- the name of the vector at a place
 pub name_is_there : (members : List (List ℕ)) (place : ℕ) (x : List ℕ) → slice_get members place ≡ Some x → name_of_vector x ≡ name_there members place
@@ -114,19 +113,18 @@ pub names_of_chunk : (now l : Local) (members : List (List ℕ)) (first count : 
     → IsThere (graph_described (described now)) first count × AreChunkNames (graph_described (described now)) first count begins text
 names_of_chunk now l members first count begins text is same (within, starts, bytes) =
     subst (λ m. IsThere (graph_described (described m)) first count × AreChunkNames (graph_described (described m)) first count begins text) (sym is) (
-      omega (arith, vertices_are_members l members same, within),
+      omega (arith, vertices_are_members (vector_graph_of l) members same, within),
       record {
-        starts = starts ∙ ap (λ names. chunk_starts (λ v. slice_index_or names v []) first count) (sym (named_by_members l members same));
-        bytes = bytes ∙ ap (λ names. chunk_of (λ v. slice_index_or names v []) first count) (sym (named_by_members l members same));
+        starts = starts ∙ ap (λ names. chunk_starts (λ v. slice_index_or names v []) first count) (sym (named_by_members (vector_graph_of l) members same));
+        bytes = bytes ∙ ap (λ names. chunk_of (λ v. slice_index_or names v []) first count) (sym (named_by_members (vector_graph_of l) members same));
       },
     )
 
 -- a chunk of members that is not there is none of the graph
-pub chunk_refused : (now l : Local) (members : List (List ℕ)) (first count : ℕ) (why : Fault) → now ≡ l → members ≡ vectors_of l
-    → ((why ≡ fault.NoVertex) × (first + count ≤ length members → ⊥)) ⊎ (why ≡ fault.Panic NoRoom) → IsChunkRefusal (graph_described (described now)) first count why
-chunk_refused now l members first count why is same (inl (e, out)) =
-    inl (e, λ there. out (omega (arith, vertices_are_members l members same, ap (λ m. length (graph_described (described m)).vertices) is, there)))
-chunk_refused now l members first count why is same (inr none) = inr none
+pub chunk_refused : (g : GraphData) (n first count : ℕ) (why : Fault) → length g.vertices ≡ n
+    → ((why ≡ fault.NoVertex) × (first + count ≤ n → ⊥)) ⊎ (why ≡ fault.Panic NoRoom) → IsChunkRefusal g first count why
+chunk_refused g n first count why size (inl (e, out)) = inl (e, λ there. out (omega (arith, size, there)))
+chunk_refused g n first count why size (inr none) = inr none
 
 -- so the names of a chunk of members answer for the graph
 pub names_answered : (now l : Local) (members : List (List ℕ)) (first count : ℕ) (r : Result ChunkNames Fault) → now ≡ l → members ≡ vectors_of l
@@ -139,4 +137,6 @@ pub refusal_answered : {T : Type 0} (now l : Local) (members : List (List ℕ)) 
     → IfErr r (λ why. ((why ≡ fault.NoVertex) × (first + count ≤ length members → ⊥)) ⊎ (why ≡ fault.Panic NoRoom))
     → IfErr r (IsChunkRefusal (graph_described (described now)) first count)
 refusal_answered now l members first count (Ok x) is same said = said
-refusal_answered now l members first count (Err why) is same said = chunk_refused now l members first count why is same said
+refusal_answered now l members first count (Err why) is same said =
+    subst (λ m. IsChunkRefusal (graph_described (described m)) first count why) (sym is)
+    (chunk_refused (graph_described (described l)) (length members) first count why (vertices_are_members (vector_graph_of l) members same) said)

@@ -1,17 +1,16 @@
 //! The lists of a chunk.
 ghost use Rattle.std.specs.Prelude.{◌≡◌, ◌++◌, ◌∷◌, ◌+◌, ◌≤◌, [], ℕ, length, map, slice_get, Some, Contains, IfErr, IfOk, IsOkUnless, OnErr, OnOk};
 ghost use Rattle.sgb_gen.specs.LocalLists.{LocalArc};
-ghost use Rattle.sgb_gen.specs.VectorGraphs.{vertex_among};
+ghost use Rattle.sgb_gen.specs.VectorGraphs.{described_by, vertex_among};
 ghost use Rattle.sgb_graph.specs.Made.{graph_described};
 ghost use Rattle.sgb_arrays.specs.declared.refusals.Wrong.TheVariants as wrong;
-ghost use Rattle.sgb.specs.Locals.{vectors_of};
 ghost use Rattle.sgb.specs.Values.{described};
 ghost use Rattle.sgb_chunks.specs.Chunks.{AreChunkRows, IsChunkRefusal, IsThere};
 
 use crate::places::{has_chunk, vectors_from};
-use sgb::{Fault, Listed, ListedBoard, ListedSimplex, ListedSubsets, Local};
-use sgb_gen::Links;
-use sgb_vec::{Family, Panic};
+use sgb::{Fault, Local};
+use sgb_gen::{Links, Listed};
+use sgb_vec::Panic;
 use std::alloc::Global;
 
 /// The lists of a chunk's vertices, one after another: that of its vertex k is what stands in `tips` and `lengths` from
@@ -39,75 +38,57 @@ pub fn chunk_rows(alloc: Global, local: &Local, first: u32, count: u32) -> Resul
     let mut links = Links::new(alloc);
     match local {
         Local::Board(board) => {
-            let mut listed = ListedBoard::new(board, &links);
-            rows_of(alloc, &mut listed, board.family(), first, count, &mut links)
+            let mut listed = board.lists(&links);
+            rows_of(alloc, &mut listed, first, count, &mut links)
         }
         Local::Simplex(simplex) => {
-            let mut listed = ListedSimplex { simplex };
-            rows_of(
-                alloc,
-                &mut listed,
-                simplex.family(),
-                first,
-                count,
-                &mut links,
-            )
+            let mut listed = simplex;
+            rows_of(alloc, &mut listed, first, count, &mut links)
         }
         Local::Subsets(subsets) => {
-            let mut listed = ListedSubsets { subsets };
-            rows_of(
-                alloc,
-                &mut listed,
-                subsets.family(),
-                first,
-                count,
-                &mut links,
-            )
+            let mut listed = subsets;
+            rows_of(alloc, &mut listed, first, count, &mut links)
         }
     }
 }
 
-// The same of a graph whose vectors are those of the family.
-fn rows_of<L: Listed, F: Family>(
+// The same of a graph by what a listing asks of it.
+fn rows_of<'a, L: Listed<'a>>(
     alloc: Global,
     listed: &mut L,
-    family: &F,
     first: u32,
     count: u32,
     links: &mut Links,
 ) -> Result<ChunkRows, Fault>
-    requires { F.members family.now ≡ vectors_of (L.parameters listed.old) }
-    ensures rows { IfOk result (λ rows. IsThere (graph_described (described (L.parameters
+    ensures rows { IfOk result (λ rows. IsThere (graph_described (described_by (L.graph
         listed.old))) first count
-        × AreChunkRows (graph_described (described (L.parameters listed.old))) first count
+        × AreChunkRows (graph_described (described_by (L.graph listed.old))) first count
         rows.starts.items rows.tips.items rows.lengths.items) }
-    ensures refused { IfErr result (IsChunkRefusal (graph_described (described (L.parameters
+    ensures refused { IfErr result (IsChunkRefusal (graph_described (described_by (L.graph
         listed.old))) first count) }
 {
-    if !has_chunk(family, first, count) {
+    if !has_chunk(listed.family(), first, count) {
         return Err(Fault::NoVertex);
     }
-    let rows = put_rows(alloc, listed, family, first, count, links)?;
+    let rows = put_rows(alloc, listed, first, count, links)?;
     Ok(rows)
 }
 
 // The lists of a chunk that is there.
-fn put_rows<L: Listed, F: Family>(
+fn put_rows<'a, L: Listed<'a>>(
     alloc: Global,
     listed: &mut L,
-    family: &F,
     first: u32,
     count: u32,
     links: &mut Links,
 ) -> Result<ChunkRows, Panic>
-    requires members { F.members family.now ≡ vectors_of (L.parameters listed.old) }
-    requires there { first + count ≤ length (F.members family.now) }
-    ensures rows { IfOk result (λ rows. AreChunkRows (graph_described (described (L.parameters
+    requires { first + count ≤ length (L.graph listed.old).vectors }
+    ensures rows { IfOk result (λ rows. AreChunkRows (graph_described (described_by (L.graph
         listed.old))) first count rows.starts.items rows.tips.items rows.lengths.items) }
     ensures memory { IsOkUnless result Panic.NoRoom }
 {
     let mut rows = ChunkRows::new(alloc)?;
-    let mut left = vectors_from(family, first);
+    let mut left = vectors_from(listed.family(), first);
     for _k in 0..count {
         let x = left.front().unwrap();
         listed.arcs_at(x, links)?;
@@ -136,11 +117,11 @@ impl ChunkRows {
     }
 
     // Appends the arcs of a vector.
-    fn push_arcs<L: Listed>(&mut self, listed: &L, links: &Links) -> Result<(), Panic>
+    fn push_arcs<'a, L: Listed<'a>>(&mut self, listed: &L, links: &Links) -> Result<(), Panic>
         requires { (k : ℕ) (arc : LocalArc) → slice_get links.now.arcs k ≡ Some arc
-            → Contains (vectors_of (L.parameters listed.now)) arc.tip }
+            → Contains (L.graph listed.now).vectors arc.tip }
         ensures tips { OnOk result (self.new.tips.items ≡ self.old.tips.items
-            ++ map (λ a. vertex_among (vectors_of (L.parameters listed.now)) a.tip)
+            ++ map (λ a. vertex_among (L.graph listed.now).vectors a.tip)
             links.now.arcs) }
         ensures lengths { OnOk result (self.new.lengths.items ≡ self.old.lengths.items
             ++ map (λ a. a.len) links.now.arcs) }

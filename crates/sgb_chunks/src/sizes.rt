@@ -3,7 +3,7 @@ ghost use Rattle.std.specs.Prelude.{◌≡◌, length, IfOk, IsOkUnless};
 ghost use Rattle.sgb_graph.specs.Made.{graph_described};
 ghost use Rattle.sgb.specs.Values.{described};
 
-use sgb::{Listed, ListedBoard, ListedSimplex, ListedSubsets, Local};
+use sgb::Local;
 use sgb_gen::Links;
 use sgb_vec::{Family, Panic};
 use std::alloc::Global;
@@ -26,10 +26,9 @@ pub fn arcs_of_family(alloc: Global, local: &Local) -> Result<u128, Panic>
     ensures count { IfOk result (λ m. m ≡ (graph_described (described local.now)).m) }
     ensures memory { IsOkUnless result Panic.NoRoom }
 {
-    let links = Links::new(alloc);
     match local {
-        Local::Board(board) => ListedBoard::new(board, &links).arcs_count(&links),
-        Local::Simplex(simplex) => ListedSimplex { simplex }.arcs_count(&links),
-        Local::Subsets(subsets) => ListedSubsets { subsets }.arcs_count(&links),
+        Local::Board(board) => board.arcs_count(),
+        Local::Simplex(simplex) => simplex.arcs_count(&Links::new(alloc)),
+        Local::Subsets(subsets) => Ok(subsets.arcs_count()),
     }
 }

@@ -80,6 +80,8 @@ pub mod LinkRows
 pub mod TurnedLinks
 -- the list of a vector, from the moves that touch it
 pub mod MoveLists
+-- the three generators' graphs as graphs of vectors
+pub mod ListedGraphs
 -- moves by one displacement, in order
 pub mod MovesInOrder
 -- those that touch a vector

@@ -21,10 +21,10 @@ use Rattle.sgb_gen.specs.inner.LocalBoards.{arcs_onward, move_arc, moves_by}
 use Rattle.sgb_gen.specs.LocalLists.{LocalArc, list_at}
 use Rattle.sgb_gen.specs.Moves.{Side, board_moves, moves_from, sides_of}
 use Rattle.sgb_gen.specs.inner.Moves.{destination, longest_move}
-use Rattle.sgb_gen.specs.VectorGraphs.{Move, same_vector}
+use Rattle.sgb_gen.specs.VectorGraphs.{HasEnds, Move, same_vector}
 use Rattle.sgb_gen.proofs.DisplacementLengths.{signings-sizes}
 use Rattle.sgb_gen.proofs.DisplacementWalk.{entries-small}
-use Rattle.sgb_gen.proofs.MoveLists.{HasEnds, list_at-moves}
+use Rattle.sgb_gen.proofs.MoveLists.{list_at-moves}
 use Rattle.sgb_gen.proofs.MovesInOrder.{all_lead, all_start}
 use Rattle.sgb_gen.proofs.NextSignings.{sizes_of}
 use Rattle.sgb_vec.proofs.Lists.{All-flat_map, AllPairs-first, AllPairs-others, Contains-cases, Contains-none, filter-all, filter-none}

@@ -1,18 +1,18 @@
 -- The list of a vector, as the moves that touch it make it.
-use Rattle.std.proofs.Common.{◌≡◌, ℕ, ◌+◌, min, max, ℤ, pos, Bool, true, false, cond, List, [], ◌∷◌, ◌++◌, length, map, get_or, Some, refl, sym, ap, ap₂, subst, ◌∙◌, inl, inr, arith, append-nil, append_assoc}
+use Rattle.std.proofs.Common.{◌≡◌, ℕ, ◌+◌, min, max, ℤ, pos, Bool, true, false, cond, List, [], ◌∷◌, ◌++◌, length, map, get_or, refl, sym, ap, ap₂, subst, ◌∙◌, inl, inr, arith, append-nil, append_assoc}
 use Rattle.std.specs.Prelude.{◌==◌}
 use Rattle.std.specs.Cmp.Lexicographic.{bytes_decides}
-use Rattle.std.specs.List.{All, Contains, slice_get}
+use Rattle.std.specs.List.{All, Contains}
 use Rattle.std.proofs.lemmas.Bool.{cases_lt}
 use Rattle.std.proofs.lemmas.Bool.Decides.{Decides-eqb}
 use Rattle.std.proofs.lemmas.List.{map-append}
 use Rattle.std.proofs.lemmas.List.Elements.{All-append, All-cons, All-head, All-nil, All-tail}
-use Rattle.std.proofs.lemmas.Option.{get_or_from_slice_get, slice_get_within}
+use Rattle.std.proofs.lemmas.Option.{get_or_from_slice_get}
 use Rattle.sgb_vec.specs.Lexicographic.{IsRising}
 use Rattle.sgb_graph.specs.Events.{links_at, list_from, records_of}
 use Rattle.sgb_graph.specs.declared.fields.Link.{Link}
 use Rattle.sgb_graph.proofs.EventLemmas.{list_none, list_first}
-use Rattle.sgb_gen.specs.VectorGraphs.{Move, event_among, same_vector, vertex_among}
+use Rattle.sgb_gen.specs.VectorGraphs.{HasEnds, Move, event_among, same_vector, vertex_among}
 use Rattle.sgb_gen.specs.inner.LocalArcs.{arc_if, arcs_by, arcs_of_moves}
 use Rattle.sgb_gen.specs.LocalLists.{LocalArc, local_arc, list_at}
 use Rattle.sgb_gen.proofs.RisingVectors.{at_vertex}
@@ -71,10 +71,6 @@ arcs-append directed x (m ∷ ms) ns =
     ap (λ l. l ++ arcs_by directed x m) (arcs-append directed x ms ns)
     ∙ append_assoc (arcs_of_moves directed x ns) (arcs_of_moves directed x ms) (arcs_by directed x m)
 
--- both ends of a move are vertices
-abbrev pub HasEnds : List (List ℕ) → Move → Type 0
-HasEnds vectors m = Contains vectors m.from × Contains vectors m.to
-
 module _ (vectors : List (List ℕ)) (rise : IsRising vectors) where
   vector_back : (a : List ℕ) → Contains vectors a → get_or vectors (vertex_among vectors a) [] ≡ a
   vector_back a h = get_or_from_slice_get vectors (vertex_among vectors a) a [] (at_vertex vectors a rise h)
@@ -131,11 +127,8 @@ tips_of_moves vectors directed x (m ∷ moves) ends =
     All-append (HasTipIn vectors) (arcs_of_moves directed x moves) (arcs_by directed x m)
     (tips_of_moves vectors directed x moves (All-tail (HasEnds vectors) m moves ends)) (tips_by vectors directed x m (All-head (HasEnds vectors) m moves ends))
 
--- and each arc of a list
-pub tip_at : (vectors : List (List ℕ)) (directed : Bool) (x : List ℕ) (moves : List Move) (k : ℕ) (arc : LocalArc) → IsRising vectors → All (HasEnds vectors) moves → Contains vectors x
-    → slice_get (list_at directed vectors moves x) k ≡ Some arc → Contains vectors arc.tip
-tip_at vectors directed x moves k arc rise ends member there =
-    let all = list_at directed vectors moves x in
-    let each : All (HasTipIn vectors) all =
-    subst (All (HasTipIn vectors)) (sym (list_at-moves vectors rise directed x moves member ends)) (tips_of_moves vectors directed x moves ends) in
-    subst (HasTipIn vectors) (get_or_from_slice_get all k arc arc there) (each k arc (slice_get_within all k arc there))
+-- and those of a list
+pub tips_of_list : (vectors : List (List ℕ)) (directed : Bool) (x : List ℕ) (moves : List Move) → IsRising vectors → All (HasEnds vectors) moves → Contains vectors x
+    → All (λ (a : LocalArc). Contains vectors a.tip) (list_at directed vectors moves x)
+tips_of_list vectors directed x moves rise ends member =
+    subst (All (HasTipIn vectors)) (sym (list_at-moves vectors rise directed x moves member ends)) (tips_of_moves vectors directed x moves ends)

@@ -11,12 +11,12 @@ use Rattle.sgb_vec.specs.Lexicographic.{IsBefore, IsRising, IsWithin}
 use Rattle.sgb_vec.specs.Sums.{bounded_sums}
 use Rattle.sgb_vec.proofs.SumMembers.{Contains-bounded_sums, bounded_sums-rise}
 use Rattle.sgb_graph.proofs.Lists.{map-map}
-use Rattle.sgb_gen.specs.VectorGraphs.{Move, same_vector}
+use Rattle.sgb_gen.specs.VectorGraphs.{HasEnds, Move, same_vector}
 use Rattle.sgb_gen.specs.Simplexes.{SimplexData, simplex_vectors, moves_of_simplex, Places, can_shift, shifted, pairs_from, pairs_of_places, moves_by, moves_to}
 use Rattle.sgb_gen.specs.inner.LocalArcs.{arc_if, arcs_by, arcs_of_moves}
 use Rattle.sgb_gen.specs.LocalLists.{LocalArc, list_at}
 use Rattle.sgb_gen.specs.inner.LocalSimplexes.{can_return, returned, arcs_back, arcs_on, pairs_down, pairs_back, arcs_by_pairs}
-use Rattle.sgb_gen.proofs.MoveLists.{HasEnds, list_at-moves, arcs-append}
+use Rattle.sgb_gen.proofs.MoveLists.{list_at-moves, arcs-append}
 use Rattle.sgb_gen.proofs.SimplexEvents.{shifted_in_simplex}
 use Rattle.sgb_vec.proofs.Lists.{AllPairs-none, AllPairs-first, AllPairs-others, AllPairs-append, AllPairs-map, AllPairs-reverse, AllPairs-follows, range-rises, range-within, Contains-first, Contains-cases, Contains-none, Contains-image, Contains-passing, Contains-flat_map, Contains-range, Contains-reverse, All-flat_map, All-reverse, made-append, reverse-first, filter-none, flat_map-none, never_true}
 use Rattle.sgb_gen.proofs.OrderedLists.{before_none, before_trans, rising_same}

@@ -9,7 +9,7 @@ use Rattle.sgb_graph.specs.Descriptions.{Description}
 use Rattle.sgb_graph.specs.IdTexts.{flag_text}
 use Rattle.sgb_gen.specs.declared.params.BoardParams.{BoardParams}
 use Rattle.sgb_gen.specs.Limits.{most_piece}
-use Rattle.sgb_gen.specs.VectorGraphs.{Move, call_text, integer_texts, family_graph}
+use Rattle.sgb_gen.specs.VectorGraphs.{Move, VectorGraph, call_text, described_by, integer_texts}
 use Rattle.sgb_gen.specs.Moves.{sides_of, board_moves}
 
 -- an accepted board: n1 to n4 as its official name has them, the sizes that they stand for, the piece, which is
@@ -53,9 +53,14 @@ board_vectors b = box b.sizes
 abbrev pub moves_of_board : BoardData → List Move
 moves_of_board b = board_moves (sides_of b.sizes b.wrap) b.piece (board_vectors b) (length b.sizes)
 
+-- its graph, as one of vectors
+abbrev pub board_vector_graph : BoardData → VectorGraph
+board_vector_graph b =
+    record { id = board_id b; directed = b.directed; vectors = board_vectors b; moves = moves_of_board b }
+
 -- its graph
 abbrev pub board_graph : BoardData → Description
-board_graph b = family_graph (board_id b) b.directed (board_vectors b) (moves_of_board b)
+board_graph b = described_by (board_vector_graph b)
 
 -- the graph of board(n1,n2,n3,n4,piece,wrap,directed), or why it is refused
 abbrev pub board : BoardParams → Result Description Panic

@@ -2,7 +2,7 @@
 use Rattle.std.specs.Prelude.{ℕ, ℤ, Bool, List, [], map, get_or}
 use Rattle.sgb_graph.specs.Events.{list_of}
 use Rattle.sgb_graph.specs.declared.fields.Link.{Link}
-use Rattle.sgb_gen.specs.VectorGraphs.{Move, event_among, vertex_among}
+use Rattle.sgb_gen.specs.VectorGraphs.{Move, VectorGraph, event_among, vertex_among}
 
 -- an arc: the vector where it leads, and its length
 pub record LocalArc : Type 0 where
@@ -23,3 +23,7 @@ local_arc vectors link = record { tip = get_or vectors link.tip []; len = link.l
 unfoldable pub list_at : Bool → List (List ℕ) → List Move → List ℕ → List LocalArc
 list_at directed vectors moves x =
     map (local_arc vectors) (list_of directed (map (event_among vectors) moves) (vertex_among vectors x))
+
+-- the list of x in a graph of vectors
+abbrev pub list_in : VectorGraph → List ℕ → List LocalArc
+list_in g x = list_at g.directed g.vectors g.moves x

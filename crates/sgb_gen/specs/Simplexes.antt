@@ -9,7 +9,7 @@ use Rattle.sgb_vec.specs.declared.panics.Panic.{Panic}
 use Rattle.sgb_graph.specs.Descriptions.{Description}
 use Rattle.sgb_graph.specs.IdTexts.{flag_text}
 use Rattle.sgb_gen.specs.declared.params.SimplexParams.{SimplexParams}
-use Rattle.sgb_gen.specs.VectorGraphs.{Move, call_text, integer_texts, family_graph}
+use Rattle.sgb_gen.specs.VectorGraphs.{Move, VectorGraph, call_text, described_by, integer_texts}
 
 -- an accepted simplex: n and n0 to n4 as its official name has them, the sum and the bounds that they stand
 -- for, and the flag
@@ -76,9 +76,14 @@ simplex_vectors s = bounded_sums s.sum.total s.sum.bounds
 unfoldable pub moves_of_simplex : SimplexData → List Move
 moves_of_simplex s = flat_map (moves_to s.sum.bounds) (simplex_vectors s)
 
+-- its graph, as one of vectors
+abbrev pub simplex_vector_graph : SimplexData → VectorGraph
+simplex_vector_graph s =
+    record { id = simplex_id s; directed = s.directed; vectors = simplex_vectors s; moves = moves_of_simplex s }
+
 -- its graph
 abbrev pub simplex_graph : SimplexData → Description
-simplex_graph s = family_graph (simplex_id s) s.directed (simplex_vectors s) (moves_of_simplex s)
+simplex_graph s = described_by (simplex_vector_graph s)
 
 -- the graph of simplex(n,n0,n1,n2,n3,n4,directed), or why it is refused
 abbrev pub simplex : SimplexParams → Result Description Panic

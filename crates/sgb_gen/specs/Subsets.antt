@@ -9,7 +9,7 @@ use Rattle.sgb_graph.specs.Descriptions.{Description}
 use Rattle.sgb_graph.specs.IdTexts.{flag_text, hexadecimal_text}
 use Rattle.sgb_gen.specs.declared.params.SubsetsParams.{SubsetsParams}
 use Rattle.sgb_gen.specs.Limits.{size_bits_width}
-use Rattle.sgb_gen.specs.VectorGraphs.{Move, call_text, integer_texts, family_graph}
+use Rattle.sgb_gen.specs.VectorGraphs.{Move, VectorGraph, call_text, described_by, integer_texts}
 
 -- accepted subsets: n and n0 to n4 as the official name has them, the sum and the bounds that they stand for,
 -- size_bits and the flag
@@ -58,9 +58,14 @@ moves_of_subsets s =
     let vectors = subsets_vectors s in
     flat_map (moves_to_place s.size_bits vectors) (range_with_len 0 (length vectors))
 
+-- their graph, as one of vectors
+abbrev pub subsets_vector_graph : SubsetsData → VectorGraph
+subsets_vector_graph s =
+    record { id = subsets_id s; directed = s.directed; vectors = subsets_vectors s; moves = moves_of_subsets s }
+
 -- their graph
 abbrev pub subsets_graph : SubsetsData → Description
-subsets_graph s = family_graph (subsets_id s) s.directed (subsets_vectors s) (moves_of_subsets s)
+subsets_graph s = described_by (subsets_vector_graph s)
 
 -- the graph of subsets(n,n0,n1,n2,n3,n4,size_bits,directed), or why it is refused
 abbrev pub subsets : SubsetsParams → Result Description Panic

@@ -1,6 +1,6 @@
 -- The graph of a family of vectors: what the graphs of board, simplex and subsets have in common [GB_BASIC].
 use Rattle.std.specs.Prelude.{ℕ, ℤ, pos, Bool, List, [], ◌∷◌, ◌++◌, map, replicate, slice_index, codes, nat_eq}
-use Rattle.std.specs.List.{position_or_len, join_with_byte}
+use Rattle.std.specs.List.{Contains, position_or_len, join_with_byte}
 use Rattle.std.specs.Cmp.Lexicographic.{pointwise}
 use Rattle.std.specs.Fmt.{signed_decimal}
 use Rattle.sgb_vec.specs.Names.{name_of_vector}
@@ -16,6 +16,18 @@ pub record Move : Type 0 where
   pub from : List ℕ
   pub to : List ℕ
   pub len : ℕ
+
+-- both ends of a move are among the vectors
+abbrev pub HasEnds : List (List ℕ) → Move → Type 0
+HasEnds vectors m = Contains vectors m.from × Contains vectors m.to
+
+-- a graph whose vertices are vectors: its id, whether its events are arcs and not edges, its vertices in order, and its
+-- events in order
+pub record VectorGraph : Type 0 where
+  pub id : List ℕ
+  pub directed : Bool
+  pub vectors : List (List ℕ)
+  pub moves : List Move
 
 -- v and w have the same entries
 abbrev pub same_vector : List ℕ → List ℕ → Bool
@@ -61,3 +73,7 @@ family_graph id directed vectors moves = record {
   names = map name_of_vector vectors;
   fields = map fields_of_vector vectors;
 }
+
+-- a graph of vectors as a graph
+abbrev pub described_by : VectorGraph → Description
+described_by g = family_graph g.id g.directed g.vectors g.moves

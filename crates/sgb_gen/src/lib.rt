@@ -13,6 +13,8 @@ mod generators;
 mod laws;
 // The arcs of one vertex, with the vectors where they lead.
 mod links;
+// What a listing asks of a generator's graph, with no graph.
+mod listed;
 // Where a piece moves on a board.
 mod moves;
 // The generators' parameters.
@@ -35,5 +37,6 @@ pub use laws::{
     shifts_stay_in_sum,
 };
 pub use links::{Links, LocalArcRef};
+pub use listed::Listed;
 pub use params::{BoardParams, SimplexParams, SubsetsParams};
 pub use shorthands::{circuit, complete, cycle, disjoint_subsets, empty, petersen, transitive};

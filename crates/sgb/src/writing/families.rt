@@ -5,6 +5,7 @@ ghost use Rattle.sgb_file.specs.Devices.{change};
 ghost use Rattle.sgb_vec.specs.Limits.{most_dimensions};
 ghost use Rattle.sgb_vec.specs.Names.{name_of_vector};
 ghost use Rattle.sgb_gen.specs.Runs.{AreMoved, arc_along, arcs_along};
+ghost use Rattle.sgb_gen.specs.VectorGraphs.{described_by};
 ghost use Rattle.sgb_graph.specs.Made.{graph_described};
 ghost use Rattle.sgb.specs.Locals.{family_text, head_if, start_after, vectors_of};
 ghost use Rattle.sgb.specs.inner.Locals.{local_block, local_line};
@@ -19,10 +20,9 @@ use super::kept_names::KeptName;
 use super::listing::push_head_of;
 use super::pages::{Page, make_room, put_page};
 use super::resumed::vectors_after;
-use crate::listed::{Listed, ListedBoard, ListedSimplex, ListedSubsets};
 use crate::locals::Local;
 use sgb_file::Sink;
-use sgb_gen::{Links, Runs};
+use sgb_gen::{Links, Listed, Runs};
 use sgb_requests::Fault;
 use sgb_vec::{Family, Panic, Vectors};
 
@@ -51,98 +51,88 @@ pub fn list_family<W: Sink>(
 {
     match local {
         Local::Board(board) => {
-            let mut listed = ListedBoard::new(board, links);
-            list_vectors(&mut listed, board.family(), head, after, links, out)
+            let mut listed = board.lists(links);
+            list_vectors(&mut listed, head, after, links, out)
         }
         Local::Simplex(simplex) => {
-            let mut listed = ListedSimplex { simplex };
-            list_vectors(&mut listed, simplex.family(), head, after, links, out)
+            let mut listed = simplex;
+            list_vectors(&mut listed, head, after, links, out)
         }
         Local::Subsets(subsets) => {
-            let mut listed = ListedSubsets { subsets };
-            list_vectors(&mut listed, subsets.family(), head, after, links, out)
+            let mut listed = subsets;
+            list_vectors(&mut listed, head, after, links, out)
         }
     }
 }
 
-/// The same of a graph whose vectors are those of the family.
-pub(super) fn list_vectors<L: Listed, F: Family, W: Sink>(
+// The same of a graph by what a listing asks of it.
+fn list_vectors<'a, L: Listed<'a>, W: Sink>(
     listed: &mut L,
-    family: &F,
     head: bool,
     after: Option<&[u32]>,
     links: &mut Links,
     out: &mut W,
 ) -> Result<(), Fault>
-    requires members { F.members family.now ≡ vectors_of (L.parameters listed.old) }
-    requires member { IfSome after (λ x. Contains (vectors_of (L.parameters listed.old)) x.now) }
+    requires member { IfSome after (λ x. Contains (L.graph listed.old).vectors x.now) }
     requires sound { W.has_failed out.old ≡ false }
     ensures written { IsWritten
-        (family_text (graph_described (described (L.parameters listed.old))) head
-        (start_after (vectors_of (L.parameters listed.old)) (option_map (λ x. x.now) after.entry)))
+        (family_text (graph_described (described_by (L.graph listed.old))) head
+        (start_after (L.graph listed.old).vectors (option_map (λ x. x.now) after.entry)))
         (change W.written W.has_failed out.old out.new) result }
     ensures head { IfErr result (λ f. f ≢ Fault.Write → IsLeftOrBegun (out.new ≡ out.old)
-        (head_if head (graph_described (described (L.parameters listed.old))))
+        (head_if head (graph_described (described_by (L.graph listed.old))))
         (W.written out.old) (W.written out.new)) }
 {
-    let vectors = vectors_after(family, after);
+    let vectors = vectors_after(listed.family(), after);
     let mut page = Page::new();
-    push_head_if(head, listed, family, links, &mut page)?;
+    push_head_if(head, listed, links, &mut page)?;
     // The head is put before the first list, which in a great graph takes time and memory. Of an empty page nothing is put.
     put_page(&mut page, out)?;
     write_blocks(listed, vectors, links, &mut page, out)
 }
 
 // Appends the head to a page where it is asked for.
-fn push_head_if<L: Listed, F: Family>(
+fn push_head_if<'a, L: Listed<'a>>(
     asked: bool,
     listed: &L,
-    family: &F,
     links: &Links,
     page: &mut Page,
 ) -> Result<(), Panic>
-    requires members { F.members family.now ≡ vectors_of (L.parameters listed.now) }
-    requires room { length page.old + most_line_bytes ≤ page_bytes }
+    requires { length page.old + most_line_bytes ≤ page_bytes }
     ensures text { OnOk result (page.new ≡ page.old
-        ++ head_if asked (graph_described (described (L.parameters listed.now)))) }
+        ++ head_if asked (graph_described (described_by (L.graph listed.now)))) }
     ensures memory { IsOkUnless result Panic.NoRoom }
 {
     if !asked {
         return Ok(());
     }
-    push_head(listed, family, links, page)
+    push_head(listed, links, page)
 }
 
 // Appends the head to a page. The arcs are counted first.
-fn push_head<L: Listed, F: Family>(
-    listed: &L,
-    family: &F,
-    links: &Links,
-    page: &mut Page,
-) -> Result<(), Panic>
-    requires members { F.members family.now ≡ vectors_of (L.parameters listed.now) }
-    requires room { length page.old + most_line_bytes ≤ page_bytes }
+fn push_head<'a, L: Listed<'a>>(listed: &L, links: &Links, page: &mut Page) -> Result<(), Panic>
+    requires { length page.old + most_line_bytes ≤ page_bytes }
     ensures text { OnOk result (page.new ≡ page.old
-        ++ head (graph_described (described (L.parameters listed.now)))) }
+        ++ head (graph_described (described_by (L.graph listed.now)))) }
     ensures memory { IsOkUnless result Panic.NoRoom }
 {
     let m = listed.arcs_count(links)?;
-    push_head_of(&listed.id(), family.size(), m, page);
+    push_head_of(&listed.id(), listed.family().size(), m, page);
     Ok(())
 }
 
 // Writes the blocks of these vectors, by a page that is empty.
-fn write_blocks<L: Listed, F: Family, W: Sink>(
+fn write_blocks<'a, L: Listed<'a>, W: Sink>(
     listed: &mut L,
-    vectors: Vectors<'_, F>,
+    vectors: Vectors<'_, L::Members>,
     links: &mut Links,
     page: &mut Page,
     out: &mut W,
 ) -> Result<(), Fault>
-    requires rest { IsRest (vectors_of (L.parameters listed.old)) vectors }
+    requires rest { IsRest (L.graph listed.old).vectors vectors }
     requires empty { page.old ≡ [] }
     requires sound { W.has_failed out.old ≡ false }
-    ensures { IsWritten (flat_map (local_block (L.parameters listed.old)) vectors.entry)
+    ensures { IsWritten (flat_map (local_block (L.graph listed.old)) vectors.entry)
         (change W.written W.has_failed out.old out.new) result }
 {
     let mut name = KeptName::new();
@@ -156,7 +146,7 @@ fn write_blocks<L: Listed, F: Family, W: Sink>(
 }
 
 // Hands the block of a vector to a page: its name, and a line for each of its arcs. Out of memory the page is left as it is.
-fn push_block<L: Listed, W: Sink>(
+fn push_block<'a, L: Listed<'a>, W: Sink>(
     listed: &mut L,
     x: &[u32],
     links: &mut Links,
@@ -164,13 +154,13 @@ fn push_block<L: Listed, W: Sink>(
     page: &mut Page,
     out: &mut W,
 ) -> Result<(), Fault>
-    requires member { Contains (vectors_of (L.parameters listed.old)) x.now }
+    requires member { Contains (L.graph listed.old).vectors x.now }
     requires short { length x.now ≤ most_dimensions + 1 }
     requires named { name.now ≡ x.now }
     requires sound { W.has_failed out.old ≡ false }
-    ensures paged { IsPaged page.old (local_block (L.parameters listed.old) x.now) page.new
+    ensures paged { IsPaged page.old (local_block (L.graph listed.old) x.now) page.new
         (change W.written W.has_failed out.old out.new) result }
-    ensures same { L.parameters listed.new ≡ L.parameters listed.old }
+    ensures same { L.graph listed.new ≡ L.graph listed.old }
 {
     if let Some(runs) = listed.runs(x) {
         return push_block_of_runs(runs, name, page, out);
@@ -290,7 +280,7 @@ fn push_moved_arc<W: Sink>(
 }
 
 // The same of a vector's list that is kept.
-fn push_listed_block<L: Listed, W: Sink>(
+fn push_listed_block<'a, L: Listed<'a>, W: Sink>(
     listed: &mut L,
     x: &[u32],
     links: &mut Links,
@@ -298,13 +288,13 @@ fn push_listed_block<L: Listed, W: Sink>(
     page: &mut Page,
     out: &mut W,
 ) -> Result<(), Fault>
-    requires member { Contains (vectors_of (L.parameters listed.old)) x.now }
+    requires member { Contains (L.graph listed.old).vectors x.now }
     requires short { length x.now ≤ most_dimensions + 1 }
     requires named { name.now ≡ x.now }
     requires sound { W.has_failed out.old ≡ false }
-    ensures paged { IsPaged page.old (local_block (L.parameters listed.old) x.now) page.new
+    ensures paged { IsPaged page.old (local_block (L.graph listed.old) x.now) page.new
         (change W.written W.has_failed out.old out.new) result }
-    ensures same { L.parameters listed.new ≡ L.parameters listed.old }
+    ensures same { L.graph listed.new ≡ L.graph listed.old }
 {
     listed.arcs_at(x, links)?;
     name.push_line(page, out)?;

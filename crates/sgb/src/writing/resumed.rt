@@ -13,42 +13,46 @@ ghost use Rattle.sgb.specs.Values.{described};
 ghost use Rattle.sgb.specs.inner.Remaining.{BeginsAfter, IsLastSkipped, IsMemberNamed};
 ghost use Rattle.sgb.specs.Writing.{IsEnded};
 
-use super::families::list_vectors;
-use crate::listed::Listed;
+use super::families::list_family;
+use crate::locals::Local;
 use sgb_file::Sink;
 use sgb_gen::Links;
 use sgb_requests::{Fault, Resume};
 use sgb_vec::{Family, Vector, Vectors, vector_of};
 
-/// Writes the listing of a generator's graph, whose vectors are those of the family: the head, and a block for each
-/// vertex; or, where the answer begins further on, the blocks from there.
+/// Writes the listing of a generator's graph: the head, and a block for each vertex; or, where the answer begins further on,
+/// the blocks from there.
 ///
 /// `NoVertex` where it is to begin after a name that no vertex has.
-pub(crate) fn list_resumed<L: Listed, F: Family, W: Sink>(
-    listed: &mut L,
-    family: &F,
+pub(crate) fn list_resumed<W: Sink>(
+    local: &Local,
     resume: &Resume,
     links: &mut Links,
     out: &mut W,
 ) -> Result<(), Fault>
-    requires members { F.members family.now ≡ vectors_of (L.parameters listed.old) }
-    requires sound { W.has_failed out.old ≡ false }
-    ensures ended { IsEnded
-        (list_answer (graph_described (described (L.parameters listed.old))) resume.now)
+    requires { W.has_failed out.old ≡ false }
+    ensures ended { IsEnded (list_answer (graph_described (described local.now)) resume.now)
         (out.new ≡ out.old) (change W.written W.has_failed out.old out.new) result }
-    ensures nowhere { left_out (names_of (graph_described (described (L.parameters listed.old))))
-        resume.now ≡ Err Fault.NoVertex
+    ensures nowhere { left_out (names_of (graph_described (described local.now))) resume.now
+        ≡ Err Fault.NoVertex
         → result ≡ Err Fault.NoVertex }
 {
-    let start = start_of(family, resume)?;
-    list_vectors(
-        listed,
-        family,
-        has_head(resume),
-        slice_of(&start),
-        links,
-        out,
-    )
+    let start = start_in(local, resume)?;
+    list_family(local, has_head(resume), slice_of(&start), links, out)
+}
+
+// The vector of a generator's graph after which the answer begins, as `start_of` has it.
+fn start_in(local: &Local, resume: &Resume) -> Result<Option<Vector>, Fault>
+    ensures { MatchResult result
+        (λ start. BeginsAfter (vectors_of local.now) resume.now
+        (option_map (λ vector. vector.items) start))
+        (λ fault. left_out (map name_of_vector (vectors_of local.now)) resume.now ≡ Err fault) }
+{
+    match local {
+        Local::Board(board) => start_of(board.family(), resume),
+        Local::Simplex(simplex) => start_of(simplex.family(), resume),
+        Local::Subsets(subsets) => start_of(subsets.family(), resume),
+    }
 }
 
 // Whether the answer has a head: where it is not resumed.

@@ -1,4 +1,4 @@
-use Rattle.std.proofs.Common.{◌∙◌, ◌≡◌, ◌<◌, ◌+◌, ap, refl, sym, length, drop, arith}
+use Rattle.std.proofs.Common.{◌∙◌, ◌≡◌, ◌<◌, ◌+◌, ap, sym, length, drop, arith}
 use Rattle.std.specs.Prelude.{Some, slice_get}
 use Rattle.sgb_chunks.specs.Chunks.{chunk_of}
 use Rattle.sgb_chunks.specs.inner.VectorNames.{name_there}
@@ -30,7 +30,7 @@ loop-k-preserved g c =
     let k = c.loop-k._k in
     let x = c.unwrap-x.result.now in
     let there : slice_get members (first + k) ≡ Some x =
-    first_from members members c.loop-k.left (first + k) x refl c.loop-k.invariant.left
+    first_from members c.loop-k.left (first + k) x c.loop-k.invariant.left
     (said_of (λ v. slice_get c.loop-k.left 0 ≡ Some v.now) c.front.result c.unwrap-x.result c.unwrap-x.ensures c.front.ensures.first) in
     let bytes : c.push.new.self.bytes.items ≡ chunk_of (name_there members) first (k + 1) =
     bytes_more (name_there members) first k c.loop-k.names.bytes.items _ c.push.new.self.bytes.items c.loop-k.invariant.bytes (name_is_there members (first + k) x there) c.in_ok-push.ensures.bytes in

@@ -1,16 +1,24 @@
-use Rattle.std.proofs.Common.{refl, inl, arith}
+use Rattle.std.proofs.Common.{◌≤◌, ◌+◌, refl, inl, arith, ap, length, rules}
+use Rattle.sgb_graph.specs.Made.{graph_described}
+use Rattle.sgb_gen.specs.VectorGraphs.{described_by}
 use Rattle.sgb_requests.specs.declared.faults.Fault.TheVariants as fault
 use Rattle.sgb_chunks.proofs.LocalChunks.{chunk_refused, vertices_are_members}
 use Rattle.sgb_chunks.proofs.rows.rows_of.Goals as goal
 
 pub returns-then-not-has_chunk-clause-refused : goal.returns-then-not-has_chunk-clause-refused
 returns-then-not-has_chunk-clause-refused g c =
-    let l = g.L.Listed.parameters c.args.listed.now in
-    let members = g.F.Family.members c.args.family.now in
-    chunk_refused l l members c.args.first c.args.count fault.NoVertex refl c.requires (inl (refl, c.if-not-has_chunk.ensures.not))
+    let graph = g.L.Listed.graph c.args.listed.now in
+    let members = g.L.Members.Family.members c.family.result.now in
+    chunk_refused (graph_described (described_by graph)) (length members) c.args.first c.args.count fault.NoVertex (vertices_are_members graph members c.family.ensures.members)
+    (inl (refl, c.if-not-has_chunk.ensures.not))
+
+pub put_rows-requires : goal.put_rows-requires
+put_rows-requires g c =
+    let there : c.args.first + c.args.count ≤ length (g.L.Listed.graph c.args.listed.now).vectors = omega (arith, c.if-not-has_chunk.ensures.there, ap length c.family.ensures.members) in
+    search rules
 
 pub returns-clause-rows : goal.returns-clause-rows
 returns-clause-rows g c =
-    let l = g.L.Listed.parameters c.args.listed.now in
-    let members = g.F.Family.members c.args.family.now in
-    (omega (arith, vertices_are_members l members c.requires, c.if-not-has_chunk.ensures.there), c.in_ok-rows.ensures.rows)
+    let graph = g.L.Listed.graph c.args.listed.now in
+    let members = g.L.Members.Family.members c.family.result.now in
+    (omega (arith, vertices_are_members graph members c.family.ensures.members, c.if-not-has_chunk.ensures.there), c.in_ok-rows.ensures.rows)

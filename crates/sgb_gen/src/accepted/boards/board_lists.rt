@@ -19,7 +19,7 @@ use std::marker::Model;
 /// Contracts see it as its board.
 #[derive(Drop)]
 pub struct BoardLists<'a> {
-    pub(super) board: &'a Board,
+    pub(crate) board: &'a Board,
     // The displacements by which the piece can move, where they are few.
     pub(super) table: Option<DisplacementTable>,
     // Whether all of these lead to later vectors.

@@ -1,14 +1,19 @@
-use Rattle.std.proofs.Common.{◌≡◌, ◌∙◌, ◌++◌, List, ℕ, ap, drop, length, option_map, arith, refl, subst}
+use Rattle.std.proofs.Common.{◌≡◌, ◌≤◌, ◌∙◌, ◌+◌, ◌++◌, List, ℕ, ap, drop, length, option_map, arith, refl, rules, subst}
 use Rattle.std.specs.Io.KnownBytes.{Appends}
-use Rattle.sgb.specs.Locals.{head_if, start_after, vectors_of}
+use Rattle.sgb_vec.specs.Lexicographic.{IsRising}
+use Rattle.sgb_gen.specs.VectorGraphs.{described_by}
 use Rattle.sgb_graph.specs.Made.{graph_described}
-use Rattle.sgb.specs.Values.{described}
+use Rattle.sgb.specs.Locals.{head_if, start_after}
+use Rattle.sgb.specs.inner.Pages.{page_bytes}
+use Rattle.sgb.specs.inner.Texts.{most_line_bytes}
 use Rattle.sgb.proofs.CutOff.{begun_by, cut_more, exit_cut, exit_uncut, exit_unwritten, written_after}
 use Rattle.sgb.proofs.LocalListings.{blocks_of_rest}
 use Rattle.sgb.proofs.writing.families.list_vectors.Goals as goal
 
-pub push_head_if-requires-clause-room : goal.push_head_if-requires-clause-room
-push_head_if-requires-clause-room g c = omega (arith, ap length c.new-page.ensures)
+pub push_head_if-requires : goal.push_head_if-requires
+push_head_if-requires g c =
+    let room : length c.new-page.result + most_line_bytes ≤ page_bytes = omega (arith, ap length c.new-page.ensures) in
+    search rules
 
 pub returns-in_err-push_head_if-clause-written : goal.returns-in_err-push_head_if-clause-written
 returns-in_err-push_head_if-clause-written g c = exit_unwritten _ _ _ _ _ c.from_residual.ensures.1 c.in_err-push_head_if.ensures.memory c.requires.sound
@@ -18,7 +23,7 @@ returns-in_err-push_head_if-clause-head g c = exit_uncut _ _ _ _ _ _ c.from_resi
 
 pub returns-in_err-put_page-clause-written : goal.returns-in_err-put_page-clause-written
 returns-in_err-put_page-clause-written g c =
-    let top = head_if c.args.head (graph_described (described (g.L.Listed.parameters c.args.listed.now))) in
+    let top = head_if c.args.head (graph_described (described_by (g.L.Listed.graph c.args.listed.now))) in
     let page : c.push_head_if.new.page ≡ top = c.in_ok-push_head_if.ensures.text ∙ ap (λ (text : List ℕ). text ++ top) c.new-page.ensures in
     exit_cut _ _ _ _ c.from_residual-in_err-put_page.ensures.1 (cut_more top _ _ _ (rw page at c.in_err-put_page.ensures.written))
 
@@ -28,17 +33,19 @@ returns-in_err-put_page-clause-head g c =
 
 pub returns-clause-written : goal.returns-clause-written
 returns-clause-written g c =
-    let l = g.L.Listed.parameters c.args.listed.now in
-    let top = head_if c.args.head (graph_described (described l)) in
+    let graph = g.L.Listed.graph c.args.listed.now in
+    let vectors = graph.vectors in
+    let top = head_if c.args.head (graph_described (described_by graph)) in
     let after = option_map (λ x. x.now) c.args.after in
-    let rest : c.vectors_after-vectors.result ≡ drop (start_after (vectors_of l) after) (vectors_of l) =
-    c.vectors_after-vectors.ensures ∙ ap (λ ms. drop (start_after ms after) ms) c.requires.members in
+    let rise : IsRising vectors = subst IsRising c.family.ensures.members (g.met.L.Members.Family.rising c.family.result.now) in
+    let rest : c.vectors_after-vectors.result ≡ drop (start_after vectors after) vectors =
+    c.vectors_after-vectors.ensures ∙ ap (λ ms. drop (start_after ms after) ms) c.family.ensures.members in
     let page : c.push_head_if.new.page ≡ top = c.in_ok-push_head_if.ensures.text ∙ ap (λ (text : List ℕ). text ++ top) c.new-page.ensures in
-    rw (blocks_of_rest l (start_after (vectors_of l) after) c.vectors_after-vectors.result rest)
+    rw (blocks_of_rest graph rise c.family.ensures.ends (start_after vectors after) c.vectors_after-vectors.result rest)
     (written_after _ _ _ _ top _ _ (subst (Appends _ _) page c.in_ok-put_page.ensures.written.output) c.write_blocks.ensures)
 
 pub returns-clause-head : goal.returns-clause-head
 returns-clause-head g c =
-    let top = head_if c.args.head (graph_described (described (g.L.Listed.parameters c.args.listed.now))) in
+    let top = head_if c.args.head (graph_described (described_by (g.L.Listed.graph c.args.listed.now))) in
     let page : c.push_head_if.new.page ≡ top = c.in_ok-push_head_if.ensures.text ∙ ap (λ (text : List ℕ). text ++ top) c.new-page.ensures in
     begun_by _ _ _ _ _ top _ _ (subst (Appends _ _) page c.in_ok-put_page.ensures.written.output) c.write_blocks.ensures

@@ -1,27 +1,25 @@
 use Rattle.std.proofs.Common.{◌≡◌, ◌∙◌, length, Some, pos, sym, ap, arith}
 use Rattle.std.specs.List.{slice_get}
 use Rattle.sgb_gen.specs.LocalLists.{LocalArc}
-use Rattle.sgb.specs.Locals.{links_of}
 use Rattle.sgb.specs.inner.Locals.{local_block}
-use Rattle.sgb.proofs.TipWidths.{tip_width}
-use Rattle.sgb.proofs.LocalListings.{lines-first}
+use Rattle.sgb.proofs.LocalListings.{lines-first, tip_width}
 use Rattle.sgb.proofs.RunLines.{parts-named}
 use Rattle.sgb.proofs.Pages.{exit_paged, exit_unput, paged_cut, paged_more, paged_none}
 use Rattle.sgb.proofs.writing.families.push_listed_block.Goals as goal
 
 pub returns-in_err-arcs_at-clause-paged : goal.returns-in_err-arcs_at-clause-paged
 returns-in_err-arcs_at-clause-paged g c =
-    exit_unput c.args.page.now (local_block (g.L.Listed.parameters c.args.listed.now) c.args.x.now) _ _ _ _ _ c.from_residual.ensures.1 c.in_err-arcs_at.ensures.memory c.requires.sound
+    exit_unput c.args.page.now (local_block (g.L.Listed.graph c.args.listed.now) c.args.x.now) _ _ _ _ _ c.from_residual.ensures.1 c.in_err-arcs_at.ensures.memory c.requires.sound
 
 pub returns-in_err-push_line-clause-paged : goal.returns-in_err-push_line-clause-paged
 returns-in_err-push_line-clause-paged g c =
-    let parts = parts-named (g.L.Listed.parameters c.args.listed.now) c.args.x.now c.args.name.now c.arcs_at.new.links.arcs c.in_ok-arcs_at.ensures.ok c.requires.named in
-    exit_paged c.args.page.now (local_block (g.L.Listed.parameters c.args.listed.now) c.args.x.now) _ _ _ _ c.from_residual-in_err-push_line.ensures.1
+    let parts = parts-named (g.L.Listed.graph c.args.listed.now) c.args.x.now c.args.name.now c.arcs_at.new.links.arcs c.in_ok-arcs_at.ensures.ok c.requires.named in
+    exit_paged c.args.page.now (local_block (g.L.Listed.graph c.args.listed.now) c.args.x.now) _ _ _ _ c.from_residual-in_err-push_line.ensures.1
     (paged_cut _ _ _ _ _ _ _ _ _ _ _ parts (paged_none _ c.args.page.now _) c.in_err-push_line.ensures.paged)
 
 pub loop-i-init : goal.loop-i-init
 loop-i-init g c =
-    let parts = parts-named (g.L.Listed.parameters c.args.listed.now) c.args.x.now c.args.name.now c.arcs_at.new.links.arcs c.in_ok-arcs_at.ensures.ok c.requires.named in (
+    let parts = parts-named (g.L.Listed.graph c.args.listed.now) c.args.x.now c.args.name.now c.arcs_at.new.links.arcs c.in_ok-arcs_at.ensures.ok c.requires.named in (
       paged_more _ _ _ _ _ _ _ _ _ _ parts (paged_none _ c.args.page.now _) c.in_ok-push_line.ensures.paged.output,
       c.in_ok-push_line.ensures.paged.sound,
     )
@@ -31,22 +29,20 @@ pub push_arc-requires-clause-width : goal.push_arc-requires-clause-width
 push_arc-requires-clause-width g c =
     let arc : LocalArc = record { tip = c.link.inside.tip.now; len = pos c.link.inside.len } in
     let there : slice_get c.arcs_at.new.links.arcs c.loop-i.i ≡ Some arc = c.get-link.ensures ∙ ap Some (sym c.link.view_is) in
-    let listed : slice_get (links_of (g.L.Listed.parameters c.args.listed.now) c.args.x.now) c.loop-i.i ≡ Some arc = ap (λ arcs. slice_get arcs c.loop-i.i) (sym c.in_ok-arcs_at.ensures.ok) ∙ there in
-    tip_width (g.L.Listed.parameters c.args.listed.now) c.args.x.now c.loop-i.i arc c.requires.member listed ∙ ap length (sym c.requires.named)
+    tip_width (length c.args.x.now) c.arcs_at.new.links.arcs c.loop-i.i arc c.in_ok-arcs_at.ensures.widths there ∙ ap length (sym c.requires.named)
 
 pub push_arc-requires-clause-short : goal.push_arc-requires-clause-short
 push_arc-requires-clause-short g c =
     let arc : LocalArc = record { tip = c.link.inside.tip.now; len = pos c.link.inside.len } in
     let there : slice_get c.arcs_at.new.links.arcs c.loop-i.i ≡ Some arc = c.get-link.ensures ∙ ap Some (sym c.link.view_is) in
-    let listed : slice_get (links_of (g.L.Listed.parameters c.args.listed.now) c.args.x.now) c.loop-i.i ≡ Some arc = ap (λ arcs. slice_get arcs c.loop-i.i) (sym c.in_ok-arcs_at.ensures.ok) ∙ there in
-    omega (arith, tip_width (g.L.Listed.parameters c.args.listed.now) c.args.x.now c.loop-i.i arc c.requires.member listed, c.requires.short)
+    omega (arith, tip_width (length c.args.x.now) c.arcs_at.new.links.arcs c.loop-i.i arc c.in_ok-arcs_at.ensures.widths there, c.requires.short)
 
 pub returns-in_err-push_arc-clause-paged : goal.returns-in_err-push_arc-clause-paged
 returns-in_err-push_arc-clause-paged g c =
     let arc : LocalArc = record { tip = c.link.inside.tip.now; len = pos c.link.inside.len } in
     let there : slice_get c.arcs_at.new.links.arcs c.loop-i.i ≡ Some arc = c.get-link.ensures ∙ ap Some (sym c.link.view_is) in
     let first = lines-first c.arcs_at.new.links.arcs c.loop-i.i arc there in
-    exit_paged c.args.page.now (local_block (g.L.Listed.parameters c.args.listed.now) c.args.x.now) _ _ _ _ c.from_residual-in_err-push_arc.ensures.1 (paged_cut _ _ _ _ _ _ _ _ _ _ _ first c.loop-i.invariant.0 c.in_err-push_arc.ensures)
+    exit_paged c.args.page.now (local_block (g.L.Listed.graph c.args.listed.now) c.args.x.now) _ _ _ _ c.from_residual-in_err-push_arc.ensures.1 (paged_cut _ _ _ _ _ _ _ _ _ _ _ first c.loop-i.invariant.0 c.in_err-push_arc.ensures)
 
 pub loop-i-preserved : goal.loop-i-preserved
 loop-i-preserved g c =

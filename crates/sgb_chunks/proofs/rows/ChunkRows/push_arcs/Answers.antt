@@ -3,7 +3,6 @@ use Rattle.std.specs.Prelude.{Some, slice_get}
 use Rattle.std.proofs.lemmas.Int.{to_z-of_z}
 use Rattle.sgb_gen.specs.LocalLists.{LocalArc}
 use Rattle.sgb_gen.specs.VectorGraphs.{vertex_among}
-use Rattle.sgb.specs.Locals.{vectors_of}
 use Rattle.sgb_chunks.proofs.LocalChunks.{one_put}
 use Rattle.sgb_chunks.proofs.rows.ChunkRows.push_arcs.Goals as goal
 
@@ -12,7 +11,7 @@ loop-i-preserved g c =
     let arcs = c.args.links.now.arcs in
     let arc : LocalArc = record { tip = c.link.inside.tip.now; len = pos c.link.inside.len } in
     let there : slice_get arcs c.loop-i.i ≡ Some arc = c.get-link.ensures ∙ ap Some (sym c.link.view_is) in
-    let vectors = vectors_of (g.L.Listed.parameters c.args.listed.now) in
+    let vectors = (g.L.Listed.graph c.args.listed.now).vectors in
     record {
       tips = one_put (λ a. vertex_among vectors a.tip) arcs c.loop-i.i arc c.loop-i.self.tips.items c.push.new.self.items _ there c.loop-i.invariant.tips
           (c.in_ok-push.ensures.items ∙ ap (λ k. c.loop-i.self.tips.items ++ k ∷ []) c.place_of.ensures);

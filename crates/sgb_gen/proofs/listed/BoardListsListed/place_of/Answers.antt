@@ -1,0 +1,20 @@
+use Rattle.std.proofs.Common.{◌∙◌, ◌≡◌, Some, ap, sym, subst}
+use Rattle.std.specs.List.{slice_get}
+use Rattle.sgb_vec.specs.Boxes.{box}
+use Rattle.sgb_vec.specs.Lexicographic.{IsBelow}
+use Rattle.sgb_vec.proofs.BoxPlaces.{IsBelow-from_Contains}
+use Rattle.sgb_gen.specs.Boards.{board_vector_graph}
+use Rattle.sgb_gen.proofs.ListedGraphs.{of_board, place_is_vertex}
+use Rattle.sgb_gen.proofs.listed.BoardListsListed.place_of.Goals as goal
+
+pub place_of-requires : goal.place_of-requires
+place_of-requires c =
+    let sizes = c.family.ensures ∙ ap (λ b. b.sizes) c.self.view_is in
+    subst (IsBelow c.args.x.now) (sym sizes) (IsBelow-from_Contains c.args.self.now.sizes c.args.x.now c.requires)
+
+pub returns : goal.returns
+returns c =
+    let b = c.args.self.now in
+    let vectors = ap box (c.family.ensures ∙ ap (λ d. d.sizes) c.self.view_is) in
+    let there : slice_get (box b.sizes) c.place_of.result ≡ Some c.args.x.now = ap (λ vs. slice_get vs c.place_of.result) (sym vectors) ∙ c.place_of.ensures in
+    place_is_vertex (board_vector_graph b) (of_board b) c.place_of.result c.args.x.now there

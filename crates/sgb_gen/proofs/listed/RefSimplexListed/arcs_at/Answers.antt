@@ -1,0 +1,13 @@
+use Rattle.sgb_gen.specs.Simplexes.{simplex_vector_graph}
+use Rattle.sgb_gen.proofs.ListedGraphs.{of_simplex, tips_put, widths_put}
+use Rattle.sgb_gen.proofs.listed.RefSimplexListed.arcs_at.Goals as goal
+
+pub returns-clause-tips : goal.returns-clause-tips
+returns-clause-tips c =
+    let s = c.args.self.now.now in
+    tips_put (simplex_vector_graph s) (of_simplex s) c.arcs_at.result c.args.x.now c.arcs_at.new.links.arcs c.requires c.arcs_at.ensures.ok
+
+pub returns-clause-widths : goal.returns-clause-widths
+returns-clause-widths c =
+    let s = c.args.self.now.now in
+    widths_put (simplex_vector_graph s) (of_simplex s) c.arcs_at.result c.args.x.now c.arcs_at.new.links.arcs c.requires c.arcs_at.ensures.ok

@@ -1,0 +1,151 @@
+//! What a listing asks of a generator's graph, with no graph.
+ghost use Rattle.std.specs.Prelude.{◌≡◌, length, All, Contains, IfOk, IfSome, OnOk, IsOkUnless};
+ghost use Rattle.sgb_graph.specs.Made.{graph_described};
+ghost use Rattle.sgb_gen.specs.Boards.{board_vector_graph};
+ghost use Rattle.sgb_gen.specs.LocalLists.{list_in};
+ghost use Rattle.sgb_gen.specs.Simplexes.{simplex_vector_graph};
+ghost use Rattle.sgb_gen.specs.Subsets.{subsets_vector_graph};
+ghost use Rattle.sgb_gen.specs.VectorGraphs.{HasEnds, VectorGraph, described_by, vertex_among};
+
+use crate::accepted::{BoardLists, Runs, Simplex, Subsets};
+use crate::links::Links;
+use sgb_graph::Id;
+use sgb_vec::{BoxFamily, Family, Panic, SumFamily};
+
+/// A generator's graph that is listed, one arc list after another.
+pub trait Listed<'a> {
+    /// The family of the vectors that are its vertices.
+    type Members: Family + 'a;
+
+    // The graph.
+    ghost graph: { Self → VectorGraph };
+
+    /// The vectors that are the vertices.
+    fn family(&self) -> &'a Self::Members
+        ensures members { Self.Members.members result.now ≡ (graph self.now).vectors }
+        ensures ends { All (HasEnds (graph self.now).vectors) (graph self.now).moves };
+
+    /// The id of the graph.
+    fn id(&self) -> Id
+        ensures { result ≡ (graph self.now).id };
+
+    /// How many arcs the graph has, where an edge counts as two. They are counted without the lists.
+    ///
+    /// `NoRoom` when out of memory, and nothing else. The memory is from where that of the links comes.
+    fn arcs_count(&self, links: &Links) -> Result<u128, Panic>
+        ensures count { IfOk result (λ m. m ≡ (graph_described (described_by (graph self.now))).m) }
+        ensures memory { IsOkUnless result Panic.NoRoom };
+
+    /// Puts the arcs of the vertex of `x` into `links`, in the order of its list in the graph.
+    ///
+    /// `NoRoom` when out of memory, and nothing else.
+    fn arcs_at(&mut self, x: &[u32], links: &mut Links) -> Result<(), Panic>
+        requires { Contains (graph self.old).vectors x.now }
+        ensures ok { OnOk result (links.new.arcs ≡ list_in (graph self.old) x.now) }
+        ensures tips { OnOk result (All (λ a. Contains (graph self.old).vectors a.tip)
+            links.new.arcs) }
+        ensures widths { OnOk result (All (λ a. length a.tip ≡ length x.now) links.new.arcs) }
+        ensures memory { IsOkUnless result Panic.NoRoom }
+        ensures same { graph self.new ≡ graph self.old };
+
+    /// The list of the vertex of `x` run by run, where it can be had so: no list is then made. No memory is taken.
+    fn runs<'b>(&'b self, x: &'b [u32]) -> Option<Runs<'b>>
+        requires { Contains (graph self.now).vectors x.now }
+        ensures vector { IfSome result (λ r. r.x ≡ x.now) }
+        ensures arcs { IfSome result (λ r. r.arcs ≡ list_in (graph self.now) x.now) };
+
+    /// The vertex of a vector: its place among the vectors, counted from 0. No memory is taken.
+    fn place_of(&self, x: &[u32]) -> u32
+        requires { Contains (graph self.now).vectors x.now }
+        ensures { result ≡ vertex_among (graph self.now).vectors x.now };
+}
+
+impl<'a> Listed<'a> for BoardLists<'a> {
+    type Members = BoxFamily;
+
+    ghost graph = { board_vector_graph };
+
+    fn family(&self) -> &'a BoxFamily {
+        self.board.family()
+    }
+
+    fn id(&self) -> Id {
+        self.board.id()
+    }
+
+    fn arcs_count(&self, _links: &Links) -> Result<u128, Panic> {
+        self.board.arcs_count()
+    }
+
+    fn arcs_at(&mut self, x: &[u32], links: &mut Links) -> Result<(), Panic> {
+        BoardLists::arcs_at(self, x, links)
+    }
+
+    fn runs<'b>(&'b self, x: &'b [u32]) -> Option<Runs<'b>> {
+        BoardLists::runs(self, x)
+    }
+
+    fn place_of(&self, x: &[u32]) -> u32 {
+        self.board.family().place_of(x)
+    }
+}
+
+impl<'a> Listed<'a> for &'a Simplex {
+    type Members = SumFamily;
+
+    ghost graph = { λ s. simplex_vector_graph s.now };
+
+    fn family(&self) -> &'a SumFamily {
+        (**self).family()
+    }
+
+    fn id(&self) -> Id {
+        (**self).id()
+    }
+
+    fn arcs_count(&self, links: &Links) -> Result<u128, Panic> {
+        (**self).arcs_count(links)
+    }
+
+    fn arcs_at(&mut self, x: &[u32], links: &mut Links) -> Result<(), Panic> {
+        (**self).arcs_at(x, links)
+    }
+
+    fn runs<'b>(&'b self, _x: &'b [u32]) -> Option<Runs<'b>> {
+        None
+    }
+
+    fn place_of(&self, x: &[u32]) -> u32 {
+        (**self).family().place_of(x)
+    }
+}
+
+impl<'a> Listed<'a> for &'a Subsets {
+    type Members = SumFamily;
+
+    ghost graph = { λ s. subsets_vector_graph s.now };
+
+    fn family(&self) -> &'a SumFamily {
+        (**self).family()
+    }
+
+    fn id(&self) -> Id {
+        (**self).id()
+    }
+
+    fn arcs_count(&self, _links: &Links) -> Result<u128, Panic> {
+        Ok((**self).arcs_count())
+    }
+
+    fn arcs_at(&mut self, x: &[u32], links: &mut Links) -> Result<(), Panic> {
+        (**self).arcs_at(x, links)
+    }
+
+    fn runs<'b>(&'b self, _x: &'b [u32]) -> Option<Runs<'b>> {
+        None
+    }
+
+    fn place_of(&self, x: &[u32]) -> u32 {
+        (**self).family().place_of(x)
+    }
+}
