@@ -1,5 +1,5 @@
 -- Chunks of a generator's graph.
-use Rattle.std.proofs.Common.{◌≡◌, ◌⊎◌, ◌∙◌, ℕ, suc, ◌+◌, ◌-◌, ◌<◌, ◌≤◌, Bool, true, false, List, [], ◌∷◌, ◌++◌, append_assoc, length, map, drop, drop-cons, add-one, None, Some, refl, sym, ap, ap₂, subst, inl, inr, arith}
+use Rattle.std.proofs.Common.{◌≡◌, ◌⊎◌, ◌∙◌, ℕ, suc, ◌+◌, ◌-◌, ◌<◌, ◌≤◌, Bool, true, false, List, [], ◌∷◌, ◌++◌, append_assoc, length, map, drop, drop-cons, add-one, None, Some, sym, ap, ap₂, subst, inl, inr, arith}
 use Rattle.std.specs.Prelude.{Option, IfNone, IfSome, IsSome, Result, Ok, Err, IfOk, IfErr}
 use Rattle.std.specs.Bool.{OnTrue, OnFalse}
 use Rattle.std.specs.List.{All, Contains, slice_get, slice_index_or}
@@ -13,7 +13,6 @@ use Rattle.sgb_gen.proofs.RisingVectors.{vertex_in_rising}
 use Rattle.sgb_gen.specs.LocalLists.{LocalArc, list_in}
 use Rattle.sgb_graph.specs.Graphs.{GraphData, chain_of}
 use Rattle.sgb_graph.specs.Made.{graph_described}
-use Rattle.sgb_ops.specs.Operands.{names_of}
 use Rattle.sgb.specs.Locals.{vectors_of}
 use Rattle.sgb.specs.Values.{described, vector_graph_of}
 use Rattle.sgb.specs.declared.locals.Local.{Local}
