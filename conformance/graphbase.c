@@ -16,7 +16,6 @@
 #include <stdio.h>
 #include <stdlib.h>
 #include <string.h>
-#include <unistd.h>
 
 #include "gb_graph.h"
 #include "gb_basic.h"
@@ -146,27 +145,17 @@ static unsigned long bits(void)
 
 static Graph *expression(void);
 
-/* restore_graph and save_graph want the name of a file: the one in use, which is removed at the end. */
-static char file_name[] = P_tmpdir "/graphbase.XXXXXX";
-static int is_open;
-
-static void remove_file(void)
-{
-  if (is_open) unlink(file_name);
-  is_open = 0;
-}
+/* restore_graph and save_graph want the name of a file: that by which Linux opens one that is open and has no other. */
+static FILE *file;
+static char file_name[32];
 
 static FILE *new_file(void)
 {
-  int file;
-  FILE *out;
-  remove_file();
-  strcpy(file_name, P_tmpdir "/graphbase.XXXXXX");
-  file = mkstemp(file_name);
-  is_open = file >= 0;
-  out = is_open ? fdopen(file, "w") : NULL;
-  if (!out) fail(3, "no temporary file");
-  return out;
+  if (file) fclose(file);
+  file = tmpfile();
+  if (!file) fail(3, "no temporary file");
+  sprintf(file_name, "/dev/fd/%d", fileno(file));
+  return file;
 }
 
 static void copy(FILE *in, FILE *out)
@@ -181,10 +170,9 @@ static void copy(FILE *in, FILE *out)
 /* The graph of the file on standard input. */
 static Graph *from_input(void)
 {
-  if (!is_open) {
-    FILE *out = new_file();
-    copy(stdin, out);
-    if (fclose(out) != 0) fail(3, "write fault");
+  if (!file) {
+    copy(stdin, new_file());
+    if (fflush(file) != 0) fail(3, "write fault");
   }
   return sound() ? made(restore_graph(file_name)) : NULL;
 }
@@ -623,7 +611,7 @@ static void write_library_file(Graph *g)
 {
   long anomalies;
   FILE *in;
-  fclose(new_file());
+  new_file();
   anomalies = save_graph(g, file_name);
   in = fopen(file_name, "r");
   if (!in) fail(3, "no temporary file");
@@ -682,7 +670,6 @@ static int is_command(const char *word)
 int main(int count, char *words[])
 {
   if (count != 3 || !is_command(words[1])) fail(2, "usage: graphbase names|list|save|unhashed|file|flip TEXT");
-  atexit(remove_file);
   if (strcmp(words[1], "flip") == 0) write_numbers(words[2]);
   else write_graph(words[1], words[2]);
   if (reason) {
