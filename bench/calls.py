@@ -36,6 +36,7 @@ CALLS = [
     "Graph::new_edge",
     "Graph::reserve",
     "Parts::add_vertex",
+    "Parts::add_vertex_with_ints",
     "Parts::add_arc",
     "Parts::check",
     "board",

@@ -11,11 +11,13 @@ use Rattle.std.proofs.lemmas.List.{length-map, length_push, length-replicate, le
 use Rattle.std.proofs.lemmas.Option.{get_or_from_slice_get, slice_get-map, slice_get_within}
 use Rattle.sgb_graph.specs.inner.Columns.{HoldsMany, column_kind, values}
 use Rattle.sgb_graph.specs.Growth.{at_place, first_arc, new_vertex, number_or_zero, put_numbers, some_numbers, with_numbers, with_some_numbers}
+use Rattle.sgb_graph.specs.Parts.{vertex_with_ints}
 use Rattle.sgb_graph.specs.inner.Growth.{with_arcs}
 use Rattle.sgb_graph.specs.inner.KeptRecords.{kept_number}
-use Rattle.sgb_graph.specs.inner.KeptVertices.{AreColumns, AreKept, KeptVertices, HasNumber, HaveValues, HoldNumbers, TakeNumbers, bare_named, bare_vertex, field_columns, field_kinds, kept_items, kept_vertices, number_at, numbers_kind, numbers_values, rows, with_fields, with_row}
+use Rattle.sgb_graph.specs.inner.KeptVertices.{AreColumns, AreKept, KeptVertices, HasNumber, HaveValues, HoldNumbers, TakeNumbers, bare_named, bare_vertex, field_columns, field_kinds, ints_inside, kept_items, kept_vertices, number_at, numbers_kind, numbers_values, rows, with_fields, with_row}
 use Rattle.sgb_graph.specs.Made.{no_fields}
 use Rattle.sgb_graph.specs.declared.columns.Column.{Column}
+use Rattle.sgb_graph.specs.declared.columns.Column.TheVariants.{Unused}
 use Rattle.sgb_graph.specs.declared.fields.Kind.{Kind}
 use Rattle.sgb_graph.specs.declared.fields.Kind.TheVariants.{Z, I}
 use Rattle.sgb_graph.specs.declared.fields.Util.{Util}
@@ -25,7 +27,7 @@ use Rattle.sgb_graph.specs.declared.vertices.Fields.{Fields}
 use Rattle.sgb_graph.specs.declared.vertices.Numbers.{Numbers}
 use Rattle.sgb_graph.specs.declared.vertices.Numbers.TheVariants.{Inside, Beside}
 use Rattle.sgb_graph.specs.declared.vertices.PlainVertex.{PlainVertex}
-use Rattle.sgb_graph.proofs.ColumnValues.{HasPlace-below, unused}
+use Rattle.sgb_graph.proofs.ColumnValues.{HasPlace-below, unused, values-unused}
 use Rattle.sgb_graph.proofs.Lists.{at_place-is_set, length-at_place, map-map}
 use Rattle.sgb_graph.proofs.Tables.{at_place-at_place, at_place-same, at_place-set, combined-at_first, combined-at_second, combined-map_second, combined-push, combined_at, length-combined, length-rows, rows-at, rows-map, rows-push, rows-replicate}
 
@@ -393,6 +395,20 @@ fields_pushed ps p f g a b c d e h i j k ints kept u v w x y z =
       z 2 ps p (at 2) kept.1.1.1.1.1.0,
     ) refl
 
+-- three integers in a vertex are a row of fields that are left alone
+ints_row : (ps : List PlainVertex) (p : PlainVertex) (x y z : ℤ) → p.ints ≡ x ∷ y ∷ z ∷ [] → AreKept ps ints_inside
+    → field_columns (ps ++ p ∷ []) ints_inside ≡ with_row (field_columns ps ints_inside) (put_numbers x y z no_fields)
+ints_row ps p x y z ints kept =
+    fields_pushed ps p ints_inside ints_inside Nothing Nothing Nothing (Int x) (Int y) (Int z) x y z ints kept none none none (one x) (one y) (one z)
+  where
+    none : AddsValue Unused Unused Nothing
+    none n whole = values-unused n Unused refl
+
+    one : (i : ℤ) → AddsNumber Inside Inside (Int i) i
+    one i place qs q at whole =
+        let f : PlainVertex → Util = λ r. Int (number_at place r) in
+        map-append f qs (q ∷ []) ∙ ap (λ (j : ℤ). map f qs ++ Int j ∷ []) at
+
 -- columns with one row more
 columns_row : (n : ℕ) (columns : List (List Util)) (row : List Util) → length columns ≡ length row → AreColumns n columns → AreColumns (suc n) (with_row columns row)
 columns_row n [] [] long are = tt
@@ -457,6 +473,15 @@ vertex_pushed ps qs rs p f h g x kept same pushed kinds columns of_kinds row six
     let room : AreKept ps h = subst (AreColumns (length ps)) (sym (columns ps)) kept in
     subst (λ (l : List PlainVertex). AreMore ps f l g x) (sym (pushed ∙ ap (λ (l : List PlainVertex). l ++ p ∷ []) same))
     (kept_more ps p f g x kept (of_kinds ∙ kinds) (row room ∙ ap (λ t. with_row t x.util) (columns ps)) six name arcs)
+
+-- the same of three integers, which pass through words of 64 bits
+pub ints_pushed : (ps qs rs : List PlainVertex) (p : PlainVertex) (f : Fields) (text : List ℕ) (first : Option ℕ) (x y z : ℤ) → SFits w64 x → SFits w64 y → SFits w64 z → f ≡ ints_inside → AreKept ps f
+    → qs ≡ ps → rs ≡ qs ++ p ∷ [] → p.ints ≡ to_z w64 (of_z w64 x) ∷ to_z w64 (of_z w64 y) ∷ to_z w64 (of_z w64 z) ∷ [] → p.name ≡ text → kept_number p.arcs ≡ first
+    → AreMore ps f rs f (vertex_with_ints text first x y z)
+ints_pushed ps qs rs p f text first x y z i j k alone kept same pushed ints name arcs =
+    subst (λ (g : Fields). AreKept ps g → AreMore ps g rs g (vertex_with_ints text first x y z)) (sym alone)
+    (λ whole. vertex_pushed ps qs rs p ints_inside ints_inside ints_inside (vertex_with_ints text first x y z) whole same pushed refl (λ l. refl) refl
+    (λ room. ints_row ps p x y z (simp to_z-of_z at ints) room) refl name arcs) kept
 
 -- a column changed, which keeps its length
 columns_at : (f : List Util → List Util) (n k : ℕ) (columns : List (List Util)) → ((us : List Util) → length (f us) ≡ length us) → AreColumns n columns → AreColumns n (at_place f k columns)

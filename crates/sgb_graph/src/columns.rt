@@ -1,9 +1,11 @@
 //! The values of one utility field, of all vertices or of all arc records of a graph, kept by their kind.
 ghost use Rattle.std.specs.Prelude.{◌≡◌, ◌<◌, ◌+◌, ℕ, [], ◌∷◌, ◌++◌, length, slice_get, Some, OnOk};
+ghost use Rattle.std.specs.Bool.{OnTrue};
 ghost use Rattle.sgb_graph.specs.Columns.{util_seen};
 ghost use Rattle.std.specs.List.{list_all};
 ghost use Rattle.sgb_graph.specs.Sound.{chain_fits, ref_fits, util_fits};
 ghost use Rattle.sgb_graph.specs.inner.Columns.{HasPlace, HasRoom, HoldsMany, column_kind, util_kind, values};
+ghost use Rattle.sgb_graph.specs.declared.columns.Column.TheVariants.{Unused};
 
 use crate::fields::{Kind, Ref, Util, UtilRef};
 use crate::ranges::{chain_fits, ref_fits};
@@ -47,6 +49,14 @@ impl Column {
             Column::Texts(_) => Kind::S,
             Column::Chains(_) => Kind::A,
         }
+    }
+
+    // Whether the field is not used.
+    #[inline(always)]
+    pub(crate) fn is_unused(&self) -> bool
+        ensures { OnTrue result (self.now ≡ Unused) }
+    {
+        matches!(self, Column::Unused)
     }
 
     // Takes room for one value more. The values stay, whether there is room or not.

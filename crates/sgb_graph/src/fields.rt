@@ -1,5 +1,6 @@
 ghost use Rattle.std.specs.Prelude.{◌≡◌};
 ghost use Rattle.sgb_graph.specs.Columns.{util_seen};
+ghost use Rattle.sgb_graph.specs.Parts.{vertex_with_ints};
 ghost use Rattle.sgb_graph.specs.inner.Columns.{util_kind};
 
 use sgb_vec::Text;
@@ -94,6 +95,23 @@ pub struct Vertex {
     pub name: Text,
     pub arcs: Option<usize>,
     pub util: [Util; 6],
+}
+
+impl Vertex {
+    // The vertex with this name and this first record, which holds integers in x, y, z and nothing in u, v, w.
+    pub(crate) fn with_ints(name: Text, arcs: Option<usize>, x: i64, y: i64, z: i64) -> Vertex
+        ensures { result ≡ vertex_with_ints name arcs x y z }
+    {
+        let util = [
+            Util::Nothing,
+            Util::Nothing,
+            Util::Nothing,
+            Util::Int(x),
+            Util::Int(y),
+            Util::Int(z),
+        ];
+        Vertex { name, arcs, util }
+    }
 }
 
 /// An arc record: where it leads, the next record of the list that it is on, its length, and its utility

@@ -1,7 +1,7 @@
 ghost use Rattle.std.specs.Prelude.{◌≡◌, ◌≤◌, ◌^◌, [], false, Err, OnOk, OnErr, IfOk, IsOkUnless};
 ghost use Rattle.sgb_graph.specs.Growth.{graph_data};
 ghost use Rattle.sgb_vec.specs.Results.{IsValue};
-ghost use Rattle.sgb_graph.specs.Parts.{checked, parts_fit, with_record, with_vertex};
+ghost use Rattle.sgb_graph.specs.Parts.{checked, parts_fit, vertex_with_ints, with_record, with_vertex};
 ghost use Rattle.sgb_graph.specs.Sound.{IsGraph};
 
 // Whether vertices and records fit kinds and numbers.
@@ -15,7 +15,7 @@ use crate::fields::{ArcRec, Kind, Util, Vertex};
 use crate::graphs::Graph;
 use crate::ids::Id;
 use kept::KeptParts;
-use sgb_vec::Panic;
+use sgb_vec::{Panic, Text};
 use std::alloc::Global;
 use std::marker::Model;
 
@@ -73,6 +73,32 @@ impl Parts {
         }
         self.more_vertices.push(vertex)?;
         Ok(())
+    }
+
+    /// Puts a vertex after the others that holds integers in the utility fields x, y, z and nothing in u, v, w (GB_SAVE,
+    /// restore_graph). It is `add_vertex` of such a vertex.
+    ///
+    /// `NoRoom` when out of memory, and nothing else; the parts are then as they were, and the name is dropped.
+    // Where all vertices are such, nothing but the vertex itself is written, once.
+    #[inline(always)]
+    pub fn add_vertex_with_ints(
+        &mut self,
+        name: Text,
+        arcs: Option<usize>,
+        x: i64,
+        y: i64,
+        z: i64,
+    ) -> Result<(), Panic>
+        ensures ok { OnOk result (self.new
+            ≡ with_vertex (vertex_with_ints name arcs x y z) self.old) }
+        ensures err { OnErr result (self.new ≡ self.old) }
+        ensures memory { IsOkUnless result Panic.NoRoom }
+    {
+        if self.more_vertices.is_empty() && self.kept.takes_ints(arcs) {
+            self.kept.push_ints(name, arcs, x, y, z)?;
+            return Ok(());
+        }
+        self.add_vertex(Vertex::with_ints(name, arcs, x, y, z))
     }
 
     /// Puts an arc record after the others (GB_SAVE, restore_graph).

@@ -1,15 +1,17 @@
 //! The vertices of a graph, in little memory: integers in the utility fields x, y, z stand in the vertex itself, all
 //! other utility fields beside.
 ghost use Rattle.std.specs.Prelude.{◌≡◌, ◌<◌, ◌+◌, ◌^◌, ◌++◌, ◌&&◌, ℕ, List, [], ◌∷◌, length, map, slice_get, slice_set, Some, IfOk, IfSome, OnErr, OnOk};
+ghost use Rattle.std.specs.Bool.{OnTrue};
 ghost use Rattle.std.specs.List.{list_all};
 ghost use Rattle.sgb_graph.specs.Columns.{util_seen, vertex_seen};
 ghost use Rattle.sgb_graph.specs.Sound.{chain_fits, util_fits};
 ghost use Rattle.sgb_graph.specs.inner.Columns.{HoldsMany, util_kind, values};
 ghost use Rattle.sgb_graph.specs.inner.Fitting.{vertex_fits_by};
 ghost use Rattle.sgb_graph.specs.Growth.{at_place, first_arc, new_vertex, number_or_zero, with_numbers, with_some_numbers};
+ghost use Rattle.sgb_graph.specs.Parts.{vertex_with_ints};
 ghost use Rattle.sgb_graph.specs.inner.Growth.{with_arcs};
 ghost use Rattle.sgb_graph.specs.inner.KeptRecords.{kept_number};
-ghost use Rattle.sgb_graph.specs.inner.KeptVertices.{AreKept, HoldNumbers, TakeNumbers, bare_named, bare_vertex, columns_fit, field_columns, field_kinds, kinds_of_vertices, numbers_values};
+ghost use Rattle.sgb_graph.specs.inner.KeptVertices.{AreKept, HoldNumbers, TakeNumbers, bare_named, bare_vertex, columns_fit, field_columns, field_kinds, ints_alone, ints_inside, kinds_of_vertices, numbers_values};
 ghost use Rattle.sgb_graph.specs.declared.fields.Kind.{Kind};
 ghost use Rattle.sgb_graph.specs.declared.fields.Kind.TheVariants.{Z, I};
 ghost use Rattle.sgb_graph.specs.declared.fields.Util.TheVariants.{Int};
@@ -133,6 +135,39 @@ impl Vertices {
         Ok(())
     }
 
+    // Whether they hold integers in x, y, z and nothing in u, v, w, so that nothing stands beside.
+    #[inline(always)]
+    pub(crate) fn hold_ints_alone(&self) -> bool
+        ensures { OnTrue result (kinds_of_vertices self.now ≡ ints_alone) }
+    {
+        self.fields.are_ints_inside()
+    }
+
+    // Puts a vertex that holds integers in x, y, z and nothing in u, v, w, as the others do, after them.
+    #[inline(always)]
+    pub(crate) fn push_ints(
+        &mut self,
+        name: Text,
+        arcs: Option<usize>,
+        x: i64,
+        y: i64,
+        z: i64,
+    ) -> Result<(), AllocError>
+        requires kinds { kinds_of_vertices self.old ≡ ints_alone }
+        requires arcs { IfSome arcs (λ k. k + 1 < 2 ^ 64) }
+        ensures ok { OnOk result (self.new ≡ record self.old
+            { items = self.old.items ++ vertex_with_ints name arcs x y z ∷ [] }) }
+        ensures err { OnErr result (self.new ≡ self.old) }
+    {
+        // Kinds do not tell that the integers stand in the vertices.
+        if !self.fields.are_ints_inside() {
+            return self.push(Vertex::with_ints(name, arcs, x, y, z));
+        }
+        self.plain.reserve(1)?;
+        put(&mut self.plain, PlainVertex::new(name, arcs, [x, y, z]));
+        Ok(())
+    }
+
     // The name of vertex `v < n`.
     pub(crate) fn name(&self, v: u32) -> &Text
         requires { v < length self.now.items }
@@ -250,6 +285,14 @@ impl Numbers {
         }
     }
 
+    // Whether it holds integers, which stand in the vertices.
+    #[inline(always)]
+    fn is_inside(&self) -> bool
+        ensures { OnTrue result (self.now ≡ Inside) }
+    {
+        matches!(self, Numbers::Inside)
+    }
+
     // Takes room for one value more. The values stay, whether there is room or not.
     #[inline(always)]
     fn reserve(&mut self) -> Result<(), AllocError>
@@ -345,6 +388,19 @@ impl Fields {
             self.y.kind(),
             self.z.kind(),
         ]
+    }
+
+    // Whether x, y, z hold integers, which stand in the vertices, and u, v, w nothing.
+    #[inline(always)]
+    fn are_ints_inside(&self) -> bool
+        ensures { OnTrue result (self.now ≡ ints_inside) }
+    {
+        self.u.is_unused()
+            && self.v.is_unused()
+            && self.w.is_unused()
+            && self.x.is_inside()
+            && self.y.is_inside()
+            && self.z.is_inside()
     }
 
     // Takes room for the values of one vertex more. The values stay, whether there is room or not.

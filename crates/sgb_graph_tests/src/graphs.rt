@@ -165,7 +165,7 @@ fn holds(util: UtilRef<'_>, number: i64) -> bool {
 }
 
 // Whether the vertex has these numbers in its fields x, y, z, and nothing in the others.
-fn has_numbers(graph: &Graph, v: u32, numbers: &[i64; 3]) -> bool {
+pub(crate) fn has_numbers(graph: &Graph, v: u32, numbers: &[i64; 3]) -> bool {
     if v >= graph.n() {
         return false;
     }

@@ -1,4 +1,4 @@
-use crate::graphs::has_list;
+use crate::graphs::{has_list, has_numbers};
 use sgb_graph::{ArcRec, Graph, Id, Kind, Parts, Ref, Util, Vertex};
 use sgb_vec::{Panic, Text};
 use std::alloc::Global;
@@ -179,6 +179,55 @@ fn chains_end_and_lists_lead_to_vertices(rt: HostRuntime) {
         assert!(rt; refusal(rt.alloc(), firsts, records) == Ok(Some(Panic::Syntax)));
     }
     assert!(rt; refusal(rt.alloc(), &[None], &[(Ref::Null, None)]) == Ok(None));
+}
+
+// Adds a vertex with integers in x, y, z, and the record of its list.
+fn add_ints(parts: &mut Parts, alloc: Global) -> Result<(), Panic> {
+    let name = Text::new(alloc, b"x")?;
+    parts.add_vertex_with_ints(name, Some(0), 4, -5, 6)?;
+    add_record(parts, Ref::At(0), None, Value::Nothing)
+}
+
+// The parts that have these two, where the fields u and z of vertices are of these kinds, and x and y hold integers.
+fn parts_with_ints(alloc: Global, u: Kind, z: Kind) -> Result<Parts, Panic> {
+    let mut kinds = [Kind::Z; 14];
+    kinds[0] = u;
+    kinds[3] = Kind::I;
+    kinds[4] = Kind::I;
+    kinds[5] = z;
+    let mut parts = parts_of(alloc, 3, kinds)?;
+    add_ints(&mut parts, alloc)?;
+    Ok(parts)
+}
+
+// Whether that vertex is the one of the graph.
+fn has_ints(graph: &Graph) -> bool {
+    if !is_graph_of(graph, 1, 1) || graph.n() != 1 {
+        return false;
+    }
+    graph.name(0).bytes() == b"x".as_slice()
+        && has_list(graph, 0, &[(0, 0, 1)])
+        && has_numbers(graph, 0, &[4, -5, 6])
+}
+
+// Whether it is where the kinds are those of such a vertex.
+fn are_graph_with_ints(alloc: Global) -> Result<bool, Panic> {
+    let graph = parts_with_ints(alloc, Kind::Z, Kind::I)?.check()?;
+    Ok(has_ints(&graph))
+}
+
+// What the check says of these parts.
+fn refusal_with_ints(alloc: Global, u: Kind, z: Kind) -> Result<Option<Panic>, Panic> {
+    Ok(refusal_of(parts_with_ints(alloc, u, z)?))
+}
+
+#[test]
+fn a_vertex_may_come_with_its_integers(rt: HostRuntime) -> Result<(), Fail> {
+    let alloc = rt.alloc();
+    assert!(rt; are_graph_with_ints(alloc)?);
+    assert!(rt; refusal_with_ints(alloc, Kind::V, Kind::I) == Ok(Some(Panic::Syntax)));
+    assert!(rt; refusal_with_ints(alloc, Kind::Z, Kind::Z) == Ok(Some(Panic::Syntax)));
+    Ok(())
 }
 
 // Adds a vertex for each value here, in its first field, and so a record for each.

@@ -5,8 +5,9 @@ use Rattle.sgb_graph.specs.Sound.{util_fits}
 use Rattle.sgb_graph.specs.inner.Columns.{HasPlace, HasRoom, column_kind, values}
 use Rattle.sgb_graph.specs.Growth.{number_or_zero}
 use Rattle.sgb_graph.specs.inner.KeptRecords.{kept_number}
+use Rattle.sgb_graph.specs.declared.columns.Column.TheVariants.{Unused}
 use Rattle.sgb_graph.specs.declared.fields.Kind.{Kind}
-use Rattle.sgb_graph.specs.declared.fields.Kind.TheVariants.{I}
+use Rattle.sgb_graph.specs.declared.fields.Kind.TheVariants.{Z, I}
 use Rattle.sgb_graph.specs.declared.fields.Util.{Util}
 use Rattle.sgb_graph.specs.declared.fields.Util.TheVariants.{Int}
 use Rattle.sgb_graph.specs.declared.fields.Vertex.{Vertex}
@@ -28,6 +29,10 @@ pub record KeptVertices : Type 0 where
 -- the kinds of these fields
 abbrev pub kinds_of_vertices : KeptVertices → List Kind
 kinds_of_vertices g = g.u ∷ g.v ∷ g.w ∷ g.x ∷ g.y ∷ g.z ∷ []
+
+-- those of vertices that hold integers in x, y, z and nothing in u, v, w
+abbrev pub ints_alone : List Kind
+ints_alone = Z ∷ Z ∷ Z ∷ I ∷ I ∷ I ∷ []
 
 -- the number of this place in a vertex
 abbrev pub number_at : ℕ → PlainVertex → ℤ
@@ -70,6 +75,10 @@ pub record HaveRoom (f : Fields) : Type 0 where
   pub x : HasNumberRoom f.x
   pub y : HasNumberRoom f.y
   pub z : HasNumberRoom f.z
+
+-- integers in x, y, z, which stand in the vertices, and nothing in u, v, w
+abbrev pub ints_inside : Fields
+ints_inside = record { u = Unused; v = Unused; w = Unused; x = Inside; y = Inside; z = Inside }
 
 -- the kinds of the fields
 abbrev pub field_kinds : Fields → List Kind

@@ -1,21 +1,24 @@
 //! Parts whose fields hold values of their kinds, kept as a graph keeps them.
 ghost use Rattle.std.specs.Prelude.{◌≡◌, ◌<◌, ◌≤◌, ◌+◌, ◌^◌, ◌&&◌, ◌==◌, [], ◌∷◌, length, nat_le, false, Err, IsTrue, OnOk, OnErr, IfOk};
+ghost use Rattle.std.specs.Bool.{OnTrue};
 ghost use Rattle.std.specs.List.{list_all};
 ghost use Rattle.sgb_vec.specs.Limits.{most_vertices};
 ghost use Rattle.sgb_graph.specs.Growth.{graph_data};
 ghost use Rattle.sgb_vec.specs.Results.{IsValue};
-ghost use Rattle.sgb_graph.specs.Parts.{checked, parts_fit, with_record, with_vertex};
-ghost use Rattle.sgb_graph.specs.Sound.{IsGraph, fields_fit, graph_kinds, is_sound, record_fits, utils_fit, vertex_fits, vertex_kinds};
-ghost use Rattle.sgb_graph.specs.inner.Fitting.{record_may_fit, vertex_may_fit};
+ghost use Rattle.sgb_graph.specs.Parts.{checked, parts_fit, vertex_with_ints, with_record, with_vertex};
+ghost use Rattle.sgb_graph.specs.Sound.{IsGraph, chain_fits, fields_fit, graph_kinds, is_sound, record_fits, utils_fit, vertex_fits, vertex_kinds};
+ghost use Rattle.sgb_graph.specs.inner.Fitting.{most, record_may_fit, vertex_may_fit};
+ghost use Rattle.sgb_graph.specs.inner.KeptVertices.{ints_alone};
 
 use super::fitting::{record_fits, utils_fit, vertex_fits};
 use super::walks::{chains_end, lead_back, lists_lead_to_vertices};
 use crate::fields::{ArcRec, Kind, Util, Vertex};
 use crate::graphs::Graph;
 use crate::ids::Id;
+use crate::ranges::chain_fits;
 use crate::records::Records;
 use crate::vertices::Vertices;
-use sgb_vec::{MOST_VERTICES, Panic};
+use sgb_vec::{MOST_VERTICES, Panic, Text};
 use std::alloc::{AllocError, Global};
 use std::marker::Model;
 
@@ -95,6 +98,34 @@ impl KeptParts {
         ensures err { OnErr result (self.new ≡ self.old) }
     {
         self.vertices.push(vertex)
+    }
+
+    // Whether vertices hold integers in x, y, z and nothing in u, v, w, and one with this first record may be one of them.
+    #[inline(always)]
+    pub(super) fn takes_ints(&self, arcs: Option<usize>) -> bool
+        ensures kinds { OnTrue result (vertex_kinds self.now.kinds ≡ ints_alone) }
+        ensures arcs { OnTrue result (IsTrue (chain_fits most arcs)) }
+    {
+        self.vertices.hold_ints_alone() && chain_fits(usize::MAX, arcs)
+    }
+
+    // Puts a vertex that holds integers in x, y, z and nothing in u, v, w after the others.
+    #[inline(always)]
+    pub(super) fn push_ints(
+        &mut self,
+        name: Text,
+        arcs: Option<usize>,
+        x: i64,
+        y: i64,
+        z: i64,
+    ) -> Result<(), AllocError>
+        requires kinds { vertex_kinds self.old.kinds ≡ ints_alone }
+        requires arcs { IsTrue (chain_fits most arcs) }
+        ensures ok { OnOk result (self.new
+            ≡ with_vertex (vertex_with_ints name arcs x y z) self.old) }
+        ensures err { OnErr result (self.new ≡ self.old) }
+    {
+        self.vertices.push_ints(name, arcs, x, y, z)
     }
 
     // Puts a record after the others.
