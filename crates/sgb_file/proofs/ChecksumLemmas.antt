@@ -1,9 +1,9 @@
 -- Lemmas on the order of bytes in the checksum, and on the sum made byte by byte.
-use Rattle.std.specs.Prelude.{◌≡◌, ℕ, suc, ◌+◌, ◌*◌, ◌/◌, ◌%◌, ◌^◌, ◌<◌, ◌≤◌, Bool, true, not, ◌&&◌, ◌||◌, List, [], ◌∷◌, ◌++◌, length, take, drop, fold, refl, nat_lt, ◌==◌, slice_index}
+use Rattle.std.specs.Prelude.{◌≡◌, ℕ, suc, ◌+◌, ◌*◌, ◌/◌, ◌%◌, ◌^◌, ◌<◌, ◌≤◌, Bool, true, not, ◌&&◌, ◌||◌, List, [], ◌∷◌, ◌++◌, length, take, fold, refl, nat_lt, ◌==◌, slice_index}
 use Rattle.std.specs.List.{list_all, range_with_len}
-use Rattle.std.proofs.Common.{arith, ap, sym, ◌∙◌, length-append}
+use Rattle.std.proofs.Common.{arith, ap, sym, ◌∙◌}
 use Rattle.std.proofs.Math.Nat.{mul_assoc, mul_comm, add-mul, pow-suc, add-mul-mod_self_right, mod-add-div', mod-eq_of_lt, two-pow-succ}
-use Rattle.std.proofs.lemmas.List.{drop_all, drop_more, take-append-drop}
+use Rattle.std.proofs.lemmas.List.{take_more}
 use Rattle.std.proofs.lemmas.List.Sums.{fold-append, prefix_len-le-length}
 use Rattle.std.proofs.lemmas.Nat.{mod_below}
 use native.Mathlib.Nat.{pow-le-pow_right}
@@ -11,7 +11,7 @@ use Rattle.std.proofs.lemmas.Bool.Decides.{Decides-eqb, Decides-ltb, nat_tests}
 use Rattle.sgb_graph.proofs.TestLemmas.{at_each_below, both_first, both_second, where_passes}
 use Rattle.std.specs.Prelude.{slice_index_or as get_or}
 use Rattle.std.proofs.lemmas.Grind.{get_or_default_zero}
-use Rattle.sgb_file.specs.inner.Layouts.{checksum_after, checksum_from, place_of, places}
+use Rattle.sgb_file.specs.inner.Layouts.{checksum_after, checksum_from, place_of, places, value_after, value_from}
 use Rattle.sgb_file.specs.Checksum.{characters, checksum_prime, value_of_byte, is_character, weighted_sum}
 
 -- the byte has a place below 96, where it stands
@@ -69,64 +69,51 @@ remainder_doubled n v p =
     ap (λ (x : ℕ). (x + v) % p) (mul_comm 2 (n % p))
     ∙ (remainder_in_sum n 2 v p ∙ ap (λ (x : ℕ). (x + v) % p) (mul_comm n 2))
 
--- a byte more, with no remainder taken
-pub byte_counted : (value : ℕ) (bytes : List ℕ) (i : ℕ) → i < length bytes
-    → checksum_from (value % checksum_prime) (drop i bytes)
-    ≡ checksum_from ((2 * value + place_of (get_or bytes i 0)) % checksum_prime) (drop (i + 1) bytes)
-unfolding checksum_from checksum_after
-byte_counted value bytes i within =
-    ap (checksum_from (value % checksum_prime)) (drop_more bytes i 0 within)
-    ∙ ap (λ sum. checksum_from sum (drop (i + 1) bytes)) (remainder_doubled value (place_of (get_or bytes i 0)) checksum_prime)
-
 -- the checksum after some bytes may begin at the remainder
 pub from_remainder : (sum : ℕ) (few : List ℕ) → 0 < length few → checksum_from (sum % checksum_prime) few ≡ checksum_from sum few
 unfolding checksum_from checksum_after
 from_remainder sum [] some = absurd (omega (arith, some))
 from_remainder sum (b ∷ few) some = ap (λ x. checksum_from x few) (remainder_doubled sum (place_of b) checksum_prime)
 
--- the first bytes of a text, with the remainder taken at their end
-pub bytes_counted : (sum value k : ℕ) (bytes : List ℕ) → 0 < length (take k bytes)
-    → value % checksum_prime ≡ checksum_from (sum % checksum_prime) (take k bytes)
-    → checksum_from (value % checksum_prime) (drop k bytes) ≡ checksum_from sum bytes
-unfolding checksum_from
-bytes_counted sum value k bytes some counted =
-    ap (λ x. checksum_from x (drop k bytes)) (counted ∙ from_remainder sum (take k bytes) some)
-    ∙ (sym (fold-append checksum_after sum (take k bytes) (drop k bytes)) ∙ ap (checksum_from sum) (take-append-drop k bytes))
-
--- a newline more
-pub newline_counted : (sum value place : ℕ) (bytes : List ℕ) → value % checksum_prime ≡ checksum_from sum bytes → place ≡ place_of 10
-    → (2 * value + place) % checksum_prime ≡ checksum_from sum (bytes ++ 10 ∷ [])
-unfolding checksum_from checksum_after
-newline_counted sum value place bytes counted e =
-    ap (λ (p : ℕ). (2 * value + p) % checksum_prime) e
-    ∙ (sym (remainder_doubled value (place_of 10) checksum_prime)
-    ∙ (ap (λ (s : ℕ). (2 * s + place_of 10) % checksum_prime) counted ∙ sym (fold-append checksum_after sum bytes (10 ∷ []))))
-
--- the last bytes of a text and a newline, with the remainder taken at their end
-pub end_counted : (sum after value : ℕ) (rest bytes : List ℕ) → checksum_from after rest ≡ checksum_from sum bytes
-    → value % checksum_prime ≡ checksum_from (after % checksum_prime) (rest ++ 10 ∷ []) → value % checksum_prime ≡ checksum_from sum (bytes ++ 10 ∷ [])
-unfolding checksum_from
-end_counted sum after value rest bytes so_far counted =
-    let some : 0 < length (rest ++ 10 ∷ []) = omega (arith, length-append rest (10 ∷ [])) in
-    counted ∙ from_remainder after (rest ++ 10 ∷ []) some
-    ∙ (fold-append checksum_after after rest (10 ∷ []) ∙ (ap (λ (s : ℕ). checksum_after s 10) so_far ∙ sym (fold-append checksum_after sum bytes (10 ∷ []))))
-
--- no bytes are left
-pub nothing_counted : (sum i : ℕ) (bytes : List ℕ) → length bytes ≤ i → checksum_from sum (drop i bytes) ≡ sum
-unfolding checksum_from
-nothing_counted sum i bytes past = ap (checksum_from sum) (drop_all i bytes past)
-
--- a value has room for a byte more before the 31st, and so it grows
-pub value_has_room : (value i n : ℕ) → value + 256 ≤ 2 ^ (33 + i) → i < n → n ≤ 31 → value + 256 ≤ 2 ^ 63
-value_has_room value i n h within short =
-    let few : 33 + i ≤ 63 = omega (arith, within, short) in
-    let most : 2 ^ (33 + i) ≤ 2 ^ 63 = pow-le-pow_right (omega arith) few in
-    omega (arith, h, most)
-
-pub value_doubled : (value byte i : ℕ) → value + 256 ≤ 2 ^ (33 + i) → byte < 256 → 2 * value + byte + 256 ≤ 2 ^ (33 + (i + 1))
+-- a value that grows by a byte
+value_doubled : (value byte i : ℕ) → value + 256 ≤ 2 ^ (33 + i) → byte < 256 → 2 * value + byte + 256 ≤ 2 ^ (33 + (i + 1))
 value_doubled value byte i h small =
     let next : 33 + (i + 1) ≡ suc (33 + i) = omega arith in
     rw next (omega (arith, two-pow-succ (33 + i), h, small))
+
+-- a place is at most the number of characters
+pub place_small : (byte : ℕ) → place_of byte < 256
+unfolding place_of
+place_small byte = omega (arith, prefix_len-le-length (λ c. not (c == byte)) characters)
+
+-- a value of few bits has room for few bytes, and then the checksum is its remainder
+value_counts : (bytes : List ℕ) (value i : ℕ) → value + 256 ≤ 2 ^ (33 + i) → i + length bytes ≤ 31
+    → value_from value bytes % checksum_prime ≡ checksum_from (value % checksum_prime) bytes
+unfolding value_from checksum_from checksum_after
+value_counts [] value i room few = refl
+value_counts (b ∷ bytes) value i room few =
+    let next : ℕ = 2 * value + place_of b in
+    let grown : next + 256 ≤ 2 ^ (33 + (i + 1)) = value_doubled value (place_of b) i room (place_small b) in
+    let bits : 33 + (i + 1) ≤ 64 = omega (arith, few) in
+    let most : 2 ^ (33 + (i + 1)) ≤ 2 ^ 64 = pow-le-pow_right (omega arith) bits in
+    let kept : next % 2 ^ 64 ≡ next = mod-eq_of_lt (omega (arith, grown, most)) in
+    ap (λ (v : ℕ). value_from v bytes % checksum_prime) kept
+    ∙ (value_counts bytes next (i + 1) grown (omega (arith, few))
+    ∙ ap (λ (s : ℕ). checksum_from s bytes) (sym (remainder_doubled value (place_of b) checksum_prime)))
+
+-- the checksum after few bytes more
+pub few_counted : (sum value : ℕ) (bytes : List ℕ) → sum < 2 ^ 32 → 0 < length bytes → length bytes ≤ 31
+    → value ≡ value_from sum bytes % checksum_prime → value ≡ checksum_from sum bytes
+few_counted sum value bytes small some few e =
+    e ∙ (value_counts bytes sum 0 (omega (arith, small)) (omega (arith, few)) ∙ from_remainder sum bytes some)
+
+-- the value after a byte more
+pub byte_valued : (value after next byte : ℕ) (bytes : List ℕ) (i : ℕ) → i < length bytes → byte ≡ get_or bytes i 0
+    → after ≡ value_from value (take i bytes) → next ≡ value_after after byte → next ≡ value_from value (take (i + 1) bytes)
+unfolding value_from
+byte_valued value after next byte bytes i within is e f =
+    f ∙ (ap (λ (a : ℕ). value_after a byte) e ∙ (sym (fold-append value_after value (take i bytes) (byte ∷ []))
+    ∙ ap (fold value_after value) (ap (λ (b : ℕ). take i bytes ++ b ∷ []) is ∙ sym (take_more bytes i 0 within))))
 
 -- doubling, adding a value, and then weighing by k
 pub weighed : (a v k : ℕ) → (2 * a + v) * k ≡ a * (k * 2) + v * k
@@ -163,11 +150,6 @@ unfolding places place_of
 place_in_table byte d h =
     get_or_default_zero places byte d (rw length-places h)
     ∙ (Decides-eqb _ _).0 (at_each_below (λ b. get_or places b 0 == place_of b) 256 refl byte h)
-
--- a place is at most the number of characters
-pub place_small : (byte : ℕ) → place_of byte < 256
-unfolding place_of
-place_small byte = omega (arith, prefix_len-le-length (λ c. not (c == byte)) characters)
 
 -- the place of a digit
 pub digit_place : (digit : ℕ) → digit < 10 → place_of (48 + digit) ≡ digit

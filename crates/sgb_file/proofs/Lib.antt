@@ -55,8 +55,12 @@ pub mod LaidLines
 -- bytes put on lines, and pieces laid out
 pub mod PlacedPieces
 pub mod PlainFields
--- arc records that are one line
-pub mod ArcLines
+-- fields with the value of a checksum after them
+pub mod CountedFields
+-- arc records that are read of one line
+pub mod LineRecords
+-- vertices that are read of one line
+pub mod VertexLines
 pub mod FewDigits
 -- the first bytes of a full line, and the last one
 pub mod FullLines

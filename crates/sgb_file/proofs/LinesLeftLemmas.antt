@@ -1,16 +1,18 @@
 -- Lemmas on the lines that are left of a file: their checksum, and that a line has no newlines.
-use Rattle.std.proofs.Common.{◌≡◌, ◌<◌, ◌≤◌, ◌++◌, ◌∙◌, ℕ, Bool, true, false, Bor, List, [], ◌∷◌, Option, Some, None, length, take, drop, map, slice_index, not, ◌&&◌, ◌+◌, ◌-◌, ◌≢◌, All, unwrap_or, cond, ◌==◌, refl, sym, ap, subst, append_assoc, append-nil, suc, arith, nat_lt, IsTrue, IfSome, option_map}
+use Rattle.std.proofs.Common.{◌≡◌, ◌<◌, ◌≤◌, ◌++◌, ◌∙◌, ℕ, Bool, true, false, Bor, List, [], ◌∷◌, Option, Some, None, length, take, drop, map, slice_index, not, ◌&&◌, ◌+◌, ◌-◌, ◌≢◌, All, unwrap_or, cond, ◌==◌, refl, sym, ap, subst, append_assoc, append-nil, length-append, slice_get, zero, suc, arith, nat_lt, IsTrue, IfSome, option_map}
 use Rattle.std.specs.List.{list_all, slice_split, position_or_len, position, before_first, after_first}
 use Rattle.std.proofs.lemmas.List.{drop_more, drop_all, take-append-drop, take_all, length-drop}
 use Rattle.std.proofs.lemmas.List.Folds.{list_all-append}
 use Rattle.std.proofs.lemmas.List.Splits.{slice_split_first, slice_split_none}
 use Rattle.std.proofs.lemmas.List.Sums.{fails_before_first, prefix_len-le-length}
 use Rattle.std.proofs.lemmas.List.Elements.{All-from_get_or}
+use Rattle.std.proofs.Math.Seq.{take-append_seam}
 use Rattle.std.proofs.lemmas.Bool.{and_parts}
 use Rattle.std.proofs.lemmas.Bool.Decides.{nat_tests}
 use Rattle.sgb_file.specs.FileLines.{lines_among, lines_of_text, clean_lines, text_of_lines, without_end_spaces}
+use Rattle.sgb_file.specs.Checksum.{checksum_of_lines}
 use Rattle.sgb_file.specs.inner.Layouts.{checksum_from, counted_bytes}
-use Rattle.sgb_file.specs.inner.LinesLeft.{text_left, next_begun, has_no_newline, HasPassed, AreLinesLeft, lines_left, lines_still}
+use Rattle.sgb_file.specs.inner.LinesLeft.{IsWhole, lines_passed, text_left, next_begun, has_no_newline, HasPassed, AreLinesLeft, lines_left, lines_still}
 use Rattle.sgb_file.proofs.LineLemmas.{clean_are_one_line, is_one_line, is_within_line, ends_well, ends_well-last, list_all-drop, first_line, some_part, line_read, lines_read}
 use Rattle.sgb_file.proofs.LaidLines.{checksum_from-append, counted-append}
 use Rattle.sgb_file.proofs.WholeText.{checksum-whole}
@@ -147,3 +149,51 @@ left_lines all (Some line) begun rest sum h =
     let after = (begun_lines all begun rest sum h.0).1 in
     line_read line (text_of_lines (clean_lines rest)) (left_is_line all line begun rest sum h)
     ∙ ap (λ ls. line ∷ ls) (ap lines_of_text (sym (append-nil (text_of_lines (clean_lines rest)))) ∙ lines_read (clean_lines rest) [] after ∙ append-nil (clean_lines rest))
+
+-- what stands after these lines, and what stands before it
+line_after : (before : List (List ℕ)) (line : List ℕ) (after : List (List ℕ)) → slice_get (before ++ line ∷ after) (length before) ≡ Some line
+line_after [] line after = refl
+line_after (first ∷ before) line after = line_after before line after
+
+-- a list that loses nothing stays as it is
+drop_nothing : (k : ℕ) (bytes : List ℕ) → length bytes ≤ length (drop k bytes) → drop k bytes ≡ bytes
+drop_nothing zero bytes h = refl
+drop_nothing (suc k) [] h = refl
+drop_nothing (suc k) (b ∷ bytes) h = absurd (omega (arith, h, length-drop k bytes))
+
+-- where the line that was begun stands
+begun_at : (all begun rest : List ℕ) (sum : ℕ) (h : HasPassed (clean_lines all) (begun ∷ clean_lines rest) sum)
+    → length (clean_lines all) - suc (length (clean_lines rest)) ≡ length h.passed
+begun_at all begun rest sum h = omega (arith, ap length h.made, length-append h.passed (begun ∷ clean_lines rest))
+
+begun_there : (all begun rest : List ℕ) (sum : ℕ) (h : HasPassed (clean_lines all) (begun ∷ clean_lines rest) sum)
+    → slice_get (clean_lines all) (length (clean_lines all) - suc (length (clean_lines rest))) ≡ Some begun
+begun_there all begun rest sum h =
+    ap (λ (k : ℕ). slice_get (clean_lines all) k) (begun_at all begun rest sum h)
+    ∙ (ap (λ lines. slice_get lines (length h.passed)) h.made ∙ line_after h.passed begun (clean_lines rest))
+
+-- the line under way is as long as the one that was begun: nothing of it was passed over
+pub whole_under_way : (all : List ℕ) (line : Option (List ℕ)) (begun rest : List ℕ) (sum : ℕ) (l : List ℕ)
+    → AreLinesLeft all line begun rest sum → line ≡ Some l → length begun ≤ length l → IsWhole (lines_left all line rest) l
+whole_under_way all None begun rest sum l h e long = absurd cc
+whole_under_way all (Some line) begun rest sum l h e long =
+    let under_way : line ≡ l = cc in
+    let left : l ≡ drop h.1 begun = sym under_way ∙ h.2 in
+    let same : begun ≡ l = sym (left ∙ drop_nothing h.1 begun (omega (arith, long, ap length left))) in
+    (e, begun_there all begun rest sum h.0 ∙ ap Some same)
+
+-- the checksum after a line of which nothing was passed over before
+pub whole_passed : (all : List ℕ) (line : Option (List ℕ)) (begun rest : List ℕ) (sum : ℕ) (l : List ℕ) (after : ℕ)
+    → AreLinesLeft all line begun rest sum → IsWhole (lines_left all line rest) l
+    → after ≡ checksum_from (checksum_of_lines (lines_passed (lines_left all line rest))) (counted_bytes (l ∷ []))
+    → HasPassed (clean_lines all) (clean_lines rest) after
+whole_passed all None begun rest sum l after h whole counted = absurd cc
+whole_passed all (Some line) begun rest sum l after h whole counted =
+    let there : Some begun ≡ Some l = sym (begun_there all begun rest sum h.0) ∙ whole.1 in
+    let same : begun ≡ l = cc in
+    let passed : lines_passed (lines_left all (Some line) rest) ≡ h.0.passed =
+    ap (λ (k : ℕ). take k (clean_lines all)) (begun_at all begun rest sum h.0)
+    ∙ (ap (take (length h.0.passed)) h.0.made ∙ take-append_seam h.0.passed (begun ∷ clean_lines rest)) in
+    let before : checksum_of_lines (lines_passed (lines_left all (Some line) rest)) ≡ sum = ap checksum_of_lines passed ∙ sym h.0.checksum in
+    passes_line (clean_lines all) begun (clean_lines rest) sum after h.0
+    (counted ∙ (ap (λ (s : ℕ). checksum_from s (counted_bytes (l ∷ []))) before ∙ ap (λ (t : List ℕ). checksum_from sum (counted_bytes (t ∷ []))) (sym same)))

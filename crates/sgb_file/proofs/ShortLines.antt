@@ -2,7 +2,6 @@
 use Rattle.std.specs.Prelude.{◌≡◌, ℕ, ◌+◌, ◌*◌, ◌/◌, ◌%◌, ◌^◌, ◌<◌, ◌≤◌, true, false, List, [], ◌∷◌, ◌++◌, codes, decimal, length, take, slice_index_or as get_or, set, fold, refl, Option, Some, None, IfSome}
 use Rattle.std.proofs.Common.{arith, ap, sym, ◌∙◌, append_assoc, append-nil, length-append}
 use Rattle.std.proofs.Math.Nat.{mod-eq_of_lt}
-use native.Mathlib.Nat.{pow-le-pow_right}
 use Rattle.std.proofs.lemmas.Bool.Decides.{nat_tests}
 use Rattle.std.proofs.lemmas.List.{length-take, take_more, take_more_set}
 use Rattle.std.proofs.lemmas.List.Sums.{fold-append}
@@ -10,9 +9,9 @@ use Rattle.std.proofs.lemmas.Fmt.{length-decimal-le}
 use Rattle.std.proofs.lemmas.Nat.{mod_below}
 use Rattle.sgb_file.specs.Checksum.{checksum_prime, has_star}
 use Rattle.sgb_file.specs.Saving.{fits_on, laid_out, pieces_of, quoted, record_lines, record_number_text}
-use Rattle.sgb_file.specs.inner.Layouts.{HasLaid, checksum_after, checksum_from, place_of}
-use Rattle.sgb_file.specs.inner.ShortLines.{AreShort, AreShortFields, ShortText, field_texts_of, line_of, name_piece, put_after, short_stage, short_texts, value_after, value_from}
-use Rattle.sgb_file.proofs.ChecksumLemmas.{from_remainder, place_small, remainder_doubled, value_doubled}
+use Rattle.sgb_file.specs.inner.Layouts.{HasLaid, checksum_from, place_of, value_after, value_from}
+use Rattle.sgb_file.specs.inner.ShortLines.{AreShort, AreShortFields, ShortText, field_texts_of, line_of, name_piece, put_after, short_stage, short_texts}
+use Rattle.sgb_file.proofs.ChecksumLemmas.{few_counted}
 use Rattle.sgb_file.proofs.FewDigits.{pair_after}
 use Rattle.sgb_file.proofs.LaidLines.{checksum-counted, checksum_from-append}
 
@@ -66,31 +65,9 @@ pub put-then : (s before after : ShortText) (xs ys : List ℕ) → before ≡ pu
     → after ≡ put_after s (xs ++ ys)
 put-then s before after xs ys e f = f ∙ (ap (λ t. put_after t ys) e ∙ put-append s xs ys)
 
--- a value of few bits has room for few bytes, and then the checksum is its remainder
-pub value_counts : (bytes : List ℕ) (value i : ℕ) → value + 256 ≤ 2 ^ (33 + i) → i + length bytes ≤ 31
-    → value_from value bytes % checksum_prime ≡ checksum_from (value % checksum_prime) bytes
-unfolding value_from checksum_from checksum_after
-value_counts [] value i room few = refl
-value_counts (b ∷ bytes) value i room few =
-    let next : ℕ = 2 * value + place_of b in
-    let grown : next + 256 ≤ 2 ^ (33 + (i + 1)) = value_doubled value (place_of b) i room (place_small b) in
-    let bits : 33 + (i + 1) ≤ 64 = omega (arith, few) in
-    let most : 2 ^ (33 + (i + 1)) ≤ 2 ^ 64 = pow-le-pow_right (omega arith) bits in
-    let kept : next % 2 ^ 64 ≡ next = mod-eq_of_lt (omega (arith, grown, most)) in
-    ap (λ (v : ℕ). value_from v bytes % checksum_prime) kept
-    ∙ (value_counts bytes next (i + 1) grown (omega (arith, few))
-    ∙ ap (λ (s : ℕ). checksum_from s bytes) (sym (remainder_doubled value (place_of b) checksum_prime)))
-
 -- a remainder is small
 pub remainder_small : (s : ShortText) (n : ℕ) → s.value ≡ n % checksum_prime → s.value < 2 ^ 32
 remainder_small s n e = omega (arith, e, mod_below n checksum_prime (omega arith))
-
--- the checksum after few bytes more
-counted : (s : ShortText) (value : ℕ) (bytes : List ℕ) → s.value < 2 ^ 32 → 0 < length bytes → length bytes ≤ 31
-    → value ≡ value_from s.value bytes % checksum_prime
-    → value ≡ checksum_from s.value bytes
-counted s value bytes small some few e =
-    e ∙ (value_counts bytes s.value 0 (omega (arith, small)) (omega (arith, few)) ∙ from_remainder s.value bytes some)
 
 -- a line whose last bytes, few of them, were put after others, and its newline
 ended : (s mid new : ShortText) (line : List ℕ) → s.value < 2 ^ 32 → length line ≤ 29 → mid ≡ put_after s line
@@ -101,7 +78,7 @@ ended s mid new line small short e text value =
     let whole : put_after mid (10 ∷ []) ≡ put_after s (line ++ 10 ∷ []) = ap (λ t. put_after t (10 ∷ [])) e ∙ put-append s line (10 ∷ []) in
     let n = length-append line (10 ∷ []) in (
       text ∙ ap (λ (t : ShortText). t.text) whole,
-      counted s new.value (line ++ 10 ∷ []) small (omega (arith, n)) (omega (arith, n, short)) (value ∙ ap (λ (t : ShortText). t.value % checksum_prime) whole),
+      few_counted s.value new.value (line ++ 10 ∷ []) small (omega (arith, n)) (omega (arith, n, short)) (value ∙ ap (λ (t : ShortText). t.value % checksum_prime) whole),
     )
 
 -- a short line and its newline were put after others
@@ -129,7 +106,7 @@ unfolding put_after
 parts-laid old first between mid new front back small some few short plain e t v f text value =
     let rest = ended between mid new back (remainder_small between first.value v) short f text value in
     let text_so_far : between.text ≡ old.text ++ front = t ∙ ap (λ (s : ShortText). s.text) e in
-    let sum_so_far = counted old between.value front small some few (v ∙ ap (λ (s : ShortText). s.value % checksum_prime) e) in
+    let sum_so_far = few_counted old.value between.value front small some few (v ∙ ap (λ (s : ShortText). s.value % checksum_prime) e) in
     let end = back ++ 10 ∷ [] in
     let whole : (front ++ back) ++ 10 ∷ [] ≡ front ++ end = append_assoc front back (10 ∷ []) in
     record {

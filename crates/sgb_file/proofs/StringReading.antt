@@ -172,7 +172,7 @@ abbrev pub IsGathered : List ℕ → List ℕ → Bool → List ℕ → List ℕ
 IsGathered first text closed bytes left = (most : ℕ) → string_from most first text ≡ goes_on closed most bytes left
 
 -- the test passes just for what is short and printable
-test_passes : (most : ℕ) (bytes : List ℕ) → length bytes ≤ most → All IsTextByte bytes → (nat_le (length bytes) most && list_all is_text_byte bytes) ≡ true
+pub test_passes : (most : ℕ) (bytes : List ℕ) → length bytes ≤ most → All IsTextByte bytes → (nat_le (length bytes) most && list_all is_text_byte bytes) ≡ true
 test_passes most bytes short h =
     let first : nat_le (length bytes) most ≡ true = grind (arith, nat_tests) in
     rw (first, list_all-from_AllPass is_text_byte bytes h) refl

@@ -1,6 +1,6 @@
 -- What only the private contracts and the proofs of sgb_file speak of.
--- arc records that are one line
-pub mod ArcLines
+-- records that are read of one line
+pub mod LineRecords
 -- how an adapted reader or writer is stored
 pub mod Devices
 -- what a reader found, or how it was refused

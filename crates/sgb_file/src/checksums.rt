@@ -1,13 +1,13 @@
 //! The checksum of a file, made byte by byte (GB_IO, new_checksum).
-ghost use Rattle.std.specs.Prelude.{◌≡◌, ◌≤◌, ◌+◌, ◌^◌, ◌%◌, ◌++◌, ◌∷◌, [], length};
+ghost use Rattle.std.specs.Prelude.{◌≡◌, ◌≤◌, ◌+◌, ◌*◌, ◌^◌, ◌%◌, ◌++◌, ◌∷◌, [], length};
 ghost use Rattle.sgb_file.specs.Checksum.{checksum_prime, has_star};
-ghost use Rattle.sgb_file.specs.inner.Layouts.{checksum_from, counted_bytes, place_of, places};
+ghost use Rattle.sgb_file.specs.inner.Layouts.{checksum_from, counted_bytes, place_of, places, value_after, value_from};
 
 // The checksum is taken modulo this prime.
 const PRIME: u64 = 1_073_741_741;
 
 // A value below 2^32, doubled once more than this often with a byte's place added each time, is below 2^64.
-const MOST_AT_ONCE: usize = 30;
+pub(crate) const MOST_AT_ONCE: usize = 30;
 
 // The place of each byte among the 96 characters of a file, and 96 where it is none of them (GB_IO, imap_chr).
 #[rattlefmt::skip]
@@ -57,32 +57,46 @@ fn checksum_with_newline(sum: u32, bytes: &[u8]) -> u32
     let mut rest = bytes;
     while rest.len() > MOST_AT_ONCE {
         let (few, others) = rest.split_at(MOST_AT_ONCE);
-        after = remainder(value_after(after, few));
+        after = remainder(value_after(u64::from(after), few));
         rest = others;
     }
     remainder(value_with_newline(after, rest))
 }
 
-// The same as the next one, with a newline after the bytes.
+// The value after these bytes and a newline, and the checksum is its remainder.
+#[inline(always)]
 fn value_with_newline(sum: u32, bytes: &[u8]) -> u64
-    requires { length bytes.now ≤ 30 }
-    ensures { result % checksum_prime ≡ checksum_from (sum % checksum_prime)
-        (bytes.now ++ 10 ∷ []) }
+    ensures { result ≡ value_from sum (bytes.now ++ 10 ∷ []) }
 {
-    2 * value_after(sum, bytes) + u64::from(place_of(b'\n'))
+    value_after_byte(value_after(u64::from(sum), bytes), b'\n')
 }
 
-// A number with this remainder, and that of the checksum after these bytes: as it is made with no remainder taken.
-fn value_after(sum: u32, bytes: &[u8]) -> u64
-    requires { length bytes.now ≤ 30 }
-    ensures value { result % checksum_prime ≡ checksum_from (sum % checksum_prime) bytes.now }
-    ensures room { result + 256 ≤ 2 ^ (33 + length bytes.now) }
+// The value after these bytes: where they are few, the checksum is its remainder.
+#[inline(always)]
+pub(crate) fn value_after(value: u64, bytes: &[u8]) -> u64
+    ensures { result ≡ value_from value bytes.now }
 {
-    let mut value = u64::from(sum);
+    let mut after = value;
     for byte in bytes {
-        value = 2 * value + u64::from(place_of(*byte));
+        after = value_after_byte(after, *byte);
     }
-    value
+    after
+}
+
+// The value with a byte's place more, in 64 bits.
+#[inline(always)]
+pub(crate) fn value_with(value: u64, place: u8) -> u64
+    ensures { result ≡ (2 * value + place) % 2 ^ 64 }
+{
+    value.wrapping_mul(2).wrapping_add(u64::from(place))
+}
+
+// A value after a byte more, in 64 bits.
+#[inline(always)]
+pub(crate) fn value_after_byte(value: u64, byte: u8) -> u64
+    ensures { result ≡ value_after value byte }
+{
+    value_with(value, place_of(byte))
 }
 
 // The remainder of a number.

@@ -6,6 +6,7 @@ ghost use Rattle.sgb_file.specs.Restoring.{graph_of_text};
 mod closings;
 mod fields;
 mod heads;
+mod line_records;
 mod lines;
 mod numbers;
 mod openings;

@@ -1,5 +1,5 @@
 -- Lines that are laid out one after another, with the checksum of the lines so far [GB_SAVE, save_graph].
-use Rattle.std.specs.Prelude.{◌≡◌, ℕ, ◌+◌, ◌*◌, ◌%◌, ◌≤◌, Bool, true, false, not, List, [], ◌∷◌, ◌++◌, fold, filter, codes, Option, Result, Ok, Err, map, length, drop, decimal, ◌==◌, if◌then◌else◌}
+use Rattle.std.specs.Prelude.{◌≡◌, ℕ, ◌+◌, ◌*◌, ◌%◌, ◌^◌, ◌≤◌, Bool, true, false, not, List, [], ◌∷◌, ◌++◌, fold, filter, codes, Option, Result, Ok, Err, map, length, drop, decimal, ◌==◌, if◌then◌else◌}
 use Rattle.std.specs.List.{flat_map, range_with_len}
 use Rattle.std.proofs.Common.{ap}
 use Rattle.std.proofs.lemmas.List.{drop_all}
@@ -24,6 +24,14 @@ checksum_after sum byte = (2 * sum + place_of byte) % checksum_prime
 -- the checksum made byte by byte, from a checksum on
 unfoldable pub checksum_from : ℕ → List ℕ → ℕ
 checksum_from sum bytes = fold checksum_after sum bytes
+
+-- a value whose remainder is the checksum, after a byte more: in 64 bits, with no remainder taken
+abbrev pub value_after : ℕ → ℕ → ℕ
+value_after value byte = (2 * value + place_of byte) % 2 ^ 64
+
+-- such a value after bytes
+unfoldable pub value_from : ℕ → List ℕ → ℕ
+value_from value bytes = fold value_after value bytes
 
 -- the bytes of lines that count
 unfoldable pub counted_bytes : List (List ℕ) → List ℕ

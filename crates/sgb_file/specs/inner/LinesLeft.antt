@@ -27,6 +27,10 @@ skipped count s = record s { line = option_map (λ line. drop count line) s.line
 abbrev pub next_begun : LinesLeft → LinesLeft
 next_begun s = record s { line = slice_get s.others 0; others = drop 1 s.others }
 
+-- this line is under way, and nothing of it was passed over yet
+abbrev pub IsWhole : LinesLeft → List ℕ → Type 0
+IsWhole s line = (s.line ≡ Some line) × (slice_get s.all (length s.all - suc (length s.others)) ≡ Some line)
+
 -- no line of these is begun yet
 abbrev pub none_begun : List (List ℕ) → LinesLeft
 none_begun lines = record { all = lines; line = None; others = lines }

@@ -1,21 +1,13 @@
 -- Short lines that are put together one after another, with the checksum after them.
-use Rattle.std.specs.Prelude.{ℕ, ◌+◌, ◌*◌, ◌%◌, ◌^◌, ◌<◌, false, List, [], ◌∷◌, ◌++◌, codes, decimal, fold, Option, Some, IfSome}
+use Rattle.std.specs.Prelude.{ℕ, ◌<◌, false, List, [], ◌∷◌, ◌++◌, codes, decimal, Option, Some, IfSome}
 use Rattle.std.specs.List.{join_with_byte}
 use Rattle.sgb_file.specs.Saving.{quoted, record_number_text}
-use Rattle.sgb_file.specs.inner.Layouts.{Stage, place_of}
+use Rattle.sgb_file.specs.inner.Layouts.{Stage, value_from}
 
 -- the bytes of lines, and the checksum after them, or a value of which it is the remainder
 pub record ShortText : Type 0 where
   pub text : List ℕ
   pub value : ℕ
-
--- a value after a byte more, in 64 bits
-abbrev pub value_after : ℕ → ℕ → ℕ
-value_after value byte = (2 * value + place_of byte) % 2 ^ 64
-
--- a value after bytes
-unfoldable pub value_from : ℕ → List ℕ → ℕ
-value_from value bytes = fold value_after value bytes
 
 -- these bytes after the others
 unfoldable pub put_after : ShortText → List ℕ → ShortText

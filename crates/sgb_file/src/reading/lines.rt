@@ -2,7 +2,8 @@
 ghost use Rattle.std.specs.Prelude.{◌≡◌, ◌≢◌, ◌≤◌, [], ◌∷◌, List, ℕ, Some, None, IfSome, length, IsTrue, option_map};
 ghost use Rattle.sgb_file.specs.Checksum.{checksum_of_lines};
 ghost use Rattle.sgb_file.specs.FileLines.{clean_lines, lines_of_text, without_end_spaces};
-ghost use Rattle.sgb_file.specs.inner.LinesLeft.{HasPassed, has_no_newline, lines_left, lines_passed, lines_still, next_begun, none_begun, skipped, text_left};
+ghost use Rattle.sgb_file.specs.inner.Layouts.{checksum_from, counted_bytes};
+ghost use Rattle.sgb_file.specs.inner.LinesLeft.{HasPassed, IsWhole, has_no_newline, lines_left, lines_passed, lines_still, next_begun, none_begun, skipped, text_left};
 
 use crate::checksums::checksum_after_line;
 use crate::scans::bytes_before;
@@ -72,6 +73,19 @@ impl<'a> Lines<'a> {
         self.line
     }
 
+    // The line under way where nothing of it was passed over yet; else none.
+    #[inline(always)]
+    pub(super) fn whole_line(&self) -> Option<&'a [u8]>
+        ensures whole { IfSome result (λ line. IsWhole self.now line.now) }
+        ensures one { IfSome result (λ line. IsTrue (has_no_newline line.now)) }
+    {
+        let line = self.line()?;
+        if line.len() < self.begun.len() {
+            return None;
+        }
+        Some(line)
+    }
+
     // Passes over bytes of the line under way. There have to be so many.
     pub(super) fn skip(&mut self, count: usize)
         requires { (line : List ℕ) × (self.old.line ≡ Some line) × (count ≤ length line) }
@@ -88,6 +102,17 @@ impl<'a> Lines<'a> {
         ensures { self.new ≡ next_begun self.old }
     {
         let sum = checksum_after_line(self.sum, self.begun);
+        *self = Lines::begin(self.all, self.rest, sum);
+    }
+
+    // The same where nothing of the line was passed over yet, and this is the checksum after it.
+    #[inline(always)]
+    pub(super) fn next_line_with(&mut self, sum: u32)
+        requires { (line : List ℕ) × IsWhole self.old line
+            × (sum ≡ checksum_from (checksum_of_lines (lines_passed self.old))
+            (counted_bytes (line ∷ []))) }
+        ensures { self.new ≡ next_begun self.old }
+    {
         *self = Lines::begin(self.all, self.rest, sum);
     }
 

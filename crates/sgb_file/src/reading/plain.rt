@@ -1,37 +1,20 @@
 //! What the bytes before the first comma of a line say, and how many they are (GB_SAVE, fill_field).
-ghost use Rattle.std.specs.Prelude.{◌≡◌, ◌≤◌, ◌<◌, ◌==◌, ◌^◌, ◌+◌, ◌∷◌, drop, length, nat_le, true, IfSome, IsTrue, option_map};
+ghost use Rattle.std.specs.Prelude.{◌≡◌, ◌≤◌, ◌<◌, ◌==◌, ◌^◌, ◌+◌, ◌∷◌, drop, length, nat_le, true, IfSome, option_map};
 ghost use Rattle.std.specs.List.{before_first, position, take_while};
 ghost use Rattle.std.specs.Str.Parse.{digits_value};
 ghost use Rattle.sgb_file.specs.Fields.{integer_of, is_decimal_digit, most_number_digits, number_below, number_of, record_number_of, ref_of};
 ghost use Rattle.sgb_file.specs.inner.Found.{is_at_end};
-ghost use Rattle.sgb_file.specs.inner.ArcLines.{IsArcLine};
-ghost use Rattle.sgb_file.specs.inner.LinesLeft.{has_no_newline};
+ghost use Rattle.sgb_file.specs.inner.Layouts.{value_from};
+ghost use Rattle.sgb_file.specs.inner.LineRecords.{IsCountedField};
 
 use super::heads::Counts;
 use super::numbers::{MOST_NUMBER_DIGITS, integer_of, record_number_of, ref_of};
+use crate::checksums::{value_after_byte, value_with};
 use sgb_graph::Ref;
-
-// The tip, the next record and the length of an arc record that is one line with no utility fields; or none, which says
-// nothing of the line.
-#[inline(never)]
-pub(super) fn arc_of_line(counts: &Counts, line: &[u8]) -> Option<(Ref, Option<usize>, i64)>
-    requires { IsTrue (has_no_newline line.now) }
-    ensures { IfSome result (λ x. IsArcLine counts.now line.now x.0 x.1 x.2) }
-{
-    let (tip, tip_end) = ref_before_comma(counts, line)?;
-    let second = after_comma(line, tip_end)?;
-    let (next, next_end) = record_number_before_comma(counts, second)?;
-    let third = after_comma(second, next_end)?;
-    let (len, end) = integer_before_comma(third)?;
-    if end < third.len() {
-        return None;
-    }
-    Some((tip, next, len))
-}
 
 // What follows a comma at this place of a text.
 #[inline(always)]
-fn after_comma(text: &[u8], place: usize) -> Option<&[u8]>
+pub(super) fn after_comma(text: &[u8], place: usize) -> Option<&[u8]>
     ensures { IfSome result (λ rest. drop place text.now ≡ 44 ∷ rest.now) }
 {
     if place >= text.len() || text[place] != b',' {
@@ -47,10 +30,19 @@ pub(super) fn integer_before_comma(line: &[u8]) -> Option<(i64, usize)>
         (before_first (λ b. b == 44) line.now) }
     ensures len { IfSome result (λ x. x.1 ≡ length (before_first (λ b. b == 44) line.now)) }
 {
-    match number_before_comma(line) {
-        Some((number, len)) => Some((number as i64, len)),
+    match counted_integer(line, 0) {
+        Some((number, len, _)) => Some((number, len)),
         None => other_integer_before_comma(line),
     }
+}
+
+// The same of an integer of at most 18 digits, with the value of a checksum after these bytes. None says nothing of them.
+#[inline(always)]
+pub(super) fn counted_integer(text: &[u8], value: u64) -> Option<(i64, usize, u64)>
+    ensures { IfSome result (λ x. IsCountedField integer_of text.now value x.0 x.1 x.2) }
+{
+    let (number, len, after) = counted_number(text, value)?;
+    Some((number as i64, len, after))
 }
 
 // The same of any integer, with a `-` or with more than 18 digits too.
@@ -72,13 +64,24 @@ pub(super) fn ref_before_comma(counts: &Counts, line: &[u8]) -> Option<(Ref, usi
         (before_first (λ b. b == 44) line.now) }
     ensures len { IfSome result (λ x. x.1 ≡ length (before_first (λ b. b == 44) line.now)) }
 {
-    if let Some(digits) = line.strip_prefix(b"V") {
-        let (v, len) = number_below_before_comma(counts.vertices, digits)?;
-        return Some((Ref::At(v as u32), len + 1));
+    if let Some((vertex, len, _)) = counted_ref(counts, line, 0) {
+        return Some((vertex, len));
     }
     let text = before_comma(line);
     let vertex = ref_of(counts, text)?;
     Some((vertex, text.len()))
+}
+
+// The same of a vertex by its number, with the value of a checksum after these bytes. None says nothing of them.
+#[inline(always)]
+pub(super) fn counted_ref(counts: &Counts, line: &[u8], value: u64) -> Option<(Ref, usize, u64)>
+    ensures { IfSome result (λ x. IsCountedField (ref_of counts.now.vertices) line.now value
+        x.0 x.1 x.2) }
+{
+    let digits = line.strip_prefix(b"V")?;
+    let begun = value_after_byte(value, b'V');
+    let (v, len, after) = counted_number_below(counts.vertices, digits, begun)?;
+    Some((Ref::At(v as u32), len + 1, after))
 }
 
 // The arc record that the bytes before the first comma stand for, or none, and how many they are.
@@ -91,37 +94,53 @@ pub(super) fn record_number_before_comma(
         (before_first (λ b. b == 44) line.now) }
     ensures len { IfSome result (λ x. x.1 ≡ length (before_first (λ b. b == 44) line.now)) }
 {
-    if let Some(digits) = line.strip_prefix(b"A") {
-        let (k, len) = number_below_before_comma(counts.arcs, digits)?;
-        return Some((Some(k as usize), len + 1));
-    }
-    if let Some(rest) = line.strip_prefix(b"0")
-        && is_at_end(rest)
-    {
-        return Some((None, 1));
+    if let Some((first, len, _)) = counted_record_number(counts, line, 0) {
+        return Some((first, len));
     }
     let text = before_comma(line);
     let first = record_number_of(counts, text)?;
     Some((first, text.len()))
 }
 
-// The number below a limit that the bytes before the first comma write, and how many they are.
+// The same with the value of a checksum after these bytes. None says nothing of them.
 #[inline(always)]
-fn number_below_before_comma(limit: u64, text: &[u8]) -> Option<(u64, usize)>
-    ensures value { option_map (λ x. x.0) result ≡ number_below limit
-        (before_first (λ b. b == 44) text.now) }
-    ensures bound { IfSome result (λ x. x.0 < limit) }
-    ensures len { IfSome result (λ x. x.1 ≡ length (before_first (λ b. b == 44) text.now)) }
+pub(super) fn counted_record_number(
+    counts: &Counts,
+    line: &[u8],
+    value: u64,
+) -> Option<(Option<usize>, usize, u64)>
+    ensures { IfSome result (λ x. IsCountedField (record_number_of counts.now.arcs) line.now value
+        x.0 x.1 x.2) }
 {
-    let (number, len) = number_before_comma(text)?;
+    if let Some(digits) = line.strip_prefix(b"A") {
+        let begun = value_after_byte(value, b'A');
+        let (k, len, after) = counted_number_below(counts.arcs, digits, begun)?;
+        return Some((Some(k as usize), len + 1, after));
+    }
+    let rest = line.strip_prefix(b"0")?;
+    if !is_at_end(rest) {
+        return None;
+    }
+    Some((None, 1, value_after_byte(value, b'0')))
+}
+
+// The number below a limit that the bytes before the first comma write, how many they are, and the value of a checksum
+// after them. None says nothing of them.
+#[inline(always)]
+fn counted_number_below(limit: u64, text: &[u8], value: u64) -> Option<(u64, usize, u64)>
+    ensures field { IfSome result (λ x. IsCountedField (number_below limit) text.now value
+        x.0 x.1 x.2) }
+    ensures bound { IfSome result (λ x. x.0 < limit) }
+{
+    let (number, len, after) = counted_number(text, value)?;
     if number < limit {
-        Some((number, len))
+        Some((number, len, after))
     } else {
         None
     }
 }
 
-// The number of 1 to 18 digits that the bytes before the first comma write, and how many they are: in one pass.
+// The number of 1 to 18 digits that the bytes before the first comma write, and how many they are.
 #[inline(always)]
 pub(super) fn number_before_comma(text: &[u8]) -> Option<(u64, usize)>
     ensures value { option_map (λ x. x.0) result ≡ number_of most_number_digits
@@ -129,14 +148,28 @@ pub(super) fn number_before_comma(text: &[u8]) -> Option<(u64, usize)>
     ensures bound { IfSome result (λ x. x.0 < 10 ^ 18) }
     ensures len { IfSome result (λ x. x.1 ≡ length (before_first (λ b. b == 44) text.now)) }
 {
-    let (number, len) = first_digits(&text[..MOST_NUMBER_DIGITS.min(text.len())]);
+    let (number, len, _) = counted_number(text, 0)?;
+    Some((number, len))
+}
+
+// The same with the value of a checksum after these bytes: all in one pass.
+#[inline(always)]
+fn counted_number(text: &[u8], value: u64) -> Option<(u64, usize, u64)>
+    ensures value { option_map (λ x. x.0) result ≡ number_of most_number_digits
+        (before_first (λ b. b == 44) text.now) }
+    ensures bound { IfSome result (λ x. x.0 < 10 ^ 18) }
+    ensures len { IfSome result (λ x. x.1 ≡ length (before_first (λ b. b == 44) text.now)) }
+    ensures counted { IfSome result (λ x. x.2 ≡ value_from value
+        (before_first (λ b. b == 44) text.now)) }
+{
+    let (number, len, after) = first_digits(&text[..MOST_NUMBER_DIGITS.min(text.len())], value);
     if len == 0 {
         return None;
     }
     if !is_at_end(&text[len..]) {
         return None;
     }
-    Some((number, len))
+    Some((number, len, after))
 }
 
 // Whether nothing is left of a text, or it goes on with a comma.
@@ -146,22 +179,26 @@ fn is_at_end(text: &[u8]) -> bool
     text.is_empty() || text[0] == b','
 }
 
-// The number that the digits write which a text of at most 18 bytes begins with, and how many they are.
+// The number that the digits write which a text of at most 18 bytes begins with, how many they are, and the value of a
+// checksum after them: the place of a digit is its value.
 #[inline(always)]
-fn first_digits(text: &[u8]) -> (u64, usize)
+fn first_digits(text: &[u8], value: u64) -> (u64, usize, u64)
     requires { length text.now ≤ 18 }
     ensures value { result.0 ≡ digits_value 10 (take_while is_decimal_digit text.now) }
     ensures count { result.1 ≡ length (take_while is_decimal_digit text.now) }
+    ensures counted { result.2 ≡ value_from value (take_while is_decimal_digit text.now) }
 {
-    let mut value = 0;
+    let mut number = 0;
+    let mut after = value;
     for place in 0..text.len() {
         let digit = digit_of(text[place]);
         if digit > 9 {
-            return (value, place);
+            return (number, place, after);
         }
-        value = 10 * value + digit;
+        number = 10 * number + digit;
+        after = value_with(after, digit as u8);
     }
-    (value, text.len())
+    (number, text.len(), after)
 }
 
 // The digit that a byte is, or else a number above 9.

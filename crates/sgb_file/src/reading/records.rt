@@ -1,10 +1,10 @@
 //! The records of a `.gb` file (GB_SAVE, restore_graph).
 ghost use Rattle.std.specs.Prelude.{◌≡◌, ◌∷◌, [], Err, IfErr, IfSome, None, OnOk, Some, length, slice_index_or, true};
-ghost use Rattle.sgb_graph.specs.Sound.{arc_kinds, graph_kinds};
-ghost use Rattle.sgb_graph.specs.declared.fields.Kind.TheVariants.{Z};
+ghost use Rattle.sgb_graph.specs.Sound.{arc_kinds, graph_kinds, vertex_kinds};
+ghost use Rattle.sgb_graph.specs.declared.fields.Kind.TheVariants.{I, Z};
 ghost use Rattle.sgb_file.specs.inner.Found.{IsFoundBy};
 ghost use Rattle.sgb_file.specs.inner.LinesLeft.{text_left};
-ghost use Rattle.sgb_file.specs.inner.ArcLines.{plain_record};
+ghost use Rattle.sgb_file.specs.inner.LineRecords.{IsPlainVertex, plain_record};
 ghost use Rattle.sgb_file.specs.inner.Reading.{IsNextArc, IsNextVertex, arc_fields_at, vertex_fields_at};
 ghost use Rattle.sgb_file.specs.Records.{arc_record_at, graph_record_at, more_fields_at};
 
@@ -13,12 +13,12 @@ use super::fields::{
     read_number, read_record_number, read_ref,
 };
 use super::heads::{Counts, Head};
+use super::line_records::{VertexLine, arc_of_line, vertex_of_line};
 use super::lines::Lines;
-use super::plain::arc_of_line;
 use super::separators::{end_record, pass_comma};
 use super::strings::{read_id, read_text};
 use sgb_graph::{ArcRec, Kind, Parts, Ref, Util, Vertex};
-use sgb_vec::Panic;
+use sgb_vec::{Panic, Text};
 use std::alloc::Global;
 
 // The record of the graph: its parts, with no vertices and no arc records yet. The number of its vertices has to be that of
@@ -53,10 +53,64 @@ fn read_graph_fields(alloc: Global, head: &Head, lines: &mut Lines<'_>) -> Resul
     read_fields(alloc, &head.counts, &head.kinds[8..], lines)
 }
 
-// The record of a vertex, which is put after those that the parts have. The fields are taken by a `match`: a `?` would move
-// the six of them once more.
+// The record of a vertex, which is put after those that the parts have.
 #[inline(never)]
 pub(super) fn read_vertex(
+    alloc: Global,
+    head: &Head,
+    lines: &mut Lines<'_>,
+    parts: &mut Parts,
+) -> Result<(), Panic>
+    ensures ok { OnOk result (IsNextVertex head.now (text_left lines.old) parts.old parts.new
+        (text_left lines.new)) }
+    ensures err { IfErr result (λ error. IsFoundBy (vertex_fields_at head.now
+        (text_left lines.old)) (Err error) (text_left lines.new)) }
+    ensures all { lines.new.all ≡ lines.old.all }
+{
+    let Some(vertex) = plain_vertex(head, lines) else {
+        return read_any_vertex(alloc, head, lines, parts);
+    };
+    match Text::new(alloc, vertex.name) {
+        Ok(name) => {
+            lines.next_line_with(vertex.sum);
+            parts.add_vertex_with_ints(name, vertex.first, vertex.x, vertex.y, vertex.z)
+        }
+        Err(Panic::NoRoom) => Err(Panic::NoRoom),
+        Err(_) => read_any_vertex(alloc, head, lines, parts),
+    }
+}
+
+// The vertex that stands next, where it is one short line with integers in x, y, z and no other utility fields; or none.
+#[inline(always)]
+fn plain_vertex<'a>(head: &Head, lines: &Lines<'a>) -> Option<VertexLine<'a>>
+    ensures { IfSome result (λ v. IsPlainVertex head.now lines.now v.name.now v.first v.x v.y v.z
+        v.sum) }
+{
+    if !have_vertices_ints(head) {
+        return None;
+    }
+    let line = lines.whole_line()?;
+    vertex_of_line(&head.counts, line, lines.checksum())
+}
+
+// Whether vertices have integers in the fields x, y, z and no other utility fields.
+fn have_vertices_ints(head: &Head) -> bool
+    ensures { result ≡ true → vertex_kinds head.now.kinds ≡ Z ∷ Z ∷ Z ∷ I ∷ I ∷ I ∷ [] }
+{
+    let [u, v, w, x, y, z, ..] = head.kinds;
+    !is_used(u) && !is_used(v) && !is_used(w) && is_integer(x) && is_integer(y) && is_integer(z)
+}
+
+// Whether a field of this kind holds integers.
+fn is_integer(kind: Kind) -> bool
+    ensures { result ≡ true → kind ≡ I }
+{
+    matches!(kind, Kind::I)
+}
+
+// The same of any vertex, field by field. The fields are taken by a `match`: a `?` would move the six of them once more.
+#[inline(never)]
+fn read_any_vertex(
     alloc: Global,
     head: &Head,
     lines: &mut Lines<'_>,
@@ -119,10 +173,10 @@ fn read_plain_arc(head: &Head, lines: &mut Lines<'_>) -> Option<(Ref, Option<usi
     if !are_arcs_plain(head) {
         return None;
     }
-    let line = lines.line()?;
-    let arc = arc_of_line(&head.counts, line)?;
-    lines.next_line();
-    Some(arc)
+    let line = lines.whole_line()?;
+    let (tip, next, len, sum) = arc_of_line(&head.counts, line, lines.checksum())?;
+    lines.next_line_with(sum);
+    Some((tip, next, len))
 }
 
 // Whether arc records have no utility fields.

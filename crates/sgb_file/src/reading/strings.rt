@@ -126,7 +126,7 @@ fn is_broken(line: &[u8]) -> bool
 }
 
 // Where the first quote stands.
-fn place_of_quote(line: &[u8]) -> Option<usize>
+pub(super) fn place_of_quote(line: &[u8]) -> Option<usize>
     ensures { result ≡ position (λ b. b == 34) line.now }
 {
     let end = bytes_before(line, b'"');

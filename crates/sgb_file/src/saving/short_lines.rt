@@ -6,7 +6,7 @@ ghost use Rattle.sgb_file.specs.Saving.{quoted, record_lines, record_number_text
 ghost use Rattle.sgb_file.specs.inner.Layouts.{HasLaid, place_of};
 ghost use Rattle.sgb_file.specs.inner.ShortLines.{AreShort, AreShortFields, field_texts_of, line_of, name_piece, put_after, short_stage, short_texts};
 
-use crate::checksums::{place_of, remainder};
+use crate::checksums::{place_of, remainder, value_with};
 use std::marker::Model;
 
 // So many bytes of lines are put together.
@@ -327,12 +327,4 @@ impl ShortLines {
     {
         self.value = u64::from(remainder(self.value));
     }
-}
-
-// The value with a byte's place more, in 64 bits.
-#[inline(always)]
-fn value_with(value: u64, place: u8) -> u64
-    ensures { result ≡ (2 * value + place) % 2 ^ 64 }
-{
-    value.wrapping_mul(2).wrapping_add(u64::from(place))
 }

@@ -1,8 +1,10 @@
-use Rattle.std.proofs.Common.{◌∙◌, ◌%◌}
-use Rattle.sgb_file.specs.Checksum.{checksum_prime}
-use Rattle.sgb_file.proofs.ChecksumLemmas.{newline_counted}
+use Rattle.std.proofs.Common.{ap, sym, ◌∙◌, [], ◌∷◌}
+use Rattle.std.proofs.lemmas.List.Sums.{fold-append}
+use Rattle.sgb_file.specs.inner.Layouts.{value_after, value_from}
 use Rattle.sgb_file.proofs.checksums.value_with_newline.Goals as goal
 
 pub returns : goal.returns
+unfolding value_from
 returns c =
-    newline_counted (c.args.sum % checksum_prime) c.value_after.result c.from.result c.args.bytes.now c.value_after.ensures.value (c.from.ensures ∙ c.place_of.ensures)
+    c.value_after_byte.ensures ∙ (ap (λ v. value_after v 10) (c.value_after.ensures ∙ ap (λ v. value_from v c.args.bytes.now) c.from.ensures)
+    ∙ sym (fold-append value_after c.args.sum c.args.bytes.now (10 ∷ [])))

@@ -1,9 +1,19 @@
-use Rattle.std.proofs.Common.{rules}
-use Rattle.sgb_file.proofs.ArcLines.{plain_arc_read}
+use Rattle.std.proofs.Common.{rules, ap, ◌∙◌, ◌∷◌, [], w64}
+use Rattle.std.proofs.lemmas.Int.{to_z-of_z}
+use Rattle.sgb_file.specs.inner.Layouts.{checksum_from, counted_bytes}
+use Rattle.sgb_file.proofs.LineRecords.{plain_arc_read}
 use Rattle.sgb_file.proofs.reading.records.read_plain_arc.Goals as goal
+
+pub next_line_with-requires : goal.next_line_with-requires
+next_line_with-requires c =
+    let line = c.in_ok-line.line.now in (
+      line,
+      c.in_ok-line.ensures.whole,
+      c.in_ok-tip.ensures.sum ∙ ap (λ s. checksum_from s (counted_bytes (line ∷ []))) c.checksum.ensures,
+    )
 
 pub returns-clause-found : goal.returns-clause-found
 returns-clause-found c =
-    rw c.next_line.ensures
-    (plain_arc_read c.args.head.now c.args.lines.now c.in_ok-line.line.now c.in_ok-arc.arc.0 c.in_ok-arc.arc.1 c.in_ok-arc.arc.2 (search
+    rw (to_z-of_z w64 c.in_ok-tip.len (search rules), c.next_line_with.ensures)
+    (plain_arc_read c.args.head.now c.args.lines.now c.in_ok-line.line.now c.in_ok-tip.tip c.in_ok-tip.next c.in_ok-tip.len (search
     rules) (search rules) (search rules))

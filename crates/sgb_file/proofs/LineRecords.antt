@@ -8,7 +8,7 @@ use Rattle.sgb_graph.specs.declared.fields.Kind.TheVariants.{Z}
 use Rattle.sgb_graph.specs.Sound.{arc_kinds}
 use Rattle.sgb_file.specs.Fields.{Counts, Found, integer_of, plain_at, record_number_of, ref_of, after_prefix}
 use Rattle.sgb_file.specs.Records.{Head, after_comma, arc_record_at}
-use Rattle.sgb_file.specs.inner.ArcLines.{IsArcLine, plain_record}
+use Rattle.sgb_file.specs.inner.LineRecords.{IsArcLine, plain_record}
 use Rattle.sgb_file.specs.inner.LinesLeft.{LinesLeft, has_no_newline, next_begun, text_left}
 use Rattle.sgb_file.specs.FileLines.{text_of_lines}
 use Rattle.sgb_file.proofs.FoundSteps.{arc_steps}
@@ -17,7 +17,7 @@ use Rattle.sgb_file.proofs.LineLemmas.{list_all-drop}
 use Rattle.sgb_file.proofs.PlainFields.{comma_free}
 
 -- a field that the bytes before the first comma of a line say, and what is left of the line
-field_of_line : (X : Type 0) (says : List ℕ → Option X) (line after text : List ℕ) (x : X) → has_no_newline line ≡ true
+pub field_of_line : (X : Type 0) (says : List ℕ → Option X) (line after text : List ℕ) (x : X) → has_no_newline line ≡ true
     → says (comma_free line) ≡ Some x
     → drop (length (comma_free line)) line ≡ after → plain_at says (line ++ 10 ∷ text) ≡ Some (record {
       value = x;
@@ -35,22 +35,22 @@ field_of_line X says line after text x h said left =
     (rw said (ap (λ (r : List ℕ). Some (record { value = x; rest = r })) rest))
 
 -- the line goes on after a comma
-comma_in_line : (line text : List ℕ) → has_no_newline line ≡ true → 0 < length line
+pub comma_in_line : (line text : List ℕ) → has_no_newline line ≡ true → 0 < length line
     → after_comma (44 ∷ line ++ 10 ∷ text) ≡ Some (line ++ 10 ∷ text)
 comma_in_line line text h some = ap (λ (o : Option (List ℕ)). Some (unwrap_or o (line ++ 10 ∷ text))) (no_line_end line (10 ∷ text) h some)
 
 -- what follows a comma in a line has no newline either
-rest_of_line : (line rest : List ℕ) (k : ℕ) → has_no_newline line ≡ true → drop k line ≡ 44 ∷ rest → has_no_newline rest ≡ true
+pub rest_of_line : (line rest : List ℕ) (k : ℕ) → has_no_newline line ≡ true → drop k line ≡ 44 ∷ rest → has_no_newline rest ≡ true
 rest_of_line line rest k h e =
     let all : has_no_newline (44 ∷ rest) ≡ true = ap has_no_newline (sym e) ∙ list_all-drop (λ b. not (b == 10)) k line h in
     (and_parts true (has_no_newline rest) all).1
 
 -- no field is empty
-some_number : (m : ℕ) (line : List ℕ) (x : Option ℕ) → record_number_of m (comma_free line) ≡ Some x → 0 < length line
+pub some_number : (m : ℕ) (line : List ℕ) (x : Option ℕ) → record_number_of m (comma_free line) ≡ Some x → 0 < length line
 some_number m [] x e = absurd cc
 some_number m (b ∷ line) x e = omega arith
 
-some_integer : (line : List ℕ) (x : ℤ) → integer_of (comma_free line) ≡ Some x → 0 < length line
+pub some_integer : (line : List ℕ) (x : ℤ) → integer_of (comma_free line) ≡ Some x → 0 < length line
 some_integer [] x e = absurd cc
 some_integer (b ∷ line) x e = omega arith
 
