@@ -571,6 +571,43 @@ def short_records(runs, tally):
             tally.same("save " + what + ", another checksum", refused, (code(11)[0], b"", code(11)[1]))
 
 
+def near_limits(runs, tally):
+    """Records of one line about as long as those that are read of the line alone: names, fields and arc records of each length near
+    the limits, also with zeros in front, with a `-`, of 18 digits and of 19, and with spaces after the line. They are saved as
+    they are said, and refused with another checksum."""
+    kinds = "ZZZIIIZZZZZZZZ"
+    vertices, arcs, plain_vertices, plain_arcs = [], [], [], []
+    for name in range(24, 31):
+        for size in range(26, 35):
+            v = len(vertices)
+            start = f"A{v},{10**9},7,"
+            last = 10 ** (size - len(start) - 1)
+            text = f"{-last // 10 if v % 11 == 5 else last}"
+            zeros = "0" * (18 - len(text)) if v % 7 == 3 else ""
+            text = {13: "9" * 18, 17: "1" * 19, 19: "-" + "9" * 18}.get(v % 23, text)
+            zeros = zeros if text[0] != "-" and len(text) < 18 else ""
+            for records, number in ((vertices, zeros + text), (plain_vertices, text)):
+                records.append(f'"{"x" * name}",{start}{number}')
+    count = len(vertices)
+    for v in range(count):
+        tip, following = str(v * 3 % count), f"{v - 1}" if v % 5 else ""
+        length = {3: "-4", 4: "9" * 18, 5: "9" * 18}.get(v % 13, "12")
+        plain_arcs.append(f"V{tip},{'A' * bool(following) + following or '0'},{length}")
+        more = 26 + v % 9 - len(plain_arcs[-1])
+        if more > 0 and following:
+            tip = tip.zfill(min(18, len(tip) + more))
+            following = following.zfill(len(following) + max(0, 26 + v % 9 - len(f"V{tip},A{following},{length}")))
+        arcs.append(f"V{tip},{'A' * bool(following) + following or '0'},{length}")
+    file = file_of(kinds, vertices, arcs)
+    saved = file_of(kinds, plain_vertices, plain_arcs)
+    spaced = b"".join(line + (b"  " if k % 3 == 0 else b"") + b"\n" for k, line in enumerate(file.split(b"\n")[:-1]))
+    for what, text in (("", file), (" and spaces", spaced)):
+        tally.same("save stdin of lines near their limits" + what, said(runs.run(("save", "stdin"), text)), (0, saved, b""))
+    for closing in (1, -1, 2**20):
+        refused = said(runs.run(("save", "stdin"), file_of(kinds, vertices, arcs, closing)))
+        tally.same(f"save stdin of lines near their limits, {closing} more as checksum", refused, (code(11)[0], b"", code(11)[1]))
+
+
 def promises(runs, tally):
     """A first line that promises many arcs or vertices: refused at once, without room for them."""
     for size in ("2V,999999999999999999A", "999999999V,2A", "999999999V,999999999999999999A"):
@@ -742,6 +779,7 @@ def all_checks():
     yield "file cut", cut_files
     yield "file long", long_file
     yield "file of short records", short_records
+    yield "file of lines near their limits", near_limits
     yield "file promising", promises
     yield "output failing", no_output
     yield "errors failing", no_errors
