@@ -1,5 +1,5 @@
 -- Vertices that are one short line: they are read of the line alone, with the checksum after it.
-use Rattle.std.specs.Prelude.{◌≡◌, ◌≤◌, ◌<◌, ◌+◌, ◌%◌, ◌^◌, ◌++◌, ◌∷◌, ℕ, ℤ, suc, true, List, [], length, take, drop, Option, Some, None, IfSome, refl, slice_index_or as get_or}
+use Rattle.std.specs.Prelude.{◌≡◌, ◌≤◌, ◌<◌, ◌+◌, ◌-◌, ◌%◌, ◌^◌, ◌++◌, ◌∷◌, ℕ, ℤ, suc, true, List, [], length, take, drop, Option, Some, None, IfSome, refl, slice_index_or as get_or}
 use Rattle.std.proofs.Common.{ap, sym, ◌∙◌, arith, append_assoc, length-append}
 use Rattle.std.proofs.lemmas.Bool.{and_parts}
 use Rattle.std.proofs.lemmas.List.{drop-append-le, drop_all, drop_more, length-drop, length-take, take-append-drop}
@@ -154,36 +154,34 @@ vertex_line counts line name rest first x y z h n fields head text same kinds sa
     rw (same, kinds) (rw string (rw (fields text) refl))
 
 -- what follows a comma
-past_byte : (bytes : List ℕ) (k : ℕ) (after : List ℕ) → drop k bytes ≡ 44 ∷ after → k < length bytes → drop (k + 1) bytes ≡ after
-past_byte bytes k after e within =
+past_byte : (bytes : List ℕ) (k : ℕ) (after : List ℕ) → drop k bytes ≡ 44 ∷ after → drop (k + 1) bytes ≡ after
+past_byte bytes k after e =
+    let within : k < length bytes = omega (arith, ap length e, length-drop k bytes) in
     let parts : get_or bytes k 0 ∷ drop (k + 1) bytes ≡ 44 ∷ after = sym (drop_more bytes k 0 within) ∙ e in cc
 
--- the line in two parts
-parts_of_line : (line name rest : List ℕ) → IsNamedAt line name rest → line ≡ take (length name + 3) line ++ rest
-parts_of_line line name rest n =
+-- the line in two parts: its name in quotes with the comma, and the rest
+pub named_parts : (line name rest : List ℕ) → IsNamedAt line name rest
+    → (length rest < length line) × (take (length line - length rest) line ++ rest ≡ line)
+named_parts line name rest n =
+    let k : ℕ = suc (n.end + 1 + 1) in
+    let left : drop k line ≡ rest = ap (drop k) n.opened ∙ past_byte n.quoted (n.end + 1) rest n.left in
     let quote = has_quote n.quoted n.end n.closed in
-    let len : length name ≡ n.end = ap length n.between ∙ omega (arith, length-take n.end n.quoted, quote.within) in
-    let start : length name + 3 ≡ suc (n.end + 2) = omega (arith, len) in
-    let two : n.end + 2 ≡ n.end + 1 + 1 = omega arith in
-    let more : drop (n.end + 2) n.quoted ≡ rest =
-    ap (λ (k : ℕ). drop k n.quoted) two ∙ past_byte n.quoted (n.end + 1) rest n.left (omega (arith, ap length n.left, length-drop (n.end + 1) n.quoted)) in
-    let left : drop (length name + 3) line ≡ rest = ap (λ (k : ℕ). drop k line) start ∙ (ap (λ (t : List ℕ). drop (suc (n.end + 2)) t) n.opened ∙ more) in
-    sym (take-append-drop (length name + 3) line) ∙ ap (λ (t : List ℕ). take (length name + 3) line ++ t) left
+    let len = length-drop k line in
+    let within : k ≤ length line = omega (arith, ap length n.opened, ap length n.left, length-drop (n.end + 1) n.quoted) in
+    let start : length line - length rest ≡ k = omega (arith, ap length left, len, within) in (
+      omega (arith, ap length left, len, within),
+      ap (λ (i : ℕ). take i line ++ rest) start ∙ (ap (λ (t : List ℕ). take k line ++ t) (sym left) ∙ take-append-drop k line),
+    )
 
 -- the checksum after the line
-pub vertex_counted : (line name rest : List ℕ) (sum start value middle result : ℕ) → IsNamedAt line name rest → start ≡ sum → sum < 2 ^ 32
-    → length name + 3 ≤ 30 → value ≡ value_from start (take (length name + 3) line) → middle ≡ value % checksum_prime
+pub vertex_counted : (line name rest : List ℕ) (sum middle result : ℕ) → IsNamedAt line name rest
+    → middle ≡ checksum_from sum (take (length line - length rest) line)
     → result ≡ checksum_from middle (rest ++ 10 ∷ []) → result ≡ checksum_from sum (counted_bytes (line ∷ []))
-vertex_counted line name rest sum start value middle result n from small few e m r =
-    let front = take (length name + 3) line in
-    let whole = parts_of_line line name rest n in
-    let short = length-take (length name + 3) line in
-    let some : 0 < length front = omega (arith, ap length n.opened, short) in
-    let first = few_counted sum middle front small some (omega (arith, short, few))
-    (m ∙ ap (λ (v : ℕ). v % checksum_prime) (e ∙ ap (λ (s : ℕ). value_from s front) from)) in
-    r ∙ (ap (λ (s : ℕ). checksum_from s (rest ++ 10 ∷ [])) first
+vertex_counted line name rest sum middle result n m r =
+    let front = take (length line - length rest) line in
+    r ∙ (ap (λ (s : ℕ). checksum_from s (rest ++ 10 ∷ [])) m
     ∙ (sym (checksum_from-append sum front (rest ++ 10 ∷ []))
-    ∙ (ap (checksum_from sum) (sym (append_assoc front rest (10 ∷ [])) ∙ ap (λ (t : List ℕ). t ++ 10 ∷ []) (sym whole))
+    ∙ (ap (checksum_from sum) (sym (append_assoc front rest (10 ∷ [])) ∙ ap (λ (t : List ℕ). t ++ 10 ∷ []) (named_parts line name rest n).1)
     ∙ (checksum_from-append sum line (10 ∷ []) ∙ checksum-counted sum line (ap has_star n.opened)))))
 
 -- what two clauses say of a result

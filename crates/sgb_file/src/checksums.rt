@@ -1,5 +1,5 @@
 //! The checksum of a file, made byte by byte (GB_IO, new_checksum).
-ghost use Rattle.std.specs.Prelude.{◌≡◌, ◌≤◌, ◌+◌, ◌*◌, ◌^◌, ◌%◌, ◌++◌, ◌∷◌, [], length};
+ghost use Rattle.std.specs.Prelude.{◌≡◌, ◌≤◌, ◌<◌, ◌+◌, ◌*◌, ◌^◌, ◌%◌, ◌++◌, ◌∷◌, [], length};
 ghost use Rattle.sgb_file.specs.Checksum.{checksum_prime, has_star};
 ghost use Rattle.sgb_file.specs.inner.Layouts.{checksum_from, counted_bytes, place_of, places, value_after, value_from};
 
@@ -48,10 +48,32 @@ pub(crate) fn has_star(line: &[u8]) -> bool
     !line.is_empty() && line[0] == b'*'
 }
 
-// The checksum after these bytes and a newline, from the checksum before them: a remainder is taken for many bytes at once.
+// The checksum after these bytes and a newline, from the checksum before them.
 #[inline(always)]
 fn checksum_with_newline(sum: u32, bytes: &[u8]) -> u32
     ensures { result ≡ checksum_from sum (bytes.now ++ 10 ∷ []) }
+{
+    let (after, rest) = last_bytes(sum, bytes);
+    remainder(value_with_newline(after, rest))
+}
+
+// The checksum after these bytes, from the checksum before them.
+#[inline(always)]
+pub(crate) fn checksum_after(sum: u32, bytes: &[u8]) -> u32
+    requires { 0 < length bytes.now }
+    ensures { result ≡ checksum_from sum bytes.now }
+{
+    let (after, rest) = last_bytes(sum, bytes);
+    remainder(value_after(u64::from(after), rest))
+}
+
+// At most thirty of these bytes, the last ones, and the checksum after those before them, from the checksum before all: a
+// remainder is taken for many bytes at once.
+#[inline(always)]
+fn last_bytes(sum: u32, bytes: &[u8]) -> (u32, &[u8])
+    ensures counted { checksum_from result.0 result.1.now ≡ checksum_from sum bytes.now }
+    ensures few { length result.1.now ≤ 30 }
+    ensures some { 0 < length bytes.now → 0 < length result.1.now }
 {
     let mut after = sum;
     let mut rest = bytes;
@@ -60,7 +82,7 @@ fn checksum_with_newline(sum: u32, bytes: &[u8]) -> u32
         after = remainder(value_after(u64::from(after), few));
         rest = others;
     }
-    remainder(value_with_newline(after, rest))
+    (after, rest)
 }
 
 // The value after these bytes and a newline, and the checksum is its remainder.

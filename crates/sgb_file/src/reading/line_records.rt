@@ -8,7 +8,7 @@ ghost use Rattle.sgb_file.specs.inner.LineRecords.{AreFieldsOf, IsArcLine, IsNam
 use super::heads::Counts;
 use super::plain::{after_comma, counted_integer, counted_record_number, counted_ref};
 use super::strings::place_of_quote;
-use crate::checksums::{MOST_AT_ONCE, remainder, value_after, value_after_byte};
+use crate::checksums::{MOST_AT_ONCE, checksum_after, remainder, value_after_byte};
 use sgb_graph::Ref;
 
 // A vertex that is one short line, as it is read of it: its name, its first arc record, its integers in the fields x, y, z,
@@ -59,8 +59,8 @@ fn checksum_of_value(value: u64) -> u32
     remainder(value_after_byte(value, b'\n'))
 }
 
-// The record of a vertex that is one short line, with integers in the fields x, y, z and no other utility fields; or none,
-// which says nothing of the line.
+// The record of a vertex that is one line, with integers in the fields x, y, z and no other utility fields; or none, which
+// says nothing of the line.
 #[inline(never)]
 pub(super) fn vertex_of_line<'a>(
     counts: &Counts,
@@ -73,10 +73,7 @@ pub(super) fn vertex_of_line<'a>(
     ensures sum { IfSome result (λ v. v.sum ≡ checksum_from sum (counted_bytes (line.now ∷ []))) }
 {
     let (name, rest) = name_of_line(line)?;
-    if name.len() + 3 > MOST_AT_ONCE || name.len() + 3 > line.len() {
-        return None;
-    }
-    let before = remainder(value_after(u64::from(sum), &line[..name.len() + 3]));
+    let before = checksum_after(sum, &line[..line.len() - rest.len()]);
     let (first, x, y, z, sum) = fields_of_line(counts, rest, before)?;
     Some(VertexLine {
         name,

@@ -1,7 +1,18 @@
-use Rattle.std.proofs.Common.{rules, arith, w64}
+use Rattle.std.proofs.Common.{rules, arith, w64, ◌-◌, length}
 use Rattle.std.proofs.lemmas.Int.{to_z-of_z}
-use Rattle.sgb_file.proofs.VertexLines.{rest_is_line, vertex_counted, vertex_line}
+use Rattle.std.proofs.lemmas.List.{length-take}
+use Rattle.sgb_file.proofs.VertexLines.{named_parts, rest_is_line, vertex_counted, vertex_line}
 use Rattle.sgb_file.proofs.reading.line_records.vertex_of_line.Goals as goal
+
+pub slice_bounds-checksum_after-count : goal.slice_bounds-checksum_after-count
+slice_bounds-checksum_after-count c =
+    omega (arith, (named_parts c.args.line.now c.in_ok-name.name.now c.in_ok-name.rest.now c.in_ok-name.ensures).0)
+
+pub checksum_after-before-requires : goal.checksum_after-before-requires
+checksum_after-before-requires c =
+    let line = c.args.line.now in
+    let rest = c.in_ok-name.rest.now in
+    omega (arith, (named_parts line c.in_ok-name.name.now rest c.in_ok-name.ensures).0, length-take (length line - length rest) line)
 
 pub fields_of_line-requires : goal.fields_of_line-requires
 fields_of_line-requires c = rest_is_line c.args.line.now c.in_ok-name.name.now c.in_ok-name.rest.now c.requires c.in_ok-name.ensures
@@ -17,6 +28,5 @@ returns-clause-vertex c =
 
 pub returns-clause-sum : goal.returns-clause-sum
 returns-clause-sum c =
-    vertex_counted c.args.line.now c.in_ok-name.name.now c.in_ok-name.rest.now c.args.sum c.from.result c.value_after.result c.remainder-before.result
-    c.in_ok-first.sum c.in_ok-name.ensures c.from.ensures c.ranges.sum.fits (search (rules, arith)) c.value_after.ensures c.remainder-before.ensures
-    c.in_ok-first.ensures.sum
+    vertex_counted c.args.line.now c.in_ok-name.name.now c.in_ok-name.rest.now c.args.sum c.checksum_after-before.result
+    c.in_ok-first.sum c.in_ok-name.ensures c.checksum_after-before.ensures c.in_ok-first.ensures.sum
