@@ -588,6 +588,9 @@ def near_limits(runs, tally):
             zeros = zeros if text[0] != "-" and len(text) < 18 else ""
             for records, number in ((vertices, zeros + text), (plain_vertices, text)):
                 records.append(f'"{"x" * name}",{start}{number}')
+    for name in range(55, 62):
+        for records in (vertices, plain_vertices):
+            records.append(f'"{"y" * name}",A{len(records)},1,2,3')
     count = len(vertices)
     for v in range(count):
         tip, following = str(v * 3 % count), f"{v - 1}" if v % 5 else ""
