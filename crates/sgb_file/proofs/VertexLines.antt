@@ -2,7 +2,7 @@
 use Rattle.std.specs.Prelude.{◌≡◌, ◌≤◌, ◌<◌, ◌+◌, ◌-◌, ◌%◌, ◌^◌, ◌++◌, ◌∷◌, ℕ, ℤ, suc, true, List, [], length, take, drop, Option, Some, None, IfSome, refl, slice_index_or as get_or}
 use Rattle.std.proofs.Common.{ap, sym, ◌∙◌, arith, append_assoc, length-append}
 use Rattle.std.proofs.lemmas.Bool.{and_parts}
-use Rattle.std.proofs.lemmas.List.{drop-append-le, drop_all, drop_more, length-drop, length-take, take-append-drop}
+use Rattle.std.proofs.lemmas.List.{drop-append-le, drop_all, drop_more, length-drop, take-append-drop}
 use Rattle.sgb_vec.specs.Limits.{most_bytes}
 use Rattle.sgb_vec.specs.Names.{IsText}
 use Rattle.sgb_graph.specs.Graphs.{GraphData}

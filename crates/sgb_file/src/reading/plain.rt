@@ -1,5 +1,5 @@
 //! What the bytes before the first comma of a line say, and how many they are (GB_SAVE, fill_field).
-ghost use Rattle.std.specs.Prelude.{◌≡◌, ◌≤◌, ◌<◌, ◌==◌, ◌^◌, ◌+◌, ◌∷◌, drop, length, nat_le, true, IfSome, option_map};
+ghost use Rattle.std.specs.Prelude.{◌≡◌, ◌≤◌, ◌<◌, ◌==◌, ◌^◌, ◌+◌, ◌∷◌, drop, length, nat_le, true, IfSome, neg_ℤ, option_map, pos};
 ghost use Rattle.std.specs.List.{before_first, position, take_while};
 ghost use Rattle.std.specs.Str.Parse.{digits_value};
 ghost use Rattle.sgb_file.specs.Fields.{integer_of, is_decimal_digit, most_number_digits, number_below, number_of, record_number_of, ref_of};
@@ -41,8 +41,21 @@ pub(super) fn integer_before_comma(line: &[u8]) -> Option<(i64, usize)>
 pub(super) fn counted_integer(text: &[u8], value: u64) -> Option<(i64, usize, u64)>
     ensures { IfSome result (λ x. IsCountedField integer_of text.now value x.0 x.1 x.2) }
 {
+    if let Some(digits) = text.strip_prefix(b"-") {
+        let begun = value_after_byte(value, b'-');
+        let (number, len, after) = counted_number(digits, begun)?;
+        return Some((minus(number), len + 1, after));
+    }
     let (number, len, after) = counted_number(text, value)?;
     Some((number as i64, len, after))
+}
+
+// The integer with this number after a `-`.
+fn minus(number: u64) -> i64
+    requires { number < 10 ^ 18 }
+    ensures { result ≡ neg_ℤ (pos number) }
+{
+    -(number as i64)
 }
 
 // The same of any integer, with a `-` or with more than 18 digits too.

@@ -1,4 +1,4 @@
-use Rattle.std.proofs.Common.{arith, refl, ap, sym, ◌∙◌, [], ◌∷◌, length-append, take, drop, ◌++◌, ◌%◌}
+use Rattle.std.proofs.Common.{arith, refl, ap, sym, ◌∙◌, take, drop, ◌%◌}
 use Rattle.std.proofs.lemmas.List.{length-drop, length-take, take-append-drop}
 use Rattle.std.proofs.lemmas.Nat.{mod_below}
 use Rattle.sgb_file.specs.Checksum.{checksum_prime}
