@@ -11,13 +11,13 @@ LIB_VERSION = 0.1
 # the kit's object with malloc, realloc and free
 KIT_HEAP = $(dir $(shell rt doc))c/liblibc_c.a
 
-lib: FORCE
+lib: toolchain FORCE
 	@echo "Proving the library for C: some minutes, less where proofs are kept."
 	cd crates/sgb_c && rt check > /dev/null && rt lib > /dev/null
 	@$(MAKE) --no-print-directory archives
 
 # the two archives of what `rt lib` left: one file is enough, and the shared one shows the calls of sgb.h alone
-archives: FORCE
+archives: toolchain FORCE
 	rm -rf out_lib && mkdir out_lib
 	cd out_lib && ar x $(KIT_HEAP)
 	cp crates/sgb_c/out/libsgb_c.a out_lib/libsgb.a

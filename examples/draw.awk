@@ -16,35 +16,21 @@
 # ends, is drawn once. Where the listing has no head, is not whole, or has a name twice, nothing is drawn: the status is 1,
 # and a line on standard error says why.
 
-NR == 1 { if ($0 != "  The graph whose official name is") fail("no head of a whole listing"); next }
-NR == 2 { id = $0; next }
-NR == 3 {
-    if ($0 !~ /^  has [0-9]+ vertices and [0-9]+ arcs:$/) fail("no head of a whole listing")
-    wanted_vertices = $2 + 0
-    wanted_arcs = $5 + 0
-    next
-}
-NR == 4 { if ($0 != "") fail("no head of a whole listing"); next }
+# Records end at ">" and not at the end of a line: so a last line that has no end is seen.
+BEGIN { RS = ">" }
 
-# an arc of the vertex named last
-/^  -> .*, length -?[0-9]+$/ && n > 0 {
-    at = match($0, /, length -?[0-9]+$/)
-    from[++m] = n
-    tip_name[m] = substr($0, 6, at - 6)
-    len[m] = substr($0, at + 9) + 0
-    next
-}
+failed { next }
 
-# the name of a vertex
 {
-    if ($0 in place) fail("a name that came before: " $0)
-    name[++n] = $0
-    place[$0] = n
+    count = split((NR > 1 ? rest ">" : "") $0, lines, "\n")
+    for (i = 1; i < count; i++) take(lines[i] "")
+    rest = lines[count]
 }
 
 END {
     if (failed) exit 1
-    if (NR < 4) fail("no head of a whole listing")
+    if (rest != "") fail("the listing is cut off in the middle of a line")
+    if (line_number < 4) fail("no head of a whole listing")
     if (n + 0 != wanted_vertices) fail((n + 0) " vertices, and " wanted_vertices " in the head")
     if (m + 0 != wanted_arcs) fail((m + 0) " arcs, and " wanted_arcs " in the head")
     find_tips()
@@ -57,10 +43,38 @@ END {
 
 function fail(why) {
     if (failed) return
-    print "draw.awk: line " NR ": " why | "cat >&2"
+    print "draw.awk: line " line_number + 0 ": " why | "cat >&2"
     close("cat >&2")
     failed = 1
     exit 1
+}
+
+# ---------------------------------------------------------------------------------------------------------------------
+# Reading: the head, and then vertices, each with the arcs on its list.
+
+function take(line,    words, at) {
+    line_number++
+    if (line_number == 1 && line != "  The graph whose official name is" || line_number == 4 && line != "" ||
+        line_number == 3 && line !~ /^  has [0-9]+ vertices and [0-9]+ arcs:$/)
+        fail("no head of a whole listing")
+    if (line_number == 2) id = line
+    if (line_number == 3) {
+        split(line, words, " ")
+        wanted_vertices = words[2] + 0
+        wanted_arcs = words[5] + 0
+    }
+    if (line_number <= 4) return
+    if (n > 0 && line ~ /^  -> .*, length -?[0-9]+$/) {
+        # an arc of the vertex named last
+        at = match(line, /, length -?[0-9]+$/)
+        from[++m] = n
+        tip_name[m] = substr(line, 6, at - 6)
+        len[m] = substr(line, at + 9)
+        return
+    }
+    if (line in place) fail("a name that came before: " line)
+    name[++n] = line
+    place[line] = n
 }
 
 # ---------------------------------------------------------------------------------------------------------------------
@@ -70,13 +84,13 @@ function find_tips(    k, u, v, loops) {
     for (k = 1; k <= m; k++) {
         if (!(tip_name[k] in place)) fail("an arc to a name that no vertex has: " tip_name[k])
         tip[k] = place[tip_name[k]]
-        records[from[k], tip[k]]++
+        records[from[k], tip[k], len[k]]++
     }
     for (k = 1; k <= m; k++) {
         u = from[k]
         v = tip[k]
-        is_drawn[k] = directed || u < v || (u == v && ++loops[u] % 2)
-        if (!directed && records[u, v] != records[v, u] || !directed && u == v && records[u, v] % 2)
+        is_drawn[k] = directed || u < v || (u == v && ++loops[u, len[k]] % 2)
+        if (!directed && (records[u, v, len[k]] != records[v, u, len[k]] || u == v && records[u, v, len[k]] % 2))
             fail("not a graph of edges, which directed=1 draws: " name[u] " and " name[v])
         if (u != v && !((u, v) in others)) {
             others[u, v] = 1

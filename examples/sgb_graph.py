@@ -188,10 +188,11 @@ def _edges(lists, directed):
 def to_networkx(listing, directed=False):
     """A networkx MultiGraph, or MultiDiGraph, with the lengths as `weight`, and the id as the graph's `name`; ValueError as
     from `to_edges`."""
-    import networkx
-
     lists = _lists(listing)
     edges = _edges(lists, directed)
+    # a listing that is refused is refused where networkx is not there, too
+    import networkx
+
     graph = networkx.MultiDiGraph() if directed else networkx.MultiGraph()
     graph.graph["name"] = listing.id
     # the vertices as they come, and also those without arcs

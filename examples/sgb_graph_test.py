@@ -107,6 +107,11 @@ class Listings(unittest.TestCase):
         with read("board(60,60,0,0,-1,0,0)") as listing:
             self.assertEqual([name for name, _ in itertools.islice(listing, 3)], ["0.0", "0.1", "0.2"])
 
+    def test_networkx_of_arcs(self):
+        # refused also where networkx is not there
+        with self.assertRaisesRegex(ValueError, "is no edge"):
+            sgb_graph.to_networkx(read("cycle(7)"))
+
     @unittest.skipUnless(networkx, "networkx is not there")
     def test_networkx(self):
         petersen = sgb_graph.to_networkx(read("petersen()"))
@@ -115,8 +120,6 @@ class Listings(unittest.TestCase):
         self.assertEqual((union.number_of_nodes(), union.number_of_edges()), (5, 15))
         cycle = sgb_graph.to_networkx(read("cycle(7)"), directed=True)
         self.assertTrue(networkx.is_isomorphic(networkx.DiGraph(cycle), networkx.cycle_graph(7, networkx.DiGraph)))
-        with self.assertRaisesRegex(ValueError, "is no edge"):
-            sgb_graph.to_networkx(read("cycle(7)"))
         alone = sgb_graph.to_networkx(read("empty(3)"))
         self.assertEqual((list(alone), alone.number_of_edges()), (["0", "1", "2"], 0))
         pair = sgb_graph.to_networkx(read("stdin", FILE))

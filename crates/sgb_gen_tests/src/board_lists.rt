@@ -119,6 +119,28 @@ fn arcs_of_runs(board: &Board, links: &Links, x: &[u32]) -> Option<u64> {
     Some(count)
 }
 
+// Where coordinate k of a vertex leads at a length, where its list is had run by run. `None` where it is not, or `x` is no vertex.
+fn entry_from(board: &Board, links: &Links, x: &[u32], (k, amount, l): (usize, i32, u32)) -> Option<u32> {
+    if !board.family().holds(x) || k >= x.len() {
+        return None;
+    }
+    let lists = board.lists(links);
+    let runs = lists.runs(x)?;
+    Some(runs.entry_at(k, amount, l))
+}
+
+// A move that a side does not stop, one that it stops, and one around a side.
+#[test]
+fn entries_along_runs(rt: HostRuntime) -> Result<(), Fail> {
+    let links = Links::new(rt.alloc());
+    let rooks = board_of(&[3, 5, 0, 0, -1, 0], false)?;
+    assert!(rt; entry_from(&rooks, &links, &[2, 1], (1, 1, 3)) == Some(4));
+    assert!(rt; entry_from(&rooks, &links, &[2, 1], (1, 1, 4)) == Some(0));
+    let torus = board_of(&[8, 8, 0, 0, 5, 3], false)?;
+    assert!(rt; entry_from(&torus, &links, &[2, 5], (1, 2, 2)) == Some(1));
+    Ok(())
+}
+
 // Knights of 8 by 8, which move to 2 places from a corner, 4 from a square on an edge and 8 from the middle; rooks of 3 by 5, of which
 // one moves 6 places. Where sides wrap around, the lists of leapers are had so that no side is near, and no others.
 #[test]

@@ -25,6 +25,9 @@ mod equal_bounds;
 // board, simplex and subsets
 #[cfg(test)]
 mod generators;
+// what a listing asks of any generator's graph
+#[cfg(test)]
+mod listed;
 // the short names
 #[cfg(test)]
 mod shorthands;
