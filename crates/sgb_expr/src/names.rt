@@ -1,7 +1,7 @@
 //! The names of the forms of expressions.
 ghost use Rattle.std.specs.Prelude.{◌≡◌};
 ghost use Rattle.sgb_expr.specs.inner.Gives.{Finds};
-ghost use Rattle.sgb_expr.specs.Names.{opening_of};
+ghost use Rattle.sgb_expr.specs.Names.{name_opening};
 ghost use Rattle.sgb_expr.specs.inner.Names.{openings};
 ghost use Rattle.sgb_expr.specs.inner.Readings.{word_at};
 
@@ -78,7 +78,7 @@ pub(crate) fn opening(text: &[u8]) -> Result<(Name, &[u8]), Mismatch>
 
 // The name, and the parenthesis after it where the form has one.
 fn text_of(name: Name) -> &'static [u8]
-    ensures { result.now ≡ opening_of name }
+    ensures { result.now ≡ name_opening name }
 {
     match name {
         Name::Generator(GeneratorName::Board) => b"board(",
