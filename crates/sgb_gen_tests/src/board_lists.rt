@@ -120,7 +120,12 @@ fn arcs_of_runs(board: &Board, links: &Links, x: &[u32]) -> Option<u64> {
 }
 
 // Where coordinate k of a vertex leads at a length, where its list is had run by run. `None` where it is not, or `x` is no vertex.
-fn entry_from(board: &Board, links: &Links, x: &[u32], (k, amount, l): (usize, i32, u32)) -> Option<u32> {
+fn entry_from(
+    board: &Board,
+    links: &Links,
+    x: &[u32],
+    (k, amount, l): (usize, i32, u32),
+) -> Option<u32> {
     if !board.family().holds(x) || k >= x.len() {
         return None;
     }
