@@ -11,8 +11,8 @@ use Rattle.sgb_expr.specs.inner.Readings.{then_read, word_at}
 use Rattle.sgb_expr.specs.inner.Reading.{arguments_with, expression_at, nested_at}
 use Rattle.sgb_expr.specs.declared.names.GeneratorName.{GeneratorName}
 use Rattle.sgb_expr.specs.declared.names.GeneratorName.TheVariants.{Board, Simplex, Subsets, Complete, Transitive, Empty, Circuit, Cycle, DisjointSubsets, Petersen}
-use Rattle.sgb_expr.specs.declared.names.Name.{Name}
-use Rattle.sgb_expr.specs.declared.names.Name.TheVariants.{Generator, Complement, Gunion, Intersection, Lines, Product, Induced, BiComplete, Wheel, Stdin}
+use Rattle.sgb_expr.specs.declared.names.FormName.{FormName}
+use Rattle.sgb_expr.specs.declared.names.FormName.TheVariants.{Generator, Complement, Gunion, Intersection, Lines, Product, Induced, BiComplete, Wheel, Stdin}
 use Rattle.sgb_expr.proofs.Readers.{Reads, bind_of, bind_stops, reads_then, reads_as, reads_is}
 use Rattle.sgb_expr.proofs.Words.{Anything, IsWord, reads_words}
 use Rattle.sgb_expr.proofs.GeneratorReaders.{reads_generator}
@@ -48,7 +48,7 @@ there : (i : ℕ) → i < 19 → IsWord openings (name_opening (get_or all_names
 unfolding openings
 there i h = word_there name_opening all_names i Complement h
 
-name_is_there : (name : Name) → IsWord openings (name_opening name) name
+name_is_there : (name : FormName) → IsWord openings (name_opening name) name
 name_is_there (Generator Board) = there 0 (lit< tt)
 name_is_there (Generator Simplex) = there 1 (lit< tt)
 name_is_there (Generator Subsets) = there 2 (lit< tt)
@@ -104,7 +104,7 @@ unfolding openings
 openings_lettered = refl
 
 -- what is left after a name is shorter than the text
-pub opening_shorter : (text : List ℕ) (name : Name) (rest : List ℕ) → word_at openings text ≡ Ok (name, rest) → length rest < length text
+pub opening_shorter : (text : List ℕ) (name : FormName) (rest : List ℕ) → word_at openings text ≡ Ok (name, rest) → length rest < length text
 opening_shorter text name rest e =
     let f = reads_openings.found text name rest e in
     let some = lettered_some f.word (word_lettered openings f.word name openings_lettered f.is) in
@@ -127,7 +127,7 @@ call_from : (depth : ℕ) (text : List ℕ) (e : Expression) → IsNested (suc d
 call_from depth text e h = (name_opening h.0, h.1, h.0, h.2, name_is_there h.0, h.3)
 
 -- an expression begins with a letter
-opening_lettered : (name : Name) (arguments text : List ℕ) → text ≡ name_opening name ++ arguments → is_lettered text ≡ true
+opening_lettered : (name : FormName) (arguments text : List ℕ) → text ≡ name_opening name ++ arguments → is_lettered text ≡ true
 opening_lettered name arguments text e =
     ap is_lettered e ∙ lettered_more (name_opening name) arguments (word_lettered openings (name_opening name) name openings_lettered (name_is_there name))
 
@@ -201,7 +201,7 @@ expression_no_longer text e rest h =
     no_longer (reads_nested (length text)) text e rest (sym (expression_nested (length text) text (omega arith)) ∙ h)
 
 -- after a name its form is read
-pub name_read : (text : List ℕ) (name : Name) (rest : List ℕ) → word_at openings text ≡ Ok (name, rest) → expression_at text ≡ arguments_with expression_at name rest
+pub name_read : (text : List ℕ) (name : FormName) (rest : List ℕ) → word_at openings text ≡ Ok (name, rest) → expression_at text ≡ arguments_with expression_at name rest
 name_read text name rest e = expression_read text ∙ bind_of (word_at openings text) (λ x. arguments_with expression_at x.0 x.1) (name, rest) e
 
 -- where no name begins, no expression does

@@ -1,11 +1,11 @@
 -- The names of the forms of expressions.
 use Rattle.std.specs.Prelude.{ℕ, List, codes}
 use Rattle.sgb_expr.specs.declared.names.GeneratorName.TheVariants.{Board, Simplex, Subsets, Complete, Transitive, Empty, Circuit, Cycle, DisjointSubsets, Petersen}
-use Rattle.sgb_expr.specs.declared.names.Name.{Name}
-use Rattle.sgb_expr.specs.declared.names.Name.TheVariants.{Generator, Complement, Gunion, Intersection, Lines, Product, Induced, BiComplete, Wheel, Stdin}
+use Rattle.sgb_expr.specs.declared.names.FormName.{FormName}
+use Rattle.sgb_expr.specs.declared.names.FormName.TheVariants.{Generator, Complement, Gunion, Intersection, Lines, Product, Induced, BiComplete, Wheel, Stdin}
 
 -- a form's name, with the parenthesis after it where it has arguments
-abbrev pub name_opening : Name → List ℕ
+abbrev pub name_opening : FormName → List ℕ
 name_opening (Generator Board) = codes "board("
 name_opening (Generator Simplex) = codes "simplex("
 name_opening (Generator Subsets) = codes "subsets("

@@ -5,8 +5,8 @@ use Rattle.sgb_expr.specs.Forms.{AreArguments, AreNumbers, IsGeneratorCall, flag
 use Rattle.sgb_expr.specs.Languages.{After, As, Or, Then}
 use Rattle.sgb_expr.specs.Numbers.{IsInteger}
 use Rattle.sgb_expr.specs.declared.names.GeneratorName.{GeneratorName}
-use Rattle.sgb_expr.specs.declared.names.Name.{Name}
-use Rattle.sgb_expr.specs.declared.names.Name.TheVariants.{Generator, Complement, Gunion, Intersection, Lines, Product, Induced, BiComplete, Wheel, Stdin}
+use Rattle.sgb_expr.specs.declared.names.FormName.{FormName}
+use Rattle.sgb_expr.specs.declared.names.FormName.TheVariants.{Generator, Complement, Gunion, Intersection, Lines, Product, Induced, BiComplete, Wheel, Stdin}
 
 -- integer number k of some, counted from 0, as a flag
 abbrev pub flag_at : List ℤ → ℕ → Bool
@@ -76,7 +76,7 @@ IsEntryList Inner = After (codes "[") (AreEntries Inner [])
 
 -- the text is what follows the name in the form of this name: its arguments to the `)`, where Inner tells the texts of the
 -- expressions inside; nothing after `stdin`
-abbrev pub IsCallOf : (List ℕ → Expression → Type 0) → Name → List ℕ → Expression → Type 0
+abbrev pub IsCallOf : (List ℕ → Expression → Type 0) → FormName → List ℕ → Expression → Type 0
 IsCallOf Inner (Generator name) = IsGenerator name
 IsCallOf Inner Complement = Then Inner (λ graph. As (complement_call graph) (AreNumbers (codes ",") 3 (codes ")")))
 IsCallOf Inner Gunion = As gunion_call (AreOperands Inner)

@@ -10,8 +10,8 @@ use Rattle.sgb_expr.specs.declared.expressions.Generator.{Generator}
 use Rattle.sgb_expr.specs.declared.expressions.Generator.TheVariants as generator
 use Rattle.sgb_expr.specs.declared.names.GeneratorName.{GeneratorName}
 use Rattle.sgb_expr.specs.declared.names.GeneratorName.TheVariants.{Board, Simplex, Subsets, Complete, Transitive, Empty, Circuit, Cycle, DisjointSubsets, Petersen}
-use Rattle.sgb_expr.specs.declared.names.Name.{Name}
-use Rattle.sgb_expr.specs.declared.names.Name.TheVariants as name
+use Rattle.sgb_expr.specs.declared.names.FormName.{FormName}
+use Rattle.sgb_expr.specs.declared.names.FormName.TheVariants as name
 
 -- n integers to a `)`, as the generator with its parameters that is made of them
 abbrev pub integers_as : (List ℤ → Generator) → ℕ → List ℕ → Result (Generator × List ℕ) ℕ
@@ -86,7 +86,7 @@ induced_with inner =
     read_as (induced_call graph entries) (integers_at (codes ",") 3 (codes ")")))))
 
 -- the arguments of the form of this name, where `inner` reads the expressions inside; `stdin` has none
-abbrev pub arguments_with : (List ℕ → Result (Expression × List ℕ) ℕ) → Name → List ℕ → Result (Expression × List ℕ) ℕ
+abbrev pub arguments_with : (List ℕ → Result (Expression × List ℕ) ℕ) → FormName → List ℕ → Result (Expression × List ℕ) ℕ
 arguments_with inner (name.Generator generator) = generator_expression_at generator
 arguments_with inner name.Complement = complement_with inner
 arguments_with inner name.Gunion = read_as gunion_call (operands_with inner)
