@@ -127,6 +127,29 @@ STATUSES = [
     (("names", "complete(2)", "--after", "2"), b"", (1, b"sgb: no such vertex\n")),
     (("names", "stdin"), b"", (1, b"Something went wrong (panic code 10)!\n")),
 ]
+# calls of sgb_levels, each with its input and what is left: the status, the output, the line
+LEVELS = [
+    (("cycle(4)",), b"", (0, b"0 0\n1 1\n2 2\n3 3\n", b"")),
+    (("empty(3)",), b"", (0, b"0 0\n1 -\n2 -\n", b"")),
+    (
+        ("gunion(board(2,2,0,0,2,0,0),board(2,2,0,0,2,0,0),1,0)",), b"",
+        (0, b"0.0 0\n0.1 -\n1.0 -\n1.1 1\n", b""),
+    ),
+    (
+        ("disjoint_subsets(5,2)",), b"",
+        (
+            0,
+            b"0.0.0.1.1 0\n0.0.1.0.1 2\n0.0.1.1.0 2\n0.1.0.0.1 2\n0.1.0.1.0 2\n0.1.1.0.0 1\n1.0.0.0.1 2\n1.0.0.1.0 2\n"
+            b"1.0.1.0.0 1\n1.1.0.0.0 1\n",
+            b"",
+        ),
+    ),
+    (("stdin",), FILE, (0, b"0 0\n1 1\n", b"")),
+    (("stdin",), FILE[:90], (1, b"", b"Something went wrong (panic code 20)!\n")),
+    (("board(3,",), b"", (2, b"", b"sgb: bad expression at byte 8\n")),
+    ((), b"", (2, b"", b"usage: sgb_levels EXPR\n")),
+    (("cycle(4)", "--skip"), b"", (2, b"", b"usage: sgb_levels EXPR\n")),
+]
 # whose outputs go to devices that fail
 WRITTEN = [
     ("names", "board(2,3,0,0,1,0,0)"),
@@ -277,6 +300,20 @@ def shown(part):
 
 def is_words(part):
     return isinstance(part, tuple) and all(isinstance(word, str) for word in part)
+
+
+def levels(runs, tally):
+    """The other program, sgb_levels: distances from the first vertex, and what it refuses."""
+    program = os.path.join(TOP, "crates/sgb_levels/out/sgb_levels")
+    if not os.path.exists(program):
+        tally.check(False, "sgb_levels is not built")
+        return
+    for words, given, wanted in LEVELS:
+        try:
+            got = subprocess.run([program, *words], input=given, capture_output=True, timeout=SECONDS)
+        except subprocess.TimeoutExpired:
+            raise DidNotEnd(shown(("sgb_levels", *words, "did not end"))) from None
+        tally.same(("sgb_levels", *words), (got.returncode, got.stdout, got.stderr), wanted)
 
 
 # ---------------------------------------------------------------------------------------------------------------------
@@ -769,6 +806,7 @@ def digits(runs, tally):
 
 def all_checks():
     yield "answers", answers
+    yield "levels", levels
     yield "digits", digits
     yield "document README.md", document("README.md", 1)
     yield "document docs/TOUR.md", document("docs/TOUR.md", 20)

@@ -8,9 +8,6 @@
 mod levels;
 // A call of the program.
 mod runs;
-// Searches of small graphs, and whole calls.
-#[cfg(test)]
-mod tests;
 
 use runs::run_levels;
 use sgb_file::{Buffered, FromRead, ToWrite};
