@@ -29,13 +29,12 @@ IsBelow-length sizes v b = length_all_zip (λ x s. x < s) v sizes b
 -- the test of each pair, where there are as many entries as sizes
 pub IsBelow-test : (sizes v : List ℕ) → length v ≡ length sizes → (list_all (λ p. nat_lt p.0 p.1) (zip v sizes) ≡ true) ↔ IsBelow v sizes
 IsBelow-test [] [] e = (λ _. tt, λ _. refl)
-IsBelow-test [] (x ∷ v) e = absurd (omega arith)
-IsBelow-test (s ∷ sizes) [] e = absurd (omega arith)
 IsBelow-test (s ∷ sizes) (x ∷ v) e =
     let rest = IsBelow-test sizes v (omega arith) in (
       λ h. let parts = and_parts (nat_lt x s) (list_all (λ p. nat_lt p.0 p.1) (zip v sizes)) h in (ltb-true x s parts.0, rest.0 parts.1),
       λ b. and_from (nat_lt x s) (list_all (λ p. nat_lt p.0 p.1) (zip v sizes)) (lt-ltb x s b.0) (rest.1 b.1),
     )
+IsBelow-test _ _ e = absurd (omega arith)
 
 -- rows of k elements each
 length-rows : {X : Type 0} (f : ℕ → List X) (k : ℕ) → ((x : ℕ) → length (f x) ≡ k) → (xs : List ℕ) → length (flat_map f xs) ≡ length xs * k
@@ -72,20 +71,18 @@ get_or-box s sizes x j d h k =
 -- a vector of the box stands within it
 pub place_of-below : (sizes v : List ℕ) → IsBelow v sizes → place_of sizes v < product_of sizes
 place_of-below [] [] b = omega arith
-place_of-below [] (x ∷ v) b = absurd b
-place_of-below (s ∷ sizes) [] b = absurd b
 place_of-below (s ∷ sizes) (x ∷ v) b =
     omega (arith, mul-add-lt x (product_of sizes) (place_of sizes v) s b.0 (place_of-below sizes v b.1))
+place_of-below _ _ b = absurd b
 
 -- at its place stands the vector
 pub get_or-place_of : (sizes v d : List ℕ) → IsBelow v sizes → get_or (box sizes) (place_of sizes v) d ≡ v
 unfolding box
 get_or-place_of [] [] d b = refl
-get_or-place_of [] (x ∷ v) d b = absurd b
-get_or-place_of (s ∷ sizes) [] d b = absurd b
 get_or-place_of (s ∷ sizes) (x ∷ v) d b =
     get_or-box s sizes x (place_of sizes v) d b.0 (place_of-below sizes v b.1)
     ∙ ap (λ w. x ∷ w) (get_or-place_of sizes v d b.1)
+get_or-place_of _ _ d b = absurd b
 
 -- a vector that stands at place i: its entries are below the sizes, and its place is i
 pub record StandsAt (sizes v : List ℕ) (i : ℕ) : Type 0 where

@@ -118,13 +118,12 @@ count_of_sum-nil (suc k) =
 -- as far as it goes there is one; of no bound there is one that adds to 0
 pub count_of_sum-few : (bounds : List ℕ) (k : ℕ) → length bounds < 2 → k ≤ sum bounds → count_of_sum k bounds ≡ 1
 count_of_sum-few [] zero short h = count_of_sum-nil 0
-count_of_sum-few [] (suc k) short h = absurd (omega arith)
 count_of_sum-few (b ∷ []) k short h =
     let within : k ≤ b = omega (arith, sum_by-cons (λ y. y) b []) in
     count_of_sum-cons b [] k
     ∙ window_same b (λ i. count_of_sum i []) one_at_zero k (λ i _. count_of_sum-nil i)
     ∙ window-one_at_zero_prefix b k within
-count_of_sum-few (b ∷ c ∷ bounds) k short h = absurd (omega arith)
+count_of_sum-few _ _ short h = absurd (omega arith)
 
 -- no vector above the sum of the bounds
 pub count_of_sum-far : (bounds : List ℕ) (k : ℕ) → sum bounds < k → count_of_sum k bounds ≡ 0

@@ -167,9 +167,8 @@ least-all bounds entries after has_room so = IsFirst-least (sum entries) bounds 
 pub IsWithin-drop : (bounds v : List ℕ) (p : ℕ) → IsWithin v bounds → IsWithin (drop p v) (drop p bounds)
 IsWithin-drop bounds v zero h = h
 IsWithin-drop [] [] (suc p) h = tt
-IsWithin-drop [] (x ∷ v) (suc p) h = absurd h
-IsWithin-drop (b ∷ bounds) [] (suc p) h = absurd h
 IsWithin-drop (b ∷ bounds) (x ∷ v) (suc p) h = IsWithin-drop bounds v p h.1
+IsWithin-drop _ _ _ h = absurd h
 
 -- what a write at p and then of all that is after it leaves
 pub put_mid-tail : (v w : List ℕ) (p x : ℕ) → p < length v → put_mid (p + 1) (length (set v p x) - (p + 1)) (set v p x) w ≡ take p v ++ (x ∷ w)

@@ -75,17 +75,15 @@ window_prefix (suc b) f (suc k) h = omega (arith, window_prefix b f k (omega ari
 
 -- after it, all but those before the window
 pub window_after : (b i : ℕ) (f : ℕ → ℕ) (k : ℕ) → k ≡ b + 1 + i → window b f k + up_to f i ≡ up_to f k
-window_after zero i f zero e = absurd (omega arith)
 window_after zero i f (suc k) e = let same : i ≡ k = omega arith in omega (arith, ap (up_to f) same)
-window_after (suc b) i f zero e = absurd (omega arith)
 window_after (suc b) i f (suc k) e = omega (arith, window_after b i f k (omega arith))
+window_after _ i f _ e = absurd (omega arith)
 
 -- a wider window has one term more, where there are so many
 pub window-wider : (b i : ℕ) (f : ℕ → ℕ) (k : ℕ) → k ≡ b + 1 + i → window (suc b) f k ≡ window b f k + f i
-window-wider zero i f zero e = absurd (omega arith)
 window-wider zero i f (suc k) e = let same : k ≡ i = omega arith in omega (arith, ap f same)
-window-wider (suc b) i f zero e = absurd (omega arith)
 window-wider (suc b) i f (suc k) e = omega (arith, window-wider b i f k (omega arith))
+window-wider _ i f _ e = absurd (omega arith)
 
 -- and the same where there are not
 pub window-wide : (b : ℕ) (f : ℕ → ℕ) (k : ℕ) → k ≤ b → window (suc b) f k ≡ window b f k
