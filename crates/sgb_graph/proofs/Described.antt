@@ -80,8 +80,6 @@ records_are : (lists : ℕ → List Link) (k : ℕ) (records : List ArcRec) (wan
     → ((i : ℕ) (r : ArcRec) (a : Record) → slice_get records i ≡ Some r → slice_get wanted i ≡ Some a → r.next ≡ number_after (k + i) (lists a.start))
     → records ≡ map (λ p. record_in (lists p.1.start) p.0 p.1) (enumerate_from k wanted)
 records_are lists k [] [] tips lengths none nexts = refl
-records_are lists k [] (a ∷ wanted) tips lengths none nexts = absurd cc
-records_are lists k (r ∷ records) [] tips lengths none nexts = absurd cc
 records_are lists k (r ∷ records) (a ∷ wanted) tips lengths none nexts =
     let place : k + 0 ≡ k = omega arith in
     let next : r.next ≡ number_after k (lists a.start) = nexts 0 r a refl refl ∙ ap (λ j. number_after j (lists a.start)) place in
@@ -93,6 +91,7 @@ records_are lists k (r ∷ records) (a ∷ wanted) tips lengths none nexts =
   where
     same_first : {X : Type 0} {x y : X} {xs ys : List X} → x ∷ xs ≡ y ∷ ys → x ≡ y
     same_first e = cc
+records_are lists k _ _ tips lengths none nexts = absurd cc
 
 -- an event within the vertices has its records there
 pub records_within : (n : ℕ) (directed : Bool) (e : Event) → HasEndsBelow n e → All (λ r. r.start < n) (records_of directed e)
@@ -174,14 +173,11 @@ described_names d same = names_are (list_of d.directed d.events) 0 d.names d.fie
 -- and its fields
 fields_are : (lists : ℕ → List Link) (k : ℕ) (names : List (List ℕ)) (fields : List (List Util)) → length fields ≡ length names → map (λ v. v.util) (map (λ p. vertex_with p.1.0 p.1.1 (lists p.0)) (enumerate_from k (zip names fields))) ≡ fields
 fields_are lists k [] [] same = refl
-fields_are lists k [] (field ∷ fields) same = absurd (omega arith)
-fields_are lists k (name ∷ names) [] same = absurd (omega arith)
 fields_are lists k (name ∷ names) (field ∷ fields) same = ap (λ fs. field ∷ fs) (fields_are lists (k + 1) names fields (omega arith))
+fields_are lists k _ _ same = absurd (omega arith)
 
 -- each has the first record of its list
 firsts_are : (lists : ℕ → List Link) (k : ℕ) (names : List (List ℕ)) (fields : List (List Util)) (i : ℕ) (x : Vertex) → slice_get (map (λ p. vertex_with p.1.0 p.1.1 (lists p.0)) (enumerate_from k (zip names fields))) i ≡ Some x → x.arcs ≡ first_number (lists (k + i))
-firsts_are lists k [] fields i x is = absurd cc
-firsts_are lists k (name ∷ names) [] i x is = absurd cc
 firsts_are lists k (name ∷ names) (field ∷ fields) zero x is =
     let place : k ≡ k + 0 = omega arith in
     let same : vertex_with name field (lists k) ≡ x = cc in
@@ -189,6 +185,7 @@ firsts_are lists k (name ∷ names) (field ∷ fields) zero x is =
 firsts_are lists k (name ∷ names) (field ∷ fields) (suc i) x is =
     let place : k + 1 + i ≡ k + suc i = omega arith in
     firsts_are lists (k + 1) names fields i x is ∙ ap (λ j. first_number (lists j)) place
+firsts_are lists k _ _ i x is = absurd cc
 
 -- the records that are wanted: their tips, their lengths, their fields, and each at its place
 record_tips : (lists : ℕ → List Link) (k : ℕ) (wanted : List Record) → map (λ r. r.tip) (map (λ p. record_in (lists p.1.start) p.0 p.1) (enumerate_from k wanted)) ≡ map (λ r. At r.tip) wanted

@@ -19,9 +19,8 @@ record_with p x y = record { tip = p.tip; next = kept_number p.next; len = p.len
 pub length-records_with :
     (ps : List PlainRecord) (xs ys : List Util) → length xs ≡ length ps → length ys ≡ length ps → length (records_with ps xs ys) ≡ length ps
 length-records_with [] xs ys hx hy = refl
-length-records_with (p ∷ ps) [] ys hx hy = absurd (omega arith)
-length-records_with (p ∷ ps) (x ∷ xs) [] hx hy = absurd (omega arith)
 length-records_with (p ∷ ps) (x ∷ xs) (y ∷ ys) hx hy = ap suc (length-records_with ps xs ys (omega arith) (omega arith))
+length-records_with _ _ _ hx hy = absurd (omega arith)
 
 pub length-kept_records :
     (ps : List PlainRecord) (a b : Column) → HoldsMany (length ps) a → HoldsMany (length ps) b → length (kept_records ps a b).items ≡ length ps
@@ -43,12 +42,9 @@ pub records_with-push :
     (ps : List PlainRecord) (xs ys : List Util) (p : PlainRecord) (x y : Util) → length xs ≡ length ps → length ys ≡ length ps →
     records_with (ps ++ p ∷ []) (xs ++ x ∷ []) (ys ++ y ∷ []) ≡ records_with ps xs ys ++ record_with p x y ∷ []
 records_with-push [] [] [] p x y hx hy = refl
-records_with-push [] (u ∷ us) ys p x y hx hy = absurd (omega arith)
-records_with-push [] [] (v ∷ vs) p x y hx hy = absurd (omega arith)
-records_with-push (q ∷ qs) [] ys p x y hx hy = absurd (omega arith)
-records_with-push (q ∷ qs) (u ∷ us) [] p x y hx hy = absurd (omega arith)
 records_with-push (q ∷ qs) (u ∷ us) (v ∷ vs) p x y hx hy =
     ap (λ rs. record_with q u v ∷ rs) (records_with-push qs us vs p x y (omega arith) (omega arith))
+records_with-push _ _ _ p x y hx hy = absurd (omega arith)
 
 pub kept_records-push :
     (ps : List PlainRecord) (a b a' b' : Column) (p : PlainRecord) (x y : Util) → HoldsMany (length ps) a → HoldsMany (length ps) b →

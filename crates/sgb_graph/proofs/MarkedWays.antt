@@ -74,9 +74,8 @@ walk_meets records first steps k lead ends = ends_within (length records + steps
 no_steps : (records : List ArcRec) (next : Option ℕ) (none : Bool) → is_some next ≡ not none → none ≡ ends_from zero records next
 unfolding ends_from
 no_steps records None true test = refl
-no_steps records None false test = absurd cc
-no_steps records (Some k) true test = absurd cc
 no_steps records (Some k) false test = refl
+no_steps records _ _ test = absurd cc
 
 -- after as many steps as there are records it has ended, or it never does
 pub walk_is_over : (records : List ArcRec) (first next : Option ℕ) (steps : ℕ) (none : Bool) → StepsLead records first steps next → steps ≡ length records → is_some next ≡ not none → none ≡ ends_of records first

@@ -30,19 +30,16 @@ zero_fits n m (Chain first) = refl
 -- fields of which one becomes a number
 number_fits : (n m k : ℕ) (kinds : List Kind) (utils : List Util) → utils_fit n m kinds utils ≡ true → utils_fit n m (set kinds k I) (at_place number_or_zero k utils) ≡ true
 number_fits n m k [] [] e = e
-number_fits n m k [] (u ∷ utils) e = absurd cc
-number_fits n m k (a ∷ kinds) [] e = absurd cc
 number_fits n m zero (a ∷ kinds) (u ∷ utils) e =
     and_from (util_fits n m I (number_or_zero u)) (utils_fit n m kinds utils) (zero_fits n m u) (and_parts (util_fits n m a u) (utils_fit n m kinds utils) e).1
 number_fits n m (suc k) (a ∷ kinds) (u ∷ utils) e =
     let parts = and_parts (util_fits n m a u) (utils_fit n m kinds utils) e in
     and_from (util_fits n m a u) (utils_fit n m (set kinds k I) (at_place number_or_zero k utils)) parts.0 (number_fits n m k kinds utils parts.1)
+number_fits n m k _ _ e = absurd cc
 
 -- fields of which one gets another number
 put_fits : (n m k : ℕ) (i : ℤ) (kinds : List Kind) (utils : List Util) → utils_fit n m kinds utils ≡ true → set kinds k I ≡ kinds → utils_fit n m kinds (set utils k (Int i)) ≡ true
 put_fits n m k i [] [] e is = e
-put_fits n m k i [] (u ∷ utils) e is = absurd cc
-put_fits n m k i (a ∷ kinds) [] e is = absurd cc
 put_fits n m zero i (a ∷ kinds) (u ∷ utils) e is =
     let kind : I ≡ a = cc in
     and_from (util_fits n m a (Int i)) (utils_fit n m kinds utils) (rw (← kind) refl) (and_parts (util_fits n m a u) (utils_fit n m kinds utils) e).1
@@ -50,6 +47,7 @@ put_fits n m (suc k) i (a ∷ kinds) (u ∷ utils) e is =
     let rest : set kinds k I ≡ kinds = cc in
     let parts = and_parts (util_fits n m a u) (utils_fit n m kinds utils) e in
     and_from (util_fits n m a u) (utils_fit n m kinds (set utils k (Int i))) parts.0 (put_fits n m k i kinds utils parts.1 rest)
+put_fits n m k i _ _ e is = absurd cc
 
 -- the kinds of vertices, and the others, where the fields x, y, z hold integers
 record SplitKinds (kinds : List Kind) : Type 0 where

@@ -16,9 +16,8 @@ use Rattle.sgb_graph.proofs.Growing.{HasParts, parts_of, graph_from_parts}
 -- fields of which the first becomes a number
 first_number_fits : (n m : ℕ) (value : ℤ) (kinds : List Kind) (utils : List Util) → utils_fit n m kinds utils ≡ true → utils_fit n m (set kinds 0 I) (set utils 0 (Int value)) ≡ true
 first_number_fits n m value [] [] e = e
-first_number_fits n m value [] (u ∷ utils) e = absurd cc
-first_number_fits n m value (a ∷ kinds) [] e = absurd cc
 first_number_fits n m value (a ∷ kinds) (u ∷ utils) e = (and_parts (util_fits n m a u) (utils_fit n m kinds utils) e).1
+first_number_fits n m value _ _ e = absurd cc
 
 -- the graph with this number is one
 pub uu_kept : (value : ℤ) (g : GraphData) → IsKept g → IsKept (with_uu value g)
