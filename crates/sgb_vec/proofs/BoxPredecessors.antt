@@ -92,11 +92,10 @@ FallenAt-put_mid sizes v zs p b h pos e =
 
 -- zeros stand at place 0
 place_of-zeros : (sizes v : List ℕ) → ((k : ℕ) → k < length v → get_or v k 0 ≡ 0) → place_of sizes v ≡ 0
-place_of-zeros [] v zeros = refl
-place_of-zeros (s ∷ sizes) [] zeros = refl
 place_of-zeros (s ∷ sizes) (x ∷ v) zeros =
     let here : x ≡ 0 = zeros 0 (omega arith) in
     rw here (omega (arith, place_of-zeros sizes v (λ k h. zeros (suc k) (omega arith))))
+place_of-zeros _ _ zeros = refl
 
 -- and have none before them
 pub HasNoneBefore-zeros : (sizes v : List ℕ) → ((k : ℕ) → k < length v → get_or v k 0 ≡ 0) → HasNoneBefore (box sizes) v

@@ -156,10 +156,9 @@ flat_map-none f (x ∷ xs) h =
 
 -- tests that hold together are the same, and one that cannot hold is false
 pub same_tests : (a b : Bool) → (a ≡ true → b ≡ true) → (b ≡ true → a ≡ true) → a ≡ b
-same_tests true true on back = refl
 same_tests true false on back = sym (on refl)
 same_tests false true on back = back refl
-same_tests false false on back = refl
+same_tests _ _ on back = refl
 
 pub never_true : (b : Bool) → (b ≡ true → ⊥) → b ≡ false
 never_true true h = absurd (h refl)

@@ -32,11 +32,10 @@ sum_fits row short small = omega (arith, sum_by-le (λ x. x) most_vertices row s
 
 -- a longer prefix has at least the sum of a shorter one
 pub sum-take_le : (i k : ℕ) (xs : List ℕ) → i ≤ k → sum (take i xs) ≤ sum (take k xs)
-sum-take_le zero k xs h = omega arith
 sum-take_le (suc i) zero xs h = absurd (omega arith)
-sum-take_le (suc i) (suc k) [] h = omega arith
 sum-take_le (suc i) (suc k) (x ∷ xs) h =
     omega (arith, sum_by-cons (λ y. y) x (take i xs), sum_by-cons (λ y. y) x (take k xs), sum-take_le i k xs (omega arith))
+sum-take_le _ _ _ h = omega arith
 
 -- the sum of the entries up to place k
 sum-take_up_to : (row : List ℕ) (f : ℕ → ℕ) (k : ℕ) → ((i : ℕ) → i < length row → get_or row i 0 ≡ f i) → k < length row → sum (take (k + 1) row) ≡ up_to f k

@@ -26,9 +26,8 @@ changed-none (x ∷ v) = changed-same x x v v refl ∙ changed-none v
 
 -- no more entries differ than there are
 changed-length : (v w : List ℕ) → changed_entries v w ≤ length v
-changed-length [] w = omega arith
-changed-length (x ∷ v) [] = omega arith
 changed-length (x ∷ v) (y ∷ w) = omega (arith, changed-more x y v w, changed-length v w)
+changed-length _ _ = omega arith
 
 -- what agrees before place p differs at most from p on
 changed-from : (v w : List ℕ) (p : ℕ) → p ≤ length v → ((k : ℕ) → k < p → get_or w k 0 ≡ get_or v k 0) → changed_entries v w + p ≤ length v

@@ -32,10 +32,8 @@ window-add (suc b) f g (suc k) = omega (arith, window-add b f g k)
 
 -- a later sequence has later sums
 pub window-shifted : (b : ℕ) (f : ℕ → ℕ) (k : ℕ) → window b (shifted f) k ≡ shifted (window b f) k
-window-shifted zero f zero = refl
-window-shifted zero f (suc k) = refl
-window-shifted (suc b) f zero = refl
 window-shifted (suc b) f (suc k) = ap (λ n. f k + n) (window-shifted b f k)
+window-shifted _ f _ = refl
 
 -- two windows may be taken in either order
 pub window_comm : (a b : ℕ) (f : ℕ → ℕ) (k : ℕ) → window a (window b f) k ≡ window b (window a f) k
