@@ -1,5 +1,5 @@
 -- Records as they are kept: how many, each by its place, one more.
-use Rattle.std.proofs.Common.{◌≡◌, ◌<◌, ◌+◌, ℕ, suc, zero, List, [], ◌∷◌, ◌++◌, length, get_or, slice_get, Some, refl, ap, sym, subst, ◌∙◌, arith, append_assoc}
+use Rattle.std.proofs.Common.{◌≡◌, ◌<◌, ◌+◌, ℕ, suc, List, [], ◌∷◌, ◌++◌, length, get_or, slice_get, Some, refl, ap, sym, subst, ◌∙◌, arith, append_assoc}
 use Rattle.std.proofs.lemmas.List.{length_push}
 use Rattle.sgb_graph.specs.inner.Columns.{HoldsMany, column_kind, values}
 use Rattle.sgb_graph.specs.inner.KeptRecords.{KeptRecords, kept_number, kept_records, records_with}
@@ -31,11 +31,9 @@ pub slice_get-records_with :
     (ps : List PlainRecord) (xs ys : List Util) (k : ℕ) (p : PlainRecord) (x y : Util) → k < length ps → p ≡ get_or ps k p →
     slice_get xs k ≡ Some x → slice_get ys k ≡ Some y → slice_get (records_with ps xs ys) k ≡ Some (record_with p x y)
 slice_get-records_with [] xs ys k p x y l hp hx hy = absurd (omega arith)
-slice_get-records_with (q ∷ qs) [] ys k p x y l hp hx hy = cc
-slice_get-records_with (q ∷ qs) (u ∷ us) [] k p x y l hp hx hy = cc
-slice_get-records_with (q ∷ qs) (u ∷ us) (v ∷ vs) zero p x y l hp hx hy = cc
 slice_get-records_with (q ∷ qs) (u ∷ us) (v ∷ vs) (suc k) p x y l hp hx hy =
     slice_get-records_with qs us vs k p x y (omega arith) hp hx hy
+slice_get-records_with (q ∷ qs) _ _ _ p x y l hp hx hy = cc
 
 -- one record more
 pub records_with-push :

@@ -411,10 +411,9 @@ ints_row ps p x y z ints kept =
 
 -- columns with one row more
 columns_row : (n : ℕ) (columns : List (List Util)) (row : List Util) → length columns ≡ length row → AreColumns n columns → AreColumns (suc n) (with_row columns row)
-columns_row n [] [] long are = tt
-columns_row n [] (x ∷ row) long are = tt
 columns_row n (column ∷ columns) [] long are = absurd (omega (arith, long))
 columns_row n (column ∷ columns) (x ∷ row) long are = (omega (arith, are.0, length_push column x), columns_row n columns row (omega (arith, long)) are.1)
+columns_row n [] _ long are = tt
 
 -- one vertex more
 pub record AreMore (ps : List PlainVertex) (f : Fields) (qs : List PlainVertex) (g : Fields) (x : Vertex) : Type 0 where

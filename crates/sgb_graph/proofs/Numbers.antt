@@ -12,7 +12,7 @@ use Rattle.sgb_graph.specs.Growth.{IsKept, at_place, number_or_zero, put_numbers
 use Rattle.sgb_graph.specs.declared.fields.Kind.{Kind}
 use Rattle.sgb_graph.specs.declared.fields.Kind.TheVariants.{I}
 use Rattle.sgb_graph.specs.declared.fields.Util.{Util}
-use Rattle.sgb_graph.specs.declared.fields.Util.TheVariants.{Nothing, Int, Vertex as VertexField, Str, Chain}
+use Rattle.sgb_graph.specs.declared.fields.Util.TheVariants.{Int}
 use Rattle.sgb_graph.specs.declared.fields.Vertex.{Vertex}
 use Rattle.sgb_graph.proofs.Lists.{length-at_place, list_all-at_place, list_all-mapped, list_all-weaker, map-at_place, map-at_place_made, map-map}
 use Rattle.sgb_graph.proofs.Fitting.{vertex_fits_in, record_fits_in}
@@ -22,10 +22,7 @@ use Rattle.sgb_graph.proofs.Growing.{HasParts, parts_of, graph_from_parts}
 -- what is put is one
 zero_fits : (n m : ℕ) (u : Util) → util_fits n m I (number_or_zero u) ≡ true
 zero_fits n m (Int i) = refl
-zero_fits n m Nothing = refl
-zero_fits n m (VertexField r) = refl
-zero_fits n m (Str s) = refl
-zero_fits n m (Chain first) = refl
+zero_fits n m _ = refl
 
 -- fields of which one becomes a number
 number_fits : (n m k : ℕ) (kinds : List Kind) (utils : List Util) → utils_fit n m kinds utils ≡ true → utils_fit n m (set kinds k I) (at_place number_or_zero k utils) ≡ true

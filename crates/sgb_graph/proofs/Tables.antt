@@ -27,28 +27,23 @@ combined-push f _ _ x y e = absurd (omega (arith, e))
 
 -- all elements of one of them changed
 pub combined-map_first : {X Y Z : Type 0} (f : X → Y → Z) (g : X → X) (h : Z → Z) (xs : List X) (ys : List Y) → ((x : X) (y : Y) → f (g x) y ≡ h (f x y)) → combined f (map g xs) ys ≡ map h (combined f xs ys)
-combined-map_first f g h [] ys same = refl
-combined-map_first f g h (x ∷ xs) [] same = refl
 combined-map_first f g h (x ∷ xs) (y ∷ ys) same = ap (λ z. z ∷ combined f (map g xs) ys) (same x y) ∙ ap (λ zs. h (f x y) ∷ zs) (combined-map_first f g h xs ys same)
+combined-map_first f g h _ _ same = refl
 
 pub combined-map_second : {X Y Z : Type 0} (f : X → Y → Z) (g : Y → Y) (h : Z → Z) (xs : List X) (ys : List Y) → ((x : X) (y : Y) → f x (g y) ≡ h (f x y)) → combined f xs (map g ys) ≡ map h (combined f xs ys)
-combined-map_second f g h [] ys same = refl
-combined-map_second f g h (x ∷ xs) [] same = refl
 combined-map_second f g h (x ∷ xs) (y ∷ ys) same = ap (λ z. z ∷ combined f xs (map g ys)) (same x y) ∙ ap (λ zs. h (f x y) ∷ zs) (combined-map_second f g h xs ys same)
+combined-map_second f g h _ _ same = refl
 
 -- one element of one of them
 pub combined-at_first : {X Y Z : Type 0} (f : X → Y → Z) (g : X → X) (h : Z → Z) (v : ℕ) (xs : List X) (ys : List Y) → ((x : X) (y : Y) → f (g x) y ≡ h (f x y)) → combined f (at_place g v xs) ys ≡ at_place h v (combined f xs ys)
-combined-at_first f g h v [] ys same = refl
-combined-at_first f g h zero (x ∷ xs) [] same = refl
 combined-at_first f g h zero (x ∷ xs) (y ∷ ys) same = ap (λ z. z ∷ combined f xs ys) (same x y)
-combined-at_first f g h (suc v) (x ∷ xs) [] same = refl
 combined-at_first f g h (suc v) (x ∷ xs) (y ∷ ys) same = ap (λ zs. f x y ∷ zs) (combined-at_first f g h v xs ys same)
+combined-at_first f g h _ _ _ same = refl
 
 pub combined-at_second : {X Y Z : Type 0} (f : X → Y → Z) (g : Y → Y) (h : Z → Z) (v : ℕ) (xs : List X) (ys : List Y) → ((x : X) (y : Y) → f x (g y) ≡ h (f x y)) → combined f xs (at_place g v ys) ≡ at_place h v (combined f xs ys)
-combined-at_second f g h v [] ys same = refl
-combined-at_second f g h v (x ∷ xs) [] same = refl
 combined-at_second f g h zero (x ∷ xs) (y ∷ ys) same = ap (λ z. z ∷ combined f xs ys) (same x y)
 combined-at_second f g h (suc v) (x ∷ xs) (y ∷ ys) same = ap (λ zs. f x y ∷ zs) (combined-at_second f g h v xs ys same)
+combined-at_second f g h v _ _ same = refl
 
 -- the number of rows
 pub length-rows : {X : Type 0} (n : ℕ) (columns : List (List X)) → AreColumns n columns → length (rows n columns) ≡ n

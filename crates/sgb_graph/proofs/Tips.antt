@@ -10,7 +10,7 @@ use Rattle.sgb_graph.specs.Sound.{arc_kinds, ref_fits, chain_fits, utils_fit}
 use Rattle.sgb_graph.specs.Growth.{link}
 use Rattle.sgb_graph.specs.declared.fields.Kind.{Kind}
 use Rattle.sgb_graph.specs.declared.fields.Ref.{Ref}
-use Rattle.sgb_graph.specs.declared.fields.Ref.TheVariants.{Null, One, At}
+use Rattle.sgb_graph.specs.declared.fields.Ref.TheVariants.{At}
 use Rattle.sgb_graph.specs.declared.fields.ArcRec.{ArcRec}
 use Rattle.sgb_graph.specs.declared.fields.Link.{Link}
 use Rattle.sgb_graph.proofs.Lists.{list_all-get}
@@ -19,9 +19,8 @@ use Rattle.sgb_graph.proofs.Chains.{links_within}
 
 -- the vertex of a tip that fits is one
 tip_below : (n : ℕ) (tip : Ref) → 0 < n → ref_fits n tip ≡ true → vertex_of tip < n
-tip_below n Null some e = some
-tip_below n One some e = some
 tip_below n (At v) some e = ltb-true v n e
+tip_below n _ some e = some
 
 -- the arcs on a way lead to vertices below n where all records do
 pub tips_below : (fuel n m : ℕ) (kinds : List Kind) (records : List ArcRec) (first : Option ℕ) → 0 < n → list_all (record_fits_in n m kinds) records ≡ true → All (λ l. l.tip < n) (links_within fuel records first)
