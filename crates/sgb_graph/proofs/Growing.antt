@@ -9,9 +9,10 @@ use Rattle.std.proofs.lemmas.List.Elements.{All-nil, All-cons}
 use Rattle.std.proofs.lemmas.List.Folds.{list_all-append}
 use Rattle.sgb_vec.specs.Limits.{most_vertices}
 use Rattle.sgb_graph.specs.Graphs.{GraphData, ListsEnd, ends_of, links_of, chain_of}
-use Rattle.sgb_graph.specs.Sound.{IsGraph, chains_end, vertex_kinds, graph_kinds, chain_fits, utils_fit, lists_lead_to_vertices, vertex_fits, record_fits}
-use Rattle.sgb_graph.specs.Growth.{graph_data}
+use Rattle.sgb_graph.specs.Sound.{IsGraph, arc_kinds, chains_end, vertex_kinds, graph_kinds, chain_fits, utils_fit, lists_lead_to_vertices, vertex_fits, record_fits}
+use Rattle.sgb_graph.specs.Growth.{IsKept, graph_data}
 use Rattle.sgb_graph.specs.declared.fields.Kind.{Kind}
+use Rattle.sgb_graph.specs.declared.fields.Util.{Util}
 use Rattle.sgb_graph.specs.declared.fields.Vertex.{Vertex}
 use Rattle.sgb_graph.specs.declared.fields.ArcRec.{ArcRec}
 use Rattle.sgb_graph.proofs.TestLemmas.{at_each_below}
@@ -116,6 +117,26 @@ grown_is_graph g count vertices more has same good new = record {
     end_at : (k : ℕ) → k < longer_m → (k < m) ⊎ (m ≤ k) → ends_of all (Some k) ≡ true
     end_at k below (inl old) = ends_kept longer_m g.records more (Some k) longer (at_each_below (λ k. ends_of g.records (Some k)) m has.ends k old)
     end_at k below (inr late) = new.ends k late below
+
+-- so is a graph with fields of other kinds, that fit them
+pub refilled : (g : GraphData) (kinds : List Kind) (own : List Util) (vertices : List Vertex) → IsKept g → length vertices ≡ length g.vertices → arc_kinds kinds ≡ arc_kinds g.kinds
+    → utils_fit (length g.vertices) (length g.records) (graph_kinds kinds) own ≡ true → list_all (vertex_fits_in (length g.vertices) (length g.records) kinds) vertices ≡ true → lists_lead_to_vertices vertices g.records ≡ true
+    → IsKept (record g { kinds = kinds; util = own; vertices = vertices })
+refilled g kinds own vertices kept same arcs fits all leads =
+    let has = parts_of g kept.graph in
+    let n = length g.vertices in
+    let m = length g.records in
+    record {
+      graph = graph_from_parts (record g { kinds = kinds; util = own; vertices = vertices }) (record {
+        few = rw same has.few;
+        util = rw same fits;
+        vertices = rw same all;
+        records = rw same (list_all-weaker (record_fits_in n m g.kinds) (record_fits_in n m kinds) g.records (λ r h. rw arcs h) has.records);
+        ends = has.ends;
+        leads = leads;
+      });
+      count = kept.count;
+    }
 
 -- the chain of a vertex that stays
 pub chain_kept : (g : GraphData) (count : ℕ) (vertices : List Vertex) (more : List ArcRec) (w : ℕ) → HasParts g → slice_get vertices w ≡ slice_get g.vertices w → chain_of (grown g count vertices more) w ≡ chain_of g w

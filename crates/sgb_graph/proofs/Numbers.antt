@@ -14,10 +14,10 @@ use Rattle.sgb_graph.specs.declared.fields.Kind.TheVariants.{I}
 use Rattle.sgb_graph.specs.declared.fields.Util.{Util}
 use Rattle.sgb_graph.specs.declared.fields.Util.TheVariants.{Int}
 use Rattle.sgb_graph.specs.declared.fields.Vertex.{Vertex}
-use Rattle.sgb_graph.proofs.Lists.{length-at_place, list_all-at_place, list_all-mapped, list_all-weaker, map-at_place, map-at_place_made, map-map}
-use Rattle.sgb_graph.proofs.Fitting.{vertex_fits_in, record_fits_in}
+use Rattle.sgb_graph.proofs.Lists.{length-at_place, list_all-at_place, list_all-mapped, map-at_place, map-at_place_made, map-map}
+use Rattle.sgb_graph.proofs.Fitting.{vertex_fits_in}
 use Rattle.sgb_graph.proofs.Chains.{lead_within}
-use Rattle.sgb_graph.proofs.Growing.{HasParts, parts_of, graph_from_parts}
+use Rattle.sgb_graph.proofs.Growing.{parts_of, refilled}
 
 -- what is put is one
 zero_fits : (n m : ℕ) (u : Util) → util_fits n m I (number_or_zero u) ≡ true
@@ -103,40 +103,18 @@ numbers_fit n m kinds x y z v hold fits =
 
 -- the graph with these numbers is one
 pub ints_kept : (g : GraphData) (v : ℕ) (x y z : ℤ) → IsKept g → IsKept (with_ints g v x y z)
-ints_kept g v x y z kept = record { graph = graph_from_parts (with_ints g v x y z) parts; count = kept.count }
-  where
-    has : HasParts g
-    has = parts_of g kept.graph
-
-    n : ℕ
-    n = length g.vertices
-
-    m : ℕ
-    m = length g.records
-
-    kinds : List Kind
-    kinds = with_number_kinds g.kinds
-
-    some : List Vertex
-    some = map with_some_numbers g.vertices
-
-    all : List Vertex
-    all = at_place (with_numbers x y z) v some
-
-    same : length all ≡ n
-    same = length-at_place (with_numbers x y z) v some ∙ length-map g.vertices with_some_numbers
-
-    parts : HasParts (with_ints g v x y z)
-    parts = record {
-      few = rw same has.few;
-      util = rw (same, (split_kinds g.kinds).own) has.util;
-      vertices = rw same (list_all-at_place (vertex_fits_in n m kinds) (with_numbers x y z) v some (λ w fits. numbers_fit n m kinds x y z w (hold_then g.kinds) fits)
-          (list_all-mapped (vertex_fits_in n m g.kinds) (vertex_fits_in n m kinds) with_some_numbers g.vertices (λ w fits. some_fit n m g.kinds w fits) has.vertices));
-      records = rw same (list_all-weaker (record_fits_in n m g.kinds) (record_fits_in n m kinds) g.records (λ r h. rw (split_kinds g.kinds).arcs h) has.records);
-      ends = has.ends;
-      leads = list_all-at_place (λ (w : Vertex). lead_within m g.records w.arcs) (with_numbers x y z) v some (λ w h. h)
-          (list_all-mapped (λ (w : Vertex). lead_within m g.records w.arcs) (λ (w : Vertex). lead_within m g.records w.arcs) with_some_numbers g.vertices (λ w h. h) has.leads);
-    }
+ints_kept g v x y z kept =
+    let has = parts_of g kept.graph in
+    let n = length g.vertices in
+    let m = length g.records in
+    let kinds = with_number_kinds g.kinds in
+    let some = map with_some_numbers g.vertices in
+    let own : utils_fit n m (graph_kinds kinds) g.util ≡ true = rw (split_kinds g.kinds).own has.util in
+    refilled g kinds g.util (at_place (with_numbers x y z) v some) kept (length-at_place (with_numbers x y z) v some ∙ length-map g.vertices with_some_numbers) (split_kinds g.kinds).arcs own
+    (list_all-at_place (vertex_fits_in n m kinds) (with_numbers x y z) v some (λ w fits. numbers_fit n m kinds x y z w (hold_then g.kinds) fits)
+    (list_all-mapped (vertex_fits_in n m g.kinds) (vertex_fits_in n m kinds) with_some_numbers g.vertices (λ w fits. some_fit n m g.kinds w fits) has.vertices))
+    (list_all-at_place (λ (w : Vertex). lead_within m g.records w.arcs) (with_numbers x y z) v some (λ w h. h)
+    (list_all-mapped (λ (w : Vertex). lead_within m g.records w.arcs) (λ (w : Vertex). lead_within m g.records w.arcs) with_some_numbers g.vertices (λ w h. h) has.leads))
 
 -- its names
 pub ints_names : (g : GraphData) (v : ℕ) (x y z : ℤ) → map (λ w. w.name) (with_ints g v x y z).vertices ≡ map (λ w. w.name) g.vertices
