@@ -129,8 +129,7 @@ keeps_all g count first u records = record {
 -- the first of the new records stands after the old ones
 pub first_is : (records more : List ArcRec) (r : ArcRec) → slice_get (records ++ r ∷ more) (length records) ≡ Some r
 first_is records more r =
-    let place : length records ≡ length records + 0 = omega arith in
-    ap (slice_get (records ++ r ∷ more)) place ∙ slice_get-after records (r ∷ more) 0
+    ap (slice_get (records ++ r ∷ more)) (omega arith) ∙ slice_get-after records (r ∷ more) 0
 
 -- it is a graph with one arc more
 pub arc_added : (g : GraphData) (u v : ℕ) (far : ℤ) → IsKept g → HasPlainArcs g → u < length g.vertices → v < length g.vertices → AddsArc g (with_arc g u v far) u v far × IsKept (with_arc g u v far)

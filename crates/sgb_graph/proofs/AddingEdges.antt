@@ -106,9 +106,8 @@ pair_joins g u v far tail u_in v_in of_loop of_two pair =
         records = refl;
         loop = λ same.
             let least : min u v ≡ u = omega arith in
-            let most : max u v ≡ u = omega arith in
             ap (chain_of new) (sym least) ∙ pair.lower ∙ ap (λ ls. link m (max u v) far ∷ ls) (of_loop same)
-            ∙ ap (λ w. link m w far ∷ link (m + 1) (min u v) far ∷ chain_of g w) most ∙ ap (λ w. link m u far ∷ link (m + 1) w far ∷ chain_of g u) least;
+            ∙ ap (λ (w : ℕ). link m w far ∷ link (m + 1) (min u v) far ∷ chain_of g w) (omega arith) ∙ ap (λ w. link m u far ∷ link (m + 1) w far ∷ chain_of g u) least;
         smaller = λ other. pair.lower ∙ ap (λ ls. link m (max u v) far ∷ ls) (of_two other);
         greater = λ other. pair.higher (λ e. other (omega arith));
         others = λ w not_u not_v. pair.others w (λ e. omega arith) (λ e. omega arith);

@@ -75,8 +75,7 @@ cycling_more old now n inside is = record {
 
     early_here : n < 24 → x ≡ difference (get_or old n 0) (get_or old (n + 31) 0)
     early_here small =
-        let place : (n + 31) % 55 ≡ n + 31 = omega arith in
-        let other : get_or now ((n + 31) % 55) 0 ≡ get_or old (n + 31) 0 = ap (λ p. get_or now p 0) place ∙ is.rest (n + 31) (omega arith) in
+        let other : get_or now ((n + 31) % 55) 0 ≡ get_or old (n + 31) 0 = ap (λ (p : ℕ). get_or now p 0) (omega arith) ∙ is.rest (n + 31) (omega arith) in
         cc (own, other)
 
     early_at : (i : ℕ) → i < n + 1 → i < 24 → (i < n) ⊎ (n ≤ i) → get_or after i 0 ≡ difference (get_or old i 0) (get_or old (i + 31) 0)
@@ -88,8 +87,7 @@ cycling_more old now n inside is = record {
 
     late_here : 24 ≤ n → x ≡ difference (get_or old n 0) (get_or after (n - 24) 0)
     late_here great =
-        let place : (n + 31) % 55 ≡ n - 24 = omega arith in
-        let other : get_or now ((n + 31) % 55) 0 ≡ get_or after (n - 24) 0 = ap (λ p. get_or now p 0) place ∙ sym (elsewhere (n - 24) (omega arith)) in
+        let other : get_or now ((n + 31) % 55) 0 ≡ get_or after (n - 24) 0 = ap (λ (p : ℕ). get_or now p 0) (omega arith) ∙ sym (elsewhere (n - 24) (omega arith)) in
         cc (own, other)
 
     late_at : (i : ℕ) → i < n + 1 → 24 ≤ i → (i < n) ⊎ (n ≤ i) → get_or after i 0 ≡ difference (get_or old i 0) (get_or after (i - 24) 0)
@@ -139,9 +137,7 @@ next_part y n old new rule is next = record { at = λ i inside. anywhere i insid
 
     rule_at : (i : ℕ) → y (n + 55 + i) ≡ difference (y (n + i)) (y (n + (i + 31)))
     rule_at i =
-        let here : n + 55 + i ≡ n + i + 55 = omega arith in
-        let other : n + i + 31 ≡ n + (i + 31) = omega arith in
-        ap y here ∙ (rule (n + i) ∙ ap (λ p. difference (y (n + i)) (y p)) other)
+        ap y (omega arith) ∙ (rule (n + i) ∙ ap (λ (p : ℕ). difference (y (n + i)) (y p)) (omega arith))
 
     first_24 : (i : ℕ) → i < 24 → After i
     first_24 i small =
@@ -151,10 +147,9 @@ next_part y n old new rule is next = record { at = λ i inside. anywhere i insid
 
     later : (i : ℕ) → 24 ≤ i → i < 55 → After (i - 24) → After i
     later i great inside before =
-        let place : n + 55 + (i - 24) ≡ n + (i + 31) = omega arith in
         next.late i great inside
         ∙ (ap (λ a. difference a (get_or new (i - 24) 0)) (is.at i inside)
-        ∙ (ap (λ b. difference (y (n + i)) b) (before ∙ ap y place) ∙ sym (rule_at i)))
+        ∙ (ap (λ b. difference (y (n + i)) b) (before ∙ ap y (omega arith)) ∙ sym (rule_at i)))
 
     next_24 : (i : ℕ) → 24 ≤ i → i < 48 → After i
     next_24 i great small = later i great (omega arith) (first_24 (i - 24) (omega arith))

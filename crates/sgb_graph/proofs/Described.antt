@@ -60,8 +60,7 @@ vertices_are : (lists : ℕ → List Link) (k : ℕ) (vertices : List Vertex) �
     → vertices ≡ map (λ p. vertex_with p.1.0 p.1.1 (lists p.0)) (enumerate_from k (zip (map (λ v. v.name) vertices) (map (λ v. v.util) vertices)))
 vertices_are lists k [] firsts = refl
 vertices_are lists k (x ∷ vertices) firsts =
-    let place : k + 0 ≡ k = omega arith in
-    let own : x.arcs ≡ first_number (lists k) = firsts 0 x refl ∙ ap (λ j. first_number (lists j)) place in
+    let own : x.arcs ≡ first_number (lists k) = firsts 0 x refl ∙ ap (λ (j : ℕ). first_number (lists j)) (omega arith) in
     ap (λ first. record x { arcs = first } ∷ vertices) own
     ∙ ap (λ xs. vertex_with x.name x.util (lists k) ∷ xs)
     (vertices_are lists (k + 1) vertices (λ i y is. let after : k + suc i ≡ k + 1 + i = omega arith in firsts (suc i) y is ∙ ap (λ j. first_number (lists j)) after))
@@ -81,8 +80,7 @@ records_are : (lists : ℕ → List Link) (k : ℕ) (records : List ArcRec) (wan
     → records ≡ map (λ p. record_in (lists p.1.start) p.0 p.1) (enumerate_from k wanted)
 records_are lists k [] [] tips lengths none nexts = refl
 records_are lists k (r ∷ records) (a ∷ wanted) tips lengths none nexts =
-    let place : k + 0 ≡ k = omega arith in
-    let next : r.next ≡ number_after k (lists a.start) = nexts 0 r a refl refl ∙ ap (λ j. number_after j (lists a.start)) place in
+    let next : r.next ≡ number_after k (lists a.start) = nexts 0 r a refl refl ∙ ap (λ (j : ℕ). number_after j (lists a.start)) (omega arith) in
     let own = record_is (lists a.start) k a r (same_first tips) (same_first lengths) (All-head HasNoFields r records none) next in
     ap (λ x. x ∷ records) own
     ∙ ap (λ xs. record_in (lists a.start) k a ∷ xs)
@@ -141,8 +139,7 @@ described_only d g h =
 
     first_at : (i : ℕ) (x : Vertex) → slice_get g.vertices i ≡ Some x → x.arcs ≡ first_number (lists (0 + i))
     first_at i x is =
-        let place : i ≡ 0 + i = omega arith in
-        sym (first_is g.records x.arcs (chain_ends i x is)) ∙ ap first_number (chain_is i x is) ∙ ap (λ j. first_number (lists j)) place
+        sym (first_is g.records x.arcs (chain_ends i x is)) ∙ ap first_number (chain_is i x is) ∙ ap (λ (j : ℕ). first_number (lists j)) (omega arith)
 
     vertices : g.vertices ≡ vertices_of d
     vertices = vertices_are lists 0 g.vertices first_at
@@ -151,11 +148,10 @@ described_only d g h =
 
     next_at : (i : ℕ) (r : ArcRec) (a : Record) → slice_get g.records i ≡ Some r → slice_get wanted i ≡ Some a → r.next ≡ number_after (0 + i) (lists a.start)
     next_at i r a is at =
-        let place : i ≡ 0 + i = omega arith in
         let below : a.start < length g.vertices = at_get (λ (b : Record). b.start < length g.vertices) wanted i a (all_records_within (length g.vertices) d.directed d.events h.arcs.within) at in
         let x = element_at g.vertices a.start below in
         sym (after_is (lists a.start) g.records x.element.arcs (link i a.tip a.len) r (chain_ends a.start x.element x.is) (chain_is a.start x.element x.is) (each_on_list d.directed d.events i a at) is)
-        ∙ ap (λ j. number_after j (lists a.start)) place
+        ∙ ap (λ (j : ℕ). number_after j (lists a.start)) (omega arith)
 
     records : g.records ≡ records_of_events d.directed d.events
     records = records_are lists 0 g.records wanted h.arcs.tips h.arcs.lengths h.arc_fields next_at
@@ -183,8 +179,7 @@ firsts_are lists k (name ∷ names) (field ∷ fields) zero x is =
     let same : vertex_with name field (lists k) ≡ x = cc in
     ap (λ (y : Vertex). y.arcs) (sym same) ∙ ap (λ j. first_number (lists j)) place
 firsts_are lists k (name ∷ names) (field ∷ fields) (suc i) x is =
-    let place : k + 1 + i ≡ k + suc i = omega arith in
-    firsts_are lists (k + 1) names fields i x is ∙ ap (λ j. first_number (lists j)) place
+    firsts_are lists (k + 1) names fields i x is ∙ ap (λ (j : ℕ). first_number (lists j)) (omega arith)
 firsts_are lists k _ _ i x is = absurd cc
 
 -- the records that are wanted: their tips, their lengths, their fields, and each at its place
@@ -208,8 +203,7 @@ record_at lists k (b ∷ wanted) zero a is =
     let same : b ≡ a = cc in
     ap (λ c. Some (record_in (lists c.start) k c)) same ∙ ap (λ j. Some (record_in (lists a.start) j a)) place
 record_at lists k (b ∷ wanted) (suc i) a is =
-    let place : k + 1 + i ≡ k + suc i = omega arith in
-    record_at lists (k + 1) wanted i a is ∙ ap (λ j. Some (record_in (lists a.start) j a)) place
+    record_at lists (k + 1) wanted i a is ∙ ap (λ (j : ℕ). Some (record_in (lists a.start) j a)) (omega arith)
 
 -- the record of an arc that stands in a list
 record StandsIn (records : List ArcRec) (links : List Link) (l : Link) : Type 0 where

@@ -34,10 +34,9 @@ records_push directed events e =
 list_push : (directed : Bool) (k : ℕ) (events : List Event) (e : Event) (v : ℕ) → list_from directed k (events ++ e ∷ []) v ≡ links_at v (k + length (all_records directed events)) (records_of directed e) ++ list_from directed k events v
 list_push directed k [] e v =
     let new = links_at v k (records_of directed e) in
-    let none : k + 0 ≡ k = omega arith in
     list_first directed k e [] v
     ∙ (ap (λ ls. ls ++ new) (list_none directed (k + length (records_of directed e)) v)
-    ∙ sym (ap (λ ls. links_at v (k + 0) (records_of directed e) ++ ls) (list_none directed k v) ∙ (append-nil (links_at v (k + 0) (records_of directed e)) ∙ ap (λ j. links_at v j (records_of directed e)) none)))
+    ∙ sym (ap (λ ls. links_at v (k + 0) (records_of directed e) ++ ls) (list_none directed k v) ∙ (append-nil (links_at v (k + 0) (records_of directed e)) ∙ ap (λ (j : ℕ). links_at v j (records_of directed e)) (omega arith))))
 list_push directed k (x ∷ events) e v =
     let own = records_of directed x in
     let from = k + length own in

@@ -31,9 +31,7 @@ y_by_two seed k = refl
 -- the same, counted from k
 pub y_later : (seed k : ℕ) → y_number seed (k + 2) ≡ difference (difference (y_number seed k) (y_number seed (k + 1))) (rotated seed (k + 1))
 y_later seed k =
-    let two : k + 2 ≡ suc (suc k) = omega arith in
-    let one : suc k ≡ k + 1 = omega arith in
-    ap (y_number seed) two ∙ (y_by_two seed k ∙ ap (λ j. difference (difference (y_number seed k) (y_number seed j)) (rotated seed (k + 1))) one)
+    ap (y_number seed) (omega arith) ∙ (y_by_two seed k ∙ ap (λ (j : ℕ). difference (difference (y_number seed k) (y_number seed j)) (rotated seed (k + 1))) (omega arith))
 
 -- a number rotated by one place is below 2^31
 pub rotated_once_below : (n : ℕ) → n < modulus → rotated_once n < modulus
@@ -42,8 +40,7 @@ rotated_once_below n small = omega arith
 -- one place more, where p q is 2^30
 turned_once : (s p q : ℕ) → 0 < p → p * q ≡ 2 ^ 30 → s / (2 * p) + s % (2 * p) * q ≡ rotated_once (s / p + s % p * (2 * q))
 turned_once s p q some whole =
-    let turned : 2 * p ≡ p * 2 = omega arith in
-    let high : s / (2 * p) ≡ s / p / 2 = ap (λ d. s / d) turned ∙ sym (div-div-eq-div-mul s p 2) in
+    let high : s / (2 * p) ≡ s / p / 2 = ap (λ (d : ℕ). s / d) (omega arith) ∙ sym (div-div-eq-div-mul s p 2) in
     let two : 0 < 2 = omega arith in
     let low : s % (2 * p) ≡ s / p % 2 * p + s % p = mod-mul s two some in
     rw (high, low) (omega (arith, ap (λ d. s / p % 2 * d) whole))
@@ -143,11 +140,10 @@ filling_more seed numbers number next turned k small inside is = record {
 
     next_more : difference (difference number next) (rotated_once turned) ≡ y_number seed (k + 1 + 1)
     next_more =
-        let two : k + 2 ≡ k + 1 + 1 = omega arith in
         ap (λ a. difference (difference a next) (rotated_once turned)) is.number_is
         ∙ (ap (λ b. difference (difference (y_number seed k) b) (rotated_once turned)) is.next_is
         ∙ (ap (λ w. difference (difference (y_number seed k) (y_number seed (k + 1))) w) turned_more
-        ∙ (sym (y_later seed k) ∙ ap (y_number seed) two)))
+        ∙ (sym (y_later seed k) ∙ ap (y_number seed) (omega arith))))
 
     here : get_or (set numbers (place_of k) number) (place_of k) 0 ≡ number
     here = get_or-set_same numbers (place_of k) number 0 (omega (arith, is.cycle.many))

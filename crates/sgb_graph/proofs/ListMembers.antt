@@ -91,9 +91,8 @@ each_from directed k (e ∷ events) j r is = by_place (each_from directed (k + l
         (Contains-append_right (list_from directed (k + length own) events r.start) (links_at r.start k own) (link (k + j) r.tip r.len)
         (each_link k j own r (sym (slice_get-prefix own later j low) ∙ is)))
     by_place in_later (inr high) =
-        let place : length own + (j - length own) ≡ j = omega arith in
         let number : k + length own + (j - length own) ≡ k + j = omega arith in
-        let there = in_later (sym (slice_get-after own later (j - length own)) ∙ (ap (slice_get (own ++ later)) place ∙ is)) in
+        let there = in_later (sym (slice_get-after own later (j - length own)) ∙ (ap (slice_get (own ++ later)) (omega arith) ∙ is)) in
         rw (list_first directed k e events r.start)
         (Contains-append_left (list_from directed (k + length own) events r.start) (links_at r.start k own) (link (k + j) r.tip r.len) (rw number at there))
 

@@ -50,10 +50,8 @@ sequence_from seed base after = record {
   where
     rule_at : (n : ℕ) → base ≤ n → x_number seed (n + 55) ≡ difference (x_number seed n) (x_number seed (n + 31))
     rule_at n low =
-        let one : n + 55 - 55 ≡ n = omega arith in
-        let other : n + 55 - 24 ≡ n + 31 = omega arith in
         later_number seed (n + 55) (omega arith)
-        ∙ (ap (λ a. difference (x_number seed a) (x_number seed (n + 55 - 24))) one ∙ ap (λ b. difference (x_number seed n) (x_number seed b)) other)
+        ∙ (ap (λ (a : ℕ). difference (x_number seed a) (x_number seed (n + 55 - 24))) (omega arith) ∙ ap (λ (b : ℕ). difference (x_number seed n) (x_number seed b)) (omega arith))
 
 -- each number from X(331) on is a draw
 abbrev draw_of : ℕ → ℕ
@@ -61,8 +59,7 @@ draw_of n = 55 * ((n - 1) / 55 - 5) + 53 - (n - 1) % 55
 
 is_draw_of : (seed n : ℕ) → 331 ≤ n → draw seed (draw_of n) ≡ x_number seed n
 is_draw_of seed n high =
-    let place : 55 * (5 + (draw_of n + 1) / 55) + 55 - (draw_of n + 1) % 55 ≡ n = omega arith in
-    ap (λ (i : ℕ). x_number seed i) place
+    ap (λ (i : ℕ). x_number seed i) (omega arith)
 
 -- so of 1760 draws in a row one is below the bound
 one_draw_below : (seed bound k : ℕ) → 2 ^ 30 < bound → ¬ ((t : ℕ) → k ≤ t → t < k + 1760 → bound ≤ draw seed t)

@@ -53,9 +53,8 @@ rows-at vectors n a (suc count) zero y j u h s e =
     let row = map (λ v. a ∷ v) vectors in
     let rest = flat_map (λ x. map (λ v. x ∷ v) vectors) (range_with_len (a + 1) count) in
     let first : y ≡ a = omega arith in
-    let place : 0 + j ≡ j = omega arith in
     let here : slice_get (filter adds row) j ≡ Some u = ap (λ x. slice_get (filter adds (map (λ v. x ∷ v) vectors)) j) (sym first) ∙ e in
-    ap (slice_get (filter adds (row ++ rest))) place
+    ap (slice_get (filter adds (row ++ rest))) (omega arith)
     ∙ ap (λ vs. slice_get vs j) (filter-append adds row rest)
     ∙ slice_get-left (filter adds row) (filter adds rest) j u here
 rows-at vectors n a (suc count) (suc i) y j u h s e =
@@ -117,9 +116,8 @@ leads-none n bounds = record { each = λ j w e. let same : 0 + j ≡ j = omega a
 leads-more : (n : ℕ) (bounds front : List ℕ) (left b x : ℕ) (after : List ℕ) (before : ℕ) → x ≤ b → x ≤ left → LeadsTo n bounds front left (b ∷ after) before → LeadsTo n bounds (front ++ x ∷ []) (left - x) after (before + count_below left x after)
 leads-more n bounds front left b x after before low within so = record {
   each = λ j w e.
-      let place : before + count_below left x after + j ≡ before + (count_below left x after + j) = omega arith in
       let grouped : front ++ (x ∷ w) ≡ (front ++ x ∷ []) ++ w = sym (append_assoc front (x ∷ []) w) in
-      ap (slice_get (bounded_sums n bounds)) place
+      ap (slice_get (bounded_sums n bounds)) (omega arith)
       ∙ so.each (count_below left x after + j) (x ∷ w) (place-front left b x after w j low within e)
       ∙ ap Some grouped;
 }
@@ -128,8 +126,7 @@ leads-more n bounds front left b x after before low within so = record {
 leads-all : (n : ℕ) (bounds front : List ℕ) (before : ℕ) → LeadsTo n bounds front 0 [] before → slice_get (bounded_sums n bounds) before ≡ Some front
 unfolding box bounded_sums
 leads-all n bounds front before so =
-    let place : before ≡ before + 0 = omega arith in
-    ap (slice_get (bounded_sums n bounds)) place ∙ so.each 0 [] refl ∙ ap Some (append-nil front)
+    ap (slice_get (bounded_sums n bounds)) (omega arith) ∙ so.each 0 [] refl ∙ ap Some (append-nil front)
 
 -- the first k entries are those of the vector at `place`, which is the one at `rest` of what is left
 pub record IsPutUpTo (n : ℕ) (bounds : List ℕ) (place : ℕ) (entries : List ℕ) (k left rest : ℕ) : Type 0 where
