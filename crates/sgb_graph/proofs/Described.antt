@@ -242,51 +242,38 @@ way_is (suc fuel) records (l ∷ links) short apart stand =
 
 -- the graph that a description makes is described
 pub described_is : (d : Description) → All (HasEndsBelow (length d.names)) d.events → length d.fields ≡ length d.names → IsGraphOf d (graph_described d)
-described_is d within same = record {
-  id = refl;
-  kinds = refl;
-  util = refl;
-  names = described_names d same;
-  fields = fields_are lists 0 d.names d.fields same;
-  arcs = record {
-    count = refl;
-    tips = record_tips lists 0 wanted;
-    lengths = record_lengths lists 0 wanted;
-    lists = λ v below. let x = element_at (vertices_of d) v below in chain_at (graph_described d) v x.element x.is ∙ ap (links_of records) (first_at v x.element x.is) ∙ (way v).arcs;
-    within = subst (λ n. All (HasEndsBelow n) d.events) (sym size) within;
-    ends = λ v x below. let y = element_at (vertices_of d) v below in
-        subst (λ z. ends_of records z.arcs ≡ true) (sym (get_or_from_slice_get (vertices_of d) v y.element x y.is))
-        (ap (ends_of records) (first_at v y.element y.is) ∙ (way v).ends);
-  };
-  arc_fields = record_fields lists 0 wanted;
-}
-  where
-    wanted : List Record
-    wanted = all_records d.directed d.events
-
-    records : List ArcRec
-    records = records_of_events d.directed d.events
-
-    lists : ℕ → List Link
-    lists v = list_of d.directed d.events v
-
-    size : length (vertices_of d) ≡ length d.names
-    size = sym (length-map (vertices_of d) (λ v. v.name)) ∙ ap length (described_names d same)
-
-    first_at : (v : ℕ) (x : Vertex) → slice_get (vertices_of d) v ≡ Some x → x.arcs ≡ first_number (lists v)
-    first_at v x is = let place : 0 + v ≡ v = omega arith in firsts_are lists 0 d.names d.fields v x is ∙ ap (λ j. first_number (lists j)) place
-
-    stands : (v : ℕ) (l : Link) → Contains (lists v) l → StandsIn records (lists v) l
-    stands v l has = record {
+described_is d within same =
+    let wanted = all_records d.directed d.events in
+    let records = records_of_events d.directed d.events in
+    let lists : ℕ → List Link = λ v. list_of d.directed d.events v in
+    let size : length (vertices_of d) ≡ length d.names = sym (length-map (vertices_of d) (λ v. v.name)) ∙ ap length (described_names d same) in
+    let first_at : (v : ℕ) (x : Vertex) → slice_get (vertices_of d) v ≡ Some x → x.arcs ≡ first_number (lists v) = λ v x is.
+    firsts_are lists 0 d.names d.fields v x is ∙ ap (λ (j : ℕ). first_number (lists j)) (omega arith) in
+    let stands : (v : ℕ) (l : Link) → Contains (lists v) l → StandsIn records (lists v) l = λ v l has. record {
       here = record_in (lists v) (0 + l.number) (record_from v l.tip l.len);
       is = record_at lists 0 wanted l.number (record_from v l.tip l.len) (only_on_list d.directed d.events v l has);
       tip = refl;
       len = refl;
-      next = let place : 0 + l.number ≡ l.number = omega arith in ap (λ j. number_after j (lists v)) place;
+      next = ap (λ (j : ℕ). number_after j (lists v)) (omega arith);
+    } in
+    let many : length records ≡ length wanted = length-map (enumerate_from 0 wanted) (λ p. record_in (lists p.1.start) p.0 p.1) ∙ length-enumerate_from 0 wanted in
+    let way : (v : ℕ) → IsWay (length records) records (lists v) = λ v.
+    way_is (length records) records (lists v) (omega (arith, many, short_list d.directed d.events v)) (apart_on_list d.directed d.events v) (stands v) in
+    record {
+      id = refl;
+      kinds = refl;
+      util = refl;
+      names = described_names d same;
+      fields = fields_are lists 0 d.names d.fields same;
+      arcs = record {
+        count = refl;
+        tips = record_tips lists 0 wanted;
+        lengths = record_lengths lists 0 wanted;
+        lists = λ v below. let x = element_at (vertices_of d) v below in chain_at (graph_described d) v x.element x.is ∙ ap (links_of records) (first_at v x.element x.is) ∙ (way v).arcs;
+        within = subst (λ n. All (HasEndsBelow n) d.events) (sym size) within;
+        ends = λ v x below. let y = element_at (vertices_of d) v below in
+            subst (λ z. ends_of records z.arcs ≡ true) (sym (get_or_from_slice_get (vertices_of d) v y.element x y.is))
+            (ap (ends_of records) (first_at v y.element y.is) ∙ (way v).ends);
+      };
+      arc_fields = record_fields lists 0 wanted;
     }
-
-    many : length records ≡ length wanted
-    many = length-map (enumerate_from 0 wanted) (λ p. record_in (lists p.1.start) p.0 p.1) ∙ length-enumerate_from 0 wanted
-
-    way : (v : ℕ) → IsWay (length records) records (lists v)
-    way v = way_is (length records) records (lists v) (omega (arith, many, short_list d.directed d.events v)) (apart_on_list d.directed d.events v) (stands v)
