@@ -1,5 +1,5 @@
 -- Parts that were checked: what fits, and the graph that they make up.
-use Rattle.std.proofs.Common.{◌≡◌, ◌⊎◌, ◌&&◌, ℕ, Bool, true, false, List, [], ◌∷◌, length, slice_index_or, refl, ap, sym, ◌∙◌, inl, inr, arith}
+use Rattle.std.proofs.Common.{◌≡◌, ◌&&◌, ℕ, Bool, true, List, [], ◌∷◌, length, slice_index_or, refl, ap, sym, ◌∙◌, inl, inr, arith}
 use Rattle.std.specs.Prelude.{nat_le, Ok, Err, if◌then◌else◌}
 use Rattle.std.specs.List.{list_all, zip}
 use Rattle.std.proofs.Math.Bool.{and-true}
@@ -60,8 +60,8 @@ graph_is_checked g is = ap (λ passes. if passes then Ok g else Err Syntax) (pas
 
 -- and others are refused
 pub other_is_refused : (g : GraphData) → (IsGraph g → ⊥) → checked g ≡ Err Syntax
-other_is_refused g other = by_test (cases_Bool (is_graph g))
-  where
-    by_test : (is_graph g ≡ true) ⊎ (is_graph g ≡ false) → checked g ≡ Err Syntax
-    by_test (inl passes) = absurd (other (is_graph_from g passes))
-    by_test (inr fails) = ap (λ passes. if passes then Ok g else Err Syntax) fails
+other_is_refused g other =
+    elim (cases_Bool (is_graph g)) [
+      | inl passes ↦ absurd (other (is_graph_from g passes))
+      | inr fails ↦ ap (λ passes. if passes then Ok g else Err Syntax) fails
+    ]

@@ -12,7 +12,7 @@ use Rattle.sgb_graph.specs.Graphs.{GraphData, HasNoFields, ends_from, ends_of, l
 use Rattle.sgb_graph.specs.Events.{Event, HasEndsBelow, Record, all_records, list_of, records_of}
 use Rattle.sgb_graph.specs.Descriptions.{Description, IsGraphOf}
 use Rattle.sgb_graph.specs.Made.{first_number, graph_described, number_after, record_in, records_of_events, vertex_with, vertices_of}
-use Rattle.sgb_graph.specs.Growth.{graph_data, link, record_from}
+use Rattle.sgb_graph.specs.Growth.{link, record_from}
 use Rattle.sgb_graph.specs.declared.fields.Ref.TheVariants.{At}
 use Rattle.sgb_graph.specs.declared.fields.Util.{Util}
 use Rattle.sgb_graph.specs.declared.fields.Util.TheVariants.{Nothing}
@@ -115,46 +115,22 @@ at_get P xs i x all is = subst P (get_or_from_slice_get xs i x x is) (all i x (s
 -- a graph that is described is the one that the description makes
 pub described_only : (d : Description) (g : GraphData) → IsGraphOf d g → g ≡ graph_described d
 described_only d g h =
-    ap (λ x. graph_data x g.m g.kinds g.util g.vertices g.records) h.id
-    ∙ ap (λ x. graph_data d.id x g.kinds g.util g.vertices g.records) h.arcs.count
-    ∙ ap (λ x. graph_data d.id count x g.util g.vertices g.records) h.kinds
-    ∙ ap (λ x. graph_data d.id count d.kinds x g.vertices g.records) h.util
-    ∙ ap (λ x. graph_data d.id count d.kinds d.util x g.records) vertices
-    ∙ ap (λ x. graph_data d.id count d.kinds d.util (vertices_of d) x) records
-  where
-    wanted : List Record
-    wanted = all_records d.directed d.events
-
-    count : ℕ
-    count = length wanted
-
-    lists : ℕ → List Link
-    lists v = list_of d.directed d.events v
-
-    chain_is : (v : ℕ) (x : Vertex) → slice_get g.vertices v ≡ Some x → links_of g.records x.arcs ≡ lists v
-    chain_is v x is = sym (chain_at g v x is) ∙ h.arcs.lists v (slice_get_within g.vertices v x is)
-
-    chain_ends : (v : ℕ) (x : Vertex) → slice_get g.vertices v ≡ Some x → ends_of g.records x.arcs ≡ true
-    chain_ends v x is = at_get (λ (y : Vertex). ends_of g.records y.arcs ≡ true) g.vertices v x h.arcs.ends is
-
-    first_at : (i : ℕ) (x : Vertex) → slice_get g.vertices i ≡ Some x → x.arcs ≡ first_number (lists (0 + i))
-    first_at i x is =
-        sym (first_is g.records x.arcs (chain_ends i x is)) ∙ ap first_number (chain_is i x is) ∙ ap (λ (j : ℕ). first_number (lists j)) (omega arith)
-
-    vertices : g.vertices ≡ vertices_of d
-    vertices = vertices_are lists 0 g.vertices first_at
-        ∙ ap (λ ns. map (λ p. vertex_with p.1.0 p.1.1 (lists p.0)) (enumerate_from 0 (zip ns (map (λ v. v.util) g.vertices)))) h.names
-        ∙ ap (λ fs. map (λ p. vertex_with p.1.0 p.1.1 (lists p.0)) (enumerate_from 0 (zip d.names fs))) h.fields
-
-    next_at : (i : ℕ) (r : ArcRec) (a : Record) → slice_get g.records i ≡ Some r → slice_get wanted i ≡ Some a → r.next ≡ number_after (0 + i) (lists a.start)
-    next_at i r a is at =
-        let below : a.start < length g.vertices = at_get (λ (b : Record). b.start < length g.vertices) wanted i a (all_records_within (length g.vertices) d.directed d.events h.arcs.within) at in
-        let x = element_at g.vertices a.start below in
-        sym (after_is (lists a.start) g.records x.element.arcs (link i a.tip a.len) r (chain_ends a.start x.element x.is) (chain_is a.start x.element x.is) (each_on_list d.directed d.events i a at) is)
-        ∙ ap (λ (j : ℕ). number_after j (lists a.start)) (omega arith)
-
-    records : g.records ≡ records_of_events d.directed d.events
-    records = records_are lists 0 g.records wanted h.arcs.tips h.arcs.lengths h.arc_fields next_at
+    let wanted = all_records d.directed d.events in
+    let lists : ℕ → List Link = λ v. list_of d.directed d.events v in
+    let chain_is : (v : ℕ) (x : Vertex) → slice_get g.vertices v ≡ Some x → links_of g.records x.arcs ≡ lists v = λ v x is. sym (chain_at g v x is) ∙ h.arcs.lists v (slice_get_within g.vertices v x is) in
+    let chain_ends : (v : ℕ) (x : Vertex) → slice_get g.vertices v ≡ Some x → ends_of g.records x.arcs ≡ true = λ v x is. at_get (λ (y : Vertex). ends_of g.records y.arcs ≡ true) g.vertices v x h.arcs.ends is in
+    let first_at : (i : ℕ) (x : Vertex) → slice_get g.vertices i ≡ Some x → x.arcs ≡ first_number (lists (0 + i)) = λ i x is.
+    sym (first_is g.records x.arcs (chain_ends i x is)) ∙ ap first_number (chain_is i x is) ∙ ap (λ (j : ℕ). first_number (lists j)) (omega arith) in
+    let vertices : g.vertices ≡ vertices_of d = vertices_are lists 0 g.vertices first_at
+    ∙ ap (λ ns. map (λ p. vertex_with p.1.0 p.1.1 (lists p.0)) (enumerate_from 0 (zip ns (map (λ v. v.util) g.vertices)))) h.names
+    ∙ ap (λ fs. map (λ p. vertex_with p.1.0 p.1.1 (lists p.0)) (enumerate_from 0 (zip d.names fs))) h.fields in
+    let next_at : (i : ℕ) (r : ArcRec) (a : Record) → slice_get g.records i ≡ Some r → slice_get wanted i ≡ Some a → r.next ≡ number_after (0 + i) (lists a.start) = λ i r a is at.
+    let below : a.start < length g.vertices = at_get (λ (b : Record). b.start < length g.vertices) wanted i a (all_records_within (length g.vertices) d.directed d.events h.arcs.within) at in
+    let x = element_at g.vertices a.start below in
+    sym (after_is (lists a.start) g.records x.element.arcs (link i a.tip a.len) r (chain_ends a.start x.element x.is) (chain_is a.start x.element x.is) (each_on_list d.directed d.events i a at) is)
+    ∙ ap (λ (j : ℕ). number_after j (lists a.start)) (omega arith) in
+    let records : g.records ≡ records_of_events d.directed d.events = records_are lists 0 g.records wanted h.arcs.tips h.arcs.lengths h.arc_fields next_at in
+    rw (← h.id, ← h.arcs.count, ← h.kinds, ← h.util, ← vertices, ← records) refl
 
 -- the vertices of a description have its names
 names_are : (lists : ℕ → List Link) (k : ℕ) (names : List (List ℕ)) (fields : List (List Util)) → length fields ≡ length names → map (λ v. v.name) (map (λ p. vertex_with p.1.0 p.1.1 (lists p.0)) (enumerate_from k (zip names fields))) ≡ names

@@ -91,23 +91,13 @@ pub record_pushed :
     ((n : ℕ) → HoldsMany n a' → values (1 + n) c ≡ values n a' ++ r.a ∷ []) → ((n : ℕ) → HoldsMany n b' → values (1 + n) d ≡ values n b' ++ r.b ∷ []) →
     record_with p r.a r.b ≡ r → IsMore ps a b rs c d r
 record_pushed ps rs p a b a' b' c d r ha hb pushed ka kb va vb one other is =
+    let n = length ps in
+    let long : length (ps ++ p ∷ []) ≡ 1 + n = omega (arith, length_push ps p) in
+    let more_a = one n (rw (va n) ha) ∙ ap (λ us. us ++ r.a ∷ []) (va n) in
+    let more_b = other n (rw (vb n) hb) ∙ ap (λ us. us ++ r.b ∷ []) (vb n) in
+    let items = kept_records-push ps a b c d p r.a r.b ha hb more_a more_b ∙ ap (λ (x : ArcRec). (kept_records ps a b).items ++ x ∷ []) is in
     subst (λ (l : List PlainRecord). IsMore ps a b l c d r) (sym pushed) record {
       first = rw long (HoldsMany-push n a c r.a ha more_a);
       second = rw long (HoldsMany-push n b d r.b hb more_b);
       same = rw (ka, kb) (ap (λ (rs : List ArcRec). record (kept_records ps a b) { items = rs }) items);
     }
-  where
-    n : ℕ
-    n = length ps
-
-    long : length (ps ++ p ∷ []) ≡ 1 + n
-    long = omega (arith, length_push ps p)
-
-    more_a : values (1 + n) c ≡ values n a ++ r.a ∷ []
-    more_a = one n (rw (va n) ha) ∙ ap (λ us. us ++ r.a ∷ []) (va n)
-
-    more_b : values (1 + n) d ≡ values n b ++ r.b ∷ []
-    more_b = other n (rw (vb n) hb) ∙ ap (λ us. us ++ r.b ∷ []) (vb n)
-
-    items : (kept_records (ps ++ p ∷ []) c d).items ≡ (kept_records ps a b).items ++ r ∷ []
-    items = kept_records-push ps a b c d p r.a r.b ha hb more_a more_b ∙ ap (λ (x : ArcRec). (kept_records ps a b).items ++ x ∷ []) is

@@ -1,5 +1,5 @@
 -- Of 1760 draws in a row one is below the bound of a uniform draw, so that each uniform draw is found.
-use Rattle.std.specs.Prelude.{◌≡◌, ℕ, zero, suc, ◌+◌, ◌-◌, ◌*◌, ◌/◌, ◌%◌, ◌^◌, ◌<◌, ◌≤◌, ◌⊎◌, Bool, true, false, cond, Option, Some, None, find, nat_lt, unwrap_or, refl}
+use Rattle.std.specs.Prelude.{◌≡◌, ℕ, zero, suc, ◌+◌, ◌-◌, ◌*◌, ◌/◌, ◌%◌, ◌^◌, ◌<◌, ◌≤◌, Bool, true, false, cond, Option, Some, None, find, nat_lt, unwrap_or, refl}
 use Rattle.std.specs.List.{range_with_len}
 use Rattle.std.proofs.Common.{arith, ap, ◌∙◌, subst, inl, inr}
 use Rattle.std.proofs.Math.Nat.{two-pow-succ}
@@ -83,15 +83,15 @@ found_none value bound (suc many) k e = here_and_later (found_none value bound m
         → (b : Bool) → nat_lt (value k) bound ≡ b → cond b (Some k) (find (λ t. nat_lt (value t) bound) (range_with_len (k + 1) many)) ≡ None
         → (t : ℕ) → k ≤ t → t < k + suc many → bound ≤ value t
     here_and_later later true test none t low up = absurd cc
-    here_and_later later false test none t low up = at_or_after (cases_lt k t)
-      where
-        at_or_after : (k < t) ⊎ (t ≤ k) → bound ≤ value t
-        at_or_after (inl after) = later none t (omega arith) (omega arith)
-        at_or_after (inr at) =
-            let same : k ≡ t = omega arith in
-            let above : bound ≤ value k = grind (arith, test, Decides-ltb (value k) bound) in
-            let Above : ℕ → Type 0 = λ i. bound ≤ value i in
-            subst Above same above
+    here_and_later later false test none t low up =
+        elim (cases_lt k t) [
+          | inl after ↦ later none t (omega arith) (omega arith)
+          | inr at ↦
+              let same : k ≡ t = omega arith in
+              let above : bound ≤ value k = grind (arith, test, Decides-ltb (value k) bound) in
+              let Above : ℕ → Type 0 = λ i. bound ≤ value i in
+              subst Above same above
+        ]
 
 -- a search that finds one gives the number that it finds
 found_or : (found : Option ℕ) (other : ℕ) → ¬ (found ≡ None) → found ≡ Some (unwrap_or found other)
@@ -116,14 +116,14 @@ uniform_draw_taken seed m k some small = first_taken_makes seed m k most_tried (
 
 -- of two uniform draws below m from draw k on the first is made of no later draw than the second
 no_later : (seed m k one other last next : ℕ) → IsUniformDraw seed m k one last → IsUniformDraw seed m k other next → last ≤ next
-no_later seed m k one other last next is also = by_cases (cases_lt next last)
-  where
-    by_cases : (next < last) ⊎ (last ≤ next) → last ≤ next
-    by_cases (inl before) =
-        let above = is.thrown_away next also.from_place before in
-        let below = also.taken in
-        absurd (omega arith)
-    by_cases (inr fits) = fits
+no_later seed m k one other last next is also =
+    elim (cases_lt next last) [
+      | inl before ↦
+          let above = is.thrown_away next also.from_place before in
+          let below = also.taken in
+          absurd (omega arith)
+      | inr fits ↦ fits
+    ]
 
 -- and there is no other
 pub uniform_draw_only : (seed m k number last : ℕ) → 1 ≤ m → m ≤ modulus → IsUniformDraw seed m k number last → (last ≡ used_draw seed m k) × (number ≡ draw seed last % m)

@@ -65,20 +65,20 @@ waiting_on bound first other next_first next_other left some not_first not_other
     not_32 low last = let high = not_other last in omega arith
 
     still_stops : stops_within bound first other left ≡ true → stops_within bound first other (left - 1) ≡ true
-    still_stops stops = either (or_cases (ltb 0 left && ltb first bound) (ltb 31 left && ltb other bound) stops)
-      where
-        either : ((ltb 0 left && ltb first bound) ≡ true) ⊎ ((ltb 31 left && ltb other bound) ≡ true) → stops_within bound first other (left - 1) ≡ true
-        either (inl one) =
-            let parts = and_parts (ltb 0 left) (ltb first bound) one in
-            let apart = not_one (ltb-true first bound parts.1) in
-            let more : 0 < left - 1 = omega arith in
-            or_left (ltb 0 (left - 1) && ltb first bound) (ltb 31 (left - 1) && ltb other bound) (and_from (ltb 0 (left - 1)) (ltb first bound) (lt-ltb 0 (left - 1) more) parts.1)
-        either (inr two) =
-            let parts = and_parts (ltb 31 left) (ltb other bound) two in
-            let apart = not_32 (ltb-true other bound parts.1) in
-            let high = ltb-true 31 left parts.0 in
-            let more : 31 < left - 1 = omega arith in
-            or_right (ltb 0 (left - 1) && ltb first bound) (ltb 31 (left - 1) && ltb other bound) (and_from (ltb 31 (left - 1)) (ltb other bound) (lt-ltb 31 (left - 1) more) parts.1)
+    still_stops stops =
+        elim (or_cases (ltb 0 left && ltb first bound) (ltb 31 left && ltb other bound) stops) [
+          | inl one ↦
+              let parts = and_parts (ltb 0 left) (ltb first bound) one in
+              let apart = not_one (ltb-true first bound parts.1) in
+              let more : 0 < left - 1 = omega arith in
+              or_left (ltb 0 (left - 1) && ltb first bound) (ltb 31 (left - 1) && ltb other bound) (and_from (ltb 0 (left - 1)) (ltb first bound) (lt-ltb 0 (left - 1) more) parts.1)
+          | inr two ↦
+              let parts = and_parts (ltb 31 left) (ltb other bound) two in
+              let apart = not_32 (ltb-true other bound parts.1) in
+              let high = ltb-true 31 left parts.0 in
+              let more : 31 < left - 1 = omega arith in
+              or_right (ltb 0 (left - 1) && ltb first bound) (ltb 31 (left - 1) && ltb other bound) (and_from (ltb 31 (left - 1)) (ltb other bound) (lt-ltb 31 (left - 1) more) parts.1)
+        ]
 
     by_cases : (stops_within bound first other left ≡ true) ⊎ (stops_within bound first other left ≡ false) → less < waiting_of bound first other next_first next_other left
     by_cases (inl stops) =
