@@ -124,43 +124,29 @@ filling_none seed small = record {
 -- one number more
 filling_more : (seed : ℕ) (numbers : List ℕ) (number next turned k : ℕ) → seed < modulus → k < 55 → IsFilling seed numbers number next turned k
     → IsFilling seed (set numbers (place_of k) number) next (difference (difference number next) (rotated_once turned)) (rotated_once turned) (k + 1)
-filling_more seed numbers number next turned k small inside is = record {
-  cycle = cycle_with numbers (place_of k) number is.cycle is.number_small;
-  number_small = is.next_small;
-  next_small = difference_below (difference number next) (rotated_once turned);
-  turned_small = rotated_once_below turned is.turned_small;
-  number_is = is.next_is;
-  next_is = next_more;
-  turned_is = turned_more;
-  filled = λ i within before. filled_at i within before (cases_lt (21 * (i + 1) % 55) k);
-}
-  where
-    turned_more : rotated_once turned ≡ rotated seed (k + 1)
-    turned_more = ap rotated_once is.turned_is ∙ sym (rotated_more seed k small)
-
-    next_more : difference (difference number next) (rotated_once turned) ≡ y_number seed (k + 1 + 1)
-    next_more =
-        ap (λ a. difference (difference a next) (rotated_once turned)) is.number_is
-        ∙ (ap (λ b. difference (difference (y_number seed k) b) (rotated_once turned)) is.next_is
-        ∙ (ap (λ w. difference (difference (y_number seed k) (y_number seed (k + 1))) w) turned_more
-        ∙ (sym (y_later seed k) ∙ ap (y_number seed) (omega arith))))
-
-    here : get_or (set numbers (place_of k) number) (place_of k) 0 ≡ number
-    here = get_or-set_same numbers (place_of k) number 0 (omega (arith, is.cycle.many))
-
-    filled_at : (i : ℕ) → i < 55 → 21 * (i + 1) % 55 < k + 1 → (21 * (i + 1) % 55 < k) ⊎ (k ≤ 21 * (i + 1) % 55)
-        → get_or (set numbers (place_of k) number) i 0 ≡ first_x seed (i + 1)
-    filled_at i within before (inl earlier) =
-        let apart : i ≢ place_of k = λ same. not_there (ap (λ p. 21 * (p + 1) % 55) same) in
-        get_or-set_other numbers (place_of k) i number 0 apart ∙ is.filled i within earlier
-      where
-        not_there : 21 * (i + 1) % 55 ≡ 21 * (place_of k + 1) % 55 → ⊥
-        not_there same = let there = number_there k inside in omega arith
-    filled_at i within before (inr at) =
-        let same : 21 * (i + 1) % 55 ≡ k = omega arith in
-        let place : place_of k ≡ i = ap place_of (sym same) ∙ place_back i within in
-        ap (λ p. get_or (set numbers (place_of k) number) p 0) (sym place)
-        ∙ (here ∙ (is.number_is ∙ ap (y_number seed) (sym same)))
+filling_more seed numbers number next turned k small inside is =
+    let turned_more : rotated_once turned ≡ rotated seed (k + 1) = ap rotated_once is.turned_is ∙ sym (rotated_more seed k small) in
+    let here = get_or-set_same numbers (place_of k) number 0 (omega (arith, is.cycle.many)) in
+    let there = number_there k inside in
+    record {
+      cycle = cycle_with numbers (place_of k) number is.cycle is.number_small;
+      number_small = is.next_small;
+      next_small = difference_below (difference number next) (rotated_once turned);
+      turned_small = rotated_once_below turned is.turned_small;
+      number_is = is.next_is;
+      next_is = rw (is.number_is, is.next_is, turned_more) (sym (y_later seed k) ∙ ap (y_number seed) (omega arith));
+      turned_is = turned_more;
+      filled = λ i within before. elim (cases_lt (21 * (i + 1) % 55) k) [
+        | inl earlier ↦
+            let apart : i ≢ place_of k = λ same. let at = ap (λ p. 21 * (p + 1) % 55) same in omega arith in
+            get_or-set_other numbers (place_of k) i number 0 apart ∙ is.filled i within earlier
+        | inr at ↦
+            let same : 21 * (i + 1) % 55 ≡ k = omega arith in
+            let place : place_of k ≡ i = ap place_of (sym same) ∙ place_back i within in
+            ap (λ p. get_or (set numbers (place_of k) number) p 0) (sym place)
+            ∙ (here ∙ (is.number_is ∙ ap (y_number seed) (sym same)))
+      ];
+    }
 
 -- the same, where the place is computed otherwise
 pub filling_at : (seed : ℕ) (numbers : List ℕ) (number next turned k p : ℕ) → seed < modulus → k < 55 → IsFilling seed numbers number next turned k → place_of k ≡ p
