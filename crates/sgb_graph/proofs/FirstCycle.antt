@@ -1,5 +1,5 @@
 -- The first cycle of random numbers, made of the numbers of Y.
-use Rattle.std.proofs.Common.{◌≡◌, ℕ, suc, ◌+◌, ◌-◌, ◌*◌, ◌/◌, ◌%◌, ◌^◌, ◌<◌, ◌≤◌, ◌≢◌, ◌⊎◌, List, replicate, get_or, set, true, refl, ap, sym, ◌∙◌, subst, inl, inr, arith, get_or-set_same, get_or-set_other}
+use Rattle.std.proofs.Common.{◌≡◌, ℕ, suc, ◌+◌, ◌-◌, ◌*◌, ◌/◌, ◌%◌, ◌^◌, ◌<◌, ◌≢◌, List, replicate, get_or, set, true, refl, ap, sym, ◌∙◌, subst, inl, inr, arith, get_or-set_same, get_or-set_other}
 use Rattle.std.specs.Prelude.{◌==◌}
 use Rattle.std.specs.List.{list_all, range_with_len}
 use Rattle.std.proofs.lemmas.Bool.{cases_lt}
@@ -47,31 +47,27 @@ turned_once s p q some whole =
 
 -- rotated once more
 pub rotated_more : (seed k : ℕ) → seed < modulus → rotated seed (k + 1) ≡ rotated_once (rotated seed k)
-rotated_more seed k small = by_cases (cases_lt (k % 31) 30)
-  where
-    turns : ℕ → ℕ
-    turns j = seed / 2 ^ j + seed % 2 ^ j * 2 ^ (31 - j)
-
-    inside : (j : ℕ) → j < 30 → turns (j + 1) ≡ rotated_once (turns j)
-    inside j low =
-        let higher : j + 1 ≡ suc j = omega arith in
-        let more : 2 ^ (j + 1) ≡ 2 * 2 ^ j = ap (λ (i : ℕ). 2 ^ i) higher ∙ pow-succ' 2 j in
-        let left : 31 - j ≡ suc (30 - j) = omega arith in
-        let rest : 2 ^ (31 - j) ≡ 2 * 2 ^ (30 - j) = ap (λ (i : ℕ). 2 ^ i) left ∙ pow-succ' 2 (30 - j) in
-        let less : 31 - (j + 1) ≡ 30 - j = omega arith in
-        let all : j + (30 - j) ≡ 30 = omega arith in
-        let whole : 2 ^ j * 2 ^ (30 - j) ≡ 2 ^ 30 = sym (pow-add 2 j (30 - j)) ∙ ap (λ (i : ℕ). 2 ^ i) all in
-        rw (more, less, rest) (turned_once seed (2 ^ j) (2 ^ (30 - j)) (pow_pos j) whole)
-
-    by_cases : (k % 31 < 30) ⊎ (30 ≤ k % 31) → rotated seed (k + 1) ≡ rotated_once (rotated seed k)
-    by_cases (inl low) =
-        let next : (k + 1) % 31 ≡ k % 31 + 1 = omega arith in
-        ap turns next ∙ inside (k % 31) low
-    by_cases (inr high) =
-        let last : k % 31 ≡ 30 = omega arith in
-        let next : (k + 1) % 31 ≡ 0 = omega arith in
-        let around : turns 0 ≡ rotated_once (turns 30) = omega arith in
-        ap turns next ∙ (around ∙ ap (λ (j : ℕ). rotated_once (turns j)) (sym last))
+rotated_more seed k small =
+    let turns : ℕ → ℕ = λ j. seed / 2 ^ j + seed % 2 ^ j * 2 ^ (31 - j) in
+    let inside : (j : ℕ) → j < 30 → turns (j + 1) ≡ rotated_once (turns j) = λ j low.
+    let higher : j + 1 ≡ suc j = omega arith in
+    let more : 2 ^ (j + 1) ≡ 2 * 2 ^ j = ap (λ (i : ℕ). 2 ^ i) higher ∙ pow-succ' 2 j in
+    let left : 31 - j ≡ suc (30 - j) = omega arith in
+    let rest : 2 ^ (31 - j) ≡ 2 * 2 ^ (30 - j) = ap (λ (i : ℕ). 2 ^ i) left ∙ pow-succ' 2 (30 - j) in
+    let less : 31 - (j + 1) ≡ 30 - j = omega arith in
+    let all : j + (30 - j) ≡ 30 = omega arith in
+    let whole : 2 ^ j * 2 ^ (30 - j) ≡ 2 ^ 30 = sym (pow-add 2 j (30 - j)) ∙ ap (λ (i : ℕ). 2 ^ i) all in
+    rw (more, less, rest) (turned_once seed (2 ^ j) (2 ^ (30 - j)) (pow_pos j) whole) in
+    elim (cases_lt (k % 31) 30) [
+      | inl low ↦
+          let next : (k + 1) % 31 ≡ k % 31 + 1 = omega arith in
+          ap turns next ∙ inside (k % 31) low
+      | inr high ↦
+          let last : k % 31 ≡ 30 = omega arith in
+          let next : (k + 1) % 31 ≡ 0 = omega arith in
+          let around : turns 0 ≡ rotated_once (turns 30) = omega arith in
+          ap turns next ∙ (around ∙ ap (λ (j : ℕ). rotated_once (turns j)) (sym last))
+    ]
 
 -- Y(k) stands at this place of the first cycle, from 0
 abbrev pub place_of : ℕ → ℕ

@@ -2,7 +2,7 @@
 use Rattle.std.proofs.Common.{◌≡◌, ◌≢◌, ◌<◌, ◌≤◌, ◌+◌, ℕ, zero, suc, ℤ, pos, Option, Some, None, List, [], ◌∷◌, ◌++◌, length, map, replicate, get_or, set, drop, take, refl, ap, sym, subst, ◌∙◌, arith}
 use Rattle.std.specs.Prelude.{slice_get, option_map}
 use Rattle.std.specs.Option.{option_and_then}
-use Rattle.std.proofs.Math.Seq.{map-set_same, take-append_seam}
+use Rattle.std.proofs.Math.Seq.{map-set_same}
 use Rattle.std.proofs.Math.ListN.{get_or-map}
 use Rattle.std.proofs.lemmas.Int.{to_z-of_z}
 use mir.Syntax.{w64}
@@ -27,6 +27,7 @@ use Rattle.sgb_graph.specs.declared.vertices.Fields.{Fields}
 use Rattle.sgb_graph.specs.declared.vertices.Numbers.{Numbers}
 use Rattle.sgb_graph.specs.declared.vertices.Numbers.TheVariants.{Inside, Beside}
 use Rattle.sgb_graph.specs.declared.vertices.PlainVertex.{PlainVertex}
+use Rattle.sgb_vec.proofs.SumRowLemmas.{take_written}
 use Rattle.sgb_graph.proofs.ColumnValues.{HasPlace-below, unused, values-unused}
 use Rattle.sgb_graph.proofs.Lists.{at_place-is_set, length-at_place, map-map}
 use Rattle.sgb_graph.proofs.Tables.{at_place-at_place, at_place-same, at_place-set, combined-at_first, combined-at_second, combined-map_second, combined-push, combined_at, length-combined, length-rows, rows-at, rows-map, rows-push, rows-replicate}
@@ -453,10 +454,6 @@ are_put old f new p v x y z kept hold here =
           ∙ ap (at_place (with_numbers x y z) v) (combined-map_second put_fields some_numbers (with_util some_numbers) (map bare_vertex old) (rows n columns) (λ w fields. refl))));
     }
 
--- as many elements written over all are those elements
-pub refill_same : (n : ℕ) (xs ys : List PlainVertex) → length xs ≡ n → take n (xs ++ drop (length xs) ys) ≡ xs
-refill_same n xs ys long = rw (← long) (take-append_seam xs (drop (length xs) ys))
-
 -- numbers taken, read off their clauses
 pub taken_from : (old : List PlainVertex) (f : Fields) (new : List PlainVertex) (g : Fields) → HoldNumbers old f new g → HoldNumbers old f new (record f { x = Inside; y = Inside; z = Inside })
 taken_from old f new g held = record { fields = refl; bare = held.bare; x = held.x; y = held.y; z = held.z }
@@ -475,7 +472,7 @@ are_written : (n : ℕ) (old : List PlainVertex) (f : Fields) (new : List PlainV
     → AreWritten old f (set (take n (new ++ drop (length new) old)) v (record p { ints = x ∷ y ∷ z ∷ [] })) g v x y z
 are_written n old f new g p v x y z count kept held =
     let q : PlainVertex = record p { ints = x ∷ y ∷ z ∷ [] } in
-    subst (λ (ps : List PlainVertex). p ≡ get_or ps v p → AreWritten old f (set ps v q) g v x y z) (sym (refill_same n new old (taken_long old f new g held ∙ count)))
+    subst (λ (ps : List PlainVertex). p ≡ get_or ps v p → AreWritten old f (set ps v q) g v x y z) (sym (take_written n new (drop (length new) old) (sym (taken_long old f new g held ∙ count))))
     (λ here.
     let put = are_put old f new p v x y z kept (taken_from old f new g held) here in
     subst (λ (h : Fields). AreWritten old f (set new v q) h v x y z) (sym held.fields) (record {

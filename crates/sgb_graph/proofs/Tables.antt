@@ -1,7 +1,8 @@
 -- The rows of a table, given by its columns.
-use Rattle.std.proofs.Common.{◌≡◌, ◌<◌, ℕ, zero, suc, List, [], ◌∷◌, ◌++◌, length, get_or, map, replicate, set, Some, refl, ap, sym, ◌∙◌, arith}
+use Rattle.std.proofs.Common.{◌≡◌, ◌<◌, ℕ, zero, suc, List, [], ◌∷◌, ◌++◌, length, get_or, map, replicate, set, Some, refl, ap, sym, ◌∙◌, add-one, arith}
 use Rattle.std.specs.Prelude.{slice_get}
 use Rattle.std.proofs.lemmas.List.{length-replicate}
+use Rattle.std.proofs.lemmas.Grind.{replicate_next}
 use Rattle.sgb_graph.specs.Growth.{at_place}
 use Rattle.sgb_graph.specs.inner.KeptVertices.{AreColumns, combined, in_front, rows, with_row}
 
@@ -64,11 +65,6 @@ slice_get-replicate zero k x below = absurd (omega arith)
 slice_get-replicate (suc n) zero x below = refl
 slice_get-replicate (suc n) (suc k) x below = slice_get-replicate n k x (omega arith)
 
--- and once more
-replicate-push : {X : Type 0} (n : ℕ) (x : X) → replicate (suc n) x ≡ replicate n x ++ x ∷ []
-replicate-push zero x = refl
-replicate-push (suc n) x = ap (λ xs. x ∷ xs) (replicate-push n x)
-
 -- a row has the elements of the columns
 pub row_at : {X : Type 0} (n k : ℕ) (columns : List (List X)) (row : List X) → k < n → IsRow k columns row → slice_get (rows n columns) k ≡ Some row
 row_at n k [] [] below is = slice_get-replicate n k [] below
@@ -77,7 +73,7 @@ row_at n k _ _ below is = absurd is
 
 -- one row more
 pub rows-push : {X : Type 0} (n : ℕ) (columns : List (List X)) (row : List X) → AreColumns n columns → length columns ≡ length row → rows (suc n) (with_row columns row) ≡ rows n columns ++ row ∷ []
-rows-push n [] [] whole e = replicate-push n []
+rows-push n [] [] whole e = ap (λ m. replicate m []) (sym (add-one n)) ∙ replicate_next n []
 rows-push n (column ∷ columns) (x ∷ row) whole e =
     rw (rows-push n columns row whole.1 (omega (arith, e))) (combined-push (λ y ys. y ∷ ys) column (rows n columns) x row (whole.0 ∙ sym (length-rows n columns whole.1)))
 rows-push n _ _ whole e = absurd (omega (arith, e))

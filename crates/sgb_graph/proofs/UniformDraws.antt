@@ -45,13 +45,9 @@ one_below x bound base high is above =
 sequence_from : (seed base : ℕ) → 55 < base → IsSequence (x_number seed) base
 sequence_from seed base after = record {
   small = λ n low. rw (later_number seed n (omega arith)) (difference_below (x_number seed (n - 55)) (x_number seed (n - 24)));
-  rule = rule_at;
+  rule = λ n low. later_number seed (n + 55) (omega arith)
+      ∙ (ap (λ (a : ℕ). difference (x_number seed a) (x_number seed (n + 55 - 24))) (omega arith) ∙ ap (λ (b : ℕ). difference (x_number seed n) (x_number seed b)) (omega arith));
 }
-  where
-    rule_at : (n : ℕ) → base ≤ n → x_number seed (n + 55) ≡ difference (x_number seed n) (x_number seed (n + 31))
-    rule_at n low =
-        later_number seed (n + 55) (omega arith)
-        ∙ (ap (λ (a : ℕ). difference (x_number seed a) (x_number seed (n + 55 - 24))) (omega arith) ∙ ap (λ (b : ℕ). difference (x_number seed n) (x_number seed b)) (omega arith))
 
 -- each number from X(331) on is a draw
 abbrev draw_of : ℕ → ℕ
@@ -63,15 +59,11 @@ is_draw_of seed n high =
 
 -- so of 1760 draws in a row one is below the bound
 one_draw_below : (seed bound k : ℕ) → 2 ^ 30 < bound → ¬ ((t : ℕ) → k ≤ t → t < k + 1760 → bound ≤ draw seed t)
-one_draw_below seed bound k high above = one_below (x_number seed) bound base high (sequence_from seed base (omega arith)) number_above
-  where
-    base : ℕ
-    base = 55 * (6 + (k + 1) / 55) + 1
-
-    number_above : (n : ℕ) → base ≤ n → n ≤ base + 1650 → bound ≤ x_number seed n
-    number_above n low up =
-        let drawn = above (draw_of n) (omega arith) (omega arith) in
-        subst (λ x. bound ≤ x) (is_draw_of seed n (omega arith)) drawn
+one_draw_below seed bound k high above =
+    let base : ℕ = 55 * (6 + (k + 1) / 55) + 1 in
+    one_below (x_number seed) bound base high (sequence_from seed base (omega arith)) (λ n low up.
+    let drawn = above (draw_of n) (omega arith) (omega arith) in
+    subst (λ x. bound ≤ x) (is_draw_of seed n (omega arith)) drawn)
 
 -- where `find` finds none of the numbers from k on, the values there are not below the bound
 found_none : (value : ℕ → ℕ) (bound many k : ℕ) → find (λ t. nat_lt (value t) bound) (range_with_len k many) ≡ None

@@ -90,7 +90,7 @@ CountsSums-start n (suc m) row h e =
     rw e (CountsSums-filled n m (1 ∷ []) [] (CountsSums-nil n), All-cons (λ count. count ≤ most_vertices) 1 (replicate m 0) (omega arith) (zeros_small m))
 
 -- a Vec written through a slice of all of it
-pub take_written : (n : ℕ) (xs ys : List ℕ) → n ≡ length xs → take n (xs ++ ys) ≡ xs
+pub take_written : {X : Type 0} (n : ℕ) (xs ys : List X) → n ≡ length xs → take n (xs ++ ys) ≡ xs
 take_written n xs ys e = take-append-le n xs ys (omega arith) ∙ take_all n xs (omega arith)
 
 -- the counts of one more bound
