@@ -1,5 +1,5 @@
 -- A cycle of random numbers, the next one, and the numbers of the sequence that they are.
-use Rattle.std.proofs.Common.{◌≡◌, ℕ, ◌+◌, ◌-◌, ◌%◌, ◌<◌, ◌≤◌, ◌≢◌, ◌⊎◌, List, length, get_or, set, refl, ap, sym, ◌∙◌, inl, inr, arith, length-set, get_or-set_same, get_or-set_other}
+use Rattle.std.proofs.Common.{◌≡◌, ℕ, ◌+◌, ◌-◌, ◌%◌, ◌<◌, ◌≤◌, ◌≢◌, List, length, get_or, set, refl, ap, sym, ◌∙◌, inl, inr, arith, length-set, get_or-set_same, get_or-set_other}
 use Rattle.std.proofs.lemmas.Bool.{cases_eq, cases_lt}
 use Rattle.sgb_graph.specs.Draws.{modulus, difference, x_number}
 use Rattle.sgb_graph.specs.inner.Flips.{HandsOut, IsCycle, IsNextCycle}
@@ -97,34 +97,26 @@ numbers_rule seed j =
 
 -- the numbers of the next cycle come after those of a cycle in each sequence with the rule
 pub next_part : (y : ℕ → ℕ) (n : ℕ) (old new : List ℕ) → ((j : ℕ) → y (j + 55) ≡ difference (y j) (y (j + 31))) → IsPartOf y n old → IsNextCycle old new → IsPartOf y (n + 55) new
-next_part y n old new rule is next = record { at = λ i inside. anywhere i inside (cases_lt i 24) (cases_lt i 48) }
-  where
-    After : ℕ → Type 0
-    After i = get_or new i 0 ≡ y (n + 55 + i)
-
-    rule_at : (i : ℕ) → y (n + 55 + i) ≡ difference (y (n + i)) (y (n + (i + 31)))
-    rule_at i =
-        ap y (omega arith) ∙ (rule (n + i) ∙ ap (λ (p : ℕ). difference (y (n + i)) (y p)) (omega arith))
-
-    first_24 : (i : ℕ) → i < 24 → After i
-    first_24 i small =
-        next.early i small
-        ∙ (ap (λ a. difference a (get_or old (i + 31) 0)) (is.at i (omega arith))
-        ∙ (ap (λ b. difference (y (n + i)) b) (is.at (i + 31) (omega arith)) ∙ sym (rule_at i)))
-
-    later : (i : ℕ) → 24 ≤ i → i < 55 → After (i - 24) → After i
-    later i great inside before =
-        next.late i great inside
-        ∙ (ap (λ a. difference a (get_or new (i - 24) 0)) (is.at i inside)
-        ∙ (ap (λ b. difference (y (n + i)) b) (before ∙ ap y (omega arith)) ∙ sym (rule_at i)))
-
-    next_24 : (i : ℕ) → 24 ≤ i → i < 48 → After i
-    next_24 i great small = later i great (omega arith) (first_24 (i - 24) (omega arith))
-
-    anywhere : (i : ℕ) → i < 55 → (i < 24) ⊎ (24 ≤ i) → (i < 48) ⊎ (48 ≤ i) → After i
-    anywhere i inside (inl small) _ = first_24 i small
-    anywhere i inside (inr great) (inl small) = next_24 i great small
-    anywhere i inside (inr _) (inr great) = later i (omega arith) inside (next_24 (i - 24) (omega arith) (omega arith))
+next_part y n old new rule is next =
+    let After : ℕ → Type 0 = λ i. get_or new i 0 ≡ y (n + 55 + i) in
+    let rule_at : (i : ℕ) → y (n + 55 + i) ≡ difference (y (n + i)) (y (n + (i + 31))) = λ i.
+    ap y (omega arith) ∙ (rule (n + i) ∙ ap (λ (p : ℕ). difference (y (n + i)) (y p)) (omega arith)) in
+    let first_24 : (i : ℕ) → i < 24 → After i = λ i small.
+    next.early i small ∙ (rw (is.at i (omega arith), is.at (i + 31) (omega arith)) (sym (rule_at i))) in
+    let later : (i : ℕ) → 24 ≤ i → i < 55 → After (i - 24) → After i = λ i great inside before.
+    let place : n + 55 + (i - 24) ≡ n + (i + 31) = omega arith in
+    next.late i great inside ∙ (rw (is.at i inside, before, place) (sym (rule_at i))) in
+    let next_24 : (i : ℕ) → 24 ≤ i → i < 48 → After i = λ i great small. later i great (omega arith) (first_24 (i - 24) (omega arith)) in
+    record {
+      at = λ i inside. elim (cases_lt i 24) [
+        | inl small ↦ first_24 i small
+        | inr great ↦
+            elim (cases_lt i 48) [
+              | inl small ↦ next_24 i great small
+              | inr high ↦ later i great inside (next_24 (i - 24) (omega arith) (omega arith))
+            ]
+      ];
+    }
 
 -- and so among the random numbers
 pub next_window : (seed n : ℕ) (old new : List ℕ) → IsWindow seed n old → IsNextCycle old new → IsWindow seed (n + 55) new
