@@ -129,13 +129,8 @@ replicate_whole n (suc k) x = (length-replicate n x, replicate_whole n k x)
 pub unused_columns : (ps : List PlainVertex) (f : Fields) → field_kinds f ≡ replicate 6 Z → field_columns ps f ≡ replicate 6 (replicate (length ps) Nothing)
 unused_columns ps f e =
     let n = length ps in
-    let u : column_kind f.u ≡ Z = cc in
-    let v : column_kind f.v ≡ Z = cc in
-    let w : column_kind f.w ≡ Z = cc in
-    let x : numbers_kind f.x ≡ Z = cc in
-    let y : numbers_kind f.y ≡ Z = cc in
-    let z : numbers_kind f.z ≡ Z = cc in
-    rw (unused_values n f.u u, unused_values n f.v v, unused_values n f.w w, unused_numbers 0 ps f.x x, unused_numbers 1 ps f.y y, unused_numbers 2 ps f.z z) refl
+    let at : (k : ℕ) → get_or (field_kinds f) k Z ≡ get_or (replicate 6 Z) k Z = λ k. ap (λ ks. get_or ks k Z) e in
+    rw (unused_values n f.u (at 0), unused_values n f.v (at 1), unused_values n f.w (at 2), unused_numbers 0 ps f.x (at 3), unused_numbers 1 ps f.y (at 4), unused_numbers 2 ps f.z (at 5)) refl
 
 -- they are kept
 pub unused_kept : (ps : List PlainVertex) (f : Fields) → field_kinds f ≡ replicate 6 Z → AreKept ps f
@@ -317,13 +312,8 @@ put_all old f new p v x y z hold here =
 pub kinds_record : (ps : List PlainVertex) (f : Fields) (u v w x y z : Kind) → field_kinds f ≡ u ∷ v ∷ w ∷ x ∷ y ∷ z ∷ []
     → kept_vertices ps f ≡ record { u = u; v = v; w = w; x = x; y = y; z = z; items = kept_items ps f }
 kinds_record ps f u v w x y z e =
-    let eu : column_kind f.u ≡ u = cc in
-    let ev : column_kind f.v ≡ v = cc in
-    let ew : column_kind f.w ≡ w = cc in
-    let ex : numbers_kind f.x ≡ x = cc in
-    let ey : numbers_kind f.y ≡ y = cc in
-    let ez : numbers_kind f.z ≡ z = cc in
-    rw (eu, ev, ew, ex, ey, ez) refl
+    let at : (k : ℕ) → get_or (field_kinds f) k Z ≡ get_or (u ∷ v ∷ w ∷ x ∷ y ∷ z ∷ []) k Z = λ k. ap (λ ks. get_or ks k Z) e in
+    rw (at 0, at 1, at 2, at 3, at 4, at 5) refl
 
 -- a value put after those of a column
 abbrev pub AddsValue : Column → Column → Util → Type 0
