@@ -62,6 +62,7 @@ record IsPair (g : GraphData) (low high : ℕ) (after : Option ℕ) (far : ℤ) 
   higher : high ≢ low → chain_of (with_pair g low high after far) high ≡ link (length g.records + 1) low far ∷ chain_of g high
   others : (w : ℕ) → w ≢ low → w ≢ high → chain_of (with_pair g low high after far) w ≡ chain_of g w
 
+-- so it has, where both records lead to vertices
 pair_put : (g : GraphData) (low high : ℕ) (after : Option ℕ) (far : ℤ) (tail : List Link) → IsKept g → HasPlainArcs g → low < length g.vertices → high < length g.vertices → chain_fits (length g.records + 2) after ≡ true
     → IsLead (suc (length g.records)) (g.records ++ arc_record high after far ∷ arc_record low (first_arc g.vertices high) far ∷ []) (length g.records) high far tail → IsPair g low high after far tail
 pair_put g low high after far tail kept plain low_in high_in after_fits down =
