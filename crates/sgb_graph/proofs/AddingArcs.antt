@@ -7,7 +7,7 @@ use Rattle.std.proofs.lemmas.Bool.{and_parts, and_from, lt-ltb}
 use Rattle.std.proofs.lemmas.List.{length-append}
 use Rattle.sgb_graph.specs.Graphs.{GraphData, chain_of, ends_of, ends_from, links_of}
 use Rattle.sgb_graph.specs.Sound.{arc_kinds, chain_fits, utils_fit, vertex_kinds}
-use Rattle.sgb_graph.specs.Growth.{IsKept, HasPlainArcs, AddsArc, KeepsAllButArcs, arc_record, at_place, first_arc, link}
+use Rattle.sgb_graph.specs.Growth.{IsKept, HasPlainArcs, AddsArc, KeepsAllButArcs, arc_record, at_place, first_arc, graph_data, link}
 use Rattle.sgb_graph.specs.inner.Growth.{with_arcs}
 use Rattle.sgb_graph.specs.declared.fields.Kind.{Kind}
 use Rattle.sgb_graph.specs.declared.fields.Kind.TheVariants.{Z}
@@ -52,11 +52,13 @@ chain_of_vertex g u has below =
       chain = chain_at g u x.element x.is;
     }
 
--- the fields of a new record
-pub plain_record_fits : (n m : ℕ) (kinds : List Kind) (v : ℕ) (after : Option ℕ) (far : ℤ) → v < n → chain_fits m after ≡ true → arc_kinds kinds ≡ Z ∷ Z ∷ [] → record_fits_in n m kinds (arc_record v after far) ≡ true
-plain_record_fits n m kinds v after far below fits plain =
-    and_from (nat_lt v n && chain_fits m after) (utils_fit n m (arc_kinds kinds) (Nothing ∷ Nothing ∷ []))
-    (and_from (nat_lt v n) (chain_fits m after) (lt-ltb v n below) fits) (rw plain refl)
+-- a new record fits, as those after it do
+pub plain_fit : (n m : ℕ) (kinds : List Kind) (v : ℕ) (after : Option ℕ) (far : ℤ) (more : List ArcRec) → v < n → chain_fits m after ≡ true → arc_kinds kinds ≡ Z ∷ Z ∷ [] → list_all (record_fits_in n m kinds) more ≡ true
+    → list_all (record_fits_in n m kinds) (arc_record v after far ∷ more) ≡ true
+plain_fit n m kinds v after far more below fits plain others =
+    and_from (record_fits_in n m kinds (arc_record v after far)) (list_all (record_fits_in n m kinds) more)
+    (and_from (nat_lt v n && chain_fits m after) (utils_fit n m (arc_kinds kinds) (Nothing ∷ Nothing ∷ []))
+    (and_from (nat_lt v n) (chain_fits m after) (lt-ltb v n below) fits) (rw plain refl)) others
 
 -- a vertex stays good with another first record, from which the way leads to vertices
 pub good_with_arcs : (n : ℕ) (kinds : List Kind) (records : List ArcRec) (first : Option ℕ) (x : Vertex) → chain_fits (length records) first ≡ true → lead_within (length records) records first ≡ true → is_good n kinds records x ≡ true → is_good n kinds records (with_arcs first x) ≡ true
@@ -85,14 +87,37 @@ lead_of steps g more u k v far has below le is =
       links = links_step steps all k new is ∙ ap (λ ls. link k v far ∷ ls) (links_kept steps g.records more first le old.ends ∙ sym old.chain);
     }
 
+-- vertices stay good where a record in front of a chain becomes the first one of a vertex
+pub put_good : (n steps k u v : ℕ) (kinds : List Kind) (records : List ArcRec) (far : ℤ) (chain : List Link) (vertices : List Vertex) → length records ≡ suc steps → k < length records → IsLead steps records k v far chain
+    → list_all (is_good n kinds records) vertices ≡ true → list_all (is_good n kinds records) (at_place (with_arcs (Some k)) u vertices) ≡ true
+put_good n steps k u v kinds records far chain vertices long below lead good =
+    let leads = ap (λ s. lead_within s records (Some k)) long ∙ lead.leads in
+    list_all-at_place (is_good n kinds records) (with_arcs (Some k)) u vertices (λ x h. good_with_arcs n kinds records (Some k) x (lt-ltb k (length records) below) leads h) good
+
+-- which then has the record and that chain
+pub put_chain : (g : GraphData) (others : List Vertex) (steps k u v : ℕ) (far : ℤ) (chain : List Link) → u < length others → slice_get g.vertices u ≡ slice_get (at_place (with_arcs (Some k)) u others) u
+    → length g.records ≡ suc steps → IsLead steps g.records k v far chain → chain_of g u ≡ link k v far ∷ chain
+put_chain g others steps k u v far chain below is long lead =
+    let x = element_at others u below in
+    chain_at g u (with_arcs (Some k) x.element) (is ∙ slice_get-at_place_same (with_arcs (Some k)) u others x.element x.is)
+    ∙ (ap (λ s. links_within s g.records (Some k)) long ∙ lead.links)
+
+-- a graph with more records is kept
+pub grown_kept : (g : GraphData) (vertices : List Vertex) (more : List ArcRec) → IsKept g → length vertices ≡ length g.vertices → list_all (is_good (length g.vertices) g.kinds (g.records ++ more)) vertices ≡ true
+    → NewFit (length g.vertices) g.kinds g.records more → IsKept (grown g (g.m + length more) vertices more)
+grown_kept g vertices more kept same good fit = record {
+  graph = graph_from_parts (grown g (g.m + length more) vertices more) (grown_is_graph g (g.m + length more) vertices more (parts_of g kept.graph) same good fit);
+  count = omega (arith, kept.count, length-append g.records more);
+}
+
 -- the graph with an arc from u to v
 abbrev pub with_arc : GraphData → ℕ → ℕ → ℤ → GraphData
 with_arc g u v far =
     grown g (g.m + 1) (at_place (with_arcs (Some (length g.records))) u g.vertices) (arc_record v (first_arc g.vertices u) far ∷ [])
 
 -- all but the arcs stays where the first record of a vertex changes
-pub keeps_all : (g : GraphData) (count : ℕ) (first : Option ℕ) (u : ℕ) (more : List ArcRec) → KeepsAllButArcs g (grown g count (at_place (with_arcs first) u g.vertices) more)
-keeps_all g count first u more = record {
+pub keeps_all : (g : GraphData) (count : ℕ) (first : Option ℕ) (u : ℕ) (records : List ArcRec) → KeepsAllButArcs g (graph_data g.id count g.kinds g.util (at_place (with_arcs first) u g.vertices) records)
+keeps_all g count first u records = record {
   id = refl;
   kinds = refl;
   util = refl;
@@ -101,77 +126,36 @@ keeps_all g count first u more = record {
   fields = map-at_place (λ x. x.util) (with_arcs first) u g.vertices (λ x. refl);
 }
 
--- the number of records with one more
-one_more : (records : List ArcRec) (r : ArcRec) → length (records ++ r ∷ []) ≡ suc (length records)
-one_more records r = omega (arith, length-append records (r ∷ []))
-
 -- the first of the new records stands after the old ones
 pub first_is : (records more : List ArcRec) (r : ArcRec) → slice_get (records ++ r ∷ more) (length records) ≡ Some r
 first_is records more r =
-    let place : length records ≡ length records + 0 = omega arith in
-    ap (slice_get (records ++ r ∷ more)) place ∙ slice_get-after records (r ∷ more) 0
+    ap (slice_get (records ++ r ∷ more)) (omega arith) ∙ slice_get-after records (r ∷ more) 0
 
 -- it is a graph with one arc more
 pub arc_added : (g : GraphData) (u v : ℕ) (far : ℤ) → IsKept g → HasPlainArcs g → u < length g.vertices → v < length g.vertices → AddsArc g (with_arc g u v far) u v far × IsKept (with_arc g u v far)
-arc_added g u v far kept plain u_in v_in = (adds, still)
-  where
-    has : HasParts g
-    has = parts_of g kept.graph
-
-    m : ℕ
-    m = length g.records
-
-    first : Option ℕ
-    first = first_arc g.vertices u
-
-    new : ArcRec
-    new = arc_record v first far
-
-    all : List ArcRec
-    all = g.records ++ new ∷ []
-
-    longer : length all ≡ suc m
-    longer = one_more g.records new
-
-    lead : IsLead m all m v far (chain_of g u)
-    lead = lead_of m g (new ∷ []) u m v far has u_in (omega arith) (first_is g.records [] new)
-
-    new_fits : chain_fits (length all) (Some m) ≡ true
-    new_fits = lt-ltb m (length all) (omega (arith, longer))
-
-    leads : lead_within (length all) all (Some m) ≡ true
-    leads = ap (λ steps. lead_within steps all (Some m)) longer ∙ lead.leads
-
-    good : list_all (is_good (length g.vertices) g.kinds all) (at_place (with_arcs (Some m)) u g.vertices) ≡ true
-    good = list_all-at_place (is_good (length g.vertices) g.kinds all) (with_arcs (Some m)) u g.vertices
-        (λ x h. good_with_arcs (length g.vertices) g.kinds all (Some m) x new_fits leads h) (all_good_more g (new ∷ []) has)
-
-    after_fits : chain_fits (length all) first ≡ true
-    after_fits = chain_fits_more m (length all) first (omega (arith, longer)) (chain_of_vertex g u has u_in).fits
-
-    fit : NewFit (length g.vertices) g.kinds g.records (new ∷ [])
-    fit = record {
-      fit = and_from (record_fits_in (length g.vertices) (length all) g.kinds new) true (plain_record_fits (length g.vertices) (length all) g.kinds v first far v_in after_fits plain) refl;
-      ends = λ k low high. let at : k ≡ m = omega (arith, longer) in rw (at, longer) lead.ends;
-    }
-
-    still : IsKept (with_arc g u v far)
-    still = record {
-      graph = graph_from_parts (with_arc g u v far) (grown_is_graph g (g.m + 1) (at_place (with_arcs (Some m)) u g.vertices) (new ∷ []) has (length-at_place (with_arcs (Some m)) u g.vertices) good fit);
-      count = omega (arith, kept.count, longer);
-    }
-
-    x : HasElement g.vertices u
-    x = element_at g.vertices u u_in
-
-    adds : AddsArc g (with_arc g u v far) u v far
-    adds = record {
-      count = refl;
-      records = refl;
-      chain = chain_at (with_arc g u v far) u (with_arcs (Some m) x.element) (slice_get-at_place_same (with_arcs (Some m)) u g.vertices x.element x.is)
-          ∙ (ap (λ steps. links_within steps all (Some m)) longer ∙ lead.links);
-      others = λ w other. chain_kept g (g.m + 1) (at_place (with_arcs (Some m)) u g.vertices) (new ∷ []) w has (slice_get-at_place_other (with_arcs (Some m)) u w g.vertices other);
-      within = (u_in, v_in);
-      ends = lists_end (with_arc g u v far) (parts_of (with_arc g u v far) still.graph);
-      rest = keeps_all g (g.m + 1) (Some m) u (new ∷ []);
-    }
+arc_added g u v far kept plain u_in v_in =
+    let has = parts_of g kept.graph in
+    let n = length g.vertices in
+    let m = length g.records in
+    let more = arc_record v (first_arc g.vertices u) far ∷ [] in
+    let all = g.records ++ more in
+    let long : length all ≡ suc m = omega (arith, length-append g.records more) in
+    let lead = lead_of m g more u m v far has u_in (omega arith) (first_is g.records [] (arc_record v (first_arc g.vertices u) far)) in
+    let nodes = at_place (with_arcs (Some m)) u g.vertices in
+    let good = put_good n m m u v g.kinds all far (chain_of g u) g.vertices long (omega arith) lead (all_good_more g more has) in
+    let after_fits = chain_fits_more m (length all) (first_arc g.vertices u) (omega arith) (chain_of_vertex g u has u_in).fits in
+    let still = grown_kept g nodes more kept (length-at_place (with_arcs (Some m)) u g.vertices) good (record {
+      fit = plain_fit n (length all) g.kinds v (first_arc g.vertices u) far [] v_in after_fits plain refl;
+      ends = λ k low high. let at : k ≡ m = omega (arith, long) in rw (at, long) lead.ends;
+    }) in (
+      record {
+        count = refl;
+        records = refl;
+        chain = put_chain (with_arc g u v far) g.vertices m m u v far (chain_of g u) u_in refl long lead;
+        others = λ w other. chain_kept g (g.m + 1) nodes more w has (slice_get-at_place_other (with_arcs (Some m)) u w g.vertices other);
+        within = (u_in, v_in);
+        ends = lists_end (with_arc g u v far) (parts_of (with_arc g u v far) still.graph);
+        rest = keeps_all g (g.m + 1) (Some m) u all;
+      },
+      still,
+    )

@@ -1,5 +1,5 @@
 -- Records of which each leads back to an earlier one, and leads to a vertex: no way of theirs has to be walked.
-use Rattle.std.proofs.Common.{◌≡◌, ◌<◌, ◌⊎◌, ◌∙◌, ◌&&◌, ℕ, zero, suc, Bool, true, false, true≢false, List, [], ◌∷◌, length, Option, Some, None, refl, sym, inl, inr, arith}
+use Rattle.std.proofs.Common.{◌≡◌, ◌<◌, ◌∙◌, ◌&&◌, ℕ, zero, suc, Bool, true, false, true≢false, List, [], ◌∷◌, length, Option, Some, None, refl, sym, inl, inr, arith}
 use Rattle.std.specs.Prelude.{slice_get}
 use Rattle.std.specs.List.{list_all, range_with_len}
 use Rattle.std.specs.Option.{option_map_or}
@@ -17,11 +17,11 @@ use Rattle.sgb_graph.proofs.MarkedWays.{all_end, not_each_below}
 
 -- what all numbers below n pass, each does
 passed_below : (p : ℕ → Bool) (n k : ℕ) → list_all p (range_with_len 0 n) ≡ true → k < n → p k ≡ true
-passed_below p n k all below = by_test (cases_Bool (p k))
-  where
-    by_test : (p k ≡ true) ⊎ (p k ≡ false) → p k ≡ true
-    by_test (inl passes) = passes
-    by_test (inr fails) = absurd (true≢false (sym all ∙ not_each_below p n k below fails))
+passed_below p n k all below =
+    elim (cases_Bool (p k)) [
+      | inl passes ↦ passes
+      | inr fails ↦ absurd (true≢false (sym all ∙ not_each_below p n k below fails))
+    ]
 
 -- a number below another
 is_below : (j k : ℕ) → chain_fits k (Some j) ≡ true → j < k

@@ -1,5 +1,5 @@
 -- Parts that were checked: what fits, and the graph that they make up.
-use Rattle.std.proofs.Common.{◌≡◌, ◌⊎◌, ◌&&◌, ℕ, Bool, true, false, List, [], ◌∷◌, length, slice_index_or, refl, ap, sym, ◌∙◌, inl, inr, arith}
+use Rattle.std.proofs.Common.{◌≡◌, ◌&&◌, ℕ, Bool, true, List, [], ◌∷◌, length, slice_index_or, refl, ap, sym, ◌∙◌, inl, inr, arith}
 use Rattle.std.specs.Prelude.{nat_le, Ok, Err, if◌then◌else◌}
 use Rattle.std.specs.List.{list_all, zip}
 use Rattle.std.proofs.Math.Bool.{and-true}
@@ -18,17 +18,14 @@ use Rattle.sgb_graph.proofs.Growing.{first_ends}
 -- values fit their kinds where each fits its own
 pub utils_fit_each : (n m : ℕ) (kinds : List Kind) (utils : List Util) → length kinds ≡ length utils → utils_fit n m kinds utils ≡ list_all (λ p. util_fits n m p.0 p.1) (zip kinds utils)
 utils_fit_each n m [] [] long = refl
-utils_fit_each n m [] (util ∷ utils) long = absurd (omega arith)
-utils_fit_each n m (kind ∷ kinds) [] long = absurd (omega arith)
 utils_fit_each n m (kind ∷ kinds) (util ∷ utils) long =
     ap (λ b. util_fits n m kind util && b) (utils_fit_each n m kinds utils (omega arith))
+utils_fit_each n m _ _ long = absurd (omega arith)
 
 -- two of them
 two_fit : (n m : ℕ) (kinds : List Kind) (d : Kind) (a b : Util) → length kinds ≡ 2 → utils_fit n m kinds (a ∷ b ∷ []) ≡ (util_fits n m (slice_index_or kinds 0 d) a && util_fits n m (slice_index_or kinds 1 d) b)
-two_fit n m [] d a b long = absurd (omega arith)
-two_fit n m (x ∷ []) d a b long = absurd (omega arith)
 two_fit n m (x ∷ y ∷ []) d a b long = ap (λ t. util_fits n m x a && t) (and-true (util_fits n m y b))
-two_fit n m (x ∷ y ∷ z ∷ kinds) d a b long = absurd (omega arith)
+two_fit n m _ d a b long = absurd (omega arith)
 
 -- where the first fits, they fit if the second does
 pub both_fit : (n m : ℕ) (kinds : List Kind) (d : Kind) (a b : Util) {fits : Bool} → length kinds ≡ 2 → util_fits n m (slice_index_or kinds 0 d) a ≡ true → fits ≡ util_fits n m (slice_index_or kinds 1 d) b → fits ≡ utils_fit n m kinds (a ∷ b ∷ [])
@@ -63,8 +60,8 @@ graph_is_checked g is = ap (λ passes. if passes then Ok g else Err Syntax) (pas
 
 -- and others are refused
 pub other_is_refused : (g : GraphData) → (IsGraph g → ⊥) → checked g ≡ Err Syntax
-other_is_refused g other = by_test (cases_Bool (is_graph g))
-  where
-    by_test : (is_graph g ≡ true) ⊎ (is_graph g ≡ false) → checked g ≡ Err Syntax
-    by_test (inl passes) = absurd (other (is_graph_from g passes))
-    by_test (inr fails) = ap (λ passes. if passes then Ok g else Err Syntax) fails
+other_is_refused g other =
+    elim (cases_Bool (is_graph g)) [
+      | inl passes ↦ absurd (other (is_graph_from g passes))
+      | inr fails ↦ ap (λ passes. if passes then Ok g else Err Syntax) fails
+    ]

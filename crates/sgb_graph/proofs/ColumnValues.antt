@@ -4,7 +4,7 @@ use Rattle.std.proofs.lemmas.List.{length-map, length-replicate, length_push, re
 use Rattle.std.proofs.Math.Nat.{add_comm}
 use Rattle.sgb_graph.specs.inner.Columns.{HasPlace, HoldsMany, column_kind, values}
 use Rattle.sgb_graph.specs.declared.columns.Column.{Column}
-use Rattle.sgb_graph.specs.declared.columns.Column.TheVariants.{Unused, Ints, Vertices, Texts, Chains}
+use Rattle.sgb_graph.specs.declared.columns.Column.TheVariants.{Unused}
 use Rattle.sgb_graph.specs.declared.fields.Kind.TheVariants.{Z}
 use Rattle.sgb_graph.specs.declared.fields.Util.{Util}
 use Rattle.sgb_graph.specs.declared.fields.Util.TheVariants.{Nothing}
@@ -12,10 +12,7 @@ use Rattle.sgb_graph.specs.declared.fields.Util.TheVariants.{Nothing}
 -- a column that is not used
 pub unused : (c : Column) → column_kind c ≡ Z → c ≡ Unused
 unused Unused h = refl
-unused (Ints xs) h = cc
-unused (Vertices xs) h = cc
-unused (Texts xs) h = cc
-unused (Chains xs) h = cc
+unused _ h = cc
 
 pub HoldsMany-unused : (n : ℕ) (c : Column) → column_kind c ≡ Z → HoldsMany n c
 HoldsMany-unused n c h = rw (unused c h) (length-replicate n Nothing)
@@ -27,10 +24,7 @@ values-unused n c h = rw (unused c h) (ap (λ k. replicate k Nothing) (add_comm 
 -- a column of n has each place below n
 pub HasPlace-below : (c : Column) (n k : ℕ) → HoldsMany n c → k < n → HasPlace k c
 HasPlace-below Unused n k h l = omega arith
-HasPlace-below (Ints xs) n k h l = omega (arith, simp length-map at h)
-HasPlace-below (Vertices xs) n k h l = omega (arith, simp length-map at h)
-HasPlace-below (Texts xs) n k h l = omega (arith, simp length-map at h)
-HasPlace-below (Chains xs) n k h l = omega (arith, simp length-map at h)
+HasPlace-below _ n k h l = omega (arith, simp length-map at h)
 
 -- a column of one value more
 pub HoldsMany-push : (n : ℕ) (c c' : Column) (x : Util) → HoldsMany n c → values (1 + n) c' ≡ values n c ++ x ∷ [] → HoldsMany (1 + n) c'

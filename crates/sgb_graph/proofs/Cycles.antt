@@ -1,6 +1,6 @@
 -- A cycle of random numbers, the next one, and the numbers of the sequence that they are.
-use Rattle.std.proofs.Common.{◌≡◌, ℕ, ◌+◌, ◌-◌, ◌%◌, ◌<◌, ◌≤◌, ◌≢◌, ◌⊎◌, List, length, get_or, set, refl, ap, sym, ◌∙◌, subst, inl, inr, arith, length-set, get_or-set_same, get_or-set_other}
-use Rattle.std.proofs.lemmas.Bool.{cases_lt}
+use Rattle.std.proofs.Common.{◌≡◌, ℕ, ◌+◌, ◌-◌, ◌%◌, ◌<◌, ◌≤◌, ◌≢◌, List, length, get_or, set, refl, ap, sym, ◌∙◌, inl, inr, arith, length-set, get_or-set_same, get_or-set_other}
+use Rattle.std.proofs.lemmas.Bool.{cases_eq, cases_lt}
 use Rattle.sgb_graph.specs.Draws.{modulus, difference, x_number}
 use Rattle.sgb_graph.specs.inner.Flips.{HandsOut, IsCycle, IsNextCycle}
 use Rattle.sgb_graph.specs.inner.Jumps.{IsPartOf}
@@ -14,21 +14,13 @@ difference_below a b = omega arith
 pub cycle_with : (numbers : List ℕ) (i x : ℕ) → IsCycle numbers → x < modulus → IsCycle (set numbers i x)
 cycle_with numbers i x is small = record {
   many = length-set numbers i x ∙ is.many;
-  below = λ j inside. here_or_not j inside (cases_lt j i) (cases_lt i j);
-}
-  where
-    elsewhere : (j : ℕ) → j < 55 → j ≢ i → get_or (set numbers i x) j 0 < modulus
-    elsewhere j inside other = rw (get_or-set_other numbers i j x 0 other) (is.below j inside)
-
-    here_or_not : (j : ℕ) → j < 55 → (j < i) ⊎ (i ≤ j) → (i < j) ⊎ (j ≤ i) → get_or (set numbers i x) j 0 < modulus
-    here_or_not j inside (inl before) other = elsewhere j inside (omega arith)
-    here_or_not j inside (inr _) (inl past) = elsewhere j inside (omega arith)
-    here_or_not j inside (inr low) (inr high) =
-        let same : i ≡ j = omega arith in
+  below = λ j inside. elim (cases_eq j i) [
+    | inl same ↦
         let within : i < length numbers = omega (arith, is.many) in
-        let Below : ℕ → Type 0 = λ p. get_or (set numbers i x) p 0 < modulus in
-        let at_i : get_or (set numbers i x) i 0 < modulus = rw (get_or-set_same numbers i x 0 within) small in
-        subst Below same at_i
+        rw (same, get_or-set_same numbers i x 0 within) small
+    | inr other ↦ rw (get_or-set_other numbers i j x 0 other) (is.below j inside)
+  ];
+}
 
 -- the first n numbers are those of the next cycle, the others those of the old one
 pub record IsCycling (old now : List ℕ) (n : ℕ) : Type 0 where
@@ -48,57 +40,30 @@ cycling_none numbers is = record {
 
 -- one number more
 pub cycling_more : (old now : List ℕ) (n : ℕ) → n < 55 → IsCycling old now n → IsCycling old (set now n (difference (get_or now n 0) (get_or now ((n + 31) % 55) 0))) (n + 1)
-cycling_more old now n inside is = record {
-  cycle = cycle_with now n x is.cycle (difference_below (get_or now n 0) (get_or now ((n + 31) % 55) 0));
-  early = λ i low small. early_at i low small (cases_lt i n);
-  late = λ i low great. late_at i low great (cases_lt i n);
-  rest = λ i high. elsewhere i (omega arith) ∙ is.rest i (omega arith);
-}
-  where
-    x : ℕ
-    x = difference (get_or now n 0) (get_or now ((n + 31) % 55) 0)
-
-    after : List ℕ
-    after = set now n x
-
-    within : n < length now
-    within = omega (arith, is.cycle.many)
-
-    here : get_or after n 0 ≡ x
-    here = get_or-set_same now n x 0 within
-
-    elsewhere : (i : ℕ) → i ≢ n → get_or after i 0 ≡ get_or now i 0
-    elsewhere i other = get_or-set_other now n i x 0 other
-
-    own : get_or now n 0 ≡ get_or old n 0
-    own = is.rest n (omega arith)
-
-    early_here : n < 24 → x ≡ difference (get_or old n 0) (get_or old (n + 31) 0)
-    early_here small =
-        let place : (n + 31) % 55 ≡ n + 31 = omega arith in
-        let other : get_or now ((n + 31) % 55) 0 ≡ get_or old (n + 31) 0 = ap (λ p. get_or now p 0) place ∙ is.rest (n + 31) (omega arith) in
-        cc (own, other)
-
-    early_at : (i : ℕ) → i < n + 1 → i < 24 → (i < n) ⊎ (n ≤ i) → get_or after i 0 ≡ difference (get_or old i 0) (get_or old (i + 31) 0)
-    early_at i low small (inl before) = elsewhere i (omega arith) ∙ is.early i before small
-    early_at i low small (inr at) =
-        let same : n ≡ i = omega arith in
-        let Early : ℕ → Type 0 = λ p. get_or after p 0 ≡ difference (get_or old p 0) (get_or old (p + 31) 0) in
-        subst Early same (here ∙ early_here (omega arith))
-
-    late_here : 24 ≤ n → x ≡ difference (get_or old n 0) (get_or after (n - 24) 0)
-    late_here great =
-        let place : (n + 31) % 55 ≡ n - 24 = omega arith in
-        let other : get_or now ((n + 31) % 55) 0 ≡ get_or after (n - 24) 0 = ap (λ p. get_or now p 0) place ∙ sym (elsewhere (n - 24) (omega arith)) in
-        cc (own, other)
-
-    late_at : (i : ℕ) → i < n + 1 → 24 ≤ i → (i < n) ⊎ (n ≤ i) → get_or after i 0 ≡ difference (get_or old i 0) (get_or after (i - 24) 0)
-    late_at i low great (inl before) =
-        elsewhere i (omega arith) ∙ (is.late i before great ∙ ap (λ b. difference (get_or old i 0) b) (sym (elsewhere (i - 24) (omega arith))))
-    late_at i low great (inr at) =
-        let same : n ≡ i = omega arith in
-        let Late : ℕ → Type 0 = λ p. get_or after p 0 ≡ difference (get_or old p 0) (get_or after (p - 24) 0) in
-        subst Late same (here ∙ late_here (omega arith))
+cycling_more old now n inside is =
+    let x = difference (get_or now n 0) (get_or now ((n + 31) % 55) 0) in
+    let after = set now n x in
+    let here : get_or after n 0 ≡ x = get_or-set_same now n x 0 (omega (arith, is.cycle.many)) in
+    let elsewhere : (i : ℕ) → i ≢ n → get_or after i 0 ≡ get_or now i 0 = λ i other. get_or-set_other now n i x 0 other in
+    let own : get_or now n 0 ≡ get_or old n 0 = is.rest n (omega arith) in
+    record {
+      cycle = cycle_with now n x is.cycle (difference_below (get_or now n 0) (get_or now ((n + 31) % 55) 0));
+      early = λ i low small. elim (cases_eq i n) [
+        | inl at ↦
+            let place : (n + 31) % 55 ≡ n + 31 = omega arith in
+            let other : get_or now ((n + 31) % 55) 0 ≡ get_or old (n + 31) 0 = ap (λ p. get_or now p 0) place ∙ is.rest (n + 31) (omega arith) in
+            rw at (here ∙ cc (own, other))
+        | inr other ↦ elsewhere i other ∙ is.early i (omega arith) small
+      ];
+      late = λ i low great. elim (cases_eq i n) [
+        | inl at ↦
+            let place : (n + 31) % 55 ≡ n - 24 = omega arith in
+            let other : get_or now ((n + 31) % 55) 0 ≡ get_or after (n - 24) 0 = ap (λ p. get_or now p 0) place ∙ sym (elsewhere (n - 24) (λ same. omega arith)) in
+            rw at (here ∙ cc (own, other))
+        | inr other ↦ elsewhere i other ∙ (is.late i (omega arith) great ∙ ap (λ b. difference (get_or old i 0) b) (sym (elsewhere (i - 24) (λ same. omega arith))))
+      ];
+      rest = λ i high. elsewhere i (λ same. omega arith) ∙ is.rest i (omega arith);
+    }
 
 -- in the end the next cycle
 pub cycling_all : (old now : List ℕ) → IsCycling old now 55 → IsNextCycle old now
@@ -132,37 +97,26 @@ numbers_rule seed j =
 
 -- the numbers of the next cycle come after those of a cycle in each sequence with the rule
 pub next_part : (y : ℕ → ℕ) (n : ℕ) (old new : List ℕ) → ((j : ℕ) → y (j + 55) ≡ difference (y j) (y (j + 31))) → IsPartOf y n old → IsNextCycle old new → IsPartOf y (n + 55) new
-next_part y n old new rule is next = record { at = λ i inside. anywhere i inside (cases_lt i 24) (cases_lt i 48) }
-  where
-    After : ℕ → Type 0
-    After i = get_or new i 0 ≡ y (n + 55 + i)
-
-    rule_at : (i : ℕ) → y (n + 55 + i) ≡ difference (y (n + i)) (y (n + (i + 31)))
-    rule_at i =
-        let here : n + 55 + i ≡ n + i + 55 = omega arith in
-        let other : n + i + 31 ≡ n + (i + 31) = omega arith in
-        ap y here ∙ (rule (n + i) ∙ ap (λ p. difference (y (n + i)) (y p)) other)
-
-    first_24 : (i : ℕ) → i < 24 → After i
-    first_24 i small =
-        next.early i small
-        ∙ (ap (λ a. difference a (get_or old (i + 31) 0)) (is.at i (omega arith))
-        ∙ (ap (λ b. difference (y (n + i)) b) (is.at (i + 31) (omega arith)) ∙ sym (rule_at i)))
-
-    later : (i : ℕ) → 24 ≤ i → i < 55 → After (i - 24) → After i
-    later i great inside before =
-        let place : n + 55 + (i - 24) ≡ n + (i + 31) = omega arith in
-        next.late i great inside
-        ∙ (ap (λ a. difference a (get_or new (i - 24) 0)) (is.at i inside)
-        ∙ (ap (λ b. difference (y (n + i)) b) (before ∙ ap y place) ∙ sym (rule_at i)))
-
-    next_24 : (i : ℕ) → 24 ≤ i → i < 48 → After i
-    next_24 i great small = later i great (omega arith) (first_24 (i - 24) (omega arith))
-
-    anywhere : (i : ℕ) → i < 55 → (i < 24) ⊎ (24 ≤ i) → (i < 48) ⊎ (48 ≤ i) → After i
-    anywhere i inside (inl small) _ = first_24 i small
-    anywhere i inside (inr great) (inl small) = next_24 i great small
-    anywhere i inside (inr _) (inr great) = later i (omega arith) inside (next_24 (i - 24) (omega arith) (omega arith))
+next_part y n old new rule is next =
+    let After : ℕ → Type 0 = λ i. get_or new i 0 ≡ y (n + 55 + i) in
+    let rule_at : (i : ℕ) → y (n + 55 + i) ≡ difference (y (n + i)) (y (n + (i + 31))) = λ i.
+    ap y (omega arith) ∙ (rule (n + i) ∙ ap (λ (p : ℕ). difference (y (n + i)) (y p)) (omega arith)) in
+    let first_24 : (i : ℕ) → i < 24 → After i = λ i small.
+    next.early i small ∙ (rw (is.at i (omega arith), is.at (i + 31) (omega arith)) (sym (rule_at i))) in
+    let later : (i : ℕ) → 24 ≤ i → i < 55 → After (i - 24) → After i = λ i great inside before.
+    let place : n + 55 + (i - 24) ≡ n + (i + 31) = omega arith in
+    next.late i great inside ∙ (rw (is.at i inside, before, place) (sym (rule_at i))) in
+    let next_24 : (i : ℕ) → 24 ≤ i → i < 48 → After i = λ i great small. later i great (omega arith) (first_24 (i - 24) (omega arith)) in
+    record {
+      at = λ i inside. elim (cases_lt i 24) [
+        | inl small ↦ first_24 i small
+        | inr great ↦
+            elim (cases_lt i 48) [
+              | inl small ↦ next_24 i great small
+              | inr high ↦ later i great inside (next_24 (i - 24) (omega arith) (omega arith))
+            ]
+      ];
+    }
 
 -- and so among the random numbers
 pub next_window : (seed n : ℕ) (old new : List ℕ) → IsWindow seed n old → IsNextCycle old new → IsWindow seed (n + 55) new

@@ -12,7 +12,7 @@ use Rattle.sgb_graph.specs.Graphs.{GraphData, HasNoFields, ends_from, ends_of, l
 use Rattle.sgb_graph.specs.Events.{Event, HasEndsBelow, Record, all_records, list_of, records_of}
 use Rattle.sgb_graph.specs.Descriptions.{Description, IsGraphOf}
 use Rattle.sgb_graph.specs.Made.{first_number, graph_described, number_after, record_in, records_of_events, vertex_with, vertices_of}
-use Rattle.sgb_graph.specs.Growth.{graph_data, link, record_from}
+use Rattle.sgb_graph.specs.Growth.{link, record_from}
 use Rattle.sgb_graph.specs.declared.fields.Ref.TheVariants.{At}
 use Rattle.sgb_graph.specs.declared.fields.Util.{Util}
 use Rattle.sgb_graph.specs.declared.fields.Util.TheVariants.{Nothing}
@@ -60,8 +60,7 @@ vertices_are : (lists : ℕ → List Link) (k : ℕ) (vertices : List Vertex) �
     → vertices ≡ map (λ p. vertex_with p.1.0 p.1.1 (lists p.0)) (enumerate_from k (zip (map (λ v. v.name) vertices) (map (λ v. v.util) vertices)))
 vertices_are lists k [] firsts = refl
 vertices_are lists k (x ∷ vertices) firsts =
-    let place : k + 0 ≡ k = omega arith in
-    let own : x.arcs ≡ first_number (lists k) = firsts 0 x refl ∙ ap (λ j. first_number (lists j)) place in
+    let own : x.arcs ≡ first_number (lists k) = firsts 0 x refl ∙ ap (λ (j : ℕ). first_number (lists j)) (omega arith) in
     ap (λ first. record x { arcs = first } ∷ vertices) own
     ∙ ap (λ xs. vertex_with x.name x.util (lists k) ∷ xs)
     (vertices_are lists (k + 1) vertices (λ i y is. let after : k + suc i ≡ k + 1 + i = omega arith in firsts (suc i) y is ∙ ap (λ j. first_number (lists j)) after))
@@ -80,11 +79,8 @@ records_are : (lists : ℕ → List Link) (k : ℕ) (records : List ArcRec) (wan
     → ((i : ℕ) (r : ArcRec) (a : Record) → slice_get records i ≡ Some r → slice_get wanted i ≡ Some a → r.next ≡ number_after (k + i) (lists a.start))
     → records ≡ map (λ p. record_in (lists p.1.start) p.0 p.1) (enumerate_from k wanted)
 records_are lists k [] [] tips lengths none nexts = refl
-records_are lists k [] (a ∷ wanted) tips lengths none nexts = absurd cc
-records_are lists k (r ∷ records) [] tips lengths none nexts = absurd cc
 records_are lists k (r ∷ records) (a ∷ wanted) tips lengths none nexts =
-    let place : k + 0 ≡ k = omega arith in
-    let next : r.next ≡ number_after k (lists a.start) = nexts 0 r a refl refl ∙ ap (λ j. number_after j (lists a.start)) place in
+    let next : r.next ≡ number_after k (lists a.start) = nexts 0 r a refl refl ∙ ap (λ (j : ℕ). number_after j (lists a.start)) (omega arith) in
     let own = record_is (lists a.start) k a r (same_first tips) (same_first lengths) (All-head HasNoFields r records none) next in
     ap (λ x. x ∷ records) own
     ∙ ap (λ xs. record_in (lists a.start) k a ∷ xs)
@@ -93,6 +89,7 @@ records_are lists k (r ∷ records) (a ∷ wanted) tips lengths none nexts =
   where
     same_first : {X : Type 0} {x y : X} {xs ys : List X} → x ∷ xs ≡ y ∷ ys → x ≡ y
     same_first e = cc
+records_are lists k _ _ tips lengths none nexts = absurd cc
 
 -- an event within the vertices has its records there
 pub records_within : (n : ℕ) (directed : Bool) (e : Event) → HasEndsBelow n e → All (λ r. r.start < n) (records_of directed e)
@@ -118,48 +115,22 @@ at_get P xs i x all is = subst P (get_or_from_slice_get xs i x x is) (all i x (s
 -- a graph that is described is the one that the description makes
 pub described_only : (d : Description) (g : GraphData) → IsGraphOf d g → g ≡ graph_described d
 described_only d g h =
-    ap (λ x. graph_data x g.m g.kinds g.util g.vertices g.records) h.id
-    ∙ ap (λ x. graph_data d.id x g.kinds g.util g.vertices g.records) h.arcs.count
-    ∙ ap (λ x. graph_data d.id count x g.util g.vertices g.records) h.kinds
-    ∙ ap (λ x. graph_data d.id count d.kinds x g.vertices g.records) h.util
-    ∙ ap (λ x. graph_data d.id count d.kinds d.util x g.records) vertices
-    ∙ ap (λ x. graph_data d.id count d.kinds d.util (vertices_of d) x) records
-  where
-    wanted : List Record
-    wanted = all_records d.directed d.events
-
-    count : ℕ
-    count = length wanted
-
-    lists : ℕ → List Link
-    lists v = list_of d.directed d.events v
-
-    chain_is : (v : ℕ) (x : Vertex) → slice_get g.vertices v ≡ Some x → links_of g.records x.arcs ≡ lists v
-    chain_is v x is = sym (chain_at g v x is) ∙ h.arcs.lists v (slice_get_within g.vertices v x is)
-
-    chain_ends : (v : ℕ) (x : Vertex) → slice_get g.vertices v ≡ Some x → ends_of g.records x.arcs ≡ true
-    chain_ends v x is = at_get (λ (y : Vertex). ends_of g.records y.arcs ≡ true) g.vertices v x h.arcs.ends is
-
-    first_at : (i : ℕ) (x : Vertex) → slice_get g.vertices i ≡ Some x → x.arcs ≡ first_number (lists (0 + i))
-    first_at i x is =
-        let place : i ≡ 0 + i = omega arith in
-        sym (first_is g.records x.arcs (chain_ends i x is)) ∙ ap first_number (chain_is i x is) ∙ ap (λ j. first_number (lists j)) place
-
-    vertices : g.vertices ≡ vertices_of d
-    vertices = vertices_are lists 0 g.vertices first_at
-        ∙ ap (λ ns. map (λ p. vertex_with p.1.0 p.1.1 (lists p.0)) (enumerate_from 0 (zip ns (map (λ v. v.util) g.vertices)))) h.names
-        ∙ ap (λ fs. map (λ p. vertex_with p.1.0 p.1.1 (lists p.0)) (enumerate_from 0 (zip d.names fs))) h.fields
-
-    next_at : (i : ℕ) (r : ArcRec) (a : Record) → slice_get g.records i ≡ Some r → slice_get wanted i ≡ Some a → r.next ≡ number_after (0 + i) (lists a.start)
-    next_at i r a is at =
-        let place : i ≡ 0 + i = omega arith in
-        let below : a.start < length g.vertices = at_get (λ (b : Record). b.start < length g.vertices) wanted i a (all_records_within (length g.vertices) d.directed d.events h.arcs.within) at in
-        let x = element_at g.vertices a.start below in
-        sym (after_is (lists a.start) g.records x.element.arcs (link i a.tip a.len) r (chain_ends a.start x.element x.is) (chain_is a.start x.element x.is) (each_on_list d.directed d.events i a at) is)
-        ∙ ap (λ j. number_after j (lists a.start)) place
-
-    records : g.records ≡ records_of_events d.directed d.events
-    records = records_are lists 0 g.records wanted h.arcs.tips h.arcs.lengths h.arc_fields next_at
+    let wanted = all_records d.directed d.events in
+    let lists : ℕ → List Link = λ v. list_of d.directed d.events v in
+    let chain_is : (v : ℕ) (x : Vertex) → slice_get g.vertices v ≡ Some x → links_of g.records x.arcs ≡ lists v = λ v x is. sym (chain_at g v x is) ∙ h.arcs.lists v (slice_get_within g.vertices v x is) in
+    let chain_ends : (v : ℕ) (x : Vertex) → slice_get g.vertices v ≡ Some x → ends_of g.records x.arcs ≡ true = λ v x is. at_get (λ (y : Vertex). ends_of g.records y.arcs ≡ true) g.vertices v x h.arcs.ends is in
+    let first_at : (i : ℕ) (x : Vertex) → slice_get g.vertices i ≡ Some x → x.arcs ≡ first_number (lists (0 + i)) = λ i x is.
+    sym (first_is g.records x.arcs (chain_ends i x is)) ∙ ap first_number (chain_is i x is) ∙ ap (λ (j : ℕ). first_number (lists j)) (omega arith) in
+    let vertices : g.vertices ≡ vertices_of d = vertices_are lists 0 g.vertices first_at
+    ∙ ap (λ ns. map (λ p. vertex_with p.1.0 p.1.1 (lists p.0)) (enumerate_from 0 (zip ns (map (λ v. v.util) g.vertices)))) h.names
+    ∙ ap (λ fs. map (λ p. vertex_with p.1.0 p.1.1 (lists p.0)) (enumerate_from 0 (zip d.names fs))) h.fields in
+    let next_at : (i : ℕ) (r : ArcRec) (a : Record) → slice_get g.records i ≡ Some r → slice_get wanted i ≡ Some a → r.next ≡ number_after (0 + i) (lists a.start) = λ i r a is at.
+    let below : a.start < length g.vertices = at_get (λ (b : Record). b.start < length g.vertices) wanted i a (all_records_within (length g.vertices) d.directed d.events h.arcs.within) at in
+    let x = element_at g.vertices a.start below in
+    sym (after_is (lists a.start) g.records x.element.arcs (link i a.tip a.len) r (chain_ends a.start x.element x.is) (chain_is a.start x.element x.is) (each_on_list d.directed d.events i a at) is)
+    ∙ ap (λ (j : ℕ). number_after j (lists a.start)) (omega arith) in
+    let records : g.records ≡ records_of_events d.directed d.events = records_are lists 0 g.records wanted h.arcs.tips h.arcs.lengths h.arc_fields next_at in
+    rw (← h.id, ← h.arcs.count, ← h.kinds, ← h.util, ← vertices, ← records) refl
 
 -- the vertices of a description have its names
 names_are : (lists : ℕ → List Link) (k : ℕ) (names : List (List ℕ)) (fields : List (List Util)) → length fields ≡ length names → map (λ v. v.name) (map (λ p. vertex_with p.1.0 p.1.1 (lists p.0)) (enumerate_from k (zip names fields))) ≡ names
@@ -174,21 +145,18 @@ described_names d same = names_are (list_of d.directed d.events) 0 d.names d.fie
 -- and its fields
 fields_are : (lists : ℕ → List Link) (k : ℕ) (names : List (List ℕ)) (fields : List (List Util)) → length fields ≡ length names → map (λ v. v.util) (map (λ p. vertex_with p.1.0 p.1.1 (lists p.0)) (enumerate_from k (zip names fields))) ≡ fields
 fields_are lists k [] [] same = refl
-fields_are lists k [] (field ∷ fields) same = absurd (omega arith)
-fields_are lists k (name ∷ names) [] same = absurd (omega arith)
 fields_are lists k (name ∷ names) (field ∷ fields) same = ap (λ fs. field ∷ fs) (fields_are lists (k + 1) names fields (omega arith))
+fields_are lists k _ _ same = absurd (omega arith)
 
 -- each has the first record of its list
 firsts_are : (lists : ℕ → List Link) (k : ℕ) (names : List (List ℕ)) (fields : List (List Util)) (i : ℕ) (x : Vertex) → slice_get (map (λ p. vertex_with p.1.0 p.1.1 (lists p.0)) (enumerate_from k (zip names fields))) i ≡ Some x → x.arcs ≡ first_number (lists (k + i))
-firsts_are lists k [] fields i x is = absurd cc
-firsts_are lists k (name ∷ names) [] i x is = absurd cc
 firsts_are lists k (name ∷ names) (field ∷ fields) zero x is =
     let place : k ≡ k + 0 = omega arith in
     let same : vertex_with name field (lists k) ≡ x = cc in
     ap (λ (y : Vertex). y.arcs) (sym same) ∙ ap (λ j. first_number (lists j)) place
 firsts_are lists k (name ∷ names) (field ∷ fields) (suc i) x is =
-    let place : k + 1 + i ≡ k + suc i = omega arith in
-    firsts_are lists (k + 1) names fields i x is ∙ ap (λ j. first_number (lists j)) place
+    firsts_are lists (k + 1) names fields i x is ∙ ap (λ (j : ℕ). first_number (lists j)) (omega arith)
+firsts_are lists k _ _ i x is = absurd cc
 
 -- the records that are wanted: their tips, their lengths, their fields, and each at its place
 record_tips : (lists : ℕ → List Link) (k : ℕ) (wanted : List Record) → map (λ r. r.tip) (map (λ p. record_in (lists p.1.start) p.0 p.1) (enumerate_from k wanted)) ≡ map (λ r. At r.tip) wanted
@@ -211,8 +179,7 @@ record_at lists k (b ∷ wanted) zero a is =
     let same : b ≡ a = cc in
     ap (λ c. Some (record_in (lists c.start) k c)) same ∙ ap (λ j. Some (record_in (lists a.start) j a)) place
 record_at lists k (b ∷ wanted) (suc i) a is =
-    let place : k + 1 + i ≡ k + suc i = omega arith in
-    record_at lists (k + 1) wanted i a is ∙ ap (λ j. Some (record_in (lists a.start) j a)) place
+    record_at lists (k + 1) wanted i a is ∙ ap (λ (j : ℕ). Some (record_in (lists a.start) j a)) (omega arith)
 
 -- the record of an arc that stands in a list
 record StandsIn (records : List ArcRec) (links : List Link) (l : Link) : Type 0 where
@@ -251,51 +218,38 @@ way_is (suc fuel) records (l ∷ links) short apart stand =
 
 -- the graph that a description makes is described
 pub described_is : (d : Description) → All (HasEndsBelow (length d.names)) d.events → length d.fields ≡ length d.names → IsGraphOf d (graph_described d)
-described_is d within same = record {
-  id = refl;
-  kinds = refl;
-  util = refl;
-  names = described_names d same;
-  fields = fields_are lists 0 d.names d.fields same;
-  arcs = record {
-    count = refl;
-    tips = record_tips lists 0 wanted;
-    lengths = record_lengths lists 0 wanted;
-    lists = λ v below. let x = element_at (vertices_of d) v below in chain_at (graph_described d) v x.element x.is ∙ ap (links_of records) (first_at v x.element x.is) ∙ (way v).arcs;
-    within = subst (λ n. All (HasEndsBelow n) d.events) (sym size) within;
-    ends = λ v x below. let y = element_at (vertices_of d) v below in
-        subst (λ z. ends_of records z.arcs ≡ true) (sym (get_or_from_slice_get (vertices_of d) v y.element x y.is))
-        (ap (ends_of records) (first_at v y.element y.is) ∙ (way v).ends);
-  };
-  arc_fields = record_fields lists 0 wanted;
-}
-  where
-    wanted : List Record
-    wanted = all_records d.directed d.events
-
-    records : List ArcRec
-    records = records_of_events d.directed d.events
-
-    lists : ℕ → List Link
-    lists v = list_of d.directed d.events v
-
-    size : length (vertices_of d) ≡ length d.names
-    size = sym (length-map (vertices_of d) (λ v. v.name)) ∙ ap length (described_names d same)
-
-    first_at : (v : ℕ) (x : Vertex) → slice_get (vertices_of d) v ≡ Some x → x.arcs ≡ first_number (lists v)
-    first_at v x is = let place : 0 + v ≡ v = omega arith in firsts_are lists 0 d.names d.fields v x is ∙ ap (λ j. first_number (lists j)) place
-
-    stands : (v : ℕ) (l : Link) → Contains (lists v) l → StandsIn records (lists v) l
-    stands v l has = record {
+described_is d within same =
+    let wanted = all_records d.directed d.events in
+    let records = records_of_events d.directed d.events in
+    let lists : ℕ → List Link = λ v. list_of d.directed d.events v in
+    let size : length (vertices_of d) ≡ length d.names = sym (length-map (vertices_of d) (λ v. v.name)) ∙ ap length (described_names d same) in
+    let first_at : (v : ℕ) (x : Vertex) → slice_get (vertices_of d) v ≡ Some x → x.arcs ≡ first_number (lists v) = λ v x is.
+    firsts_are lists 0 d.names d.fields v x is ∙ ap (λ (j : ℕ). first_number (lists j)) (omega arith) in
+    let stands : (v : ℕ) (l : Link) → Contains (lists v) l → StandsIn records (lists v) l = λ v l has. record {
       here = record_in (lists v) (0 + l.number) (record_from v l.tip l.len);
       is = record_at lists 0 wanted l.number (record_from v l.tip l.len) (only_on_list d.directed d.events v l has);
       tip = refl;
       len = refl;
-      next = let place : 0 + l.number ≡ l.number = omega arith in ap (λ j. number_after j (lists v)) place;
+      next = ap (λ (j : ℕ). number_after j (lists v)) (omega arith);
+    } in
+    let many : length records ≡ length wanted = length-map (enumerate_from 0 wanted) (λ p. record_in (lists p.1.start) p.0 p.1) ∙ length-enumerate_from 0 wanted in
+    let way : (v : ℕ) → IsWay (length records) records (lists v) = λ v.
+    way_is (length records) records (lists v) (omega (arith, many, short_list d.directed d.events v)) (apart_on_list d.directed d.events v) (stands v) in
+    record {
+      id = refl;
+      kinds = refl;
+      util = refl;
+      names = described_names d same;
+      fields = fields_are lists 0 d.names d.fields same;
+      arcs = record {
+        count = refl;
+        tips = record_tips lists 0 wanted;
+        lengths = record_lengths lists 0 wanted;
+        lists = λ v below. let x = element_at (vertices_of d) v below in chain_at (graph_described d) v x.element x.is ∙ ap (links_of records) (first_at v x.element x.is) ∙ (way v).arcs;
+        within = subst (λ n. All (HasEndsBelow n) d.events) (sym size) within;
+        ends = λ v x below. let y = element_at (vertices_of d) v below in
+            subst (λ z. ends_of records z.arcs ≡ true) (sym (get_or_from_slice_get (vertices_of d) v y.element x y.is))
+            (ap (ends_of records) (first_at v y.element y.is) ∙ (way v).ends);
+      };
+      arc_fields = record_fields lists 0 wanted;
     }
-
-    many : length records ≡ length wanted
-    many = length-map (enumerate_from 0 wanted) (λ p. record_in (lists p.1.start) p.0 p.1) ∙ length-enumerate_from 0 wanted
-
-    way : (v : ℕ) → IsWay (length records) records (lists v)
-    way v = way_is (length records) records (lists v) (omega (arith, many, short_list d.directed d.events v)) (apart_on_list d.directed d.events v) (stands v)

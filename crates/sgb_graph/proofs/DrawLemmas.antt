@@ -34,19 +34,19 @@ number_in seed n k j first place = rw (first, place)
 
 -- what stands at a place of a list
 pub number_at_place : (seed k j : ℕ) → j ≤ k + 54 → slice_index (back_to_first seed k) j ≡ x_number seed (55 + k - j)
-number_at_place seed k j inside = by_cases (cases_lt k j)
-  where
-    by_cases : (k < j) ⊎ (j ≤ k) → slice_index (back_to_first seed k) j ≡ x_number seed (55 + k - j)
-    by_cases (inl past) =
-        let i : ℕ = j - k in
-        let place : k + i ≡ j = omega arith in
-        ap (λ (p : ℕ). slice_index (back_to_first seed k) p) (sym place)
-        ∙ (back_past seed k i ∙ sym (number_in seed (55 + k - j) 0 i (omega arith) (omega arith)))
-    by_cases (inr early) =
-        let i : ℕ = k - j in
-        let whole : i + j ≡ k = omega arith in
-        ap (λ (p : ℕ). slice_index (back_to_first seed p) j) (sym whole)
-        ∙ (back_by seed i j ∙ sym (number_in seed (55 + k - j) i 0 (omega arith) (omega arith)))
+number_at_place seed k j inside =
+    elim (cases_lt k j) [
+      | inl past ↦
+          let i : ℕ = j - k in
+          let place : k + i ≡ j = omega arith in
+          ap (λ (p : ℕ). slice_index (back_to_first seed k) p) (sym place)
+          ∙ (back_past seed k i ∙ sym (number_in seed (55 + k - j) 0 i (omega arith) (omega arith)))
+      | inr early ↦
+          let i : ℕ = k - j in
+          let whole : i + j ≡ k = omega arith in
+          ap (λ (p : ℕ). slice_index (back_to_first seed p) j) (sym whole)
+          ∙ (back_by seed i j ∙ sym (number_in seed (55 + k - j) i 0 (omega arith) (omega arith)))
+    ]
 
 -- each later number is a difference of earlier ones
 pub later_number : (seed n : ℕ) → 55 < n → x_number seed n ≡ difference (x_number seed (n - 55)) (x_number seed (n - 24))

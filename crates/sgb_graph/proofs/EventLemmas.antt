@@ -34,10 +34,9 @@ records_push directed events e =
 list_push : (directed : Bool) (k : ℕ) (events : List Event) (e : Event) (v : ℕ) → list_from directed k (events ++ e ∷ []) v ≡ links_at v (k + length (all_records directed events)) (records_of directed e) ++ list_from directed k events v
 list_push directed k [] e v =
     let new = links_at v k (records_of directed e) in
-    let none : k + 0 ≡ k = omega arith in
     list_first directed k e [] v
     ∙ (ap (λ ls. ls ++ new) (list_none directed (k + length (records_of directed e)) v)
-    ∙ sym (ap (λ ls. links_at v (k + 0) (records_of directed e) ++ ls) (list_none directed k v) ∙ (append-nil (links_at v (k + 0) (records_of directed e)) ∙ ap (λ j. links_at v j (records_of directed e)) none)))
+    ∙ sym (ap (λ ls. links_at v (k + 0) (records_of directed e) ++ ls) (list_none directed k v) ∙ (append-nil (links_at v (k + 0) (records_of directed e)) ∙ ap (λ (j : ℕ). links_at v j (records_of directed e)) (omega arith))))
 list_push directed k (x ∷ events) e v =
     let own = records_of directed x in
     let from = k + length own in
@@ -152,57 +151,26 @@ edge_adds old new e adds = record {
   count = adds.count;
   tips = ap (map (λ r. r.tip)) adds.records ∙ map-append (λ r. r.tip) old.records _;
   lengths = ap (map (λ r. r.len)) adds.records ∙ map-append (λ r. r.len) old.records _;
-  lists = λ w. at_vertex w (cases_eq w low) (cases_eq w high);
+  lists = λ w. at_vertex w (cases_eq w (min e.from e.to)) (cases_eq w (max e.from e.to));
   within = adds.within;
   ends = adds.ends;
   size = adds.rest.size;
 }
   where
-    u : ℕ
-    u = e.from
-
-    v : ℕ
-    v = e.to
-
-    low : ℕ
-    low = min u v
-
-    high : ℕ
-    high = max u v
-
-    k : ℕ
-    k = length old.records
-
-    records : List Record
-    records = records_of false e
-
-    first_end : (a b : ℕ) → (a ≡ min a b) ⊎ (a ≡ max a b)
-    first_end a b = grind arith
-
-    second_end : (a b : ℕ) → (b ≡ min a b) ⊎ (b ≡ max a b)
-    second_end a b = grind arith
-
-    no_end : (w at : ℕ) → w ≢ low → w ≢ high → (at ≡ low) ⊎ (at ≡ high) → w ≡ at → ⊥
-    no_end w at not_low not_high (inl is) same = not_low (same ∙ is)
-    no_end w at not_low not_high (inr is) same = not_high (same ∙ is)
-
-    at_vertex : (w : ℕ) → (w ≡ low) ⊎ (w ≡ low → ⊥) → (w ≡ high) ⊎ (w ≡ high → ⊥) → chain_of new w ≡ links_at w k records ++ chain_of old w
+    at_vertex : (w : ℕ) → (w ≡ min e.from e.to) ⊎ (w ≡ min e.from e.to → ⊥) → (w ≡ max e.from e.to) ⊎ (w ≡ max e.from e.to → ⊥) → chain_of new w ≡ links_at w (length old.records) (records_of false e) ++ chain_of old w
     at_vertex w (inl is_low) (inl is_high) =
         let same : e.from ≡ e.to = omega arith in
         let here : w ≡ e.from = omega arith in
         let least : min e.from e.to ≡ e.from = omega arith in
         let most : max e.from e.to ≡ e.from = omega arith in
-        rw (here, least, most) (adds.loop same ∙ sym (ap (λ ls. ls ++ chain_of old e.from) (two_here k e.from e.len)))
+        rw (here, least, most) (adds.loop same ∙ sym (ap (λ ls. ls ++ chain_of old e.from) (two_here (length old.records) e.from e.len)))
     at_vertex w (inl is_low) (inr not_high) =
-        let apart : u ≢ v = λ same. not_high (omega arith) in
-        let distinct : low ≢ high = λ same. not_high (is_low ∙ same) in
-        rw is_low (adds.smaller apart ∙ sym (ap (λ ls. ls ++ chain_of old low) (first_here k low high e.len distinct)))
+        rw is_low (adds.smaller (λ same. omega arith) ∙ sym (ap (λ ls. ls ++ chain_of old (min e.from e.to)) (first_here (length old.records) (min e.from e.to) (max e.from e.to) e.len (λ same. omega arith))))
     at_vertex w (inr not_low) (inl is_high) =
-        let apart : u ≢ v = λ same. not_low (omega arith) in
-        let distinct : high ≢ low = λ same. not_low (is_high ∙ same) in
-        rw is_high (adds.greater apart ∙ sym (ap (λ ls. ls ++ chain_of old high) (second_here k low high e.len distinct)))
+        rw is_high (adds.greater (λ same. omega arith) ∙ sym (ap (λ ls. ls ++ chain_of old (max e.from e.to)) (second_here (length old.records) (min e.from e.to) (max e.from e.to) e.len (λ same. omega arith))))
     at_vertex w (inr not_low) (inr not_high) =
-        adds.others w (λ same. no_end w u not_low not_high (first_end u v) same) (λ same. no_end w v not_low not_high (second_end u v) same) ∙ sym (ap (λ ls. ls ++ chain_of old w) (neither_here k low high w e.len not_low not_high))
+        adds.others w (λ same. omega arith) (λ same. omega arith)
+        ∙ sym (ap (λ ls. ls ++ chain_of old w) (neither_here (length old.records) (min e.from e.to) (max e.from e.to) w e.len not_low not_high))
 
 -- one event more: the arc that was added last
 pub arc_more : (events : List Event) (e : Event) (old new : GraphData) → HasArcsOf true events old → AddsArc old new e.from e.to e.len → HasArcsOf true (events ++ e ∷ []) new

@@ -1,5 +1,5 @@
 -- The first cycle of random numbers, made of the numbers of Y.
-use Rattle.std.proofs.Common.{◌≡◌, ℕ, suc, ◌+◌, ◌-◌, ◌*◌, ◌/◌, ◌%◌, ◌^◌, ◌<◌, ◌≤◌, ◌≢◌, ◌⊎◌, List, replicate, get_or, set, true, refl, ap, sym, ◌∙◌, subst, inl, inr, arith, get_or-set_same, get_or-set_other}
+use Rattle.std.proofs.Common.{◌≡◌, ℕ, suc, ◌+◌, ◌-◌, ◌*◌, ◌/◌, ◌%◌, ◌^◌, ◌<◌, ◌≢◌, List, replicate, get_or, set, true, refl, ap, sym, ◌∙◌, subst, inl, inr, arith, get_or-set_same, get_or-set_other}
 use Rattle.std.specs.Prelude.{◌==◌}
 use Rattle.std.specs.List.{list_all, range_with_len}
 use Rattle.std.proofs.lemmas.Bool.{cases_lt}
@@ -31,9 +31,7 @@ y_by_two seed k = refl
 -- the same, counted from k
 pub y_later : (seed k : ℕ) → y_number seed (k + 2) ≡ difference (difference (y_number seed k) (y_number seed (k + 1))) (rotated seed (k + 1))
 y_later seed k =
-    let two : k + 2 ≡ suc (suc k) = omega arith in
-    let one : suc k ≡ k + 1 = omega arith in
-    ap (y_number seed) two ∙ (y_by_two seed k ∙ ap (λ j. difference (difference (y_number seed k) (y_number seed j)) (rotated seed (k + 1))) one)
+    ap (y_number seed) (omega arith) ∙ (y_by_two seed k ∙ ap (λ (j : ℕ). difference (difference (y_number seed k) (y_number seed j)) (rotated seed (k + 1))) (omega arith))
 
 -- a number rotated by one place is below 2^31
 pub rotated_once_below : (n : ℕ) → n < modulus → rotated_once n < modulus
@@ -42,39 +40,34 @@ rotated_once_below n small = omega arith
 -- one place more, where p q is 2^30
 turned_once : (s p q : ℕ) → 0 < p → p * q ≡ 2 ^ 30 → s / (2 * p) + s % (2 * p) * q ≡ rotated_once (s / p + s % p * (2 * q))
 turned_once s p q some whole =
-    let turned : 2 * p ≡ p * 2 = omega arith in
-    let high : s / (2 * p) ≡ s / p / 2 = ap (λ d. s / d) turned ∙ sym (div-div-eq-div-mul s p 2) in
+    let high : s / (2 * p) ≡ s / p / 2 = ap (λ (d : ℕ). s / d) (omega arith) ∙ sym (div-div-eq-div-mul s p 2) in
     let two : 0 < 2 = omega arith in
     let low : s % (2 * p) ≡ s / p % 2 * p + s % p = mod-mul s two some in
     rw (high, low) (omega (arith, ap (λ d. s / p % 2 * d) whole))
 
 -- rotated once more
 pub rotated_more : (seed k : ℕ) → seed < modulus → rotated seed (k + 1) ≡ rotated_once (rotated seed k)
-rotated_more seed k small = by_cases (cases_lt (k % 31) 30)
-  where
-    turns : ℕ → ℕ
-    turns j = seed / 2 ^ j + seed % 2 ^ j * 2 ^ (31 - j)
-
-    inside : (j : ℕ) → j < 30 → turns (j + 1) ≡ rotated_once (turns j)
-    inside j low =
-        let higher : j + 1 ≡ suc j = omega arith in
-        let more : 2 ^ (j + 1) ≡ 2 * 2 ^ j = ap (λ (i : ℕ). 2 ^ i) higher ∙ pow-succ' 2 j in
-        let left : 31 - j ≡ suc (30 - j) = omega arith in
-        let rest : 2 ^ (31 - j) ≡ 2 * 2 ^ (30 - j) = ap (λ (i : ℕ). 2 ^ i) left ∙ pow-succ' 2 (30 - j) in
-        let less : 31 - (j + 1) ≡ 30 - j = omega arith in
-        let all : j + (30 - j) ≡ 30 = omega arith in
-        let whole : 2 ^ j * 2 ^ (30 - j) ≡ 2 ^ 30 = sym (pow-add 2 j (30 - j)) ∙ ap (λ (i : ℕ). 2 ^ i) all in
-        rw (more, less, rest) (turned_once seed (2 ^ j) (2 ^ (30 - j)) (pow_pos j) whole)
-
-    by_cases : (k % 31 < 30) ⊎ (30 ≤ k % 31) → rotated seed (k + 1) ≡ rotated_once (rotated seed k)
-    by_cases (inl low) =
-        let next : (k + 1) % 31 ≡ k % 31 + 1 = omega arith in
-        ap turns next ∙ inside (k % 31) low
-    by_cases (inr high) =
-        let last : k % 31 ≡ 30 = omega arith in
-        let next : (k + 1) % 31 ≡ 0 = omega arith in
-        let around : turns 0 ≡ rotated_once (turns 30) = omega arith in
-        ap turns next ∙ (around ∙ ap (λ (j : ℕ). rotated_once (turns j)) (sym last))
+rotated_more seed k small =
+    let turns : ℕ → ℕ = λ j. seed / 2 ^ j + seed % 2 ^ j * 2 ^ (31 - j) in
+    let inside : (j : ℕ) → j < 30 → turns (j + 1) ≡ rotated_once (turns j) = λ j low.
+    let higher : j + 1 ≡ suc j = omega arith in
+    let more : 2 ^ (j + 1) ≡ 2 * 2 ^ j = ap (λ (i : ℕ). 2 ^ i) higher ∙ pow-succ' 2 j in
+    let left : 31 - j ≡ suc (30 - j) = omega arith in
+    let rest : 2 ^ (31 - j) ≡ 2 * 2 ^ (30 - j) = ap (λ (i : ℕ). 2 ^ i) left ∙ pow-succ' 2 (30 - j) in
+    let less : 31 - (j + 1) ≡ 30 - j = omega arith in
+    let all : j + (30 - j) ≡ 30 = omega arith in
+    let whole : 2 ^ j * 2 ^ (30 - j) ≡ 2 ^ 30 = sym (pow-add 2 j (30 - j)) ∙ ap (λ (i : ℕ). 2 ^ i) all in
+    rw (more, less, rest) (turned_once seed (2 ^ j) (2 ^ (30 - j)) (pow_pos j) whole) in
+    elim (cases_lt (k % 31) 30) [
+      | inl low ↦
+          let next : (k + 1) % 31 ≡ k % 31 + 1 = omega arith in
+          ap turns next ∙ inside (k % 31) low
+      | inr high ↦
+          let last : k % 31 ≡ 30 = omega arith in
+          let next : (k + 1) % 31 ≡ 0 = omega arith in
+          let around : turns 0 ≡ rotated_once (turns 30) = omega arith in
+          ap turns next ∙ (around ∙ ap (λ (j : ℕ). rotated_once (turns j)) (sym last))
+    ]
 
 -- Y(k) stands at this place of the first cycle, from 0
 abbrev pub place_of : ℕ → ℕ
@@ -127,44 +120,29 @@ filling_none seed small = record {
 -- one number more
 filling_more : (seed : ℕ) (numbers : List ℕ) (number next turned k : ℕ) → seed < modulus → k < 55 → IsFilling seed numbers number next turned k
     → IsFilling seed (set numbers (place_of k) number) next (difference (difference number next) (rotated_once turned)) (rotated_once turned) (k + 1)
-filling_more seed numbers number next turned k small inside is = record {
-  cycle = cycle_with numbers (place_of k) number is.cycle is.number_small;
-  number_small = is.next_small;
-  next_small = difference_below (difference number next) (rotated_once turned);
-  turned_small = rotated_once_below turned is.turned_small;
-  number_is = is.next_is;
-  next_is = next_more;
-  turned_is = turned_more;
-  filled = λ i within before. filled_at i within before (cases_lt (21 * (i + 1) % 55) k);
-}
-  where
-    turned_more : rotated_once turned ≡ rotated seed (k + 1)
-    turned_more = ap rotated_once is.turned_is ∙ sym (rotated_more seed k small)
-
-    next_more : difference (difference number next) (rotated_once turned) ≡ y_number seed (k + 1 + 1)
-    next_more =
-        let two : k + 2 ≡ k + 1 + 1 = omega arith in
-        ap (λ a. difference (difference a next) (rotated_once turned)) is.number_is
-        ∙ (ap (λ b. difference (difference (y_number seed k) b) (rotated_once turned)) is.next_is
-        ∙ (ap (λ w. difference (difference (y_number seed k) (y_number seed (k + 1))) w) turned_more
-        ∙ (sym (y_later seed k) ∙ ap (y_number seed) two)))
-
-    here : get_or (set numbers (place_of k) number) (place_of k) 0 ≡ number
-    here = get_or-set_same numbers (place_of k) number 0 (omega (arith, is.cycle.many))
-
-    filled_at : (i : ℕ) → i < 55 → 21 * (i + 1) % 55 < k + 1 → (21 * (i + 1) % 55 < k) ⊎ (k ≤ 21 * (i + 1) % 55)
-        → get_or (set numbers (place_of k) number) i 0 ≡ first_x seed (i + 1)
-    filled_at i within before (inl earlier) =
-        let apart : i ≢ place_of k = λ same. not_there (ap (λ p. 21 * (p + 1) % 55) same) in
-        get_or-set_other numbers (place_of k) i number 0 apart ∙ is.filled i within earlier
-      where
-        not_there : 21 * (i + 1) % 55 ≡ 21 * (place_of k + 1) % 55 → ⊥
-        not_there same = let there = number_there k inside in omega arith
-    filled_at i within before (inr at) =
-        let same : 21 * (i + 1) % 55 ≡ k = omega arith in
-        let place : place_of k ≡ i = ap place_of (sym same) ∙ place_back i within in
-        ap (λ p. get_or (set numbers (place_of k) number) p 0) (sym place)
-        ∙ (here ∙ (is.number_is ∙ ap (y_number seed) (sym same)))
+filling_more seed numbers number next turned k small inside is =
+    let turned_more : rotated_once turned ≡ rotated seed (k + 1) = ap rotated_once is.turned_is ∙ sym (rotated_more seed k small) in
+    let here = get_or-set_same numbers (place_of k) number 0 (omega (arith, is.cycle.many)) in
+    let there = number_there k inside in
+    record {
+      cycle = cycle_with numbers (place_of k) number is.cycle is.number_small;
+      number_small = is.next_small;
+      next_small = difference_below (difference number next) (rotated_once turned);
+      turned_small = rotated_once_below turned is.turned_small;
+      number_is = is.next_is;
+      next_is = rw (is.number_is, is.next_is, turned_more) (sym (y_later seed k) ∙ ap (y_number seed) (omega arith));
+      turned_is = turned_more;
+      filled = λ i within before. elim (cases_lt (21 * (i + 1) % 55) k) [
+        | inl earlier ↦
+            let apart : i ≢ place_of k = λ same. let at = ap (λ p. 21 * (p + 1) % 55) same in omega arith in
+            get_or-set_other numbers (place_of k) i number 0 apart ∙ is.filled i within earlier
+        | inr at ↦
+            let same : 21 * (i + 1) % 55 ≡ k = omega arith in
+            let place : place_of k ≡ i = ap place_of (sym same) ∙ place_back i within in
+            ap (λ p. get_or (set numbers (place_of k) number) p 0) (sym place)
+            ∙ (here ∙ (is.number_is ∙ ap (y_number seed) (sym same)))
+      ];
+    }
 
 -- the same, where the place is computed otherwise
 pub filling_at : (seed : ℕ) (numbers : List ℕ) (number next turned k p : ℕ) → seed < modulus → k < 55 → IsFilling seed numbers number next turned k → place_of k ≡ p

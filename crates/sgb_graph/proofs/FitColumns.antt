@@ -52,22 +52,20 @@ three_crossed false b c p x y = refl
 list_all-combined : {X Y Z : Type 0} (f : X → Y → Z) (h : Z → Bool) (p : X → Bool) (q : Y → Bool) (xs : List X) (ys : List Y) → ((x : X) (y : Y) → h (f x y) ≡ (p x && q y)) → length xs ≡ length ys
     → list_all h (combined f xs ys) ≡ (list_all p xs && list_all q ys)
 list_all-combined f h p q [] [] each e = refl
-list_all-combined f h p q [] (y ∷ ys) each e = absurd (omega (arith, e))
-list_all-combined f h p q (x ∷ xs) [] each e = absurd (omega (arith, e))
 list_all-combined f h p q (x ∷ xs) (y ∷ ys) each e =
     ap (λ b. b && list_all h (combined f xs ys)) (each x y)
     ∙ (ap (λ b. (p x && q y) && b) (list_all-combined f h p q xs ys each (omega (arith, e)))
     ∙ and_crossed (p x) (q y) (list_all p xs) (list_all q ys))
+list_all-combined f h p q _ _ each e = absurd (omega (arith, e))
 
 -- the rows of a table fit where its columns do
 rows_fit : (n m k : ℕ) (kinds : List Kind) (columns : List (List Util)) → AreColumns k columns → length kinds ≡ length columns → list_all (utils_fit n m kinds) (rows k columns) ≡ columns_fit n m kinds columns
 rows_fit n m k [] [] whole e = empty_fits n m k
-rows_fit n m k [] (column ∷ columns) whole e = absurd (omega (arith, e))
-rows_fit n m k (kind ∷ kinds) [] whole e = absurd (omega (arith, e))
 rows_fit n m k (kind ∷ kinds) (column ∷ columns) whole e =
     list_all-combined (λ (x : Util) row. x ∷ row) (utils_fit n m (kind ∷ kinds)) (util_fits n m kind) (utils_fit n m kinds) column (rows k columns) (λ x row. refl)
     (whole.0 ∙ sym (length-rows k columns whole.1))
     ∙ ap (λ b. list_all (util_fits n m kind) column && b) (rows_fit n m k kinds columns whole.1 (omega (arith, e)))
+rows_fit n m k _ _ whole e = absurd (omega (arith, e))
 
 -- so do the vertices that are kept
 items_fit : (n m : ℕ) (ps : List PlainVertex) (f : Fields) → AreKept ps f
@@ -91,13 +89,12 @@ vertices_fit_by m ps f seen kept view =
 records_fit : (n m : ℕ) (ps : List PlainRecord) (xs ys : List Util) (a b : Kind) → length xs ≡ length ps → length ys ≡ length ps
     → list_all (record_fits_by n m (a ∷ b ∷ [])) (records_with ps xs ys) ≡ (list_all (plain_fits n m) ps && list_all (util_fits n m a) xs && list_all (util_fits n m b) ys)
 records_fit n m [] [] [] a b hx hy = refl
-records_fit n m [] (x ∷ xs) ys a b hx hy = absurd (omega (arith, hx))
 records_fit n m [] [] (y ∷ ys) a b hx hy = absurd (omega (arith, hy))
-records_fit n m (p ∷ ps) [] ys a b hx hy = absurd (omega (arith, hx))
 records_fit n m (p ∷ ps) (x ∷ xs) [] a b hx hy = absurd (omega (arith, hy))
 records_fit n m (p ∷ ps) (x ∷ xs) (y ∷ ys) a b hx hy =
     ap (λ t. (plain_fits n m p && (util_fits n m a x && (util_fits n m b y && true))) && t) (records_fit n m ps xs ys a b (omega (arith, hx)) (omega (arith, hy)))
     ∙ three_crossed (plain_fits n m p) (util_fits n m a x) (util_fits n m b y) (list_all (plain_fits n m) ps) (list_all (util_fits n m a) xs) (list_all (util_fits n m b) ys)
+records_fit n m _ _ ys a b hx hy = absurd (omega (arith, hx))
 
 -- as they are seen
 pub records_fit_by : (n m : ℕ) (ps : List PlainRecord) (a b : Column) (seen : KeptRecords) → m ≡ length ps → HoldsMany (length ps) a → HoldsMany (length ps) b → kept_records ps a b ≡ seen

@@ -5,7 +5,7 @@ use Rattle.sgb_graph.specs.Sound.{vertex_kinds, arc_kinds, ref_fits, chain_fits,
 use Rattle.sgb_graph.specs.declared.fields.Kind.{Kind}
 use Rattle.sgb_graph.specs.declared.fields.Kind.TheVariants.{V, A}
 use Rattle.sgb_graph.specs.declared.fields.Ref.{Ref}
-use Rattle.sgb_graph.specs.declared.fields.Ref.TheVariants.{Null, One, At}
+use Rattle.sgb_graph.specs.declared.fields.Ref.TheVariants.{At}
 use Rattle.sgb_graph.specs.declared.fields.Util.{Util}
 use Rattle.sgb_graph.specs.declared.fields.Util.TheVariants.{Vertex as VertexField, Chain}
 use Rattle.sgb_graph.specs.declared.fields.Vertex.{Vertex}
@@ -21,9 +21,8 @@ record_fits_in n m kinds r = ref_fits n r.tip && chain_fits m r.next && utils_fi
 
 -- the vertex that a value names
 ref_fits_more : (n more : ℕ) (r : Ref) → n ≤ more → ref_fits n r ≡ true → ref_fits more r ≡ true
-ref_fits_more n more Null le e = refl
-ref_fits_more n more One le e = refl
 ref_fits_more n more (At v) le e = lt-ltb v more (omega (arith, ltb-true v n e))
+ref_fits_more n more _ le e = refl
 
 -- the first record of a chain
 pub chain_fits_more : (m more : ℕ) (first : Option ℕ) → m ≤ more → chain_fits m first ≡ true → chain_fits more first ≡ true
@@ -39,11 +38,10 @@ util_fits_more n m a b _ _ ln lm e = e
 -- utility fields
 utils_fit_in_more : (n m a b : ℕ) (kinds : List Kind) (utils : List Util) → n ≤ a → m ≤ b → utils_fit n m kinds utils ≡ true → utils_fit a b kinds utils ≡ true
 utils_fit_in_more n m a b [] [] ln lm e = refl
-utils_fit_in_more n m a b [] (util ∷ utils) ln lm e = e
-utils_fit_in_more n m a b (kind ∷ kinds) [] ln lm e = e
 utils_fit_in_more n m a b (kind ∷ kinds) (util ∷ utils) ln lm e =
     let parts = and_parts (util_fits n m kind util) (utils_fit n m kinds utils) e in
     and_from (util_fits a b kind util) (utils_fit a b kinds utils) (util_fits_more n m a b kind util ln lm parts.0) (utils_fit_in_more n m a b kinds utils ln lm parts.1)
+utils_fit_in_more n m a b _ _ ln lm e = e
 
 -- a vertex
 pub vertex_fits_in_more : (n m a b : ℕ) (kinds : List Kind) (v : Vertex) → n ≤ a → m ≤ b → vertex_fits_in n m kinds v ≡ true → vertex_fits_in a b kinds v ≡ true

@@ -1,5 +1,5 @@
 -- A graph with more records at the end is one, and keeps the chains that stay.
-use Rattle.std.proofs.Common.{◌≡◌, ◌≤◌, ◌<◌, ◌⊎◌, ℕ, Bool, true, ◌&&◌, List, [], ◌∷◌, ◌++◌, length, Option, Some, None, refl, ap, ◌∙◌, inl, inr, arith}
+use Rattle.std.proofs.Common.{◌≡◌, ◌≤◌, ◌<◌, ℕ, Bool, true, ◌&&◌, List, [], ◌∷◌, ◌++◌, length, Option, Some, None, refl, ap, ◌∙◌, inl, inr, arith}
 use Rattle.std.specs.Prelude.{slice_get, nat_le}
 use Rattle.std.specs.Option.{option_map_or}
 use Rattle.std.specs.List.{All, list_all}
@@ -9,9 +9,10 @@ use Rattle.std.proofs.lemmas.List.Elements.{All-nil, All-cons}
 use Rattle.std.proofs.lemmas.List.Folds.{list_all-append}
 use Rattle.sgb_vec.specs.Limits.{most_vertices}
 use Rattle.sgb_graph.specs.Graphs.{GraphData, ListsEnd, ends_of, links_of, chain_of}
-use Rattle.sgb_graph.specs.Sound.{IsGraph, chains_end, vertex_kinds, graph_kinds, chain_fits, utils_fit, lists_lead_to_vertices, vertex_fits, record_fits}
-use Rattle.sgb_graph.specs.Growth.{graph_data}
+use Rattle.sgb_graph.specs.Sound.{IsGraph, arc_kinds, chains_end, vertex_kinds, graph_kinds, chain_fits, utils_fit, lists_lead_to_vertices, vertex_fits, record_fits}
+use Rattle.sgb_graph.specs.Growth.{IsKept, graph_data}
 use Rattle.sgb_graph.specs.declared.fields.Kind.{Kind}
+use Rattle.sgb_graph.specs.declared.fields.Util.{Util}
 use Rattle.sgb_graph.specs.declared.fields.Vertex.{Vertex}
 use Rattle.sgb_graph.specs.declared.fields.ArcRec.{ArcRec}
 use Rattle.sgb_graph.proofs.TestLemmas.{at_each_below}
@@ -87,35 +88,44 @@ pub record NewFit (n : ℕ) (kinds : List Kind) (records more : List ArcRec) : T
 
 -- it is a graph
 pub grown_is_graph : (g : GraphData) (count : ℕ) (vertices : List Vertex) (more : List ArcRec) → HasParts g → length vertices ≡ length g.vertices → list_all (is_good (length g.vertices) g.kinds (g.records ++ more)) vertices ≡ true → NewFit (length g.vertices) g.kinds g.records more → HasParts (grown g count vertices more)
-grown_is_graph g count vertices more has same good new = record {
-  few = rw same has.few;
-  util = rw same (utils_fit_more n m longer_m (graph_kinds g.kinds) g.util longer has.util);
-  vertices = rw same (list_all-weaker (is_good n g.kinds all) (vertex_fits_in n longer_m g.kinds) vertices (λ x h. (and_parts (vertex_fits_in n longer_m g.kinds x) (lead_within longer_m all x.arcs) h).0) good);
-  records = rw same (list_all-append (record_fits_in n longer_m g.kinds) g.records more
-      ∙ and_from (list_all (record_fits_in n longer_m g.kinds) g.records) (list_all (record_fits_in n longer_m g.kinds) more)
-      (list_all-weaker (record_fits_in n m g.kinds) (record_fits_in n longer_m g.kinds) g.records (λ r h. record_fits_more n m longer_m g.kinds r longer h) has.records) new.fit);
-  ends = list_all-range (λ k. ends_of all (Some k)) 0 longer_m (λ k below. end_at k (omega arith) (cases_lt k m));
-  leads = list_all-weaker (is_good n g.kinds all) (λ (x : Vertex). lead_within longer_m all x.arcs) vertices (λ x h. (and_parts (vertex_fits_in n longer_m g.kinds x) (lead_within longer_m all x.arcs) h).1) good;
-}
-  where
-    n : ℕ
-    n = length g.vertices
+grown_is_graph g count vertices more has same good new =
+    let n = length g.vertices in
+    let m = length g.records in
+    let all = g.records ++ more in
+    let longer : m ≤ length all = omega (arith, length-append g.records more) in
+    record {
+      few = rw same has.few;
+      util = rw same (utils_fit_more n m (length all) (graph_kinds g.kinds) g.util longer has.util);
+      vertices = rw same (list_all-weaker (is_good n g.kinds all) (vertex_fits_in n (length all) g.kinds) vertices (λ x h. (and_parts (vertex_fits_in n (length all) g.kinds x) (lead_within (length all) all x.arcs) h).0) good);
+      records = rw same (list_all-append (record_fits_in n (length all) g.kinds) g.records more
+          ∙ and_from (list_all (record_fits_in n (length all) g.kinds) g.records) (list_all (record_fits_in n (length all) g.kinds) more)
+          (list_all-weaker (record_fits_in n m g.kinds) (record_fits_in n (length all) g.kinds) g.records (λ r h. record_fits_more n m (length all) g.kinds r longer h) has.records) new.fit);
+      ends = list_all-range (λ k. ends_of all (Some k)) 0 (length all) (λ k below. elim (cases_lt k m) [
+        | inl old ↦ ends_kept (length all) g.records more (Some k) longer (at_each_below (λ k. ends_of g.records (Some k)) m has.ends k old)
+        | inr late ↦ new.ends k late (omega arith)
+      ]);
+      leads = list_all-weaker (is_good n g.kinds all) (λ (x : Vertex). lead_within (length all) all x.arcs) vertices (λ x h. (and_parts (vertex_fits_in n (length all) g.kinds x) (lead_within (length all) all x.arcs) h).1) good;
+    }
 
-    m : ℕ
-    m = length g.records
-
-    all : List ArcRec
-    all = g.records ++ more
-
-    longer_m : ℕ
-    longer_m = length all
-
-    longer : m ≤ longer_m
-    longer = omega (arith, length-append g.records more)
-
-    end_at : (k : ℕ) → k < longer_m → (k < m) ⊎ (m ≤ k) → ends_of all (Some k) ≡ true
-    end_at k below (inl old) = ends_kept longer_m g.records more (Some k) longer (at_each_below (λ k. ends_of g.records (Some k)) m has.ends k old)
-    end_at k below (inr late) = new.ends k late below
+-- so is a graph with fields of other kinds, that fit them
+pub refilled : (g : GraphData) (kinds : List Kind) (own : List Util) (vertices : List Vertex) → IsKept g → length vertices ≡ length g.vertices → arc_kinds kinds ≡ arc_kinds g.kinds
+    → utils_fit (length g.vertices) (length g.records) (graph_kinds kinds) own ≡ true → list_all (vertex_fits_in (length g.vertices) (length g.records) kinds) vertices ≡ true → lists_lead_to_vertices vertices g.records ≡ true
+    → IsKept (record g { kinds = kinds; util = own; vertices = vertices })
+refilled g kinds own vertices kept same arcs fits all leads =
+    let has = parts_of g kept.graph in
+    let n = length g.vertices in
+    let m = length g.records in
+    record {
+      graph = graph_from_parts (record g { kinds = kinds; util = own; vertices = vertices }) (record {
+        few = rw same has.few;
+        util = rw same fits;
+        vertices = rw same all;
+        records = rw same (list_all-weaker (record_fits_in n m g.kinds) (record_fits_in n m kinds) g.records (λ r h. rw arcs h) has.records);
+        ends = has.ends;
+        leads = leads;
+      });
+      count = kept.count;
+    }
 
 -- the chain of a vertex that stays
 pub chain_kept : (g : GraphData) (count : ℕ) (vertices : List Vertex) (more : List ArcRec) (w : ℕ) → HasParts g → slice_get vertices w ≡ slice_get g.vertices w → chain_of (grown g count vertices more) w ≡ chain_of g w

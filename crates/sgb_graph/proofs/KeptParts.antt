@@ -21,39 +21,19 @@ use Rattle.sgb_graph.proofs.Growing.{parts_of}
 -- a value that fits a kind is of that kind
 fits_kind : (n m : ℕ) (kind : Kind) (util : Util) → util_fits n m kind util ≡ true → util_kind util ≡ kind
 fits_kind n m Z Nothing e = refl
-fits_kind n m Z (Int i) e = absurd cc
-fits_kind n m Z (VertexField r) e = absurd cc
-fits_kind n m Z (Str s) e = absurd cc
-fits_kind n m Z (Chain first) e = absurd cc
-fits_kind n m I Nothing e = absurd cc
 fits_kind n m I (Int i) e = refl
-fits_kind n m I (VertexField r) e = absurd cc
-fits_kind n m I (Str s) e = absurd cc
-fits_kind n m I (Chain first) e = absurd cc
-fits_kind n m V Nothing e = absurd cc
-fits_kind n m V (Int i) e = absurd cc
 fits_kind n m V (VertexField r) e = refl
-fits_kind n m V (Str s) e = absurd cc
-fits_kind n m V (Chain first) e = absurd cc
-fits_kind n m S Nothing e = absurd cc
-fits_kind n m S (Int i) e = absurd cc
-fits_kind n m S (VertexField r) e = absurd cc
 fits_kind n m S (Str s) e = refl
-fits_kind n m S (Chain first) e = absurd cc
-fits_kind n m A Nothing e = absurd cc
-fits_kind n m A (Int i) e = absurd cc
-fits_kind n m A (VertexField r) e = absurd cc
-fits_kind n m A (Str s) e = absurd cc
 fits_kind n m A (Chain first) e = refl
+fits_kind n m _ _ e = absurd cc
 
 -- values that fit kinds are of those kinds
 fits_kinds : (n m : ℕ) (kinds : List Kind) (utils : List Util) → utils_fit n m kinds utils ≡ true → map util_kind utils ≡ kinds
 fits_kinds n m [] [] e = refl
-fits_kinds n m [] (u ∷ utils) e = absurd cc
-fits_kinds n m (a ∷ kinds) [] e = absurd cc
 fits_kinds n m (a ∷ kinds) (u ∷ utils) e =
     let parts = and_parts (util_fits n m a u) (utils_fit n m kinds utils) e in
     ap (λ k. k ∷ map util_kind utils) (fits_kind n m a u parts.0) ∙ ap (λ ks. a ∷ ks) (fits_kinds n m kinds utils parts.1)
+fits_kinds n m _ _ e = absurd cc
 
 -- a number that may fit can be kept in a word
 fits_word : (first : Option ℕ) → chain_fits most first ≡ true → IfSome first (λ k. k + 1 < 2 ^ 64)
@@ -87,15 +67,8 @@ pair_kinds a b c d kinds one other = (cc, cc)
 
 -- kinds are those of vertices, the two of arcs, and those of the graph
 kinds_parted : (kinds : List Kind) (a b : Kind) → a ∷ b ∷ [] ≡ arc_kinds kinds → vertex_kinds kinds ++ (arc_kinds kinds ++ graph_kinds kinds) ≡ kinds
-kinds_parted [] a b e = absurd cc
-kinds_parted (k ∷ []) a b e = absurd cc
-kinds_parted (k ∷ l ∷ []) a b e = absurd cc
-kinds_parted (k ∷ l ∷ m ∷ []) a b e = absurd cc
-kinds_parted (k ∷ l ∷ m ∷ n ∷ []) a b e = absurd cc
-kinds_parted (k ∷ l ∷ m ∷ n ∷ o ∷ []) a b e = absurd cc
-kinds_parted (k ∷ l ∷ m ∷ n ∷ o ∷ p ∷ []) a b e = absurd cc
-kinds_parted (k ∷ l ∷ m ∷ n ∷ o ∷ p ∷ q ∷ []) a b e = absurd cc
 kinds_parted (k ∷ l ∷ m ∷ n ∷ o ∷ p ∷ q ∷ r ∷ kinds) a b e = refl
+kinds_parted _ a b e = absurd cc
 
 -- the graph that keeps the vertices and records of these parts is the graph that they make up
 pub kept_same : (text : List ℕ) (count : ℕ) (kinds : List Kind) (own : List Util) (vertices : KeptVertices) (records : KeptRecords) → IsGraph (graph_data text count kinds own vertices.items records.items)

@@ -1,5 +1,5 @@
 -- Records as they are kept: how many, each by its place, one more.
-use Rattle.std.proofs.Common.{◌≡◌, ◌<◌, ◌+◌, ℕ, suc, zero, List, [], ◌∷◌, ◌++◌, length, get_or, slice_get, Some, refl, ap, sym, subst, ◌∙◌, arith, append_assoc}
+use Rattle.std.proofs.Common.{◌≡◌, ◌<◌, ◌+◌, ℕ, suc, List, [], ◌∷◌, ◌++◌, length, get_or, slice_get, Some, refl, ap, sym, subst, ◌∙◌, arith, append_assoc}
 use Rattle.std.proofs.lemmas.List.{length_push}
 use Rattle.sgb_graph.specs.inner.Columns.{HoldsMany, column_kind, values}
 use Rattle.sgb_graph.specs.inner.KeptRecords.{KeptRecords, kept_number, kept_records, records_with}
@@ -19,9 +19,8 @@ record_with p x y = record { tip = p.tip; next = kept_number p.next; len = p.len
 pub length-records_with :
     (ps : List PlainRecord) (xs ys : List Util) → length xs ≡ length ps → length ys ≡ length ps → length (records_with ps xs ys) ≡ length ps
 length-records_with [] xs ys hx hy = refl
-length-records_with (p ∷ ps) [] ys hx hy = absurd (omega arith)
-length-records_with (p ∷ ps) (x ∷ xs) [] hx hy = absurd (omega arith)
 length-records_with (p ∷ ps) (x ∷ xs) (y ∷ ys) hx hy = ap suc (length-records_with ps xs ys (omega arith) (omega arith))
+length-records_with _ _ _ hx hy = absurd (omega arith)
 
 pub length-kept_records :
     (ps : List PlainRecord) (a b : Column) → HoldsMany (length ps) a → HoldsMany (length ps) b → length (kept_records ps a b).items ≡ length ps
@@ -32,23 +31,18 @@ pub slice_get-records_with :
     (ps : List PlainRecord) (xs ys : List Util) (k : ℕ) (p : PlainRecord) (x y : Util) → k < length ps → p ≡ get_or ps k p →
     slice_get xs k ≡ Some x → slice_get ys k ≡ Some y → slice_get (records_with ps xs ys) k ≡ Some (record_with p x y)
 slice_get-records_with [] xs ys k p x y l hp hx hy = absurd (omega arith)
-slice_get-records_with (q ∷ qs) [] ys k p x y l hp hx hy = cc
-slice_get-records_with (q ∷ qs) (u ∷ us) [] k p x y l hp hx hy = cc
-slice_get-records_with (q ∷ qs) (u ∷ us) (v ∷ vs) zero p x y l hp hx hy = cc
 slice_get-records_with (q ∷ qs) (u ∷ us) (v ∷ vs) (suc k) p x y l hp hx hy =
     slice_get-records_with qs us vs k p x y (omega arith) hp hx hy
+slice_get-records_with (q ∷ qs) _ _ _ p x y l hp hx hy = cc
 
 -- one record more
 pub records_with-push :
     (ps : List PlainRecord) (xs ys : List Util) (p : PlainRecord) (x y : Util) → length xs ≡ length ps → length ys ≡ length ps →
     records_with (ps ++ p ∷ []) (xs ++ x ∷ []) (ys ++ y ∷ []) ≡ records_with ps xs ys ++ record_with p x y ∷ []
 records_with-push [] [] [] p x y hx hy = refl
-records_with-push [] (u ∷ us) ys p x y hx hy = absurd (omega arith)
-records_with-push [] [] (v ∷ vs) p x y hx hy = absurd (omega arith)
-records_with-push (q ∷ qs) [] ys p x y hx hy = absurd (omega arith)
-records_with-push (q ∷ qs) (u ∷ us) [] p x y hx hy = absurd (omega arith)
 records_with-push (q ∷ qs) (u ∷ us) (v ∷ vs) p x y hx hy =
     ap (λ rs. record_with q u v ∷ rs) (records_with-push qs us vs p x y (omega arith) (omega arith))
+records_with-push _ _ _ p x y hx hy = absurd (omega arith)
 
 pub kept_records-push :
     (ps : List PlainRecord) (a b a' b' : Column) (p : PlainRecord) (x y : Util) → HoldsMany (length ps) a → HoldsMany (length ps) b →
@@ -97,23 +91,13 @@ pub record_pushed :
     ((n : ℕ) → HoldsMany n a' → values (1 + n) c ≡ values n a' ++ r.a ∷ []) → ((n : ℕ) → HoldsMany n b' → values (1 + n) d ≡ values n b' ++ r.b ∷ []) →
     record_with p r.a r.b ≡ r → IsMore ps a b rs c d r
 record_pushed ps rs p a b a' b' c d r ha hb pushed ka kb va vb one other is =
+    let n = length ps in
+    let long : length (ps ++ p ∷ []) ≡ 1 + n = omega (arith, length_push ps p) in
+    let more_a = one n (rw (va n) ha) ∙ ap (λ us. us ++ r.a ∷ []) (va n) in
+    let more_b = other n (rw (vb n) hb) ∙ ap (λ us. us ++ r.b ∷ []) (vb n) in
+    let items = kept_records-push ps a b c d p r.a r.b ha hb more_a more_b ∙ ap (λ (x : ArcRec). (kept_records ps a b).items ++ x ∷ []) is in
     subst (λ (l : List PlainRecord). IsMore ps a b l c d r) (sym pushed) record {
       first = rw long (HoldsMany-push n a c r.a ha more_a);
       second = rw long (HoldsMany-push n b d r.b hb more_b);
       same = rw (ka, kb) (ap (λ (rs : List ArcRec). record (kept_records ps a b) { items = rs }) items);
     }
-  where
-    n : ℕ
-    n = length ps
-
-    long : length (ps ++ p ∷ []) ≡ 1 + n
-    long = omega (arith, length_push ps p)
-
-    more_a : values (1 + n) c ≡ values n a ++ r.a ∷ []
-    more_a = one n (rw (va n) ha) ∙ ap (λ us. us ++ r.a ∷ []) (va n)
-
-    more_b : values (1 + n) d ≡ values n b ++ r.b ∷ []
-    more_b = other n (rw (vb n) hb) ∙ ap (λ us. us ++ r.b ∷ []) (vb n)
-
-    items : (kept_records (ps ++ p ∷ []) c d).items ≡ (kept_records ps a b).items ++ r ∷ []
-    items = kept_records-push ps a b c d p r.a r.b ha hb more_a more_b ∙ ap (λ (x : ArcRec). (kept_records ps a b).items ++ x ∷ []) is

@@ -2,7 +2,7 @@
 use Rattle.std.proofs.Common.{◌≡◌, ◌≢◌, ◌<◌, ◌≤◌, ◌+◌, ℕ, zero, suc, ℤ, pos, Option, Some, None, List, [], ◌∷◌, ◌++◌, length, map, replicate, get_or, set, drop, take, refl, ap, sym, subst, ◌∙◌, arith}
 use Rattle.std.specs.Prelude.{slice_get, option_map}
 use Rattle.std.specs.Option.{option_and_then}
-use Rattle.std.proofs.Math.Seq.{map-set_same, take-append_seam}
+use Rattle.std.proofs.Math.Seq.{map-set_same}
 use Rattle.std.proofs.Math.ListN.{get_or-map}
 use Rattle.std.proofs.lemmas.Int.{to_z-of_z}
 use mir.Syntax.{w64}
@@ -27,6 +27,7 @@ use Rattle.sgb_graph.specs.declared.vertices.Fields.{Fields}
 use Rattle.sgb_graph.specs.declared.vertices.Numbers.{Numbers}
 use Rattle.sgb_graph.specs.declared.vertices.Numbers.TheVariants.{Inside, Beside}
 use Rattle.sgb_graph.specs.declared.vertices.PlainVertex.{PlainVertex}
+use Rattle.sgb_vec.proofs.SumRowLemmas.{take_written}
 use Rattle.sgb_graph.proofs.ColumnValues.{HasPlace-below, unused, values-unused}
 use Rattle.sgb_graph.proofs.Lists.{at_place-is_set, length-at_place, map-map}
 use Rattle.sgb_graph.proofs.Tables.{at_place-at_place, at_place-same, at_place-set, combined-at_first, combined-at_second, combined-map_second, combined-push, combined_at, length-combined, length-rows, rows-at, rows-map, rows-push, rows-replicate}
@@ -128,13 +129,8 @@ replicate_whole n (suc k) x = (length-replicate n x, replicate_whole n k x)
 pub unused_columns : (ps : List PlainVertex) (f : Fields) → field_kinds f ≡ replicate 6 Z → field_columns ps f ≡ replicate 6 (replicate (length ps) Nothing)
 unused_columns ps f e =
     let n = length ps in
-    let u : column_kind f.u ≡ Z = cc in
-    let v : column_kind f.v ≡ Z = cc in
-    let w : column_kind f.w ≡ Z = cc in
-    let x : numbers_kind f.x ≡ Z = cc in
-    let y : numbers_kind f.y ≡ Z = cc in
-    let z : numbers_kind f.z ≡ Z = cc in
-    rw (unused_values n f.u u, unused_values n f.v v, unused_values n f.w w, unused_numbers 0 ps f.x x, unused_numbers 1 ps f.y y, unused_numbers 2 ps f.z z) refl
+    let at : (k : ℕ) → get_or (field_kinds f) k Z ≡ get_or (replicate 6 Z) k Z = λ k. ap (λ ks. get_or ks k Z) e in
+    rw (unused_values n f.u (at 0), unused_values n f.v (at 1), unused_values n f.w (at 2), unused_numbers 0 ps f.x (at 3), unused_numbers 1 ps f.y (at 4), unused_numbers 2 ps f.z (at 5)) refl
 
 -- they are kept
 pub unused_kept : (ps : List PlainVertex) (f : Fields) → field_kinds f ≡ replicate 6 Z → AreKept ps f
@@ -202,36 +198,17 @@ taken_none place ps found = record { bare = refl; here = refl; others = λ q oth
 -- one more is
 pub taken_more : (place k : ℕ) (value : ℤ) (old new : List PlainVertex) (p q : PlainVertex) (found : List Util) (u : Util) → k < length new → q ≡ record (get_or new k p) { ints = set (get_or new k p).ints place value } → number_at place q ≡ value
     → slice_get found k ≡ Some u → number_or_zero u ≡ Int value → TakenSoFar place k old new found → TakenSoFar place (k + 1) old (set new k q) found
-taken_more place k value old new p q found u below is at given some so_far = record {
-  bare = map-set_same bare_vertex new k q p (rw is refl) ∙ so_far.bare;
-  here = taken;
-  others = λ j other. map-set_same (number_at j) new k q p (kept j other) ∙ so_far.others j other;
-}
-  where
-    kept : (j : ℕ) → j ≢ place → number_at j q ≡ number_at j (get_or new k p)
-    kept j other = rw is (get_or-set_other (get_or new k p).ints place j value (pos 0) other)
-
-    f : PlainVertex → Util
-    f x = Int (number_at place x)
-
-    now : take (k + 1) (map f (set new k q)) ≡ take k (map f new) ++ Int value ∷ []
-    now =
-        ap (take (k + 1)) (map-set f new k q)
-        ∙ (take_more_set (map f new) k (f q) (omega (arith, below, length-map new f))
-        ∙ ap (λ i. take k (map f new) ++ Int i ∷ []) at)
-
-    within : k < length (map number_or_zero found)
-    within = omega (arith, slice_get_within found k u given, length-map found number_or_zero)
-
-    found_here : get_or (map number_or_zero found) k (number_or_zero u) ≡ Int value
-    found_here =
-        get_or-map number_or_zero found k u ∙ (ap number_or_zero (get_or_from_slice_get found k u u given) ∙ some)
-
-    taken : take (k + 1) (map f (set new k q)) ≡ take (k + 1) (map number_or_zero found)
-    taken =
-        now
-        ∙ (ap (λ us. us ++ Int value ∷ []) so_far.here
-        ∙ (ap (λ w. take k (map number_or_zero found) ++ w ∷ []) (sym found_here) ∙ sym (take_more (map number_or_zero found) k (number_or_zero u) within)))
+taken_more place k value old new p q found u below is at given some so_far =
+    let f : PlainVertex → Util = λ x. Int (number_at place x) in
+    let kept : (j : ℕ) → j ≢ place → number_at j q ≡ number_at j (get_or new k p) = λ j other. rw is (get_or-set_other (get_or new k p).ints place j value (pos 0) other) in
+    let now = take_more_set (map f new) k (f q) (omega (arith, below, length-map new f)) in
+    let before = take_more (map number_or_zero found) k (number_or_zero u) (omega (arith, slice_get_within found k u given, length-map found number_or_zero)) in
+    let here : get_or (map number_or_zero found) k (number_or_zero u) ≡ Int value = get_or-map number_or_zero found k u ∙ (ap number_or_zero (get_or_from_slice_get found k u u given) ∙ some) in
+    record {
+      bare = map-set_same bare_vertex new k q p (rw is refl) ∙ so_far.bare;
+      here = rw (map-set f new k q, now, before, here, so_far.here, at) refl;
+      others = λ j other. map-set_same (number_at j) new k q p (kept j other) ∙ so_far.others j other;
+    }
 
 -- all are
 pub taken_all : (place k : ℕ) (old new : List PlainVertex) (found : List Util) → k ≡ length new → k ≡ length found → TakenSoFar place k old new found → TakeNumbers place old new found
@@ -294,35 +271,11 @@ put_columns v x y z columns =
 
 -- their rows have numbers
 number_rows : (n : ℕ) (columns : List (List Util)) → rows n (number_columns columns) ≡ map some_numbers (rows n columns)
-number_rows n columns =
-    let third = at_place (map number_or_zero) 3 columns in
-    rows-map number_or_zero n 5 (at_place (map number_or_zero) 4 third)
-    ∙ (ap (map (at_place number_or_zero 5)) (rows-map number_or_zero n 4 third ∙ ap (map (at_place number_or_zero 4)) (rows-map number_or_zero n 3 columns))
-    ∙ (map-map (at_place number_or_zero 5) (at_place number_or_zero 4) (map (at_place number_or_zero 3) (rows n columns))
-    ∙ map-map (λ r. at_place number_or_zero 5 (at_place number_or_zero 4 r)) (at_place number_or_zero 3) (rows n columns)))
+number_rows n columns = simp (rows-map, map-map)
 
 -- and these
 put_rows : (n v : ℕ) (x y z : ℤ) (columns : List (List Util)) → rows n (put_columns v x y z columns) ≡ at_place (put_numbers x y z) v (rows n columns)
-put_rows n v x y z columns =
-    rows-at cz n v 5 (at_place (at_place cy v) 4 (at_place (at_place cx v) 3 columns))
-    ∙ (ap (at_place (at_place cz 5) v) (rows-at cy n v 4 (at_place (at_place cx v) 3 columns) ∙ ap (at_place (at_place cy 4) v) (rows-at cx n v 3 columns))
-    ∙ (ap (at_place (at_place cz 5) v) (at_place-at_place (at_place cy 4) (at_place cx 3) v (rows n columns))
-    ∙ (at_place-at_place (at_place cz 5) (λ r. at_place cy 4 (at_place cx 3 r)) v (rows n columns)
-    ∙ at_place-same (λ r. at_place cz 5 (at_place cy 4 (at_place cx 3 r))) (put_numbers x y z) v (rows n columns) written)))
-  where
-    cx : Util → Util
-    cx u = Int x
-
-    cy : Util → Util
-    cy u = Int y
-
-    cz : Util → Util
-    cz u = Int z
-
-    written : (r : List Util) → at_place cz 5 (at_place cy 4 (at_place cx 3 r)) ≡ put_numbers x y z r
-    written r =
-        at_place-set (Int z) 5 (at_place cy 4 (at_place cx 3 r))
-        ∙ ap (λ s. set s 5 (Int z)) (at_place-set (Int y) 4 (at_place cx 3 r) ∙ ap (λ s. set s 4 (Int y)) (at_place-set (Int x) 3 r))
+put_rows n v x y z columns = simp (rows-at, at_place-at_place) (at_place-same _ (put_numbers x y z) v (rows n columns) (λ r. simp at_place-set))
 
 -- a number that is put into a vertex
 put_column : (place v : ℕ) (i : ℤ) (ps : List PlainVertex) (q : PlainVertex) (us : List Util) → number_at place q ≡ i → map (λ p. Int (number_at place p)) ps ≡ us → map (λ p. Int (number_at place p)) (set ps v q) ≡ at_place (λ _. Int i) v us
@@ -359,13 +312,8 @@ put_all old f new p v x y z hold here =
 pub kinds_record : (ps : List PlainVertex) (f : Fields) (u v w x y z : Kind) → field_kinds f ≡ u ∷ v ∷ w ∷ x ∷ y ∷ z ∷ []
     → kept_vertices ps f ≡ record { u = u; v = v; w = w; x = x; y = y; z = z; items = kept_items ps f }
 kinds_record ps f u v w x y z e =
-    let eu : column_kind f.u ≡ u = cc in
-    let ev : column_kind f.v ≡ v = cc in
-    let ew : column_kind f.w ≡ w = cc in
-    let ex : numbers_kind f.x ≡ x = cc in
-    let ey : numbers_kind f.y ≡ y = cc in
-    let ez : numbers_kind f.z ≡ z = cc in
-    rw (eu, ev, ew, ex, ey, ez) refl
+    let at : (k : ℕ) → get_or (field_kinds f) k Z ≡ get_or (u ∷ v ∷ w ∷ x ∷ y ∷ z ∷ []) k Z = λ k. ap (λ ks. get_or ks k Z) e in
+    rw (at 0, at 1, at 2, at 3, at 4, at 5) refl
 
 -- a value put after those of a column
 abbrev pub AddsValue : Column → Column → Util → Type 0
@@ -411,10 +359,9 @@ ints_row ps p x y z ints kept =
 
 -- columns with one row more
 columns_row : (n : ℕ) (columns : List (List Util)) (row : List Util) → length columns ≡ length row → AreColumns n columns → AreColumns (suc n) (with_row columns row)
-columns_row n [] [] long are = tt
-columns_row n [] (x ∷ row) long are = tt
 columns_row n (column ∷ columns) [] long are = absurd (omega (arith, long))
 columns_row n (column ∷ columns) (x ∷ row) long are = (omega (arith, are.0, length_push column x), columns_row n columns row (omega (arith, long)) are.1)
+columns_row n [] _ long are = tt
 
 -- one vertex more
 pub record AreMore (ps : List PlainVertex) (f : Fields) (qs : List PlainVertex) (g : Fields) (x : Vertex) : Type 0 where
@@ -423,47 +370,22 @@ pub record AreMore (ps : List PlainVertex) (f : Fields) (qs : List PlainVertex) 
 
 pub kept_more : (ps : List PlainVertex) (p : PlainVertex) (f g : Fields) (x : Vertex) → AreKept ps f → field_kinds g ≡ field_kinds f
     → field_columns (ps ++ p ∷ []) g ≡ with_row (field_columns ps f) x.util → length x.util ≡ 6 → p.name ≡ x.name → kept_number p.arcs ≡ x.arcs → AreMore ps f (ps ++ p ∷ []) g x
-kept_more ps p f g x kept kinds columns six name arcs = record {
-  whole = whole;
-  same =
-      kinds_record (ps ++ p ∷ []) g (column_kind f.u) (column_kind f.v) (column_kind f.w) (numbers_kind f.x) (numbers_kind f.y) (numbers_kind f.z) kinds
-      ∙ ap (λ (xs : List Vertex). record (kept_vertices ps f) { items = xs }) all;
-}
-  where
-    n : ℕ
-    n = length ps
-
-    old : List (List Util)
-    old = field_columns ps f
-
-    long : length (ps ++ p ∷ []) ≡ suc n
-    long = omega (arith, length_push ps p)
-
-    rows_long : 6 ≡ length x.util
-    rows_long = sym six
-
-    whole : AreKept (ps ++ p ∷ []) g
-    whole =
-        columns_kept (suc n) (length (ps ++ p ∷ [])) (with_row old x.util) (field_columns (ps ++ p ∷ []) g) long columns
-        (columns_row n old x.util rows_long kept)
-
-    table : rows (length (ps ++ p ∷ [])) (field_columns (ps ++ p ∷ []) g) ≡ rows n old ++ x.util ∷ []
-    table =
-        ap (λ m. rows m (field_columns (ps ++ p ∷ []) g)) long
-        ∙ (ap (rows (suc n)) columns ∙ rows-push n old x.util kept rows_long)
-
-    count : length (map bare_vertex ps) ≡ length (rows n old)
-    count = length-map ps bare_vertex ∙ sym (length-rows n old kept)
-
-    last : record (bare_vertex p) { util = x.util } ≡ x
-    last = rw (name, arcs) refl
-
-    all : kept_items (ps ++ p ∷ []) g ≡ kept_items ps f ++ x ∷ []
-    all =
-        ap (λ rs. with_fields (map bare_vertex (ps ++ p ∷ [])) rs) table
-        ∙ (ap (λ xs. with_fields xs (rows n old ++ x.util ∷ [])) (map-append bare_vertex ps (p ∷ []))
-        ∙ (combined-push put_fields (map bare_vertex ps) (rows n old) (bare_vertex p) x.util count
-        ∙ ap (λ y. with_fields (map bare_vertex ps) (rows n old) ++ y ∷ []) last))
+kept_more ps p f g x kept kinds columns six name arcs =
+    let n = length ps in
+    let old = field_columns ps f in
+    let long : length (ps ++ p ∷ []) ≡ suc n = omega (arith, length_push ps p) in
+    let table = ap (λ m. rows m (field_columns (ps ++ p ∷ []) g)) long ∙ (ap (rows (suc n)) columns ∙ rows-push n old x.util kept (sym six)) in
+    let last : record (bare_vertex p) { util = x.util } ≡ x = rw (name, arcs) refl in
+    let all : kept_items (ps ++ p ∷ []) g ≡ kept_items ps f ++ x ∷ [] =
+    ap (λ rs. with_fields (map bare_vertex (ps ++ p ∷ [])) rs) table
+    ∙ (ap (λ xs. with_fields xs (rows n old ++ x.util ∷ [])) (map-append bare_vertex ps (p ∷ []))
+    ∙ (combined-push put_fields (map bare_vertex ps) (rows n old) (bare_vertex p) x.util (length-map ps bare_vertex ∙ sym (length-rows n old kept))
+    ∙ ap (λ y. with_fields (map bare_vertex ps) (rows n old) ++ y ∷ []) last)) in
+    record {
+      whole = columns_kept (suc n) (length (ps ++ p ∷ [])) (with_row old x.util) (field_columns (ps ++ p ∷ []) g) long columns (columns_row n old x.util (sym six) kept);
+      same = kinds_record (ps ++ p ∷ []) g (column_kind f.u) (column_kind f.v) (column_kind f.w) (numbers_kind f.x) (numbers_kind f.y) (numbers_kind f.z) kinds
+          ∙ ap (λ (xs : List Vertex). record (kept_vertices ps f) { items = xs }) all;
+    }
 
 -- the same, where room was taken before
 pub vertex_pushed : (ps qs rs : List PlainVertex) (p : PlainVertex) (f h g : Fields) (x : Vertex) → AreKept ps f → qs ≡ ps → rs ≡ qs ++ p ∷ [] → field_kinds h ≡ field_kinds f
@@ -506,44 +428,21 @@ pub record ArePut (old : List PlainVertex) (f : Fields) (new : List PlainVertex)
 
 pub are_put : (old : List PlainVertex) (f : Fields) (new : List PlainVertex) (p : PlainVertex) (v : ℕ) (x y z : ℤ) → AreKept old f → HoldNumbers old f new (record f { x = Inside; y = Inside; z = Inside }) → p ≡ get_or new v p
     → ArePut old f (set new v (record p { ints = x ∷ y ∷ z ∷ [] })) (record f { x = Inside; y = Inside; z = Inside }) v x y z
-are_put old f new p v x y z kept hold here = record { whole = whole; items = items }
-  where
-    last : List PlainVertex
-    last = set new v (record p { ints = x ∷ y ∷ z ∷ [] })
-
-    g : Fields
-    g = record f { x = Inside; y = Inside; z = Inside }
-
-    put : PutNumbers old f last g v x y z
-    put = put_all old f new p v x y z hold here
-
-    n : ℕ
-    n = length old
-
-    columns : List (List Util)
-    columns = field_columns old f
-
-    whole : AreKept last g
-    whole =
-        columns_kept n (length last) (put_columns v x y z (number_columns columns)) (field_columns last g) put.count put.columns
-        (put_whole n v x y z columns kept)
-
-    table : rows (length last) (field_columns last g) ≡ at_place (put_numbers x y z) v (map some_numbers (rows n columns))
-    table =
-        ap (λ m. rows m (field_columns last g)) put.count
-        ∙ (ap (rows n) put.columns
-        ∙ (put_rows n v x y z (number_columns columns) ∙ ap (at_place (put_numbers x y z) v) (number_rows n columns)))
-
-    items : kept_items last g ≡ at_place (with_numbers x y z) v (map with_some_numbers (kept_items old f))
-    items =
-        ap (λ rs. with_fields (map bare_vertex last) rs) table
-        ∙ (ap (λ xs. with_fields xs (at_place (put_numbers x y z) v (map some_numbers (rows n columns)))) put.bare
-        ∙ (combined-at_second put_fields (put_numbers x y z) (with_util (put_numbers x y z)) v (map bare_vertex old) (map some_numbers (rows n columns)) (λ w fields. refl)
-        ∙ ap (at_place (with_numbers x y z) v) (combined-map_second put_fields some_numbers (with_util some_numbers) (map bare_vertex old) (rows n columns) (λ w fields. refl))))
-
--- as many elements written over all are those elements
-pub refill_same : (n : ℕ) (xs ys : List PlainVertex) → length xs ≡ n → take n (xs ++ drop (length xs) ys) ≡ xs
-refill_same n xs ys long = rw (← long) (take-append_seam xs (drop (length xs) ys))
+are_put old f new p v x y z kept hold here =
+    let last = set new v (record p { ints = x ∷ y ∷ z ∷ [] }) in
+    let g : Fields = record f { x = Inside; y = Inside; z = Inside } in
+    let put = put_all old f new p v x y z hold here in
+    let n = length old in
+    let columns = field_columns old f in
+    let table = ap (λ m. rows m (field_columns last g)) put.count
+    ∙ (ap (rows n) put.columns ∙ (put_rows n v x y z (number_columns columns) ∙ ap (at_place (put_numbers x y z) v) (number_rows n columns))) in
+    record {
+      whole = columns_kept n (length last) (put_columns v x y z (number_columns columns)) (field_columns last g) put.count put.columns (put_whole n v x y z columns kept);
+      items = ap (λ rs. with_fields (map bare_vertex last) rs) table
+          ∙ (ap (λ xs. with_fields xs (at_place (put_numbers x y z) v (map some_numbers (rows n columns)))) put.bare
+          ∙ (combined-at_second put_fields (put_numbers x y z) (with_util (put_numbers x y z)) v (map bare_vertex old) (map some_numbers (rows n columns)) (λ w fields. refl)
+          ∙ ap (at_place (with_numbers x y z) v) (combined-map_second put_fields some_numbers (with_util some_numbers) (map bare_vertex old) (rows n columns) (λ w fields. refl))));
+    }
 
 -- numbers taken, read off their clauses
 pub taken_from : (old : List PlainVertex) (f : Fields) (new : List PlainVertex) (g : Fields) → HoldNumbers old f new g → HoldNumbers old f new (record f { x = Inside; y = Inside; z = Inside })
@@ -562,27 +461,14 @@ are_written : (n : ℕ) (old : List PlainVertex) (f : Fields) (new : List PlainV
     → p ≡ get_or (take n (new ++ drop (length new) old)) v p
     → AreWritten old f (set (take n (new ++ drop (length new) old)) v (record p { ints = x ∷ y ∷ z ∷ [] })) g v x y z
 are_written n old f new g p v x y z count kept held =
-    subst (λ (ps : List PlainVertex). p ≡ get_or ps v p → AreWritten old f (set ps v q) g v x y z) (sym same) of_new
-  where
-    q : PlainVertex
-    q = record p { ints = x ∷ y ∷ z ∷ [] }
-
-    inside : Fields
-    inside = record f { x = Inside; y = Inside; z = Inside }
-
-    same : take n (new ++ drop (length new) old) ≡ new
-    same = refill_same n new old (taken_long old f new g held ∙ count)
-
-    of_inside : p ≡ get_or new v p → AreWritten old f (set new v q) inside v x y z
-    of_inside here =
-        let put = are_put old f new p v x y z kept (taken_from old f new g held) here in
-        record {
-          whole = put.whole;
-          same = ap (λ (xs : List Vertex). record (kept_vertices old f) { x = I; y = I; z = I; items = xs }) put.items;
-        }
-
-    of_new : p ≡ get_or new v p → AreWritten old f (set new v q) g v x y z
-    of_new here = subst (λ (h : Fields). AreWritten old f (set new v q) h v x y z) (sym held.fields) (of_inside here)
+    let q : PlainVertex = record p { ints = x ∷ y ∷ z ∷ [] } in
+    subst (λ (ps : List PlainVertex). p ≡ get_or ps v p → AreWritten old f (set ps v q) g v x y z) (sym (take_written n new (drop (length new) old) (sym (taken_long old f new g held ∙ count))))
+    (λ here.
+    let put = are_put old f new p v x y z kept (taken_from old f new g held) here in
+    subst (λ (h : Fields). AreWritten old f (set new v q) h v x y z) (sym held.fields) (record {
+      whole = put.whole;
+      same = ap (λ (xs : List Vertex). record (kept_vertices old f) { x = I; y = I; z = I; items = xs }) put.items;
+    }))
 
 -- the same of numbers that pass through words of 64 bits
 pub written_in_words : (n : ℕ) (lent old : List PlainVertex) (f : Fields) (new : List PlainVertex) (g : Fields) (p : PlainVertex) (v : ℕ) (x y z : ℤ) → SFits w64 x → SFits w64 y → SFits w64 z

@@ -1,5 +1,5 @@
 -- What stands on the list of a vertex: the records that start there.
-use Rattle.std.proofs.Common.{◌≡◌, ◌≢◌, get_or, ◌+◌, ◌-◌, ◌≤◌, ◌<◌, ◌⊎◌, ◌==◌, ℕ, zero, suc, Bool, true, false, List, [], ◌∷◌, ◌++◌, length, Some, count_by, refl, ap, sym, ◌∙◌, subst, inl, inr, arith}
+use Rattle.std.proofs.Common.{◌≡◌, ◌≢◌, get_or, ◌+◌, ◌-◌, ◌≤◌, ◌==◌, ℕ, zero, suc, Bool, true, false, List, [], ◌∷◌, ◌++◌, length, Some, count_by, refl, ap, sym, ◌∙◌, subst, inl, inr, arith}
 use Rattle.std.specs.Prelude.{slice_get, cond, if◌then◌else◌}
 use Rattle.std.specs.List.{All, AllPairs, Contains, filter}
 use Rattle.std.proofs.lemmas.List.Kept.{AllPairs-cons}
@@ -24,17 +24,15 @@ each_link k zero (a ∷ records) r is =
     let place : k + 0 ≡ k = omega arith in
     let there = Contains-first (link k r.tip r.len) (links_at r.start (k + 1) records) in
     rw (same, place) (subst (λ ls. Contains ls (link k r.tip r.len)) (sym (link_here r.start k r records refl)) there)
-each_link k (suc j) (a ∷ records) r is = by_start (cases_eq r.start a.start) (each_link (k + 1) j records r is)
-  where
-    place : k + 1 + j ≡ k + suc j
-    place = omega arith
-
-    by_start : (r.start ≡ a.start) ⊎ (r.start ≡ a.start → ⊥) → Contains (links_at r.start (k + 1) records) (link (k + 1 + j) r.tip r.len) → Contains (links_at r.start k (a ∷ records)) (link (k + suc j) r.tip r.len)
-    by_start (inl same) later =
-        subst (λ ls. Contains ls (link (k + suc j) r.tip r.len)) (sym (link_here r.start k a records same))
-        (Contains-other (link k a.tip a.len) (link (k + suc j) r.tip r.len) (links_at r.start (k + 1) records) (rw place at later))
-    by_start (inr other) later =
-        subst (λ ls. Contains ls (link (k + suc j) r.tip r.len)) (sym (no_link_here r.start k a records other)) (rw place at later)
+each_link k (suc j) (a ∷ records) r is =
+    let place : k + 1 + j ≡ k + suc j = omega arith in
+    let later = rw place at (each_link (k + 1) j records r is) in
+    elim (cases_eq r.start a.start) [
+      | inl same ↦
+          subst (λ ls. Contains ls (link (k + suc j) r.tip r.len)) (sym (link_here r.start k a records same))
+          (Contains-other (link k a.tip a.len) (link (k + suc j) r.tip r.len) (links_at r.start (k + 1) records) later)
+      | inr other ↦ subst (λ ls. Contains ls (link (k + suc j) r.tip r.len)) (sym (no_link_here r.start k a records other)) later
+    ]
 
 -- and a link is that of a record
 record IsRecordAt (k v : ℕ) (records : List Record) (l : Link) : Type 0 where
@@ -49,19 +47,15 @@ record_after k v a records l at = record { place = suc at.place; number = omega 
 -- so each link is
 only_link : (k v : ℕ) (records : List Record) (l : Link) → Contains (links_at v k records) l → IsRecordAt k v records l
 only_link k v [] l has = absurd (Contains-none l has)
-only_link k v (a ∷ records) l has = by_start (cases_eq v a.start) (only_link (k + 1) v records l)
-  where
-    here : v ≡ a.start → link k a.tip a.len ≡ l → IsRecordAt k v (a ∷ records) l
-    here start same = rw (start, ← same) record { place = 0; number = omega arith; is = refl }
-
-    by_place : v ≡ a.start → (Contains (links_at v (k + 1) records) l → IsRecordAt (k + 1) v records l) → (link k a.tip a.len ≡ l) ⊎ Contains (links_at v (k + 1) records) l → IsRecordAt k v (a ∷ records) l
-    by_place start later (inl same) = here start same
-    by_place start later (inr high) = record_after k v a records l (later high)
-
-    by_start : (v ≡ a.start) ⊎ (v ≡ a.start → ⊥) → (Contains (links_at v (k + 1) records) l → IsRecordAt (k + 1) v records l) → IsRecordAt k v (a ∷ records) l
-    by_start (inl start) later =
-        by_place start later (Contains-cases (link k a.tip a.len) l (links_at v (k + 1) records) (subst (λ ls. Contains ls l) (link_here v k a records start) has))
-    by_start (inr other) later = record_after k v a records l (later (subst (λ ls. Contains ls l) (no_link_here v k a records other) has))
+only_link k v (a ∷ records) l has =
+    elim (cases_eq v a.start) [
+      | inl start ↦
+          elim (Contains-cases (link k a.tip a.len) l (links_at v (k + 1) records) (subst (λ ls. Contains ls l) (link_here v k a records start) has)) [
+            | inl same ↦ rw (start, ← same) record { place = 0; number = omega arith; is = refl }
+            | inr high ↦ record_after k v a records l (only_link (k + 1) v records l high)
+          ]
+      | inr other ↦ record_after k v a records l (only_link (k + 1) v records l (subst (λ ls. Contains ls l) (no_link_here v k a records other) has))
+    ]
 
 -- as many links as records
 count_link : (k v : ℕ) (records : List Record) → length (links_at v k records) ≡ length (filter (λ r. r.start == v) records)
@@ -76,49 +70,36 @@ count_link k v (a ∷ records) = by_test (a.start == v) (count_link (k + 1) v re
 -- each record of the events is on the list where it starts
 each_from : (directed : Bool) (k : ℕ) (events : List Event) (j : ℕ) (r : Record) → slice_get (all_records directed events) j ≡ Some r → Contains (list_from directed k events r.start) (link (k + j) r.tip r.len)
 each_from directed k [] j r is = absurd cc
-each_from directed k (e ∷ events) j r is = by_place (each_from directed (k + length own) events (j - length own) r) (cases_lt j (length own))
-  where
-    own : List Record
-    own = records_of directed e
-
-    later : List Record
-    later = all_records directed events
-
-    by_place : (slice_get later (j - length own) ≡ Some r → Contains (list_from directed (k + length own) events r.start) (link (k + length own + (j - length own)) r.tip r.len))
-        → (j < length own) ⊎ (length own ≤ j) → Contains (list_from directed k (e ∷ events) r.start) (link (k + j) r.tip r.len)
-    by_place in_later (inl low) =
-        rw (list_first directed k e events r.start)
-        (Contains-append_right (list_from directed (k + length own) events r.start) (links_at r.start k own) (link (k + j) r.tip r.len)
-        (each_link k j own r (sym (slice_get-prefix own later j low) ∙ is)))
-    by_place in_later (inr high) =
-        let place : length own + (j - length own) ≡ j = omega arith in
-        let number : k + length own + (j - length own) ≡ k + j = omega arith in
-        let there = in_later (sym (slice_get-after own later (j - length own)) ∙ (ap (slice_get (own ++ later)) place ∙ is)) in
-        rw (list_first directed k e events r.start)
-        (Contains-append_left (list_from directed (k + length own) events r.start) (links_at r.start k own) (link (k + j) r.tip r.len) (rw number at there))
+each_from directed k (e ∷ events) j r is =
+    let own = records_of directed e in
+    let later = all_records directed events in
+    elim (cases_lt j (length own)) [
+      | inl low ↦
+          rw (list_first directed k e events r.start)
+          (Contains-append_right (list_from directed (k + length own) events r.start) (links_at r.start k own) (link (k + j) r.tip r.len)
+          (each_link k j own r (sym (slice_get-prefix own later j low) ∙ is)))
+      | inr high ↦
+          let place : length own + (j - length own) ≡ j = omega arith in
+          let number : k + length own + (j - length own) ≡ k + j = omega arith in
+          let there = each_from directed (k + length own) events (j - length own) r (sym (slice_get-after own later (j - length own)) ∙ (ap (slice_get (own ++ later)) place ∙ is)) in
+          rw (list_first directed k e events r.start)
+          (Contains-append_left (list_from directed (k + length own) events r.start) (links_at r.start k own) (link (k + j) r.tip r.len) (rw number at there))
+    ]
 
 -- and nothing else
 only_from : (directed : Bool) (k : ℕ) (events : List Event) (v : ℕ) (l : Link) → Contains (list_from directed k events v) l → IsRecordAt k v (all_records directed events) l
 only_from directed k [] v l has = absurd (Contains-none l (rw (list_none directed k v) at has))
 only_from directed k (e ∷ events) v l has =
-    by_part (only_from directed (k + length own) events v l) (Contains-append_cases (list_from directed (k + length own) events v) (links_at v k own) l (rw (list_first directed k e events v) at has))
-  where
-    own : List Record
-    own = records_of directed e
-
-    later : List Record
-    later = all_records directed events
-
-    in_own : IsRecordAt k v own l → IsRecordAt k v (own ++ later) l
-    in_own at = record { place = at.place; number = at.number; is = slice_get-left own later at.place (record_from v l.tip l.len) at.is }
-
-    in_later : IsRecordAt (k + length own) v later l → IsRecordAt k v (own ++ later) l
-    in_later at = record { place = length own + at.place; number = omega (arith, at.number); is = slice_get-after own later at.place ∙ at.is }
-
-    by_part : (Contains (list_from directed (k + length own) events v) l → IsRecordAt (k + length own) v later l)
-        → Contains (list_from directed (k + length own) events v) l ⊎ Contains (links_at v k own) l → IsRecordAt k v (own ++ later) l
-    by_part rest (inl there) = in_later (rest there)
-    by_part rest (inr here) = in_own (only_link k v own l here)
+    let own = records_of directed e in
+    let later = all_records directed events in
+    elim (Contains-append_cases (list_from directed (k + length own) events v) (links_at v k own) l (rw (list_first directed k e events v) at has)) [
+      | inl there ↦
+          let at = only_from directed (k + length own) events v l there in
+          record { place = length own + at.place; number = omega (arith, at.number); is = slice_get-after own later at.place ∙ at.is }
+      | inr here ↦
+          let at = only_link k v own l here in
+          record { place = at.place; number = at.number; is = slice_get-left own later at.place (record_from v l.tip l.len) at.is }
+    ]
 
 -- as many as start there
 once_from : (directed : Bool) (k : ℕ) (events : List Event) (v : ℕ) → length (list_from directed k events v) ≡ length (filter (λ r. r.start == v) (all_records directed events))
@@ -159,38 +140,30 @@ all_from_contains P xs each k d below = each (get_or xs k d) (Contains-get_or xs
 -- the links of records have different numbers
 links_apart : (k v : ℕ) (records : List Record) → AllPairs AreApart (links_at v k records)
 links_apart k v [] = λ i j d less below. absurd (omega arith)
-links_apart k v (a ∷ records) = by_start (cases_eq v a.start) (links_apart (k + 1) v records)
-  where
-    by_start : (v ≡ a.start) ⊎ (v ≡ a.start → ⊥) → AllPairs AreApart (links_at v (k + 1) records) → AllPairs AreApart (links_at v k (a ∷ records))
-    by_start (inl start) later =
-        subst (AllPairs AreApart) (sym (link_here v k a records start))
-        (AllPairs-cons AreApart (link k a.tip a.len) (links_at v (k + 1) records)
-        (all_from_contains (AreApart (link k a.tip a.len)) (links_at v (k + 1) records) (λ m has same. omega (arith, (only_link (k + 1) v records m has).number, same))) later)
-    by_start (inr other) later = subst (AllPairs AreApart) (sym (no_link_here v k a records other)) later
+links_apart k v (a ∷ records) =
+    elim (cases_eq v a.start) [
+      | inl start ↦
+          subst (AllPairs AreApart) (sym (link_here v k a records start))
+          (AllPairs-cons AreApart (link k a.tip a.len) (links_at v (k + 1) records)
+          (all_from_contains (AreApart (link k a.tip a.len)) (links_at v (k + 1) records) (λ m has same. omega (arith, (only_link (k + 1) v records m has).number, same))) (links_apart (k + 1) v records))
+      | inr other ↦ subst (AllPairs AreApart) (sym (no_link_here v k a records other)) (links_apart (k + 1) v records)
+    ]
 
 -- so do those of a list
 apart_from : (directed : Bool) (k : ℕ) (events : List Event) (v : ℕ) → AllPairs AreApart (list_from directed k events v)
 apart_from directed k [] v = subst (AllPairs AreApart) (sym (list_none directed k v)) (links_apart k v [])
 apart_from directed k (e ∷ events) v =
+    let own = records_of directed e in
+    let here = links_at v k own in
+    let others = list_from directed (k + length own) events v in
+    let across : (l m : Link) → Contains others l → Contains here m → AreApart l m = λ l m has is same.
+    let late = only_from directed (k + length own) events v l has in
+    let early = only_link k v own m is in
+    let inside = slice_get_within own early.place (record_from v m.tip m.len) early.is in
+    omega (arith, late.number, early.number, inside, same) in
     subst (AllPairs AreApart) (sym (list_first directed k e events v))
     (AllPairs-append AreApart others here (apart_from directed (k + length own) events v) (links_apart k v own)
     (all_from_contains (λ l. All (AreApart l) here) others (λ l has. all_from_contains (AreApart l) here (λ m is. across l m has is))))
-  where
-    own : List Record
-    own = records_of directed e
-
-    here : List Link
-    here = links_at v k own
-
-    others : List Link
-    others = list_from directed (k + length own) events v
-
-    across : (l m : Link) → Contains others l → Contains here m → AreApart l m
-    across l m has is same =
-        let late = only_from directed (k + length own) events v l has in
-        let early = only_link k v own m is in
-        let inside = slice_get_within own early.place (record_from v m.tip m.len) early.is in
-        omega (arith, late.number, early.number, inside, same)
 
 pub apart_on_list : (directed : Bool) (events : List Event) (v : ℕ) → AllPairs AreApart (list_of directed events v)
 apart_on_list directed events v = apart_from directed 0 events v

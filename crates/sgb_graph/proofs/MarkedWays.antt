@@ -74,9 +74,8 @@ walk_meets records first steps k lead ends = ends_within (length records + steps
 no_steps : (records : List ArcRec) (next : Option ℕ) (none : Bool) → is_some next ≡ not none → none ≡ ends_from zero records next
 unfolding ends_from
 no_steps records None true test = refl
-no_steps records None false test = absurd cc
-no_steps records (Some k) true test = absurd cc
 no_steps records (Some k) false test = refl
+no_steps records _ _ test = absurd cc
 
 -- after as many steps as there are records it has ended, or it never does
 pub walk_is_over : (records : List ArcRec) (first next : Option ℕ) (steps : ℕ) (none : Bool) → StepsLead records first steps next → steps ≡ length records → is_some next ≡ not none → none ≡ ends_of records first
@@ -102,11 +101,11 @@ leads_none records = ap (list_all (leads_to_vertex records)) (numbers_none (leng
 
 -- what holds of each marked record holds with one more, of which it holds too
 pub one_more_marked : (P : ℕ → Type 0) (marks : List Bool) (k : ℕ) → P k → ((j : ℕ) → IsTrue (get_or marks j false) → P j) → (j : ℕ) → IsTrue (get_or (set marks k true) j false) → P j
-one_more_marked P marks k here before j marked = by_place (cases_eq j k)
-  where
-    by_place : (j ≡ k) ⊎ (j ≡ k → ⊥) → P j
-    by_place (inl same) = subst P (sym same) here
-    by_place (inr other) = before j (rw (get_or-set_other marks k j true false other) at marked)
+one_more_marked P marks k here before j marked =
+    elim (cases_eq j k) [
+      | inl same ↦ subst P (sym same) here
+      | inr other ↦ before j (rw (get_or-set_other marks k j true false other) at marked)
+    ]
 
 -- some number below n does not pass
 pub not_each_below : (p : ℕ → Bool) (n k : ℕ) → k < n → p k ≡ false → list_all p (range_with_len 0 n) ≡ false
@@ -136,11 +135,11 @@ MarksReach records marks next =
 -- one more mark leaves the others
 still_marked : (marks : List Bool) (k : ℕ) (first : Option ℕ) → k < length marks → is_marked marks first ≡ true → is_marked (set marks k true) first ≡ true
 still_marked marks k None inside marked = refl
-still_marked marks k (Some j) inside marked = by_place (cases_eq j k)
-  where
-    by_place : (j ≡ k) ⊎ (j ≡ k → ⊥) → get_or (set marks k true) j false ≡ true
-    by_place (inl same) = rw same (get_or-set_same marks k true false inside)
-    by_place (inr other) = get_or-set_other marks k j true false other ∙ marked
+still_marked marks k (Some j) inside marked =
+    elim (cases_eq j k) [
+      | inl same ↦ rw same (get_or-set_same marks k true false inside)
+      | inr other ↦ get_or-set_other marks k j true false other ∙ marked
+    ]
 
 -- what is marked, or is the next record, is marked with it
 pub reached_more : (marks : List Bool) (k : ℕ) (first : Option ℕ) → k < length marks → (first ≡ Some k) ⊎ IsTrue (is_marked marks first) → IsTrue (is_marked (set marks k true) first)
@@ -149,14 +148,14 @@ reached_more marks k first inside (inr marked) = still_marked marks k first insi
 
 -- the walk goes on by one record
 pub reach_more : (records : List ArcRec) (marks : List Bool) (k : ℕ) (r : ArcRec) → k < length marks → slice_get records k ≡ Some r → MarksReach records marks (Some k) → MarksReach records (set marks k true) r.next
-reach_more records marks k r inside is reach j x there marked = by_place (cases_eq j k)
-  where
-    by_place : (j ≡ k) ⊎ (j ≡ k → ⊥) → (x.next ≡ r.next) ⊎ IsTrue (is_marked (set marks k true) x.next)
-    by_place (inl same) =
-        let one : Some x ≡ Some r = sym there ∙ (ap (slice_get records) same ∙ is) in
-        inl (ap (λ o. option_map_or (λ (y : ArcRec). y.next) o None) one)
-    by_place (inr other) =
-        inr (reached_more marks k x.next inside (reach j x there (rw (get_or-set_other marks k j true false other) at marked)))
+reach_more records marks k r inside is reach j x there marked =
+    elim (cases_eq j k) [
+      | inl same ↦
+          let one : Some x ≡ Some r = sym there ∙ (ap (slice_get records) same ∙ is) in
+          inl (ap (λ o. option_map_or (λ (y : ArcRec). y.next) o None) one)
+      | inr other ↦
+          inr (reached_more marks k x.next inside (reach j x there (rw (get_or-set_other marks k j true false other) at marked)))
+    ]
 
 -- it is over where the next record is marked, or there is none
 pub reached_all : (marks : List Bool) (next first : Option ℕ) → is_marked marks next ≡ true → (first ≡ next) ⊎ IsTrue (is_marked marks first) → IsTrue (is_marked marks first)

@@ -26,8 +26,7 @@ are_none vertices records e =
 pub with_none : (vertices : List Vertex) (records : List ArcRec) (g : GraphData) → length vertices ≡ 0 → length records ≡ 0 → with_more vertices records g ≡ g
 with_none [] [] g v r =
     ap (λ xs. record g { vertices = xs; records = g.records ++ [] }) (append-nil g.vertices) ∙ ap (λ xs. record g { records = xs }) (append-nil g.records)
-with_none [] (r ∷ records) g v e = absurd (omega (arith, e))
-with_none (x ∷ vertices) records g e r = absurd (omega (arith, e))
+with_none _ _ g v e = absurd (omega arith)
 
 -- a vertex that is kept
 pub vertex_among : (vertices : List Vertex) (records : List ArcRec) (g : GraphData) (x : Vertex) → length vertices ≡ 0 → with_more vertices records (with_vertex x g) ≡ with_vertex x (with_more vertices records g)

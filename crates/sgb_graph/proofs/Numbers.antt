@@ -12,37 +12,31 @@ use Rattle.sgb_graph.specs.Growth.{IsKept, at_place, number_or_zero, put_numbers
 use Rattle.sgb_graph.specs.declared.fields.Kind.{Kind}
 use Rattle.sgb_graph.specs.declared.fields.Kind.TheVariants.{I}
 use Rattle.sgb_graph.specs.declared.fields.Util.{Util}
-use Rattle.sgb_graph.specs.declared.fields.Util.TheVariants.{Nothing, Int, Vertex as VertexField, Str, Chain}
+use Rattle.sgb_graph.specs.declared.fields.Util.TheVariants.{Int}
 use Rattle.sgb_graph.specs.declared.fields.Vertex.{Vertex}
-use Rattle.sgb_graph.proofs.Lists.{length-at_place, list_all-at_place, list_all-mapped, list_all-weaker, map-at_place, map-at_place_made, map-map}
-use Rattle.sgb_graph.proofs.Fitting.{vertex_fits_in, record_fits_in}
+use Rattle.sgb_graph.proofs.Lists.{length-at_place, list_all-at_place, list_all-mapped, map-at_place, map-at_place_made, map-map}
+use Rattle.sgb_graph.proofs.Fitting.{vertex_fits_in}
 use Rattle.sgb_graph.proofs.Chains.{lead_within}
-use Rattle.sgb_graph.proofs.Growing.{HasParts, parts_of, graph_from_parts}
+use Rattle.sgb_graph.proofs.Growing.{parts_of, refilled}
 
 -- what is put is one
 zero_fits : (n m : ℕ) (u : Util) → util_fits n m I (number_or_zero u) ≡ true
 zero_fits n m (Int i) = refl
-zero_fits n m Nothing = refl
-zero_fits n m (VertexField r) = refl
-zero_fits n m (Str s) = refl
-zero_fits n m (Chain first) = refl
+zero_fits n m _ = refl
 
 -- fields of which one becomes a number
 number_fits : (n m k : ℕ) (kinds : List Kind) (utils : List Util) → utils_fit n m kinds utils ≡ true → utils_fit n m (set kinds k I) (at_place number_or_zero k utils) ≡ true
 number_fits n m k [] [] e = e
-number_fits n m k [] (u ∷ utils) e = absurd cc
-number_fits n m k (a ∷ kinds) [] e = absurd cc
 number_fits n m zero (a ∷ kinds) (u ∷ utils) e =
     and_from (util_fits n m I (number_or_zero u)) (utils_fit n m kinds utils) (zero_fits n m u) (and_parts (util_fits n m a u) (utils_fit n m kinds utils) e).1
 number_fits n m (suc k) (a ∷ kinds) (u ∷ utils) e =
     let parts = and_parts (util_fits n m a u) (utils_fit n m kinds utils) e in
     and_from (util_fits n m a u) (utils_fit n m (set kinds k I) (at_place number_or_zero k utils)) parts.0 (number_fits n m k kinds utils parts.1)
+number_fits n m k _ _ e = absurd cc
 
 -- fields of which one gets another number
 put_fits : (n m k : ℕ) (i : ℤ) (kinds : List Kind) (utils : List Util) → utils_fit n m kinds utils ≡ true → set kinds k I ≡ kinds → utils_fit n m kinds (set utils k (Int i)) ≡ true
 put_fits n m k i [] [] e is = e
-put_fits n m k i [] (u ∷ utils) e is = absurd cc
-put_fits n m k i (a ∷ kinds) [] e is = absurd cc
 put_fits n m zero i (a ∷ kinds) (u ∷ utils) e is =
     let kind : I ≡ a = cc in
     and_from (util_fits n m a (Int i)) (utils_fit n m kinds utils) (rw (← kind) refl) (and_parts (util_fits n m a u) (utils_fit n m kinds utils) e).1
@@ -50,6 +44,7 @@ put_fits n m (suc k) i (a ∷ kinds) (u ∷ utils) e is =
     let rest : set kinds k I ≡ kinds = cc in
     let parts = and_parts (util_fits n m a u) (utils_fit n m kinds utils) e in
     and_from (util_fits n m a u) (utils_fit n m kinds (set utils k (Int i))) parts.0 (put_fits n m k i kinds utils parts.1 rest)
+put_fits n m k i _ _ e is = absurd cc
 
 -- the kinds of vertices, and the others, where the fields x, y, z hold integers
 record SplitKinds (kinds : List Kind) : Type 0 where
@@ -108,40 +103,18 @@ numbers_fit n m kinds x y z v hold fits =
 
 -- the graph with these numbers is one
 pub ints_kept : (g : GraphData) (v : ℕ) (x y z : ℤ) → IsKept g → IsKept (with_ints g v x y z)
-ints_kept g v x y z kept = record { graph = graph_from_parts (with_ints g v x y z) parts; count = kept.count }
-  where
-    has : HasParts g
-    has = parts_of g kept.graph
-
-    n : ℕ
-    n = length g.vertices
-
-    m : ℕ
-    m = length g.records
-
-    kinds : List Kind
-    kinds = with_number_kinds g.kinds
-
-    some : List Vertex
-    some = map with_some_numbers g.vertices
-
-    all : List Vertex
-    all = at_place (with_numbers x y z) v some
-
-    same : length all ≡ n
-    same = length-at_place (with_numbers x y z) v some ∙ length-map g.vertices with_some_numbers
-
-    parts : HasParts (with_ints g v x y z)
-    parts = record {
-      few = rw same has.few;
-      util = rw (same, (split_kinds g.kinds).own) has.util;
-      vertices = rw same (list_all-at_place (vertex_fits_in n m kinds) (with_numbers x y z) v some (λ w fits. numbers_fit n m kinds x y z w (hold_then g.kinds) fits)
-          (list_all-mapped (vertex_fits_in n m g.kinds) (vertex_fits_in n m kinds) with_some_numbers g.vertices (λ w fits. some_fit n m g.kinds w fits) has.vertices));
-      records = rw same (list_all-weaker (record_fits_in n m g.kinds) (record_fits_in n m kinds) g.records (λ r h. rw (split_kinds g.kinds).arcs h) has.records);
-      ends = has.ends;
-      leads = list_all-at_place (λ (w : Vertex). lead_within m g.records w.arcs) (with_numbers x y z) v some (λ w h. h)
-          (list_all-mapped (λ (w : Vertex). lead_within m g.records w.arcs) (λ (w : Vertex). lead_within m g.records w.arcs) with_some_numbers g.vertices (λ w h. h) has.leads);
-    }
+ints_kept g v x y z kept =
+    let has = parts_of g kept.graph in
+    let n = length g.vertices in
+    let m = length g.records in
+    let kinds = with_number_kinds g.kinds in
+    let some = map with_some_numbers g.vertices in
+    let own : utils_fit n m (graph_kinds kinds) g.util ≡ true = rw (split_kinds g.kinds).own has.util in
+    refilled g kinds g.util (at_place (with_numbers x y z) v some) kept (length-at_place (with_numbers x y z) v some ∙ length-map g.vertices with_some_numbers) (split_kinds g.kinds).arcs own
+    (list_all-at_place (vertex_fits_in n m kinds) (with_numbers x y z) v some (λ w fits. numbers_fit n m kinds x y z w (hold_then g.kinds) fits)
+    (list_all-mapped (vertex_fits_in n m g.kinds) (vertex_fits_in n m kinds) with_some_numbers g.vertices (λ w fits. some_fit n m g.kinds w fits) has.vertices))
+    (list_all-at_place (λ (w : Vertex). lead_within m g.records w.arcs) (with_numbers x y z) v some (λ w h. h)
+    (list_all-mapped (λ (w : Vertex). lead_within m g.records w.arcs) (λ (w : Vertex). lead_within m g.records w.arcs) with_some_numbers g.vertices (λ w h. h) has.leads))
 
 -- its names
 pub ints_names : (g : GraphData) (v : ℕ) (x y z : ℤ) → map (λ w. w.name) (with_ints g v x y z).vertices ≡ map (λ w. w.name) g.vertices

@@ -1,5 +1,5 @@
 -- A generator that stands at a draw, and the draw that it hands out.
-use Rattle.std.proofs.Common.{◌≡◌, ℕ, ℤ, ◌+◌, ◌-◌, ◌*◌, ◌/◌, ◌%◌, ◌<◌, ◌≤◌, ◌⊎◌, List, length, map, get_or, refl, ap, sym, ◌∙◌, subst, inl, inr, arith}
+use Rattle.std.proofs.Common.{◌≡◌, ℕ, ℤ, ◌+◌, ◌-◌, ◌*◌, ◌/◌, ◌%◌, ◌<◌, ◌≤◌, List, length, map, get_or, refl, ap, sym, ◌∙◌, subst, inl, inr, arith}
 use Rattle.std.specs.Prelude.{pos, negsuc}
 use Rattle.std.specs.Int.{int_rem_euclid}
 use Rattle.std.specs.List.{range_with_len}
@@ -55,31 +55,27 @@ placed seed n m p numbers result window inside is place = is ∙ (window.at p in
 
 -- a generator that stands at a draw hands it out
 pub hands_out_draw : (start : ℤ) (k : ℕ) (old : List ℕ) (left result : ℕ) (new : List ℕ) (left_after : ℕ) → IsAtDraw start k old left → HandsOut old left result new left_after → HandsOutDraw start k result new left_after
-hands_out_draw start k old left result new left_after stands out = by_cases (cases_lt 0 left)
-  where
-    window : IsWindow (seed_of start) (55 * (5 + k / 55)) old
-    window = stands_window start k old left stands
-
-    by_cases : (0 < left) ⊎ (left ≤ 0) → HandsOutDraw start k result new left_after
-    by_cases (inl some) =
-        let still = stands.still in
-        let step = out.inside (omega arith) in
-        let same : old ≡ new = sym step.0 in
-        let window_now : IsWindow (seed_of start) (55 * (5 + k / 55)) new = subst (IsWindow (seed_of start) (55 * (5 + k / 55))) same window in
-        let lower : left_after + 1 ≡ left = step.1 in
-        record {
-          value = placed (seed_of start) (55 * (5 + k / 55)) (55 * (5 + (k + 1) / 55) + 55 - (k + 1) % 55) left_after new result window_now (omega arith) out.value (omega arith);
-          stands = window_stands start (k + 1) (55 * (5 + k / 55)) new left_after out.flip.cycle window_now (omega arith) (omega arith);
-        }
-    by_cases (inr none) =
-        let still = stands.still in
-        let step = out.at_end (omega arith) in
-        let last : left_after ≡ 54 = step.1 in
-        let window_now = next_window (seed_of start) (55 * (5 + k / 55)) old new window step.0 in
-        record {
-          value = placed (seed_of start) (55 * (5 + k / 55) + 55) (55 * (5 + (k + 1) / 55) + 55 - (k + 1) % 55) left_after new result window_now (omega arith) out.value (omega arith);
-          stands = window_stands start (k + 1) (55 * (5 + k / 55) + 55) new left_after out.flip.cycle window_now (omega arith) (omega arith);
-        }
+hands_out_draw start k old left result new left_after stands out =
+    let still = stands.still in
+    let window = stands_window start k old left stands in
+    elim (cases_lt 0 left) [
+      | inl some ↦
+          let step = out.inside (omega arith) in
+          let window_now : IsWindow (seed_of start) (55 * (5 + k / 55)) new = subst (IsWindow (seed_of start) (55 * (5 + k / 55))) (sym step.0) window in
+          let lower : left_after + 1 ≡ left = step.1 in
+          record {
+            value = placed (seed_of start) (55 * (5 + k / 55)) (55 * (5 + (k + 1) / 55) + 55 - (k + 1) % 55) left_after new result window_now (omega arith) out.value (omega arith);
+            stands = window_stands start (k + 1) (55 * (5 + k / 55)) new left_after out.flip.cycle window_now (omega arith) (omega arith);
+          }
+      | inr none ↦
+          let step = out.at_end (omega arith) in
+          let last : left_after ≡ 54 = step.1 in
+          let window_now = next_window (seed_of start) (55 * (5 + k / 55)) old new window step.0 in
+          record {
+            value = placed (seed_of start) (55 * (5 + k / 55) + 55) (55 * (5 + (k + 1) / 55) + 55 - (k + 1) % 55) left_after new result window_now (omega arith) out.value (omega arith);
+            stands = window_stands start (k + 1) (55 * (5 + k / 55) + 55) new left_after out.flip.cycle window_now (omega arith) (omega arith);
+          }
+    ]
 
 -- so many draws left out, where those behind whole cycles are still to come
 pub skips_inside : (start : ℤ) (k count : ℕ) (old : List ℕ) (left : ℕ) (new : List ℕ) → IsCycle old → IsAtDraw start k old left → HasJumped old (55 * (count / 55)) new → count % 55 ≤ left
@@ -152,15 +148,14 @@ thrown_more start m k old left result new left_after has out above =
     record {
       next = has.next + 1;
       from_place = omega (arith, has.from_place);
-      thrown_away = λ t low high. at_or_before t low high here (cases_lt t has.next);
+      thrown_away = λ t low high. elim (cases_lt t has.next) [
+        | inl before ↦ has.thrown_away t low before
+        | inr at ↦
+            let same : has.next ≡ t = omega arith in
+            subst (λ i. bound_below m ≤ draw (seed_of start) i) same here
+      ];
       stands = drawn.stands;
     }
-  where
-    at_or_before : (t : ℕ) → k ≤ t → t < has.next + 1 → bound_below m ≤ draw (seed_of start) has.next → (t < has.next) ⊎ (has.next ≤ t) → bound_below m ≤ draw (seed_of start) t
-    at_or_before t low high here (inl before) = has.thrown_away t low before
-    at_or_before t low high here (inr at) =
-        let same : has.next ≡ t = omega arith in
-        subst (λ i. bound_below m ≤ draw (seed_of start) i) same here
 
 -- the uniform draw, and that the generator stands after the draw that it is made of
 pub uniform_taken : (start : ℤ) (m k : ℕ) (old : List ℕ) (left result : ℕ) (new : List ℕ) (left_after : ℕ) → HasThrownAway start m k old left → HandsOut old left result new left_after → result < bound_below m

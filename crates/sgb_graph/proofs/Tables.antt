@@ -1,7 +1,8 @@
 -- The rows of a table, given by its columns.
-use Rattle.std.proofs.Common.{◌≡◌, ◌<◌, ℕ, zero, suc, List, [], ◌∷◌, ◌++◌, length, get_or, map, replicate, set, Some, refl, ap, sym, ◌∙◌, arith}
+use Rattle.std.proofs.Common.{◌≡◌, ◌<◌, ℕ, zero, suc, List, [], ◌∷◌, ◌++◌, length, get_or, map, replicate, set, Some, refl, ap, sym, ◌∙◌, add-one, arith}
 use Rattle.std.specs.Prelude.{slice_get}
 use Rattle.std.proofs.lemmas.List.{length-replicate}
+use Rattle.std.proofs.lemmas.Grind.{replicate_next}
 use Rattle.sgb_graph.specs.Growth.{at_place}
 use Rattle.sgb_graph.specs.inner.KeptVertices.{AreColumns, combined, in_front, rows, with_row}
 
@@ -13,44 +14,37 @@ length-combined f (x ∷ xs) [] e = refl
 length-combined f (x ∷ xs) (y ∷ ys) e = ap suc (length-combined f xs ys (omega (arith, e)))
 
 pub combined_at : {X Y Z : Type 0} (f : X → Y → Z) (xs : List X) (ys : List Y) (k : ℕ) (x : X) (y : Y) → slice_get xs k ≡ Some x → slice_get ys k ≡ Some y → slice_get (combined f xs ys) k ≡ Some (f x y)
-combined_at f [] ys k x y one other = absurd cc
-combined_at f (a ∷ xs) [] k x y one other = absurd cc
 combined_at f (a ∷ xs) (b ∷ ys) zero x y one other =
     let same : a ≡ x = cc in
     let also : b ≡ y = cc in
     rw (same, also) refl
 combined_at f (a ∷ xs) (b ∷ ys) (suc k) x y one other = combined_at f xs ys k x y one other
+combined_at f _ _ k x y one other = absurd cc
 
 pub combined-push : {X Y Z : Type 0} (f : X → Y → Z) (xs : List X) (ys : List Y) (x : X) (y : Y) → length xs ≡ length ys → combined f (xs ++ x ∷ []) (ys ++ y ∷ []) ≡ combined f xs ys ++ f x y ∷ []
 combined-push f [] [] x y e = refl
-combined-push f [] (b ∷ ys) x y e = absurd (omega (arith, e))
-combined-push f (a ∷ xs) [] x y e = absurd (omega (arith, e))
 combined-push f (a ∷ xs) (b ∷ ys) x y e = ap (λ zs. f a b ∷ zs) (combined-push f xs ys x y (omega (arith, e)))
+combined-push f _ _ x y e = absurd (omega (arith, e))
 
 -- all elements of one of them changed
 pub combined-map_first : {X Y Z : Type 0} (f : X → Y → Z) (g : X → X) (h : Z → Z) (xs : List X) (ys : List Y) → ((x : X) (y : Y) → f (g x) y ≡ h (f x y)) → combined f (map g xs) ys ≡ map h (combined f xs ys)
-combined-map_first f g h [] ys same = refl
-combined-map_first f g h (x ∷ xs) [] same = refl
 combined-map_first f g h (x ∷ xs) (y ∷ ys) same = ap (λ z. z ∷ combined f (map g xs) ys) (same x y) ∙ ap (λ zs. h (f x y) ∷ zs) (combined-map_first f g h xs ys same)
+combined-map_first f g h _ _ same = refl
 
 pub combined-map_second : {X Y Z : Type 0} (f : X → Y → Z) (g : Y → Y) (h : Z → Z) (xs : List X) (ys : List Y) → ((x : X) (y : Y) → f x (g y) ≡ h (f x y)) → combined f xs (map g ys) ≡ map h (combined f xs ys)
-combined-map_second f g h [] ys same = refl
-combined-map_second f g h (x ∷ xs) [] same = refl
 combined-map_second f g h (x ∷ xs) (y ∷ ys) same = ap (λ z. z ∷ combined f xs (map g ys)) (same x y) ∙ ap (λ zs. h (f x y) ∷ zs) (combined-map_second f g h xs ys same)
+combined-map_second f g h _ _ same = refl
 
 -- one element of one of them
 pub combined-at_first : {X Y Z : Type 0} (f : X → Y → Z) (g : X → X) (h : Z → Z) (v : ℕ) (xs : List X) (ys : List Y) → ((x : X) (y : Y) → f (g x) y ≡ h (f x y)) → combined f (at_place g v xs) ys ≡ at_place h v (combined f xs ys)
-combined-at_first f g h v [] ys same = refl
-combined-at_first f g h zero (x ∷ xs) [] same = refl
 combined-at_first f g h zero (x ∷ xs) (y ∷ ys) same = ap (λ z. z ∷ combined f xs ys) (same x y)
-combined-at_first f g h (suc v) (x ∷ xs) [] same = refl
 combined-at_first f g h (suc v) (x ∷ xs) (y ∷ ys) same = ap (λ zs. f x y ∷ zs) (combined-at_first f g h v xs ys same)
+combined-at_first f g h _ _ _ same = refl
 
 pub combined-at_second : {X Y Z : Type 0} (f : X → Y → Z) (g : Y → Y) (h : Z → Z) (v : ℕ) (xs : List X) (ys : List Y) → ((x : X) (y : Y) → f x (g y) ≡ h (f x y)) → combined f xs (at_place g v ys) ≡ at_place h v (combined f xs ys)
-combined-at_second f g h v [] ys same = refl
-combined-at_second f g h v (x ∷ xs) [] same = refl
 combined-at_second f g h zero (x ∷ xs) (y ∷ ys) same = ap (λ z. z ∷ combined f xs ys) (same x y)
 combined-at_second f g h (suc v) (x ∷ xs) (y ∷ ys) same = ap (λ zs. f x y ∷ zs) (combined-at_second f g h v xs ys same)
+combined-at_second f g h v _ _ same = refl
 
 -- the number of rows
 pub length-rows : {X : Type 0} (n : ℕ) (columns : List (List X)) → AreColumns n columns → length (rows n columns) ≡ n
@@ -71,25 +65,18 @@ slice_get-replicate zero k x below = absurd (omega arith)
 slice_get-replicate (suc n) zero x below = refl
 slice_get-replicate (suc n) (suc k) x below = slice_get-replicate n k x (omega arith)
 
--- and once more
-replicate-push : {X : Type 0} (n : ℕ) (x : X) → replicate (suc n) x ≡ replicate n x ++ x ∷ []
-replicate-push zero x = refl
-replicate-push (suc n) x = ap (λ xs. x ∷ xs) (replicate-push n x)
-
 -- a row has the elements of the columns
 pub row_at : {X : Type 0} (n k : ℕ) (columns : List (List X)) (row : List X) → k < n → IsRow k columns row → slice_get (rows n columns) k ≡ Some row
 row_at n k [] [] below is = slice_get-replicate n k [] below
-row_at n k [] (x ∷ row) below is = absurd is
-row_at n k (column ∷ columns) [] below is = absurd is
 row_at n k (column ∷ columns) (x ∷ row) below is = combined_at (λ y ys. y ∷ ys) column (rows n columns) k x row is.0 (row_at n k columns row below is.1)
+row_at n k _ _ below is = absurd is
 
 -- one row more
 pub rows-push : {X : Type 0} (n : ℕ) (columns : List (List X)) (row : List X) → AreColumns n columns → length columns ≡ length row → rows (suc n) (with_row columns row) ≡ rows n columns ++ row ∷ []
-rows-push n [] [] whole e = replicate-push n []
-rows-push n [] (x ∷ row) whole e = absurd (omega (arith, e))
-rows-push n (column ∷ columns) [] whole e = absurd (omega (arith, e))
+rows-push n [] [] whole e = ap (λ m. replicate m []) (sym (add-one n)) ∙ replicate_next n []
 rows-push n (column ∷ columns) (x ∷ row) whole e =
     rw (rows-push n columns row whole.1 (omega (arith, e))) (combined-push (λ y ys. y ∷ ys) column (rows n columns) x row (whole.0 ∙ sym (length-rows n columns whole.1)))
+rows-push n _ _ whole e = absurd (omega (arith, e))
 
 -- rows of nothing
 empty-map : {X : Type 0} (f : X → X) (j n : ℕ) → replicate {A = List X} n [] ≡ map (at_place f j) (replicate n [])
@@ -146,14 +133,8 @@ at_place-set y (suc k) (x ∷ xs) = ap (λ ys. x ∷ ys) (at_place-set y k xs)
 
 -- what holds of each list of six elements written out holds of a list of length 6
 pub each_six : {X : Type 0} (P : List X → Type 0) (xs : List X) → length xs ≡ 6 → ((u v w x y z : X) → P (u ∷ v ∷ w ∷ x ∷ y ∷ z ∷ [])) → P xs
-each_six P [] six all = absurd (omega (arith, six))
-each_six P (a ∷ []) six all = absurd (omega (arith, six))
-each_six P (a ∷ b ∷ []) six all = absurd (omega (arith, six))
-each_six P (a ∷ b ∷ c ∷ []) six all = absurd (omega (arith, six))
-each_six P (a ∷ b ∷ c ∷ d ∷ []) six all = absurd (omega (arith, six))
-each_six P (a ∷ b ∷ c ∷ d ∷ e ∷ []) six all = absurd (omega (arith, six))
 each_six P (a ∷ b ∷ c ∷ d ∷ e ∷ f ∷ []) six all = all a b c d e f
-each_six P (a ∷ b ∷ c ∷ d ∷ e ∷ f ∷ g ∷ xs) six all = absurd (omega (arith, six))
+each_six P _ six all = absurd (omega (arith, six))
 
 -- a list of six elements is their list
 pub six_of : {X : Type 0} (xs : List X) (u v w x y z : X) → length xs ≡ 6 → u ≡ get_or xs 0 u → v ≡ get_or xs 1 v → w ≡ get_or xs 2 w → x ≡ get_or xs 3 x → y ≡ get_or xs 4 y → z ≡ get_or xs 5 z → xs ≡ u ∷ v ∷ w ∷ x ∷ y ∷ z ∷ []

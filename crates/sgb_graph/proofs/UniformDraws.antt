@@ -1,5 +1,5 @@
 -- Of 1760 draws in a row one is below the bound of a uniform draw, so that each uniform draw is found.
-use Rattle.std.specs.Prelude.{◌≡◌, ℕ, zero, suc, ◌+◌, ◌-◌, ◌*◌, ◌/◌, ◌%◌, ◌^◌, ◌<◌, ◌≤◌, ◌⊎◌, Bool, true, false, cond, Option, Some, None, find, nat_lt, unwrap_or, refl}
+use Rattle.std.specs.Prelude.{◌≡◌, ℕ, zero, suc, ◌+◌, ◌-◌, ◌*◌, ◌/◌, ◌%◌, ◌^◌, ◌<◌, ◌≤◌, Bool, true, false, cond, Option, Some, None, find, nat_lt, unwrap_or, refl}
 use Rattle.std.specs.List.{range_with_len}
 use Rattle.std.proofs.Common.{arith, ap, ◌∙◌, subst, inl, inr}
 use Rattle.std.proofs.Math.Nat.{two-pow-succ}
@@ -45,15 +45,9 @@ one_below x bound base high is above =
 sequence_from : (seed base : ℕ) → 55 < base → IsSequence (x_number seed) base
 sequence_from seed base after = record {
   small = λ n low. rw (later_number seed n (omega arith)) (difference_below (x_number seed (n - 55)) (x_number seed (n - 24)));
-  rule = rule_at;
+  rule = λ n low. later_number seed (n + 55) (omega arith)
+      ∙ (ap (λ (a : ℕ). difference (x_number seed a) (x_number seed (n + 55 - 24))) (omega arith) ∙ ap (λ (b : ℕ). difference (x_number seed n) (x_number seed b)) (omega arith));
 }
-  where
-    rule_at : (n : ℕ) → base ≤ n → x_number seed (n + 55) ≡ difference (x_number seed n) (x_number seed (n + 31))
-    rule_at n low =
-        let one : n + 55 - 55 ≡ n = omega arith in
-        let other : n + 55 - 24 ≡ n + 31 = omega arith in
-        later_number seed (n + 55) (omega arith)
-        ∙ (ap (λ a. difference (x_number seed a) (x_number seed (n + 55 - 24))) one ∙ ap (λ b. difference (x_number seed n) (x_number seed b)) other)
 
 -- each number from X(331) on is a draw
 abbrev draw_of : ℕ → ℕ
@@ -61,20 +55,15 @@ draw_of n = 55 * ((n - 1) / 55 - 5) + 53 - (n - 1) % 55
 
 is_draw_of : (seed n : ℕ) → 331 ≤ n → draw seed (draw_of n) ≡ x_number seed n
 is_draw_of seed n high =
-    let place : 55 * (5 + (draw_of n + 1) / 55) + 55 - (draw_of n + 1) % 55 ≡ n = omega arith in
-    ap (λ (i : ℕ). x_number seed i) place
+    ap (λ (i : ℕ). x_number seed i) (omega arith)
 
 -- so of 1760 draws in a row one is below the bound
 one_draw_below : (seed bound k : ℕ) → 2 ^ 30 < bound → ¬ ((t : ℕ) → k ≤ t → t < k + 1760 → bound ≤ draw seed t)
-one_draw_below seed bound k high above = one_below (x_number seed) bound base high (sequence_from seed base (omega arith)) number_above
-  where
-    base : ℕ
-    base = 55 * (6 + (k + 1) / 55) + 1
-
-    number_above : (n : ℕ) → base ≤ n → n ≤ base + 1650 → bound ≤ x_number seed n
-    number_above n low up =
-        let drawn = above (draw_of n) (omega arith) (omega arith) in
-        subst (λ x. bound ≤ x) (is_draw_of seed n (omega arith)) drawn
+one_draw_below seed bound k high above =
+    let base : ℕ = 55 * (6 + (k + 1) / 55) + 1 in
+    one_below (x_number seed) bound base high (sequence_from seed base (omega arith)) (λ n low up.
+    let drawn = above (draw_of n) (omega arith) (omega arith) in
+    subst (λ x. bound ≤ x) (is_draw_of seed n (omega arith)) drawn)
 
 -- where `find` finds none of the numbers from k on, the values there are not below the bound
 found_none : (value : ℕ → ℕ) (bound many k : ℕ) → find (λ t. nat_lt (value t) bound) (range_with_len k many) ≡ None
@@ -86,15 +75,15 @@ found_none value bound (suc many) k e = here_and_later (found_none value bound m
         → (b : Bool) → nat_lt (value k) bound ≡ b → cond b (Some k) (find (λ t. nat_lt (value t) bound) (range_with_len (k + 1) many)) ≡ None
         → (t : ℕ) → k ≤ t → t < k + suc many → bound ≤ value t
     here_and_later later true test none t low up = absurd cc
-    here_and_later later false test none t low up = at_or_after (cases_lt k t)
-      where
-        at_or_after : (k < t) ⊎ (t ≤ k) → bound ≤ value t
-        at_or_after (inl after) = later none t (omega arith) (omega arith)
-        at_or_after (inr at) =
-            let same : k ≡ t = omega arith in
-            let above : bound ≤ value k = grind (arith, test, Decides-ltb (value k) bound) in
-            let Above : ℕ → Type 0 = λ i. bound ≤ value i in
-            subst Above same above
+    here_and_later later false test none t low up =
+        elim (cases_lt k t) [
+          | inl after ↦ later none t (omega arith) (omega arith)
+          | inr at ↦
+              let same : k ≡ t = omega arith in
+              let above : bound ≤ value k = grind (arith, test, Decides-ltb (value k) bound) in
+              let Above : ℕ → Type 0 = λ i. bound ≤ value i in
+              subst Above same above
+        ]
 
 -- a search that finds one gives the number that it finds
 found_or : (found : Option ℕ) (other : ℕ) → ¬ (found ≡ None) → found ≡ Some (unwrap_or found other)
@@ -119,14 +108,14 @@ uniform_draw_taken seed m k some small = first_taken_makes seed m k most_tried (
 
 -- of two uniform draws below m from draw k on the first is made of no later draw than the second
 no_later : (seed m k one other last next : ℕ) → IsUniformDraw seed m k one last → IsUniformDraw seed m k other next → last ≤ next
-no_later seed m k one other last next is also = by_cases (cases_lt next last)
-  where
-    by_cases : (next < last) ⊎ (last ≤ next) → last ≤ next
-    by_cases (inl before) =
-        let above = is.thrown_away next also.from_place before in
-        let below = also.taken in
-        absurd (omega arith)
-    by_cases (inr fits) = fits
+no_later seed m k one other last next is also =
+    elim (cases_lt next last) [
+      | inl before ↦
+          let above = is.thrown_away next also.from_place before in
+          let below = also.taken in
+          absurd (omega arith)
+      | inr fits ↦ fits
+    ]
 
 -- and there is no other
 pub uniform_draw_only : (seed m k number last : ℕ) → 1 ≤ m → m ≤ modulus → IsUniformDraw seed m k number last → (last ≡ used_draw seed m k) × (number ≡ draw seed last % m)

@@ -65,20 +65,20 @@ waiting_on bound first other next_first next_other left some not_first not_other
     not_32 low last = let high = not_other last in omega arith
 
     still_stops : stops_within bound first other left ≡ true → stops_within bound first other (left - 1) ≡ true
-    still_stops stops = either (or_cases (ltb 0 left && ltb first bound) (ltb 31 left && ltb other bound) stops)
-      where
-        either : ((ltb 0 left && ltb first bound) ≡ true) ⊎ ((ltb 31 left && ltb other bound) ≡ true) → stops_within bound first other (left - 1) ≡ true
-        either (inl one) =
-            let parts = and_parts (ltb 0 left) (ltb first bound) one in
-            let apart = not_one (ltb-true first bound parts.1) in
-            let more : 0 < left - 1 = omega arith in
-            or_left (ltb 0 (left - 1) && ltb first bound) (ltb 31 (left - 1) && ltb other bound) (and_from (ltb 0 (left - 1)) (ltb first bound) (lt-ltb 0 (left - 1) more) parts.1)
-        either (inr two) =
-            let parts = and_parts (ltb 31 left) (ltb other bound) two in
-            let apart = not_32 (ltb-true other bound parts.1) in
-            let high = ltb-true 31 left parts.0 in
-            let more : 31 < left - 1 = omega arith in
-            or_right (ltb 0 (left - 1) && ltb first bound) (ltb 31 (left - 1) && ltb other bound) (and_from (ltb 31 (left - 1)) (ltb other bound) (lt-ltb 31 (left - 1) more) parts.1)
+    still_stops stops =
+        elim (or_cases (ltb 0 left && ltb first bound) (ltb 31 left && ltb other bound) stops) [
+          | inl one ↦
+              let parts = and_parts (ltb 0 left) (ltb first bound) one in
+              let apart = not_one (ltb-true first bound parts.1) in
+              let more : 0 < left - 1 = omega arith in
+              or_left (ltb 0 (left - 1) && ltb first bound) (ltb 31 (left - 1) && ltb other bound) (and_from (ltb 0 (left - 1)) (ltb first bound) (lt-ltb 0 (left - 1) more) parts.1)
+          | inr two ↦
+              let parts = and_parts (ltb 31 left) (ltb other bound) two in
+              let apart = not_32 (ltb-true other bound parts.1) in
+              let high = ltb-true 31 left parts.0 in
+              let more : 31 < left - 1 = omega arith in
+              or_right (ltb 0 (left - 1) && ltb first bound) (ltb 31 (left - 1) && ltb other bound) (and_from (ltb 31 (left - 1)) (ltb other bound) (lt-ltb 31 (left - 1) more) parts.1)
+        ]
 
     by_cases : (stops_within bound first other left ≡ true) ⊎ (stops_within bound first other left ≡ false) → less < waiting_of bound first other next_first next_other left
     by_cases (inl stops) =
@@ -112,40 +112,32 @@ waiting bound numbers left =
 -- each number that is handed out and not below the bound brings the end nearer
 pub waiting_falls : (bound : ℕ) (old : List ℕ) (left result : ℕ) (new : List ℕ) (left_after : ℕ) → 2 ^ 30 < bound → HandsOut old left result new left_after → bound ≤ result
     → waiting bound new left_after < waiting bound old left
-waiting_falls bound old left result new left_after high out above = by_cases (cases_lt 0 left)
-  where
-    first_after : ℕ
-    first_after = difference (get_or old 0 0) (get_or old 31 0)
-
-    other_after : ℕ
-    other_after = difference (get_or old 31 0) (difference (get_or old 7 0) (get_or old 38 0))
-
-    at_place : (p : ℕ) → new ≡ old → left_after ≡ p → bound ≤ get_or old p 0
-    at_place p same place =
-        let value : result ≡ get_or old p 0 = out.value ∙ (ap (λ xs. get_or xs left_after 0) same ∙ ap (λ q. get_or old q 0) place) in
-        subst (λ x. bound ≤ x) value above
-
-    by_cases : (0 < left) ⊎ (left ≤ 0) → waiting bound new left_after < waiting bound old left
-    by_cases (inl some) =
-        let step = out.inside (omega arith) in
-        let same : old ≡ new = sym step.0 in
-        let lower : left_after + 1 ≡ left = step.1 in
-        let place : left - 1 ≡ left_after = omega arith in
-        let nearer = waiting_on bound (get_or old 0 0) (get_or old 31 0) first_after other_after left some
-        (λ one. at_place 0 step.0 (omega arith)) (λ last. at_place 31 step.0 (omega arith)) in
-        subst (λ (xs : List ℕ). waiting bound xs left_after < waiting bound old left) same
-        (subst (λ p. waiting bound old p < waiting bound old left) place nearer)
-    by_cases (inr none) =
-        let step = out.at_end (omega arith) in
-        let next : IsNextCycle old new = step.0 in
-        let zero : 0 ≡ left = omega arith in
-        let first_is : get_or new 0 0 ≡ first_after = next.early 0 (omega arith) in
-        let other_is : get_or new 31 0 ≡ other_after =
-        next.late 31 (omega arith) (omega arith) ∙ ap (λ b. difference (get_or old 31 0) b) (next.early 7 (omega arith)) in
-        let nearer = waiting_next bound (get_or old 0 0) (get_or old 31 0) (get_or new 0 0) (get_or new 31 0)
-        (difference (get_or new 31 0) (difference (get_or new 7 0) (get_or new 38 0))) high (next.cycle.below 0 (omega arith)) (next.cycle.below 31 (omega arith)) in
-        let same : waiting_of bound (get_or old 0 0) (get_or old 31 0) (get_or new 0 0) (get_or new 31 0) 0 ≡ waiting bound old left =
-        ap (λ a. waiting_of bound (get_or old 0 0) (get_or old 31 0) a (get_or new 31 0) 0) first_is
-        ∙ (ap (λ b. waiting_of bound (get_or old 0 0) (get_or old 31 0) first_after b 0) other_is ∙ ap (λ p. waiting bound old p) zero) in
-        subst (λ n. waiting bound new left_after < n) same
-        (subst (λ p. waiting bound new p < waiting_of bound (get_or old 0 0) (get_or old 31 0) (get_or new 0 0) (get_or new 31 0) 0) (sym step.1) nearer)
+waiting_falls bound old left result new left_after high out above =
+    let first_after = difference (get_or old 0 0) (get_or old 31 0) in
+    let other_after = difference (get_or old 31 0) (difference (get_or old 7 0) (get_or old 38 0)) in
+    elim (cases_lt 0 left) [
+      | inl some ↦
+          let step = out.inside (omega arith) in
+          let at_place : (p : ℕ) → left_after ≡ p → bound ≤ get_or old p 0 = λ p place.
+          let value : result ≡ get_or old p 0 = out.value ∙ (ap (λ xs. get_or xs left_after 0) step.0 ∙ ap (λ q. get_or old q 0) place) in
+          subst (λ x. bound ≤ x) value above in
+          let lower : left_after + 1 ≡ left = step.1 in
+          let place : left - 1 ≡ left_after = omega arith in
+          let nearer = waiting_on bound (get_or old 0 0) (get_or old 31 0) first_after other_after left some (λ one. at_place 0 (omega arith)) (λ last. at_place 31 (omega arith)) in
+          subst (λ (xs : List ℕ). waiting bound xs left_after < waiting bound old left) (sym step.0)
+          (subst (λ p. waiting bound old p < waiting bound old left) place nearer)
+      | inr none ↦
+          let step = out.at_end (omega arith) in
+          let next : IsNextCycle old new = step.0 in
+          let zero : 0 ≡ left = omega arith in
+          let first_is : get_or new 0 0 ≡ first_after = next.early 0 (omega arith) in
+          let other_is : get_or new 31 0 ≡ other_after =
+          next.late 31 (omega arith) (omega arith) ∙ ap (λ b. difference (get_or old 31 0) b) (next.early 7 (omega arith)) in
+          let nearer = waiting_next bound (get_or old 0 0) (get_or old 31 0) (get_or new 0 0) (get_or new 31 0)
+          (difference (get_or new 31 0) (difference (get_or new 7 0) (get_or new 38 0))) high (next.cycle.below 0 (omega arith)) (next.cycle.below 31 (omega arith)) in
+          let same : waiting_of bound (get_or old 0 0) (get_or old 31 0) (get_or new 0 0) (get_or new 31 0) 0 ≡ waiting bound old left =
+          ap (λ a. waiting_of bound (get_or old 0 0) (get_or old 31 0) a (get_or new 31 0) 0) first_is
+          ∙ (ap (λ b. waiting_of bound (get_or old 0 0) (get_or old 31 0) first_after b 0) other_is ∙ ap (λ p. waiting bound old p) zero) in
+          subst (λ n. waiting bound new left_after < n) same
+          (subst (λ p. waiting bound new p < waiting_of bound (get_or old 0 0) (get_or old 31 0) (get_or new 0 0) (get_or new 31 0) 0) (sym step.1) nearer)
+    ]

@@ -1,8 +1,7 @@
 -- Walks along the lists of all vertices, one after another.
-use Rattle.std.proofs.Common.{◌≡◌, ◌<◌, ◌+◌, ◌∙◌, ℕ, true, false, List, [], length, get_or, take, drop, ◌++◌, Bool, Option, ap, sym}
+use Rattle.std.proofs.Common.{◌≡◌, ◌<◌, ◌+◌, ◌∙◌, ℕ, true, false, List, [], length, get_or, take, Option, ap, sym}
 use Rattle.std.specs.List.{list_all}
 use Rattle.std.specs.Option.{option_and_then}
-use Rattle.std.proofs.Math.Seq.{take-append_seam}
 use Rattle.std.proofs.lemmas.Bool.{and_from}
 use Rattle.std.proofs.lemmas.List.Folds.{list_all_at, list_all_more}
 use Rattle.std.proofs.lemmas.Option.{slice_get-get_or}
@@ -42,7 +41,3 @@ one_more_leads vertices records v first below is leads before =
     let test = λ (x : Vertex). leads_of records x.arcs in
     list_all_more test vertices v (bare_named []) below
     ∙ and_from (list_all test (take v vertices)) (test (vertex_at vertices v)) before (ap (leads_of records) (sym (first_at vertices v first below is)) ∙ leads)
-
--- marks that are written over all marks are those
-pub marked_anew : (n : ℕ) (new old : List Bool) → length new ≡ n → take n (new ++ drop (length new) old) ≡ new
-marked_anew n new old long = rw (← long) (take-append_seam new (drop (length new) old))

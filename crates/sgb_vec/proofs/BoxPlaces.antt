@@ -1,6 +1,6 @@
 -- Where a vector stands among the vectors of a box, and which vectors those are.
-use Rattle.std.proofs.Common.{◌≡◌, ℕ, ◌+◌, ◌*◌, ◌/◌, ◌%◌, ◌<◌, ◌↔◌, true, nat_lt, List, [], ◌∷◌, length, get_or, take, map, refl, sym, ap, subst, ◌∙◌, zero-add, arith, length-append}
-use Rattle.std.specs.List.{Contains, flat_map, range_with_len, slice_get, list_all, zip}
+use Rattle.std.proofs.Common.{◌≡◌, ℕ, Bool, ◌+◌, ◌*◌, ◌/◌, ◌%◌, ◌<◌, ◌↔◌, true, nat_lt, List, [], ◌∷◌, length, get_or, take, map, refl, sym, ap, subst, ◌∙◌, zero-add, arith, length-append}
+use Rattle.std.specs.List.{AllZip, Contains, flat_map, range_with_len, slice_get, list_all, zip}
 use Rattle.std.specs.Prelude.{Some}
 use Rattle.std.proofs.lemmas.List.{length-map, length-take-le, get_or-map}
 use Rattle.std.proofs.lemmas.List.Elements.{length_all_zip, AllZip-get_or}
@@ -26,16 +26,19 @@ IsBelow-at sizes v k b h = AllZip-get_or (λ x s. x < s) v sizes k 0 0 b h
 pub IsBelow-length : (sizes v : List ℕ) → IsBelow v sizes → length v ≡ length sizes
 IsBelow-length sizes v b = length_all_zip (λ x s. x < s) v sizes b
 
--- the test of each pair, where there are as many entries as sizes
-pub IsBelow-test : (sizes v : List ℕ) → length v ≡ length sizes → (list_all (λ p. nat_lt p.0 p.1) (zip v sizes) ≡ true) ↔ IsBelow v sizes
-IsBelow-test [] [] e = (λ _. tt, λ _. refl)
-IsBelow-test [] (x ∷ v) e = absurd (omega arith)
-IsBelow-test (s ∷ sizes) [] e = absurd (omega arith)
-IsBelow-test (s ∷ sizes) (x ∷ v) e =
-    let rest = IsBelow-test sizes v (omega arith) in (
-      λ h. let parts = and_parts (nat_lt x s) (list_all (λ p. nat_lt p.0 p.1) (zip v sizes)) h in (ltb-true x s parts.0, rest.0 parts.1),
-      λ b. and_from (nat_lt x s) (list_all (λ p. nat_lt p.0 p.1) (zip v sizes)) (lt-ltb x s b.0) (rest.1 b.1),
+-- a test of each pair, where there are as many in both lists
+pub test_each_pair : (t : ℕ → ℕ → Bool) (R : ℕ → ℕ → Type 0) → ((x s : ℕ) → (t x s ≡ true) ↔ R x s) → (sizes v : List ℕ) → length v ≡ length sizes → (list_all (λ p. t p.0 p.1) (zip v sizes) ≡ true) ↔ AllZip R v sizes
+test_each_pair t R decides [] [] e = (λ _. tt, λ _. refl)
+test_each_pair t R decides (s ∷ sizes) (x ∷ v) e =
+    let rest = test_each_pair t R decides sizes v (omega arith) in (
+      λ h. let parts = and_parts (t x s) (list_all (λ p. t p.0 p.1) (zip v sizes)) h in ((decides x s).0 parts.0, rest.0 parts.1),
+      λ b. and_from (t x s) (list_all (λ p. t p.0 p.1) (zip v sizes)) ((decides x s).1 b.0) (rest.1 b.1),
     )
+test_each_pair t R decides _ _ e = absurd (omega arith)
+
+-- that of entries below sizes
+pub IsBelow-test : (sizes v : List ℕ) → length v ≡ length sizes → (list_all (λ p. nat_lt p.0 p.1) (zip v sizes) ≡ true) ↔ IsBelow v sizes
+IsBelow-test sizes v e = test_each_pair nat_lt (λ x s. x < s) (λ x s. (ltb-true x s, lt-ltb x s)) sizes v e
 
 -- rows of k elements each
 length-rows : {X : Type 0} (f : ℕ → List X) (k : ℕ) → ((x : ℕ) → length (f x) ≡ k) → (xs : List ℕ) → length (flat_map f xs) ≡ length xs * k
@@ -72,20 +75,18 @@ get_or-box s sizes x j d h k =
 -- a vector of the box stands within it
 pub place_of-below : (sizes v : List ℕ) → IsBelow v sizes → place_of sizes v < product_of sizes
 place_of-below [] [] b = omega arith
-place_of-below [] (x ∷ v) b = absurd b
-place_of-below (s ∷ sizes) [] b = absurd b
 place_of-below (s ∷ sizes) (x ∷ v) b =
     omega (arith, mul-add-lt x (product_of sizes) (place_of sizes v) s b.0 (place_of-below sizes v b.1))
+place_of-below _ _ b = absurd b
 
 -- at its place stands the vector
 pub get_or-place_of : (sizes v d : List ℕ) → IsBelow v sizes → get_or (box sizes) (place_of sizes v) d ≡ v
 unfolding box
 get_or-place_of [] [] d b = refl
-get_or-place_of [] (x ∷ v) d b = absurd b
-get_or-place_of (s ∷ sizes) [] d b = absurd b
 get_or-place_of (s ∷ sizes) (x ∷ v) d b =
     get_or-box s sizes x (place_of sizes v) d b.0 (place_of-below sizes v b.1)
     ∙ ap (λ w. x ∷ w) (get_or-place_of sizes v d b.1)
+get_or-place_of _ _ d b = absurd b
 
 -- a vector that stands at place i: its entries are below the sizes, and its place is i
 pub record StandsAt (sizes v : List ℕ) (i : ℕ) : Type 0 where

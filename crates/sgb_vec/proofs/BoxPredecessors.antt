@@ -16,10 +16,9 @@ use Rattle.sgb_vec.proofs.BoxSuccessors.{GrownAt, TopAfter, StandsAt-grown, plac
 -- as many entries as sizes, each below its size, place by place
 IsBelow-from_at : (sizes v : List ℕ) → length v ≡ length sizes → ((k : ℕ) → k < length v → get_or v k 0 < get_or sizes k 0) → IsBelow v sizes
 IsBelow-from_at [] [] e h = tt
-IsBelow-from_at [] (x ∷ v) e h = absurd (omega arith)
-IsBelow-from_at (s ∷ sizes) [] e h = absurd (omega arith)
 IsBelow-from_at (s ∷ sizes) (x ∷ v) e h =
     (h 0 (omega arith), IsBelow-from_at sizes v (omega arith) (λ k m. h (suc k) (omega arith)))
+IsBelow-from_at _ _ e h = absurd (omega arith)
 
 -- where a vector is below the sizes, each size is above 0
 pub sizes_some-below : (sizes v : List ℕ) → IsBelow v sizes → All (λ s. 0 < s) sizes
@@ -93,11 +92,10 @@ FallenAt-put_mid sizes v zs p b h pos e =
 
 -- zeros stand at place 0
 place_of-zeros : (sizes v : List ℕ) → ((k : ℕ) → k < length v → get_or v k 0 ≡ 0) → place_of sizes v ≡ 0
-place_of-zeros [] v zeros = refl
-place_of-zeros (s ∷ sizes) [] zeros = refl
 place_of-zeros (s ∷ sizes) (x ∷ v) zeros =
     let here : x ≡ 0 = zeros 0 (omega arith) in
     rw here (omega (arith, place_of-zeros sizes v (λ k h. zeros (suc k) (omega arith))))
+place_of-zeros _ _ zeros = refl
 
 -- and have none before them
 pub HasNoneBefore-zeros : (sizes v : List ℕ) → ((k : ℕ) → k < length v → get_or v k 0 ≡ 0) → HasNoneBefore (box sizes) v

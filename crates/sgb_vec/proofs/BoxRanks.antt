@@ -1,5 +1,5 @@
 -- The place of a vector of a box, computed entry by entry.
-use Rattle.std.proofs.Common.{◌≡◌, ℕ, zero, suc, ◌+◌, ◌*◌, ◌<◌, ◌≤◌, List, [], ◌∷◌, length, get_or, drop, sym, ap, ◌∙◌, arith}
+use Rattle.std.proofs.Common.{◌≡◌, ℕ, suc, ◌+◌, ◌*◌, ◌<◌, ◌≤◌, List, ◌∷◌, length, get_or, drop, sym, ap, ◌∙◌, arith}
 use Rattle.std.specs.List.{slice_get}
 use Rattle.std.specs.Prelude.{Some}
 use Rattle.std.proofs.lemmas.List.{at_drop_more, drop_all}
@@ -24,9 +24,8 @@ rank-more sizes v k rank so h i =
 
 -- with sizes that are not 0 their product is not 0
 product-drop_pos : (k : ℕ) (sizes : List ℕ) → 0 < product_of sizes → 0 < product_of (drop k sizes)
-product-drop_pos zero sizes h = h
-product-drop_pos (suc k) [] h = h
 product-drop_pos (suc k) (s ∷ sizes) h = product-drop_pos k sizes (factors-pos s (product_of sizes) h).1
+product-drop_pos _ _ h = h
 
 -- what the entries make so far is below the number of vectors
 pub rank-below : (sizes v : List ℕ) (k rank : ℕ) → IsRankSoFar sizes v k rank → IsBelow v sizes → rank < product_of sizes

@@ -22,29 +22,25 @@ pub record GrownAt (v w : List ℕ) (p : ℕ) : Type 0 where
 -- a vector whose entries are all at their top is at the last place
 pub place_of-top : (sizes v : List ℕ) → IsBelow v sizes → TopAfter sizes v 0 → place_of sizes v + 1 ≡ product_of sizes
 place_of-top [] [] b t = refl
-place_of-top [] (x ∷ v) b t = absurd b
-place_of-top (s ∷ sizes) [] b t = absurd b
 place_of-top (s ∷ sizes) (x ∷ v) b t =
     let here : x + 1 ≡ s = t 0 (omega arith) (omega arith) in
     let rest = place_of-top sizes v b.1 (λ k _ h. t (suc k) (omega arith) (omega arith)) in
     rw (← here) (omega arith)
+place_of-top _ _ b t = absurd b
 
 -- zeros stand at place 0, where some vector is below the sizes
 StandsAt-zero : (sizes v w : List ℕ) → IsBelow v sizes → length w ≡ length v → ((k : ℕ) → k < length v → get_or w k 0 ≡ 0) → StandsAt sizes w 0
 StandsAt-zero [] [] [] b e z = record { each_below = tt; place = refl }
-StandsAt-zero [] [] (y ∷ w) b e z = absurd (omega arith)
 StandsAt-zero [] (x ∷ v) w b e z = absurd b
 StandsAt-zero (s ∷ sizes) [] w b e z = absurd b
-StandsAt-zero (s ∷ sizes) (x ∷ v) [] b e z = absurd (omega arith)
 StandsAt-zero (s ∷ sizes) (x ∷ v) (y ∷ w) b e z =
     let here : y ≡ 0 = z 0 (omega arith) in
     let rest = StandsAt-zero sizes v w b.1 (omega arith) (λ k h. z (suc k) (omega arith)) in
     rw here (record { each_below = (omega (arith, b.0), rest.each_below); place = omega arith })
+StandsAt-zero _ _ _ b e z = absurd (omega arith)
 
 -- with the entries after p at their top, the vector grown at p stands at the next place
 pub StandsAt-grown : (sizes v w : List ℕ) (p : ℕ) → IsBelow v sizes → p < length v → get_or v p 0 + 1 < get_or sizes p 0 → TopAfter sizes v (p + 1) → GrownAt v w p → StandsAt sizes w (place_of sizes v + 1)
-StandsAt-grown [] v w p b h l t g = absurd (omega arith)
-StandsAt-grown (s ∷ sizes) [] w p b h l t g = absurd (omega arith)
 StandsAt-grown (s ∷ sizes) (x ∷ v) [] p b h l t g = absurd (omega (arith, g.same_length))
 StandsAt-grown (s ∷ sizes) (x ∷ v) (y ∷ w) zero b h l t g =
     let here : y ≡ x + 1 = g.at in
@@ -61,6 +57,7 @@ StandsAt-grown (s ∷ sizes) (x ∷ v) (y ∷ w) (suc p) b h l t g =
     } in
     let rest = StandsAt-grown sizes v w p b.1 (omega arith) l (λ k m n. t (suc k) (omega arith) (omega arith)) grown in
     rw here (record { each_below = (b.0, rest.each_below); place = omega (arith, rest.place) })
+StandsAt-grown _ _ w p b h l t g = absurd (omega arith)
 
 -- what a write of the grown entry and then of zeros after it leaves
 pub GrownAt-put_mid : (v zs : List ℕ) (p : ℕ) → p < length v → zs ≡ replicate (length v - (p + 1)) 0 → GrownAt v (put_mid (p + 1) (length (set v p (get_or v p 0 + 1)) - (p + 1)) (set v p (get_or v p 0 + 1)) zs) p

@@ -1,20 +1,13 @@
 -- The members of the families are vectors that have names.
-use Rattle.std.proofs.Common.{ℕ, zero, suc, ◌<◌, ◌≤◌, ◌^◌, List, [], ◌∷◌, length, get_or, arith}
+use Rattle.std.proofs.Common.{ℕ, ◌<◌, ◌≤◌, ◌^◌, List, length, get_or, arith}
 use Rattle.std.specs.List.{Contains}
 use Rattle.std.proofs.lemmas.Grind.{get_or_default_zero}
+use Rattle.std.proofs.lemmas.List.Elements.{AllZip-get_or}
 use Rattle.sgb_vec.specs.Boxes.{box}
 use Rattle.sgb_vec.specs.Sums.{bounded_sums}
-use Rattle.sgb_vec.specs.Lexicographic.{IsWithin}
 use Rattle.sgb_vec.specs.NamedVectors.{IsVector}
 use Rattle.sgb_vec.proofs.BoxPlaces.{IsBelow-from_Contains, IsBelow-length, IsBelow-at}
 use Rattle.sgb_vec.proofs.SumMembers.{Contains-bounded_sums, IsWithin-length}
-
--- each entry is at most the bound beside it
-within-at : (bounds v : List ℕ) (k : ℕ) → IsWithin v bounds → k < length v → get_or v k 0 ≤ get_or bounds k 0
-within-at bounds [] k h within = absurd (omega arith)
-within-at [] (x ∷ v) k h within = absurd h
-within-at (b ∷ bounds) (x ∷ v) zero h within = h.0
-within-at (b ∷ bounds) (x ∷ v) (suc k) h within = within-at bounds v k h.1 (omega arith)
 
 -- those of a box
 pub box_members_are_vectors : (sizes v : List ℕ) → length sizes ≤ 251 → ((k : ℕ) → get_or sizes k 0 < 2 ^ 32) → Contains (box sizes) v → IsVector v
@@ -32,5 +25,5 @@ sum_members_are_vectors n bounds v few small member =
     let within = (both.0 member).0 in
     record {
       short = omega (arith, IsWithin-length bounds v within);
-      small = λ k d inside. omega (arith, get_or_default_zero v k d inside, within-at bounds v k within inside, small k);
+      small = λ k d inside. omega (arith, get_or_default_zero v k d inside, AllZip-get_or (λ x b. x ≤ b) v bounds k 0 0 within inside, small k);
     }

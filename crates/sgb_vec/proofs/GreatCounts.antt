@@ -1,5 +1,5 @@
 -- Whether more vectors than a graph may have vertices add to some number, told from the rows of counts.
-use Rattle.std.proofs.Common.{◌≡◌, ℕ, suc, zero, ◌+◌, ◌-◌, ◌*◌, ◌<◌, ◌≤◌, Bool, true, false, List, [], ◌∷◌, length, take, sum, get_or, min, refl, ap, ◌∙◌, inl, inr, arith}
+use Rattle.std.proofs.Common.{◌≡◌, ℕ, suc, zero, ◌+◌, ◌-◌, ◌*◌, ◌<◌, ◌≤◌, Bool, true, false, List, ◌∷◌, length, take, sum, get_or, min, refl, ap, ◌∙◌, inl, inr, arith}
 use Rattle.std.specs.List.{All, list_any, range_with_len, remove}
 use Rattle.std.specs.Prelude.{nat_lt, nat_le, ◌/◌, ◌⊎◌}
 use Rattle.std.proofs.lemmas.Bool.{cases_lt, lt-ltb, le-ltb, ltb-true, leb-true, and_parts, or_from, both_ways}
@@ -126,6 +126,5 @@ has_great_count-none n m bounds top few =
 -- of one bound or none no count is too great
 pub has_great_count-few : (n : ℕ) (bounds : List ℕ) → length bounds < 2 → has_great_count n bounds ≡ false
 unfolding has_great_count
-has_great_count-few n [] short = refl
-has_great_count-few n (b ∷ []) short = refl
 has_great_count-few n (b ∷ c ∷ bounds) short = absurd (omega arith)
+has_great_count-few n _ short = refl

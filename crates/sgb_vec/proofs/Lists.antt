@@ -119,8 +119,7 @@ pub Contains-reverse : {X : Type 0} (xs : List X) (x : X) → Contains xs x → 
 Contains-reverse xs x (k, within, at) =
     let long : length (reverse xs) ≡ length xs = length-reverse xs in
     let there : get_or (reverse xs) (length xs - 1 - k) x ≡ get_or xs (length xs - 1 - (length xs - 1 - k)) x = get_or-reverse xs (length xs - 1 - k) x (omega arith) in
-    let back : length xs - 1 - (length xs - 1 - k) ≡ k = omega arith in
-    (length xs - 1 - k, omega arith, there ∙ ap (λ i. get_or xs i x) back ∙ at)
+    (length xs - 1 - k, omega arith, there ∙ ap (λ (i : ℕ). get_or xs i x) (omega arith) ∙ at)
 
 -- elements that all lists of a list have
 pub All-flat_map : {X Y : Type 0} (P : Y → Type 0) (f : X → List Y) (xs : List X) → All (λ x. All P (f x)) xs → All P (flat_map f xs)
@@ -156,10 +155,9 @@ flat_map-none f (x ∷ xs) h =
 
 -- tests that hold together are the same, and one that cannot hold is false
 pub same_tests : (a b : Bool) → (a ≡ true → b ≡ true) → (b ≡ true → a ≡ true) → a ≡ b
-same_tests true true on back = refl
 same_tests true false on back = sym (on refl)
 same_tests false true on back = back refl
-same_tests false false on back = refl
+same_tests _ _ on back = refl
 
 pub never_true : (b : Bool) → (b ≡ true → ⊥) → b ≡ false
 never_true true h = absurd (h refl)

@@ -27,14 +27,13 @@ first_byte radix most byte text = take_while-cons (λ b. is_digit b radix) byte 
 
 -- what a text begins with are digits
 pub leading_are_digits : (radix most : ℕ) (text : List ℕ) → AreDigits radix most (leading_digits radix most text)
-leading_are_digits radix zero text = record { all = tt; short = omega arith }
-leading_are_digits radix (suc most) [] = record { all = tt; short = omega arith }
 leading_are_digits radix (suc most) (byte ∷ text) =
     let rest = leading_are_digits radix most text in
     elim (digit_cases radix byte) [
       | inl h ↦ rw (first_byte radix most byte text, h.0) (record { all = (h.1, rest.all); short = omega (arith, rest.short) })
       | inr h ↦ rw (first_byte radix most byte text, h) (record { all = tt; short = omega arith })
     ]
+leading_are_digits radix _ _ = record { all = tt; short = omega arith }
 
 -- digits begin with all of them
 pub leading_of_digits : (radix most : ℕ) (digits : List ℕ) → AreDigits radix most digits → leading_digits radix most digits ≡ digits

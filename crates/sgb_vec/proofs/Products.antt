@@ -1,5 +1,5 @@
 -- The product of the sizes of a box.
-use Rattle.std.proofs.Common.{◌≡◌, ℕ, suc, zero, ◌*◌, ◌<◌, true, false, List, [], ◌∷◌, eqb, inl, inr, arith}
+use Rattle.std.proofs.Common.{◌≡◌, ℕ, suc, ◌*◌, ◌<◌, true, false, List, [], ◌∷◌, eqb, inl, inr, arith}
 use Rattle.std.specs.List.{list_any}
 use Rattle.std.proofs.lemmas.Bool.{or_cases, or_parts, eqb-true, eqb-false}
 use Rattle.std.proofs.lemmas.Nat.{mul-le}
@@ -28,6 +28,5 @@ product_of-pos (s ∷ sizes) h =
 
 -- where the product is above 0, each factor is
 pub factors-pos : (m n : ℕ) → 0 < m * n → (0 < m) × (0 < n)
-factors-pos zero n h = absurd (omega arith)
-factors-pos (suc m) zero h = absurd (omega arith)
 factors-pos (suc m) (suc n) h = (omega arith, omega arith)
+factors-pos _ _ h = absurd (omega arith)

@@ -1,5 +1,5 @@
 -- The bounds and parameters of a simplex, one bound or one entry at a time.
-use Rattle.std.proofs.Common.{◌≡◌, ℕ, zero, suc, ℤ, pos, negsuc, ◌+◌, ◌%◌, ◌≤◌, min, List, [], ◌∷◌, ◌++◌, true, false, get_or, length, map, Ok, Err, refl, sym, ap, subst, arith, rules}
+use Rattle.std.proofs.Common.{◌≡◌, ℕ, zero, suc, ℤ, pos, negsuc, ◌+◌, ◌%◌, ◌≤◌, min, List, [], ◌∷◌, ◌++◌, false, get_or, length, map, Ok, Err, refl, sym, ap, subst, arith, rules}
 use Rattle.std.specs.Prelude.{Bool, nat_lt, nat_abs, All, if◌then◌else◌}
 use Rattle.std.proofs.lemmas.Bool.Decides.{nat_tests}
 use Rattle.std.proofs.lemmas.List.{map-append, length-map}
@@ -39,9 +39,8 @@ simplex_by_stop-fits n entries s e few small =
 
 -- what is accepted where neither test refuses it
 accepted_of : (b c : Bool) (given shape : Normalized) → (if b then Err Bad else (if c then Err VeryBad else Ok given)) ≡ Ok shape → (b ≡ false) × (c ≡ false) × (given ≡ shape)
-accepted_of true c given shape accepted = absurd (search (rules, accepted))
-accepted_of false true given shape accepted = absurd (search (rules, accepted))
 accepted_of false false given shape accepted = (refl, refl, search (rules, accepted))
+accepted_of _ _ given shape accepted = absurd (search (rules, accepted))
 
 -- zeros after the stop stay zeros
 zeros_small : (n most : ℕ) (rest : List ℤ) → All (λ p. nat_abs p ≤ most) (map (clamped_parameter n) (map (λ z. pos 0) rest))

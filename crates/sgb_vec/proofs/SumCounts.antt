@@ -3,10 +3,12 @@ use Rattle.std.proofs.Common.{◌≡◌, ℕ, suc, zero, ◌+◌, ◌<◌, ◌�
 use Rattle.std.specs.List.{flat_map, range_with_len, remove}
 use Rattle.std.proofs.lemmas.Bool.{ne_eqb}
 use Rattle.std.proofs.lemmas.Bool.Decides.{same_from_decides, Decides-like, Decides-eqb}
+use Rattle.std.proofs.lemmas.List.{length-map}
 use Rattle.std.proofs.lemmas.List.Elements.{filter-append}
 use Rattle.std.proofs.lemmas.List.Sums.{sum_by-cons}
 use Rattle.sgb_vec.specs.Boxes.{box}
 use Rattle.sgb_vec.specs.Sums.{bounded_sums, count_of_sum}
+use Rattle.sgb_vec.proofs.Lists.{filter-none}
 use Rattle.sgb_vec.proofs.Convolutions.{products_from, products_same_factors, windows-products}
 use Rattle.sgb_vec.proofs.Hills.{IsHill, IsHill-same, IsHill-window}
 use Rattle.sgb_vec.proofs.Windows.{shifted, window, window_same, window_comm, window_far, window-last_le, window_le, one_at_zero, window-one_at_zero_prefix}
@@ -42,20 +44,19 @@ laters-window (suc b) f (suc k) = omega (arith, laters-shifted (suc b) 0 f (suc 
 abbrev pub tally : List (List ℕ) → ℕ → ℕ
 tally vectors k = length (filter (λ v. eqb (sum v) k) vectors)
 
--- a filter of mapped elements
-length-filter-map : (p q : List ℕ → Bool) (h : List ℕ → List ℕ) → ((v : List ℕ) → p (h v) ≡ q v) → (vectors : List (List ℕ)) → length (filter p (map h vectors)) ≡ length (filter q vectors)
-length-filter-map p q h e [] = refl
-length-filter-map p q h e (v ∷ vectors) =
-    let rest = length-filter-map p q h e vectors in
-    rw (e v) (elim (q v) as (λ b. length (cond b (h v ∷ filter p (map h vectors)) (filter p (map h vectors))) ≡ length (cond b (v ∷ filter q vectors) (filter q vectors))) [
-      | true ↦ omega arith
+-- what is mapped and passes is what passes before, mapped
+pub filter-map : (p q : List ℕ → Bool) (h : List ℕ → List ℕ) → ((v : List ℕ) → p (h v) ≡ q v) → (vectors : List (List ℕ)) → filter p (map h vectors) ≡ map h (filter q vectors)
+filter-map p q h e [] = refl
+filter-map p q h e (v ∷ vectors) =
+    let rest = filter-map p q h e vectors in
+    rw (e v) (elim (q v) as (λ b. cond b (h v ∷ filter p (map h vectors)) (filter p (map h vectors)) ≡ map h (cond b (v ∷ filter q vectors) (filter q vectors))) [
+      | true ↦ ap (λ vs. h v ∷ vs) rest
       | false ↦ rest
     ])
 
--- a filter that nothing passes
-length-filter-none : (vectors : List (List ℕ)) → length (filter (λ v. false) vectors) ≡ 0
-length-filter-none [] = refl
-length-filter-none (v ∷ vectors) = length-filter-none vectors
+-- so there are as many
+length-filter-map : (p q : List ℕ → Bool) (h : List ℕ → List ℕ) → ((v : List ℕ) → p (h v) ≡ q v) → (vectors : List (List ℕ)) → length (filter p (map h vectors)) ≡ length (filter q vectors)
+length-filter-map p q h e vectors = ap length (filter-map p q h e vectors) ∙ length-map (filter q vectors) h
 
 -- a sum with a greater first entry
 sum-suc : (x : ℕ) (v : List ℕ) → sum (suc x ∷ v) ≡ suc (sum (x ∷ v))
@@ -71,7 +72,7 @@ tally-front : (vectors : List (List ℕ)) (x k : ℕ) → tally (map (λ v. x �
 tally-front vectors zero k = length-filter-map (λ v. eqb (sum v) k) (λ v. eqb (sum v) k) (λ v. zero ∷ v) (λ v. refl) vectors
 tally-front vectors (suc x) zero =
     let above : (v : List ℕ) → eqb (sum (suc x ∷ v)) 0 ≡ false = λ v. ne_eqb (sum (suc x ∷ v)) 0 (λ e. absurd (omega (arith, sum-suc x v))) in
-    length-filter-map (λ v. eqb (sum v) 0) (λ v. false) (λ v. suc x ∷ v) above vectors ∙ length-filter-none vectors
+    length-filter-map (λ v. eqb (sum v) 0) (λ v. false) (λ v. suc x ∷ v) above vectors ∙ ap length (filter-none (λ v. false) vectors (λ k d within. refl))
 tally-front vectors (suc x) (suc k) =
     let same : (v : List ℕ) → eqb (sum (suc x ∷ v)) (suc k) ≡ eqb (sum (x ∷ v)) k =
     λ v. eqb_like (sum (suc x ∷ v)) (suc k) (sum (x ∷ v)) k (λ e. omega (arith, sum-suc x v)) (λ e. omega (arith, sum-suc x v)) in
@@ -118,13 +119,12 @@ count_of_sum-nil (suc k) =
 -- as far as it goes there is one; of no bound there is one that adds to 0
 pub count_of_sum-few : (bounds : List ℕ) (k : ℕ) → length bounds < 2 → k ≤ sum bounds → count_of_sum k bounds ≡ 1
 count_of_sum-few [] zero short h = count_of_sum-nil 0
-count_of_sum-few [] (suc k) short h = absurd (omega arith)
 count_of_sum-few (b ∷ []) k short h =
     let within : k ≤ b = omega (arith, sum_by-cons (λ y. y) b []) in
     count_of_sum-cons b [] k
     ∙ window_same b (λ i. count_of_sum i []) one_at_zero k (λ i _. count_of_sum-nil i)
     ∙ window-one_at_zero_prefix b k within
-count_of_sum-few (b ∷ c ∷ bounds) k short h = absurd (omega arith)
+count_of_sum-few _ _ short h = absurd (omega arith)
 
 -- no vector above the sum of the bounds
 pub count_of_sum-far : (bounds : List ℕ) (k : ℕ) → sum bounds < k → count_of_sum k bounds ≡ 0

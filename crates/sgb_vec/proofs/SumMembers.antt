@@ -1,15 +1,15 @@
 -- Which vectors a bounded sum has, and that they rise lexicographically.
-use Rattle.std.proofs.Common.{◌≡◌, ℕ, ◌+◌, ◌≤◌, ◌↔◌, Bool, true, eqb, List, [], ◌∷◌, length, map, filter, refl, sum, arith}
+use Rattle.std.proofs.Common.{◌≡◌, ℕ, ◌+◌, ◌≤◌, ◌↔◌, Bool, true, eqb, List, [], ◌∷◌, length, map, filter, sum, arith}
 use Rattle.std.specs.List.{Contains, list_all, zip}
 use Rattle.std.specs.Prelude.{nat_le}
-use Rattle.std.proofs.lemmas.Bool.{and_parts, and_from, eqb-true, eq-eqb, leb-true, le-leb}
+use Rattle.std.proofs.lemmas.Bool.{eqb-true, eq-eqb, leb-true, le-leb}
 use Rattle.std.proofs.lemmas.List.Elements.{All-contains, All-contains_itself, All-filter, filter_passes, length_all_zip}
 use Rattle.std.proofs.lemmas.List.Kept.{AllPairs-filter}
 use Rattle.sgb_vec.proofs.Lists.{Contains-passing}
 use Rattle.sgb_vec.specs.Boxes.{box}
 use Rattle.sgb_vec.specs.Sums.{BoundedSum, bounded_sums}
 use Rattle.sgb_vec.specs.Lexicographic.{IsBefore, IsRising, IsBelow, IsWithin}
-use Rattle.sgb_vec.proofs.BoxPlaces.{IsBelow-from_Contains, Contains-from_IsBelow}
+use Rattle.sgb_vec.proofs.BoxPlaces.{IsBelow-from_Contains, Contains-from_IsBelow, test_each_pair}
 use Rattle.sgb_vec.specs.inner.Rising.{box_vectors_rise}
 
 -- what a filter keeps is an element that passes
@@ -22,15 +22,13 @@ Contains-from_filter p xs x h = (
 -- below the bounds + 1 is within the bounds, and the other way round
 within-from_below : (v bounds : List ℕ) → IsBelow v (map (λ b. b + 1) bounds) → IsWithin v bounds
 within-from_below [] [] h = tt
-within-from_below [] (b ∷ bounds) h = absurd h
-within-from_below (x ∷ v) [] h = absurd h
 within-from_below (x ∷ v) (b ∷ bounds) h = (omega (arith, h.0), within-from_below v bounds h.1)
+within-from_below _ _ h = absurd h
 
 below-from_within : (v bounds : List ℕ) → IsWithin v bounds → IsBelow v (map (λ b. b + 1) bounds)
 below-from_within [] [] h = tt
-below-from_within [] (b ∷ bounds) h = absurd h
-below-from_within (x ∷ v) [] h = absurd h
 below-from_within (x ∷ v) (b ∷ bounds) h = (omega (arith, h.0), below-from_within v bounds h.1)
+below-from_within _ _ h = absurd h
 
 -- a bounded sum has the vectors within its bounds that add to n
 pub Contains-bounded_sums : (n : ℕ) (bounds v : List ℕ) → Contains (bounded_sums n bounds) v ↔ IsWithin v bounds × (sum v ≡ n)
@@ -58,11 +56,4 @@ IsWithin-length bounds v h = length_all_zip (λ x b. x ≤ b) v bounds h
 
 -- the test of each pair, where there are as many entries as bounds
 pub IsWithin-test : (bounds v : List ℕ) → length v ≡ length bounds → (list_all (λ p. nat_le p.0 p.1) (zip v bounds) ≡ true) ↔ IsWithin v bounds
-IsWithin-test [] [] e = (λ _. tt, λ _. refl)
-IsWithin-test [] (x ∷ v) e = absurd (omega arith)
-IsWithin-test (b ∷ bounds) [] e = absurd (omega arith)
-IsWithin-test (b ∷ bounds) (x ∷ v) e =
-    let rest = IsWithin-test bounds v (omega arith) in (
-      λ h. let parts = and_parts (nat_le x b) (list_all (λ p. nat_le p.0 p.1) (zip v bounds)) h in (leb-true x b parts.0, rest.0 parts.1),
-      λ w. and_from (nat_le x b) (list_all (λ p. nat_le p.0 p.1) (zip v bounds)) (le-leb x b w.0) (rest.1 w.1),
-    )
+IsWithin-test bounds v e = test_each_pair nat_le (λ x b. x ≤ b) (λ x b. (leb-true x b, le-leb x b)) bounds v e

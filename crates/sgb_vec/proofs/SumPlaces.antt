@@ -1,5 +1,5 @@
 -- The place of a vector among those of a bounded sum: at each entry the vectors that have a smaller one there come before.
-use Rattle.std.proofs.Common.{◌≡◌, ℕ, suc, zero, ◌+◌, ◌-◌, ◌<◌, ◌≤◌, Bool, true, false, cond, eqb, min, List, [], ◌∷◌, ◌++◌, length, map, filter, take, drop, sum, set, get_or, Some, refl, sym, ap, subst, ◌∙◌, inl, inr, add-one, arith, length-append}
+use Rattle.std.proofs.Common.{◌≡◌, ℕ, suc, zero, ◌+◌, ◌-◌, ◌<◌, ◌≤◌, Bool, true, false, eqb, min, List, [], ◌∷◌, ◌++◌, length, map, filter, take, drop, sum, set, get_or, Some, refl, sym, ap, subst, ◌∙◌, inl, inr, add-one, arith, length-append}
 use Rattle.std.specs.Bool.{OnTrue, OnFalse}
 use Rattle.std.specs.List.{Contains, flat_map, range_with_len, slice_get}
 use Rattle.std.proofs.lemmas.Bool.{cases_lt}
@@ -12,7 +12,7 @@ use Rattle.sgb_vec.specs.Order.{IsLast, IsNext}
 use Rattle.sgb_vec.specs.Sums.{bounded_sums, count_of_sum}
 use Rattle.sgb_vec.specs.inner.SumPlaces.{count_below}
 use Rattle.sgb_vec.proofs.Lists.{slice_get-left}
-use Rattle.sgb_vec.proofs.SumCounts.{eqb_like, tally, count_of_sum-nil, count_of_sum-cons}
+use Rattle.sgb_vec.proofs.SumCounts.{eqb_like, filter-map, tally, count_of_sum-nil, count_of_sum-cons}
 use Rattle.sgb_vec.proofs.SumMembers.{Contains-bounded_sums, IsWithin-length}
 use Rattle.sgb_vec.proofs.SumSuccessors.{sum-cons}
 use Rattle.sgb_vec.proofs.SumTails.{IsWithin-drop}
@@ -23,16 +23,6 @@ slice_get-right : {X : Type 0} (xs ys : List X) (m j : ℕ) (u : X) → m ≡ le
 slice_get-right [] ys m j u e h = let same : m ≡ j = omega arith in ap (slice_get ys) same ∙ h
 slice_get-right (x ∷ xs) ys zero j u e h = absurd (omega arith)
 slice_get-right (x ∷ xs) ys (suc m) j u e h = slice_get-right xs ys m j u (omega arith) h
-
--- what is mapped and passes is what passes before, mapped
-filter-map : (p q : List ℕ → Bool) (h : List ℕ → List ℕ) → ((v : List ℕ) → p (h v) ≡ q v) → (vectors : List (List ℕ)) → filter p (map h vectors) ≡ map h (filter q vectors)
-filter-map p q h e [] = refl
-filter-map p q h e (v ∷ vectors) =
-    let rest = filter-map p q h e vectors in
-    rw (e v) (elim (q v) as (λ b. cond b (h v ∷ filter p (map h vectors)) (filter p (map h vectors)) ≡ map h (cond b (v ∷ filter q vectors) (filter q vectors))) [
-      | true ↦ ap (λ vs. h v ∷ vs) rest
-      | false ↦ rest
-    ])
 
 -- with x in front, those that add to n are those that add to n - x
 row-at : (vectors : List (List ℕ)) (n x j : ℕ) (w : List ℕ) → x ≤ n → slice_get (filter (λ v. eqb (sum v) (n - x)) vectors) j ≡ Some w → slice_get (filter (λ v. eqb (sum v) n) (map (λ v. x ∷ v) vectors)) j ≡ Some (x ∷ w)
@@ -53,9 +43,8 @@ rows-at vectors n a (suc count) zero y j u h s e =
     let row = map (λ v. a ∷ v) vectors in
     let rest = flat_map (λ x. map (λ v. x ∷ v) vectors) (range_with_len (a + 1) count) in
     let first : y ≡ a = omega arith in
-    let place : 0 + j ≡ j = omega arith in
     let here : slice_get (filter adds row) j ≡ Some u = ap (λ x. slice_get (filter adds (map (λ v. x ∷ v) vectors)) j) (sym first) ∙ e in
-    ap (slice_get (filter adds (row ++ rest))) place
+    ap (slice_get (filter adds (row ++ rest))) (omega arith)
     ∙ ap (λ vs. slice_get vs j) (filter-append adds row rest)
     ∙ slice_get-left (filter adds row) (filter adds rest) j u here
 rows-at vectors n a (suc count) (suc i) y j u h s e =
@@ -117,9 +106,8 @@ leads-none n bounds = record { each = λ j w e. let same : 0 + j ≡ j = omega a
 leads-more : (n : ℕ) (bounds front : List ℕ) (left b x : ℕ) (after : List ℕ) (before : ℕ) → x ≤ b → x ≤ left → LeadsTo n bounds front left (b ∷ after) before → LeadsTo n bounds (front ++ x ∷ []) (left - x) after (before + count_below left x after)
 leads-more n bounds front left b x after before low within so = record {
   each = λ j w e.
-      let place : before + count_below left x after + j ≡ before + (count_below left x after + j) = omega arith in
       let grouped : front ++ (x ∷ w) ≡ (front ++ x ∷ []) ++ w = sym (append_assoc front (x ∷ []) w) in
-      ap (slice_get (bounded_sums n bounds)) place
+      ap (slice_get (bounded_sums n bounds)) (omega arith)
       ∙ so.each (count_below left x after + j) (x ∷ w) (place-front left b x after w j low within e)
       ∙ ap Some grouped;
 }
@@ -128,8 +116,7 @@ leads-more n bounds front left b x after before low within so = record {
 leads-all : (n : ℕ) (bounds front : List ℕ) (before : ℕ) → LeadsTo n bounds front 0 [] before → slice_get (bounded_sums n bounds) before ≡ Some front
 unfolding box bounded_sums
 leads-all n bounds front before so =
-    let place : before ≡ before + 0 = omega arith in
-    ap (slice_get (bounded_sums n bounds)) place ∙ so.each 0 [] refl ∙ ap Some (append-nil front)
+    ap (slice_get (bounded_sums n bounds)) (omega arith) ∙ so.each 0 [] refl ∙ ap Some (append-nil front)
 
 -- the first k entries are those of the vector at `place`, which is the one at `rest` of what is left
 pub record IsPutUpTo (n : ℕ) (bounds : List ℕ) (place : ℕ) (entries : List ℕ) (k left rest : ℕ) : Type 0 where
@@ -171,9 +158,7 @@ put-all n bounds place entries k left rest h i so =
     let no_bounds : drop k bounds ≡ [] = drop_all k bounds h in
     let none = left-none left rest (subst (λ bs. rest < count_of_sum left bs) no_bounds so.within) in
     let whole : place - rest ≡ place = omega (arith, none.1) in
-    let leads : LeadsTo n bounds entries 0 [] place =
-    subst (λ xs. LeadsTo n bounds xs 0 [] place) (take_all k entries i) (subst (λ m. LeadsTo n bounds (take k entries) 0 [] m) whole (subst (λ m. LeadsTo n bounds (take k entries) m [] (place - rest)) none.0 (subst (λ bs. LeadsTo n bounds (take k entries) left bs (place - rest)) no_bounds so.leads))) in
-    leads-all n bounds entries place leads
+    leads-all n bounds entries place (rw (no_bounds, none.0, whole, take_all k entries i) at so.leads)
 
 -- the first k entries make `place` of the vector's place
 pub record IsPlaceSoFar (n : ℕ) (bounds v : List ℕ) (k left place : ℕ) : Type 0 where
@@ -218,9 +203,7 @@ pub place-all : (n : ℕ) (bounds v : List ℕ) (k left place : ℕ) → length 
 place-all n bounds v k left place h within so =
     let no_bounds : drop k bounds ≡ [] = drop_all k bounds (omega (arith, IsWithin-length bounds v within)) in
     let nothing : left ≡ 0 = so.adds ∙ ap sum (drop_all k v h) in
-    let leads : LeadsTo n bounds v 0 [] place =
-    subst (λ xs. LeadsTo n bounds xs 0 [] place) (take_all k v h) (subst (λ m. LeadsTo n bounds (take k v) m [] place) nothing (subst (λ bs. LeadsTo n bounds (take k v) left bs place) no_bounds so.leads)) in
-    leads-all n bounds v place leads
+    leads-all n bounds v place (rw (no_bounds, nothing, take_all k v h) at so.leads)
 
 -- a walk from member to member: the next one stands at the next place
 pub walk-step : (xs : List (List ℕ)) (n k : ℕ) (old new : List ℕ) (more : Bool) → n ≡ length xs → k < n - 1 → slice_get xs k ≡ Some old → OnTrue more (IsNext xs old new) → OnFalse more (IsLast xs old) → slice_get xs (k + 1) ≡ Some new

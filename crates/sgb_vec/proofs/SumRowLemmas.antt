@@ -32,11 +32,10 @@ sum_fits row short small = omega (arith, sum_by-le (λ x. x) most_vertices row s
 
 -- a longer prefix has at least the sum of a shorter one
 pub sum-take_le : (i k : ℕ) (xs : List ℕ) → i ≤ k → sum (take i xs) ≤ sum (take k xs)
-sum-take_le zero k xs h = omega arith
 sum-take_le (suc i) zero xs h = absurd (omega arith)
-sum-take_le (suc i) (suc k) [] h = omega arith
 sum-take_le (suc i) (suc k) (x ∷ xs) h =
     omega (arith, sum_by-cons (λ y. y) x (take i xs), sum_by-cons (λ y. y) x (take k xs), sum-take_le i k xs (omega arith))
+sum-take_le _ _ _ h = omega arith
 
 -- the sum of the entries up to place k
 sum-take_up_to : (row : List ℕ) (f : ℕ → ℕ) (k : ℕ) → ((i : ℕ) → i < length row → get_or row i 0 ≡ f i) → k < length row → sum (take (k + 1) row) ≡ up_to f k
@@ -91,7 +90,7 @@ CountsSums-start n (suc m) row h e =
     rw e (CountsSums-filled n m (1 ∷ []) [] (CountsSums-nil n), All-cons (λ count. count ≤ most_vertices) 1 (replicate m 0) (omega arith) (zeros_small m))
 
 -- a Vec written through a slice of all of it
-pub take_written : (n : ℕ) (xs ys : List ℕ) → n ≡ length xs → take n (xs ++ ys) ≡ xs
+pub take_written : {X : Type 0} (n : ℕ) (xs ys : List X) → n ≡ length xs → take n (xs ++ ys) ≡ xs
 take_written n xs ys e = take-append-le n xs ys (omega arith) ∙ take_all n xs (omega arith)
 
 -- the counts of one more bound

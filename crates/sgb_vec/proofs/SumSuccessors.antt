@@ -42,9 +42,8 @@ IsBefore-cases x y v w h =
 -- a vector within bounds adds to at most what these add to
 pub sum-within : (bounds v : List ℕ) → IsWithin v bounds → sum v ≤ sum bounds
 sum-within [] [] h = omega arith
-sum-within [] (x ∷ v) h = absurd h
-sum-within (b ∷ bounds) [] h = absurd h
 sum-within (b ∷ bounds) (x ∷ v) h = omega (arith, h.0, sum-within bounds v h.1, sum-cons x v, sum-cons b bounds)
+sum-within _ _ h = absurd h
 
 -- no vector within the bounds that adds to the same is before w
 pub record IsLeast (bounds w : List ℕ) : Type 0 where
@@ -151,29 +150,25 @@ IsNearest-cons b x bounds v w low near = record {
 
 -- the entry at p grows, where those after it are the greatest, and they become the least
 pub IsNearest-at : (bounds v w : List ℕ) (p : ℕ) → IsWithin v bounds → p < length v → get_or v p 0 < get_or bounds p 0 → IsGreatest (drop (suc p) bounds) (drop (suc p) v) → IsLeast (drop (suc p) bounds) w → sum (drop (suc p) v) ≡ sum w + 1 → IsNearest bounds v (take p v ++ (get_or v p 0 + 1) ∷ w)
-IsNearest-at [] [] w p h within low greatest least one = absurd (omega arith)
-IsNearest-at [] (x ∷ v) w p h within low greatest least one = absurd h
-IsNearest-at (b ∷ bounds) [] w p h within low greatest least one = absurd h
 IsNearest-at (b ∷ bounds) (x ∷ v) w zero h within low greatest least one = IsNearest-grown b x bounds v w low greatest least one
 IsNearest-at (b ∷ bounds) (x ∷ v) w (suc p) h within low greatest least one =
     IsNearest-cons b x bounds v _ h.0 (IsNearest-at bounds v w p h.1 (omega arith) low greatest least one)
+IsNearest-at _ _ w p h within low greatest least one = absurd (omega arith)
 
 -- the entry at p falls, where those after it are the least, and they become the greatest: the vector is the nearest above
 -- what comes of it
 pub IsNearest-fallen : (bounds v w : List ℕ) (p : ℕ) → IsWithin v bounds → p < length v → 0 < get_or v p 0 → IsLeast (drop (suc p) bounds) (drop (suc p) v) → IsGreatest (drop (suc p) bounds) w → sum w ≡ sum (drop (suc p) v) + 1 → IsNearest bounds (take p v ++ (get_or v p 0 - 1) ∷ w) v
 IsNearest-fallen [] [] w p h within some least greatest one = absurd (omega arith)
-IsNearest-fallen [] (x ∷ v) w p h within some least greatest one = absurd h
-IsNearest-fallen (b ∷ bounds) [] w p h within some least greatest one = absurd h
 IsNearest-fallen (b ∷ bounds) (x ∷ v) w zero h within some least greatest one =
     let back : x - 1 + 1 ≡ x = omega arith in
     rw back at (IsNearest-grown b (x - 1) bounds w v (omega (arith, h.0)) greatest least one)
 IsNearest-fallen (b ∷ bounds) (x ∷ v) w (suc p) h within some least greatest one =
     IsNearest-cons b x bounds _ v h.0 (IsNearest-fallen bounds v w p h.1 (omega arith) some least greatest one)
+IsNearest-fallen _ _ w p h within some least greatest one = absurd h
 
 -- and that is within the bounds
 pub IsWithin-fallen : (bounds v w : List ℕ) (p : ℕ) → IsWithin v bounds → p < length v → IsWithin w (drop (suc p) bounds) → IsWithin (take p v ++ (get_or v p 0 - 1) ∷ w) bounds
 IsWithin-fallen [] [] w p h within after = absurd (omega arith)
-IsWithin-fallen [] (x ∷ v) w p h within after = absurd h
-IsWithin-fallen (b ∷ bounds) [] w p h within after = absurd h
 IsWithin-fallen (b ∷ bounds) (x ∷ v) w zero h within after = (omega (arith, h.0), after)
 IsWithin-fallen (b ∷ bounds) (x ∷ v) w (suc p) h within after = (h.0, IsWithin-fallen bounds v w p h.1 (omega arith) after)
+IsWithin-fallen _ _ w p h within after = absurd h

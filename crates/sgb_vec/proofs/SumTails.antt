@@ -109,10 +109,10 @@ greatest-more bounds entries p q after next within k top so =
     }
 
 -- what one entry more makes of it is at most what all entries add to
-pub after-more_le : (bounds entries : List ℕ) (p q after : ℕ) → q ≡ p + 1 → p < length entries → IsGreatestFrom bounds entries q after → after + get_or entries p 0 ≤ sum entries
-after-more_le bounds entries p q after next k so =
+pub after-more_le : (entries : List ℕ) (p q after : ℕ) → q ≡ p + 1 → p < length entries → after ≡ sum (drop q entries) → after + get_or entries p 0 ≤ sum entries
+after-more_le entries p q after next k adds =
     let entries_from : sum (drop p entries) ≡ get_or entries p 0 + sum (drop q entries) = rw next (sum_by-drop_more (λ x. x) entries p 0 k) in
-    omega (arith, so.adds, sum_by-take-drop (λ x. x) entries p)
+    omega (arith, sum_by-take-drop (λ x. x) entries p)
 
 -- all entries are the last vector
 pub greatest-all : (bounds entries : List ℕ) (after : ℕ) → IsGreatestFrom bounds entries 0 after → IsLast (bounded_sums (sum entries) bounds) entries
@@ -153,12 +153,6 @@ least-more bounds entries p q after has_room now next within k zero_entry some_r
       full = λ none. let parts = no_room none in rw (bounds_from, entries_from) (omega (arith, low, parts.1, so.full parts.0, sum-cons x (drop q entries), sum-cons b (drop q bounds)));
     }
 
--- what one entry more makes of it is at most what all entries add to
-pub fallen-more_le : (bounds entries : List ℕ) (p q after : ℕ) (has_room : Bool) → q ≡ p + 1 → p < length entries → IsLeastFrom bounds entries q after has_room → after + get_or entries p 0 ≤ sum entries
-fallen-more_le bounds entries p q after has_room next k so =
-    let entries_from : sum (drop p entries) ≡ get_or entries p 0 + sum (drop q entries) = rw next (sum_by-drop_more (λ x. x) entries p 0 k) in
-    omega (arith, so.adds, sum_by-take-drop (λ x. x) entries p)
-
 -- all entries are the first vector
 pub least-all : (bounds entries : List ℕ) (after : ℕ) (has_room : Bool) → IsLeastFrom bounds entries 0 after has_room → IsFirst (bounded_sums (sum entries) bounds) entries
 least-all bounds entries after has_room so = IsFirst-least (sum entries) bounds entries so.least refl
@@ -167,9 +161,8 @@ least-all bounds entries after has_room so = IsFirst-least (sum entries) bounds 
 pub IsWithin-drop : (bounds v : List ℕ) (p : ℕ) → IsWithin v bounds → IsWithin (drop p v) (drop p bounds)
 IsWithin-drop bounds v zero h = h
 IsWithin-drop [] [] (suc p) h = tt
-IsWithin-drop [] (x ∷ v) (suc p) h = absurd h
-IsWithin-drop (b ∷ bounds) [] (suc p) h = absurd h
 IsWithin-drop (b ∷ bounds) (x ∷ v) (suc p) h = IsWithin-drop bounds v p h.1
+IsWithin-drop _ _ _ h = absurd h
 
 -- what a write at p and then of all that is after it leaves
 pub put_mid-tail : (v w : List ℕ) (p x : ℕ) → p < length v → put_mid (p + 1) (length (set v p x) - (p + 1)) (set v p x) w ≡ take p v ++ (x ∷ w)

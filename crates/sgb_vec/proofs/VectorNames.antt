@@ -74,9 +74,8 @@ IsText-name_of_vector v few fits =
 
 -- the first entry of a vector
 pub name_of_vector-first : (v : List ℕ) (i : ℕ) → i ≤ 0 → i < length v → name_of_vector (take (i + 1) v) ≡ name_of_vector (take i v) ++ decimal (get_or v i 0)
-name_of_vector-first [] i none h = absurd (omega arith)
 name_of_vector-first (x ∷ rest) zero none h = rw (name_of_one x, name_of_none) refl
-name_of_vector-first (x ∷ rest) (suc i) none h = absurd (omega arith)
+name_of_vector-first _ _ none h = absurd (omega arith)
 
 -- one more entry of a vector
 pub name_of_vector-more : (v : List ℕ) (i : ℕ) → 0 < i → i < length v → name_of_vector (take (i + 1) v) ≡ (name_of_vector (take i v) ++ 46 ∷ []) ++ decimal (get_or v i 0)

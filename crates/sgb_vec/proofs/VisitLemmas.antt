@@ -1,15 +1,13 @@
 -- How many entries differ between two vectors that agree before some place.
-use Rattle.std.proofs.Common.{◌≡◌, ℕ, zero, suc, ◌+◌, ◌-◌, ◌<◌, ◌≤◌, Bool, true, not, List, [], ◌∷◌, length, get_or, eqb, cond, refl, ◌∙◌, inl, inr, arith}
+use Rattle.std.proofs.Common.{◌≡◌, ℕ, zero, suc, ◌+◌, ◌-◌, ◌<◌, ◌≤◌, Bool, true, not, List, [], ◌∷◌, length, get_or, eqb, cond, refl, ◌∙◌, arith, false}
 use Rattle.std.specs.List.{filter, zip}
-use Rattle.std.proofs.lemmas.Bool.{cases_Bool, eq-eqb}
+use Rattle.std.proofs.lemmas.Bool.{eq-eqb}
 use Rattle.sgb_vec.specs.Visits.{HasVisited, changed_entries}
 
 -- a kept or left out element makes the count at most one greater
 length-cond : {X : Type 0} (b : Bool) (x : X) (xs : List X) → length (cond b (x ∷ xs) xs) ≤ length xs + 1
-length-cond b x xs = elim (cases_Bool b) [
-  | inl e ↦ rw e (omega arith)
-  | inr e ↦ rw e (omega arith)
-]
+length-cond true x xs = omega arith
+length-cond false x xs = omega arith
 
 -- one entry more is at most one change more
 changed-more : (x y : ℕ) (v w : List ℕ) → changed_entries (x ∷ v) (y ∷ w) ≤ changed_entries v w + 1
@@ -26,9 +24,8 @@ changed-none (x ∷ v) = changed-same x x v v refl ∙ changed-none v
 
 -- no more entries differ than there are
 changed-length : (v w : List ℕ) → changed_entries v w ≤ length v
-changed-length [] w = omega arith
-changed-length (x ∷ v) [] = omega arith
 changed-length (x ∷ v) (y ∷ w) = omega (arith, changed-more x y v w, changed-length v w)
+changed-length _ _ = omega arith
 
 -- what agrees before place p differs at most from p on
 changed-from : (v w : List ℕ) (p : ℕ) → p ≤ length v → ((k : ℕ) → k < p → get_or w k 0 ≡ get_or v k 0) → changed_entries v w + p ≤ length v

@@ -32,10 +32,8 @@ window-add (suc b) f g (suc k) = omega (arith, window-add b f g k)
 
 -- a later sequence has later sums
 pub window-shifted : (b : ℕ) (f : ℕ → ℕ) (k : ℕ) → window b (shifted f) k ≡ shifted (window b f) k
-window-shifted zero f zero = refl
-window-shifted zero f (suc k) = refl
-window-shifted (suc b) f zero = refl
 window-shifted (suc b) f (suc k) = ap (λ n. f k + n) (window-shifted b f k)
+window-shifted _ f _ = refl
 
 -- two windows may be taken in either order
 pub window_comm : (a b : ℕ) (f : ℕ → ℕ) (k : ℕ) → window a (window b f) k ≡ window b (window a f) k
@@ -75,17 +73,15 @@ window_prefix (suc b) f (suc k) h = omega (arith, window_prefix b f k (omega ari
 
 -- after it, all but those before the window
 pub window_after : (b i : ℕ) (f : ℕ → ℕ) (k : ℕ) → k ≡ b + 1 + i → window b f k + up_to f i ≡ up_to f k
-window_after zero i f zero e = absurd (omega arith)
 window_after zero i f (suc k) e = let same : i ≡ k = omega arith in omega (arith, ap (up_to f) same)
-window_after (suc b) i f zero e = absurd (omega arith)
 window_after (suc b) i f (suc k) e = omega (arith, window_after b i f k (omega arith))
+window_after _ i f _ e = absurd (omega arith)
 
 -- a wider window has one term more, where there are so many
 pub window-wider : (b i : ℕ) (f : ℕ → ℕ) (k : ℕ) → k ≡ b + 1 + i → window (suc b) f k ≡ window b f k + f i
-window-wider zero i f zero e = absurd (omega arith)
 window-wider zero i f (suc k) e = let same : k ≡ i = omega arith in omega (arith, ap f same)
-window-wider (suc b) i f zero e = absurd (omega arith)
 window-wider (suc b) i f (suc k) e = omega (arith, window-wider b i f k (omega arith))
+window-wider _ i f _ e = absurd (omega arith)
 
 -- and the same where there are not
 pub window-wide : (b : ℕ) (f : ℕ → ℕ) (k : ℕ) → k ≤ b → window (suc b) f k ≡ window b f k

@@ -1,7 +1,7 @@
 use Rattle.std.proofs.Common.{◌≡◌, ◌+◌, ◌-◌, ◌<◌, ◌≤◌, ◌⊎◌, true, false, length, get_or, sym, ◌∙◌, inl, inr, arith}
 use Rattle.std.proofs.lemmas.Bool.Decides.{nat_tests}
 use Rattle.sgb_vec.proofs.SumMembers.{IsWithin-length}
-use Rattle.sgb_vec.proofs.SumTails.{least-none, least-more, least-all, fallen-more_le}
+use Rattle.sgb_vec.proofs.SumTails.{least-none, least-more, least-all, after-more_le}
 use Rattle.sgb_vec.proofs.SumWalks.{IsFirst-least}
 use Rattle.sgb_vec.proofs.sums.last_falling.Goals as goal
 use Rattle.sgb_vec.proofs.sums.last_falling.Goals.{else-has_room-via-then-has_room+else-entries-place-gt0, else-has_room-via-else-has_room, then-has_room-2, else-has_room-2}
@@ -26,7 +26,7 @@ pub overflow_add-after : goal.overflow_add-after
 overflow_add-after c =
     let place = c.loop-place.place - 1 in
     let within : place < length c.args.entries.now = omega arith in
-    omega (arith, c.requires.small, fallen-more_le c.args.bounds.now c.args.entries.now place c.loop-place.place c.loop-place.after c.loop-place.has_room (omega arith) within c.loop-place.invariant.0)
+    omega (arith, c.requires.small, after-more_le c.args.entries.now place c.loop-place.place c.loop-place.after (omega arith) within c.loop-place.invariant.0.adds)
 
 pub loop-place-preserved : goal.loop-place-preserved
 loop-place-preserved c =

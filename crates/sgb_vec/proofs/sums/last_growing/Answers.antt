@@ -16,7 +16,7 @@ pub overflow_add-after : goal.overflow_add-after
 overflow_add-after c =
     let place = c.loop-place.place - 1 in
     let within : place < length c.args.entries.now = omega arith in
-    omega (arith, c.requires.small, after-more_le c.args.bounds.now c.args.entries.now place c.loop-place.place c.loop-place.after (omega arith) within c.loop-place.invariant.0)
+    omega (arith, c.requires.small, after-more_le c.args.entries.now place c.loop-place.place c.loop-place.after (omega arith) within c.loop-place.invariant.0.adds)
 
 pub loop-place-preserved : goal.loop-place-preserved
 loop-place-preserved c =

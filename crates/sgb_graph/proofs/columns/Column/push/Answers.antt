@@ -9,20 +9,8 @@ returns-clause-values c n holds = elim c.match-self.branch [
   | in-Vertices-Vertex w ↦ search (rules, map_push)
   | in-Texts-Str w ↦ search (rules, map_push)
   | in-Chains-Chain w ↦ search (rules, map_push)
-  | in_default+in-Str+in-Inline-1 w ↦ elim w.in_default.branch [
-    | in_default-via-in-Ints+in_default v ↦ search rules
-    | in_default-via-in-Vertices+in_default v ↦ search rules
-    | in_default-via-in-Texts+in_default v ↦ search rules
-    | in_default-via-in-Chains+in_default v ↦ search rules
-    | in_default-via-in_default v ↦ search rules
-  ]
-  | in_default+in-Str+in-Heap-1 w ↦ elim w.in_default.branch [
-    | in_default-via-in-Ints+in_default v ↦ search rules
-    | in_default-via-in-Vertices+in_default v ↦ search rules
-    | in_default-via-in-Texts+in_default v ↦ search rules
-    | in_default-via-in-Chains+in_default v ↦ search rules
-    | in_default-via-in_default v ↦ search rules
-  ]
+  | in_default+in-Str+in-Inline-1 w ↦ elim w.in_default.branch [ in_default-via-in_default v ↦ search rules | _ ↦ search rules ]
+  | in_default+in-Str+in-Heap-1 w ↦ elim w.in_default.branch [ in_default-via-in_default v ↦ search rules | _ ↦ search rules ]
   | in_default+in-Nothing-1 w ↦ elim w.in_default.branch [
     | in_default-via-in-Ints+in_default v ↦ search rules
     | in_default-via-in-Vertices+in_default v ↦ search rules

@@ -1,6 +1,7 @@
-use Rattle.std.proofs.Common.{◌<◌, ◌∙◌, ap, length, subst, sym, rules, arith}
+use Rattle.std.proofs.Common.{◌<◌, ◌∙◌, ap, drop, length, subst, sym, rules, arith}
+use Rattle.sgb_vec.proofs.SumRowLemmas.{take_written}
 use Rattle.sgb_graph.specs.inner.Walks.{MarksLead}
-use Rattle.sgb_graph.proofs.WalkedLists.{list_ends, marked_anew, one_leads_astray, one_more_leads}
+use Rattle.sgb_graph.proofs.WalkedLists.{list_ends, one_leads_astray, one_more_leads}
 use Rattle.sgb_graph.proofs.parts.walks.lists_lead_to_vertices.Goals as goal
 
 pub way_leads-requires-clause-ends : goal.way_leads-requires-clause-ends
@@ -23,7 +24,7 @@ loop-v-preserved c =
     let below : c.loop-v.v < length c.args.vertices.now.items = search (rules, arith) in
     let leads = sym c.way_leads.ensures ∙ c.if-not-way_leads.false in
     let records = c.args.records.now.items in
-    let same = marked_anew c.loop-v.marks.len c.mark_way.new.marks c.loop-v.marks.items (c.mark_way.ensures.long ∙ c.deref_mut.ensures.len) in
+    let same = take_written c.loop-v.marks.len c.mark_way.new.marks (drop (length c.mark_way.new.marks) c.loop-v.marks.items) (sym (c.mark_way.ensures.long ∙ c.deref_mut.ensures.len)) in
     record {
       long = ap length same ∙ (c.mark_way.ensures.long ∙ (ap length c.deref_mut.ensures.value ∙ c.loop-v.invariant.long));
       marked =
