@@ -1,5 +1,5 @@
 -- Events that are added to a graph one after another.
-use Rattle.std.proofs.Common.{◌≡◌, ℕ, ℤ, Bool, true, false, List, [], ◌∷◌, ◌++◌, length, map, min, max, refl, sym, ap, subst, ◌∙◌, append_assoc, append-nil}
+use Rattle.std.proofs.Common.{arith, rules, ◌≡◌, ℕ, ℤ, Bool, true, false, List, [], ◌∷◌, ◌++◌, length, map, min, max, refl, sym, ap, subst, ◌∙◌, append_assoc, append-nil}
 use Rattle.std.specs.List.{All}
 use Rattle.std.proofs.lemmas.List.Elements.{All-nil, All-cons, All-append}
 use Rattle.sgb_graph.specs.Descriptions.{IsGraphOf}
@@ -14,11 +14,7 @@ pub KeepsAll-same : (g : GraphData) → KeepsAllButArcs g g
 KeepsAll-same g = record { id = refl; kinds = refl; util = refl; size = refl; names = refl; fields = refl }
 
 pub adds-none : (directed : Bool) (g : GraphData) → AddsEvents directed g g []
-adds-none directed g = record {
-  arcs = λ before h. subst (λ events. HasArcsOf directed events g) (sym (append-nil before)) h;
-  arc_fields = λ h. h;
-  rest = KeepsAll-same g;
-}
+adds-none directed g = search (rules, append-nil, KeepsAll-same)
 
 -- first some and then others
 pub KeepsAll-then : (a b c : GraphData) → KeepsAllButArcs a b → KeepsAllButArcs b c → KeepsAllButArcs a c
@@ -32,11 +28,7 @@ KeepsAll-then a b c h k = record {
 }
 
 pub adds-then : (directed : Bool) (a b c : GraphData) (es fs : List Event) → AddsEvents directed a b es → AddsEvents directed b c fs → AddsEvents directed a c (es ++ fs)
-adds-then directed a b c es fs h k = record {
-  arcs = λ before g. subst (λ events. HasArcsOf directed events c) (append_assoc before es fs) (k.arcs (before ++ es) (h.arcs before g));
-  arc_fields = λ g. k.arc_fields (h.arc_fields g);
-  rest = KeepsAll-then a b c h.rest k.rest;
-}
+adds-then directed a b c es fs h k = grind (arith, append_assoc, KeepsAll-then)
 
 -- one arc
 pub adds-arc : (old new : GraphData) (u v : ℕ) (len : ℤ) → AddsArc old new u v len → AddsEvents true old new (record { from = u; to = v; len = len } ∷ [])

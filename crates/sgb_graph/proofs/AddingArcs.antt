@@ -1,6 +1,6 @@
 -- A graph with one arc more.
-use Rattle.std.proofs.Common.{◌≡◌, ◌+◌, ◌≤◌, ◌<◌, ℕ, zero, suc, ℤ, true, ◌&&◌, List, [], ◌∷◌, ◌++◌, length, Option, Some, refl, ap, sym, ◌∙◌, arith}
-use Rattle.std.specs.Prelude.{slice_get, nat_lt}
+use Rattle.std.proofs.Common.{rules, ◌≡◌, ◌+◌, ◌≤◌, ◌<◌, ℕ, zero, suc, ℤ, true, List, [], ◌∷◌, ◌++◌, length, Option, Some, refl, ap, sym, ◌∙◌, arith}
+use Rattle.std.specs.Prelude.{slice_get}
 use Rattle.std.specs.List.{list_all}
 use Rattle.std.specs.Option.{option_and_then}
 use Rattle.std.proofs.lemmas.Bool.{and_parts, and_from, lt-ltb}
@@ -11,7 +11,6 @@ use Rattle.sgb_graph.specs.Growth.{IsKept, HasPlainArcs, AddsArc, KeepsAllButArc
 use Rattle.sgb_graph.specs.inner.Growth.{with_arcs}
 use Rattle.sgb_graph.specs.declared.fields.Kind.{Kind}
 use Rattle.sgb_graph.specs.declared.fields.Kind.TheVariants.{Z}
-use Rattle.sgb_graph.specs.declared.fields.Util.TheVariants.{Nothing}
 use Rattle.sgb_graph.specs.declared.fields.Vertex.{Vertex}
 use Rattle.sgb_graph.specs.declared.fields.ArcRec.{ArcRec}
 use Rattle.sgb_graph.specs.declared.fields.Link.{Link}
@@ -55,18 +54,11 @@ chain_of_vertex g u has below =
 -- a new record fits, as those after it do
 pub plain_fit : (n m : ℕ) (kinds : List Kind) (v : ℕ) (after : Option ℕ) (far : ℤ) (more : List ArcRec) → v < n → chain_fits m after ≡ true → arc_kinds kinds ≡ Z ∷ Z ∷ [] → list_all (record_fits_in n m kinds) more ≡ true
     → list_all (record_fits_in n m kinds) (arc_record v after far ∷ more) ≡ true
-plain_fit n m kinds v after far more below fits plain others =
-    and_from (record_fits_in n m kinds (arc_record v after far)) (list_all (record_fits_in n m kinds) more)
-    (and_from (nat_lt v n && chain_fits m after) (utils_fit n m (arc_kinds kinds) (Nothing ∷ Nothing ∷ []))
-    (and_from (nat_lt v n) (chain_fits m after) (lt-ltb v n below) fits) (rw plain refl)) others
+plain_fit n m kinds v after far more below fits plain others = grind (arith, and_from, record_fits_in, lt-ltb, fits)
 
 -- a vertex stays good with another first record, from which the way leads to vertices
 pub good_with_arcs : (n : ℕ) (kinds : List Kind) (records : List ArcRec) (first : Option ℕ) (x : Vertex) → chain_fits (length records) first ≡ true → lead_within (length records) records first ≡ true → is_good n kinds records x ≡ true → is_good n kinds records (with_arcs first x) ≡ true
-good_with_arcs n kinds records first x fits leads good =
-    let parts = and_parts (vertex_fits_in n (length records) kinds x) (lead_within (length records) records x.arcs) good in
-    let own = and_parts (chain_fits (length records) x.arcs) (utils_fit n (length records) (vertex_kinds kinds) x.util) parts.0 in
-    and_from (vertex_fits_in n (length records) kinds (with_arcs first x)) (lead_within (length records) records first)
-    (and_from (chain_fits (length records) first) (utils_fit n (length records) (vertex_kinds kinds) x.util) fits own.1) leads
+good_with_arcs n kinds records first x fits leads good = search (rules, and_parts, vertex_fits_in, lead_within, and_from, fits, leads)
 
 -- a record in front of a chain
 pub record IsLead (steps : ℕ) (records : List ArcRec) (k v : ℕ) (far : ℤ) (chain : List Link) : Type 0 where
@@ -117,14 +109,7 @@ with_arc g u v far =
 
 -- all but the arcs stays where the first record of a vertex changes
 pub keeps_all : (g : GraphData) (count : ℕ) (first : Option ℕ) (u : ℕ) (records : List ArcRec) → KeepsAllButArcs g (graph_data g.id count g.kinds g.util (at_place (with_arcs first) u g.vertices) records)
-keeps_all g count first u records = record {
-  id = refl;
-  kinds = refl;
-  util = refl;
-  size = length-at_place (with_arcs first) u g.vertices;
-  names = map-at_place (λ x. x.name) (with_arcs first) u g.vertices (λ x. refl);
-  fields = map-at_place (λ x. x.util) (with_arcs first) u g.vertices (λ x. refl);
-}
+keeps_all g count first u records = search (rules, length-at_place, map-at_place)
 
 -- the first of the new records stands after the old ones
 pub first_is : (records more : List ArcRec) (r : ArcRec) → slice_get (records ++ r ∷ more) (length records) ≡ Some r

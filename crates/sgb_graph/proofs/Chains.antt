@@ -1,5 +1,5 @@
 -- Chains of records: what more records at the end leave as it was.
-use Rattle.std.proofs.Common.{◌≡◌, ◌≤◌, ℕ, zero, suc, Bool, true, false, List, [], ◌∷◌, ◌++◌, length, Option, Some, None, refl, ap, sym, subst, ◌∙◌, arith}
+use Rattle.std.proofs.Common.{rules, ◌≡◌, ◌≤◌, ℕ, zero, suc, Bool, true, false, List, [], ◌∷◌, ◌++◌, length, Option, Some, None, refl, ap, sym, subst, ◌∙◌, arith}
 use Rattle.std.specs.Prelude.{slice_get, is_some}
 use Rattle.std.specs.List.{list_all, flat_map}
 use Rattle.std.specs.Option.{option_map_or}
@@ -138,15 +138,11 @@ leads_kept steps records more first le e leads =
 
 -- the arcs from a record on: its own, and those from the next one on
 pub links_step : (steps : ℕ) (records : List ArcRec) (k : ℕ) (r : ArcRec) → slice_get records k ≡ Some r → links_within (suc steps) records (Some k) ≡ link k (vertex_of r.tip) r.len ∷ links_within steps records r.next
-links_step steps records k r is =
-    ap (flat_map (link_of records)) (numbers_step steps records k r is)
-    ∙ ap (λ ls. ls ++ links_within steps records r.next) (ap (λ o. option_map_or (λ (x : ArcRec). link k (vertex_of x.tip) x.len ∷ []) o []) is)
+links_step steps records k r is = search (rules, numbers_step, is)
 
 -- they lead to vertices where these do
 pub leads_step : (steps : ℕ) (records : List ArcRec) (k : ℕ) (r : ArcRec) → slice_get records k ≡ Some r → is_vertex r.tip ≡ true → lead_within steps records r.next ≡ true → lead_within (suc steps) records (Some k) ≡ true
-leads_step steps records k r is tip rest =
-    ap (list_all (leads_to_vertex records)) (numbers_step steps records k r is)
-    ∙ and_from (leads_to_vertex records k) (lead_within steps records r.next) (ap (λ o. option_map_or (λ (x : ArcRec). is_vertex x.tip) o false) is ∙ tip) rest
+leads_step steps records k r is tip rest = grind (arith, numbers_step, is, and_from)
 
 -- no more arcs are on a way than it has steps
 pub length-links : (fuel : ℕ) (records : List ArcRec) (first : Option ℕ) → length (links_within fuel records first) ≤ fuel

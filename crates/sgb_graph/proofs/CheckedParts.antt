@@ -1,17 +1,15 @@
 -- Parts that were checked: what fits, and the graph that they make up.
-use Rattle.std.proofs.Common.{◌≡◌, ◌&&◌, ℕ, Bool, true, List, [], ◌∷◌, length, slice_index_or, refl, ap, sym, ◌∙◌, inl, inr, arith}
-use Rattle.std.specs.Prelude.{nat_le, Ok, Err, if◌then◌else◌}
+use Rattle.std.proofs.Common.{◌≡◌, ◌&&◌, ℕ, Bool, true, List, [], ◌∷◌, length, slice_index_or, refl, ap, sym, ◌∙◌, arith}
+use Rattle.std.specs.Prelude.{Ok, Err, if◌then◌else◌}
 use Rattle.std.specs.List.{list_all, zip}
 use Rattle.std.proofs.Math.Bool.{and-true}
 use Rattle.std.proofs.lemmas.Bool.{and_parts, and_from, cases_Bool}
-use Rattle.sgb_vec.specs.Limits.{most_vertices}
 use Rattle.sgb_vec.specs.declared.panics.Panic.TheVariants.{Syntax}
 use Rattle.sgb_graph.specs.Graphs.{GraphData, ends_of}
-use Rattle.sgb_graph.specs.Sound.{IsGraph, util_fits, utils_fit, fields_fit, is_sound, chains_end, chain_fits, graph_kinds, record_fits, vertex_fits, vertex_kinds}
+use Rattle.sgb_graph.specs.Sound.{IsGraph, util_fits, utils_fit, fields_fit, chains_end}
 use Rattle.sgb_graph.specs.Parts.{is_graph, checked}
 use Rattle.sgb_graph.specs.declared.fields.Kind.{Kind}
 use Rattle.sgb_graph.specs.declared.fields.Util.{Util}
-use Rattle.sgb_graph.specs.declared.fields.Vertex.{Vertex}
 use Rattle.sgb_graph.proofs.Lists.{list_all-weaker}
 use Rattle.sgb_graph.proofs.Growing.{first_ends}
 
@@ -34,25 +32,15 @@ both_fit n m kinds d a b long first second =
 
 -- the list of each vertex ends where the numbers fit and all chains end
 pub lists_end : (g : GraphData) → fields_fit g ≡ true → chains_end g.records ≡ true → list_all (λ x. ends_of g.records x.arcs) g.vertices ≡ true
-lists_end g fits ends =
-    let parts = and_parts (utils_fit (length g.vertices) (length g.records) (graph_kinds g.kinds) g.util && list_all (vertex_fits g) g.vertices) (list_all (record_fits g) g.records) fits in
-    let own = and_parts (utils_fit (length g.vertices) (length g.records) (graph_kinds g.kinds) g.util) (list_all (vertex_fits g) g.vertices) parts.0 in
-    list_all-weaker (vertex_fits g) (λ (x : Vertex). ends_of g.records x.arcs) g.vertices
-    (λ x fit. first_ends g.records x.arcs ends (and_parts (chain_fits (length g.records) x.arcs) (utils_fit (length g.vertices) (length g.records) (vertex_kinds g.kinds) x.util) fit).0)
-    own.1
+lists_end g fits ends = grind (arith, and_parts, list_all-weaker, first_ends)
 
 -- parts that pass the check are a graph
 pub is_graph_from : (g : GraphData) → is_graph g ≡ true → IsGraph g
-is_graph_from g e =
-    let sound = and_parts (nat_le (length g.vertices) most_vertices && fields_fit g) (is_sound g) e in
-    let fit = and_parts (nat_le (length g.vertices) most_vertices) (fields_fit g) sound.0 in
-    record { vertices_fit = fit.0; fields = fit.1; lists = sound.1 }
+is_graph_from g e = grind (arith, and_parts)
 
 -- and a graph passes it
 pub passes_graph : (g : GraphData) → IsGraph g → is_graph g ≡ true
-passes_graph g is =
-    and_from (nat_le (length g.vertices) most_vertices && fields_fit g) (is_sound g)
-    (and_from (nat_le (length g.vertices) most_vertices) (fields_fit g) is.vertices_fit is.fields) is.lists
+passes_graph g is = grind (arith, and_from)
 
 -- so parts that make up a graph are that graph
 pub graph_is_checked : (g : GraphData) → IsGraph g → checked g ≡ Ok g
@@ -60,8 +48,4 @@ graph_is_checked g is = ap (λ passes. if passes then Ok g else Err Syntax) (pas
 
 -- and others are refused
 pub other_is_refused : (g : GraphData) → (IsGraph g → ⊥) → checked g ≡ Err Syntax
-other_is_refused g other =
-    elim (cases_Bool (is_graph g)) [
-      | inl passes ↦ absurd (other (is_graph_from g passes))
-      | inr fails ↦ ap (λ passes. if passes then Ok g else Err Syntax) fails
-    ]
+other_is_refused g other = grind (arith, cases_Bool, is_graph_from)

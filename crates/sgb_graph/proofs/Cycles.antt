@@ -1,5 +1,5 @@
 -- A cycle of random numbers, the next one, and the numbers of the sequence that they are.
-use Rattle.std.proofs.Common.{◌≡◌, ℕ, ◌+◌, ◌-◌, ◌%◌, ◌<◌, ◌≤◌, ◌≢◌, List, length, get_or, set, refl, ap, sym, ◌∙◌, inl, inr, arith, length-set, get_or-set_same, get_or-set_other}
+use Rattle.std.proofs.Common.{rules, ◌≡◌, ℕ, ◌+◌, ◌-◌, ◌%◌, ◌<◌, ◌≤◌, ◌≢◌, List, get_or, set, refl, ap, sym, ◌∙◌, inl, inr, arith, length-set, get_or-set_same, get_or-set_other}
 use Rattle.std.proofs.lemmas.Bool.{cases_eq, cases_lt}
 use Rattle.sgb_graph.specs.Draws.{modulus, difference, x_number}
 use Rattle.sgb_graph.specs.inner.Flips.{HandsOut, IsCycle, IsNextCycle}
@@ -12,15 +12,7 @@ difference_below a b = omega arith
 
 -- a cycle with one number changed
 pub cycle_with : (numbers : List ℕ) (i x : ℕ) → IsCycle numbers → x < modulus → IsCycle (set numbers i x)
-cycle_with numbers i x is small = record {
-  many = length-set numbers i x ∙ is.many;
-  below = λ j inside. elim (cases_eq j i) [
-    | inl same ↦
-        let within : i < length numbers = omega (arith, is.many) in
-        rw (same, get_or-set_same numbers i x 0 within) small
-    | inr other ↦ rw (get_or-set_other numbers i j x 0 other) (is.below j inside)
-  ];
-}
+cycle_with numbers i x is small = search (rules, length-set, cases_eq, get_or-set_same, get_or-set_other)
 
 -- the first n numbers are those of the next cycle, the others those of the old one
 pub record IsCycling (old now : List ℕ) (n : ℕ) : Type 0 where
@@ -90,10 +82,7 @@ part_window seed n numbers is = record {
 
 -- its rule
 pub numbers_rule : (seed j : ℕ) → x_number seed (j + 55 + 1) ≡ difference (x_number seed (j + 1)) (x_number seed (j + 31 + 1))
-numbers_rule seed j =
-    let one : j + 55 + 1 - 55 ≡ j + 1 = omega arith in
-    let other : j + 55 + 1 - 24 ≡ j + 31 + 1 = omega arith in
-    rw (← one, ← other) (later_number seed (j + 55 + 1) (omega arith))
+numbers_rule seed j = grind (arith, later_number)
 
 -- the numbers of the next cycle come after those of a cycle in each sequence with the rule
 pub next_part : (y : ℕ → ℕ) (n : ℕ) (old new : List ℕ) → ((j : ℕ) → y (j + 55) ≡ difference (y j) (y (j + 31))) → IsPartOf y n old → IsNextCycle old new → IsPartOf y (n + 55) new

@@ -1,5 +1,5 @@
 -- The graph that is described: it is one, and the only one.
-use Rattle.std.proofs.Common.{◌≡◌, ◌≢◌, ◌+◌, ◌<◌, ◌≤◌, ◌⊎◌, ℕ, zero, suc, min, max, Bool, true, false, List, [], ◌∷◌, length, get_or, map, zip, drop, Option, Some, None, refl, ap, sym, ◌∙◌, subst, inl, inr, arith}
+use Rattle.std.proofs.Common.{rules, ◌≡◌, ◌≢◌, ◌+◌, ◌<◌, ◌≤◌, ◌⊎◌, ℕ, zero, suc, min, max, Bool, true, false, List, [], ◌∷◌, length, get_or, map, zip, drop, Option, Some, None, refl, ap, sym, ◌∙◌, subst, inl, inr, arith}
 use Rattle.std.specs.Prelude.{slice_get}
 use Rattle.std.specs.List.{All, AllPairs, Contains, enumerate_from, flat_map}
 use Rattle.std.proofs.lemmas.Bool.{eq-eqb, ne_eqb, cases_eq}
@@ -15,7 +15,6 @@ use Rattle.sgb_graph.specs.Made.{first_number, graph_described, number_after, re
 use Rattle.sgb_graph.specs.Growth.{link, record_from}
 use Rattle.sgb_graph.specs.declared.fields.Ref.TheVariants.{At}
 use Rattle.sgb_graph.specs.declared.fields.Util.{Util}
-use Rattle.sgb_graph.specs.declared.fields.Util.TheVariants.{Nothing}
 use Rattle.sgb_graph.specs.declared.fields.Vertex.{Vertex}
 use Rattle.sgb_graph.specs.declared.fields.ArcRec.{ArcRec}
 use Rattle.sgb_graph.specs.declared.fields.Link.{Link}
@@ -67,12 +66,7 @@ vertices_are lists k (x ∷ vertices) firsts =
 
 -- a record by its parts
 record_is : (links : List Link) (k : ℕ) (a : Record) (r : ArcRec) → r.tip ≡ At a.tip → r.len ≡ a.len → HasNoFields r → r.next ≡ number_after k links → r ≡ record_in links k a
-record_is links k a r tip len none next =
-    ap (λ t. record r { tip = t }) tip
-    ∙ ap (λ n. record r { tip = At a.tip; next = n }) next
-    ∙ ap (λ l. record r { tip = At a.tip; next = number_after k links; len = l }) len
-    ∙ ap (λ f. record r { tip = At a.tip; next = number_after k links; len = a.len; a = f }) none.0
-    ∙ ap (λ f. record r { tip = At a.tip; next = number_after k links; len = a.len; a = Nothing; b = f }) none.1
+record_is links k a r tip len none next = search (rules, tip, next, len)
 
 -- records by theirs
 records_are : (lists : ℕ → List Link) (k : ℕ) (records : List ArcRec) (wanted : List Record) → map (λ r. r.tip) records ≡ map (λ r. At r.tip) wanted → map (λ r. r.len) records ≡ map (λ r. r.len) wanted → All HasNoFields records

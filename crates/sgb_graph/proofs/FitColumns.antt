@@ -1,5 +1,5 @@
 -- Vertices and records fit where their columns do.
-use Rattle.std.proofs.Common.{◌≡◌, ◌&&◌, ℕ, zero, suc, Bool, true, false, List, [], ◌∷◌, length, map, replicate, refl, ap, sym, ◌∙◌, arith}
+use Rattle.std.proofs.Common.{rules, ◌≡◌, ◌&&◌, ℕ, zero, suc, Bool, true, false, List, [], ◌∷◌, length, map, replicate, refl, ap, sym, ◌∙◌, arith}
 use Rattle.std.specs.List.{list_all}
 use Rattle.std.proofs.lemmas.List.{length-map}
 use Rattle.std.proofs.lemmas.List.Folds.{list_all-map}
@@ -100,8 +100,4 @@ records_fit n m _ _ ys a b hx hy = absurd (omega (arith, hx))
 pub records_fit_by : (n m : ℕ) (ps : List PlainRecord) (a b : Column) (seen : KeptRecords) → m ≡ length ps → HoldsMany (length ps) a → HoldsMany (length ps) b → kept_records ps a b ≡ seen
     → (list_all (plain_fits n m) ps && list_all (util_fits n m (column_kind a)) (values (length ps) a) && list_all (util_fits n m (column_kind b)) (values (length ps) b))
     ≡ list_all (record_fits_by n (length seen.items) (seen.a ∷ seen.b ∷ [])) seen.items
-records_fit_by n m ps a b seen count ha hb view =
-    let kept = kept_records ps a b in
-    sym (records_fit n m ps (values (length ps) a) (values (length ps) b) (column_kind a) (column_kind b) ha hb)
-    ∙ (ap (λ k. list_all (record_fits_by n k (column_kind a ∷ column_kind b ∷ [])) kept.items) (count ∙ sym (length-kept_records ps a b ha hb))
-    ∙ ap (λ (d : KeptRecords). list_all (record_fits_by n (length d.items) (d.a ∷ d.b ∷ [])) d.items) view)
+records_fit_by n m ps a b seen count ha hb view = search (rules, records_fit, length-kept_records)

@@ -74,13 +74,7 @@ kinds_parted _ a b e = absurd cc
 pub kept_same : (text : List ℕ) (count : ℕ) (kinds : List Kind) (own : List Util) (vertices : KeptVertices) (records : KeptRecords) → IsGraph (graph_data text count kinds own vertices.items records.items)
     → kinds_of_vertices vertices ≡ vertex_kinds kinds → records.a ∷ records.b ∷ [] ≡ arc_kinds kinds
     → kept_graph text count own vertices records ≡ graph_data text count kinds own vertices.items records.items
-kept_same text count kinds own vertices records is nodes arcs =
-    let g = graph_data text count kinds own vertices.items records.items in
-    let of_own = fits_kinds (length vertices.items) (length records.items) (graph_kinds kinds) own (parts_of g is).util in
-    let first = ap (λ ks. ks ++ (records.a ∷ records.b ∷ map util_kind own)) nodes in
-    let second = ap (λ ks. vertex_kinds kinds ++ (ks ++ map util_kind own)) arcs in
-    let third = ap (λ ks. vertex_kinds kinds ++ (arc_kinds kinds ++ ks)) of_own in
-    ap (λ ks. graph_data text count ks own vertices.items records.items) (first ∙ (second ∙ (third ∙ kinds_parted kinds records.a records.b arcs)))
+kept_same text count kinds own vertices records is nodes arcs = grind (arith, kinds, fits_kinds, parts_of, arcs, kinds_parted)
 
 -- the fields of the vertices fit, as those that are kept do
 pub vertices_fit_same : (g : GraphData) (vertices : KeptVertices) (m : ℕ) → vertices.items ≡ g.vertices → m ≡ length g.records → kinds_of_vertices vertices ≡ vertex_kinds g.kinds

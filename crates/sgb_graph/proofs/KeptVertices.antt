@@ -1,5 +1,5 @@
 -- What is kept of vertices, and what is seen of it.
-use Rattle.std.proofs.Common.{◌≡◌, ◌≢◌, ◌<◌, ◌≤◌, ◌+◌, ℕ, zero, suc, ℤ, pos, Option, Some, None, List, [], ◌∷◌, ◌++◌, length, map, replicate, get_or, set, drop, take, refl, ap, sym, subst, ◌∙◌, arith}
+use Rattle.std.proofs.Common.{rules, ◌≡◌, ◌≢◌, ◌<◌, ◌≤◌, ◌+◌, ℕ, zero, suc, ℤ, pos, Option, Some, None, List, [], ◌∷◌, ◌++◌, length, map, replicate, get_or, set, drop, take, refl, ap, sym, subst, ◌∙◌, arith}
 use Rattle.std.specs.Prelude.{slice_get, option_map}
 use Rattle.std.specs.Option.{option_and_then}
 use Rattle.std.proofs.Math.Seq.{map-set_same}
@@ -61,15 +61,11 @@ with_fields-other h (x ∷ xs) (r ∷ rs) other e =
 
 -- the names
 pub kept_names : (ps : List PlainVertex) (f : Fields) → AreKept ps f → map (λ x. x.name) (kept_items ps f) ≡ map (λ p. p.name) ps
-kept_names ps f kept =
-    with_fields-other (λ x. x.name) (map bare_vertex ps) (rows (length ps) (field_columns ps f)) (λ x r. refl) (same_length ps f kept)
-    ∙ map-map (λ x. x.name) bare_vertex ps
+kept_names ps f kept = grind (arith, with_fields-other, same_length, map-map)
 
 -- the first records
 kept_firsts : (ps : List PlainVertex) (f : Fields) → AreKept ps f → map (λ x. x.arcs) (kept_items ps f) ≡ map (λ p. kept_number p.arcs) ps
-kept_firsts ps f kept =
-    with_fields-other (λ x. x.arcs) (map bare_vertex ps) (rows (length ps) (field_columns ps f)) (λ x r. refl) (same_length ps f kept)
-    ∙ map-map (λ x. x.arcs) bare_vertex ps
+kept_firsts ps f kept = search (rules, with_fields-other, same_length, map-map)
 
 -- the first record of a vertex, out of the list of all
 first_of : (vertices : List Vertex) (v : ℕ) (first : Option ℕ) → slice_get (map (λ x. x.arcs) vertices) v ≡ Some first → first_arc vertices v ≡ first
@@ -97,14 +93,7 @@ has_number place ps k (Beside column) whole below = HasPlace-below column (lengt
 
 -- and all fields
 pub have_values : (ps : List PlainVertex) (k : ℕ) (f : Fields) → AreKept ps f → k < length ps → HaveValues k f
-have_values ps k f kept below = record {
-  u = HasPlace-below f.u (length ps) k kept.0 below;
-  v = HasPlace-below f.v (length ps) k kept.1.0 below;
-  w = HasPlace-below f.w (length ps) k kept.1.1.0 below;
-  x = has_number 0 ps k f.x kept.1.1.1.0 below;
-  y = has_number 1 ps k f.y kept.1.1.1.1.0 below;
-  z = has_number 2 ps k f.z kept.1.1.1.1.1.0 below;
-}
+have_values ps k f kept below = search (rules, HasPlace-below, has_number)
 
 -- a column that is not used
 unused_values : (n : ℕ) (c : Column) → column_kind c ≡ Z → values n c ≡ replicate n Nothing
@@ -127,10 +116,7 @@ replicate_whole n (suc k) x = (length-replicate n x, replicate_whole n k x)
 
 -- fields that are not used
 pub unused_columns : (ps : List PlainVertex) (f : Fields) → field_kinds f ≡ replicate 6 Z → field_columns ps f ≡ replicate 6 (replicate (length ps) Nothing)
-unused_columns ps f e =
-    let n = length ps in
-    let at : (k : ℕ) → get_or (field_kinds f) k Z ≡ get_or (replicate 6 Z) k Z = λ k. ap (λ ks. get_or ks k Z) e in
-    rw (unused_values n f.u (at 0), unused_values n f.v (at 1), unused_values n f.w (at 2), unused_numbers 0 ps f.x (at 3), unused_numbers 1 ps f.y (at 4), unused_numbers 2 ps f.z (at 5)) refl
+unused_columns ps f e = search (rules, unused_values, unused_numbers)
 
 -- they are kept
 pub unused_kept : (ps : List PlainVertex) (f : Fields) → field_kinds f ≡ replicate 6 Z → AreKept ps f
@@ -167,10 +153,7 @@ same_columns v ps p q f here ints =
 
 -- another first record
 pub first_kept : (v k : ℕ) (ps : List PlainVertex) (p : PlainVertex) (f : Fields) → p ≡ get_or ps v p → AreKept ps f → AreKept (set ps v (record p { arcs = k })) f
-first_kept v k ps p f here kept =
-    let q : PlainVertex = record p { arcs = k } in
-    columns_kept (length ps) (length (set ps v q)) (field_columns ps f) (field_columns (set ps v q) f)
-    (length-set ps v q) (same_columns v ps p q f here refl) kept
+first_kept v k ps p f here kept = search (rules, columns_kept, length-set, same_columns, here)
 
 -- is what is seen
 pub first_put : (v k : ℕ) (first : Option ℕ) (ps : List PlainVertex) (p : PlainVertex) (f : Fields) → v < length ps → p ≡ get_or ps v p → kept_number k ≡ first → kept_items (set ps v (record p { arcs = k })) f ≡ at_place (with_arcs first) v (kept_items ps f)
@@ -329,19 +312,7 @@ AddsNumber c d value i =
 pub fields_pushed : (ps : List PlainVertex) (p : PlainVertex) (f g : Fields) (a b c d e h : Util) (i j k : ℤ) → p.ints ≡ i ∷ j ∷ k ∷ [] → AreKept ps f
     → AddsValue f.u g.u a → AddsValue f.v g.v b → AddsValue f.w g.w c → AddsNumber f.x g.x d i → AddsNumber f.y g.y e j → AddsNumber f.z g.z h k
     → field_columns (ps ++ p ∷ []) g ≡ with_row (field_columns ps f) (a ∷ b ∷ c ∷ d ∷ e ∷ h ∷ [])
-fields_pushed ps p f g a b c d e h i j k ints kept u v w x y z =
-    let n = length ps in
-    let long : length (ps ++ p ∷ []) ≡ 1 + n = omega (arith, length_push ps p) in
-    let at : (place : ℕ) → number_at place p ≡ get_or (i ∷ j ∷ k ∷ []) place (pos 0) = λ place. ap (λ is. get_or is place (pos 0)) ints in
-    rw (
-      long,
-      u n kept.0,
-      v n kept.1.0,
-      w n kept.1.1.0,
-      x 0 ps p (at 0) kept.1.1.1.0,
-      y 1 ps p (at 1) kept.1.1.1.1.0,
-      z 2 ps p (at 2) kept.1.1.1.1.1.0,
-    ) refl
+fields_pushed ps p f g a b c d e h i j k ints kept u v w x y z = grind (arith, length_push)
 
 -- three integers in a vertex are a row of fields that are left alone
 ints_row : (ps : List PlainVertex) (p : PlainVertex) (x y z : ℤ) → p.ints ≡ x ∷ y ∷ z ∷ [] → AreKept ps ints_inside
@@ -353,9 +324,7 @@ ints_row ps p x y z ints kept =
     none n whole = values-unused n Unused refl
 
     one : (i : ℤ) → AddsNumber Inside Inside (Int i) i
-    one i place qs q at whole =
-        let f : PlainVertex → Util = λ r. Int (number_at place r) in
-        map-append f qs (q ∷ []) ∙ ap (λ (j : ℤ). map f qs ++ Int j ∷ []) at
+    one i place qs q at whole = grind (arith, map-append)
 
 -- columns with one row more
 columns_row : (n : ℕ) (columns : List (List Util)) (row : List Util) → length columns ≡ length row → AreColumns n columns → AreColumns (suc n) (with_row columns row)
@@ -413,13 +382,7 @@ columns_at f n (suc k) (column ∷ columns) same are = (are.0, columns_at f n k 
 
 -- numbers put into a vertex keep the columns
 put_whole : (n v : ℕ) (x y z : ℤ) (columns : List (List Util)) → AreColumns n columns → AreColumns n (put_columns v x y z (number_columns columns))
-put_whole n v x y z columns are =
-    columns_at (at_place (λ _. Int z) v) n 5 _ (λ us. length-at_place (λ _. Int z) v us)
-    (columns_at (at_place (λ _. Int y) v) n 4 _ (λ us. length-at_place (λ _. Int y) v us)
-    (columns_at (at_place (λ _. Int x) v) n 3 _ (λ us. length-at_place (λ _. Int x) v us)
-    (columns_at (map number_or_zero) n 5 _ (λ us. length-map us number_or_zero)
-    (columns_at (map number_or_zero) n 4 _ (λ us. length-map us number_or_zero)
-    (columns_at (map number_or_zero) n 3 columns (λ us. length-map us number_or_zero) are)))))
+put_whole n v x y z columns are = search (rules, columns_at, length-at_place, length-map, columns)
 
 -- the vertices with numbers put
 pub record ArePut (old : List PlainVertex) (f : Fields) (new : List PlainVertex) (g : Fields) (v : ℕ) (x y z : ℤ) : Type 0 where

@@ -1,5 +1,5 @@
 -- Steps of walks along chains of records, and the marks that they set.
-use Rattle.std.proofs.Common.{◌≡◌, ◌≤◌, ◌<◌, ◌⊎◌, ◌+◌, ◌&&◌, ℕ, zero, suc, Bool, true, false, List, length, set, get_or, Option, Some, None, refl, ap, sym, ◌∙◌, subst, inl, inr, arith}
+use Rattle.std.proofs.Common.{rules, ◌≡◌, ◌≤◌, ◌<◌, ◌⊎◌, ◌+◌, ◌&&◌, ℕ, zero, suc, Bool, true, false, List, length, set, get_or, Option, Some, None, refl, ap, sym, ◌∙◌, inl, inr, arith}
 use Rattle.std.specs.Prelude.{slice_get, is_some, not, IsTrue}
 use Rattle.std.specs.List.{list_all, range_with_len}
 use Rattle.std.specs.Option.{option_map_or}
@@ -101,11 +101,7 @@ leads_none records = ap (list_all (leads_to_vertex records)) (numbers_none (leng
 
 -- what holds of each marked record holds with one more, of which it holds too
 pub one_more_marked : (P : ℕ → Type 0) (marks : List Bool) (k : ℕ) → P k → ((j : ℕ) → IsTrue (get_or marks j false) → P j) → (j : ℕ) → IsTrue (get_or (set marks k true) j false) → P j
-one_more_marked P marks k here before j marked =
-    elim (cases_eq j k) [
-      | inl same ↦ subst P (sym same) here
-      | inr other ↦ before j (rw (get_or-set_other marks k j true false other) at marked)
-    ]
+one_more_marked P marks k here before j marked = search (rules, cases_eq, get_or-set_other)
 
 -- some number below n does not pass
 pub not_each_below : (p : ℕ → Bool) (n k : ℕ) → k < n → p k ≡ false → list_all p (range_with_len 0 n) ≡ false
@@ -148,14 +144,7 @@ reached_more marks k first inside (inr marked) = still_marked marks k first insi
 
 -- the walk goes on by one record
 pub reach_more : (records : List ArcRec) (marks : List Bool) (k : ℕ) (r : ArcRec) → k < length marks → slice_get records k ≡ Some r → MarksReach records marks (Some k) → MarksReach records (set marks k true) r.next
-reach_more records marks k r inside is reach j x there marked =
-    elim (cases_eq j k) [
-      | inl same ↦
-          let one : Some x ≡ Some r = sym there ∙ (ap (slice_get records) same ∙ is) in
-          inl (ap (λ o. option_map_or (λ (y : ArcRec). y.next) o None) one)
-      | inr other ↦
-          inr (reached_more marks k x.next inside (reach j x there (rw (get_or-set_other marks k j true false other) at marked)))
-    ]
+reach_more records marks k r inside is reach j x there marked = grind (arith, cases_eq, reached_more, get_or-set_other)
 
 -- it is over where the next record is marked, or there is none
 pub reached_all : (marks : List Bool) (next first : Option ℕ) → is_marked marks next ≡ true → (first ≡ next) ⊎ IsTrue (is_marked marks first) → IsTrue (is_marked marks first)

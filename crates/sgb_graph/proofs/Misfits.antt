@@ -18,9 +18,7 @@ use Rattle.sgb_graph.proofs.Growing.{parts_of}
 
 -- there are none
 pub are_none : (vertices : List Vertex) (records : List ArcRec) → (length vertices == 0 && length records == 0) ≡ true → (length vertices ≡ 0) × (length records ≡ 0)
-are_none vertices records e =
-    let parts = and_parts (length vertices == 0) (length records == 0) e in
-    (eqb-true (length vertices) 0 parts.0, eqb-true (length records) 0 parts.1)
+are_none vertices records e = grind (arith, and_parts, eqb-true)
 
 -- parts with none more
 pub with_none : (vertices : List Vertex) (records : List ArcRec) (g : GraphData) → length vertices ≡ 0 → length records ≡ 0 → with_more vertices records g ≡ g

@@ -1,5 +1,5 @@
 -- Integers in the utility fields x, y, z of vertices.
-use Rattle.std.proofs.Common.{◌≡◌, ℕ, Option, Some, None, slice_get, option_map, zero, suc, ℤ, true, List, [], ◌∷◌, length, set, take, map, refl, ap, sym, ◌∙◌, arith}
+use Rattle.std.proofs.Common.{rules, ◌≡◌, ℕ, Option, Some, None, slice_get, option_map, zero, suc, ℤ, true, List, [], ◌∷◌, length, set, take, map, refl, ap, sym, ◌∙◌, arith}
 use Rattle.std.specs.Option.{option_map_or}
 use Rattle.std.proofs.lemmas.Bool.{and_parts, and_from}
 use Rattle.std.proofs.Math.Seq.{take-set-lt}
@@ -75,11 +75,7 @@ hold_then (a ∷ b ∷ c ∷ d ∷ e ∷ f ∷ kinds) = record { x = refl; y = r
 
 -- so do the kinds of vertices
 hold_in_six : (kinds : List Kind) → HoldNumbers kinds → HoldNumbers (vertex_kinds kinds)
-hold_in_six kinds h = record {
-  x = sym (take-set-lt 6 kinds 3 I (omega arith)) ∙ ap (take 6) h.x;
-  y = sym (take-set-lt 6 kinds 4 I (omega arith)) ∙ ap (take 6) h.y;
-  z = sym (take-set-lt 6 kinds 5 I (omega arith)) ∙ ap (take 6) h.z;
-}
+hold_in_six kinds h = search (rules, take-set-lt)
 
 -- a vertex with numbers in its fields fits
 some_fit : (n m : ℕ) (kinds : List Kind) (x : Vertex) → vertex_fits_in n m kinds x ≡ true → vertex_fits_in n m (with_number_kinds kinds) (with_some_numbers x) ≡ true
@@ -143,6 +139,4 @@ chain_by_first g w =
 
 -- so they stay
 pub ints_chains : (g : GraphData) (v : ℕ) (x y z : ℤ) (w : ℕ) → chain_of (with_ints g v x y z) w ≡ chain_of g w
-ints_chains g v x y z w =
-    chain_by_first (with_ints g v x y z) w
-    ∙ (ap (λ fs. option_map_or (links_of g.records) (slice_get fs w) []) (ints_firsts g v x y z) ∙ sym (chain_by_first g w))
+ints_chains g v x y z w = search (rules, chain_by_first, ints_firsts)

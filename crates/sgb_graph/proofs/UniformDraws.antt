@@ -1,7 +1,7 @@
 -- Of 1760 draws in a row one is below the bound of a uniform draw, so that each uniform draw is found.
 use Rattle.std.specs.Prelude.{◌≡◌, ℕ, zero, suc, ◌+◌, ◌-◌, ◌*◌, ◌/◌, ◌%◌, ◌^◌, ◌<◌, ◌≤◌, Bool, true, false, cond, Option, Some, None, find, nat_lt, unwrap_or, refl}
 use Rattle.std.specs.List.{range_with_len}
-use Rattle.std.proofs.Common.{arith, ap, ◌∙◌, subst, inl, inr}
+use Rattle.std.proofs.Common.{rules, arith, ap, ◌∙◌, subst, inl, inr}
 use Rattle.std.proofs.Math.Nat.{two-pow-succ}
 use Rattle.std.proofs.lemmas.Bool.{cases_lt}
 use Rattle.std.proofs.lemmas.Bool.Decides.{Decides-ltb}
@@ -108,14 +108,7 @@ uniform_draw_taken seed m k some small = first_taken_makes seed m k most_tried (
 
 -- of two uniform draws below m from draw k on the first is made of no later draw than the second
 no_later : (seed m k one other last next : ℕ) → IsUniformDraw seed m k one last → IsUniformDraw seed m k other next → last ≤ next
-no_later seed m k one other last next is also =
-    elim (cases_lt next last) [
-      | inl before ↦
-          let above = is.thrown_away next also.from_place before in
-          let below = also.taken in
-          absurd (omega arith)
-      | inr fits ↦ fits
-    ]
+no_later seed m k one other last next is also = search (rules, cases_lt)
 
 -- and there is no other
 pub uniform_draw_only : (seed m k number last : ℕ) → 1 ≤ m → m ≤ modulus → IsUniformDraw seed m k number last → (last ≡ used_draw seed m k) × (number ≡ draw seed last % m)

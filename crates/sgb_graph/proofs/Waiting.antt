@@ -1,5 +1,5 @@
 -- How long a generator may hand out numbers from a bound on, where that bound is above 2^30.
-use Rattle.std.proofs.Common.{◌≡◌, ℕ, ◌+◌, ◌-◌, ◌*◌, ◌/◌, ◌^◌, ◌<◌, ◌≤◌, ◌≢◌, ◌⊎◌, Bool, true, false, ◌&&◌, ◌||◌, cond, List, get_or, ap, sym, ◌∙◌, subst, inl, inr, arith, ltb, leb}
+use Rattle.std.proofs.Common.{rules, ◌≡◌, ℕ, ◌+◌, ◌-◌, ◌*◌, ◌^◌, ◌<◌, ◌≤◌, ◌≢◌, ◌⊎◌, Bool, true, false, ◌&&◌, ◌||◌, cond, List, get_or, ap, sym, ◌∙◌, subst, inl, inr, arith, ltb, leb}
 use Rattle.std.proofs.lemmas.Bool.{cases_lt, cases_Bool, cond-true, cond-false, cond_both, or_cases, or_parts, or_left, or_right, and_parts, and_from, ltb-true, ltb-false, leb-true, lt-ltb, le-leb}
 use Rattle.std.proofs.lemmas.Nat.{le-div, mod_below}
 use Rattle.std.proofs.Math.Nat.{div-add-mod, mul-le-mul_left}
@@ -8,10 +8,7 @@ use Rattle.sgb_graph.specs.inner.Flips.{HandsOut, IsNextCycle}
 
 -- the bound of a uniform draw is above 2^30
 pub bound_above : (m : ℕ) → 1 ≤ m → m ≤ modulus → 2 ^ 30 < bound_below m
-bound_above m some small =
-    let positive : 0 < m = omega arith in
-    let once : 1 ≤ modulus / m = le-div 1 modulus m positive (omega arith) in
-    omega (arith, mod_below modulus m positive, div-add-mod modulus m, mul-le-mul_left m once)
+bound_above m some small = grind (arith, le-div, mod_below, div-add-mod, mul-le-mul_left)
 
 -- numbers 1 and 32 of a cycle make number 1 of the next one: where none of the three is below such a bound, it
 -- is greater than the number in its place
@@ -30,16 +27,7 @@ cycles_if_good bound first other one two =
 -- there are fewer after the next cycle
 fewer_cycles : (bound first other next_other : ℕ) → 2 ^ 30 < bound → first < modulus → other < modulus → bound ≤ first → bound ≤ other
     → cycles_left bound (difference first other) next_other < cycles_left bound first other
-fewer_cycles bound first other next_other high first_small other_small one two =
-    rw (cycles_if_good bound first other one two)
-    (cond_both (leb bound (difference first other) && leb bound next_other) (modulus + 1 - difference first other) 0 (λ n. n < modulus + 1 - first)
-    (λ good.
-    let there = leb-true bound (difference first other) (and_parts (leb bound (difference first other)) (leb bound next_other) good).0 in
-    let rises = first_rises bound first other high first_small other_small one two there in
-    let small : difference first other < modulus = omega arith in
-    let fewer : (n : ℕ) → first < n → n < modulus → modulus + 1 - n < modulus + 1 - first = λ n up low. omega arith in
-    fewer (difference first other) rises small)
-    (λ _. omega arith))
+fewer_cycles bound first other next_other high first_small other_small one two = search (rules, cycles_if_good, cond_both, leb-true, and_parts, first_rises)
 
 -- number 1 or 32, where it is below the bound, is still to come in this cycle
 abbrev pub stops_within : (bound first other left : ℕ) → Bool
@@ -65,20 +53,7 @@ waiting_on bound first other next_first next_other left some not_first not_other
     not_32 low last = let high = not_other last in omega arith
 
     still_stops : stops_within bound first other left ≡ true → stops_within bound first other (left - 1) ≡ true
-    still_stops stops =
-        elim (or_cases (ltb 0 left && ltb first bound) (ltb 31 left && ltb other bound) stops) [
-          | inl one ↦
-              let parts = and_parts (ltb 0 left) (ltb first bound) one in
-              let apart = not_one (ltb-true first bound parts.1) in
-              let more : 0 < left - 1 = omega arith in
-              or_left (ltb 0 (left - 1) && ltb first bound) (ltb 31 (left - 1) && ltb other bound) (and_from (ltb 0 (left - 1)) (ltb first bound) (lt-ltb 0 (left - 1) more) parts.1)
-          | inr two ↦
-              let parts = and_parts (ltb 31 left) (ltb other bound) two in
-              let apart = not_32 (ltb-true other bound parts.1) in
-              let high = ltb-true 31 left parts.0 in
-              let more : 31 < left - 1 = omega arith in
-              or_right (ltb 0 (left - 1) && ltb first bound) (ltb 31 (left - 1) && ltb other bound) (and_from (ltb 31 (left - 1)) (ltb other bound) (lt-ltb 31 (left - 1) more) parts.1)
-        ]
+    still_stops stops = grind (arith, or_cases, and_parts, not_one, ltb-true, or_left, and_from, lt-ltb, not_32, or_right)
 
     by_cases : (stops_within bound first other left ≡ true) ⊎ (stops_within bound first other left ≡ false) → less < waiting_of bound first other next_first next_other left
     by_cases (inl stops) =
@@ -94,14 +69,7 @@ waiting_on bound first other next_first next_other left some not_first not_other
 -- a cycle more
 waiting_next : (bound old_first old_other first other next_other : ℕ) → 2 ^ 30 < bound → first < modulus → other < modulus
     → waiting_of bound first other (difference first other) next_other 54 < waiting_of bound old_first old_other first other 0
-waiting_next bound old_first old_other first other next_other high first_small other_small =
-    cond_both (stops_within bound first other 54) 54 (54 + 55 + 55 * cycles_left bound (difference first other) next_other) (λ n. n < 0 + 55 + 55 * cycles_left bound first other)
-    (λ _. omega arith)
-    (λ goes_on.
-    let parts = or_parts (ltb first bound) (ltb other bound) goes_on in
-    let fewer = fewer_cycles bound first other next_other high first_small other_small (ltb-false first bound parts.0) (ltb-false other bound parts.1) in
-    let by_cycles : (a b : ℕ) → a < b → 54 + 55 + 55 * a < 0 + 55 + 55 * b = λ a b h. omega arith in
-    by_cycles (cycles_left bound (difference first other) next_other) (cycles_left bound first other) fewer)
+waiting_next bound old_first old_other first other next_other high first_small other_small = search (rules, cond_both, or_parts, fewer_cycles, ltb-false)
 
 -- by the numbers of the cycle
 abbrev pub waiting : (bound : ℕ) (numbers : List ℕ) (left : ℕ) → ℕ

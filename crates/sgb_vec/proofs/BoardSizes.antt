@@ -36,10 +36,7 @@ has_great_size-repeated s n i h great =
 
 -- one more size, which is not too great
 pub has_great_size-push : (s : List ℕ) (n : ℕ) → n ≤ most_entry → has_great_size s ≡ false → has_great_size (s ++ n ∷ []) ≡ false
-has_great_size-push s n h small =
-    let e = list_any-append (λ m. nat_lt most_entry m) s (n ∷ []) in
-    let t : nat_lt most_entry n ≡ false = grind (arith, nat_tests) in
-    rw (e, small, t) refl
+has_great_size-push s n h small = grind (arith, list_any-append, nat_tests)
 
 -- the sizes are the given ones repeated to as many as the stop says
 pub sizes_by_stop-repeated : (s : List ℕ) (e : ℤ) → sizes_by_stop s e ≡ repeated s (count_by_stop s e)

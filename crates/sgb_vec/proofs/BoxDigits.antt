@@ -28,10 +28,7 @@ digit_more s n rest front =
 
 -- none stands behind the last entry
 pub digits-none : (sizes entries : List ℕ) (k place : ℕ) → length sizes ≤ k → length entries ≡ length sizes → AreDigits sizes entries k place place
-digits-none sizes entries k place h e =
-    let no_size : drop k sizes ≡ [] = drop_all k sizes h in
-    let no_entry : drop k entries ≡ [] = drop_all k entries (omega (arith, h, e)) in
-    rw (no_size, no_entry) (tt, omega arith)
+digits-none sizes entries k place h e = grind (arith, drop_all)
 
 pub digits-more : (sizes entries : List ℕ) (k next rest place : ℕ) → next ≡ k + 1 → 0 < product_of sizes → k < length sizes → length entries ≡ length sizes
     → AreDigits sizes entries next rest place

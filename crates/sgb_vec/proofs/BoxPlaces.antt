@@ -67,10 +67,7 @@ length-box (s ∷ sizes) =
 -- the vector at place x * n + j has x in front of the j-th vector of the other sizes, of which there are n
 pub get_or-box : (s : ℕ) (sizes : List ℕ) (x j : ℕ) (d : List ℕ) → x < s → j < product_of sizes → get_or (box (s ∷ sizes)) (x * product_of sizes + j) d ≡ x ∷ get_or (box sizes) j d
 unfolding box
-get_or-box s sizes x j d h k =
-    let row : (x : ℕ) → length (map (λ v. x ∷ v) (box sizes)) ≡ product_of sizes = λ x. length-map (box sizes) (λ v. x ∷ v) ∙ length-box sizes in
-    get_or-rows (λ x. map (λ v. x ∷ v) (box sizes)) (product_of sizes) row s x j d h k
-    ∙ get_or-map (λ v. x ∷ v) (box sizes) j d d (omega (arith, length-box sizes))
+get_or-box s sizes x j d h k = grind (arith, length-map, length-box, get_or-rows, get_or-map)
 
 -- a vector of the box stands within it
 pub place_of-below : (sizes v : List ℕ) → IsBelow v sizes → place_of sizes v < product_of sizes

@@ -1,5 +1,5 @@
 -- Whether more vectors than a graph may have vertices add to some number, told from the rows of counts.
-use Rattle.std.proofs.Common.{◌≡◌, ℕ, suc, zero, ◌+◌, ◌-◌, ◌*◌, ◌<◌, ◌≤◌, Bool, true, false, List, ◌∷◌, length, take, sum, get_or, min, refl, ap, ◌∙◌, inl, inr, arith}
+use Rattle.std.proofs.Common.{rules, ◌≡◌, ℕ, suc, zero, ◌+◌, ◌-◌, ◌*◌, ◌<◌, ◌≤◌, Bool, true, false, List, ◌∷◌, length, take, sum, get_or, min, refl, ap, ◌∙◌, inl, inr, arith}
 use Rattle.std.specs.List.{All, list_any, range_with_len, remove}
 use Rattle.std.specs.Prelude.{nat_lt, nat_le, ◌/◌, ◌⊎◌}
 use Rattle.std.proofs.lemmas.Bool.{cases_lt, lt-ltb, le-ltb, ltb-true, leb-true, and_parts, or_from, both_ways}
@@ -29,11 +29,7 @@ list_any-range_none p (suc n) a none =
 
 -- in a row in which no count is too great
 not_great : (row : List ℕ) (k : ℕ) → list_any (λ count. nat_lt most_vertices count) row ≡ false → k < length row → get_or row k 0 ≤ most_vertices
-not_great row k none h =
-    elim (cases_lt most_vertices (get_or row k 0)) [
-      | inl great ↦ absurd (both_ways _ none (list_any_at (λ count. nat_lt most_vertices count) row k 0 h (lt-ltb most_vertices (get_or row k 0) great)))
-      | inr small ↦ small
-    ]
+not_great row k none h = grind (arith, cases_lt, both_ways, list_any_at, lt-ltb)
 
 -- a row of counts of which none is too great
 pub All-from_none : (row : List ℕ) → list_any (λ count. nat_lt most_vertices count) row ≡ false → All (λ count. count ≤ most_vertices) row
@@ -41,24 +37,11 @@ All-from_none row none = All-from_get_or (λ count. count ≤ most_vertices) row
 
 -- a count too great in a row of the first bounds is one of all bounds
 pub HasGreatSum-from_row : (n : ℕ) (row bounds : List ℕ) (j : ℕ) → CountsSums n row (take j bounds) → length row ≤ n + 1 → list_any (λ count. nat_lt most_vertices count) row ≡ true → HasGreatSum n bounds
-HasGreatSum-from_row n row bounds j counts short great =
-    let found = Any-from_list_any (λ count. nat_lt most_vertices count) row great in
-    let k : ℕ = found.0 in
-    let h : k < length row = found.2 in
-    let count_is : get_or row k 0 ≡ found.1 = get_or_default row k 0 found.1 h ∙ found.3 in
-    record {
-      at = k;
-      low = omega arith;
-      great = omega (arith, ltb-true most_vertices found.1 found.4, counts.at k (omega arith), count_of_sum-take_le bounds j k);
-    }
+HasGreatSum-from_row n row bounds j counts short great = search (rules, Any-from_list_any, get_or_default, ltb-true, count_of_sum-take_le)
 
 -- two bounds more leave it too great
 pub HasGreatSum-two : (n a b : ℕ) (others : List ℕ) → HasGreatSum n others → HasGreatSum n (a ∷ b ∷ others)
-HasGreatSum-two n a b others h = record {
-  at = h.at;
-  low = h.low;
-  great = omega (arith, h.great, count_of_sum-cons_le b others h.at, count_of_sum-cons_le a (b ∷ others) h.at);
-}
+HasGreatSum-two n a b others h = grind (arith, count_of_sum-cons_le)
 
 -- equal counts are too great for the same sum
 pub HasGreatSum-same : (n : ℕ) (xs ys : List ℕ) → ((k : ℕ) → count_of_sum k ys ≡ count_of_sum k xs) → HasGreatSum n xs → HasGreatSum n ys

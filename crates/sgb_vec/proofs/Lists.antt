@@ -1,6 +1,6 @@
 -- Plain lists: pairs of elements in order, what stands in a list that is made of others, what passes a test, numbers one
 -- after another, and walks.
-use Rattle.std.proofs.Common.{◌≡◌, ℕ, zero, suc, ◌+◌, ◌-◌, ◌<◌, ◌≤◌, ◌==◌, ◌⊎◌, Bool, true, false, cond, List, [], ◌∷◌, ◌++◌, length, map, reverse, get_or, Option, Some, refl, sym, ap, subst, subst₂, ◌∙◌, inl, inr, arith}
+use Rattle.std.proofs.Common.{rules, ◌≡◌, ℕ, zero, suc, ◌+◌, ◌-◌, ◌<◌, ◌≤◌, ◌==◌, ◌⊎◌, Bool, true, false, cond, List, [], ◌∷◌, ◌++◌, length, map, reverse, get_or, Option, Some, refl, sym, ap, subst, ◌∙◌, inl, inr, arith}
 use Rattle.std.specs.Iterator.{YieldsFirst}
 use Rattle.std.specs.List.{All, AllPairs, Contains, filter, flat_map, range_with_len, slice_get}
 use Rattle.std.proofs.lemmas.Bool.{cases_order, cond_both, eq-eqb, eqb-true}
@@ -38,11 +38,7 @@ AllPairs-map R f (x ∷ xs) h =
 
 -- elements in the other order
 pub AllPairs-reverse : {X : Type 0} (R : X → X → Type 0) (xs : List X) → AllPairs (λ p q. R q p) xs → AllPairs R (reverse xs)
-AllPairs-reverse R xs h i j d less within =
-    let long : length (reverse xs) ≡ length xs = length-reverse xs in
-    let first : get_or (reverse xs) i d ≡ get_or xs (length xs - 1 - i) d = get_or-reverse xs i d (omega arith) in
-    let second : get_or (reverse xs) j d ≡ get_or xs (length xs - 1 - j) d = get_or-reverse xs j d (omega arith) in
-    subst₂ R (sym first) (sym second) (h (length xs - 1 - j) (length xs - 1 - i) d (omega arith) (omega arith))
+AllPairs-reverse R xs h i j d less within = grind (arith, length-reverse, get_or-reverse)
 
 -- another order that follows where all have a property
 pub AllPairs-follows : {X : Type 0} (P : X → Type 0) (R S : X → X → Type 0) (xs : List X) → ((p q : X) → P p → P q → R p q → S p q) → All P xs → AllPairs R xs → AllPairs S xs
@@ -51,16 +47,11 @@ AllPairs-follows P R S xs follows all h i j d less within =
 
 -- the numbers of a range rise
 pub range-rises : (start count : ℕ) → AllPairs (λ a b. a < b) (range_with_len start count)
-range-rises start count i j d less within =
-    let long : length (range_with_len start count) ≡ count = length-range_with_len start count in
-    omega (arith, get_or-range_with_len start count i d (omega arith), get_or-range_with_len start count j d (omega arith))
+range-rises start count i j d less within = grind (arith, length-range_with_len, get_or-range_with_len)
 
 -- and stand within it
 pub range-within : (start count : ℕ) → All (λ k. (start ≤ k) × (k < start + count)) (range_with_len start count)
-range-within start count k d within =
-    let long : length (range_with_len start count) ≡ count = length-range_with_len start count in
-    let at : get_or (range_with_len start count) k d ≡ start + k = get_or-range_with_len start count k d (omega arith) in
-    (omega arith, omega arith)
+range-within start count k d within = search (rules, length-range_with_len, get_or-range_with_len)
 
 -- what stands in a list: its first element, and what stands in the others
 pub Contains-first : {X : Type 0} (x : X) (xs : List X) → Contains (x ∷ xs) x
@@ -129,9 +120,7 @@ All-flat_map P f (x ∷ xs) h =
 
 -- all elements of the other order
 pub All-reverse : {X : Type 0} (P : X → Type 0) (xs : List X) → All P xs → All P (reverse xs)
-All-reverse P xs h k d within =
-    let long : length (reverse xs) ≡ length xs = length-reverse xs in
-    subst P (sym (get_or-reverse xs k d (omega arith))) (h (length xs - 1 - k) d (omega arith))
+All-reverse P xs h k d within = search (rules, length-reverse, get_or-reverse)
 
 -- what is made of the elements that pass, of a list and then another
 pub made-append : {X Y : Type 0} (t : X → Bool) (f : X → Y) (xs ys : List X) → map f (filter t (xs ++ ys)) ≡ map f (filter t xs) ++ map f (filter t ys)

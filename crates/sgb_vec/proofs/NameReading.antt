@@ -1,5 +1,5 @@
 -- The name of a vector read back: cut at its dots, each part is the decimal of an entry.
-use Rattle.std.proofs.Common.{◌≡◌, ℕ, ◌<◌, ◌≤◌, ◌^◌, sym, Bool, true, false, cond, eqb, leb, ◌&&◌, List, [], ◌∷◌, length, get_or, map, refl, ap, ap₂, subst, ◌∙◌, arith, decimal, Some, None, nat_eq, length-append}
+use Rattle.std.proofs.Common.{rules, ◌≡◌, ℕ, ◌<◌, ◌≤◌, ◌^◌, sym, Bool, true, false, cond, eqb, ◌&&◌, List, [], ◌∷◌, length, get_or, map, refl, ap, ap₂, subst, ◌∙◌, arith, decimal, Some, None, nat_eq, length-append}
 use Rattle.std.specs.List.{All, join_with_byte, slice_split}
 use Rattle.std.specs.Cmp.Lexicographic.{pointwise, bytes_decides}
 use Rattle.std.specs.Str.Parse.{digits_value}
@@ -12,7 +12,7 @@ use Rattle.std.proofs.lemmas.List.Sums.{AllPass-from_list_all, list_all-from_All
 use Rattle.std.proofs.lemmas.Str.Parse.{digit_at}
 use Rattle.sgb_vec.specs.Limits.{most_entry}
 use Rattle.sgb_vec.specs.Names.{name_of_vector}
-use Rattle.sgb_vec.specs.NamedVectors.{IsVector, is_vector, numbers_between_dots, if_named, vector_of}
+use Rattle.sgb_vec.specs.NamedVectors.{IsVector, is_vector, numbers_between_dots, vector_of}
 
 -- a byte that is a dot
 abbrev pub is_dot : ℕ → Bool
@@ -24,19 +24,10 @@ AllSmall x = All (λ entry. entry ≤ most_entry) x
 
 -- the test of a vector tells what it is to tell
 IsVector-from_test : (x : List ℕ) → is_vector x ≡ true → IsVector x
-IsVector-from_test x h =
-    let parts = and_parts _ _ h in
-    record {
-      short = leb-true _ _ parts.0;
-      small = All-weaker (λ entry. leb entry most_entry ≡ true) (λ entry. entry ≤ most_entry) (λ entry e. leb-true entry most_entry e) x
-          (AllPass-from_list_all (λ entry. leb entry most_entry) x parts.1);
-    }
+IsVector-from_test x h = grind (arith, and_parts, leb-true, All-weaker, AllPass-from_list_all)
 
 test-from_IsVector : (x : List ℕ) → IsVector x → is_vector x ≡ true
-test-from_IsVector x h =
-    and_from _ _ (le-leb _ _ h.short)
-    (list_all-from_AllPass (λ entry. leb entry most_entry) x
-    (All-weaker (λ entry. entry ≤ most_entry) (λ entry. leb entry most_entry ≡ true) (λ entry e. le-leb entry most_entry e) x h.small))
+test-from_IsVector x h = search (rules, and_from, le-leb, list_all-from_AllPass, All-weaker)
 
 -- a decimal has no dot in it
 no_dot-decimal : (n : ℕ) → n ≤ most_entry → All (λ c. is_dot c ≡ false) (decimal n)
@@ -98,10 +89,7 @@ named-vector_of text x e =
 -- the name of a vector stands for it
 pub vector_of-name : (x : List ℕ) → IsVector x → vector_of (name_of_vector x) ≡ Some x
 unfolding vector_of
-vector_of-name x h =
-    let named = (bytes_decides (name_of_vector x) (name_of_vector x)).1 refl in
-    ap (λ y. if_named (name_of_vector x) y) (numbers-name x h.small)
-    ∙ cond-true _ (Some x) None (and_from _ _ (test-from_IsVector x h) named)
+vector_of-name x h = search (rules, numbers-name, cond-true, and_from, test-from_IsVector)
 
 -- entries whose decimals are the parts of a text make up its name
 pub name_of_parts : (x text : List ℕ) → map decimal x ≡ slice_split is_dot text → name_of_vector x ≡ text

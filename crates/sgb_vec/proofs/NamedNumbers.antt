@@ -16,10 +16,7 @@ pub record AreDigits (radix most : ℕ) (digits : List ℕ) : Type 0 where
 
 -- a byte is a digit or none
 digit_cases : (radix byte : ℕ) → ((is_digit byte radix ≡ true) × (digit_value byte < radix)) ⊎ (is_digit byte radix ≡ false)
-digit_cases radix byte = elim (cases_lt (digit_value byte) radix) [
-  | inl h ↦ inl (lt-ltb (digit_value byte) radix h, h)
-  | inr h ↦ inr (le-ltb (digit_value byte) radix h)
-]
+digit_cases radix byte = grind (arith, cases_lt, lt-ltb, le-ltb)
 
 -- one byte more
 pub first_byte : (radix most byte : ℕ) (text : List ℕ) → leading_digits radix (suc most) (byte ∷ text) ≡ cond (is_digit byte radix) (byte ∷ leading_digits radix most text) []

@@ -1,5 +1,5 @@
 -- The vectors from one to another of a rising list: with one more or one less at either end.
-use Rattle.std.proofs.Common.{◌≡◌, ◌≢◌, ℕ, ◌+◌, ◌-◌, ◌<◌, Bool, true, false, List, [], ◌∷◌, ◌++◌, length, get_or, take, drop, nat_eq, Some, refl, sym, ap, ◌∙◌, inl, inr, arith}
+use Rattle.std.proofs.Common.{rules, ◌≡◌, ◌≢◌, ℕ, ◌+◌, ◌-◌, ◌<◌, Bool, true, false, List, [], ◌∷◌, ◌++◌, length, get_or, take, drop, nat_eq, Some, refl, sym, ap, ◌∙◌, inl, inr, arith}
 use Rattle.std.specs.Bool.{IsTrue, OnTrue, OnFalse}
 use Rattle.std.specs.List.{Contains, slice_get}
 use Rattle.std.specs.Cmp.Lexicographic.{pointwise, bytes_decides}
@@ -51,12 +51,7 @@ module _ (vs : List (List ℕ)) (rise : IsRising vs) where
 
   -- the first and the last are the ends of all
   pub ends_of_all : (v w : List ℕ) → IsFirst vs v → IsFinal vs w → AreEnds vs v w × (from_to vs v w ≡ vs)
-  ends_of_all v w first final =
-      let at_first = place_at v 0 first in
-      let at_last = place_at w (length vs - 1) final in
-      let some = slice_get_within vs 0 v first in
-      let all : place_among vs w + 1 ≡ length vs = omega arith in
-      ((omega arith, omega arith), rw (at_first, all) (take_all (length vs) vs (omega arith)))
+  ends_of_all v w first final = search (rules, place_at, slice_get_within, take_all)
 
   -- the same, where it is not known yet whether there are some
   pub all_ends : (some also : Bool) (v w : List ℕ) → OnTrue some (IsFirst vs v) → OnTrue also (IsFinal vs w) → OnFalse also (vs ≡ []) → IsTrue some → AreEnds vs v w

@@ -1,6 +1,6 @@
 -- Neighbours in a list that rises strictly: the least element is the first, the least above one comes right after it,
 -- and one that nothing is above is the last. No element stands at two places.
-use Rattle.std.proofs.Common.{◌≡◌, ℕ, zero, suc, ◌+◌, ◌-◌, ◌<◌, List, length, get_or, refl, sym, subst, inl, inr, arith}
+use Rattle.std.proofs.Common.{rules, ◌≡◌, ℕ, zero, suc, ◌+◌, ◌-◌, ◌<◌, List, length, get_or, refl, sym, subst, inl, inr, arith}
 use Rattle.std.specs.List.{AllPairs, Contains, slice_get}
 use Rattle.std.specs.Prelude.{Some}
 use Rattle.std.proofs.lemmas.Bool.{cases_order}
@@ -13,12 +13,7 @@ IsAsymmetric {X} R = (x y : X) → R x y → R y x → ⊥
 
 -- of two elements of a rising list, the one that is before the other stands at a smaller place
 pub place-rises : {X : Type 0} (R : X → X → Type 0) (xs : List X) (i j : ℕ) (d : X) → IsAsymmetric R → AllPairs R xs → i < length xs → R (get_or xs i d) (get_or xs j d) → i < j
-place-rises R xs i j d asym rises within before =
-    elim (cases_order i j) [
-      | inl same ↦ absurd (asym (get_or xs j d) (get_or xs j d) (rw same at before) (rw same at before))
-      | inr (inl less) ↦ less
-      | inr (inr more) ↦ absurd (asym (get_or xs i d) (get_or xs j d) before (rises j i d more within))
-    ]
+place-rises R xs i j d asym rises within before = grind (arith, cases_order)
 
 -- an element that no other is before stands first
 pub slice_get-least : {X : Type 0} (R : X → X → Type 0) (xs : List X) (w : X) → AllPairs R xs → Contains xs w → ((u : X) → Contains xs u → R u w → ⊥) → slice_get xs 0 ≡ Some w
@@ -29,10 +24,7 @@ slice_get-least R xs w rises (suc j, within, at) none =
 
 -- no element is before the first
 pub none_before_first : {X : Type 0} (R : X → X → Type 0) (xs : List X) (w u : X) → IsAsymmetric R → AllPairs R xs → slice_get xs 0 ≡ Some w → Contains xs u → R u w → ⊥
-none_before_first R xs w u asym rises first (j, within, at) before =
-    let here : get_or xs 0 u ≡ w = get_or_from_slice_get xs 0 w u first in
-    let less : j < 0 = place-rises R xs j 0 u asym rises within (rw (at, here) before) in
-    omega arith
+none_before_first R xs w u asym rises first (j, within, at) before = grind (arith, get_or_from_slice_get, place-rises)
 
 -- the least element above one comes right after it
 pub slice_get-nearest : {X : Type 0} (R : X → X → Type 0) (xs : List X) (v w : X) (i : ℕ) → IsAsymmetric R → AllPairs R xs → slice_get xs i ≡ Some v → Contains xs w → R v w → ((u : X) → Contains xs u → R v u → R u w → ⊥) → slice_get xs (i + 1) ≡ Some w
@@ -96,10 +88,7 @@ slice_get-previous R xs v w i asym rises (j, within, at) next here =
 
 -- the element that ends the list at each of its places is the one at the end
 pub slice_get-end : {X : Type 0} (xs : List X) (v : X) → Contains xs v → ((i : ℕ) → slice_get xs i ≡ Some v → length xs ≡ i + 1) → slice_get xs (length xs - 1) ≡ Some v
-slice_get-end xs v (i, within, at) last =
-    let at_i : slice_get xs i ≡ Some v = slice_get_read xs (length xs) i v refl within (sym at) in
-    let top : length xs - 1 ≡ i = omega (arith, last i at_i) in
-    rw top at_i
+slice_get-end xs v (i, within, at) last = search (rules, slice_get_read)
 
 -- and the one at the end ends the list at each of its places
 pub length-end : {X : Type 0} (R : X → X → Type 0) (xs : List X) (v : X) (i : ℕ) → IsAsymmetric R → AllPairs R xs → slice_get xs (length xs - 1) ≡ Some v → slice_get xs i ≡ Some v → length xs ≡ i + 1

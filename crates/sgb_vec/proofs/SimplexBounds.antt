@@ -1,6 +1,6 @@
 -- The bounds and parameters of a simplex, one bound or one entry at a time.
 use Rattle.std.proofs.Common.{◌≡◌, ℕ, zero, suc, ℤ, pos, negsuc, ◌+◌, ◌%◌, ◌≤◌, min, List, [], ◌∷◌, ◌++◌, false, get_or, length, map, Ok, Err, refl, sym, ap, subst, arith, rules}
-use Rattle.std.specs.Prelude.{Bool, nat_lt, nat_abs, All, if◌then◌else◌}
+use Rattle.std.specs.Prelude.{Bool, nat_abs, All, if◌then◌else◌}
 use Rattle.std.proofs.lemmas.Bool.Decides.{nat_tests}
 use Rattle.std.proofs.lemmas.List.{map-append, length-map}
 use Rattle.std.proofs.lemmas.List.Elements.{All-nil, All-cons}
@@ -32,10 +32,7 @@ length-zero_after_stop (negsuc d ∷ rest) = grind (arith, length-map rest (λ (
 
 -- an accepted simplex
 pub simplex_by_stop-fits : (n : ℕ) (entries : List ℤ) (s : List ℕ) (e : ℤ) → bounds_count s e ≤ most_dimensions + 1 → n ≤ most_vertices → simplex_by_stop n entries s e ≡ Ok (record { params = pos n ∷ map (clamped_parameter n) (zero_after_stop entries); sizes = map (λ b. min b n) (repeated s (bounds_count s e)) })
-simplex_by_stop-fits n entries s e few small =
-    let t : nat_lt (most_dimensions + 1) (bounds_count s e) ≡ false = grind (arith, nat_tests) in
-    let u : nat_lt most_vertices n ≡ false = grind (arith, nat_tests) in
-    rw (t, u, bounds_by_stop-repeated s e) refl
+simplex_by_stop-fits n entries s e few small = grind (arith, nat_tests, bounds_by_stop-repeated)
 
 -- what is accepted where neither test refuses it
 accepted_of : (b c : Bool) (given shape : Normalized) → (if b then Err Bad else (if c then Err VeryBad else Ok given)) ≡ Ok shape → (b ≡ false) × (c ≡ false) × (given ≡ shape)

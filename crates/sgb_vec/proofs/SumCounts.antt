@@ -149,11 +149,7 @@ count_of_sum-remove (b ∷ bounds) (suc i) k h =
 
 -- so do two that are taken out one after another
 pub count_of_sum-taken : (a b : ℕ) (bounds first others : List ℕ) → ((k : ℕ) → count_of_sum k bounds ≡ count_of_sum k (a ∷ first)) → ((k : ℕ) → count_of_sum k first ≡ count_of_sum k (b ∷ others)) → (k : ℕ) → count_of_sum k bounds ≡ count_of_sum k (a ∷ b ∷ others)
-count_of_sum-taken a b bounds first others e f k =
-    e k
-    ∙ count_of_sum-cons a first k
-    ∙ window_same a (λ i. count_of_sum i first) (λ i. count_of_sum i (b ∷ others)) k (λ i _. f i)
-    ∙ sym (count_of_sum-cons a (b ∷ others) k)
+count_of_sum-taken a b bounds first others e f k = grind (arith, count_of_sum-cons, window_same)
 
 -- one more bound makes no count smaller
 pub count_of_sum-cons_le : (b : ℕ) (bounds : List ℕ) (k : ℕ) → count_of_sum k bounds ≤ count_of_sum k (b ∷ bounds)
@@ -169,9 +165,7 @@ count_of_sum-take_le (b ∷ bounds) (suc j) k =
 
 -- two bounds: pairs
 pub count_of_sum-two : (a b k : ℕ) → count_of_sum k (a ∷ b ∷ []) ≡ window a (window b one_at_zero) k
-count_of_sum-two a b k =
-    count_of_sum-cons a (b ∷ []) k
-    ∙ window_same a (λ i. count_of_sum i (b ∷ [])) (window b one_at_zero) k (λ i _. count_of_sum-cons b [] i ∙ window_same b (λ j. count_of_sum j []) one_at_zero i (λ j _. count_of_sum-nil j))
+count_of_sum-two a b k = grind (arith, count_of_sum-cons, window_same, window, one_at_zero, count_of_sum-nil)
 
 -- two bounds more: products of the counts with those of pairs
 pub count_of_sum-pairs : (a b : ℕ) (bounds : List ℕ) (k : ℕ) → count_of_sum k (a ∷ b ∷ bounds) ≡ products_from (λ i. count_of_sum i bounds) (λ i. count_of_sum i (a ∷ b ∷ [])) 0 (suc k)
@@ -192,12 +186,4 @@ counts_rise (b ∷ bounds) =
 
 -- three that are taken out one after another, the last bound having been put behind the others
 pub count_of_sum-three_taken : (x a b c : ℕ) (bounds all first second others : List ℕ) → all ≡ bounds ++ x ∷ [] → ((k : ℕ) → count_of_sum k all ≡ count_of_sum k (a ∷ first)) → ((k : ℕ) → count_of_sum k first ≡ count_of_sum k (b ∷ second)) → ((k : ℕ) → count_of_sum k second ≡ count_of_sum k (c ∷ others)) → (k : ℕ) → count_of_sum k (x ∷ bounds) ≡ count_of_sum k (a ∷ b ∷ c ∷ others)
-count_of_sum-three_taken x a b c bounds all first second others whole e f g k =
-    let taken : (i : ℕ) → count_of_sum i first ≡ count_of_sum i (b ∷ c ∷ others) = count_of_sum-taken b c first second others f g in
-    count_of_sum-cons x bounds k
-    ∙ sym (count_of_sum-snoc bounds x k)
-    ∙ ap (count_of_sum k) (sym whole)
-    ∙ e k
-    ∙ count_of_sum-cons a first k
-    ∙ window_same a (λ i. count_of_sum i first) (λ i. count_of_sum i (b ∷ c ∷ others)) k (λ i _. taken i)
-    ∙ sym (count_of_sum-cons a (b ∷ c ∷ others) k)
+count_of_sum-three_taken x a b c bounds all first second others whole e f g k = grind (arith, count_of_sum-taken, count_of_sum-cons, count_of_sum-snoc, window_same)

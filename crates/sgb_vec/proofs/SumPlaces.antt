@@ -1,5 +1,5 @@
 -- The place of a vector among those of a bounded sum: at each entry the vectors that have a smaller one there come before.
-use Rattle.std.proofs.Common.{◌≡◌, ℕ, suc, zero, ◌+◌, ◌-◌, ◌<◌, ◌≤◌, Bool, true, false, eqb, min, List, [], ◌∷◌, ◌++◌, length, map, filter, take, drop, sum, set, get_or, Some, refl, sym, ap, subst, ◌∙◌, inl, inr, add-one, arith, length-append}
+use Rattle.std.proofs.Common.{rules, ◌≡◌, ℕ, suc, zero, ◌+◌, ◌-◌, ◌<◌, ◌≤◌, Bool, true, false, eqb, min, List, [], ◌∷◌, ◌++◌, length, map, filter, take, drop, sum, set, get_or, Some, refl, sym, ap, subst, ◌∙◌, inl, inr, add-one, arith, length-append}
 use Rattle.std.specs.Bool.{OnTrue, OnFalse}
 use Rattle.std.specs.List.{Contains, flat_map, range_with_len, slice_get}
 use Rattle.std.proofs.lemmas.Bool.{cases_lt}
@@ -212,18 +212,8 @@ walk-step xs n k old new false e h here next last = absurd (omega (arith, last k
 
 -- where the member is not the one that is looked for, that one stands later
 pub walk-other : (xs : List (List ℕ)) (k p : ℕ) (w v : List ℕ) → k ≤ p → slice_get xs k ≡ Some w → (w ≡ v → ⊥) → slice_get xs p ≡ Some v → k + 1 ≤ p
-walk-other xs k p w v low here other there =
-    elim (cases_lt k p) [
-      | inl less ↦ omega arith
-      | inr past ↦
-          let same : p ≡ k = omega arith in
-          absurd (other (sym (get_or_from_slice_get xs k w [] here) ∙ get_or_from_slice_get xs k v [] (ap (slice_get xs) (sym same) ∙ there)))
-    ]
+walk-other xs k p w v low here other there = grind (arith, cases_lt, get_or_from_slice_get)
 
 -- where only the last place is left, it stands there
 pub walk-end : (xs : List (List ℕ)) (n k : ℕ) (v : List ℕ) → n ≡ length xs → Contains xs v → n - 1 ≤ k → ((p : ℕ) → slice_get xs p ≡ Some v → k ≤ p) → slice_get xs (n - 1) ≡ Some v
-walk-end xs n k v e member h least =
-    let p : ℕ = member.0 in
-    let found : slice_get xs p ≡ Some v = slice_get-get_or xs p v member.1 ∙ ap Some member.2 in
-    let last : n - 1 ≡ p = omega (arith, member.1, least p found) in
-    ap (slice_get xs) last ∙ found
+walk-end xs n k v e member h least = search (rules, slice_get-get_or)

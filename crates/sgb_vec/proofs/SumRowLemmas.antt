@@ -1,5 +1,5 @@
 -- Rows of counts of a bounded sum: the row of no bounds, and what running sums and a difference make of a row.
-use Rattle.std.proofs.Common.{◌≡◌, ℕ, suc, zero, ◌+◌, ◌-◌, ◌*◌, ◌<◌, ◌≤◌, ◌^◌, List, [], ◌∷◌, ◌++◌, length, take, sum, get_or, min, replicate, set, refl, sym, ap, subst, ◌∙◌, inl, inr, add-one, arith}
+use Rattle.std.proofs.Common.{rules, ◌≡◌, ℕ, suc, zero, ◌+◌, ◌-◌, ◌*◌, ◌<◌, ◌≤◌, ◌^◌, List, [], ◌∷◌, ◌++◌, length, take, sum, get_or, min, replicate, set, refl, sym, ap, ◌∙◌, inl, inr, add-one, arith}
 use Rattle.std.specs.List.{All}
 use Rattle.std.proofs.lemmas.Bool.{cases_lt}
 use Rattle.std.proofs.lemmas.List.{get_or_append_left, get_or-append_right, get_or_past, take-append-le, take_all, take_more}
@@ -99,35 +99,19 @@ CountsSums-more n row bounds i h counts = rw (take_more bounds i 0 h) counts
 
 -- products up to t: of the first term, and of the others
 pub products_step : (f w : ℕ → ℕ) (t n : ℕ) → n ≤ t → products_from f w n (t + 1 - n) ≡ f n * w (t - n) + products_from f w (n + 1) (t + 1 - (n + 1))
-products_step f w t n h =
-    let here : t + 1 - n ≡ suc (t - n) = omega arith in
-    let next : t - n ≡ t + 1 - (n + 1) = omega arith in
-    ap (products_from f w n) here ∙ ap (λ m. f n * w (t - n) + m) (ap (λ m. products_from f w m (t - n)) (sym (add-one n)) ∙ ap (products_from f w (n + 1)) next)
+products_step f w t n h = search (rules, products_from, add-one)
 
 -- none are left after the row or after t
 pub products_end : (row : List ℕ) (w : ℕ → ℕ) (t n : ℕ) → n ≡ min (length row) (t + 1) → products_from (λ i. get_or row i 0) w n (t + 1 - n) ≡ 0
-products_end row w t n e =
-    elim (cases_lt t (length row)) [
-      | inl short ↦ let none : t + 1 - n ≡ 0 = omega arith in ap (products_from (λ i. get_or row i 0) w n) none
-      | inr whole ↦ products_none (λ i. get_or row i 0) w (t + 1 - n) n (λ i h. get_or_past row i 0 (omega arith))
-    ]
+products_end row w t n e = search (rules, cases_lt, products_from, products_none, get_or_past)
 
 -- all of them are the count with two bounds more
 pub products_all : (t a b : ℕ) (row bounds : List ℕ) → CountsSums t row bounds → products_from (λ i. get_or row i 0) (λ k. count_of_sum k (a ∷ b ∷ [])) 0 (t + 1) ≡ count_of_sum t (a ∷ b ∷ bounds)
-products_all t a b row bounds counts =
-    let pairs : ℕ → ℕ = λ k. count_of_sum k (a ∷ b ∷ []) in
-    products_same (λ i. get_or row i 0) (λ i. count_of_sum i bounds) pairs (t + 1) 0 (λ i low high. counts.at i (omega arith))
-    ∙ ap (products_from (λ i. count_of_sum i bounds) pairs 0) (add-one t)
-    ∙ sym (count_of_sum-pairs a b bounds t)
+products_all t a b row bounds counts = grind (arith, products_same, products_from, add-one, count_of_sum-pairs)
 
 -- one bound more: the row is filled up to as many sums as there are, and the counts of the bound summed over it
 pub CountsSums-step : (n i m z : ℕ) (bounds old filled next : List ℕ) → i < length bounds → CountsSums n old (take i bounds) → length old ≡ min n (sum (take i bounds)) + 1
     → m ≡ min n (sum (take (i + 1) bounds)) + 1 → filled ≡ take m old ++ replicate z 0 → length filled ≡ m
     → ((k : ℕ) (some : List ℕ) → CountsSums k filled some → length filled ≤ k + 1 → min k (sum (some ++ get_or bounds i 0 ∷ [])) < length filled → CountsSums k next (some ++ get_or bounds i 0 ∷ []))
     → CountsSums n next (take (i + 1) bounds)
-CountsSums-step n i m z bounds old filled next h counts long m_is filled_is whole step =
-    let kept : take m old ≡ old = take_all m old (omega (arith, sum-take_le i (i + 1) bounds (omega arith))) in
-    let same : old ++ replicate z 0 ≡ filled = ap (λ xs. xs ++ replicate z 0) (sym kept) ∙ sym filled_is in
-    let before : CountsSums n filled (take i bounds) = subst (λ xs. CountsSums n xs (take i bounds)) same (CountsSums-filled n z old (take i bounds) counts) in
-    let all : length filled ≡ min n (sum (take i bounds ++ get_or bounds i 0 ∷ [])) + 1 = whole ∙ m_is ∙ ap (λ xs. min n (sum xs) + 1) (take_more bounds i 0 h) in
-    CountsSums-more n next bounds i h (step n (take i bounds) before (omega arith) (omega arith))
+CountsSums-step n i m z bounds old filled next h counts long m_is filled_is whole step = grind (arith, take_all, sum-take_le, filled, CountsSums-filled, take_more, CountsSums-more)

@@ -1,9 +1,8 @@
 -- The vectors within bounds that add to the same: the least, the greatest, and the steps from one to the
 -- next and back.
-use Rattle.std.proofs.Common.{◌≡◌, ℕ, zero, suc, ◌+◌, ◌-◌, ◌<◌, ◌≤◌, ◌⊎◌, List, [], ◌∷◌, ◌++◌, length, get_or, drop, take, refl, ap, inl, inr, arith, sum}
-use Rattle.std.specs.Ordering.{ordering_reverse}
+use Rattle.std.proofs.Common.{rules, ◌≡◌, ℕ, zero, suc, ◌+◌, ◌-◌, ◌<◌, ◌≤◌, ◌⊎◌, List, [], ◌∷◌, ◌++◌, length, get_or, drop, take, refl, inl, inr, arith, sum}
 use Rattle.std.specs.Cmp.{nat_cmp_is}
-use Rattle.std.specs.declared.cmp.Ordering.TheVariants.{Less, Equal, Greater}
+use Rattle.std.specs.declared.cmp.Ordering.TheVariants.{Less, Equal}
 use Rattle.std.proofs.lemmas.Bool.{cases_order}
 use Rattle.std.proofs.lemmas.Cmp.{nat_list_cmp_total}
 use Rattle.std.proofs.lemmas.List.Sums.{sum_by-cons}
@@ -16,9 +15,7 @@ sum-cons x v = sum_by-cons (λ y. y) x v
 
 -- no two vectors are each before the other
 pub IsBefore-asymmetric : IsAsymmetric IsBefore
-IsBefore-asymmetric v w h k =
-    let flipped = nat_list_cmp_total.antisymm v w in
-    cc (ap ordering_reverse k)
+IsBefore-asymmetric v w h k = search (rules, nat_list_cmp_total)
 
 -- a vector with a smaller first entry is before
 pub IsBefore-less : (x y : ℕ) (v w : List ℕ) → x < y → IsBefore (x ∷ v) (y ∷ w)
@@ -30,14 +27,7 @@ IsBefore-same x y v w same after = rw (← nat_cmp_is x y Equal same) after
 
 -- and there is no other way
 pub IsBefore-cases : (x y : ℕ) (v w : List ℕ) → IsBefore (x ∷ v) (y ∷ w) → (x < y) ⊎ ((x ≡ y) × IsBefore v w)
-IsBefore-cases x y v w h =
-    elim (cases_order x y) [
-      | inl same ↦ inr (same, rw (← nat_cmp_is x y Equal same) at h)
-      | inr (inl less) ↦ inl less
-      | inr (inr more) ↦
-          let reversed : Greater ≡ Less = rw (← nat_cmp_is x y Greater more) at h in
-          absurd (cc reversed)
-    ]
+IsBefore-cases x y v w h = search (rules, cases_order)
 
 -- a vector within bounds adds to at most what these add to
 pub sum-within : (bounds v : List ℕ) → IsWithin v bounds → sum v ≤ sum bounds

@@ -1,6 +1,6 @@
 -- The vectors of a bounded sum built, and looked through: what holds of the entries from a place on, or before it.
 use borrow.Rule.Slice.PartMut.{put_mid}
-use Rattle.std.proofs.Common.{◌≡◌, ℕ, zero, suc, ◌+◌, ◌-◌, ◌<◌, ◌≤◌, ◌⊎◌, Bool, true, false, min, List, [], ◌∷◌, ◌++◌, length, get_or, set, drop, take, refl, sym, inl, inr, arith, sum, add-one}
+use Rattle.std.proofs.Common.{rules, ◌≡◌, ℕ, zero, suc, ◌+◌, ◌-◌, ◌<◌, ◌≤◌, ◌⊎◌, Bool, true, false, min, List, [], ◌∷◌, ◌++◌, length, get_or, set, drop, take, refl, sym, inl, inr, arith, sum, add-one}
 use Rattle.std.proofs.lemmas.Bool.{cases_lt, cases_Bool}
 use Rattle.std.proofs.lemmas.List.{append-nil, append_assoc, drop_more, drop_all, drop-set, take_all, take_more_set, length-drop}
 use Rattle.std.proofs.lemmas.List.Elements.{AllZip-get_or}
@@ -166,11 +166,7 @@ IsWithin-drop _ _ _ h = absurd h
 
 -- what a write at p and then of all that is after it leaves
 pub put_mid-tail : (v w : List ℕ) (p x : ℕ) → p < length v → put_mid (p + 1) (length (set v p x) - (p + 1)) (set v p x) w ≡ take p v ++ (x ∷ w)
-put_mid-tail v w p x h =
-    let s = set v p x in
-    let kept : take (p + 1) s ≡ take p v ++ (x ∷ []) = take_more_set v p x h in
-    let back : drop (length s - (p + 1)) (drop (p + 1) s) ≡ [] = drop_all (length s - (p + 1)) (drop (p + 1) s) (omega (arith, length-drop (p + 1) s)) in
-    rw (kept, back, append-nil) (simp append_assoc)
+put_mid-tail v w p x h = search (rules, take_more_set, drop_all, length-drop, append-nil, append_assoc)
 
 -- the step to the next vector: the entry at p grows, and the others after it become the first of their sum
 pub IsNext-step : (bounds v w : List ℕ) (p after less : ℕ) → IsWithin v bounds → p < length v → get_or v p 0 < get_or bounds p 0 → after ≡ sum (drop (p + 1) v) → less + 1 ≡ after → IsLast (bounded_sums after (drop (p + 1) bounds)) (drop (p + 1) v) → IsFirst (bounded_sums less (drop (p + 1) bounds)) w → IsNext (bounded_sums (sum v) bounds) v (take p v ++ ((get_or v p 0 + 1) ∷ w))

@@ -1,5 +1,5 @@
 -- Triples of numbers that add to another, in closed form; and three bounds more than those that a row counts.
-use Rattle.std.proofs.Common.{◌≡◌, ℕ, suc, zero, ◌+◌, ◌-◌, ◌*◌, ◌≤◌, List, [], ◌∷◌, get_or, refl, sym, ap, ◌∙◌, inl, inr, add-one, arith}
+use Rattle.std.proofs.Common.{rules, ◌≡◌, ℕ, suc, zero, ◌+◌, ◌-◌, ◌*◌, ◌≤◌, List, [], ◌∷◌, get_or, refl, sym, ap, ◌∙◌, inl, inr, add-one, arith}
 use Rattle.std.proofs.lemmas.Bool.{cases_lt}
 use Rattle.std.proofs.Math.Nat.{mul-add, mul-zero}
 use Rattle.sgb_vec.specs.Sums.{count_of_sum}
@@ -49,27 +49,11 @@ up_to-window (suc a) f (suc (suc k)) = omega (arith, up_to-window (suc a) f (suc
 
 -- the pairs up to a and b that add to at most k
 pairs_up_to : (a b k : ℕ) → up_to (window a (window b one_at_zero)) k + triangle (k - a) + triangle (k - b) ≡ triangle (k + 1) + triangle (k - a - 1 - b)
-pairs_up_to a b k =
-    let f : ℕ → ℕ = window b one_at_zero in
-    elim (cases_lt a k) [
-      | inr near ↦
-          let none : k - a ≡ 0 = omega arith in
-          let none_after : k - a - 1 - b ≡ 0 = omega arith in
-          omega (arith, up_to-window a f k, window_prefix a (up_to f) k near, up_to-ones_twice b k, ap triangle none, ap triangle none_after)
-      | inl far ↦
-          let i : ℕ = k - (a + 1) in
-          let next : i + 1 ≡ k - a = omega arith in
-          let above : i - b ≡ k - a - 1 - b = omega arith in
-          omega (arith, up_to-window a f k, window_after a i (up_to f) k (omega arith), up_to-ones_twice b k, up_to-ones_twice b i, ap triangle next, ap triangle above)
-    ]
+pairs_up_to a b k = search (rules, window, one_at_zero, cases_lt, up_to-window, window_prefix, up_to, up_to-ones_twice, window_after)
 
 -- with a third number that makes up for the rest
 pairs-count : (a b k : ℕ) → count_of_sum k (k ∷ a ∷ b ∷ []) ≡ up_to (window a (window b one_at_zero)) k
-pairs-count a b k =
-    let p : ℕ → ℕ = window a (window b one_at_zero) in
-    count_of_sum-cons k (a ∷ b ∷ []) k
-    ∙ window_same k (λ i. count_of_sum i (a ∷ b ∷ [])) p k (λ i _. count_of_sum-two a b i)
-    ∙ window_prefix k p k (omega arith)
+pairs-count a b k = search (rules, window, one_at_zero, count_of_sum-cons, window_same, count_of_sum-two, window_prefix)
 
 -- such pairs by the sums of the numbers up to four others
 pub pairs-closed : (a b k : ℕ) → count_of_sum k (k ∷ a ∷ b ∷ []) + triangle (k - a) + triangle (k - b) ≡ triangle (k + 1) + triangle (k - a - 1 - b)
@@ -77,9 +61,7 @@ pairs-closed a b k = omega (arith, pairs-count a b k, pairs_up_to a b k)
 
 -- triples: up to the first bound it bounds nothing
 triples-window : (a b c k : ℕ) → count_of_sum k (a ∷ b ∷ c ∷ []) ≡ window a (window b (window c one_at_zero)) k
-triples-window a b c k =
-    count_of_sum-cons a (b ∷ c ∷ []) k
-    ∙ window_same a (λ i. count_of_sum i (b ∷ c ∷ [])) (window b (window c one_at_zero)) k (λ i _. count_of_sum-two b c i)
+triples-window a b c k = search (rules, count_of_sum-cons, window_same, window, one_at_zero, count_of_sum-two)
 
 pub triples-near : (a b c k : ℕ) → k ≤ a → count_of_sum k (a ∷ b ∷ c ∷ []) ≡ count_of_sum k (k ∷ b ∷ c ∷ [])
 triples-near a b c k near =
@@ -127,8 +109,4 @@ count_of_sum-triples a b c bounds k =
 
 -- all products of a row with triples are the count with three bounds more
 pub triple_products_all : (t a b c : ℕ) (row bounds : List ℕ) → CountsSums t row bounds → products_from (λ i. get_or row i 0) (λ k. count_of_sum k (a ∷ b ∷ c ∷ [])) 0 (t + 1) ≡ count_of_sum t (a ∷ b ∷ c ∷ bounds)
-triple_products_all t a b c row bounds counts =
-    let triples : ℕ → ℕ = λ k. count_of_sum k (a ∷ b ∷ c ∷ []) in
-    products_same (λ i. get_or row i 0) (λ i. count_of_sum i bounds) triples (t + 1) 0 (λ i low high. counts.at i (omega arith))
-    ∙ ap (products_from (λ i. count_of_sum i bounds) triples 0) (add-one t)
-    ∙ sym (count_of_sum-triples a b c bounds t)
+triple_products_all t a b c row bounds counts = grind (arith, products_same, products_from, add-one, count_of_sum-triples)

@@ -1,5 +1,5 @@
 -- The name of a vector, one entry at a time, and that it is a text.
-use Rattle.std.proofs.Common.{◌≡◌, ◌/◌, inl, inr, ℕ, zero, suc, ◌+◌, ◌*◌, ◌%◌, ◌^◌, ◌<◌, ◌≤◌, List, [], ◌∷◌, ◌++◌, length, get_or, take, decimal, refl, ap, ◌∙◌, arith, append_assoc, length-append}
+use Rattle.std.proofs.Common.{rules, ◌≡◌, ◌/◌, ℕ, zero, suc, ◌+◌, ◌*◌, ◌%◌, ◌^◌, ◌<◌, ◌≤◌, List, [], ◌∷◌, ◌++◌, length, get_or, take, decimal, refl, ap, ◌∙◌, arith, append_assoc, length-append}
 use Rattle.std.specs.List.{All}
 use Rattle.std.proofs.lemmas.Bool.{cases_lt}
 use Rattle.std.proofs.lemmas.Bool.Decides.{nat_tests}
@@ -84,8 +84,4 @@ name_of_vector-more v i some h =
 
 -- the length of the name with one more entry, before which there is a dot unless it is the first
 pub length-name_of_vector-next : (v : List ℕ) (i dots : ℕ) → (0 < i → dots ≡ 1) → (i ≤ 0 → dots ≡ 0) → i < length v → length (name_of_vector (take (i + 1) v)) ≡ length (name_of_vector (take i v)) + (dots + length (decimal (get_or v i 0)))
-length-name_of_vector-next v i dots one none h =
-    elim (cases_lt 0 i) [
-      | inl some ↦ rw (name_of_vector-more v i some h, length-append, length-append) (omega (arith, one some))
-      | inr first ↦ rw (name_of_vector-first v i first h, length-append) (omega (arith, none first))
-    ]
+length-name_of_vector-next v i dots one none h = search (rules, cases_lt, name_of_vector-more, length-append, name_of_vector-first)
