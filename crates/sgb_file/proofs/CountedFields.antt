@@ -1,7 +1,6 @@
 -- Fields of a line with the value of a checksum after them.
-use Rattle.std.specs.Prelude.{◌≡◌, ℕ, ℤ, Bool, not, ◌&&◌, neg_ℤ, pos, nat_lt, nat_le, ◌+◌, ◌*◌, ◌%◌, ◌^◌, ◌<◌, ◌≤◌, true, false, List, [], ◌∷◌, ◌++◌, length, take, drop, fold, Option, Some, None, ◌==◌, refl, slice_index_or as get_or}
-use Rattle.std.specs.List.{list_all, position_or_len}
-use Rattle.std.specs.Str.Parse.{digits_value}
+use Rattle.std.specs.Prelude.{◌≡◌, ℕ, ℤ, Bool, not, neg_ℤ, pos, nat_le, ◌+◌, ◌*◌, ◌%◌, ◌^◌, ◌<◌, ◌≤◌, true, false, List, [], ◌∷◌, ◌++◌, length, take, drop, fold, Option, Some, None, ◌==◌, refl, slice_index_or as get_or}
+use Rattle.std.specs.List.{position_or_len}
 use Rattle.std.proofs.Common.{ap, sym, ◌∙◌, arith, append_assoc, length-append}
 use Rattle.std.proofs.lemmas.List.{length-take, take_all, take-append-drop}
 use Rattle.std.proofs.lemmas.List.Sums.{fold-append, prefix_len-le-length}
@@ -9,13 +8,13 @@ use Rattle.std.proofs.lemmas.Bool.Decides.{nat_tests}
 use Rattle.sgb_graph.specs.declared.fields.Ref.{Ref}
 use Rattle.sgb_graph.specs.declared.fields.Ref.TheVariants.{At}
 use Rattle.sgb_file.specs.Checksum.{checksum_prime, has_star}
-use Rattle.sgb_file.specs.Fields.{integer_of, is_decimal_digit, most_integer_digits, most_number_digits, number_below, number_of, record_number_of, ref_of}
+use Rattle.sgb_file.specs.Fields.{integer_of, most_integer_digits, most_number_digits, number_below, number_of, record_number_of, ref_of}
 use Rattle.sgb_file.specs.inner.Found.{is_at_end}
 use Rattle.sgb_file.specs.inner.Layouts.{checksum_from, counted_bytes, value_after, value_from}
 use Rattle.sgb_file.specs.inner.LineRecords.{IsCountedField}
 use Rattle.sgb_file.proofs.ChecksumLemmas.{byte_valued, digit_place, few_counted}
-use Rattle.sgb_file.proofs.FoundParts.{was_let_through}
 use Rattle.sgb_file.proofs.LaidLines.{checksum-counted, checksum_from-append}
+use Rattle.sgb_file.proofs.NumberReading.{number_says, number_tested}
 use Rattle.sgb_file.proofs.PlainFields.{comma_free, ends_with_digits, one_more, record_number_found, ref_found}
 
 -- a digit more
@@ -58,20 +57,8 @@ record_number_counted m k value begun len after line digits e b f =
 -- a number of few digits has not too many for an integer
 wide_number : (text : List ℕ) (n : ℕ) → number_of most_number_digits text ≡ Some n → number_of most_integer_digits text ≡ Some n
 wide_number text n e =
-    let t = nat_lt 0 (length text) in
-    let u = nat_le (length text) 18 in
-    let v = list_all is_decimal_digit text in
-    let p = was_let_through (t && u && v) (digits_value 10 text) n e in
-    let first : (t ≡ true) × (u ≡ true) × (v ≡ true) = all_three t u v p.0 in
-    let short = first.1 in
-    let most : nat_le (length text) 20 ≡ true = grind (arith, nat_tests) in
-    rw (first.0, most, first.2) (ap (λ (k : ℕ). Some k) p.1)
-  where
-    all_three : (t u v : Bool) → (t && u && v) ≡ true → (t ≡ true) × (u ≡ true) × (v ≡ true)
-    all_three true true true e = (refl, refl, refl)
-    all_three true true false e = absurd cc
-    all_three true false v e = absurd cc
-    all_three false u v e = absurd cc
+    let h = number_says most_number_digits text n e in
+    number_tested most_integer_digits text h.some (omega (arith, h.short)) h.digits ∙ ap (λ (k : ℕ). Some k) h.value
 
 -- an integer with a `-`
 pub minus_counted : (n value begun len after : ℕ) (x : ℤ) (text digits : List ℕ) → text ≡ 45 ∷ digits → begun ≡ value_after value 45

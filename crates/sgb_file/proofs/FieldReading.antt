@@ -3,7 +3,7 @@ use Rattle.std.specs.Prelude.{◌≡◌, ◌≢◌, get_or, ℕ, zero, suc, ℤ,
 use Rattle.std.specs.Fmt.{signed_decimal}
 use Rattle.std.specs.Int.{w64}
 use Rattle.std.specs.List.{list_all, position_or_len}
-use Rattle.std.specs.Str.Parse.{AllDigits, digits_value}
+use Rattle.std.specs.Str.Parse.{AllDigits}
 use Rattle.std.proofs.Common.{ap, ◌∙◌, append_assoc, arith, length-append, take-append-drop}
 use Rattle.std.proofs.Math.Seq.{take-append_seam, drop-append_seam}
 use Rattle.std.proofs.lemmas.Bool.{and_parts, and_from, not-true}
@@ -22,6 +22,7 @@ use Rattle.sgb_file.specs.Files.{IsStringText}
 use Rattle.std.proofs.lemmas.List.Sums.{AllPass-from_list_all, list_all-from_AllPass}
 use Rattle.sgb_file.proofs.LeftTexts.{first_beyond, any_beyond}
 use Rattle.sgb_file.proofs.LaidOutText.{with_breaks, breaks_within}
+use Rattle.sgb_file.proofs.NumberReading.{number_tested, test_below}
 
 -- a text that begins with a comma or a newline
 abbrev pub Ends : List ℕ → Type 0
@@ -95,12 +96,6 @@ decimal_is_short : (n : ℕ) → n < 2 ^ 64 → length (decimal n) ≤ 20
 decimal_is_short n h = length-decimal-le 20 n (omega arith) (omega arith) h
 
 -- a number is read of its decimal
-number_tested : (most : ℕ) (text : List ℕ) → 0 < length text → length text ≤ most → list_all is_decimal_digit text ≡ true → number_of most text ≡ Some (digits_value 10 text)
-number_tested most text some short digits =
-    let first : nat_lt 0 (length text) ≡ true = grind (arith, nat_tests) in
-    let second : nat_le (length text) most ≡ true = grind (arith, nat_tests) in
-    rw first (rw second (rw digits refl))
-
 pub number_read : (most n : ℕ) → 0 < most → n < 10 ^ most → n < 2 ^ 64 → number_of most (decimal n) ≡ Some n
 number_read most n some below h =
     let numeral = decimal_is_IsNumeral n h in
@@ -138,9 +133,6 @@ below_read : (limit n : ℕ) → limit ≤ 10 ^ 18 → n < limit → number_belo
 below_read limit n most h =
     let small : nat_lt n limit ≡ true = grind (arith, nat_tests) in
     rw (number_read most_number_digits n (omega arith) (omega (arith, most, h)) (omega (arith, most, h))) (rw small refl)
-
-pub test_below : (n limit : ℕ) → nat_lt n limit ≡ true → n < limit
-test_below n limit e = grind (arith, nat_tests)
 
 -- a vertex is said by its text, and an arc record's number
 pub ref_is_said : (n : ℕ) (r : Ref) → n ≤ 10 ^ 18 → ref_fits n r ≡ true → IsSaid (ref_of n) (ref_text r) r

@@ -1,5 +1,5 @@
--- Files and their texts: a text is read as a graph exactly where it is a file of it.
-use Rattle.std.specs.Prelude.{◌≡◌, ◌⊎◌, ℕ, zero, suc, ℤ, pos, neg_ℤ, ◌-◌, ◌<◌, ◌≤◌, Bool, true, false, not, ◌&&◌, List, [], ◌∷◌, ◌++◌, length, take, drop, codes, Option, Some, None, Ok, option_map, All, slice_index, nat_le, ◌==◌, if◌then◌else◌, refl}
+-- Files and their texts: their openings, their records and their closing lines are read exactly where they stand.
+use Rattle.std.specs.Prelude.{◌≡◌, ◌⊎◌, ℕ, zero, suc, ℤ, pos, neg_ℤ, ◌-◌, ◌<◌, ◌≤◌, Bool, true, false, not, ◌&&◌, List, [], ◌∷◌, ◌++◌, length, take, drop, codes, Option, Some, None, option_map, All, slice_index, nat_le, ◌==◌, if◌then◌else◌, refl}
 use Rattle.std.specs.List.{list_all}
 use Rattle.std.specs.Option.{option_map_or}
 use Rattle.std.proofs.Common.{ap, sym, subst, ◌∙◌, append_assoc, arith, length-append, inl, inr}
@@ -15,15 +15,14 @@ use Rattle.sgb_file.specs.FileLines.{lines_of_text, clean_lines, text_of_lines}
 use Rattle.sgb_file.specs.Checksum.{has_star, checksum_of_lines}
 use Rattle.sgb_file.specs.Fields.{Found, is_decimal_digit, number_of, most_number_digits, after_prefix}
 use Rattle.sgb_file.specs.Records.{Head, records_at}
-use Rattle.sgb_file.specs.Restoring.{Opening, leading_number, head_of_line, opening_of, checksum_in_line, checksum_agrees, line_closes, closes, graph_of_text}
-use Rattle.sgb_file.specs.Files.{IsFirstLine, IsComment, IsChecksumLine, IsRecord, IsArcRecord, AreRecords, AreRecordsOf, IsFileOf, head_of}
-use Rattle.sgb_file.specs.Refused.{IsClosed}
+use Rattle.sgb_file.specs.Restoring.{Opening, leading_number, head_of_line, opening_of, checksum_in_line, checksum_agrees, line_closes, closes}
+use Rattle.sgb_file.specs.Files.{IsFirstLine, IsComment, IsChecksumLine, IsRecord, IsArcRecord, AreRecords, AreRecordsOf, head_of}
+use Rattle.sgb_file.specs.Refused.{Opens, AreRecordLines, IsClosed}
 use Rattle.sgb_file.proofs.LineLemmas.{is_one_line, is_within_line, lines_again, lines_read, clean_are_one_line}
 use Rattle.sgb_file.proofs.FoundParts.{prefix_is, was_given, was_mapped, was_chosen}
-use Rattle.sgb_file.proofs.NumberReading.{number_digits}
+use Rattle.sgb_file.proofs.NumberReading.{number_says}
 use Rattle.sgb_file.proofs.FirstLines.{IsLeading, leading_found, leading_says, first_line_found, kinds_read}
-use Rattle.sgb_file.proofs.RestoringLemmas.{parts_of_opening, read_by_parts}
-use Rattle.sgb_file.proofs.RecordsAndTexts.{records_found, records_are_read}
+use Rattle.sgb_file.proofs.RecordsAndTexts.{reads_records}
 
 -- and a first line is read as one
 first_line_read : (head : Head) (line : List ℕ) → IsFirstLine head line → head_of_line line ≡ Some head
@@ -139,7 +138,7 @@ checksum_found line c lines e agrees =
 digits_no_minus : (digits more : List ℕ) (k : ℕ) → number_of most_number_digits digits ≡ Some k → (slice_index (digits ++ more) 0 == 45) ≡ false
 digits_no_minus [] more k e = absurd cc
 digits_no_minus (b ∷ digits) more k e =
-    let digit : is_decimal_digit b ≡ true = (and_parts (is_decimal_digit b) (list_all is_decimal_digit digits) (number_digits most_number_digits (b ∷ digits) k e)).0 in
+    let digit : is_decimal_digit b ≡ true = (and_parts (is_decimal_digit b) (list_all is_decimal_digit digits) (number_says most_number_digits (b ∷ digits) k e).digits).0 in
     grind (arith, nat_tests)
 
 -- the line after the records closes the file
@@ -252,47 +251,38 @@ closes_by opening records rest e =
     ap (λ lines. line_closes (take (length lines - length (lines_of_text rest)) lines) (lines_of_text rest)) e
     ∙ ap (λ lines. line_closes lines (lines_of_text rest)) (before_following records (lines_of_text rest))
 
--- a text that is read as a graph is a file of it
-pub file_from_read : (g : GraphData) (text : List ℕ) → graph_of_text text ≡ Ok g → IsFileOf g text
-file_from_read g text e =
-    let p = parts_of_opening (opening_of (clean_lines text)) g e in
-    let lines = p.opening.lines in
-    let rest = p.after.rest in
-    let o = opening_found (clean_lines text) p.opening p.here in
-    let all_one_line : list_all is_one_line (o.comments ++ o.first ∷ lines) ≡ true = ap (list_all is_one_line) (sym o.parts) ∙ clean_are_one_line text in
-    let one_line = (and_parts (is_one_line o.first) (list_all is_one_line lines) (last_lines o.comments (o.first ∷ lines) all_one_line)).1 in
-    let found : Found GraphData = record { value = g; rest = rest } in
-    let counted = records_found p.opening.head (text_of_lines lines) found p.after.says in
-    let r = counted.stand in
-    let cut = cut_lines lines r.whole rest one_line r.parts (all_records_end g r.whole r.says) in
-    let closed = closed_found cut.records (lines_of_text rest) (sym (closes_by p.opening cut.records rest cut.parts) ∙ p.after.ends) in
-    record {
-      comments = o.comments;
-      first = o.first;
-      records = cut.records;
-      last = closed.last;
-      others = closed.others;
-      lines = o.parts ∙ ap (λ ls. o.comments ++ o.first ∷ ls) (cut.parts ∙ ap (λ ls. cut.records ++ ls) closed.parts);
-      comments_are = o.comments_are;
-      first_says = subst (λ (h : Head). IsFirstLine h o.first) counted.counted o.first_says;
-      records_say = subst (λ x. AreRecordsOf g x) (sym cut.text_is) r.says;
-      last_says = closed.says;
-      sound = p.after.sound;
-    }
+-- an opening is read, and what is read is an opening
+pub opens_read : (text : List ℕ) (head : Head) (lines : List (List ℕ)) → Opens text head lines → opening_of (clean_lines text) ≡ Some (record { head = head; lines = lines })
+opens_read text head lines h = ap opening_of h.parts ∙ opening_read head h.comments h.first lines h.comments_are h.first_says
 
--- a file of a graph is read as it
-pub read_from_file : (g : GraphData) (text : List ℕ) → IsFileOf g text → graph_of_text text ≡ Ok g
-read_from_file g text h =
-    let following = h.last ∷ h.others in
-    let lines = h.records ++ following in
-    let all_one_line : list_all is_one_line (h.comments ++ h.first ∷ lines) ≡ true = ap (list_all is_one_line) (sym h.lines) ∙ clean_are_one_line text in
-    let one_line = (and_parts (is_one_line h.first) (list_all is_one_line lines) (last_lines h.comments (h.first ∷ lines) all_one_line)).1 in
-    let again = lines_again following (last_lines h.records following one_line) in
-    let opening : Opening = record { head = head_of g; lines = lines } in
-    let rest = text_of_lines following in
-    let closed : closes opening rest ≡ true =
-    closes_by opening h.records rest (ap (λ ls. h.records ++ ls) (sym again)) ∙ ap (line_closes h.records) again ∙ checksum_read h.last h.records h.last_says in
-    read_by_parts (opening_of (clean_lines text)) opening g rest
-    (ap opening_of h.lines ∙ opening_read (head_of g) h.comments h.first lines h.comments_are h.first_says)
-    (ap (records_at (head_of g)) (flat_map-append (λ l. l ++ 10 ∷ []) h.records following) ∙ records_are_read g (text_of_lines h.records) rest h.records_say)
-    closed h.sound
+pub opens_found : (text : List ℕ) (o : Opening) → opening_of (clean_lines text) ≡ Some o → Opens text o.head o.lines
+opens_found text o e =
+    let p = opening_found (clean_lines text) o e in
+    record { comments = p.comments; first = p.first; parts = p.parts; comments_are = p.comments_are; first_says = p.first_says }
+
+-- no newline stands in the lines after an opening
+pub after_opening : (text : List ℕ) (head : Head) (lines : List (List ℕ)) → Opens text head lines → list_all is_one_line lines ≡ true
+after_opening text head lines h =
+    let all : list_all is_one_line (h.comments ++ h.first ∷ lines) ≡ true = ap (list_all is_one_line) (sym h.parts) ∙ clean_are_one_line text in
+    (and_parts (is_one_line h.first) (list_all is_one_line lines) (last_lines h.comments (h.first ∷ lines) all)).1
+
+-- the records are read, and what is read are records
+pub records_read : (head : Head) (g : GraphData) (records following lines : List (List ℕ)) → AreRecordLines head g records following lines
+    → records_at head (text_of_lines lines) ≡ Some (record { value = g; rest = text_of_lines following })
+records_read head g records following lines h =
+    ap (records_at head) (ap text_of_lines h.parts ∙ flat_map-append (λ l. l ++ 10 ∷ []) records following)
+    ∙ (reads_records head).again g (text_of_lines records) (text_of_lines following) (record { counted = h.counted; are = h.say }) tt
+
+-- the lines of the records that were found
+pub record LinesFound (head : Head) (lines : List (List ℕ)) (found : Found GraphData) : Type 0 where
+  pub records : List (List ℕ)
+  pub are : AreRecordLines head found.value records (lines_of_text found.rest) lines
+
+pub lines_found : (head : Head) (lines : List (List ℕ)) (found : Found GraphData) → list_all is_one_line lines ≡ true → records_at head (text_of_lines lines) ≡ Some found → LinesFound head lines found
+lines_found head lines found one_lines e =
+    let r = (reads_records head).finds (text_of_lines lines) found e in
+    let cut = cut_lines lines r.word r.rest one_lines r.parts (all_records_end r.value r.word r.says.are) in
+    subst (λ (x : Found GraphData). LinesFound head lines x) r.made (record {
+      records = cut.records;
+      are = record { counted = r.says.counted; say = subst (λ x. AreRecordsOf r.value x) (sym cut.text_is) r.says.are; parts = cut.parts };
+    })

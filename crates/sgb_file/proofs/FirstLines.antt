@@ -16,7 +16,7 @@ use Rattle.sgb_file.specs.Restoring.{kind_of_letter, kinds_at, leading_number, h
 use Rattle.sgb_file.specs.Saving.{letter_of}
 use Rattle.sgb_file.specs.Files.{IsFirstLine, BeginsWithNoDigit}
 use Rattle.sgb_file.proofs.FoundParts.{prefix_is, taken_and_left, was_given, was_mapped, was_let_through}
-use Rattle.sgb_file.proofs.NumberReading.{at_most, number_digits}
+use Rattle.sgb_file.proofs.NumberReading.{at_most, number_says}
 
 -- the kind of a letter is written by it
 letter_is : (c : ℕ) (k : Kind) → kind_of_letter c ≡ Some k → c ≡ letter_of k
@@ -140,7 +140,7 @@ digits_end (b ∷ text) more h e =
 pub leading_says : (digits more : List ℕ) (k : ℕ) → number_of most_number_digits digits ≡ Some k → BeginsWithNoDigit more → leading_number (digits ++ more) ≡ Some (record { value = k; rest = more })
 leading_says digits more k says none =
     let taken : take_while is_decimal_digit (digits ++ more) ≡ digits =
-    ap (λ n. take n (digits ++ more)) (digits_end digits more (number_digits most_number_digits digits k says) none) ∙ take-append_seam digits more in
+    ap (λ n. take n (digits ++ more)) (digits_end digits more (number_says most_number_digits digits k says).digits none) ∙ take-append_seam digits more in
     ap (λ ds. option_map (λ (n : ℕ). record { value = n; rest = drop (length ds) (digits ++ more) }) (number_of most_number_digits ds)) taken
     ∙ ap (option_map (λ n. record { value = n; rest = drop (length digits) (digits ++ more) })) says
     ∙ ap (λ rest. Some (record { value = k; rest = rest })) (drop-append_seam digits more)

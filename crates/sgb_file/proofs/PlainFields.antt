@@ -13,6 +13,7 @@ use Rattle.sgb_file.specs.FileLines.{text_of_lines}
 use Rattle.sgb_file.specs.Fields.{Found, is_decimal_digit, number_below, number_of, plain_at, plain_text, record_number_of, ref_of}
 use Rattle.sgb_file.specs.inner.Found.{is_at_end}
 use Rattle.sgb_file.specs.inner.LinesLeft.{LinesLeft, text_left, skipped, has_no_newline}
+use Rattle.sgb_file.proofs.NumberReading.{number_tested}
 use Rattle.sgb_file.proofs.LeftTexts.{under_way, skipped_left, plain_of_line, before_comma_short}
 
 -- the bytes before the first comma
@@ -156,11 +157,7 @@ unended false b c e = refl
 pub number_ends : (most : ℕ) (text : List ℕ) → 0 < length (front most text) → is_at_end (drop (length (front most text)) text) ≡ true
     → number_of most (comma_free text) ≡ Some (digits_value 10 (front most text))
 number_ends most text some e =
-    let digits = front most text in
-    let first : nat_lt 0 (length digits) ≡ true = grind (arith, nat_tests) in
-    let short = front_short most text in
-    let second : nat_le (length digits) most ≡ true = grind (arith, nat_tests) in
-    ap (number_of most) (ends_with_digits most text e) ∙ rw first (rw second (rw (front_digits (take most text)) refl))
+    ap (number_of most) (ends_with_digits most text e) ∙ number_tested most (front most text) some (front_short most text) (front_digits (take most text))
 
 pub number_goes_on : (most : ℕ) (text : List ℕ) → is_at_end (drop (length (front most text)) text) ≡ false → number_of most (comma_free text) ≡ None
 number_goes_on most text e =

@@ -25,7 +25,8 @@ use Rattle.sgb_file.specs.Saving.{quoted, ref_text, record_number_text, field_te
 use Rattle.sgb_file.specs.Saved.{ValueCanBeSaved}
 use Rattle.sgb_file.proofs.LineLemmas.{is_line, is_one_line, is_within_line, ends_well}
 use Rattle.sgb_file.proofs.LaidOutText.{with_breaks, after_field, lay_out, laid_out_text}
-use Rattle.sgb_file.proofs.FieldReading.{IsBroken, test_below, decimal_digits, said_broken, number_is_said, integer_is_said, ref_is_said, record_number_is_said, string_is_said, quoted_is_line}
+use Rattle.sgb_file.proofs.FieldReading.{IsBroken, decimal_digits, said_broken, number_is_said, integer_is_said, ref_is_said, record_number_is_said, string_is_said, quoted_is_line}
+use Rattle.sgb_file.proofs.NumberReading.{test_below}
 use Rattle.sgb_file.proofs.RecordsAndTexts.{IsTail, record_from_tail, and_others}
 use Rattle.sgb_file.proofs.SavedGraphs.{AreSmall, FieldsFit, IsReady}
 
