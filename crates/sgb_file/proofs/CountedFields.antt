@@ -120,7 +120,7 @@ star_no_ref n (b ∷ line) tip h said =
     ap (λ (c : ℕ). ref_of n (comma_free (c ∷ line))) is ∙ ap (ref_of n) (one_more 42 line refl) in
     cc
 
-no_star : (n : ℕ) (line : List ℕ) (tip : Ref) → ref_of n (comma_free line) ≡ Some tip → has_star line ≡ false
+pub no_star : (n : ℕ) (line : List ℕ) (tip : Ref) → ref_of n (comma_free line) ≡ Some tip → has_star line ≡ false
 no_star n line tip said = by_test (has_star line) refl
   where
     by_test : (t : Bool) → has_star line ≡ t → t ≡ false
@@ -128,25 +128,14 @@ no_star n line tip said = by_test (has_star line) refl
     by_test true h = absurd (star_no_ref n line tip h said)
 
 -- the checksum after the newline of a short line, by the value after the line
-pub short_counted : (sum start value result : ℕ) (line : List ℕ) → start ≡ sum → sum < 2 ^ 32 → length line ≤ 30 → has_star line ≡ false
-    → value_from start (line ++ 10 ∷ []) ≡ value → result ≡ value % checksum_prime
-    → result ≡ checksum_from sum (counted_bytes (line ∷ []))
-short_counted sum start value result line from small few plain counted e =
+pub line_counted : (sum start value result : ℕ) (line : List ℕ) → start ≡ sum → sum < 2 ^ 32 → length line ≤ 30
+    → value_from start (line ++ 10 ∷ []) ≡ value → result ≡ value % checksum_prime → result ≡ checksum_from sum (line ++ 10 ∷ [])
+line_counted sum start value result line from small few counted e =
     let n = length-append line (10 ∷ []) in
-    let value_is : result ≡ value_from sum (line ++ 10 ∷ []) % checksum_prime =
-    e ∙ ap (λ (v : ℕ). v % checksum_prime) (sym counted ∙ ap (λ (s : ℕ). value_from s (line ++ 10 ∷ [])) from) in
-    few_counted sum result (line ++ 10 ∷ []) small (omega (arith, n)) (omega (arith, n, few)) value_is
-    ∙ (checksum_from-append sum line (10 ∷ []) ∙ checksum-counted sum line plain)
+    few_counted sum result (line ++ 10 ∷ []) small (omega (arith, n)) (omega (arith, n, few))
+    (e ∙ ap (λ (v : ℕ). v % checksum_prime) (sym counted ∙ ap (λ (s : ℕ). value_from s (line ++ 10 ∷ [])) from))
 
--- the checksum after the line of an arc record, of its fields one after another
-pub arc_counted : (n m : ℕ) (line second third : List ℕ) (tip : Ref) (next : Option ℕ) (len : ℤ)
-    (sum start i j k after_tip begun after_next last after_len result : ℕ)
-    → IsCountedField (ref_of n) line start tip i after_tip → drop i line ≡ 44 ∷ second → begun ≡ value_after after_tip 44
-    → IsCountedField (record_number_of m) second begun next j after_next → drop j second ≡ 44 ∷ third → last ≡ value_after after_next 44
-    → IsCountedField integer_of third last len k after_len → length third ≤ k → result ≡ value_after after_len 10 % checksum_prime
-    → start ≡ sum → sum < 2 ^ 32 → length line ≤ 30 → result ≡ checksum_from sum (counted_bytes (line ∷ []))
-arc_counted n m line second third tip next len sum start i j k after_tip begun after_next last after_len result a ae b c ce d e end r from small few =
-    let value = field_valued Ref (ref_of n) tip line second (10 ∷ []) start i after_tip begun a ae b
-    ∙ (field_valued (Option ℕ) (record_number_of m) next second third (10 ∷ []) begun j after_next last c ce d
-    ∙ last_valued ℤ integer_of len third last k after_len e end) in
-    short_counted sum start (value_after after_len 10) result line from small few (no_star n line tip a.said) value r
+pub short_counted : (sum start value result : ℕ) (line : List ℕ) → start ≡ sum → sum < 2 ^ 32 → length line ≤ 30 → has_star line ≡ false
+    → value_from start (line ++ 10 ∷ []) ≡ value → result ≡ value % checksum_prime → result ≡ checksum_from sum (counted_bytes (line ∷ []))
+short_counted sum start value result line from small few plain counted e =
+    line_counted sum start value result line from small few counted e ∙ (checksum_from-append sum line (10 ∷ []) ∙ checksum-counted sum line plain)
