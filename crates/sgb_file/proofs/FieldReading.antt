@@ -4,7 +4,7 @@ use Rattle.std.specs.Fmt.{signed_decimal}
 use Rattle.std.specs.Int.{w64}
 use Rattle.std.specs.List.{list_all, position_or_len}
 use Rattle.std.specs.Str.Parse.{AllDigits}
-use Rattle.std.proofs.Common.{ap, ◌∙◌, append_assoc, arith, length-append, take-append-drop}
+use Rattle.std.proofs.Common.{ap, ◌∙◌, append_assoc, append-nil, arith, length-append, take-append-drop}
 use Rattle.std.proofs.Math.Seq.{take-append_seam, drop-append_seam}
 use Rattle.std.proofs.lemmas.Bool.{and_parts, and_from, not-true}
 use Rattle.std.proofs.lemmas.Bool.Decides.{nat_tests}
@@ -169,32 +169,22 @@ breaks_no_quotes (suc n) first text h =
     list_all-join (λ b. not (b == 34)) (take first text) (92 ∷ 10 ∷ with_breaks n 78 (drop first text)) (list_all-take (λ b. not (b == 34)) first text h)
     (breaks_no_quotes n 78 (drop first text) (list_all-drop (λ b. not (b == 34)) first text h))
 
--- a text with no backslash says itself
-unbroken_same : (text : List ℕ) → no_slashes text ≡ true → unbroken text ≡ text
+-- a text with no backslash says itself, whatever follows
+unbroken_front : (text more : List ℕ) → no_slashes text ≡ true → unbroken (text ++ more) ≡ text ++ unbroken more
 unfolding unbroken
-unbroken_same [] h = refl
-unbroken_same (b ∷ []) h = refl
-unbroken_same (b ∷ c ∷ text) h =
+unbroken_front [] more h = refl
+unbroken_front (b ∷ []) [] h = refl
+unbroken_front (b ∷ []) (c ∷ more) h = rw (not-true (b == 92) (and_parts (not (b == 92)) true h).0) refl
+unbroken_front (b ∷ c ∷ text) more h =
     let parts = and_parts (not (b == 92)) (no_slashes (c ∷ text)) h in
-    rw (not-true (b == 92) parts.0) (ap (λ x. b ∷ x) (unbroken_same (c ∷ text) parts.1))
-
--- a break after such a text counts as nothing
-unbroken_break : (text more : List ℕ) → no_slashes text ≡ true → unbroken (text ++ 92 ∷ 10 ∷ more) ≡ text ++ unbroken more
-unfolding unbroken
-unbroken_break [] more h = refl
-unbroken_break (b ∷ []) more h =
-    let parts = and_parts (not (b == 92)) true h in
-    rw (not-true (b == 92) parts.0) refl
-unbroken_break (b ∷ c ∷ text) more h =
-    let parts = and_parts (not (b == 92)) (no_slashes (c ∷ text)) h in
-    rw (not-true (b == 92) parts.0) (ap (λ x. b ∷ x) (unbroken_break (c ∷ text) more parts.1))
+    rw (not-true (b == 92) parts.0) (ap (λ x. b ∷ x) (unbroken_front (c ∷ text) more parts.1))
 
 -- the breaks of a text undone
 unbroken_breaks : (n first : ℕ) (text : List ℕ) → no_slashes text ≡ true → unbroken (with_breaks n first text) ≡ text
-unfolding with_breaks
-unbroken_breaks zero first text h = unbroken_same text h
+unfolding with_breaks unbroken
+unbroken_breaks zero first text h = rw append-nil at (unbroken_front text [] h)
 unbroken_breaks (suc n) first text h =
-    unbroken_break (take first text) (with_breaks n 78 (drop first text)) (list_all-take (λ b. not (b == 92)) first text h)
+    unbroken_front (take first text) (92 ∷ 10 ∷ with_breaks n 78 (drop first text)) (list_all-take (λ b. not (b == 92)) first text h)
     ∙ ap (λ x. take first text ++ x) (unbroken_breaks n 78 (drop first text) (list_all-drop (λ b. not (b == 92)) first text h))
     ∙ take-append-drop first text
 

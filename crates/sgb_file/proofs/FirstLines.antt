@@ -32,13 +32,13 @@ letter_is c k e = by_tests (c == 90) (c == 73) (c == 86) (c == 83) (c == 65) (De
     by_tests false false false false false is_z is_i is_v is_s is_a e = absurd cc
 
 -- a text has no more kinds than letters
-kept_short : {Y : Type 0} (y : Option Y) (ys : List Y) (n : ℕ) → length ys ≤ n → length (cons_option y ys) ≤ suc n
-kept_short None ys n h = omega (arith, h)
-kept_short (Some y) ys n h = omega (arith, h)
+pub kept_one : {Y : Type 0} (y : Option Y) (ys : List Y) → length (cons_option y ys) ≤ suc (length ys)
+kept_one None ys = omega arith
+kept_one (Some y) ys = omega arith
 
 pub no_more_kinds : (xs : List ℕ) → length (filter_map kind_of_letter xs) ≤ length xs
 no_more_kinds [] = omega arith
-no_more_kinds (x ∷ xs) = kept_short (kind_of_letter x) (filter_map kind_of_letter xs) (length xs) (no_more_kinds xs)
+no_more_kinds (x ∷ xs) = omega (arith, kept_one (kind_of_letter x) (filter_map kind_of_letter xs), no_more_kinds xs)
 
 -- letters that all stand for kinds are those of the kinds
 all_letters : (letters : List ℕ) → length letters ≤ length (filter_map kind_of_letter letters) → letters ≡ map letter_of (filter_map kind_of_letter letters)

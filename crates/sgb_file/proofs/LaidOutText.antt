@@ -30,10 +30,7 @@ broken_from (suc n) j piece =
     let further : 78 * (j + 1) ≡ 78 * j + 78 = omega arith in
     let others = ap (λ k. lines ++ drop (78 * k) piece) later ∙ broken_from n (j + 1) piece
     ∙ ap (λ k. with_breaks n 78 (drop k piece)) further ∙ ap (λ x. with_breaks n 78 x) (sym (drop-drop 78 (78 * j) piece)) in
-    append_assoc ((part ++ 92 ∷ []) ++ 10 ∷ []) lines last
-    ∙ append_assoc (part ++ 92 ∷ []) (10 ∷ []) (lines ++ last)
-    ∙ append_assoc part (92 ∷ []) (10 ∷ (lines ++ last))
-    ∙ ap (λ x. part ++ 92 ∷ 10 ∷ x) others
+    simp append_assoc (ap (λ x. part ++ 92 ∷ 10 ∷ x) others)
 
 -- the text of a piece that is broken
 abbrev broken_piece : List ℕ → List ℕ
@@ -60,9 +57,7 @@ ended_and_begun : (fits empty : Bool) (line piece : List ℕ) → (length line =
     ≡ line ++ cond fits piece (cond empty [] (10 ∷ []) ++ broken_piece piece)
 ended_and_begun true empty line piece e = refl
 ended_and_begun false true line piece e = rw (no_bytes line e) refl
-ended_and_begun false false line piece e =
-    append_assoc (line ++ 10 ∷ []) (text_of_lines (broken_lines piece)) (last_part piece)
-    ∙ append_assoc line (10 ∷ []) (text_of_lines (broken_lines piece) ++ last_part piece)
+ended_and_begun false false line piece e = simp append_assoc
 
 -- the text of pieces that are laid out after a line's beginning
 pub laid_out_text : (line : List ℕ) (pieces : List (List ℕ)) → text_of_lines (laid_out line pieces) ≡ line ++ after_line line pieces

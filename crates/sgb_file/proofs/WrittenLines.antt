@@ -5,6 +5,7 @@ use Rattle.std.proofs.Common.{ap, ◌∙◌, arith}
 use Rattle.std.proofs.lemmas.Bool.{and_parts, and_from}
 use Rattle.std.proofs.lemmas.Fmt.{decimal_is_IsNumeral}
 use Rattle.std.proofs.lemmas.List.Elements.{All-head, All-tail}
+use Rattle.std.proofs.lemmas.List.Folds.{list_all-append}
 use Rattle.sgb_graph.specs.Graphs.{GraphData}
 use Rattle.sgb_graph.specs.Sound.{util_fits, utils_fit, graph_kinds}
 use Rattle.sgb_graph.specs.declared.fields.Kind.{Kind}
@@ -91,14 +92,11 @@ decimal_in_line n h = (and_parts (is_one_line (decimal n)) (ends_well (decimal n
 pub head_is_line : (g : GraphData) → length g.vertices < 2 ^ 64 → length g.records < 2 ^ 64 → is_line (head_line g) ≡ true
 unfolding ends_well
 head_is_line g below few =
-    let first = codes "* GraphBase graph (util_types " ++ map letter_of g.kinds in
-    let second = first ++ codes "," ++ decimal (length g.vertices) in
-    let third = second ++ codes "V," ++ decimal (length g.records) in
-    let join = list_all-join is_within_line in
-    let first_is = join (codes "* GraphBase graph (util_types ") (map letter_of g.kinds) refl (letters_in_line g.kinds) in
-    let second_is = join (first ++ codes ",") (decimal (length g.vertices)) (join first (codes ",") first_is refl) (decimal_in_line (length g.vertices) below) in
-    let third_is = join (second ++ codes "V,") (decimal (length g.records)) (join second (codes "V,") second_is refl) (decimal_in_line (length g.records) few) in
-    and_from (is_one_line (third ++ codes "A)")) (ends_well (third ++ codes "A)")) (join third (codes "A)") third_is refl) (ends_with third 65 (41 ∷ []) refl)
+    let letters = letters_in_line g.kinds in
+    let n = decimal_in_line (length g.vertices) below in
+    let m = decimal_in_line (length g.records) few in
+    let before = codes "* GraphBase graph (util_types " ++ map letter_of g.kinds ++ codes "," ++ decimal (length g.vertices) ++ codes "V," ++ decimal (length g.records) in
+    and_from (is_one_line (head_line g)) (ends_well (head_line g)) (simp (list_all-append, letters, n, m)) (ends_with before 65 (41 ∷ []) refl)
 
 -- a checksum's line is a line
 pub checksum_is_line : (c : ℕ) → c < 2 ^ 64 → is_line (codes "* Checksum " ++ decimal c) ≡ true
