@@ -1,6 +1,6 @@
 -- Lemmas on the opening and the end of a file, in the words of the code.
 use Rattle.std.specs.Prelude.{if◌then◌else◌}
-use Rattle.std.proofs.Common.{◌≡◌, ◌<◌, ◌≤◌, ◌∙◌, ℕ, Bool, true, false, List, [], ◌∷◌, Option, Some, None, length, take, drop, set, slice_index, ◌+◌, zero, suc, filter_map, refl, sym, ap, arith, ◌==◌, ◌++◌, Result, Ok, Err, subst}
+use Rattle.std.proofs.Common.{◌≡◌, ◌<◌, ◌∙◌, ℕ, Bool, true, false, List, [], ◌∷◌, Some, None, length, take, drop, set, slice_index, ◌+◌, zero, suc, filter_map, refl, sym, ap, arith, ◌==◌, ◌++◌, Result, Ok, Err, subst}
 use Rattle.std.proofs.lemmas.Bool.Decides.{nat_tests}
 use Rattle.std.proofs.lemmas.List.{length-take, get_or-take, take_more, take_more_set, take_all}
 use Rattle.std.proofs.lemmas.List.Elements.{filter_map-append}

@@ -1,5 +1,5 @@
 -- Lemmas on whole files: what is written is a file of the graph.
-use Rattle.std.specs.Prelude.{◌≡◌, ℕ, ◌^◌, ◌<◌, true, not, List, [], ◌∷◌, ◌++◌, map, length, codes, decimal, filter, refl}
+use Rattle.std.specs.Prelude.{◌≡◌, ℕ, ◌^◌, ◌<◌, true, not, List, [], ◌∷◌, ◌++◌, length, codes, decimal, filter, refl}
 use Rattle.std.specs.List.{list_all, flat_map}
 use Rattle.std.proofs.Common.{ap, sym, ◌∙◌, append_assoc, append-nil, arith, inl}
 use Rattle.std.proofs.lemmas.Bool.{and_from}
@@ -13,7 +13,7 @@ use Rattle.sgb_file.specs.FileLines.{clean_lines, text_of_lines}
 use Rattle.sgb_file.specs.Checksum.{checksum_prime, weighted_sum, has_star, checksum_of_lines}
 use Rattle.sgb_file.specs.Fields.{most_number_digits}
 use Rattle.sgb_file.specs.Files.{IsFirstLine, IsComment, IsChecksumLine, IsVertexRecord, IsArcRecord, AreRecordsOf, IsFileOf, head_of}
-use Rattle.sgb_file.specs.Saving.{letter_of, graph_texts, vertex_texts, arc_texts, record_lines, head_line, middle_lines, checksum_line, text_of_graph}
+use Rattle.sgb_file.specs.Saving.{graph_texts, vertex_texts, arc_texts, record_lines, head_line, middle_lines, checksum_line, text_of_graph}
 use Rattle.sgb_file.specs.Saved.{CanBeSaved}
 use Rattle.sgb_file.proofs.LineLemmas.{is_line, list_all-join, clean_lines_read}
 use Rattle.sgb_file.proofs.FieldReading.{number_read}
