@@ -1,12 +1,12 @@
 -- Fields and their texts: a field's reader finds exactly a text that stands for its value.
-use Rattle.std.specs.Prelude.{◌≡◌, ◌≢◌, ℕ, zero, suc, ℤ, pos, neg_ℤ, ◌^◌, ◌<◌, ◌≤◌, Bool, true, false, not, ◌+◌, ◌&&◌, ◌||◌, List, [], ◌∷◌, ◌++◌, length, take, drop, codes, Option, Some, None, FitsSigned, option_map, get_or, nat_lt, nat_le, ◌==◌, refl}
+use Rattle.std.specs.Prelude.{◌≡◌, ◌≢◌, ℕ, zero, suc, ℤ, pos, neg_ℤ, ◌^◌, ◌<◌, ◌≤◌, true, not, ◌&&◌, ◌||◌, List, [], ◌∷◌, ◌++◌, length, drop, codes, Option, Some, None, FitsSigned, option_map, get_or, nat_lt, nat_le, ◌==◌, refl}
 use Rattle.std.specs.Int.{w64}
 use Rattle.std.specs.List.{list_all, list_any, before_first, after_first, position_or_len}
 use Rattle.std.specs.Str.{bytes_eq}
 use Rattle.std.proofs.Common.{ap, sym, subst, ◌∙◌, arith, append_assoc, inl, inr}
 use Rattle.std.proofs.lemmas.Bool.{and_parts, and_from}
 use Rattle.std.proofs.lemmas.Bool.Decides.{nat_tests, Decides-eqb}
-use Rattle.std.proofs.lemmas.List.Sums.{list_all-from_AllPass}
+use Rattle.std.proofs.lemmas.List.Sums.{list_all-from_AllPass, passes_at_first, split_at_first}
 use Rattle.std.proofs.lemmas.Slice.Eq.{bytes_eq-Decides}
 use Rattle.sgb_vec.specs.Limits.{most_bytes}
 use Rattle.sgb_vec.specs.Names.{is_text_byte}
@@ -21,7 +21,8 @@ use Rattle.sgb_file.specs.Fields.{Counts, Found, number_of, number_below, most_n
 use Rattle.sgb_file.specs.Files.{IsStringText, IsFieldText}
 use Rattle.sgb_file.specs.Saving.{quoted}
 use Rattle.sgb_file.proofs.FoundParts.{taken_and_left, was_given, was_mapped, was_let_through, was_chosen, was_either}
-use Rattle.sgb_file.proofs.FieldReading.{Ends, is_plain_byte, plain_read, plain_begins, digits_are_plain, have_no_quote, no_quotes, string_says}
+use Rattle.sgb_file.proofs.FieldReading.{Ends, is_plain_byte, plain_read, plain_begins, digits_are_plain, have_no_quote, string_says}
+use Rattle.sgb_file.proofs.LeftTexts.{passes_within, prefix_passes}
 use Rattle.sgb_file.proofs.NumberReading.{at_most, test_below, number_says}
 use Rattle.sgb_file.proofs.ReadTexts.{As, Reads, StandsIn, found_with, reads_as, reads_is}
 
@@ -51,34 +52,6 @@ reads_plain says plain = record {
   front = λ x text rest h t. let p = plain text x h in plain_begins text rest p.some p.bytes;
 }
 
--- a text with a quote in it is what stands before the first one, the quote, and what stands after it
-pub record IsSplit (text : List ℕ) : Type 0 where
-  pub parts : text ≡ before_first (λ c. c == 34) text ++ 34 ∷ after_first (λ c. c == 34) text
-  pub before : no_quotes (before_first (λ c. c == 34) text) ≡ true
-
-split_further : (c : ℕ) (text : List ℕ) → IsSplit text → (c == 34) ≡ false → IsSplit (c ∷ text)
-split_further c text h e =
-    let place = position_or_len (λ d. d == 34) text in
-    let further : 1 + place ≡ suc place = omega arith in
-    let beyond : suc place + 1 ≡ suc (place + 1) = omega arith in
-    record {
-      parts = rw e (rw further (rw beyond (ap (λ x. c ∷ x) h.parts)));
-      before = rw e (rw further (and_from (not (c == 34)) (no_quotes (take place text)) (ap not e) h.before));
-    }
-
-split_here : (c : ℕ) (text : List ℕ) → (c == 34) ≡ true → IsSplit (c ∷ text)
-split_here c text e =
-    let same : c ≡ 34 = grind (arith, nat_tests) in
-    record { parts = rw e (ap (λ b. b ∷ text) same); before = rw e refl }
-
-split_at_quote : (text : List ℕ) → list_any (λ c. c == 34) text ≡ true → IsSplit text
-split_at_quote [] h = absurd cc
-split_at_quote (c ∷ text) h = by_test (c == 34) refl h (split_at_quote text)
-  where
-    by_test : (t : Bool) → (c == 34) ≡ t → (t || list_any (λ d. d == 34) text) ≡ true → (list_any (λ d. d == 34) text ≡ true → IsSplit text) → IsSplit (c ∷ text)
-    by_test true e h later = split_here c text e
-    by_test false e h later = split_further c text (later h) e
-
 string_finds : (most : ℕ) (text : List ℕ) (result : Found (List ℕ)) → string_at most text ≡ Some result → StandsIn found_with (IsStringText most) text result
 string_finds most [] result e = absurd cc
 string_finds most (b ∷ text) result e =
@@ -86,13 +59,14 @@ string_finds most (b ∷ text) result e =
     let tests = and_parts (b == 34) (list_any (λ c. c == 34) text) chosen.0 in
     let inside = before_first (λ c. c == 34) text in
     let m = was_mapped (string_of most inside) chosen.1 in
-    let split = split_at_quote text tests.1 in
+    let within = passes_within (λ c. c == 34) text tests.1 in
+    let parts = split_at_first (λ c. c == 34) text 0 within ∙ ap (λ c. inside ++ c ∷ after_first (λ d. d == 34) text) ((Decides-eqb _ 34).0 (passes_at_first (λ c. c == 34) text 0 within)) in
     record {
       value = m.first;
       word = quoted inside;
       rest = after_first (λ c. c == 34) text;
-      says = record { inside = inside; whole = refl; no_quote = have_no_quote inside split.before; says = m.here };
-      parts = ap (λ c. c ∷ text) ((Decides-eqb b 34).0 tests.0) ∙ ap (λ x. 34 ∷ x) (split.parts ∙ sym (append_assoc inside (34 ∷ []) (after_first (λ c. c == 34) text)));
+      says = record { inside = inside; whole = refl; no_quote = have_no_quote inside (prefix_passes (λ c. not (c == 34)) text); says = m.here };
+      parts = ap (λ c. c ∷ text) ((Decides-eqb b 34).0 tests.0) ∙ ap (λ x. 34 ∷ x) (parts ∙ sym (append_assoc inside (34 ∷ []) (after_first (λ c. c == 34) text)));
       made = m.same;
     }
 

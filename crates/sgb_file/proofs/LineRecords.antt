@@ -1,8 +1,8 @@
 -- Records that are one line: their fields are read of the line alone, with the value of a checksum after them.
-use Rattle.std.specs.Prelude.{◌≡◌, ◌==◌, ◌≤◌, ◌<◌, ◌++◌, ◌%◌, ◌^◌, ℕ, ℤ, true, not, List, [], ◌∷◌, length, drop, Option, Some, None, option_map, unwrap_or, refl}
-use Rattle.std.proofs.Common.{ap, sym, ◌∙◌, subst, arith}
+use Rattle.std.specs.Prelude.{◌≡◌, ◌==◌, ◌≤◌, ◌<◌, ◌++◌, ◌%◌, ◌^◌, ℕ, ℤ, true, not, List, [], ◌∷◌, length, drop, Option, Some, None, unwrap_or, refl}
+use Rattle.std.proofs.Common.{ap, sym, ◌∙◌, arith}
 use Rattle.std.proofs.lemmas.Bool.{and_parts}
-use Rattle.std.proofs.lemmas.List.{drop-append-le, drop_all}
+use Rattle.std.proofs.lemmas.List.{drop_all}
 use Rattle.sgb_graph.specs.declared.fields.Ref.{Ref}
 use Rattle.sgb_graph.specs.declared.fields.Kind.{Kind}
 use Rattle.sgb_graph.specs.declared.fields.Kind.TheVariants.{A, I, Z}
@@ -10,7 +10,7 @@ use Rattle.sgb_graph.specs.declared.fields.Util.{Util}
 use Rattle.sgb_graph.specs.declared.fields.Util.TheVariants.{Chain, Int, Nothing}
 use Rattle.sgb_graph.specs.Sound.{arc_kinds}
 use Rattle.sgb_file.specs.Checksum.{checksum_prime}
-use Rattle.sgb_file.specs.Fields.{Counts, Found, field_at, found_as, integer_of, plain_at, record_number_of, ref_of}
+use Rattle.sgb_file.specs.Fields.{Counts, field_at, found_as, integer_of, plain_at, record_number_of, ref_of}
 use Rattle.sgb_file.specs.Records.{Head, after_comma, arc_record_at, more_fields_at}
 use Rattle.sgb_file.specs.inner.Found.{is_used}
 use Rattle.sgb_file.specs.inner.Layouts.{checksum_from, counted_bytes, value_after, value_from}
@@ -19,27 +19,9 @@ use Rattle.sgb_file.specs.inner.LinesLeft.{LinesLeft, has_no_newline, next_begun
 use Rattle.sgb_file.specs.FileLines.{text_of_lines}
 use Rattle.sgb_file.proofs.CountedFields.{field_valued, last_valued, no_star, short_counted}
 use Rattle.sgb_file.proofs.FoundSteps.{first_field}
-use Rattle.sgb_file.proofs.LeftTexts.{before_comma_short, next_left, no_line_end, plain_of_line, under_way}
+use Rattle.sgb_file.proofs.LeftTexts.{next_left, no_line_end, under_way}
 use Rattle.sgb_file.proofs.LineLemmas.{list_all-drop}
-use Rattle.sgb_file.proofs.PlainFields.{comma_free}
-
--- a field that the bytes before the first comma of a line say, and what is left of the line
-pub field_of_line : (X : Type 0) (says : List ℕ → Option X) (line after text : List ℕ) (x : X) → has_no_newline line ≡ true
-    → says (comma_free line) ≡ Some x
-    → drop (length (comma_free line)) line ≡ after → plain_at says (line ++ 10 ∷ text) ≡ Some (record {
-      value = x;
-      rest = after ++ 10 ∷
-          text;
-    })
-field_of_line X says line after text x h said left =
-    let whole = line ++ 10 ∷ text in
-    let rest : drop (length (comma_free line)) whole ≡ after ++ 10 ∷ text =
-    drop-append-le (length (comma_free line)) line (10 ∷ text) (before_comma_short line) ∙ ap (λ (t : List ℕ). t ++ 10 ∷ text) left in
-    subst (λ (t : List ℕ). option_map {U = Found X} (λ v. record { value = v; rest = drop (length t) whole }) (says t) ≡ Some (record {
-      value = x;
-      rest = after ++ 10 ∷ text;
-    })) (plain_of_line line text h)
-    (rw said (ap (λ (r : List ℕ). Some (record { value = x; rest = r })) rest))
+use Rattle.sgb_file.proofs.PlainFields.{comma_free, field_of_line}
 
 -- the line goes on after a comma
 pub comma_in_line : (line text : List ℕ) → has_no_newline line ≡ true → 0 < length line

@@ -102,6 +102,7 @@ next_digit digits i h short within =
 
 -- one more byte of at most 18, which is a digit
 pub record GoesOn (text : List ℕ) (i : ℕ) : Type 0 where
+  pub here : is_decimal_digit (get_or text i 0) ≡ true
   pub low : 48 ≤ get_or text i 0
   pub digits : list_all is_decimal_digit (take (i + 1) text) ≡ true
   pub more : digits_value 10 (take (i + 1) text) ≡ 10 * digits_value 10 (take i text) + (get_or text i 0 - 48)
@@ -116,11 +117,16 @@ goes_on text i h here short within =
     let all : list_all is_decimal_digit (take (i + 1) text) ≡ true =
     list_all_more is_decimal_digit text i 0 within ∙ and_from (list_all is_decimal_digit (take i text)) (is_decimal_digit (get_or text i 0)) h here in
     let few : length (take (i + 1) text) ≤ 18 = omega (arith, length-take (i + 1) text, short) in record {
+      here = here;
       low = digit.low;
       digits = all;
       more = omega (arith, more, value);
       fits = value_below (take (i + 1) text) 18 all few;
     }
+
+-- the same of a byte that counts no more than 9
+pub counts_on : (text : List ℕ) (i d : ℕ) → list_all is_decimal_digit (take i text) ≡ true → nat_le d 9 ≡ is_decimal_digit (get_or text i 0) → d ≤ 9 → length text ≤ 18 → i < length text → GoesOn text i
+counts_on text i d h is counts short within = goes_on text i h (let few : nat_le d 9 ≡ true = grind (arith, nat_tests) in sym is ∙ few) short within
 
 -- all of the bytes are digits
 pub ends_as_digits : (text : List ℕ) (i value : ℕ) → length text ≤ i → list_all is_decimal_digit (take i text) ≡ true → value ≡ digits_value 10 (take i text)

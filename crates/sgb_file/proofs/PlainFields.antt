@@ -1,20 +1,19 @@
 -- Fields that the bytes before the first comma of a line say, found digit by digit.
-use Rattle.std.specs.Prelude.{◌≡◌, ℕ, zero, suc, ◌+◌, ◌<◌, ◌≤◌, Bool, true, false, ◌&&◌, List, [], ◌∷◌, length, take, drop, Option, Some, None, option_map, ◌==◌, nat_lt, nat_le, cond, refl}
+use Rattle.std.specs.Prelude.{◌≡◌, ℕ, zero, suc, ◌+◌, ◌<◌, ◌≤◌, Bool, true, false, ◌&&◌, List, [], ◌∷◌, ◌++◌, length, take, drop, Option, Some, None, option_map, ◌==◌, nat_lt, nat_le, cond, refl}
 use Rattle.std.specs.List.{before_first, list_all, position_or_len, prefix_len, take_while}
 use Rattle.std.specs.Str.Parse.{digits_value}
 use Rattle.std.proofs.Common.{ap, sym, ◌∙◌, subst, arith, get_or}
 use Rattle.std.proofs.Math.Bool.{and-false}
-use Rattle.std.proofs.lemmas.Bool.{and_parts, and_from}
 use Rattle.std.proofs.lemmas.Bool.Decides.{nat_tests}
-use Rattle.std.proofs.lemmas.List.{length-take}
-use Rattle.std.proofs.lemmas.List.Sums.{take_while-cons}
+use Rattle.std.proofs.lemmas.List.{drop-append-le, get_or-take, length-take, take_all}
+use Rattle.std.proofs.lemmas.List.Sums.{AllPass-from_list_all, prefix_len_is, take_while-cons}
 use Rattle.sgb_graph.specs.declared.fields.Ref.TheVariants.{At}
 use Rattle.sgb_file.specs.FileLines.{text_of_lines}
 use Rattle.sgb_file.specs.Fields.{Found, is_decimal_digit, number_below, number_of, plain_at, plain_text, record_number_of, ref_of}
 use Rattle.sgb_file.specs.inner.Found.{is_at_end}
 use Rattle.sgb_file.specs.inner.LinesLeft.{LinesLeft, text_left, skipped, has_no_newline}
 use Rattle.sgb_file.proofs.NumberReading.{number_tested}
-use Rattle.sgb_file.proofs.LeftTexts.{under_way, skipped_left, plain_of_line, before_comma_short}
+use Rattle.sgb_file.proofs.LeftTexts.{under_way, plain_of_line, before_comma_short, prefix_passes}
 
 -- the bytes before the first comma
 abbrev pub comma_free : List ℕ → List ℕ
@@ -24,15 +23,30 @@ comma_free text = before_first (λ b. b == 44) text
 abbrev pub front : ℕ → List ℕ → List ℕ
 front most text = take_while is_decimal_digit (take most text)
 
--- a field that the bytes before the first comma of the line under way say
+-- a field that the bytes before the first comma of a line say, and what is left of the line
+pub field_of_line : (X : Type 0) (says : List ℕ → Option X) (line after text : List ℕ) (x : X) → has_no_newline line ≡ true
+    → says (comma_free line) ≡ Some x
+    → drop (length (comma_free line)) line ≡ after → plain_at says (line ++ 10 ∷ text) ≡ Some (record {
+      value = x;
+      rest = after ++ 10 ∷
+          text;
+    })
+field_of_line X says line after text x h said left =
+    let whole = line ++ 10 ∷ text in
+    let rest : drop (length (comma_free line)) whole ≡ after ++ 10 ∷ text =
+    drop-append-le (length (comma_free line)) line (10 ∷ text) (before_comma_short line) ∙ ap (λ (t : List ℕ). t ++ 10 ∷ text) left in
+    subst (λ (t : List ℕ). option_map {U = Found X} (λ v. record { value = v; rest = drop (length t) whole }) (says t) ≡ Some (record {
+      value = x;
+      rest = after ++ 10 ∷ text;
+    })) (plain_of_line line text h)
+    (rw said (ap (λ (r : List ℕ). Some (record { value = x; rest = r })) rest))
+
+-- the same of the line under way
 pub field_found : (X : Type 0) (says : List ℕ → Option X) (s : LinesLeft) (line : List ℕ) (x : X) (len : ℕ) → Some line ≡ s.line → has_no_newline line ≡ true
     → says (comma_free line) ≡ Some x → len ≡ length (comma_free line) → plain_at says (text_left s) ≡ Some (record { value = x; rest = text_left (skipped len s) })
 field_found X says s line x len e h said k =
-    let plain = plain_of_line line (text_of_lines s.others) h ∙ ap plain_text (sym (under_way s line e)) in
-    let short : len ≤ length line = omega (arith, k, before_comma_short line) in
-    let rest : text_left (skipped len s) ≡ drop (length (comma_free line)) (text_left s) = skipped_left s line len e short ∙ ap (λ (n : ℕ). drop n (text_left s)) k in
-    subst (λ (t : List ℕ). option_map {U = Found X} (λ v. record { value = v; rest = drop (length t) (text_left s) }) (says t) ≡ Some (record { value = x; rest = text_left (skipped len s) })) plain
-    (rw said (ap (λ (r : List ℕ). Some (record { value = x; rest = r })) (sym rest)))
+    let found = field_of_line X says line (drop len line) (text_of_lines s.others) x h said (ap (λ (n : ℕ). drop n line) (sym k)) in
+    ap (plain_at says) (under_way s line e) ∙ found ∙ ap (λ (t : List ℕ). Some (record { value = x; rest = t })) (sym (under_way (skipped len s) (drop len line) (ap (option_map (λ l. drop len l)) e)))
 
 -- or do not say
 pub field_missing : (X : Type 0) (says : List ℕ → Option X) (s : LinesLeft) (line : List ℕ) → Some line ≡ s.line → has_no_newline line ≡ true
@@ -55,10 +69,7 @@ one_more b text e = rw e (taken true (position_or_len (λ c. c == 44) text) b te
 digit_no_comma : (b : ℕ) → is_decimal_digit b ≡ true → (b == 44) ≡ false
 digit_no_comma b h = grind (arith, nat_tests)
 
--- a byte is a digit where what it counts is no more than 9
-pub digit_counts : (b d : ℕ) → nat_le d 9 ≡ is_decimal_digit b → d ≤ 9 → is_decimal_digit b ≡ true
-digit_counts b d e h = let few : nat_le d 9 ≡ true = grind (arith, nat_tests) in sym e ∙ few
-
+-- a byte is no digit where what it counts is more than 9
 pub no_digit_counts : (b d : ℕ) → nat_le d 9 ≡ is_decimal_digit b → 9 < d → is_decimal_digit b ≡ false
 no_digit_counts b d e h = let many : nat_le d 9 ≡ false = grind (arith, nat_tests) in sym e ∙ many
 
@@ -72,31 +83,19 @@ no_front most b text h = take_while-cons is_decimal_digit b (take most text) ∙
 -- the digits that a text begins with, up to the first byte that is none
 pub digits_until : (text : List ℕ) (i : ℕ) → list_all is_decimal_digit (take i text) ≡ true → is_decimal_digit (get_or text i 0) ≡ false → i < length text
     → take_while is_decimal_digit text ≡ take i text
-digits_until [] i h stop within = absurd (omega (arith, within))
-digits_until (b ∷ text) zero h stop within = take_while-cons is_decimal_digit b text ∙ rw stop refl
-digits_until (b ∷ text) (suc i) h stop within =
-    let parts = and_parts (is_decimal_digit b) (list_all is_decimal_digit (take i text)) h in
-    take_while-cons is_decimal_digit b text ∙ rw parts.0 (ap (λ x. b ∷ x) (digits_until text i parts.1 stop (omega (arith, within))))
+digits_until text i h stop within =
+    ap (λ (k : ℕ). take k text) (prefix_len_is is_decimal_digit text i 0 (omega (arith, within))
+    (λ k below. sym (ap is_decimal_digit (get_or-take i text k 0 below)) ∙ AllPass-from_list_all is_decimal_digit (take i text) h k 0 (omega (arith, below, within, length-take i text))) (λ here. stop))
 
 pub digits_all : (text : List ℕ) → list_all is_decimal_digit text ≡ true → take_while is_decimal_digit text ≡ text
-digits_all [] h = refl
-digits_all (b ∷ text) h =
-    let parts = and_parts (is_decimal_digit b) (list_all is_decimal_digit text) h in
-    take_while-cons is_decimal_digit b text ∙ rw parts.0 (ap (λ x. b ∷ x) (digits_all text parts.1))
+digits_all text h =
+    let n = length text in
+    ap (λ (k : ℕ). take k text) (prefix_len_is is_decimal_digit text n 0 (omega arith) (λ k below. AllPass-from_list_all is_decimal_digit text h k 0 below) (λ past. absurd (omega (arith, past))))
+    ∙ take_all n text (omega arith)
 
 -- the first digits are digits, as many as are asked for at most
 pub front_digits : (text : List ℕ) → list_all is_decimal_digit (take_while is_decimal_digit text) ≡ true
-front_digits [] = refl
-front_digits (b ∷ text) = by_digit (front_digits text) (is_decimal_digit b) refl
-  where
-    by_digit : list_all is_decimal_digit (take_while is_decimal_digit text) ≡ true → (d : Bool) → is_decimal_digit b ≡ d → list_all is_decimal_digit (take_while is_decimal_digit (b ∷ text)) ≡ true
-    by_digit later true h =
-        let more : take_while is_decimal_digit (b ∷ text) ≡ b ∷ take_while is_decimal_digit text = take_while-cons is_decimal_digit b text ∙ rw h refl in
-        ap (list_all is_decimal_digit) more
-        ∙ and_from (is_decimal_digit b) (list_all is_decimal_digit (take_while is_decimal_digit text)) h later
-    by_digit later false h =
-        let none : take_while is_decimal_digit (b ∷ text) ≡ [] = take_while-cons is_decimal_digit b text ∙ rw h refl in
-        ap (list_all is_decimal_digit) none
+front_digits text = prefix_passes is_decimal_digit text
 
 front_short : (most : ℕ) (text : List ℕ) → length (front most text) ≤ most
 front_short most text =
