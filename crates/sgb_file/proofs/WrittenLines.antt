@@ -18,8 +18,8 @@ use Rattle.sgb_file.specs.Saving.{letter_of, field_texts, graph_texts, vertex_te
 use Rattle.sgb_file.specs.Saved.{ValueCanBeSaved}
 use Rattle.sgb_file.proofs.LineLemmas.{is_line, is_one_line, is_within_line, ends_well, list_all-join}
 use Rattle.sgb_file.proofs.LaidOutText.{record_are_lines}
-use Rattle.sgb_file.proofs.FieldReading.{quoted_is_line}
-use Rattle.sgb_file.proofs.WrittenRecords.{IsField, decimal_is_line, field_of}
+use Rattle.sgb_file.proofs.FieldReading.{decimal_is_line, quoted_is_line}
+use Rattle.sgb_file.proofs.WrittenRecords.{IsField, field_of}
 use Rattle.sgb_file.proofs.SavedGraphs.{AreSmall, FieldsFit, IsReady, VertexFits, ArcFits, fields_of_vertex, fields_of_arc}
 
 -- the texts of a field are lines
