@@ -1,5 +1,5 @@
 -- Files and their texts: their openings, their records and their closing lines are read exactly where they stand.
-use Rattle.std.specs.Prelude.{◌≡◌, ◌⊎◌, ℕ, zero, suc, ℤ, pos, neg_ℤ, ◌-◌, ◌<◌, ◌≤◌, Bool, true, false, not, ◌&&◌, List, [], ◌∷◌, ◌++◌, length, take, drop, codes, Option, Some, None, option_map, All, slice_index, nat_le, ◌==◌, if◌then◌else◌, refl}
+use Rattle.std.specs.Prelude.{◌≡◌, ◌⊎◌, ℕ, zero, suc, ℤ, pos, neg_ℤ, ◌-◌, ◌<◌, ◌≤◌, Bool, true, false, not, ◌&&◌, List, [], ◌∷◌, ◌++◌, length, take, drop, codes, Option, Some, None, All, slice_index, nat_le, ◌==◌, if◌then◌else◌, refl}
 use Rattle.std.specs.List.{list_all}
 use Rattle.std.specs.Option.{option_map_or}
 use Rattle.std.proofs.Common.{ap, sym, subst, ◌∙◌, append_assoc, arith, length-append, inl, inr}
@@ -19,7 +19,7 @@ use Rattle.sgb_file.specs.Restoring.{Opening, leading_number, head_of_line, open
 use Rattle.sgb_file.specs.Files.{IsFirstLine, IsComment, IsChecksumLine, IsRecord, IsArcRecord, AreRecords, AreRecordsOf, head_of}
 use Rattle.sgb_file.specs.Refused.{Opens, AreRecordLines, IsClosed}
 use Rattle.sgb_file.proofs.LineLemmas.{is_one_line, is_within_line, lines_again, lines_read, clean_are_one_line}
-use Rattle.sgb_file.proofs.FoundParts.{prefix_is, was_given, was_mapped, was_chosen}
+use Rattle.sgb_file.proofs.FoundParts.{prefix_is, was_given, was_mapped, was_chosen, was_either}
 use Rattle.sgb_file.proofs.NumberReading.{number_says}
 use Rattle.sgb_file.proofs.FirstLines.{IsLeading, leading_found, leading_says, first_line_found, kinds_read}
 use Rattle.sgb_file.proofs.RecordsAndTexts.{reads_records}
@@ -120,19 +120,18 @@ agreeing_line sum line text found l h = record {
 checksum_found : (line : List ℕ) (c : ℤ) (lines : List (List ℕ)) → checksum_in_line line ≡ Some c → checksum_agrees c lines ≡ true → IsChecksumLine (checksum_of_lines lines) line
 checksum_found line c lines e agrees =
     let g = was_given (after_prefix (codes "* Checksum ") line) e in
-    by_sign g.first (slice_index g.first 0 == 45) refl (prefix_is (codes "* Checksum ") line g.first g.here) g.made
-  where
-    by_sign : (text : List ℕ) (minus : Bool) → (slice_index text 0 == 45) ≡ minus → line ≡ codes "* Checksum " ++ text
-        → (if minus then option_map (λ (k : Found ℕ). neg_ℤ (pos k.value)) (leading_number (drop 1 text)) else option_map (λ (k : Found ℕ). pos k.value) (leading_number text)) ≡ Some c
-        → IsChecksumLine (checksum_of_lines lines) line
-    by_sign text true is parts e =
-        let m = was_mapped (leading_number (drop 1 text)) e in
-        agreeing_line (checksum_of_lines lines) line (drop 1 text) m.first (leading_found (drop 1 text) m.first m.here)
-        (inr (minus_agrees m.first.value lines (ap (λ i. checksum_agrees i lines) m.same ∙ agrees), parts ∙ ap (λ x. codes "* Checksum " ++ x) (minus_first text is)))
-    by_sign text false is parts e =
-        let m = was_mapped (leading_number text) e in
-        agreeing_line (checksum_of_lines lines) line text m.first (leading_found text m.first m.here)
-        (inl ((Decides-eqb m.first.value (checksum_of_lines lines)).0 (ap (λ i. checksum_agrees i lines) m.same ∙ agrees), parts))
+    let text = g.first in
+    let parts = prefix_is (codes "* Checksum ") line text g.here in
+    elim (was_either (slice_index text 0 == 45) g.made) [
+      | inl h ↦
+          let m = was_mapped (leading_number (drop 1 text)) h.1 in
+          agreeing_line (checksum_of_lines lines) line (drop 1 text) m.first (leading_found (drop 1 text) m.first m.here)
+          (inr (minus_agrees m.first.value lines (ap (λ i. checksum_agrees i lines) m.same ∙ agrees), parts ∙ ap (λ x. codes "* Checksum " ++ x) (minus_first text h.0)))
+      | inr h ↦
+          let m = was_mapped (leading_number text) h.1 in
+          agreeing_line (checksum_of_lines lines) line text m.first (leading_found text m.first m.here)
+          (inl ((Decides-eqb m.first.value (checksum_of_lines lines)).0 (ap (λ i. checksum_agrees i lines) m.same ∙ agrees), parts))
+    ]
 
 -- digits do not begin with a minus
 digits_no_minus : (digits more : List ℕ) (k : ℕ) → number_of most_number_digits digits ≡ Some k → (slice_index (digits ++ more) 0 == 45) ≡ false

@@ -1,5 +1,5 @@
 -- Lemmas on readers one after another: a record is read field by field.
-use Rattle.std.specs.Prelude.{◌≡◌, ℕ, ℤ, zero, ◌+◌, ◌<◌, ◌≤◌, true, false, List, [], ◌∷◌, ◌++◌, length, take, drop, codes, Option, Some, None, Err, option_map, ◌==◌, refl}
+use Rattle.std.specs.Prelude.{◌≡◌, ℕ, ℤ, zero, ◌+◌, ◌<◌, ◌≤◌, true, false, List, [], ◌∷◌, ◌++◌, length, take, drop, codes, replicate, Option, Some, None, Err, option_map, ◌==◌, refl}
 use Rattle.std.proofs.Common.{ap, sym, subst, suc, ◌∙◌, append_assoc, append-nil, arith, get_or, set}
 use Rattle.std.proofs.Math.Seq.{drop-cons}
 use Rattle.std.proofs.lemmas.List.{take_more_set, take_all, drop_all, set-get_or, get_or-set_other}
@@ -112,14 +112,10 @@ this_field counts kinds i kind d text h e =
     ap (λ (ks : List Kind). more_fields_at counts ks text) parts ∙ first_field counts kind (drop (i + 1) kinds) text
 
 -- no field is used yet
-none_used : (k : ℕ) → get_or (Nothing ∷ Nothing ∷ Nothing ∷ Nothing ∷ Nothing ∷ Nothing ∷ []) k Nothing ≡ Nothing
-none_used zero = refl
-none_used (suc zero) = refl
-none_used (suc (suc zero)) = refl
-none_used (suc (suc (suc zero))) = refl
-none_used (suc (suc (suc (suc zero)))) = refl
-none_used (suc (suc (suc (suc (suc zero))))) = refl
-none_used (suc (suc (suc (suc (suc (suc k)))))) = refl
+none_used : (n k : ℕ) → get_or (replicate n Nothing) k Nothing ≡ Nothing
+none_used zero k = refl
+none_used (suc n) zero = refl
+none_used (suc n) (suc k) = none_used n k
 
 -- a field that is used stands after a comma; one that is not has no text
 pub used_at : (counts : Counts) (kind : Kind) (text : List ℕ) → is_used kind ≡ true → next_at (field_at counts kind) text ≡ next_field_at counts kind text
@@ -151,7 +147,7 @@ pub record AreReadTo (counts : Counts) (kinds : List Kind) (whole : Option (Foun
   blank : (k : ℕ) → place ≤ k → get_or fields k Nothing ≡ Nothing
 
 pub none_read : (counts : Counts) (kinds : List Kind) (text : List ℕ) → AreReadTo counts kinds (more_fields_at counts kinds text) 0 (Nothing ∷ Nothing ∷ Nothing ∷ Nothing ∷ Nothing ∷ Nothing ∷ []) text
-none_read counts kinds text = record { so_far = none_first (more_fields_at counts kinds text); blank = λ k from. none_used k }
+none_read counts kinds text = record { so_far = none_first (more_fields_at counts kinds text); blank = λ k from. none_used 6 k }
 
 -- the next field is read, or not used, or the reading stops there
 pub one_read : (counts : Counts) (kinds : List Kind) (whole : Option (Found (List Util))) (place : ℕ) (fields : List Util) (text left : List ℕ) (kind d : Kind) (u : Util)

@@ -1,5 +1,5 @@
 -- Lemmas on the text of pieces that are laid out: what stands after a line's beginning.
-use Rattle.std.specs.Prelude.{◌≡◌, ℕ, zero, suc, ◌+◌, ◌*◌, ◌<◌, ◌≤◌, Bool, true, false, cond, not, List, [], ◌∷◌, ◌++◌, length, take, drop, codes, ◌==◌, refl}
+use Rattle.std.specs.Prelude.{◌≡◌, ℕ, zero, suc, ◌+◌, ◌*◌, ◌<◌, ◌≤◌, Bool, true, false, cond, not, List, [], ◌∷◌, ◌++◌, length, take, drop, ◌==◌, refl}
 use Rattle.std.specs.List.{list_all}
 use Rattle.std.proofs.Common.{ap, sym, ◌∙◌, append_assoc, append-nil, arith, length-append, inl, inr}
 use Rattle.std.proofs.lemmas.Bool.{and_parts, and_from, cases_lt}
@@ -7,6 +7,7 @@ use Rattle.std.proofs.lemmas.Grind.{flat_map-append}
 use Rattle.std.proofs.lemmas.List.{take-append-le, drop-append-le, length-drop}
 use Rattle.sgb_file.specs.FileLines.{text_of_lines}
 use Rattle.sgb_file.specs.Saving.{breaks_of, broken_lines, last_part, fits_on, lines_ended, line_begun, laid_out, pieces_of, record_lines}
+use Rattle.sgb_file.specs.inner.Layouts.{comma_of, has_any, piece_of}
 use Rattle.sgb_file.proofs.BrokenLines.{breaks-long, breaks-short, broken-long, broken-short, last-long, last-short}
 use Rattle.sgb_file.proofs.LayoutLemmas.{laid_out_pass}
 use Rattle.sgb_file.proofs.LineLemmas.{no_bytes, is_line, is_one_line, is_within_line, ends_well, ends_well-last, line-append, line-drop, list_all-take, list_all-join}
@@ -122,35 +123,34 @@ pub record IsLaidOut (line text : List ℕ) (texts : List (List ℕ)) : Type 0 w
   pub few : 0 < breaks → 78 * breaks + 1 ≤ length text
   pub starts : (length line == 0) ≡ true → gap ≡ false
 
-pub lay_out : (line text : List ℕ) (texts : List (List ℕ)) → IsLaidOut line text texts
+-- the first text as a piece, and what stands after it; a comma ends it where others follow
+first_after : (line text : List ℕ) (texts : List (List ℕ)) (piece : List ℕ) → piece ≡ piece_of (has_any texts) text
+    → after_line line (pieces_of (text ∷ texts)) ≡ cond (fits_on line piece) piece (line_end line ++ broken_piece piece) ++ after_line (line_begun line piece) (pieces_of texts)
 unfolding pieces_of after_line
-lay_out line text [] =
-    let placed = place_by (fits_on line text) line text refl in
-    record {
-      gap = placed.gap;
-      breaks = placed.breaks;
-      next = [];
-      whole = ap (λ x. x ++ 10 ∷ []) placed.whole ∙ append_assoc (cond placed.gap (10 ∷ []) []) (with_breaks placed.breaks 78 text) (10 ∷ []);
-      few = λ some. omega (arith, placed.few some);
-      starts = placed.starts;
-    }
-lay_out line text (next ∷ texts) =
-    let piece = text ++ codes "," in
+first_after line text [] piece e = rw (e, append-nil text) refl
+first_after line text (next ∷ texts) piece e = rw e refl
+
+comma_after : (line : List ℕ) (texts : List (List ℕ)) → (comma_of (has_any texts) ++ after_line line (pieces_of texts) ≡ after_field line texts) × (length (comma_of (has_any texts)) ≤ 1)
+unfolding pieces_of after_line
+comma_after line [] = (refl, omega arith)
+comma_after line (text ∷ texts) = (refl, omega arith)
+
+pub lay_out : (line text : List ℕ) (texts : List (List ℕ)) → IsLaidOut line text texts
+lay_out line text texts =
+    let piece = piece_of (has_any texts) text in
     let placed = place_by (fits_on line piece) line piece refl in
     let begun = line_begun line piece in
-    let after = after_line begun (pieces_of (next ∷ texts)) in
-    let short : length piece ≡ length text + 1 = length-append text (44 ∷ []) in
-    let within : 78 + 78 * placed.breaks ≤ length text + 78 = few_fit placed.breaks (length text) (λ some. omega (arith, short, placed.few some)) in
+    let comma = comma_after begun texts in
+    let short : length piece ≡ length text + length (comma_of (has_any texts)) = length-append text (comma_of (has_any texts)) in
+    let few : 0 < placed.breaks → 78 * placed.breaks + 1 ≤ length text = λ some. omega (arith, short, comma.1, placed.few some) in
+    let within = breaks_within placed.breaks 78 text (comma_of (has_any texts)) (few_fit placed.breaks (length text) few) in
     record {
       gap = placed.gap;
       breaks = placed.breaks;
       next = begun;
-      whole =
-          ap (λ x. x ++ after) placed.whole
-          ∙ append_assoc (cond placed.gap (10 ∷ []) []) (with_breaks placed.breaks 78 piece) after
-          ∙ ap (λ x. cond placed.gap (10 ∷ []) [] ++ (x ++ after)) (breaks_within placed.breaks 78 text (44 ∷ []) within)
-          ∙ ap (λ x. cond placed.gap (10 ∷ []) [] ++ x) (append_assoc (with_breaks placed.breaks 78 text) (44 ∷ []) after);
-      few = λ some. omega (arith, short, placed.few some);
+      whole = first_after line text texts piece refl ∙ ap (λ x. x ++ after_line begun (pieces_of texts)) (placed.whole ∙ ap (λ x. cond placed.gap (10 ∷ []) [] ++ x) within)
+          ∙ simp append_assoc (ap (λ x. cond placed.gap (10 ∷ []) [] ++ (with_breaks placed.breaks 78 text ++ x)) comma.0);
+      few = few;
       starts = placed.starts;
     }
   where

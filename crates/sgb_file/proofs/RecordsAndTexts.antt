@@ -221,10 +221,7 @@ graph_into g whole h =
 
 -- the counts of a first line are those of the records after it
 head_again : (head : Head) (g : GraphData) → g.kinds ≡ head.kinds → length g.vertices ≡ head.counts.vertices → length g.records ≡ head.counts.arcs → head ≡ head_of g
-head_again head g kinds vertices arcs =
-    sym (ap (λ ks. record { kinds = ks; counts = record { vertices = length g.vertices; arcs = length g.records } }) kinds
-    ∙ ap (λ n. record { kinds = head.kinds; counts = record { vertices = n; arcs = length g.records } }) vertices
-    ∙ ap (λ m. record { kinds = head.kinds; counts = record { vertices = head.counts.vertices; arcs = m } }) arcs)
+head_again head g kinds vertices arcs = rw (kinds, vertices, arcs) refl
 
 -- the records of a graph; the first line that they are read with says what the graph has
 pub record AreCounted (head : Head) (g : GraphData) (whole : List ℕ) : Type 0 where

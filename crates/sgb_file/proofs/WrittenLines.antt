@@ -6,6 +6,8 @@ use Rattle.std.proofs.lemmas.Bool.{and_parts, and_from}
 use Rattle.std.proofs.lemmas.Fmt.{decimal_is_IsNumeral}
 use Rattle.std.proofs.lemmas.List.Elements.{All-head, All-tail}
 use Rattle.std.proofs.lemmas.List.Folds.{list_all-append}
+use Rattle.std.proofs.lemmas.List.Sums.{AllPass-from_list_all, list_all-from_AllPass}
+use Rattle.sgb_vec.proofs.Lists.{All-flat_map}
 use Rattle.sgb_graph.specs.Graphs.{GraphData}
 use Rattle.sgb_graph.specs.Sound.{util_fits, utils_fit, graph_kinds}
 use Rattle.sgb_graph.specs.declared.fields.Kind.{Kind}
@@ -53,9 +55,8 @@ graph_lines g h =
 
 -- lines of each of several records
 each_lines : {X : Type 0} (lines_of : X → List (List ℕ)) (IsGood : X → Type 0) → ((x : X) → IsGood x → list_all is_line (lines_of x) ≡ true) → (xs : List X) → All IsGood xs → list_all is_line (flat_map lines_of xs) ≡ true
-each_lines lines_of IsGood each [] h = refl
-each_lines lines_of IsGood each (x ∷ xs) h =
-    list_all-join is_line (lines_of x) (flat_map lines_of xs) (each x (All-head IsGood x xs h)) (each_lines lines_of IsGood each xs (All-tail IsGood x xs h))
+each_lines lines_of IsGood each xs h =
+    list_all-from_AllPass is_line (flat_map lines_of xs) (All-flat_map (λ line. is_line line ≡ true) lines_of xs (λ k d below. AllPass-from_list_all is_line _ (each _ (h k d below))))
 
 -- the lines between the first and the last are lines
 pub middle_are_lines : (g : GraphData) → IsReady g → list_all is_line (middle_lines g) ≡ true
