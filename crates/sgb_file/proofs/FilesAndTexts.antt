@@ -55,12 +55,9 @@ opening_read head (line ∷ comments) first lines h says =
     let comment = All-head IsComment line comments h in
     rw (comment_is_passed line comment) (rw comment.star (opening_read head comments first lines (All-tail IsComment line comments h) says))
 
-pub record IsOpened (lines : List (List ℕ)) (opening : Opening) : Type 0 where
-  pub comments : List (List ℕ)
-  pub first : List ℕ
-  pub comments_are : All IsComment comments
-  pub first_says : IsFirstLine opening.head first
-  pub parts : lines ≡ comments ++ first ∷ opening.lines
+-- comments, a first line, and the lines after it
+abbrev pub IsOpened : List (List ℕ) → Opening → Type 0
+IsOpened lines opening = (comments : List (List ℕ)) × (first : List ℕ) × All IsComment comments × IsFirstLine opening.head first × (lines ≡ comments ++ first ∷ opening.lines)
 
 comment_found : (line : List ℕ) → head_of_line line ≡ None → has_star line ≡ true → IsComment line
 comment_found line none star = record {
@@ -78,17 +75,11 @@ opening_found (line ∷ lines) opening e = by_line (head_of_line line) refl e (o
     by_line None none e later =
         let starred = was_chosen (has_star line) e in
         let o = later starred.1 in
-        record {
-          comments = line ∷ o.comments;
-          first = o.first;
-          comments_are = All-cons IsComment line o.comments (comment_found line none starred.0) o.comments_are;
-          first_says = o.first_says;
-          parts = ap (λ ls. line ∷ ls) o.parts;
-        }
+        (line ∷ o.0, o.1, All-cons IsComment line o.0 (comment_found line none starred.0) o.2, o.3, ap (λ ls. line ∷ ls) o.4)
     by_line (Some head) here e later =
         let same : record { head = head; lines = lines } ≡ opening = cc in
         subst (λ (o : Opening). IsOpened (line ∷ lines) o) same
-        (record { comments = []; first = line; comments_are = All-nil IsComment; first_says = first_line_found line head here; parts = refl })
+        ([], line, All-nil IsComment, first_line_found line head here, refl)
 
 -- a minus stands for a negative number, or for 0
 minus_agrees : (k : ℕ) (lines : List (List ℕ)) → checksum_agrees (neg_ℤ (pos k)) lines ≡ true → (0 < k) ⊎ (k ≡ checksum_of_lines lines)
@@ -257,7 +248,7 @@ opens_read text head lines h = ap opening_of h.parts ∙ opening_read head h.com
 pub opens_found : (text : List ℕ) (o : Opening) → opening_of (clean_lines text) ≡ Some o → Opens text o.head o.lines
 opens_found text o e =
     let p = opening_found (clean_lines text) o e in
-    record { comments = p.comments; first = p.first; parts = p.parts; comments_are = p.comments_are; first_says = p.first_says }
+    record { comments = p.0; first = p.1; parts = p.4; comments_are = p.2; first_says = p.3 }
 
 -- no newline stands in the lines after an opening
 pub after_opening : (text : List ℕ) (head : Head) (lines : List (List ℕ)) → Opens text head lines → list_all is_one_line lines ≡ true

@@ -1,12 +1,14 @@
 -- First lines: what one that is read says, and how its kinds and numbers are read.
-use Rattle.std.specs.Prelude.{◌≡◌, ℕ, suc, ◌+◌, ◌≤◌, Bool, true, false, cond, List, [], ◌∷◌, ◌++◌, map, length, take, drop, codes, option_map, Option, Some, None, filter_map, take_while, nat_le, ◌==◌, if◌then◌else◌, refl}
+use Rattle.std.specs.Prelude.{◌≡◌, ℕ, suc, ◌+◌, ◌≤◌, Bool, true, false, List, [], ◌∷◌, ◌++◌, map, length, take, drop, codes, option_map, Option, Some, None, filter_map, take_while, nat_le, ◌==◌, if◌then◌else◌, refl}
 use Rattle.std.specs.List.{prefix_len, cons_option}
 use Rattle.std.specs.List.{list_all}
-use Rattle.std.proofs.Common.{ap, sym, subst, ◌∙◌, arith}
+use Rattle.std.proofs.Common.{ap, sym, subst, ◌∙◌, arith, inl, inr}
 use Rattle.std.proofs.Math.Seq.{take-append_seam, drop-append_seam}
-use Rattle.std.proofs.lemmas.Bool.{and_parts}
+use Rattle.std.proofs.lemmas.Bool.{and_parts, cases_lt}
 use Rattle.std.proofs.lemmas.Bool.Decides.{Decides-eqb}
-use Rattle.std.proofs.lemmas.List.{take-append-drop, length-map, length-take}
+use Rattle.std.proofs.lemmas.List.{drop_all, drop_more, take-append-drop, length-map, length-take}
+use Rattle.std.proofs.lemmas.List.Folds.{length-prefix_len}
+use Rattle.std.proofs.lemmas.List.Sums.{prefix_len_stops}
 use Rattle.sgb_vec.specs.Limits.{most_vertices}
 use Rattle.sgb_graph.specs.declared.fields.Kind.{Kind}
 use Rattle.sgb_graph.specs.declared.fields.Kind.TheVariants.{Z, I, V, S, A}
@@ -77,16 +79,13 @@ pub record IsLeading (text : List ℕ) (found : Found ℕ) : Type 0 where
   pub ends : BeginsWithNoDigit found.rest
 
 no_digit_left : (text : List ℕ) → BeginsWithNoDigit (drop (length (take (prefix_len is_decimal_digit text) text)) text)
-no_digit_left [] = tt
-no_digit_left (b ∷ text) = by_test (is_decimal_digit b) refl (no_digit_left text)
-  where
-    by_test : (t : Bool) → is_decimal_digit b ≡ t → BeginsWithNoDigit (drop (length (take (prefix_len is_decimal_digit text) text)) text)
-        → BeginsWithNoDigit (drop (length (take (cond t (1 + prefix_len is_decimal_digit text) 0) (b ∷ text))) (b ∷ text))
-    by_test true e h =
-        let place = prefix_len is_decimal_digit text in
-        let further : suc place ≡ 1 + place = omega arith in
-        subst (λ k. BeginsWithNoDigit (drop (length (take k (b ∷ text))) (b ∷ text))) further h
-    by_test false e h = e
+no_digit_left text =
+    let n : ℕ = prefix_len is_decimal_digit text in
+    let place = ap (λ (k : ℕ). drop k text) (length-prefix_len is_decimal_digit text) in
+    elim (cases_lt n (length text)) [
+      | inl within ↦ subst BeginsWithNoDigit (sym (place ∙ drop_more text n 0 within)) (prefix_len_stops is_decimal_digit text 0 within)
+      | inr past ↦ subst BeginsWithNoDigit (sym (place ∙ drop_all n text past)) tt
+    ]
 
 pub leading_found : (text : List ℕ) (found : Found ℕ) → leading_number text ≡ Some found → IsLeading text found
 leading_found text found e =

@@ -122,7 +122,7 @@ records_can_be_checked head text found good e =
 opened_can_be_checked : (lines : List (List ℕ)) (opening : Opening) (found : Found GraphData) → opening_of lines ≡ Some opening → graph_of_records opening ≡ Some found → CanBeChecked found.value
 opened_can_be_checked lines opening found opens says =
     let o = opening_found lines opening opens in
-    records_can_be_checked opening.head (text_of_lines opening.lines) found (first_is_good o.first opening.head o.first_says) says
+    records_can_be_checked opening.head (text_of_lines opening.lines) found (first_is_good o.1 opening.head o.3) says
 
 fit_is_checked : (g : GraphData) → CanBeChecked g → checked g ≡ (if is_sound g then Ok g else Err Syntax)
 fit_is_checked g h = rw h.vertices_fit (rw h.fields refl)

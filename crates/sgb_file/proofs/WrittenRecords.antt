@@ -62,44 +62,28 @@ is_comma true = inr refl
 is_comma false = inl refl
 
 -- what is written after a field: the other fields' texts, with breaks
-record IsTailWritten (line : List ℕ) (texts : List (List ℕ)) : Type 0 where
-  broken : List (List ℕ)
-  are : AreBroken texts broken
-  stands : IsTail broken (after_field line texts)
-
-tail_written : (line : List ℕ) (texts : List (List ℕ)) → IsTailWritten line texts
-tail_written line [] = record { broken = []; are = tt; stands = refl }
+tail_written : (line : List ℕ) (texts : List (List ℕ)) → (broken : List (List ℕ)) × AreBroken texts broken × IsTail broken (after_field line texts)
+tail_written line [] = ([], tt, refl)
 tail_written line (text ∷ texts) =
     let laid = lay_out line text texts in
     let more = tail_written laid.next texts in
-    let comma = 44 ∷ cond laid.gap (10 ∷ []) [] in
-    record {
-      broken = with_breaks laid.breaks 78 text ∷ more.broken;
-      are = ((laid.breaks, laid.few, refl), more.are);
-      stands = (comma, after_field laid.next texts, is_comma laid.gap, more.stands, ap (λ x. 44 ∷ x) laid.whole);
-    }
+    let comma = 44 ∷ cond laid.gap (10 ∷ []) [] in (
+      with_breaks laid.breaks 78 text ∷ more.0,
+      ((laid.breaks, laid.few, refl), more.1),
+      (comma, after_field laid.next texts, is_comma laid.gap, more.2, ap (λ x. 44 ∷ x) laid.whole),
+    )
 
 -- the lines of a record with these texts
-record IsWritten (text : List ℕ) (texts : List (List ℕ)) : Type 0 where
-  first : List ℕ
-  others : List (List ℕ)
-  first_is : IsBroken text first
-  others_are : AreBroken texts others
-  stands : IsRecord (first ∷ others) (text_of_lines (record_lines (text ∷ texts)))
-
-record_written : (text : List ℕ) (texts : List (List ℕ)) → IsWritten text texts
+record_written : (text : List ℕ) (texts : List (List ℕ)) → (broken : List (List ℕ)) × AreBroken (text ∷ texts) broken × IsRecord broken (text_of_lines (record_lines (text ∷ texts)))
 record_written text texts =
     let laid = lay_out [] text texts in
     let body = with_breaks laid.breaks 78 text in
     let more = tail_written laid.next texts in
-    let whole = laid_out_text [] (pieces_of (text ∷ texts)) ∙ laid.whole ∙ ap (λ gap. cond gap (10 ∷ []) [] ++ (body ++ after_field laid.next texts)) (laid.starts refl) in
-    record {
-      first = body;
-      others = more.broken;
-      first_is = (laid.breaks, laid.few, refl);
-      others_are = more.are;
-      stands = subst (IsRecord (body ∷ more.broken)) (sym whole) (record_from_tail body more.broken (after_field laid.next texts) more.stands);
-    }
+    let whole = laid_out_text [] (pieces_of (text ∷ texts)) ∙ laid.whole ∙ ap (λ gap. cond gap (10 ∷ []) [] ++ (body ++ after_field laid.next texts)) (laid.starts refl) in (
+      body ∷ more.0,
+      ((laid.breaks, laid.few, refl), more.1),
+      subst (IsRecord (body ∷ more.0)) (sym whole) (record_from_tail body more.0 (after_field laid.next texts) more.2),
+    )
 
 -- the texts of fields with breaks are texts of the fields
 next_written : (counts : Counts) (kind : Kind) (kinds : List Kind) (u : Util) (us : List Util) → IsField counts kind u
@@ -129,29 +113,28 @@ pub fields_stand : (counts : Counts) → AreSmall counts → (kinds : List Kind)
     → FieldsFit counts kinds us → IsRecordOf counts kinds us (text_of_lines (record_lines (text ∷ texts)))
 fields_stand counts small kinds us text texts e h =
     let w = record_written text texts in
-    let broken = w.first ∷ w.others in
-    (broken, fields_written counts small kinds us h.fits h.values broken (subst (λ ts. AreBroken ts broken) (sym e) (w.first_is, w.others_are)), w.stands)
+    (w.0, fields_written counts small kinds us h.fits h.values w.0 (subst (λ ts. AreBroken ts w.0) (sym e) w.1), w.2)
 
 pub graph_written : (g : GraphData) → IsReady g → IsGraphRecord (head_of g) g (text_of_lines (record_lines (graph_texts g)))
 graph_written g h =
     let w = record_written (quoted g.id) (decimal (length g.vertices) ∷ decimal g.m ∷ flat_map field_texts g.util) in
-    by_texts w.first w.others w.first_is w.others_are w.stands
+    by_texts w.0 w.1 w.2
   where
-    by_texts : (first : List ℕ) (others : List (List ℕ)) → IsBroken (quoted g.id) first → AreBroken (decimal (length g.vertices) ∷ decimal g.m ∷ flat_map field_texts g.util) others
-        → IsRecord (first ∷ others) (text_of_lines (record_lines (graph_texts g))) → IsGraphRecord (head_of g) g (text_of_lines (record_lines (graph_texts g)))
-    by_texts first [] is are stands = absurd are
-    by_texts first (n ∷ []) is are stands = absurd are.1
-    by_texts first (n ∷ m ∷ texts) is are stands = record {
+    by_texts : (broken : List (List ℕ)) → AreBroken (graph_texts g) broken → IsRecord broken (text_of_lines (record_lines (graph_texts g))) → IsGraphRecord (head_of g) g (text_of_lines (record_lines (graph_texts g)))
+    by_texts (first ∷ n ∷ m ∷ texts) are stands = record {
       id = first;
       n = n;
       m = m;
       fields = texts;
-      id_says = string_is_said most_id_bytes g.id h.id.short h.id.printable first is;
-      n_says = said_broken (number_of most_number_digits) (decimal (length g.vertices)) (length g.vertices) (number_is_said (length g.vertices) (omega (arith, h.vertices_few))) n are.0;
-      m_says = said_broken (number_of most_number_digits) (decimal g.m) g.m (number_is_said g.m h.arcs_few) m are.1.0;
-      fields_say = fields_written (head_of g).counts h.small (graph_kinds g.kinds) g.util h.own.fits h.own.values texts are.1.1;
+      id_says = string_is_said most_id_bytes g.id h.id.short h.id.printable first are.0;
+      n_says = said_broken (number_of most_number_digits) (decimal (length g.vertices)) (length g.vertices) (number_is_said (length g.vertices) (omega (arith, h.vertices_few))) n are.1.0;
+      m_says = said_broken (number_of most_number_digits) (decimal g.m) g.m (number_is_said g.m h.arcs_few) m are.1.1.0;
+      fields_say = fields_written (head_of g).counts h.small (graph_kinds g.kinds) g.util h.own.fits h.own.values texts are.1.1.1;
       is_record = stands;
     }
+    by_texts (first ∷ n ∷ []) are stands = absurd are.1.1
+    by_texts (first ∷ []) are stands = absurd are.1
+    by_texts [] are stands = absurd are
 
 -- records one after another
 pub all_written : {X : Type 0} (text_of : X → List ℕ) (IsOne : X → List ℕ → Type 0) (IsGood : X → Type 0) → ((x : X) → IsGood x → IsOne x (text_of x))
