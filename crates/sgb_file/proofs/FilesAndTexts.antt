@@ -199,9 +199,6 @@ front_is_of_lines (b ∷ front) = by_byte (b == 10) refl (front_is_of_lines fron
       whole = ap (λ x. b ∷ x) h.whole;
     }
 
-is_of_lines : (text : List ℕ) → EndsLine text → IsOfLines text
-is_of_lines text h = subst IsOfLines (sym h.whole) (front_is_of_lines h.front)
-
 -- lines whose text begins with the lines of records
 pub record IsCut (lines : List (List ℕ)) (whole rest : List ℕ) : Type 0 where
   pub records : List (List ℕ)
@@ -210,7 +207,7 @@ pub record IsCut (lines : List (List ℕ)) (whole rest : List ℕ) : Type 0 wher
 
 pub cut_lines : (lines : List (List ℕ)) (whole rest : List ℕ) → list_all is_one_line lines ≡ true → text_of_lines lines ≡ whole ++ rest → EndsLine whole → IsCut lines whole rest
 cut_lines lines whole rest one_lines parts ends =
-    let h = is_of_lines whole ends in
+    let h = subst IsOfLines (sym ends.whole) (front_is_of_lines ends.front) in
     let records = h.first ∷ h.others in
     record {
       records = records;

@@ -119,26 +119,16 @@ records_can_be_checked head text found good e =
     subst (λ (f : Found GraphData). CanBeChecked f.value) h.made (parts_can_be_checked h.value h.word (subst IsGoodHead h.says.counted good) h.says.are)
 
 -- so what is read of records passes the check where its lists are sound, and is refused for nothing else
-opened_can_be_checked : (lines : List (List ℕ)) (opening : Opening) (found : Found GraphData) → opening_of lines ≡ Some opening → graph_of_records opening ≡ Some found → CanBeChecked found.value
-opened_can_be_checked lines opening found opens says =
-    let o = opening_found lines opening opens in
-    records_can_be_checked opening.head (text_of_lines opening.lines) found (first_is_good o.1 opening.head o.3) says
-
-fit_is_checked : (g : GraphData) → CanBeChecked g → checked g ≡ (if is_sound g then Ok g else Err Syntax)
-fit_is_checked g h = rw h.vertices_fit (rw h.fields refl)
-
 pub read_is_checked : (lines : List (List ℕ)) (opening : Opening) (found : Found GraphData) → opening_of lines ≡ Some opening → graph_of_records opening ≡ Some found
     → checked found.value ≡ (if is_sound found.value then Ok found.value else Err Syntax)
-read_is_checked lines opening found opens says = fit_is_checked found.value (opened_can_be_checked lines opening found opens says)
+read_is_checked lines opening found opens says =
+    let o = opening_found lines opening opens in
+    let h = records_can_be_checked opening.head (text_of_lines opening.lines) found (first_is_good o.1 opening.head o.3) says in
+    rw h.vertices_fit (rw h.fields refl)
 
 -- a graph that is read can be saved
-sound_can_be_saved : (g : GraphData) → CanBeChecked g → is_sound g ≡ true → CanBeSaved g
-sound_can_be_saved g h sound = record {
-  graph = record { vertices_fit = h.vertices_fit; fields = h.fields; lists = sound };
-  writable = h.writable;
-}
-
 pub read_can_be_saved : (g : GraphData) (text : List ℕ) → graph_of_text text ≡ Ok g → CanBeSaved g
 read_can_be_saved g text e =
     let f = file_from_read g text e in
-    sound_can_be_saved g (parts_can_be_checked g (text_of_lines f.records) (first_is_good f.first (head_of g) f.first_says) f.records_say) f.sound
+    let h = parts_can_be_checked g (text_of_lines f.records) (first_is_good f.first (head_of g) f.first_says) f.records_say in
+    record { graph = record { vertices_fit = h.vertices_fit; fields = h.fields; lists = f.sound }; writable = h.writable }

@@ -73,9 +73,6 @@ arcs_read head parts k text e =
     all_read (arc_record_at head) (with_records parts) k text e ∙ ap (λ rs. Some (record { value = record parts { records = rs }; rest = text })) (append-nil parts.records)
 
 -- the line that follows is this title, or another one
-pub same_title : (title more : List ℕ) → after_prefix (title ++ 10 ∷ []) (title ++ 10 ∷ more) ≡ Some more
-same_title title more = ap (after_prefix (title ++ 10 ∷ [])) (sym (append_assoc title (10 ∷ []) more)) ∙ prefix_read (title ++ 10 ∷ []) more
-
 titled : (title line more : List ℕ) → has_no_newline title ≡ true → has_no_newline line ≡ true → starts_with (λ b c. b == c) (line ++ 10 ∷ more) (title ++ 10 ∷ []) ≡ true → title ≡ line
 titled [] [] more h l e = refl
 titled [] (b ∷ line) more h l e =
@@ -101,7 +98,8 @@ other_title title line more h l other =
 
 -- a title that was passed, and one that was not
 pub title_passed : (title line : List ℕ) (s t : LinesLeft) → s.line ≡ Some line → line ≡ title → text_left t ≡ text_of_lines s.others → after_prefix (title ++ 10 ∷ []) (text_left s) ≡ Some (text_left t)
-title_passed title line s t e same left = rw (e, same, left) (same_title title (text_of_lines s.others))
+title_passed title line s t e same left =
+    rw (e, same, left) (ap (after_prefix (title ++ 10 ∷ [])) (sym (append_assoc title (10 ∷ []) (text_of_lines s.others))) ∙ prefix_read (title ++ 10 ∷ []) (text_of_lines s.others))
 
 pub title_missed : (title line : List ℕ) (s : LinesLeft) → s.line ≡ Some line → has_no_newline title ≡ true → has_no_newline line ≡ true → (line ≡ title → ⊥) → after_prefix (title ++ 10 ∷ []) (text_left s) ≡ None
 title_missed title line s e h l other = rw e (other_title title line (text_of_lines s.others) h l other)
