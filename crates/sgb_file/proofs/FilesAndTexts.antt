@@ -1,5 +1,5 @@
 -- Files and their texts: their openings, their records and their closing lines are read exactly where they stand.
-use Rattle.std.specs.Prelude.{◌≡◌, ◌⊎◌, ℕ, zero, suc, ℤ, pos, neg_ℤ, ◌-◌, ◌<◌, ◌≤◌, Bool, true, false, not, ◌&&◌, List, [], ◌∷◌, ◌++◌, length, take, drop, codes, Option, Some, None, All, slice_index, nat_le, ◌==◌, if◌then◌else◌, refl}
+use Rattle.std.specs.Prelude.{◌≡◌, ◌⊎◌, ℕ, zero, suc, ℤ, pos, neg_ℤ, ◌-◌, ◌<◌, Bool, true, false, not, ◌&&◌, List, [], ◌∷◌, ◌++◌, length, take, drop, codes, Option, Some, None, All, slice_index, ◌==◌, if◌then◌else◌, refl}
 use Rattle.std.specs.List.{list_all}
 use Rattle.std.specs.Option.{option_map_or}
 use Rattle.std.proofs.Common.{ap, sym, subst, ◌∙◌, append_assoc, arith, length-append, inl, inr}
@@ -20,7 +20,7 @@ use Rattle.sgb_file.specs.Files.{IsFirstLine, IsComment, IsChecksumLine, IsRecor
 use Rattle.sgb_file.specs.Refused.{Opens, AreRecordLines, IsClosed}
 use Rattle.sgb_file.proofs.LineLemmas.{is_one_line, is_within_line, lines_again, lines_read, clean_are_one_line}
 use Rattle.sgb_file.proofs.FoundParts.{prefix_is, was_given, was_mapped, was_chosen, was_either}
-use Rattle.sgb_file.proofs.NumberReading.{number_says}
+use Rattle.sgb_file.proofs.NumberReading.{at_most_passes, number_says}
 use Rattle.sgb_file.proofs.FirstLines.{IsLeading, leading_found, leading_says, first_line_found, kinds_read}
 use Rattle.sgb_file.proofs.RecordsAndTexts.{reads_records}
 
@@ -29,15 +29,12 @@ first_line_read : (head : Head) (line : List ℕ) → IsFirstLine head line → 
 first_line_read head line h =
     let third = codes "V," ++ (h.m ++ (codes "A)" ++ h.anything)) in
     let second = codes "," ++ (h.n ++ third) in
-    let few : nat_le head.counts.vertices most_vertices ≡ true = passes head.counts.vertices h.few in
+    let few = at_most_passes head.counts.vertices most_vertices h.few in
     ap head_of_line h.form
     ∙ rw (kinds_read head.kinds second h.fourteen)
     (rw (leading_says h.n third head.counts.vertices h.n_says refl)
     (rw (leading_says h.m (codes "A)" ++ h.anything) head.counts.arcs h.m_says refl)
     (rw few refl)))
-  where
-    passes : (k : ℕ) → k ≤ most_vertices → nat_le k most_vertices ≡ true
-    passes k h = grind (arith, nat_tests)
 
 -- comments and a first line open a file
 comment_is_passed : (line : List ℕ) → IsComment line → head_of_line line ≡ None

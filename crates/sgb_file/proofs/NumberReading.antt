@@ -54,6 +54,9 @@ value_below text most h short =
 pub at_most : (n k : ℕ) → nat_le n k ≡ true → n ≤ k
 at_most n k h = grind (arith, nat_tests)
 
+pub at_most_passes : (n k : ℕ) → n ≤ k → nat_le n k ≡ true
+at_most_passes n k h = grind (arith, nat_tests)
+
 pub test_below : (n limit : ℕ) → nat_lt n limit ≡ true → n < limit
 test_below n limit e = grind (arith, nat_tests)
 

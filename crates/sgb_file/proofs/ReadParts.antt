@@ -1,9 +1,8 @@
 -- What is read of a file's records: fields that fit their kinds, texts and numbers within their limits.
 use Rattle.std.specs.Prelude.{◌≡◌, ℕ, ◌<◌, ◌≤◌, true, ◌&&◌, List, [], ◌∷◌, length, get_or, Some, Ok, Err, All, nat_le, if◌then◌else◌, refl}
 use Rattle.std.specs.List.{list_all}
-use Rattle.std.proofs.Common.{sym, subst, ◌∙◌, arith}
+use Rattle.std.proofs.Common.{sym, subst, ◌∙◌}
 use Rattle.std.proofs.lemmas.Bool.{and_parts, and_from}
-use Rattle.std.proofs.lemmas.Bool.Decides.{nat_tests}
 use Rattle.std.proofs.lemmas.List.Elements.{All-cons, All-nil}
 use Rattle.std.proofs.lemmas.List.Sums.{AllPass-from_list_all, list_all-from_AllPass}
 use Rattle.sgb_vec.specs.Limits.{most_vertices, most_bytes}
@@ -24,7 +23,7 @@ use Rattle.sgb_file.specs.Restoring.{Opening, head_of_line, opening_of, graph_of
 use Rattle.sgb_file.specs.Saved.{number_limit, ValueCanBeSaved, CanBeChecked, CanBeSaved}
 use Rattle.sgb_file.specs.Files.{IsFieldText, AreFieldTexts, IsFirstLine, IsVertexRecord, IsArcRecord, AreRecords, AreRecordsOf, head_of}
 use Rattle.sgb_file.proofs.FoundParts.{was_let_through}
-use Rattle.sgb_file.proofs.NumberReading.{at_most, number_is_small}
+use Rattle.sgb_file.proofs.NumberReading.{at_most, at_most_passes, number_is_small}
 use Rattle.sgb_file.proofs.FirstLines.{first_line_found}
 use Rattle.sgb_file.proofs.FilesAndTexts.{opening_found}
 use Rattle.sgb_file.proofs.FieldsAndTexts.{integer_says, record_number_says, ref_says}
@@ -97,7 +96,7 @@ parts_can_be_checked g whole good h =
     let nodes_fit = list_all-from_AllPass (vertex_fits g) g.vertices (λ k d below. (vertices k d below).fits) in
     let arcs_fit = list_all-from_AllPass (record_fits g) g.records (λ k d below. arc_tests g (get_or g.records k d) ∙ (arcs k d below).fits) in
     record {
-      vertices_fit = few (length g.vertices) good.vertices;
+      vertices_fit = at_most_passes (length g.vertices) most_vertices good.vertices;
       fields = and_from (utils && list_all (vertex_fits g) g.vertices) (list_all (record_fits g) g.records) (and_from utils (list_all (vertex_fits g) g.vertices) own.fits nodes_fit) arcs_fit;
       writable = record {
         kinds = good.kinds;
@@ -109,9 +108,6 @@ parts_can_be_checked g whole good h =
         records = λ k d below. arc_saved g (get_or g.records k d) (arcs k d below);
       };
     }
-  where
-    few : (n : ℕ) → n ≤ most_vertices → nat_le n most_vertices ≡ true
-    few n h = grind (arith, nat_tests)
 
 pub records_can_be_checked : (head : Head) (text : List ℕ) (found : Found GraphData) → IsGoodHead head → records_at head text ≡ Some found → CanBeChecked found.value
 records_can_be_checked head text found good e =

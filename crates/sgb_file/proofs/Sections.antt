@@ -92,17 +92,14 @@ none_else : (t : Bool) (rest : List ℕ) → (t ≡ true → ⊥) → cond t (So
 none_else true rest h = absurd (h refl)
 none_else false rest h = refl
 
-pub other_title : (title line more : List ℕ) → has_no_newline title ≡ true → has_no_newline line ≡ true → (line ≡ title → ⊥) → after_prefix (title ++ 10 ∷ []) (line ++ 10 ∷ more) ≡ None
-other_title title line more h l other =
-    none_else (starts_with (λ b c. b == c) (line ++ 10 ∷ more) (title ++ 10 ∷ [])) _ (λ e. other (sym (titled title line more h l e)))
-
 -- a title that was passed, and one that was not
 pub title_passed : (title line : List ℕ) (s t : LinesLeft) → s.line ≡ Some line → line ≡ title → text_left t ≡ text_of_lines s.others → after_prefix (title ++ 10 ∷ []) (text_left s) ≡ Some (text_left t)
 title_passed title line s t e same left =
     rw (e, same, left) (ap (after_prefix (title ++ 10 ∷ [])) (sym (append_assoc title (10 ∷ []) (text_of_lines s.others))) ∙ prefix_read (title ++ 10 ∷ []) (text_of_lines s.others))
 
 pub title_missed : (title line : List ℕ) (s : LinesLeft) → s.line ≡ Some line → has_no_newline title ≡ true → has_no_newline line ≡ true → (line ≡ title → ⊥) → after_prefix (title ++ 10 ∷ []) (text_left s) ≡ None
-title_missed title line s e h l other = rw e (other_title title line (text_of_lines s.others) h l other)
+title_missed title line s e h l other =
+    rw e (none_else (starts_with (λ b c. b == c) (line ++ 10 ∷ text_of_lines s.others) (title ++ 10 ∷ [])) _ (λ same. other (sym (titled title line (text_of_lines s.others) h l same))))
 
 -- what the records of a file say, section by section
 abbrev arcs_after : Head → GraphData → Found (List Vertex) → Option (Found GraphData)

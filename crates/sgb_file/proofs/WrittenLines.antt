@@ -21,17 +21,16 @@ use Rattle.sgb_file.specs.Saved.{ValueCanBeSaved}
 use Rattle.sgb_file.proofs.LineLemmas.{is_line, is_one_line, is_within_line, ends_well, list_all-join}
 use Rattle.sgb_file.proofs.LaidOutText.{record_are_lines}
 use Rattle.sgb_file.proofs.FieldReading.{decimal_is_line, quoted_is_line}
-use Rattle.sgb_file.proofs.WrittenRecords.{IsField, field_of}
+use Rattle.sgb_file.proofs.WrittenRecords.{field_of}
 use Rattle.sgb_file.proofs.SavedGraphs.{AreSmall, FieldsFit, IsReady, VertexFits, ArcFits, fields_of_vertex, fields_of_arc}
 
 -- the texts of a field are lines
-field_is_line : (counts : Counts) (kind : Kind) (u : Util) → IsField counts kind u → list_all is_line (field_texts u) ≡ true
-field_is_line counts kind u field = ap (list_all is_line) field.texts ∙ and_from (is_line field.text) true field.line refl
-
 value_is_line : (counts : Counts) → AreSmall counts → (kind : Kind) (u : Util) → util_fits counts.vertices counts.arcs kind u ≡ true → ValueCanBeSaved u → list_all is_line (field_texts u) ≡ true
 value_is_line counts small Z Nothing fits h = refl
 value_is_line counts small Z _ fits h = absurd cc
-value_is_line counts small kind u fits h = field_is_line counts kind u (field_of counts small kind u (λ z. absurd cc) fits h)
+value_is_line counts small kind u fits h =
+    let field = field_of counts small kind u (λ z. absurd cc) fits h in
+    ap (list_all is_line) field.texts ∙ and_from (is_line field.text) true field.line refl
 
 fields_are_lines : (counts : Counts) → AreSmall counts → (kinds : List Kind) (utils : List Util) → utils_fit counts.vertices counts.arcs kinds utils ≡ true → All ValueCanBeSaved utils → list_all is_line (flat_map field_texts utils) ≡ true
 fields_are_lines counts small [] [] fits h = refl

@@ -38,8 +38,7 @@ loop-place-preserved c =
     let digit = c.digit_of-digit.ensures.value n.here in (
       n.digits,
       omega (arith, digit, n.more, c.loop-place.invariant.1),
-      digit_valued c.args.value c.loop-place.after c.value_with-after.result c.args.text.now c.loop-place.place c.digit_of-digit.result
-          c.loop-place-test.true (omega (arith, c.if-digit-gt9.false)) digit c.loop-place.invariant.2 c.value_with-after.ensures,
+      digit_valued _ _ _ _ _ c.digit_of-digit.result c.loop-place-test.true (omega (arith, c.if-digit-gt9.false)) digit c.loop-place.invariant.2 c.value_with-after.ensures,
     )
 
 pub returns : goal.returns
