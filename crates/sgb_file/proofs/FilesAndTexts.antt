@@ -258,15 +258,10 @@ records_read head g records following lines h =
     ∙ (reads_records head).again g (text_of_lines records) (text_of_lines following) (record { counted = h.counted; are = h.say }) tt
 
 -- the lines of the records that were found
-pub record LinesFound (head : Head) (lines : List (List ℕ)) (found : Found GraphData) : Type 0 where
-  pub records : List (List ℕ)
-  pub are : AreRecordLines head found.value records (lines_of_text found.rest) lines
-
-pub lines_found : (head : Head) (lines : List (List ℕ)) (found : Found GraphData) → list_all is_one_line lines ≡ true → records_at head (text_of_lines lines) ≡ Some found → LinesFound head lines found
+pub lines_found : (head : Head) (lines : List (List ℕ)) (found : Found GraphData) → list_all is_one_line lines ≡ true → records_at head (text_of_lines lines) ≡ Some found
+    → (records : List (List ℕ)) × AreRecordLines head found.value records (lines_of_text found.rest) lines
 lines_found head lines found one_lines e =
     let r = (reads_records head).finds (text_of_lines lines) found e in
     let cut = cut_lines lines r.word r.rest one_lines r.parts (all_records_end r.value r.word r.says.are) in
-    subst (λ (x : Found GraphData). LinesFound head lines x) r.made (record {
-      records = cut.records;
-      are = record { counted = r.says.counted; say = subst (λ x. AreRecordsOf r.value x) (sym cut.text_is) r.says.are; parts = cut.parts };
-    })
+    subst (λ (x : Found GraphData). (records : List (List ℕ)) × AreRecordLines head x.value records (lines_of_text x.rest) lines) r.made
+    (cut.records, record { counted = r.says.counted; say = subst (λ x. AreRecordsOf r.value x) (sym cut.text_is) r.says.are; parts = cut.parts })

@@ -54,11 +54,7 @@ all_letters (c ∷ letters) h = by_kind (kind_of_letter c) refl h (all_letters l
     by_kind (Some k) e h others = ap (λ d. d ∷ letters) (letter_is c k e) ∙ ap (λ ls. letter_of k ∷ ls) (others (omega (arith, h)))
 
 -- fourteen kinds are those of the letters
-record IsKinds (text : List ℕ) (found : Found (List Kind)) : Type 0 where
-  fourteen : length found.value ≡ 14
-  parts : text ≡ map letter_of found.value ++ found.rest
-
-kinds_found : (text : List ℕ) (found : Found (List Kind)) → kinds_at text ≡ Some found → IsKinds text found
+kinds_found : (text : List ℕ) (found : Found (List Kind)) → kinds_at text ≡ Some found → (length found.value ≡ 14) × (text ≡ map letter_of found.value ++ found.rest)
 kinds_found text found e =
     let letters = take 14 text in
     let kinds = filter_map kind_of_letter letters in
@@ -66,10 +62,8 @@ kinds_found text found e =
     let fourteen : length kinds ≡ 14 = (Decides-eqb (length kinds) 14).0 t.0 in
     let short : length letters ≤ 14 = omega (arith, length-take 14 text) in
     let all : letters ≡ map letter_of kinds = all_letters letters (omega (arith, fourteen, short)) in
-    subst (λ (f : Found (List Kind)). IsKinds text f) t.1 (record {
-      fourteen = fourteen;
-      parts = sym (take-append-drop 14 text) ∙ ap (λ x. x ++ drop 14 text) all;
-    })
+    subst (λ (f : Found (List Kind)). (length f.value ≡ 14) × (text ≡ map letter_of f.value ++ f.rest)) t.1
+    (fourteen, sym (take-append-drop 14 text) ∙ ap (λ x. x ++ drop 14 text) all)
 
 -- the digits that a text begins with, and what follows them
 pub record IsLeading (text : List ℕ) (found : Found ℕ) : Type 0 where
@@ -120,8 +114,8 @@ first_line_found line head e =
       m = m_is.digits;
       anything = anything.first;
       form = prefix_is (codes "* GraphBase graph (util_types ") line letters.first letters.here
-          ∙ ap (λ x. codes "* GraphBase graph (util_types " ++ x) (k.parts ∙ ap (λ x. map letter_of kinds.first.value ++ x) (prefix_is (codes ",") kinds.first.rest second.first second.here ∙ after_letters));
-      fourteen = k.fourteen;
+          ∙ ap (λ x. codes "* GraphBase graph (util_types " ++ x) (k.1 ∙ ap (λ x. map letter_of kinds.first.value ++ x) (prefix_is (codes ",") kinds.first.rest second.first second.here ∙ after_letters));
+      fourteen = k.0;
       n_says = n_is.says;
       m_says = m_is.says;
       few = at_most n.first.value most_vertices through.0;

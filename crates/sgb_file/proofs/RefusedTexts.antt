@@ -47,7 +47,7 @@ no_records_of text h = ap graph_of_opening (opens_read text h.head h.lines h.ope
     by_records None e = refl
     by_records (Some found) e =
         let f = lines_found h.head h.lines found (after_opening text h.head h.lines h.opens) e in
-        absurd (h.none found.value f.records (lines_of_text found.rest) f.are)
+        absurd (h.none found.value f.0 (lines_of_text found.rest) f.1)
 
 pub late_of : (text : List ℕ) → HasNoClosing text → graph_of_text text ≡ Err Late
 late_of text h = graph_with_records text h.g h.records h.following h.has ∙ by_end (line_closes h.records h.following) refl
@@ -107,9 +107,9 @@ kind_of text = by_opening (opening_of (clean_lines text)) refl
     by_records o opens (Some found) e =
         let f = lines_found o.head o.lines found (after_opening text o.head o.lines opens) e in
         let following = lines_of_text found.rest in
-        let has : HasRecords text found.value f.records following = record { head = o.head; lines = o.lines; opens = opens; are = f.are } in
-        subst (IsOfCode text) (sym (graph_with_records text found.value f.records following has))
-        (by_end found.value f.records following has (line_closes f.records following) (is_sound found.value) refl refl)
+        let has : HasRecords text found.value f.0 following = record { head = o.head; lines = o.lines; opens = opens; are = f.1 } in
+        subst (IsOfCode text) (sym (graph_with_records text found.value f.0 following has))
+        (by_end found.value f.0 following has (line_closes f.0 following) (is_sound found.value) refl refl)
 
     by_opening : (o : Option Opening) → opening_of (clean_lines text) ≡ o → IsOfCode text (graph_of_text text)
     by_opening None e = subst (IsOfCode text) (sym (ap graph_of_opening e)) (λ head lines opens. let is = opens_read text head lines opens in absurd cc)
