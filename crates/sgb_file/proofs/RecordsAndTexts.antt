@@ -174,14 +174,10 @@ reads_graph head =
     (reads_more head.counts (graph_kinds head.kinds)))))))
 
 -- it has as many vertices as are counted, and the graph has none of them yet
-pub record IsBare (head : Head) (n : ℕ) (id : List ℕ) (m : ℕ) (util : List Util) (g : GraphData) : Type 0 where
-  pub count : n ≡ head.counts.vertices
-  pub same : graph_data id m head.kinds util [] [] ≡ g
-
-pub is_bare : (head : Head) (n : ℕ) (id : List ℕ) (m : ℕ) (util : List Util) (g : GraphData) → graph_of_parts head id n m util ≡ Some g → IsBare head n id m util g
+pub is_bare : (head : Head) (n : ℕ) (id : List ℕ) (m : ℕ) (util : List Util) (g : GraphData) → graph_of_parts head id n m util ≡ Some g → (n ≡ head.counts.vertices) × (graph_data id m head.kinds util [] [] ≡ g)
 is_bare head n id m util g e =
     let t = was_let_through (n == head.counts.vertices) (graph_data id m head.kinds util [] []) g e in
-    record { count = (Decides-eqb n head.counts.vertices).0 t.0; same = t.1 }
+    ((Decides-eqb n head.counts.vertices).0 t.0, t.1)
 
 graph_from : (head : Head) (bare g : GraphData) (whole : List ℕ) → OwnWord head bare whole → length g.vertices ≡ head.counts.vertices
     → g ≡ record bare { vertices = g.vertices; records = g.records } → IsGraphRecord head g whole
@@ -191,13 +187,13 @@ graph_from head bare g whole h count same =
     let m = d.4 in
     let p = m.4 in
     let t = is_bare head n.0 h.0 m.0 p.0 bare p.2 in
-    subst (λ (x : GraphData). IsGraphRecord head x whole) (ap (λ (x : GraphData). record x { vertices = g.vertices; records = g.records }) t.same ∙ sym same) (record {
+    subst (λ (x : GraphData). IsGraphRecord head x whole) (ap (λ (x : GraphData). record x { vertices = g.vertices; records = g.records }) t.1 ∙ sym same) (record {
       id = h.1;
       n = n.1;
       m = m.1;
       fields = p.1.0;
       id_says = h.3;
-      n_says = n.3 ∙ ap (λ k. Some k) (t.count ∙ sym count);
+      n_says = n.3 ∙ ap (λ k. Some k) (t.0 ∙ sym count);
       m_says = m.3;
       fields_say = p.1.1;
       is_record = subst (IsRecord (h.1 ∷ n.1 ∷ m.1 ∷ p.1.0)) (sym h.5) (record_from_tail h.1 (n.1 ∷ m.1 ∷ p.1.0) h.2
@@ -241,7 +237,7 @@ records_from head g whole h =
     let third = v.4 in
     let a = third.4 in
     let full = record h.0 { vertices = v.0; records = a.0 } in
-    let kinds = ap (λ (x : GraphData). x.kinds) (is_bare head h.3.4.4.0 h.3.0 h.3.4.4.4.4.0 h.3.4.4.4.4.4.0 h.0 h.3.4.4.4.4.4.2).same in
+    let kinds = ap (λ (x : GraphData). x.kinds) (is_bare head h.3.4.4.0 h.3.0 h.3.4.4.4.4.0 h.3.4.4.4.4.4.0 h.0 h.3.4.4.4.4.4.2).1 in
     let counted = head_again head full (sym kinds) v.3.0 a.1.0 in
     let are = λ (x : Head). AreRecords (IsVertexRecord x) v.0 v.1 × AreRecords (IsArcRecord x) a.0 third.2 × IsGraphRecord x full h.1 in
     let all = subst are counted (v.3.1, a.1.1, graph_from head h.0 full h.1 h.3 v.3.0 refl) in

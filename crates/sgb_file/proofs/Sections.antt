@@ -121,7 +121,7 @@ records_sections head parts more t0 t1 t2 t3 g a v =
     let own = (reads_graph head).finds t0 (record { value = parts; rest = t1 }) g in
     let m = own.says.4.4.4.4 in
     let bare = is_bare head own.says.4.4.0 own.says.0 m.0 m.4.0 own.value m.4.2 in
-    let start = bare.same ∙ ap (λ (f : Found GraphData). f.value) own.made in
+    let start = bare.1 ∙ ap (λ (f : Found GraphData). f.value) own.made in
     let p = was_mapped (all_at (vertex_record_at head) head.counts.vertices t2) {f = λ x. record { value = record parts { vertices = parts.vertices ++ x.value }; rest = x.rest }} v in
     let vs = p.first.value in
     ap (λ o. given o (titles_after head)) g
