@@ -28,7 +28,7 @@ shifted f a zero = refl
 shifted f a (suc n) = ap (λ xs. f (a + 1) ∷ xs) (shifted f (a + 1) n)
 
 -- a piece that is long is broken once, and what is left of it as often as it needs
-breaks-long : (piece : List ℕ) → 79 < length piece → breaks_of piece ≡ suc (breaks_of (drop 78 piece))
+pub breaks-long : (piece : List ℕ) → 79 < length piece → breaks_of piece ≡ suc (breaks_of (drop 78 piece))
 breaks-long piece h = rw length-drop (omega arith)
 
 next_line : (piece : List ℕ) (k : ℕ) → broken_line piece (k + 1) ≡ broken_line (drop 78 piece) k

@@ -1,7 +1,6 @@
 -- Fields of a line with the value of a checksum after them.
-use Rattle.std.specs.Prelude.{◌≡◌, ℕ, ℤ, Bool, not, ◌&&◌, neg_ℤ, pos, nat_lt, nat_le, ◌+◌, ◌*◌, ◌%◌, ◌^◌, ◌<◌, ◌≤◌, true, false, List, [], ◌∷◌, ◌++◌, length, take, drop, fold, Option, Some, None, ◌==◌, refl, slice_index_or as get_or}
-use Rattle.std.specs.List.{list_all, position_or_len}
-use Rattle.std.specs.Str.Parse.{digits_value}
+use Rattle.std.specs.Prelude.{◌≡◌, ℕ, ℤ, Bool, not, neg_ℤ, pos, nat_le, ◌+◌, ◌*◌, ◌%◌, ◌^◌, ◌<◌, ◌≤◌, true, false, List, [], ◌∷◌, ◌++◌, length, take, drop, fold, Option, Some, None, ◌==◌, refl, slice_index_or as get_or}
+use Rattle.std.specs.List.{position_or_len}
 use Rattle.std.proofs.Common.{ap, sym, ◌∙◌, arith, append_assoc, length-append}
 use Rattle.std.proofs.lemmas.List.{length-take, take_all, take-append-drop}
 use Rattle.std.proofs.lemmas.List.Sums.{fold-append, prefix_len-le-length}
@@ -9,13 +8,13 @@ use Rattle.std.proofs.lemmas.Bool.Decides.{nat_tests}
 use Rattle.sgb_graph.specs.declared.fields.Ref.{Ref}
 use Rattle.sgb_graph.specs.declared.fields.Ref.TheVariants.{At}
 use Rattle.sgb_file.specs.Checksum.{checksum_prime, has_star}
-use Rattle.sgb_file.specs.Fields.{integer_of, is_decimal_digit, most_integer_digits, most_number_digits, number_below, number_of, record_number_of, ref_of}
+use Rattle.sgb_file.specs.Fields.{integer_of, most_integer_digits, most_number_digits, number_below, number_of, record_number_of, ref_of}
 use Rattle.sgb_file.specs.inner.Found.{is_at_end}
 use Rattle.sgb_file.specs.inner.Layouts.{checksum_from, counted_bytes, value_after, value_from}
 use Rattle.sgb_file.specs.inner.LineRecords.{IsCountedField}
 use Rattle.sgb_file.proofs.ChecksumLemmas.{byte_valued, digit_place, few_counted}
-use Rattle.sgb_file.proofs.FoundParts.{was_let_through}
 use Rattle.sgb_file.proofs.LaidLines.{checksum-counted, checksum_from-append}
+use Rattle.sgb_file.proofs.NumberReading.{number_says, number_tested}
 use Rattle.sgb_file.proofs.PlainFields.{comma_free, ends_with_digits, one_more, record_number_found, ref_found}
 
 -- a digit more
@@ -58,20 +57,8 @@ record_number_counted m k value begun len after line digits e b f =
 -- a number of few digits has not too many for an integer
 wide_number : (text : List ℕ) (n : ℕ) → number_of most_number_digits text ≡ Some n → number_of most_integer_digits text ≡ Some n
 wide_number text n e =
-    let t = nat_lt 0 (length text) in
-    let u = nat_le (length text) 18 in
-    let v = list_all is_decimal_digit text in
-    let p = was_let_through (t && u && v) (digits_value 10 text) n e in
-    let first : (t ≡ true) × (u ≡ true) × (v ≡ true) = all_three t u v p.0 in
-    let short = first.1 in
-    let most : nat_le (length text) 20 ≡ true = grind (arith, nat_tests) in
-    rw (first.0, most, first.2) (ap (λ (k : ℕ). Some k) p.1)
-  where
-    all_three : (t u v : Bool) → (t && u && v) ≡ true → (t ≡ true) × (u ≡ true) × (v ≡ true)
-    all_three true true true e = (refl, refl, refl)
-    all_three true true false e = absurd cc
-    all_three true false v e = absurd cc
-    all_three false u v e = absurd cc
+    let h = number_says most_number_digits text n e in
+    number_tested most_integer_digits text h.some (omega (arith, h.short)) h.digits ∙ ap (λ (k : ℕ). Some k) h.value
 
 -- an integer with a `-`
 pub minus_counted : (n value begun len after : ℕ) (x : ℤ) (text digits : List ℕ) → text ≡ 45 ∷ digits → begun ≡ value_after value 45
@@ -133,7 +120,7 @@ star_no_ref n (b ∷ line) tip h said =
     ap (λ (c : ℕ). ref_of n (comma_free (c ∷ line))) is ∙ ap (ref_of n) (one_more 42 line refl) in
     cc
 
-no_star : (n : ℕ) (line : List ℕ) (tip : Ref) → ref_of n (comma_free line) ≡ Some tip → has_star line ≡ false
+pub no_star : (n : ℕ) (line : List ℕ) (tip : Ref) → ref_of n (comma_free line) ≡ Some tip → has_star line ≡ false
 no_star n line tip said = by_test (has_star line) refl
   where
     by_test : (t : Bool) → has_star line ≡ t → t ≡ false
@@ -141,25 +128,14 @@ no_star n line tip said = by_test (has_star line) refl
     by_test true h = absurd (star_no_ref n line tip h said)
 
 -- the checksum after the newline of a short line, by the value after the line
-pub short_counted : (sum start value result : ℕ) (line : List ℕ) → start ≡ sum → sum < 2 ^ 32 → length line ≤ 30 → has_star line ≡ false
-    → value_from start (line ++ 10 ∷ []) ≡ value → result ≡ value % checksum_prime
-    → result ≡ checksum_from sum (counted_bytes (line ∷ []))
-short_counted sum start value result line from small few plain counted e =
+pub line_counted : (sum start value result : ℕ) (line : List ℕ) → start ≡ sum → sum < 2 ^ 32 → length line ≤ 30
+    → value_from start (line ++ 10 ∷ []) ≡ value → result ≡ value % checksum_prime → result ≡ checksum_from sum (line ++ 10 ∷ [])
+line_counted sum start value result line from small few counted e =
     let n = length-append line (10 ∷ []) in
-    let value_is : result ≡ value_from sum (line ++ 10 ∷ []) % checksum_prime =
-    e ∙ ap (λ (v : ℕ). v % checksum_prime) (sym counted ∙ ap (λ (s : ℕ). value_from s (line ++ 10 ∷ [])) from) in
-    few_counted sum result (line ++ 10 ∷ []) small (omega (arith, n)) (omega (arith, n, few)) value_is
-    ∙ (checksum_from-append sum line (10 ∷ []) ∙ checksum-counted sum line plain)
+    few_counted sum result (line ++ 10 ∷ []) small (omega (arith, n)) (omega (arith, n, few))
+    (e ∙ ap (λ (v : ℕ). v % checksum_prime) (sym counted ∙ ap (λ (s : ℕ). value_from s (line ++ 10 ∷ [])) from))
 
--- the checksum after the line of an arc record, of its fields one after another
-pub arc_counted : (n m : ℕ) (line second third : List ℕ) (tip : Ref) (next : Option ℕ) (len : ℤ)
-    (sum start i j k after_tip begun after_next last after_len result : ℕ)
-    → IsCountedField (ref_of n) line start tip i after_tip → drop i line ≡ 44 ∷ second → begun ≡ value_after after_tip 44
-    → IsCountedField (record_number_of m) second begun next j after_next → drop j second ≡ 44 ∷ third → last ≡ value_after after_next 44
-    → IsCountedField integer_of third last len k after_len → length third ≤ k → result ≡ value_after after_len 10 % checksum_prime
-    → start ≡ sum → sum < 2 ^ 32 → length line ≤ 30 → result ≡ checksum_from sum (counted_bytes (line ∷ []))
-arc_counted n m line second third tip next len sum start i j k after_tip begun after_next last after_len result a ae b c ce d e end r from small few =
-    let value = field_valued Ref (ref_of n) tip line second (10 ∷ []) start i after_tip begun a ae b
-    ∙ (field_valued (Option ℕ) (record_number_of m) next second third (10 ∷ []) begun j after_next last c ce d
-    ∙ last_valued ℤ integer_of len third last k after_len e end) in
-    short_counted sum start (value_after after_len 10) result line from small few (no_star n line tip a.said) value r
+pub short_counted : (sum start value result : ℕ) (line : List ℕ) → start ≡ sum → sum < 2 ^ 32 → length line ≤ 30 → has_star line ≡ false
+    → value_from start (line ++ 10 ∷ []) ≡ value → result ≡ value % checksum_prime → result ≡ checksum_from sum (counted_bytes (line ∷ []))
+short_counted sum start value result line from small few plain counted e =
+    line_counted sum start value result line from small few counted e ∙ (checksum_from-append sum line (10 ∷ []) ∙ checksum-counted sum line plain)

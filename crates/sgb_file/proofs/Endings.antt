@@ -1,6 +1,6 @@
 -- Lemmas on the opening and the end of a file, in the words of the code.
 use Rattle.std.specs.Prelude.{if◌then◌else◌}
-use Rattle.std.proofs.Common.{◌≡◌, ◌<◌, ◌≤◌, ◌∙◌, ℕ, Bool, true, false, List, [], ◌∷◌, Option, Some, None, length, take, drop, set, slice_index, ◌+◌, zero, suc, filter_map, refl, sym, ap, arith, ◌==◌, ◌++◌, Result, Ok, Err, subst}
+use Rattle.std.proofs.Common.{◌≡◌, ◌<◌, ◌∙◌, ℕ, Bool, true, false, List, [], ◌∷◌, Some, None, length, take, drop, set, slice_index, ◌+◌, zero, suc, filter_map, refl, sym, ap, arith, ◌==◌, ◌++◌, Result, Ok, Err, subst}
 use Rattle.std.proofs.lemmas.Bool.Decides.{nat_tests}
 use Rattle.std.proofs.lemmas.List.{length-take, get_or-take, take_more, take_more_set, take_all}
 use Rattle.std.proofs.lemmas.List.Elements.{filter_map-append}
@@ -16,24 +16,16 @@ use Rattle.sgb_graph.specs.Sound.{is_sound}
 use Rattle.sgb_file.specs.Checksum.{has_star}
 use Rattle.sgb_vec.specs.Results.{IsValue}
 use Rattle.sgb_file.specs.Records.{Head, records_at}
-use Rattle.sgb_file.proofs.FirstLines.{no_more_kinds}
+use Rattle.sgb_file.proofs.FirstLines.{kept_one, no_more_kinds}
 use Rattle.sgb_file.proofs.LeftTexts.{next_left}
 use Rattle.sgb_file.proofs.ReadParts.{read_is_checked}
 use Rattle.sgb_file.specs.Restoring.{opening_of, head_of_line, graph_of_text, graph_of_opening, graph_after, graph_at_end, closes, line_closes, kind_of_letter, kinds_at}
 
 -- a text of fewer letters has not the kinds
-kept_fewer : {Y : Type 0} (y : Option Y) (ys : List Y) (n : ℕ) → length ys < n → length (cons_option y ys) < suc n
-kept_fewer None ys n h = omega (arith, h)
-kept_fewer (Some y) ys n h = omega (arith, h)
-
-kept_none : (y : Option Kind) (ys : List Kind) (n : ℕ) → y ≡ None → length ys ≤ n → length (cons_option y ys) < suc n
-kept_none None ys n e h = omega (arith, h)
-kept_none (Some y) ys n e h = absurd cc
-
 filtered_fewer : (xs : List ℕ) (i : ℕ) → i < length xs → kind_of_letter (slice_index xs i) ≡ None → length (filter_map kind_of_letter xs) < length xs
 filtered_fewer [] i h e = absurd (omega (arith, h))
-filtered_fewer (x ∷ xs) zero h e = kept_none (kind_of_letter x) (filter_map kind_of_letter xs) (length xs) e (no_more_kinds xs)
-filtered_fewer (x ∷ xs) (suc i) h e = kept_fewer (kind_of_letter x) (filter_map kind_of_letter xs) (length xs) (filtered_fewer xs i (omega (arith, h)) e)
+filtered_fewer (x ∷ xs) zero h e = rw e (omega (arith, no_more_kinds xs))
+filtered_fewer (x ∷ xs) (suc i) h e = omega (arith, kept_one (kind_of_letter x) (filter_map kind_of_letter xs), filtered_fewer xs i (omega (arith, h)) e)
 
 -- where a byte is no letter of a kind, the text has not the kinds
 pub kinds_missed : (text : List ℕ) (i : ℕ) → i < 14 → i < length text → kind_of_letter (slice_index text i) ≡ None → kinds_at text ≡ None

@@ -3,8 +3,8 @@ use Rattle.std.specs.Prelude.{◌≡◌, ◌≢◌, get_or, ℕ, zero, suc, ℤ,
 use Rattle.std.specs.Fmt.{signed_decimal}
 use Rattle.std.specs.Int.{w64}
 use Rattle.std.specs.List.{list_all, position_or_len}
-use Rattle.std.specs.Str.Parse.{AllDigits, digits_value}
-use Rattle.std.proofs.Common.{ap, ◌∙◌, append_assoc, arith, length-append, take-append-drop}
+use Rattle.std.specs.Str.Parse.{AllDigits}
+use Rattle.std.proofs.Common.{ap, ◌∙◌, append_assoc, append-nil, arith, length-append, take-append-drop}
 use Rattle.std.proofs.Math.Seq.{take-append_seam, drop-append_seam}
 use Rattle.std.proofs.lemmas.Bool.{and_parts, and_from, not-true}
 use Rattle.std.proofs.lemmas.Bool.Decides.{nat_tests}
@@ -22,6 +22,7 @@ use Rattle.sgb_file.specs.Files.{IsStringText}
 use Rattle.std.proofs.lemmas.List.Sums.{AllPass-from_list_all, list_all-from_AllPass}
 use Rattle.sgb_file.proofs.LeftTexts.{first_beyond, any_beyond}
 use Rattle.sgb_file.proofs.LaidOutText.{with_breaks, breaks_within}
+use Rattle.sgb_file.proofs.NumberReading.{number_tested, test_below}
 
 -- a text that begins with a comma or a newline
 abbrev pub Ends : List ℕ → Type 0
@@ -55,6 +56,7 @@ plain_read says text value more h said e =
 pub record IsSaid {X : Type 0} (says : List ℕ → Option X) (text : List ℕ) (value : X) : Type 0 where
   pub short : length text ≤ 78
   pub said : says text ≡ Some value
+  pub line : is_line text ≡ true
 
 pub said_broken : {X : Type 0} (says : List ℕ → Option X) (text : List ℕ) (value : X) → IsSaid says text value → (broken : List ℕ) → IsBroken text broken → says broken ≡ Some value
 unfolding with_breaks
@@ -91,16 +93,40 @@ digits_tested (b ∷ text) h =
 pub decimal_digits : (n : ℕ) → n < 2 ^ 64 → list_all is_decimal_digit (decimal n) ≡ true
 decimal_digits n h = digits_tested (decimal n) (decimal_is_IsNumeral n h).0.1
 
+-- a byte above the space
+abbrev is_visible : ℕ → Bool
+is_visible b = nat_lt 32 b
+
+visible_within : (b : ℕ) → is_visible b ≡ true → is_within_line b ≡ true
+visible_within b h = grind (arith, nat_tests)
+
+visible_ends_well : (text : List ℕ) → list_all is_visible text ≡ true → ends_well text ≡ true
+unfolding ends_well
+visible_ends_well [] h = refl
+visible_ends_well (b ∷ []) h = let byte : is_visible b ≡ true = (and_parts (is_visible b) true h).0 in grind (arith, nat_tests)
+visible_ends_well (b ∷ c ∷ text) h = visible_ends_well (c ∷ text) (and_parts (is_visible b) (list_all is_visible (c ∷ text)) h).1
+
+-- a text of such bytes is a line as it is written
+pub visible_is_line : (text : List ℕ) → list_all is_visible text ≡ true → is_line text ≡ true
+visible_is_line text h = and_from (is_one_line text) (ends_well text) (list_all-weaker is_visible is_within_line text visible_within h) (visible_ends_well text h)
+
+digit_visible : (b : ℕ) → is_decimal_digit b ≡ true → is_visible b ≡ true
+digit_visible b h = grind (arith, nat_tests)
+
+pub decimal_visible : (n : ℕ) → n < 2 ^ 64 → list_all is_visible (decimal n) ≡ true
+decimal_visible n h = list_all-weaker is_decimal_digit is_visible (decimal n) digit_visible (decimal_digits n h)
+
+pub decimal_is_line : (n : ℕ) → n < 2 ^ 64 → is_line (decimal n) ≡ true
+decimal_is_line n h = visible_is_line (decimal n) (decimal_visible n h)
+
+-- a letter before a decimal
+lettered_is_line : (b n : ℕ) → is_visible b ≡ true → n < 2 ^ 64 → is_line (b ∷ decimal n) ≡ true
+lettered_is_line b n e h = visible_is_line (b ∷ decimal n) (and_from (is_visible b) (list_all is_visible (decimal n)) e (decimal_visible n h))
+
 decimal_is_short : (n : ℕ) → n < 2 ^ 64 → length (decimal n) ≤ 20
 decimal_is_short n h = length-decimal-le 20 n (omega arith) (omega arith) h
 
 -- a number is read of its decimal
-number_tested : (most : ℕ) (text : List ℕ) → 0 < length text → length text ≤ most → list_all is_decimal_digit text ≡ true → number_of most text ≡ Some (digits_value 10 text)
-number_tested most text some short digits =
-    let first : nat_lt 0 (length text) ≡ true = grind (arith, nat_tests) in
-    let second : nat_le (length text) most ≡ true = grind (arith, nat_tests) in
-    rw first (rw second (rw digits refl))
-
 pub number_read : (most n : ℕ) → 0 < most → n < 10 ^ most → n < 2 ^ 64 → number_of most (decimal n) ≡ Some n
 number_read most n some below h =
     let numeral = decimal_is_IsNumeral n h in
@@ -111,6 +137,7 @@ pub number_is_said : (n : ℕ) → n < 10 ^ 18 → IsSaid (number_of most_number
 number_is_said n h = record {
   short = omega (arith, decimal_is_short n (omega (arith, h)));
   said = number_read most_number_digits n (omega arith) h (omega (arith, h));
+  line = decimal_is_line n (omega (arith, h));
 }
 
 -- an integer is read of its text
@@ -130,8 +157,8 @@ integer_read (negsuc n) h =
     rw (number_read most_integer_digits (suc n) (omega arith) (omega (arith, h)) (omega (arith, h))) (rw small refl)
 
 pub integer_is_said : (i : ℤ) → FitsSigned w64 i → IsSaid integer_of (signed_decimal i) i
-integer_is_said (pos n) h = record { short = omega (arith, decimal_is_short n (omega (arith, h))); said = integer_read (pos n) h }
-integer_is_said (negsuc n) h = record { short = omega (arith, decimal_is_short (suc n) (omega (arith, h))); said = integer_read (negsuc n) h }
+integer_is_said (pos n) h = record { short = omega (arith, decimal_is_short n (omega (arith, h))); said = integer_read (pos n) h; line = decimal_is_line n (omega (arith, h)) }
+integer_is_said (negsuc n) h = record { short = omega (arith, decimal_is_short (suc n) (omega (arith, h))); said = integer_read (negsuc n) h; line = lettered_is_line 45 (suc n) refl (omega (arith, h)) }
 
 -- a number below a limit
 below_read : (limit n : ℕ) → limit ≤ 10 ^ 18 → n < limit → number_below limit (decimal n) ≡ Some n
@@ -139,22 +166,19 @@ below_read limit n most h =
     let small : nat_lt n limit ≡ true = grind (arith, nat_tests) in
     rw (number_read most_number_digits n (omega arith) (omega (arith, most, h)) (omega (arith, most, h))) (rw small refl)
 
-pub test_below : (n limit : ℕ) → nat_lt n limit ≡ true → n < limit
-test_below n limit e = grind (arith, nat_tests)
-
 -- a vertex is said by its text, and an arc record's number
 pub ref_is_said : (n : ℕ) (r : Ref) → n ≤ 10 ^ 18 → ref_fits n r ≡ true → IsSaid (ref_of n) (ref_text r) r
-ref_is_said n Null most h = record { short = omega arith; said = refl }
-ref_is_said n One most h = record { short = omega arith; said = refl }
+ref_is_said n Null most h = record { short = omega arith; said = refl; line = visible_is_line (codes "0") refl }
+ref_is_said n One most h = record { short = omega arith; said = refl; line = visible_is_line (codes "1") refl }
 ref_is_said n (At v) most h =
     let below = test_below v n h in
-    record { short = omega (arith, decimal_is_short v (omega (arith, below, most))); said = ap (option_map At) (below_read n v most below) }
+    record { short = omega (arith, decimal_is_short v (omega (arith, below, most))); said = ap (option_map At) (below_read n v most below); line = lettered_is_line 86 v refl (omega (arith, below, most)) }
 
 pub record_number_is_said : (m : ℕ) (k : Option ℕ) → m ≤ 10 ^ 18 → chain_fits m k ≡ true → IsSaid (record_number_of m) (record_number_text k) k
-record_number_is_said m None most h = record { short = omega arith; said = refl }
+record_number_is_said m None most h = record { short = omega arith; said = refl; line = visible_is_line (codes "0") refl }
 record_number_is_said m (Some k) most h =
     let below = test_below k m h in
-    record { short = omega (arith, decimal_is_short k (omega (arith, below, most))); said = ap (option_map Some) (below_read m k most below) }
+    record { short = omega (arith, decimal_is_short k (omega (arith, below, most))); said = ap (option_map Some) (below_read m k most below); line = lettered_is_line 65 k refl (omega (arith, below, most)) }
 
 -- no byte of a text is a quote, or a backslash
 abbrev pub no_quotes : List ℕ → Bool
@@ -177,32 +201,22 @@ breaks_no_quotes (suc n) first text h =
     list_all-join (λ b. not (b == 34)) (take first text) (92 ∷ 10 ∷ with_breaks n 78 (drop first text)) (list_all-take (λ b. not (b == 34)) first text h)
     (breaks_no_quotes n 78 (drop first text) (list_all-drop (λ b. not (b == 34)) first text h))
 
--- a text with no backslash says itself
-unbroken_same : (text : List ℕ) → no_slashes text ≡ true → unbroken text ≡ text
+-- a text with no backslash says itself, whatever follows
+unbroken_front : (text more : List ℕ) → no_slashes text ≡ true → unbroken (text ++ more) ≡ text ++ unbroken more
 unfolding unbroken
-unbroken_same [] h = refl
-unbroken_same (b ∷ []) h = refl
-unbroken_same (b ∷ c ∷ text) h =
+unbroken_front [] more h = refl
+unbroken_front (b ∷ []) [] h = refl
+unbroken_front (b ∷ []) (c ∷ more) h = rw (not-true (b == 92) (and_parts (not (b == 92)) true h).0) refl
+unbroken_front (b ∷ c ∷ text) more h =
     let parts = and_parts (not (b == 92)) (no_slashes (c ∷ text)) h in
-    rw (not-true (b == 92) parts.0) (ap (λ x. b ∷ x) (unbroken_same (c ∷ text) parts.1))
-
--- a break after such a text counts as nothing
-unbroken_break : (text more : List ℕ) → no_slashes text ≡ true → unbroken (text ++ 92 ∷ 10 ∷ more) ≡ text ++ unbroken more
-unfolding unbroken
-unbroken_break [] more h = refl
-unbroken_break (b ∷ []) more h =
-    let parts = and_parts (not (b == 92)) true h in
-    rw (not-true (b == 92) parts.0) refl
-unbroken_break (b ∷ c ∷ text) more h =
-    let parts = and_parts (not (b == 92)) (no_slashes (c ∷ text)) h in
-    rw (not-true (b == 92) parts.0) (ap (λ x. b ∷ x) (unbroken_break (c ∷ text) more parts.1))
+    rw (not-true (b == 92) parts.0) (ap (λ x. b ∷ x) (unbroken_front (c ∷ text) more parts.1))
 
 -- the breaks of a text undone
 unbroken_breaks : (n first : ℕ) (text : List ℕ) → no_slashes text ≡ true → unbroken (with_breaks n first text) ≡ text
-unfolding with_breaks
-unbroken_breaks zero first text h = unbroken_same text h
+unfolding with_breaks unbroken
+unbroken_breaks zero first text h = rw append-nil at (unbroken_front text [] h)
 unbroken_breaks (suc n) first text h =
-    unbroken_break (take first text) (with_breaks n 78 (drop first text)) (list_all-take (λ b. not (b == 92)) first text h)
+    unbroken_front (take first text) (92 ∷ 10 ∷ with_breaks n 78 (drop first text)) (list_all-take (λ b. not (b == 92)) first text h)
     ∙ ap (λ x. take first text ++ x) (unbroken_breaks n 78 (drop first text) (list_all-drop (λ b. not (b == 92)) first text h))
     ∙ take-append-drop first text
 

@@ -36,49 +36,36 @@ unfolding laid_out pieces_of
 first_piece line text [] = rw (append-nil text) refl
 first_piece line text (x ∷ xs) = refl
 
+-- of all lines these are left, or the writing stopped within all
+abbrev pub IsFurther : {T E : Type 0} → List (List ℕ) → List (List ℕ) → Stage → Stage → Result T E → Type 0
+IsFurther all texts a c (Ok x) = LinesSoFar all (laid_out c.layout.line (pieces_of texts)) a c
+IsFurther all texts a c (Err e) = IsStopped all a c
+
 -- the first text was laid out, and the others are left
-text-more : (text : List ℕ) (rest all : List (List ℕ)) (a b c : Stage) → LinesSoFar all (laid_out b.layout.line (pieces_of (text ∷ rest))) a b
-    → IsPlaced {T = Bool} {E = Bool} (piece_of (has_any rest) text) b c (Ok true) → LinesSoFar all (laid_out c.layout.line (pieces_of rest)) a c
-text-more text rest all a b c p q =
+text-next : {T E : Type 0} (text : List ℕ) (rest all : List (List ℕ)) (a b c : Stage) (r : Result T E) → LinesSoFar all (laid_out b.layout.line (pieces_of (text ∷ rest))) a b
+    → IsPlaced (piece_of (has_any rest) text) b c r → IsFurther all rest a c r
+text-next text rest all a b c (Ok x) p q =
     subst (λ line. LinesSoFar all (laid_out line (pieces_of rest)) a c) (sym q.1)
     (lines-more all _ (lines_ended b.layout.line (piece_of (has_any rest) text)) _ a b c (first_piece b.layout.line text rest) p q.0)
-
-text-cut : (text : List ℕ) (rest all : List (List ℕ)) (a b c : Stage) → LinesSoFar all (laid_out b.layout.line (pieces_of (text ∷ rest))) a b
-    → IsStopped (lines_ended b.layout.line (piece_of (has_any rest) text)) b c → IsStopped all a c
-text-cut text rest all a b c p q =
-    lines-cut all _ (lines_ended b.layout.line (piece_of (has_any rest) text)) _ a b c (first_piece b.layout.line text rest) p q
+text-next text rest all a b c (Err e) p q = lines-cut all _ (lines_ended b.layout.line (piece_of (has_any rest) text)) _ a b c (first_piece b.layout.line text rest) p q
 
 -- the same of a field, which may have no text
-pub field-more : (T E : Type 0) (x : T) (f : Util) (rest all : List (List ℕ)) (a b c : Stage) → LinesSoFar all (laid_out b.layout.line (pieces_of (field_texts f ++ rest))) a b
-    → IsNextPlaced {T = T} {E = E} (has_any rest) (field_texts f) b c (Ok x) → LinesSoFar all (laid_out c.layout.line (pieces_of rest)) a c
-field-more T E x Nothing rest all a b c p q =
+field-next : {T E : Type 0} (f : Util) (rest all : List (List ℕ)) (a b c : Stage) (r : Result T E) → LinesSoFar all (laid_out b.layout.line (pieces_of (field_texts f ++ rest))) a b
+    → IsNextPlaced (has_any rest) (field_texts f) b c r → IsFurther all rest a c r
+field-next Nothing rest all a b c (Ok x) p q =
     subst (λ line. LinesSoFar all (laid_out line (pieces_of rest)) a c) (sym q.1) (lines-more all _ [] _ a b c refl p q.0)
-field-more T E x _ rest all a b c p q = text-more _ rest all a b c p q
-
-pub field-cut : (T E : Type 0) (x : E) (f : Util) (rest all : List (List ℕ)) (a b c : Stage) → LinesSoFar all (laid_out b.layout.line (pieces_of (field_texts f ++ rest))) a b
-    → IsNextPlaced {T = T} {E = E} (has_any rest) (field_texts f) b c (Err x) → IsStopped all a c
-field-cut T E x Nothing rest all a b c p q = lines-cut all _ [] _ a b c refl p q
-field-cut T E x _ rest all a b c p q = text-cut _ rest all a b c p q
+field-next Nothing rest all a b c (Err e) p q = lines-cut all _ [] _ a b c refl p q
+field-next _ rest all a b c r p q = text-next _ rest all a b c r p q
 
 -- fields one by one: the next one was laid out, or the writing stopped there
-pub fields-more : (T E : Type 0) (x : T) (fields : List UtilRef) (i : ℕ) (field : UtilRef) (more : Bool) (all : List (List ℕ)) (a b c : Stage)
+pub fields-next : {T E : Type 0} (fields : List UtilRef) (i : ℕ) (field : UtilRef) (more : Bool) (all : List (List ℕ)) (a b c : Stage) (r : Result T E)
     → i < length fields → field ≡ slice_index_or fields i field → more ≡ has_any (texts_of (drop (i + 1) fields))
     → LinesSoFar all (laid_out b.layout.line (pieces_of (texts_of (drop i fields)))) a b
-    → IsNextPlaced {T = T} {E = E} more (field_texts (util_seen field)) b c (Ok x)
-    → LinesSoFar all (laid_out c.layout.line (pieces_of (texts_of (drop (i + 1) fields)))) a c
-fields-more T E x fields i field more all a b c h e m p q =
-    field-more T E x (util_seen field) (texts_of (drop (i + 1) fields)) all a b c
+    → IsNextPlaced more (field_texts (util_seen field)) b c r → IsFurther all (texts_of (drop (i + 1) fields)) a c r
+fields-next fields i field more all a b c r h e m p q =
+    field-next (util_seen field) (texts_of (drop (i + 1) fields)) all a b c r
     (subst (λ texts. LinesSoFar all (laid_out b.layout.line (pieces_of texts)) a b) (texts-from fields i field h e) p)
-    (subst (λ (w : Bool). IsNextPlaced {T = T} {E = E} w (field_texts (util_seen field)) b c (Ok x)) m q)
-
-pub fields-cut : (T E : Type 0) (x : E) (fields : List UtilRef) (i : ℕ) (field : UtilRef) (more : Bool) (all : List (List ℕ)) (a b c : Stage)
-    → i < length fields → field ≡ slice_index_or fields i field → more ≡ has_any (texts_of (drop (i + 1) fields))
-    → LinesSoFar all (laid_out b.layout.line (pieces_of (texts_of (drop i fields)))) a b
-    → IsNextPlaced {T = T} {E = E} more (field_texts (util_seen field)) b c (Err x) → IsStopped all a c
-fields-cut T E x fields i field more all a b c h e m p q =
-    field-cut T E x (util_seen field) (texts_of (drop (i + 1) fields)) all a b c
-    (subst (λ texts. LinesSoFar all (laid_out b.layout.line (pieces_of texts)) a b) (texts-from fields i field h e) p)
-    (subst (λ (w : Bool). IsNextPlaced {T = T} {E = E} w (field_texts (util_seen field)) b c (Err x)) m q)
+    (subst (λ (w : Bool). IsNextPlaced w (field_texts (util_seen field)) b c r) m q)
 
 -- no field is left: the line ends
 no_texts : (line : List ℕ) → laid_out line (pieces_of []) ≡ line ∷ []

@@ -1,5 +1,5 @@
--- Files and their texts: a text is read as a graph exactly where it is a file of it.
-use Rattle.std.specs.Prelude.{◌≡◌, ◌⊎◌, ℕ, zero, suc, ℤ, pos, neg_ℤ, ◌-◌, ◌<◌, ◌≤◌, Bool, true, false, not, ◌&&◌, List, [], ◌∷◌, ◌++◌, length, take, drop, codes, Option, Some, None, Ok, option_map, All, slice_index, nat_le, ◌==◌, if◌then◌else◌, refl}
+-- Files and their texts: their openings, their records and their closing lines are read exactly where they stand.
+use Rattle.std.specs.Prelude.{◌≡◌, ◌⊎◌, ℕ, zero, suc, ℤ, pos, neg_ℤ, ◌-◌, ◌<◌, Bool, true, false, not, ◌&&◌, List, [], ◌∷◌, ◌++◌, length, take, drop, codes, Option, Some, None, All, slice_index, ◌==◌, if◌then◌else◌, refl}
 use Rattle.std.specs.List.{list_all}
 use Rattle.std.specs.Option.{option_map_or}
 use Rattle.std.proofs.Common.{ap, sym, subst, ◌∙◌, append_assoc, arith, length-append, inl, inr}
@@ -15,30 +15,26 @@ use Rattle.sgb_file.specs.FileLines.{lines_of_text, clean_lines, text_of_lines}
 use Rattle.sgb_file.specs.Checksum.{has_star, checksum_of_lines}
 use Rattle.sgb_file.specs.Fields.{Found, is_decimal_digit, number_of, most_number_digits, after_prefix}
 use Rattle.sgb_file.specs.Records.{Head, records_at}
-use Rattle.sgb_file.specs.Restoring.{Opening, leading_number, head_of_line, opening_of, checksum_in_line, checksum_agrees, line_closes, closes, graph_of_text}
-use Rattle.sgb_file.specs.Files.{IsFirstLine, IsComment, IsChecksumLine, IsRecord, IsArcRecord, AreRecords, AreRecordsOf, IsFileOf, head_of}
-use Rattle.sgb_file.specs.Refused.{IsClosed}
+use Rattle.sgb_file.specs.Restoring.{Opening, leading_number, head_of_line, opening_of, checksum_in_line, checksum_agrees, line_closes, closes}
+use Rattle.sgb_file.specs.Files.{IsFirstLine, IsComment, IsChecksumLine, IsRecord, IsArcRecord, AreRecords, AreRecordsOf, head_of}
+use Rattle.sgb_file.specs.Refused.{Opens, AreRecordLines, IsClosed}
 use Rattle.sgb_file.proofs.LineLemmas.{is_one_line, is_within_line, lines_again, lines_read, clean_are_one_line}
-use Rattle.sgb_file.proofs.FoundParts.{prefix_is, was_given, was_mapped, was_chosen}
-use Rattle.sgb_file.proofs.NumberReading.{number_digits}
+use Rattle.sgb_file.proofs.FoundParts.{prefix_is, was_given, was_mapped, was_chosen, was_either}
+use Rattle.sgb_file.proofs.NumberReading.{at_most_passes, number_says}
 use Rattle.sgb_file.proofs.FirstLines.{IsLeading, leading_found, leading_says, first_line_found, kinds_read}
-use Rattle.sgb_file.proofs.RestoringLemmas.{parts_of_opening, read_by_parts}
-use Rattle.sgb_file.proofs.RecordsAndTexts.{records_found, records_are_read}
+use Rattle.sgb_file.proofs.RecordsAndTexts.{reads_records}
 
 -- and a first line is read as one
 first_line_read : (head : Head) (line : List ℕ) → IsFirstLine head line → head_of_line line ≡ Some head
 first_line_read head line h =
     let third = codes "V," ++ (h.m ++ (codes "A)" ++ h.anything)) in
     let second = codes "," ++ (h.n ++ third) in
-    let few : nat_le head.counts.vertices most_vertices ≡ true = passes head.counts.vertices h.few in
+    let few = at_most_passes head.counts.vertices most_vertices h.few in
     ap head_of_line h.form
     ∙ rw (kinds_read head.kinds second h.fourteen)
     (rw (leading_says h.n third head.counts.vertices h.n_says refl)
     (rw (leading_says h.m (codes "A)" ++ h.anything) head.counts.arcs h.m_says refl)
     (rw few refl)))
-  where
-    passes : (k : ℕ) → k ≤ most_vertices → nat_le k most_vertices ≡ true
-    passes k h = grind (arith, nat_tests)
 
 -- comments and a first line open a file
 comment_is_passed : (line : List ℕ) → IsComment line → head_of_line line ≡ None
@@ -56,12 +52,9 @@ opening_read head (line ∷ comments) first lines h says =
     let comment = All-head IsComment line comments h in
     rw (comment_is_passed line comment) (rw comment.star (opening_read head comments first lines (All-tail IsComment line comments h) says))
 
-pub record IsOpened (lines : List (List ℕ)) (opening : Opening) : Type 0 where
-  pub comments : List (List ℕ)
-  pub first : List ℕ
-  pub comments_are : All IsComment comments
-  pub first_says : IsFirstLine opening.head first
-  pub parts : lines ≡ comments ++ first ∷ opening.lines
+-- comments, a first line, and the lines after it
+abbrev pub IsOpened : List (List ℕ) → Opening → Type 0
+IsOpened lines opening = (comments : List (List ℕ)) × (first : List ℕ) × All IsComment comments × IsFirstLine opening.head first × (lines ≡ comments ++ first ∷ opening.lines)
 
 comment_found : (line : List ℕ) → head_of_line line ≡ None → has_star line ≡ true → IsComment line
 comment_found line none star = record {
@@ -79,17 +72,11 @@ opening_found (line ∷ lines) opening e = by_line (head_of_line line) refl e (o
     by_line None none e later =
         let starred = was_chosen (has_star line) e in
         let o = later starred.1 in
-        record {
-          comments = line ∷ o.comments;
-          first = o.first;
-          comments_are = All-cons IsComment line o.comments (comment_found line none starred.0) o.comments_are;
-          first_says = o.first_says;
-          parts = ap (λ ls. line ∷ ls) o.parts;
-        }
+        (line ∷ o.0, o.1, All-cons IsComment line o.0 (comment_found line none starred.0) o.2, o.3, ap (λ ls. line ∷ ls) o.4)
     by_line (Some head) here e later =
         let same : record { head = head; lines = lines } ≡ opening = cc in
         subst (λ (o : Opening). IsOpened (line ∷ lines) o) same
-        (record { comments = []; first = line; comments_are = All-nil IsComment; first_says = first_line_found line head here; parts = refl })
+        ([], line, All-nil IsComment, first_line_found line head here, refl)
 
 -- a minus stands for a negative number, or for 0
 minus_agrees : (k : ℕ) (lines : List (List ℕ)) → checksum_agrees (neg_ℤ (pos k)) lines ≡ true → (0 < k) ⊎ (k ≡ checksum_of_lines lines)
@@ -121,25 +108,24 @@ agreeing_line sum line text found l h = record {
 checksum_found : (line : List ℕ) (c : ℤ) (lines : List (List ℕ)) → checksum_in_line line ≡ Some c → checksum_agrees c lines ≡ true → IsChecksumLine (checksum_of_lines lines) line
 checksum_found line c lines e agrees =
     let g = was_given (after_prefix (codes "* Checksum ") line) e in
-    by_sign g.first (slice_index g.first 0 == 45) refl (prefix_is (codes "* Checksum ") line g.first g.here) g.made
-  where
-    by_sign : (text : List ℕ) (minus : Bool) → (slice_index text 0 == 45) ≡ minus → line ≡ codes "* Checksum " ++ text
-        → (if minus then option_map (λ (k : Found ℕ). neg_ℤ (pos k.value)) (leading_number (drop 1 text)) else option_map (λ (k : Found ℕ). pos k.value) (leading_number text)) ≡ Some c
-        → IsChecksumLine (checksum_of_lines lines) line
-    by_sign text true is parts e =
-        let m = was_mapped (leading_number (drop 1 text)) e in
-        agreeing_line (checksum_of_lines lines) line (drop 1 text) m.first (leading_found (drop 1 text) m.first m.here)
-        (inr (minus_agrees m.first.value lines (ap (λ i. checksum_agrees i lines) m.same ∙ agrees), parts ∙ ap (λ x. codes "* Checksum " ++ x) (minus_first text is)))
-    by_sign text false is parts e =
-        let m = was_mapped (leading_number text) e in
-        agreeing_line (checksum_of_lines lines) line text m.first (leading_found text m.first m.here)
-        (inl ((Decides-eqb m.first.value (checksum_of_lines lines)).0 (ap (λ i. checksum_agrees i lines) m.same ∙ agrees), parts))
+    let text = g.first in
+    let parts = prefix_is (codes "* Checksum ") line text g.here in
+    elim (was_either (slice_index text 0 == 45) g.made) [
+      | inl h ↦
+          let m = was_mapped (leading_number (drop 1 text)) h.1 in
+          agreeing_line (checksum_of_lines lines) line (drop 1 text) m.first (leading_found (drop 1 text) m.first m.here)
+          (inr (minus_agrees m.first.value lines (ap (λ i. checksum_agrees i lines) m.same ∙ agrees), parts ∙ ap (λ x. codes "* Checksum " ++ x) (minus_first text h.0)))
+      | inr h ↦
+          let m = was_mapped (leading_number text) h.1 in
+          agreeing_line (checksum_of_lines lines) line text m.first (leading_found text m.first m.here)
+          (inl ((Decides-eqb m.first.value (checksum_of_lines lines)).0 (ap (λ i. checksum_agrees i lines) m.same ∙ agrees), parts))
+    ]
 
 -- digits do not begin with a minus
 digits_no_minus : (digits more : List ℕ) (k : ℕ) → number_of most_number_digits digits ≡ Some k → (slice_index (digits ++ more) 0 == 45) ≡ false
 digits_no_minus [] more k e = absurd cc
 digits_no_minus (b ∷ digits) more k e =
-    let digit : is_decimal_digit b ≡ true = (and_parts (is_decimal_digit b) (list_all is_decimal_digit digits) (number_digits most_number_digits (b ∷ digits) k e)).0 in
+    let digit : is_decimal_digit b ≡ true = (and_parts (is_decimal_digit b) (list_all is_decimal_digit digits) (number_says most_number_digits (b ∷ digits) k e).digits).0 in
     grind (arith, nat_tests)
 
 -- the line after the records closes the file
@@ -210,9 +196,6 @@ front_is_of_lines (b ∷ front) = by_byte (b == 10) refl (front_is_of_lines fron
       whole = ap (λ x. b ∷ x) h.whole;
     }
 
-is_of_lines : (text : List ℕ) → EndsLine text → IsOfLines text
-is_of_lines text h = subst IsOfLines (sym h.whole) (front_is_of_lines h.front)
-
 -- lines whose text begins with the lines of records
 pub record IsCut (lines : List (List ℕ)) (whole rest : List ℕ) : Type 0 where
   pub records : List (List ℕ)
@@ -221,7 +204,7 @@ pub record IsCut (lines : List (List ℕ)) (whole rest : List ℕ) : Type 0 wher
 
 pub cut_lines : (lines : List (List ℕ)) (whole rest : List ℕ) → list_all is_one_line lines ≡ true → text_of_lines lines ≡ whole ++ rest → EndsLine whole → IsCut lines whole rest
 cut_lines lines whole rest one_lines parts ends =
-    let h = is_of_lines whole ends in
+    let h = subst IsOfLines (sym ends.whole) (front_is_of_lines ends.front) in
     let records = h.first ∷ h.others in
     record {
       records = records;
@@ -252,47 +235,33 @@ closes_by opening records rest e =
     ap (λ lines. line_closes (take (length lines - length (lines_of_text rest)) lines) (lines_of_text rest)) e
     ∙ ap (λ lines. line_closes lines (lines_of_text rest)) (before_following records (lines_of_text rest))
 
--- a text that is read as a graph is a file of it
-pub file_from_read : (g : GraphData) (text : List ℕ) → graph_of_text text ≡ Ok g → IsFileOf g text
-file_from_read g text e =
-    let p = parts_of_opening (opening_of (clean_lines text)) g e in
-    let lines = p.opening.lines in
-    let rest = p.after.rest in
-    let o = opening_found (clean_lines text) p.opening p.here in
-    let all_one_line : list_all is_one_line (o.comments ++ o.first ∷ lines) ≡ true = ap (list_all is_one_line) (sym o.parts) ∙ clean_are_one_line text in
-    let one_line = (and_parts (is_one_line o.first) (list_all is_one_line lines) (last_lines o.comments (o.first ∷ lines) all_one_line)).1 in
-    let found : Found GraphData = record { value = g; rest = rest } in
-    let counted = records_found p.opening.head (text_of_lines lines) found p.after.says in
-    let r = counted.stand in
-    let cut = cut_lines lines r.whole rest one_line r.parts (all_records_end g r.whole r.says) in
-    let closed = closed_found cut.records (lines_of_text rest) (sym (closes_by p.opening cut.records rest cut.parts) ∙ p.after.ends) in
-    record {
-      comments = o.comments;
-      first = o.first;
-      records = cut.records;
-      last = closed.last;
-      others = closed.others;
-      lines = o.parts ∙ ap (λ ls. o.comments ++ o.first ∷ ls) (cut.parts ∙ ap (λ ls. cut.records ++ ls) closed.parts);
-      comments_are = o.comments_are;
-      first_says = subst (λ (h : Head). IsFirstLine h o.first) counted.counted o.first_says;
-      records_say = subst (λ x. AreRecordsOf g x) (sym cut.text_is) r.says;
-      last_says = closed.says;
-      sound = p.after.sound;
-    }
+-- an opening is read, and what is read is an opening
+pub opens_read : (text : List ℕ) (head : Head) (lines : List (List ℕ)) → Opens text head lines → opening_of (clean_lines text) ≡ Some (record { head = head; lines = lines })
+opens_read text head lines h = ap opening_of h.parts ∙ opening_read head h.comments h.first lines h.comments_are h.first_says
 
--- a file of a graph is read as it
-pub read_from_file : (g : GraphData) (text : List ℕ) → IsFileOf g text → graph_of_text text ≡ Ok g
-read_from_file g text h =
-    let following = h.last ∷ h.others in
-    let lines = h.records ++ following in
-    let all_one_line : list_all is_one_line (h.comments ++ h.first ∷ lines) ≡ true = ap (list_all is_one_line) (sym h.lines) ∙ clean_are_one_line text in
-    let one_line = (and_parts (is_one_line h.first) (list_all is_one_line lines) (last_lines h.comments (h.first ∷ lines) all_one_line)).1 in
-    let again = lines_again following (last_lines h.records following one_line) in
-    let opening : Opening = record { head = head_of g; lines = lines } in
-    let rest = text_of_lines following in
-    let closed : closes opening rest ≡ true =
-    closes_by opening h.records rest (ap (λ ls. h.records ++ ls) (sym again)) ∙ ap (line_closes h.records) again ∙ checksum_read h.last h.records h.last_says in
-    read_by_parts (opening_of (clean_lines text)) opening g rest
-    (ap opening_of h.lines ∙ opening_read (head_of g) h.comments h.first lines h.comments_are h.first_says)
-    (ap (records_at (head_of g)) (flat_map-append (λ l. l ++ 10 ∷ []) h.records following) ∙ records_are_read g (text_of_lines h.records) rest h.records_say)
-    closed h.sound
+pub opens_found : (text : List ℕ) (o : Opening) → opening_of (clean_lines text) ≡ Some o → Opens text o.head o.lines
+opens_found text o e =
+    let p = opening_found (clean_lines text) o e in
+    record { comments = p.0; first = p.1; parts = p.4; comments_are = p.2; first_says = p.3 }
+
+-- no newline stands in the lines after an opening
+pub after_opening : (text : List ℕ) (head : Head) (lines : List (List ℕ)) → Opens text head lines → list_all is_one_line lines ≡ true
+after_opening text head lines h =
+    let all : list_all is_one_line (h.comments ++ h.first ∷ lines) ≡ true = ap (list_all is_one_line) (sym h.parts) ∙ clean_are_one_line text in
+    (and_parts (is_one_line h.first) (list_all is_one_line lines) (last_lines h.comments (h.first ∷ lines) all)).1
+
+-- the records are read, and what is read are records
+pub records_read : (head : Head) (g : GraphData) (records following lines : List (List ℕ)) → AreRecordLines head g records following lines
+    → records_at head (text_of_lines lines) ≡ Some (record { value = g; rest = text_of_lines following })
+records_read head g records following lines h =
+    ap (records_at head) (ap text_of_lines h.parts ∙ flat_map-append (λ l. l ++ 10 ∷ []) records following)
+    ∙ (reads_records head).again g (text_of_lines records) (text_of_lines following) (record { counted = h.counted; are = h.say }) tt
+
+-- the lines of the records that were found
+pub lines_found : (head : Head) (lines : List (List ℕ)) (found : Found GraphData) → list_all is_one_line lines ≡ true → records_at head (text_of_lines lines) ≡ Some found
+    → (records : List (List ℕ)) × AreRecordLines head found.value records (lines_of_text found.rest) lines
+lines_found head lines found one_lines e =
+    let r = (reads_records head).finds (text_of_lines lines) found e in
+    let cut = cut_lines lines r.word r.rest one_lines r.parts (all_records_end r.value r.word r.says.are) in
+    subst (λ (x : Found GraphData). (records : List (List ℕ)) × AreRecordLines head x.value records (lines_of_text x.rest) lines) r.made
+    (cut.records, record { counted = r.says.counted; say = subst (λ x. AreRecordsOf r.value x) (sym cut.text_is) r.says.are; parts = cut.parts })

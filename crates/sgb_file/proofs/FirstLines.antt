@@ -1,12 +1,14 @@
 -- First lines: what one that is read says, and how its kinds and numbers are read.
-use Rattle.std.specs.Prelude.{◌≡◌, ℕ, suc, ◌+◌, ◌≤◌, Bool, true, false, cond, List, [], ◌∷◌, ◌++◌, map, length, take, drop, codes, option_map, Option, Some, None, filter_map, take_while, nat_le, ◌==◌, if◌then◌else◌, refl}
+use Rattle.std.specs.Prelude.{◌≡◌, ℕ, suc, ◌+◌, ◌≤◌, Bool, true, false, List, [], ◌∷◌, ◌++◌, map, length, take, drop, codes, option_map, Option, Some, None, filter_map, take_while, nat_le, ◌==◌, if◌then◌else◌, refl}
 use Rattle.std.specs.List.{prefix_len, cons_option}
 use Rattle.std.specs.List.{list_all}
-use Rattle.std.proofs.Common.{ap, sym, subst, ◌∙◌, arith}
+use Rattle.std.proofs.Common.{ap, sym, subst, ◌∙◌, arith, inl, inr}
 use Rattle.std.proofs.Math.Seq.{take-append_seam, drop-append_seam}
-use Rattle.std.proofs.lemmas.Bool.{and_parts}
+use Rattle.std.proofs.lemmas.Bool.{and_parts, cases_lt}
 use Rattle.std.proofs.lemmas.Bool.Decides.{Decides-eqb}
-use Rattle.std.proofs.lemmas.List.{take-append-drop, length-map, length-take}
+use Rattle.std.proofs.lemmas.List.{drop_all, drop_more, take-append-drop, length-map, length-take}
+use Rattle.std.proofs.lemmas.List.Folds.{length-prefix_len}
+use Rattle.std.proofs.lemmas.List.Sums.{prefix_len_stops}
 use Rattle.sgb_vec.specs.Limits.{most_vertices}
 use Rattle.sgb_graph.specs.declared.fields.Kind.{Kind}
 use Rattle.sgb_graph.specs.declared.fields.Kind.TheVariants.{Z, I, V, S, A}
@@ -16,7 +18,7 @@ use Rattle.sgb_file.specs.Restoring.{kind_of_letter, kinds_at, leading_number, h
 use Rattle.sgb_file.specs.Saving.{letter_of}
 use Rattle.sgb_file.specs.Files.{IsFirstLine, BeginsWithNoDigit}
 use Rattle.sgb_file.proofs.FoundParts.{prefix_is, taken_and_left, was_given, was_mapped, was_let_through}
-use Rattle.sgb_file.proofs.NumberReading.{at_most, number_digits}
+use Rattle.sgb_file.proofs.NumberReading.{at_most, number_says}
 
 -- the kind of a letter is written by it
 letter_is : (c : ℕ) (k : Kind) → kind_of_letter c ≡ Some k → c ≡ letter_of k
@@ -32,13 +34,13 @@ letter_is c k e = by_tests (c == 90) (c == 73) (c == 86) (c == 83) (c == 65) (De
     by_tests false false false false false is_z is_i is_v is_s is_a e = absurd cc
 
 -- a text has no more kinds than letters
-kept_short : {Y : Type 0} (y : Option Y) (ys : List Y) (n : ℕ) → length ys ≤ n → length (cons_option y ys) ≤ suc n
-kept_short None ys n h = omega (arith, h)
-kept_short (Some y) ys n h = omega (arith, h)
+pub kept_one : {Y : Type 0} (y : Option Y) (ys : List Y) → length (cons_option y ys) ≤ suc (length ys)
+kept_one None ys = omega arith
+kept_one (Some y) ys = omega arith
 
 pub no_more_kinds : (xs : List ℕ) → length (filter_map kind_of_letter xs) ≤ length xs
 no_more_kinds [] = omega arith
-no_more_kinds (x ∷ xs) = kept_short (kind_of_letter x) (filter_map kind_of_letter xs) (length xs) (no_more_kinds xs)
+no_more_kinds (x ∷ xs) = omega (arith, kept_one (kind_of_letter x) (filter_map kind_of_letter xs), no_more_kinds xs)
 
 -- letters that all stand for kinds are those of the kinds
 all_letters : (letters : List ℕ) → length letters ≤ length (filter_map kind_of_letter letters) → letters ≡ map letter_of (filter_map kind_of_letter letters)
@@ -52,11 +54,7 @@ all_letters (c ∷ letters) h = by_kind (kind_of_letter c) refl h (all_letters l
     by_kind (Some k) e h others = ap (λ d. d ∷ letters) (letter_is c k e) ∙ ap (λ ls. letter_of k ∷ ls) (others (omega (arith, h)))
 
 -- fourteen kinds are those of the letters
-record IsKinds (text : List ℕ) (found : Found (List Kind)) : Type 0 where
-  fourteen : length found.value ≡ 14
-  parts : text ≡ map letter_of found.value ++ found.rest
-
-kinds_found : (text : List ℕ) (found : Found (List Kind)) → kinds_at text ≡ Some found → IsKinds text found
+kinds_found : (text : List ℕ) (found : Found (List Kind)) → kinds_at text ≡ Some found → (length found.value ≡ 14) × (text ≡ map letter_of found.value ++ found.rest)
 kinds_found text found e =
     let letters = take 14 text in
     let kinds = filter_map kind_of_letter letters in
@@ -64,10 +62,8 @@ kinds_found text found e =
     let fourteen : length kinds ≡ 14 = (Decides-eqb (length kinds) 14).0 t.0 in
     let short : length letters ≤ 14 = omega (arith, length-take 14 text) in
     let all : letters ≡ map letter_of kinds = all_letters letters (omega (arith, fourteen, short)) in
-    subst (λ (f : Found (List Kind)). IsKinds text f) t.1 (record {
-      fourteen = fourteen;
-      parts = sym (take-append-drop 14 text) ∙ ap (λ x. x ++ drop 14 text) all;
-    })
+    subst (λ (f : Found (List Kind)). (length f.value ≡ 14) × (text ≡ map letter_of f.value ++ f.rest)) t.1
+    (fourteen, sym (take-append-drop 14 text) ∙ ap (λ x. x ++ drop 14 text) all)
 
 -- the digits that a text begins with, and what follows them
 pub record IsLeading (text : List ℕ) (found : Found ℕ) : Type 0 where
@@ -77,16 +73,13 @@ pub record IsLeading (text : List ℕ) (found : Found ℕ) : Type 0 where
   pub ends : BeginsWithNoDigit found.rest
 
 no_digit_left : (text : List ℕ) → BeginsWithNoDigit (drop (length (take (prefix_len is_decimal_digit text) text)) text)
-no_digit_left [] = tt
-no_digit_left (b ∷ text) = by_test (is_decimal_digit b) refl (no_digit_left text)
-  where
-    by_test : (t : Bool) → is_decimal_digit b ≡ t → BeginsWithNoDigit (drop (length (take (prefix_len is_decimal_digit text) text)) text)
-        → BeginsWithNoDigit (drop (length (take (cond t (1 + prefix_len is_decimal_digit text) 0) (b ∷ text))) (b ∷ text))
-    by_test true e h =
-        let place = prefix_len is_decimal_digit text in
-        let further : suc place ≡ 1 + place = omega arith in
-        subst (λ k. BeginsWithNoDigit (drop (length (take k (b ∷ text))) (b ∷ text))) further h
-    by_test false e h = e
+no_digit_left text =
+    let n : ℕ = prefix_len is_decimal_digit text in
+    let place = ap (λ (k : ℕ). drop k text) (length-prefix_len is_decimal_digit text) in
+    elim (cases_lt n (length text)) [
+      | inl within ↦ subst BeginsWithNoDigit (sym (place ∙ drop_more text n 0 within)) (prefix_len_stops is_decimal_digit text 0 within)
+      | inr past ↦ subst BeginsWithNoDigit (sym (place ∙ drop_all n text past)) tt
+    ]
 
 pub leading_found : (text : List ℕ) (found : Found ℕ) → leading_number text ≡ Some found → IsLeading text found
 leading_found text found e =
@@ -121,8 +114,8 @@ first_line_found line head e =
       m = m_is.digits;
       anything = anything.first;
       form = prefix_is (codes "* GraphBase graph (util_types ") line letters.first letters.here
-          ∙ ap (λ x. codes "* GraphBase graph (util_types " ++ x) (k.parts ∙ ap (λ x. map letter_of kinds.first.value ++ x) (prefix_is (codes ",") kinds.first.rest second.first second.here ∙ after_letters));
-      fourteen = k.fourteen;
+          ∙ ap (λ x. codes "* GraphBase graph (util_types " ++ x) (k.1 ∙ ap (λ x. map letter_of kinds.first.value ++ x) (prefix_is (codes ",") kinds.first.rest second.first second.here ∙ after_letters));
+      fourteen = k.0;
       n_says = n_is.says;
       m_says = m_is.says;
       few = at_most n.first.value most_vertices through.0;
@@ -140,7 +133,7 @@ digits_end (b ∷ text) more h e =
 pub leading_says : (digits more : List ℕ) (k : ℕ) → number_of most_number_digits digits ≡ Some k → BeginsWithNoDigit more → leading_number (digits ++ more) ≡ Some (record { value = k; rest = more })
 leading_says digits more k says none =
     let taken : take_while is_decimal_digit (digits ++ more) ≡ digits =
-    ap (λ n. take n (digits ++ more)) (digits_end digits more (number_digits most_number_digits digits k says) none) ∙ take-append_seam digits more in
+    ap (λ n. take n (digits ++ more)) (digits_end digits more (number_says most_number_digits digits k says).digits none) ∙ take-append_seam digits more in
     ap (λ ds. option_map (λ (n : ℕ). record { value = n; rest = drop (length ds) (digits ++ more) }) (number_of most_number_digits ds)) taken
     ∙ ap (option_map (λ n. record { value = n; rest = drop (length digits) (digits ++ more) })) says
     ∙ ap (λ rest. Some (record { value = k; rest = rest })) (drop-append_seam digits more)

@@ -1,5 +1,5 @@
 -- Lemmas on readers one after another: a record is read field by field.
-use Rattle.std.specs.Prelude.{◌≡◌, ℕ, ℤ, zero, ◌+◌, ◌<◌, ◌≤◌, true, false, List, [], ◌∷◌, ◌++◌, length, take, drop, codes, Option, Some, None, Err, option_map, ◌==◌, refl}
+use Rattle.std.specs.Prelude.{◌≡◌, ℕ, ℤ, zero, ◌+◌, ◌<◌, ◌≤◌, true, false, List, [], ◌∷◌, ◌++◌, length, take, drop, codes, replicate, Option, Some, None, Err, option_map, ◌==◌, refl}
 use Rattle.std.proofs.Common.{ap, sym, subst, suc, ◌∙◌, append_assoc, append-nil, arith, get_or, set}
 use Rattle.std.proofs.Math.Seq.{drop-cons}
 use Rattle.std.proofs.lemmas.List.{take_more_set, take_all, drop_all, set-get_or, get_or-set_other}
@@ -35,10 +35,6 @@ given-given : {X Y W : Type 0} (o : Option X) (f : X → Option Y) (g : Y → Op
 given-given None f g = refl
 given-given (Some x) f g = refl
 
-given-as : {X Y W : Type 0} (f : X → Y) (o : Option (Found X)) (g : Found Y → Option W) → given (found_as f o) g ≡ given o (λ x. g (record { value = f x.value; rest = x.rest }))
-given-as f None g = refl
-given-as f (Some x) g = refl
-
 given-same : {X Y : Type 0} (o : Option X) (f g : X → Option Y) → ((x : X) → f x ≡ g x) → given o f ≡ given o g
 given-same None f g h = refl
 given-same (Some x) f g h = h x
@@ -54,15 +50,21 @@ first_field counts kind kinds text = sym (given-given (after_comma text) (field_
 abbrev made_of : {Y : Type 0} → (List Util → Option Y) → Found (List Util) → Option (Found Y)
 made_of make fields = option_map (λ y. record { value = y; rest = fields.rest }) (make fields.value)
 
+-- a first field, what follows it, and what is made of all
+first_made : {Y : Type 0} (o : Option (Found Util)) (more : List ℕ → Option (Found (List Util))) (make : List Util → Option Y)
+    → given (given o (λ field. found_as (λ fields. field.value ∷ fields) (more field.rest))) (made_of make)
+    ≡ given o (λ field. given (more field.rest) (made_of (λ fields. make (field.value ∷ fields))))
+first_made None more make = refl
+first_made (Some field) more make = by_more (more field.rest)
+  where
+    by_more : (o : Option (Found (List Util))) → given (found_as (λ fields. field.value ∷ fields) o) (made_of make) ≡ given o (made_of (λ fields. make (field.value ∷ fields)))
+    by_more None = refl
+    by_more (Some fields) = refl
+
 one_field : {Y : Type 0} (counts : Counts) (kind : Kind) (kinds : List Kind) (text : List ℕ) (make : List Util → Option Y)
     → given (more_fields_at counts (kind ∷ kinds) text) (made_of make)
     ≡ given (next_field_at counts kind text) (λ field. given (more_fields_at counts kinds field.rest) (made_of (λ fields. make (field.value ∷ fields))))
-one_field counts kind kinds text make =
-    ap (λ o. given o (made_of make)) (first_field counts kind kinds text)
-    ∙ given-given (next_field_at counts kind text) (λ field. found_as (λ fields. field.value ∷ fields) (more_fields_at counts kinds field.rest)) (made_of make)
-    ∙ given-same (next_field_at counts kind text) (λ field. given (found_as (λ fields. field.value ∷ fields) (more_fields_at counts kinds field.rest)) (made_of make))
-    (λ field. given (more_fields_at counts kinds field.rest) (made_of (λ fields. make (field.value ∷ fields))))
-    (λ field. given-as (λ fields. field.value ∷ fields) (more_fields_at counts kinds field.rest) (made_of make))
+one_field counts kind kinds text make = ap (λ o. given o (made_of make)) (first_field counts kind kinds text) ∙ first_made (next_field_at counts kind text) (more_fields_at counts kinds) make
 
 no_field : {Y : Type 0} (counts : Counts) (text : List ℕ) (make : List Util → Option Y)
     → given (more_fields_at counts [] text) (made_of make) ≡ given (after_prefix (codes "\n") text) (λ rest. option_map (λ y. record { value = y; rest = rest }) (make []))
@@ -72,25 +74,16 @@ no_field counts text make = by_end (after_prefix (codes "\n") text) where
   by_end None = refl
   by_end (Some rest) = refl
 
-whole_record : {Y : Type 0} (counts : Counts) (kind : Kind) (kinds : List Kind) (text : List ℕ) (make : List Util → Option Y)
-    → given (record_at counts kind kinds text) (made_of make)
-    ≡ given (field_at counts kind text) (λ field. given (more_fields_at counts kinds field.rest) (made_of (λ fields. make (field.value ∷ fields))))
-whole_record counts kind kinds text make =
-    given-given (field_at counts kind text) (λ field. found_as (λ fields. field.value ∷ fields) (more_fields_at counts kinds field.rest)) (made_of make)
-    ∙ given-same (field_at counts kind text) (λ field. given (found_as (λ fields. field.value ∷ fields) (more_fields_at counts kinds field.rest)) (made_of make))
-    (λ field. given (more_fields_at counts kinds field.rest) (made_of (λ fields. make (field.value ∷ fields))))
-    (λ field. given-as (λ fields. field.value ∷ fields) (more_fields_at counts kinds field.rest) (made_of make))
-
 -- the record of a vertex, and that of an arc, field by field
 pub vertex_steps : (head : Head) (text : List ℕ) → vertex_record_at head text ≡ vertex_fields_at head text
 vertex_steps head text =
-    whole_record head.counts S (A ∷ vertex_kinds head.kinds) text vertex_of_fields
+    first_made (field_at head.counts S text) (more_fields_at head.counts (A ∷ vertex_kinds head.kinds)) vertex_of_fields
     ∙ given-same (field_at head.counts S text) _ _ (λ name. one_field head.counts A (vertex_kinds head.kinds) name.rest (λ fields. vertex_of_fields (name.value ∷ fields)))
 
 pub arc_steps : (head : Head) (a b : Kind) (text : List ℕ) → arc_kinds head.kinds ≡ a ∷ b ∷ [] → arc_record_at head text ≡ arc_fields_at head.counts a b text
 arc_steps head a b text e =
     ap (λ kinds. given (record_at head.counts V (A ∷ I ∷ kinds) text) (made_of arc_of_fields)) e
-    ∙ whole_record head.counts V (A ∷ I ∷ a ∷ b ∷ []) text arc_of_fields
+    ∙ first_made (field_at head.counts V text) (more_fields_at head.counts (A ∷ I ∷ a ∷ b ∷ [])) arc_of_fields
     ∙ given-same (field_at head.counts V text) _ _ (λ tip. one_field head.counts A (I ∷ a ∷ b ∷ []) tip.rest (λ fields. arc_of_fields (tip.value ∷ fields))
     ∙ given-same (next_field_at head.counts A tip.rest) _ _ (λ next. one_field head.counts I (a ∷ b ∷ []) next.rest (λ fields. arc_of_fields (tip.value ∷ next.value ∷ fields))
     ∙ given-same (next_field_at head.counts I next.rest) _ _ (λ len. one_field head.counts a (b ∷ []) len.rest (λ fields. arc_of_fields (tip.value ∷ next.value ∷ len.value ∷ fields))
@@ -119,14 +112,10 @@ this_field counts kinds i kind d text h e =
     ap (λ (ks : List Kind). more_fields_at counts ks text) parts ∙ first_field counts kind (drop (i + 1) kinds) text
 
 -- no field is used yet
-none_used : (k : ℕ) → get_or (Nothing ∷ Nothing ∷ Nothing ∷ Nothing ∷ Nothing ∷ Nothing ∷ []) k Nothing ≡ Nothing
-none_used zero = refl
-none_used (suc zero) = refl
-none_used (suc (suc zero)) = refl
-none_used (suc (suc (suc zero))) = refl
-none_used (suc (suc (suc (suc zero)))) = refl
-none_used (suc (suc (suc (suc (suc zero))))) = refl
-none_used (suc (suc (suc (suc (suc (suc k)))))) = refl
+none_used : (n k : ℕ) → get_or (replicate n Nothing) k Nothing ≡ Nothing
+none_used zero k = refl
+none_used (suc n) zero = refl
+none_used (suc n) (suc k) = none_used n k
 
 -- a field that is used stands after a comma; one that is not has no text
 pub used_at : (counts : Counts) (kind : Kind) (text : List ℕ) → is_used kind ≡ true → next_at (field_at counts kind) text ≡ next_field_at counts kind text
@@ -158,7 +147,7 @@ pub record AreReadTo (counts : Counts) (kinds : List Kind) (whole : Option (Foun
   blank : (k : ℕ) → place ≤ k → get_or fields k Nothing ≡ Nothing
 
 pub none_read : (counts : Counts) (kinds : List Kind) (text : List ℕ) → AreReadTo counts kinds (more_fields_at counts kinds text) 0 (Nothing ∷ Nothing ∷ Nothing ∷ Nothing ∷ Nothing ∷ Nothing ∷ []) text
-none_read counts kinds text = record { so_far = none_first (more_fields_at counts kinds text); blank = λ k from. none_used k }
+none_read counts kinds text = record { so_far = none_first (more_fields_at counts kinds text); blank = λ k from. none_used 6 k }
 
 -- the next field is read, or not used, or the reading stops there
 pub one_read : (counts : Counts) (kinds : List Kind) (whole : Option (Found (List Util))) (place : ℕ) (fields : List Util) (text left : List ℕ) (kind d : Kind) (u : Util)

@@ -1,13 +1,15 @@
 -- Lemmas on the text of pieces that are laid out: what stands after a line's beginning.
-use Rattle.std.specs.Prelude.{◌≡◌, ℕ, zero, suc, ◌+◌, ◌*◌, ◌<◌, ◌≤◌, Bool, true, false, cond, not, List, [], ◌∷◌, ◌++◌, map, length, take, drop, codes, ◌==◌, refl}
-use Rattle.std.specs.List.{list_all, range_with_len}
-use Rattle.std.proofs.Common.{ap, sym, ◌∙◌, append_assoc, append-nil, arith, length-append}
-use Rattle.std.proofs.lemmas.Bool.{and_parts, and_from}
+use Rattle.std.specs.Prelude.{◌≡◌, ℕ, zero, suc, ◌+◌, ◌*◌, ◌<◌, ◌≤◌, Bool, true, false, cond, not, List, [], ◌∷◌, ◌++◌, length, take, drop, ◌==◌, refl}
+use Rattle.std.specs.List.{list_all}
+use Rattle.std.proofs.Common.{ap, sym, ◌∙◌, append_assoc, append-nil, arith, length-append, inl, inr}
+use Rattle.std.proofs.lemmas.Bool.{and_parts, and_from, cases_lt}
 use Rattle.std.proofs.lemmas.Grind.{flat_map-append}
-use Rattle.std.proofs.lemmas.List.{take-append-le, drop-append-le, drop-drop, length-drop}
-use Rattle.sgb_graph.proofs.Lists.{list_all-made}
+use Rattle.std.proofs.lemmas.List.{take-append-le, drop-append-le, length-drop}
 use Rattle.sgb_file.specs.FileLines.{text_of_lines}
 use Rattle.sgb_file.specs.Saving.{breaks_of, broken_lines, last_part, fits_on, lines_ended, line_begun, laid_out, pieces_of, record_lines}
+use Rattle.sgb_file.specs.inner.Layouts.{comma_of, has_any, piece_of}
+use Rattle.sgb_file.proofs.BrokenLines.{breaks-long, breaks-short, broken-long, broken-short, last-long, last-short}
+use Rattle.sgb_file.proofs.LayoutLemmas.{laid_out_pass}
 use Rattle.sgb_file.proofs.LineLemmas.{no_bytes, is_line, is_one_line, is_within_line, ends_well, ends_well-last, line-append, line-drop, list_all-take, list_all-join}
 
 -- the text with so many breaks in it, each a `\` (92) and a newline (10): after its first bytes, and then after
@@ -16,33 +18,23 @@ unfoldable pub with_breaks : ℕ → ℕ → List ℕ → List ℕ
 with_breaks zero first text = text
 with_breaks (suc n) first text = take first text ++ 92 ∷ 10 ∷ with_breaks n 78 (drop first text)
 
--- the broken lines from one on, and what is left after them, are the piece with breaks
-broken_from : (n j : ℕ) (piece : List ℕ)
-    → text_of_lines (map (λ k. take 78 (drop (78 * k) piece) ++ 92 ∷ []) (range_with_len j n)) ++ drop (78 * (j + n)) piece
-    ≡ with_breaks n 78 (drop (78 * j) piece)
-unfolding with_breaks
-broken_from zero j piece = let same : j + 0 ≡ j = omega arith in ap (λ k. drop (78 * k) piece) same
-broken_from (suc n) j piece =
-    let part = take 78 (drop (78 * j) piece) in
-    let lines = text_of_lines (map (λ k. take 78 (drop (78 * k) piece) ++ 92 ∷ []) (range_with_len (j + 1) n)) in
-    let last = drop (78 * (j + suc n)) piece in
-    let later : j + suc n ≡ j + 1 + n = omega arith in
-    let further : 78 * (j + 1) ≡ 78 * j + 78 = omega arith in
-    let others = ap (λ k. lines ++ drop (78 * k) piece) later ∙ broken_from n (j + 1) piece
-    ∙ ap (λ k. with_breaks n 78 (drop k piece)) further ∙ ap (λ x. with_breaks n 78 x) (sym (drop-drop 78 (78 * j) piece)) in
-    append_assoc ((part ++ 92 ∷ []) ++ 10 ∷ []) lines last
-    ∙ append_assoc (part ++ 92 ∷ []) (10 ∷ []) (lines ++ last)
-    ∙ append_assoc part (92 ∷ []) (10 ∷ (lines ++ last))
-    ∙ ap (λ x. part ++ 92 ∷ 10 ∷ x) others
-
 -- the text of a piece that is broken
 abbrev broken_piece : List ℕ → List ℕ
 broken_piece piece = text_of_lines (broken_lines piece) ++ last_part piece
 
+broken_by : (n : ℕ) (piece : List ℕ) → length piece < n → broken_piece piece ≡ with_breaks (breaks_of piece) 78 piece
+unfolding with_breaks
+broken_by zero piece h = absurd (omega (arith, h))
+broken_by (suc n) piece h =
+    elim (cases_lt 79 (length piece)) [
+      | inl long ↦
+          let more = broken_by n (drop 78 piece) (rw length-drop (omega (arith, long, h))) in
+          rw (broken-long piece long, last-long piece long, breaks-long piece long) (simp append_assoc (ap (λ x. take 78 piece ++ 92 ∷ 10 ∷ x) more))
+      | inr short ↦ rw (broken-short piece short, last-short piece short, breaks-short piece short) refl
+    ]
+
 broken_is : (piece : List ℕ) → broken_piece piece ≡ with_breaks (breaks_of piece) 78 piece
-broken_is piece =
-    let none : 0 + breaks_of piece ≡ breaks_of piece = omega arith in
-    ap (λ k. text_of_lines (broken_lines piece) ++ drop (78 * k) piece) (sym none) ∙ broken_from (breaks_of piece) 0 piece
+broken_is piece = broken_by (suc (length piece)) piece (omega arith)
 
 -- the newline that ends a line which has begun
 abbrev line_end : List ℕ → List ℕ
@@ -60,9 +52,7 @@ ended_and_begun : (fits empty : Bool) (line piece : List ℕ) → (length line =
     ≡ line ++ cond fits piece (cond empty [] (10 ∷ []) ++ broken_piece piece)
 ended_and_begun true empty line piece e = refl
 ended_and_begun false true line piece e = rw (no_bytes line e) refl
-ended_and_begun false false line piece e =
-    append_assoc (line ++ 10 ∷ []) (text_of_lines (broken_lines piece)) (last_part piece)
-    ∙ append_assoc line (10 ∷ []) (text_of_lines (broken_lines piece) ++ last_part piece)
+ended_and_begun false false line piece e = simp append_assoc
 
 -- the text of pieces that are laid out after a line's beginning
 pub laid_out_text : (line : List ℕ) (pieces : List (List ℕ)) → text_of_lines (laid_out line pieces) ≡ line ++ after_line line pieces
@@ -133,35 +123,34 @@ pub record IsLaidOut (line text : List ℕ) (texts : List (List ℕ)) : Type 0 w
   pub few : 0 < breaks → 78 * breaks + 1 ≤ length text
   pub starts : (length line == 0) ≡ true → gap ≡ false
 
-pub lay_out : (line text : List ℕ) (texts : List (List ℕ)) → IsLaidOut line text texts
+-- the first text as a piece, and what stands after it; a comma ends it where others follow
+first_after : (line text : List ℕ) (texts : List (List ℕ)) (piece : List ℕ) → piece ≡ piece_of (has_any texts) text
+    → after_line line (pieces_of (text ∷ texts)) ≡ cond (fits_on line piece) piece (line_end line ++ broken_piece piece) ++ after_line (line_begun line piece) (pieces_of texts)
 unfolding pieces_of after_line
-lay_out line text [] =
-    let placed = place_by (fits_on line text) line text refl in
-    record {
-      gap = placed.gap;
-      breaks = placed.breaks;
-      next = [];
-      whole = ap (λ x. x ++ 10 ∷ []) placed.whole ∙ append_assoc (cond placed.gap (10 ∷ []) []) (with_breaks placed.breaks 78 text) (10 ∷ []);
-      few = λ some. omega (arith, placed.few some);
-      starts = placed.starts;
-    }
-lay_out line text (next ∷ texts) =
-    let piece = text ++ codes "," in
+first_after line text [] piece e = rw (e, append-nil text) refl
+first_after line text (next ∷ texts) piece e = rw e refl
+
+comma_after : (line : List ℕ) (texts : List (List ℕ)) → (comma_of (has_any texts) ++ after_line line (pieces_of texts) ≡ after_field line texts) × (length (comma_of (has_any texts)) ≤ 1)
+unfolding pieces_of after_line
+comma_after line [] = (refl, omega arith)
+comma_after line (text ∷ texts) = (refl, omega arith)
+
+pub lay_out : (line text : List ℕ) (texts : List (List ℕ)) → IsLaidOut line text texts
+lay_out line text texts =
+    let piece = piece_of (has_any texts) text in
     let placed = place_by (fits_on line piece) line piece refl in
     let begun = line_begun line piece in
-    let after = after_line begun (pieces_of (next ∷ texts)) in
-    let short : length piece ≡ length text + 1 = length-append text (44 ∷ []) in
-    let within : 78 + 78 * placed.breaks ≤ length text + 78 = few_fit placed.breaks (length text) (λ some. omega (arith, short, placed.few some)) in
+    let comma = comma_after begun texts in
+    let short : length piece ≡ length text + length (comma_of (has_any texts)) = length-append text (comma_of (has_any texts)) in
+    let few : 0 < placed.breaks → 78 * placed.breaks + 1 ≤ length text = λ some. omega (arith, short, comma.1, placed.few some) in
+    let within = breaks_within placed.breaks 78 text (comma_of (has_any texts)) (few_fit placed.breaks (length text) few) in
     record {
       gap = placed.gap;
       breaks = placed.breaks;
       next = begun;
-      whole =
-          ap (λ x. x ++ after) placed.whole
-          ∙ append_assoc (cond placed.gap (10 ∷ []) []) (with_breaks placed.breaks 78 piece) after
-          ∙ ap (λ x. cond placed.gap (10 ∷ []) [] ++ (x ++ after)) (breaks_within placed.breaks 78 text (44 ∷ []) within)
-          ∙ ap (λ x. cond placed.gap (10 ∷ []) [] ++ x) (append_assoc (with_breaks placed.breaks 78 text) (44 ∷ []) after);
-      few = λ some. omega (arith, short, placed.few some);
+      whole = first_after line text texts piece refl ∙ ap (λ x. x ++ after_line begun (pieces_of texts)) (placed.whole ∙ ap (λ x. cond placed.gap (10 ∷ []) [] ++ x) within)
+          ∙ simp append_assoc (ap (λ x. cond placed.gap (10 ∷ []) [] ++ (with_breaks placed.breaks 78 text ++ x)) comma.0);
+      few = few;
       starts = placed.starts;
     }
   where
@@ -178,28 +167,12 @@ broken_is_line piece h k =
     (list_all-join is_within_line part (92 ∷ []) (list_all-take is_within_line 78 (drop (78 * k) piece) left.0) refl)
     (ends_well-last part 92 refl)
 
-broken_are_lines : (piece : List ℕ) → is_line piece ≡ true → list_all is_line (broken_lines piece) ≡ true
-broken_are_lines piece h =
-    list_all-made is_line (λ k. take 78 (drop (78 * k) piece) ++ 92 ∷ []) (range_with_len 0 (breaks_of piece)) (broken_is_line piece h)
-
-ended_are_lines : (fits empty : Bool) (line piece : List ℕ) → is_line line ≡ true → is_line piece ≡ true
-    → list_all is_line (cond fits [] (cond empty [] (line ∷ []) ++ broken_lines piece)) ≡ true
-ended_are_lines true empty line piece h e = refl
-ended_are_lines false true line piece h e = broken_are_lines piece e
-ended_are_lines false false line piece h e = and_from (is_line line) (list_all is_line (broken_lines piece)) h (broken_are_lines piece e)
-
-begun_is_line : (fits : Bool) (line piece : List ℕ) → is_line line ≡ true → is_line piece ≡ true → is_line (cond fits (line ++ piece) (last_part piece)) ≡ true
-begun_is_line true line piece h e = line-append line piece h e
-begun_is_line false line piece h e = line-drop (78 * breaks_of piece) piece e
-
 pub laid_out_are_lines : (line : List ℕ) (pieces : List (List ℕ)) → is_line line ≡ true → list_all is_line pieces ≡ true → list_all is_line (laid_out line pieces) ≡ true
-unfolding laid_out
-laid_out_are_lines line [] h e = and_from (is_line line) true h refl
-laid_out_are_lines line (piece ∷ pieces) h e =
-    let parts = and_parts (is_line piece) (list_all is_line pieces) e in
-    list_all-join is_line (lines_ended line piece) (laid_out (line_begun line piece) pieces)
-    (ended_are_lines (fits_on line piece) (length line == 0) line piece h parts.0)
-    (laid_out_are_lines (line_begun line piece) pieces (begun_is_line (fits_on line piece) line piece h parts.0) parts.1)
+laid_out_are_lines line pieces h e = laid_out_pass is_line is_line broken_is_line begun_is_line line pieces h e
+  where
+    begun_is_line : (fits : Bool) (line piece : List ℕ) → fits_on line piece ≡ fits → is_line line ≡ true → is_line piece ≡ true → is_line (cond fits (line ++ piece) (last_part piece)) ≡ true
+    begun_is_line true line piece f h e = line-append line piece h e
+    begun_is_line false line piece f h e = line-drop (78 * breaks_of piece) piece e
 
 -- the pieces of texts that are lines are lines
 pieces_are_lines : (texts : List (List ℕ)) → list_all is_line texts ≡ true → list_all is_line (pieces_of texts) ≡ true

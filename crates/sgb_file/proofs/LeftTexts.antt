@@ -1,12 +1,13 @@
 -- Lemmas on the text that is left of a file's lines.
-use Rattle.std.specs.Prelude.{◌≡◌, ℕ, suc, ◌+◌, ◌<◌, ◌≤◌, Bool, true, false, cond, not, ◌||◌, ◌&&◌, List, [], ◌∷◌, ◌++◌, length, take, drop, codes, Some, None, ◌==◌, slice_get, refl}
-use Rattle.std.specs.List.{list_any, list_all, position_or_len, before_first}
+use Rattle.std.specs.Prelude.{◌≡◌, ℕ, suc, ◌+◌, ◌<◌, ◌≤◌, Bool, true, false, cond, not, ◌||◌, List, [], ◌∷◌, ◌++◌, length, take, drop, codes, Some, None, ◌==◌, slice_get, refl}
+use Rattle.std.specs.List.{list_any, list_all, position_or_len, prefix_len, before_first}
 use Rattle.std.specs.Option.{option_map_or}
-use Rattle.std.proofs.Common.{ap, sym, ◌∙◌, append_assoc, arith}
-use Rattle.std.proofs.lemmas.Bool.{and_parts, not-true}
+use Rattle.std.proofs.Common.{ap, sym, ◌∙◌, append_assoc, append-nil, arith, inl, inr}
+use Rattle.std.proofs.lemmas.Bool.{and_parts, cases_lt, not-true}
 use Rattle.std.proofs.lemmas.Bool.Decides.{nat_tests}
-use Rattle.std.proofs.lemmas.List.{drop-append-le, take-append-le, length-take}
-use Rattle.std.proofs.lemmas.List.Sums.{prefix_len-le-length}
+use Rattle.std.proofs.lemmas.List.{drop-append-le, get_or-take, take-append-le, length-take}
+use Rattle.std.proofs.lemmas.List.Folds.{prefix_len-append}
+use Rattle.std.proofs.lemmas.List.Sums.{fails_before_first, list_all-from_AllPass, prefix_len-le-length, prefix_len_passes}
 use Rattle.sgb_file.specs.FileLines.{text_of_lines}
 use Rattle.sgb_file.specs.Fields.{plain_text, after_prefix}
 use Rattle.sgb_file.specs.inner.LinesLeft.{LinesLeft, text_left, skipped, next_begun, has_no_newline}
@@ -36,14 +37,17 @@ no_line_end (b ∷ line) more h some =
 pub line_goes_on : (s : LinesLeft) (line : List ℕ) → Some line ≡ s.line → has_no_newline line ≡ true → 0 < length line → after_prefix (codes "\n") (text_left s) ≡ None
 line_goes_on s line e h some = ap (after_prefix (codes "\n")) (under_way s line e) ∙ no_line_end line (10 ∷ text_of_lines s.others) h some
 
--- a list none of whose elements passes before its end
-none_step : (t u : Bool) (n k : ℕ) → suc n ≤ cond t (1 + k) 0 → (n ≤ k → u ≡ true) → (t && u) ≡ true
-none_step true u n k h f = f (omega (arith, h))
-none_step false u n k h f = absurd (omega (arith, h))
+-- the first elements pass that do
+pub prefix_passes : {X : Type 0} (p : X → Bool) (xs : List X) → list_all p (take (prefix_len p xs) xs) ≡ true
+prefix_passes p xs =
+    let n : ℕ = prefix_len p xs in
+    list_all-from_AllPass p (take n xs) (λ k d below.
+    let within : k < n = omega (arith, below, length-take n xs) in
+    ap p (get_or-take n xs k d within) ∙ prefix_len_passes p xs k d within)
 
+-- a list none of whose elements passes before its end
 pub none_before : (p : ℕ → Bool) (x : List ℕ) → length x ≤ position_or_len p x → list_all (λ c. not (p c)) x ≡ true
-none_before p [] h = refl
-none_before p (b ∷ x) h = none_step (not (p b)) (list_all (λ c. not (p c)) x) (length x) (position_or_len p x) h (none_before p x)
+none_before p x h = list_all-from_AllPass (λ c. not (p c)) x (λ k d below. ap not (fails_before_first p x k d (omega (arith, below, h))))
 
 -- the first place that passes, after such a list
 pub first_beyond : (p : ℕ → Bool) (x y : List ℕ) → list_all (λ c. not (p c)) x ≡ true → position_or_len p (x ++ y) ≡ length x + position_or_len p y
@@ -59,13 +63,17 @@ any_beyond p (b ∷ x) y h =
     rw (not-true (p b) parts.0) (any_beyond p x y parts.1)
 
 -- the first place that passes, where it is in the first of two lists
-within_step : (t : Bool) (n k m : ℕ) → (k < n → m ≡ k) → cond t (1 + k) 0 < suc n → cond t (1 + m) 0 ≡ cond t (1 + k) 0
-within_step true n k m f h = ap (λ j. 1 + j) (f (omega (arith, h)))
-within_step false n k m f h = refl
-
 pub first_within : (p : ℕ → Bool) (x y : List ℕ) → position_or_len p x < length x → position_or_len p (x ++ y) ≡ position_or_len p x
-first_within p [] y h = absurd (omega (arith, h))
-first_within p (b ∷ x) y h = within_step (not (p b)) (length x) (position_or_len p x) (position_or_len p (x ++ y)) (first_within p x y) h
+first_within p x y h =
+    let other : (position_or_len p x == length x) ≡ false = grind (arith, nat_tests) in
+    rw (prefix_len-append (λ c. not (p c)) x y, other) refl
+
+pub passes_within : (p : ℕ → Bool) (x : List ℕ) → list_any p x ≡ true → position_or_len p x < length x
+passes_within p x h =
+    elim (cases_lt (position_or_len p x) (length x)) [
+      | inl within ↦ within
+      | inr past ↦ let none : list_any p x ≡ false = rw append-nil at (any_beyond p x [] (none_before p x past)) in absurd cc
+    ]
 
 any_step : (t u : Bool) (n k : ℕ) → (k < n → u ≡ true) → cond (not t) (1 + k) 0 < suc n → (t || u) ≡ true
 any_step true u n k f h = refl

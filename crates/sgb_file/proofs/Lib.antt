@@ -2,10 +2,10 @@
 
 -- the order of the bytes, and the checksum made byte by byte
 pub mod ChecksumLemmas
--- the parts of a text that is read as a graph
-pub mod RestoringLemmas
 -- what each of several readers found, one after another
 pub mod FoundParts
+-- readers of texts, and how they are put together
+pub mod ReadTexts
 -- first lines: what one says, and how one is read
 pub mod FirstLines
 -- what a file's records say fits its kinds, and can be saved
@@ -14,9 +14,9 @@ pub mod ReadParts
 pub mod FieldsAndTexts
 -- a record is read exactly of the texts of its fields
 pub mod RecordsAndTexts
--- a text is read as a graph exactly where it is a file of it
+-- the opening, the records and the closing line of a file are read exactly where they stand
 pub mod FilesAndTexts
--- the code of a text that is a file of no graph
+-- a text is read as a graph exactly where it is a file of it, and the code of each other text
 pub mod RefusedTexts
 -- lines of at most 79 bytes
 pub mod LayoutLemmas

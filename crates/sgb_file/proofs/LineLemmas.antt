@@ -4,7 +4,9 @@ use Rattle.std.specs.List.{list_all, slice_split, onto_first}
 use Rattle.std.proofs.Common.{ap, sym, ◌∙◌, append_assoc, append-nil, arith}
 use Rattle.std.proofs.lemmas.Bool.{and_parts, and_from, not-true}
 use Rattle.std.proofs.lemmas.List.{map-append}
+use Rattle.std.proofs.lemmas.List.Elements.{All-drop, All-take}
 use Rattle.std.proofs.lemmas.List.Folds.{list_all-append}
+use Rattle.std.proofs.lemmas.List.Sums.{AllPass-from_list_all, list_all-from_AllPass}
 use Rattle.std.proofs.lemmas.Bool.Decides.{nat_tests, Decides-eqb}
 use Rattle.sgb_graph.proofs.Lists.{list_all-weaker, list_all-mapped, map-stays}
 use Rattle.sgb_file.specs.FileLines.{lines_among, lines_of_text, without_end_spaces, clean_lines, text_of_lines}
@@ -176,16 +178,10 @@ ends_well-last (c ∷ d ∷ x) b h = ends_well-last (d ∷ x) b h
 
 -- a test of each element, of a part of a list
 pub list_all-drop : {X : Type 0} (p : X → Bool) (k : ℕ) (x : List X) → list_all p x ≡ true → list_all p (drop k x) ≡ true
-list_all-drop p zero x h = h
-list_all-drop p (suc k) [] h = refl
-list_all-drop p (suc k) (b ∷ x) h = list_all-drop p k x (and_parts (p b) (list_all p x) h).1
+list_all-drop p k x h = list_all-from_AllPass p (drop k x) (All-drop (λ b. p b ≡ true) k x (AllPass-from_list_all p x h))
 
 pub list_all-take : {X : Type 0} (p : X → Bool) (k : ℕ) (x : List X) → list_all p x ≡ true → list_all p (take k x) ≡ true
-list_all-take p zero x h = refl
-list_all-take p (suc k) [] h = refl
-list_all-take p (suc k) (b ∷ x) h =
-    let parts = and_parts (p b) (list_all p x) h in
-    and_from (p b) (list_all p (take k x)) parts.0 (list_all-take p k x parts.1)
+list_all-take p k x h = list_all-from_AllPass p (take k x) (All-take (λ b. p b ≡ true) k x (AllPass-from_list_all p x h))
 
 pub list_all-join : {X : Type 0} (p : X → Bool) (x y : List X) → list_all p x ≡ true → list_all p y ≡ true → list_all p (x ++ y) ≡ true
 list_all-join p x y h e = list_all-append p x y ∙ and_from (list_all p x) (list_all p y) h e

@@ -1,5 +1,5 @@
 -- Lemmas on numbers that are read digit by digit.
-use Rattle.std.specs.Prelude.{◌≡◌, ℕ, zero, suc, ◌+◌, ◌-◌, ◌*◌, ◌^◌, ◌<◌, ◌≤◌, true, false, ◌&&◌, List, [], ◌∷◌, Option, Some, None, IfSome, length, take, nat_le, nat_lt}
+use Rattle.std.specs.Prelude.{◌≡◌, ℕ, zero, suc, ◌+◌, ◌-◌, ◌*◌, ◌^◌, ◌<◌, ◌≤◌, true, false, ◌&&◌, List, [], ◌∷◌, Option, Some, None, IfSome, length, take, nat_le, nat_lt, refl}
 use Rattle.std.specs.Char.{digit_value}
 use Rattle.std.specs.List.{list_all}
 use Rattle.std.specs.Str.Parse.{AllDigits, digits_value}
@@ -54,19 +54,38 @@ value_below text most h short =
 pub at_most : (n k : ℕ) → nat_le n k ≡ true → n ≤ k
 at_most n k h = grind (arith, nat_tests)
 
--- a number's text is digits
-pub number_digits : (most : ℕ) (text : List ℕ) (n : ℕ) → number_of most text ≡ Some n → list_all is_decimal_digit text ≡ true
-number_digits most text n e =
+pub at_most_passes : (n k : ℕ) → n ≤ k → nat_le n k ≡ true
+at_most_passes n k h = grind (arith, nat_tests)
+
+pub test_below : (n limit : ℕ) → nat_lt n limit ≡ true → n < limit
+test_below n limit e = grind (arith, nat_tests)
+
+-- what the text of a number is
+pub record IsNumberText (most : ℕ) (text : List ℕ) (n : ℕ) : Type 0 where
+  pub some : 0 < length text
+  pub short : length text ≤ most
+  pub digits : list_all is_decimal_digit text ≡ true
+  pub value : digits_value 10 text ≡ n
+
+pub number_says : (most : ℕ) (text : List ℕ) (n : ℕ) → number_of most text ≡ Some n → IsNumberText most text n
+number_says most text n e =
     let p = was_let_through (nat_lt 0 (length text) && nat_le (length text) most && list_all is_decimal_digit text) (digits_value 10 text) n e in
-    (and_parts (nat_lt 0 (length text) && nat_le (length text) most) (list_all is_decimal_digit text) p.0).1
+    let parts = and_parts (nat_lt 0 (length text) && nat_le (length text) most) (list_all is_decimal_digit text) p.0 in
+    let sizes = and_parts (nat_lt 0 (length text)) (nat_le (length text) most) parts.0 in
+    record { some = test_below 0 (length text) sizes.0; short = at_most (length text) most sizes.1; digits = parts.1; value = p.1 }
+
+-- and such a text says a number
+pub number_tested : (most : ℕ) (text : List ℕ) → 0 < length text → length text ≤ most → list_all is_decimal_digit text ≡ true → number_of most text ≡ Some (digits_value 10 text)
+number_tested most text some short digits =
+    let first : nat_lt 0 (length text) ≡ true = grind (arith, nat_tests) in
+    let second : nat_le (length text) most ≡ true = grind (arith, nat_tests) in
+    rw first (rw second (rw digits refl))
 
 -- a number of so many digits
 pub number_is_small : (most : ℕ) (text : List ℕ) (n : ℕ) → number_of most text ≡ Some n → n < 10 ^ most
 number_is_small most text n e =
-    let p = was_let_through (nat_lt 0 (length text) && nat_le (length text) most && list_all is_decimal_digit text) (digits_value 10 text) n e in
-    let parts = and_parts (nat_lt 0 (length text) && nat_le (length text) most) (list_all is_decimal_digit text) p.0 in
-    let short = (and_parts (nat_lt 0 (length text)) (nat_le (length text) most) parts.0).1 in
-    subst (λ (k : ℕ). k < 10 ^ most) p.1 (value_below text most parts.1 (at_most (length text) most short))
+    let h = number_says most text n e in
+    subst (λ (k : ℕ). k < 10 ^ most) h.value (value_below text most h.digits h.short)
 
 -- one more digit of at most 20
 pub record NextDigit (digits : List ℕ) (i : ℕ) : Type 0 where
@@ -86,6 +105,7 @@ next_digit digits i h short within =
 
 -- one more byte of at most 18, which is a digit
 pub record GoesOn (text : List ℕ) (i : ℕ) : Type 0 where
+  pub here : is_decimal_digit (get_or text i 0) ≡ true
   pub low : 48 ≤ get_or text i 0
   pub digits : list_all is_decimal_digit (take (i + 1) text) ≡ true
   pub more : digits_value 10 (take (i + 1) text) ≡ 10 * digits_value 10 (take i text) + (get_or text i 0 - 48)
@@ -100,11 +120,16 @@ goes_on text i h here short within =
     let all : list_all is_decimal_digit (take (i + 1) text) ≡ true =
     list_all_more is_decimal_digit text i 0 within ∙ and_from (list_all is_decimal_digit (take i text)) (is_decimal_digit (get_or text i 0)) h here in
     let few : length (take (i + 1) text) ≤ 18 = omega (arith, length-take (i + 1) text, short) in record {
+      here = here;
       low = digit.low;
       digits = all;
       more = omega (arith, more, value);
       fits = value_below (take (i + 1) text) 18 all few;
     }
+
+-- the same of a byte that counts no more than 9
+pub counts_on : (text : List ℕ) (i d : ℕ) → list_all is_decimal_digit (take i text) ≡ true → nat_le d 9 ≡ is_decimal_digit (get_or text i 0) → d ≤ 9 → length text ≤ 18 → i < length text → GoesOn text i
+counts_on text i d h is counts short within = goes_on text i h (let few : nat_le d 9 ≡ true = grind (arith, nat_tests) in sym is ∙ few) short within
 
 -- all of the bytes are digits
 pub ends_as_digits : (text : List ℕ) (i value : ℕ) → length text ≤ i → list_all is_decimal_digit (take i text) ≡ true → value ≡ digits_value 10 (take i text)

@@ -119,17 +119,11 @@ pub placed-here : (piece : List ℕ) (a b : Stage) → fits_on a.layout.line pie
 placed-here piece a b fits alike line = rw fits (laid-none a b alike.written alike.failed alike.checksum, line)
 
 -- one that does not: what is written before it, and what its bytes fill
-placed-lines : (line piece : List ℕ) → fits_on line piece ≡ false → lines_ended line piece ≡ lines_before line ++ broken_lines piece
-placed-lines line piece e = rw e refl
-
-placed-line : (line piece : List ℕ) → fits_on line piece ≡ false → line_begun line piece ≡ last_part piece
-placed-line line piece e = rw e refl
-
 pub placed-cut : (piece : List ℕ) (a b : Stage) → fits_on a.layout.line piece ≡ false → IsStopped (lines_before a.layout.line) a b → IsStopped (lines_ended a.layout.line piece) a b
-placed-cut piece a b e p = stopped-first _ _ _ a b (placed-lines a.layout.line piece e) p
+placed-cut piece a b e p = rw e (stopped-first _ (lines_before a.layout.line) (broken_lines piece) a b refl p)
 
 pub placed-then : {T E : Type 0} (piece : List ℕ) (a b c : Stage) (r : Result T E) → fits_on a.layout.line piece ≡ false
     → HasLaid (lines_before a.layout.line) a b × (b.layout.line ≡ []) → IsFilled piece b c r → IsPlaced piece a c r
 placed-then piece a b c r e p q =
-    rw (placed-line a.layout.line piece e)
-    (laid-after _ _ _ _ a b c r (placed-lines a.layout.line piece e) p.0 (subst (λ line. IsLaid (broken_lines (line ++ piece)) (last_part (line ++ piece)) b c r) p.1 q))
+    rw e
+    (laid-after _ (lines_before a.layout.line) (broken_lines piece) _ a b c r refl p.0 (subst (λ line. IsLaid (broken_lines (line ++ piece)) (last_part (line ++ piece)) b c r) p.1 q))

@@ -1,19 +1,20 @@
 -- Fields that the bytes before the first comma of a line say, found digit by digit.
-use Rattle.std.specs.Prelude.{◌≡◌, ℕ, zero, suc, ◌+◌, ◌<◌, ◌≤◌, Bool, true, false, ◌&&◌, List, [], ◌∷◌, length, take, drop, Option, Some, None, option_map, ◌==◌, nat_lt, nat_le, cond, refl}
+use Rattle.std.specs.Prelude.{◌≡◌, ℕ, suc, ◌+◌, ◌<◌, ◌≤◌, Bool, true, false, List, [], ◌∷◌, ◌++◌, length, take, drop, Option, Some, None, option_map, ◌==◌, nat_lt, nat_le, cond, refl}
 use Rattle.std.specs.List.{before_first, list_all, position_or_len, prefix_len, take_while}
 use Rattle.std.specs.Str.Parse.{digits_value}
-use Rattle.std.proofs.Common.{ap, sym, ◌∙◌, subst, arith, get_or}
-use Rattle.std.proofs.Math.Bool.{and-false}
-use Rattle.std.proofs.lemmas.Bool.{and_parts, and_from}
+use Rattle.std.proofs.Common.{ap, sym, ◌∙◌, subst, arith, get_or, inl, inr, not}
+use Rattle.std.proofs.lemmas.Bool.{cases_lt}
 use Rattle.std.proofs.lemmas.Bool.Decides.{nat_tests}
-use Rattle.std.proofs.lemmas.List.{length-take}
-use Rattle.std.proofs.lemmas.List.Sums.{take_while-cons}
+use Rattle.std.proofs.lemmas.List.{drop_all, drop_more, drop-append-le, get_or-take, length-take, take_all, take-append-drop, take-append-le}
+use Rattle.std.proofs.lemmas.List.Folds.{length-prefix_len}
+use Rattle.std.proofs.lemmas.List.Sums.{AllPass-from_list_all, passes_at_first, position_or_len_is, prefix_len-le-length, prefix_len_is, prefix_len_passes}
 use Rattle.sgb_graph.specs.declared.fields.Ref.TheVariants.{At}
 use Rattle.sgb_file.specs.FileLines.{text_of_lines}
 use Rattle.sgb_file.specs.Fields.{Found, is_decimal_digit, number_below, number_of, plain_at, plain_text, record_number_of, ref_of}
 use Rattle.sgb_file.specs.inner.Found.{is_at_end}
 use Rattle.sgb_file.specs.inner.LinesLeft.{LinesLeft, text_left, skipped, has_no_newline}
-use Rattle.sgb_file.proofs.LeftTexts.{under_way, skipped_left, plain_of_line, before_comma_short}
+use Rattle.sgb_file.proofs.NumberReading.{number_says, number_tested}
+use Rattle.sgb_file.proofs.LeftTexts.{under_way, plain_of_line, before_comma_short, prefix_passes}
 
 -- the bytes before the first comma
 abbrev pub comma_free : List ℕ → List ℕ
@@ -23,15 +24,30 @@ comma_free text = before_first (λ b. b == 44) text
 abbrev pub front : ℕ → List ℕ → List ℕ
 front most text = take_while is_decimal_digit (take most text)
 
--- a field that the bytes before the first comma of the line under way say
+-- a field that the bytes before the first comma of a line say, and what is left of the line
+pub field_of_line : (X : Type 0) (says : List ℕ → Option X) (line after text : List ℕ) (x : X) → has_no_newline line ≡ true
+    → says (comma_free line) ≡ Some x
+    → drop (length (comma_free line)) line ≡ after → plain_at says (line ++ 10 ∷ text) ≡ Some (record {
+      value = x;
+      rest = after ++ 10 ∷
+          text;
+    })
+field_of_line X says line after text x h said left =
+    let whole = line ++ 10 ∷ text in
+    let rest : drop (length (comma_free line)) whole ≡ after ++ 10 ∷ text =
+    drop-append-le (length (comma_free line)) line (10 ∷ text) (before_comma_short line) ∙ ap (λ (t : List ℕ). t ++ 10 ∷ text) left in
+    subst (λ (t : List ℕ). option_map {U = Found X} (λ v. record { value = v; rest = drop (length t) whole }) (says t) ≡ Some (record {
+      value = x;
+      rest = after ++ 10 ∷ text;
+    })) (plain_of_line line text h)
+    (rw said (ap (λ (r : List ℕ). Some (record { value = x; rest = r })) rest))
+
+-- the same of the line under way
 pub field_found : (X : Type 0) (says : List ℕ → Option X) (s : LinesLeft) (line : List ℕ) (x : X) (len : ℕ) → Some line ≡ s.line → has_no_newline line ≡ true
     → says (comma_free line) ≡ Some x → len ≡ length (comma_free line) → plain_at says (text_left s) ≡ Some (record { value = x; rest = text_left (skipped len s) })
 field_found X says s line x len e h said k =
-    let plain = plain_of_line line (text_of_lines s.others) h ∙ ap plain_text (sym (under_way s line e)) in
-    let short : len ≤ length line = omega (arith, k, before_comma_short line) in
-    let rest : text_left (skipped len s) ≡ drop (length (comma_free line)) (text_left s) = skipped_left s line len e short ∙ ap (λ (n : ℕ). drop n (text_left s)) k in
-    subst (λ (t : List ℕ). option_map {U = Found X} (λ v. record { value = v; rest = drop (length t) (text_left s) }) (says t) ≡ Some (record { value = x; rest = text_left (skipped len s) })) plain
-    (rw said (ap (λ (r : List ℕ). Some (record { value = x; rest = r })) (sym rest)))
+    let found = field_of_line X says line (drop len line) (text_of_lines s.others) x h said (ap (λ (n : ℕ). drop n line) (sym k)) in
+    ap (plain_at says) (under_way s line e) ∙ found ∙ ap (λ (t : List ℕ). Some (record { value = x; rest = t })) (sym (under_way (skipped len s) (drop len line) (ap (option_map (λ l. drop len l)) e)))
 
 -- or do not say
 pub field_missing : (X : Type 0) (says : List ℕ → Option X) (s : LinesLeft) (line : List ℕ) → Some line ≡ s.line → has_no_newline line ≡ true
@@ -45,57 +61,32 @@ taken : (t : Bool) (k b : ℕ) (text : List ℕ) → take (cond t (1 + k) 0) (b 
 taken true k b text = let e : 1 + k ≡ suc k = omega arith in ap (λ (n : ℕ). take n (b ∷ text)) e
 taken false k b text = refl
 
-no_more : (b : ℕ) (text : List ℕ) → (b == 44) ≡ true → comma_free (b ∷ text) ≡ []
-no_more b text e = rw e refl
-
 pub one_more : (b : ℕ) (text : List ℕ) → (b == 44) ≡ false → comma_free (b ∷ text) ≡ b ∷ comma_free text
 one_more b text e = rw e (taken true (position_or_len (λ c. c == 44) text) b text)
 
 digit_no_comma : (b : ℕ) → is_decimal_digit b ≡ true → (b == 44) ≡ false
 digit_no_comma b h = grind (arith, nat_tests)
 
--- a byte is a digit where what it counts is no more than 9
-pub digit_counts : (b d : ℕ) → nat_le d 9 ≡ is_decimal_digit b → d ≤ 9 → is_decimal_digit b ≡ true
-digit_counts b d e h = let few : nat_le d 9 ≡ true = grind (arith, nat_tests) in sym e ∙ few
-
+-- a byte is no digit where what it counts is more than 9
 pub no_digit_counts : (b d : ℕ) → nat_le d 9 ≡ is_decimal_digit b → 9 < d → is_decimal_digit b ≡ false
 no_digit_counts b d e h = let many : nat_le d 9 ≡ false = grind (arith, nat_tests) in sym e ∙ many
-
--- a digit that stands first, or none
-digit_front : (most b : ℕ) (text : List ℕ) → is_decimal_digit b ≡ true → front (suc most) (b ∷ text) ≡ b ∷ front most text
-digit_front most b text h = take_while-cons is_decimal_digit b (take most text) ∙ rw h refl
-
-no_front : (most b : ℕ) (text : List ℕ) → is_decimal_digit b ≡ false → front (suc most) (b ∷ text) ≡ []
-no_front most b text h = take_while-cons is_decimal_digit b (take most text) ∙ rw h refl
 
 -- the digits that a text begins with, up to the first byte that is none
 pub digits_until : (text : List ℕ) (i : ℕ) → list_all is_decimal_digit (take i text) ≡ true → is_decimal_digit (get_or text i 0) ≡ false → i < length text
     → take_while is_decimal_digit text ≡ take i text
-digits_until [] i h stop within = absurd (omega (arith, within))
-digits_until (b ∷ text) zero h stop within = take_while-cons is_decimal_digit b text ∙ rw stop refl
-digits_until (b ∷ text) (suc i) h stop within =
-    let parts = and_parts (is_decimal_digit b) (list_all is_decimal_digit (take i text)) h in
-    take_while-cons is_decimal_digit b text ∙ rw parts.0 (ap (λ x. b ∷ x) (digits_until text i parts.1 stop (omega (arith, within))))
+digits_until text i h stop within =
+    ap (λ (k : ℕ). take k text) (prefix_len_is is_decimal_digit text i 0 (omega (arith, within))
+    (λ k below. sym (ap is_decimal_digit (get_or-take i text k 0 below)) ∙ AllPass-from_list_all is_decimal_digit (take i text) h k 0 (omega (arith, below, within, length-take i text))) (λ here. stop))
 
 pub digits_all : (text : List ℕ) → list_all is_decimal_digit text ≡ true → take_while is_decimal_digit text ≡ text
-digits_all [] h = refl
-digits_all (b ∷ text) h =
-    let parts = and_parts (is_decimal_digit b) (list_all is_decimal_digit text) h in
-    take_while-cons is_decimal_digit b text ∙ rw parts.0 (ap (λ x. b ∷ x) (digits_all text parts.1))
+digits_all text h =
+    let n = length text in
+    ap (λ (k : ℕ). take k text) (prefix_len_is is_decimal_digit text n 0 (omega arith) (λ k below. AllPass-from_list_all is_decimal_digit text h k 0 below) (λ past. absurd (omega (arith, past))))
+    ∙ take_all n text (omega arith)
 
 -- the first digits are digits, as many as are asked for at most
 pub front_digits : (text : List ℕ) → list_all is_decimal_digit (take_while is_decimal_digit text) ≡ true
-front_digits [] = refl
-front_digits (b ∷ text) = by_digit (front_digits text) (is_decimal_digit b) refl
-  where
-    by_digit : list_all is_decimal_digit (take_while is_decimal_digit text) ≡ true → (d : Bool) → is_decimal_digit b ≡ d → list_all is_decimal_digit (take_while is_decimal_digit (b ∷ text)) ≡ true
-    by_digit later true h =
-        let more : take_while is_decimal_digit (b ∷ text) ≡ b ∷ take_while is_decimal_digit text = take_while-cons is_decimal_digit b text ∙ rw h refl in
-        ap (list_all is_decimal_digit) more
-        ∙ and_from (is_decimal_digit b) (list_all is_decimal_digit (take_while is_decimal_digit text)) h later
-    by_digit later false h =
-        let none : take_while is_decimal_digit (b ∷ text) ≡ [] = take_while-cons is_decimal_digit b text ∙ rw h refl in
-        ap (list_all is_decimal_digit) none
+front_digits text = prefix_passes is_decimal_digit text
 
 front_short : (most : ℕ) (text : List ℕ) → length (front most text) ≤ most
 front_short most text =
@@ -103,69 +94,55 @@ front_short most text =
 
 -- the field ends with the digits: they are the bytes before the first comma
 pub ends_with_digits : (most : ℕ) (text : List ℕ) → is_at_end (drop (length (front most text)) text) ≡ true → comma_free text ≡ front most text
-ends_with_digits zero [] e = refl
-ends_with_digits zero (b ∷ text) e = no_more b text e
-ends_with_digits (suc most) [] e = refl
-ends_with_digits (suc most) (b ∷ text) e = by_digit (ends_with_digits most text) (is_decimal_digit b) refl
-  where
-    at_end : (f : List ℕ) → front (suc most) (b ∷ text) ≡ f → is_at_end (drop (length f) (b ∷ text)) ≡ true
-    at_end f p = subst (λ (x : List ℕ). is_at_end (drop (length x) (b ∷ text)) ≡ true) p e
+ends_with_digits most text e =
+    let m = take most text in
+    let n : ℕ = prefix_len is_decimal_digit m in
+    let le : n ≤ length m = prefix_len-le-length is_decimal_digit m in
+    let size = length-take most text in
+    let at = ap (λ (k : ℕ). is_at_end (drop k text)) (sym (length-prefix_len is_decimal_digit m)) ∙ e in
+    let place : position_or_len (λ b. b == 44) text ≡ n =
+    position_or_len_is (λ b. b == 44) text n 0 (omega (arith, le, size))
+    (λ k below. digit_no_comma (get_or text k 0) (ap is_decimal_digit (sym (get_or-take most text k 0 (omega (arith, below, le, size)))) ∙ prefix_len_passes is_decimal_digit m k 0 below))
+    (λ here. sym (ap is_at_end (drop_more text n 0 here)) ∙ at) in
+    ap (λ (k : ℕ). take k text) place ∙ (ap (take n) (sym (take-append-drop most text)) ∙ take-append-le n m (drop most text) le)
 
-    by_digit : (is_at_end (drop (length (front most text)) text) ≡ true → comma_free text ≡ front most text)
-        → (d : Bool) → is_decimal_digit b ≡ d → comma_free (b ∷ text) ≡ front (suc most) (b ∷ text)
-    by_digit later true h =
-        let p = digit_front most b text h in
-        one_more b text (digit_no_comma b h) ∙ (ap (λ x. b ∷ x) (later (at_end (b ∷ front most text) p)) ∙ sym p)
-    by_digit later false h =
-        let p = no_front most b text h in
-        no_more b text (at_end [] p) ∙ sym p
+-- the bytes before the first comma end a field
+at_comma : (text : List ℕ) → is_at_end (drop (position_or_len (λ b. b == 44) text) text) ≡ true
+at_comma text =
+    elim (cases_lt (position_or_len (λ b. b == 44) text) (length text)) [
+      | inl within ↦ ap is_at_end (drop_more text (position_or_len (λ b. b == 44) text) 0 within) ∙ passes_at_first (λ b. b == 44) text 0 within
+      | inr past ↦ ap is_at_end (drop_all (position_or_len (λ b. b == 44) text) text past)
+    ]
 
--- one more on both sides
-both_more : (n most : ℕ) → nat_le (suc n) (suc most) ≡ nat_le n most
-both_more n most = by_test (nat_le n most) refl
-  where
-    by_test : (t : Bool) → nat_le n most ≡ t → nat_le (suc n) (suc most) ≡ nat_le n most
-    by_test true e = let more : nat_le (suc n) (suc most) ≡ true = grind (arith, nat_tests) in more ∙ sym e
-    by_test false e = let more : nat_le (suc n) (suc most) ≡ false = grind (arith, nat_tests) in more ∙ sym e
+-- a number before a comma is the digits that the text begins with
+comma_no_digit : (b : ℕ) → (b == 44) ≡ true → is_decimal_digit b ≡ false
+comma_no_digit b h = grind (arith, nat_tests)
 
--- it goes on after them: it is too long, or has another byte than a digit
-pub goes_past_digits : (most : ℕ) (text : List ℕ) → is_at_end (drop (length (front most text)) text) ≡ false
-    → (nat_le (length (comma_free text)) most && list_all is_decimal_digit (comma_free text)) ≡ false
-goes_past_digits zero [] e = absurd cc
-goes_past_digits zero (b ∷ text) e =
-    let long : nat_le (length (b ∷ comma_free text)) 0 ≡ false = grind (arith, nat_tests) in
-    rw (one_more b text e) (rw long refl)
-goes_past_digits (suc most) [] e = absurd cc
-goes_past_digits (suc most) (b ∷ text) e = by_digit (goes_past_digits most text) (is_decimal_digit b) refl
-  where
-    at_end : (f : List ℕ) → front (suc most) (b ∷ text) ≡ f → is_at_end (drop (length f) (b ∷ text)) ≡ false
-    at_end f p = subst (λ (x : List ℕ). is_at_end (drop (length x) (b ∷ text)) ≡ false) p e
-
-    by_digit : (is_at_end (drop (length (front most text)) text) ≡ false → (nat_le (length (comma_free text)) most && list_all is_decimal_digit (comma_free text)) ≡ false)
-        → (d : Bool) → is_decimal_digit b ≡ d → (nat_le (length (comma_free (b ∷ text))) (suc most) && list_all is_decimal_digit (comma_free (b ∷ text))) ≡ false
-    by_digit later true h =
-        rw (one_more b text (digit_no_comma b h)) (rw (both_more (length (comma_free text)) most, h) (later (at_end (b ∷ front most text) (digit_front most b text h))))
-    by_digit later false h =
-        rw (one_more b text (at_end [] (no_front most b text h))) (rw h (and-false (nat_le (suc (length (comma_free text))) (suc most))))
+number_is_front : (most : ℕ) (text : List ℕ) (n : ℕ) → number_of most (comma_free text) ≡ Some n → length (front most text) ≡ position_or_len (λ b. b == 44) text
+number_is_front most text n e =
+    let m = take most text in
+    let p : ℕ = position_or_len (λ b. b == 44) text in
+    let s = number_says most (comma_free text) n e in
+    let size : length (comma_free text) ≡ p = length-prefix_len (λ b. not (b == 44)) text in
+    let le : p ≤ length text = prefix_len-le-length (λ b. not (b == 44)) text in
+    let few : p ≤ most = omega (arith, s.short, size) in
+    let whole = length-take most text in
+    length-prefix_len is_decimal_digit m ∙ prefix_len_is is_decimal_digit m p 0 (omega (arith, le, few, whole))
+    (λ k below. ap is_decimal_digit (get_or-take most text k 0 (omega (arith, below, few)) ∙ sym (get_or-take p text k 0 below)) ∙ AllPass-from_list_all is_decimal_digit (comma_free text) s.digits k 0 (omega (arith, below, size)))
+    (λ here. ap is_decimal_digit (get_or-take most text p 0 (omega (arith, here, whole))) ∙ comma_no_digit (get_or text p 0) (passes_at_first (λ b. b == 44) text 0 (omega (arith, here, whole))))
 
 -- the number of at most so many digits that they write, where the field ends with them
-unended : (a b c : Bool) → (b && c) ≡ false → (a && b && c) ≡ false
-unended true b c e = e
-unended false b c e = refl
-
 pub number_ends : (most : ℕ) (text : List ℕ) → 0 < length (front most text) → is_at_end (drop (length (front most text)) text) ≡ true
     → number_of most (comma_free text) ≡ Some (digits_value 10 (front most text))
 number_ends most text some e =
-    let digits = front most text in
-    let first : nat_lt 0 (length digits) ≡ true = grind (arith, nat_tests) in
-    let short = front_short most text in
-    let second : nat_le (length digits) most ≡ true = grind (arith, nat_tests) in
-    ap (number_of most) (ends_with_digits most text e) ∙ rw first (rw second (rw (front_digits (take most text)) refl))
+    ap (number_of most) (ends_with_digits most text e) ∙ number_tested most (front most text) some (front_short most text) (front_digits (take most text))
 
 pub number_goes_on : (most : ℕ) (text : List ℕ) → is_at_end (drop (length (front most text)) text) ≡ false → number_of most (comma_free text) ≡ None
-number_goes_on most text e =
-    let field = comma_free text in
-    rw (unended (nat_lt 0 (length field)) (nat_le (length field) most) (list_all is_decimal_digit field) (goes_past_digits most text e)) refl
+number_goes_on most text e = by_number (number_of most (comma_free text)) refl
+  where
+    by_number : (o : Option ℕ) → number_of most (comma_free text) ≡ o → o ≡ None
+    by_number None h = refl
+    by_number (Some n) h = let at = ap (λ (k : ℕ). is_at_end (drop k text)) (number_is_front most text n h) ∙ at_comma text in absurd cc
 
 pub no_number : (most : ℕ) (text : List ℕ) → length (front most text) ≡ 0 → number_of most (comma_free text) ≡ None
 no_number most text none = by_end (is_at_end (drop (length (front most text)) text)) refl

@@ -1,11 +1,8 @@
 -- What is read of a file's records: fields that fit their kinds, texts and numbers within their limits.
-use Rattle.std.specs.Prelude.{◌≡◌, ℕ, zero, suc, ℤ, pos, neg_ℤ, ◌^◌, ◌<◌, ◌≤◌, Bool, true, false, ◌&&◌, List, [], ◌∷◌, length, get_or, codes, Option, Some, None, Ok, Err, option_map, All, FitsSigned, nat_lt, nat_le, ◌==◌, if◌then◌else◌, refl}
-use Rattle.std.specs.Int.{w64}
+use Rattle.std.specs.Prelude.{◌≡◌, ℕ, ◌<◌, ◌≤◌, true, ◌&&◌, List, [], ◌∷◌, length, get_or, Some, Ok, Err, All, nat_le, if◌then◌else◌, refl}
 use Rattle.std.specs.List.{list_all}
-use Rattle.std.specs.Str.{bytes_eq}
-use Rattle.std.proofs.Common.{ap, sym, subst, ◌∙◌, arith}
+use Rattle.std.proofs.Common.{sym, subst, ◌∙◌}
 use Rattle.std.proofs.lemmas.Bool.{and_parts, and_from}
-use Rattle.std.proofs.lemmas.Bool.Decides.{nat_tests}
 use Rattle.std.proofs.lemmas.List.Elements.{All-cons, All-nil}
 use Rattle.std.proofs.lemmas.List.Sums.{AllPass-from_list_all, list_all-from_AllPass}
 use Rattle.sgb_vec.specs.Limits.{most_vertices, most_bytes}
@@ -14,85 +11,25 @@ use Rattle.sgb_vec.specs.declared.panics.Panic.TheVariants.{Syntax}
 use Rattle.sgb_graph.specs.Graphs.{GraphData}
 use Rattle.sgb_graph.specs.Ids.{most_id_bytes}
 use Rattle.sgb_graph.specs.Parts.{checked}
-use Rattle.sgb_graph.specs.Sound.{ref_fits, chain_fits, util_fits, utils_fit, vertex_fits, record_fits, is_sound, graph_kinds}
+use Rattle.sgb_graph.specs.Sound.{util_fits, utils_fit, vertex_fits, record_fits, is_sound, graph_kinds}
 use Rattle.sgb_graph.specs.declared.fields.Kind.{Kind}
 use Rattle.sgb_graph.specs.declared.fields.Kind.TheVariants.{Z, I, V, S, A}
-use Rattle.sgb_graph.specs.declared.fields.Ref.{Ref}
-use Rattle.sgb_graph.specs.declared.fields.Ref.TheVariants.{Null, One, At}
 use Rattle.sgb_graph.specs.declared.fields.Util.{Util}
 use Rattle.sgb_graph.specs.declared.fields.Util.TheVariants.{Nothing, Int, Vertex as VertexField, Str, Chain}
-use Rattle.sgb_file.specs.FileLines.{clean_lines, text_of_lines}
-use Rattle.sgb_file.specs.Fields.{Counts, Found, given, number_of, number_below, most_number_digits, integer_of, ref_of, record_number_of, unbroken, string_of}
+use Rattle.sgb_file.specs.FileLines.{text_of_lines}
+use Rattle.sgb_file.specs.Fields.{Counts, Found, most_number_digits, unbroken, string_of}
 use Rattle.sgb_file.specs.Records.{Head, records_at}
 use Rattle.sgb_file.specs.Restoring.{Opening, head_of_line, opening_of, graph_of_records, graph_of_text}
 use Rattle.sgb_file.specs.Saved.{number_limit, ValueCanBeSaved, CanBeChecked, CanBeSaved}
 use Rattle.sgb_file.specs.Files.{IsFieldText, AreFieldTexts, IsFirstLine, IsVertexRecord, IsArcRecord, AreRecords, AreRecordsOf, head_of}
-use Rattle.sgb_file.proofs.FoundParts.{was_given, was_let_through}
-use Rattle.sgb_file.proofs.RestoringLemmas.{parts_of_opening}
-use Rattle.sgb_file.proofs.NumberReading.{at_most, number_is_small}
+use Rattle.sgb_file.proofs.FoundParts.{was_let_through}
+use Rattle.sgb_file.proofs.NumberReading.{at_most, at_most_passes, number_is_small}
 use Rattle.sgb_file.proofs.FirstLines.{first_line_found}
 use Rattle.sgb_file.proofs.FilesAndTexts.{opening_found}
-use Rattle.sgb_file.proofs.RecordsAndTexts.{records_found}
+use Rattle.sgb_file.proofs.FieldsAndTexts.{integer_says, record_number_says, ref_says}
+use Rattle.sgb_file.proofs.RecordsAndTexts.{reads_records}
+use Rattle.sgb_file.proofs.RefusedTexts.{file_from_read}
 use Rattle.sgb_file.proofs.SavedGraphs.{FieldsFit, VertexFits, ArcFits, arc_saved, arc_tests, vertex_saved}
-
--- a number below a limit
-below_passes : (limit : ℕ) (text : List ℕ) (k : ℕ) → number_below limit text ≡ Some k → nat_lt k limit ≡ true
-below_passes limit text k e =
-    let g = was_given (number_of most_number_digits text) e in
-    let p = was_let_through (nat_lt g.first limit) g.first k g.made in
-    ap (λ j. nat_lt j limit) (sym p.1) ∙ p.0
-
--- a vertex
-at_by_letter : (letter none one : Bool) (o : Option ℕ) (v : ℕ) → (if letter then option_map At o else (if none then Some Null else (if one then Some One else None))) ≡ Some (At v) → o ≡ Some v
-at_by_letter true none one None v e = absurd cc
-at_by_letter true none one (Some k) v e = let same : k ≡ v = cc in ap (λ j. Some j) same
-at_by_letter false true one o v e = absurd cc
-at_by_letter false false true o v e = absurd cc
-at_by_letter false false false o v e = absurd cc
-
-read_ref_fits : (n : ℕ) (text : List ℕ) (r : Ref) → ref_of n text ≡ Some r → ref_fits n r ≡ true
-read_ref_fits n text Null e = refl
-read_ref_fits n text One e = refl
-read_ref_fits n [] (At v) e = absurd cc
-read_ref_fits n (b ∷ text) (At v) e =
-    below_passes n text v (at_by_letter (b == 86) (bytes_eq (b ∷ text) (codes "0")) (bytes_eq (b ∷ text) (codes "1")) (number_below n text) v e)
-
--- an arc record's number
-some_by_letter : (letter none : Bool) (o : Option ℕ) (k : ℕ) → (if letter then option_map Some o else (if none then Some None else None)) ≡ Some (Some k) → o ≡ Some k
-some_by_letter true none None k e = absurd cc
-some_by_letter true none (Some j) k e = let same : j ≡ k = cc in ap (λ i. Some i) same
-some_by_letter false true o k e = absurd cc
-some_by_letter false false o k e = absurd cc
-
-read_number_fits : (m : ℕ) (text : List ℕ) (first : Option ℕ) → record_number_of m text ≡ Some first → chain_fits m first ≡ true
-read_number_fits m text None e = refl
-read_number_fits m [] (Some k) e = absurd cc
-read_number_fits m (b ∷ text) (Some k) e =
-    below_passes m text k (some_by_letter (b == 65) (bytes_eq (b ∷ text) (codes "0")) (number_below m text) k e)
-
--- an integer
-negative_fits : (n : ℕ) → n ≤ 2 ^ 63 → FitsSigned w64 (neg_ℤ (pos n))
-negative_fits zero h = omega arith
-negative_fits (suc n) h = omega arith
-
-positive_fits : (n : ℕ) → nat_lt n (2 ^ 63) ≡ true → FitsSigned w64 (pos n)
-positive_fits n h = let below : n < 2 ^ 63 = grind (arith, nat_tests) in omega arith
-
-integer_by_sign : (minus : Bool) (o p : Option ℕ) (i : ℤ)
-    → (if minus then given o (λ n. if nat_le n (2 ^ 63) then Some (neg_ℤ (pos n)) else None) else given p (λ n. if nat_lt n (2 ^ 63) then Some (pos n) else None)) ≡ Some i
-    → FitsSigned w64 i
-integer_by_sign true o p i e =
-    let g = was_given o e in
-    let t = was_let_through (nat_le g.first (2 ^ 63)) (neg_ℤ (pos g.first)) i g.made in
-    subst (λ j. FitsSigned w64 j) t.1 (negative_fits g.first (at_most g.first (2 ^ 63) t.0))
-integer_by_sign false o p i e =
-    let g = was_given p e in
-    let t = was_let_through (nat_lt g.first (2 ^ 63)) (pos g.first) i g.made in
-    subst (λ j. FitsSigned w64 j) t.1 (positive_fits g.first t.0)
-
-read_integer_fits : (text : List ℕ) (i : ℤ) → integer_of text ≡ Some i → FitsSigned w64 i
-read_integer_fits [] i e = absurd cc
-read_integer_fits (b ∷ text) i e = integer_by_sign (b == 45) (number_of 20 text) (number_of 20 (b ∷ text)) i e
 
 -- a string
 read_string_fits : (most : ℕ) (bytes s : List ℕ) → string_of most bytes ≡ Some s → (length s ≤ most) × All IsTextByte s
@@ -107,12 +44,12 @@ record FieldFits (counts : Counts) (kind : Kind) (u : Util) : Type 0 where
   value : ValueCanBeSaved u
 
 field_fits : (counts : Counts) (kind : Kind) (u : Util) (text : List ℕ) → IsFieldText counts kind u text → FieldFits counts kind u
-field_fits counts I (Int i) text h = record { fits = refl; value = read_integer_fits text i h }
-field_fits counts V (VertexField r) text h = record { fits = read_ref_fits counts.vertices text r h; value = tt }
+field_fits counts I (Int i) text h = record { fits = refl; value = (integer_says text i h).1 }
+field_fits counts V (VertexField r) text h = record { fits = (ref_says counts.vertices text r h).1; value = tt }
 field_fits counts S (Str s) text h =
     let p = read_string_fits most_bytes h.inside s h.says in
     record { fits = refl; value = record { short = p.0; printable = p.1 } }
-field_fits counts A (Chain first) text h = record { fits = read_number_fits counts.arcs text first h; value = tt }
+field_fits counts A (Chain first) text h = record { fits = (record_number_says counts.arcs text first h).1; value = tt }
 field_fits counts _ _ text h = absurd h
 
 one_more_fits : (counts : Counts) (kind : Kind) (kinds : List Kind) (u : Util) (us : List Util) → FieldFits counts kind u → FieldsFit counts kinds us → FieldsFit counts (kind ∷ kinds) (u ∷ us)
@@ -159,7 +96,7 @@ parts_can_be_checked g whole good h =
     let nodes_fit = list_all-from_AllPass (vertex_fits g) g.vertices (λ k d below. (vertices k d below).fits) in
     let arcs_fit = list_all-from_AllPass (record_fits g) g.records (λ k d below. arc_tests g (get_or g.records k d) ∙ (arcs k d below).fits) in
     record {
-      vertices_fit = few (length g.vertices) good.vertices;
+      vertices_fit = at_most_passes (length g.vertices) most_vertices good.vertices;
       fields = and_from (utils && list_all (vertex_fits g) g.vertices) (list_all (record_fits g) g.records) (and_from utils (list_all (vertex_fits g) g.vertices) own.fits nodes_fit) arcs_fit;
       writable = record {
         kinds = good.kinds;
@@ -171,36 +108,23 @@ parts_can_be_checked g whole good h =
         records = λ k d below. arc_saved g (get_or g.records k d) (arcs k d below);
       };
     }
-  where
-    few : (n : ℕ) → n ≤ most_vertices → nat_le n most_vertices ≡ true
-    few n h = grind (arith, nat_tests)
 
 pub records_can_be_checked : (head : Head) (text : List ℕ) (found : Found GraphData) → IsGoodHead head → records_at head text ≡ Some found → CanBeChecked found.value
 records_can_be_checked head text found good e =
-    let h = records_found head text found e in
-    parts_can_be_checked found.value h.stand.whole (subst IsGoodHead h.counted good) h.stand.says
+    let h = (reads_records head).finds text found e in
+    subst (λ (f : Found GraphData). CanBeChecked f.value) h.made (parts_can_be_checked h.value h.word (subst IsGoodHead h.says.counted good) h.says.are)
 
 -- so what is read of records passes the check where its lists are sound, and is refused for nothing else
-opened_can_be_checked : (lines : List (List ℕ)) (opening : Opening) (found : Found GraphData) → opening_of lines ≡ Some opening → graph_of_records opening ≡ Some found → CanBeChecked found.value
-opened_can_be_checked lines opening found opens says =
-    let o = opening_found lines opening opens in
-    records_can_be_checked opening.head (text_of_lines opening.lines) found (first_is_good o.first opening.head o.first_says) says
-
-fit_is_checked : (g : GraphData) → CanBeChecked g → checked g ≡ (if is_sound g then Ok g else Err Syntax)
-fit_is_checked g h = rw h.vertices_fit (rw h.fields refl)
-
 pub read_is_checked : (lines : List (List ℕ)) (opening : Opening) (found : Found GraphData) → opening_of lines ≡ Some opening → graph_of_records opening ≡ Some found
     → checked found.value ≡ (if is_sound found.value then Ok found.value else Err Syntax)
-read_is_checked lines opening found opens says = fit_is_checked found.value (opened_can_be_checked lines opening found opens says)
+read_is_checked lines opening found opens says =
+    let o = opening_found lines opening opens in
+    let h = records_can_be_checked opening.head (text_of_lines opening.lines) found (first_is_good o.1 opening.head o.3) says in
+    rw h.vertices_fit (rw h.fields refl)
 
 -- a graph that is read can be saved
-sound_can_be_saved : (g : GraphData) → CanBeChecked g → is_sound g ≡ true → CanBeSaved g
-sound_can_be_saved g h sound = record {
-  graph = record { vertices_fit = h.vertices_fit; fields = h.fields; lists = sound };
-  writable = h.writable;
-}
-
 pub read_can_be_saved : (g : GraphData) (text : List ℕ) → graph_of_text text ≡ Ok g → CanBeSaved g
 read_can_be_saved g text e =
-    let parts = parts_of_opening (opening_of (clean_lines text)) g e in
-    sound_can_be_saved g (opened_can_be_checked (clean_lines text) parts.opening (record { value = g; rest = parts.after.rest }) parts.here parts.after.says) parts.after.sound
+    let f = file_from_read g text e in
+    let h = parts_can_be_checked g (text_of_lines f.records) (first_is_good f.first (head_of g) f.first_says) f.records_say in
+    record { graph = record { vertices_fit = h.vertices_fit; fields = h.fields; lists = f.sound }; writable = h.writable }

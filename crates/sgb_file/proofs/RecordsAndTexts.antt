@@ -1,8 +1,9 @@
 -- Records and their texts: a record's reader finds exactly a record of these values.
-use Rattle.std.specs.Prelude.{◌≡◌, ℕ, zero, suc, List, [], ◌∷◌, ◌++◌, length, codes, Option, Some, None, option_map, unwrap_or, refl}
-use Rattle.std.proofs.Common.{ap, sym, subst, ◌∙◌, append_assoc, inl, inr}
+use Rattle.std.specs.Prelude.{◌≡◌, ◌==◌, ℕ, List, [], ◌∷◌, ◌++◌, length, codes, Option, Some, None, option_map, unwrap_or, if◌then◌else◌, refl}
+use Rattle.std.proofs.Common.{ap, sym, subst, ◌∙◌, inl, inr}
 use Rattle.std.proofs.lemmas.Bool.Decides.{Decides-eqb}
 use Rattle.sgb_graph.specs.Graphs.{GraphData}
+use Rattle.sgb_graph.specs.Growth.{graph_data}
 use Rattle.sgb_graph.specs.Ids.{most_id_bytes}
 use Rattle.sgb_graph.specs.Sound.{vertex_kinds, arc_kinds, graph_kinds}
 use Rattle.sgb_graph.specs.declared.fields.Kind.{Kind}
@@ -11,13 +12,14 @@ use Rattle.sgb_graph.specs.declared.fields.Util.{Util}
 use Rattle.sgb_graph.specs.declared.fields.Util.TheVariants.{Nothing, Int, Vertex as VertexField, Str, Chain}
 use Rattle.sgb_graph.specs.declared.fields.Vertex.{Vertex}
 use Rattle.sgb_graph.specs.declared.fields.ArcRec.{ArcRec}
-use Rattle.sgb_file.specs.Fields.{Counts, Found, given, found_as, number_of, most_number_digits, plain_at, field_at, after_prefix}
-use Rattle.sgb_file.specs.Records.{Head, after_comma, more_fields_at, record_at, graph_record_at, vertex_of_fields, vertex_record_at, arc_of_fields, arc_record_at, all_at, records_at}
+use Rattle.sgb_file.specs.Fields.{Counts, given, number_of, most_number_digits, plain_at, after_prefix}
+use Rattle.sgb_file.specs.Records.{Head, after_comma, more_fields_at, record_at, graph_record_at, vertex_of_fields, vertex_record_at, arc_of_fields, arc_record_at, records_at}
 use Rattle.sgb_file.specs.Files.{IsStringText, IsFieldText, AreFieldTexts, IsComma, IsRecord, IsRecordOf, IsVertexRecord, IsArcRecord, IsGraphRecord, AreRecords, AreRecordsOf, head_of}
-use Rattle.sgb_file.proofs.FoundParts.{own_parts, prefix_is, was_given, was_mapped, was_found_as}
+use Rattle.sgb_file.proofs.FoundParts.{prefix_is, was_mapped, was_let_through}
 use Rattle.sgb_file.proofs.FieldReading.{Ends}
 use Rattle.sgb_file.proofs.SavedGraphs.{fields_of_vertex, fields_of_arc}
-use Rattle.sgb_file.proofs.FieldsAndTexts.{StandsIn, FindsTexts, IsFoundAs, plain_finds, string_finds, field_finds, plain_is_found, number_is_plain, string_is_found, field_is_found}
+use Rattle.sgb_file.proofs.FieldsAndTexts.{GoesOn, reads_plain, reads_string, reads_field, number_is_plain}
+use Rattle.sgb_file.proofs.ReadTexts.{Any, As, AreSoMany, Fixed, From, Reads, StandsIn, Then, found_with, rest_alone, reads_all, reads_as, reads_from, reads_is, reads_map, reads_prefix, reads_then, tested}
 
 -- what follows the first field of a record
 abbrev pub IsTail : List (List ℕ) → List ℕ → Type 0
@@ -34,174 +36,101 @@ tail_from_record text (next ∷ texts) whole h =
     let further = tail_from_record next texts h.1 h.3 in
     (h.0 ++ h.1, (h.0, further.0, h.2, further.1, ap (λ x. h.0 ++ x) further.2), h.4)
 
--- a comma and perhaps a newline stand before what follows the comma
-record CommaBefore (text start : List ℕ) : Type 0 where
-  comma : List ℕ
-  is_comma : IsComma comma
-  parts : text ≡ comma ++ start
+-- a comma that is passed over
+abbrev pub Comma : Unit {0} → List ℕ → Type 0
+Comma none text = IsComma text
 
-comma_found : (text start : List ℕ) → after_comma text ≡ Some start → CommaBefore text start
+-- a comma and perhaps a newline stand before what follows the comma
+comma_found : (text start : List ℕ) → after_comma text ≡ Some start → StandsIn rest_alone Comma text start
 comma_found text start e =
     let m = was_mapped (after_prefix (codes ",") text) e in
     by_line m.first (after_prefix (codes "\n") m.first) refl (prefix_is (codes ",") text m.first m.here) m.same
   where
-    by_line : (first : List ℕ) (o : Option (List ℕ)) → after_prefix (codes "\n") first ≡ o → text ≡ codes "," ++ first → unwrap_or o first ≡ start → CommaBefore text start
-    by_line first None here e same = record { comma = codes ","; is_comma = inl refl; parts = e ∙ ap (λ x. 44 ∷ x) same }
-    by_line first (Some rest) here e same = record {
-      comma = codes ",\n";
-      is_comma = inr refl;
-      parts = e ∙ ap (λ x. 44 ∷ x) (prefix_is (codes "\n") first rest here) ∙ ap (λ x. 44 ∷ 10 ∷ x) same;
-    }
+    by_line : (first : List ℕ) (o : Option (List ℕ)) → after_prefix (codes "\n") first ≡ o → text ≡ codes "," ++ first → unwrap_or o first ≡ start → StandsIn rest_alone Comma text start
+    by_line first None here e same = record { value = tt; word = codes ","; rest = first; says = inl refl; parts = e; made = same }
+    by_line first (Some rest) here e same =
+        record { value = tt; word = codes ",\n"; rest = rest; says = inr refl; parts = e ∙ ap (λ x. 44 ∷ x) (prefix_is (codes "\n") first rest here); made = same }
 
 -- after a comma a text that begins with no newline is what follows
-comma_passed : (comma text : List ℕ) → IsComma comma → after_prefix (codes "\n") text ≡ None → after_comma (comma ++ text) ≡ Some text
+comma_passed : (comma text : List ℕ) → IsComma comma → GoesOn text → after_comma (comma ++ text) ≡ Some text
 comma_passed comma text (inl e) none = rw e (rw none refl)
 comma_passed comma text (inr e) none = rw e refl
+
+comma_ends : (comma text : List ℕ) → IsComma comma → Ends (comma ++ text)
+comma_ends comma text (inl e) = subst (λ x. Ends (x ++ text)) (sym e) refl
+comma_ends comma text (inr e) = subst (λ x. Ends (x ++ text)) (sym e) refl
+
+reads_comma : Reads rest_alone Ends GoesOn Comma after_comma
+reads_comma = record { finds = comma_found; again = λ none comma rest h t. comma_passed comma rest h t; front = λ none comma rest h t. comma_ends comma rest h }
 
 -- each further field and the texts of all
 pub and_others : (counts : Counts) (kind : Kind) (kinds : List Kind) (u : Util) (us : List Util) (text : List ℕ) (texts : List (List ℕ)) → IsFieldText counts kind u text → AreFieldTexts counts kinds us texts → AreFieldTexts counts (kind ∷ kinds) (u ∷ us) (text ∷ texts)
 and_others counts Z kinds u us text texts h more = absurd h
 and_others counts kind kinds u us text texts h more = (h, more)
 
--- the text of the fields after the first
-record IsMore (counts : Counts) (kinds : List Kind) (us : List Util) (whole : List ℕ) : Type 0 where
-  texts : List (List ℕ)
-  say : AreFieldTexts counts kinds us texts
-  is_tail : IsTail texts whole
+-- the text of fields after the first of a record
+abbrev IsMore : Counts → List Kind → List Util → List ℕ → Type 0
+IsMore counts kinds us whole = (texts : List (List ℕ)) × AreFieldTexts counts kinds us texts × IsTail texts whole
 
-next_found : (counts : Counts) (kind : Kind) (kinds : List Kind) → (kind ≡ Z → ⊥) → FindsTexts (more_fields_at counts kinds) (IsMore counts kinds)
-    → FindsTexts (λ text. given (after_comma text) (record_at counts kind kinds)) (IsMore counts (kind ∷ kinds))
-next_found counts kind kinds used more text found e =
-    let g = was_given (after_comma text) e in
-    let c = comma_found text g.first g.here in
-    let f = was_given (field_at counts kind g.first) g.made in
-    let m = was_found_as (λ fields. f.first.value ∷ fields) (more_fields_at counts kinds f.first.rest) f.made in
-    let field = field_finds counts kind used g.first f.first f.here in
-    let others = more f.first.rest m.first m.here in
-    let after = others.whole ++ m.first.rest in
-    subst (λ (y : Found (List Util)). StandsIn (IsMore counts (kind ∷ kinds)) text y) m.same (record {
-      whole = c.comma ++ (field.whole ++ others.whole);
-      says = record {
-        texts = field.whole ∷ others.says.texts;
-        say = and_others counts kind kinds f.first.value m.first.value field.whole others.says.texts field.says others.says.say;
-        is_tail = (c.comma, others.whole, c.is_comma, others.says.is_tail, refl);
-      };
-      parts = c.parts ∙ ap (λ x. c.comma ++ x) (field.parts ∙ ap (λ x. field.whole ++ x) others.parts)
-          ∙ ap (λ x. c.comma ++ x) (sym (append_assoc field.whole others.whole m.first.rest))
-          ∙ sym (append_assoc c.comma (field.whole ++ others.whole) m.first.rest);
-    })
+-- the same as its reader has it; and a first field with more after it
+abbrev MoreWord : Counts → List Kind → List Util → List ℕ → Type 0
+MoreWord counts [] = As {X = Unit {0}} (λ none. []) (Fixed (codes "\n"))
+MoreWord counts (Z ∷ kinds) = As (λ others. Nothing ∷ others) (MoreWord counts kinds)
+MoreWord counts (kind ∷ kinds) = Then Comma (λ none. Then (IsFieldText counts kind) (λ u. As (λ others. u ∷ others) (MoreWord counts kinds)))
 
-more_found : (counts : Counts) (kinds : List Kind) → FindsTexts (more_fields_at counts kinds) (IsMore counts kinds)
+abbrev RecordWord : Counts → Kind → List Kind → List Util → List ℕ → Type 0
+RecordWord counts kind kinds = Then (IsFieldText counts kind) (λ u. As (λ others. u ∷ others) (IsMore counts kinds))
+
+more_read : (counts : Counts) (kinds : List Kind) → Reads found_with Ends Any (MoreWord counts kinds) (more_fields_at counts kinds)
 unfolding more_fields_at
-more_found counts [] text found e =
-    let m = was_mapped (after_prefix (codes "\n") text) e in
-    subst (λ (y : Found (List Util)). StandsIn (IsMore counts []) text y) m.same (record {
-      whole = codes "\n";
-      says = record { texts = []; say = tt; is_tail = refl };
-      parts = prefix_is (codes "\n") text m.first m.here;
-    })
-more_found counts (Z ∷ kinds) text found e =
-    let m = was_found_as (λ fields. Nothing ∷ fields) (more_fields_at counts kinds text) e in
-    let others = more_found counts kinds text m.first m.here in
-    subst (λ (y : Found (List Util)). StandsIn (IsMore counts (Z ∷ kinds)) text y) m.same (record {
-      whole = others.whole;
-      says = record { texts = others.says.texts; say = (refl, others.says.say); is_tail = others.says.is_tail };
-      parts = others.parts;
-    })
-more_found counts (kind ∷ kinds) text found e = next_found counts kind kinds (λ z. absurd cc) (more_found counts kinds) text found e
+more_read counts [] = reads_map (λ none. []) found_with (λ rest. record { value = []; rest = rest }) (λ none rest. refl) (reads_prefix (codes "\n") (λ more. refl))
+more_read counts (Z ∷ kinds) = reads_as (λ (others : List Util). Nothing ∷ others) (more_read counts kinds)
+more_read counts (kind ∷ kinds) =
+    reads_then _ reads_comma (λ none. reads_then _ (reads_field counts kind (λ z. absurd cc)) (λ u. reads_as (λ (others : List Util). u ∷ others) (more_read counts kinds)))
 
--- a record's reader finds a record
-record_found : (counts : Counts) (kind : Kind) (kinds : List Kind) → (kind ≡ Z → ⊥) → FindsTexts (record_at counts kind kinds) (IsRecordOf counts (kind ∷ kinds))
-record_found counts kind kinds used text found e =
-    let f = was_given (field_at counts kind text) e in
-    let m = was_found_as (λ fields. f.first.value ∷ fields) (more_fields_at counts kinds f.first.rest) f.made in
-    let field = field_finds counts kind used text f.first f.here in
-    let others = more_found counts kinds f.first.rest m.first m.here in
-    let texts = others.says.texts in
-    subst (λ (y : Found (List Util)). StandsIn (IsRecordOf counts (kind ∷ kinds)) text y) m.same (record {
-      whole = field.whole ++ others.whole;
-      says = (field.whole ∷ texts, and_others counts kind kinds f.first.value m.first.value field.whole texts field.says others.says.say, record_from_tail field.whole texts others.whole others.says.is_tail);
-      parts = field.parts ∙ ap (λ x. field.whole ++ x) others.parts ∙ sym (append_assoc field.whole others.whole m.first.rest);
-    })
+more_from : (counts : Counts) (kinds : List Kind) (us : List Util) (whole : List ℕ) → MoreWord counts kinds us whole → IsMore counts kinds us whole
+more_from counts [] us whole h = subst (λ vs. IsMore counts [] vs whole) h.2 ([], tt, h.1)
+more_from counts (Z ∷ kinds) us whole h =
+    let m = more_from counts kinds h.0 whole h.1 in
+    subst (λ vs. IsMore counts (Z ∷ kinds) vs whole) h.2 (m.0, (refl, m.1), m.2)
+more_from counts (kind ∷ kinds) us whole h =
+    let f = h.4 in
+    let o = f.4 in
+    let m = more_from counts kinds o.0 f.2 o.1 in
+    subst (λ vs. IsMore counts (kind ∷ kinds) vs whole) o.2 (f.1 ∷ m.0, (f.3, m.1), (h.1, f.2, h.3, m.2, h.5 ∙ ap (λ x. h.1 ++ x) f.5))
 
--- what follows a field begins with a comma or a newline
-ends_after : (texts : List (List ℕ)) (tail rest : List ℕ) → IsTail texts tail → Ends (tail ++ rest)
-ends_after [] tail rest h = subst (λ x. Ends (x ++ rest)) (sym h) refl
-ends_after (text ∷ texts) tail rest h = subst (λ x. Ends (x ++ rest)) (sym h.4) (by_comma h.0 (text ++ h.1) h.2)
-  where
-    by_comma : (comma others : List ℕ) → IsComma comma → Ends ((comma ++ others) ++ rest)
-    by_comma comma others (inl e) = subst (λ x. Ends ((x ++ others) ++ rest)) (sym e) refl
-    by_comma comma others (inr e) = subst (λ x. Ends ((x ++ others) ++ rest)) (sym e) refl
+more_into : (counts : Counts) (kinds : List Kind) (us : List Util) (whole : List ℕ) (texts : List (List ℕ)) → AreFieldTexts counts kinds us texts → IsTail texts whole → MoreWord counts kinds us whole
+more_into counts [] [] whole [] say t = (tt, t, refl)
+more_into counts (Z ∷ kinds) (u ∷ us) whole texts say t = (us, more_into counts kinds us whole texts say.1 t, ap (λ v. v ∷ us) (sym say.0))
+more_into counts (kind ∷ kinds) (u ∷ us) whole (text ∷ texts) say t = (tt, t.0, text ++ t.1, t.2, (u, text, t.1, say.0, (us, more_into counts kinds us t.1 texts say.1 t.3, refl), refl), t.4)
+more_into counts _ _ whole _ say t = absurd say
 
--- the fields after the first are read of their text
-abbrev AreReadAs : Counts → List Kind → List Util → List ℕ → Type 0
-AreReadAs counts kinds us tail = (rest : List ℕ) → more_fields_at counts kinds (tail ++ rest) ≡ Some (record { value = us; rest = rest })
+reads_more : (counts : Counts) (kinds : List Kind) → Reads found_with Ends Any (IsMore counts kinds) (more_fields_at counts kinds)
+reads_more counts kinds = reads_is (λ text h. h) (more_from counts kinds) (λ us whole h. more_into counts kinds us whole h.0 h.1 h.2) (more_read counts kinds)
 
--- the field after a comma is read, whatever is done with it then
-next_field : {X Y : Type 0} (read : List ℕ → Option (Found X)) (text : List ℕ) (value : X) → IsFoundAs read text value
-    → (texts : List (List ℕ)) (comma others tail rest : List ℕ) → IsComma comma → IsTail texts others → tail ≡ comma ++ (text ++ others) → (next : Found X → Option Y)
-    → given (after_comma (tail ++ rest)) (λ start. given (read start) next) ≡ next (record { value = value; rest = others ++ rest })
-next_field read text value field texts comma others tail rest c t e next =
-    let after = others ++ rest in
-    let split : tail ++ rest ≡ comma ++ (text ++ after) =
-    ap (λ x. x ++ rest) e ∙ append_assoc comma (text ++ others) rest ∙ ap (λ x. comma ++ x) (append_assoc text others rest) in
-    ap (λ x. given (after_comma x) (λ start. given (read start) next)) split
-    ∙ ap (λ x. given x (λ start. given (read start) next)) (comma_passed comma (text ++ after) c (field.begins after))
-    ∙ ap (λ x. given x next) (field.reads after (ends_after texts others rest t))
+record_from : (counts : Counts) (kind : Kind) (kinds : List Kind) (us : List Util) (whole : List ℕ) → RecordWord counts kind kinds us whole → IsRecordOf counts (kind ∷ kinds) us whole
+record_from counts kind kinds us whole h =
+    let o = h.4 in
+    let m = o.1 in
+    subst (λ vs. IsRecordOf counts (kind ∷ kinds) vs whole) o.2
+    (h.1 ∷ m.0, and_others counts kind kinds h.0 o.0 h.1 m.0 h.3 m.1, subst (IsRecord (h.1 ∷ m.0)) (sym h.5) (record_from_tail h.1 m.0 h.2 m.2))
 
-next_read : (counts : Counts) (kind : Kind) (kinds : List Kind) (u : Util) (us : List Util) (text : List ℕ) (texts : List (List ℕ)) (comma others tail rest : List ℕ)
-    → IsFieldText counts kind u text → IsComma comma → IsTail texts others → tail ≡ comma ++ (text ++ others) → AreReadAs counts kinds us others
-    → given (after_comma (tail ++ rest)) (record_at counts kind kinds) ≡ Some (record { value = u ∷ us; rest = rest })
-next_read counts kind kinds u us text texts comma others tail rest h c t e more =
-    next_field (field_at counts kind) text u (field_is_found counts kind u text h) texts comma others tail rest c t e
-    (λ f. found_as (λ fields. f.value ∷ fields) (more_fields_at counts kinds f.rest))
-    ∙ ap (found_as (λ fields. u ∷ fields)) (more rest)
-
-more_read : (counts : Counts) (kinds : List Kind) (us : List Util) (texts : List (List ℕ)) (tail : List ℕ) → AreFieldTexts counts kinds us texts → IsTail texts tail → AreReadAs counts kinds us tail
-unfolding more_fields_at
-more_read counts [] [] [] tail h t rest = ap (λ x. more_fields_at counts [] (x ++ rest)) t
-more_read counts (Z ∷ kinds) (u ∷ us) texts tail h t rest =
-    ap (found_as (λ fields. Nothing ∷ fields)) (more_read counts kinds us texts tail h.1 t rest)
-    ∙ ap (λ (v : Util). Some (record { value = v ∷ us; rest = rest })) (sym h.0)
-more_read counts (kind ∷ kinds) (u ∷ us) (text ∷ texts) tail h t rest =
-    next_read counts kind kinds u us text texts t.0 t.1 tail rest h.0 t.2 t.3 t.4 (more_read counts kinds us texts t.1 h.1 t.3)
-more_read counts _ _ _ tail h t rest = absurd h
-
--- a record is read as its values
-record_read : (counts : Counts) (kind : Kind) (kinds : List Kind) (us : List Util) (texts : List (List ℕ)) (whole rest : List ℕ)
-    → AreFieldTexts counts (kind ∷ kinds) us texts → IsRecord texts whole → (kind ≡ Z → ⊥) → record_at counts kind kinds (whole ++ rest) ≡ Some (record { value = us; rest = rest })
-record_read counts Z kinds us texts whole rest say r used = absurd (used refl)
-record_read counts kind kinds (u ∷ us) (text ∷ texts) whole rest say r used =
+record_into : (counts : Counts) (kind : Kind) (kinds : List Kind) (us : List Util) (whole : List ℕ) (texts : List (List ℕ)) → (kind ≡ Z → ⊥) → AreFieldTexts counts (kind ∷ kinds) us texts → IsRecord texts whole
+    → RecordWord counts kind kinds us whole
+record_into counts Z kinds us whole texts used say r = absurd (used refl)
+record_into counts kind kinds (u ∷ us) whole (text ∷ texts) used say r =
     let t = tail_from_record text texts whole r in
-    let field = field_is_found counts kind u text say.0 in
-    let split : whole ++ rest ≡ text ++ (t.0 ++ rest) = ap (λ x. x ++ rest) t.2 ∙ append_assoc text t.0 rest in
-    ap (record_at counts kind kinds) split
-    ∙ ap (λ x. given x (λ f. found_as (λ fields. f.value ∷ fields) (more_fields_at counts kinds f.rest))) (field.reads (t.0 ++ rest) (ends_after texts t.0 rest t.1))
-    ∙ ap (found_as (λ fields. u ∷ fields)) (more_read counts kinds us texts t.0 say.1 t.1 rest)
-record_read counts _ kinds _ _ whole rest say r used = absurd say
+    (u, text, t.0, say.0, (us, (texts, say.1, t.1), refl), t.2)
+record_into counts kind kinds _ whole _ used say r = absurd say
 
--- what is said by a text is read of it, whatever follows
-abbrev ReadsTexts : {X : Type 0} → (List ℕ → Option (Found X)) → (X → List ℕ → Type 0) → Type 0
-ReadsTexts {X = X} read IsTextOf = (value : X) (whole rest : List ℕ) → IsTextOf value whole → read (whole ++ rest) ≡ Some (record { value = value; rest = rest })
-
--- a value that is made of a record's fields
-made_texts_found : {X : Type 0} (counts : Counts) (kind : Kind) (kinds : List Kind) → (kind ≡ Z → ⊥) → (make : List Util → Option X) (fields_of : X → List Util) → ((us : List Util) (x : X) → make us ≡ Some x → us ≡ fields_of x)
-    → FindsTexts (λ text. given (record_at counts kind kinds text) (λ fields. option_map (λ x. record { value = x; rest = fields.rest }) (make fields.value))) (λ x whole. IsRecordOf counts (kind ∷ kinds) (fields_of x) whole)
-made_texts_found {X = X} counts kind kinds used make fields_of are text found e =
-    let g = was_given (record_at counts kind kinds text) e in
-    let m = was_mapped (make g.first.value) g.made in
-    let r = record_found counts kind kinds used text g.first g.here in
-    subst (λ (f : Found X). StandsIn (λ x whole. IsRecordOf counts (kind ∷ kinds) (fields_of x) whole) text f) m.same (record {
-      whole = r.whole;
-      says = subst (λ us. IsRecordOf counts (kind ∷ kinds) us r.whole) (are g.first.value m.first m.here) r.says;
-      parts = r.parts;
-    })
-
-made_texts_read : {X : Type 0} (counts : Counts) (kind : Kind) (kinds : List Kind) → (kind ≡ Z → ⊥) → (make : List Util → Option X) (fields_of : X → List Util) → ((x : X) → make (fields_of x) ≡ Some x)
-    → ReadsTexts (λ text. given (record_at counts kind kinds text) (λ fields. option_map (λ x. record { value = x; rest = fields.rest }) (make fields.value))) (λ x whole. IsRecordOf counts (kind ∷ kinds) (fields_of x) whole)
-made_texts_read counts kind kinds used make fields_of made x whole rest h =
-    ap (λ o. given o (λ fields. option_map (λ y. record { value = y; rest = fields.rest }) (make fields.value))) (record_read counts kind kinds (fields_of x) h.0 whole rest h.1 h.2 used)
-    ∙ ap (option_map (λ y. record { value = y; rest = rest })) (made x)
+-- a record of fields is read, and what is made of them
+reads_record : {X : Type 0} (counts : Counts) (kind : Kind) (kinds : List Kind) → (kind ≡ Z → ⊥) → (make : List Util → Option X) (fields_of : X → List Util)
+    → ((us : List Util) (x : X) → make us ≡ Some x → us ≡ fields_of x) → ((x : X) → make (fields_of x) ≡ Some x)
+    → Reads found_with Any Any (λ x. IsRecordOf counts (kind ∷ kinds) (fields_of x)) (λ text. given (record_at counts kind kinds text) (λ fields. option_map (λ x. record { value = x; rest = fields.rest }) (make fields.value)))
+reads_record counts kind kinds used make fields_of are made =
+    reads_is (λ text h. tt) (λ x whole h. subst (λ us. IsRecordOf counts (kind ∷ kinds) us whole) (are h.0 x h.2) (record_from counts kind kinds h.0 whole h.1))
+    (λ x whole h. (fields_of x, record_into counts kind kinds (fields_of x) whole h.0 used h.1 h.2, made x))
+    (reads_from make found_with _ (λ us rest. refl) (reads_then _ (reads_field counts kind used) (λ u. reads_as (λ (others : List Util). u ∷ others) (reads_more counts kinds))))
 
 -- vertices
 are_of_vertex : (us : List Util) (v : Vertex) → vertex_of_fields us ≡ Some v → us ≡ fields_of_vertex v
@@ -210,11 +139,8 @@ are_of_vertex (Str name ∷ Chain arcs ∷ util) v e =
     ap fields_of_vertex same
 are_of_vertex _ v e = absurd cc
 
-vertex_texts_found : (head : Head) → FindsTexts (vertex_record_at head) (IsVertexRecord head)
-vertex_texts_found head = made_texts_found head.counts S (A ∷ vertex_kinds head.kinds) (λ z. absurd cc) vertex_of_fields fields_of_vertex are_of_vertex
-
-vertex_is_read : (head : Head) → ReadsTexts (vertex_record_at head) (IsVertexRecord head)
-vertex_is_read head v = made_texts_read head.counts S (A ∷ vertex_kinds head.kinds) (λ z. absurd cc) vertex_of_fields fields_of_vertex (λ w. refl) v
+reads_vertex : (head : Head) → Reads found_with Any Any (IsVertexRecord head) (vertex_record_at head)
+reads_vertex head = reads_record head.counts S (A ∷ vertex_kinds head.kinds) (λ z. absurd cc) vertex_of_fields fields_of_vertex are_of_vertex (λ v. refl)
 
 -- arcs
 are_of_arc : (us : List Util) (r : ArcRec) → arc_of_fields us ≡ Some r → us ≡ fields_of_arc r
@@ -223,173 +149,128 @@ are_of_arc (VertexField tip ∷ Chain next ∷ Int len ∷ a ∷ b ∷ []) r e =
     ap fields_of_arc same
 are_of_arc _ r e = absurd cc
 
-arc_texts_found : (head : Head) → FindsTexts (arc_record_at head) (IsArcRecord head)
-arc_texts_found head = made_texts_found head.counts V (A ∷ I ∷ arc_kinds head.kinds) (λ z. absurd cc) arc_of_fields fields_of_arc are_of_arc
+reads_arc : (head : Head) → Reads found_with Any Any (IsArcRecord head) (arc_record_at head)
+reads_arc head = reads_record head.counts V (A ∷ I ∷ arc_kinds head.kinds) (λ z. absurd cc) arc_of_fields fields_of_arc are_of_arc (λ r. refl)
 
-arc_is_read : (head : Head) → ReadsTexts (arc_record_at head) (IsArcRecord head)
-arc_is_read head r = made_texts_read head.counts V (A ∷ I ∷ arc_kinds head.kinds) (λ z. absurd cc) arc_of_fields fields_of_arc (λ w. refl) r
+-- the graph's record as its reader has it, part after part
+abbrev graph_of_parts : Head → List ℕ → ℕ → ℕ → List Util → Option GraphData
+graph_of_parts head id n m util = if n == head.counts.vertices then Some (graph_data id m head.kinds util [] []) else None
 
--- records one after another, so many
-record AreSoMany {X : Type 0} (IsOne : X → List ℕ → Type 0) (n : ℕ) (xs : List X) (whole : List ℕ) : Type 0 where
-  count : length xs ≡ n
-  are : AreRecords IsOne xs whole
+abbrev IsNumber : ℕ → List ℕ → Type 0
+IsNumber n text = number_of most_number_digits text ≡ Some n
 
-all_texts_found : {X : Type 0} (one_at : List ℕ → Option (Found X)) (IsOne : X → List ℕ → Type 0) → FindsTexts one_at IsOne → (n : ℕ) → FindsTexts (all_at one_at n) (AreSoMany IsOne n)
-unfolding all_at
-all_texts_found {X = X} one_at IsOne finds zero text found e =
-    let same : record { value = []; rest = text } ≡ found = cc in
-    subst (λ (f : Found (List X)). StandsIn (AreSoMany IsOne zero) text f) same (record { whole = []; says = record { count = refl; are = refl }; parts = refl })
-all_texts_found {X = X} one_at IsOne finds (suc n) text found e =
-    let g = was_given (one_at text) e in
-    let m = was_found_as (λ others. g.first.value ∷ others) (all_at one_at n g.first.rest) g.made in
-    let one = finds text g.first g.here in
-    let others = all_texts_found one_at IsOne finds n g.first.rest m.first m.here in
-    subst (λ (f : Found (List X)). StandsIn (AreSoMany IsOne (suc n)) text f) m.same (record {
-      whole = one.whole ++ others.whole;
-      says = record { count = ap suc others.says.count; are = (one.whole, others.whole, one.says, others.says.are, refl) };
-      parts = one.parts ∙ ap (λ x. one.whole ++ x) others.parts ∙ sym (append_assoc one.whole others.whole m.first.rest);
+abbrev pub OwnWord : Head → GraphData → List ℕ → Type 0
+OwnWord head =
+    Then (IsStringText most_id_bytes) (λ id. Then Comma (λ none. Then IsNumber (λ n. Then Comma (λ none. Then IsNumber (λ m.
+    From (graph_of_parts head id n m) (IsMore head.counts (graph_kinds head.kinds)))))))
+
+reads_number : Reads found_with GoesOn Ends IsNumber (plain_at (number_of most_number_digits))
+reads_number = reads_plain (number_of most_number_digits) (number_is_plain most_number_digits)
+
+pub reads_graph : (head : Head) → Reads found_with GoesOn Any (OwnWord head) (graph_record_at head)
+reads_graph head =
+    reads_then _ (reads_string most_id_bytes) (λ id. reads_then _ reads_comma (λ none. reads_then _ reads_number (λ n. reads_then _ reads_comma (λ none. reads_then _ reads_number (λ m.
+    reads_from (graph_of_parts head id n m) found_with _ (λ util rest. tested found_with (n == head.counts.vertices) (graph_data id m head.kinds util [] []) rest)
+    (reads_more head.counts (graph_kinds head.kinds)))))))
+
+-- it has as many vertices as are counted, and the graph has none of them yet
+pub is_bare : (head : Head) (n : ℕ) (id : List ℕ) (m : ℕ) (util : List Util) (g : GraphData) → graph_of_parts head id n m util ≡ Some g → (n ≡ head.counts.vertices) × (graph_data id m head.kinds util [] [] ≡ g)
+is_bare head n id m util g e =
+    let t = was_let_through (n == head.counts.vertices) (graph_data id m head.kinds util [] []) g e in
+    ((Decides-eqb n head.counts.vertices).0 t.0, t.1)
+
+graph_from : (head : Head) (bare g : GraphData) (whole : List ℕ) → OwnWord head bare whole → length g.vertices ≡ head.counts.vertices
+    → g ≡ record bare { vertices = g.vertices; records = g.records } → IsGraphRecord head g whole
+graph_from head bare g whole h count same =
+    let n = h.4.4 in
+    let d = n.4 in
+    let m = d.4 in
+    let p = m.4 in
+    let t = is_bare head n.0 h.0 m.0 p.0 bare p.2 in
+    subst (λ (x : GraphData). IsGraphRecord head x whole) (ap (λ (x : GraphData). record x { vertices = g.vertices; records = g.records }) t.1 ∙ sym same) (record {
+      id = h.1;
+      n = n.1;
+      m = m.1;
+      fields = p.1.0;
+      id_says = h.3;
+      n_says = n.3 ∙ ap (λ k. Some k) (t.0 ∙ sym count);
+      m_says = m.3;
+      fields_say = p.1.1;
+      is_record = subst (IsRecord (h.1 ∷ n.1 ∷ m.1 ∷ p.1.0)) (sym h.5) (record_from_tail h.1 (n.1 ∷ m.1 ∷ p.1.0) h.2
+          (h.4.1, n.2, h.4.3, (d.1, m.2, d.3, p.1.2, d.5 ∙ ap (λ x. d.1 ++ x) m.5), h.4.5 ∙ ap (λ x. h.4.1 ++ x) n.5));
     })
 
-all_are_read : {X : Type 0} (one_at : List ℕ → Option (Found X)) (IsOne : X → List ℕ → Type 0) → ReadsTexts one_at IsOne
-    → (xs : List X) (whole rest : List ℕ) → AreRecords IsOne xs whole → all_at one_at (length xs) (whole ++ rest) ≡ Some (record { value = xs; rest = rest })
-unfolding all_at
-all_are_read one_at IsOne reads [] whole rest h = ap (λ x. Some (record { value = []; rest = x ++ rest })) h
-all_are_read one_at IsOne reads (x ∷ xs) whole rest h =
-    let split : whole ++ rest ≡ h.0 ++ (h.1 ++ rest) = ap (λ y. y ++ rest) h.4 ∙ append_assoc h.0 h.1 rest in
-    ap (λ t. given (one_at t) (λ first. found_as (λ others. first.value ∷ others) (all_at one_at (length xs) first.rest))) split
-    ∙ ap (λ f. given f (λ first. found_as (λ others. first.value ∷ others) (all_at one_at (length xs) first.rest))) (reads x h.0 (h.1 ++ rest) h.2)
-    ∙ ap (found_as (λ others. x ∷ others)) (all_are_read one_at IsOne reads xs h.1 rest h.3)
-
--- the graph's record, in a file with such a first line
-record IsOwnRecord (head : Head) (g : GraphData) (whole : List ℕ) : Type 0 where
-  kinds : g.kinds ≡ head.kinds
-  id : List ℕ
-  n : List ℕ
-  m : List ℕ
-  fields : List (List ℕ)
-  id_says : IsStringText most_id_bytes g.id id
-  n_says : number_of most_number_digits n ≡ Some head.counts.vertices
-  m_says : number_of most_number_digits m ≡ Some g.m
-  fields_say : AreFieldTexts head.counts (graph_kinds head.kinds) g.util fields
-  is_record : IsRecord (id ∷ n ∷ m ∷ fields) whole
-
--- parts one after another
-onto : {x y : List ℕ} (rest a b : List ℕ) → y ≡ a ++ x → x ≡ b ++ rest → y ≡ (a ++ b) ++ rest
-onto rest a b e f = e ∙ ap (λ z. a ++ z) f ∙ sym (append_assoc a b rest)
-
-own_texts_found : (head : Head) → FindsTexts (graph_record_at head) (IsOwnRecord head)
-own_texts_found head text found e =
-    let p = own_parts head text found e in
-    let id_text = string_finds most_id_bytes text p.id p.id_here in
-    let c = comma_found p.id.rest p.second p.second_here in
-    let n_text = plain_finds (number_of most_number_digits) p.second p.n p.n_here in
-    let d = comma_found p.n.rest p.third p.third_here in
-    let m_text = plain_finds (number_of most_number_digits) p.third p.m p.m_here in
-    let fields = more_found head.counts (graph_kinds head.kinds) p.m.rest p.util p.util_here in
-    let texts = fields.says.texts in
-    let n_tail = d.comma ++ (m_text.whole ++ fields.whole) in
-    let id_tail = c.comma ++ (n_text.whole ++ n_tail) in
-    subst (λ (f : Found GraphData). StandsIn (IsOwnRecord head) text f) p.same (record {
-      whole = id_text.whole ++ id_tail;
-      says = record {
-        kinds = refl;
-        id = id_text.whole;
-        n = n_text.whole;
-        m = m_text.whole;
-        fields = texts;
-        id_says = id_text.says;
-        n_says = n_text.says ∙ ap (λ k. Some k) p.count;
-        m_says = m_text.says;
-        fields_say = fields.says.say;
-        is_record = record_from_tail id_text.whole (n_text.whole ∷ m_text.whole ∷ texts) id_tail
-            (c.comma, n_tail, c.is_comma, (d.comma, fields.whole, d.is_comma, fields.says.is_tail, refl), refl);
-      };
-      parts = onto p.util.rest id_text.whole id_tail id_text.parts (onto p.util.rest c.comma (n_text.whole ++ n_tail) c.parts
-          (onto p.util.rest n_text.whole n_tail n_text.parts (onto p.util.rest d.comma (m_text.whole ++ fields.whole) d.parts (onto p.util.rest m_text.whole fields.whole m_text.parts fields.parts))));
-    })
-
-number_is_found : (text : List ℕ) (n : ℕ) → number_of most_number_digits text ≡ Some n → IsFoundAs (plain_at (number_of most_number_digits)) text n
-number_is_found text n says = plain_is_found (number_of most_number_digits) text n (number_is_plain most_number_digits text n says) says
-
-graph_is_read : (g : GraphData) (whole rest : List ℕ) → IsGraphRecord (head_of g) g whole
-    → graph_record_at (head_of g) (whole ++ rest) ≡ Some (record { value = record { id = g.id; m = g.m; kinds = g.kinds; util = g.util; vertices = []; records = [] }; rest = rest })
-graph_is_read g whole rest h =
-    let number = plain_at (number_of most_number_digits) in
+graph_into : (g : GraphData) (whole : List ℕ) → IsGraphRecord (head_of g) g whole → OwnWord (head_of g) (record g { vertices = []; records = [] }) whole
+graph_into g whole h =
+    let n = length g.vertices in
     let t = tail_from_record h.id (h.n ∷ h.m ∷ h.fields) whole h.is_record in
-    let n_at = t.1 in
-    let m_at = n_at.3 in
-    let id = string_is_found most_id_bytes g.id h.id h.id_says in
-    let split : whole ++ rest ≡ h.id ++ (t.0 ++ rest) = ap (λ x. x ++ rest) t.2 ∙ append_assoc h.id t.0 rest in
-    ap (graph_record_at (head_of g)) split
-    ∙ rw (id.reads (t.0 ++ rest) (ends_after (h.n ∷ h.m ∷ h.fields) t.0 rest t.1))
-    (next_field number h.n (length g.vertices) (number_is_found h.n (length g.vertices) h.n_says) (h.m ∷ h.fields) n_at.0 n_at.1 t.0 rest n_at.2 n_at.3 n_at.4 _
-    ∙ next_field number h.m g.m (number_is_found h.m g.m h.m_says) h.fields m_at.0 m_at.1 n_at.1 rest m_at.2 m_at.3 m_at.4 _
-    ∙ rw (more_read (head_of g).counts (graph_kinds g.kinds) g.util h.fields m_at.1 h.fields_say m_at.3 rest) (rw ((Decides-eqb (length g.vertices) (length g.vertices)).1 refl) refl))
+    let a = t.1 in
+    let b = a.3 in
+    let made : graph_of_parts (head_of g) g.id n g.m g.util ≡ Some (record g { vertices = []; records = [] }) = rw ((Decides-eqb n n).1 refl) refl in (
+      g.id,
+      h.id,
+      t.0,
+      h.id_says,
+      (tt, a.0, h.n ++ a.1, a.2, (n, h.n, a.1, h.n_says, (tt, b.0, h.m ++ b.1, b.2, (g.m, h.m, b.1, h.m_says, (g.util, (h.fields, h.fields_say, b.3), made), refl), b.4), refl), a.4),
+      t.2,
+    )
 
 -- the counts of a first line are those of the records after it
 head_again : (head : Head) (g : GraphData) → g.kinds ≡ head.kinds → length g.vertices ≡ head.counts.vertices → length g.records ≡ head.counts.arcs → head ≡ head_of g
-head_again head g kinds vertices arcs =
-    sym (ap (λ ks. record { kinds = ks; counts = record { vertices = length g.vertices; arcs = length g.records } }) kinds
-    ∙ ap (λ n. record { kinds = head.kinds; counts = record { vertices = n; arcs = length g.records } }) vertices
-    ∙ ap (λ m. record { kinds = head.kinds; counts = record { vertices = head.counts.vertices; arcs = m } }) arcs)
+head_again head g kinds vertices arcs = rw (kinds, vertices, arcs) refl
 
--- the records of a graph that a text begins with; the first line that they are read with says what the graph has
-pub record RecordsFound (head : Head) (text : List ℕ) (found : Found GraphData) : Type 0 where
-  pub counted : head ≡ head_of found.value
-  pub stand : StandsIn AreRecordsOf text found
+-- the records of a graph; the first line that they are read with says what the graph has
+pub record AreCounted (head : Head) (g : GraphData) (whole : List ℕ) : Type 0 where
+  pub counted : head ≡ head_of g
+  pub are : AreRecordsOf g whole
 
-pub records_found : (head : Head) (text : List ℕ) (found : Found GraphData) → records_at head text ≡ Some found → RecordsFound head text found
-records_found head text found e =
-    let own = was_given (graph_record_at head text) e in
-    let second = was_given (after_prefix (codes "* Vertices\n") own.first.rest) own.made in
-    let nodes = was_given (all_at (vertex_record_at head) head.counts.vertices second.first) second.made in
-    let third = was_given (after_prefix (codes "* Arcs\n") nodes.first.rest) nodes.made in
-    let arcs = was_found_as (λ records. record own.first.value { vertices = nodes.first.value; records = records }) (all_at (arc_record_at head) head.counts.arcs third.first) third.made in
-    let g = record own.first.value { vertices = nodes.first.value; records = arcs.first.value } in
-    let o = own_texts_found head text own.first own.here in
-    let v = all_texts_found (vertex_record_at head) (IsVertexRecord head) (vertex_texts_found head) head.counts.vertices second.first nodes.first nodes.here in
-    let a = all_texts_found (arc_record_at head) (IsArcRecord head) (arc_texts_found head) head.counts.arcs third.first arcs.first arcs.here in
-    let counted = head_again head g o.says.kinds v.says.count a.says.count in
-    let rest = arcs.first.rest in
-    let after_arcs = codes "* Arcs\n" ++ a.whole in
-    let after_own = codes "* Vertices\n" ++ (v.whole ++ after_arcs) in
-    subst (λ (f : Found GraphData). RecordsFound head text f) arcs.same (record {
+-- the same as their reader has them, section after section
+abbrev RecordsWord : Head → GraphData → List ℕ → Type 0
+RecordsWord head =
+    Then (OwnWord head) (λ own. Then (Fixed (codes "* Vertices\n")) (λ none. Then (AreSoMany (IsVertexRecord head) head.counts.vertices) (λ vertices.
+    Then (Fixed (codes "* Arcs\n")) (λ none. As (λ records. record own { vertices = vertices; records = records }) (AreSoMany (IsArcRecord head) head.counts.arcs)))))
+
+records_from : (head : Head) (g : GraphData) (whole : List ℕ) → RecordsWord head g whole → AreCounted head g whole
+records_from head g whole h =
+    let second = h.4 in
+    let v = second.4 in
+    let third = v.4 in
+    let a = third.4 in
+    let full = record h.0 { vertices = v.0; records = a.0 } in
+    let kinds = ap (λ (x : GraphData). x.kinds) (is_bare head h.3.4.4.0 h.3.0 h.3.4.4.4.4.0 h.3.4.4.4.4.4.0 h.0 h.3.4.4.4.4.4.2).1 in
+    let counted = head_again head full (sym kinds) v.3.0 a.1.0 in
+    let are = λ (x : Head). AreRecords (IsVertexRecord x) v.0 v.1 × AreRecords (IsArcRecord x) a.0 third.2 × IsGraphRecord x full h.1 in
+    let all = subst are counted (v.3.1, a.1.1, graph_from head h.0 full h.1 h.3 v.3.0 refl) in
+    subst (λ (x : GraphData). AreCounted head x whole) a.2 (record {
       counted = counted;
-      stand = record {
-        whole = o.whole ++ after_own;
-        says = record {
-          own = o.whole;
-          vertices = v.whole;
-          arcs = a.whole;
-          graph_record = subst (λ (h : Head). IsGraphRecord h g o.whole) counted (record {
-            id = o.says.id;
-            n = o.says.n;
-            m = o.says.m;
-            fields = o.says.fields;
-            id_says = o.says.id_says;
-            n_says = o.says.n_says ∙ ap (λ k. Some k) (sym v.says.count);
-            m_says = o.says.m_says;
-            fields_say = o.says.fields_say;
-            is_record = o.says.is_record;
-          });
-          vertex_records = subst (λ (h : Head). AreRecords (IsVertexRecord h) g.vertices v.whole) counted v.says.are;
-          arc_records = subst (λ (h : Head). AreRecords (IsArcRecord h) g.records a.whole) counted a.says.are;
-          parts = refl;
-        };
-        parts = onto rest o.whole after_own o.parts (onto rest (codes "* Vertices\n") (v.whole ++ after_arcs) (prefix_is (codes "* Vertices\n") own.first.rest second.first second.here)
-            (onto rest v.whole after_arcs v.parts (onto rest (codes "* Arcs\n") a.whole (prefix_is (codes "* Arcs\n") nodes.first.rest third.first third.here) a.parts)));
+      are = record {
+        own = h.1;
+        vertices = v.1;
+        arcs = third.2;
+        graph_record = all.2;
+        vertex_records = all.0;
+        arc_records = all.1;
+        parts = cc (h.5, second.5, second.3, v.5, third.5, third.3);
       };
     })
 
-pub records_are_read : (g : GraphData) (whole rest : List ℕ) → AreRecordsOf g whole → records_at (head_of g) (whole ++ rest) ≡ Some (record { value = g; rest = rest })
-records_are_read g whole rest h =
-    let third = h.arcs ++ rest in
-    let second = h.vertices ++ (codes "* Arcs\n" ++ third) in
-    let split : whole ++ rest ≡ h.own ++ (codes "* Vertices\n" ++ second) =
-    ap (λ x. x ++ rest) h.parts
-    ∙ append_assoc h.own (codes "* Vertices\n" ++ (h.vertices ++ (codes "* Arcs\n" ++ h.arcs))) rest
-    ∙ ap (λ x. h.own ++ (codes "* Vertices\n" ++ x)) (append_assoc h.vertices (codes "* Arcs\n" ++ h.arcs) rest) in
-    ap (records_at (head_of g)) split
-    ∙ rw (graph_is_read g h.own (codes "* Vertices\n" ++ second) h.graph_record)
-    (rw (all_are_read (vertex_record_at (head_of g)) (IsVertexRecord (head_of g)) (vertex_is_read (head_of g)) g.vertices h.vertices (codes "* Arcs\n" ++ third) h.vertex_records)
-    (rw (all_are_read (arc_record_at (head_of g)) (IsArcRecord (head_of g)) (arc_is_read (head_of g)) g.records h.arcs rest h.arc_records) refl))
+records_into : (g : GraphData) (whole : List ℕ) → AreRecordsOf g whole → RecordsWord (head_of g) g whole
+records_into g whole h =
+    let third = codes "* Arcs\n" ++ h.arcs in
+    let second = h.vertices ++ third in
+    let own = graph_into g h.own h.graph_record in (
+      record g { vertices = []; records = [] },
+      h.own,
+      codes "* Vertices\n" ++ second,
+      own,
+      (tt, codes "* Vertices\n", second, refl, (g.vertices, h.vertices, third, (refl, h.vertex_records), (tt, codes "* Arcs\n", h.arcs, refl, (g.records, (refl, h.arc_records), refl), refl), refl), refl),
+      h.parts,
+    )
+
+-- the records of a file are read
+pub reads_records : (head : Head) → Reads found_with Any Any (AreCounted head) (records_at head)
+reads_records head =
+    reads_is (λ text h. tt) (records_from head) (λ g whole h. subst (λ (x : Head). RecordsWord x g whole) (sym h.counted) (records_into g whole h.are))
+    (reads_then _ (reads_graph head) (λ own. reads_then _ (reads_prefix (codes "* Vertices\n") (λ more. tt)) (λ none.
+    reads_then _ (reads_all (vertex_record_at head) (IsVertexRecord head) (reads_vertex head) head.counts.vertices) (λ vertices. reads_then _ (reads_prefix (codes "* Arcs\n") (λ more. tt)) (λ none.
+    reads_as (λ (records : List ArcRec). record own { vertices = vertices; records = records }) (reads_all (arc_record_at head) (IsArcRecord head) (reads_arc head) head.counts.arcs))))))

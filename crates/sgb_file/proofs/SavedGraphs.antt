@@ -96,15 +96,17 @@ length_fits n m (kind ∷ kinds) (u ∷ utils) h =
     ap suc (length_fits n m kinds utils (and_parts (util_fits n m kind u) (utils_fit n m kinds utils) h).1)
 length_fits n m _ _ h = absurd cc
 
+-- the tests of a graph's own fields, of its vertices and of its arc records
+fields_apart : (g : GraphData) → IsGraph g → (utils_fit (length g.vertices) (length g.records) (graph_kinds g.kinds) g.util ≡ true) × (list_all (vertex_fits g) g.vertices ≡ true) × (list_all (record_fits g) g.records ≡ true)
+fields_apart g h =
+    let own = utils_fit (length g.vertices) (length g.records) (graph_kinds g.kinds) g.util in
+    let parts = and_parts (own && list_all (vertex_fits g) g.vertices) (list_all (record_fits g) g.records) h.fields in
+    let first = and_parts own (list_all (vertex_fits g) g.vertices) parts.0 in
+    (first.0, first.1, parts.1)
+
 -- a graph has six fields of its own
 pub six_fields : (g : GraphData) → IsGraph g → length g.kinds ≡ 14 → length g.util ≡ 6
-six_fields g h kinds =
-    let n = length g.vertices in
-    let own = utils_fit n (length g.records) (graph_kinds g.kinds) g.util in
-    let nodes = list_all (vertex_fits g) g.vertices in
-    let parts = and_parts (own && nodes) (list_all (record_fits g) g.records) h.fields in
-    let fits = (and_parts own nodes parts.0).0 in
-    length_fits n (length g.records) (graph_kinds g.kinds) g.util fits ∙ rw length-drop (omega arith)
+six_fields g h kinds = length_fits (length g.vertices) (length g.records) (graph_kinds g.kinds) g.util (fields_apart g h).0 ∙ rw length-drop (omega arith)
 
 -- counts that numbers of 18 digits reach
 pub record AreSmall (counts : Counts) : Type 0 where
@@ -124,18 +126,15 @@ pub record IsReady (g : GraphData) : Type 0 where
 
 pub ready : (g : GraphData) → CanBeSaved g → IsReady g
 ready g h =
-    let own = utils_fit (length g.vertices) (length g.records) (graph_kinds g.kinds) g.util in
-    let nodes = list_all (vertex_fits g) g.vertices in
     let most = at_most (length g.vertices) most_vertices h.graph.vertices_fit in
-    let parts = and_parts (own && nodes) (list_all (record_fits g) g.records) h.graph.fields in
-    let first = and_parts own nodes parts.0 in
+    let fits = fields_apart g h.graph in
     record {
       small = record { vertices = omega (arith, most); arcs = omega (arith, h.writable.records_counted) };
       vertices_few = most;
       records_few = h.writable.records_counted;
       arcs_few = h.writable.arcs_counted;
       id = h.writable.id;
-      own = record { fits = first.0; values = h.writable.util };
-      vertices = λ k d below. vertex_that_fits g (get_or g.vertices k d) (AllPass-from_list_all (vertex_fits g) g.vertices first.1 k d below) (h.writable.vertices k d below);
-      records = λ k d below. arc_that_fits g (get_or g.records k d) (AllPass-from_list_all (record_fits g) g.records parts.1 k d below) (h.writable.records k d below);
+      own = record { fits = fits.0; values = h.writable.util };
+      vertices = λ k d below. vertex_that_fits g (get_or g.vertices k d) (AllPass-from_list_all (vertex_fits g) g.vertices fits.1 k d below) (h.writable.vertices k d below);
+      records = λ k d below. arc_that_fits g (get_or g.records k d) (AllPass-from_list_all (record_fits g) g.records fits.2 k d below) (h.writable.records k d below);
     }

@@ -1,8 +1,7 @@
 -- Lemmas on the sections of a file, in the words of the code.
-use Rattle.std.proofs.Common.{◌≡◌, ◌∙◌, ◌++◌, ◌<◌, ◌-◌, ◌+◌, ℕ, suc, Bool, true, false, List, [], ◌∷◌, Option, Some, None, Err, refl, sym, ap, subst, append_assoc, append-nil, arith, codes, cond, not, ◌==◌}
+use Rattle.std.proofs.Common.{◌≡◌, ◌∙◌, ◌++◌, ◌<◌, ◌-◌, ◌+◌, ℕ, suc, Bool, true, false, List, [], ◌∷◌, Option, Some, None, Err, refl, sym, ap, append_assoc, append-nil, arith, codes, cond, not, ◌==◌}
 use Rattle.std.specs.List.{starts_with}
-use Rattle.std.proofs.Math.Seq.{drop-append_seam}
-use Rattle.std.proofs.lemmas.Bool.{and_parts, and_from, not-true}
+use Rattle.std.proofs.lemmas.Bool.{and_parts, not-true}
 use Rattle.std.proofs.lemmas.Bool.Decides.{nat_tests, Decides-eqb}
 use Rattle.sgb_graph.specs.Graphs.{GraphData}
 use Rattle.sgb_graph.specs.Parts.{with_vertex, with_record}
@@ -10,7 +9,8 @@ use Rattle.sgb_graph.specs.declared.fields.Vertex.{Vertex}
 use Rattle.sgb_graph.specs.declared.fields.ArcRec.{ArcRec}
 use Rattle.sgb_file.specs.Fields.{Found, given, found_as, after_prefix}
 use Rattle.sgb_file.specs.Records.{Head, all_at, arc_record_at, graph_record_at, records_at, vertex_record_at}
-use Rattle.sgb_file.proofs.FoundParts.{was_mapped, own_parts}
+use Rattle.sgb_file.proofs.FoundParts.{prefix_read, was_mapped}
+use Rattle.sgb_file.proofs.RecordsAndTexts.{is_bare, reads_graph}
 use Rattle.sgb_file.proofs.FoundSteps.{stops, vertex_steps}
 use Rattle.sgb_file.specs.inner.Found.{IsFoundBy}
 use Rattle.sgb_vec.specs.declared.panics.Panic.{Panic}
@@ -72,18 +72,7 @@ pub arcs_read : (head : Head) (parts : GraphData) (k : ℕ) (text : List ℕ) �
 arcs_read head parts k text e =
     all_read (arc_record_at head) (with_records parts) k text e ∙ ap (λ rs. Some (record { value = record parts { records = rs }; rest = text })) (append-nil parts.records)
 
--- what follows a prefix
-starts_so : (p more : List ℕ) → starts_with (λ b c. b == c) (p ++ more) p ≡ true
-starts_so [] more = refl
-starts_so (b ∷ p) more = and_from (b == b) (starts_with (λ b c. b == c) (p ++ more) p) ((Decides-eqb b b).1 refl) (starts_so p more)
-
-pub prefix_read : (p more : List ℕ) → after_prefix p (p ++ more) ≡ Some more
-prefix_read p more = rw (starts_so p more) (ap Some (drop-append_seam p more))
-
 -- the line that follows is this title, or another one
-pub same_title : (title more : List ℕ) → after_prefix (title ++ 10 ∷ []) (title ++ 10 ∷ more) ≡ Some more
-same_title title more = ap (after_prefix (title ++ 10 ∷ [])) (sym (append_assoc title (10 ∷ []) more)) ∙ prefix_read (title ++ 10 ∷ []) more
-
 titled : (title line more : List ℕ) → has_no_newline title ≡ true → has_no_newline line ≡ true → starts_with (λ b c. b == c) (line ++ 10 ∷ more) (title ++ 10 ∷ []) ≡ true → title ≡ line
 titled [] [] more h l e = refl
 titled [] (b ∷ line) more h l e =
@@ -103,16 +92,14 @@ none_else : (t : Bool) (rest : List ℕ) → (t ≡ true → ⊥) → cond t (So
 none_else true rest h = absurd (h refl)
 none_else false rest h = refl
 
-pub other_title : (title line more : List ℕ) → has_no_newline title ≡ true → has_no_newline line ≡ true → (line ≡ title → ⊥) → after_prefix (title ++ 10 ∷ []) (line ++ 10 ∷ more) ≡ None
-other_title title line more h l other =
-    none_else (starts_with (λ b c. b == c) (line ++ 10 ∷ more) (title ++ 10 ∷ [])) _ (λ e. other (sym (titled title line more h l e)))
-
 -- a title that was passed, and one that was not
 pub title_passed : (title line : List ℕ) (s t : LinesLeft) → s.line ≡ Some line → line ≡ title → text_left t ≡ text_of_lines s.others → after_prefix (title ++ 10 ∷ []) (text_left s) ≡ Some (text_left t)
-title_passed title line s t e same left = rw (e, same, left) (same_title title (text_of_lines s.others))
+title_passed title line s t e same left =
+    rw (e, same, left) (ap (after_prefix (title ++ 10 ∷ [])) (sym (append_assoc title (10 ∷ []) (text_of_lines s.others))) ∙ prefix_read (title ++ 10 ∷ []) (text_of_lines s.others))
 
 pub title_missed : (title line : List ℕ) (s : LinesLeft) → s.line ≡ Some line → has_no_newline title ≡ true → has_no_newline line ≡ true → (line ≡ title → ⊥) → after_prefix (title ++ 10 ∷ []) (text_left s) ≡ None
-title_missed title line s e h l other = rw e (other_title title line (text_of_lines s.others) h l other)
+title_missed title line s e h l other =
+    rw e (none_else (starts_with (λ b c. b == c) (line ++ 10 ∷ text_of_lines s.others) (title ++ 10 ∷ [])) _ (λ same. other (sym (titled title line (text_of_lines s.others) h l same))))
 
 -- what the records of a file say, section by section
 abbrev arcs_after : Head → GraphData → Found (List Vertex) → Option (Found GraphData)
@@ -126,28 +113,22 @@ vertices_after head g second = given (all_at (vertex_record_at head) head.counts
 abbrev titles_after : Head → Found GraphData → Option (Found GraphData)
 titles_after head graph = given (after_prefix (codes "* Vertices\n") graph.rest) (vertices_after head graph.value)
 
--- a graph's record brings no vertices and no arc records
-record StartsEmpty (g : GraphData) : Type 0 where
-  vertices : g.vertices ≡ []
-  records : g.records ≡ []
-
-start_found : (head : Head) (text : List ℕ) (found : Found GraphData) → graph_record_at head text ≡ Some found → StartsEmpty found.value
-start_found head text found e =
-    subst (λ (f : Found GraphData). StartsEmpty f.value) (own_parts head text found e).same (record { vertices = refl; records = refl })
-
 -- where the records of the graph and of the vertices are read, the others are those of the section of the arcs
 pub records_sections : (head : Head) (parts more : GraphData) (t0 t1 t2 t3 : List ℕ) → graph_record_at head t0 ≡ Some (record { value = parts; rest = t1 })
     → after_prefix (codes "* Vertices\n") t1 ≡ Some t2 → vertices_at head parts head.counts.vertices t2 ≡ Some (record { value = more; rest = t3 })
     → records_at head t0 ≡ given (after_prefix (codes "* Arcs\n") t3) (arcs_at head more head.counts.arcs)
 records_sections head parts more t0 t1 t2 t3 g a v =
-    let start = start_found head t0 (record { value = parts; rest = t1 }) g in
+    let own = (reads_graph head).finds t0 (record { value = parts; rest = t1 }) g in
+    let m = own.says.4.4.4.4 in
+    let bare = is_bare head own.says.4.4.0 own.says.0 m.0 m.4.0 own.value m.4.2 in
+    let start = bare.1 ∙ ap (λ (f : Found GraphData). f.value) own.made in
     let p = was_mapped (all_at (vertex_record_at head) head.counts.vertices t2) {f = λ x. record { value = record parts { vertices = parts.vertices ++ x.value }; rest = x.rest }} v in
     let vs = p.first.value in
     ap (λ o. given o (titles_after head)) g
     ∙ (ap (λ o. given o (vertices_after head parts)) a
     ∙ (ap (λ o. given o (arcs_after head parts)) p.here
     ∙ (ap (λ x. arcs_after head parts (record { value = vs; rest = x.rest })) p.same
-    ∙ (ap (λ (xs : List Vertex). arcs_after head parts (record { value = xs ++ vs; rest = t3 })) (sym start.vertices)
+    ∙ (ap (λ (xs : List Vertex). arcs_after head parts (record { value = xs ++ vs; rest = t3 })) (ap (λ (x : GraphData). x.vertices) start)
     ∙ (ap (λ (xs : List ArcRec). given (after_prefix (codes "* Arcs\n") t3) (λ third.
-    found_as (λ rs. record parts { vertices = parts.vertices ++ vs; records = xs ++ rs }) (all_at (arc_record_at head) head.counts.arcs third))) (sym start.records)
+    found_as (λ rs. record parts { vertices = parts.vertices ++ vs; records = xs ++ rs }) (all_at (arc_record_at head) head.counts.arcs third))) (ap (λ (x : GraphData). x.records) start)
     ∙ ap (λ x. given (after_prefix (codes "* Arcs\n") t3) (arcs_at head x.value head.counts.arcs)) p.same)))))

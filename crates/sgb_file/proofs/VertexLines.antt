@@ -1,129 +1,26 @@
 -- Vertices that are one short line: they are read of the line alone, with the checksum after it.
-use Rattle.std.specs.Prelude.{◌≡◌, ◌≤◌, ◌<◌, ◌+◌, ◌-◌, ◌%◌, ◌^◌, ◌++◌, ◌∷◌, ℕ, ℤ, suc, true, List, [], length, take, drop, Option, Some, None, IfSome, refl, slice_index_or as get_or}
-use Rattle.std.proofs.Common.{ap, sym, ◌∙◌, arith, append_assoc, length-append}
+use Rattle.std.specs.Prelude.{◌≡◌, ◌≤◌, ◌<◌, ◌+◌, ◌-◌, ◌++◌, ◌∷◌, ℕ, ℤ, suc, true, List, [], length, take, drop, Option, Some, None, IfSome, refl, slice_index_or as get_or}
+use Rattle.std.proofs.Common.{ap, sym, ◌∙◌, arith, append_assoc}
 use Rattle.std.proofs.lemmas.Bool.{and_parts}
-use Rattle.std.proofs.lemmas.List.{drop-append-le, drop_all, drop_more, length-drop, take-append-drop}
+use Rattle.std.proofs.lemmas.List.{drop-append-le, drop_more, length-drop, take-append-drop}
 use Rattle.sgb_vec.specs.Limits.{most_bytes}
 use Rattle.sgb_vec.specs.Names.{IsText}
 use Rattle.sgb_graph.specs.Graphs.{GraphData}
 use Rattle.sgb_graph.specs.Parts.{vertex_with_ints, with_vertex}
-use Rattle.sgb_graph.specs.declared.fields.Kind.{Kind}
-use Rattle.sgb_graph.specs.declared.fields.Kind.TheVariants.{A, I, Z}
-use Rattle.sgb_graph.specs.declared.fields.Util.{Util}
-use Rattle.sgb_graph.specs.declared.fields.Util.TheVariants.{Chain, Int, Nothing}
-use Rattle.sgb_file.specs.Checksum.{checksum_prime, has_star}
+use Rattle.sgb_file.specs.Checksum.{has_star}
 use Rattle.sgb_file.specs.FileLines.{text_of_lines}
-use Rattle.sgb_file.specs.Fields.{Counts, Found, field_at, found_as, integer_of, record_number_of, string_at}
-use Rattle.sgb_file.specs.Records.{Head, after_comma, more_fields_at, vertex_record_at}
-use Rattle.sgb_file.specs.inner.Found.{checked_text, is_used, next_field_at}
-use Rattle.sgb_file.specs.inner.Layouts.{checksum_from, counted_bytes, value_after, value_from}
-use Rattle.sgb_file.specs.inner.LineRecords.{AreFieldsOf, IsCountedField, IsNamedAt, IsPlainVertex, IsVertexLine}
+use Rattle.sgb_file.specs.Fields.{Counts, string_at}
+use Rattle.sgb_file.specs.Records.{Head, vertex_record_at}
+use Rattle.sgb_file.specs.inner.Found.{checked_text}
+use Rattle.sgb_file.specs.inner.Layouts.{checksum_from, counted_bytes}
+use Rattle.sgb_file.specs.inner.LineRecords.{AreFieldsOf, IsNamedAt, IsPlainVertex, IsVertexLine}
 use Rattle.sgb_file.specs.inner.LinesLeft.{LinesLeft, has_no_newline, next_begun, text_left}
 use Rattle.sgb_file.specs.inner.Reading.{IsNextVertex}
-use Rattle.sgb_file.proofs.ChecksumLemmas.{few_counted}
-use Rattle.sgb_file.proofs.CountedFields.{field_valued, last_valued}
-use Rattle.sgb_file.proofs.FoundSteps.{first_field, vertex_steps}
+use Rattle.sgb_file.proofs.FoundSteps.{vertex_steps}
 use Rattle.sgb_file.proofs.LaidLines.{checksum-counted, checksum_from-append}
-use Rattle.sgb_file.proofs.LineRecords.{comma_in_line, field_of_line, rest_of_line, some_integer, some_number}
+use Rattle.sgb_file.proofs.LineRecords.{rest_of_line}
 use Rattle.sgb_file.proofs.LeftTexts.{next_left, under_way}
 use Rattle.sgb_file.proofs.StringReading.{has_quote, last_part, opened, test_passes}
-
--- a field, and then others
-field_then : (counts : Counts) (kind : Kind) (kinds : List Kind) (text rest left : List ℕ) (u : Util) (others : List Util)
-    → next_field_at counts kind text ≡ Some (record { value = u; rest = rest })
-    → more_fields_at counts kinds rest ≡ Some (record { value = others; rest = left })
-    → more_fields_at counts (kind ∷ kinds) text ≡ Some (record { value = u ∷ others; rest = left })
-field_then counts kind kinds text rest left u others a b = first_field counts kind kinds text ∙ rw a (rw b refl)
-
-no_fields_left : (counts : Counts) (text : List ℕ) → more_fields_at counts [] (10 ∷ text) ≡ Some (record { value = []; rest = text })
-unfolding more_fields_at
-no_fields_left counts text = refl
-
--- the field that a line goes on with after a comma
-next_found : (counts : Counts) (kind : Kind) (text start : List ℕ) (found : Found Util) → is_used kind ≡ true → after_comma text ≡ Some start
-    → field_at counts kind start ≡ Some found → next_field_at counts kind text ≡ Some found
-next_found counts kind text start found used a b = rw used (rw a b)
-
-next_integer : (counts : Counts) (line after text : List ℕ) (value : ℕ) (x : ℤ) (len counted : ℕ) → has_no_newline line ≡ true
-    → IsCountedField integer_of line value x len counted → drop len line ≡ after
-    → next_field_at counts I (44 ∷ line ++ 10 ∷ text) ≡ Some (record { value = Int x; rest = after ++ 10 ∷ text })
-next_integer counts line after text value x len counted h f left =
-    next_found counts I (44 ∷ line ++ 10 ∷ text) (line ++ 10 ∷ text) _ refl (comma_in_line line text h (some_integer line x f.said))
-    (ap (found_as Int) (field_of_line ℤ integer_of line after text x h f.said (ap (λ (n : ℕ). drop n line) (sym f.many) ∙ left)))
-
-next_record : (counts : Counts) (line after text : List ℕ) (value : ℕ) (first : Option ℕ) (len counted : ℕ) → has_no_newline line ≡ true
-    → IsCountedField (record_number_of counts.arcs) line value first len counted → drop len line ≡ after
-    → next_field_at counts A (44 ∷ line ++ 10 ∷ text) ≡ Some (record { value = Chain first; rest = after ++ 10 ∷ text })
-next_record counts line after text value first len counted h f left =
-    next_found counts A (44 ∷ line ++ 10 ∷ text) (line ++ 10 ∷ text) _ refl (comma_in_line line text h (some_number counts.arcs line first f.said))
-    (ap (found_as Chain) (field_of_line (Option ℕ) (record_number_of counts.arcs) line after text first h f.said (ap (λ (n : ℕ). drop n line) (sym f.many) ∙ left)))
-
--- four fields of a line, each but the last before a comma, with the values of a checksum after them
-pub record HasFields (counts : Counts) (line second third fourth : List ℕ) (value : ℕ) (first : Option ℕ) (x y z : ℤ) (last : ℕ) : Type 0 where
-  pub one : has_no_newline line ≡ true
-  pub first_end : ℕ
-  pub first_value : ℕ
-  pub first_read : IsCountedField (record_number_of counts.arcs) line value first first_end first_value
-  pub first_left : drop first_end line ≡ 44 ∷ second
-  pub x_end : ℕ
-  pub x_from : ℕ
-  pub x_begun : x_from ≡ value_after first_value 44
-  pub x_value : ℕ
-  pub x_read : IsCountedField integer_of second x_from x x_end x_value
-  pub x_left : drop x_end second ≡ 44 ∷ third
-  pub y_end : ℕ
-  pub y_from : ℕ
-  pub y_begun : y_from ≡ value_after x_value 44
-  pub y_value : ℕ
-  pub y_read : IsCountedField integer_of third y_from y y_end y_value
-  pub y_left : drop y_end third ≡ 44 ∷ fourth
-  pub z_end : ℕ
-  pub z_from : ℕ
-  pub z_begun : z_from ≡ value_after y_value 44
-  pub z_read : IsCountedField integer_of fourth z_from z z_end last
-  pub z_last : length fourth ≤ z_end
-
-fields_read : (counts : Counts) (line second third fourth : List ℕ) (value : ℕ) (first : Option ℕ) (x y z : ℤ) (last : ℕ)
-    → HasFields counts line second third fourth value first x y z last → AreFieldsOf counts line first x y z
-fields_read counts line second third fourth value first x y z last h text =
-    let h2 = rest_of_line line second h.first_end h.one h.first_left in
-    let h3 = rest_of_line second third h.x_end h2 h.x_left in
-    let h4 = rest_of_line third fourth h.y_end h3 h.y_left in
-    let a = next_record counts line (44 ∷ second) text value first h.first_end h.first_value h.one h.first_read h.first_left in
-    let b = next_integer counts second (44 ∷ third) text h.x_from x h.x_end h.x_value h2 h.x_read h.x_left in
-    let c = next_integer counts third (44 ∷ fourth) text h.y_from y h.y_end h.y_value h3 h.y_read h.y_left in
-    let d = next_integer counts fourth [] text h.z_from z h.z_end last h4 h.z_read (drop_all h.z_end fourth h.z_last) in
-    let z_read = field_then counts I [] (44 ∷ fourth ++ 10 ∷ text) (10 ∷ text) text (Int z) [] d (no_fields_left counts text) in
-    let y_read = field_then counts I (I ∷ []) (44 ∷ third ++ 10 ∷ text) (44 ∷ fourth ++ 10 ∷ text) text (Int y) _ c z_read in
-    let x_read = field_then counts I (I ∷ I ∷ []) (44 ∷ second ++ 10 ∷ text) (44 ∷ third ++ 10 ∷ text) text (Int x) _ b y_read in
-    let start = 44 ∷ second ++ 10 ∷ text in
-    let w_read = field_then counts Z (I ∷ I ∷ I ∷ []) start start text Nothing _ refl x_read in
-    let v_read = field_then counts Z (Z ∷ I ∷ I ∷ I ∷ []) start start text Nothing _ refl w_read in
-    let u_read = field_then counts Z (Z ∷ Z ∷ I ∷ I ∷ I ∷ []) start start text Nothing _ refl v_read in
-    field_then counts A (Z ∷ Z ∷ Z ∷ I ∷ I ∷ I ∷ []) (44 ∷ line ++ 10 ∷ text) start text (Chain first) _ a u_read
-
--- the checksum after them
-fields_counted : (counts : Counts) (line second third fourth : List ℕ) (sum start : ℕ) (first : Option ℕ) (x y z : ℤ) (last result : ℕ)
-    → HasFields counts line second third fourth start first x y z last → start ≡ sum → sum < 2 ^ 32 → length line ≤ 30
-    → result ≡ value_after last 10 % checksum_prime → result ≡ checksum_from sum (line ++ 10 ∷ [])
-fields_counted counts line second third fourth sum start first x y z last result h from small few e =
-    let n = length-append line (10 ∷ []) in
-    let value = field_valued (Option ℕ) (record_number_of counts.arcs) first line second (10 ∷ []) start h.first_end h.first_value h.x_from h.first_read h.first_left h.x_begun
-    ∙ (field_valued ℤ integer_of x second third (10 ∷ []) h.x_from h.x_end h.x_value h.y_from h.x_read h.x_left h.y_begun
-    ∙ (field_valued ℤ integer_of y third fourth (10 ∷ []) h.y_from h.y_end h.y_value h.z_from h.y_read h.y_left h.z_begun
-    ∙ last_valued ℤ integer_of z fourth h.z_from h.z_end last h.z_read h.z_last)) in
-    let value_is : result ≡ value_from sum (line ++ 10 ∷ []) % checksum_prime =
-    e ∙ ap (λ (v : ℕ). v % checksum_prime) (sym value ∙ ap (λ (s : ℕ). value_from s (line ++ 10 ∷ [])) from) in
-    few_counted sum result (line ++ 10 ∷ []) small (omega (arith, n)) (omega (arith, n, few)) value_is
-
-pub fields_of : (counts : Counts) (line second third fourth : List ℕ) (sum start : ℕ) (first : Option ℕ) (x y z : ℤ) (last result : ℕ)
-    → HasFields counts line second third fourth start first x y z last → start ≡ sum → sum < 2 ^ 32 → length line ≤ 30
-    → result ≡ value_after last 10 % checksum_prime
-    → AreFieldsOf counts line first x y z × (result ≡ checksum_from sum (line ++ 10 ∷ []))
-fields_of counts line second third fourth sum start first x y z last result h from small few e = (
-  fields_read counts line second third fourth start first x y z last h,
-  fields_counted counts line second third fourth sum start first x y z last result h from small few e,
-)
 
 -- the bytes in quotes, where they are a string
 name_read : (line name rest text : List ℕ) → has_no_newline line ≡ true → IsNamedAt line name rest → checked_text most_bytes name ≡ Some name

@@ -30,7 +30,4 @@ text-parts g n records sum h k s =
 
 -- seven texts, one after another
 pub seven_texts : (a b c d e f g : List ℕ) → a ++ (b ++ (c ++ (d ++ (e ++ (f ++ (g ++ [])))))) ≡ a ++ b ++ c ++ d ++ e ++ f ++ g
-seven_texts a b c d e f g =
-    ap (λ x. a ++ (b ++ (c ++ (d ++ (e ++ (f ++ x)))))) (append-nil g)
-    ∙ (sym (append_assoc a b (c ++ (d ++ (e ++ (f ++ g))))) ∙ (sym (append_assoc (a ++ b) c (d ++ (e ++ (f ++ g))))
-    ∙ (sym (append_assoc (a ++ b ++ c) d (e ++ (f ++ g))) ∙ (sym (append_assoc (a ++ b ++ c ++ d) e (f ++ g)) ∙ sym (append_assoc (a ++ b ++ c ++ d ++ e) f g)))))
+seven_texts a b c d e f g = simp (append_assoc, append-nil)

@@ -1,5 +1,5 @@
 -- Lemmas on whole files: what is written is a file of the graph.
-use Rattle.std.specs.Prelude.{◌≡◌, ℕ, ◌^◌, ◌<◌, true, not, List, [], ◌∷◌, ◌++◌, map, length, codes, decimal, filter, refl}
+use Rattle.std.specs.Prelude.{◌≡◌, ℕ, ◌^◌, ◌<◌, true, not, List, [], ◌∷◌, ◌++◌, length, codes, decimal, filter, refl}
 use Rattle.std.specs.List.{list_all, flat_map}
 use Rattle.std.proofs.Common.{ap, sym, ◌∙◌, append_assoc, append-nil, arith, inl}
 use Rattle.std.proofs.lemmas.Bool.{and_from}
@@ -13,7 +13,7 @@ use Rattle.sgb_file.specs.FileLines.{clean_lines, text_of_lines}
 use Rattle.sgb_file.specs.Checksum.{checksum_prime, weighted_sum, has_star, checksum_of_lines}
 use Rattle.sgb_file.specs.Fields.{most_number_digits}
 use Rattle.sgb_file.specs.Files.{IsFirstLine, IsComment, IsChecksumLine, IsVertexRecord, IsArcRecord, AreRecordsOf, IsFileOf, head_of}
-use Rattle.sgb_file.specs.Saving.{letter_of, graph_texts, vertex_texts, arc_texts, record_lines, head_line, middle_lines, checksum_line, text_of_graph}
+use Rattle.sgb_file.specs.Saving.{graph_texts, vertex_texts, arc_texts, record_lines, head_line, middle_lines, checksum_line, text_of_graph}
 use Rattle.sgb_file.specs.Saved.{CanBeSaved}
 use Rattle.sgb_file.proofs.LineLemmas.{is_line, list_all-join, clean_lines_read}
 use Rattle.sgb_file.proofs.FieldReading.{number_read}
@@ -36,17 +36,7 @@ arc_text r = text_of_lines (record_lines (arc_texts r))
 -- the text between the first line and the last is the records of the graph
 middle_text : (g : GraphData) → text_of_lines (middle_lines g)
     ≡ text_of_lines (record_lines (graph_texts g)) ++ (codes "* Vertices\n" ++ (flat_map vertex_text g.vertices ++ (codes "* Arcs\n" ++ flat_map arc_text g.records)))
-middle_text g =
-    let own = record_lines (graph_texts g) in
-    let nodes = flat_map (λ v. record_lines (vertex_texts v)) g.vertices in
-    let arcs = flat_map (λ r. record_lines (arc_texts r)) g.records in
-    let second = codes "* Vertices" ∷ nodes in
-    let third = codes "* Arcs" ∷ arcs in
-    let ended = λ (line : List ℕ). line ++ 10 ∷ [] in
-    flat_map-append ended (own ++ second) third ∙ ap (λ x. x ++ text_of_lines third) (flat_map-append ended own second)
-    ∙ append_assoc (text_of_lines own) (text_of_lines second) (text_of_lines third)
-    ∙ ap (λ x. text_of_lines own ++ (codes "* Vertices\n" ++ (x ++ (codes "* Arcs\n" ++ text_of_lines arcs)))) (text_of_all (λ v. record_lines (vertex_texts v)) g.vertices)
-    ∙ ap (λ x. text_of_lines own ++ (codes "* Vertices\n" ++ (flat_map vertex_text g.vertices ++ (codes "* Arcs\n" ++ x)))) (text_of_all (λ r. record_lines (arc_texts r)) g.records)
+middle_text g = simp (flat_map-append, text_of_all, append_assoc)
 
 records_written : (g : GraphData) → IsReady g → AreRecordsOf g (text_of_lines (middle_lines g))
 records_written g h = record {
@@ -64,20 +54,13 @@ first_written : (g : GraphData) → length g.kinds ≡ 14 → IsReady g → IsFi
 first_written g kinds h =
     let n = length g.vertices in
     let m = length g.records in
-    let letters = map letter_of g.kinds in
-    let start = codes "* GraphBase graph (util_types " in
-    let third = codes "V," ++ (decimal m ++ codes "A)") in
     let most = h.vertices_few in
     let few = h.records_few in
     record {
       n = decimal n;
       m = decimal m;
       anything = [];
-      form = append_assoc ((((start ++ letters) ++ codes ",") ++ decimal n) ++ codes "V,") (decimal m) (codes "A)")
-          ∙ append_assoc (((start ++ letters) ++ codes ",") ++ decimal n) (codes "V,") (decimal m ++ codes "A)")
-          ∙ append_assoc ((start ++ letters) ++ codes ",") (decimal n) third
-          ∙ append_assoc (start ++ letters) (codes ",") (decimal n ++ third)
-          ∙ append_assoc start letters (codes "," ++ (decimal n ++ third));
+      form = simp append_assoc;
       fourteen = kinds;
       n_says = number_read most_number_digits n (omega arith) (omega (arith, most)) (omega (arith, most));
       m_says = number_read most_number_digits m (omega arith) few (omega (arith, few));

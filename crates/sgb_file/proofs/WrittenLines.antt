@@ -5,6 +5,9 @@ use Rattle.std.proofs.Common.{ap, ◌∙◌, arith}
 use Rattle.std.proofs.lemmas.Bool.{and_parts, and_from}
 use Rattle.std.proofs.lemmas.Fmt.{decimal_is_IsNumeral}
 use Rattle.std.proofs.lemmas.List.Elements.{All-head, All-tail}
+use Rattle.std.proofs.lemmas.List.Folds.{list_all-append}
+use Rattle.std.proofs.lemmas.List.Sums.{AllPass-from_list_all, list_all-from_AllPass}
+use Rattle.sgb_vec.proofs.Lists.{All-flat_map}
 use Rattle.sgb_graph.specs.Graphs.{GraphData}
 use Rattle.sgb_graph.specs.Sound.{util_fits, utils_fit, graph_kinds}
 use Rattle.sgb_graph.specs.declared.fields.Kind.{Kind}
@@ -17,18 +20,17 @@ use Rattle.sgb_file.specs.Saving.{letter_of, field_texts, graph_texts, vertex_te
 use Rattle.sgb_file.specs.Saved.{ValueCanBeSaved}
 use Rattle.sgb_file.proofs.LineLemmas.{is_line, is_one_line, is_within_line, ends_well, list_all-join}
 use Rattle.sgb_file.proofs.LaidOutText.{record_are_lines}
-use Rattle.sgb_file.proofs.FieldReading.{quoted_is_line}
-use Rattle.sgb_file.proofs.WrittenRecords.{IsField, decimal_is_line, field_of}
+use Rattle.sgb_file.proofs.FieldReading.{decimal_is_line, quoted_is_line}
+use Rattle.sgb_file.proofs.WrittenRecords.{field_of}
 use Rattle.sgb_file.proofs.SavedGraphs.{AreSmall, FieldsFit, IsReady, VertexFits, ArcFits, fields_of_vertex, fields_of_arc}
 
 -- the texts of a field are lines
-field_is_line : (counts : Counts) (kind : Kind) (u : Util) → IsField counts kind u → list_all is_line (field_texts u) ≡ true
-field_is_line counts kind u field = ap (list_all is_line) field.texts ∙ and_from (is_line field.text) true field.line refl
-
 value_is_line : (counts : Counts) → AreSmall counts → (kind : Kind) (u : Util) → util_fits counts.vertices counts.arcs kind u ≡ true → ValueCanBeSaved u → list_all is_line (field_texts u) ≡ true
 value_is_line counts small Z Nothing fits h = refl
 value_is_line counts small Z _ fits h = absurd cc
-value_is_line counts small kind u fits h = field_is_line counts kind u (field_of counts small kind u (λ z. absurd cc) fits h)
+value_is_line counts small kind u fits h =
+    let field = field_of counts small kind u (λ z. absurd cc) fits h in
+    ap (list_all is_line) field.texts ∙ and_from (is_line field.text) true field.line refl
 
 fields_are_lines : (counts : Counts) → AreSmall counts → (kinds : List Kind) (utils : List Util) → utils_fit counts.vertices counts.arcs kinds utils ≡ true → All ValueCanBeSaved utils → list_all is_line (flat_map field_texts utils) ≡ true
 fields_are_lines counts small [] [] fits h = refl
@@ -52,9 +54,8 @@ graph_lines g h =
 
 -- lines of each of several records
 each_lines : {X : Type 0} (lines_of : X → List (List ℕ)) (IsGood : X → Type 0) → ((x : X) → IsGood x → list_all is_line (lines_of x) ≡ true) → (xs : List X) → All IsGood xs → list_all is_line (flat_map lines_of xs) ≡ true
-each_lines lines_of IsGood each [] h = refl
-each_lines lines_of IsGood each (x ∷ xs) h =
-    list_all-join is_line (lines_of x) (flat_map lines_of xs) (each x (All-head IsGood x xs h)) (each_lines lines_of IsGood each xs (All-tail IsGood x xs h))
+each_lines lines_of IsGood each xs h =
+    list_all-from_AllPass is_line (flat_map lines_of xs) (All-flat_map (λ line. is_line line ≡ true) lines_of xs (λ k d below. AllPass-from_list_all is_line _ (each _ (h k d below))))
 
 -- the lines between the first and the last are lines
 pub middle_are_lines : (g : GraphData) → IsReady g → list_all is_line (middle_lines g) ≡ true
@@ -91,14 +92,11 @@ decimal_in_line n h = (and_parts (is_one_line (decimal n)) (ends_well (decimal n
 pub head_is_line : (g : GraphData) → length g.vertices < 2 ^ 64 → length g.records < 2 ^ 64 → is_line (head_line g) ≡ true
 unfolding ends_well
 head_is_line g below few =
-    let first = codes "* GraphBase graph (util_types " ++ map letter_of g.kinds in
-    let second = first ++ codes "," ++ decimal (length g.vertices) in
-    let third = second ++ codes "V," ++ decimal (length g.records) in
-    let join = list_all-join is_within_line in
-    let first_is = join (codes "* GraphBase graph (util_types ") (map letter_of g.kinds) refl (letters_in_line g.kinds) in
-    let second_is = join (first ++ codes ",") (decimal (length g.vertices)) (join first (codes ",") first_is refl) (decimal_in_line (length g.vertices) below) in
-    let third_is = join (second ++ codes "V,") (decimal (length g.records)) (join second (codes "V,") second_is refl) (decimal_in_line (length g.records) few) in
-    and_from (is_one_line (third ++ codes "A)")) (ends_well (third ++ codes "A)")) (join third (codes "A)") third_is refl) (ends_with third 65 (41 ∷ []) refl)
+    let letters = letters_in_line g.kinds in
+    let n = decimal_in_line (length g.vertices) below in
+    let m = decimal_in_line (length g.records) few in
+    let before = codes "* GraphBase graph (util_types " ++ map letter_of g.kinds ++ codes "," ++ decimal (length g.vertices) ++ codes "V," ++ decimal (length g.records) in
+    and_from (is_one_line (head_line g)) (ends_well (head_line g)) (simp (list_all-append, letters, n, m)) (ends_with before 65 (41 ∷ []) refl)
 
 -- a checksum's line is a line
 pub checksum_is_line : (c : ℕ) → c < 2 ^ 64 → is_line (codes "* Checksum " ++ decimal c) ≡ true

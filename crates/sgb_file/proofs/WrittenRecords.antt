@@ -1,78 +1,28 @@
 -- The records of a file as they are written: each is a record of the graph's, with breaks in its texts.
-use Rattle.std.specs.Prelude.{◌≡◌, ℕ, suc, ℤ, pos, negsuc, ◌^◌, ◌<◌, ◌≤◌, Bool, true, false, cond, List, [], ◌∷◌, ◌++◌, length, decimal, Option, Some, None, All, FitsSigned, ⊤, nat_lt, refl}
+use Rattle.std.specs.Prelude.{◌≡◌, ℕ, Bool, true, false, cond, List, [], ◌∷◌, ◌++◌, length, decimal, Option, Some, All, ⊤, refl}
 use Rattle.std.specs.Fmt.{signed_decimal}
-use Rattle.std.specs.Int.{w64}
-use Rattle.std.specs.List.{list_all, flat_map}
+use Rattle.std.specs.List.{flat_map}
 use Rattle.std.proofs.Common.{ap, sym, subst, ◌∙◌, arith, inl, inr}
-use Rattle.std.proofs.lemmas.Bool.{and_parts, and_from}
-use Rattle.std.proofs.lemmas.Bool.Decides.{nat_tests}
+use Rattle.std.proofs.lemmas.Bool.{and_parts}
 use Rattle.std.proofs.lemmas.List.Elements.{All-head, All-tail}
 use Rattle.sgb_vec.specs.Limits.{most_bytes}
-use Rattle.sgb_graph.proofs.Lists.{list_all-weaker}
 use Rattle.sgb_graph.specs.Graphs.{GraphData}
 use Rattle.sgb_graph.specs.Ids.{most_id_bytes}
-use Rattle.sgb_graph.specs.Sound.{ref_fits, chain_fits, util_fits, utils_fit, graph_kinds}
+use Rattle.sgb_graph.specs.Sound.{util_fits, utils_fit, graph_kinds}
 use Rattle.sgb_graph.specs.declared.fields.Kind.{Kind}
 use Rattle.sgb_graph.specs.declared.fields.Kind.TheVariants.{Z, I, V, S, A}
-use Rattle.sgb_graph.specs.declared.fields.Ref.{Ref}
-use Rattle.sgb_graph.specs.declared.fields.Ref.TheVariants.{Null, One, At}
 use Rattle.sgb_graph.specs.declared.fields.Util.{Util}
 use Rattle.sgb_graph.specs.declared.fields.Util.TheVariants.{Nothing, Int, Vertex as VertexField, Str, Chain}
 use Rattle.sgb_file.specs.FileLines.{text_of_lines}
-use Rattle.sgb_file.specs.Fields.{Counts, is_decimal_digit, most_number_digits, number_of, integer_of, ref_of, record_number_of}
+use Rattle.sgb_file.specs.Fields.{Counts, most_number_digits, number_of, integer_of, ref_of, record_number_of}
 use Rattle.sgb_file.specs.Files.{IsFieldText, AreFieldTexts, IsComma, IsRecord, IsRecordOf, IsGraphRecord, AreRecords, head_of}
 use Rattle.sgb_file.specs.Saving.{quoted, ref_text, record_number_text, field_texts, graph_texts, pieces_of, record_lines}
 use Rattle.sgb_file.specs.Saved.{ValueCanBeSaved}
-use Rattle.sgb_file.proofs.LineLemmas.{is_line, is_one_line, is_within_line, ends_well}
+use Rattle.sgb_file.proofs.LineLemmas.{is_line}
 use Rattle.sgb_file.proofs.LaidOutText.{with_breaks, after_field, lay_out, laid_out_text}
-use Rattle.sgb_file.proofs.FieldReading.{IsBroken, test_below, decimal_digits, said_broken, number_is_said, integer_is_said, ref_is_said, record_number_is_said, string_is_said, quoted_is_line}
+use Rattle.sgb_file.proofs.FieldReading.{IsBroken, IsSaid, said_broken, number_is_said, integer_is_said, ref_is_said, record_number_is_said, string_is_said, quoted_is_line}
 use Rattle.sgb_file.proofs.RecordsAndTexts.{IsTail, record_from_tail, and_others}
 use Rattle.sgb_file.proofs.SavedGraphs.{AreSmall, FieldsFit, IsReady}
-
--- a byte above the space
-abbrev is_visible : ℕ → Bool
-is_visible b = nat_lt 32 b
-
-visible_within : (b : ℕ) → is_visible b ≡ true → is_within_line b ≡ true
-visible_within b h = grind (arith, nat_tests)
-
-visible_ends_well : (text : List ℕ) → list_all is_visible text ≡ true → ends_well text ≡ true
-unfolding ends_well
-visible_ends_well [] h = refl
-visible_ends_well (b ∷ []) h = let byte : is_visible b ≡ true = (and_parts (is_visible b) true h).0 in grind (arith, nat_tests)
-visible_ends_well (b ∷ c ∷ text) h = visible_ends_well (c ∷ text) (and_parts (is_visible b) (list_all is_visible (c ∷ text)) h).1
-
--- a text of such bytes is a line as it is written
-pub visible_is_line : (text : List ℕ) → list_all is_visible text ≡ true → is_line text ≡ true
-visible_is_line text h = and_from (is_one_line text) (ends_well text) (list_all-weaker is_visible is_within_line text visible_within h) (visible_ends_well text h)
-
-digit_visible : (b : ℕ) → is_decimal_digit b ≡ true → is_visible b ≡ true
-digit_visible b h = grind (arith, nat_tests)
-
-pub decimal_visible : (n : ℕ) → n < 2 ^ 64 → list_all is_visible (decimal n) ≡ true
-decimal_visible n h = list_all-weaker is_decimal_digit is_visible (decimal n) digit_visible (decimal_digits n h)
-
-pub decimal_is_line : (n : ℕ) → n < 2 ^ 64 → is_line (decimal n) ≡ true
-decimal_is_line n h = visible_is_line (decimal n) (decimal_visible n h)
-
--- a letter before a decimal
-lettered_is_line : (b n : ℕ) → is_visible b ≡ true → n < 2 ^ 64 → is_line (b ∷ decimal n) ≡ true
-lettered_is_line b n e h = visible_is_line (b ∷ decimal n) (and_from (is_visible b) (list_all is_visible (decimal n)) e (decimal_visible n h))
-
-integer_is_line : (i : ℤ) → FitsSigned w64 i → is_line (signed_decimal i) ≡ true
-integer_is_line (pos n) h = decimal_is_line n (omega (arith, h))
-integer_is_line (negsuc n) h = lettered_is_line 45 (suc n) refl (omega (arith, h))
-
-ref_is_line : (n : ℕ) (r : Ref) → n ≤ 10 ^ 18 → ref_fits n r ≡ true → is_line (ref_text r) ≡ true
-unfolding ends_well
-ref_is_line n Null most h = refl
-ref_is_line n One most h = refl
-ref_is_line n (At v) most h = let below = test_below v n h in lettered_is_line 86 v refl (omega (arith, below, most))
-
-number_is_line : (m : ℕ) (k : Option ℕ) → m ≤ 10 ^ 18 → chain_fits m k ≡ true → is_line (record_number_text k) ≡ true
-unfolding ends_well
-number_is_line m None most h = refl
-number_is_line m (Some k) most h = let below = test_below k m h in lettered_is_line 65 k refl (omega (arith, below, most))
 
 -- a field that has a text: with any breaks it says the value, and it is a line as it is written
 pub record IsField (counts : Counts) (kind : Kind) (u : Util) : Type 0 where
@@ -81,32 +31,23 @@ pub record IsField (counts : Counts) (kind : Kind) (u : Util) : Type 0 where
   pub says : (broken : List ℕ) → IsBroken text broken → IsFieldText counts kind u broken
   pub line : is_line text ≡ true
 
+plain_field : {X : Type 0} (counts : Counts) (kind : Kind) (u : Util) (says : List ℕ → Option X) (text : List ℕ) (x : X) → field_texts u ≡ text ∷ []
+    → ((broken : List ℕ) → says broken ≡ Some x → IsFieldText counts kind u broken) → IsSaid says text x → IsField counts kind u
+plain_field counts kind u says text x texts is s = record { text = text; texts = texts; says = λ broken b. is broken (said_broken says text x s broken b); line = s.line }
+
 pub field_of : (counts : Counts) → AreSmall counts → (kind : Kind) (u : Util) → (kind ≡ Z → ⊥) → util_fits counts.vertices counts.arcs kind u ≡ true → ValueCanBeSaved u → IsField counts kind u
 field_of counts small Z u used fits h = absurd (used refl)
-field_of counts small I (Int i) used fits h = record {
-  text = signed_decimal i;
-  texts = refl;
-  says = said_broken integer_of (signed_decimal i) i (integer_is_said i h);
-  line = integer_is_line i h;
-}
-field_of counts small V (VertexField r) used fits h = record {
-  text = ref_text r;
-  texts = refl;
-  says = said_broken (ref_of counts.vertices) (ref_text r) r (ref_is_said counts.vertices r small.vertices fits);
-  line = ref_is_line counts.vertices r small.vertices fits;
-}
+field_of counts small I (Int i) used fits h = plain_field counts I (Int i) integer_of (signed_decimal i) i refl (λ text said. said) (integer_is_said i h)
+field_of counts small V (VertexField r) used fits h =
+    plain_field counts V (VertexField r) (ref_of counts.vertices) (ref_text r) r refl (λ text said. said) (ref_is_said counts.vertices r small.vertices fits)
 field_of counts small S (Str s) used fits h = record {
   text = quoted s;
   texts = refl;
   says = string_is_said most_bytes s h.short h.printable;
   line = quoted_is_line s h.printable;
 }
-field_of counts small A (Chain first) used fits h = record {
-  text = record_number_text first;
-  texts = refl;
-  says = said_broken (record_number_of counts.arcs) (record_number_text first) first (record_number_is_said counts.arcs first small.arcs fits);
-  line = number_is_line counts.arcs first small.arcs fits;
-}
+field_of counts small A (Chain first) used fits h =
+    plain_field counts A (Chain first) (record_number_of counts.arcs) (record_number_text first) first refl (λ text said. said) (record_number_is_said counts.arcs first small.arcs fits)
 field_of counts small _ _ used fits h = absurd cc
 
 -- texts as they stand with their breaks
@@ -121,44 +62,28 @@ is_comma true = inr refl
 is_comma false = inl refl
 
 -- what is written after a field: the other fields' texts, with breaks
-record IsTailWritten (line : List ℕ) (texts : List (List ℕ)) : Type 0 where
-  broken : List (List ℕ)
-  are : AreBroken texts broken
-  stands : IsTail broken (after_field line texts)
-
-tail_written : (line : List ℕ) (texts : List (List ℕ)) → IsTailWritten line texts
-tail_written line [] = record { broken = []; are = tt; stands = refl }
+tail_written : (line : List ℕ) (texts : List (List ℕ)) → (broken : List (List ℕ)) × AreBroken texts broken × IsTail broken (after_field line texts)
+tail_written line [] = ([], tt, refl)
 tail_written line (text ∷ texts) =
     let laid = lay_out line text texts in
     let more = tail_written laid.next texts in
-    let comma = 44 ∷ cond laid.gap (10 ∷ []) [] in
-    record {
-      broken = with_breaks laid.breaks 78 text ∷ more.broken;
-      are = ((laid.breaks, laid.few, refl), more.are);
-      stands = (comma, after_field laid.next texts, is_comma laid.gap, more.stands, ap (λ x. 44 ∷ x) laid.whole);
-    }
+    let comma = 44 ∷ cond laid.gap (10 ∷ []) [] in (
+      with_breaks laid.breaks 78 text ∷ more.0,
+      ((laid.breaks, laid.few, refl), more.1),
+      (comma, after_field laid.next texts, is_comma laid.gap, more.2, ap (λ x. 44 ∷ x) laid.whole),
+    )
 
 -- the lines of a record with these texts
-record IsWritten (text : List ℕ) (texts : List (List ℕ)) : Type 0 where
-  first : List ℕ
-  others : List (List ℕ)
-  first_is : IsBroken text first
-  others_are : AreBroken texts others
-  stands : IsRecord (first ∷ others) (text_of_lines (record_lines (text ∷ texts)))
-
-record_written : (text : List ℕ) (texts : List (List ℕ)) → IsWritten text texts
+record_written : (text : List ℕ) (texts : List (List ℕ)) → (broken : List (List ℕ)) × AreBroken (text ∷ texts) broken × IsRecord broken (text_of_lines (record_lines (text ∷ texts)))
 record_written text texts =
     let laid = lay_out [] text texts in
     let body = with_breaks laid.breaks 78 text in
     let more = tail_written laid.next texts in
-    let whole = laid_out_text [] (pieces_of (text ∷ texts)) ∙ laid.whole ∙ ap (λ gap. cond gap (10 ∷ []) [] ++ (body ++ after_field laid.next texts)) (laid.starts refl) in
-    record {
-      first = body;
-      others = more.broken;
-      first_is = (laid.breaks, laid.few, refl);
-      others_are = more.are;
-      stands = subst (IsRecord (body ∷ more.broken)) (sym whole) (record_from_tail body more.broken (after_field laid.next texts) more.stands);
-    }
+    let whole = laid_out_text [] (pieces_of (text ∷ texts)) ∙ laid.whole ∙ ap (λ gap. cond gap (10 ∷ []) [] ++ (body ++ after_field laid.next texts)) (laid.starts refl) in (
+      body ∷ more.0,
+      ((laid.breaks, laid.few, refl), more.1),
+      subst (IsRecord (body ∷ more.0)) (sym whole) (record_from_tail body more.0 (after_field laid.next texts) more.2),
+    )
 
 -- the texts of fields with breaks are texts of the fields
 next_written : (counts : Counts) (kind : Kind) (kinds : List Kind) (u : Util) (us : List Util) → IsField counts kind u
@@ -188,29 +113,28 @@ pub fields_stand : (counts : Counts) → AreSmall counts → (kinds : List Kind)
     → FieldsFit counts kinds us → IsRecordOf counts kinds us (text_of_lines (record_lines (text ∷ texts)))
 fields_stand counts small kinds us text texts e h =
     let w = record_written text texts in
-    let broken = w.first ∷ w.others in
-    (broken, fields_written counts small kinds us h.fits h.values broken (subst (λ ts. AreBroken ts broken) (sym e) (w.first_is, w.others_are)), w.stands)
+    (w.0, fields_written counts small kinds us h.fits h.values w.0 (subst (λ ts. AreBroken ts w.0) (sym e) w.1), w.2)
 
 pub graph_written : (g : GraphData) → IsReady g → IsGraphRecord (head_of g) g (text_of_lines (record_lines (graph_texts g)))
 graph_written g h =
     let w = record_written (quoted g.id) (decimal (length g.vertices) ∷ decimal g.m ∷ flat_map field_texts g.util) in
-    by_texts w.first w.others w.first_is w.others_are w.stands
+    by_texts w.0 w.1 w.2
   where
-    by_texts : (first : List ℕ) (others : List (List ℕ)) → IsBroken (quoted g.id) first → AreBroken (decimal (length g.vertices) ∷ decimal g.m ∷ flat_map field_texts g.util) others
-        → IsRecord (first ∷ others) (text_of_lines (record_lines (graph_texts g))) → IsGraphRecord (head_of g) g (text_of_lines (record_lines (graph_texts g)))
-    by_texts first [] is are stands = absurd are
-    by_texts first (n ∷ []) is are stands = absurd are.1
-    by_texts first (n ∷ m ∷ texts) is are stands = record {
+    by_texts : (broken : List (List ℕ)) → AreBroken (graph_texts g) broken → IsRecord broken (text_of_lines (record_lines (graph_texts g))) → IsGraphRecord (head_of g) g (text_of_lines (record_lines (graph_texts g)))
+    by_texts (first ∷ n ∷ m ∷ texts) are stands = record {
       id = first;
       n = n;
       m = m;
       fields = texts;
-      id_says = string_is_said most_id_bytes g.id h.id.short h.id.printable first is;
-      n_says = said_broken (number_of most_number_digits) (decimal (length g.vertices)) (length g.vertices) (number_is_said (length g.vertices) (omega (arith, h.vertices_few))) n are.0;
-      m_says = said_broken (number_of most_number_digits) (decimal g.m) g.m (number_is_said g.m h.arcs_few) m are.1.0;
-      fields_say = fields_written (head_of g).counts h.small (graph_kinds g.kinds) g.util h.own.fits h.own.values texts are.1.1;
+      id_says = string_is_said most_id_bytes g.id h.id.short h.id.printable first are.0;
+      n_says = said_broken (number_of most_number_digits) (decimal (length g.vertices)) (length g.vertices) (number_is_said (length g.vertices) (omega (arith, h.vertices_few))) n are.1.0;
+      m_says = said_broken (number_of most_number_digits) (decimal g.m) g.m (number_is_said g.m h.arcs_few) m are.1.1.0;
+      fields_say = fields_written (head_of g).counts h.small (graph_kinds g.kinds) g.util h.own.fits h.own.values texts are.1.1.1;
       is_record = stands;
     }
+    by_texts (first ∷ n ∷ []) are stands = absurd are.1.1
+    by_texts (first ∷ []) are stands = absurd are.1
+    by_texts [] are stands = absurd are
 
 -- records one after another
 pub all_written : {X : Type 0} (text_of : X → List ℕ) (IsOne : X → List ℕ → Type 0) (IsGood : X → Type 0) → ((x : X) → IsGood x → IsOne x (text_of x))

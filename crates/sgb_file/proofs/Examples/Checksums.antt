@@ -6,26 +6,17 @@ use Rattle.sgb_file.specs.Checksum.{value_of_byte, weighted_sum, checksum, runni
 pub places : map value_of_byte (codes "\"a\",0,0\n") ≡ 93 ∷ 36 ∷ 93 ∷ 67 ∷ 0 ∷ 67 ∷ 0 ∷ 95 ∷ []
 places = refl
 
--- where the groups of the order begin and end
-pub groups : map value_of_byte (codes "09AZaz_@,$+>(}`\" ") ≡ 0 ∷ 9 ∷ 10 ∷ 35 ∷ 36 ∷ 61 ∷ 62 ∷ 66 ∷ 67 ∷ 75 ∷ 76 ∷ 84 ∷ 85 ∷ 90 ∷ 91 ∷ 93 ∷ 94 ∷ []
+-- where the groups of the order begin and end, the bar and the backslash
+pub groups : map value_of_byte (codes "09AZaz_@,$+>(}`\" |\\") ≡ 0 ∷ 9 ∷ 10 ∷ 35 ∷ 36 ∷ 61 ∷ 62 ∷ 66 ∷ 67 ∷ 75 ∷ 76 ∷ 84 ∷ 85 ∷ 90 ∷ 91 ∷ 93 ∷ 94 ∷ 80 ∷ 81 ∷ []
 groups = refl
 
--- the bar and the backslash
-pub bar_and_backslash : map value_of_byte (codes "|\\") ≡ 80 ∷ 81 ∷ []
-bar_and_backslash = refl
-
--- the checksum of that record, as a sum and byte by byte
-pub of_record : checksum (codes "\"a\",0,0\n") ≡ 18619
+-- the checksum of that record and of nothing, as a sum and byte by byte
+pub of_record : map checksum (codes "\"a\",0,0\n" ∷ [] ∷ []) ≡ 18619 ∷ 0 ∷ []
 unfolding weighted_sum
 of_record = refl
 
 pub of_record_running : running_checksum (codes "\"a\",0,0\n") ≡ 18619
 of_record_running = refl
-
--- the checksum of nothing
-pub of_nothing : checksum [] ≡ 0
-unfolding weighted_sum
-of_nothing = refl
 
 -- lines that begin with `*` do not count, even where they belong to a broken string
 pub of_lines : checksum_of_lines (codes "* Vertices" ∷ codes "\"a\",0,0" ∷ codes "*b\"" ∷ []) ≡ 18619

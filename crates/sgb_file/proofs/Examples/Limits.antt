@@ -1,5 +1,5 @@
 -- Texts at the limits of a file: what fits, and what no longer fits, with its code.
-use Rattle.std.specs.Prelude.{◌≡◌, ℕ, List, [], ◌∷◌, ◌++◌, codes, replicate, None, Ok, Err, refl}
+use Rattle.std.specs.Prelude.{◌≡◌, ℕ, List, [], ◌∷◌, ◌++◌, codes, map, replicate, None, Ok, Err, refl}
 use Rattle.sgb_vec.specs.declared.panics.Panic.TheVariants.{Early, Syntax}
 use Rattle.sgb_graph.specs.Graphs.{ends_from, numbers_from}
 use Rattle.sgb_file.specs.FileLines.{lines_among, without_end_spaces, text_of_lines}
@@ -19,67 +19,35 @@ with_record own = text_of_lines (
     ∷ codes "* Arcs"
     ∷ codes "* Checksum -1" ∷ [])
 
--- an id of 160 bytes, and of 161
-pub longest_id : graph_of_text (with_record (quoted (replicate 160 97) ++ codes ",0,0")) ≡ Ok (record nothing { id = replicate 160 97 })
+-- an id of 160 bytes; a number of arcs of 18 digits, and one of vertices; the first and the last byte of a string
+pub within_limits : map (λ own. graph_of_text (with_record own)) (
+    (quoted (replicate 160 97) ++ codes ",0,0")
+    ∷ codes "\"a\",0,999999999999999999"
+    ∷ codes "\"a\",000000000000000000,0"
+    ∷ (quoted (32 ∷ 126 ∷ []) ++ codes ",0,0") ∷ []) ≡
+    Ok (record nothing { id = replicate 160 97 })
+    ∷ Ok (record nothing { m = 999999999999999999 })
+    ∷ Ok nothing
+    ∷ Ok (record nothing { id = 32 ∷ 126 ∷ [] }) ∷ []
 unfolding lines_among without_end_spaces weighted_sum unbroken more_fields_at all_at opening_of ends_from numbers_from
-longest_id = refl
+within_limits = refl
 
-pub too_long_id : graph_of_text (with_record (quoted (replicate 161 97) ++ codes ",0,0")) ≡ Err Syntax
+-- an id of 161 bytes; a number of arcs of 19 digits, and one of vertices; a number of vertices that is not the first line's;
+-- more in a record than its fields, or less; the line ends after a comma, once and not before it; the bytes next to the last
+-- and the first of a string
+pub past_limits : map (λ own. graph_of_text (with_record own)) (
+    (quoted (replicate 161 97) ++ codes ",0,0")
+    ∷ codes "\"a\",0,0000000000000000000"
+    ∷ codes "\"a\",0000000000000000000,0"
+    ∷ codes "\"a\",1,0"
+    ∷ codes "\"a\",0,0,0"
+    ∷ codes "\"a\",0"
+    ∷ codes "\"a\",\n\n0,0"
+    ∷ codes "\"a\"\n,0,0"
+    ∷ (quoted (127 ∷ []) ++ codes ",0,0")
+    ∷ (quoted (31 ∷ []) ++ codes ",0,0") ∷ []) ≡ replicate 10 (Err Syntax)
 unfolding lines_among without_end_spaces weighted_sum unbroken more_fields_at all_at opening_of ends_from numbers_from
-too_long_id = refl
-
--- a number of arcs of 18 digits, and of 19
-pub longest_number : graph_of_text (with_record (codes "\"a\",0,999999999999999999")) ≡ Ok (record nothing { m = 999999999999999999 })
-unfolding lines_among without_end_spaces weighted_sum unbroken more_fields_at all_at opening_of ends_from numbers_from
-longest_number = refl
-
-pub too_long_number : graph_of_text (with_record (codes "\"a\",0,0000000000000000000")) ≡ Err Syntax
-unfolding lines_among without_end_spaces weighted_sum unbroken more_fields_at all_at opening_of ends_from numbers_from
-too_long_number = refl
-
--- the same of the vertices; and a number of vertices that is not the first line's
-pub long_count : graph_of_text (with_record (codes "\"a\",000000000000000000,0")) ≡ Ok nothing
-unfolding lines_among without_end_spaces weighted_sum unbroken more_fields_at all_at opening_of ends_from numbers_from
-long_count = refl
-
-pub too_long_count : graph_of_text (with_record (codes "\"a\",0000000000000000000,0")) ≡ Err Syntax
-unfolding lines_among without_end_spaces weighted_sum unbroken more_fields_at all_at opening_of ends_from numbers_from
-too_long_count = refl
-
-pub other_count : graph_of_text (with_record (codes "\"a\",1,0")) ≡ Err Syntax
-unfolding lines_among without_end_spaces weighted_sum unbroken more_fields_at all_at opening_of ends_from numbers_from
-other_count = refl
-
--- more in a record than its fields, or less
-pub field_too_many : graph_of_text (with_record (codes "\"a\",0,0,0")) ≡ Err Syntax
-unfolding lines_among without_end_spaces weighted_sum unbroken more_fields_at all_at opening_of ends_from numbers_from
-field_too_many = refl
-
-pub field_too_few : graph_of_text (with_record (codes "\"a\",0")) ≡ Err Syntax
-unfolding lines_among without_end_spaces weighted_sum unbroken more_fields_at all_at opening_of ends_from numbers_from
-field_too_few = refl
-
--- the line ends after a comma, once and not before it
-pub line_ends_twice : graph_of_text (with_record (codes "\"a\",\n\n0,0")) ≡ Err Syntax
-unfolding lines_among without_end_spaces weighted_sum unbroken more_fields_at all_at opening_of ends_from numbers_from
-line_ends_twice = refl
-
-pub line_ends_early : graph_of_text (with_record (codes "\"a\"\n,0,0")) ≡ Err Syntax
-unfolding lines_among without_end_spaces weighted_sum unbroken more_fields_at all_at opening_of ends_from numbers_from
-line_ends_early = refl
-
--- the first and the last byte of a string, and the bytes next to them
-pub outermost_bytes : graph_of_text (with_record (quoted (32 ∷ 126 ∷ []) ++ codes ",0,0")) ≡ Ok (record nothing { id = 32 ∷ 126 ∷ [] })
-unfolding lines_among without_end_spaces weighted_sum unbroken more_fields_at all_at opening_of ends_from numbers_from
-outermost_bytes = refl
-
-pub byte_above : graph_of_text (with_record (quoted (127 ∷ []) ++ codes ",0,0")) ≡ Err Syntax
-unfolding lines_among without_end_spaces weighted_sum unbroken more_fields_at all_at opening_of ends_from numbers_from
-byte_above = refl
-
-pub byte_below : graph_of_text (with_record (quoted (31 ∷ []) ++ codes ",0,0")) ≡ Err Syntax
-unfolding lines_among without_end_spaces weighted_sum unbroken more_fields_at all_at opening_of ends_from numbers_from
-byte_below = refl
+past_limits = refl
 
 -- a file of one vertex with this name, no arcs, and an unchecked end
 abbrev with_name : List ℕ → List ℕ
@@ -92,13 +60,9 @@ with_name name = text_of_lines (
     ∷ codes "* Checksum -1" ∷ [])
 
 -- a name of 4,095 bytes, and of 4,096
-pub longest_name : graph_of_text (with_name (replicate 4095 97)) ≡ Ok (record nothing { vertices = plain_vertex (replicate 4095 97) None ∷ [] })
+pub long_names : map (λ n. graph_of_text (with_name (replicate n 97))) (4095 ∷ 4096 ∷ []) ≡ Ok (record nothing { vertices = plain_vertex (replicate 4095 97) None ∷ [] }) ∷ Err Syntax ∷ []
 unfolding lines_among without_end_spaces weighted_sum unbroken more_fields_at all_at opening_of ends_from numbers_from
-longest_name = refl
-
-pub too_long_name : graph_of_text (with_name (replicate 4096 97)) ≡ Err Syntax
-unfolding lines_among without_end_spaces weighted_sum unbroken more_fields_at all_at opening_of ends_from numbers_from
-too_long_name = refl
+long_names = refl
 
 -- a line before the first one that does not begin with `*`
 pub not_a_comment : graph_of_text (codes "made by hand\n" ++ with_record (codes "\"a\",0,0")) ≡ Err Early

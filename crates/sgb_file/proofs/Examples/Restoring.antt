@@ -1,5 +1,5 @@
 -- Texts that are files of a graph.
-use Rattle.std.specs.Prelude.{◌≡◌, ◌^◌, pos, neg_ℤ, [], ◌∷◌, ◌++◌, codes, take, Some, None, Ok, refl}
+use Rattle.std.specs.Prelude.{◌≡◌, ◌^◌, pos, neg_ℤ, [], ◌∷◌, ◌++◌, codes, map, replicate, take, Some, None, Ok, refl}
 use Rattle.sgb_graph.specs.Graphs.{ends_from, numbers_from}
 use Rattle.sgb_graph.specs.Made.{no_fields, no_kinds}
 use Rattle.sgb_graph.specs.declared.fields.Ref.TheVariants.{Null, One, At}
@@ -13,62 +13,35 @@ use Rattle.sgb_file.specs.Restoring.{opening_of, graph_of_text}
 use Rattle.sgb_file.proofs.Examples.GraphFiles.{plain_vertex, plain_arc, one_cell, one_cell_lines, two_joined, two_joined_lines, nothing, nothing_lines, ring, ring_text}
 
 -- lines end at newlines; what is after the last one is a line where it is not empty
-pub some_lines : lines_of_text (codes "a\n\nb") ≡ codes "a" ∷ [] ∷ codes "b" ∷ []
+pub some_lines : map lines_of_text (codes "a\n\nb" ∷ [] ∷ codes "\n" ∷ []) ≡ (codes "a" ∷ [] ∷ codes "b" ∷ []) ∷ [] ∷ ([] ∷ []) ∷ []
 unfolding lines_among
 some_lines = refl
-
-pub empty_text_has_no_line : lines_of_text [] ≡ []
-unfolding lines_among
-empty_text_has_no_line = refl
-
-pub one_empty_line : lines_of_text (codes "\n") ≡ [] ∷ []
-unfolding lines_among
-one_empty_line = refl
 
 -- spaces at the ends of lines are taken off, and no others
 pub some_clean_lines : clean_lines (codes " a b  \n  \nc ") ≡ codes " a b" ∷ [] ∷ codes "c" ∷ []
 unfolding lines_among without_end_spaces
 some_clean_lines = refl
 
--- the two written files are read as their graphs
-pub of_one_cell : graph_of_text (text_of_lines one_cell_lines) ≡ Ok one_cell
+-- the two written files are read as their graphs; the last newline may be left out
+pub of_written : map graph_of_text (text_of_lines one_cell_lines ∷ text_of_lines two_joined_lines ∷ take 159 (text_of_lines two_joined_lines) ∷ []) ≡ Ok one_cell ∷ Ok two_joined ∷ Ok two_joined ∷ []
 unfolding lines_among without_end_spaces weighted_sum unbroken more_fields_at all_at opening_of ends_from numbers_from
-of_one_cell = refl
+of_written = refl
 
-pub of_two_joined : graph_of_text (text_of_lines two_joined_lines) ≡ Ok two_joined
-unfolding lines_among without_end_spaces weighted_sum unbroken more_fields_at all_at opening_of ends_from numbers_from
-of_two_joined = refl
-
--- the last newline may be left out
-pub without_newline : graph_of_text (take 159 (text_of_lines two_joined_lines)) ≡ Ok two_joined
-unfolding lines_among without_end_spaces weighted_sum unbroken more_fields_at all_at opening_of ends_from numbers_from
-without_newline = refl
-
--- the graph of no vertices
-pub of_nothing : graph_of_text (text_of_lines (nothing_lines ++ codes "* Checksum 18619" ∷ [])) ≡ Ok nothing
+-- the graph of no vertices; with a first line that begins with `*`, and without the last newline; anything may follow the
+-- number, and other lines the last one
+pub of_nothing : map graph_of_text (
+    text_of_lines (nothing_lines ++ codes "* Checksum 18619" ∷ [])
+    ∷ (text_of_lines (codes "* made by hand" ∷ nothing_lines) ++ codes "* Checksum 18619")
+    ∷ text_of_lines (nothing_lines ++ codes "* Checksum 18619x" ∷ codes "\"" ∷ []) ∷ []) ≡ replicate 3 (Ok nothing)
 unfolding lines_among without_end_spaces weighted_sum unbroken more_fields_at all_at opening_of ends_from numbers_from
 of_nothing = refl
 
--- with a first line that begins with `*`, and without the last newline
-pub with_comment : graph_of_text (text_of_lines (codes "* made by hand" ∷ nothing_lines) ++ codes "* Checksum 18619") ≡ Ok nothing
+-- a graph whose one arc is a loop, and the least length
+pub of_loops : map (λ arc. graph_of_text (ring_text arc)) (codes "V0,0,1" ∷ codes "V0,0,-9223372036854775808" ∷ []) ≡
+    Ok (ring (plain_arc 0 None))
+    ∷ Ok (ring (record { tip = At 0; next = None; len = neg_ℤ (pos (2 ^ 63)); a = Nothing; b = Nothing })) ∷ []
 unfolding lines_among without_end_spaces weighted_sum unbroken more_fields_at all_at opening_of ends_from numbers_from
-with_comment = refl
-
--- anything may follow the number, and other lines the last one
-pub with_more : graph_of_text (text_of_lines (nothing_lines ++ codes "* Checksum 18619x" ∷ codes "\"" ∷ [])) ≡ Ok nothing
-unfolding lines_among without_end_spaces weighted_sum unbroken more_fields_at all_at opening_of ends_from numbers_from
-with_more = refl
-
--- a graph whose one arc is a loop
-pub of_loop : graph_of_text (ring_text (codes "V0,0,1")) ≡ Ok (ring (plain_arc 0 None))
-unfolding lines_among without_end_spaces weighted_sum unbroken more_fields_at all_at opening_of ends_from numbers_from
-of_loop = refl
-
--- the least length
-pub of_least_length : graph_of_text (ring_text (codes "V0,0,-9223372036854775808")) ≡
-    Ok (ring (record { tip = At 0; next = None; len = neg_ℤ (pos (2 ^ 63)); a = Nothing; b = Nothing }))
-unfolding lines_among without_end_spaces weighted_sum unbroken more_fields_at all_at opening_of ends_from numbers_from
-of_least_length = refl
+of_loops = refl
 
 -- two vertices that share a record, and a number of arcs that is not that of the records
 pub of_shared : graph_of_text (text_of_lines (

@@ -1,5 +1,5 @@
 -- Graphs that can be saved, at each limit, and what becomes of a file past it.
-use Rattle.std.specs.Prelude.{◌≡◌, ℕ, pos, negsuc, List, [], ◌∷◌, ◌++◌, codes, replicate, Some, None, Err, All, refl}
+use Rattle.std.specs.Prelude.{◌≡◌, ℕ, pos, negsuc, List, [], ◌∷◌, ◌++◌, codes, map, replicate, Some, None, Err, All, refl}
 use Rattle.std.specs.Fmt.{digits}
 use Rattle.std.proofs.Common.{arith}
 use Rattle.std.proofs.lemmas.List.Elements.{All-nil, All-cons}
@@ -95,31 +95,14 @@ small text arcs own value = record {
 abbrev one_integer : List Kind
 one_integer = I ∷ replicate 5 Z
 
--- one arc too many
-pub arcs_past_limit : graph_of_text (text_of_graph (small (codes "a") 1000000000000000000 one_integer (Int (pos 1)))) ≡ Err Syntax
+-- one arc too many; fifteen kinds; an id of 161 bytes, and one with a quote in it; an integer of more than 64 bits; a string of
+-- 4,096 bytes
+pub past_limits : map (λ g. graph_of_text (text_of_graph g)) (
+    small (codes "a") 1000000000000000000 one_integer (Int (pos 1))
+    ∷ small (codes "a") 0 (one_integer ++ Z ∷ []) (Int (pos 1))
+    ∷ small (replicate 161 97) 0 one_integer (Int (pos 1))
+    ∷ small (codes "a\"b") 0 one_integer (Int (pos 1))
+    ∷ small (codes "a") 0 one_integer (Int (pos 9223372036854775808))
+    ∷ small (codes "a") 0 (S ∷ replicate 5 Z) (Str (replicate 4096 97)) ∷ []) ≡ Err Syntax ∷ Err Early ∷ replicate 4 (Err Syntax)
 unfolding digits weighted_sum pieces_of laid_out lines_among without_end_spaces unbroken more_fields_at all_at opening_of ends_from numbers_from
-arcs_past_limit = refl
-
--- fifteen kinds
-pub kinds_past_limit : graph_of_text (text_of_graph (small (codes "a") 0 (one_integer ++ Z ∷ []) (Int (pos 1)))) ≡ Err Early
-unfolding digits weighted_sum pieces_of laid_out lines_among without_end_spaces unbroken more_fields_at all_at opening_of ends_from numbers_from
-kinds_past_limit = refl
-
--- an id of 161 bytes, and one with a quote in it
-pub id_past_limit : graph_of_text (text_of_graph (small (replicate 161 97) 0 one_integer (Int (pos 1)))) ≡ Err Syntax
-unfolding digits weighted_sum pieces_of laid_out lines_among without_end_spaces unbroken more_fields_at all_at opening_of ends_from numbers_from
-id_past_limit = refl
-
-pub id_with_quote : graph_of_text (text_of_graph (small (codes "a\"b") 0 one_integer (Int (pos 1)))) ≡ Err Syntax
-unfolding digits weighted_sum pieces_of laid_out lines_among without_end_spaces unbroken more_fields_at all_at opening_of ends_from numbers_from
-id_with_quote = refl
-
--- an integer of more than 64 bits
-pub integer_past_limit : graph_of_text (text_of_graph (small (codes "a") 0 one_integer (Int (pos 9223372036854775808)))) ≡ Err Syntax
-unfolding digits weighted_sum pieces_of laid_out lines_among without_end_spaces unbroken more_fields_at all_at opening_of ends_from numbers_from
-integer_past_limit = refl
-
--- a string of 4,096 bytes
-pub string_past_limit : graph_of_text (text_of_graph (small (codes "a") 0 (S ∷ replicate 5 Z) (Str (replicate 4096 97)))) ≡ Err Syntax
-unfolding digits weighted_sum pieces_of laid_out lines_among without_end_spaces unbroken more_fields_at all_at opening_of ends_from numbers_from
-string_past_limit = refl
+past_limits = refl

@@ -1,5 +1,5 @@
 -- Texts that are written.
-use Rattle.std.specs.Prelude.{◌≡◌, List, ℕ, [], ◌∷◌, ◌++◌, codes, length, replicate, refl, pos, negsuc, Some, None}
+use Rattle.std.specs.Prelude.{◌≡◌, List, ℕ, [], ◌∷◌, ◌++◌, codes, length, map, replicate, refl, pos, negsuc, Some, None}
 use Rattle.sgb_graph.specs.Graphs.{GraphData}
 use Rattle.sgb_graph.specs.declared.fields.Kind.TheVariants.{Z, I, V, S, A}
 use Rattle.sgb_graph.specs.declared.fields.Ref.TheVariants.{Null, One, At}
@@ -11,25 +11,15 @@ use Rattle.sgb_file.specs.Checksum.{weighted_sum}
 use Rattle.sgb_file.specs.Saving.{quoted, pieces_of, laid_out, record_lines, text_of_graph}
 use Rattle.sgb_file.proofs.Examples.GraphFiles.{one_cell, one_cell_lines, two_joined, two_joined_lines, nothing, nothing_lines}
 
--- the file of board(1,0,0,0,1,0,0)
-pub of_one_cell : text_of_graph one_cell ≡ text_of_lines one_cell_lines
+-- the files of board(1,0,0,0,1,0,0), of complete(2), and of no vertices and the id a
+pub of_some : map text_of_graph (one_cell ∷ two_joined ∷ nothing ∷ []) ≡ map text_of_lines (one_cell_lines ∷ two_joined_lines ∷ (nothing_lines ++ codes "* Checksum 18619" ∷ []) ∷ [])
 unfolding digits weighted_sum pieces_of laid_out
-of_one_cell = refl
+of_some = refl
 
--- the file of complete(2)
-pub of_two_joined : text_of_graph two_joined ≡ text_of_lines two_joined_lines
-unfolding digits weighted_sum pieces_of laid_out
-of_two_joined = refl
-
--- it has 160 bytes
+-- that of complete(2) has 160 bytes
 pub length_of_two_joined : length (text_of_graph two_joined) ≡ 160
 unfolding digits weighted_sum pieces_of laid_out
 length_of_two_joined = refl
-
--- the file of no vertices and the id a
-pub of_nothing : text_of_graph nothing ≡ text_of_lines (nothing_lines ++ codes "* Checksum 18619" ∷ [])
-unfolding digits weighted_sum pieces_of laid_out
-of_nothing = refl
 
 -- the id of the eighth complement of petersen(), of 160 bytes
 abbrev pub eighth_complement : List ℕ
@@ -48,34 +38,21 @@ pub of_eighth : record_lines (quoted eighth_complement ∷ codes "10" ∷ codes 
 unfolding pieces_of laid_out
 of_eighth = refl
 
--- a piece that fills the line to 79 bytes stays on it; one byte more begins a line
-pub fills_line : laid_out (replicate 70 48) (replicate 9 49 ∷ []) ≡ (replicate 70 48 ++ replicate 9 49) ∷ []
+-- a piece that fills the line to 79 bytes stays on it; one byte more begins a line. A piece of 79 bytes is not broken; of one
+-- of 80, two bytes are left. A piece that is broken ends the line before it, and is broken until at most 79 bytes are left
+pub some_laid_out : map (λ n. laid_out (replicate 70 48) (replicate n 49 ∷ [])) (9 ∷ 10 ∷ []) ≡
+    ((replicate 70 48 ++ replicate 9 49) ∷ [])
+    ∷ (replicate 70 48 ∷ replicate 10 49 ∷ []) ∷ []
 unfolding laid_out
-fills_line = refl
+some_laid_out = refl
 
-pub passes_line : laid_out (replicate 70 48) (replicate 10 49 ∷ []) ≡ replicate 70 48 ∷ replicate 10 49 ∷ []
+pub some_broken : map (λ n. laid_out [] (replicate n 48 ∷ [])) (79 ∷ 80 ∷ []) ++ map (λ n. laid_out (codes "x,") (replicate n 48 ∷ [])) (157 ∷ 158 ∷ []) ≡
+    (replicate 79 48 ∷ [])
+    ∷ ((replicate 78 48 ++ codes "\\") ∷ replicate 2 48 ∷ [])
+    ∷ (codes "x," ∷ (replicate 78 48 ++ codes "\\") ∷ replicate 79 48 ∷ [])
+    ∷ (codes "x," ∷ (replicate 78 48 ++ codes "\\") ∷ (replicate 78 48 ++ codes "\\") ∷ replicate 2 48 ∷ []) ∷ []
 unfolding laid_out
-passes_line = refl
-
--- a piece of 79 bytes is not broken; of one of 80, two bytes are left
-pub whole_piece : laid_out [] (replicate 79 48 ∷ []) ≡ replicate 79 48 ∷ []
-unfolding laid_out
-whole_piece = refl
-
-pub broken_piece : laid_out [] (replicate 80 48 ∷ []) ≡ (replicate 78 48 ++ codes "\\") ∷ replicate 2 48 ∷ []
-unfolding laid_out
-broken_piece = refl
-
--- a piece that is broken ends the line before it, and is broken until at most 79 bytes are left
-pub broken_after_a_line : laid_out (codes "x,") (replicate 157 48 ∷ []) ≡
-    codes "x," ∷ (replicate 78 48 ++ codes "\\") ∷ replicate 79 48 ∷ []
-unfolding laid_out
-broken_after_a_line = refl
-
-pub broken_twice : laid_out (codes "x,") (replicate 158 48 ∷ []) ≡
-    codes "x," ∷ (replicate 78 48 ++ codes "\\") ∷ (replicate 78 48 ++ codes "\\") ∷ replicate 2 48 ∷ []
-unfolding laid_out
-broken_twice = refl
+some_broken = refl
 
 -- a graph that has fields of all kinds, each of its values, records on no list, and more arcs than records
 abbrev pub all_kinds : GraphData

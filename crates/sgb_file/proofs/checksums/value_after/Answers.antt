@@ -10,8 +10,7 @@ loop-byte-init c = refl
 
 pub loop-byte-preserved : goal.loop-byte-preserved
 loop-byte-preserved c =
-    byte_valued c.args.value c.loop-byte.after c.value_after_byte-after.result _ c.args.bytes.now c.loop-byte.byte-index c.loop-byte-test.true
-    refl c.loop-byte.invariant c.value_after_byte-after.ensures
+    byte_valued _ _ _ _ c.args.bytes.now c.loop-byte.byte-index c.loop-byte-test.true refl c.loop-byte.invariant c.value_after_byte-after.ensures
 
 pub returns : goal.returns
 returns c =

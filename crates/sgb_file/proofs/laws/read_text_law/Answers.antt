@@ -1,4 +1,4 @@
-use Rattle.sgb_file.proofs.FilesAndTexts.{file_from_read, read_from_file}
+use Rattle.sgb_file.proofs.RefusedTexts.{file_from_read, read_from_file}
 use Rattle.sgb_file.proofs.laws.read_text_law.Goals as goal
 
 pub returns : goal.returns

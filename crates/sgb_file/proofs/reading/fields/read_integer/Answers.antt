@@ -1,4 +1,4 @@
-use Rattle.std.proofs.Common.{ℤ, w64, sym, rules}
+use Rattle.std.proofs.Common.{w64, sym, rules}
 use Rattle.std.proofs.lemmas.Int.{to_z-of_z}
 use Rattle.sgb_file.specs.Fields.{integer_of}
 use Rattle.sgb_file.proofs.PlainFields.{field_found, field_missing}
@@ -7,10 +7,9 @@ use Rattle.sgb_file.proofs.reading.fields.read_integer.Goals as goal
 pub returns-in_default-integer_before_comma-clause-found :
     goal.returns-in_default-integer_before_comma-clause-found
 returns-in_default-integer_before_comma-clause-found c =
-    field_missing ℤ integer_of c.args.lines.now c.in-Some.line.now c.in-Some.ensures.left c.in-Some.ensures.one (sym c.in_default-integer_before_comma.ensures.value)
+    field_missing _ integer_of c.args.lines.now _ c.in-Some.ensures.left c.in-Some.ensures.one (sym c.in_default-integer_before_comma.ensures.value)
 
 pub returns-clause-found : goal.returns-clause-found
 returns-clause-found c =
     rw (to_z-of_z w64 c.in-Some-integer_before_comma.number (search rules), c.skip.ensures)
-    (field_found ℤ integer_of c.args.lines.now c.in-Some.line.now c.in-Some-integer_before_comma.number c.in-Some-integer_before_comma.len c.in-Some.ensures.left c.in-Some.ensures.one
-    (sym c.in-Some-integer_before_comma.ensures.value) c.in-Some-integer_before_comma.ensures.len)
+    (field_found _ integer_of c.args.lines.now _ _ _ c.in-Some.ensures.left c.in-Some.ensures.one (sym c.in-Some-integer_before_comma.ensures.value) c.in-Some-integer_before_comma.ensures.len)

@@ -1,4 +1,4 @@
-use Rattle.std.proofs.Common.{ℕ, sym}
+use Rattle.std.proofs.Common.{sym}
 use Rattle.sgb_file.specs.Fields.{most_number_digits, number_of}
 use Rattle.sgb_file.proofs.PlainFields.{field_found, field_missing}
 use Rattle.sgb_file.proofs.reading.fields.read_number.Goals as goal
@@ -6,10 +6,9 @@ use Rattle.sgb_file.proofs.reading.fields.read_number.Goals as goal
 pub returns-in_default-number_before_comma-clause-found :
     goal.returns-in_default-number_before_comma-clause-found
 returns-in_default-number_before_comma-clause-found c =
-    field_missing ℕ (number_of most_number_digits) c.args.lines.now c.in-Some.line.now c.in-Some.ensures.left c.in-Some.ensures.one (sym c.in_default-number_before_comma.ensures.value)
+    field_missing _ (number_of most_number_digits) c.args.lines.now _ c.in-Some.ensures.left c.in-Some.ensures.one (sym c.in_default-number_before_comma.ensures.value)
 
 pub returns-clause-found : goal.returns-clause-found
 returns-clause-found c =
     rw c.skip.ensures
-    (field_found ℕ (number_of most_number_digits) c.args.lines.now c.in-Some.line.now c.in-Some-number_before_comma.number c.in-Some-number_before_comma.len c.in-Some.ensures.left c.in-Some.ensures.one
-    (sym c.in-Some-number_before_comma.ensures.value) c.in-Some-number_before_comma.ensures.len)
+    (field_found _ (number_of most_number_digits) c.args.lines.now _ _ _ c.in-Some.ensures.left c.in-Some.ensures.one (sym c.in-Some-number_before_comma.ensures.value) c.in-Some-number_before_comma.ensures.len)

@@ -1,4 +1,4 @@
-use Rattle.std.proofs.Common.{ℕ, Option, sym}
+use Rattle.std.proofs.Common.{sym}
 use Rattle.sgb_file.specs.Fields.{record_number_of}
 use Rattle.sgb_file.proofs.PlainFields.{field_found, field_missing}
 use Rattle.sgb_file.proofs.reading.fields.read_record_number.Goals as goal
@@ -6,10 +6,9 @@ use Rattle.sgb_file.proofs.reading.fields.read_record_number.Goals as goal
 pub returns-in_default-record_number_before_comma-clause-found :
     goal.returns-in_default-record_number_before_comma-clause-found
 returns-in_default-record_number_before_comma-clause-found c =
-    field_missing (Option ℕ) (record_number_of c.args.counts.now.arcs) c.args.lines.now c.in-Some.line.now c.in-Some.ensures.left c.in-Some.ensures.one (sym c.in_default-record_number_before_comma.ensures.value)
+    field_missing _ (record_number_of c.args.counts.now.arcs) c.args.lines.now _ c.in-Some.ensures.left c.in-Some.ensures.one (sym c.in_default-record_number_before_comma.ensures.value)
 
 pub returns-clause-found : goal.returns-clause-found
 returns-clause-found c =
     rw c.skip.ensures
-    (field_found (Option ℕ) (record_number_of c.args.counts.now.arcs) c.args.lines.now c.in-Some.line.now c.in-Some-record_number_before_comma.first c.in-Some-record_number_before_comma.len c.in-Some.ensures.left c.in-Some.ensures.one
-    (sym c.in-Some-record_number_before_comma.ensures.value) c.in-Some-record_number_before_comma.ensures.len)
+    (field_found _ (record_number_of c.args.counts.now.arcs) c.args.lines.now _ _ _ c.in-Some.ensures.left c.in-Some.ensures.one (sym c.in-Some-record_number_before_comma.ensures.value) c.in-Some-record_number_before_comma.ensures.len)

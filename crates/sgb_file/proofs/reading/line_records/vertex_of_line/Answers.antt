@@ -22,11 +22,8 @@ returns-clause-vertex c =
     let x = to_z-of_z w64 c.in_ok-first.x (search rules) in
     let y = to_z-of_z w64 c.in_ok-first.y (search rules) in
     let z = to_z-of_z w64 c.in_ok-first.z (search rules) in
-    rw (x, y, z)
-    (vertex_line c.args.counts.now c.args.line.now c.in_ok-name.name.now c.in_ok-name.rest.now c.in_ok-first.first c.in_ok-first.x
-    c.in_ok-first.y c.in_ok-first.z c.requires c.in_ok-name.ensures c.in_ok-first.ensures.fields)
+    rw (x, y, z) (vertex_line c.args.counts.now c.args.line.now _ _ _ _ _ _ c.requires c.in_ok-name.ensures c.in_ok-first.ensures.fields)
 
 pub returns-clause-sum : goal.returns-clause-sum
 returns-clause-sum c =
-    vertex_counted c.args.line.now c.in_ok-name.name.now c.in_ok-name.rest.now c.args.sum c.checksum_after-before.result
-    c.in_ok-first.sum c.in_ok-name.ensures c.checksum_after-before.ensures c.in_ok-first.ensures.sum
+    vertex_counted c.args.line.now _ _ c.args.sum _ _ c.in_ok-name.ensures c.checksum_after-before.ensures c.in_ok-first.ensures.sum

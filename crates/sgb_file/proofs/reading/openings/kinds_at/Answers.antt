@@ -17,8 +17,7 @@ pub loop-place-preserved : goal.loop-place-preserved
 loop-place-preserved c =
     let low = c.loop-place-test.true in
     let size = c.loop-place.invariant.1 in (
-      kinds_more c.args.text.now c.loop-place.kinds c.loop-place.place c.in_ok-kinds.field-0 (omega (arith, low, c.if-text-lt14.false)) (omega (arith, low, size)) (sym c.in_ok-kinds.ensures)
-          c.loop-place.invariant.0,
+      kinds_more _ _ _ _ (omega (arith, low, c.if-text-lt14.false)) (omega (arith, low, size)) (sym c.in_ok-kinds.ensures) c.loop-place.invariant.0,
       length-set _ _ _ ∙ size,
       omega (arith, low),
     )

@@ -1,25 +1,20 @@
 use Rattle.std.proofs.Common.{sym, ap, ◌∙◌, Some}
-use Rattle.sgb_file.specs.FileLines.{clean_lines}
 use Rattle.sgb_file.proofs.LineLemmas.{no_bytes}
 use Rattle.sgb_file.proofs.Endings.{opens_here, opens_later, opens_not, opens_nothing}
 use Rattle.sgb_file.proofs.reading.openings.opening.Goals as goal
 
 pub returns-in-Some-clause-head : goal.returns-in-Some-clause-head
 returns-in-Some-clause-head c =
-    let line = c.first_line.result.0.now in
-    let others = c.first_line.result.1.now in
     ap (λ lines. Some (record { head = c.in-Some.head; lines = lines })) (ap (λ s. s.all) c.new.ensures)
-    ∙ sym (opens_here c.loop-rest.rest.now line (clean_lines others) c.in-Some.head c.first_line.ensures (sym c.head_of_line.ensures.head ∙ c.in-Some.is)) ∙ c.loop-rest.invariant
+    ∙ sym (opens_here c.loop-rest.rest.now _ _ _ c.first_line.ensures (sym c.head_of_line.ensures.head ∙ c.in-Some.is)) ∙ c.loop-rest.invariant
 
 pub returns-then-not-has_star-clause-head : goal.returns-then-not-has_star-clause-head
 returns-then-not-has_star-clause-head c =
-    sym (opens_not c.loop-rest.rest.now c.first_line.result.0.now (clean_lines c.first_line.result.1.now) c.first_line.ensures (sym c.head_of_line.ensures.head ∙ c.in_default.is)
-    (sym c.has_star.ensures ∙ c.if-not-has_star.true)) ∙ c.loop-rest.invariant
+    sym (opens_not c.loop-rest.rest.now _ _ c.first_line.ensures (sym c.head_of_line.ensures.head ∙ c.in_default.is) (sym c.has_star.ensures ∙ c.if-not-has_star.true)) ∙ c.loop-rest.invariant
 
 pub loop-rest-preserved : goal.loop-rest-preserved
 loop-rest-preserved c =
-    sym (opens_later c.loop-rest.rest.now c.first_line.result.0.now (clean_lines c.first_line.result.1.now) c.first_line.ensures (sym c.head_of_line.ensures.head ∙ c.in_default.is)
-    (sym c.has_star.ensures ∙ c.if-not-has_star.false)) ∙ c.loop-rest.invariant
+    sym (opens_later c.loop-rest.rest.now _ _ c.first_line.ensures (sym c.head_of_line.ensures.head ∙ c.in_default.is) (sym c.has_star.ensures ∙ c.if-not-has_star.false)) ∙ c.loop-rest.invariant
 
 pub returns-clause-head : goal.returns-clause-head
 returns-clause-head c =

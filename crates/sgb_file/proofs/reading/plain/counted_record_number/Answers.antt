@@ -8,10 +8,8 @@ pub returns-in-Some : goal.returns-in-Some
 returns-in-Some c =
     subst (λ (counts : Counts). IsCountedField (record_number_of counts.arcs) c.args.line.now c.args.value (Some c.in_ok-k.k) (c.in_ok-k.len + 1)
     c.in_ok-k.after) c.counts.view_is
-    (record_number_counted c.counts.inside.arcs c.in_ok-k.k c.args.value c.value_after_byte-begun.result c.in_ok-k.len c.in_ok-k.after c.args.line.now
-    c.in-Some.digits.now (search rules) c.value_after_byte-begun.ensures c.in_ok-k.ensures.field)
+    (record_number_counted _ _ _ _ _ _ _ _ (search rules) c.value_after_byte-begun.ensures c.in_ok-k.ensures.field)
 
 pub returns : goal.returns
 returns c =
-    no_record_counted c.args.counts.now.arcs c.args.value c.value_after_byte.result c.args.line.now c.in_ok-rest.rest.now (search rules)
-    (sym c.is_at_end.ensures ∙ c.if-not-is_at_end.false) c.value_after_byte.ensures
+    no_record_counted _ _ _ _ c.in_ok-rest.rest.now (search rules) (sym c.is_at_end.ensures ∙ c.if-not-is_at_end.false) c.value_after_byte.ensures

@@ -9,5 +9,4 @@ pub returns : goal.returns
 returns c =
     subst (λ (counts : Counts). IsCountedField (ref_of counts.vertices) c.args.line.now c.args.value (At c.in_ok-v.v) (c.in_ok-v.len + 1)
     c.in_ok-v.after) c.counts.view_is
-    (ref_counted c.counts.inside.vertices c.in_ok-v.v c.args.value c.value_after_byte-begun.result c.in_ok-v.len c.in_ok-v.after c.args.line.now
-    c.in_ok-digits.digits.now (search rules) c.value_after_byte-begun.ensures c.in_ok-v.ensures.field)
+    (ref_counted _ _ _ _ _ _ _ _ (search rules) c.value_after_byte-begun.ensures c.in_ok-v.ensures.field)

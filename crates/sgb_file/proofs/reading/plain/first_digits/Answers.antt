@@ -6,8 +6,8 @@ use Rattle.std.proofs.lemmas.Grind.{common_steps}
 use Rattle.std.proofs.lemmas.List.{length-take, take_all}
 use Rattle.sgb_file.specs.inner.Layouts.{value_from}
 use Rattle.sgb_file.proofs.CountedFields.{digit_valued}
-use Rattle.sgb_file.proofs.NumberReading.{goes_on}
-use Rattle.sgb_file.proofs.PlainFields.{digit_counts, digits_all, digits_until, no_digit_counts}
+use Rattle.sgb_file.proofs.NumberReading.{counts_on}
+use Rattle.sgb_file.proofs.PlainFields.{digits_all, digits_until, no_digit_counts}
 use Rattle.sgb_file.proofs.reading.plain.first_digits.Goals as goal
 
 pub returns-then-digit-gt9 : goal.returns-then-digit-gt9
@@ -22,30 +22,23 @@ returns-then-digit-gt9 c =
 
 pub overflow_mul-number : goal.overflow_mul-number
 overflow_mul-number c =
-    let here = digit_counts (get_or c.args.text.now c.loop-place.place 0) c.digit_of-digit.result c.digit_of-digit.ensures.digit (omega
-    (arith, c.if-digit-gt9.false)) in
-    let digit = c.digit_of-digit.ensures.value here in
-    let n = goes_on c.args.text.now c.loop-place.place c.loop-place.invariant.0 here c.requires c.loop-place-test.true in
+    let n = counts_on c.args.text.now c.loop-place.place c.digit_of-digit.result c.loop-place.invariant.0 c.digit_of-digit.ensures.digit (omega (arith, c.if-digit-gt9.false)) c.requires c.loop-place-test.true in
+    let digit = c.digit_of-digit.ensures.value n.here in
     grind (arith, common_steps, digit, n.more, n.fits, c.loop-place.invariant.1)
 
 pub overflow_add-number : goal.overflow_add-number
 overflow_add-number c =
-    let here = digit_counts (get_or c.args.text.now c.loop-place.place 0) c.digit_of-digit.result c.digit_of-digit.ensures.digit (omega
-    (arith, c.if-digit-gt9.false)) in
-    let digit = c.digit_of-digit.ensures.value here in
-    let n = goes_on c.args.text.now c.loop-place.place c.loop-place.invariant.0 here c.requires c.loop-place-test.true in
+    let n = counts_on c.args.text.now c.loop-place.place c.digit_of-digit.result c.loop-place.invariant.0 c.digit_of-digit.ensures.digit (omega (arith, c.if-digit-gt9.false)) c.requires c.loop-place-test.true in
+    let digit = c.digit_of-digit.ensures.value n.here in
     grind (arith, common_steps, digit, n.more, n.fits, c.loop-place.invariant.1)
 
 pub loop-place-preserved : goal.loop-place-preserved
 loop-place-preserved c =
-    let here = digit_counts (get_or c.args.text.now c.loop-place.place 0) c.digit_of-digit.result c.digit_of-digit.ensures.digit (omega
-    (arith, c.if-digit-gt9.false)) in
-    let digit = c.digit_of-digit.ensures.value here in
-    let n = goes_on c.args.text.now c.loop-place.place c.loop-place.invariant.0 here c.requires c.loop-place-test.true in (
+    let n = counts_on c.args.text.now c.loop-place.place c.digit_of-digit.result c.loop-place.invariant.0 c.digit_of-digit.ensures.digit (omega (arith, c.if-digit-gt9.false)) c.requires c.loop-place-test.true in
+    let digit = c.digit_of-digit.ensures.value n.here in (
       n.digits,
       omega (arith, digit, n.more, c.loop-place.invariant.1),
-      digit_valued c.args.value c.loop-place.after c.value_with-after.result c.args.text.now c.loop-place.place c.digit_of-digit.result
-          c.loop-place-test.true (omega (arith, c.if-digit-gt9.false)) digit c.loop-place.invariant.2 c.value_with-after.ensures,
+      digit_valued _ _ _ _ _ c.digit_of-digit.result c.loop-place-test.true (omega (arith, c.if-digit-gt9.false)) digit c.loop-place.invariant.2 c.value_with-after.ensures,
     )
 
 pub returns : goal.returns

@@ -8,6 +8,5 @@ pub returns-clause-found : goal.returns-clause-found
 returns-clause-found c =
     let same : c.in_ok-n.n ≡ c.args.head.now.counts.vertices = search (rules, arith) in
     let made : c.new.result ≡ graph_data c.in_ok-id.id c.in_ok-m.m c.args.head.now.kinds c.in_ok-util.util [] [] = search rules in
-    graph_found c.args.head.now (text_left c.args.lines.now) (text_left c.read_id.new.lines) (text_left c.pass_comma.new.lines) (text_left c.read_number.new.lines) (text_left c.pass_comma-2.new.lines)
-    (text_left c.read_number-2.new.lines) (text_left c.read_graph_fields.new.lines) c.in_ok-id.id c.in_ok-n.n c.in_ok-m.m c.in_ok-util.util c.new.result
-    c.in_ok-id.ensures.found c.in_ok-pass_comma.ensures.passed c.in_ok-n.ensures.found c.in_ok-pass_comma-2.ensures.passed c.in_ok-m.ensures.found c.in_ok-util.ensures.found same made
+    graph_found _ (text_left c.args.lines.now) _ _ _ _ _ _ _ _ _ _ c.new.result c.in_ok-id.ensures.found c.in_ok-pass_comma.ensures.passed c.in_ok-n.ensures.found c.in_ok-pass_comma-2.ensures.passed
+    c.in_ok-m.ensures.found c.in_ok-util.ensures.found same made

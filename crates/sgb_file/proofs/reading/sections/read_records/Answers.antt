@@ -6,7 +6,5 @@ use Rattle.sgb_file.proofs.reading.sections.read_records.Goals as goal
 
 pub returns-clause-found : goal.returns-clause-found
 returns-clause-found c =
-    let sections = records_sections c.args.head.now c.in_ok-parts.parts c.in_ok-parts-2.parts (text_left c.args.lines.now) (text_left c.read_graph_record.new.lines) (text_left c.pass_title.new.lines)
-    (text_left c.read_vertices.new.lines)
-    c.in_ok-parts.ensures.found c.in_ok-pass_title.ensures.passed c.in_ok-parts-2.ensures.found in
+    let sections = records_sections c.args.head.now _ _ (text_left c.args.lines.now) _ _ _ c.in_ok-parts.ensures.found c.in_ok-pass_title.ensures.passed c.in_ok-parts-2.ensures.found in
     subst (λ found. IsFoundBy found c.read_arc_section.result (text_left c.read_arc_section.new.lines)) (sym sections) c.read_arc_section.ensures.found

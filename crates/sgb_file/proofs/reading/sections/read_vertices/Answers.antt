@@ -1,10 +1,9 @@
-use Rattle.std.proofs.Common.{sym, ap, subst, ◌∙◌, ◌-◌, ◌<◌, Option, Err, arith}
+use Rattle.std.proofs.Common.{sym, ap, subst, ◌∙◌, ◌<◌, Option, Err, arith}
 use Rattle.std.proofs.lemmas.Result.{err_from_is_err_and}
 use Rattle.sgb_graph.specs.declared.fields.Vertex.{Vertex}
 use Rattle.sgb_file.specs.Fields.{Found}
 use Rattle.sgb_file.specs.inner.Found.{IsFoundBy}
 use Rattle.sgb_file.specs.inner.LinesLeft.{text_left}
-use Rattle.sgb_file.specs.inner.Reading.{with_vertices}
 use Rattle.sgb_file.specs.Records.{vertex_record_at}
 use Rattle.sgb_file.proofs.FoundSteps.{vertex_steps}
 use Rattle.sgb_file.proofs.Sections.{next_vertex, next_stops, vertices_read}
@@ -13,18 +12,15 @@ use Rattle.sgb_file.proofs.reading.sections.read_vertices.Goals as goal
 pub returns-in_err-read_vertex-clause-found : goal.returns-in_err-read_vertex-clause-found
 returns-in_err-read_vertex-clause-found c =
     let p = err_from_is_err_and c.from_residual.result c.from_residual.ensures.1 in
-    let head = c.args.head.now in
     let count = ap (λ h. h.counts.vertices) c.head-inside.view_is ∙ ap (λ h. h.counts.vertices) c.head.view_is in
-    rw (p.1, p.2) (next_stops (vertex_record_at head) (with_vertices c.loop-v.parts) head.counts.vertices c.loop-v._v _ c.in_err-read_vertex.field-0.0 (text_left c.loop-v.lines) (text_left c.read_vertex.new.lines) (text_left c.read_vertex.new.lines)
-    (omega (arith, count, c.loop-v-test.true)) c.loop-v.invariant.0
-    (subst (λ (o : Option (Found Vertex)). IsFoundBy {X = Vertex} o (Err c.in_err-read_vertex.field-0.0) (text_left c.read_vertex.new.lines)) (sym (vertex_steps head (text_left c.loop-v.lines))) c.in_err-read_vertex.ensures.err))
+    rw (p.1, p.2) (next_stops (vertex_record_at c.args.head.now) _ _ _ _ _ _ _ _ (omega (arith, count, c.loop-v-test.true)) c.loop-v.invariant.0
+    (subst (λ (o : Option (Found Vertex)). IsFoundBy {X = Vertex} o (Err c.in_err-read_vertex.field-0.0) (text_left c.read_vertex.new.lines)) (sym (vertex_steps c.args.head.now (text_left c.loop-v.lines))) c.in_err-read_vertex.ensures.err))
 
 pub loop-v-preserved : goal.loop-v-preserved
 loop-v-preserved c =
-    let head = c.args.head.now in
     let count = ap (λ h. h.counts.vertices) c.head-inside.view_is ∙ ap (λ h. h.counts.vertices) c.head.view_is in
-    let within : c.loop-v._v < head.counts.vertices = omega (arith, count, c.loop-v-test.true) in (
-      next_vertex head c.loop-v.parts c.read_vertex.new.parts head.counts.vertices c.loop-v._v c.in_ok-read_vertex.ensures.ok.0 (text_left c.loop-v.lines) (text_left c.read_vertex.new.lines)
+    let within : c.loop-v._v < c.args.head.now.counts.vertices = omega (arith, count, c.loop-v-test.true) in (
+      next_vertex c.args.head.now _ _ _ _ _ _ _
           within c.in_ok-read_vertex.ensures.ok.1 c.in_ok-read_vertex.ensures.ok.2 ∙ c.loop-v.invariant.0,
       c.in_ok-read_vertex.ensures.all ∙ c.loop-v.invariant.1,
       omega (arith, within),
@@ -32,9 +28,6 @@ loop-v-preserved c =
 
 pub returns-clause-found : goal.returns-clause-found
 returns-clause-found c =
-    let head = c.args.head.now in
     let count = ap (λ h. h.counts.vertices) c.head-inside.view_is ∙ ap (λ h. h.counts.vertices) c.head.view_is in
-    let most = c.loop-v.invariant.2 in
-    let end = c.loop-v-test.false in
     sym c.loop-v.invariant.0
-    ∙ vertices_read head c.loop-v.parts (head.counts.vertices - c.loop-v._v) (text_left c.loop-v.lines) (omega (arith, count, most, end))
+    ∙ vertices_read c.args.head.now _ _ _ (omega (arith, count, c.loop-v.invariant.2, c.loop-v-test.false))

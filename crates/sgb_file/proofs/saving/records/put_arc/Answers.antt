@@ -1,41 +1,31 @@
-use Rattle.std.proofs.Common.{[], ◌∷◌, ap, refl, true, w64, rules}
-use Rattle.std.specs.List.{flat_map}
+use Rattle.std.proofs.Common.{ap, refl, true, w64, rules}
 use Rattle.std.specs.Fmt.{signed_decimal}
 use Rattle.std.proofs.lemmas.Int.{to_z-of_z}
 use Rattle.std.proofs.lemmas.Result.{err_from_is_err_and}
 use Rattle.sgb_graph.specs.Columns.{arc_seen}
-use Rattle.sgb_file.specs.Saving.{field_texts, record_number_text, ref_text}
 use Rattle.sgb_file.proofs.FieldTexts.{record-cut, record-then, record-stopped}
 use Rattle.sgb_file.proofs.saving.records.put_arc.Goals as goal
 
 pub returns-in_err-put_ref : goal.returns-in_err-put_ref
 returns-in_err-put_ref g c =
     let p = err_from_is_err_and c.from_residual.result c.from_residual.ensures.1 in
-    let r = arc_seen c.args.arc in
-    let rest = flat_map field_texts (r.a ∷ r.b ∷ []) in
-    rw p.1 (record-cut (ref_text r.tip) _ (record_number_text r.next ∷ signed_decimal r.len ∷ rest) true _ _ refl refl c.in_err-put_ref.ensures)
+    rw p.1 (record-cut _ _ _ true _ _ refl refl c.in_err-put_ref.ensures)
 
 pub returns-in_err-put_record_number : goal.returns-in_err-put_record_number
 returns-in_err-put_record_number g c =
     let p = err_from_is_err_and c.from_residual-in_err-put_record_number.result c.from_residual-in_err-put_record_number.ensures.1 in
-    let r = arc_seen c.args.arc in
-    let rest = flat_map field_texts (r.a ∷ r.b ∷ []) in
-    rw p.1 (record-stopped (ref_text r.tip) _ (record_number_text r.next ∷ signed_decimal r.len ∷ rest) true _ _ _ refl refl c.in_ok-put_ref.ensures
-    (record-cut (record_number_text r.next) _ (signed_decimal r.len ∷ rest) true _ _ refl refl c.in_err-put_record_number.ensures))
+    rw p.1 (record-stopped _ _ _ true _ _ _ refl refl c.in_ok-put_ref.ensures
+    (record-cut _ _ _ true _ _ refl refl c.in_err-put_record_number.ensures))
 
 pub returns-in_err-put_integer : goal.returns-in_err-put_integer
 returns-in_err-put_integer g c =
     let p = err_from_is_err_and c.from_residual-in_err-put_integer.result c.from_residual-in_err-put_integer.ensures.1 in
-    let r = arc_seen c.args.arc in
-    let rest = flat_map field_texts (r.a ∷ r.b ∷ []) in
-    rw p.1 (record-stopped (ref_text r.tip) _ (record_number_text r.next ∷ signed_decimal r.len ∷ rest) true _ _ _ refl refl c.in_ok-put_ref.ensures
-    (record-stopped (record_number_text r.next) _ (signed_decimal r.len ∷ rest) true _ _ _ refl refl c.in_ok-put_record_number.ensures
-    (record-cut (signed_decimal r.len) _ rest _ _ _ (ap signed_decimal (to_z-of_z w64 r.len (search rules))) c.any_used.ensures c.in_err-put_integer.ensures)))
+    rw p.1 (record-stopped _ _ _ true _ _ _ refl refl c.in_ok-put_ref.ensures
+    (record-stopped _ _ _ true _ _ _ refl refl c.in_ok-put_record_number.ensures
+    (record-cut _ _ _ _ _ _ (ap signed_decimal (to_z-of_z w64 (arc_seen c.args.arc).len (search rules))) c.any_used.ensures c.in_err-put_integer.ensures)))
 
 pub returns : goal.returns
 returns g c =
-    let r = arc_seen c.args.arc in
-    let rest = flat_map field_texts (r.a ∷ r.b ∷ []) in
-    record-then (ref_text r.tip) _ (record_number_text r.next ∷ signed_decimal r.len ∷ rest) true _ _ _ _ refl refl c.in_ok-put_ref.ensures
-    (record-then (record_number_text r.next) _ (signed_decimal r.len ∷ rest) true _ _ _ _ refl refl c.in_ok-put_record_number.ensures
-    (record-then (signed_decimal r.len) _ rest _ _ _ _ _ (ap signed_decimal (to_z-of_z w64 r.len (search rules))) c.any_used.ensures c.in_ok-put_integer.ensures c.put_fields.ensures))
+    record-then _ _ _ true _ _ _ _ refl refl c.in_ok-put_ref.ensures
+    (record-then _ _ _ true _ _ _ _ refl refl c.in_ok-put_record_number.ensures
+    (record-then _ _ _ _ _ _ _ _ (ap signed_decimal (to_z-of_z w64 (arc_seen c.args.arc).len (search rules))) c.any_used.ensures c.in_ok-put_integer.ensures c.put_fields.ensures))

@@ -14,8 +14,7 @@ returns-in_err-fill_up g c =
 
 pub loop-rest-preserved : goal.loop-rest-preserved
 loop-rest-preserved g c =
-    filling-more c.args.bytes.now c.loop-rest.rest.now c.split_at.result.0.now c.split_at.result.1.now (c.room-in-loop-rest.result + 1) _ _ _ c.split_at.ensures.front c.split_at.ensures.back
-    c.loop-rest.invariant c.in_ok-fill_up.ensures
+    filling-more c.args.bytes.now c.loop-rest.rest.now _ _ (c.room-in-loop-rest.result + 1) _ _ _ c.split_at.ensures.front c.split_at.ensures.back c.loop-rest.invariant c.in_ok-fill_up.ensures
 
 pub returns : goal.returns
 returns g c =
