@@ -3,7 +3,8 @@ use Rattle.std.proofs.Common.{◌≡◌, ◌≢◌, ◌+◌, ◌*◌, ◌/◌, �
 use Rattle.std.specs.Prelude.{All, Ok, Err, filter, slice_get, if◌then◌else◌}
 use Rattle.std.specs.List.{enumerate_from, list_all}
 use Rattle.std.specs.Option.{option_map, option_map_or}
-use Rattle.std.proofs.lemmas.Bool.{and_from, and_parts, cases_eq, cases_lt, eq-eqb, ne_eqb, lt-ltb, le-ltb}
+use Rattle.std.proofs.lemmas.Bool.{and_from, and_parts, cond_both, cases_eq, cases_lt, eq-eqb, ne_eqb, lt-ltb, le-ltb}
+use Rattle.std.proofs.lemmas.Bool.Decides.{nat_tests}
 use Rattle.std.proofs.lemmas.List.{reverse-append, length-append, length-map, length-reverse}
 use Rattle.std.proofs.lemmas.List.Elements.{All-head, All-tail}
 use Rattle.std.proofs.lemmas.List.Folds.{list_all-append, list_all-map}
@@ -33,24 +34,11 @@ edges_below k events = filter (λ e. nat_lt (min e.from e.to) k) events
 one_end : (at below next : Bool) (x : ℕ × Event) (e : Event) (here : List (ℕ × Event)) (low high : List Event)
     → (if at then 1 else 0) + (if below then 1 else 0) ≡ (if next then 1 else 0) → length here + length low ≡ length high
     → length (cond at (x ∷ here) here) + length (cond below (e ∷ low) low) ≡ length (cond next (e ∷ high) high)
-one_end true true true x e here low high p q = absurd (omega (arith, p))
-one_end true true false x e here low high p q = absurd (omega (arith, p))
-one_end true false true x e here low high p q = omega (arith, q)
-one_end true false false x e here low high p q = absurd (omega (arith, p))
-one_end false true true x e here low high p q = omega (arith, q)
-one_end false true false x e here low high p q = absurd (omega (arith, p))
-one_end false false true x e here low high p q = absurd (omega (arith, p))
-one_end false false false x e here low high p q = q
+one_end at below next x e here low high p q = grind (arith, p, q)
 
 -- the same of a number
 one_number : (a k : ℕ) → (if a == k then 1 else 0) + (if nat_lt a k then 1 else 0) ≡ (if nat_lt a (k + 1) then 1 else 0)
-one_number a k = elim (cases_lt a k) [
-  | inl low ↦ rw (ne_eqb a k (λ e. absurd (omega (arith, e, low))), lt-ltb a k low, lt-ltb a (k + 1) (omega (arith, low))) refl
-  | inr high ↦ elim (cases_eq a k) [
-    | inl e ↦ rw (eq-eqb a k e, le-ltb a k high, lt-ltb a (k + 1) (omega (arith, e))) refl
-    | inr n ↦ rw (ne_eqb a k n, le-ltb a k high, le-ltb a (k + 1) (omega (arith, n, high))) refl
-  ]
-]
+one_number a k = grind (arith, nat_tests)
 
 -- those with the smaller end k and those below it are those below k + 1
 edges_more : (k i : ℕ) (events : List Event)
@@ -115,11 +103,8 @@ half_of_arcs events g has =
 back_by_tips : (records : List ArcRec) (v k : ℕ)
     → option_map_or (λ r. points_to r.tip v) (slice_get records k) false ≡ option_map_or (λ t. points_to t v) (slice_get (map (λ r. r.tip) records) k) false
 back_by_tips records v k =
-    by_record (slice_get records k) ∙ ap (λ o. option_map_or (λ t. points_to t v) o false) (sym (slice_get-map (λ (r : ArcRec). r.tip) records k))
-  where
-    by_record : (o : Option ArcRec) → option_map_or (λ r. points_to r.tip v) o false ≡ option_map_or (λ t. points_to t v) (option_map (λ r. r.tip) o) false
-    by_record None = refl
-    by_record (Some r) = refl
+    elim (slice_get records k) as (λ o. option_map_or (λ r. points_to r.tip v) o false ≡ option_map_or (λ t. points_to t v) (option_map (λ r. r.tip) o) false) [ None ↦ refl | Some r ↦ refl ]
+    ∙ ap (λ o. option_map_or (λ t. points_to t v) o false) (sym (slice_get-map (λ (r : ArcRec). r.tip) records k))
 
 -- the lower record of an edge at this place has its way back
 abbrev way_back_of : GraphData → ℕ → ℕ × Event → Bool
@@ -180,11 +165,8 @@ ways_back_below events g (suc k) has few =
 not_refused : (g : GraphData) (lines : List Line) (edges : Bool) (make : List Line → Description) → edges ≡ true
     → and_then (if not edges then Err Invalid else (if nat_lt most_vertices (length lines) then Err VeryBad else Ok lines)) (λ l. Ok (make l)) ≢ Err Invalid
 not_refused g lines false make is = absurd cc
-not_refused g lines true make is = by_count (nat_lt most_vertices (length lines))
-  where
-    by_count : (many : Bool) → and_then (if many then Err VeryBad else Ok lines) (λ l. Ok (make l)) ≢ Err Invalid
-    by_count true e = absurd cc
-    by_count false e = absurd cc
+not_refused g lines true make is =
+    cond_both (nat_lt most_vertices (length lines)) (Err VeryBad) (Ok lines) (λ r. and_then r (λ l. Ok (make l)) ≢ Err Invalid) (λ _ e. absurd cc) (λ _ e. absurd cc)
 
 -- the lines of a graph of edges are those of its edges, and are not refused
 pub edges_are_lines : (events : List Event) (g : GraphData) → HasArcsOf false events g

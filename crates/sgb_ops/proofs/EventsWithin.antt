@@ -30,14 +30,12 @@ merged_unless_within n false directed events all = merged_keeps (HasEndsBelow n)
 
 -- the arcs of a graph lead to its vertices
 chain_tips : (g : GraphData) (v : ℕ) → IsKept g → v < length g.vertices → All (TipBelow (length g.vertices)) (chain_of g v)
-chain_tips g v kept below = by_vertex (slice_get g.vertices v)
-  where
-    n : ℕ
-    n = length g.vertices
-
-    by_vertex : (o : Option Vertex) → All (TipBelow (length g.vertices)) (option_map_or (λ (x : Vertex). links_of g.records x.arcs) o [])
-    by_vertex None = All-nil (TipBelow n)
-    by_vertex (Some x) = tips_below (length g.records) n (length g.records) g.kinds g.records x.arcs (omega (arith, below)) (parts_of g kept.graph).records
+chain_tips g v kept below =
+    let n = length g.vertices in
+    elim (slice_get g.vertices v) as (λ o. All (TipBelow n) (option_map_or (λ (x : Vertex). links_of g.records x.arcs) o [])) [
+      | None ↦ All-nil (TipBelow n)
+      | Some x ↦ tips_below (length g.records) n (length g.records) g.kinds g.records x.arcs (omega (arith, below)) (parts_of g kept.graph).records
+    ]
 
 -- what is true of all arcs is true of those that are taken
 all_met : (P : Link → Type 0) (v : ℕ) (links : List Link) → All P links → All P (each_edge_once v links)

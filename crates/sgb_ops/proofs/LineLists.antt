@@ -193,11 +193,7 @@ numbers_more w i lines line within is =
     let numbered = ap (enumerate_from 0) more ∙ (numbered_more 0 before line ∙ ap (λ (j : ℕ). enumerate_from 0 before ++ (j, line) ∷ []) here) in
     ap (λ qs. map (λ q. q.0) (filter (λ q. touches w q.1) qs)) numbered
     ∙ (made-append (λ (q : ℕ × Line). touches w q.1) (λ q. q.0) (enumerate_from 0 before) ((i, line) ∷ [])
-    ∙ ap (λ ks. numbers_at w before ++ ks) (by_test (touches w line)))
-  where
-    by_test : (b : Bool) → map (λ (q : ℕ × Line). q.0) (cond b ((i, line) ∷ []) []) ≡ cond b (i ∷ []) []
-    by_test true = refl
-    by_test false = refl
+    ∙ ap (λ ks. numbers_at w before ++ ks) (elim (touches w line) as (λ b. map (λ (q : ℕ × Line). q.0) (cond b ((i, line) ∷ []) []) ≡ cond b (i ∷ []) []) [ true ↦ refl | false ↦ refl ]))
 
 -- the numbers are those of the lines before
 pub numbers_within : (w i : ℕ) (lines : List Line) → i ≤ length lines → All (λ j. j < length lines) (numbers_at w (take i lines))

@@ -60,33 +60,24 @@ below_kept p r (e ∷ events) all = elim (cases_Bool (p e)) [
 
 -- the first of merged events is as short as the shortest with its ends
 first_is_shortest : (directed : Bool) (e : Event) (events : List Event) → IsShortest directed (e ∷ events) (with_least_length directed e events)
-first_is_shortest directed e events = record {
-  one = by_place (fold-int_min_reached e.len lengths shortest refl);
-  least = All-cons (λ f. has_ends_of directed e f ≡ true → shortest ≤ℤ f.len) e events (λ h. bounds.0) (below_kept (has_ends_of directed e) shortest events bounds.1);
-}
-  where
-    like : List Event
-    like = filter (has_ends_of directed e) events
-
-    lengths : List ℤ
-    lengths = map (λ (f : Event). f.len) like
-
-    shortest : ℤ
-    shortest = fold lesser e.len lengths
-
-    bounds : (shortest ≤ℤ e.len) × All (λ x. shortest ≤ℤ x) lengths
-    bounds = fold-int_min_bounds e.len lengths shortest refl
-
-    by_place : (shortest ≡ e.len) ⊎ Contains lengths shortest
-        → (f : Event) × Contains (e ∷ events) f × (has_ends_of directed e f ≡ true) × (f.len ≡ shortest)
-    by_place (inl own) = (e, Contains-first e events, own_ends directed e, sym own)
-    by_place (inr among) =
-        let of = made_of (λ (f : Event). f.len) like shortest among in (
-          of.0,
-          Contains-other e of.0 events (All-contains (Contains events) like of.0 (All-filter (has_ends_of directed e) (Contains events) events (All-contains_itself events)) of.1),
-          All-contains (λ f. has_ends_of directed e f ≡ true) like of.0 (filter_passes (has_ends_of directed e) events) of.1,
-          of.2,
-        )
+first_is_shortest directed e events =
+    let like = filter (has_ends_of directed e) events in
+    let lengths = map (λ (f : Event). f.len) like in
+    let shortest = fold lesser e.len lengths in
+    let bounds : (shortest ≤ℤ e.len) × All (λ x. shortest ≤ℤ x) lengths = fold-int_min_bounds e.len lengths shortest refl in
+    record {
+      one = elim (fold-int_min_reached e.len lengths shortest refl) [
+        | inl own ↦ (e, Contains-first e events, own_ends directed e, sym own)
+        | inr among ↦
+            let of = made_of (λ (f : Event). f.len) like shortest among in (
+              of.0,
+              Contains-other e of.0 events (All-contains (Contains events) like of.0 (All-filter (has_ends_of directed e) (Contains events) events (All-contains_itself events)) of.1),
+              All-contains (λ f. has_ends_of directed e f ≡ true) like of.0 (filter_passes (has_ends_of directed e) events) of.1,
+              of.2,
+            )
+      ];
+      least = All-cons (λ f. has_ends_of directed e f ≡ true → shortest ≤ℤ f.len) e events (λ h. bounds.0) (below_kept (has_ends_of directed e) shortest events bounds.1);
+    }
 
 -- one that stays so with an event in front that has not its ends
 stays_shortest : (directed : Bool) (e : Event) (events : List Event) (f : Event) → apart directed e f → IsShortest directed events f → IsShortest directed (e ∷ events) f
@@ -112,25 +103,18 @@ merged_shortest directed (e ∷ events) =
 pub merged_has_each : (directed : Bool) (events : List Event) (e : Event) → Contains events e → (f : Event) × Contains (merged directed events) f × (has_ends_of directed e f ≡ true)
 unfolding merged
 merged_has_each directed [] e has = absurd (Contains-none e has)
-merged_has_each directed (a ∷ events) e has = by_place (Contains-cases a e events has) (merged_has_each directed events e)
-  where
-    first : Event
-    first = with_least_length directed a events
-
-    rest : List Event
-    rest = filter (λ f. not (has_ends_of directed a f)) (merged directed events)
-
-    by_ends : (f : Event) → Contains (merged directed events) f → has_ends_of directed e f ≡ true
-        → (has_ends_of directed a f ≡ true) ⊎ (has_ends_of directed a f ≡ false)
-        → (f : Event) × Contains (first ∷ rest) f × (has_ends_of directed e f ≡ true)
-    by_ends f there same (inl like) = (first, Contains-first first rest, ends_joined directed e f a same (ends_turned directed a f like))
-    by_ends f there same (inr other) =
-        (f, Contains-other first f rest (Contains-passing (λ x. not (has_ends_of directed a x)) (merged directed events) f (not_from_false _ other) there), same)
-
-    by_place : (a ≡ e) ⊎ Contains events e → (Contains events e → (f : Event) × Contains (merged directed events) f × (has_ends_of directed e f ≡ true))
-        → (f : Event) × Contains (first ∷ rest) f × (has_ends_of directed e f ≡ true)
-    by_place (inl here) later = (first, Contains-first first rest, subst (λ x. has_ends_of directed x a ≡ true) here (own_ends directed a))
-    by_place (inr there) later = let of = later there in by_ends of.0 of.1 of.2 (cases_Bool (has_ends_of directed a of.0))
+merged_has_each directed (a ∷ events) e has =
+    let first = with_least_length directed a events in
+    let rest = filter (λ f. not (has_ends_of directed a f)) (merged directed events) in
+    elim (Contains-cases a e events has) [
+      | inl here ↦ (first, Contains-first first rest, subst (λ x. has_ends_of directed x a ≡ true) here (own_ends directed a))
+      | inr there ↦
+          let (f, among, same) = merged_has_each directed events e there in
+          elim (cases_Bool (has_ends_of directed a f)) [
+            | inl like ↦ (first, Contains-first first rest, ends_joined directed e f a same (ends_turned directed a f like))
+            | inr other ↦ (f, Contains-other first f rest (Contains-passing (λ x. not (has_ends_of directed a x)) (merged directed events) f (not_from_false _ other) among), same)
+          ]
+    ]
 
 -- the first ones of events that come after others
 abbrev firsts_after : Bool → List Event → List Event → List Event
@@ -168,12 +152,9 @@ firsts_without directed e before (x ∷ events) =
 -- what a test of the ends keeps, seen by the ends
 ends_kept : (t : ℕ × ℕ → Bool) (events : List Event) → map ends_of (filter (λ f. t (ends_of f)) events) ≡ filter t (map ends_of events)
 ends_kept t [] = refl
-ends_kept t (e ∷ events) = by_test (t (ends_of e)) (ends_kept t events)
-  where
-    by_test : (b : Bool) → map ends_of (filter (λ f. t (ends_of f)) events) ≡ filter t (map ends_of events)
-        → map ends_of (cond b (e ∷ filter (λ f. t (ends_of f)) events) (filter (λ f. t (ends_of f)) events)) ≡ cond b (ends_of e ∷ filter t (map ends_of events)) (filter t (map ends_of events))
-    by_test true rest = ap (λ xs. ends_of e ∷ xs) rest
-    by_test false rest = rest
+ends_kept t (e ∷ events) =
+    let rest = ends_kept t events in
+    elim (cases_Bool (t (ends_of e))) [ inl kept ↦ rw kept (ap (λ xs. ends_of e ∷ xs) rest) | inr out ↦ rw out rest ]
 
 -- an event at the ends
 abbrev at_ends : ℕ × ℕ → Event

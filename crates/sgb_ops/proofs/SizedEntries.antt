@@ -63,11 +63,9 @@ pub first_sized : (es : List Entry) (v : ℕ) → first_copy (map sized es) v �
 first_sized es v = omega (arith, merged_sized es, taken_sized es v)
 
 pub copies_sized : (es : List Entry) (v : ℕ) → copies_of (map sized es) v ≡ copies_of es v
-copies_sized es v = rw (slice_get-map sized es v, first_sized es v) (by_option (first_copy es v) (slice_get es v))
-  where
-    by_option : (start : ℕ) (o : Option Entry) → option_map_or (copies_by start) (option_map sized o) [] ≡ option_map_or (copies_by start) o []
-    by_option start None = refl
-    by_option start (Some e) = copies_by_sized start e
+copies_sized es v =
+    rw (slice_get-map sized es v, first_sized es v)
+    (elim (slice_get es v) as (λ o. option_map_or (copies_by (first_copy es v)) (option_map sized o) [] ≡ option_map_or (copies_by (first_copy es v)) o []) [ None ↦ refl | Some e ↦ copies_by_sized (first_copy es v) e ])
 
 -- the events between them
 module _ (g : GraphData) (es : List Entry) (directed : Bool) where

@@ -94,19 +94,13 @@ one_edge v k a b far up = by_ends (cases_eq a v) (cases_eq b v)
 -- the numbers of the links of some rows
 numbers_at : (v k : ℕ) (rows : List Record) → All (λ l. (k ≤ l.number) × (l.number < k + length rows)) (links_at v k rows)
 numbers_at v k [] = All-nil _
-numbers_at v k (r ∷ rows) = by_start (cases_Bool (r.start == v)) (numbers_at v (k + 1) rows)
+numbers_at v k (r ∷ rows) =
+    All-append In (if r.start == v then link k r.tip r.len ∷ [] else []) (links_at v (k + 1) rows)
+    (cond_both (r.start == v) (link k r.tip r.len ∷ []) [] (All In) (λ _. All-cons In (link k r.tip r.len) [] (omega arith, omega arith) (All-nil In)) (λ _. All-nil In))
+    (All-weaker (λ l. (k + 1 ≤ l.number) × (l.number < k + 1 + length rows)) In (λ l p. (omega (arith, p.0), omega (arith, p.1))) (links_at v (k + 1) rows) (numbers_at v (k + 1) rows))
   where
     In : Link → Type 0
     In l = (k ≤ l.number) × (l.number < k + length (r ∷ rows))
-
-    wider : All (λ l. (k + 1 ≤ l.number) × (l.number < k + 1 + length rows)) (links_at v (k + 1) rows) → All In (links_at v (k + 1) rows)
-    wider all = All-weaker (λ l. (k + 1 ≤ l.number) × (l.number < k + 1 + length rows)) In (λ l p. (omega (arith, p.0), omega (arith, p.1))) (links_at v (k + 1) rows) all
-
-    by_start : ((r.start == v) ≡ true) ⊎ ((r.start == v) ≡ false)
-        → All (λ l. (k + 1 ≤ l.number) × (l.number < k + 1 + length rows)) (links_at v (k + 1) rows)
-        → All In ((if r.start == v then link k r.tip r.len ∷ [] else []) ++ links_at v (k + 1) rows)
-    by_start (inl starts) all = rw starts (All-cons In (link k r.tip r.len) (links_at v (k + 1) rows) (omega arith, omega arith) (wider all))
-    by_start (inr not_here) all = rw not_here (wider all)
 
 -- the numbers on the list of events whose first record has number k
 numbers_from_first : (k : ℕ) (events : List Event) (v : ℕ) → All (λ l. k ≤ l.number) (list_from false k events v)
@@ -166,21 +160,15 @@ step_directed v after_loop l out = λ links. kept_after after_loop l links out
 one_taken : (v : ℕ) (l : Link) (links : List Link)
     → each_edge_once v (l ∷ links) ≡ (if nat_lt l.tip v then each_edge_once v links else l ∷ each_edge_once v (without_other (if l.tip == v then Some l.number else None) links))
 unfolding each_edge_once
-one_taken v l [] = by_test (l.tip == v)
-  where
-    by_test : (b : Bool) → (if nat_lt l.tip v then [] else l ∷ [])
-        ≡ (if nat_lt l.tip v then [] else l ∷ each_edge_once v (without_other (if b then Some l.number else None) []))
-    by_test true = refl
-    by_test false = refl
+one_taken v l [] =
+    elim (l.tip == v) as (λ b. (if nat_lt l.tip v then [] else l ∷ []) ≡ (if nat_lt l.tip v then [] else l ∷ each_edge_once v (without_other (if b then Some l.number else None) []))) [ true ↦ refl | false ↦ refl ]
 one_taken v l (k ∷ links) = by_test (l.tip == v)
   where
-    by_next : (b : Bool) → (if b then each_edge_once v links else each_edge_once v (k ∷ links)) ≡ each_edge_once v (if b then links else k ∷ links)
-    by_next true = refl
-    by_next false = refl
-
     by_test : (b : Bool) → (if nat_lt l.tip v then each_edge_once v (k ∷ links) else l ∷ (if b && (k.number == l.number + 1) then each_edge_once v links else each_edge_once v (k ∷ links)))
         ≡ (if nat_lt l.tip v then each_edge_once v (k ∷ links) else l ∷ each_edge_once v (without_other (if b then Some l.number else None) (k ∷ links)))
-    by_test true = ap (λ xs. if nat_lt l.tip v then each_edge_once v (k ∷ links) else l ∷ xs) (by_next (k.number == l.number + 1))
+    by_test true =
+        ap (λ xs. if nat_lt l.tip v then each_edge_once v (k ∷ links) else l ∷ xs)
+        (elim (k.number == l.number + 1) as (λ b. (if b then each_edge_once v links else each_edge_once v (k ∷ links)) ≡ each_edge_once v (if b then links else k ∷ links)) [ true ↦ refl | false ↦ refl ])
     by_test false = refl
 
 -- an arc to a vertex before v is passed over

@@ -1,7 +1,7 @@
 -- The events of a union, as they are found and merged vertex by vertex.
 use Rattle.std.proofs.Common.{◌≡◌, ◌<◌, ◌≤◌, ◌==◌, ℕ, Bool, true, false, List, [], ◌++◌, map, get_or, refl, sym, ap, ◌∙◌, append-nil, arith}
 use Rattle.std.specs.Prelude.{All, filter, flat_map, nat_lt, if◌then◌else◌}
-use Rattle.std.proofs.lemmas.Bool.{lt-ltb, le-ltb, ltb-true, ne_eqb, and_right}
+use Rattle.std.proofs.lemmas.Bool.{cond_both, lt-ltb, le-ltb, ltb-true, ne_eqb, and_right}
 use Rattle.std.proofs.lemmas.List.{map-append}
 use Rattle.std.proofs.lemmas.List.Elements.{All-append, All-filter, All-map, All-nil, filter_passes}
 use Rattle.sgb_vec.proofs.Lists.{filter-all}
@@ -64,11 +64,7 @@ module _ (g h : GraphData) (directed : Bool) (v : ℕ) (kept : IsKept g) (below 
   arcs_lead_below : All (TipBelow (order_of g)) (union_arcs g h directed v)
   arcs_lead_below =
       All-append (TipBelow (order_of g)) (taken directed g v) _ (taken_tips directed g v kept below)
-      (by_test (nat_lt v (order_of h)))
-    where
-      by_test : (b : Bool) → All (TipBelow (order_of g)) (if b then leading_below (order_of g) (taken directed h v) else [])
-      by_test true = lead_below (order_of g) (taken directed h v)
-      by_test false = All-nil (TipBelow (order_of g))
+      (cond_both (nat_lt v (order_of h)) (leading_below (order_of g) (taken directed h v)) [] (All (TipBelow (order_of g))) (λ _. lead_below (order_of g) (taken directed h v)) (λ _. All-nil (TipBelow (order_of g))))
 
   -- so the ends of its events that are left are vertices of a graph of that size
   pub left_within : (multi : Bool) (n : ℕ) (found left : List Event) → n ≡ order_of g
@@ -85,14 +81,12 @@ arcs_lead_up : (g h : GraphData) (directed : Bool) (v : ℕ) → All (LeadsUp di
 arcs_lead_up g h true v = λ k d below same. absurd cc
 arcs_lead_up g h false v =
     All-append (LeadsUp false v) (taken false g v) _ (up g)
-    (by_test (nat_lt v (order_of h)))
+    (cond_both (nat_lt v (order_of h)) (leading_below (order_of g) (taken false h v)) [] (All (LeadsUp false v))
+    (λ _. All-filter (λ l. nat_lt l.tip (order_of g)) (LeadsUp false v) (taken false h v) (up h))
+    (λ _. All-nil (LeadsUp false v)))
   where
     up : (x : GraphData) → All (LeadsUp false v) (taken false x v)
     up x = λ k d below same. each_edge_once_leads_up v (chain_of x v) k d below
-
-    by_test : (b : Bool) → All (LeadsUp false v) (if b then leading_below (order_of g) (taken false h v) else [])
-    by_test true = All-filter (λ l. nat_lt l.tip (order_of g)) (LeadsUp false v) (taken false h v) (up h)
-    by_test false = All-nil (LeadsUp false v)
 
 -- the events of two arcs of different vertices do not have the same ends
 arcs_apart : (directed : Bool) (u w : ℕ) (l k : Link) → u < w → LeadsUp directed w k → has_ends_of directed (event_of u l) (event_of w k) ≡ false
