@@ -91,37 +91,3 @@ exit_first input e f q r exit same refused p is =
 pub numbers_refused : (refuses : ℤ → ℤ → Panic → Type 0) (m n m' n' : ℤ) (r : Result GraphData Panic) → m' ≡ m → n' ≡ n → ((p : Panic) → refuses m' n' p → r ≡ Err p)
     → (p : Panic) → refuses m n p → r ≡ Err p
 numbers_refused refuses m n m' n' r e f by p is = by p (subst (λ k. refuses m' k p) (sym f) (subst (λ k. refuses k n p) (sym e) is))
-
--- ---- accepted parameters
-
--- what refuses a board's parameters refuses its graph, and nothing else does
-pub board_refused : (p : BoardParams) (v : Result BoardData Panic) → v ≡ accepted_board p → (code : Panic) → board p ≡ Err code → v ≡ Err code
-board_refused p (Ok b) is code refused =
-    let made : board p ≡ Ok (board_graph b) = ap (λ (v : Result BoardData Panic). and_then v (λ b. Ok (board_graph b))) (sym is) in
-    absurd cc
-board_refused p (Err q) is code refused =
-    let made : board p ≡ Err q = ap (λ (v : Result BoardData Panic). and_then v (λ b. Ok (board_graph b))) (sym is) in
-    let same : q ≡ code = cc in
-    ap Err same
-
--- the exit of a `?` with the refusal of parameters
-pub exit_generator : {T : Type 0} (f g : Generator) (q : Panic) (r : Result Local Panic) → IsErrAnd r (λ p. p ≡ q) → f ≡ g
-    → ((code : Panic) → IsGeneratorRefused g code → ◌≡◌ {A = Result T Panic} (Err q) (Err code)) → (code : Panic) → IsGeneratorRefused f code → r ≡ Err code
-exit_generator f g q r exit same refused code is =
-    let by = err_from_is_err_and r exit in
-    let other = refused code (subst (λ (h : Generator). IsGeneratorRefused h code) same is) in
-    let alike : q ≡ code = cc in
-    by.1 ∙ ap Err (by.2 ∙ alike)
-
--- parameters that were accepted are not refused so
-pub made_generator : {T : Type 0} (f g : Generator) (x : T) (r : Result Local Panic) → f ≡ g
-    → ((code : Panic) → IsGeneratorRefused g code → Ok x ≡ Err code) → (code : Panic) → IsGeneratorRefused f code → r ≡ Err code
-made_generator f g x r same made code is =
-    let none = made code (subst (λ (h : Generator). IsGeneratorRefused h code) same is) in
-    absurd cc
-
--- the exit of a `?` with another code than that of memory
-pub exit_judged : {T : Type 0} (r : Result T Panic) (q : Panic) → IsErrAnd r (λ p. p ≡ q) → q ≢ NoRoom → IfErr r (λ p. p ≢ NoRoom)
-exit_judged r q exit other =
-    let by = err_from_is_err_and r exit in
-    rw (by.1, by.2) other

@@ -101,7 +101,8 @@ impl<const N: usize> Filled<N> {
     /// Appends a text, for which there is room.
     pub(super) fn push_text(&mut self, text: &[u8])
         requires { length self.old + length text.now ≤ N }
-        ensures { self.new ≡ self.old ++ text.now }
+        ensures put { self.new ≡ self.old ++ text.now }
+        ensures size { length self.new ≡ length self.old + length text.now }
     {
         let start = self.len;
         let end = start + text.len();
@@ -313,7 +314,8 @@ impl<const N: usize> Filled<N> {
     #[inline(always)]
     pub(super) fn begin_arc(&mut self)
         requires { length self.old + 5 ≤ N }
-        ensures { self.new ≡ self.old ++ codes "  -> " }
+        ensures put { self.new ≡ self.old ++ codes "  -> " }
+        ensures size { length self.new ≡ length self.old + 5 }
     {
         self.push_text(b"  -> ");
     }
