@@ -8,15 +8,6 @@ use Rattle.sgb.proofs.writing.families.push_arc.Goals as goal
 pub returns-in_err-make_room : goal.returns-in_err-make_room
 returns-in_err-make_room g c = exit_untaken c.args.page.now (local_line (record { tip = c.args.tip.now; len = pos c.args.len })) _ _ _ _ c.from_residual.ensures.1 c.in_err-make_room.ensures.paged
 
-pub begin_arc-requires : goal.begin_arc-requires
-begin_arc-requires g c = omega (arith, c.in_ok-make_room.ensures.room)
-
-pub push_other-requires-clause-room : goal.push_other-requires-clause-room
-push_other-requires-clause-room g c = omega (arith, c.in_ok-make_room.ensures.room, c.requires.width, c.requires.short)
-
-pub end_counted_arc-requires : goal.end_counted_arc-requires
-end_counted_arc-requires g c = omega (arith, c.in_ok-make_room.ensures.room, c.push_other.ensures.short, c.requires.width, c.requires.short)
-
 pub returns : goal.returns
 returns g c =
     let tip = c.args.tip.now in

@@ -12,15 +12,6 @@ returns-in_err-make_room g c =
     let r = c.args.runs.now in
     exit_untaken c.args.page.now (local_line (arc_along r.sizes r.wrap c.args.name.now c.args.parts.now c.args.l)) _ _ _ _ c.from_residual.ensures.1 c.in_err-make_room.ensures.paged
 
-pub begin_arc-requires : goal.begin_arc-requires
-begin_arc-requires g c = omega (arith, c.in_ok-make_room.ensures.room)
-
-pub push_moved-requires-clause-room : goal.push_moved-requires-clause-room
-push_moved-requires-clause-room g c = omega (arith, c.in_ok-make_room.ensures.room, c.requires.short)
-
-pub end_counted_arc-requires : goal.end_counted_arc-requires
-end_counted_arc-requires g c = omega (arith, c.in_ok-make_room.ensures.room, c.push_moved.ensures.short, c.requires.short)
-
 pub returns : goal.returns
 returns g c =
     let r = c.args.runs.now in

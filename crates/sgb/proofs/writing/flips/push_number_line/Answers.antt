@@ -4,12 +4,6 @@ use Rattle.sgb.proofs.CutOff.{exit_write}
 use Rattle.sgb.proofs.Pages.{exit_untaken, held_line}
 use Rattle.sgb.proofs.writing.flips.push_number_line.Goals as goal
 
-pub push_number-requires : goal.push_number-requires
-push_number-requires g c = omega (arith, c.in_ok-make_room.ensures.room)
-
-pub push_text-requires : goal.push_text-requires
-push_text-requires g c = omega (arith, c.in_ok-make_room.ensures.room, c.push_number.ensures.short)
-
 pub returns-in_err-make_room : goal.returns-in_err-make_room
 returns-in_err-make_room g c = record {
   paged = exit_untaken c.args.page.now (number_line c.args.number) _ _ _ _ c.from_residual.ensures.1 c.in_err-make_room.ensures.paged;

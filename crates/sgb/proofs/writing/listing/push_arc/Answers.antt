@@ -9,15 +9,6 @@ use Rattle.sgb.proofs.writing.listing.push_arc.Goals as goal
 pub returns-in_err-make_room : goal.returns-in_err-make_room
 returns-in_err-make_room g c = exit_untaken c.args.page.now (arc_line (map (λ v. v.name) c.args.graph.now.vertices) c.args.link) _ _ _ _ c.from_residual.ensures.1 c.in_err-make_room.ensures.paged
 
-pub begin_arc-requires : goal.begin_arc-requires
-begin_arc-requires g c = omega (arith, c.in_ok-make_room.ensures.room)
-
-pub push_text-requires : goal.push_text-requires
-push_text-requires g c = omega (arith, c.in_ok-make_room.ensures.room, ap length c.bytes.ensures.value, c.bytes.ensures.text.short)
-
-pub end_arc-requires : goal.end_arc-requires
-end_arc-requires g c = omega (arith, c.in_ok-make_room.ensures.room, ap length c.bytes.ensures.value, c.bytes.ensures.text.short)
-
 pub returns : goal.returns
 returns g c =
     let link = c.args.link in

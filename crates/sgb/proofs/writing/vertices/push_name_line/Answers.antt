@@ -6,12 +6,6 @@ use Rattle.sgb.specs.Texts.{name_line}
 use Rattle.sgb.proofs.Pages.{exit_untaken, held_line}
 use Rattle.sgb.proofs.writing.vertices.push_name_line.Goals as goal
 
-pub push_text-requires : goal.push_text-requires
-push_text-requires g c = omega (arith, c.in_ok-make_room.ensures.room, ap length c.bytes.ensures.value, c.bytes.ensures.text.short)
-
-pub push_text-requires-2 : goal.push_text-requires-2
-push_text-requires-2 g c = omega (arith, c.in_ok-make_room.ensures.room, ap length c.bytes.ensures.value, c.bytes.ensures.text.short)
-
 pub returns-in_err-make_room : goal.returns-in_err-make_room
 returns-in_err-make_room g c = exit_untaken c.args.page.now (name_line (slice_index_or (names_of c.args.graph.now) c.args.v [])) _ _ _ _ c.from_residual.ensures.1 c.in_err-make_room.ensures.paged
 

@@ -9,12 +9,12 @@ use Rattle.sgb.proofs.writing.kept_names.KeptName.push_line.Goals as goal
 pub push_text-requires : goal.push_text-requires
 push_text-requires g c =
     let kept = c.self.invariant in
-    omega (arith, c.in_ok-make_room.ensures.room, ap length c.bytes.ensures, ap length kept.name, length-name_of_vector-le c.self.inside.vector.items kept.small, kept.few)
+    omega (arith, ap length c.bytes.ensures, ap length kept.name, length-name_of_vector-le c.self.inside.vector.items kept.small, kept.few)
 
 pub push_text-requires-2 : goal.push_text-requires-2
 push_text-requires-2 g c =
     let kept = c.self.invariant in
-    omega (arith, c.in_ok-make_room.ensures.room, ap length c.bytes.ensures, ap length kept.name, length-name_of_vector-le c.self.inside.vector.items kept.small, kept.few)
+    omega (arith, ap length c.bytes.ensures, ap length kept.name, length-name_of_vector-le c.self.inside.vector.items kept.small, kept.few)
 
 pub returns-in_err-make_room : goal.returns-in_err-make_room
 returns-in_err-make_room g c = record {
