@@ -1,12 +1,14 @@
 -- The lines of a graph of edges: one for each edge, and each has its way back.
-use Rattle.std.proofs.Common.{◌≡◌, ◌≢◌, ◌+◌, ◌*◌, ◌/◌, ◌≤◌, ◌<◌, ◌==◌, ℕ, zero, suc, min, Bool, true, false, not, ◌&&◌, cond, nat_lt, List, [], ◌∷◌, map, reverse, length, refl, sym, ap, ◌∙◌, inl, inr, Option, Some, None, arith}
+use Rattle.std.proofs.Common.{◌≡◌, ◌≢◌, ◌+◌, ◌*◌, ◌/◌, ◌≤◌, ◌<◌, ◌==◌, ℕ, zero, suc, min, Bool, true, false, not, cond, nat_lt, List, [], ◌∷◌, map, reverse, length, refl, sym, ap, ◌∙◌, Some, None, arith}
 use Rattle.std.specs.Prelude.{All, Ok, Err, filter, slice_get, if◌then◌else◌}
 use Rattle.std.specs.List.{enumerate_from, list_all}
 use Rattle.std.specs.Option.{option_map, option_map_or}
-use Rattle.std.proofs.lemmas.Bool.{and_from, and_parts, cond_both, cases_eq, cases_lt, eq-eqb, ne_eqb, lt-ltb, le-ltb}
+use Rattle.std.proofs.lemmas.Bool.{and_from, cond_both, eq-eqb, lt-ltb, le-ltb}
 use Rattle.std.proofs.lemmas.Bool.Decides.{nat_tests}
-use Rattle.std.proofs.lemmas.List.{reverse-append, length-append, length-map, length-reverse}
+use Rattle.std.proofs.lemmas.List.{length-append, length-map, length-reverse}
 use Rattle.std.proofs.lemmas.List.Elements.{All-head, All-tail}
+use Rattle.std.proofs.lemmas.List.Sums.{AllPass-from_list_all, list_all-from_AllPass}
+use Rattle.sgb_vec.proofs.Lists.{All-reverse}
 use Rattle.std.proofs.lemmas.List.Folds.{list_all-append, list_all-map}
 use Rattle.std.proofs.lemmas.Option.{slice_get-map}
 use Rattle.sgb_vec.specs.Limits.{most_vertices}
@@ -93,11 +95,7 @@ lines_count events g has =
 
 -- which are half of the arcs
 half_of_arcs : (events : List Event) (g : GraphData) → HasArcsOf false events g → length (lines_of_graph g false) ≡ g.m / 2
-half_of_arcs events g has =
-    let lines = lines_count events g has in
-    let two = two_each events in
-    let count = has.count in
-    omega (arith, lines, two, count)
+half_of_arcs events g has = omega (arith, lines_count events g has, two_each events, has.count)
 
 -- the way back of an arc, by the tips of the records
 back_by_tips : (records : List ArcRec) (v k : ℕ)
@@ -135,11 +133,7 @@ ways_back_from g v i (e ∷ events) same =
 
 -- what all elements pass, they pass in the other order
 passes_reverse : {X : Type 0} (p : X → Bool) (xs : List X) → list_all p xs ≡ true → list_all p (reverse xs) ≡ true
-passes_reverse p [] all = refl
-passes_reverse p (x ∷ xs) all =
-    let parts = and_parts (p x) (list_all p xs) all in
-    ap (list_all p) (reverse-append (x ∷ []) xs)
-    ∙ (list_all-append p (reverse xs) (x ∷ []) ∙ and_from (list_all p (reverse xs)) (p x && true) (passes_reverse p xs parts.1) (and_from (p x) true parts.0 refl))
+passes_reverse p xs all = list_all-from_AllPass p (reverse xs) (All-reverse (λ x. p x ≡ true) xs (AllPass-from_list_all p xs all))
 
 -- each line that begins at v has its way back
 ways_back_at : (events : List Event) (g : GraphData) (v : ℕ) → HasArcsOf false events g → v < order_of g → list_all (has_way_back g) (lines_at g false v) ≡ true

@@ -1,9 +1,9 @@
 -- What is known of the arcs taken of a list.
-use Rattle.std.proofs.Common.{◌≡◌, ◌+◌, ◌*◌, ◌≤◌, ◌<◌, ◌==◌, ◌⊎◌, ℕ, ℤ, min, max, Bool, true, false, ◌&&◌, cond, ltb, nat_lt, List, [], ◌∷◌, ◌++◌, map, reverse, length, refl, sym, ap, ◌∙◌, inl, inr, Option, Some, None, arith}
+use Rattle.std.proofs.Common.{◌≡◌, ◌+◌, ◌*◌, ◌≤◌, ◌<◌, ◌==◌, ℕ, ℤ, min, max, Bool, true, false, ◌&&◌, cond, ltb, nat_lt, List, [], ◌∷◌, ◌++◌, map, reverse, length, refl, sym, ap, ◌∙◌, inl, inr, Option, Some, None, arith}
 use Rattle.std.specs.Prelude.{All, filter, if◌then◌else◌}
 use Rattle.std.specs.List.{enumerate_from}
 use Rattle.std.specs.Option.{option_map_or}
-use Rattle.std.proofs.lemmas.Bool.{cases_Bool, cases_eq, cond_both, ltb-false, eq-eqb, ne_eqb, lt-ltb, le-ltb, and_right}
+use Rattle.std.proofs.lemmas.Bool.{cases_eq, cond_both, ltb-false, eq-eqb, ne_eqb, lt-ltb, le-ltb, and_right}
 use Rattle.std.proofs.lemmas.List.{append-nil, reverse-append}
 use Rattle.std.proofs.lemmas.List.Elements.{All-nil, All-cons, All-head, All-tail, All-append, All-weaker}
 use Rattle.sgb_graph.specs.Graphs.{GraphData}
@@ -65,31 +65,17 @@ taken_apart v low (l ∷ m ∷ xs) ys high below =
 one_edge : (v k a b : ℕ) (far : ℤ) → a ≤ b
     → each_edge_once v (links_at v k (record_from a b far ∷ record_from b a far ∷ [])) ≡ (if a == v then link k b far ∷ [] else [])
 unfolding each_edge_once
-one_edge v k a b far up = by_ends (cases_eq a v) (cases_eq b v)
-  where
-    by_ends : (a ≡ v) ⊎ (a ≡ v → ⊥) → (b ≡ v) ⊎ (b ≡ v → ⊥)
-        → each_edge_once v (links_at v k (record_from a b far ∷ record_from b a far ∷ [])) ≡ (if a == v then link k b far ∷ [] else [])
-    by_ends (inl low) (inl high) =
-        let is_low = eq-eqb a v low in
-        let is_high = eq-eqb b v high in
-        let up_there = le-ltb b v (omega arith) in
-        let next = eq-eqb (k + 1) (k + 1) refl in
-        simp (is_low, is_high, up_there, next)
-    by_ends (inl low) (inr not_high) =
-        let is_low = eq-eqb a v low in
-        let is_high = ne_eqb b v not_high in
-        let up_there = le-ltb b v (omega arith) in
-        simp (is_low, is_high, up_there)
-    by_ends (inr not_low) (inl high) =
-        let is_low = ne_eqb a v not_low in
-        let is_high = eq-eqb b v high in
-        let down : a < v = omega arith in
-        let down_there = lt-ltb a v down in
-        simp (is_low, is_high, down_there)
-    by_ends (inr not_low) (inr not_high) =
-        let is_low = ne_eqb a v not_low in
-        let is_high = ne_eqb b v not_high in
-        simp (is_low, is_high)
+one_edge v k a b far up =
+    elim (cases_eq a v) [
+      | inl low ↦ elim (cases_eq b v) [
+        | inl high ↦ simp (eq-eqb a v low, eq-eqb b v high, le-ltb b v (omega arith), eq-eqb (k + 1) (k + 1) refl)
+        | inr not_high ↦ simp (eq-eqb a v low, ne_eqb b v not_high, le-ltb b v (omega arith))
+      ]
+      | inr not_low ↦ elim (cases_eq b v) [
+        | inl high ↦ simp (ne_eqb a v not_low, eq-eqb b v high, lt-ltb a v (omega arith))
+        | inr not_high ↦ simp (ne_eqb a v not_low, ne_eqb b v not_high)
+      ]
+    ]
 
 -- the numbers of the links of some rows
 numbers_at : (v k : ℕ) (rows : List Record) → All (λ l. (k ≤ l.number) × (l.number < k + length rows)) (links_at v k rows)
