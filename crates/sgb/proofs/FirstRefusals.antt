@@ -1,22 +1,18 @@
 -- Refusals that come before memory is taken.
-use Rattle.std.proofs.Common.{◌≡◌, ◌≢◌, ◌∙◌, ℕ, ℤ, List, true, false, length, nat_le, Result, Ok, Err, IfErr, inl, inr, sym, ap, subst, arith}
+use Rattle.std.proofs.Common.{◌≡◌, ◌≢◌, ◌∙◌, ℕ, ℤ, List, true, false, length, nat_le, Result, Ok, Err, inl, inr, sym, ap, subst, arith}
 use Rattle.std.specs.Result.{IsErrAnd}
 use Rattle.std.proofs.lemmas.Bool.{leb-true, leb-false}
 use Rattle.std.proofs.lemmas.Result.{err_from_is_err_and}
-use Rattle.sgb_vec.specs.Results.{and_then}
 use Rattle.sgb_vec.specs.declared.panics.Panic.{Panic}
 use Rattle.sgb_vec.specs.declared.panics.Panic.TheVariants.{Early, NoRoom, Syntax}
 use Rattle.sgb_graph.specs.Graphs.{GraphData}
 use Rattle.sgb_file.specs.Restoring.{graph_of_text}
-use Rattle.sgb_gen.specs.Boards.{BoardData, accepted_board, board, board_graph}
-use Rattle.sgb_gen.specs.declared.params.BoardParams.{BoardParams}
 use Rattle.sgb_expr.specs.Expression.{Expression, Generated, Complement, Gunion, Intersection, Lines, Product, Induced, BiComplete, Wheel, Stdin, expression_of}
 use Rattle.sgb_expr.specs.declared.expressions.Expr.{Expr}
 use Rattle.sgb_expr.specs.declared.expressions.Generator.{Generator}
 use Rattle.sgb_expr.specs.declared.expressions.Generator.TheVariants as generator
 use Rattle.sgb.specs.Certain.{IsGeneratorRefused, IsInputRefused, IsRefusedFirst}
 use Rattle.sgb.specs.Values.{most_input}
-use Rattle.sgb.specs.declared.locals.Local.{Local}
 use Rattle.sgb.proofs.Refusals.{board_judged, middle_judged, parts_judged, simplex_of_judged}
 
 -- what is refused for what it is has another code than that of memory

@@ -1,5 +1,5 @@
 -- Parts of a listing, one after the other.
-use Rattle.std.proofs.Common.{◌≡◌, ◌∙◌, ◌+◌, ◌<◌, ◌≤◌, ℕ, min, List, [], ◌∷◌, ◌++◌, length, Some, drop, add-one, drop-cons, sym, ap, ap₂, append_assoc, inl, inr, arith, codes, decimal}
+use Rattle.std.proofs.Common.{◌≡◌, ◌∙◌, ◌+◌, ◌<◌, ◌≤◌, ℕ, min, List, [], ◌∷◌, ◌++◌, length, Some, drop, add-one, drop-cons, sym, ap, ap₂, append_assoc, inl, inr, arith, codes}
 use Rattle.std.specs.Fmt.{signed_decimal}
 use Rattle.std.specs.List.{flat_map, slice_get, slice_index_or}
 use Rattle.std.proofs.lemmas.Bool.{cases_lt}
@@ -9,7 +9,7 @@ use Rattle.sgb_vec.proofs.Lists.{range-first, range-none}
 use Rattle.sgb_graph.specs.declared.fields.Link.{Link}
 use Rattle.sgb_graph.specs.Graphs.{GraphData, chain_of}
 use Rattle.sgb_ops.specs.Operands.{names_of}
-use Rattle.sgb.specs.Texts.{name_line, name_lines, arc_line, block, blocks, head_text}
+use Rattle.sgb.specs.Texts.{name_line, name_lines, arc_line, block, blocks}
 
 -- a text from a place on, of which nothing is left from n on: from n on as from any place behind it
 min-none : (f : ℕ → List ℕ) (n k : ℕ) → ((v : ℕ) → n ≤ v → f v ≡ []) → f (min k n) ≡ f k

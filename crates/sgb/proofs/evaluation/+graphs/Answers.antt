@@ -19,9 +19,8 @@ use Rattle.sgb_ops.specs.Lines.{line_graph_of}
 use Rattle.sgb_ops.specs.Product.{product_graph_of}
 use Rattle.sgb_ops.specs.BiComplete.{accepted_parts, bi_complete_of}
 use Rattle.sgb_ops.specs.Wheel.{accepted_middle, wheel_of}
-use Rattle.sgb.specs.Certain.{IsRefusedFirst}
 use Rattle.sgb_vec.specs.Results.{IsValue}
-use Rattle.sgb.specs.Values.{both, made, value_of, values_of}
+use Rattle.sgb.specs.Values.{made, value_of, values_of}
 use Rattle.sgb.specs.inner.EntryValues.{handed_entry}
 use Rattle.sgb.specs.inner.Inputs.{left_after}
 use Rattle.sgb.proofs.EntryValues.{and_values, entries_made, entries_refused, induced_reads, induced_size, induced_value, one_more}

@@ -1,4 +1,4 @@
-use Rattle.std.proofs.Common.{◌≡◌, ◌∙◌, ◌++◌, List, ℕ, codes, length, length-append, pos, sym, ap, arith}
+use Rattle.std.proofs.Common.{◌≡◌, ◌∙◌, ◌++◌, List, ℕ, codes, pos, sym, ap}
 use Rattle.sgb_vec.specs.Names.{name_of_vector}
 use Rattle.sgb.specs.inner.Locals.{local_line}
 use Rattle.sgb.proofs.LocalListings.{line-parts}

@@ -1,4 +1,4 @@
-use Rattle.std.proofs.Common.{◌≡◌, ◌∙◌, ◌++◌, List, ℕ, [], ◌∷◌, decimal, ap, append_assoc, arith}
+use Rattle.std.proofs.Common.{◌≡◌, ◌∙◌, ◌++◌, List, ℕ, [], ◌∷◌, decimal, ap, append_assoc}
 use Rattle.sgb.specs.FlipAnswers.{number_line}
 use Rattle.sgb.proofs.CutOff.{exit_write}
 use Rattle.sgb.proofs.Pages.{exit_untaken, held_line}

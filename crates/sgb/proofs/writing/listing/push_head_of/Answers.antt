@@ -1,4 +1,4 @@
-use Rattle.std.proofs.Common.{◌≡◌, ◌++◌, List, ℕ, codes, decimal, append_assoc}
+use Rattle.std.proofs.Common.{◌≡◌, ◌++◌, codes, decimal, append_assoc}
 use Rattle.sgb.specs.Texts.{head_text}
 use Rattle.sgb.proofs.writing.listing.push_head_of.Goals as goal
 
