@@ -2,7 +2,7 @@
 use Rattle.std.proofs.Common.{◌≡◌, ◌<◌, ◌+◌, ◌-◌, ◌==◌, ℕ, min, ℤ, Bool, true, false, not, List, [], ◌∷◌, ◌++◌, map, take, length, Option, Some, None, refl, sym, ap, subst, ◌∙◌, append_assoc, inl, inr, arith}
 use Rattle.std.specs.Prelude.{All, flat_map, nat_lt, if◌then◌else◌}
 use Rattle.std.specs.List.{enumerate_from}
-use Rattle.std.proofs.lemmas.Bool.{cases_eq, cond_both, eq-eqb, ne_eqb, ltb-true}
+use Rattle.std.proofs.lemmas.Bool.{cases_Bool, cond_both, ne_eqb, ltb-true}
 use Rattle.std.proofs.lemmas.Bool.Decides.{nat_tests}
 use Rattle.std.proofs.lemmas.List.{length-append, take_at}
 use Rattle.std.proofs.lemmas.List.Elements.{All-nil, All-cons, All-append}
@@ -20,7 +20,7 @@ use Rattle.sgb_ops.specs.inner.Tallies.{tally_of, tally_to, without_one, second_
 use Rattle.sgb_ops.specs.declared.tallies.Tally.{Tally}
 use Rattle.sgb_ops.proofs.EventsWithin.{TipBelow, taken_tips, events_after_within}
 use Rattle.sgb_ops.proofs.PlainLists.{places_from}
-use Rattle.sgb_ops.proofs.TallyLemmas.{arcs_to, count_more_here, count_more_elsewhere, count_at, tip_counted}
+use Rattle.sgb_ops.proofs.TallyLemmas.{arcs_to, count_more, count_at, tip_counted}
 
 -- the events for arcs of hs that stand after others
 abbrev pub commons_after : Bool → ℕ → List Link → List Link → List Link → List Link → List Event
@@ -75,13 +75,9 @@ one_met false met (Some t) = rw (ne_eqb (met + 1) 0 (λ e. absurd (omega (arith,
 
 pub left_more : (multi : Bool) (u : ℕ) (gs before : List Link) (l : Link)
     → (if l.tip == u then without_one multi (left_after multi u gs before) else left_after multi u gs before) ≡ left_after multi u gs (before ++ l ∷ [])
-left_more multi u gs before l = elim (cases_eq l.tip u) [
-  | inl here ↦
-      let same = eq-eqb l.tip u here in
-      rw same (sym (ap (λ k. tally_left multi k (tally_to u gs)) (count_more_here u before l here) ∙ one_met multi (count_to u before) (tally_to u gs)))
-  | inr other ↦
-      let apart = ne_eqb l.tip u other in
-      rw apart (sym (ap (λ k. tally_left multi k (tally_to u gs)) (count_more_elsewhere u before l other)))
+left_more multi u gs before l = elim (cases_Bool (l.tip == u)) [
+  | inl here ↦ rw (here, count_more u before l true here) (sym (one_met multi (count_to u before) (tally_to u gs)))
+  | inr other ↦ rw (other, count_more u before l false other) refl
 ]
 
 -- how many there are in the end, by how many the two graphs have

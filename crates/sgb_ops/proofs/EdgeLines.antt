@@ -1,15 +1,15 @@
 -- The lines of a graph of edges: one for each edge, and each has its way back.
-use Rattle.std.proofs.Common.{◌≡◌, ◌≢◌, ◌+◌, ◌*◌, ◌/◌, ◌≤◌, ◌<◌, ◌==◌, ℕ, zero, suc, min, Bool, true, false, not, cond, nat_lt, List, [], ◌∷◌, map, reverse, length, refl, sym, ap, ◌∙◌, Some, None, arith}
+use Rattle.std.proofs.Common.{◌≡◌, ◌≢◌, ◌+◌, ◌*◌, ◌/◌, ◌≤◌, ◌<◌, ◌==◌, ℕ, zero, suc, min, Bool, true, false, not, cond, nat_lt, List, [], ◌∷◌, map, reverse, length, get_or, refl, sym, ap, ◌∙◌, Some, None, arith}
 use Rattle.std.specs.Prelude.{All, Ok, Err, filter, slice_get, if◌then◌else◌}
-use Rattle.std.specs.List.{enumerate_from, list_all}
+use Rattle.std.specs.List.{enumerate_from, list_all, range_with_len}
 use Rattle.std.specs.Option.{option_map, option_map_or}
 use Rattle.std.proofs.lemmas.Bool.{and_from, cond_both, eq-eqb, lt-ltb, le-ltb}
 use Rattle.std.proofs.lemmas.Bool.Decides.{nat_tests}
 use Rattle.std.proofs.lemmas.List.{length-append, length-map, length-reverse}
 use Rattle.std.proofs.lemmas.List.Elements.{All-head, All-tail}
 use Rattle.std.proofs.lemmas.List.Sums.{AllPass-from_list_all, list_all-from_AllPass}
-use Rattle.sgb_vec.proofs.Lists.{All-reverse}
-use Rattle.std.proofs.lemmas.List.Folds.{list_all-append, list_all-map}
+use Rattle.sgb_vec.proofs.Lists.{All-flat_map, All-reverse}
+use Rattle.std.proofs.lemmas.List.Folds.{list_all-map}
 use Rattle.std.proofs.lemmas.Option.{slice_get-map}
 use Rattle.sgb_vec.specs.Limits.{most_vertices}
 use Rattle.sgb_vec.specs.Results.{and_then}
@@ -25,7 +25,7 @@ use Rattle.sgb_ops.specs.Lines.{has_way_back, is_of_edges, line_graph_of, line_o
 use Rattle.sgb_ops.specs.Operands.{order_of}
 use Rattle.sgb_ops.specs.Taken.{edges_up_from, lower_record, taken}
 use Rattle.sgb_ops.specs.declared.line_graphs.Line.{Line}
-use Rattle.sgb_ops.proofs.LineEvents.{lines_at, lines_below, lines_below-more}
+use Rattle.sgb_ops.proofs.LineEvents.{lines_at, lines_below, lines_below-more, vertices_down}
 use Rattle.sgb_ops.proofs.Taking.{taken_of_edges}
 
 -- the edges whose smaller end is below k
@@ -145,15 +145,14 @@ ways_back_at events g v has below =
     ∙ (ap (list_all back) (taken_of_edges events g v has below)
     ∙ passes_reverse back (map lower_record edges) (list_all-map back lower_record edges ∙ ways_back_from g v 0 events same))
 
--- so has each that begins below k
-ways_back_below : (events : List Event) (g : GraphData) (k : ℕ) → HasArcsOf false events g → k ≤ order_of g → list_all (has_way_back g) (lines_below g false k) ≡ true
-ways_back_below events g zero has few = refl
-ways_back_below events g (suc k) has few =
-    let next : suc k ≡ k + 1 = omega arith in
-    let here = ways_back_at events g k has (omega (arith, few)) in
-    let below = ways_back_below events g k has (omega (arith, few)) in
-    ap (list_all (has_way_back g)) (ap (lines_below g false) next ∙ lines_below-more g false k)
-    ∙ (list_all-append (has_way_back g) (lines_at g false k) (lines_below g false k) ∙ and_from _ _ here below)
+-- so has each line
+ways_back : (events : List Event) (g : GraphData) → HasArcsOf false events g → list_all (has_way_back g) (lines_of_graph g false) ≡ true
+ways_back events g has =
+    list_all-from_AllPass (has_way_back g) (lines_of_graph g false)
+    (All-flat_map (λ l. has_way_back g l ≡ true) (lines_at g false) (reverse (range_with_len 0 (order_of g)))
+    (λ k d h.
+    let v = get_or (reverse (range_with_len 0 (order_of g))) k d in
+    AllPass-from_list_all (has_way_back g) (lines_at g false v) (ways_back_at events g v has (vertices_down (order_of g) k d h))))
 
 -- a graph that is one of edges is not refused for that
 not_refused : (g : GraphData) (lines : List Line) (edges : Bool) (make : List Line → Description) → edges ≡ true
@@ -167,7 +166,7 @@ pub edges_are_lines : (events : List Event) (g : GraphData) → HasArcsOf false 
     → (is_of_edges g (lines_of_graph g false) ≡ true) × (line_graph_of g false ≢ Err Invalid)
 edges_are_lines events g has =
     let lines = lines_of_graph g false in
-    let ways = ways_back_below events g (order_of g) has (omega arith) in
+    let ways = ways_back events g has in
     let count = half_of_arcs events g has in
     let both : is_of_edges g lines ≡ true = and_from (list_all (has_way_back g) lines) (length lines == g.m / 2) ways (eq-eqb (length lines) (g.m / 2) count) in
     (both, not_refused g lines (is_of_edges g lines) _ both)

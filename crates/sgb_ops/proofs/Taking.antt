@@ -17,18 +17,23 @@ use Rattle.sgb_ops.specs.inner.TakenArcs.{IsStep, taken_after, without_other}
 abbrev leads_up : ℕ → Link → Type 0
 leads_up v l = v ≤ l.tip
 
--- the arcs taken lead up
-pub each_edge_once_leads_up : (v : ℕ) (links : List Link) → All (leads_up v) (each_edge_once v links)
+-- what holds of each arc that leads up holds of those taken
+pub all_once : (P : Link → Type 0) (v : ℕ) (links : List Link) → All (λ l. v ≤ l.tip → P l) links → All P (each_edge_once v links)
 unfolding each_edge_once
-each_edge_once_leads_up v [] = All-nil (leads_up v)
-each_edge_once_leads_up v (l ∷ []) =
-    cond_both (ltb l.tip v) [] (l ∷ []) (All (leads_up v)) (λ _. All-nil (leads_up v)) (λ e. All-cons (leads_up v) l [] (ltb-false l.tip v e) (All-nil (leads_up v)))
-each_edge_once_leads_up v (l ∷ k ∷ links) =
-    let next = each_edge_once_leads_up v (k ∷ links) in
-    let later = each_edge_once_leads_up v links in
+all_once P v [] all = All-nil P
+all_once P v (l ∷ []) all =
+    cond_both (ltb l.tip v) [] (l ∷ []) (All P) (λ _. All-nil P) (λ e. All-cons P l [] (All-head (λ m. v ≤ m.tip → P m) l [] all (ltb-false l.tip v e)) (All-nil P))
+all_once P v (l ∷ k ∷ links) all =
+    let after = All-tail (λ m. v ≤ m.tip → P m) l (k ∷ links) all in
+    let next = all_once P v (k ∷ links) after in
+    let later = all_once P v links (All-tail (λ m. v ≤ m.tip → P m) k links after) in
     let rest = if is_loop_with v l k then each_edge_once v links else each_edge_once v (k ∷ links) in
-    cond_both (ltb l.tip v) (each_edge_once v (k ∷ links)) (l ∷ rest) (All (leads_up v)) (λ _. next)
-    (λ e. All-cons (leads_up v) l rest (ltb-false l.tip v e) (cond_both (is_loop_with v l k) (each_edge_once v links) (each_edge_once v (k ∷ links)) (All (leads_up v)) (λ _. later) (λ _. next)))
+    cond_both (ltb l.tip v) (each_edge_once v (k ∷ links)) (l ∷ rest) (All P) (λ _. next)
+    (λ e. All-cons P l rest (All-head (λ m. v ≤ m.tip → P m) l (k ∷ links) all (ltb-false l.tip v e)) (cond_both (is_loop_with v l k) (each_edge_once v links) (each_edge_once v (k ∷ links)) (All P) (λ _. later) (λ _. next)))
+
+-- they lead up
+pub each_edge_once_leads_up : (v : ℕ) (links : List Link) → All (leads_up v) (each_edge_once v links)
+each_edge_once_leads_up v links = all_once (leads_up v) v links (λ k d h up. up)
 
 -- a list of arcs cut in two where no number is followed by the next: what is taken of each part
 apart_at : (v : ℕ) (skip loop : Bool) (l : Link) (one two three four rest : List Link) → one ≡ two ++ rest → three ≡ four ++ rest

@@ -34,15 +34,10 @@ arcs_to_more : (u : ℕ) (links : List Link) (l : Link) (b : Bool) → (l.tip ==
 arcs_to_more u links l b is =
     filter-append (λ x. x.tip == u) links (l ∷ []) ∙ ap (λ c. arcs_to u links ++ cond c (l ∷ []) []) is
 
--- to u itself
-pub tally_more_here : (u : ℕ) (links : List Link) (l : Link) → l.tip ≡ u → tally_to u (links ++ l ∷ []) ≡ Some (one_more l.len (tally_to u links))
-tally_more_here u links l here =
-    ap tally_of (arcs_to_more u links l true (eq-eqb l.tip u here)) ∙ tally_of_more (arcs_to u links) l
-
--- or to another vertex
-pub tally_more_elsewhere : (u : ℕ) (links : List Link) (l : Link) → (l.tip ≡ u → ⊥) → tally_to u (links ++ l ∷ []) ≡ tally_to u links
-tally_more_elsewhere u links l other =
-    ap tally_of (arcs_to_more u links l false (ne_eqb l.tip u other) ∙ append-nil (arcs_to u links))
+-- to u itself, or to another vertex
+tally_more : (u : ℕ) (links : List Link) (l : Link) (b : Bool) → (l.tip == u) ≡ b → tally_to u (links ++ l ∷ []) ≡ (if b then Some (one_more l.len (tally_to u links)) else tally_to u links)
+tally_more u links l true is = ap tally_of (arcs_to_more u links l true is) ∙ tally_of_more (arcs_to u links) l
+tally_more u links l false is = ap tally_of (arcs_to_more u links l false is ∙ append-nil (arcs_to u links))
 
 -- what stands in a map with one arc more
 pub noted_more : (u : ℕ) (links : List Link) (l : Link) (old now : Option Tally) → old ≡ tally_to l.tip links → now ≡ tally_to u links
@@ -51,24 +46,20 @@ noted_more u links l old now was is = elim (cases_eq l.tip u) [
   | inl here ↦
       let same = eq-eqb l.tip u here in
       let before : old ≡ tally_to u links = was ∙ ap (λ k. tally_to k links) here in
-      rw (same, before) (sym (tally_more_here u links l here))
+      rw (same, before) (sym (tally_more u links l true same))
   | inr other ↦
       let apart = ne_eqb l.tip u other in
-      rw apart (is ∙ sym (tally_more_elsewhere u links l other))
+      rw apart (is ∙ sym (tally_more u links l false apart))
 ]
 
--- how many arcs to u there are, one more arc later
-pub count_more_here : (u : ℕ) (links : List Link) (l : Link) → l.tip ≡ u → count_to u (links ++ l ∷ []) ≡ count_to u links + 1
-count_more_here u links l here =
-    let test = λ (x : Link). x.tip == u in
-    let more = arcs_to_more u links l true (eq-eqb l.tip u here) in
-    omega (arith, length-filter test (links ++ l ∷ []), length-filter test links, ap length more, length-append (arcs_to u links) (l ∷ []))
+-- how many arcs to u there are
+counted : (u : ℕ) (links : List Link) → count_to u links ≡ length (arcs_to u links)
+counted u links = sym (length-filter (λ (x : Link). x.tip == u) links)
 
-pub count_more_elsewhere : (u : ℕ) (links : List Link) (l : Link) → (l.tip ≡ u → ⊥) → count_to u (links ++ l ∷ []) ≡ count_to u links
-count_more_elsewhere u links l other =
-    let test = λ (x : Link). x.tip == u in
-    let more = arcs_to_more u links l false (ne_eqb l.tip u other) ∙ append-nil (arcs_to u links) in
-    omega (arith, length-filter test (links ++ l ∷ []), length-filter test links, ap length more)
+-- one more arc later
+pub count_more : (u : ℕ) (links : List Link) (l : Link) (b : Bool) → (l.tip == u) ≡ b → count_to u (links ++ l ∷ []) ≡ (if b then count_to u links + 1 else count_to u links)
+count_more u links l true is = omega (arith, counted u (links ++ l ∷ []), counted u links, ap length (arcs_to_more u links l true is), length-append (arcs_to u links) (l ∷ []))
+count_more u links l false is = omega (arith, counted u (links ++ l ∷ []), counted u links, ap length (arcs_to_more u links l false is ∙ append-nil (arcs_to u links)))
 
 -- an arc that stands after others is not among them
 pub count_at : (u : ℕ) (before links : List Link) (l : Link) → l.tip ≡ u → count_to u before < count_to u (before ++ l ∷ links)
