@@ -1,7 +1,7 @@
 -- A walk through the names of all vertices.
 use Rattle.std.proofs.Common.{◌≡◌, ℕ, ◌+◌, ◌<◌, ◌≤◌, List, [], ◌∷◌, ◌++◌, length, map, drop, get_or, refl, ap, arith}
 use Rattle.std.specs.List.{flat_map}
-use Rattle.std.proofs.lemmas.List.{at_drop_more, drop_all, length-append, length-map}
+use Rattle.std.proofs.lemmas.List.{at_drop_more, drop_all, length-map}
 use Rattle.sgb_graph.specs.Graphs.{GraphData}
 use Rattle.sgb_arrays.specs.Lists.{names_of, starts_from}
 use Rattle.sgb_arrays.specs.Names.{name_bytes, name_starts}
