@@ -8,7 +8,7 @@ use Rattle.std.proofs.lemmas.Bool.Decides.{nat_tests}
 use Rattle.std.proofs.lemmas.List.{length-append, length-map, length-reverse}
 use Rattle.std.proofs.lemmas.List.Elements.{All-head, All-tail}
 use Rattle.std.proofs.lemmas.List.Sums.{AllPass-from_list_all, list_all-from_AllPass}
-use Rattle.sgb_vec.proofs.Lists.{All-flat_map, All-reverse}
+use Rattle.sgb_vec.proofs.Lists.{All-flat_map, All-reverse, filter-all, filter-none}
 use Rattle.std.proofs.lemmas.List.Folds.{list_all-map}
 use Rattle.std.proofs.lemmas.Option.{slice_get-map}
 use Rattle.sgb_vec.specs.Limits.{most_vertices}
@@ -53,16 +53,11 @@ edges_more k i (e ∷ events) =
 
 -- no edge has a smaller end below 0
 edges_below_none : (events : List Event) → length (edges_below 0 events) ≡ 0
-edges_below_none [] = refl
-edges_below_none (e ∷ events) = rw (le-ltb (min e.from e.to) 0 (omega arith)) (edges_below_none events)
+edges_below_none events = ap length (filter-none (λ (e : Event). nat_lt (min e.from e.to) 0) events (λ k d h. le-ltb _ 0 (omega arith)))
 
 -- all edges have a smaller end that is a vertex
 edges_below_all : (n : ℕ) (events : List Event) → All (HasEndsBelow n) events → length (edges_below n events) ≡ length events
-edges_below_all n [] within = refl
-edges_below_all n (e ∷ events) within =
-    let ends = All-head (HasEndsBelow n) e events within in
-    let low : min e.from e.to < n = omega (arith, ends.0) in
-    rw (lt-ltb (min e.from e.to) n low) (ap suc (edges_below_all n events (All-tail (HasEndsBelow n) e events within)))
+edges_below_all n events within = ap length (filter-all (λ (e : Event). nat_lt (min e.from e.to) n) events (λ k d h. lt-ltb _ n (omega (arith, (within k d h).0))))
 
 -- each edge has two records
 two_each : (events : List Event) → length (all_records false events) ≡ 2 * length events

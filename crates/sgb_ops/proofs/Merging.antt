@@ -1,5 +1,5 @@
 -- What is known of merged events.
-use Rattle.std.proofs.Common.{◌≡◌, ◌+◌, ◌⊎◌, ◌≤ℤ◌, ℕ, ℤ, pos, Bool, true, false, not, ◌||◌, List, [], ◌∷◌, ◌++◌, map, take, length, fold, refl, sym, ap, ◌∙◌, subst, inl, inr, arith}
+use Rattle.std.proofs.Common.{◌≡◌, ◌+◌, ◌⊎◌, ◌≤ℤ◌, ℕ, ℤ, pos, Bool, true, false, not, ◌||◌, List, [], ◌∷◌, ◌++◌, map, take, length, get_or, fold, refl, sym, ap, ◌∙◌, subst, inl, inr, arith}
 use Rattle.std.specs.Prelude.{All, AllPairs, Contains, filter, flat_map, if◌then◌else◌}
 use Rattle.std.specs.List.{list_any, enumerate_from}
 use Rattle.std.proofs.lemmas.Bool.{cases_Bool, not-true, not_from_false}
@@ -7,7 +7,7 @@ use Rattle.std.proofs.lemmas.Int.{fold-int_min_bounds, fold-int_min_reached}
 use Rattle.std.proofs.lemmas.List.{append_assoc, length-append, take_at}
 use Rattle.std.proofs.lemmas.List.Elements.{All-nil, All-cons, All-head, All-tail, All-contains, All-filter, All-contains_itself, filter_passes, filter-append}
 use Rattle.std.proofs.lemmas.List.Kept.{AllPairs-filter, AllPairs-cons}
-use Rattle.sgb_vec.proofs.Lists.{Contains-first, Contains-other, Contains-none, Contains-cases, Contains-passing}
+use Rattle.sgb_vec.proofs.Lists.{Contains-first, Contains-other, Contains-none, Contains-cases, Contains-image, Contains-passing}
 use Rattle.sgb_graph.specs.Events.{Event}
 use Rattle.sgb_ops.specs.Lengths.{lesser}
 use Rattle.sgb_ops.specs.Merged.{has_ends_of, with_least_length, merged, ends_of, first_ones, IsShortest}
@@ -48,15 +48,10 @@ made_of f (a ∷ xs) y has = by_place (Contains-cases (f a) y (map f xs) has) (m
 
 -- a fact on what is made of the elements that pass a test
 below_kept : (p : Event → Bool) (r : ℤ) (events : List Event) → All (λ x. r ≤ℤ x) (map (λ (f : Event). f.len) (filter p events)) → All (λ f. p f ≡ true → r ≤ℤ f.len) events
-below_kept p r [] all = All-nil (λ (f : Event). p f ≡ true → r ≤ℤ f.len)
-below_kept p r (e ∷ events) all = elim (cases_Bool (p e)) [
-  | inl kept ↦
-      let seen = rw kept at all in
-      All-cons (λ (f : Event). p f ≡ true → r ≤ℤ f.len) e events (λ h. All-head (λ x. r ≤ℤ x) e.len _ seen) (below_kept p r events (All-tail (λ x. r ≤ℤ x) e.len _ seen))
-  | inr out ↦
-      let seen = rw out at all in
-      All-cons (λ (f : Event). p f ≡ true → r ≤ℤ f.len) e events (λ h. absurd cc) (below_kept p r events seen)
-]
+below_kept p r events all = λ k d h kept.
+    let x = get_or events k d in
+    All-contains (λ y. r ≤ℤ y) (map (λ (f : Event). f.len) (filter p events)) x.len all
+    (Contains-image (λ (f : Event). f.len) (filter p events) x (Contains-passing p events x kept (All-contains_itself events k d h)))
 
 -- the first of merged events is as short as the shortest with its ends
 first_is_shortest : (directed : Bool) (e : Event) (events : List Event) → IsShortest directed (e ∷ events) (with_least_length directed e events)

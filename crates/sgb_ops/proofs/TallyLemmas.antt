@@ -81,12 +81,6 @@ few_to u links =
 -- a vertex that some of the arcs lead to is below n where they all lead below n
 pub tip_counted : (n u : ℕ) (links : List Link) → All (TipBelow n) links → 0 < count_to u links → u < n
 tip_counted n u links all some =
-    by_arcs (arcs_to u links) (length-filter test links) (All-filter test (TipBelow n) links all) (filter_passes test links)
-  where
-    test : Link → Bool
-    test x = x.tip == u
-
-    by_arcs : (xs : List Link) → length xs ≡ count_to u links → All (TipBelow n) xs → All (λ x. test x ≡ true) xs → u < n
-    by_arcs [] many below there = absurd (omega (arith, some, many))
-    by_arcs (x ∷ xs) many below there =
-        omega (arith, All-head (TipBelow n) x xs below, eqb-true x.tip u (All-head (λ y. test y ≡ true) x xs there))
+    let within : 0 < length (arcs_to u links) = omega (arith, some, counted u links) in
+    let there = filter_passes (λ (x : Link). x.tip == u) links 0 no_arc within in
+    omega (arith, All-filter (λ (x : Link). x.tip == u) (TipBelow n) links all 0 no_arc within, eqb-true _ u there)
