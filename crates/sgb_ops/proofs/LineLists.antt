@@ -2,7 +2,7 @@
 use Rattle.std.proofs.Common.{◌≡◌, ◌≢◌, ◌<◌, ◌≤◌, ◌+◌, ◌==◌, ℕ, zero, suc, pos, Bool, true, false, not, ◌&&◌, ◌||◌, cond, List, [], ◌∷◌, ◌++◌, map, take, reverse, length, set, get_or, Vec, Global, append-nil, refl, sym, ap, subst, ◌∙◌, inl, inr, arith}
 use Rattle.std.specs.Prelude.{All, filter, if◌then◌else◌, slice_index_or, slice_set}
 use Rattle.std.specs.List.{enumerate_from, range_with_len}
-use Rattle.std.proofs.lemmas.Bool.{cases_eq, eq-eqb, ne_eqb}
+use Rattle.std.proofs.lemmas.Bool.{cases_Bool, cases_eq, eq-eqb, ne_eqb}
 use Rattle.std.proofs.lemmas.List.{map-append, take_more, length-take-le, get_or-take, get_or_default, get_or-set_same, get_or-set_other, map-set, length-map, get_or-map}
 use Rattle.std.proofs.lemmas.List.Elements.{All-nil, All-cons, All-head, All-tail, All-map, All-filter, All-weaker}
 use Rattle.std.proofs.lemmas.List.FromFn.{length-enumerate_from, get_or-enumerate_from}
@@ -43,14 +43,9 @@ kept r pass test [] same = refl
 kept r pass test (q ∷ qs) same =
     let next = kept r pass test qs (All-tail (λ (p : ℕ × Line). test p.0 ≡ pass p.1) q qs same) in
     let here : test q.0 ≡ pass q.1 = All-head (λ (p : ℕ × Line). test p.0 ≡ pass p.1) q qs same in
-    let rest = filter (λ p. r p.1) qs in
-    let left = filter (λ p. r p.1 && pass p.1) qs in
-    elim (r q.1) as (λ b. filter test (map (λ p. p.0) (cond b (q ∷ rest) rest)) ≡ map (λ p. p.0) (cond (b && pass q.1) (q ∷ left) left)) [
-      | true ↦ rw here (elim (pass q.1) as (λ c. cond c (q.0 ∷ filter test (map (λ p. p.0) rest)) (filter test (map (λ p. p.0) rest)) ≡ map (λ p. p.0) (cond c (q ∷ left) left)) [
-        | true ↦ ap (λ (ks : List ℕ). q.0 ∷ ks) next
-        | false ↦ next
-      ])
-      | false ↦ next
+    elim (cases_Bool (r q.1)) [
+      | inl e ↦ elim (cases_Bool (pass q.1)) [ inl f ↦ rw (e, here, f) (ap (λ (ks : List ℕ). q.0 ∷ ks) next) | inr f ↦ rw (e, here, f) next ]
+      | inr e ↦ rw e next
     ]
 
 -- a line is found by its number

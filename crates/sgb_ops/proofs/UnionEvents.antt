@@ -42,11 +42,7 @@ module _ (g h : GraphData) (directed : Bool) (v : ℕ) (kept : IsKept g) (below 
   of_both none old new has empty first second =
       let own = all_lead_below (order_of g) (taken directed g v) (taken_tips directed g v kept below) in
       let there = lt-ltb v (order_of h) has in
-      let seconds = leading_below (order_of g) (taken directed h v) in
-      second
-      ∙ (ap (λ es. es ++ map (event_of v) seconds) (first ∙ (ap (λ es. es ++ map (event_of v) (leading_below (order_of g) (taken directed g v))) empty ∙ ap (map (event_of v)) own))
-      ∙ (sym (map-append (event_of v) (taken directed g v) seconds)
-      ∙ ap (λ b. map (event_of v) (taken directed g v ++ (if b then seconds else []))) (sym there)))
+      rw (second, first, empty, own, there) (sym (map-append (event_of v) (taken directed g v) (leading_below (order_of g) (taken directed h v))))
 
   -- one that the second graph has not
   pub of_first : (none new : List Event) → order_of h ≤ v → none ≡ []
@@ -55,10 +51,7 @@ module _ (g h : GraphData) (directed : Bool) (v : ℕ) (kept : IsKept g) (below 
   of_first none new past empty first =
       let own = all_lead_below (order_of g) (taken directed g v) (taken_tips directed g v kept below) in
       let not_there = le-ltb v (order_of h) past in
-      first
-      ∙ (ap (λ es. es ++ map (event_of v) (leading_below (order_of g) (taken directed g v))) empty
-      ∙ (ap (map (event_of v)) (own ∙ sym (append-nil (taken directed g v)))
-      ∙ ap (λ b. map (event_of v) (taken directed g v ++ (if b then leading_below (order_of g) (taken directed h v) else []))) (sym not_there)))
+      rw (first, empty, own, not_there) (ap (map (event_of v)) (sym (append-nil (taken directed g v))))
 
   -- its arcs lead to vertices of the first graph
   arcs_lead_below : All (TipBelow (order_of g)) (union_arcs g h directed v)
