@@ -133,6 +133,4 @@ run_events top lines i line first end descend begins ends =
     let w = line.to in
     let start : first ≡ 0 + begin_from (w + 1) lines = omega (arith, begins) in
     let count : end - first ≡ begin_at w lines = omega (arith, begins, ends, two_parts w lines) in
-    ap (events_to_numbers i)
-    (ap (λ (n : ℕ). range_with_len first n) count ∙ (ap (λ (k : ℕ). range_with_len k (begin_at w lines)) start ∙ sym (run w top 0 lines descend)))
-    ∙ events_of_places i (filter (λ q. q.1.from == w) (enumerate_from 0 lines))
+    rw (count, start, ← run w top 0 lines descend) (events_of_places i (filter (λ q. q.1.from == w) (enumerate_from 0 lines)))

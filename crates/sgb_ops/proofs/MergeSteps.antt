@@ -1,5 +1,5 @@
 -- Events that are merged one by one.
-use Rattle.std.proofs.Common.{◌≡◌, ℕ, suc, ℤ, Bool, true, false, not, List, [], ◌∷◌, ◌++◌, map, set, get_or, fold, append-nil, refl, sym, ap, ◌∙◌, inl, inr, arith}
+use Rattle.std.proofs.Common.{◌≡◌, ℕ, suc, ℤ, Bool, true, false, not, List, [], ◌∷◌, ◌++◌, map, set, get_or, append-nil, refl, sym, ◌∙◌, inl, inr, arith}
 use Rattle.std.specs.Prelude.{filter}
 use Rattle.std.specs.List.{list_any, position_or_len}
 use Rattle.std.proofs.lemmas.Bool.{cases_Bool, or_parts}
@@ -24,18 +24,13 @@ lengths_like directed a events = map (λ f. f.len) (filter (has_ends_of directed
 longer : (directed : Bool) (a e : Event) (events : List Event) → has_ends_of directed a e ≡ true → with_least_length directed a (events ++ e ∷ []) ≡ shortened (with_least_length directed a events) e
 longer directed a e events same =
     let like = has_ends_of directed a in
-    let last : filter like (e ∷ []) ≡ e ∷ [] = rw same refl in
-    let lengths : lengths_like directed a (events ++ e ∷ []) ≡ lengths_like directed a events ++ e.len ∷ [] =
-    ap (map (λ f. f.len)) (filter-append like events (e ∷ []) ∙ ap (λ xs. filter like events ++ xs) last) ∙ map_push (λ f. f.len) (filter like events) e in
-    ap (λ (far : ℤ). record a { len = far }) (ap (fold lesser a.len) lengths ∙ fold-append lesser a.len (lengths_like directed a events) (e.len ∷ []))
+    rw (filter-append like events (e ∷ []), same, map_push (λ f. f.len) (filter like events) e, fold-append lesser a.len (lengths_like directed a events) (e.len ∷ [])) refl
 
 -- or one of others
 as_long : (directed : Bool) (a e : Event) (events : List Event) → has_ends_of directed a e ≡ false → with_least_length directed a (events ++ e ∷ []) ≡ with_least_length directed a events
 as_long directed a e events other =
     let like = has_ends_of directed a in
-    let last : filter like (e ∷ []) ≡ [] = rw other refl in
-    let kept : filter like (events ++ e ∷ []) ≡ filter like events = filter-append like events (e ∷ []) ∙ (ap (λ xs. filter like events ++ xs) last ∙ append-nil (filter like events)) in
-    ap (λ fs. record a { len = fold lesser a.len (map (λ f. f.len) fs) }) kept
+    rw (filter-append like events (e ∷ []), other, append-nil (filter like events)) refl
 
 -- of the events without those that have the ends of a: one more that has them changes nothing
 same_others : (directed : Bool) (a e : Event) (events : List Event) → has_ends_of directed a e ≡ true → filter (is_other directed a) (with_event directed events e) ≡ filter (is_other directed a) events

@@ -164,23 +164,15 @@ one_taken v l (k ∷ links) = by_test (l.tip == v)
 
 -- an arc to a vertex before v is passed over
 pub step_down : (v : ℕ) (after_loop : Option ℕ) (l : Link) → is_other after_loop l.number ≡ false → l.tip < v → IsStep false v after_loop l false None
-step_down v after_loop l out down = λ links.
-    let before = lt-ltb l.tip v down in
-    ap (each_edge_once v) (kept_after after_loop l links out) ∙ (one_taken v l links ∙ rw before refl)
+step_down v after_loop l out down = λ links. rw (kept_after after_loop l links out, one_taken v l links, lt-ltb l.tip v down) refl
 
 -- of a loop the first record is taken
 pub step_loop : (v : ℕ) (after_loop : Option ℕ) (l : Link) → is_other after_loop l.number ≡ false → l.tip ≡ v → IsStep false v after_loop l true (Some l.number)
-step_loop v after_loop l out here = λ links.
-    let up = le-ltb l.tip v (omega arith) in
-    let loop = eq-eqb l.tip v here in
-    ap (each_edge_once v) (kept_after after_loop l links out) ∙ (one_taken v l links ∙ rw (up, loop) refl)
+step_loop v after_loop l out here = λ links. rw (kept_after after_loop l links out, one_taken v l links, le-ltb l.tip v (omega arith), eq-eqb l.tip v here) refl
 
 -- an arc to a vertex after v is taken
 pub step_up : (v : ℕ) (after_loop : Option ℕ) (l : Link) → is_other after_loop l.number ≡ false → v ≤ l.tip → (l.tip ≡ v → ⊥) → IsStep false v after_loop l true None
-step_up v after_loop l out up other = λ links.
-    let not_down = le-ltb l.tip v up in
-    let no_loop = ne_eqb l.tip v other in
-    ap (each_edge_once v) (kept_after after_loop l links out) ∙ (one_taken v l links ∙ rw (not_down, no_loop) refl)
+step_up v after_loop l out up other = λ links. rw (kept_after after_loop l links out, one_taken v l links, le-ltb l.tip v up, ne_eqb l.tip v other) refl
 
 -- of no arcs none is taken
 pub none_taken : (directed : Bool) (v : ℕ) (after_loop : Option ℕ) → taken_after directed v after_loop [] ≡ []
