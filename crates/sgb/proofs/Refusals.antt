@@ -12,8 +12,8 @@ use Rattle.sgb_vec.specs.declared.panics.Panic.{Panic}
 use Rattle.sgb_vec.specs.declared.panics.Panic.TheVariants.{Bad, Invalid, NoRoom, Syntax, VeryBad}
 use Rattle.sgb_graph.specs.Graphs.{GraphData}
 use Rattle.sgb_gen.specs.Boards.{accepted_board, board}
-use Rattle.sgb_gen.specs.Simplexes.{accepted_simplex, simplex}
-use Rattle.sgb_gen.specs.Subsets.{accepted_subsets, subsets}
+use Rattle.sgb_gen.specs.Simplexes.{accepted_simplex}
+use Rattle.sgb_gen.specs.Subsets.{accepted_subsets}
 use Rattle.sgb_gen.specs.declared.params.BoardParams.{BoardParams}
 use Rattle.sgb_ops.specs.BiComplete.{accepted_parts, bi_complete_of, with_parts}
 use Rattle.sgb_ops.specs.Boards.{pair_of_vertices, rim_of_wheel}

@@ -1,6 +1,6 @@
 -- The events of a union, as they are found and merged vertex by vertex.
 use Rattle.std.proofs.Common.{◌≡◌, ◌<◌, ◌≤◌, ◌==◌, ℕ, Bool, true, false, List, [], ◌++◌, map, get_or, refl, sym, ap, append-nil, arith}
-use Rattle.std.specs.Prelude.{All, filter, flat_map, nat_lt, if◌then◌else◌}
+use Rattle.std.specs.Prelude.{All, filter, flat_map, nat_lt}
 use Rattle.std.proofs.lemmas.Bool.{cond_both, lt-ltb, le-ltb, ltb-true, ne_eqb, and_right}
 use Rattle.std.proofs.lemmas.List.{map-append}
 use Rattle.std.proofs.lemmas.List.Elements.{All-append, All-filter, All-map, All-nil, filter_passes}
