@@ -11,7 +11,7 @@ use Rattle.sgb_graph.specs.Graphs.{GraphData}
 use Rattle.sgb_vec.specs.Results.{IsValue}
 use Rattle.sgb.specs.Outcomes.{answer_after, answer_from, outcome_of}
 use Rattle.sgb_file.specs.Devices.{AppendsUnlessFailed, Change}
-use Rattle.sgb_requests.specs.Faults.{line_of, status_of}
+use Rattle.sgb_requests.specs.Faults.{fault_line, status_of}
 use Rattle.sgb.specs.Runs.{IsRunOf}
 use Rattle.sgb.specs.Writing.{IsCutOff, IsEnded, IsWhole, IsWritten}
 use Rattle.sgb_requests.specs.declared.faults.Fault.{Fault}
@@ -35,12 +35,12 @@ answers_ok (Ok text) same x w v e false ef p = (inl (record { output = p.output;
 answers_ok (Err g) same x w v e wf ef p = absurd p
 
 -- a fault that is known has its line and its status
-pub fault_told : (f g : Fault) (err : Change) → f ≡ g → AppendsUnlessFailed err (line_of f) → AppendsUnlessFailed err (line_of g) × (status_of f ≡ status_of g)
-fault_told f g err is line = (subst (λ (h : Fault). AppendsUnlessFailed err (line_of h)) is line, ap status_of is)
+pub fault_told : (f g : Fault) (err : Change) → f ≡ g → AppendsUnlessFailed err (fault_line f) → AppendsUnlessFailed err (fault_line g) × (status_of f ≡ status_of g)
+fault_told f g err is line = (subst (λ (h : Fault). AppendsUnlessFailed err (fault_line h)) is line, ap status_of is)
 
 -- the request was cut off, by the sink or out of memory
 cut_answers : (text : List ℕ) (f : Fault) (w v e d : Option (List ℕ)) (wf ef : Bool) → IsCutOff text (change_of w v wf) f
-    → AppendsUnlessFailed (change_of e d ef) (line_of f) → IsRunOf (outcome_of (Ok text)) (change_of w v wf) (change_of e d ef) (status_of f)
+    → AppendsUnlessFailed (change_of e d ef) (fault_line f) → IsRunOf (outcome_of (Ok text)) (change_of w v wf) (change_of e d ef) (status_of f)
 cut_answers text f w v e d true ef p line = elim p.cause [
   | inl h ↦ let told = fault_told f _ (change_of e d ef) h.1 line in record { output = p.output; line = told.0; exit = told.1 }
   | inr h ↦ absurd (both_ways true h.0 refl)
@@ -52,7 +52,7 @@ cut_answers text f w v e d false ef p line = elim p.cause [
 
 -- the request was refused, or memory was, with nothing written
 refused_answers : (g f : Fault) (w v e d : Option (List ℕ)) (wf ef : Bool) → (f ≡ g) ⊎ (f ≡ fault.Panic NoRoom) → IsWhole [] (change_of w v wf)
-    → AppendsUnlessFailed (change_of e d ef) (line_of f) → IsRunOf (outcome_of (Err g)) (change_of w v wf) (change_of e d ef) (status_of f)
+    → AppendsUnlessFailed (change_of e d ef) (fault_line f) → IsRunOf (outcome_of (Err g)) (change_of w v wf) (change_of e d ef) (status_of f)
 refused_answers g f w v e d true ef by p line = absurd (both_ways true p.sound refl)
 refused_answers g f w v e d false ef (inl same) p line =
     let told = fault_told f g (change_of e d ef) same line in
@@ -63,7 +63,7 @@ refused_answers g f w v e d false ef (inr memory) p line =
 
 -- the request ended with a fault, and its line was written
 pub answers_err : (T : Type 0) (a : Result (List ℕ) Fault) (same : Type 0) (f : Fault) (w v e d : Option (List ℕ)) (wf ef : Bool)
-    → IsEnded {T = T} a same (change_of w v wf) (Err f) → AppendsUnlessFailed (change_of e d ef) (line_of f)
+    → IsEnded {T = T} a same (change_of w v wf) (Err f) → AppendsUnlessFailed (change_of e d ef) (fault_line f)
     → IsRunOf (outcome_of a) (change_of w v wf) (change_of e d ef) (status_of f) × IfErr a (λ g. same)
 answers_err T (Ok text) same f w v e d wf ef p line = (cut_answers text f w v e d wf ef p line, tt)
 answers_err T (Err g) same f w v e d wf ef p line = (refused_answers g f w v e d wf ef p.0 p.1 line, p.2)

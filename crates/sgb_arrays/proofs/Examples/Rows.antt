@@ -4,7 +4,7 @@ use Rattle.sgb_graph.specs.Graphs.{GraphData, numbers_from}
 use Rattle.sgb_graph.specs.Made.{no_fields, no_kinds}
 use Rattle.sgb_graph.specs.declared.fields.Ref.TheVariants.{At}
 use Rattle.sgb_graph.specs.declared.fields.Util.TheVariants.{Nothing}
-use Rattle.sgb_arrays.specs.Lists.{part_at}
+use Rattle.sgb_arrays.specs.Lists.{part_by_starts}
 use Rattle.sgb_arrays.specs.Names.{name_bytes, name_starts}
 use Rattle.sgb_arrays.specs.Rows.{arcs_of, lengths_of, starts_of, tips_of}
 
@@ -27,7 +27,7 @@ pub rows :
     (starts_of graph ≡ 0 ∷ 2 ∷ 2 ∷ 3 ∷ [])
     × (tips_of graph ≡ 2 ∷ 1 ∷ 0 ∷ [])
     × (lengths_of graph ≡ pos 6 ∷ pos 5 ∷ pos 7 ∷ [])
-    × (part_at (tips_of graph) (starts_of graph) 2 ≡ 0 ∷ [])
+    × (part_by_starts (tips_of graph) (starts_of graph) 2 ≡ 0 ∷ [])
 unfolding starts_of numbers_from arcs_of
 rows = (refl, refl, refl, refl)
 
