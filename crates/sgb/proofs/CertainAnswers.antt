@@ -30,7 +30,7 @@ use Rattle.sgb.specs.Values.{described, generator_value, made}
 use Rattle.sgb.specs.declared.locals.Local.{Local}
 use Rattle.sgb.specs.inner.Certain.{HasListingAtOnce, HasNamesAtOnce}
 use Rattle.sgb.specs.Writing.{IsEnded, IsEndedFrom}
-use Rattle.sgb.proofs.Endings.{change_of, no_line}
+use Rattle.sgb.proofs.Endings.{fault_told, change_of, no_line}
 use Rattle.sgb.proofs.FirstRefusals.{first_other, generator_other}
 use Rattle.sgb.proofs.Refusals.{left_out_own}
 use Rattle.sgb.proofs.StdinValues.{answer_unread}
@@ -174,11 +174,7 @@ given_err : (T : Type 0) (a : Result (List ℕ) Fault) (same : Type 0) (f : Faul
     → IsGiven (outcome_of a) (change_of w v wf) (change_of e d ef) (status_of f)
 given_err T (Ok text) same f w v e d wf ef p other sound line = elim p.cause [ inl h ↦ absurd (both_ways wf sound h.0) | inr h ↦ absurd (other h.1) ]
 given_err T (Err g) same f w v e d wf ef p other sound line = elim p.0 [
-  | inl alike ↦ record {
-    output = p.1.output;
-    line = subst (λ (h : Fault). AppendsUnlessFailed (change_of e d ef) (fault_line h)) alike line;
-    exit = ap status_of alike;
-  }
+  | inl alike ↦ let told = fault_told f g (change_of e d ef) alike line in record { output = p.1.output; line = told.0; exit = told.1 }
   | inr memory ↦ absurd (other memory)
 ]
 

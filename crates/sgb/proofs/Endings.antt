@@ -34,40 +34,32 @@ answers_ok (Ok text) same x w v e true ef p = absurd (both_ways true p.sound ref
 answers_ok (Ok text) same x w v e false ef p = (inl (record { output = p.output; line = no_line ef e; exit = refl }), tt)
 answers_ok (Err g) same x w v e wf ef p = absurd p
 
+-- a fault that is known has its line and its status
+pub fault_told : (f g : Fault) (err : Change) → f ≡ g → AppendsUnlessFailed err (fault_line f) → AppendsUnlessFailed err (fault_line g) × (status_of f ≡ status_of g)
+fault_told f g err is line = (subst (λ (h : Fault). AppendsUnlessFailed err (fault_line h)) is line, ap status_of is)
+
 -- the request was cut off, by the sink or out of memory
 cut_answers : (text : List ℕ) (f : Fault) (w v e d : Option (List ℕ)) (wf ef : Bool) → IsCutOff text (change_of w v wf) f
     → AppendsUnlessFailed (change_of e d ef) (fault_line f) → IsRunOf (outcome_of (Ok text)) (change_of w v wf) (change_of e d ef) (status_of f)
 cut_answers text f w v e d true ef p line = elim p.cause [
-  | inl h ↦ record {
-    output = p.output;
-    line = subst (λ g. AppendsUnlessFailed (change_of e d ef) (fault_line g)) h.1 line;
-    exit = ap status_of h.1;
-  }
+  | inl h ↦ let told = fault_told f _ (change_of e d ef) h.1 line in record { output = p.output; line = told.0; exit = told.1 }
   | inr h ↦ absurd (both_ways true h.0 refl)
 ]
 cut_answers text f w v e d false ef p line = elim p.cause [
   | inl h ↦ absurd (both_ways false refl h.0)
-  | inr h ↦ inr (record {
-    output = p.output;
-    line = subst (λ g. AppendsUnlessFailed (change_of e d ef) (fault_line g)) h.1 line;
-    exit = ap status_of h.1;
-  })
+  | inr h ↦ let told = fault_told f _ (change_of e d ef) h.1 line in inr (record { output = p.output; line = told.0; exit = told.1 })
 ]
 
 -- the request was refused, or memory was, with nothing written
 refused_answers : (g f : Fault) (w v e d : Option (List ℕ)) (wf ef : Bool) → (f ≡ g) ⊎ (f ≡ fault.Panic NoRoom) → IsWhole [] (change_of w v wf)
     → AppendsUnlessFailed (change_of e d ef) (fault_line f) → IsRunOf (outcome_of (Err g)) (change_of w v wf) (change_of e d ef) (status_of f)
 refused_answers g f w v e d true ef by p line = absurd (both_ways true p.sound refl)
-refused_answers g f w v e d false ef (inl same) p line = inl (record {
-  output = p.output;
-  line = subst (λ (h : Fault). AppendsUnlessFailed (change_of e d ef) (fault_line h)) same line;
-  exit = ap status_of same;
-})
-refused_answers g f w v e d false ef (inr memory) p line = inr (record {
-  output = prefix_all w v [] p.output;
-  line = subst (λ (h : Fault). AppendsUnlessFailed (change_of e d ef) (fault_line h)) memory line;
-  exit = ap status_of memory;
-})
+refused_answers g f w v e d false ef (inl same) p line =
+    let told = fault_told f g (change_of e d ef) same line in
+    inl (record { output = p.output; line = told.0; exit = told.1 })
+refused_answers g f w v e d false ef (inr memory) p line =
+    let told = fault_told f _ (change_of e d ef) memory line in
+    inr (record { output = prefix_all w v [] p.output; line = told.0; exit = told.1 })
 
 -- the request ended with a fault, and its line was written
 pub answers_err : (T : Type 0) (a : Result (List ℕ) Fault) (same : Type 0) (f : Fault) (w v e d : Option (List ℕ)) (wf ef : Bool)

@@ -61,30 +61,20 @@ unfolding box digits name_of_vector displacements vectors_of_norm board_moves bo
 ring_listed = refl
 
 -- resumed after a name or a number of vertices: the blocks from there, without the head
-pub ring_after_name : answer_of (request.List ring (resume.After (codes "0.1"))) [] ≡ Ok last_blocks
+pub ring_resumed :
+    (answer_of (request.List ring (resume.After (codes "0.1"))) [] ≡ Ok last_blocks)
+    × (answer_of (request.List ring (resume.Skip 2)) [] ≡ Ok last_blocks)
+    × (answer_of (request.List ring (resume.Skip 5)) [] ≡ Ok [])
 unfolding box digits name_of_vector displacements vectors_of_norm board_moves board_id family_graph list_from numbers_from blocks block arc_line head_text
-ring_after_name = refl
-
-pub ring_after_count : answer_of (request.List ring (resume.Skip 2)) [] ≡ Ok last_blocks
-unfolding box digits name_of_vector displacements vectors_of_norm board_moves board_id family_graph list_from numbers_from blocks block arc_line head_text
-ring_after_count = refl
-
-pub ring_after_all : answer_of (request.List ring (resume.Skip 5)) [] ≡ Ok []
-unfolding box digits name_of_vector displacements vectors_of_norm board_moves board_id family_graph list_from numbers_from blocks block arc_line head_text
-ring_after_all = refl
+ring_resumed = (refl, refl, refl)
 
 -- names, from the first one and after one; a name that no vertex has
-pub ring_named : answer_of (request.Names ring resume.Whole) [] ≡ Ok (codes "0.0\n0.1\n1.0\n1.1\n")
+pub ring_names :
+    (answer_of (request.Names ring resume.Whole) [] ≡ Ok (codes "0.0\n0.1\n1.0\n1.1\n"))
+    × (answer_of (request.Names ring (resume.After (codes "1.0"))) [] ≡ Ok (codes "1.1\n"))
+    × (answer_of (request.Names ring (resume.After (codes "01.0"))) [] ≡ Err fault.NoVertex)
 unfolding box digits name_of_vector displacements vectors_of_norm board_moves board_id family_graph list_from name_lines
-ring_named = refl
-
-pub ring_named_after : answer_of (request.Names ring (resume.After (codes "1.0"))) [] ≡ Ok (codes "1.1\n")
-unfolding box digits name_of_vector displacements vectors_of_norm board_moves board_id family_graph list_from name_lines
-ring_named_after = refl
-
-pub ring_named_nowhere : answer_of (request.Names ring (resume.After (codes "01.0"))) [] ≡ Err fault.NoVertex
-unfolding box digits name_of_vector displacements vectors_of_norm board_moves board_id family_graph list_from name_lines
-ring_named_nowhere = refl
+ring_names = (refl, refl, refl)
 
 -- simplex(1,1,1,0,0,0,1): one arc, to the vector that has the unit at the first place
 pub unit_listed : answer_of (request.List (expr.Generator (generator.Simplex (record { n = pos 1; n0 = pos 1; n1 = pos 1; n2 = pos 0; n3 = pos 0; n4 = pos 0; directed = true }))) resume.Whole) []
@@ -99,14 +89,12 @@ great_piece = refl
 -- ---- standard input
 
 -- the file of board(1,0,0,0,1,0,0), and a text that is no file
-pub stdin_listed : answer_of (request.List expr.Stdin resume.Whole) (text_of_lines one_cell_lines)
-    ≡ Ok (codes "  The graph whose official name is\nboard(1,0,0,0,1,0,0)\n  has 1 vertices and 0 arcs:\n\n0\n")
+pub stdin_read :
+    (answer_of (request.List expr.Stdin resume.Whole) (text_of_lines one_cell_lines)
+    ≡ Ok (codes "  The graph whose official name is\nboard(1,0,0,0,1,0,0)\n  has 1 vertices and 0 arcs:\n\n0\n"))
+    × (answer_of (request.Names expr.Stdin resume.Whole) (codes "0\n") ≡ Err (fault.Panic Early))
 unfolding stdin_value digits lines_among without_end_spaces weighted_sum unbroken more_fields_at all_at opening_of ends_from numbers_from blocks block arc_line head_text
-stdin_listed = refl
-
-pub stdin_refused : answer_of (request.Names expr.Stdin resume.Whole) (codes "0\n") ≡ Err (fault.Panic Early)
-unfolding stdin_value lines_among without_end_spaces opening_of
-stdin_refused = refl
+stdin_read = (refl, refl)
 
 -- ---- values
 
@@ -118,19 +106,17 @@ abbrev too_great : Expression
 too_great = Generated (squares (pos 2) (pos 2) (pos 1_000_000_000_000))
 
 -- of two operands that are refused the first one's code
-pub first_refusal : value_of [] (Gunion negative too_great false false) ≡ Err Bad
-first_refusal = refl
-
-pub other_first : value_of [] (Gunion too_great negative false false) ≡ Err VeryBad
-other_first = refl
+pub refused_first :
+    (value_of [] (Gunion negative too_great false false) ≡ Err Bad)
+    × (value_of [] (Gunion too_great negative false false) ≡ Err VeryBad)
+refused_first = (refl, refl)
 
 -- entries: each is a number or a graph; the first refusal among them
-pub some_entries : values_of (text_of_lines one_cell_lines) (EntryThen (Number (negsuc 2)) (EntryThen (Graph Stdin) NoEntries)) ≡ Ok (entry.Merged 3 ∷ entry.Graph one_cell ∷ [])
+pub entries_valued :
+    (values_of (text_of_lines one_cell_lines) (EntryThen (Number (negsuc 2)) (EntryThen (Graph Stdin) NoEntries)) ≡ Ok (entry.Merged 3 ∷ entry.Graph one_cell ∷ []))
+    × (values_of [] (EntryThen (Number (pos 1)) (EntryThen (Graph negative) (EntryThen (Graph too_great) NoEntries))) ≡ Err Bad)
 unfolding stdin_value lines_among without_end_spaces weighted_sum unbroken more_fields_at all_at opening_of ends_from numbers_from
-some_entries = refl
-
-pub refused_entry : values_of [] (EntryThen (Number (pos 1)) (EntryThen (Graph negative) (EntryThen (Graph too_great) NoEntries))) ≡ Err Bad
-refused_entry = refl
+entries_valued = (refl, refl)
 
 -- what a number stands for: so many copies, or merged vertex k of -k, at most 4,294,967,295 of either
 pub numbers_told : map numbered_entry (pos 0 ∷ pos 7 ∷ pos 4_294_967_296 ∷ negsuc 0 ∷ negsuc 6 ∷ negsuc 4_294_967_296 ∷ [])
@@ -142,14 +128,9 @@ numbers_told = refl
 abbrev local_ring : Local
 local_ring = local.Board (record { params = pos 2 ∷ pos 2 ∷ pos 0 ∷ pos 0 ∷ []; sizes = 2 ∷ 2 ∷ []; piece = pos 1; wrap = pos 0; directed = false })
 
-pub begins_after : start_after (vectors_of local_ring) (Some (0 ∷ 1 ∷ [])) ∷ start_after (vectors_of local_ring) None ∷ [] ≡ 2 ∷ 0 ∷ []
-unfolding box
-begins_after = refl
-
-pub ring_without_head : family_text (graph_described (described local_ring)) false 2 ≡ last_blocks
-unfolding box digits name_of_vector displacements vectors_of_norm board_moves board_id family_graph list_from numbers_from blocks block arc_line
-ring_without_head = refl
-
-pub ring_with_head : family_text (graph_described (described local_ring)) true 2 ≡ ring_head ++ last_blocks
+pub ring_of_family :
+    (start_after (vectors_of local_ring) (Some (0 ∷ 1 ∷ [])) ∷ start_after (vectors_of local_ring) None ∷ [] ≡ 2 ∷ 0 ∷ [])
+    × (family_text (graph_described (described local_ring)) false 2 ≡ last_blocks)
+    × (family_text (graph_described (described local_ring)) true 2 ≡ ring_head ++ last_blocks)
 unfolding box digits name_of_vector displacements vectors_of_norm board_moves board_id family_graph list_from numbers_from blocks block arc_line head_text
-ring_with_head = refl
+ring_of_family = (refl, refl, refl)

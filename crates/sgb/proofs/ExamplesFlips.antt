@@ -32,20 +32,11 @@ unfolding uniform_draws number_lines
 greatest = refl
 
 -- outside the ranges
-pub negative_skip : flip_answer (record { start = pos 1; skip = negsuc 0; count = pos 1; m = pos 0 }) ≡ Err (fault.Panic Bad)
-negative_skip = refl
-
-pub great_skip : flip_answer (record { start = pos 1; skip = pos 1_000_000_001; count = pos 0; m = pos 0 }) ≡ Err (fault.Panic Bad)
-great_skip = refl
-
-pub negative_count : flip_answer (record { start = pos 1; skip = pos 0; count = negsuc 0; m = pos 0 }) ≡ Err (fault.Panic Bad)
-negative_count = refl
-
-pub great_count : flip_answer (record { start = pos 1; skip = pos 0; count = pos 1_000_000_001; m = pos 0 }) ≡ Err (fault.Panic Bad)
-great_count = refl
-
-pub negative_bound : flip_answer (record { start = pos 1; skip = pos 0; count = pos 1; m = negsuc 0 }) ≡ Err (fault.Panic Bad)
-negative_bound = refl
-
-pub great_bound : flip_answer (record { start = pos 1; skip = pos 0; count = pos 1; m = pos 2_147_483_649 }) ≡ Err (fault.Panic Bad)
-great_bound = refl
+pub out_of_range :
+    (flip_answer (record { start = pos 1; skip = negsuc 0; count = pos 1; m = pos 0 }) ≡ Err (fault.Panic Bad))
+    × (flip_answer (record { start = pos 1; skip = pos 1_000_000_001; count = pos 0; m = pos 0 }) ≡ Err (fault.Panic Bad))
+    × (flip_answer (record { start = pos 1; skip = pos 0; count = negsuc 0; m = pos 0 }) ≡ Err (fault.Panic Bad))
+    × (flip_answer (record { start = pos 1; skip = pos 0; count = pos 1_000_000_001; m = pos 0 }) ≡ Err (fault.Panic Bad))
+    × (flip_answer (record { start = pos 1; skip = pos 0; count = pos 1; m = negsuc 0 }) ≡ Err (fault.Panic Bad))
+    × (flip_answer (record { start = pos 1; skip = pos 0; count = pos 1; m = pos 2_147_483_649 }) ≡ Err (fault.Panic Bad))
+out_of_range = (refl, refl, refl, refl, refl, refl)

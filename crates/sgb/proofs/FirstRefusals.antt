@@ -1,22 +1,18 @@
 -- Refusals that come before memory is taken.
-use Rattle.std.proofs.Common.{◌≡◌, ◌≢◌, ◌∙◌, ℕ, ℤ, List, true, false, length, nat_le, Result, Ok, Err, IfErr, inl, inr, sym, ap, subst, arith}
+use Rattle.std.proofs.Common.{◌≡◌, ◌≢◌, ◌∙◌, ℕ, ℤ, List, true, false, length, nat_le, Result, Ok, Err, inl, inr, sym, ap, subst, arith}
 use Rattle.std.specs.Result.{IsErrAnd}
 use Rattle.std.proofs.lemmas.Bool.{leb-true, leb-false}
 use Rattle.std.proofs.lemmas.Result.{err_from_is_err_and}
-use Rattle.sgb_vec.specs.Results.{and_then}
 use Rattle.sgb_vec.specs.declared.panics.Panic.{Panic}
 use Rattle.sgb_vec.specs.declared.panics.Panic.TheVariants.{Early, NoRoom, Syntax}
 use Rattle.sgb_graph.specs.Graphs.{GraphData}
 use Rattle.sgb_file.specs.Restoring.{graph_of_text}
-use Rattle.sgb_gen.specs.Boards.{BoardData, accepted_board, board, board_graph}
-use Rattle.sgb_gen.specs.declared.params.BoardParams.{BoardParams}
 use Rattle.sgb_expr.specs.Expression.{Expression, Generated, Complement, Gunion, Intersection, Lines, Product, Induced, BiComplete, Wheel, Stdin, expression_of}
 use Rattle.sgb_expr.specs.declared.expressions.Expr.{Expr}
 use Rattle.sgb_expr.specs.declared.expressions.Generator.{Generator}
 use Rattle.sgb_expr.specs.declared.expressions.Generator.TheVariants as generator
 use Rattle.sgb.specs.Certain.{IsGeneratorRefused, IsInputRefused, IsRefusedFirst}
 use Rattle.sgb.specs.Values.{most_input}
-use Rattle.sgb.specs.declared.locals.Local.{Local}
 use Rattle.sgb.proofs.Refusals.{board_judged, middle_judged, parts_judged, simplex_of_judged}
 
 -- what is refused for what it is has another code than that of memory
@@ -91,37 +87,3 @@ exit_first input e f q r exit same refused p is =
 pub numbers_refused : (refuses : ℤ → ℤ → Panic → Type 0) (m n m' n' : ℤ) (r : Result GraphData Panic) → m' ≡ m → n' ≡ n → ((p : Panic) → refuses m' n' p → r ≡ Err p)
     → (p : Panic) → refuses m n p → r ≡ Err p
 numbers_refused refuses m n m' n' r e f by p is = by p (subst (λ k. refuses m' k p) (sym f) (subst (λ k. refuses k n p) (sym e) is))
-
--- ---- accepted parameters
-
--- what refuses a board's parameters refuses its graph, and nothing else does
-pub board_refused : (p : BoardParams) (v : Result BoardData Panic) → v ≡ accepted_board p → (code : Panic) → board p ≡ Err code → v ≡ Err code
-board_refused p (Ok b) is code refused =
-    let made : board p ≡ Ok (board_graph b) = ap (λ (v : Result BoardData Panic). and_then v (λ b. Ok (board_graph b))) (sym is) in
-    absurd cc
-board_refused p (Err q) is code refused =
-    let made : board p ≡ Err q = ap (λ (v : Result BoardData Panic). and_then v (λ b. Ok (board_graph b))) (sym is) in
-    let same : q ≡ code = cc in
-    ap Err same
-
--- the exit of a `?` with the refusal of parameters
-pub exit_generator : {T : Type 0} (f g : Generator) (q : Panic) (r : Result Local Panic) → IsErrAnd r (λ p. p ≡ q) → f ≡ g
-    → ((code : Panic) → IsGeneratorRefused g code → ◌≡◌ {A = Result T Panic} (Err q) (Err code)) → (code : Panic) → IsGeneratorRefused f code → r ≡ Err code
-exit_generator f g q r exit same refused code is =
-    let by = err_from_is_err_and r exit in
-    let other = refused code (subst (λ (h : Generator). IsGeneratorRefused h code) same is) in
-    let alike : q ≡ code = cc in
-    by.1 ∙ ap Err (by.2 ∙ alike)
-
--- parameters that were accepted are not refused so
-pub made_generator : {T : Type 0} (f g : Generator) (x : T) (r : Result Local Panic) → f ≡ g
-    → ((code : Panic) → IsGeneratorRefused g code → Ok x ≡ Err code) → (code : Panic) → IsGeneratorRefused f code → r ≡ Err code
-made_generator f g x r same made code is =
-    let none = made code (subst (λ (h : Generator). IsGeneratorRefused h code) same is) in
-    absurd cc
-
--- the exit of a `?` with another code than that of memory
-pub exit_judged : {T : Type 0} (r : Result T Panic) (q : Panic) → IsErrAnd r (λ p. p ≡ q) → q ≢ NoRoom → IfErr r (λ p. p ≢ NoRoom)
-exit_judged r q exit other =
-    let by = err_from_is_err_and r exit in
-    rw (by.1, by.2) other

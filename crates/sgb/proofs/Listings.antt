@@ -1,5 +1,5 @@
 -- Parts of a listing, one after the other.
-use Rattle.std.proofs.Common.{◌≡◌, ◌∙◌, ◌+◌, ◌<◌, ◌≤◌, ℕ, min, List, [], ◌∷◌, ◌++◌, length, Some, drop, add-one, drop-cons, sym, ap, ap₂, append_assoc, inl, inr, arith, codes, decimal}
+use Rattle.std.proofs.Common.{◌≡◌, ◌∙◌, ◌+◌, ◌<◌, ◌≤◌, ℕ, min, List, [], ◌∷◌, ◌++◌, length, Some, drop, add-one, drop-cons, sym, ap, ap₂, append_assoc, inl, inr, arith, codes}
 use Rattle.std.specs.Fmt.{signed_decimal}
 use Rattle.std.specs.List.{flat_map, slice_get, slice_index_or}
 use Rattle.std.proofs.lemmas.Bool.{cases_lt}
@@ -9,7 +9,18 @@ use Rattle.sgb_vec.proofs.Lists.{range-first, range-none}
 use Rattle.sgb_graph.specs.declared.fields.Link.{Link}
 use Rattle.sgb_graph.specs.Graphs.{GraphData, chain_of}
 use Rattle.sgb_graph.specs.Vertices.{names_of}
-use Rattle.sgb.specs.Texts.{name_line, name_lines, arc_line, block, blocks, head_text}
+use Rattle.sgb.specs.Texts.{name_line, name_lines, arc_line, block, blocks}
+
+-- a text from a place on, of which nothing is left from n on: from n on as from any place behind it
+min-none : (f : ℕ → List ℕ) (n k : ℕ) → ((v : ℕ) → n ≤ v → f v ≡ []) → f (min k n) ≡ f k
+min-none f n k none = elim (cases_lt k n) [
+  | inl low ↦
+      let e : min k n ≡ k = omega (arith, low) in
+      ap f e
+  | inr high ↦
+      let e : min k n ≡ n = omega (arith, high) in
+      ap f e ∙ none n (omega arith) ∙ sym (none k high)
+]
 
 -- the block of a vertex stands before those after it
 pub blocks-first : (g : GraphData) (v : ℕ) → v < length (names_of g) → blocks g v ≡ block g v ++ blocks g (v + 1)
@@ -23,14 +34,7 @@ blocks-none g v h = ap (flat_map (block g)) (range-none v (length (names_of g)) 
 
 -- none either from a vertex that is not there on
 pub blocks-min : (g : GraphData) (k : ℕ) → blocks g (min k (length (names_of g))) ≡ blocks g k
-blocks-min g k = elim (cases_lt k (length (names_of g))) [
-  | inl low ↦
-      let e : min k (length (names_of g)) ≡ k = omega (arith, low) in
-      ap (blocks g) e
-  | inr high ↦
-      let e : min k (length (names_of g)) ≡ length (names_of g) = omega (arith, high) in
-      ap (blocks g) e ∙ blocks-none g (length (names_of g)) (omega arith) ∙ sym (blocks-none g k high)
-]
+blocks-min g k = min-none (blocks g) (length (names_of g)) k (blocks-none g)
 
 -- a block is the line of the vertex's name and those of its arcs
 pub block-parts : (g : GraphData) (v : ℕ) (links : List Link) → chain_of g v ≡ links
@@ -50,22 +54,11 @@ name_lines-none names v h = ap (flat_map name_line) (drop_all v names h)
 
 -- none either from a vertex that is not there on
 pub name_lines-min : (names : List (List ℕ)) (k : ℕ) → name_lines names (min k (length names)) ≡ name_lines names k
-name_lines-min names k = elim (cases_lt k (length names)) [
-  | inl low ↦
-      let e : min k (length names) ≡ k = omega (arith, low) in
-      ap (name_lines names) e
-  | inr high ↦
-      let e : min k (length names) ≡ length names = omega (arith, high) in
-      ap (name_lines names) e ∙ name_lines-none names (length names) (omega arith) ∙ sym (name_lines-none names k high)
-]
+name_lines-min names k = min-none (name_lines names) (length names) k (name_lines-none names)
 
--- five texts, and seven, one after the other
+-- five texts, one after the other
 pub five : (a b c d e : List ℕ) → a ++ b ++ c ++ d ++ e ≡ a ++ (b ++ (c ++ (d ++ e)))
 five a b c d e = append_assoc (a ++ b ++ c) d e ∙ append_assoc (a ++ b) c (d ++ e) ∙ append_assoc a b (c ++ (d ++ e))
-
-seven : (a b c d e f g : List ℕ) → a ++ b ++ c ++ d ++ e ++ f ++ g ≡ a ++ (b ++ (c ++ (d ++ (e ++ (f ++ g)))))
-seven a b c d e f g =
-    append_assoc (a ++ b ++ c ++ d ++ e) f g ∙ append_assoc (a ++ b ++ c ++ d) e (f ++ g) ∙ five a b c d (e ++ (f ++ g))
 
 -- the line of an arc in parts
 pub arc_line-parts : (names : List (List ℕ)) (link : Link) (name len : List ℕ) → slice_get names link.tip ≡ Some name → len ≡ signed_decimal link.len
@@ -74,10 +67,3 @@ unfolding arc_line
 arc_line-parts names link name len named digits =
     ap₂ (λ text number. codes "  -> " ++ text ++ codes ", length " ++ number ++ codes "\n") (get_or_from_slice_get names link.tip name [] named) (sym digits)
     ∙ five (codes "  -> ") name (codes ", length ") len (codes "\n")
-
--- the head in parts
-pub head-parts : (id vertices arcs : List ℕ) (n m : ℕ) → vertices ≡ decimal n → arcs ≡ decimal m
-    → head_text id n m ≡ codes "  The graph whose official name is\n" ++ (id ++ (codes "\n  has " ++ (vertices ++ (codes " vertices and " ++ (arcs ++ codes " arcs:\n\n")))))
-unfolding head_text
-head-parts id vertices arcs n m count total =
-    rw (count, total) (seven (codes "  The graph whose official name is\n") id (codes "\n  has ") (decimal n) (codes " vertices and ") (decimal m) (codes " arcs:\n\n"))

@@ -6,22 +6,20 @@ use Rattle.sgb_vec.specs.Bounds.{simplex_of}
 use Rattle.sgb_vec.specs.Boxes.{box_of}
 use Rattle.sgb_vec.specs.Limits.{most_vertices}
 use Rattle.sgb_vec.specs.Results.{and_then}
-use Rattle.sgb_vec.specs.Sizes.{before_stop, board_by_stop, board_of, stop_of}
-use Rattle.sgb_vec.specs.Sums.{sum_of}
+use Rattle.sgb_vec.specs.Sizes.{Normalized, before_stop, board_by_stop, board_of, stop_of}
+use Rattle.sgb_vec.specs.Sums.{BoundedSum, sum_of}
 use Rattle.sgb_vec.specs.declared.panics.Panic.{Panic}
 use Rattle.sgb_vec.specs.declared.panics.Panic.TheVariants.{Bad, Invalid, NoRoom, Syntax, VeryBad}
 use Rattle.sgb_graph.specs.Graphs.{GraphData}
 use Rattle.sgb_gen.specs.Boards.{accepted_board, board}
-use Rattle.sgb_gen.specs.Simplexes.{accepted_simplex, simplex}
-use Rattle.sgb_gen.specs.Subsets.{accepted_subsets, subsets}
+use Rattle.sgb_gen.specs.Simplexes.{accepted_simplex}
+use Rattle.sgb_gen.specs.Subsets.{accepted_subsets}
 use Rattle.sgb_gen.specs.declared.params.BoardParams.{BoardParams}
-use Rattle.sgb_gen.specs.declared.params.SimplexParams.{SimplexParams}
-use Rattle.sgb_gen.specs.declared.params.SubsetsParams.{SubsetsParams}
 use Rattle.sgb_ops.specs.BiComplete.{accepted_parts, bi_complete_of, with_parts}
 use Rattle.sgb_ops.specs.Boards.{pair_of_vertices, rim_of_wheel}
 use Rattle.sgb_ops.specs.Entries.{accepted_entries, is_too_great, is_unnumbered, total_of}
 use Rattle.sgb_ops.specs.Induced.{induced_of}
-use Rattle.sgb_ops.specs.Lines.{accepted_lines, is_of_edges, line_graph_of, lines_of_graph}
+use Rattle.sgb_ops.specs.Lines.{line_graph_of, accepted_lines, is_of_edges, lines_of_graph}
 use Rattle.sgb_graph.specs.Vertices.{order_of}
 use Rattle.sgb_ops.specs.Product.{product_graph_of}
 use Rattle.sgb_ops.specs.Wheel.{accepted_middle, wheel_of, with_wheel_id}
@@ -86,10 +84,6 @@ board_of_judged n1 n2 n3 n4 =
     by_stop entries [] e = accepted _
     by_stop entries (n ∷ s) e = either _ _ _ (refused Bad (λ e. cc)) (either _ _ _ (refused VeryBad (λ e. cc)) (accepted _))
 
--- their box
-box_of_judged : (sizes : List ℕ) → IsJudged (box_of sizes)
-box_of_judged sizes = either _ _ _ (refused Bad (λ e. cc)) (either _ _ _ (refused VeryBad (λ e. cc)) (accepted _))
-
 -- the bounds of a simplex
 pub simplex_of_judged : (n n0 n1 n2 n3 n4 : ℤ) → IsJudged (simplex_of n n0 n1 n2 n3 n4)
 simplex_of_judged (negsuc n) n0 n1 n2 n3 n4 = λ e. cc
@@ -100,36 +94,24 @@ sum_of_judged : (n : ℤ) (bounds : List ℕ) → IsJudged (sum_of n bounds)
 sum_of_judged (negsuc n) bounds = λ e. cc
 sum_of_judged (pos n) bounds = either _ _ _ (refused VeryBad (λ e. cc)) (either _ _ _ (refused VeryBad (λ e. cc)) (accepted _))
 
--- the parameters of a board
-pub accepted_board_judged : (p : BoardParams) → IsJudged (accepted_board p)
-accepted_board_judged p =
-    after _ _ (board_of_judged p.n1 p.n2 p.n3 p.n4) (λ shape.
-    after _ _ (box_of_judged shape.sizes) (λ sizes.
-    after _ _ (either _ _ _ (refused VeryBad (λ e. cc)) (accepted _)) (λ piece. accepted _)))
-
 -- a board
 pub board_judged : (p : BoardParams) → IsJudged (board p)
-board_judged p = after _ _ (accepted_board_judged p) (λ b. accepted _)
+board_judged p =
+    after (accepted_board p) _
+    (after _ _ (board_of_judged p.n1 p.n2 p.n3 p.n4) (λ shape.
+    after (box_of shape.sizes) _ (either _ _ _ (refused Bad (λ e. cc)) (either _ _ _ (refused VeryBad (λ e. cc)) (accepted _))) (λ sizes.
+    after _ _ (either _ _ _ (refused VeryBad (λ e. cc)) (accepted _)) (λ piece. accepted _))))
+    (λ b. accepted _)
 
--- a simplex
-simplex_judged : (p : SimplexParams) → IsJudged (simplex p)
-simplex_judged p =
-    let accepted_judged : IsJudged (accepted_simplex p) =
-    after _ _ (simplex_of_judged p.n p.n0 p.n1 p.n2 p.n3 p.n4) (λ shape. after _ _ (sum_of_judged p.n shape.sizes) (λ s. accepted _)) in
-    after _ _ accepted_judged (λ s. accepted _)
-
--- subsets
-subsets_judged : (p : SubsetsParams) → IsJudged (subsets p)
-subsets_judged p =
-    let accepted_judged : IsJudged (accepted_subsets p) =
-    after _ _ (simplex_of_judged p.n p.n0 p.n1 p.n2 p.n3 p.n4) (λ shape. after _ _ (sum_of_judged p.n shape.sizes) (λ s. accepted _)) in
-    after _ _ accepted_judged (λ s. accepted _)
+-- what is made of the bounds and of the sum of a simplex, or of subsets
+bounds_judged : {T : Type 0} (n n0 n1 n2 n3 n4 : ℤ) (make : Normalized → BoundedSum → T) → IsJudged (and_then (simplex_of n n0 n1 n2 n3 n4) (λ shape. and_then (sum_of n shape.sizes) (λ s. Ok (make shape s))))
+bounds_judged n n0 n1 n2 n3 n4 make = after _ _ (simplex_of_judged n n0 n1 n2 n3 n4) (λ shape. after _ _ (sum_of_judged n shape.sizes) (λ s. accepted _))
 
 -- a graph of a generator
 generator_judged : (f : Generator) → IsJudged (generator_value f)
 generator_judged (generator.Board p) = board_judged p
-generator_judged (generator.Simplex p) = simplex_judged p
-generator_judged (generator.Subsets p) = subsets_judged p
+generator_judged (generator.Simplex p) = after (accepted_simplex p) _ (bounds_judged p.n p.n0 p.n1 p.n2 p.n3 p.n4 _) (λ s. accepted _)
+generator_judged (generator.Subsets p) = after (accepted_subsets p) _ (bounds_judged p.n p.n0 p.n1 p.n2 p.n3 p.n4 _) (λ s. accepted _)
 
 -- the entries of an induced graph
 entries_judged : (n : ℕ) (entries : List Entry) → IsJudged (accepted_entries n entries)
@@ -141,18 +123,6 @@ entries_judged n entries =
 -- an induced graph
 induced_judged : (g : GraphData) (entries : List Entry) (self multi directed : Bool) → IsJudged (induced_of g entries self multi directed)
 induced_judged g entries self multi directed = after _ _ (entries_judged (order_of g) entries) (λ list. accepted _)
-
--- a line graph
-lines_judged : (g : GraphData) (directed : Bool) → IsJudged (line_graph_of g directed)
-lines_judged g directed =
-    let lines = lines_of_graph g directed in
-    after (accepted_lines g directed lines) _
-    (either (not directed && not (is_of_edges g lines)) _ _ (refused Invalid (λ e. cc)) (either (nat_lt most_vertices (length lines)) _ _ (refused VeryBad (λ e. cc)) (accepted lines)))
-    (λ ls. accepted _)
-
--- a product
-product_judged : (g h : GraphData) (kind : ℤ) (directed : Bool) → IsJudged (product_graph_of g h kind directed)
-product_judged g h kind directed = either _ _ _ (refused VeryBad (λ e. cc)) (accepted _)
 
 -- the numbers of a complete bipartite graph
 pub parts_judged : (n1 n2 : ℤ) → IsJudged (accepted_parts n1 n2)
@@ -213,9 +183,16 @@ mutual
   value_judged input (Complement e copy self_loops directed) = after _ _ (value_judged input e) (λ g. accepted _)
   value_judged input (Gunion e f multi directed) = after _ _ (both_judged _ _ (value_judged input e) (value_judged input f)) (λ operands. accepted _)
   value_judged input (Intersection e f multi directed) = after _ _ (both_judged _ _ (value_judged input e) (value_judged input f)) (λ operands. accepted _)
-  value_judged input (Lines e directed) = after _ _ (value_judged input e) (λ g. after _ _ (lines_judged g directed) (λ d. accepted _))
+  value_judged input (Lines e directed) =
+      after _ _ (value_judged input e) (λ g.
+      let lines = lines_of_graph g directed in
+      after (line_graph_of g directed) _
+      (after (accepted_lines g directed lines) _
+      (either (not directed && not (is_of_edges g lines)) _ _ (refused Invalid (λ e. cc)) (either (nat_lt most_vertices (length lines)) _ _ (refused VeryBad (λ e. cc)) (accepted lines)))
+      (λ ls. accepted _))
+      (λ d. accepted _))
   value_judged input (Product e f kind directed) =
-      after _ _ (both_judged _ _ (value_judged input e) (value_judged input f)) (λ operands. after _ _ (product_judged operands.0 operands.1 kind directed) (λ d. accepted _))
+      after _ _ (both_judged _ _ (value_judged input e) (value_judged input f)) (λ operands. after (product_graph_of operands.0 operands.1 kind directed) _ (either _ _ _ (refused VeryBad (λ e. cc)) (accepted _)) (λ d. accepted _))
   value_judged input (Induced e entries self_loops multi directed) =
       after _ _ (both_judged _ _ (value_judged input e) (values_judged input entries)) (λ operands.
       after _ _ (induced_judged operands.0 operands.1 self_loops multi directed) (λ d. accepted _))

@@ -1,12 +1,13 @@
 -- Values of expressions, from those of their operands.
-use Rattle.std.proofs.Common.{◌≡◌, ◌+◌, ℕ, Result, Ok, Err, ap, refl, sym, subst, inl, inr}
+use Rattle.std.proofs.Common.{◌≡◌, ◌+◌, ℕ, List, Result, Ok, Err, ap, refl, sym, subst, inl, inr}
 use Rattle.sgb_vec.specs.Results.{and_then, IsValue}
 use Rattle.sgb_vec.specs.declared.panics.Panic.{Panic}
 use Rattle.sgb_graph.specs.Descriptions.{Description, IsAnswerOf}
 use Rattle.sgb_graph.proofs.Described.{described_only}
 use Rattle.sgb_graph.specs.Graphs.{GraphData}
-use Rattle.sgb_expr.specs.Expression.{Expression, Generated, Complement, Gunion, Intersection, Lines, Product, Induced, BiComplete, Wheel, Stdin, Entry, Number, Graph, Entries, NoEntries, EntryThen}
-use Rattle.sgb.specs.Values.{both, made}
+use Rattle.sgb_expr.specs.Expression.{Expression, Generated, Complement, Gunion, Intersection, Lines, Product, Induced, BiComplete, Wheel, Stdin, Entry, Number, Graph, Entries, NoEntries, EntryThen, expression_of}
+use Rattle.sgb_expr.specs.declared.expressions.Expr.{Expr}
+use Rattle.sgb.specs.Values.{both, made, value_of}
 
 -- what an operation or a generator returns is the graph that is described
 pub value_made : (value : Result Description Panic) (r : Result GraphData Panic) → IsAnswerOf value r → IsValue (made value) r
@@ -29,6 +30,16 @@ value_both first second x y e f = rw (e, f) refl
 pub both_refused : {T U : Type 0} (first : Result T Panic) (second : Result U Panic) (x : T) (p : Panic) → first ≡ Ok x → IsValue second (Err p) → IsValue (both first second) (Err p)
 both_refused first second x p e (inl f) = inl (rw (e, f) refl)
 both_refused first second x p e (inr f) = inr f
+
+-- the value of an operation on an operand that stands in a box, and on two
+pub value_one : (make : GraphData → Result Description Panic) (input : List ℕ) (e f : Expr) (g : GraphData) (r : Result GraphData Panic) → e ≡ f → value_of input (expression_of e) ≡ Ok g
+    → IsAnswerOf (make g) r → IsValue (and_then (value_of input (expression_of f)) (λ x. made (make x))) r
+value_one make input e f g r same is answer = rw (← same, is) (value_made (make g) r answer)
+
+pub value_two : (make : GraphData → GraphData → Result Description Panic) (input : List ℕ) (e f e' f' : Expr) (operands : GraphData × GraphData) (r : Result GraphData Panic) → e ≡ e' → f ≡ f'
+    → both (value_of input (expression_of e)) (value_of input (expression_of f)) ≡ Ok operands
+    → IsAnswerOf (make operands.0 operands.1) r → IsValue (and_then (both (value_of input (expression_of e')) (value_of input (expression_of f'))) (λ x. made (make x.0 x.1))) r
+value_two make input e f e' f' operands r same alike is answer = rw (← same, ← alike, is) (value_made (make operands.0 operands.1) r answer)
 
 abbrev mutual
   -- how large an expression is: larger than its operands together

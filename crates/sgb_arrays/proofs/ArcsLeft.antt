@@ -1,15 +1,13 @@
 -- A walk through the lists of all vertices.
-use Rattle.std.proofs.Common.{◌≡◌, ℕ, ◌+◌, ◌-◌, ◌<◌, ◌≤◌, List, [], ◌∷◌, ◌++◌, length, map, set, refl, sym, ap, ◌∙◌, arith}
+use Rattle.std.proofs.Common.{◌≡◌, ℕ, ◌+◌, ◌-◌, ◌<◌, ◌≤◌, List, [], ◌∷◌, ◌++◌, length, map, refl, ap, arith}
 use Rattle.std.specs.List.{flat_map, range_with_len}
-use Rattle.std.proofs.lemmas.List.{length-append, length-map}
+use Rattle.std.proofs.lemmas.List.{length-map}
 use Rattle.std.proofs.lemmas.List.FromFn.{length-range_with_len}
 use Rattle.sgb_vec.proofs.Lists.{range-first, range-none}
 use Rattle.sgb_graph.specs.Graphs.{GraphData, chain_of}
 use Rattle.sgb_arrays.specs.Rows.{arcs_of, starts_of}
 use Rattle.sgb_arrays.specs.Lists.{starts_from}
 use Rattle.sgb_arrays.specs.inner.ArcsLeft.{arcs_left, starts_left}
-use Rattle.sgb_arrays.specs.inner.Puts.{put_from}
-use Rattle.sgb_arrays.proofs.PutValues.{put_from-all}
 
 -- all numbers below n
 range-whole : (n : ℕ) → range_with_len 0 (n - 0) ≡ range_with_len 0 n
@@ -42,12 +40,6 @@ pub starts_left-none : (g : GraphData) (v at : ℕ) → length g.vertices ≤ v 
 unfolding starts_left
 starts_left-none g v at past = ap (λ vs. starts_from at (map (λ u. length (chain_of g u)) vs)) (range-none v (length g.vertices) past)
 
--- one list less is left to count
-pub list_counted : (g : GraphData) (v count size all : ℕ) → v < length g.vertices → size ≡ length (chain_of g v)
-    → count + length (arcs_left g v) ≡ all → (count + size) + length (arcs_left g (v + 1)) ≡ all
-list_counted g v count size all within is whole =
-    omega (arith, is, whole, ap length (arcs_left-first g v within), length-append (chain_of g v) (arcs_left g (v + 1)))
-
 -- there is a start more than parts
 pub length-starts_from : (at : ℕ) (sizes : List ℕ) → length (starts_from at sizes) ≡ length sizes + 1
 length-starts_from at [] = refl
@@ -58,19 +50,3 @@ unfolding starts_of
 length-starts_of g =
     let sizes = map (λ u. length (chain_of g u)) (range_with_len 0 (length g.vertices)) in
     omega (arith, length-starts_from 0 sizes, length-map (range_with_len 0 (length g.vertices)) (λ u. length (chain_of g u)), length-range_with_len 0 (length g.vertices))
-
--- the start of the next list is put
-pub start_put : (g : GraphData) (v at next : ℕ) (now all : List ℕ) → v < length g.vertices → next ≡ at + length (chain_of g v)
-    → put_from v (starts_left g v at) now ≡ all → put_from (v + 1) (starts_left g (v + 1) next) (set now v at) ≡ all
-start_put g v at next now all within there whole =
-    ap (λ (k : ℕ). put_from (v + 1) (starts_left g (v + 1) k) (set now v at)) there
-    ∙ ap (λ xs. put_from v xs now) (sym (starts_left-first g v at within))
-    ∙ whole
-
--- and so is the end of the last one, and all are there
-pub starts_put : (g : GraphData) (v at : ℕ) (now old : List ℕ) → v ≡ length g.vertices → length old ≡ length g.vertices + 1
-    → put_from v (starts_left g v at) now ≡ put_from 0 (starts_of g) old → set now v at ≡ starts_of g
-starts_put g v at now old last size whole =
-    ap (λ xs. put_from v xs now) (sym (starts_left-none g v at (omega (arith, last))))
-    ∙ whole
-    ∙ put_from-all (starts_of g) old (omega (arith, size, length-starts_of g))

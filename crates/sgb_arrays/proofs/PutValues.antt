@@ -1,5 +1,5 @@
 -- Values put into a list from a place on.
-use Rattle.std.proofs.Common.{◌≡◌, ℕ, ◌+◌, List, [], ◌∷◌, ◌++◌, length, map, take, set, refl, sym, ap, append_assoc, ◌∙◌, arith}
+use Rattle.std.proofs.Common.{◌≡◌, ℕ, ◌+◌, List, [], ◌∷◌, ◌++◌, length, length-append, map, take, set, refl, sym, ap, append_assoc, ◌∙◌, arith}
 use Rattle.std.proofs.lemmas.List.{append-nil, length-map, length-set, map-append, take_all, take_more_set}
 use Rattle.sgb_arrays.specs.inner.Puts.{put_from}
 
@@ -30,21 +30,23 @@ pub put_from-all : {X : Type 0} (xs old : List X) → length old ≡ length xs �
 put_from-all xs old size = put_from-rest 0 xs old (omega (arith, size))
 
 -- the first of what is left is put
-pub value_put : {X Y : Type 0} (f : X → Y) (at : ℕ) (left rest : List X) (x : X) (now all : List Y) → left ≡ x ∷ rest
-    → put_from at (map f left) now ≡ all → put_from (at + 1) (map f rest) (set now at (f x)) ≡ all
-value_put f at left rest x now all is whole = ap (λ xs. put_from at (map f xs) now) (sym is) ∙ whole
+pub first_put : (v at next there : ℕ) (left : List ℕ) (rest : ℕ → List ℕ) (now all : List ℕ) → left ≡ at ∷ rest there → next ≡ there → put_from v left now ≡ all → put_from (v + 1) (rest next) (set now v at) ≡ all
+first_put v at next there left rest now all is same whole = rw same (ap (λ xs. put_from v xs now) (sym is) ∙ whole)
+
+-- the last one is put, so all are there
+pub last_put : (v at : ℕ) (left now old all : List ℕ) → left ≡ at ∷ [] → length old ≡ length all → put_from v left now ≡ put_from 0 all old → set now v at ≡ all
+last_put v at left now old all is size whole = ap (λ xs. put_from v xs now) (sym is) ∙ whole ∙ put_from-all all old size
+
+-- one part less is left to count
+pub part_counted : {X : Type 0} (count size all : ℕ) (left part rest : List X) → left ≡ part ++ rest → size ≡ length part → count + length left ≡ all → (count + size) + length rest ≡ all
+part_counted count size all left part rest is same whole = omega (arith, same, whole, ap length is, length-append part rest)
 
 -- the first values of what is left are put
 pub part_put : {X Y : Type 0} (f : X → Y) (at next : ℕ) (left part rest : List X) (now new all : List Y) → left ≡ part ++ rest
     → next ≡ at + length part → new ≡ put_from at (map f part) now → put_from at (map f left) now ≡ all → put_from next (map f rest) new ≡ all
 part_put f at next left part rest now new all is there done whole =
     let end : next ≡ at + length (map f part) = omega (arith, there, length-map part f) in
-    ap (λ (k : ℕ). put_from k (map f rest) new) end
-    ∙ ap (put_from (at + length (map f part)) (map f rest)) done
-    ∙ sym (put_from-append at (map f part) (map f rest) now)
-    ∙ ap (λ xs. put_from at xs now) (sym (map-append f part rest))
-    ∙ ap (λ xs. put_from at (map f xs) now) (sym is)
-    ∙ whole
+    rw (end, done, ← put_from-append at (map f part) (map f rest) now, ← map-append f part rest, ← is) whole
 
 -- none is left, so all are put
 pub all_put : {X Y : Type 0} (f : X → Y) (at : ℕ) (left : List X) (now old all : List Y) → left ≡ [] → length old ≡ length all
@@ -55,9 +57,4 @@ all_put f at left now old all none size whole = ap (λ xs. put_from at (map f xs
 pub bytes_put : (at next : ℕ) (left part known rest now new all : List ℕ) → left ≡ part ++ rest → part ≡ known → next ≡ at + length known
     → new ≡ put_from at known now → put_from at left now ≡ all → put_from next rest new ≡ all
 bytes_put at next left part known rest now new all is same there done whole =
-    ap (λ (k : ℕ). put_from k rest new) there
-    ∙ ap (put_from (at + length known) rest) done
-    ∙ sym (put_from-append at known rest now)
-    ∙ ap (λ xs. put_from at (xs ++ rest) now) (sym same)
-    ∙ ap (λ xs. put_from at xs now) (sym is)
-    ∙ whole
+    rw (there, done, ← put_from-append at known rest now, ← same, ← is) whole

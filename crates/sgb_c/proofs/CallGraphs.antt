@@ -64,6 +64,16 @@ pub sizes_unanswered : (text : List ℕ) (first count number : ℕ) (done : Grap
 sizes_unanswered text first count number done left (inl refused) same = inr (inl refused, same)
 sizes_unanswered text first count number done left (inr (g, graph, is, out)) same = inr (inr (g, graph, (is, out)), same)
 
+-- what was copied answers the call
+call_copied : (text : List ℕ) (first count number : ℕ) (Fits Copied : GraphData → Type 0) (left : Type 0) (g : GraphData) → IsGraphOfCall text g → IsThere g first count → number ≡ 0 → Fits g → Copied g
+    → IsAnswerOfCall text (λ h. IsThere h first count × Fits h × Copied h) (λ h n. IsMisfit (Fits h) h first count n) left number
+call_copied text first count number Fits Copied left g graph there ok fits are = inl (ok, (g, graph, (there, fits, are)))
+
+-- arrays that do not fit are left as they were
+call_misfit : (text : List ℕ) (first count number : ℕ) (Fits Copied : GraphData → Type 0) (left : Type 0) (g : GraphData) → IsGraphOfCall text g → IsThere g first count
+    → number ≡ number_of_wrong wrong.Length → (Fits g → ⊥) → left → IsAnswerOfCall text (λ h. IsThere h first count × Fits h × Copied h) (λ h n. IsMisfit (Fits h) h first count n) left number
+call_misfit text first count number Fits Copied left g graph there is out same = inr (inr (g, graph, inr (is, there, out)), same)
+
 -- the names of a chunk are copied, or the arrays do not fit
 pub names_copied : (text : List ℕ) (first count number : ℕ) (starts bytes starts_after bytes_after begins letters : List ℕ)
     → (g : GraphData) × IsGraphOfCall text g × IsThere g first count × AreChunkNames g first count begins letters
@@ -73,32 +83,12 @@ pub names_copied : (text : List ℕ) (first count number : ℕ) (starts bytes st
     (λ h n. IsMisfit (HaveChunkNameLengths h first count starts bytes) h first count n) ((starts_after ≡ starts) × (bytes_after ≡ bytes)) number
 names_copied text first count number starts bytes starts_after bytes_after begins letters (g, graph, there, are) copied (inl ok) =
     let (a, b, s, t) = copied ok in
-    inl (
-      ok,
-      (
-        g,
-        graph,
-        (
-          there,
-          record { starts = a ∙ ap length are.starts ∙ length-chunk_starts (name_at g) first count; bytes = b ∙ ap length are.bytes },
-          record { starts = s ∙ are.starts; bytes = t ∙ are.bytes },
-        ),
-      ),
-    )
+    call_copied text first count number (λ h. HaveChunkNameLengths h first count starts bytes) (λ h. AreChunkNames h first count starts_after bytes_after) _ g graph there ok
+    (record { starts = a ∙ ap length are.starts ∙ length-chunk_starts (name_at g) first count; bytes = b ∙ ap length are.bytes })
+    (record { starts = s ∙ are.starts; bytes = t ∙ are.bytes })
 names_copied text first count number starts bytes starts_after bytes_after begins letters (g, graph, there, are) copied (inr (is, out, s, t)) =
-    inr (
-      inr (
-        g,
-        graph,
-        inr (
-          is,
-          there,
-          λ fits.
-              out (fits.starts ∙ sym (ap length are.starts ∙ length-chunk_starts (name_at g) first count), fits.bytes ∙ sym (ap length are.bytes)),
-        ),
-      ),
-      (s, t),
-    )
+    call_misfit text first count number (λ h. HaveChunkNameLengths h first count starts bytes) (λ h. AreChunkNames h first count starts_after bytes_after) _ g graph there is
+    (λ fits. out (fits.starts ∙ sym (ap length are.starts ∙ length-chunk_starts (name_at g) first count), fits.bytes ∙ sym (ap length are.bytes))) (s, t)
 
 -- the lists likewise
 module _ (g : GraphData) (first count : ℕ) (begins leads : List ℕ) (weights : List ℤ) (are : AreChunkRows g first count begins leads weights) where
@@ -121,37 +111,19 @@ pub rows_copied : (text : List ℕ) (first count number : ℕ) (starts tips : Li
     (λ h n. IsMisfit (HaveChunkRowLengths h first count starts tips lengths) h first count n) ((starts_after ≡ starts) × (tips_after ≡ tips) × (lengths_after ≡ lengths)) number
 rows_copied text first count number starts tips lengths starts_after tips_after lengths_after begins leads weights (g, graph, there, are) copied (inl ok) =
     let (a, b, c, s, t, u) = copied ok in
-    inl (
-      ok,
-      (
-        g,
-        graph,
-        (
-          there,
-          record {
-            starts = a ∙ begins_count g first count begins leads weights are;
-            tips = b ∙ leads_count g first count begins leads weights are;
-            lengths = c ∙ weights_count g first count begins leads weights are;
-          },
-          record { starts = s ∙ are.starts; tips = t ∙ are.tips; lengths = u ∙ are.lengths },
-        ),
-      ),
-    )
+    call_copied text first count number (λ h. HaveChunkRowLengths h first count starts tips lengths) (λ h. AreChunkRows h first count starts_after tips_after lengths_after) _ g graph there ok
+    (record {
+      starts = a ∙ begins_count g first count begins leads weights are;
+      tips = b ∙ leads_count g first count begins leads weights are;
+      lengths = c ∙ weights_count g first count begins leads weights are;
+    })
+    (record { starts = s ∙ are.starts; tips = t ∙ are.tips; lengths = u ∙ are.lengths })
 rows_copied text first count number starts tips lengths starts_after tips_after lengths_after begins leads weights (g, graph, there, are) copied (inr (is, out, s, t, u)) =
-    inr (
-      inr (
-        g,
-        graph,
-        inr (
-          is,
-          there,
-          λ fits.
-              out (
-                fits.starts ∙ sym (begins_count g first count begins leads weights are),
-                fits.tips ∙ sym (leads_count g first count begins leads weights are),
-                fits.lengths ∙ sym (weights_count g first count begins leads weights are),
-              ),
-        ),
-      ),
-      (s, t, u),
-    )
+    call_misfit text first count number (λ h. HaveChunkRowLengths h first count starts tips lengths) (λ h. AreChunkRows h first count starts_after tips_after lengths_after) _ g graph there is
+    (λ fits.
+    out (
+      fits.starts ∙ sym (begins_count g first count begins leads weights are),
+      fits.tips ∙ sym (leads_count g first count begins leads weights are),
+      fits.lengths ∙ sym (weights_count g first count begins leads weights are),
+    ))
+    (s, t, u)

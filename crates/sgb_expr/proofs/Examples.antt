@@ -43,13 +43,11 @@ unfolding expression_at openings generator_openings
 reads_product = refl
 
 -- a complete bipartite graph, and a wheel
-reads_bi_complete : whole_at (codes "bi_complete(2,-3,1)") ≡ Ok (Expression.BiComplete (pos 2) (negsuc 2) true)
+reads_two_numbers :
+    (whole_at (codes "bi_complete(2,-3,1)") ≡ Ok (Expression.BiComplete (pos 2) (negsuc 2) true))
+    × (whole_at (codes "wheel(5,1,0)") ≡ Ok (Expression.Wheel (pos 5) (pos 1) false))
 unfolding expression_at openings generator_openings
-reads_bi_complete = refl
-
-reads_wheel : whole_at (codes "wheel(5,1,0)") ≡ Ok (Expression.Wheel (pos 5) (pos 1) false)
-unfolding expression_at openings generator_openings
-reads_wheel = refl
+reads_two_numbers = (refl, refl)
 
 -- the flags of an intersection
 reads_intersection : whole_at (codes "intersection(complete(2),petersen(),1,0)") ≡ Ok (Expression.Intersection (Expression.Generated (Board (complete (pos 2)))) (Expression.Generated (Subsets petersen)) true false)
@@ -57,28 +55,21 @@ unfolding expression_at openings generator_openings
 reads_intersection = refl
 
 -- each parameter of a board, a simplex and subsets, at its place
-reads_board : whole_at (codes "board(1,2,3,4,5,-6,7)") ≡ Ok (Expression.Generated (Board (record { n1 = pos 1; n2 = pos 2; n3 = pos 3; n4 = pos 4; piece = pos 5; wrap = negsuc 5; directed = true })))
+reads_parameters :
+    (whole_at (codes "board(1,2,3,4,5,-6,7)") ≡ Ok (Expression.Generated (Board (record { n1 = pos 1; n2 = pos 2; n3 = pos 3; n4 = pos 4; piece = pos 5; wrap = negsuc 5; directed = true }))))
+    × (whole_at (codes "simplex(9,1,2,3,4,5,1)") ≡ Ok (Expression.Generated (Simplex (record { n = pos 9; n0 = pos 1; n1 = pos 2; n2 = pos 3; n3 = pos 4; n4 = pos 5; directed = true }))))
+    × (whole_at (codes "subsets(9,1,2,3,4,5,0x1F,1)") ≡ Ok (Expression.Generated (Subsets (record { n = pos 9; n0 = pos 1; n1 = pos 2; n2 = pos 3; n3 = pos 4; n4 = pos 5; size_bits = 31; directed = true }))))
 unfolding expression_at openings generator_openings
-reads_board = refl
-
-reads_simplex : whole_at (codes "simplex(9,1,2,3,4,5,1)") ≡ Ok (Expression.Generated (Simplex (record { n = pos 9; n0 = pos 1; n1 = pos 2; n2 = pos 3; n3 = pos 4; n4 = pos 5; directed = true })))
-unfolding expression_at openings generator_openings
-reads_simplex = refl
-
-reads_subsets : whole_at (codes "subsets(9,1,2,3,4,5,0x1F,1)") ≡ Ok (Expression.Generated (Subsets (record { n = pos 9; n0 = pos 1; n1 = pos 2; n2 = pos 3; n3 = pos 4; n4 = pos 5; size_bits = 31; directed = true })))
-unfolding expression_at openings generator_openings
-reads_subsets = refl
+reads_parameters = (refl, refl, refl)
 
 -- the flags the other way, so that each stands at its place
-reads_undirected : map whole_at (codes "board(1,2,3,4,5,-6,0)" ∷ codes "simplex(9,1,2,3,4,5,0)" ∷ [])
-    ≡ map (λ f. Ok (Expression.Generated f)) (Board (record { n1 = pos 1; n2 = pos 2; n3 = pos 3; n4 = pos 4; piece = pos 5; wrap = negsuc 5; directed = false }) ∷ Simplex (record { n = pos 9; n0 = pos 1; n1 = pos 2; n2 = pos 3; n3 = pos 4; n4 = pos 5; directed = false }) ∷ [])
+reads_flags :
+    (map whole_at (codes "board(1,2,3,4,5,-6,0)" ∷ codes "simplex(9,1,2,3,4,5,0)" ∷ [])
+    ≡ map (λ f. Ok (Expression.Generated f)) (Board (record { n1 = pos 1; n2 = pos 2; n3 = pos 3; n4 = pos 4; piece = pos 5; wrap = negsuc 5; directed = false }) ∷ Simplex (record { n = pos 9; n0 = pos 1; n1 = pos 2; n2 = pos 3; n3 = pos 4; n4 = pos 5; directed = false }) ∷ []))
+    × (map whole_at (codes "product(stdin,stdin,1,0)" ∷ codes "intersection(stdin,stdin,0,1)" ∷ codes "gunion(stdin,stdin,1,0)" ∷ codes "bi_complete(2,0,1)" ∷ codes "wheel(5,0,1)" ∷ [])
+    ≡ map (λ e. Ok e) (Expression.Product Expression.Stdin Expression.Stdin (pos 1) false ∷ Expression.Intersection Expression.Stdin Expression.Stdin false true ∷ Expression.Gunion Expression.Stdin Expression.Stdin true false ∷ Expression.BiComplete (pos 2) (pos 0) true ∷ Expression.Wheel (pos 5) (pos 0) true ∷ []))
 unfolding expression_at openings generator_openings
-reads_undirected = refl
-
-reads_flags : map whole_at (codes "product(stdin,stdin,1,0)" ∷ codes "intersection(stdin,stdin,0,1)" ∷ codes "gunion(stdin,stdin,1,0)" ∷ codes "bi_complete(2,0,1)" ∷ codes "wheel(5,0,1)" ∷ [])
-    ≡ map (λ e. Ok e) (Expression.Product Expression.Stdin Expression.Stdin (pos 1) false ∷ Expression.Intersection Expression.Stdin Expression.Stdin false true ∷ Expression.Gunion Expression.Stdin Expression.Stdin true false ∷ Expression.BiComplete (pos 2) (pos 0) true ∷ Expression.Wheel (pos 5) (pos 0) true ∷ [])
-unfolding expression_at openings generator_openings
-reads_flags = refl
+reads_flags = (refl, refl)
 
 -- each short name
 reads_short_names : map whole_at (codes "transitive(4)" ∷ codes "empty(4)" ∷ codes "circuit(4)" ∷ codes "cycle(4)" ∷ codes "disjoint_subsets(4,1)" ∷ [])
@@ -87,20 +78,17 @@ unfolding expression_at openings generator_openings
 reads_short_names = refl
 
 -- an integer of 18 digits; of 19 the last is left, and what comes after it
-reads_18_digits : whole_at (codes "complete(999999999999999999)") ≡ Ok (Expression.Generated (Board (complete (pos 999999999999999999))))
+digits_of_integers :
+    (whole_at (codes "complete(999999999999999999)") ≡ Ok (Expression.Generated (Board (complete (pos 999999999999999999)))))
+    × (whole_at (codes "complete(0999999999999999999)") ≡ Err 2)
 unfolding expression_at openings generator_openings
-reads_18_digits = refl
-
-wrong_19_digits : whole_at (codes "complete(0999999999999999999)") ≡ Err 2
-unfolding expression_at openings generator_openings
-wrong_19_digits = refl
+digits_of_integers = (refl, refl)
 
 -- bits of 32 hexadecimal digits; of 33 the last is left
-reads_32_digits : bits_at (codes "0xfffffffffffffffffffffffffffffffF") ≡ Ok (340282366920938463463374607431768211455, [])
-reads_32_digits = refl
-
-leaves_digit_33 : bits_at (codes "0x0ffffffffffffffffffffffffffffffff") ≡ Ok (21267647932558653966460912964485513215, codes "f")
-leaves_digit_33 = refl
+digits_of_bits :
+    (bits_at (codes "0xfffffffffffffffffffffffffffffffF") ≡ Ok (340282366920938463463374607431768211455, []))
+    × (bits_at (codes "0x0ffffffffffffffffffffffffffffffff") ≡ Ok (21267647932558653966460912964485513215, codes "f"))
+digits_of_bits = (refl, refl)
 
 -- entries are integers and expressions, in order
 reads_induced : whole_at (codes "induced(complete(2),[3,petersen(),-4],0,9,0)")

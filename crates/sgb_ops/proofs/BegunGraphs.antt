@@ -17,7 +17,7 @@ use Rattle.sgb_ops.specs.Induced.{events_between, induced_events, induced_graph,
 use Rattle.sgb_ops.specs.Merged.{merged_unless}
 use Rattle.sgb_graph.specs.Vertices.{names_of, order_of}
 use Rattle.sgb_ops.specs.inner.Begun.{HasInside, IsBegun, IsFinished, later_events, named_graph}
-use Rattle.sgb_ops.specs.inner.Copies.{IsKeptEntry}
+use Rattle.sgb_ops.specs.inner.Copies.{IsKeptEntry, sized}
 use Rattle.sgb_ops.specs.inner.Ends.{AllWithin}
 use Rattle.sgb_ops.proofs.CopiesWithin.{events_inside, length-names}
 use Rattle.sgb_ops.proofs.InducedParts.{both_left}
@@ -64,6 +64,9 @@ module _ (g : GraphData) (entries : List Entry) (self multi directed : Bool) whe
   module _ (copies : List Entry) (in_parts : Bool) (kept : List Event) (built : GraphData) (numbered : list_any is_unnumbered entries ≡ false) (begun : IsBegun g entries self multi directed copies in_parts kept built) where
     pub begun_numbered : list_any is_unnumbered copies ≡ false
     begun_numbered = ap (list_any is_unnumbered) begun.sized_copies ∙ (numbered_sized entries ∙ numbered)
+
+    pub begun_count : length entries ≡ order_of g → length copies ≡ order_of g
+    begun_count count = ap length begun.sized_copies ∙ (length-map entries sized ∙ count)
 
     pub begun_own : in_parts ≡ true → merged_count copies ≡ 0
     begun_own is = ap merged_count begun.sized_copies ∙ (merged_sized entries ∙ inside_own in_parts kept built begun.inside is)

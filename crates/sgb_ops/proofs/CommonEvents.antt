@@ -1,8 +1,9 @@
 -- The events of an intersection, as they are found one by one.
-use Rattle.std.proofs.Common.{◌≡◌, ◌<◌, ◌+◌, ◌-◌, ◌==◌, ◌⊎◌, ℕ, min, ℤ, Bool, true, false, not, List, [], ◌∷◌, ◌++◌, map, take, length, Option, Some, None, refl, sym, ap, subst, ◌∙◌, append_assoc, inl, inr, arith}
+use Rattle.std.proofs.Common.{◌≡◌, ◌<◌, ◌+◌, ◌-◌, ◌==◌, ℕ, min, ℤ, Bool, true, false, not, List, [], ◌∷◌, ◌++◌, map, take, length, Option, Some, None, refl, sym, ap, subst, ◌∙◌, append_assoc, inl, inr, arith}
 use Rattle.std.specs.Prelude.{All, flat_map, nat_lt, if◌then◌else◌}
 use Rattle.std.specs.List.{enumerate_from}
-use Rattle.std.proofs.lemmas.Bool.{cases_Bool, cases_eq, cases_lt, eq-eqb, ne_eqb, lt-ltb, le-ltb, ltb-true}
+use Rattle.std.proofs.lemmas.Bool.{cases_Bool, cond_both, ne_eqb, ltb-true}
+use Rattle.std.proofs.lemmas.Bool.Decides.{nat_tests}
 use Rattle.std.proofs.lemmas.List.{length-append, take_at}
 use Rattle.std.proofs.lemmas.List.Elements.{All-nil, All-cons, All-append}
 use Rattle.std.proofs.lemmas.List.Sums.{length-filter}
@@ -19,7 +20,7 @@ use Rattle.sgb_ops.specs.inner.Tallies.{tally_of, tally_to, without_one, second_
 use Rattle.sgb_ops.specs.declared.tallies.Tally.{Tally}
 use Rattle.sgb_ops.proofs.EventsWithin.{TipBelow, taken_tips, events_after_within}
 use Rattle.sgb_ops.proofs.PlainLists.{places_from}
-use Rattle.sgb_ops.proofs.TallyLemmas.{arcs_to, count_more_here, count_more_elsewhere, count_at, tip_counted}
+use Rattle.sgb_ops.proofs.TallyLemmas.{arcs_to, count_more, count_at, tip_counted}
 
 -- the events for arcs of hs that stand after others
 abbrev pub commons_after : Bool → ℕ → List Link → List Link → List Link → List Link → List Event
@@ -59,8 +60,7 @@ commons_at_places multi v gs hs before (l ∷ links) k is place =
 
 -- at first all arcs are left
 none_met : (multi : Bool) (o : Option Tally) → o ≡ tally_left multi 0 o
-none_met true None = refl
-none_met false None = refl
+none_met multi None = refl
 none_met true (Some t) = let same : t.count - 0 ≡ t.count = omega arith in ap (λ (k : ℕ). Some (record { count = k; least = t.least })) (sym same)
 none_met false (Some t) = refl
 
@@ -69,20 +69,15 @@ left_at_first multi u gs = none_met multi (tally_to u gs)
 
 -- one more is met
 one_met : (multi : Bool) (met : ℕ) (o : Option Tally) → tally_left multi (met + 1) o ≡ without_one multi (tally_left multi met o)
-one_met true met None = refl
-one_met false met None = refl
+one_met multi met None = refl
 one_met true met (Some t) = let less : t.count - (met + 1) ≡ t.count - met - 1 = omega arith in ap (λ (k : ℕ). Some (record { count = k; least = t.least })) less
-one_met false met (Some t) = let some : (met + 1 == 0) ≡ false = ne_eqb (met + 1) 0 (λ e. absurd (omega (arith, e))) in rw some refl
+one_met false met (Some t) = rw (ne_eqb (met + 1) 0 (λ e. absurd (omega (arith, e)))) refl
 
 pub left_more : (multi : Bool) (u : ℕ) (gs before : List Link) (l : Link)
     → (if l.tip == u then without_one multi (left_after multi u gs before) else left_after multi u gs before) ≡ left_after multi u gs (before ++ l ∷ [])
-left_more multi u gs before l = elim (cases_eq l.tip u) [
-  | inl here ↦
-      let same = eq-eqb l.tip u here in
-      rw same (sym (ap (λ k. tally_left multi k (tally_to u gs)) (count_more_here u before l here) ∙ one_met multi (count_to u before) (tally_to u gs)))
-  | inr other ↦
-      let apart = ne_eqb l.tip u other in
-      rw apart (sym (ap (λ k. tally_left multi k (tally_to u gs)) (count_more_elsewhere u before l other)))
+left_more multi u gs before l = elim (cases_Bool (l.tip == u)) [
+  | inl here ↦ rw (here, count_more u before l true here) (sym (one_met multi (count_to u before) (tally_to u gs)))
+  | inr other ↦ rw (other, count_more u before l false other) refl
 ]
 
 -- how many there are in the end, by how many the two graphs have
@@ -96,34 +91,8 @@ common_counts false u gs hs = refl
 
 -- one is wanted where some are left
 wanted_left : (multi : Bool) (a b met : ℕ) → met < b → nat_lt met (most_common multi a b) ≡ not (count_left multi a met == 0)
-wanted_left true a b met within = elim (cases_lt met a) [
-  | inl some ↦
-      let yes = lt-ltb met (min a b) (omega (arith, some, within)) in
-      let left = ne_eqb (a - met) 0 (λ e. absurd (omega (arith, e, some))) in
-      rw (yes, left) refl
-  | inr none ↦
-      let no = le-ltb met (min a b) (omega (arith, none)) in
-      let left = eq-eqb (a - met) 0 (omega (arith, none)) in
-      rw (no, left) refl
-]
-wanted_left false a b met within = elim (cases_eq met 0) [
-  | inl first ↦
-      let is = eq-eqb met 0 first in
-      elim (cases_eq a 0) [
-        | inl none ↦
-            let no = le-ltb met (min 1 (min a b)) (omega (arith, none)) in
-            let left = eq-eqb a 0 none in
-            rw (no, is, left) refl
-        | inr some ↦
-            let yes = lt-ltb met (min 1 (min a b)) (omega (arith, first, some, within)) in
-            let left = ne_eqb a 0 some in
-            rw (yes, is, left) refl
-      ]
-  | inr later ↦
-      let is_later = ne_eqb met 0 later in
-      let no = le-ltb met (min 1 (min a b)) (omega (arith, later)) in
-      rw (no, is_later) refl
-]
+wanted_left true a b met within = grind (arith, nat_tests)
+wanted_left false a b met within = grind (arith, nat_tests)
 
 -- the length that counts in the second graph, where some of its arcs lead there
 second_least : (links : List Link) (far : ℤ) → 0 < length links → second_length false far (tally_of links) ≡ least_of (map (λ x. x.len) links)
@@ -139,11 +108,7 @@ lengths_agree false gs hs l some =
 -- nothing is left of none
 nothing_left : (multi : Bool) (met : ℕ) → count_left multi 0 met ≡ 0
 nothing_left true met = omega arith
-nothing_left false met = by_test (met == 0)
-  where
-    by_test : (b : Bool) → (if b then (let n : ℕ = 0 in n) else 0) ≡ (let n : ℕ = 0 in n)
-    by_test true = refl
-    by_test false = refl
+nothing_left false met = grind (arith, nat_tests)
 
 either_way : (b : Bool) (e : Event) → (if b then [] else e ∷ []) ≡ (if not b then e ∷ [] else [])
 either_way true e = refl
@@ -176,19 +141,15 @@ event_there multi v gs hs before links l is =
 pub commons_within : (n : ℕ) (multi : Bool) (v : ℕ) (gs hs before links : List Link) → v < n → All (TipBelow n) gs → AllWithin n (commons_after multi v gs hs before links)
 commons_within n multi v gs hs before [] below all = All-nil (HasEndsBelow n)
 commons_within n multi v gs hs before (l ∷ links) below all =
-    All-append (HasEndsBelow n) (common_event multi v gs hs before l) (commons_after multi v gs hs (before ++ l ∷ []) links) (by_test (cases_Bool (nat_lt (count_to l.tip before) (common_count multi l.tip gs hs))))
+    All-append (HasEndsBelow n) (common_event multi v gs hs before l) (commons_after multi v gs hs (before ++ l ∷ []) links)
+    (cond_both (nat_lt (count_to l.tip before) (common_count multi l.tip gs hs)) (record { from = v; to = l.tip; len = common_length multi gs hs l } ∷ []) [] (AllWithin n)
+    (λ wanted. All-cons (HasEndsBelow n) _ [] (below, tip_counted n l.tip gs all (some multi (ltb-true _ _ wanted))) (All-nil (HasEndsBelow n)))
+    (λ _. All-nil (HasEndsBelow n)))
     (commons_within n multi v gs hs (before ++ l ∷ []) links below all)
   where
     some : (m : Bool) → count_to l.tip before < common_count m l.tip gs hs → 0 < count_to l.tip gs
     some true wanted = omega (arith, wanted)
     some false wanted = omega (arith, wanted)
-
-    by_test : (nat_lt (count_to l.tip before) (common_count multi l.tip gs hs) ≡ true) ⊎ (nat_lt (count_to l.tip before) (common_count multi l.tip gs hs) ≡ false)
-        → AllWithin n (common_event multi v gs hs before l)
-    by_test (inl wanted) =
-        let tip : l.tip < n = tip_counted n l.tip gs all (some multi (ltb-true _ _ wanted)) in
-        rw wanted (All-cons (HasEndsBelow n) (record { from = v; to = l.tip; len = common_length multi gs hs l }) [] (below, tip) (All-nil (HasEndsBelow n)))
-    by_test (inr unwanted) = rw unwanted (All-nil (HasEndsBelow n))
 
 -- and so are those of all vertices
 pub intersection_within : (g h : GraphData) (multi directed : Bool) → IsKept g → AllWithin (order_of g) (intersection_events g h multi directed)

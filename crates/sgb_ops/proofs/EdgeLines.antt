@@ -1,12 +1,14 @@
 -- The lines of a graph of edges: one for each edge, and each has its way back.
-use Rattle.std.proofs.Common.{◌≡◌, ◌≢◌, ◌+◌, ◌*◌, ◌/◌, ◌≤◌, ◌<◌, ◌==◌, ℕ, zero, suc, min, Bool, true, false, not, ◌&&◌, cond, nat_lt, List, [], ◌∷◌, map, reverse, length, refl, sym, ap, ◌∙◌, inl, inr, Option, Some, None, arith}
+use Rattle.std.proofs.Common.{◌≡◌, ◌≢◌, ◌+◌, ◌*◌, ◌/◌, ◌≤◌, ◌<◌, ◌==◌, ℕ, zero, suc, min, Bool, true, false, not, cond, nat_lt, List, [], ◌∷◌, map, reverse, length, get_or, refl, sym, ap, ◌∙◌, Some, None, arith}
 use Rattle.std.specs.Prelude.{All, Ok, Err, filter, slice_get, if◌then◌else◌}
-use Rattle.std.specs.List.{enumerate_from, list_all}
+use Rattle.std.specs.List.{enumerate_from, list_all, range_with_len}
 use Rattle.std.specs.Option.{option_map, option_map_or}
-use Rattle.std.proofs.lemmas.Bool.{and_from, and_parts, cases_eq, cases_lt, eq-eqb, ne_eqb, lt-ltb, le-ltb}
-use Rattle.std.proofs.lemmas.List.{reverse-append, length-append, length-map, length-reverse}
-use Rattle.std.proofs.lemmas.List.Elements.{All-head, All-tail}
-use Rattle.std.proofs.lemmas.List.Folds.{list_all-append, list_all-map}
+use Rattle.std.proofs.lemmas.Bool.{and_from, cond_both, eq-eqb, lt-ltb, le-ltb}
+use Rattle.std.proofs.lemmas.Bool.Decides.{nat_tests}
+use Rattle.std.proofs.lemmas.List.{length-append, length-map, length-reverse}
+use Rattle.std.proofs.lemmas.List.Sums.{AllPass-from_list_all, list_all-from_AllPass}
+use Rattle.sgb_vec.proofs.Lists.{All-flat_map, All-reverse, filter-all, filter-none}
+use Rattle.std.proofs.lemmas.List.Folds.{list_all-map}
 use Rattle.std.proofs.lemmas.Option.{slice_get-map}
 use Rattle.sgb_vec.specs.Limits.{most_vertices}
 use Rattle.sgb_vec.specs.Results.{and_then}
@@ -22,7 +24,7 @@ use Rattle.sgb_ops.specs.Lines.{has_way_back, is_of_edges, line_graph_of, line_o
 use Rattle.sgb_graph.specs.Vertices.{order_of}
 use Rattle.sgb_ops.specs.Taken.{edges_up_from, lower_record, taken}
 use Rattle.sgb_ops.specs.declared.line_graphs.Line.{Line}
-use Rattle.sgb_ops.proofs.LineEvents.{lines_at, lines_below, lines_below-more}
+use Rattle.sgb_ops.proofs.LineEvents.{lines_at, lines_below, lines_below-more, vertices_down}
 use Rattle.sgb_ops.proofs.Taking.{taken_of_edges}
 
 -- the edges whose smaller end is below k
@@ -33,24 +35,11 @@ edges_below k events = filter (λ e. nat_lt (min e.from e.to) k) events
 one_end : (at below next : Bool) (x : ℕ × Event) (e : Event) (here : List (ℕ × Event)) (low high : List Event)
     → (if at then 1 else 0) + (if below then 1 else 0) ≡ (if next then 1 else 0) → length here + length low ≡ length high
     → length (cond at (x ∷ here) here) + length (cond below (e ∷ low) low) ≡ length (cond next (e ∷ high) high)
-one_end true true true x e here low high p q = absurd (omega (arith, p))
-one_end true true false x e here low high p q = absurd (omega (arith, p))
-one_end true false true x e here low high p q = omega (arith, q)
-one_end true false false x e here low high p q = absurd (omega (arith, p))
-one_end false true true x e here low high p q = omega (arith, q)
-one_end false true false x e here low high p q = absurd (omega (arith, p))
-one_end false false true x e here low high p q = absurd (omega (arith, p))
-one_end false false false x e here low high p q = q
+one_end at below next x e here low high p q = grind (arith, p, q)
 
 -- the same of a number
 one_number : (a k : ℕ) → (if a == k then 1 else 0) + (if nat_lt a k then 1 else 0) ≡ (if nat_lt a (k + 1) then 1 else 0)
-one_number a k = elim (cases_lt a k) [
-  | inl low ↦ rw (ne_eqb a k (λ e. absurd (omega (arith, e, low))), lt-ltb a k low, lt-ltb a (k + 1) (omega (arith, low))) refl
-  | inr high ↦ elim (cases_eq a k) [
-    | inl e ↦ rw (eq-eqb a k e, le-ltb a k high, lt-ltb a (k + 1) (omega (arith, e))) refl
-    | inr n ↦ rw (ne_eqb a k n, le-ltb a k high, le-ltb a (k + 1) (omega (arith, n, high))) refl
-  ]
-]
+one_number a k = grind (arith, nat_tests)
 
 -- those with the smaller end k and those below it are those below k + 1
 edges_more : (k i : ℕ) (events : List Event)
@@ -63,16 +52,11 @@ edges_more k i (e ∷ events) =
 
 -- no edge has a smaller end below 0
 edges_below_none : (events : List Event) → length (edges_below 0 events) ≡ 0
-edges_below_none [] = refl
-edges_below_none (e ∷ events) = rw (le-ltb (min e.from e.to) 0 (omega arith)) (edges_below_none events)
+edges_below_none events = ap length (filter-none (λ (e : Event). nat_lt (min e.from e.to) 0) events (λ k d h. le-ltb _ 0 (omega arith)))
 
 -- all edges have a smaller end that is a vertex
 edges_below_all : (n : ℕ) (events : List Event) → All (HasEndsBelow n) events → length (edges_below n events) ≡ length events
-edges_below_all n [] within = refl
-edges_below_all n (e ∷ events) within =
-    let ends = All-head (HasEndsBelow n) e events within in
-    let low : min e.from e.to < n = omega (arith, ends.0) in
-    rw (lt-ltb (min e.from e.to) n low) (ap suc (edges_below_all n events (All-tail (HasEndsBelow n) e events within)))
+edges_below_all n events within = ap length (filter-all (λ (e : Event). nat_lt (min e.from e.to) n) events (λ k d h. lt-ltb _ n (omega (arith, (within k d h).0))))
 
 -- each edge has two records
 two_each : (events : List Event) → length (all_records false events) ≡ 2 * length events
@@ -105,21 +89,14 @@ lines_count events g has =
 
 -- which are half of the arcs
 half_of_arcs : (events : List Event) (g : GraphData) → HasArcsOf false events g → length (lines_of_graph g false) ≡ g.m / 2
-half_of_arcs events g has =
-    let lines = lines_count events g has in
-    let two = two_each events in
-    let count = has.count in
-    omega (arith, lines, two, count)
+half_of_arcs events g has = omega (arith, lines_count events g has, two_each events, has.count)
 
 -- the way back of an arc, by the tips of the records
 back_by_tips : (records : List ArcRec) (v k : ℕ)
     → option_map_or (λ r. points_to r.tip v) (slice_get records k) false ≡ option_map_or (λ t. points_to t v) (slice_get (map (λ r. r.tip) records) k) false
 back_by_tips records v k =
-    by_record (slice_get records k) ∙ ap (λ o. option_map_or (λ t. points_to t v) o false) (sym (slice_get-map (λ (r : ArcRec). r.tip) records k))
-  where
-    by_record : (o : Option ArcRec) → option_map_or (λ r. points_to r.tip v) o false ≡ option_map_or (λ t. points_to t v) (option_map (λ r. r.tip) o) false
-    by_record None = refl
-    by_record (Some r) = refl
+    elim (slice_get records k) as (λ o. option_map_or (λ r. points_to r.tip v) o false ≡ option_map_or (λ t. points_to t v) (option_map (λ r. r.tip) o) false) [ None ↦ refl | Some r ↦ refl ]
+    ∙ ap (λ o. option_map_or (λ t. points_to t v) o false) (sym (slice_get-map (λ (r : ArcRec). r.tip) records k))
 
 -- the lower record of an edge at this place has its way back
 abbrev way_back_of : GraphData → ℕ → ℕ × Event → Bool
@@ -150,11 +127,7 @@ ways_back_from g v i (e ∷ events) same =
 
 -- what all elements pass, they pass in the other order
 passes_reverse : {X : Type 0} (p : X → Bool) (xs : List X) → list_all p xs ≡ true → list_all p (reverse xs) ≡ true
-passes_reverse p [] all = refl
-passes_reverse p (x ∷ xs) all =
-    let parts = and_parts (p x) (list_all p xs) all in
-    ap (list_all p) (reverse-append (x ∷ []) xs)
-    ∙ (list_all-append p (reverse xs) (x ∷ []) ∙ and_from (list_all p (reverse xs)) (p x && true) (passes_reverse p xs parts.1) (and_from (p x) true parts.0 refl))
+passes_reverse p xs all = list_all-from_AllPass p (reverse xs) (All-reverse (λ x. p x ≡ true) xs (AllPass-from_list_all p xs all))
 
 -- each line that begins at v has its way back
 ways_back_at : (events : List Event) (g : GraphData) (v : ℕ) → HasArcsOf false events g → v < order_of g → list_all (has_way_back g) (lines_at g false v) ≡ true
@@ -166,32 +139,28 @@ ways_back_at events g v has below =
     ∙ (ap (list_all back) (taken_of_edges events g v has below)
     ∙ passes_reverse back (map lower_record edges) (list_all-map back lower_record edges ∙ ways_back_from g v 0 events same))
 
--- so has each that begins below k
-ways_back_below : (events : List Event) (g : GraphData) (k : ℕ) → HasArcsOf false events g → k ≤ order_of g → list_all (has_way_back g) (lines_below g false k) ≡ true
-ways_back_below events g zero has few = refl
-ways_back_below events g (suc k) has few =
-    let next : suc k ≡ k + 1 = omega arith in
-    let here = ways_back_at events g k has (omega (arith, few)) in
-    let below = ways_back_below events g k has (omega (arith, few)) in
-    ap (list_all (has_way_back g)) (ap (lines_below g false) next ∙ lines_below-more g false k)
-    ∙ (list_all-append (has_way_back g) (lines_at g false k) (lines_below g false k) ∙ and_from _ _ here below)
+-- so has each line
+ways_back : (events : List Event) (g : GraphData) → HasArcsOf false events g → list_all (has_way_back g) (lines_of_graph g false) ≡ true
+ways_back events g has =
+    list_all-from_AllPass (has_way_back g) (lines_of_graph g false)
+    (All-flat_map (λ l. has_way_back g l ≡ true) (lines_at g false) (reverse (range_with_len 0 (order_of g)))
+    (λ k d h.
+    let v = get_or (reverse (range_with_len 0 (order_of g))) k d in
+    AllPass-from_list_all (has_way_back g) (lines_at g false v) (ways_back_at events g v has (vertices_down (order_of g) k d h))))
 
 -- a graph that is one of edges is not refused for that
 not_refused : (g : GraphData) (lines : List Line) (edges : Bool) (make : List Line → Description) → edges ≡ true
     → and_then (if not edges then Err Invalid else (if nat_lt most_vertices (length lines) then Err VeryBad else Ok lines)) (λ l. Ok (make l)) ≢ Err Invalid
 not_refused g lines false make is = absurd cc
-not_refused g lines true make is = by_count (nat_lt most_vertices (length lines))
-  where
-    by_count : (many : Bool) → and_then (if many then Err VeryBad else Ok lines) (λ l. Ok (make l)) ≢ Err Invalid
-    by_count true e = absurd cc
-    by_count false e = absurd cc
+not_refused g lines true make is =
+    cond_both (nat_lt most_vertices (length lines)) (Err VeryBad) (Ok lines) (λ r. and_then r (λ l. Ok (make l)) ≢ Err Invalid) (λ _ e. absurd cc) (λ _ e. absurd cc)
 
 -- the lines of a graph of edges are those of its edges, and are not refused
 pub edges_are_lines : (events : List Event) (g : GraphData) → HasArcsOf false events g
     → (is_of_edges g (lines_of_graph g false) ≡ true) × (line_graph_of g false ≢ Err Invalid)
 edges_are_lines events g has =
     let lines = lines_of_graph g false in
-    let ways = ways_back_below events g (order_of g) has (omega arith) in
+    let ways = ways_back events g has in
     let count = half_of_arcs events g has in
     let both : is_of_edges g lines ≡ true = and_from (list_all (has_way_back g) lines) (length lines == g.m / 2) ways (eq-eqb (length lines) (g.m / 2) count) in
     (both, not_refused g lines (is_of_edges g lines) _ both)

@@ -177,3 +177,18 @@ within_by entries v (Some e) here numbered =
 
 pub copies_within : (entries : List Entry) (v : ℕ) → list_any is_unnumbered entries ≡ false → copies_start entries v + option_map_or count_by (slice_get entries v) 0 ≤ total_of entries
 copies_within entries v numbered = within_by entries v (slice_get entries v) refl numbered
+
+-- where the copies of a vertex begin and end, read from places that are these entries: those of a merged vertex
+pub merged_read : (es places : List Entry) (v number : ℕ) (e : Entry) (r : Option ℕ) → places ≡ es → v < length es → e ≡ get_or places v e → r ≡ merged_of e → r ≡ Some number
+    → (number - 1 ≡ copies_start es v) × (number - 1 + 1 ≡ copies_end es v)
+merged_read es places v number e r same below is asked some =
+    let ends = ends_merged es v number e below (is ∙ ap (λ xs. get_or xs v e) same) (some_merged e number (sym asked ∙ some)) in
+    (sym ends.0, sym ends.1)
+
+-- and others, with the table of first copies
+pub own_read : (es places : List Entry) (firsts : List ℕ) (v : ℕ) (e : Entry) (r : Option ℕ) → places ≡ es → firsts ≡ first_copies places → v < length es → e ≡ get_or places v e → r ≡ merged_of e → r ≡ None
+    → ((d : ℕ) → get_or firsts v d ≡ copies_start es v) × ((d : ℕ) → get_or firsts (v + 1) d ≡ copies_end es v)
+own_read es places firsts v e r same table below is asked none =
+    let ends = ends_own es v e below (is ∙ ap (λ xs. get_or xs v e) same) (none_merged e (sym asked ∙ none)) in
+    let all = table ∙ ap first_copies same in
+    ((λ d. first_at es firsts v d all (omega (arith, below)) ∙ sym ends.0), (λ d. first_at es firsts (v + 1) d all (omega (arith, below)) ∙ sym ends.1))

@@ -1,10 +1,9 @@
 -- Events whose ends are vertices of a graph.
-use Rattle.std.proofs.Common.{◌<◌, ◌≤◌, ◌+◌, ℕ, Bool, true, false, cond, List, [], ◌∷◌, map, length, Option, Some, None, arith}
-use Rattle.std.specs.Prelude.{All, flat_map, slice_get, nat_lt}
+use Rattle.std.proofs.Common.{◌<◌, ◌≤◌, ◌+◌, ℕ, Bool, true, false, List, [], map, length, Some, None, arith}
+use Rattle.std.specs.Prelude.{All, flat_map, slice_get}
 use Rattle.std.specs.List.{range_with_len}
 use Rattle.std.specs.Option.{option_map_or}
-use Rattle.std.proofs.lemmas.Bool.{cond_both}
-use Rattle.std.proofs.lemmas.List.Elements.{All-nil, All-cons, All-head, All-tail, All-map, All-weaker}
+use Rattle.std.proofs.lemmas.List.Elements.{All-nil, All-map, All-weaker}
 use Rattle.sgb_graph.specs.Graphs.{GraphData, chain_of, links_of}
 use Rattle.sgb_vec.proofs.Lists.{All-flat_map, range-within}
 use Rattle.sgb_graph.specs.Events.{Event, HasEndsBelow}
@@ -16,8 +15,9 @@ use Rattle.sgb_graph.proofs.Tips.{tips_below}
 use Rattle.sgb_ops.specs.inner.Ends.{AllWithin, event_of}
 use Rattle.sgb_ops.specs.inner.TakenArcs.{taken_of}
 use Rattle.sgb_ops.specs.Merged.{merged_unless}
-use Rattle.sgb_ops.specs.Taken.{is_loop_with, each_edge_once, taken}
+use Rattle.sgb_ops.specs.Taken.{taken}
 use Rattle.sgb_ops.proofs.Merging.{merged_keeps}
+use Rattle.sgb_ops.proofs.Taking.{all_once}
 
 -- the arc leads to a vertex below n
 abbrev pub TipBelow : ℕ → Link → Type 0
@@ -30,35 +30,21 @@ merged_unless_within n false directed events all = merged_keeps (HasEndsBelow n)
 
 -- the arcs of a graph lead to its vertices
 chain_tips : (g : GraphData) (v : ℕ) → IsKept g → v < length g.vertices → All (TipBelow (length g.vertices)) (chain_of g v)
-chain_tips g v kept below = by_vertex (slice_get g.vertices v)
-  where
-    n : ℕ
-    n = length g.vertices
-
-    by_vertex : (o : Option Vertex) → All (TipBelow (length g.vertices)) (option_map_or (λ (x : Vertex). links_of g.records x.arcs) o [])
-    by_vertex None = All-nil (TipBelow n)
-    by_vertex (Some x) = tips_below (length g.records) n (length g.records) g.kinds g.records x.arcs (omega (arith, below)) (parts_of g kept.graph).records
+chain_tips g v kept below =
+    let n = length g.vertices in
+    elim (slice_get g.vertices v) as (λ o. All (TipBelow n) (option_map_or (λ (x : Vertex). links_of g.records x.arcs) o [])) [
+      | None ↦ All-nil (TipBelow n)
+      | Some x ↦ tips_below (length g.records) n (length g.records) g.kinds g.records x.arcs (omega (arith, below)) (parts_of g kept.graph).records
+    ]
 
 -- what is true of all arcs is true of those that are taken
-all_met : (P : Link → Type 0) (v : ℕ) (links : List Link) → All P links → All P (each_edge_once v links)
-unfolding each_edge_once
-all_met P v [] all = all
-all_met P v (l ∷ []) all = cond_both (nat_lt l.tip v) [] (l ∷ []) (All P) (λ _. All-nil P) (λ _. all)
-all_met P v (l ∷ k ∷ links) all =
-    let after = All-tail P l (k ∷ links) all in
-    let next = all_met P v (k ∷ links) after in
-    let later = all_met P v links (All-tail P k links after) in
-    let rest = cond (is_loop_with v l k) (each_edge_once v links) (each_edge_once v (k ∷ links)) in
-    cond_both (nat_lt l.tip v) (each_edge_once v (k ∷ links)) (l ∷ rest) (All P) (λ _. next)
-    (λ _. All-cons P l rest (All-head P l (k ∷ links) all) (cond_both (is_loop_with v l k) (each_edge_once v links) (each_edge_once v (k ∷ links)) (All P) (λ _. later) (λ _. next)))
-
 pub all_taken : (P : Link → Type 0) (directed : Bool) (v : ℕ) (links : List Link) → All P links → All P (taken_of directed v links)
 all_taken P true v links all = all
-all_taken P false v links all = all_met P v links all
+all_taken P false v links all = all_once P v links (λ k d h up. all k d h)
 
 pub taken_tips : (directed : Bool) (g : GraphData) (v : ℕ) → IsKept g → v < length g.vertices → All (TipBelow (length g.vertices)) (taken directed g v)
 taken_tips true g v kept below = chain_tips g v kept below
-taken_tips false g v kept below = all_met (TipBelow (length g.vertices)) v (chain_of g v) (chain_tips g v kept below)
+taken_tips false g v kept below = all_once (TipBelow (length g.vertices)) v (chain_of g v) (λ k d h up. chain_tips g v kept below k d h)
 
 -- the events of arcs on the list of a vertex
 pub events_of_within : (n v : ℕ) (links : List Link) → v < n → All (TipBelow n) links → AllWithin n (map (event_of v) links)

@@ -4,8 +4,9 @@ use Rattle.std.proofs.Common.{◌≡◌, ◌⊎◌, ◌<◌, ◌≤◌, ◌+◌,
 use Rattle.std.specs.Prelude.{All, Contains, flat_map, slice_get}
 use Rattle.std.specs.List.{list_any, enumerate_from, range_with_len}
 use Rattle.std.specs.Option.{option_map_or}
-use Rattle.std.proofs.lemmas.Bool.{cases_eq, cases_lt, eq-eqb, or_parts}
+use Rattle.std.proofs.lemmas.Bool.{both_ways, cases_eq, cases_lt, eq-eqb, or_parts}
 use Rattle.std.proofs.lemmas.Bool.Decides.{nat_tests}
+use Rattle.std.proofs.lemmas.List.Folds.{list_any_at}
 use Rattle.std.proofs.lemmas.List.Elements.{All-nil, All-map, All-filter, All-weaker, All-contains_itself, All-head, All-tail, filter_passes, filter-append}
 use Rattle.sgb_vec.proofs.Lists.{All-flat_map, Contains-range, never_true, range-within}
 use Rattle.sgb_graph.specs.Graphs.{GraphData, chain_of}
@@ -233,16 +234,9 @@ module _ (g : GraphData) (entries : List Entry) (directed : Bool) (numbered : li
   Leaves v f = Own entries v f.from → Own entries v f.to → ⊥
 
   no_loop : (v w : ℕ) (a : Link) → list_any (λ l. l.tip == v) (taken directed g v) ≡ false → Contains (taken directed g w) a → w ≡ v → a.tip ≡ v → ⊥
-  no_loop v w a none has same loop = by_list (taken directed g v) none (subst (λ x. Contains (taken directed g x) a) same has)
-    where
-      by_list : (links : List Link) → list_any (λ l. l.tip == v) links ≡ false → Contains links a → ⊥
-      by_list [] none (k, below, here) = absurd (omega (arith, below))
-      by_list (l ∷ links) none (zero, below, here) =
-          let first = (or_parts (l.tip == v) (list_any (λ l. l.tip == v) links) none).0 in
-          let same : l ≡ a = here in
-          let is = eq-eqb l.tip v (ap (λ (x : Link). x.tip) same ∙ loop) in
-          absurd cc
-      by_list (l ∷ links) none (suc k, below, here) = by_list links (or_parts (l.tip == v) (list_any (λ l. l.tip == v) links) none).1 (k, omega (arith, below), here)
+  no_loop v w a none has same loop =
+      let (k, below, here) = subst (λ x. Contains (taken directed g x) a) same has in
+      both_ways _ none (list_any_at (λ (l : Link). l.tip == v) (taken directed g v) k a below (eq-eqb _ v (ap (λ (x : Link). x.tip) here ∙ loop)))
 
   between_leaves : (v : ℕ) → list_any (λ l. l.tip == v) (taken directed g v) ≡ false → All (Leaves v) (events_between g entries directed)
   between_leaves v none =

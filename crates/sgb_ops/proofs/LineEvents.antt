@@ -1,9 +1,9 @@
 -- The lines of a graph and the events between them, as they are found one by one.
-use Rattle.std.proofs.Common.{◌≡◌, ◌<◌, ◌≤◌, ◌+◌, ℕ, zero, suc, Bool, List, [], ◌∷◌, ◌++◌, map, reverse, length, sym, ap, subst, ◌∙◌, arith}
+use Rattle.std.proofs.Common.{◌≡◌, ◌<◌, ◌≤◌, ◌+◌, ℕ, suc, Bool, List, [], ◌∷◌, ◌++◌, map, reverse, length, get_or, ap, ◌∙◌, arith}
 use Rattle.std.specs.Prelude.{All, flat_map}
 use Rattle.std.specs.List.{range_with_len, enumerate_from}
 use Rattle.std.proofs.lemmas.List.{reverse-append}
-use Rattle.std.proofs.lemmas.List.Elements.{All-nil, All-cons, All-append, All-map}
+use Rattle.std.proofs.lemmas.List.Elements.{All-nil, All-cons, All-map, All-weaker}
 use Rattle.sgb_graph.specs.Graphs.{GraphData}
 use Rattle.sgb_graph.specs.Events.{Event}
 use Rattle.sgb_graph.specs.Growth.{IsKept}
@@ -13,7 +13,7 @@ use Rattle.sgb_graph.specs.Vertices.{order_of}
 use Rattle.sgb_ops.specs.Taken.{taken}
 use Rattle.sgb_ops.specs.declared.line_graphs.Line.{Line}
 use Rattle.sgb_ops.proofs.EventsWithin.{taken_tips}
-use Rattle.sgb_vec.proofs.Lists.{range-more}
+use Rattle.sgb_vec.proofs.Lists.{All-flat_map, All-reverse, range-more, range-within}
 
 -- the numbers below k + 1, k first
 pub below_more : (k : ℕ) → reverse (range_with_len 0 (suc k)) ≡ k ∷ reverse (range_with_len 0 k)
@@ -41,17 +41,14 @@ lines_at_within : (g : GraphData) (directed : Bool) (v : ℕ) → IsKept g → v
 lines_at_within g directed v kept below =
     All-map (LineWithin (order_of g)) (line_of v) (taken directed g v) (λ k d h. (below, taken_tips directed g v kept below k d h))
 
-lines_below_within : (g : GraphData) (directed : Bool) (k : ℕ) → IsKept g → k ≤ order_of g → All (LineWithin (order_of g)) (lines_below g directed k)
-lines_below_within g directed zero kept few = All-nil (LineWithin (order_of g))
-lines_below_within g directed (suc k) kept few =
-    let next : suc k ≡ k + 1 = omega arith in
-    let here = lines_at_within g directed k kept (omega (arith, few)) in
-    let below = lines_below_within g directed k kept (omega (arith, few)) in
-    subst (All (LineWithin (order_of g))) (sym (ap (lines_below g directed) next ∙ lines_below-more g directed k))
-    (All-append (LineWithin (order_of g)) (lines_at g directed k) (lines_below g directed k) here below)
+-- the vertices from the last one down
+pub vertices_down : (n : ℕ) → All (λ v. v < n) (reverse (range_with_len 0 n))
+vertices_down n = All-reverse (λ v. v < n) (range_with_len 0 n) (All-weaker (λ v. (0 ≤ v) × (v < 0 + n)) (λ v. v < n) (λ v p. omega (arith, p.1)) (range_with_len 0 n) (range-within 0 n))
 
 pub lines_within : (g : GraphData) (directed : Bool) → IsKept g → All (LineWithin (order_of g)) (lines_of_graph g directed)
-lines_within g directed kept = lines_below_within g directed (order_of g) kept (omega arith)
+lines_within g directed kept =
+    All-flat_map (LineWithin (order_of g)) (lines_at g directed) (reverse (range_with_len 0 (order_of g)))
+    (λ k d h. lines_at_within g directed (get_or (reverse (range_with_len 0 (order_of g))) k d) kept (vertices_down (order_of g) k d h))
 
 -- the numbers of lines that have those from j on
 pub numbers_below : (n j : ℕ) (others : List Line) → j + length others ≤ n → All (λ (q : ℕ × Line). q.0 < n) (enumerate_from j others)

@@ -1,13 +1,13 @@
 -- The earlier lines at each vertex: the edges to them are those of the line graph. And the lines come from the last vertex down.
-use Rattle.std.proofs.Common.{◌≡◌, ◌≢◌, ◌<◌, ◌≤◌, ◌+◌, ◌==◌, ℕ, zero, suc, pos, Bool, true, false, not, ◌&&◌, ◌||◌, cond, List, [], ◌∷◌, ◌++◌, map, take, length, set, get_or, Vec, Global, append-nil, refl, sym, ap, subst, ◌∙◌, inl, inr, arith}
+use Rattle.std.proofs.Common.{◌≡◌, ◌≢◌, ◌<◌, ◌≤◌, ◌+◌, ◌==◌, ℕ, zero, suc, pos, Bool, true, false, not, ◌&&◌, ◌||◌, cond, List, [], ◌∷◌, ◌++◌, map, take, reverse, length, set, get_or, Vec, Global, append-nil, refl, sym, ap, subst, ◌∙◌, inl, inr, arith}
 use Rattle.std.specs.Prelude.{All, filter, if◌then◌else◌, slice_index_or, slice_set}
-use Rattle.std.specs.List.{enumerate_from}
-use Rattle.std.proofs.lemmas.Bool.{cases_eq, eq-eqb, ne_eqb}
+use Rattle.std.specs.List.{enumerate_from, range_with_len}
+use Rattle.std.proofs.lemmas.Bool.{cases_Bool, cases_eq, eq-eqb, ne_eqb}
 use Rattle.std.proofs.lemmas.List.{map-append, take_more, length-take-le, get_or-take, get_or_default, get_or-set_same, get_or-set_other, map-set, length-map, get_or-map}
-use Rattle.std.proofs.lemmas.List.Elements.{All-nil, All-head, All-tail, All-append, All-map, All-filter, All-weaker}
+use Rattle.std.proofs.lemmas.List.Elements.{All-nil, All-cons, All-head, All-tail, All-map, All-filter, All-weaker}
 use Rattle.std.proofs.lemmas.List.FromFn.{length-enumerate_from, get_or-enumerate_from}
 use Rattle.std.proofs.Math.Bool.{and-false, and-true}
-use Rattle.sgb_vec.proofs.Lists.{eqb-turned, made-append}
+use Rattle.sgb_vec.proofs.Lists.{All-flat_map, eqb-turned, filter-all, filter-none, made-append}
 use Rattle.sgb_graph.specs.Graphs.{GraphData, chain_of}
 use Rattle.sgb_graph.specs.declared.fields.Link.{Link}
 use Rattle.sgb_ops.specs.Lines.{events_to, line_of, lines_of_graph, share_vertex}
@@ -43,14 +43,9 @@ kept r pass test [] same = refl
 kept r pass test (q ∷ qs) same =
     let next = kept r pass test qs (All-tail (λ (p : ℕ × Line). test p.0 ≡ pass p.1) q qs same) in
     let here : test q.0 ≡ pass q.1 = All-head (λ (p : ℕ × Line). test p.0 ≡ pass p.1) q qs same in
-    let rest = filter (λ p. r p.1) qs in
-    let left = filter (λ p. r p.1 && pass p.1) qs in
-    elim (r q.1) as (λ b. filter test (map (λ p. p.0) (cond b (q ∷ rest) rest)) ≡ map (λ p. p.0) (cond (b && pass q.1) (q ∷ left) left)) [
-      | true ↦ rw here (elim (pass q.1) as (λ c. cond c (q.0 ∷ filter test (map (λ p. p.0) rest)) (filter test (map (λ p. p.0) rest)) ≡ map (λ p. p.0) (cond c (q ∷ left) left)) [
-        | true ↦ ap (λ (ks : List ℕ). q.0 ∷ ks) next
-        | false ↦ next
-      ])
-      | false ↦ next
+    elim (cases_Bool (r q.1)) [
+      | inl e ↦ elim (cases_Bool (pass q.1)) [ inl f ↦ rw (e, here, f) (ap (λ (ks : List ℕ). q.0 ∷ ks) next) | inr f ↦ rw (e, here, f) next ]
+      | inr e ↦ rw e next
     ]
 
 -- a line is found by its number
@@ -64,21 +59,11 @@ by_number lines i within = λ k d below.
     subst (λ (q : ℕ × Line). slice_index_or lines q.0 no_line ≡ q.1) (sym at) (ap (λ (j : ℕ). slice_index_or lines j no_line) place ∙ (get_or_default lines k no_line d.1 (omega (arith, early, within)) ∙ sym (get_or-take i lines k d.1 early)))
 
 -- lines that begin at one vertex
-all_pass : (f : ℕ) (test : Line → Bool) → ((x : Line) → x.from ≡ f → test x ≡ true) → (k : ℕ) (lines : List Line) → FallTo f lines f
-    → filter (λ q. test q.1) (enumerate_from k lines) ≡ enumerate_from k lines
-all_pass f test passes k [] falls = refl
-all_pass f test passes k (line ∷ lines) falls =
+all_begin : (f k : ℕ) (lines : List Line) → FallTo f lines f → All (λ (q : ℕ × Line). q.1.from ≡ f) (enumerate_from k lines)
+all_begin f k [] falls = All-nil (λ (q : ℕ × Line). q.1.from ≡ f)
+all_begin f k (line ∷ lines) falls =
     let same : line.from ≡ f = omega (arith, falls.0, falls.2) in
-    let rest = all_pass f test passes (k + 1) lines (subst (λ top. FallTo top lines f) same falls.3) in
-    rw (passes line same, rest) refl
-
-none_pass : (f : ℕ) (test : Line → Bool) → ((x : Line) → x.from ≡ f → test x ≡ false) → (k : ℕ) (lines : List Line) → FallTo f lines f
-    → filter (λ q. test q.1) (enumerate_from k lines) ≡ []
-none_pass f test fails k [] falls = refl
-none_pass f test fails k (line ∷ lines) falls =
-    let same : line.from ≡ f = omega (arith, falls.0, falls.2) in
-    let rest = none_pass f test fails (k + 1) lines (subst (λ top. FallTo top lines f) same falls.3) in
-    rw (fails line same) rest
+    All-cons (λ (q : ℕ × Line). q.1.from ≡ f) (k, line) (enumerate_from (k + 1) lines) same (all_begin f (k + 1) lines (subst (λ top. FallTo top lines f) same falls.3))
 
 -- at its end, and beginning elsewhere; at its beginning
 abbrev at_end : Line → Line → Bool
@@ -101,9 +86,12 @@ split line top k (x ∷ lines) falls = elim (cases_eq x.from line.from) [
   | inl same ↦
       let f = line.from in
       let now : FallTo f (x ∷ lines) f = (omega (arith, same), falls.1, falls.2, falls.3) in
-      let all = all_pass f (share_vertex line) (λ y e. rw (eq-eqb line.from y.from (sym e)) refl) k (x ∷ lines) now in
-      let first = none_pass f (at_end line) (λ y e. rw (eq-eqb y.from line.from e) (and-false (touches line.to y))) k (x ∷ lines) now in
-      let second = all_pass f (at_beginning line) (λ y e. rw (eq-eqb y.from line.from e) refl) k (x ∷ lines) now in
+      let begun = all_begin f k (x ∷ lines) now in
+      let Begins = λ (q : ℕ × Line). q.1.from ≡ f in
+      let qs = enumerate_from k (x ∷ lines) in
+      let all = filter-all (λ (q : ℕ × Line). share_vertex line q.1) qs (All-weaker Begins (λ q. share_vertex line q.1 ≡ true) (λ q e. rw (eq-eqb line.from q.1.from (sym e)) refl) qs begun) in
+      let first = filter-none (λ (q : ℕ × Line). at_end line q.1) qs (All-weaker Begins (λ q. at_end line q.1 ≡ false) (λ q e. rw (eq-eqb q.1.from line.from e) (and-false (touches line.to q.1))) qs begun) in
+      let second = filter-all (λ (q : ℕ × Line). at_beginning line q.1) qs (All-weaker Begins (λ q. at_beginning line q.1 ≡ true) (λ q e. rw (eq-eqb q.1.from line.from e) refl) qs begun) in
       all ∙ sym (ap (λ qs. qs ++ filter (λ q. at_beginning line q.1) (enumerate_from k (x ∷ lines))) first ∙ second)
   | inr other ↦
       let above : line.from < x.from = omega (arith, falls.2, other) in
@@ -163,17 +151,13 @@ pub lines_descend : (g : GraphData) (directed : Bool) → DescendFrom (order_of 
 lines_descend g directed = below_descend g directed (order_of g)
 
 -- undirected, they lead up
-below_lead_up : (g : GraphData) (k : ℕ) → All LeadsUp (lines_below g false k)
-below_lead_up g zero = All-nil LeadsUp
-below_lead_up g (suc k) =
-    let next : suc k ≡ k + 1 = omega arith in
-    subst (All LeadsUp) (sym (ap (lines_below g false) next ∙ lines_below-more g false k))
-    (All-append LeadsUp (lines_at g false k) (lines_below g false k)
-    (All-map LeadsUp (line_of k) (taken false g k) (each_edge_once_leads_up k (chain_of g k)))
-    (below_lead_up g k))
-
 pub lines_lead_up : (g : GraphData) (directed : Bool) → directed ≡ false → All LeadsUp (lines_of_graph g directed)
-lines_lead_up g directed e = subst (λ b. All LeadsUp (lines_of_graph g b)) (sym e) (below_lead_up g (order_of g))
+lines_lead_up g directed e =
+    subst (λ b. All LeadsUp (lines_of_graph g b)) (sym e)
+    (All-flat_map LeadsUp (lines_at g false) (reverse (range_with_len 0 (order_of g)))
+    (λ k d h.
+    let v = get_or (reverse (range_with_len 0 (order_of g))) k d in
+    All-map LeadsUp (line_of v) (taken false g v) (each_edge_once_leads_up v (chain_of g v))))
 
 -- one line more at a vertex
 numbered_more : (k : ℕ) (lines : List Line) (line : Line) → enumerate_from k (lines ++ line ∷ []) ≡ enumerate_from k lines ++ (k + length lines, line) ∷ []
@@ -193,11 +177,7 @@ numbers_more w i lines line within is =
     let numbered = ap (enumerate_from 0) more ∙ (numbered_more 0 before line ∙ ap (λ (j : ℕ). enumerate_from 0 before ++ (j, line) ∷ []) here) in
     ap (λ qs. map (λ q. q.0) (filter (λ q. touches w q.1) qs)) numbered
     ∙ (made-append (λ (q : ℕ × Line). touches w q.1) (λ q. q.0) (enumerate_from 0 before) ((i, line) ∷ [])
-    ∙ ap (λ ks. numbers_at w before ++ ks) (by_test (touches w line)))
-  where
-    by_test : (b : Bool) → map (λ (q : ℕ × Line). q.0) (cond b ((i, line) ∷ []) []) ≡ cond b (i ∷ []) []
-    by_test true = refl
-    by_test false = refl
+    ∙ ap (λ ks. numbers_at w before ++ ks) (elim (touches w line) as (λ b. map (λ (q : ℕ × Line). q.0) (cond b ((i, line) ∷ []) []) ≡ cond b (i ∷ []) []) [ true ↦ refl | false ↦ refl ]))
 
 -- the numbers are those of the lines before
 pub numbers_within : (w i : ℕ) (lines : List Line) → i ≤ length lines → All (λ j. j < length lines) (numbers_at w (take i lines))

@@ -3,6 +3,7 @@ use Rattle.std.proofs.Common.{◌≡◌, ◌<◌, ◌≤◌, ◌+◌, ◌-◌, �
 use Rattle.std.specs.Prelude.{All, filter, slice_index}
 use Rattle.std.specs.List.{enumerate_from, range_with_len}
 use Rattle.std.proofs.lemmas.Bool.{cases_eq, cases_lt, eq-eqb, ne_eqb, lt-ltb, le-ltb}
+use Rattle.std.proofs.lemmas.Bool.Decides.{nat_tests}
 use Rattle.std.proofs.lemmas.List.{length-set, get_or-set_same, get_or-set_other, get_or_default}
 use Rattle.std.proofs.lemmas.List.Sums.{length-filter, count_by-le-length}
 use Rattle.sgb_vec.proofs.Lists.{filter-none}
@@ -25,15 +26,7 @@ few_at w lines =
 -- those that begin at w or later begin at w, or at w + 1 or later
 two_parts : (w : ℕ) (lines : List Line) → begin_from w lines ≡ begin_at w lines + begin_from (w + 1) lines
 two_parts w [] = refl
-two_parts w (line ∷ lines) =
-    let next = two_parts w lines in
-    elim (cases_lt line.from w) [
-      | inl low ↦ rw (lt-ltb line.from w low, ne_eqb line.from w (λ e. absurd (omega (arith, e, low))), lt-ltb line.from (w + 1) (omega (arith, low))) next
-      | inr high ↦ elim (cases_eq line.from w) [
-        | inl e ↦ rw (le-ltb line.from w high, eq-eqb line.from w e, lt-ltb line.from (w + 1) (omega (arith, e))) omega (arith, next)
-        | inr n ↦ rw (le-ltb line.from w high, ne_eqb line.from w n, le-ltb line.from (w + 1) (omega (arith, n, high))) omega (arith, next)
-      ]
-    ]
+two_parts w (line ∷ lines) = grind (arith, nat_tests, two_parts w lines)
 
 -- no line begins past the vertices
 none_past : (n : ℕ) (lines : List Line) → All (LineWithin n) lines → begin_from n lines ≡ 0
@@ -140,6 +133,4 @@ run_events top lines i line first end descend begins ends =
     let w = line.to in
     let start : first ≡ 0 + begin_from (w + 1) lines = omega (arith, begins) in
     let count : end - first ≡ begin_at w lines = omega (arith, begins, ends, two_parts w lines) in
-    ap (events_to_numbers i)
-    (ap (λ (n : ℕ). range_with_len first n) count ∙ (ap (λ (k : ℕ). range_with_len k (begin_at w lines)) start ∙ sym (run w top 0 lines descend)))
-    ∙ events_of_places i (filter (λ q. q.1.from == w) (enumerate_from 0 lines))
+    rw (count, start, ← run w top 0 lines descend) (events_of_places i (filter (λ q. q.1.from == w) (enumerate_from 0 lines)))

@@ -1,5 +1,5 @@
 -- What is known of merged events.
-use Rattle.std.proofs.Common.{◌≡◌, ◌+◌, ◌⊎◌, ◌≤ℤ◌, ℕ, ℤ, pos, Bool, true, false, not, ◌||◌, List, [], ◌∷◌, ◌++◌, map, take, length, fold, refl, sym, ap, ◌∙◌, subst, inl, inr, cond, arith}
+use Rattle.std.proofs.Common.{◌≡◌, ◌+◌, ◌⊎◌, ◌≤ℤ◌, ℕ, ℤ, pos, Bool, true, false, not, ◌||◌, List, [], ◌∷◌, ◌++◌, map, take, length, get_or, fold, refl, sym, ap, ◌∙◌, subst, inl, inr, arith}
 use Rattle.std.specs.Prelude.{All, AllPairs, Contains, filter, flat_map, if◌then◌else◌}
 use Rattle.std.specs.List.{list_any, enumerate_from}
 use Rattle.std.proofs.lemmas.Bool.{cases_Bool, not-true, not_from_false}
@@ -7,7 +7,7 @@ use Rattle.std.proofs.lemmas.Int.{fold-int_min_bounds, fold-int_min_reached}
 use Rattle.std.proofs.lemmas.List.{append_assoc, length-append, take_at}
 use Rattle.std.proofs.lemmas.List.Elements.{All-nil, All-cons, All-head, All-tail, All-contains, All-filter, All-contains_itself, filter_passes, filter-append}
 use Rattle.std.proofs.lemmas.List.Kept.{AllPairs-filter, AllPairs-cons}
-use Rattle.sgb_vec.proofs.Lists.{Contains-first, Contains-other, Contains-none, Contains-cases, Contains-passing}
+use Rattle.sgb_vec.proofs.Lists.{Contains-first, Contains-other, Contains-none, Contains-cases, Contains-image, Contains-passing}
 use Rattle.sgb_graph.specs.Events.{Event}
 use Rattle.sgb_ops.specs.Lengths.{lesser}
 use Rattle.sgb_ops.specs.Merged.{has_ends_of, with_least_length, merged, named_ends, first_ones, IsShortest}
@@ -48,45 +48,31 @@ made_of f (a ∷ xs) y has = by_place (Contains-cases (f a) y (map f xs) has) (m
 
 -- a fact on what is made of the elements that pass a test
 below_kept : (p : Event → Bool) (r : ℤ) (events : List Event) → All (λ x. r ≤ℤ x) (map (λ (f : Event). f.len) (filter p events)) → All (λ f. p f ≡ true → r ≤ℤ f.len) events
-below_kept p r [] all = All-nil (λ (f : Event). p f ≡ true → r ≤ℤ f.len)
-below_kept p r (e ∷ events) all = elim (cases_Bool (p e)) [
-  | inl kept ↦
-      let seen = rw kept at all in
-      All-cons (λ (f : Event). p f ≡ true → r ≤ℤ f.len) e events (λ h. All-head (λ x. r ≤ℤ x) e.len _ seen) (below_kept p r events (All-tail (λ x. r ≤ℤ x) e.len _ seen))
-  | inr out ↦
-      let seen = rw out at all in
-      All-cons (λ (f : Event). p f ≡ true → r ≤ℤ f.len) e events (λ h. absurd cc) (below_kept p r events seen)
-]
+below_kept p r events all = λ k d h kept.
+    let x = get_or events k d in
+    All-contains (λ y. r ≤ℤ y) (map (λ (f : Event). f.len) (filter p events)) x.len all
+    (Contains-image (λ (f : Event). f.len) (filter p events) x (Contains-passing p events x kept (All-contains_itself events k d h)))
 
 -- the first of merged events is as short as the shortest with its ends
 first_is_shortest : (directed : Bool) (e : Event) (events : List Event) → IsShortest directed (e ∷ events) (with_least_length directed e events)
-first_is_shortest directed e events = record {
-  one = by_place (fold-int_min_reached e.len lengths shortest refl);
-  least = All-cons (λ f. has_ends_of directed e f ≡ true → shortest ≤ℤ f.len) e events (λ h. bounds.0) (below_kept (has_ends_of directed e) shortest events bounds.1);
-}
-  where
-    like : List Event
-    like = filter (has_ends_of directed e) events
-
-    lengths : List ℤ
-    lengths = map (λ (f : Event). f.len) like
-
-    shortest : ℤ
-    shortest = fold lesser e.len lengths
-
-    bounds : (shortest ≤ℤ e.len) × All (λ x. shortest ≤ℤ x) lengths
-    bounds = fold-int_min_bounds e.len lengths shortest refl
-
-    by_place : (shortest ≡ e.len) ⊎ Contains lengths shortest
-        → (f : Event) × Contains (e ∷ events) f × (has_ends_of directed e f ≡ true) × (f.len ≡ shortest)
-    by_place (inl own) = (e, Contains-first e events, own_ends directed e, sym own)
-    by_place (inr among) =
-        let of = made_of (λ (f : Event). f.len) like shortest among in (
-          of.0,
-          Contains-other e of.0 events (All-contains (Contains events) like of.0 (All-filter (has_ends_of directed e) (Contains events) events (All-contains_itself events)) of.1),
-          All-contains (λ f. has_ends_of directed e f ≡ true) like of.0 (filter_passes (has_ends_of directed e) events) of.1,
-          of.2,
-        )
+first_is_shortest directed e events =
+    let like = filter (has_ends_of directed e) events in
+    let lengths = map (λ (f : Event). f.len) like in
+    let shortest = fold lesser e.len lengths in
+    let bounds : (shortest ≤ℤ e.len) × All (λ x. shortest ≤ℤ x) lengths = fold-int_min_bounds e.len lengths shortest refl in
+    record {
+      one = elim (fold-int_min_reached e.len lengths shortest refl) [
+        | inl own ↦ (e, Contains-first e events, own_ends directed e, sym own)
+        | inr among ↦
+            let of = made_of (λ (f : Event). f.len) like shortest among in (
+              of.0,
+              Contains-other e of.0 events (All-contains (Contains events) like of.0 (All-filter (has_ends_of directed e) (Contains events) events (All-contains_itself events)) of.1),
+              All-contains (λ f. has_ends_of directed e f ≡ true) like of.0 (filter_passes (has_ends_of directed e) events) of.1,
+              of.2,
+            )
+      ];
+      least = All-cons (λ f. has_ends_of directed e f ≡ true → shortest ≤ℤ f.len) e events (λ h. bounds.0) (below_kept (has_ends_of directed e) shortest events bounds.1);
+    }
 
 -- one that stays so with an event in front that has not its ends
 stays_shortest : (directed : Bool) (e : Event) (events : List Event) (f : Event) → apart directed e f → IsShortest directed events f → IsShortest directed (e ∷ events) f
@@ -112,25 +98,18 @@ merged_shortest directed (e ∷ events) =
 pub merged_has_each : (directed : Bool) (events : List Event) (e : Event) → Contains events e → (f : Event) × Contains (merged directed events) f × (has_ends_of directed e f ≡ true)
 unfolding merged
 merged_has_each directed [] e has = absurd (Contains-none e has)
-merged_has_each directed (a ∷ events) e has = by_place (Contains-cases a e events has) (merged_has_each directed events e)
-  where
-    first : Event
-    first = with_least_length directed a events
-
-    rest : List Event
-    rest = filter (λ f. not (has_ends_of directed a f)) (merged directed events)
-
-    by_ends : (f : Event) → Contains (merged directed events) f → has_ends_of directed e f ≡ true
-        → (has_ends_of directed a f ≡ true) ⊎ (has_ends_of directed a f ≡ false)
-        → (f : Event) × Contains (first ∷ rest) f × (has_ends_of directed e f ≡ true)
-    by_ends f there same (inl like) = (first, Contains-first first rest, ends_joined directed e f a same (ends_turned directed a f like))
-    by_ends f there same (inr other) =
-        (f, Contains-other first f rest (Contains-passing (λ x. not (has_ends_of directed a x)) (merged directed events) f (not_from_false _ other) there), same)
-
-    by_place : (a ≡ e) ⊎ Contains events e → (Contains events e → (f : Event) × Contains (merged directed events) f × (has_ends_of directed e f ≡ true))
-        → (f : Event) × Contains (first ∷ rest) f × (has_ends_of directed e f ≡ true)
-    by_place (inl here) later = (first, Contains-first first rest, subst (λ x. has_ends_of directed x a ≡ true) here (own_ends directed a))
-    by_place (inr there) later = let of = later there in by_ends of.0 of.1 of.2 (cases_Bool (has_ends_of directed a of.0))
+merged_has_each directed (a ∷ events) e has =
+    let first = with_least_length directed a events in
+    let rest = filter (λ f. not (has_ends_of directed a f)) (merged directed events) in
+    elim (Contains-cases a e events has) [
+      | inl here ↦ (first, Contains-first first rest, subst (λ x. has_ends_of directed x a ≡ true) here (own_ends directed a))
+      | inr there ↦
+          let (f, among, same) = merged_has_each directed events e there in
+          elim (cases_Bool (has_ends_of directed a f)) [
+            | inl like ↦ (first, Contains-first first rest, ends_joined directed e f a same (ends_turned directed a f like))
+            | inr other ↦ (f, Contains-other first f rest (Contains-passing (λ x. not (has_ends_of directed a x)) (merged directed events) f (not_from_false _ other) among), same)
+          ]
+    ]
 
 -- the first ones of events that come after others
 abbrev firsts_after : Bool → List Event → List Event → List Event
@@ -168,12 +147,9 @@ firsts_without directed e before (x ∷ events) =
 -- what a test of the ends keeps, seen by the ends
 ends_kept : (t : ℕ × ℕ → Bool) (events : List Event) → map named_ends (filter (λ f. t (named_ends f)) events) ≡ filter t (map named_ends events)
 ends_kept t [] = refl
-ends_kept t (e ∷ events) = by_test (t (named_ends e)) (ends_kept t events)
-  where
-    by_test : (b : Bool) → map named_ends (filter (λ f. t (named_ends f)) events) ≡ filter t (map named_ends events)
-        → map named_ends (cond b (e ∷ filter (λ f. t (named_ends f)) events) (filter (λ f. t (named_ends f)) events)) ≡ cond b (named_ends e ∷ filter t (map named_ends events)) (filter t (map named_ends events))
-    by_test true rest = ap (λ xs. named_ends e ∷ xs) rest
-    by_test false rest = rest
+ends_kept t (e ∷ events) =
+    let rest = ends_kept t events in
+    elim (cases_Bool (t (named_ends e))) [ inl kept ↦ rw kept (ap (λ xs. named_ends e ∷ xs) rest) | inr out ↦ rw out rest ]
 
 -- an event at the ends
 abbrev at_ends : ℕ × ℕ → Event

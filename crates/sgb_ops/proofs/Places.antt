@@ -14,10 +14,7 @@ use Rattle.sgb_ops.proofs.PlainLists.{places_from, places-all, places-next, plac
 
 -- the same event, told in other words
 pub same_event : (directed : Bool) (old new : GraphData) (u v x y : ℕ) (far len : ℤ) → u ≡ x → v ≡ y → far ≡ len → AddsEvents directed old new (record { from = u; to = v; len = far } ∷ []) → AddsEvents directed old new (record { from = x; to = y; len = len } ∷ [])
-same_event directed old new u v x y far len a b c h =
-    subst (λ (k : ℤ). AddsEvents directed old new (record { from = x; to = y; len = k } ∷ [])) c
-    (subst (λ (k : ℕ). AddsEvents directed old new (record { from = x; to = k; len = far } ∷ [])) b
-    (subst (λ (k : ℕ). AddsEvents directed old new (record { from = k; to = v; len = far } ∷ [])) a h))
+same_event directed old new u v x y far len a b c h = rw (← a, ← b, ← c) h
 
 -- a graph that has the events of the places before i; those of the places from i on are still to come
 abbrev pub PlacesLeft : Bool → GraphData → GraphData → (List ℕ → List Event) → ℕ → ℕ → Type 0

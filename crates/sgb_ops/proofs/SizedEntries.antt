@@ -1,5 +1,5 @@
 -- Entries without the graphs that they put in: they make the same vertices, and the same events between copies.
-use Rattle.std.proofs.Common.{◌≡◌, ◌∙◌, ℕ, zero, suc, Bool, List, [], ◌∷◌, Option, Some, None, map, take, refl, ap, arith}
+use Rattle.std.proofs.Common.{◌≡◌, ◌∙◌, ℕ, zero, suc, Bool, List, [], ◌∷◌, Some, None, map, take, refl, ap, arith}
 use Rattle.std.specs.Prelude.{filter, flat_map, slice_get, option_map}
 use Rattle.std.specs.List.{list_any}
 use Rattle.std.specs.Option.{option_map_or}
@@ -17,38 +17,23 @@ use Rattle.sgb_ops.specs.Taken.{taken}
 use Rattle.sgb_ops.specs.inner.Copies.{sized}
 
 -- one entry
-size_sized : (e : Entry) → size_of_entry (sized e) ≡ size_of_entry e
-size_sized (entry.Copies k) = refl
-size_sized (entry.Graph inner) = refl
-size_sized (entry.Merged k) = refl
-
-number_sized : (e : Entry) → merged_number (sized e) ≡ merged_number e
-number_sized (entry.Copies k) = refl
-number_sized (entry.Graph inner) = refl
-number_sized (entry.Merged k) = refl
-
-unnumbered_sized : (e : Entry) → is_unnumbered (sized e) ≡ is_unnumbered e
-unnumbered_sized (entry.Copies k) = refl
-unnumbered_sized (entry.Graph inner) = refl
-unnumbered_sized (entry.Merged k) = refl
-
-copies_by_sized : (start : ℕ) (e : Entry) → copies_by start (sized e) ≡ copies_by start e
-copies_by_sized start (entry.Copies k) = refl
-copies_by_sized start (entry.Graph inner) = refl
-copies_by_sized start (entry.Merged k) = refl
+one_sized : (e : Entry) → (size_of_entry (sized e) ≡ size_of_entry e) × (merged_number (sized e) ≡ merged_number e) × (is_unnumbered (sized e) ≡ is_unnumbered e) × ((start : ℕ) → copies_by start (sized e) ≡ copies_by start e)
+one_sized (entry.Copies k) = (refl, refl, refl, λ start. refl)
+one_sized (entry.Graph inner) = (refl, refl, refl, λ start. refl)
+one_sized (entry.Merged k) = (refl, refl, refl, λ start. refl)
 
 -- all of them
 pub merged_sized : (es : List Entry) → merged_count (map sized es) ≡ merged_count es
 merged_sized [] = refl
-merged_sized (e ∷ es) = rw (number_sized e, merged_sized es) refl
+merged_sized (e ∷ es) = rw ((one_sized e).1, merged_sized es) refl
 
 pub numbered_sized : (es : List Entry) → list_any is_unnumbered (map sized es) ≡ list_any is_unnumbered es
 numbered_sized [] = refl
-numbered_sized (e ∷ es) = rw (unnumbered_sized e, numbered_sized es) refl
+numbered_sized (e ∷ es) = rw ((one_sized e).2, numbered_sized es) refl
 
 own_sized : (es : List Entry) → own_total (map sized es) ≡ own_total es
 own_sized [] = refl
-own_sized (e ∷ es) = omega (arith, sum_by-cons size_of_entry (sized e) (map sized es), sum_by-cons size_of_entry e es, size_sized e, own_sized es)
+own_sized (e ∷ es) = omega (arith, sum_by-cons size_of_entry (sized e) (map sized es), sum_by-cons size_of_entry e es, (one_sized e).0, own_sized es)
 
 pub total_sized : (es : List Entry) → total_of (map sized es) ≡ total_of es
 total_sized es = omega (arith, merged_sized es, own_sized es)
@@ -57,17 +42,15 @@ total_sized es = omega (arith, merged_sized es, own_sized es)
 taken_sized : (es : List Entry) (v : ℕ) → own_total (take v (map sized es)) ≡ own_total (take v es)
 taken_sized es zero = refl
 taken_sized [] (suc v) = refl
-taken_sized (e ∷ es) (suc v) = omega (arith, sum_by-cons size_of_entry (sized e) (take v (map sized es)), sum_by-cons size_of_entry e (take v es), size_sized e, taken_sized es v)
+taken_sized (e ∷ es) (suc v) = omega (arith, sum_by-cons size_of_entry (sized e) (take v (map sized es)), sum_by-cons size_of_entry e (take v es), (one_sized e).0, taken_sized es v)
 
 pub first_sized : (es : List Entry) (v : ℕ) → first_copy (map sized es) v ≡ first_copy es v
 first_sized es v = omega (arith, merged_sized es, taken_sized es v)
 
 pub copies_sized : (es : List Entry) (v : ℕ) → copies_of (map sized es) v ≡ copies_of es v
-copies_sized es v = rw (slice_get-map sized es v, first_sized es v) (by_option (first_copy es v) (slice_get es v))
-  where
-    by_option : (start : ℕ) (o : Option Entry) → option_map_or (copies_by start) (option_map sized o) [] ≡ option_map_or (copies_by start) o []
-    by_option start None = refl
-    by_option start (Some e) = copies_by_sized start e
+copies_sized es v =
+    rw (slice_get-map sized es v, first_sized es v)
+    (elim (slice_get es v) as (λ o. option_map_or (copies_by (first_copy es v)) (option_map sized o) [] ≡ option_map_or (copies_by (first_copy es v)) o []) [ None ↦ refl | Some e ↦ (one_sized e).3 (first_copy es v) ])
 
 -- the events between them
 module _ (g : GraphData) (es : List Entry) (directed : Bool) where

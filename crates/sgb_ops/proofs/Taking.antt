@@ -1,9 +1,9 @@
 -- What is known of the arcs taken of a list.
-use Rattle.std.proofs.Common.{◌≡◌, ◌+◌, ◌*◌, ◌≤◌, ◌<◌, ◌==◌, ◌⊎◌, ℕ, ℤ, min, max, Bool, true, false, ◌&&◌, cond, ltb, nat_lt, List, [], ◌∷◌, ◌++◌, map, reverse, length, refl, sym, ap, ◌∙◌, inl, inr, Option, Some, None, arith}
+use Rattle.std.proofs.Common.{◌≡◌, ◌+◌, ◌*◌, ◌≤◌, ◌<◌, ◌==◌, ℕ, ℤ, min, max, Bool, true, false, ◌&&◌, cond, ltb, nat_lt, List, [], ◌∷◌, ◌++◌, map, reverse, length, refl, sym, ap, ◌∙◌, inl, inr, Option, Some, None, arith}
 use Rattle.std.specs.Prelude.{All, filter, if◌then◌else◌}
 use Rattle.std.specs.List.{enumerate_from}
 use Rattle.std.specs.Option.{option_map_or}
-use Rattle.std.proofs.lemmas.Bool.{cases_Bool, cases_eq, cond_both, ltb-false, eq-eqb, ne_eqb, lt-ltb, le-ltb, and_right}
+use Rattle.std.proofs.lemmas.Bool.{cases_eq, cond_both, ltb-false, eq-eqb, ne_eqb, lt-ltb, le-ltb, and_right}
 use Rattle.std.proofs.lemmas.List.{append-nil, reverse-append}
 use Rattle.std.proofs.lemmas.List.Elements.{All-nil, All-cons, All-head, All-tail, All-append, All-weaker}
 use Rattle.sgb_graph.specs.Graphs.{GraphData}
@@ -17,18 +17,23 @@ use Rattle.sgb_ops.specs.inner.TakenArcs.{IsStep, taken_after, without_other}
 abbrev leads_up : ℕ → Link → Type 0
 leads_up v l = v ≤ l.tip
 
--- the arcs taken lead up
-pub each_edge_once_leads_up : (v : ℕ) (links : List Link) → All (leads_up v) (each_edge_once v links)
+-- what holds of each arc that leads up holds of those taken
+pub all_once : (P : Link → Type 0) (v : ℕ) (links : List Link) → All (λ l. v ≤ l.tip → P l) links → All P (each_edge_once v links)
 unfolding each_edge_once
-each_edge_once_leads_up v [] = All-nil (leads_up v)
-each_edge_once_leads_up v (l ∷ []) =
-    cond_both (ltb l.tip v) [] (l ∷ []) (All (leads_up v)) (λ _. All-nil (leads_up v)) (λ e. All-cons (leads_up v) l [] (ltb-false l.tip v e) (All-nil (leads_up v)))
-each_edge_once_leads_up v (l ∷ k ∷ links) =
-    let next = each_edge_once_leads_up v (k ∷ links) in
-    let later = each_edge_once_leads_up v links in
+all_once P v [] all = All-nil P
+all_once P v (l ∷ []) all =
+    cond_both (ltb l.tip v) [] (l ∷ []) (All P) (λ _. All-nil P) (λ e. All-cons P l [] (All-head (λ m. v ≤ m.tip → P m) l [] all (ltb-false l.tip v e)) (All-nil P))
+all_once P v (l ∷ k ∷ links) all =
+    let after = All-tail (λ m. v ≤ m.tip → P m) l (k ∷ links) all in
+    let next = all_once P v (k ∷ links) after in
+    let later = all_once P v links (All-tail (λ m. v ≤ m.tip → P m) k links after) in
     let rest = if is_loop_with v l k then each_edge_once v links else each_edge_once v (k ∷ links) in
-    cond_both (ltb l.tip v) (each_edge_once v (k ∷ links)) (l ∷ rest) (All (leads_up v)) (λ _. next)
-    (λ e. All-cons (leads_up v) l rest (ltb-false l.tip v e) (cond_both (is_loop_with v l k) (each_edge_once v links) (each_edge_once v (k ∷ links)) (All (leads_up v)) (λ _. later) (λ _. next)))
+    cond_both (ltb l.tip v) (each_edge_once v (k ∷ links)) (l ∷ rest) (All P) (λ _. next)
+    (λ e. All-cons P l rest (All-head (λ m. v ≤ m.tip → P m) l (k ∷ links) all (ltb-false l.tip v e)) (cond_both (is_loop_with v l k) (each_edge_once v links) (each_edge_once v (k ∷ links)) (All P) (λ _. later) (λ _. next)))
+
+-- they lead up
+pub each_edge_once_leads_up : (v : ℕ) (links : List Link) → All (leads_up v) (each_edge_once v links)
+each_edge_once_leads_up v links = all_once (leads_up v) v links (λ k d h up. up)
 
 -- a list of arcs cut in two where no number is followed by the next: what is taken of each part
 apart_at : (v : ℕ) (skip loop : Bool) (l : Link) (one two three four rest : List Link) → one ≡ two ++ rest → three ≡ four ++ rest
@@ -65,48 +70,28 @@ taken_apart v low (l ∷ m ∷ xs) ys high below =
 one_edge : (v k a b : ℕ) (far : ℤ) → a ≤ b
     → each_edge_once v (links_at v k (record_from a b far ∷ record_from b a far ∷ [])) ≡ (if a == v then link k b far ∷ [] else [])
 unfolding each_edge_once
-one_edge v k a b far up = by_ends (cases_eq a v) (cases_eq b v)
-  where
-    by_ends : (a ≡ v) ⊎ (a ≡ v → ⊥) → (b ≡ v) ⊎ (b ≡ v → ⊥)
-        → each_edge_once v (links_at v k (record_from a b far ∷ record_from b a far ∷ [])) ≡ (if a == v then link k b far ∷ [] else [])
-    by_ends (inl low) (inl high) =
-        let is_low = eq-eqb a v low in
-        let is_high = eq-eqb b v high in
-        let up_there = le-ltb b v (omega arith) in
-        let next = eq-eqb (k + 1) (k + 1) refl in
-        simp (is_low, is_high, up_there, next)
-    by_ends (inl low) (inr not_high) =
-        let is_low = eq-eqb a v low in
-        let is_high = ne_eqb b v not_high in
-        let up_there = le-ltb b v (omega arith) in
-        simp (is_low, is_high, up_there)
-    by_ends (inr not_low) (inl high) =
-        let is_low = ne_eqb a v not_low in
-        let is_high = eq-eqb b v high in
-        let down : a < v = omega arith in
-        let down_there = lt-ltb a v down in
-        simp (is_low, is_high, down_there)
-    by_ends (inr not_low) (inr not_high) =
-        let is_low = ne_eqb a v not_low in
-        let is_high = ne_eqb b v not_high in
-        simp (is_low, is_high)
+one_edge v k a b far up =
+    elim (cases_eq a v) [
+      | inl low ↦ elim (cases_eq b v) [
+        | inl high ↦ simp (eq-eqb a v low, eq-eqb b v high, le-ltb b v (omega arith), eq-eqb (k + 1) (k + 1) refl)
+        | inr not_high ↦ simp (eq-eqb a v low, ne_eqb b v not_high, le-ltb b v (omega arith))
+      ]
+      | inr not_low ↦ elim (cases_eq b v) [
+        | inl high ↦ simp (ne_eqb a v not_low, eq-eqb b v high, lt-ltb a v (omega arith))
+        | inr not_high ↦ simp (ne_eqb a v not_low, ne_eqb b v not_high)
+      ]
+    ]
 
 -- the numbers of the links of some rows
 numbers_at : (v k : ℕ) (rows : List Record) → All (λ l. (k ≤ l.number) × (l.number < k + length rows)) (links_at v k rows)
 numbers_at v k [] = All-nil _
-numbers_at v k (r ∷ rows) = by_start (cases_Bool (r.start == v)) (numbers_at v (k + 1) rows)
+numbers_at v k (r ∷ rows) =
+    All-append In (if r.start == v then link k r.tip r.len ∷ [] else []) (links_at v (k + 1) rows)
+    (cond_both (r.start == v) (link k r.tip r.len ∷ []) [] (All In) (λ _. All-cons In (link k r.tip r.len) [] (omega arith, omega arith) (All-nil In)) (λ _. All-nil In))
+    (All-weaker (λ l. (k + 1 ≤ l.number) × (l.number < k + 1 + length rows)) In (λ l p. (omega (arith, p.0), omega (arith, p.1))) (links_at v (k + 1) rows) (numbers_at v (k + 1) rows))
   where
     In : Link → Type 0
     In l = (k ≤ l.number) × (l.number < k + length (r ∷ rows))
-
-    wider : All (λ l. (k + 1 ≤ l.number) × (l.number < k + 1 + length rows)) (links_at v (k + 1) rows) → All In (links_at v (k + 1) rows)
-    wider all = All-weaker (λ l. (k + 1 ≤ l.number) × (l.number < k + 1 + length rows)) In (λ l p. (omega (arith, p.0), omega (arith, p.1))) (links_at v (k + 1) rows) all
-
-    by_start : ((r.start == v) ≡ true) ⊎ ((r.start == v) ≡ false)
-        → All (λ l. (k + 1 ≤ l.number) × (l.number < k + 1 + length rows)) (links_at v (k + 1) rows)
-        → All In ((if r.start == v then link k r.tip r.len ∷ [] else []) ++ links_at v (k + 1) rows)
-    by_start (inl starts) all = rw starts (All-cons In (link k r.tip r.len) (links_at v (k + 1) rows) (omega arith, omega arith) (wider all))
-    by_start (inr not_here) all = rw not_here (wider all)
 
 -- the numbers on the list of events whose first record has number k
 numbers_from_first : (k : ℕ) (events : List Event) (v : ℕ) → All (λ l. k ≤ l.number) (list_from false k events v)
@@ -166,42 +151,28 @@ step_directed v after_loop l out = λ links. kept_after after_loop l links out
 one_taken : (v : ℕ) (l : Link) (links : List Link)
     → each_edge_once v (l ∷ links) ≡ (if nat_lt l.tip v then each_edge_once v links else l ∷ each_edge_once v (without_other (if l.tip == v then Some l.number else None) links))
 unfolding each_edge_once
-one_taken v l [] = by_test (l.tip == v)
-  where
-    by_test : (b : Bool) → (if nat_lt l.tip v then [] else l ∷ [])
-        ≡ (if nat_lt l.tip v then [] else l ∷ each_edge_once v (without_other (if b then Some l.number else None) []))
-    by_test true = refl
-    by_test false = refl
+one_taken v l [] =
+    elim (l.tip == v) as (λ b. (if nat_lt l.tip v then [] else l ∷ []) ≡ (if nat_lt l.tip v then [] else l ∷ each_edge_once v (without_other (if b then Some l.number else None) []))) [ true ↦ refl | false ↦ refl ]
 one_taken v l (k ∷ links) = by_test (l.tip == v)
   where
-    by_next : (b : Bool) → (if b then each_edge_once v links else each_edge_once v (k ∷ links)) ≡ each_edge_once v (if b then links else k ∷ links)
-    by_next true = refl
-    by_next false = refl
-
     by_test : (b : Bool) → (if nat_lt l.tip v then each_edge_once v (k ∷ links) else l ∷ (if b && (k.number == l.number + 1) then each_edge_once v links else each_edge_once v (k ∷ links)))
         ≡ (if nat_lt l.tip v then each_edge_once v (k ∷ links) else l ∷ each_edge_once v (without_other (if b then Some l.number else None) (k ∷ links)))
-    by_test true = ap (λ xs. if nat_lt l.tip v then each_edge_once v (k ∷ links) else l ∷ xs) (by_next (k.number == l.number + 1))
+    by_test true =
+        ap (λ xs. if nat_lt l.tip v then each_edge_once v (k ∷ links) else l ∷ xs)
+        (elim (k.number == l.number + 1) as (λ b. (if b then each_edge_once v links else each_edge_once v (k ∷ links)) ≡ each_edge_once v (if b then links else k ∷ links)) [ true ↦ refl | false ↦ refl ])
     by_test false = refl
 
 -- an arc to a vertex before v is passed over
 pub step_down : (v : ℕ) (after_loop : Option ℕ) (l : Link) → is_other after_loop l.number ≡ false → l.tip < v → IsStep false v after_loop l false None
-step_down v after_loop l out down = λ links.
-    let before = lt-ltb l.tip v down in
-    ap (each_edge_once v) (kept_after after_loop l links out) ∙ (one_taken v l links ∙ rw before refl)
+step_down v after_loop l out down = λ links. rw (kept_after after_loop l links out, one_taken v l links, lt-ltb l.tip v down) refl
 
 -- of a loop the first record is taken
 pub step_loop : (v : ℕ) (after_loop : Option ℕ) (l : Link) → is_other after_loop l.number ≡ false → l.tip ≡ v → IsStep false v after_loop l true (Some l.number)
-step_loop v after_loop l out here = λ links.
-    let up = le-ltb l.tip v (omega arith) in
-    let loop = eq-eqb l.tip v here in
-    ap (each_edge_once v) (kept_after after_loop l links out) ∙ (one_taken v l links ∙ rw (up, loop) refl)
+step_loop v after_loop l out here = λ links. rw (kept_after after_loop l links out, one_taken v l links, le-ltb l.tip v (omega arith), eq-eqb l.tip v here) refl
 
 -- an arc to a vertex after v is taken
 pub step_up : (v : ℕ) (after_loop : Option ℕ) (l : Link) → is_other after_loop l.number ≡ false → v ≤ l.tip → (l.tip ≡ v → ⊥) → IsStep false v after_loop l true None
-step_up v after_loop l out up other = λ links.
-    let not_down = le-ltb l.tip v up in
-    let no_loop = ne_eqb l.tip v other in
-    ap (each_edge_once v) (kept_after after_loop l links out) ∙ (one_taken v l links ∙ rw (not_down, no_loop) refl)
+step_up v after_loop l out up other = λ links. rw (kept_after after_loop l links out, one_taken v l links, le-ltb l.tip v up, ne_eqb l.tip v other) refl
 
 -- of no arcs none is taken
 pub none_taken : (directed : Bool) (v : ℕ) (after_loop : Option ℕ) → taken_after directed v after_loop [] ≡ []

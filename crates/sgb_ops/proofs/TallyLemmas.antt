@@ -4,7 +4,7 @@ use Rattle.std.specs.Prelude.{All, filter, if◌then◌else◌}
 use Rattle.std.specs.Option.{option_map_or}
 use Rattle.std.proofs.lemmas.Bool.{cases_eq, eq-eqb, ne_eqb, eqb-true}
 use Rattle.std.proofs.lemmas.List.{map_push, length-append}
-use Rattle.std.proofs.lemmas.List.Elements.{All-head, All-filter, filter-append, filter_passes}
+use Rattle.std.proofs.lemmas.List.Elements.{All-filter, filter-append, filter_passes}
 use Rattle.std.proofs.lemmas.List.Sums.{fold-append, length-filter, count_by-le-length}
 use Rattle.sgb_graph.specs.declared.fields.Link.{Link}
 use Rattle.sgb_ops.specs.Intersection.{count_to}
@@ -34,15 +34,10 @@ arcs_to_more : (u : ℕ) (links : List Link) (l : Link) (b : Bool) → (l.tip ==
 arcs_to_more u links l b is =
     filter-append (λ x. x.tip == u) links (l ∷ []) ∙ ap (λ c. arcs_to u links ++ cond c (l ∷ []) []) is
 
--- to u itself
-pub tally_more_here : (u : ℕ) (links : List Link) (l : Link) → l.tip ≡ u → tally_to u (links ++ l ∷ []) ≡ Some (one_more l.len (tally_to u links))
-tally_more_here u links l here =
-    ap tally_of (arcs_to_more u links l true (eq-eqb l.tip u here)) ∙ tally_of_more (arcs_to u links) l
-
--- or to another vertex
-pub tally_more_elsewhere : (u : ℕ) (links : List Link) (l : Link) → (l.tip ≡ u → ⊥) → tally_to u (links ++ l ∷ []) ≡ tally_to u links
-tally_more_elsewhere u links l other =
-    ap tally_of (arcs_to_more u links l false (ne_eqb l.tip u other) ∙ append-nil (arcs_to u links))
+-- to u itself, or to another vertex
+tally_more : (u : ℕ) (links : List Link) (l : Link) (b : Bool) → (l.tip == u) ≡ b → tally_to u (links ++ l ∷ []) ≡ (if b then Some (one_more l.len (tally_to u links)) else tally_to u links)
+tally_more u links l true is = ap tally_of (arcs_to_more u links l true is) ∙ tally_of_more (arcs_to u links) l
+tally_more u links l false is = ap tally_of (arcs_to_more u links l false is ∙ append-nil (arcs_to u links))
 
 -- what stands in a map with one arc more
 pub noted_more : (u : ℕ) (links : List Link) (l : Link) (old now : Option Tally) → old ≡ tally_to l.tip links → now ≡ tally_to u links
@@ -51,24 +46,20 @@ noted_more u links l old now was is = elim (cases_eq l.tip u) [
   | inl here ↦
       let same = eq-eqb l.tip u here in
       let before : old ≡ tally_to u links = was ∙ ap (λ k. tally_to k links) here in
-      rw (same, before) (sym (tally_more_here u links l here))
+      rw (same, before) (sym (tally_more u links l true same))
   | inr other ↦
       let apart = ne_eqb l.tip u other in
-      rw apart (is ∙ sym (tally_more_elsewhere u links l other))
+      rw apart (is ∙ sym (tally_more u links l false apart))
 ]
 
--- how many arcs to u there are, one more arc later
-pub count_more_here : (u : ℕ) (links : List Link) (l : Link) → l.tip ≡ u → count_to u (links ++ l ∷ []) ≡ count_to u links + 1
-count_more_here u links l here =
-    let test = λ (x : Link). x.tip == u in
-    let more = arcs_to_more u links l true (eq-eqb l.tip u here) in
-    omega (arith, length-filter test (links ++ l ∷ []), length-filter test links, ap length more, length-append (arcs_to u links) (l ∷ []))
+-- how many arcs to u there are
+counted : (u : ℕ) (links : List Link) → count_to u links ≡ length (arcs_to u links)
+counted u links = sym (length-filter (λ (x : Link). x.tip == u) links)
 
-pub count_more_elsewhere : (u : ℕ) (links : List Link) (l : Link) → (l.tip ≡ u → ⊥) → count_to u (links ++ l ∷ []) ≡ count_to u links
-count_more_elsewhere u links l other =
-    let test = λ (x : Link). x.tip == u in
-    let more = arcs_to_more u links l false (ne_eqb l.tip u other) ∙ append-nil (arcs_to u links) in
-    omega (arith, length-filter test (links ++ l ∷ []), length-filter test links, ap length more)
+-- one more arc later
+pub count_more : (u : ℕ) (links : List Link) (l : Link) (b : Bool) → (l.tip == u) ≡ b → count_to u (links ++ l ∷ []) ≡ (if b then count_to u links + 1 else count_to u links)
+count_more u links l true is = omega (arith, counted u (links ++ l ∷ []), counted u links, ap length (arcs_to_more u links l true is), length-append (arcs_to u links) (l ∷ []))
+count_more u links l false is = omega (arith, counted u (links ++ l ∷ []), counted u links, ap length (arcs_to_more u links l false is ∙ append-nil (arcs_to u links)))
 
 -- an arc that stands after others is not among them
 pub count_at : (u : ℕ) (before links : List Link) (l : Link) → l.tip ≡ u → count_to u before < count_to u (before ++ l ∷ links)
@@ -90,12 +81,6 @@ few_to u links =
 -- a vertex that some of the arcs lead to is below n where they all lead below n
 pub tip_counted : (n u : ℕ) (links : List Link) → All (TipBelow n) links → 0 < count_to u links → u < n
 tip_counted n u links all some =
-    by_arcs (arcs_to u links) (length-filter test links) (All-filter test (TipBelow n) links all) (filter_passes test links)
-  where
-    test : Link → Bool
-    test x = x.tip == u
-
-    by_arcs : (xs : List Link) → length xs ≡ count_to u links → All (TipBelow n) xs → All (λ x. test x ≡ true) xs → u < n
-    by_arcs [] many below there = absurd (omega (arith, some, many))
-    by_arcs (x ∷ xs) many below there =
-        omega (arith, All-head (TipBelow n) x xs below, eqb-true x.tip u (All-head (λ y. test y ≡ true) x xs there))
+    let within : 0 < length (arcs_to u links) = omega (arith, some, counted u links) in
+    let there = filter_passes (λ (x : Link). x.tip == u) links 0 no_arc within in
+    omega (arith, All-filter (λ (x : Link). x.tip == u) (TipBelow n) links all 0 no_arc within, eqb-true _ u there)

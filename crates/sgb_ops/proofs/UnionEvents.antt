@@ -1,7 +1,7 @@
 -- The events of a union, as they are found and merged vertex by vertex.
-use Rattle.std.proofs.Common.{◌≡◌, ◌<◌, ◌≤◌, ◌==◌, ℕ, Bool, true, false, List, [], ◌++◌, map, get_or, refl, sym, ap, ◌∙◌, append-nil, arith}
-use Rattle.std.specs.Prelude.{All, filter, flat_map, nat_lt, if◌then◌else◌}
-use Rattle.std.proofs.lemmas.Bool.{lt-ltb, le-ltb, ltb-true, ne_eqb, and_right}
+use Rattle.std.proofs.Common.{◌≡◌, ◌<◌, ◌≤◌, ◌==◌, ℕ, Bool, true, false, List, [], ◌++◌, map, get_or, refl, sym, ap, append-nil, arith}
+use Rattle.std.specs.Prelude.{All, filter, flat_map, nat_lt}
+use Rattle.std.proofs.lemmas.Bool.{cond_both, lt-ltb, le-ltb, ltb-true, ne_eqb, and_right}
 use Rattle.std.proofs.lemmas.List.{map-append}
 use Rattle.std.proofs.lemmas.List.Elements.{All-append, All-filter, All-map, All-nil, filter_passes}
 use Rattle.sgb_vec.proofs.Lists.{filter-all}
@@ -42,11 +42,7 @@ module _ (g h : GraphData) (directed : Bool) (v : ℕ) (kept : IsKept g) (below 
   of_both none old new has empty first second =
       let own = all_lead_below (order_of g) (taken directed g v) (taken_tips directed g v kept below) in
       let there = lt-ltb v (order_of h) has in
-      let seconds = leading_below (order_of g) (taken directed h v) in
-      second
-      ∙ (ap (λ es. es ++ map (event_of v) seconds) (first ∙ (ap (λ es. es ++ map (event_of v) (leading_below (order_of g) (taken directed g v))) empty ∙ ap (map (event_of v)) own))
-      ∙ (sym (map-append (event_of v) (taken directed g v) seconds)
-      ∙ ap (λ b. map (event_of v) (taken directed g v ++ (if b then seconds else []))) (sym there)))
+      rw (second, first, empty, own, there) (sym (map-append (event_of v) (taken directed g v) (leading_below (order_of g) (taken directed h v))))
 
   -- one that the second graph has not
   pub of_first : (none new : List Event) → order_of h ≤ v → none ≡ []
@@ -55,20 +51,13 @@ module _ (g h : GraphData) (directed : Bool) (v : ℕ) (kept : IsKept g) (below 
   of_first none new past empty first =
       let own = all_lead_below (order_of g) (taken directed g v) (taken_tips directed g v kept below) in
       let not_there = le-ltb v (order_of h) past in
-      first
-      ∙ (ap (λ es. es ++ map (event_of v) (leading_below (order_of g) (taken directed g v))) empty
-      ∙ (ap (map (event_of v)) (own ∙ sym (append-nil (taken directed g v)))
-      ∙ ap (λ b. map (event_of v) (taken directed g v ++ (if b then leading_below (order_of g) (taken directed h v) else []))) (sym not_there)))
+      rw (first, empty, own, not_there) (ap (map (event_of v)) (sym (append-nil (taken directed g v))))
 
   -- its arcs lead to vertices of the first graph
   arcs_lead_below : All (TipBelow (order_of g)) (union_arcs g h directed v)
   arcs_lead_below =
       All-append (TipBelow (order_of g)) (taken directed g v) _ (taken_tips directed g v kept below)
-      (by_test (nat_lt v (order_of h)))
-    where
-      by_test : (b : Bool) → All (TipBelow (order_of g)) (if b then leading_below (order_of g) (taken directed h v) else [])
-      by_test true = lead_below (order_of g) (taken directed h v)
-      by_test false = All-nil (TipBelow (order_of g))
+      (cond_both (nat_lt v (order_of h)) (leading_below (order_of g) (taken directed h v)) [] (All (TipBelow (order_of g))) (λ _. lead_below (order_of g) (taken directed h v)) (λ _. All-nil (TipBelow (order_of g))))
 
   -- so the ends of its events that are left are vertices of a graph of that size
   pub left_within : (multi : Bool) (n : ℕ) (found left : List Event) → n ≡ order_of g
@@ -85,14 +74,12 @@ arcs_lead_up : (g h : GraphData) (directed : Bool) (v : ℕ) → All (LeadsUp di
 arcs_lead_up g h true v = λ k d below same. absurd cc
 arcs_lead_up g h false v =
     All-append (LeadsUp false v) (taken false g v) _ (up g)
-    (by_test (nat_lt v (order_of h)))
+    (cond_both (nat_lt v (order_of h)) (leading_below (order_of g) (taken false h v)) [] (All (LeadsUp false v))
+    (λ _. All-filter (λ l. nat_lt l.tip (order_of g)) (LeadsUp false v) (taken false h v) (up h))
+    (λ _. All-nil (LeadsUp false v)))
   where
     up : (x : GraphData) → All (LeadsUp false v) (taken false x v)
     up x = λ k d below same. each_edge_once_leads_up v (chain_of x v) k d below
-
-    by_test : (b : Bool) → All (LeadsUp false v) (if b then leading_below (order_of g) (taken false h v) else [])
-    by_test true = All-filter (λ l. nat_lt l.tip (order_of g)) (LeadsUp false v) (taken false h v) (up h)
-    by_test false = All-nil (LeadsUp false v)
 
 -- the events of two arcs of different vertices do not have the same ends
 arcs_apart : (directed : Bool) (u w : ℕ) (l k : Link) → u < w → LeadsUp directed w k → has_ends_of directed (event_of u l) (event_of w k) ≡ false

@@ -1,6 +1,7 @@
 -- Words that clap takes do not enter its own command `help`.
 use Rattle.std.proofs.Common.{◌≡◌, ◌≢◌, ◌∷◌, ℕ, Bool, cond, true, false, List, [], Option, Some, None, is_some, refl, subst, fold, codes}
 use Rattle.std.specs.Str.{bytes_eq}
+use Rattle.std.proofs.lemmas.Bool.{cond_both}
 use Rattle.clap.specs.Faults.{other_fault, step_fault, turn_fault, walk_fault, word_fault}
 use Rattle.clap.specs.Kinds.{or_else}
 use Rattle.clap.specs.Lexer.{long_of, short_of}
@@ -38,11 +39,8 @@ module _ (c : List Rule) where
   -- a word that may be a flag
   flag_word_enters : (waiting : Waiting) (word : Text) (long : Option (Text × Option Text)) (h : Held) → EntersNoHelp (long_or_other c waiting word long h).1
   flag_word_enters waiting word (Some q) h = flag_enters waiting word _ (long_met c (arg_by_long c q.0) q.1 h).1
-  flag_word_enters waiting word None h = go (short_of word)
-    where
-      go : (flags : Option Text) → EntersNoHelp (short_or_plain c waiting word flags h).1
-      go None = plain_enters waiting word h
-      go (Some flags) = flag_enters waiting word _ (bundle c flags h).1
+  flag_word_enters waiting word None h =
+      elim (short_of word) as (λ flags. EntersNoHelp (short_or_plain c waiting word flags h).1) [ None ↦ plain_enters waiting word h | Some flags ↦ flag_enters waiting word _ (bundle c flags h).1 ]
 
 -- ---- any word, where `help` is a command
 
@@ -55,11 +53,9 @@ module _ (s : Shape) (names : Names) (enabled : s.disable_help_subcommand ≡ fa
       let at_help : other_fault s (Some (codes "help")) word h ≡ [] = subst (λ (n : Text). other_fault s (Some n) word h ≡ []) is e in
       let bad : kind.DisplayHelp ∷ kind.InvalidSubcommand ∷ [] ≡ [] = rw enabled at at_help in
       cc
-  other_enters None waiting position word h e = go (bytes_eq word (45 ∷ 45 ∷ []))
-    where
-      go : (b : Bool) → EntersNoHelp (cond b (h, trailing position) (long_or_other s.rules waiting word (long_of word) h)).1
-      go true = tt
-      go false = flag_word_enters s.rules waiting word (long_of word) h
+  other_enters None waiting position word h e =
+      cond_both (bytes_eq word (45 ∷ 45 ∷ [])) (h, trailing position) (long_or_other s.rules waiting word (long_of word) h) (λ met. EntersNoHelp met.1)
+      (λ _. tt) (λ _. flag_word_enters s.rules waiting word (long_of word) h)
 
   -- any word, after `--` too
   word_enters : (is_trailing : Bool) (waiting : Waiting) (position : ℕ) (word : Text) (h : Held) → word_fault s names is_trailing waiting word h ≡ []
@@ -72,11 +68,8 @@ module _ (s : Shape) (names : Names) (enabled : s.disable_help_subcommand ≡ fa
   step_stops (next waiting) word w h none enters = rw none tt
   step_stops (trailing position) word w h none enters = rw none tt
   step_stops (subcommand name) word w h none enters = enters
-  step_stops value word w h none enters = go (arg_by_index s.rules w.position)
-    where
-      go : (found : Option Rule) → IsNotHelp (to_positional s.rules found word w h).stopped
-      go None = rw none tt
-      go (Some a) = tt
+  step_stops value word w h none enters =
+      elim (arg_by_index s.rules w.position) as (λ found. IsNotHelp (to_positional s.rules found word w h).stopped) [ None ↦ rw none tt | Some a ↦ tt ]
 
   -- where it stands after a word
   turn_stops : (w : Walk) (word : Text) → turn_fault s names w word ≡ [] → IsNotHelp w.stopped → IsNotHelp (walked s.rules names w word).stopped

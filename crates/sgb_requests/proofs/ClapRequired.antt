@@ -5,6 +5,7 @@ use Rattle.std.specs.List.{list_all, list_any}
 use Rattle.std.specs.Option.{option_and_then, option_map_or}
 use Rattle.clap.specs.declared.error.kind.ErrorKind.TheVariants as kind
 use Rattle.std.specs.Str.{bytes_eq, chars}
+use Rattle.std.proofs.lemmas.Bool.{cond_both}
 use Rattle.clap.specs.Facts.{explicit_source, unwrap_or_range}
 use Rattle.clap.specs.Faults.{action_fault, bundle_fault, bundle_step_fault, check_fault, defaults_fault, flag_word_fault, flags_fault, level_fault, long_fault, option_fault, other_fault, positional_fault, react_fault, settle_fault, short_fault, step_fault, stray_fault, turn_fault, use_fault, walk_fault, word_fault}
 use Rattle.clap.specs.Kinds.{Kinds, or_else, range_kinds, check_kinds}
@@ -45,11 +46,7 @@ IfThere P (Some x) = P x
 -- one that is looked up
 found_has : {X : Type 0} (P : X → Type 0) (p : X → Bool) (xs : List X) → Each P xs → IfThere P (find p xs)
 found_has P p [] each = tt
-found_has {X} P p (x ∷ rest) each = go (p x) (found_has P p rest each.1)
-  where
-    go : (b : Bool) → IfThere P (find p rest) → IfThere P (cond b (Some x) (find p rest))
-    go true after = each.0
-    go false after = after
+found_has P p (x ∷ rest) each = cond_both (p x) (Some x) (find p rest) (IfThere P) (λ _. each.0) (λ _. found_has P p rest each.1)
 
 -- ---- rows with values
 
@@ -70,11 +67,10 @@ filled_append (x ∷ xs) ys p q = (p.0, filled_append xs ys p.1 q)
 filled_at : (id : Text) (change : Row → List Row) (missing rows : List Row) → ((r : Row) → 0 < length r.values → IsFilled (change r)) → IsFilled missing
     → IsFilled rows → IsFilled (at_row id change missing rows)
 filled_at id change missing [] changes miss p = miss
-filled_at id change missing (r ∷ rs) changes miss p = go (bytes_eq r.id id) (filled_at id change missing rs changes miss p.1)
-  where
-    go : (b : Bool) → IsFilled (at_row id change missing rs) → IsFilled (cond b (change r ++ rs) (r ∷ at_row id change missing rs))
-    go true after = filled_append (change r) rs (changes r p.0) p.1
-    go false after = (p.0, after)
+filled_at id change missing (r ∷ rs) changes miss p =
+    cond_both (bytes_eq r.id id) (change r ++ rs) (r ∷ at_row id change missing rs) IsFilled
+    (λ _. filled_append (change r) rs (changes r p.0) p.1)
+    (λ _. (p.0, filled_at id change missing rs changes miss p.1))
 
 -- the row of an id goes
 filled_without : (id : Text) (rows : List Row) → IsFilled rows → IsFilled (without id rows)
@@ -168,11 +164,7 @@ module _ (c : List Rule) (again : Bool) (each : EachFills c) where
   plain_filled : (waiting : Waiting) (word : Text) (h : Held) → IsFilled h.rows → IsFilled (plain_word c waiting word h).0.rows
   plain_filled idle word h p = p
   plain_filled positional word h p = p
-  plain_filled (option id) word h p = go (arg_by_id c id)
-    where
-      go : (found : Option Rule) → IsFilled (option_word found id word h).0.rows
-      go None = p
-      go (Some a) = p
+  plain_filled (option id) word h p = elim (arg_by_id c id) as (λ found. IsFilled (option_word found id word h).0.rows) [ None ↦ p | Some a ↦ p ]
 
   -- what a word that begins as a flag does came to
   flag_filled : (waiting : Waiting) (word : Text) (h : Held) (o : Outcome) → IsFilled h.rows → IsFilled (after_flag c waiting word h o).0.rows
@@ -253,15 +245,11 @@ module _ (s : Shape) (names : Names) (each : EachFills s.rules) where
 
 -- the default of one argument
 default_filled : (rows : List Row) (a : Rule) → IsFilled rows → IsFilled (with_default rows a)
-default_filled rows a p = go (has_row a.id rows)
+default_filled rows a p = cond_both (has_row a.id rows) rows (default_rows a.id (reading_by a) a.defaults rows) IsFilled (λ _. p) (λ _. of a.defaults)
   where
     of : (values : List Text) → IsFilled (default_rows a.id (reading_by a) values rows)
     of [] = p
     of (v ∷ vs) = filled_with a.id (reading_by a) DefaultValue v vs rows p
-
-    go : (b : Bool) → IsFilled (cond b rows (default_rows a.id (reading_by a) a.defaults rows))
-    go true = p
-    go false = of a.defaults
 
 -- the defaults of all
 defaults_filled : (rules : List Rule) (rows : List Row) → IsFilled rows → IsFilled (fold with_default rows rules)

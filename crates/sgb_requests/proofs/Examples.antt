@@ -47,13 +47,11 @@ unfolding walked bundle_met walk_fault flags_fault defaults_fault
 plain_taken = refl
 
 -- a name that begins with `-` is taken for an option, unless it stands after `=`
-name_with_hyphen : fault_of command_line (codes "sgb" ∷ codes "names" ∷ codes "petersen()" ∷ codes "--after" ∷ codes "--1" ∷ []) ≡ kind.UnknownArgument ∷ []
+hyphens :
+    (fault_of command_line (codes "sgb" ∷ codes "names" ∷ codes "petersen()" ∷ codes "--after" ∷ codes "--1" ∷ []) ≡ kind.UnknownArgument ∷ [])
+    × (asked_of (codes "sgb" ∷ codes "names" ∷ codes "petersen()" ∷ codes "--after=--1" ∷ []) ≡ asks (codes "names") (Some (codes "petersen()")) (Some (codes "--1")) None)
 unfolding walked bundle_met walk_fault flags_fault defaults_fault
-name_with_hyphen = refl
-
-name_after_equals : asked_of (codes "sgb" ∷ codes "names" ∷ codes "petersen()" ∷ codes "--after=--1" ∷ []) ≡ asks (codes "names") (Some (codes "petersen()")) (Some (codes "--1")) None
-unfolding walked bundle_met
-name_after_equals = refl
+hyphens = (refl, refl)
 
 -- ---- by the law
 

@@ -83,10 +83,7 @@ module _ (name text : Text) (plain : IsPlain text) where
       option_turns : walk_fault (output_leaf name) [] (walk_from nothing_held) (text ∷ option_name ∷ given ∷ []) ≡ []
       unfolding walk_fault
       option_turns =
-          ap (λ (kinds : Kinds). or_else kinds (walk_fault (output_leaf name) [] (walked (output_leaf name).rules [] (walk_from nothing_held) text) (option_name ∷ given ∷ []))) output_turn
-          ∙ ap (λ (w : Walk). walk_fault (output_leaf name) [] w (option_name ∷ given ∷ [])) output_first
-          ∙ ap (λ (kinds : Kinds). or_else kinds (or_else (turn_fault (output_leaf name) [] second given) [])) met.taken
-          ∙ ap (λ (kinds : Kinds). or_else kinds []) (turn_passes (output_leaf name) [] given plain_given second met.going met.before met.waits met.step)
+          rw (output_turn, output_first, met.taken, turn_passes (output_leaf name) [] given plain_given second met.going met.before met.waits met.step) refl
 
       option_passes : level_fault (output_leaf name) [] nothing_held (text ∷ option_name ∷ given ∷ []) false [] ≡ []
       option_passes = level_passes (output_leaf name) (text ∷ option_name ∷ given ∷ []) third option_walk option_turns met.ends

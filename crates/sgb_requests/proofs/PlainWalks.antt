@@ -1,13 +1,13 @@
 -- The walk of clap's over words that are no options, and over words that it passes over.
-use Rattle.std.proofs.Common.{◌≡◌, ◌≢◌, ◌∙◌, ◌==◌, ℕ, Bool, cond, true, false, List, [], ◌∷◌, ◌++◌, append_assoc, append-nil, Option, Some, None, is_some, slice_index, refl, sym, ap, rules, find, fold, option_map}
-use Rattle.std.specs.Option.{option_and_then, option_map_or}
+use Rattle.std.proofs.Common.{◌≡◌, ◌≢◌, ◌∙◌, ◌==◌, ℕ, Bool, true, false, List, [], ◌∷◌, ◌++◌, append_assoc, append-nil, Option, Some, None, is_some, slice_index, refl, sym, ap, rules, find, fold, option_map}
+use Rattle.std.specs.Option.{option_and_then}
 use Rattle.std.specs.Str.{bytes_eq}
 use Rattle.std.proofs.lemmas.Slice.Eq.{bytes_eq-Decides}
-use Rattle.clap.specs.Faults.{built_fault, bundle_fault, check_fault, defaults_fault, entered_fault, flag_word_fault, level_fault, other_fault, settle_fault, step_fault, turn_fault, walk_fault, word_fault}
+use Rattle.clap.specs.Faults.{built_fault, check_fault, defaults_fault, entered_fault, level_fault, settle_fault, step_fault, turn_fault, walk_fault, word_fault}
 use Rattle.clap.specs.Kinds.{Kinds, or_else}
 use Rattle.clap.specs.Lexer.{long_of, long_of_rest, short_of, short_of_rest, strip_byte}
 use Rattle.clap.specs.Simple.{App, Shape, entered, label_of, names_of, rows_at}
-use Rattle.clap.specs.Walk.{Held, Names, Step, Text, Waiting, Walk, after_step, answers_to, finished, long_or_other, nothing_held, plain_word, settled, short_or_plain, stop_after, subcommand_met, subcommand_or_other, trailing, walk_from, walked, walked_from, word_met}
+use Rattle.clap.specs.Walk.{Held, Names, Text, Waiting, Walk, after_step, answers_to, finished, nothing_held, plain_word, settled, stop_after, subcommand_met, walk_from, walked, word_met}
 use Rattle.sgb_vec.proofs.Lists.{never_true}
 use Rattle.sgb_requests.specs.PlainWords.{IsPlain}
 
@@ -65,42 +65,23 @@ module _ (s : Shape) (names : Names) (word : Text) (plain : IsPlain word) where
   -- such a word is a value, where it names no command
   word_is : (waiting : Waiting) (position : ℕ) (h : Held) → subcommand_met names waiting word ≡ None
       → word_met s.rules names false waiting position word h ≡ plain_word s.rules waiting word h
-  word_is waiting position h none =
-      ap (λ (met : Option Text). subcommand_or_other s.rules met waiting position word h) none
-      ∙ ap (λ (b : Bool). cond b (h, trailing position) (long_or_other s.rules waiting word (long_of word) h)) (no_trailing word plain)
-      ∙ ap (λ (o : Option (Text × Option Text)). long_or_other s.rules waiting word o h) (no_long word plain)
-      ∙ ap (λ (o : Option Text). short_or_plain s.rules waiting word o h) (no_short word plain)
+  word_is waiting position h none = rw (none, no_trailing word plain, no_long word plain, no_short word plain) refl
 
   -- and has no fault of its own
   word_passes : (waiting : Waiting) (h : Held) → subcommand_met names waiting word ≡ None → word_fault s names false waiting word h ≡ []
-  word_passes waiting h none =
-      ap (λ (met : Option Text). other_fault s met word h) none
-      ∙ ap (λ (b : Bool). cond b [] (flag_word_fault s.rules s.args_override_self (long_of word) word h)) (no_trailing word plain)
-      ∙ ap (λ (o : Option (Text × Option Text)). flag_word_fault s.rules s.args_override_self o word h) (no_long word plain)
-      ∙ ap (λ (o : Option Text). option_map_or (λ flags. bundle_fault s.rules s.args_override_self flags h) o []) (no_short word plain)
+  word_passes waiting h none = rw (none, no_trailing word plain, no_long word plain, no_short word plain) refl
 
   -- the walk goes on after it
   pub walk_passes : (w : Walk) → w.stopped ≡ None → w.is_trailing ≡ false → subcommand_met names w.waiting word ≡ None
       → walked s.rules names w word ≡ passed s word w
   unfolding walked
-  walk_passes w going before none =
-      ap (λ (o : Option (Text × List Text)). walked_from s.rules names o w word) going
-      ∙ ap (λ (met : Held × Step). after_step s.rules word w met.0 met.1)
-      (ap (λ (b : Bool). word_met s.rules names b w.waiting w.position word w.held) before ∙ word_is w.waiting w.position w.held none)
+  walk_passes w going before none = rw (going, before, word_is w.waiting w.position w.held none) refl
 
   -- a fault at it is one of the argument before it, which ends
   pub turn_passes : (w : Walk) → w.stopped ≡ None → w.is_trailing ≡ false → subcommand_met names w.waiting word ≡ None
       → step_fault s w.position (plain_word s.rules w.waiting word w.held).0 (plain_word s.rules w.waiting word w.held).1 ≡ []
       → turn_fault s names w word ≡ []
-  turn_passes w going before none ends =
-      let met = word_met s.rules names w.is_trailing w.waiting w.position word w.held in
-      let own = word_fault s names w.is_trailing w.waiting word w.held in
-      ap (λ (o : Option (Text × List Text)). cond (is_some o) [] (or_else own (step_fault s w.position met.0 met.1))) going
-      ∙ ap (λ (kinds : Kinds). or_else kinds (step_fault s w.position met.0 met.1))
-      (ap (λ (b : Bool). word_fault s names b w.waiting word w.held) before ∙ word_passes w.waiting w.held none)
-      ∙ ap (λ (met : Held × Step). step_fault s w.position met.0 met.1)
-      (ap (λ (b : Bool). word_met s.rules names b w.waiting w.position word w.held) before ∙ word_is w.waiting w.position w.held none)
-      ∙ ends
+  turn_passes w going before none ends = rw (going, before, word_passes w.waiting w.held none, word_is w.waiting w.position w.held none) ends
 
 -- ---- one level of the parse, whose walk is known
 
@@ -113,9 +94,7 @@ ends_fault s end =
 -- nothing is where nothing is on the walk, nor after it
 pub level_passes : (s : Shape) (words : List Text) (w : Walk) → fold (walked s.rules []) (walk_from nothing_held) words ≡ w
     → walk_fault s [] (walk_from nothing_held) words ≡ [] → ends_fault s w.held ≡ [] → level_fault s [] nothing_held words false [] ≡ []
-level_passes s words w walk_is none ends =
-    ap (λ (kinds : Kinds). or_else kinds (ends_fault s (fold (walked s.rules []) (walk_from nothing_held) words).held)) none
-    ∙ ap (λ (w : Walk). ends_fault s w.held) walk_is ∙ ends
+level_passes s words w walk_is none ends = rw (none, walk_is) ends
 
 -- ---- the command that is named first
 
@@ -153,14 +132,4 @@ module _ (a : App) where
     pub shape_passes : level_fault s [] nothing_held words false [] ≡ [] → built_fault a nothing_held (name ∷ words) ≡ []
     unfolding walk_fault
     shape_passes none =
-        ap (λ (kinds : Kinds). or_else kinds (end_fault (fold (walked a.top.rules (names_of a)) (walk_from nothing_held) (name ∷ words)))) on_walk
-        ∙ ap end_fault walk_is
-        ∙ ap (λ (found : Option Shape). or_else (option_map_or (λ s. level_fault s [] nothing_held words false []) found []) (rest_fault (is_some (option_map (λ s. rows_at s words) found)))) enters.found
-        ∙ ap (λ (kinds : Kinds). or_else kinds (rest_fault true)) none
-        ∙ enters.others
-      where
-        on_walk : walk_fault a.top (names_of a) (walk_from nothing_held) (name ∷ words) ≡ []
-        on_walk =
-            ap (λ (kinds : Kinds). or_else kinds (walk_fault a.top (names_of a) (walked a.top.rules (names_of a) (walk_from nothing_held) name) words)) enters.turn
-            ∙ ap (λ (w : Walk). walk_fault a.top (names_of a) w words) enters.stops
-            ∙ words_pass a.top (names_of a) name [] words
+        rw (enters.turn, enters.stops, words_pass a.top (names_of a) name [] words, walk_is, enters.found, none) enters.others

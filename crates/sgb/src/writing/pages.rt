@@ -1,5 +1,5 @@
 //! Texts put together in place, and pages of output: lines are put together where they leave.
-ghost use Rattle.std.specs.Prelude.{◌≡◌, ◌≤◌, ◌<◌, ◌+◌, ◌*◌, ◌-◌, ◌/◌, ◌%◌, [], ◌∷◌, ◌++◌, codes, decimal, drop, false, length, nat_lt, set, take, IfErr, OnOk};
+ghost use Rattle.std.specs.Prelude.{◌≡◌, ◌≤◌, ◌<◌, ◌+◌, ◌*◌, ◌-◌, ◌/◌, ◌%◌, [], ◌∷◌, ◌++◌, codes, decimal, drop, false, length, nat_lt, set, take, IfErr};
 ghost use Rattle.std.specs.Fmt.{signed_decimal};
 ghost use Rattle.sgb_file.specs.Devices.{change};
 ghost use Rattle.sgb.specs.Writing.{IsWritten};
@@ -101,7 +101,8 @@ impl<const N: usize> Filled<N> {
     /// Appends a text, for which there is room.
     pub(super) fn push_text(&mut self, text: &[u8])
         requires { length self.old + length text.now ≤ N }
-        ensures { self.new ≡ self.old ++ text.now }
+        ensures put { self.new ≡ self.old ++ text.now }
+        ensures size { length self.new ≡ length self.old + length text.now }
     {
         let start = self.len;
         let end = start + text.len();
@@ -313,7 +314,8 @@ impl<const N: usize> Filled<N> {
     #[inline(always)]
     pub(super) fn begin_arc(&mut self)
         requires { length self.old + 5 ≤ N }
-        ensures { self.new ≡ self.old ++ codes "  -> " }
+        ensures put { self.new ≡ self.old ++ codes "  -> " }
+        ensures size { length self.new ≡ length self.old + 5 }
     {
         self.push_text(b"  -> ");
     }
@@ -383,7 +385,7 @@ impl<const N: usize> Filled<N> {
 #[inline(always)]
 pub(super) fn make_room<W: Sink>(page: &mut Page, out: &mut W) -> Result<(), Fault>
     requires { W.has_failed out.old ≡ false }
-    ensures room { OnOk result (length page.new + most_line_bytes ≤ page_bytes) }
+    ensures room { length page.new + most_line_bytes ≤ page_bytes }
     ensures paged { IsPaged page.old [] page.new (change W.written W.has_failed out.old out.new)
         result }
     ensures fault { IfErr result (λ f. f ≡ Fault.Write) }
@@ -399,9 +401,9 @@ pub(super) fn put_page<W: Sink>(page: &mut Page, out: &mut W) -> Result<(), Faul
     requires { W.has_failed out.old ≡ false }
     ensures written { IsWritten page.old (change W.written W.has_failed out.old out.new) result }
     ensures fault { IfErr result (λ f. f ≡ Fault.Write) }
-    ensures empty { OnOk result (page.new ≡ []) }
+    ensures empty { page.new ≡ [] }
 {
-    write_bytes(out, page.bytes())?;
+    let written = write_bytes(out, page.bytes());
     page.cut(0);
-    Ok(())
+    written
 }

@@ -8,7 +8,7 @@ use Rattle.sgb_arrays.specs.Lists.{part_by_starts}
 use Rattle.sgb_arrays.specs.Names.{name_bytes, name_starts}
 use Rattle.sgb_arrays.specs.Rows.{arcs_of, lengths_of, starts_of, tips_of}
 
-abbrev graph : GraphData
+abbrev pub graph : GraphData
 graph = record {
   id = codes "g";
   m = 3;
@@ -23,26 +23,16 @@ graph = record {
 }
 
 -- later arcs come first in a list
-pub starts : starts_of graph ≡ 0 ∷ 2 ∷ 2 ∷ 3 ∷ []
-unfolding starts_of numbers_from
-starts = refl
+pub rows :
+    (starts_of graph ≡ 0 ∷ 2 ∷ 2 ∷ 3 ∷ [])
+    × (tips_of graph ≡ 2 ∷ 1 ∷ 0 ∷ [])
+    × (lengths_of graph ≡ pos 6 ∷ pos 5 ∷ pos 7 ∷ [])
+    × (part_by_starts (tips_of graph) (starts_of graph) 2 ≡ 0 ∷ [])
+unfolding starts_of numbers_from arcs_of
+rows = (refl, refl, refl, refl)
 
-pub tips : tips_of graph ≡ 2 ∷ 1 ∷ 0 ∷ []
-unfolding arcs_of numbers_from
-tips = refl
-
-pub lengths : lengths_of graph ≡ pos 6 ∷ pos 5 ∷ pos 7 ∷ []
-unfolding arcs_of numbers_from
-lengths = refl
-
-pub row_of_the_last : part_by_starts (tips_of graph) (starts_of graph) 2 ≡ 0 ∷ []
-unfolding arcs_of starts_of numbers_from
-row_of_the_last = refl
-
-pub names : name_bytes graph ≡ codes "abcd"
-unfolding name_bytes
-names = refl
-
-pub begins : name_starts graph ≡ 0 ∷ 1 ∷ 3 ∷ 4 ∷ []
-unfolding name_starts
-begins = refl
+pub names :
+    (name_bytes graph ≡ codes "abcd")
+    × (name_starts graph ≡ 0 ∷ 1 ∷ 3 ∷ 4 ∷ [])
+unfolding name_bytes name_starts
+names = (refl, refl)

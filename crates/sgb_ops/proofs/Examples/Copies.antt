@@ -22,30 +22,20 @@ use Rattle.sgb_ops.specs.Wheel.{wheel_of}
 use Rattle.sgb_ops.proofs.Examples.Operands.{event, complete_2, complete_3, circuit_4, cycle_3, path_3, loop_1, blocks, arcs, title}
 
 -- as many vertices as a graph can have, and one more; an entry too many
-pub most_copies : accepted_entries 1 (entry.Copies 1_000_000_000 ∷ []) ≡ Ok (entry.Copies 1_000_000_000 ∷ [])
-most_copies = refl
-
-pub too_many_copies : accepted_entries 2 (entry.Copies 999_999_999 ∷ entry.Copies 2 ∷ []) ≡ Err VeryBad
-too_many_copies = refl
-
-pub vertices_of_a_graph_count : accepted_entries 2 (entry.Copies 999_999_998 ∷ entry.Graph complete_3 ∷ []) ≡ Err VeryBad
-vertices_of_a_graph_count = refl
-
-pub too_many_entries : induced_of complete_2 (entry.Copies 1 ∷ entry.Copies 1 ∷ entry.Copies 1 ∷ []) false false false ≡ Err Bad
-too_many_entries = refl
+pub most_entries :
+    (accepted_entries 1 (entry.Copies 1_000_000_000 ∷ []) ≡ Ok (entry.Copies 1_000_000_000 ∷ []))
+    × (accepted_entries 2 (entry.Copies 999_999_999 ∷ entry.Copies 2 ∷ []) ≡ Err VeryBad)
+    × (accepted_entries 2 (entry.Copies 999_999_998 ∷ entry.Graph complete_3 ∷ []) ≡ Err VeryBad)
+    × (induced_of complete_2 (entry.Copies 1 ∷ entry.Copies 1 ∷ entry.Copies 1 ∷ []) false false false ≡ Err Bad)
+most_entries = (refl, refl, refl, refl)
 
 -- merged vertices up to the greatest number count; 0 is none, and is refused before too many
-pub merged_to_the_greatest : accepted_entries 2 (entry.Merged 3 ∷ entry.Copies 1 ∷ []) ≡ Ok (entry.Merged 3 ∷ entry.Copies 1 ∷ [])
-merged_to_the_greatest = refl
-
-pub merged_count_with_copies : accepted_entries 2 (entry.Merged 999_999_999 ∷ entry.Copies 2 ∷ []) ≡ Err VeryBad
-merged_count_with_copies = refl
-
-pub most_merged : accepted_entries 2 (entry.Merged 1_000_000_000 ∷ entry.Merged 999_999_999 ∷ []) ≡ Ok (entry.Merged 1_000_000_000 ∷ entry.Merged 999_999_999 ∷ [])
-most_merged = refl
-
-pub merged_0 : accepted_entries 2 (entry.Copies 2_000_000_000 ∷ entry.Merged 0 ∷ []) ≡ Err Bad
-merged_0 = refl
+pub most_merged_numbers :
+    (accepted_entries 2 (entry.Merged 3 ∷ entry.Copies 1 ∷ []) ≡ Ok (entry.Merged 3 ∷ entry.Copies 1 ∷ []))
+    × (accepted_entries 2 (entry.Merged 999_999_999 ∷ entry.Copies 2 ∷ []) ≡ Err VeryBad)
+    × (accepted_entries 2 (entry.Merged 1_000_000_000 ∷ entry.Merged 999_999_999 ∷ []) ≡ Ok (entry.Merged 1_000_000_000 ∷ entry.Merged 999_999_999 ∷ []))
+    × (accepted_entries 2 (entry.Copies 2_000_000_000 ∷ entry.Merged 0 ∷ []) ≡ Err Bad)
+most_merged_numbers = (refl, refl, refl, refl)
 
 -- merged vertices come first, also those that no entry has
 pub merged_names : names_by_entries (codes "a" ∷ codes "b" ∷ codes "c" ∷ []) (entry.Copies 1 ∷ entry.Merged 3 ∷ entry.Copies 2 ∷ [])
@@ -54,25 +44,21 @@ unfolding digits
 merged_names = refl
 
 -- a circuit whose vertices 0 and 2 are merged: their edges keep their order
-pub merged_in_a_circuit : induced_events circuit_4 (entry.Merged 1 ∷ entry.Copies 1 ∷ entry.Merged 1 ∷ entry.Copies 1 ∷ []) false true false
-    ≡ event 0 2 1 ∷ event 0 1 1 ∷ event 1 0 1 ∷ event 0 2 1 ∷ []
-unfolding numbers_from list_from each_edge_once
-merged_in_a_circuit = refl
-
-pub merged_once_in_a_circuit : induced_events circuit_4 (entry.Merged 1 ∷ entry.Copies 1 ∷ entry.Merged 1 ∷ entry.Copies 1 ∷ []) false false false
-    ≡ event 0 2 1 ∷ event 0 1 1 ∷ []
+pub circuit_with_merged :
+    (induced_events circuit_4 (entry.Merged 1 ∷ entry.Copies 1 ∷ entry.Merged 1 ∷ entry.Copies 1 ∷ []) false true false
+    ≡ event 0 2 1 ∷ event 0 1 1 ∷ event 1 0 1 ∷ event 0 2 1 ∷ [])
+    × (induced_events circuit_4 (entry.Merged 1 ∷ entry.Copies 1 ∷ entry.Merged 1 ∷ entry.Copies 1 ∷ []) false false false
+    ≡ event 0 2 1 ∷ event 0 1 1 ∷ [])
 unfolding numbers_from list_from each_edge_once merged
-merged_once_in_a_circuit = refl
+circuit_with_merged = (refl, refl)
 
 -- an edge whose ends are merged is a loop; the graph in a place comes after the merged vertices
-pub merged_ends : induced_events complete_2 (entry.Merged 2 ∷ entry.Merged 2 ∷ []) true false false ≡ event 1 1 1 ∷ []
+pub edge_with_merged :
+    (induced_events complete_2 (entry.Merged 2 ∷ entry.Merged 2 ∷ []) true false false ≡ event 1 1 1 ∷ [])
+    × (induced_events complete_2 (entry.Merged 1 ∷ entry.Graph complete_2 ∷ []) false true false
+    ≡ event 1 2 1 ∷ event 0 1 1 ∷ event 0 2 1 ∷ [])
 unfolding numbers_from list_from each_edge_once merged
-merged_ends = refl
-
-pub graph_after_merged : induced_events complete_2 (entry.Merged 1 ∷ entry.Graph complete_2 ∷ []) false true false
-    ≡ event 1 2 1 ∷ event 0 1 1 ∷ event 0 2 1 ∷ []
-unfolding numbers_from list_from each_edge_once
-graph_after_merged = refl
+edge_with_merged = (refl, refl)
 
 -- two copies of 0 and of 2, one of 1: for each copy the edge of length 2 comes first
 pub copies_of_a_triangle : induced_events complete_3 (entry.Copies 2 ∷ entry.Copies 1 ∷ entry.Copies 2 ∷ []) true true false
@@ -105,39 +91,33 @@ unfolding numbers_from list_from
 cycle_at_an_edge = refl
 
 -- the flags in the id
-pub title_with_loops : title (induced_of complete_2 (entry.Copies 1 ∷ entry.Copies 1 ∷ []) true false false) ≡ codes "induced(board(2,0,0,0,-1,0,0),,1,0,0)"
+pub titles_with_flags :
+    (title (induced_of complete_2 (entry.Copies 1 ∷ entry.Copies 1 ∷ []) true false false) ≡ codes "induced(board(2,0,0,0,-1,0,0),,1,0,0)")
+    × (title (induced_of complete_2 (entry.Copies 1 ∷ entry.Copies 1 ∷ []) false true false) ≡ codes "induced(board(2,0,0,0,-1,0,0),,0,1,0)")
 unfolding digits numbers_from list_from each_edge_once merged compound_id
-title_with_loops = refl
-
-pub title_with_parallels : title (induced_of complete_2 (entry.Copies 1 ∷ entry.Copies 1 ∷ []) false true false) ≡ codes "induced(board(2,0,0,0,-1,0,0),,0,1,0)"
-unfolding digits numbers_from list_from each_edge_once merged compound_id
-title_with_parallels = refl
+titles_with_flags = (refl, refl)
 
 -- bi_complete(2,3,1): arcs one way
-pub bi_complete_directed : arcs (bi_complete_of (pos 2) (pos 3) true) ≡ 6
-unfolding digits numbers_from list_from each_edge_once merged box repeated name_of_vector displacements vectors_of_norm board_moves board_id family_graph
-bi_complete_directed = refl
-
-pub bi_complete_directed_title : title (bi_complete_of (pos 2) (pos 3) true) ≡ codes "bi_complete(2,3,1)"
-unfolding digits numbers_from list_from each_edge_once merged compound_id box repeated name_of_vector displacements vectors_of_norm board_moves board_id family_graph
-bi_complete_directed_title = refl
+pub bi_complete_one_way :
+    (arcs (bi_complete_of (pos 2) (pos 3) true) ≡ 6)
+    × (title (bi_complete_of (pos 2) (pos 3) true) ≡ codes "bi_complete(2,3,1)")
+unfolding digits numbers_from list_from each_edge_once merged box repeated name_of_vector displacements vectors_of_norm board_moves board_id family_graph compound_id
+bi_complete_one_way = (refl, refl)
 
 -- bi_complete(2,-1,0)
 pub bi_complete_second_negative : bi_complete_of (pos 2) (negsuc 0) false ≡ Err Bad
 bi_complete_second_negative = refl
 
 -- wheel(3,1,1): arcs around the rim, and from the middle to it
-pub wheel_directed : blocks (wheel_of (pos 3) (pos 1) true)
+pub wheel_one_way :
+    (blocks (wheel_of (pos 3) (pos 1) true)
     ≡ ((codes "1:2", pos 1) ∷ (codes "1:1", pos 1) ∷ (codes "1:0", pos 1) ∷ [])
     ∷ ((codes "1:1", pos 1) ∷ [])
     ∷ ((codes "1:2", pos 1) ∷ [])
-    ∷ ((codes "1:0", pos 1) ∷ []) ∷ []
-unfolding digits box name_of_vector numbers_from list_from each_edge_once merged repeated displacements vectors_of_norm board_moves board_id family_graph
-wheel_directed = refl
-
-pub wheel_directed_title : title (wheel_of (pos 3) (pos 2) true) ≡ codes "wheel(3,2,1)"
-unfolding digits box name_of_vector numbers_from list_from each_edge_once merged compound_id repeated displacements vectors_of_norm board_moves board_id family_graph
-wheel_directed_title = refl
+    ∷ ((codes "1:0", pos 1) ∷ []) ∷ [])
+    × (title (wheel_of (pos 3) (pos 2) true) ≡ codes "wheel(3,2,1)")
+unfolding digits box name_of_vector numbers_from list_from each_edge_once merged repeated displacements vectors_of_norm board_moves board_id family_graph compound_id
+wheel_one_way = (refl, refl)
 
 -- a rim of two vertices: of its two edges one is left
 pub wheel_of_two : arcs (wheel_of (pos 2) (pos 1) false) ≡ 6

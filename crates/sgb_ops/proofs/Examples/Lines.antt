@@ -14,20 +14,15 @@ use Rattle.sgb_ops.specs.Lines.{line_graph_of}
 use Rattle.sgb_ops.proofs.Examples.Operands.{complete_3, cycle_3, rider_3, loop_1, blocks, arcs, names, title}
 
 -- lines(complete(3),0)
-pub lines_names : names (line_graph_of complete_3 false) ≡ codes "1--2" ∷ codes "0--2" ∷ codes "0--1" ∷ []
-unfolding digits numbers_from list_from each_edge_once
-lines_names = refl
-
-pub lines_blocks : blocks (line_graph_of complete_3 false)
+pub lines_shown :
+    (names (line_graph_of complete_3 false) ≡ codes "1--2" ∷ codes "0--2" ∷ codes "0--1" ∷ [])
+    × (blocks (line_graph_of complete_3 false)
     ≡ ((codes "0--1", pos 1) ∷ (codes "0--2", pos 1) ∷ [])
     ∷ ((codes "0--1", pos 1) ∷ (codes "1--2", pos 1) ∷ [])
-    ∷ ((codes "0--2", pos 1) ∷ (codes "1--2", pos 1) ∷ []) ∷ []
-unfolding digits numbers_from list_from each_edge_once
-lines_blocks = refl
-
-pub lines_title : title (line_graph_of complete_3 false) ≡ codes "lines(board(3,0,0,0,-1,0,0),0)"
+    ∷ ((codes "0--2", pos 1) ∷ (codes "1--2", pos 1) ∷ []) ∷ [])
+    × (title (line_graph_of complete_3 false) ≡ codes "lines(board(3,0,0,0,-1,0,0),0)")
 unfolding digits numbers_from list_from each_edge_once compound_id
-lines_title = refl
+lines_shown = (refl, refl, refl)
 
 -- lines(cycle(3),0): arcs are no edges
 pub lines_of_arcs : line_graph_of cycle_3 false ≡ Err Invalid
@@ -47,13 +42,11 @@ unfolding digits numbers_from list_from each_edge_once
 lines_of_rider = refl
 
 -- a loop is one line, joined to no other; its two arcs are two lines, each joined to both
-pub lines_of_loop : blocks (line_graph_of loop_1 false) ≡ [] ∷ []
+pub loop_lines :
+    (blocks (line_graph_of loop_1 false) ≡ [] ∷ [])
+    × (arcs (line_graph_of loop_1 true) ≡ 4)
 unfolding digits numbers_from list_from each_edge_once
-lines_of_loop = refl
-
-pub lines_of_loop_directed : arcs (line_graph_of loop_1 true) ≡ 4
-unfolding digits numbers_from list_from
-lines_of_loop_directed = refl
+loop_lines = (refl, refl)
 
 -- two vertices whose lists share one record, as a file may have them
 abbrev shared : GraphData
@@ -87,27 +80,17 @@ unfolding digits numbers_from each_edge_once
 lines_of_half_a_loop = refl
 
 -- the other record leads elsewhere, or to no vertex: the null value is not vertex 0, and the value 1 is not vertex 1
-pub lines_with_no_way_back : line_graph_of (pair 2 None (Some 0) (At 1) (At 0)) false ≡ Err Invalid
+pub wrong_ways_back :
+    (line_graph_of (pair 2 None (Some 0) (At 1) (At 0)) false ≡ Err Invalid)
+    × (line_graph_of (pair 2 None (Some 0) (At 1) One) false ≡ Err Invalid)
+    × (line_graph_of (pair 2 (Some 0) None (At 0) Null) false ≡ Err Invalid)
 unfolding digits numbers_from each_edge_once
-lines_with_no_way_back = refl
-
-pub lines_with_one_for_a_tip : line_graph_of (pair 2 None (Some 0) (At 1) One) false ≡ Err Invalid
-unfolding digits numbers_from each_edge_once
-lines_with_one_for_a_tip = refl
-
-pub lines_with_null_for_a_tip : line_graph_of (pair 2 (Some 0) None (At 0) Null) false ≡ Err Invalid
-unfolding digits numbers_from each_edge_once
-lines_with_null_for_a_tip = refl
+wrong_ways_back = (refl, refl, refl)
 
 -- the numbers of arcs that one line may have
-pub lines_of_one_arc : line_graph_of (pair 1 None (Some 0) (At 1) (At 1)) false ≡ Err Invalid
+pub numbers_of_arcs :
+    (line_graph_of (pair 1 None (Some 0) (At 1) (At 1)) false ≡ Err Invalid)
+    × (names (line_graph_of (pair 3 None (Some 0) (At 1) (At 1)) false) ≡ codes "y--y" ∷ [])
+    × (line_graph_of (pair 4 None (Some 0) (At 1) (At 1)) false ≡ Err Invalid)
 unfolding digits numbers_from each_edge_once
-lines_of_one_arc = refl
-
-pub lines_of_three_arcs : names (line_graph_of (pair 3 None (Some 0) (At 1) (At 1)) false) ≡ codes "y--y" ∷ []
-unfolding digits numbers_from each_edge_once
-lines_of_three_arcs = refl
-
-pub lines_of_four_arcs : line_graph_of (pair 4 None (Some 0) (At 1) (At 1)) false ≡ Err Invalid
-unfolding digits numbers_from each_edge_once
-lines_of_four_arcs = refl
+numbers_of_arcs = (refl, refl, refl)

@@ -19,23 +19,19 @@ unfolding digits numbers_from list_from
 complement_of_path = refl
 
 -- with loops and arcs both ways; and a copy, which has the path's edges once each
-pub complement_with_loops : complement_events path_3 false true true
-    ≡ event 0 0 1 ∷ event 0 2 1 ∷ event 1 1 1 ∷ event 2 0 1 ∷ event 2 2 1 ∷ []
+pub path_complemented :
+    (complement_events path_3 false true true
+    ≡ event 0 0 1 ∷ event 0 2 1 ∷ event 1 1 1 ∷ event 2 0 1 ∷ event 2 2 1 ∷ [])
+    × (complement_events path_3 true false false ≡ event 0 1 1 ∷ event 1 2 1 ∷ [])
 unfolding numbers_from list_from
-complement_with_loops = refl
-
-pub copy_of_path : complement_events path_3 true false false ≡ event 0 1 1 ∷ event 1 2 1 ∷ []
-unfolding numbers_from list_from
-copy_of_path = refl
+path_complemented = (refl, refl)
 
 -- a loop is copied only where loops are wanted
-pub copy_of_loop : complement_events loop_1 true true false ≡ event 0 0 1 ∷ []
+pub loop_copied :
+    (complement_events loop_1 true true false ≡ event 0 0 1 ∷ [])
+    × (complement_events loop_1 true false false ≡ [])
 unfolding numbers_from list_from
-copy_of_loop = refl
-
-pub copy_without_loop : complement_events loop_1 true false false ≡ []
-unfolding numbers_from list_from
-copy_without_loop = refl
+loop_copied = (refl, refl)
 
 -- of a graph with arcs one way: where u has none to w, whatever w has
 pub complement_of_cycle : complement_events cycle_3 false false true ≡ event 0 2 1 ∷ event 1 0 1 ∷ event 2 1 1 ∷ []
@@ -43,53 +39,40 @@ unfolding numbers_from list_from
 complement_of_cycle = refl
 
 -- with edges, where the smaller end has none to the greater one
-pub edges_of_cycle : complement_events cycle_3 false false false ≡ event 0 2 1 ∷ []
+pub cycle_as_edges :
+    (complement_events cycle_3 false false false ≡ event 0 2 1 ∷ [])
+    × (complement_events cycle_3 true false false ≡ event 0 1 1 ∷ event 1 2 1 ∷ [])
 unfolding numbers_from list_from
-edges_of_cycle = refl
-
-pub copied_edges_of_cycle : complement_events cycle_3 true false false ≡ event 0 1 1 ∷ event 1 2 1 ∷ []
-unfolding numbers_from list_from
-copied_edges_of_cycle = refl
+cycle_as_edges = (refl, refl)
 
 -- of a graph of no vertices
 abbrev nothing : GraphData
 nothing = plain_graph false [] [] (codes "simplex(5,2,2,0,0,0,0)")
 
-pub complement_of_nothing : names (complement_of nothing false true false) ≡ []
-complement_of_nothing = refl
-
-pub complement_of_nothing_title : title (complement_of nothing false true false) ≡ codes "complement(simplex(5,2,2,0,0,0,0),0,1,0)"
+pub nothing_complemented :
+    (names (complement_of nothing false true false) ≡ [])
+    × (title (complement_of nothing false true false) ≡ codes "complement(simplex(5,2,2,0,0,0,0),0,1,0)")
 unfolding compound_id
-complement_of_nothing_title = refl
+nothing_complemented = (refl, refl)
 
 -- gunion(complete(3),circuit(3),0,0): each edge once, with the lesser length
-pub union_merged : blocks (gunion_of complete_3 circuit_3 false false)
+pub union_shown :
+    (blocks (gunion_of complete_3 circuit_3 false false)
     ≡ ((codes "1", pos 1) ∷ (codes "2", pos 1) ∷ [])
     ∷ ((codes "2", pos 1) ∷ (codes "0", pos 1) ∷ [])
-    ∷ ((codes "1", pos 1) ∷ (codes "0", pos 1) ∷ []) ∷ []
-unfolding digits numbers_from list_from each_edge_once merged
-union_merged = refl
-
-pub union_merged_arcs : arcs (gunion_of complete_3 circuit_3 false false) ≡ 6
-unfolding numbers_from list_from each_edge_once merged
-union_merged_arcs = refl
-
-pub union_multi_arcs : arcs (gunion_of complete_3 circuit_3 true false) ≡ 12
-unfolding numbers_from list_from each_edge_once
-union_multi_arcs = refl
-
-pub union_title : title (gunion_of complete_3 circuit_3 true false) ≡ codes "gunion(board(3,0,0,0,-1,0,0),board(3,0,0,0,1,1,0),1,0)"
-unfolding double_compound_id
-union_title = refl
+    ∷ ((codes "1", pos 1) ∷ (codes "0", pos 1) ∷ []) ∷ [])
+    × (arcs (gunion_of complete_3 circuit_3 false false) ≡ 6)
+    × (arcs (gunion_of complete_3 circuit_3 true false) ≡ 12)
+    × (title (gunion_of complete_3 circuit_3 true false) ≡ codes "gunion(board(3,0,0,0,-1,0,0),board(3,0,0,0,1,1,0),1,0)")
+unfolding digits numbers_from list_from each_edge_once merged double_compound_id
+union_shown = (refl, refl, refl, refl)
 
 -- tips that the first graph has not are left out
-pub union_with_larger : names (gunion_of loop_1 circuit_3 true true) ≡ codes "0" ∷ []
-unfolding digits
-union_with_larger = refl
-
-pub union_with_larger_arcs : blocks (gunion_of loop_1 circuit_3 true true) ≡ ((codes "0", pos 1) ∷ (codes "0", pos 1) ∷ []) ∷ []
+pub larger_united :
+    (names (gunion_of loop_1 circuit_3 true true) ≡ codes "0" ∷ [])
+    × (blocks (gunion_of loop_1 circuit_3 true true) ≡ ((codes "0", pos 1) ∷ (codes "0", pos 1) ∷ []) ∷ [])
 unfolding digits numbers_from list_from
-union_with_larger_arcs = refl
+larger_united = (refl, refl)
 
 -- a loop that is one arc, as a file may have it, united with itself: multi and directed 1
 abbrev ring : GraphData
@@ -100,18 +83,13 @@ unfolding numbers_from list_from
 union_of_ring = refl
 
 -- intersection(circuit(4),complete(4),0,0)
-pub intersection_first : block (intersection_of circuit_4 complete_4 false false) 0
-    ≡ (codes "1", pos 1) ∷ (codes "3", pos 3) ∷ []
-unfolding digits numbers_from list_from each_edge_once
-intersection_first = refl
-
-pub intersection_arcs : arcs (intersection_of circuit_4 complete_4 false false) ≡ 8
-unfolding numbers_from list_from each_edge_once
-intersection_arcs = refl
-
-pub intersection_title : title (intersection_of circuit_4 complete_4 false false) ≡ codes "intersection(board(4,0,0,0,1,1,0),board(4,0,0,0,-1,0,0),0,0)"
-unfolding double_compound_id
-intersection_title = refl
+pub intersection_shown :
+    (block (intersection_of circuit_4 complete_4 false false) 0
+    ≡ (codes "1", pos 1) ∷ (codes "3", pos 3) ∷ [])
+    × (arcs (intersection_of circuit_4 complete_4 false false) ≡ 8)
+    × (title (intersection_of circuit_4 complete_4 false false) ≡ codes "intersection(board(4,0,0,0,1,1,0),board(4,0,0,0,-1,0,0),0,0)")
+unfolding digits numbers_from list_from each_edge_once double_compound_id
+intersection_shown = (refl, refl, refl)
 
 -- the names are those of the first graph; only the vertices that both have get arcs
 pub intersection_with_smaller : blocks (intersection_of circuit_4 complete_3 false false)

@@ -27,10 +27,8 @@ abbrev again : GraphData → GraphData
 again g = plain_graph false (complement_events g false false false) pairs (codes "")
 
 -- a complement has the 30 edges that petersen() has not, its complement the 15 again, and so on
-pub one_complement : arcs (complement_of petersen false false false) ≡ 60
+pub petersen_complemented :
+    (arcs (complement_of petersen false false false) ≡ 60)
+    × (arcs (complement_of (again (again (again (again (again (again (again petersen))))))) false false false) ≡ 30)
 unfolding numbers_from list_from
-one_complement = refl
-
-pub eight_complements : arcs (complement_of (again (again (again (again (again (again (again petersen))))))) false false false) ≡ 30
-unfolding numbers_from list_from
-eight_complements = refl
+petersen_complemented = (refl, refl)

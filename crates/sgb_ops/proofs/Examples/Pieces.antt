@@ -69,11 +69,10 @@ pub common_arc : common_events false 0 two three ≡ event 0 1 2 ∷ []
 common_arc = refl
 
 -- of the second list its least length counts, not that of its first arc; of the first list too
-pub least_of_second : common_events false 0 (link 0 1 2 ∷ []) (link 1 1 5 ∷ link 2 1 3 ∷ []) ≡ event 0 1 3 ∷ []
-least_of_second = refl
-
-pub least_of_first : common_events false 0 (link 0 1 6 ∷ link 1 1 4 ∷ []) (link 2 1 5 ∷ link 3 1 3 ∷ []) ≡ event 0 1 4 ∷ []
-least_of_first = refl
+pub least_lengths :
+    (common_events false 0 (link 0 1 2 ∷ []) (link 1 1 5 ∷ link 2 1 3 ∷ []) ≡ event 0 1 3 ∷ [])
+    × (common_events false 0 (link 0 1 6 ∷ link 1 1 4 ∷ []) (link 2 1 5 ∷ link 3 1 3 ∷ []) ≡ event 0 1 4 ∷ [])
+least_lengths = (refl, refl)
 
 -- each stands at the place of the first arc to its tip in the second list
 pub first_places : common_events false 3 (link 0 2 9 ∷ link 1 1 2 ∷ []) (link 2 1 5 ∷ link 3 2 1 ∷ link 4 1 3 ∷ [])

@@ -10,22 +10,17 @@ use Rattle.sgb_ops.specs.Product.{product_type, product_events, both_steps_at, h
 use Rattle.sgb_ops.proofs.Examples.Operands.{event, path_3, complete_2, complete_3, blocks, block, arcs, names, title}
 
 -- product(complete(2),complete(2),0,0)
-pub product_names : names (product_graph_of complete_2 complete_2 (pos 0) false)
-    ≡ codes "0,0" ∷ codes "0,1" ∷ codes "1,0" ∷ codes "1,1" ∷ []
-unfolding digits
-product_names = refl
-
-pub product_blocks : blocks (product_graph_of complete_2 complete_2 (pos 0) false)
+pub product_shown :
+    (names (product_graph_of complete_2 complete_2 (pos 0) false)
+    ≡ codes "0,0" ∷ codes "0,1" ∷ codes "1,0" ∷ codes "1,1" ∷ [])
+    × (blocks (product_graph_of complete_2 complete_2 (pos 0) false)
     ≡ ((codes "1,0", pos 1) ∷ (codes "0,1", pos 1) ∷ [])
     ∷ ((codes "1,1", pos 1) ∷ (codes "0,0", pos 1) ∷ [])
     ∷ ((codes "0,0", pos 1) ∷ (codes "1,1", pos 1) ∷ [])
-    ∷ ((codes "0,1", pos 1) ∷ (codes "1,0", pos 1) ∷ []) ∷ []
+    ∷ ((codes "0,1", pos 1) ∷ (codes "1,0", pos 1) ∷ []) ∷ [])
+    × (map (λ kind. arcs (product_graph_of complete_2 complete_2 (pos kind) false)) (0 ∷ 1 ∷ 2 ∷ []) ≡ 8 ∷ 4 ∷ 12 ∷ [])
 unfolding digits numbers_from list_from each_edge_once
-product_blocks = refl
-
-pub product_arcs : map (λ kind. arcs (product_graph_of complete_2 complete_2 (pos kind) false)) (0 ∷ 1 ∷ 2 ∷ []) ≡ 8 ∷ 4 ∷ 12 ∷ []
-unfolding numbers_from list_from each_edge_once
-product_arcs = refl
+product_shown = (refl, refl, refl)
 
 -- type 3 acts and prints as 1
 pub direct_title : title (product_graph_of complete_2 complete_2 (pos 3) false) ≡ codes "product(board(2,0,0,0,-1,0,0),board(2,0,0,0,-1,0,0),1,0)"
@@ -43,21 +38,18 @@ unfolding digits numbers_from list_from each_edge_once
 lesser_length = refl
 
 -- 40,000 by 40,000 vertices are too many, 1,000 by 1,000,000 are not
-pub too_many : has_too_many_pairs 40_000 40_000 ≡ true
-too_many = refl
-
-pub not_too_many : has_too_many_pairs 1_000 1_000_000 ≡ false
-not_too_many = refl
+pub vertices_counted :
+    (has_too_many_pairs 40_000 40_000 ≡ true)
+    × (has_too_many_pairs 1_000 1_000_000 ≡ false)
+vertices_counted = (refl, refl)
 
 -- the names of pairs of different operands, in lexicographic order
-pub names_of_different : names (product_graph_of complete_3 complete_2 (pos 0) false)
-    ≡ codes "0,0" ∷ codes "0,1" ∷ codes "1,0" ∷ codes "1,1" ∷ codes "2,0" ∷ codes "2,1" ∷ []
-unfolding digits
-names_of_different = refl
-
-pub strong_title : title (product_graph_of complete_3 path_3 (negsuc 1) true) ≡ codes "product(board(3,0,0,0,-1,0,0),board(3,0,0,0,1,0,0),2,1)"
+pub different_operands :
+    (names (product_graph_of complete_3 complete_2 (pos 0) false)
+    ≡ codes "0,0" ∷ codes "0,1" ∷ codes "1,0" ∷ codes "1,1" ∷ codes "2,0" ∷ codes "2,1" ∷ [])
+    × (title (product_graph_of complete_3 path_3 (negsuc 1) true) ≡ codes "product(board(3,0,0,0,-1,0,0),board(3,0,0,0,1,0,0),2,1)")
 unfolding digits double_compound_id
-strong_title = refl
+different_operands = (refl, refl)
 
 -- the pair (x, y) of a triangle and an edge is vertex 2 x + y: its steps in the second coordinate come first, then those
 -- in the first, where the edge of length 2 leads each list
@@ -75,15 +67,13 @@ unfolding digits numbers_from list_from each_edge_once
 cartesian_events_turned = refl
 
 -- the lesser length is 1 where the edge of the first has length 2; both arcs of the second's edge count
-pub direct_events : product_events Direct complete_3 complete_2 false
-    ≡ event 0 5 1 ∷ event 0 3 1 ∷ event 1 4 1 ∷ event 1 2 1 ∷ event 2 5 1 ∷ event 3 4 1 ∷ []
+pub direct_steps :
+    (product_events Direct complete_3 complete_2 false
+    ≡ event 0 5 1 ∷ event 0 3 1 ∷ event 1 4 1 ∷ event 1 2 1 ∷ event 2 5 1 ∷ event 3 4 1 ∷ [])
+    × (product_events Direct complete_2 complete_3 false
+    ≡ event 0 5 1 ∷ event 0 4 1 ∷ event 1 5 1 ∷ event 1 3 1 ∷ event 2 4 1 ∷ event 2 3 1 ∷ [])
 unfolding digits numbers_from list_from each_edge_once
-direct_events = refl
-
-pub direct_events_turned : product_events Direct complete_2 complete_3 false
-    ≡ event 0 5 1 ∷ event 0 4 1 ∷ event 1 5 1 ∷ event 1 3 1 ∷ event 2 4 1 ∷ event 2 3 1 ∷ []
-unfolding digits numbers_from list_from each_edge_once
-direct_events_turned = refl
+direct_steps = (refl, refl)
 
 -- with each arc of the first go all of the second; two edges of length 2 make one of length 2
 pub direct_events_of_triangles : both_steps_at complete_3 complete_3 false 0 0

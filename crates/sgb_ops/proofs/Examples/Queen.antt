@@ -36,21 +36,13 @@ rook_graph = plain_graph false rook squares (codes "board(3,4,0,0,-1,0,0)")
 abbrev bishop_graph : GraphData
 bishop_graph = plain_graph false bishop squares (codes "board(3,4,0,0,-2,0,0)")
 
-pub queen_arcs : arcs (gunion_of rook_graph bishop_graph false false) ≡ 92
-unfolding box numbers_from list_from each_edge_once merged
-queen_arcs = refl
-
-pub queen_first : block (gunion_of rook_graph bishop_graph false false) 0
-    ≡ (codes "1.1", pos 1) ∷ (codes "2.2", pos 2) ∷ (codes "0.1", pos 1) ∷ (codes "0.2", pos 2) ∷ (codes "0.3", pos 3) ∷ (codes "1.0", pos 1) ∷ (codes "2.0", pos 2) ∷ []
-unfolding digits box name_of_vector numbers_from list_from each_edge_once merged
-queen_first = refl
-
-pub queen_last : block (gunion_of rook_graph bishop_graph false false) 11
-    ≡ (codes "2.2", pos 1) ∷ (codes "2.1", pos 2) ∷ (codes "2.0", pos 3) ∷ (codes "1.3", pos 1) ∷ (codes "1.2", pos 1) ∷ (codes "0.3", pos 2) ∷ (codes "0.1", pos 2) ∷ []
-unfolding digits box name_of_vector numbers_from list_from each_edge_once merged
-queen_last = refl
-
-pub queen_title : title (gunion_of rook_graph bishop_graph false false)
-    ≡ codes "gunion(board(3,4,0,0,-1,0,0),board(3,4,0,0,-2,0,0),0,0)"
-unfolding double_compound_id
-queen_title = refl
+pub queen_shown :
+    (arcs (gunion_of rook_graph bishop_graph false false) ≡ 92)
+    × (block (gunion_of rook_graph bishop_graph false false) 0
+    ≡ (codes "1.1", pos 1) ∷ (codes "2.2", pos 2) ∷ (codes "0.1", pos 1) ∷ (codes "0.2", pos 2) ∷ (codes "0.3", pos 3) ∷ (codes "1.0", pos 1) ∷ (codes "2.0", pos 2) ∷ [])
+    × (block (gunion_of rook_graph bishop_graph false false) 11
+    ≡ (codes "2.2", pos 1) ∷ (codes "2.1", pos 2) ∷ (codes "2.0", pos 3) ∷ (codes "1.3", pos 1) ∷ (codes "1.2", pos 1) ∷ (codes "0.3", pos 2) ∷ (codes "0.1", pos 2) ∷ [])
+    × (title (gunion_of rook_graph bishop_graph false false)
+    ≡ codes "gunion(board(3,4,0,0,-1,0,0),board(3,4,0,0,-2,0,0),0,0)")
+unfolding box numbers_from list_from each_edge_once merged digits name_of_vector double_compound_id
+queen_shown = (refl, refl, refl, refl)

@@ -19,76 +19,49 @@ use Rattle.sgb_ops.specs.Lines.{line_graph_of}
 use Rattle.sgb_ops.specs.Product.{product_graph_of}
 use Rattle.sgb_ops.specs.BiComplete.{accepted_parts, bi_complete_of}
 use Rattle.sgb_ops.specs.Wheel.{accepted_middle, wheel_of}
-use Rattle.sgb.specs.Certain.{IsRefusedFirst}
 use Rattle.sgb_vec.specs.Results.{IsValue}
-use Rattle.sgb.specs.Values.{both, made, value_of, values_of}
+use Rattle.sgb.specs.Values.{made, value_of, values_of}
 use Rattle.sgb.specs.inner.EntryValues.{handed_entry}
 use Rattle.sgb.specs.inner.Inputs.{left_after}
 use Rattle.sgb.proofs.EntryValues.{and_values, entries_made, entries_refused, induced_reads, induced_size, induced_value, one_more}
 use Rattle.sgb.proofs.FirstRefusals.{exit_first, made_first, made_operands, numbers_refused}
 use Rattle.sgb.proofs.InputsLeft.{if_ok, left_on, value_on, values_on}
-use Rattle.sgb.proofs.Values.{both_refused, size_of_entries, value_both, value_made, value_then}
+use Rattle.sgb.proofs.Values.{both_refused, size_of_entries, value_both, value_made, value_one, value_two}
 use Rattle.sgb.proofs.evaluation.+graphs.Goals as goal
 
 -- the value of an operand that stands in a box
 at_value : (input : List ℕ) (e f : Expr) (g : GraphData) → e ≡ f → value_of input (expression_of e) ≡ Ok g → value_of input (expression_of f) ≡ Ok g
 at_value input e f g same is = subst (λ (x : Expr). value_of input (expression_of x) ≡ Ok g) same is
 
--- the values of two operands that stand in boxes
-at_values : (input : List ℕ) (e f e' f' : Expr) (operands : GraphData × GraphData) → e ≡ e' → f ≡ f' → both (value_of input (expression_of e)) (value_of input (expression_of f)) ≡ Ok operands
-    → both (value_of input (expression_of e')) (value_of input (expression_of f')) ≡ Ok operands
-at_values input e f e' f' operands same alike is =
-    subst (λ (x : Expr). both (value_of input (expression_of x)) (value_of input (expression_of f')) ≡ Ok operands) same
-    (subst (λ (y : Expr). both (value_of input (expression_of e)) (value_of input (expression_of y)) ≡ Ok operands) alike is)
-
 pub evaluate-returns-in-Generator-clause-value : goal.evaluate-returns-in-Generator-clause-value
 evaluate-returns-in-Generator-clause-value t c =
-    subst (λ (e : Expr). IsValue (value_of c.args.input.now (expression_of e)) c.generator_graph.result) (sym c.in-Generator.is) (value_made _ _ c.generator_graph.ensures.answer)
+    rw c.in-Generator.is (value_made _ _ c.generator_graph.ensures.answer)
 
 pub evaluate-returns-in_ok-operand-in-Complement-clause-value : goal.evaluate-returns-in_ok-operand-in-Complement-clause-value
 evaluate-returns-in_ok-operand-in-Complement-clause-value t c =
     let a = c.in-Complement in
-    subst (λ (e : Expr). IsValue (value_of c.args.input.now (expression_of e)) c.complement.result) (sym a.is)
-    (value_then (value_of c.args.input.now (expression_of a.graph.value)) c.in_ok-operand-in-Complement.operand (λ g. made (complement_of g a.copy a.self_loops a.directed)) c.complement.result
-    (at_value c.args.input.now c.deref.result.now a.graph.value c.in_ok-operand-in-Complement.operand c.deref.ensures c.in_ok-operand-in-Complement.ensures.value)
-    (value_made (complement_of c.in_ok-operand-in-Complement.operand a.copy a.self_loops a.directed) c.complement.result c.complement.ensures))
+    rw a.is (value_one (λ g. complement_of g a.copy a.self_loops a.directed) c.args.input.now _ a.graph.value _ _ c.deref.ensures c.in_ok-operand-in-Complement.ensures.value c.complement.ensures)
 
 pub evaluate-returns-in_ok-left-in-Gunion-clause-value : goal.evaluate-returns-in_ok-left-in-Gunion-clause-value
 evaluate-returns-in_ok-left-in-Gunion-clause-value t c =
     let a = c.in-Gunion in
-    subst (λ (e : Expr). IsValue (value_of c.args.input.now (expression_of e)) c.gunion.result) (sym a.is)
-    (value_then (both (value_of c.args.input.now (expression_of a.first.value)) (value_of c.args.input.now (expression_of a.second.value))) (c.in_ok-left-in-Gunion.left, c.in_ok-left-in-Gunion.right)
-    (λ operands. made (gunion_of operands.0 operands.1 a.multi a.directed)) c.gunion.result
-    (at_values c.args.input.now _ _ a.first.value a.second.value _ c.deref-in-Gunion.ensures c.deref-in-Gunion-2.ensures c.in_ok-left-in-Gunion.ensures.value)
-    (value_made (gunion_of c.in_ok-left-in-Gunion.left c.in_ok-left-in-Gunion.right a.multi a.directed) c.gunion.result c.gunion.ensures))
+    rw a.is (value_two (λ g h. gunion_of g h a.multi a.directed) c.args.input.now _ _ a.first.value a.second.value _ _ c.deref-in-Gunion.ensures c.deref-in-Gunion-2.ensures c.in_ok-left-in-Gunion.ensures.value c.gunion.ensures)
 
 pub evaluate-returns-in_ok-left-in-Intersection-clause-value : goal.evaluate-returns-in_ok-left-in-Intersection-clause-value
 evaluate-returns-in_ok-left-in-Intersection-clause-value t c =
     let a = c.in-Intersection in
-    subst (λ (e : Expr). IsValue (value_of c.args.input.now (expression_of e)) c.intersection.result) (sym a.is)
-    (value_then (both (value_of c.args.input.now (expression_of a.first.value)) (value_of c.args.input.now (expression_of a.second.value))) (c.in_ok-left-in-Intersection.left, c.in_ok-left-in-Intersection.right)
-    (λ operands. made (intersection_of operands.0 operands.1 a.multi a.directed)) c.intersection.result
-    (at_values c.args.input.now _ _ a.first.value a.second.value _ c.deref-in-Intersection.ensures c.deref-in-Intersection-2.ensures c.in_ok-left-in-Intersection.ensures.value)
-    (value_made (intersection_of c.in_ok-left-in-Intersection.left c.in_ok-left-in-Intersection.right a.multi a.directed) c.intersection.result c.intersection.ensures))
+    rw a.is (value_two (λ g h. intersection_of g h a.multi a.directed) c.args.input.now _ _ a.first.value a.second.value _ _ c.deref-in-Intersection.ensures c.deref-in-Intersection-2.ensures c.in_ok-left-in-Intersection.ensures.value c.intersection.ensures)
 
 pub evaluate-returns-in_ok-operand-in-Lines-clause-value : goal.evaluate-returns-in_ok-operand-in-Lines-clause-value
 evaluate-returns-in_ok-operand-in-Lines-clause-value t c =
     let a = c.in-Lines in
-    subst (λ (e : Expr). IsValue (value_of c.args.input.now (expression_of e)) c.lines.result) (sym a.is)
-    (value_then (value_of c.args.input.now (expression_of a.graph.value)) c.in_ok-operand-in-Lines.operand (λ g. made (line_graph_of g a.directed)) c.lines.result
-    (at_value c.args.input.now _ a.graph.value c.in_ok-operand-in-Lines.operand c.deref-in-Lines.ensures c.in_ok-operand-in-Lines.ensures.value)
-    (value_made (line_graph_of c.in_ok-operand-in-Lines.operand a.directed) c.lines.result c.lines.ensures))
+    rw a.is (value_one (λ g. line_graph_of g a.directed) c.args.input.now _ a.graph.value _ _ c.deref-in-Lines.ensures c.in_ok-operand-in-Lines.ensures.value c.lines.ensures)
 
 pub evaluate-returns-in_ok-left-in-Product-clause-value : goal.evaluate-returns-in_ok-left-in-Product-clause-value
 evaluate-returns-in_ok-left-in-Product-clause-value t c =
     let a = c.in-Product in
-    subst (λ (e : Expr). IsValue (value_of c.args.input.now (expression_of e)) c.product.result) (sym a.is)
-    (value_then (both (value_of c.args.input.now (expression_of a.first.value)) (value_of c.args.input.now (expression_of a.second.value))) (c.in_ok-left-in-Product.left, c.in_ok-left-in-Product.right)
-    (λ operands. made (product_graph_of operands.0 operands.1 a.kind a.directed)) c.product.result
-    (at_values c.args.input.now _ _ a.first.value a.second.value _ c.deref-in-Product.ensures c.deref-in-Product-2.ensures c.in_ok-left-in-Product.ensures.value)
-    (value_made (product_graph_of c.in_ok-left-in-Product.left c.in_ok-left-in-Product.right a.kind a.directed) c.product.result
-    (subst (λ kind. IsAnswerOf (product_graph_of c.in_ok-left-in-Product.left c.in_ok-left-in-Product.right kind a.directed) c.product.result)
-    (to_z-of_z w64 a.kind (search rules)) c.product.ensures.answer)))
+    rw a.is (value_two (λ g h. product_graph_of g h a.kind a.directed) c.args.input.now _ _ a.first.value a.second.value _ _ c.deref-in-Product.ensures c.deref-in-Product-2.ensures c.in_ok-left-in-Product.ensures.value
+    (subst (λ kind. IsAnswerOf (product_graph_of c.in_ok-left-in-Product.left c.in_ok-left-in-Product.right kind a.directed) c.product.result) (to_z-of_z w64 a.kind (search rules)) c.product.ensures.answer))
 
 -- the answer to two integers that stand for themselves
 at_numbers : (make : ℤ → ℤ → Result Description Panic) (m n m' n' : ℤ) (r : Result GraphData Panic) → m' ≡ m → n' ≡ n → IsAnswerOf (make m' n') r → IsAnswerOf (make m n) r
@@ -97,110 +70,92 @@ at_numbers make m n m' n' r e f is = subst (λ k. IsAnswerOf (make m k) r) f (su
 pub evaluate-returns-in-BiComplete-clause-value : goal.evaluate-returns-in-BiComplete-clause-value
 evaluate-returns-in-BiComplete-clause-value t c =
     let a = c.in-BiComplete in
-    subst (λ (e : Expr). IsValue (value_of c.args.input.now (expression_of e)) c.bi_complete.result) (sym a.is)
-    (value_made (bi_complete_of a.n1 a.n2 a.directed) c.bi_complete.result
+    rw a.is (value_made (bi_complete_of a.n1 a.n2 a.directed) c.bi_complete.result
     (at_numbers (λ n1 n2. bi_complete_of n1 n2 a.directed) a.n1 a.n2 _ _ c.bi_complete.result (to_z-of_z w64 a.n1 (search rules)) (to_z-of_z w64 a.n2 (search rules)) c.bi_complete.ensures.answer))
 
 pub evaluate-returns-in-Wheel-clause-value : goal.evaluate-returns-in-Wheel-clause-value
 evaluate-returns-in-Wheel-clause-value t c =
     let a = c.in-Wheel in
-    subst (λ (e : Expr). IsValue (value_of c.args.input.now (expression_of e)) c.wheel.result) (sym a.is)
-    (value_made (wheel_of a.n a.n1 a.directed) c.wheel.result
+    rw a.is (value_made (wheel_of a.n a.n1 a.directed) c.wheel.result
     (at_numbers (λ n n1. wheel_of n n1 a.directed) a.n a.n1 _ _ c.wheel.result (to_z-of_z w64 a.n (search rules)) (to_z-of_z w64 a.n1 (search rules)) c.wheel.ensures.answer))
 
 pub evaluate-returns-in-Stdin-clause-value : goal.evaluate-returns-in-Stdin-clause-value
 evaluate-returns-in-Stdin-clause-value t c =
-    subst (λ (e : Expr). IsValue (value_of c.args.input.now (expression_of e)) c.read_kept.result) (sym c.in-Stdin.is) c.read_kept.ensures.value
+    rw c.in-Stdin.is c.read_kept.ensures.value
 
 pub evaluate-returns-in-Generator-clause-refused : goal.evaluate-returns-in-Generator-clause-refused
 evaluate-returns-in-Generator-clause-refused t c =
-    subst (λ (e : Expr). (p : Panic) → IsRefusedFirst c.args.input.now (expression_of e) p → c.generator_graph.result ≡ Err p) (sym c.in-Generator.is) c.generator_graph.ensures.refused
+    rw c.in-Generator.is c.generator_graph.ensures.refused
 
 pub evaluate-returns-in_err-operand-in-Complement-clause-refused : goal.evaluate-returns-in_err-operand-in-Complement-clause-refused
 evaluate-returns-in_err-operand-in-Complement-clause-refused t c =
-    subst (λ (e : Expr). (p : Panic) → IsRefusedFirst c.args.input.now (expression_of e) p → c.from_residual.result ≡ Err p) (sym c.in-Complement.is)
-    (exit_first c.args.input.now c.deref.result.now c.in-Complement.graph.value _ _ c.from_residual.ensures.1 c.deref.ensures c.in_err-operand-in-Complement.ensures.refused)
+    rw c.in-Complement.is (exit_first c.args.input.now c.deref.result.now c.in-Complement.graph.value _ _ c.from_residual.ensures.1 c.deref.ensures c.in_err-operand-in-Complement.ensures.refused)
 
 pub evaluate-returns-in_ok-operand-in-Complement-clause-refused : goal.evaluate-returns-in_ok-operand-in-Complement-clause-refused
 evaluate-returns-in_ok-operand-in-Complement-clause-refused t c =
-    subst (λ (e : Expr). (p : Panic) → IsRefusedFirst c.args.input.now (expression_of e) p → c.complement.result ≡ Err p) (sym c.in-Complement.is)
-    (made_first c.args.input.now c.deref.result.now c.in-Complement.graph.value _ _ c.deref.ensures c.in_ok-operand-in-Complement.ensures.refused)
+    rw c.in-Complement.is (made_first c.args.input.now c.deref.result.now c.in-Complement.graph.value _ _ c.deref.ensures c.in_ok-operand-in-Complement.ensures.refused)
 
 pub evaluate-returns-in_err-left-in-Gunion-clause-refused : goal.evaluate-returns-in_err-left-in-Gunion-clause-refused
 evaluate-returns-in_err-left-in-Gunion-clause-refused t c =
-    subst (λ (e : Expr). (p : Panic) → IsRefusedFirst c.args.input.now (expression_of e) p → c.from_residual-in_err-left-in-Gunion.result ≡ Err p) (sym c.in-Gunion.is)
-    (exit_first c.args.input.now c.deref-in-Gunion.result.now c.in-Gunion.first.value _ _ c.from_residual-in_err-left-in-Gunion.ensures.1 c.deref-in-Gunion.ensures c.in_err-left-in-Gunion.ensures.refused)
+    rw c.in-Gunion.is (exit_first c.args.input.now c.deref-in-Gunion.result.now c.in-Gunion.first.value _ _ c.from_residual-in_err-left-in-Gunion.ensures.1 c.deref-in-Gunion.ensures c.in_err-left-in-Gunion.ensures.refused)
 
 pub evaluate-returns-in_ok-left-in-Gunion-clause-refused : goal.evaluate-returns-in_ok-left-in-Gunion-clause-refused
 evaluate-returns-in_ok-left-in-Gunion-clause-refused t c =
-    subst (λ (e : Expr). (p : Panic) → IsRefusedFirst c.args.input.now (expression_of e) p → c.gunion.result ≡ Err p) (sym c.in-Gunion.is)
-    (made_first c.args.input.now c.deref-in-Gunion.result.now c.in-Gunion.first.value _ _ c.deref-in-Gunion.ensures c.in_ok-left-in-Gunion.ensures.refused)
+    rw c.in-Gunion.is (made_first c.args.input.now c.deref-in-Gunion.result.now c.in-Gunion.first.value _ _ c.deref-in-Gunion.ensures c.in_ok-left-in-Gunion.ensures.refused)
 
 pub evaluate-returns-in_err-left-in-Intersection-clause-refused : goal.evaluate-returns-in_err-left-in-Intersection-clause-refused
 evaluate-returns-in_err-left-in-Intersection-clause-refused t c =
-    subst (λ (e : Expr). (p : Panic) → IsRefusedFirst c.args.input.now (expression_of e) p → c.from_residual-in_err-left-in-Intersection.result ≡ Err p) (sym c.in-Intersection.is)
-    (exit_first c.args.input.now c.deref-in-Intersection.result.now c.in-Intersection.first.value _ _ c.from_residual-in_err-left-in-Intersection.ensures.1 c.deref-in-Intersection.ensures c.in_err-left-in-Intersection.ensures.refused)
+    rw c.in-Intersection.is (exit_first c.args.input.now c.deref-in-Intersection.result.now c.in-Intersection.first.value _ _ c.from_residual-in_err-left-in-Intersection.ensures.1 c.deref-in-Intersection.ensures c.in_err-left-in-Intersection.ensures.refused)
 
 pub evaluate-returns-in_ok-left-in-Intersection-clause-refused : goal.evaluate-returns-in_ok-left-in-Intersection-clause-refused
 evaluate-returns-in_ok-left-in-Intersection-clause-refused t c =
-    subst (λ (e : Expr). (p : Panic) → IsRefusedFirst c.args.input.now (expression_of e) p → c.intersection.result ≡ Err p) (sym c.in-Intersection.is)
-    (made_first c.args.input.now c.deref-in-Intersection.result.now c.in-Intersection.first.value _ _ c.deref-in-Intersection.ensures c.in_ok-left-in-Intersection.ensures.refused)
+    rw c.in-Intersection.is (made_first c.args.input.now c.deref-in-Intersection.result.now c.in-Intersection.first.value _ _ c.deref-in-Intersection.ensures c.in_ok-left-in-Intersection.ensures.refused)
 
 pub evaluate-returns-in_err-operand-in-Lines-clause-refused : goal.evaluate-returns-in_err-operand-in-Lines-clause-refused
 evaluate-returns-in_err-operand-in-Lines-clause-refused t c =
-    subst (λ (e : Expr). (p : Panic) → IsRefusedFirst c.args.input.now (expression_of e) p → c.from_residual-in_err-operand-in-Lines.result ≡ Err p) (sym c.in-Lines.is)
-    (exit_first c.args.input.now c.deref-in-Lines.result.now c.in-Lines.graph.value _ _ c.from_residual-in_err-operand-in-Lines.ensures.1 c.deref-in-Lines.ensures c.in_err-operand-in-Lines.ensures.refused)
+    rw c.in-Lines.is (exit_first c.args.input.now c.deref-in-Lines.result.now c.in-Lines.graph.value _ _ c.from_residual-in_err-operand-in-Lines.ensures.1 c.deref-in-Lines.ensures c.in_err-operand-in-Lines.ensures.refused)
 
 pub evaluate-returns-in_ok-operand-in-Lines-clause-refused : goal.evaluate-returns-in_ok-operand-in-Lines-clause-refused
 evaluate-returns-in_ok-operand-in-Lines-clause-refused t c =
-    subst (λ (e : Expr). (p : Panic) → IsRefusedFirst c.args.input.now (expression_of e) p → c.lines.result ≡ Err p) (sym c.in-Lines.is)
-    (made_first c.args.input.now c.deref-in-Lines.result.now c.in-Lines.graph.value _ _ c.deref-in-Lines.ensures c.in_ok-operand-in-Lines.ensures.refused)
+    rw c.in-Lines.is (made_first c.args.input.now c.deref-in-Lines.result.now c.in-Lines.graph.value _ _ c.deref-in-Lines.ensures c.in_ok-operand-in-Lines.ensures.refused)
 
 pub evaluate-returns-in_err-left-in-Product-clause-refused : goal.evaluate-returns-in_err-left-in-Product-clause-refused
 evaluate-returns-in_err-left-in-Product-clause-refused t c =
-    subst (λ (e : Expr). (p : Panic) → IsRefusedFirst c.args.input.now (expression_of e) p → c.from_residual-in_err-left-in-Product.result ≡ Err p) (sym c.in-Product.is)
-    (exit_first c.args.input.now c.deref-in-Product.result.now c.in-Product.first.value _ _ c.from_residual-in_err-left-in-Product.ensures.1 c.deref-in-Product.ensures c.in_err-left-in-Product.ensures.refused)
+    rw c.in-Product.is (exit_first c.args.input.now c.deref-in-Product.result.now c.in-Product.first.value _ _ c.from_residual-in_err-left-in-Product.ensures.1 c.deref-in-Product.ensures c.in_err-left-in-Product.ensures.refused)
 
 pub evaluate-returns-in_ok-left-in-Product-clause-refused : goal.evaluate-returns-in_ok-left-in-Product-clause-refused
 evaluate-returns-in_ok-left-in-Product-clause-refused t c =
-    subst (λ (e : Expr). (p : Panic) → IsRefusedFirst c.args.input.now (expression_of e) p → c.product.result ≡ Err p) (sym c.in-Product.is)
-    (made_first c.args.input.now c.deref-in-Product.result.now c.in-Product.first.value _ _ c.deref-in-Product.ensures c.in_ok-left-in-Product.ensures.refused)
+    rw c.in-Product.is (made_first c.args.input.now c.deref-in-Product.result.now c.in-Product.first.value _ _ c.deref-in-Product.ensures c.in_ok-left-in-Product.ensures.refused)
 
 pub evaluate-returns-in_err-operand-in-Induced-clause-refused : goal.evaluate-returns-in_err-operand-in-Induced-clause-refused
 evaluate-returns-in_err-operand-in-Induced-clause-refused t c =
-    subst (λ (e : Expr). (p : Panic) → IsRefusedFirst c.args.input.now (expression_of e) p → c.from_residual-in_err-operand-in-Induced.result ≡ Err p) (sym c.in-Induced.is)
-    (exit_first c.args.input.now c.deref-in-Induced.result.now c.in-Induced.graph.value _ _ c.from_residual-in_err-operand-in-Induced.ensures.1 c.deref-in-Induced.ensures c.in_err-operand-in-Induced.ensures.refused)
+    rw c.in-Induced.is (exit_first c.args.input.now c.deref-in-Induced.result.now c.in-Induced.graph.value _ _ c.from_residual-in_err-operand-in-Induced.ensures.1 c.deref-in-Induced.ensures c.in_err-operand-in-Induced.ensures.refused)
 
 pub evaluate-returns-in_ok-list-in-Induced-clause-refused : goal.evaluate-returns-in_ok-list-in-Induced-clause-refused
 evaluate-returns-in_ok-list-in-Induced-clause-refused t c =
-    subst (λ (e : Expr). (p : Panic) → IsRefusedFirst c.args.input.now (expression_of e) p → c.induced_from.result ≡ Err p) (sym c.in-Induced.is)
-    (made_first c.args.input.now c.deref-in-Induced.result.now c.in-Induced.graph.value _ _ c.deref-in-Induced.ensures c.in_ok-operand-in-Induced.ensures.refused)
+    rw c.in-Induced.is (made_first c.args.input.now c.deref-in-Induced.result.now c.in-Induced.graph.value _ _ c.deref-in-Induced.ensures c.in_ok-operand-in-Induced.ensures.refused)
 
 pub evaluate-returns-in_err-values-in-Induced-clause-refused : goal.evaluate-returns-in_err-values-in-Induced-clause-refused
 evaluate-returns-in_err-values-in-Induced-clause-refused t c =
-    subst (λ (e : Expr). (p : Panic) → IsRefusedFirst c.args.input.now (expression_of e) p → c.from_residual-in_err-values-in-Induced.result ≡ Err p) (sym c.in-Induced.is)
-    (made_first c.args.input.now c.deref-in-Induced.result.now c.in-Induced.graph.value _ _ c.deref-in-Induced.ensures c.in_ok-operand-in-Induced.ensures.refused)
+    rw c.in-Induced.is (made_first c.args.input.now c.deref-in-Induced.result.now c.in-Induced.graph.value _ _ c.deref-in-Induced.ensures c.in_ok-operand-in-Induced.ensures.refused)
 
 pub evaluate-returns-in_err-list-in-Induced-clause-refused : goal.evaluate-returns-in_err-list-in-Induced-clause-refused
 evaluate-returns-in_err-list-in-Induced-clause-refused t c =
-    subst (λ (e : Expr). (p : Panic) → IsRefusedFirst c.args.input.now (expression_of e) p → c.from_residual-in_err-list-in-Induced.result ≡ Err p) (sym c.in-Induced.is)
-    (made_first c.args.input.now c.deref-in-Induced.result.now c.in-Induced.graph.value _ _ c.deref-in-Induced.ensures c.in_ok-operand-in-Induced.ensures.refused)
+    rw c.in-Induced.is (made_first c.args.input.now c.deref-in-Induced.result.now c.in-Induced.graph.value _ _ c.deref-in-Induced.ensures c.in_ok-operand-in-Induced.ensures.refused)
 
 pub evaluate-returns-in-BiComplete-clause-refused : goal.evaluate-returns-in-BiComplete-clause-refused
 evaluate-returns-in-BiComplete-clause-refused t c =
     let a = c.in-BiComplete in
-    subst (λ (e : Expr). (p : Panic) → IsRefusedFirst c.args.input.now (expression_of e) p → c.bi_complete.result ≡ Err p) (sym a.is)
-    (numbers_refused (λ n1 n2 p. accepted_parts n1 n2 ≡ Err p) a.n1 a.n2 _ _ c.bi_complete.result (to_z-of_z w64 a.n1 (search rules)) (to_z-of_z w64 a.n2 (search rules)) c.bi_complete.ensures.refused)
+    rw a.is (numbers_refused (λ n1 n2 p. accepted_parts n1 n2 ≡ Err p) a.n1 a.n2 _ _ c.bi_complete.result (to_z-of_z w64 a.n1 (search rules)) (to_z-of_z w64 a.n2 (search rules)) c.bi_complete.ensures.refused)
 
 pub evaluate-returns-in-Wheel-clause-refused : goal.evaluate-returns-in-Wheel-clause-refused
 evaluate-returns-in-Wheel-clause-refused t c =
     let a = c.in-Wheel in
-    subst (λ (e : Expr). (p : Panic) → IsRefusedFirst c.args.input.now (expression_of e) p → c.wheel.result ≡ Err p) (sym a.is)
-    (numbers_refused (λ n n1 p. accepted_middle n1 ≡ Err p) a.n a.n1 a.n _ c.wheel.result refl (to_z-of_z w64 a.n1 (search rules)) c.wheel.ensures.refused)
+    rw a.is (numbers_refused (λ n n1 p. accepted_middle n1 ≡ Err p) a.n a.n1 a.n _ c.wheel.result refl (to_z-of_z w64 a.n1 (search rules)) c.wheel.ensures.refused)
 
 pub evaluate-returns-in-Stdin-clause-refused : goal.evaluate-returns-in-Stdin-clause-refused
 evaluate-returns-in-Stdin-clause-refused t c =
-    subst (λ (e : Expr). (p : Panic) → IsRefusedFirst c.args.input.now (expression_of e) p → c.read_kept.result ≡ Err p) (sym c.in-Stdin.is) c.read_kept.ensures.refused
+    rw c.in-Stdin.is c.read_kept.ensures.refused
 
 pub evaluate-values_of-requires : goal.evaluate-values_of-requires
 evaluate-values_of-requires t c =

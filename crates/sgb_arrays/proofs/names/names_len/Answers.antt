@@ -1,7 +1,8 @@
 use Rattle.std.proofs.Common.{◌≤◌, ◌<◌, ◌∙◌, [], Some, length, ap, sym, arith}
 use Rattle.std.proofs.lemmas.Option.{get_or_from_slice_get}
 use Rattle.sgb_graph.specs.Vertices.{names_of}
-use Rattle.sgb_arrays.proofs.NamesLeft.{bytes_left-none, bytes_left-whole, name_counted}
+use Rattle.sgb_arrays.proofs.NamesLeft.{bytes_left-first, bytes_left-none, bytes_left-whole}
+use Rattle.sgb_arrays.proofs.PutValues.{part_counted}
 use Rattle.sgb_arrays.proofs.names.names_len.Goals as goal
 
 pub loop-v-init : goal.loop-v-init
@@ -15,7 +16,7 @@ loop-v-preserved c =
     let named = get_or_from_slice_get (names_of g) v _ [] (c.name.ensures ∙ ap Some (sym c.bytes.ensures.value)) in
     let size = sym (ap length named) in
     record {
-      count = name_counted g v c.loop-v.count _ _ within size c.loop-v.invariant.count;
+      count = part_counted c.loop-v.count _ _ _ _ _ (bytes_left-first g v within) size c.loop-v.invariant.count;
       few = omega (arith, c.bytes.ensures.text.short, ap length c.bytes.ensures.value, c.loop-v.invariant.few);
     }
 

@@ -2,11 +2,11 @@ use Rattle.std.proofs.Common.{◌≡◌, ℕ, set, ◌<◌, ◌+◌, ◌∙◌, 
 use Rattle.std.proofs.lemmas.List.{length-append}
 use Rattle.std.proofs.lemmas.Option.{get_or_from_slice_get}
 use Rattle.sgb_graph.specs.Vertices.{names_of}
-use Rattle.sgb_arrays.specs.Names.{name_bytes}
-use Rattle.sgb_arrays.specs.inner.NamesLeft.{bytes_left}
+use Rattle.sgb_arrays.specs.Names.{name_bytes, name_starts}
+use Rattle.sgb_arrays.specs.inner.NamesLeft.{bytes_left, name_starts_left}
 use Rattle.sgb_arrays.specs.inner.Puts.{put_from}
-use Rattle.sgb_arrays.proofs.NamesLeft.{bytes_left-first, bytes_left-none, bytes_left-whole, name_counted, name_start_put, name_starts_left-whole, name_starts_put}
-use Rattle.sgb_arrays.proofs.PutValues.{bytes_put, put_from-all}
+use Rattle.sgb_arrays.proofs.NamesLeft.{bytes_left-first, bytes_left-none, bytes_left-whole, length-name_starts, name_starts_left-first, name_starts_left-none, name_starts_left-whole}
+use Rattle.sgb_arrays.proofs.PutValues.{bytes_put, first_put, last_put, part_counted, put_from-all}
 use Rattle.sgb_arrays.proofs.names.put_names.Goals as goal
 
 pub loop-v-init : goal.loop-v-init
@@ -39,9 +39,9 @@ loop-v-preserved c =
     let named = get_or_from_slice_get (names_of g) v _ [] (c.name.ensures ∙ ap Some (sym c.bytes-name.ensures.value)) in
     let size = ap (λ name. at + length name) (sym named) in
     record {
-      starts = name_start_put g v at _ c.loop-v.starts _ within size c.loop-v.invariant.starts;
+      starts = first_put v at _ _ _ (name_starts_left g (v + 1)) c.loop-v.starts _ (name_starts_left-first g v at within) size c.loop-v.invariant.starts;
       bytes = bytes_put at _ (bytes_left g v) (get_or (names_of g) v []) _ (bytes_left g (v + 1)) c.loop-v.bytes c.put_bytes.new.out _ (bytes_left-first g v within) named refl c.put_bytes.ensures c.loop-v.invariant.bytes;
-      end = name_counted g v at _ _ within (sym (ap length named)) c.loop-v.invariant.end;
+      end = part_counted at _ _ _ _ _ (bytes_left-first g v within) (sym (ap length named)) c.loop-v.invariant.end;
       start_places = search rules;
       byte_places = search rules;
     }
@@ -54,6 +54,6 @@ returns c =
     let none = bytes_left-none g v (omega (arith, last)) in
     let same : v ≡ c.n.result = omega (arith, last, c.n.ensures.count) in
     record {
-      starts = ap (λ (k : ℕ). set c.loop-v.starts k c.loop-v.at) (sym same) ∙ name_starts_put g v c.loop-v.at c.loop-v.starts c.args.starts.now last c.requires.starts c.loop-v.invariant.starts;
+      starts = ap (λ (k : ℕ). set c.loop-v.starts k c.loop-v.at) (sym same) ∙ last_put v c.loop-v.at _ c.loop-v.starts c.args.starts.now (name_starts g) (name_starts_left-none g v c.loop-v.at (omega (arith, last))) (omega (arith, c.requires.starts, length-name_starts g)) c.loop-v.invariant.starts;
       bytes = ap (λ xs. put_from c.loop-v.at xs c.loop-v.bytes) (sym none) ∙ c.loop-v.invariant.bytes ∙ put_from-all (name_bytes g) c.args.bytes.now c.requires.bytes;
     }

@@ -1,6 +1,7 @@
 use Rattle.std.proofs.Common.{◌≡◌, ◌≤◌, ◌<◌, length, ap, arith, rules}
 use Rattle.sgb_graph.specs.Graphs.{chain_of}
-use Rattle.sgb_arrays.proofs.ArcsLeft.{arcs_left-none, arcs_left-whole, list_counted}
+use Rattle.sgb_arrays.proofs.ArcsLeft.{arcs_left-first, arcs_left-none, arcs_left-whole}
+use Rattle.sgb_arrays.proofs.PutValues.{part_counted}
 use Rattle.sgb_arrays.proofs.rows.arcs_len.Goals as goal
 
 pub loop-v-init : goal.loop-v-init
@@ -18,7 +19,7 @@ loop-v-preserved c =
     let within : c.loop-v.v < length g.vertices = omega (arith, c.n-v-end.ensures.count) in
     let size : c.from-count.result ≡ length (chain_of g c.loop-v.v) = omega (arith, c.from-count.ensures, c.at.ensures.size) in
     record {
-      count = list_counted g c.loop-v.v c.loop-v.count c.from-count.result _ within size c.loop-v.invariant.count;
+      count = part_counted c.loop-v.count c.from-count.result _ _ _ _ (arcs_left-first g c.loop-v.v within) size c.loop-v.invariant.count;
       few = omega (arith, c.from-count.ensures, c.loop-v.invariant.few);
       sizes = c.at.ensures.known;
       after = omega (arith, c.at.ensures.after);

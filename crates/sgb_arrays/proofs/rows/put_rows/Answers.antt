@@ -1,11 +1,11 @@
 use Rattle.std.proofs.Common.{◌≡◌, ℕ, set, ◌<◌, ◌+◌, ◌∙◌, length, map, ap, refl, sym, arith, rules}
 use Rattle.std.proofs.lemmas.List.{length-append, length-map}
 use Rattle.sgb_graph.specs.Graphs.{chain_of}
-use Rattle.sgb_arrays.specs.Rows.{arcs_of, lengths_of, tips_of}
-use Rattle.sgb_arrays.specs.inner.ArcsLeft.{arcs_left}
+use Rattle.sgb_arrays.specs.Rows.{arcs_of, lengths_of, starts_of, tips_of}
+use Rattle.sgb_arrays.specs.inner.ArcsLeft.{arcs_left, starts_left}
 use Rattle.sgb_arrays.specs.inner.Puts.{put_from}
-use Rattle.sgb_arrays.proofs.ArcsLeft.{arcs_left-first, arcs_left-none, arcs_left-whole, list_counted, start_put, starts_left-whole, starts_put}
-use Rattle.sgb_arrays.proofs.PutValues.{all_put, part_put}
+use Rattle.sgb_arrays.proofs.ArcsLeft.{arcs_left-first, arcs_left-none, arcs_left-whole, length-starts_of, starts_left-first, starts_left-none, starts_left-whole}
+use Rattle.sgb_arrays.proofs.PutValues.{all_put, first_put, last_put, part_counted, part_put}
 use Rattle.sgb_arrays.proofs.rows.put_rows.Goals as goal
 
 pub loop-v-init : goal.loop-v-init
@@ -42,10 +42,10 @@ loop-v-preserved c =
     let within : v < length g.vertices = omega (arith, c.n-v-end.ensures.count) in
     let first = arcs_left-first g v within in
     record {
-      starts = start_put g v at c.put_row-at.result c.loop-v.starts _ within c.put_row-at.ensures.end c.loop-v.invariant.starts;
+      starts = first_put v at c.put_row-at.result _ _ (starts_left g (v + 1)) c.loop-v.starts _ (starts_left-first g v at within) c.put_row-at.ensures.end c.loop-v.invariant.starts;
       tips = part_put (λ k. k.tip) at c.put_row-at.result (arcs_left g v) (chain_of g v) (arcs_left g (v + 1)) c.loop-v.tips c.put_row-at.new.tips _ first c.put_row-at.ensures.end c.put_row-at.ensures.tips c.loop-v.invariant.tips;
       lengths = part_put (λ k. k.len) at c.put_row-at.result (arcs_left g v) (chain_of g v) (arcs_left g (v + 1)) c.loop-v.lengths c.put_row-at.new.lengths _ first c.put_row-at.ensures.end c.put_row-at.ensures.lengths c.loop-v.invariant.lengths;
-      end = omega (arith, c.put_row-at.ensures.end, list_counted g v at (length (chain_of g v)) _ within refl c.loop-v.invariant.end);
+      end = omega (arith, c.put_row-at.ensures.end, part_counted at (length (chain_of g v)) _ _ _ _ first refl c.loop-v.invariant.end);
       start_places = search rules;
       tip_places = search rules;
       length_places = search rules;
@@ -59,7 +59,7 @@ returns c =
     let none = arcs_left-none g v (omega (arith, last)) in
     let same : v ≡ c.n.result = omega (arith, last, c.n.ensures.count) in
     record {
-      starts = ap (λ (k : ℕ). set c.loop-v.starts k c.loop-v.at) (sym same) ∙ starts_put g v c.loop-v.at c.loop-v.starts c.args.starts.now last c.requires.starts c.loop-v.invariant.starts;
+      starts = ap (λ (k : ℕ). set c.loop-v.starts k c.loop-v.at) (sym same) ∙ last_put v c.loop-v.at _ c.loop-v.starts c.args.starts.now (starts_of g) (starts_left-none g v c.loop-v.at (omega (arith, last))) (omega (arith, c.requires.starts, length-starts_of g)) c.loop-v.invariant.starts;
       tips = all_put (λ k. k.tip) c.loop-v.at (arcs_left g v) c.loop-v.tips c.args.tips.now (tips_of g) none (omega (arith, c.requires.tips, length-map (arcs_of g) (λ k. k.tip))) c.loop-v.invariant.tips;
       lengths = all_put (λ k. k.len) c.loop-v.at (arcs_left g v) c.loop-v.lengths c.args.lengths.now (lengths_of g) none (omega (arith, c.requires.lengths, length-map (arcs_of g) (λ k. k.len))) c.loop-v.invariant.lengths;
     }

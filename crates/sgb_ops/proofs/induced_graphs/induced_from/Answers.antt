@@ -1,39 +1,28 @@
-use Rattle.std.proofs.Common.{◌≡◌, ◌∙◌, All, Ok, Err, length, sym, ap, subst}
+use Rattle.std.proofs.Common.{◌≡◌, ◌∙◌, All, Ok, Err, length, sym, ap, subst, rules}
 use Rattle.std.specs.List.{list_any}
 use Rattle.std.proofs.lemmas.Result.{err_from_is_err_and}
 use Rattle.sgb_ops.specs.Entries.{accepted_entries, is_unnumbered}
 use Rattle.sgb_graph.specs.Vertices.{order_of}
 use Rattle.sgb_ops.specs.inner.Begun.{IsBegun}
 use Rattle.sgb_ops.specs.inner.Copies.{IsKeptEntry}
-use Rattle.sgb_ops.proofs.BegunGraphs.{begun_numbered, begun_own, begun_size, begun_within, finished_answer}
+use Rattle.sgb_ops.proofs.BegunGraphs.{begun_count, begun_numbered, begun_own, begun_size, begun_within, finished_answer}
 use Rattle.sgb_ops.proofs.Refusals.{not_refused, same_refusal}
 use Rattle.sgb_ops.proofs.induced_graphs.induced_from.Goals as goal
 
-pub finished-requires-clause-numbered : goal.finished-requires-clause-numbered
-finished-requires-clause-numbered c =
+pub finished-requires : goal.finished-requires
+finished-requires c =
     let b = c.in_ok-begun.begun in
-    begun_numbered c.args.graph.now c.args.entries.items c.args.self_loops c.args.multi c.args.directed b.copies b.in_parts b.kept.items b.built (ap (list_any is_unnumbered) (sym c.deref.ensures.value) ∙ c.in_ok-merged.ensures.numbered)
-    (subst (λ es. IsBegun c.args.graph.now es c.args.self_loops c.args.multi c.args.directed b.copies b.in_parts b.kept.items b.built) c.deref-2.ensures.value c.in_ok-begun.ensures.ok)
-
-pub finished-requires-clause-parts : goal.finished-requires-clause-parts
-finished-requires-clause-parts c =
-    let b = c.in_ok-begun.begun in
-    begun_own c.args.graph.now c.args.entries.items c.args.self_loops c.args.multi c.args.directed b.copies b.in_parts b.kept.items b.built (ap (list_any is_unnumbered) (sym c.deref.ensures.value) ∙ c.in_ok-merged.ensures.numbered)
-    (subst (λ es. IsBegun c.args.graph.now es c.args.self_loops c.args.multi c.args.directed b.copies b.in_parts b.kept.items b.built) c.deref-2.ensures.value c.in_ok-begun.ensures.ok)
-
-pub finished-requires-clause-size : goal.finished-requires-clause-size
-finished-requires-clause-size c =
-    let b = c.in_ok-begun.begun in
-    begun_size c.args.graph.now c.args.entries.items c.args.self_loops c.args.multi c.args.directed b.copies b.in_parts b.kept.items b.built (ap (list_any is_unnumbered) (sym c.deref.ensures.value) ∙ c.in_ok-merged.ensures.numbered)
-    (subst (λ es. IsBegun c.args.graph.now es c.args.self_loops c.args.multi c.args.directed b.copies b.in_parts b.kept.items b.built) c.deref-2.ensures.value c.in_ok-begun.ensures.ok)
-    (ap length (sym c.deref.ensures.value) ∙ (c.in_ok-merged.ensures.count ∙ c.n.ensures.count))
-
-pub finished-requires-clause-within : goal.finished-requires-clause-within
-finished-requires-clause-within c =
-    let b = c.in_ok-begun.begun in
-    begun_within c.args.graph.now c.args.entries.items c.args.self_loops c.args.multi c.args.directed b.copies b.in_parts b.kept.items b.built (ap (list_any is_unnumbered) (sym c.deref.ensures.value) ∙ c.in_ok-merged.ensures.numbered)
-    (subst (λ es. IsBegun c.args.graph.now es c.args.self_loops c.args.multi c.args.directed b.copies b.in_parts b.kept.items b.built) c.deref-2.ensures.value c.in_ok-begun.ensures.ok)
-    (subst (All IsKeptEntry) c.deref.ensures.value c.in_ok-merged.ensures.kept)
+    let entries = c.deref.ensures.value in
+    let numbered = ap (list_any is_unnumbered) (sym entries) ∙ c.in_ok-merged.ensures.numbered in
+    let begun = subst (λ es. IsBegun c.args.graph.now es c.args.self_loops c.args.multi c.args.directed b.copies b.in_parts b.kept.items b.built) c.deref-2.ensures.value c.in_ok-begun.ensures.ok in
+    record {
+      count = begun_count _ _ _ _ _ b.copies b.in_parts b.kept.items b.built numbered begun (ap length (sym entries) ∙ (c.in_ok-merged.ensures.count ∙ c.n.ensures.count));
+      numbered = begun_numbered _ _ _ _ _ b.copies b.in_parts b.kept.items b.built numbered begun;
+      parts = begun_own _ _ _ _ _ b.copies b.in_parts b.kept.items b.built numbered begun;
+      size = begun_size _ _ _ _ _ b.copies b.in_parts b.kept.items b.built numbered begun (ap length (sym entries) ∙ (c.in_ok-merged.ensures.count ∙ c.n.ensures.count));
+      plain = search rules;
+      within = begun_within _ _ _ _ _ b.copies b.in_parts b.kept.items b.built numbered begun (subst (All IsKeptEntry) entries c.in_ok-merged.ensures.kept);
+    }
 
 pub returns-clause-answer : goal.returns-clause-answer
 returns-clause-answer c =

@@ -1,4 +1,4 @@
-use Rattle.std.proofs.Common.{◌≡◌, ◌∙◌, ◌++◌, ◌∷◌, [], ℕ, List, true, false, sym, ap}
+use Rattle.std.proofs.Common.{◌≡◌, ◌∙◌, ◌++◌, ◌∷◌, [], ℕ, List, true, false, sym, ap, rules}
 use Rattle.std.specs.List.{list_any, position_or_len}
 use Rattle.std.proofs.lemmas.Bool.{not-true, not-false}
 use Rattle.std.proofs.lemmas.List.{map_push}
@@ -32,17 +32,8 @@ returns-then-is_new-clause-ends c =
     ∙ (ap (λ ks. ks ++ key c.args.event ∷ []) c.requires.ends
     ∙ (sym (map_push key c.args.left.now.items c.args.event) ∙ ap (map key) (sym c.in_ok-push.ensures.items)))))
 
-pub returns-clause-ok : goal.returns-clause-ok
-returns-clause-ok c =
-    let left = c.args.left.now.items in
-    let place = c.in_ok-place.place in
-    let has : has_key c.args.directed left c.args.event ≡ true =
-    sym (same_test c.args.ends.now.keys _ c.ends.result _ c.ends.ensures c.requires.ends) ∙ not-false _ (sym c.in_ok-place.ensures.added ∙ c.if-is_new.false) in
-    ap (set left place) c.shortened.ensures
-    ∙ put_there c.args.directed left c.args.event c.index.result.now place has (c.in_ok-place.ensures.index ∙ same_place c.args.ends.now.keys _ c.ends.result _ c.ends.ensures c.requires.ends) c.index.ensures
-
-pub returns-clause-ends : goal.returns-clause-ends
-returns-clause-ends c =
+pub returns : goal.returns
+returns c =
     let left = c.args.left.now.items in
     let place = c.in_ok-place.place in
     let keys = c.args.ends.now.keys in
@@ -51,6 +42,10 @@ returns-clause-ends c =
     let has : has_key c.args.directed left c.args.event ≡ true = sym (same_test keys _ c.ends.result _ c.ends.ensures c.requires.ends) ∙ some in
     let there = ap (set left place) c.shortened.ensures
     ∙ put_there c.args.directed left c.args.event c.index.result.now place has (c.in_ok-place.ensures.index ∙ same_place keys _ c.ends.result _ c.ends.ensures c.requires.ends) c.index.ensures in
-    c.in_ok-place.ensures.keys
-    ∙ (ap (λ b. if b then keys else keys ++ c.ends.result ∷ []) some
-    ∙ (c.requires.ends ∙ (sym (keys_stay c.args.directed left c.args.event has) ∙ ap (map key) (sym there))))
+    record {
+      ok = there;
+      ends = c.in_ok-place.ensures.keys
+          ∙ (ap (λ b. if b then keys else keys ++ c.ends.result ∷ []) some
+          ∙ (c.requires.ends ∙ (sym (keys_stay c.args.directed left c.args.event has) ∙ ap (map key) (sym there))));
+      memory = search rules;
+    }

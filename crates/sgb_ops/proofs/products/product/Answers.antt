@@ -1,4 +1,4 @@
-use Rattle.std.proofs.Common.{◌≡◌, ◌≤◌, ◌<◌, Ok, ◌*◌, ◌∙◌, false, ℕ, ap, subst, w64, rules, arith}
+use Rattle.std.proofs.Common.{◌≡◌, ◌<◌, Ok, ◌*◌, ◌∙◌, false, ℕ, ap, subst, w64, rules, arith}
 use Rattle.std.proofs.lemmas.Bool.{le-ltb, lt-ltb}
 use Rattle.std.proofs.lemmas.Int.{to_z-of_z}
 use Rattle.sgb_vec.specs.Limits.{most_vertices}
@@ -19,23 +19,17 @@ product_of_few-requires c =
     let size = pairs (order_of g) (order_of h) c.from.result c.from-2.result (c.from.ensures ∙ c.n.ensures.count) (c.from-2.ensures ∙ c.n-2.ensures.count) in
     omega (arith, size, c.if-from.false, c.from-3.ensures)
 
-pub returns-clause-answer : goal.returns-clause-answer
-returns-clause-answer c =
+pub returns : goal.returns
+returns c =
     let g = c.args.first.now in
     let h = c.args.second.now in
     let size = pairs (order_of g) (order_of h) c.from.result c.from-2.result (c.from.ensures ∙ c.n.ensures.count) (c.from-2.ensures ∙ c.n-2.ensures.count) in
-    let within : order_of g * order_of h ≤ most_vertices = omega (arith, size, c.if-from.false, c.from-3.ensures) in
-    let few : has_too_many_pairs (order_of g) (order_of h) ≡ false = le-ltb most_vertices (order_of g * order_of h) within in
-    rw few
-    (subst (λ k. IsAnswerOf (Ok (product_graph k g h c.args.directed)) c.product_of_few.result) (c.of.ensures ∙ ap product_type (to_z-of_z w64 c.args.kind (search rules))) c.product_of_few.ensures)
-
-pub returns-clause-refused : goal.returns-clause-refused
-returns-clause-refused c =
-    let g = c.args.first.now in
-    let h = c.args.second.now in
-    let size = pairs (order_of g) (order_of h) c.from.result c.from-2.result (c.from.ensures ∙ c.n.ensures.count) (c.from-2.ensures ∙ c.n-2.ensures.count) in
-    let within : order_of g * order_of h ≤ most_vertices = omega (arith, size, c.if-from.false, c.from-3.ensures) in
-    λ e is. absurd (few_not_refused g h c.args.kind c.args.directed e (le-ltb most_vertices (order_of g * order_of h) within) is)
+    let few : has_too_many_pairs (order_of g) (order_of h) ≡ false = le-ltb most_vertices (order_of g * order_of h) (omega (arith, size, c.if-from.false, c.from-3.ensures)) in
+    record {
+      answer = rw few
+          (subst (λ k. IsAnswerOf (Ok (product_graph k g h c.args.directed)) c.product_of_few.result) (c.of.ensures ∙ ap product_type (to_z-of_z w64 c.args.kind (search rules))) c.product_of_few.ensures);
+      refused = λ e is. absurd (few_not_refused g h c.args.kind c.args.directed e few is);
+    }
 
 pub returns-then-from-clause-refused : goal.returns-then-from-clause-refused
 returns-then-from-clause-refused c =

@@ -30,17 +30,11 @@ after_pair n n1 d middle rim pair = and_then (induced_of pair (middle ∷ entry.
 abbrev after_rim : ℤ → ℤ → Bool → Entry → GraphData → Result Description Panic
 after_rim n n1 d middle rim = and_then (board (pair_of_vertices d)) (λ p. after_pair n n1 d middle rim (graph_described p))
 
--- the middle is accepted: the answer is that of what follows
-middle_there : (n n1 : ℤ) (d : Bool) (middle : Entry) (result : Result GraphData Panic) → accepted_middle n1 ≡ Ok middle
-    → IsAnswerOf (and_then (board (rim_of_wheel n d)) (λ h. after_rim n n1 d middle (graph_described h))) result → IsAnswerOf (wheel_of n n1 d) result
-middle_there n n1 d middle result accepted answer =
-    rw accepted answer
-
 -- the rim is made too
 rim_there : (n n1 : ℤ) (d : Bool) (middle : Entry) (rim : GraphData) (result : Result GraphData Panic) → SFits w64 n → accepted_middle n1 ≡ Ok middle
     → IsAnswerOf (board (rim_of_wheel (kept n) d)) (Ok rim) → IsAnswerOf (after_rim n n1 d middle rim) result → IsAnswerOf (wheel_of n n1 d) result
 rim_there n n1 d middle rim result around accepted made answer =
-    middle_there n n1 d middle result accepted
+    rw accepted
     (onward (board (rim_of_wheel n d)) rim (after_rim n n1 d middle) result (subst (λ k. IsAnswerOf (board (rim_of_wheel k d)) (Ok rim)) (to_z-of_z w64 n around) made) answer)
 
 -- and the pair
@@ -85,8 +79,7 @@ returns-in_err-rim c =
     let e = c.in_err-rim.field-0.0 in
     let p = err_from_is_err_and c.from_residual.result c.from_residual.ensures.1 in
     let answer = subst (λ k. IsAnswerOf (board (rim_of_wheel k d)) (Err e)) (to_z-of_z w64 n c.ranges.n) c.in_err-rim.ensures in
-    rw (p.1, p.2)
-    (middle_there n n1 d middle (Err e) c.requires (refused_onward (board (rim_of_wheel n d)) e (λ h. after_rim n n1 d middle (graph_described h)) answer))
+    rw (c.requires, p.1, p.2) (refused_onward (board (rim_of_wheel n d)) e (λ h. after_rim n n1 d middle (graph_described h)) answer)
 
 pub returns-in_err-pair : goal.returns-in_err-pair
 returns-in_err-pair c =

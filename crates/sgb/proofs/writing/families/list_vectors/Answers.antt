@@ -31,8 +31,8 @@ pub returns-in_err-put_page-clause-head : goal.returns-in_err-put_page-clause-he
 returns-in_err-put_page-clause-head g c =
     exit_uncut _ _ _ _ _ _ c.from_residual-in_err-put_page.ensures.1 (λ other. absurd (other c.in_err-put_page.ensures.fault))
 
-pub returns-clause-written : goal.returns-clause-written
-returns-clause-written g c =
+pub returns : goal.returns
+returns g c =
     let graph = g.L.Listed.graph c.args.listed.now in
     let vectors = graph.vectors in
     let top = head_if c.args.head (graph_described (described_by graph)) in
@@ -41,11 +41,8 @@ returns-clause-written g c =
     let rest : c.vectors_after-vectors.result ≡ drop (start_after vectors after) vectors =
     c.vectors_after-vectors.ensures ∙ ap (λ ms. drop (start_after ms after) ms) c.family.ensures.members in
     let page : c.push_head_if.new.page ≡ top = c.in_ok-push_head_if.ensures.text ∙ ap (λ (text : List ℕ). text ++ top) c.new-page.ensures in
-    rw (blocks_of_rest graph rise c.family.ensures.ends (start_after vectors after) c.vectors_after-vectors.result rest)
-    (written_after _ _ _ _ top _ _ (subst (Appends _ _) page c.in_ok-put_page.ensures.written.output) c.write_blocks.ensures)
-
-pub returns-clause-head : goal.returns-clause-head
-returns-clause-head g c =
-    let top = head_if c.args.head (graph_described (described_by (g.L.Listed.graph c.args.listed.now))) in
-    let page : c.push_head_if.new.page ≡ top = c.in_ok-push_head_if.ensures.text ∙ ap (λ (text : List ℕ). text ++ top) c.new-page.ensures in
-    begun_by _ _ _ _ _ top _ _ (subst (Appends _ _) page c.in_ok-put_page.ensures.written.output) c.write_blocks.ensures
+    record {
+      written = rw (blocks_of_rest graph rise c.family.ensures.ends (start_after vectors after) c.vectors_after-vectors.result rest)
+          (written_after _ _ _ _ top _ _ (subst (Appends _ _) page c.in_ok-put_page.ensures.written.output) c.write_blocks.ensures);
+      head = begun_by _ _ _ _ _ top _ _ (subst (Appends _ _) page c.in_ok-put_page.ensures.written.output) c.write_blocks.ensures;
+    }

@@ -1,6 +1,4 @@
-use Rattle.std.proofs.Common.{◌≡◌, ◌∙◌, length, Some, pos, sym, ap, arith}
-use Rattle.std.specs.List.{slice_get}
-use Rattle.sgb_gen.specs.LocalLists.{LocalArc}
+use Rattle.std.proofs.Common.{◌∙◌, length, Some, sym, ap, arith}
 use Rattle.sgb.specs.inner.Locals.{local_block}
 use Rattle.sgb.proofs.LocalListings.{lines-first, tip_width}
 use Rattle.sgb.proofs.RunLines.{parts-named}
@@ -27,26 +25,20 @@ loop-i-init g c =
 -- the arc that is written leads to a vector as wide as x
 pub push_arc-requires-clause-width : goal.push_arc-requires-clause-width
 push_arc-requires-clause-width g c =
-    let arc : LocalArc = record { tip = c.link.inside.tip.now; len = pos c.link.inside.len } in
-    let there : slice_get c.arcs_at.new.links.arcs c.loop-i.i ≡ Some arc = c.get-link.ensures ∙ ap Some (sym c.link.view_is) in
-    tip_width (length c.args.x.now) c.arcs_at.new.links.arcs c.loop-i.i arc c.in_ok-arcs_at.ensures.widths there ∙ ap length (sym c.requires.named)
+    let there = c.get-link.ensures ∙ ap Some (sym c.link.view_is) in
+    tip_width (length c.args.x.now) c.arcs_at.new.links.arcs c.loop-i.i _ c.in_ok-arcs_at.ensures.widths there ∙ ap length (sym c.requires.named)
 
 pub push_arc-requires-clause-short : goal.push_arc-requires-clause-short
 push_arc-requires-clause-short g c =
-    let arc : LocalArc = record { tip = c.link.inside.tip.now; len = pos c.link.inside.len } in
-    let there : slice_get c.arcs_at.new.links.arcs c.loop-i.i ≡ Some arc = c.get-link.ensures ∙ ap Some (sym c.link.view_is) in
-    omega (arith, tip_width (length c.args.x.now) c.arcs_at.new.links.arcs c.loop-i.i arc c.in_ok-arcs_at.ensures.widths there, c.requires.short)
+    let there = c.get-link.ensures ∙ ap Some (sym c.link.view_is) in
+    omega (arith, tip_width (length c.args.x.now) c.arcs_at.new.links.arcs c.loop-i.i _ c.in_ok-arcs_at.ensures.widths there, c.requires.short)
 
 pub returns-in_err-push_arc-clause-paged : goal.returns-in_err-push_arc-clause-paged
 returns-in_err-push_arc-clause-paged g c =
-    let arc : LocalArc = record { tip = c.link.inside.tip.now; len = pos c.link.inside.len } in
-    let there : slice_get c.arcs_at.new.links.arcs c.loop-i.i ≡ Some arc = c.get-link.ensures ∙ ap Some (sym c.link.view_is) in
-    let first = lines-first c.arcs_at.new.links.arcs c.loop-i.i arc there in
+    let first = lines-first c.arcs_at.new.links.arcs c.loop-i.i _ (c.get-link.ensures ∙ ap Some (sym c.link.view_is)) in
     exit_paged c.args.page.now (local_block (g.L.Listed.graph c.args.listed.now) c.args.x.now) _ _ _ _ c.from_residual-in_err-push_arc.ensures.1 (paged_cut _ _ _ _ _ _ _ _ _ _ _ first c.loop-i.invariant.0 c.in_err-push_arc.ensures)
 
 pub loop-i-preserved : goal.loop-i-preserved
 loop-i-preserved g c =
-    let arc : LocalArc = record { tip = c.link.inside.tip.now; len = pos c.link.inside.len } in
-    let there : slice_get c.arcs_at.new.links.arcs c.loop-i.i ≡ Some arc = c.get-link.ensures ∙ ap Some (sym c.link.view_is) in
-    let first = lines-first c.arcs_at.new.links.arcs c.loop-i.i arc there in
+    let first = lines-first c.arcs_at.new.links.arcs c.loop-i.i _ (c.get-link.ensures ∙ ap Some (sym c.link.view_is)) in
     (paged_more _ _ _ _ _ _ _ _ _ _ first c.loop-i.invariant.0 c.in_ok-push_arc.ensures.output, c.in_ok-push_arc.ensures.sound)

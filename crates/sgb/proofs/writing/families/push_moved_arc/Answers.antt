@@ -1,4 +1,4 @@
-use Rattle.std.proofs.Common.{◌≡◌, ◌∙◌, ◌++◌, List, ℕ, codes, length, length-append, pos, sym, ap, arith}
+use Rattle.std.proofs.Common.{◌≡◌, ◌∙◌, ◌++◌, List, ℕ, codes, pos, sym, ap}
 use Rattle.sgb_vec.specs.Names.{name_of_vector}
 use Rattle.sgb_gen.specs.MovedCoordinates.{parts_put}
 use Rattle.sgb_gen.specs.Runs.{arc_along}
@@ -12,31 +12,13 @@ returns-in_err-make_room g c =
     let r = c.args.runs.now in
     exit_untaken c.args.page.now (local_line (arc_along r.sizes r.wrap c.args.name.now c.args.parts.now c.args.l)) _ _ _ _ c.from_residual.ensures.1 c.in_err-make_room.ensures.paged
 
-pub begin_arc-requires : goal.begin_arc-requires
-begin_arc-requires g c = omega (arith, c.in_ok-make_room.ensures.room)
-
-pub push_moved-requires-clause-room : goal.push_moved-requires-clause-room
-push_moved-requires-clause-room g c =
-    omega (arith, c.in_ok-make_room.ensures.room, ap length c.begin_arc.ensures, length-append c.make_room.new.page (codes "  -> "), c.requires.short)
-
-pub end_counted_arc-requires : goal.end_counted_arc-requires
-end_counted_arc-requires g c =
-    omega (
-      arith,
-      c.in_ok-make_room.ensures.room,
-      c.push_moved.ensures.short,
-      ap length c.begin_arc.ensures,
-      length-append c.make_room.new.page (codes "  -> "),
-      c.requires.short,
-    )
-
 pub returns : goal.returns
 returns g c =
     let r = c.args.runs.now in
     let tip = parts_put r.sizes r.wrap c.args.name.now c.args.l c.args.parts.now c.args.name.now in
     let page : List ℕ = c.make_room.new.page in
     let text : c.end_counted_arc.new.self ≡ page ++ local_line (record { tip = tip; len = pos c.args.l }) =
-    put_together _ _ (codes "  -> ") (name_of_vector tip) _ _ _ c.begin_arc.ensures c.push_moved.ensures.text
+    put_together _ _ (codes "  -> ") (name_of_vector tip) _ _ _ c.begin_arc.ensures.put c.push_moved.ensures.text
     c.end_counted_arc.ensures
     ∙ ap (λ (line : List ℕ). page ++ line) (sym (line-parts tip (pos c.args.l))) in
     record { output = held_line _ _ _ _ _ _ c.in_ok-make_room.ensures.paged.output text; sound = c.in_ok-make_room.ensures.paged.sound }

@@ -1,24 +1,18 @@
-use Rattle.std.proofs.Common.{◌≡◌, ◌∙◌, ◌++◌, List, ℕ, [], ◌∷◌, decimal, ap, append_assoc, arith}
+use Rattle.std.proofs.Common.{◌≡◌, ◌∙◌, ◌++◌, List, ℕ, [], ◌∷◌, decimal, ap, append_assoc}
 use Rattle.sgb.specs.FlipAnswers.{number_line}
 use Rattle.sgb.proofs.CutOff.{exit_write}
 use Rattle.sgb.proofs.Pages.{exit_untaken, held_line}
 use Rattle.sgb.proofs.writing.flips.push_number_line.Goals as goal
 
-pub push_number-requires : goal.push_number-requires
-push_number-requires g c = omega (arith, c.in_ok-make_room.ensures.room)
-
-pub push_text-requires : goal.push_text-requires
-push_text-requires g c = omega (arith, c.in_ok-make_room.ensures.room, c.push_number.ensures.short)
-
-pub returns-in_err-make_room-clause-paged : goal.returns-in_err-make_room-clause-paged
-returns-in_err-make_room-clause-paged g c = exit_untaken c.args.page.now (number_line c.args.number) _ _ _ _ c.from_residual.ensures.1 c.in_err-make_room.ensures.paged
-
-pub returns-in_err-make_room-clause-fault : goal.returns-in_err-make_room-clause-fault
-returns-in_err-make_room-clause-fault g c = exit_write _ _ c.from_residual.ensures.1 c.in_err-make_room.ensures.fault
+pub returns-in_err-make_room : goal.returns-in_err-make_room
+returns-in_err-make_room g c = record {
+  paged = exit_untaken c.args.page.now (number_line c.args.number) _ _ _ _ c.from_residual.ensures.1 c.in_err-make_room.ensures.paged;
+  fault = exit_write _ _ c.from_residual.ensures.1 c.in_err-make_room.ensures.fault;
+}
 
 pub returns-clause-paged : goal.returns-clause-paged
 returns-clause-paged g c =
     let page : List ℕ = c.make_room.new.page in
     let text : c.push_text.new.self ≡ page ++ number_line c.args.number =
-    c.push_text.ensures ∙ ap (λ (line : List ℕ). line ++ 10 ∷ []) c.push_number.ensures.text ∙ append_assoc page (decimal c.args.number) (10 ∷ []) in
+    c.push_text.ensures.put ∙ ap (λ (line : List ℕ). line ++ 10 ∷ []) c.push_number.ensures.text ∙ append_assoc page (decimal c.args.number) (10 ∷ []) in
     record { output = held_line _ _ _ _ _ _ c.in_ok-make_room.ensures.paged.output text; sound = c.in_ok-make_room.ensures.paged.sound }

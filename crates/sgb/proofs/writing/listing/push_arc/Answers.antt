@@ -1,4 +1,4 @@
-use Rattle.std.proofs.Common.{◌≡◌, ◌∙◌, ◌++◌, List, ℕ, Some, codes, length, length-append, map, w64, refl, sym, ap, rules, arith}
+use Rattle.std.proofs.Common.{◌≡◌, ◌∙◌, ◌++◌, List, ℕ, Some, codes, map, w64, refl, sym, ap, rules}
 use Rattle.std.specs.Fmt.{signed_decimal}
 use Rattle.std.proofs.lemmas.Int.{to_z-of_z}
 use Rattle.sgb.specs.Texts.{arc_line}
@@ -9,26 +9,6 @@ use Rattle.sgb.proofs.writing.listing.push_arc.Goals as goal
 pub returns-in_err-make_room : goal.returns-in_err-make_room
 returns-in_err-make_room g c = exit_untaken c.args.page.now (arc_line (map (λ v. v.name) c.args.graph.now.vertices) c.args.link) _ _ _ _ c.from_residual.ensures.1 c.in_err-make_room.ensures.paged
 
-pub begin_arc-requires : goal.begin_arc-requires
-begin_arc-requires g c = omega (arith, c.in_ok-make_room.ensures.room)
-
-pub push_text-requires : goal.push_text-requires
-push_text-requires g c =
-    omega (arith, c.in_ok-make_room.ensures.room, ap length c.begin_arc.ensures, length-append c.make_room.new.page (codes "  -> "), ap length c.bytes.ensures.value, c.bytes.ensures.text.short)
-
-pub end_arc-requires : goal.end_arc-requires
-end_arc-requires g c =
-    omega (
-      arith,
-      c.in_ok-make_room.ensures.room,
-      ap length c.begin_arc.ensures,
-      length-append c.make_room.new.page (codes "  -> "),
-      ap length c.push_text.ensures,
-      length-append c.begin_arc.new.self c.bytes.result.now,
-      ap length c.bytes.ensures.value,
-      c.bytes.ensures.text.short,
-    )
-
 pub returns : goal.returns
 returns g c =
     let link = c.args.link in
@@ -37,7 +17,7 @@ returns g c =
     let len = ap signed_decimal (to_z-of_z w64 link.len (search rules)) in
     let line = arc_line-parts names link name _ (c.name.ensures ∙ ap Some (sym c.bytes.ensures.value)) refl in
     let text : c.end_arc.new.self ≡ c.make_room.new.page ++ arc_line names link =
-    put_together _ _ (codes "  -> ") name _ _ _ c.begin_arc.ensures c.push_text.ensures
+    put_together _ _ (codes "  -> ") name _ _ _ c.begin_arc.ensures.put c.push_text.ensures.put
     (c.end_arc.ensures ∙ ap (λ (digits : List ℕ). c.push_text.new.self ++ (codes ", length " ++ (digits ++ codes "\n"))) len)
     ∙ ap (λ (xs : List ℕ). c.make_room.new.page ++ xs) (sym line) in
     record { output = held_line _ _ _ _ _ _ c.in_ok-make_room.ensures.paged.output text; sound = c.in_ok-make_room.ensures.paged.sound }

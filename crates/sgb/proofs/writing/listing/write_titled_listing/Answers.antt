@@ -7,12 +7,12 @@ push_text-requires g c = omega (arith, ap length c.new-page.ensures, c.requires.
 
 pub push_head-requires : goal.push_head-requires
 push_head-requires g c =
-    omega (arith, ap length (c.push_text.ensures ∙ ap (λ (text : List ℕ). text ++ c.args.title.now) c.new-page.ensures), c.requires.short)
+    omega (arith, ap length (c.push_text.ensures.put ∙ ap (λ (text : List ℕ). text ++ c.args.title.now) c.new-page.ensures), c.requires.short)
 
 pub returns : goal.returns
 returns g c =
     let title = c.args.title.now in
     let graph = c.args.graph.now in
     let page : c.push_head.new.page ≡ title ++ head graph =
-    c.push_head.ensures ∙ ap (λ (text : List ℕ). text ++ head graph) (c.push_text.ensures ∙ ap (λ (text : List ℕ). text ++ title) c.new-page.ensures) in
+    c.push_head.ensures ∙ ap (λ (text : List ℕ). text ++ head graph) (c.push_text.ensures.put ∙ ap (λ (text : List ℕ). text ++ title) c.new-page.ensures) in
     rw (sym (append_assoc title (head graph) (blocks graph 0)), sym page) c.write_blocks.ensures

@@ -19,18 +19,18 @@ loop-vector-preserved g c =
     ∙ ap (λ w. name_line (name_of_vector w) ++ lines c.advance-some.new.self) (sym c.turn_to.ensures) in
     (paged_more _ _ _ _ [] _ _ _ _ _ first c.loop-vector.invariant.0 c.in_ok-push_line.ensures.paged.output, c.in_ok-push_line.ensures.paged.sound)
 
-pub returns-in_err-push_line-clause-written : goal.returns-in_err-push_line-clause-written
-returns-in_err-push_line-clause-written g c =
+pub returns-in_err-push_line : goal.returns-in_err-push_line
+returns-in_err-push_line g c =
     let lines : List (List ℕ) → List ℕ = λ vectors. flat_map name_line (map name_of_vector vectors) in
     let v = c.in-Some.vector.now in
     let rest : List (List ℕ) = drop 1 c.loop-vector.left in
     let first : lines c.loop-vector.left ≡ name_line (name_of_vector c.turn_to.new.self) ++ lines rest =
     ap lines (first_and_rest c.loop-vector.left rest v v c.in-Some.ensures.first refl refl)
     ∙ ap (λ w. name_line (name_of_vector w) ++ lines rest) (sym c.turn_to.ensures) in
-    exit_cut _ _ _ _ c.from_residual.ensures.1 (paged_cut _ _ _ _ [] _ _ _ _ _ _ first c.loop-vector.invariant.0 c.in_err-push_line.ensures.paged)
-
-pub returns-in_err-push_line-clause-fault : goal.returns-in_err-push_line-clause-fault
-returns-in_err-push_line-clause-fault g c = exit_write _ _ c.from_residual.ensures.1 c.in_err-push_line.ensures.fault
+    record {
+      written = exit_cut _ _ _ _ c.from_residual.ensures.1 (paged_cut _ _ _ _ [] _ _ _ _ _ _ first c.loop-vector.invariant.0 c.in_err-push_line.ensures.paged);
+      fault = exit_write _ _ c.from_residual.ensures.1 c.in_err-push_line.ensures.fault;
+    }
 
 pub returns-clause-written : goal.returns-clause-written
 returns-clause-written g c =

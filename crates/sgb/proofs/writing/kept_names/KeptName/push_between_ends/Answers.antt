@@ -35,23 +35,8 @@ push_rest_of-requires c =
       ),
     )
 
-pub returns-clause-text : goal.returns-clause-text
-returns-clause-text c =
-    let v = c.args.self.now in
-    let slice : c.as_slice-vector.result.now ≡ v = c.as_slice-vector.ensures.value ∙ c.self.view_is in
-    let from = c.equal_from_start-from.result in
-    let to = c.equal_to_end-to.result in
-    let name : c.self.inside.text ≡ name_of_vector v = c.self.invariant.name ∙ ap name_of_vector c.self.view_is in
-    let order = c.equal_to_end-to.ensures.within in
-    let within : to ≤ length v = omega (arith, order.1, ap length slice) in
-    let first : take from v ≡ take from c.args.other.now = ap (take from) (sym slice) ∙ c.equal_from_start-from.ensures.equal in
-    let last : drop to v ≡ drop to c.args.other.now = ap (drop to) (sym slice) ∙ c.equal_to_end-to.ensures.equal in
-    rw (c.push_rest_of.ensures, c.push_entries.ensures.text, c.push_start_of.ensures)
-    (other-text v c.args.other.now c.args.page.now c.self.inside.text from to c.end_of.result c.end_of-2.result name order.0 within c.end_of.ensures.value c.end_of-2.ensures.value
-    c.requires.width first last)
-
-pub returns-clause-short : goal.returns-clause-short
-returns-clause-short c =
+pub returns : goal.returns
+returns c =
     let v = c.args.self.now in
     let slice : c.as_slice-vector.result.now ≡ v = c.as_slice-vector.ensures.value ∙ c.self.view_is in
     let from = c.equal_from_start-from.result in
@@ -60,15 +45,21 @@ returns-clause-short c =
     let small : All (λ n. n < 2 ^ 32) v = subst (All (λ n. n < 2 ^ 32)) c.self.view_is c.self.invariant.small in
     let order = c.equal_to_end-to.ensures.within in
     let within : to ≤ length v = omega (arith, order.1, ap length slice) in
-    let end = c.end_of-2.result in
-    omega (
-      arith,
-      c.push_entries.ensures.short,
-      ap length c.push_start_of.ensures,
-      ap length c.push_rest_of.ensures,
-      length-append c.push_entries.new.self (drop end c.self.inside.text),
-      within,
-      order.0,
-      front-bound v c.args.other.now c.args.page.now c.self.inside.text from to c.end_of.result c.end_of-2.result name order.0 within c.end_of.ensures.value c.end_of-2.ensures.value small,
-      back-bound v c.args.other.now c.args.page.now c.self.inside.text from to c.end_of.result c.end_of-2.result name order.0 within c.end_of.ensures.value c.end_of-2.ensures.value small,
-    )
+    let first : take from v ≡ take from c.args.other.now = ap (take from) (sym slice) ∙ c.equal_from_start-from.ensures.equal in
+    let last : drop to v ≡ drop to c.args.other.now = ap (drop to) (sym slice) ∙ c.equal_to_end-to.ensures.equal in
+    record {
+      text = rw (c.push_rest_of.ensures, c.push_entries.ensures.text, c.push_start_of.ensures)
+          (other-text v c.args.other.now c.args.page.now c.self.inside.text from to c.end_of.result c.end_of-2.result name order.0 within c.end_of.ensures.value c.end_of-2.ensures.value
+          c.requires.width first last);
+      short = omega (
+        arith,
+        c.push_entries.ensures.short,
+        ap length c.push_start_of.ensures,
+        ap length c.push_rest_of.ensures,
+        length-append c.push_entries.new.self (drop c.end_of-2.result c.self.inside.text),
+        within,
+        order.0,
+        front-bound v c.args.other.now c.args.page.now c.self.inside.text from to c.end_of.result c.end_of-2.result name order.0 within c.end_of.ensures.value c.end_of-2.ensures.value small,
+        back-bound v c.args.other.now c.args.page.now c.self.inside.text from to c.end_of.result c.end_of-2.result name order.0 within c.end_of.ensures.value c.end_of-2.ensures.value small,
+      );
+    }

@@ -1,4 +1,4 @@
-use Rattle.std.proofs.Common.{◌≡◌, ◌∙◌, ◌++◌, List, ℕ, [], ◌∷◌, length, length-append, ap, append_assoc, arith}
+use Rattle.std.proofs.Common.{◌≡◌, ◌∙◌, ◌++◌, List, ℕ, [], ◌∷◌, length, ap, append_assoc, arith}
 use Rattle.sgb_vec.specs.Names.{name_of_vector}
 use Rattle.sgb.specs.Texts.{name_line}
 use Rattle.sgb.proofs.CutOff.{exit_write}
@@ -9,34 +9,25 @@ use Rattle.sgb.proofs.writing.kept_names.KeptName.push_line.Goals as goal
 pub push_text-requires : goal.push_text-requires
 push_text-requires g c =
     let kept = c.self.invariant in
-    omega (arith, c.in_ok-make_room.ensures.room, ap length c.bytes.ensures, ap length kept.name, length-name_of_vector-le c.self.inside.vector.items kept.small, kept.few)
+    omega (arith, ap length c.bytes.ensures, ap length kept.name, length-name_of_vector-le c.self.inside.vector.items kept.small, kept.few)
 
 pub push_text-requires-2 : goal.push_text-requires-2
 push_text-requires-2 g c =
     let kept = c.self.invariant in
-    omega (
-      arith,
-      c.in_ok-make_room.ensures.room,
-      ap length c.push_text.ensures,
-      length-append c.make_room.new.page c.bytes.result.now,
-      ap length c.bytes.ensures,
-      ap length kept.name,
-      length-name_of_vector-le c.self.inside.vector.items kept.small,
-      kept.few,
-    )
+    omega (arith, ap length c.bytes.ensures, ap length kept.name, length-name_of_vector-le c.self.inside.vector.items kept.small, kept.few)
 
-pub returns-in_err-make_room-clause-paged : goal.returns-in_err-make_room-clause-paged
-returns-in_err-make_room-clause-paged g c = exit_untaken c.args.page.now (name_line (name_of_vector c.args.self.now)) _ _ _ _ c.from_residual.ensures.1 c.in_err-make_room.ensures.paged
-
-pub returns-in_err-make_room-clause-fault : goal.returns-in_err-make_room-clause-fault
-returns-in_err-make_room-clause-fault g c = exit_write _ _ c.from_residual.ensures.1 c.in_err-make_room.ensures.fault
+pub returns-in_err-make_room : goal.returns-in_err-make_room
+returns-in_err-make_room g c = record {
+  paged = exit_untaken c.args.page.now (name_line (name_of_vector c.args.self.now)) _ _ _ _ c.from_residual.ensures.1 c.in_err-make_room.ensures.paged;
+  fault = exit_write _ _ c.from_residual.ensures.1 c.in_err-make_room.ensures.fault;
+}
 
 pub returns-clause-paged : goal.returns-clause-paged
 returns-clause-paged g c =
     let page : List ℕ = c.make_room.new.page in
     let name : c.bytes.result.now ≡ name_of_vector c.args.self.now = c.bytes.ensures ∙ c.self.invariant.name ∙ ap name_of_vector c.self.view_is in
     let text : c.push_text-2.new.self ≡ page ++ name_line (name_of_vector c.args.self.now) =
-    c.push_text-2.ensures
-    ∙ ap (λ (line : List ℕ). line ++ 10 ∷ []) (c.push_text.ensures ∙ ap (λ (line : List ℕ). page ++ line) name)
+    c.push_text-2.ensures.put
+    ∙ ap (λ (line : List ℕ). line ++ 10 ∷ []) (c.push_text.ensures.put ∙ ap (λ (line : List ℕ). page ++ line) name)
     ∙ append_assoc page (name_of_vector c.args.self.now) (10 ∷ []) in
     record { output = held_line _ _ _ _ _ _ c.in_ok-make_room.ensures.paged.output text; sound = c.in_ok-make_room.ensures.paged.sound }

@@ -59,19 +59,16 @@ push_rest_of-requires c =
       ),
     )
 
-pub returns-clause-text : goal.returns-clause-text
-returns-clause-text c =
+pub returns : goal.returns
+returns c =
     let r = c.args.runs.now in
-    let v = c.args.self.now in
-    let name : c.self.inside.text ≡ name_of_vector v = c.self.invariant.name ∙ ap name_of_vector c.self.view_is in
-    let none : drop c.loop-k.k-index c.args.parts.now ≡ [] = drop_all c.loop-k.k-index c.args.parts.now (omega arith) in
-    moved-all (parts_put r.sizes r.wrap v c.args.l) _ v c.self.inside.text _ c.loop-k.place c.end_of.result _ _ _ none (λ u. refl) name c.end_of.ensures.value c.push_rest_of.ensures c.loop-k.invariant.moved
-
-pub returns-clause-short : goal.returns-clause-short
-returns-clause-short c =
     let v = c.args.self.now in
     let place = c.loop-k.place in
     let name : c.self.inside.text ≡ name_of_vector v = c.self.invariant.name ∙ ap name_of_vector c.self.view_is in
     let small : All (λ n. n < 2 ^ 32) v = subst (All (λ n. n < 2 ^ 32)) c.self.view_is c.self.invariant.small in
+    let none : drop c.loop-k.k-index c.args.parts.now ≡ [] = drop_all c.loop-k.k-index c.args.parts.now (omega arith) in
     let back = back-bound v v c.args.page.now c.self.inside.text place place c.end_of.result c.end_of.result name (omega arith) c.loop-k.invariant.within c.end_of.ensures.value c.end_of.ensures.value small in
-    omega (arith, back, ap length c.push_rest_of.ensures, length-append c.loop-k.page (drop c.end_of.result c.self.inside.text), c.loop-k.invariant.short, c.loop-k.invariant.within)
+    record {
+      text = moved-all (parts_put r.sizes r.wrap v c.args.l) _ v c.self.inside.text _ place c.end_of.result _ _ _ none (λ u. refl) name c.end_of.ensures.value c.push_rest_of.ensures c.loop-k.invariant.moved;
+      short = omega (arith, back, ap length c.push_rest_of.ensures, length-append c.loop-k.page (drop c.end_of.result c.self.inside.text), c.loop-k.invariant.short, c.loop-k.invariant.within);
+    }

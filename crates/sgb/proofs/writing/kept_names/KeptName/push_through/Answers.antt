@@ -26,22 +26,19 @@ push_entry-requires c =
       omega (arith, room, c.requires.room, ap length c.push_part_of.ensures, length-append c.args.page.now part, length-take (c.end_of-2.result - c.end_of.result) (drop c.end_of.result c.self.inside.text)),
     )
 
-pub returns-clause-text : goal.returns-clause-text
-returns-clause-text c =
+pub returns : goal.returns
+returns c =
     let v = c.args.self.now in
     let name : c.self.inside.text ≡ name_of_vector v = c.self.invariant.name ∙ ap name_of_vector c.self.view_is in
-    let within : c.args.to ≤ length v = omega (arith, c.requires.within) in
-    let last = entry_text (nat_lt 0 c.args.to) c.args.entry in
-    let part = entries_text (nat_lt 0 c.args.from) (take (c.args.to - c.args.from) (drop c.args.from v)) in
-    c.push_entry.ensures.text
-    ∙ ap (λ xs. xs ++ last) (c.push_part_of.ensures ∙ ap (λ xs. c.args.page.now ++ xs) (name-between v c.self.inside.text c.args.from c.args.to c.end_of.result c.end_of-2.result name c.requires.order within c.end_of.ensures.value c.end_of-2.ensures.value))
-    ∙ append_assoc c.args.page.now part last
-
-pub returns-clause-short : goal.returns-clause-short
-returns-clause-short c =
-    let v = c.args.self.now in
     let small : All (λ n. n < 2 ^ 32) v = subst (All (λ n. n < 2 ^ 32)) c.self.view_is c.self.invariant.small in
     let within : c.args.to ≤ length v = omega (arith, c.requires.within) in
+    let last = entry_text (nat_lt 0 c.args.to) c.args.entry in
+    let middle = entries_text (nat_lt 0 c.args.from) (take (c.args.to - c.args.from) (drop c.args.from v)) in
     let part = take (c.end_of-2.result - c.end_of.result) (drop c.end_of.result c.self.inside.text) in
     let room = between-room v c.args.from c.args.to c.end_of.result c.end_of-2.result c.requires.order within small c.end_of.ensures.value c.end_of-2.ensures.value in
-    omega (arith, room, c.requires.order, c.push_entry.ensures.short, ap length c.push_part_of.ensures, length-append c.args.page.now part, length-take (c.end_of-2.result - c.end_of.result) (drop c.end_of.result c.self.inside.text))
+    record {
+      text = c.push_entry.ensures.text
+          ∙ ap (λ xs. xs ++ last) (c.push_part_of.ensures ∙ ap (λ xs. c.args.page.now ++ xs) (name-between v c.self.inside.text c.args.from c.args.to c.end_of.result c.end_of-2.result name c.requires.order within c.end_of.ensures.value c.end_of-2.ensures.value))
+          ∙ append_assoc c.args.page.now middle last;
+      short = omega (arith, room, c.requires.order, c.push_entry.ensures.short, ap length c.push_part_of.ensures, length-append c.args.page.now part, length-take (c.end_of-2.result - c.end_of.result) (drop c.end_of.result c.self.inside.text));
+    }
