@@ -34,13 +34,13 @@ walked-all g none left done all so_far end =
     sym (append-nil done) ∙ ap (λ l. done ++ l) (sym (ap g end ∙ none)) ∙ so_far
 
 -- the vectors from a place on
-pub drop_at_vector : (vectors : List (List ℕ)) (u : ℕ) (v : List ℕ) → slice_get vectors u ≡ Some v → drop u vectors ≡ v ∷ drop (u + 1) vectors
+pub drop_at_vector : {X : Type 0} (vectors : List X) (u : ℕ) (v : X) → slice_get vectors u ≡ Some v → drop u vectors ≡ v ∷ drop (u + 1) vectors
 drop_at_vector vectors u v at =
     at_drop_more (λ ws. ws) vectors u v (slice_get_within vectors u v at)
     ∙ ap (λ w. w ∷ drop (u + 1) vectors) (get_or_from_slice_get vectors u v v at)
 
 -- the vectors up to a place
-pub take_at_vector : (vectors : List (List ℕ)) (u : ℕ) (v : List ℕ) → slice_get vectors u ≡ Some v → take (u + 1) vectors ≡ take u vectors ++ v ∷ []
+pub take_at_vector : {X : Type 0} (vectors : List X) (u : ℕ) (v : X) → slice_get vectors u ≡ Some v → take (u + 1) vectors ≡ take u vectors ++ v ∷ []
 take_at_vector vectors u v at =
     take_more vectors u v (slice_get_within vectors u v at)
     ∙ ap (λ w. take u vectors ++ w ∷ []) (get_or_from_slice_get vectors u v v at)

@@ -30,6 +30,13 @@ last_first b x ts t =
     ∙ ap reverse (flat_map-append (arcs_by b.directed x) (flat_map by ts) (by t))
     ∙ reverse-append (arcs_onward b.directed x (flat_map by ts)) (arcs_onward b.directed x (by t))
 
+-- and those by the first of them last
+pub first_last : (b : BoardData) (x : List ℕ) (t : List ℤ) (ts : List (List ℤ))
+    → arcs_by_all b x (t ∷ ts) ≡ arcs_by_all b x ts ++ reverse (arcs_onward b.directed x (moves_by (sides_of b.sizes b.wrap) b.piece (box b.sizes) t))
+first_last b x t ts =
+    let by = moves_by (sides_of b.sizes b.wrap) b.piece (box b.sizes) in
+    ap reverse (flat_map-append (arcs_by b.directed x) (by t) (flat_map by ts)) ∙ reverse-append (arcs_onward b.directed x (by t)) (arcs_onward b.directed x (flat_map by ts))
+
 -- where there are arcs alone, those of a displacement are those ahead, the longest first; and there are none back
 pub directed_run : (b : BoardData) (x : List ℕ) (t : List ℤ) → b.directed ≡ true → IsBelow x b.sizes
     → reverse (arcs_onward b.directed x (moves_by (sides_of b.sizes b.wrap) b.piece (box b.sizes) t)) ≡ reverse (arcs_from b x t) ++ arcs_back b x (opposite t)
@@ -47,17 +54,20 @@ edges_run b x t directed both =
     ∙ both
     ∙ ap (λ (d : Bool). reverse (arcs_from b x t) ++ (if d then [] else arcs_from b x (opposite t))) (sym directed)
 
+pub edges_in_order : (b : BoardData) (x : List ℕ) (t : List ℤ) → IsBelow x b.sizes → length t ≡ length b.sizes → leads_onward b.wrap 0 t ≡ true
+    → reverse (arcs_onward false x (moves_by (sides_of b.sizes b.wrap) b.piece (box b.sizes) t)) ≡ reverse (arcs_from b x t) ++ arcs_from b x (opposite t)
+edges_in_order b x t below long onward =
+    let ahead = arcs_from b x t in
+    let behind = arcs_from b x (opposite t) in
+    ap reverse (onward_in_order b t x (Contains-from_IsBelow b.sizes x below) long onward)
+    ∙ reverse-append (reverse behind) ahead
+    ∙ ap (λ ls. reverse ahead ++ ls) (reverse-reverse behind)
+
 -- where a displacement leads onward, its arcs are those ahead, the longest first, and then those back
 pub onward_run : (b : BoardData) (x : List ℕ) (t : List ℤ) (d : Bool) → b.directed ≡ d → IsBelow x b.sizes → length t ≡ length b.sizes → leads_onward b.wrap 0 t ≡ true
     → reverse (arcs_onward b.directed x (moves_by (sides_of b.sizes b.wrap) b.piece (box b.sizes) t)) ≡ reverse (arcs_from b x t) ++ arcs_back b x (opposite t)
 onward_run b x t true directed below long onward = directed_run b x t directed below
-onward_run b x t false directed below long onward =
-    let ahead = arcs_from b x t in
-    let behind = arcs_from b x (opposite t) in
-    edges_run b x t directed
-    (ap reverse (onward_in_order b t x (Contains-from_IsBelow b.sizes x below) long onward)
-    ∙ reverse-append (reverse behind) ahead
-    ∙ ap (λ ls. reverse ahead ++ ls) (reverse-reverse behind))
+onward_run b x t false directed below long onward = edges_run b x t directed (edges_in_order b x t below long onward)
 
 -- the arcs by the first of some displacements, with the next one
 pub next_run_first : (b : BoardData) (x : List ℕ) (ts : List (List ℤ)) (k : ℕ) (t : List ℤ) → slice_get ts k ≡ Some t → IsRun b x t

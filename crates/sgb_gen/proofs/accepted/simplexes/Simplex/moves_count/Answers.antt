@@ -1,4 +1,4 @@
-use Rattle.std.proofs.Common.{◌≡◌, ◌+◌, length, ap, ◌∙◌, arith}
+use Rattle.std.proofs.Common.{◌+◌, length, ap, ◌∙◌, arith}
 use Rattle.sgb_gen.specs.Simplexes.{pairs_from}
 use Rattle.sgb_gen.specs.inner.SimplexCounts.{shifts_by}
 use Rattle.sgb_gen.proofs.SimplexCounts.{shifts_by-append, moves-counted}
@@ -10,8 +10,7 @@ loop-lower-preserved c =
     let s = c.args.self.now.sum in
     let n = length s.bounds in
     let j = c.loop-lower.lower in
-    let bounds : c.sizes-lower-end.result.now ≡ s.bounds = c.sizes-lower-end.ensures ∙ c.self.invariant.0 ∙ ap (λ d. d.sum.bounds) c.self.view_is in
-    let next = ap (shifts_by s) (pairs_after-next n j (omega (arith, c.loop-lower-test.true, ap length bounds)))
+    let next = ap (shifts_by s) (pairs_after-next n j (omega (arith, c.loop-lower-test.true, ap length c.sizes-lower-end.ensures.same)))
     ∙ shifts_by-append s (pairs_from n j) (pairs_after n (j + 1)) in (
       omega (arith, next, c.loop-lower.invariant.0, c.in_ok-counted.ensures.ok),
       omega (arith, c.loop-lower.invariant.1, c.in_ok-counted.ensures.small),
@@ -22,6 +21,5 @@ pub returns-clause-ok : goal.returns-clause-ok
 returns-clause-ok c =
     let s = c.args.self.now.sum in
     let n = length s.bounds in
-    let bounds : c.sizes-lower-end.result.now ≡ s.bounds = c.sizes-lower-end.ensures ∙ c.self.invariant.0 ∙ ap (λ d. d.sum.bounds) c.self.view_is in
-    let none = ap (shifts_by s) (pairs_after-none n c.loop-lower.lower (omega (arith, c.loop-lower-test.false, ap length bounds))) in
+    let none = ap (shifts_by s) (pairs_after-none n c.loop-lower.lower (omega (arith, c.loop-lower-test.false, ap length c.sizes-lower-end.ensures.same))) in
     omega (arith, none, c.loop-lower.invariant.0, moves-counted c.args.self.now)

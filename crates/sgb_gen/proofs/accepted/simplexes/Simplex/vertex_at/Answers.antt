@@ -11,27 +11,22 @@ use Rattle.sgb_gen.proofs.accepted.simplexes.Simplex.vertex_at.Goals as goal
 pub can_move_unit-requires-clause-bounds : goal.can_move_unit-requires-clause-bounds
 can_move_unit-requires-clause-bounds c =
     let s = c.args.self.now in
-    let sizes : c.sizes-bounds.result.now ≡ s.sum.bounds = c.sizes-bounds.ensures ∙ c.self.invariant.0 ∙ ap (λ d. d.sum.bounds) c.self.view_is in
-    length_in_sum s c.args.x.now c.requires.member ∙ sym (ap length sizes)
+    length_in_sum s c.args.x.now c.requires.member ∙ sym (ap length c.sizes-bounds.ensures.same)
 
 pub returns-then-not-can_move_unit-clause-vertex : goal.returns-then-not-can_move_unit-clause-vertex
 returns-then-not-can_move_unit-clause-vertex c =
     let s = c.args.self.now in
     let at : Places = record { lower = c.args.lower; higher = c.args.higher } in
-    let sizes : c.sizes-bounds.result.now ≡ s.sum.bounds = c.sizes-bounds.ensures ∙ c.self.invariant.0 ∙ ap (λ d. d.sum.bounds) c.self.view_is in
-    let cannot : can_shift s.sum.bounds c.args.x.now at ≡ false = sym (c.can_move_unit.ensures ∙ ap (λ bs. can_shift bs c.args.x.now at) sizes) ∙ c.if-not-can_move_unit.true in
+    let cannot : can_shift s.sum.bounds c.args.x.now at ≡ false = sym (c.can_move_unit.ensures ∙ ap (λ bs. can_shift bs c.args.x.now at) c.sizes-bounds.ensures.same) ∙ c.if-not-can_move_unit.true in
     ap (λ b. cond b (Some (vertex_among (simplex_vectors s) (shifted c.args.x.now at))) None) (sym cannot)
 
 pub unit_moved-there-requires-clause-bounds : goal.unit_moved-there-requires-clause-bounds
 unit_moved-there-requires-clause-bounds c =
     let s = c.args.self.now in
-    let sizes : c.sizes-bounds.result.now ≡ s.sum.bounds = c.sizes-bounds.ensures ∙ c.self.invariant.0 ∙ ap (λ d. d.sum.bounds) c.self.view_is in
-    length_in_sum s c.args.x.now c.requires.member ∙ sym (ap length sizes)
+    length_in_sum s c.args.x.now c.requires.member ∙ sym (ap length c.sizes-bounds.ensures.same)
 
 pub unit_moved-there-requires-clause-few : goal.unit_moved-there-requires-clause-few
-unit_moved-there-requires-clause-few c =
-    let s = c.args.self.now in
-    omega (arith, length_in_sum s c.args.x.now c.requires.member, ap (λ d. length d.sum.bounds) c.self.view_is, c.self.invariant.1.dimensions)
+unit_moved-there-requires-clause-few c = omega (arith, length_in_sum c.args.self.now c.args.x.now c.requires.member, c.sizes-bounds.ensures.few)
 
 pub place_of-requires-clause-rising : goal.place_of-requires-clause-rising
 place_of-requires-clause-rising c =
@@ -42,8 +37,7 @@ pub place_of-requires-clause-member : goal.place_of-requires-clause-member
 place_of-requires-clause-member c =
     let s = c.args.self.now in
     let at : Places = record { lower = c.args.lower; higher = c.args.higher } in
-    let sizes : c.sizes-bounds.result.now ≡ s.sum.bounds = c.sizes-bounds.ensures ∙ c.self.invariant.0 ∙ ap (λ d. d.sum.bounds) c.self.view_is in
-    let can : can_shift s.sum.bounds c.args.x.now at ≡ true = sym (c.can_move_unit.ensures ∙ ap (λ bs. can_shift bs c.args.x.now at) sizes) ∙ c.if-not-can_move_unit.false in
+    let can : can_shift s.sum.bounds c.args.x.now at ≡ true = sym (c.can_move_unit.ensures ∙ ap (λ bs. can_shift bs c.args.x.now at) c.sizes-bounds.ensures.same) ∙ c.if-not-can_move_unit.false in
     let there = shifted_in_simplex s c.args.x.now at c.requires.member c.requires.order c.requires.entry can in
     subst (λ vectors. Contains vectors c.as_slice.result.now) (sym c.requires.vertices)
     (subst (Contains (simplex_vectors s)) (sym (c.as_slice.ensures.value ∙ c.unit_moved-there.ensures)) there)
@@ -53,8 +47,7 @@ returns-clause-vertex c =
     let s = c.args.self.now in
     let at : Places = record { lower = c.args.lower; higher = c.args.higher } in
     let there = shifted c.args.x.now at in
-    let sizes : c.sizes-bounds.result.now ≡ s.sum.bounds = c.sizes-bounds.ensures ∙ c.self.invariant.0 ∙ ap (λ d. d.sum.bounds) c.self.view_is in
-    let can : can_shift s.sum.bounds c.args.x.now at ≡ true = sym (c.can_move_unit.ensures ∙ ap (λ bs. can_shift bs c.args.x.now at) sizes) ∙ c.if-not-can_move_unit.false in
+    let can : can_shift s.sum.bounds c.args.x.now at ≡ true = sym (c.can_move_unit.ensures ∙ ap (λ bs. can_shift bs c.args.x.now at) c.sizes-bounds.ensures.same) ∙ c.if-not-can_move_unit.false in
     let place : slice_get (simplex_vectors s) c.place_of.result ≡ Some there =
     sym (ap (λ vectors. slice_get vectors c.place_of.result) c.requires.vertices) ∙ c.place_of.ensures ∙ ap Some (c.as_slice.ensures.value ∙ c.unit_moved-there.ensures) in
     ap Some (sym (vertex_in_simplex s c.place_of.result there place))

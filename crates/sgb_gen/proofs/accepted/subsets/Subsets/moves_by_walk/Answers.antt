@@ -25,10 +25,9 @@ count_from-counted-requires-clause-begun c =
     let s = c.args.self.now in
     let x = c.in-Some.x.now in
     let rest = drop 1 c.loop-x.left in
-    let bounds : c.sizes-bounds.result.now ≡ s.sum.bounds = c.sizes-bounds.ensures ∙ c.self.invariant.0 ∙ ap (λ d. d.sum.bounds) c.self.view_is in
     let step : c.loop-x.left ≡ x ∷ rest = first_and_rest c.loop-x.left rest x x c.in-Some.ensures.first refl refl in
     let member = All-head (Contains (subsets_vectors s)) x rest (subst (All (Contains (subsets_vectors s))) step c.loop-x.invariant.0) in
-    rw c.begun-begun.ensures.value (begun-all s.sum c.sizes-bounds.result.now x _ _ _ member bounds (ap sum (sym bounds)) refl refl c.begun-begun.ensures.small)
+    rw c.begun-begun.ensures.value (begun-all s.sum c.sizes-bounds.result.now x _ _ _ member c.sizes-bounds.ensures (ap sum (sym c.sizes-bounds.ensures)) refl refl c.begun-begun.ensures.small)
 
 pub count_from-counted-requires-clause-all : goal.count_from-counted-requires-clause-all
 count_from-counted-requires-clause-all c =
@@ -45,12 +44,11 @@ overflow_add-counted c =
     let s = c.args.self.now in
     let x = c.in-Some.x.now in
     let rest = drop 1 c.loop-x.left in
-    let bounds : c.sizes-bounds.result.now ≡ s.sum.bounds = c.sizes-bounds.ensures ∙ c.self.invariant.0 ∙ ap (λ d. d.sum.bounds) c.self.view_is in
     let step : c.loop-x.left ≡ x ∷ rest = first_and_rest c.loop-x.left rest x x c.in-Some.ensures.first refl refl in
     let here : c.count_from-counted.result ≡ wanted_among s.size_bits 0 x (down_from s.sum.bounds x) =
     c.count_from-counted.ensures
     ∙ ap (λ b. wanted_among b.size_bits b.common x (down_from c.sizes-bounds.result.now x)) c.begun-begun.ensures.value
-    ∙ ap (λ bs. wanted_among s.size_bits 0 x (down_from bs x)) bounds in
+    ∙ ap (λ bs. wanted_among s.size_bits 0 x (down_from bs x)) c.sizes-bounds.ensures in
     let few = subst (λ d. length (bounded_sums d.sum.total d.sum.bounds) ≤ most_vertices) c.self.view_is c.self.invariant.1.vertices in
     omega (arith, here, c.loop-x.invariant.1, ap (moves_among s.size_bits s.sum.bounds) step, moves-few s few)
 
@@ -59,12 +57,11 @@ loop-x-preserved c =
     let s = c.args.self.now in
     let x = c.in-Some.x.now in
     let rest = c.advance-some.new.self in
-    let bounds : c.sizes-bounds.result.now ≡ s.sum.bounds = c.sizes-bounds.ensures ∙ c.self.invariant.0 ∙ ap (λ d. d.sum.bounds) c.self.view_is in
     let step : c.loop-x.left ≡ x ∷ rest = first_and_rest c.loop-x.left rest x x c.in-Some.ensures.first refl c.advance-some.ensures.rest in
     let here : c.count_from-counted.result ≡ wanted_among s.size_bits 0 x (down_from s.sum.bounds x) =
     c.count_from-counted.ensures
     ∙ ap (λ b. wanted_among b.size_bits b.common x (down_from c.sizes-bounds.result.now x)) c.begun-begun.ensures.value
-    ∙ ap (λ bs. wanted_among s.size_bits 0 x (down_from bs x)) bounds in (
+    ∙ ap (λ bs. wanted_among s.size_bits 0 x (down_from bs x)) c.sizes-bounds.ensures in (
       All-tail (Contains (subsets_vectors s)) x rest (subst (All (Contains (subsets_vectors s))) step c.loop-x.invariant.0),
       omega (arith, here, c.loop-x.invariant.1, ap (moves_among s.size_bits s.sum.bounds) step),
     )

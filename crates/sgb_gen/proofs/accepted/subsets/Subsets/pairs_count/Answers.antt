@@ -20,7 +20,7 @@ returns-clause-count c =
     let bounds = c.sizes-bounds.result.now in
     let few = subst (λ d. length (bounded_sums d.sum.total d.sum.bounds) ≤ most_vertices) c.self.view_is c.self.invariant.1.vertices in
     (pairs-found s total c.loop-k.k c.cell.result bounds (c.total-total.ensures.total ∙ ap (λ d. d.sum.total) c.self.view_is)
-    (c.sizes-bounds.ensures ∙ c.self.invariant.0 ∙ ap (λ d. d.sum.bounds) c.self.view_is) (omega (arith, c.loop-k-test.false)) few
+    (c.sizes-bounds.ensures) (omega (arith, c.loop-k-test.false)) few
     (c.cell.ensures s.size_bits total (drop c.loop-k.k bounds) (c.as_slice-2.ensures.value ∙ c.loop-k.invariant))).0
 
 pub returns-clause-few : goal.returns-clause-few
@@ -30,5 +30,5 @@ returns-clause-few c =
     let bounds = c.sizes-bounds.result.now in
     let few = subst (λ d. length (bounded_sums d.sum.total d.sum.bounds) ≤ most_vertices) c.self.view_is c.self.invariant.1.vertices in
     (pairs-found s total c.loop-k.k c.cell.result bounds (c.total-total.ensures.total ∙ ap (λ d. d.sum.total) c.self.view_is)
-    (c.sizes-bounds.ensures ∙ c.self.invariant.0 ∙ ap (λ d. d.sum.bounds) c.self.view_is) (omega (arith, c.loop-k-test.false)) few
+    (c.sizes-bounds.ensures) (omega (arith, c.loop-k-test.false)) few
     (c.cell.ensures s.size_bits total (drop c.loop-k.k bounds) (c.as_slice-2.ensures.value ∙ c.loop-k.invariant))).1
