@@ -248,21 +248,11 @@ ended-all sb front c left bs x h none some =
     ap (λ cs. arcs_under sb front c x (reverse (bounded_sums left cs))) (both_ended bs x h none).0
     ∙ ap (λ vs. arcs_under sb front c x (reverse vs)) (sums-past left [] (omega arith))
 
-pub ended-to : (sb : ℕ) (front : List ℕ) (c left : ℕ) (bs x : List ℕ) → IsWithin x bs → HasEnded bs x → left ≡ sum x → arcs_under sb front c x (reverse (bounded_sums left bs)) ≡ arcs_under sb front c x (down_to bs x)
-ended-to sb front c left bs x h none all =
+pub ended-part : (part : List ℕ → List ℕ → List (List ℕ)) → ((x : List ℕ) → part [] x ≡ [] ∷ []) → (sb : ℕ) (front : List ℕ) (c left : ℕ) (bs x : List ℕ) → IsWithin x bs → HasEnded bs x → left ≡ sum x
+    → arcs_under sb front c x (reverse (bounded_sums left bs)) ≡ arcs_under sb front c x (part bs x)
+ended-part part one sb front c left bs x h none all =
     let both = both_ended bs x h none in
-    ap (λ n. arcs_under sb front c x (reverse (bounded_sums n bs))) (all ∙ ap sum both.1)
-    ∙ ap (λ cs. arcs_under sb front c x (reverse (bounded_sums 0 cs))) both.0
-    ∙ ap (λ vs. arcs_under sb front c x (reverse vs)) sums-end
-    ∙ ap (λ cs. arcs_under sb front c x (down_to cs x)) (sym both.0)
-
-pub ended-from : (sb : ℕ) (front : List ℕ) (c left : ℕ) (bs x : List ℕ) → IsWithin x bs → HasEnded bs x → left ≡ sum x → arcs_under sb front c x (reverse (bounded_sums left bs)) ≡ arcs_under sb front c x (down_from bs x)
-ended-from sb front c left bs x h none all =
-    let both = both_ended bs x h none in
-    ap (λ n. arcs_under sb front c x (reverse (bounded_sums n bs))) (all ∙ ap sum both.1)
-    ∙ ap (λ cs. arcs_under sb front c x (reverse (bounded_sums 0 cs))) both.0
-    ∙ ap (λ vs. arcs_under sb front c x (reverse vs)) sums-end
-    ∙ ap (λ cs. arcs_under sb front c x (down_from cs x)) (sym both.0)
+    rw (all ∙ ap sum both.1, both.0, sums-end, one x) refl
 
 -- all vectors by their rows
 pub all-rows : (sb : ℕ) (front : List ℕ) (c left b h most : ℕ) (bs xs bounds x : List ℕ) → bounds ≡ b ∷ bs → x ≡ h ∷ xs → most ≡ min left b → arcs_under sb front c (h ∷ xs) (rows left bs 0 (most + 1 - 0)) ≡ arcs_under sb front c x (reverse (bounded_sums left bounds))

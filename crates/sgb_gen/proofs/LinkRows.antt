@@ -1,5 +1,5 @@
 -- Arcs that are kept with their vectors one after another.
-use Rattle.std.proofs.Common.{◌≡◌, ℕ, zero, suc, ◌+◌, ◌-◌, ◌*◌, ◌<◌, ◌≤◌, pos, List, [], ◌∷◌, ◌++◌, length, get_or, take, drop, Some, refl, ap, ◌∙◌, arith, length-append, length-drop}
+use Rattle.std.proofs.Common.{◌≡◌, ℕ, zero, suc, ◌+◌, ◌-◌, ◌*◌, ◌<◌, ◌≤◌, pos, List, [], ◌∷◌, ◌++◌, length, get_or, take, drop, Some, refl, sym, ap, ◌∙◌, arith, length-append, length-drop}
 use borrow.Rule.Slice.PartMut.{put_mid}
 use Rattle.std.specs.List.{slice_get}
 use Rattle.std.proofs.Math.Seq.{drop-append_seam, take-append_seam}
@@ -8,6 +8,8 @@ use Rattle.std.proofs.lemmas.List.{with_items_is}
 use Rattle.std.specs.Prelude.{Vec}
 use Rattle.std.specs.Vec.{vec_len, with_items}
 use Rattle.sgb_gen.specs.inner.LocalArcs.{arcs_in}
+use Rattle.sgb_gen.specs.inner.LocalSimplexes.{with_arcs}
+use Rattle.sgb_gen.specs.LocalLists.{LinksData}
 
 -- as many arcs as lengths
 pub length-arcs_in : (width : ℕ) (tips lens : List ℕ) → length (arcs_in width tips lens) ≡ length lens
@@ -46,7 +48,7 @@ arcs_in-push width tips (m ∷ lens) tip n long wide =
     ∙ ap (λ arcs. record { tip = take width tips; len = pos m } ∷ arcs) (arcs_in-push width (drop width tips) lens tip n left wide)
 
 -- with one more arc there are still as many entries as arcs times the width
-pub rows-push : (width n : ℕ) (kept lens tip tips news : List ℕ) → tips ≡ kept ++ tip → news ≡ lens ++ n ∷ [] → length kept ≡ length lens * width → length tip ≡ width → length tips ≡ length news * width
+rows-push : (width n : ℕ) (kept lens tip tips news : List ℕ) → tips ≡ kept ++ tip → news ≡ lens ++ n ∷ [] → length kept ≡ length lens * width → length tip ≡ width → length tips ≡ length news * width
 rows-push width n kept lens tip tips news tips_are news_are long wide =
     let more : length news ≡ length lens + 1 = ap length news_are ∙ length-append lens (n ∷ []) in
     omega (arith, ap length tips_are, length-append kept tip, long, wide, ap (λ k. k * width) more)
@@ -67,7 +69,7 @@ put-moved f kept x all moved start all_is start_is moved_is =
     ∙ ap (λ back. kept ++ (moved ++ back)) after
     ∙ ap (λ row. kept ++ row) (append-nil moved ∙ moved_is ∙ ap f (last_row kept x all start all_is start_is))
 
-pub last_moved : {Z : Type 0} (f : List ℕ → List ℕ) (v : Vec ℕ Z) (kept x all moved : List ℕ) (start : ℕ) → ((row : List ℕ) → length (f row) ≡ length row) → v.items ≡ kept ++ x → all ≡ v.items → vec_len v ≡ length v.items → start ≡ length kept
+last_moved : {Z : Type 0} (f : List ℕ → List ℕ) (v : Vec ℕ Z) (kept x all moved : List ℕ) (start : ℕ) → ((row : List ℕ) → length (f row) ≡ length row) → v.items ≡ kept ++ x → all ≡ v.items → vec_len v ≡ length v.items → start ≡ length kept
     → moved ≡ f (take (length all - start) (drop start all))
     → (with_items v (put_mid start (length all - start) all moved)).items ≡ kept ++ f x
 last_moved f v kept x all moved start as_long items_are all_is count start_is moved_is =
@@ -75,3 +77,22 @@ last_moved f v kept x all moved start as_long items_are all_is count start_is mo
     with_items_is v (put_mid start (length all - start) all moved)
     (omega (arith, ap length written, length-append kept (f x), as_long x, ap length items_are, length-append kept x, count))
     ∙ written
+
+-- ---- one arc more
+
+-- the links with one more arc, whose entries and length are put behind the others
+pub arc-pushed : (w n : ℕ) (d : LinksData) (kept lens tip tips news : List ℕ) → record { width = w; arcs = arcs_in w kept lens } ≡ d → length kept ≡ length lens * w → length tip ≡ d.width → tips ≡ kept ++ tip → news ≡ lens ++ n ∷ []
+    → ◌≡◌ {A = LinksData} (record { width = w; arcs = arcs_in w tips news }) (with_arcs d (record { tip = tip; len = pos n } ∷ []))
+arc-pushed w n d kept lens tip tips news view long wide tips_are news_are =
+    let one = arcs_in-push w kept lens tip n long (wide ∙ sym (ap (λ e. e.width) view)) in
+    rw (tips_are, news_are, one, ← view) refl
+
+-- and where a vector is put there that is then changed in place
+pub arc-moved : {Z : Type 0} (f : List ℕ → List ℕ) (v : Vec ℕ Z) (w n : ℕ) (d : LinksData) (kept lens x all moved news : List ℕ) (start : ℕ) → ((row : List ℕ) → length (f row) ≡ length row)
+    → record { width = w; arcs = arcs_in w kept lens } ≡ d → length kept ≡ length lens * w → length x ≡ d.width
+    → v.items ≡ kept ++ x → all ≡ v.items → vec_len v ≡ length v.items → start ≡ length kept → moved ≡ f (take (length all - start) (drop start all)) → news ≡ lens ++ n ∷ []
+    → (length (with_items v (put_mid start (length all - start) all moved)).items ≡ length news * w)
+    × (◌≡◌ {A = LinksData} (record { width = w; arcs = arcs_in w (with_items v (put_mid start (length all - start) all moved)).items news }) (with_arcs d (record { tip = f x; len = pos n } ∷ [])))
+arc-moved f v w n d kept lens x all moved news start as_long view long wide items_are all_is count start_is moved_is news_are =
+    let tips = last_moved f v kept x all moved start as_long items_are all_is count start_is moved_is in
+    (rows-push w n kept lens (f x) _ news tips news_are long (as_long x ∙ wide ∙ sym (ap (λ e. e.width) view)), arc-pushed w n d kept lens (f x) _ news view long (as_long x ∙ wide) tips news_are)

@@ -22,7 +22,7 @@ use Rattle.sgb_gen.specs.VectorGraphs.{Move, event_among, family_graph, vertex_a
 use Rattle.sgb_gen.specs.inner.Descents.{IsBegun, arcs_under, down_from, row, rows}
 use Rattle.sgb_gen.specs.inner.SubsetsCounts.{moves_among, wanted_among}
 use Rattle.sgb_gen.proofs.BoardCountsBoards.{arcs-directed, arcs-undirected}
-use Rattle.sgb_gen.proofs.DescentArcs.{HasEnded, all-rows, ended-all, ended-from, from-taken, row-under, under-front, under-unwanted, under-zeros}
+use Rattle.sgb_gen.proofs.DescentArcs.{HasEnded, all-rows, ended-all, ended-part, from-taken, row-under, under-front, under-unwanted, under-zeros}
 use Rattle.sgb_gen.proofs.Descents.{row-within, rows-parts, sums-rows}
 use Rattle.sgb_gen.proofs.FamilyWalks.{at_front, next_left}
 use Rattle.sgb_gen.proofs.RisingVectors.{vertex_in_rising}
@@ -87,7 +87,7 @@ among-ended sb c left bs x h none some =
     sym (among-arcs sb [] c x (reverse (bounded_sums left bs)) ∙ ap length (ended-all sb [] c left bs x h none some))
 
 pub among-ended_from : (sb c left : ℕ) (bs x : List ℕ) → IsWithin x bs → HasEnded bs x → left ≡ sum x → wanted_among sb c x (reverse (bounded_sums left bs)) ≡ wanted_among sb c x (down_from bs x)
-among-ended_from sb c left bs x h none all = among-same sb [] [] c c x x _ _ (ended-from sb [] c left bs x h none all)
+among-ended_from sb c left bs x h none all = among-same sb [] [] c c x x _ _ (ended-part down_from (λ y. refl) sb [] c left bs x h none all)
 
 -- ---- where it goes on
 

@@ -1,7 +1,6 @@
-use Rattle.std.proofs.Common.{◌≡◌, ◌<◌, ℕ, true, false, cond, List, Some, None, length, w64, take, drop, ◌++◌, sym, ap, ◌∙◌}
+use Rattle.std.proofs.Common.{◌≡◌, ℕ, true, false, cond, List, Some, None, length, w64, take, drop, ◌++◌, sym, ap, ◌∙◌}
 use Rattle.std.proofs.Math.Seq.{take-append_seam}
 use Rattle.std.proofs.lemmas.Int.{to_z-of_z}
-use Rattle.std.proofs.lemmas.List.Elements.{length_all_zip}
 use Rattle.sgb_gen.specs.MovedCoordinates.{parts_of, parts_put}
 use Rattle.sgb_gen.specs.inner.MovedCoordinates.{parts_stay}
 use Rattle.sgb_gen.proofs.MovedCoordinates.{place_by_parts}
@@ -21,10 +20,6 @@ returns-then-not-move_parts-clause-nowhere c =
     ap (parts_stay sizes c.args.wrap x l) (sym c.parts.ensures.parts) ∙ ap (λ w. parts_stay sizes w x l c.parts.result.now) (sym (to_z-of_z w64 c.args.wrap c.ranges.wrap)) ∙ sym c.move_parts.ensures.stay ∙ c.if-not-move_parts.true in
     place_by_parts sizes c.args.wrap x t l c.requires.below c.requires.dimensions
     ∙ ap (λ b. cond b (Some (parts_put sizes c.args.wrap x l (parts_of t) x)) None) out
-
-pub move_parts-requires-clause-there : goal.move_parts-requires-clause-there
-move_parts-requires-clause-there c =
-    ap length (c.as_mut_slice.ensures.value ∙ c.put_vector.ensures) ∙ length_all_zip (λ a s. a < s) c.args.x.now c.args.sizes.now c.requires.below
 
 pub returns-clause-leads : goal.returns-clause-leads
 returns-clause-leads c =

@@ -8,7 +8,7 @@ use Rattle.sgb_gen.specs.Moves.{moves_from, sides_of}
 use Rattle.sgb_gen.specs.VectorGraphs.{event_among}
 use Rattle.sgb_gen.proofs.BoardEvents.{events_by, events_of, events_by-moves, events_of-moves}
 use Rattle.sgb_gen.proofs.BoundedMoves.{events_within}
-use Rattle.sgb_gen.proofs.DisplacementWalk.{first_and_others, first_has}
+use Rattle.sgb_gen.proofs.DisplacementWalk.{first_and_others}
 use Rattle.sgb_gen.proofs.accepted.boards.Board.add_arcs.Goals as goal
 
 pub loop-t-init : goal.loop-t-init
@@ -18,9 +18,6 @@ loop-t-init c =
       c.displacements-left.ensures.dimensions,
       subst (λ es. AddsUpTo b.directed g g es (events_of b)) (sym (ap (flat_map (events_by b)) c.displacements-left.ensures.all ∙ events_within b)) (up_to-none b.directed g (events_of b)),
     )
-
-pub add_moves_by-requires-clause-dimensions : goal.add_moves_by-requires-clause-dimensions
-add_moves_by-requires-clause-dimensions c = ap length c.of-step.ensures ∙ first_has (λ t. length t ≡ length c.args.self.now.sizes) c.loop-t.left c.in-Some.t.now c.loop-t.invariant.0 c.in-Some.ensures.first
 
 pub loop-t-preserved : goal.loop-t-preserved
 loop-t-preserved c =

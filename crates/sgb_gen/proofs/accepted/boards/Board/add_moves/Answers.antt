@@ -5,7 +5,7 @@ use Rattle.sgb_vec.specs.Boxes.{box}
 use Rattle.sgb_graph.specs.Graphs.{GraphData}
 use Rattle.sgb_graph.specs.Growth.{AddsEvents}
 use Rattle.sgb_graph.proofs.AddedEvents.{AddsUpTo, up_to-none, up_to-more, up_to-all}
-use Rattle.sgb_gen.proofs.BoardEvents.{events_from, events_left, events_left-all, events_left-none, events_left-out, events_left-next}
+use Rattle.sgb_gen.proofs.BoardEvents.{events_from, events_left, events_left-all, events_left-out, events_left-next}
 use Rattle.sgb_gen.proofs.Vertices.{below_in_box}
 use Rattle.sgb_gen.proofs.accepted.boards.Board.add_moves.Goals as goal
 
@@ -44,9 +44,3 @@ loop-shorter-preserved c =
     let far = to_z-of_z w64 c.from.result (search rules) ∙ c.from.ensures in
     let added = event_as _ b.directed c.loop-shorter.graph c.add_event.new.self c.args.u c.in-Some.v _ (pos (c.loop-shorter.shorter + 1)) (ap (λ d. d.directed) c.self.view_is) far c.in_ok-add_event.ensures.ok in
     up_to-more b.directed c.args.graph.now c.loop-shorter.graph c.add_event.new.self _ (events_left b t x (c.loop-shorter.shorter + 1 + 1)) (events_from b t x) _ c.loop-shorter.invariant next added
-
-pub returns-clause-ok : goal.returns-clause-ok
-returns-clause-ok c =
-    let b = c.args.self.now in
-    up_to-all b.directed c.args.graph.now c.loop-shorter.graph _ (events_from b c.args.t.now c.args.x.now) c.loop-shorter.invariant
-    (events_left-none b c.args.t.now c.args.x.now (c.loop-shorter.shorter + 1) (omega (arith, c.longest_move-shorter-end.ensures)))

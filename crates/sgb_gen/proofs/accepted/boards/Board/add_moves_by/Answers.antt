@@ -6,11 +6,8 @@ use Rattle.sgb_vec.proofs.RangeSteps.{first_and_rest}
 use Rattle.sgb_graph.specs.Growth.{AddsEvents}
 use Rattle.sgb_graph.proofs.AddedEvents.{up_to-more, up_to-all}
 use Rattle.sgb_gen.proofs.BoardEvents.{events_from, events_by-moves}
-use Rattle.sgb_gen.proofs.FamilyWalks.{at_front, next_left}
+use Rattle.sgb_gen.proofs.FamilyWalks.{next_left}
 use Rattle.sgb_gen.proofs.accepted.boards.Board.add_moves_by.Goals as goal
-
-pub add_moves-requires-clause-vertex : goal.add_moves-requires-clause-vertex
-add_moves-requires-clause-vertex c = at_front (box c.args.self.now.sizes) _ c.loop-u.u _ c.loop-u.invariant.0 c.in-Some.ensures.first
 
 pub loop-u-preserved : goal.loop-u-preserved
 loop-u-preserved c =

@@ -6,7 +6,7 @@ use Rattle.sgb_gen.specs.inner.LocalBoards.{moves_by}
 use Rattle.sgb_gen.specs.Moves.{sides_of}
 use Rattle.sgb_gen.specs.VectorGraphs.{Move}
 use Rattle.sgb_gen.proofs.BoundedMoves.{moves_within}
-use Rattle.sgb_gen.proofs.DisplacementWalk.{first_and_others, first_has}
+use Rattle.sgb_gen.proofs.DisplacementWalk.{first_and_others}
 use Rattle.sgb_gen.proofs.accepted.boards.Board.moves_count.Goals as goal
 
 pub loop-t-init : goal.loop-t-init
@@ -14,9 +14,6 @@ loop-t-init c =
     let b = c.args.self.now in
     let whole = ap length (ap (flat_map (moves_by (sides_of b.sizes b.wrap) b.piece (box b.sizes))) c.displacements-left.ensures.all ∙ moves_within b) in
     (c.displacements-left.ensures.dimensions, omega (arith, whole))
-
-pub count_by-requires : goal.count_by-requires
-count_by-requires c = record { dimensions = first_has (λ t. length t ≡ length c.args.self.now.sizes) c.loop-t.left c.in-Some.t.now c.loop-t.invariant.0 c.in-Some.ensures.first }
 
 -- those by the first displacement, and those by the others
 parts : (moves : List ℤ → List Move) (t : List ℤ) (ts left : List (List ℤ)) → ts ≡ t ∷ left → length (flat_map moves ts) ≡ length (moves t) + length (flat_map moves left)

@@ -1,4 +1,4 @@
-use Rattle.std.proofs.Common.{◌≡◌, ◌≤◌, List, ℤ, nat_abs, ◌∷◌, length, refl, sym, ap, subst, ◌∙◌}
+use Rattle.std.proofs.Common.{◌≡◌, ◌≤◌, List, ℤ, nat_abs, ◌∷◌, length, refl, ap, subst, ◌∙◌}
 use Rattle.std.specs.List.{All, flat_map}
 use Rattle.std.proofs.lemmas.List.{reverse-reverse}
 use Rattle.std.proofs.lemmas.List.Elements.{All-tail}
@@ -10,7 +10,7 @@ use Rattle.sgb_gen.specs.inner.LocalSimplexes.{with_arcs}
 use Rattle.sgb_gen.proofs.PairWalks.{with_more}
 use Rattle.sgb_gen.proofs.ListsOfBoards.{onward-first}
 use Rattle.sgb_gen.proofs.BoundedMoves.{moves_within}
-use Rattle.sgb_gen.proofs.DisplacementWalk.{first_and_others, first_has}
+use Rattle.sgb_gen.proofs.DisplacementWalk.{first_and_others}
 use Rattle.sgb_gen.proofs.TurnedLinks.{turned_behind}
 use Rattle.sgb_gen.proofs.accepted.boards.Board.push_all.Goals as goal
 
@@ -22,18 +22,6 @@ loop-t-init c =
       c.displacements-left.ensures.small,
       ap made c.displacements-left.ensures.all ∙ ap (λ ms. with_arcs c.args.links.now (arcs_onward b.directed c.args.x.now ms)) (moves_within b),
     )
-
-pub push_by-requires-clause-width : goal.push_by-requires-clause-width
-push_by-requires-clause-width c = c.requires.width ∙ sym (ap (λ d. d.width) c.loop-t.invariant.2)
-
-pub push_by-requires-clause-dimensions : goal.push_by-requires-clause-dimensions
-push_by-requires-clause-dimensions c = ap length c.of-ahead.ensures ∙ first_has (λ t. length t ≡ length c.args.self.now.sizes) c.loop-t.left c.in-Some.t.now c.loop-t.invariant.0 c.in-Some.ensures.first
-
-pub put_opposite-requires-clause-few : goal.put_opposite-requires-clause-few
-put_opposite-requires-clause-few c = c.in-Some.ensures.few
-
-pub put_opposite-requires-clause-small : goal.put_opposite-requires-clause-small
-put_opposite-requires-clause-small c = first_has (λ t. All (λ e. nat_abs e ≤ most_piece) t) c.loop-t.left c.in-Some.t.now c.loop-t.invariant.1 c.in-Some.ensures.first
 
 pub loop-t-preserved : goal.loop-t-preserved
 loop-t-preserved c =

@@ -1,4 +1,4 @@
-use Rattle.std.proofs.Common.{◌≡◌, ◌∙◌, false, sym, ap}
+use Rattle.std.proofs.Common.{◌∙◌, sym, ap}
 use Rattle.sgb_gen.proofs.ListsOfBoards.{directed_onward}
 use Rattle.sgb_gen.proofs.accepted.boards.Board.push_by.Goals as goal
 
@@ -11,13 +11,3 @@ pub returns-then-self-clause-ok : goal.returns-then-self-clause-ok
 returns-then-self-clause-ok c =
     let same = directed_onward c.args.self.now c.args.x.now c.args.t.now c.requires.below (sym c.if-self.true ∙ ap (λ d. d.directed) c.self.view_is) in
     rw (← same) c.push_moves_down.ensures.ok
-
-pub returns-then-leads_onward-clause-ok : goal.returns-then-leads_onward-clause-ok
-returns-then-leads_onward-clause-ok c =
-    let directed : false ≡ c.args.self.now.directed = sym c.if-self.false ∙ ap (λ d. d.directed) c.self.view_is in
-    rw (← directed) c.push_in_order.ensures.ok
-
-pub returns-clause-ok : goal.returns-clause-ok
-returns-clause-ok c =
-    let directed : false ≡ c.args.self.now.directed = sym c.if-self.false ∙ ap (λ d. d.directed) c.self.view_is in
-    rw (← directed) c.push_sorted.ensures.ok

@@ -1,18 +1,12 @@
-use Rattle.std.proofs.Common.{◌≡◌, ◌++◌, ◌∷◌, ◌∙◌, ◌+◌, ◌-◌, cond, drop, get_or, length, reverse, ℕ, List, sym, ap, arith}
+use Rattle.std.proofs.Common.{◌≡◌, ◌++◌, ◌∷◌, ◌∙◌, ◌+◌, ◌-◌, cond, drop, get_or, reverse, ℕ, List, ap, arith}
 use Rattle.std.specs.Prelude.{◌==◌}
-use Rattle.std.proofs.lemmas.List.{at_drop_more, drop_all, reverse-append}
+use Rattle.std.proofs.lemmas.List.{at_drop_more, reverse-append}
 use Rattle.sgb_gen.specs.inner.LocalBoards.{arcs_of_starts, edge_arcs}
 use Rattle.sgb_gen.specs.inner.Moves.{destination}
 use Rattle.sgb_gen.specs.Moves.{sides_of}
-use Rattle.sgb_gen.proofs.PairWalks.{with_more, with_none}
+use Rattle.sgb_gen.proofs.PairWalks.{with_more}
 use Rattle.sgb_gen.proofs.TurnedLinks.{edge_turned}
 use Rattle.sgb_gen.proofs.accepted.boards.Board.push_edges.Goals as goal
-
-pub loop-k-init : goal.loop-k-init
-loop-k-init c = rw (drop_all (length c.args.starts.now) c.args.starts.now (omega arith)) (with_none c.args.links.now)
-
-pub push_edge-requires-clause-width : goal.push_edge-requires-clause-width
-push_edge-requires-clause-width c = c.requires.width ∙ sym (ap (λ d. d.width) c.loop-k.invariant)
 
 pub loop-k-preserved : goal.loop-k-preserved
 loop-k-preserved c =
@@ -31,8 +25,3 @@ loop-k-preserved c =
     let turned : reverse (arcs (drop k starts)) ≡ reverse (arcs left) ++ own =
     ap (λ ss. reverse (arcs ss)) step ∙ reverse-append own (arcs left) ∙ ap (λ ls. reverse (arcs left) ++ ls) (edge_turned x s.1 _) in
     with_more c.args.links.now c.loop-k.links c.push_edge.new.links (reverse (arcs left)) own _ c.loop-k.invariant (rw c.either-step.ensures at c.in_ok-push_edge.ensures.ok) turned
-
-pub returns-clause-ok : goal.returns-clause-ok
-returns-clause-ok c =
-    let none : c.loop-k.k ≡ 0 = omega (arith, c.loop-k-test.false) in
-    rw (← c.vertex_of-u.ensures.vertex) (rw none at c.loop-k.invariant)

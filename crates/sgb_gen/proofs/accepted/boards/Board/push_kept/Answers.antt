@@ -1,23 +1,16 @@
-use Rattle.std.proofs.Common.{◌≡◌, ◌+◌, ◌-◌, ◌∷◌, arith, reverse, drop, length, sym, ap, ◌∙◌}
-use Rattle.std.proofs.lemmas.List.{drop_all}
+use Rattle.std.proofs.Common.{◌≡◌, ◌+◌, ◌-◌, ◌∷◌, arith, reverse, drop, length, ap, ◌∙◌}
 use Rattle.sgb_gen.specs.inner.LocalBoards.{arcs_onward}
 use Rattle.sgb_gen.specs.inner.LocalSimplexes.{with_arcs}
 use Rattle.sgb_gen.specs.inner.StraightLists.{arcs_by_all}
 use Rattle.sgb_gen.proofs.BoundedMoves.{moves_within}
 use Rattle.sgb_gen.proofs.FamilyWalks.{drop_at_vector}
-use Rattle.sgb_gen.proofs.PairWalks.{with_more, with_none}
+use Rattle.sgb_gen.proofs.PairWalks.{with_more}
 use Rattle.sgb_gen.proofs.RunsOfLists.{first_last, width_in_table}
 use Rattle.sgb_gen.proofs.accepted.boards.Board.push_kept.Goals as goal
-
-pub loop-k-init : goal.loop-k-init
-loop-k-init c = rw (drop_all c.len-k.result c.args.table.now (omega (arith, c.len-k.ensures))) (with_none c.args.links.now)
 
 pub push_by-requires-clause-dimensions : goal.push_by-requires-clause-dimensions
 push_by-requires-clause-dimensions c =
     ap length c.ahead.ensures ∙ width_in_table c.args.self.now c.args.table.now (c.loop-k.k - 1) c.at-pair.result.now c.requires.table c.at-pair.ensures
-
-pub push_by-requires-clause-width : goal.push_by-requires-clause-width
-push_by-requires-clause-width c = c.requires.width ∙ sym (ap (λ d. d.width) c.loop-k.invariant)
 
 pub loop-k-preserved : goal.loop-k-preserved
 loop-k-preserved c =

@@ -4,11 +4,8 @@ use Rattle.std.proofs.lemmas.List.FromFn.{map-range_with_len_more}
 use Rattle.sgb_gen.specs.MovedCoordinates.{parts_of}
 use Rattle.sgb_gen.specs.Runs.{arc_along}
 use Rattle.sgb_gen.specs.inner.LocalSimplexes.{with_arcs}
-use Rattle.sgb_gen.proofs.PairWalks.{with_more, with_none}
+use Rattle.sgb_gen.proofs.PairWalks.{with_more}
 use Rattle.sgb_gen.proofs.accepted.boards.Board.push_straight.Goals as goal
-
-pub loop-shorter-init : goal.loop-shorter-init
-loop-shorter-init c = with_none c.args.links.now
 
 pub loop-shorter-preserved : goal.loop-shorter-preserved
 loop-shorter-preserved c =
@@ -18,8 +15,3 @@ loop-shorter-preserved c =
     let wrap : to_z w64 (of_z w64 c.self.inside.wrap) ≡ b.wrap = to_z-of_z w64 c.self.inside.wrap (search rules) ∙ ap (λ d. d.wrap) c.self.view_is in
     let added : c.push_placed.new.self ≡ with_arcs c.loop-shorter.links (arc (k + 1) ∷ []) = rw (← wrap, ← c.sizes-sizes.ensures, ← c.parts-parts.ensures.parts) c.in_ok-push_placed.ensures.ok in
     with_more _ _ _ _ _ _ c.loop-shorter.invariant added (map-range_with_len_more arc 1 k (k + 1) (omega arith))
-
-pub returns-clause-ok : goal.returns-clause-ok
-returns-clause-ok c =
-    let all : c.loop-shorter.shorter ≡ c.farthest-farthest.result = omega arith in
-    rw (c.farthest-farthest.ensures, ← all) c.loop-shorter.invariant

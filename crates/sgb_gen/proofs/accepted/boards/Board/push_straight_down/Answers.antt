@@ -1,13 +1,10 @@
-use Rattle.std.proofs.Common.{◌≡◌, ◌∷◌, ◌+◌, ◌-◌, ◌∙◌, [], reverse, sym, ap, arith, rules, w64, to_z, of_z}
+use Rattle.std.proofs.Common.{◌≡◌, ◌∷◌, ◌+◌, ◌-◌, ◌∙◌, [], ap, arith, rules, w64, to_z, of_z}
 use Rattle.std.proofs.lemmas.Int.{to_z-of_z}
 use Rattle.sgb_gen.specs.MovedCoordinates.{parts_of}
 use Rattle.sgb_gen.specs.Runs.{arc_along}
 use Rattle.sgb_gen.specs.inner.LocalSimplexes.{with_arcs}
 use Rattle.sgb_gen.proofs.StraightMoves.{one_shorter}
 use Rattle.sgb_gen.proofs.accepted.boards.Board.push_straight_down.Goals as goal
-
-pub loop-shorter-init : goal.loop-shorter-init
-loop-shorter-init c = ap (λ ls. with_arcs c.args.links.now (reverse ls)) (sym c.farthest-farthest.ensures)
 
 pub loop-shorter-preserved : goal.loop-shorter-preserved
 loop-shorter-preserved c =

@@ -1,4 +1,4 @@
-use Rattle.std.proofs.Common.{◌≡◌, ◌≤◌, min, to_z, of_z, w64, length, sym, ap, subst, ◌∙◌, rules}
+use Rattle.std.proofs.Common.{◌≡◌, ◌≤◌, min, to_z, of_z, w64, ap, subst, ◌∙◌, rules}
 use Rattle.std.proofs.lemmas.Int.{to_z-of_z}
 use Rattle.sgb_vec.specs.Boxes.{product_of}
 use Rattle.sgb_vec.specs.Limits.{most_vertices}
@@ -6,10 +6,6 @@ use Rattle.sgb_gen.specs.Moves.{sides_of}
 use Rattle.sgb_gen.specs.inner.BoardCounts.{starts_product}
 use Rattle.sgb_gen.proofs.BoardCountsBoards.{most_of_64, product-exact}
 use Rattle.sgb_gen.proofs.accepted.boards.Board.starts_of_steps.Goals as goal
-
-pub starts_product-requires : goal.starts_product-requires
-starts_product-requires c =
-    record { dimensions = c.requires.dimensions ∙ sym (ap length c.sizes.ensures) }
 
 pub returns : goal.returns
 returns c =

@@ -1,7 +1,4 @@
-use Rattle.std.proofs.Common.{◌≡◌, Some, sym, ap}
-use Rattle.std.specs.Option.{option_map}
-use Rattle.sgb_vec.specs.Boxes.{box}
-use Rattle.sgb_gen.specs.VectorGraphs.{vertex_among}
+use Rattle.std.proofs.Common.{◌≡◌, Some}
 use Rattle.sgb_gen.proofs.BoardWalks.{leads}
 use Rattle.sgb_gen.proofs.Reaches.{destination-below}
 use Rattle.sgb_gen.proofs.accepted.boards.Board.vertex_at.Goals as goal
@@ -11,9 +8,3 @@ vertex_of-requires c =
     let b = c.args.self.now in
     let lands : leads b c.args.x.now c.args.t.now c.args.l ≡ Some c.lands.new.there.items = rw c.if-not-lands.false at c.lands.ensures.leads in
     rw c.as_slice.ensures.value (destination-below b.sizes b.wrap b.piece c.args.x.now c.args.t.now c.args.l _ c.requires.below lands)
-
-pub returns-clause-vertex : goal.returns-clause-vertex
-returns-clause-vertex c =
-    let b = c.args.self.now in
-    let lands : leads b c.args.x.now c.args.t.now c.args.l ≡ Some c.lands.new.there.items = rw c.if-not-lands.false at c.lands.ensures.leads in
-    rw (c.vertex_of.ensures.vertex, c.as_slice.ensures.value) (ap (option_map (vertex_among (box b.sizes))) (sym lands))

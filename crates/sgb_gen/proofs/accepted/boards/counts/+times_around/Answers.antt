@@ -1,9 +1,6 @@
 use Rattle.std.proofs.Common.{◌<◌, arith}
-use Rattle.sgb_gen.proofs.TimesAround.{times-exact, no-step}
+use Rattle.sgb_gen.proofs.TimesAround.{times-exact}
 use Rattle.sgb_gen.proofs.accepted.boards.counts.+times_around.Goals as goal
-
-pub returns-then-step-eq0-clause-times : goal.returns-then-step-eq0-clause-times
-returns-then-step-eq0-clause-times t c = λ i. no-step c.args.size c.args.step i c.if-step-eq0.true
 
 pub returns-clause-times : goal.returns-clause-times
 returns-clause-times t c =

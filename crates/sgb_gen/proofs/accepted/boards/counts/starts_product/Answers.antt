@@ -2,11 +2,8 @@ use Rattle.std.proofs.Common.{ℤ, to_z, of_z, w64, ap, ◌∙◌, min, arith, r
 use Rattle.std.proofs.lemmas.Int.{to_z-of_z}
 use Rattle.sgb_gen.specs.Moves.{sides_of}
 use Rattle.sgb_gen.specs.inner.BoardCounts.{starts_product}
-use Rattle.sgb_gen.proofs.BoardCountsBoards.{most_of_64, product-none, product-more, product-all, starts_read}
+use Rattle.sgb_gen.proofs.BoardCountsBoards.{most_of_64, product-more, product-all, starts_read}
 use Rattle.sgb_gen.proofs.accepted.boards.counts.starts_product.Goals as goal
-
-pub loop-k-init : goal.loop-k-init
-loop-k-init c = (product-none c.args.sizes.now (to_z w64 (of_z w64 c.args.wrap)) c.args.t.now c.args.l, omega arith)
 
 pub loop-k-preserved : goal.loop-k-preserved
 loop-k-preserved c =

@@ -3,13 +3,10 @@ use Rattle.std.specs.List.{flat_map, slice_get}
 use Rattle.std.proofs.lemmas.List.{drop_all}
 use Rattle.sgb_graph.specs.Growth.{AddsEvents}
 use Rattle.sgb_gen.specs.Simplexes.{simplex_vectors}
-use Rattle.sgb_graph.proofs.AddedEvents.{up_to-none, up_to-more, up_to-all}
+use Rattle.sgb_graph.proofs.AddedEvents.{up_to-more, up_to-all}
 use Rattle.sgb_gen.proofs.FamilyWalks.{drop_at_vector}
 use Rattle.sgb_gen.proofs.SimplexEvents.{events_to, events_of, events_of-moves}
 use Rattle.sgb_gen.proofs.accepted.simplexes.Simplex.add_arcs.Goals as goal
-
-pub loop-v-init : goal.loop-v-init
-loop-v-init c = up_to-none c.args.self.now.directed c.args.graph.now (events_of c.args.self.now)
 
 pub loop-v-preserved : goal.loop-v-preserved
 loop-v-preserved c =

@@ -13,9 +13,6 @@ push_all-put-requires-clause-bounds c =
     let s = c.args.self.now in
     length_in_sum s c.args.x.now c.requires ∙ sym (ap length c.sizes-bounds.ensures.same)
 
-pub push_all-put-requires-clause-width : goal.push_all-put-requires-clause-width
-push_all-put-requires-clause-width c = sym (ap (λ d. d.width) c.clear.ensures)
-
 pub returns-clause-ok : goal.returns-clause-ok
 returns-clause-ok c =
     let s = c.args.self.now in

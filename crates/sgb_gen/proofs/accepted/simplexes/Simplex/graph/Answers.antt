@@ -1,20 +1,12 @@
-use Rattle.std.proofs.Common.{◌≡◌, ◌≤◌, length, map, sym, ap, subst, ◌∙◌, arith}
-use Rattle.std.proofs.lemmas.List.{length-map}
-use Rattle.sgb_vec.specs.Limits.{most_vertices}
+use Rattle.std.proofs.Common.{◌≡◌, map, sym, ap, subst, ◌∙◌}
 use Rattle.sgb_vec.specs.Names.{name_of_vector}
 use Rattle.sgb_vec.specs.Sums.{bounded_sums}
 use Rattle.sgb_graph.specs.Descriptions.{IsGraphOf}
 use Rattle.sgb_graph.specs.Growth.{new_graph, with_id}
 use Rattle.sgb_gen.specs.inner.VectorGraphs.{HasCoordinates}
 use Rattle.sgb_gen.specs.Simplexes.{simplex_graph, simplex_id, simplex_vectors, moves_of_simplex}
-use Rattle.sgb_gen.proofs.FamilyGraphs.{fields_unused, family_made, no_room}
+use Rattle.sgb_gen.proofs.FamilyGraphs.{fields_unused, family_made}
 use Rattle.sgb_gen.proofs.accepted.simplexes.Simplex.graph.Goals as goal
-
-pub returns-in_err-graph : goal.returns-in_err-graph
-returns-in_err-graph c =
-    let f = c.self.inside.family in
-    let few : length c.in_ok-names.names ≤ most_vertices = omega (arith, ap length c.in_ok-names.ensures.ok, length-map (bounded_sums f.total f.bounds) name_of_vector, c.self.invariant.1.vertices) in
-    no_room (simplex_graph c.args.self.now) c.from_residual-in_err-graph.result _ c.from_residual-in_err-graph.ensures (λ e h. h ∙ c.in_err-graph.ensures.err few)
 
 pub put_coordinates-requires-clause-fields : goal.put_coordinates-requires-clause-fields
 put_coordinates-requires-clause-fields c =

@@ -1,4 +1,4 @@
-use Rattle.std.proofs.Common.{◌≡◌, ◌<◌, true, false, cond, Some, None, length, sym, ap, subst, ◌∙◌, arith}
+use Rattle.std.proofs.Common.{◌≡◌, ◌<◌, true, cond, Some, None, length, sym, ap, subst, ◌∙◌, arith}
 use Rattle.std.specs.List.{Contains, slice_get}
 use Rattle.std.proofs.lemmas.Option.{slice_get_within}
 use Rattle.sgb_vec.specs.Lexicographic.{IsRising}
@@ -12,13 +12,6 @@ pub can_move_unit-requires-clause-bounds : goal.can_move_unit-requires-clause-bo
 can_move_unit-requires-clause-bounds c =
     let s = c.args.self.now in
     length_in_sum s c.args.x.now c.requires.member ∙ sym (ap length c.sizes-bounds.ensures.same)
-
-pub returns-then-not-can_move_unit-clause-vertex : goal.returns-then-not-can_move_unit-clause-vertex
-returns-then-not-can_move_unit-clause-vertex c =
-    let s = c.args.self.now in
-    let at : Places = record { lower = c.args.lower; higher = c.args.higher } in
-    let cannot : can_shift s.sum.bounds c.args.x.now at ≡ false = sym (c.can_move_unit.ensures ∙ ap (λ bs. can_shift bs c.args.x.now at) c.sizes-bounds.ensures.same) ∙ c.if-not-can_move_unit.true in
-    ap (λ b. cond b (Some (vertex_among (simplex_vectors s) (shifted c.args.x.now at))) None) (sym cannot)
 
 pub unit_moved-there-requires-clause-bounds : goal.unit_moved-there-requires-clause-bounds
 unit_moved-there-requires-clause-bounds c =

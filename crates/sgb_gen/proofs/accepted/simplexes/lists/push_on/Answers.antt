@@ -1,17 +1,8 @@
-use Rattle.std.proofs.Common.{◌≡◌, ◌+◌, ◌-◌, ◌++◌, length, reverse, sym, ap, ◌∙◌, arith}
+use Rattle.std.proofs.Common.{◌≡◌, ◌+◌, ◌-◌, ◌++◌, length, reverse, ap, ◌∙◌, arith}
 use Rattle.sgb_gen.specs.inner.LocalSimplexes.{arcs_on, pairs_down, with_arcs}
-use Rattle.sgb_gen.proofs.PairWalks.{with_none, with_more, arcs_on-append, after-next, after-none, after-all}
+use Rattle.sgb_gen.proofs.PairWalks.{with_more, arcs_on-append, after-next, after-all}
 use Rattle.sgb_gen.proofs.SimplexEvents.{pairs_after}
 use Rattle.sgb_gen.proofs.accepted.simplexes.lists.push_on.Goals as goal
-
-pub loop-lower-init : goal.loop-lower-init
-loop-lower-init c =
-    let n = length c.args.x.now in
-    with_none c.args.links.now
-    ∙ ap (λ ps. with_arcs c.args.links.now (arcs_on c.args.bounds.now c.args.x.now ps)) (sym (after-none n n (omega arith)))
-
-pub push_on_from-requires-clause-width : goal.push_on_from-requires-clause-width
-push_on_from-requires-clause-width c = c.requires.width ∙ sym (ap (λ d. d.width) c.loop-lower.invariant)
 
 pub loop-lower-preserved : goal.loop-lower-preserved
 loop-lower-preserved c =

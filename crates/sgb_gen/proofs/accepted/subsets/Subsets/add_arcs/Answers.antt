@@ -3,12 +3,9 @@ use Rattle.sgb_vec.specs.Sums.{bounded_sums}
 use Rattle.sgb_graph.specs.Growth.{AddsEvents}
 use Rattle.sgb_gen.specs.Subsets.{subsets_vectors}
 use Rattle.sgb_graph.proofs.AddedEvents.{up_to-more, up_to-all}
-use Rattle.sgb_gen.proofs.FamilyWalks.{at_front, next_left, none_left}
+use Rattle.sgb_gen.proofs.FamilyWalks.{next_left, none_left}
 use Rattle.sgb_gen.proofs.SubsetsEvents.{events_from_place-next, events_from_place-none, events_of-subsets}
 use Rattle.sgb_gen.proofs.accepted.subsets.Subsets.add_arcs.Goals as goal
-
-pub add_moves_to-requires-clause-vertex : goal.add_moves_to-requires-clause-vertex
-add_moves_to-requires-clause-vertex c = at_front (subsets_vectors c.args.self.now) _ c.loop-v.v _ c.loop-v.invariant.0 c.in-Some.ensures.first
 
 pub loop-v-preserved : goal.loop-v-preserved
 loop-v-preserved c =

@@ -19,10 +19,6 @@ pub common-requires-clause-widths : goal.common-requires-clause-widths
 common-requires-clause-widths c =
     same_width c.args.self.now _ _ (is_among (subsets_vectors c.args.self.now) c.loop-u.u _ (at_front (subsets_vectors c.args.self.now) _ c.loop-u.u _ c.loop-u.invariant.0 c.in-Some.ensures.first)) (is_among (subsets_vectors c.args.self.now) c.args.v _ c.requires.vertex)
 
-pub add_move-requires-clause-from : goal.add_move-requires-clause-from
-add_move-requires-clause-from c =
-    omega (arith, slice_get_within (subsets_vectors c.args.self.now) c.args.v c.args.to.now c.requires.vertex, c.loop-u.invariant.1.added.rest.size, c.requires.vertices)
-
 pub add_move-requires-clause-to : goal.add_move-requires-clause-to
 add_move-requires-clause-to c =
     omega (arith, slice_get_within (subsets_vectors c.args.self.now) c.args.v c.args.to.now c.requires.vertex, c.loop-u.invariant.1.added.rest.size, c.requires.vertices)

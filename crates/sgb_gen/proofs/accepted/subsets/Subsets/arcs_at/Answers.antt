@@ -5,9 +5,6 @@ use Rattle.sgb_gen.proofs.EndedLists.{list_ended}
 use Rattle.sgb_gen.proofs.SubsetsLists.{list_by_walk}
 use Rattle.sgb_gen.proofs.accepted.subsets.Subsets.arcs_at.Goals as goal
 
-pub push_all-put-requires-clause-width : goal.push_all-put-requires-clause-width
-push_all-put-requires-clause-width c = sym (ap (λ d. d.width) c.clear.ensures)
-
 pub returns-clause-ok : goal.returns-clause-ok
 returns-clause-ok c =
     let s = c.args.self.now in

@@ -1,21 +1,12 @@
-use Rattle.std.proofs.Common.{◌≡◌, ◌≤◌, length, map, sym, ap, subst, ◌∙◌, arith}
-use Rattle.std.proofs.lemmas.List.{length-map}
-use Rattle.sgb_vec.specs.Limits.{most_vertices}
+use Rattle.std.proofs.Common.{◌≡◌, map, sym, ap, subst, ◌∙◌}
 use Rattle.sgb_vec.specs.Names.{name_of_vector}
 use Rattle.sgb_vec.specs.Sums.{bounded_sums}
 use Rattle.sgb_graph.specs.Descriptions.{IsGraphOf}
 use Rattle.sgb_graph.specs.Growth.{new_graph, with_id}
 use Rattle.sgb_gen.specs.inner.VectorGraphs.{HasCoordinates}
 use Rattle.sgb_gen.specs.Subsets.{subsets_graph, subsets_id, subsets_vectors, moves_of_subsets}
-use Rattle.sgb_gen.proofs.FamilyGraphs.{no_room, fields_unused, family_made}
+use Rattle.sgb_gen.proofs.FamilyGraphs.{fields_unused, family_made}
 use Rattle.sgb_gen.proofs.accepted.subsets.Subsets.graph.Goals as goal
-
-pub returns-in_err-graph : goal.returns-in_err-graph
-returns-in_err-graph c =
-    let f = c.self.inside.family in
-    let few : length c.in_ok-names.names ≤ most_vertices = omega (arith, ap length c.in_ok-names.ensures.ok, length-map (bounded_sums f.total f.bounds) name_of_vector, c.self.invariant.1.vertices) in
-    let memory = c.in_err-graph.ensures.err few in
-    no_room (subsets_graph c.args.self.now) c.from_residual-in_err-graph.result _ c.from_residual-in_err-graph.ensures (λ e h. h ∙ memory)
 
 pub put_coordinates-requires-clause-fields : goal.put_coordinates-requires-clause-fields
 put_coordinates-requires-clause-fields c =

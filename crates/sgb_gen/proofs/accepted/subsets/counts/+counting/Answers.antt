@@ -1,4 +1,4 @@
-use Rattle.std.proofs.Common.{◌≡◌, ◌+◌, ◌-◌, min, reverse, sum, refl, ap, ◌∙◌, inl, inr, arith, rules}
+use Rattle.std.proofs.Common.{◌≡◌, ◌+◌, ◌-◌, min, reverse, sum, refl, ap, ◌∙◌, inr, arith, rules}
 use Rattle.sgb_vec.specs.Limits.{most_vertices}
 use Rattle.sgb_vec.specs.Sums.{bounded_sums}
 use Rattle.sgb_vec.proofs.SumSuccessors.{sum-cons}
@@ -15,11 +15,6 @@ pub count_all-returns-then-not-may_be_wanted : goal.count_all-returns-then-not-m
 count_all-returns-then-not-may_be_wanted t c =
     let b = c.args.begun in
     among-unwanted b.size_bits b.common c.args.bounds.now c.args.x.now b.room b.shared b.left c.requires.begun c.if-not-may_be_wanted.ensures
-
-pub count_all-returns-in_default : goal.count_all-returns-in_default
-count_all-returns-in_default t c =
-    let b = c.args.begun in
-    among-ended b.size_bits b.common b.left c.args.bounds.now c.args.x.now c.requires.begun.within (inl c.in_default.ensures'.cases) (omega (arith, c.if-begun-eq0.false))
 
 pub count_all-returns-in_default-2 : goal.count_all-returns-in_default-2
 count_all-returns-in_default-2 t c =
