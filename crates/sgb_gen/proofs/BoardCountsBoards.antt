@@ -73,9 +73,7 @@ pub product-more : (sizes : List ℕ) (wrap : ℤ) (t : List ℤ) (l k product s
 product-more sizes wrap t l k product starts h i e so =
     let rest = product_from sizes wrap t l (k + 1) in
     let grouped : product * starts * rest ≡ product * (starts * rest) = omega arith in
-    cut_twice (product * starts) rest most_of_64 ∙ ap (λ n. min n most_of_64) grouped
-    ∙ ap (λ n. min (product * (n * rest)) most_of_64) e
-    ∙ ap (λ n. min (product * n) most_of_64) (sym (product-step sizes wrap t l k h i)) ∙ so
+    cc (cut_twice (product * starts) rest most_of_64, grouped, e, product-step sizes wrap t l k h i, so)
 
 pub product-all : (sizes : List ℕ) (wrap : ℤ) (t : List ℤ) (l k product : ℕ) → length sizes ≤ k → product ≤ most_of_64 → IsProductSoFar sizes wrap t l k product → product ≡ min (starts_product (sides_of sizes wrap) t l) most_of_64
 product-all sizes wrap t l k product h fits so =
@@ -90,8 +88,7 @@ home_from sizes wrap t l k = is_home (sides_from_bit k (drop k sizes) wrap) (dro
 
 pub home-step : (sizes : List ℕ) (wrap : ℤ) (t : List ℤ) (l k : ℕ) → k < length sizes → k < length t → home_from sizes wrap t l k ≡ (is_home_on (side_at sizes wrap k) (pos l *ℤ get_or t k (pos 0)) && home_from sizes wrap t l (k + 1))
 home-step sizes wrap t l k h i =
-    at_drop_more (λ s. is_home (sides_from_bit k s wrap) (drop k t) l) sizes k 0 h
-    ∙ at_drop_more (λ u. is_home (sides_from_bit k (get_or sizes k 0 ∷ drop (k + 1) sizes) wrap) u l) t k (pos 0) i
+    cc (at_drop_more (λ s. is_home (sides_from_bit k s wrap) (drop k t) l) sizes k 0 h, at_drop_more (λ u. is_home (sides_from_bit k (get_or sizes k 0 ∷ drop (k + 1) sizes) wrap) u l) t k (pos 0) i)
 
 -- ---- the places of a board
 
@@ -110,8 +107,7 @@ length_sides (n ∷ sizes) wrap k = ap suc (length_sides sizes wrap (k + 1))
 places_passing : (sizes : List ℕ) (wrap : ℤ) (t : List ℤ) (l : ℕ) → length t ≡ length sizes → passing (λ x. is_some (place (sides_of sizes wrap) x t l)) (box sizes) ≡ starts_product (sides_of sizes wrap) t l
 places_passing sizes wrap t l e =
     let sides = sides_of sizes wrap in
-    ap (λ ns. passing (λ x. is_some (place sides x t l)) (box ns)) (sym (sizes_of_sides 0 sizes wrap))
-    ∙ starts-product sides t l (e ∙ sym (length_sides sizes wrap 0))
+    cc (sizes_of_sides 0 sizes wrap, starts-product sides t l (e ∙ sym (length_sides sizes wrap 0)))
 
 -- where no side stops it, the product counts the places from which a piece moves
 pub counts-away : (sizes : List ℕ) (wrap piece : ℤ) (t : List ℤ) (l : ℕ) → length t ≡ length sizes → comes_home (sides_of sizes wrap) piece t l ≡ false → starts_product (sides_of sizes wrap) t l ≡ starts_count (sides_of sizes wrap) piece (box sizes) t l
@@ -159,15 +155,13 @@ pub beyond-all : (sizes : List ℕ) (wrap piece : ℤ) (t : List ℤ) → moves_
 beyond-all sizes wrap piece t =
     let sides = sides_of sizes wrap in
     let count : longest_move sides piece - 0 ≡ longest_move sides piece = omega arith in
-    ap (moves_left sides piece (box sizes) t 1) count
-    ∙ ap length (flat_map-same (λ x. moves_until x (destination sides piece x t) (range_with_len 1 (longest_move sides piece))) (λ x. moves_from sides piece x t) (λ x. sym (moves_from-until sides piece x t)) (box sizes))
+    rw (count, flat_map-same (λ x. moves_until x (destination sides piece x t) (range_with_len 1 (longest_move sides piece))) (λ x. moves_from sides piece x t) (λ x. sym (moves_from-until sides piece x t)) (box sizes))
 
 pub beyond-first : (sizes : List ℕ) (wrap piece : ℤ) (t : List ℤ) (k : ℕ) → k < longest_move (sides_of sizes wrap) piece → 0 < starts_count (sides_of sizes wrap) piece (box sizes) t (k + 1) → moves_beyond sizes wrap piece t k ≡ starts_count (sides_of sizes wrap) piece (box sizes) t (k + 1) + moves_beyond sizes wrap piece t (k + 1)
 beyond-first sizes wrap piece t k h some =
     let sides = sides_of sizes wrap in
     let count : longest_move sides piece - k ≡ suc (longest_move sides piece - (k + 1)) = omega arith in
-    ap (moves_left sides piece (box sizes) t (k + 1)) count
-    ∙ left-first sides piece (box sizes) t (k + 1) (longest_move sides piece - (k + 1)) (all_below sizes wrap) some
+    cc (count, left-first sides piece (box sizes) t (k + 1) (longest_move sides piece - (k + 1)) (all_below sizes wrap) some)
 
 pub beyond-none : (sizes : List ℕ) (wrap piece : ℤ) (t : List ℤ) (k : ℕ) → starts_count (sides_of sizes wrap) piece (box sizes) t (k + 1) ≡ 0 → moves_beyond sizes wrap piece t k ≡ 0
 beyond-none sizes wrap piece t k e =
@@ -198,8 +192,7 @@ step_read t l k u f g h = to_z-of_z w64 u f ∙ h ∙ ap (λ z. pos l *ℤ z) (t
 
 pub starts_read : (sizes : List ℕ) (wrap : ℤ) (t : List ℤ) (l k : ℕ) (wraps : Bool) (u : ℤ) (starts : ℕ) → SFits w64 u → SFits w32 (get_or t k (pos 0)) → wraps ≡ is_bit_set wrap k → u ≡ pos l *ℤ to_z w32 (of_z w32 (get_or t k (pos 0))) → starts ≡ starts_on (record { size = get_or sizes k 0; wraps = wraps }) (to_z w64 (of_z w64 u)) → starts ≡ starts_on (side_at sizes wrap k) (pos l *ℤ get_or t k (pos 0))
 starts_read sizes wrap t l k wraps u starts f g e h is =
-    is ∙ ap (λ z. starts_on (record { size = get_or sizes k 0; wraps = wraps }) z) (step_read t l k u f g h)
-    ∙ ap (λ b. starts_on (record { size = get_or sizes k 0; wraps = b }) (pos l *ℤ get_or t k (pos 0))) e
+    cc (is, step_read t l k u f g h, e)
 
 -- as many as places are below the greatest number of 64 bits
 pub product-exact : (sizes : List ℕ) (wrap : ℤ) (t : List ℤ) (l starts : ℕ) → length t ≡ length sizes → product_of sizes ≤ most_vertices → starts ≡ min (starts_product (sides_of sizes wrap) t l) most_of_64 → starts ≡ starts_product (sides_of sizes wrap) t l

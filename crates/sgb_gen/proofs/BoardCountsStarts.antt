@@ -69,16 +69,14 @@ side_starts false n (negsuc a) = backward n 0 n a (omega arith) ∙ omega arith
 
 -- of vectors with x in front those pass whose other entries do, if x does
 row_passing : (p : List ℕ → Bool) (b : Bool) (r : List ℕ → Bool) (x : ℕ) → ((v : List ℕ) → p (x ∷ v) ≡ (b && r v)) → (vs : List (List ℕ)) → passing p (map (λ v. x ∷ v) vs) ≡ cond b (passing r vs) 0
-row_passing p true r x e [] = refl
-row_passing p false r x e [] = refl
 row_passing p true r x e (v ∷ vs) =
     let rest = row_passing p true r x e vs in
-    passing_first (p (x ∷ v)) (x ∷ v) (filter p (map (λ w. x ∷ w) vs)) ∙ ap (λ b. cond b 1 0 + passing p (map (λ w. x ∷ w) vs)) (e v)
-    ∙ ap (λ n. cond (r v) 1 0 + n) rest ∙ sym (passing_first (r v) v (filter r vs))
+    cc (passing_first (p (x ∷ v)) (x ∷ v) (filter p (map (λ w. x ∷ w) vs)), e v, rest, passing_first (r v) v (filter r vs))
 row_passing p false r x e (v ∷ vs) =
     let rest = row_passing p false r x e vs in
     passing_first (p (x ∷ v)) (x ∷ v) (filter p (map (λ w. x ∷ w) vs)) ∙ ap (λ b. cond b 1 0 + passing p (map (λ w. x ∷ w) vs)) (e v)
     ∙ omega (arith, rest)
+row_passing p _ r x e _ = refl
 
 row_times : (b : Bool) (n m : ℕ) → cond b m 0 + n * m ≡ (cond b 1 0 + n) * m
 row_times true n m = omega arith

@@ -1,5 +1,5 @@
 -- The events of a board, as its moves are made one after another.
-use Rattle.std.proofs.Common.{◌≡◌, ℕ, ◌+◌, ◌<◌, ◌≤◌, ℤ, pos, nat_abs, List, [], ◌∷◌, ◌++◌, length, map, Some, None, sym, ap, ◌∙◌, ap₂}
+use Rattle.std.proofs.Common.{◌≡◌, ℕ, ◌+◌, ◌<◌, ◌≤◌, ℤ, pos, nat_abs, List, [], ◌∷◌, ◌++◌, length, map, Some, None, sym, ap, ◌∙◌}
 use Rattle.std.specs.List.{flat_map, slice_get}
 use Rattle.std.specs.Option.{option_map}
 use Rattle.sgb_vec.specs.Boxes.{box}
@@ -37,8 +37,7 @@ events_left-out b t x l h e =
 pub events_left-next : (b : BoardData) (t : List ℤ) (x : List ℕ) (l u v : ℕ) → l ≤ longest b → slice_get (box b.sizes) u ≡ Some x → option_map (vertex_among (box b.sizes)) (leads b x t l) ≡ Some v → events_left b t x l ≡ (record { from = u; to = v; len = pos l } ∷ []) ++ events_left b t x (l + 1)
 events_left-next b t x l u v h at e =
     let there = led_to (vertex_among (box b.sizes)) (leads b x t l) v e in
-    ap (map (event_among (box b.sizes))) (left-next b t x l there.0 h there.1)
-    ∙ ap₂ (λ i j. record { from = i; to = j; len = pos l } ∷ events_left b t x (l + 1)) (vertex_in_box b.sizes x u at) there.2
+    cc (left-next b t x l there.0 h there.1, vertex_in_box b.sizes x u at, there.2)
 
 -- the events of the moves by t, and those of all moves
 abbrev pub events_by : BoardData → List ℤ → List Event

@@ -30,8 +30,7 @@ moves_of b t x = moves_from (sides_of b.sizes b.wrap) b.piece x t
 pub left-all : (b : BoardData) (t : List ℤ) (x : List ℕ) → moves_left b t x 1 ≡ moves_of b t x
 left-all b t x =
     let count : longest b + 1 - 1 ≡ longest b = omega arith in
-    ap (λ n. moves_until x (leads b x t) (range_with_len 1 n)) count
-    ∙ sym (moves_from-until (sides_of b.sizes b.wrap) b.piece x t)
+    cc (count, moves_from-until (sides_of b.sizes b.wrap) b.piece x t)
 
 -- past the greatest length none are left
 pub left-none : (b : BoardData) (t : List ℤ) (x : List ℕ) (l : ℕ) → longest b < l → moves_left b t x l ≡ []

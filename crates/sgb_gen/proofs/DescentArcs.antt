@@ -59,12 +59,11 @@ common-most (h ∷ x) (e ∷ v) =
 
 common-least : (bs x v : List ℕ) → IsWithin x bs → IsWithin v bs → sum v + sum x ≤ common_size x v + sum bs
 common-least [] [] [] hx hv = omega arith
-common-least [] [] (e ∷ v) hx hv = absurd hv
 common-least [] (h ∷ x) v hx hv = absurd hx
 common-least (b ∷ bs) [] v hx hv = absurd hx
-common-least (b ∷ bs) (h ∷ x) [] hx hv = absurd hv
 common-least (b ∷ bs) (h ∷ x) (e ∷ v) hx hv =
     omega (arith, sum-cons h x, sum-cons e v, sum-cons b bs, hx.0, hv.0, common-least bs x v hx.1 hv.1)
+common-least _ _ _ hx hv = absurd hv
 
 -- where none of these sizes is wanted there are no arcs
 pub under-unwanted : (sb : ℕ) (front : List ℕ) (c : ℕ) (bs x : List ℕ) (room shared left : ℕ) → IsBegun bs x room shared left c
@@ -93,9 +92,8 @@ sums-zero (b ∷ bs) =
     ∙ ap (λ vs. reverse (map (λ v. 0 ∷ v) (reverse vs) ++ [])) (sums-zero bs)
 
 common-zero : (x bs : List ℕ) → common_size x (zeros bs) ≡ 0
-common-zero [] bs = refl
-common-zero (h ∷ x) [] = refl
 common-zero (h ∷ x) (b ∷ bs) = omega (arith, common-zero x bs)
+common-zero _ _ = refl
 
 made_one : (b : Bool) (front v : List ℕ) → map {B = LocalArc} (λ w. record { tip = front ++ w; len = pos 1 }) (cond b (v ∷ []) []) ≡ cond b (record { tip = front ++ v; len = pos 1 } ∷ []) []
 made_one true front v = refl
@@ -123,18 +121,14 @@ below (b ∷ bs) (x ∷ xs) = map (λ v. x ∷ v) (below bs xs) ++ rows (x + sum
 
 to-above : (bs x : List ℕ) → IsWithin x bs → down_to bs x ≡ above bs x ++ x ∷ []
 to-above [] [] h = refl
-to-above [] (x ∷ xs) h = absurd h
-to-above (b ∷ bs) [] h = absurd h
 to-above (b ∷ bs) (x ∷ xs) h =
-    ap (λ l. rows (x + sum xs) bs (x + 1) (b - x) ++ map (λ v. x ∷ v) l) (to-above bs xs h.1)
-    ∙ ap (λ l. rows (x + sum xs) bs (x + 1) (b - x) ++ l) (map-append (λ v. x ∷ v) (above bs xs) (xs ∷ []))
-    ∙ sym (append_assoc (rows (x + sum xs) bs (x + 1) (b - x)) (map (λ v. x ∷ v) (above bs xs)) ((x ∷ xs) ∷ []))
+    cc (to-above bs xs h.1, map-append (λ v. x ∷ v) (above bs xs) (xs ∷ []), append_assoc (rows (x + sum xs) bs (x + 1) (b - x)) (map (λ v. x ∷ v) (above bs xs)) ((x ∷ xs) ∷ []))
+to-above _ _ h = absurd h
 
 from-below : (bs x : List ℕ) → IsWithin x bs → down_from bs x ≡ x ∷ below bs x
 from-below [] [] h = refl
-from-below [] (x ∷ xs) h = absurd h
-from-below (b ∷ bs) [] h = absurd h
 from-below (b ∷ bs) (x ∷ xs) h = ap (λ l. map (λ v. x ∷ v) l ++ rows (x + sum xs) bs 0 x) (from-below bs xs h.1)
+from-below _ _ h = absurd h
 
 -- they are all
 parted : (bs x : List ℕ) → IsWithin x bs → reverse (bounded_sums (sum x) bs) ≡ above bs x ++ x ∷ below bs x
@@ -187,10 +181,7 @@ module _ (bs x : List ℕ) (h : IsWithin x bs) where
 
   whole : vectors ≡ reverse (below bs x) ++ x ∷ reverse (above bs x)
   whole =
-      sym (reverse-reverse vectors) ∙ ap reverse (parted bs x h)
-      ∙ reverse-append (above bs x) (x ∷ below bs x)
-      ∙ ap (λ l. l ++ reverse (above bs x)) (reverse-first x (below bs x))
-      ∙ append_assoc (reverse (below bs x)) (x ∷ []) (reverse (above bs x))
+      cc (reverse-reverse vectors, parted bs x h, reverse-append (above bs x) (x ∷ below bs x), reverse-first x (below bs x), append_assoc (reverse (below bs x)) (x ∷ []) (reverse (above bs x)))
 
   place : vertex_among vectors x ≡ length (reverse (below bs x))
   place =
@@ -201,11 +192,7 @@ module _ (bs x : List ℕ) (h : IsWithin x bs) where
 
   pub to-dropped : reverse (drop (vertex_among vectors x) vectors) ≡ down_to bs x
   to-dropped =
-      ap (λ vs. reverse (drop (vertex_among vectors x) vs)) whole
-      ∙ ap reverse (drop_at (reverse (below bs x)) (x ∷ reverse (above bs x)) (vertex_among vectors x) (sym place))
-      ∙ reverse-first x (reverse (above bs x))
-      ∙ ap (λ l. l ++ x ∷ []) (reverse-reverse (above bs x))
-      ∙ sym (to-above bs x h)
+      cc (whole, drop_at (reverse (below bs x)) (x ∷ reverse (above bs x)) (vertex_among vectors x) (sym place), reverse-first x (reverse (above bs x)), reverse-reverse (above bs x), to-above bs x h)
 
   pub from-taken : reverse (take (vertex_among vectors x + 1) vectors) ≡ down_from bs x
   from-taken =
@@ -223,8 +210,7 @@ module _ (bs x : List ℕ) (h : IsWithin x bs) where
   pub walk-descended : (directed : Bool) (sb : ℕ) → arcs_by_walk directed sb vectors x ≡ arcs_under sb [] 0 x (down_to bs x) ++ cond directed [] (arcs_under sb [] 0 x (down_from bs x))
   walk-descended true sb = arcs_alike sb (reverse (drop (vertex_among vectors x) vectors)) ∙ ap (arcs_under sb [] 0 x) to-dropped ∙ sym (append-nil (arcs_under sb [] 0 x (down_to bs x)))
   walk-descended false sb =
-      ap₂ (λ a b. a ++ b) (arcs_alike sb (reverse (drop (vertex_among vectors x) vectors)) ∙ ap (arcs_under sb [] 0 x) to-dropped)
-      (arcs_alike sb (reverse (take (vertex_among vectors x + 1) vectors)) ∙ ap (arcs_under sb [] 0 x) from-taken)
+      cc (arcs_alike sb (reverse (drop (vertex_among vectors x) vectors)), to-dropped, arcs_alike sb (reverse (take (vertex_among vectors x + 1) vectors)), from-taken)
 
 -- ---- steps of the descent
 
@@ -234,10 +220,9 @@ HasEnded bs x = (length x ≡ 0) ⊎ (length bs ≡ 0)
 
 both_ended : (bs x : List ℕ) → IsWithin x bs → HasEnded bs x → (bs ≡ []) × (x ≡ [])
 both_ended [] [] h none = (refl, refl)
-both_ended [] (x ∷ xs) h none = absurd h
-both_ended (b ∷ bs) [] h none = absurd h
 both_ended (b ∷ bs) (x ∷ xs) h (inl e) = absurd (omega arith)
 both_ended (b ∷ bs) (x ∷ xs) h (inr e) = absurd (omega arith)
+both_ended _ _ h none = absurd h
 
 pub ended-zero : (bs x : List ℕ) → IsWithin x bs → HasEnded bs x → sum x ≡ 0
 ended-zero bs x h none = ap sum (both_ended bs x h none).1

@@ -68,22 +68,17 @@ module _ (sb room shared left c b h : ℕ) (front bounds x : List ℕ) (begun : 
 pub front-placed : (tip x xs : List ℕ) (h e place : ℕ) → x ≡ h ∷ xs → length x ≤ length tip → place ≡ length tip - length x → front_of (set tip place e) xs ≡ front_of tip x ++ e ∷ []
 front-placed tip x xs h e place x_is fits at =
     let long : length x ≡ length xs + 1 = ap length x_is ∙ omega arith in
-    ap (λ n. take (n - length xs) (set tip place e)) (length-set tip place e)
-    ∙ take-set_at tip place (length tip - length xs) e (omega (arith, at, long, fits)) (omega (arith, at, long, fits))
-    ∙ ap (λ n. take n tip ++ e ∷ []) at
+    cc (length-set tip place e, take-set_at tip place (length tip - length xs) e (omega (arith, at, long, fits)) (omega (arith, at, long, fits)), at)
 
 -- what stands before it stays
 pub front-kept : (tip x : List ℕ) (place e : ℕ) → length tip - length x ≤ place → front_of (set tip place e) x ≡ front_of tip x
 front-kept tip x place e from =
-    ap (λ n. take (n - length x) (set tip place e)) (length-set tip place e)
-    ∙ take-set-le (length tip - length x) tip place e from
+    cc (length-set tip place e, take-set-le (length tip - length x) tip place e from)
 
 -- what begins alike begins alike with an entry less
 pub front-shorter : (new tip x xs : List ℕ) → length new ≡ length tip → length xs ≤ length x → front_of new xs ≡ front_of tip xs → front_of new x ≡ front_of tip x
 front-shorter new tip x xs same shorter alike =
-    sym (take-take (length new - length x) (length new - length xs) new (omega arith))
-    ∙ ap₂ (λ n l. take (n - length x) l) same alike
-    ∙ take-take (length tip - length x) (length tip - length xs) tip (omega arith)
+    cc (take-take (length new - length x) (length new - length xs) new (omega arith), same, alike, take-take (length tip - length x) (length tip - length xs) tip (omega arith))
 
 -- ---- ranges of entries, one entry more
 

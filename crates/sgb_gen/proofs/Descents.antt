@@ -18,10 +18,7 @@ use Rattle.sgb_gen.specs.inner.Descents.{row, rows}
 reverse-front : (e : ℕ) (vs : List (List ℕ)) → reverse (map (λ v. e ∷ v) vs) ≡ map (λ v. e ∷ v) (reverse vs)
 reverse-front e [] = refl
 reverse-front e (v ∷ vs) =
-    reverse-first (e ∷ v) (map (λ w. e ∷ w) vs)
-    ∙ ap (λ l. l ++ (e ∷ v) ∷ []) (reverse-front e vs)
-    ∙ sym (map-append (λ w. e ∷ w) (reverse vs) (v ∷ []))
-    ∙ ap (map (λ w. e ∷ w)) (sym (reverse-first v vs))
+    cc (reverse-first (e ∷ v) (map (λ w. e ∷ w) vs), reverse-front e vs, map-append (λ w. e ∷ w) (reverse vs) (v ∷ []), reverse-first v vs)
 
 -- tests of sums with an entry in front
 sum_test : (e r : ℕ) (v : List ℕ) → e ≤ r → eqb (sum (e ∷ v)) r ≡ eqb (sum v) (r - e)

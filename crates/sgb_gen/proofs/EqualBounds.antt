@@ -43,10 +43,7 @@ count-own xs i k h = count_of_sum-remove xs i k h ∙ count_of_sum-cons (get_or 
 
 count-set : (xs : List ℕ) (i c k : ℕ) → i < length xs → count_of_sum k (set xs i c) ≡ window c (λ j. count_of_sum j (remove xs i)) k
 count-set xs i c k h =
-    count_of_sum-remove (set xs i c) i k (omega (arith, length-set xs i c, h))
-    ∙ ap (λ b. count_of_sum k (b ∷ remove (set xs i c) i)) (get_or-set_same xs i c 0 h)
-    ∙ ap (λ ys. count_of_sum k (c ∷ ys)) (remove-set_same xs i c h)
-    ∙ count_of_sum-cons c (remove xs i) k
+    cc (count_of_sum-remove (set xs i c) i k (omega (arith, length-set xs i c, h)), get_or-set_same xs i c 0 h, remove-set_same xs i c h, count_of_sum-cons c (remove xs i) k)
 
 -- ---- two bounds taken out
 

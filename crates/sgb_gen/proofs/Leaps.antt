@@ -75,8 +75,7 @@ module _ (b : BoardData) (t : List ℤ) (x : List ℕ) (there : Contains (box b.
   others-one : (y : List ℕ) (v : ℕ) → leads b x (opposite t) 1 ≡ Some y → vertex_among (box b.sizes) y ≡ v → (v ≡ own_vertex → ⊥) → others ≡ (v, 1) ∷ []
   others-one y v e is apart =
       let passes : far (move x 1 y) ≡ true = ap (λ n. not (n == own_vertex)) is ∙ ap not (ne_eqb v own_vertex apart) in
-      ap (map (λ m. (vertex_among (box b.sizes) m.to, m.len))) (one_that far (move x 1 y) (moves_of b (opposite t) x) [] (one_move (opposite t) y e) passes)
-      ∙ ap (λ (n : ℕ). (n, 1) ∷ []) is
+      cc (one_that far (move x 1 y) (moves_of b (opposite t) x) [] (one_move (opposite t) y e) passes, is)
 
   others-own : (y : List ℕ) (v : ℕ) → leads b x (opposite t) 1 ≡ Some y → vertex_among (box b.sizes) y ≡ v → v ≡ own_vertex → others ≡ []
   others-own y v e is same =

@@ -24,8 +24,7 @@ slice_get-arcs_in width tips (n ∷ lens) zero h =
     ap (λ k. Some (record { tip = take width (drop k tips); len = pos n })) start
 slice_get-arcs_in width tips (n ∷ lens) (suc i) h =
     let start : width + i * width ≡ suc i * width = omega arith in
-    slice_get-arcs_in width (drop width tips) lens i (omega arith)
-    ∙ ap (λ row. Some (record { tip = take width row; len = pos (get_or lens i 0) })) (drop-drop (i * width) width tips ∙ ap (λ k. drop k tips) start)
+    cc (slice_get-arcs_in width (drop width tips) lens i (omega arith), drop-drop (i * width) width tips, start)
 
 -- no entries
 no_entries : (xs : List ℕ) → length xs ≡ 0 → xs ≡ []
@@ -36,8 +35,7 @@ no_entries (x ∷ xs) e = absurd (omega arith)
 pub arcs_in-push : (width : ℕ) (tips lens tip : List ℕ) (n : ℕ) → length tips ≡ length lens * width → length tip ≡ width → arcs_in width (tips ++ tip) (lens ++ n ∷ []) ≡ arcs_in width tips lens ++ record { tip = tip; len = pos n } ∷ []
 arcs_in-push width tips [] tip n long wide =
     let none : tips ≡ [] = no_entries tips (omega arith) in
-    ap (λ ts. record { tip = take width (ts ++ tip); len = pos n } ∷ []) none
-    ∙ ap (λ row. record { tip = row; len = pos n } ∷ []) (take_all width tip (omega arith))
+    cc (none, take_all width tip (omega arith))
 arcs_in-push width tips (m ∷ lens) tip n long wide =
     let room : width ≤ length tips = omega arith in
     let first : take width (tips ++ tip) ≡ take width tips = take-append-le width tips tip room in
@@ -65,9 +63,7 @@ put-moved : (f : List ℕ → List ℕ) (kept x all moved : List ℕ) (start : �
 put-moved f kept x all moved start all_is start_is moved_is =
     let before : take start all ≡ kept = ap (take start) all_is ∙ ap (λ k. take k (kept ++ x)) start_is ∙ take-append_seam kept x in
     let after : drop (length all - start) (drop start all) ≡ [] = drop_all (length all - start) (drop start all) (omega (arith, length-drop start all)) in
-    ap (λ front. front ++ (moved ++ drop (length all - start) (drop start all))) before
-    ∙ ap (λ back. kept ++ (moved ++ back)) after
-    ∙ ap (λ row. kept ++ row) (append-nil moved ∙ moved_is ∙ ap f (last_row kept x all start all_is start_is))
+    cc (before, after, append-nil moved, moved_is, last_row kept x all start all_is start_is)
 
 last_moved : {Z : Type 0} (f : List ℕ → List ℕ) (v : Vec ℕ Z) (kept x all moved : List ℕ) (start : ℕ) → ((row : List ℕ) → length (f row) ≡ length row) → v.items ≡ kept ++ x → all ≡ v.items → vec_len v ≡ length v.items → start ≡ length kept
     → moved ≡ f (take (length all - start) (drop start all))

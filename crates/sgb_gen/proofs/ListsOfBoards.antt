@@ -122,8 +122,7 @@ pub directed_onward : (b : BoardData) (x : List ℕ) (t : List ℤ) → IsBelow 
     → map move_arc (moves_from (sides_of b.sizes b.wrap) b.piece x t) ≡ arcs_onward b.directed x (moves_by (sides_of b.sizes b.wrap) b.piece (box b.sizes) t)
 directed_onward b x t below directed =
     let sides = sides_of b.sizes b.wrap in
-    sym (onward_by_own sides b.piece t x (box b.sizes) (box_vectors_rise b.sizes) (Contains-from_IsBelow b.sizes x below))
-    ∙ ap (λ d. arcs_onward d x (moves_by sides b.piece (box b.sizes) t)) directed
+    cc (onward_by_own sides b.piece t x (box b.sizes) (box_vectors_rise b.sizes) (Contains-from_IsBelow b.sizes x below), directed)
 
 -- ---- the moves of a board have their ends on it
 
@@ -158,8 +157,7 @@ ends_on_board b =
 -- the list of a vector is what all moves make one after another, turned round
 pub list_of_board : (b : BoardData) (x : List ℕ) → Contains (board_vectors b) x → list_at b.directed (board_vectors b) (moves_of_board b) x ≡ reverse (arcs_onward b.directed x (moves_of_board b))
 list_of_board b x there =
-    list_at-moves (board_vectors b) (box_vectors_rise b.sizes) b.directed x (moves_of_board b) there (ends_on_board b)
-    ∙ list_turned b.directed x (moves_of_board b)
+    cc (list_at-moves (board_vectors b) (box_vectors_rise b.sizes) b.directed x (moves_of_board b) there (ends_on_board b), list_turned b.directed x (moves_of_board b))
 
 -- what the moves by one displacement make stands before what those by the others make
 pub onward-first : (directed : Bool) (x : List ℕ) (sides : List Side) (piece : ℤ) (vectors : List (List ℕ)) (t : List ℤ) (ts : List (List ℤ))

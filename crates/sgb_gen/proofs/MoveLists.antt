@@ -68,8 +68,7 @@ links_of_edge g v k a b n =
 pub arcs-append : (directed : Bool) (x : List ℕ) (ms ns : List Move) → arcs_of_moves directed x (ms ++ ns) ≡ arcs_of_moves directed x ns ++ arcs_of_moves directed x ms
 arcs-append directed x [] ns = sym (append-nil (arcs_of_moves directed x ns))
 arcs-append directed x (m ∷ ms) ns =
-    ap (λ l. l ++ arcs_by directed x m) (arcs-append directed x ms ns)
-    ∙ append_assoc (arcs_of_moves directed x ns) (arcs_of_moves directed x ms) (arcs_by directed x m)
+    cc (arcs-append directed x ms ns, append_assoc (arcs_of_moves directed x ns) (arcs_of_moves directed x ms) (arcs_by directed x m))
 
 module _ (vectors : List (List ℕ)) (rise : IsRising vectors) where
   vector_back : (a : List ℕ) → Contains vectors a → get_or vectors (vertex_among vectors a) [] ≡ a

@@ -51,8 +51,7 @@ rising_same (v ∷ vs) (w ∷ ws) hv hw there back =
 
 -- a vector is before another where the first entries are alike and the next one is less
 pub before_at : (v w : List ℕ) (p : ℕ) → ((i : ℕ) → i < p → get_or v i 0 ≡ get_or w i 0) → get_or v p 0 < get_or w p 0 → p < length v → p < length w → IsBefore v w
-before_at [] w p alike less in_v in_w = absurd (omega arith)
-before_at (x ∷ v) [] p alike less in_v in_w = absurd (omega arith)
 before_at (x ∷ v) (y ∷ w) zero alike less in_v in_w = IsBefore-less x y v w less
 before_at (x ∷ v) (y ∷ w) (suc p) alike less in_v in_w =
     IsBefore-same x y v w (alike 0 (omega arith)) (before_at v w p (λ i h. alike (suc i) (omega arith)) less (omega arith) (omega arith))
+before_at _ _ p alike less in_v in_w = absurd (omega arith)

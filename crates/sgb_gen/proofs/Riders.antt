@@ -70,8 +70,6 @@ first_factor (suc m) n h = omega arith
 -- at a length that the number of places divides the place does not exist or is the start
 places : (sides : List Side) (x : List ℕ) (t : List ℤ) (m l : ℕ) → l ≡ m * places_count sides → 0 < l → IsBelow x (map (λ s. s.size) sides) → OutOrHome (place sides x t l) x
 places [] [] t m l e p b = inr refl
-places [] (y ∷ x) t m l e p b = absurd b
-places (s ∷ sides) [] t m l e p b = absurd b
 places (s ∷ sides) (y ∷ x) [] m l e p b = inl refl
 places (s ∷ sides) (y ∷ x) (u ∷ t) m l e p b =
     let q = m * places_count sides in
@@ -80,15 +78,15 @@ places (s ∷ sides) (y ∷ x) (u ∷ t) m l e p b =
     let here = subst (λ k. OutOrHome (coordinate_on s (pos y +ℤ pos k *ℤ u)) y) whole (coordinates s q y u b.0 (first_factor q s.size some)) in
     let rest = places sides x t (m * s.size) l (omega arith) p b.1 in
     home_in_front (coordinate_on s (pos y +ℤ pos l *ℤ u)) (place sides x t l) y x here rest
+places _ _ t m l e p b = absurd b
 
 -- a board that has a place has more than none
 places_count-pos : (sides : List Side) (x : List ℕ) → IsBelow x (map (λ s. s.size) sides) → 0 < places_count sides
 places_count-pos [] [] b = omega arith
-places_count-pos [] (y ∷ x) b = absurd b
-places_count-pos (s ∷ sides) [] b = absurd b
 places_count-pos (s ∷ sides) (y ∷ x) b =
     let rest = places_count-pos sides x b.1 in
     omega (arith, b.0, mul-le 1 1 s.size (places_count sides) (omega (arith, b.0)) (omega arith))
+places_count-pos _ _ b = absurd b
 
 -- out or home is not elsewhere
 not_elsewhere : (x : List ℕ) (p : Option (List ℕ)) → OutOrHome p x → is_elsewhere x p ≡ false

@@ -1,6 +1,5 @@
 -- The list of a board's vertex, run by run.
 use Rattle.std.proofs.Common.{◌≡◌, ℕ, ◌+◌, ℤ, nat_abs, true, false, Bool, List, [], ◌∷◌, ◌++◌, length, reverse, take, sym, ap, subst, ◌∙◌, append-nil}
-use Rattle.std.specs.Prelude.{if◌then◌else◌}
 use Rattle.std.specs.List.{All, flat_map, slice_get}
 use Rattle.std.specs.Prelude.{Some}
 use Rattle.std.proofs.lemmas.Grind.{flat_map-append}
@@ -41,27 +40,21 @@ first_last b x t ts =
 pub directed_run : (b : BoardData) (x : List ℕ) (t : List ℤ) → b.directed ≡ true → IsBelow x b.sizes
     → reverse (arcs_onward b.directed x (moves_by (sides_of b.sizes b.wrap) b.piece (box b.sizes) t)) ≡ reverse (arcs_from b x t) ++ arcs_back b x (opposite t)
 directed_run b x t directed below =
-    ap reverse (sym (directed_onward b x t below (sym directed)))
-    ∙ sym (append-nil (reverse (arcs_from b x t)))
-    ∙ ap (λ (d : Bool). reverse (arcs_from b x t) ++ (if d then [] else arcs_from b x (opposite t))) (sym directed)
+    cc (directed_onward b x t below (sym directed), append-nil (reverse (arcs_from b x t)), directed)
 
 -- where there are edges, both
 pub edges_run : (b : BoardData) (x : List ℕ) (t : List ℤ) → b.directed ≡ false
     → reverse (arcs_onward false x (moves_by (sides_of b.sizes b.wrap) b.piece (box b.sizes) t)) ≡ reverse (arcs_from b x t) ++ arcs_from b x (opposite t)
     → reverse (arcs_onward b.directed x (moves_by (sides_of b.sizes b.wrap) b.piece (box b.sizes) t)) ≡ reverse (arcs_from b x t) ++ arcs_back b x (opposite t)
 edges_run b x t directed both =
-    ap (λ (d : Bool). reverse (arcs_onward d x (moves_by (sides_of b.sizes b.wrap) b.piece (box b.sizes) t))) directed
-    ∙ both
-    ∙ ap (λ (d : Bool). reverse (arcs_from b x t) ++ (if d then [] else arcs_from b x (opposite t))) (sym directed)
+    cc (directed, both)
 
 pub edges_in_order : (b : BoardData) (x : List ℕ) (t : List ℤ) → IsBelow x b.sizes → length t ≡ length b.sizes → leads_onward b.wrap 0 t ≡ true
     → reverse (arcs_onward false x (moves_by (sides_of b.sizes b.wrap) b.piece (box b.sizes) t)) ≡ reverse (arcs_from b x t) ++ arcs_from b x (opposite t)
 edges_in_order b x t below long onward =
     let ahead = arcs_from b x t in
     let behind = arcs_from b x (opposite t) in
-    ap reverse (onward_in_order b t x (Contains-from_IsBelow b.sizes x below) long onward)
-    ∙ reverse-append (reverse behind) ahead
-    ∙ ap (λ ls. reverse ahead ++ ls) (reverse-reverse behind)
+    cc (onward_in_order b t x (Contains-from_IsBelow b.sizes x below) long onward, reverse-append (reverse behind) ahead, reverse-reverse behind)
 
 -- where a displacement leads onward, its arcs are those ahead, the longest first, and then those back
 pub onward_run : (b : BoardData) (x : List ℕ) (t : List ℤ) (d : Bool) → b.directed ≡ d → IsBelow x b.sizes → length t ≡ length b.sizes → leads_onward b.wrap 0 t ≡ true
@@ -73,9 +66,7 @@ onward_run b x t false directed below long onward = edges_run b x t directed (ed
 pub next_run_first : (b : BoardData) (x : List ℕ) (ts : List (List ℤ)) (k : ℕ) (t : List ℤ) → slice_get ts k ≡ Some t → IsRun b x t
     → arcs_by_all b x (take (k + 1) ts) ≡ reverse (arcs_from b x t) ++ arcs_back b x (opposite t) ++ arcs_by_all b x (take k ts)
 next_run_first b x ts k t at run =
-    ap (arcs_by_all b x) (take_more ts k t (slice_get_within ts k t at) ∙ ap (λ u. take k ts ++ u ∷ []) (get_or_from_slice_get ts k t t at))
-    ∙ last_first b x (take k ts) t
-    ∙ ap (λ ls. ls ++ arcs_by_all b x (take k ts)) run.arcs
+    cc (take_more ts k t (slice_get_within ts k t at), get_or_from_slice_get ts k t t at, last_first b x (take k ts) t, run.arcs)
 
 -- one of them has what all have
 pub at_has : (P : List ℤ → Type 0) (ts : List (List ℤ)) (k : ℕ) (t : List ℤ) → All P ts → slice_get ts k ≡ Some t → P t

@@ -15,10 +15,9 @@ IsWithin-set (y ∷ v) (b ∷ bounds) (suc i) x h le = (h.0, IsWithin-set v boun
 -- an entry is within its bound
 pub entry_within : (v bounds : List ℕ) (i : ℕ) → IsWithin v bounds → get_or v i 0 ≤ get_or bounds i 0
 entry_within [] [] i h = omega arith
-entry_within [] (b ∷ bounds) i h = absurd h
-entry_within (y ∷ v) [] i h = absurd h
 entry_within (y ∷ v) (b ∷ bounds) zero h = h.0
 entry_within (y ∷ v) (b ∷ bounds) (suc i) h = entry_within v bounds i h.1
+entry_within _ _ i h = absurd h
 
 -- the shifted vector is within the bounds and has the same sum
 pub shifted-in_sum : (bounds v : List ℕ) (at : Places) → at.lower < at.higher → at.higher < length v → can_shift bounds v at ≡ true → IsWithin v bounds → IsWithin (shifted v at) bounds × (sum (shifted v at) ≡ sum v)

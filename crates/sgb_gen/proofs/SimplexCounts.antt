@@ -155,8 +155,7 @@ moves-by_pairs s (at ∷ ps) = moves_parted s.bounds at ps (bounded_sums s.total
 moves_same : (bounds : List ℕ) (n : ℕ) (xs : List (List ℕ)) → All (λ x. length x ≡ n) xs → flat_map (moves_to bounds) xs ≡ flat_map (λ x. moves_by bounds x (pairs_of_places n)) xs
 moves_same bounds n [] long = refl
 moves_same bounds n (x ∷ xs) long =
-    ap (λ m. moves_by bounds x (pairs_of_places m) ++ flat_map (moves_to bounds) xs) (All-head (λ y. length y ≡ n) x xs long)
-    ∙ ap (λ ms. moves_by bounds x (pairs_of_places n) ++ ms) (moves_same bounds n xs (All-tail (λ y. length y ≡ n) x xs long))
+    cc (All-head (λ y. length y ≡ n) x xs long, moves_same bounds n xs (All-tail (λ y. length y ≡ n) x xs long))
 
 -- the moves of a simplex
 pub moves-counted : (s : SimplexData) → length (moves_of_simplex s) ≡ shifts_by s.sum (pairs_of_places (length s.sum.bounds))

@@ -36,9 +36,7 @@ events_by-append s x ps qs =
     let can : Places → Bool = can_shift s.sum.bounds x in
     let move : Places → Move = λ at. record { from = shifted x at; to = x; len = 1 } in
     let event : Move → Event = event_among (simplex_vectors s) in
-    ap (λ ats. map event (map move ats)) (filter-append can ps qs)
-    ∙ ap (map event) (map-append move (filter can ps) (filter can qs))
-    ∙ map-append event (map move (filter can ps)) (map move (filter can qs))
+    cc (filter-append can ps qs, map-append move (filter can ps) (filter can qs), map-append event (map move (filter can ps)) (map move (filter can qs)))
 
 -- where the vertex x becomes leads, as the code returns it
 abbrev pub vertex_by : SimplexData → List ℕ → Places → Option ℕ

@@ -159,8 +159,7 @@ module _ (bounds x : List ℕ) where
       ≡ map unit_arc (reverse (map (λ p. v) (cond (c && d) (at ∷ filter (hits v) ps) (filter (hits v) ps))))
   move_first directed v at ps other rest false d is_c is_d = rest
   move_first directed v at ps other rest true false is_c is_d =
-      ap (λ l. arcs_of_moves directed x (moves_by bounds v ps) ++ l) (arc_of_move directed (shifted v at) v other ∙ ap (λ b. arc_if b v 1) (sym is_d))
-      ∙ append-nil (arcs_of_moves directed x (moves_by bounds v ps)) ∙ rest
+      cc (arc_of_move directed (shifted v at) v other, is_d, append-nil (arcs_of_moves directed x (moves_by bounds v ps)), rest)
   move_first directed v at ps other rest true true is_c is_d =
       ap (λ l. arcs_of_moves directed x (moves_by bounds v ps) ++ l) (arc_of_move directed (shifted v at) v other ∙ ap (λ b. arc_if b v 1) (sym is_d))
       ∙ ap (λ l. l ++ unit_arc v ∷ []) rest

@@ -33,13 +33,11 @@ arc_placed b x t l = arc_along b.sizes b.wrap x (parts_of t) l
 module _ (b : BoardData) (x : List ℕ) (t : List ℤ) (below : IsBelow x b.sizes) (long : length t ≡ length b.sizes) (away : NeverHome b x t) where
   pub leads_on : (l : ℕ) → 0 < l → parts_stay b.sizes b.wrap x l (parts_of t) ≡ true → leads b x t l ≡ Some (parts_put b.sizes b.wrap x l (parts_of t) x)
   leads_on l some stay =
-      away l some ∙ place_by_parts b.sizes b.wrap x t l below long
-      ∙ ap (λ c. cond c (Some (parts_put b.sizes b.wrap x l (parts_of t) x)) None) stay
+      cc (away l some, place_by_parts b.sizes b.wrap x t l below long, stay)
 
   leads_out : (l : ℕ) → 0 < l → parts_stay b.sizes b.wrap x l (parts_of t) ≡ false → leads b x t l ≡ None
   leads_out l some out =
-      away l some ∙ place_by_parts b.sizes b.wrap x t l below long
-      ∙ ap (λ c. cond c (Some (parts_put b.sizes b.wrap x l (parts_of t) x)) None) out
+      cc (away l some, place_by_parts b.sizes b.wrap x t l below long, out)
 
   -- where the next length leads out, no moves are left after it
   left-past : (n l : ℕ) → n ≤ longest b → l ≡ n + 1 → (n < longest b → parts_stay b.sizes b.wrap x (n + 1) (parts_of t) ≡ false) → moves_left b t x l ≡ []

@@ -1,5 +1,5 @@
 -- The moves of subsets counted: by the descent from each vector down to the first one.
-use Rattle.std.proofs.Common.{◌≡◌, ℕ, suc, ◌+◌, ◌-◌, ◌*◌, ◌<◌, ◌≤◌, min, pos, Bool, true, false, not, cond, List, [], ◌∷◌, ◌++◌, length, map, filter, reverse, take, drop, sum, Some, refl, sym, ap, ap₂, subst, ◌∙◌, arith, length-append}
+use Rattle.std.proofs.Common.{◌≡◌, ℕ, suc, ◌+◌, ◌-◌, ◌*◌, ◌<◌, ◌≤◌, min, pos, Bool, true, false, not, cond, List, [], ◌∷◌, ◌++◌, length, map, filter, reverse, take, drop, sum, Some, refl, sym, ap, subst, ◌∙◌, arith, length-append}
 use Rattle.std.specs.List.{flat_map, range_with_len, slice_get}
 use Rattle.std.specs.Prelude.{slice_index_or}
 use Rattle.std.proofs.Math.Path.{fun_ext}
@@ -121,11 +121,7 @@ pub among-from : (sb c left b h lower others : ℕ) (bs xs bounds x : List ℕ) 
 among-from sb c left b h lower others bs xs bounds x bounds_are x_is adds lower_is others_is =
     let whole : left ≡ h + sum xs = adds ∙ ap sum x_is ∙ sum-cons h xs in
     let own = among-same sb [] ([] ++ h ∷ []) c (c + min h h) (h ∷ xs) xs _ _ (under-front sb [] c h xs h (down_from bs xs)) in
-    ap₂ (λ m n. m + n)
-    (others_is ∙ sym own)
-    (lower_is ∙ ap (λ n. wanted_among sb c (h ∷ xs) (rows n bs 0 h)) whole)
-    ∙ sym (ap₂ (λ cs v. wanted_among sb c v (down_from cs v)) bounds_are x_is
-    ∙ among-append sb c (h ∷ xs) (map (λ v. h ∷ v) (down_from bs xs)) (rows (h + sum xs) bs 0 h))
+    cc (others_is, own, lower_is, whole, among-append sb c (h ∷ xs) (map (λ v. h ∷ v) (down_from bs xs)) (rows (h + sum xs) bs 0 h), bounds_are, x_is)
 
 -- what is known with one more entry
 pub begun-on : (room shared left c b h e : ℕ) (bs xs bounds x : List ℕ) → bounds ≡ b ∷ bs → x ≡ h ∷ xs → e ≤ left → IsBegun bounds x room shared left c → IsBegun bs xs (room - b) (shared - h) (left - e) (c + min h e)
@@ -156,9 +152,7 @@ row-few r low n k bs less =
 length-row : (r e : ℕ) (bs : List ℕ) → e ≤ r → length (row r bs e) ≡ length (bounded_sums (r - e) bs)
 length-row r e bs within =
     let longer : List ℕ → List ℕ = λ v. e ∷ v in
-    ap length (row-within r e bs within)
-    ∙ length-map (reverse (bounded_sums (r - e) bs)) longer
-    ∙ length-reverse (bounded_sums (r - e) bs)
+    cc (row-within r e bs within, length-map (reverse (bounded_sums (r - e) bs)) longer, length-reverse (bounded_sums (r - e) bs))
 
 -- so few go on with an entry
 pub few-after : (r low n k most : ℕ) (bs : List ℕ) → k < n → low + k ≤ r → length (rows r bs low n) ≤ most → length (bounded_sums (r - (low + k)) bs) ≤ most
@@ -172,9 +166,6 @@ pub few-counted : (sb c r h low n k counted more most : ℕ) (bs x : List ℕ) �
 few-counted sb c r h low n k counted more most bs x less within so_far is few =
     omega (
       arith,
-      few,
-      so_far,
-      is,
       row-few r low n k bs less,
       length-row r (low + k) bs within,
       among-most sb c (h ∷ x) (rows r bs low k),
@@ -254,8 +245,7 @@ moves_from s (v ∷ vs) k is =
     let vectors = subsets_vectors s in
     let here = moves_at s k v (at_front vectors (v ∷ vs) k v is refl) in
     let rest = moves_from s vs (k + 1) (next_left vectors (v ∷ vs) vs k is refl) in
-    length-append (moves_to_place s.size_bits vectors k) (flat_map (moves_to_place s.size_bits vectors) (range_with_len (k + 1) (length vs)))
-    ∙ ap₂ (λ m n. m + n) here rest
+    cc (length-append (moves_to_place s.size_bits vectors k) (flat_map (moves_to_place s.size_bits vectors) (range_with_len (k + 1) (length vs))), here, rest)
 
 pub moves-counted : (s : SubsetsData) → length (moves_of_subsets s) ≡ moves_among s.size_bits s.sum.bounds (subsets_vectors s)
 unfolding moves_of_subsets
@@ -281,7 +271,6 @@ moves-few s few =
     let vectors = subsets_vectors s in
     omega (
       arith,
-      few,
       length-range_with_len 0 (length vectors),
       few_joined (moves_to_place s.size_bits vectors) (λ i. omega (arith, few, few_to_place s i)) (range_with_len 0 (length vectors)),
     )

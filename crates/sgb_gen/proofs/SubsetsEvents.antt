@@ -54,8 +54,7 @@ between-next vectors i j u h at =
 -- at place i the event from there comes first
 pub events_to-next : (s : SubsetsData) (u v : List ℕ) (i j : ℕ) → i ≤ j → slice_get (subsets_vectors s) i ≡ Some u → slice_get (subsets_vectors s) j ≡ Some v → events_to s v (vectors_between (subsets_vectors s) i j) ≡ event_of_size s.size_bits i j (common_size u v) ++ events_to s v (vectors_between (subsets_vectors s) (i + 1) j)
 events_to-next s u v i j h at_u at_v =
-    ap (events_to s v) (between-next (subsets_vectors s) i j u h at_u)
-    ∙ events_to-first s u v (vectors_between (subsets_vectors s) (i + 1) j) i j at_u at_v
+    cc (between-next (subsets_vectors s) i j u h at_u, events_to-first s u v (vectors_between (subsets_vectors s) (i + 1) j) i j at_u at_v)
 
 -- past place j none are left
 pub events_to-none : (s : SubsetsData) (v : List ℕ) (i j : ℕ) → j < i → events_to s v (vectors_between (subsets_vectors s) i j) ≡ []
@@ -92,8 +91,7 @@ pub events_of-subsets : (s : SubsetsData) → events_from_place s 0 ≡ map (eve
 unfolding moves_of_subsets
 events_of-subsets s =
     let count : length (subsets_vectors s) - 0 ≡ length (subsets_vectors s) = omega arith in
-    ap (λ n. flat_map (events_at s) (range_with_len 0 n)) count
-    ∙ sym (map-flat_map (event_among (subsets_vectors s)) (moves_to_place s.size_bits (subsets_vectors s)) (range_with_len 0 (length (subsets_vectors s))))
+    cc (count, map-flat_map (event_among (subsets_vectors s)) (moves_to_place s.size_bits (subsets_vectors s)) (range_with_len 0 (length (subsets_vectors s))))
 
 -- a vector that stands among them is one of them
 pub is_among : (vectors : List (List ℕ)) (i : ℕ) (u : List ℕ) → slice_get vectors i ≡ Some u → Contains vectors u

@@ -93,10 +93,7 @@ module _ (size_bits : ℕ) (x : List ℕ) where
   onto_first : (directed a b : Bool) (u v : List ℕ) (us : List (List ℕ)) → same_vector u x ≡ a → same_vector v x ≡ b
       → arcs_of_moves directed x (moves_onto v (u ∷ us)) ≡ arcs_of_moves directed x (moves_onto v us) ++ cond (wanted u v) (touching directed a b u v) []
   onto_first directed a b u v us is_a is_b =
-      ap (arcs_of_moves directed x) (onto-append v (u ∷ []) us)
-      ∙ arcs-append directed x (moves_onto v (u ∷ [])) (moves_onto v us)
-      ∙ ap (λ l. arcs_of_moves directed x (moves_onto v us) ++ l)
-      (one_move directed u v (wanted u v) refl ∙ ap (λ l. cond (wanted u v) l []) (by_move directed a b u v is_a is_b))
+      cc (onto-append v (u ∷ []) us, arcs-append directed x (moves_onto v (u ∷ [])) (moves_onto v us), one_move directed u v (wanted u v) refl, by_move directed a b u v is_a is_b)
 
   -- of moves between other vectors there are none
   untouched : (directed : Bool) (u v : List ℕ) (w : Bool) → cond w (touching directed false false u v) [] ≡ []
@@ -106,8 +103,7 @@ module _ (size_bits : ℕ) (x : List ℕ) where
   others : (directed : Bool) (v : List ℕ) (us : List (List ℕ)) → Differs v → All Differs us → arcs_of_moves directed x (moves_onto v us) ≡ []
   others directed v [] other differ = refl
   others directed v (u ∷ us) other differ =
-      onto_first directed false false u v us (All-head Differs u us differ) other
-      ∙ ap₂ (λ a b. a ++ b) (others directed v us other (All-tail Differs u us differ)) (untouched directed u v (wanted u v))
+      cc (onto_first directed false false u v us (All-head Differs u us differ) other, others directed v us other (All-tail Differs u us differ), untouched directed u v (wanted u v))
 
   x_itself : same_vector x x ≡ true
   x_itself = (bytes_decides x x).1 refl
@@ -136,17 +132,13 @@ module _ (size_bits : ℕ) (x : List ℕ) where
   inward_first : (directed : Bool) (u : List ℕ) (us : List (List ℕ)) → inward directed us ++ cond (wanted u x) (touching directed false true u x) [] ≡ inward directed (u ∷ us)
   inward_first true u us = none_if (wanted u x)
   inward_first false u us =
-      ap (λ w. arcs_to size_bits x (reverse us) ++ cond w (record { tip = u; len = pos 1 } ∷ []) []) (wanted-turned u x)
-      ∙ ap (λ l. arcs_to size_bits x (reverse us) ++ l) (sym (to-one u))
-      ∙ sym (back-first u us)
+      cc (wanted-turned u x, to-one u, back-first u us)
 
   onto_x : (directed : Bool) (us : List (List ℕ)) → All Differs us → arcs_of_moves directed x (moves_onto x us) ≡ inward directed us
   onto_x true [] differ = refl
   onto_x false [] differ = refl
   onto_x directed (u ∷ us) differ =
-      onto_first directed false true u x us (All-head Differs u us differ) x_itself
-      ∙ ap (λ l. l ++ cond (wanted u x) (touching directed false true u x) []) (onto_x directed us (All-tail Differs u us differ))
-      ∙ inward_first directed u us
+      cc (onto_first directed false true u x us (All-head Differs u us differ) x_itself, onto_x directed us (All-tail Differs u us differ), inward_first directed u us)
 
   -- at x: its loop once or twice, and the moves to it
   abbrev own_arcs : Bool → List (List ℕ) → List LocalArc
@@ -160,8 +152,7 @@ module _ (size_bits : ℕ) (x : List ℕ) where
   own_join : (directed : Bool) (us : List (List ℕ)) → cond (wanted x x) (touching directed true true x x) [] ++ inward directed us ≡ own_arcs directed us
   own_join true us = append-nil (cond (wanted x x) (record { tip = x; len = pos 1 } ∷ []) []) ∙ sym (to-one x)
   own_join false us =
-      ap (λ l. l ++ inward false us) (twice_if (wanted x x) (record { tip = x; len = pos 1 } ∷ []) ∙ ap₂ (λ a b. a ++ b) (sym (to-one x)) (sym (to-one x)))
-      ∙ append_assoc (arcs_to size_bits x (x ∷ [])) (arcs_to size_bits x (x ∷ [])) (inward false us)
+      cc (twice_if (wanted x x) (record { tip = x; len = pos 1 } ∷ []), to-one x, append_assoc (arcs_to size_bits x (x ∷ [])) (arcs_to size_bits x (x ∷ [])) (inward false us))
 
   at_x : (directed : Bool) (us : List (List ℕ)) → All Differs us → arcs_of_moves directed x (moves_onto x (us ++ x ∷ [])) ≡ own_arcs directed us
   at_x directed us differ =
@@ -262,8 +253,7 @@ module _ (vectors : List (List ℕ)) (p : ℕ) (x : List ℕ) (rise : IsRising v
 
   later_differ : All (λ v. same_vector v x ≡ false) (drop (p + 1) vectors)
   later_differ k d within =
-      ap (λ v. same_vector v x) (get_or-drop (p + 1) vectors k d)
-      ∙ differs_after (p + 1 + k) d (omega arith) (omega (arith, length-drop (p + 1) vectors, within))
+      cc (get_or-drop (p + 1) vectors k d, differs_after (p + 1 + k) d (omega arith) (omega (arith, length-drop (p + 1) vectors, within)))
 
 -- the vectors up to a place are vectors
 taken : (n : ℕ) (vectors : List (List ℕ)) → All (Contains vectors) (take n vectors)

@@ -78,9 +78,6 @@ moves_on sb k vectors before (v ∷ vs) is place =
     let all = length-append (moves_to_place sb vectors k) (flat_map (moves_to_place sb vectors) (range_with_len (k + 1) (length vs))) in
     omega (
       arith,
-      all,
-      here,
-      rest,
       among-append sb 0 v before (v ∷ []),
       pairs-second sb 0 vs before (v ∷ []),
       with_one sb v vs,
@@ -129,8 +126,6 @@ moves-by_pairs s pairs loops pairs_are loops_are =
     let adds : All (λ v. sum v ≡ s.sum.total) vs = λ k d within. ((Contains-bounded_sums s.sum.total s.sum.bounds (get_or vs k d)).0 (Contains-get_or vs k d within)).1 in
     omega (
       arith,
-      pairs_are,
-      loops_are,
       both_orders sb vs,
       moves_on sb 0 vs [] vs refl refl,
       none_before sb vs,

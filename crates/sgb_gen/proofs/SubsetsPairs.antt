@@ -55,9 +55,7 @@ pairs-beginning sb c x y r bs (u ∷ us) within =
 
 pairs-rows : (sb c x y q r : ℕ) (bs : List ℕ) → x ≤ q → y ≤ r → pairs_among sb c (row q bs x) (row r bs y) ≡ pairs_of_sums sb bs (q - x) (r - y) (c + min x y)
 pairs-rows sb c x y q r bs first second =
-    ap (λ us. pairs_among sb c us (row r bs y)) (row-within q x bs first)
-    ∙ pairs-beginning sb c x y r bs (reverse (bounded_sums (q - x) bs)) second
-    ∙ pairs-reverse sb (c + min x y) (bounded_sums (q - x) bs) (bounded_sums (r - y) bs)
+    cc (row-within q x bs first, pairs-beginning sb c x y r bs (reverse (bounded_sums (q - x) bs)) second, pairs-reverse sb (c + min x y) (bounded_sums (q - x) bs) (bounded_sums (r - y) bs))
 
 -- one entry of the second vector more
 pub other-counted : (sb c x y q r counted more : ℕ) (bs : List ℕ) → x ≤ q → y ≤ r
@@ -92,8 +90,7 @@ rows-of_all r b bs =
 
 pub pairs-all : (sb c q r b : ℕ) (bs : List ℕ) → pairs_among sb c (rows q bs 0 (min q b + 1)) (rows r bs 0 (min r b + 1)) ≡ pairs_of_sums sb (b ∷ bs) q r c
 pairs-all sb c q r b bs =
-    ap₂ (pairs_among sb c) (rows-of_all q b bs) (rows-of_all r b bs)
-    ∙ pairs-reverse sb c (bounded_sums q (b ∷ bs)) (bounded_sums r (b ∷ bs))
+    cc (rows-of_all q b bs, rows-of_all r b bs, pairs-reverse sb c (bounded_sums q (b ∷ bs)) (bounded_sums r (b ∷ bs)))
 
 -- ---- the table
 
@@ -119,9 +116,7 @@ table-length sb total bs = length-map-range_with_len (cell_at sb total bs) 0 800
 pub cell-found : (sb total : ℕ) (bs : List ℕ) (x y q r c shared found : ℕ) → x ≤ q → y ≤ r → q + c ≤ total → r ≤ total → shared ≡ min x y
     → found ≡ cell_of sb total bs (q - x) (r - y) (c + shared) → found ≡ kept (pairs_of_sums sb bs (q - x) (r - y) (c + min x y))
 cell-found sb total bs x y q r c shared found first second room other lesser is =
-    is
-    ∙ ap (λ n. cell_of sb total bs (q - x) (r - y) (c + n)) lesser
-    ∙ cell-within sb total bs (q - x) (r - y) (c + min x y) (omega (arith, first, room)) (omega (arith, other))
+    cc (is, lesser, cell-within sb total bs (q - x) (r - y) (c + min x y) (omega (arith, first, room)) (omega (arith, other)))
 
 -- with no bounds there is one vector, which adds to 0
 no_pairs : (b : Bool) (n : ℕ) → 0 ≡ kept n → 0 ≡ cond b 0 (kept n)

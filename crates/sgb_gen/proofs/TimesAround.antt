@@ -89,8 +89,7 @@ no-step n v i e =
 
 pub abs-times : (l : ℕ) (u : ℤ) → nat_abs (pos l *ℤ u) ≡ l * nat_abs u
 abs-times l (pos a) = refl
-abs-times zero (negsuc a) = omega (arith, ints)
-abs-times (suc l) (negsuc a) = omega (arith, ints)
+abs-times _ _ = omega (arith, ints)
 
 -- what comes before a multiple of n leaves n - 1
 one_before : (n a c : ℕ) → 0 < n → suc a ≡ c * n → a % n ≡ n - 1

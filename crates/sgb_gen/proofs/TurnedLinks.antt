@@ -32,9 +32,7 @@ rows_turned-next w (suc i) xs h =
     let place = i * w in
     let before : take (suc i * w) (front ++ back) ≡ front ++ take place back = ap (λ k. take k (front ++ back)) (sym start) ∙ take-append-add front back place in
     let after : drop (suc i * w) (front ++ back) ≡ drop place back = ap (λ k. drop k (front ++ back)) (sym start) ∙ drop-append-add front back place in
-    ap (λ es. front ++ es) (rows_turned-next w i (drop w xs) room)
-    ∙ sym (append_assoc front (take place back) (reverse (take w (drop place back)) ++ drop w (drop place back)))
-    ∙ ap₂ (λ es fs. es ++ (reverse (take w fs) ++ drop w fs)) (sym before) (sym after)
+    cc (rows_turned-next w i (drop w xs) room, append_assoc front (take place back) (reverse (take w (drop place back)) ++ drop w (drop place back)), before, after)
 
 -- all rows but the last, and the last
 rows_turned-last : (w n : ℕ) (xs row : List ℕ) → length xs ≡ n * w → length row ≡ w → rows_turned w (suc n) (xs ++ row) ≡ rows_turned w n xs ++ reverse row
@@ -90,8 +88,7 @@ arcs_in-append w (t ∷ ts) us [] ms long = absurd (omega arith)
 arcs_in-append w ts us (n ∷ ns) ms long =
     let room : w ≤ length ts = omega arith in
     let left : length (drop w ts) ≡ length ns * w = omega (arith, length-drop w ts) in
-    ap₂ (λ row rows. record { tip = row; len = pos n } ∷ arcs_in w rows (ns ++ ms)) (take-append-le w ts us room) (drop-append-le w ts us room)
-    ∙ ap (λ arcs. record { tip = take w ts; len = pos n } ∷ arcs) (arcs_in-append w (drop w ts) us ns ms left)
+    cc (take-append-le w ts us room, drop-append-le w ts us room, arcs_in-append w (drop w ts) us ns ms left)
 
 -- those from one on turned round
 pub arcs_in-turned : (w first start : ℕ) (tips lens : List ℕ) → length tips ≡ length lens * w → first ≤ length lens → start ≡ first * w

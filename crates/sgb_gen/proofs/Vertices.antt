@@ -35,8 +35,7 @@ vertex_at (w ∷ ws) (suc i) v at only =
 -- of a box, the vertex of a vector is its place
 pub vertex_in_box : (sizes v : List ℕ) (i : ℕ) → slice_get (box sizes) i ≡ Some v → vertex_among (box sizes) v ≡ i
 vertex_in_box sizes v i at =
-    vertex_at (box sizes) i v at
-    (λ j there. sym (StandsAt-from_slice_get sizes v j there).place ∙ (StandsAt-from_slice_get sizes v i at).place)
+    cc (vertex_at (box sizes) i v at (λ j there. sym (StandsAt-from_slice_get sizes v j there).place ∙ (StandsAt-from_slice_get sizes v i at).place))
 
 -- a vector that stands in a box is below its sizes
 pub below_in_box : (sizes v : List ℕ) (i : ℕ) → slice_get (box sizes) i ≡ Some v → IsBelow v sizes

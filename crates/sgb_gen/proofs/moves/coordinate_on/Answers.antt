@@ -16,5 +16,4 @@ returns-then-y-from c =
     let y = c.args.y in
     let same : to_z w64 (of_z w64 y) ≡ y = to_z-of_z w64 y c.ranges.y in
     let size : to_z w64 (of_z w64 c.from.result) ≡ pos c.args.size = ap (λ z. to_z w64 (of_z w64 z)) c.from.ensures ∙ to_z-of_z w64 (pos c.args.size) (search rules) in
-    ap (λ z. Some (nat_abs z)) same
-    ∙ within_side c.args.wraps c.args.size y (ap (le_z (pos 0)) (sym same) ∙ c.if-y-ge0.true) (ap₂ lt_z (sym same) (sym size) ∙ c.if-y-from.true)
+    cc (same, within_side c.args.wraps c.args.size y (ap (le_z (pos 0)) (sym same) ∙ c.if-y-ge0.true) (ap₂ lt_z (sym same) (sym size) ∙ c.if-y-from.true))

@@ -18,8 +18,7 @@ returns-then-not-move_parts-clause-nowhere c =
     let l = c.args.l in
     let out : parts_stay sizes c.args.wrap x l (parts_of t) ≡ false =
     ap (parts_stay sizes c.args.wrap x l) (sym c.parts.ensures.parts) ∙ ap (λ w. parts_stay sizes w x l c.parts.result.now) (sym (to_z-of_z w64 c.args.wrap c.ranges.wrap)) ∙ sym c.move_parts.ensures.stay ∙ c.if-not-move_parts.true in
-    place_by_parts sizes c.args.wrap x t l c.requires.below c.requires.dimensions
-    ∙ ap (λ b. cond b (Some (parts_put sizes c.args.wrap x l (parts_of t) x)) None) out
+    rw (place_by_parts sizes c.args.wrap x t l c.requires.below c.requires.dimensions, out)
 
 pub returns-clause-leads : goal.returns-clause-leads
 returns-clause-leads c =

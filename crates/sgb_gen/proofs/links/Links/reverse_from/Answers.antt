@@ -1,4 +1,4 @@
-use Rattle.std.proofs.Common.{◌≡◌, ℕ, ◌+◌, ◌-◌, ◌*◌, ◌<◌, ◌≤◌, List, [], ◌∷◌, ◌++◌, length, reverse, take, drop, refl, sym, ap, ap₂, ◌∙◌, arith, length-drop}
+use Rattle.std.proofs.Common.{◌≡◌, ℕ, ◌+◌, ◌-◌, ◌*◌, ◌<◌, ◌≤◌, List, ◌∷◌, ◌++◌, length, reverse, take, drop, refl, sym, ap, ap₂, ◌∙◌, arith, length-drop}
 use Rattle.std.proofs.lemmas.List.{take-append-drop, with_items_is}
 use Rattle.std.proofs.lemmas.Nat.{mul-le}
 use Rattle.sgb_gen.specs.LocalLists.{LinksData, LocalArc}
@@ -9,9 +9,8 @@ use Rattle.sgb_gen.proofs.links.Links.reverse_from.Goals as goal
 
 -- fewer than two arcs are the same turned round
 few_turned : (arcs : List LocalArc) → length arcs < 2 → reverse arcs ≡ arcs
-few_turned [] h = refl
-few_turned (a ∷ []) h = refl
 few_turned (a ∷ b ∷ arcs) h = absurd (omega (arith, h))
+few_turned _ h = refl
 
 none_turned : (d : LinksData) (first : ℕ) → length d.arcs - first < 2 → d ≡ record { width = d.width; arcs = take first d.arcs ++ reverse (drop first d.arcs) }
 none_turned d first few =

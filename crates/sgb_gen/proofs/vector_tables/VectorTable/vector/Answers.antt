@@ -1,5 +1,4 @@
-use Rattle.std.proofs.Common.{◌≡◌, ℕ, ◌+◌, ◌*◌, ◌<◌, ◌≤◌, List, length, take, drop, Some, sym, ap, ◌∙◌, arith}
-use Rattle.std.specs.List.{slice_get}
+use Rattle.std.proofs.Common.{◌≡◌, ℕ, ◌+◌, ◌*◌, ◌<◌, ◌≤◌, List, length, ap, arith}
 use Rattle.sgb_gen.specs.inner.Tables.{rows}
 use Rattle.sgb_gen.proofs.TableRows.{length-rows, slice_get-rows, row_within}
 use Rattle.sgb_gen.proofs.vector_tables.VectorTable.vector.Goals as goal
@@ -19,7 +18,4 @@ returns c =
     let t = c.self.inside in
     let place = c.args.place in
     let within : place < t.count = omega (arith, length-rows t.width t.count t.entries.items, ap length c.self.view_is) in
-    sym (ap (λ vectors. slice_get vectors place) c.self.view_is)
-    ∙ slice_get-rows t.width t.count place t.entries.items within
-    ∙ ap (λ es. Some (take t.width (drop (place * t.width) es))) (sym c.as_slice.ensures.value)
-    ∙ ap Some (sym c.row.ensures)
+    cc (c.self.view_is, slice_get-rows t.width t.count place t.entries.items within, c.as_slice.ensures.value, c.row.ensures)

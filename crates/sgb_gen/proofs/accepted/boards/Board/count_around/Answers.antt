@@ -1,4 +1,4 @@
-use Rattle.std.proofs.Common.{◌≡◌, ◌*◌, ap, ◌∙◌}
+use Rattle.std.proofs.Common.{◌≡◌, ap, ◌∙◌}
 use Rattle.sgb_vec.specs.Boxes.{product_of}
 use Rattle.sgb_vec.proofs.BoxPlaces.{length-box}
 use Rattle.sgb_gen.proofs.BoardCountsTotals.{around-all}
@@ -9,5 +9,4 @@ returns c =
     let b = c.args.self.now in
     let lengths = c.lengths_around.ensures in
     let places : c.from.result ≡ product_of b.sizes = c.from.ensures ∙ c.size.ensures ∙ length-box c.self.inside.family ∙ ap (λ d. product_of d.sizes) c.self.view_is in
-    ap (λ n. n * c.from-2.result) places ∙ ap (λ n. product_of b.sizes * n) c.from-2.ensures
-    ∙ around-all b.sizes b.wrap b.piece c.args.t.now c.requires.dimensions c.requires.some c.requires.free c.lengths_around.result lengths.within lengths.away lengths.end
+    cc (places, c.from-2.ensures, around-all b.sizes b.wrap b.piece c.args.t.now c.requires.dimensions c.requires.some c.requires.free c.lengths_around.result lengths.within lengths.away lengths.end)

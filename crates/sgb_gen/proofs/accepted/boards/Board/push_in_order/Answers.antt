@@ -1,7 +1,4 @@
-use Rattle.std.proofs.Common.{sym, ap, ◌∙◌}
 use Rattle.std.proofs.lemmas.Result.{on_ok_weaker}
-use Rattle.sgb_gen.specs.Moves.{place, sides_of}
-use Rattle.sgb_gen.proofs.BoardWalks.{leads}
 use Rattle.sgb_gen.proofs.PairWalks.{with_more}
 use Rattle.sgb_gen.proofs.RunsOfLists.{edges_in_order}
 use Rattle.sgb_gen.proofs.StraightMoves.{back_away, onward_away}
@@ -14,9 +11,7 @@ pub push_straight-requires-clause-away : goal.push_straight-requires-clause-away
 push_straight-requires-clause-away c l some =
     let b = c.args.self.now in
     let x = c.args.x.now in
-    ap (λ ts. leads b x ts l) c.requires.back
-    ∙ back_away b c.args.t.now c.requires.dimensions c.requires.onward x l c.requires.below some
-    ∙ ap (λ ts. place (sides_of b.sizes b.wrap) x ts l) (sym c.requires.back)
+    cc (c.requires.back, back_away b c.args.t.now c.requires.dimensions c.requires.onward x l c.requires.below some)
 
 pub returns-clause-ok : goal.returns-clause-ok
 returns-clause-ok c =

@@ -1,6 +1,4 @@
-use Rattle.std.proofs.Common.{◌≡◌, ◌+◌, ◌-◌, ◌∷◌, arith, reverse, drop, length, ap, ◌∙◌}
-use Rattle.sgb_gen.specs.inner.LocalBoards.{arcs_onward}
-use Rattle.sgb_gen.specs.inner.LocalSimplexes.{with_arcs}
+use Rattle.std.proofs.Common.{◌≡◌, ◌+◌, ◌-◌, ◌∷◌, arith, drop, length, ap, ◌∙◌}
 use Rattle.sgb_gen.specs.inner.StraightLists.{arcs_by_all}
 use Rattle.sgb_gen.proofs.BoundedMoves.{moves_within}
 use Rattle.sgb_gen.proofs.FamilyWalks.{drop_at_vector}
@@ -24,5 +22,4 @@ pub returns-clause-ok : goal.returns-clause-ok
 returns-clause-ok c =
     let b = c.args.self.now in
     let none : c.loop-k.k ≡ 0 = omega (arith, c.loop-k-test.false) in
-    c.loop-k.invariant ∙ ap (λ ts. with_arcs c.args.links.now (arcs_by_all b c.args.x.now ts)) (ap (λ n. drop n c.args.table.now) none ∙ c.requires.table)
-    ∙ ap (λ ms. with_arcs c.args.links.now (reverse (arcs_onward b.directed c.args.x.now ms))) (moves_within b)
+    rw (c.loop-k.invariant, none, c.requires.table, moves_within b)

@@ -1,8 +1,6 @@
-use Rattle.std.proofs.Common.{ℤ, to_z, of_z, w64, ap, ◌∙◌, min, arith, rules}
+use Rattle.std.proofs.Common.{ℤ, to_z, of_z, w64, arith, rules}
 use Rattle.std.proofs.lemmas.Int.{to_z-of_z}
-use Rattle.sgb_gen.specs.Moves.{sides_of}
-use Rattle.sgb_gen.specs.inner.BoardCounts.{starts_product}
-use Rattle.sgb_gen.proofs.BoardCountsBoards.{most_of_64, product-more, product-all, starts_read}
+use Rattle.sgb_gen.proofs.BoardCountsBoards.{product-more, product-all, starts_read}
 use Rattle.sgb_gen.proofs.accepted.boards.counts.starts_product.Goals as goal
 
 pub loop-k-preserved : goal.loop-k-preserved
@@ -20,5 +18,4 @@ returns c =
     let sizes = c.args.sizes.now in
     let t = c.args.t.now in
     let wrap : ℤ = to_z w64 (of_z w64 c.args.wrap) in
-    product-all sizes wrap t c.args.l c.loop-k.k c.loop-k.product (omega arith) c.loop-k.invariant.1 c.loop-k.invariant.0
-    ∙ ap (λ w. min (starts_product (sides_of sizes w) t c.args.l) most_of_64) (to_z-of_z w64 c.args.wrap c.ranges.wrap)
+    cc (product-all sizes wrap t c.args.l c.loop-k.k c.loop-k.product (omega arith) c.loop-k.invariant.1 c.loop-k.invariant.0, to_z-of_z w64 c.args.wrap c.ranges.wrap)

@@ -1,9 +1,8 @@
-use Rattle.std.proofs.Common.{◌≡◌, ◌<◌, true, cond, Some, None, length, sym, ap, subst, ◌∙◌, arith}
+use Rattle.std.proofs.Common.{◌≡◌, ◌<◌, true, Some, length, sym, ap, subst, ◌∙◌, arith}
 use Rattle.std.specs.List.{Contains, slice_get}
 use Rattle.std.proofs.lemmas.Option.{slice_get_within}
 use Rattle.sgb_vec.specs.Lexicographic.{IsRising}
 use Rattle.sgb_vec.proofs.SumMembers.{bounded_sums-rise}
-use Rattle.sgb_gen.specs.VectorGraphs.{vertex_among}
 use Rattle.sgb_gen.specs.Simplexes.{Places, can_shift, shifted, simplex_vectors}
 use Rattle.sgb_gen.proofs.SimplexEvents.{length_in_sum, shifted_in_simplex, vertex_in_simplex}
 use Rattle.sgb_gen.proofs.accepted.simplexes.Simplex.vertex_at.Goals as goal
@@ -43,8 +42,7 @@ returns-clause-vertex c =
     let can : can_shift s.sum.bounds c.args.x.now at ≡ true = sym (c.can_move_unit.ensures ∙ ap (λ bs. can_shift bs c.args.x.now at) c.sizes-bounds.ensures.same) ∙ c.if-not-can_move_unit.false in
     let place : slice_get (simplex_vectors s) c.place_of.result ≡ Some there =
     sym (ap (λ vectors. slice_get vectors c.place_of.result) c.requires.vertices) ∙ c.place_of.ensures ∙ ap Some (c.as_slice.ensures.value ∙ c.unit_moved-there.ensures) in
-    ap Some (sym (vertex_in_simplex s c.place_of.result there place))
-    ∙ ap (λ b. cond b (Some (vertex_among (simplex_vectors s) there)) None) (sym can)
+    rw (vertex_in_simplex s c.place_of.result there place, can)
 
 pub returns-clause-within : goal.returns-clause-within
 returns-clause-within c =

@@ -1,5 +1,5 @@
 use Rattle.std.proofs.Common.{◌≡◌, ◌+◌, ◌-◌, ◌++◌, length, reverse, ap, ◌∙◌, arith}
-use Rattle.sgb_gen.specs.inner.LocalSimplexes.{arcs_on, pairs_down, with_arcs}
+use Rattle.sgb_gen.specs.inner.LocalSimplexes.{arcs_on, pairs_down}
 use Rattle.sgb_gen.proofs.PairWalks.{with_more, arcs_on-append, after-next, after-all}
 use Rattle.sgb_gen.proofs.SimplexEvents.{pairs_after}
 use Rattle.sgb_gen.proofs.accepted.simplexes.lists.push_on.Goals as goal
@@ -21,6 +21,4 @@ pub returns-clause-ok : goal.returns-clause-ok
 returns-clause-ok c =
     let n = length c.args.x.now in
     let end : c.loop-lower.lower ≡ 0 = omega arith in
-    c.loop-lower.invariant
-    ∙ ap (λ k. with_arcs c.args.links.now (arcs_on c.args.bounds.now c.args.x.now (reverse (pairs_after n k)))) end
-    ∙ ap (λ ps. with_arcs c.args.links.now (arcs_on c.args.bounds.now c.args.x.now ps)) (after-all n)
+    cc (c.loop-lower.invariant, end, after-all n)

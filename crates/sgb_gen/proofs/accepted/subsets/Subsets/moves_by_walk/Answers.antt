@@ -1,6 +1,6 @@
 use Rattle.std.proofs.Common.{◌≡◌, ◌≤◌, ◌∷◌, length, drop, refl, sym, ap, subst, ◌∙◌, arith, sum}
 use Rattle.std.specs.List.{All, Contains}
-use Rattle.std.proofs.lemmas.List.Elements.{All-contains_itself, All-head, All-tail}
+use Rattle.std.proofs.lemmas.List.Elements.{All-contains_itself, All-tail}
 use Rattle.sgb_vec.specs.Limits.{most_vertices}
 use Rattle.sgb_vec.specs.Sums.{bounded_sums}
 use Rattle.sgb_vec.proofs.RangeSteps.{first_and_rest}

@@ -16,8 +16,7 @@ returns-then-not-may_be_among-clause-ok t c =
     let bounds = c.args.bounds.now in
     let front = front_of c.args.tip.now x in
     let none = under-unwanted b.size_bits front b.common bounds x b.room b.shared b.left c.requires.begun c.if-not-may_be_among.ensures in
-    with_none c.args.links.now
-    ∙ ap (with_arcs c.args.links.now) (sym (unwanted-to b.size_bits front b.common b.left bounds x c.requires.begun.within c.requires.all none))
+    cc (with_none c.args.links.now, unwanted-to b.size_bits front b.common b.left bounds x c.requires.begun.within c.requires.all none)
 
 pub push_zeros-requires-clause-none : goal.push_zeros-requires-clause-none
 push_zeros-requires-clause-none t c =

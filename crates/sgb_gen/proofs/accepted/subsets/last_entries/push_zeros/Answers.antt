@@ -12,8 +12,7 @@ pub returns-then-not-is_wanted-clause-ok : goal.returns-then-not-is_wanted-claus
 returns-then-not-is_wanted-clause-ok c =
     let b = c.args.begun in
     let test = sym (ap (is_wanted_size b.size_bits) c.from.ensures) ∙ sym c.is_wanted.ensures ∙ c.if-not-is_wanted.true in
-    with_none c.args.links.now
-    ∙ ap (with_arcs c.args.links.now) (sym (under-zeros b.size_bits (front_of c.args.tip.now c.args.x.now) b.common b.left c.args.bounds.now c.args.x.now _ c.requires.none test))
+    cc (with_none c.args.links.now, under-zeros b.size_bits (front_of c.args.tip.now c.args.x.now) b.common b.left c.args.bounds.now c.args.x.now _ c.requires.none test)
 
 pub returns-clause-ok : goal.returns-clause-ok
 returns-clause-ok c =

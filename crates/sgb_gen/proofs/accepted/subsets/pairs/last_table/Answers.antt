@@ -1,4 +1,4 @@
-use Rattle.std.proofs.Common.{◌<◌, ◌++◌, ◌∷◌, ℕ, [], length, map, ap, ap₂, ◌∙◌, sym, arith}
+use Rattle.std.proofs.Common.{◌<◌, ℕ, [], length, map, ap, ◌∙◌, arith}
 use Rattle.std.specs.List.{range_with_len}
 use Rattle.std.proofs.lemmas.List.FromFn.{length-map-range_with_len, map-range_with_len_more}
 use Rattle.sgb_gen.specs.inner.SubsetsPairs.{cell_at, table_of}
@@ -13,9 +13,7 @@ push-requires c =
 pub loop-place-preserved : goal.loop-place-preserved
 loop-place-preserved c =
     let cells : ℕ → ℕ = cell_at c.args.size_bits c.args.total [] in
-    c.push.ensures.items
-    ∙ ap₂ (λ xs x. xs ++ x ∷ []) c.loop-place.invariant c.last_cell.ensures
-    ∙ sym (map-range_with_len_more cells 0 c.loop-place.place c.loop-place.place (omega arith))
+    cc (c.push.ensures.items, c.loop-place.invariant, c.last_cell.ensures, map-range_with_len_more cells 0 c.loop-place.place c.loop-place.place (omega arith))
 
 pub returns : goal.returns
 unfolding table_of
