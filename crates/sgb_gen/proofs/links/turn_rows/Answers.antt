@@ -1,4 +1,4 @@
-use Rattle.std.proofs.Common.{◌≡◌, ℕ, suc, ◌+◌, ◌*◌, ◌≤◌, List, ◌++◌, length, reverse, take, drop, arith}
+use Rattle.std.proofs.Common.{rules, ◌≡◌, ℕ, suc, ◌+◌, ◌*◌, ◌≤◌, List, ◌++◌, length, reverse, take, drop, arith}
 use Rattle.sgb_gen.specs.inner.LocalArcs.{rows_turned}
 use Rattle.sgb_gen.proofs.TurnedLinks.{rows_turned-next}
 use Rattle.sgb_gen.proofs.TableRows.{row_within}
@@ -11,5 +11,4 @@ row_turned w i k xs entries row room before wide turned =
     cc (turned, wide, before, rows_turned-next w i xs room, one)
 
 pub loop-i-preserved : goal.loop-i-preserved
-loop-i-preserved c =
-    row_turned c.args.width c.loop-i.i _ c.args.entries.now c.loop-i.entries c.reverse.new.self (omega (arith, row_within c.args.width c.args.count c.loop-i.i (omega arith), c.requires)) c.loop-i.invariant (omega arith) c.reverse.ensures.after
+loop-i-preserved c = search (rules, row_turned, row_within)

@@ -1,4 +1,4 @@
-use Rattle.std.proofs.Common.{◌≡◌, ◌<◌, ◌++◌, ◌∷◌, [], length, pos, rules, ap, ◌∙◌, w64, to_z, of_z}
+use Rattle.std.proofs.Common.{◌≡◌, ◌++◌, ◌∷◌, [], length, pos, rules, ap, ◌∙◌, w64, to_z, of_z}
 use Rattle.std.specs.Vec.{vec_len}
 use Rattle.std.proofs.lemmas.Int.{to_z-of_z}
 use Rattle.std.proofs.lemmas.List.Elements.{length_all_zip}
@@ -9,12 +9,7 @@ use Rattle.sgb_gen.proofs.MovedCoordinates.{length-put}
 use Rattle.sgb_gen.proofs.links.Links.push_placed.Goals as goal
 
 pub put_parts-requires-clause-there : goal.put_parts-requires-clause-there
-put_parts-requires-clause-there c =
-    let l = c.self.inside in
-    let x = c.args.x.now in
-    let kept : vec_len l.tips ≡ length l.tips.items = search rules in
-    ap length (last_row l.tips.items x c.as_mut_slice.result.now c.len-start.result (c.as_mut_slice.ensures.value ∙ c.in_ok-extend_from_slice.ensures.items) (c.len-start.ensures ∙ kept))
-    ∙ length_all_zip (λ a s. a < s) x c.args.sizes.now c.requires.below
+put_parts-requires-clause-there c = search (rules, last_row, length_all_zip)
 
 pub invariant_of-self-2 : goal.invariant_of-self-2
 invariant_of-self-2 c =

@@ -1,4 +1,4 @@
-use Rattle.std.proofs.Common.{◌≡◌, ℕ, ◌+◌, ◌-◌, ◌*◌, ◌<◌, ◌≤◌, List, ◌∷◌, ◌++◌, length, reverse, take, drop, refl, sym, ap, ap₂, ◌∙◌, arith, length-drop}
+use Rattle.std.proofs.Common.{rules, ◌≡◌, ℕ, ◌+◌, ◌-◌, ◌*◌, ◌<◌, ◌≤◌, List, ◌∷◌, ◌++◌, length, reverse, take, drop, refl, sym, ap, ◌∙◌, arith, length-drop}
 use Rattle.std.proofs.lemmas.List.{take-append-drop, with_items_is}
 use Rattle.std.proofs.lemmas.Nat.{mul-le}
 use Rattle.sgb_gen.specs.LocalLists.{LinksData, LocalArc}
@@ -28,10 +28,7 @@ pub returns-then-len-first-lt2 : goal.returns-then-len-first-lt2
 returns-then-len-first-lt2 c = none_turned c.args.self.now c.args.first (omega (arith, c.len.ensures, c.if-len-first-lt2.true, ap (λ d. length d.arcs) c.self.view_is))
 
 pub overflow_mul-start : goal.overflow_mul-start
-overflow_mul-start c =
-    let l = c.self.inside in
-    let within = first_within l.width c.args.first c.args.self.now l.tips.items l.lens.items c.self.view_is c.requires in
-    omega (arith, start_within l.width c.args.first l.tips.items l.lens.items c.self.invariant within, ap length c.as_mut_slice-tips.ensures.value, c.as_mut_slice-tips.type_inv)
+overflow_mul-start c = search (rules, first_within, start_within)
 
 pub turn_from-requires : goal.turn_from-requires
 turn_from-requires c =
@@ -58,10 +55,4 @@ turned_from w first d tips lens rt rl nt nl long within view same_t same_l is_t 
     rw (is_t, is_l, same_t, same_l, arcs_in-turned w first (first * w) tips lens long within refl, ← view) refl
 
 pub returns : goal.returns
-returns c =
-    let l = c.self.inside in
-    let nt = c.turn_from.new.tips in
-    let nl = c.turn_from.new.lens in
-    ap₂ (λ ts ns. links l.width (arcs_in l.width ts ns)) (with_items_is l.tips nt (c.turn_from.auto.tips ∙ c.as_mut_slice-tips.ensures.len)) (with_items_is l.lens nl (c.turn_from.auto.lens ∙ c.as_mut_slice-lens.ensures.len))
-    ∙ turned_from l.width c.args.first c.args.self.now l.tips.items l.lens.items _ _ nt nl c.self.invariant
-    (first_within l.width c.args.first c.args.self.now l.tips.items l.lens.items c.self.view_is c.requires) c.self.view_is c.as_mut_slice-tips.ensures.value c.as_mut_slice-lens.ensures.value c.turn_from.ensures.tips c.turn_from.ensures.lens
+returns c = search (rules, with_items_is, turned_from, first_within)

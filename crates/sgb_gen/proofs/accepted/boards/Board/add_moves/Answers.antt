@@ -1,10 +1,9 @@
 use Rattle.std.proofs.Common.{◌≡◌, ℕ, ℤ, Bool, ◌+◌, [], ◌∷◌, pos, w64, sym, ap, subst, ◌∙◌, arith, rules}
 use Rattle.std.proofs.lemmas.Int.{to_z-of_z}
 use Rattle.std.proofs.lemmas.Option.{slice_get_within}
-use Rattle.sgb_vec.specs.Boxes.{box}
 use Rattle.sgb_graph.specs.Graphs.{GraphData}
 use Rattle.sgb_graph.specs.Growth.{AddsEvents}
-use Rattle.sgb_graph.proofs.AddedEvents.{AddsUpTo, up_to-none, up_to-more, up_to-all}
+use Rattle.sgb_graph.proofs.AddedEvents.{up_to-none, up_to-more, up_to-all}
 use Rattle.sgb_gen.proofs.BoardEvents.{events_from, events_left, events_left-all, events_left-out, events_left-next}
 use Rattle.sgb_gen.proofs.Vertices.{below_in_box}
 use Rattle.sgb_gen.proofs.accepted.boards.Board.add_moves.Goals as goal
@@ -16,24 +15,16 @@ event_as d directed old new u v n len e far h =
     (subst (λ b. AddsEvents b old new (record { from = u; to = v; len = n } ∷ [])) e h)
 
 pub loop-shorter-init : goal.loop-shorter-init
-loop-shorter-init c =
-    let b = c.args.self.now in
-    let g = c.args.graph.now in
-    let all = events_from b c.args.t.now c.args.x.now in
-    subst (λ es. AddsUpTo b.directed g g es all) (sym (events_left-all b c.args.t.now c.args.x.now)) (up_to-none b.directed g all)
+loop-shorter-init c = grind (arith, events_from, events_left-all, up_to-none)
 
 pub vertex_at-requires-clause-below : goal.vertex_at-requires-clause-below
 vertex_at-requires-clause-below c = below_in_box c.args.self.now.sizes c.args.x.now c.args.u c.requires.vertex
 
 pub returns-in_default-clause-ok : goal.returns-in_default-clause-ok
-returns-in_default-clause-ok c =
-    let b = c.args.self.now in
-    up_to-all b.directed c.args.graph.now c.loop-shorter.graph _ (events_from b c.args.t.now c.args.x.now) c.loop-shorter.invariant
-    (events_left-out b c.args.t.now c.args.x.now (c.loop-shorter.shorter + 1) (omega (arith, c.longest_move-shorter-end.ensures)) (sym c.vertex_at.ensures.vertex ∙ c.in_default.is))
+returns-in_default-clause-ok c = search (rules, up_to-all, events_from, events_left-out)
 
 pub add_event-requires-clause-from : goal.add_event-requires-clause-from
-add_event-requires-clause-from c =
-    omega (arith, slice_get_within (box c.args.self.now.sizes) c.args.u c.args.x.now c.requires.vertex, c.loop-shorter.invariant.added.rest.size, c.requires.vertices)
+add_event-requires-clause-from c = search (rules, slice_get_within)
 
 pub loop-shorter-preserved : goal.loop-shorter-preserved
 loop-shorter-preserved c =

@@ -1,19 +1,14 @@
-use Rattle.std.proofs.Common.{◌≤◌, length, ap, ◌∙◌, arith}
+use Rattle.std.proofs.Common.{rules, ap, ◌∙◌}
 use Rattle.std.proofs.lemmas.List.{length-map}
 use Rattle.sgb_vec.specs.Boxes.{box}
-use Rattle.sgb_vec.specs.Limits.{most_vertices}
-use Rattle.sgb_vec.specs.Names.{name_of_vector}
 use Rattle.sgb_vec.proofs.BoxPlaces.{length-box}
 use Rattle.sgb_graph.specs.Growth.{new_graph}
-use Rattle.sgb_gen.specs.Boards.{board_graph, board_id, moves_of_board}
+use Rattle.sgb_gen.specs.Boards.{board_id, moves_of_board}
 use Rattle.sgb_gen.proofs.FamilyGraphs.{fields_unused, graph_made, no_room}
 use Rattle.sgb_gen.proofs.accepted.boards.Board.graph.Goals as goal
 
 pub returns-in_err-graph : goal.returns-in_err-graph
-returns-in_err-graph c =
-    let few : length c.in_ok-names.names ≤ most_vertices = omega (arith, ap length c.in_ok-names.ensures.ok, length-map (box c.self.inside.family) name_of_vector, length-box c.self.inside.family, c.self.invariant.1.vertices) in
-    let memory = c.in_err-graph.ensures.err few in
-    no_room (board_graph c.args.self.now) c.from_residual-in_err-graph.result _ c.from_residual-in_err-graph.ensures (λ e h. h ∙ memory)
+returns-in_err-graph c = search (rules, length-map, length-box, no_room)
 
 pub put_coordinates-requires-clause-fields : goal.put_coordinates-requires-clause-fields
 put_coordinates-requires-clause-fields c = fields_unused (box c.self.inside.family) c.args.self.now.directed c.reserve.new.self c.add_arcs.new.graph _ (c.reserve.ensures.kept ∙ c.in_ok-graph.ensures.ok ∙ ap new_graph c.in_ok-names.ensures.ok) c.in_ok-add_arcs.ensures.ok

@@ -1,4 +1,4 @@
-use Rattle.std.proofs.Common.{◌≡◌, ◌+◌, List, ℤ, ◌∷◌, length, drop, refl, ap, subst, ◌∙◌, arith, length-append}
+use Rattle.std.proofs.Common.{rules, ◌≡◌, ◌+◌, List, ℤ, ◌∷◌, length, drop, refl, ap, subst, ◌∙◌, arith, length-append}
 use Rattle.std.specs.List.{All, flat_map}
 use Rattle.std.proofs.lemmas.List.Elements.{All-tail}
 use Rattle.sgb_vec.specs.Boxes.{box}
@@ -10,10 +10,7 @@ use Rattle.sgb_gen.proofs.DisplacementWalk.{first_and_others}
 use Rattle.sgb_gen.proofs.accepted.boards.Board.moves_count.Goals as goal
 
 pub loop-t-init : goal.loop-t-init
-loop-t-init c =
-    let b = c.args.self.now in
-    let whole = ap length (ap (flat_map (moves_by (sides_of b.sizes b.wrap) b.piece (box b.sizes))) c.displacements-left.ensures.all ∙ moves_within b) in
-    (c.displacements-left.ensures.dimensions, omega (arith, whole))
+loop-t-init c = search (rules, moves_within)
 
 -- those by the first displacement, and those by the others
 parts : (moves : List ℤ → List Move) (t : List ℤ) (ts left : List (List ℤ)) → ts ≡ t ∷ left → length (flat_map moves ts) ≡ length (moves t) + length (flat_map moves left)

@@ -1,4 +1,4 @@
-use Rattle.std.proofs.Common.{◌≡◌, ◌≤◌, List, ℤ, nat_abs, ◌∷◌, length, refl, ap, subst, ◌∙◌}
+use Rattle.std.proofs.Common.{rules, ◌≡◌, ◌≤◌, List, ℤ, nat_abs, ◌∷◌, length, refl, ap, subst, ◌∙◌}
 use Rattle.std.specs.List.{All, flat_map}
 use Rattle.std.proofs.lemmas.List.{reverse-reverse}
 use Rattle.std.proofs.lemmas.List.Elements.{All-tail}
@@ -15,13 +15,7 @@ use Rattle.sgb_gen.proofs.TurnedLinks.{turned_behind}
 use Rattle.sgb_gen.proofs.accepted.boards.Board.push_all.Goals as goal
 
 pub loop-t-init : goal.loop-t-init
-loop-t-init c =
-    let b = c.args.self.now in
-    let made = λ (ts : List (List ℤ)). with_arcs c.args.links.now (arcs_onward b.directed c.args.x.now (flat_map (moves_by (sides_of b.sizes b.wrap) b.piece (box b.sizes)) ts)) in (
-      c.displacements-left.ensures.dimensions,
-      c.displacements-left.ensures.small,
-      ap made c.displacements-left.ensures.all ∙ ap (λ ms. with_arcs c.args.links.now (arcs_onward b.directed c.args.x.now ms)) (moves_within b),
-    )
+loop-t-init c = search (rules, moves_within)
 
 pub loop-t-preserved : goal.loop-t-preserved
 loop-t-preserved c =

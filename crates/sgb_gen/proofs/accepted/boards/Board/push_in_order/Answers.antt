@@ -1,3 +1,4 @@
+use Rattle.std.proofs.Common.{rules}
 use Rattle.std.proofs.lemmas.Result.{on_ok_weaker}
 use Rattle.sgb_gen.proofs.PairWalks.{with_more}
 use Rattle.sgb_gen.proofs.RunsOfLists.{edges_in_order}
@@ -8,10 +9,7 @@ pub push_straight_down-requires-clause-away : goal.push_straight_down-requires-c
 push_straight_down-requires-clause-away c l some = onward_away c.args.self.now c.args.t.now c.requires.dimensions c.requires.onward c.args.x.now l c.requires.below some
 
 pub push_straight-requires-clause-away : goal.push_straight-requires-clause-away
-push_straight-requires-clause-away c l some =
-    let b = c.args.self.now in
-    let x = c.args.x.now in
-    cc (c.requires.back, back_away b c.args.t.now c.requires.dimensions c.requires.onward x l c.requires.below some)
+push_straight-requires-clause-away c l some = search (rules, back_away)
 
 pub returns-clause-ok : goal.returns-clause-ok
 returns-clause-ok c =

@@ -1,4 +1,4 @@
-use Rattle.std.proofs.Common.{◌≡◌, ◌+◌, ◌-◌, ◌∷◌, arith, drop, length, ap, ◌∙◌}
+use Rattle.std.proofs.Common.{rules, ◌≡◌, ◌+◌, ◌-◌, ◌∷◌, arith, drop, ap, ◌∙◌}
 use Rattle.sgb_gen.specs.inner.StraightLists.{arcs_by_all}
 use Rattle.sgb_gen.proofs.BoundedMoves.{moves_within}
 use Rattle.sgb_gen.proofs.FamilyWalks.{drop_at_vector}
@@ -7,8 +7,7 @@ use Rattle.sgb_gen.proofs.RunsOfLists.{first_last, width_in_table}
 use Rattle.sgb_gen.proofs.accepted.boards.Board.push_kept.Goals as goal
 
 pub push_by-requires-clause-dimensions : goal.push_by-requires-clause-dimensions
-push_by-requires-clause-dimensions c =
-    ap length c.ahead.ensures ∙ width_in_table c.args.self.now c.args.table.now (c.loop-k.k - 1) c.at-pair.result.now c.requires.table c.at-pair.ensures
+push_by-requires-clause-dimensions c = search (rules, width_in_table)
 
 pub loop-k-preserved : goal.loop-k-preserved
 loop-k-preserved c =
@@ -19,7 +18,4 @@ loop-k-preserved c =
     (ap (arcs_by_all c.args.self.now c.args.x.now) step ∙ first_last c.args.self.now c.args.x.now t (drop c.loop-k.k c.args.table.now))
 
 pub returns-clause-ok : goal.returns-clause-ok
-returns-clause-ok c =
-    let b = c.args.self.now in
-    let none : c.loop-k.k ≡ 0 = omega (arith, c.loop-k-test.false) in
-    rw (c.loop-k.invariant, none, c.requires.table, moves_within b)
+returns-clause-ok c = search (rules, moves_within)

@@ -1,4 +1,4 @@
-use Rattle.std.proofs.Common.{◌≡◌, ◌<◌, ◌∙◌, sym, arith}
+use Rattle.std.proofs.Common.{rules, ◌≡◌, ◌<◌, ◌∙◌, sym, arith}
 use Rattle.std.proofs.lemmas.Result.{on_ok_weaker}
 use Rattle.sgb_vec.proofs.BoxPlaces.{Contains-from_IsBelow}
 use Rattle.sgb_gen.specs.inner.LocalSimplexes.{with_arcs}
@@ -7,13 +7,7 @@ use Rattle.sgb_gen.proofs.PairWalks.{with_more}
 use Rattle.sgb_gen.proofs.accepted.boards.Board.push_leaps.Goals as goal
 
 pub returns-in_default-clause-ok : goal.returns-in_default-clause-ok
-returns-in_default-clause-ok c =
-    let b = c.args.self.now in
-    let x = c.args.x.now in
-    let t = c.args.t.now in
-    let there = Contains-from_IsBelow b.sizes x c.requires.below in
-    let none = comes_nowhere b t x there c.requires.short (rw c.requires.back at (sym c.vertex_at.ensures.vertex ∙ c.in_default.is)) in
-    rw (leaps_alone b t x there c.requires.short none) c.push_edge.ensures.ok
+returns-in_default-clause-ok c = search (rules, Contains-from_IsBelow, comes_nowhere, leaps_alone)
 
 pub returns-then-v-u-clause-ok : goal.returns-then-v-u-clause-ok
 returns-then-v-u-clause-ok c =
@@ -38,10 +32,4 @@ returns-then-v-u-2-clause-ok c =
     on_ok_weaker c.push_edge-then-v-u-2-2.result (λ is. with_more c.args.links.now c.push_edge-2.new.links _ _ (other_arcs b t x there c.requires.short) _ c.in_ok-push_edge-2.ensures.ok (rw (← c.requires.back) is) all) c.push_edge-then-v-u-2-2.ensures.ok
 
 pub returns-clause-ok : goal.returns-clause-ok
-returns-clause-ok c =
-    let b = c.args.self.now in
-    let x = c.args.x.now in
-    let t = c.args.t.now in
-    let there = Contains-from_IsBelow b.sizes x c.requires.below in
-    let none = comes_home b t x there c.requires.short c.in-Some.v (rw c.requires.back at (sym c.vertex_at.ensures.vertex ∙ c.in-Some.is)) (omega (arith, c.vertex_of-u.ensures.vertex, c.if-v-u.false, c.if-v-u-2.false)) in
-    rw (leaps_alone b t x there c.requires.short none) c.in_ok-push_edge-2.ensures.ok
+returns-clause-ok c = search (rules, Contains-from_IsBelow, comes_home, leaps_alone)

@@ -1,19 +1,12 @@
-use Rattle.std.proofs.Common.{◌+◌, [], ◌∷◌, pos, length, sym, ap, subst, ◌∙◌}
+use Rattle.std.proofs.Common.{rules, ◌+◌, [], ◌∷◌, pos, length, sym, ap, subst, ◌∙◌}
 use Rattle.sgb_graph.specs.Growth.{AddsEvents}
 use Rattle.sgb_gen.specs.Simplexes.{Places, pairs_from}
-use Rattle.sgb_graph.proofs.AddedEvents.{AddsUpTo, up_to-more}
+use Rattle.sgb_graph.proofs.AddedEvents.{up_to-more}
 use Rattle.sgb_gen.proofs.SimplexEvents.{events_by, events_by-out, events_by-next, pairs_left, pairs_left-next}
 use Rattle.sgb_gen.proofs.accepted.simplexes.Simplex.add_moves_from.Goals as goal
 
 pub loop-higher-preserved-in_default : goal.loop-higher-preserved-in_default
-loop-higher-preserved-in_default c =
-    let s = c.args.self.now in
-    let x = c.args.x.now in
-    let k = c.loop-higher.higher in
-    let at : Places = record { lower = c.args.lower; higher = k } in
-    let next = ap (events_by s x) (pairs_left-next (length x) c.args.lower k c.loop-higher-test.true)
-    ∙ events_by-out s x at (pairs_left (length x) c.args.lower (k + 1)) (sym c.vertex_at.ensures.vertex ∙ c.in_default.is) in
-    subst (λ es. AddsUpTo s.directed c.args.graph.now c.loop-higher.graph es (events_by s x (pairs_from (length x) c.args.lower))) next c.loop-higher.invariant
+loop-higher-preserved-in_default c = search (rules, events_by, pairs_left-next, events_by-out, pairs_left)
 
 pub loop-higher-preserved : goal.loop-higher-preserved
 loop-higher-preserved c =

@@ -1,15 +1,10 @@
-use Rattle.std.proofs.Common.{length, sym, ap, ◌∙◌, arith}
+use Rattle.std.proofs.Common.{rules, length, ap, ◌∙◌, arith}
 use Rattle.sgb_gen.specs.inner.LocalSimplexes.{arcs_back, with_arcs}
 use Rattle.sgb_gen.proofs.PairWalks.{with_none, arcs_back-append, left-none, back-one, pair_more}
 use Rattle.sgb_gen.proofs.accepted.simplexes.lists.push_back_to.Goals as goal
 
 pub loop-higher-init : goal.loop-higher-init
-loop-higher-init c =
-    let n = length c.args.x.now in (
-      omega arith,
-      with_none c.args.links.now
-          ∙ ap (λ ps. with_arcs c.args.links.now (arcs_back c.args.bounds.now c.args.x.now ps)) (sym (left-none n c.args.lower n (omega arith))),
-    )
+loop-higher-init c = search (rules, with_none, left-none)
 
 pub loop-higher-preserved : goal.loop-higher-preserved
 loop-higher-preserved c =

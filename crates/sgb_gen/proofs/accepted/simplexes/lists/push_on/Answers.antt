@@ -1,4 +1,4 @@
-use Rattle.std.proofs.Common.{◌≡◌, ◌+◌, ◌-◌, ◌++◌, length, reverse, ap, ◌∙◌, arith}
+use Rattle.std.proofs.Common.{rules, ◌≡◌, ◌+◌, ◌-◌, ◌++◌, length, reverse, ap, ◌∙◌, arith}
 use Rattle.sgb_gen.specs.inner.LocalSimplexes.{arcs_on, pairs_down}
 use Rattle.sgb_gen.proofs.PairWalks.{with_more, arcs_on-append, after-next, after-all}
 use Rattle.sgb_gen.proofs.SimplexEvents.{pairs_after}
@@ -18,7 +18,4 @@ loop-lower-preserved c =
     (ap (arcs_on bounds x) next ∙ arcs_on-append bounds x (reverse (pairs_after n j)) (pairs_down n (j - 1)))
 
 pub returns-clause-ok : goal.returns-clause-ok
-returns-clause-ok c =
-    let n = length c.args.x.now in
-    let end : c.loop-lower.lower ≡ 0 = omega arith in
-    cc (c.loop-lower.invariant, end, after-all n)
+returns-clause-ok c = search (rules, after-all)
