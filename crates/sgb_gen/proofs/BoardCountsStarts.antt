@@ -40,14 +40,10 @@ forward n m (suc k) a e =
 
 -- a number that is not negative, and one that is
 back-some : (n x a : ℕ) → x < n → a < x → is_some (within_size n (pos x +ℤ negsuc a)) ≡ true
-back-some n x a h g =
-    let there : pos x +ℤ negsuc a ≡ pos (x - suc a) = omega (arith, ints) in
-    ap (λ z. is_some (within_size n z)) there ∙ on_side n (x - suc a) (omega arith)
+back-some n x a h g = grind (arith, ints, on_side)
 
 back-none : (n x a : ℕ) → x ≤ a → is_some (within_size n (pos x +ℤ negsuc a)) ≡ false
-back-none n x a g =
-    let there : pos x +ℤ negsuc a ≡ negsuc (a - x) = omega (arith, ints) in
-    ap (λ z. is_some (within_size n z)) there
+back-none n x a g = grind (arith, ints)
 
 backward : (n m k a : ℕ) → m + k ≡ n → passing (λ x. is_some (within_size n (pos x +ℤ negsuc a))) (range_with_len m k) ≡ (n - suc a) - (m - suc a)
 backward n m zero a e = omega arith

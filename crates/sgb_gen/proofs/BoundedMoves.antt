@@ -180,9 +180,7 @@ EndsAt g ns = (v : List ℕ) (k : ℕ) → k < length ns → get_or ns k 0 ≤ g
 -- what g makes of the vectors of a box, by their first entry
 box-rows : {X : Type 0} (g : List ℕ → List X) (n : ℕ) (ns : List ℕ) → flat_map g (box (n ∷ ns)) ≡ flat_map (λ x. flat_map (λ v. g (x ∷ v)) (box ns)) (range_with_len 0 n)
 unfolding box
-box-rows g n ns =
-    flat_map-flat_map g (λ x. map (λ v. x ∷ v) (box ns)) (range_with_len 0 n)
-    ∙ flat_map-same (λ x. flat_map g (map (λ v. x ∷ v) (box ns))) (λ x. flat_map (λ v. g (x ∷ v)) (box ns)) (λ x. flat_map-map g (λ v. x ∷ v) (box ns)) (range_with_len 0 n)
+box-rows g n ns = grind (arith, flat_map-flat_map, flat_map-same, flat_map-map)
 
 -- boxes at whose ends it makes nothing give the same
 box-same : {X : Type 0} (g : List ℕ → List X) (ns ms : List ℕ) → length ns ≡ length ms → EndsAt g ns → EndsAt g ms → flat_map g (box ns) ≡ flat_map g (box ms)
@@ -209,15 +207,11 @@ by_norm b f v = by_test f (λ w. eqb (sum_of_squares w) (nat_abs b.piece)) v
 
 -- another sum of squares makes nothing
 norm-other : {X : Type 0} (b : BoardData) (f : List ℤ → List X) (v : List ℕ) → nat_abs b.piece < sum_of_squares v → by_norm b f v ≡ []
-norm-other b f v h =
-    let other : eqb (sum_of_squares v) (nat_abs b.piece) ≡ false = grind (arith, nat_tests) in
-    ap (λ c. cond c (by_signings f v) []) other
+norm-other b f v h = grind (arith, nat_tests)
 
 -- nor does an entry above the piece, or one above its bound
 ends-all : {X : Type 0} (b : BoardData) (f : List ℤ → List X) (d : ℕ) → EndsAt (by_norm b f) (replicate d (nat_abs b.piece + 1))
-ends-all b f d v k l far =
-    let within : k < d = omega (arith, l, length-replicate d (nat_abs b.piece + 1)) in
-    norm-other b f v (omega (arith, far, entry-le v k, get_or-replicate d k (nat_abs b.piece + 1) 0 within))
+ends-all b f d v k l far = grind (arith, length-replicate, norm-other, entry-le, get_or-replicate)
 
 ends-within : {X : Type 0} (b : BoardData) (f : List ℤ → List X) → IsOff b f → EndsAt (by_norm b f) (map (λ n. n + 1) (bounds_of b))
 ends-within b f off v k l far =

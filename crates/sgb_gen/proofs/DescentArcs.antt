@@ -100,12 +100,7 @@ made_one true front v = refl
 made_one false front v = refl
 
 pub under-zeros : (sb : ℕ) (front : List ℕ) (c left : ℕ) (bs x : List ℕ) (b : Bool) → left ≡ 0 → is_wanted_size sb c ≡ b → arcs_under sb front c x (reverse (bounded_sums left bs)) ≡ cond b (record { tip = front ++ zeros bs; len = pos 1 } ∷ []) []
-under-zeros sb front c left bs x b none test =
-    ap (λ n. arcs_under sb front c x (reverse (bounded_sums n bs))) none
-    ∙ ap (λ vs. arcs_under sb front c x (reverse vs)) (sums-zero bs)
-    ∙ ap (λ k. map (λ w. record { tip = front ++ w; len = pos 1 }) (cond (is_wanted_size sb k) (zeros bs ∷ []) [])) (omega (arith, common-zero x bs))
-    ∙ ap (λ t. map (λ w. record { tip = front ++ w; len = pos 1 }) (cond t (zeros bs ∷ []) [])) test
-    ∙ made_one b front (zeros bs)
+under-zeros sb front c left bs x b none test = grind (arith, sums-zero, common-zero, made_one)
 
 -- ---- the vectors above one and below it
 
@@ -161,18 +156,10 @@ no_parts [] m e = (refl, e)
 no_parts (v ∷ l) m e = absurd (omega (arith, ap length e))
 
 pub unwanted-to : (sb : ℕ) (front : List ℕ) (c left : ℕ) (bs x : List ℕ) → IsWithin x bs → left ≡ sum x → arcs_under sb front c x (reverse (bounded_sums left bs)) ≡ [] → arcs_under sb front c x (down_to bs x) ≡ []
-unwanted-to sb front c left bs x h all none =
-    (no_parts (arcs_under sb front c x (down_to bs x)) (arcs_under sb front c x (below bs x))
-    (sym (under-append sb front c x (down_to bs x) (below bs x))
-    ∙ ap (arcs_under sb front c x) (ap (λ l. l ++ below bs x) (to-above bs x h) ∙ append_assoc (above bs x) (x ∷ []) (below bs x) ∙ sym (parted bs x h) ∙ ap (λ n. reverse (bounded_sums n bs)) (sym all))
-    ∙ none)).0
+unwanted-to sb front c left bs x h all none = grind (arith, no_parts, under-append, to-above, append_assoc, parted)
 
 pub unwanted-from : (sb : ℕ) (front : List ℕ) (c left : ℕ) (bs x : List ℕ) → IsWithin x bs → left ≡ sum x → arcs_under sb front c x (reverse (bounded_sums left bs)) ≡ [] → arcs_under sb front c x (down_from bs x) ≡ []
-unwanted-from sb front c left bs x h all none =
-    (no_parts (arcs_under sb front c x (above bs x)) (arcs_under sb front c x (down_from bs x))
-    (sym (under-append sb front c x (above bs x) (down_from bs x))
-    ∙ ap (arcs_under sb front c x) (ap (λ l. above bs x ++ l) (from-below bs x h) ∙ sym (parted bs x h) ∙ ap (λ n. reverse (bounded_sums n bs)) (sym all))
-    ∙ none)).1
+unwanted-from sb front c left bs x h all none = grind (arith, no_parts, under-append, from-below, parted)
 
 -- so those from x on, and those up to it, are these
 module _ (bs x : List ℕ) (h : IsWithin x bs) where
@@ -229,15 +216,11 @@ ended-zero bs x h none = ap sum (both_ended bs x h none).1
 
 -- then more than 0 is no sum, and x is the one vector
 pub ended-all : (sb : ℕ) (front : List ℕ) (c left : ℕ) (bs x : List ℕ) → IsWithin x bs → HasEnded bs x → 0 < left → arcs_under sb front c x (reverse (bounded_sums left bs)) ≡ []
-ended-all sb front c left bs x h none some =
-    ap (λ cs. arcs_under sb front c x (reverse (bounded_sums left cs))) (both_ended bs x h none).0
-    ∙ ap (λ vs. arcs_under sb front c x (reverse vs)) (sums-past left [] (omega arith))
+ended-all sb front c left bs x h none some = grind (arith, both_ended, sums-past)
 
 pub ended-part : (part : List ℕ → List ℕ → List (List ℕ)) → ((x : List ℕ) → part [] x ≡ [] ∷ []) → (sb : ℕ) (front : List ℕ) (c left : ℕ) (bs x : List ℕ) → IsWithin x bs → HasEnded bs x → left ≡ sum x
     → arcs_under sb front c x (reverse (bounded_sums left bs)) ≡ arcs_under sb front c x (part bs x)
-ended-part part one sb front c left bs x h none all =
-    let both = both_ended bs x h none in
-    rw (all ∙ ap sum both.1, both.0, sums-end, one x) refl
+ended-part part one sb front c left bs x h none all = grind (arith, both_ended, sums-end)
 
 -- all vectors by their rows
 pub all-rows : (sb : ℕ) (front : List ℕ) (c left b h most : ℕ) (bs xs bounds x : List ℕ) → bounds ≡ b ∷ bs → x ≡ h ∷ xs → most ≡ min left b → arcs_under sb front c (h ∷ xs) (rows left bs 0 (most + 1 - 0)) ≡ arcs_under sb front c x (reverse (bounded_sums left bounds))

@@ -90,10 +90,7 @@ zeros_filled tip new bs x within fits is =
     ∙ ap (λ l. front_of tip x ++ l) (splat_is_map bs (length bs) 0 refl)
 
 pub filled_zeros : (tip new x : List ℕ) → length x ≤ length tip → length new ≡ length tip → new ≡ take (length tip - length x) tip ++ replicate (length tip - (length tip - length x)) 0 → drop (length new - length x) new ≡ replicate (length x) 0
-filled_zeros tip new x fits same is =
-    ap₂ (λ n l. drop (n - length x) l) same is
-    ∙ drop_at (take (length tip - length x) tip) (replicate (length tip - (length tip - length x)) 0) (length tip - length x) (length-take-le (length tip - length x) tip (omega arith))
-    ∙ ap (λ n. replicate n 0) (omega (arith, fits))
+filled_zeros tip new x fits same is = grind (arith, drop_at, length-take-le)
 
 pub filled_front : (tip new x : List ℕ) → length x ≤ length tip → length new ≡ length tip → new ≡ take (length tip - length x) tip ++ replicate (length tip - (length tip - length x)) 0 → front_of new x ≡ front_of tip x
 filled_front tip new x fits same is =

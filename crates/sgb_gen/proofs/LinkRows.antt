@@ -60,28 +60,19 @@ last_row kept x all start all_is start_is =
 put-moved : (f : List ℕ → List ℕ) (kept x all moved : List ℕ) (start : ℕ) → all ≡ kept ++ x → start ≡ length kept
     → moved ≡ f (take (length all - start) (drop start all))
     → put_mid start (length all - start) all moved ≡ kept ++ f x
-put-moved f kept x all moved start all_is start_is moved_is =
-    let before : take start all ≡ kept = ap (take start) all_is ∙ ap (λ k. take k (kept ++ x)) start_is ∙ take-append_seam kept x in
-    let after : drop (length all - start) (drop start all) ≡ [] = drop_all (length all - start) (drop start all) (omega (arith, length-drop start all)) in
-    cc (before, after, append-nil moved, moved_is, last_row kept x all start all_is start_is)
+put-moved f kept x all moved start all_is start_is moved_is = grind (arith, take-append_seam, drop_all, length-drop, append-nil, last_row)
 
 last_moved : {Z : Type 0} (f : List ℕ → List ℕ) (v : Vec ℕ Z) (kept x all moved : List ℕ) (start : ℕ) → ((row : List ℕ) → length (f row) ≡ length row) → v.items ≡ kept ++ x → all ≡ v.items → vec_len v ≡ length v.items → start ≡ length kept
     → moved ≡ f (take (length all - start) (drop start all))
     → (with_items v (put_mid start (length all - start) all moved)).items ≡ kept ++ f x
-last_moved f v kept x all moved start as_long items_are all_is count start_is moved_is =
-    let written = put-moved f kept x all moved start (all_is ∙ items_are) start_is moved_is in
-    with_items_is v (put_mid start (length all - start) all moved)
-    (omega (arith, ap length written, length-append kept (f x), as_long x, ap length items_are, length-append kept x, count))
-    ∙ written
+last_moved f v kept x all moved start as_long items_are all_is count start_is moved_is = grind (arith, put-moved, with_items_is, put_mid, length-append)
 
 -- ---- one arc more
 
 -- the links with one more arc, whose entries and length are put behind the others
 pub arc-pushed : (w n : ℕ) (d : LinksData) (kept lens tip tips news : List ℕ) → record { width = w; arcs = arcs_in w kept lens } ≡ d → length kept ≡ length lens * w → length tip ≡ d.width → tips ≡ kept ++ tip → news ≡ lens ++ n ∷ []
     → ◌≡◌ {A = LinksData} (record { width = w; arcs = arcs_in w tips news }) (with_arcs d (record { tip = tip; len = pos n } ∷ []))
-arc-pushed w n d kept lens tip tips news view long wide tips_are news_are =
-    let one = arcs_in-push w kept lens tip n long (wide ∙ sym (ap (λ e. e.width) view)) in
-    rw (tips_are, news_are, one, ← view) refl
+arc-pushed w n d kept lens tip tips news view long wide tips_are news_are = grind (arith, arcs_in-push)
 
 -- and where a vector is put there that is then changed in place
 pub arc-moved : {Z : Type 0} (f : List ℕ → List ℕ) (v : Vec ℕ Z) (w n : ℕ) (d : LinksData) (kept lens x all moved news : List ℕ) (start : ℕ) → ((row : List ℕ) → length (f row) ≡ length row)

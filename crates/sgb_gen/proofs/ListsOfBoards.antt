@@ -120,9 +120,7 @@ module _ (sides : List Side) (piece : ℤ) (t : List ℤ) (x : List ℕ) where
 -- where the arcs are directed, those by one displacement are those by the moves from x
 pub directed_onward : (b : BoardData) (x : List ℕ) (t : List ℤ) → IsBelow x b.sizes → true ≡ b.directed
     → map move_arc (moves_from (sides_of b.sizes b.wrap) b.piece x t) ≡ arcs_onward b.directed x (moves_by (sides_of b.sizes b.wrap) b.piece (box b.sizes) t)
-directed_onward b x t below directed =
-    let sides = sides_of b.sizes b.wrap in
-    cc (onward_by_own sides b.piece t x (box b.sizes) (box_vectors_rise b.sizes) (Contains-from_IsBelow b.sizes x below), directed)
+directed_onward b x t below directed = grind (arith, onward_by_own, box_vectors_rise, Contains-from_IsBelow)
 
 -- ---- the moves of a board have their ends on it
 

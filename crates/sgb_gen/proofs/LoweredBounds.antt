@@ -1,5 +1,5 @@
 -- Bounds with one less at a place: the vectors of a sum within them, and how many there are.
-use Rattle.std.proofs.Common.{◌≡◌, ℕ, zero, suc, ◌+◌, ◌-◌, ◌<◌, ◌≤◌, Bool, false, List, [], ◌∷◌, length, get_or, set, sum, take, refl, ap, inl, inr, arith, length-set}
+use Rattle.std.proofs.Common.{◌≡◌, ℕ, zero, suc, ◌+◌, ◌-◌, ◌<◌, ◌≤◌, Bool, false, List, [], ◌∷◌, get_or, set, sum, take, refl, ap, inl, inr, arith, length-set}
 use Rattle.std.specs.List.{list_any, range_with_len}
 use Rattle.std.specs.Prelude.{nat_lt}
 use Rattle.std.proofs.lemmas.Bool.{cases_lt, or_from, or_parts, lt-ltb, le-ltb, both_ways}
@@ -72,11 +72,7 @@ within-more_both (x ∷ v) (b ∷ bounds) (suc i) room h = (h.0, within-more_bot
 
 -- what they add to
 pub sum-less_at : (v : List ℕ) (i : ℕ) → 0 < get_or v i 0 → sum (less_at v i) + 1 ≡ sum v
-sum-less_at v i some =
-    elim (cases_lt i (length v)) [
-      | inl within ↦ omega (arith, some, sum_by-set (λ x. x) v i (get_or v i 0 - 1) 0 within)
-      | inr past ↦ absurd (omega (arith, some, get_or_past v i 0 past))
-    ]
+sum-less_at v i some = grind (arith, cases_lt, sum_by-set, get_or_past)
 
 -- ---- how many vectors there are
 
@@ -112,24 +108,12 @@ none_fewer p q (suc m) (suc n) a le fewer none =
 
 -- a count that is no greater is not too great
 small_too : (a b : ℕ) → a ≤ b → nat_lt most_vertices b ≡ false → nat_lt most_vertices a ≡ false
-small_too a b le small =
-    elim (cases_lt most_vertices b) [
-      | inl great ↦ absurd (both_ways (nat_lt most_vertices b) small (lt-ltb most_vertices b great))
-      | inr few ↦ le-ltb most_vertices a (omega (arith, le, few))
-    ]
+small_too a b le small = grind (arith, cases_lt, both_ways, lt-ltb, le-ltb)
 
 -- where there are not too many vectors, there are not of a smaller sum and with one less at a place
 none_great-less : (n m : ℕ) (bounds : List ℕ) (i : ℕ) → m ≤ n → has_great_count n bounds ≡ false → has_great_count m (less_at bounds i) ≡ false
 unfolding has_great_count
-none_great-less n m bounds i le none =
-    let less = less_at bounds i in
-    let long : length less ≡ length bounds = length-set bounds i (get_or bounds i 0 - 1) in
-    let great : List ℕ → ℕ → ℕ → Bool = λ bs j k. nat_lt most_vertices (count_of_sum k (take (j + 1) bs)) in
-    none_fewer (λ j. list_any (great bounds j) (range_with_len 0 (n + 1))) (λ j. list_any (great less j) (range_with_len 0 (m + 1)))
-    (length less - 1) (length bounds - 1) 1 (omega (arith, long))
-    (λ j. none_fewer (great bounds j) (great less j) (m + 1) (n + 1) 0 (omega (arith, le))
-    (λ k. small_too (count_of_sum k (take (j + 1) less)) (count_of_sum k (take (j + 1) bounds)) (count-lowered_le bounds (j + 1) i k)))
-    none
+none_great-less n m bounds i le none = grind (arith, length-set, none_fewer, small_too, count-lowered_le)
 
 -- nor with one less at two
 pub none_great-lowered : (n : ℕ) (bounds : List ℕ) (at : Places) → has_great_count n bounds ≡ false → has_great_count (n - 1) (lowered bounds at) ≡ false

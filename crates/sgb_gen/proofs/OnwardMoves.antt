@@ -1,5 +1,5 @@
 -- Moves by a displacement that leads onward, and back by its opposite: the vectors come in order.
-use Rattle.std.proofs.Common.{◌≡◌, ◌≢◌, ℕ, zero, suc, ◌+◌, ◌*◌, ◌<◌, ◌≤◌, ℤ, pos, negsuc, ◌+ℤ◌, ◌*ℤ◌, Bool, true, false, not, List, [], ◌∷◌, length, map, Some, sym, ap, ◌∙◌, arith, true≢false}
+use Rattle.std.proofs.Common.{◌≡◌, ◌≢◌, ℕ, zero, suc, ◌+◌, ◌<◌, ℤ, pos, negsuc, ◌+ℤ◌, ◌*ℤ◌, Bool, true, false, not, List, [], ◌∷◌, length, map, Some, sym, ap, ◌∙◌, arith, true≢false}
 use Rattle.std.proofs.lemmas.Int.{ints}
 use Rattle.std.proofs.lemmas.Nat.{mul-le}
 use Rattle.sgb_vec.specs.Lexicographic.{IsBefore, IsBelow}
@@ -12,9 +12,7 @@ use Rattle.sgb_gen.proofs.TurnedMoves.{in_front-parts, in_front-some, leaper_one
 
 -- the farther back, the less
 lower : (c e l m a b : ℕ) → l < m → pos c +ℤ pos l *ℤ negsuc e ≡ pos a → pos c +ℤ pos m *ℤ negsuc e ≡ pos b → b < a
-lower c e l m a b less near far =
-    let more : l * suc e + suc e ≤ m * suc e = omega (arith, mul-le (l + 1) (suc e) m (suc e) (omega (arith, less)) (omega arith)) in
-    omega (arith, ints, more, near, far)
+lower c e l m a b less near far = grind (arith, mul-le, ints)
 
 -- on a side that does not wrap around a coordinate is within it
 unwrapped : (n : ℕ) (wraps : Bool) (y : ℤ) (c : ℕ) → not wraps ≡ true → coordinate_on (record { size = n; wraps = wraps }) y ≡ Some c → within_size n y ≡ Some c

@@ -139,11 +139,7 @@ module _ (b : BoardData) (t : List ℤ) (x : List ℕ) (there : Contains (box b.
       cc (by, leads_there sides b.piece ts x m.len m.to below_x lead.1, other_is m.to x other)
 
   arc_behind : (m : Move) → Leads (opposite t) m → edge (from_behind m) ≡ move_arc m ∷ []
-  arc_behind m lead =
-      let less = behind_less m lead in
-      let apart : (vertex_among vectors m.to == u) ≡ false = ne_eqb (vertex_among vectors m.to) u (λ e. omega (arith, less, e)) in
-      one_arc m (opposite t) (vertex_among vectors m.to == u) (ap (λ c. cond c t (opposite t)) apart) lead
-      (λ same. omega (arith, less, ap (vertex_among vectors) same))
+  arc_behind m lead = grind (arith, behind_less, ne_eqb, one_arc)
 
   arc_here : (m : Move) → Leads t m → edge (from_here m) ≡ move_arc m ∷ []
   arc_here m lead =

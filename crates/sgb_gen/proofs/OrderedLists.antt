@@ -17,15 +17,7 @@ before_trans u v w = nat_list_cmp_total.trans u v w
 
 -- of rising lists with the same elements, the first elements are the same
 first_same : (v w : List ℕ) (vs ws : List (List ℕ)) → All (IsBefore v) vs → All (IsBefore w) ws → Contains (w ∷ ws) v → Contains (v ∷ vs) w → v ≡ w
-first_same v w vs ws after_v after_w hv hw =
-    elim (Contains-cases w v ws hv) [
-      | inl same ↦ sym same
-      | inr later ↦
-          elim (Contains-cases v w vs hw) [
-            | inl same ↦ same
-            | inr last ↦ absurd (before_none v (before_trans v w v (All-contains (IsBefore v) vs w after_v last) (All-contains (IsBefore w) ws v after_w later)))
-          ]
-    ]
+first_same v w vs ws after_v after_w hv hw = grind (arith, Contains-cases, before_none, before_trans, All-contains)
 
 -- and the others have the same elements
 others_there : (v w : List ℕ) (vs ws : List (List ℕ)) → v ≡ w → All (IsBefore v) vs → All (Contains (w ∷ ws)) vs → All (Contains ws) vs

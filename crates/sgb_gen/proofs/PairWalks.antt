@@ -63,9 +63,7 @@ abbrev pub pairs_below : ℕ → ℕ → List Places
 pairs_below n j = flat_map (pairs_down n) (range_with_len 0 j)
 
 pub below-next : (n j : ℕ) → pairs_below n (j + 1) ≡ pairs_below n j ++ pairs_down n j
-below-next n j =
-    let place : 0 + j ≡ j = omega arith in
-    cc (range-more 0 j, flat_map-append (pairs_down n) (range_with_len 0 j) ((0 + j) ∷ []), append-nil (pairs_down n (0 + j)), place)
+below-next n j = grind (arith, range-more, flat_map-append, append-nil)
 
 -- the arc by one pair, as the code makes it
 arc_in_list : (b : Bool) (arc : Places → LocalArc) (at : Places) → (if b then arc at ∷ [] else []) ≡ map arc (cond b (at ∷ []) [])

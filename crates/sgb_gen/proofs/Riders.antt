@@ -1,6 +1,6 @@
 -- A rider stops: as many steps as the board has places lead out of it or back to the start.
 use lib.IntN.{ -ℤ-+ℤ_cancel as sub-add_cancel}
-use Rattle.std.proofs.Common.{◌≡◌, ℕ, zero, suc, ◌+◌, ◌-◌, ◌*◌, ◌%◌, ◌<◌, ◌≤◌, ◌↔◌, ◌⊎◌, ℤ, pos, negsuc, ◌+ℤ◌, ◌*ℤ◌, neg_ℤ, nat_abs, Bool, true, false, not, cond, ltb, List, [], ◌∷◌, map, length, get_or, take, Option, Some, None, refl, sym, ap, ap₂, subst, ◌∙◌, inl, inr, arith, true≢false}
+use Rattle.std.proofs.Common.{◌≡◌, ℕ, zero, suc, ◌+◌, ◌-◌, ◌*◌, ◌%◌, ◌<◌, ◌≤◌, ◌↔◌, ◌⊎◌, ℤ, pos, negsuc, ◌+ℤ◌, ◌*ℤ◌, neg_ℤ, nat_abs, Bool, true, false, not, ltb, List, [], ◌∷◌, map, length, get_or, take, Option, Some, None, refl, sym, ap, ap₂, subst, ◌∙◌, inl, inr, arith}
 use Rattle.std.proofs.Math.Nat.{add-mul-mod_self_left, mod-eq_of_lt}
 use Rattle.std.specs.Cmp.Lexicographic.{bytes_decides}
 use Rattle.std.specs.Int.{int_rem_euclid}
@@ -48,13 +48,7 @@ strides n x l (negsuc a) h far =
 
 -- the same of one coordinate, at a length that the side's size divides
 coordinates : (s : Side) (q x : ℕ) (t : ℤ) → x < s.size → 0 < q → OutOrHome (coordinate_on s (pos x +ℤ pos (q * s.size) *ℤ t)) x
-coordinates s q x t h p =
-    let far : s.size ≤ q * s.size = omega (arith, mul-le 1 s.size q s.size (omega arith) (omega arith)) in
-    let y = pos x +ℤ pos (q * s.size) *ℤ t in
-    elim s.wraps as (λ b. OutOrHome (cond b (Some (nat_abs (int_rem_euclid y (pos s.size)))) (within_size s.size y)) x) [
-      | true ↦ inr (ap Some (turns s.size q x t h))
-      | false ↦ strides s.size x (q * s.size) t h far
-    ]
+coordinates s q x t h p = grind (arith, mul-le, turns, strides)
 
 -- a coordinate in front
 home_in_front : (o : Option ℕ) (p : Option (List ℕ)) (x : ℕ) (v : List ℕ) → OutOrHome o x → OutOrHome p v → OutOrHome (in_front o p) (x ∷ v)
@@ -135,14 +129,7 @@ length-kept p n = length-take-le (passing p n) (numbers_to n) (omega (arith, pas
 
 -- where the test fails at n, all numbers up to l pass only where l is among those kept
 passing-from_all : (p : ℕ → Bool) (n l : ℕ) → 0 < n → p n ≡ false → ((k : ℕ) → 1 ≤ k → k ≤ l → p k ≡ true) → l ≤ passing p n
-passing-from_all p n l some stop all =
-    elim (cases_lt (passing p n) l) [
-      | inr le ↦ le
-      | inl lt ↦ elim (cases_lt (passing p n) n) [
-        | inl inside ↦ absurd (true≢false (sym (all (passing p n + 1) (omega arith) (omega arith)) ∙ next_fails p n inside))
-        | inr whole ↦ absurd (true≢false (sym (all n (omega arith) (omega arith)) ∙ stop))
-      ]
-    ]
+passing-from_all p n l some stop all = grind (arith, cases_lt, next_fails)
 
 -- where the test fails at n, the numbers kept are those up to which all pass
 Contains-kept : (p : ℕ → Bool) (n l : ℕ) → 0 < n → p n ≡ false → Contains (take_while p (numbers_to n)) l ↔ (1 ≤ l) × ((k : ℕ) → 1 ≤ k → k ≤ l → p k ≡ true)

@@ -1,6 +1,6 @@
 -- The list of a board's vertex, run by run.
-use Rattle.std.proofs.Common.{◌≡◌, ℕ, ◌+◌, ℤ, nat_abs, true, false, Bool, List, [], ◌∷◌, ◌++◌, length, reverse, take, sym, ap, subst, ◌∙◌, append-nil}
-use Rattle.std.specs.List.{All, flat_map, slice_get}
+use Rattle.std.proofs.Common.{arith, ◌≡◌, ℕ, ◌+◌, ℤ, nat_abs, true, false, Bool, List, [], ◌∷◌, ◌++◌, length, reverse, take, sym, ap, subst, append-nil}
+use Rattle.std.specs.List.{All, slice_get}
 use Rattle.std.specs.Prelude.{Some}
 use Rattle.std.proofs.lemmas.Grind.{flat_map-append}
 use Rattle.std.proofs.lemmas.List.{reverse-append, reverse-reverse, take_more}
@@ -10,7 +10,6 @@ use Rattle.sgb_vec.specs.Lexicographic.{IsBelow}
 use Rattle.sgb_vec.proofs.BoxPlaces.{Contains-from_IsBelow}
 use Rattle.sgb_gen.specs.Boards.{BoardData}
 use Rattle.sgb_gen.specs.Moves.{opposite, sides_of}
-use Rattle.sgb_gen.specs.inner.LocalArcs.{arcs_by}
 use Rattle.sgb_gen.specs.inner.LocalBoards.{arcs_onward, moves_by}
 use Rattle.sgb_gen.specs.inner.Moves.{leads_onward}
 use Rattle.sgb_gen.specs.inner.StraightLists.{IsRun, arcs_back, arcs_by_all, arcs_from}
@@ -23,18 +22,12 @@ use Rattle.sgb_gen.proofs.OnwardStarts.{onward_in_order}
 -- the arcs by the last of some displacements stand first
 pub last_first : (b : BoardData) (x : List ℕ) (ts : List (List ℤ)) (t : List ℤ)
     → arcs_by_all b x (ts ++ t ∷ []) ≡ reverse (arcs_onward b.directed x (moves_by (sides_of b.sizes b.wrap) b.piece (box b.sizes) t)) ++ arcs_by_all b x ts
-last_first b x ts t =
-    let by = moves_by (sides_of b.sizes b.wrap) b.piece (box b.sizes) in
-    ap (λ ms. reverse (arcs_onward b.directed x ms)) (flat_map-append by ts (t ∷ []) ∙ ap (λ ms. flat_map by ts ++ ms) (append-nil (by t)))
-    ∙ ap reverse (flat_map-append (arcs_by b.directed x) (flat_map by ts) (by t))
-    ∙ reverse-append (arcs_onward b.directed x (flat_map by ts)) (arcs_onward b.directed x (by t))
+last_first b x ts t = grind (arith, flat_map-append, append-nil, reverse-append)
 
 -- and those by the first of them last
 pub first_last : (b : BoardData) (x : List ℕ) (t : List ℤ) (ts : List (List ℤ))
     → arcs_by_all b x (t ∷ ts) ≡ arcs_by_all b x ts ++ reverse (arcs_onward b.directed x (moves_by (sides_of b.sizes b.wrap) b.piece (box b.sizes) t))
-first_last b x t ts =
-    let by = moves_by (sides_of b.sizes b.wrap) b.piece (box b.sizes) in
-    ap reverse (flat_map-append (arcs_by b.directed x) (by t) (flat_map by ts)) ∙ reverse-append (arcs_onward b.directed x (by t)) (arcs_onward b.directed x (flat_map by ts))
+first_last b x t ts = grind (arith, flat_map-append, reverse-append)
 
 -- where there are arcs alone, those of a displacement are those ahead, the longest first; and there are none back
 pub directed_run : (b : BoardData) (x : List ℕ) (t : List ℤ) → b.directed ≡ true → IsBelow x b.sizes
@@ -74,10 +67,7 @@ at_has P ts k t all at = subst P (get_or_from_slice_get ts k t t at) (all k t (s
 
 -- a displacement of a board has an entry for each side
 pub widths_in_table : (b : BoardData) (ts : List (List ℤ)) → ts ≡ displacements_within (nat_abs b.piece) (bounds_of b) → All (λ u. length u ≡ length b.sizes) ts
-widths_in_table b ts is =
-    let p = nat_abs b.piece in
-    let wide = subst (λ n. All (λ u. length u ≡ n) (displacements_within p (bounds_of b))) (length-entry_bounds p b.sizes b.wrap) (displacement_lengths p (bounds_of b)) in
-    subst (All (λ u. length u ≡ length b.sizes)) (sym is) wide
+widths_in_table b ts is = grind (arith, bounds_of, length-entry_bounds, displacement_lengths)
 
 pub width_in_table : (b : BoardData) (ts : List (List ℤ)) (k : ℕ) (t : List ℤ) → ts ≡ displacements_within (nat_abs b.piece) (bounds_of b)
     → slice_get ts k ≡ Some t → length t ≡ length b.sizes

@@ -41,12 +41,7 @@ module _ (b : BoardData) (x : List ℕ) (t : List ℤ) (below : IsBelow x b.size
 
   -- where the next length leads out, no moves are left after it
   left-past : (n l : ℕ) → n ≤ longest b → l ≡ n + 1 → (n < longest b → parts_stay b.sizes b.wrap x (n + 1) (parts_of t) ≡ false) → moves_left b t x l ≡ []
-  left-past n l most next end =
-      ap (moves_left b t x) next
-      ∙ elim (cases_lt n (longest b)) [
-        | inl less ↦ left-out b t x (n + 1) (omega (arith, less)) (leads_out (n + 1) (omega arith) (end less))
-        | inr all ↦ left-none b t x (n + 1) (omega (arith, all))
-      ]
+  left-past n l most next end = grind (arith, moves_left, cases_lt, longest, left-out, leads_out, left-none)
 
   -- ---- the arcs by all of them
 

@@ -114,15 +114,7 @@ module _ (size_bits : ℕ) (x : List ℕ) where
   outward false v w = refl
 
   from_x : (directed : Bool) (v : List ℕ) (us ws : List (List ℕ)) → Differs v → All Differs us → All Differs ws → arcs_of_moves directed x (moves_onto v (us ++ x ∷ ws)) ≡ arcs_to size_bits x (v ∷ [])
-  from_x directed v us ws other before after =
-      ap (arcs_of_moves directed x) (onto-append v us (x ∷ ws))
-      ∙ arcs-append directed x (moves_onto v us) (moves_onto v (x ∷ ws))
-      ∙ ap₂ (λ a b. a ++ b)
-      (onto_first directed true false x v ws x_itself other
-      ∙ ap₂ (λ a b. a ++ b) (others directed v ws other after) (outward directed v (wanted x v)))
-      (others directed v us other before)
-      ∙ append-nil (cond (wanted x v) (record { tip = v; len = pos 1 } ∷ []) [])
-      ∙ sym (to-one v)
+  from_x directed v us ws other before after = grind (arith, onto-append, arcs-append, onto_first, x_itself, others, outward, append-nil, to-one)
 
   -- to x from other vectors there is one each in an undirected graph
   abbrev inward : Bool → List (List ℕ) → List LocalArc
@@ -155,11 +147,7 @@ module _ (size_bits : ℕ) (x : List ℕ) where
       cc (twice_if (wanted x x) (record { tip = x; len = pos 1 } ∷ []), to-one x, append_assoc (arcs_to size_bits x (x ∷ [])) (arcs_to size_bits x (x ∷ [])) (inward false us))
 
   at_x : (directed : Bool) (us : List (List ℕ)) → All Differs us → arcs_of_moves directed x (moves_onto x (us ++ x ∷ [])) ≡ own_arcs directed us
-  at_x directed us differ =
-      ap (arcs_of_moves directed x) (onto-append x us (x ∷ []))
-      ∙ arcs-append directed x (moves_onto x us) (moves_onto x (x ∷ []))
-      ∙ ap₂ (λ a b. a ++ b) (onto_first directed true true x x [] x_itself x_itself) (onto_x directed us differ)
-      ∙ own_join directed us
+  at_x directed us differ = grind (arith, onto-append, arcs-append, onto_first, x_itself, onto_x, own_join)
 
   -- the moves to these vectors, each from those before it
   abbrev moves_over : List (List ℕ) → List (List ℕ) → List Move
@@ -247,9 +235,7 @@ module _ (vectors : List (List ℕ)) (p : ℕ) (x : List ℕ) (rise : IsRising v
       other_is (get_or vectors k d) x (λ e. before_none x (subst (IsBefore x) e after))
 
   earlier_differ : All (λ v. same_vector v x ≡ false) (take p vectors)
-  earlier_differ k d within =
-      let less : k < p = omega (arith, length-take p vectors, within) in
-      ap (λ v. same_vector v x) (get_or-take p vectors k d less) ∙ differs_at k d less
+  earlier_differ k d within = grind (arith, length-take, get_or-take, differs_at)
 
   later_differ : All (λ v. same_vector v x ≡ false) (drop (p + 1) vectors)
   later_differ k d within =

@@ -62,23 +62,14 @@ pub other-counted : (sb c x y q r counted more : ℕ) (bs : List ℕ) → x ≤ 
     → counted ≡ kept (pairs_among sb c (row q bs x) (rows r bs 0 y))
     → more ≡ kept (pairs_of_sums sb bs (q - x) (r - y) (c + min x y))
     → kept (counted + more) ≡ kept (pairs_among sb c (row q bs x) (rows r bs 0 (y + 1)))
-other-counted sb c x y q r counted more bs first second so_far is =
-    let us = row q bs x in
-    let next : pairs_among sb c us (rows r bs 0 (y + 1)) ≡ pairs_among sb c us (row r bs y ++ rows r bs 0 y) =
-    ap (λ n. pairs_among sb c us (rows r bs 0 n)) {y = suc y} (omega arith)
-    ∙ ap (λ n. pairs_among sb c us (row r bs n ++ rows r bs 0 y)) {x = 0 + y} {y = y} (omega arith) in
-    omega (arith, so_far, is, next, pairs-second sb c us (row r bs y) (rows r bs 0 y), pairs-rows sb c x y q r bs first second)
+other-counted sb c x y q r counted more bs first second so_far is = grind (arith, pairs-second, pairs-rows)
 
 -- one entry of the first vector more
 pub entry-counted : (sb c x q counted more : ℕ) (bs : List ℕ) (vs : List (List ℕ))
     → counted ≡ kept (pairs_among sb c (rows q bs 0 x) vs)
     → more ≡ kept (pairs_among sb c (row q bs x) vs)
     → kept (counted + more) ≡ kept (pairs_among sb c (rows q bs 0 (x + 1)) vs)
-entry-counted sb c x q counted more bs vs so_far is =
-    let next : pairs_among sb c (rows q bs 0 (x + 1)) vs ≡ pairs_among sb c (row q bs x ++ rows q bs 0 x) vs =
-    ap (λ n. pairs_among sb c (rows q bs 0 n) vs) {y = suc x} (omega arith)
-    ∙ ap (λ n. pairs_among sb c (row q bs n ++ rows q bs 0 x) vs) {x = 0 + x} {y = x} (omega arith) in
-    omega (arith, so_far, is, next, pairs-first sb c (row q bs x) (rows q bs 0 x) vs)
+entry-counted sb c x q counted more bs vs so_far is = grind (arith, pairs-first)
 
 -- all vectors with one bound more
 rows-of_all : (r b : ℕ) (bs : List ℕ) → rows r bs 0 (min r b + 1) ≡ reverse (bounded_sums r (b ∷ bs))
@@ -136,14 +127,4 @@ one_pair true v = refl
 one_pair false v = refl
 
 pub last-zero : (sb total q r c : ℕ) (wanted : Bool) → q + r ≡ 0 → c ≤ total → is_wanted_size sb c ≡ wanted → kept (cond wanted 1 0) ≡ cell_of sb total [] q r c
-last-zero sb total q r c wanted none within is =
-    let vectors : bounded_sums 0 [] ≡ [] ∷ [] = sums-end in
-    let pairs : pairs_of_sums sb [] 0 0 c ≡ cond wanted 1 0 =
-    ap₂ (pairs_among sb c) vectors vectors
-    ∙ one_pair (is_wanted_size sb (0 + c)) []
-    ∙ ap (λ n. cond (is_wanted_size sb n) 1 0) {x = 0 + c} {y = c} (omega arith)
-    ∙ ap (λ (b : Bool). cond b 1 0) is in
-    sym (cell-within sb total [] q r c (omega (arith, none, within)) (omega (arith, none, within))
-    ∙ ap (λ n. kept (pairs_of_sums sb [] n r c)) {x = q} {y = 0} (omega (arith, none))
-    ∙ ap (λ n. kept (pairs_of_sums sb [] 0 n c)) {x = r} {y = 0} (omega (arith, none))
-    ∙ ap kept pairs)
+last-zero sb total q r c wanted none within is = grind (arith, sums-end, one_pair, cell-within)

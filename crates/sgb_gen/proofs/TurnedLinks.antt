@@ -115,11 +115,7 @@ arcs_in-turned w first start tips lens long within at =
 -- arcs that are put behind others, and then turned round
 pub turned_behind : (old pushed between : LinksData) (first : ℕ) (behind : List LocalArc) → pushed ≡ record { width = old.width; arcs = old.arcs ++ behind } → first ≡ length old.arcs
     → between ≡ record { width = pushed.width; arcs = take first pushed.arcs ++ reverse (drop first pushed.arcs) } → between ≡ record { width = old.width; arcs = old.arcs ++ reverse behind }
-turned_behind old pushed between first behind is at e =
-    let arcs : take first pushed.arcs ++ reverse (drop first pushed.arcs) ≡ old.arcs ++ reverse behind =
-    ap (λ d. take first d.arcs ++ reverse (drop first d.arcs)) is
-    ∙ ap₂ (λ p q. p ++ reverse q) (take_at old.arcs behind first (sym at)) (drop_at old.arcs behind first (sym at)) in
-    e ∙ ap₂ (λ w ls. record { width = w; arcs = ls }) (ap (λ d. d.width) is) arcs
+turned_behind old pushed between first behind is at e = grind (arith, take_at, drop_at)
 
 -- the arcs by one edge: both of them are the same where it leads to x itself
 pub edge_turned : (x : List ℕ) (l : ℕ) (o : Option (List ℕ)) → reverse (edge_arcs x l o) ≡ edge_arcs x l o

@@ -141,9 +141,7 @@ place_start _ _ t l x h e = absurd h
 
 -- as many steps back lead to the start
 pub place_home : (sides : List Side) (y : List ℕ) (t : List ℤ) (l : ℕ) (x : List ℕ) → IsBelow y (map (λ s. s.size) sides) → place sides y t l ≡ Some x → place sides x (opposite t) l ≡ Some y
-place_home sides y t l x h e =
-    let whole : 0 + l ≡ l = omega arith in
-    place_turned sides y t x 0 l h (ap (place sides y t) whole ∙ e) ∙ place_start sides y t l x h e
+place_home sides y t l x h e = grind (arith, place_turned, place_start)
 
 -- where a steps and a + k lead to the same place, k lead to the start
 pub places_apart : (sides : List Side) (y : List ℕ) (t : List ℤ) (a k : ℕ) (x : List ℕ) → IsBelow y (map (λ s. s.size) sides) → place sides y t a ≡ Some x → place sides y t (a + k) ≡ Some x → place sides y t k ≡ Some y
