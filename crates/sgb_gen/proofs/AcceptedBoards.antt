@@ -1,9 +1,9 @@
 -- What is known of the board that is accepted.
-use Rattle.std.proofs.Common.{arith, ◌≡◌, ℕ, ◌≤◌, ℤ, Bool, true, false, cond, ltb, List, [], ◌∷◌, length, Result, Ok, Err, refl, ap, ◌∙◌}
+use Rattle.std.proofs.Common.{rules, arith, ◌≡◌, ℕ, ◌≤◌, ℤ, Bool, true, false, cond, ltb, List, [], ◌∷◌, length, Result, Ok, Err, refl, ap, ◌∙◌}
 use Rattle.std.proofs.lemmas.Bool.{cases_lt, lt-ltb}
 use Rattle.sgb_vec.specs.Boxes.{box_of, product_of}
 use Rattle.sgb_vec.specs.Limits.{most_dimensions, most_vertices}
-use Rattle.sgb_vec.specs.Sizes.{Normalized, chessboard, board_of, board_by_stop, before_stop, stop_of, zero_after_stop, count_by_stop, sizes_by_stop, has_great_size}
+use Rattle.sgb_vec.specs.Sizes.{Normalized, chessboard, board_of, board_by_stop, zero_after_stop, count_by_stop, sizes_by_stop, has_great_size}
 use Rattle.sgb_vec.specs.declared.panics.Panic.{Panic}
 use Rattle.sgb_vec.specs.declared.panics.Panic.TheVariants.{Bad, VeryBad}
 use Rattle.sgb_vec.proofs.SimplexBounds.{length-zero_after_stop}
@@ -34,6 +34,4 @@ parameters_by_stop entries (n ∷ before) e s four h =
 
 -- an accepted board has four parameters
 pub parameters_accepted : (n1 n2 n3 n4 : ℤ) (s : Normalized) → Ok s ≡ board_of n1 n2 n3 n4 → length s.params ≡ 4
-parameters_accepted n1 n2 n3 n4 s h =
-    let entries = n1 ∷ n2 ∷ n3 ∷ n4 ∷ [] in
-    parameters_by_stop entries (before_stop entries) (stop_of entries) s refl h
+parameters_accepted n1 n2 n3 n4 s h = search (rules, parameters_by_stop)

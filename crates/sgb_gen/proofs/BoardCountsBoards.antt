@@ -1,6 +1,6 @@
 -- The counts of a board, as the code finds them: by its sides, its lengths and its displacements.
 use lib.Signed.{lt_z}
-use Rattle.std.proofs.Common.{◌≡◌, ℕ, zero, suc, ◌+◌, ◌-◌, ◌*◌, ◌^◌, ◌<◌, ◌≤◌, min, ℤ, pos, negsuc, ◌*ℤ◌, nat_abs, to_z, of_z, w32, w64, SFits, Bool, true, false, ◌&&◌, cond, ltb, List, [], ◌∷◌, length, map, get_or, drop, Option, Some, None, refl, sym, ap, subst, ◌∙◌, inl, inr, arith}
+use Rattle.std.proofs.Common.{rules, ◌≡◌, ℕ, zero, suc, ◌+◌, ◌-◌, ◌*◌, ◌^◌, ◌<◌, ◌≤◌, min, ℤ, pos, negsuc, ◌*ℤ◌, nat_abs, to_z, of_z, w32, w64, SFits, Bool, true, false, ◌&&◌, cond, ltb, List, [], ◌∷◌, length, map, get_or, drop, Option, Some, None, refl, sym, ap, ◌∙◌, inl, inr, arith}
 use Rattle.std.specs.List.{All, filter}
 use Rattle.std.specs.Option.{is_some, SomeIff}
 use Rattle.std.proofs.lemmas.Bool.{cases_Bool, cases_lt, ltb-true}
@@ -90,9 +90,7 @@ abbrev AreAllBelow : List ℕ → ℤ → Type 0
 AreAllBelow sizes wrap = All (λ x. IsBelow x (map (λ s. s.size) (sides_of sizes wrap))) (box sizes)
 
 all_below : (sizes : List ℕ) (wrap : ℤ) → AreAllBelow sizes wrap
-all_below sizes wrap j w l =
-    let x = get_or (box sizes) j w in
-    subst (IsBelow x) (sym (sizes_of_sides 0 sizes wrap)) (IsBelow-from_Contains sizes x (Contains-get_or (box sizes) j w l))
+all_below sizes wrap j w l = search (rules, sizes_of_sides, IsBelow-from_Contains, Contains-get_or)
 
 length_sides : (sizes : List ℕ) (wrap : ℤ) (k : ℕ) → length (sides_from_bit k sizes wrap) ≡ length sizes
 length_sides [] wrap k = refl

@@ -1,5 +1,5 @@
 -- Arcs that are kept with their vectors one after another.
-use Rattle.std.proofs.Common.{◌≡◌, ℕ, zero, suc, ◌+◌, ◌-◌, ◌*◌, ◌<◌, ◌≤◌, pos, List, [], ◌∷◌, ◌++◌, length, get_or, take, drop, Some, refl, sym, ap, ◌∙◌, arith, length-append, length-drop}
+use Rattle.std.proofs.Common.{rules, ◌≡◌, ℕ, zero, suc, ◌+◌, ◌-◌, ◌*◌, ◌<◌, ◌≤◌, pos, List, [], ◌∷◌, ◌++◌, length, get_or, take, drop, Some, refl, sym, ap, ◌∙◌, arith, length-append, length-drop}
 use borrow.Rule.Slice.PartMut.{put_mid}
 use Rattle.std.specs.List.{slice_get}
 use Rattle.std.proofs.Math.Seq.{drop-append_seam, take-append_seam}
@@ -47,9 +47,7 @@ arcs_in-push width tips (m ∷ lens) tip n long wide =
 
 -- with one more arc there are still as many entries as arcs times the width
 rows-push : (width n : ℕ) (kept lens tip tips news : List ℕ) → tips ≡ kept ++ tip → news ≡ lens ++ n ∷ [] → length kept ≡ length lens * width → length tip ≡ width → length tips ≡ length news * width
-rows-push width n kept lens tip tips news tips_are news_are long wide =
-    let more : length news ≡ length lens + 1 = ap length news_are ∙ length-append lens (n ∷ []) in
-    omega (arith, ap length tips_are, length-append kept tip, long, wide, ap (λ k. k * width) more)
+rows-push width n kept lens tip tips news tips_are news_are long wide = search (rules, length-append)
 
 -- the last vector of entries that are kept
 pub last_row : (kept x all : List ℕ) (start : ℕ) → all ≡ kept ++ x → start ≡ length kept → take (length all - start) (drop start all) ≡ x

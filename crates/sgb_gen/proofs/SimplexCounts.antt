@@ -1,5 +1,5 @@
 -- The moves of a simplex counted: by pairs of places, as vectors of a smaller sum.
-use Rattle.std.proofs.Common.{◌≡◌, ℕ, ◌+◌, ◌-◌, ◌*◌, ◌<◌, ◌≤◌, ℤ, pos, true, false, cond, ◌⊎◌, Result, Ok, Err, List, [], ◌∷◌, ◌++◌, length, map, get_or, sum, refl, sym, ap, subst, ◌∙◌, inl, inr, arith, length-append}
+use Rattle.std.proofs.Common.{rules, ◌≡◌, ℕ, ◌+◌, ◌-◌, ◌*◌, ◌<◌, ◌≤◌, ℤ, pos, true, false, cond, ◌⊎◌, Result, Ok, Err, List, [], ◌∷◌, ◌++◌, length, map, get_or, sum, refl, sym, ap, subst, ◌∙◌, inl, inr, arith, length-append}
 use Rattle.std.specs.List.{All, AllPairs, Contains, filter, flat_map}
 use Rattle.std.proofs.lemmas.Bool.{and_from, cases_lt, le-ltb}
 use Rattle.std.proofs.lemmas.Bool.Decides.{Decides-ltb}
@@ -111,10 +111,7 @@ module _ (s : BoundedSum) (at : Places) (order : at.lower < at.higher) where
       ]
 
   pub shifts-none : (s.total ≡ 0) ⊎ (get_or s.bounds at.lower 0 ≡ 0) ⊎ (get_or s.bounds at.higher 0 ≡ 0) → 0 ≡ shifts_count s at
-  shifts-none none =
-      let vectors = bounded_sums s.total s.bounds in
-      sym (ap length (filter-none (λ x. can_shift s.bounds x at) vectors
-      (λ k d within. never_true (can_shift s.bounds (get_or vectors k d) at) (cannot (get_or vectors k d) none (Contains-get_or vectors k d within)))))
+  shifts-none none = search (rules, filter-none, never_true, cannot, Contains-get_or)
 
 -- ---- all pairs
 

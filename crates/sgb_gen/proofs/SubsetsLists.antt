@@ -1,5 +1,5 @@
 -- The list of a vector of subsets is made by a walk over the vectors, from the last one back.
-use Rattle.std.proofs.Common.{◌≡◌, ℕ, ◌+◌, ◌<◌, min, pos, Bool, true, false, cond, List, [], ◌∷◌, ◌++◌, length, map, filter, reverse, take, drop, get_or, Some, refl, sym, ap, ap₂, subst, ◌∙◌, arith, append-nil, append_assoc}
+use Rattle.std.proofs.Common.{rules, ◌≡◌, ℕ, ◌+◌, ◌<◌, min, pos, Bool, true, false, cond, List, [], ◌∷◌, ◌++◌, length, map, filter, reverse, take, drop, get_or, Some, refl, sym, ap, ap₂, subst, ◌∙◌, arith, append-nil, append_assoc}
 use Rattle.std.specs.Cmp.Lexicographic.{bytes_decides}
 use Rattle.std.specs.List.{All, Contains, flat_map, range_with_len, slice_get}
 use Rattle.std.proofs.Math.Seq.{get_or-append_seam, take-append-add}
@@ -249,11 +249,7 @@ taken n vectors k d within =
 
 -- so both ends of each move are vertices
 ends_at_place : (size_bits : ℕ) (vectors : List (List ℕ)) (i : ℕ) → i < length vectors → All (HasEnds vectors) (moves_to_place size_bits vectors i)
-ends_at_place size_bits vectors i within =
-    let v = get_or vectors i [] in
-    All-map (HasEnds vectors) (λ u. record { from = u; to = v; len = 1 }) (filter (λ u. is_wanted_size size_bits (common_size u v)) (take (i + 1) vectors))
-    (All-filter (λ u. is_wanted_size size_bits (common_size u v)) (λ u. HasEnds vectors (record { from = u; to = v; len = 1 })) (take (i + 1) vectors)
-    (λ k d inside. (taken (i + 1) vectors k d inside, All-contains_itself vectors i [] within)))
+ends_at_place size_bits vectors i within = search (rules, All-map, All-filter, taken, All-contains_itself)
 
 pub moves_have_ends : (s : SubsetsData) → All (HasEnds (subsets_vectors s)) (moves_of_subsets s)
 unfolding moves_of_subsets
