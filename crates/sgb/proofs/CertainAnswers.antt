@@ -7,7 +7,7 @@ use Rattle.sgb_vec.specs.declared.panics.Panic.{Panic}
 use Rattle.sgb_vec.specs.declared.panics.Panic.TheVariants.{NoRoom}
 use Rattle.sgb_graph.specs.Graphs.{GraphData}
 use Rattle.sgb_graph.specs.Made.{graph_described}
-use Rattle.sgb_ops.specs.Operands.{names_of}
+use Rattle.sgb_graph.specs.Vertices.{names_of}
 use Rattle.sgb_file.specs.Devices.{AppendsUnlessFailed, Change}
 use Rattle.sgb_gen.specs.declared.params.BoardParams.{BoardParams}
 use Rattle.sgb_expr.specs.Expression.{expression_of}
@@ -16,7 +16,7 @@ use Rattle.sgb_expr.specs.declared.expressions.Expr.{Expr}
 use Rattle.sgb_expr.specs.declared.expressions.Expr.TheVariants as expr
 use Rattle.sgb_expr.specs.declared.expressions.Generator.{Generator}
 use Rattle.sgb_expr.specs.declared.expressions.Generator.TheVariants as generator
-use Rattle.sgb_requests.specs.Faults.{line_of, status_of}
+use Rattle.sgb_requests.specs.Faults.{fault_line, status_of}
 use Rattle.sgb_requests.specs.declared.faults.Fault.{Fault}
 use Rattle.sgb_requests.specs.declared.faults.Fault.TheVariants as fault
 use Rattle.sgb_requests.specs.declared.requests.Request.{Request}
@@ -170,13 +170,13 @@ given_ok (Err g) same x w v e wf ef p = absurd p
 
 -- it was refused, and not cut off by the sink
 given_err : (T : Type 0) (a : Result (List ℕ) Fault) (same : Type 0) (f : Fault) (w v e d : Option (List ℕ)) (wf ef : Bool)
-    → IsEnded {T = T} a same (change_of w v wf) (Err f) → f ≢ fault.Panic NoRoom → wf ≡ false → AppendsUnlessFailed (change_of e d ef) (line_of f)
+    → IsEnded {T = T} a same (change_of w v wf) (Err f) → f ≢ fault.Panic NoRoom → wf ≡ false → AppendsUnlessFailed (change_of e d ef) (fault_line f)
     → IsGiven (outcome_of a) (change_of w v wf) (change_of e d ef) (status_of f)
 given_err T (Ok text) same f w v e d wf ef p other sound line = elim p.cause [ inl h ↦ absurd (both_ways wf sound h.0) | inr h ↦ absurd (other h.1) ]
 given_err T (Err g) same f w v e d wf ef p other sound line = elim p.0 [
   | inl alike ↦ record {
     output = p.1.output;
-    line = subst (λ (h : Fault). AppendsUnlessFailed (change_of e d ef) (line_of h)) alike line;
+    line = subst (λ (h : Fault). AppendsUnlessFailed (change_of e d ef) (fault_line h)) alike line;
     exit = ap status_of alike;
   }
   | inr memory ↦ absurd (other memory)
@@ -189,7 +189,7 @@ certain_ok reads failed a same x w v e wf ef ended unread =
     given_ok a same x w v e wf ef (ended_from _ a same _ (Ok x) (ap (λ b. b && failed) unread) ended)
 
 pub certain_err : (T : Type 0) (reads failed : Bool) (a : Result (List ℕ) Fault) (same : Type 0) (f : Fault) (w v e d : Option (List ℕ)) (wf ef : Bool)
-    → IsEndedFrom {T = T} (reads && failed) a same (change_of w v wf) (Err f) → f ≢ fault.Panic NoRoom → AppendsUnlessFailed (change_of e d ef) (line_of f)
+    → IsEndedFrom {T = T} (reads && failed) a same (change_of w v wf) (Err f) → f ≢ fault.Panic NoRoom → AppendsUnlessFailed (change_of e d ef) (fault_line f)
     → reads ≡ false → wf ≡ false → IsGiven (outcome_of a) (change_of w v wf) (change_of e d ef) (status_of f)
 certain_err T reads failed a same f w v e d wf ef ended other line unread sound =
     given_err T a same f w v e d wf ef (ended_from {T = T} _ a same _ (Err f) (ap (λ b. b && failed) unread) ended) other sound line

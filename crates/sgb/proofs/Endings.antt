@@ -11,7 +11,7 @@ use Rattle.sgb_graph.specs.Graphs.{GraphData}
 use Rattle.sgb_vec.specs.Results.{IsValue}
 use Rattle.sgb.specs.Outcomes.{answer_after, answer_from, outcome_of}
 use Rattle.sgb_file.specs.Devices.{AppendsUnlessFailed, Change}
-use Rattle.sgb_requests.specs.Faults.{line_of, status_of}
+use Rattle.sgb_requests.specs.Faults.{fault_line, status_of}
 use Rattle.sgb.specs.Runs.{IsRunOf}
 use Rattle.sgb.specs.Writing.{IsCutOff, IsEnded, IsWhole, IsWritten}
 use Rattle.sgb_requests.specs.declared.faults.Fault.{Fault}
@@ -36,11 +36,11 @@ answers_ok (Err g) same x w v e wf ef p = absurd p
 
 -- the request was cut off, by the sink or out of memory
 cut_answers : (text : List ℕ) (f : Fault) (w v e d : Option (List ℕ)) (wf ef : Bool) → IsCutOff text (change_of w v wf) f
-    → AppendsUnlessFailed (change_of e d ef) (line_of f) → IsRunOf (outcome_of (Ok text)) (change_of w v wf) (change_of e d ef) (status_of f)
+    → AppendsUnlessFailed (change_of e d ef) (fault_line f) → IsRunOf (outcome_of (Ok text)) (change_of w v wf) (change_of e d ef) (status_of f)
 cut_answers text f w v e d true ef p line = elim p.cause [
   | inl h ↦ record {
     output = p.output;
-    line = subst (λ g. AppendsUnlessFailed (change_of e d ef) (line_of g)) h.1 line;
+    line = subst (λ g. AppendsUnlessFailed (change_of e d ef) (fault_line g)) h.1 line;
     exit = ap status_of h.1;
   }
   | inr h ↦ absurd (both_ways true h.0 refl)
@@ -49,29 +49,29 @@ cut_answers text f w v e d false ef p line = elim p.cause [
   | inl h ↦ absurd (both_ways false refl h.0)
   | inr h ↦ inr (record {
     output = p.output;
-    line = subst (λ g. AppendsUnlessFailed (change_of e d ef) (line_of g)) h.1 line;
+    line = subst (λ g. AppendsUnlessFailed (change_of e d ef) (fault_line g)) h.1 line;
     exit = ap status_of h.1;
   })
 ]
 
 -- the request was refused, or memory was, with nothing written
 refused_answers : (g f : Fault) (w v e d : Option (List ℕ)) (wf ef : Bool) → (f ≡ g) ⊎ (f ≡ fault.Panic NoRoom) → IsWhole [] (change_of w v wf)
-    → AppendsUnlessFailed (change_of e d ef) (line_of f) → IsRunOf (outcome_of (Err g)) (change_of w v wf) (change_of e d ef) (status_of f)
+    → AppendsUnlessFailed (change_of e d ef) (fault_line f) → IsRunOf (outcome_of (Err g)) (change_of w v wf) (change_of e d ef) (status_of f)
 refused_answers g f w v e d true ef by p line = absurd (both_ways true p.sound refl)
 refused_answers g f w v e d false ef (inl same) p line = inl (record {
   output = p.output;
-  line = subst (λ (h : Fault). AppendsUnlessFailed (change_of e d ef) (line_of h)) same line;
+  line = subst (λ (h : Fault). AppendsUnlessFailed (change_of e d ef) (fault_line h)) same line;
   exit = ap status_of same;
 })
 refused_answers g f w v e d false ef (inr memory) p line = inr (record {
   output = prefix_all w v [] p.output;
-  line = subst (λ (h : Fault). AppendsUnlessFailed (change_of e d ef) (line_of h)) memory line;
+  line = subst (λ (h : Fault). AppendsUnlessFailed (change_of e d ef) (fault_line h)) memory line;
   exit = ap status_of memory;
 })
 
 -- the request ended with a fault, and its line was written
 pub answers_err : (T : Type 0) (a : Result (List ℕ) Fault) (same : Type 0) (f : Fault) (w v e d : Option (List ℕ)) (wf ef : Bool)
-    → IsEnded {T = T} a same (change_of w v wf) (Err f) → AppendsUnlessFailed (change_of e d ef) (line_of f)
+    → IsEnded {T = T} a same (change_of w v wf) (Err f) → AppendsUnlessFailed (change_of e d ef) (fault_line f)
     → IsRunOf (outcome_of a) (change_of w v wf) (change_of e d ef) (status_of f) × IfErr a (λ g. same)
 answers_err T (Ok text) same f w v e d wf ef p line = (cut_answers text f w v e d wf ef p line, tt)
 answers_err T (Err g) same f w v e d wf ef p line = (refused_answers g f w v e d wf ef p.0 p.1 line, p.2)

@@ -2,7 +2,7 @@
 use Rattle.std.proofs.Common.{◌≡◌, ◌+◌, ℕ, Bool, true, false, List, [], take, Option, None, Some, Result, Ok, Err, refl, inl, inr, ap, sym, subst}
 use Rattle.std.proofs.lemmas.Bool.{both_ways}
 use Rattle.sgb_file.specs.Devices.{AppendsUnlessFailed, Change}
-use Rattle.sgb_requests.specs.Faults.{line_of, status_of}
+use Rattle.sgb_requests.specs.Faults.{fault_line, status_of}
 use Rattle.sgb.specs.Inputs.{IsKeptOfInput, IsReadFault}
 use Rattle.sgb.specs.Runs.{IsRunFrom}
 use Rattle.sgb.specs.Values.{most_input}
@@ -40,7 +40,7 @@ answers_from_ok false a same x w v e wf ef p = answers_ok a same x w v e wf ef p
 
 -- the request ended with a fault, and its line was written
 pub answers_from_err : (T : Type 0) (failed : Bool) (a : Result (List ℕ) Fault) (same : Type 0) (f : Fault) (w v e d : Option (List ℕ)) (wf ef : Bool)
-    → IsEndedFrom {T = T} failed a same (change_of w v wf) (Err f) → AppendsUnlessFailed (change_of e d ef) (line_of f)
+    → IsEndedFrom {T = T} failed a same (change_of w v wf) (Err f) → AppendsUnlessFailed (change_of e d ef) (fault_line f)
     → IsRunFrom failed a same (change_of w v wf) (change_of e d ef) (status_of f)
 answers_from_err T true a same f w v e d wf ef p line =
     let by = p.1 in
@@ -49,7 +49,7 @@ answers_from_err T true a same f w v e d wf ef p line =
       left = p.2;
       untouched = p.0.0;
       sound = p.0.1;
-      line = subst (λ g. AppendsUnlessFailed (change_of e d ef) (line_of g)) read line;
+      line = subst (λ g. AppendsUnlessFailed (change_of e d ef) (fault_line g)) read line;
       exit = ap status_of read;
     }
 answers_from_err T false a same f w v e d wf ef p line = answers_err T a same f w v e d wf ef p line

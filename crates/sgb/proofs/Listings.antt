@@ -8,7 +8,7 @@ use Rattle.std.proofs.lemmas.Option.{get_or_from_slice_get}
 use Rattle.sgb_vec.proofs.Lists.{range-first, range-none}
 use Rattle.sgb_graph.specs.declared.fields.Link.{Link}
 use Rattle.sgb_graph.specs.Graphs.{GraphData, chain_of}
-use Rattle.sgb_ops.specs.Operands.{names_of}
+use Rattle.sgb_graph.specs.Vertices.{names_of}
 use Rattle.sgb.specs.Texts.{name_line, name_lines, arc_line, block, blocks, head_text}
 
 -- the block of a vertex stands before those after it

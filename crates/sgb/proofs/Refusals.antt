@@ -22,7 +22,7 @@ use Rattle.sgb_ops.specs.Boards.{pair_of_vertices, rim_of_wheel}
 use Rattle.sgb_ops.specs.Entries.{accepted_entries, is_too_great, is_unnumbered, total_of}
 use Rattle.sgb_ops.specs.Induced.{induced_of}
 use Rattle.sgb_ops.specs.Lines.{accepted_lines, is_of_edges, line_graph_of, lines_of_graph}
-use Rattle.sgb_ops.specs.Operands.{order_of}
+use Rattle.sgb_graph.specs.Vertices.{order_of}
 use Rattle.sgb_ops.specs.Product.{product_graph_of}
 use Rattle.sgb_ops.specs.Wheel.{accepted_middle, wheel_of, with_wheel_id}
 use Rattle.sgb_ops.specs.declared.entries.Entry.{Entry}

@@ -11,7 +11,7 @@ use Rattle.sgb_graph.specs.Graphs.{GraphData}
 use Rattle.sgb_graph.specs.Made.{graph_described}
 use Rattle.sgb_gen.specs.VectorGraphs.{VectorGraph, described_by, vertex_among}
 use Rattle.sgb_gen.proofs.RisingVectors.{vertex_in_rising}
-use Rattle.sgb_ops.specs.Operands.{names_of}
+use Rattle.sgb_graph.specs.Vertices.{names_of}
 use Rattle.sgb.specs.Locals.{start_after}
 use Rattle.sgb.specs.Outcomes.{left_out}
 use Rattle.sgb.specs.Texts.{blocks}

@@ -14,7 +14,7 @@ use Rattle.sgb_ops.specs.Intersection.{intersection_of}
 use Rattle.sgb_ops.specs.Lines.{line_graph_of}
 use Rattle.sgb_ops.specs.Product.{product_graph_of}
 use Rattle.sgb_ops.specs.Induced.{induced_of}
-use Rattle.sgb_ops.specs.Operands.{names_of}
+use Rattle.sgb_graph.specs.Vertices.{names_of}
 use Rattle.sgb_expr.specs.Expression.{Expression, Generated, Complement, Gunion, Intersection, Lines, Product, Induced, BiComplete, Wheel, Stdin, Entry, Number, Graph, Entries, NoEntries, EntryThen, expression_of}
 use Rattle.sgb_expr.specs.StdinUses.{entries_have_stdin, entry_has_stdin, has_stdin}
 use Rattle.sgb_file.specs.Saving.{text_of_graph}

@@ -9,7 +9,7 @@ use Rattle.sgb_file.specs.Restoring.{graph_of_text}
 use Rattle.sgb_gen.specs.Boards.{board}
 use Rattle.sgb_gen.specs.declared.params.BoardParams.{BoardParams}
 use Rattle.sgb_ops.specs.BiComplete.{accepted_parts}
-use Rattle.sgb_ops.specs.Operands.{names_of}
+use Rattle.sgb_graph.specs.Vertices.{names_of}
 use Rattle.sgb_ops.specs.Wheel.{accepted_middle}
 use Rattle.sgb_expr.specs.Expression.{Expression, Generated, Complement, Gunion, Intersection, Lines, Product, Induced, BiComplete, Wheel, Stdin, expression_of}
 use Rattle.sgb_expr.specs.StdinUses.{has_stdin}

@@ -4,13 +4,13 @@ use Rattle.std.specs.List.{position}
 use Rattle.std.specs.Cmp.Lexicographic.{pointwise}
 use Rattle.sgb_vec.specs.declared.panics.Panic.{Panic}
 use Rattle.sgb_graph.specs.Graphs.{GraphData}
-use Rattle.sgb_ops.specs.Operands.{names_of}
+use Rattle.sgb_graph.specs.Vertices.{names_of}
 use Rattle.sgb_expr.specs.Expression.{Expression, Generated, Gunion, expression_of}
 use Rattle.sgb_expr.specs.declared.expressions.Generator.{Generator}
 use Rattle.sgb_expr.specs.declared.expressions.Generator.TheVariants as generator
 use Rattle.sgb_expr.specs.StdinUses.{has_stdin}
 use Rattle.sgb_file.specs.Saving.{text_of_graph}
-use Rattle.sgb_requests.specs.Faults.{status_of, line_of}
+use Rattle.sgb_requests.specs.Faults.{status_of, fault_line}
 use Rattle.sgb.specs.FlipAnswers.{flip_answer}
 use Rattle.sgb.specs.Texts.{name_lines, head, blocks}
 use Rattle.sgb.specs.Values.{value_of}
@@ -98,4 +98,4 @@ pub record Outcome : Type 0 where
 -- what is seen of an answer: a refused request has no output
 abbrev pub outcome_of : Result (List ℕ) Fault → Outcome
 outcome_of (Ok output) = record { output = output; line = []; status = 0 }
-outcome_of (Err f) = record { output = []; line = line_of f; status = status_of f }
+outcome_of (Err f) = record { output = []; line = fault_line f; status = status_of f }

@@ -6,7 +6,7 @@ use Rattle.sgb_vec.specs.declared.panics.Panic.TheVariants.{NoRoom}
 use Rattle.sgb.specs.Inputs.{IsKeptOfInput}
 use Rattle.sgb.specs.Outcomes.{Outcome, answer_of, outcome_of, reads_input}
 use Rattle.sgb_file.specs.Devices.{AppendsPrefix, AppendsUnlessFailed, Change}
-use Rattle.sgb_requests.specs.Faults.{status_of, line_of}
+use Rattle.sgb_requests.specs.Faults.{status_of, fault_line}
 use Rattle.sgb_requests.specs.declared.faults.Fault.{Fault}
 use Rattle.sgb_requests.specs.declared.faults.Fault.TheVariants as fault
 use Rattle.sgb_requests.specs.declared.requests.Request.{Request}
@@ -20,7 +20,7 @@ pub record IsGiven (answer : Outcome) (out err : Change) (status : ℕ) : Type 0
 -- the run was stopped by this fault: a prefix of the answer's output, the fault's line and status
 pub record IsStopped (by : Fault) (answer : Outcome) (out err : Change) (status : ℕ) : Type 0 where
   pub output : AppendsPrefix out.before out.after answer.output
-  pub line : AppendsUnlessFailed err (line_of by)
+  pub line : AppendsUnlessFailed err (fault_line by)
   pub exit : status ≡ status_of by
 
 -- A run with this outcome leaves this. Where the output sink has failed, that stopped the run. Where it is sound, the
@@ -36,7 +36,7 @@ pub record IsReported (f : Fault) (same : Type 0) (out err : Change) (status : �
   pub left : same
   pub untouched : out.after ≡ out.before
   pub sound : out.failed ≡ false
-  pub line : AppendsUnlessFailed err (line_of f)
+  pub line : AppendsUnlessFailed err (fault_line f)
   pub exit : status ≡ status_of f
 
 -- what a run leaves: where standard input was read and failed, this was reported and nothing else done; where the request

@@ -1,7 +1,7 @@
 //! What holds of all answers: functions with nothing in them, whose contracts say so.
 ghost use Rattle.std.specs.Prelude.{◌≡◌, ℕ, Bool, List, Result, Ok, Err, false};
 ghost use Rattle.sgb_file.specs.Devices.{AppendsUnlessFailed, Change};
-ghost use Rattle.sgb_requests.specs.Faults.{line_of, status_of};
+ghost use Rattle.sgb_requests.specs.Faults.{fault_line, status_of};
 ghost use Rattle.sgb_requests.specs.declared.faults.Fault.{Fault};
 ghost use Rattle.sgb_requests.specs.declared.requests.Request.{Request};
 ghost use Rattle.sgb.specs.Outcomes.{answer_of, reads_input};
@@ -21,7 +21,7 @@ pub fn run_endings_law()
         → IsEndedFrom {T = ℕ} failed answer (out.after ≡ out.before) out (Ok 0)
         → IsRunFrom failed answer (out.after ≡ out.before) out err 0 }
     ensures reported { (failed : Bool) (answer : Result (List ℕ) Fault) (fault : Fault) (out err : Change)
-        → AppendsUnlessFailed err (line_of fault)
+        → AppendsUnlessFailed err (fault_line fault)
         → IsEndedFrom {T = ℕ} failed answer (out.after ≡ out.before) out (Err fault)
         → IsRunFrom failed answer (out.after ≡ out.before) out err (status_of fault) }
 {}

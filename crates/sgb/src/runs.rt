@@ -4,7 +4,7 @@ ghost use Rattle.sgb_file.specs.Devices.{change};
 ghost use Rattle.sgb_vec.specs.declared.panics.Panic.TheVariants.{NoRoom};
 ghost use Rattle.sgb_expr.specs.Expression.{expression_of};
 ghost use Rattle.sgb_file.specs.Saving.{text_of_graph};
-ghost use Rattle.sgb_ops.specs.Operands.{names_of};
+ghost use Rattle.sgb_graph.specs.Vertices.{names_of};
 ghost use Rattle.sgb.specs.Certain.{BeginsNowhereOn, IsBoard, IsCertain, IsRefusedAtOnce, NeedsNoMemory};
 ghost use Rattle.sgb.specs.inner.Certain.{HasListingAtOnce, HasNamesAtOnce};
 ghost use Rattle.sgb.specs.Outcomes.{answer_from, answer_of, list_answer, names_answer, queen_moves, queen_title, reads_input};

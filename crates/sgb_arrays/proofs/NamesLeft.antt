@@ -3,7 +3,8 @@ use Rattle.std.proofs.Common.{◌≡◌, ℕ, ◌+◌, ◌<◌, ◌≤◌, List,
 use Rattle.std.specs.List.{flat_map}
 use Rattle.std.proofs.lemmas.List.{at_drop_more, drop_all, length-append, length-map}
 use Rattle.sgb_graph.specs.Graphs.{GraphData}
-use Rattle.sgb_arrays.specs.Lists.{names_of, starts_from}
+use Rattle.sgb_graph.specs.Vertices.{names_of}
+use Rattle.sgb_arrays.specs.Lists.{starts_from}
 use Rattle.sgb_arrays.specs.Names.{name_bytes, name_starts}
 use Rattle.sgb_arrays.specs.inner.NamesLeft.{bytes_left, name_starts_left}
 use Rattle.sgb_arrays.specs.inner.Puts.{put_from}

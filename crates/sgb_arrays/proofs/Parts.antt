@@ -7,7 +7,8 @@ use Rattle.std.proofs.lemmas.List.FromFn.{get_or-range_with_len, length-range_wi
 use lib.Seq.{take-append_seam, drop-append_seam}
 use Rattle.sgb_graph.specs.Graphs.{GraphData, chain_of}
 use Rattle.sgb_graph.specs.declared.fields.Link.{Link}
-use Rattle.sgb_arrays.specs.Lists.{names_of, part_at, starts_from}
+use Rattle.sgb_graph.specs.Vertices.{names_of}
+use Rattle.sgb_arrays.specs.Lists.{part_by_starts, starts_from}
 use Rattle.sgb_arrays.specs.Names.{name_bytes, name_starts}
 use Rattle.sgb_arrays.specs.Rows.{arcs_of, lengths_of, starts_of, tips_of}
 
@@ -18,7 +19,7 @@ first_start at (size ∷ sizes) = refl
 
 -- the first part, after others
 first_part : {X : Type 0} (before part rest : List X) (at : ℕ) (sizes : List ℕ) → length before ≡ at
-    → part_at (before ++ (part ++ rest)) (at ∷ starts_from (at + length part) sizes) 0 ≡ part
+    → part_by_starts (before ++ (part ++ rest)) (at ∷ starts_from (at + length part) sizes) 0 ≡ part
 first_part before part rest at sizes size =
     let next = slice_index (starts_from (at + length part) sizes) 0 in
     let long : next - at ≡ length part = omega (arith, first_start (at + length part) sizes) in
@@ -29,34 +30,34 @@ first_part before part rest at sizes size =
 
 -- each part
 each_part : {A X : Type 0} (parts : A → List X) (vs : List A) (v at : ℕ) (d : A) (before : List X) → length before ≡ at → v < length vs
-    → part_at (before ++ flat_map parts vs) (starts_from at (map (λ u. length (parts u)) vs)) v ≡ parts (get_or vs v d)
+    → part_by_starts (before ++ flat_map parts vs) (starts_from at (map (λ u. length (parts u)) vs)) v ≡ parts (get_or vs v d)
 each_part parts [] v at d before size within = absurd (omega arith)
 each_part parts (u ∷ us) zero at d before size within = first_part before (parts u) (flat_map parts us) at (map (λ w. length (parts w)) us) size
 each_part parts (u ∷ us) (suc v) at d before size within =
-    ap (λ xs. part_at xs (starts_from (at + length (parts u)) (map (λ w. length (parts w)) us)) v) (sym (append_assoc before (parts u) (flat_map parts us)))
+    ap (λ xs. part_by_starts xs (starts_from (at + length (parts u)) (map (λ w. length (parts w)) us)) v) (sym (append_assoc before (parts u) (flat_map parts us)))
     ∙ each_part parts us v (at + length (parts u)) d (before ++ parts u) (omega (arith, size, length-append before (parts u))) (omega (arith, within))
 
 -- of the arcs of all lists the list of a vertex
-arc_row : (g : GraphData) (v : ℕ) → v < length g.vertices → part_at (arcs_of g) (starts_of g) v ≡ chain_of g v
+arc_row : (g : GraphData) (v : ℕ) → v < length g.vertices → part_by_starts (arcs_of g) (starts_of g) v ≡ chain_of g v
 unfolding arcs_of starts_of
 arc_row g v within =
     let n = length g.vertices in
     let place : get_or (range_with_len 0 n) v 0 ≡ v = omega (arith, get_or-range_with_len 0 n v 0 within) in
     each_part (chain_of g) (range_with_len 0 n) v 0 0 [] refl (omega (arith, within, length-range_with_len 0 n)) ∙ ap (chain_of g) place
 
-mapped_part : {X Y : Type 0} (f : X → Y) (xs : List X) (starts : List ℕ) (v : ℕ) → part_at (map f xs) starts v ≡ map f (part_at xs starts v)
+mapped_part : {X Y : Type 0} (f : X → Y) (xs : List X) (starts : List ℕ) (v : ℕ) → part_by_starts (map f xs) starts v ≡ map f (part_by_starts xs starts v)
 mapped_part f xs starts v =
     let from = slice_index starts v in
     let many = slice_index starts (suc v) - from in
     ap (take many) (drop-map f from xs) ∙ take-map f many (drop from xs)
 
-pub tip_row : (g : GraphData) (v : ℕ) → v < length g.vertices → part_at (tips_of g) (starts_of g) v ≡ map (λ l. l.tip) (chain_of g v)
+pub tip_row : (g : GraphData) (v : ℕ) → v < length g.vertices → part_by_starts (tips_of g) (starts_of g) v ≡ map (λ l. l.tip) (chain_of g v)
 tip_row g v within = mapped_part (λ (l : Link). l.tip) (arcs_of g) (starts_of g) v ∙ ap (map (λ l. l.tip)) (arc_row g v within)
 
-pub length_row : (g : GraphData) (v : ℕ) → v < length g.vertices → part_at (lengths_of g) (starts_of g) v ≡ map (λ l. l.len) (chain_of g v)
+pub length_row : (g : GraphData) (v : ℕ) → v < length g.vertices → part_by_starts (lengths_of g) (starts_of g) v ≡ map (λ l. l.len) (chain_of g v)
 length_row g v within = mapped_part (λ (l : Link). l.len) (arcs_of g) (starts_of g) v ∙ ap (map (λ l. l.len)) (arc_row g v within)
 
 -- of the names the name of a vertex
-pub name_part : (g : GraphData) (v : ℕ) → v < length g.vertices → part_at (name_bytes g) (name_starts g) v ≡ slice_index_or (names_of g) v []
+pub name_part : (g : GraphData) (v : ℕ) → v < length g.vertices → part_by_starts (name_bytes g) (name_starts g) v ≡ slice_index_or (names_of g) v []
 unfolding name_bytes name_starts
 name_part g v within = each_part (λ name. name) (names_of g) v 0 [] [] refl (omega (arith, within, length-map g.vertices (λ x. x.name)))

@@ -1,5 +1,5 @@
 -- What the contracts of sgb_arrays speak of.
--- vertices, names, and parts that stand one after another
+-- parts that stand one after another
 pub mod Lists
 -- the lists of arcs, one after another
 pub mod Rows

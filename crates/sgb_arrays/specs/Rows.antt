@@ -3,7 +3,8 @@ use Rattle.std.specs.Prelude.{◌≡◌, ℕ, ℤ, ◌+◌, List, length, map}
 use Rattle.std.specs.List.{flat_map}
 use Rattle.sgb_graph.specs.Graphs.{GraphData, chain_of}
 use Rattle.sgb_graph.specs.declared.fields.Link.{Link}
-use Rattle.sgb_arrays.specs.Lists.{places_of, starts_from}
+use Rattle.sgb_graph.specs.Vertices.{places_of}
+use Rattle.sgb_arrays.specs.Lists.{starts_from}
 
 -- the arcs on the lists of the vertices, one list after another
 unfoldable pub arcs_of : GraphData → List Link

@@ -19,13 +19,13 @@ use Rattle.sgb_arrays.specs.declared.refusals.Wrong.TheVariants as wrong
 use Rattle.sgb_chunks.specs.Chunks.{AreChunkNames, AreChunkRows, HaveChunkNameLengths, HaveChunkRowLengths, IsChunkRefusal, IsThere, chunk_of, name_at}
 use Rattle.sgb_chunks.proofs.ChunkSteps.{length-chunk_starts}
 use Rattle.sgb_c.specs.Answers.{number_of_fault, number_of_wrong}
-use Rattle.sgb_c.specs.Families.{IsAnswerOfCall, IsCallRefusal, IsGeneratorCall, IsGraphOfCall, IsMisfit, no_generator, not_there}
+use Rattle.sgb_c.specs.Families.{IsAnswerOfCall, IsCallRefusal, IsTextOfGenerator, IsGraphOfCall, IsMisfit, no_generator, not_there}
 use Rattle.sgb_c.specs.inner.ChunkNumbers.{IsChunkNumber}
 
 -- the accepted parameters are those of the call that the text is
 pub call_named : (text : List ℕ) (e : Expr) (r : Result Local ℕ) → IsReadAs text (Ok e)
     → IfOk r (λ l. (f : Generator) × (expression_of e ≡ Generated f) × (generator_value f ≡ Ok (described l)))
-    → IfOk r (λ l. (f : Generator) × IsGeneratorCall text f × (generator_value f ≡ Ok (described l)))
+    → IfOk r (λ l. (f : Generator) × IsTextOfGenerator text f × (generator_value f ≡ Ok (described l)))
 call_named text e (Ok l) read (f, is, value) = (f, (read.0, subst (λ x. IsExpression text x) is read.1), value)
 call_named text e (Err number) read said = said
 
@@ -44,11 +44,11 @@ number_kept P (Ok x) n is said = absurd is
 number_kept P (Err h) n is said = subst P (sym is) said
 
 -- the graph of the call
-pub graph_of_call : (text : List ℕ) (l : Local) → (f : Generator) × IsGeneratorCall text f × (generator_value f ≡ Ok (described l)) → IsGraphOfCall text (graph_described (described l))
+pub graph_of_call : (text : List ℕ) (l : Local) → (f : Generator) × IsTextOfGenerator text f × (generator_value f ≡ Ok (described l)) → IsGraphOfCall text (graph_described (described l))
 graph_of_call text l (f, call, value) = (f, call, ap made value)
 
 -- why a chunk of it is not there
-pub chunk_number : (text : List ℕ) (first count : ℕ) (l : Local) (number : ℕ) → (f : Generator) × IsGeneratorCall text f × (generator_value f ≡ Ok (described l))
+pub chunk_number : (text : List ℕ) (first count : ℕ) (l : Local) (number : ℕ) → (f : Generator) × IsTextOfGenerator text f × (generator_value f ≡ Ok (described l))
     → (why : Fault) × IsChunkRefusal (graph_described (described l)) first count why × (number ≡ number_of_fault why) → IsChunkNumber text first count number
 chunk_number text first count l number named (why, inl (e, out), is) = inr (graph_described (described l), graph_of_call text l named, is ∙ ap number_of_fault e, out)
 chunk_number text first count l number (f, call, value) (why, inr e, is) = inl (inr (inr (f, NoRoom, call, inr refl, is ∙ ap number_of_fault e)))

@@ -23,12 +23,12 @@ abbrev pub no_generator : ℕ
 no_generator = 107
 
 -- the text is a call of this generator
-abbrev pub IsGeneratorCall : List ℕ → Generator → Type 0
-IsGeneratorCall text f = (IsTooLarge text → ⊥) × IsExpression text (Generated f)
+abbrev pub IsTextOfGenerator : List ℕ → Generator → Type 0
+IsTextOfGenerator text f = (IsTooLarge text → ⊥) × IsExpression text (Generated f)
 
 -- the graph of the call that the text is
 abbrev pub IsGraphOfCall : List ℕ → GraphData → Type 0
-IsGraphOfCall text g = (f : Generator) × IsGeneratorCall text f × (made (generator_value f) ≡ Ok g)
+IsGraphOfCall text g = (f : Generator) × IsTextOfGenerator text f × (made (generator_value f) ≡ Ok g)
 
 -- the number of why there is no such graph: the text is refused; it is another expression; the generator refuses its
 -- parameters, or memory ran out
@@ -36,7 +36,7 @@ abbrev pub IsCallRefusal : List ℕ → ℕ → Type 0
 IsCallRefusal text number =
     ((why : Fault) × IsReadAs text (Err why) × (number ≡ number_of_fault why))
     ⊎ (((e : Expression) × (IsTooLarge text → ⊥) × IsExpression text e × ((f : Generator) → e ≡ Generated f → ⊥)) × (number ≡ no_generator))
-    ⊎ ((f : Generator) × (p : Panic) × IsGeneratorCall text f × ((generator_value f ≡ Err p) ⊎ (p ≡ NoRoom)) × (number ≡ code_of p))
+    ⊎ ((f : Generator) × (p : Panic) × IsTextOfGenerator text f × ((generator_value f ≡ Err p) ⊎ (p ≡ NoRoom)) × (number ≡ code_of p))
 
 -- A call on such a graph answers this number: 0, and what has to be done with the graph is done; or the number of why there is no
 -- graph, or of what does not fit it, and all is left as it was.

@@ -12,7 +12,7 @@ ghost use Rattle.sgb_requests.specs.declared.faults.Fault.{Fault};
 ghost use Rattle.sgb_arrays.specs.declared.refusals.Wrong.TheVariants as wrong;
 ghost use Rattle.sgb_chunks.specs.Chunks.{AreChunkNames, AreChunkRows, IsChunkRefusal, IsThere, chunk_of, name_at};
 ghost use Rattle.sgb_c.specs.Answers.{number_of_fault, number_of_wrong};
-ghost use Rattle.sgb_c.specs.Families.{IsCallRefusal, IsGeneratorCall, IsGraphOfCall, no_generator};
+ghost use Rattle.sgb_c.specs.Families.{IsCallRefusal, IsTextOfGenerator, IsGraphOfCall, no_generator};
 ghost use Rattle.sgb_c.specs.inner.ChunkNumbers.{IsChunkNumber};
 
 use crate::answers::number_of_fault;
@@ -30,7 +30,7 @@ const WRONG_LENGTH: u64 = 101;
 
 // The accepted parameters of the generator's call that the text is; or the number of why there are none.
 pub(crate) fn local_named(alloc: Global, text: &[u8]) -> Result<Local, u64>
-    ensures named { IfOk result (λ l. (f : Generator) × IsGeneratorCall text.now f
+    ensures named { IfOk result (λ l. (f : Generator) × IsTextOfGenerator text.now f
         × (generator_value f ≡ Ok (described l))) }
     ensures refused { IfErr result (IsCallRefusal text.now) }
 {

@@ -5,7 +5,8 @@ use Rattle.std.proofs.lemmas.List.Folds.{flat_map-map}
 use Rattle.std.proofs.lemmas.List.{length-map}
 use Rattle.std.proofs.lemmas.Simd.{map-map}
 use Rattle.sgb_graph.specs.Graphs.{GraphData}
-use Rattle.sgb_arrays.specs.Lists.{names_of, starts_from}
+use Rattle.sgb_graph.specs.Vertices.{names_of}
+use Rattle.sgb_arrays.specs.Lists.{starts_from}
 use Rattle.sgb_arrays.specs.Names.{name_bytes, name_starts}
 use Rattle.sgb_chunks.specs.Chunks.{chunk_of, chunk_starts, name_at}
 

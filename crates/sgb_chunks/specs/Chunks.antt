@@ -3,7 +3,8 @@ use Rattle.std.specs.Prelude.{◌≡◌, ◌⊎◌, ◌≤◌, ◌+◌, ℕ, ℤ
 use Rattle.std.specs.List.{flat_map, range_with_len, slice_index_or}
 use Rattle.sgb_vec.specs.declared.panics.Panic.TheVariants.{NoRoom}
 use Rattle.sgb_graph.specs.Graphs.{GraphData, chain_of}
-use Rattle.sgb_arrays.specs.Lists.{names_of, starts_from}
+use Rattle.sgb_graph.specs.Vertices.{names_of}
+use Rattle.sgb_arrays.specs.Lists.{starts_from}
 use Rattle.sgb_requests.specs.declared.faults.Fault.{Fault}
 use Rattle.sgb_requests.specs.declared.faults.Fault.TheVariants as fault
 

@@ -6,8 +6,8 @@ use Rattle.sgb_expr.specs.Languages.{Then, After, As}
 use Rattle.sgb_expr.specs.Operations.{AreEntries, AreOperands, IsCallOf, IsEntryList, complement_call, gunion_call, intersection_call, product_call, lines_call, induced_call, bi_complete_call, wheel_call}
 use Rattle.sgb_expr.specs.inner.Readings.{◌>>=◌, then_read, read_after, read_as, fixed_at, integers_at}
 use Rattle.sgb_expr.specs.inner.Reading.{arguments_with, entries_at, entry_list_at, operands_with}
-use Rattle.sgb_expr.specs.declared.names.Name.{Name}
-use Rattle.sgb_expr.specs.declared.names.Name.TheVariants.{Generator, Complement, Gunion, Intersection, Lines, Product, Induced, BiComplete, Wheel, Stdin}
+use Rattle.sgb_expr.specs.declared.names.FormName.{FormName}
+use Rattle.sgb_expr.specs.declared.names.FormName.TheVariants.{Generator, Complement, Gunion, Intersection, Lines, Product, Induced, BiComplete, Wheel, Stdin}
 use Rattle.sgb_expr.proofs.Readers.{Reads, reads_then, reads_as}
 use Rattle.sgb_expr.proofs.Words.{Anything, reads_after, reads_fixed}
 use Rattle.sgb_expr.proofs.Lengths.{Language, Reader, Within, Agree, no_longer, fixed_takes, bind_agrees}
@@ -89,7 +89,7 @@ induced_form graph =
     plain (reads_as (induced_call graph entries) (reads_integers (codes ",") 3 (codes ")") close_end))))
 
 -- the form of each name
-pub form_of : (name : Name) → Form (λ Inner. IsCallOf Inner name) (λ inner. arguments_with inner name)
+pub form_of : (name : FormName) → Form (λ Inner. IsCallOf Inner name) (λ inner. arguments_with inner name)
 form_of (Generator name) = plain (reads_as Expression.Generated (reads_generator name))
 form_of Complement = form_then inside (λ graph. plain (reads_as (complement_call graph) (reads_integers (codes ",") 3 (codes ")") close_end)))
 form_of Gunion = form_as gunion_call operands_form

@@ -3,7 +3,7 @@ use Rattle.std.proofs.Common.{◌≤◌, ℕ, ℤ, zero, suc, List, [], ◌∷�
 use Rattle.std.specs.Char.{digit_value}
 use Rattle.sgb_gen.specs.Shorthands.{complete, transitive, empty, circuit, cycle, disjoint_subsets, petersen}
 use Rattle.sgb_expr.specs.Numbers.{IsInteger, IsBits}
-use Rattle.sgb_expr.specs.Forms.{AreNumbers, IsGeneratorCall, number_of, board_params, simplex_params, subsets_params}
+use Rattle.sgb_expr.specs.Forms.{AreNumbers, IsGeneratorCall, nth_number, board_params, simplex_params, subsets_params}
 use Rattle.sgb_expr.specs.Languages.{Then, After, As}
 use Rattle.sgb_expr.specs.inner.Readings.{read_as, integers_at}
 use Rattle.sgb_expr.specs.inner.Reading.{generator_at, subsets_at}
@@ -58,7 +58,7 @@ reads_integers separator (suc n) end is =
 -- the arguments of subsets
 abbrev SubsetsArguments : List ℕ → Generator → Type 0
 SubsetsArguments =
-    Then (AreNumbers [] 6 (codes ",")) (λ numbers. Then IsBits (λ bits. As (λ directed. generator.Subsets (subsets_params numbers bits (number_of directed 0))) (AreNumbers (codes ",") 1 (codes ")"))))
+    Then (AreNumbers [] 6 (codes ",")) (λ numbers. Then IsBits (λ bits. As (λ directed. generator.Subsets (subsets_params numbers bits (nth_number directed 0))) (AreNumbers (codes ",") 1 (codes ")"))))
 
 subsets_are : (word : List ℕ) (e : Generator) → SubsetsArguments word e → IsGeneratorCall Subsets word e
 subsets_are word e h =
@@ -72,7 +72,7 @@ reads_subsets : Reads (IsGeneratorCall Subsets) Anything subsets_at
 reads_subsets =
     reads_is subsets_are subsets_from
     (reads_then (reads_integers [] 6 (codes ",") comma_end)
-    (λ numbers. reads_then reads_bits (λ bits. reads_as (λ directed. generator.Subsets (subsets_params numbers bits (number_of directed 0))) (reads_integers (codes ",") 1 (codes ")") close_end))
+    (λ numbers. reads_then reads_bits (λ bits. reads_as (λ directed. generator.Subsets (subsets_params numbers bits (nth_number directed 0))) (reads_integers (codes ",") 1 (codes ")") close_end))
     (λ v word tail value w t. numbers_clear 1 (codes ")") word tail w.0 close_end w.1))
     (λ v word tail value w t. tt))
 
@@ -85,10 +85,10 @@ pub reads_generator : (name : GeneratorName) → Reads (IsGeneratorCall name) An
 reads_generator Board = reads_as_integers 7 (λ numbers. generator.Board (board_params numbers))
 reads_generator Simplex = reads_as_integers 7 (λ numbers. generator.Simplex (simplex_params numbers))
 reads_generator Subsets = reads_subsets
-reads_generator Complete = reads_as_integers 1 (λ numbers. generator.Board (complete (number_of numbers 0)))
-reads_generator Transitive = reads_as_integers 1 (λ numbers. generator.Board (transitive (number_of numbers 0)))
-reads_generator Empty = reads_as_integers 1 (λ numbers. generator.Board (empty (number_of numbers 0)))
-reads_generator Circuit = reads_as_integers 1 (λ numbers. generator.Board (circuit (number_of numbers 0)))
-reads_generator Cycle = reads_as_integers 1 (λ numbers. generator.Board (cycle (number_of numbers 0)))
-reads_generator DisjointSubsets = reads_as_integers 2 (λ numbers. generator.Subsets (disjoint_subsets (number_of numbers 0) (number_of numbers 1)))
+reads_generator Complete = reads_as_integers 1 (λ numbers. generator.Board (complete (nth_number numbers 0)))
+reads_generator Transitive = reads_as_integers 1 (λ numbers. generator.Board (transitive (nth_number numbers 0)))
+reads_generator Empty = reads_as_integers 1 (λ numbers. generator.Board (empty (nth_number numbers 0)))
+reads_generator Circuit = reads_as_integers 1 (λ numbers. generator.Board (circuit (nth_number numbers 0)))
+reads_generator Cycle = reads_as_integers 1 (λ numbers. generator.Board (cycle (nth_number numbers 0)))
+reads_generator DisjointSubsets = reads_as_integers 2 (λ numbers. generator.Subsets (disjoint_subsets (nth_number numbers 0) (nth_number numbers 1)))
 reads_generator Petersen = reads_as_integers 0 (λ numbers. generator.Subsets petersen)

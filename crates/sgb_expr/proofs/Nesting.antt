@@ -4,15 +4,15 @@ use Rattle.std.proofs.lemmas.Bool.{and_parts, cases_lt}
 use Rattle.sgb_expr.specs.Expression.{Expression}
 use Rattle.sgb_expr.specs.Expressions.{IsNested}
 use Rattle.sgb_expr.specs.Languages.{Then}
-use Rattle.sgb_expr.specs.Names.{opening_of}
+use Rattle.sgb_expr.specs.Names.{name_opening}
 use Rattle.sgb_expr.specs.inner.Names.{all_names, all_generator_names, generator_openings, openings}
 use Rattle.sgb_expr.specs.Operations.{IsCallOf, IsGenerator}
 use Rattle.sgb_expr.specs.inner.Readings.{then_read, word_at}
 use Rattle.sgb_expr.specs.inner.Reading.{arguments_with, expression_at, nested_at}
 use Rattle.sgb_expr.specs.declared.names.GeneratorName.{GeneratorName}
 use Rattle.sgb_expr.specs.declared.names.GeneratorName.TheVariants.{Board, Simplex, Subsets, Complete, Transitive, Empty, Circuit, Cycle, DisjointSubsets, Petersen}
-use Rattle.sgb_expr.specs.declared.names.Name.{Name}
-use Rattle.sgb_expr.specs.declared.names.Name.TheVariants.{Generator, Complement, Gunion, Intersection, Lines, Product, Induced, BiComplete, Wheel, Stdin}
+use Rattle.sgb_expr.specs.declared.names.FormName.{FormName}
+use Rattle.sgb_expr.specs.declared.names.FormName.TheVariants.{Generator, Complement, Gunion, Intersection, Lines, Product, Induced, BiComplete, Wheel, Stdin}
 use Rattle.sgb_expr.proofs.Readers.{Reads, bind_of, bind_stops, reads_then, reads_as, reads_is}
 use Rattle.sgb_expr.proofs.Words.{Anything, IsWord, reads_words}
 use Rattle.sgb_expr.proofs.GeneratorReaders.{reads_generator}
@@ -27,11 +27,11 @@ word_there opening (n ∷ names) zero default h = inl (refl, refl)
 word_there opening (n ∷ names) (suc i) default h = inr (word_there opening names i default (omega (arith, h)))
 
 -- the opening of generator i stands among theirs
-generator_there : (i : ℕ) → i < 10 → IsWord generator_openings (opening_of (Generator (get_or all_generator_names i Board))) (get_or all_generator_names i Board)
+generator_there : (i : ℕ) → i < 10 → IsWord generator_openings (name_opening (Generator (get_or all_generator_names i Board))) (get_or all_generator_names i Board)
 unfolding generator_openings
-generator_there i h = word_there (λ name. opening_of (Generator name)) all_generator_names i Board h
+generator_there i h = word_there (λ name. name_opening (Generator name)) all_generator_names i Board h
 
-generator_is_there : (name : GeneratorName) → IsWord generator_openings (opening_of (Generator name)) name
+generator_is_there : (name : GeneratorName) → IsWord generator_openings (name_opening (Generator name)) name
 generator_is_there Board = generator_there 0 (lit< tt)
 generator_is_there Simplex = generator_there 1 (lit< tt)
 generator_is_there Subsets = generator_there 2 (lit< tt)
@@ -44,11 +44,11 @@ generator_is_there DisjointSubsets = generator_there 8 (lit< tt)
 generator_is_there Petersen = generator_there 9 (lit< tt)
 
 -- the opening of form i stands among all
-there : (i : ℕ) → i < 19 → IsWord openings (opening_of (get_or all_names i Complement)) (get_or all_names i Complement)
+there : (i : ℕ) → i < 19 → IsWord openings (name_opening (get_or all_names i Complement)) (get_or all_names i Complement)
 unfolding openings
-there i h = word_there opening_of all_names i Complement h
+there i h = word_there name_opening all_names i Complement h
 
-name_is_there : (name : Name) → IsWord openings (opening_of name) name
+name_is_there : (name : FormName) → IsWord openings (name_opening name) name
 name_is_there (Generator Board) = there 0 (lit< tt)
 name_is_there (Generator Simplex) = there 1 (lit< tt)
 name_is_there (Generator Subsets) = there 2 (lit< tt)
@@ -80,14 +80,14 @@ reads_generator_openings : Reads (IsWord generator_openings) Anything (word_at g
 unfolding generator_openings
 reads_generator_openings =
     let later = Simplex ∷ Subsets ∷ Complete ∷ Transitive ∷ Empty ∷ Circuit ∷ Cycle ∷ DisjointSubsets ∷ Petersen ∷ [] in
-    reads_words (opening_of (Generator Board), Board) (map (λ name. (opening_of (Generator name), name)) later) refl
+    reads_words (name_opening (Generator Board), Board) (map (λ name. (name_opening (Generator name), name)) later) refl
 
 reads_openings : Reads (IsWord openings) Anything (word_at openings)
 unfolding openings
 reads_openings =
     let generators = Simplex ∷ Subsets ∷ Complete ∷ Transitive ∷ Empty ∷ Circuit ∷ Cycle ∷ DisjointSubsets ∷ Petersen ∷ [] in
     let later = map (λ name. Generator name) generators ++ Complement ∷ Gunion ∷ Intersection ∷ Lines ∷ Product ∷ Induced ∷ BiComplete ∷ Wheel ∷ Stdin ∷ [] in
-    reads_words (opening_of (Generator Board), Generator Board) (map (λ name. (opening_of name, name)) later) refl
+    reads_words (name_opening (Generator Board), Generator Board) (map (λ name. (name_opening name, name)) later) refl
 
 -- each word begins with a letter
 abbrev all_lettered : {V : Type 0} → List (List ℕ × V) → Bool
@@ -104,7 +104,7 @@ unfolding openings
 openings_lettered = refl
 
 -- what is left after a name is shorter than the text
-pub opening_shorter : (text : List ℕ) (name : Name) (rest : List ℕ) → word_at openings text ≡ Ok (name, rest) → length rest < length text
+pub opening_shorter : (text : List ℕ) (name : FormName) (rest : List ℕ) → word_at openings text ≡ Ok (name, rest) → length rest < length text
 opening_shorter text name rest e =
     let f = reads_openings.found text name rest e in
     let some = lettered_some f.word (word_lettered openings f.word name openings_lettered f.is) in
@@ -113,23 +113,23 @@ opening_shorter text name rest e =
 -- expressions in which no operation stands
 generator_is : (text : List ℕ) (e : Expression) → Then (IsWord generator_openings) IsGenerator text e → IsNested 0 text e
 unfolding generator_openings
-generator_is text e h = (h.2, h.1, h.3 ∙ ap (λ u. u ++ h.1) (opening_is (λ name. opening_of (Generator name)) all_generator_names h.0 h.2 h.4), h.5)
+generator_is text e h = (h.2, h.1, h.3 ∙ ap (λ u. u ++ h.1) (opening_is (λ name. name_opening (Generator name)) all_generator_names h.0 h.2 h.4), h.5)
 
 generator_from : (text : List ℕ) (e : Expression) → IsNested 0 text e → Then (IsWord generator_openings) IsGenerator text e
-generator_from text e h = (opening_of (Generator h.0), h.1, h.0, h.2, generator_is_there h.0, h.3)
+generator_from text e h = (name_opening (Generator h.0), h.1, h.0, h.2, generator_is_there h.0, h.3)
 
 -- expressions in which operations may stand
 call_is : (depth : ℕ) (text : List ℕ) (e : Expression) → Then (IsWord openings) (IsCallOf (IsNested depth)) text e → IsNested (suc depth) text e
 unfolding openings
-call_is depth text e h = (h.2, h.1, h.3 ∙ ap (λ u. u ++ h.1) (opening_is opening_of all_names h.0 h.2 h.4), h.5)
+call_is depth text e h = (h.2, h.1, h.3 ∙ ap (λ u. u ++ h.1) (opening_is name_opening all_names h.0 h.2 h.4), h.5)
 
 call_from : (depth : ℕ) (text : List ℕ) (e : Expression) → IsNested (suc depth) text e → Then (IsWord openings) (IsCallOf (IsNested depth)) text e
-call_from depth text e h = (opening_of h.0, h.1, h.0, h.2, name_is_there h.0, h.3)
+call_from depth text e h = (name_opening h.0, h.1, h.0, h.2, name_is_there h.0, h.3)
 
 -- an expression begins with a letter
-opening_lettered : (name : Name) (arguments text : List ℕ) → text ≡ opening_of name ++ arguments → is_lettered text ≡ true
+opening_lettered : (name : FormName) (arguments text : List ℕ) → text ≡ name_opening name ++ arguments → is_lettered text ≡ true
 opening_lettered name arguments text e =
-    ap is_lettered e ∙ lettered_more (opening_of name) arguments (word_lettered openings (opening_of name) name openings_lettered (name_is_there name))
+    ap is_lettered e ∙ lettered_more (name_opening name) arguments (word_lettered openings (name_opening name) name openings_lettered (name_is_there name))
 
 nested_lettered : (depth : ℕ) (text : List ℕ) (e : Expression) → IsNested depth text e → is_lettered text ≡ true
 nested_lettered zero text e w = opening_lettered (Generator w.0) w.1 text w.2
@@ -201,7 +201,7 @@ expression_no_longer text e rest h =
     no_longer (reads_nested (length text)) text e rest (sym (expression_nested (length text) text (omega arith)) ∙ h)
 
 -- after a name its form is read
-pub name_read : (text : List ℕ) (name : Name) (rest : List ℕ) → word_at openings text ≡ Ok (name, rest) → expression_at text ≡ arguments_with expression_at name rest
+pub name_read : (text : List ℕ) (name : FormName) (rest : List ℕ) → word_at openings text ≡ Ok (name, rest) → expression_at text ≡ arguments_with expression_at name rest
 name_read text name rest e = expression_read text ∙ bind_of (word_at openings text) (λ x. arguments_with expression_at x.0 x.1) (name, rest) e
 
 -- where no name begins, no expression does

@@ -3,13 +3,13 @@ use Rattle.std.specs.Prelude.{◌≡◌, ◌≤◌, ◌<◌, ◌+◌, ◌⊎◌,
 use Rattle.sgb_expr.specs.Expression.{Expression, expression_of}
 use Rattle.sgb_expr.specs.Languages.{IsLongestPrefixOf, IsNoWord}
 use Rattle.sgb_expr.specs.Operations.{IsGenerator, IsCallOf}
-use Rattle.sgb_expr.specs.Names.{opening_of}
+use Rattle.sgb_expr.specs.Names.{name_opening}
 use Rattle.sgb_expr.specs.declared.expressions.Expr.{Expr}
 use Rattle.sgb_expr.specs.declared.expressions.Unread.{Unread}
 use Rattle.sgb_expr.specs.declared.expressions.Unread.TheVariants as unread
 use Rattle.sgb_expr.specs.declared.names.GeneratorName.{GeneratorName}
-use Rattle.sgb_expr.specs.declared.names.Name.{Name}
-use Rattle.sgb_expr.specs.declared.names.Name.TheVariants as form
+use Rattle.sgb_expr.specs.declared.names.FormName.{FormName}
+use Rattle.sgb_expr.specs.declared.names.FormName.TheVariants as form
 
 -- a text that is read has at most this many bytes
 abbrev pub most_expression_bytes : ℕ
@@ -23,9 +23,9 @@ most_depth = 64
 -- arguments, and these with `)`
 abbrev pub IsNested : ℕ → List ℕ → Expression → Type 0
 IsNested zero text e =
-    (name : GeneratorName) × (arguments : List ℕ) × (text ≡ opening_of (form.Generator name) ++ arguments) × IsGenerator name arguments e
+    (name : GeneratorName) × (arguments : List ℕ) × (text ≡ name_opening (form.Generator name) ++ arguments) × IsGenerator name arguments e
 IsNested (suc depth) text e =
-    (name : Name) × (arguments : List ℕ) × (text ≡ opening_of name ++ arguments) × IsCallOf (IsNested depth) name arguments e
+    (name : FormName) × (arguments : List ℕ) × (text ≡ name_opening name ++ arguments) × IsCallOf (IsNested depth) name arguments e
 
 -- the text is this expression
 abbrev pub IsExpression : List ℕ → Expression → Type 0

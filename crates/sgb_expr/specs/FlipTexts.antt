@@ -1,7 +1,7 @@
 -- The texts that ask for numbers of the random generator [GB_FLIP]: flip(START,SKIP,COUNT,M).
 use Rattle.std.specs.Prelude.{ℕ, ℤ, List, codes, Result}
 use Rattle.sgb_expr.specs.Expressions.{IsTextRead}
-use Rattle.sgb_expr.specs.Forms.{AreArguments, number_of}
+use Rattle.sgb_expr.specs.Forms.{AreArguments, nth_number}
 use Rattle.sgb_expr.specs.Languages.{After, As}
 use Rattle.sgb_expr.specs.declared.expressions.Unread.{Unread}
 use Rattle.sgb_expr.specs.declared.flips.FlipParams.{FlipParams}
@@ -9,10 +9,10 @@ use Rattle.sgb_expr.specs.declared.flips.FlipParams.{FlipParams}
 -- start, skip, count and m, in this order
 abbrev pub flip_of : List ℤ → FlipParams
 flip_of numbers = record {
-  start = number_of numbers 0;
-  skip = number_of numbers 1;
-  count = number_of numbers 2;
-  m = number_of numbers 3;
+  start = nth_number numbers 0;
+  skip = nth_number numbers 1;
+  count = nth_number numbers 2;
+  m = nth_number numbers 3;
 }
 
 -- the text asks for these
@@ -20,5 +20,5 @@ abbrev pub IsFlip : List ℕ → FlipParams → Type 0
 IsFlip = After (codes "flip(") (As flip_of (AreArguments 4))
 
 -- the text is read as these parameters, or not read for this cause, which is never want of memory
-abbrev pub IsFlipReadAs : List ℕ → Result FlipParams Unread → Type 0
-IsFlipReadAs = IsTextRead IsFlip ⊥ (λ params. params)
+abbrev pub IsFlipRead : List ℕ → Result FlipParams Unread → Type 0
+IsFlipRead = IsTextRead IsFlip ⊥ (λ params. params)

@@ -18,42 +18,42 @@ flag_of (pos (suc n)) = true
 flag_of (negsuc n) = true
 
 -- integer number k of some, counted from 0
-abbrev pub number_of : List ℤ → ℕ → ℤ
-number_of numbers k = slice_index_or numbers k (pos 0)
+abbrev pub nth_number : List ℤ → ℕ → ℤ
+nth_number numbers k = slice_index_or numbers k (pos 0)
 
 -- board(n1,n2,n3,n4,piece,wrap,directed)
 abbrev pub board_params : List ℤ → BoardParams
 board_params numbers = record {
-  n1 = number_of numbers 0;
-  n2 = number_of numbers 1;
-  n3 = number_of numbers 2;
-  n4 = number_of numbers 3;
-  piece = number_of numbers 4;
-  wrap = number_of numbers 5;
-  directed = flag_of (number_of numbers 6);
+  n1 = nth_number numbers 0;
+  n2 = nth_number numbers 1;
+  n3 = nth_number numbers 2;
+  n4 = nth_number numbers 3;
+  piece = nth_number numbers 4;
+  wrap = nth_number numbers 5;
+  directed = flag_of (nth_number numbers 6);
 }
 
 -- simplex(n,n0,n1,n2,n3,n4,directed)
 abbrev pub simplex_params : List ℤ → SimplexParams
 simplex_params numbers = record {
-  n = number_of numbers 0;
-  n0 = number_of numbers 1;
-  n1 = number_of numbers 2;
-  n2 = number_of numbers 3;
-  n3 = number_of numbers 4;
-  n4 = number_of numbers 5;
-  directed = flag_of (number_of numbers 6);
+  n = nth_number numbers 0;
+  n0 = nth_number numbers 1;
+  n1 = nth_number numbers 2;
+  n2 = nth_number numbers 3;
+  n3 = nth_number numbers 4;
+  n4 = nth_number numbers 5;
+  directed = flag_of (nth_number numbers 6);
 }
 
 -- subsets(n,n0,n1,n2,n3,n4,size_bits,directed)
 abbrev pub subsets_params : List ℤ → ℕ → ℤ → SubsetsParams
 subsets_params numbers size_bits directed = record {
-  n = number_of numbers 0;
-  n0 = number_of numbers 1;
-  n1 = number_of numbers 2;
-  n2 = number_of numbers 3;
-  n3 = number_of numbers 4;
-  n4 = number_of numbers 5;
+  n = nth_number numbers 0;
+  n0 = nth_number numbers 1;
+  n1 = nth_number numbers 2;
+  n2 = nth_number numbers 3;
+  n3 = nth_number numbers 4;
+  n4 = nth_number numbers 5;
   size_bits = size_bits;
   directed = flag_of directed;
 }
@@ -77,13 +77,13 @@ IsGeneratorCall Simplex text f = (numbers : List ℤ) × AreArguments 7 text num
 IsGeneratorCall Subsets text f =
     (numbers : List ℤ) × (size_bits : ℕ) × (directed : List ℤ) × (first bits last : List ℕ)
     × (text ≡ first ++ bits ++ last) × AreNumbers [] 6 (codes ",") first numbers × IsBits bits size_bits
-    × AreNumbers (codes ",") 1 (codes ")") last directed × (f ≡ generator.Subsets (subsets_params numbers size_bits (number_of directed 0)))
-IsGeneratorCall Complete text f = (numbers : List ℤ) × AreArguments 1 text numbers × (f ≡ generator.Board (complete (number_of numbers 0)))
-IsGeneratorCall Transitive text f = (numbers : List ℤ) × AreArguments 1 text numbers × (f ≡ generator.Board (transitive (number_of numbers 0)))
-IsGeneratorCall Empty text f = (numbers : List ℤ) × AreArguments 1 text numbers × (f ≡ generator.Board (empty (number_of numbers 0)))
-IsGeneratorCall Circuit text f = (numbers : List ℤ) × AreArguments 1 text numbers × (f ≡ generator.Board (circuit (number_of numbers 0)))
-IsGeneratorCall Cycle text f = (numbers : List ℤ) × AreArguments 1 text numbers × (f ≡ generator.Board (cycle (number_of numbers 0)))
+    × AreNumbers (codes ",") 1 (codes ")") last directed × (f ≡ generator.Subsets (subsets_params numbers size_bits (nth_number directed 0)))
+IsGeneratorCall Complete text f = (numbers : List ℤ) × AreArguments 1 text numbers × (f ≡ generator.Board (complete (nth_number numbers 0)))
+IsGeneratorCall Transitive text f = (numbers : List ℤ) × AreArguments 1 text numbers × (f ≡ generator.Board (transitive (nth_number numbers 0)))
+IsGeneratorCall Empty text f = (numbers : List ℤ) × AreArguments 1 text numbers × (f ≡ generator.Board (empty (nth_number numbers 0)))
+IsGeneratorCall Circuit text f = (numbers : List ℤ) × AreArguments 1 text numbers × (f ≡ generator.Board (circuit (nth_number numbers 0)))
+IsGeneratorCall Cycle text f = (numbers : List ℤ) × AreArguments 1 text numbers × (f ≡ generator.Board (cycle (nth_number numbers 0)))
 IsGeneratorCall DisjointSubsets text f =
     (numbers : List ℤ) × AreArguments 2 text numbers
-    × (f ≡ generator.Subsets (disjoint_subsets (number_of numbers 0) (number_of numbers 1)))
+    × (f ≡ generator.Subsets (disjoint_subsets (nth_number numbers 0) (nth_number numbers 1)))
 IsGeneratorCall Petersen text f = (numbers : List ℤ) × AreArguments 0 text numbers × (f ≡ generator.Subsets petersen)

@@ -1,27 +1,27 @@
 -- The names of the forms of expressions.
 use Rattle.std.specs.Prelude.{ℕ, List, codes}
 use Rattle.sgb_expr.specs.declared.names.GeneratorName.TheVariants.{Board, Simplex, Subsets, Complete, Transitive, Empty, Circuit, Cycle, DisjointSubsets, Petersen}
-use Rattle.sgb_expr.specs.declared.names.Name.{Name}
-use Rattle.sgb_expr.specs.declared.names.Name.TheVariants.{Generator, Complement, Gunion, Intersection, Lines, Product, Induced, BiComplete, Wheel, Stdin}
+use Rattle.sgb_expr.specs.declared.names.FormName.{FormName}
+use Rattle.sgb_expr.specs.declared.names.FormName.TheVariants.{Generator, Complement, Gunion, Intersection, Lines, Product, Induced, BiComplete, Wheel, Stdin}
 
 -- a form's name, with the parenthesis after it where it has arguments
-abbrev pub opening_of : Name → List ℕ
-opening_of (Generator Board) = codes "board("
-opening_of (Generator Simplex) = codes "simplex("
-opening_of (Generator Subsets) = codes "subsets("
-opening_of (Generator Complete) = codes "complete("
-opening_of (Generator Transitive) = codes "transitive("
-opening_of (Generator Empty) = codes "empty("
-opening_of (Generator Circuit) = codes "circuit("
-opening_of (Generator Cycle) = codes "cycle("
-opening_of (Generator DisjointSubsets) = codes "disjoint_subsets("
-opening_of (Generator Petersen) = codes "petersen("
-opening_of Complement = codes "complement("
-opening_of Gunion = codes "gunion("
-opening_of Intersection = codes "intersection("
-opening_of Lines = codes "lines("
-opening_of Product = codes "product("
-opening_of Induced = codes "induced("
-opening_of BiComplete = codes "bi_complete("
-opening_of Wheel = codes "wheel("
-opening_of Stdin = codes "stdin"
+abbrev pub name_opening : FormName → List ℕ
+name_opening (Generator Board) = codes "board("
+name_opening (Generator Simplex) = codes "simplex("
+name_opening (Generator Subsets) = codes "subsets("
+name_opening (Generator Complete) = codes "complete("
+name_opening (Generator Transitive) = codes "transitive("
+name_opening (Generator Empty) = codes "empty("
+name_opening (Generator Circuit) = codes "circuit("
+name_opening (Generator Cycle) = codes "cycle("
+name_opening (Generator DisjointSubsets) = codes "disjoint_subsets("
+name_opening (Generator Petersen) = codes "petersen("
+name_opening Complement = codes "complement("
+name_opening Gunion = codes "gunion("
+name_opening Intersection = codes "intersection("
+name_opening Lines = codes "lines("
+name_opening Product = codes "product("
+name_opening Induced = codes "induced("
+name_opening BiComplete = codes "bi_complete("
+name_opening Wheel = codes "wheel("
+name_opening Stdin = codes "stdin"

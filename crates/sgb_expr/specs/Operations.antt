@@ -1,16 +1,16 @@
 -- What the forms of all names mean: the arguments of each, where the expressions inside are words of a language.
 use Rattle.std.specs.Prelude.{◌≡◌, ℕ, ℤ, Bool, List, [], ◌∷◌, ◌++◌, codes}
 use Rattle.sgb_expr.specs.Expression.{Expression, Entry, entries_of}
-use Rattle.sgb_expr.specs.Forms.{AreArguments, AreNumbers, IsGeneratorCall, flag_of, number_of}
+use Rattle.sgb_expr.specs.Forms.{AreArguments, AreNumbers, IsGeneratorCall, flag_of, nth_number}
 use Rattle.sgb_expr.specs.Languages.{After, As, Or, Then}
 use Rattle.sgb_expr.specs.Numbers.{IsInteger}
 use Rattle.sgb_expr.specs.declared.names.GeneratorName.{GeneratorName}
-use Rattle.sgb_expr.specs.declared.names.Name.{Name}
-use Rattle.sgb_expr.specs.declared.names.Name.TheVariants.{Generator, Complement, Gunion, Intersection, Lines, Product, Induced, BiComplete, Wheel, Stdin}
+use Rattle.sgb_expr.specs.declared.names.FormName.{FormName}
+use Rattle.sgb_expr.specs.declared.names.FormName.TheVariants.{Generator, Complement, Gunion, Intersection, Lines, Product, Induced, BiComplete, Wheel, Stdin}
 
 -- integer number k of some, counted from 0, as a flag
 abbrev pub flag_at : List ℤ → ℕ → Bool
-flag_at numbers k = flag_of (number_of numbers k)
+flag_at numbers k = flag_of (nth_number numbers k)
 
 -- complement(graph,copy,self_loops,directed)
 abbrev pub complement_call : Expression → List ℤ → Expression
@@ -32,7 +32,7 @@ intersection_call o = Expression.Intersection o.first o.second (flag_at o.number
 
 -- product(first,second,kind,directed)
 abbrev pub product_call : Operands → Expression
-product_call o = Expression.Product o.first o.second (number_of o.numbers 0) (flag_at o.numbers 1)
+product_call o = Expression.Product o.first o.second (nth_number o.numbers 0) (flag_at o.numbers 1)
 
 -- lines(graph,directed)
 abbrev pub lines_call : Expression → List ℤ → Expression
@@ -44,11 +44,11 @@ induced_call graph entries numbers = Expression.Induced graph (entries_of entrie
 
 -- bi_complete(n1,n2,directed)
 abbrev pub bi_complete_call : List ℤ → Expression
-bi_complete_call numbers = Expression.BiComplete (number_of numbers 0) (number_of numbers 1) (flag_at numbers 2)
+bi_complete_call numbers = Expression.BiComplete (nth_number numbers 0) (nth_number numbers 1) (flag_at numbers 2)
 
 -- wheel(n,n1,directed)
 abbrev pub wheel_call : List ℤ → Expression
-wheel_call numbers = Expression.Wheel (number_of numbers 0) (number_of numbers 1) (flag_at numbers 2)
+wheel_call numbers = Expression.Wheel (nth_number numbers 0) (nth_number numbers 1) (flag_at numbers 2)
 
 -- the text is the arguments of the generator's form of this name, and with them it is this expression
 abbrev pub IsGenerator : GeneratorName → List ℕ → Expression → Type 0
@@ -76,7 +76,7 @@ IsEntryList Inner = After (codes "[") (AreEntries Inner [])
 
 -- the text is what follows the name in the form of this name: its arguments to the `)`, where Inner tells the texts of the
 -- expressions inside; nothing after `stdin`
-abbrev pub IsCallOf : (List ℕ → Expression → Type 0) → Name → List ℕ → Expression → Type 0
+abbrev pub IsCallOf : (List ℕ → Expression → Type 0) → FormName → List ℕ → Expression → Type 0
 IsCallOf Inner (Generator name) = IsGenerator name
 IsCallOf Inner Complement = Then Inner (λ graph. As (complement_call graph) (AreNumbers (codes ",") 3 (codes ")")))
 IsCallOf Inner Gunion = As gunion_call (AreOperands Inner)

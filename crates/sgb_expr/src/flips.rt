@@ -1,6 +1,6 @@
 //! What is asked of the random generator, and reading it.
 ghost use Rattle.std.specs.Prelude.{◌≡◌, IfOk};
-ghost use Rattle.sgb_expr.specs.FlipTexts.{IsFlip, IsFlipReadAs, flip_of};
+ghost use Rattle.sgb_expr.specs.FlipTexts.{IsFlip, IsFlipRead, flip_of};
 ghost use Rattle.sgb_expr.specs.inner.FlipTexts.{whole_flip_at};
 ghost use Rattle.sgb_expr.specs.inner.Gives.{Finds};
 
@@ -30,7 +30,7 @@ pub struct FlipParams {
 /// than `)`. `At(k)` where it is no such text; its first k bytes are its longest prefix that begins one. `NoRoom`
 /// never.
 pub fn read_flip(text: &[u8]) -> Result<FlipParams, Unread>
-    ensures read { IsFlipReadAs text.now result }
+    ensures read { IsFlipRead text.now result }
     ensures only { (params : FlipParams) → IsFlip text.now params
         → IfOk result (λ read. read ≡ params) }
 {

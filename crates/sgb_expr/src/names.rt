@@ -1,7 +1,7 @@
 //! The names of the forms of expressions.
 ghost use Rattle.std.specs.Prelude.{◌≡◌};
 ghost use Rattle.sgb_expr.specs.inner.Gives.{Finds};
-ghost use Rattle.sgb_expr.specs.Names.{opening_of};
+ghost use Rattle.sgb_expr.specs.Names.{name_opening};
 ghost use Rattle.sgb_expr.specs.inner.Names.{openings};
 ghost use Rattle.sgb_expr.specs.inner.Readings.{word_at};
 
@@ -25,7 +25,7 @@ pub(crate) enum GeneratorName {
 
 /// The name of a form.
 #[derive(Clone, Copy, Debug, PartialEq, Eq)]
-pub(crate) enum Name {
+pub(crate) enum FormName {
     Generator(GeneratorName),
     Complement,
     Gunion,
@@ -39,31 +39,31 @@ pub(crate) enum Name {
 }
 
 // Each name, once.
-const ALL: [Name; 19] = [
-    Name::Generator(GeneratorName::Board),
-    Name::Generator(GeneratorName::Simplex),
-    Name::Generator(GeneratorName::Subsets),
-    Name::Generator(GeneratorName::Complete),
-    Name::Generator(GeneratorName::Transitive),
-    Name::Generator(GeneratorName::Empty),
-    Name::Generator(GeneratorName::Circuit),
-    Name::Generator(GeneratorName::Cycle),
-    Name::Generator(GeneratorName::DisjointSubsets),
-    Name::Generator(GeneratorName::Petersen),
-    Name::Complement,
-    Name::Gunion,
-    Name::Intersection,
-    Name::Lines,
-    Name::Product,
-    Name::Induced,
-    Name::BiComplete,
-    Name::Wheel,
-    Name::Stdin,
+const ALL: [FormName; 19] = [
+    FormName::Generator(GeneratorName::Board),
+    FormName::Generator(GeneratorName::Simplex),
+    FormName::Generator(GeneratorName::Subsets),
+    FormName::Generator(GeneratorName::Complete),
+    FormName::Generator(GeneratorName::Transitive),
+    FormName::Generator(GeneratorName::Empty),
+    FormName::Generator(GeneratorName::Circuit),
+    FormName::Generator(GeneratorName::Cycle),
+    FormName::Generator(GeneratorName::DisjointSubsets),
+    FormName::Generator(GeneratorName::Petersen),
+    FormName::Complement,
+    FormName::Gunion,
+    FormName::Intersection,
+    FormName::Lines,
+    FormName::Product,
+    FormName::Induced,
+    FormName::BiComplete,
+    FormName::Wheel,
+    FormName::Stdin,
 ];
 
 /// The name with which the text begins, and the text after it and its parenthesis, if its form has one; or where the
 /// text begins no name.
-pub(crate) fn opening(text: &[u8]) -> Result<(Name, &[u8]), Mismatch>
+pub(crate) fn opening(text: &[u8]) -> Result<(FormName, &[u8]), Mismatch>
     ensures { Finds (λ x. (x.0, x.1.now)) result (word_at openings text.now) }
 {
     let mut left = text.len();
@@ -77,28 +77,28 @@ pub(crate) fn opening(text: &[u8]) -> Result<(Name, &[u8]), Mismatch>
 }
 
 // The name, and the parenthesis after it where the form has one.
-fn text_of(name: Name) -> &'static [u8]
-    ensures { result.now ≡ opening_of name }
+fn text_of(name: FormName) -> &'static [u8]
+    ensures { result.now ≡ name_opening name }
 {
     match name {
-        Name::Generator(GeneratorName::Board) => b"board(",
-        Name::Generator(GeneratorName::Simplex) => b"simplex(",
-        Name::Generator(GeneratorName::Subsets) => b"subsets(",
-        Name::Generator(GeneratorName::Complete) => b"complete(",
-        Name::Generator(GeneratorName::Transitive) => b"transitive(",
-        Name::Generator(GeneratorName::Empty) => b"empty(",
-        Name::Generator(GeneratorName::Circuit) => b"circuit(",
-        Name::Generator(GeneratorName::Cycle) => b"cycle(",
-        Name::Generator(GeneratorName::DisjointSubsets) => b"disjoint_subsets(",
-        Name::Generator(GeneratorName::Petersen) => b"petersen(",
-        Name::Complement => b"complement(",
-        Name::Gunion => b"gunion(",
-        Name::Intersection => b"intersection(",
-        Name::Lines => b"lines(",
-        Name::Product => b"product(",
-        Name::Induced => b"induced(",
-        Name::BiComplete => b"bi_complete(",
-        Name::Wheel => b"wheel(",
-        Name::Stdin => b"stdin",
+        FormName::Generator(GeneratorName::Board) => b"board(",
+        FormName::Generator(GeneratorName::Simplex) => b"simplex(",
+        FormName::Generator(GeneratorName::Subsets) => b"subsets(",
+        FormName::Generator(GeneratorName::Complete) => b"complete(",
+        FormName::Generator(GeneratorName::Transitive) => b"transitive(",
+        FormName::Generator(GeneratorName::Empty) => b"empty(",
+        FormName::Generator(GeneratorName::Circuit) => b"circuit(",
+        FormName::Generator(GeneratorName::Cycle) => b"cycle(",
+        FormName::Generator(GeneratorName::DisjointSubsets) => b"disjoint_subsets(",
+        FormName::Generator(GeneratorName::Petersen) => b"petersen(",
+        FormName::Complement => b"complement(",
+        FormName::Gunion => b"gunion(",
+        FormName::Intersection => b"intersection(",
+        FormName::Lines => b"lines(",
+        FormName::Product => b"product(",
+        FormName::Induced => b"induced(",
+        FormName::BiComplete => b"bi_complete(",
+        FormName::Wheel => b"wheel(",
+        FormName::Stdin => b"stdin",
     }
 }

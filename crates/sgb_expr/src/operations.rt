@@ -12,7 +12,7 @@ ghost use Rattle.sgb_expr.specs.inner.Reading.{arguments_with, complement_with, 
 use crate::arguments::generator;
 use crate::entries::{Entries, EntryExpr};
 use crate::expressions::Expr;
-use crate::names::{Name, opening};
+use crate::names::{FormName, opening};
 use crate::numbers::{fixed, integer, integers, separator_before};
 use crate::wrong::{Mismatch, Wrong};
 use std::alloc::Global;
@@ -29,33 +29,33 @@ pub(crate) fn expression(alloc: Global, text: &[u8]) -> Result<(Expr, &[u8]), Wr
 // The expression whose name has been read, and the text after its `)`, if its form has one; or where the text goes
 // wrong.
 #[cycle(expressions)]
-fn arguments(alloc: Global, name: Name, text: &[u8]) -> Result<(Expr, &[u8]), Wrong>
+fn arguments(alloc: Global, name: FormName, text: &[u8]) -> Result<(Expr, &[u8]), Wrong>
     ensures { Gives (λ x. (expression_of x.0, x.1.now)) result
         (arguments_with expression_at name text.now) }
 {
     match name {
-        Name::Generator(name) => {
+        FormName::Generator(name) => {
             let (generator, rest) = generator(name, text)?;
             Ok((Expr::Generator(generator), rest))
         }
-        Name::Complement => complement(alloc, text),
-        Name::Gunion => {
+        FormName::Complement => complement(alloc, text),
+        FormName::Gunion => {
             let (graphs, rest) = two_graphs(alloc, text)?;
             Ok((gunion(graphs), rest))
         }
-        Name::Intersection => {
+        FormName::Intersection => {
             let (graphs, rest) = two_graphs(alloc, text)?;
             Ok((intersection(graphs), rest))
         }
-        Name::Lines => lines(alloc, text),
-        Name::Product => {
+        FormName::Lines => lines(alloc, text),
+        FormName::Product => {
             let (graphs, rest) = two_graphs(alloc, text)?;
             Ok((product(graphs), rest))
         }
-        Name::Induced => induced(alloc, text),
-        Name::BiComplete => Ok(bi_complete(text)?),
-        Name::Wheel => Ok(wheel(text)?),
-        Name::Stdin => Ok((Expr::Stdin, text)),
+        FormName::Induced => induced(alloc, text),
+        FormName::BiComplete => Ok(bi_complete(text)?),
+        FormName::Wheel => Ok(wheel(text)?),
+        FormName::Stdin => Ok((Expr::Stdin, text)),
     }
 }
 

@@ -11,6 +11,8 @@ pub mod Events
 pub mod Flips
 -- graphs as data, and the lists of their vertices
 pub mod Graphs
+-- the vertices of a graph and their names
+pub mod Vertices
 -- how a graph grows, step by step
 pub mod Growth
 -- the texts that ids are made of

@@ -11,7 +11,7 @@ use Rattle.sgb_graph.specs.declared.fields.Link.{Link}
 use Rattle.sgb_graph.proofs.AddingArcs.{chain_of_vertex}
 use Rattle.sgb_graph.proofs.Growing.{parts_of}
 use Rattle.sgb_graph.proofs.Tips.{tips_below}
-use Rattle.sgb_levels.specs.Distances.{AreDistances, HasArc, IsDistanceIfAny, IsPath, IsWalk, end_of, tips_of}
+use Rattle.sgb_levels.specs.Distances.{AreDistances, HasArc, IsDistanceIfAny, IsPath, IsWalk, end_of, tips_from}
 use Rattle.sgb_levels.specs.inner.Marks.{Marks, all_marked, marked, marks}
 use Rattle.sgb_levels.specs.inner.Searches.{IsFoundAt, IsLeft, IsSearched, unmarked}
 use Rattle.sgb_levels.proofs.Marking.{Marking, marking-all, marking-one}
@@ -31,24 +31,24 @@ path_on g u v w k (vs, walk, size, ends) arc =
     (vs ++ w ∷ [], walk_on g u w vs walk (subst (λ x. HasArc g x w) (sym ends) arc), omega (arith, length-append vs (w ∷ []), size), end_on u w vs)
 
 -- a vertex where an arc leads from one of these
-arc_from : (g : GraphData) (us : List ℕ) (v : ℕ) → Contains (flat_map (tips_of g) us) v → (u : ℕ) × Contains us u × HasArc g u v
+arc_from : (g : GraphData) (us : List ℕ) (v : ℕ) → Contains (flat_map (tips_from g) us) v → (u : ℕ) × Contains us u × HasArc g u v
 arc_from g [] v h = absurd (Contains-none v h)
-arc_from g (u ∷ us) v h = elim (Contains-append_cases (tips_of g u) (flat_map (tips_of g) us) v h) [
+arc_from g (u ∷ us) v h = elim (Contains-append_cases (tips_from g u) (flat_map (tips_from g) us) v h) [
   | inl here ↦ (u, Contains-first u us, here)
   | inr later ↦ let (w, has, arc) = arc_from g us v later in (w, Contains-append_right (u ∷ []) us w has, arc)
 ]
 
 -- and every such vertex is one
-arc_there : (g : GraphData) (us : List ℕ) (u v : ℕ) → Contains us u → HasArc g u v → Contains (flat_map (tips_of g) us) v
+arc_there : (g : GraphData) (us : List ℕ) (u v : ℕ) → Contains us u → HasArc g u v → Contains (flat_map (tips_from g) us) v
 arc_there g [] u v h arc = absurd (Contains-none u h)
 arc_there g (w ∷ us) u v h arc = elim (Contains-cases w u us h) [
-  | inl same ↦ Contains-append_left (tips_of g w) (flat_map (tips_of g) us) v (subst (λ x. HasArc g x v) (sym same) arc)
-  | inr later ↦ Contains-append_right (tips_of g w) (flat_map (tips_of g) us) v (arc_there g us u v later arc)
+  | inl same ↦ Contains-append_left (tips_from g w) (flat_map (tips_from g) us) v (subst (λ x. HasArc g x v) (sym same) arc)
+  | inr later ↦ Contains-append_right (tips_from g w) (flat_map (tips_from g) us) v (arc_there g us u v later arc)
 ]
 
 -- one more level
 pub searched-more : (g : GraphData) (k : ℕ) (found new : List (Option ℕ)) (level next : List ℕ) → IsSearched g k found level
-    → Marking (k + 1) (flat_map (tips_of g) level) (marks found []) (marks new next) → IsSearched g (k + 1) new next
+    → Marking (k + 1) (flat_map (tips_from g) level) (marks found []) (marks new next) → IsSearched g (k + 1) new next
 searched-more g k found new level next old marking = record {
   size = marking.size ∙ old.size;
   start = λ some. marking.kept 0 0 (old.start some);
@@ -57,7 +57,7 @@ searched-more g k found new level next old marking = record {
   left = λ v d h. left v d (marking.fresh v d h);
 }
   where
-    path : (v d : ℕ) → IsFoundAt found v d ⊎ ((d ≡ k + 1) × Contains (flat_map (tips_of g) level) v × Contains next v) → (d ≤ k + 1) × IsPath g 0 v d
+    path : (v d : ℕ) → IsFoundAt found v d ⊎ ((d ≡ k + 1) × Contains (flat_map (tips_from g) level) v × Contains next v) → (d ≤ k + 1) × IsPath g 0 v d
     path v d (inl before) = let (low, is) = old.paths v d before in (omega arith, is)
     path v d (inr (same, tip, _)) =
         let (u, has, arc) = arc_from g level v tip in
@@ -80,7 +80,7 @@ searched-more g k found new level next old marking = record {
     left_still : (v d : ℕ) → IsLeft g found v d → IsLeft g new v d
     left_still v d before w arc = let (e, low, is) = before w arc in (e, low, marking.kept w e is)
 
-    left : (v d : ℕ) → IsFoundAt found v d ⊎ ((d ≡ k + 1) × Contains (flat_map (tips_of g) level) v × Contains next v) → Contains next v ⊎ IsLeft g new v d
+    left : (v d : ℕ) → IsFoundAt found v d ⊎ ((d ≡ k + 1) × Contains (flat_map (tips_from g) level) v × Contains next v) → Contains next v ⊎ IsLeft g new v d
     left v d (inl before) = elim (old.left v d before) [
       | inl has ↦ inr (at_level v d before has)
       | inr h ↦ inr (left_still v d h)
@@ -88,7 +88,7 @@ searched-more g k found new level next old marking = record {
     left v d (inr (_, _, has)) = inl has
 
 -- arcs lead to vertices
-tips_within : (g : GraphData) → IsKept g → (v : ℕ) → v < length g.vertices → All (λ t. t < length g.vertices) (tips_of g v)
+tips_within : (g : GraphData) → IsKept g → (v : ℕ) → v < length g.vertices → All (λ t. t < length g.vertices) (tips_from g v)
 tips_within g kept v below =
     let n = length g.vertices in
     let some : 0 < n = omega (arith, below) in
@@ -96,10 +96,10 @@ tips_within g kept v below =
     let within = tips_below (length g.records) n (length g.records) g.kinds g.records (first_arc g.vertices v) some parts.records in
     All-map (λ t. t < n) (λ l. l.tip) (chain_of g v) (subst (All (λ (l : Link). l.tip < n)) (sym (chain_of_vertex g v parts below).chain) within)
 
-all_tips_within : (g : GraphData) → IsKept g → (vs : List ℕ) → All (λ v. v < length g.vertices) vs → All (λ t. t < length g.vertices) (flat_map (tips_of g) vs)
+all_tips_within : (g : GraphData) → IsKept g → (vs : List ℕ) → All (λ v. v < length g.vertices) vs → All (λ t. t < length g.vertices) (flat_map (tips_from g) vs)
 all_tips_within g kept [] within = All-nil (λ t. t < length g.vertices)
 all_tips_within g kept (v ∷ vs) within =
-    All-append (λ t. t < length g.vertices) (tips_of g v) (flat_map (tips_of g) vs) (tips_within g kept v (All-head (λ t. t < length g.vertices) v vs within))
+    All-append (λ t. t < length g.vertices) (tips_from g v) (flat_map (tips_from g) vs) (tips_within g kept v (All-head (λ t. t < length g.vertices) v vs within))
     (all_tips_within g kept vs (All-tail (λ t. t < length g.vertices) v vs within))
 
 -- what was found is a vertex
@@ -123,9 +123,9 @@ level_none level k size e = omega (arith, size, (Decides-eqb k 0).0 e)
 
 -- the next level, and how many are not found
 pub searched_next : (g : GraphData) (k : ℕ) (found new : List (Option ℕ)) (level next : List ℕ) → IsKept g → IsSearched g k found level
-    → marks new next ≡ all_marked (k + 1) (flat_map (tips_of g) level) (marks found []) → IsSearched g (k + 1) new next × (unmarked new + length next ≡ unmarked found)
+    → marks new next ≡ all_marked (k + 1) (flat_map (tips_from g) level) (marks found []) → IsSearched g (k + 1) new next × (unmarked new + length next ≡ unmarked found)
 searched_next g k found new level next kept searched is =
-    let tips = flat_map (tips_of g) level in
+    let tips = flat_map (tips_from g) level in
     let within = all_tips_within g kept level (level_within g k found level searched) in
     let marking = subst (Marking (k + 1) tips (marks found [])) (sym is) (marking-all (k + 1) (length g.vertices) tips (marks found []) searched.size within) in
     (searched-more g k found new level next searched marking, omega (arith, marking.count))

@@ -4,7 +4,7 @@ use Rattle.sgb_file.specs.Devices.{AppendsUnlessFailed, Change}
 use Rattle.sgb_expr.specs.Expression.{Expression, expression_of}
 use Rattle.sgb_expr.specs.StdinUses.{has_stdin}
 use Rattle.sgb_expr.specs.declared.expressions.Expr.{Expr}
-use Rattle.sgb_requests.specs.Faults.{line_of, status_of}
+use Rattle.sgb_requests.specs.Faults.{fault_line, status_of}
 use Rattle.sgb_requests.specs.Reading.{IsReadAs}
 use Rattle.sgb_requests.specs.declared.faults.Fault.{Fault}
 use Rattle.sgb_requests.specs.declared.faults.Fault.TheVariants as fault
@@ -19,17 +19,17 @@ AskFor (name ∷ text ∷ []) read = IsReadAs text read
 AskFor words read = read ≡ Err fault.Usage
 
 -- the words ask for no expression that reads standard input
-abbrev pub AskForNoInput : List (List ℕ) → Type 0
-AskForNoInput words = (e : Expr) → AskFor words (Ok e) → has_stdin (expression_of e) ≡ false
+abbrev pub AskForNoStdin : List (List ℕ) → Type 0
+AskForNoStdin words = (e : Expr) → AskFor words (Ok e) → has_stdin (expression_of e) ≡ false
 
 -- the usage line
-unfoldable pub usage_line : List ℕ
-usage_line = codes "usage: sgb_levels EXPR\n"
+unfoldable pub levels_usage_line : List ℕ
+levels_usage_line = codes "usage: sgb_levels EXPR\n"
 
 -- the line of a refusal: of its own for an invalid command line, else that of `sgb`
 abbrev pub refusal_line : Fault → List ℕ
-refusal_line fault.Usage = usage_line
-refusal_line f = line_of f
+refusal_line fault.Usage = levels_usage_line
+refusal_line f = fault_line f
 
 -- Only this refusal of the words was reported: nothing was written to the output, its line to standard error unless that
 -- failed, and its status was returned. `same` says that the output is as it was.

@@ -2,7 +2,7 @@
 //! arc leads from it, then those to which one leads from these, each vertex once.
 ghost use Rattle.std.specs.Prelude.{◌≡◌, ◌<◌, ◌+◌, [], length, None, replicate, IfOk, IsOkUnless};
 ghost use Rattle.std.specs.List.{All, flat_map};
-ghost use Rattle.sgb_levels.specs.Distances.{AreDistances, tips_of};
+ghost use Rattle.sgb_levels.specs.Distances.{AreDistances, tips_from};
 ghost use Rattle.sgb_levels.specs.inner.Marks.{all_marked, marked, marks};
 ghost use Rattle.sgb_levels.specs.inner.Searches.{IsSearched, unmarked};
 
@@ -53,7 +53,7 @@ fn next_level(
     requires level { All (λ v. v < length graph.now.vertices) level.now }
     requires size { length found.old ≡ length graph.now.vertices }
     ensures marks { IfOk result (λ next. marks found.new next.items
-        ≡ all_marked distance (flat_map (tips_of graph.now) level.now) (marks found.old [])) }
+        ≡ all_marked distance (flat_map (tips_from graph.now) level.now) (marks found.old [])) }
     ensures size { length found.new ≡ length found.old }
     ensures memory { IsOkUnless result Panic.NoRoom }
 {
@@ -75,7 +75,7 @@ fn mark_tips(
     requires vertex { v < length graph.now.vertices }
     requires size { length found.old ≡ length graph.now.vertices }
     ensures marks { IfOk result (λ x. marks found.new next.new.items
-        ≡ all_marked distance (tips_of graph.now v) (marks found.old next.old.items)) }
+        ≡ all_marked distance (tips_from graph.now v) (marks found.old next.old.items)) }
     ensures size { length found.new ≡ length found.old }
     ensures memory { IsOkUnless result Panic.NoRoom }
 {

@@ -4,7 +4,7 @@ ghost use Rattle.std.specs.List.{slice_index_or};
 ghost use Rattle.std.specs.IoError.{error_kind};
 ghost use Rattle.std.specs.String.{string_bytes};
 ghost use Rattle.sgb_file.specs.Devices.{AppendsUnlessFailed, change};
-ghost use Rattle.sgb_ops.specs.Operands.{names_of};
+ghost use Rattle.sgb_graph.specs.Vertices.{names_of};
 ghost use Rattle.sgb_expr.specs.Expression.{expression_of};
 ghost use Rattle.sgb_expr.specs.StdinUses.{has_stdin};
 ghost use Rattle.sgb_requests.specs.Faults.{status_of};
@@ -13,7 +13,7 @@ ghost use Rattle.sgb.specs.Program.{unread_fault};
 ghost use Rattle.sgb.specs.Values.{most_input, value_of};
 ghost use Rattle.sgb.specs.Writing.{IsWritten};
 ghost use Rattle.sgb_levels.specs.Lines.{IsLevelsAnswer, distance_text, level_line, level_lines, line_of_level};
-ghost use Rattle.sgb_levels.specs.Program.{AskFor, AskForNoInput, IsLevelsRun, IsRefused, refusal_line, usage_line};
+ghost use Rattle.sgb_levels.specs.Program.{AskFor, AskForNoStdin, IsLevelsRun, IsRefused, refusal_line, levels_usage_line};
 
 use crate::levels::levels;
 use itoa::Buffer;
@@ -53,7 +53,7 @@ pub fn run_levels<R: Source, W: Sink, E: Sink>(
         result) }
     ensures flushed { result ≡ 0 → W.held out.new ≡ [] }
     ensures unread { MatchResult words
-        (λ words. AskForNoInput (map string_bytes words.items) → source.new ≡ source.old)
+        (λ words. AskForNoStdin (map string_bytes words.items) → source.new ≡ source.old)
         (λ error. source.new ≡ source.old) }
     ensures bounded { LosesAtMost (most_input + 1) (R.remaining source.old)
         (R.remaining source.new) }
@@ -77,10 +77,10 @@ fn report_refusal<E: Sink>(fault: &Fault, errors: &mut E) -> u8
 }
 
 // Writes the usage line, and returns its exit status.
-#[tactic(auto, unfolding(crate::specs::Program::usage_line))]
+#[tactic(auto, unfolding(crate::specs::Program::levels_usage_line))]
 fn report_usage<E: Sink>(errors: &mut E) -> u8
     ensures line { AppendsUnlessFailed (change E.written E.has_failed errors.old errors.new)
-        usage_line }
+        levels_usage_line }
     ensures status { result ≡ 2 }
 {
     let _written = put_all(errors, b"usage: sgb_levels EXPR\n");

@@ -16,7 +16,7 @@ use Rattle.sgb_graph.specs.declared.fields.Kind.TheVariants.{I}
 use Rattle.sgb_graph.specs.declared.fields.Util.TheVariants.{Int}
 use Rattle.sgb_ops.specs.BiComplete.{bi_complete_id, with_parts}
 use Rattle.sgb_ops.specs.Wheel.{wheel_id, with_wheel_id}
-use Rattle.sgb_ops.specs.Operands.{order_of}
+use Rattle.sgb_graph.specs.Vertices.{order_of}
 
 -- what is made of a graph that was made
 pub onward : (r : Result Description Panic) (g : GraphData) (make : GraphData → Result Description Panic) (result : Result GraphData Panic)

@@ -15,7 +15,7 @@ use Rattle.sgb_ops.specs.declared.entries.Entry.{Entry}
 use Rattle.sgb_ops.specs.Entries.{accepted_entries, events_within, is_unnumbered, merged_count, names_by_entries, total_of}
 use Rattle.sgb_ops.specs.Induced.{events_between, induced_events, induced_graph, induced_id, induced_of, is_wanted, wanted}
 use Rattle.sgb_ops.specs.Merged.{merged_unless}
-use Rattle.sgb_ops.specs.Operands.{names_of, order_of}
+use Rattle.sgb_graph.specs.Vertices.{names_of, order_of}
 use Rattle.sgb_ops.specs.inner.Begun.{HasInside, IsBegun, IsFinished, later_events, named_graph}
 use Rattle.sgb_ops.specs.inner.Copies.{IsKeptEntry}
 use Rattle.sgb_ops.specs.inner.Ends.{AllWithin}

@@ -13,7 +13,7 @@ use Rattle.sgb_graph.specs.declared.fields.Link.{Link}
 use Rattle.sgb_ops.specs.inner.Ends.{AllWithin}
 use Rattle.sgb_ops.specs.Intersection.{count_to, least_to, common_count, common_length, common_event, common_events, intersection_events}
 use Rattle.sgb_ops.specs.Lengths.{greater, least_of}
-use Rattle.sgb_ops.specs.Operands.{order_of}
+use Rattle.sgb_graph.specs.Vertices.{order_of}
 use Rattle.sgb_ops.specs.Taken.{taken}
 use Rattle.sgb_ops.specs.inner.Tallies.{tally_of, tally_to, without_one, second_length, event_left}
 use Rattle.sgb_ops.specs.declared.tallies.Tally.{Tally}

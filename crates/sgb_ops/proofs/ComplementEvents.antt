@@ -2,11 +2,11 @@
 use Rattle.std.proofs.Common.{◌≡◌, ℕ, pos, Bool, true, false, cond, List, [], ◌∷◌, ◌++◌, map, filter, refl}
 use Rattle.sgb_graph.specs.Graphs.{GraphData}
 use Rattle.sgb_graph.specs.Events.{Event}
-use Rattle.sgb_ops.specs.Complement.{is_wanted}
+use Rattle.sgb_ops.specs.Complement.{is_wanted_arc}
 
 -- the wanted arcs from u to these vertices
 abbrev pub wanted_to : GraphData → Bool → Bool → Bool → ℕ → List ℕ → List Event
-wanted_to g copy self directed u ws = map (λ w. record { from = u; to = w; len = pos 1 }) (filter (is_wanted g copy self directed u) ws)
+wanted_to g copy self directed u ws = map (λ w. record { from = u; to = w; len = pos 1 }) (filter (is_wanted_arc g copy self directed u) ws)
 
 -- that to w, if it is wanted
 abbrev pub event_to : Bool → ℕ → ℕ → List Event
@@ -14,11 +14,11 @@ event_to wanted u w = cond wanted (record { from = u; to = w; len = pos 1 } ∷ 
 
 -- it comes first
 pub first_wanted : (g : GraphData) (copy self directed : Bool) (u w : ℕ) (ws : List ℕ)
-    → wanted_to g copy self directed u (w ∷ ws) ≡ event_to (is_wanted g copy self directed u w) u w ++ wanted_to g copy self directed u ws
+    → wanted_to g copy self directed u (w ∷ ws) ≡ event_to (is_wanted_arc g copy self directed u w) u w ++ wanted_to g copy self directed u ws
 first_wanted g copy self directed u w ws =
-    let rest = filter (is_wanted g copy self directed u) ws in
+    let rest = filter (is_wanted_arc g copy self directed u) ws in
     let arcs : List ℕ → List Event = map (λ v. record { from = u; to = v; len = pos 1 }) in
-    elim (is_wanted g copy self directed u w) as (λ b. arcs (cond b (w ∷ rest) rest) ≡ event_to b u w ++ arcs rest) [
+    elim (is_wanted_arc g copy self directed u w) as (λ b. arcs (cond b (w ∷ rest) rest) ≡ event_to b u w ++ arcs rest) [
       | true ↦ refl
       | false ↦ refl
     ]

@@ -17,7 +17,7 @@ use Rattle.sgb_ops.specs.inner.Copies.{IsKeptEntry, copies_start, count_by}
 use Rattle.sgb_ops.specs.inner.Ends.{AllWithin}
 use Rattle.sgb_ops.specs.Entries.{copies_of, events_within, first_copy, inner_event, inner_events, inner_events_from, is_unnumbered, merged_count, merged_name, names_by_entries, names_of_copies, own_names, own_total, size_of_entry, total_of}
 use Rattle.sgb_ops.specs.Induced.{copies_met, event_between, events_between, events_of_arc, events_of_copies, events_of_copy, is_met}
-use Rattle.sgb_ops.specs.Operands.{order_of, places_of, names_of}
+use Rattle.sgb_graph.specs.Vertices.{order_of, places_of, names_of}
 use Rattle.sgb_ops.specs.Taken.{taken}
 use Rattle.sgb_ops.specs.Titles.{numbered_name, substituted_name}
 use Rattle.sgb_ops.proofs.EntryTotals.{copies_within, copies-range, total_at}

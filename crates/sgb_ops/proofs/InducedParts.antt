@@ -18,7 +18,7 @@ use Rattle.sgb_ops.specs.declared.entries.Entry.TheVariants as entry
 use Rattle.sgb_ops.specs.Entries.{copies_of, events_within, first_copy, inner_event, inner_events, inner_events_from, is_unnumbered, merged_count, size_of_entry, total_of}
 use Rattle.sgb_ops.specs.Induced.{copies_met, event_between, events_between, events_of_arc, events_of_copies, events_of_copy, induced_events, is_met, is_wanted, wanted}
 use Rattle.sgb_ops.specs.Merged.{has_ends_of, merged, merged_unless}
-use Rattle.sgb_ops.specs.Operands.{order_of, places_of}
+use Rattle.sgb_graph.specs.Vertices.{order_of, places_of}
 use Rattle.sgb_ops.specs.Taken.{taken}
 use Rattle.sgb_ops.specs.inner.Copies.{IsKeptEntry, copies_start, count_by}
 use Rattle.sgb_ops.specs.inner.Ends.{AllWithin}

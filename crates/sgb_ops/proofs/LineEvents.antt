@@ -9,7 +9,7 @@ use Rattle.sgb_graph.specs.Events.{Event}
 use Rattle.sgb_graph.specs.Growth.{IsKept}
 use Rattle.sgb_ops.specs.Lines.{events_to, line_of, lines_for, lines_of_graph}
 use Rattle.sgb_ops.specs.inner.Lines.{LineWithin}
-use Rattle.sgb_ops.specs.Operands.{order_of}
+use Rattle.sgb_graph.specs.Vertices.{order_of}
 use Rattle.sgb_ops.specs.Taken.{taken}
 use Rattle.sgb_ops.specs.declared.line_graphs.Line.{Line}
 use Rattle.sgb_ops.proofs.EventsWithin.{taken_tips}

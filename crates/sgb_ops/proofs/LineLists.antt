@@ -11,7 +11,7 @@ use Rattle.sgb_vec.proofs.Lists.{eqb-turned, made-append}
 use Rattle.sgb_graph.specs.Graphs.{GraphData, chain_of}
 use Rattle.sgb_graph.specs.declared.fields.Link.{Link}
 use Rattle.sgb_ops.specs.Lines.{events_to, line_of, lines_of_graph, share_vertex}
-use Rattle.sgb_ops.specs.Operands.{order_of}
+use Rattle.sgb_graph.specs.Vertices.{order_of}
 use Rattle.sgb_ops.specs.Taken.{taken}
 use Rattle.sgb_ops.specs.inner.Lines.{DescendFrom, LeadsUp, events_to_numbers, no_line}
 use Rattle.sgb_ops.specs.inner.LineLists.{counts, list_at, numbers_at, touches, touching}

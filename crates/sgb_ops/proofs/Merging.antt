@@ -10,7 +10,7 @@ use Rattle.std.proofs.lemmas.List.Kept.{AllPairs-filter, AllPairs-cons}
 use Rattle.sgb_vec.proofs.Lists.{Contains-first, Contains-other, Contains-none, Contains-cases, Contains-passing}
 use Rattle.sgb_graph.specs.Events.{Event}
 use Rattle.sgb_ops.specs.Lengths.{lesser}
-use Rattle.sgb_ops.specs.Merged.{has_ends_of, with_least_length, merged, ends_of, first_ones, IsShortest}
+use Rattle.sgb_ops.specs.Merged.{has_ends_of, with_least_length, merged, named_ends, first_ones, IsShortest}
 use Rattle.sgb_ops.proofs.Ends.{own_ends, ends_turned, ends_joined, ends_either_way}
 
 -- the events do not have the same ends
@@ -166,29 +166,29 @@ firsts_without directed e before (x ∷ events) =
     ∙ (ap (λ ys. filter (λ f. not (has_ends_of directed e f)) (if list_any (has_ends_of directed x) before then [] else x ∷ []) ++ ys) next ∙ sym parts)
 
 -- what a test of the ends keeps, seen by the ends
-ends_kept : (t : ℕ × ℕ → Bool) (events : List Event) → map ends_of (filter (λ f. t (ends_of f)) events) ≡ filter t (map ends_of events)
+ends_kept : (t : ℕ × ℕ → Bool) (events : List Event) → map named_ends (filter (λ f. t (named_ends f)) events) ≡ filter t (map named_ends events)
 ends_kept t [] = refl
-ends_kept t (e ∷ events) = by_test (t (ends_of e)) (ends_kept t events)
+ends_kept t (e ∷ events) = by_test (t (named_ends e)) (ends_kept t events)
   where
-    by_test : (b : Bool) → map ends_of (filter (λ f. t (ends_of f)) events) ≡ filter t (map ends_of events)
-        → map ends_of (cond b (e ∷ filter (λ f. t (ends_of f)) events) (filter (λ f. t (ends_of f)) events)) ≡ cond b (ends_of e ∷ filter t (map ends_of events)) (filter t (map ends_of events))
-    by_test true rest = ap (λ xs. ends_of e ∷ xs) rest
+    by_test : (b : Bool) → map named_ends (filter (λ f. t (named_ends f)) events) ≡ filter t (map named_ends events)
+        → map named_ends (cond b (e ∷ filter (λ f. t (named_ends f)) events) (filter (λ f. t (named_ends f)) events)) ≡ cond b (named_ends e ∷ filter t (map named_ends events)) (filter t (map named_ends events))
+    by_test true rest = ap (λ xs. named_ends e ∷ xs) rest
     by_test false rest = rest
 
 -- an event at the ends
 abbrev at_ends : ℕ × ℕ → Event
 at_ends p = record { from = p.0; to = p.1; len = pos 0 }
 
-merged_after : (directed : Bool) (events : List Event) → map ends_of (merged directed events) ≡ map ends_of (firsts_after directed [] events)
+merged_after : (directed : Bool) (events : List Event) → map named_ends (merged directed events) ≡ map named_ends (firsts_after directed [] events)
 unfolding merged
 merged_after directed [] = refl
 merged_after directed (e ∷ events) =
     let t = λ (p : ℕ × ℕ). not (has_ends_of directed e (at_ends p)) in
     let left = ends_kept t (merged directed events) in
     let right = ends_kept t (firsts_after directed [] events) in
-    ap (λ xs. ends_of e ∷ xs)
-    (left ∙ (ap (filter t) (merged_after directed events) ∙ (sym right ∙ ap (map ends_of) (sym (firsts_without directed e [] events)))))
+    ap (λ xs. named_ends e ∷ xs)
+    (left ∙ (ap (filter t) (merged_after directed events) ∙ (sym right ∙ ap (map named_ends) (sym (firsts_without directed e [] events)))))
 
 -- the ends that are left are those of the first ones
-pub merged_first : (directed : Bool) (events : List Event) → map ends_of (merged directed events) ≡ map ends_of (first_ones directed events)
-merged_first directed events = merged_after directed events ∙ sym (ap (map ends_of) (first_at_places directed events [] events 0 refl refl))
+pub merged_first : (directed : Bool) (events : List Event) → map named_ends (merged directed events) ≡ map named_ends (first_ones directed events)
+merged_first directed events = merged_after directed events ∙ sym (ap (map named_ends) (first_at_places directed events [] events 0 refl refl))

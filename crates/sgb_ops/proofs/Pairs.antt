@@ -4,7 +4,7 @@ use Rattle.std.specs.List.{flat_map}
 use Rattle.std.proofs.Math.Nat.{add-mul}
 use Rattle.std.proofs.lemmas.List.{length-map}
 use Rattle.sgb_graph.specs.Graphs.{GraphData}
-use Rattle.sgb_ops.specs.Operands.{order_of, names_of}
+use Rattle.sgb_graph.specs.Vertices.{order_of, names_of}
 use Rattle.sgb_ops.specs.Product.{names_of_pairs}
 use Rattle.sgb_ops.specs.Titles.{pair_name}
 

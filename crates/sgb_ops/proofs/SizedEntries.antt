@@ -12,7 +12,7 @@ use Rattle.sgb_ops.specs.declared.entries.Entry.{Entry}
 use Rattle.sgb_ops.specs.declared.entries.Entry.TheVariants as entry
 use Rattle.sgb_ops.specs.Entries.{copies_by, copies_of, first_copy, is_unnumbered, merged_count, merged_number, own_total, size_of_entry, total_of}
 use Rattle.sgb_ops.specs.Induced.{event_between, events_between, events_of_arc, events_of_copies, events_of_copy, is_met}
-use Rattle.sgb_ops.specs.Operands.{places_of}
+use Rattle.sgb_graph.specs.Vertices.{places_of}
 use Rattle.sgb_ops.specs.Taken.{taken}
 use Rattle.sgb_ops.specs.inner.Copies.{sized}
 

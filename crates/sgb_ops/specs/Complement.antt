@@ -8,7 +8,7 @@ use Rattle.sgb_graph.specs.Events.{Event}
 use Rattle.sgb_graph.specs.Ids.{compound_id}
 use Rattle.sgb_graph.specs.Descriptions.{Description}
 use Rattle.sgb_graph.specs.Made.{plain}
-use Rattle.sgb_ops.specs.Operands.{places_of, names_of}
+use Rattle.sgb_graph.specs.Vertices.{places_of, names_of}
 use Rattle.sgb_graph.specs.IdTexts.{flag_text}
 use Rattle.sgb_ops.specs.Titles.{closing}
 
@@ -23,13 +23,13 @@ is_wanted_where arc copy self directed u w =
     beq arc copy && (self || not (w == u)) && (directed || nat_le u w)
 
 -- the result has an arc from u to w
-abbrev pub is_wanted : GraphData → Bool → Bool → Bool → ℕ → ℕ → Bool
-is_wanted g copy self directed u w = is_wanted_where (has_arc g u w) copy self directed u w
+abbrev pub is_wanted_arc : GraphData → Bool → Bool → Bool → ℕ → ℕ → Bool
+is_wanted_arc g copy self directed u w = is_wanted_where (has_arc g u w) copy self directed u w
 
 -- the wanted arcs from u in order, each of length 1
 abbrev pub complement_events_from : GraphData → Bool → Bool → Bool → ℕ → List Event
 complement_events_from g copy self directed u =
-    map (λ w. record { from = u; to = w; len = pos 1 }) (filter (is_wanted g copy self directed u) (places_of g))
+    map (λ w. record { from = u; to = w; len = pos 1 }) (filter (is_wanted_arc g copy self directed u) (places_of g))
 
 -- the wanted pairs in lexicographic order
 abbrev pub complement_events : GraphData → Bool → Bool → Bool → List Event

@@ -11,7 +11,7 @@ use Rattle.sgb_graph.specs.Events.{Event}
 use Rattle.sgb_graph.specs.declared.fields.Link.{Link}
 use Rattle.sgb_ops.specs.declared.entries.Entry.{Entry}
 use Rattle.sgb_ops.specs.declared.entries.Entry.TheVariants as entry
-use Rattle.sgb_ops.specs.Operands.{order_of, places_of, names_of}
+use Rattle.sgb_graph.specs.Vertices.{order_of, places_of, names_of}
 use Rattle.sgb_ops.specs.Taken.{taken}
 use Rattle.sgb_ops.specs.Titles.{primed_name, numbered_name, substituted_name}
 

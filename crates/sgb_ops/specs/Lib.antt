@@ -1,6 +1,4 @@
 -- What the contracts of sgb_ops speak of.
--- the vertices and the names of an operand
-pub mod Operands
 -- the lesser, the greater and the least length
 pub mod Lengths
 -- the arcs taken of a vertex, each edge once

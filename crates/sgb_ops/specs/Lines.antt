@@ -14,7 +14,7 @@ use Rattle.sgb_graph.specs.declared.fields.Ref.{Ref}
 use Rattle.sgb_graph.specs.declared.fields.Ref.TheVariants.{Null, One, At}
 use Rattle.sgb_graph.specs.Descriptions.{Description}
 use Rattle.sgb_graph.specs.Made.{plain}
-use Rattle.sgb_ops.specs.Operands.{places_of, name_at}
+use Rattle.sgb_graph.specs.Vertices.{places_of, name_at}
 use Rattle.sgb_ops.specs.declared.line_graphs.Line.{Line}
 use Rattle.sgb_ops.specs.Taken.{taken}
 use Rattle.sgb_graph.specs.IdTexts.{flag_text}

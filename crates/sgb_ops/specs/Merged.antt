@@ -29,8 +29,8 @@ abbrev pub MergedAreApart : Type 0
 MergedAreApart = (directed : Bool) (events : List Event) → AllPairs (λ e f. has_ends_of directed e f ≡ false) (merged directed events)
 
 -- the two ends of an event, as it names them
-abbrev pub ends_of : Event → ℕ × ℕ
-ends_of e = (e.from, e.to)
+abbrev pub named_ends : Event → ℕ × ℕ
+named_ends e = (e.from, e.to)
 
 -- the events before which there is none with the same ends, in their order
 abbrev pub first_ones : Bool → List Event → List Event
@@ -44,7 +44,7 @@ pub record IsShortest (directed : Bool) (events : List Event) (e : Event) : Type
 
 -- the ends that are left are those of the first ones, in their order
 abbrev pub MergedAreTheFirst : Type 0
-MergedAreTheFirst = (directed : Bool) (events : List Event) → map ends_of (merged directed events) ≡ map ends_of (first_ones directed events)
+MergedAreTheFirst = (directed : Bool) (events : List Event) → map named_ends (merged directed events) ≡ map named_ends (first_ones directed events)
 
 -- each event that is left is as short as the shortest with its ends
 abbrev pub MergedAreShortest : Type 0

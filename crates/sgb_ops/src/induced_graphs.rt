@@ -7,7 +7,7 @@ ghost use Rattle.sgb_graph.specs.Growth.{AddsEvents, HasPlainArcs};
 ghost use Rattle.sgb_ops.specs.Entries.{accepted_entries, events_within, is_unnumbered, merged_count, total_of};
 ghost use Rattle.sgb_ops.specs.Induced.{events_between, induced_id, induced_of, wanted};
 ghost use Rattle.sgb_ops.specs.Merged.{merged_unless};
-ghost use Rattle.sgb_ops.specs.Operands.{order_of};
+ghost use Rattle.sgb_graph.specs.Vertices.{order_of};
 ghost use Rattle.sgb_ops.specs.inner.Begun.{IsBegun, IsFinished, later_events};
 ghost use Rattle.sgb_ops.specs.inner.Copies.{IsKeptEntry, sized};
 ghost use Rattle.sgb_ops.specs.inner.Ends.{AllWithin};

@@ -9,7 +9,7 @@ ghost use Rattle.sgb_ops.specs.Lines.{accepted_lines, events_to, has_way_back, i
 ghost use Rattle.sgb_ops.specs.inner.Lines.{DescendFrom, LeadsUp, LineWithin, events_to_numbers, no_line};
 ghost use Rattle.sgb_ops.specs.inner.LineLists.{counts, list_at, numbers_at, touches};
 ghost use Rattle.sgb_ops.specs.inner.LineRuns.{begin_at, begin_from};
-ghost use Rattle.sgb_ops.specs.Operands.{name_at};
+ghost use Rattle.sgb_graph.specs.Vertices.{name_at};
 ghost use Rattle.sgb_ops.specs.Taken.{taken};
 ghost use Rattle.sgb_ops.specs.Titles.{line_name, line_sign};
 

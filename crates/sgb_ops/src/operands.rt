@@ -1,7 +1,7 @@
 //! What the operations read of a graph beside its lists of arcs.
 ghost use Rattle.std.specs.Prelude.{◌≡◌, ◌≤◌, length, IfOk, IsOkUnless};
 ghost use Rattle.sgb_vec.specs.Limits.{most_vertices};
-ghost use Rattle.sgb_ops.specs.Operands.{names_of};
+ghost use Rattle.sgb_graph.specs.Vertices.{names_of};
 
 use sgb_graph::{Graph, Names};
 use sgb_vec::Panic;

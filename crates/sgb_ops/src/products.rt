@@ -5,7 +5,7 @@ ghost use Rattle.sgb_graph.specs.Descriptions.{IsAnswerOf};
 ghost use Rattle.sgb_graph.specs.Graphs.{chain_of};
 ghost use Rattle.sgb_graph.specs.Growth.{AddsEvents};
 ghost use Rattle.sgb_ops.specs.Lengths.{lesser};
-ghost use Rattle.sgb_ops.specs.Operands.{names_of, order_of, places_of};
+ghost use Rattle.sgb_graph.specs.Vertices.{names_of, order_of, places_of};
 ghost use Rattle.sgb_ops.specs.Product.{both_step, both_steps, both_steps_at, both_steps_of_row, names_of_pairs, place_along, product_events, product_graph, product_graph_of, product_id, product_type, single_steps, step_along, steps_along, steps_from, type_number};
 ghost use Rattle.sgb_ops.specs.Titles.{pair_name};
 ghost use Rattle.sgb_ops.specs.inner.Pairs.{HasRoomForPairs};

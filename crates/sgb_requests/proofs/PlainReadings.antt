@@ -5,7 +5,7 @@ use Rattle.std.proofs.lemmas.Slice.Eq.{bytes_eq-Decides}
 use Rattle.clap.specs.Words.{Row, Text, subcommand_of}
 use Rattle.sgb_requests.specs.CommandLine.{Asked, Asks, AsksAlone, Enters, asked_by, asked_of, called_by, command_line}
 use Rattle.sgb_expr.specs.Expressions.{IsExpressionRead}
-use Rattle.sgb_expr.specs.FlipTexts.{IsFlipReadAs as IsFlipRead}
+use Rattle.sgb_expr.specs.FlipTexts.{IsFlipRead}
 use Rattle.sgb_expr.specs.declared.expressions.Unread.TheVariants as unread
 use Rattle.sgb_requests.specs.PlainWords.{IsFlipReadBy, IsQueenRead, IsReadBy}
 use Rattle.sgb_requests.specs.Reading.{IsFlipReadAs, IsReadAs}

@@ -24,14 +24,14 @@ unfoldable pub usage_line : List ℕ
 usage_line = codes "usage: sgb (names|list) EXPR [--after NAME|--skip K], sgb save EXPR, sgb queen, sgb flip EXPR\n"
 
 -- the line on standard error, with its newline
-unfoldable pub line_of : Fault → List ℕ
-line_of Usage = usage_line
-line_of TooLarge = codes "sgb: expression too large\n"
-line_of (Expr k) = codes "sgb: bad expression at byte " ++ decimal k ++ codes "\n"
-line_of (Panic p) = codes "Something went wrong (panic code " ++ decimal (code_of p) ++ codes ")!\n"
-line_of NoVertex = codes "sgb: no such vertex\n"
-line_of Read = codes "sgb: read fault\n"
-line_of Write = codes "sgb: write fault\n"
+unfoldable pub fault_line : Fault → List ℕ
+fault_line Usage = usage_line
+fault_line TooLarge = codes "sgb: expression too large\n"
+fault_line (Expr k) = codes "sgb: bad expression at byte " ++ decimal k ++ codes "\n"
+fault_line (Panic p) = codes "Something went wrong (panic code " ++ decimal (code_of p) ++ codes ")!\n"
+fault_line NoVertex = codes "sgb: no such vertex\n"
+fault_line Read = codes "sgb: read fault\n"
+fault_line Write = codes "sgb: write fault\n"
 
 -- the fault for an error of clap's of this kind
 abbrev pub fault_of_kind : ErrorKind → Fault

@@ -1,7 +1,7 @@
 -- What reading an expression, or a flip, returns to a request.
 use Rattle.std.specs.Prelude.{◌≡◌, ℕ, List, Result, Ok, Err}
 use Rattle.sgb_expr.specs.Expressions.{IsExpressionRead}
-use Rattle.sgb_expr.specs.FlipTexts.{IsFlipReadAs as IsFlipRead}
+use Rattle.sgb_expr.specs.FlipTexts.{IsFlipRead}
 use Rattle.sgb_expr.specs.declared.expressions.Expr.{Expr}
 use Rattle.sgb_expr.specs.declared.expressions.Unread.{Unread}
 use Rattle.sgb_expr.specs.declared.flips.FlipParams.{FlipParams}

@@ -1,7 +1,7 @@
 //! The faults that a request ends with, and the line that each prints.
 ghost use Rattle.std.specs.Prelude.{◌≡◌, ◌≤◌, ◌+◌, ◌++◌, decimal, length};
 ghost use Rattle.sgb_file.specs.Devices.{AppendsUnlessFailed, change, IsPut};
-ghost use Rattle.sgb_requests.specs.Faults.{line_of, status_of};
+ghost use Rattle.sgb_requests.specs.Faults.{fault_line, status_of};
 
 use arrayvec::ArrayVec;
 use itoa::Buffer;
@@ -64,7 +64,7 @@ pub fn status(fault: &Fault) -> u8
 /// and the status is the same.
 pub fn report<E: Sink>(fault: &Fault, errors: &mut E) -> u8
     ensures line { AppendsUnlessFailed (change E.written E.has_failed errors.old errors.new)
-        (line_of fault.now) }
+        (fault_line fault.now) }
     ensures status { result ≡ status_of fault.now }
 {
     let _written = put_line(fault, errors);
@@ -72,9 +72,9 @@ pub fn report<E: Sink>(fault: &Fault, errors: &mut E) -> u8
 }
 
 // Puts the line of a fault.
-#[tactic(auto, unfolding(crate::specs::Faults::line_of, crate::specs::Faults::usage_line))]
+#[tactic(auto, unfolding(crate::specs::Faults::fault_line, crate::specs::Faults::usage_line))]
 fn put_line<E: Sink>(fault: &Fault, errors: &mut E) -> Result<(), Failed>
-    ensures { IsPut (line_of fault.now) (change E.written E.has_failed errors.old errors.new)
+    ensures { IsPut (fault_line fault.now) (change E.written E.has_failed errors.old errors.new)
         result }
 {
     match fault {

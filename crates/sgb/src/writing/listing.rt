@@ -1,7 +1,7 @@
 //! The listing of a graph, written to a sink.
 ghost use Rattle.std.specs.Prelude.{◌≡◌, ◌<◌, ◌≤◌, ◌+◌, ◌++◌, false, length, Err};
 ghost use Rattle.sgb_file.specs.Devices.{change};
-ghost use Rattle.sgb_ops.specs.Operands.{names_of};
+ghost use Rattle.sgb_graph.specs.Vertices.{names_of};
 ghost use Rattle.sgb.specs.Outcomes.{head_for, left_out, list_answer};
 ghost use Rattle.sgb.specs.Texts.{arc_line, block, blocks, head, head_text};
 ghost use Rattle.sgb.specs.Writing.{IsEnded, IsWritten};

@@ -5,7 +5,7 @@ ghost use Rattle.sgb_file.specs.Devices.{change};
 ghost use Rattle.sgb_graph.specs.Graphs.{GraphData};
 ghost use Rattle.sgb_graph.specs.Made.{graph_described};
 ghost use Rattle.sgb_vec.specs.Names.{name_of_vector};
-ghost use Rattle.sgb_ops.specs.Operands.{names_of};
+ghost use Rattle.sgb_graph.specs.Vertices.{names_of};
 ghost use Rattle.sgb.specs.Locals.{head_if, start_after, vectors_of};
 ghost use Rattle.sgb.specs.Outcomes.{head_for, left_out, list_answer};
 ghost use Rattle.sgb.specs.Texts.{head};

@@ -2,7 +2,7 @@
 ghost use Rattle.std.specs.Prelude.{◌≡◌, ◌<◌, [], false, length, Err};
 ghost use Rattle.std.specs.List.{slice_index_or};
 ghost use Rattle.sgb_file.specs.Devices.{change};
-ghost use Rattle.sgb_ops.specs.Operands.{names_of};
+ghost use Rattle.sgb_graph.specs.Vertices.{names_of};
 ghost use Rattle.sgb.specs.Outcomes.{left_out, names_answer, vertex_named};
 ghost use Rattle.sgb.specs.Texts.{name_line, name_lines};
 ghost use Rattle.sgb.specs.Writing.{IsEnded, IsWritten};

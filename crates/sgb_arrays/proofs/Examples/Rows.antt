@@ -4,7 +4,7 @@ use Rattle.sgb_graph.specs.Graphs.{GraphData, numbers_from}
 use Rattle.sgb_graph.specs.Made.{no_fields, no_kinds}
 use Rattle.sgb_graph.specs.declared.fields.Ref.TheVariants.{At}
 use Rattle.sgb_graph.specs.declared.fields.Util.TheVariants.{Nothing}
-use Rattle.sgb_arrays.specs.Lists.{part_at}
+use Rattle.sgb_arrays.specs.Lists.{part_by_starts}
 use Rattle.sgb_arrays.specs.Names.{name_bytes, name_starts}
 use Rattle.sgb_arrays.specs.Rows.{arcs_of, lengths_of, starts_of, tips_of}
 
@@ -35,7 +35,7 @@ pub lengths : lengths_of graph ≡ pos 6 ∷ pos 5 ∷ pos 7 ∷ []
 unfolding arcs_of numbers_from
 lengths = refl
 
-pub row_of_the_last : part_at (tips_of graph) (starts_of graph) 2 ≡ 0 ∷ []
+pub row_of_the_last : part_by_starts (tips_of graph) (starts_of graph) 2 ≡ 0 ∷ []
 unfolding arcs_of starts_of numbers_from
 row_of_the_last = refl
 

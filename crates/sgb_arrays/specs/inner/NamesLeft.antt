@@ -2,7 +2,8 @@
 use Rattle.std.specs.Prelude.{ℕ, List, length, map, drop}
 use Rattle.std.specs.List.{flat_map}
 use Rattle.sgb_graph.specs.Graphs.{GraphData}
-use Rattle.sgb_arrays.specs.Lists.{names_of, starts_from}
+use Rattle.sgb_graph.specs.Vertices.{names_of}
+use Rattle.sgb_arrays.specs.Lists.{starts_from}
 
 -- the bytes of the names of the vertices from this one on
 unfoldable pub bytes_left : GraphData → ℕ → List ℕ

@@ -2,7 +2,7 @@
 use Rattle.std.specs.Prelude.{ℕ, ℤ, zero, suc, List, [], ◌∷◌, length, codes, Result, Ok}
 use Rattle.sgb_gen.specs.Shorthands.{complete, transitive, empty, circuit, cycle, disjoint_subsets, petersen}
 use Rattle.sgb_expr.specs.Expression.{Expression, Entry}
-use Rattle.sgb_expr.specs.Forms.{number_of, board_params, simplex_params, subsets_params}
+use Rattle.sgb_expr.specs.Forms.{nth_number, board_params, simplex_params, subsets_params}
 use Rattle.sgb_expr.specs.Operations.{Operands, complement_call, gunion_call, intersection_call, product_call, lines_call, induced_call, bi_complete_call, wheel_call}
 use Rattle.sgb_expr.specs.inner.Names.{generator_openings, openings}
 use Rattle.sgb_expr.specs.inner.Readings.{◌>>=◌, either, or_else, then_read, read_after, read_as, fixed_as, word_at, bits_at, integer_at, integers_at, whole_by}
@@ -10,8 +10,8 @@ use Rattle.sgb_expr.specs.declared.expressions.Generator.{Generator}
 use Rattle.sgb_expr.specs.declared.expressions.Generator.TheVariants as generator
 use Rattle.sgb_expr.specs.declared.names.GeneratorName.{GeneratorName}
 use Rattle.sgb_expr.specs.declared.names.GeneratorName.TheVariants.{Board, Simplex, Subsets, Complete, Transitive, Empty, Circuit, Cycle, DisjointSubsets, Petersen}
-use Rattle.sgb_expr.specs.declared.names.Name.{Name}
-use Rattle.sgb_expr.specs.declared.names.Name.TheVariants as name
+use Rattle.sgb_expr.specs.declared.names.FormName.{FormName}
+use Rattle.sgb_expr.specs.declared.names.FormName.TheVariants as name
 
 -- n integers to a `)`, as the generator with its parameters that is made of them
 abbrev pub integers_as : (List ℤ → Generator) → ℕ → List ℕ → Result (Generator × List ℕ) ℕ
@@ -23,19 +23,19 @@ subsets_at text =
     integers_at [] 6 (codes ",") text >>= λ numbers.
     bits_at numbers.1 >>= λ bits.
     integers_at (codes ",") 1 (codes ")") bits.1 >>= λ directed.
-    Ok (generator.Subsets (subsets_params numbers.0 bits.0 (number_of directed.0 0)), directed.1)
+    Ok (generator.Subsets (subsets_params numbers.0 bits.0 (nth_number directed.0 0)), directed.1)
 
 -- the arguments of the generator's form of this name
 abbrev pub generator_at : GeneratorName → List ℕ → Result (Generator × List ℕ) ℕ
 generator_at Board = integers_as (λ numbers. generator.Board (board_params numbers)) 7
 generator_at Simplex = integers_as (λ numbers. generator.Simplex (simplex_params numbers)) 7
 generator_at Subsets = subsets_at
-generator_at Complete = integers_as (λ numbers. generator.Board (complete (number_of numbers 0))) 1
-generator_at Transitive = integers_as (λ numbers. generator.Board (transitive (number_of numbers 0))) 1
-generator_at Empty = integers_as (λ numbers. generator.Board (empty (number_of numbers 0))) 1
-generator_at Circuit = integers_as (λ numbers. generator.Board (circuit (number_of numbers 0))) 1
-generator_at Cycle = integers_as (λ numbers. generator.Board (cycle (number_of numbers 0))) 1
-generator_at DisjointSubsets = integers_as (λ numbers. generator.Subsets (disjoint_subsets (number_of numbers 0) (number_of numbers 1))) 2
+generator_at Complete = integers_as (λ numbers. generator.Board (complete (nth_number numbers 0))) 1
+generator_at Transitive = integers_as (λ numbers. generator.Board (transitive (nth_number numbers 0))) 1
+generator_at Empty = integers_as (λ numbers. generator.Board (empty (nth_number numbers 0))) 1
+generator_at Circuit = integers_as (λ numbers. generator.Board (circuit (nth_number numbers 0))) 1
+generator_at Cycle = integers_as (λ numbers. generator.Board (cycle (nth_number numbers 0))) 1
+generator_at DisjointSubsets = integers_as (λ numbers. generator.Subsets (disjoint_subsets (nth_number numbers 0) (nth_number numbers 1))) 2
 generator_at Petersen = integers_as (λ numbers. generator.Subsets petersen) 0
 
 -- a generator's arguments, as an expression
@@ -86,7 +86,7 @@ induced_with inner =
     read_as (induced_call graph entries) (integers_at (codes ",") 3 (codes ")")))))
 
 -- the arguments of the form of this name, where `inner` reads the expressions inside; `stdin` has none
-abbrev pub arguments_with : (List ℕ → Result (Expression × List ℕ) ℕ) → Name → List ℕ → Result (Expression × List ℕ) ℕ
+abbrev pub arguments_with : (List ℕ → Result (Expression × List ℕ) ℕ) → FormName → List ℕ → Result (Expression × List ℕ) ℕ
 arguments_with inner (name.Generator generator) = generator_expression_at generator
 arguments_with inner name.Complement = complement_with inner
 arguments_with inner name.Gunion = read_as gunion_call (operands_with inner)

@@ -7,7 +7,7 @@ use Rattle.sgb_ops.specs.declared.entries.Entry.{Entry}
 use Rattle.sgb_ops.specs.Entries.{events_within, names_by_entries}
 use Rattle.sgb_ops.specs.Induced.{events_between, induced_id, wanted}
 use Rattle.sgb_ops.specs.Merged.{merged_unless}
-use Rattle.sgb_ops.specs.Operands.{names_of}
+use Rattle.sgb_graph.specs.Vertices.{names_of}
 use Rattle.sgb_ops.specs.inner.Copies.{sized}
 use Rattle.sgb_ops.specs.inner.Parts.{AreInParts}
 

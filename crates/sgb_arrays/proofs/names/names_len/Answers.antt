@@ -1,6 +1,6 @@
 use Rattle.std.proofs.Common.{◌≤◌, ◌<◌, ◌∙◌, [], Some, length, ap, sym, arith}
 use Rattle.std.proofs.lemmas.Option.{get_or_from_slice_get}
-use Rattle.sgb_arrays.specs.Lists.{names_of}
+use Rattle.sgb_graph.specs.Vertices.{names_of}
 use Rattle.sgb_arrays.proofs.NamesLeft.{bytes_left-none, bytes_left-whole, name_counted}
 use Rattle.sgb_arrays.proofs.names.names_len.Goals as goal
 

@@ -1,7 +1,7 @@
 use Rattle.std.proofs.Common.{◌≡◌, ℕ, set, ◌<◌, ◌+◌, ◌∙◌, [], Some, length, ap, refl, sym, get_or, arith, rules}
 use Rattle.std.proofs.lemmas.List.{length-append}
 use Rattle.std.proofs.lemmas.Option.{get_or_from_slice_get}
-use Rattle.sgb_arrays.specs.Lists.{names_of}
+use Rattle.sgb_graph.specs.Vertices.{names_of}
 use Rattle.sgb_arrays.specs.Names.{name_bytes}
 use Rattle.sgb_arrays.specs.inner.NamesLeft.{bytes_left}
 use Rattle.sgb_arrays.specs.inner.Puts.{put_from}

@@ -1,6 +1,6 @@
 use Rattle.std.proofs.Common.{◌≡◌, ◌<◌, ◌+◌, ◌≤◌, ◌++◌, ◌∙◌, [], List, ℕ, Option, ap, sym, subst, length, take, drop, rules, arith}
 use Rattle.std.specs.List.{All, flat_map}
-use Rattle.sgb_levels.specs.Distances.{tips_of}
+use Rattle.sgb_levels.specs.Distances.{tips_from}
 use Rattle.sgb_levels.specs.inner.Marks.{all_marked, marks}
 use Rattle.sgb_levels.specs.inner.Searches.{IsSearched, unmarked}
 use Rattle.sgb_levels.proofs.Marking.{given_back}
@@ -19,7 +19,7 @@ loop-alloc-smaller c =
     let level = c.loop-alloc.level.items in
     let size : length level ≡ c.loop-alloc.level.len = search rules in
     let next = c.in_ok-level-2.level.items in
-    let is : marks new next ≡ all_marked (k + 1) (flat_map (tips_of c.args.graph.now) level) (marks found []) = rw (c.deref.ensures.value, c.as_mut_slice-in-loop-alloc.ensures.value) at c.in_ok-level-2.ensures.marks in
+    let is : marks new next ≡ all_marked (k + 1) (flat_map (tips_from c.args.graph.now) level) (marks found []) = rw (c.deref.ensures.value, c.as_mut_slice-in-loop-alloc.ensures.value) at c.in_ok-level-2.ensures.marks in
     let back = given_back c.loop-alloc.found.len new found (c.next_level.ensures.size ∙ c.as_mut_slice-in-loop-alloc.ensures.len) in
     let more = searched_next c.args.graph.now k found new level next c.n.ensures.kept c.loop-alloc.invariant.searched is in
     omega (arith, more.1, ap unmarked back, level_some level c.loop-alloc.level.len size (sym c.is_empty.ensures ∙ c.loop-alloc-test.true))
@@ -32,7 +32,7 @@ loop-alloc-preserved c =
     let level = c.loop-alloc.level.items in
     let size : length level ≡ c.loop-alloc.level.len = search rules in
     let next = c.in_ok-level-2.level.items in
-    let is : marks new next ≡ all_marked (k + 1) (flat_map (tips_of c.args.graph.now) level) (marks found []) = rw (c.deref.ensures.value, c.as_mut_slice-in-loop-alloc.ensures.value) at c.in_ok-level-2.ensures.marks in
+    let is : marks new next ≡ all_marked (k + 1) (flat_map (tips_from c.args.graph.now) level) (marks found []) = rw (c.deref.ensures.value, c.as_mut_slice-in-loop-alloc.ensures.value) at c.in_ok-level-2.ensures.marks in
     let back = given_back c.loop-alloc.found.len new found (c.next_level.ensures.size ∙ c.as_mut_slice-in-loop-alloc.ensures.len) in
     let more = searched_next c.args.graph.now k found new level next c.n.ensures.kept c.loop-alloc.invariant.searched is in
     record {

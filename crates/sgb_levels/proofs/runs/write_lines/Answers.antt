@@ -1,6 +1,6 @@
 use Rattle.std.proofs.Common.{◌≤◌, ◌<◌, length, arith}
 use Rattle.std.proofs.lemmas.List.{length-map}
-use Rattle.sgb_ops.specs.Operands.{names_of}
+use Rattle.sgb_graph.specs.Vertices.{names_of}
 use Rattle.sgb_file.proofs.SoFar.{so_far-all, so_far-more, so_far-none}
 use Rattle.sgb.proofs.CutOff.{exit_cut, so_far-cut}
 use Rattle.sgb_levels.proofs.LevelAnswers.{level_lines-first, level_lines-none}

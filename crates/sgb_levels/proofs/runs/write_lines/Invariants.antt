@@ -1,5 +1,5 @@
 use Rattle.std.proofs.Common.{◌≡◌, false}
-use Rattle.sgb_ops.specs.Operands.{names_of}
+use Rattle.sgb_graph.specs.Vertices.{names_of}
 use Rattle.sgb_file.proofs.SoFar.{SoFar}
 use Rattle.sgb_levels.specs.Lines.{level_lines}
 use Rattle.sgb_levels.proofs.runs.write_lines.Given as goal

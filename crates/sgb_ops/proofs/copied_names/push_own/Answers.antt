@@ -2,7 +2,7 @@ use Rattle.std.proofs.Common.{◌≡◌, ◌∙◌, ◌∷◌, ◌+◌, drop, sy
 use Rattle.std.proofs.lemmas.List.{drop_more}
 use Rattle.sgb_gen.proofs.FamilyWalks.{drop_at_vector}
 use Rattle.sgb_ops.specs.Entries.{names_of_copies, own_names}
-use Rattle.sgb_ops.specs.Operands.{names_of}
+use Rattle.sgb_graph.specs.Vertices.{names_of}
 use Rattle.sgb_ops.proofs.PlainLists.{part_more}
 use Rattle.sgb_ops.proofs.copied_names.push_own.Goals as goal
 

@@ -1,6 +1,6 @@
 use Rattle.std.proofs.Common.{◌≡◌, ◌++◌, drop}
 use Rattle.sgb_ops.specs.Entries.{own_names}
-use Rattle.sgb_ops.specs.Operands.{names_of}
+use Rattle.sgb_graph.specs.Vertices.{names_of}
 use Rattle.sgb_ops.proofs.copied_names.push_own.Given as goal
 
 -- with the names by the entries that are left, they are all

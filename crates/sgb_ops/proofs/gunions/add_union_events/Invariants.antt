@@ -1,5 +1,5 @@
 use Rattle.std.specs.List.{flat_map}
-use Rattle.sgb_ops.specs.Operands.{order_of}
+use Rattle.sgb_graph.specs.Vertices.{order_of}
 use Rattle.sgb_ops.proofs.Places.{PlacesLeft}
 use Rattle.sgb_ops.proofs.UnionEvents.{left_of}
 use Rattle.sgb_ops.proofs.gunions.add_union_events.Given as goal

@@ -1,7 +1,7 @@
 use Rattle.std.proofs.Common.{◌≡◌, ◌∙◌, Ok, Err, sym, ap}
 use Rattle.std.proofs.lemmas.Result.{err_from_is_err_and}
 use Rattle.sgb_ops.specs.Entries.{accepted_entries}
-use Rattle.sgb_ops.specs.Operands.{order_of}
+use Rattle.sgb_graph.specs.Vertices.{order_of}
 use Rattle.sgb_ops.proofs.BegunGraphs.{begun_numbered, begun_own, begun_size, begun_within, finished_answer}
 use Rattle.sgb_ops.proofs.Refusals.{not_refused, same_refusal}
 use Rattle.sgb_ops.proofs.induced_graphs.induced.Goals as goal

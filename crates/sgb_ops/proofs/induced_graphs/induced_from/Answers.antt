@@ -2,7 +2,7 @@ use Rattle.std.proofs.Common.{◌≡◌, ◌∙◌, All, Ok, Err, length, sym, a
 use Rattle.std.specs.List.{list_any}
 use Rattle.std.proofs.lemmas.Result.{err_from_is_err_and}
 use Rattle.sgb_ops.specs.Entries.{accepted_entries, is_unnumbered}
-use Rattle.sgb_ops.specs.Operands.{order_of}
+use Rattle.sgb_graph.specs.Vertices.{order_of}
 use Rattle.sgb_ops.specs.inner.Begun.{IsBegun}
 use Rattle.sgb_ops.specs.inner.Copies.{IsKeptEntry}
 use Rattle.sgb_ops.proofs.BegunGraphs.{begun_numbered, begun_own, begun_size, begun_within, finished_answer}

@@ -1,7 +1,7 @@
 use Rattle.std.proofs.Common.{◌∙◌, subst, refl, arith}
 use Rattle.std.specs.List.{flat_map}
 use Rattle.sgb_graph.specs.Growth.{AddsEvents}
-use Rattle.sgb_ops.specs.Operands.{order_of}
+use Rattle.sgb_graph.specs.Vertices.{order_of}
 use Rattle.sgb_ops.proofs.InducedParts.{between_left, vertex_part}
 use Rattle.sgb_ops.proofs.Places.{place_added, places_added}
 use Rattle.sgb_ops.proofs.induced_parts.add_events_between.Goals as goal

@@ -2,7 +2,7 @@ use Rattle.std.proofs.Common.{length, sym, ap, subst, refl, arith}
 use Rattle.std.specs.List.{flat_map}
 use Rattle.sgb_graph.specs.Growth.{AddsEvents}
 use Rattle.sgb_ops.specs.Merged.{merged_unless}
-use Rattle.sgb_ops.specs.Operands.{order_of}
+use Rattle.sgb_graph.specs.Vertices.{order_of}
 use Rattle.sgb_ops.specs.inner.Ends.{AllWithin}
 use Rattle.sgb_ops.proofs.InducedParts.{graph_left, graph_part, part_within}
 use Rattle.sgb_ops.proofs.Places.{place_added, places_added}

@@ -2,7 +2,7 @@ use Rattle.std.proofs.Common.{◌++◌, ◌+◌, min, ◌∙◌, sym, ap, subst,
 use Rattle.std.specs.List.{flat_map}
 use Rattle.sgb_ops.specs.inner.Ends.{AllWithin}
 use Rattle.sgb_ops.specs.Intersection.{common_events}
-use Rattle.sgb_ops.specs.Operands.{order_of}
+use Rattle.sgb_graph.specs.Vertices.{order_of}
 use Rattle.sgb_ops.specs.Taken.{taken}
 use Rattle.sgb_ops.proofs.CommonEvents.{commons_of, events_after, intersection_within}
 use Rattle.sgb_ops.proofs.PlainLists.{part_more, parts_all, places-next, places-none}

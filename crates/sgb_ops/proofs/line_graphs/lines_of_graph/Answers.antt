@@ -1,6 +1,6 @@
 use Rattle.std.proofs.Common.{◌≡◌, ◌+◌, ◌-◌, ◌∙◌, All, sym, ap, subst, arith}
 use Rattle.sgb_ops.specs.inner.Lines.{DescendFrom, LeadsUp, LineWithin}
-use Rattle.sgb_ops.specs.Operands.{order_of}
+use Rattle.sgb_graph.specs.Vertices.{order_of}
 use Rattle.sgb_ops.proofs.LineEvents.{lines_at, lines_below, lines_below-more, lines_within}
 use Rattle.sgb_ops.proofs.LineLists.{lines_descend, lines_lead_up}
 use Rattle.sgb_ops.proofs.PlainLists.{part_more, parts_all}

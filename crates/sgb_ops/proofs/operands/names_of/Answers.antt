@@ -1,6 +1,6 @@
 use Rattle.std.proofs.Common.{◌++◌, [], ◌∷◌, ap, sym, ◌∙◌}
 use Rattle.sgb_gen.proofs.FamilyWalks.{take_at_vector}
-use Rattle.sgb_ops.specs.Operands.{names_of}
+use Rattle.sgb_graph.specs.Vertices.{names_of}
 use Rattle.sgb_ops.proofs.operands.names_of.Goals as goal
 
 pub loop-v-preserved : goal.loop-v-preserved

@@ -2,7 +2,7 @@ use Rattle.std.proofs.Common.{◌∙◌, ap, map, refl, w64, to_z, of_z, rules}
 use Rattle.std.proofs.lemmas.Int.{to_z-of_z}
 use Rattle.sgb_graph.specs.Graphs.{chain_of}
 use Rattle.sgb_ops.specs.Lengths.{lesser}
-use Rattle.sgb_ops.specs.Operands.{order_of}
+use Rattle.sgb_graph.specs.Vertices.{order_of}
 use Rattle.sgb_ops.specs.Product.{both_step}
 use Rattle.sgb_ops.proofs.Places.{arcs_first, arc_added, same_event}
 use Rattle.sgb_ops.proofs.products.add_both_step.Goals as goal

@@ -1,7 +1,7 @@
 use Rattle.std.proofs.Common.{map, refl}
 use Rattle.std.specs.List.{flat_map}
 use Rattle.sgb_graph.specs.Graphs.{chain_of}
-use Rattle.sgb_ops.specs.Operands.{order_of}
+use Rattle.sgb_graph.specs.Vertices.{order_of}
 use Rattle.sgb_ops.specs.Product.{both_step}
 use Rattle.sgb_ops.specs.Taken.{taken}
 use Rattle.sgb_ops.proofs.Places.{arcs_first, arc_added, next_tip}

@@ -1,6 +1,6 @@
 use Rattle.std.proofs.Common.{◌≡◌, ◌++◌, map, drop}
 use Rattle.std.specs.List.{flat_map}
-use Rattle.sgb_ops.specs.Operands.{names_of}
+use Rattle.sgb_graph.specs.Vertices.{names_of}
 use Rattle.sgb_ops.specs.Product.{names_of_pairs}
 use Rattle.sgb_ops.specs.Titles.{pair_name}
 use Rattle.sgb_ops.proofs.products.names_of_pairs.Given as goal

@@ -5,7 +5,7 @@ use Rattle.clap.specs.Words.{Text}
 use Rattle.sgb_requests.specs.CommandLine.{Asks}
 use Rattle.sgb_requests.specs.inner.CommandLine.{EntersSubcommand, bytes_of}
 use Rattle.sgb_expr.specs.Expressions.{IsExpressionRead}
-use Rattle.sgb_expr.specs.FlipTexts.{IsFlipReadAs as IsFlipRead}
+use Rattle.sgb_expr.specs.FlipTexts.{IsFlipRead}
 use Rattle.sgb_requests.specs.Reading.{IsFlipReadAs, IsReadAs}
 use Rattle.sgb_requests.specs.Requests.{IsRefusedCommandLine, TakesOptions}
 use Rattle.sgb_requests.specs.inner.Requests.{AreRefused}

@@ -1,6 +1,6 @@
 use Rattle.std.proofs.Common.{◌≡◌, ◌≤◌, ◌<◌, ◌∙◌, min, sym, ap, length, arith}
 use Rattle.std.proofs.lemmas.List.{length-map}
-use Rattle.sgb_ops.specs.Operands.{names_of}
+use Rattle.sgb_graph.specs.Vertices.{names_of}
 use Rattle.sgb.specs.Texts.{blocks}
 use Rattle.sgb.proofs.Listings.{blocks-first, blocks-min, blocks-none}
 use Rattle.sgb.proofs.CutOff.{exit_cut}

@@ -1,6 +1,6 @@
 use Rattle.std.proofs.Common.{ℕ, List, ◌++◌, Ok, option_map, sym, refl}
 use Rattle.sgb_graph.specs.Made.{graph_described}
-use Rattle.sgb_ops.specs.Operands.{names_of}
+use Rattle.sgb_graph.specs.Vertices.{names_of}
 use Rattle.sgb.specs.Outcomes.{head_for, left_out}
 use Rattle.sgb.specs.Texts.{blocks, head}
 use Rattle.sgb.specs.Values.{described, vector_graph_of}

@@ -1,6 +1,6 @@
 use Rattle.std.proofs.Common.{◌≡◌, ◌≤◌, ◌<◌, ◌∙◌, [], min, sym, ap, length, arith}
 use Rattle.std.proofs.lemmas.List.{length-map}
-use Rattle.sgb_ops.specs.Operands.{names_of}
+use Rattle.sgb_graph.specs.Vertices.{names_of}
 use Rattle.sgb.specs.Texts.{name_lines}
 use Rattle.sgb.proofs.Listings.{name_lines-first, name_lines-min, name_lines-none}
 use Rattle.sgb.proofs.CutOff.{exit_cut}

@@ -1,5 +1,5 @@
 use Rattle.std.proofs.Common.{◌≡◌, [], false}
-use Rattle.sgb_ops.specs.Operands.{names_of}
+use Rattle.sgb_graph.specs.Vertices.{names_of}
 use Rattle.sgb.specs.Texts.{name_lines}
 use Rattle.sgb.proofs.Pages.{PagedSoFar}
 use Rattle.sgb.proofs.writing.vertices.write_name_lines.Given as goal

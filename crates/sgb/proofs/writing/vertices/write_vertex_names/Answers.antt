@@ -1,5 +1,5 @@
 use Rattle.std.proofs.Common.{refl}
-use Rattle.sgb_ops.specs.Operands.{names_of}
+use Rattle.sgb_graph.specs.Vertices.{names_of}
 use Rattle.sgb.specs.Outcomes.{left_out}
 use Rattle.sgb.specs.Texts.{name_lines}
 use Rattle.sgb.proofs.CertainAnswers.{exit_nowhere, not_nowhere}

@@ -1,4 +1,4 @@
-use Rattle.sgb_ops.specs.Operands.{order_of}
+use Rattle.sgb_graph.specs.Vertices.{order_of}
 use Rattle.sgb_ops.proofs.ComplementEvents.{wanted_to}
 use Rattle.sgb_ops.proofs.Places.{PlacesLeft}
 use Rattle.sgb_ops.proofs.complements.Wanted.add_arcs_from.Given as goal

@@ -1,6 +1,6 @@
 use Rattle.std.proofs.Common.{map}
 use Rattle.std.specs.List.{flat_map}
-use Rattle.sgb_ops.specs.Operands.{order_of, places_of}
+use Rattle.sgb_graph.specs.Vertices.{order_of, places_of}
 use Rattle.sgb_ops.specs.Product.{step_along, steps_from}
 use Rattle.sgb_ops.proofs.Places.{ArcsLeft}
 use Rattle.sgb_ops.proofs.products.Axis.add_steps_from.Given as goal

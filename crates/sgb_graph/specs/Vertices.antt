@@ -1,4 +1,4 @@
--- What the operations read of a graph beside its lists of arcs [GB_GRAPH].
+-- The vertices of a graph and their names [GB_GRAPH].
 use Rattle.std.specs.Prelude.{ℕ, List, [], length, map, slice_get}
 use Rattle.std.specs.List.{range_with_len}
 use Rattle.std.specs.Option.{option_map_or}
