@@ -1,9 +1,9 @@
 -- What is known of the board that is accepted.
-use Rattle.std.proofs.Common.{◌≡◌, ℕ, ◌≤◌, ℤ, Bool, true, false, cond, ltb, List, [], ◌∷◌, length, Result, Ok, Err, refl, ap, subst, ◌∙◌, inl, inr}
+use Rattle.std.proofs.Common.{rules, arith, ◌≡◌, ℕ, ◌≤◌, ℤ, Bool, true, false, cond, ltb, List, [], ◌∷◌, length, Result, Ok, Err, refl, ap, ◌∙◌}
 use Rattle.std.proofs.lemmas.Bool.{cases_lt, lt-ltb}
 use Rattle.sgb_vec.specs.Boxes.{box_of, product_of}
 use Rattle.sgb_vec.specs.Limits.{most_dimensions, most_vertices}
-use Rattle.sgb_vec.specs.Sizes.{Normalized, chessboard, board_of, board_by_stop, before_stop, stop_of, zero_after_stop, count_by_stop, sizes_by_stop, has_great_size}
+use Rattle.sgb_vec.specs.Sizes.{Normalized, chessboard, board_of, board_by_stop, zero_after_stop, count_by_stop, sizes_by_stop, has_great_size}
 use Rattle.sgb_vec.specs.declared.panics.Panic.{Panic}
 use Rattle.sgb_vec.specs.declared.panics.Panic.TheVariants.{Bad, VeryBad}
 use Rattle.sgb_vec.proofs.SimplexBounds.{length-zero_after_stop}
@@ -18,19 +18,11 @@ same_ok x y h = cc
 
 -- a test that failed
 at_most_from : (m n : ℕ) → ltb m n ≡ false → n ≤ m
-at_most_from m n e =
-    elim (cases_lt m n) [
-      | inl less ↦ absurd (cc (lt-ltb m n less))
-      | inr more ↦ more
-    ]
+at_most_from m n e = grind (arith, cases_lt, lt-ltb)
 
 -- the sizes of an accepted box
 pub box_accepted : (sizes f : List ℕ) → Ok f ≡ box_of sizes → (sizes ≡ f) × (length f ≤ most_dimensions) × (product_of f ≤ most_vertices)
-box_accepted sizes f h =
-    let few = chosen (ltb most_dimensions (length sizes)) Bad _ f h in
-    let small = chosen (ltb most_vertices (product_of sizes)) VeryBad (Ok sizes) f few.1 in
-    let same : sizes ≡ f = cc small.1 in
-    (same, subst (λ s. length s ≤ most_dimensions) same (at_most_from most_dimensions (length sizes) few.0), subst (λ s. product_of s ≤ most_vertices) same (at_most_from most_vertices (product_of sizes) small.0))
+box_accepted sizes f h = grind (arith, chosen, at_most_from)
 
 parameters_by_stop : (entries : List ℤ) (before : List ℕ) (e : ℤ) (s : Normalized) → length entries ≡ 4 → Ok s ≡ board_by_stop entries before e → length s.params ≡ 4
 parameters_by_stop entries [] e s four h =
@@ -42,6 +34,4 @@ parameters_by_stop entries (n ∷ before) e s four h =
 
 -- an accepted board has four parameters
 pub parameters_accepted : (n1 n2 n3 n4 : ℤ) (s : Normalized) → Ok s ≡ board_of n1 n2 n3 n4 → length s.params ≡ 4
-parameters_accepted n1 n2 n3 n4 s h =
-    let entries = n1 ∷ n2 ∷ n3 ∷ n4 ∷ [] in
-    parameters_by_stop entries (before_stop entries) (stop_of entries) s refl h
+parameters_accepted n1 n2 n3 n4 s h = search (rules, parameters_by_stop)

@@ -1,7 +1,7 @@
 -- The counts of a board, as the code finds them: by its sides, its lengths and its displacements.
 use lib.Signed.{lt_z}
-use Rattle.std.proofs.Common.{◌≡◌, ℕ, zero, suc, ◌+◌, ◌-◌, ◌*◌, ◌^◌, ◌<◌, ◌≤◌, min, ℤ, pos, negsuc, ◌*ℤ◌, nat_abs, to_z, of_z, w32, w64, SFits, Bool, true, false, ◌&&◌, cond, ltb, List, [], ◌∷◌, length, map, get_or, drop, Option, Some, None, refl, sym, ap, subst, ◌∙◌, inl, inr, arith}
-use Rattle.std.specs.List.{All, filter, range_with_len}
+use Rattle.std.proofs.Common.{rules, ◌≡◌, ℕ, zero, suc, ◌+◌, ◌-◌, ◌*◌, ◌^◌, ◌<◌, ◌≤◌, min, ℤ, pos, negsuc, ◌*ℤ◌, nat_abs, to_z, of_z, w32, w64, SFits, Bool, true, false, ◌&&◌, cond, ltb, List, [], ◌∷◌, length, map, get_or, drop, Option, Some, None, refl, sym, ap, ◌∙◌, inl, inr, arith}
+use Rattle.std.specs.List.{All, filter}
 use Rattle.std.specs.Option.{is_some, SomeIff}
 use Rattle.std.proofs.lemmas.Bool.{cases_Bool, cases_lt, ltb-true}
 use Rattle.std.proofs.lemmas.Int.{to_z-of_z}
@@ -17,11 +17,11 @@ use Rattle.sgb_vec.specs.Limits.{most_vertices}
 use Rattle.sgb_vec.proofs.BoxPlaces.{IsBelow-from_Contains, length-box}
 use Rattle.sgb_vec.proofs.Products.{factors-pos}
 use Rattle.sgb_gen.specs.Boards.{BoardData, board_graph, moves_of_board}
-use Rattle.sgb_gen.specs.VectorGraphs.{event_among, family_graph}
-use Rattle.sgb_gen.specs.Moves.{Side, is_bit_set, sides_from_bit, sides_of, place, moves_from}
+use Rattle.sgb_gen.specs.VectorGraphs.{family_graph}
+use Rattle.sgb_gen.specs.Moves.{Side, is_bit_set, sides_from_bit, sides_of, place}
 use Rattle.sgb_gen.specs.inner.BoardCounts.{starts_on, is_home_on, starts_product, is_home, comes_home, starts_count}
 use Rattle.sgb_gen.specs.inner.LocalBoards.{moves_by}
-use Rattle.sgb_gen.specs.inner.Moves.{destination, longest_move}
+use Rattle.sgb_gen.specs.inner.Moves.{longest_move}
 use Rattle.sgb_gen.proofs.AllVectors.{flat_map-same}
 use Rattle.sgb_gen.proofs.BoardCountsLengths.{moves_left, starts-home, starts-going, left-first, left-none, onward-end}
 use Rattle.sgb_gen.proofs.BoardCountsStarts.{passing, starts-product}
@@ -70,18 +70,10 @@ product-none sizes wrap t l =
     ap (λ n. min n most_of_64) whole
 
 pub product-more : (sizes : List ℕ) (wrap : ℤ) (t : List ℤ) (l k product starts : ℕ) → k < length sizes → k < length t → starts ≡ starts_on (side_at sizes wrap k) (pos l *ℤ get_or t k (pos 0)) → IsProductSoFar sizes wrap t l k product → IsProductSoFar sizes wrap t l (k + 1) (min (product * starts) most_of_64)
-product-more sizes wrap t l k product starts h i e so =
-    let rest = product_from sizes wrap t l (k + 1) in
-    let grouped : product * starts * rest ≡ product * (starts * rest) = omega arith in
-    cut_twice (product * starts) rest most_of_64 ∙ ap (λ n. min n most_of_64) grouped
-    ∙ ap (λ n. min (product * (n * rest)) most_of_64) e
-    ∙ ap (λ n. min (product * n) most_of_64) (sym (product-step sizes wrap t l k h i)) ∙ so
+product-more sizes wrap t l k product starts h i e so = grind (arith, cut_twice, product-step)
 
 pub product-all : (sizes : List ℕ) (wrap : ℤ) (t : List ℤ) (l k product : ℕ) → length sizes ≤ k → product ≤ most_of_64 → IsProductSoFar sizes wrap t l k product → product ≡ min (starts_product (sides_of sizes wrap) t l) most_of_64
-product-all sizes wrap t l k product h fits so =
-    let one = ap (λ s. starts_product (sides_from_bit k s wrap) (drop k t) l) (drop_all k sizes h) in
-    let whole : product ≡ min (product * 1) most_of_64 = omega (arith, fits) in
-    whole ∙ ap (λ n. min (product * n) most_of_64) (sym one) ∙ so
+product-all sizes wrap t l k product h fits so = grind (arith, drop_all)
 
 -- ---- whether it leads home
 
@@ -90,8 +82,7 @@ home_from sizes wrap t l k = is_home (sides_from_bit k (drop k sizes) wrap) (dro
 
 pub home-step : (sizes : List ℕ) (wrap : ℤ) (t : List ℤ) (l k : ℕ) → k < length sizes → k < length t → home_from sizes wrap t l k ≡ (is_home_on (side_at sizes wrap k) (pos l *ℤ get_or t k (pos 0)) && home_from sizes wrap t l (k + 1))
 home-step sizes wrap t l k h i =
-    at_drop_more (λ s. is_home (sides_from_bit k s wrap) (drop k t) l) sizes k 0 h
-    ∙ at_drop_more (λ u. is_home (sides_from_bit k (get_or sizes k 0 ∷ drop (k + 1) sizes) wrap) u l) t k (pos 0) i
+    cc (at_drop_more (λ s. is_home (sides_from_bit k s wrap) (drop k t) l) sizes k 0 h, at_drop_more (λ u. is_home (sides_from_bit k (get_or sizes k 0 ∷ drop (k + 1) sizes) wrap) u l) t k (pos 0) i)
 
 -- ---- the places of a board
 
@@ -99,9 +90,7 @@ abbrev AreAllBelow : List ℕ → ℤ → Type 0
 AreAllBelow sizes wrap = All (λ x. IsBelow x (map (λ s. s.size) (sides_of sizes wrap))) (box sizes)
 
 all_below : (sizes : List ℕ) (wrap : ℤ) → AreAllBelow sizes wrap
-all_below sizes wrap j w l =
-    let x = get_or (box sizes) j w in
-    subst (IsBelow x) (sym (sizes_of_sides 0 sizes wrap)) (IsBelow-from_Contains sizes x (Contains-get_or (box sizes) j w l))
+all_below sizes wrap j w l = search (rules, sizes_of_sides, IsBelow-from_Contains, Contains-get_or)
 
 length_sides : (sizes : List ℕ) (wrap : ℤ) (k : ℕ) → length (sides_from_bit k sizes wrap) ≡ length sizes
 length_sides [] wrap k = refl
@@ -110,8 +99,7 @@ length_sides (n ∷ sizes) wrap k = ap suc (length_sides sizes wrap (k + 1))
 places_passing : (sizes : List ℕ) (wrap : ℤ) (t : List ℤ) (l : ℕ) → length t ≡ length sizes → passing (λ x. is_some (place (sides_of sizes wrap) x t l)) (box sizes) ≡ starts_product (sides_of sizes wrap) t l
 places_passing sizes wrap t l e =
     let sides = sides_of sizes wrap in
-    ap (λ ns. passing (λ x. is_some (place sides x t l)) (box ns)) (sym (sizes_of_sides 0 sizes wrap))
-    ∙ starts-product sides t l (e ∙ sym (length_sides sizes wrap 0))
+    cc (sizes_of_sides 0 sizes wrap, starts-product sides t l (e ∙ sym (length_sides sizes wrap 0)))
 
 -- where no side stops it, the product counts the places from which a piece moves
 pub counts-away : (sizes : List ℕ) (wrap piece : ℤ) (t : List ℤ) (l : ℕ) → length t ≡ length sizes → comes_home (sides_of sizes wrap) piece t l ≡ false → starts_product (sides_of sizes wrap) t l ≡ starts_count (sides_of sizes wrap) piece (box sizes) t l
@@ -156,28 +144,20 @@ moves_beyond sizes wrap piece t k =
     moves_left (sides_of sizes wrap) piece (box sizes) t (k + 1) (longest_move (sides_of sizes wrap) piece - k)
 
 pub beyond-all : (sizes : List ℕ) (wrap piece : ℤ) (t : List ℤ) → moves_beyond sizes wrap piece t 0 ≡ length (moves_by (sides_of sizes wrap) piece (box sizes) t)
-beyond-all sizes wrap piece t =
-    let sides = sides_of sizes wrap in
-    let count : longest_move sides piece - 0 ≡ longest_move sides piece = omega arith in
-    ap (moves_left sides piece (box sizes) t 1) count
-    ∙ ap length (flat_map-same (λ x. moves_until x (destination sides piece x t) (range_with_len 1 (longest_move sides piece))) (λ x. moves_from sides piece x t) (λ x. sym (moves_from-until sides piece x t)) (box sizes))
+beyond-all sizes wrap piece t = grind (arith, flat_map-same, moves_until, moves_from-until)
 
 pub beyond-first : (sizes : List ℕ) (wrap piece : ℤ) (t : List ℤ) (k : ℕ) → k < longest_move (sides_of sizes wrap) piece → 0 < starts_count (sides_of sizes wrap) piece (box sizes) t (k + 1) → moves_beyond sizes wrap piece t k ≡ starts_count (sides_of sizes wrap) piece (box sizes) t (k + 1) + moves_beyond sizes wrap piece t (k + 1)
 beyond-first sizes wrap piece t k h some =
     let sides = sides_of sizes wrap in
     let count : longest_move sides piece - k ≡ suc (longest_move sides piece - (k + 1)) = omega arith in
-    ap (moves_left sides piece (box sizes) t (k + 1)) count
-    ∙ left-first sides piece (box sizes) t (k + 1) (longest_move sides piece - (k + 1)) (all_below sizes wrap) some
+    cc (count, left-first sides piece (box sizes) t (k + 1) (longest_move sides piece - (k + 1)) (all_below sizes wrap) some)
 
 pub beyond-none : (sizes : List ℕ) (wrap piece : ℤ) (t : List ℤ) (k : ℕ) → starts_count (sides_of sizes wrap) piece (box sizes) t (k + 1) ≡ 0 → moves_beyond sizes wrap piece t k ≡ 0
 beyond-none sizes wrap piece t k e =
     left-none (sides_of sizes wrap) piece (box sizes) t (k + 1) (longest_move (sides_of sizes wrap) piece - k) e
 
 pub beyond-end : (sizes : List ℕ) (wrap piece : ℤ) (t : List ℤ) (k : ℕ) → longest_move (sides_of sizes wrap) piece ≤ k → moves_beyond sizes wrap piece t k ≡ 0
-beyond-end sizes wrap piece t k h =
-    let sides = sides_of sizes wrap in
-    let count : longest_move sides piece - k ≡ 0 = omega arith in
-    ap (moves_left sides piece (box sizes) t (k + 1)) count ∙ onward-end (λ x l. destination sides piece x t l) (k + 1) (box sizes)
+beyond-end sizes wrap piece t k h = grind (arith, moves_left, onward-end)
 
 -- ---- the arcs
 
@@ -198,15 +178,11 @@ step_read t l k u f g h = to_z-of_z w64 u f ∙ h ∙ ap (λ z. pos l *ℤ z) (t
 
 pub starts_read : (sizes : List ℕ) (wrap : ℤ) (t : List ℤ) (l k : ℕ) (wraps : Bool) (u : ℤ) (starts : ℕ) → SFits w64 u → SFits w32 (get_or t k (pos 0)) → wraps ≡ is_bit_set wrap k → u ≡ pos l *ℤ to_z w32 (of_z w32 (get_or t k (pos 0))) → starts ≡ starts_on (record { size = get_or sizes k 0; wraps = wraps }) (to_z w64 (of_z w64 u)) → starts ≡ starts_on (side_at sizes wrap k) (pos l *ℤ get_or t k (pos 0))
 starts_read sizes wrap t l k wraps u starts f g e h is =
-    is ∙ ap (λ z. starts_on (record { size = get_or sizes k 0; wraps = wraps }) z) (step_read t l k u f g h)
-    ∙ ap (λ b. starts_on (record { size = get_or sizes k 0; wraps = b }) (pos l *ℤ get_or t k (pos 0))) e
+    cc (is, step_read t l k u f g h, e)
 
 -- as many as places are below the greatest number of 64 bits
 pub product-exact : (sizes : List ℕ) (wrap : ℤ) (t : List ℤ) (l starts : ℕ) → length t ≡ length sizes → product_of sizes ≤ most_vertices → starts ≡ min (starts_product (sides_of sizes wrap) t l) most_of_64 → starts ≡ starts_product (sides_of sizes wrap) t l
-product-exact sizes wrap t l starts e few is =
-    let small = product-small sizes wrap t l e in
-    let fits : starts_product (sides_of sizes wrap) t l ≤ most_of_64 = omega (arith, small, few) in
-    is ∙ omega (arith, fits)
+product-exact sizes wrap t l starts e few is = grind (arith, product-small)
 
 -- the test of a rider
 pub rider-home : (sides : List Side) (piece : ℤ) (t : List ℤ) (l : ℕ) → SFits w64 piece → rides piece ≡ true → is_home sides t l ≡ comes_home sides piece t l
@@ -224,23 +200,15 @@ great (Some x) n e h = absurd (cc)
 
 pub arcs-of-directed : (b : BoardData) → b.directed ≡ true → (graph_described (board_graph b)).m ≡ length (moves_of_board b)
 unfolding family_graph
-arcs-of-directed b e =
-    let events = map (event_among (box b.sizes)) (moves_of_board b) in
-    ap (λ d. length (all_records d events)) e ∙ arcs-directed events ∙ length-map (moves_of_board b) (event_among (box b.sizes))
+arcs-of-directed b e = grind (arith, arcs-directed, length-map)
 
 pub arcs-of-undirected : (b : BoardData) → b.directed ≡ false → (graph_described (board_graph b)).m ≡ length (moves_of_board b) * 2
 unfolding family_graph
-arcs-of-undirected b e =
-    let events = map (event_among (box b.sizes)) (moves_of_board b) in
-    ap (λ d. length (all_records d events)) e ∙ arcs-undirected events ∙ ap (λ n. n * 2) (length-map (moves_of_board b) (event_among (box b.sizes)))
+arcs-of-undirected b e = grind (arith, arcs-undirected, length-map)
 
 -- there are as many arcs as moves at least
 moves-le-arcs : (b : BoardData) → length (moves_of_board b) ≤ (graph_described (board_graph b)).m
-moves-le-arcs b =
-    elim (cases_Bool b.directed) [
-      | inl yes_arcs ↦ omega (arith, arcs-of-directed b yes_arcs)
-      | inr no_arcs ↦ omega (arith, arcs-of-undirected b no_arcs)
-    ]
+moves-le-arcs b = grind (arith, cases_Bool, arcs-of-directed, arcs-of-undirected)
 
 pub great-moves : (b : BoardData) → 2 ^ 128 ≤ length (moves_of_board b) → 2 ^ 128 ≤ (graph_described (board_graph b)).m
 great-moves b h = omega (arith, h, moves-le-arcs b)

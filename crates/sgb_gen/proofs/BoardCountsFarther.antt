@@ -1,5 +1,5 @@
 -- From a place of a board, where l steps of a displacement lead out of it, so does one step more.
-use Rattle.std.proofs.Common.{◌≡◌, ℕ, ◌+◌, ◌*◌, ◌<◌, ◌≤◌, ◌⊎◌, ℤ, pos, negsuc, ◌+ℤ◌, ◌*ℤ◌, nat_abs, Bool, true, false, suc, cond, ltb, List, [], ◌∷◌, map, Option, Some, None, refl, sym, ap, ◌∙◌, inl, inr, arith}
+use Rattle.std.proofs.Common.{◌≡◌, ℕ, ◌+◌, ◌*◌, ◌<◌, ◌≤◌, ◌⊎◌, ℤ, pos, negsuc, ◌+ℤ◌, ◌*ℤ◌, nat_abs, Bool, true, false, suc, cond, List, [], ◌∷◌, map, Option, Some, None, refl, sym, ap, ◌∙◌, inl, inr, arith}
 use Rattle.std.specs.Int.{int_rem_euclid}
 use Rattle.std.proofs.lemmas.Bool.{cases_lt, cond-true, lt-ltb}
 use Rattle.std.proofs.lemmas.Int.{ints}
@@ -9,11 +9,7 @@ use Rattle.sgb_gen.proofs.BoundedMoves.{in_front-none, past_size}
 
 -- what is not within a side
 outside : (n y : ℕ) → within_size n (pos y) ≡ None → n ≤ y
-outside n y e =
-    elim (cases_lt y n) [
-      | inl less ↦ absurd (cc (cond-true (ltb y n) (Some y) None (lt-ltb y n less)))
-      | inr more ↦ more
-    ]
+outside n y e = grind (arith, cases_lt, cond-true, lt-ltb)
 
 -- one step more on a side that does not wrap
 farther_on : (n x l : ℕ) (u : ℤ) → x < n → within_size n (pos x +ℤ pos l *ℤ u) ≡ None → within_size n (pos x +ℤ pos (l + 1) *ℤ u) ≡ None

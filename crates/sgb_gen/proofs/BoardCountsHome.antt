@@ -1,5 +1,5 @@
 -- Steps of a displacement that lead from a place back to it: whether they do does not depend on the place.
-use Rattle.std.proofs.Common.{◌≡◌, ℕ, ◌+◌, ◌<◌, ◌%◌, ℤ, pos, negsuc, ◌+ℤ◌, ◌*ℤ◌, neg_ℤ, nat_abs, Bool, true, false, cond, eqb, ltb, List, [], ◌∷◌, map, Some, None, refl, sym, ap, ap₂, ◌∙◌, arith, zero-add}
+use Rattle.std.proofs.Common.{◌≡◌, ℕ, ◌+◌, ◌<◌, ℤ, pos, negsuc, ◌+ℤ◌, ◌*ℤ◌, neg_ℤ, nat_abs, Bool, true, false, cond, eqb, ltb, List, [], ◌∷◌, map, Some, None, refl, ap, ap₂, ◌∙◌, arith, zero-add}
 use Rattle.std.proofs.Math.Nat.{mod-eq_of_lt}
 use Rattle.std.specs.Int.{int_rem_euclid}
 use Rattle.std.proofs.lemmas.Bool.{cond-true, lt-ltb, eqb-true, eq-eqb, and_parts, and_from}
@@ -15,17 +15,14 @@ use Rattle.sgb_gen.proofs.TurnedMoves.{in_front-parts, rem-moved, within_is}
 wrapped-to : (n x : ℕ) (u : ℤ) → x < n → nat_abs (int_rem_euclid u (pos n)) ≡ 0 → nat_abs (int_rem_euclid (pos x +ℤ u) (pos n)) ≡ x
 wrapped-to n x u h e =
     let turned : pos x +ℤ u ≡ u +ℤ pos x = omega (arith, ints) in
-    ap (λ z. nat_abs (int_rem_euclid z (pos n))) turned ∙ sym (rem-moved n u (pos x) (omega arith))
-    ∙ ap (λ m. nat_abs (int_rem_euclid (pos m +ℤ pos x) (pos n))) e ∙ ap (λ m. m % n) (zero-add x) ∙ mod-eq_of_lt h
+    cc (turned, rem-moved n u (pos x) (omega arith), e, zero-add x, mod-eq_of_lt h)
 
 wrapped-from : (n x : ℕ) (u : ℤ) → x < n → nat_abs (int_rem_euclid (pos x +ℤ u) (pos n)) ≡ x → nat_abs (int_rem_euclid u (pos n)) ≡ 0
 wrapped-from n x u h e =
     let back : (pos x +ℤ u) +ℤ neg_ℤ (pos x) ≡ u = omega (arith, ints) in
     let none : pos x +ℤ neg_ℤ (pos x) ≡ pos 0 = omega (arith, ints) in
     let some : 0 < n = omega arith in
-    ap (λ z. nat_abs (int_rem_euclid z (pos n))) (sym back) ∙ sym (rem-moved n (pos x +ℤ u) (neg_ℤ (pos x)) some)
-    ∙ ap (λ m. nat_abs (int_rem_euclid (pos m +ℤ neg_ℤ (pos x)) (pos n))) e
-    ∙ ap (λ z. nat_abs (int_rem_euclid z (pos n))) none ∙ mod-eq_of_lt some
+    cc (back, rem-moved n (pos x +ℤ u) (neg_ℤ (pos x)) some, e, none, mod-eq_of_lt some)
 
 -- on one that does not wrap
 inside-to : (n x : ℕ) (u : ℤ) → x < n → nat_abs u ≡ 0 → within_size n (pos x +ℤ u) ≡ Some x
@@ -53,12 +50,11 @@ chosen-from false n x u h e = eq-eqb (nat_abs u) 0 (inside-from n x u e)
 -- where the steps lead home, they do from each place
 pub home-to : (sides : List Side) (x : List ℕ) (t : List ℤ) (l : ℕ) → IsBelow x (map (λ s. s.size) sides) → is_home sides t l ≡ true → place sides x t l ≡ Some x
 home-to [] [] t l b e = refl
-home-to [] (y ∷ x) t l b e = absurd b
-home-to (s ∷ sides) [] t l b e = absurd b
 home-to (s ∷ sides) (y ∷ x) [] l b e = absurd (cc)
 home-to (s ∷ sides) (y ∷ x) (u ∷ t) l b e =
     let parts = and_parts (is_home_on s (pos l *ℤ u)) (is_home sides t l) e in
     ap₂ in_front (chosen-to s.wraps s.size y (pos l *ℤ u) b.0 parts.0) (home-to sides x t l b.1 parts.1)
+home-to _ _ t l b e = absurd b
 
 -- and where they do from one place, they lead home
 pub home-from : (sides : List Side) (x : List ℕ) (t : List ℤ) (l : ℕ) → IsBelow x (map (λ s. s.size) sides) → place sides x t l ≡ Some x → is_home sides t l ≡ true

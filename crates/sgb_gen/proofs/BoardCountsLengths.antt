@@ -75,9 +75,7 @@ same_start x = ap not ((bytes_decides x x).1 refl)
 
 -- a rider at home moves nowhere
 home-nowhere : (sides : List Side) (p : ℕ) (x : List ℕ) (t : List ℤ) (l : ℕ) → IsBelow x (map (λ s. s.size) sides) → is_home sides t l ≡ true → destination sides (negsuc p) x t l ≡ None
-home-nowhere sides p x t l b e =
-    let there = home-to sides x t l b e in
-    ap (λ o. cond (is_elsewhere x o) o None) there ∙ ap (λ c. cond c (Some x) None) (same_start x)
+home-nowhere sides p x t l b e = grind (arith, home-to, same_start)
 
 -- elsewhere it moves where the steps lead
 away_leads : (x : List ℕ) (o : Option (List ℕ)) → (o ≡ Some x → true ≡ false) → cond (is_elsewhere x o) o None ≡ o
@@ -120,9 +118,7 @@ same_passing p q (x ∷ xs) h =
     omega (arith, here, there, first, same_passing p q xs (All-tail (λ y. p y ≡ q y) x xs h))
 
 pub starts-going : (sides : List Side) (piece : ℤ) (xs : List (List ℕ)) (t : List ℤ) (l : ℕ) → AreBelow sides xs → comes_home sides piece t l ≡ false → starts_count sides piece xs t l ≡ passing (λ x. is_some (place sides x t l)) xs
-starts-going sides piece xs t l b e =
-    same_passing (λ x. is_some (destination sides piece x t l)) (λ x. is_some (place sides x t l)) xs
-    (All-weaker (λ x. IsBelow x (map (λ s. s.size) sides)) (λ x. is_some (destination sides piece x t l) ≡ is_some (place sides x t l)) (λ x h. ap is_some (going sides piece x t l h e)) xs b)
+starts-going sides piece xs t l b e = grind (arith, same_passing, All-weaker, going)
 
 -- ---- the moves by a displacement, of the n lengths from m on
 
@@ -131,12 +127,7 @@ moves_left sides piece xs t m n = moves_onward (λ x l. destination sides piece 
 
 -- those of the first length, and the others
 pub left-first : (sides : List Side) (piece : ℤ) (xs : List (List ℕ)) (t : List ℤ) (m n : ℕ) → AreBelow sides xs → 0 < starts_count sides piece xs t m → moves_left sides piece xs t m (suc n) ≡ starts_count sides piece xs t m + moves_left sides piece xs t (m + 1) n
-left-first sides piece xs t m n b some =
-    elim (cases_Bool (comes_home sides piece t m)) [
-      | inl home ↦ absurd (omega (arith, some, starts-home sides piece xs t m b home))
-      | inr away ↦ onward-first (λ x l. destination sides piece x t l) m n xs
-          (All-weaker (λ x. IsBelow x (map (λ s. s.size) sides)) (λ x. destination sides piece x t m ≡ None → destination sides piece x t (m + 1) ≡ None) (λ x h. stops sides piece x t m h away) xs b)
-    ]
+left-first sides piece xs t m n b some = grind (arith, cases_Bool, starts-home, onward-first, All-weaker, stops)
 
 -- where none moves so far, none moves farther
 pub left-none : (sides : List Side) (piece : ℤ) (xs : List (List ℕ)) (t : List ℤ) (m n : ℕ) → starts_count sides piece xs t m ≡ 0 → moves_left sides piece xs t m n ≡ 0

@@ -40,14 +40,10 @@ forward n m (suc k) a e =
 
 -- a number that is not negative, and one that is
 back-some : (n x a : ℕ) → x < n → a < x → is_some (within_size n (pos x +ℤ negsuc a)) ≡ true
-back-some n x a h g =
-    let there : pos x +ℤ negsuc a ≡ pos (x - suc a) = omega (arith, ints) in
-    ap (λ z. is_some (within_size n z)) there ∙ on_side n (x - suc a) (omega arith)
+back-some n x a h g = grind (arith, ints, on_side)
 
 back-none : (n x a : ℕ) → x ≤ a → is_some (within_size n (pos x +ℤ negsuc a)) ≡ false
-back-none n x a g =
-    let there : pos x +ℤ negsuc a ≡ negsuc (a - x) = omega (arith, ints) in
-    ap (λ z. is_some (within_size n z)) there
+back-none n x a g = grind (arith, ints)
 
 backward : (n m k a : ℕ) → m + k ≡ n → passing (λ x. is_some (within_size n (pos x +ℤ negsuc a))) (range_with_len m k) ≡ (n - suc a) - (m - suc a)
 backward n m zero a e = omega arith
@@ -69,16 +65,14 @@ side_starts false n (negsuc a) = backward n 0 n a (omega arith) ∙ omega arith
 
 -- of vectors with x in front those pass whose other entries do, if x does
 row_passing : (p : List ℕ → Bool) (b : Bool) (r : List ℕ → Bool) (x : ℕ) → ((v : List ℕ) → p (x ∷ v) ≡ (b && r v)) → (vs : List (List ℕ)) → passing p (map (λ v. x ∷ v) vs) ≡ cond b (passing r vs) 0
-row_passing p true r x e [] = refl
-row_passing p false r x e [] = refl
 row_passing p true r x e (v ∷ vs) =
     let rest = row_passing p true r x e vs in
-    passing_first (p (x ∷ v)) (x ∷ v) (filter p (map (λ w. x ∷ w) vs)) ∙ ap (λ b. cond b 1 0 + passing p (map (λ w. x ∷ w) vs)) (e v)
-    ∙ ap (λ n. cond (r v) 1 0 + n) rest ∙ sym (passing_first (r v) v (filter r vs))
+    cc (passing_first (p (x ∷ v)) (x ∷ v) (filter p (map (λ w. x ∷ w) vs)), e v, rest, passing_first (r v) v (filter r vs))
 row_passing p false r x e (v ∷ vs) =
     let rest = row_passing p false r x e vs in
     passing_first (p (x ∷ v)) (x ∷ v) (filter p (map (λ w. x ∷ w) vs)) ∙ ap (λ b. cond b 1 0 + passing p (map (λ w. x ∷ w) vs)) (e v)
     ∙ omega (arith, rest)
+row_passing p _ r x e _ = refl
 
 row_times : (b : Bool) (n m : ℕ) → cond b m 0 + n * m ≡ (cond b 1 0 + n) * m
 row_times true n m = omega arith

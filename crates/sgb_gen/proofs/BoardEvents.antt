@@ -1,5 +1,5 @@
 -- The events of a board, as its moves are made one after another.
-use Rattle.std.proofs.Common.{◌≡◌, ℕ, ◌+◌, ◌<◌, ◌≤◌, ℤ, pos, nat_abs, List, [], ◌∷◌, ◌++◌, length, map, Some, None, sym, ap, ◌∙◌, ap₂}
+use Rattle.std.proofs.Common.{arith, ◌≡◌, ℕ, ◌+◌, ◌<◌, ◌≤◌, ℤ, pos, nat_abs, List, [], ◌∷◌, ◌++◌, length, map, Some, None, sym, ap}
 use Rattle.std.specs.List.{flat_map, slice_get}
 use Rattle.std.specs.Option.{option_map}
 use Rattle.sgb_vec.specs.Boxes.{box}
@@ -35,10 +35,7 @@ events_left-out b t x l h e =
 
 -- where it leads to a vertex the event there is the next
 pub events_left-next : (b : BoardData) (t : List ℤ) (x : List ℕ) (l u v : ℕ) → l ≤ longest b → slice_get (box b.sizes) u ≡ Some x → option_map (vertex_among (box b.sizes)) (leads b x t l) ≡ Some v → events_left b t x l ≡ (record { from = u; to = v; len = pos l } ∷ []) ++ events_left b t x (l + 1)
-events_left-next b t x l u v h at e =
-    let there = led_to (vertex_among (box b.sizes)) (leads b x t l) v e in
-    ap (map (event_among (box b.sizes))) (left-next b t x l there.0 h there.1)
-    ∙ ap₂ (λ i j. record { from = i; to = j; len = pos l } ∷ events_left b t x (l + 1)) (vertex_in_box b.sizes x u at) there.2
+events_left-next b t x l u v h at e = grind (arith, led_to, leads, left-next, vertex_in_box)
 
 -- the events of the moves by t, and those of all moves
 abbrev pub events_by : BoardData → List ℤ → List Event
@@ -53,7 +50,4 @@ events_by-moves b t = sym (map-flat_map (event_among (box b.sizes)) (λ x. moves
 
 pub events_of-moves : (b : BoardData) → events_of b ≡ map (event_among (box b.sizes)) (moves_of_board b)
 unfolding board_moves
-events_of-moves b =
-    let ts = displacements (nat_abs b.piece) (length b.sizes) in
-    flat_map-same (events_by b) (λ t. map (event_among (box b.sizes)) (flat_map (λ x. moves_from (sides_of b.sizes b.wrap) b.piece x t) (box b.sizes))) (events_by-moves b) ts
-    ∙ sym (map-flat_map (event_among (box b.sizes)) (λ t. flat_map (λ x. moves_from (sides_of b.sizes b.wrap) b.piece x t) (box b.sizes)) ts)
+events_of-moves b = grind (arith, flat_map-same, events_by-moves, map-flat_map)

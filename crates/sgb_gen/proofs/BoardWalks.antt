@@ -1,5 +1,5 @@
 -- Moves from a vector, one length after another, and what is made of them.
-use Rattle.std.proofs.Common.{◌≡◌, ℕ, suc, ◌+◌, ◌-◌, ◌<◌, ◌≤◌, ℤ, Bool, true, false, cond, List, [], ◌∷◌, ◌++◌, length, map, Option, Some, None, refl, sym, ap, ◌∙◌, arith, append-nil, append_assoc}
+use Rattle.std.proofs.Common.{◌≡◌, ℕ, ◌+◌, ◌-◌, ◌<◌, ◌≤◌, ℤ, Bool, true, false, cond, List, [], ◌∷◌, ◌++◌, length, map, Option, Some, None, refl, sym, ap, ◌∙◌, arith, append-nil, append_assoc}
 use Rattle.std.specs.List.{filter, range_with_len}
 use Rattle.std.specs.Option.{option_map, option_map_or}
 use Rattle.std.proofs.lemmas.List.Elements.{length_all_zip}
@@ -28,22 +28,15 @@ moves_of b t x = moves_from (sides_of b.sizes b.wrap) b.piece x t
 
 -- at length 1 all are left
 pub left-all : (b : BoardData) (t : List ℤ) (x : List ℕ) → moves_left b t x 1 ≡ moves_of b t x
-left-all b t x =
-    let count : longest b + 1 - 1 ≡ longest b = omega arith in
-    ap (λ n. moves_until x (leads b x t) (range_with_len 1 n)) count
-    ∙ sym (moves_from-until (sides_of b.sizes b.wrap) b.piece x t)
+left-all b t x = grind (arith, moves_from-until)
 
 -- past the greatest length none are left
 pub left-none : (b : BoardData) (t : List ℤ) (x : List ℕ) (l : ℕ) → longest b < l → moves_left b t x l ≡ []
-left-none b t x l h =
-    let count : longest b + 1 - l ≡ 0 = omega arith in
-    ap (λ n. moves_until x (leads b x t) (range_with_len l n)) count
+left-none b t x l h = grind (arith, moves_until)
 
 -- at a length up to it, that at the length itself comes first
 left-first : (b : BoardData) (t : List ℤ) (x : List ℕ) (l : ℕ) → l ≤ longest b → moves_left b t x l ≡ option_map_or (λ y. move x l y ∷ moves_left b t x (l + 1)) (leads b x t l) []
-left-first b t x l h =
-    let count : longest b + 1 - l ≡ suc (longest b + 1 - (l + 1)) = omega arith in
-    ap (λ n. moves_until x (leads b x t) (range_with_len l n)) count
+left-first b t x l h = grind (arith, moves_until)
 
 -- where the piece leads nowhere none are left
 pub left-out : (b : BoardData) (t : List ℤ) (x : List ℕ) (l : ℕ) → l ≤ longest b → leads b x t l ≡ None → moves_left b t x l ≡ []

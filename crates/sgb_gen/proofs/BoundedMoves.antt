@@ -57,8 +57,7 @@ bounds-all p sizes wrap k known h so =
 -- a bound for each size
 pub length-entry_bounds : (p : ℕ) (sizes : List ℕ) (wrap : ℤ) → length (entry_bounds p (sides_of sizes wrap)) ≡ length sizes
 length-entry_bounds p sizes wrap =
-    length-map (sides_of sizes wrap) (entry_bound p) ∙ sym (length-map (sides_of sizes wrap) (λ s. s.size))
-    ∙ ap length (sizes_of_sides 0 sizes wrap)
+    cc (length-map (sides_of sizes wrap) (entry_bound p), length-map (sides_of sizes wrap) (λ s. s.size), sizes_of_sides 0 sizes wrap)
 
 -- ---- off the board
 
@@ -92,8 +91,7 @@ place-off p (s ∷ sides) (z ∷ x) [] k b h far small = refl
 place-off p (s ∷ sides) (z ∷ x) (u ∷ t) zero b h far small =
     ap (λ o. in_front o (place sides x t 1)) (off_wrapped s.wraps s.size p z u b.0 far small)
 place-off p (s ∷ sides) (z ∷ x) (u ∷ t) (suc k) b h far small =
-    ap (in_front (coordinate_on s (pos z +ℤ pos 1 *ℤ u))) (place-off p sides x t k b.1 (omega arith) far small)
-    ∙ in_front-none (coordinate_on s (pos z +ℤ pos 1 *ℤ u))
+    cc (place-off p sides x t k b.1 (omega arith) far small, in_front-none (coordinate_on s (pos z +ℤ pos 1 *ℤ u)))
 
 -- a piece with no place at length 1 makes no move
 pub destination-none : (sides : List Side) (piece : ℤ) (x : List ℕ) (t : List ℤ) (l : ℕ) → place sides x t l ≡ None → destination sides piece x t l ≡ None
@@ -140,9 +138,8 @@ abbrev by_signings : {X : Type 0} → (List ℤ → List X) → List ℕ → Lis
 by_signings f v = flat_map f (signings v)
 
 size_at : (t : List ℤ) (k : ℕ) → get_or (sizes_of t) k 0 ≡ nat_abs (get_or t k (pos 0))
-size_at [] k = refl
-size_at (x ∷ t) zero = refl
 size_at (x ∷ t) (suc k) = size_at t k
+size_at _ _ = refl
 
 -- those of a vector with an entry above its bound make nothing
 vector-off : {X : Type 0} (b : BoardData) (f : List ℤ → List X) → IsOff b f → (v : List ℕ) (k : ℕ) → k < length b.sizes → get_or (bounds_of b) k 0 < get_or v k 0 → get_or v k 0 ≤ nat_abs b.piece → by_signings f v ≡ []
@@ -183,15 +180,11 @@ EndsAt g ns = (v : List ℕ) (k : ℕ) → k < length ns → get_or ns k 0 ≤ g
 -- what g makes of the vectors of a box, by their first entry
 box-rows : {X : Type 0} (g : List ℕ → List X) (n : ℕ) (ns : List ℕ) → flat_map g (box (n ∷ ns)) ≡ flat_map (λ x. flat_map (λ v. g (x ∷ v)) (box ns)) (range_with_len 0 n)
 unfolding box
-box-rows g n ns =
-    flat_map-flat_map g (λ x. map (λ v. x ∷ v) (box ns)) (range_with_len 0 n)
-    ∙ flat_map-same (λ x. flat_map g (map (λ v. x ∷ v) (box ns))) (λ x. flat_map (λ v. g (x ∷ v)) (box ns)) (λ x. flat_map-map g (λ v. x ∷ v) (box ns)) (range_with_len 0 n)
+box-rows g n ns = grind (arith, flat_map-flat_map, flat_map-same, flat_map-map)
 
 -- boxes at whose ends it makes nothing give the same
 box-same : {X : Type 0} (g : List ℕ → List X) (ns ms : List ℕ) → length ns ≡ length ms → EndsAt g ns → EndsAt g ms → flat_map g (box ns) ≡ flat_map g (box ms)
 box-same g [] [] e h i = refl
-box-same g [] (m ∷ ms) e h i = absurd (omega arith)
-box-same g (n ∷ ns) [] e h i = absurd (omega arith)
 box-same {X} g (n ∷ ns) (m ∷ ms) e h i =
     let row : List ℕ → ℕ → List X = λ ls x. flat_map (λ v. g (x ∷ v)) (box ls) in
     let same : (x : ℕ) → row ns x ≡ row ms x = λ x. box-same (λ v. g (x ∷ v)) ns ms (omega arith) (λ v k l far. h (x ∷ v) (suc k) (omega arith) far) (λ v k l far. i (x ∷ v) (suc k) (omega arith) far) in
@@ -206,6 +199,7 @@ box-same {X} g (n ∷ ns) (m ∷ ms) e h i =
     ∙ flat_map-same (row ns) (row ms) same (range_with_len 0 (min n m))
     ∙ sym (rows-cut (row ms) 0 (min n m) m (omega arith) (past ms))
     ∙ sym (box-rows g m ms)
+box-same g _ _ e h i = absurd (omega arith)
 
 -- what a vector of the piece's norm makes
 abbrev by_norm : {X : Type 0} → BoardData → (List ℤ → List X) → List ℕ → List X
@@ -213,15 +207,11 @@ by_norm b f v = by_test f (λ w. eqb (sum_of_squares w) (nat_abs b.piece)) v
 
 -- another sum of squares makes nothing
 norm-other : {X : Type 0} (b : BoardData) (f : List ℤ → List X) (v : List ℕ) → nat_abs b.piece < sum_of_squares v → by_norm b f v ≡ []
-norm-other b f v h =
-    let other : eqb (sum_of_squares v) (nat_abs b.piece) ≡ false = grind (arith, nat_tests) in
-    ap (λ c. cond c (by_signings f v) []) other
+norm-other b f v h = grind (arith, nat_tests)
 
 -- nor does an entry above the piece, or one above its bound
 ends-all : {X : Type 0} (b : BoardData) (f : List ℤ → List X) (d : ℕ) → EndsAt (by_norm b f) (replicate d (nat_abs b.piece + 1))
-ends-all b f d v k l far =
-    let within : k < d = omega (arith, l, length-replicate d (nat_abs b.piece + 1)) in
-    norm-other b f v (omega (arith, far, entry-le v k, get_or-replicate d k (nat_abs b.piece + 1) 0 within))
+ends-all b f d v k l far = grind (arith, length-replicate, norm-other, entry-le, get_or-replicate)
 
 ends-within : {X : Type 0} (b : BoardData) (f : List ℤ → List X) → IsOff b f → EndsAt (by_norm b f) (map (λ n. n + 1) (bounds_of b))
 ends-within b f off v k l far =
@@ -245,8 +235,7 @@ made_within b f off =
     let ns = map (λ n. n + 1) (bounds_of b) in
     let ms = replicate d (p + 1) in
     let count : length ns ≡ length ms = length-map (bounds_of b) (λ n. n + 1) ∙ length-entry_bounds p b.sizes b.wrap ∙ sym (length-replicate d (p + 1)) in
-    by_vectors f q (box ns) ∙ box-same (by_norm b f) ns ms count (ends-within b f off) (ends-all b f d)
-    ∙ sym (by_vectors f q (box ms))
+    cc (by_vectors f q (box ns), box-same (by_norm b f) ns ms count (ends-within b f off) (ends-all b f d), by_vectors f q (box ms))
 
 -- the events of a board are those by the displacements within the bounds
 pub events_within : (b : BoardData) → flat_map (events_by b) (displacements_within (nat_abs b.piece) (bounds_of b)) ≡ events_of b

@@ -21,21 +21,18 @@ lesser_is_min x y = lesser_where (ltb x y) x y refl
 
 -- so the lesser of each two are chosen
 pub lesser_are_minima : (u v : List ℕ) → sel_l (zip2 ltb u v) u v ≡ zip2 min u v
-lesser_are_minima [] v = refl
-lesser_are_minima (x ∷ u) [] = refl
 lesser_are_minima (x ∷ u) (y ∷ v) = rw (lesser_is_min x y, lesser_are_minima u v) refl
+lesser_are_minima _ _ = refl
 
 -- what two multisets have in common are the minima of their entries, added
 pub common_of_minima : (u v : List ℕ) → sum_l (zip2 min u v) ≡ common_size u v
-common_of_minima [] v = refl
-common_of_minima (x ∷ u) [] = refl
 common_of_minima (x ∷ u) (y ∷ v) = ap (λ n. min x y + n) (common_of_minima u v)
+common_of_minima _ _ = refl
 
 -- the minima of so many entries of 32 bits
 pub minima_small : (u v : List ℕ) → ((i : ℕ) → get_or u i 0 < 4_294_967_296) → sum_l (zip2 min u v) ≤ length u * 4_294_967_295
-minima_small [] v small = omega arith
-minima_small (x ∷ u) [] small = omega arith
 minima_small (x ∷ u) (y ∷ v) small = omega (arith, small 0, minima_small u v (λ i. small (suc i)))
+minima_small _ _ small = omega arith
 
 none_in_common : (u : List ℕ) → common_size u [] ≡ 0
 none_in_common [] = refl
@@ -77,10 +74,9 @@ common_small u v small = omega (arith, common_of_minima u v, minima_small u v sm
 -- nothing is in common where no chunk is left
 pub no_chunks : (a b : List (List ℕ)) → (length a ≡ 0) ⊎ (length b ≡ 0) → common_of_chunks a b ≡ 0
 unfolding common_of_chunks
-no_chunks [] b none = refl
-no_chunks (x ∷ a) [] none = refl
 no_chunks (x ∷ a) (y ∷ b) (inl none) = omega (arith, none)
 no_chunks (x ∷ a) (y ∷ b) (inr none) = omega (arith, none)
+no_chunks _ _ none = refl
 
 -- where so much is counted before the chunks a and b, it is the whole with the first of them and before the others
 pub next_counted : (total rest whole : ℕ) (a b : List (List ℕ)) (x y : List ℕ) (c d : List (List ℕ)) → a ≡ x ∷ c → b ≡ y ∷ d

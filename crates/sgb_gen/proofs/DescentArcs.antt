@@ -59,12 +59,11 @@ common-most (h ∷ x) (e ∷ v) =
 
 common-least : (bs x v : List ℕ) → IsWithin x bs → IsWithin v bs → sum v + sum x ≤ common_size x v + sum bs
 common-least [] [] [] hx hv = omega arith
-common-least [] [] (e ∷ v) hx hv = absurd hv
 common-least [] (h ∷ x) v hx hv = absurd hx
 common-least (b ∷ bs) [] v hx hv = absurd hx
-common-least (b ∷ bs) (h ∷ x) [] hx hv = absurd hv
 common-least (b ∷ bs) (h ∷ x) (e ∷ v) hx hv =
     omega (arith, sum-cons h x, sum-cons e v, sum-cons b bs, hx.0, hv.0, common-least bs x v hx.1 hv.1)
+common-least _ _ _ hx hv = absurd hv
 
 -- where none of these sizes is wanted there are no arcs
 pub under-unwanted : (sb : ℕ) (front : List ℕ) (c : ℕ) (bs x : List ℕ) (room shared left : ℕ) → IsBegun bs x room shared left c
@@ -93,21 +92,15 @@ sums-zero (b ∷ bs) =
     ∙ ap (λ vs. reverse (map (λ v. 0 ∷ v) (reverse vs) ++ [])) (sums-zero bs)
 
 common-zero : (x bs : List ℕ) → common_size x (zeros bs) ≡ 0
-common-zero [] bs = refl
-common-zero (h ∷ x) [] = refl
 common-zero (h ∷ x) (b ∷ bs) = omega (arith, common-zero x bs)
+common-zero _ _ = refl
 
 made_one : (b : Bool) (front v : List ℕ) → map {B = LocalArc} (λ w. record { tip = front ++ w; len = pos 1 }) (cond b (v ∷ []) []) ≡ cond b (record { tip = front ++ v; len = pos 1 } ∷ []) []
 made_one true front v = refl
 made_one false front v = refl
 
 pub under-zeros : (sb : ℕ) (front : List ℕ) (c left : ℕ) (bs x : List ℕ) (b : Bool) → left ≡ 0 → is_wanted_size sb c ≡ b → arcs_under sb front c x (reverse (bounded_sums left bs)) ≡ cond b (record { tip = front ++ zeros bs; len = pos 1 } ∷ []) []
-under-zeros sb front c left bs x b none test =
-    ap (λ n. arcs_under sb front c x (reverse (bounded_sums n bs))) none
-    ∙ ap (λ vs. arcs_under sb front c x (reverse vs)) (sums-zero bs)
-    ∙ ap (λ k. map (λ w. record { tip = front ++ w; len = pos 1 }) (cond (is_wanted_size sb k) (zeros bs ∷ []) [])) (omega (arith, common-zero x bs))
-    ∙ ap (λ t. map (λ w. record { tip = front ++ w; len = pos 1 }) (cond t (zeros bs ∷ []) [])) test
-    ∙ made_one b front (zeros bs)
+under-zeros sb front c left bs x b none test = grind (arith, sums-zero, common-zero, made_one)
 
 -- ---- the vectors above one and below it
 
@@ -123,18 +116,14 @@ below (b ∷ bs) (x ∷ xs) = map (λ v. x ∷ v) (below bs xs) ++ rows (x + sum
 
 to-above : (bs x : List ℕ) → IsWithin x bs → down_to bs x ≡ above bs x ++ x ∷ []
 to-above [] [] h = refl
-to-above [] (x ∷ xs) h = absurd h
-to-above (b ∷ bs) [] h = absurd h
 to-above (b ∷ bs) (x ∷ xs) h =
-    ap (λ l. rows (x + sum xs) bs (x + 1) (b - x) ++ map (λ v. x ∷ v) l) (to-above bs xs h.1)
-    ∙ ap (λ l. rows (x + sum xs) bs (x + 1) (b - x) ++ l) (map-append (λ v. x ∷ v) (above bs xs) (xs ∷ []))
-    ∙ sym (append_assoc (rows (x + sum xs) bs (x + 1) (b - x)) (map (λ v. x ∷ v) (above bs xs)) ((x ∷ xs) ∷ []))
+    cc (to-above bs xs h.1, map-append (λ v. x ∷ v) (above bs xs) (xs ∷ []), append_assoc (rows (x + sum xs) bs (x + 1) (b - x)) (map (λ v. x ∷ v) (above bs xs)) ((x ∷ xs) ∷ []))
+to-above _ _ h = absurd h
 
 from-below : (bs x : List ℕ) → IsWithin x bs → down_from bs x ≡ x ∷ below bs x
 from-below [] [] h = refl
-from-below [] (x ∷ xs) h = absurd h
-from-below (b ∷ bs) [] h = absurd h
 from-below (b ∷ bs) (x ∷ xs) h = ap (λ l. map (λ v. x ∷ v) l ++ rows (x + sum xs) bs 0 x) (from-below bs xs h.1)
+from-below _ _ h = absurd h
 
 -- they are all
 parted : (bs x : List ℕ) → IsWithin x bs → reverse (bounded_sums (sum x) bs) ≡ above bs x ++ x ∷ below bs x
@@ -167,18 +156,10 @@ no_parts [] m e = (refl, e)
 no_parts (v ∷ l) m e = absurd (omega (arith, ap length e))
 
 pub unwanted-to : (sb : ℕ) (front : List ℕ) (c left : ℕ) (bs x : List ℕ) → IsWithin x bs → left ≡ sum x → arcs_under sb front c x (reverse (bounded_sums left bs)) ≡ [] → arcs_under sb front c x (down_to bs x) ≡ []
-unwanted-to sb front c left bs x h all none =
-    (no_parts (arcs_under sb front c x (down_to bs x)) (arcs_under sb front c x (below bs x))
-    (sym (under-append sb front c x (down_to bs x) (below bs x))
-    ∙ ap (arcs_under sb front c x) (ap (λ l. l ++ below bs x) (to-above bs x h) ∙ append_assoc (above bs x) (x ∷ []) (below bs x) ∙ sym (parted bs x h) ∙ ap (λ n. reverse (bounded_sums n bs)) (sym all))
-    ∙ none)).0
+unwanted-to sb front c left bs x h all none = grind (arith, no_parts, under-append, to-above, append_assoc, parted)
 
 pub unwanted-from : (sb : ℕ) (front : List ℕ) (c left : ℕ) (bs x : List ℕ) → IsWithin x bs → left ≡ sum x → arcs_under sb front c x (reverse (bounded_sums left bs)) ≡ [] → arcs_under sb front c x (down_from bs x) ≡ []
-unwanted-from sb front c left bs x h all none =
-    (no_parts (arcs_under sb front c x (above bs x)) (arcs_under sb front c x (down_from bs x))
-    (sym (under-append sb front c x (above bs x) (down_from bs x))
-    ∙ ap (arcs_under sb front c x) (ap (λ l. above bs x ++ l) (from-below bs x h) ∙ sym (parted bs x h) ∙ ap (λ n. reverse (bounded_sums n bs)) (sym all))
-    ∙ none)).1
+unwanted-from sb front c left bs x h all none = grind (arith, no_parts, under-append, from-below, parted)
 
 -- so those from x on, and those up to it, are these
 module _ (bs x : List ℕ) (h : IsWithin x bs) where
@@ -187,10 +168,7 @@ module _ (bs x : List ℕ) (h : IsWithin x bs) where
 
   whole : vectors ≡ reverse (below bs x) ++ x ∷ reverse (above bs x)
   whole =
-      sym (reverse-reverse vectors) ∙ ap reverse (parted bs x h)
-      ∙ reverse-append (above bs x) (x ∷ below bs x)
-      ∙ ap (λ l. l ++ reverse (above bs x)) (reverse-first x (below bs x))
-      ∙ append_assoc (reverse (below bs x)) (x ∷ []) (reverse (above bs x))
+      cc (reverse-reverse vectors, parted bs x h, reverse-append (above bs x) (x ∷ below bs x), reverse-first x (below bs x), append_assoc (reverse (below bs x)) (x ∷ []) (reverse (above bs x)))
 
   place : vertex_among vectors x ≡ length (reverse (below bs x))
   place =
@@ -201,11 +179,7 @@ module _ (bs x : List ℕ) (h : IsWithin x bs) where
 
   pub to-dropped : reverse (drop (vertex_among vectors x) vectors) ≡ down_to bs x
   to-dropped =
-      ap (λ vs. reverse (drop (vertex_among vectors x) vs)) whole
-      ∙ ap reverse (drop_at (reverse (below bs x)) (x ∷ reverse (above bs x)) (vertex_among vectors x) (sym place))
-      ∙ reverse-first x (reverse (above bs x))
-      ∙ ap (λ l. l ++ x ∷ []) (reverse-reverse (above bs x))
-      ∙ sym (to-above bs x h)
+      cc (whole, drop_at (reverse (below bs x)) (x ∷ reverse (above bs x)) (vertex_among vectors x) (sym place), reverse-first x (reverse (above bs x)), reverse-reverse (above bs x), to-above bs x h)
 
   pub from-taken : reverse (take (vertex_among vectors x + 1) vectors) ≡ down_from bs x
   from-taken =
@@ -223,8 +197,7 @@ module _ (bs x : List ℕ) (h : IsWithin x bs) where
   pub walk-descended : (directed : Bool) (sb : ℕ) → arcs_by_walk directed sb vectors x ≡ arcs_under sb [] 0 x (down_to bs x) ++ cond directed [] (arcs_under sb [] 0 x (down_from bs x))
   walk-descended true sb = arcs_alike sb (reverse (drop (vertex_among vectors x) vectors)) ∙ ap (arcs_under sb [] 0 x) to-dropped ∙ sym (append-nil (arcs_under sb [] 0 x (down_to bs x)))
   walk-descended false sb =
-      ap₂ (λ a b. a ++ b) (arcs_alike sb (reverse (drop (vertex_among vectors x) vectors)) ∙ ap (arcs_under sb [] 0 x) to-dropped)
-      (arcs_alike sb (reverse (take (vertex_among vectors x + 1) vectors)) ∙ ap (arcs_under sb [] 0 x) from-taken)
+      cc (arcs_alike sb (reverse (drop (vertex_among vectors x) vectors)), to-dropped, arcs_alike sb (reverse (take (vertex_among vectors x + 1) vectors)), from-taken)
 
 -- ---- steps of the descent
 
@@ -234,35 +207,20 @@ HasEnded bs x = (length x ≡ 0) ⊎ (length bs ≡ 0)
 
 both_ended : (bs x : List ℕ) → IsWithin x bs → HasEnded bs x → (bs ≡ []) × (x ≡ [])
 both_ended [] [] h none = (refl, refl)
-both_ended [] (x ∷ xs) h none = absurd h
-both_ended (b ∷ bs) [] h none = absurd h
 both_ended (b ∷ bs) (x ∷ xs) h (inl e) = absurd (omega arith)
 both_ended (b ∷ bs) (x ∷ xs) h (inr e) = absurd (omega arith)
+both_ended _ _ h none = absurd h
 
 pub ended-zero : (bs x : List ℕ) → IsWithin x bs → HasEnded bs x → sum x ≡ 0
 ended-zero bs x h none = ap sum (both_ended bs x h none).1
 
 -- then more than 0 is no sum, and x is the one vector
 pub ended-all : (sb : ℕ) (front : List ℕ) (c left : ℕ) (bs x : List ℕ) → IsWithin x bs → HasEnded bs x → 0 < left → arcs_under sb front c x (reverse (bounded_sums left bs)) ≡ []
-ended-all sb front c left bs x h none some =
-    ap (λ cs. arcs_under sb front c x (reverse (bounded_sums left cs))) (both_ended bs x h none).0
-    ∙ ap (λ vs. arcs_under sb front c x (reverse vs)) (sums-past left [] (omega arith))
+ended-all sb front c left bs x h none some = grind (arith, both_ended, sums-past)
 
-pub ended-to : (sb : ℕ) (front : List ℕ) (c left : ℕ) (bs x : List ℕ) → IsWithin x bs → HasEnded bs x → left ≡ sum x → arcs_under sb front c x (reverse (bounded_sums left bs)) ≡ arcs_under sb front c x (down_to bs x)
-ended-to sb front c left bs x h none all =
-    let both = both_ended bs x h none in
-    ap (λ n. arcs_under sb front c x (reverse (bounded_sums n bs))) (all ∙ ap sum both.1)
-    ∙ ap (λ cs. arcs_under sb front c x (reverse (bounded_sums 0 cs))) both.0
-    ∙ ap (λ vs. arcs_under sb front c x (reverse vs)) sums-end
-    ∙ ap (λ cs. arcs_under sb front c x (down_to cs x)) (sym both.0)
-
-pub ended-from : (sb : ℕ) (front : List ℕ) (c left : ℕ) (bs x : List ℕ) → IsWithin x bs → HasEnded bs x → left ≡ sum x → arcs_under sb front c x (reverse (bounded_sums left bs)) ≡ arcs_under sb front c x (down_from bs x)
-ended-from sb front c left bs x h none all =
-    let both = both_ended bs x h none in
-    ap (λ n. arcs_under sb front c x (reverse (bounded_sums n bs))) (all ∙ ap sum both.1)
-    ∙ ap (λ cs. arcs_under sb front c x (reverse (bounded_sums 0 cs))) both.0
-    ∙ ap (λ vs. arcs_under sb front c x (reverse vs)) sums-end
-    ∙ ap (λ cs. arcs_under sb front c x (down_from cs x)) (sym both.0)
+pub ended-part : (part : List ℕ → List ℕ → List (List ℕ)) → ((x : List ℕ) → part [] x ≡ [] ∷ []) → (sb : ℕ) (front : List ℕ) (c left : ℕ) (bs x : List ℕ) → IsWithin x bs → HasEnded bs x → left ≡ sum x
+    → arcs_under sb front c x (reverse (bounded_sums left bs)) ≡ arcs_under sb front c x (part bs x)
+ended-part part one sb front c left bs x h none all = grind (arith, both_ended, sums-end)
 
 -- all vectors by their rows
 pub all-rows : (sb : ℕ) (front : List ℕ) (c left b h most : ℕ) (bs xs bounds x : List ℕ) → bounds ≡ b ∷ bs → x ≡ h ∷ xs → most ≡ min left b → arcs_under sb front c (h ∷ xs) (rows left bs 0 (most + 1 - 0)) ≡ arcs_under sb front c x (reverse (bounded_sums left bounds))

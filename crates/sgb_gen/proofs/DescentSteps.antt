@@ -1,5 +1,5 @@
 -- Entries with which no vector that begins alike has a wanted size in common; and wanted sizes by the least and the greatest one.
-use Rattle.std.proofs.Common.{◌≡◌, ℕ, zero, suc, ◌+◌, ◌-◌, ◌<◌, ◌≤◌, min, false, List, [], ◌∷◌, ◌++◌, length, reverse, take, set, sum, refl, sym, ap, ap₂, subst, ◌∙◌, inl, inr, arith, append-nil, append_assoc}
+use Rattle.std.proofs.Common.{◌≡◌, ℕ, zero, suc, ◌+◌, ◌-◌, ◌<◌, ◌≤◌, min, false, List, [], ◌∷◌, ◌++◌, length, reverse, take, set, sum, refl, sym, ap, ap₂, ◌∙◌, arith, append-nil, append_assoc}
 use Rattle.std.proofs.lemmas.Bool.{cases_lt}
 use Rattle.std.proofs.lemmas.Grind.{take-set_at}
 use Rattle.std.proofs.lemmas.List.{length-set, take-set-le, take-take}
@@ -66,40 +66,25 @@ module _ (sb room shared left c b h : ℕ) (front bounds x : List ℕ) (begun : 
 
 -- an entry is placed
 pub front-placed : (tip x xs : List ℕ) (h e place : ℕ) → x ≡ h ∷ xs → length x ≤ length tip → place ≡ length tip - length x → front_of (set tip place e) xs ≡ front_of tip x ++ e ∷ []
-front-placed tip x xs h e place x_is fits at =
-    let long : length x ≡ length xs + 1 = ap length x_is ∙ omega arith in
-    ap (λ n. take (n - length xs) (set tip place e)) (length-set tip place e)
-    ∙ take-set_at tip place (length tip - length xs) e (omega (arith, at, long, fits)) (omega (arith, at, long, fits))
-    ∙ ap (λ n. take n tip ++ e ∷ []) at
+front-placed tip x xs h e place x_is fits at = grind (arith, length-set, take-set_at)
 
 -- what stands before it stays
 pub front-kept : (tip x : List ℕ) (place e : ℕ) → length tip - length x ≤ place → front_of (set tip place e) x ≡ front_of tip x
 front-kept tip x place e from =
-    ap (λ n. take (n - length x) (set tip place e)) (length-set tip place e)
-    ∙ take-set-le (length tip - length x) tip place e from
+    cc (length-set tip place e, take-set-le (length tip - length x) tip place e from)
 
 -- what begins alike begins alike with an entry less
 pub front-shorter : (new tip x xs : List ℕ) → length new ≡ length tip → length xs ≤ length x → front_of new xs ≡ front_of tip xs → front_of new x ≡ front_of tip x
 front-shorter new tip x xs same shorter alike =
-    sym (take-take (length new - length x) (length new - length xs) new (omega arith))
-    ∙ ap₂ (λ n l. take (n - length x) l) same alike
-    ∙ take-take (length tip - length x) (length tip - length xs) tip (omega arith)
+    cc (take-take (length new - length x) (length new - length xs) new (omega arith), same, alike, take-take (length tip - length x) (length tip - length xs) tip (omega arith))
 
 -- ---- ranges of entries, one entry more
 
 pub range_above : (P : ℕ → Type 0) (low e : ℕ) → ((k : ℕ) → low ≤ k → k < e → P k) → P e → (k : ℕ) → low ≤ k → k < e + 1 → P k
-range_above P low e all here k from to =
-    elim (cases_lt k e) [
-      | inl less ↦ all k from less
-      | inr other ↦ subst P {x = e} {y = k} (omega arith) here
-    ]
+range_above P low e all here k from to = grind (arith, cases_lt)
 
 pub range_below : (P : ℕ → Type 0) (after end : ℕ) → 0 < after → ((k : ℕ) → after ≤ k → k < end → P k) → P (after - 1) → (k : ℕ) → after - 1 ≤ k → k < end → P k
-range_below P after end some all here k from to =
-    elim (cases_lt k after) [
-      | inl less ↦ subst P {x = after - 1} {y = k} (omega arith) here
-      | inr other ↦ all k other to
-    ]
+range_below P after end some all here k from to = grind (arith, cases_lt)
 
 -- ---- a step of the descent
 

@@ -18,10 +18,7 @@ use Rattle.sgb_gen.specs.inner.Descents.{row, rows}
 reverse-front : (e : ℕ) (vs : List (List ℕ)) → reverse (map (λ v. e ∷ v) vs) ≡ map (λ v. e ∷ v) (reverse vs)
 reverse-front e [] = refl
 reverse-front e (v ∷ vs) =
-    reverse-first (e ∷ v) (map (λ w. e ∷ w) vs)
-    ∙ ap (λ l. l ++ (e ∷ v) ∷ []) (reverse-front e vs)
-    ∙ sym (map-append (λ w. e ∷ w) (reverse vs) (v ∷ []))
-    ∙ ap (map (λ w. e ∷ w)) (sym (reverse-first v vs))
+    cc (reverse-first (e ∷ v) (map (λ w. e ∷ w) vs), reverse-front e vs, map-append (λ w. e ∷ w) (reverse vs) (v ∷ []), reverse-first v vs)
 
 -- tests of sums with an entry in front
 sum_test : (e r : ℕ) (v : List ℕ) → e ≤ r → eqb (sum (e ∷ v)) r ≡ eqb (sum v) (r - e)
@@ -50,14 +47,7 @@ row-above r e bs h = grind (arith, nat_tests)
 
 row-filtered : (r e : ℕ) (bs : List ℕ) → reverse (filter (λ v. eqb (sum v) r) (map (λ v. e ∷ v) (box (map (λ b. b + 1) bs)))) ≡ row r bs e
 unfolding bounded_sums
-row-filtered r e bs =
-    elim (cases_lt r e) [
-      | inl above ↦ ap reverse (sums-above e r (box (map (λ b. b + 1) bs)) above) ∙ sym (row-above r e bs above)
-      | inr within ↦
-          ap reverse (sums-front e r (box (map (λ b. b + 1) bs)) within)
-          ∙ reverse-front e (bounded_sums (r - e) bs)
-          ∙ sym (row-within r e bs within)
-    ]
+row-filtered r e bs = grind (arith, cases_lt, sums-above, row-above, sums-front, reverse-front, row-within)
 
 -- the row of the least entry comes last
 pub rows-first : (r : ℕ) (bs : List ℕ) (a n : ℕ) → rows r bs a (suc n) ≡ rows r bs (a + 1) n ++ row r bs a

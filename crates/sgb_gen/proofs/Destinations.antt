@@ -34,8 +34,7 @@ in_front-below : (o : Option ℕ) (p : Option (List ℕ)) (n : ℕ) (sizes y : L
 in_front-below (Some c) (Some v) n sizes y e first rest =
     let same : c ∷ v ≡ y = cc in
     subst (λ w. IsBelow w (n ∷ sizes)) same (first c refl, rest v refl)
-in_front-below (Some c) None n sizes y e first rest = absurd (cc)
-in_front-below None p n sizes y e first rest = absurd (cc)
+in_front-below _ _ n sizes y e first rest = absurd (cc)
 
 -- from a place of the board a move leads to a place of the board
 pub place-below : (sides : List Side) (x : List ℕ) (t : List ℤ) (l : ℕ) (y : List ℕ) → IsBelow x (map (λ s. s.size) sides) → place sides x t l ≡ Some y → IsBelow y (map (λ s. s.size) sides)

@@ -1,5 +1,5 @@
 -- Pairs of places with equal bounds: as many vectors of a bounded sum let a unit go between them.
-use Rattle.std.proofs.Common.{◌≡◌, ℕ, zero, suc, ◌-◌, ◌<◌, List, [], ◌∷◌, length, get_or, set, refl, sym, ap, ◌∙◌, inl, inr, arith, length-set}
+use Rattle.std.proofs.Common.{◌≡◌, ℕ, zero, suc, ◌-◌, ◌<◌, List, [], ◌∷◌, length, get_or, set, refl, sym, ap, ◌∙◌, arith, length-set}
 use Rattle.std.specs.List.{remove}
 use Rattle.std.proofs.lemmas.Bool.{cases_lt}
 use Rattle.std.proofs.lemmas.List.{get_or-set_same, get_or-set_other}
@@ -8,7 +8,7 @@ use Rattle.sgb_vec.specs.Sums.{BoundedSum, count_of_sum}
 use Rattle.sgb_vec.proofs.SumCounts.{count_of_sum-cons, count_of_sum-remove}
 use Rattle.sgb_vec.proofs.Windows.{window, window_same}
 use Rattle.sgb_gen.specs.Simplexes.{Places}
-use Rattle.sgb_gen.specs.inner.SimplexCounts.{less_at, lowered, shifts_count}
+use Rattle.sgb_gen.specs.inner.SimplexCounts.{lowered, shifts_count}
 use Rattle.sgb_gen.proofs.SimplexCounts.{shifts-lowered, shifts-none}
 
 -- ---- sequences with equal windows are equal
@@ -43,10 +43,7 @@ count-own xs i k h = count_of_sum-remove xs i k h ∙ count_of_sum-cons (get_or 
 
 count-set : (xs : List ℕ) (i c k : ℕ) → i < length xs → count_of_sum k (set xs i c) ≡ window c (λ j. count_of_sum j (remove xs i)) k
 count-set xs i c k h =
-    count_of_sum-remove (set xs i c) i k (omega (arith, length-set xs i c, h))
-    ∙ ap (λ b. count_of_sum k (b ∷ remove (set xs i c) i)) (get_or-set_same xs i c 0 h)
-    ∙ ap (λ ys. count_of_sum k (c ∷ ys)) (remove-set_same xs i c h)
-    ∙ count_of_sum-cons c (remove xs i) k
+    cc (count_of_sum-remove (set xs i c) i k (omega (arith, length-set xs i c, h)), get_or-set_same xs i c 0 h, remove-set_same xs i c h, count_of_sum-cons c (remove xs i) k)
 
 -- ---- two bounds taken out
 
@@ -74,14 +71,7 @@ module _ (bounds : List ℕ) (at : Places) (order : at.lower < at.higher) (withi
       (λ j _. count-own one_out at.lower j below ∙ ap (λ b. window b others j) (get_or-remove_below bounds at.higher 0 at.lower order within))
 
   count-two_less : (k : ℕ) → count_of_sum k (lowered bounds at) ≡ window (high - 1) (window (low - 1) others) k
-  count-two_less k =
-      let less = less_at bounds at.lower in
-      let long : at.higher < length less = omega (arith, length-set bounds at.lower (low - 1), within) in
-      let other : get_or less at.higher 0 ≡ high = get_or-set_other bounds at.lower at.higher (low - 1) 0 (omega (arith, order)) in
-      count-set less at.higher (get_or less at.higher 0 - 1) k long
-      ∙ ap (λ b. window (b - 1) (λ j. count_of_sum j (remove less at.higher)) k) other
-      ∙ window_same (high - 1) (λ j. count_of_sum j (remove less at.higher)) (window (low - 1) others) k
-      (λ j _. ap (count_of_sum j) (remove-set_before bounds at.lower at.higher (low - 1) order within) ∙ count-set one_out at.lower (low - 1) j below)
+  count-two_less k = grind (arith, length-set, get_or-set_other, count-set, window, window_same, remove-set_before, below)
 
 -- ---- two pairs of places
 
@@ -105,26 +95,8 @@ module _ (bounds : List ℕ) (p q : Places) (order_p : p.lower < p.higher) (with
       ∙ ap (λ n. window n (window (get_or bounds q.lower 0) of_q) k) (sym same_high) ∙ ap (λ n. window b (window n of_q) k) (sym same_low)))
 
   same_lowered : (k : ℕ) → count_of_sum k (lowered bounds p) ≡ count_of_sum k (lowered bounds q)
-  same_lowered k =
-      count-two_less bounds p order_p within_p k
-      ∙ window_same (b - 1) (window (a - 1) of_p) (window (a - 1) of_q) k (λ i _. window_same (a - 1) of_p of_q i (λ j _. same_others j))
-      ∙ ap (λ n. window (n - 1) (window (a - 1) of_q) k) same_high
-      ∙ ap (λ n. window (get_or bounds q.higher 0 - 1) (window (n - 1) of_q) k) same_low
-      ∙ sym (count-two_less bounds q order_q within_q k)
+  same_lowered k = grind (arith, count-two_less, window_same, window, same_others)
 
 -- between places with equal bounds a unit goes from as many vectors
 pub shifts-same : (s : BoundedSum) (p q : Places) → p.lower < p.higher → p.higher < length s.bounds → q.lower < q.higher → q.higher < length s.bounds → get_or s.bounds p.lower 0 ≡ get_or s.bounds q.lower 0 → get_or s.bounds p.higher 0 ≡ get_or s.bounds q.higher 0 → shifts_count s p ≡ shifts_count s q
-shifts-same s p q order_p within_p order_q within_q same_low same_high =
-    elim (cases_lt 0 s.total) [
-      | inr none ↦ sym (shifts-none s p order_p (inl (omega arith))) ∙ shifts-none s q order_q (inl (omega arith))
-      | inl some ↦ elim (cases_lt 0 (get_or s.bounds p.lower 0)) [
-        | inr none ↦ sym (shifts-none s p order_p (inr (inl (omega arith)))) ∙ shifts-none s q order_q (inr (inl (omega (arith, same_low))))
-        | inl low ↦ elim (cases_lt 0 (get_or s.bounds p.higher 0)) [
-          | inr none ↦ sym (shifts-none s p order_p (inr (inr (omega arith)))) ∙ shifts-none s q order_q (inr (inr (omega (arith, same_high))))
-          | inl high ↦
-              shifts-lowered s p order_p some low high
-              ∙ same_lowered s.bounds p q order_p within_p order_q within_q same_low same_high (s.total - 1)
-              ∙ sym (shifts-lowered s q order_q some (omega (arith, low, same_low)) (omega (arith, high, same_high)))
-        ]
-      ]
-    ]
+shifts-same s p q order_p within_p order_q within_q same_low same_high = grind (arith, cases_lt, shifts-none, shifts-lowered, same_lowered)

@@ -46,7 +46,7 @@ arcs_stay directed events vectors old new id h k =
     }
 
 -- the graph of a family: names, then arcs, coordinates and the id
-pub family_made : (id : List ℕ) (directed : Bool) (vectors : List (List ℕ)) (moves : List Move) (fresh grown placed : GraphData) → fresh ≡ new_graph (map name_of_vector vectors) → AddsEvents directed fresh grown (map (event_among vectors) moves) → HasCoordinates vectors grown placed → IsGraphOf (family_graph id directed vectors moves) (with_id id placed)
+family_made : (id : List ℕ) (directed : Bool) (vectors : List (List ℕ)) (moves : List Move) (fresh grown placed : GraphData) → fresh ≡ new_graph (map name_of_vector vectors) → AddsEvents directed fresh grown (map (event_among vectors) moves) → HasCoordinates vectors grown placed → IsGraphOf (family_graph id directed vectors moves) (with_id id placed)
 unfolding family_graph
 family_made id directed vectors moves fresh grown placed e h k =
     let events = map (event_among vectors) moves in
@@ -61,6 +61,12 @@ family_made id directed vectors moves fresh grown placed e h k =
       arcs = arcs_stay directed events vectors grown placed id (adds-new directed texts events grown added) k;
       arc_fields = subst (All HasNoFields) (sym k.records) (adds-new_fields directed texts events grown added);
     }
+
+-- the same from the names of vectors that are read, to the id that is set
+pub graph_made : (id number : List ℕ) (directed : Bool) (vectors read : List (List ℕ)) (moves : List Move) (names : List (List ℕ)) (fresh grown placed new : GraphData) → read ≡ vectors → names ≡ map name_of_vector read → fresh ≡ new_graph names
+    → AddsEvents directed fresh grown (map (event_among vectors) moves) → HasCoordinates read grown placed → new ≡ with_id number placed → number ≡ id → IsGraphOf (family_graph id directed vectors moves) new
+graph_made id number directed vectors read moves names fresh grown placed new same named made added put written id_is =
+    rw (written, id_is) (family_made id directed vectors moves fresh grown placed (made ∙ ap new_graph (named ∙ ap (map name_of_vector) same)) added (subst (λ vs. HasCoordinates vs grown placed) same put))
 
 -- out of memory is an answer for any graph
 pub no_room : (d : Description) (r : Result GraphData Panic) (P : Panic → Type 0) → IsErr r × IsErrAnd r P → ((e : Panic) → P e → e ≡ NoRoom) → IsAnswerOf (Ok d) r

@@ -26,24 +26,21 @@ none_left vectors left u is none = omega (arith, ap length is, ap length none, l
 pub walked-more : {X : Type 0} (f : List ℕ → List X) (g : List (List ℕ) → List X) → ((v : List ℕ) (vs : List (List ℕ)) → g (v ∷ vs) ≡ f v ++ g vs)
     → (left rest : List (List ℕ)) (v : List ℕ) (done new all : List X) → done ++ g left ≡ all → slice_get left 0 ≡ Some v → rest ≡ drop 1 left → new ≡ done ++ f v → new ++ g rest ≡ all
 walked-more f g law left rest v done new all so_far first after is =
-    ap (λ l. l ++ g rest) is ∙ append_assoc done (f v) (g rest) ∙ ap (λ l. done ++ l) (sym (law v rest))
-    ∙ ap (λ vs. done ++ g vs) (sym (first_and_rest left rest v v first refl after)) ∙ so_far
+    cc (is, append_assoc done (f v) (g rest), law v rest, first_and_rest left rest v v first refl after, so_far)
 
 pub walked-all : {X : Type 0} (g : List (List ℕ) → List X) → g [] ≡ [] → (left : List (List ℕ)) (done all : List X) → done ++ g left ≡ all → left ≡ [] → done ≡ all
 walked-all g none left done all so_far end =
     sym (append-nil done) ∙ ap (λ l. done ++ l) (sym (ap g end ∙ none)) ∙ so_far
 
 -- the vectors from a place on
-pub drop_at_vector : (vectors : List (List ℕ)) (u : ℕ) (v : List ℕ) → slice_get vectors u ≡ Some v → drop u vectors ≡ v ∷ drop (u + 1) vectors
+pub drop_at_vector : {X : Type 0} (vectors : List X) (u : ℕ) (v : X) → slice_get vectors u ≡ Some v → drop u vectors ≡ v ∷ drop (u + 1) vectors
 drop_at_vector vectors u v at =
-    at_drop_more (λ ws. ws) vectors u v (slice_get_within vectors u v at)
-    ∙ ap (λ w. w ∷ drop (u + 1) vectors) (get_or_from_slice_get vectors u v v at)
+    cc (at_drop_more (λ ws. ws) vectors u v (slice_get_within vectors u v at), get_or_from_slice_get vectors u v v at)
 
 -- the vectors up to a place
-pub take_at_vector : (vectors : List (List ℕ)) (u : ℕ) (v : List ℕ) → slice_get vectors u ≡ Some v → take (u + 1) vectors ≡ take u vectors ++ v ∷ []
+pub take_at_vector : {X : Type 0} (vectors : List X) (u : ℕ) (v : X) → slice_get vectors u ≡ Some v → take (u + 1) vectors ≡ take u vectors ++ v ∷ []
 take_at_vector vectors u v at =
-    take_more vectors u v (slice_get_within vectors u v at)
-    ∙ ap (λ w. take u vectors ++ w ∷ []) (get_or_from_slice_get vectors u v v at)
+    cc (take_more vectors u v (slice_get_within vectors u v at), get_or_from_slice_get vectors u v v at)
 
 -- a map of lists joined
 pub map-flat_map : {X Y Z : Type 0} (f : Y → Z) (g : X → List Y) (xs : List X) → map f (flat_map g xs) ≡ flat_map (λ x. map f (g x)) xs

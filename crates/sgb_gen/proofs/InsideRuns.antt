@@ -39,8 +39,7 @@ side_alike : (v w : Bool) (n x d : ℕ) (a : ℤ) → nat_abs a ≤ d → d ≤ 
 side_alike v w n x d (pos c) small behind ahead =
     let there : pos x +ℤ pos 1 *ℤ pos c ≡ pos (x + c) = omega (arith, ints) in
     let below : x + c < n = omega (arith, small, ahead) in
-    ap (coordinate_on (record { size = n; wraps = v })) there ∙ side_itself v n (x + c) below
-    ∙ sym (ap (coordinate_on (record { size = n; wraps = w })) there ∙ side_itself w n (x + c) below)
+    cc (there, side_itself v n (x + c) below, side_itself w n (x + c) below)
 side_alike v w n x d (negsuc c) small behind ahead =
     let there : pos x +ℤ pos 1 *ℤ negsuc c ≡ pos (x - suc c) = omega (arith, ints, small, behind) in
     let below : x - suc c < n = omega (arith, ahead) in
@@ -50,13 +49,11 @@ side_alike v w n x d (negsuc c) small behind ahead =
 -- so one step leads to the same place
 pub place_alike : (v w : ℤ) (d k : ℕ) (sizes x : List ℕ) (t : List ℤ) → IsInside d sizes x → All (λ e. nat_abs e ≤ d) t
     → place (sides_from_bit k sizes v) x t 1 ≡ place (sides_from_bit k sizes w) x t 1
-place_alike v w d k [] x t inside small = refl
-place_alike v w d k (n ∷ sizes) [] t inside small = refl
-place_alike v w d k (n ∷ sizes) (a ∷ x) [] inside small = refl
 place_alike v w d k (n ∷ sizes) (a ∷ x) (u ∷ t) inside small =
     let here = inside 0 (omega arith) in
     ap₂ in_front (side_alike (is_bit_set v k) (is_bit_set w k) n a d u (small 0 (pos 0) (omega arith)) here.0 here.1)
     (place_alike v w d (k + 1) sizes x t (λ j h. inside (suc j) (omega (arith, h))) (λ j e h. small (suc j) e (omega (arith, h))))
+place_alike v w d k _ _ _ inside small = refl
 
 -- ---- the arcs by one displacement
 

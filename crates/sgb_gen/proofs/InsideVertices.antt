@@ -49,10 +49,7 @@ module _ (sizes : List ℕ) (wrap : ℤ) (x : List ℕ) (d : ℕ) (inside : IsIn
 
   -- so a displacement of such entries and its opposite lead to places
   pub stay_inside : (t : List ℤ) → length t ≡ length sizes → AreWithin d t → StayAtOne sizes wrap x t
-  stay_inside t long small = (
-    parts_inside t 0 (omega (arith, long)) small,
-    parts_inside (opposite t) 0 (omega (arith, long, length-map t neg_ℤ)) (opposite_within d t small),
-  )
+  stay_inside t long small = grind (arith, parts_inside, length-map, opposite_within)
 
 -- ---- lengths of at most 1
 

@@ -90,15 +90,11 @@ zeros_filled tip new bs x within fits is =
     ∙ ap (λ l. front_of tip x ++ l) (splat_is_map bs (length bs) 0 refl)
 
 pub filled_zeros : (tip new x : List ℕ) → length x ≤ length tip → length new ≡ length tip → new ≡ take (length tip - length x) tip ++ replicate (length tip - (length tip - length x)) 0 → drop (length new - length x) new ≡ replicate (length x) 0
-filled_zeros tip new x fits same is =
-    ap₂ (λ n l. drop (n - length x) l) same is
-    ∙ drop_at (take (length tip - length x) tip) (replicate (length tip - (length tip - length x)) 0) (length tip - length x) (length-take-le (length tip - length x) tip (omega arith))
-    ∙ ap (λ n. replicate n 0) (omega (arith, fits))
+filled_zeros tip new x fits same is = grind (arith, drop_at, length-take-le)
 
 pub filled_front : (tip new x : List ℕ) → length x ≤ length tip → length new ≡ length tip → new ≡ take (length tip - length x) tip ++ replicate (length tip - (length tip - length x)) 0 → front_of new x ≡ front_of tip x
 filled_front tip new x fits same is =
-    ap₂ (λ n l. take (n - length x) l) same is
-    ∙ take_at (take (length tip - length x) tip) (replicate (length tip - (length tip - length x)) 0) (length tip - length x) (length-take-le (length tip - length x) tip (omega arith))
+    cc (same, is, take_at (take (length tip - length x) tip) (replicate (length tip - (length tip - length x)) 0) (length tip - length x) (length-take-le (length tip - length x) tip (omega arith)))
 
 -- ---- the walk over the places
 
@@ -120,13 +116,9 @@ units-more links new start_links sb tip c start i n b h wanted bounds x all fits
     let unit : List LocalArc = cond wanted (record { tip = set tip (start + i) 1; len = pos 1 } ∷ []) [] in
     let unit_is : unit ≡ cond (ltb 0 b && is_wanted_size sb (c + min h 1)) (unit_arc front bs ∷ []) [] =
     ap₂ (λ t v. cond t (record { tip = v; len = pos 1 } ∷ []) []) wanted_is (unit-set tip start n i fits rest within bs long) in
-    ap₂ (λ l f. with_arcs l (arcs_under sb f c xs (reverse (bounded_sums 1 bs)))) new_is (zero-more tip start n i fits rest within)
-    ∙ ap (λ arcs. record { width = links.width; arcs = arcs }) (append_assoc links.arcs unit later)
-    ∙ ap (with_arcs links) (ap (λ l. l ++ later) unit_is ∙ sym (unit-first sb front c b h bs xs) ∙ ap₂ (λ v cs. arcs_under sb front c v (reverse (bounded_sums 1 cs))) (sym x_is) (sym bounds_are))
-    ∙ so_far
+    cc (new_is, zero-more tip start n i fits rest within, append_assoc links.arcs unit later, unit_is, unit-first sb front c b h bs xs, x_is, bounds_are, so_far)
 
 -- and no place is left
 pub none-left : (sb : ℕ) (front : List ℕ) (c left i : ℕ) (bounds x : List ℕ) → 0 < left → length x ≤ i → length bounds ≤ i → arcs_under sb front c (drop i x) (reverse (bounded_sums left (drop i bounds))) ≡ []
 none-left sb front c left i bounds x some none none_bound =
-    ap₂ (λ v cs. arcs_under sb front c v (reverse (bounded_sums left cs))) (drop_all i x none) (drop_all i bounds none_bound)
-    ∙ ap (λ vs. arcs_under sb front c [] (reverse vs)) (sums-past left [] (omega (arith, some)))
+    cc (drop_all i x none, drop_all i bounds none_bound, sums-past left [] (omega (arith, some)))

@@ -1,5 +1,5 @@
 -- The list of a vertex by a displacement where no move is longer than 1.
-use Rattle.std.proofs.Common.{◌≡◌, ◌∙◌, ◌<◌, ℕ, ℤ, Bool, true, false, not, cond, List, [], ◌∷◌, ◌++◌, Option, Some, None, map, reverse, refl, sym, ap, ap₂, subst, arith, append-nil}
+use Rattle.std.proofs.Common.{◌≡◌, ◌∙◌, ◌<◌, ℕ, ℤ, Bool, false, not, cond, List, [], ◌∷◌, ◌++◌, Option, Some, None, reverse, refl, sym, ap, ap₂, subst, arith, append-nil}
 use Rattle.std.specs.Prelude.{◌==◌}
 use Rattle.std.specs.List.{AllPairs, Contains}
 use Rattle.std.specs.List.Sorted.{IsPermutation}
@@ -73,15 +73,10 @@ module _ (b : BoardData) (t : List ℤ) (x : List ℕ) (there : Contains (box b.
   far m = not (vertex_among (box b.sizes) m.to == own_vertex)
 
   others-one : (y : List ℕ) (v : ℕ) → leads b x (opposite t) 1 ≡ Some y → vertex_among (box b.sizes) y ≡ v → (v ≡ own_vertex → ⊥) → others ≡ (v, 1) ∷ []
-  others-one y v e is apart =
-      let passes : far (move x 1 y) ≡ true = ap (λ n. not (n == own_vertex)) is ∙ ap not (ne_eqb v own_vertex apart) in
-      ap (map (λ m. (vertex_among (box b.sizes) m.to, m.len))) (one_that far (move x 1 y) (moves_of b (opposite t) x) [] (one_move (opposite t) y e) passes)
-      ∙ ap (λ (n : ℕ). (n, 1) ∷ []) is
+  others-one y v e is apart = grind (arith, move, ne_eqb, one_that, moves_of, one_move)
 
   others-own : (y : List ℕ) (v : ℕ) → leads b x (opposite t) 1 ≡ Some y → vertex_among (box b.sizes) y ≡ v → v ≡ own_vertex → others ≡ []
-  others-own y v e is same =
-      let fails : far (move x 1 y) ≡ false = ap (λ n. not (n == own_vertex)) is ∙ ap not (eq-eqb v own_vertex same) in
-      ap (map (λ m. (vertex_among (box b.sizes) m.to, m.len))) (not_one far (move x 1 y) (moves_of b (opposite t) x) [] (one_move (opposite t) y e) fails)
+  others-own y v e is same = grind (arith, move, eq-eqb, not_one, moves_of, one_move)
 
   others-none : leads b x (opposite t) 1 ≡ None → others ≡ []
   others-none e = ap (other_starts (box b.sizes) own_vertex) (no_move (opposite t) e)
@@ -144,14 +139,10 @@ module _ (b : BoardData) (t : List ℤ) (x : List ℕ) (there : Contains (box b.
 
   -- by the vertex from which one comes
   pub comes_from : (v : ℕ) → option_map (vertex_among (box b.sizes)) (leads b x (opposite t) 1) ≡ Some v → (v ≡ own_vertex → ⊥) → others ≡ (v, 1) ∷ []
-  comes_from v e apart =
-      let led = led_to (vertex_among (box b.sizes)) (leads b x (opposite t) 1) v e in
-      others-one led.0 v led.1 led.2 apart
+  comes_from v e apart = grind (arith, led_to, leads, others-one)
 
   pub comes_home : (v : ℕ) → option_map (vertex_among (box b.sizes)) (leads b x (opposite t) 1) ≡ Some v → v ≡ own_vertex → others ≡ []
-  comes_home v e same =
-      let led = led_to (vertex_among (box b.sizes)) (leads b x (opposite t) 1) v e in
-      others-own led.0 v led.1 led.2 same
+  comes_home v e same = grind (arith, led_to, leads, others-own)
 
   pub comes_nowhere : option_map (vertex_among (box b.sizes)) (leads b x (opposite t) 1) ≡ None → others ≡ []
   comes_nowhere e = others-none (led_nowhere (vertex_among (box b.sizes)) (leads b x (opposite t) 1) e)

@@ -1,5 +1,5 @@
 -- Arcs that are kept with their vectors one after another.
-use Rattle.std.proofs.Common.{◌≡◌, ℕ, zero, suc, ◌+◌, ◌-◌, ◌*◌, ◌<◌, ◌≤◌, pos, List, [], ◌∷◌, ◌++◌, length, get_or, take, drop, Some, refl, ap, ◌∙◌, arith, length-append, length-drop}
+use Rattle.std.proofs.Common.{rules, ◌≡◌, ℕ, zero, suc, ◌+◌, ◌-◌, ◌*◌, ◌<◌, ◌≤◌, pos, List, [], ◌∷◌, ◌++◌, length, get_or, take, drop, Some, refl, sym, ap, ◌∙◌, arith, length-append, length-drop}
 use borrow.Rule.Slice.PartMut.{put_mid}
 use Rattle.std.specs.List.{slice_get}
 use Rattle.std.proofs.Math.Seq.{drop-append_seam, take-append_seam}
@@ -8,6 +8,8 @@ use Rattle.std.proofs.lemmas.List.{with_items_is}
 use Rattle.std.specs.Prelude.{Vec}
 use Rattle.std.specs.Vec.{vec_len, with_items}
 use Rattle.sgb_gen.specs.inner.LocalArcs.{arcs_in}
+use Rattle.sgb_gen.specs.inner.LocalSimplexes.{with_arcs}
+use Rattle.sgb_gen.specs.LocalLists.{LinksData}
 
 -- as many arcs as lengths
 pub length-arcs_in : (width : ℕ) (tips lens : List ℕ) → length (arcs_in width tips lens) ≡ length lens
@@ -22,8 +24,7 @@ slice_get-arcs_in width tips (n ∷ lens) zero h =
     ap (λ k. Some (record { tip = take width (drop k tips); len = pos n })) start
 slice_get-arcs_in width tips (n ∷ lens) (suc i) h =
     let start : width + i * width ≡ suc i * width = omega arith in
-    slice_get-arcs_in width (drop width tips) lens i (omega arith)
-    ∙ ap (λ row. Some (record { tip = take width row; len = pos (get_or lens i 0) })) (drop-drop (i * width) width tips ∙ ap (λ k. drop k tips) start)
+    cc (slice_get-arcs_in width (drop width tips) lens i (omega arith), drop-drop (i * width) width tips, start)
 
 -- no entries
 no_entries : (xs : List ℕ) → length xs ≡ 0 → xs ≡ []
@@ -34,8 +35,7 @@ no_entries (x ∷ xs) e = absurd (omega arith)
 pub arcs_in-push : (width : ℕ) (tips lens tip : List ℕ) (n : ℕ) → length tips ≡ length lens * width → length tip ≡ width → arcs_in width (tips ++ tip) (lens ++ n ∷ []) ≡ arcs_in width tips lens ++ record { tip = tip; len = pos n } ∷ []
 arcs_in-push width tips [] tip n long wide =
     let none : tips ≡ [] = no_entries tips (omega arith) in
-    ap (λ ts. record { tip = take width (ts ++ tip); len = pos n } ∷ []) none
-    ∙ ap (λ row. record { tip = row; len = pos n } ∷ []) (take_all width tip (omega arith))
+    cc (none, take_all width tip (omega arith))
 arcs_in-push width tips (m ∷ lens) tip n long wide =
     let room : width ≤ length tips = omega arith in
     let first : take width (tips ++ tip) ≡ take width tips = take-append-le width tips tip room in
@@ -46,10 +46,8 @@ arcs_in-push width tips (m ∷ lens) tip n long wide =
     ∙ ap (λ arcs. record { tip = take width tips; len = pos m } ∷ arcs) (arcs_in-push width (drop width tips) lens tip n left wide)
 
 -- with one more arc there are still as many entries as arcs times the width
-pub rows-push : (width n : ℕ) (kept lens tip tips news : List ℕ) → tips ≡ kept ++ tip → news ≡ lens ++ n ∷ [] → length kept ≡ length lens * width → length tip ≡ width → length tips ≡ length news * width
-rows-push width n kept lens tip tips news tips_are news_are long wide =
-    let more : length news ≡ length lens + 1 = ap length news_are ∙ length-append lens (n ∷ []) in
-    omega (arith, ap length tips_are, length-append kept tip, long, wide, ap (λ k. k * width) more)
+rows-push : (width n : ℕ) (kept lens tip tips news : List ℕ) → tips ≡ kept ++ tip → news ≡ lens ++ n ∷ [] → length kept ≡ length lens * width → length tip ≡ width → length tips ≡ length news * width
+rows-push width n kept lens tip tips news tips_are news_are long wide = search (rules, length-append)
 
 -- the last vector of entries that are kept
 pub last_row : (kept x all : List ℕ) (start : ℕ) → all ≡ kept ++ x → start ≡ length kept → take (length all - start) (drop start all) ≡ x
@@ -60,18 +58,26 @@ last_row kept x all start all_is start_is =
 put-moved : (f : List ℕ → List ℕ) (kept x all moved : List ℕ) (start : ℕ) → all ≡ kept ++ x → start ≡ length kept
     → moved ≡ f (take (length all - start) (drop start all))
     → put_mid start (length all - start) all moved ≡ kept ++ f x
-put-moved f kept x all moved start all_is start_is moved_is =
-    let before : take start all ≡ kept = ap (take start) all_is ∙ ap (λ k. take k (kept ++ x)) start_is ∙ take-append_seam kept x in
-    let after : drop (length all - start) (drop start all) ≡ [] = drop_all (length all - start) (drop start all) (omega (arith, length-drop start all)) in
-    ap (λ front. front ++ (moved ++ drop (length all - start) (drop start all))) before
-    ∙ ap (λ back. kept ++ (moved ++ back)) after
-    ∙ ap (λ row. kept ++ row) (append-nil moved ∙ moved_is ∙ ap f (last_row kept x all start all_is start_is))
+put-moved f kept x all moved start all_is start_is moved_is = grind (arith, take-append_seam, drop_all, length-drop, append-nil, last_row)
 
-pub last_moved : {Z : Type 0} (f : List ℕ → List ℕ) (v : Vec ℕ Z) (kept x all moved : List ℕ) (start : ℕ) → ((row : List ℕ) → length (f row) ≡ length row) → v.items ≡ kept ++ x → all ≡ v.items → vec_len v ≡ length v.items → start ≡ length kept
+last_moved : {Z : Type 0} (f : List ℕ → List ℕ) (v : Vec ℕ Z) (kept x all moved : List ℕ) (start : ℕ) → ((row : List ℕ) → length (f row) ≡ length row) → v.items ≡ kept ++ x → all ≡ v.items → vec_len v ≡ length v.items → start ≡ length kept
     → moved ≡ f (take (length all - start) (drop start all))
     → (with_items v (put_mid start (length all - start) all moved)).items ≡ kept ++ f x
-last_moved f v kept x all moved start as_long items_are all_is count start_is moved_is =
-    let written = put-moved f kept x all moved start (all_is ∙ items_are) start_is moved_is in
-    with_items_is v (put_mid start (length all - start) all moved)
-    (omega (arith, ap length written, length-append kept (f x), as_long x, ap length items_are, length-append kept x, count))
-    ∙ written
+last_moved f v kept x all moved start as_long items_are all_is count start_is moved_is = grind (arith, put-moved, with_items_is, put_mid, length-append)
+
+-- ---- one arc more
+
+-- the links with one more arc, whose entries and length are put behind the others
+pub arc-pushed : (w n : ℕ) (d : LinksData) (kept lens tip tips news : List ℕ) → record { width = w; arcs = arcs_in w kept lens } ≡ d → length kept ≡ length lens * w → length tip ≡ d.width → tips ≡ kept ++ tip → news ≡ lens ++ n ∷ []
+    → ◌≡◌ {A = LinksData} (record { width = w; arcs = arcs_in w tips news }) (with_arcs d (record { tip = tip; len = pos n } ∷ []))
+arc-pushed w n d kept lens tip tips news view long wide tips_are news_are = grind (arith, arcs_in-push)
+
+-- and where a vector is put there that is then changed in place
+pub arc-moved : {Z : Type 0} (f : List ℕ → List ℕ) (v : Vec ℕ Z) (w n : ℕ) (d : LinksData) (kept lens x all moved news : List ℕ) (start : ℕ) → ((row : List ℕ) → length (f row) ≡ length row)
+    → record { width = w; arcs = arcs_in w kept lens } ≡ d → length kept ≡ length lens * w → length x ≡ d.width
+    → v.items ≡ kept ++ x → all ≡ v.items → vec_len v ≡ length v.items → start ≡ length kept → moved ≡ f (take (length all - start) (drop start all)) → news ≡ lens ++ n ∷ []
+    → (length (with_items v (put_mid start (length all - start) all moved)).items ≡ length news * w)
+    × (◌≡◌ {A = LinksData} (record { width = w; arcs = arcs_in w (with_items v (put_mid start (length all - start) all moved)).items news }) (with_arcs d (record { tip = f x; len = pos n } ∷ [])))
+arc-moved f v w n d kept lens x all moved news start as_long view long wide items_are all_is count start_is moved_is news_are =
+    let tips = last_moved f v kept x all moved start as_long items_are all_is count start_is moved_is in
+    (rows-push w n kept lens (f x) _ news tips news_are long (as_long x ∙ wide ∙ sym (ap (λ e. e.width) view)), arc-pushed w n d kept lens (f x) _ news view long (as_long x ∙ wide) tips news_are)

@@ -1,5 +1,5 @@
 -- The list of a vector of a board, from the moves by one displacement after another.
-use Rattle.std.proofs.Common.{◌≡◌, ◌≤◌, ℕ, ◌+◌, ℤ, pos, nat_abs, Bool, true, false, cond, List, [], ◌∷◌, ◌++◌, length, map, reverse, get_or, Option, Some, None, refl, sym, ap, ap₂, subst, ◌∙◌, inl, inr, arith, append-nil}
+use Rattle.std.proofs.Common.{rules, ◌≡◌, ◌≤◌, ℕ, ◌+◌, ℤ, pos, nat_abs, Bool, true, false, cond, List, [], ◌∷◌, ◌++◌, map, reverse, get_or, Option, Some, None, refl, sym, ap, ap₂, subst, ◌∙◌, inl, inr, arith, append-nil}
 use Rattle.std.specs.Prelude.{◌==◌}
 use Rattle.std.specs.Cmp.Lexicographic.{bytes_decides}
 use Rattle.std.specs.List.{All, Contains, filter, flat_map, range_with_len}
@@ -14,7 +14,7 @@ use Rattle.sgb_vec.specs.Lexicographic.{IsBefore, IsBelow, IsRising}
 use Rattle.sgb_vec.proofs.FamilyLaws.{box_vectors_rise}
 use Rattle.sgb_vec.proofs.BoxPlaces.{Contains-from_IsBelow, IsBelow-from_Contains}
 use Rattle.sgb_gen.specs.Boards.{BoardData, board_vectors, moves_of_board}
-use Rattle.sgb_gen.specs.Displacements.{displacements, signings, sum_of_squares}
+use Rattle.sgb_gen.specs.Displacements.{signings, sum_of_squares}
 use Rattle.sgb_gen.specs.inner.EntryBounds.{displacements_within, vectors_within}
 use Rattle.sgb_gen.specs.inner.LocalArcs.{arcs_by, arcs_of_moves}
 use Rattle.sgb_gen.specs.inner.LocalBoards.{arcs_onward, move_arc, moves_by}
@@ -73,10 +73,7 @@ module _ (sides : List Side) (piece : ℤ) (t : List ℤ) (x : List ℕ) where
   starts_here m = same_vector m.from x
 
   differs : (v : List ℕ) → (v ≡ x → ⊥) → same_vector v x ≡ false
-  differs v other = elim (cases_Bool (same_vector v x)) [
-    | inl same ↦ absurd (other ((bytes_decides v x).0 same))
-    | inr e ↦ e
-  ]
+  differs v other = search (rules, cases_Bool)
 
   own_moves : (vs : List (List ℕ)) → IsRising vs → Contains vs x → filter starts_here (flat_map (λ y. moves_from sides piece y t) vs) ≡ moves_from sides piece x t
   own_moves [] rise there = absurd (Contains-none x there)
@@ -120,10 +117,7 @@ module _ (sides : List Side) (piece : ℤ) (t : List ℤ) (x : List ℕ) where
 -- where the arcs are directed, those by one displacement are those by the moves from x
 pub directed_onward : (b : BoardData) (x : List ℕ) (t : List ℤ) → IsBelow x b.sizes → true ≡ b.directed
     → map move_arc (moves_from (sides_of b.sizes b.wrap) b.piece x t) ≡ arcs_onward b.directed x (moves_by (sides_of b.sizes b.wrap) b.piece (box b.sizes) t)
-directed_onward b x t below directed =
-    let sides = sides_of b.sizes b.wrap in
-    sym (onward_by_own sides b.piece t x (box b.sizes) (box_vectors_rise b.sizes) (Contains-from_IsBelow b.sizes x below))
-    ∙ ap (λ d. arcs_onward d x (moves_by sides b.piece (box b.sizes) t)) directed
+directed_onward b x t below directed = grind (arith, onward_by_own, box_vectors_rise, Contains-from_IsBelow)
 
 -- ---- the moves of a board have their ends on it
 
@@ -145,21 +139,12 @@ moves_end_on_board b t x there =
 
 pub ends_on_board : (b : BoardData) → All (HasEnds (board_vectors b)) (moves_of_board b)
 unfolding board_moves
-ends_on_board b =
-    let vectors = board_vectors b in
-    let Ends = HasEnds vectors in
-    let sides = sides_of b.sizes b.wrap in
-    All-flat_map Ends (λ t. flat_map (λ x. moves_from sides b.piece x t) vectors) (displacements (nat_abs b.piece) (length b.sizes))
-    (λ i e inside.
-    let t = get_or (displacements (nat_abs b.piece) (length b.sizes)) i e in
-    All-flat_map Ends (λ x. moves_from sides b.piece x t) vectors
-    (λ k d within. moves_end_on_board b t (get_or vectors k d) (All-contains_itself vectors k d within)))
+ends_on_board b = search (rules, All-flat_map, moves_end_on_board, All-contains_itself)
 
 -- the list of a vector is what all moves make one after another, turned round
 pub list_of_board : (b : BoardData) (x : List ℕ) → Contains (board_vectors b) x → list_at b.directed (board_vectors b) (moves_of_board b) x ≡ reverse (arcs_onward b.directed x (moves_of_board b))
 list_of_board b x there =
-    list_at-moves (board_vectors b) (box_vectors_rise b.sizes) b.directed x (moves_of_board b) there (ends_on_board b)
-    ∙ list_turned b.directed x (moves_of_board b)
+    cc (list_at-moves (board_vectors b) (box_vectors_rise b.sizes) b.directed x (moves_of_board b) there (ends_on_board b), list_turned b.directed x (moves_of_board b))
 
 -- what the moves by one displacement make stands before what those by the others make
 pub onward-first : (directed : Bool) (x : List ℕ) (sides : List Side) (piece : ℤ) (vectors : List (List ℕ)) (t : List ℤ) (ts : List (List ℤ))

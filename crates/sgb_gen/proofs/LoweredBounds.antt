@@ -1,5 +1,5 @@
 -- Bounds with one less at a place: the vectors of a sum within them, and how many there are.
-use Rattle.std.proofs.Common.{◌≡◌, ℕ, zero, suc, ◌+◌, ◌-◌, ◌<◌, ◌≤◌, Bool, false, List, [], ◌∷◌, length, get_or, set, sum, take, refl, ap, inl, inr, arith, length-set}
+use Rattle.std.proofs.Common.{◌≡◌, ℕ, zero, suc, ◌+◌, ◌-◌, ◌<◌, ◌≤◌, Bool, false, List, [], ◌∷◌, get_or, set, sum, take, refl, ap, inl, inr, arith, length-set}
 use Rattle.std.specs.List.{list_any, range_with_len}
 use Rattle.std.specs.Prelude.{nat_lt}
 use Rattle.std.proofs.lemmas.Bool.{cases_lt, or_from, or_parts, lt-ltb, le-ltb, both_ways}
@@ -18,8 +18,6 @@ use Rattle.sgb_gen.specs.inner.SimplexCounts.{less_at, lowered}
 
 -- vectors that have a unit there stay in order
 pub before-less_at : (v w : List ℕ) (i : ℕ) → 0 < get_or v i 0 → 0 < get_or w i 0 → IsBefore v w → IsBefore (less_at v i) (less_at w i)
-before-less_at [] w i hv hw h = absurd (omega arith)
-before-less_at (x ∷ v) [] i hv hw h = absurd (omega arith)
 before-less_at (x ∷ v) (y ∷ w) zero hv hw h =
     elim (IsBefore-cases x y v w h) [
       | inl less ↦ IsBefore-less (x - 1) (y - 1) v w (omega arith)
@@ -30,22 +28,21 @@ before-less_at (x ∷ v) (y ∷ w) (suc i) hv hw h =
       | inl less ↦ IsBefore-less x y (less_at v i) (less_at w i) less
       | inr same ↦ IsBefore-same x y (less_at v i) (less_at w i) same.0 (before-less_at v w i hv hw same.1)
     ]
+before-less_at _ _ i hv hw h = absurd (omega arith)
 
 -- they are within bounds with one less there
 pub within-less_both : (v bounds : List ℕ) (i : ℕ) → IsWithin v bounds → IsWithin (less_at v i) (less_at bounds i)
 within-less_both [] [] i h = h
-within-less_both [] (b ∷ bounds) i h = absurd h
-within-less_both (x ∷ v) [] i h = absurd h
 within-less_both (x ∷ v) (b ∷ bounds) zero h = (omega (arith, h.0), h.1)
 within-less_both (x ∷ v) (b ∷ bounds) (suc i) h = (h.0, within-less_both v bounds i h.1)
+within-less_both _ _ i h = absurd h
 
 -- so is a vector that has room there
 pub within-less : (v bounds : List ℕ) (i : ℕ) → get_or v i 0 < get_or bounds i 0 → IsWithin v bounds → IsWithin v (less_at bounds i)
 within-less [] [] i room h = h
-within-less [] (b ∷ bounds) i room h = absurd h
-within-less (x ∷ v) [] i room h = absurd h
 within-less (x ∷ v) (b ∷ bounds) zero room h = (omega (arith, room), h.1)
 within-less (x ∷ v) (b ∷ bounds) (suc i) room h = (h.0, within-less v bounds i room h.1)
+within-less _ _ i room h = absurd h
 
 -- numbers with one more at a place
 abbrev pub more_at : List ℕ → ℕ → List ℕ
@@ -75,11 +72,7 @@ within-more_both (x ∷ v) (b ∷ bounds) (suc i) room h = (h.0, within-more_bot
 
 -- what they add to
 pub sum-less_at : (v : List ℕ) (i : ℕ) → 0 < get_or v i 0 → sum (less_at v i) + 1 ≡ sum v
-sum-less_at v i some =
-    elim (cases_lt i (length v)) [
-      | inl within ↦ omega (arith, some, sum_by-set (λ x. x) v i (get_or v i 0 - 1) 0 within)
-      | inr past ↦ absurd (omega (arith, some, get_or_past v i 0 past))
-    ]
+sum-less_at v i some = grind (arith, cases_lt, sum_by-set, get_or_past)
 
 -- ---- how many vectors there are
 
@@ -96,9 +89,6 @@ window-narrower (suc b) f k =
 
 -- with one less at a place there are no more vectors of a sum, also within the first bounds
 pub count-lowered_le : (bounds : List ℕ) (m i k : ℕ) → count_of_sum k (take m (less_at bounds i)) ≤ count_of_sum k (take m bounds)
-count-lowered_le [] m i k = omega arith
-count-lowered_le (b ∷ bounds) zero zero k = omega arith
-count-lowered_le (b ∷ bounds) zero (suc i) k = omega arith
 count-lowered_le (b ∷ bounds) (suc m) zero k =
     let rest = take m bounds in
     omega (arith, count_of_sum-cons (b - 1) rest k, count_of_sum-cons b rest k, window-narrower b (λ j. count_of_sum j rest) k)
@@ -106,6 +96,7 @@ count-lowered_le (b ∷ bounds) (suc m) (suc i) k =
     let rest = take m bounds in
     let less = take m (less_at bounds i) in
     omega (arith, count_of_sum-cons b less k, count_of_sum-cons b rest k, window_le b (λ j. count_of_sum j less) (λ j. count_of_sum j rest) k (λ j _. count-lowered_le bounds m i j))
+count-lowered_le _ _ _ k = omega arith
 
 -- in a shorter range a test that passes less often passes nowhere, where the other one does not
 none_fewer : (p q : ℕ → Bool) (m n a : ℕ) → m ≤ n → ((x : ℕ) → p x ≡ false → q x ≡ false) → list_any p (range_with_len a n) ≡ false → list_any q (range_with_len a m) ≡ false
@@ -117,24 +108,12 @@ none_fewer p q (suc m) (suc n) a le fewer none =
 
 -- a count that is no greater is not too great
 small_too : (a b : ℕ) → a ≤ b → nat_lt most_vertices b ≡ false → nat_lt most_vertices a ≡ false
-small_too a b le small =
-    elim (cases_lt most_vertices b) [
-      | inl great ↦ absurd (both_ways (nat_lt most_vertices b) small (lt-ltb most_vertices b great))
-      | inr few ↦ le-ltb most_vertices a (omega (arith, le, few))
-    ]
+small_too a b le small = grind (arith, cases_lt, both_ways, lt-ltb, le-ltb)
 
 -- where there are not too many vectors, there are not of a smaller sum and with one less at a place
 none_great-less : (n m : ℕ) (bounds : List ℕ) (i : ℕ) → m ≤ n → has_great_count n bounds ≡ false → has_great_count m (less_at bounds i) ≡ false
 unfolding has_great_count
-none_great-less n m bounds i le none =
-    let less = less_at bounds i in
-    let long : length less ≡ length bounds = length-set bounds i (get_or bounds i 0 - 1) in
-    let great : List ℕ → ℕ → ℕ → Bool = λ bs j k. nat_lt most_vertices (count_of_sum k (take (j + 1) bs)) in
-    none_fewer (λ j. list_any (great bounds j) (range_with_len 0 (n + 1))) (λ j. list_any (great less j) (range_with_len 0 (m + 1)))
-    (length less - 1) (length bounds - 1) 1 (omega (arith, long))
-    (λ j. none_fewer (great bounds j) (great less j) (m + 1) (n + 1) 0 (omega (arith, le))
-    (λ k. small_too (count_of_sum k (take (j + 1) less)) (count_of_sum k (take (j + 1) bounds)) (count-lowered_le bounds (j + 1) i k)))
-    none
+none_great-less n m bounds i le none = grind (arith, length-set, none_fewer, small_too, count-lowered_le)
 
 -- nor with one less at two
 pub none_great-lowered : (n : ℕ) (bounds : List ℕ) (at : Places) → has_great_count n bounds ≡ false → has_great_count (n - 1) (lowered bounds at) ≡ false

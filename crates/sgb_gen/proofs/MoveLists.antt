@@ -1,5 +1,5 @@
 -- The list of a vector, as the moves that touch it make it.
-use Rattle.std.proofs.Common.{◌≡◌, ℕ, ◌+◌, min, max, ℤ, pos, Bool, true, false, cond, List, [], ◌∷◌, ◌++◌, length, map, get_or, refl, sym, ap, ap₂, subst, ◌∙◌, inl, inr, arith, append-nil, append_assoc}
+use Rattle.std.proofs.Common.{◌≡◌, ℕ, ◌+◌, ℤ, pos, Bool, true, false, cond, List, [], ◌∷◌, ◌++◌, length, map, get_or, refl, sym, ap, ap₂, subst, ◌∙◌, arith, append-nil, append_assoc}
 use Rattle.std.specs.Prelude.{◌==◌}
 use Rattle.std.specs.Cmp.Lexicographic.{bytes_decides}
 use Rattle.std.specs.List.{All, Contains}
@@ -49,27 +49,13 @@ links_of_arc g v k a b n = mapped_one g (a == v) (record { number = k; tip = b; 
 
 -- those that an edge's two records make
 links_of_edge : (g : ℕ → List ℕ) (v k a b : ℕ) (n : ℤ) → map (arc_of g) (links_at v k (records_of false (record { from = a; to = b; len = n }))) ≡ one (a == v) (g b) n ++ one (b == v) (g a) n
-links_of_edge g v k a b n =
-    mapped_two g (min a b == v) (max a b == v) (record { number = k; tip = max a b; len = n }) (record { number = k + 1; tip = min a b; len = n })
-    ∙ elim (cases_lt b a) [
-      | inl less ↦
-          let low : min a b ≡ b = omega arith in
-          let high : max a b ≡ a = omega arith in
-          ap₂ (λ i j. one (i == v) (g j) n ++ one (j == v) (g i) n) low high
-          ∙ either_first (a == v) (b == v) (record { tip = g b; len = n } ∷ []) (record { tip = g a; len = n } ∷ [])
-          (λ e f. absurd (omega (arith, less, (Decides-eqb a v).0 e, (Decides-eqb b v).0 f)))
-      | inr more ↦
-          let low : min a b ≡ a = omega arith in
-          let high : max a b ≡ b = omega arith in
-          ap₂ (λ i j. one (i == v) (g j) n ++ one (j == v) (g i) n) low high
-    ]
+links_of_edge g v k a b n = grind (arith, mapped_two, cases_lt, either_first, Decides-eqb)
 
 -- the arcs by some moves and then others
 pub arcs-append : (directed : Bool) (x : List ℕ) (ms ns : List Move) → arcs_of_moves directed x (ms ++ ns) ≡ arcs_of_moves directed x ns ++ arcs_of_moves directed x ms
 arcs-append directed x [] ns = sym (append-nil (arcs_of_moves directed x ns))
 arcs-append directed x (m ∷ ms) ns =
-    ap (λ l. l ++ arcs_by directed x m) (arcs-append directed x ms ns)
-    ∙ append_assoc (arcs_of_moves directed x ns) (arcs_of_moves directed x ms) (arcs_by directed x m)
+    cc (arcs-append directed x ms ns, append_assoc (arcs_of_moves directed x ns) (arcs_of_moves directed x ms) (arcs_by directed x m))
 
 module _ (vectors : List (List ℕ)) (rise : IsRising vectors) where
   vector_back : (a : List ℕ) → Contains vectors a → get_or vectors (vertex_among vectors a) [] ≡ a

@@ -7,7 +7,7 @@ use Rattle.std.proofs.lemmas.Int.{ints}
 use Rattle.std.proofs.lemmas.List.{at_drop_more, drop_all}
 use Rattle.std.proofs.lemmas.List.Elements.{All-cons, All-nil, AllZip-get_or, length_all_zip}
 use Rattle.sgb_vec.specs.Lexicographic.{IsBelow}
-use Rattle.sgb_gen.specs.Moves.{is_bit_set, sides_from_bit, sides_of, coordinate_on, in_front, place}
+use Rattle.sgb_gen.specs.Moves.{is_bit_set, sides_of, coordinate_on, in_front, place}
 use Rattle.sgb_gen.specs.MovedCoordinates.{part_at, parts_from, parts_of, parts_put}
 use Rattle.sgb_gen.specs.inner.MovedCoordinates.{parts_stay}
 use Rattle.sgb_gen.proofs.Places.{after_known, after_known-none, after_known-push, coordinates_from, coordinates-step}
@@ -48,9 +48,7 @@ module _ (sizes : List ℕ) (wrap : ℤ) (x : List ℕ) (l : ℕ) where
       → after_known known (in_front o others) ≡ option_map_or (λ c. moved_by sizes wrap x l parts (set (known ++ a ∷ xs) k c)) o None
   part_put k known xs parts a None others e rest = refl
   part_put k known xs parts a (Some c) others e rest =
-      after_known-push known c others ∙ rest c
-      ∙ ap (moved_by sizes wrap x l parts)
-      (append_assoc known (c ∷ []) xs ∙ sym (set-append_seam known a xs c) ∙ ap (λ j. set (known ++ a ∷ xs) j c) e)
+      cc (after_known-push known c others, rest c, append_assoc known (c ∷ []) xs, set-append_seam known a xs c, e)
 
   next_there : (u : ℤ) (k : ℕ) (known xs : List ℕ) (t : List ℤ) (others : Option (List ℕ)) → length known ≡ k → get_or x k 0 < get_or sizes k 0
       → ((c : ℕ) → after_known (known ++ c ∷ []) others ≡ moved_by sizes wrap x l (parts_from (k + 1) t) ((known ++ c ∷ []) ++ xs))
@@ -59,9 +57,7 @@ module _ (sizes : List ℕ) (wrap : ℤ) (x : List ℕ) (l : ℕ) where
       let still : part_at sizes wrap x l (k, pos 0) ≡ Some (get_or x k 0) =
       ap (coordinate_on (record { size = get_or sizes k 0; wraps = is_bit_set wrap k })) (unmoved (get_or x k 0) l)
       ∙ side_itself (is_bit_set wrap k) (get_or sizes k 0) (get_or x k 0) below in
-      ap (λ o. after_known known (in_front o others)) still
-      ∙ after_known-push known (get_or x k 0) others ∙ rest (get_or x k 0)
-      ∙ ap (moved_by sizes wrap x l (parts_from (k + 1) t)) (append_assoc known (get_or x k 0 ∷ []) xs)
+      cc (still, after_known-push known (get_or x k 0) others, rest (get_or x k 0), append_assoc known (get_or x k 0 ∷ []) xs)
   next_there (pos (suc c)) k known xs t others e below rest =
       part_put k known xs (parts_from (k + 1) t) (get_or x k 0) (part_at sizes wrap x l (k, pos (suc c))) others e rest
   next_there (negsuc c) k known xs t others e below rest =
@@ -71,8 +67,7 @@ module _ (sizes : List ℕ) (wrap : ℤ) (x : List ℕ) (l : ℕ) where
       → ((j : ℕ) → j < length sizes → get_or x j 0 < get_or sizes j 0)
       → after_known known (coordinates_from sizes wrap x t l k) ≡ moved_by sizes wrap x l (parts_from k (drop k t)) (known ++ drop k x)
   all_there t zero k known sum long_x long_t e below =
-      ap (λ s. after_known known (place (sides_from_bit k s wrap) (drop k x) (drop k t) l)) (drop_all k sizes (omega (arith, sum)))
-      ∙ ap₂ (λ ts xs. moved_by sizes wrap x l (parts_from k ts) (known ++ xs)) (sym (drop_all k t (omega (arith, sum, long_t)))) (sym (drop_all k x (omega (arith, sum, long_x))))
+      cc (drop_all k sizes (omega (arith, sum)), drop_all k t (omega (arith, sum, long_t)), drop_all k x (omega (arith, sum, long_x)))
   all_there t (suc n) k known sum long_x long_t e below =
       let u = get_or t k (pos 0) in
       let here : k < length sizes = omega (arith, sum) in

@@ -1,6 +1,6 @@
 -- The moves by one displacement in order: by the vectors where they start, and then by their lengths.
 use Rattle.std.proofs.Common.{◌≡◌, ℕ, ◌<◌, ◌⊎◌, ℤ, List, [], ◌∷◌, length, get_or, Option, Some, None, refl, sym, ap, subst, subst₂, ◌∙◌, inl, inr, arith}
-use Rattle.std.specs.List.{All, AllPairs, Contains, cons_option, filter_map, flat_map, range_with_len, slice_get}
+use Rattle.std.specs.List.{All, AllPairs, Contains, cons_option, filter_map, flat_map, slice_get}
 use Rattle.std.specs.Option.{option_map, option_map_or}
 use Rattle.std.proofs.lemmas.Bool.{cases_lt}
 use Rattle.std.proofs.lemmas.List.Elements.{All-cons, All-contains, All-contains_itself, All-head, All-nil, All-tail}
@@ -8,7 +8,6 @@ use Rattle.std.proofs.lemmas.List.Kept.{AllPairs-cons}
 use Rattle.std.proofs.lemmas.Option.{slice_get_read}
 use Rattle.sgb_vec.specs.Lexicographic.{IsBefore, IsRising}
 use Rattle.sgb_gen.specs.Moves.{LeadsTo, Side, moves_from, place, reach}
-use Rattle.sgb_gen.specs.inner.Moves.{destination, longest_move}
 use Rattle.sgb_gen.specs.VectorGraphs.{Move, vertex_among}
 use Rattle.sgb_vec.proofs.Lists.{All-flat_map, AllPairs-append, AllPairs-first, AllPairs-follows, AllPairs-none, AllPairs-others, Contains-cases, Contains-first, Contains-other, range-rises}
 use Rattle.sgb_gen.proofs.OrderedLists.{before_none, before_trans}
@@ -79,9 +78,7 @@ rise_until x leads (l ∷ ls) h =
     next (Some y) above rest = AllPairs-cons (λ (m n : Move). m.len < n.len) (move x l y) (moves_until x leads ls) above rest
 
 pub lengths_rise : (sides : List Side) (piece : ℤ) (t : List ℤ) (y : List ℕ) → AllPairs (λ m n. m.len < n.len) (moves_from sides piece y t)
-lengths_rise sides piece t y =
-    subst (AllPairs (λ m n. m.len < n.len)) (sym (moves_from-until sides piece y t))
-    (rise_until y (destination sides piece y t) (range_with_len 1 (longest_move sides piece)) (range-rises 1 (longest_move sides piece)))
+lengths_rise sides piece t y = grind (arith, moves_from-until, rise_until, range-rises)
 
 -- ---- those from all vectors
 
@@ -101,11 +98,7 @@ module _ (sides : List Side) (piece : ℤ) (t : List ℤ) where
       subst (Contains vectors) (sym from) (All-contains_itself vectors k d within))
 
   from_here : (y : List ℕ) → AllPairs ComesBefore (moves_from sides piece y t)
-  from_here y =
-      AllPairs-follows (λ m. m.from ≡ y) (λ m n. m.len < n.len) ComesBefore (moves_from sides piece y t)
-      (λ m n p q less. inr (p ∙ sym q, less))
-      (λ k d within. (all_lead sides piece t y k d within).0)
-      (lengths_rise sides piece t y)
+  from_here y = grind (arith, AllPairs-follows, all_lead, lengths_rise)
 
   pub moves_in_order : (vectors : List (List ℕ)) → IsRising vectors → AllPairs ComesBefore (flat_map (λ y. moves_from sides piece y t) vectors)
   moves_in_order [] rise = AllPairs-none ComesBefore

@@ -1,5 +1,5 @@
 -- Moves by a displacement that leads onward, and back by its opposite: the vectors come in order.
-use Rattle.std.proofs.Common.{◌≡◌, ◌≢◌, ℕ, zero, suc, ◌+◌, ◌*◌, ◌<◌, ◌≤◌, ℤ, pos, negsuc, ◌+ℤ◌, ◌*ℤ◌, Bool, true, false, not, List, [], ◌∷◌, length, map, Some, sym, ap, ◌∙◌, arith, true≢false}
+use Rattle.std.proofs.Common.{◌≡◌, ◌≢◌, ℕ, zero, suc, ◌+◌, ◌<◌, ℤ, pos, negsuc, ◌+ℤ◌, ◌*ℤ◌, Bool, true, false, not, List, [], ◌∷◌, length, map, Some, sym, ap, ◌∙◌, arith, true≢false}
 use Rattle.std.proofs.lemmas.Int.{ints}
 use Rattle.std.proofs.lemmas.Nat.{mul-le}
 use Rattle.sgb_vec.specs.Lexicographic.{IsBefore, IsBelow}
@@ -12,9 +12,7 @@ use Rattle.sgb_gen.proofs.TurnedMoves.{in_front-parts, in_front-some, leaper_one
 
 -- the farther back, the less
 lower : (c e l m a b : ℕ) → l < m → pos c +ℤ pos l *ℤ negsuc e ≡ pos a → pos c +ℤ pos m *ℤ negsuc e ≡ pos b → b < a
-lower c e l m a b less near far =
-    let more : l * suc e + suc e ≤ m * suc e = omega (arith, mul-le (l + 1) (suc e) m (suc e) (omega (arith, less)) (omega arith)) in
-    omega (arith, ints, more, near, far)
+lower c e l m a b less near far = grind (arith, mul-le, ints)
 
 -- on a side that does not wrap around a coordinate is within it
 unwrapped : (n : ℕ) (wraps : Bool) (y : ℤ) (c : ℕ) → not wraps ≡ true → coordinate_on (record { size = n; wraps = wraps }) y ≡ Some c → within_size n y ≡ Some c
@@ -25,9 +23,7 @@ unwrapped n false y c clear e = e
 pub farther_earlier : (k : ℕ) (sizes : List ℕ) (wrap : ℤ) (x : List ℕ) (t : List ℤ) (l m : ℕ) (y z : List ℕ)
     → length t ≡ length sizes → leads_onward wrap k t ≡ true → l < m
     → place (sides_from_bit k sizes wrap) x (opposite t) l ≡ Some y → place (sides_from_bit k sizes wrap) x (opposite t) m ≡ Some z → IsBefore z y
-farther_earlier k [] wrap x [] l m y z long onward less near far = absurd (true≢false (sym onward))
 farther_earlier k [] wrap x (u ∷ t) l m y z long onward less near far = absurd (omega (arith, long))
-farther_earlier k (n ∷ sizes) wrap x [] l m y z long onward less near far = absurd (true≢false (sym onward))
 farther_earlier k (n ∷ sizes) wrap [] (u ∷ t) l m y z long onward less near far = absurd (cc)
 farther_earlier k (n ∷ sizes) wrap (c ∷ x) (u ∷ t) l m [] z long onward less near far = absurd (in_front-some _ _ near)
 farther_earlier k (n ∷ sizes) wrap (c ∷ x) (u ∷ t) l m (a ∷ y) [] long onward less near far = absurd (in_front-some _ _ far)
@@ -46,7 +42,7 @@ farther_earlier k (n ∷ sizes) wrap (c ∷ x) (pos (suc e) ∷ t) l m (a ∷ y)
     (lower c e l m a b less
     (within_is n (pos c +ℤ pos l *ℤ negsuc e) a (unwrapped n wraps (pos c +ℤ pos l *ℤ negsuc e) a onward one.0))
     (within_is n (pos c +ℤ pos m *ℤ negsuc e) b (unwrapped n wraps (pos c +ℤ pos m *ℤ negsuc e) b onward two.0)))
-farther_earlier k (n ∷ sizes) wrap (c ∷ x) (negsuc e ∷ t) l m (a ∷ y) (b ∷ z) long onward less near far = absurd (true≢false (sym onward))
+farther_earlier k _ wrap _ _ l m _ _ long onward less near far = absurd (true≢false (sym onward))
 
 -- a move has a length
 pub some_length : (sides : List Side) (piece : ℤ) (x : List ℕ) (t : List ℤ) (l : ℕ) (y : List ℕ) → IsBelow x (map (λ s. s.size) sides) → LeadsTo sides piece x t l y → 0 < l

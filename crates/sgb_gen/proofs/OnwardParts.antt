@@ -1,5 +1,5 @@
 -- Whether a displacement leads onward, by the first coordinate that it moves.
-use Rattle.std.proofs.Common.{◌≡◌, ℕ, zero, suc, ◌+◌, ℤ, pos, negsuc, Bool, true, false, not, List, [], ◌∷◌, length, slice_index_or, refl, ◌∙◌, sym, ap, arith}
+use Rattle.std.proofs.Common.{◌≡◌, ℕ, zero, suc, ◌+◌, ℤ, pos, Bool, true, false, not, List, [], ◌∷◌, length, slice_index_or, refl, ◌∙◌, sym, ap, arith}
 use Rattle.std.proofs.lemmas.Bool.Decides.{nat_tests}
 use Rattle.std.specs.Int.Signed.{lt_z}
 use Rattle.sgb_gen.specs.Moves.{is_bit_set}
@@ -8,16 +8,12 @@ use Rattle.sgb_gen.specs.inner.Moves.{leads_onward}
 
 -- the first of these parts goes ahead, on a side that does not wrap around
 abbrev goes_onward : ℤ → List (ℕ × ℤ) → Bool
-goes_onward wrap [] = false
-goes_onward wrap ((k, pos zero) ∷ parts) = false
 goes_onward wrap ((k, pos (suc c)) ∷ parts) = not (is_bit_set wrap k)
-goes_onward wrap ((k, negsuc c) ∷ parts) = false
+goes_onward wrap _ = false
 
 by_parts : (wrap : ℤ) (k : ℕ) (t : List ℤ) → leads_onward wrap k t ≡ goes_onward wrap (parts_from k t)
-by_parts wrap k [] = refl
 by_parts wrap k (pos zero ∷ t) = by_parts wrap (k + 1) t
-by_parts wrap k (pos (suc c) ∷ t) = refl
-by_parts wrap k (negsuc c ∷ t) = refl
+by_parts wrap k _ = refl
 
 none : (wrap : ℤ) (parts : List (ℕ × ℤ)) → length parts ≡ 0 → goes_onward wrap parts ≡ false
 none wrap [] e = refl
@@ -25,16 +21,12 @@ none wrap (p ∷ parts) e = absurd (omega (arith, e))
 
 ahead : (wrap : ℤ) (parts : List (ℕ × ℤ)) → lt_z (pos 0) (slice_index_or parts 0 (0, pos 0)).1 ≡ true
     → goes_onward wrap parts ≡ not (is_bit_set wrap (slice_index_or parts 0 (0, pos 0)).0)
-ahead wrap [] e = absurd cc
-ahead wrap ((k, pos zero) ∷ parts) e = absurd cc
 ahead wrap ((k, pos (suc c)) ∷ parts) e = refl
-ahead wrap ((k, negsuc c) ∷ parts) e = absurd cc
+ahead wrap _ e = absurd cc
 
 behind : (wrap : ℤ) (parts : List (ℕ × ℤ)) → lt_z (pos 0) (slice_index_or parts 0 (0, pos 0)).1 ≡ false → goes_onward wrap parts ≡ false
-behind wrap [] e = refl
-behind wrap ((k, pos zero) ∷ parts) e = refl
 behind wrap ((k, pos (suc c)) ∷ parts) e = absurd (grind (arith, nat_tests))
-behind wrap ((k, negsuc c) ∷ parts) e = refl
+behind wrap _ e = refl
 
 module _ (wrap : ℤ) (t : List ℤ) (parts : List (ℕ × ℤ)) (is : parts ≡ parts_of t) where
   -- it moves no coordinate

@@ -1,6 +1,6 @@
 -- The edges that touch a vector by a displacement that leads onward, with no sorting: those from farther vertices first, and
 -- then those from the vector itself, the shorter first.
-use Rattle.std.proofs.Common.{◌≡◌, ◌≢◌, ℕ, ◌<◌, ℤ, pos, Bool, true, false, not, cond, List, [], ◌∷◌, ◌++◌, length, map, reverse, get_or, Some, refl, sym, ap, ap₂, subst, ◌∙◌, arith}
+use Rattle.std.proofs.Common.{◌≡◌, ◌≢◌, ℕ, ◌<◌, ℤ, Bool, true, false, not, cond, List, [], ◌∷◌, ◌++◌, length, map, reverse, get_or, Some, refl, sym, ap, ap₂, subst, ◌∙◌, arith}
 use Rattle.std.specs.Prelude.{◌==◌}
 use Rattle.std.specs.List.{All, AllPairs, Contains, flat_map}
 use Rattle.std.specs.List.Sorted.{IsPermutation}
@@ -28,8 +28,7 @@ use Rattle.sgb_gen.proofs.Vertices.{other_is}
 map-reverse : {X Y : Type 0} (f : X → Y) (xs : List X) → map f (reverse xs) ≡ reverse (map f xs)
 map-reverse f [] = refl
 map-reverse f (x ∷ xs) =
-    ap (map f) (reverse-first x xs) ∙ map-append f (reverse xs) (x ∷ [])
-    ∙ ap (λ ys. ys ++ f x ∷ []) (map-reverse f xs) ∙ sym (reverse-first (f x) (map f xs))
+    cc (reverse-first x xs, map-append f (reverse xs) (x ∷ []), map-reverse f xs, reverse-first (f x) (map f xs))
 
 -- each element makes one
 one_each : {X Y Z : Type 0} (f : Y → List Z) (g : X → Y) (h : X → Z) (xs : List X) → All (λ x. f (g x) ≡ h x ∷ []) xs → flat_map f (map g xs) ≡ map h xs
@@ -137,16 +136,10 @@ module _ (b : BoardData) (t : List ℤ) (x : List ℕ) (there : Contains (box b.
   -- an edge to another vector makes one arc
   one_arc : (m : Move) (ts : List ℤ) (c : Bool) → cond c t (opposite t) ≡ ts → Leads ts m → m.to ≢ x → edge_arcs x m.len (destination sides b.piece x (cond c t (opposite t)) m.len) ≡ move_arc m ∷ []
   one_arc m ts c by lead other =
-      ap (λ us. edge_arcs x m.len (destination sides b.piece x us m.len)) by
-      ∙ ap (edge_arcs x m.len) (leads_there sides b.piece ts x m.len m.to below_x lead.1)
-      ∙ ap (λ d. move_arc m ∷ (cond d (record { tip = x; len = pos m.len } ∷ []) [])) (other_is m.to x other)
+      cc (by, leads_there sides b.piece ts x m.len m.to below_x lead.1, other_is m.to x other)
 
   arc_behind : (m : Move) → Leads (opposite t) m → edge (from_behind m) ≡ move_arc m ∷ []
-  arc_behind m lead =
-      let less = behind_less m lead in
-      let apart : (vertex_among vectors m.to == u) ≡ false = ne_eqb (vertex_among vectors m.to) u (λ e. omega (arith, less, e)) in
-      one_arc m (opposite t) (vertex_among vectors m.to == u) (ap (λ c. cond c t (opposite t)) apart) lead
-      (λ same. omega (arith, less, ap (vertex_among vectors) same))
+  arc_behind m lead = grind (arith, behind_less, ne_eqb, one_arc)
 
   arc_here : (m : Move) → Leads t m → edge (from_here m) ≡ move_arc m ∷ []
   arc_here m lead =

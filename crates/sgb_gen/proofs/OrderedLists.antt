@@ -17,15 +17,7 @@ before_trans u v w = nat_list_cmp_total.trans u v w
 
 -- of rising lists with the same elements, the first elements are the same
 first_same : (v w : List ℕ) (vs ws : List (List ℕ)) → All (IsBefore v) vs → All (IsBefore w) ws → Contains (w ∷ ws) v → Contains (v ∷ vs) w → v ≡ w
-first_same v w vs ws after_v after_w hv hw =
-    elim (Contains-cases w v ws hv) [
-      | inl same ↦ sym same
-      | inr later ↦
-          elim (Contains-cases v w vs hw) [
-            | inl same ↦ same
-            | inr last ↦ absurd (before_none v (before_trans v w v (All-contains (IsBefore v) vs w after_v last) (All-contains (IsBefore w) ws v after_w later)))
-          ]
-    ]
+first_same v w vs ws after_v after_w hv hw = grind (arith, Contains-cases, before_none, before_trans, All-contains)
 
 -- and the others have the same elements
 others_there : (v w : List ℕ) (vs ws : List (List ℕ)) → v ≡ w → All (IsBefore v) vs → All (Contains (w ∷ ws)) vs → All (Contains ws) vs
@@ -51,8 +43,7 @@ rising_same (v ∷ vs) (w ∷ ws) hv hw there back =
 
 -- a vector is before another where the first entries are alike and the next one is less
 pub before_at : (v w : List ℕ) (p : ℕ) → ((i : ℕ) → i < p → get_or v i 0 ≡ get_or w i 0) → get_or v p 0 < get_or w p 0 → p < length v → p < length w → IsBefore v w
-before_at [] w p alike less in_v in_w = absurd (omega arith)
-before_at (x ∷ v) [] p alike less in_v in_w = absurd (omega arith)
 before_at (x ∷ v) (y ∷ w) zero alike less in_v in_w = IsBefore-less x y v w less
 before_at (x ∷ v) (y ∷ w) (suc p) alike less in_v in_w =
     IsBefore-same x y v w (alike 0 (omega arith)) (before_at v w p (λ i h. alike (suc i) (omega arith)) less (omega arith) (omega arith))
+before_at _ _ p alike less in_v in_w = absurd (omega arith)

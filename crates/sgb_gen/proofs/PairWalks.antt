@@ -16,9 +16,7 @@ with_none links = ap (λ arcs. record links { arcs = arcs }) (sym (append-nil li
 -- some arcs and then more
 pub with_more : (start links new : LinksData) (some more all : List LocalArc) → links ≡ with_arcs start some → new ≡ with_arcs links more → all ≡ some ++ more → new ≡ with_arcs start all
 with_more start links new some more all links_is new_is all_is =
-    new_is ∙ ap (λ l. with_arcs l more) links_is
-    ∙ ap (λ arcs. record { width = start.width; arcs = arcs }) (append_assoc start.arcs some more)
-    ∙ ap (with_arcs start) (sym all_is)
+    cc (new_is, links_is, append_assoc start.arcs some more, all_is)
 
 -- the arc by one pair
 abbrev arc_back : List ℕ → Places → LocalArc
@@ -65,12 +63,7 @@ abbrev pub pairs_below : ℕ → ℕ → List Places
 pairs_below n j = flat_map (pairs_down n) (range_with_len 0 j)
 
 pub below-next : (n j : ℕ) → pairs_below n (j + 1) ≡ pairs_below n j ++ pairs_down n j
-below-next n j =
-    let place : 0 + j ≡ j = omega arith in
-    ap (flat_map (pairs_down n)) (range-more 0 j)
-    ∙ flat_map-append (pairs_down n) (range_with_len 0 j) ((0 + j) ∷ [])
-    ∙ ap (λ l. pairs_below n j ++ l) (append-nil (pairs_down n (0 + j)))
-    ∙ ap (λ k. pairs_below n j ++ pairs_down n k) place
+below-next n j = grind (arith, range-more, flat_map-append, append-nil)
 
 -- the arc by one pair, as the code makes it
 arc_in_list : (b : Bool) (arc : Places → LocalArc) (at : Places) → (if b then arc at ∷ [] else []) ≡ map arc (cond b (at ∷ []) [])

@@ -26,8 +26,7 @@ ahead_stays false n x l (negsuc a) clear below ahead fits = absurd (true≢false
 -- an amount other than 0
 pub some_amount : (t : ℤ) → (of_z w32 t ≡ 0 → ⊥) → 0 < nat_abs t
 some_amount (pos zero) h = absurd (h refl)
-some_amount (pos (suc a)) h = omega arith
-some_amount (negsuc a) h = omega arith
+some_amount _ h = omega arith
 
 -- and as many back as fit into what is behind
 pub back_stays : (w : Bool) (n x l : ℕ) (t : ℤ) → w ≡ false → x < n → lt_z (pos 0) t ≡ false → l ≤ x / nat_abs t → 0 < nat_abs t
@@ -81,13 +80,11 @@ part_of parts i = get_or parts i (0, pos 0)
 module _ (sizes : List ℕ) (wrap : ℤ) (x : List ℕ) (l : ℕ) (parts : List (ℕ × ℤ)) (i : ℕ) where
   pub stay_out : i < length parts → is_some (part_at sizes wrap x l (part_of parts i)) ≡ false → parts_stay sizes wrap x l (drop i parts) ≡ false
   stay_out within out =
-      at_drop_more (parts_stay sizes wrap x l) parts i (0, pos 0) within
-      ∙ ap (λ b. b && parts_stay sizes wrap x l (drop (i + 1) parts)) out
+      cc (at_drop_more (parts_stay sizes wrap x l) parts i (0, pos 0) within, out)
 
   pub stay_more : i < length parts → is_some (part_at sizes wrap x l (part_of parts i)) ≡ true → parts_stay sizes wrap x l (drop (i + 1) parts) ≡ parts_stay sizes wrap x l (drop i parts)
   stay_more within on =
-      sym (at_drop_more (parts_stay sizes wrap x l) parts i (0, pos 0) within
-      ∙ ap (λ b. b && parts_stay sizes wrap x l (drop (i + 1) parts)) on)
+      cc (on, at_drop_more (parts_stay sizes wrap x l) parts i (0, pos 0) within)
 
   pub put_more : (there : List ℕ) → i < length parts
       → parts_put sizes wrap x l (drop (i + 1) parts) (set there (part_of parts i).0 (unwrap_or (part_at sizes wrap x l (part_of parts i)) 0)) ≡ parts_put sizes wrap x l (drop i parts) there

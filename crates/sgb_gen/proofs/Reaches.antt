@@ -60,8 +60,7 @@ rider-moves : (x : List ℕ) (g : ℕ → Option (List ℕ)) (ls : List ℕ) →
 rider-moves x g [] = refl
 rider-moves x g (l ∷ ls) =
     let passes : ℕ → Bool = λ k. is_elsewhere x (g k) in
-    ap (filter_map (λ k. option_map (move x k) (g k))) (take_if (passes l) (prefix_len passes ls) l ls)
-    ∙ elsewhere x l (g l) _ (take_while passes ls) (λ k. option_map (move x k) (g k)) refl (rider-moves x g ls)
+    cc (take_if (passes l) (prefix_len passes ls) l ls, elsewhere x l (g l) _ (take_while passes ls) (λ k. option_map (move x k) (g k)) refl (rider-moves x g ls))
 
 leaper-move : (x : List ℕ) (o : Option (List ℕ)) (g : ℕ → Option Move) → g 1 ≡ option_map (move x 1) o → filter_map g (cond (is_some o) (1 ∷ []) []) ≡ option_map_or (λ y. move x 1 y ∷ []) o []
 leaper-move x None g e = refl

@@ -1,6 +1,6 @@
 -- A rider stops: as many steps as the board has places lead out of it or back to the start.
 use lib.IntN.{ -ℤ-+ℤ_cancel as sub-add_cancel}
-use Rattle.std.proofs.Common.{◌≡◌, ℕ, zero, suc, ◌+◌, ◌-◌, ◌*◌, ◌%◌, ◌<◌, ◌≤◌, ◌↔◌, ◌⊎◌, ℤ, pos, negsuc, ◌+ℤ◌, ◌*ℤ◌, neg_ℤ, nat_abs, Bool, true, false, not, cond, ltb, List, [], ◌∷◌, map, length, get_or, take, Option, Some, None, refl, sym, ap, ap₂, subst, ◌∙◌, inl, inr, arith, true≢false}
+use Rattle.std.proofs.Common.{◌≡◌, ℕ, zero, suc, ◌+◌, ◌-◌, ◌*◌, ◌%◌, ◌<◌, ◌≤◌, ◌↔◌, ◌⊎◌, ℤ, pos, negsuc, ◌+ℤ◌, ◌*ℤ◌, neg_ℤ, nat_abs, Bool, true, false, not, ltb, List, [], ◌∷◌, map, length, get_or, take, Option, Some, None, refl, sym, ap, ap₂, subst, ◌∙◌, inl, inr, arith}
 use Rattle.std.proofs.Math.Nat.{add-mul-mod_self_left, mod-eq_of_lt}
 use Rattle.std.specs.Cmp.Lexicographic.{bytes_decides}
 use Rattle.std.specs.Int.{int_rem_euclid}
@@ -48,13 +48,7 @@ strides n x l (negsuc a) h far =
 
 -- the same of one coordinate, at a length that the side's size divides
 coordinates : (s : Side) (q x : ℕ) (t : ℤ) → x < s.size → 0 < q → OutOrHome (coordinate_on s (pos x +ℤ pos (q * s.size) *ℤ t)) x
-coordinates s q x t h p =
-    let far : s.size ≤ q * s.size = omega (arith, mul-le 1 s.size q s.size (omega arith) (omega arith)) in
-    let y = pos x +ℤ pos (q * s.size) *ℤ t in
-    elim s.wraps as (λ b. OutOrHome (cond b (Some (nat_abs (int_rem_euclid y (pos s.size)))) (within_size s.size y)) x) [
-      | true ↦ inr (ap Some (turns s.size q x t h))
-      | false ↦ strides s.size x (q * s.size) t h far
-    ]
+coordinates s q x t h p = grind (arith, mul-le, turns, strides)
 
 -- a coordinate in front
 home_in_front : (o : Option ℕ) (p : Option (List ℕ)) (x : ℕ) (v : List ℕ) → OutOrHome o x → OutOrHome p v → OutOrHome (in_front o p) (x ∷ v)
@@ -70,8 +64,6 @@ first_factor (suc m) n h = omega arith
 -- at a length that the number of places divides the place does not exist or is the start
 places : (sides : List Side) (x : List ℕ) (t : List ℤ) (m l : ℕ) → l ≡ m * places_count sides → 0 < l → IsBelow x (map (λ s. s.size) sides) → OutOrHome (place sides x t l) x
 places [] [] t m l e p b = inr refl
-places [] (y ∷ x) t m l e p b = absurd b
-places (s ∷ sides) [] t m l e p b = absurd b
 places (s ∷ sides) (y ∷ x) [] m l e p b = inl refl
 places (s ∷ sides) (y ∷ x) (u ∷ t) m l e p b =
     let q = m * places_count sides in
@@ -80,15 +72,15 @@ places (s ∷ sides) (y ∷ x) (u ∷ t) m l e p b =
     let here = subst (λ k. OutOrHome (coordinate_on s (pos y +ℤ pos k *ℤ u)) y) whole (coordinates s q y u b.0 (first_factor q s.size some)) in
     let rest = places sides x t (m * s.size) l (omega arith) p b.1 in
     home_in_front (coordinate_on s (pos y +ℤ pos l *ℤ u)) (place sides x t l) y x here rest
+places _ _ t m l e p b = absurd b
 
 -- a board that has a place has more than none
 places_count-pos : (sides : List Side) (x : List ℕ) → IsBelow x (map (λ s. s.size) sides) → 0 < places_count sides
 places_count-pos [] [] b = omega arith
-places_count-pos [] (y ∷ x) b = absurd b
-places_count-pos (s ∷ sides) [] b = absurd b
 places_count-pos (s ∷ sides) (y ∷ x) b =
     let rest = places_count-pos sides x b.1 in
     omega (arith, b.0, mul-le 1 1 s.size (places_count sides) (omega (arith, b.0)) (omega arith))
+places_count-pos _ _ b = absurd b
 
 -- out or home is not elsewhere
 not_elsewhere : (x : List ℕ) (p : Option (List ℕ)) → OutOrHome p x → is_elsewhere x p ≡ false
@@ -137,14 +129,7 @@ length-kept p n = length-take-le (passing p n) (numbers_to n) (omega (arith, pas
 
 -- where the test fails at n, all numbers up to l pass only where l is among those kept
 passing-from_all : (p : ℕ → Bool) (n l : ℕ) → 0 < n → p n ≡ false → ((k : ℕ) → 1 ≤ k → k ≤ l → p k ≡ true) → l ≤ passing p n
-passing-from_all p n l some stop all =
-    elim (cases_lt (passing p n) l) [
-      | inr le ↦ le
-      | inl lt ↦ elim (cases_lt (passing p n) n) [
-        | inl inside ↦ absurd (true≢false (sym (all (passing p n + 1) (omega arith) (omega arith)) ∙ next_fails p n inside))
-        | inr whole ↦ absurd (true≢false (sym (all n (omega arith) (omega arith)) ∙ stop))
-      ]
-    ]
+passing-from_all p n l some stop all = grind (arith, cases_lt, next_fails)
 
 -- where the test fails at n, the numbers kept are those up to which all pass
 Contains-kept : (p : ℕ → Bool) (n l : ℕ) → 0 < n → p n ≡ false → Contains (take_while p (numbers_to n)) l ↔ (1 ≤ l) × ((k : ℕ) → 1 ≤ k → k ≤ l → p k ≡ true)

@@ -27,9 +27,7 @@ vertex_in_rising vectors i v rises at = vertex_at vectors i v at (λ j there. pl
 
 -- and there it stands
 pub at_vertex : (vectors : List (List ℕ)) (v : List ℕ) → IsRising vectors → Contains vectors v → slice_get vectors (vertex_among vectors v) ≡ Some v
-at_vertex vectors v rises (k, within, at) =
-    let here : slice_get vectors k ≡ Some v = slice_get_read vectors (length vectors) k v refl within (sym at) in
-    ap (slice_get vectors) (vertex_in_rising vectors k v rises here) ∙ here
+at_vertex vectors v rises (k, within, at) = grind (arith, slice_get_read, at, vertex_in_rising)
 
 -- v stands at a place from low on and below high
 pub record IsBetween (vectors : List (List ℕ)) (v : List ℕ) (low high : ℕ) : Type 0 where

@@ -1,7 +1,6 @@
 -- The list of a board's vertex, run by run.
-use Rattle.std.proofs.Common.{◌≡◌, ℕ, ◌+◌, ℤ, nat_abs, true, false, Bool, List, [], ◌∷◌, ◌++◌, length, reverse, take, sym, ap, subst, ◌∙◌, append-nil}
-use Rattle.std.specs.Prelude.{if◌then◌else◌}
-use Rattle.std.specs.List.{All, flat_map, slice_get}
+use Rattle.std.proofs.Common.{arith, ◌≡◌, ℕ, ◌+◌, ℤ, nat_abs, true, false, Bool, List, [], ◌∷◌, ◌++◌, length, reverse, take, sym, ap, subst, append-nil}
+use Rattle.std.specs.List.{All, slice_get}
 use Rattle.std.specs.Prelude.{Some}
 use Rattle.std.proofs.lemmas.Grind.{flat_map-append}
 use Rattle.std.proofs.lemmas.List.{reverse-append, reverse-reverse, take_more}
@@ -11,7 +10,6 @@ use Rattle.sgb_vec.specs.Lexicographic.{IsBelow}
 use Rattle.sgb_vec.proofs.BoxPlaces.{Contains-from_IsBelow}
 use Rattle.sgb_gen.specs.Boards.{BoardData}
 use Rattle.sgb_gen.specs.Moves.{opposite, sides_of}
-use Rattle.sgb_gen.specs.inner.LocalArcs.{arcs_by}
 use Rattle.sgb_gen.specs.inner.LocalBoards.{arcs_onward, moves_by}
 use Rattle.sgb_gen.specs.inner.Moves.{leads_onward}
 use Rattle.sgb_gen.specs.inner.StraightLists.{IsRun, arcs_back, arcs_by_all, arcs_from}
@@ -24,48 +22,44 @@ use Rattle.sgb_gen.proofs.OnwardStarts.{onward_in_order}
 -- the arcs by the last of some displacements stand first
 pub last_first : (b : BoardData) (x : List ℕ) (ts : List (List ℤ)) (t : List ℤ)
     → arcs_by_all b x (ts ++ t ∷ []) ≡ reverse (arcs_onward b.directed x (moves_by (sides_of b.sizes b.wrap) b.piece (box b.sizes) t)) ++ arcs_by_all b x ts
-last_first b x ts t =
-    let by = moves_by (sides_of b.sizes b.wrap) b.piece (box b.sizes) in
-    ap (λ ms. reverse (arcs_onward b.directed x ms)) (flat_map-append by ts (t ∷ []) ∙ ap (λ ms. flat_map by ts ++ ms) (append-nil (by t)))
-    ∙ ap reverse (flat_map-append (arcs_by b.directed x) (flat_map by ts) (by t))
-    ∙ reverse-append (arcs_onward b.directed x (flat_map by ts)) (arcs_onward b.directed x (by t))
+last_first b x ts t = grind (arith, flat_map-append, append-nil, reverse-append)
+
+-- and those by the first of them last
+pub first_last : (b : BoardData) (x : List ℕ) (t : List ℤ) (ts : List (List ℤ))
+    → arcs_by_all b x (t ∷ ts) ≡ arcs_by_all b x ts ++ reverse (arcs_onward b.directed x (moves_by (sides_of b.sizes b.wrap) b.piece (box b.sizes) t))
+first_last b x t ts = grind (arith, flat_map-append, reverse-append)
 
 -- where there are arcs alone, those of a displacement are those ahead, the longest first; and there are none back
 pub directed_run : (b : BoardData) (x : List ℕ) (t : List ℤ) → b.directed ≡ true → IsBelow x b.sizes
     → reverse (arcs_onward b.directed x (moves_by (sides_of b.sizes b.wrap) b.piece (box b.sizes) t)) ≡ reverse (arcs_from b x t) ++ arcs_back b x (opposite t)
 directed_run b x t directed below =
-    ap reverse (sym (directed_onward b x t below (sym directed)))
-    ∙ sym (append-nil (reverse (arcs_from b x t)))
-    ∙ ap (λ (d : Bool). reverse (arcs_from b x t) ++ (if d then [] else arcs_from b x (opposite t))) (sym directed)
+    cc (directed_onward b x t below (sym directed), append-nil (reverse (arcs_from b x t)), directed)
 
 -- where there are edges, both
 pub edges_run : (b : BoardData) (x : List ℕ) (t : List ℤ) → b.directed ≡ false
     → reverse (arcs_onward false x (moves_by (sides_of b.sizes b.wrap) b.piece (box b.sizes) t)) ≡ reverse (arcs_from b x t) ++ arcs_from b x (opposite t)
     → reverse (arcs_onward b.directed x (moves_by (sides_of b.sizes b.wrap) b.piece (box b.sizes) t)) ≡ reverse (arcs_from b x t) ++ arcs_back b x (opposite t)
 edges_run b x t directed both =
-    ap (λ (d : Bool). reverse (arcs_onward d x (moves_by (sides_of b.sizes b.wrap) b.piece (box b.sizes) t))) directed
-    ∙ both
-    ∙ ap (λ (d : Bool). reverse (arcs_from b x t) ++ (if d then [] else arcs_from b x (opposite t))) (sym directed)
+    cc (directed, both)
+
+pub edges_in_order : (b : BoardData) (x : List ℕ) (t : List ℤ) → IsBelow x b.sizes → length t ≡ length b.sizes → leads_onward b.wrap 0 t ≡ true
+    → reverse (arcs_onward false x (moves_by (sides_of b.sizes b.wrap) b.piece (box b.sizes) t)) ≡ reverse (arcs_from b x t) ++ arcs_from b x (opposite t)
+edges_in_order b x t below long onward =
+    let ahead = arcs_from b x t in
+    let behind = arcs_from b x (opposite t) in
+    cc (onward_in_order b t x (Contains-from_IsBelow b.sizes x below) long onward, reverse-append (reverse behind) ahead, reverse-reverse behind)
 
 -- where a displacement leads onward, its arcs are those ahead, the longest first, and then those back
 pub onward_run : (b : BoardData) (x : List ℕ) (t : List ℤ) (d : Bool) → b.directed ≡ d → IsBelow x b.sizes → length t ≡ length b.sizes → leads_onward b.wrap 0 t ≡ true
     → reverse (arcs_onward b.directed x (moves_by (sides_of b.sizes b.wrap) b.piece (box b.sizes) t)) ≡ reverse (arcs_from b x t) ++ arcs_back b x (opposite t)
 onward_run b x t true directed below long onward = directed_run b x t directed below
-onward_run b x t false directed below long onward =
-    let ahead = arcs_from b x t in
-    let behind = arcs_from b x (opposite t) in
-    edges_run b x t directed
-    (ap reverse (onward_in_order b t x (Contains-from_IsBelow b.sizes x below) long onward)
-    ∙ reverse-append (reverse behind) ahead
-    ∙ ap (λ ls. reverse ahead ++ ls) (reverse-reverse behind))
+onward_run b x t false directed below long onward = edges_run b x t directed (edges_in_order b x t below long onward)
 
 -- the arcs by the first of some displacements, with the next one
 pub next_run_first : (b : BoardData) (x : List ℕ) (ts : List (List ℤ)) (k : ℕ) (t : List ℤ) → slice_get ts k ≡ Some t → IsRun b x t
     → arcs_by_all b x (take (k + 1) ts) ≡ reverse (arcs_from b x t) ++ arcs_back b x (opposite t) ++ arcs_by_all b x (take k ts)
 next_run_first b x ts k t at run =
-    ap (arcs_by_all b x) (take_more ts k t (slice_get_within ts k t at) ∙ ap (λ u. take k ts ++ u ∷ []) (get_or_from_slice_get ts k t t at))
-    ∙ last_first b x (take k ts) t
-    ∙ ap (λ ls. ls ++ arcs_by_all b x (take k ts)) run.arcs
+    cc (take_more ts k t (slice_get_within ts k t at), get_or_from_slice_get ts k t t at, last_first b x (take k ts) t, run.arcs)
 
 -- one of them has what all have
 pub at_has : (P : List ℤ → Type 0) (ts : List (List ℤ)) (k : ℕ) (t : List ℤ) → All P ts → slice_get ts k ≡ Some t → P t
@@ -73,10 +67,7 @@ at_has P ts k t all at = subst P (get_or_from_slice_get ts k t t at) (all k t (s
 
 -- a displacement of a board has an entry for each side
 pub widths_in_table : (b : BoardData) (ts : List (List ℤ)) → ts ≡ displacements_within (nat_abs b.piece) (bounds_of b) → All (λ u. length u ≡ length b.sizes) ts
-widths_in_table b ts is =
-    let p = nat_abs b.piece in
-    let wide = subst (λ n. All (λ u. length u ≡ n) (displacements_within p (bounds_of b))) (length-entry_bounds p b.sizes b.wrap) (displacement_lengths p (bounds_of b)) in
-    subst (All (λ u. length u ≡ length b.sizes)) (sym is) wide
+widths_in_table b ts is = grind (arith, bounds_of, length-entry_bounds, displacement_lengths)
 
 pub width_in_table : (b : BoardData) (ts : List (List ℤ)) (k : ℕ) (t : List ℤ) → ts ≡ displacements_within (nat_abs b.piece) (bounds_of b)
     → slice_get ts k ≡ Some t → length t ≡ length b.sizes

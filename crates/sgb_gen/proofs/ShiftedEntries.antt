@@ -1,6 +1,5 @@
 -- The entries of a vector of which a unit has gone from one place to another, and where it stands among others.
 use Rattle.std.proofs.Common.{◌≡◌, ◌≢◌, ℕ, ◌+◌, ◌-◌, ◌<◌, ◌⊎◌, true, List, length, get_or, set, sum, sym, ap, ◌∙◌, inl, inr, arith, length-set}
-use Rattle.std.specs.Prelude.{nat_lt}
 use Rattle.std.proofs.lemmas.Bool.{and_parts, and_from, cases_eq, ltb-true}
 use Rattle.std.proofs.lemmas.Bool.Decides.{Decides-ltb}
 use Rattle.std.proofs.lemmas.List.{ext_get_or, get_or-set_same, get_or-set_other}
@@ -62,14 +61,10 @@ length-moved v from to = length-set (set v from (get_or v from 0 - 1)) to (get_o
 
 -- what a unit that can go says of the entries
 pub can_shift-says : (bounds v : List ℕ) (at : Places) → can_shift bounds v at ≡ true → (0 < get_or v at.lower 0) × (get_or v at.higher 0 < get_or bounds at.higher 0)
-can_shift-says bounds v at can =
-    let parts = and_parts _ _ can in
-    (ltb-true 0 (get_or v at.lower 0) parts.0, ltb-true (get_or v at.higher 0) (get_or bounds at.higher 0) parts.1)
+can_shift-says bounds v at can = grind (arith, and_parts, ltb-true)
 
 can_return-says : (bounds v : List ℕ) (at : Places) → can_return bounds v at ≡ true → (0 < get_or v at.higher 0) × (get_or v at.lower 0 < get_or bounds at.lower 0)
-can_return-says bounds v at can =
-    let parts = and_parts _ _ can in
-    (ltb-true 0 (get_or v at.higher 0) parts.0, ltb-true (get_or v at.lower 0) (get_or bounds at.lower 0) parts.1)
+can_return-says bounds v at can = grind (arith, and_parts, ltb-true)
 
 -- a vector and a pair of its places
 module _ (bounds v : List ℕ) (at : Places) (pair : IsPair (length v) at) where
@@ -108,52 +103,25 @@ module _ (bounds v : List ℕ) (at : Places) (pair : IsPair (length v) at) where
 
   -- a unit that went comes back
   pub returned-shifted : can_shift bounds v at ≡ true → returned (shifted v at) at ≡ v
-  returned-shifted can =
-      let says = can_shift-says bounds v at can in
-      written-back v at.lower at.higher (get_or v at.lower 0 - 1) (get_or v at.higher 0 + 1) low_apart
-      (get_or (shifted v at) at.lower 0 + 1) (get_or (shifted v at) at.higher 0 - 1) in_low pair.1
-      (omega (arith, shifted-high)) (omega (arith, shifted-low, says.0))
+  returned-shifted can = grind (arith, can_shift-says, written-back, low_apart, in_low, shifted-high, shifted-low)
 
   pub shifted-returned : can_return bounds v at ≡ true → shifted (returned v at) at ≡ v
-  shifted-returned can =
-      let says = can_return-says bounds v at can in
-      written-back v at.higher at.lower (get_or v at.higher 0 - 1) (get_or v at.lower 0 + 1) high_apart
-      (get_or (returned v at) at.higher 0 + 1) (get_or (returned v at) at.lower 0 - 1) pair.1 in_low
-      (omega (arith, returned-low)) (omega (arith, returned-high, says.0))
+  shifted-returned can = grind (arith, can_return-says, written-back, high_apart, in_low, returned-low, returned-high)
 
   -- and can go again
   pub can_return-shifted : IsWithin v bounds → can_shift bounds v at ≡ true → can_return bounds (shifted v at) at ≡ true
-  can_return-shifted within can =
-      let says = can_shift-says bounds v at can in
-      and_from (nat_lt 0 (get_or (shifted v at) at.higher 0)) (nat_lt (get_or (shifted v at) at.lower 0) (get_or bounds at.lower 0))
-      ((Decides-ltb 0 (get_or (shifted v at) at.higher 0)).1 (omega (arith, shifted-high)))
-      ((Decides-ltb (get_or (shifted v at) at.lower 0) (get_or bounds at.lower 0)).1 (omega (arith, shifted-low, says.0, entry_within v bounds at.lower within)))
+  can_return-shifted within can = grind (arith, can_shift-says, and_from, Decides-ltb, shifted-high, shifted-low, entry_within)
 
   pub can_shift-returned : IsWithin v bounds → can_return bounds v at ≡ true → can_shift bounds (returned v at) at ≡ true
-  can_shift-returned within can =
-      let says = can_return-says bounds v at can in
-      and_from (nat_lt 0 (get_or (returned v at) at.lower 0)) (nat_lt (get_or (returned v at) at.higher 0) (get_or bounds at.higher 0))
-      ((Decides-ltb 0 (get_or (returned v at) at.lower 0)).1 (omega (arith, returned-low)))
-      ((Decides-ltb (get_or (returned v at) at.higher 0) (get_or bounds at.higher 0)).1 (omega (arith, returned-high, says.0, entry_within v bounds at.higher within)))
+  can_shift-returned within can = grind (arith, can_return-says, and_from, Decides-ltb, returned-low, returned-high, entry_within)
 
   -- the vector that it came from comes later
   pub shifted-before : can_shift bounds v at ≡ true → IsBefore (shifted v at) v
-  shifted-before can =
-      let says = can_shift-says bounds v at can in
-      before_at (shifted v at) v at.lower
-      (λ i less. shifted-other i (omega (arith, less)) (omega (arith, less, pair.0)))
-      (omega (arith, shifted-low, says.0)) (omega (arith, length-shifted, in_low)) in_low
+  shifted-before can = grind (arith, can_shift-says, before_at, shifted-other, shifted-low, length-shifted, in_low)
 
   -- a unit that goes to a lower place leaves the bounds and the sum as they are
   pub returned-in_sum : IsWithin v bounds → can_return bounds v at ≡ true → IsWithin (returned v at) bounds × (sum (returned v at) ≡ sum v)
-  returned-in_sum within can =
-      let says = can_return-says bounds v at can in
-      let low : IsWithin (set v at.higher (get_or v at.higher 0 - 1)) bounds =
-      IsWithin-set v bounds at.higher (get_or v at.higher 0 - 1) within (omega (arith, entry_within v bounds at.higher within)) in
-      let there : IsWithin (returned v at) bounds =
-      IsWithin-set (set v at.higher (get_or v at.higher 0 - 1)) bounds at.lower (get_or v at.lower 0 + 1) low (omega (arith, says.1)) in
-      let same = shifted-in_sum bounds (returned v at) at pair.0 (omega (arith, length-returned, pair.1)) (can_shift-returned within can) there in
-      (there, sym same.1 ∙ ap sum (shifted-returned can))
+  returned-in_sum within can = grind (arith, can_return-says, IsWithin-set, entry_within, shifted-in_sum, length-returned, can_shift-returned, shifted-returned)
 
 -- by different pairs a vector becomes different ones
 pub shifted-once : (bounds v : List ℕ) (p q : Places) → IsPair (length v) p → IsPair (length v) q → can_shift bounds v p ≡ true → RisesTo p q → shifted v p ≡ shifted v q → ⊥

@@ -1,14 +1,12 @@
 -- The moves of a simplex counted: by pairs of places, as vectors of a smaller sum.
-use Rattle.std.proofs.Common.{◌≡◌, ℕ, ◌+◌, ◌-◌, ◌*◌, ◌<◌, ◌≤◌, ℤ, pos, Bool, true, false, cond, ◌⊎◌, Result, Ok, Err, List, [], ◌∷◌, ◌++◌, length, map, get_or, sum, refl, sym, ap, subst, ◌∙◌, inl, inr, arith, length-append}
+use Rattle.std.proofs.Common.{rules, ◌≡◌, ℕ, ◌+◌, ◌-◌, ◌*◌, ◌<◌, ◌≤◌, ℤ, pos, true, false, cond, ◌⊎◌, Result, Ok, Err, List, [], ◌∷◌, ◌++◌, length, map, get_or, sum, refl, sym, ap, subst, ◌∙◌, inl, inr, arith, length-append}
 use Rattle.std.specs.List.{All, AllPairs, Contains, filter, flat_map}
-use Rattle.std.specs.Prelude.{nat_lt}
 use Rattle.std.proofs.lemmas.Bool.{and_from, cases_lt, le-ltb}
 use Rattle.std.proofs.lemmas.Bool.Decides.{Decides-ltb}
 use Rattle.std.proofs.lemmas.List.{length-map, get_or_past, get_or-set_same, get_or-set_other}
 use Rattle.std.proofs.lemmas.List.Elements.{All-contains_itself, All-filter, All-head, All-map, All-tail, Contains-get_or, filter_passes}
 use Rattle.std.proofs.lemmas.List.Kept.{AllPairs-filter}
 use Rattle.sgb_graph.specs.Made.{graph_described}
-use Rattle.sgb_graph.specs.Events.{all_records}
 use Rattle.sgb_vec.specs.Lexicographic.{IsBefore}
 use Rattle.sgb_vec.specs.Sums.{BoundedSum, bounded_sums, count_of_sum, has_great_count, sum_of}
 use Rattle.sgb_vec.specs.Limits.{most_vertices}
@@ -16,8 +14,8 @@ use Rattle.sgb_vec.specs.declared.panics.Panic.{Panic}
 use Rattle.sgb_vec.specs.declared.panics.Panic.TheVariants.{NoRoom}
 use Rattle.sgb_vec.proofs.Lists.{AllPairs-follows, AllPairs-map, Contains-image, Contains-passing, filter-none, never_true, passing_first}
 use Rattle.sgb_vec.proofs.SumMembers.{Contains-bounded_sums, IsWithin-length, bounded_sums-rise}
-use Rattle.sgb_gen.specs.VectorGraphs.{Move, event_among, family_graph}
-use Rattle.sgb_gen.specs.Simplexes.{SimplexData, Places, can_shift, shifted, pairs_of_places, moves_by, moves_to, moves_of_simplex, simplex_graph, simplex_vectors}
+use Rattle.sgb_gen.specs.VectorGraphs.{family_graph}
+use Rattle.sgb_gen.specs.Simplexes.{SimplexData, Places, can_shift, pairs_of_places, moves_by, moves_to, moves_of_simplex, simplex_graph, simplex_vectors}
 use Rattle.sgb_gen.specs.inner.SimplexCounts.{less_at, lowered, shifts_count, shifts_by}
 use Rattle.sgb_gen.proofs.BoardCountsBoards.{arcs-directed, arcs-undirected}
 use Rattle.sgb_gen.proofs.LoweredBounds.{before-less_at, within-less_both, within-less, more_at, less-more_at, within-more, within-more_both, sum-less_at, none_great-lowered}
@@ -30,9 +28,7 @@ use Rattle.sgb_gen.proofs.SimplexEvents.{length_in_sum}
 
 -- a unit that can go
 can_shift-from : (bounds x : List ℕ) (at : Places) → 0 < get_or x at.lower 0 → get_or x at.higher 0 < get_or bounds at.higher 0 → can_shift bounds x at ≡ true
-can_shift-from bounds x at unit room =
-    and_from (nat_lt 0 (get_or x at.lower 0)) (nat_lt (get_or x at.higher 0) (get_or bounds at.higher 0))
-    ((Decides-ltb 0 (get_or x at.lower 0)).1 unit) ((Decides-ltb (get_or x at.higher 0) (get_or bounds at.higher 0)).1 room)
+can_shift-from bounds x at unit room = grind (arith, and_from, Decides-ltb)
 
 module _ (s : BoundedSum) (at : Places) (order : at.lower < at.higher) where
   -- the vectors from which a unit can go
@@ -115,10 +111,7 @@ module _ (s : BoundedSum) (at : Places) (order : at.lower < at.higher) where
       ]
 
   pub shifts-none : (s.total ≡ 0) ⊎ (get_or s.bounds at.lower 0 ≡ 0) ⊎ (get_or s.bounds at.higher 0 ≡ 0) → 0 ≡ shifts_count s at
-  shifts-none none =
-      let vectors = bounded_sums s.total s.bounds in
-      sym (ap length (filter-none (λ x. can_shift s.bounds x at) vectors
-      (λ k d within. never_true (can_shift s.bounds (get_or vectors k d) at) (cannot (get_or vectors k d) none (Contains-get_or vectors k d within)))))
+  shifts-none none = search (rules, filter-none, never_true, cannot, Contains-get_or)
 
 -- ---- all pairs
 
@@ -127,10 +120,7 @@ shifts_by-append s [] qs = omega arith
 shifts_by-append s (at ∷ ps) qs = omega (arith, shifts_by-append s ps qs)
 
 moves_first : (bounds x : List ℕ) (at : Places) (ps : List Places) → length (moves_by bounds x (at ∷ ps)) ≡ cond (can_shift bounds x at) 1 0 + length (moves_by bounds x ps)
-moves_first bounds x at ps =
-    let move : Places → Move = λ p. record { from = shifted x p; to = x; len = 1 } in
-    let can : Places → Bool = can_shift bounds x in
-    length-map (filter can (at ∷ ps)) move ∙ passing_first (can at) at (filter can ps) ∙ ap (λ n. cond (can at) 1 0 + n) (sym (length-map (filter can ps) move))
+moves_first bounds x at ps = grind (arith, length-map, passing_first)
 
 -- the moves to all of some vectors, by one pair and by others
 moves_parted : (bounds : List ℕ) (at : Places) (ps : List Places) (xs : List (List ℕ)) → length (flat_map (λ x. moves_by bounds x (at ∷ ps)) xs) ≡ length (filter (λ x. can_shift bounds x at) xs) + length (flat_map (λ x. moves_by bounds x ps) xs)
@@ -155,8 +145,7 @@ moves-by_pairs s (at ∷ ps) = moves_parted s.bounds at ps (bounded_sums s.total
 moves_same : (bounds : List ℕ) (n : ℕ) (xs : List (List ℕ)) → All (λ x. length x ≡ n) xs → flat_map (moves_to bounds) xs ≡ flat_map (λ x. moves_by bounds x (pairs_of_places n)) xs
 moves_same bounds n [] long = refl
 moves_same bounds n (x ∷ xs) long =
-    ap (λ m. moves_by bounds x (pairs_of_places m) ++ flat_map (moves_to bounds) xs) (All-head (λ y. length y ≡ n) x xs long)
-    ∙ ap (λ ms. moves_by bounds x (pairs_of_places n) ++ ms) (moves_same bounds n xs (All-tail (λ y. length y ≡ n) x xs long))
+    cc (All-head (λ y. length y ≡ n) x xs long, moves_same bounds n xs (All-tail (λ y. length y ≡ n) x xs long))
 
 -- the moves of a simplex
 pub moves-counted : (s : SimplexData) → length (moves_of_simplex s) ≡ shifts_by s.sum (pairs_of_places (length s.sum.bounds))
@@ -170,15 +159,11 @@ moves-counted s =
 
 pub arcs-of-directed : (s : SimplexData) → s.directed ≡ true → (graph_described (simplex_graph s)).m ≡ length (moves_of_simplex s)
 unfolding family_graph
-arcs-of-directed s e =
-    let events = map (event_among (simplex_vectors s)) (moves_of_simplex s) in
-    ap (λ d. length (all_records d events)) e ∙ arcs-directed events ∙ length-map (moves_of_simplex s) (event_among (simplex_vectors s))
+arcs-of-directed s e = grind (arith, arcs-directed, length-map)
 
 pub arcs-of-undirected : (s : SimplexData) → s.directed ≡ false → (graph_described (simplex_graph s)).m ≡ length (moves_of_simplex s) * 2
 unfolding family_graph
-arcs-of-undirected s e =
-    let events = map (event_among (simplex_vectors s)) (moves_of_simplex s) in
-    ap (λ d. length (all_records d events)) e ∙ arcs-undirected events ∙ ap (λ n. n * 2) (length-map (moves_of_simplex s) (event_among (simplex_vectors s)))
+arcs-of-undirected s e = grind (arith, arcs-undirected, length-map)
 
 -- ---- what the code finds
 
@@ -191,10 +176,7 @@ ok_same s t e = cc e
 
 -- the smaller sum is accepted
 sum_lowered : (s : BoundedSum) (at : Places) → s.total ≤ most_vertices → has_great_count s.total s.bounds ≡ false → sum_of (pos (s.total - 1)) (lowered s.bounds at) ≡ Ok (record { total = s.total - 1; bounds = lowered s.bounds at })
-sum_lowered s at small none =
-    let low : nat_lt most_vertices (s.total - 1) ≡ false = le-ltb most_vertices (s.total - 1) (omega (arith, small)) in
-    let few = none_great-lowered s.total s.bounds at none in
-    rw (low, few) refl
+sum_lowered s at small none = grind (arith, le-ltb, none_great-lowered)
 
 -- so what is made of it is it, but for want of memory
 pub family_lowered : (s : BoundedSum) (at : Places) (z : ℤ) (bounds : List ℕ) (r : Result BoundedSum Panic) → s.total ≤ most_vertices → has_great_count s.total s.bounds ≡ false → z ≡ pos (s.total - 1) → bounds ≡ lowered s.bounds at

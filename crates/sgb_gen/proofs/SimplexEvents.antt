@@ -1,11 +1,11 @@
 -- The events of a simplex, as its moves are made one after another.
 use Rattle.std.proofs.Common.{◌≡◌, ℕ, suc, ◌+◌, ◌-◌, ◌<◌, ◌≤◌, pos, Bool, true, false, cond, List, [], ◌∷◌, ◌++◌, length, map, Option, Some, None, refl, sym, ap, ◌∙◌, arith}
-use Rattle.std.specs.List.{Contains, filter, flat_map, range_with_len, slice_get}
+use Rattle.std.specs.List.{Contains, flat_map, range_with_len, slice_get}
 use Rattle.std.proofs.lemmas.List.{map-append}
 use Rattle.std.proofs.lemmas.List.Elements.{filter-append, length_all_zip}
 use Rattle.sgb_vec.proofs.SumMembers.{Contains-bounded_sums, bounded_sums-rise}
 use Rattle.sgb_graph.specs.Events.{Event}
-use Rattle.sgb_gen.specs.VectorGraphs.{Move, event_among, vertex_among}
+use Rattle.sgb_gen.specs.VectorGraphs.{event_among, vertex_among}
 use Rattle.sgb_gen.specs.Simplexes.{SimplexData, Places, can_shift, shifted, pairs_from, pairs_of_places, moves_by, moves_to, moves_of_simplex, simplex_vectors}
 use Rattle.sgb_gen.proofs.FamilyWalks.{map-flat_map}
 use Rattle.sgb_gen.proofs.RisingVectors.{vertex_in_rising}
@@ -32,13 +32,7 @@ events_by s x pairs = map (event_among (simplex_vectors s)) (moves_by s.sum.boun
 
 -- by some pairs and then by others
 pub events_by-append : (s : SimplexData) (x : List ℕ) (ps qs : List Places) → events_by s x (ps ++ qs) ≡ events_by s x ps ++ events_by s x qs
-events_by-append s x ps qs =
-    let can : Places → Bool = can_shift s.sum.bounds x in
-    let move : Places → Move = λ at. record { from = shifted x at; to = x; len = 1 } in
-    let event : Move → Event = event_among (simplex_vectors s) in
-    ap (λ ats. map event (map move ats)) (filter-append can ps qs)
-    ∙ ap (map event) (map-append move (filter can ps) (filter can qs))
-    ∙ map-append event (map move (filter can ps)) (map move (filter can qs))
+events_by-append s x ps qs = grind (arith, filter-append, map-append)
 
 -- where the vertex x becomes leads, as the code returns it
 abbrev pub vertex_by : SimplexData → List ℕ → Places → Option ℕ
@@ -51,9 +45,7 @@ no_vertex true u e = absurd (cc)
 no_vertex false u e = refl
 
 pub events_by-out : (s : SimplexData) (x : List ℕ) (at : Places) (ps : List Places) → vertex_by s x at ≡ None → events_by s x (at ∷ ps) ≡ events_by s x ps
-events_by-out s x at ps e =
-    let cannot = no_vertex (can_shift s.sum.bounds x at) (vertex_among (simplex_vectors s) (shifted x at)) e in
-    rw cannot refl
+events_by-out s x at ps e = grind (arith, no_vertex)
 
 -- one by which it can adds the event from the vertex there
 some_vertex : (b : Bool) (u w : ℕ) → cond b (Some u) None ≡ Some w → (b ≡ true) × (u ≡ w)
@@ -61,10 +53,7 @@ some_vertex true u w e = (refl, cc)
 some_vertex false u w e = absurd (cc)
 
 pub events_by-next : (s : SimplexData) (x : List ℕ) (at : Places) (ps : List Places) (u v : ℕ) → vertex_by s x at ≡ Some u → slice_get (simplex_vectors s) v ≡ Some x → events_by s x (at ∷ ps) ≡ (record { from = u; to = v; len = pos 1 } ∷ []) ++ events_by s x ps
-events_by-next s x at ps u v e here =
-    let can = some_vertex (can_shift s.sum.bounds x at) (vertex_among (simplex_vectors s) (shifted x at)) u e in
-    let to = vertex_in_simplex s v x here in
-    rw (can.0, can.1, to) refl
+events_by-next s x at ps u v e here = grind (arith, some_vertex, vertex_in_simplex)
 
 -- the pairs of the lower place and the higher ones from k on
 abbrev pub pairs_left : ℕ → ℕ → ℕ → List Places

@@ -1,5 +1,5 @@
 -- The list of a vector of a simplex is made by pairs of its places.
-use Rattle.std.proofs.Common.{◌≡◌, ℕ, zero, suc, ◌+◌, ◌-◌, ◌<◌, ◌≤◌, pos, Bool, true, false, cond, ◌&&◌, List, [], ◌∷◌, ◌++◌, length, map, reverse, get_or, sum, refl, sym, ap, ap₂, subst, ◌∙◌, inl, inr, arith, append-nil}
+use Rattle.std.proofs.Common.{rules, ◌≡◌, ℕ, zero, suc, ◌+◌, ◌-◌, ◌<◌, ◌≤◌, pos, Bool, true, false, cond, ◌&&◌, List, [], ◌∷◌, ◌++◌, length, map, reverse, get_or, sum, refl, sym, ap, ap₂, subst, ◌∙◌, inl, inr, arith, append-nil}
 use Rattle.std.specs.Cmp.Lexicographic.{bytes_decides}
 use Rattle.std.specs.List.{All, AllPairs, Contains, filter, flat_map, range_with_len}
 use Rattle.std.proofs.lemmas.Bool.{and_parts, and_from}
@@ -159,8 +159,7 @@ module _ (bounds x : List ℕ) where
       ≡ map unit_arc (reverse (map (λ p. v) (cond (c && d) (at ∷ filter (hits v) ps) (filter (hits v) ps))))
   move_first directed v at ps other rest false d is_c is_d = rest
   move_first directed v at ps other rest true false is_c is_d =
-      ap (λ l. arcs_of_moves directed x (moves_by bounds v ps) ++ l) (arc_of_move directed (shifted v at) v other ∙ ap (λ b. arc_if b v 1) (sym is_d))
-      ∙ append-nil (arcs_of_moves directed x (moves_by bounds v ps)) ∙ rest
+      cc (arc_of_move directed (shifted v at) v other, is_d, append-nil (arcs_of_moves directed x (moves_by bounds v ps)), rest)
   move_first directed v at ps other rest true true is_c is_d =
       ap (λ l. arcs_of_moves directed x (moves_by bounds v ps) ++ l) (arc_of_move directed (shifted v at) v other ∙ ap (λ b. arc_if b v 1) (sym is_d))
       ∙ ap (λ l. l ++ unit_arc v ∷ []) rest
@@ -183,14 +182,7 @@ module _ (bounds x : List ℕ) where
 
   -- a vector before x is not reached
   none_before : (v : List ℕ) → IsBefore v x → tips_to v ≡ []
-  none_before v before =
-      ap (map (λ at. v)) (filter-none (hits v) (pairs_of_places (length v))
-      (All-weaker (IsPair (length v)) (λ p. hits v p ≡ false)
-      (λ p pair. never_true (hits v p) (λ e.
-      let parts = and_parts (can_shift bounds v p) (same_vector (shifted v p) x) e in
-      let there : IsBefore (shifted v p) v = shifted-before bounds v p pair parts.0 in
-      before_none x (subst (λ w. IsBefore w x) ((bytes_decides (shifted v p) x).0 parts.1) (before_trans (shifted v p) v x there before))))
-      (pairs_of_places (length v)) (all_pairs-are (length v))))
+  none_before v before = search (rules, filter-none, All-weaker, never_true, and_parts, shifted-before, before_none, before_trans, all_pairs-are)
 
   -- the moves to x
   abbrev own_arcs : (directed : Bool) → List Places → List LocalArc
@@ -394,6 +386,4 @@ ends_in_simplex s =
 -- the list of a vector of a simplex is made by pairs of its places
 pub list_by_pairs : (s : SimplexData) (x : List ℕ) → Contains (simplex_vectors s) x → list_at s.directed (simplex_vectors s) (moves_of_simplex s) x ≡ arcs_by_pairs s.directed s.sum.bounds x
 unfolding moves_of_simplex
-list_by_pairs s x h =
-    list_at-moves (simplex_vectors s) (bounded_sums-rise s.sum.total s.sum.bounds) s.directed x (flat_map (moves_to s.sum.bounds) (simplex_vectors s)) h (ends_in_simplex s)
-    ∙ arcs_in_sum s.directed s.sum.total s.sum.bounds x h
+list_by_pairs s x h = search (rules, list_at-moves, bounded_sums-rise, ends_in_simplex, arcs_in_sum)

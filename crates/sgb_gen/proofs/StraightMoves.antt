@@ -1,6 +1,6 @@
 -- Moves from a vector that never come home, of as many lengths as the moved coordinates stay on the board.
 use lib.Signed.{lt_z}
-use Rattle.std.proofs.Common.{◌≡◌, ◌≢◌, ℕ, zero, suc, ◌+◌, ◌-◌, ◌++◌, reverse, append_assoc, ◌<◌, ◌≤◌, ℤ, pos, negsuc, SFits, to_z, of_z, w64, nat_abs, true, false, not, cond, List, [], ◌∷◌, length, map, Option, Some, None, refl, sym, ap, subst, ◌∙◌, inl, inr, arith, true≢false}
+use Rattle.std.proofs.Common.{◌≡◌, ◌≢◌, ℕ, zero, suc, ◌+◌, ◌-◌, reverse, ◌<◌, ◌≤◌, ℤ, pos, negsuc, SFits, to_z, of_z, w64, nat_abs, true, false, not, cond, List, [], ◌∷◌, length, map, Option, Some, None, refl, sym, ap, subst, ◌∙◌, inl, inr, arith, true≢false}
 use Rattle.std.specs.Cmp.Lexicographic.{bytes_decides}
 use Rattle.std.proofs.lemmas.Bool.{cases_Bool, cases_lt}
 use Rattle.std.proofs.lemmas.Int.{to_z-of_z}
@@ -11,10 +11,11 @@ use Rattle.sgb_vec.specs.Lexicographic.{IsBelow}
 use Rattle.sgb_gen.specs.Boards.{BoardData}
 use Rattle.sgb_gen.specs.Moves.{Side, is_elsewhere, opposite, place, sides_of}
 use Rattle.sgb_gen.specs.VectorGraphs.{same_vector}
-use Rattle.sgb_gen.specs.LocalLists.{LocalArc}
+use Rattle.sgb_gen.specs.LocalLists.{LinksData, LocalArc}
 use Rattle.sgb_gen.specs.inner.LocalBoards.{move_arc}
 use Rattle.sgb_gen.specs.inner.Moves.{destination, leads_onward}
 use Rattle.sgb_gen.specs.MovedCoordinates.{parts_of, parts_put}
+use Rattle.sgb_gen.specs.Runs.{arc_along}
 use Rattle.sgb_gen.specs.inner.MovedCoordinates.{parts_stay}
 use Rattle.sgb_gen.specs.inner.StraightLists.{IsLeaper, NeverHome}
 use Rattle.sgb_gen.proofs.BoardWalks.{leads, left-all, left-next, left-none, left-out, longest, moves_left, moves_of}
@@ -22,30 +23,25 @@ use Rattle.sgb_gen.proofs.MovedCoordinates.{place_by_parts}
 use Rattle.sgb_gen.proofs.OnwardMoves.{back_earlier, onward_elsewhere}
 use Rattle.sgb_gen.proofs.OrderedLists.{before_none}
 use Rattle.sgb_gen.proofs.Reaches.{sizes_of_sides}
+use Rattle.sgb_gen.specs.inner.LocalSimplexes.{with_arcs}
+use Rattle.sgb_gen.proofs.PairWalks.{with_more}
 
 -- the arc to the place at a length
-abbrev pub arc_placed : BoardData → List ℕ → List ℤ → ℕ → LocalArc
-arc_placed b x t l = record { tip = parts_put b.sizes b.wrap x l (parts_of t) x; len = pos l }
+abbrev arc_placed : BoardData → List ℕ → List ℤ → ℕ → LocalArc
+arc_placed b x t l = arc_along b.sizes b.wrap x (parts_of t) l
 
 module _ (b : BoardData) (x : List ℕ) (t : List ℤ) (below : IsBelow x b.sizes) (long : length t ≡ length b.sizes) (away : NeverHome b x t) where
   pub leads_on : (l : ℕ) → 0 < l → parts_stay b.sizes b.wrap x l (parts_of t) ≡ true → leads b x t l ≡ Some (parts_put b.sizes b.wrap x l (parts_of t) x)
   leads_on l some stay =
-      away l some ∙ place_by_parts b.sizes b.wrap x t l below long
-      ∙ ap (λ c. cond c (Some (parts_put b.sizes b.wrap x l (parts_of t) x)) None) stay
+      cc (away l some, place_by_parts b.sizes b.wrap x t l below long, stay)
 
   leads_out : (l : ℕ) → 0 < l → parts_stay b.sizes b.wrap x l (parts_of t) ≡ false → leads b x t l ≡ None
   leads_out l some out =
-      away l some ∙ place_by_parts b.sizes b.wrap x t l below long
-      ∙ ap (λ c. cond c (Some (parts_put b.sizes b.wrap x l (parts_of t) x)) None) out
+      cc (away l some, place_by_parts b.sizes b.wrap x t l below long, out)
 
   -- where the next length leads out, no moves are left after it
-  pub left-past : (n l : ℕ) → n ≤ longest b → l ≡ n + 1 → (n < longest b → parts_stay b.sizes b.wrap x (n + 1) (parts_of t) ≡ false) → moves_left b t x l ≡ []
-  left-past n l most next end =
-      ap (moves_left b t x) next
-      ∙ elim (cases_lt n (longest b)) [
-        | inl less ↦ left-out b t x (n + 1) (omega (arith, less)) (leads_out (n + 1) (omega arith) (end less))
-        | inr all ↦ left-none b t x (n + 1) (omega (arith, all))
-      ]
+  left-past : (n l : ℕ) → n ≤ longest b → l ≡ n + 1 → (n < longest b → parts_stay b.sizes b.wrap x (n + 1) (parts_of t) ≡ false) → moves_left b t x l ≡ []
+  left-past n l most next end = grind (arith, moves_left, cases_lt, longest, left-out, leads_out, left-none)
 
   -- ---- the arcs by all of them
 
@@ -67,17 +63,16 @@ module _ (b : BoardData) (x : List ℕ) (t : List ℤ) (below : IsBelow x b.size
 
 -- ---- those of the lengths that are left, the longest first
 
-pub one_shorter : (f : ℕ → LocalArc) (done new whole : List LocalArc) (n m : ℕ) → 0 < n → m ≡ n → new ≡ done ++ f m ∷ []
-    → done ++ reverse (map f (range_with_len 1 n)) ≡ whole → new ++ reverse (map f (range_with_len 1 (n - 1))) ≡ whole
+pub one_shorter : (f : ℕ → LocalArc) (done new whole : LinksData) (n m : ℕ) → 0 < n → m ≡ n → new ≡ with_arcs done (f m ∷ [])
+    → with_arcs done (reverse (map f (range_with_len 1 n))) ≡ whole → with_arcs new (reverse (map f (range_with_len 1 (n - 1)))) ≡ whole
 one_shorter f done new whole n m some same is so_far =
     let k = n - 1 in
-    let next : k + 1 ≡ n = omega (arith, some) in
     let left = reverse (map f (range_with_len 1 k)) in
     let first : reverse (map f (range_with_len 1 n)) ≡ f m ∷ left =
-    ap (λ i. reverse (map f (range_with_len 1 i))) (sym next)
-    ∙ ap reverse (map-range_with_len_more f 1 k m (omega (arith, next, same)))
+    ap (λ i. reverse (map f (range_with_len 1 i))) {x = n} {y = k + 1} (omega (arith, some))
+    ∙ ap reverse (map-range_with_len_more f 1 k m (omega (arith, same, some)))
     ∙ reverse-append (map f (range_with_len 1 k)) (f m ∷ []) in
-    ap (λ ls. ls ++ left) is ∙ append_assoc done (f m ∷ []) left ∙ sym (ap (λ ls. done ++ ls) first) ∙ so_far
+    with_more done new (with_arcs new left) (f m ∷ []) left _ is refl first ∙ so_far
 
 -- ---- when a piece never comes home
 

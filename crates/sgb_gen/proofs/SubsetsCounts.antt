@@ -1,5 +1,5 @@
 -- The moves of subsets counted: by the descent from each vector down to the first one.
-use Rattle.std.proofs.Common.{◌≡◌, ℕ, suc, ◌+◌, ◌-◌, ◌*◌, ◌<◌, ◌≤◌, min, pos, Bool, true, false, not, cond, List, [], ◌∷◌, ◌++◌, length, map, filter, reverse, take, drop, sum, Some, refl, sym, ap, ap₂, subst, ◌∙◌, arith, length-append}
+use Rattle.std.proofs.Common.{◌≡◌, ℕ, suc, ◌+◌, ◌-◌, ◌*◌, ◌<◌, ◌≤◌, min, Bool, true, false, not, cond, List, [], ◌∷◌, ◌++◌, length, map, filter, reverse, take, drop, sum, Some, refl, sym, ap, subst, ◌∙◌, arith, length-append}
 use Rattle.std.specs.List.{flat_map, range_with_len, slice_get}
 use Rattle.std.specs.Prelude.{slice_index_or}
 use Rattle.std.proofs.Math.Path.{fun_ext}
@@ -8,7 +8,6 @@ use Rattle.std.proofs.lemmas.List.Elements.{filter-append}
 use Rattle.std.proofs.lemmas.List.Filters.{length-filter_both}
 use Rattle.std.proofs.lemmas.List.FromFn.{length-range_with_len}
 use Rattle.std.proofs.lemmas.Option.{get_or_from_slice_get}
-use Rattle.sgb_graph.specs.Events.{all_records}
 use Rattle.sgb_graph.specs.Made.{graph_described}
 use Rattle.sgb_vec.specs.Lexicographic.{IsWithin}
 use Rattle.sgb_vec.specs.Limits.{most_vertices}
@@ -18,11 +17,11 @@ use Rattle.sgb_vec.proofs.SumMembers.{Contains-bounded_sums, bounded_sums-rise}
 use Rattle.sgb_vec.proofs.SumSuccessors.{sum-cons}
 use Rattle.sgb_gen.specs.LocalLists.{LocalArc}
 use Rattle.sgb_gen.specs.Subsets.{SubsetsData, common_size, is_wanted_size, moves_of_subsets, moves_to_place, subsets_graph, subsets_vectors}
-use Rattle.sgb_gen.specs.VectorGraphs.{Move, event_among, family_graph, vertex_among}
+use Rattle.sgb_gen.specs.VectorGraphs.{Move, family_graph, vertex_among}
 use Rattle.sgb_gen.specs.inner.Descents.{IsBegun, arcs_under, down_from, row, rows}
 use Rattle.sgb_gen.specs.inner.SubsetsCounts.{moves_among, wanted_among}
 use Rattle.sgb_gen.proofs.BoardCountsBoards.{arcs-directed, arcs-undirected}
-use Rattle.sgb_gen.proofs.DescentArcs.{HasEnded, all-rows, ended-all, ended-from, from-taken, row-under, under-front, under-unwanted, under-zeros}
+use Rattle.sgb_gen.proofs.DescentArcs.{HasEnded, all-rows, ended-all, ended-part, from-taken, row-under, under-front, under-unwanted, under-zeros}
 use Rattle.sgb_gen.proofs.Descents.{row-within, rows-parts, sums-rows}
 use Rattle.sgb_gen.proofs.FamilyWalks.{at_front, next_left}
 use Rattle.sgb_gen.proofs.RisingVectors.{vertex_in_rising}
@@ -33,9 +32,7 @@ use Rattle.sgb_gen.proofs.SubsetsLists.{common-turned}
 
 -- whatever they begin with
 among-arcs : (sb : ℕ) (front : List ℕ) (c : ℕ) (x : List ℕ) (vs : List (List ℕ)) → wanted_among sb c x vs ≡ length (arcs_under sb front c x vs)
-among-arcs sb front c x vs =
-    let made : List ℕ → LocalArc = λ v. record { tip = front ++ v; len = pos 1 } in
-    sym (length-map (filter (λ v. is_wanted_size sb (common_size x v + c)) vs) made)
+among-arcs sb front c x vs = grind (arith, length-map)
 
 -- so where the arcs are the same
 among-same : (sb : ℕ) (front left : List ℕ) (c d : ℕ) (x y : List ℕ) (vs ws : List (List ℕ)) → arcs_under sb front c x vs ≡ arcs_under sb left d y ws → wanted_among sb c x vs ≡ wanted_among sb d y ws
@@ -43,9 +40,7 @@ among-same sb front left c d x y vs ws same =
     among-arcs sb front c x vs ∙ ap length same ∙ sym (among-arcs sb left d y ws)
 
 pub among-append : (sb c : ℕ) (x : List ℕ) (us ws : List (List ℕ)) → wanted_among sb c x (us ++ ws) ≡ wanted_among sb c x us + wanted_among sb c x ws
-among-append sb c x us ws =
-    let wanted : List ℕ → Bool = λ v. is_wanted_size sb (common_size x v + c) in
-    ap length (filter-append wanted us ws) ∙ length-append (filter wanted us) (filter wanted ws)
+among-append sb c x us ws = grind (arith, filter-append, length-append)
 
 -- at most all
 pub among-most : (sb c : ℕ) (x : List ℕ) (vs : List (List ℕ)) → wanted_among sb c x vs ≤ length vs
@@ -87,7 +82,7 @@ among-ended sb c left bs x h none some =
     sym (among-arcs sb [] c x (reverse (bounded_sums left bs)) ∙ ap length (ended-all sb [] c left bs x h none some))
 
 pub among-ended_from : (sb c left : ℕ) (bs x : List ℕ) → IsWithin x bs → HasEnded bs x → left ≡ sum x → wanted_among sb c x (reverse (bounded_sums left bs)) ≡ wanted_among sb c x (down_from bs x)
-among-ended_from sb c left bs x h none all = among-same sb [] [] c c x x _ _ (ended-from sb [] c left bs x h none all)
+among-ended_from sb c left bs x h none all = among-same sb [] [] c c x x _ _ (ended-part down_from (λ y. refl) sb [] c left bs x h none all)
 
 -- ---- where it goes on
 
@@ -100,11 +95,7 @@ pub rows-counted : (sb c left h low k : ℕ) (bs x : List ℕ) (counted more : �
     → counted ≡ wanted_among sb c (h ∷ x) (rows left bs low k)
     → more ≡ wanted_among sb (c + min h (low + k)) x (reverse (bounded_sums (left - (low + k)) bs))
     → counted + more ≡ wanted_among sb c (h ∷ x) (rows left bs low (k + 1))
-rows-counted sb c left h low k bs x counted more within so_far is =
-    let both = among-append sb c (h ∷ x) (row left bs (low + k)) (rows left bs low k) in
-    let next : wanted_among sb c (h ∷ x) (rows left bs low (k + 1)) ≡ wanted_among sb c (h ∷ x) (rows left bs low (suc k)) =
-    ap (λ n. wanted_among sb c (h ∷ x) (rows left bs low n)) {y = suc k} (omega arith) in
-    omega (arith, next, both, so_far, is, among-row sb c left h (low + k) bs x within)
+rows-counted sb c left h low k bs x counted more within so_far is = grind (arith, among-append, among-row)
 
 -- all vectors by their rows
 pub among-rows : (sb c left b h end : ℕ) (bs xs bounds x : List ℕ) → bounds ≡ b ∷ bs → x ≡ h ∷ xs → end ≡ min left b + 1
@@ -121,23 +112,11 @@ pub among-from : (sb c left b h lower others : ℕ) (bs xs bounds x : List ℕ) 
 among-from sb c left b h lower others bs xs bounds x bounds_are x_is adds lower_is others_is =
     let whole : left ≡ h + sum xs = adds ∙ ap sum x_is ∙ sum-cons h xs in
     let own = among-same sb [] ([] ++ h ∷ []) c (c + min h h) (h ∷ xs) xs _ _ (under-front sb [] c h xs h (down_from bs xs)) in
-    ap₂ (λ m n. m + n)
-    (others_is ∙ sym own)
-    (lower_is ∙ ap (λ n. wanted_among sb c (h ∷ xs) (rows n bs 0 h)) whole)
-    ∙ sym (ap₂ (λ cs v. wanted_among sb c v (down_from cs v)) bounds_are x_is
-    ∙ among-append sb c (h ∷ xs) (map (λ v. h ∷ v) (down_from bs xs)) (rows (h + sum xs) bs 0 h))
+    cc (others_is, own, lower_is, whole, among-append sb c (h ∷ xs) (map (λ v. h ∷ v) (down_from bs xs)) (rows (h + sum xs) bs 0 h), bounds_are, x_is)
 
 -- what is known with one more entry
 pub begun-on : (room shared left c b h e : ℕ) (bs xs bounds x : List ℕ) → bounds ≡ b ∷ bs → x ≡ h ∷ xs → e ≤ left → IsBegun bounds x room shared left c → IsBegun bs xs (room - b) (shared - h) (left - e) (c + min h e)
-begun-on room shared left c b h e bs xs bounds x bounds_are x_is within begun =
-    let first : IsBegun (b ∷ bs) (h ∷ xs) room shared left c =
-    subst (λ v. IsBegun (b ∷ bs) v room shared left c) x_is (subst (λ cs. IsBegun cs x room shared left c) bounds_are begun) in
-    record {
-      within = first.within.1;
-      bounds_add = omega (arith, sum-cons b bs, first.bounds_add);
-      own_add = omega (arith, sum-cons h xs, first.own_add);
-      few = omega (arith, first.few);
-    }
+begun-on room shared left c b h e bs xs bounds x bounds_are x_is within begun = grind (arith, sum-cons)
 
 -- ---- there are few
 
@@ -154,11 +133,7 @@ row-few r low n k bs less =
     )
 
 length-row : (r e : ℕ) (bs : List ℕ) → e ≤ r → length (row r bs e) ≡ length (bounded_sums (r - e) bs)
-length-row r e bs within =
-    let longer : List ℕ → List ℕ = λ v. e ∷ v in
-    ap length (row-within r e bs within)
-    ∙ length-map (reverse (bounded_sums (r - e) bs)) longer
-    ∙ length-reverse (bounded_sums (r - e) bs)
+length-row r e bs within = grind (arith, row-within, length-map, length-reverse)
 
 -- so few go on with an entry
 pub few-after : (r low n k most : ℕ) (bs : List ℕ) → k < n → low + k ≤ r → length (rows r bs low n) ≤ most → length (bounded_sums (r - (low + k)) bs) ≤ most
@@ -172,9 +147,6 @@ pub few-counted : (sb c r h low n k counted more most : ℕ) (bs x : List ℕ) �
 few-counted sb c r h low n k counted more most bs x less within so_far is few =
     omega (
       arith,
-      few,
-      so_far,
-      is,
       row-few r low n k bs less,
       length-row r (low + k) bs within,
       among-most sb c (h ∷ x) (rows r bs low k),
@@ -216,9 +188,7 @@ few-own r b h most bs xs bounds x bounds_are x_is within small few =
 
 -- those from x on down are among all
 down-few : (bs x : List ℕ) → IsWithin x bs → length (down_from bs x) ≤ length (bounded_sums (sum x) bs)
-down-few bs x h =
-    let vectors = bounded_sums (sum x) bs in
-    omega (arith, ap length (from-taken bs x h), length-reverse (take (vertex_among vectors x + 1) vectors), length-take (vertex_among vectors x + 1) vectors)
+down-few bs x h = grind (arith, from-taken, length-reverse, length-take)
 
 pub few-from : (sb c left most : ℕ) (bs x : List ℕ) → IsWithin x bs → left ≡ sum x → length (bounded_sums left bs) ≤ most → wanted_among sb c x (down_from bs x) ≤ most
 few-from sb c left most bs x h adds few =
@@ -254,8 +224,7 @@ moves_from s (v ∷ vs) k is =
     let vectors = subsets_vectors s in
     let here = moves_at s k v (at_front vectors (v ∷ vs) k v is refl) in
     let rest = moves_from s vs (k + 1) (next_left vectors (v ∷ vs) vs k is refl) in
-    length-append (moves_to_place s.size_bits vectors k) (flat_map (moves_to_place s.size_bits vectors) (range_with_len (k + 1) (length vs)))
-    ∙ ap₂ (λ m n. m + n) here rest
+    cc (length-append (moves_to_place s.size_bits vectors k) (flat_map (moves_to_place s.size_bits vectors) (range_with_len (k + 1) (length vs))), here, rest)
 
 pub moves-counted : (s : SubsetsData) → length (moves_of_subsets s) ≡ moves_among s.size_bits s.sum.bounds (subsets_vectors s)
 unfolding moves_of_subsets
@@ -277,25 +246,14 @@ few_joined moves few (i ∷ places) = omega (arith, length-append (moves i) (fla
 
 pub moves-few : (s : SubsetsData) → length (subsets_vectors s) ≤ most_vertices → length (moves_of_subsets s) ≤ most_vertices * most_vertices
 unfolding moves_of_subsets
-moves-few s few =
-    let vectors = subsets_vectors s in
-    omega (
-      arith,
-      few,
-      length-range_with_len 0 (length vectors),
-      few_joined (moves_to_place s.size_bits vectors) (λ i. omega (arith, few, few_to_place s i)) (range_with_len 0 (length vectors)),
-    )
+moves-few s few = grind (arith, length-range_with_len, few_joined, few_to_place)
 
 -- ---- the arcs of the graph
 
 pub arcs-of-directed : (s : SubsetsData) → s.directed ≡ true → (graph_described (subsets_graph s)).m ≡ length (moves_of_subsets s)
 unfolding family_graph
-arcs-of-directed s e =
-    let events = map (event_among (subsets_vectors s)) (moves_of_subsets s) in
-    ap (λ d. length (all_records d events)) e ∙ arcs-directed events ∙ length-map (moves_of_subsets s) (event_among (subsets_vectors s))
+arcs-of-directed s e = grind (arith, arcs-directed, length-map)
 
 pub arcs-of-undirected : (s : SubsetsData) → s.directed ≡ false → (graph_described (subsets_graph s)).m ≡ length (moves_of_subsets s) * 2
 unfolding family_graph
-arcs-of-undirected s e =
-    let events = map (event_among (subsets_vectors s)) (moves_of_subsets s) in
-    ap (λ d. length (all_records d events)) e ∙ arcs-undirected events ∙ ap (λ n. n * 2) (length-map (moves_of_subsets s) (event_among (subsets_vectors s)))
+arcs-of-undirected s e = grind (arith, arcs-undirected, length-map)

@@ -1,5 +1,5 @@
 -- The events of subsets, as their moves are made one after another.
-use Rattle.std.proofs.Common.{◌≡◌, ℕ, suc, ◌+◌, ◌-◌, ◌<◌, ◌≤◌, pos, true, false, cond, List, [], ◌∷◌, ◌++◌, length, map, filter, take, drop, Some, refl, sym, ap, ◌∙◌, arith}
+use Rattle.std.proofs.Common.{◌≡◌, ℕ, suc, ◌+◌, ◌-◌, ◌<◌, ◌≤◌, pos, cond, List, [], ◌∷◌, ◌++◌, length, map, filter, take, drop, Some, refl, sym, ap, ◌∙◌, arith}
 use Rattle.std.specs.List.{flat_map, range_with_len, slice_get, Contains}
 use Rattle.std.proofs.lemmas.List.{drop_all, length-take, get_or-take}
 use Rattle.std.proofs.lemmas.Option.{slice_get_within, slice_get_read, get_or_from_slice_get}
@@ -26,17 +26,7 @@ vertex_in_sum s v i at = vertex_in_rising (subsets_vectors s) i v (bounded_sums-
 
 -- the event of the first of some vectors comes first
 events_to-first : (s : SubsetsData) (u v : List ℕ) (us : List (List ℕ)) (i j : ℕ) → slice_get (subsets_vectors s) i ≡ Some u → slice_get (subsets_vectors s) j ≡ Some v → events_to s v (u ∷ us) ≡ event_of_size s.size_bits i j (common_size u v) ++ events_to s v us
-events_to-first s u v us i j at_u at_v =
-    let from = vertex_in_sum s u i at_u in
-    let to = vertex_in_sum s v j at_v in
-    let event : Event = record { from = vertex_among (subsets_vectors s) u; to = vertex_among (subsets_vectors s) v; len = pos 1 } in
-    let same : event ≡ record { from = i; to = j; len = pos 1 } = cc in
-    let wanted = λ (w : List ℕ). is_wanted_size s.size_bits (common_size w v) in
-    let moves = λ (ws : List (List ℕ)). map (event_among (subsets_vectors s)) (map (λ w. record { from = w; to = v; len = 1 }) ws) in
-    elim (is_wanted_size s.size_bits (common_size u v)) as (λ b. moves (cond b (u ∷ filter wanted us) (filter wanted us)) ≡ cond b (record { from = i; to = j; len = pos 1 } ∷ []) [] ++ events_to s v us) [
-      | true ↦ ap (λ e. e ∷ events_to s v us) same
-      | false ↦ refl
-    ]
+events_to-first s u v us i j at_u at_v = grind (arith, vertex_in_sum)
 
 -- the vectors from place i on up to place j
 abbrev pub vectors_between : List (List ℕ) → ℕ → ℕ → List (List ℕ)
@@ -54,8 +44,7 @@ between-next vectors i j u h at =
 -- at place i the event from there comes first
 pub events_to-next : (s : SubsetsData) (u v : List ℕ) (i j : ℕ) → i ≤ j → slice_get (subsets_vectors s) i ≡ Some u → slice_get (subsets_vectors s) j ≡ Some v → events_to s v (vectors_between (subsets_vectors s) i j) ≡ event_of_size s.size_bits i j (common_size u v) ++ events_to s v (vectors_between (subsets_vectors s) (i + 1) j)
 events_to-next s u v i j h at_u at_v =
-    ap (events_to s v) (between-next (subsets_vectors s) i j u h at_u)
-    ∙ events_to-first s u v (vectors_between (subsets_vectors s) (i + 1) j) i j at_u at_v
+    cc (between-next (subsets_vectors s) i j u h at_u, events_to-first s u v (vectors_between (subsets_vectors s) (i + 1) j) i j at_u at_v)
 
 -- past place j none are left
 pub events_to-none : (s : SubsetsData) (v : List ℕ) (i j : ℕ) → j < i → events_to s v (vectors_between (subsets_vectors s) i j) ≡ []
@@ -90,10 +79,7 @@ events_from_place-none s j h =
 -- all of them are the definition's
 pub events_of-subsets : (s : SubsetsData) → events_from_place s 0 ≡ map (event_among (subsets_vectors s)) (moves_of_subsets s)
 unfolding moves_of_subsets
-events_of-subsets s =
-    let count : length (subsets_vectors s) - 0 ≡ length (subsets_vectors s) = omega arith in
-    ap (λ n. flat_map (events_at s) (range_with_len 0 n)) count
-    ∙ sym (map-flat_map (event_among (subsets_vectors s)) (moves_to_place s.size_bits (subsets_vectors s)) (range_with_len 0 (length (subsets_vectors s))))
+events_of-subsets s = grind (arith, map-flat_map)
 
 -- a vector that stands among them is one of them
 pub is_among : (vectors : List (List ℕ)) (i : ℕ) (u : List ℕ) → slice_get vectors i ≡ Some u → Contains vectors u

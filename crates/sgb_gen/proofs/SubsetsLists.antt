@@ -1,5 +1,5 @@
 -- The list of a vector of subsets is made by a walk over the vectors, from the last one back.
-use Rattle.std.proofs.Common.{◌≡◌, ℕ, ◌+◌, ◌<◌, min, pos, Bool, true, false, cond, List, [], ◌∷◌, ◌++◌, length, map, filter, reverse, take, drop, get_or, Some, refl, sym, ap, ap₂, subst, ◌∙◌, arith, append-nil, append_assoc}
+use Rattle.std.proofs.Common.{rules, ◌≡◌, ℕ, ◌+◌, ◌<◌, min, pos, Bool, true, false, cond, List, [], ◌∷◌, ◌++◌, length, map, filter, reverse, take, drop, get_or, Some, refl, sym, ap, ap₂, subst, ◌∙◌, arith, append-nil, append_assoc}
 use Rattle.std.specs.Cmp.Lexicographic.{bytes_decides}
 use Rattle.std.specs.List.{All, Contains, flat_map, range_with_len, slice_get}
 use Rattle.std.proofs.Math.Seq.{get_or-append_seam, take-append-add}
@@ -93,10 +93,7 @@ module _ (size_bits : ℕ) (x : List ℕ) where
   onto_first : (directed a b : Bool) (u v : List ℕ) (us : List (List ℕ)) → same_vector u x ≡ a → same_vector v x ≡ b
       → arcs_of_moves directed x (moves_onto v (u ∷ us)) ≡ arcs_of_moves directed x (moves_onto v us) ++ cond (wanted u v) (touching directed a b u v) []
   onto_first directed a b u v us is_a is_b =
-      ap (arcs_of_moves directed x) (onto-append v (u ∷ []) us)
-      ∙ arcs-append directed x (moves_onto v (u ∷ [])) (moves_onto v us)
-      ∙ ap (λ l. arcs_of_moves directed x (moves_onto v us) ++ l)
-      (one_move directed u v (wanted u v) refl ∙ ap (λ l. cond (wanted u v) l []) (by_move directed a b u v is_a is_b))
+      cc (onto-append v (u ∷ []) us, arcs-append directed x (moves_onto v (u ∷ [])) (moves_onto v us), one_move directed u v (wanted u v) refl, by_move directed a b u v is_a is_b)
 
   -- of moves between other vectors there are none
   untouched : (directed : Bool) (u v : List ℕ) (w : Bool) → cond w (touching directed false false u v) [] ≡ []
@@ -106,8 +103,7 @@ module _ (size_bits : ℕ) (x : List ℕ) where
   others : (directed : Bool) (v : List ℕ) (us : List (List ℕ)) → Differs v → All Differs us → arcs_of_moves directed x (moves_onto v us) ≡ []
   others directed v [] other differ = refl
   others directed v (u ∷ us) other differ =
-      onto_first directed false false u v us (All-head Differs u us differ) other
-      ∙ ap₂ (λ a b. a ++ b) (others directed v us other (All-tail Differs u us differ)) (untouched directed u v (wanted u v))
+      cc (onto_first directed false false u v us (All-head Differs u us differ) other, others directed v us other (All-tail Differs u us differ), untouched directed u v (wanted u v))
 
   x_itself : same_vector x x ≡ true
   x_itself = (bytes_decides x x).1 refl
@@ -118,15 +114,7 @@ module _ (size_bits : ℕ) (x : List ℕ) where
   outward false v w = refl
 
   from_x : (directed : Bool) (v : List ℕ) (us ws : List (List ℕ)) → Differs v → All Differs us → All Differs ws → arcs_of_moves directed x (moves_onto v (us ++ x ∷ ws)) ≡ arcs_to size_bits x (v ∷ [])
-  from_x directed v us ws other before after =
-      ap (arcs_of_moves directed x) (onto-append v us (x ∷ ws))
-      ∙ arcs-append directed x (moves_onto v us) (moves_onto v (x ∷ ws))
-      ∙ ap₂ (λ a b. a ++ b)
-      (onto_first directed true false x v ws x_itself other
-      ∙ ap₂ (λ a b. a ++ b) (others directed v ws other after) (outward directed v (wanted x v)))
-      (others directed v us other before)
-      ∙ append-nil (cond (wanted x v) (record { tip = v; len = pos 1 } ∷ []) [])
-      ∙ sym (to-one v)
+  from_x directed v us ws other before after = grind (arith, onto-append, arcs-append, onto_first, x_itself, others, outward, append-nil, to-one)
 
   -- to x from other vectors there is one each in an undirected graph
   abbrev inward : Bool → List (List ℕ) → List LocalArc
@@ -136,17 +124,13 @@ module _ (size_bits : ℕ) (x : List ℕ) where
   inward_first : (directed : Bool) (u : List ℕ) (us : List (List ℕ)) → inward directed us ++ cond (wanted u x) (touching directed false true u x) [] ≡ inward directed (u ∷ us)
   inward_first true u us = none_if (wanted u x)
   inward_first false u us =
-      ap (λ w. arcs_to size_bits x (reverse us) ++ cond w (record { tip = u; len = pos 1 } ∷ []) []) (wanted-turned u x)
-      ∙ ap (λ l. arcs_to size_bits x (reverse us) ++ l) (sym (to-one u))
-      ∙ sym (back-first u us)
+      cc (wanted-turned u x, to-one u, back-first u us)
 
   onto_x : (directed : Bool) (us : List (List ℕ)) → All Differs us → arcs_of_moves directed x (moves_onto x us) ≡ inward directed us
   onto_x true [] differ = refl
   onto_x false [] differ = refl
   onto_x directed (u ∷ us) differ =
-      onto_first directed false true u x us (All-head Differs u us differ) x_itself
-      ∙ ap (λ l. l ++ cond (wanted u x) (touching directed false true u x) []) (onto_x directed us (All-tail Differs u us differ))
-      ∙ inward_first directed u us
+      cc (onto_first directed false true u x us (All-head Differs u us differ) x_itself, onto_x directed us (All-tail Differs u us differ), inward_first directed u us)
 
   -- at x: its loop once or twice, and the moves to it
   abbrev own_arcs : Bool → List (List ℕ) → List LocalArc
@@ -160,15 +144,10 @@ module _ (size_bits : ℕ) (x : List ℕ) where
   own_join : (directed : Bool) (us : List (List ℕ)) → cond (wanted x x) (touching directed true true x x) [] ++ inward directed us ≡ own_arcs directed us
   own_join true us = append-nil (cond (wanted x x) (record { tip = x; len = pos 1 } ∷ []) []) ∙ sym (to-one x)
   own_join false us =
-      ap (λ l. l ++ inward false us) (twice_if (wanted x x) (record { tip = x; len = pos 1 } ∷ []) ∙ ap₂ (λ a b. a ++ b) (sym (to-one x)) (sym (to-one x)))
-      ∙ append_assoc (arcs_to size_bits x (x ∷ [])) (arcs_to size_bits x (x ∷ [])) (inward false us)
+      cc (twice_if (wanted x x) (record { tip = x; len = pos 1 } ∷ []), to-one x, append_assoc (arcs_to size_bits x (x ∷ [])) (arcs_to size_bits x (x ∷ [])) (inward false us))
 
   at_x : (directed : Bool) (us : List (List ℕ)) → All Differs us → arcs_of_moves directed x (moves_onto x (us ++ x ∷ [])) ≡ own_arcs directed us
-  at_x directed us differ =
-      ap (arcs_of_moves directed x) (onto-append x us (x ∷ []))
-      ∙ arcs-append directed x (moves_onto x us) (moves_onto x (x ∷ []))
-      ∙ ap₂ (λ a b. a ++ b) (onto_first directed true true x x [] x_itself x_itself) (onto_x directed us differ)
-      ∙ own_join directed us
+  at_x directed us differ = grind (arith, onto-append, arcs-append, onto_first, x_itself, onto_x, own_join)
 
   -- the moves to these vectors, each from those before it
   abbrev moves_over : List (List ℕ) → List (List ℕ) → List Move
@@ -256,14 +235,11 @@ module _ (vectors : List (List ℕ)) (p : ℕ) (x : List ℕ) (rise : IsRising v
       other_is (get_or vectors k d) x (λ e. before_none x (subst (IsBefore x) e after))
 
   earlier_differ : All (λ v. same_vector v x ≡ false) (take p vectors)
-  earlier_differ k d within =
-      let less : k < p = omega (arith, length-take p vectors, within) in
-      ap (λ v. same_vector v x) (get_or-take p vectors k d less) ∙ differs_at k d less
+  earlier_differ k d within = grind (arith, length-take, get_or-take, differs_at)
 
   later_differ : All (λ v. same_vector v x ≡ false) (drop (p + 1) vectors)
   later_differ k d within =
-      ap (λ v. same_vector v x) (get_or-drop (p + 1) vectors k d)
-      ∙ differs_after (p + 1 + k) d (omega arith) (omega (arith, length-drop (p + 1) vectors, within))
+      cc (get_or-drop (p + 1) vectors k d, differs_after (p + 1 + k) d (omega arith) (omega (arith, length-drop (p + 1) vectors, within)))
 
 -- the vectors up to a place are vectors
 taken : (n : ℕ) (vectors : List (List ℕ)) → All (Contains vectors) (take n vectors)
@@ -273,11 +249,7 @@ taken n vectors k d within =
 
 -- so both ends of each move are vertices
 ends_at_place : (size_bits : ℕ) (vectors : List (List ℕ)) (i : ℕ) → i < length vectors → All (HasEnds vectors) (moves_to_place size_bits vectors i)
-ends_at_place size_bits vectors i within =
-    let v = get_or vectors i [] in
-    All-map (HasEnds vectors) (λ u. record { from = u; to = v; len = 1 }) (filter (λ u. is_wanted_size size_bits (common_size u v)) (take (i + 1) vectors))
-    (All-filter (λ u. is_wanted_size size_bits (common_size u v)) (λ u. HasEnds vectors (record { from = u; to = v; len = 1 })) (take (i + 1) vectors)
-    (λ k d inside. (taken (i + 1) vectors k d inside, All-contains_itself vectors i [] within)))
+ends_at_place size_bits vectors i within = search (rules, All-map, All-filter, taken, All-contains_itself)
 
 pub moves_have_ends : (s : SubsetsData) → All (HasEnds (subsets_vectors s)) (moves_of_subsets s)
 unfolding moves_of_subsets

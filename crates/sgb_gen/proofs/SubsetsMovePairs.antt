@@ -12,7 +12,7 @@ use Rattle.sgb_vec.proofs.SumSuccessors.{sum-cons}
 use Rattle.sgb_gen.specs.Subsets.{SubsetsData, common_size, is_wanted_size, moves_of_subsets, moves_to_place, subsets_vectors}
 use Rattle.sgb_gen.specs.VectorGraphs.{Move}
 use Rattle.sgb_gen.specs.inner.SubsetsCounts.{wanted_among}
-use Rattle.sgb_gen.specs.inner.SubsetsPairs.{cell_of, kept, pairs_among}
+use Rattle.sgb_gen.specs.inner.SubsetsPairs.{cell_of, pairs_among}
 use Rattle.sgb_gen.proofs.SubsetsCounts.{among-append}
 use Rattle.sgb_gen.proofs.SubsetsLists.{common-turned}
 use Rattle.sgb_gen.proofs.SubsetsPairs.{cell-within, pairs-few, pairs-second}
@@ -78,9 +78,6 @@ moves_on sb k vectors before (v ∷ vs) is place =
     let all = length-append (moves_to_place sb vectors k) (flat_map (moves_to_place sb vectors) (range_with_len (k + 1) (length vs))) in
     omega (
       arith,
-      all,
-      here,
-      rest,
       among-append sb 0 v before (v ∷ []),
       pairs-second sb 0 vs before (v ∷ []),
       with_one sb v vs,
@@ -98,9 +95,7 @@ common_own [] = refl
 common_own (x ∷ v) = omega (arith, common_own v, sum-cons x v)
 
 alike_one : (sb n : ℕ) (v : List ℕ) → sum v ≡ n → wanted_among sb 0 v (v ∷ []) ≡ cond (is_wanted_size sb n) 1 0
-alike_one sb n v adds =
-    ap (λ m. length (cond (is_wanted_size sb m) (v ∷ []) [])) {x = common_size v v + 0} {y = n} (omega (arith, adds, common_own v))
-    ∙ one_if (is_wanted_size sb n) v
+alike_one sb n v adds = grind (arith, common_own, one_if)
 
 alike_more : (b : Bool) (n one rest : ℕ) → one ≡ cond b 1 0 → rest ≡ cond b n 0 → one + rest ≡ cond b (suc n) 0
 alike_more true n one rest first others = omega (arith, first, others)
@@ -129,8 +124,6 @@ moves-by_pairs s pairs loops pairs_are loops_are =
     let adds : All (λ v. sum v ≡ s.sum.total) vs = λ k d within. ((Contains-bounded_sums s.sum.total s.sum.bounds (get_or vs k d)).0 (Contains-get_or vs k d within)).1 in
     omega (
       arith,
-      pairs_are,
-      loops_are,
       both_orders sb vs,
       moves_on sb 0 vs [] vs refl refl,
       none_before sb vs,
@@ -141,14 +134,4 @@ moves-by_pairs s pairs loops pairs_are loops_are =
 pub pairs-found : (s : SubsetsData) (total k found : ℕ) (bounds : List ℕ) → total ≡ s.sum.total → bounds ≡ s.sum.bounds → k ≤ 0 → length (subsets_vectors s) ≤ most_vertices
     → found ≡ cell_of s.size_bits total (drop k bounds) total total 0
     → (found ≡ pairs_among s.size_bits 0 (subsets_vectors s) (subsets_vectors s)) × (found ≤ most_vertices * most_vertices)
-pairs-found s total k found bounds total_is bounds_are none few is =
-    let sb = s.size_bits in
-    let vs = subsets_vectors s in
-    let cell : found ≡ kept (pairs_among sb 0 vs vs) =
-    is
-    ∙ ap (λ n. cell_of sb total (drop n bounds) total total 0) {x = k} {y = 0} (omega (arith, none))
-    ∙ ap (λ bs. cell_of sb total bs total total 0) bounds_are
-    ∙ ap (λ n. cell_of sb n s.sum.bounds n n 0) total_is
-    ∙ cell-within sb s.sum.total s.sum.bounds s.sum.total s.sum.total 0 (omega arith) (omega arith) in
-    let small = pairs-few sb 0 vs vs few in
-    (omega (arith, cell, small, few), omega (arith, cell, small, few))
+pairs-found s total k found bounds total_is bounds_are none few is = grind (arith, cell-within, pairs-few)

@@ -55,32 +55,21 @@ pairs-beginning sb c x y r bs (u ∷ us) within =
 
 pairs-rows : (sb c x y q r : ℕ) (bs : List ℕ) → x ≤ q → y ≤ r → pairs_among sb c (row q bs x) (row r bs y) ≡ pairs_of_sums sb bs (q - x) (r - y) (c + min x y)
 pairs-rows sb c x y q r bs first second =
-    ap (λ us. pairs_among sb c us (row r bs y)) (row-within q x bs first)
-    ∙ pairs-beginning sb c x y r bs (reverse (bounded_sums (q - x) bs)) second
-    ∙ pairs-reverse sb (c + min x y) (bounded_sums (q - x) bs) (bounded_sums (r - y) bs)
+    cc (row-within q x bs first, pairs-beginning sb c x y r bs (reverse (bounded_sums (q - x) bs)) second, pairs-reverse sb (c + min x y) (bounded_sums (q - x) bs) (bounded_sums (r - y) bs))
 
 -- one entry of the second vector more
 pub other-counted : (sb c x y q r counted more : ℕ) (bs : List ℕ) → x ≤ q → y ≤ r
     → counted ≡ kept (pairs_among sb c (row q bs x) (rows r bs 0 y))
     → more ≡ kept (pairs_of_sums sb bs (q - x) (r - y) (c + min x y))
     → kept (counted + more) ≡ kept (pairs_among sb c (row q bs x) (rows r bs 0 (y + 1)))
-other-counted sb c x y q r counted more bs first second so_far is =
-    let us = row q bs x in
-    let next : pairs_among sb c us (rows r bs 0 (y + 1)) ≡ pairs_among sb c us (row r bs y ++ rows r bs 0 y) =
-    ap (λ n. pairs_among sb c us (rows r bs 0 n)) {y = suc y} (omega arith)
-    ∙ ap (λ n. pairs_among sb c us (row r bs n ++ rows r bs 0 y)) {x = 0 + y} {y = y} (omega arith) in
-    omega (arith, so_far, is, next, pairs-second sb c us (row r bs y) (rows r bs 0 y), pairs-rows sb c x y q r bs first second)
+other-counted sb c x y q r counted more bs first second so_far is = grind (arith, pairs-second, pairs-rows)
 
 -- one entry of the first vector more
 pub entry-counted : (sb c x q counted more : ℕ) (bs : List ℕ) (vs : List (List ℕ))
     → counted ≡ kept (pairs_among sb c (rows q bs 0 x) vs)
     → more ≡ kept (pairs_among sb c (row q bs x) vs)
     → kept (counted + more) ≡ kept (pairs_among sb c (rows q bs 0 (x + 1)) vs)
-entry-counted sb c x q counted more bs vs so_far is =
-    let next : pairs_among sb c (rows q bs 0 (x + 1)) vs ≡ pairs_among sb c (row q bs x ++ rows q bs 0 x) vs =
-    ap (λ n. pairs_among sb c (rows q bs 0 n) vs) {y = suc x} (omega arith)
-    ∙ ap (λ n. pairs_among sb c (row q bs n ++ rows q bs 0 x) vs) {x = 0 + x} {y = x} (omega arith) in
-    omega (arith, so_far, is, next, pairs-first sb c (row q bs x) (rows q bs 0 x) vs)
+entry-counted sb c x q counted more bs vs so_far is = grind (arith, pairs-first)
 
 -- all vectors with one bound more
 rows-of_all : (r b : ℕ) (bs : List ℕ) → rows r bs 0 (min r b + 1) ≡ reverse (bounded_sums r (b ∷ bs))
@@ -92,8 +81,7 @@ rows-of_all r b bs =
 
 pub pairs-all : (sb c q r b : ℕ) (bs : List ℕ) → pairs_among sb c (rows q bs 0 (min q b + 1)) (rows r bs 0 (min r b + 1)) ≡ pairs_of_sums sb (b ∷ bs) q r c
 pairs-all sb c q r b bs =
-    ap₂ (pairs_among sb c) (rows-of_all q b bs) (rows-of_all r b bs)
-    ∙ pairs-reverse sb c (bounded_sums q (b ∷ bs)) (bounded_sums r (b ∷ bs))
+    cc (rows-of_all q b bs, rows-of_all r b bs, pairs-reverse sb c (bounded_sums q (b ∷ bs)) (bounded_sums r (b ∷ bs)))
 
 -- ---- the table
 
@@ -119,9 +107,7 @@ table-length sb total bs = length-map-range_with_len (cell_at sb total bs) 0 800
 pub cell-found : (sb total : ℕ) (bs : List ℕ) (x y q r c shared found : ℕ) → x ≤ q → y ≤ r → q + c ≤ total → r ≤ total → shared ≡ min x y
     → found ≡ cell_of sb total bs (q - x) (r - y) (c + shared) → found ≡ kept (pairs_of_sums sb bs (q - x) (r - y) (c + min x y))
 cell-found sb total bs x y q r c shared found first second room other lesser is =
-    is
-    ∙ ap (λ n. cell_of sb total bs (q - x) (r - y) (c + n)) lesser
-    ∙ cell-within sb total bs (q - x) (r - y) (c + min x y) (omega (arith, first, room)) (omega (arith, other))
+    cc (is, lesser, cell-within sb total bs (q - x) (r - y) (c + min x y) (omega (arith, first, room)) (omega (arith, other)))
 
 -- with no bounds there is one vector, which adds to 0
 no_pairs : (b : Bool) (n : ℕ) → 0 ≡ kept n → 0 ≡ cond b 0 (kept n)
@@ -141,14 +127,4 @@ one_pair true v = refl
 one_pair false v = refl
 
 pub last-zero : (sb total q r c : ℕ) (wanted : Bool) → q + r ≡ 0 → c ≤ total → is_wanted_size sb c ≡ wanted → kept (cond wanted 1 0) ≡ cell_of sb total [] q r c
-last-zero sb total q r c wanted none within is =
-    let vectors : bounded_sums 0 [] ≡ [] ∷ [] = sums-end in
-    let pairs : pairs_of_sums sb [] 0 0 c ≡ cond wanted 1 0 =
-    ap₂ (pairs_among sb c) vectors vectors
-    ∙ one_pair (is_wanted_size sb (0 + c)) []
-    ∙ ap (λ n. cond (is_wanted_size sb n) 1 0) {x = 0 + c} {y = c} (omega arith)
-    ∙ ap (λ (b : Bool). cond b 1 0) is in
-    sym (cell-within sb total [] q r c (omega (arith, none, within)) (omega (arith, none, within))
-    ∙ ap (λ n. kept (pairs_of_sums sb [] n r c)) {x = q} {y = 0} (omega (arith, none))
-    ∙ ap (λ n. kept (pairs_of_sums sb [] 0 n c)) {x = r} {y = 0} (omega (arith, none))
-    ∙ ap kept pairs)
+last-zero sb total q r c wanted none within is = grind (arith, sums-end, one_pair, cell-within)

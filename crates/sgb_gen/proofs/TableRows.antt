@@ -31,8 +31,7 @@ slice_get-rows width (suc count) zero entries h =
     ap (λ n. Some (take width (drop n entries))) start
 slice_get-rows width (suc count) (suc place) entries h =
     let start : width + place * width ≡ suc place * width = omega arith in
-    slice_get-rows width count place (drop width entries) (omega arith)
-    ∙ ap (λ row. Some (take width row)) (drop-drop (place * width) width entries ∙ ap (λ n. drop n entries) start)
+    cc (slice_get-rows width count place (drop width entries) (omega arith), drop-drop (place * width) width entries, start)
 
 -- and stands within them
 pub row_within : (width count place : ℕ) → place < count → place * width + width ≤ count * width

@@ -29,14 +29,7 @@ times-to n a c e = ap (λ m. m % n) e ∙ mul-mod_left c n
 
 -- equal products of a number that is not 0
 same_factor : (a b v : ℕ) → 0 < v → a * v ≡ b * v → a ≡ b
-same_factor a b v some e =
-    elim (cases_lt a b) [
-      | inl less ↦ absurd (omega (arith, e, some, mul-le (a + 1) v b v (omega arith) (omega arith)))
-      | inr more ↦ elim (cases_lt b a) [
-        | inl above ↦ absurd (omega (arith, e, some, mul-le (b + 1) v a v (omega arith) (omega arith)))
-        | inr below ↦ omega arith
-      ]
-    ]
+same_factor a b v some e = grind (arith, cases_lt, mul-le)
 
 -- ---- one step of the search
 
@@ -50,14 +43,7 @@ module _ (n v o : ℕ) (some : 0 < v) (below : v < n) (one : 0 < o) (few : o ≤
       omega (arith, times, some)
 
   pub times-some : 0 < o * n / v
-  times-some =
-      let product : 1 ≤ o * n = omega (arith, mul-le 1 1 o n (omega arith) (omega arith)) in
-      elim (cases_lt 0 (o * n / v)) [
-        | inl above ↦ above
-        | inr zero_times ↦
-            let none : o * n / v ≡ 0 = omega arith in
-            absurd (omega (arith, whole, product, ap (λ m. m * v) none))
-      ]
+  times-some = grind (arith, mul-le, cases_lt, whole)
 
   pub times-exact : (i : ℕ) → eqb (i * v % n) 0 ≡ eqb (i % (o * n / v)) 0
   times-exact i =
@@ -81,16 +67,13 @@ module _ (n v o : ℕ) (some : 0 < v) (below : v < n) (one : 0 < o) (few : o ≤
 
 -- no step leads back at once
 pub no-step : (n v i : ℕ) → v ≡ 0 → eqb (i * v % n) 0 ≡ eqb (i % 1) 0
-no-step n v i e =
-    let still : i * v ≡ 0 * n = ap (λ m. i * m) e ∙ omega arith in
-    both_zero (i * v % n) (i % 1) (λ _. omega arith) (λ _. times-to n (i * v) 0 still)
+no-step n v i e = grind (arith, both_zero, times-to)
 
 -- ---- steps of either sign
 
 pub abs-times : (l : ℕ) (u : ℤ) → nat_abs (pos l *ℤ u) ≡ l * nat_abs u
 abs-times l (pos a) = refl
-abs-times zero (negsuc a) = omega (arith, ints)
-abs-times (suc l) (negsuc a) = omega (arith, ints)
+abs-times _ _ = omega (arith, ints)
 
 -- what comes before a multiple of n leaves n - 1
 one_before : (n a c : ℕ) → 0 < n → suc a ≡ c * n → a % n ≡ n - 1
@@ -144,15 +127,11 @@ home-both h o l on some one each =
 
 -- on a side of n coordinates, i times so many steps
 pub around-home : (n steps r : ℕ) (t : ℤ) (i : ℕ) → 0 < n → eqb (i * (steps * nat_abs t % n) % n) 0 ≡ eqb (i % r) 0 → eqb (nat_abs (int_rem_euclid (pos (i * steps) *ℤ t) (pos n))) 0 ≡ eqb (i % r) 0
-around-home n steps r t i some e =
-    let size : nat_abs (pos (i * steps) *ℤ t) ≡ i * (steps * nat_abs t) = abs-times (i * steps) t ∙ omega arith in
-    rem-none n (pos (i * steps) *ℤ t) some ∙ ap (λ m. eqb (m % n) 0) size ∙ ap (λ m. eqb m 0) (sym (mul-mod_second i (steps * nat_abs t) n)) ∙ e
+around-home n steps r t i some e = grind (arith, abs-times, rem-none, mul-mod_second)
 
 -- a rider is away at each length before the least one at which it is home
 pub away-before : (home l : ℕ) → 0 < l → l ≤ home - 1 → eqb (l % home) 0 ≡ false
-away-before home l some before =
-    let same : l % home ≡ l = mod-eq_of_lt (omega arith) in
-    not_zero (l % home) (omega (arith, same, some))
+away-before home l some before = grind (arith, mod-eq_of_lt, not_zero)
 
 pub home-at : (home : ℕ) → 0 < home → eqb ((home - 1 + 1) % home) 0 ≡ true
 home-at home some = eq-eqb ((home - 1 + 1) % home) 0 (times-to home (home - 1 + 1) 1 (omega (arith, some)))

@@ -236,12 +236,11 @@ module _ (b : BoardData) (t : List ℤ) (x : List ℕ) (there : Contains (box b.
 
   unpaired : (ps qs : List (ℕ × ℕ)) → map pair ps ≡ map pair qs → ps ≡ qs
   unpaired [] [] e = refl
-  unpaired [] (q ∷ qs) e = absurd cc
-  unpaired (p ∷ ps) [] e = absurd cc
   unpaired (p ∷ ps) (q ∷ qs) e =
       let first : p.0 ≡ q.0 = ap (λ vs. get_or (get_or vs 0 []) 0 0) e in
       let second : p.1 ≡ q.1 = ap (λ vs. get_or (get_or vs 0 []) 1 0) e in
       ap₂ (λ v l. (v, l) ∷ ps) first second ∙ ap (λ rest. q ∷ rest) (unpaired ps qs (ap (λ vs. drop 1 vs) e))
+  unpaired _ _ e = absurd cc
 
   paired : (ps qs : List (ℕ × ℕ)) → All (Contains qs) ps → All (Contains (map pair qs)) (map pair ps)
   paired ps qs h = All-map (Contains (map pair qs)) pair ps (λ k d within. Contains-image pair qs (get_or ps k d) (h k d within))

@@ -32,9 +32,7 @@ rows_turned-next w (suc i) xs h =
     let place = i * w in
     let before : take (suc i * w) (front ++ back) ≡ front ++ take place back = ap (λ k. take k (front ++ back)) (sym start) ∙ take-append-add front back place in
     let after : drop (suc i * w) (front ++ back) ≡ drop place back = ap (λ k. drop k (front ++ back)) (sym start) ∙ drop-append-add front back place in
-    ap (λ es. front ++ es) (rows_turned-next w i (drop w xs) room)
-    ∙ sym (append_assoc front (take place back) (reverse (take w (drop place back)) ++ drop w (drop place back)))
-    ∙ ap₂ (λ es fs. es ++ (reverse (take w fs) ++ drop w fs)) (sym before) (sym after)
+    cc (rows_turned-next w i (drop w xs) room, append_assoc front (take place back) (reverse (take w (drop place back)) ++ drop w (drop place back)), before, after)
 
 -- all rows but the last, and the last
 rows_turned-last : (w n : ℕ) (xs row : List ℕ) → length xs ≡ n * w → length row ≡ w → rows_turned w (suc n) (xs ++ row) ≡ rows_turned w n xs ++ reverse row
@@ -90,8 +88,7 @@ arcs_in-append w (t ∷ ts) us [] ms long = absurd (omega arith)
 arcs_in-append w ts us (n ∷ ns) ms long =
     let room : w ≤ length ts = omega arith in
     let left : length (drop w ts) ≡ length ns * w = omega (arith, length-drop w ts) in
-    ap₂ (λ row rows. record { tip = row; len = pos n } ∷ arcs_in w rows (ns ++ ms)) (take-append-le w ts us room) (drop-append-le w ts us room)
-    ∙ ap (λ arcs. record { tip = take w ts; len = pos n } ∷ arcs) (arcs_in-append w (drop w ts) us ns ms left)
+    cc (take-append-le w ts us room, drop-append-le w ts us room, arcs_in-append w (drop w ts) us ns ms left)
 
 -- those from one on turned round
 pub arcs_in-turned : (w first start : ℕ) (tips lens : List ℕ) → length tips ≡ length lens * w → first ≤ length lens → start ≡ first * w
@@ -118,11 +115,7 @@ arcs_in-turned w first start tips lens long within at =
 -- arcs that are put behind others, and then turned round
 pub turned_behind : (old pushed between : LinksData) (first : ℕ) (behind : List LocalArc) → pushed ≡ record { width = old.width; arcs = old.arcs ++ behind } → first ≡ length old.arcs
     → between ≡ record { width = pushed.width; arcs = take first pushed.arcs ++ reverse (drop first pushed.arcs) } → between ≡ record { width = old.width; arcs = old.arcs ++ reverse behind }
-turned_behind old pushed between first behind is at e =
-    let arcs : take first pushed.arcs ++ reverse (drop first pushed.arcs) ≡ old.arcs ++ reverse behind =
-    ap (λ d. take first d.arcs ++ reverse (drop first d.arcs)) is
-    ∙ ap₂ (λ p q. p ++ reverse q) (take_at old.arcs behind first (sym at)) (drop_at old.arcs behind first (sym at)) in
-    e ∙ ap₂ (λ w ls. record { width = w; arcs = ls }) (ap (λ d. d.width) is) arcs
+turned_behind old pushed between first behind is at e = grind (arith, take_at, drop_at)
 
 -- the arcs by one edge: both of them are the same where it leads to x itself
 pub edge_turned : (x : List ℕ) (l : ℕ) (o : Option (List ℕ)) → reverse (edge_arcs x l o) ≡ edge_arcs x l o

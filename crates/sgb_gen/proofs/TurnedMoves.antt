@@ -36,8 +36,7 @@ alike-rem n z w h (i, j, e) =
     let (k, m, up) = lifted n z h in
     let one : z +ℤ pos ((i + k) * n) ≡ pos (m + i * n) = omega (arith, ints, up) in
     let two : w +ℤ pos ((j + k) * n) ≡ pos (m + i * n) = omega (arith, ints, up, e) in
-    int_rem_euclid_is z (pos n) n (i + k) (m + i * n) h refl one
-    ∙ sym (int_rem_euclid_is w (pos n) n (j + k) (m + i * n) h refl two)
+    cc (int_rem_euclid_is z (pos n) n (i + k) (m + i * n) h refl one, int_rem_euclid_is w (pos n) n (j + k) (m + i * n) h refl two)
 
 -- what is left of a number is like it
 alike-left : (n : ℕ) (z : ℤ) → 0 < n → AreAlike n (pos (nat_abs (int_rem_euclid z (pos n)))) z
@@ -77,8 +76,7 @@ in_front-parts (Some c) (Some w) x v e =
     let first : c ≡ x = cc in
     let rest : w ≡ v = cc in
     (ap Some first, ap Some rest)
-in_front-parts (Some c) None x v e = absurd (cc)
-in_front-parts None p x v e = absurd (cc)
+in_front-parts _ _ x v e = absurd (cc)
 
 pub in_front-some : (o : Option ℕ) (p : Option (List ℕ)) → in_front o p ≢ Some []
 in_front-some (Some c) (Some w) e = absurd (cc)
@@ -105,9 +103,7 @@ side_turned : (wraps : Bool) (n w : ℕ) (z u : ℤ) (a b : ℕ) → 0 < n → o
 side_turned true n w z u a b h e =
     let far = z +ℤ pos (a + b) *ℤ u in
     let left : nat_abs (int_rem_euclid far (pos n)) ≡ w = cc in
-    ap (λ c. Some (nat_abs (int_rem_euclid (pos c +ℤ pos b *ℤ neg_ℤ u) (pos n)))) (sym left)
-    ∙ ap Some (rem-moved n far (pos b *ℤ neg_ℤ u) h)
-    ∙ ap (λ y. Some (nat_abs (int_rem_euclid y (pos n)))) (back z u a b)
+    cc (left, rem-moved n far (pos b *ℤ neg_ℤ u) h, back z u a b)
 side_turned false n w z u a b h e =
     let far = z +ℤ pos (a + b) *ℤ u in
     ap (λ y. within_size n (y +ℤ pos b *ℤ neg_ℤ u)) (sym (within_is n far w e)) ∙ ap (within_size n) (back z u a b)
@@ -135,20 +131,17 @@ side_start wraps n z u h =
 
 pub place_start : (sides : List Side) (y : List ℕ) (t : List ℤ) (l : ℕ) (x : List ℕ) → IsBelow y (map (λ s. s.size) sides) → place sides y t l ≡ Some x → place sides y t 0 ≡ Some y
 place_start [] [] t l x h e = refl
-place_start [] (z ∷ y) t l x h e = absurd h
-place_start (s ∷ sides) [] t l x h e = absurd h
 place_start (s ∷ sides) (z ∷ y) [] l x h e = absurd (cc)
 place_start (s ∷ sides) (z ∷ y) (u ∷ t) l [] h e =
     absurd (in_front-some (coordinate_on s (pos z +ℤ pos l *ℤ u)) (place sides y t l) e)
 place_start (s ∷ sides) (z ∷ y) (u ∷ t) l (w ∷ x) h e =
     let parts = in_front-parts (coordinate_on s (pos z +ℤ pos l *ℤ u)) (place sides y t l) w x e in
     ap₂ in_front (side_start s.wraps s.size z u h.0) (place_start sides y t l x h.1 parts.1)
+place_start _ _ t l x h e = absurd h
 
 -- as many steps back lead to the start
 pub place_home : (sides : List Side) (y : List ℕ) (t : List ℤ) (l : ℕ) (x : List ℕ) → IsBelow y (map (λ s. s.size) sides) → place sides y t l ≡ Some x → place sides x (opposite t) l ≡ Some y
-place_home sides y t l x h e =
-    let whole : 0 + l ≡ l = omega arith in
-    place_turned sides y t x 0 l h (ap (place sides y t) whole ∙ e) ∙ place_start sides y t l x h e
+place_home sides y t l x h e = grind (arith, place_turned, place_start)
 
 -- where a steps and a + k lead to the same place, k lead to the start
 pub places_apart : (sides : List Side) (y : List ℕ) (t : List ℤ) (a k : ℕ) (x : List ℕ) → IsBelow y (map (λ s. s.size) sides) → place sides y t a ≡ Some x → place sides y t (a + k) ≡ Some x → place sides y t k ≡ Some y

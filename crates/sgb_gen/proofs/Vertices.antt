@@ -1,5 +1,5 @@
 -- The vertices of a family by their vectors.
-use Rattle.std.proofs.Common.{◌≡◌, ◌≢◌, ℕ, zero, suc, ◌+◌, true, false, not, cond, List, [], ◌∷◌, Some, refl, sym, ap, ◌∙◌, inl, inr, arith}
+use Rattle.std.proofs.Common.{rules, ◌≡◌, ◌≢◌, ℕ, zero, suc, ◌+◌, true, false, not, cond, List, [], ◌∷◌, Some, refl, sym, ap, ◌∙◌, arith}
 use Rattle.std.specs.Cmp.Lexicographic.{bytes_decides}
 use Rattle.std.specs.List.{slice_get, position_or_len}
 use Rattle.std.proofs.lemmas.Bool.{cases_Bool}
@@ -15,11 +15,7 @@ same_is v = (bytes_decides v v).1 refl
 
 -- or not
 pub other_is : (v w : List ℕ) → v ≢ w → same_vector v w ≡ false
-other_is v w other =
-    elim (cases_Bool (same_vector v w)) [
-      | inl same ↦ absurd (other ((bytes_decides v w).0 same))
-      | inr apart ↦ apart
-    ]
+other_is v w other = search (rules, cases_Bool)
 
 -- the vertex of a vector that stands at one place alone
 pub vertex_at : (vectors : List (List ℕ)) (i : ℕ) (v : List ℕ) → slice_get vectors i ≡ Some v → ((j : ℕ) → slice_get vectors j ≡ Some v → j ≡ i) → vertex_among vectors v ≡ i
@@ -35,8 +31,7 @@ vertex_at (w ∷ ws) (suc i) v at only =
 -- of a box, the vertex of a vector is its place
 pub vertex_in_box : (sizes v : List ℕ) (i : ℕ) → slice_get (box sizes) i ≡ Some v → vertex_among (box sizes) v ≡ i
 vertex_in_box sizes v i at =
-    vertex_at (box sizes) i v at
-    (λ j there. sym (StandsAt-from_slice_get sizes v j there).place ∙ (StandsAt-from_slice_get sizes v i at).place)
+    cc (vertex_at (box sizes) i v at (λ j there. sym (StandsAt-from_slice_get sizes v j there).place ∙ (StandsAt-from_slice_get sizes v i at).place))
 
 -- a vector that stands in a box is below its sizes
 pub below_in_box : (sizes v : List ℕ) (i : ℕ) → slice_get (box sizes) i ≡ Some v → IsBelow v sizes

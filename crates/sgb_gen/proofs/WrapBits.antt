@@ -1,7 +1,7 @@
 -- The bits of a number of 64 bits in two's complement.
 use lib.Signed.{shr_z}
 use lib.Bits.{bit_and}
-use Rattle.std.proofs.Common.{◌≡◌, ℕ, suc, ◌+◌, ◌-◌, ◌/◌, ◌%◌, ◌^◌, ◌<◌, ℤ, pos, negsuc, eqb, min, to_z, of_z, w64, FitsSigned, ap, sym, ◌∙◌, inl, inr, arith}
+use Rattle.std.proofs.Common.{◌≡◌, ℕ, suc, ◌+◌, ◌-◌, ◌/◌, ◌%◌, ◌^◌, ◌<◌, ℤ, pos, negsuc, eqb, min, to_z, of_z, w64, FitsSigned, ap, ◌∙◌, arith}
 use Rattle.std.proofs.Math.Nat.{div-eq_of_lt, pow-le-pow_right}
 use Rattle.std.proofs.lemmas.Bool.{cases_lt}
 use Rattle.std.proofs.lemmas.Bool.Decides.{nat_tests}
@@ -11,14 +11,7 @@ use Rattle.sgb_gen.specs.Moves.{is_bit_set}
 
 -- the bits after the 63rd are those of the sign
 shr-min : (n k : ℕ) → n < 2 ^ 63 → n / 2 ^ (min k 63) ≡ n / 2 ^ k
-shr-min n k h =
-    elim (cases_lt k 63) [
-      | inl low ↦ ap (λ m. n / 2 ^ m) (omega arith)
-      | inr high ↦
-          let last : min k 63 ≡ 63 = omega arith in
-          let far : n < 2 ^ k = omega (arith, pow-le-pow_right {n = 2} (omega arith) high) in
-          ap (λ m. n / 2 ^ m) last ∙ div-eq_of_lt h ∙ sym (div-eq_of_lt far)
-    ]
+shr-min n k h = grind (arith, cases_lt, pow-le-pow_right, div-eq_of_lt)
 
 -- the lowest bit of a number, and of a negative one
 low_bit : (n : ℕ) → eqb (bit_and n 1) 1 ≡ eqb (n % 2) 1

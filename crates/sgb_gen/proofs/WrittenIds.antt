@@ -1,5 +1,5 @@
 -- The texts of ids, parameter by parameter.
-use Rattle.std.proofs.Common.{◌≡◌, ℕ, ℤ, List, [], ◌∷◌, ◌++◌, codes, refl, sym, ap, ◌∙◌, append_assoc, append-nil}
+use Rattle.std.proofs.Common.{arith, ◌≡◌, ℕ, ℤ, List, [], ◌∷◌, ◌++◌, codes, refl, sym, ap, ◌∙◌, append_assoc, append-nil}
 use Rattle.std.specs.Fmt.{signed_decimal}
 use Rattle.std.specs.List.{join_with_byte}
 use Rattle.std.proofs.lemmas.List.Concat.{flat_map-append}
@@ -31,33 +31,14 @@ four_texts a n m f = ap (λ t. t ++ f) (append_assoc a n m) ∙ append_assoc a (
 -- the id of a board as it is written
 pub board_id-written : (b : BoardData) → (((codes "board(" ++ numbers_text b.params) ++ numbers_text (b.piece ∷ b.wrap ∷ [])) ++ flag_text b.directed) ++ codes ")" ≡ board_id b
 unfolding board_id
-board_id-written b =
-    let ns = numbers_text b.params in
-    let ms = numbers_text (b.piece ∷ b.wrap ∷ []) in
-    let flag = flag_text b.directed in
-    let all : numbers_text (b.params ++ (b.piece ∷ b.wrap ∷ [])) ≡ ns ++ ms = flat_map-append (λ n. signed_decimal n ++ codes ",") b.params (b.piece ∷ b.wrap ∷ []) in
-    ap (λ t. t ++ codes ")")
-    (four_texts (codes "board(") ns ms flag
-    ∙ ap (λ t. codes "board(" ++ t) (ap (λ t. t ++ flag) (sym all) ∙ sym (join_numbers (b.params ++ (b.piece ∷ b.wrap ∷ [])) flag)))
+board_id-written b = grind (arith, flat_map-append, four_texts, join_numbers)
 
 -- the id of subsets as it is written
 pub subsets_id-written : (s : SubsetsData) → ((((codes "subsets(" ++ numbers_text s.params) ++ hexadecimal_text s.size_bits) ++ codes ",") ++ flag_text s.directed) ++ codes ")" ≡ subsets_id s
 unfolding subsets_id
-subsets_id-written s =
-    let ns = numbers_text s.params in
-    let bits = hexadecimal_text s.size_bits in
-    let flag = flag_text s.directed in
-    let joined : join_with_byte 44 (integer_texts s.params ++ bits ∷ flag ∷ []) ≡ ns ++ (bits ++ (codes "," ++ flag)) = join_numbers_before s.params bits (flag ∷ []) in
-    ap (λ t. t ++ codes ")")
-    (append_assoc ((codes "subsets(" ++ ns) ++ bits) (codes ",") flag
-    ∙ append_assoc (codes "subsets(" ++ ns) bits (codes "," ++ flag)
-    ∙ append_assoc (codes "subsets(") ns (bits ++ (codes "," ++ flag))
-    ∙ ap (λ t. codes "subsets(" ++ t) (sym joined))
+subsets_id-written s = grind (arith, join_numbers_before, append_assoc)
 
 -- the id of a simplex as it is written
 pub simplex_id-written : (s : SimplexData) → ((codes "simplex(" ++ numbers_text s.params) ++ flag_text s.directed) ++ codes ")" ≡ simplex_id s
 unfolding simplex_id
-simplex_id-written s =
-    let flag = flag_text s.directed in
-    ap (λ t. t ++ codes ")")
-    (append_assoc (codes "simplex(") (numbers_text s.params) flag ∙ ap (λ t. codes "simplex(" ++ t) (sym (join_numbers s.params flag)))
+simplex_id-written s = grind (arith, append_assoc, join_numbers)

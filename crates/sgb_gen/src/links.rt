@@ -1,5 +1,5 @@
 //! The arcs of one vertex, with the vectors where they lead.
-ghost use Rattle.std.specs.Prelude.{◌≡◌, ◌≢◌, ◌<◌, pos, true, [], ◌∷◌, ◌++◌, ◌*◌, ◌≤◌, length, take, drop, reverse, slice_get, Some, All, OnOk, OnErr, IsOkUnless};
+ghost use Rattle.std.specs.Prelude.{◌≡◌, ◌≢◌, ◌<◌, pos, true, [], ◌∷◌, ◌++◌, ◌*◌, ◌-◌, ◌≤◌, length, take, drop, reverse, slice_get, Some, All, OnOk, OnErr, IsOkUnless};
 ghost use Rattle.sgb_gen.specs.LocalLists.{LinksData, LocalArc};
 ghost use Rattle.sgb_gen.specs.inner.LocalArcs.{rows_turned};
 ghost use Rattle.sgb_gen.specs.MovedCoordinates.{parts_put};
@@ -9,6 +9,7 @@ ghost use Rattle.sgb_gen.specs.Simplexes.{can_move_unit, unit_moved};
 use crate::moves::put_parts;
 use crate::shifts::move_unit;
 use crate::steps::Part;
+use crate::vector_tables::row;
 use sgb_vec::Panic;
 use std::alloc::Global;
 use std::marker::Model;
@@ -87,10 +88,8 @@ impl Links {
         requires { i < length self.now.arcs }
         ensures { slice_get self.now.arcs i ≡ Some result }
     {
-        let tips = self.tips.as_slice();
-        let start = i * self.width;
         LocalArcRef {
-            tip: &tips[start..start + self.width],
+            tip: row(self.tips.as_slice(), self.width, i),
             len: self.lens[i],
         }
     }
@@ -221,7 +220,7 @@ impl Links {
         let tips = self.tips.as_mut_slice();
         let lens = self.lens.as_mut_slice();
         let start = first * width;
-        turn_arcs(&mut tips[start..], &mut lens[first..], width);
+        turn_from(tips, lens, first, start, width);
     }
 
     // Hands out room for the starts of moves, which is empty; its memory comes from where that of the links does.
@@ -259,6 +258,18 @@ impl Links {
     {
         self.entries = entries;
     }
+}
+
+// Turns the arcs from this one on round, whose vectors have this width and begin there.
+fn turn_from(tips: &mut [u32], lens: &mut [u32], first: usize, start: usize, width: usize)
+    requires tips { start ≤ length tips.old }
+    requires lens { first ≤ length lens.old }
+    requires left { length tips.old - start ≡ (length lens.old - first) * width }
+    ensures tips { tips.new ≡ take start tips.old
+        ++ rows_turned width (length (drop first lens.old)) (reverse (drop start tips.old)) }
+    ensures lens { lens.new ≡ take first lens.old ++ reverse (drop first lens.old) }
+{
+    turn_arcs(&mut tips[start..], &mut lens[first..], width);
 }
 
 // Turns arcs round whose vectors have this width: the last comes first.

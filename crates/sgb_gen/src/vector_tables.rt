@@ -1,4 +1,4 @@
-ghost use Rattle.std.specs.Prelude.{◌≡◌, ◌<◌, length, slice_get, Some, Contains, IfOk, IsOkUnless};
+ghost use Rattle.std.specs.Prelude.{◌≡◌, ◌<◌, ◌≤◌, ◌+◌, ◌*◌, length, take, drop, slice_get, Some, Contains, IfOk, IsOkUnless};
 ghost use Rattle.sgb_vec.specs.Lexicographic.{IsRising};
 
 use sgb_vec::{Family, Panic, Vectors};
@@ -61,9 +61,7 @@ impl VectorTable {
         requires { place < length self.now }
         ensures { slice_get self.now place ≡ Some result.now }
     {
-        let entries = self.entries.as_slice();
-        let start = place as usize * self.width;
-        &entries[start..start + self.width]
+        row(self.entries.as_slice(), self.width, place as usize)
     }
 
     /// The place of a vector among those of a table in lexicographic order, by binary search.
@@ -85,4 +83,14 @@ impl VectorTable {
         }
         low
     }
+}
+
+/// The row at this place, counted from 0, of rows that have this width and stand one after another.
+#[inline(always)]
+pub(crate) fn row(entries: &[u32], width: usize, place: usize) -> &[u32]
+    requires { place * width + width ≤ length entries.now }
+    ensures { result.now ≡ take width (drop (place * width) entries.now) }
+{
+    let start = place * width;
+    &entries[start..start + width]
 }

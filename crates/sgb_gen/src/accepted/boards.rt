@@ -18,7 +18,7 @@ mod lists;
 mod runs;
 
 use crate::displacements::Displacements;
-use crate::moves::{destination, entry_bounds};
+use crate::moves::entry_bounds;
 use crate::params::BoardParams;
 use crate::steps::{Parts, Step, put_parts_of};
 use crate::vector_graphs::{put_coordinates, vector_names};
@@ -123,6 +123,14 @@ impl Board {
         &self.family
     }
 
+    // The sizes of the board.
+    #[inline(always)]
+    fn sizes(&self) -> &[u32]
+        ensures { result.now ≡ self.now.sizes }
+    {
+        self.shape.sizes()
+    }
+
     /// The id of the board's graph: `board(n1,n2,n3,n4,piece,wrap,directed)`, with 0 for what stands after the
     /// parameter that ends the sizes, and 1 for a piece of 0 (GB_BASIC, board).
     pub fn id(&self) -> Id
@@ -167,7 +175,7 @@ impl Board {
         ensures small { All (λ t. All (λ e. nat_abs e ≤ most_piece) t) result }
     {
         let piece = self.piece.unsigned_abs() as u32;
-        let bounds = entry_bounds(self.shape.sizes(), self.wrap, piece);
+        let bounds = entry_bounds(self.sizes(), self.wrap, piece);
         Displacements::new(piece, bounds)
     }
 
@@ -191,10 +199,19 @@ impl Board {
             (destination (sides_of self.now.sizes self.now.wrap) self.now.piece x.now t.now l) }
         ensures within { IfSome result (λ v. v < length (box self.now.sizes)) }
     {
-        if !destination(self.shape.sizes(), self.wrap, self.piece, x, t, l, there) {
+        if !self.lands(x, t, l, there) {
             return None;
         }
-        Some(self.family.place_of(there.as_slice()))
+        Some(self.vertex_of(there.as_slice()))
+    }
+
+    // The vertex of `x`.
+    fn vertex_of(&self, x: &[u32]) -> u32
+        requires { IsBelow x.now self.now.sizes }
+        ensures vertex { result ≡ vertex_among (box self.now.sizes) x.now }
+        ensures within { result < length (box self.now.sizes) }
+    {
+        self.family.place_of(x)
     }
 
     // Adds the moves from vertex `u`, which is the vector `x`, by the displacement `t`.
@@ -215,11 +232,11 @@ impl Board {
             (moves_from (sides_of self.now.sizes self.now.wrap) self.now.piece x.now t.now))) }
         ensures memory { IsOkUnless result Panic.NoRoom }
     {
-        for l in 1..=self.longest_move() {
-            let Some(v) = self.vertex_at(x, t, l, there) else {
+        for shorter in 0..self.longest_move() {
+            let Some(v) = self.vertex_at(x, t, shorter + 1, there) else {
                 return Ok(());
             };
-            graph.add_event(self.directed, u, v, i64::from(l))?;
+            graph.add_event(self.directed, u, v, i64::from(shorter + 1))?;
         }
         Ok(())
     }

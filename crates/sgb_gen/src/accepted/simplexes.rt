@@ -1,6 +1,7 @@
-ghost use Rattle.std.specs.Prelude.{◌≡◌, ◌⊎◌, Err, ◌<◌, length, map, slice_get, Contains, Some, None, Ok, IfSome, OnOk, IsOkUnless, if◌then◌else◌};
+ghost use Rattle.std.specs.Prelude.{◌≡◌, ◌⊎◌, Err, ◌<◌, ◌≤◌, ◌+◌, length, map, slice_get, Contains, Some, None, Ok, IfSome, OnOk, IsOkUnless, if◌then◌else◌};
 ghost use Rattle.sgb_gen.specs.Simplexes.{accepted_simplex, simplex_id, can_shift, shifted, pairs_from, moves_by, moves_to, moves_of_simplex, simplex_vectors, simplex_graph};
 ghost use Rattle.sgb_vec.specs.Bounds.{simplex_of};
+ghost use Rattle.sgb_vec.specs.Limits.{most_dimensions};
 ghost use Rattle.sgb_graph.specs.Descriptions.{IsAnswerOf};
 ghost use Rattle.sgb_graph.specs.Growth.{AddsEvents, HasPlainArcs};
 ghost use Rattle.sgb_gen.specs.VectorGraphs.{event_among, vertex_among};
@@ -105,6 +106,15 @@ impl Simplex {
         &self.family
     }
 
+    // The bounds of its vectors.
+    #[inline(always)]
+    fn sizes(&self) -> &[u32]
+        ensures same { result.now ≡ self.now.sum.bounds }
+        ensures few { length self.now.sum.bounds ≤ most_dimensions + 1 }
+    {
+        self.shape.sizes()
+    }
+
     /// The id of the simplex's graph: `simplex(n,n0,n1,n2,n3,n4,directed)`, with -2 for an `n0` of 0, with `n`
     /// for a bound above it, and with 0 for what stands after the parameter that ends the bounds (GB_BASIC,
     /// simplex).
@@ -150,7 +160,7 @@ impl Simplex {
             (shifted x.now (record { lower = lower; higher = higher }))) else None) }
         ensures within { IfSome result (λ u. u < length (simplex_vectors self.now)) }
     {
-        let bounds = self.shape.sizes();
+        let bounds = self.sizes();
         if !can_move_unit(bounds, x, lower, higher) {
             return None;
         }

@@ -121,6 +121,14 @@ impl Subsets {
         &self.family
     }
 
+    // The bounds of its vectors.
+    #[inline(always)]
+    fn sizes(&self) -> &[u32]
+        ensures { result.now ≡ self.now.sum.bounds }
+    {
+        self.shape.sizes()
+    }
+
     /// The id of the graph of subsets: `subsets(n,n0,n1,n2,n3,n4,0xH,directed)`, with no bound above `n`, -2 for an
     /// `n0` of 0 and 0 for what stands after the parameter that ends the bounds; H is `size_bits` in hexadecimal
     /// (GB_BASIC, subsets).

@@ -1,4 +1,4 @@
-use Rattle.std.proofs.Common.{◌≡◌, ℕ, suc, ◌+◌, ◌*◌, ◌≤◌, List, ◌++◌, length, reverse, take, drop, sym, ap, ◌∙◌, arith}
+use Rattle.std.proofs.Common.{rules, ◌≡◌, ℕ, suc, ◌+◌, ◌*◌, ◌≤◌, List, ◌++◌, length, reverse, take, drop, arith}
 use Rattle.sgb_gen.specs.inner.LocalArcs.{rows_turned}
 use Rattle.sgb_gen.proofs.TurnedLinks.{rows_turned-next}
 use Rattle.sgb_gen.proofs.TableRows.{row_within}
@@ -8,12 +8,7 @@ use Rattle.sgb_gen.proofs.links.turn_rows.Goals as goal
 row_turned : (w i k : ℕ) (xs entries row : List ℕ) → suc i * w ≤ length xs → entries ≡ rows_turned w i xs → k ≡ w → row ≡ reverse (take k (drop (i * w) entries)) → take (i * w) entries ++ (row ++ drop k (drop (i * w) entries)) ≡ rows_turned w (i + 1) xs
 row_turned w i k xs entries row room before wide turned =
     let one : suc i ≡ i + 1 = omega arith in
-    ap (λ r. take (i * w) entries ++ (r ++ drop k (drop (i * w) entries))) turned
-    ∙ ap (λ n. take (i * w) entries ++ (reverse (take n (drop (i * w) entries)) ++ drop n (drop (i * w) entries))) wide
-    ∙ ap (λ es. take (i * w) es ++ (reverse (take w (drop (i * w) es)) ++ drop w (drop (i * w) es))) before
-    ∙ sym (rows_turned-next w i xs room)
-    ∙ ap (λ n. rows_turned w n xs) one
+    cc (turned, wide, before, rows_turned-next w i xs room, one)
 
 pub loop-i-preserved : goal.loop-i-preserved
-loop-i-preserved c =
-    row_turned c.args.width c.loop-i.i _ c.args.entries.now c.loop-i.entries c.reverse.new.self (omega (arith, row_within c.args.width c.args.count c.loop-i.i (omega arith), c.requires)) c.loop-i.invariant (omega arith) c.reverse.ensures.after
+loop-i-preserved c = search (rules, row_turned, row_within)

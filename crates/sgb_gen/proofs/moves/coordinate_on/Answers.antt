@@ -1,5 +1,5 @@
 use lib.Signed.{le_z, lt_z}
-use Rattle.std.proofs.Common.{◌≡◌, ℕ, ℤ, pos, negsuc, Bool, true, Some, nat_abs, to_z, of_z, w64, ◌∙◌, sym, ap, ap₂, true≢false, rules}
+use Rattle.std.proofs.Common.{◌≡◌, ℕ, ℤ, pos, negsuc, Bool, true, Some, nat_abs, sym, true≢false, rules}
 use Rattle.std.proofs.lemmas.Bool.{ltb-true}
 use Rattle.std.proofs.lemmas.Int.{to_z-of_z}
 use Rattle.sgb_gen.specs.Moves.{coordinate_on}
@@ -12,9 +12,4 @@ within_side w n (pos a) some below = sym (side_itself w n a (ltb-true a n below)
 within_side w n (negsuc a) some below = absurd (true≢false (sym some))
 
 pub returns-then-y-from : goal.returns-then-y-from
-returns-then-y-from c =
-    let y = c.args.y in
-    let same : to_z w64 (of_z w64 y) ≡ y = to_z-of_z w64 y c.ranges.y in
-    let size : to_z w64 (of_z w64 c.from.result) ≡ pos c.args.size = ap (λ z. to_z w64 (of_z w64 z)) c.from.ensures ∙ to_z-of_z w64 (pos c.args.size) (search rules) in
-    ap (λ z. Some (nat_abs z)) same
-    ∙ within_side c.args.wraps c.args.size y (ap (le_z (pos 0)) (sym same) ∙ c.if-y-ge0.true) (ap₂ lt_z (sym same) (sym size) ∙ c.if-y-from.true)
+returns-then-y-from c = search (rules, to_z-of_z, within_side, le_z, lt_z)

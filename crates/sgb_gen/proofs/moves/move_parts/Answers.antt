@@ -2,18 +2,11 @@ use Rattle.std.proofs.Common.{◌≡◌, ◌+◌, ℤ, Some, drop, set, w32, w64
 use Rattle.std.proofs.lemmas.Int.{to_z-of_z}
 use Rattle.std.specs.Option.{is_some, unwrap_or}
 use Rattle.sgb_gen.specs.MovedCoordinates.{part_at, parts_put}
-use Rattle.sgb_gen.specs.inner.MovedCoordinates.{parts_stay}
 use Rattle.sgb_gen.proofs.PartReaches.{part_of, put_more, stay_more, stay_out}
 use Rattle.sgb_gen.proofs.moves.move_parts.Goals as goal
 
 pub returns-in_default-clause-stay : goal.returns-in_default-clause-stay
-returns-in_default-clause-stay c =
-    let wrap : ℤ = to_z w64 (of_z w64 c.args.wrap) in
-    let p = part_of c.args.parts.now c.loop-k.k-index in
-    let here : c.part_at.result ≡ part_at c.args.sizes.now wrap c.args.x.now c.args.l p =
-    c.part_at.ensures ∙ ap (λ a. part_at c.args.sizes.now wrap c.args.x.now c.args.l (p.0, a)) (to_z-of_z w32 p.1 (search rules)) in
-    sym (ap (λ w. parts_stay c.args.sizes.now w c.args.x.now c.args.l c.args.parts.now) (sym (to_z-of_z w64 c.args.wrap c.ranges.wrap)) ∙ sym c.loop-k.invariant.0
-    ∙ stay_out c.args.sizes.now wrap c.args.x.now c.args.l c.args.parts.now c.loop-k.k-index (omega arith) (ap is_some (sym here ∙ c.in_default.is)))
+returns-in_default-clause-stay c = search (rules, part_of, to_z-of_z, stay_out)
 
 pub loop-k-preserved : goal.loop-k-preserved
 loop-k-preserved c =

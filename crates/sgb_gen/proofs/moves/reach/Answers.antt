@@ -1,14 +1,9 @@
 use Rattle.std.proofs.Common.{◌+◌, ◌+ℤ◌, ◌*ℤ◌, ℕ, ℤ, pos, get_or, w32, w64, to_z, of_z, sym, ap₂, ◌∙◌, arith, rules}
 use Rattle.std.proofs.lemmas.Int.{to_z-of_z}
-use Rattle.std.proofs.lemmas.List.{take_all}
 use Rattle.std.specs.Option.{is_some}
 use Rattle.sgb_gen.specs.Moves.{coordinate_on}
-use Rattle.sgb_gen.specs.inner.MovedCoordinates.{parts_stay}
-use Rattle.sgb_gen.proofs.PartReaches.{part_of, reach-more, reach-none}
+use Rattle.sgb_gen.proofs.PartReaches.{part_of, reach-more}
 use Rattle.sgb_gen.proofs.moves.reach.Goals as goal
-
-pub loop-k-init : goal.loop-k-init
-loop-k-init c = reach-none c.args.sizes.now (to_z w64 (of_z w64 c.args.wrap)) c.args.x.now c.args.most c.args.parts.now
 
 pub loop-k-preserved : goal.loop-k-preserved
 loop-k-preserved c =
@@ -20,8 +15,3 @@ loop-k-preserved c =
     reach-more sizes wrap x c.args.most c.args.parts.now c.loop-k.k-index c.loop-k.reach c.steps_on-reach.result (omega arith) c.loop-k.invariant c.steps_on-reach.ensures.within
     (λ m h. sym (read m) ∙ c.steps_on-reach.ensures.stay m h)
     (λ h. sym (read (c.steps_on-reach.result + 1)) ∙ c.steps_on-reach.ensures.end h)
-
-pub returns-clause-stay : goal.returns-clause-stay
-returns-clause-stay c l within =
-    ap₂ (λ w ps. parts_stay c.args.sizes.now w c.args.x.now l ps) (sym (to_z-of_z w64 c.args.wrap c.ranges.wrap)) (sym (take_all c.loop-k.k-index c.args.parts.now (omega arith)))
-    ∙ c.loop-k.invariant.stay l within

@@ -1,7 +1,7 @@
-use Rattle.std.proofs.Common.{◌≡◌, ℤ, pos, to_z, of_z, w64, slice_index, ◌∙◌, arith, rules}
+use Rattle.std.proofs.Common.{◌≡◌, ℤ, pos, to_z, of_z, w64, slice_index, ◌∙◌, rules}
 use Rattle.std.proofs.lemmas.Int.{to_z-of_z}
 use Rattle.sgb_gen.proofs.Coordinates.{PutsCoordinates, coordinates-more}
-use Rattle.sgb_gen.proofs.FamilyWalks.{at_front, next_left, none_left}
+use Rattle.sgb_gen.proofs.FamilyWalks.{at_front, next_left}
 use Rattle.sgb_gen.proofs.vector_graphs.put_coordinates.Goals as goal
 
 pub loop-u-preserved : goal.loop-u-preserved
@@ -21,8 +21,3 @@ loop-u-preserved g c =
       next_left vectors c.loop-u.left c.advance-some.new.self u c.loop-u.invariant.0 c.advance-some.ensures.rest,
       coordinates-more vectors u v c.args.graph.now now new here c.loop-u.invariant.1 put,
     )
-
-pub returns-in_default : goal.returns-in_default
-returns-in_default g c =
-    let past = none_left (g.F.Family.members c.args.family.now) _ c.loop-u.u c.loop-u.invariant.0 (rw c.in_default.is at c.front.ensures.none) in
-    absurd (omega (arith, past, c.size-u-end.ensures))

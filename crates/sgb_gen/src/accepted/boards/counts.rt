@@ -10,8 +10,7 @@ ghost use Rattle.sgb_gen.specs.inner.BoardCounts.{starts_on, is_home_on, starts_
 ghost use Rattle.sgb_gen.specs.inner.Moves.{longest_move};
 
 use super::Board;
-use crate::displacements::Displacements;
-use crate::moves::{entry_bounds, wraps};
+use crate::moves::wraps;
 use sgb_vec::{Family, Panic};
 
 impl Board {
@@ -43,10 +42,8 @@ impl Board {
         ensures some { IfSome result (λ n. n ≡ length (moves_of_board self.now)) }
         ensures none { IfNone result (2 ^ 128 ≤ length (moves_of_board self.now)) }
     {
-        let piece = self.piece.unsigned_abs() as u32;
-        let bounds = entry_bounds(self.shape.sizes(), self.wrap, piece);
         let mut counted: u128 = 0;
-        let mut left = Displacements::new(piece, bounds);
+        let mut left = self.displacements();
         while let Some(t) = left.front() {
             let Some(more) = self.count_by(t, counted) else {
                 return None;
@@ -107,7 +104,7 @@ impl Board {
             ≡ true }
     {
         if self.piece < 0 {
-            return home(self.shape.sizes(), self.wrap, t) - 1;
+            return home(self.sizes(), self.wrap, t) - 1;
         }
         1
     }
@@ -124,7 +121,7 @@ impl Board {
         ensures { result ≡ length (moves_by (sides_of self.now.sizes self.now.wrap) self.now.piece
             (box self.now.sizes) t.now) }
     {
-        let size = self.shape.sizes()[k];
+        let size = self.sizes()[k];
         let step = t[k].unsigned_abs();
         let lengths = lengths_along(size, step).min(self.longest_move());
         let rest = self.family.size() / size;
@@ -163,7 +160,7 @@ impl Board {
         requires dimensions { length t.now ≡ length self.now.sizes }
         ensures { result ≡ starts_product (sides_of self.now.sizes self.now.wrap) t.now l }
     {
-        starts_product(self.shape.sizes(), self.wrap, t, l)
+        starts_product(self.sizes(), self.wrap, t, l)
     }
 }
 

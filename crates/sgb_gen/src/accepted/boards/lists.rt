@@ -14,7 +14,7 @@ ghost use Rattle.sgb_gen.specs.VectorGraphs.{vertex_among};
 use super::Board;
 use crate::displacements::{Displacement, put_opposite};
 use crate::links::Links;
-use crate::moves::{destination, leads_onward, reach};
+use crate::moves::{destination, leads_onward};
 use crate::steps::{Parts, Step, either, put_parts_of};
 use sgb_vec::{Panic, Vector};
 
@@ -226,7 +226,7 @@ impl Board {
             }) }
         ensures memory { IsOkUnless result Panic.NoRoom }
     {
-        let u = self.family.place_of(x);
+        let u = self.vertex_of(x);
         let Some(v) = self.vertex_at(x, back, 1, there) else {
             return self.push_edge(x, t, 1, there, links);
         };
@@ -275,11 +275,11 @@ impl Board {
             }) }
         ensures memory { IsOkUnless result Panic.NoRoom }
     {
-        let sizes = self.shape.sizes();
+        let sizes = self.sizes();
         let parts = t.parts();
-        let farthest = reach(sizes, self.wrap, x, parts, self.longest_move());
-        for l in 1..=farthest {
-            links.push_placed(sizes, self.wrap, x, parts, l)?;
+        let farthest = self.farthest(x, t, false);
+        for shorter in 0..farthest {
+            links.push_placed(sizes, self.wrap, x, parts, shorter + 1)?;
         }
         Ok(())
     }
@@ -300,9 +300,9 @@ impl Board {
             }) }
         ensures memory { IsOkUnless result Panic.NoRoom }
     {
-        let sizes = self.shape.sizes();
+        let sizes = self.sizes();
         let parts = t.parts();
-        let farthest = reach(sizes, self.wrap, x, parts, self.longest_move());
+        let farthest = self.farthest(x, t, false);
         for shorter in (0..farthest).rev() {
             links.push_placed(sizes, self.wrap, x, parts, shorter + 1)?;
         }
@@ -355,7 +355,7 @@ impl Board {
             x.now t.now) }
         ensures memory { IsOkUnless result Panic.NoRoom }
     {
-        let u = self.family.place_of(x);
+        let u = self.vertex_of(x);
         self.add_own(u, x, t, there, starts)?;
         self.add_others(u, x, back, there, starts)?;
         Ok(())
@@ -436,7 +436,7 @@ impl Board {
             }) }
         ensures memory { IsOkUnless result Panic.NoRoom }
     {
-        let u = self.family.place_of(x);
+        let u = self.vertex_of(x);
         for k in (0..starts.len()).rev() {
             let (v, l) = starts[k];
             let step = either(v == u, t, back);
@@ -476,7 +476,7 @@ impl Board {
     }
 
     // Puts the vector where the piece moves from `x` by the displacement `t` at length `l` into `there`, if it moves there.
-    fn lands(&self, x: &[u32], t: &Step, l: u32, there: &mut Vector) -> bool
+    pub(super) fn lands(&self, x: &[u32], t: &Step, l: u32, there: &mut Vector) -> bool
         requires below { IsBelow x.now self.now.sizes }
         requires dimensions { length t.now ≡ length self.now.sizes }
         ensures leads { OnTrue result (destination (sides_of self.now.sizes self.now.wrap)
@@ -485,6 +485,6 @@ impl Board {
             (destination (sides_of self.now.sizes self.now.wrap) self.now.piece x.now t.now l
             ≡ None) }
     {
-        destination(self.shape.sizes(), self.wrap, self.piece, x, t, l, there)
+        destination(self.sizes(), self.wrap, self.piece, x, t, l, there)
     }
 }

@@ -120,7 +120,7 @@ impl Board {
         requires within { k < length self.now.sizes }
         ensures { result ≡ unwrap_or (part_at self.now.sizes self.now.wrap x.now l (k, amount)) 0 }
     {
-        part_at(self.shape.sizes(), self.wrap, x, l, k, amount).unwrap_or(0)
+        part_at(self.sizes(), self.wrap, x, l, k, amount).unwrap_or(0)
     }
 
     /// Whether the piece is a leaper, and all displacements in this table lead onward where no side wraps around.
@@ -139,7 +139,7 @@ impl Board {
         requires { IsBelow x.now self.now.sizes }
         ensures { OnTrue result (IsInside room self.now.sizes x.now) }
     {
-        is_inside(self.shape.sizes(), x, room)
+        is_inside(self.sizes(), x, room)
     }
 
     // The run of `x` by a displacement and its opposite.
@@ -167,7 +167,7 @@ impl Board {
     }
 
     // How far the moves from `x` by `t` lead, where these never come home.
-    fn farthest(&self, x: &[u32], t: &Step, near: bool) -> u32
+    pub(super) fn farthest(&self, x: &[u32], t: &Step, near: bool) -> u32
         requires below { IsBelow x.now self.now.sizes }
         requires dimensions { length t.now ≡ length self.now.sizes }
         requires away { (l : ℕ) → 0 < l
@@ -180,7 +180,7 @@ impl Board {
     {
         reach_from(
             near,
-            self.shape.sizes(),
+            self.sizes(),
             self.wrap,
             x,
             t.parts(),

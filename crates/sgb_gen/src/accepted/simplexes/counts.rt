@@ -42,7 +42,7 @@ impl Simplex {
     {
         let mut known = KnownCounts::new();
         let mut counted: u64 = 0;
-        for lower in 0..self.shape.sizes().len() {
+        for lower in 0..self.sizes().len() {
             counted += self.shifts_from(alloc, lower, &mut known)?;
         }
         Ok(counted)
@@ -65,7 +65,7 @@ impl Simplex {
         ensures some { IfErr result (λ p. 0 < self.now.sum.total) }
         ensures pair { IfErr result (λ p. 1 < length self.now.sum.bounds) }
     {
-        let bounds = self.shape.sizes();
+        let bounds = self.sizes();
         let mut counted: u64 = 0;
         for higher in lower + 1..bounds.len() {
             counted += u64::from(self.shifts_known(alloc, lower, higher, known)?);
@@ -93,7 +93,7 @@ impl Simplex {
         ensures some { IfErr result (λ p. 0 < self.now.sum.total) }
         ensures pair { IfErr result (λ p. 1 < length self.now.sum.bounds) }
     {
-        let bounds = self.shape.sizes();
+        let bounds = self.sizes();
         let (low, high) = (bounds[lower], bounds[higher]);
         if let Some(count) = known_count(known.as_slice(), low, high) {
             return Ok(count);
@@ -115,7 +115,7 @@ impl Simplex {
         ensures some { IfErr result (λ p. 0 < self.now.sum.total) }
         ensures pair { IfErr result (λ p. 1 < length self.now.sum.bounds) }
     {
-        let bounds = self.shape.sizes();
+        let bounds = self.sizes();
         let total = self.family.total();
         if total == 0 || bounds[lower] == 0 || bounds[higher] == 0 {
             return Ok(0);

@@ -24,7 +24,7 @@ impl Simplex {
         ensures memory { IsOkUnless result Panic.NoRoom }
     {
         links.clear(x.len());
-        let bounds = self.shape.sizes();
+        let bounds = self.sizes();
         let put = push_all(self.directed, bounds, x, links);
         links.ended(put)
     }

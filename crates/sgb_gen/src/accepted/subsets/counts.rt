@@ -43,7 +43,7 @@ impl Subsets {
         ensures { result ≡ length (moves_of_subsets self.now) }
     {
         let begun = self.begun();
-        let bounds = self.shape.sizes();
+        let bounds = self.sizes();
         let mut counted: u64 = 0;
         let mut left = Vectors::all(&self.family);
         while let Some(x) = left.front() {

@@ -46,7 +46,7 @@ impl Subsets {
     {
         Begun {
             size_bits: self.size_bits,
-            room: sum_of_entries(self.shape.sizes()),
+            room: sum_of_entries(self.sizes()),
             shared: u64::from(self.family.total()),
             left: self.family.total(),
             common: 0,

@@ -49,7 +49,7 @@ impl Subsets {
         push_both(
             self.directed,
             self.begun(),
-            self.shape.sizes(),
+            self.sizes(),
             x,
             tip.as_mut_slice(),
             links,

@@ -29,7 +29,7 @@ impl Subsets {
         ensures { OnTrue result (self.now.sum.total < 20) }
     {
         let total = self.family.total();
-        total < SIDE as u32 && self.family.size() > most_walked(total, self.shape.sizes())
+        total < SIDE as u32 && self.family.size() > most_walked(total, self.sizes())
     }
 
     // The number of moves, by pairs: a move from one vector to another one is of two pairs, and one of a vector to itself
@@ -49,7 +49,7 @@ impl Subsets {
         ensures few { result ≤ most_vertices * most_vertices }
     {
         let total = self.family.total() as usize;
-        let bounds = self.shape.sizes();
+        let bounds = self.sizes();
         let mut table = last_table(self.size_bits, total);
         for k in (0..bounds.len()).rev() {
             table = table_before(table.as_slice(), total, bounds[k] as usize);

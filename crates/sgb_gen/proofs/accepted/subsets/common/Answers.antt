@@ -1,15 +1,10 @@
-use Rattle.std.proofs.Common.{arith, length, ◌+◌, ◌/◌, ◌≡◌}
+use Rattle.std.proofs.Common.{rules, arith, ◌+◌, ◌≡◌}
 use Rattle.sgb_gen.specs.Subsets.{common_size}
 use Rattle.sgb_gen.proofs.CommonSizes.{chunks_and_rest, common_of_chunks, common_small, next_counted, no_chunks, one_ends}
 use Rattle.sgb_gen.proofs.accepted.subsets.common.Goals as goal
 
 pub loop-x-init : goal.loop-x-init
-loop-x-init c =
-    let second : c.zip-x-items.result.b.rest.now ≡ c.as_chunks-2.result.0.now = c.zip-x-items.ensures.second.0 in
-    let rest : c.iter.result.rest.now ≡ c.as_chunks.result.0.now = c.iter.ensures.rest in
-    let first : c.zip-x-items.result.a ≡ c.iter.result = c.zip-x-items.ensures.first in
-    rw (c.into_iter-x-iterator.ensures.into_iter_gives, first, second, rest, c.as_chunks.ensures.front, c.as_chunks-2.ensures.front, c.as_chunks.ensures.back, c.as_chunks-2.ensures.back, ← c.requires.widths)
-    (omega (arith, chunks_and_rest 8 (length c.args.u.now / 8) c.args.u.now c.args.v.now))
+loop-x-init c = search (rules, chunks_and_rest)
 
 -- what is counted with the chunks of this turn
 counted : (c : goal.After-common_in_chunk-total) →
@@ -28,8 +23,7 @@ pub loop-x-preserved : goal.loop-x-preserved
 loop-x-preserved c = counted c
 
 pub overflow_add-result : goal.overflow_add-result
-overflow_add-result c =
-    omega (arith, c.loop-x.invariant, c.common_one_by_one.ensures, c.requires.fits, common_small c.args.u.now c.args.v.now (λ i. omega (arith, c.type_inv.u i)))
+overflow_add-result c = search (rules, common_small)
 
 pub returns : goal.returns
 returns c = omega (arith, c.loop-x.invariant, c.common_one_by_one.ensures, no_chunks c.loop-x.x-iterator.a.rest.now c.loop-x.x-iterator.b.rest.now (one_ends c.in-None.ensures.steps))

@@ -1,15 +1,12 @@
-use Rattle.std.proofs.Common.{◌≡◌, ◌++◌, ◌∷◌, ◌≤◌, [], ℤ, List, nat_abs, refl, sym, ap, subst, ◌∙◌, append-nil, append_assoc}
+use Rattle.std.proofs.Common.{◌≡◌, ◌++◌, ◌∷◌, ◌≤◌, [], ℤ, List, nat_abs, refl, sym, ap, subst, ◌∙◌, append_assoc}
 use Rattle.std.specs.List.{All}
 use Rattle.std.proofs.lemmas.List.Elements.{All-tail}
 use Rattle.sgb_gen.specs.Limits.{most_piece}
-use Rattle.sgb_gen.proofs.DisplacementWalk.{first_and_others, first_has}
+use Rattle.sgb_gen.proofs.DisplacementWalk.{first_and_others}
 use Rattle.sgb_gen.proofs.displacement_tables.DisplacementTable.new.Goals as goal
 
 abbrev IsSmall : List ℤ → Type 0
 IsSmall t = All (λ e. nat_abs e ≤ most_piece) t
-
-pub new-requires-clause-small : goal.new-requires-clause-small
-new-requires-clause-small c = first_has IsSmall c.loop-t.left c.in-Some.t.now c.loop-t.invariant.1 c.in-Some.ensures.first
 
 -- one displacement more
 more : (done new before after all : List (List ℤ)) (t : List ℤ) → done ++ before ≡ all → before ≡ t ∷ after → new ≡ done ++ t ∷ [] → new ++ after ≡ all
@@ -23,8 +20,3 @@ loop-t-preserved c =
       more c.loop-t.kept.items _ c.loop-t.left c.advance-some.new.self c.args.left t c.loop-t.invariant.0 step (c.in-Ok.ensures.items ∙ ap (λ p. c.loop-t.kept.items ++ p ∷ []) c.in-Some-new.ensures),
       All-tail IsSmall t c.advance-some.new.self (subst (All IsSmall) step c.loop-t.invariant.1),
     )
-
-pub returns : goal.returns
-returns c =
-    let none = rw c.in_default.is at c.front.ensures.none in
-    sym (append-nil c.loop-t.kept.items) ∙ sym (ap (λ ts. c.loop-t.kept.items ++ ts) none) ∙ c.loop-t.invariant.0

@@ -1,16 +1,13 @@
-use Rattle.std.proofs.Common.{◌∙◌, ◌≡◌, Some, ap, sym, subst}
+use Rattle.std.proofs.Common.{rules, ◌∙◌, ◌≡◌, Some, ap, sym}
 use Rattle.std.specs.List.{slice_get}
 use Rattle.sgb_vec.specs.Boxes.{box}
-use Rattle.sgb_vec.specs.Lexicographic.{IsBelow}
 use Rattle.sgb_vec.proofs.BoxPlaces.{IsBelow-from_Contains}
 use Rattle.sgb_gen.specs.Boards.{board_vector_graph}
 use Rattle.sgb_gen.proofs.ListedGraphs.{of_board, place_is_vertex}
 use Rattle.sgb_gen.proofs.listed.BoardListsListed.place_of.Goals as goal
 
 pub place_of-requires : goal.place_of-requires
-place_of-requires c =
-    let sizes = c.family.ensures ∙ ap (λ b. b.sizes) c.self.view_is in
-    subst (IsBelow c.args.x.now) (sym sizes) (IsBelow-from_Contains c.args.self.now.sizes c.args.x.now c.requires)
+place_of-requires c = search (rules, IsBelow-from_Contains)
 
 pub returns : goal.returns
 returns c =

@@ -1,12 +1,8 @@
 use Rattle.std.proofs.Common.{◌*◌, length, refl, sym, ap, ap₂, ◌∙◌}
 use Rattle.sgb_gen.specs.inner.Tables.{rows}
-use Rattle.sgb_gen.proofs.FamilyWalks.{walked-all, walked-more}
+use Rattle.sgb_gen.proofs.FamilyWalks.{walked-all}
 use Rattle.sgb_gen.proofs.TableRows.{joined, HasWidth-from_members, length-joined, rows-joined}
 use Rattle.sgb_gen.proofs.vector_tables.VectorTable.new.Goals as goal
-
-pub loop-vector-preserved : goal.loop-vector-preserved
-loop-vector-preserved g c =
-    walked-more (λ v. v) joined (λ v vs. refl) _ _ _ _ _ _ c.loop-vector.invariant c.in-Some.ensures.first c.advance-some.ensures.rest c.in_ok-extend_from_slice.ensures.items
 
 -- the entries are those of all vectors
 pub invariant_of-result : goal.invariant_of-result

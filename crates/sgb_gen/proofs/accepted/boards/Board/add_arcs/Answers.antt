@@ -1,26 +1,18 @@
-use Rattle.std.proofs.Common.{◌≡◌, List, ℤ, length, map, refl, sym, ap, subst, ◌∙◌}
+use Rattle.std.proofs.Common.{rules, ◌≡◌, List, ℤ, length, map, refl, sym, ap, subst, ◌∙◌}
 use Rattle.std.specs.List.{All, flat_map}
 use Rattle.std.proofs.lemmas.List.Elements.{All-tail}
 use Rattle.sgb_vec.specs.Boxes.{box}
 use Rattle.sgb_graph.specs.Growth.{AddsEvents}
-use Rattle.sgb_graph.proofs.AddedEvents.{AddsUpTo, up_to-none, up_to-more, up_to-all}
+use Rattle.sgb_graph.proofs.AddedEvents.{up_to-none, up_to-more, up_to-all}
 use Rattle.sgb_gen.specs.Moves.{moves_from, sides_of}
 use Rattle.sgb_gen.specs.VectorGraphs.{event_among}
 use Rattle.sgb_gen.proofs.BoardEvents.{events_by, events_of, events_by-moves, events_of-moves}
 use Rattle.sgb_gen.proofs.BoundedMoves.{events_within}
-use Rattle.sgb_gen.proofs.DisplacementWalk.{first_and_others, first_has}
+use Rattle.sgb_gen.proofs.DisplacementWalk.{first_and_others}
 use Rattle.sgb_gen.proofs.accepted.boards.Board.add_arcs.Goals as goal
 
 pub loop-t-init : goal.loop-t-init
-loop-t-init c =
-    let b = c.args.self.now in
-    let g = c.args.graph.now in (
-      c.displacements-left.ensures.dimensions,
-      subst (λ es. AddsUpTo b.directed g g es (events_of b)) (sym (ap (flat_map (events_by b)) c.displacements-left.ensures.all ∙ events_within b)) (up_to-none b.directed g (events_of b)),
-    )
-
-pub add_moves_by-requires-clause-dimensions : goal.add_moves_by-requires-clause-dimensions
-add_moves_by-requires-clause-dimensions c = ap length c.of-step.ensures ∙ first_has (λ t. length t ≡ length c.args.self.now.sizes) c.loop-t.left c.in-Some.t.now c.loop-t.invariant.0 c.in-Some.ensures.first
+loop-t-init c = search (rules, events_of, events_by, events_within, up_to-none)
 
 pub loop-t-preserved : goal.loop-t-preserved
 loop-t-preserved c =
@@ -36,7 +28,4 @@ loop-t-preserved c =
     )
 
 pub returns-clause-ok : goal.returns-clause-ok
-returns-clause-ok c =
-    let b = c.args.self.now in
-    subst (AddsEvents b.directed c.args.graph.now c.loop-t.graph) (events_of-moves b)
-    (up_to-all _ _ _ _ _ c.loop-t.invariant.1 (ap (flat_map (events_by b)) (rw c.in_default.is at c.front.ensures.none)))
+returns-clause-ok c = search (rules, events_of-moves, up_to-all, events_by)

@@ -1,4 +1,4 @@
-use Rattle.std.proofs.Common.{◌≡◌, ◌++◌, ◌+◌, ◌∙◌, ◌∷◌, [], ℕ, Bool, true, false, sym, ap, ap₂, arith, not, map}
+use Rattle.std.proofs.Common.{rules, ◌≡◌, ◌++◌, ◌+◌, ◌∙◌, ◌∷◌, [], ℕ, Bool, true, false, sym, ap, ap₂, arith, not, map}
 use Rattle.std.specs.Prelude.{◌==◌}
 use Rattle.std.specs.List.{filter}
 use Rattle.std.proofs.lemmas.Bool.{eq-eqb, ne_eqb}
@@ -14,12 +14,7 @@ pub loop-l-init : goal.loop-l-init
 loop-l-init c = ap (λ ms. c.args.starts.now.items ++ other_starts (box c.args.self.now.sizes) c.args.u ms) (left-all c.args.self.now c.args.back.now c.args.x.now)
 
 pub returns-in_default-clause-ok : goal.returns-in_default-clause-ok
-returns-in_default-clause-ok c =
-    let b = c.args.self.now in
-    let far = λ (m : Move). not (vertex_among (box b.sizes) m.to == c.args.u) in
-    let out = led_nowhere (vertex_among (box b.sizes)) (leads b c.args.x.now c.args.back.now c.loop-l.l) (sym c.vertex_at.ensures.vertex ∙ c.in_default.is) in
-    no_more (λ (m : Move). (vertex_among (box b.sizes) m.to, m.len)) c.loop-l.starts.items _ (filter far (moves_left b c.args.back.now c.args.x.now c.loop-l.l)) c.loop-l.invariant
-    (ap (filter far) (left-out b c.args.back.now c.args.x.now c.loop-l.l (omega (arith, c.longest_move-l-end.ensures)) out))
+returns-in_default-clause-ok c = search (rules, led_nowhere, leads, no_more, moves_left, left-out)
 
 pub loop-l-preserved : goal.loop-l-preserved
 loop-l-preserved c =

@@ -1,4 +1,4 @@
-use Rattle.std.proofs.Common.{◌≡◌, ◌++◌, ◌+◌, None, Some, ap, arith}
+use Rattle.std.proofs.Common.{rules, ◌≡◌, ◌++◌, ◌+◌, Some, ap, arith}
 use Rattle.sgb_gen.specs.inner.LocalBoards.{own_starts}
 use Rattle.sgb_gen.specs.VectorGraphs.{Move}
 use Rattle.sgb_gen.proofs.BoardWalks.{left-all, left-next, left-out, moves_left, no_more, one_more, leads}
@@ -20,8 +20,4 @@ loop-l-preserved c =
     one_more (λ (m : Move). (c.args.u, m.len)) c.loop-l.starts.items c.push.new.self.items _ (move x l y) (moves_left b t x l) (moves_left b t x (l + 1)) c.loop-l.invariant next c.in_ok-push.ensures.items
 
 pub returns-then-not-lands-clause-ok : goal.returns-then-not-lands-clause-ok
-returns-then-not-lands-clause-ok c =
-    let b = c.args.self.now in
-    let out : leads b c.args.x.now c.args.t.now c.loop-l.l ≡ None = rw c.if-not-lands.true at c.lands.ensures.nowhere in
-    no_more (λ (m : Move). (c.args.u, m.len)) c.loop-l.starts.items _ (moves_left b c.args.t.now c.args.x.now c.loop-l.l) c.loop-l.invariant
-    (left-out b c.args.t.now c.args.x.now c.loop-l.l (omega (arith, c.longest_move-l-end.ensures)) out)
+returns-then-not-lands-clause-ok c = search (rules, leads, no_more, moves_left, left-out)

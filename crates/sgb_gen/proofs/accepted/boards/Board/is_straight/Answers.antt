@@ -11,12 +11,7 @@ use Rattle.sgb_gen.proofs.TurnedMoves.{opposite_twice}
 use Rattle.sgb_gen.proofs.accepted.boards.Board.is_straight.Goals as goal
 
 pub returns-then-leads_onward : goal.returns-then-leads_onward
-returns-then-leads_onward c x l below some =
-    let b = c.args.self.now in
-    let wrap : to_z w64 (of_z w64 c.self.inside.wrap) ≡ b.wrap = to_z-of_z w64 c.self.inside.wrap (search rules) ∙ ap (λ d. d.wrap) c.self.view_is in
-    let onward : leads_onward b.wrap 0 c.args.t.now ≡ true =
-    ap (λ w. leads_onward w 0 c.args.t.now) (sym wrap) ∙ sym c.leads_onward.ensures ∙ c.if-leads_onward.true in
-    onward_away b c.args.t.now c.requires.dimensions onward x l below some
+returns-then-leads_onward c x l below some = search (rules, to_z-of_z, onward_away)
 
 if_true : (P : Type 0) (r : Bool) → (r ≡ true → P) → OnTrue r P
 if_true P true h = h refl

@@ -1,10 +1,8 @@
-use Rattle.std.proofs.Common.{◌≡◌, ◌-◌, ◌+◌, ◌%◌, ℕ, to_z, of_z, w64, eqb, sym, ap, ◌∙◌, arith, rules}
+use Rattle.std.proofs.Common.{◌≡◌, ◌-◌, ◌+◌, ◌%◌, ℕ, to_z, of_z, w64, eqb, sym, ap, ◌∙◌, rules}
 use Rattle.std.proofs.lemmas.Int.{to_z-of_z}
-use Rattle.sgb_vec.specs.Boxes.{product_of}
 use Rattle.sgb_vec.proofs.BoxPlaces.{length-box}
 use Rattle.sgb_gen.specs.Moves.{sides_of}
 use Rattle.sgb_gen.specs.inner.BoardCounts.{is_home, comes_home}
-use Rattle.sgb_gen.specs.inner.Moves.{longest_move}
 use Rattle.sgb_gen.proofs.BoardCountsBoards.{rider-home}
 use Rattle.sgb_gen.proofs.Reaches.{longest-rider}
 use Rattle.sgb_gen.proofs.TimesAround.{away-before, home-at}
@@ -17,23 +15,14 @@ at_multiples c l =
     let t = c.args.t.now in
     let inside = c.self.inside in
     let wrap : to_z w64 (of_z w64 inside.wrap) ≡ b.wrap = to_z-of_z w64 inside.wrap (search rules) ∙ ap (λ d. d.wrap) c.self.view_is in
-    let sizes : c.sizes.result.now ≡ b.sizes = c.sizes.ensures ∙ c.self.invariant.0 ∙ ap (λ d. d.sizes) c.self.view_is in
     sym (ap (λ d. comes_home (sides_of b.sizes b.wrap) d.piece t l) c.self.view_is)
     ∙ sym (rider-home (sides_of b.sizes b.wrap) inside.piece t l (search rules) c.if-self-lt0.true)
     ∙ sym (ap (λ w. is_home (sides_of b.sizes w) t l) wrap)
-    ∙ sym (ap (λ s. is_home (sides_of s (to_z w64 (of_z w64 inside.wrap))) t l) sizes)
+    ∙ sym (ap (λ s. is_home (sides_of s (to_z w64 (of_z w64 inside.wrap))) t l) c.sizes.ensures)
     ∙ c.home.ensures.home l
 
 pub returns-then-self-lt0-clause-within : goal.returns-then-self-lt0-clause-within
-returns-then-self-lt0-clause-within c =
-    let b = c.args.self.now in
-    let inside = c.self.inside in
-    let sizes : c.sizes.result.now ≡ b.sizes = c.sizes.ensures ∙ c.self.invariant.0 ∙ ap (λ d. d.sizes) c.self.view_is in
-    let longest : longest_move (sides_of b.sizes b.wrap) b.piece ≡ product_of b.sizes =
-    sym (ap (λ d. longest_move (sides_of d.sizes d.wrap) d.piece) c.self.view_is)
-    ∙ longest-rider inside.family inside.wrap inside.piece (search rules) c.if-self-lt0.true ∙ length-box inside.family
-    ∙ ap (λ d. product_of d.sizes) c.self.view_is in
-    omega (arith, longest, c.home.ensures.small, ap product_of sizes)
+returns-then-self-lt0-clause-within c = search (rules, longest-rider, length-box)
 
 pub returns-then-self-lt0-clause-away : goal.returns-then-self-lt0-clause-away
 returns-then-self-lt0-clause-away c = λ l low high. at_multiples c l ∙ away-before c.home.result l low high

@@ -1,38 +1,16 @@
-use Rattle.std.proofs.Common.{◌≡◌, ◌+◌, List, ℤ, nat_abs, to_z, of_z, w64, ◌∷◌, length, drop, refl, sym, ap, subst, ◌∙◌, arith, rules, length-append}
+use Rattle.std.proofs.Common.{rules, ◌≡◌, ◌+◌, List, ℤ, ◌∷◌, length, drop, refl, ap, subst, ◌∙◌, arith, length-append}
 use Rattle.std.specs.List.{All, flat_map}
-use Rattle.std.proofs.lemmas.Int.{to_z-of_z}
 use Rattle.std.proofs.lemmas.List.Elements.{All-tail}
 use Rattle.sgb_vec.specs.Boxes.{box}
-use Rattle.sgb_gen.specs.inner.EntryBounds.{entry_bounds, displacements_within}
 use Rattle.sgb_gen.specs.inner.LocalBoards.{moves_by}
 use Rattle.sgb_gen.specs.Moves.{sides_of}
 use Rattle.sgb_gen.specs.VectorGraphs.{Move}
-use Rattle.sgb_gen.proofs.BoundedMoves.{bounds_of, length-entry_bounds, moves_within}
-use Rattle.sgb_gen.proofs.DisplacementLengths.{displacement_lengths}
-use Rattle.sgb_gen.proofs.DisplacementWalk.{first_and_others, first_has}
+use Rattle.sgb_gen.proofs.BoundedMoves.{moves_within}
+use Rattle.sgb_gen.proofs.DisplacementWalk.{first_and_others}
 use Rattle.sgb_gen.proofs.accepted.boards.Board.moves_count.Goals as goal
 
 pub loop-t-init : goal.loop-t-init
-loop-t-init c =
-    let b = c.args.self.now in
-    let bounds = bounds_of b in
-    let ts = displacements_within (nat_abs b.piece) bounds in
-    let piece : c.unsigned_abs-piece.result ≡ nat_abs b.piece = c.unsigned_abs-piece.ensures.value ∙ ap nat_abs (to_z-of_z w64 c.self.inside.piece (search rules)) ∙ ap (λ d. nat_abs d.piece) c.self.view_is in
-    let wrap : to_z w64 (of_z w64 c.self.inside.wrap) ≡ b.wrap = to_z-of_z w64 c.self.inside.wrap (search rules) ∙ ap (λ d. d.wrap) c.self.view_is in
-    let sizes : c.sizes.result.now ≡ b.sizes = c.sizes.ensures ∙ c.self.invariant.0 ∙ ap (λ d. d.sizes) c.self.view_is in
-    let bounded : c.entry_bounds-bounds.result.items ≡ bounds =
-    c.entry_bounds-bounds.ensures ∙ ap (λ p. entry_bounds p (sides_of c.sizes.result.now (to_z w64 (of_z w64 c.self.inside.wrap)))) piece
-    ∙ ap (λ w. entry_bounds (nat_abs b.piece) (sides_of c.sizes.result.now w)) wrap ∙ ap (λ s. entry_bounds (nat_abs b.piece) (sides_of s b.wrap)) sizes in
-    let all : ts ≡ c.new-left.result = sym (c.new-left.ensures ∙ ap (λ p. displacements_within p c.entry_bounds-bounds.result.items) piece ∙ ap (displacements_within (nat_abs b.piece)) bounded) in
-    let lengths = subst (λ n. All (λ t. length t ≡ n) ts) (length-entry_bounds (nat_abs b.piece) b.sizes b.wrap) (displacement_lengths (nat_abs b.piece) bounds) in
-    let moves = moves_by (sides_of b.sizes b.wrap) b.piece (box b.sizes) in
-    let whole = ap length (ap (flat_map moves) (sym all) ∙ moves_within b) in (
-      subst (All (λ t. length t ≡ length b.sizes)) all lengths,
-      omega (arith, whole),
-    )
-
-pub count_by-requires : goal.count_by-requires
-count_by-requires c = record { dimensions = first_has (λ t. length t ≡ length c.args.self.now.sizes) c.loop-t.left c.in-Some.t.now c.loop-t.invariant.0 c.in-Some.ensures.first }
+loop-t-init c = search (rules, moves_within)
 
 -- those by the first displacement, and those by the others
 parts : (moves : List ℤ → List Move) (t : List ℤ) (ts left : List (List ℤ)) → ts ≡ t ∷ left → length (flat_map moves ts) ≡ length (moves t) + length (flat_map moves left)

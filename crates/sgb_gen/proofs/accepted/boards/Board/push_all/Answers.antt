@@ -1,4 +1,4 @@
-use Rattle.std.proofs.Common.{◌≡◌, ◌≤◌, ◌++◌, List, ℤ, nat_abs, ◌∷◌, length, refl, sym, ap, subst, ◌∙◌, append_assoc}
+use Rattle.std.proofs.Common.{rules, ◌≡◌, ◌≤◌, List, ℤ, nat_abs, ◌∷◌, length, refl, ap, subst, ◌∙◌}
 use Rattle.std.specs.List.{All, flat_map}
 use Rattle.std.proofs.lemmas.List.{reverse-reverse}
 use Rattle.std.proofs.lemmas.List.Elements.{All-tail}
@@ -6,30 +6,16 @@ use Rattle.sgb_vec.specs.Boxes.{box}
 use Rattle.sgb_gen.specs.Limits.{most_piece}
 use Rattle.sgb_gen.specs.inner.LocalBoards.{arcs_onward, moves_by}
 use Rattle.sgb_gen.specs.Moves.{sides_of}
+use Rattle.sgb_gen.specs.inner.LocalSimplexes.{with_arcs}
+use Rattle.sgb_gen.proofs.PairWalks.{with_more}
 use Rattle.sgb_gen.proofs.ListsOfBoards.{onward-first}
 use Rattle.sgb_gen.proofs.BoundedMoves.{moves_within}
-use Rattle.sgb_gen.proofs.DisplacementWalk.{first_and_others, first_has}
+use Rattle.sgb_gen.proofs.DisplacementWalk.{first_and_others}
 use Rattle.sgb_gen.proofs.TurnedLinks.{turned_behind}
 use Rattle.sgb_gen.proofs.accepted.boards.Board.push_all.Goals as goal
 
 pub loop-t-init : goal.loop-t-init
-loop-t-init c =
-    let b = c.args.self.now in
-    let made = λ (ts : List (List ℤ)). c.args.links.now.arcs ++ arcs_onward b.directed c.args.x.now (flat_map (moves_by (sides_of b.sizes b.wrap) b.piece (box b.sizes)) ts) in (
-      c.displacements-left.ensures.dimensions,
-      c.displacements-left.ensures.small,
-      refl,
-      ap made c.displacements-left.ensures.all ∙ ap (λ ms. c.args.links.now.arcs ++ arcs_onward b.directed c.args.x.now ms) (moves_within b),
-    )
-
-pub push_by-requires-clause-dimensions : goal.push_by-requires-clause-dimensions
-push_by-requires-clause-dimensions c = ap length c.of-ahead.ensures ∙ first_has (λ t. length t ≡ length c.args.self.now.sizes) c.loop-t.left c.in-Some.t.now c.loop-t.invariant.0 c.in-Some.ensures.first
-
-pub put_opposite-requires-clause-few : goal.put_opposite-requires-clause-few
-put_opposite-requires-clause-few c = c.in-Some.ensures.few
-
-pub put_opposite-requires-clause-small : goal.put_opposite-requires-clause-small
-put_opposite-requires-clause-small c = first_has (λ t. All (λ e. nat_abs e ≤ most_piece) t) c.loop-t.left c.in-Some.t.now c.loop-t.invariant.1 c.in-Some.ensures.first
+loop-t-init c = search (rules, moves_within)
 
 pub loop-t-preserved : goal.loop-t-preserved
 loop-t-preserved c =
@@ -44,13 +30,8 @@ loop-t-preserved c =
     let step : c.loop-t.left ≡ t ∷ left = first_and_others c.loop-t.left left t t c.in-Some.ensures.first refl c.advance-some.ensures.rest in
     let Small : List ℤ → Type 0 = λ u. All (λ e. nat_abs e ≤ most_piece) u in
     let turned = turned_behind c.loop-t.links c.push_by.new.links c.reverse_from.new.self c.len-first.result _ c.in_ok-push_by.ensures.ok c.len-first.ensures c.reverse_from.ensures in
-    let added : c.reverse_from.new.self.arcs ≡ c.loop-t.links.arcs ++ own t =
-    ap (λ d. d.arcs) turned ∙ ap (λ ls. c.loop-t.links.arcs ++ ls) (reverse-reverse (own c.of-ahead.result)) ∙ ap (λ u. c.loop-t.links.arcs ++ own u) c.of-ahead.ensures in (
+    let added = turned ∙ ap (with_arcs c.loop-t.links) (reverse-reverse (own c.of-ahead.result) ∙ ap own c.of-ahead.ensures) in (
       All-tail (λ u. length u ≡ length b.sizes) t left (subst (All (λ u. length u ≡ length b.sizes)) step c.loop-t.invariant.0),
       All-tail Small t left (subst (All Small) step c.loop-t.invariant.1),
-      ap (λ d. d.width) turned ∙ c.loop-t.invariant.2,
-      ap (λ ls. ls ++ made left) added
-          ∙ append_assoc c.loop-t.links.arcs (own t) (made left)
-          ∙ ap (λ ls. c.loop-t.links.arcs ++ ls) (sym (onward-first b.directed x sides b.piece vectors t left) ∙ ap made (sym step))
-          ∙ c.loop-t.invariant.3,
+      with_more c.loop-t.links c.reverse_from.new.self (with_arcs c.reverse_from.new.self (made left)) (own t) (made left) _ added refl (ap made step ∙ onward-first b.directed x sides b.piece vectors t left) ∙ c.loop-t.invariant.2,
     )

@@ -1,4 +1,4 @@
-use Rattle.std.proofs.Common.{◌≡◌, ◌++◌, ◌∷◌, ◌+◌, ◌∙◌, [], Some, length, map, pos, refl, sym, ap, arith}
+use Rattle.std.proofs.Common.{rules, ◌≡◌, ◌++◌, ◌∷◌, ◌+◌, ◌∙◌, [], Some, map, pos, refl, ap, arith}
 use Rattle.sgb_gen.specs.inner.LocalBoards.{move_arc}
 use Rattle.sgb_gen.proofs.BoardWalks.{lands_width, left-all, left-next, moves_left, one_more, leads}
 use Rattle.sgb_gen.proofs.Reaches.{move}
@@ -8,10 +8,7 @@ pub loop-l-init : goal.loop-l-init
 loop-l-init c = (refl, ap (λ ms. c.args.links.now.arcs ++ map move_arc ms) (left-all c.args.self.now c.args.t.now c.args.x.now))
 
 pub push-requires : goal.push-requires
-push-requires c =
-    let b = c.args.self.now in
-    let lands : leads b c.args.x.now c.args.t.now c.loop-l.l ≡ Some c.lands.new.there.items = rw c.if-not-lands.false at c.lands.ensures.leads in
-    record { width = ap length c.as_slice.ensures.value ∙ lands_width b c.args.t.now c.args.x.now c.lands.new.there.items c.loop-l.l c.requires.below lands ∙ c.requires.width ∙ sym c.loop-l.invariant.0 }
+push-requires c = search (rules, leads, lands_width)
 
 pub loop-l-preserved : goal.loop-l-preserved
 loop-l-preserved c =

@@ -1,9 +1,8 @@
-use Rattle.std.proofs.Common.{◌≡◌, ◌++◌, ◌∙◌, ℕ, List, false, reverse, sym, ap, subst}
+use Rattle.std.proofs.Common.{◌≡◌, ◌++◌, ◌∙◌, ℕ, List, false, sym, ap, subst}
 use Rattle.std.specs.List.Sorted.{IsPermutation}
 use Rattle.sgb_vec.specs.Boxes.{box}
 use Rattle.sgb_vec.proofs.BoxPlaces.{Contains-from_IsBelow}
 use Rattle.sgb_gen.specs.inner.LocalBoards.{arcs_of_starts, arcs_onward, moves_by, starts_of}
-use Rattle.sgb_gen.specs.LocalLists.{LinksData, LocalArc}
 use Rattle.sgb_gen.specs.Moves.{opposite, sides_of}
 use Rattle.sgb_gen.specs.VectorGraphs.{vertex_among}
 use Rattle.sgb_gen.proofs.SortedStarts.{sorted_starts}
@@ -27,7 +26,4 @@ returns-clause-ok c =
     ap (λ r. arcs_of_starts sides b.piece u x t r c.as_slice.result.now) c.requires.back
     ∙ ap (arcs_of_starts sides b.piece u x t (opposite t)) (c.as_slice.ensures.value ∙ sorted)
     ∙ sym (onward_by_touching b t x there) in
-    let with_arcs : LinksData → List LocalArc → LinksData = λ d arcs. record { width = d.width; arcs = d.arcs ++ arcs } in
-    c.keep_starts.ensures ∙ c.in_ok-push_edges.ensures.ok
-    ∙ ap (λ d. with_arcs d (reverse (arcs_of_starts sides b.piece u x t c.args.back.now c.as_slice.result.now))) c.take_starts-starts.ensures.same
-    ∙ ap (λ ls. with_arcs c.args.links.now (reverse ls)) same
+    rw (c.keep_starts.ensures, c.in_ok-push_edges.ensures.ok, c.take_starts-starts.ensures.same, same)

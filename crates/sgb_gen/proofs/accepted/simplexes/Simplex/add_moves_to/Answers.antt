@@ -1,28 +1,7 @@
-use Rattle.std.proofs.Common.{◌+◌, length, sym, ap, subst, ◌∙◌, arith}
-use Rattle.sgb_gen.specs.Simplexes.{pairs_from}
-use Rattle.sgb_graph.proofs.AddedEvents.{AddsUpTo, up_to-none, up_to-more, up_to-all}
-use Rattle.sgb_gen.proofs.SimplexEvents.{events_by, events_by-append, events_to, pairs_after, pairs_after-all, pairs_after-next, pairs_after-none}
+use Rattle.std.proofs.Common.{rules}
+use Rattle.sgb_graph.proofs.AddedEvents.{up_to-more}
+use Rattle.sgb_gen.proofs.SimplexEvents.{events_by, events_by-append, events_to, pairs_after, pairs_after-next}
 use Rattle.sgb_gen.proofs.accepted.simplexes.Simplex.add_moves_to.Goals as goal
 
-pub loop-lower-init : goal.loop-lower-init
-loop-lower-init c =
-    let s = c.args.self.now in
-    let g = c.args.graph.now in
-    let x = c.args.x.now in
-    subst (λ ps. AddsUpTo s.directed g g (events_by s x ps) (events_to s x)) (sym (pairs_after-all (length x))) (up_to-none s.directed g (events_to s x))
-
 pub loop-lower-preserved : goal.loop-lower-preserved
-loop-lower-preserved c =
-    let s = c.args.self.now in
-    let x = c.args.x.now in
-    let j = c.loop-lower.lower in
-    let next = ap (events_by s x) (pairs_after-next (length x) j c.loop-lower-test.true)
-    ∙ events_by-append s x (pairs_from (length x) j) (pairs_after (length x) (j + 1)) in
-    up_to-more s.directed c.args.graph.now c.loop-lower.graph c.add_moves_from.new.graph (events_by s x (pairs_from (length x) j)) (events_by s x (pairs_after (length x) (j + 1))) (events_to s x) _ c.loop-lower.invariant next c.in_ok-add_moves_from.ensures.ok
-
-pub returns-clause-ok : goal.returns-clause-ok
-returns-clause-ok c =
-    let s = c.args.self.now in
-    let x = c.args.x.now in
-    up_to-all s.directed c.args.graph.now c.loop-lower.graph _ (events_to s x) c.loop-lower.invariant
-    (ap (events_by s x) (pairs_after-none (length x) c.loop-lower.lower (omega arith)))
+loop-lower-preserved c = search (rules, events_by, pairs_after-next, events_by-append, pairs_after, up_to-more, events_to)

@@ -1,35 +1,14 @@
-use Rattle.std.proofs.Common.{◌≡◌, ◌≤◌, length, map, sym, ap, subst, ◌∙◌, arith}
-use Rattle.std.proofs.lemmas.List.{length-map}
-use Rattle.sgb_vec.specs.Limits.{most_vertices}
-use Rattle.sgb_vec.specs.Names.{name_of_vector}
+use Rattle.std.proofs.Common.{ap, ◌∙◌}
 use Rattle.sgb_vec.specs.Sums.{bounded_sums}
-use Rattle.sgb_graph.specs.Descriptions.{IsGraphOf}
-use Rattle.sgb_graph.specs.Growth.{new_graph, with_id}
-use Rattle.sgb_gen.specs.inner.VectorGraphs.{HasCoordinates}
-use Rattle.sgb_gen.specs.Simplexes.{simplex_graph, simplex_id, simplex_vectors, moves_of_simplex}
-use Rattle.sgb_gen.proofs.FamilyGraphs.{fields_unused, family_made, no_room}
+use Rattle.sgb_graph.specs.Growth.{new_graph}
+use Rattle.sgb_gen.specs.Simplexes.{simplex_id, simplex_vectors, moves_of_simplex}
+use Rattle.sgb_gen.proofs.FamilyGraphs.{fields_unused, graph_made}
 use Rattle.sgb_gen.proofs.accepted.simplexes.Simplex.graph.Goals as goal
 
-pub returns-in_err-graph : goal.returns-in_err-graph
-returns-in_err-graph c =
-    let f = c.self.inside.family in
-    let few : length c.in_ok-names.names ≤ most_vertices = omega (arith, ap length c.in_ok-names.ensures.ok, length-map (bounded_sums f.total f.bounds) name_of_vector, c.self.invariant.1.vertices) in
-    no_room (simplex_graph c.args.self.now) c.from_residual-in_err-graph.result _ c.from_residual-in_err-graph.ensures (λ e h. h ∙ c.in_err-graph.ensures.err few)
-
 pub put_coordinates-requires-clause-fields : goal.put_coordinates-requires-clause-fields
-put_coordinates-requires-clause-fields c =
-    let s = c.args.self.now in
-    let f = c.self.inside.family in
-    let vectors = bounded_sums f.total f.bounds in
-    let fresh : c.in_ok-graph.graph ≡ new_graph (map name_of_vector vectors) = c.in_ok-graph.ensures.ok ∙ ap new_graph c.in_ok-names.ensures.ok in
-    fields_unused vectors s.directed c.in_ok-graph.graph c.add_arcs.new.graph _ fresh c.in_ok-add_arcs.ensures.ok
+put_coordinates-requires-clause-fields c = fields_unused (bounded_sums c.self.inside.family.total c.self.inside.family.bounds) c.args.self.now.directed c.in_ok-graph.graph c.add_arcs.new.graph _ (c.in_ok-graph.ensures.ok ∙ ap new_graph c.in_ok-names.ensures.ok) c.in_ok-add_arcs.ensures.ok
 
 pub returns : goal.returns
 returns c =
     let s = c.args.self.now in
-    let family : c.self.inside.family ≡ s.sum = ap (λ d. d.sum) c.self.view_is in
-    let fresh : c.in_ok-graph.graph ≡ new_graph (map name_of_vector (simplex_vectors s)) =
-    c.in_ok-graph.ensures.ok ∙ ap new_graph (c.in_ok-names.ensures.ok ∙ ap (λ f. map name_of_vector (bounded_sums f.total f.bounds)) family) in
-    let placed = subst (λ f. HasCoordinates (bounded_sums f.total f.bounds) c.add_arcs.new.graph c.put_coordinates.new.graph) family c.put_coordinates.ensures in
-    let made = family_made (simplex_id s) s.directed (simplex_vectors s) (moves_of_simplex s) c.in_ok-graph.graph c.add_arcs.new.graph c.put_coordinates.new.graph fresh c.in_ok-add_arcs.ensures.ok placed in
-    subst (IsGraphOf (simplex_graph s)) (sym (c.set_id.ensures ∙ ap (λ id. with_id id c.put_coordinates.new.graph) c.id.ensures)) made
+    graph_made (simplex_id s) _ s.directed (simplex_vectors s) (bounded_sums c.self.inside.family.total c.self.inside.family.bounds) (moves_of_simplex s) _ _ _ _ _ (ap (λ d. bounded_sums d.sum.total d.sum.bounds) c.self.view_is) c.in_ok-names.ensures.ok (c.in_ok-graph.ensures.ok) c.in_ok-add_arcs.ensures.ok c.put_coordinates.ensures c.set_id.ensures c.id.ensures

@@ -1,4 +1,4 @@
-use Rattle.std.proofs.Common.{◌≡◌, ◌<◌, ◌-◌, pos, to_z, of_z, w64, get_or, sym, ap, ◌∙◌, inl, inr, arith, rules, false}
+use Rattle.std.proofs.Common.{◌≡◌, ◌-◌, pos, to_z, of_z, w64, sym, ap, ◌∙◌, arith, rules, false}
 use Rattle.std.proofs.lemmas.Int.{to_z-of_z}
 use Rattle.std.proofs.lemmas.Result.{err_from_is_err_and}
 use Rattle.sgb_vec.specs.Sums.{has_great_count}
@@ -9,43 +9,19 @@ use Rattle.sgb_gen.proofs.accepted.simplexes.Simplex.shifts_count.Goals as goal
 use Rattle.sgb_gen.proofs.accepted.simplexes.Simplex.shifts_count.Goals.{then-total-eq0-via-then-total-eq0, then-total-eq0-via-else-total-eq0+then-bounds-lower-eq0, then-total-eq0-via-else-total-eq0+else-bounds-lower-eq0+then-bounds-higher-eq0}
 
 pub returns-then-total-eq0-clause-ok : goal.returns-then-total-eq0-clause-ok
-returns-then-total-eq0-clause-ok c =
-    let s = c.args.self.now.sum in
-    let at : Places = record { lower = c.args.lower; higher = c.args.higher } in
-    let total : c.total-total.result ≡ s.total = c.total-total.ensures.total ∙ ap (λ d. d.sum.total) c.self.view_is in
-    let bounds : c.sizes-bounds.result.now ≡ s.bounds = c.sizes-bounds.ensures ∙ c.self.invariant.0 ∙ ap (λ d. d.sum.bounds) c.self.view_is in
-    elim c.then-total-eq0.branch [
-      | then-total-eq0-via-then-total-eq0 w ↦ shifts-none s at c.requires.order (inl (sym total ∙ w.if-total-eq0.true))
-      | then-total-eq0-via-else-total-eq0+then-bounds-lower-eq0 w ↦
-          shifts-none s at c.requires.order (inr (inl (ap (λ b. get_or b c.args.lower 0) (sym bounds) ∙ w.if-bounds-lower-eq0.true)))
-      | then-total-eq0-via-else-total-eq0+else-bounds-lower-eq0+then-bounds-higher-eq0 w ↦
-          shifts-none s at c.requires.order (inr (inr (ap (λ b. get_or b c.args.higher 0) (sym bounds) ∙ w.if-bounds-higher-eq0.true)))
-    ]
+returns-then-total-eq0-clause-ok c = search (rules, shifts-none)
 
 pub returns-in_err-family-clause-memory : goal.returns-in_err-family-clause-memory
 returns-in_err-family-clause-memory c =
     let s = c.args.self.now.sum in
     let at : Places = record { lower = c.args.lower; higher = c.args.higher } in
     let total : c.total-total.result ≡ s.total = c.total-total.ensures.total ∙ ap (λ d. d.sum.total) c.self.view_is in
-    let bounds : c.sizes-bounds.result.now ≡ s.bounds = c.sizes-bounds.ensures ∙ c.self.invariant.0 ∙ ap (λ d. d.sum.bounds) c.self.view_is in
     let none : has_great_count s.total s.bounds ≡ false = ap (λ d. has_great_count d.sum.total d.sum.bounds) (sym c.self.view_is) ∙ c.self.invariant.2 in
-    let lower = c.as_slice.ensures.value ∙ c.lowered-bounds.ensures ∙ ap (λ b. lowered b at) bounds in
+    let lower = c.as_slice.ensures.value ∙ c.lowered-bounds.ensures ∙ ap (λ b. lowered b at) c.sizes-bounds.ensures.same in
     let p = err_from_is_err_and c.from_residual.result c.from_residual.ensures.1 in
     let number = to_z-of_z w64 c.from.result (search rules) ∙ c.from.ensures ∙ ap (λ t. pos (t - 1)) total in
     let made = family_lowered s at (to_z w64 (of_z w64 c.from.result)) c.as_slice.result.now c.new.result (omega (arith, total, c.total-total.ensures.small)) none number lower c.new.ensures.value in
     rw (p.1, p.2) (room_alone c.new.result _ c.in_err-family.field-0.0 c.in_err-family.was made)
 
 pub returns-clause-ok : goal.returns-clause-ok
-returns-clause-ok c =
-    let s = c.args.self.now.sum in
-    let at : Places = record { lower = c.args.lower; higher = c.args.higher } in
-    let total : c.total-total.result ≡ s.total = c.total-total.ensures.total ∙ ap (λ d. d.sum.total) c.self.view_is in
-    let bounds : c.sizes-bounds.result.now ≡ s.bounds = c.sizes-bounds.ensures ∙ c.self.invariant.0 ∙ ap (λ d. d.sum.bounds) c.self.view_is in
-    let none : has_great_count s.total s.bounds ≡ false = ap (λ d. has_great_count d.sum.total d.sum.bounds) (sym c.self.view_is) ∙ c.self.invariant.2 in
-    let lower = c.as_slice.ensures.value ∙ c.lowered-bounds.ensures ∙ ap (λ b. lowered b at) bounds in
-    let some : 0 < s.total = omega (arith, total, c.if-total-eq0.false) in
-    let low : 0 < get_or s.bounds c.args.lower 0 = omega (arith, ap (λ b. get_or b c.args.lower 0) bounds, c.if-bounds-lower-eq0.false) in
-    let high : 0 < get_or s.bounds c.args.higher 0 = omega (arith, ap (λ b. get_or b c.args.higher 0) bounds, c.if-bounds-higher-eq0.false) in
-    let number = to_z-of_z w64 c.from.result (search rules) ∙ c.from.ensures ∙ ap (λ t. pos (t - 1)) total in
-    let made = family_lowered s at (to_z w64 (of_z w64 c.from.result)) c.as_slice.result.now c.new.result (omega (arith, total, c.total-total.ensures.small)) none number lower c.new.ensures.value in
-    c.size.ensures ∙ size_lowered s at c.new.result c.in_ok-family.family c.requires.order some low high c.in_ok-family.was made
+returns-clause-ok c = search (rules, to_z-of_z, family_lowered, size_lowered)

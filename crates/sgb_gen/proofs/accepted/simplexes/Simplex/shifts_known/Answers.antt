@@ -1,4 +1,4 @@
-use Rattle.std.proofs.Common.{◌≡◌, get_or, sym, ap, ◌∙◌}
+use Rattle.std.proofs.Common.{get_or, sym, ap, ◌∙◌}
 use Rattle.sgb_gen.specs.Simplexes.{Places}
 use Rattle.sgb_gen.proofs.EqualBounds.{shifts-same}
 use Rattle.sgb_gen.proofs.accepted.simplexes.Simplex.shifts_known.Goals as goal
@@ -7,9 +7,8 @@ pub returns-clause-known : goal.returns-clause-known
 returns-clause-known c =
     let s = c.args.self.now.sum in
     let own : Places = record { lower = c.args.lower; higher = c.args.higher } in
-    let bounds : c.sizes-bounds.result.now ≡ s.bounds = c.sizes-bounds.ensures ∙ c.self.invariant.0 ∙ ap (λ d. d.sum.bounds) c.self.view_is in
-    let lower = ap (λ b. get_or b c.args.lower 0) bounds in
-    let higher = ap (λ b. get_or b c.args.higher 0) bounds in
+    let lower = ap (λ b. get_or b c.args.lower 0) c.sizes-bounds.ensures.same in
+    let higher = ap (λ b. get_or b c.args.higher 0) c.sizes-bounds.ensures.same in
     c.keep.ensures s
     (record {
       small = c.in_ok-count.ensures.small;

@@ -1,66 +1,34 @@
-use Rattle.std.proofs.Common.{◌≡◌, ◌<◌, true, false, cond, Some, None, length, sym, ap, subst, ◌∙◌, arith}
-use Rattle.std.specs.List.{Contains, slice_get}
+use Rattle.std.proofs.Common.{rules, ◌≡◌, true, sym, ap, subst, ◌∙◌, arith}
+use Rattle.std.specs.List.{Contains}
 use Rattle.std.proofs.lemmas.Option.{slice_get_within}
-use Rattle.sgb_vec.specs.Lexicographic.{IsRising}
 use Rattle.sgb_vec.proofs.SumMembers.{bounded_sums-rise}
-use Rattle.sgb_gen.specs.VectorGraphs.{vertex_among}
-use Rattle.sgb_gen.specs.Simplexes.{Places, can_shift, shifted, simplex_vectors}
+use Rattle.sgb_gen.specs.Simplexes.{Places, can_shift, simplex_vectors}
 use Rattle.sgb_gen.proofs.SimplexEvents.{length_in_sum, shifted_in_simplex, vertex_in_simplex}
 use Rattle.sgb_gen.proofs.accepted.simplexes.Simplex.vertex_at.Goals as goal
 
 pub can_move_unit-requires-clause-bounds : goal.can_move_unit-requires-clause-bounds
-can_move_unit-requires-clause-bounds c =
-    let s = c.args.self.now in
-    let sizes : c.sizes-bounds.result.now ≡ s.sum.bounds = c.sizes-bounds.ensures ∙ c.self.invariant.0 ∙ ap (λ d. d.sum.bounds) c.self.view_is in
-    length_in_sum s c.args.x.now c.requires.member ∙ sym (ap length sizes)
-
-pub returns-then-not-can_move_unit-clause-vertex : goal.returns-then-not-can_move_unit-clause-vertex
-returns-then-not-can_move_unit-clause-vertex c =
-    let s = c.args.self.now in
-    let at : Places = record { lower = c.args.lower; higher = c.args.higher } in
-    let sizes : c.sizes-bounds.result.now ≡ s.sum.bounds = c.sizes-bounds.ensures ∙ c.self.invariant.0 ∙ ap (λ d. d.sum.bounds) c.self.view_is in
-    let cannot : can_shift s.sum.bounds c.args.x.now at ≡ false = sym (c.can_move_unit.ensures ∙ ap (λ bs. can_shift bs c.args.x.now at) sizes) ∙ c.if-not-can_move_unit.true in
-    ap (λ b. cond b (Some (vertex_among (simplex_vectors s) (shifted c.args.x.now at))) None) (sym cannot)
+can_move_unit-requires-clause-bounds c = search (rules, length_in_sum)
 
 pub unit_moved-there-requires-clause-bounds : goal.unit_moved-there-requires-clause-bounds
-unit_moved-there-requires-clause-bounds c =
-    let s = c.args.self.now in
-    let sizes : c.sizes-bounds.result.now ≡ s.sum.bounds = c.sizes-bounds.ensures ∙ c.self.invariant.0 ∙ ap (λ d. d.sum.bounds) c.self.view_is in
-    length_in_sum s c.args.x.now c.requires.member ∙ sym (ap length sizes)
+unit_moved-there-requires-clause-bounds c = search (rules, length_in_sum)
 
 pub unit_moved-there-requires-clause-few : goal.unit_moved-there-requires-clause-few
-unit_moved-there-requires-clause-few c =
-    let s = c.args.self.now in
-    omega (arith, length_in_sum s c.args.x.now c.requires.member, ap (λ d. length d.sum.bounds) c.self.view_is, c.self.invariant.1.dimensions)
+unit_moved-there-requires-clause-few c = omega (arith, length_in_sum c.args.self.now c.args.x.now c.requires.member, c.sizes-bounds.ensures.few)
 
 pub place_of-requires-clause-rising : goal.place_of-requires-clause-rising
-place_of-requires-clause-rising c =
-    let s = c.args.self.now in
-    subst IsRising (sym c.requires.vertices) (bounded_sums-rise s.sum.total s.sum.bounds)
+place_of-requires-clause-rising c = search (rules, bounded_sums-rise)
 
 pub place_of-requires-clause-member : goal.place_of-requires-clause-member
 place_of-requires-clause-member c =
     let s = c.args.self.now in
     let at : Places = record { lower = c.args.lower; higher = c.args.higher } in
-    let sizes : c.sizes-bounds.result.now ≡ s.sum.bounds = c.sizes-bounds.ensures ∙ c.self.invariant.0 ∙ ap (λ d. d.sum.bounds) c.self.view_is in
-    let can : can_shift s.sum.bounds c.args.x.now at ≡ true = sym (c.can_move_unit.ensures ∙ ap (λ bs. can_shift bs c.args.x.now at) sizes) ∙ c.if-not-can_move_unit.false in
+    let can : can_shift s.sum.bounds c.args.x.now at ≡ true = sym (c.can_move_unit.ensures ∙ ap (λ bs. can_shift bs c.args.x.now at) c.sizes-bounds.ensures.same) ∙ c.if-not-can_move_unit.false in
     let there = shifted_in_simplex s c.args.x.now at c.requires.member c.requires.order c.requires.entry can in
     subst (λ vectors. Contains vectors c.as_slice.result.now) (sym c.requires.vertices)
     (subst (Contains (simplex_vectors s)) (sym (c.as_slice.ensures.value ∙ c.unit_moved-there.ensures)) there)
 
 pub returns-clause-vertex : goal.returns-clause-vertex
-returns-clause-vertex c =
-    let s = c.args.self.now in
-    let at : Places = record { lower = c.args.lower; higher = c.args.higher } in
-    let there = shifted c.args.x.now at in
-    let sizes : c.sizes-bounds.result.now ≡ s.sum.bounds = c.sizes-bounds.ensures ∙ c.self.invariant.0 ∙ ap (λ d. d.sum.bounds) c.self.view_is in
-    let can : can_shift s.sum.bounds c.args.x.now at ≡ true = sym (c.can_move_unit.ensures ∙ ap (λ bs. can_shift bs c.args.x.now at) sizes) ∙ c.if-not-can_move_unit.false in
-    let place : slice_get (simplex_vectors s) c.place_of.result ≡ Some there =
-    sym (ap (λ vectors. slice_get vectors c.place_of.result) c.requires.vertices) ∙ c.place_of.ensures ∙ ap Some (c.as_slice.ensures.value ∙ c.unit_moved-there.ensures) in
-    ap Some (sym (vertex_in_simplex s c.place_of.result there place))
-    ∙ ap (λ b. cond b (Some (vertex_among (simplex_vectors s) there)) None) (sym can)
+returns-clause-vertex c = search (rules, vertex_in_simplex)
 
 pub returns-clause-within : goal.returns-clause-within
-returns-clause-within c =
-    let within = slice_get_within c.args.vertices.now c.place_of.result c.as_slice.result.now c.place_of.ensures in
-    subst (λ vectors. c.place_of.result < length vectors) c.requires.vertices within
+returns-clause-within c = search (rules, slice_get_within)

@@ -1,17 +1,8 @@
-use Rattle.std.proofs.Common.{◌≡◌, ◌+◌, ◌-◌, ◌++◌, length, reverse, sym, ap, ◌∙◌, arith}
-use Rattle.sgb_gen.specs.inner.LocalSimplexes.{arcs_on, pairs_down, with_arcs}
-use Rattle.sgb_gen.proofs.PairWalks.{with_none, with_more, arcs_on-append, after-next, after-none, after-all}
+use Rattle.std.proofs.Common.{rules, ◌≡◌, ◌+◌, ◌-◌, ◌++◌, length, reverse, ap, ◌∙◌, arith}
+use Rattle.sgb_gen.specs.inner.LocalSimplexes.{arcs_on, pairs_down}
+use Rattle.sgb_gen.proofs.PairWalks.{with_more, arcs_on-append, after-next, after-all}
 use Rattle.sgb_gen.proofs.SimplexEvents.{pairs_after}
 use Rattle.sgb_gen.proofs.accepted.simplexes.lists.push_on.Goals as goal
-
-pub loop-lower-init : goal.loop-lower-init
-loop-lower-init c =
-    let n = length c.args.x.now in
-    with_none c.args.links.now
-    ∙ ap (λ ps. with_arcs c.args.links.now (arcs_on c.args.bounds.now c.args.x.now ps)) (sym (after-none n n (omega arith)))
-
-pub push_on_from-requires-clause-width : goal.push_on_from-requires-clause-width
-push_on_from-requires-clause-width c = c.requires.width ∙ sym (ap (λ d. d.width) c.loop-lower.invariant)
 
 pub loop-lower-preserved : goal.loop-lower-preserved
 loop-lower-preserved c =
@@ -27,9 +18,4 @@ loop-lower-preserved c =
     (ap (arcs_on bounds x) next ∙ arcs_on-append bounds x (reverse (pairs_after n j)) (pairs_down n (j - 1)))
 
 pub returns-clause-ok : goal.returns-clause-ok
-returns-clause-ok c =
-    let n = length c.args.x.now in
-    let end : c.loop-lower.lower ≡ 0 = omega arith in
-    c.loop-lower.invariant
-    ∙ ap (λ k. with_arcs c.args.links.now (arcs_on c.args.bounds.now c.args.x.now (reverse (pairs_after n k)))) end
-    ∙ ap (λ ps. with_arcs c.args.links.now (arcs_on c.args.bounds.now c.args.x.now ps)) (after-all n)
+returns-clause-ok c = search (rules, after-all)

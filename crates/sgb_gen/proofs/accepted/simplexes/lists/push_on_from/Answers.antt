@@ -1,19 +1,10 @@
-use Rattle.std.proofs.Common.{◌≡◌, ◌+◌, length, reverse, sym, ap, ◌∙◌, arith}
+use Rattle.std.proofs.Common.{rules, length, ap, ◌∙◌, arith}
 use Rattle.sgb_gen.specs.inner.LocalSimplexes.{arcs_on, with_arcs}
 use Rattle.sgb_gen.proofs.PairWalks.{with_none, arcs_on-append, left-none, on-one, pair_more}
-use Rattle.sgb_gen.proofs.SimplexEvents.{pairs_left}
 use Rattle.sgb_gen.proofs.accepted.simplexes.lists.push_on_from.Goals as goal
 
 pub loop-higher-init : goal.loop-higher-init
-loop-higher-init c =
-    let n = length c.args.x.now in (
-      omega arith,
-      with_none c.args.links.now
-          ∙ ap (λ ps. with_arcs c.args.links.now (arcs_on c.args.bounds.now c.args.x.now ps)) (sym (left-none n c.args.lower n (omega arith))),
-    )
-
-pub push_one-requires-clause-width : goal.push_one-requires-clause-width
-push_one-requires-clause-width c = c.requires.width ∙ sym (ap (λ d. d.width) c.loop-higher.invariant.1)
+loop-higher-init c = search (rules, with_none, left-none)
 
 pub loop-higher-preserved : goal.loop-higher-preserved
 loop-higher-preserved c =
@@ -23,10 +14,3 @@ loop-higher-preserved c =
       pair_more (arcs_on bounds x) (arcs_on-append bounds x) (length x) c.args.lower c.loop-higher.higher _ _ _ (omega arith) (omega arith) c.loop-higher.invariant.1
           (c.in_ok-push_one.ensures.ok ∙ ap (with_arcs c.loop-higher.links) (on-one bounds x _)),
     )
-
-pub returns-clause-ok : goal.returns-clause-ok
-returns-clause-ok c =
-    let n = length c.args.x.now in
-    let end : c.loop-higher.higher ≡ c.args.lower + 1 = omega arith in
-    c.loop-higher.invariant.1
-    ∙ ap (λ k. with_arcs c.args.links.now (arcs_on c.args.bounds.now c.args.x.now (reverse (pairs_left n c.args.lower k)))) end

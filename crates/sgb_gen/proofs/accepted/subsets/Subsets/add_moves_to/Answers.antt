@@ -1,31 +1,21 @@
-use Rattle.std.proofs.Common.{◌+◌, sym, subst, arith, rules}
+use Rattle.std.proofs.Common.{◌+◌, subst, arith, rules}
 use Rattle.std.proofs.lemmas.Option.{slice_get_within}
 use Rattle.sgb_gen.specs.Subsets.{subsets_vectors}
 use Rattle.sgb_graph.specs.Growth.{AddsEvents}
-use Rattle.sgb_graph.proofs.AddedEvents.{AddsUpTo, up_to-none, up_to-more, up_to-all}
+use Rattle.sgb_graph.proofs.AddedEvents.{up_to-none, up_to-more, up_to-all}
 use Rattle.sgb_gen.proofs.FamilyWalks.{at_front, next_left, none_left}
 use Rattle.sgb_gen.proofs.SubsetsEvents.{event_of_size, events_to-next, events_to-none, events_at, events_at-vector, is_among, same_width}
 use Rattle.sgb_gen.proofs.accepted.subsets.Subsets.add_moves_to.Goals as goal
 
 pub loop-u-init : goal.loop-u-init
-loop-u-init c =
-    let s = c.args.self.now in
-    let g = c.args.graph.now in (
-      search rules,
-      subst (λ es. AddsUpTo s.directed g g es (events_at s c.args.v)) (sym (events_at-vector s c.args.to.now c.args.v c.requires.vertex)) (up_to-none s.directed g (events_at s c.args.v)),
-    )
+loop-u-init c = search (rules, events_at, events_at-vector, up_to-none)
 
 pub common-requires-clause-widths : goal.common-requires-clause-widths
 common-requires-clause-widths c =
     same_width c.args.self.now _ _ (is_among (subsets_vectors c.args.self.now) c.loop-u.u _ (at_front (subsets_vectors c.args.self.now) _ c.loop-u.u _ c.loop-u.invariant.0 c.in-Some.ensures.first)) (is_among (subsets_vectors c.args.self.now) c.args.v _ c.requires.vertex)
 
-pub add_move-requires-clause-from : goal.add_move-requires-clause-from
-add_move-requires-clause-from c =
-    omega (arith, slice_get_within (subsets_vectors c.args.self.now) c.args.v c.args.to.now c.requires.vertex, c.loop-u.invariant.1.added.rest.size, c.requires.vertices)
-
 pub add_move-requires-clause-to : goal.add_move-requires-clause-to
-add_move-requires-clause-to c =
-    omega (arith, slice_get_within (subsets_vectors c.args.self.now) c.args.v c.args.to.now c.requires.vertex, c.loop-u.invariant.1.added.rest.size, c.requires.vertices)
+add_move-requires-clause-to c = search (rules, slice_get_within)
 
 pub loop-u-preserved : goal.loop-u-preserved
 loop-u-preserved c =
@@ -37,10 +27,7 @@ loop-u-preserved c =
     )
 
 pub returns-in_default-clause-ok : goal.returns-in_default-clause-ok
-returns-in_default-clause-ok c =
-    let past = none_left (subsets_vectors c.args.self.now) _ c.loop-u.u c.loop-u.invariant.0 (rw c.in_default.is at c.front.ensures.none) in
-    let within = slice_get_within (subsets_vectors c.args.self.now) c.args.v _ c.requires.vertex in
-    absurd (omega (arith, past, within))
+returns-in_default-clause-ok c = grind (arith, none_left, slice_get_within)
 
 pub returns-in_ok-add_move-clause-ok : goal.returns-in_ok-add_move-clause-ok
 returns-in_ok-add_move-clause-ok c =

@@ -1,4 +1,4 @@
-use Rattle.std.proofs.Common.{◌≡◌, ◌≤◌, ℕ, ℤ, Bool, true, false, List, [], ◌++◌, length, codes, refl, ap, ◌∙◌, arith}
+use Rattle.std.proofs.Common.{rules, ◌≡◌, ◌≤◌, ℕ, ℤ, Bool, true, false, List, [], ◌++◌, length, codes, refl, ap, ◌∙◌, arith}
 use Rattle.std.proofs.lemmas.List.{length-append}
 use Rattle.sgb_graph.proofs.IdLemmas.{length-small_numbers}
 use Rattle.sgb_graph.specs.IdTexts.{numbers_text}
@@ -29,30 +29,19 @@ length-flag true = refl
 length-flag false = refl
 
 -- after the name and the six numbers there are at most 80 bytes
-numbers_short : (start new : List ℕ) (params read : List ℤ) → start ≡ [] ++ codes "subsets(" → new ≡ start ++ numbers_text read → read ≡ params → length params ≡ 6 → AreSmall params → length new ≤ 80
-numbers_short start new params read begun put same six small =
+numbers_short : (new start pushed : List ℕ) (params read : List ℤ) → new ≡ [] → start ≡ new ++ codes "subsets(" → pushed ≡ start ++ numbers_text read → read ≡ params → length params ≡ 6 → AreSmall params → length pushed ≤ 80
+numbers_short new start pushed params read none begun put same six small =
     let short = length-small_numbers params small in
-    omega (arith, ap length put, ap (λ ns. length (start ++ numbers_text ns)) same, length-append start (numbers_text params), short, six, ap length begun)
+    omega (arith, ap length put, ap (λ ns. length (start ++ numbers_text ns)) same, length-append start (numbers_text params), short, six, ap length (begun ∙ ap (λ t. t ++ codes "subsets(") none))
 
 pub push_hexadecimal-requires : goal.push_hexadecimal-requires
-push_hexadecimal-requires c =
-    let start = c.push_text.ensures ∙ ap (λ t. t ++ codes "subsets(") c.new-id.ensures in
-    omega (arith, numbers_short _ _ _ _ start c.push_numbers.ensures.bytes c.params.ensures c.self.invariant.1.parameters c.self.invariant.2)
+push_hexadecimal-requires c = omega (arith, numbers_short _ _ _ _ _ c.new-id.ensures c.push_text.ensures c.push_numbers.ensures.bytes c.params.ensures c.self.invariant.1.parameters c.self.invariant.2)
 
 pub push_text-requires-2-clause-room : goal.push_text-requires-2-clause-room
-push_text-requires-2-clause-room c =
-    let start = c.push_text.ensures ∙ ap (λ t. t ++ codes "subsets(") c.new-id.ensures in
-    let short = numbers_short _ _ _ _ start c.push_numbers.ensures.bytes c.params.ensures c.self.invariant.1.parameters c.self.invariant.2 in
-    omega (arith, short, c.push_hexadecimal.ensures.short)
+push_text-requires-2-clause-room c = search (rules, numbers_short)
 
 pub push_flag-requires : goal.push_flag-requires
-push_flag-requires c =
-    let start = c.push_text.ensures ∙ ap (λ t. t ++ codes "subsets(") c.new-id.ensures in
-    let short = numbers_short _ _ _ _ start c.push_numbers.ensures.bytes c.params.ensures c.self.invariant.1.parameters c.self.invariant.2 in
-    omega (arith, short, c.push_hexadecimal.ensures.short, ap length c.push_text-2.ensures, length-append c.push_hexadecimal.new.self (codes ","))
+push_flag-requires c = search (rules, numbers_short, length-append)
 
 pub push_text-requires-3-clause-room : goal.push_text-requires-3-clause-room
-push_text-requires-3-clause-room c =
-    let start = c.push_text.ensures ∙ ap (λ t. t ++ codes "subsets(") c.new-id.ensures in
-    let short = numbers_short _ _ _ _ start c.push_numbers.ensures.bytes c.params.ensures c.self.invariant.1.parameters c.self.invariant.2 in
-    omega (arith, short, c.push_hexadecimal.ensures.short, ap length c.push_text-2.ensures, length-append c.push_hexadecimal.new.self (codes ","), ap length c.push_flag.ensures, length-append c.push_text-2.new.self (flag_text c.self.inside.directed), length-flag c.self.inside.directed)
+push_text-requires-3-clause-room c = search (rules, numbers_short, length-append, length-flag)

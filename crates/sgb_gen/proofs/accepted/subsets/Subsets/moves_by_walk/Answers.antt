@@ -1,6 +1,6 @@
 use Rattle.std.proofs.Common.{◌≡◌, ◌≤◌, ◌∷◌, length, drop, refl, sym, ap, subst, ◌∙◌, arith, sum}
 use Rattle.std.specs.List.{All, Contains}
-use Rattle.std.proofs.lemmas.List.Elements.{All-contains_itself, All-head, All-tail}
+use Rattle.std.proofs.lemmas.List.Elements.{All-contains_itself, All-tail}
 use Rattle.sgb_vec.specs.Limits.{most_vertices}
 use Rattle.sgb_vec.specs.Sums.{bounded_sums}
 use Rattle.sgb_vec.proofs.RangeSteps.{first_and_rest}
@@ -10,6 +10,7 @@ use Rattle.sgb_gen.specs.inner.Descents.{down_from}
 use Rattle.sgb_gen.specs.inner.SubsetsCounts.{moves_among, wanted_among}
 use Rattle.sgb_gen.proofs.DescentArcs.{begun-all}
 use Rattle.sgb_gen.proofs.SubsetsCounts.{moves-counted, moves-few}
+use Rattle.sgb_gen.proofs.DisplacementWalk.{first_has}
 use Rattle.sgb_gen.proofs.accepted.subsets.Subsets.moves_by_walk.Goals as goal
 
 pub loop-x-init : goal.loop-x-init
@@ -23,34 +24,20 @@ loop-x-init c =
 pub count_from-counted-requires-clause-begun : goal.count_from-counted-requires-clause-begun
 count_from-counted-requires-clause-begun c =
     let s = c.args.self.now in
-    let x = c.in-Some.x.now in
-    let rest = drop 1 c.loop-x.left in
-    let bounds : c.sizes-bounds.result.now ≡ s.sum.bounds = c.sizes-bounds.ensures ∙ c.self.invariant.0 ∙ ap (λ d. d.sum.bounds) c.self.view_is in
-    let step : c.loop-x.left ≡ x ∷ rest = first_and_rest c.loop-x.left rest x x c.in-Some.ensures.first refl refl in
-    let member = All-head (Contains (subsets_vectors s)) x rest (subst (All (Contains (subsets_vectors s))) step c.loop-x.invariant.0) in
-    rw c.begun-begun.ensures.value (begun-all s.sum c.sizes-bounds.result.now x _ _ _ member bounds (ap sum (sym bounds)) refl refl c.begun-begun.ensures.small)
+    let member = first_has (Contains (subsets_vectors s)) c.loop-x.left c.in-Some.x.now c.loop-x.invariant.0 c.in-Some.ensures.first in
+    rw c.begun-begun.ensures.value (begun-all s.sum c.sizes-bounds.result.now c.in-Some.x.now _ _ _ member c.sizes-bounds.ensures (ap sum (sym c.sizes-bounds.ensures)) refl refl c.begun-begun.ensures.small)
 
 pub count_from-counted-requires-clause-all : goal.count_from-counted-requires-clause-all
 count_from-counted-requires-clause-all c =
     let s = c.args.self.now in
-    let x = c.in-Some.x.now in
-    let rest = drop 1 c.loop-x.left in
-    let step : c.loop-x.left ≡ x ∷ rest = first_and_rest c.loop-x.left rest x x c.in-Some.ensures.first refl refl in
-    let member = All-head (Contains (subsets_vectors s)) x rest (subst (All (Contains (subsets_vectors s))) step c.loop-x.invariant.0) in
-    let is = (Contains-bounded_sums s.sum.total s.sum.bounds x).0 member in
-    ap (λ b. b.left) c.begun-begun.ensures.value ∙ sym is.1
+    let member = first_has (Contains (subsets_vectors s)) c.loop-x.left c.in-Some.x.now c.loop-x.invariant.0 c.in-Some.ensures.first in
+    ap (λ b. b.left) c.begun-begun.ensures.value ∙ sym ((Contains-bounded_sums s.sum.total s.sum.bounds c.in-Some.x.now).0 member).1
 
 pub overflow_add-counted : goal.overflow_add-counted
 overflow_add-counted c =
     let s = c.args.self.now in
-    let x = c.in-Some.x.now in
-    let rest = drop 1 c.loop-x.left in
-    let bounds : c.sizes-bounds.result.now ≡ s.sum.bounds = c.sizes-bounds.ensures ∙ c.self.invariant.0 ∙ ap (λ d. d.sum.bounds) c.self.view_is in
-    let step : c.loop-x.left ≡ x ∷ rest = first_and_rest c.loop-x.left rest x x c.in-Some.ensures.first refl refl in
-    let here : c.count_from-counted.result ≡ wanted_among s.size_bits 0 x (down_from s.sum.bounds x) =
-    c.count_from-counted.ensures
-    ∙ ap (λ b. wanted_among b.size_bits b.common x (down_from c.sizes-bounds.result.now x)) c.begun-begun.ensures.value
-    ∙ ap (λ bs. wanted_among s.size_bits 0 x (down_from bs x)) bounds in
+    let step = first_and_rest c.loop-x.left (drop 1 c.loop-x.left) c.in-Some.x.now c.in-Some.x.now c.in-Some.ensures.first refl refl in
+    let here : c.count_from-counted.result ≡ wanted_among s.size_bits 0 c.in-Some.x.now (down_from s.sum.bounds c.in-Some.x.now) = rw (← c.sizes-bounds.ensures) (rw c.begun-begun.ensures.value at c.count_from-counted.ensures) in
     let few = subst (λ d. length (bounded_sums d.sum.total d.sum.bounds) ≤ most_vertices) c.self.view_is c.self.invariant.1.vertices in
     omega (arith, here, c.loop-x.invariant.1, ap (moves_among s.size_bits s.sum.bounds) step, moves-few s few)
 
@@ -59,12 +46,8 @@ loop-x-preserved c =
     let s = c.args.self.now in
     let x = c.in-Some.x.now in
     let rest = c.advance-some.new.self in
-    let bounds : c.sizes-bounds.result.now ≡ s.sum.bounds = c.sizes-bounds.ensures ∙ c.self.invariant.0 ∙ ap (λ d. d.sum.bounds) c.self.view_is in
-    let step : c.loop-x.left ≡ x ∷ rest = first_and_rest c.loop-x.left rest x x c.in-Some.ensures.first refl c.advance-some.ensures.rest in
-    let here : c.count_from-counted.result ≡ wanted_among s.size_bits 0 x (down_from s.sum.bounds x) =
-    c.count_from-counted.ensures
-    ∙ ap (λ b. wanted_among b.size_bits b.common x (down_from c.sizes-bounds.result.now x)) c.begun-begun.ensures.value
-    ∙ ap (λ bs. wanted_among s.size_bits 0 x (down_from bs x)) bounds in (
+    let here : c.count_from-counted.result ≡ wanted_among s.size_bits 0 c.in-Some.x.now (down_from s.sum.bounds c.in-Some.x.now) = rw (← c.sizes-bounds.ensures) (rw c.begun-begun.ensures.value at c.count_from-counted.ensures) in
+    let step : c.loop-x.left ≡ x ∷ rest = first_and_rest c.loop-x.left rest x x c.in-Some.ensures.first refl c.advance-some.ensures.rest in (
       All-tail (Contains (subsets_vectors s)) x rest (subst (All (Contains (subsets_vectors s))) step c.loop-x.invariant.0),
       omega (arith, here, c.loop-x.invariant.1, ap (moves_among s.size_bits s.sum.bounds) step),
     )

@@ -6,8 +6,7 @@ use Rattle.sgb_gen.proofs.accepted.subsets.Subsets.push_all.Goals as goal
 pub push_both-requires-clause-begun : goal.push_both-requires-clause-begun
 push_both-requires-clause-begun c =
     let s = c.args.self.now in
-    let bounds = c.sizes.ensures ∙ c.self.invariant.0 ∙ ap (λ d. d.sum.bounds) c.self.view_is in
-    rw c.begun.ensures.value (begun-all s.sum c.sizes.result.now c.args.x.now _ _ _ c.requires.member bounds (ap sum (sym bounds)) refl refl c.begun.ensures.small)
+    rw c.begun.ensures.value (begun-all s.sum c.sizes.result.now c.args.x.now _ _ _ c.requires.member c.sizes.ensures (ap sum (sym c.sizes.ensures)) refl refl c.begun.ensures.small)
 
 pub push_both-requires-clause-all : goal.push_both-requires-clause-all
 push_both-requires-clause-all c =

@@ -22,13 +22,7 @@ returns-in_default t c =
     ∙ among-ended_from b.size_bits b.common b.left bounds x c.requires.begun.within none c.requires.all
 
 pub returns : goal.returns
-returns t c =
-    let b = c.args.begun in
-    let s = c.in-Some-Some in
-    let others : c.count_from.result ≡ wanted_among b.size_bits (b.common + min s.own.now s.own.now) s.x.now (down_from s.bounds.now s.x.now) =
-    c.count_from.ensures ∙ ap (λ q. wanted_among q.size_bits q.common s.x.now (down_from s.bounds.now s.x.now)) c.placed.ensures in
-    among-from b.size_bits b.common b.left s.bound.now s.own.now c.count_rows-lower.result c.count_from.result s.bounds.now s.x.now c.args.bounds.now c.args.x.now
-    s.ensures.cases.0 s.ensures'.cases.0 c.requires.all c.count_rows-lower.ensures others
+returns t c = search (rules, among-from)
 
 pub count_rows-lower-requires-clause-few : goal.count_rows-lower-requires-clause-few
 count_rows-lower-requires-clause-few t c =

@@ -1,4 +1,4 @@
-use Rattle.std.proofs.Common.{◌≡◌, ◌+◌, ◌-◌, min, reverse, sum, refl, ap, ◌∙◌, inl, inr, arith, rules}
+use Rattle.std.proofs.Common.{◌≡◌, ◌+◌, ◌-◌, min, reverse, sum, refl, ap, ◌∙◌, arith, rules}
 use Rattle.sgb_vec.specs.Limits.{most_vertices}
 use Rattle.sgb_vec.specs.Sums.{bounded_sums}
 use Rattle.sgb_vec.proofs.SumSuccessors.{sum-cons}
@@ -7,24 +7,13 @@ use Rattle.sgb_gen.proofs.SubsetsCounts.{among-ended, among-rows, among-unwanted
 use Rattle.sgb_gen.proofs.accepted.subsets.counts.+counting.Goals as goal
 
 pub count_all-returns-then-begun-eq0 : goal.count_all-returns-then-begun-eq0
-count_all-returns-then-begun-eq0 t c =
-    let b = c.args.begun in
-    c.count_zeros.ensures ∙ among-zeros b.size_bits b.common b.left c.args.bounds.now c.args.x.now c.if-begun-eq0.true
+count_all-returns-then-begun-eq0 t c = search (rules, among-zeros)
 
 pub count_all-returns-then-not-may_be_wanted : goal.count_all-returns-then-not-may_be_wanted
-count_all-returns-then-not-may_be_wanted t c =
-    let b = c.args.begun in
-    among-unwanted b.size_bits b.common c.args.bounds.now c.args.x.now b.room b.shared b.left c.requires.begun c.if-not-may_be_wanted.ensures
-
-pub count_all-returns-in_default : goal.count_all-returns-in_default
-count_all-returns-in_default t c =
-    let b = c.args.begun in
-    among-ended b.size_bits b.common b.left c.args.bounds.now c.args.x.now c.requires.begun.within (inl c.in_default.ensures'.cases) (omega (arith, c.if-begun-eq0.false))
+count_all-returns-then-not-may_be_wanted t c = search (rules, among-unwanted)
 
 pub count_all-returns-in_default-2 : goal.count_all-returns-in_default-2
-count_all-returns-in_default-2 t c =
-    let b = c.args.begun in
-    among-ended b.size_bits b.common b.left c.args.bounds.now c.args.x.now c.requires.begun.within (inr c.in_default.ensures.cases) (omega (arith, c.if-begun-eq0.false))
+count_all-returns-in_default-2 t c = search (rules, among-ended)
 
 pub count_all-count_rows-requires : goal.count_all-count_rows-requires
 count_all-count_rows-requires t c =
@@ -33,11 +22,7 @@ count_all-count_rows-requires t c =
     (search rules, (search rules, (search rules, few)))
 
 pub count_all-returns : goal.count_all-returns
-count_all-returns t c =
-    let b = c.args.begun in
-    let s = c.in-Some-Some in
-    c.count_rows.ensures
-    ∙ among-rows b.size_bits b.common b.left s.bound.now s.own.now (c.min-end.result + 1) s.bounds.now s.x.now c.args.bounds.now c.args.x.now s.ensures.cases.0 s.ensures'.cases.0 (ap (λ n. n + 1) c.min-end.ensures)
+count_all-returns t c = search (rules, among-rows)
 
 pub count_rows-count_all-counted-requires : goal.count_rows-count_all-counted-requires
 count_rows-count_all-counted-requires t c =
@@ -67,12 +52,4 @@ count_rows-overflow_add-counted t c =
     )
 
 pub count_rows-loop-k-preserved : goal.count_rows-loop-k-preserved
-count_rows-loop-k-preserved t c =
-    let b = c.args.begun in
-    let e = c.with_room-entries in
-    let bounds = c.args.bounds.now in
-    let x = c.args.x.now in
-    let more : c.count_all-counted.result ≡ wanted_among b.size_bits (b.common + min c.args.own (e.result.least + c.loop-k.k)) x (reverse (bounded_sums (b.left - (e.result.least + c.loop-k.k)) bounds)) =
-    c.count_all-counted.ensures ∙ ap (λ q. wanted_among q.size_bits q.common x (reverse (bounded_sums q.left bounds))) c.placed.ensures in
-    rows-counted b.size_bits b.common b.left c.args.own e.result.least c.loop-k.k bounds x c.loop-k.counted c.count_all-counted.result
-    (omega (arith, e.ensures.few)) c.loop-k.invariant more
+count_rows-loop-k-preserved t c = search (rules, rows-counted)

@@ -67,8 +67,7 @@ pub push_row-returns-then-not-may_be_among-clause-ok : goal.push_row-returns-the
 push_row-returns-then-not-may_be_among-clause-ok t c =
     let b = c.args.begun in
     let none = rw c.placed-further.ensures at c.if-not-may_be_among.ensures in
-    with_none c.args.links.now
-    ∙ ap (with_arcs c.args.links.now) (sym (entry-unwanted b.size_bits b.room b.shared b.left b.common c.args.bound c.args.own c.args.entry c.requires.entry none (front_of c.args.tip.now (c.args.own ∷ c.args.x.now)) c.args.bounds.now c.args.x.now c.requires.begun))
+    cc (with_none c.args.links.now, entry-unwanted b.size_bits b.room b.shared b.left b.common c.args.bound c.args.own c.args.entry c.requires.entry none (front_of c.args.tip.now (c.args.own ∷ c.args.x.now)) c.args.bounds.now c.args.x.now c.requires.begun)
 
 pub push_row-returns-clause-same : goal.push_row-returns-clause-same
 push_row-returns-clause-same t c =

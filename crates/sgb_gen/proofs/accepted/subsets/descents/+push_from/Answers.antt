@@ -1,9 +1,9 @@
-use Rattle.std.proofs.Common.{◌≡◌, ◌+◌, ◌-◌, [], ◌∷◌, ◌++◌, length, set, sym, ap, ap₂, ◌∙◌, inl, inr, arith}
+use Rattle.std.proofs.Common.{◌≡◌, ◌+◌, ◌-◌, [], ◌∷◌, ◌++◌, length, set, refl, sym, ap, ap₂, ◌∙◌, inl, inr, arith}
 use Rattle.std.proofs.lemmas.List.{length-set}
 use Rattle.std.proofs.lemmas.Result.{on_ok_weaker}
 use Rattle.sgb_gen.specs.inner.Descents.{arcs_under, down_from, front_of}
 use Rattle.sgb_gen.specs.inner.LocalSimplexes.{with_arcs}
-use Rattle.sgb_gen.proofs.DescentArcs.{HasEnded, ended-zero, ended-from, from-more, under-unwanted, unwanted-from}
+use Rattle.sgb_gen.proofs.DescentArcs.{HasEnded, ended-zero, ended-part, from-more, under-unwanted, unwanted-from}
 use Rattle.sgb_gen.proofs.DescentSteps.{front-kept, front-placed, front-shorter, others-add}
 use Rattle.sgb_gen.proofs.PairWalks.{with_none}
 use Rattle.sgb_gen.proofs.accepted.subsets.descents.+push_from.Goals as goal
@@ -16,8 +16,7 @@ returns-then-not-may_be_among-clause-ok t c =
     let bounds = c.args.bounds.now in
     let front = front_of c.args.tip.now x in
     let none = under-unwanted b.size_bits front b.common bounds x b.room b.shared b.left c.requires.begun c.if-not-may_be_among.ensures in
-    with_none c.args.links.now
-    ∙ ap (with_arcs c.args.links.now) (sym (unwanted-from b.size_bits front b.common b.left bounds x c.requires.begun.within c.requires.all none))
+    cc (with_none c.args.links.now, unwanted-from b.size_bits front b.common b.left bounds x c.requires.begun.within c.requires.all none)
 
 pub push_zeros-requires-clause-none : goal.push_zeros-requires-clause-none
 push_zeros-requires-clause-none t c =
@@ -34,7 +33,7 @@ returns-in_default-clause-ok t c =
       | in_default-via-in-Some+in_default w ↦ inl w.in_default.ensures'.cases
       | in_default-via-in_default w ↦ inr w.in_default.ensures.cases
     ] in
-    let same = ended-from b.size_bits (front_of c.args.tip.now c.args.x.now) b.common b.left c.args.bounds.now c.args.x.now c.requires.begun.within none c.requires.all in
+    let same = ended-part down_from (λ y. refl) b.size_bits (front_of c.args.tip.now c.args.x.now) b.common b.left c.args.bounds.now c.args.x.now c.requires.begun.within none c.requires.all in
     on_ok_weaker c.push_zeros.result (λ is. is ∙ ap (with_arcs c.args.links.now) same) c.push_zeros.ensures.ok
 
 pub returns-clause-same : goal.returns-clause-same

@@ -2,11 +2,8 @@ use Rattle.std.proofs.Common.{◌≡◌, ℕ, ◌+◌, ◌/◌, ◌^◌, ◌<◌
 use Rattle.std.proofs.Math.Nat.{div-le_self}
 use Rattle.std.proofs.lemmas.Bool.{OnFalse_from, leb-false}
 use Rattle.sgb_gen.specs.Subsets.{is_wanted_size}
-use Rattle.sgb_gen.proofs.WantedSizes.{unwanted-below, unwanted-past}
+use Rattle.sgb_gen.proofs.WantedSizes.{unwanted-below}
 use Rattle.sgb_gen.proofs.accepted.subsets.descents.any_wanted.Goals as goal
-
-pub returns-then-from-gt127 : goal.returns-then-from-gt127
-returns-then-from-gt127 c k from to = unwanted-past c.args.size_bits k (omega (arith, c.if-from-gt127.true))
 
 pub returns : goal.returns
 returns c =

@@ -1,15 +1,11 @@
-use Rattle.std.proofs.Common.{◌+◌, ◌∷◌, min, sym, ap, ◌∙◌, arith}
+use Rattle.std.proofs.Common.{rules, ◌+◌, ◌∷◌, min, sym, ap, ◌∙◌, arith}
 use Rattle.sgb_gen.specs.inner.Descents.{rows}
 use Rattle.sgb_gen.specs.inner.SubsetsPairs.{kept, pairs_among}
 use Rattle.sgb_gen.proofs.SubsetsPairs.{cell-within, entry-counted, pairs-all}
 use Rattle.sgb_gen.proofs.accepted.subsets.pairs.cell_before.Goals as goal
 
 pub loop-entry-preserved : goal.loop-entry-preserved
-loop-entry-preserved c size_bits bounds is =
-    let a = c.args in
-    c.saturating_add-counted.ensures
-    ∙ entry-counted size_bits a.common c.loop-entry.entry a.first c.loop-entry.counted c.count_row.result bounds (rows a.second bounds 0 (min a.second a.bound + 1))
-    (c.loop-entry.invariant size_bits bounds is) (c.count_row.ensures size_bits bounds is)
+loop-entry-preserved c size_bits bounds is = search (rules, entry-counted)
 
 pub returns : goal.returns
 returns c size_bits bounds is =

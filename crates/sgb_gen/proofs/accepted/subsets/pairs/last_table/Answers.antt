@@ -1,21 +1,16 @@
-use Rattle.std.proofs.Common.{◌<◌, ◌++◌, ◌∷◌, ℕ, [], length, map, ap, ap₂, ◌∙◌, sym, arith}
+use Rattle.std.proofs.Common.{rules, ℕ, [], map, ap, ◌∙◌, arith}
 use Rattle.std.specs.List.{range_with_len}
 use Rattle.std.proofs.lemmas.List.FromFn.{length-map-range_with_len, map-range_with_len_more}
 use Rattle.sgb_gen.specs.inner.SubsetsPairs.{cell_at, table_of}
 use Rattle.sgb_gen.proofs.accepted.subsets.pairs.last_table.Goals as goal
 
 pub push-requires : goal.push-requires
-push-requires c =
-    let fits : length c.loop-place.table.items < 8000 =
-    omega (arith, ap length c.loop-place.invariant, length-map-range_with_len (cell_at c.args.size_bits c.args.total []) 0 c.loop-place.place, c.loop-place-test.true) in
-    (omega arith, fits)
+push-requires c = search (rules, length-map-range_with_len)
 
 pub loop-place-preserved : goal.loop-place-preserved
 loop-place-preserved c =
     let cells : ℕ → ℕ = cell_at c.args.size_bits c.args.total [] in
-    c.push.ensures.items
-    ∙ ap₂ (λ xs x. xs ++ x ∷ []) c.loop-place.invariant c.last_cell.ensures
-    ∙ sym (map-range_with_len_more cells 0 c.loop-place.place c.loop-place.place (omega arith))
+    cc (c.push.ensures.items, c.loop-place.invariant, c.last_cell.ensures, map-range_with_len_more cells 0 c.loop-place.place c.loop-place.place (omega arith))
 
 pub returns : goal.returns
 unfolding table_of

@@ -1,17 +1,13 @@
-use Rattle.std.proofs.Common.{◌≡◌, ◌≤◌, ◌∙◌, All, get_or, nat_abs, pos, reverse, sym, ap, subst, arith, rules}
+use Rattle.std.proofs.Common.{◌≡◌, ◌≤◌, ◌∙◌, All, get_or, nat_abs, pos, sym, subst, arith, rules}
 use Rattle.std.proofs.lemmas.Bool.{OnTrue_at, OnTrue_from}
 use Rattle.std.specs.Prelude.{IfSome}
 use Rattle.std.proofs.lemmas.List.{take_all}
 use Rattle.sgb_vec.specs.Lexicographic.{IsBelow}
 use Rattle.sgb_vec.proofs.BoxPlaces.{IsBelow-from_Contains}
-use Rattle.sgb_vec.specs.Boxes.{box}
-use Rattle.sgb_gen.specs.Boards.{moves_of_board}
-use Rattle.sgb_gen.specs.LocalLists.{list_at}
 use Rattle.sgb_gen.specs.Moves.{sides_of}
 use Rattle.sgb_gen.specs.inner.EntryBounds.{displacements_within, entry_bounds}
-use Rattle.sgb_gen.specs.inner.LocalBoards.{arcs_onward}
 use Rattle.sgb_gen.specs.inner.MovedCoordinates.{StayAtOne}
-use Rattle.sgb_gen.specs.inner.StraightLists.{AreOnward, arcs_by_all}
+use Rattle.sgb_gen.specs.inner.StraightLists.{AreOnward}
 use Rattle.sgb_gen.proofs.BoundedMoves.{moves_within}
 use Rattle.sgb_gen.proofs.InsideRuns.{all_runs}
 use Rattle.sgb_gen.proofs.InsideVertices.{stay_inside}
@@ -41,12 +37,4 @@ invariant_of-result c =
     (omega (arith, c.len.ensures), kept, runs, below, near)
 
 pub returns-in-Some-clause-arcs : goal.returns-in-Some-clause-arcs
-returns-in-Some-clause-arcs c =
-    let b = c.self.inside.board.now in
-    let x = c.args.x.now in
-    let table = c.in-Some.table in
-    let kept = subst (λ o. IfSome o (λ d. d ≡ displacements_within (nat_abs b.piece) (entry_bounds (nat_abs b.piece) (sides_of b.sizes b.wrap)))) c.in-Some.is c.self.invariant.0 in
-    ap (arcs_by_all b x) (take_all c.len.result table (omega (arith, c.len.ensures)) ∙ kept)
-    ∙ ap (λ ms. reverse (arcs_onward b.directed x ms)) (moves_within b)
-    ∙ sym (list_of_board b x (search rules))
-    ∙ ap (λ d. list_at d.directed (box d.sizes) (moves_of_board d) x) c.self.view_is
+returns-in-Some-clause-arcs c = search (rules, take_all, moves_within, list_of_board)

@@ -1,15 +1,13 @@
-use Rattle.std.proofs.Common.{◌≡◌, ◌<◌, ◌+◌, ◌-◌, ◌++◌, ◌∙◌, ℕ, neg_ℤ, length, reverse, take, sym, ap, ap₂, subst, arith}
+use Rattle.std.proofs.Common.{rules, ◌≡◌, ◌<◌, ◌+◌, ◌-◌, ◌++◌, ◌∙◌, ℕ, reverse, take, sym, ap, ap₂, subst, arith}
 use Rattle.std.proofs.lemmas.List.{length-map}
 use Rattle.sgb_vec.proofs.BoxPlaces.{IsBelow-length}
-use Rattle.sgb_gen.specs.Moves.{opposite}
-use Rattle.sgb_gen.specs.Runs.{AreMoved, arcs_along, arcs_of_run}
+use Rattle.sgb_gen.specs.Runs.{arcs_along, arcs_of_run}
 use Rattle.sgb_gen.specs.inner.StraightLists.{IsRun, arcs_by_all}
-use Rattle.sgb_gen.proofs.RunsOfLists.{at_has, next_run_first, none_first, width_in_table}
+use Rattle.sgb_gen.proofs.RunsOfLists.{at_has, next_run_first, width_in_table}
 use Rattle.sgb_gen.proofs.accepted.boards.runs.Runs.next_run.Goals as goal
 
 pub run_by-run-requires-clause-dimensions : goal.run_by-run-requires-clause-dimensions
-run_by-run-requires-clause-dimensions c =
-    width_in_table c.self.inside.board.now c.self.inside.table.now (c.self.inside.left - 1) c.at.result.now c.self.invariant.1 c.at.ensures
+run_by-run-requires-clause-dimensions c = search (rules, width_in_table)
 
 pub run_by-run-requires-clause-run : goal.run_by-run-requires-clause-run
 run_by-run-requires-clause-run c =
@@ -35,18 +33,7 @@ returns-clause-arcs c =
     ∙ ap₂ (λ p q. reverse p ++ q ++ rest) ahead back)
 
 pub returns-clause-ahead : goal.returns-clause-ahead
-returns-clause-ahead c =
-    let b = c.self.inside.board.now in
-    let long = width_in_table b c.self.inside.table.now (c.self.inside.left - 1) c.at.result.now c.self.invariant.1 c.at.ensures in
-    subst (λ d. AreMoved (length d.x) c.run_by-run.result.ahead.now) c.self.view_is
-    (c.at.result.now, long ∙ sym (IsBelow-length b.sizes c.self.inside.x.now c.self.invariant.3), c.run_by-run.ensures.ahead)
+returns-clause-ahead c = search (rules, width_in_table, IsBelow-length)
 
 pub returns-clause-back : goal.returns-clause-back
-returns-clause-back c =
-    let b = c.self.inside.board.now in
-    let long = width_in_table b c.self.inside.table.now (c.self.inside.left - 1) c.at.result.now c.self.invariant.1 c.at.ensures in
-    subst (λ d. AreMoved (length d.x) c.run_by-run.result.back.now) c.self.view_is
-    (opposite c.at.result.now, length-map c.at.result.now neg_ℤ ∙ long ∙ sym (IsBelow-length b.sizes c.self.inside.x.now c.self.invariant.3), c.run_by-run.ensures.back)
-
-pub returns-clause-none : goal.returns-clause-none
-returns-clause-none c none = none_first c.self.inside.board.now c.self.inside.x.now c.self.inside.table.now (c.self.inside.left - 1) none
+returns-clause-back c = search (rules, width_in_table, length-map, IsBelow-length)
