@@ -56,10 +56,7 @@ module _ (seen : List ℕ) (p : ℕ) (within : p / 64 < length seen) where
 
   -- so those that were set stay so
   set_stays : (q : ℕ) → bit_of seen q ≡ 1 → bit_of (with_bit seen p) q ≡ 1
-  set_stays q is = elim (cases_eq q p) [
-    | inl same ↦ rw same bit_is_set
-    | inr other ↦ other_stays q other ∙ is
-  ]
+  set_stays q is = grind (arith, cases_eq, bit_is_set, other_stays)
 
 -- one more event, whose bit is not set
 pub so_far_more : (seen : List ℕ) (events : List Event) (e : Event) → SoFar seen events → bit_of seen (bit_place e) ≢ 1 → SoFar (with_bit seen (bit_place e)) (events ++ e ∷ [])

@@ -1,5 +1,5 @@
 -- An induced graph under way, and finished: it is the one that is described.
-use Rattle.std.proofs.Common.{◌≡◌, ◌∙◌, ◌++◌, Bool, true, false, List, Result, Ok, Err, length, refl, sym, ap, subst}
+use Rattle.std.proofs.Common.{arith, ◌≡◌, ◌∙◌, ◌++◌, Bool, true, false, List, Result, Ok, Err, length, refl, sym, ap, subst}
 use Rattle.std.specs.Prelude.{All, IfOk, IsOkUnless}
 use Rattle.std.specs.List.{list_any}
 use Rattle.std.proofs.lemmas.List.{length-map}
@@ -9,7 +9,7 @@ use Rattle.sgb_vec.specs.declared.panics.Panic.TheVariants.{NoRoom}
 use Rattle.sgb_graph.specs.Descriptions.{IsAnswerOf, IsGraphOf}
 use Rattle.sgb_graph.specs.Events.{Event, HasEndsBelow}
 use Rattle.sgb_graph.specs.Graphs.{GraphData}
-use Rattle.sgb_graph.specs.Growth.{AddsEvents, new_vertex}
+use Rattle.sgb_graph.specs.Growth.{AddsEvents}
 use Rattle.sgb_graph.proofs.AddedEvents.{adds-then}
 use Rattle.sgb_ops.specs.declared.entries.Entry.{Entry}
 use Rattle.sgb_ops.specs.Entries.{accepted_entries, events_within, is_unnumbered, merged_count, names_by_entries, total_of}
@@ -27,9 +27,7 @@ use Rattle.sgb_ops.proofs.SizedEntries.{between_sized, merged_sized, numbered_si
 module _ (g : GraphData) (entries : List Entry) (self multi directed : Bool) where
   -- the vertices are as many as the entries make
   named_size : length entries ≡ order_of g → length (named_graph g entries).vertices ≡ total_of entries
-  named_size count =
-      length-map (names_by_entries (names_of g) entries) new_vertex
-      ∙ length-names (names_of g) entries (count ∙ sym (length-map g.vertices (λ x. x.name)))
+  named_size count = grind (arith, length-map, length-names)
 
   inside_size : (in_parts : Bool) (kept : List Event) (built : GraphData) → length entries ≡ order_of g → HasInside g entries self multi directed in_parts kept built → length built.vertices ≡ total_of entries
   inside_size true kept built count inside = inside.1.rest.size ∙ named_size count

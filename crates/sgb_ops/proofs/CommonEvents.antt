@@ -1,5 +1,5 @@
 -- The events of an intersection, as they are found one by one.
-use Rattle.std.proofs.Common.{◌≡◌, ◌<◌, ◌+◌, ◌-◌, ◌==◌, ℕ, min, ℤ, Bool, true, false, not, List, [], ◌∷◌, ◌++◌, map, take, length, Option, Some, None, refl, sym, ap, subst, ◌∙◌, append_assoc, inl, inr, arith}
+use Rattle.std.proofs.Common.{rules, ◌≡◌, ◌<◌, ◌+◌, ◌-◌, ◌==◌, ℕ, min, ℤ, Bool, true, false, not, List, [], ◌∷◌, ◌++◌, map, take, length, Option, Some, None, refl, sym, ap, subst, ◌∙◌, append_assoc, arith}
 use Rattle.std.specs.Prelude.{All, flat_map, nat_lt, if◌then◌else◌}
 use Rattle.std.specs.List.{enumerate_from}
 use Rattle.std.proofs.lemmas.Bool.{cases_Bool, cond_both, ne_eqb, ltb-true}
@@ -75,10 +75,7 @@ one_met false met (Some t) = rw (ne_eqb (met + 1) 0 (λ e. absurd (omega (arith,
 
 pub left_more : (multi : Bool) (u : ℕ) (gs before : List Link) (l : Link)
     → (if l.tip == u then without_one multi (left_after multi u gs before) else left_after multi u gs before) ≡ left_after multi u gs (before ++ l ∷ [])
-left_more multi u gs before l = elim (cases_Bool (l.tip == u)) [
-  | inl here ↦ rw (here, count_more u before l true here) (sym (one_met multi (count_to u before) (tally_to u gs)))
-  | inr other ↦ rw (other, count_more u before l false other) refl
-]
+left_more multi u gs before l = search (rules, cases_Bool, count_more, one_met)
 
 -- how many there are in the end, by how many the two graphs have
 abbrev most_common : Bool → ℕ → ℕ → ℕ

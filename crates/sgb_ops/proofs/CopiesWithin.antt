@@ -1,8 +1,7 @@
 -- The vertices that entries make: the names of all, and the events between them.
-use Rattle.std.proofs.Common.{◌≡◌, ◌<◌, ◌≤◌, ◌+◌, ℕ, zero, suc, Bool, false, List, [], ◌∷◌, length, map, get_or, refl, sym, ap, subst, ◌∙◌, arith}
-use Rattle.std.specs.Prelude.{All, slice_get}
+use Rattle.std.proofs.Common.{rules, ◌≡◌, ◌<◌, ◌≤◌, ◌+◌, ℕ, zero, suc, Bool, false, List, [], ◌∷◌, length, get_or, refl, ◌∙◌, arith}
+use Rattle.std.specs.Prelude.{All}
 use Rattle.std.specs.List.{list_any, range_with_len, enumerate_from}
-use Rattle.std.specs.Option.{option_map_or}
 use Rattle.std.proofs.lemmas.List.{length-append, length-map}
 use Rattle.std.proofs.lemmas.List.Elements.{All-nil, All-map, All-filter, All-weaker}
 use Rattle.std.proofs.lemmas.List.FromFn.{length-range_with_len, length-enumerate_from, get_or-enumerate_from}
@@ -13,10 +12,10 @@ use Rattle.sgb_graph.specs.Graphs.{GraphData}
 use Rattle.sgb_graph.specs.declared.fields.Link.{Link}
 use Rattle.sgb_ops.specs.declared.entries.Entry.{Entry}
 use Rattle.sgb_ops.specs.declared.entries.Entry.TheVariants as entry
-use Rattle.sgb_ops.specs.inner.Copies.{IsKeptEntry, copies_start, count_by}
+use Rattle.sgb_ops.specs.inner.Copies.{IsKeptEntry}
 use Rattle.sgb_ops.specs.inner.Ends.{AllWithin}
-use Rattle.sgb_ops.specs.Entries.{copies_of, events_within, first_copy, inner_event, inner_events, inner_events_from, is_unnumbered, merged_count, merged_name, names_by_entries, names_of_copies, own_names, own_total, size_of_entry, total_of}
-use Rattle.sgb_ops.specs.Induced.{copies_met, event_between, events_between, events_of_arc, events_of_copies, events_of_copy, is_met}
+use Rattle.sgb_ops.specs.Entries.{copies_of, events_within, first_copy, inner_event, inner_events, inner_events_from, is_unnumbered, names_by_entries, names_of_copies, own_names, own_total, size_of_entry, total_of}
+use Rattle.sgb_ops.specs.Induced.{events_between, events_of_arc, events_of_copies, events_of_copy}
 use Rattle.sgb_graph.specs.Vertices.{order_of, places_of, names_of}
 use Rattle.sgb_ops.specs.Taken.{taken}
 use Rattle.sgb_ops.specs.Titles.{numbered_name, substituted_name}
@@ -42,9 +41,7 @@ length-own (name ∷ names) (e ∷ entries) same =
     ∙ (omega (arith, length-names_of_copies name e, length-own names entries (omega (arith, same)), sum_by-cons size_of_entry e entries))
 
 pub length-names : (names : List (List ℕ)) (entries : List Entry) → length entries ≡ length names → length (names_by_entries names entries) ≡ total_of entries
-length-names names entries same =
-    let merged = length-map (range_with_len 1 (merged_count entries)) merged_name ∙ length-range_with_len 1 (merged_count entries) in
-    length-append (map merged_name (range_with_len 1 (merged_count entries))) (own_names names entries) ∙ omega (arith, merged, length-own names entries same)
+length-names names entries same = search (rules, length-map, length-range_with_len, length-append, length-own)
 
 -- a vertex of n
 abbrev Below : ℕ → ℕ → Type 0
@@ -57,14 +54,10 @@ range_below n a k few = All-weaker (λ u. (a ≤ u) × (u < a + k)) (Below n) (�
 module _ (entries : List Entry) (directed : Bool) (numbered : list_any is_unnumbered entries ≡ false) where
   -- the copies of a vertex are among those of all
   pub all_copies : (v : ℕ) → All (Below (total_of entries)) (copies_of entries v)
-  all_copies v =
-      subst (All (Below (total_of entries))) (sym (copies-range entries v))
-      (range_below (total_of entries) (copies_start entries v) (option_map_or count_by (slice_get entries v) 0) (copies_within entries v numbered))
+  all_copies v = grind (arith, copies-range, range_below, copies_within)
 
   of_arc : (v u : ℕ) (a : Link) → u < total_of entries → AllWithin (total_of entries) (events_of_arc entries directed v u a)
-  of_arc v u a below =
-      All-map (HasEndsBelow (total_of entries)) (event_between u a.len) (copies_met entries directed v u a.tip)
-      (λ k d h. (below, All-filter (is_met directed v u a.tip) (Below (total_of entries)) (copies_of entries a.tip) (all_copies a.tip) k d h))
+  of_arc v u a below = search (rules, All-map, All-filter, all_copies)
 
   pub of_copy : (g : GraphData) (v u : ℕ) → u < total_of entries → AllWithin (total_of entries) (events_of_copy g entries directed v u)
   of_copy g v u below = All-flat_map (HasEndsBelow (total_of entries)) (events_of_arc entries directed v u) (taken directed g v) (λ k d h. of_arc v u (get_or (taken directed g v) k d) below)
@@ -92,13 +85,7 @@ module _ (entries : List Entry) (directed : Bool) (numbered : list_any is_unnumb
   Fits p = (first_copy entries p.0 + size_of_entry p.1 ≤ total_of entries) × IsKeptEntry p.1
 
   all_fit : All IsKeptEntry entries → All Fits (enumerate_from 0 entries)
-  all_fit kept = λ k d h.
-      let below : k < length entries = omega (arith, h, length-enumerate_from 0 entries) in
-      let e = get_or entries k d.1 in
-      let place : 0 + k ≡ k = omega arith in
-      let more = total_at entries k d.1 below in
-      subst Fits (sym (get_or-enumerate_from 0 entries k d below ∙ ap (λ i. (i, e)) place))
-      (omega (arith, more, sum_by-take-le size_of_entry entries (k + 1)), kept k d.1 below)
+  all_fit kept = search (rules, length-enumerate_from, total_at, get_or-enumerate_from, sum_by-take-le)
 
   pub events_inside : All IsKeptEntry entries → AllWithin (total_of entries) (events_within entries directed)
   events_inside kept =

@@ -1,8 +1,8 @@
 -- The lines of a graph of edges: one for each edge, and each has its way back.
-use Rattle.std.proofs.Common.{◌≡◌, ◌≢◌, ◌+◌, ◌*◌, ◌/◌, ◌≤◌, ◌<◌, ◌==◌, ℕ, zero, suc, min, Bool, true, false, not, cond, nat_lt, List, [], ◌∷◌, map, reverse, length, get_or, refl, sym, ap, ◌∙◌, Some, None, arith}
+use Rattle.std.proofs.Common.{rules, ◌≡◌, ◌≢◌, ◌+◌, ◌*◌, ◌/◌, ◌≤◌, ◌<◌, ◌==◌, ℕ, zero, suc, min, Bool, true, false, not, cond, nat_lt, List, [], ◌∷◌, map, reverse, length, get_or, refl, sym, ap, ◌∙◌, arith}
 use Rattle.std.specs.Prelude.{All, Ok, Err, filter, slice_get, if◌then◌else◌}
 use Rattle.std.specs.List.{enumerate_from, list_all, range_with_len}
-use Rattle.std.specs.Option.{option_map, option_map_or}
+use Rattle.std.specs.Option.{option_map_or}
 use Rattle.std.proofs.lemmas.Bool.{and_from, cond_both, eq-eqb, lt-ltb, le-ltb}
 use Rattle.std.proofs.lemmas.Bool.Decides.{nat_tests}
 use Rattle.std.proofs.lemmas.List.{length-append, length-map, length-reverse}
@@ -94,9 +94,7 @@ half_of_arcs events g has = omega (arith, lines_count events g has, two_each eve
 -- the way back of an arc, by the tips of the records
 back_by_tips : (records : List ArcRec) (v k : ℕ)
     → option_map_or (λ r. points_to r.tip v) (slice_get records k) false ≡ option_map_or (λ t. points_to t v) (slice_get (map (λ r. r.tip) records) k) false
-back_by_tips records v k =
-    elim (slice_get records k) as (λ o. option_map_or (λ r. points_to r.tip v) o false ≡ option_map_or (λ t. points_to t v) (option_map (λ r. r.tip) o) false) [ None ↦ refl | Some r ↦ refl ]
-    ∙ ap (λ o. option_map_or (λ t. points_to t v) o false) (sym (slice_get-map (λ (r : ArcRec). r.tip) records k))
+back_by_tips records v k = search (rules, slice_get-map)
 
 -- the lower record of an edge at this place has its way back
 abbrev way_back_of : GraphData → ℕ → ℕ × Event → Bool
@@ -158,9 +156,4 @@ not_refused g lines true make is =
 -- the lines of a graph of edges are those of its edges, and are not refused
 pub edges_are_lines : (events : List Event) (g : GraphData) → HasArcsOf false events g
     → (is_of_edges g (lines_of_graph g false) ≡ true) × (line_graph_of g false ≢ Err Invalid)
-edges_are_lines events g has =
-    let lines = lines_of_graph g false in
-    let ways = ways_back events g has in
-    let count = half_of_arcs events g has in
-    let both : is_of_edges g lines ≡ true = and_from (list_all (has_way_back g) lines) (length lines == g.m / 2) ways (eq-eqb (length lines) (g.m / 2) count) in
-    (both, not_refused g lines (is_of_edges g lines) _ both)
+edges_are_lines events g has = search (rules, ways_back, half_of_arcs, and_from, eq-eqb, not_refused)

@@ -77,9 +77,7 @@ pub next_first : (entries : List Entry) (v : ℕ) → first_copy entries (suc v)
 next_first entries v = omega (arith, next_own entries v)
 
 pub next_copy : (entries : List Entry) (v : ℕ) → first_copy entries (v + 1) ≡ first_copy entries v + option_map_or size_of_entry (slice_get entries v) 0
-next_copy entries v =
-    let next : v + 1 ≡ suc v = omega arith in
-    ap (first_copy entries) next ∙ next_first entries v
+next_copy entries v = grind (arith, next_first)
 
 -- the copies of a vertex are those from their start on
 copies_by-range : (start : ℕ) (e : Entry) → copies_by start e ≡ range_with_len (start_by start e) (count_by e)
@@ -88,17 +86,10 @@ copies_by-range start (entry.Graph inner) = refl
 copies_by-range start (entry.Merged k) = refl
 
 pub copies-range : (entries : List Entry) (v : ℕ) → copies_of entries v ≡ range_with_len (copies_start entries v) (option_map_or count_by (slice_get entries v) 0)
-copies-range entries v =
-    elim (slice_get entries v) as (λ o. option_map_or (copies_by (first_copy entries v)) o [] ≡ range_with_len (option_map_or (start_by (first_copy entries v)) o 0) (option_map_or count_by o 0)) [
-      | None ↦ refl
-      | Some e ↦ copies_by-range (first_copy entries v) e
-    ]
+copies-range entries v = search (rules, copies_by-range)
 
 pub copies_between : (entries : List Entry) (v a b : ℕ) → a ≡ copies_start entries v → b ≡ copies_end entries v → range_with_len a (b - a) ≡ copies_of entries v
-copies_between entries v a b first last =
-    let count = option_map_or count_by (slice_get entries v) 0 in
-    let size : b - a ≡ count = omega (arith, first, last) in
-    ap (λ k. range_with_len a k) size ∙ (ap (λ k. range_with_len k count) first ∙ sym (copies-range entries v))
+copies_between entries v a b first last = search (rules, copies-range)
 
 -- the entry that is looked up
 pub entry_there : (entries : List Entry) (v : ℕ) (e : Entry) → v < length entries → e ≡ get_or entries v e → slice_get entries v ≡ Some e
@@ -107,10 +98,7 @@ entry_there entries v e below is = slice_get_read entries (length entries) v e r
 -- a merged vertex is a copy alone
 pub ends_merged : (entries : List Entry) (v k : ℕ) (e : Entry) → v < length entries → e ≡ get_or entries v e → e ≡ entry.Merged k
     → (copies_start entries v ≡ k - 1) × (copies_end entries v ≡ k - 1 + 1)
-ends_merged entries v k e below is same =
-    let here : slice_get entries v ≡ Some (entry.Merged k) = entry_there entries v e below is ∙ ap (λ (x : Entry). Some x) same in
-    let start : copies_start entries v ≡ k - 1 = ap (λ o. option_map_or (start_by (first_copy entries v)) o 0) here in
-    (start, omega (arith, start, ap (λ o. option_map_or count_by o 0) here))
+ends_merged entries v k e below is same = search (rules, entry_there)
 
 -- other copies begin at the first one, and end where those of the next vertex begin
 own_by : (first : ℕ) (e : Entry) → ((k : ℕ) → e ≢ entry.Merged k) → (start_by first e ≡ first) × (count_by e ≡ size_of_entry e)
@@ -120,13 +108,7 @@ own_by first (entry.Merged k) other = absurd (other k refl)
 
 pub ends_own : (entries : List Entry) (v : ℕ) (e : Entry) → v < length entries → e ≡ get_or entries v e → ((k : ℕ) → e ≢ entry.Merged k)
     → (copies_start entries v ≡ first_copy entries v) × (copies_end entries v ≡ first_copy entries (v + 1))
-ends_own entries v e below is other =
-    let here = entry_there entries v e below is in
-    let own = own_by (first_copy entries v) e other in
-    let start : copies_start entries v ≡ first_copy entries v = ap (λ o. option_map_or (start_by (first_copy entries v)) o 0) here ∙ own.0 in
-    let count : option_map_or count_by (slice_get entries v) 0 ≡ size_of_entry e = ap (λ o. option_map_or count_by o 0) here ∙ own.1 in
-    let size : option_map_or size_of_entry (slice_get entries v) 0 ≡ size_of_entry e = ap (λ o. option_map_or size_of_entry o 0) here in
-    (start, omega (arith, start, count, size, next_copy entries v))
+ends_own entries v e below is other = grind (arith, entry_there, own_by, next_copy)
 
 -- the number of a merged vertex is asked for
 pub some_merged : (e : Entry) (k : ℕ) → merged_of e ≡ Some k → e ≡ entry.Merged k
@@ -181,14 +163,9 @@ copies_within entries v numbered = within_by entries v (slice_get entries v) ref
 -- where the copies of a vertex begin and end, read from places that are these entries: those of a merged vertex
 pub merged_read : (es places : List Entry) (v number : ℕ) (e : Entry) (r : Option ℕ) → places ≡ es → v < length es → e ≡ get_or places v e → r ≡ merged_of e → r ≡ Some number
     → (number - 1 ≡ copies_start es v) × (number - 1 + 1 ≡ copies_end es v)
-merged_read es places v number e r same below is asked some =
-    let ends = ends_merged es v number e below (is ∙ ap (λ xs. get_or xs v e) same) (some_merged e number (sym asked ∙ some)) in
-    (sym ends.0, sym ends.1)
+merged_read es places v number e r same below is asked some = grind (arith, ends_merged, some_merged)
 
 -- and others, with the table of first copies
 pub own_read : (es places : List Entry) (firsts : List ℕ) (v : ℕ) (e : Entry) (r : Option ℕ) → places ≡ es → firsts ≡ first_copies places → v < length es → e ≡ get_or places v e → r ≡ merged_of e → r ≡ None
     → ((d : ℕ) → get_or firsts v d ≡ copies_start es v) × ((d : ℕ) → get_or firsts (v + 1) d ≡ copies_end es v)
-own_read es places firsts v e r same table below is asked none =
-    let ends = ends_own es v e below (is ∙ ap (λ xs. get_or xs v e) same) (none_merged e (sym asked ∙ none)) in
-    let all = table ∙ ap first_copies same in
-    ((λ d. first_at es firsts v d all (omega (arith, below)) ∙ sym ends.0), (λ d. first_at es firsts (v + 1) d all (omega (arith, below)) ∙ sym ends.1))
+own_read es places firsts v e r same table below is asked none = search (rules, ends_own, none_merged, first_at)

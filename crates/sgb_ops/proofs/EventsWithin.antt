@@ -1,15 +1,13 @@
 -- Events whose ends are vertices of a graph.
-use Rattle.std.proofs.Common.{◌<◌, ◌≤◌, ◌+◌, ℕ, Bool, true, false, List, [], map, length, Some, None, arith}
-use Rattle.std.specs.Prelude.{All, flat_map, slice_get}
+use Rattle.std.proofs.Common.{◌<◌, ◌≤◌, ◌+◌, ℕ, Bool, true, false, List, map, length, arith}
+use Rattle.std.specs.Prelude.{All, flat_map}
 use Rattle.std.specs.List.{range_with_len}
-use Rattle.std.specs.Option.{option_map_or}
 use Rattle.std.proofs.lemmas.List.Elements.{All-nil, All-map, All-weaker}
-use Rattle.sgb_graph.specs.Graphs.{GraphData, chain_of, links_of}
+use Rattle.sgb_graph.specs.Graphs.{GraphData, chain_of}
 use Rattle.sgb_vec.proofs.Lists.{All-flat_map, range-within}
 use Rattle.sgb_graph.specs.Events.{Event, HasEndsBelow}
 use Rattle.sgb_graph.specs.Growth.{IsKept}
 use Rattle.sgb_graph.specs.declared.fields.Link.{Link}
-use Rattle.sgb_graph.specs.declared.fields.Vertex.{Vertex}
 use Rattle.sgb_graph.proofs.Growing.{parts_of}
 use Rattle.sgb_graph.proofs.Tips.{tips_below}
 use Rattle.sgb_ops.specs.inner.Ends.{AllWithin, event_of}
@@ -30,12 +28,7 @@ merged_unless_within n false directed events all = merged_keeps (HasEndsBelow n)
 
 -- the arcs of a graph lead to its vertices
 chain_tips : (g : GraphData) (v : ℕ) → IsKept g → v < length g.vertices → All (TipBelow (length g.vertices)) (chain_of g v)
-chain_tips g v kept below =
-    let n = length g.vertices in
-    elim (slice_get g.vertices v) as (λ o. All (TipBelow n) (option_map_or (λ (x : Vertex). links_of g.records x.arcs) o [])) [
-      | None ↦ All-nil (TipBelow n)
-      | Some x ↦ tips_below (length g.records) n (length g.records) g.kinds g.records x.arcs (omega (arith, below)) (parts_of g kept.graph).records
-    ]
+chain_tips g v kept below = grind (arith, All-nil, tips_below, parts_of)
 
 -- what is true of all arcs is true of those that are taken
 pub all_taken : (P : Link → Type 0) (directed : Bool) (v : ℕ) (links : List Link) → All P links → All P (taken_of directed v links)

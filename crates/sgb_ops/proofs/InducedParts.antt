@@ -90,13 +90,7 @@ firsts_up entries v w less = let next : v + 1 ≡ suc v = omega arith in omega (
 
 -- so a copy stands for one vertex
 own_same : (entries : List Entry) (v w u : ℕ) → Own entries v u → Own entries w u → w ≡ v
-own_same entries v w u a b = elim (cases_lt v w) [
-  | inl less ↦ absurd (omega (arith, a.1, b.0, firsts_up entries v w less))
-  | inr up ↦ elim (cases_lt w v) [
-    | inl less ↦ absurd (omega (arith, a.0, b.1, firsts_up entries w v less))
-    | inr down ↦ omega (arith, up, down)
-  ]
-]
+own_same entries v w u a b = grind (arith, cases_lt, firsts_up)
 
 -- an entry that is looked up
 kept_at : (entries : List Entry) (v : ℕ) (e : Entry) → All IsKeptEntry entries → slice_get entries v ≡ Some e → IsKeptEntry e
@@ -150,9 +144,7 @@ module _ (entries : List Entry) (directed : Bool) (kept : All IsKeptEntry entrie
           subst (λ b. All (Inside (first_copy entries v) b) (inner_events directed (first_copy entries v) e)) end (entry_inside directed (first_copy entries v) e (kept_at entries v e kept here))
 
   at_rises : (v : ℕ) → All (Rises directed (first_copy entries v) (first_copy entries (v + 1))) (inside_at entries directed v)
-  at_rises v =
-      All-weaker (Inside (first_copy entries v) (first_copy entries (v + 1))) (Rises directed (first_copy entries v) (first_copy entries (v + 1)))
-      (λ e p. (p.0, p.1, λ same. p.2)) (inside_at entries directed v) (at_inside v)
+  at_rises v = search (rules, All-weaker, at_inside)
 
   -- those inside all entries that are left
   pub within_left : (self multi : Bool)
@@ -199,9 +191,7 @@ module _ (g : GraphData) (entries : List Entry) (directed : Bool) (numbered : li
       ))
 
   of_copy : (v u : ℕ) → Own entries v u → All (Rises directed u (u + 1)) (events_of_copy g entries directed v u)
-  of_copy v u own =
-      All-flat_map (Rises directed u (u + 1)) (events_of_arc entries directed v u) (taken directed g v)
-      (λ k d h. of_arc v u (get_or (taken directed g v) k d) own (taken_up directed g v k d h))
+  of_copy v u own = search (rules, All-flat_map, of_arc, taken_up)
 
   of_copies : (v : ℕ) → All (Rises directed (first_copy entries v) (first_copy entries (v + 1))) (events_of_copies g entries directed v)
   of_copies v =
@@ -234,9 +224,7 @@ module _ (g : GraphData) (entries : List Entry) (directed : Bool) (numbered : li
   Leaves v f = Own entries v f.from → Own entries v f.to → ⊥
 
   no_loop : (v w : ℕ) (a : Link) → list_any (λ l. l.tip == v) (taken directed g v) ≡ false → Contains (taken directed g w) a → w ≡ v → a.tip ≡ v → ⊥
-  no_loop v w a none has same loop =
-      let (k, below, here) = subst (λ x. Contains (taken directed g x) a) same has in
-      both_ways _ none (list_any_at (λ (l : Link). l.tip == v) (taken directed g v) k a below (eq-eqb _ v (ap (λ (x : Link). x.tip) here ∙ loop)))
+  no_loop v w a none has same loop = grind (arith, both_ways, list_any_at, eq-eqb)
 
   between_leaves : (v : ℕ) → list_any (λ l. l.tip == v) (taken directed g v) ≡ false → All (Leaves v) (events_between g entries directed)
   between_leaves v none =
@@ -253,10 +241,7 @@ module _ (g : GraphData) (entries : List Entry) (directed : Bool) (numbered : li
 
   -- an event inside the copies of v has not the ends of one that leaves them
   inside_apart : (v : ℕ) (e f : Event) → Inside (first_copy entries v) (first_copy entries (v + 1)) e → Leaves v f → has_ends_of directed e f ≡ false
-  inside_apart v e f inside leaves = never_true (has_ends_of directed e f) (λ h. elim (ends directed e f h) [
-    | inl same ↦ leaves (omega (arith, same.from, inside.0), omega (arith, same.from, inside.1)) (omega (arith, same.to, inside.2), omega (arith, same.to, inside.3))
-    | inr other ↦ leaves (omega (arith, other.from, inside.2), omega (arith, other.from, inside.3)) (omega (arith, other.to, inside.0), omega (arith, other.to, inside.1))
-  ])
+  inside_apart v e f inside leaves = search (rules, never_true, ends)
 
   -- the events inside the entry of v have not the ends of those between copies
   entry_apart : (self : Bool) (v : ℕ) (e : Entry) → has_loop_inside g directed v e ≡ false → All (Inside (first_copy entries v) (first_copy entries (v + 1))) (inner_events directed (first_copy entries v) e)

@@ -1,5 +1,5 @@
 -- Names that are made of names.
-use Rattle.std.proofs.Common.{◌≡◌, ℕ, ◌≤◌, ◌<◌, ◌+◌, ◌^◌, List, [], ◌∷◌, ◌++◌, take, length, arith}
+use Rattle.std.proofs.Common.{rules, ◌≡◌, ℕ, ◌≤◌, ◌<◌, ◌+◌, ◌^◌, List, [], ◌∷◌, ◌++◌, take, length, arith}
 use Rattle.std.specs.Prelude.{All, IsOk, IsOkUnless, Result, Ok, Err, decimal}
 use Rattle.std.proofs.lemmas.Fmt.{length-decimal-le}
 use Rattle.std.proofs.lemmas.List.{length-append, take_all}
@@ -12,10 +12,7 @@ use Rattle.sgb_vec.specs.declared.panics.Panic.TheVariants.{NoRoom}
 -- three texts, one after another
 pub parts_are_text : (a b c : List ℕ) → length a + length b + length c ≤ most_bytes → All IsTextByte a → All IsTextByte b → All IsTextByte c
     → IsText (a ++ b ++ c)
-parts_are_text a b c fits first second third = record {
-  short = omega (arith, fits, length-append (a ++ b) c, length-append a b);
-  printable = All-append IsTextByte (a ++ b) c (All-append IsTextByte a b first second) third;
-}
+parts_are_text a b c fits first second third = search (rules, length-append, All-append)
 
 -- the front of a text
 pub front_is_text : (a : List ℕ) (most : ℕ) → IsText a → All IsTextByte (take most a)

@@ -1,5 +1,5 @@
 -- The lines of a graph and the events between them, as they are found one by one.
-use Rattle.std.proofs.Common.{◌≡◌, ◌<◌, ◌≤◌, ◌+◌, ℕ, suc, Bool, List, [], ◌∷◌, ◌++◌, map, reverse, length, get_or, ap, ◌∙◌, arith}
+use Rattle.std.proofs.Common.{rules, ◌≡◌, ◌<◌, ◌≤◌, ◌+◌, ℕ, suc, Bool, List, [], ◌∷◌, ◌++◌, map, reverse, length, ap, ◌∙◌, arith}
 use Rattle.std.specs.Prelude.{All, flat_map}
 use Rattle.std.specs.List.{range_with_len, enumerate_from}
 use Rattle.std.proofs.lemmas.List.{reverse-append}
@@ -32,9 +32,7 @@ lines_below g directed k = flat_map (lines_at g directed) (reverse (range_with_l
 
 -- those of the last of these vertices come first
 pub lines_below-more : (g : GraphData) (directed : Bool) (k : ℕ) → lines_below g directed (k + 1) ≡ lines_at g directed k ++ lines_below g directed k
-lines_below-more g directed k =
-    let next : k + 1 ≡ suc k = omega arith in
-    ap (lines_below g directed) next ∙ ap (flat_map (lines_at g directed)) (below_more k)
+lines_below-more g directed k = grind (arith, below_more)
 
 -- their ends are vertices
 lines_at_within : (g : GraphData) (directed : Bool) (v : ℕ) → IsKept g → v < order_of g → All (LineWithin (order_of g)) (lines_at g directed v)
@@ -46,9 +44,7 @@ pub vertices_down : (n : ℕ) → All (λ v. v < n) (reverse (range_with_len 0 n
 vertices_down n = All-reverse (λ v. v < n) (range_with_len 0 n) (All-weaker (λ v. (0 ≤ v) × (v < 0 + n)) (λ v. v < n) (λ v p. omega (arith, p.1)) (range_with_len 0 n) (range-within 0 n))
 
 pub lines_within : (g : GraphData) (directed : Bool) → IsKept g → All (LineWithin (order_of g)) (lines_of_graph g directed)
-lines_within g directed kept =
-    All-flat_map (LineWithin (order_of g)) (lines_at g directed) (reverse (range_with_len 0 (order_of g)))
-    (λ k d h. lines_at_within g directed (get_or (reverse (range_with_len 0 (order_of g))) k d) kept (vertices_down (order_of g) k d h))
+lines_within g directed kept = search (rules, All-flat_map, lines_at_within, vertices_down)
 
 -- the numbers of lines that have those from j on
 pub numbers_below : (n j : ℕ) (others : List Line) → j + length others ≤ n → All (λ (q : ℕ × Line). q.0 < n) (enumerate_from j others)

@@ -1,5 +1,5 @@
 -- The earlier lines at each vertex: the edges to them are those of the line graph. And the lines come from the last vertex down.
-use Rattle.std.proofs.Common.{◌≡◌, ◌≢◌, ◌<◌, ◌≤◌, ◌+◌, ◌==◌, ℕ, zero, suc, pos, Bool, true, false, not, ◌&&◌, ◌||◌, cond, List, [], ◌∷◌, ◌++◌, map, take, reverse, length, set, get_or, Vec, Global, append-nil, refl, sym, ap, subst, ◌∙◌, inl, inr, arith}
+use Rattle.std.proofs.Common.{rules, ◌≡◌, ◌<◌, ◌≤◌, ◌+◌, ◌==◌, ℕ, zero, suc, pos, Bool, true, false, not, ◌&&◌, ◌||◌, cond, List, [], ◌∷◌, ◌++◌, map, take, reverse, length, get_or, Vec, Global, append-nil, refl, sym, ap, subst, ◌∙◌, inl, inr, arith}
 use Rattle.std.specs.Prelude.{All, filter, if◌then◌else◌, slice_index_or, slice_set}
 use Rattle.std.specs.List.{enumerate_from, range_with_len}
 use Rattle.std.proofs.lemmas.Bool.{cases_Bool, cases_eq, eq-eqb, ne_eqb}
@@ -50,13 +50,7 @@ kept r pass test (q ∷ qs) same =
 
 -- a line is found by its number
 by_number : (lines : List Line) (i : ℕ) → i ≤ length lines → All (λ (q : ℕ × Line). slice_index_or lines q.0 no_line ≡ q.1) (enumerate_from 0 (take i lines))
-by_number lines i within = λ k d below.
-    let size = length-take-le i lines within in
-    let many = length-enumerate_from 0 (take i lines) in
-    let early : k < i = omega (arith, below, size, many) in
-    let at = get_or-enumerate_from 0 (take i lines) k d (omega (arith, below, many)) in
-    let place : 0 + k ≡ k = omega arith in
-    subst (λ (q : ℕ × Line). slice_index_or lines q.0 no_line ≡ q.1) (sym at) (ap (λ (j : ℕ). slice_index_or lines j no_line) place ∙ (get_or_default lines k no_line d.1 (omega (arith, early, within)) ∙ sym (get_or-take i lines k d.1 early)))
+by_number lines i within = search (rules, length-take-le, length-enumerate_from, get_or-enumerate_from, get_or_default, get_or-take)
 
 -- lines that begin at one vertex
 all_begin : (f k : ℕ) (lines : List Line) → FallTo f lines f → All (λ (q : ℕ × Line). q.1.from ≡ f) (enumerate_from k lines)
@@ -188,25 +182,10 @@ numbers_within w i lines within =
 
 -- what stands in one of the lists
 pub listed : (lists : List (Vec ℕ Global)) (w : ℕ) (at : Vec ℕ Global) (numbers : List ℕ) → w < length lists → at ≡ slice_index_or lists w at → list_at lists w ≡ numbers → at.items ≡ numbers
-listed lists w at numbers within value is =
-    let items = λ (v : Vec ℕ Global). v.items in
-    ap items value ∙ (sym (get_or-map items lists w at [] within) ∙ is)
+listed lists w at numbers within value is = search (rules, get_or-map)
 
 -- a line more on one of the lists
 pub one_listed : (lists : List (Vec ℕ Global)) (w : ℕ) (was new : Vec ℕ Global) (entry : ℕ) (u : ℕ) → w < length lists
     → was ≡ slice_index_or lists w was → new.items ≡ was.items ++ entry ∷ []
     → list_at (slice_set lists w new) u ≡ list_at lists u ++ (if w == u then entry ∷ [] else [])
-one_listed lists w was new entry u within value grown =
-    let items = λ (v : Vec ℕ Global). v.items in
-    let all = map items lists in
-    let size : w < length all = omega (arith, within, length-map lists items) in
-    let old : get_or all w [] ≡ was.items = get_or-map items lists w was [] within ∙ ap items (sym value) in
-    let set_in = ap (λ (xs : List (List ℕ)). get_or xs u []) (map-set items lists w new) in
-    elim (cases_eq w u) [
-      | inl e ↦
-          let here = get_or-set_same all w new.items [] size in
-          rw (eq-eqb w u e) (set_in ∙ (ap (λ (k : ℕ). get_or (set all w new.items) k []) (sym e) ∙ (here ∙ (grown ∙ (ap (λ es. es ++ entry ∷ []) (sym old) ∙ ap (λ (k : ℕ). get_or all k [] ++ entry ∷ []) e)))))
-      | inr n ↦
-          let other : u ≢ w = λ e. n (sym e) in
-          rw (ne_eqb w u n) (set_in ∙ (get_or-set_other all w u new.items [] other ∙ sym (append-nil _)))
-    ]
+one_listed lists w was new entry u within value grown = search (rules, length-map, get_or-map, map-set, cases_eq, get_or-set_same, eq-eqb, ne_eqb, get_or-set_other, append-nil)

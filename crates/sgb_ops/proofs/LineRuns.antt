@@ -1,5 +1,5 @@
 -- The lines that begin at one vertex, as a run.
-use Rattle.std.proofs.Common.{◌≡◌, ◌<◌, ◌≤◌, ◌+◌, ◌-◌, ◌==◌, ℕ, suc, pos, true, not, nat_lt, List, [], ◌∷◌, map, length, set, get_or, refl, sym, ap, ◌∙◌, inl, inr, arith}
+use Rattle.std.proofs.Common.{rules, ◌≡◌, ◌<◌, ◌≤◌, ◌+◌, ◌-◌, ◌==◌, ℕ, suc, pos, true, not, nat_lt, List, [], ◌∷◌, map, length, set, get_or, refl, sym, ap, ◌∙◌, inl, inr, arith}
 use Rattle.std.specs.Prelude.{All, filter, slice_index}
 use Rattle.std.specs.List.{enumerate_from, range_with_len}
 use Rattle.std.proofs.lemmas.Bool.{cases_eq, cases_lt, eq-eqb, ne_eqb, lt-ltb, le-ltb}
@@ -14,14 +14,10 @@ use Rattle.sgb_ops.specs.declared.line_graphs.Line.{Line}
 
 -- no more lines begin somewhere than there are
 pub few_from : (w : ℕ) (lines : List Line) → begin_from w lines ≤ length lines
-few_from w lines =
-    let test = λ (l : Line). not (nat_lt l.from w) in
-    omega (arith, length-filter test lines, count_by-le-length test lines)
+few_from w lines = grind (arith, length-filter, count_by-le-length)
 
 pub few_at : (w : ℕ) (lines : List Line) → begin_at w lines ≤ length lines
-few_at w lines =
-    let test = λ (l : Line). l.from == w in
-    omega (arith, length-filter test lines, count_by-le-length test lines)
+few_at w lines = search (rules, length-filter, count_by-le-length)
 
 -- those that begin at w or later begin at w, or at w + 1 or later
 two_parts : (w : ℕ) (lines : List Line) → begin_from w lines ≡ begin_at w lines + begin_from (w + 1) lines
@@ -37,9 +33,7 @@ none_at_end : (n : ℕ) (lines : List Line) → All (LineWithin n) lines → beg
 none_at_end n lines within = omega (arith, none_past n lines within, two_parts n lines)
 
 all_at_end : (n u : ℕ) (lines : List Line) → All (LineWithin n) lines → n ≤ u → u ≤ n → begin_at u lines ≡ begin_from u lines
-all_at_end n u lines within low high =
-    let e : u ≡ n = omega (arith, low, high) in
-    ap (λ (k : ℕ). begin_at k lines) e ∙ (none_at_end n lines within ∙ sym (ap (λ (k : ℕ). begin_from k lines) e ∙ none_past n lines within))
+all_at_end n u lines within low high = search (rules, none_at_end, none_past)
 
 -- a table with the numbers of lines that begin at each vertex before w, and from w on of those that begin there or later
 abbrev pub EndsFrom : ℕ → List Line → List ℕ → ℕ → Type 0
@@ -57,28 +51,11 @@ ends_first n lines ends within size counts =
 -- two neighbours make the next sum
 pub ends_sum : (n w : ℕ) (lines : List Line) (ends : List ℕ) (here next : ℕ) → 0 < w → w ≤ n → EndsFrom n lines ends w
     → here ≡ get_or ends (w - 1) here → next ≡ get_or ends (w - 1 + 1) next → here + next ≡ begin_from (w - 1) lines
-ends_sum n w lines ends here next some few table is later =
-    let v = w - 1 in
-    let size = table.0 in
-    let at : get_or ends v here ≡ begin_at v lines = get_or_default ends v here 0 (omega (arith, size, some, few)) ∙ table.1 v (omega (arith, some)) in
-    let after : get_or ends (v + 1) next ≡ begin_from (v + 1) lines =
-    get_or_default ends (v + 1) next 0 (omega (arith, size, some, few)) ∙ table.2 (v + 1) (omega (arith, some)) (omega (arith, some, few)) in
-    omega (arith, is, later, at, after, two_parts v lines)
+ends_sum n w lines ends here next some few table is later = grind (arith, get_or_default, two_parts)
 
 pub ends_more : (n w : ℕ) (lines : List Line) (ends : List ℕ) (here : ℕ) → 0 < w → w ≤ n → EndsFrom n lines ends w
     → here ≡ begin_from (w - 1) lines → EndsFrom n lines (set ends (w - 1) here) (w - 1)
-ends_more n w lines ends here some few table is =
-    let v = w - 1 in
-    let size = table.0 in (
-      length-set ends v here ∙ size,
-      (λ u low. get_or-set_other ends v u here 0 (λ e. absurd (omega (arith, e, low))) ∙ table.1 u (omega (arith, low))),
-      (λ u low high. elim (cases_eq u v) [
-        | inl e ↦
-            ap (λ (k : ℕ). get_or (set ends v here) k 0) e
-            ∙ (get_or-set_same ends v here 0 (omega (arith, size, some, few)) ∙ (is ∙ ap (λ (k : ℕ). begin_from k lines) (sym e)))
-        | inr n ↦ get_or-set_other ends v u here 0 n ∙ table.2 u (omega (arith, low, n)) high
-      ]),
-    )
+ends_more n w lines ends here some few table is = search (rules, length-set, get_or-set_other, cases_eq, get_or-set_same)
 
 -- a number read from the whole table
 pub ends_read : (n w : ℕ) (lines : List Line) (ends : List ℕ) (number : ℕ) → w ≤ n → length ends ≡ n + 1

@@ -1,5 +1,5 @@
 -- Marks at the vertices that a list of arcs leads to.
-use Rattle.std.proofs.Common.{◌≡◌, ◌≢◌, ℕ, ◌+◌, ◌<◌, ◌≤◌, ◌==◌, Bool, cond, List, ◌∷◌, ◌++◌, length, take, set, get_or, refl, subst, ◌∙◌, inl, inr, arith}
+use Rattle.std.proofs.Common.{rules, ◌≡◌, ℕ, ◌+◌, ◌<◌, ◌≤◌, ◌==◌, Bool, cond, List, ◌∷◌, ◌++◌, length, take, set, get_or, ◌∙◌, arith}
 use Rattle.std.specs.List.{list_any}
 use Rattle.std.proofs.lemmas.Bool.{cases_Bool, cond_both}
 use Rattle.std.proofs.lemmas.Bool.Decides.{nat_tests}
@@ -16,29 +16,15 @@ mark_at links mark marks w = cond (leads_to links w) mark (get_or marks w 0)
 
 -- the tip of the first arc is marked
 pub mark_at-next : (l : Link) (links : List Link) (mark : ℕ) (marks : List ℕ) (w : ℕ) → l.tip < length marks → mark_at links mark (set marks l.tip mark) w ≡ mark_at (l ∷ links) mark marks w
-mark_at-next l links mark marks w within = elim (cases_Bool (l.tip == w)) [
-  | inl e ↦
-      let same : l.tip ≡ w = grind (arith, nat_tests) in
-      let here : get_or (set marks l.tip mark) w 0 ≡ mark = subst (λ k. get_or (set marks l.tip mark) k 0 ≡ mark) same (get_or-set_same marks l.tip mark 0 within) in
-      rw (e, here) (cond_both (leads_to links w) mark mark (λ (k : ℕ). k ≡ mark) (λ _. refl) (λ _. refl))
-  | inr e ↦
-      let other : w ≢ l.tip = λ same. absurd (grind (arith, nat_tests)) in
-      rw (e, get_or-set_other marks l.tip w mark 0 other) refl
-]
+mark_at-next l links mark marks w within = grind (arith, cases_Bool, nat_tests, get_or-set_same, cond_both, get_or-set_other)
 
 -- marks of earlier lists are less than the mark of this one, so that this mark is at w where this list leads there
 pub is_marked : (links : List Link) (u : ℕ) (marks : List ℕ) (w : ℕ) → get_or marks w 0 ≤ u → (mark_at links (u + 1) marks w == u + 1) ≡ leads_to links w
-is_marked links u marks w earlier = elim (cases_Bool (leads_to links w)) [
-  | inl e ↦ rw e grind (arith, nat_tests)
-  | inr e ↦ rw e grind (arith, nat_tests)
-]
+is_marked links u marks w earlier = search (rules, cases_Bool, nat_tests)
 
 -- and no mark is greater
 pub mark_at-le : (links : List Link) (u : ℕ) (marks : List ℕ) (w : ℕ) → get_or marks w 0 ≤ u → mark_at links (u + 1) marks w ≤ u + 1
-mark_at-le links u marks w earlier = elim (cases_Bool (leads_to links w)) [
-  | inl e ↦ rw e omega arith
-  | inr e ↦ rw e omega arith
-]
+mark_at-le links u marks w earlier = search (rules, cases_Bool)
 
 -- marks that were lent as a whole
 pub lent_back : (n : ℕ) (marks beyond : List ℕ) → length marks ≡ n → take n (marks ++ beyond) ≡ marks

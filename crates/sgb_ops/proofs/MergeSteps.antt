@@ -1,5 +1,5 @@
 -- Events that are merged one by one.
-use Rattle.std.proofs.Common.{◌≡◌, ℕ, suc, ℤ, Bool, true, false, not, List, [], ◌∷◌, ◌++◌, map, set, get_or, append-nil, refl, sym, ◌∙◌, inl, inr, arith}
+use Rattle.std.proofs.Common.{rules, ◌≡◌, ℕ, suc, ℤ, Bool, true, false, not, List, [], ◌∷◌, ◌++◌, map, set, get_or, append-nil, refl, sym, ◌∙◌, inl, inr, arith}
 use Rattle.std.specs.Prelude.{filter}
 use Rattle.std.specs.List.{list_any, position_or_len}
 use Rattle.std.proofs.lemmas.Bool.{cases_Bool, or_parts}
@@ -8,7 +8,6 @@ use Rattle.std.proofs.lemmas.List.Elements.{filter-append}
 use Rattle.std.proofs.lemmas.List.Sums.{fold-append}
 use Rattle.sgb_graph.specs.Events.{Event}
 use Rattle.sgb_ops.specs.inner.Ends.{ends_key, shortened, with_event}
-use Rattle.sgb_ops.specs.Lengths.{lesser}
 use Rattle.sgb_ops.specs.Merged.{has_ends_of, with_least_length, merged}
 use Rattle.sgb_ops.proofs.Ends.{has_same_pair, key_tells, ends_joined, ends_turned}
 
@@ -22,15 +21,11 @@ lengths_like directed a events = map (λ f. f.len) (filter (has_ends_of directed
 
 -- one more of them
 longer : (directed : Bool) (a e : Event) (events : List Event) → has_ends_of directed a e ≡ true → with_least_length directed a (events ++ e ∷ []) ≡ shortened (with_least_length directed a events) e
-longer directed a e events same =
-    let like = has_ends_of directed a in
-    rw (filter-append like events (e ∷ []), same, map_push (λ f. f.len) (filter like events) e, fold-append lesser a.len (lengths_like directed a events) (e.len ∷ [])) refl
+longer directed a e events same = grind (arith, filter-append, map_push, fold-append)
 
 -- or one of others
 as_long : (directed : Bool) (a e : Event) (events : List Event) → has_ends_of directed a e ≡ false → with_least_length directed a (events ++ e ∷ []) ≡ with_least_length directed a events
-as_long directed a e events other =
-    let like = has_ends_of directed a in
-    rw (filter-append like events (e ∷ []), other, append-nil (filter like events)) refl
+as_long directed a e events other = search (rules, filter-append, append-nil)
 
 -- of the events without those that have the ends of a: one more that has them changes nothing
 same_others : (directed : Bool) (a e : Event) (events : List Event) → has_ends_of directed a e ≡ true → filter (is_other directed a) (with_event directed events e) ≡ filter (is_other directed a) events

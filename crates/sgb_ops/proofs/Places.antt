@@ -1,5 +1,5 @@
 -- What is done place by place, or arc by arc, as events that are added one after another.
-use Rattle.std.proofs.Common.{◌≡◌, ℕ, ℤ, Option, Some, ◌+◌, ◌<◌, ◌≤◌, Bool, List, [], ◌∷◌, ◌++◌, sym, ap, subst, ◌∙◌}
+use Rattle.std.proofs.Common.{rules, ◌≡◌, ℕ, ℤ, Option, Some, ◌+◌, ◌<◌, ◌≤◌, Bool, List, [], ◌∷◌, ◌++◌, ap, subst, ◌∙◌}
 use Rattle.std.specs.Iterator.{YieldsFirst}
 use Rattle.std.specs.List.{All, range_with_len}
 use Rattle.std.proofs.lemmas.List.Elements.{All-head, All-tail}
@@ -29,9 +29,7 @@ module _ (directed : Bool) (old now : GraphData) (events : List ℕ → List Eve
 
   -- those of all places are added
   pub places_added : n ≤ i → PlacesLeft directed old now events n i → events [] ≡ [] → AddsEvents directed old now (events (range_with_len 0 n))
-  places_added past left none =
-      subst (λ ks. AddsEvents directed old now (events ks)) (places-all n)
-      (up_to-all directed old now (events (places_from n i)) (events (places_from n 0)) left (ap events (places-none n i past) ∙ none))
+  places_added past left none = search (rules, places-all, up_to-all, places_from, places-none)
 
 -- arcs that lead to vertices below n are left, and their events are still to come
 abbrev pub ArcsLeft : ℕ → Bool → GraphData → GraphData → (List Link → List Event) → List Link → List Event → Type 0
@@ -40,10 +38,7 @@ ArcsLeft n directed old now events left all = All (TipBelow n) left × AddsUpTo 
 -- at first all are left
 pub arcs_first : (n : ℕ) (directed : Bool) (g : GraphData) (events : List Link → List Event) (left given arcs : List Link)
     → left ≡ given → given ≡ arcs → All (TipBelow n) given → ArcsLeft n directed g g events left (events arcs)
-arcs_first n directed g events left given arcs is same tips = (
-  subst (All (TipBelow n)) (sym is) tips,
-  subst (λ ls. AddsUpTo directed g g (events ls) (events arcs)) (sym (is ∙ same)) (up_to-none directed g (events arcs)),
-)
+arcs_first n directed g events left given arcs is same tips = search (rules, up_to-none)
 
 -- the next one leads to such a vertex
 pub next_tip : (n : ℕ) (left rest : List Link) (r : Option Link) (l : Link) → r ≡ Some l → YieldsFirst (λ x. x) left r rest → All (TipBelow n) left → l.tip < n

@@ -33,6 +33,4 @@ parts_all now left all none h = sym (append-nil now) ∙ (ap (λ xs. now ++ xs) 
 -- one number more
 pub numbers_more : {X : Type 0} (f : ℕ → X) (a k j : ℕ) (before now new : List X) (x : X) → a + k ≡ j → now ≡ before ++ map f (range_with_len a k) → new ≡ now ++ x ∷ [] → x ≡ f j
     → new ≡ before ++ map f (range_with_len a (k + 1))
-numbers_more f a k j before now new x place is grown same =
-    grown ∙ (ap (λ y. now ++ y ∷ []) same ∙ (ap (λ xs. xs ++ f j ∷ []) is
-    ∙ (append_assoc before (map f (range_with_len a k)) (f j ∷ []) ∙ ap (λ xs. before ++ xs) (sym (map-range_with_len_more f a k j place)))))
+numbers_more f a k j before now new x place is grown same = grind (arith, append_assoc, map-range_with_len_more)

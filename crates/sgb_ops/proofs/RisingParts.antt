@@ -1,5 +1,5 @@
 -- Events in parts, each of which begins at vertices before those of all later parts: they share no ends.
-use Rattle.std.proofs.Common.{◌≡◌, ◌<◌, ◌≤◌, ◌+◌, ℕ, Bool, false, List, [], ◌∷◌, ◌++◌, get_or, inl, inr, refl, sym, ap, ◌∙◌, arith}
+use Rattle.std.proofs.Common.{◌≡◌, ◌<◌, ◌≤◌, ◌+◌, ℕ, Bool, false, List, [], ◌∷◌, ◌++◌, get_or, refl, sym, ap, ◌∙◌, arith}
 use Rattle.std.specs.Prelude.{All, flat_map}
 use Rattle.std.specs.List.{range_with_len}
 use Rattle.std.proofs.lemmas.List.Elements.{All-filter, filter-append}
@@ -18,10 +18,7 @@ pub rises_wider : (directed : Bool) (a b c d : ℕ) (e : Event) → a ≤ c → 
 rises_wider directed a b c d e low high r = (omega (arith, low, r.0), omega (arith, high, r.1), λ same. omega (arith, low, r.2 same))
 
 rising_apart : (directed : Bool) (a b c d : ℕ) (e f : Event) → b ≤ c → Rises directed a b e → Rises directed c d f → has_ends_of directed e f ≡ false
-rising_apart directed a b c d e f after one two = never_true (has_ends_of directed e f) (λ h. elim (ends directed e f h) [
-  | inl same ↦ absurd (omega (arith, after, one.1, two.0, same.from))
-  | inr other ↦ absurd (omega (arith, after, one.1, two.2 other.edges, other.to))
-])
+rising_apart directed a b c d e f after one two = grind (arith, never_true, ends)
 
 parts_apart : (directed : Bool) (a b c d : ℕ) (xs ys : List Event) → b ≤ c → All (Rises directed a b) xs → All (Rises directed c d) ys → AreApart directed xs ys
 parts_apart directed a b c d xs ys after one two = λ k x h j y g. rising_apart directed a b c d (get_or xs k x) (get_or ys j y) after (one k x h) (two j y g)

@@ -1,8 +1,7 @@
 -- Entries without the graphs that they put in: they make the same vertices, and the same events between copies.
-use Rattle.std.proofs.Common.{◌≡◌, ◌∙◌, ℕ, zero, suc, Bool, List, [], ◌∷◌, Some, None, map, take, refl, ap, arith}
-use Rattle.std.specs.Prelude.{filter, flat_map, slice_get, option_map}
+use Rattle.std.proofs.Common.{rules, ◌≡◌, ◌∙◌, ℕ, zero, suc, Bool, List, [], ◌∷◌, map, take, refl, ap, arith}
+use Rattle.std.specs.Prelude.{filter}
 use Rattle.std.specs.List.{list_any}
-use Rattle.std.specs.Option.{option_map_or}
 use Rattle.std.proofs.lemmas.List.Sums.{sum_by-cons}
 use Rattle.std.proofs.lemmas.Option.{slice_get-map}
 use Rattle.sgb_graph.specs.Graphs.{GraphData}
@@ -48,9 +47,7 @@ pub first_sized : (es : List Entry) (v : ℕ) → first_copy (map sized es) v �
 first_sized es v = omega (arith, merged_sized es, taken_sized es v)
 
 pub copies_sized : (es : List Entry) (v : ℕ) → copies_of (map sized es) v ≡ copies_of es v
-copies_sized es v =
-    rw (slice_get-map sized es v, first_sized es v)
-    (elim (slice_get es v) as (λ o. option_map_or (copies_by (first_copy es v)) (option_map sized o) [] ≡ option_map_or (copies_by (first_copy es v)) o []) [ None ↦ refl | Some e ↦ (one_sized e).3 (first_copy es v) ])
+copies_sized es v = search (rules, slice_get-map, first_sized, one_sized)
 
 -- the events between them
 module _ (g : GraphData) (es : List Entry) (directed : Bool) where
@@ -61,9 +58,7 @@ module _ (g : GraphData) (es : List Entry) (directed : Bool) where
   copy_sized v u = flat_map-same (events_of_arc (map sized es) directed v u) (events_of_arc es directed v u) (arc_sized v u) (taken directed g v)
 
   vertex_sized : (v : ℕ) → events_of_copies g (map sized es) directed v ≡ events_of_copies g es directed v
-  vertex_sized v =
-      flat_map-same (events_of_copy g (map sized es) directed v) (events_of_copy g es directed v) (copy_sized v) (copies_of (map sized es) v)
-      ∙ ap (flat_map (events_of_copy g es directed v)) (copies_sized es v)
+  vertex_sized v = grind (arith, flat_map-same, copy_sized, copies_sized)
 
   pub between_sized : events_between g (map sized es) directed ≡ events_between g es directed
   between_sized = flat_map-same (events_of_copies g (map sized es) directed) (events_of_copies g es directed) vertex_sized (places_of g)

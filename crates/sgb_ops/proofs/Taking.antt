@@ -1,5 +1,5 @@
 -- What is known of the arcs taken of a list.
-use Rattle.std.proofs.Common.{◌≡◌, ◌+◌, ◌*◌, ◌≤◌, ◌<◌, ◌==◌, ℕ, ℤ, min, max, Bool, true, false, ◌&&◌, cond, ltb, nat_lt, List, [], ◌∷◌, ◌++◌, map, reverse, length, refl, sym, ap, ◌∙◌, inl, inr, Option, Some, None, arith}
+use Rattle.std.proofs.Common.{rules, ◌≡◌, ◌+◌, ◌*◌, ◌≤◌, ◌<◌, ◌==◌, ℕ, ℤ, min, max, Bool, true, false, ◌&&◌, cond, ltb, nat_lt, List, [], ◌∷◌, ◌++◌, map, reverse, length, refl, sym, ap, ◌∙◌, Option, Some, None, arith}
 use Rattle.std.specs.Prelude.{All, filter, if◌then◌else◌}
 use Rattle.std.specs.List.{enumerate_from}
 use Rattle.std.specs.Option.{option_map_or}
@@ -70,17 +70,7 @@ taken_apart v low (l ∷ m ∷ xs) ys high below =
 one_edge : (v k a b : ℕ) (far : ℤ) → a ≤ b
     → each_edge_once v (links_at v k (record_from a b far ∷ record_from b a far ∷ [])) ≡ (if a == v then link k b far ∷ [] else [])
 unfolding each_edge_once
-one_edge v k a b far up =
-    elim (cases_eq a v) [
-      | inl low ↦ elim (cases_eq b v) [
-        | inl high ↦ simp (eq-eqb a v low, eq-eqb b v high, le-ltb b v (omega arith), eq-eqb (k + 1) (k + 1) refl)
-        | inr not_high ↦ simp (eq-eqb a v low, ne_eqb b v not_high, le-ltb b v (omega arith))
-      ]
-      | inr not_low ↦ elim (cases_eq b v) [
-        | inl high ↦ simp (ne_eqb a v not_low, eq-eqb b v high, lt-ltb a v (omega arith))
-        | inr not_high ↦ simp (ne_eqb a v not_low, ne_eqb b v not_high)
-      ]
-    ]
+one_edge v k a b far up = search (rules, cases_eq, eq-eqb, le-ltb, ne_eqb, lt-ltb)
 
 -- the numbers of the links of some rows
 numbers_at : (v k : ℕ) (rows : List Record) → All (λ l. (k ≤ l.number) × (l.number < k + length rows)) (links_at v k rows)

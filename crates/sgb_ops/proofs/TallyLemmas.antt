@@ -1,5 +1,5 @@
 -- What is noted of arcs.
-use Rattle.std.proofs.Common.{◌≡◌, ◌<◌, ◌≤◌, ◌+◌, ◌==◌, ℕ, pos, Bool, true, false, cond, List, [], ◌∷◌, ◌++◌, map, length, fold, Option, Some, refl, sym, ap, ◌∙◌, append-nil, inl, inr, arith}
+use Rattle.std.proofs.Common.{rules, ◌≡◌, ◌<◌, ◌≤◌, ◌+◌, ◌==◌, ℕ, pos, Bool, true, false, cond, List, [], ◌∷◌, ◌++◌, map, length, fold, Option, Some, refl, sym, ap, ◌∙◌, append-nil, arith}
 use Rattle.std.specs.Prelude.{All, filter, if◌then◌else◌}
 use Rattle.std.specs.Option.{option_map_or}
 use Rattle.std.proofs.lemmas.Bool.{cases_eq, eq-eqb, ne_eqb, eqb-true}
@@ -42,15 +42,7 @@ tally_more u links l false is = ap tally_of (arcs_to_more u links l false is ∙
 -- what stands in a map with one arc more
 pub noted_more : (u : ℕ) (links : List Link) (l : Link) (old now : Option Tally) → old ≡ tally_to l.tip links → now ≡ tally_to u links
     → cond (l.tip == u) (Some (one_more l.len old)) now ≡ tally_to u (links ++ l ∷ [])
-noted_more u links l old now was is = elim (cases_eq l.tip u) [
-  | inl here ↦
-      let same = eq-eqb l.tip u here in
-      let before : old ≡ tally_to u links = was ∙ ap (λ k. tally_to k links) here in
-      rw (same, before) (sym (tally_more u links l true same))
-  | inr other ↦
-      let apart = ne_eqb l.tip u other in
-      rw apart (is ∙ sym (tally_more u links l false apart))
-]
+noted_more u links l old now was is = search (rules, cases_eq, eq-eqb, tally_more, ne_eqb)
 
 -- how many arcs to u there are
 counted : (u : ℕ) (links : List Link) → count_to u links ≡ length (arcs_to u links)

@@ -1,5 +1,5 @@
 -- The events of a union, as they are found and merged vertex by vertex.
-use Rattle.std.proofs.Common.{◌≡◌, ◌<◌, ◌≤◌, ◌==◌, ℕ, Bool, true, false, List, [], ◌++◌, map, get_or, refl, sym, ap, append-nil, arith}
+use Rattle.std.proofs.Common.{rules, ◌≡◌, ◌<◌, ◌≤◌, ◌==◌, ℕ, Bool, true, false, List, [], ◌++◌, map, get_or, refl, sym, append-nil, arith}
 use Rattle.std.specs.Prelude.{All, filter, flat_map, nat_lt}
 use Rattle.std.proofs.lemmas.Bool.{cond_both, lt-ltb, le-ltb, ltb-true, ne_eqb, and_right}
 use Rattle.std.proofs.lemmas.List.{map-append}
@@ -39,19 +39,13 @@ module _ (g h : GraphData) (directed : Bool) (v : ℕ) (kept : IsKept g) (below 
       → old ≡ none ++ map (event_of v) (leading_below (order_of g) (taken directed g v))
       → new ≡ old ++ map (event_of v) (leading_below (order_of g) (taken directed h v))
       → new ≡ events_of g h directed v
-  of_both none old new has empty first second =
-      let own = all_lead_below (order_of g) (taken directed g v) (taken_tips directed g v kept below) in
-      let there = lt-ltb v (order_of h) has in
-      rw (second, first, empty, own, there) (sym (map-append (event_of v) (taken directed g v) (leading_below (order_of g) (taken directed h v))))
+  of_both none old new has empty first second = search (rules, all_lead_below, taken_tips, lt-ltb, map-append)
 
   -- one that the second graph has not
   pub of_first : (none new : List Event) → order_of h ≤ v → none ≡ []
       → new ≡ none ++ map (event_of v) (leading_below (order_of g) (taken directed g v))
       → new ≡ events_of g h directed v
-  of_first none new past empty first =
-      let own = all_lead_below (order_of g) (taken directed g v) (taken_tips directed g v kept below) in
-      let not_there = le-ltb v (order_of h) past in
-      rw (first, empty, own, not_there) (ap (map (event_of v)) (sym (append-nil (taken directed g v))))
+  of_first none new past empty first = grind (arith, all_lead_below, taken_tips, le-ltb, append-nil)
 
   -- its arcs lead to vertices of the first graph
   arcs_lead_below : All (TipBelow (order_of g)) (union_arcs g h directed v)

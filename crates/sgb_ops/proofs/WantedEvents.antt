@@ -1,14 +1,14 @@
 -- The wanted events of a list, as they are found part by part.
-use Rattle.std.proofs.Common.{◌≡◌, ◌<◌, ◌+◌, ◌-◌, ℕ, Bool, false, List, [], ◌∷◌, ◌++◌, map, inl, inr, refl, sym, ap, ◌∙◌, arith}
+use Rattle.std.proofs.Common.{rules, ◌≡◌, ◌<◌, ◌+◌, ℕ, Bool, false, List, [], ◌∷◌, ◌++◌, map, inl, inr, refl, sym, ap, ◌∙◌, arith}
 use Rattle.std.specs.Prelude.{filter, flat_map}
-use Rattle.std.specs.List.{range_with_len, enumerate_from}
+use Rattle.std.specs.List.{enumerate_from}
 use Rattle.std.proofs.lemmas.Bool.{ltb-false, cases_Bool}
 use Rattle.std.proofs.lemmas.List.Elements.{filter-append}
 use Rattle.sgb_vec.proofs.Lists.{made-append}
 use Rattle.sgb_graph.specs.Events.{Event}
 use Rattle.sgb_graph.specs.declared.fields.Link.{Link}
 use Rattle.sgb_ops.specs.declared.entries.Entry.{Entry}
-use Rattle.sgb_ops.specs.inner.Copies.{copies_end, copies_start, leads_to_copies}
+use Rattle.sgb_ops.specs.inner.Copies.{leads_to_copies}
 use Rattle.sgb_ops.specs.Entries.{first_copy, inner_events}
 use Rattle.sgb_ops.specs.Induced.{event_between, events_of_arc, is_met, is_wanted, wanted}
 use Rattle.sgb_ops.proofs.EntryTotals.{copies_between}
@@ -32,18 +32,11 @@ events_met directed v u a stop t = map (event_between u a.len) (filter (is_met d
 
 pub met_more : (directed : Bool) (v u : ℕ) (a : Link) (stop t : ℕ) → t < stop
     → events_met directed v u a stop t ≡ map (event_between u a.len) (filter (is_met directed v u a.tip) (t ∷ [])) ++ events_met directed v u a stop (t + 1)
-met_more directed v u a stop t below =
-    ap (λ ts. map (event_between u a.len) (filter (is_met directed v u a.tip) ts)) (places-next stop t below)
-    ∙ made-append (is_met directed v u a.tip) (event_between u a.len) (t ∷ []) (places_from stop (t + 1))
+met_more directed v u a stop t below = search (rules, places-next, made-append, places_from)
 
 -- an arc that leads to no copies gives no events
 no_copies : (entries : List Entry) (directed : Bool) (v u : ℕ) (a : Link) → leads_to_copies entries a ≡ false → events_of_arc entries directed v u a ≡ []
-no_copies entries directed v u a none =
-    let first = copies_start entries a.tip in
-    let last = copies_end entries a.tip in
-    let less = ltb-false first last none in
-    let count : last - first ≡ 0 = omega (arith, less) in
-    ap (λ ts. map (event_between u a.len) (filter (is_met directed v u a.tip) ts)) (sym (copies_between entries a.tip first last refl refl) ∙ ap (range_with_len first) count)
+no_copies entries directed v u a none = grind (arith, ltb-false, copies_between)
 
 pub arcs_to_copies : (entries : List Entry) (directed : Bool) (v u : ℕ) (arcs : List Link) → flat_map (events_of_arc entries directed v u) (filter (leads_to_copies entries) arcs) ≡ flat_map (events_of_arc entries directed v u) arcs
 arcs_to_copies entries directed v u [] = refl
