@@ -1,5 +1,5 @@
 -- What needs no memory is never out of memory.
-use Rattle.std.proofs.Common.{◌≡◌, ◌≢◌, ◌⊎◌, ◌&&◌, ◌∙◌, ℕ, List, [], Bool, false, Option, Result, Ok, Err, IfErr, inl, inr, refl, sym, ap, subst}
+use Rattle.std.proofs.Common.{arith, rules, ◌≡◌, ◌≢◌, ◌⊎◌, ◌&&◌, ◌∙◌, ℕ, List, [], Bool, false, Option, Result, Ok, Err, IfErr, inl, inr, refl, sym, ap, subst}
 use Rattle.std.specs.Result.{IsErrAnd}
 use Rattle.std.proofs.lemmas.Bool.{both_ways}
 use Rattle.std.proofs.lemmas.Result.{err_from_is_err_and}
@@ -39,9 +39,7 @@ use Rattle.sgb.proofs.StdinValues.{answer_unread}
 
 -- the exit of a `?` with another fault
 pub exit_certain : {T : Type 0} (r : Result T Fault) (f : Fault) → IsErrAnd r (λ g. g ≡ f) → f ≢ fault.Panic NoRoom → IfErr r (λ g. g ≢ fault.Panic NoRoom)
-exit_certain r f exit other =
-    let p = err_from_is_err_and r exit in
-    rw (p.1, p.2) other
+exit_certain r f exit other = search (rules, err_from_is_err_and)
 
 -- a code that is another
 other_panic : (p : Panic) → p ≢ NoRoom → fault.Panic p ≢ fault.Panic NoRoom
@@ -64,10 +62,7 @@ place_other names resume f is e = left_out_own names resume (is ∙ ap Err e)
 
 -- the exit of a `?` where no vertex has the name
 pub exit_nowhere : {T : Type 0} (r : Result T Fault) (from : Result ℕ Fault) (f : Fault) → IsErrAnd r (λ g. g ≡ f) → Err f ≡ from → from ≡ Err fault.NoVertex → r ≡ Err fault.NoVertex
-exit_nowhere r from f exit is nowhere =
-    let p = err_from_is_err_and r exit in
-    let same : f ≡ fault.NoVertex = cc in
-    p.1 ∙ ap Err (p.2 ∙ same)
+exit_nowhere r from f exit is nowhere = search (rules, err_from_is_err_and)
 
 -- some vertex has it
 pub not_nowhere : {T : Type 0} (from : Result ℕ Fault) (k : ℕ) {r : Result T Fault} → Ok k ≡ from → from ≡ Err fault.NoVertex → r ≡ Err fault.NoVertex
@@ -133,11 +128,7 @@ listing_of_graph e resume other (inr h) = h
 -- the refusal of an expression that is refused at once
 pub at_once_other : (input : List ℕ) (e : Expr) (p : Panic) → ((code : Panic) → IsRefusedFirst input (expression_of e) code → ◌≡◌ {A = Result GraphData Panic} (Err p) (Err code))
     → IsRefusedAtOnce (expression_of e) → p ≢ NoRoom
-at_once_other input e p refused h is =
-    let other = first_other input (expression_of e) h.code (h.refused input) in
-    let same = refused h.code (h.refused input) in
-    let code : h.code ≡ NoRoom = cc in
-    other code
+at_once_other input e p refused h is = search (rules, first_other)
 
 -- no graph was made of it
 pub at_once_unmade : {T : Type 0} (input : List ℕ) (e : Expr) (g : GraphData) (r : Result T Fault) → ((code : Panic) → IsRefusedFirst input (expression_of e) code → Ok g ≡ Err code)
@@ -193,6 +184,4 @@ certain_err T reads failed a same f w v e d wf ef ended other line unread sound 
 -- a request whose answer takes no memory was answered so on each input
 pub certain_run : (r : Request) (kept : List ℕ) (out err : Change) (status : ℕ)
     → (reads_input r ≡ false → NeedsNoMemory r → out.failed ≡ false → IsGiven (outcome_of (answer_of r kept)) out err status) → IsCertain r out err status
-certain_run r kept out err status given needs sound input =
-    let unread = certain_unread r needs in
-    subst (λ a. IsGiven (outcome_of a) out err status) (answer_unread r kept input unread) (given unread needs sound)
+certain_run r kept out err status given needs sound input = grind (arith, certain_unread, answer_unread)

@@ -1,5 +1,5 @@
 -- Texts written part by part, until a part is cut off.
-use Rattle.std.proofs.Common.{◌≡◌, ◌≢◌, ◌++◌, Bool, ℕ, List, Option, Result, Ok, Err, IfErr, false, inl, inr, ap}
+use Rattle.std.proofs.Common.{arith, rules, ◌≡◌, ◌≢◌, ◌++◌, Bool, ℕ, List, Option, Result, Ok, Err, IfErr, false, inl, inr, ap}
 use Rattle.std.specs.Result.{IsErrAnd}
 use Rattle.std.proofs.lemmas.Result.{err_from_is_err_and}
 use Rattle.std.specs.Io.KnownBytes.{Appends}
@@ -15,9 +15,7 @@ use Rattle.sgb_requests.specs.declared.faults.Fault.TheVariants as fault
 
 -- the exit of a `?`, where its fault cut the text off
 pub exit_cut : {T : Type 0} (text : List ℕ) (out : Change) (r : Result T Fault) (f : Fault) → IsErrAnd r (λ g. g ≡ f) → IsCutOff text out f → IsWritten text out r
-exit_cut text out r f exit cut =
-    let p = err_from_is_err_and r exit in
-    rw (p.1, p.2) cut
+exit_cut text out r f exit cut = search (rules, err_from_is_err_and)
 
 -- a text cut off is one with more after it cut off
 pub cut_more : (xs ys : List ℕ) (out : Change) (f : Fault) → IsCutOff xs out f → IsCutOff (xs ++ ys) out f
@@ -48,16 +46,12 @@ exit_unwritten text a failed r p exit memory sound =
 
 -- the exit of a `?` with the fault of a write
 pub exit_write : {T : Type 0} (r : Result T Fault) (f : Fault) → IsErrAnd r (λ g. g ≡ f) → f ≡ fault.Write → IfErr r (λ g. g ≡ fault.Write)
-exit_write r f exit is =
-    let p = err_from_is_err_and r exit in
-    rw (p.1, p.2) is
+exit_write r f exit is = grind (arith, err_from_is_err_and)
 
 -- the exit of a `?` where a text was cut off by a write alone
 pub exit_uncut : {T : Type 0} (same : Type 0) (text : List ℕ) (a b : Option (List ℕ)) (r : Result T Fault) (f : Fault) → IsErrAnd r (λ g. g ≡ f) → (f ≢ fault.Write → same)
     → IfErr r (λ g. g ≢ fault.Write → IsLeftOrBegun same text a b)
-exit_uncut same text a b r f exit left =
-    let p = err_from_is_err_and r exit in
-    rw (p.1, p.2) (λ other. inl (left other))
+exit_uncut same text a b r f exit left = search (rules, err_from_is_err_and)
 
 -- after a whole text, the next one is written or cut off
 pub begun_by : {T : Type 0} (same : Type 0) (a b c : Option (List ℕ)) (failed : Bool) (xs ys : List ℕ) (r : Result T Fault) → Appends a b xs

@@ -1,5 +1,5 @@
 -- What a run leaves, from what answering the request left.
-use Rattle.std.proofs.Common.{◌≡◌, ◌⊎◌, ℕ, Bool, true, false, List, [], Option, Result, Ok, Err, IfErr, is_err, refl, inl, inr, ap, sym, subst}
+use Rattle.std.proofs.Common.{arith, rules, ◌≡◌, ◌⊎◌, ℕ, Bool, true, false, List, [], Option, Result, Ok, Err, IfErr, is_err, refl, inl, inr, ap, sym, subst}
 use Rattle.std.specs.Io.KnownBytes.{Appends, Keeps}
 use Rattle.std.proofs.KnownBytes.{Appends-nil, Appends-kept}
 use Rattle.std.specs.Result.{IsErrAnd}
@@ -93,9 +93,7 @@ flush_ended (Err g) same later x w v u before after r p kept failed fault = absu
 -- a refusal before anything was written
 pub refused_at_once : (T : Type 0) (a : Result (List ℕ) Fault) (same : Type 0) (f : Fault) (w : Option (List ℕ)) (failed : Bool) → a ≡ Err f → failed ≡ false → same
     → IsEnded {T = T} a same (change_of w w failed) (Err f)
-refused_at_once T a same f w failed e h left =
-    let P : Result (List ℕ) Fault → Type 0 = λ r. IsEnded {T = T} r same (change_of w w failed) (Err f) in
-    subst P (sym e) (inl refl, record { output = Appends-nil w; sound = h }, left)
+refused_at_once T a same f w failed e h left = search (rules, Appends-nil)
 
 -- out of memory before anything was written
 pub memory_at_once : (T : Type 0) (a : Result (List ℕ) Fault) (same : Type 0) (w : Option (List ℕ)) (failed : Bool) → failed ≡ false → same
@@ -106,9 +104,7 @@ memory_at_once T (Err g) same w failed h left = (inr refl, record { output = App
 -- the exit of a `?` with the fault that ends the request
 pub exit_ended : {T : Type 0} (a : Result (List ℕ) Fault) (same : Type 0) (out : Change) (r : Result T Fault) (f : Fault) → IsErrAnd r (λ g. g ≡ f)
     → IsEnded {T = T} a same out (Err f) → IsEnded a same out r
-exit_ended a same out r f exit ended =
-    let p = err_from_is_err_and r exit in
-    rw (p.1, p.2) ended
+exit_ended a same out r f exit ended = grind (arith, err_from_is_err_and)
 
 -- an answer that was written or cut off, once it is known where it begins
 pub ended_after : {T : Type 0} (from : Result ℕ Fault) (k : ℕ) (text : ℕ → List ℕ) (same : Type 0) (out : Change) (r : Result T Fault)

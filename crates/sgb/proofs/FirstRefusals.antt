@@ -77,11 +77,7 @@ made_operands x p e = absurd cc
 -- the exit of a `?` with an operand's refusal
 pub exit_first : {T U : Type 0} (input : List ℕ) (e f : Expr) (q : Panic) (r : Result T Panic) → IsErrAnd r (λ g. g ≡ q) → e ≡ f
     → ((p : Panic) → IsRefusedFirst input (expression_of e) p → ◌≡◌ {A = Result U Panic} (Err q) (Err p)) → (p : Panic) → IsRefusedFirst input (expression_of f) p → r ≡ Err p
-exit_first input e f q r exit same refused p is =
-    let by = err_from_is_err_and r exit in
-    let other = refused p (subst (λ (y : Expr). IsRefusedFirst input (expression_of y) p) (sym same) is) in
-    let code : q ≡ p = cc in
-    by.1 ∙ ap Err (by.2 ∙ code)
+exit_first input e f q r exit same refused p is = grind (arith, err_from_is_err_and)
 
 -- numbers that stand for themselves
 pub numbers_refused : (refuses : ℤ → ℤ → Panic → Type 0) (m n m' n' : ℤ) (r : Result GraphData Panic) → m' ≡ m → n' ≡ n → ((p : Panic) → refuses m' n' p → r ≡ Err p)

@@ -1,5 +1,5 @@
 -- Names that are kept from one vector to the next.
-use Rattle.std.proofs.Common.{◌≡◌, ◌∙◌, ◌+◌, ◌-◌, ◌*◌, ◌^◌, ◌<◌, ◌≤◌, ℕ, Bool, List, [], ◌∷◌, ◌++◌, nat_lt, length, take, drop, get_or, refl, sym, ap, ap₂, inl, inr, arith, append_assoc, length-append}
+use Rattle.std.proofs.Common.{rules, ◌≡◌, ◌∙◌, ◌+◌, ◌-◌, ◌*◌, ◌^◌, ◌<◌, ◌≤◌, ℕ, Bool, List, [], ◌∷◌, ◌++◌, nat_lt, length, take, drop, get_or, refl, sym, ap, ap₂, inl, inr, arith, append_assoc, length-append}
 use Rattle.std.specs.List.{All}
 use Rattle.std.proofs.lemmas.Bool.{cases_lt}
 use Rattle.std.proofs.lemmas.List.{drop_at, get_or-append_right, get_or-take, get_or_append_left, length-drop, length-take-le, take-append-le, take-take, take_all, take_at}
@@ -16,13 +16,7 @@ IsSmall n = n < 2 ^ 32
 
 -- the name of no entries
 pub kept-none : IsKeptName [] [] []
-kept-none = record {
-  name = sym (name-entries []);
-  few = omega arith;
-  small = All-nil IsSmall;
-  count = refl;
-  places = λ k within. absurd (omega (arith, within));
-}
+kept-none = grind (arith, name-entries, All-nil)
 
 -- what the first entries take is the first part of the name
 pub name-front : (v : List ℕ) (k : ℕ) → k ≤ length v → take (length (name_of_vector (take k v))) (name_of_vector v) ≡ name_of_vector (take k v)
@@ -59,49 +53,18 @@ kept-end v ends text k some within kept =
 -- the first entries alone
 pub kept-front : (v ends text : List ℕ) (k end : ℕ) → k ≤ length v → end ≡ length (name_of_vector (take k v)) → IsKeptName v ends text
     → IsKeptName (take k v) (take k ends) (take end text)
-kept-front v ends text k end within is kept =
-    let count : length (take k v) ≡ k = length-take-le k v within in
-    record {
-      name = ap₂ take is kept.name ∙ name-front v k within;
-      few = omega (arith, count, kept.few);
-      small = All-take IsSmall k v kept.small;
-      count = length-take-le k ends (omega (arith, kept.count)) ∙ sym count;
-      places = λ i inside.
-          get_or-take k ends i 0 (omega (arith, count)) ∙ kept.places i (omega (arith, count))
-          ∙ ap (λ w. length (name_of_vector w)) (sym (take-take (i + 1) k v (omega (arith, count))));
-    }
+kept-front v ends text k end within is kept = grind (arith, length-take-le, name-front, All-take, get_or-take, take-take)
 
 -- one entry more
 pub kept-more : (v ends text after : List ℕ) (dotted : Bool) (entry end : ℕ) → entry < 2 ^ 32 → length v ≤ 250 → IsKeptName v ends text → dotted ≡ nat_lt 0 (length v)
     → after ≡ text ++ entry_text dotted entry → end ≡ length after → IsKeptName (v ++ entry ∷ []) (ends ++ end ∷ []) after
 kept-more v ends text after dotted entry end small few kept dot put is =
-    let more : after ≡ name_of_vector (v ++ entry ∷ []) = put ∙ ap₂ (λ name d. name ++ entry_text d entry) kept.name dot ∙ sym (name-more v entry) in
-    let count : length (v ++ entry ∷ []) ≡ length v + 1 = length-append v (entry ∷ []) in
-    record {
-      name = more;
-      few = omega (arith, count, few);
-      small = All-push IsSmall v entry kept.small small;
-      count = length-append ends (end ∷ []) ∙ ap (λ n. n + 1) kept.count ∙ sym count;
-      places = λ k within. elim (cases_lt k (length v)) [
-        | inl before ↦
-            get_or_append_left ends (end ∷ []) 0 k (omega (arith, kept.count)) ∙ kept.places k before
-            ∙ ap (λ w. length (name_of_vector w)) (sym (take-append-le (k + 1) v (entry ∷ []) (omega (arith, before))))
-        | inr last ↦
-            let place : k - length v ≡ 0 = omega (arith, count) in
-            get_or-append_right ends (end ∷ []) (length v) k 0 kept.count last ∙ ap (λ i. get_or (end ∷ []) i 0) place
-            ∙ is ∙ ap length more
-            ∙ ap (λ w. length (name_of_vector w)) (sym (take_all (k + 1) (v ++ entry ∷ []) (omega (arith, count))))
-      ];
-    }
+    search (rules, name-more, length-append, All-push, cases_lt, get_or_append_left, take-append-le, get_or-append_right, take_all)
 
 -- the name of another vector, of which the first entries and the last ones are the same
 pub name-other : (v w : List ℕ) (from to : ℕ) → from ≤ to → to ≤ length v → length w ≡ length v → take from v ≡ take from w → drop to v ≡ drop to w
     → (name_of_vector (take from v) ++ entries_text (nat_lt 0 from) (take (to - from) (drop from w))) ++ entries_text (nat_lt 0 to) (drop to v) ≡ name_of_vector w
-name-other v w from to order within width first last =
-    append_assoc (name_of_vector (take from v)) (entries_text (nat_lt 0 from) (take (to - from) (drop from w))) (entries_text (nat_lt 0 to) (drop to v))
-    ∙ ap₂ (λ xs ys. name_of_vector xs ++ (entries_text (nat_lt 0 from) (take (to - from) (drop from w)) ++ entries_text (nat_lt 0 to) ys)) first last
-    ∙ ap (λ text. name_of_vector (take from w) ++ text) (sym (entries-parts w from to order (omega (arith, width))))
-    ∙ sym (name-parts w from (omega (arith, width)))
+name-other v w from to order within width first last = grind (arith, append_assoc, entries-parts, name-parts)
 
 -- in a line after what it had
 module _ (v w line name : List ℕ) (from to start end : ℕ) (is : name ≡ name_of_vector v) (order : from ≤ to) (within : to ≤ length v)
@@ -112,19 +75,10 @@ module _ (v w line name : List ℕ) (from to start end : ℕ) (is : name ≡ nam
 
   pub other-text : length w ≡ length v → take from v ≡ take from w → drop to v ≡ drop to w
       → ((line ++ take start name) ++ entries_text (nat_lt 0 from) (take (to - from) (drop from w))) ++ drop end name ≡ line ++ name_of_vector w
-  other-text width first last =
-      let front : take start name ≡ name_of_vector (take from v) = ap₂ take starts is ∙ name-front v from (omega arith) in
-      let middle : List ℕ = entries_text (nat_lt 0 from) (take (to - from) (drop from w)) in
-      let back : List ℕ = entries_text (nat_lt 0 to) (drop to v) in
-      ap₂ (λ xs ys. ((line ++ xs) ++ middle) ++ ys) front put-back
-      ∙ ap (λ xs. xs ++ back) (append_assoc line (name_of_vector (take from v)) middle)
-      ∙ append_assoc line (name_of_vector (take from v) ++ middle) back
-      ∙ ap (λ xs. line ++ xs) (name-other v w from to order within width first last)
+  other-text width first last = grind (arith, name-front, put-back, append_assoc, name-other)
 
   pub back-bound : All IsSmall v → length (drop end name) ≤ 11 * (length v - to)
   back-bound small = omega (arith, ap length (ap₂ drop ends is), back-short v to within small)
 
   pub front-bound : All IsSmall v → length (line ++ take start name) ≤ length line + 11 * from
-  front-bound small =
-      let front : take start name ≡ name_of_vector (take from v) = ap₂ take starts is ∙ name-front v from (omega arith) in
-      omega (arith, length-append line (take start name), ap length front, front-short v from (omega arith) small)
+  front-bound small = grind (arith, name-front, length-append, front-short)

@@ -125,12 +125,4 @@ moved-more put w v p left rest place k entry old page after first here step is (
 pub moved-all : (put : List (ℕ × ℤ) → List ℕ → List ℕ) (w v name : List ℕ) (left : List (ℕ × ℤ)) (place end : ℕ) (old page after : List ℕ)
     → left ≡ [] → ((u : List ℕ) → put [] u ≡ u) → name ≡ name_of_vector v → end ≡ length (name_of_vector (take place v))
     → after ≡ page ++ drop end name → IsMovedSoFar put w v left place old page → after ≡ old ++ name_of_vector w
-moved-all put w v name left place end old page after none stays named ends is (u, whole, size, same, rise, text) =
-    let within : place ≤ length v = subst (AreRising (length v) place) none rise in
-    let all : u ≡ w = sym (stays u) ∙ ap (λ ps. put ps u) (sym none) ∙ whole in
-    let back : drop end name ≡ entries_text (nat_lt 0 place) (drop place u) =
-    ap₂ drop ends named ∙ name-back v place within ∙ ap (entries_text (nat_lt 0 place)) (sym same) in
-    is ∙ ap₂ (λ a b. a ++ b) text back
-    ∙ append_assoc old (name_of_vector (take place u)) (entries_text (nat_lt 0 place) (drop place u))
-    ∙ ap (λ xs. old ++ xs) (sym (name-parts u place (omega (arith, within, size))))
-    ∙ ap (λ xs. old ++ name_of_vector xs) all
+moved-all put w v name left place end old page after none stays named ends is (u, whole, size, same, rise, text) = grind (arith, name-back, append_assoc, name-parts)

@@ -73,9 +73,7 @@ entries-more v from to order within =
 
 -- the name with one entry more
 pub name-more : (v : List ℕ) (entry : ℕ) → name_of_vector (v ++ entry ∷ []) ≡ name_of_vector v ++ entry_text (nat_lt 0 (length v)) entry
-name-more v entry =
-    name-entries (v ++ entry ∷ []) ∙ entries-append false v (entry ∷ [])
-    ∙ ap₂ (λ name text. name ++ text) (sym (name-entries v)) (append-nil (entry_text (nat_lt 0 (length v)) entry))
+name-more v entry = grind (arith, name-entries, entries-append, append-nil)
 
 -- how long the text of an entry may be
 pub length-entry : (dotted : Bool) (entry : ℕ) → entry < 2 ^ 32 → length (entry_text dotted entry) ≤ 11

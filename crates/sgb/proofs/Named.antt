@@ -19,12 +19,7 @@ NoneBefore names name i = (k : ℕ) → k < i → has_name name (slice_index_or 
 -- nor has one more
 pub none_before-more : (names : List (List ℕ)) (name other : List ℕ) (i : ℕ) → slice_get names i ≡ Some other → has_name name other ≡ false
     → NoneBefore names name i → NoneBefore names name (i + 1)
-none_before-more names name other i at differs none = λ k h. elim (cases_lt k i) [
-  | inl before ↦ none k before
-  | inr past ↦
-      let same : k ≡ i = omega arith in
-      ap (λ j. has_name name (slice_index_or names j [])) same ∙ ap (has_name name) (get_or_from_slice_get names i other [] at) ∙ differs
-]
+none_before-more names name other i at differs none = grind (arith, cases_lt, get_or_from_slice_get)
 
 -- the first vertex of a name that the vertex has
 pub named_here : (names : List (List ℕ)) (name other : List ℕ) (i : ℕ) → slice_get names i ≡ Some other → has_name name other ≡ true

@@ -1,5 +1,5 @@
 -- Texts handed to a page of output, part by part.
-use Rattle.std.proofs.Common.{◌≡◌, ◌∙◌, ◌++◌, Bool, ℕ, false, List, [], Option, Result, Ok, Err, refl, sym, ap, subst, inr, append_assoc, append-nil}
+use Rattle.std.proofs.Common.{arith, rules, ◌≡◌, ◌∙◌, ◌++◌, Bool, ℕ, false, List, [], Option, Result, Ok, Err, refl, sym, ap, subst, inr, append_assoc, append-nil}
 use Rattle.std.specs.Result.{IsErrAnd}
 use Rattle.std.proofs.lemmas.Result.{err_from_is_err_and}
 use Rattle.std.specs.Io.KnownBytes.{Appends}
@@ -26,11 +26,7 @@ held_more all now part after a b e p =
 
 -- a page took a text after others
 pub held_then : (all now part after : List ℕ) (a b c : Option (List ℕ)) → SoFar all now a b → SoFar (now ++ part) after b c → SoFar (all ++ part) after a c
-held_then all now part after a b c p q = (
-  p.0 ++ q.0,
-  append_assoc p.0 q.0 after ∙ ap (λ (text : List ℕ). p.0 ++ text) q.1 ∙ sym (append_assoc p.0 now part) ∙ ap (λ (text : List ℕ). text ++ part) p.1,
-  Appends-trans a b c p.0 q.0 p.2 q.2,
-)
+held_then all now part after a b c p q = search (rules, append_assoc, Appends-trans)
 
 -- nothing was taken
 pub paged_none : (all held : List ℕ) (a : Option (List ℕ)) → PagedSoFar all all held held a a
@@ -47,26 +43,16 @@ paged_more all part left rest held now after a b c e p q = (
 
 -- all was taken
 pub paged_all : (all left held now : List ℕ) (a b : Option (List ℕ)) → left ≡ [] → PagedSoFar all left held now a b → SoFar (held ++ all) now a b
-paged_all all left held now a b e p =
-    let whole : p.0 ≡ all = sym (append-nil p.0) ∙ ap (λ (text : List ℕ). p.0 ++ text) (sym e) ∙ p.1 in
-    subst (λ (text : List ℕ). SoFar (held ++ text) now a b) whole p.2
+paged_all all left held now a b e p = search (rules, append-nil)
 
 -- the next part was cut off
 pub paged_cut : (all part left rest held now : List ℕ) (a b c : Option (List ℕ)) (failed : Bool) (f : Fault) → left ≡ part ++ rest → PagedSoFar all left held now a b
     → IsCutOff (now ++ part) (record { before = b; after = c; failed = failed }) f → IsCutOff (held ++ all) (record { before = a; after = c; failed = failed }) f
-paged_cut all part left rest held now a b c failed f e p q =
-    let (done, split, so) = p in
-    let (put, is, appended) = so in
-    let whole : put ++ ((now ++ part) ++ rest) ≡ held ++ all =
-    ap (λ (text : List ℕ). put ++ text) (append_assoc now part rest ∙ ap (λ (text : List ℕ). now ++ text) (sym e))
-    ∙ sym (append_assoc put now left) ∙ ap (λ (text : List ℕ). text ++ left) is ∙ append_assoc held done left ∙ ap (λ (text : List ℕ). held ++ text) split in
-    so_far-cut (held ++ all) (now ++ part) ((now ++ part) ++ rest) rest a b c failed f refl (put, whole, appended) q
+paged_cut all part left rest held now a b c failed f e p q = grind (arith, append_assoc, so_far-cut)
 
 -- the exit of a `?`, where its fault cut a page off
 pub exit_paged : {T : Type 0} (held text holds : List ℕ) (out : Change) (r : Result T Fault) (f : Fault) → IsErrAnd r (λ g. g ≡ f) → IsCutOff (held ++ text) out f → IsPaged held text holds out r
-exit_paged held text holds out r f exit cut =
-    let p = err_from_is_err_and r exit in
-    rw (p.1, p.2) cut
+exit_paged held text holds out r f exit cut = search (rules, err_from_is_err_and)
 
 -- the exit of a `?`, where what a page held was cut off before it took the text
 pub exit_untaken : {T : Type 0} (held text holds : List ℕ) (out : Change) (r : Result T Fault) (f : Fault) → IsErrAnd r (λ g. g ≡ f) → IsCutOff (held ++ []) out f → IsPaged held text holds out r

@@ -1,5 +1,5 @@
 -- Parameters are refused for what they are: never out of memory.
-use Rattle.std.proofs.Common.{◌≡◌, ◌≢◌, ◌&&◌, not, nat_lt, length, ℕ, ℤ, pos, negsuc, Bool, true, false, cond, List, [], ◌∷◌, Option, Some, None, Result, Ok, Err, ap}
+use Rattle.std.proofs.Common.{rules, ◌≡◌, ◌≢◌, ◌&&◌, not, nat_lt, length, ℕ, ℤ, pos, negsuc, Bool, true, false, cond, List, [], ◌∷◌, Option, Some, None, Result, Ok, Err, ap}
 use Rattle.std.specs.Prelude.{◌==◌, ◌||◌}
 use Rattle.std.specs.List.{list_any}
 use Rattle.sgb_vec.specs.Bounds.{simplex_of}
@@ -115,10 +115,7 @@ generator_judged (generator.Subsets p) = after (accepted_subsets p) _ (bounds_ju
 
 -- the entries of an induced graph
 entries_judged : (n : ℕ) (entries : List Entry) → IsJudged (accepted_entries n entries)
-entries_judged n entries =
-    either (not (length entries == n)) _ _ (refused Bad (λ e. cc))
-    (either (list_any is_unnumbered entries) _ _ (refused Bad (λ e. cc))
-    (either (list_any is_too_great entries || nat_lt most_vertices (total_of entries)) _ _ (refused VeryBad (λ e. cc)) (accepted entries)))
+entries_judged n entries = search (rules, either, refused, accepted)
 
 -- an induced graph
 induced_judged : (g : GraphData) (entries : List Entry) (self multi directed : Bool) → IsJudged (induced_of g entries self multi directed)
@@ -132,10 +129,7 @@ parts_judged (pos n1) (pos n2) = either _ _ _ (refused VeryBad (λ e. cc)) (acce
 
 -- a complete bipartite graph
 bi_complete_judged : (n1 n2 : ℤ) (directed : Bool) → IsJudged (bi_complete_of n1 n2 directed)
-bi_complete_judged n1 n2 directed =
-    after _ _ (parts_judged n1 n2) (λ entries.
-    after _ _ (board_judged (pair_of_vertices directed)) (λ pair.
-    after _ _ (induced_judged (graph_described pair) entries false false directed) (λ d. accepted (with_parts n1 n2 directed d))))
+bi_complete_judged n1 n2 directed = search (rules, after, parts_judged, board_judged, induced_judged, accepted)
 
 -- the number in the middle of a wheel
 pub middle_judged : (n1 : ℤ) → IsJudged (accepted_middle n1)
@@ -144,11 +138,7 @@ middle_judged (pos n1) = either _ _ _ (refused VeryBad (λ e. cc)) (accepted _)
 
 -- a wheel
 wheel_judged : (n n1 : ℤ) (directed : Bool) → IsJudged (wheel_of n n1 directed)
-wheel_judged n n1 directed =
-    after _ _ (middle_judged n1) (λ centre.
-    after _ _ (board_judged (rim_of_wheel n directed)) (λ rim.
-    after _ _ (board_judged (pair_of_vertices directed)) (λ pair.
-    after _ _ (induced_judged (graph_described pair) (centre ∷ entry.Graph (graph_described rim) ∷ []) false false directed) (λ d. accepted (with_wheel_id n n1 directed d)))))
+wheel_judged n n1 directed = search (rules, after, middle_judged, board_judged, induced_judged, accepted)
 
 -- a text of a file
 text_judged : (text : List ℕ) → IsJudged (graph_of_text text)
@@ -216,9 +206,7 @@ within_judged greatest (negsuc n) = λ e. cc
 
 -- the draws of a flip
 pub draws_judged : (p : FlipParams) → IsJudged (accepted_draws p)
-draws_judged p =
-    after _ _ (within_judged most_draws p.skip) (λ skip.
-    after _ _ (within_judged most_draws p.count) (λ count. after _ _ (within_judged modulus p.m) (λ m. accepted _)))
+draws_judged p = search (rules, after, within_judged, accepted)
 
 -- ---- answers
 

@@ -1,5 +1,5 @@
 -- Where the answer to a request about a family begins.
-use Rattle.std.proofs.Common.{◌≡◌, ◌∙◌, ◌+◌, ◌-◌, ◌<◌, ◌≤◌, min, ℕ, suc, List, Bool, true, false, length, map, drop, Option, Some, None, option_map, Result, Err, inl, inr, refl, sym, ap, subst, arith}
+use Rattle.std.proofs.Common.{rules, ◌≡◌, ◌∙◌, ◌+◌, ◌-◌, ◌<◌, ◌≤◌, min, ℕ, suc, List, Bool, true, false, length, map, drop, Option, Some, None, option_map, Result, Err, inl, inr, refl, sym, ap, subst, arith}
 use Rattle.std.specs.Bool.{OnTrue, OnFalse}
 use Rattle.std.specs.List.{slice_get}
 use Rattle.std.specs.Result.{MatchResult}
@@ -45,12 +45,7 @@ begins_alike r items resume members vectors same begins =
 
 -- the blocks are the same where as many are left
 blocks_alike : (g : GraphData) (n j k : ℕ) → length (names_of g) ≡ n → n - j ≡ n - k → blocks g j ≡ blocks g k
-blocks_alike g n j k count alike = elim (cases_lt j n) [
-  | inl less ↦
-      let same : j ≡ k = omega (arith, less, alike) in
-      ap (blocks g) same
-  | inr more ↦ blocks-none g j (omega (arith, count, more)) ∙ sym (blocks-none g k (omega (arith, count, more, alike)))
-]
+blocks_alike g n j k count alike = search (rules, cases_lt, blocks-none)
 
 -- what is left out of the graph's names
 pub left_out_of_graph : (g : VectorGraph) (r : Resume) (a : Result ℕ Fault) → left_out (map name_of_vector g.vectors) r ≡ a → a ≡ left_out (names_of (graph_described (described_by g))) r

@@ -1,5 +1,5 @@
 -- Lines of the arcs of a list that is had run by run.
-use Rattle.std.proofs.Common.{◌≡◌, ◌∙◌, ◌+◌, ◌-◌, ◌<◌, ◌≤◌, ℕ, suc, ℤ, List, [], ◌∷◌, ◌++◌, map, reverse, sym, ap, subst, arith, append_assoc}
+use Rattle.std.proofs.Common.{rules, ◌≡◌, ◌∙◌, ◌+◌, ◌-◌, ◌<◌, ◌≤◌, ℕ, suc, ℤ, List, [], ◌∷◌, ◌++◌, map, reverse, sym, ap, subst, arith, append_assoc}
 use Rattle.std.specs.List.{flat_map, range_with_len}
 use Rattle.std.proofs.lemmas.Grind.{flat_map-append}
 use Rattle.std.proofs.lemmas.List.{reverse-append}
@@ -42,22 +42,13 @@ shortest-none f n k past =
 -- the lines of a run, and then those of the others
 pub run-first : (whole ahead back rest : List LocalArc) → whole ≡ (ahead ++ back) ++ rest
     → flat_map local_line whole ≡ flat_map local_line ahead ++ (flat_map local_line back ++ flat_map local_line rest)
-run-first whole ahead back rest is =
-    ap (flat_map local_line) is
-    ∙ flat_map-append local_line (ahead ++ back) rest
-    ∙ ap (λ ls. ls ++ flat_map local_line rest) (flat_map-append local_line ahead back)
-    ∙ append_assoc (flat_map local_line ahead) (flat_map local_line back) (flat_map local_line rest)
+run-first whole ahead back rest is = grind (arith, flat_map-append, append_assoc)
 
 pub run-lines : (old new : RunsData) (name : List ℕ) (ahead back : List (ℕ × ℤ)) (n m : ℕ) → new ≡ record old { runs = old.runs - 1; arcs = new.arcs }
     → name ≡ old.x → old.arcs ≡ arcs_of_run old ahead n back m ++ new.arcs
     → flat_map local_line old.arcs ≡ flat_map local_line (reverse (arcs_along new.sizes new.wrap name ahead n))
     ++ (flat_map local_line (arcs_along new.sizes new.wrap name back m) ++ flat_map local_line new.arcs)
-run-lines old new name ahead back n m left named arcs =
-    let own : old.arcs ≡ arcs_of_run new ahead n back m ++ new.arcs =
-    subst (λ (q : RunsData). old.arcs ≡ arcs_of_run q ahead n back m ++ new.arcs) (sym left) arcs in
-    let same : new.x ≡ name = ap (λ (q : RunsData). q.x) left ∙ sym named in
-    run-first old.arcs (reverse (arcs_along new.sizes new.wrap name ahead n)) (arcs_along new.sizes new.wrap name back m) new.arcs
-    (subst (λ (x : List ℕ). old.arcs ≡ (reverse (arcs_along new.sizes new.wrap x ahead n) ++ arcs_along new.sizes new.wrap x back m) ++ new.arcs) same own)
+run-lines old new name ahead back n m left named arcs = search (rules, run-first)
 
 -- a block in parts, by the vector whose name is kept
 pub parts-named : (g : VectorGraph) (x name : List ℕ) (arcs : List LocalArc) → arcs ≡ list_in g x → name ≡ x → local_block g x ≡ name_line (name_of_vector name) ++ flat_map local_line arcs

@@ -1,6 +1,6 @@
 -- What standard input is read for: answers depend on it only through the graph that it is a file of, and only where a request
 -- reads it.
-use Rattle.std.proofs.Common.{◌≡◌, ◌<◌, ◌+◌, ℕ, true, false, cond, inl, inr, nat_le, List, ◌∷◌, length, take, Option, Some, None, IfSome, Result, Ok, Err, refl, sym, ap, ap₂, subst, ◌∙◌, arith}
+use Rattle.std.proofs.Common.{rules, ◌≡◌, ◌<◌, ◌+◌, ℕ, true, false, cond, inl, inr, nat_le, List, ◌∷◌, length, take, Option, Some, None, IfSome, Result, Ok, Err, refl, sym, ap, ap₂, subst, ◌∙◌, arith}
 use Rattle.std.proofs.lemmas.Bool.{both_ways, cases_Bool, cond-false, cond-true, leb-true, leb-false, lt-leb, or_left, or_right}
 use Rattle.std.proofs.lemmas.List.{length-take-le, take_all}
 use Rattle.sgb_vec.specs.Results.{and_then, IsValue}
@@ -37,15 +37,7 @@ too_long most text h = cond-false (nat_le (length text) most) (graph_of_text tex
 
 -- a text and what is kept of it
 cut_alike : (most : ℕ) (text : List ℕ) → value_within most (take (most + 1) text) ≡ value_within most text
-cut_alike most text = elim (cases_Bool (nat_le (length text) most)) [
-  | inl fits ↦
-      let within = leb-true (length text) most fits in
-      ap (value_within most) (take_all (most + 1) text (omega (arith, within)))
-  | inr more ↦
-      let beyond = leb-false (length text) most more in
-      let all = length-take-le (most + 1) text (omega (arith, beyond)) in
-      too_long most (take (most + 1) text) (omega (arith, all)) ∙ sym (too_long most text beyond)
-]
+cut_alike most text = search (rules, cases_Bool, leb-true, take_all, leb-false, length-take-le, too_long)
 
 -- standard input and what is kept of it
 pub stdin_cut : (input : List ℕ) → stdin_value (take (most_input + 1) input) ≡ stdin_value input
@@ -60,9 +52,7 @@ stdin_long input more = cond-false (nat_le (length input) most_input) (graph_of_
 -- a text that is read
 pub stdin_read : (input : List ℕ) (r : Result GraphData Panic) → nat_le (length input) most_input ≡ true → IsValue (graph_of_text input) r → IsValue (stdin_value input) r
 unfolding stdin_value
-stdin_read input r fits is =
-    let same : stdin_value input ≡ graph_of_text input = cond-true (nat_le (length input) most_input) (graph_of_text input) (Err Syntax) fits in
-    subst (λ (v : Result GraphData Panic). IsValue v r) (sym same) is
+stdin_read input r fits is = grind (arith, cond-true)
 
 -- two values that are the same, one after the other
 both_same : {T U : Type 0} (p p' : Result T Panic) (q q' : Result U Panic) → p ≡ p' → q ≡ q' → both p q ≡ both p' q'

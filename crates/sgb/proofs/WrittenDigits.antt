@@ -39,10 +39,7 @@ length-digits a e digits is =
     ap length (name-digits a [] e digits is ∙ ap (λ t. front a ++ t) (append-nil digits)) ∙ length-append (front a) digits
 
 length-front : (a b : List ℕ) → length a ≡ length b → length (name_of_vector a) ≡ length (name_of_vector b) → length (front a) ≡ length (front b)
-length-front a b same names =
-    length-append (name_of_vector a) (dot (nat_lt 0 (length a)))
-    ∙ ap₂ (λ (m n : ℕ). m + length (dot (nat_lt 0 n))) names same
-    ∙ sym (length-append (name_of_vector b) (dot (nat_lt 0 (length b))))
+length-front a b same names = grind (arith, length-append)
 
 -- ---- bytes written over
 

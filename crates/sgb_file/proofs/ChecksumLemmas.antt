@@ -117,11 +117,7 @@ byte_valued value after next byte bytes i within is e f =
 
 -- doubling, adding a value, and then weighing by k
 pub weighed : (a v k : ℕ) → (2 * a + v) * k ≡ a * (k * 2) + v * k
-weighed a v k =
-    let split : (2 * a + v) * k ≡ 2 * a * k + v * k = add-mul (2 * a) v k in
-    let twice : 2 * a * k ≡ 2 * (a * k) = mul_assoc 2 a k in
-    let back : a * k * 2 ≡ a * (k * 2) = mul_assoc a k 2 in
-    omega arith
+weighed a v k = grind (arith, add-mul, mul_assoc)
 
 -- the sum made byte by byte from a is the sum of the weighted values, with a before them
 pub running_from : (p : ℕ) → 0 < p → (bytes : List ℕ) (a : ℕ) → a < p

@@ -1,7 +1,6 @@
 -- Fields of a line with the value of a checksum after them.
-use Rattle.std.specs.Prelude.{◌≡◌, ℕ, ℤ, Bool, not, neg_ℤ, pos, nat_le, ◌+◌, ◌*◌, ◌%◌, ◌^◌, ◌<◌, ◌≤◌, true, false, List, [], ◌∷◌, ◌++◌, length, take, drop, fold, Option, Some, None, ◌==◌, refl, slice_index_or as get_or}
-use Rattle.std.specs.List.{position_or_len}
-use Rattle.std.proofs.Common.{ap, sym, ◌∙◌, arith, append_assoc, length-append}
+use Rattle.std.specs.Prelude.{◌≡◌, ℕ, ℤ, Bool, neg_ℤ, pos, nat_le, ◌+◌, ◌*◌, ◌%◌, ◌^◌, ◌<◌, ◌≤◌, true, false, List, [], ◌∷◌, ◌++◌, length, take, drop, fold, Option, Some, None, ◌==◌, refl, slice_index_or as get_or}
+use Rattle.std.proofs.Common.{rules, ap, sym, ◌∙◌, arith, append_assoc, length-append}
 use Rattle.std.proofs.lemmas.List.{length-take, take_all, take-append-drop}
 use Rattle.std.proofs.lemmas.List.Sums.{fold-append, prefix_len-le-length}
 use Rattle.std.proofs.lemmas.Bool.Decides.{nat_tests}
@@ -30,13 +29,7 @@ letter_counted : (X : Type 0) (says : List ℕ → Option X) (x : X) (b value le
     → (b == 44) ≡ false → says (comma_free line) ≡ Some x → len ≡ length (comma_free rest)
     → after ≡ value_from (value_after value b) (comma_free rest) → IsCountedField says line value x (len + 1) after
 unfolding value_from
-letter_counted X says x b value len after line rest e plain said many counted =
-    let whole = ap comma_free e ∙ one_more b rest plain in
-    record {
-      said = said;
-      many = omega (arith, ap length whole, many);
-      counted = counted ∙ ap (value_from value) (sym whole);
-    }
+letter_counted X says x b value len after line rest e plain said many counted = grind (arith, comma_free, one_more)
 
 -- a vertex by its number
 pub ref_counted : (n v value begun len after : ℕ) (line digits : List ℕ) → line ≡ 86 ∷ digits → begun ≡ value_after value 86
@@ -56,9 +49,7 @@ record_number_counted m k value begun len after line digits e b f =
 
 -- a number of few digits has not too many for an integer
 wide_number : (text : List ℕ) (n : ℕ) → number_of most_number_digits text ≡ Some n → number_of most_integer_digits text ≡ Some n
-wide_number text n e =
-    let h = number_says most_number_digits text n e in
-    number_tested most_integer_digits text h.some (omega (arith, h.short)) h.digits ∙ ap (λ (k : ℕ). Some k) h.value
+wide_number text n e = grind (arith, number_says, number_tested)
 
 -- an integer with a `-`
 pub minus_counted : (n value begun len after : ℕ) (x : ℤ) (text digits : List ℕ) → text ≡ 45 ∷ digits → begun ≡ value_after value 45
@@ -74,19 +65,11 @@ minus_counted n value begun len after x text digits e b few is said many counted
 pub no_record_counted : (m value after : ℕ) (line rest : List ℕ) → line ≡ 48 ∷ rest → is_at_end rest ≡ true
     → after ≡ value_after value 48 → IsCountedField (record_number_of m) line value None 1 after
 unfolding value_from
-no_record_counted m value after line rest e end f =
-    let none : comma_free rest ≡ [] = ends_with_digits 0 rest end in
-    let whole : comma_free line ≡ 48 ∷ [] = ap comma_free e ∙ (one_more 48 rest refl ∙ ap (λ (t : List ℕ). 48 ∷ t) none) in
-    letter_counted (Option ℕ) (record_number_of m) None 48 value 0 after line rest e refl (ap (record_number_of m) whole)
-    (ap length (sym none)) (f ∙ ap (value_from (value_after value 48)) (sym none))
+no_record_counted m value after line rest e end f = search (rules, comma_free, ends_with_digits, one_more)
 
 -- a text is what stands before its first comma, and what comes after that
 comma_free_first : (text : List ℕ) (i : ℕ) → i ≡ length (comma_free text) → comma_free text ++ drop i text ≡ text
-comma_free_first text i e =
-    let k : ℕ = position_or_len (λ b. b == 44) text in
-    let most : k ≤ length text = prefix_len-le-length (λ b. not (b == 44)) text in
-    let same : i ≡ k = omega (arith, e, length-take k text, most) in
-    ap (λ (n : ℕ). comma_free text ++ drop n text) same ∙ take-append-drop k text
+comma_free_first text i e = search (rules, prefix_len-le-length, length-take, comma_free, take-append-drop)
 
 -- the value after a field and its comma goes on with what follows
 pub field_valued : (X : Type 0) (says : List ℕ → Option X) (x : X) (text rest more : List ℕ) (value i after next : ℕ)
@@ -105,11 +88,7 @@ field_valued X says x text rest more value i after next f e n =
 pub last_valued : (X : Type 0) (says : List ℕ → Option X) (x : X) (text : List ℕ) (value i after : ℕ)
     → IsCountedField says text value x i after → length text ≤ i → value_from value (text ++ 10 ∷ []) ≡ value_after after 10
 unfolding value_from
-last_valued X says x text value i after f end =
-    let k : ℕ = position_or_len (λ b. b == 44) text in
-    let whole : comma_free text ≡ text = take_all k text (omega (arith, f.many, end, length-take k text)) in
-    fold-append value_after value text (10 ∷ [])
-    ∙ ap (λ (v : ℕ). value_after v 10) (ap (fold value_after value) (sym whole) ∙ sym f.counted)
+last_valued X says x text value i after f end = grind (arith, comma_free, take_all, length-take, fold-append)
 
 -- no vertex is told by a text that begins with a star
 star_no_ref : (n : ℕ) (line : List ℕ) (tip : Ref) → has_star line ≡ true → ref_of n (comma_free line) ≡ Some tip → ⊥
@@ -130,10 +109,7 @@ no_star n line tip said = by_test (has_star line) refl
 -- the checksum after the newline of a short line, by the value after the line
 pub line_counted : (sum start value result : ℕ) (line : List ℕ) → start ≡ sum → sum < 2 ^ 32 → length line ≤ 30
     → value_from start (line ++ 10 ∷ []) ≡ value → result ≡ value % checksum_prime → result ≡ checksum_from sum (line ++ 10 ∷ [])
-line_counted sum start value result line from small few counted e =
-    let n = length-append line (10 ∷ []) in
-    few_counted sum result (line ++ 10 ∷ []) small (omega (arith, n)) (omega (arith, n, few))
-    (e ∙ ap (λ (v : ℕ). v % checksum_prime) (sym counted ∙ ap (λ (s : ℕ). value_from s (line ++ 10 ∷ [])) from))
+line_counted sum start value result line from small few counted e = search (rules, length-append, few_counted)
 
 pub short_counted : (sum start value result : ℕ) (line : List ℕ) → start ≡ sum → sum < 2 ^ 32 → length line ≤ 30 → has_star line ≡ false
     → value_from start (line ++ 10 ∷ []) ≡ value → result ≡ value % checksum_prime → result ≡ checksum_from sum (counted_bytes (line ∷ []))

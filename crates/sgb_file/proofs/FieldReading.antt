@@ -4,7 +4,7 @@ use Rattle.std.specs.Fmt.{signed_decimal}
 use Rattle.std.specs.Int.{w64}
 use Rattle.std.specs.List.{list_all, position_or_len}
 use Rattle.std.specs.Str.Parse.{AllDigits}
-use Rattle.std.proofs.Common.{ap, ◌∙◌, append_assoc, append-nil, arith, length-append, take-append-drop}
+use Rattle.std.proofs.Common.{rules, ap, ◌∙◌, append_assoc, append-nil, arith, length-append, take-append-drop}
 use Rattle.std.proofs.Math.Seq.{take-append_seam, drop-append_seam}
 use Rattle.std.proofs.lemmas.Bool.{and_parts, and_from, not-true}
 use Rattle.std.proofs.lemmas.Bool.Decides.{nat_tests}
@@ -128,10 +128,7 @@ decimal_is_short n h = length-decimal-le 20 n (omega arith) (omega arith) h
 
 -- a number is read of its decimal
 pub number_read : (most n : ℕ) → 0 < most → n < 10 ^ most → n < 2 ^ 64 → number_of most (decimal n) ≡ Some n
-number_read most n some below h =
-    let numeral = decimal_is_IsNumeral n h in
-    number_tested most (decimal n) numeral.0.0 (length-decimal-le most n some below h) (decimal_digits n h)
-    ∙ ap (λ k. Some k) numeral.1
+number_read most n some below h = search (rules, decimal_is_IsNumeral, number_tested, length-decimal-le, decimal_digits)
 
 pub number_is_said : (n : ℕ) → n < 10 ^ 18 → IsSaid (number_of most_number_digits) (decimal n) n
 number_is_said n h = record {
@@ -162,9 +159,7 @@ integer_is_said (negsuc n) h = record { short = omega (arith, decimal_is_short (
 
 -- a number below a limit
 below_read : (limit n : ℕ) → limit ≤ 10 ^ 18 → n < limit → number_below limit (decimal n) ≡ Some n
-below_read limit n most h =
-    let small : nat_lt n limit ≡ true = grind (arith, nat_tests) in
-    rw (number_read most_number_digits n (omega arith) (omega (arith, most, h)) (omega (arith, most, h))) (rw small refl)
+below_read limit n most h = grind (arith, nat_tests, number_read)
 
 -- a vertex is said by its text, and an arc record's number
 pub ref_is_said : (n : ℕ) (r : Ref) → n ≤ 10 ^ 18 → ref_fits n r ≡ true → IsSaid (ref_of n) (ref_text r) r
@@ -248,17 +243,7 @@ string_says most inside s more quotes says short bytes =
 -- a string is said by its quoted text, with any breaks
 pub string_is_said : (most : ℕ) (s : List ℕ) → length s ≤ most → All IsTextByte s → (broken : List ℕ) → IsBroken (quoted s) broken → IsStringText most s broken
 string_is_said most s short printable broken b =
-    let bytes = list_all-from_AllPass is_text_byte s printable in
-    let inside = with_breaks b.0 77 s in
-    let quotes = list_all-weaker is_text_byte (λ c. not (c == 34)) s (λ c h. grind (arith, nat_tests)) bytes in
-    let slashes = list_all-weaker is_text_byte (λ c. not (c == 92)) s (λ c h. grind (arith, nat_tests)) bytes in
-    let fits : nat_le (length s) most ≡ true = grind (arith, nat_tests) in
-    record {
-      inside = inside;
-      whole = b.2 ∙ quoted_breaks b.0 s b.1;
-      no_quote = have_no_quote inside (breaks_no_quotes b.0 77 s quotes);
-      says = rw (unbroken_breaks b.0 77 s slashes) (rw fits (rw bytes refl));
-    }
+    search (rules, list_all-from_AllPass, with_breaks, list_all-weaker, nat_tests, quoted_breaks, have_no_quote, breaks_no_quotes, unbroken_breaks)
 
 -- a quoted text is a line as it is written
 string_within : (b : ℕ) → is_text_byte b ≡ true → is_within_line b ≡ true

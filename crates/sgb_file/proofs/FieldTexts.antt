@@ -1,5 +1,5 @@
 -- The texts of fields, laid out as pieces one after another.
-use Rattle.std.proofs.Common.{◌≡◌, ◌<◌, ◌≤◌, ◌+◌, ◌++◌, ◌∙◌, ℕ, Bool, true, false, List, [], ◌∷◌, Result, Ok, Err, length, drop, map, slice_index_or, refl, sym, ap, subst, append-nil, Some, arith, slice_get}
+use Rattle.std.proofs.Common.{rules, ◌≡◌, ◌<◌, ◌≤◌, ◌+◌, ◌++◌, ◌∙◌, ℕ, Bool, true, false, List, [], ◌∷◌, Result, Ok, Err, length, drop, map, slice_index_or, refl, sym, ap, subst, append-nil, Some, arith, slice_get}
 use Rattle.sgb_graph.specs.Columns.{util_seen}
 use Rattle.sgb_graph.specs.declared.fields.UtilRef.{UtilRef}
 use Rattle.std.specs.List.{flat_map}
@@ -62,10 +62,7 @@ pub fields-next : {T E : Type 0} (fields : List UtilRef) (i : ℕ) (field : Util
     → i < length fields → field ≡ slice_index_or fields i field → more ≡ has_any (texts_of (drop (i + 1) fields))
     → LinesSoFar all (laid_out b.layout.line (pieces_of (texts_of (drop i fields)))) a b
     → IsNextPlaced more (field_texts (util_seen field)) b c r → IsFurther all (texts_of (drop (i + 1) fields)) a c r
-fields-next fields i field more all a b c r h e m p q =
-    field-next (util_seen field) (texts_of (drop (i + 1) fields)) all a b c r
-    (subst (λ texts. LinesSoFar all (laid_out b.layout.line (pieces_of texts)) a b) (texts-from fields i field h e) p)
-    (subst (λ (w : Bool). IsNextPlaced w (field_texts (util_seen field)) b c r) m q)
+fields-next fields i field more all a b c r h e m p q = grind (arith, field-next, texts-from)
 
 -- no field is left: the line ends
 no_texts : (line : List ℕ) → laid_out line (pieces_of []) ≡ line ∷ []
@@ -74,9 +71,7 @@ no_texts line = refl
 
 pub fields-end : {T E : Type 0} (fields : List UtilRef) (i : ℕ) (all : List (List ℕ)) (a b c : Stage) (r : Result T E) → length fields ≤ i
     → LinesSoFar all (laid_out b.layout.line (pieces_of (texts_of (drop i fields)))) a b → IsLaid (b.layout.line ∷ []) [] b c r → IsLaid all [] a c r
-fields-end fields i all a b c r h p q =
-    let none = ap (λ fs. laid_out b.layout.line (pieces_of (texts_of fs))) (drop_all i fields h) ∙ no_texts b.layout.line in
-    lines-last all (b.layout.line ∷ []) [] a b c r (subst (λ lines. LinesSoFar all lines a b) none p) q
+fields-end fields i all a b c r h p q = search (rules, drop_all, no_texts, lines-last)
 
 -- no field is used: the line ends
 pub fields-unused : {T E : Type 0} (texts : List (List ℕ)) (a b : Stage) (r : Result T E) → has_any texts ≡ false → IsLaid (a.layout.line ∷ []) [] a b r → AreLaidOut texts a b r
@@ -96,10 +91,7 @@ record-cut text t rest more a b w e p =
 
 pub record-then : {T E : Type 0} (text t : List ℕ) (rest : List (List ℕ)) (more : Bool) (a b c : Stage) (r : Result T E) → t ≡ text
     → more ≡ has_any rest → HasPlaced (piece_of more t) a b → AreLaidOut rest b c r → AreLaidOut (text ∷ rest) a c r
-record-then text t rest more a b c r w e p q =
-    let placed = subst (λ (v : Bool). HasPlaced (piece_of v text) a b) e (subst (λ (u : List ℕ). HasPlaced (piece_of more u) a b) w p) in
-    let rests = subst (λ line. IsLaid (laid_out line (pieces_of rest)) [] b c r) placed.1 q in
-    laid-after _ _ _ _ a b c r (first_piece a.layout.line text rest) placed.0 rests
+record-then text t rest more a b c r w e p q = grind (arith, laid-after, first_piece)
 
 pub record-stopped : (text t : List ℕ) (rest : List (List ℕ)) (more : Bool) (a b c : Stage) → t ≡ text
     → more ≡ has_any rest → HasPlaced (piece_of more t) a b → IsStopped (laid_out b.layout.line (pieces_of rest)) b c → IsStopped (laid_out a.layout.line (pieces_of (text ∷ rest))) a c

@@ -17,7 +17,7 @@ use Rattle.sgb_graph.specs.declared.fields.Ref.{Ref}
 use Rattle.sgb_graph.specs.declared.fields.Ref.TheVariants.{Null, One, At}
 use Rattle.sgb_graph.specs.declared.fields.Util.{Util}
 use Rattle.sgb_graph.specs.declared.fields.Util.TheVariants.{Int, Vertex as VertexField, Str, Chain}
-use Rattle.sgb_file.specs.Fields.{Counts, Found, number_of, number_below, most_number_digits, most_integer_digits, integer_of, ref_of, record_number_of, unbroken, string_of, string_at, plain_text, plain_at, field_at, after_prefix}
+use Rattle.sgb_file.specs.Fields.{Counts, Found, number_of, number_below, most_integer_digits, integer_of, ref_of, record_number_of, unbroken, string_of, string_at, plain_text, plain_at, field_at, after_prefix}
 use Rattle.sgb_file.specs.Files.{IsStringText, IsFieldText}
 use Rattle.sgb_file.specs.Saving.{quoted}
 use Rattle.sgb_file.proofs.FoundParts.{taken_and_left, was_given, was_mapped, was_let_through, was_chosen, was_either}
@@ -102,13 +102,7 @@ more_plain b text e h = record { some = omega arith; bytes = and_from (is_plain_
 
 lettered_says : {X : Type 0} (Good : X → Type 0) (make : ℕ → X) (letter limit b : ℕ) (text : List ℕ) (x : X) → is_plain_byte letter ≡ true → ((k : ℕ) → nat_lt k limit ≡ true → Good (make k))
     → (b == letter) ≡ true → option_map make (number_below limit text) ≡ Some x → IsPlainText (b ∷ text) × Good x
-lettered_says Good make letter limit b text x plain good e h =
-    let m = was_mapped (number_below limit text) h in
-    let g = was_given (number_of most_number_digits text) m.here in
-    let p = was_let_through (nat_lt g.first limit) g.first m.first g.made in (
-      more_plain b text (ap is_plain_byte ((Decides-eqb b letter).0 e) ∙ plain) (number_is_plain most_number_digits text g.first g.here),
-      subst Good m.same (good m.first (ap (λ j. nat_lt j limit) (sym p.1) ∙ p.0)),
-    )
+lettered_says Good make letter limit b text x plain good e h = grind (arith, was_mapped, was_given, was_let_through, more_plain, is_plain_byte, Decides-eqb, number_is_plain)
 
 fixed_says : {X : Type 0} (Good : X → Type 0) (text : List ℕ) (byte : ℕ) (x y : X) → is_plain_byte byte ≡ true → Good y → bytes_eq text (byte ∷ []) ≡ true → Some y ≡ Some x
     → IsPlainText text × Good x

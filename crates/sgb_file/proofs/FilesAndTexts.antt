@@ -2,7 +2,7 @@
 use Rattle.std.specs.Prelude.{◌≡◌, ◌⊎◌, ℕ, zero, suc, ℤ, pos, neg_ℤ, ◌-◌, ◌<◌, Bool, true, false, not, ◌&&◌, List, [], ◌∷◌, ◌++◌, length, take, drop, codes, Option, Some, None, All, slice_index, ◌==◌, if◌then◌else◌, refl}
 use Rattle.std.specs.List.{list_all}
 use Rattle.std.specs.Option.{option_map_or}
-use Rattle.std.proofs.Common.{ap, sym, subst, ◌∙◌, append_assoc, arith, length-append, inl, inr}
+use Rattle.std.proofs.Common.{rules, ap, sym, subst, ◌∙◌, append_assoc, arith, length-append, inl, inr}
 use Rattle.std.proofs.Math.Seq.{take-append_seam}
 use Rattle.std.proofs.lemmas.Bool.{and_parts, and_from}
 use Rattle.std.proofs.lemmas.Bool.Decides.{nat_tests, Decides-eqb}
@@ -231,9 +231,7 @@ closed_found records (last ∷ others) e = by_checksum (checksum_in_line last) r
     by_checksum (Some c) here e = record { last = last; others = others; parts = refl; says = checksum_found last c records here e }
 
 pub closes_by : (opening : Opening) (records : List (List ℕ)) (rest : List ℕ) → opening.lines ≡ records ++ lines_of_text rest → closes opening rest ≡ line_closes records (lines_of_text rest)
-closes_by opening records rest e =
-    ap (λ lines. line_closes (take (length lines - length (lines_of_text rest)) lines) (lines_of_text rest)) e
-    ∙ ap (λ lines. line_closes lines (lines_of_text rest)) (before_following records (lines_of_text rest))
+closes_by opening records rest e = search (rules, before_following, records)
 
 -- an opening is read, and what is read is an opening
 pub opens_read : (text : List ℕ) (head : Head) (lines : List (List ℕ)) → Opens text head lines → opening_of (clean_lines text) ≡ Some (record { head = head; lines = lines })

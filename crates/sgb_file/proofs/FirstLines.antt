@@ -1,8 +1,8 @@
 -- First lines: what one that is read says, and how its kinds and numbers are read.
-use Rattle.std.specs.Prelude.{◌≡◌, ℕ, suc, ◌+◌, ◌≤◌, Bool, true, false, List, [], ◌∷◌, ◌++◌, map, length, take, drop, codes, option_map, Option, Some, None, filter_map, take_while, nat_le, ◌==◌, if◌then◌else◌, refl}
+use Rattle.std.specs.Prelude.{◌≡◌, ℕ, suc, ◌+◌, ◌≤◌, Bool, true, false, List, [], ◌∷◌, ◌++◌, map, length, take, drop, codes, Option, Some, None, filter_map, take_while, nat_le, ◌==◌, if◌then◌else◌, refl}
 use Rattle.std.specs.List.{prefix_len, cons_option}
 use Rattle.std.specs.List.{list_all}
-use Rattle.std.proofs.Common.{ap, sym, subst, ◌∙◌, arith, inl, inr}
+use Rattle.std.proofs.Common.{rules, ap, sym, subst, ◌∙◌, arith, inl, inr}
 use Rattle.std.proofs.Math.Seq.{take-append_seam, drop-append_seam}
 use Rattle.std.proofs.lemmas.Bool.{and_parts, cases_lt}
 use Rattle.std.proofs.lemmas.Bool.Decides.{Decides-eqb}
@@ -131,12 +131,7 @@ digits_end (b ∷ text) more h e =
 
 -- the number that a text begins with is read
 pub leading_says : (digits more : List ℕ) (k : ℕ) → number_of most_number_digits digits ≡ Some k → BeginsWithNoDigit more → leading_number (digits ++ more) ≡ Some (record { value = k; rest = more })
-leading_says digits more k says none =
-    let taken : take_while is_decimal_digit (digits ++ more) ≡ digits =
-    ap (λ n. take n (digits ++ more)) (digits_end digits more (number_says most_number_digits digits k says).digits none) ∙ take-append_seam digits more in
-    ap (λ ds. option_map (λ (n : ℕ). record { value = n; rest = drop (length ds) (digits ++ more) }) (number_of most_number_digits ds)) taken
-    ∙ ap (option_map (λ n. record { value = n; rest = drop (length digits) (digits ++ more) })) says
-    ∙ ap (λ rest. Some (record { value = k; rest = rest })) (drop-append_seam digits more)
+leading_says digits more k says none = search (rules, digits, digits_end, number_says, says, take-append_seam, drop-append_seam)
 
 -- the kinds are read of their letters
 letters_say : (kinds : List Kind) → filter_map kind_of_letter (map letter_of kinds) ≡ kinds

@@ -1,5 +1,5 @@
 -- Lemmas on readers one after another: a record is read field by field.
-use Rattle.std.specs.Prelude.{◌≡◌, ℕ, ℤ, zero, ◌+◌, ◌<◌, ◌≤◌, true, false, List, [], ◌∷◌, ◌++◌, length, take, drop, codes, replicate, Option, Some, None, Err, option_map, ◌==◌, refl}
+use Rattle.std.specs.Prelude.{◌≡◌, ℕ, ℤ, zero, ◌+◌, ◌<◌, ◌≤◌, true, false, List, [], ◌∷◌, ◌++◌, length, take, drop, codes, replicate, Option, Some, None, Err, option_map, refl}
 use Rattle.std.proofs.Common.{ap, sym, subst, suc, ◌∙◌, append_assoc, append-nil, arith, get_or, set}
 use Rattle.std.proofs.Math.Seq.{drop-cons}
 use Rattle.std.proofs.lemmas.List.{take_more_set, take_all, drop_all, set-get_or, get_or-set_other}
@@ -133,9 +133,7 @@ int_at counts text = by_comma (after_comma text) where
 
 pub int_stops : (counts : Counts) (kind : Kind) (text left : List ℕ) (e : Panic) → kind ≡ I → IsFoundBy (next_at (plain_at integer_of) text) (Err e) left
     → IsFoundBy {X = Util} (next_field_at counts kind text) (Err e) left
-int_stops counts kind text left e is h =
-    stops (next_at (plain_at integer_of) text) (next_field_at counts kind text) e left left h
-    (λ none. ap (λ (k : Kind). next_field_at counts k text) is ∙ int_at counts text ∙ ap (λ o. found_as Int o) none)
+int_stops counts kind text left e is h = grind (arith, stops, int_at)
 
 pub int_read : (counts : Counts) (kind : Kind) (text left : List ℕ) (i n : ℤ) → i ≡ n → kind ≡ I → next_at (plain_at integer_of) text ≡ Some (record { value = n; rest = left })
     → next_field_at counts kind text ≡ Some (record { value = Int i; rest = left })
@@ -221,6 +219,4 @@ pub graph_found : (head : Head) (text r1 r2 r3 r4 r5 left : List ℕ) (id : List
     → more_fields_at head.counts (graph_kinds head.kinds) r5 ≡ Some (record { value = util; rest = left })
     → n ≡ head.counts.vertices → g ≡ graph_data id m head.kinds util [] []
     → graph_record_at head text ≡ Some (record { value = g; rest = left })
-graph_found head text r1 r2 r3 r4 r5 left id n m util g a b c d e f same made =
-    let test : (n == head.counts.vertices) ≡ true = grind (arith, nat_tests) in
-    rw a (rw b (rw c (rw d (rw e (rw f (rw test (rw made refl)))))))
+graph_found head text r1 r2 r3 r4 r5 left id n m util g a b c d e f same made = grind (arith, nat_tests)

@@ -1,5 +1,5 @@
 -- Lines that are written one after another, with the checksum of those that count.
-use Rattle.std.proofs.Common.{◌≡◌, ◌++◌, ◌∙◌, ℕ, true, false, List, [], ◌∷◌, Result, Ok, Err, refl, sym, ap, subst, append_assoc, append-nil, not}
+use Rattle.std.proofs.Common.{arith, rules, ◌≡◌, ◌++◌, ◌∙◌, ℕ, true, false, List, [], ◌∷◌, Result, Ok, Err, refl, sym, ap, subst, append_assoc, append-nil, not}
 use Rattle.std.proofs.lemmas.List.Concat.{flat_map-append}
 use Rattle.std.specs.Io.KnownBytes.{Appends}
 use Rattle.std.proofs.KnownBytes.{Appends-trans, Appends-nil}
@@ -40,12 +40,7 @@ laid-none a b same sound sum =
 
 -- lines were written after lines
 pub laid-append : (xs ys : List (List ℕ)) (a b c : Stage) → HasLaid xs a b → HasLaid ys b c → HasLaid (xs ++ ys) a c
-laid-append xs ys a b c p q = record {
-  written = rw (flat_map-append (λ line. line ++ 10 ∷ []) xs ys) (Appends-trans a.written b.written c.written (text_of_lines xs) (text_of_lines ys) p.written q.written);
-  sound = q.sound ∙ p.sound;
-  checksum = q.checksum ∙ (ap (λ sum. checksum_from sum (counted_bytes ys)) p.checksum ∙
-      (sym (checksum_from-append a.layout.checksum (counted_bytes xs) (counted_bytes ys)) ∙ ap (checksum_from a.layout.checksum) (sym (counted-append xs ys))));
-}
+laid-append xs ys a b c p q = search (rules, flat_map-append, Appends-trans, checksum_from-append, counted-append)
 
 -- the writing stopped within the first lines
 pub stopped-first : (all part rest : List (List ℕ)) (a b : Stage) → all ≡ part ++ rest → IsStopped part a b → IsStopped all a b
@@ -86,9 +81,7 @@ lines-cut all left part rest a b c e p q = stopped-after all p.0 left a b c p.1 
 
 -- none is left
 pub lines-all : (all left : List (List ℕ)) (a b : Stage) → left ≡ [] → LinesSoFar all left a b → HasLaid all a b
-lines-all all left a b e p =
-    let whole : p.0 ≡ all = sym (append-nil p.0) ∙ (ap (λ lines. p.0 ++ lines) (sym e) ∙ sym p.1) in
-    subst (λ lines. HasLaid lines a b) whole p.2
+lines-all all left a b e p = grind (arith, append-nil)
 
 -- what becomes of the lines that are left becomes of all
 pub lines-last : {T E : Type 0} (all left : List (List ℕ)) (line : List ℕ) (a b c : Stage) (r : Result T E) → LinesSoFar all left a b → IsLaid left line b c r → IsLaid all line a c r

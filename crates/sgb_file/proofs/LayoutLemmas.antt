@@ -1,5 +1,5 @@
 -- Lemmas on the lines of a record that is written.
-use Rattle.std.specs.Prelude.{◌≡◌, ℕ, ◌-◌, ◌*◌, ◌<◌, ◌≤◌, ◌↔◌, Bool, true, false, cond, All, List, [], ◌∷◌, ◌++◌, length, take, drop, nat_le, ◌==◌, refl}
+use Rattle.std.specs.Prelude.{◌≡◌, ℕ, ◌*◌, ◌<◌, ◌≤◌, ◌↔◌, Bool, true, false, cond, All, List, [], ◌∷◌, ◌++◌, length, take, drop, nat_le, ◌==◌, refl}
 use Rattle.std.specs.List.{list_all, range_with_len}
 use Rattle.std.proofs.Common.{arith, length-append}
 use Rattle.std.proofs.lemmas.List.{length-take}
@@ -62,7 +62,4 @@ short_lines lines e = λ k d below. length_by_short _ (AllPass-from_list_all is_
 
 -- a piece is broken as long as more than 79 bytes are left of it
 pub broken_further : (piece : List ℕ) (k : ℕ) → (k < breaks_of piece) ↔ (most_file_line_bytes < length (part_from_break piece k))
-broken_further piece k = (
-  (λ h. rw length-drop (omega arith)),
-  (λ h. let left : 79 < length piece - 78 * k = rw length-drop at h in omega arith),
-)
+broken_further piece k = grind (arith, length-drop)

@@ -2,7 +2,7 @@
 use Rattle.std.specs.Prelude.{◌≡◌, ℕ, suc, ◌+◌, ◌<◌, ◌≤◌, Bool, true, false, cond, not, ◌||◌, List, [], ◌∷◌, ◌++◌, length, take, drop, codes, Some, None, ◌==◌, slice_get, refl}
 use Rattle.std.specs.List.{list_any, list_all, position_or_len, prefix_len, before_first}
 use Rattle.std.specs.Option.{option_map_or}
-use Rattle.std.proofs.Common.{ap, sym, ◌∙◌, append_assoc, append-nil, arith, inl, inr}
+use Rattle.std.proofs.Common.{rules, ap, sym, ◌∙◌, append_assoc, append-nil, arith, inl, inr}
 use Rattle.std.proofs.lemmas.Bool.{and_parts, cases_lt, not-true}
 use Rattle.std.proofs.lemmas.Bool.Decides.{nat_tests}
 use Rattle.std.proofs.lemmas.List.{drop-append-le, get_or-take, take-append-le, length-take}
@@ -39,11 +39,7 @@ line_goes_on s line e h some = ap (after_prefix (codes "\n")) (under_way s line 
 
 -- the first elements pass that do
 pub prefix_passes : {X : Type 0} (p : X → Bool) (xs : List X) → list_all p (take (prefix_len p xs) xs) ≡ true
-prefix_passes p xs =
-    let n : ℕ = prefix_len p xs in
-    list_all-from_AllPass p (take n xs) (λ k d below.
-    let within : k < n = omega (arith, below, length-take n xs) in
-    ap p (get_or-take n xs k d within) ∙ prefix_len_passes p xs k d within)
+prefix_passes p xs = search (rules, list_all-from_AllPass, length-take, get_or-take, prefix_len_passes)
 
 -- a list none of whose elements passes before its end
 pub none_before : (p : ℕ → Bool) (x : List ℕ) → length x ≤ position_or_len p x → list_all (λ c. not (p c)) x ≡ true
@@ -64,9 +60,7 @@ any_beyond p (b ∷ x) y h =
 
 -- the first place that passes, where it is in the first of two lists
 pub first_within : (p : ℕ → Bool) (x y : List ℕ) → position_or_len p x < length x → position_or_len p (x ++ y) ≡ position_or_len p x
-first_within p x y h =
-    let other : (position_or_len p x == length x) ≡ false = grind (arith, nat_tests) in
-    rw (prefix_len-append (λ c. not (p c)) x y, other) refl
+first_within p x y h = grind (arith, nat_tests, prefix_len-append)
 
 pub passes_within : (p : ℕ → Bool) (x : List ℕ) → list_any p x ≡ true → position_or_len p x < length x
 passes_within p x h =

@@ -104,10 +104,7 @@ are_one_line lines h = list_all-weaker is_line is_one_line lines (λ line e. (an
 
 -- the clean lines of a text are those that it was made of, and then those of what follows
 pub clean_lines_read : (lines : List (List ℕ)) (more : List ℕ) → list_all is_line lines ≡ true → clean_lines (text_of_lines lines ++ more) ≡ lines ++ clean_lines more
-clean_lines_read lines more h =
-    ap (λ ls. map without_end_spaces ls) (lines_read lines more (are_one_line lines h))
-    ∙ map-append without_end_spaces lines (lines_of_text more)
-    ∙ ap (λ ls. ls ++ clean_lines more) (stay_clean lines h)
+clean_lines_read lines more h = grind (arith, lines_read, are_one_line, map-append, stay_clean)
 
 -- the parts of a text have no newlines
 put_in_line : (b : ℕ) (t : Bool) → (b == 10) ≡ t → (parts : List (List ℕ)) → list_all is_one_line parts ≡ true → list_all is_one_line (cond t ([] ∷ parts) (onto_first b parts)) ≡ true
@@ -194,6 +191,4 @@ line-append x y h e =
     and_from (is_one_line (x ++ y)) (ends_well (x ++ y)) (list_all-join is_within_line x y first.0 second.0) (ends_well-append x y first.1 second.1)
 
 pub line-drop : (k : ℕ) (x : List ℕ) → is_line x ≡ true → is_line (drop k x) ≡ true
-line-drop k x h =
-    let parts = and_parts (is_one_line x) (ends_well x) h in
-    and_from (is_one_line (drop k x)) (ends_well (drop k x)) (list_all-drop is_within_line k x parts.0) (ends_well-drop k x parts.1)
+line-drop k x h = grind (arith, and_parts, and_from, list_all-drop, ends_well-drop)

@@ -1,6 +1,6 @@
 -- Lemmas on the lines that are left of a file: their checksum, and that a line has no newlines.
-use Rattle.std.proofs.Common.{◌≡◌, ◌<◌, ◌≤◌, ◌++◌, ◌∙◌, ℕ, Bool, true, false, Bor, List, [], ◌∷◌, Option, Some, None, length, take, drop, map, slice_index, not, ◌&&◌, ◌+◌, ◌-◌, ◌≢◌, All, unwrap_or, cond, ◌==◌, refl, sym, ap, subst, append_assoc, append-nil, length-append, slice_get, zero, suc, arith, nat_lt, IsTrue, IfSome, option_map}
-use Rattle.std.specs.List.{list_all, slice_split, position_or_len, position, before_first, after_first}
+use Rattle.std.proofs.Common.{rules, ◌≡◌, ◌<◌, ◌≤◌, ◌++◌, ◌∙◌, ℕ, Bool, true, false, Bor, List, [], ◌∷◌, Option, Some, None, length, take, drop, map, slice_index, not, ◌&&◌, ◌+◌, ◌-◌, ◌≢◌, All, unwrap_or, cond, ◌==◌, refl, sym, ap, subst, append_assoc, append-nil, length-append, slice_get, zero, suc, arith, nat_lt, IsTrue, IfSome, option_map}
+use Rattle.std.specs.List.{list_all, position_or_len, position, before_first, after_first}
 use Rattle.std.proofs.lemmas.List.{drop_more, drop_all, take-append-drop, take_all, length-drop}
 use Rattle.std.proofs.lemmas.List.Folds.{list_all-append}
 use Rattle.std.proofs.lemmas.List.Splits.{slice_split_first, slice_split_none}
@@ -64,10 +64,7 @@ position-unwrapped p xs = chosen (nat_lt (position_or_len p xs) (length xs)) ref
 
 -- a text that is not empty has a first line, up to its first newline
 pub first_line_of : (text : List ℕ) → position_or_len (λ b. b == 10) text < length text → clean_lines text ≡ without_end_spaces (before_first (λ b. b == 10) text) ∷ clean_lines (after_first (λ b. b == 10) text)
-first_line_of text h =
-    ap (λ parts. map without_end_spaces (lines_among parts)) (slice_split_first (λ b. b == 10) text 0 h)
-    ∙ ap (λ lines. map without_end_spaces lines)
-    (first_line (before_first (λ b. b == 10) text) (slice_split (λ b. b == 10) (after_first (λ b. b == 10) text)) (some_part (after_first (λ b. b == 10) text)))
+first_line_of text h = search (rules, slice_split_first, first_line, some_part)
 
 -- no bytes have no lines
 pub no_lines : clean_lines [] ≡ []
@@ -93,9 +90,7 @@ clean-snoc (b ∷ line) = ap (λ w. cond (b == 32 && length w == 0) [] (b ∷ w)
 
 -- the last byte of a line, and those before it
 last_apart : (line : List ℕ) (k : ℕ) → length line ≡ suc k → take k line ++ slice_index line k ∷ [] ≡ line
-last_apart line k e =
-    ap (λ last. take k line ++ last) (sym (drop_more line k 0 (omega (arith, e)) ∙ ap (λ others. slice_index line k ∷ others) (drop_all (k + 1) line (omega (arith, e)))))
-    ∙ take-append-drop k line
+last_apart line k e = grind (arith, drop_more, drop_all, take-append-drop)
 
 pub clean-last : (line : List ℕ) (k : ℕ) → length line ≡ suc k → slice_index line k ≡ 32 → without_end_spaces (take k line) ≡ without_end_spaces line
 clean-last line k e space =
@@ -117,19 +112,12 @@ start_passed lines = record { passed = []; made = refl; checksum = checksum-whol
 -- the first line of bytes with no newline, in the words of the code
 pub whole_is_line : (bytes line : List ℕ) (end : ℕ) → length bytes ≢ 0 → end ≡ position_or_len (λ b. b == 10) bytes → end ≡ length bytes → line ≡ without_end_spaces bytes
     → clean_lines bytes ≡ line ∷ clean_lines (take (length bytes - end) (drop end bytes))
-whole_is_line bytes line end some e whole l =
-    only_line_of bytes (sym e ∙ whole) some
-    ∙ (ap (λ first. first ∷ clean_lines []) (sym l) ∙ ap (λ rest. line ∷ clean_lines rest) (sym (take_all (length bytes - end) [] (omega arith)) ∙ ap (take (length bytes - end)) (sym (drop_all end bytes (omega (arith, whole))))))
+whole_is_line bytes line end some e whole l = grind (arith, only_line_of, take_all, drop_all)
 
 -- the first line of bytes, in the words of the code
 pub part_is_line : (bytes line : List ℕ) (end : ℕ) → end ≡ position_or_len (λ b. b == 10) bytes → end ≢ length bytes → line ≡ without_end_spaces (take end bytes)
     → clean_lines bytes ≡ line ∷ clean_lines (take (length bytes - (end + 1)) (drop (end + 1) bytes))
-part_is_line bytes line end e part l =
-    let most : position_or_len (λ b. b == 10) bytes ≤ length bytes = prefix_len-le-length (λ b. not (b == 10)) bytes in
-    let rest : take (length bytes - (end + 1)) (drop (end + 1) bytes) ≡ drop (end + 1) bytes =
-    take_all (length bytes - (end + 1)) (drop (end + 1) bytes) (omega (arith, length-drop (end + 1) bytes)) in
-    rw rest (first_line_of bytes (omega (arith, e, most, part)) ∙ (ap (λ (k : ℕ). without_end_spaces (take k bytes) ∷ clean_lines (drop (k + 1) bytes)) (sym e)
-    ∙ ap (λ first. first ∷ clean_lines (drop (end + 1) bytes)) (sym l)))
+part_is_line bytes line end e part l = grind (arith, prefix_len-le-length, take_all, length-drop, first_line_of)
 
 -- no bytes have no spaces at their end
 pub clean_nothing : (line : List ℕ) → line ≡ [] → line ≡ without_end_spaces line

@@ -1,9 +1,9 @@
 -- Lemmas on numbers that are read digit by digit.
-use Rattle.std.specs.Prelude.{◌≡◌, ℕ, zero, suc, ◌+◌, ◌-◌, ◌*◌, ◌^◌, ◌<◌, ◌≤◌, true, false, ◌&&◌, List, [], ◌∷◌, Option, Some, None, IfSome, length, take, nat_le, nat_lt, refl}
+use Rattle.std.specs.Prelude.{◌≡◌, ℕ, zero, suc, ◌+◌, ◌-◌, ◌*◌, ◌^◌, ◌<◌, ◌≤◌, true, false, ◌&&◌, List, [], ◌∷◌, Option, Some, None, IfSome, length, take, nat_le, nat_lt}
 use Rattle.std.specs.Char.{digit_value}
 use Rattle.std.specs.List.{list_all}
 use Rattle.std.specs.Str.Parse.{AllDigits, digits_value}
-use Rattle.std.proofs.Common.{get_or, arith, subst, sym, ap, ◌∙◌, lt_of_lt_of_le}
+use Rattle.std.proofs.Common.{get_or, arith, subst, sym, ◌∙◌, lt_of_lt_of_le}
 use Rattle.std.proofs.lemmas.Bool.{and_parts, and_from}
 use Rattle.std.proofs.lemmas.List.{length-take, take_all}
 use Rattle.std.proofs.lemmas.List.Folds.{list_all_more}
@@ -76,10 +76,7 @@ number_says most text n e =
 
 -- and such a text says a number
 pub number_tested : (most : ℕ) (text : List ℕ) → 0 < length text → length text ≤ most → list_all is_decimal_digit text ≡ true → number_of most text ≡ Some (digits_value 10 text)
-number_tested most text some short digits =
-    let first : nat_lt 0 (length text) ≡ true = grind (arith, nat_tests) in
-    let second : nat_le (length text) most ≡ true = grind (arith, nat_tests) in
-    rw first (rw second (rw digits refl))
+number_tested most text some short digits = grind (arith, nat_tests, digits)
 
 -- a number of so many digits
 pub number_is_small : (most : ℕ) (text : List ℕ) (n : ℕ) → number_of most text ≡ Some n → n < 10 ^ most
@@ -134,10 +131,7 @@ counts_on text i d h is counts short within = goes_on text i h (let few : nat_le
 -- all of the bytes are digits
 pub ends_as_digits : (text : List ℕ) (i value : ℕ) → length text ≤ i → list_all is_decimal_digit (take i text) ≡ true → value ≡ digits_value 10 (take i text)
     → Some value ≡ value_if_digits text
-ends_as_digits text i value past h e =
-    let whole : take i text ≡ text = take_all i text past in
-    let all : list_all is_decimal_digit text ≡ true = ap (list_all is_decimal_digit) (sym whole) ∙ h in
-    rw all (ap Some (e ∙ ap (digits_value 10) whole))
+ends_as_digits text i value past h e = grind (arith, take_all)
 
 -- at most 18 digits write a number below this power
 pub small_if_digits : (text : List ℕ) (found : Option ℕ) → found ≡ value_if_digits text → length text ≤ 18 → IfSome found (λ n. n < 10 ^ 18)

@@ -1,8 +1,8 @@
 -- Bytes that are put on lines, and pieces that are laid out, one after another.
-use Rattle.std.proofs.Common.{◌≡◌, ◌≤◌, ◌++◌, ◌∙◌, ℕ, Bool, true, false, List, [], ◌∷◌, Result, Ok, Err, length, take, drop, slice_index_or, subst, ◌+◌, refl, sym, ap, append_assoc, append-nil, arith, length-append}
+use Rattle.std.proofs.Common.{rules, ◌≡◌, ◌≤◌, ◌++◌, ◌∙◌, ℕ, Bool, true, false, List, [], ◌∷◌, Result, Ok, Err, length, take, drop, slice_index_or, subst, ◌+◌, refl, sym, ap, append_assoc, append-nil, arith, length-append}
 use Rattle.std.proofs.lemmas.List.{length-take, take-append-drop, take_all, take_more}
 use Rattle.sgb_file.specs.Saving.{broken_lines, last_part, fits_on, lines_ended, line_begun}
-use Rattle.sgb_file.specs.inner.Layouts.{Stage, HasLaid, IsStopped, IsLaid, IsFilled, IsPlaced, lines_before}
+use Rattle.sgb_file.specs.inner.Layouts.{Stage, HasLaid, IsStopped, IsFilled, IsPlaced, lines_before}
 use Rattle.sgb_file.proofs.BrokenLines.{broken-short, last-short, broken-once, last-once, broken-append, last-append}
 use Rattle.sgb_file.proofs.LaidLines.{laid-none, laid-append, laid-after, stopped-first, stopped-after}
 
@@ -39,10 +39,7 @@ stopped-once byte a b c full line alike p =
 pub filled-once : (byte : ℕ) (a b c d : Stage) → length a.layout.line ≡ 79 → b.layout.line ≡ take 78 a.layout.line ++ 92 ∷ [] → AreAlike a b
     → HasLaid (b.layout.line ∷ []) b c → AreAlike c d → d.layout.line ≡ drop 78 a.layout.line ++ byte ∷ []
     → HasLaid (broken_lines (a.layout.line ++ byte ∷ [])) a d × (d.layout.line ≡ last_part (a.layout.line ++ byte ∷ []))
-filled-once byte a b c d full line alike p same rest = (
-  rw (broken-once a.layout.line byte full ∙ ap (λ (xs : List ℕ). xs ∷ []) (sym line)) (laid-alike (b.layout.line ∷ []) a b c d alike p same),
-  rest ∙ sym (last-once a.layout.line byte full),
-)
+filled-once byte a b c d full line alike p same rest = search (rules, broken-once, laid-alike, last-once)
 
 -- more bytes after the first ones
 filled-parts : (line xs ys : List ℕ) → broken_lines (line ++ (xs ++ ys)) ≡ broken_lines (line ++ xs) ++ broken_lines (last_part (line ++ xs) ++ ys)
@@ -53,9 +50,7 @@ filled-cut xs ys a b p = stopped-first _ _ _ a b (filled-parts a.layout.line xs 
 
 pub filled-then : {T E : Type 0} (xs ys : List ℕ) (a b c : Stage) (r : Result T E)
     → HasLaid (broken_lines (a.layout.line ++ xs)) a b × (b.layout.line ≡ last_part (a.layout.line ++ xs)) → IsFilled ys b c r → IsFilled (xs ++ ys) a c r
-filled-then xs ys a b c r p q =
-    rw (ap last_part (sym (append_assoc a.layout.line xs ys)) ∙ last-append (a.layout.line ++ xs) ys)
-    (laid-after _ _ _ _ a b c r (filled-parts a.layout.line xs ys) p.0 (rw (sym p.1) q))
+filled-then xs ys a b c r p q = grind (arith, append_assoc, last-append, laid-after, filled-parts)
 
 -- these bytes were put on lines
 abbrev pub HasFilled : List ℕ → Stage → Stage → Type 0
@@ -124,6 +119,4 @@ placed-cut piece a b e p = rw e (stopped-first _ (lines_before a.layout.line) (b
 
 pub placed-then : {T E : Type 0} (piece : List ℕ) (a b c : Stage) (r : Result T E) → fits_on a.layout.line piece ≡ false
     → HasLaid (lines_before a.layout.line) a b × (b.layout.line ≡ []) → IsFilled piece b c r → IsPlaced piece a c r
-placed-then piece a b c r e p q =
-    rw e
-    (laid-after _ (lines_before a.layout.line) (broken_lines piece) _ a b c r refl p.0 (subst (λ line. IsLaid (broken_lines (line ++ piece)) (last_part (line ++ piece)) b c r) p.1 q))
+placed-then piece a b c r e p q = grind (arith, laid-after)

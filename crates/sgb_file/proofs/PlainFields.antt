@@ -2,15 +2,14 @@
 use Rattle.std.specs.Prelude.{◌≡◌, ℕ, suc, ◌+◌, ◌<◌, ◌≤◌, Bool, true, false, List, [], ◌∷◌, ◌++◌, length, take, drop, Option, Some, None, option_map, ◌==◌, nat_lt, nat_le, cond, refl}
 use Rattle.std.specs.List.{before_first, list_all, position_or_len, prefix_len, take_while}
 use Rattle.std.specs.Str.Parse.{digits_value}
-use Rattle.std.proofs.Common.{ap, sym, ◌∙◌, subst, arith, get_or, inl, inr, not}
+use Rattle.std.proofs.Common.{rules, ap, sym, ◌∙◌, arith, get_or, inl, inr, not}
 use Rattle.std.proofs.lemmas.Bool.{cases_lt}
 use Rattle.std.proofs.lemmas.Bool.Decides.{nat_tests}
 use Rattle.std.proofs.lemmas.List.{drop_all, drop_more, drop-append-le, get_or-take, length-take, take_all, take-append-drop, take-append-le}
 use Rattle.std.proofs.lemmas.List.Folds.{length-prefix_len}
 use Rattle.std.proofs.lemmas.List.Sums.{AllPass-from_list_all, passes_at_first, position_or_len_is, prefix_len-le-length, prefix_len_is, prefix_len_passes}
 use Rattle.sgb_graph.specs.declared.fields.Ref.TheVariants.{At}
-use Rattle.sgb_file.specs.FileLines.{text_of_lines}
-use Rattle.sgb_file.specs.Fields.{Found, is_decimal_digit, number_below, number_of, plain_at, plain_text, record_number_of, ref_of}
+use Rattle.sgb_file.specs.Fields.{is_decimal_digit, number_below, number_of, plain_at, record_number_of, ref_of}
 use Rattle.sgb_file.specs.inner.Found.{is_at_end}
 use Rattle.sgb_file.specs.inner.LinesLeft.{LinesLeft, text_left, skipped, has_no_newline}
 use Rattle.sgb_file.proofs.NumberReading.{number_says, number_tested}
@@ -32,29 +31,17 @@ pub field_of_line : (X : Type 0) (says : List ℕ → Option X) (line after text
       rest = after ++ 10 ∷
           text;
     })
-field_of_line X says line after text x h said left =
-    let whole = line ++ 10 ∷ text in
-    let rest : drop (length (comma_free line)) whole ≡ after ++ 10 ∷ text =
-    drop-append-le (length (comma_free line)) line (10 ∷ text) (before_comma_short line) ∙ ap (λ (t : List ℕ). t ++ 10 ∷ text) left in
-    subst (λ (t : List ℕ). option_map {U = Found X} (λ v. record { value = v; rest = drop (length t) whole }) (says t) ≡ Some (record {
-      value = x;
-      rest = after ++ 10 ∷ text;
-    })) (plain_of_line line text h)
-    (rw said (ap (λ (r : List ℕ). Some (record { value = x; rest = r })) rest))
+field_of_line X says line after text x h said left = search (rules, drop-append-le, before_comma_short, plain_of_line)
 
 -- the same of the line under way
 pub field_found : (X : Type 0) (says : List ℕ → Option X) (s : LinesLeft) (line : List ℕ) (x : X) (len : ℕ) → Some line ≡ s.line → has_no_newline line ≡ true
     → says (comma_free line) ≡ Some x → len ≡ length (comma_free line) → plain_at says (text_left s) ≡ Some (record { value = x; rest = text_left (skipped len s) })
-field_found X says s line x len e h said k =
-    let found = field_of_line X says line (drop len line) (text_of_lines s.others) x h said (ap (λ (n : ℕ). drop n line) (sym k)) in
-    ap (plain_at says) (under_way s line e) ∙ found ∙ ap (λ (t : List ℕ). Some (record { value = x; rest = t })) (sym (under_way (skipped len s) (drop len line) (ap (option_map (λ l. drop len l)) e)))
+field_found X says s line x len e h said k = search (rules, field_of_line, under_way)
 
 -- or do not say
 pub field_missing : (X : Type 0) (says : List ℕ → Option X) (s : LinesLeft) (line : List ℕ) → Some line ≡ s.line → has_no_newline line ≡ true
     → says (comma_free line) ≡ None → plain_at says (text_left s) ≡ None
-field_missing X says s line e h said =
-    let plain = plain_of_line line (text_of_lines s.others) h ∙ ap plain_text (sym (under_way s line e)) in
-    subst (λ (t : List ℕ). option_map {U = Found X} (λ v. record { value = v; rest = drop (length t) (text_left s) }) (says t) ≡ None) plain (rw said refl)
+field_missing X says s line e h said = search (rules, plain_of_line, under_way)
 
 -- the bytes before the first comma, of a text that begins with one or not
 taken : (t : Bool) (k b : ℕ) (text : List ℕ) → take (cond t (1 + k) 0) (b ∷ text) ≡ cond t (b ∷ take k text) []
@@ -74,9 +61,7 @@ no_digit_counts b d e h = let many : nat_le d 9 ≡ false = grind (arith, nat_te
 -- the digits that a text begins with, up to the first byte that is none
 pub digits_until : (text : List ℕ) (i : ℕ) → list_all is_decimal_digit (take i text) ≡ true → is_decimal_digit (get_or text i 0) ≡ false → i < length text
     → take_while is_decimal_digit text ≡ take i text
-digits_until text i h stop within =
-    ap (λ (k : ℕ). take k text) (prefix_len_is is_decimal_digit text i 0 (omega (arith, within))
-    (λ k below. sym (ap is_decimal_digit (get_or-take i text k 0 below)) ∙ AllPass-from_list_all is_decimal_digit (take i text) h k 0 (omega (arith, below, within, length-take i text))) (λ here. stop))
+digits_until text i h stop within = grind (arith, prefix_len_is, get_or-take, AllPass-from_list_all, length-take)
 
 pub digits_all : (text : List ℕ) → list_all is_decimal_digit text ≡ true → take_while is_decimal_digit text ≡ text
 digits_all text h =

@@ -1,12 +1,12 @@
 -- What is read of a file's records: fields that fit their kinds, texts and numbers within their limits.
-use Rattle.std.specs.Prelude.{◌≡◌, ℕ, ◌<◌, ◌≤◌, true, ◌&&◌, List, [], ◌∷◌, length, get_or, Some, Ok, Err, All, nat_le, if◌then◌else◌, refl}
+use Rattle.std.specs.Prelude.{◌≡◌, ℕ, ◌<◌, ◌≤◌, true, ◌&&◌, List, [], ◌∷◌, length, get_or, Some, Ok, Err, All, if◌then◌else◌, refl}
 use Rattle.std.specs.List.{list_all}
-use Rattle.std.proofs.Common.{sym, subst, ◌∙◌}
+use Rattle.std.proofs.Common.{arith, sym, subst, ◌∙◌}
 use Rattle.std.proofs.lemmas.Bool.{and_parts, and_from}
 use Rattle.std.proofs.lemmas.List.Elements.{All-cons, All-nil}
 use Rattle.std.proofs.lemmas.List.Sums.{AllPass-from_list_all, list_all-from_AllPass}
 use Rattle.sgb_vec.specs.Limits.{most_vertices, most_bytes}
-use Rattle.sgb_vec.specs.Names.{IsTextByte, is_text_byte}
+use Rattle.sgb_vec.specs.Names.{IsTextByte}
 use Rattle.sgb_vec.specs.declared.panics.Panic.TheVariants.{Syntax}
 use Rattle.sgb_graph.specs.Graphs.{GraphData}
 use Rattle.sgb_graph.specs.Ids.{most_id_bytes}
@@ -17,7 +17,7 @@ use Rattle.sgb_graph.specs.declared.fields.Kind.TheVariants.{Z, I, V, S, A}
 use Rattle.sgb_graph.specs.declared.fields.Util.{Util}
 use Rattle.sgb_graph.specs.declared.fields.Util.TheVariants.{Nothing, Int, Vertex as VertexField, Str, Chain}
 use Rattle.sgb_file.specs.FileLines.{text_of_lines}
-use Rattle.sgb_file.specs.Fields.{Counts, Found, most_number_digits, unbroken, string_of}
+use Rattle.sgb_file.specs.Fields.{Counts, Found, most_number_digits, string_of}
 use Rattle.sgb_file.specs.Records.{Head, records_at}
 use Rattle.sgb_file.specs.Restoring.{Opening, head_of_line, opening_of, graph_of_records, graph_of_text}
 use Rattle.sgb_file.specs.Saved.{number_limit, ValueCanBeSaved, CanBeChecked, CanBeSaved}
@@ -33,10 +33,7 @@ use Rattle.sgb_file.proofs.SavedGraphs.{FieldsFit, VertexFits, ArcFits, arc_save
 
 -- a string
 read_string_fits : (most : ℕ) (bytes s : List ℕ) → string_of most bytes ≡ Some s → (length s ≤ most) × All IsTextByte s
-read_string_fits most bytes s e =
-    let p = was_let_through (nat_le (length (unbroken bytes)) most && list_all is_text_byte (unbroken bytes)) (unbroken bytes) s e in
-    let parts = and_parts (nat_le (length (unbroken bytes)) most) (list_all is_text_byte (unbroken bytes)) p.0 in
-    subst (λ (t : List ℕ). (length t ≤ most) × All IsTextByte t) p.1 (at_most (length (unbroken bytes)) most parts.0, AllPass-from_list_all is_text_byte (unbroken bytes) parts.1)
+read_string_fits most bytes s e = grind (arith, was_let_through, and_parts, at_most, AllPass-from_list_all)
 
 -- a value whose text is a field's fits its kind, and can be saved
 record FieldFits (counts : Counts) (kind : Kind) (u : Util) : Type 0 where

@@ -1,6 +1,6 @@
 -- Records and their texts: a record's reader finds exactly a record of these values.
 use Rattle.std.specs.Prelude.{◌≡◌, ◌==◌, ℕ, List, [], ◌∷◌, ◌++◌, length, codes, Option, Some, None, option_map, unwrap_or, if◌then◌else◌, refl}
-use Rattle.std.proofs.Common.{ap, sym, subst, ◌∙◌, inl, inr}
+use Rattle.std.proofs.Common.{arith, ap, sym, subst, ◌∙◌, inl, inr}
 use Rattle.std.proofs.lemmas.Bool.Decides.{Decides-eqb}
 use Rattle.sgb_graph.specs.Graphs.{GraphData}
 use Rattle.sgb_graph.specs.Growth.{graph_data}
@@ -109,11 +109,7 @@ reads_more : (counts : Counts) (kinds : List Kind) → Reads found_with Ends Any
 reads_more counts kinds = reads_is (λ text h. h) (more_from counts kinds) (λ us whole h. more_into counts kinds us whole h.0 h.1 h.2) (more_read counts kinds)
 
 record_from : (counts : Counts) (kind : Kind) (kinds : List Kind) (us : List Util) (whole : List ℕ) → RecordWord counts kind kinds us whole → IsRecordOf counts (kind ∷ kinds) us whole
-record_from counts kind kinds us whole h =
-    let o = h.4 in
-    let m = o.1 in
-    subst (λ vs. IsRecordOf counts (kind ∷ kinds) vs whole) o.2
-    (h.1 ∷ m.0, and_others counts kind kinds h.0 o.0 h.1 m.0 h.3 m.1, subst (IsRecord (h.1 ∷ m.0)) (sym h.5) (record_from_tail h.1 m.0 h.2 m.2))
+record_from counts kind kinds us whole h = grind (arith, and_others, record_from_tail)
 
 record_into : (counts : Counts) (kind : Kind) (kinds : List Kind) (us : List Util) (whole : List ℕ) (texts : List (List ℕ)) → (kind ≡ Z → ⊥) → AreFieldTexts counts (kind ∷ kinds) us texts → IsRecord texts whole
     → RecordWord counts kind kinds us whole
@@ -175,9 +171,7 @@ reads_graph head =
 
 -- it has as many vertices as are counted, and the graph has none of them yet
 pub is_bare : (head : Head) (n : ℕ) (id : List ℕ) (m : ℕ) (util : List Util) (g : GraphData) → graph_of_parts head id n m util ≡ Some g → (n ≡ head.counts.vertices) × (graph_data id m head.kinds util [] [] ≡ g)
-is_bare head n id m util g e =
-    let t = was_let_through (n == head.counts.vertices) (graph_data id m head.kinds util [] []) g e in
-    ((Decides-eqb n head.counts.vertices).0 t.0, t.1)
+is_bare head n id m util g e = grind (arith, was_let_through, Decides-eqb)
 
 graph_from : (head : Head) (bare g : GraphData) (whole : List ℕ) → OwnWord head bare whole → length g.vertices ≡ head.counts.vertices
     → g ≡ record bare { vertices = g.vertices; records = g.records } → IsGraphRecord head g whole

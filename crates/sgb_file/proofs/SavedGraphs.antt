@@ -1,7 +1,7 @@
 -- Graphs that can be saved: the fields of their records, and what is found so an element at a time.
 use Rattle.std.specs.Prelude.{◌^◌, ◌≡◌, ℕ, suc, ◌+◌, ◌<◌, ◌≤◌, true, ◌&&◌, List, [], ◌∷◌, length, get_or, Some, slice_get, All, refl}
 use Rattle.std.specs.List.{list_all}
-use Rattle.std.proofs.Common.{ap, sym, ◌∙◌, arith, inl, inr, subst, length-drop}
+use Rattle.std.proofs.Common.{rules, ap, sym, ◌∙◌, arith, length-drop}
 use Rattle.std.proofs.Math.Bool.{and_assoc}
 use Rattle.std.proofs.lemmas.Bool.{and_parts, cases_lt}
 use Rattle.std.proofs.lemmas.List.Elements.{All-cons, All-nil}
@@ -32,14 +32,7 @@ none_hold P xs k x below here = absurd (omega (arith, below))
 
 -- of one more
 pub more_hold : {X : Type 0} (P : X → Type 0) (xs : List X) (n : ℕ) (x : X) → HoldsOfFirst P xs n → slice_get xs n ≡ Some x → P x → HoldsOfFirst P xs (n + 1)
-more_hold P xs n x before here holds k y below there = elim (cases_lt k n) [
-  | inl earlier ↦ before k y earlier there
-  | inr later ↦
-      let same : k ≡ n = omega (arith, below, later) in
-      let found : slice_get xs n ≡ Some y = ap (slice_get xs) (sym same) ∙ there in
-      let equal : x ≡ y = cc in
-      subst P equal holds
-]
+more_hold P xs n x before here holds k y below there = search (rules, cases_lt)
 
 -- of all of them
 pub all_hold : {X : Type 0} (P : X → Type 0) (xs : List X) (n : ℕ) → length xs ≤ n → HoldsOfFirst P xs n → All P xs

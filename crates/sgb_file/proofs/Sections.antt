@@ -1,5 +1,5 @@
 -- Lemmas on the sections of a file, in the words of the code.
-use Rattle.std.proofs.Common.{◌≡◌, ◌∙◌, ◌++◌, ◌<◌, ◌-◌, ◌+◌, ℕ, suc, Bool, true, false, List, [], ◌∷◌, Option, Some, None, Err, refl, sym, ap, append_assoc, append-nil, arith, codes, cond, not, ◌==◌}
+use Rattle.std.proofs.Common.{rules, ◌≡◌, ◌∙◌, ◌++◌, ◌<◌, ◌-◌, ◌+◌, ℕ, suc, Bool, true, false, List, [], ◌∷◌, Option, Some, None, Err, refl, sym, ap, append_assoc, append-nil, arith, codes, cond, not, ◌==◌}
 use Rattle.std.specs.List.{starts_with}
 use Rattle.std.proofs.lemmas.Bool.{and_parts, not-true}
 use Rattle.std.proofs.lemmas.Bool.Decides.{nat_tests, Decides-eqb}
@@ -53,9 +53,7 @@ all_read one_at f k text e = rw e refl
 -- the same of vertices
 pub next_vertex : (head : Head) (parts more : GraphData) (n v : ℕ) (x : Vertex) (text rest : List ℕ) → v < n → vertex_fields_at head text ≡ Some (record { value = x; rest = rest })
     → more ≡ with_vertex x parts → vertices_at head more (n - (v + 1)) rest ≡ vertices_at head parts (n - v) text
-next_vertex head parts more n v x text rest within e is =
-    rw is (next_read (vertex_record_at head) (with_vertices parts) (with_vertices (with_vertex x parts)) n v x text rest within (vertex_steps head text ∙ e)
-    (λ xs. ap (λ vs. record parts { vertices = vs }) (sym (append_assoc parts.vertices (x ∷ []) xs))))
+next_vertex head parts more n v x text rest within e is = grind (arith, next_read, vertex_steps, append_assoc)
 
 pub vertices_read : (head : Head) (parts : GraphData) (k : ℕ) (text : List ℕ) → k ≡ 0 → vertices_at head parts k text ≡ Some (record { value = parts; rest = text })
 vertices_read head parts k text e =
@@ -64,9 +62,7 @@ vertices_read head parts k text e =
 -- and of arc records
 pub next_arc : (head : Head) (parts more : GraphData) (n k : ℕ) (r : ArcRec) (text rest : List ℕ) → k < n → arc_record_at head text ≡ Some (record { value = r; rest = rest })
     → more ≡ with_record r parts → arcs_at head more (n - (k + 1)) rest ≡ arcs_at head parts (n - k) text
-next_arc head parts more n k r text rest within e is =
-    rw is (next_read (arc_record_at head) (with_records parts) (with_records (with_record r parts)) n k r text rest within e
-    (λ xs. ap (λ rs. record parts { records = rs }) (sym (append_assoc parts.records (r ∷ []) xs))))
+next_arc head parts more n k r text rest within e is = search (rules, next_read, append_assoc)
 
 pub arcs_read : (head : Head) (parts : GraphData) (k : ℕ) (text : List ℕ) → k ≡ 0 → arcs_at head parts k text ≡ Some (record { value = parts; rest = text })
 arcs_read head parts k text e =

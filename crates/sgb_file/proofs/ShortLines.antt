@@ -1,6 +1,6 @@
 -- Short lines that are put together: bytes after bytes, and the checksum that comes of the value.
-use Rattle.std.specs.Prelude.{◌≡◌, ℕ, ◌+◌, ◌*◌, ◌/◌, ◌%◌, ◌^◌, ◌<◌, ◌≤◌, true, false, List, [], ◌∷◌, ◌++◌, codes, decimal, length, take, slice_index_or as get_or, set, fold, refl, Option, Some, None, IfSome}
-use Rattle.std.proofs.Common.{arith, ap, sym, ◌∙◌, append_assoc, append-nil, length-append}
+use Rattle.std.specs.Prelude.{◌≡◌, ℕ, ◌+◌, ◌*◌, ◌/◌, ◌%◌, ◌^◌, ◌<◌, ◌≤◌, true, false, List, [], ◌∷◌, ◌++◌, codes, decimal, length, take, slice_index_or as get_or, set, refl, Option, Some, None, IfSome}
+use Rattle.std.proofs.Common.{rules, arith, ap, sym, ◌∙◌, append_assoc, append-nil, length-append}
 use Rattle.std.proofs.Math.Nat.{mod-eq_of_lt}
 use Rattle.std.proofs.lemmas.Bool.Decides.{nat_tests}
 use Rattle.std.proofs.lemmas.List.{length-take, take_more, take_more_set}
@@ -9,7 +9,7 @@ use Rattle.std.proofs.lemmas.Fmt.{length-decimal-le}
 use Rattle.std.proofs.lemmas.Nat.{mod_below}
 use Rattle.sgb_file.specs.Checksum.{checksum_prime, has_star}
 use Rattle.sgb_file.specs.Saving.{fits_on, laid_out, pieces_of, quoted, record_lines, record_number_text}
-use Rattle.sgb_file.specs.inner.Layouts.{HasLaid, checksum_from, place_of, value_after, value_from}
+use Rattle.sgb_file.specs.inner.Layouts.{HasLaid, checksum_from, place_of, value_from}
 use Rattle.sgb_file.specs.inner.ShortLines.{AreShort, AreShortFields, ShortText, field_texts_of, line_of, name_piece, put_after, short_stage, short_texts}
 use Rattle.sgb_file.proofs.ChecksumLemmas.{few_counted}
 use Rattle.sgb_file.proofs.FewDigits.{pair_after}
@@ -21,14 +21,7 @@ pub byte_put : (s : ShortText) (bytes : List ℕ) (len byte place value new : �
     → length s.text + 1 ≤ 4096 → len ≤ 4096 → place ≡ place_of byte → new ≡ (2 * value + place) % 2 ^ 64
     → record { text = take (len + 1) (set bytes (len % 4096) byte); value = new } ≡ put_after s (byte ∷ [])
 unfolding put_after value_from
-byte_put s bytes len byte place value new view all room most p v =
-    let text : length s.text ≡ length (take len bytes) = ap (λ (t : ShortText). length t.text) (sym view) in
-    let within : len < 4096 = omega (arith, text, room, length-take len bytes, all, most) in
-    let put : take (len + 1) (set bytes (len % 4096) byte) ≡ take len bytes ++ byte ∷ [] =
-    ap (λ k. take (len + 1) (set bytes k byte)) (mod-eq_of_lt within) ∙ take_more_set bytes len byte (omega (arith, within, all)) in
-    let counted : new ≡ (2 * value + place_of byte) % 2 ^ 64 = v ∙ ap (λ (q : ℕ). (2 * value + q) % 2 ^ 64) p in
-    ap (λ t. record { text = t; value = new }) put
-    ∙ (ap (λ v. record { text = take len bytes ++ byte ∷ []; value = v }) counted ∙ ap (λ t. put_after t (byte ∷ [])) view)
+byte_put s bytes len byte place value new view all room most p v = grind (arith, length-take, mod-eq_of_lt, take_more_set)
 
 -- bytes with a value
 abbrev pub kept_text : List ℕ → ℕ → ShortText
@@ -37,9 +30,7 @@ kept_text text value = record { text = text; value = value }
 -- bytes after bytes
 pub put-append : (s : ShortText) (xs ys : List ℕ) → put_after (put_after s xs) ys ≡ put_after s (xs ++ ys)
 unfolding put_after value_from
-put-append s xs ys =
-    ap (λ t. record { text = t; value = fold value_after (fold value_after s.value xs) ys }) (append_assoc s.text xs ys)
-    ∙ ap (λ v. record { text = s.text ++ (xs ++ ys); value = v }) (sym (fold-append value_after s.value xs ys))
+put-append s xs ys = search (rules, append_assoc, fold-append)
 
 -- no bytes, and bytes one by one
 pub put-none : (s : ShortText) (bytes : List ℕ) → s ≡ put_after s (take 0 bytes)
@@ -49,16 +40,12 @@ put-none s bytes = ap (λ t. kept_text t s.value) (sym (append-nil s.text))
 pub put-next : (s before after : ShortText) (bytes : List ℕ) (i byte : ℕ) → i < length bytes → byte ≡ get_or bytes i 0
     → before ≡ put_after s (take i bytes)
     → after ≡ put_after before (byte ∷ []) → after ≡ put_after s (take (i + 1) bytes)
-put-next s before after bytes i byte within is e f =
-    f ∙ (ap (λ t. put_after t (byte ∷ [])) e ∙ (put-append s (take i bytes) (byte ∷ [])
-    ∙ ap (put_after s) (ap (λ (b : ℕ). take i bytes ++ b ∷ []) is ∙ sym (take_more bytes i 0 within))))
+put-next s before after bytes i byte within is e f = search (rules, put-append, take_more)
 
 -- two digits were put after the others
 pub pair_put_after : (s before after : ShortText) (n : ℕ) → 100 ≤ n → n < 2 ^ 32 → before ≡ put_after s (decimal (n / 100))
     → after ≡ put_after before ((48 + n % 100 / 10) ∷ (48 + n % 100 % 10) ∷ []) → after ≡ put_after s (decimal n)
-pair_put_after s before after n more few e f =
-    let pair = (48 + n % 100 / 10) ∷ (48 + n % 100 % 10) ∷ [] in
-    f ∙ (ap (λ t. put_after t pair) e ∙ (put-append s (decimal (n / 100)) pair ∙ ap (put_after s) (pair_after n more few)))
+pair_put_after s before after n more few e f = grind (arith, put-append, pair_after)
 
 -- bytes were put after others
 pub put-then : (s before after : ShortText) (xs ys : List ℕ) → before ≡ put_after s xs → after ≡ put_after before ys
@@ -74,12 +61,7 @@ ended : (s mid new : ShortText) (line : List ℕ) → s.value < 2 ^ 32 → lengt
     → new.text ≡ (put_after mid (10 ∷ [])).text → new.value ≡ (put_after mid (10 ∷ [])).value % checksum_prime
     → (new.text ≡ s.text ++ (line ++ 10 ∷ [])) × (new.value ≡ checksum_from s.value (line ++ 10 ∷ []))
 unfolding put_after
-ended s mid new line small short e text value =
-    let whole : put_after mid (10 ∷ []) ≡ put_after s (line ++ 10 ∷ []) = ap (λ t. put_after t (10 ∷ [])) e ∙ put-append s line (10 ∷ []) in
-    let n = length-append line (10 ∷ []) in (
-      text ∙ ap (λ (t : ShortText). t.text) whole,
-      few_counted s.value new.value (line ++ 10 ∷ []) small (omega (arith, n)) (omega (arith, n, short)) (value ∙ ap (λ (t : ShortText). t.value % checksum_prime) whole),
-    )
+ended s mid new line small short e text value = grind (arith, put-append, length-append, few_counted)
 
 -- a short line and its newline were put after others
 pub short-laid : (old mid new : ShortText) (line : List ℕ) → old.value < 2 ^ 32 → length line ≤ 29 → has_star line ≡ false
@@ -168,19 +150,11 @@ pub next_length : (first : Option ℕ) → IfSome first (λ k. k < 100_000_000) 
 next_length first short = omega (arith, next_short first short)
 
 pub fields_length : (first : Option ℕ) (x y z : ℕ) → AreShortFields first x y z → length (line_of (field_texts_of first x y z)) ≤ 29
-fields_length first x y z short =
-    let dx = decimal x in
-    let dy = decimal y in
-    let dz = decimal z in
-    let r = record_number_text first in
-    omega (arith, next_short first short.0, four_digits x short.1, four_digits y short.2, four_digits z short.3, line_length r dx (dy ∷ dz ∷ []), line_length dx dy (dz ∷ []), line_length dy dz [])
+fields_length first x y z short = search (rules, next_short, four_digits, line_length)
 
 vertex_record : (name field : List ℕ) (fields : List (List ℕ)) → length name ≤ 28 → length (line_of (field ∷ fields)) ≤ 29
     → record_lines (quoted name ∷ field ∷ fields) ≡ (name_piece name ++ line_of (field ∷ fields)) ∷ []
-vertex_record name field fields few short =
-    let n = length-append name (34 ∷ []) in
-    texts_fit [] (quoted name ∷ field ∷ fields) (omega (arith, few, short, n, line_length (quoted name) field fields))
-    ∙ ap (λ t. t ∷ []) (sym (append_assoc (quoted name) (codes ",") (line_of (field ∷ fields))))
+vertex_record name field fields few short = search (rules, length-append, texts_fit, line_length, append_assoc)
 
 pub vertex-laid : (old first between mid new : ShortText) (name field : List ℕ) (fields : List (List ℕ)) → old.value < 2 ^ 32
     → length name ≤ 28 → length (line_of (field ∷ fields)) ≤ 29 → first ≡ put_after old (name_piece name)

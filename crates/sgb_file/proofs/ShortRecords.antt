@@ -1,10 +1,10 @@
 -- Records whose lines are put together before they are written.
-use Rattle.std.proofs.Common.{◌≡◌, ◌++◌, ◌∙◌, ℕ, true, false, List, [], ◌∷◌, Option, sym, ap, subst}
+use Rattle.std.proofs.Common.{arith, ◌≡◌, ◌++◌, ◌∙◌, ℕ, true, false, List, [], ◌∷◌, Option, sym, ap, subst}
 use Rattle.std.specs.Io.KnownBytes.{Appends}
 use Rattle.sgb_file.specs.Devices.{AppendsPrefix}
 use Rattle.sgb_file.specs.FileLines.{text_of_lines}
 use Rattle.sgb_file.specs.Saving.{quoted, record_lines, record_number_text}
-use Rattle.sgb_file.specs.inner.Layouts.{HasLaid, IsStopped, LinesSoFar, Stage, checksum_from, counted_bytes, has_any}
+use Rattle.sgb_file.specs.inner.Layouts.{HasLaid, IsStopped, LinesSoFar, Stage, has_any}
 use Rattle.sgb_file.specs.inner.ShortLines.{ShortText, short_stage}
 use Rattle.sgb_file.proofs.LaidLines.{stopped-first}
 
@@ -29,15 +29,7 @@ text_together done old new sum e p = sym (p.written ∙ ap (λ (s : ShortText). 
 pub together-laid : (all left : List (List ℕ)) (old new : ShortText) (a b : Stage) → old ≡ record { text = []; value = a.layout.checksum }
     → LinesSoFar all left (short_stage old) (short_stage new) → Appends a.written b.written new.text → b.failed ≡ a.failed
     → b.layout.checksum ≡ new.value → LinesSoFar all left a b
-together-laid all left old new a b e p written sound sum = (
-  p.0,
-  p.1,
-  record {
-    written = subst (λ t. Appends a.written b.written t) (sym (text_together p.0 old new _ e p.2)) written;
-    sound = sound;
-    checksum = sum ∙ (p.2.checksum ∙ ap (λ (s : ShortText). checksum_from s.value (counted_bytes p.0)) e);
-  },
-)
+together-laid all left old new a b e p written sound sum = grind (arith, text_together)
 
 pub together-cut : (all left : List (List ℕ)) (old new : ShortText) (a b : Stage) → old ≡ record { text = []; value = a.layout.checksum }
     → LinesSoFar all left (short_stage old) (short_stage new) → AppendsPrefix a.written b.written new.text → b.failed ≡ true

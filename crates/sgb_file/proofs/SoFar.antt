@@ -1,5 +1,5 @@
 -- A text written part by part: what was written so far, and what is left.
-use Rattle.std.proofs.Common.{◌≡◌, ◌++◌, ◌∙◌, ℕ, List, [], Option, refl, sym, ap, subst, append_assoc, append-nil}
+use Rattle.std.proofs.Common.{rules, ◌≡◌, ◌++◌, ◌∙◌, ℕ, List, [], Option, refl, sym, ap, subst, append_assoc, append-nil}
 use Rattle.std.specs.Io.KnownBytes.{Appends}
 use Rattle.std.proofs.KnownBytes.{Appends-trans, Appends-nil}
 use Rattle.sgb_file.specs.Devices.{AppendsPrefix}
@@ -20,9 +20,7 @@ so_far-more all part left rest a b c e p q =
 
 -- all was written
 pub so_far-all : (all left : List ℕ) (a b : Option (List ℕ)) → left ≡ [] → SoFar all left a b → Appends a b all
-so_far-all all left a b e p =
-    let whole : p.0 ≡ all = sym (append-nil p.0) ∙ ap (λ text. p.0 ++ text) (sym e) ∙ p.1 in
-    subst (λ (text : List ℕ). Appends a b text) whole p.2
+so_far-all all left a b e p = search (rules, append-nil)
 
 -- a prefix of the next part was written
 pub so_far-prefix : (all part left rest : List ℕ) (a b c : Option (List ℕ)) → left ≡ part ++ rest → SoFar all left a b → AppendsPrefix b c part → AppendsPrefix a c all

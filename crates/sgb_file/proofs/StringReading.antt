@@ -1,7 +1,7 @@
 -- Lemmas on strings that are read part by part, each on a line.
 use Rattle.std.specs.Prelude.{◌≡◌, ℕ, zero, suc, ◌+◌, ◌-◌, ◌<◌, ◌≤◌, Bool, true, false, cond, not, ◌&&◌, List, [], ◌∷◌, ◌++◌, length, take, drop, Option, Some, None, nat_lt, nat_le, ◌==◌, ◌↔◌, All, Result, Ok, Err, IfOk, IsErrOf, IsOkUnless, slice_index_or, refl}
 use Rattle.std.specs.List.{list_any, list_all, position, position_or_len, before_first, after_first}
-use Rattle.std.proofs.Common.{ap, sym, ◌∙◌, append_assoc, arith}
+use Rattle.std.proofs.Common.{rules, ap, sym, ◌∙◌, append_assoc, arith}
 use Rattle.std.proofs.Math.Seq.{take-append-add, drop-append-add}
 use Rattle.std.proofs.lemmas.Bool.{and_parts, not-true}
 use Rattle.std.proofs.lemmas.Bool.Decides.{nat_tests}
@@ -173,9 +173,7 @@ IsGathered first text closed bytes left = (most : ℕ) → string_from most firs
 
 -- the test passes just for what is short and printable
 pub test_passes : (most : ℕ) (bytes : List ℕ) → length bytes ≤ most → All IsTextByte bytes → (nat_le (length bytes) most && list_all is_text_byte bytes) ≡ true
-test_passes most bytes short h =
-    let first : nat_le (length bytes) most ≡ true = grind (arith, nat_tests) in
-    rw (first, list_all-from_AllPass is_text_byte bytes h) refl
+test_passes most bytes short h = search (rules, nat_tests, list_all-from_AllPass)
 
 passes_short : (most : ℕ) (bytes : List ℕ) → (nat_le (length bytes) most && list_all is_text_byte bytes) ≡ true → length bytes ≤ most
 passes_short most bytes h =

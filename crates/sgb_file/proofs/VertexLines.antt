@@ -39,9 +39,7 @@ name_read line name rest text h n said =
 
 -- what follows the name has no newline either
 pub rest_is_line : (line name rest : List ℕ) → has_no_newline line ≡ true → IsNamedAt line name rest → has_no_newline rest ≡ true
-rest_is_line line name rest h n =
-    let one : has_no_newline n.quoted ≡ true = (and_parts true (has_no_newline n.quoted) (ap has_no_newline (sym n.opened) ∙ h)).1 in
-    rest_of_line n.quoted rest (n.end + 1) one n.left
+rest_is_line line name rest h n = grind (arith, and_parts, opened, rest_of_line)
 
 -- the record of the vertex
 pub vertex_line : (counts : Counts) (line name rest : List ℕ) (first : Option ℕ) (x y z : ℤ) → has_no_newline line ≡ true → IsNamedAt line name rest
