@@ -54,6 +54,7 @@ pub mod BrokenLines
 pub mod LaidLines
 -- bytes put on lines, and pieces laid out
 pub mod PlacedPieces
+-- fields that the bytes before the first comma of a line say
 pub mod PlainFields
 -- fields with the value of a checksum after them
 pub mod CountedFields
@@ -61,6 +62,7 @@ pub mod CountedFields
 pub mod LineRecords
 -- vertices that are read of one line
 pub mod VertexLines
+-- the decimal text of a number of at most eight digits
 pub mod FewDigits
 -- the first bytes of a full line, and the last one
 pub mod FullLines
