@@ -403,7 +403,10 @@ pub(super) fn put_page<W: Sink>(page: &mut Page, out: &mut W) -> Result<(), Faul
     ensures fault { IfErr result (λ f. f ≡ Fault.Write) }
     ensures empty { page.new ≡ [] }
 {
-    let written = write_bytes(out, page.bytes());
+    if let Err(fault) = write_bytes(out, page.bytes()) {
+        page.cut(0);
+        return Err(fault);
+    }
     page.cut(0);
-    written
+    Ok(())
 }
