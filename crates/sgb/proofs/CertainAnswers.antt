@@ -1,5 +1,5 @@
 -- What needs no memory is never out of memory.
-use Rattle.std.proofs.Common.{arith, rules, ◌≡◌, ◌≢◌, ◌⊎◌, ◌&&◌, ◌∙◌, ℕ, List, [], Bool, false, Option, Result, Ok, Err, IfErr, inl, inr, refl, sym, ap, subst}
+use Rattle.std.proofs.Common.{rules, ◌≡◌, ◌≢◌, ◌⊎◌, ◌&&◌, ◌∙◌, ℕ, List, [], Bool, false, Option, Result, Ok, Err, IfErr, inl, inr, refl, sym, ap, subst}
 use Rattle.std.specs.Result.{IsErrAnd}
 use Rattle.std.proofs.lemmas.Bool.{both_ways}
 use Rattle.std.proofs.lemmas.Result.{err_from_is_err_and}
@@ -182,6 +182,8 @@ certain_err T reads failed a same f w v e d wf ef ended other line unread sound 
     given_err T a same f w v e d wf ef (ended_from {T = T} _ a same _ (Err f) (ap (λ b. b && failed) unread) ended) other sound line
 
 -- a request whose answer takes no memory was answered so on each input
-pub certain_run : (r : Request) (kept : List ℕ) (out err : Change) (status : ℕ)
-    → (reads_input r ≡ false → NeedsNoMemory r → out.failed ≡ false → IsGiven (outcome_of (answer_of r kept)) out err status) → IsCertain r out err status
-certain_run r kept out err status given needs sound input = grind (arith, certain_unread, answer_unread)
+pub certain_run : (r : Request) (stdin : Result GraphData Panic) (out err : Change) (status : ℕ)
+    → (reads_input r ≡ false → NeedsNoMemory r → out.failed ≡ false → IsGiven (outcome_of (answer_of r stdin)) out err status) → IsCertain r out err status
+certain_run r stdin out err status given needs sound other =
+    let unread = certain_unread r needs in
+    subst (λ a. IsGiven (outcome_of a) out err status) (answer_unread r stdin other unread) (given unread needs sound)

@@ -1,5 +1,5 @@
 -- Texts written part by part, until a part is cut off.
-use Rattle.std.proofs.Common.{arith, rules, ◌≡◌, ◌≢◌, ◌++◌, Bool, ℕ, List, Option, Result, Ok, Err, IfErr, false, inl, inr, ap}
+use Rattle.std.proofs.Common.{arith, rules, ◌≡◌, ◌≢◌, ◌++◌, Bool, ℕ, List, Option, Result, Ok, Err, IfErr, false, inr, ap}
 use Rattle.std.specs.Result.{IsErrAnd}
 use Rattle.std.proofs.lemmas.Result.{err_from_is_err_and}
 use Rattle.std.specs.Io.KnownBytes.{Appends}

@@ -1,5 +1,5 @@
 -- The values of entries, one after another.
-use Rattle.std.proofs.Common.{◌≡◌, ◌||◌, ◌+◌, ◌++◌, ℕ, Bool, Box, Global, List, [], ◌∷◌, length, Result, Ok, Err, inl, inr, refl, ap, ◌∙◌, append_assoc, arith}
+use Rattle.std.proofs.Common.{◌≡◌, ◌||◌, ◌+◌, ◌++◌, Bool, Box, Global, List, [], ◌∷◌, length, Result, Ok, Err, inl, inr, refl, ap, ◌∙◌, append_assoc, arith}
 use Rattle.sgb_vec.specs.Results.{and_then, IsValue}
 use Rattle.sgb_vec.specs.declared.panics.Panic.{Panic}
 use Rattle.sgb_graph.specs.Graphs.{GraphData}
@@ -37,10 +37,10 @@ induced_from graph entries self_loops multi directed =
     and_then (both graph entries) (λ operands. made (induced_of operands.0 operands.1 self_loops multi directed))
 
 -- of an expression of the code
-pub induced_value : (input : List ℕ) (e : Expr) (graph : Box Expr Global) (entries : Entries) (self_loops multi directed : Bool) → e ≡ expr.Induced graph entries self_loops multi directed
-    → value_of input (expression_of e) ≡ induced_from (value_of input (expression_of graph.value)) (values_of input (entries_of (listed (items_of entries)))) self_loops multi directed
-induced_value input e graph entries self_loops multi directed is =
-    ap (λ x. value_of input (expression_of x)) is ∙ ap (value_of input) (induced_is graph entries self_loops multi directed)
+pub induced_value : (stdin : Result GraphData Panic) (e : Expr) (graph : Box Expr Global) (entries : Entries) (self_loops multi directed : Bool) → e ≡ expr.Induced graph entries self_loops multi directed
+    → value_of stdin (expression_of e) ≡ induced_from (value_of stdin (expression_of graph.value)) (values_of stdin (entries_of (listed (items_of entries)))) self_loops multi directed
+induced_value stdin e graph entries self_loops multi directed is =
+    ap (λ x. value_of stdin (expression_of x)) is ∙ ap (value_of stdin) (induced_is graph entries self_loops multi directed)
 
 -- its size
 pub induced_size : (e : Expr) (graph : Box Expr Global) (entries : Entries) (self_loops multi directed : Bool) → e ≡ expr.Induced graph entries self_loops multi directed

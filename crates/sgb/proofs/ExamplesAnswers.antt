@@ -1,5 +1,7 @@
 -- Answers of requests on small graphs, worked out by hand, and what they are made of.
-use Rattle.std.specs.Prelude.{◌≡◌, ℕ, ℤ, pos, negsuc, true, false, List, [], ◌∷◌, ◌++◌, Some, None, Ok, Err, map, codes, refl}
+use Rattle.std.specs.Prelude.{◌≡◌, ℕ, ℤ, pos, negsuc, true, false, List, [], ◌∷◌, ◌++◌, length, Some, None, Ok, Err, map, codes, refl}
+use Rattle.std.proofs.Common.{inl}
+use Rattle.std.proofs.lemmas.Bool.{leb-true}
 use Rattle.std.specs.Fmt.{digits}
 use Rattle.sgb_vec.specs.Boxes.{box}
 use Rattle.sgb_vec.specs.Names.{name_of_vector}
@@ -7,7 +9,7 @@ use Rattle.sgb_vec.specs.Sizes.{repeated}
 use Rattle.sgb_vec.specs.Sums.{bounded_sums, has_great_count}
 use Rattle.sgb_vec.specs.declared.panics.Panic.TheVariants.{Bad, VeryBad, Early}
 use Rattle.sgb_graph.specs.Events.{list_from}
-use Rattle.sgb_graph.specs.Graphs.{ends_from, numbers_from}
+use Rattle.sgb_graph.specs.Graphs.{numbers_from}
 use Rattle.sgb_graph.specs.Made.{graph_described}
 use Rattle.sgb_gen.specs.Boards.{board_id}
 use Rattle.sgb_gen.specs.Displacements.{displacements, vectors_of_norm}
@@ -15,12 +17,9 @@ use Rattle.sgb_gen.specs.Moves.{board_moves}
 use Rattle.sgb_gen.specs.Simplexes.{simplex_id, moves_of_simplex}
 use Rattle.sgb_gen.specs.VectorGraphs.{family_graph}
 use Rattle.sgb_ops.specs.declared.entries.Entry.TheVariants as entry
-use Rattle.sgb_file.specs.FileLines.{lines_among, text_of_lines, without_end_spaces}
-use Rattle.sgb_file.specs.Checksum.{weighted_sum}
-use Rattle.sgb_file.specs.Fields.{unbroken}
-use Rattle.sgb_file.specs.Records.{all_at, more_fields_at}
-use Rattle.sgb_file.specs.Restoring.{opening_of}
+use Rattle.sgb_file.specs.FileLines.{text_of_lines}
 use Rattle.sgb_file.proofs.Examples.GraphFiles.{one_cell, one_cell_lines}
+use Rattle.sgb_file.proofs.Examples.Restoring.{no_file_read, one_cell_read}
 use Rattle.sgb_expr.specs.Expression.{Expression, EntryThen, Generated, Graph, Gunion, NoEntries, Number, Stdin}
 use Rattle.sgb_expr.specs.declared.expressions.Expr.{Expr}
 use Rattle.sgb_expr.specs.declared.expressions.Expr.TheVariants as expr
@@ -29,7 +28,7 @@ use Rattle.sgb_expr.specs.declared.expressions.Generator.TheVariants as generato
 use Rattle.sgb.specs.Locals.{family_text, start_after, vectors_of}
 use Rattle.sgb.specs.Outcomes.{answer_of}
 use Rattle.sgb.specs.Texts.{arc_line, block, blocks, head_text, name_lines}
-use Rattle.sgb.specs.Values.{described, numbered_entry, stdin_value, value_of, values_of}
+use Rattle.sgb.specs.Values.{IsStdinValue, described, most_input, numbered_entry, value_of, values_of}
 use Rattle.sgb.specs.declared.locals.Local.{Local}
 use Rattle.sgb.specs.declared.locals.Local.TheVariants as local
 use Rattle.sgb_requests.specs.declared.faults.Fault.TheVariants as fault
@@ -56,44 +55,51 @@ ring_head = codes "  The graph whose official name is\nboard(2,2,0,0,1,0,0)\n  h
 
 -- ---- answers
 
-pub ring_listed : answer_of (request.List ring resume.Whole) [] ≡ Ok (ring_head ++ (first_blocks ++ last_blocks))
+pub ring_listed : answer_of (request.List ring resume.Whole) (Err Early) ≡ Ok (ring_head ++ (first_blocks ++ last_blocks))
 unfolding box digits name_of_vector displacements vectors_of_norm board_moves board_id family_graph list_from numbers_from blocks block arc_line head_text
 ring_listed = refl
 
 -- resumed after a name or a number of vertices: the blocks from there, without the head
 pub ring_resumed :
-    (answer_of (request.List ring (resume.After (codes "0.1"))) [] ≡ Ok last_blocks)
-    × (answer_of (request.List ring (resume.Skip 2)) [] ≡ Ok last_blocks)
-    × (answer_of (request.List ring (resume.Skip 5)) [] ≡ Ok [])
+    (answer_of (request.List ring (resume.After (codes "0.1"))) (Err Early) ≡ Ok last_blocks)
+    × (answer_of (request.List ring (resume.Skip 2)) (Err Early) ≡ Ok last_blocks)
+    × (answer_of (request.List ring (resume.Skip 5)) (Err Early) ≡ Ok [])
 unfolding box digits name_of_vector displacements vectors_of_norm board_moves board_id family_graph list_from numbers_from blocks block arc_line head_text
 ring_resumed = (refl, refl, refl)
 
 -- names, from the first one and after one; a name that no vertex has
 pub ring_names :
-    (answer_of (request.Names ring resume.Whole) [] ≡ Ok (codes "0.0\n0.1\n1.0\n1.1\n"))
-    × (answer_of (request.Names ring (resume.After (codes "1.0"))) [] ≡ Ok (codes "1.1\n"))
-    × (answer_of (request.Names ring (resume.After (codes "01.0"))) [] ≡ Err fault.NoVertex)
+    (answer_of (request.Names ring resume.Whole) (Err Early) ≡ Ok (codes "0.0\n0.1\n1.0\n1.1\n"))
+    × (answer_of (request.Names ring (resume.After (codes "1.0"))) (Err Early) ≡ Ok (codes "1.1\n"))
+    × (answer_of (request.Names ring (resume.After (codes "01.0"))) (Err Early) ≡ Err fault.NoVertex)
 unfolding box digits name_of_vector displacements vectors_of_norm board_moves board_id family_graph list_from name_lines
 ring_names = (refl, refl, refl)
 
 -- simplex(1,1,1,0,0,0,1): one arc, to the vector that has the unit at the first place
-pub unit_listed : answer_of (request.List (expr.Generator (generator.Simplex (record { n = pos 1; n0 = pos 1; n1 = pos 1; n2 = pos 0; n3 = pos 0; n4 = pos 0; directed = true }))) resume.Whole) []
+pub unit_listed : answer_of (request.List (expr.Generator (generator.Simplex (record { n = pos 1; n0 = pos 1; n1 = pos 1; n2 = pos 0; n3 = pos 0; n4 = pos 0; directed = true }))) resume.Whole) (Err Early)
     ≡ Ok (codes "  The graph whose official name is\nsimplex(1,1,1,0,0,0,1)\n  has 2 vertices and 1 arcs:\n\n0.1\n  -> 1.0, length 1\n1.0\n")
 unfolding box repeated digits name_of_vector bounded_sums has_great_count list_from simplex_id moves_of_simplex family_graph numbers_from blocks block arc_line head_text
 unit_listed = refl
 
 -- a graph that is refused
-pub great_piece : answer_of (request.Save (expr.Generator (squares (pos 2) (pos 2) (pos 1_000_000_000_000)))) [] ≡ Err (fault.Panic VeryBad)
+pub great_piece : answer_of (request.Save (expr.Generator (squares (pos 2) (pos 2) (pos 1_000_000_000_000)))) (Err Early) ≡ Err (fault.Panic VeryBad)
 great_piece = refl
 
 -- ---- standard input
 
--- the file of board(1,0,0,0,1,0,0), and a text that is no file
+-- the file of board(1,0,0,0,1,0,0)
+pub cell_is_stdin : IsStdinValue (text_of_lines one_cell_lines) (Ok one_cell)
+cell_is_stdin = inl (leb-true (length (text_of_lines one_cell_lines)) most_input refl, one_cell_read)
+
+pub no_file_is_stdin : IsStdinValue (codes "0\n") (Err Early)
+no_file_is_stdin = inl (leb-true 2 most_input refl, no_file_read)
+
+-- its answers, and those where standard input is no file
 pub stdin_read :
-    (answer_of (request.List expr.Stdin resume.Whole) (text_of_lines one_cell_lines)
+    (answer_of (request.List expr.Stdin resume.Whole) (Ok one_cell)
     ≡ Ok (codes "  The graph whose official name is\nboard(1,0,0,0,1,0,0)\n  has 1 vertices and 0 arcs:\n\n0\n"))
-    × (answer_of (request.Names expr.Stdin resume.Whole) (codes "0\n") ≡ Err (fault.Panic Early))
-unfolding stdin_value digits lines_among without_end_spaces weighted_sum unbroken more_fields_at all_at opening_of ends_from numbers_from blocks block arc_line head_text
+    × (answer_of (request.Names expr.Stdin resume.Whole) (Err Early) ≡ Err (fault.Panic Early))
+unfolding digits numbers_from blocks block arc_line head_text
 stdin_read = (refl, refl)
 
 -- ---- values
@@ -107,15 +113,14 @@ too_great = Generated (squares (pos 2) (pos 2) (pos 1_000_000_000_000))
 
 -- of two operands that are refused the first one's code
 pub refused_first :
-    (value_of [] (Gunion negative too_great false false) ≡ Err Bad)
-    × (value_of [] (Gunion too_great negative false false) ≡ Err VeryBad)
+    (value_of (Err Early) (Gunion negative too_great false false) ≡ Err Bad)
+    × (value_of (Err Early) (Gunion too_great negative false false) ≡ Err VeryBad)
 refused_first = (refl, refl)
 
 -- entries: each is a number or a graph; the first refusal among them
 pub entries_valued :
-    (values_of (text_of_lines one_cell_lines) (EntryThen (Number (negsuc 2)) (EntryThen (Graph Stdin) NoEntries)) ≡ Ok (entry.Merged 3 ∷ entry.Graph one_cell ∷ []))
-    × (values_of [] (EntryThen (Number (pos 1)) (EntryThen (Graph negative) (EntryThen (Graph too_great) NoEntries))) ≡ Err Bad)
-unfolding stdin_value lines_among without_end_spaces weighted_sum unbroken more_fields_at all_at opening_of ends_from numbers_from
+    (values_of (Ok one_cell) (EntryThen (Number (negsuc 2)) (EntryThen (Graph Stdin) NoEntries)) ≡ Ok (entry.Merged 3 ∷ entry.Graph one_cell ∷ []))
+    × (values_of (Err Early) (EntryThen (Number (pos 1)) (EntryThen (Graph negative) (EntryThen (Graph too_great) NoEntries))) ≡ Err Bad)
 entries_valued = (refl, refl)
 
 -- what a number stands for: so many copies, or merged vertex k of -k, at most 4,294,967,295 of either

@@ -6,7 +6,7 @@ use Rattle.std.proofs.lemmas.Result.{err_from_is_err_and}
 use Rattle.sgb_vec.specs.declared.panics.Panic.{Panic}
 use Rattle.sgb_vec.specs.declared.panics.Panic.TheVariants.{Early, NoRoom, Syntax}
 use Rattle.sgb_graph.specs.Graphs.{GraphData}
-use Rattle.sgb_file.specs.Restoring.{graph_of_text}
+use Rattle.sgb_file.specs.Refused.{HasNoOpening}
 use Rattle.sgb_expr.specs.Expression.{Expression, Generated, Complement, Gunion, Intersection, Lines, Product, Induced, BiComplete, Wheel, Stdin, expression_of}
 use Rattle.sgb_expr.specs.declared.expressions.Expr.{Expr}
 use Rattle.sgb_expr.specs.declared.expressions.Generator.{Generator}
@@ -56,7 +56,7 @@ long_refused input r more is p (inr h) =
     absurd (omega (arith, beyond, within))
 
 -- a text that is read
-pub text_refused : (input : List ℕ) (r : Result GraphData Panic) → nat_le (length input) most_input ≡ true → (graph_of_text input ≡ Err Early → r ≡ Err Early)
+pub text_refused : (input : List ℕ) (r : Result GraphData Panic) → nat_le (length input) most_input ≡ true → (HasNoOpening input → r ≡ Err Early)
     → (p : Panic) → IsInputRefused input p → r ≡ Err p
 text_refused input r fits early p (inl h) =
     let within = leb-true (length input) most_input fits in

@@ -3,8 +3,10 @@ use Rattle.std.proofs.Common.{◌≡◌, ◌||◌, ℕ, Bool, true, false, List,
 use Rattle.std.proofs.lemmas.Bool.{or_right}
 use Rattle.sgb_expr.specs.Expression.{Expression, Entries}
 use Rattle.sgb_expr.specs.StdinUses.{entries_have_stdin, has_stdin}
-use Rattle.sgb.specs.Values.{stdin_value, value_of, values_of}
+use Rattle.sgb.specs.Values.{value_of, values_of}
 use Rattle.sgb.specs.inner.Inputs.{left_after}
+use Rattle.sgb_vec.specs.declared.panics.Panic.{Panic}
+use Rattle.sgb_graph.specs.Graphs.{GraphData}
 use Rattle.sgb.proofs.StdinValues.{value_same, values_same}
 
 -- two evaluations, of which the first is told whether the second reads
@@ -21,14 +23,14 @@ left_whole more first second input reads = ap (λ b. left_after b first input) (
 
 module _ (more first again : Bool) (old mid : List ℕ) where
   -- an expression has the same value on what is left for it
-  pub value_on : (e : Expression) → again ≡ (more || has_stdin e) → mid ≡ left_after again first old → value_of mid e ≡ value_of old e
-  value_on e told left =
-      value_same mid old e (λ reads. ap stdin_value (left ∙ ap (λ b. left_after b first old) told ∙ left_whole more first (has_stdin e) old reads))
+  pub value_on : (stdin : List ℕ → Result GraphData Panic) (e : Expression) → again ≡ (more || has_stdin e) → mid ≡ left_after again first old → value_of (stdin mid) e ≡ value_of (stdin old) e
+  value_on stdin e told left =
+      value_same (stdin mid) (stdin old) e (λ reads. ap stdin (left ∙ ap (λ b. left_after b first old) told ∙ left_whole more first (has_stdin e) old reads))
 
   -- entries have the same values on what is left for them
-  pub values_on : (entries : Entries) → again ≡ (more || entries_have_stdin entries) → mid ≡ left_after again first old → values_of mid entries ≡ values_of old entries
-  values_on entries told left =
-      values_same mid old entries (λ reads. ap stdin_value (left ∙ ap (λ b. left_after b first old) told ∙ left_whole more first (entries_have_stdin entries) old reads))
+  pub values_on : (stdin : List ℕ → Result GraphData Panic) (entries : Entries) → again ≡ (more || entries_have_stdin entries) → mid ≡ left_after again first old → values_of (stdin mid) entries ≡ values_of (stdin old) entries
+  values_on stdin entries told left =
+      values_same (stdin mid) (stdin old) entries (λ reads. ap stdin (left ∙ ap (λ b. left_after b first old) told ∙ left_whole more first (entries_have_stdin entries) old reads))
 
   -- what both leave, of which the first was told whether the second reads
   pub left_on : (second : Bool) (new : List ℕ) → again ≡ (more || second) → mid ≡ left_after again first old → new ≡ left_after more second mid → new ≡ left_after more (first || second) old

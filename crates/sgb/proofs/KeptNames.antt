@@ -1,5 +1,5 @@
 -- Names that are kept from one vector to the next.
-use Rattle.std.proofs.Common.{rules, ◌≡◌, ◌∙◌, ◌+◌, ◌-◌, ◌*◌, ◌^◌, ◌<◌, ◌≤◌, ℕ, Bool, List, [], ◌∷◌, ◌++◌, nat_lt, length, take, drop, get_or, refl, sym, ap, ap₂, inl, inr, arith, append_assoc, length-append}
+use Rattle.std.proofs.Common.{rules, ◌≡◌, ◌∙◌, ◌+◌, ◌-◌, ◌*◌, ◌^◌, ◌<◌, ◌≤◌, ℕ, Bool, List, [], ◌∷◌, ◌++◌, nat_lt, length, take, drop, get_or, refl, ap, ap₂, arith, append_assoc, length-append}
 use Rattle.std.specs.List.{All}
 use Rattle.std.proofs.lemmas.Bool.{cases_lt}
 use Rattle.std.proofs.lemmas.List.{drop_at, get_or-append_right, get_or-take, get_or_append_left, length-drop, length-take-le, take-append-le, take-take, take_all, take_at}

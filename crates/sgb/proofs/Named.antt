@@ -1,5 +1,5 @@
 -- The first vertex of a name.
-use Rattle.std.proofs.Common.{◌≡◌, ◌∙◌, ◌+◌, ◌<◌, ℕ, Bool, true, false, nat_lt, nat_eq, List, [], length, Some, None, refl, ap, inl, inr, arith}
+use Rattle.std.proofs.Common.{◌≡◌, ◌∙◌, ◌+◌, ◌<◌, ℕ, Bool, true, false, nat_lt, nat_eq, List, [], length, Some, None, refl, ap, arith}
 use Rattle.std.specs.List.{position_or_len, slice_get, slice_index_or}
 use Rattle.std.specs.Cmp.Lexicographic.{pointwise}
 use Rattle.std.proofs.lemmas.Bool.Decides.{nat_tests}

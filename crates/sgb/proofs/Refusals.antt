@@ -1,7 +1,5 @@
 -- Parameters are refused for what they are: never out of memory.
-use Rattle.std.proofs.Common.{rules, ◌≡◌, ◌≢◌, ◌&&◌, not, nat_lt, length, ℕ, ℤ, pos, negsuc, Bool, true, false, cond, List, [], ◌∷◌, Option, Some, None, Result, Ok, Err, ap}
-use Rattle.std.specs.Prelude.{◌==◌, ◌||◌}
-use Rattle.std.specs.List.{list_any}
+use Rattle.std.proofs.Common.{rules, ◌≡◌, ◌≢◌, ◌&&◌, not, nat_lt, length, ℕ, ℤ, pos, negsuc, Bool, true, false, cond, List, [], ◌∷◌, Option, Some, None, Result, Ok, Err, ap, inl, inr, subst, sym}
 use Rattle.sgb_vec.specs.Bounds.{simplex_of}
 use Rattle.sgb_vec.specs.Boxes.{box_of}
 use Rattle.sgb_vec.specs.Limits.{most_vertices}
@@ -9,35 +7,27 @@ use Rattle.sgb_vec.specs.Results.{and_then}
 use Rattle.sgb_vec.specs.Sizes.{Normalized, before_stop, board_by_stop, board_of, stop_of}
 use Rattle.sgb_vec.specs.Sums.{BoundedSum, sum_of}
 use Rattle.sgb_vec.specs.declared.panics.Panic.{Panic}
-use Rattle.sgb_vec.specs.declared.panics.Panic.TheVariants.{Bad, Invalid, NoRoom, Syntax, VeryBad}
+use Rattle.sgb_vec.specs.declared.panics.Panic.TheVariants.{Bad, Early, Invalid, NoRoom, VeryBad}
 use Rattle.sgb_graph.specs.Graphs.{GraphData}
 use Rattle.sgb_gen.specs.Boards.{accepted_board, board}
 use Rattle.sgb_gen.specs.Simplexes.{accepted_simplex}
 use Rattle.sgb_gen.specs.Subsets.{accepted_subsets}
 use Rattle.sgb_gen.specs.declared.params.BoardParams.{BoardParams}
-use Rattle.sgb_ops.specs.BiComplete.{accepted_parts, bi_complete_of, with_parts}
-use Rattle.sgb_ops.specs.Boards.{pair_of_vertices, rim_of_wheel}
-use Rattle.sgb_ops.specs.Entries.{accepted_entries, is_too_great, is_unnumbered, total_of}
+use Rattle.sgb_ops.specs.BiComplete.{accepted_parts, bi_complete_of}
+use Rattle.sgb_ops.specs.Entries.{accepted_entries}
 use Rattle.sgb_ops.specs.Induced.{induced_of}
 use Rattle.sgb_ops.specs.Lines.{line_graph_of, accepted_lines, is_of_edges, lines_of_graph}
 use Rattle.sgb_graph.specs.Vertices.{order_of}
 use Rattle.sgb_ops.specs.Product.{product_graph_of}
-use Rattle.sgb_ops.specs.Wheel.{accepted_middle, wheel_of, with_wheel_id}
+use Rattle.sgb_ops.specs.Wheel.{accepted_middle, wheel_of}
 use Rattle.sgb_ops.specs.declared.entries.Entry.{Entry}
-use Rattle.sgb_ops.specs.declared.entries.Entry.TheVariants as entry
-use Rattle.sgb_graph.specs.Made.{graph_described}
 use Rattle.sgb_expr.specs.Expression.{Expression, Generated, Complement, Gunion, Intersection, Lines, Product, Induced, BiComplete, Wheel, Stdin, Entries, NoEntries, EntryThen, Number, Graph, expression_of}
 use Rattle.sgb_expr.specs.declared.expressions.Generator.{Generator}
 use Rattle.sgb_expr.specs.declared.expressions.Generator.TheVariants as generator
 use Rattle.sgb_expr.specs.declared.flips.FlipParams.{FlipParams}
-use Rattle.sgb_graph.specs.Draws.{modulus}
-use Rattle.sgb.specs.FlipAnswers.{accepted_draws, answer_of_draws, flip_answer, most_draws, number_within}
-use Rattle.sgb.specs.Outcomes.{answer_after, answer_from, answer_of, left_out, left_out_by, queen_moves, vertex_named}
-use Rattle.sgb_file.specs.Fields.{Found}
-use Rattle.sgb_file.specs.FileLines.{clean_lines}
-use Rattle.sgb_file.specs.Restoring.{Opening, closes, graph_after, graph_at_end, graph_of_opening, graph_of_records, graph_of_text, opening_of}
-use Rattle.sgb_graph.specs.Sound.{is_sound}
-use Rattle.sgb.specs.Values.{both, generator_value, stdin_value, value_of, values_of}
+use Rattle.sgb.specs.FlipAnswers.{accepted_draws, answer_of_draws, flip_answer, number_within}
+use Rattle.sgb.specs.Outcomes.{IsAnswered, answer_after, answer_from, answer_of, left_out, left_out_by, queen_moves, vertex_named}
+use Rattle.sgb.specs.Values.{IsStdinValue, both, generator_value, value_of, values_of}
 use Rattle.sgb_requests.specs.declared.faults.Fault.{Fault}
 use Rattle.sgb_requests.specs.declared.faults.Fault.TheVariants as fault
 use Rattle.sgb_requests.specs.declared.requests.Request.{Request}
@@ -140,27 +130,14 @@ middle_judged (pos n1) = either _ _ _ (refused VeryBad (λ e. cc)) (accepted _)
 wheel_judged : (n n1 : ℤ) (directed : Bool) → IsJudged (wheel_of n n1 directed)
 wheel_judged n n1 directed = search (rules, after, middle_judged, board_judged, induced_judged, accepted)
 
--- a text of a file
-text_judged : (text : List ℕ) → IsJudged (graph_of_text text)
-text_judged text = of_opening (opening_of (clean_lines text))
-  where
-    at_end : (ends sound : Bool) (g : GraphData) → IsJudged (graph_at_end ends sound g)
-    at_end false sound g = λ e. cc
-    at_end true false g = λ e. cc
-    at_end true true g = accepted _
-
-    of_records : (opening : Opening) (records : Option (Found GraphData)) → IsJudged (graph_after opening records)
-    of_records opening None = λ e. cc
-    of_records opening (Some found) = at_end (closes opening found.rest) (is_sound found.value) found.value
-
-    of_opening : (opening : Option Opening) → IsJudged (graph_of_opening opening)
-    of_opening None = λ e. cc
-    of_opening (Some opening) = of_records opening (graph_of_records opening)
-
--- standard input
-stdin_judged : (input : List ℕ) → IsJudged (stdin_value input)
-unfolding stdin_value
-stdin_judged input = either _ _ _ (text_judged input) (refused Syntax (λ e. cc))
+-- `stdin`
+stdin_judged : (input : List ℕ) (value : Result GraphData Panic) → IsStdinValue input value → IsJudged value
+stdin_judged input (Ok g) is = accepted g
+stdin_judged input (Err NoRoom) (inl h) = absurd h.1
+stdin_judged input (Err NoRoom) (inr h) =
+    let other = h.1 in
+    absurd cc
+stdin_judged input (Err _) is = λ e. cc
 
 -- two values
 both_judged : {T U : Type 0} (r : Result T Panic) (s : Result U Panic) → IsJudged r → IsJudged s → IsJudged (both r s)
@@ -168,34 +145,34 @@ both_judged r s p q = after r _ p (λ x. after s _ q (λ y. accepted _))
 
 mutual
   -- an expression
-  value_judged : (input : List ℕ) (e : Expression) → IsJudged (value_of input e)
-  value_judged input (Generated f) = after (generator_value f) _ (generator_judged f) (λ d. accepted _)
-  value_judged input (Complement e copy self_loops directed) = after _ _ (value_judged input e) (λ g. accepted _)
-  value_judged input (Gunion e f multi directed) = after _ _ (both_judged _ _ (value_judged input e) (value_judged input f)) (λ operands. accepted _)
-  value_judged input (Intersection e f multi directed) = after _ _ (both_judged _ _ (value_judged input e) (value_judged input f)) (λ operands. accepted _)
-  value_judged input (Lines e directed) =
-      after _ _ (value_judged input e) (λ g.
+  value_judged : (stdin : Result GraphData Panic) → IsJudged stdin → (e : Expression) → IsJudged (value_of stdin e)
+  value_judged stdin is (Generated f) = after (generator_value f) _ (generator_judged f) (λ d. accepted _)
+  value_judged stdin is (Complement e copy self_loops directed) = after _ _ (value_judged stdin is e) (λ g. accepted _)
+  value_judged stdin is (Gunion e f multi directed) = after _ _ (both_judged _ _ (value_judged stdin is e) (value_judged stdin is f)) (λ operands. accepted _)
+  value_judged stdin is (Intersection e f multi directed) = after _ _ (both_judged _ _ (value_judged stdin is e) (value_judged stdin is f)) (λ operands. accepted _)
+  value_judged stdin is (Lines e directed) =
+      after _ _ (value_judged stdin is e) (λ g.
       let lines = lines_of_graph g directed in
       after (line_graph_of g directed) _
       (after (accepted_lines g directed lines) _
       (either (not directed && not (is_of_edges g lines)) _ _ (refused Invalid (λ e. cc)) (either (nat_lt most_vertices (length lines)) _ _ (refused VeryBad (λ e. cc)) (accepted lines)))
       (λ ls. accepted _))
       (λ d. accepted _))
-  value_judged input (Product e f kind directed) =
-      after _ _ (both_judged _ _ (value_judged input e) (value_judged input f)) (λ operands. after (product_graph_of operands.0 operands.1 kind directed) _ (either _ _ _ (refused VeryBad (λ e. cc)) (accepted _)) (λ d. accepted _))
-  value_judged input (Induced e entries self_loops multi directed) =
-      after _ _ (both_judged _ _ (value_judged input e) (values_judged input entries)) (λ operands.
+  value_judged stdin is (Product e f kind directed) =
+      after _ _ (both_judged _ _ (value_judged stdin is e) (value_judged stdin is f)) (λ operands. after (product_graph_of operands.0 operands.1 kind directed) _ (either _ _ _ (refused VeryBad (λ e. cc)) (accepted _)) (λ d. accepted _))
+  value_judged stdin is (Induced e entries self_loops multi directed) =
+      after _ _ (both_judged _ _ (value_judged stdin is e) (values_judged stdin is entries)) (λ operands.
       after _ _ (induced_judged operands.0 operands.1 self_loops multi directed) (λ d. accepted _))
-  value_judged input (BiComplete n1 n2 directed) = after _ _ (bi_complete_judged n1 n2 directed) (λ d. accepted _)
-  value_judged input (Wheel n n1 directed) = after _ _ (wheel_judged n n1 directed) (λ d. accepted _)
-  value_judged input Stdin = stdin_judged input
+  value_judged stdin is (BiComplete n1 n2 directed) = after _ _ (bi_complete_judged n1 n2 directed) (λ d. accepted _)
+  value_judged stdin is (Wheel n n1 directed) = after _ _ (wheel_judged n n1 directed) (λ d. accepted _)
+  value_judged stdin is Stdin = is
 
   -- entries
-  values_judged : (input : List ℕ) (entries : Entries) → IsJudged (values_of input entries)
-  values_judged input NoEntries = accepted _
-  values_judged input (EntryThen (Number n) others) = after _ _ (both_judged _ _ (accepted _) (values_judged input others)) (λ p. accepted _)
-  values_judged input (EntryThen (Graph e) others) =
-      after _ _ (both_judged _ _ (after _ _ (value_judged input e) (λ g. accepted _)) (values_judged input others)) (λ p. accepted _)
+  values_judged : (stdin : Result GraphData Panic) → IsJudged stdin → (entries : Entries) → IsJudged (values_of stdin entries)
+  values_judged stdin is NoEntries = accepted _
+  values_judged stdin is (EntryThen (Number n) others) = after _ _ (both_judged _ _ (accepted _) (values_judged stdin is others)) (λ p. accepted _)
+  values_judged stdin is (EntryThen (Graph e) others) =
+      after _ _ (both_judged _ _ (after _ _ (value_judged stdin is e) (λ g. accepted _)) (values_judged stdin is others)) (λ p. accepted _)
 
 -- ---- flips
 
@@ -249,11 +226,14 @@ flip_own p = from_draws (accepted_draws p) (draws_judged p)
         h (ap Err same)
 
 -- the answer of a request is its output or its own refusal, never out of memory
-pub answer_own : (r : Request) (input : List ℕ) → answer_of r input ≢ Err (fault.Panic NoRoom)
-answer_own (request.Names e resume) input =
-    from_own (value_of input (expression_of e)) _ (value_judged input (expression_of e)) (λ d. skipped_own _ _ (left_out_own _ resume))
-answer_own (request.List e resume) input =
-    from_own (value_of input (expression_of e)) _ (value_judged input (expression_of e)) (λ d. skipped_own _ _ (left_out_own _ resume))
-answer_own (request.Save e) input = from_own (value_of input (expression_of e)) _ (value_judged input (expression_of e)) (λ g. λ e. cc)
-answer_own request.Queen input = from_own (value_of [] queen_moves) _ (value_judged [] queen_moves) (λ g. λ e. cc)
-answer_own (request.Flip p) input = flip_own p
+answer_judged : (r : Request) (stdin : Result GraphData Panic) → IsJudged stdin → IsOwn (answer_of r stdin)
+answer_judged (request.Names e resume) stdin is =
+    from_own (value_of stdin (expression_of e)) _ (value_judged stdin is (expression_of e)) (λ d. skipped_own _ _ (left_out_own _ resume))
+answer_judged (request.List e resume) stdin is =
+    from_own (value_of stdin (expression_of e)) _ (value_judged stdin is (expression_of e)) (λ d. skipped_own _ _ (left_out_own _ resume))
+answer_judged (request.Save e) stdin is = from_own (value_of stdin (expression_of e)) _ (value_judged stdin is (expression_of e)) (λ g. λ e. cc)
+answer_judged request.Queen stdin is = from_own (value_of (Err Early) queen_moves) _ (value_judged (Err Early) (λ e. cc) queen_moves) (λ g. λ e. cc)
+answer_judged (request.Flip p) stdin is = flip_own p
+
+pub answer_own : (r : Request) (input : List ℕ) (answer : Result (List ℕ) Fault) → IsAnswered r input answer → IsOwn answer
+answer_own r input answer (stdin, is, e) = subst IsOwn (sym e) (answer_judged r stdin (stdin_judged input stdin is))

@@ -1,13 +1,14 @@
 -- What standard input is read for: answers depend on it only through the graph that it is a file of, and only where a request
 -- reads it.
-use Rattle.std.proofs.Common.{rules, ◌≡◌, ◌<◌, ◌+◌, ℕ, true, false, cond, inl, inr, nat_le, List, ◌∷◌, length, take, Option, Some, None, IfSome, Result, Ok, Err, refl, sym, ap, ap₂, subst, ◌∙◌, arith}
-use Rattle.std.proofs.lemmas.Bool.{both_ways, cases_Bool, cond-false, cond-true, leb-true, leb-false, lt-leb, or_left, or_right}
+use Rattle.std.proofs.Common.{◌≡◌, ◌⊎◌, ◌≤◌, ◌<◌, ◌+◌, ℕ, Bool, true, false, cond, inl, inr, nat_le, List, ◌∷◌, length, take, Option, Some, None, IfSome, Result, Ok, Err, refl, sym, ap, ap₂, subst, ◌∙◌, arith}
+use Rattle.std.proofs.lemmas.Bool.{both_ways, cond-false, cond-true, leb-true, leb-false, or_left, or_right}
 use Rattle.std.proofs.lemmas.List.{length-take-le, take_all}
 use Rattle.sgb_vec.specs.Results.{and_then, IsValue}
 use Rattle.sgb_vec.specs.declared.panics.Panic.{Panic}
-use Rattle.sgb_vec.specs.declared.panics.Panic.TheVariants.{Syntax}
+use Rattle.sgb_vec.specs.declared.panics.Panic.TheVariants.{NoRoom, Syntax}
 use Rattle.sgb_graph.specs.Graphs.{GraphData}
-use Rattle.sgb_file.specs.Restoring.{graph_of_text}
+use Rattle.sgb_file.specs.Refused.{IsRestoredAs}
+use Rattle.sgb_file.proofs.RefusedTexts.{a_reader, restored_same}
 use Rattle.sgb_ops.specs.Complement.{complement_of}
 use Rattle.sgb_ops.specs.Gunion.{gunion_of}
 use Rattle.sgb_ops.specs.Intersection.{intersection_of}
@@ -18,49 +19,87 @@ use Rattle.sgb_graph.specs.Vertices.{names_of}
 use Rattle.sgb_expr.specs.Expression.{Expression, Generated, Complement, Gunion, Intersection, Lines, Product, Induced, BiComplete, Wheel, Stdin, Entry, Number, Graph, Entries, NoEntries, EntryThen, expression_of}
 use Rattle.sgb_expr.specs.StdinUses.{entries_have_stdin, entry_has_stdin, has_stdin}
 use Rattle.sgb_file.specs.Saving.{text_of_graph}
-use Rattle.sgb_file.specs.Devices.{Change}
 use Rattle.sgb.specs.Inputs.{IsKeptOfInput}
-use Rattle.sgb.specs.Outcomes.{answer_from, answer_of, list_answer, names_answer, reads_input}
-use Rattle.sgb.specs.Runs.{Input, IsRunFrom, IsRunOn, fails_to_read}
-use Rattle.sgb.specs.Values.{both, entry_value, made, most_input, stdin_value, value_of, values_of}
+use Rattle.sgb.specs.Outcomes.{IsAnswered, answer_from, answer_of, list_answer, names_answer, reads_input}
+use Rattle.sgb.specs.Values.{IsStdinValue, IsValueOn, both, entry_value, generator_value, made, most_input, value_of, values_of}
+use Rattle.sgb.specs.inner.StdinValues.{GivesStdin}
+use Rattle.sgb_requests.specs.declared.faults.Fault.{Fault}
 use Rattle.sgb_ops.specs.declared.entries.Entry.TheVariants as entry
+use Rattle.sgb_expr.specs.declared.expressions.Expr.{Expr}
+use Rattle.sgb_expr.specs.declared.expressions.Expr.TheVariants as expr
+use Rattle.sgb_expr.specs.declared.expressions.Generator.{Generator}
+use Rattle.sgb_requests.specs.declared.requests.Resume.{Resume}
 use Rattle.sgb_requests.specs.declared.requests.Request.{Request}
 use Rattle.sgb_requests.specs.declared.requests.Request.TheVariants as request
 
--- the graph of a text of at most so many bytes
-abbrev value_within : ℕ → List ℕ → Result GraphData Panic
-value_within most text = cond (nat_le (length text) most) (graph_of_text text) (Err Syntax)
-
--- a longer text
-too_long : (most : ℕ) (text : List ℕ) → most < length text → value_within most text ≡ Err Syntax
-too_long most text h = cond-false (nat_le (length text) most) (graph_of_text text) (Err Syntax) (lt-leb (length text) most h)
+-- what a text is read as, where it has at most so many bytes; a longer one is refused
+abbrev IsWithin : ℕ → List ℕ → Result GraphData Panic → Type 0
+IsWithin most text value = ((length text ≤ most) × IsRestoredAs text value) ⊎ ((most < length text) × (value ≡ Err Syntax))
 
 -- a text and what is kept of it
-cut_alike : (most : ℕ) (text : List ℕ) → value_within most (take (most + 1) text) ≡ value_within most text
-cut_alike most text = search (rules, cases_Bool, leb-true, take_all, leb-false, length-take-le, too_long)
+cut_alike : (most : ℕ) (text : List ℕ) (v w : Result GraphData Panic) → IsWithin most (take (most + 1) text) v → IsWithin most text w → v ≡ w
+cut_alike most text v w (inl (h, is)) (inl (k, also)) =
+    let whole = take_all (most + 1) text (omega (arith, k)) in
+    restored_same text v w (subst (λ t. IsRestoredAs t v) whole is) also
+cut_alike most text v w (inl (h, is)) (inr (k, e)) =
+    let size = length-take-le (most + 1) text (omega (arith, k)) in
+    absurd (omega (arith, h, size))
+cut_alike most text v w (inr (h, e)) (inl (k, is)) =
+    let whole = ap length (take_all (most + 1) text (omega (arith, k))) in
+    absurd (omega (arith, h, k, whole))
+cut_alike most text v w (inr (h, e)) (inr (k, f)) = e ∙ sym f
 
--- standard input and what is kept of it
-pub stdin_cut : (input : List ℕ) → stdin_value (take (most_input + 1) input) ≡ stdin_value input
-unfolding stdin_value
-stdin_cut input = cut_alike most_input input
+-- `stdin` has one value
+pub stdin_same : (input : List ℕ) (v w : Result GraphData Panic) → IsStdinValue input v → IsStdinValue input w → v ≡ w
+stdin_same input v w (inl (h, is)) (inl (k, also)) = restored_same input v w is also
+stdin_same input v w (inl (h, is)) (inr (k, e)) = absurd (omega (arith, h, k))
+stdin_same input v w (inr (h, e)) (inl (k, is)) = absurd (omega (arith, h, k))
+stdin_same input v w (inr (h, e)) (inr (k, f)) = e ∙ sym f
+
+-- so it has on what is kept of standard input
+pub stdin_cut : (stdin : List ℕ → Result GraphData Panic) → GivesStdin stdin → (input : List ℕ) → stdin (take (most_input + 1) input) ≡ stdin input
+stdin_cut stdin gives input = cut_alike most_input input (stdin (take (most_input + 1) input)) (stdin input) (gives (take (most_input + 1) input)) (gives input)
+
+-- a function that gives it, by one that reads texts
+abbrev value_within : (List ℕ → Result GraphData Panic) → ℕ → List ℕ → Result GraphData Panic
+value_within read most text = cond (nat_le (length text) most) (read text) (Err Syntax)
+
+is_within : (read : List ℕ → Result GraphData Panic) → ((text : List ℕ) → IsRestoredAs text (read text)) → (most : ℕ) (text : List ℕ) → IsWithin most text (value_within read most text)
+is_within read is most text = by_length (nat_le (length text) most) refl
+  where
+    by_length : (fits : Bool) → nat_le (length text) most ≡ fits → IsWithin most text (value_within read most text)
+    by_length true h = inl (leb-true (length text) most h, subst (IsRestoredAs text) (sym (cond-true (nat_le (length text) most) (read text) (Err Syntax) h)) (is text))
+    by_length false h = inr (leb-false (length text) most h, cond-false (nat_le (length text) most) (read text) (Err Syntax) h)
+
+pub stdin_given : (stdin : List ℕ → Result GraphData Panic) × GivesStdin stdin
+stdin_given =
+    let (read, is) = a_reader in
+    (value_within read most_input, is_within read is most_input)
 
 -- a text that is too long
-pub stdin_long : (input : List ℕ) → nat_le (length input) most_input ≡ false → stdin_value input ≡ Err Syntax
-unfolding stdin_value
-stdin_long input more = cond-false (nat_le (length input) most_input) (graph_of_text input) (Err Syntax) more
+pub stdin_long : (input : List ℕ) (v : Result GraphData Panic) → nat_le (length input) most_input ≡ false → IsStdinValue input v → v ≡ Err Syntax
+stdin_long input v more (inl (h, is)) =
+    let beyond = leb-false (length input) most_input more in
+    absurd (omega (arith, h, beyond))
+stdin_long input v more (inr (h, e)) = e
 
--- a text that is read
-pub stdin_read : (input : List ℕ) (r : Result GraphData Panic) → nat_le (length input) most_input ≡ true → IsValue (graph_of_text input) r → IsValue (stdin_value input) r
-unfolding stdin_value
-stdin_read input r fits is = grind (arith, cond-true)
+-- what is read of a text that is not, or want of memory
+pub stdin_read : (input : List ℕ) (v r : Result GraphData Panic) → nat_le (length input) most_input ≡ true → IsRestoredAs input r ⊎ (r ≡ Err NoRoom) → IsStdinValue input v → IsValue v r
+stdin_read input v (Ok g) fits (inl read) (inl (h, is)) = restored_same input v (Ok g) is read
+stdin_read input v (Err p) fits (inl read) (inl (h, is)) = inl (restored_same input v (Err p) is read)
+stdin_read input v (Ok g) fits (inr none) is = absurd cc
+stdin_read input v (Err p) fits (inr none) is = inr cc
+stdin_read input v r fits read (inr (h, e)) =
+    let within = leb-true (length input) most_input fits in
+    absurd (omega (arith, h, within))
 
 -- two values that are the same, one after the other
 both_same : {T U : Type 0} (p p' : Result T Panic) (q q' : Result U Panic) → p ≡ p' → q ≡ q' → both p q ≡ both p' q'
 both_same p p' q q' e f = ap₂ (λ x y. both x y) e f
 
 mutual
-  -- the graph of an expression, on two texts that are files of the same graph, or where it does not read
-  pub value_same : (a b : List ℕ) (e : Expression) → (has_stdin e ≡ true → stdin_value a ≡ stdin_value b) → value_of a e ≡ value_of b e
+  -- the graph of an expression, where `stdin` has the same value, or where it does not read
+  pub value_same : (a b : Result GraphData Panic) (e : Expression) → (has_stdin e ≡ true → a ≡ b) → value_of a e ≡ value_of b e
   value_same a b (Generated f) same = refl
   value_same a b (Complement e copy self_loops directed) same =
       ap (λ v. and_then v (λ g. made (complement_of g copy self_loops directed))) (value_same a b e same)
@@ -79,19 +118,19 @@ mutual
   value_same a b Stdin same = same refl
 
   -- the value of an entry
-  entry_same : (a b : List ℕ) (entry : Entry) → (entry_has_stdin entry ≡ true → stdin_value a ≡ stdin_value b) → entry_value a entry ≡ entry_value b entry
+  entry_same : (a b : Result GraphData Panic) (entry : Entry) → (entry_has_stdin entry ≡ true → a ≡ b) → entry_value a entry ≡ entry_value b entry
   entry_same a b (Number n) same = refl
   entry_same a b (Graph e) same = ap (λ v. and_then v (λ g. Ok (entry.Graph g))) (value_same a b e same)
 
   -- the values of entries
-  pub values_same : (a b : List ℕ) (entries : Entries) → (entries_have_stdin entries ≡ true → stdin_value a ≡ stdin_value b) → values_of a entries ≡ values_of b entries
+  pub values_same : (a b : Result GraphData Panic) (entries : Entries) → (entries_have_stdin entries ≡ true → a ≡ b) → values_of a entries ≡ values_of b entries
   values_same a b NoEntries same = refl
   values_same a b (EntryThen first others) same =
       ap (λ v. and_then v (λ p. Ok (p.0 ∷ p.1)))
       (both_same _ _ _ _ (entry_same a b first (λ h. same (or_left _ _ h))) (values_same a b others (λ h. same (or_right _ _ h))))
 
 -- the answer of a request
-answer_same : (r : Request) (a b : List ℕ) → (reads_input r ≡ true → stdin_value a ≡ stdin_value b) → answer_of r a ≡ answer_of r b
+answer_same : (r : Request) (a b : Result GraphData Panic) → (reads_input r ≡ true → a ≡ b) → answer_of r a ≡ answer_of r b
 answer_same (request.Names e resume) a b same =
     ap (λ v. answer_from v (λ g. names_answer (names_of g) resume)) (value_same a b (expression_of e) same)
 answer_same (request.List e resume) a b same = ap (λ v. answer_from v (λ g. list_answer g resume)) (value_same a b (expression_of e) same)
@@ -99,18 +138,68 @@ answer_same (request.Save e) a b same = ap (λ v. answer_from v (λ g. Ok (text_
 answer_same request.Queen a b same = refl
 answer_same (request.Flip p) a b same = refl
 
--- a request that reads no input has the same answer on every input
-pub answer_unread : (r : Request) (a b : List ℕ) → reads_input r ≡ false → answer_of r a ≡ answer_of r b
+-- a request that reads no input has the same answer whatever `stdin` is
+pub answer_unread : (r : Request) (a b : Result GraphData Panic) → reads_input r ≡ false → answer_of r a ≡ answer_of r b
 answer_unread r a b unread = answer_same r a b (λ reads. absurd (both_ways (reads_input r) unread reads))
 
--- what is kept of standard input is as good as all of it
-pub run_on : (r : Request) (source : Input) (kept : List ℕ) (same : Type 0) (out err : Change) (status : ℕ) → (reads_input r ≡ true → IsKeptOfInput source.bytes kept)
-    → IsRunFrom (fails_to_read r source) (answer_of r kept) same out err status → IsRunOn r source same out err status
-run_on r source kept same out err status is run = by_told source.bytes is
-  where
-    by_told : (told : Option (List ℕ)) → (reads_input r ≡ true → IsKeptOfInput told kept)
-        → (held : List ℕ) × IfSome told (λ bytes. held ≡ bytes) × IsRunFrom (fails_to_read r source) (answer_of r held) same out err status
-    by_told None is = (kept, tt, run)
-    by_told (Some bytes) is =
-        let alike = answer_same r kept bytes (λ reads. ap stdin_value (is reads) ∙ stdin_cut bytes) in
-        (bytes, refl, subst (λ a. IsRunFrom (fails_to_read r source) a same out err status) alike run)
+-- the value of an expression by such a function, and that of a generator
+pub value_given : (stdin : List ℕ → Result GraphData Panic) → GivesStdin stdin → (input : List ℕ) (e : Expression) → IsValueOn input e (value_of (stdin input) e)
+value_given stdin gives input e = (stdin input, gives input, refl)
+
+pub generated_on : (input : List ℕ) (e : Expr) (f : Generator) → e ≡ expr.Generator f → IsValueOn input (expression_of e) (made (generator_value f))
+generated_on input e f is =
+    let (stdin, gives) = stdin_given in
+    (stdin input, gives input, sym (ap (λ (x : Expr). value_of (stdin input) (expression_of x)) is))
+
+-- there is one value, and one answer
+pub value_only : (input : List ℕ) (e : Expression) (v w : Result GraphData Panic) → IsValueOn input e v → IsValueOn input e w → v ≡ w
+value_only input e v w (r, is, alike) (s, also, same) = alike ∙ ap (λ x. value_of x e) (stdin_same input r s is also) ∙ sym same
+
+pub answer_only : (r : Request) (input : List ℕ) (a b : Result (List ℕ) Fault) → IsAnswered r input a → IsAnswered r input b → a ≡ b
+answer_only r input a b (v, is, alike) (w, also, same) = alike ∙ ap (answer_of r) (stdin_same input v w is also) ∙ sym same
+
+-- what is kept of standard input is as good as all of it: for an expression
+pub kept_value : (told : Option (List ℕ)) (kept : List ℕ) (e : Expression) → (has_stdin e ≡ true → IsKeptOfInput told kept)
+    → (held : List ℕ) × IfSome told (λ bytes. held ≡ bytes) × (value : Result GraphData Panic) × IsValueOn held e value × IsValueOn kept e value
+kept_value None kept e is =
+    let (stdin, gives) = stdin_given in
+    (kept, tt, value_of (stdin kept) e, value_given stdin gives kept e, value_given stdin gives kept e)
+kept_value (Some bytes) kept e is =
+    let (stdin, gives) = stdin_given in
+    let alike = value_same (stdin bytes) (stdin kept) e (λ reads. sym (ap stdin (is reads) ∙ stdin_cut stdin gives bytes)) in
+    (bytes, refl, value_of (stdin bytes) e, value_given stdin gives bytes e, (stdin kept, gives kept, alike))
+
+-- and for a request
+pub kept_answer : (told : Option (List ℕ)) (kept : List ℕ) (r : Request) → (reads_input r ≡ true → IsKeptOfInput told kept)
+    → (held : List ℕ) × IfSome told (λ bytes. held ≡ bytes) × (answer : Result (List ℕ) Fault) × IsAnswered r held answer × IsAnswered r kept answer
+kept_answer None kept r is =
+    let (stdin, gives) = stdin_given in
+    (kept, tt, answer_of r (stdin kept), (stdin kept, gives kept, refl), (stdin kept, gives kept, refl))
+kept_answer (Some bytes) kept r is =
+    let (stdin, gives) = stdin_given in
+    let alike = answer_same r (stdin bytes) (stdin kept) (λ reads. sym (ap stdin (is reads) ∙ stdin_cut stdin gives bytes)) in
+    (bytes, refl, answer_of r (stdin bytes), (stdin bytes, gives bytes, refl), (stdin kept, gives kept, alike))
+
+-- ---- answers
+
+-- of names, of a listing, of a file
+pub names_answered : (r : Request) (e : Expr) (resume : Resume) (input : List ℕ) (value : Result GraphData Panic) → r ≡ request.Names e resume → IsValueOn input (expression_of e) value
+    → IsAnswered r input (answer_from value (λ g. names_answer (names_of g) resume))
+names_answered r e resume input value is (stdin, says, same) =
+    (stdin, says, ap (λ v. answer_from v (λ g. names_answer (names_of g) resume)) same ∙ sym (ap (λ (x : Request). answer_of x stdin) is))
+
+pub list_answered : (r : Request) (e : Expr) (resume : Resume) (input : List ℕ) (value : Result GraphData Panic) → r ≡ request.List e resume → IsValueOn input (expression_of e) value
+    → IsAnswered r input (answer_from value (λ g. list_answer g resume))
+list_answered r e resume input value is (stdin, says, same) =
+    (stdin, says, ap (λ v. answer_from v (λ g. list_answer g resume)) same ∙ sym (ap (λ (x : Request). answer_of x stdin) is))
+
+pub save_answered : (r : Request) (e : Expr) (input : List ℕ) (value : Result GraphData Panic) → r ≡ request.Save e → IsValueOn input (expression_of e) value
+    → IsAnswered r input (answer_from value (λ g. Ok (text_of_graph g)))
+save_answered r e input value is (stdin, says, same) =
+    (stdin, says, ap (λ v. answer_from v (λ g. Ok (text_of_graph g))) same ∙ sym (ap (λ (x : Request). answer_of x stdin) is))
+
+-- of a request whose answer is the same whatever `stdin` is
+pub plain_answered : (r : Request) (input : List ℕ) (answer : Result (List ℕ) Fault) → ((stdin : Result GraphData Panic) → answer_of r stdin ≡ answer) → IsAnswered r input answer
+plain_answered r input answer is =
+    let (stdin, gives) = stdin_given in
+    (stdin input, gives input, sym (is (stdin input)))

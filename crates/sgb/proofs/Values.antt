@@ -1,5 +1,5 @@
 -- Values of expressions, from those of their operands.
-use Rattle.std.proofs.Common.{◌≡◌, ◌+◌, ℕ, List, Result, Ok, Err, ap, refl, sym, subst, inl, inr}
+use Rattle.std.proofs.Common.{◌≡◌, ◌+◌, ℕ, Result, Ok, Err, ap, refl, sym, subst, inl, inr}
 use Rattle.sgb_vec.specs.Results.{and_then, IsValue}
 use Rattle.sgb_vec.specs.declared.panics.Panic.{Panic}
 use Rattle.sgb_graph.specs.Descriptions.{Description, IsAnswerOf}
@@ -32,14 +32,14 @@ both_refused first second x p e (inl f) = inl (rw (e, f) refl)
 both_refused first second x p e (inr f) = inr f
 
 -- the value of an operation on an operand that stands in a box, and on two
-pub value_one : (make : GraphData → Result Description Panic) (input : List ℕ) (e f : Expr) (g : GraphData) (r : Result GraphData Panic) → e ≡ f → value_of input (expression_of e) ≡ Ok g
-    → IsAnswerOf (make g) r → IsValue (and_then (value_of input (expression_of f)) (λ x. made (make x))) r
-value_one make input e f g r same is answer = rw (← same, is) (value_made (make g) r answer)
+pub value_one : (make : GraphData → Result Description Panic) (stdin : Result GraphData Panic) (e f : Expr) (g : GraphData) (r : Result GraphData Panic) → e ≡ f → value_of stdin (expression_of e) ≡ Ok g
+    → IsAnswerOf (make g) r → IsValue (and_then (value_of stdin (expression_of f)) (λ x. made (make x))) r
+value_one make stdin e f g r same is answer = rw (← same, is) (value_made (make g) r answer)
 
-pub value_two : (make : GraphData → GraphData → Result Description Panic) (input : List ℕ) (e f e' f' : Expr) (operands : GraphData × GraphData) (r : Result GraphData Panic) → e ≡ e' → f ≡ f'
-    → both (value_of input (expression_of e)) (value_of input (expression_of f)) ≡ Ok operands
-    → IsAnswerOf (make operands.0 operands.1) r → IsValue (and_then (both (value_of input (expression_of e')) (value_of input (expression_of f'))) (λ x. made (make x.0 x.1))) r
-value_two make input e f e' f' operands r same alike is answer = rw (← same, ← alike, is) (value_made (make operands.0 operands.1) r answer)
+pub value_two : (make : GraphData → GraphData → Result Description Panic) (stdin : Result GraphData Panic) (e f e' f' : Expr) (operands : GraphData × GraphData) (r : Result GraphData Panic) → e ≡ e' → f ≡ f'
+    → both (value_of stdin (expression_of e)) (value_of stdin (expression_of f)) ≡ Ok operands
+    → IsAnswerOf (make operands.0 operands.1) r → IsValue (and_then (both (value_of stdin (expression_of e')) (value_of stdin (expression_of f'))) (λ x. made (make x.0 x.1))) r
+value_two make stdin e f e' f' operands r same alike is answer = rw (← same, ← alike, is) (value_made (make operands.0 operands.1) r answer)
 
 abbrev mutual
   -- how large an expression is: larger than its operands together

@@ -1,11 +1,11 @@
 -- What a request is answered with whatever memory there is.
-use Rattle.std.specs.Prelude.{◌≡◌, ◌⊎◌, ◌≤◌, ◌<◌, ℕ, false, List, length, Ok, Err}
+use Rattle.std.specs.Prelude.{◌≡◌, ◌⊎◌, ◌≤◌, ◌<◌, ℕ, false, List, length, Result, Ok, Err}
 use Rattle.sgb_vec.specs.Bounds.{simplex_of}
 use Rattle.sgb_vec.specs.declared.panics.Panic.{Panic}
 use Rattle.sgb_vec.specs.declared.panics.Panic.TheVariants.{Early, Syntax}
 use Rattle.sgb_graph.specs.Graphs.{GraphData}
 use Rattle.sgb_file.specs.Devices.{Change}
-use Rattle.sgb_file.specs.Restoring.{graph_of_text}
+use Rattle.sgb_file.specs.Refused.{HasNoOpening}
 use Rattle.sgb_gen.specs.Boards.{board}
 use Rattle.sgb_gen.specs.declared.params.BoardParams.{BoardParams}
 use Rattle.sgb_ops.specs.BiComplete.{accepted_parts}
@@ -36,7 +36,7 @@ IsGeneratorRefused (generator.Subsets p) code = simplex_of p.n p.n0 p.n1 p.n2 p.
 abbrev pub IsInputRefused : List ℕ → Panic → Type 0
 IsInputRefused input code =
     ((most_input < length input) × (code ≡ Syntax))
-    ⊎ ((length input ≤ most_input) × (graph_of_text input ≡ Err Early) × (code ≡ Early))
+    ⊎ ((length input ≤ most_input) × HasNoOpening input × (code ≡ Early))
 
 -- an expression is refused with this code before memory is taken, where this is standard input: its operand that is made first
 -- is, or it has none, and its own numbers are
@@ -84,4 +84,4 @@ NeedsNoMemory (request.Flip p) = Unit {0}
 -- and the status of its refusal
 abbrev pub IsCertain : Request → Change → Change → ℕ → Type 0
 IsCertain r out err status = NeedsNoMemory r → out.failed ≡ false
-    → (input : List ℕ) → IsGiven (outcome_of (answer_of r input)) out err status
+    → (stdin : Result GraphData Panic) → IsGiven (outcome_of (answer_of r stdin)) out err status

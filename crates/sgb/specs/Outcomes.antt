@@ -1,8 +1,9 @@
 -- What a request is answered with: the output, the line on standard error, and the exit status.
-use Rattle.std.specs.Prelude.{ℕ, suc, ℤ, pos, neg_ℤ, Bool, false, codes, List, [], ◌++◌, Option, Some, None, Result, Ok, Err, nat_eq}
+use Rattle.std.specs.Prelude.{◌≡◌, ℕ, suc, ℤ, pos, neg_ℤ, Bool, false, codes, List, [], ◌++◌, Option, Some, None, Result, Ok, Err, nat_eq}
 use Rattle.std.specs.List.{position}
 use Rattle.std.specs.Cmp.Lexicographic.{pointwise}
 use Rattle.sgb_vec.specs.declared.panics.Panic.{Panic}
+use Rattle.sgb_vec.specs.declared.panics.Panic.TheVariants.{Early}
 use Rattle.sgb_graph.specs.Graphs.{GraphData}
 use Rattle.sgb_graph.specs.Vertices.{names_of}
 use Rattle.sgb_expr.specs.Expression.{Expression, Generated, Gunion, expression_of}
@@ -13,7 +14,7 @@ use Rattle.sgb_file.specs.Saving.{text_of_graph}
 use Rattle.sgb_requests.specs.Faults.{status_of, fault_line}
 use Rattle.sgb.specs.FlipAnswers.{flip_answer}
 use Rattle.sgb.specs.Texts.{name_lines, head, blocks}
-use Rattle.sgb.specs.Values.{value_of}
+use Rattle.sgb.specs.Values.{IsStdinValue, value_of}
 use Rattle.sgb_requests.specs.declared.faults.Fault.{Fault}
 use Rattle.sgb_requests.specs.declared.faults.Fault.TheVariants as fault
 use Rattle.sgb_requests.specs.declared.requests.Request.{Request}
@@ -81,13 +82,17 @@ reads_input (request.Save e) = has_stdin (expression_of e)
 reads_input request.Queen = false
 reads_input (request.Flip p) = false
 
--- the output of a request where this is standard input, or the fault that refuses it
-abbrev pub answer_of : Request → List ℕ → Result (List ℕ) Fault
-answer_of (request.Names e resume) input = answer_from (value_of input (expression_of e)) (λ g. names_answer (names_of g) resume)
-answer_of (request.List e resume) input = answer_from (value_of input (expression_of e)) (λ g. list_answer g resume)
-answer_of (request.Save e) input = answer_from (value_of input (expression_of e)) (λ g. Ok (text_of_graph g))
-answer_of request.Queen input = answer_from (value_of [] queen_moves) (λ g. Ok (queen_title ++ (head g ++ blocks g 0)))
-answer_of (request.Flip p) input = flip_answer p
+-- the output of a request where `stdin` has this value, or the fault that refuses it (`queen` has no `stdin`, and any value would do)
+abbrev pub answer_of : Request → Result GraphData Panic → Result (List ℕ) Fault
+answer_of (request.Names e resume) stdin = answer_from (value_of stdin (expression_of e)) (λ g. names_answer (names_of g) resume)
+answer_of (request.List e resume) stdin = answer_from (value_of stdin (expression_of e)) (λ g. list_answer g resume)
+answer_of (request.Save e) stdin = answer_from (value_of stdin (expression_of e)) (λ g. Ok (text_of_graph g))
+answer_of request.Queen stdin = answer_from (value_of (Err Early) queen_moves) (λ g. Ok (queen_title ++ (head g ++ blocks g 0)))
+answer_of (request.Flip p) stdin = flip_answer p
+
+-- the answer to a request where standard input has these bytes
+abbrev pub IsAnswered : Request → List ℕ → Result (List ℕ) Fault → Type 0
+IsAnswered r input answer = (value : Result GraphData Panic) × IsStdinValue input value × (answer ≡ answer_of r value)
 
 -- output, line on standard error, and exit status
 pub record Outcome : Type 0 where

@@ -4,7 +4,7 @@ use Rattle.std.specs.Bool.{MatchBool}
 use Rattle.std.specs.Io.KnownBytes.{Appends}
 use Rattle.sgb_vec.specs.declared.panics.Panic.TheVariants.{NoRoom}
 use Rattle.sgb.specs.Inputs.{IsKeptOfInput}
-use Rattle.sgb.specs.Outcomes.{Outcome, answer_of, outcome_of, reads_input}
+use Rattle.sgb.specs.Outcomes.{IsAnswered, Outcome, outcome_of, reads_input}
 use Rattle.sgb_file.specs.Devices.{AppendsPrefix, AppendsUnlessFailed, Change}
 use Rattle.sgb_requests.specs.Faults.{status_of, fault_line}
 use Rattle.sgb_requests.specs.declared.faults.Fault.{Fault}
@@ -60,7 +60,7 @@ fails_to_read r source = reads_input r && source.failed
 abbrev pub IsRunOn : Request → Input → Type 0 → Change → Change → ℕ → Type 0
 IsRunOn r source same out err status =
     (held : List ℕ) × IfSome source.bytes (λ bytes. held ≡ bytes)
-    × IsRunFrom (fails_to_read r source) (answer_of r held) same out err status
+    × (answer : Result (List ℕ) Fault) × IsAnswered r held answer × IsRunFrom (fails_to_read r source) answer same out err status
 
 -- a program that answers leaves this: of standard input these first bytes count, and for each answer on them it was answered so,
 -- in full where no input is read, `certain` says that no memory is wanted, and the output sink is sound

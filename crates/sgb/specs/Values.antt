@@ -1,5 +1,5 @@
 -- The graphs that expressions name [GB_BASIC].
-use Rattle.std.specs.Prelude.{ℕ, ℤ, ◌^◌, pos, negsuc, min, nat_le, List, [], ◌∷◌, length, Result, Ok, Err, if◌then◌else◌, ◌+◌}
+use Rattle.std.specs.Prelude.{◌≡◌, ◌⊎◌, ◌≤◌, ◌<◌, ℕ, ℤ, ◌^◌, pos, negsuc, min, List, [], ◌∷◌, length, Result, Ok, Err, ◌+◌}
 use Rattle.sgb_vec.specs.Limits.{most_entry}
 use Rattle.sgb_vec.specs.Results.{and_then}
 use Rattle.sgb_vec.specs.declared.panics.Panic.{Panic}
@@ -7,7 +7,7 @@ use Rattle.sgb_vec.specs.declared.panics.Panic.TheVariants.{Syntax}
 use Rattle.sgb_graph.specs.Descriptions.{Description}
 use Rattle.sgb_graph.specs.Graphs.{GraphData}
 use Rattle.sgb_graph.specs.Made.{graph_described}
-use Rattle.sgb_file.specs.Restoring.{graph_of_text}
+use Rattle.sgb_file.specs.Refused.{IsRestoredAs}
 use Rattle.sgb_gen.specs.Boards.{board, board_vector_graph}
 use Rattle.sgb_gen.specs.Simplexes.{simplex, simplex_vector_graph}
 use Rattle.sgb_gen.specs.Subsets.{subsets, subsets_vector_graph}
@@ -42,9 +42,10 @@ made value = and_then value (λ d. Ok (graph_described d))
 abbrev pub most_input : ℕ
 most_input = 2 ^ 30
 
--- the graph that standard input is a file of, or the code of a text that is a file of none; a longer one is not read
-unfoldable pub stdin_value : List ℕ → Result GraphData Panic
-stdin_value input = if nat_le (length input) most_input then graph_of_text input else Err Syntax
+-- the value of `stdin` where standard input has these bytes: what they are read as; too many are refused
+abbrev pub IsStdinValue : List ℕ → Result GraphData Panic → Type 0
+IsStdinValue input value =
+    ((length input ≤ most_input) × IsRestoredAs input value) ⊎ ((most_input < length input) × (value ≡ Err Syntax))
 
 -- two values, where the first's refusal comes before the second's
 abbrev pub both : {T U : Type 0} → Result T Panic → Result U Panic → Result (T × U) Panic
@@ -56,33 +57,37 @@ numbered_entry (pos k) = entry.Copies (min k most_entry)
 numbered_entry (negsuc k) = entry.Merged (min (k + 1) most_entry)
 
 abbrev mutual
-  -- the graph of an expression where this is standard input, or the first refusal: the operands' from left to right, then
+  -- the graph of an expression where `stdin` has this value, or the first refusal: the operands' from left to right, then
   -- the operation's
-  pub value_of : List ℕ → Expression → Result GraphData Panic
-  value_of input (Generated f) = made (generator_value f)
-  value_of input (Complement e copy self_loops directed) = and_then (value_of input e) (λ g. made (complement_of g copy self_loops directed))
-  value_of input (Gunion e f multi directed) =
-      and_then (both (value_of input e) (value_of input f)) (λ operands. made (gunion_of operands.0 operands.1 multi directed))
-  value_of input (Intersection e f multi directed) =
-      and_then (both (value_of input e) (value_of input f)) (λ operands. made (intersection_of operands.0 operands.1 multi directed))
-  value_of input (Lines e directed) = and_then (value_of input e) (λ g. made (line_graph_of g directed))
-  value_of input (Product e f kind directed) =
-      and_then (both (value_of input e) (value_of input f)) (λ operands. made (product_graph_of operands.0 operands.1 kind directed))
-  value_of input (Induced e entries self_loops multi directed) =
-      and_then (both (value_of input e) (values_of input entries)) (λ operands. made (induced_of operands.0 operands.1 self_loops multi directed))
-  value_of input (BiComplete n1 n2 directed) = made (bi_complete_of n1 n2 directed)
-  value_of input (Wheel n n1 directed) = made (wheel_of n n1 directed)
-  value_of input Stdin = stdin_value input
+  pub value_of : Result GraphData Panic → Expression → Result GraphData Panic
+  value_of stdin (Generated f) = made (generator_value f)
+  value_of stdin (Complement e copy self_loops directed) = and_then (value_of stdin e) (λ g. made (complement_of g copy self_loops directed))
+  value_of stdin (Gunion e f multi directed) =
+      and_then (both (value_of stdin e) (value_of stdin f)) (λ operands. made (gunion_of operands.0 operands.1 multi directed))
+  value_of stdin (Intersection e f multi directed) =
+      and_then (both (value_of stdin e) (value_of stdin f)) (λ operands. made (intersection_of operands.0 operands.1 multi directed))
+  value_of stdin (Lines e directed) = and_then (value_of stdin e) (λ g. made (line_graph_of g directed))
+  value_of stdin (Product e f kind directed) =
+      and_then (both (value_of stdin e) (value_of stdin f)) (λ operands. made (product_graph_of operands.0 operands.1 kind directed))
+  value_of stdin (Induced e entries self_loops multi directed) =
+      and_then (both (value_of stdin e) (values_of stdin entries)) (λ operands. made (induced_of operands.0 operands.1 self_loops multi directed))
+  value_of stdin (BiComplete n1 n2 directed) = made (bi_complete_of n1 n2 directed)
+  value_of stdin (Wheel n n1 directed) = made (wheel_of n n1 directed)
+  value_of stdin Stdin = stdin
 
   -- an entry, or why its graph is refused
-  pub entry_value : List ℕ → EntryExpression → Result Entry Panic
-  entry_value input (Number n) = Ok (numbered_entry n)
-  entry_value input (Graph e) = and_then (value_of input e) (λ g. Ok (entry.Graph g))
+  pub entry_value : Result GraphData Panic → EntryExpression → Result Entry Panic
+  entry_value stdin (Number n) = Ok (numbered_entry n)
+  entry_value stdin (Graph e) = and_then (value_of stdin e) (λ g. Ok (entry.Graph g))
 
   -- the entries in order, or the first refusal of a graph among them
-  pub values_of : List ℕ → Entries → Result (List Entry) Panic
-  values_of input NoEntries = Ok []
-  values_of input (EntryThen first others) = and_then (both (entry_value input first) (values_of input others)) (λ p. Ok (p.0 ∷ p.1))
+  pub values_of : Result GraphData Panic → Entries → Result (List Entry) Panic
+  values_of stdin NoEntries = Ok []
+  values_of stdin (EntryThen first others) = and_then (both (entry_value stdin first) (values_of stdin others)) (λ p. Ok (p.0 ∷ p.1))
+
+-- the graph of an expression where standard input has these bytes, or the first refusal
+abbrev pub IsValueOn : List ℕ → Expression → Result GraphData Panic → Type 0
+IsValueOn input e value = (stdin : Result GraphData Panic) × IsStdinValue input stdin × (value ≡ value_of stdin e)
 
 -- the graph of accepted parameters, as one of vectors
 abbrev pub vector_graph_of : Local → VectorGraph

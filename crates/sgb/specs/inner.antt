@@ -13,6 +13,8 @@ pub mod Locals
 pub mod Numerals
 -- pages of output, and what was put of them
 pub mod Pages
+-- functions that give the value of `stdin`
+pub mod StdinValues
 -- what is left of vectors
 pub mod Remaining
 -- the entries of a name, and how long lines are

@@ -1,15 +1,18 @@
 //! The graphs that expressions name (GB_BASIC).
-ghost use Rattle.std.specs.Prelude.{◌≡◌, ◌||◌, [], Err, Ok, map, IfErr, IfOk};
+ghost use Rattle.std.specs.Prelude.{◌≡◌, ◌||◌, ℕ, List, Result, Err, Ok, map, IfErr, IfOk};
+ghost use Rattle.sgb_vec.specs.declared.panics.Panic.{Panic};
 ghost use Rattle.sgb_graph.specs.Descriptions.{IsAnswerOf};
+ghost use Rattle.sgb_graph.specs.Graphs.{GraphData};
 ghost use Rattle.sgb_expr.specs.Listed.{listed};
 ghost use Rattle.sgb_expr.specs.Expression.{entries_of, entry_of, expression_of};
 ghost use Rattle.sgb_expr.specs.StdinUses.{entries_have_stdin, entry_has_stdin, has_stdin};
 ghost use Rattle.sgb.specs.Certain.{IsGeneratorRefused, IsRefusedFirst};
 ghost use Rattle.sgb.specs.Outcomes.{moves_of, queen_moves};
 ghost use Rattle.sgb_vec.specs.Results.{IsValue};
-ghost use Rattle.sgb.specs.Values.{both, entry_value, generator_value, value_of, values_of};
+ghost use Rattle.sgb.specs.Values.{IsValueOn, both, entry_value, generator_value, value_of, values_of};
 ghost use Rattle.sgb.specs.inner.EntryValues.{handed_entry};
 ghost use Rattle.sgb.specs.inner.Inputs.{left_after};
+ghost use Rattle.sgb.specs.inner.StdinValues.{GivesStdin};
 
 mod entries;
 
@@ -28,7 +31,8 @@ use std::alloc::Global;
 /// The first refusal, or `NoRoom` when out of memory. A refusal that is met before memory is taken comes whatever memory
 /// there is.
 pub fn graph_of(alloc: Global, expression: &Expr, input: &[u8]) -> Result<Graph, Panic>
-    ensures value { IsValue (value_of input.now (expression_of expression.now)) result }
+    ensures value { (value : Result GraphData Panic)
+        × IsValueOn input.now (expression_of expression.now) value × IsValue value result }
     ensures refused { (p : Panic) → IsRefusedFirst input.now (expression_of expression.now) p
         → result ≡ Err p }
 {
@@ -41,7 +45,8 @@ pub fn graph_of(alloc: Global, expression: &Expr, input: &[u8]) -> Result<Graph,
 ///
 /// The first refusal, or `NoRoom` when out of memory.
 pub(crate) fn graph_from(alloc: Global, expression: &Expr, input: Vec<u8>) -> Result<Graph, Panic>
-    ensures value { IsValue (value_of input.items (expression_of expression.now)) result }
+    ensures value { (value : Result GraphData Panic)
+        × IsValueOn input.items (expression_of expression.now) value × IsValue value result }
     ensures refused { (p : Panic) → IsRefusedFirst input.items (expression_of expression.now) p
         → result ≡ Err p }
 {
@@ -58,7 +63,8 @@ fn evaluate(
     input: &mut Kept<'_>,
     more: bool,
 ) -> Result<Graph, Panic>
-    ensures value { IsValue (value_of input.old (expression_of expression.now)) result }
+    ensures value { (stdin : List ℕ → Result GraphData Panic) → GivesStdin stdin
+        → IsValue (value_of (stdin input.old) (expression_of expression.now)) result }
     ensures left { IfOk result (λ _. input.new
         ≡ left_after more (has_stdin (expression_of expression.now)) input.old) }
     ensures refused { (p : Panic) → IsRefusedFirst input.old (expression_of expression.now) p
@@ -134,8 +140,9 @@ fn operands(
     input: &mut Kept<'_>,
     more: bool,
 ) -> Result<(Graph, Graph), Panic>
-    ensures value { IsValue (both (value_of input.old (expression_of first.now))
-        (value_of input.old (expression_of second.now))) result }
+    ensures value { (stdin : List ℕ → Result GraphData Panic) → GivesStdin stdin
+        → IsValue (both (value_of (stdin input.old) (expression_of first.now))
+        (value_of (stdin input.old) (expression_of second.now))) result }
     ensures left { IfOk result (λ _. input.new ≡ left_after more
         (has_stdin (expression_of first.now) || has_stdin (expression_of second.now)) input.old) }
     ensures refused { (p : Panic) → IsRefusedFirst input.old (expression_of first.now) p
@@ -168,10 +175,12 @@ fn values_of(
     input: &mut Kept<'_>,
     more: bool,
 ) -> Result<Vec<EntryValue>, Panic>
-    ensures ok { IfOk result (λ values. values_of input.old (entries_of (listed entries.now))
+    ensures ok { (stdin : List ℕ → Result GraphData Panic) → GivesStdin stdin
+        → IfOk result (λ values. values_of (stdin input.old) (entries_of (listed entries.now))
         ≡ Ok (map handed_entry values.items)) }
-    ensures refused { IfErr result
-        (λ p. IsValue (values_of input.old (entries_of (listed entries.now))) (Err p)) }
+    ensures refused { (stdin : List ℕ → Result GraphData Panic) → GivesStdin stdin
+        → IfErr result
+        (λ p. IsValue (values_of (stdin input.old) (entries_of (listed entries.now))) (Err p)) }
     ensures left { IfOk result (λ _. input.new
         ≡ left_after more (entries_have_stdin (entries_of (listed entries.now))) input.old) }
 {
@@ -194,10 +203,10 @@ fn value_of_entry(
     input: &mut Kept<'_>,
     more: bool,
 ) -> Result<EntryValue, Panic>
-    ensures ok { IfOk result (λ v. entry_value input.old (entry_of entry.now)
-        ≡ Ok (handed_entry v)) }
-    ensures refused { IfErr result
-        (λ p. IsValue (entry_value input.old (entry_of entry.now)) (Err p)) }
+    ensures ok { (stdin : List ℕ → Result GraphData Panic) → GivesStdin stdin
+        → IfOk result (λ v. entry_value (stdin input.old) (entry_of entry.now) ≡ Ok (handed_entry v)) }
+    ensures refused { (stdin : List ℕ → Result GraphData Panic) → GivesStdin stdin
+        → IfErr result (λ p. IsValue (entry_value (stdin input.old) (entry_of entry.now)) (Err p)) }
     ensures left { IfOk result (λ _. input.new
         ≡ left_after (more || entries_have_stdin (entries_of (listed others.now)))
         (entry_has_stdin (entry_of entry.now)) input.old) }
@@ -227,7 +236,7 @@ fn generator_graph(alloc: Global, generator: &Generator) -> Result<Graph, Panic>
 ///
 /// `NoRoom` when out of memory.
 pub(crate) fn queen_moves(alloc: Global) -> Result<Graph, Panic>
-    ensures { IsValue (value_of [] queen_moves) result }
+    ensures { IsValue (value_of (Err Panic.Early) queen_moves) result }
 {
     let rooks = generator_graph(alloc, &moves_of(-1))?;
     let bishops = generator_graph(alloc, &moves_of(-2))?;

@@ -1,10 +1,12 @@
 //! Standard input: reading it whole, and the graph that it is a file of.
-ghost use Rattle.std.specs.Prelude.{◌≡◌, ◌≤◌, ◌<◌, ◌+◌, ◌-◌, ◌++◌, ℕ, List, true, length, nat_le, Err, IfOk};
+ghost use Rattle.std.specs.Prelude.{◌≡◌, ◌≤◌, ◌<◌, ◌+◌, ◌-◌, ◌++◌, ℕ, List, true, length, nat_le, Result, Err, IfOk};
 ghost use Rattle.std.specs.Io.KnownBytes.{Consumes, IsAtEnd};
+ghost use Rattle.sgb_vec.specs.declared.panics.Panic.{Panic};
+ghost use Rattle.sgb_graph.specs.Graphs.{GraphData};
 ghost use Rattle.sgb.specs.Certain.{IsInputRefused};
 ghost use Rattle.sgb.specs.Inputs.{IsKeptOfInput, IsReadFrom, LosesAtMost};
 ghost use Rattle.sgb_vec.specs.Results.{IsValue};
-ghost use Rattle.sgb.specs.Values.{most_input, stdin_value};
+ghost use Rattle.sgb.specs.Values.{IsStdinValue, most_input};
 ghost use Rattle.sgb.specs.inner.Inputs.{left_after};
 
 mod kept;
@@ -74,7 +76,8 @@ fn read_more<R: Source>(
 ///
 /// The code of a text that is a file of none; `Syntax` where it has more than 2^30 bytes; `NoRoom` when out of memory.
 pub(crate) fn read_kept(alloc: Global, input: &mut Kept<'_>, more: bool) -> Result<Graph, Panic>
-    ensures value { IsValue (stdin_value input.old) result }
+    ensures value { (value : Result GraphData Panic) → IsStdinValue input.old value
+        → IsValue value result }
     ensures left { input.new ≡ left_after more true input.old }
     ensures refused { (p : Panic) → IsInputRefused input.old p → result ≡ Err p }
 {
@@ -88,7 +91,8 @@ pub(crate) fn read_kept(alloc: Global, input: &mut Kept<'_>, more: bool) -> Resu
 
 // The graph that standard input is a file of, from its bytes (GB_SAVE, restore_graph).
 fn stdin_graph(alloc: Global, input: &[u8]) -> Result<Graph, Panic>
-    ensures value { IsValue (stdin_value input.now) result }
+    ensures value { (value : Result GraphData Panic) → IsStdinValue input.now value
+        → IsValue value result }
     ensures refused { (p : Panic) → IsInputRefused input.now p → result ≡ Err p }
 {
     if !is_read(input) {

@@ -1,16 +1,26 @@
 //! What holds of all answers: functions with nothing in them, whose contracts say so.
 ghost use Rattle.std.specs.Prelude.{◌≡◌, ℕ, Bool, List, Result, Ok, Err, false};
+ghost use Rattle.sgb_vec.specs.declared.panics.Panic.{Panic};
+ghost use Rattle.sgb_graph.specs.Graphs.{GraphData};
 ghost use Rattle.sgb_file.specs.Devices.{AppendsUnlessFailed, Change};
 ghost use Rattle.sgb_requests.specs.Faults.{fault_line, status_of};
 ghost use Rattle.sgb_requests.specs.declared.faults.Fault.{Fault};
 ghost use Rattle.sgb_requests.specs.declared.requests.Request.{Request};
-ghost use Rattle.sgb.specs.Outcomes.{answer_of, reads_input};
+ghost use Rattle.sgb.specs.Outcomes.{IsAnswered, answer_of, reads_input};
 ghost use Rattle.sgb.specs.Runs.{IsRunFrom};
 ghost use Rattle.sgb.specs.Writing.{IsEndedFrom};
 
-/// A request that reads no input has the same answer on every input.
+/// A request that reads no input has the same answer whatever `stdin` is.
 pub fn input_unread_law()
-    ensures { (r : Request) (a b : List ℕ) → reads_input r ≡ false → answer_of r a ≡ answer_of r b }
+    ensures { (r : Request) (a b : Result GraphData Panic) → reads_input r ≡ false
+        → answer_of r a ≡ answer_of r b }
+{}
+
+/// On each input a request has one answer, and one only.
+pub fn answered_once_law()
+    ensures { (r : Request) (input : List ℕ) → (answer : Result (List ℕ) Fault)
+        × IsAnswered r input answer
+        × ((other : Result (List ℕ) Fault) → IsAnswered r input other → other ≡ answer) }
 {}
 
 /// How a program over this library shows that a call of it is a run: answering ended so, with standard error left alone;

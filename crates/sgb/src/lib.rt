@@ -22,7 +22,7 @@ mod writing;
 pub use answers::{Answer, run_answer};
 pub use evaluation::graph_of;
 pub use input::read_input;
-pub use laws::{input_unread_law, run_endings_law};
+pub use laws::{answered_once_law, input_unread_law, run_endings_law};
 pub use locals::{Local, local_of};
 pub use program::{run_program, unread_fault};
 pub use runs::run;

@@ -1,17 +1,20 @@
 //! Requests answered: evaluation and output.
-ghost use Rattle.std.specs.Prelude.{◌≡◌, ◌≢◌, ◌⊎◌, ◌+◌, ◌++◌, ℕ, List, [], Ok, Err, IfErr, false};
+ghost use Rattle.std.specs.Prelude.{◌≡◌, ◌≢◌, ◌⊎◌, ◌+◌, ◌++◌, ℕ, List, [], Result, Ok, Err, IfErr, false};
+ghost use Rattle.sgb_vec.specs.declared.panics.Panic.{Panic};
+ghost use Rattle.sgb_graph.specs.Graphs.{GraphData};
+ghost use Rattle.sgb_requests.specs.declared.faults.Fault.{Fault};
 ghost use Rattle.sgb_file.specs.Devices.{change};
-ghost use Rattle.sgb_vec.specs.declared.panics.Panic.TheVariants.{NoRoom};
+ghost use Rattle.sgb_vec.specs.declared.panics.Panic.TheVariants.{Early, NoRoom};
 ghost use Rattle.sgb_expr.specs.Expression.{expression_of};
 ghost use Rattle.sgb_file.specs.Saving.{text_of_graph};
 ghost use Rattle.sgb_graph.specs.Vertices.{names_of};
 ghost use Rattle.sgb.specs.Certain.{BeginsNowhereOn, IsBoard, IsCertain, IsRefusedAtOnce, NeedsNoMemory};
 ghost use Rattle.sgb.specs.inner.Certain.{HasListingAtOnce, HasNamesAtOnce};
-ghost use Rattle.sgb.specs.Outcomes.{answer_from, answer_of, list_answer, names_answer, queen_moves, queen_title, reads_input};
+ghost use Rattle.sgb.specs.Outcomes.{IsAnswered, answer_from, answer_of, list_answer, names_answer, queen_moves, queen_title, reads_input};
 ghost use Rattle.sgb.specs.Inputs.{LosesAtMost};
 ghost use Rattle.sgb.specs.Runs.{IsRunOn};
 ghost use Rattle.sgb.specs.Texts.{blocks, head};
-ghost use Rattle.sgb.specs.Values.{generator_value, made, most_input, value_of};
+ghost use Rattle.sgb.specs.Values.{IsValueOn, generator_value, made, most_input, value_of};
 ghost use Rattle.sgb.specs.Writing.{IsEnded};
 
 use crate::answers::{Answer, run_answer};
@@ -57,7 +60,8 @@ pub fn run<R: Source, W: Sink, E: Sink>(
         result }
     ensures flushed { result ≡ 0 → W.held out.new ≡ [] }
     // What the request asks for is never that memory runs out: code 1 is the machine's alone.
-    ensures apart { (input : List ℕ) → answer_of request.now input ≢ Err (Fault.Panic NoRoom) }
+    ensures apart { (input : List ℕ) (answer : Result (List ℕ) Fault)
+        → IsAnswered request.now input answer → answer ≢ Err (Fault.Panic NoRoom) }
     ensures unread { reads_input request.now ≡ false → source.new ≡ source.old }
     ensures bounded { LosesAtMost (most_input + 1) (R.remaining source.old)
         (R.remaining source.new) }
@@ -68,7 +72,7 @@ pub fn run<R: Source, W: Sink, E: Sink>(
 impl Answer for Request {
     ghost reads = { λ r. reads_input r };
 
-    ghost answers = { λ r input a. a ≡ answer_of r input };
+    ghost answers = { λ r input a. IsAnswered r input a };
 
     ghost certain = { λ r. NeedsNoMemory r };
 
@@ -94,8 +98,9 @@ fn write_answer<W: Sink>(
     out: &mut W,
 ) -> Result<(), Fault>
     requires { W.has_failed out.old ≡ false }
-    ensures ended { IsEnded (answer_of request.now input.items)
-        (out.new ≡ out.old) (change W.written W.has_failed out.old out.new) result }
+    ensures ended { (answer : Result (List ℕ) Fault) × IsAnswered request.now input.items answer
+        × IsEnded answer (out.new ≡ out.old)
+        (change W.written W.has_failed out.old out.new) result }
     ensures certain { NeedsNoMemory request.now
         → IfErr result (λ f. f ≢ Fault.Panic NoRoom) }
 {
@@ -117,8 +122,9 @@ fn answer_names<W: Sink>(
     out: &mut W,
 ) -> Result<(), Fault>
     requires { W.has_failed out.old ≡ false }
-    ensures ended { IsEnded (answer_from (value_of input.items (expression_of expression.now))
-        (λ g. names_answer (names_of g) resume.now)) (out.new ≡ out.old)
+    ensures ended { (value : Result GraphData Panic)
+        × IsValueOn input.items (expression_of expression.now) value
+        × IsEnded (answer_from value (λ g. names_answer (names_of g) resume.now)) (out.new ≡ out.old)
         (change W.written W.has_failed out.old out.new) result }
     ensures certain { IsBoard expression.now ⊎ IsRefusedAtOnce (expression_of expression.now)
         → IfErr result (λ f. f ≢ Fault.Panic NoRoom) }
@@ -160,8 +166,9 @@ fn answer_list<W: Sink>(
     out: &mut W,
 ) -> Result<(), Fault>
     requires { W.has_failed out.old ≡ false }
-    ensures ended { IsEnded (answer_from (value_of input.items (expression_of expression.now))
-        (λ g. list_answer g resume.now)) (out.new ≡ out.old)
+    ensures ended { (value : Result GraphData Panic)
+        × IsValueOn input.items (expression_of expression.now) value
+        × IsEnded (answer_from value (λ g. list_answer g resume.now)) (out.new ≡ out.old)
         (change W.written W.has_failed out.old out.new) result }
     ensures certain { BeginsNowhereOn expression.now resume.now
         ⊎ IsRefusedAtOnce (expression_of expression.now)
@@ -201,8 +208,9 @@ fn answer_save<W: Sink>(
     out: &mut W,
 ) -> Result<(), Fault>
     requires { W.has_failed out.old ≡ false }
-    ensures ended { IsEnded (answer_from (value_of input.items (expression_of expression.now))
-        (λ g. Ok (text_of_graph g))) (out.new ≡ out.old)
+    ensures ended { (value : Result GraphData Panic)
+        × IsValueOn input.items (expression_of expression.now) value
+        × IsEnded (answer_from value (λ g. Ok (text_of_graph g))) (out.new ≡ out.old)
         (change W.written W.has_failed out.old out.new) result }
     ensures certain { IsRefusedAtOnce (expression_of expression.now)
         → IfErr result (λ f. f ≢ Fault.Panic NoRoom) }
@@ -214,7 +222,7 @@ fn answer_save<W: Sink>(
 // Writes the moves of queens on a board of three rows and four columns, under their title.
 fn answer_queen<W: Sink>(alloc: Global, out: &mut W) -> Result<(), Fault>
     requires { W.has_failed out.old ≡ false }
-    ensures { IsEnded (answer_from (value_of [] queen_moves)
+    ensures { IsEnded (answer_from (value_of (Err Early) queen_moves)
         (λ g. Ok (queen_title ++ (head g ++ blocks g 0))))
         (out.new ≡ out.old) (change W.written W.has_failed out.old out.new) result }
 {

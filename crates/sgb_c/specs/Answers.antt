@@ -8,7 +8,7 @@ use Rattle.sgb_vec.specs.declared.panics.Panic.{Panic}
 use Rattle.sgb_requests.specs.Reading.{IsReadAs}
 use Rattle.sgb_requests.specs.declared.faults.Fault.{Fault}
 use Rattle.sgb_requests.specs.declared.faults.Fault.TheVariants as fault
-use Rattle.sgb.specs.Values.{value_of}
+use Rattle.sgb.specs.Values.{IsValueOn}
 use Rattle.sgb_arrays.specs.Names.{name_bytes}
 use Rattle.sgb_arrays.specs.Rows.{arcs_of}
 use Rattle.sgb_arrays.specs.declared.refusals.Wrong.{Wrong}
@@ -35,7 +35,7 @@ number_of_fault fault.Write = 109
 
 -- the text is an expression, and this is the value of it where this is standard input
 abbrev pub IsValueOfText : List ℕ → List ℕ → Result GraphData Panic → Type 0
-IsValueOfText text input value = (e : Expression) × (IsTooLarge text → ⊥) × IsExpression text e × (value_of input e ≡ value)
+IsValueOfText text input value = (e : Expression) × (IsTooLarge text → ⊥) × IsExpression text e × IsValueOn input e value
 
 -- the graph that a text names, or why there is none: the text is refused, or its value is a refusal, or memory ran out
 abbrev pub IsGraphNamed : List ℕ → List ℕ → Result GraphData Fault → Type 0

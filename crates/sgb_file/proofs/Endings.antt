@@ -1,25 +1,28 @@
 -- Lemmas on the opening and the end of a file, in the words of the code.
 use Rattle.std.specs.Prelude.{if◌then◌else◌}
-use Rattle.std.proofs.Common.{◌≡◌, ◌<◌, ◌∙◌, ℕ, Bool, true, false, List, [], ◌∷◌, Some, None, length, take, drop, set, slice_index, ◌+◌, zero, suc, filter_map, refl, sym, ap, arith, ◌==◌, ◌++◌, Result, Ok, Err, subst}
+use Rattle.std.proofs.Common.{◌≡◌, ◌<◌, ◌∙◌, ℕ, Bool, true, false, List, [], ◌∷◌, Some, None, length, take, drop, set, slice_index, ◌+◌, zero, suc, filter_map, refl, sym, ap, arith, ◌==◌, ◌++◌, Result, Ok, Err, subst, inl, inr}
 use Rattle.std.proofs.lemmas.Bool.Decides.{nat_tests}
 use Rattle.std.proofs.lemmas.List.{length-take, get_or-take, take_more, take_more_set, take_all}
 use Rattle.std.proofs.lemmas.List.Elements.{filter_map-append}
 use Rattle.std.specs.List.{cons_option}
+use Rattle.std.specs.Result.{IsErrAnd}
 use Rattle.sgb_graph.specs.declared.fields.Kind.{Kind}
 use Rattle.sgb_file.specs.FileLines.{lines_among, lines_of_text, clean_lines, text_of_lines}
+use Rattle.sgb_file.specs.inner.Found.{IsFoundBy}
 use Rattle.sgb_file.specs.inner.LinesLeft.{LinesLeft, text_left, next_begun, none_begun, lines_still, lines_passed}
 use Rattle.sgb_vec.specs.declared.panics.Panic.{Panic}
-use Rattle.sgb_vec.specs.declared.panics.Panic.TheVariants.{Syntax}
+use Rattle.sgb_vec.specs.declared.panics.Panic.TheVariants.{NoRoom, Syntax}
 use Rattle.sgb_graph.specs.Graphs.{GraphData}
 use Rattle.sgb_graph.specs.Parts.{checked}
 use Rattle.sgb_graph.specs.Sound.{is_sound}
 use Rattle.sgb_file.specs.Checksum.{has_star}
 use Rattle.sgb_vec.specs.Results.{IsValue}
-use Rattle.sgb_file.specs.Records.{Head, records_at}
+use Rattle.sgb_file.specs.Files.{Head}
+use Rattle.sgb_file.specs.inner.ReadRecords.{records_at}
 use Rattle.sgb_file.proofs.FirstLines.{kept_one, no_more_kinds}
 use Rattle.sgb_file.proofs.LeftTexts.{next_left}
 use Rattle.sgb_file.proofs.ReadParts.{read_is_checked}
-use Rattle.sgb_file.specs.Restoring.{opening_of, head_of_line, graph_of_text, graph_of_opening, graph_after, graph_at_end, closes, line_closes, kind_of_letter, kinds_at}
+use Rattle.sgb_file.specs.inner.ReadFiles.{opening_of, head_of_line, graph_of_text, graph_of_opening, graph_after, graph_at_end, closes, line_closes, kind_of_letter, kinds_at}
 
 -- a text of fewer letters has not the kinds
 filtered_fewer : (xs : List ℕ) (i : ℕ) → i < length xs → kind_of_letter (slice_index xs i) ≡ None → length (filter_map kind_of_letter xs) < length xs
@@ -86,6 +89,14 @@ pub graph_opened : (text : List ℕ) (head : Head) (s : LinesLeft) → Some (rec
     → graph_of_text text ≡ graph_after (record { head = head; lines = s.all }) (records_at head (text_left s))
 graph_opened text head s e begun =
     ap graph_of_opening (sym e) ∙ ap (λ t. graph_after (record { head = head; lines = s.all }) (records_at head t)) (sym (text_whole s begun))
+
+-- a text whose records are not read is refused, or memory ran out
+pub graph_unread : (text : List ℕ) (head : Head) (s : LinesLeft) (p : Panic) (rest : List ℕ) (r : Result GraphData Panic) → Some (record { head = head; lines = s.all }) ≡ opening_of (clean_lines text)
+    → s ≡ next_begun (none_begun s.all) → IsFoundBy (records_at head (text_left s)) (Err p) rest → IsErrAnd r (λ q. q ≡ p) → IsValue (graph_of_text text) r
+graph_unread text head s p rest (Ok g) e begun found is = absurd is
+graph_unread text head s Syntax rest (Err q) e begun found is = inl (graph_opened text head s e begun ∙ ap (graph_after (record { head = head; lines = s.all })) found ∙ ap Err (sym is))
+graph_unread text head s NoRoom rest (Err q) e begun found is = inr is
+graph_unread text head s _ rest (Err q) e begun found is = absurd found
 
 -- what the graph of a text is where its records end in these lines
 pub graph_ended : (text : List ℕ) (head : Head) (s t : LinesLeft) (g : GraphData) (closed : Bool) → Some (record { head = head; lines = s.all }) ≡ opening_of (clean_lines text)

@@ -15,7 +15,8 @@ use Rattle.sgb_graph.specs.declared.fields.Ref.{Ref}
 use Rattle.sgb_graph.specs.declared.fields.Ref.TheVariants.{Null, One, At}
 use Rattle.sgb_graph.proofs.Lists.{list_all-weaker}
 use Rattle.sgb_graph.specs.Sound.{ref_fits, chain_fits}
-use Rattle.sgb_file.specs.Fields.{is_decimal_digit, number_of, number_below, most_number_digits, most_integer_digits, integer_of, ref_of, record_number_of, unbroken, string_at, plain_text, plain_at, after_prefix}
+use Rattle.sgb_file.specs.Fields.{is_decimal_digit, number_of, number_below, most_number_digits, most_integer_digits, integer_of, ref_of, record_number_of, unbroken}
+use Rattle.sgb_file.specs.inner.ReadFields.{string_at, plain_text, plain_at, after_prefix}
 use Rattle.sgb_file.specs.Saving.{quoted, ref_text, record_number_text}
 use Rattle.sgb_file.proofs.LineLemmas.{is_line, is_one_line, is_within_line, ends_well, ends_well-last, list_all-drop, list_all-take, list_all-join}
 use Rattle.sgb_file.specs.Files.{IsStringText}

@@ -17,7 +17,8 @@ use Rattle.sgb_graph.specs.declared.fields.Ref.{Ref}
 use Rattle.sgb_graph.specs.declared.fields.Ref.TheVariants.{Null, One, At}
 use Rattle.sgb_graph.specs.declared.fields.Util.{Util}
 use Rattle.sgb_graph.specs.declared.fields.Util.TheVariants.{Int, Vertex as VertexField, Str, Chain}
-use Rattle.sgb_file.specs.Fields.{Counts, Found, number_of, number_below, most_integer_digits, integer_of, ref_of, record_number_of, unbroken, string_of, string_at, plain_text, plain_at, field_at, after_prefix}
+use Rattle.sgb_file.specs.Fields.{Counts, number_of, number_below, most_integer_digits, integer_of, ref_of, record_number_of, unbroken, string_of}
+use Rattle.sgb_file.specs.inner.ReadFields.{Found, string_at, plain_text, plain_at, field_at, after_prefix}
 use Rattle.sgb_file.specs.Files.{IsStringText, IsFieldText}
 use Rattle.sgb_file.specs.Saving.{quoted}
 use Rattle.sgb_file.proofs.FoundParts.{taken_and_left, was_given, was_mapped, was_let_through, was_chosen, was_either}

@@ -12,11 +12,11 @@ use Rattle.std.proofs.lemmas.List.Sums.{prefix_len_stops}
 use Rattle.sgb_vec.specs.Limits.{most_vertices}
 use Rattle.sgb_graph.specs.declared.fields.Kind.{Kind}
 use Rattle.sgb_graph.specs.declared.fields.Kind.TheVariants.{Z, I, V, S, A}
-use Rattle.sgb_file.specs.Fields.{Found, is_decimal_digit, number_of, most_number_digits, after_prefix}
-use Rattle.sgb_file.specs.Records.{Head}
-use Rattle.sgb_file.specs.Restoring.{kind_of_letter, kinds_at, leading_number, head_of_line}
+use Rattle.sgb_file.specs.inner.ReadFields.{Found, after_prefix}
+use Rattle.sgb_file.specs.Fields.{is_decimal_digit, number_of, most_number_digits}
+use Rattle.sgb_file.specs.Files.{Head, IsFirstLine, BeginsWithNoDigit}
+use Rattle.sgb_file.specs.inner.ReadFiles.{kind_of_letter, kinds_at, leading_number, head_of_line}
 use Rattle.sgb_file.specs.Saving.{letter_of}
-use Rattle.sgb_file.specs.Files.{IsFirstLine, BeginsWithNoDigit}
 use Rattle.sgb_file.proofs.FoundParts.{prefix_is, taken_and_left, was_given, was_mapped, was_let_through}
 use Rattle.sgb_file.proofs.NumberReading.{at_most, number_says}
 

@@ -7,7 +7,8 @@ use Rattle.std.proofs.lemmas.Bool.{and_from}
 use Rattle.std.proofs.lemmas.Bool.Decides.{Decides-eqb}
 use Rattle.std.proofs.lemmas.List.{take-append-drop}
 use Rattle.std.proofs.lemmas.Slice.Eq.{bytes_eq-Decides}
-use Rattle.sgb_file.specs.Fields.{given, after_prefix}
+use Rattle.sgb_file.specs.Fields.{given}
+use Rattle.sgb_file.specs.inner.ReadFields.{after_prefix}
 
 -- what was given, and what was made of it
 pub record WasGiven {X Y : Type 0} (o : Option X) (next : X → Option Y) (y : Y) : Type 0 where

@@ -14,8 +14,10 @@ use Rattle.sgb_graph.specs.declared.fields.Kind.{Kind}
 use Rattle.sgb_graph.specs.declared.fields.Kind.TheVariants.{Z, I, V, S, A}
 use Rattle.sgb_graph.specs.declared.fields.Util.{Util}
 use Rattle.sgb_graph.specs.declared.fields.Util.TheVariants.{Int, Nothing}
-use Rattle.sgb_file.specs.Fields.{Counts, Found, given, found_as, field_at, integer_of, most_number_digits, number_of, plain_at, string_at, after_prefix}
-use Rattle.sgb_file.specs.Records.{Head, after_comma, graph_record_at, more_fields_at, record_at, vertex_record_at, vertex_of_fields, arc_record_at, arc_of_fields}
+use Rattle.sgb_file.specs.Fields.{Counts, given, integer_of, most_number_digits, number_of}
+use Rattle.sgb_file.specs.inner.ReadFields.{Found, found_as, field_at, plain_at, string_at, after_prefix}
+use Rattle.sgb_file.specs.Files.{Head}
+use Rattle.sgb_file.specs.inner.ReadRecords.{after_comma, graph_record_at, more_fields_at, record_at, vertex_record_at, vertex_of_fields, arc_record_at, arc_of_fields}
 use Rattle.sgb_file.specs.inner.Found.{IsFoundBy, IsPassedBy, is_used, next_at, next_field_at}
 use Rattle.sgb_file.specs.inner.Reading.{arc_fields_at, vertex_fields_at}
 

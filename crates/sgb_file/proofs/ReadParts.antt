@@ -17,11 +17,12 @@ use Rattle.sgb_graph.specs.declared.fields.Kind.TheVariants.{Z, I, V, S, A}
 use Rattle.sgb_graph.specs.declared.fields.Util.{Util}
 use Rattle.sgb_graph.specs.declared.fields.Util.TheVariants.{Nothing, Int, Vertex as VertexField, Str, Chain}
 use Rattle.sgb_file.specs.FileLines.{text_of_lines}
-use Rattle.sgb_file.specs.Fields.{Counts, Found, most_number_digits, string_of}
-use Rattle.sgb_file.specs.Records.{Head, records_at}
-use Rattle.sgb_file.specs.Restoring.{Opening, head_of_line, opening_of, graph_of_records, graph_of_text}
+use Rattle.sgb_file.specs.Fields.{Counts, most_number_digits, string_of}
+use Rattle.sgb_file.specs.inner.ReadFields.{Found}
+use Rattle.sgb_file.specs.Files.{Head, IsFieldText, AreFieldTexts, IsFirstLine, IsVertexRecord, IsArcRecord, AreRecords, AreRecordsOf, head_of}
+use Rattle.sgb_file.specs.inner.ReadRecords.{records_at}
+use Rattle.sgb_file.specs.inner.ReadFiles.{Opening, head_of_line, opening_of, graph_of_records, graph_of_text}
 use Rattle.sgb_file.specs.Saved.{number_limit, ValueCanBeSaved, CanBeChecked, CanBeSaved}
-use Rattle.sgb_file.specs.Files.{IsFieldText, AreFieldTexts, IsFirstLine, IsVertexRecord, IsArcRecord, AreRecords, AreRecordsOf, head_of}
 use Rattle.sgb_file.proofs.FoundParts.{was_let_through}
 use Rattle.sgb_file.proofs.NumberReading.{at_most, at_most_passes, number_is_small}
 use Rattle.sgb_file.proofs.FirstLines.{first_line_found}
@@ -75,7 +76,7 @@ pub record IsGoodHead (head : Head) : Type 0 where
   pub arcs : head.counts.arcs < number_limit
 
 -- a first line within the limits
-first_is_good : (line : List ℕ) (head : Head) → IsFirstLine head line → IsGoodHead head
+pub first_is_good : (line : List ℕ) (head : Head) → IsFirstLine head line → IsGoodHead head
 first_is_good line head says =
     record { vertices = says.few; kinds = says.fourteen; arcs = number_is_small most_number_digits says.m head.counts.arcs says.m_says }
 

@@ -1,8 +1,9 @@
 -- Readers of texts: what each finds is said by the text before what it leaves, and each such text is found again.
 use Rattle.std.specs.Prelude.{◌≡◌, ℕ, zero, suc, Bool, true, false, List, [], ◌∷◌, ◌++◌, length, Option, Some, None, option_map, if◌then◌else◌, refl}
 use Rattle.std.proofs.Common.{ap, sym, subst, ◌∙◌, append_assoc, arith}
-use Rattle.sgb_file.specs.Fields.{Found, given, found_as, after_prefix}
-use Rattle.sgb_file.specs.Records.{all_at}
+use Rattle.sgb_file.specs.inner.ReadFields.{Found, found_as, after_prefix}
+use Rattle.sgb_file.specs.Fields.{given}
+use Rattle.sgb_file.specs.inner.ReadRecords.{all_at}
 use Rattle.sgb_file.specs.Files.{AreRecords}
 use Rattle.sgb_file.proofs.FoundParts.{was_given, was_mapped, prefix_is, prefix_read}
 

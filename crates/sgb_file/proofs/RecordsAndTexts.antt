@@ -12,9 +12,10 @@ use Rattle.sgb_graph.specs.declared.fields.Util.{Util}
 use Rattle.sgb_graph.specs.declared.fields.Util.TheVariants.{Nothing, Int, Vertex as VertexField, Str, Chain}
 use Rattle.sgb_graph.specs.declared.fields.Vertex.{Vertex}
 use Rattle.sgb_graph.specs.declared.fields.ArcRec.{ArcRec}
-use Rattle.sgb_file.specs.Fields.{Counts, given, number_of, most_number_digits, plain_at, after_prefix}
-use Rattle.sgb_file.specs.Records.{Head, after_comma, more_fields_at, record_at, graph_record_at, vertex_of_fields, vertex_record_at, arc_of_fields, arc_record_at, records_at}
-use Rattle.sgb_file.specs.Files.{IsStringText, IsFieldText, AreFieldTexts, IsComma, IsRecord, IsRecordOf, IsVertexRecord, IsArcRecord, IsGraphRecord, AreRecords, AreRecordsOf, head_of}
+use Rattle.sgb_file.specs.Fields.{Counts, given, number_of, most_number_digits}
+use Rattle.sgb_file.specs.inner.ReadFields.{plain_at, after_prefix}
+use Rattle.sgb_file.specs.Files.{Head, IsStringText, IsFieldText, AreFieldTexts, IsComma, IsRecord, IsRecordOf, IsVertexRecord, IsArcRecord, IsGraphRecord, AreRecords, AreRecordsOf, head_of}
+use Rattle.sgb_file.specs.inner.ReadRecords.{after_comma, more_fields_at, record_at, graph_record_at, vertex_of_fields, vertex_record_at, arc_of_fields, arc_record_at, records_at}
 use Rattle.sgb_file.proofs.FoundParts.{prefix_is, was_mapped, was_let_through}
 use Rattle.sgb_file.proofs.FieldReading.{Ends}
 use Rattle.sgb_file.proofs.SavedGraphs.{fields_of_vertex, fields_of_arc}

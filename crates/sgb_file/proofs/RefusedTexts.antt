@@ -3,15 +3,16 @@ use Rattle.std.specs.Prelude.{◌≡◌, ◌⊎◌, ℕ, Bool, true, false, List
 use Rattle.std.specs.List.{list_all}
 use Rattle.std.proofs.Common.{ap, sym, subst, ◌∙◌, inl, inr, refl}
 use Rattle.sgb_vec.specs.declared.panics.Panic.{Panic}
-use Rattle.sgb_vec.specs.declared.panics.Panic.TheVariants.{Early, Late, Syntax}
+use Rattle.sgb_vec.specs.declared.panics.Panic.TheVariants.{Early, Late, NoRoom, Syntax}
+use Rattle.sgb_vec.specs.Results.{IsValue}
 use Rattle.sgb_graph.specs.Graphs.{GraphData}
 use Rattle.sgb_graph.specs.Sound.{is_sound}
 use Rattle.sgb_file.specs.FileLines.{lines_of_text, clean_lines, text_of_lines}
-use Rattle.sgb_file.specs.Fields.{Found}
-use Rattle.sgb_file.specs.Files.{IsFirstLine, IsFileOf, head_of}
-use Rattle.sgb_file.specs.Records.{Head, records_at}
-use Rattle.sgb_file.specs.Refused.{Opens, IsClosed, HasRecords, HasNoOpening, HasNoRecords, HasNoClosing, HasUnsoundLists}
-use Rattle.sgb_file.specs.Restoring.{Opening, opening_of, closes, line_closes, graph_after, graph_at_end, graph_of_opening, graph_of_text}
+use Rattle.sgb_file.specs.inner.ReadFields.{Found}
+use Rattle.sgb_file.specs.Files.{IsFirstLine, IsFileOf, head_of, Head}
+use Rattle.sgb_file.specs.inner.ReadRecords.{records_at}
+use Rattle.sgb_file.specs.Refused.{Opens, IsClosed, HasRecords, HasNoOpening, HasNoRecords, HasNoClosing, HasUnsoundLists, IsRestoredAs}
+use Rattle.sgb_file.specs.inner.ReadFiles.{Opening, opening_of, closes, line_closes, graph_after, graph_at_end, graph_of_opening, graph_of_text}
 use Rattle.sgb_file.proofs.LineLemmas.{is_one_line, lines_again}
 use Rattle.sgb_file.proofs.FilesAndTexts.{opens_read, opens_found, after_opening, records_read, lines_found, last_lines, closed_found, closes_by, checksum_read}
 
@@ -59,14 +60,6 @@ late_of text h = graph_with_records text h.g h.records h.following h.has ∙ by_
 pub unsound_of : (text : List ℕ) → HasUnsoundLists text → graph_of_text text ≡ Err Syntax
 unsound_of text h = graph_with_records text h.g h.records h.following h.has ∙ rw (line_closed h.records h.following h.closes, h.unsound) refl
 
--- what a text is that is read as a graph, or has this code
-abbrev IsOfCode : List ℕ → Result GraphData Panic → Type 0
-IsOfCode text (Ok g) = IsFileOf g text
-IsOfCode text (Err Early) = HasNoOpening text
-IsOfCode text (Err Late) = HasNoClosing text
-IsOfCode text (Err Syntax) = HasNoRecords text ⊎ HasUnsoundLists text
-IsOfCode text (Err _) = Unit {0}
-
 -- a file of a graph
 file_of : (text : List ℕ) (g : GraphData) (records following : List (List ℕ)) → HasRecords text g records following → IsClosed records following → is_sound g ≡ true → IsFileOf g text
 file_of text g records following h c sound = record {
@@ -83,22 +76,22 @@ file_of text g records following h c sound = record {
   sound = sound;
 }
 
--- each text is a file of a graph, or what its code says
-kind_of : (text : List ℕ) → IsOfCode text (graph_of_text text)
-kind_of text = by_opening (opening_of (clean_lines text)) refl
+-- each text is what it is read as: a file of the graph, or of the kind that its code says
+pub restored : (text : List ℕ) → IsRestoredAs text (graph_of_text text)
+restored text = by_opening (opening_of (clean_lines text)) refl
   where
     by_end : (g : GraphData) (records following : List (List ℕ)) → HasRecords text g records following
-        → (c s : Bool) → line_closes records following ≡ c → is_sound g ≡ s → IsOfCode text (graph_at_end c s g)
+        → (c s : Bool) → line_closes records following ≡ c → is_sound g ≡ s → IsRestoredAs text (graph_at_end c s g)
     by_end g records following has false s e es =
         record { g = g; records = records; following = following; has = has; none = λ closed. let is = line_closed records following closed in absurd cc }
     by_end g records following has true false e es =
         inr (record { g = g; records = records; following = following; has = has; closes = closed_found records following e; unsound = es })
     by_end g records following has true true e es = file_of text g records following has (closed_found records following e) es
 
-    by_records : (o : Opening) → Opens text o.head o.lines → (found : Option (Found GraphData)) → records_at o.head (text_of_lines o.lines) ≡ found → IsOfCode text (graph_of_text text)
+    by_records : (o : Opening) → Opens text o.head o.lines → (found : Option (Found GraphData)) → records_at o.head (text_of_lines o.lines) ≡ found → IsRestoredAs text (graph_of_text text)
     by_records o opens None e =
         let is = ap graph_of_opening (opens_read text o.head o.lines opens) ∙ ap (graph_after o) e in
-        subst (IsOfCode text) (sym is) (inl (record {
+        subst (IsRestoredAs text) (sym is) (inl (record {
           head = o.head;
           lines = o.lines;
           opens = opens;
@@ -108,16 +101,16 @@ kind_of text = by_opening (opening_of (clean_lines text)) refl
         let f = lines_found o.head o.lines found (after_opening text o.head o.lines opens) e in
         let following = lines_of_text found.rest in
         let has : HasRecords text found.value f.0 following = record { head = o.head; lines = o.lines; opens = opens; are = f.1 } in
-        subst (IsOfCode text) (sym (graph_with_records text found.value f.0 following has))
+        subst (IsRestoredAs text) (sym (graph_with_records text found.value f.0 following has))
         (by_end found.value f.0 following has (line_closes f.0 following) (is_sound found.value) refl refl)
 
-    by_opening : (o : Option Opening) → opening_of (clean_lines text) ≡ o → IsOfCode text (graph_of_text text)
-    by_opening None e = subst (IsOfCode text) (sym (ap graph_of_opening e)) (λ head lines opens. let is = opens_read text head lines opens in absurd cc)
+    by_opening : (o : Option Opening) → opening_of (clean_lines text) ≡ o → IsRestoredAs text (graph_of_text text)
+    by_opening None e = subst (IsRestoredAs text) (sym (ap graph_of_opening e)) (λ head lines opens. let is = opens_read text head lines opens in absurd cc)
     by_opening (Some o) e = by_records o (opens_found text o e) (records_at o.head (text_of_lines o.lines)) refl
 
 -- so a text that is read as a graph is a file of it, and a file of a graph is read as it
 pub file_from_read : (g : GraphData) (text : List ℕ) → graph_of_text text ≡ Ok g → IsFileOf g text
-file_from_read g text e = subst (IsOfCode text) e (kind_of text)
+file_from_read g text e = subst (IsRestoredAs text) e (restored text)
 
 pub read_from_file : (g : GraphData) (text : List ℕ) → IsFileOf g text → graph_of_text text ≡ Ok g
 read_from_file g text h =
@@ -132,13 +125,13 @@ read_from_file g text h =
 
 -- and a text with one of these codes is of its kind
 pub early_is : (text : List ℕ) → graph_of_text text ≡ Err Early → HasNoOpening text
-early_is text e = subst (IsOfCode text) e (kind_of text)
+early_is text e = subst (IsRestoredAs text) e (restored text)
 
 pub late_is : (text : List ℕ) → graph_of_text text ≡ Err Late → HasNoClosing text
-late_is text e = subst (IsOfCode text) e (kind_of text)
+late_is text e = subst (IsRestoredAs text) e (restored text)
 
 pub syntax_is : (text : List ℕ) → graph_of_text text ≡ Err Syntax → HasNoRecords text ⊎ HasUnsoundLists text
-syntax_is text e = subst (IsOfCode text) e (kind_of text)
+syntax_is text e = subst (IsRestoredAs text) e (restored text)
 
 pub syntax_of : (text : List ℕ) → HasNoRecords text ⊎ HasUnsoundLists text → graph_of_text text ≡ Err Syntax
 syntax_of text (inl h) = no_records_of text h
@@ -147,3 +140,25 @@ syntax_of text (inr h) = unsound_of text h
 -- a text that has an opening is not refused for having none
 pub opened_late : (text : List ℕ) (head : Head) (lines : List (List ℕ)) → Some (record { head = head; lines = lines }) ≡ opening_of (clean_lines text) → graph_of_text text ≡ Err Early → ⊥
 opened_late text head lines here e = early_is text e head lines (opens_found text _ (sym here))
+
+-- what a text is read as is one only
+pub restored_only : (text : List ℕ) (r : Result GraphData Panic) → IsRestoredAs text r → graph_of_text text ≡ r
+restored_only text (Ok g) h = read_from_file g text h
+restored_only text (Err Early) h = early_of text h
+restored_only text (Err Syntax) h = syntax_of text h
+restored_only text (Err Late) h = late_of text h
+restored_only text (Err _) h = absurd h
+
+-- what is read is what the text is read as, or memory ran out
+pub restored_value : (text : List ℕ) (r : Result GraphData Panic) → IsValue (graph_of_text text) r → IsRestoredAs text r ⊎ (r ≡ Err NoRoom)
+restored_value text (Ok g) e = inl (subst (IsRestoredAs text) e (restored text))
+restored_value text (Err p) (inl e) = inl (subst (IsRestoredAs text) e (restored text))
+restored_value text (Err p) (inr none) = inr (ap Err none)
+
+-- two things that a text is read as are the same
+pub restored_same : (text : List ℕ) (r s : Result GraphData Panic) → IsRestoredAs text r → IsRestoredAs text s → r ≡ s
+restored_same text r s is also = sym (restored_only text r is) ∙ restored_only text s also
+
+-- there is a function that reads each text as what it is
+pub a_reader : (read : List ℕ → Result GraphData Panic) × ((text : List ℕ) → IsRestoredAs text (read text))
+a_reader = (graph_of_text, restored)

@@ -12,7 +12,8 @@ use Rattle.sgb_vec.specs.Names.{IsText, IsTextByte, is_text_byte}
 use Rattle.sgb_vec.specs.declared.panics.Panic.{Panic}
 use Rattle.sgb_vec.specs.declared.panics.Panic.TheVariants.{NoRoom, Syntax}
 use Rattle.sgb_graph.specs.Ids.{most_id_bytes, IsId}
-use Rattle.sgb_file.specs.Fields.{after_prefix, string_at, unbroken}
+use Rattle.sgb_file.specs.inner.ReadFields.{after_prefix, string_at}
+use Rattle.sgb_file.specs.Fields.{unbroken}
 use Rattle.sgb_file.specs.inner.Found.{IsFoundBy, IsPartOf, IsNoString, checked_text, goes_on, is_broken, string_before, string_from}
 use Rattle.sgb_file.specs.inner.LinesLeft.{has_no_newline}
 use Rattle.sgb_file.proofs.LineLemmas.{list_all-take}

@@ -13,8 +13,12 @@ use Rattle.sgb_graph.specs.declared.fields.ArcRec.{ArcRec}
 use Rattle.sgb_file.specs.FileLines.{clean_lines, text_of_lines}
 use Rattle.sgb_file.specs.Checksum.{has_star, checksum_of_lines}
 use Rattle.sgb_file.specs.Fields.{Counts, most_number_digits, is_decimal_digit, number_of, integer_of, ref_of, record_number_of, string_of}
-use Rattle.sgb_file.specs.Records.{Head}
 use Rattle.sgb_file.specs.Saving.{letter_of, quoted}
+
+-- what a file's first line says: the kinds of the utility fields, the vertices and the arc records
+pub record Head : Type 0 where
+  pub kinds : List Kind
+  pub counts : Counts
 
 -- the text of a string of at most so many bytes: bytes that say it, between quotes, and no quote (34) among them
 pub record IsStringText (most : ℕ) (s text : List ℕ) : Type 0 where

@@ -7,15 +7,11 @@ pub mod FileLines
 pub mod Checksum
 -- the fields of a record: their texts and values
 pub mod Fields
--- the records that a text begins with
-pub mod Records
--- the graph that a text is read as
-pub mod Restoring
 -- the text that is written for a graph
 pub mod Saving
 -- when a text is a file of a graph
 pub mod Files
--- when a text is a file of no graph
+-- when a text is a file of no graph, and what each text is read as
 pub mod Refused
 -- the graphs that can be saved
 pub mod Saved

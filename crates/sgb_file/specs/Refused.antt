@@ -1,11 +1,12 @@
--- When a text is a file of no graph, and what its code says of it [GB_SAVE, restore_graph].
-use Rattle.std.specs.Prelude.{◌≡◌, ℕ, List, ◌∷◌, ◌++◌, All, IsFalse}
+-- When a text is a file of no graph, what its code says of it, and so what each text is read as [GB_SAVE, restore_graph].
+use Rattle.std.specs.Prelude.{◌≡◌, ◌⊎◌, ℕ, List, ◌∷◌, ◌++◌, All, IsFalse, Result, Ok, Err}
+use Rattle.sgb_vec.specs.declared.panics.Panic.{Panic}
+use Rattle.sgb_vec.specs.declared.panics.Panic.TheVariants.{Early, Late, Syntax}
 use Rattle.sgb_graph.specs.Graphs.{GraphData}
 use Rattle.sgb_graph.specs.Sound.{is_sound}
 use Rattle.sgb_file.specs.FileLines.{clean_lines, text_of_lines}
 use Rattle.sgb_file.specs.Checksum.{checksum_of_lines}
-use Rattle.sgb_file.specs.Records.{Head}
-use Rattle.sgb_file.specs.Files.{IsComment, IsFirstLine, IsChecksumLine, AreRecordsOf, head_of}
+use Rattle.sgb_file.specs.Files.{Head, IsComment, IsFileOf, IsFirstLine, IsChecksumLine, AreRecordsOf, head_of}
 
 -- the lines of a text, without the spaces at their ends, are comments, a first line, and these lines after it
 pub record Opens (text : List ℕ) (head : Head) (lines : List (List ℕ)) : Type 0 where
@@ -62,3 +63,11 @@ pub record HasUnsoundLists (text : List ℕ) : Type 0 where
   pub has : HasRecords text g records following
   pub closes : IsClosed records following
   pub unsound : IsFalse (is_sound g)
+
+-- what a text is read as: the graph that it is a file of, or the code of a text that is a file of none
+abbrev pub IsRestoredAs : List ℕ → Result GraphData Panic → Type 0
+IsRestoredAs text (Ok g) = IsFileOf g text
+IsRestoredAs text (Err Early) = HasNoOpening text
+IsRestoredAs text (Err Syntax) = HasNoRecords text ⊎ HasUnsoundLists text
+IsRestoredAs text (Err Late) = HasNoClosing text
+IsRestoredAs text (Err _) = ⊥

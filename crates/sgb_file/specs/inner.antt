@@ -3,6 +3,12 @@
 pub mod LineRecords
 -- how an adapted reader or writer is stored
 pub mod Devices
+-- fields as they are read: how far each one's text goes
+pub mod ReadFields
+-- records as they are read
+pub mod ReadRecords
+-- files as they are read
+pub mod ReadFiles
 -- what a reader found, or how it was refused
 pub mod Found
 -- bytes that are looked at together

@@ -20,8 +20,8 @@ pub use devices::{
     put_all,
 };
 pub use laws::{
-    checksum_order_law, file_parts_law, graphs_can_be_saved, line_bytes_law, read_text_law,
-    refused_text_law, running_checksum_law, written_is_read_law,
+    checksum_order_law, file_parts_law, graphs_can_be_saved, line_bytes_law, read_once_law,
+    running_checksum_law, written_is_read_law,
 };
 pub use reading::read_gb;
 pub use saving::write_gb;

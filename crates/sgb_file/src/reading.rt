@@ -1,7 +1,6 @@
 //! The graph of a `.gb` file (GB_SAVE, restore_graph).
-ghost use Rattle.std.specs.Prelude.{◌≡◌, Err};
-ghost use Rattle.sgb_vec.specs.Results.{IsValue};
-ghost use Rattle.sgb_file.specs.Restoring.{graph_of_text};
+ghost use Rattle.std.specs.Prelude.{◌≡◌, ◌⊎◌, Err};
+ghost use Rattle.sgb_file.specs.Refused.{HasNoOpening, IsRestoredAs};
 
 mod closings;
 mod fields;
@@ -33,8 +32,8 @@ use std::alloc::Global;
 /// does not end, or an arc on a vertex's list leads to no vertex. `NoRoom` when out of memory; `Early` comes whatever
 /// memory there is.
 pub fn read_gb(alloc: Global, bytes: &[u8]) -> Result<Graph, Panic>
-    ensures read { IsValue (graph_of_text bytes.now) result }
-    ensures early { graph_of_text bytes.now ≡ Err Panic.Early → result ≡ Err Panic.Early }
+    ensures read { IsRestoredAs bytes.now result ⊎ (result ≡ Err Panic.NoRoom) }
+    ensures early { HasNoOpening bytes.now → result ≡ Err Panic.Early }
 {
     let Some((head, mut lines)) = opening(bytes) else {
         return Err(Panic::Early);

@@ -9,6 +9,10 @@ use Rattle.sgb_file.specs.Devices.{Change}
 use Rattle.sgb_requests.specs.declared.faults.Fault.{Fault}
 use Rattle.sgb_requests.specs.declared.faults.Fault.TheVariants as fault
 use Rattle.sgb_vec.specs.Results.{IsValue}
+use Rattle.sgb_expr.specs.Expression.{Expression}
+use Rattle.sgb.specs.Values.{IsValueOn}
+use Rattle.sgb.proofs.StdinValues.{value_only}
+use Rattle.sgb_levels.specs.Program.{AreLevelsOn}
 use Rattle.sgb.specs.Writing.{IsEnded, IsWritten}
 use Rattle.sgb.proofs.Endings.{change_of, memory_at_once, refused_at_once}
 use Rattle.sgb_vec.proofs.Lists.{range-first, range-none}
@@ -68,3 +72,7 @@ pub answer_refused : (T : Type 0) (v : Result GraphData Panic) (p : Panic) (a : 
 answer_refused T v p a same w failed (inl is) sound left answer = refused_is T p a same w failed sound left (subst (λ (x : Result GraphData Panic). IsLevelsAnswer x a) is answer)
 answer_refused T v p a same w failed (inr is) sound left answer =
     subst (λ q. IsEnded {T = T} a same (change_of w w failed) (Err (fault.Panic q))) (sym is) (memory_at_once T a same w failed sound left)
+
+-- so it is with the value of an expression, of which there is one
+pub answer_on : (input : List ℕ) (e : Expression) (v : Result GraphData Panic) (a : Result (List ℕ) Fault) → IsValueOn input e v → AreLevelsOn input e a → IsLevelsAnswer v a
+answer_on input e v a on (other, is, answer) = subst (λ (x : Result GraphData Panic). IsLevelsAnswer x a) (value_only input e other v is on) answer

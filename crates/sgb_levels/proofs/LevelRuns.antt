@@ -11,10 +11,9 @@ use Rattle.sgb_requests.specs.declared.faults.Fault.{Fault}
 use Rattle.sgb.specs.Inputs.{IsKeptOfInput}
 use Rattle.sgb.specs.Program.{unread_fault}
 use Rattle.sgb.specs.Runs.{Input, IsRunFrom}
-use Rattle.sgb.specs.Values.{stdin_value, value_of}
-use Rattle.sgb.proofs.StdinValues.{stdin_cut, value_same}
+use Rattle.sgb.proofs.StdinValues.{kept_value, value_only}
 use Rattle.sgb_levels.specs.Lines.{IsLevelsAnswer}
-use Rattle.sgb_levels.specs.Program.{AreLevelsWritten, AskFor, IsLevelsRun, IsRefused}
+use Rattle.sgb_levels.specs.Program.{AreLevelsOn, AreLevelsWritten, AskFor, IsLevelsRun, IsRefused}
 
 -- the words ask for an expression, and it was answered
 pub levels_ran : {W E : Type 0} (words : Result W E) (texts : W → List (List ℕ)) (kind : E → ErrorKind) (e : Expr) (source : Input) (same : Type 0) (out err : Change) (status : ℕ)
@@ -36,14 +35,8 @@ levels_refused (Err x) texts kind f source same out err status asked refused =
 
 -- what is kept of standard input is as good as all of it
 pub levels_written : (e : Expression) (source : Input) (kept : List ℕ) (same : Type 0) (out err : Change) (status : ℕ) → (has_stdin e ≡ true → IsKeptOfInput source.bytes kept)
-    → ((a : Result (List ℕ) Fault) → IsLevelsAnswer (value_of kept e) a → IsRunFrom (has_stdin e && source.failed) a same out err status)
+    → ((a : Result (List ℕ) Fault) → AreLevelsOn kept e a → IsRunFrom (has_stdin e && source.failed) a same out err status)
     → AreLevelsWritten e source same out err status
-levels_written e source kept same out err status is run = by_told source.bytes is
-  where
-    by_told : (told : Option (List ℕ)) → (has_stdin e ≡ true → IsKeptOfInput told kept)
-        → (held : List ℕ) × IfSome told (λ bytes. held ≡ bytes)
-        × ((a : Result (List ℕ) Fault) → IsLevelsAnswer (value_of held e) a → IsRunFrom (has_stdin e && source.failed) a same out err status)
-    by_told None is = (kept, tt, run)
-    by_told (Some bytes) is =
-        let alike = value_same kept bytes e (λ reads. ap stdin_value (is reads) ∙ stdin_cut bytes) in
-        (bytes, refl, λ a answer. run a (subst (λ (v : Result GraphData Panic). IsLevelsAnswer v a) (sym alike) answer))
+levels_written e source kept same out err status is run =
+    let (held, told, value, on_held, on_kept) = kept_value source.bytes kept e is in
+    (held, told, λ a (other, on, answer). run a (value, on_kept, subst (λ (v : Result GraphData Panic). IsLevelsAnswer v a) (value_only held e other value on on_held) answer))

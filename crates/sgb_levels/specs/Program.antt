@@ -1,5 +1,7 @@
 -- What a call of the program does: the lines of an expression's graph are written, or a refusal is reported.
 use Rattle.std.specs.Prelude.{◌≡◌, ◌⊎◌, ◌&&◌, ℕ, false, List, [], ◌∷◌, codes, IfSome, Result, Ok, Err}
+use Rattle.sgb_vec.specs.declared.panics.Panic.{Panic}
+use Rattle.sgb_graph.specs.Graphs.{GraphData}
 use Rattle.sgb_file.specs.Devices.{AppendsUnlessFailed, Change}
 use Rattle.sgb_expr.specs.Expression.{Expression, expression_of}
 use Rattle.sgb_expr.specs.StdinUses.{has_stdin}
@@ -9,7 +11,7 @@ use Rattle.sgb_requests.specs.Reading.{IsReadAs}
 use Rattle.sgb_requests.specs.declared.faults.Fault.{Fault}
 use Rattle.sgb_requests.specs.declared.faults.Fault.TheVariants as fault
 use Rattle.sgb.specs.Runs.{Input, IsRunFrom}
-use Rattle.sgb.specs.Values.{value_of}
+use Rattle.sgb.specs.Values.{IsValueOn}
 use Rattle.sgb_levels.specs.Lines.{IsLevelsAnswer}
 
 -- what the words ask for, of which the first is the program's name: the expression that the only other one is read as; any
@@ -40,12 +42,16 @@ pub record IsRefused (f : Fault) (same : Type 0) (out err : Change) (status : �
   pub line : AppendsUnlessFailed err (refusal_line f)
   pub exit : status ≡ status_of f
 
+-- the answer of the program where standard input has these bytes
+abbrev pub AreLevelsOn : List ℕ → Expression → Result (List ℕ) Fault → Type 0
+AreLevelsOn input e answer = (value : Result GraphData Panic) × IsValueOn input e value × IsLevelsAnswer value answer
+
 -- The distances in this expression's graph were written: standard input holds a text, the one that it tells, and the answer on
 -- it was given, or the run was stopped, as runs of `sgb` are.
 abbrev pub AreLevelsWritten : Expression → Input → Type 0 → Change → Change → ℕ → Type 0
 AreLevelsWritten e source same out err status =
     (held : List ℕ) × IfSome source.bytes (λ bytes. held ≡ bytes)
-    × ((a : Result (List ℕ) Fault) → IsLevelsAnswer (value_of held e) a
+    × ((a : Result (List ℕ) Fault) → AreLevelsOn held e a
     → IsRunFrom (has_stdin e && source.failed) a same out err status)
 
 -- what these words ask for was done, or their refusal was reported

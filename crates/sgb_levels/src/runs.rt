@@ -10,10 +10,10 @@ ghost use Rattle.sgb_expr.specs.StdinUses.{has_stdin};
 ghost use Rattle.sgb_requests.specs.Faults.{status_of};
 ghost use Rattle.sgb.specs.Inputs.{LosesAtMost};
 ghost use Rattle.sgb.specs.Program.{unread_fault};
-ghost use Rattle.sgb.specs.Values.{most_input, value_of};
+ghost use Rattle.sgb.specs.Values.{most_input};
 ghost use Rattle.sgb.specs.Writing.{IsWritten};
-ghost use Rattle.sgb_levels.specs.Lines.{IsLevelsAnswer, distance_text, level_line, level_lines, line_of_level};
-ghost use Rattle.sgb_levels.specs.Program.{AskFor, AskForNoStdin, IsLevelsRun, IsRefused, refusal_line, levels_usage_line};
+ghost use Rattle.sgb_levels.specs.Lines.{distance_text, level_line, level_lines, line_of_level};
+ghost use Rattle.sgb_levels.specs.Program.{AreLevelsOn, AskFor, AskForNoStdin, IsLevelsRun, IsRefused, refusal_line, levels_usage_line};
 
 use crate::levels::levels;
 use itoa::Buffer;
@@ -118,7 +118,7 @@ struct Levels {
 impl Answer for Levels {
     ghost reads = { λ l. has_stdin (expression_of l.expression) };
 
-    ghost answers = { λ l input a. IsLevelsAnswer (value_of input (expression_of l.expression)) a };
+    ghost answers = { λ l input a. AreLevelsOn input (expression_of l.expression) a };
 
     ghost certain = { λ l. ⊥ };
 

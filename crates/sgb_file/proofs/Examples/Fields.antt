@@ -4,8 +4,9 @@ use Rattle.sgb_graph.specs.Made.{no_kinds}
 use Rattle.sgb_graph.specs.declared.fields.Kind.TheVariants.{V, A}
 use Rattle.sgb_graph.specs.declared.fields.Ref.TheVariants.{Null, One, At}
 use Rattle.sgb_graph.specs.declared.fields.Util.TheVariants.{Vertex as VertexField, Chain}
-use Rattle.sgb_file.specs.Fields.{unbroken, number_of, integer_of, ref_of, record_number_of, string_of, string_at, field_at}
-use Rattle.sgb_file.specs.Restoring.{head_of_line, checksum_in_line}
+use Rattle.sgb_file.specs.Fields.{unbroken, number_of, integer_of, ref_of, record_number_of, string_of}
+use Rattle.sgb_file.specs.inner.ReadFields.{string_at, field_at}
+use Rattle.sgb_file.specs.inner.ReadFiles.{head_of_line, checksum_in_line}
 
 -- digits, and the bytes next to them
 pub numbers : map (number_of 18) (codes "0123456789" ∷ codes "/" ∷ codes ":" ∷ codes "1x" ∷ []) ≡ Some 123456789 ∷ None ∷ None ∷ None ∷ []

@@ -5,8 +5,8 @@ use Rattle.sgb_graph.specs.Graphs.{ends_from, numbers_from}
 use Rattle.sgb_file.specs.FileLines.{lines_among, without_end_spaces, text_of_lines}
 use Rattle.sgb_file.specs.Checksum.{weighted_sum}
 use Rattle.sgb_file.specs.Fields.{unbroken}
-use Rattle.sgb_file.specs.Records.{more_fields_at, all_at}
-use Rattle.sgb_file.specs.Restoring.{opening_of, graph_of_text}
+use Rattle.sgb_file.specs.inner.ReadRecords.{more_fields_at, all_at}
+use Rattle.sgb_file.specs.inner.ReadFiles.{opening_of, graph_of_text}
 use Rattle.sgb_file.proofs.Examples.GraphFiles.{two_joined_lines, nothing_lines, ring_text}
 
 -- nothing at all has no first line; more vertices than a graph can have, a letter that is no kind, and a line that does not

@@ -17,8 +17,8 @@ use Rattle.sgb_graph.specs.declared.fields.ArcRec.{ArcRec}
 use Rattle.sgb_file.specs.FileLines.{lines_among, without_end_spaces}
 use Rattle.sgb_file.specs.Checksum.{weighted_sum}
 use Rattle.sgb_file.specs.Fields.{unbroken}
-use Rattle.sgb_file.specs.Records.{more_fields_at, all_at}
-use Rattle.sgb_file.specs.Restoring.{opening_of, graph_of_text}
+use Rattle.sgb_file.specs.inner.ReadRecords.{more_fields_at, all_at}
+use Rattle.sgb_file.specs.inner.ReadFiles.{opening_of, graph_of_text}
 use Rattle.sgb_file.specs.Saving.{pieces_of, laid_out, text_of_graph}
 use Rattle.sgb_file.specs.Saved.{CanBeSaved, ValueCanBeSaved, VertexCanBeSaved, ArcCanBeSaved}
 

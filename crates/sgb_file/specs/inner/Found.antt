@@ -10,8 +10,9 @@ use Rattle.sgb_graph.specs.declared.fields.Kind.TheVariants.{Z}
 use Rattle.sgb_graph.specs.declared.fields.Util.{Util}
 use Rattle.sgb_graph.specs.declared.fields.Util.TheVariants.{Nothing}
 use Rattle.sgb_vec.specs.Names.{is_text_byte}
-use Rattle.sgb_file.specs.Fields.{Counts, Found, given, field_at, is_decimal_digit, string_at, unbroken}
-use Rattle.sgb_file.specs.Records.{after_comma}
+use Rattle.sgb_file.specs.Fields.{Counts, given, is_decimal_digit, unbroken}
+use Rattle.sgb_file.specs.inner.ReadFields.{Found, field_at, string_at}
+use Rattle.sgb_file.specs.inner.ReadRecords.{after_comma}
 
 -- the result is what was found, with this text after it; `Syntax` where nothing was found; or it is out of memory
 abbrev pub IsFoundBy : {X : Type 0} → Option (Found X) → Result X Panic → List ℕ → Type 0

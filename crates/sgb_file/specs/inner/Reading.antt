@@ -7,8 +7,10 @@ use Rattle.sgb_graph.specs.declared.fields.Kind.{Kind}
 use Rattle.sgb_graph.specs.declared.fields.Kind.TheVariants.{I, V, S, A}
 use Rattle.sgb_graph.specs.declared.fields.Vertex.{Vertex}
 use Rattle.sgb_graph.specs.declared.fields.ArcRec.{ArcRec}
-use Rattle.sgb_file.specs.Fields.{Counts, Found, after_prefix, field_at, found_as, given}
-use Rattle.sgb_file.specs.Records.{Head, all_at, arc_of_fields, arc_record_at, more_fields_at, vertex_of_fields, vertex_record_at}
+use Rattle.sgb_file.specs.Fields.{Counts, given}
+use Rattle.sgb_file.specs.inner.ReadFields.{Found, after_prefix, field_at, found_as}
+use Rattle.sgb_file.specs.Files.{Head}
+use Rattle.sgb_file.specs.inner.ReadRecords.{all_at, arc_of_fields, arc_record_at, more_fields_at, vertex_of_fields, vertex_record_at}
 use Rattle.sgb_file.specs.inner.Found.{next_field_at}
 
 -- the parts with these vertices, or these arc records, after those that they have

@@ -2,8 +2,8 @@
 ghost use Rattle.std.specs.Prelude.{◌≡◌, ◌∷◌, [], ℕ, List};
 ghost use Rattle.sgb_file.specs.Checksum.{checksum_of_lines};
 ghost use Rattle.sgb_file.specs.inner.LinesLeft.{text_left};
-ghost use Rattle.sgb_file.specs.Records.{Head as FileHead};
-ghost use Rattle.sgb_file.specs.Restoring.{checksum_agrees, checksum_in_line, closes, line_closes};
+ghost use Rattle.sgb_file.specs.Files.{Head as FileHead};
+ghost use Rattle.sgb_file.specs.inner.ReadFiles.{checksum_agrees, checksum_in_line, closes, line_closes};
 
 use super::lines::Lines;
 use super::texts::{after_prefix, leading_number};

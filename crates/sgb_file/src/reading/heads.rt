@@ -30,7 +30,7 @@ pub(super) struct Head {
 
 impl Model for Head {
     ghost use Rattle.std.specs.Prelude.{◌≡◌, length};
-    ghost use Rattle.sgb_file.specs.Records.{Head as FileHead};
+    ghost use Rattle.sgb_file.specs.Files.{Head as FileHead};
 
     ghost Value = { FileHead };
 

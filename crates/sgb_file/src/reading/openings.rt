@@ -3,7 +3,7 @@ ghost use Rattle.std.specs.Prelude.{◌≡◌, ◌≤◌, IfSome, option_map};
 ghost use Rattle.sgb_vec.specs.Limits.{most_vertices};
 ghost use Rattle.sgb_file.specs.FileLines.{clean_lines};
 ghost use Rattle.sgb_file.specs.inner.LinesLeft.{next_begun, none_begun};
-ghost use Rattle.sgb_file.specs.Restoring.{head_of_line, kind_of_letter, kinds_at, opening_of};
+ghost use Rattle.sgb_file.specs.inner.ReadFiles.{head_of_line, kind_of_letter, kinds_at, opening_of};
 
 use super::heads::{Counts, Head};
 use super::lines::{Lines, first_line};

@@ -6,7 +6,7 @@ ghost use Rattle.sgb_file.specs.inner.Found.{IsFoundBy};
 ghost use Rattle.sgb_file.specs.inner.LinesLeft.{text_left};
 ghost use Rattle.sgb_file.specs.inner.LineRecords.{IsPlainVertex, plain_record};
 ghost use Rattle.sgb_file.specs.inner.Reading.{IsNextArc, IsNextVertex, arc_fields_at, vertex_fields_at};
-ghost use Rattle.sgb_file.specs.Records.{arc_record_at, graph_record_at, more_fields_at};
+ghost use Rattle.sgb_file.specs.inner.ReadRecords.{arc_record_at, graph_record_at, more_fields_at};
 
 use super::fields::{
     is_used, read_field_after_comma, read_integer, read_integer_after_comma, read_next_field,

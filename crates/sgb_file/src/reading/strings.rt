@@ -3,7 +3,7 @@ ghost use Rattle.std.specs.Prelude.{◌≡◌, ◌==◌, ◌≤◌, ◌<◌, ◌
 ghost use Rattle.std.specs.List.{position};
 ghost use Rattle.sgb_vec.specs.Limits.{most_bytes};
 ghost use Rattle.sgb_graph.specs.Ids.{most_id_bytes};
-ghost use Rattle.sgb_file.specs.Fields.{string_at};
+ghost use Rattle.sgb_file.specs.inner.ReadFields.{string_at};
 ghost use Rattle.sgb_file.specs.inner.Found.{BeginsWith, IsFoundBy, IsNoString, IsNoStringAt, IsNoWhole, IsPartOf, IsWholeOf, is_broken, string_from};
 ghost use Rattle.sgb_file.specs.inner.LinesLeft.{text_left};
 

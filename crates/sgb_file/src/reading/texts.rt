@@ -1,8 +1,9 @@
 //! What a line begins with: fixed texts and numbers.
 ghost use Rattle.std.specs.Prelude.{◌≡◌, ◌<◌, ◌^◌, drop, IfSome, length, option_map};
 ghost use Rattle.std.specs.List.{take_while};
-ghost use Rattle.sgb_file.specs.Fields.{after_prefix, is_decimal_digit};
-ghost use Rattle.sgb_file.specs.Restoring.{leading_number};
+ghost use Rattle.sgb_file.specs.inner.ReadFields.{after_prefix};
+ghost use Rattle.sgb_file.specs.Fields.{is_decimal_digit};
+ghost use Rattle.sgb_file.specs.inner.ReadFiles.{leading_number};
 
 use super::numbers::number_of;
 

@@ -1,4 +1,4 @@
-use Rattle.std.proofs.Common.{◌≡◌, ◌||◌, ◌∙◌, ◌++◌, ℕ, ℤ, List, [], ◌∷◌, map, Result, Ok, Err, refl, ap, sym, subst, w64, rules, arith, inr}
+use Rattle.std.proofs.Common.{◌≡◌, ◌||◌, ◌∙◌, ◌++◌, ℤ, List, [], ◌∷◌, map, Result, Ok, Err, refl, ap, sym, subst, w64, rules, arith, inr}
 use Rattle.std.proofs.lemmas.Result.{err_from_is_err_and}
 use Rattle.std.proofs.lemmas.Int.{to_z-of_z}
 use Rattle.std.proofs.lemmas.List.{map-append}
@@ -30,37 +30,37 @@ use Rattle.sgb.proofs.Values.{both_refused, size_of_entries, value_both, value_m
 use Rattle.sgb.proofs.evaluation.+graphs.Goals as goal
 
 -- the value of an operand that stands in a box
-at_value : (input : List ℕ) (e f : Expr) (g : GraphData) → e ≡ f → value_of input (expression_of e) ≡ Ok g → value_of input (expression_of f) ≡ Ok g
-at_value input e f g same is = subst (λ (x : Expr). value_of input (expression_of x) ≡ Ok g) same is
+at_value : (stdin : Result GraphData Panic) (e f : Expr) (g : GraphData) → e ≡ f → value_of stdin (expression_of e) ≡ Ok g → value_of stdin (expression_of f) ≡ Ok g
+at_value stdin e f g same is = subst (λ (x : Expr). value_of stdin (expression_of x) ≡ Ok g) same is
 
 pub evaluate-returns-in-Generator-clause-value : goal.evaluate-returns-in-Generator-clause-value
 evaluate-returns-in-Generator-clause-value t c =
-    rw c.in-Generator.is (value_made _ _ c.generator_graph.ensures.answer)
+    rw c.in-Generator.is (λ stdin gives. value_made _ _ c.generator_graph.ensures.answer)
 
 pub evaluate-returns-in_ok-operand-in-Complement-clause-value : goal.evaluate-returns-in_ok-operand-in-Complement-clause-value
 evaluate-returns-in_ok-operand-in-Complement-clause-value t c =
     let a = c.in-Complement in
-    rw a.is (value_one (λ g. complement_of g a.copy a.self_loops a.directed) c.args.input.now _ a.graph.value _ _ c.deref.ensures c.in_ok-operand-in-Complement.ensures.value c.complement.ensures)
+    rw a.is (λ stdin gives. value_one (λ g. complement_of g a.copy a.self_loops a.directed) (stdin c.args.input.now) _ a.graph.value _ _ c.deref.ensures (c.in_ok-operand-in-Complement.ensures.value stdin gives) c.complement.ensures)
 
 pub evaluate-returns-in_ok-left-in-Gunion-clause-value : goal.evaluate-returns-in_ok-left-in-Gunion-clause-value
 evaluate-returns-in_ok-left-in-Gunion-clause-value t c =
     let a = c.in-Gunion in
-    rw a.is (value_two (λ g h. gunion_of g h a.multi a.directed) c.args.input.now _ _ a.first.value a.second.value _ _ c.deref-in-Gunion.ensures c.deref-in-Gunion-2.ensures c.in_ok-left-in-Gunion.ensures.value c.gunion.ensures)
+    rw a.is (λ stdin gives. value_two (λ g h. gunion_of g h a.multi a.directed) (stdin c.args.input.now) _ _ a.first.value a.second.value _ _ c.deref-in-Gunion.ensures c.deref-in-Gunion-2.ensures (c.in_ok-left-in-Gunion.ensures.value stdin gives) c.gunion.ensures)
 
 pub evaluate-returns-in_ok-left-in-Intersection-clause-value : goal.evaluate-returns-in_ok-left-in-Intersection-clause-value
 evaluate-returns-in_ok-left-in-Intersection-clause-value t c =
     let a = c.in-Intersection in
-    rw a.is (value_two (λ g h. intersection_of g h a.multi a.directed) c.args.input.now _ _ a.first.value a.second.value _ _ c.deref-in-Intersection.ensures c.deref-in-Intersection-2.ensures c.in_ok-left-in-Intersection.ensures.value c.intersection.ensures)
+    rw a.is (λ stdin gives. value_two (λ g h. intersection_of g h a.multi a.directed) (stdin c.args.input.now) _ _ a.first.value a.second.value _ _ c.deref-in-Intersection.ensures c.deref-in-Intersection-2.ensures (c.in_ok-left-in-Intersection.ensures.value stdin gives) c.intersection.ensures)
 
 pub evaluate-returns-in_ok-operand-in-Lines-clause-value : goal.evaluate-returns-in_ok-operand-in-Lines-clause-value
 evaluate-returns-in_ok-operand-in-Lines-clause-value t c =
     let a = c.in-Lines in
-    rw a.is (value_one (λ g. line_graph_of g a.directed) c.args.input.now _ a.graph.value _ _ c.deref-in-Lines.ensures c.in_ok-operand-in-Lines.ensures.value c.lines.ensures)
+    rw a.is (λ stdin gives. value_one (λ g. line_graph_of g a.directed) (stdin c.args.input.now) _ a.graph.value _ _ c.deref-in-Lines.ensures (c.in_ok-operand-in-Lines.ensures.value stdin gives) c.lines.ensures)
 
 pub evaluate-returns-in_ok-left-in-Product-clause-value : goal.evaluate-returns-in_ok-left-in-Product-clause-value
 evaluate-returns-in_ok-left-in-Product-clause-value t c =
     let a = c.in-Product in
-    rw a.is (value_two (λ g h. product_graph_of g h a.kind a.directed) c.args.input.now _ _ a.first.value a.second.value _ _ c.deref-in-Product.ensures c.deref-in-Product-2.ensures c.in_ok-left-in-Product.ensures.value
+    rw a.is (λ stdin gives. value_two (λ g h. product_graph_of g h a.kind a.directed) (stdin c.args.input.now) _ _ a.first.value a.second.value _ _ c.deref-in-Product.ensures c.deref-in-Product-2.ensures (c.in_ok-left-in-Product.ensures.value stdin gives)
     (subst (λ kind. IsAnswerOf (product_graph_of c.in_ok-left-in-Product.left c.in_ok-left-in-Product.right kind a.directed) c.product.result) (to_z-of_z w64 a.kind (search rules)) c.product.ensures.answer))
 
 -- the answer to two integers that stand for themselves
@@ -70,18 +70,18 @@ at_numbers make m n m' n' r e f is = subst (λ k. IsAnswerOf (make m k) r) f (su
 pub evaluate-returns-in-BiComplete-clause-value : goal.evaluate-returns-in-BiComplete-clause-value
 evaluate-returns-in-BiComplete-clause-value t c =
     let a = c.in-BiComplete in
-    rw a.is (value_made (bi_complete_of a.n1 a.n2 a.directed) c.bi_complete.result
+    rw a.is (λ stdin gives. value_made (bi_complete_of a.n1 a.n2 a.directed) c.bi_complete.result
     (at_numbers (λ n1 n2. bi_complete_of n1 n2 a.directed) a.n1 a.n2 _ _ c.bi_complete.result (to_z-of_z w64 a.n1 (search rules)) (to_z-of_z w64 a.n2 (search rules)) c.bi_complete.ensures.answer))
 
 pub evaluate-returns-in-Wheel-clause-value : goal.evaluate-returns-in-Wheel-clause-value
 evaluate-returns-in-Wheel-clause-value t c =
     let a = c.in-Wheel in
-    rw a.is (value_made (wheel_of a.n a.n1 a.directed) c.wheel.result
+    rw a.is (λ stdin gives. value_made (wheel_of a.n a.n1 a.directed) c.wheel.result
     (at_numbers (λ n n1. wheel_of n n1 a.directed) a.n a.n1 _ _ c.wheel.result (to_z-of_z w64 a.n (search rules)) (to_z-of_z w64 a.n1 (search rules)) c.wheel.ensures.answer))
 
 pub evaluate-returns-in-Stdin-clause-value : goal.evaluate-returns-in-Stdin-clause-value
 evaluate-returns-in-Stdin-clause-value t c =
-    rw c.in-Stdin.is c.read_kept.ensures.value
+    rw c.in-Stdin.is (λ stdin gives. c.read_kept.ensures.value (stdin c.args.input.now) (gives c.args.input.now))
 
 pub evaluate-returns-in-Generator-clause-refused : goal.evaluate-returns-in-Generator-clause-refused
 evaluate-returns-in-Generator-clause-refused t c =
@@ -165,42 +165,42 @@ evaluate-values_of-requires t c =
     (omega (arith, size, same, c.decreases), tt)
 
 pub evaluate-returns-in_err-values-in-Induced-clause-value : goal.evaluate-returns-in_err-values-in-Induced-clause-value
-evaluate-returns-in_err-values-in-Induced-clause-value t c =
+evaluate-returns-in_err-values-in-Induced-clause-value t c = λ stdin gives.
     let a = c.in-Induced in
     let p = err_from_is_err_and c.from_residual-in_err-values-in-Induced.result c.from_residual-in_err-values-in-Induced.ensures.1 in
-    let same = values_on _ _ _ _ _ (entries_of (listed c.as_slice-entries.result.now)) c.more_in.ensures c.in_ok-operand-in-Induced.ensures.left in
-    let refused = subst (λ (v : Result (List Entry) Panic). IsValue v (Err c.in_err-values-in-Induced.field-0.0)) same c.in_err-values-in-Induced.ensures.refused in
-    let by = subst (λ (es : List EntryExpr). IsValue (values_of c.args.input.now (entries_of (listed es))) (Err c.in_err-values-in-Induced.field-0.0)) c.as_slice-entries.ensures refused in
+    let same = values_on _ _ _ _ _ stdin (entries_of (listed c.as_slice-entries.result.now)) c.more_in.ensures c.in_ok-operand-in-Induced.ensures.left in
+    let refused = subst (λ (v : Result (List Entry) Panic). IsValue v (Err c.in_err-values-in-Induced.field-0.0)) same (c.in_err-values-in-Induced.ensures.refused stdin gives) in
+    let by = subst (λ (es : List EntryExpr). IsValue (values_of (stdin c.args.input.now) (entries_of (listed es))) (Err c.in_err-values-in-Induced.field-0.0)) c.as_slice-entries.ensures refused in
     rw (p.1, p.2)
-    (subst (λ (v : Result GraphData Panic). IsValue v (Err c.in_err-values-in-Induced.field-0.0)) (sym (induced_value c.args.input.now c.args.expression.now a.graph a.entries a.self_loops a.multi a.directed a.is))
+    (subst (λ (v : Result GraphData Panic). IsValue v (Err c.in_err-values-in-Induced.field-0.0)) (sym (induced_value (stdin c.args.input.now) c.args.expression.now a.graph a.entries a.self_loops a.multi a.directed a.is))
     (entries_refused _ _ c.in_ok-operand-in-Induced.operand a.self_loops a.multi a.directed c.in_err-values-in-Induced.field-0.0
-    (at_value c.args.input.now _ a.graph.value c.in_ok-operand-in-Induced.operand c.deref-in-Induced.ensures c.in_ok-operand-in-Induced.ensures.value) by))
+    (at_value (stdin c.args.input.now) _ a.graph.value c.in_ok-operand-in-Induced.operand c.deref-in-Induced.ensures (c.in_ok-operand-in-Induced.ensures.value stdin gives)) by))
 
 pub evaluate-returns-in_err-list-in-Induced-clause-value : goal.evaluate-returns-in_err-list-in-Induced-clause-value
-evaluate-returns-in_err-list-in-Induced-clause-value t c =
+evaluate-returns-in_err-list-in-Induced-clause-value t c = λ stdin gives.
     let a = c.in-Induced in
     let p = err_from_is_err_and c.from_residual-in_err-list-in-Induced.result c.from_residual-in_err-list-in-Induced.ensures.1 in
     let values = map handed_entry c.in_ok-values-in-Induced.values.items in
-    let same = values_on _ _ _ _ _ (entries_of (listed c.as_slice-entries.result.now)) c.more_in.ensures c.in_ok-operand-in-Induced.ensures.left in
-    let is = subst (λ (es : List EntryExpr). values_of c.args.input.now (entries_of (listed es)) ≡ Ok values) c.as_slice-entries.ensures (sym same ∙ c.in_ok-values-in-Induced.ensures.ok) in
+    let same = values_on _ _ _ _ _ stdin (entries_of (listed c.as_slice-entries.result.now)) c.more_in.ensures c.in_ok-operand-in-Induced.ensures.left in
+    let is = subst (λ (es : List EntryExpr). values_of (stdin c.args.input.now) (entries_of (listed es)) ≡ Ok values) c.as_slice-entries.ensures (sym same ∙ (c.in_ok-values-in-Induced.ensures.ok stdin gives)) in
     rw (p.1, p.2)
-    (subst (λ (v : Result GraphData Panic). IsValue v (Err c.in_err-list-in-Induced.field-0.0)) (sym (induced_value c.args.input.now c.args.expression.now a.graph a.entries a.self_loops a.multi a.directed a.is))
+    (subst (λ (v : Result GraphData Panic). IsValue v (Err c.in_err-list-in-Induced.field-0.0)) (sym (induced_value (stdin c.args.input.now) c.args.expression.now a.graph a.entries a.self_loops a.multi a.directed a.is))
     (entries_made _ _ c.in_ok-operand-in-Induced.operand values a.self_loops a.multi a.directed (Err c.in_err-list-in-Induced.field-0.0)
-    (at_value c.args.input.now _ a.graph.value c.in_ok-operand-in-Induced.operand c.deref-in-Induced.ensures c.in_ok-operand-in-Induced.ensures.value) is
+    (at_value (stdin c.args.input.now) _ a.graph.value c.in_ok-operand-in-Induced.operand c.deref-in-Induced.ensures (c.in_ok-operand-in-Induced.ensures.value stdin gives)) is
     (inr c.in_err-list-in-Induced.ensures.memory)))
 
 pub evaluate-returns-in_ok-list-in-Induced-clause-value : goal.evaluate-returns-in_ok-list-in-Induced-clause-value
-evaluate-returns-in_ok-list-in-Induced-clause-value t c =
+evaluate-returns-in_ok-list-in-Induced-clause-value t c = λ stdin gives.
     let a = c.in-Induced in
     let values = map handed_entry c.in_ok-values-in-Induced.values.items in
     let list = c.in_ok-list-in-Induced.list.items in
     let operand = c.in_ok-operand-in-Induced.operand in
-    let same = values_on _ _ _ _ _ (entries_of (listed c.as_slice-entries.result.now)) c.more_in.ensures c.in_ok-operand-in-Induced.ensures.left in
-    let is = subst (λ (es : List EntryExpr). values_of c.args.input.now (entries_of (listed es)) ≡ Ok values) c.as_slice-entries.ensures (sym same ∙ c.in_ok-values-in-Induced.ensures.ok) in
+    let same = values_on _ _ _ _ _ stdin (entries_of (listed c.as_slice-entries.result.now)) c.more_in.ensures c.in_ok-operand-in-Induced.ensures.left in
+    let is = subst (λ (es : List EntryExpr). values_of (stdin c.args.input.now) (entries_of (listed es)) ≡ Ok values) c.as_slice-entries.ensures (sym same ∙ (c.in_ok-values-in-Induced.ensures.ok stdin gives)) in
     let answer : IsAnswerOf (induced_of operand list a.self_loops a.multi a.directed) c.induced_from.result = c.induced_from.ensures.answer in
-    subst (λ (v : Result GraphData Panic). IsValue v c.induced_from.result) (sym (induced_value c.args.input.now c.args.expression.now a.graph a.entries a.self_loops a.multi a.directed a.is))
+    subst (λ (v : Result GraphData Panic). IsValue v c.induced_from.result) (sym (induced_value (stdin c.args.input.now) c.args.expression.now a.graph a.entries a.self_loops a.multi a.directed a.is))
     (entries_made _ _ operand values a.self_loops a.multi a.directed c.induced_from.result
-    (at_value c.args.input.now _ a.graph.value operand c.deref-in-Induced.ensures c.in_ok-operand-in-Induced.ensures.value) is
+    (at_value (stdin c.args.input.now) _ a.graph.value operand c.deref-in-Induced.ensures (c.in_ok-operand-in-Induced.ensures.value stdin gives)) is
     (subst (λ (es : List Entry). IsValue (made (induced_of operand es a.self_loops a.multi a.directed)) c.induced_from.result) c.in_ok-list-in-Induced.ensures.ok
     (value_made (induced_of operand list a.self_loops a.multi a.directed) c.induced_from.result answer)))
 
@@ -214,11 +214,11 @@ evaluate-returns-in_ok-list-in-Induced-clause-left t c =
     if_ok c.induced_from.result _ (left ∙ ap (λ reads. left_after c.args.more reads c.args.input.now) (graph ∙ entries ∙ sym all))
 
 pub operands-returns-in_err-right-clause-value : goal.operands-returns-in_err-right-clause-value
-operands-returns-in_err-right-clause-value t c =
+operands-returns-in_err-right-clause-value t c = λ stdin gives.
     let p = err_from_is_err_and c.from_residual-in_err-right.result c.from_residual-in_err-right.ensures.1 in
-    let same = value_on _ _ _ _ _ (expression_of c.args.second.now) c.more_with.ensures c.in_ok-left.ensures.left in
-    rw (p.1, p.2) (both_refused _ _ c.in_ok-left.left c.in_err-right.field-0.0 c.in_ok-left.ensures.value
-    (subst (λ (v : Result GraphData Panic). IsValue v (Err c.in_err-right.field-0.0)) same c.in_err-right.ensures.value))
+    let same = value_on _ _ _ _ _ stdin (expression_of c.args.second.now) c.more_with.ensures c.in_ok-left.ensures.left in
+    rw (p.1, p.2) (both_refused _ _ c.in_ok-left.left c.in_err-right.field-0.0 (c.in_ok-left.ensures.value stdin gives)
+    (subst (λ (v : Result GraphData Panic). IsValue v (Err c.in_err-right.field-0.0)) same (c.in_err-right.ensures.value stdin gives)))
 
 pub operands-returns-in_err-left-clause-refused : goal.operands-returns-in_err-left-clause-refused
 operands-returns-in_err-left-clause-refused t c = exit_first c.args.input.now c.args.first.now c.args.first.now _ _ c.from_residual.ensures.1 refl c.in_err-left.ensures.refused
@@ -230,9 +230,9 @@ pub operands-returns-clause-refused : goal.operands-returns-clause-refused
 operands-returns-clause-refused t c = λ p is. made_operands _ _ (c.in_ok-left.ensures.refused p is)
 
 pub operands-returns-clause-value : goal.operands-returns-clause-value
-operands-returns-clause-value t c =
-    let same = value_on _ _ _ _ _ (expression_of c.args.second.now) c.more_with.ensures c.in_ok-left.ensures.left in
-    value_both _ _ c.in_ok-left.left c.in_ok-right.right c.in_ok-left.ensures.value (sym same ∙ c.in_ok-right.ensures.value)
+operands-returns-clause-value t c = λ stdin gives.
+    let same = value_on _ _ _ _ _ stdin (expression_of c.args.second.now) c.more_with.ensures c.in_ok-left.ensures.left in
+    value_both _ _ c.in_ok-left.left c.in_ok-right.right (c.in_ok-left.ensures.value stdin gives) (sym same ∙ (c.in_ok-right.ensures.value stdin gives))
 
 pub values_of-value_of_entry-requires : goal.values_of-value_of_entry-requires
 values_of-value_of_entry-requires t c =
@@ -247,11 +247,12 @@ values_of-loop-entry-preserved t c =
     let value = handed_entry c.in_ok-value.value in
     let put = ap (map handed_entry) c.in_ok-push.ensures.items ∙ map-append handed_entry c.loop-entry.values.items (c.in_ok-value.value ∷ []) in
     let left = c.in_ok-value.ensures.left in (
-      ap (λ (es : List Entry). and_values es (values_of c.value_of_entry.new.input others)) put
-          ∙ ap (and_values (before ++ value ∷ [])) (values_on c.args.more _ _ c.loop-entry.input _ others refl left)
-          ∙ one_more before value _ (values_of c.loop-entry.input others) c.in_ok-value.ensures.ok
-          ∙ ap (λ (es : List EntryExpr). and_values before (values_of c.loop-entry.input (entries_of (listed es)))) (sym taken)
-          ∙ c.loop-entry.invariant.0,
+      λ stdin gives.
+          ap (λ (es : List Entry). and_values es (values_of (stdin c.value_of_entry.new.input) others)) put
+          ∙ ap (and_values (before ++ value ∷ [])) (values_on c.args.more _ _ c.loop-entry.input _ stdin others refl left)
+          ∙ one_more before value _ (values_of (stdin c.loop-entry.input) others) (c.in_ok-value.ensures.ok stdin gives)
+          ∙ ap (λ (es : List EntryExpr). and_values before (values_of (stdin c.loop-entry.input) (entries_of (listed es)))) (sym taken)
+          ∙ c.loop-entry.invariant.0 stdin gives,
       left_on c.args.more _ _ c.loop-entry.input _ (entries_have_stdin others) _ refl left refl
           ∙ ap (λ (es : List EntryExpr). left_after c.args.more (entries_have_stdin (entries_of (listed es))) c.loop-entry.input) (sym taken)
           ∙ c.loop-entry.invariant.1,

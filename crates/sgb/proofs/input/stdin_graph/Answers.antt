@@ -4,10 +4,10 @@ use Rattle.sgb.proofs.StdinValues.{stdin_long, stdin_read}
 use Rattle.sgb.proofs.input.stdin_graph.Goals as goal
 
 pub returns-then-not-is_read-clause-value : goal.returns-then-not-is_read-clause-value
-returns-then-not-is_read-clause-value c = inl (stdin_long c.args.input.now (sym c.is_read.ensures ∙ c.if-not-is_read.true))
+returns-then-not-is_read-clause-value c = λ value is. inl (stdin_long c.args.input.now value (sym c.is_read.ensures ∙ c.if-not-is_read.true) is)
 
 pub returns-clause-value : goal.returns-clause-value
-returns-clause-value c = stdin_read c.args.input.now c.read_gb.result (sym c.is_read.ensures ∙ c.if-not-is_read.false) c.read_gb.ensures.read
+returns-clause-value c = λ value is. stdin_read c.args.input.now value c.read_gb.result (sym c.is_read.ensures ∙ c.if-not-is_read.false) c.read_gb.ensures.read is
 
 pub returns-then-not-is_read-clause-refused : goal.returns-then-not-is_read-clause-refused
 returns-then-not-is_read-clause-refused c = long_refused c.args.input.now _ (sym c.is_read.ensures ∙ c.if-not-is_read.true) refl

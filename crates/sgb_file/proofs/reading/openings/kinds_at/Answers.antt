@@ -1,6 +1,6 @@
 use Rattle.std.proofs.Common.{◌≡◌, ◌-◌, ◌∙◌, ℕ, None, Some, drop, length, take, filter_map, rules, arith, sym, ap, subst, length-set, length-drop}
 use Rattle.std.proofs.lemmas.List.{take_all}
-use Rattle.sgb_file.specs.Restoring.{kind_of_letter}
+use Rattle.sgb_file.specs.inner.ReadFiles.{kind_of_letter}
 use Rattle.sgb_file.proofs.Endings.{short_kinds, kinds_missed, kinds_more, kinds_read}
 use Rattle.sgb_file.proofs.reading.openings.kinds_at.Goals as goal
 

@@ -1,5 +1,5 @@
 use Rattle.std.proofs.Common.{◌≡◌, ◌≤◌, take, length, filter_map}
-use Rattle.sgb_file.specs.Restoring.{kind_of_letter}
+use Rattle.sgb_file.specs.inner.ReadFiles.{kind_of_letter}
 use Rattle.sgb_file.proofs.reading.openings.kinds_at.Given as goal
 
 -- the kinds before this place stand

@@ -1,6 +1,6 @@
 use Rattle.std.proofs.Common.{◌≡◌, length}
 use Rattle.sgb_file.specs.FileLines.{clean_lines}
-use Rattle.sgb_file.specs.Restoring.{opening_of}
+use Rattle.sgb_file.specs.inner.ReadFiles.{opening_of}
 use Rattle.sgb_file.proofs.reading.openings.opening.Given as goal
 
 -- the lines that were passed are no first lines, but may stand before one

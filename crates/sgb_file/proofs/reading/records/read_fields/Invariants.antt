@@ -1,6 +1,6 @@
 use Rattle.std.proofs.Common.{◌≡◌, length}
 use Rattle.sgb_file.specs.inner.LinesLeft.{text_left}
-use Rattle.sgb_file.specs.Records.{more_fields_at}
+use Rattle.sgb_file.specs.inner.ReadRecords.{more_fields_at}
 use Rattle.sgb_file.proofs.FoundSteps.{AreReadTo}
 use Rattle.sgb_file.proofs.reading.records.read_fields.Given as goal
 

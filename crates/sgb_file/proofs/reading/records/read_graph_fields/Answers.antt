@@ -3,7 +3,7 @@ use Rattle.std.proofs.lemmas.List.{take_rest}
 use Rattle.sgb_graph.specs.declared.fields.Kind.{Kind}
 use Rattle.sgb_file.specs.inner.Found.{IsFoundBy}
 use Rattle.sgb_file.specs.inner.LinesLeft.{text_left}
-use Rattle.sgb_file.specs.Records.{more_fields_at}
+use Rattle.sgb_file.specs.inner.ReadRecords.{more_fields_at}
 use Rattle.sgb_file.proofs.reading.records.read_graph_fields.Goals as goal
 
 pub returns-clause-found : goal.returns-clause-found

@@ -1,10 +1,10 @@
 use Rattle.std.proofs.Common.{sym, ap, subst, ◌∙◌, ◌<◌, Option, Err, arith}
 use Rattle.std.proofs.lemmas.Result.{err_from_is_err_and}
 use Rattle.sgb_graph.specs.declared.fields.Vertex.{Vertex}
-use Rattle.sgb_file.specs.Fields.{Found}
+use Rattle.sgb_file.specs.inner.ReadFields.{Found}
 use Rattle.sgb_file.specs.inner.Found.{IsFoundBy}
 use Rattle.sgb_file.specs.inner.LinesLeft.{text_left}
-use Rattle.sgb_file.specs.Records.{vertex_record_at}
+use Rattle.sgb_file.specs.inner.ReadRecords.{vertex_record_at}
 use Rattle.sgb_file.proofs.FoundSteps.{vertex_steps}
 use Rattle.sgb_file.proofs.Sections.{next_vertex, next_stops, vertices_read}
 use Rattle.sgb_file.proofs.reading.sections.read_vertices.Goals as goal

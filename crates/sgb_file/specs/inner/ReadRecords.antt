@@ -1,4 +1,4 @@
--- The records of a file: the graph's, the vertices' and the arcs' [GB_SAVE, restore_graph].
+-- The records of a file, as they are read: the graph's, the vertices' and the arcs' [GB_SAVE, restore_graph].
 use Rattle.std.specs.Prelude.{ℕ, zero, suc, List, [], ◌∷◌, codes, Option, Some, None, option_map, unwrap_or, ◌==◌, if◌then◌else◌}
 use Rattle.sgb_graph.specs.Graphs.{GraphData}
 use Rattle.sgb_graph.specs.Ids.{most_id_bytes}
@@ -9,12 +9,9 @@ use Rattle.sgb_graph.specs.declared.fields.Util.{Util}
 use Rattle.sgb_graph.specs.declared.fields.Util.TheVariants.{Nothing, Int, Vertex as VertexField, Str, Chain}
 use Rattle.sgb_graph.specs.declared.fields.Vertex.{Vertex}
 use Rattle.sgb_graph.specs.declared.fields.ArcRec.{ArcRec}
-use Rattle.sgb_file.specs.Fields.{Counts, Found, given, found_as, number_of, most_number_digits, string_at, plain_at, field_at, after_prefix}
-
--- what a file's first line says: the kinds of the utility fields, the vertices and the arc records
-pub record Head : Type 0 where
-  pub kinds : List Kind
-  pub counts : Counts
+use Rattle.sgb_file.specs.Fields.{Counts, given, number_of, most_number_digits}
+use Rattle.sgb_file.specs.inner.ReadFields.{Found, found_as, string_at, plain_at, field_at, after_prefix}
+use Rattle.sgb_file.specs.Files.{Head}
 
 -- what follows a comma; the line may end after it, and the record then goes on with the next line
 abbrev pub after_comma : List ℕ → Option (List ℕ)
