@@ -2,7 +2,7 @@
 use Rattle.std.proofs.Common.{◌≡◌, ◌∙◌, ◌+◌, ◌-◌, ◌/◌, ◌%◌, ◌<◌, ◌≤◌, ℕ, Bool, true, false, List, [], ◌∷◌, ◌++◌, decimal, nat_lt, length, take, drop, get_or, set, refl, sym, ap, ap₂, arith, append-nil, append_assoc, length-append, length-set}
 use Rattle.std.proofs.Math.Seq.{set-append_seam}
 use Rattle.std.proofs.lemmas.Fmt.{decimal_digit}
-use Rattle.std.proofs.lemmas.List.{at_drop_more, drop_all, drop_at, length-take-le, set-append_right, take_all, take_at, take_more}
+use Rattle.std.proofs.lemmas.List.{at_drop_more, drop_at, length-take-le, set-append_right, take_at, take_more}
 use Rattle.sgb_vec.specs.Names.{name_of_vector}
 use Rattle.sgb.specs.inner.Texts.{entries_text, entry_text}
 use Rattle.sgb.proofs.FewDigits.{two_digits}
@@ -68,14 +68,6 @@ pub record IsTurnedTo (old v other : List ℕ) (k : ℕ) (page : List ℕ) : Typ
   pub text : page ≡ old ++ name_of_vector (take k other ++ drop k v)
   pub fronts : length (name_of_vector (take k other)) ≡ length (name_of_vector (take k v))
   pub size : length page ≡ length old + length (name_of_vector v)
-
--- at the start it is the name itself
-pub turned-none : (old v other page : List ℕ) → page ≡ old ++ name_of_vector v → IsTurnedTo old v other 0 page
-turned-none old v other page is = record {
-  text = is;
-  fronts = refl;
-  size = ap length is ∙ length-append old (name_of_vector v);
-}
 
 module _ (old v other : List ℕ) (k : ℕ) (page : List ℕ) (width : length other ≡ length v) (within : k < length v) (so : IsTurnedTo old v other k page) where
   abbrev pub entry : ℕ
@@ -164,14 +156,3 @@ module _ (old v other : List ℕ) (k : ℕ) (page : List ℕ) (width : length ot
       (is ∙ ap (λ p. set (set p place (48 + entry / 10)) (place + 1) (48 + entry % 10)) (digits-before one mine)
       ∙ over-two old (front first) (entries_text true rest) (48 + before / 10) (48 + before % 10) (48 + entry / 10) (48 + entry % 10) place
       (omega (arith, starts, ends, two-end more few)))
-
--- at the end it is the name of the other
-pub turned-all : (old v other : List ℕ) (k : ℕ) (page : List ℕ) → length other ≡ length v → k ≡ length v → IsTurnedTo old v other k page → page ≡ old ++ name_of_vector other
-turned-all old v other k page width all so =
-    so.text
-    ∙ ap₂ (λ a b. old ++ name_of_vector (a ++ b)) (take_all k other (omega (arith, width, all))) (drop_all k v (omega (arith, all)))
-    ∙ ap (λ w. old ++ name_of_vector w) (append-nil other)
-
--- what was there stands before it
-pub turned-before : (old v other : List ℕ) (k : ℕ) (page : List ℕ) (start : ℕ) → start ≡ length old → IsTurnedTo old v other k page → take start page ≡ old
-turned-before old v other k page start starts so = ap (take start) so.text ∙ take_at old (name_of_vector (take k other ++ drop k v)) start (sym starts)

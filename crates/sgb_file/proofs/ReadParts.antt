@@ -21,11 +21,10 @@ use Rattle.sgb_file.specs.Fields.{Counts, most_number_digits, string_of}
 use Rattle.sgb_file.specs.inner.ReadFields.{Found}
 use Rattle.sgb_file.specs.Files.{Head, IsFieldText, AreFieldTexts, IsFirstLine, IsVertexRecord, IsArcRecord, AreRecords, AreRecordsOf, head_of}
 use Rattle.sgb_file.specs.inner.ReadRecords.{records_at}
-use Rattle.sgb_file.specs.inner.ReadFiles.{Opening, head_of_line, opening_of, graph_of_records, graph_of_text}
+use Rattle.sgb_file.specs.inner.ReadFiles.{Opening, opening_of, graph_of_records, graph_of_text}
 use Rattle.sgb_file.specs.Saved.{number_limit, ValueCanBeSaved, CanBeChecked, CanBeSaved}
 use Rattle.sgb_file.proofs.FoundParts.{was_let_through}
 use Rattle.sgb_file.proofs.NumberReading.{at_most, at_most_passes, number_is_small}
-use Rattle.sgb_file.proofs.FirstLines.{first_line_found}
 use Rattle.sgb_file.proofs.FilesAndTexts.{opening_found}
 use Rattle.sgb_file.proofs.FieldsAndTexts.{integer_says, record_number_says, ref_says}
 use Rattle.sgb_file.proofs.RecordsAndTexts.{reads_records}
@@ -79,9 +78,6 @@ pub record IsGoodHead (head : Head) : Type 0 where
 pub first_is_good : (line : List ℕ) (head : Head) → IsFirstLine head line → IsGoodHead head
 first_is_good line head says =
     record { vertices = says.few; kinds = says.fourteen; arcs = number_is_small most_number_digits says.m head.counts.arcs says.m_says }
-
-pub head_is_good : (line : List ℕ) (head : Head) → head_of_line line ≡ Some head → IsGoodHead head
-head_is_good line head e = first_is_good line head (first_line_found line head e)
 
 -- what the records of a file say can be checked
 parts_can_be_checked : (g : GraphData) (whole : List ℕ) → IsGoodHead (head_of g) → AreRecordsOf g whole → CanBeChecked g

@@ -127,12 +127,6 @@ read_from_file g text h =
 pub early_is : (text : List ℕ) → graph_of_text text ≡ Err Early → HasNoOpening text
 early_is text e = subst (IsRestoredAs text) e (restored text)
 
-pub late_is : (text : List ℕ) → graph_of_text text ≡ Err Late → HasNoClosing text
-late_is text e = subst (IsRestoredAs text) e (restored text)
-
-pub syntax_is : (text : List ℕ) → graph_of_text text ≡ Err Syntax → HasNoRecords text ⊎ HasUnsoundLists text
-syntax_is text e = subst (IsRestoredAs text) e (restored text)
-
 pub syntax_of : (text : List ℕ) → HasNoRecords text ⊎ HasUnsoundLists text → graph_of_text text ≡ Err Syntax
 syntax_of text (inl h) = no_records_of text h
 syntax_of text (inr h) = unsound_of text h

@@ -64,11 +64,6 @@ abbrev pub IsProductSoFar : List ℕ → ℤ → List ℤ → ℕ → ℕ → �
 IsProductSoFar sizes wrap t l k product =
     min (product * product_from sizes wrap t l k) most_of_64 ≡ min (starts_product (sides_of sizes wrap) t l) most_of_64
 
-pub product-none : (sizes : List ℕ) (wrap : ℤ) (t : List ℤ) (l : ℕ) → IsProductSoFar sizes wrap t l 0 1
-product-none sizes wrap t l =
-    let whole : 1 * starts_product (sides_of sizes wrap) t l ≡ starts_product (sides_of sizes wrap) t l = omega arith in
-    ap (λ n. min n most_of_64) whole
-
 pub product-more : (sizes : List ℕ) (wrap : ℤ) (t : List ℤ) (l k product starts : ℕ) → k < length sizes → k < length t → starts ≡ starts_on (side_at sizes wrap k) (pos l *ℤ get_or t k (pos 0)) → IsProductSoFar sizes wrap t l k product → IsProductSoFar sizes wrap t l (k + 1) (min (product * starts) most_of_64)
 product-more sizes wrap t l k product starts h i e so = grind (arith, cut_twice, product-step)
 

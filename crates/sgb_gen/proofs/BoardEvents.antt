@@ -1,5 +1,5 @@
 -- The events of a board, as its moves are made one after another.
-use Rattle.std.proofs.Common.{arith, ◌≡◌, ℕ, ◌+◌, ◌<◌, ◌≤◌, ℤ, pos, nat_abs, List, [], ◌∷◌, ◌++◌, length, map, Some, None, sym, ap}
+use Rattle.std.proofs.Common.{arith, ◌≡◌, ℕ, ◌+◌, ◌≤◌, ℤ, pos, nat_abs, List, [], ◌∷◌, ◌++◌, length, map, Some, None, sym, ap}
 use Rattle.std.specs.List.{flat_map, slice_get}
 use Rattle.std.specs.Option.{option_map}
 use Rattle.sgb_vec.specs.Boxes.{box}
@@ -11,7 +11,7 @@ use Rattle.sgb_gen.specs.Moves.{sides_of, moves_from, board_moves}
 use Rattle.sgb_gen.proofs.AllVectors.{flat_map-same}
 use Rattle.sgb_gen.proofs.FamilyWalks.{map-flat_map}
 use Rattle.sgb_gen.proofs.Vertices.{vertex_in_box}
-use Rattle.sgb_gen.proofs.BoardWalks.{leads, longest, moves_left, left-all, left-none, left-out, left-next, led_nowhere, led_to}
+use Rattle.sgb_gen.proofs.BoardWalks.{leads, longest, moves_left, left-all, left-out, left-next, led_nowhere, led_to}
 
 -- the events of the moves from x by t
 abbrev pub events_from : BoardData → List ℤ → List ℕ → List Event
@@ -25,10 +25,7 @@ events_left b t x l = map (event_among (box b.sizes)) (moves_left b t x l)
 pub events_left-all : (b : BoardData) (t : List ℤ) (x : List ℕ) → events_left b t x 1 ≡ events_from b t x
 events_left-all b t x = ap (map (event_among (box b.sizes))) (left-all b t x)
 
--- past the greatest length none are left, nor where the piece leads nowhere
-pub events_left-none : (b : BoardData) (t : List ℤ) (x : List ℕ) (l : ℕ) → longest b < l → events_left b t x l ≡ []
-events_left-none b t x l h = ap (map (event_among (box b.sizes))) (left-none b t x l h)
-
+-- where the piece leads nowhere none are left
 pub events_left-out : (b : BoardData) (t : List ℤ) (x : List ℕ) (l : ℕ) → l ≤ longest b → option_map (vertex_among (box b.sizes)) (leads b x t l) ≡ None → events_left b t x l ≡ []
 events_left-out b t x l h e =
     ap (map (event_among (box b.sizes))) (left-out b t x l h (led_nowhere (vertex_among (box b.sizes)) (leads b x t l) e))

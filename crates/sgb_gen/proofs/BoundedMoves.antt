@@ -1,6 +1,6 @@
 -- A displacement with an entry above its bound leads to no place of a board, so the moves of a board are those by the
 -- displacements within the bounds.
-use Rattle.std.proofs.Common.{◌≡◌, ℕ, zero, suc, ◌+◌, ◌-◌, ◌<◌, ◌≤◌, min, ℤ, pos, negsuc, ◌+ℤ◌, ◌*ℤ◌, nat_abs, Bool, true, false, cond, eqb, ltb, List, [], ◌∷◌, ◌++◌, length, map, replicate, get_or, drop, Option, Some, None, refl, sym, ap, subst, ◌∙◌, inl, inr, arith, append_assoc, append-nil, length-append}
+use Rattle.std.proofs.Common.{◌≡◌, ℕ, zero, suc, ◌+◌, ◌-◌, ◌<◌, ◌≤◌, min, ℤ, pos, negsuc, ◌+ℤ◌, ◌*ℤ◌, nat_abs, Bool, true, false, cond, eqb, ltb, List, [], ◌∷◌, ◌++◌, length, map, replicate, get_or, drop, Option, Some, None, refl, sym, ap, subst, ◌∙◌, inl, inr, arith}
 use Rattle.std.specs.Int.{int_rem_euclid}
 use Rattle.std.specs.List.{filter, flat_map, range_with_len}
 use Rattle.std.specs.Option.{is_some, option_map_or}
@@ -8,7 +8,7 @@ use Rattle.std.proofs.lemmas.Bool.{cases_Bool, cases_lt, cond-true, cond-false, 
 use Rattle.std.proofs.lemmas.Bool.Decides.{nat_tests}
 use Rattle.std.proofs.lemmas.Grind.{flat_map-append}
 use Rattle.std.proofs.lemmas.Int.{ints}
-use Rattle.std.proofs.lemmas.List.{at_drop_more, drop_all, get_or-map, get_or-replicate, length-map, length-replicate}
+use Rattle.std.proofs.lemmas.List.{get_or-map, get_or-replicate, length-map, length-replicate}
 use Rattle.std.proofs.lemmas.List.Elements.{All-weaker, Contains-get_or}
 use Rattle.std.proofs.lemmas.List.Folds.{flat_map-map}
 use Rattle.sgb_vec.specs.Boxes.{box}
@@ -17,7 +17,7 @@ use Rattle.sgb_vec.proofs.BoxPlaces.{IsBelow-from_Contains}
 use Rattle.sgb_gen.specs.Boards.{BoardData, moves_of_board}
 use Rattle.sgb_gen.specs.Displacements.{signings, sum_of_squares, vectors_of_norm, displacements}
 use Rattle.sgb_gen.specs.inner.EntryBounds.{entry_bound, entry_bounds, vectors_within, displacements_within}
-use Rattle.sgb_gen.specs.Moves.{Side, is_bit_set, sides_from_bit, sides_of, within_size, coordinate_on, in_front, place, is_elsewhere, moves_from, board_moves}
+use Rattle.sgb_gen.specs.Moves.{Side, sides_from_bit, sides_of, within_size, coordinate_on, in_front, place, is_elsewhere, moves_from, board_moves}
 use Rattle.sgb_gen.specs.inner.Moves.{destination, longest_move}
 use Rattle.sgb_gen.specs.inner.LocalBoards.{moves_by}
 use Rattle.sgb_gen.specs.VectorGraphs.{event_among}
@@ -35,24 +35,6 @@ use Rattle.sgb_vec.proofs.Lists.{flat_map-none}
 pub record AreBoundsSoFar (p : ℕ) (sizes : List ℕ) (wrap : ℤ) (k : ℕ) (known : List ℕ) : Type 0 where
   pub count : length known ≡ k
   pub whole : known ++ entry_bounds p (sides_from_bit k (drop k sizes) wrap) ≡ entry_bounds p (sides_of sizes wrap)
-
--- one more is known
-pub bounds-more : (p : ℕ) (sizes : List ℕ) (wrap : ℤ) (k : ℕ) (known : List ℕ) (wraps : Bool) → k < length sizes → AreBoundsSoFar p sizes wrap k known → wraps ≡ is_bit_set wrap k → AreBoundsSoFar p sizes wrap (k + 1) (known ++ entry_bound p (record { size = get_or sizes k 0; wraps = wraps }) ∷ [])
-bounds-more p sizes wrap k known wraps h so e =
-    let bound = entry_bound p (record { size = get_or sizes k 0; wraps = wraps }) in
-    let rest = entry_bounds p (sides_from_bit (k + 1) (drop (k + 1) sizes) wrap) in
-    record {
-      count = length-append known (bound ∷ []) ∙ omega (arith, so.count);
-      whole = append_assoc known (bound ∷ []) rest
-          ∙ ap (λ b. known ++ entry_bound p (record { size = get_or sizes k 0; wraps = b }) ∷ rest) e
-          ∙ ap (λ bs. known ++ bs) (sym (at_drop_more (λ s. entry_bounds p (sides_from_bit k s wrap)) sizes k 0 h))
-          ∙ so.whole;
-    }
-
--- all are known
-pub bounds-all : (p : ℕ) (sizes : List ℕ) (wrap : ℤ) (k : ℕ) (known : List ℕ) → length sizes ≤ k → AreBoundsSoFar p sizes wrap k known → known ≡ entry_bounds p (sides_of sizes wrap)
-bounds-all p sizes wrap k known h so =
-    sym (ap (λ s. known ++ entry_bounds p (sides_from_bit k s wrap)) (drop_all k sizes h) ∙ append-nil known) ∙ so.whole
 
 -- a bound for each size
 pub length-entry_bounds : (p : ℕ) (sizes : List ℕ) (wrap : ℤ) → length (entry_bounds p (sides_of sizes wrap)) ≡ length sizes

@@ -1,9 +1,8 @@
 -- A walk over the vectors of a family, from the first to the last.
-use Rattle.std.proofs.Common.{◌≡◌, ℕ, ◌+◌, ◌≤◌, List, [], ◌∷◌, ◌++◌, length, map, take, drop, get_or, Some, refl, sym, ap, ◌∙◌, arith, append-nil, append_assoc}
+use Rattle.std.proofs.Common.{◌≡◌, ℕ, ◌+◌, ◌≤◌, List, [], ◌∷◌, ◌++◌, length, map, take, drop, get_or, Some, refl, sym, ap, ◌∙◌, arith, append-nil}
 use Rattle.std.specs.List.{slice_get, flat_map}
 use Rattle.std.proofs.lemmas.List.{at_drop_more, drop-drop, get_or-drop, length-drop, map-append, take_more}
 use Rattle.std.proofs.lemmas.Option.{slice_get_within, slice_get_read, get_or_from_slice_get}
-use Rattle.sgb_vec.proofs.RangeSteps.{first_and_rest}
 
 -- of the vectors from a place on the first stands at the place
 pub at_front : (vectors left : List (List ℕ)) (u : ℕ) (v : List ℕ) → left ≡ drop u vectors → slice_get left 0 ≡ Some v → slice_get vectors u ≡ Some v
@@ -21,12 +20,6 @@ next_left vectors left rest u is after = after ∙ ap (λ (vs : List (List ℕ))
 -- and where none are left the place is past all
 pub none_left : (vectors left : List (List ℕ)) (u : ℕ) → left ≡ drop u vectors → left ≡ [] → length vectors ≤ u
 none_left vectors left u is none = omega (arith, ap length is, ap length none, length-drop u vectors)
-
--- what the vectors that are left give comes behind what is there: one vector more, and the end
-pub walked-more : {X : Type 0} (f : List ℕ → List X) (g : List (List ℕ) → List X) → ((v : List ℕ) (vs : List (List ℕ)) → g (v ∷ vs) ≡ f v ++ g vs)
-    → (left rest : List (List ℕ)) (v : List ℕ) (done new all : List X) → done ++ g left ≡ all → slice_get left 0 ≡ Some v → rest ≡ drop 1 left → new ≡ done ++ f v → new ++ g rest ≡ all
-walked-more f g law left rest v done new all so_far first after is =
-    cc (is, append_assoc done (f v) (g rest), law v rest, first_and_rest left rest v v first refl after, so_far)
 
 pub walked-all : {X : Type 0} (g : List (List ℕ) → List X) → g [] ≡ [] → (left : List (List ℕ)) (done all : List X) → done ++ g left ≡ all → left ≡ [] → done ≡ all
 walked-all g none left done all so_far end =

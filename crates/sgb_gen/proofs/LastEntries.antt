@@ -1,10 +1,8 @@
 -- The arcs to vectors that begin alike where a single 1 is left to be placed, place by place.
-use Rattle.std.proofs.Common.{◌≡◌, ℕ, ◌+◌, ◌-◌, ◌<◌, ◌≤◌, min, pos, Bool, ◌&&◌, cond, List, [], ◌∷◌, ◌++◌, length, replicate, reverse, take, drop, set, get_or, slice_get, Some, suc, ltb, append-nil, append_assoc, refl, sym, ap, ap₂, ◌∙◌, inl, inr, arith}
+use Rattle.std.proofs.Common.{◌≡◌, ℕ, ◌+◌, ◌-◌, ◌<◌, ◌≤◌, min, pos, Bool, ◌&&◌, cond, List, [], ◌∷◌, ◌++◌, length, replicate, reverse, take, drop, set, get_or, suc, ltb, append-nil, append_assoc, refl, sym, ap, ap₂, ◌∙◌, inl, inr, arith}
 use Rattle.std.proofs.lemmas.Bool.{cases_lt, le-ltb, lt-ltb}
-use Rattle.std.proofs.lemmas.List.{drop-drop, drop-replicate, drop_all, drop_at, drop_more, length-append, length-drop, length-take-le, set_at, take-append-drop, take_at}
-use Rattle.std.proofs.lemmas.Option.{slice_get_read}
+use Rattle.std.proofs.lemmas.List.{drop-drop, drop-replicate, drop_all, drop_more, length-append, length-drop, length-take-le, set_at, take-append-drop, take_at}
 use Rattle.std.proofs.lemmas.Simd.{splat_is_map}
-use Rattle.std.proofs.Math.Seq.{get_or-append_seam}
 use Rattle.sgb_vec.specs.Lexicographic.{IsWithin}
 use Rattle.sgb_vec.specs.Sums.{bounded_sums}
 use Rattle.sgb_vec.proofs.SumMembers.{IsWithin-length}
@@ -78,23 +76,12 @@ module _ (tip : List ℕ) (start n i : ℕ) (fits : start + n ≡ length tip) (r
       ap (take (start + (i + 1))) (tip_is ∙ sym (append_assoc front (0 ∷ []) (replicate (n - (i + 1)) 0)))
       ∙ take_at (front ++ 0 ∷ []) (replicate (n - (i + 1)) 0) (start + (i + 1)) (omega (arith, length-append front (0 ∷ []), front_long))
 
-  pub zero-read : slice_get tip (start + i) ≡ Some 0
-  zero-read = slice_get_read tip (length tip) (start + i) 0 refl (omega arith)
-      (sym (ap (λ l. get_or l (start + i) 0) tip_is ∙ ap (λ k. get_or (front ++ 0 ∷ replicate (n - (i + 1)) 0) k 0) (sym front_long) ∙ get_or-append_seam front 0 (replicate (n - (i + 1)) 0) 0))
-
 -- zeros are as many as the bounds are
 pub zeros_filled : (tip new bs x : List ℕ) → IsWithin x bs → length x ≤ length tip → new ≡ take (length tip - length x) tip ++ replicate (length tip - (length tip - length x)) 0 → new ≡ front_of tip x ++ zeros bs
 zeros_filled tip new bs x within fits is =
     is
     ∙ ap (λ n. front_of tip x ++ replicate n 0) {y = length bs} (omega (arith, IsWithin-length bs x within))
     ∙ ap (λ l. front_of tip x ++ l) (splat_is_map bs (length bs) 0 refl)
-
-pub filled_zeros : (tip new x : List ℕ) → length x ≤ length tip → length new ≡ length tip → new ≡ take (length tip - length x) tip ++ replicate (length tip - (length tip - length x)) 0 → drop (length new - length x) new ≡ replicate (length x) 0
-filled_zeros tip new x fits same is = grind (arith, drop_at, length-take-le)
-
-pub filled_front : (tip new x : List ℕ) → length x ≤ length tip → length new ≡ length tip → new ≡ take (length tip - length x) tip ++ replicate (length tip - (length tip - length x)) 0 → front_of new x ≡ front_of tip x
-filled_front tip new x fits same is =
-    cc (same, is, take_at (take (length tip - length x) tip) (replicate (length tip - (length tip - length x)) 0) (length tip - length x) (length-take-le (length tip - length x) tip (omega arith)))
 
 -- ---- the walk over the places
 

@@ -5,9 +5,9 @@ use Rattle.std.proofs.lemmas.List.{reverse-append}
 use Rattle.std.proofs.lemmas.List.Concat.{flat_map-append}
 use Rattle.sgb_gen.specs.LocalLists.{LocalArc, LinksData}
 use Rattle.sgb_gen.specs.inner.LocalSimplexes.{arc_by_unit, can_return, returned, arcs_back, arcs_on, pairs_down, with_arcs}
-use Rattle.sgb_gen.specs.Simplexes.{Places, can_move_unit, unit_moved, can_shift, shifted, pairs_from, pairs_of_places}
+use Rattle.sgb_gen.specs.Simplexes.{Places, can_shift, shifted, pairs_from, pairs_of_places}
 use Rattle.sgb_vec.proofs.Lists.{made-append, range-more}
-use Rattle.sgb_gen.proofs.SimplexEvents.{pairs_left, pairs_left-next, pairs_left-none, pairs_after, pairs_after-all, pairs_after-next, pairs_after-none}
+use Rattle.sgb_gen.proofs.SimplexEvents.{pairs_left, pairs_left-next, pairs_left-none, pairs_after, pairs_after-all, pairs_after-next}
 
 -- no arcs
 pub with_none : (links : LinksData) → links ≡ with_arcs links []
@@ -52,9 +52,6 @@ pair_more f append n j h start links new some within links_is new_is =
 pub after-next : (n j : ℕ) → j < n → reverse (pairs_after n j) ≡ reverse (pairs_after n (j + 1)) ++ pairs_down n j
 after-next n j h = ap reverse (pairs_after-next n j h) ∙ reverse-append (pairs_from n j) (pairs_after n (j + 1))
 
-pub after-none : (n j : ℕ) → n ≤ j → reverse (pairs_after n j) ≡ []
-after-none n j h = ap reverse (pairs_after-none n j h)
-
 pub after-all : (n : ℕ) → reverse (pairs_after n 0) ≡ reverse (pairs_of_places n)
 after-all n = ap reverse (pairs_after-all n)
 
@@ -75,8 +72,3 @@ back-one bounds x at = arc_in_list (can_return bounds x at) (arc_back x) at
 
 pub on-one : (bounds x : List ℕ) (at : Places) → arc_by_unit bounds x at.lower at.higher ≡ arcs_on bounds x (at ∷ [])
 on-one bounds x at = arc_in_list (can_shift bounds x at) (arc_on x) at
-
--- where no unit can go
-pub unit-stays : (bounds x : List ℕ) (links : LinksData) (from to : ℕ) → can_move_unit bounds x from to ≡ false → links ≡ with_arcs links (arc_by_unit bounds x from to)
-unit-stays bounds x links from to cannot =
-    with_none links ∙ ap (λ b. with_arcs links (if b then record { tip = unit_moved x from to; len = pos 1 } ∷ [] else [])) (sym cannot)

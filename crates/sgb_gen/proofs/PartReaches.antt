@@ -102,9 +102,6 @@ module _ (sizes : List ℕ) (wrap : ℤ) (x : List ℕ) (most : ℕ) (parts : Li
   on : ℕ → ℕ × ℤ → Bool
   on m p = is_some (part_at sizes wrap x m p)
 
-  pub reach-none : IsReachSoFar sizes wrap x most 0 most parts
-  reach-none = record { within = omega arith; stay = λ m h. refl; end = λ h. absurd (omega (arith, h)) }
-
   -- one part more
   pub reach-more : (i old new : ℕ) → i < length parts → IsReachSoFar sizes wrap x most i old parts → new ≤ old
       → ((m : ℕ) → m ≤ new → is_some (part_at sizes wrap x m (part_of parts i)) ≡ true)

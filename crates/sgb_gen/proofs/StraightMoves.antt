@@ -109,6 +109,3 @@ leaps_there b leaper x t l some = ap (λ p. destination (sides_of b.sizes b.wrap
 pub leaper_is : (piece : ℤ) → SFits w64 piece → lt_z (pos 0) (to_z w64 (of_z w64 piece)) ≡ true → piece ≡ pos (nat_abs piece)
 leaper_is (pos p) fits leaps = refl
 leaper_is (negsuc p) fits leaps = absurd (true≢false (sym (ap (lt_z (pos 0)) (sym (to_z-of_z w64 (negsuc p) fits)) ∙ leaps)))
-
-pub leaper_away : (sides : List Side) (piece : ℤ) (x : List ℕ) (t : List ℤ) (l : ℕ) → SFits w64 piece → lt_z (pos 0) (to_z w64 (of_z w64 piece)) ≡ true → destination sides piece x t l ≡ place sides x t l
-leaper_away sides piece x t l fits leaps = ap (λ p. destination sides p x t l) (leaper_is piece fits leaps)

@@ -65,10 +65,6 @@ module _ (n v o : ℕ) (some : 0 < v) (below : v < n) (one : 0 < o) (few : o ≤
       let product : i * v ≡ c * o * n = ap (λ m. m * v) times ∙ again ∙ ap (λ m. c * m) (sym whole) ∙ grouped in
       times-to n (i * v) (c * o) product)
 
--- no step leads back at once
-pub no-step : (n v i : ℕ) → v ≡ 0 → eqb (i * v % n) 0 ≡ eqb (i % 1) 0
-no-step n v i e = grind (arith, both_zero, times-to)
-
 -- ---- steps of either sign
 
 pub abs-times : (l : ℕ) (u : ℤ) → nat_abs (pos l *ℤ u) ≡ l * nat_abs u

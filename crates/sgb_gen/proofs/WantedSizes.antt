@@ -3,7 +3,7 @@ use Rattle.std.proofs.Common.{◌≡◌, ℕ, suc, ◌+◌, ◌-◌, ◌/◌, �
 use Rattle.std.specs.Prelude.{◌==◌, nat_lt}
 use Rattle.std.specs.Int.{leading_zeros, trailing_zeros, w128}
 use Rattle.std.proofs.Math.Nat.{div-div-eq-div-mul, div-eq_of_lt}
-use Rattle.std.proofs.lemmas.Bool.{cases_lt, le-ltb}
+use Rattle.std.proofs.lemmas.Bool.{cases_lt}
 use Rattle.std.proofs.lemmas.Nat.{leading_top, pow-add}
 use Rattle.std.proofs.lemmas.Nat.Bits.{bit_at-trailing_zeros}
 use Rattle.sgb_gen.specs.Subsets.{is_wanted_size}
@@ -19,10 +19,6 @@ unwanted sb k clear = ap (λ bit. nat_lt k 128 && (bit == 1)) clear ∙ no_bit (
 later_bit : (sb from k : ℕ) → from ≤ k → sb / 2 ^ k ≡ sb / 2 ^ from / 2 ^ (k - from)
 later_bit sb from k h =
     ap (λ n. sb / 2 ^ n) {y = from + (k - from)} (omega arith) ∙ ap (λ n. sb / n) (pow-add 2 from (k - from)) ∙ sym (div-div-eq-div-mul sb (2 ^ from) (2 ^ (k - from)))
-
--- 128 and more are not wanted
-pub unwanted-past : (sb k : ℕ) → 128 ≤ k → is_wanted_size sb k ≡ false
-unwanted-past sb k h = ap (λ b. b && (sb / 2 ^ k % 2 == 1)) (le-ltb k 128 h)
 
 -- nor are sizes from one on that are below the least bit of 1
 pub unwanted-below : (sb from k later : ℕ) → later ≡ sb / 2 ^ from → later < 2 ^ 128 → from ≤ k → k < from + trailing_zeros w128 later → is_wanted_size sb k ≡ false

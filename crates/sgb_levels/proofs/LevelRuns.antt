@@ -1,5 +1,5 @@
 -- What a call of the program leaves, by what its words ask for and how the answer ended.
-use Rattle.std.proofs.Common.{◌≡◌, ◌∙◌, ◌&&◌, ℕ, true, List, Option, None, Some, IfSome, MatchResult, Result, Ok, Err, refl, sym, ap, subst, inl, inr}
+use Rattle.std.proofs.Common.{◌≡◌, ◌&&◌, ℕ, true, List, MatchResult, Result, Ok, Err, subst, inl, inr}
 use Rattle.std.specs.declared.io.ErrorKind.{ErrorKind}
 use Rattle.sgb_vec.specs.declared.panics.Panic.{Panic}
 use Rattle.sgb_graph.specs.Graphs.{GraphData}

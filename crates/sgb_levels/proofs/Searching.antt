@@ -12,7 +12,7 @@ use Rattle.sgb_graph.proofs.AddingArcs.{chain_of_vertex}
 use Rattle.sgb_graph.proofs.Growing.{parts_of}
 use Rattle.sgb_graph.proofs.Tips.{tips_below}
 use Rattle.sgb_levels.specs.Distances.{AreDistances, HasArc, IsDistanceIfAny, IsPath, IsWalk, end_of, tips_from}
-use Rattle.sgb_levels.specs.inner.Marks.{Marks, all_marked, marked, marks}
+use Rattle.sgb_levels.specs.inner.Marks.{all_marked, marked, marks}
 use Rattle.sgb_levels.specs.inner.Searches.{IsFoundAt, IsLeft, IsSearched, unmarked}
 use Rattle.sgb_levels.proofs.Marking.{Marking, marking-all, marking-one}
 

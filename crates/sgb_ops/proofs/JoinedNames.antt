@@ -3,7 +3,7 @@ use Rattle.std.proofs.Common.{rules, ◌≡◌, ℕ, ◌≤◌, ◌<◌, ◌+◌
 use Rattle.std.specs.Prelude.{All, IsOk, IsOkUnless, Result, Ok, Err, decimal}
 use Rattle.std.proofs.lemmas.Fmt.{length-decimal-le}
 use Rattle.std.proofs.lemmas.List.{length-append, take_all}
-use Rattle.std.proofs.lemmas.List.Elements.{All-append, All-take}
+use Rattle.std.proofs.lemmas.List.Elements.{All-append}
 use Rattle.sgb_vec.specs.Limits.{most_bytes}
 use Rattle.sgb_vec.specs.Names.{IsText, IsTextByte, name_of_vector}
 use Rattle.sgb_vec.specs.declared.panics.Panic.{Panic}
@@ -13,10 +13,6 @@ use Rattle.sgb_vec.specs.declared.panics.Panic.TheVariants.{NoRoom}
 pub parts_are_text : (a b c : List ℕ) → length a + length b + length c ≤ most_bytes → All IsTextByte a → All IsTextByte b → All IsTextByte c
     → IsText (a ++ b ++ c)
 parts_are_text a b c fits first second third = search (rules, length-append, All-append)
-
--- the front of a text
-pub front_is_text : (a : List ℕ) (most : ℕ) → IsText a → All IsTextByte (take most a)
-front_is_text a most text = All-take IsTextByte most a text.printable
 
 -- a number of 32 bits has at most ten digits
 pub number_is_short : (k : ℕ) → k < 2 ^ 32 → length (name_of_vector (k ∷ [])) ≤ 10

@@ -1,5 +1,5 @@
 -- Events that are merged one by one.
-use Rattle.std.proofs.Common.{rules, ◌≡◌, ℕ, suc, ℤ, Bool, true, false, not, List, [], ◌∷◌, ◌++◌, map, set, get_or, append-nil, refl, sym, ◌∙◌, inl, inr, arith}
+use Rattle.std.proofs.Common.{rules, ◌≡◌, ℕ, suc, Bool, true, false, not, List, [], ◌∷◌, ◌++◌, map, set, get_or, append-nil, refl, sym, ◌∙◌, inl, inr, arith}
 use Rattle.std.specs.Prelude.{filter}
 use Rattle.std.specs.List.{list_any, position_or_len}
 use Rattle.std.proofs.lemmas.Bool.{cases_Bool, or_parts}
@@ -14,10 +14,6 @@ use Rattle.sgb_ops.proofs.Ends.{has_same_pair, key_tells, ends_joined, ends_turn
 -- the event has not the ends of a
 abbrev is_other : Bool → Event → Event → Bool
 is_other directed a f = not (has_ends_of directed a f)
-
--- the lengths of the events with the ends of a
-abbrev lengths_like : Bool → Event → List Event → List ℤ
-lengths_like directed a events = map (λ f. f.len) (filter (has_ends_of directed a) events)
 
 -- one more of them
 longer : (directed : Bool) (a e : Event) (events : List Event) → has_ends_of directed a e ≡ true → with_least_length directed a (events ++ e ∷ []) ≡ shortened (with_least_length directed a events) e

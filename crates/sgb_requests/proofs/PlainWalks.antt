@@ -1,9 +1,9 @@
 -- The walk of clap's over words that are no options, and over words that it passes over.
-use Rattle.std.proofs.Common.{◌≡◌, ◌≢◌, ◌∙◌, ◌==◌, ℕ, Bool, true, false, List, [], ◌∷◌, ◌++◌, append_assoc, append-nil, Option, Some, None, is_some, slice_index, refl, sym, ap, rules, find, fold, option_map}
+use Rattle.std.proofs.Common.{◌≡◌, ◌≢◌, ◌∙◌, ◌==◌, ℕ, Bool, true, false, List, [], ◌∷◌, ◌++◌, append_assoc, append-nil, Option, Some, None, slice_index, refl, sym, ap, rules, find, fold, option_map}
 use Rattle.std.specs.Option.{option_and_then}
 use Rattle.std.specs.Str.{bytes_eq}
 use Rattle.std.proofs.lemmas.Slice.Eq.{bytes_eq-Decides}
-use Rattle.clap.specs.Faults.{built_fault, check_fault, defaults_fault, entered_fault, level_fault, settle_fault, step_fault, turn_fault, walk_fault, word_fault}
+use Rattle.clap.specs.Faults.{built_fault, check_fault, defaults_fault, level_fault, settle_fault, step_fault, turn_fault, walk_fault, word_fault}
 use Rattle.clap.specs.Kinds.{Kinds, or_else}
 use Rattle.clap.specs.Lexer.{long_of, long_of_rest, short_of, short_of_rest, strip_byte}
 use Rattle.clap.specs.Simple.{App, Shape, entered, label_of, names_of, rows_at}
@@ -120,13 +120,6 @@ module _ (a : App) where
     -- the command's matches are those of the words after its name
     pub shape_entered : entered a (stop_after a.top.rules (names_of a) (name ∷ words)) ≡ Some (rows_at s words)
     shape_entered = ap (λ (w : Walk). entered a w.stopped) walk_is ∙ ap (option_map (λ (s : Shape). rows_at s words)) enters.found
-
-    -- what is wrong after the walk over all words
-    abbrev end_fault : Walk → Kinds
-    end_fault w =
-        or_else (entered_fault a w.stopped)
-        (or_else (settle_fault a.top.rules a.top.args_override_self w.held)
-        (or_else (defaults_fault (settled a.top.rules w.held).rows a.top.rules) (check_fault a.top (finished a.top.rules w.held) (is_some (entered a w.stopped)))))
 
     -- a fault is one of the words after its name
     pub shape_passes : level_fault s [] nothing_held words false [] ≡ [] → built_fault a nothing_held (name ∷ words) ≡ []

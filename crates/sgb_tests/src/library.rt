@@ -2,9 +2,9 @@
 use crate::calls::words_of;
 use crate::inputs::EMPTY;
 use sgb::{
-    Answer, Expr, Fault, Local, Request, graph_of, input_unread_law, list_family, local_of,
-    parse_expr, read_input, report, request, run, run_answer, run_endings_law, run_program, status,
-    unread_fault, write_bytes,
+    Answer, Expr, Fault, Local, Request, answered_once_law, graph_of, input_unread_law,
+    list_family, local_of, parse_expr, read_input, report, request, run, run_answer,
+    run_endings_law, run_program, status, unread_fault, write_bytes,
 };
 use sgb_file::{CutSource, MemSink, MemSource};
 use sgb_gen::{Board, BoardParams, Links};
@@ -99,6 +99,7 @@ fn is_answered(alloc: Global, words: &[&str], output: &[u8]) -> Result<bool, Fai
 #[test]
 fn a_request_is_answered(rt: HostRuntime) -> Result<(), Fail> {
     assert!(rt; is_answered(rt.alloc(), &WORDS, b"0\n1\n")?);
+    answered_once_law();
     input_unread_law();
     run_endings_law();
     Ok(())

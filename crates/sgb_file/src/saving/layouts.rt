@@ -4,7 +4,7 @@ ghost use Rattle.sgb_file.specs.Devices.{IsPut, change};
 ghost use Rattle.sgb_file.specs.inner.Layouts.{IsFilled, IsLaid, IsPlaced, lines_before, stage};
 ghost use Rattle.sgb_file.specs.Saving.{fits_on, most_file_line_bytes};
 
-use super::lines::{Line, MOST_LINE_BYTES};
+use super::lines::{LineSoFar, MOST_LINE_BYTES};
 use super::short_lines::ShortLines;
 use crate::devices::{Failed, Sink, put_all};
 use itoa::{Buffer, Integer};
@@ -14,7 +14,7 @@ use std::marker::Model;
 #[derive(Drop)]
 pub(super) struct Layout {
     checksum: u32,
-    line: Line,
+    line: LineSoFar,
 }
 
 impl Model for Layout {
@@ -33,7 +33,7 @@ impl Layout {
     {
         Layout {
             checksum: 0,
-            line: Line::new(),
+            line: LineSoFar::new(),
         }
     }
 

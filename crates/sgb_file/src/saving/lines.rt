@@ -13,12 +13,12 @@ pub(super) const MOST_LINE_BYTES: usize = 79;
 
 // The first bytes of an array with room for a line and its newline. Contracts see them as their list.
 #[derive(Drop)]
-pub(super) struct Line {
+pub(super) struct LineSoFar {
     bytes: [u8; 80],
     len: usize,
 }
 
-impl Model for Line {
+impl Model for LineSoFar {
     ghost use Rattle.std.specs.Prelude.{List, ℕ, length, take, ◌≡◌, ◌≤◌};
     ghost use Rattle.sgb_file.specs.Saving.{most_file_line_bytes};
 
@@ -29,12 +29,12 @@ impl Model for Line {
     ghost invariant = { λ line. (line.len ≤ most_file_line_bytes) × (length line.bytes ≡ 80) };
 }
 
-impl Line {
+impl LineSoFar {
     // No bytes yet.
-    pub(super) fn new() -> Line
+    pub(super) fn new() -> LineSoFar
         ensures { result ≡ [] }
     {
-        Line {
+        LineSoFar {
             bytes: [b' '; 80],
             len: 0,
         }

@@ -27,7 +27,7 @@ pub(super) struct Begun {
 
 // The entries from one on, so many.
 #[derive(Clone, Copy)]
-pub(super) struct Entries {
+pub(super) struct EntryRange {
     pub least: u32,
     pub count: u32,
 }
@@ -194,7 +194,7 @@ fn push_greater(
     own: u32,
     bounds: &[u32],
     x: &[u32],
-    entries: Entries,
+    entries: EntryRange,
     tip: &mut [u32],
     links: &mut Links,
 ) -> Result<(), Panic>
@@ -214,7 +214,7 @@ fn push_greater(
     if entries.count < 2 {
         return Ok(());
     }
-    let greater = Entries {
+    let greater = EntryRange {
         least: entries.least + 1,
         count: entries.count - 1,
     };
@@ -230,7 +230,7 @@ fn push_rows(
     own: u32,
     bounds: &[u32],
     x: &[u32],
-    entries: Entries,
+    entries: EntryRange,
     tip: &mut [u32],
     links: &mut Links,
 ) -> Result<(), Panic>
@@ -320,7 +320,7 @@ pub(super) fn placed(begun: Begun, bound: u32, own: u32, entry: u32) -> Begun
 }
 
 // The entries from `low` on and below `end` that leave no more than there is room for.
-pub(super) fn with_room(left: u32, room: u64, low: u32, end: u32) -> Entries
+pub(super) fn with_room(left: u32, room: u64, low: u32, end: u32) -> EntryRange
     requires low { low ≤ left + 1 }
     requires end { end ≤ left + 1 }
     ensures few { result.least + result.count ≤ left + 1 }
@@ -328,7 +328,7 @@ pub(super) fn with_room(left: u32, room: u64, low: u32, end: u32) -> Entries
         rows left bounds low (end - low) ≡ rows left bounds result.least result.count }
 {
     let least = u64::from(left).saturating_sub(room).max(u64::from(low)) as u32;
-    Entries {
+    EntryRange {
         least,
         count: end.saturating_sub(least),
     }

@@ -6,7 +6,7 @@ ghost use Rattle.sgb_vec.specs.Sums.{bounded_sums};
 ghost use Rattle.sgb_gen.specs.Subsets.{is_wanted_size};
 ghost use Rattle.sgb_gen.specs.inner.Descents.{AreBetween, HasNoArcs, IsBegun, arcs_under, rows};
 
-use super::descents::{Begun, Entries, any_wanted, placed, with_room};
+use super::descents::{Begun, EntryRange, any_wanted, placed, with_room};
 
 // The least wanted size and the greatest one, and whether all between them are wanted too.
 #[derive(Drop)]
@@ -50,7 +50,7 @@ pub(super) fn may_be_among(sizes: &WantedSizes, begun: Begun) -> bool
 }
 
 // The entries with which a vector that begins so may have a wanted size in common, and what is between them.
-pub(super) fn wanted_entries(sizes: &WantedSizes, begun: Begun, bound: u32, own: u32) -> Entries
+pub(super) fn wanted_entries(sizes: &WantedSizes, begun: Begun, bound: u32, own: u32) -> EntryRange
     requires sizes { AreBetween begun.size_bits sizes.now.first sizes.now.last }
     requires room { bound ≤ begun.room }
     requires shared { own ≤ begun.shared }
@@ -68,7 +68,7 @@ pub(super) fn wanted_entries(sizes: &WantedSizes, begun: Begun, bound: u32, own:
     let end = entries.least + entries.count;
     let least = least_wanted(sizes, begun, bound, own, entries.least, end);
     let end = end_of_wanted(sizes, begun, bound, own, least, end);
-    Entries {
+    EntryRange {
         least,
         count: end - least,
     }

@@ -1,5 +1,5 @@
-use Rattle.std.proofs.Common.{◌≡◌, ◌<◌, ◌+◌, ◌≤◌, ◌++◌, ◌∙◌, [], List, ℕ, Option, ap, sym, subst, length, take, drop, rules, arith}
-use Rattle.std.specs.List.{All, flat_map}
+use Rattle.std.proofs.Common.{◌≡◌, ◌+◌, ◌∙◌, [], List, ℕ, Option, ap, sym, subst, length, rules, arith}
+use Rattle.std.specs.List.{flat_map}
 use Rattle.sgb_levels.specs.Distances.{tips_from}
 use Rattle.sgb_levels.specs.inner.Marks.{all_marked, marks}
 use Rattle.sgb_levels.specs.inner.Searches.{IsSearched, unmarked}

@@ -1,4 +1,4 @@
-use Rattle.std.proofs.Common.{◌≡◌, ◌+◌, ◌≤◌, length}
+use Rattle.std.proofs.Common.{◌+◌, ◌≤◌, length}
 use Rattle.sgb_levels.specs.inner.Searches.{IsSearched, unmarked}
 use Rattle.sgb_levels.proofs.levels.levels.Given as goal
 

@@ -1,14 +1,10 @@
-use Rattle.std.proofs.Common.{◌≡◌, ℕ, ◌+◌, ◌*◌, ◌<◌, ◌≤◌, List, length, Option, Some, ap, arith, rules}
+use Rattle.std.proofs.Common.{◌≡◌, ℕ, ◌+◌, ◌*◌, ◌<◌, ◌≤◌, List, length, ap, arith, rules}
 use Rattle.std.proofs.lemmas.Grind.{get_or_default_zero}
 use Rattle.sgb_gen.specs.inner.LocalArcs.{arcs_in}
-use Rattle.sgb_gen.specs.LocalLists.{LocalArc, LinksData}
+use Rattle.sgb_gen.specs.LocalLists.{LinksData}
 use Rattle.sgb_gen.proofs.LinkRows.{length-arcs_in, slice_get-arcs_in}
 use Rattle.sgb_gen.proofs.TableRows.{row_within}
 use Rattle.sgb_gen.proofs.links.Links.get.Goals as goal
-
--- an arc that is there
-abbrev arc_found : LocalArc → Option LocalArc
-arc_found arc = Some arc
 
 -- the place is one of the lengths
 place_within : (width i : ℕ) (d : LinksData) (tips lens : List ℕ) → record { width = width; arcs = arcs_in width tips lens } ≡ d → i < length d.arcs → i < length lens

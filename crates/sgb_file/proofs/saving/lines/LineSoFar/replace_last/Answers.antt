@@ -1,6 +1,6 @@
 use Rattle.std.proofs.Common.{ap, ◌∙◌, ◌++◌, [], ◌∷◌}
 use Rattle.sgb_file.proofs.FullLines.{first_of_full, last_of_full}
-use Rattle.sgb_file.proofs.saving.lines.Line.replace_last.Goals as goal
+use Rattle.sgb_file.proofs.saving.lines.LineSoFar.replace_last.Goals as goal
 
 pub returns-clause-line : goal.returns-clause-line
 returns-clause-line c =

@@ -1,0 +1,12 @@
+use Rattle.std.proofs.Common.{◌∙◌, ap, sym}
+use Rattle.std.specs.Option.{option_map}
+use Rattle.sgb_c.proofs.Named.{opened, unopened}
+use Rattle.sgb_c.proofs.sgb_open.Goals as goal
+
+pub returns-in-Ok : goal.returns-in-Ok
+returns-in-Ok c =
+    opened (λ h. h.graph) c.args.text.now c.args.input.now c.args.graph.now.held.value _ c.in-Ok.held.value.graph (sym c.is_open.ensures ∙ c.if-is_open.false) c.in-Ok.ensures.held (ap (option_map (λ h. h.graph)) c.put.ensures)
+
+pub returns-in-Err : goal.returns-in-Err
+returns-in-Err c =
+    unopened (λ h. h.graph) c.args.text.now c.args.input.now c.args.graph.now.held.value c.in-Err.fault _ (sym c.is_open.ensures ∙ c.if-is_open.false) c.number_of_fault.ensures c.in-Err.ensures.refused
