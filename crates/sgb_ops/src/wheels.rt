@@ -51,10 +51,7 @@ fn entries(alloc: Global, middle: Entry, rim: Graph) -> Result<Vec<Entry>, Panic
     ensures ok { IfOk result (λ es. es.items ≡ middle ∷ entry.Graph rim ∷ []) }
     ensures memory { IsOkUnless result Panic.NoRoom }
 {
-    let mut entries = Vec::with_capacity(alloc, 2)?;
-    entries.push(middle)?;
-    entries.push(Entry::Graph(rim))?;
-    Ok(entries)
+    Ok(vec![in alloc; middle, Entry::Graph(rim)]?)
 }
 
 // The entry of so many vertices in the middle.
