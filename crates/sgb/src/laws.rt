@@ -3,11 +3,13 @@ ghost use Rattle.std.specs.Prelude.{◌≡◌, ℕ, Bool, List, Result, Ok, Err,
 ghost use Rattle.sgb_vec.specs.declared.panics.Panic.{Panic};
 ghost use Rattle.sgb_graph.specs.Graphs.{GraphData};
 ghost use Rattle.sgb_file.specs.Devices.{AppendsUnlessFailed, Change};
+ghost use Rattle.sgb_expr.specs.Expression.{Expression};
 ghost use Rattle.sgb_requests.specs.Faults.{fault_line, status_of};
 ghost use Rattle.sgb_requests.specs.declared.faults.Fault.{Fault};
 ghost use Rattle.sgb_requests.specs.declared.requests.Request.{Request};
 ghost use Rattle.sgb.specs.Outcomes.{IsAnswered, answer_of, reads_input};
 ghost use Rattle.sgb.specs.Runs.{IsRunFrom};
+ghost use Rattle.sgb.specs.Values.{IsValueOn};
 ghost use Rattle.sgb.specs.Writing.{IsEndedFrom};
 
 /// A request that reads no input has the same answer whatever `stdin` is.
@@ -16,9 +18,12 @@ pub fn input_unread_law()
         → answer_of r a ≡ answer_of r b }
 {}
 
-/// On each input a request has one answer, and one only.
+/// On each input an expression has one value, and one only; and a request one answer.
 pub fn answered_once_law()
-    ensures { (r : Request) (input : List ℕ) → (answer : Result (List ℕ) Fault)
+    ensures value { (e : Expression) (input : List ℕ) → (value : Result GraphData Panic)
+        × IsValueOn input e value
+        × ((other : Result GraphData Panic) → IsValueOn input e other → other ≡ value) }
+    ensures answer { (r : Request) (input : List ℕ) → (answer : Result (List ℕ) Fault)
         × IsAnswered r input answer
         × ((other : Result (List ℕ) Fault) → IsAnswered r input other → other ≡ answer) }
 {}
