@@ -21,7 +21,7 @@ use Rattle.sgb_expr.specs.StdinUses.{entries_have_stdin, entry_has_stdin, has_st
 use Rattle.sgb_file.specs.Saving.{text_of_graph}
 use Rattle.sgb.specs.Inputs.{IsKeptOfInput}
 use Rattle.sgb.specs.Outcomes.{IsAnswered, answer_from, answer_of, list_answer, names_answer, reads_input}
-use Rattle.sgb.specs.Values.{IsStdinValue, IsValueOn, both, entry_value, generator_value, made, most_input, value_of, values_of}
+use Rattle.sgb.specs.Values.{IsOn, IsStdinValue, IsValueOn, both, entry_value, generator_value, made, most_input, value_of, values_of}
 use Rattle.sgb.specs.inner.StdinValues.{GivesStdin}
 use Rattle.sgb_requests.specs.declared.faults.Fault.{Fault}
 use Rattle.sgb_ops.specs.declared.entries.Entry.TheVariants as entry
@@ -36,25 +36,25 @@ use Rattle.sgb_requests.specs.declared.requests.Request.TheVariants as request
 abbrev IsWithin : ℕ → List ℕ → Result GraphData Panic → Type 0
 IsWithin most text value = ((length text ≤ most) × IsRestoredAs text value) ⊎ ((most < length text) × (value ≡ Err Syntax))
 
--- a text and what is kept of it
+-- that is one thing
+within_same : (most : ℕ) (text : List ℕ) (v w : Result GraphData Panic) → IsWithin most text v → IsWithin most text w → v ≡ w
+within_same most text v w (inl (h, is)) (inl (k, also)) = restored_same text v w is also
+within_same most text v w (inl (h, is)) (inr (k, e)) = absurd (omega (arith, h, k))
+within_same most text v w (inr (h, e)) (inl (k, is)) = absurd (omega (arith, h, k))
+within_same most text v w (inr (h, e)) (inr (k, f)) = e ∙ sym f
+
+-- so it is of a text and of what is kept of it
 cut_alike : (most : ℕ) (text : List ℕ) (v w : Result GraphData Panic) → IsWithin most (take (most + 1) text) v → IsWithin most text w → v ≡ w
-cut_alike most text v w (inl (h, is)) (inl (k, also)) =
-    let whole = take_all (most + 1) text (omega (arith, k)) in
-    restored_same text v w (subst (λ t. IsRestoredAs t v) whole is) also
+cut_alike most text v w is (inl (k, also)) =
+    within_same most text v w (subst (λ t. IsWithin most t v) (take_all (most + 1) text (omega (arith, k))) is) (inl (k, also))
 cut_alike most text v w (inl (h, is)) (inr (k, e)) =
     let size = length-take-le (most + 1) text (omega (arith, k)) in
     absurd (omega (arith, h, size))
-cut_alike most text v w (inr (h, e)) (inl (k, is)) =
-    let whole = ap length (take_all (most + 1) text (omega (arith, k))) in
-    absurd (omega (arith, h, k, whole))
 cut_alike most text v w (inr (h, e)) (inr (k, f)) = e ∙ sym f
 
 -- `stdin` has one value
 pub stdin_same : (input : List ℕ) (v w : Result GraphData Panic) → IsStdinValue input v → IsStdinValue input w → v ≡ w
-stdin_same input v w (inl (h, is)) (inl (k, also)) = restored_same input v w is also
-stdin_same input v w (inl (h, is)) (inr (k, e)) = absurd (omega (arith, h, k))
-stdin_same input v w (inr (h, e)) (inl (k, is)) = absurd (omega (arith, h, k))
-stdin_same input v w (inr (h, e)) (inr (k, f)) = e ∙ sym f
+stdin_same input v w is also = within_same most_input input v w is also
 
 -- so it has on what is kept of standard input
 pub stdin_cut : (stdin : List ℕ → Result GraphData Panic) → GivesStdin stdin → (input : List ℕ) → stdin (take (most_input + 1) input) ≡ stdin input
@@ -142,61 +142,71 @@ answer_same (request.Flip p) a b same = refl
 pub answer_unread : (r : Request) (a b : Result GraphData Panic) → reads_input r ≡ false → answer_of r a ≡ answer_of r b
 answer_unread r a b unread = answer_same r a b (λ reads. absurd (both_ways (reads_input r) unread reads))
 
--- the value of an expression by such a function, and that of a generator
-pub value_given : (stdin : List ℕ → Result GraphData Panic) → GivesStdin stdin → (input : List ℕ) (e : Expression) → IsValueOn input e (value_of (stdin input) e)
-value_given stdin gives input e = (stdin input, gives input, refl)
+-- ---- what comes of the value of `stdin` on an input
 
+-- it is had by a function that gives that value
+given_on : {T : Type 0} (f : Result GraphData Panic → T) (stdin : List ℕ → Result GraphData Panic) → GivesStdin stdin → (input : List ℕ) → IsOn f input (f (stdin input))
+given_on f stdin gives input = (stdin input, gives input, refl)
+
+-- it is one thing
+one_on : {T : Type 0} (f : Result GraphData Panic → T) (input : List ℕ) (x y : T) → IsOn f input x → IsOn f input y → x ≡ y
+one_on f input x y (v, is, alike) (w, also, same) = alike ∙ ap f (stdin_same input v w is also) ∙ sym same
+
+-- so there is one on each input
+pub some_on : {T : Type 0} (f : Result GraphData Panic → T) (input : List ℕ) → (x : T) × IsOn f input x × ((y : T) → IsOn f input y → y ≡ x)
+some_on f input =
+    let (stdin, gives) = stdin_given in
+    (f (stdin input), given_on f stdin gives input, λ y is. one_on f input y (f (stdin input)) is (given_on f stdin gives input))
+
+-- it is the same on what is kept of standard input
+kept_on : {T : Type 0} (f : Result GraphData Panic → T) (reads : Bool) → ((a b : Result GraphData Panic) → (reads ≡ true → a ≡ b) → f a ≡ f b) → (told : Option (List ℕ)) (kept : List ℕ)
+    → (reads ≡ true → IsKeptOfInput told kept) → (held : List ℕ) × IfSome told (λ bytes. held ≡ bytes) × (x : T) × IsOn f held x × IsOn f kept x
+kept_on f reads same None kept is =
+    let (stdin, gives) = stdin_given in
+    (kept, tt, f (stdin kept), given_on f stdin gives kept, given_on f stdin gives kept)
+kept_on f reads same (Some bytes) kept is =
+    let (stdin, gives) = stdin_given in
+    let alike = same (stdin bytes) (stdin kept) (λ r. sym (ap stdin (is r) ∙ stdin_cut stdin gives bytes)) in
+    (bytes, refl, f (stdin bytes), given_on f stdin gives bytes, (stdin kept, gives kept, alike))
+
+-- ---- values
+
+pub value_only : (input : List ℕ) (e : Expression) (v w : Result GraphData Panic) → IsValueOn input e v → IsValueOn input e w → v ≡ w
+value_only input e v w is also = one_on (λ stdin. value_of stdin e) input v w is also
+
+pub kept_value : (told : Option (List ℕ)) (kept : List ℕ) (e : Expression) → (has_stdin e ≡ true → IsKeptOfInput told kept)
+    → (held : List ℕ) × IfSome told (λ bytes. held ≡ bytes) × (value : Result GraphData Panic) × IsValueOn held e value × IsValueOn kept e value
+kept_value told kept e is = kept_on (λ stdin. value_of stdin e) (has_stdin e) (λ a b same. value_same a b e same) told kept is
+
+-- of a generator
 pub generated_on : (input : List ℕ) (e : Expr) (f : Generator) → e ≡ expr.Generator f → IsValueOn input (expression_of e) (made (generator_value f))
 generated_on input e f is =
     let (stdin, gives) = stdin_given in
     (stdin input, gives input, sym (ap (λ (x : Expr). value_of (stdin input) (expression_of x)) is))
 
--- there is one value, and one answer
-pub value_only : (input : List ℕ) (e : Expression) (v w : Result GraphData Panic) → IsValueOn input e v → IsValueOn input e w → v ≡ w
-value_only input e v w (r, is, alike) (s, also, same) = alike ∙ ap (λ x. value_of x e) (stdin_same input r s is also) ∙ sym same
-
-pub answer_only : (r : Request) (input : List ℕ) (a b : Result (List ℕ) Fault) → IsAnswered r input a → IsAnswered r input b → a ≡ b
-answer_only r input a b (v, is, alike) (w, also, same) = alike ∙ ap (answer_of r) (stdin_same input v w is also) ∙ sym same
-
--- what is kept of standard input is as good as all of it: for an expression
-pub kept_value : (told : Option (List ℕ)) (kept : List ℕ) (e : Expression) → (has_stdin e ≡ true → IsKeptOfInput told kept)
-    → (held : List ℕ) × IfSome told (λ bytes. held ≡ bytes) × (value : Result GraphData Panic) × IsValueOn held e value × IsValueOn kept e value
-kept_value None kept e is =
+-- what is found for each such function, of bytes that are those of the input, is the value on it
+pub value_found : (input kept : List ℕ) (e : Expression) (r : Result GraphData Panic) → kept ≡ input
+    → ((stdin : List ℕ → Result GraphData Panic) → GivesStdin stdin → IsValue (value_of (stdin kept) e) r)
+    → (value : Result GraphData Panic) × IsValueOn input e value × IsValue value r
+value_found input kept e r same found =
     let (stdin, gives) = stdin_given in
-    (kept, tt, value_of (stdin kept) e, value_given stdin gives kept e, value_given stdin gives kept e)
-kept_value (Some bytes) kept e is =
-    let (stdin, gives) = stdin_given in
-    let alike = value_same (stdin bytes) (stdin kept) e (λ reads. sym (ap stdin (is reads) ∙ stdin_cut stdin gives bytes)) in
-    (bytes, refl, value_of (stdin bytes) e, value_given stdin gives bytes e, (stdin kept, gives kept, alike))
-
--- and for a request
-pub kept_answer : (told : Option (List ℕ)) (kept : List ℕ) (r : Request) → (reads_input r ≡ true → IsKeptOfInput told kept)
-    → (held : List ℕ) × IfSome told (λ bytes. held ≡ bytes) × (answer : Result (List ℕ) Fault) × IsAnswered r held answer × IsAnswered r kept answer
-kept_answer None kept r is =
-    let (stdin, gives) = stdin_given in
-    (kept, tt, answer_of r (stdin kept), (stdin kept, gives kept, refl), (stdin kept, gives kept, refl))
-kept_answer (Some bytes) kept r is =
-    let (stdin, gives) = stdin_given in
-    let alike = answer_same r (stdin bytes) (stdin kept) (λ reads. sym (ap stdin (is reads) ∙ stdin_cut stdin gives bytes)) in
-    (bytes, refl, answer_of r (stdin bytes), (stdin bytes, gives bytes, refl), (stdin kept, gives kept, alike))
+    let is = subst (λ (b : List ℕ). IsValue (value_of (stdin b) e) r) same (found stdin gives) in
+    (value_of (stdin input) e, given_on (λ v. value_of v e) stdin gives input, is)
 
 -- ---- answers
 
--- of names, of a listing, of a file
-pub names_answered : (r : Request) (e : Expr) (resume : Resume) (input : List ℕ) (value : Result GraphData Panic) → r ≡ request.Names e resume → IsValueOn input (expression_of e) value
-    → IsAnswered r input (answer_from value (λ g. names_answer (names_of g) resume))
-names_answered r e resume input value is (stdin, says, same) =
-    (stdin, says, ap (λ v. answer_from v (λ g. names_answer (names_of g) resume)) same ∙ sym (ap (λ (x : Request). answer_of x stdin) is))
+pub answer_only : (r : Request) (input : List ℕ) (a b : Result (List ℕ) Fault) → IsAnswered r input a → IsAnswered r input b → a ≡ b
+answer_only r input a b is also = one_on (answer_of r) input a b is also
 
-pub list_answered : (r : Request) (e : Expr) (resume : Resume) (input : List ℕ) (value : Result GraphData Panic) → r ≡ request.List e resume → IsValueOn input (expression_of e) value
-    → IsAnswered r input (answer_from value (λ g. list_answer g resume))
-list_answered r e resume input value is (stdin, says, same) =
-    (stdin, says, ap (λ v. answer_from v (λ g. list_answer g resume)) same ∙ sym (ap (λ (x : Request). answer_of x stdin) is))
+pub kept_answer : (told : Option (List ℕ)) (kept : List ℕ) (r : Request) → (reads_input r ≡ true → IsKeptOfInput told kept)
+    → (held : List ℕ) × IfSome told (λ bytes. held ≡ bytes) × (answer : Result (List ℕ) Fault) × IsAnswered r held answer × IsAnswered r kept answer
+kept_answer told kept r is = kept_on (answer_of r) (reads_input r) (λ a b same. answer_same r a b same) told kept is
 
-pub save_answered : (r : Request) (e : Expr) (input : List ℕ) (value : Result GraphData Panic) → r ≡ request.Save e → IsValueOn input (expression_of e) value
-    → IsAnswered r input (answer_from value (λ g. Ok (text_of_graph g)))
-save_answered r e input value is (stdin, says, same) =
-    (stdin, says, ap (λ v. answer_from v (λ g. Ok (text_of_graph g))) same ∙ sym (ap (λ (x : Request). answer_of x stdin) is))
+-- of what is made of the graph of an expression
+pub made_answered : (r : Request) (e : Expr) (input : List ℕ) (value : Result GraphData Panic) (answer : GraphData → Result (List ℕ) Fault)
+    → ((stdin : Result GraphData Panic) → answer_of r stdin ≡ answer_from (value_of stdin (expression_of e)) answer)
+    → IsValueOn input (expression_of e) value → IsAnswered r input (answer_from value answer)
+made_answered r e input value answer is (stdin, says, same) = (stdin, says, ap (λ v. answer_from v answer) same ∙ sym (is stdin))
 
 -- of a request whose answer is the same whatever `stdin` is
 pub plain_answered : (r : Request) (input : List ℕ) (answer : Result (List ℕ) Fault) → ((stdin : Result GraphData Panic) → answer_of r stdin ≡ answer) → IsAnswered r input answer

@@ -1,5 +1,5 @@
 -- What a request is answered with: the output, the line on standard error, and the exit status.
-use Rattle.std.specs.Prelude.{◌≡◌, ℕ, suc, ℤ, pos, neg_ℤ, Bool, false, codes, List, [], ◌++◌, Option, Some, None, Result, Ok, Err, nat_eq}
+use Rattle.std.specs.Prelude.{ℕ, suc, ℤ, pos, neg_ℤ, Bool, false, codes, List, [], ◌++◌, Option, Some, None, Result, Ok, Err, nat_eq}
 use Rattle.std.specs.List.{position}
 use Rattle.std.specs.Cmp.Lexicographic.{pointwise}
 use Rattle.sgb_vec.specs.declared.panics.Panic.{Panic}
@@ -14,7 +14,7 @@ use Rattle.sgb_file.specs.Saving.{text_of_graph}
 use Rattle.sgb_requests.specs.Faults.{status_of, fault_line}
 use Rattle.sgb.specs.FlipAnswers.{flip_answer}
 use Rattle.sgb.specs.Texts.{name_lines, head, blocks}
-use Rattle.sgb.specs.Values.{IsStdinValue, value_of}
+use Rattle.sgb.specs.Values.{IsOn, value_of}
 use Rattle.sgb_requests.specs.declared.faults.Fault.{Fault}
 use Rattle.sgb_requests.specs.declared.faults.Fault.TheVariants as fault
 use Rattle.sgb_requests.specs.declared.requests.Request.{Request}
@@ -92,7 +92,7 @@ answer_of (request.Flip p) stdin = flip_answer p
 
 -- the answer to a request where standard input has these bytes
 abbrev pub IsAnswered : Request → List ℕ → Result (List ℕ) Fault → Type 0
-IsAnswered r input answer = (value : Result GraphData Panic) × IsStdinValue input value × (answer ≡ answer_of r value)
+IsAnswered r input answer = IsOn (answer_of r) input answer
 
 -- output, line on standard error, and exit status
 pub record Outcome : Type 0 where

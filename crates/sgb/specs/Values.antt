@@ -85,9 +85,13 @@ abbrev mutual
   values_of stdin NoEntries = Ok []
   values_of stdin (EntryThen first others) = and_then (both (entry_value stdin first) (values_of stdin others)) (λ p. Ok (p.0 ∷ p.1))
 
+-- what comes of the value of `stdin` where standard input has these bytes
+abbrev pub IsOn : {T : Type 0} → (Result GraphData Panic → T) → List ℕ → T → Type 0
+IsOn f input x = (stdin : Result GraphData Panic) × IsStdinValue input stdin × (x ≡ f stdin)
+
 -- the graph of an expression where standard input has these bytes, or the first refusal
 abbrev pub IsValueOn : List ℕ → Expression → Result GraphData Panic → Type 0
-IsValueOn input e value = (stdin : Result GraphData Panic) × IsStdinValue input stdin × (value ≡ value_of stdin e)
+IsValueOn input e value = IsOn (λ stdin. value_of stdin e) input value
 
 -- the graph of accepted parameters, as one of vectors
 abbrev pub vector_graph_of : Local → VectorGraph

@@ -204,7 +204,8 @@ fn value_of_entry(
     more: bool,
 ) -> Result<EntryValue, Panic>
     ensures ok { (stdin : List ℕ → Result GraphData Panic) → GivesStdin stdin
-        → IfOk result (λ v. entry_value (stdin input.old) (entry_of entry.now) ≡ Ok (handed_entry v)) }
+        → IfOk result (λ v. entry_value (stdin input.old) (entry_of entry.now)
+        ≡ Ok (handed_entry v)) }
     ensures refused { (stdin : List ℕ → Result GraphData Panic) → GivesStdin stdin
         → IfErr result (λ p. IsValue (entry_value (stdin input.old) (entry_of entry.now)) (Err p)) }
     ensures left { IfOk result (λ _. input.new

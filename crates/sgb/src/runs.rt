@@ -124,8 +124,8 @@ fn answer_names<W: Sink>(
     requires { W.has_failed out.old ≡ false }
     ensures ended { (value : Result GraphData Panic)
         × IsValueOn input.items (expression_of expression.now) value
-        × IsEnded (answer_from value (λ g. names_answer (names_of g) resume.now)) (out.new ≡ out.old)
-        (change W.written W.has_failed out.old out.new) result }
+        × IsEnded (answer_from value (λ g. names_answer (names_of g) resume.now))
+        (out.new ≡ out.old) (change W.written W.has_failed out.old out.new) result }
     ensures certain { IsBoard expression.now ⊎ IsRefusedAtOnce (expression_of expression.now)
         → IfErr result (λ f. f ≢ Fault.Panic NoRoom) }
 {

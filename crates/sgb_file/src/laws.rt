@@ -54,5 +54,6 @@ pub fn line_bytes_law()
 /// What is written is a file of the graph, whatever follows it, and so is read again as the same one (GB_SAVE, save_graph
 /// and restore_graph).
 pub fn written_is_read_law()
-    ensures { (g : GraphData) (more : List ℕ) → CanBeSaved g → IsFileOf g (text_of_graph g ++ more) }
+    ensures { (g : GraphData) (more : List ℕ) → CanBeSaved g
+        → IsFileOf g (text_of_graph g ++ more) }
 {}

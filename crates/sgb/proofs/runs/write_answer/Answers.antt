@@ -8,26 +8,26 @@ use Rattle.sgb.specs.FlipAnswers.{flip_answer}
 use Rattle.sgb.specs.Outcomes.{answer_from, answer_of, list_answer, names_answer, queen_moves, queen_title}
 use Rattle.sgb.specs.Texts.{blocks, head}
 use Rattle.sgb.specs.Values.{value_of}
-use Rattle.sgb.proofs.StdinValues.{list_answered, names_answered, plain_answered, save_answered}
+use Rattle.sgb.proofs.StdinValues.{made_answered, plain_answered}
 use Rattle.sgb.proofs.runs.write_answer.Goals as goal
 
 pub returns-in-Names-clause-ended : goal.returns-in-Names-clause-ended
 returns-in-Names-clause-ended g c =
     let a = c.in-Names in
     let (value, on, ended) = c.answer_names.ensures.ended in
-    (answer_from value (λ h. names_answer (names_of h) a.resume), names_answered c.args.request.now a.expression a.resume c.args.input.items value a.is on, ended)
+    (answer_from value (λ h. names_answer (names_of h) a.resume), made_answered c.args.request.now a.expression c.args.input.items value _ (λ stdin. ap (λ (r : Request). answer_of r stdin) a.is) on, ended)
 
 pub returns-in-List-clause-ended : goal.returns-in-List-clause-ended
 returns-in-List-clause-ended g c =
     let a = c.in-List in
     let (value, on, ended) = c.answer_list.ensures.ended in
-    (answer_from value (λ h. list_answer h a.resume), list_answered c.args.request.now a.expression a.resume c.args.input.items value a.is on, ended)
+    (answer_from value (λ h. list_answer h a.resume), made_answered c.args.request.now a.expression c.args.input.items value _ (λ stdin. ap (λ (r : Request). answer_of r stdin) a.is) on, ended)
 
 pub returns-in-Save-clause-ended : goal.returns-in-Save-clause-ended
 returns-in-Save-clause-ended g c =
     let a = c.in-Save in
     let (value, on, ended) = c.answer_save.ensures.ended in
-    (answer_from value (λ h. Ok (text_of_graph h)), save_answered c.args.request.now a.expression c.args.input.items value a.is on, ended)
+    (answer_from value (λ h. Ok (text_of_graph h)), made_answered c.args.request.now a.expression c.args.input.items value _ (λ stdin. ap (λ (r : Request). answer_of r stdin) a.is) on, ended)
 
 pub returns-in-Queen-clause-ended : goal.returns-in-Queen-clause-ended
 returns-in-Queen-clause-ended g c = (
