@@ -50,10 +50,14 @@ def libraries():
 
 
 def is_proved(path):
-    """Whether the root of the file's crate has the file as a module."""
-    crate, module = re.fullmatch(r"crates/(\w+)/src/(\w+)\.rt", path).groups()
-    root = f"crates/{crate}/src/lib.rt"
-    return os.path.exists(root) and re.search(rf"^(pub )?mod {module};$", read(root), re.M) is not None
+    """Whether the root of the file's crate has the file as a module, or a module of the root that it stands in the folder of."""
+    crate, *modules = re.fullmatch(r"crates/(\w+)/src/(?:(\w+)/)?(\w+)\.rt", path).groups()
+    above = f"crates/{crate}/src/lib.rt"
+    for module in filter(None, modules):
+        if not os.path.exists(above) or not re.search(rf"^(pub )?mod {module};$", read(above), re.M):
+            return False
+        above = f"crates/{crate}/src/{module}.rt"
+    return True
 
 
 def without_head(text):

@@ -1,15 +1,13 @@
-//! Tests of the public calls of `sgb_requests`, in a crate of their own: so that crate is not proved once more for them.
+//! Tests of the public calls of `sgb_file`, `sgb_expr` and `sgb_requests`, in a crate of their own: so those crates are not proved once
+//! more for them.
 #![tactic(auto)]
 
-// the caller that the page for callers shows
+// `sgb_expr`
 #[cfg(test)]
-mod caller;
-// the request that a command line makes
+mod expr_calls;
+// `sgb_file`
 #[cfg(test)]
-mod command_line;
-// expressions read for a request
+mod file_calls;
+// `sgb_requests`
 #[cfg(test)]
-mod expressions;
-// the lines of faults
-#[cfg(test)]
-mod faults;
+mod requests_calls;

@@ -1,0 +1,67 @@
+use super::cases::is_list;
+use sgb_gen::{Links, Simplex, SimplexParams};
+use sgb_graph::Graph;
+use sgb_vec::{Family, Panic, Vectors};
+use std::alloc::Global;
+use std::test::Fail;
+
+// Parameters of simplexes whose lists are compared with those of the built graphs, each with both directions.
+static SIMPLEXES: [[i64; 6]; 6] = [
+    [2, 0, 0, 0, 0, 0],
+    [3, 2, 2, 2, 0, 0],
+    [4, 9, 2, -5, 7, 7],
+    [0, 3, 0, 0, 0, 0],
+    [5, 2, 2, 0, 0, 0],
+    [3, -3, 0, 0, 0, 0],
+];
+
+// The parameters of the simplex of these numbers.
+fn params_of(numbers: &[i64; 6], directed: bool) -> SimplexParams {
+    let [n, n0, n1, n2, n3, n4] = *numbers;
+    SimplexParams {
+        n,
+        n0,
+        n1,
+        n2,
+        n3,
+        n4,
+        directed,
+    }
+}
+
+// Whether the list of this vector is that of vertex v of the graph.
+fn is_list_at(graph: &Graph, v: u32, simplex: &Simplex, x: &[u32], links: &mut Links) -> bool {
+    if !simplex.family().holds(x) {
+        return false;
+    }
+    simplex.arcs_at(x, links).is_ok() && is_list(graph, v, links)
+}
+
+// Whether the lists of the simplex are those of the graph.
+fn are_lists_of(graph: &Graph, simplex: &Simplex, links: &mut Links) -> bool {
+    let mut v: u32 = 0;
+    for x in Vectors::all(simplex.family()) {
+        if v >= graph.n() || !is_list_at(graph, v, simplex, x.as_slice(), links) {
+            return false;
+        }
+        v += 1;
+    }
+    v == graph.n()
+}
+
+// Whether the lists of this simplex are those of the built graph.
+fn are_lists(alloc: Global, params: &SimplexParams) -> Result<bool, Panic> {
+    let simplex = Simplex::from_params(alloc, params)?;
+    let graph = params.graph(alloc)?;
+    Ok(are_lists_of(&graph, &simplex, &mut Links::new(alloc)))
+}
+
+#[test]
+fn lists_of_the_built_graph(rt: HostRuntime) -> Result<(), Fail> {
+    for numbers in &SIMPLEXES {
+        for directed in [false, true] {
+            assert!(rt; are_lists(rt.alloc(), &params_of(numbers, directed))?);
+        }
+    }
+    Ok(())
+}

@@ -1,0 +1,93 @@
+use super::cases::is_list;
+use super::subsets_counts::subsets_of;
+use sgb_gen::{Links, Subsets, SubsetsParams};
+use sgb_graph::Graph;
+use sgb_vec::{Family, Panic, Vectors};
+use std::alloc::Global;
+use std::test::Fail;
+
+// Parameters of subsets whose lists are compared with those of the built graphs, each with both directions.
+static SUBSETS: [([i64; 6], u128); 11] = [
+    ([2, 1, -4, 0, 0, 0], 0x1),
+    ([3, 2, 2, 2, 0, 0], 0x3),
+    ([3, 2, 2, 2, 0, 0], 0xf),
+    ([4, 3, 9, -3, 7, 7], 0x1c),
+    ([3, 0, 0, 0, 0, 0], 0xa),
+    ([0, 3, 0, 0, 0, 0], 0x1),
+    ([5, 2, 2, 0, 0, 0], 0x7),
+    // sizes with others between them, and lists that end with a single 1
+    ([4, 1, 3, 5, 2, 0], 0x15),
+    ([4, 1, -6, 0, 0, 0], 0x8),
+    ([3, 1, -5, 0, 0, 0], 0x9),
+    ([5, 2, 1, -4, 0, 0], 0x29),
+];
+
+// The parameters of the subsets of these numbers, with these sizes of what two have in common.
+fn params_of(numbers: &[i64; 6], size_bits: u128, directed: bool) -> SubsetsParams {
+    let [n, n0, n1, n2, n3, n4] = *numbers;
+    SubsetsParams {
+        n,
+        n0,
+        n1,
+        n2,
+        n3,
+        n4,
+        size_bits,
+        directed,
+    }
+}
+
+// Whether the list of this vector is that of vertex v of the graph.
+fn is_list_at(graph: &Graph, v: u32, subsets: &Subsets, x: &[u32], links: &mut Links) -> bool {
+    if !subsets.family().holds(x) {
+        return false;
+    }
+    subsets.arcs_at(x, links).is_ok() && is_list(graph, v, links)
+}
+
+// Whether the lists of the subsets are those of the graph.
+fn are_lists_of(graph: &Graph, subsets: &Subsets, links: &mut Links) -> bool {
+    let mut v: u32 = 0;
+    for x in Vectors::all(subsets.family()) {
+        if v >= graph.n() || !is_list_at(graph, v, subsets, x.as_slice(), links) {
+            return false;
+        }
+        v += 1;
+    }
+    v == graph.n()
+}
+
+// Whether the lists of these subsets are those of the built graph.
+fn are_lists(alloc: Global, params: &SubsetsParams) -> Result<bool, Panic> {
+    let subsets = Subsets::from_params(alloc, params)?;
+    let graph = params.graph(alloc)?;
+    Ok(are_lists_of(&graph, &subsets, &mut Links::new(alloc)))
+}
+
+#[test]
+fn lists_of_the_built_graph(rt: HostRuntime) -> Result<(), Fail> {
+    for (numbers, size_bits) in &SUBSETS {
+        for directed in [false, true] {
+            assert!(rt; are_lists(rt.alloc(), &params_of(numbers, *size_bits, directed))?);
+        }
+    }
+    Ok(())
+}
+
+// How many arcs lead from this vector, if it is one of the subsets.
+fn arcs_from(subsets: &Subsets, x: &[u32], links: &mut Links) -> Result<Option<usize>, Panic> {
+    if !subsets.family().holds(x) {
+        return Ok(None);
+    }
+    subsets.arcs_at(x, links)?;
+    Ok(Some(links.len()))
+}
+
+// One element of each kind: it has two in common with each other vector, and three with itself.
+#[test]
+fn no_size_wanted(rt: HostRuntime) -> Result<(), Fail> {
+    let subsets = subsets_of(rt.alloc(), &[3, 2, 2, 2, 0, 0], 0x3, false)?;
+    let count = arcs_from(&subsets, &[1, 1, 1], &mut Links::new(rt.alloc()))?;
+    assert!(rt; count == Some(0));
+    Ok(())
+}

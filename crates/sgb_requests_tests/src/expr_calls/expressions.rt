@@ -1,0 +1,318 @@
+use super::cases::{check_cut, check_read, is_answer};
+use sgb_expr::*;
+use std::alloc::{AllocError, Global};
+
+/// Texts, each with the expression that it is after a space, as `{:?}` shows it.
+const GENERATORS: &str = "\
+board(2,3,5,-7,1,0,0) Generator(Board(BoardParams { n1: 2, n2: 3, n3: 5, n4: -7, piece: 1, wrap: 0, directed: false }))
+board(007,-0,-00,0,1,0,-000) Generator(Board(BoardParams { n1: 7, n2: 0, n3: 0, n4: 0, piece: 1, wrap: 0, directed: false }))
+board(1,2,3,4,5,6,-5) Generator(Board(BoardParams { n1: 1, n2: 2, n3: 3, n4: 4, piece: 5, wrap: 6, directed: true }))
+board(999999999999999999,-999999999999999999,0,0,0,0,2) Generator(Board(BoardParams { n1: 999999999999999999, n2: -999999999999999999, n3: 0, n4: 0, piece: 0, wrap: 0, directed: true }))
+simplex(10,-3,4,5,6,7,0) Generator(Simplex(SimplexParams { n: 10, n0: -3, n1: 4, n2: 5, n3: 6, n4: 7, directed: false }))
+simplex(2,0,0,0,0,0,1) Generator(Simplex(SimplexParams { n: 2, n0: 0, n1: 0, n2: 0, n3: 0, n4: 0, directed: true }))
+subsets(3,2,2,2,0,0,0x3,0) Generator(Subsets(SubsetsParams { n: 3, n0: 2, n1: 2, n2: 2, n3: 0, n4: 0, size_bits: 3, directed: false }))
+subsets(3,2,2,2,0,0,010,-1) Generator(Subsets(SubsetsParams { n: 3, n0: 2, n1: 2, n2: 2, n3: 0, n4: 0, size_bits: 10, directed: true }))
+subsets(-3,2,-2,2,0,9,0xABcdef,0) Generator(Subsets(SubsetsParams { n: -3, n0: 2, n1: -2, n2: 2, n3: 0, n4: 9, size_bits: 11259375, directed: false }))
+subsets(3,2,2,2,0,0,0x0000000000000000000000000000000a,0) Generator(Subsets(SubsetsParams { n: 3, n0: 2, n1: 2, n2: 2, n3: 0, n4: 0, size_bits: 10, directed: false }))
+subsets(3,2,2,2,0,0,999999999999999999,0) Generator(Subsets(SubsetsParams { n: 3, n0: 2, n1: 2, n2: 2, n3: 0, n4: 0, size_bits: 999999999999999999, directed: false }))
+subsets(3,2,2,2,0,0,0xffffffffffffffffffffffffffffffff,0) Generator(Subsets(SubsetsParams { n: 3, n0: 2, n1: 2, n2: 2, n3: 0, n4: 0, size_bits: 340282366920938463463374607431768211455, directed: false }))
+complete(3) Generator(Board(BoardParams { n1: 3, n2: 0, n3: 0, n4: 0, piece: -1, wrap: 0, directed: false }))
+transitive(-4) Generator(Board(BoardParams { n1: -4, n2: 0, n3: 0, n4: 0, piece: -1, wrap: 0, directed: true }))
+empty(0) Generator(Board(BoardParams { n1: 0, n2: 0, n3: 0, n4: 0, piece: 2, wrap: 0, directed: false }))
+circuit(007) Generator(Board(BoardParams { n1: 7, n2: 0, n3: 0, n4: 0, piece: 1, wrap: 1, directed: false }))
+cycle(12) Generator(Board(BoardParams { n1: 12, n2: 0, n3: 0, n4: 0, piece: 1, wrap: 1, directed: true }))
+disjoint_subsets(-999999999999999998,3) Generator(Subsets(SubsetsParams { n: 3, n0: 1, n1: 999999999999999999, n2: 0, n3: 0, n4: 0, size_bits: 1, directed: false }))
+petersen() Generator(Subsets(SubsetsParams { n: 2, n0: 1, n1: -4, n2: 0, n3: 0, n4: 0, size_bits: 1, directed: false }))";
+
+#[test]
+fn generators_are_read(rt: HostRuntime) -> Result<(), AllocError> {
+    check_read(&rt, rt.alloc(), GENERATORS)
+}
+
+/// Operations, and standard input.
+const OPERATIONS: &str = "\
+stdin Stdin
+complement(stdin,0,00,-0) Complement { graph: Stdin, copy: false, self_loops: false, directed: false }
+complement(stdin,1,0,0) Complement { graph: Stdin, copy: true, self_loops: false, directed: false }
+complement(stdin,0,-2,999999999999999999) Complement { graph: Stdin, copy: false, self_loops: true, directed: true }
+gunion(stdin,wheel(5,1,2),1,0) Gunion { first: Stdin, second: Wheel { n: 5, n1: 1, directed: true }, multi: true, directed: false }
+intersection(wheel(5,1,0),stdin,0,1) Intersection { first: Wheel { n: 5, n1: 1, directed: false }, second: Stdin, multi: false, directed: true }
+lines(stdin,0) Lines { graph: Stdin, directed: false }
+lines(wheel(5,1,0),-3) Lines { graph: Wheel { n: 5, n1: 1, directed: false }, directed: true }
+product(stdin,wheel(5,1,0),2,1) Product { first: Stdin, second: Wheel { n: 5, n1: 1, directed: false }, kind: 2, directed: true }
+product(wheel(5,1,0),stdin,-7,0) Product { first: Wheel { n: 5, n1: 1, directed: false }, second: Stdin, kind: -7, directed: false }
+bi_complete(2,-3,0) BiComplete { n1: 2, n2: -3, directed: false }
+intersection(gunion(stdin,petersen(),0,0),complement(stdin,0,1,0),1,1) Intersection { first: Gunion { first: Stdin, second: Generator(Subsets(SubsetsParams { n: 2, n0: 1, n1: -4, n2: 0, n3: 0, n4: 0, size_bits: 1, directed: false })), multi: false, directed: false }, second: Complement { graph: Stdin, copy: false, self_loops: true, directed: false }, multi: true, directed: true }";
+
+#[test]
+fn operations_are_read(rt: HostRuntime) -> Result<(), AllocError> {
+    check_read(&rt, rt.alloc(), OPERATIONS)
+}
+
+/// Texts that are no expressions, each with a `|` after its longest prefix that begins one.
+const WRONG_BOARDS: &str = "\
+|
+|x
+boar|
+board|s(1)
+| board(1,2,3,4,5,6,7)
+board(|)
+board(|,
+board(-|
+board(-|,
+board(-|-1,
+board(|+1,
+board(3,|
+board(3| ,
+board(3,4|)
+board(123456789012345678|9,0,0,0,0,0,0)
+board(-123456789012345678|9,0,0,0,0,0,0)
+board(1,2,3,4,5,6,7|
+board(1,2,3,4,5,6,7|,
+board(1,2,3,4,5,6,7)|x
+board(1,2,3,4,5,6,7)|)";
+
+#[test]
+fn other_texts_go_wrong_somewhere(rt: HostRuntime) -> Result<(), AllocError> {
+    check_cut(&rt, rt.alloc(), WRONG_BOARDS)
+}
+
+/// Texts that are no expressions, each with a `|` after its longest prefix that begins one.
+const WRONG_BITS: &str = "\
+subsets(3,2,2,2,0,0,184467440737095516|15,0)
+subsets(3,2,2,2,0,0,0x|
+subsets(3,2,2,2,0,0,0x|,
+subsets(3,2,2,2,0,0,0x|-1
+subsets(3,2,2,2,0,0,0x|g
+subsets(3,2,2,2,0,0,0|
+subsets(3,2,2,2,0,0,00|x1,0)
+subsets(3,2,2,2,0,0,0|X1,0)
+subsets(3,2,2,2,0,0,|x1,0)
+subsets(3,2,2,2,0,0,|ff,0)
+subsets(3,2,2,2,0,0,1|f,0)
+subsets(3,2,2,2,0,0,|-1,0)
+subsets(3,2,2,2,0,0,|,0)
+subsets(3,2,2,2,0,0|x3,3,0)
+subsets(3,2,2,2,0,0,3,0|x1)
+subsets(3,2,2,2,0,0,3|)
+subsets(3,2,2,2,0,0,3,1|,
+subsets(64,64,64,0,0,0,0x10000000000000000000000000000000|0,0)
+subsets(64,64,64,0,0,0,0x00000000000000000000000000000000|1,0)";
+
+#[test]
+fn bad_bits_go_wrong_somewhere(rt: HostRuntime) -> Result<(), AllocError> {
+    check_cut(&rt, rt.alloc(), WRONG_BITS)
+}
+
+/// Texts that are no expressions, each with a `|` after its longest prefix that begins one of some form.
+const WRONG_NAMES: &str = "\
+c|
+circ|le(3)
+cycl|o
+cycle|s
+com|
+comp|ete(3)
+complete(3|
+complete(|)
+complete(3|,4)
+s|
+simple|(3)
+su|msets(3)
+subset|(3)
+empty|x
+empty|
+transitive(0|x1)
+disjoint_subsets(5|)
+disjoint|-subsets(5,2)
+petersen(|1)
+petersen|
+|Petersen()
+petersen()| ";
+
+#[test]
+fn the_longest_prefix_is_that_of_some_form(rt: HostRuntime) -> Result<(), AllocError> {
+    check_cut(&rt, rt.alloc(), WRONG_NAMES)
+}
+
+/// Texts that are no expressions, each with a `|` after its longest prefix that begins one.
+const WRONG_OPERATIONS: &str = "\
+complement(|
+complement(|)
+complet|
+comple|x(3)
+complement(complete(3|
+complement(complete(3|,0,0,0)
+complement(complete(3)|)
+complement(complete(3),0,0|)
+complement(complete(3),0,0,0|
+complement(complete(3),0,0,0|,0)
+complement(petersen(),0,0,0)|x
+complement(| petersen(),0,0,0)
+complement(board(1,2,3,4,5,6|),0,0,0)
+complement(gunion(|
+gunion(petersen()|petersen(),0,0)
+gunion(petersen(),|0,0)
+gunion(petersen(),|,0,0)
+gunion(petersen(),petersen(|1),0,0)
+gunion(petersen(),petersen()|0,0)
+gunion(petersen(),petersen(),|x,0)
+gunion(petersen(),petersen(),0|x1,0)
+gunion(petersen(),petersen(),0|)
+intersection(empty(1),complement(inter|(
+intersection(empty(1),complement(empty(1),1|),0,0)
+intersection|s(
+petersen()|,0,0)";
+
+#[test]
+fn operations_go_wrong_somewhere(rt: HostRuntime) -> Result<(), AllocError> {
+    check_cut(&rt, rt.alloc(), WRONG_OPERATIONS)
+}
+
+/// Texts that are no expressions, each with a `|` after its longest prefix that begins one.
+const WRONG_LINES: &str = "\
+l|
+line|(petersen(),1)
+lines(|
+lines(petersen()|)
+lines(petersen(),|
+lines(petersen(),1|
+lines(petersen(),1|,0)
+produc|e(
+product(petersen(),|1,0)
+product(petersen(),petersen(),1|
+product(petersen(),petersen(),1|)
+product(petersen(),petersen(),1,0|,0)
+bi|complete(2,3,0)
+bi_complete(2|)
+bi_complete(2,3|)
+bi_complete(2,3,0|
+wheel|s(
+wheel(|petersen(),1,0)
+wheel(5,1|)
+wheel(5,1,0|,0)";
+
+#[test]
+fn lines_products_and_short_forms_go_wrong_somewhere(rt: HostRuntime) -> Result<(), AllocError> {
+    check_cut(&rt, rt.alloc(), WRONG_LINES)
+}
+
+/// So many complements one in another, the innermost of the petersen graph; without their ends if not `ended`.
+fn complements(alloc: Global, count: usize, ended: bool) -> Result<String, AllocError> {
+    let mut text = String::new(alloc);
+    for _ in 0..count {
+        text.push_str("complement(")?;
+    }
+    if !ended {
+        return Ok(text);
+    }
+    text.push_str("petersen()")?;
+    for _ in 0..count {
+        text.push_str(",0,0,0)")?;
+    }
+    Ok(text)
+}
+
+// Whether so many complements are read, or refused for this reason.
+fn is_answer_to_complements(
+    alloc: Global,
+    count: usize,
+    ended: bool,
+    refusal: Option<Unread>,
+) -> Result<bool, AllocError> {
+    let text = complements(alloc, count, ended)?;
+    Ok(is_answer(alloc, text.as_bytes(), refusal))
+}
+
+#[test]
+fn parentheses_are_open_at_most_64_deep(rt: HostRuntime) -> Result<(), AllocError> {
+    for (count, ended, refusal) in [
+        (63, true, None),
+        (64, true, Some(Unread::TooLarge)),
+        (64, false, Some(Unread::At(704))),
+    ] {
+        assert!(rt; is_answer_to_complements(rt.alloc(), count, ended, refusal)?);
+    }
+    Ok(())
+}
+
+/// The union of the graph with itself, with this text in place of its flags.
+fn doubled(alloc: Global, graph: &str, flags: &str) -> Result<String, AllocError> {
+    let mut text = String::from_str(alloc, "gunion(")?;
+    text.push_str(graph)?;
+    text.push(',')?;
+    text.push_str(graph)?;
+    text.push_str(flags)?;
+    Ok(text)
+}
+
+/// A graph of a generator doubled eleven times, at last with this text in place of its flags.
+fn doubled_often(alloc: Global, flags: &str) -> Result<String, AllocError> {
+    let mut graph = String::from_str(alloc, "transitive(1234567)")?;
+    for _ in 0..10 {
+        graph = doubled(alloc, graph.as_str(), ",0,0)")?;
+    }
+    doubled(alloc, graph.as_str(), flags)
+}
+
+// Whether the graph that is doubled has so many bytes, and is read, or refused for this reason.
+fn is_answer_to_doubled(
+    alloc: Global,
+    flags: &str,
+    length: usize,
+    refusal: Option<Unread>,
+) -> Result<bool, AllocError> {
+    let text = doubled_often(alloc, flags)?;
+    Ok(text.len() == length && is_answer(alloc, text.as_bytes(), refusal))
+}
+
+#[test]
+fn unions_of_65536_bytes_are_read(rt: HostRuntime) -> Result<(), AllocError> {
+    for (flags, length, refusal) in [
+        (",00000000000000,0)", 65_536, None),
+        (",000000000000000,0)", 65_537, Some(Unread::TooLarge)),
+    ] {
+        assert!(rt; is_answer_to_doubled(rt.alloc(), flags, length, refusal)?);
+    }
+    Ok(())
+}
+
+// Whether so many closing parentheses, and then so many opening ones, are refused for this reason.
+fn is_answer_to_parentheses(
+    alloc: Global,
+    closed: usize,
+    opened: usize,
+    why: Unread,
+) -> Result<bool, AllocError> {
+    let mut text = vec![in alloc; b')'; closed]?;
+    for _ in 0..opened {
+        text.push(b'(')?;
+    }
+    Ok(is_answer(alloc, &text, Some(why)))
+}
+
+#[test]
+fn parentheses_alone_are_not_read(rt: HostRuntime) -> Result<(), AllocError> {
+    for (closed, opened, why) in [
+        (0, 64, Unread::At(0)),
+        (0, 65, Unread::TooLarge),
+        (70, 134, Unread::At(0)),
+        (70, 135, Unread::TooLarge),
+    ] {
+        assert!(rt; is_answer_to_parentheses(rt.alloc(), closed, opened, why)?);
+    }
+    Ok(())
+}
+
+// Whether so many bytes `x` are refused for this reason.
+fn is_answer_to_letters(alloc: Global, count: usize, why: Unread) -> Result<bool, AllocError> {
+    let text = vec![in alloc; b'x'; count]?;
+    Ok(is_answer(alloc, &text, Some(why)))
+}
+
+#[test]
+fn large_texts_are_not_read(rt: HostRuntime) -> Result<(), AllocError> {
+    for (count, why) in [(65_536, Unread::At(0)), (65_537, Unread::TooLarge)] {
+        assert!(rt; is_answer_to_letters(rt.alloc(), count, why)?);
+    }
+    Ok(())
+}

@@ -1,0 +1,186 @@
+//! Devices over memory and cut short, on worked examples and on long texts.
+ghost use Rattle.std.specs.Prelude.{◌<◌};
+
+use super::adapters::{is_given_by_reader, is_read_once, is_taken_by_counts, is_taken_by_writer};
+use super::device_calls::{Call, Given, are_answered, are_given, gives_at_once, takes_at_once};
+use sgb_file::*;
+use std::alloc::{AllocError, Global};
+
+// Lengths past the usual sizes of a buffer.
+pub(crate) const LENGTHS: [usize; 4] = [1, 101, 4_097, 100_000];
+
+// A text of so many bytes that repeats none of the usual buffers' sizes.
+pub(crate) fn long_text(alloc: Global, len: usize) -> Result<Vec<u8>, AllocError> {
+    let mut text = Vec::with_capacity(alloc, len)?;
+    let mut next: u8 = 0;
+    for _ in 0..len {
+        text.push(next)?;
+        next = if next >= 250 { 0 } else { next + 1 };
+    }
+    Ok(text)
+}
+
+/// A device that moves a long text.
+#[derive(Clone, Copy)]
+pub(crate) enum Device {
+    /// A source over memory.
+    MemSource,
+    /// A sink over memory.
+    MemSink,
+    /// A reader as a source: a slice.
+    Reader,
+    /// A reader that counts its calls.
+    CountedReader,
+    /// A writer as a sink: a vector.
+    Writer,
+    /// A writer that counts its calls.
+    CountedWriter,
+}
+
+// Whether a source over memory gives the text at once.
+fn is_given(text: &[u8], buffer: &mut [u8]) -> bool {
+    gives_at_once(&mut MemSource::new(text), text, buffer)
+}
+
+// Whether a sink over memory takes the text at once, and then once more.
+fn is_taken(alloc: Global, text: &[u8]) -> bool {
+    let mut sink = MemSink::new(alloc);
+    takes_at_once(&mut sink, text) && sink.bytes() == text && takes_at_once(&mut sink, text)
+}
+
+// Whether the device moves the text at once; a source into the buffer.
+fn moves(device: Device, alloc: Global, text: &[u8], buffer: &mut [u8]) -> bool {
+    match device {
+        Device::MemSource => is_given(text, buffer),
+        Device::MemSink => is_taken(alloc, text),
+        Device::Reader => is_given_by_reader(text, buffer),
+        Device::CountedReader => is_read_once(buffer),
+        Device::Writer => is_taken_by_writer(alloc, text),
+        Device::CountedWriter => is_taken_by_counts(text),
+    }
+}
+
+/// Whether the device moves a text of so many bytes at once.
+pub(crate) fn moves_long_text(
+    device: Device,
+    alloc: Global,
+    len: usize,
+) -> Result<bool, AllocError> {
+    let text = long_text(alloc, len)?;
+    let mut buffer = long_text(alloc, len)?;
+    Ok(moves(device, alloc, &text, &mut buffer))
+}
+
+#[test]
+fn a_memory_source_gives_long_texts_at_once(rt: HostRuntime) -> Result<(), AllocError> {
+    for len in LENGTHS {
+        assert!(rt; moves_long_text(Device::MemSource, rt.alloc(), len)?);
+    }
+    Ok(())
+}
+
+#[test]
+fn a_memory_sink_takes_long_texts_at_once(rt: HostRuntime) -> Result<(), AllocError> {
+    for len in LENGTHS {
+        assert!(rt; moves_long_text(Device::MemSink, rt.alloc(), len)?);
+    }
+    Ok(())
+}
+
+const GIVEN_BY_MEMORY: [Given; 3] = [
+    Given(Ok(3), b"abc"),
+    Given(Ok(2), b"dec"),
+    Given(Ok(0), b"dec"),
+];
+
+#[test]
+fn a_memory_source_gives_its_bytes_and_ends(rt: HostRuntime) {
+    let mut source = MemSource::new(b"abcde");
+    assert!(rt; are_given(&mut source, &mut [0; 3], &GIVEN_BY_MEMORY));
+}
+
+const KEPT_BY_MEMORY: [Call; 4] = [
+    Call::Put(b"abc", Ok(3)),
+    Call::PutAll(b"de", Ok(())),
+    Call::Flush(Ok(())),
+    Call::HasFailed(false),
+];
+
+#[test]
+fn a_memory_sink_keeps_all(rt: HostRuntime) {
+    let mut sink = MemSink::new(rt.alloc());
+    assert!(rt; are_answered(&mut sink, &KEPT_BY_MEMORY));
+    assert!(rt; sink.bytes() == b"abcde".as_slice());
+}
+
+const ALPHABET: &[u8] = b"abcdefghijklmnopqrstuvwxyz";
+
+const GIVEN_UP_TO_6: [Given; 4] = [
+    Given(Ok(4), b"abcd\0"),
+    Given(Ok(2), b"efcd\0"),
+    Given(Err(Failed), b"efcd\0"),
+    Given(Err(Failed), b"efcd\0"),
+];
+
+#[test]
+fn a_cut_source_stops_at_its_limit(rt: HostRuntime) {
+    let mut source = CutSource::new(ALPHABET, 4, 6);
+    assert!(rt; are_given(&mut source, &mut [0; 5], &GIVEN_UP_TO_6));
+}
+
+const FAILED_AT_ITS_END: [Given; 2] = [Given(Ok(2), b"ab\0\0\0"), Given(Err(Failed), b"ab\0\0\0")];
+
+const GIVEN_WHOLE: [Given; 2] = [Given(Ok(2), b"ab\0\0\0"), Given(Ok(0), b"ab\0\0\0")];
+
+#[test]
+fn a_cut_source_fails_at_its_end_too(rt: HostRuntime) {
+    let mut source = CutSource::new(b"ab", 9, 2);
+    assert!(rt; are_given(&mut source, &mut [0; 5], &FAILED_AT_ITS_END));
+    let mut longer = CutSource::new(b"ab", 9, 3);
+    assert!(rt; are_given(&mut longer, &mut [0; 5], &GIVEN_WHOLE));
+}
+
+// Whether the sink answers the calls so, and has then taken these bytes.
+fn takes<const N: usize>(mut sink: CutSink<N>, calls: &[Call], bytes: &[u8]) -> bool {
+    are_answered(&mut sink, calls) && sink.bytes() == bytes
+}
+
+const TAKEN_UP_TO_10: [Call; 4] = [
+    Call::PutAll(ALPHABET, Err(Failed)),
+    Call::HasFailed(true),
+    Call::PutAll(b"", Ok(())),
+    Call::Flush(Err(Failed)),
+];
+
+#[test]
+fn a_cut_sink_holds_the_prefix_up_to_its_limit(rt: HostRuntime) {
+    let sink = CutSink::<64>::new(4, 10, false);
+    assert!(rt; takes(sink, &TAKEN_UP_TO_10, b"abcdefghij"));
+}
+
+const TAKEN_WHEN_FULL: [Call; 5] = [
+    Call::Put(b"abcd", Ok(2)),
+    Call::Put(b"cd", Ok(1)),
+    Call::Flush(Ok(())),
+    Call::HasFailed(false),
+    Call::Put(b"d", Err(Failed)),
+];
+
+#[test]
+fn a_cut_sink_fails_when_full(rt: HostRuntime) {
+    let sink = CutSink::<3>::new(2, 10, false);
+    assert!(rt; takes(sink, &TAKEN_WHEN_FULL, b"abc"));
+}
+
+const FAILED_AT_FLUSH: [Call; 4] = [
+    Call::PutAll(b"abc", Ok(())),
+    Call::Flush(Err(Failed)),
+    Call::HasFailed(true),
+    Call::Put(b"d", Err(Failed)),
+];
+
+#[test]
+fn a_cut_sink_fails_at_its_flush(rt: HostRuntime) {
+    let sink = CutSink::<8>::new(8, 8, true);
+    assert!(rt; takes(sink, &FAILED_AT_FLUSH, b"abc"));
+}

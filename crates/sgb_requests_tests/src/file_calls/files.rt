@@ -1,0 +1,148 @@
+//! Files read: what is refused with which code, what is accepted, and files that are cut.
+use super::sample_files::{LINES_OF_ALL_LENGTHS, TWO_JOINED};
+use super::saving::is_written;
+use sgb_file::read_gb;
+use sgb_vec::Panic;
+use std::alloc::Global;
+use std::test::Fail;
+
+// The letters ZZZZZZZZZZZZZZ, 0 vertices and no arcs: the files from the second line on.
+static ACCEPTED: [&[u8]; 7] = [
+    b"* GraphBase graph (util_types ZZZZZZZZZZZZZZ,0V,0A)\n\"a\",0,0\n* Vertices\n* Arcs\n* Checksum 18619\n",
+    b"* GraphBase graph (util_types ZZZZZZZZZZZZZZ,0V,0A)\n\"a\",0,0\n* Vertices\n* Arcs\n* Checksum 18619",
+    b"* GraphBase graph (util_types ZZZZZZZZZZZZZZ,0V,0A)and more\n\"a\",0,0\n* Vertices\n* Arcs\n* Checksum -7 and more\nmore",
+    b"* GraphBase graph (util_types ZZZZZZZZZZZZZZ,0V,0A)  \n\"a\",0,0  \n* Vertices \n* Arcs    \n* Checksum 18619 \n",
+    b"* a line before\n*\n* GraphBase graph (util_types ZZZZZZZZZZZZZZ,0V,0A)\n\"a\",\n0,\n0\n* Vertices\n* Arcs\n* Checksum -1\n",
+    b"* GraphBase graph (util_types ZZZZZZZZZZZZZZ,1V,1A)\n\"a\",1,1\n* Vertices\n\"x\",A0\n* Arcs\nV0,0,1\n* Checksum -1\n",
+    b"* GraphBase graph (util_types ZZZZZZZZZZZZZZ,1V,2A)\n\"a\",1,2\n* Vertices\n\"x\",A0\n* Arcs\nV0,0,1\n0,A0,-5\n* Checksum -1\n",
+];
+
+// Texts that are refused, each with its code.
+static REFUSED: [(&[u8], u8); 18] = [
+    (b"", 10),
+    (b"\n", 10),
+    (
+        b"a line before\n* GraphBase graph (util_types ZZZZZZZZZZZZZZ,0V,0A)\n\"a\",0,0\n* Vertices\n* Arcs\n* Checksum 18619\n",
+        10,
+    ),
+    (
+        b"* GraphBase graph (util_types ZZZZZZZZZZZZZ,0V,0A)\n\"a\",0,0\n* Vertices\n* Arcs\n* Checksum 18619\n",
+        10,
+    ),
+    (
+        b"* GraphBase graph (util_types ZZZZZZZZZZZZZB,0V,0A)\n\"a\",0,0\n* Vertices\n* Arcs\n* Checksum 18619\n",
+        10,
+    ),
+    (
+        b"* GraphBase graph (util_types ZZZZZZZZZZZZZZ,1000000001V,0A)\n\"a\",1000000001,0\n* Vertices\n",
+        10,
+    ),
+    (
+        b"* GraphBase graph (util_types ZZZZZZZZZZZZZZ,0000000000000000000V,0A)\n\"a\",0,0\n* Vertices\n* Arcs\n* Checksum 18619\n",
+        10,
+    ),
+    (
+        b"* GraphBase graph (util_types ZZZZZZZZZZZZZZ,999999999V,0A)\n\"a\",999999999,0\n* Vertices\n",
+        20,
+    ),
+    (
+        b"* GraphBase graph (util_types ZZZZZZZZZZZZZZ,0V,0A)\n\"a\",1,0\n* Vertices\n* Arcs\n* Checksum -1\n",
+        20,
+    ),
+    (
+        b"* GraphBase graph (util_types ZZZZZZZZZZZZZZ,0V,1A)\n\"a\",0,1\n* Vertices\n* Arcs\n* Checksum -1\n",
+        20,
+    ),
+    (
+        b"* GraphBase graph (util_types ZZZZZZZZZZZZZZ,1V,1A)\n\"a\",1,1\n* Vertices\n\"x\",A0\n* Arcs\nV0,A0,1\n* Checksum -1\n",
+        20,
+    ),
+    (
+        b"* GraphBase graph (util_types ZZZZZZZZZZZZZZ,1V,1A)\n\"a\",1,1\n* Vertices\n\"x\",A0\n* Arcs\n0,0,1\n* Checksum -1\n",
+        20,
+    ),
+    (
+        b"* GraphBase graph (util_types ZZZZZZZZZZZZZZ,1V,1A)\n\"a\",1,1\n* Vertices\n\"x\",A0\n* Arcs\nV0,A0,1\n* Checksum 1\n",
+        11,
+    ),
+    (
+        b"* GraphBase graph (util_types ZZZZZZZZZZZZZZ,1V,1A)\n\"a\",1,1\n* Vertices\n\"x\",A0\n* Arcs\nV0,0,1\n0,A0,-5\n* Checksum -1\n",
+        11,
+    ),
+    (
+        b"* GraphBase graph (util_types ZZZZZZZZZZZZZZ,0V,0A)\n\"a\",0,0\n* Vertices\n* Arcs\n* Checksum 18618\n",
+        11,
+    ),
+    (
+        b"* GraphBase graph (util_types ZZZZZZZZZZZZZZ,0V,0A)\n\"a\",0,0\n* Vertices\n* Arcs\n",
+        11,
+    ),
+    (
+        b"* GraphBase graph (util_types ZZZZZZZZZZZZZZ,0V,0A)\n\"a\",0,0\n* Vertices\n* Arcs\nChecksum 18619\n",
+        11,
+    ),
+    (
+        b"* GraphBase graph (util_types ZZZZZZZZZZZZZZ,0V,0A)\n\"a\",0,0\n* Vertices\n* Arcs\n* Checksum -0\n",
+        11,
+    ),
+];
+
+// The code with which the text is refused, or 0 where it is not.
+fn refusal(alloc: Global, text: &[u8]) -> u8 {
+    match read_gb(alloc, text).err() {
+        Some(panic) => panic.code(),
+        None => 0,
+    }
+}
+
+// That of the first bytes of the file of two joined vertices, so many of them.
+fn refusal_of_first(count: usize) -> u8 {
+    if count <= 50 {
+        10
+    } else if count <= 136 {
+        20
+    } else if count <= 158 {
+        11
+    } else {
+        0
+    }
+}
+
+#[test]
+fn files_are_accepted(rt: HostRuntime) {
+    for text in &ACCEPTED {
+        assert!(rt; refusal(rt.alloc(), text) == 0);
+    }
+}
+
+#[test]
+fn texts_are_refused(rt: HostRuntime) {
+    for (text, code) in &REFUSED {
+        assert!(rt; refusal(rt.alloc(), text) == *code);
+    }
+}
+
+#[test]
+fn a_file_is_cut_after_each_byte(rt: HostRuntime) {
+    for count in 0..TWO_JOINED.len() + 1 {
+        assert!(rt; refusal(rt.alloc(), &TWO_JOINED[..count]) == refusal_of_first(count));
+    }
+}
+
+// Whether the graph of the file is written as it was read.
+fn is_written_again(alloc: Global, file: &[u8]) -> Result<bool, Panic> {
+    let graph = read_gb(alloc, file)?;
+    Ok(is_written(alloc, &graph, file))
+}
+
+#[test]
+fn a_file_is_written_again_as_it_was_read(rt: HostRuntime) -> Result<(), Fail> {
+    assert!(rt; is_written_again(rt.alloc(), TWO_JOINED)?);
+    Ok(())
+}
+
+#[test]
+fn lines_of_all_lengths_are_written_again_as_they_were_read(rt: HostRuntime) -> Result<(), Fail> {
+    assert!(rt; is_written_again(rt.alloc(), LINES_OF_ALL_LENGTHS)?);
+    Ok(())
+}

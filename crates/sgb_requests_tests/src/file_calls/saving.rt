@@ -1,0 +1,236 @@
+//! Files written, on worked examples and into sinks that stop.
+ghost use Rattle.std.specs.Prelude.{IfOk, ◌<◌};
+ghost use Rattle.sgb_graph.specs.Growth.{HasPlainArcs};
+
+use super::sample_files::TWO_JOINED;
+use sgb_file::{CutSink, MemSink, write_gb};
+use sgb_graph::{Graph, Id, Names};
+use sgb_vec::{Panic, Text};
+use std::alloc::Global;
+use std::test::Fail;
+
+const ONE_CELL: &[u8] = b"* GraphBase graph (util_types ZZZIIIZZZZZZZZ,1V,0A)
+\"board(1,0,0,0,1,0,0)\",1,0
+* Vertices
+\"0\",0,0,0,0
+* Arcs
+* Checksum 386652336
+";
+
+const NOTHING: &[u8] = b"* GraphBase graph (util_types ZZZZZZZZZZZZZZ,0V,0A)
+\"a\",0,0
+* Vertices
+* Arcs
+* Checksum 18619
+";
+
+const LONG_ID: &[u8] = b"* GraphBase graph (util_types ZZZZZZZZZZZZZZ,0V,0A)
+\"xxxxxxxxxxxxxxxxxxxxxxxxxxxxxxxxxxxxxxxxxxxxxxxxxxxxxxxxxxxxxxxxxxxxxxxxxxxxx\\
+xxxxxxxxxxxxxxxxxxxxxxxxxxxxxxxxxxxxxxxxxxxxxxxxxxxxxxxxxxxxxxxxxxxxxxxxxxxxxx\\
+xxxxx\",0,0
+* Vertices
+";
+
+// Appends a name for each digit.
+fn push_names(names: &mut Names, alloc: Global, digits: &[u8]) -> Result<(), Panic> {
+    for digit in digits {
+        let name = Text::new(alloc, &[*digit])?;
+        if names.push(name).is_err() {
+            return Err(Panic::NoRoom);
+        }
+    }
+    Ok(())
+}
+
+// A graph whose vertices have these names of one byte.
+fn graph_of(alloc: Global, digits: &[u8]) -> Result<Graph, Panic>
+    ensures { IfOk result HasPlainArcs }
+{
+    let mut names = Names::new(alloc);
+    push_names(&mut names, alloc, digits)?;
+    Graph::new(alloc, names)
+}
+
+// Makes one vertex board(1,0,0,0,1,0,0).
+fn number_one(graph: &mut Graph) -> Result<(), Panic> {
+    if graph.n() != 1 {
+        return Err(Panic::Bad);
+    }
+    graph.set_vertex_ints(0, 0, 0, 0);
+    Ok(())
+}
+
+// Makes two vertices complete(2).
+fn join_two(graph: &mut Graph) -> Result<(), Panic>
+    requires { HasPlainArcs graph.old }
+{
+    if graph.n() != 2 {
+        return Err(Panic::Bad);
+    }
+    graph.new_arc(0, 1, 1)?;
+    graph.new_arc(1, 0, 1)?;
+    graph.set_vertex_ints(0, 0, 0, 0);
+    graph.set_vertex_ints(1, 1, 0, 0);
+    Ok(())
+}
+
+// What is done with a graph that has no arcs, but for its id.
+#[derive(Clone, Copy)]
+enum Made {
+    // Nothing.
+    Nothing,
+    // board(1,0,0,0,1,0,0)
+    OneCell,
+    // complete(2)
+    TwoJoined,
+}
+
+// Does this with the graph, and gives it the id.
+fn make(graph: &mut Graph, made: Made, id: &[u8]) -> Result<(), Panic>
+    requires { HasPlainArcs graph.old }
+{
+    graph.set_id(Id::new(id)?);
+    match made {
+        Made::Nothing => Ok(()),
+        Made::OneCell => number_one(graph),
+        Made::TwoJoined => join_two(graph),
+    }
+}
+
+// A graph that is saved: the digits that are its vertices' names, what is done with it, its id, and its file or how that
+// begins.
+#[derive(Clone, Copy)]
+struct Case {
+    digits: &'static [u8],
+    made: Made,
+    id: &'static [u8],
+    text: &'static [u8],
+}
+
+const BOARD_OF_ONE: Case = Case {
+    digits: b"0",
+    made: Made::OneCell,
+    id: b"board(1,0,0,0,1,0,0)",
+    text: ONE_CELL,
+};
+
+const COMPLETE: Case = Case {
+    digits: b"01",
+    made: Made::TwoJoined,
+    id: b"board(2,0,0,0,-1,0,0)",
+    text: TWO_JOINED,
+};
+
+const NO_VERTICES: Case = Case {
+    digits: b"",
+    made: Made::Nothing,
+    id: b"a",
+    text: NOTHING,
+};
+
+const BROKEN_ID: Case = Case {
+    digits: b"",
+    made: Made::Nothing,
+    id: &[b'x'; 160],
+    text: LONG_ID,
+};
+
+// How a graph is saved.
+#[derive(Clone, Copy)]
+enum Saved {
+    // The text is its file.
+    Whole,
+    // The text is how its file begins.
+    Begun,
+    // The text is its file, also where a sink takes a byte a call.
+    ByBytes,
+    // A sink that takes fewer bytes than the text has, seven a call, has them and fails.
+    CutOff,
+}
+
+// Whether the file of the graph begins with this text.
+fn begins(alloc: Global, graph: &Graph, text: &[u8]) -> bool {
+    let mut sink = MemSink::new(alloc);
+    write_gb(graph, &mut sink).is_ok() && sink.bytes().starts_with(text)
+}
+
+/// Whether the file of the graph is this text.
+pub(crate) fn is_written(alloc: Global, graph: &Graph, text: &[u8]) -> bool {
+    let mut sink = MemSink::new(alloc);
+    write_gb(graph, &mut sink).is_ok() && sink.bytes() == text
+}
+
+// Whether a sink that takes so many bytes a call, and at most so many, has the text or its first bytes, and fails where
+// that is not all.
+fn is_cut_off(graph: &Graph, text: &[u8], each: usize, limit: usize) -> bool
+    requires { 0 < each }
+{
+    let mut sink = CutSink::<200>::new(each, limit, false);
+    let is_whole = write_gb(graph, &mut sink).is_ok();
+    let most = limit.min(text.len());
+    is_whole == (most == text.len()) && sink.bytes() == &text[..most]
+}
+
+// The same for each smaller number of bytes than the text has.
+fn is_cut_off_anywhere(graph: &Graph, text: &[u8]) -> bool {
+    for limit in 0..text.len() {
+        if !is_cut_off(graph, text, 7, limit) {
+            return false;
+        }
+    }
+    true
+}
+
+// Whether the graph is saved as this text.
+fn is_saved(alloc: Global, graph: &Graph, saved: Saved, text: &[u8]) -> bool {
+    match saved {
+        Saved::Whole => is_written(alloc, graph, text),
+        Saved::Begun => begins(alloc, graph, text),
+        Saved::ByBytes => is_cut_off(graph, text, 1, 200),
+        Saved::CutOff => is_cut_off_anywhere(graph, text),
+    }
+}
+
+// Makes the graph, and tells whether it is saved as it should be.
+fn makes(graph: &mut Graph, alloc: Global, case: Case, saved: Saved) -> Result<bool, Panic>
+    requires { HasPlainArcs graph.old }
+{
+    make(graph, case.made, case.id)?;
+    Ok(is_saved(alloc, graph, saved, case.text))
+}
+
+// The same of a graph that stands here alone.
+fn is_met(alloc: Global, case: Case, saved: Saved) -> Result<bool, Panic> {
+    let mut graph = graph_of(alloc, case.digits)?;
+    makes(&mut graph, alloc, case, saved)
+}
+
+#[test]
+fn a_board_of_one_cell_is_written(rt: HostRuntime) -> Result<(), Fail> {
+    assert!(rt; is_met(rt.alloc(), BOARD_OF_ONE, Saved::Whole)?);
+    Ok(())
+}
+
+#[test]
+fn two_joined_vertices_are_written_a_byte_at_a_time(rt: HostRuntime) -> Result<(), Fail> {
+    assert!(rt; is_met(rt.alloc(), COMPLETE, Saved::ByBytes)?);
+    Ok(())
+}
+
+#[test]
+fn a_sink_that_fails_has_the_prefix(rt: HostRuntime) -> Result<(), Fail> {
+    assert!(rt; is_met(rt.alloc(), COMPLETE, Saved::CutOff)?);
+    Ok(())
+}
+
+#[test]
+fn a_graph_of_no_vertices_is_written(rt: HostRuntime) -> Result<(), Fail> {
+    assert!(rt; is_met(rt.alloc(), NO_VERTICES, Saved::Whole)?);
+    Ok(())
+}
+
+#[test]
+fn a_long_id_is_broken(rt: HostRuntime) -> Result<(), Fail> {
+    assert!(rt; is_met(rt.alloc(), BROKEN_ID, Saved::Begun)?);
+    Ok(())
+}
