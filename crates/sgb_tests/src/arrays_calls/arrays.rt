@@ -7,26 +7,57 @@ use sgb_graph::Graph;
 use std::test::Fail;
 
 #[test]
-fn rows_of_a_triangle(rt: HostRuntime) -> Result<(), Fail> {
+fn arrays_of_a_triangle(rt: HostRuntime) -> Result<(), Fail> {
     let graph = complete(3).graph(rt.alloc())?;
-    assert!(rt; arcs_len(&graph) == 6);
-    let (mut starts, mut tips, mut lengths) = ([0; 4], [0; 6], [0; 6]);
-    assert!(rt; fill_rows(&graph, &mut starts, &mut tips, &mut lengths) == Ok(()));
-    assert!(rt; starts == [0, 2, 4, 6]);
-    assert!(rt; lengths == [2, 1, 1, 1, 1, 2]);
+    assert!(rt; has_triangle_rows(&graph));
+    assert!(rt; has_triangle_names(&graph));
+    assert!(rt; has_triangle_fields(&graph));
     Ok(())
+}
+
+// Whether the lists are those of a triangle, where the arcs have the lengths 2 and 1.
+fn has_triangle_rows(graph: &Graph) -> bool {
+    let (mut starts, mut tips, mut lengths) = ([0; 4], [0; 6], [0; 6]);
+    arcs_len(graph) == 6
+        && fill_rows(graph, &mut starts, &mut tips, &mut lengths) == Ok(())
+        && starts == [0, 2, 4, 6]
+        && lengths == [2, 1, 1, 1, 1, 2]
+}
+
+// Whether the names are 0, 1 and 2, and the id is that of a triangle.
+fn has_triangle_names(graph: &Graph) -> bool {
+    let (mut starts, mut bytes, mut id) = ([0; 4], [0; 3], [0; 21]);
+    names_len(graph) == 3
+        && fill_names(graph, &mut starts, &mut bytes) == Ok(())
+        && starts == [0, 1, 2, 3]
+        && bytes == *b"012"
+        && fill_id(graph, &mut id) == Ok(())
+        && id == *b"board(3,0,0,0,-1,0,0)"
+}
+
+// Whether field x holds the places 0, 1 and 2, and field u no integers.
+fn has_triangle_fields(graph: &Graph) -> bool {
+    let mut values = [0; 3];
+    fill_ints(graph, 3, &mut values) == Ok(())
+        && values == [0, 1, 2]
+        && fill_ints(graph, 0, &mut values) == Err(Wrong::Field)
 }
 
 // eight lists side by side, and one after them
 #[test]
 fn rows_of_nine_vertices(rt: HostRuntime) -> Result<(), Fail> {
     let counted = Counted::new(rt.alloc(), complete(9).graph(rt.alloc())?)?;
-    let (mut starts, mut tips, mut lengths) = ([0; 10], [0; 72], [0; 72]);
-    assert!(rt; counted.fill_rows(&mut starts, &mut tips, &mut lengths) == Ok(()));
-    assert!(rt; are_rows_of(counted.graph(), &starts, &tips, &lengths));
-    assert!(rt; counted.arcs_len() == 72);
-    assert!(rt; starts == [0, 8, 16, 24, 32, 40, 48, 56, 64, 72]);
+    assert!(rt; has_nine_rows(&counted));
     Ok(())
+}
+
+// Whether the lists are those of nine vertices with eight arcs each, as they are put one after another.
+fn has_nine_rows(counted: &Counted) -> bool {
+    let (mut starts, mut tips, mut lengths) = ([0; 10], [0; 72], [0; 72]);
+    counted.arcs_len() == 72
+        && counted.fill_rows(&mut starts, &mut tips, &mut lengths) == Ok(())
+        && starts == [0, 8, 16, 24, 32, 40, 48, 56, 64, 72]
+        && are_rows_of(counted.graph(), &starts, &tips, &lengths)
 }
 
 // Whether these are the rows of the graph, put one list after another.
@@ -36,24 +67,6 @@ fn are_rows_of(graph: &Graph, starts: &[u64; 10], tips: &[u32; 72], lengths: &[i
         && begins == *starts
         && leads == *tips
         && weights == *lengths
-}
-
-#[test]
-fn names_and_fields_of_a_triangle(rt: HostRuntime) -> Result<(), Fail> {
-    let graph = complete(3).graph(rt.alloc())?;
-    assert!(rt; names_len(&graph) == 3);
-    let (mut starts, mut bytes) = ([0; 4], [0; 3]);
-    assert!(rt; fill_names(&graph, &mut starts, &mut bytes) == Ok(()));
-    assert!(rt; starts == [0, 1, 2, 3]);
-    assert!(rt; bytes == *b"012");
-    let mut values = [0; 3];
-    assert!(rt; fill_ints(&graph, 3, &mut values) == Ok(()));
-    assert!(rt; values == [0, 1, 2]);
-    assert!(rt; fill_ints(&graph, 0, &mut values) == Err(Wrong::Field));
-    let mut id = [0; 21];
-    assert!(rt; fill_id(&graph, &mut id) == Ok(()));
-    assert!(rt; id == *b"board(3,0,0,0,-1,0,0)");
-    Ok(())
 }
 
 const FILE: &[u8; 160] = b"* GraphBase graph (util_types ZZZIIIZZZZZZZZ,2V,2A)
@@ -70,16 +83,26 @@ V0,0,1
 #[test]
 fn kinds_and_file_of_two_vertices(rt: HostRuntime) -> Result<(), Fail> {
     let graph = complete(2).graph(rt.alloc())?;
-    let mut letters = [0; 14];
-    assert!(rt; fill_kinds(&graph, &mut letters) == Ok(()));
-    assert!(rt; letters == *b"ZZZIIIZZZZZZZZ");
-    assert!(rt; fill_kinds(&graph, &mut letters[..13]) == Err(Wrong::Length));
-    assert!(rt; file_len(&graph) == 160);
-    let mut bytes = [0; 160];
-    assert!(rt; fill_file(&graph, &mut bytes) == Ok(()));
-    assert!(rt; bytes == *FILE);
-    assert!(rt; fill_file(&graph, &mut bytes[..159]) == Err(Wrong::Length));
+    assert!(rt; has_kinds(&graph));
+    assert!(rt; has_file(&graph));
     Ok(())
+}
+
+// Whether the fields x, y and z of vertices hold integers, and no others are used; a shorter array is refused.
+fn has_kinds(graph: &Graph) -> bool {
+    let mut letters = [0; 14];
+    fill_kinds(graph, &mut letters) == Ok(())
+        && letters == *b"ZZZIIIZZZZZZZZ"
+        && fill_kinds(graph, &mut letters[..13]) == Err(Wrong::Length)
+}
+
+// Whether the file is the one above; a shorter array is refused.
+fn has_file(graph: &Graph) -> bool {
+    let mut bytes = [0; 160];
+    file_len(graph) == 160
+        && fill_file(graph, &mut bytes) == Ok(())
+        && bytes == *FILE
+        && fill_file(graph, &mut bytes[..159]) == Err(Wrong::Length)
 }
 
 // The published test of GB_FLIP: the first draw from -314159, and the uniform one after 134 draws.

@@ -17,6 +17,11 @@ pub fn tips_of_a_triangle(graph: &Graph) -> Result<[u32; 6], Wrong> {
 fn the_tips_of_a_triangle(rt: HostRuntime) -> Result<(), Fail> {
     let triangle = complete(3).graph(rt.alloc())?;
     assert!(rt; tips_of_a_triangle(&triangle) == Ok([2, 1, 2, 0, 1, 0]));
+    Ok(())
+}
+
+#[test]
+fn a_line_has_fewer(rt: HostRuntime) -> Result<(), Fail> {
     let line = complete(2).graph(rt.alloc())?;
     assert!(rt; tips_of_a_triangle(&line) == Err(Wrong::Length));
     Ok(())
