@@ -3,9 +3,9 @@ use Rattle.std.proofs.Common.{arith, rules, ◌≡◌, ℕ, Bool, true, false, L
 use Rattle.std.specs.List.{All}
 use Rattle.std.proofs.lemmas.List.Elements.{All-nil, All-cons, All-append}
 use Rattle.sgb_graph.specs.Descriptions.{IsGraphOf}
-use Rattle.sgb_graph.specs.Graphs.{GraphData, HasNoFields}
+use Rattle.sgb_graph.specs.Graphs.{GraphData, HasNoFields, arc_record}
 use Rattle.sgb_graph.specs.Events.{Event, HasArcsOf, HasEndsBelow}
-use Rattle.sgb_graph.specs.Growth.{AddsEvents, KeepsAllButArcs, after_lower, arc_record, first_arc, new_graph, new_vertex, with_event, with_id}
+use Rattle.sgb_graph.specs.Growth.{AddsEvents, KeepsAllButArcs, after_lower, first_arc, new_graph, new_vertex, with_event, with_id}
 use Rattle.sgb_graph.specs.Made.{no_fields, plain}
 use Rattle.sgb_graph.proofs.EventLemmas.{event_keeps, event_more, new_has_none}
 

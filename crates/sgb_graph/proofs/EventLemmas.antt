@@ -10,7 +10,7 @@ use Rattle.std.proofs.lemmas.List.Concat.{flat_map-append}
 use Rattle.std.proofs.lemmas.Option.{slice_get-map}
 use Rattle.sgb_graph.specs.Graphs.{GraphData, ListsEnd, chain_of, ends_of, links_of}
 use Rattle.sgb_graph.specs.Events.{Event, Record, HasArcsOf, HasEndsBelow, all_records, links_at, list_from, list_of, records_of}
-use Rattle.sgb_graph.specs.Growth.{KeepsAllButArcs, link, new_graph, new_vertex, record_from, with_event, with_events}
+use Rattle.sgb_graph.specs.Growth.{KeepsAllButArcs, link, new_graph, new_vertex, with_event, with_events}
 use Rattle.sgb_graph.specs.declared.fields.Ref.TheVariants.{At}
 use Rattle.sgb_graph.specs.declared.fields.Vertex.{Vertex}
 use Rattle.sgb_graph.proofs.Chains.{ends_none, links_of_none}
@@ -106,6 +106,10 @@ new_has_none directed names = record {
 
     none_at : (v : ℕ) → chain_of (new_graph names) v ≡ []
     none_at v = ap (λ o. option_map_or (λ (x : Vertex). links_of [] x.arcs) o []) (slice_get-map new_vertex names v) ∙ by_name (slice_get names v)
+
+-- what the record of an arc from u to v says
+abbrev pub record_from : ℕ → ℕ → ℤ → Record
+record_from u v far = record { start = u; tip = v; len = far }
 
 -- the link of a record where it starts at this vertex, and none where it does not
 pub link_here : (w k : ℕ) (r : Record) (records : List Record) → w ≡ r.start → links_at w k (r ∷ records) ≡ link k r.tip r.len ∷ links_at w (k + 1) records

@@ -1,15 +1,14 @@
 -- How a graph is made and grows, step by step [GB_GRAPH, gb_new_graph, gb_new_arc and gb_new_edge].
 use Rattle.std.specs.Prelude.{◌≡◌, ◌≤◌, ◌+◌, ◌++◌, ◌^◌, ◌==◌, ℕ, zero, suc, ℤ, pos, min, max, List, [], ◌∷◌, length, map, fold, All, codes, decimal, Option, Some, None, slice_get, slice_set, Bool, true, false, if◌then◌else◌}
 use Rattle.std.specs.Option.{option_and_then}
-use Rattle.sgb_graph.specs.Graphs.{GraphData, HasNoFields}
-use Rattle.sgb_graph.specs.Events.{Event, HasArcsOf, Record}
+use Rattle.sgb_graph.specs.Graphs.{GraphData, HasNoFields, arc_record}
+use Rattle.sgb_graph.specs.Events.{Event, HasArcsOf}
 use Rattle.sgb_graph.specs.Made.{no_kinds, no_fields}
 use Rattle.sgb_graph.specs.Sound.{IsGraph, arc_kinds}
 use Rattle.sgb_graph.specs.declared.fields.Kind.{Kind}
 use Rattle.sgb_graph.specs.declared.fields.Kind.TheVariants.{Z, I}
-use Rattle.sgb_graph.specs.declared.fields.Ref.TheVariants.{At}
 use Rattle.sgb_graph.specs.declared.fields.Util.{Util}
-use Rattle.sgb_graph.specs.declared.fields.Util.TheVariants.{Nothing, Int, Vertex as VertexField, Str, Chain}
+use Rattle.sgb_graph.specs.declared.fields.Util.TheVariants.{Nothing, Int}
 use Rattle.sgb_graph.specs.declared.fields.Vertex.{Vertex}
 use Rattle.sgb_graph.specs.declared.fields.ArcRec.{ArcRec}
 use Rattle.sgb_graph.specs.declared.fields.Link.{Link}
@@ -46,17 +45,9 @@ at_place f (suc k) (x ∷ xs) = x ∷ at_place f k xs
 abbrev pub first_arc : List Vertex → ℕ → Option ℕ
 first_arc vertices v = option_and_then (λ x. x.arcs) (slice_get vertices v)
 
--- a record that leads to v, before the one given, with no utility fields
-abbrev pub arc_record : ℕ → Option ℕ → ℤ → ArcRec
-arc_record v after far = record { tip = At v; next = after; len = far; a = Nothing; b = Nothing }
-
 -- the arc of record number k to v
 abbrev pub link : ℕ → ℕ → ℤ → Link
 link k v far = record { number = k; tip = v; len = far }
-
--- what the record of an arc from u to v says
-abbrev pub record_from : ℕ → ℕ → ℤ → Record
-record_from u v far = record { start = u; tip = v; len = far }
 
 -- the utility fields of arcs hold nothing
 abbrev pub HasPlainArcs : GraphData → Type 0
@@ -113,17 +104,10 @@ pub record AddsEvents (directed : Bool) (old new : GraphData) (events : List Eve
   pub arc_fields : All HasNoFields old.records → All HasNoFields new.records
   pub rest : KeepsAllButArcs old new
 
--- the value is an integer
-abbrev pub is_number : Util → Bool
-is_number (Int i) = true
-is_number Nothing = false
-is_number (VertexField r) = false
-is_number (Str s) = false
-is_number (Chain first) = false
-
 -- an integer stays, anything else becomes 0
 abbrev pub number_or_zero : Util → Util
-number_or_zero util = if is_number util then util else Int (pos 0)
+number_or_zero (Int i) = Int i
+number_or_zero _ = Int (pos 0)
 
 -- the utility fields of a vertex with a number in each of x, y, z (places 3, 4, 5): 0 where there was none
 abbrev pub some_numbers : List Util → List Util

@@ -1,12 +1,12 @@
 ghost use Rattle.std.specs.Prelude.{◌≡◌, ◌≢◌, ℕ, ℤ, min, max, ◌+◌, ◌-◌, ◌*◌, ◌%◌, ◌<◌, ◌≤◌, ◌==◌, ◌++◌, [], ◌∷◌, Bool, true, false, List, length, Some, Ok, Err, slice_get, Contains, count_by, IsTrue, All, ◌↔◌};
 ghost use Rattle.sgb_graph.specs.Graphs.{GraphData, ListsEnd, chain_of};
 ghost use Rattle.sgb_vec.specs.declared.panics.Panic.TheVariants.{Syntax};
-ghost use Rattle.sgb_graph.specs.Descriptions.{IsGraphOf};
+ghost use Rattle.sgb_graph.specs.Descriptions.{Description, IsGraphOf};
 ghost use Rattle.sgb_graph.specs.Parts.{checked};
 ghost use Rattle.sgb_graph.specs.Sound.{IsGraph};
-ghost use Rattle.sgb_graph.specs.Made.{DescribedIs, DescribedIsOnly, plain};
+ghost use Rattle.sgb_graph.specs.Made.{graph_described, plain};
 ghost use Rattle.sgb_graph.specs.Events.{Event, HasArcsOf, HasEndsBelow, Record, all_records, list_of};
-ghost use Rattle.sgb_graph.specs.Growth.{AddsEvents, KeepsAllButArcs, link, new_graph, record_from, with_arc, with_edge, with_events, with_id};
+ghost use Rattle.sgb_graph.specs.Growth.{AddsEvents, KeepsAllButArcs, link, new_graph, with_arc, with_edge, with_events, with_id};
 ghost use Rattle.sgb_graph.specs.declared.fields.Link.{Link};
 ghost use Rattle.sgb_graph.specs.IdTexts.{is_id_text};
 ghost use Rattle.sgb_vec.specs.Names.{IsTextByte};
@@ -112,7 +112,7 @@ pub fn lists_law()
         → Contains (list_of directed events r.start) (link k r.tip r.len) }
     ensures only { (directed : Bool) (events : List Event) (v : ℕ) (l : Link)
         → Contains (list_of directed events v) l
-        → slice_get (all_records directed events) l.number ≡ Some (record_from v l.tip l.len) }
+        → slice_get (all_records directed events) l.number ≡ Some (record { start = v; tip = l.tip; len = l.len }) }
     ensures once { (directed : Bool) (events : List Event) (v : ℕ)
         → length (list_of directed events v)
         ≡ count_by (λ r. r.start == v) (all_records directed events) }
@@ -120,8 +120,10 @@ pub fn lists_law()
 
 /// A description makes one graph, and no other graph is the one that it describes.
 pub fn described_law()
-    ensures only { DescribedIsOnly }
-    ensures is { DescribedIs }
+    ensures only { (d : Description) (g : GraphData) → IsGraphOf d g → g ≡ graph_described d }
+    ensures is { (d : Description)
+        → All (HasEndsBelow (length d.names)) d.events → length d.fields ≡ length d.names
+        → IsGraphOf d (graph_described d) }
 {}
 
 /// A text passes the test for ids exactly where each of its bytes may stand in a string (GB_SAVE).
