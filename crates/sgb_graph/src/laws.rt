@@ -112,7 +112,8 @@ pub fn lists_law()
         → Contains (list_of directed events r.start) (link k r.tip r.len) }
     ensures only { (directed : Bool) (events : List Event) (v : ℕ) (l : Link)
         → Contains (list_of directed events v) l
-        → slice_get (all_records directed events) l.number ≡ Some (record { start = v; tip = l.tip; len = l.len }) }
+        → slice_get (all_records directed events) l.number
+        ≡ Some (record { start = v; tip = l.tip; len = l.len }) }
     ensures once { (directed : Bool) (events : List Event) (v : ℕ)
         → length (list_of directed events v)
         ≡ count_by (λ r. r.start == v) (all_records directed events) }
